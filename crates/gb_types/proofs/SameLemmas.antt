@@ -1,0 +1,28 @@
+use Rattle.gb_types.specs.declared.limits.TheConstants.{NODES}
+use Rattle.std.proofs.Common.{◌≡◌, Bool, true, false, ◌&&◌, nat_eq, refl, ap, ◌∙◌, sym, arith, ℕ, ◌<◌}
+use Rattle.std.proofs.lemmas.Bool.{eqb-true}
+use Rattle.std.proofs.lemmas.Bool.Decides.{nat_tests}
+use Rattle.gb_types.specs.declared.message.MsgId.{MsgId}
+use Rattle.std.proofs.Math.Path.{to_path_p}
+use Rattle.std.proofs.Math.Bridge.{le_prop}
+use Rattle.gb_types.specs.declared.node.NodeId.{NodeId}
+use Rattle.gb_types.specs.Message.{same}
+
+pub and-first : (a b : Bool) → (a && b) ≡ true → a ≡ true
+and-first true b h = refl
+and-first false b h = h
+
+pub and-second : (a b : Bool) → (a && b) ≡ true → b ≡ true
+and-second true b h = h
+and-second false b h = cc
+
+-- nodes with one number are equal
+pub same_number : (a b : NodeId) → a.number ≡ b.number → a ≡ b
+same_number a b h = let p = to_path_p (λ i. h i < NODES) {a = a.below} {b = b.below} (le_prop _ _) in λ i. record { number = h i; below = p i }
+
+-- the messages that the test calls the same are equal
+pub same-true : (a b : MsgId) → same a b ≡ true → a ≡ b
+same-true a b h = λ i. record { origin = same_number a.origin b.origin (eqb-true a.origin.number b.origin.number (and-first _ _ h)) i; seq = eqb-true a.seq b.seq (and-second _ _ h) i }
+
+pub same_itself : (a : MsgId) → same a a ≡ true
+same_itself a = grind (arith, nat_tests)

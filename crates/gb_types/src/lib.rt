@@ -1,0 +1,8 @@
+//! The words that every crate shares: limits, nodes, addresses, requests and replies, and how a reply is
+//! spelt. There is no state and no rule here. Read `request::Request` and `reply::Reply` first.
+#![tactic(auto)]
+
+pub mod limits;
+pub mod memory;
+pub mod message;
+pub mod node;

@@ -1,0 +1,40 @@
+//! The limits of the service. Every table over nodes has `NODES` places.
+
+/// How many nodes a cluster has at most. Nodes are numbered from 0.
+pub const NODES: usize = 16;
+
+/// How many groups a tenant has at most.
+pub const GROUPS: u32 = 256;
+
+/// How many messages a member says in a group at most, for life.
+pub const MESSAGES: u32 = 1_024;
+
+/// How many payload bytes a member says in a group at most, for life.
+pub const BYTES: u32 = 65_536;
+
+/// How many own messages of a member are unfinished at once, at most.
+pub const WINDOW: u32 = 1_024;
+
+/// The bytes of the longest payload.
+pub const PAYLOAD: usize = 1_024;
+
+/// The bytes of the longest packet.
+pub const PACKET: usize = 8_192;
+
+/// How many frames of a link are not acknowledged at once, at most.
+pub const LINK_WINDOW: u64 = 64;
+
+/// The last frame number of a link. After it the link has no room.
+pub const LAST_FRAME: u64 = 18_446_744_073_709_551_614;
+
+/// The fewest ticks without a good packet after which a node is noticed.
+pub const SILENCE_MIN: u16 = 2;
+
+/// The most ticks without a good packet after which a node is noticed.
+pub const SILENCE_MAX: u16 = 1_000;
+
+/// How many entries a fetch gives at most.
+pub const FETCH: u32 = 16;
+
+/// How many groups all tenants of a node may reserve at most.
+pub const PLACES: u16 = 4_096;
