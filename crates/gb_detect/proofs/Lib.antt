@@ -1,0 +1,3 @@
+pub mod SetLemmas
+pub mod TickLemmas
+pub mod ReplayLemmas
