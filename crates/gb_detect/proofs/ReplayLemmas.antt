@@ -1,12 +1,12 @@
 -- What a detector is after any calls.
-use Rattle.std.proofs.Common.{◌≡◌, ℕ, ◌+◌, ◌<◌, ◌≤◌, Bool, true, false, not, ◌&&◌, ◌||◌, nat_eq, nat_lt, nat_le, min, length, get_or, set, replicate, map, List, [], ◌∷◌, refl, ap, sym, ◌∙◌, subst, arith, get_or-set_same, get_or-set_other, ◌≢◌}
+use Rattle.std.proofs.Common.{◌≡◌, ℕ, ◌+◌, ◌<◌, ◌≤◌, Bool, true, false, not, ◌&&◌, ◌||◌, nat_eq, nat_lt, nat_le, min, length, get_or, set, List, [], ◌∷◌, refl, ap, sym, ◌∙◌, subst, arith, get_or-set_same, get_or-set_other, ◌≢◌}
 use Rattle.std.proofs.lemmas.Bool.Decides.{nat_tests}
 use Rattle.std.proofs.lemmas.List.{length-map, length-set, get_or-map, get_or-replicate, length-replicate}
 use Rattle.std.specs.Ordering.{nat_cmp}
 use Rattle.std.specs.FinSet as fin
 use Rattle.gb_types.specs.declared.limits.TheConstants.{NODES, SILENCE_MIN}
 use Rattle.gb_detect.specs.Silence.{Call, Heard, Tick, is_silent, is_noticed}
-use Rattle.gb_detect.specs.Watch.{Watch, start, is_due, due, after_heard, after_tick, replay, StandsFor, is_other, AreNoticed, AreNew}
+use Rattle.gb_detect.specs.Watch.{Watch, start, is_due, due, after_heard, after_tick, replay, StandsFor, AreNoticed, AreNew}
 use Rattle.gb_detect.proofs.SetLemmas.{contains-either, contains-nodes_where}
 use Rattle.gb_detect.proofs.TickLemmas.{ticks_since, ticks_since-tick, ticks_since-other, ticks_since-heard, noticed-heard}
 
@@ -40,19 +40,19 @@ after_packet m n s calls d c positive made = record {
   limit = made.limit;
   places = length-set d.silences c 0 ∙ made.places;
   counted = λ b lt. elim (nat_eq c b) as (λ v. nat_eq c b ≡ v → get_or (set d.silences c 0) b 0 ≡ min s (ticks_since b (Heard c ∷ calls))) [
-      | true ↦ λ e.
-          let same : c ≡ b = grind (arith, nat_tests) in
-          let here : b < length d.silences = rw made.places lt in
-          let none = ticks_since-heard b c calls e in
-          let left : get_or (set d.silences c 0) b 0 ≡ 0 = rw same (get_or-set_same d.silences b 0 0 here) in
-          omega (arith, left, none)
-      | false ↦ λ e.
-          let other : b ≢ c = grind (arith, nat_tests) in
-          let count = made.counted b lt in
-          let rest = ticks_since-other b c calls e in
-          let left : get_or (set d.silences c 0) b 0 ≡ get_or d.silences b 0 = rw get_or-set_other refl in
-          omega (arith, left, count, rest)
-    ] refl;
+    | true ↦ λ e.
+        let same : c ≡ b = grind (arith, nat_tests) in
+        let here : b < length d.silences = rw made.places lt in
+        let none = ticks_since-heard b c calls e in
+        let left : get_or (set d.silences c 0) b 0 ≡ 0 = rw same (get_or-set_same d.silences b 0 0 here) in
+        omega (arith, left, none)
+    | false ↦ λ e.
+        let other : b ≢ c = grind (arith, nat_tests) in
+        let count = made.counted b lt in
+        let rest = ticks_since-other b c calls e in
+        let left : get_or (set d.silences c 0) b 0 ≡ get_or d.silences b 0 = rw get_or-set_other refl in
+        omega (arith, left, count, rest)
+  ] refl;
   found = λ b. made.found b ∙ ap (λ v. (nat_lt b n && not (nat_eq b m)) && v) (sym (noticed-heard s b c calls positive));
 }
 
@@ -105,7 +105,7 @@ after_time m n s calls d small made = record {
   found = λ b.
       contains-either d.noticed (due d) b
       ∙ ((λ i. made.found b i || due_at m n s calls d b made i)
-        ∙ joined (nat_lt b n) (nat_eq b m) (is_noticed s b calls) (nat_le d.silence (get_or d.silences b 0 + 1)) (is_silent s b (Tick ∷ calls)) (due_by_count m n s calls d b small made));
+      ∙ joined (nat_lt b n) (nat_eq b m) (is_noticed s b calls) (nat_le d.silence (get_or d.silences b 0 + 1)) (is_silent s b (Tick ∷ calls)) (due_by_count m n s calls d b small made));
 }
 
 made_by : (m n s : ℕ) → n ≤ NODES → 0 < s → (calls : List Call) → IsMade m n s calls (replay (start m n s) calls)
@@ -130,7 +130,7 @@ pub stands-due : (calls : List Call) (d : Watch) → StandsFor calls d → AreNe
 stands-due calls d stands =
     let made = of_stands calls d stands in
     λ b. due_at d.me d.nodes d.silence calls d b made
-        ∙ newly (nat_lt b d.nodes) (nat_eq b d.me) (is_noticed d.silence b calls) (nat_le d.silence (get_or d.silences b 0 + 1)) (is_silent d.silence b (Tick ∷ calls)) (due_by_count d.me d.nodes d.silence calls d b stands.cluster made)
+    ∙ newly (nat_lt b d.nodes) (nat_eq b d.me) (is_noticed d.silence b calls) (nat_le d.silence (get_or d.silences b 0 + 1)) (is_silent d.silence b (Tick ∷ calls)) (due_by_count d.me d.nodes d.silence calls d b stands.cluster made)
 
 pub stands-start : (m n s : ℕ) → n ≤ NODES → SILENCE_MIN ≤ s → StandsFor [] (start m n s)
 stands-start m n s small least = record { cluster = small; limit = least; made = refl }

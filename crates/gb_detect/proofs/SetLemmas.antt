@@ -92,10 +92,10 @@ pub nodes_where-union : (n : ℕ) (s : set.FinSet nat_cmp) (p : ℕ → Bool)
 nodes_where-union n s p =
     same_nodes _ _
     (λ q. let found = contains-nodes_where n (set.contains (nodes_where n p)) q ∙ (ap (λ b. nat_lt q n && b) (contains-nodes_where n p q) ∙ and-twice (nat_lt q n) (p q)) in
-        contains-nodes_where n _ q
-        ∙ (ap (λ b. nat_lt q n && b) (contains-either s _ q ∙ ap (λ b. set.contains s q || b) found)
-            ∙ (or-and (nat_lt q n) (set.contains s q) (p q)
-                ∙ sym (contains-either _ _ q ∙ (λ j. contains-nodes_where n (set.contains s) q j || contains-nodes_where n p q j)))))
+    contains-nodes_where n _ q
+    ∙ (ap (λ b. nat_lt q n && b) (contains-either s _ q ∙ ap (λ b. set.contains s q || b) found)
+    ∙ (or-and (nat_lt q n) (set.contains s q) (p q)
+    ∙ sym (contains-either _ _ q ∙ (λ j. contains-nodes_where n (set.contains s) q j || contains-nodes_where n p q j)))))
 
 -- what a tick would notice, told from the set that stands behind the noticed one
 pub is_due-inside : (me n s : ℕ) (silences : List ℕ) (behind : set.FinSet nat_cmp) (b : ℕ) → b < n

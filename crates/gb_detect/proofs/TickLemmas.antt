@@ -1,5 +1,5 @@
 -- How many ticks came since a node was heard.
-use Rattle.std.proofs.Common.{◌≡◌, ℕ, ◌+◌, ◌<◌, Bool, true, false, cond, not, ◌&&◌, ◌||◌, nat_eq, nat_le, List, [], ◌∷◌, count_by, refl, ap, sym, ◌∙◌, arith}
+use Rattle.std.proofs.Common.{◌≡◌, ℕ, ◌+◌, ◌<◌, true, false, cond, not, ◌||◌, nat_eq, nat_le, List, [], ◌∷◌, count_by, refl, ap, sym, ◌∙◌, arith}
 use Rattle.std.proofs.lemmas.Bool.Decides.{nat_tests}
 use Rattle.std.proofs.lemmas.List.Sums.{sum_by-cons, take_while-cons}
 use Rattle.gb_detect.specs.Silence.{Call, Heard, Tick, is_heard, is_tick, since_heard, is_silent, is_noticed}
@@ -7,7 +7,7 @@ use Rattle.gb_detect.specs.Silence.{Call, Heard, Tick, is_heard, is_tick, since_
 abbrev pub ticks_since : ℕ → List Call → ℕ
 ticks_since b calls = count_by is_tick (since_heard b calls)
 
-count-cons : (x : Call) (xs : List Call) → count_by is_tick (x ∷ xs) ≡ cond (is_tick x) 1 0 + count_by is_tick xs
+pub count-cons : (x : Call) (xs : List Call) → count_by is_tick (x ∷ xs) ≡ cond (is_tick x) 1 0 + count_by is_tick xs
 count-cons x xs = sum_by-cons (λ y. cond {A = ℕ} (is_tick y) 1 0) x xs
 
 pub ticks_since-tick : (b : ℕ) (calls : List Call) → ticks_since b (Tick ∷ calls) ≡ ticks_since b calls + 1

@@ -1,5 +1,5 @@
 -- What a detector knows, and what each call makes of it.
-use Rattle.std.specs.Prelude.{◌≡◌, ℕ, ◌+◌, ◌<◌, ◌≤◌, Bool, false, true, not, ◌&&◌, ◌||◌, nat_eq, nat_lt, nat_le, min, List, [], ◌∷◌, map, replicate, slice_index, slice_set, refl}
+use Rattle.std.specs.Prelude.{◌≡◌, ℕ, ◌+◌, ◌≤◌, Bool, not, ◌&&◌, nat_eq, nat_lt, nat_le, min, List, [], ◌∷◌, map, replicate, slice_index, slice_set, refl}
 use Rattle.std.specs.Coded.{Coded, code_by, coded×, coded_ℕ, coded_list}
 use Rattle.std.specs.Ordering.{nat_cmp}
 use Rattle.std.specs.FinSet as set
@@ -48,6 +48,7 @@ after_heard d b = record d { silences = slice_set d.silences b 0 }
 abbrev pub after_tick : Watch → Watch
 after_tick d = record d { silences = map (λ ticks. min (ticks + 1) d.silence) d.silences; noticed = set.union d.noticed (due d) }
 
+-- what one call makes of a detector
 abbrev pub after : Watch → Call → Watch
 after d (Heard b) = after_heard d b
 after d Tick = after_tick d
@@ -57,7 +58,7 @@ abbrev pub replay : Watch → List Call → Watch
 replay d [] = d
 replay d (call ∷ calls) = after (replay d calls) call
 
--- the calls, newest first, made the value of a detector that had heard nothing
+-- the value stands for the calls, newest first: they made it of a detector that had heard nothing
 pub record StandsFor (calls : List Call) (d : Watch) : Type 0 where
   pub cluster : d.nodes ≤ NODES
   pub limit : SILENCE_MIN ≤ d.silence

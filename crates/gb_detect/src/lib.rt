@@ -4,3 +4,4 @@
 #![tactic(auto)]
 
 pub mod detector;
+pub mod laws;

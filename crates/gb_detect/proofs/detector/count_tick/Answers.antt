@@ -1,4 +1,4 @@
-use Rattle.std.proofs.Common.{◌≡◌, ◌+◌, ◌<◌, ◌≤◌, map, min, length, get_or, ◌∙◌, sym, arith, ℕ}
+use Rattle.std.proofs.Common.{◌+◌, min, ◌∙◌, sym, arith, ℕ}
 use Rattle.std.proofs.lemmas.Grind.{same_number_lists}
 use Rattle.std.proofs.lemmas.List.{length-map, get_or-map}
 use Rattle.gb_detect.proofs.detector.count_tick.Goals as goal

@@ -1,4 +1,4 @@
-use Rattle.std.proofs.Common.{◌≡◌, ◌+◌, true, false, ap, ◌∙◌, sym, subst, arith}
+use Rattle.std.proofs.Common.{◌≡◌, ap, ◌∙◌, sym, subst, arith}
 use Rattle.std.specs.FinSet as set
 use Rattle.std.specs.Ordering.{nat_cmp}
 use Rattle.gb_detect.specs.Watch.{Watch, nodes_where, is_due, due, AreNew}
@@ -23,8 +23,8 @@ loop-number-preserved c =
           cc (more, w.found-is, c.loop-number.invariant)
     ]
 
-pub returns-clause-new : goal.returns-clause-new
-returns-clause-new c calls stands =
+pub returns-clause-definition : goal.returns-clause-definition
+returns-clause-definition c calls stands =
     let d = c.args.self.now in
     let end : c.loop-number.number ≡ d.nodes = omega (arith, ap (λ (d : Watch). d.nodes) c.self.view_is) in
     let all : c.loop-number.found ≡ due d = c.loop-number.invariant ∙ ap (λ n. nodes_where n (is_due d)) end in

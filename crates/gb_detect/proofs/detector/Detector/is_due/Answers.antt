@@ -1,5 +1,4 @@
-use Rattle.std.proofs.Common.{◌≡◌, ◌<◌, ◌≤◌, ◌+◌, true, false, not, ◌&&◌, nat_eq, nat_le, get_or, min, ap, sym, ◌∙◌, arith}
-use Rattle.std.specs.FinSet as set
+use Rattle.std.proofs.Common.{◌<◌, ap, arith}
 use Rattle.std.proofs.lemmas.Bool.Decides.{nat_tests}
 use Rattle.gb_detect.specs.Watch.{Watch}
 use Rattle.gb_detect.proofs.SetLemmas.{is_due-inside}

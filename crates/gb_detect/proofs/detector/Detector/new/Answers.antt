@@ -1,7 +1,3 @@
-use Rattle.std.proofs.Common.{◌≡◌, ap, ◌∙◌, sym, subst}
-use Rattle.std.specs.FinSet as set
-use Rattle.std.specs.Ordering.{nat_cmp}
-use Rattle.gb_detect.specs.Watch.{Watch, StandsFor, start, nodes_where}
 use Rattle.gb_detect.proofs.SetLemmas.{nodes_where-empty}
 use Rattle.gb_detect.proofs.ReplayLemmas.{stands-start}
 use Rattle.gb_detect.proofs.detector.Detector.new.Goals as goal

@@ -1,8 +1,8 @@
-use Rattle.std.proofs.Common.{◌≡◌, ◌+◌, min, map, ap, ◌∙◌, sym, subst, ◌∷◌}
+use Rattle.std.proofs.Common.{◌+◌, min, map, ap, sym, subst, ◌∷◌}
 use Rattle.std.specs.FinSet as set
 use Rattle.std.specs.Ordering.{nat_cmp}
-use Rattle.gb_detect.specs.Silence.{Tick, Call}
-use Rattle.gb_detect.specs.Watch.{Watch, nodes_where, is_due, due, after_tick, StandsFor}
+use Rattle.gb_detect.specs.Silence.{Tick}
+use Rattle.gb_detect.specs.Watch.{Watch, nodes_where, is_due, StandsFor}
 use Rattle.gb_detect.proofs.SetLemmas.{nodes_where-union}
 use Rattle.gb_detect.proofs.ReplayLemmas.{stands-tick}
 use Rattle.gb_detect.proofs.detector.Detector.tick.Goals as goal
