@@ -1,5 +1,5 @@
 //! Nodes, and sets of them.
-ghost use Rattle.std.specs.Prelude.{◌≡◌, ℕ, ◌<◌, ◌≤◌, ◌↔◌, ◌||◌, ◌&&◌, count_by, IsNone, IfSome};
+ghost use Rattle.std.specs.Prelude.{◌≡◌, ℕ, ◌<◌, ◌≤◌, ◌↔◌, ◌||◌, ◌&&◌, nat_lt, count_by, IsNone, IfSome};
 ghost use Rattle.std.specs.List.{list_all};
 ghost use Rattle.std.specs.FinSet as set;
 ghost use Rattle.gb_types.specs.Places.{places, below, common};
@@ -76,6 +76,18 @@ fn is_within(has: &[bool; NODES], first: &[bool; NODES], second: &[bool; NODES])
     true
 }
 
+/// Whether only places below the bound say true.
+fn is_all_below(has: &[bool; NODES], bound: usize) -> bool
+    ensures { result ≡ list_all (λ p. nat_lt p bound) (set.items (places has.now)) }
+{
+    for i in 0..NODES {
+        if has[i] && i >= bound {
+            return false;
+        }
+    }
+    true
+}
+
 /// How many places say true in both tables.
 fn count_both(has: &[bool; NODES], other: &[bool; NODES]) -> usize
     ensures { result ≡ count_by (λ p. set.contains (places has.now) p && set.contains (places other.now) p) (below NODES) }
@@ -118,6 +130,13 @@ impl NodeSet {
         ensures { result ≡ list_all (λ p. set.contains first.now p || set.contains second.now p) (set.items self.now) }
     {
         is_within(&self.has, &first.has, &second.has)
+    }
+
+    /// Whether each of these nodes has a number below the bound.
+    pub fn is_below(&self, bound: usize) -> bool
+        ensures { result ≡ list_all (λ p. nat_lt p bound) (set.items self.now) }
+    {
+        is_all_below(&self.has, bound)
     }
 
     /// How many nodes are in both sets.
