@@ -1,11 +1,10 @@
 -- What each call makes of a slot.
-use Rattle.std.specs.Prelude.{ℕ, ◌≡◌, ◌≤◌, ◌<◌, ◌+◌, ◌&&◌, not, Bool, true, false, List, [], ◌∷◌, ◌++◌, length, map, drop, replicate, slice_index_or, slice_set, Option, Some, None, if◌then◌else◌}
+use Rattle.std.specs.Prelude.{ℕ, ◌≤◌, ◌<◌, ◌+◌, ◌&&◌, not, Bool, List, [], ◌∷◌, ◌++◌, map, drop, replicate, slice_index_or, slice_set, if◌then◌else◌}
 use Rattle.std.specs.Ordering.{nat_cmp}
 use Rattle.std.specs.FinSet as set
 use Rattle.gb_types.specs.Entry.{message_of}
 use Rattle.gb_types.specs.declared.entry.Entry.{Entry}
 use Rattle.gb_types.specs.declared.limits.TheConstants.{NODES, MESSAGES, BYTES, WINDOW}
-use Rattle.gb_types.specs.declared.message.MsgId.{MsgId}
 use Rattle.gb_types.specs.declared.node.NodeId.{NodeId}
 use Rattle.gb_types.specs.declared.reply.Reply.{Reply}
 use Rattle.gb_types.specs.declared.reply.Reply.TheVariants.{Done, Said}
@@ -16,7 +15,7 @@ use Rattle.gb_layer.specs.declared.call.Call.{Call}
 use Rattle.gb_layer.specs.declared.call.Call.TheVariants.{Say, Came}
 use Rattle.gb_slot.specs.declared.phase.Phase.TheVariants.{Made, Opened}
 use Rattle.gb_slot.specs.Messages.{has, entry_in, with_new}
-use Rattle.gb_slot.specs.Rules.{Shown, is_member, is_other, is_let_fall}
+use Rattle.gb_slot.specs.Rules.{Shown, is_other, is_let_fall}
 use Rattle.gb_slot.specs.SlotState.{SlotState}
 
 -- the numbers of a spec are within the service's limits
