@@ -17,7 +17,7 @@ use Rattle.gb_types.specs.declared.reply.Reply.TheVariants.{Done}
 use Rattle.gb_types.specs.declared.spec.Spec.{Spec}
 use Rattle.gb_layer.specs.Machine.{mentions, messages, was_said, came_from}
 use Rattle.gb_layer.specs.Modules.{IsLawful, broadcasts}
-use Rattle.gb_layer.specs.ModuleLaws.{direct_beb, said_mentioned, came_mentioned}
+use Rattle.gb_layer.specs.Histories.{said_mentioned, came_mentioned}
 use Rattle.gb_layer.specs.declared.call.Call.{Call}
 use Rattle.gb_slot.specs.declared.history.GroupCall.{GroupCall}
 use Rattle.gb_slot.specs.declared.history.GroupCall.TheVariants.{Own, Other}
@@ -25,7 +25,7 @@ use Rattle.gb_slot.specs.History.{base_of, call_of, calls_of, entry_told, known,
 use Rattle.gb_slot.specs.HistoryLaws.{FreshStands, OpenedStands, SaidStands, CameStands, TookStands, LogIs, FallsIs, WaitingSaid, WaitingCame, WaitingTook, WaitingElsewhere}
 use Rattle.gb_slot.specs.Messages.{has, entry_in, with_new}
 use Rattle.gb_slot.specs.Rules.{is_let_fall}
-use Rattle.gb_slot.specs.Slot.{waiting, taken_for, own_entry, slot_called, falls, slot_took}
+use Rattle.gb_slot.specs.Slot.{stack_gives, waiting, taken_for, own_entry, slot_called, falls, slot_took}
 use Rattle.gb_slot.specs.SlotState.{SlotState}
 use Rattle.gb_slot.specs.StandsFor.{StandsFor, reaches}
 use Rattle.gb_slot.proofs.BroadcastLemmas.{sends_are, ups_are, all-append, all-drop, all-weaker, broadcasts_mentioned}
@@ -67,8 +67,8 @@ opened_stands s told Done st = record {
 opened_stands s told reply st = st
 
 -- what the broadcast makes of a call
-called_sends : (s : SlotState) (told : List GroupCall) (c : GroupCall) → StandsFor s told → IsLawful s.me.number (call_of c ∷ calls_of told) → (direct_beb s.stack (call_of c)).sends ≡ broadcasts (base_of s.spec.kind) s.me.number (call_of c) (calls_of told)
-called_sends s told c st lawful = ap (λ k. (direct_beb k (call_of c)).sends) st.stack ∙ sends_are s.spec.kind s.me (call_of c) (calls_of told) lawful
+called_sends : (s : SlotState) (told : List GroupCall) (c : GroupCall) → StandsFor s told → IsLawful s.me.number (call_of c ∷ calls_of told) → (stack_gives s.stack (call_of c)).sends ≡ broadcasts (base_of s.spec.kind) s.me.number (call_of c) (calls_of told)
+called_sends s told c st lawful = ap (λ k. (stack_gives k (call_of c)).sends) st.stack ∙ sends_are s.spec.kind s.me (call_of c) (calls_of told) lawful
 
 -- the messages that are known after a call
 called_known : (s : SlotState) (told : List GroupCall) (c : GroupCall) → StandsFor s told → with_new s.store (entry_told c) ≡ known (c ∷ told)
@@ -83,7 +83,7 @@ called_stands : (s : SlotState) (told : List GroupCall) (c : GroupCall) (said : 
 unfolding calls_of
 called_stands s told c said st lawful count own direct =
     let store : List Entry = with_new s.store (entry_told c) in
-    let sends : List MsgId = (direct_beb s.stack (call_of c)).sends in
+    let sends : List MsgId = (stack_gives s.stack (call_of c)).sends in
     let P : MsgId → Type 0 = λ m. has store m ≡ true in
     let new : AllByRecursion P (broadcasts (base_of s.spec.kind) s.me.number (call_of c) (calls_of told)) =
     all-weaker (λ m. mentions (call_of c ∷ calls_of told) m ≡ true) P (λ m is. ap (λ es. has es m) (called_known s told c st) ∙ (has-known (c ∷ told) m ∙ is)) _ (broadcasts_mentioned (base_of s.spec.kind) s.me.number (call_of c) (calls_of told)) in
@@ -101,7 +101,7 @@ called_stands s told c said st lawful count own direct =
     }
   where
     messages_of : NodeId → List MsgId
-    messages_of k = messages (direct_beb k (call_of c)).ups
+    messages_of k = messages (stack_gives k (call_of c)).ups
 
 -- what waits for a node after a call
 waiting-called : (s : SlotState) (told : List GroupCall) (c : GroupCall) (b : ℕ) → StandsFor s told → IsLawful s.me.number (call_of c ∷ calls_of told)
@@ -116,7 +116,7 @@ waiting-called s told c b st lawful =
     store = with_new s.store (entry_told c)
 
     sends : List MsgId
-    sends = (direct_beb s.stack (call_of c)).sends
+    sends = (stack_gives s.stack (call_of c)).sends
 
     waited : List MsgId
     waited = drop (taken_for s b) s.outgoing
