@@ -5,11 +5,14 @@
 pub mod address;
 pub mod entry;
 pub mod kind;
+pub mod kind_word;
 pub mod limits;
 pub mod memory;
 pub mod message;
 pub mod node;
+pub mod number;
 pub mod payload;
+pub mod payload_word;
 pub mod refusal;
 pub mod reply;
 pub mod request;
