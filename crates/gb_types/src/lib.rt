@@ -15,5 +15,6 @@ pub mod payload;
 pub mod payload_word;
 pub mod refusal;
 pub mod reply;
+pub mod reply_text;
 pub mod request;
 pub mod spec;
