@@ -7,6 +7,7 @@ pub mod entry;
 pub mod kind;
 pub mod kind_word;
 pub mod limits;
+pub mod members_word;
 pub mod memory;
 pub mod message;
 pub mod node;
