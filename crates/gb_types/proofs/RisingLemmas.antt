@@ -1,8 +1,13 @@
 -- The numbers of a range that pass a test, in order.
-use Rattle.std.proofs.Common.{◌≡◌, ℕ, zero, suc, ◌+◌, ◌-◌, ◌<◌, ◌≤◌, Bool, true, false, cond, ◌⊎◌, inl, inr, List, [], ◌∷◌, ◌++◌, refl, sym, ap, ◌∙◌, arith}
+use Rattle.std.proofs.Common.{◌≡◌, ℕ, zero, suc, ◌+◌, ◌-◌, ◌<◌, ◌≤◌, Bool, true, false, cond, ◌||◌, nat_eq, ◌⊎◌, inl, inr, List, [], ◌∷◌, ◌++◌, refl, sym, ap, ◌∙◌, arith}
 use Rattle.std.specs.Prelude.{filter}
-use Rattle.std.specs.List.{range_with_len}
-use Rattle.std.proofs.lemmas.Bool.{cases_eq}
+use Rattle.std.specs.List.{range_with_len, list_any}
+use Rattle.std.specs.Ordering.{nat_cmp}
+use Rattle.std.specs.FinSet as fin
+use Rattle.std.proofs.lemmas.Bool.{cases_eq, cases_lt}
+use Rattle.std.proofs.lemmas.Bool.Decides.{nat_tests}
+use Rattle.gb_types.specs.declared.limits.TheConstants.{NODES}
+use Rattle.gb_types.specs.Rising.{rising, rising_from, AreNodes}
 
 -- the numbers from low on, of k, that pass
 abbrev pub passing : (ℕ → Bool) → ℕ → ℕ → List ℕ
@@ -77,4 +82,61 @@ passing_push p r n same new above none low (suc k) le lt =
             | true ↦ λ e. ap (λ b. cond b (low ∷ passing r (low + 1) k) (passing r (low + 1) k)) (same low (omega arith) ∙ e) ∙ (ap (λ xs. low ∷ xs) ih ∙ ap (λ b. cond b (low ∷ passing p (low + 1) k) (passing p (low + 1) k) ++ n ∷ []) (sym e))
             | false ↦ λ e. ap (λ b. cond b (low ∷ passing r (low + 1) k) (passing r (low + 1) k)) (same low (omega arith) ∙ e) ∙ (ih ∙ ap (λ b. cond b (low ∷ passing p (low + 1) k) (passing p (low + 1) k) ++ n ∷ []) (sym e))
           ] refl
+    ]
+
+-- the nodes of a set from a number on
+pub rising_from-step : (s : fin.FinSet nat_cmp) (i : ℕ) → i < NODES → rising_from s i ≡ cond (fin.contains s i) (i ∷ rising_from s (i + 1)) (rising_from s (i + 1))
+unfolding rising_from
+rising_from-step s i lt = let e : NODES - i ≡ suc (NODES - (i + 1)) = omega arith in ap (passing (fin.contains s) i) e
+
+pub rising_from-end : (s : fin.FinSet nat_cmp) (i : ℕ) → NODES ≤ i → rising_from s i ≡ []
+unfolding rising_from
+rising_from-end s i le = let e : NODES - i ≡ 0 = omega arith in ap (passing (fin.contains s) i) e
+
+pub rising_from-start : (s : fin.FinSet nat_cmp) → rising_from s 0 ≡ rising s
+unfolding rising_from rising
+rising_from-start s = refl
+
+-- ---- which numbers are listed
+
+not_below : (p : ℕ → Bool) (low k q : ℕ) → q < low → list_any (λ n. nat_eq n q) (passing p low k) ≡ false
+not_below p low zero q lt = refl
+not_below p low (suc k) q lt =
+    let ih = not_below p (low + 1) k q (omega arith) in
+    let apart : nat_eq low q ≡ false = grind (arith, nat_tests) in
+    elim (p low) as (λ b. list_any (λ n. nat_eq n q) (cond b (low ∷ passing p (low + 1) k) (passing p (low + 1) k)) ≡ false) [ true ↦ ap (λ b. b || list_any (λ n. nat_eq n q) (passing p (low + 1) k)) apart ∙ ih | false ↦ ih ]
+
+not_above : (p : ℕ → Bool) (low k q : ℕ) → low + k ≤ q → list_any (λ n. nat_eq n q) (passing p low k) ≡ false
+not_above p low zero q le = refl
+not_above p low (suc k) q le =
+    let ih = not_above p (low + 1) k q (omega arith) in
+    let apart : nat_eq low q ≡ false = grind (arith, nat_tests) in
+    elim (p low) as (λ b. list_any (λ n. nat_eq n q) (cond b (low ∷ passing p (low + 1) k) (passing p (low + 1) k)) ≡ false) [ true ↦ ap (λ b. b || list_any (λ n. nat_eq n q) (passing p (low + 1) k)) apart ∙ ih | false ↦ ih ]
+
+listed : (p : ℕ → Bool) (low k q : ℕ) → low ≤ q → q < low + k → list_any (λ n. nat_eq n q) (passing p low k) ≡ p q
+listed p low zero q le lt = absurd (omega arith)
+listed p low (suc k) q le lt =
+    elim (cases_eq low q) [
+      | inl same ↦
+          let others : list_any (λ n. nat_eq n q) (passing p (low + 1) k) ≡ false = not_below p (low + 1) k q (omega arith) in
+          let equal : nat_eq low q ≡ true = grind (arith, nat_tests) in
+          elim (p low) as (λ b. b ≡ p q → list_any (λ n. nat_eq n q) (cond b (low ∷ passing p (low + 1) k) (passing p (low + 1) k)) ≡ p q) [
+            | true ↦ λ e. ap (λ b. b || list_any (λ n. nat_eq n q) (passing p (low + 1) k)) equal ∙ e
+            | false ↦ λ e. others ∙ e
+          ] (ap p same)
+      | inr other ↦
+          let ih = listed p (low + 1) k q (omega arith) (omega arith) in
+          let apart : nat_eq low q ≡ false = grind (arith, nat_tests) in
+          elim (p low) as (λ b. list_any (λ n. nat_eq n q) (cond b (low ∷ passing p (low + 1) k) (passing p (low + 1) k)) ≡ p q) [ true ↦ ap (λ b. b || list_any (λ n. nat_eq n q) (passing p (low + 1) k)) apart ∙ ih | false ↦ ih ]
+    ]
+
+-- the numbers of a set of nodes are those that it contains
+pub any-rising : (s : fin.FinSet nat_cmp) → AreNodes s → (q : ℕ) → list_any (λ n. nat_eq n q) (rising s) ≡ fin.contains s q
+unfolding rising
+any-rising s nodes q =
+    elim (cases_lt q NODES) [
+      | inl lt ↦ listed (fin.contains s) 0 NODES q (omega arith) lt
+      | inr le ↦
+          let out : fin.contains s q ≡ false = elim (fin.contains s q) as (λ b. fin.contains s q ≡ b → b ≡ false) [ true ↦ λ e. let lt = nodes q e in absurd (omega arith) | false ↦ λ _. refl ] refl in
+          not_above (fin.contains s) 0 NODES q le ∙ sym out
     ]

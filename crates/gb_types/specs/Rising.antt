@@ -1,5 +1,5 @@
 -- The numbers of a set of nodes, in order.
-use Rattle.std.specs.Prelude.{◌≡◌, ℕ, ◌<◌, true, List, filter}
+use Rattle.std.specs.Prelude.{◌≡◌, ℕ, ◌-◌, ◌<◌, true, List, filter}
 use Rattle.std.specs.List.{range_with_len}
 use Rattle.std.specs.Ordering.{nat_cmp}
 use Rattle.std.specs.FinSet as set
@@ -12,3 +12,7 @@ AreNodes s = (q : ℕ) → set.contains s q ≡ true → q < NODES
 -- the nodes of a set, rising
 unfoldable pub rising : set.FinSet nat_cmp → List ℕ
 rising s = filter (set.contains s) (range_with_len 0 NODES)
+
+-- the nodes of a set from a number on, rising
+unfoldable pub rising_from : set.FinSet nat_cmp → ℕ → List ℕ
+rising_from s low = filter (set.contains s) (range_with_len low (NODES - low))

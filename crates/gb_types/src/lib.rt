@@ -11,6 +11,7 @@ pub mod members_word;
 pub mod memory;
 pub mod message;
 pub mod node;
+pub mod nodes;
 pub mod number;
 pub mod payload;
 pub mod payload_word;
