@@ -1,6 +1,6 @@
 -- Reading the members of a group from the parts of a word.
-use Rattle.std.proofs.Common.{◌≡◌, ◌≢◌, ◌↔◌, ℕ, zero, suc, ◌+◌, ◌-◌, ◌<◌, ◌≤◌, Bool, true, false, cond, eqb, ◌||◌, inl, inr, List, [], ◌∷◌, ◌++◌, map, length, take, drop, get_or, Option, Some, None, decimal, refl, sym, ap, subst, ◌∙◌, arith, add-one, drop-cons}
-use Rattle.std.specs.List.{slice_split, join_with_byte, All}
+use Rattle.std.proofs.Common.{◌≡◌, ◌≢◌, ◌↔◌, ℕ, zero, suc, ◌+◌, ◌-◌, ◌<◌, ◌≤◌, Bool, true, false, cond, eqb, nat_eq, ◌||◌, inl, inr, List, [], ◌∷◌, ◌++◌, map, length, take, drop, get_or, Option, Some, None, decimal, refl, sym, ap, subst, ◌∙◌, arith, add-one, drop-cons}
+use Rattle.std.specs.List.{slice_split, join_with_byte, All, list_any}
 use Rattle.std.specs.Ordering.{nat_cmp}
 use Rattle.std.specs.Cmp.{nat_cmp_total, unsigned_tied}
 use Rattle.std.specs.FinSet as fin
@@ -17,7 +17,7 @@ use Rattle.std.proofs.lemmas.Str.Parse.{digit_from_value}
 use Rattle.gb_types.specs.declared.limits.TheConstants.{NODES}
 use Rattle.gb_types.specs.Rising.{rising, AreNodes}
 use Rattle.gb_types.specs.MembersWord.{members_word}
-use Rattle.gb_types.proofs.RisingLemmas.{passing, NonePasses, first_or_none, none_passing, passing_push}
+use Rattle.gb_types.proofs.RisingLemmas.{passing, NonePasses, first_or_none, none_passing, passing_push, any-rising}
 
 -- the parts of a word at its commas
 abbrev pub parts_of : List ℕ → List (List ℕ)
@@ -123,6 +123,17 @@ map_empty : (ns : List ℕ) → map decimal ns ≡ [] → ns ≡ []
 map_empty [] e = refl
 map_empty (n ∷ ns) e = cc
 
+same_numbers : (ms ns : List ℕ) → NumbersBelow NODES ms → NumbersBelow NODES ns → map decimal ms ≡ map decimal ns → ms ≡ ns
+same_numbers [] [] hm hn e = refl
+same_numbers [] (n ∷ ns) hm hn e = cc
+same_numbers (m ∷ ms) [] hm hn e = cc
+same_numbers (m ∷ ms) (n ∷ ns) hm hn e =
+    let first : decimal m ≡ decimal n = cc in
+    let others : map decimal ms ≡ map decimal ns = cc in
+    let head = same_number m n hm.0 hn.0 first in
+    let tail = same_numbers ms ns hm.1 hn.1 others in
+    λ i. head i ∷ tail i
+
 -- one more part is read
 pub IsReadTo-more : (parts : List (List ℕ)) (k : ℕ) (s : fin.FinSet nat_cmp) (low : ℕ) (part : List ℕ) → IsReadTo parts k s low → k < length parts → part ≡ get_or parts k part
     → (n : ℕ) → n < NODES → low ≤ n → part ≡ decimal n → IsReadTo parts (k + 1) (fin.insert s n) (n + 1)
@@ -225,3 +236,10 @@ answers word k s low read end t =
             | inr above ↦ not_member s low q read.under above ∙ sym (none.fails q above (omega arith))
           ])),
     )
+
+-- two groups of members with one word are equal
+pub same_group : (s t : fin.FinSet nat_cmp) → AreNodes s → AreNodes t → s ≢ fin.empty → t ≢ fin.empty → members_word s ≡ members_word t → s ≡ t
+same_group s t nodes_s nodes_t some_s some_t e =
+    let parts : map decimal (rising s) ≡ map decimal (rising t) = sym (parts-members (members_word s) s nodes_s some_s refl) ∙ parts-members (members_word s) t nodes_t some_t e in
+    let same = same_numbers (rising s) (rising t) (rising_below s) (rising_below t) parts in
+    fin.same_set nat_cmp_total nat_cmp-IsAntisymmetric s t (λ q. sym (any-rising s nodes_s q) ∙ (ap (list_any (λ n. nat_eq n q)) same ∙ any-rising t nodes_t q))

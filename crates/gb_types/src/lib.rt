@@ -6,6 +6,7 @@ pub mod address;
 pub mod entry;
 pub mod kind;
 pub mod kind_word;
+pub mod laws;
 pub mod limits;
 pub mod members_word;
 pub mod memory;
