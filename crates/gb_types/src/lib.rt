@@ -21,3 +21,5 @@ pub mod reply;
 pub mod reply_text;
 pub mod request;
 pub mod spec;
+#[cfg(test)]
+mod tests;
