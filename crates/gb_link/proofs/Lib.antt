@@ -1,0 +1,5 @@
+pub mod AckLemmas
+pub mod WindowLemmas
+pub mod FirstLemmas
+pub mod ReceivedLemmas
+pub mod BaseLemmas

@@ -1,0 +1,3 @@
+pub mod Ack
+pub mod SendWindow
+pub mod Received

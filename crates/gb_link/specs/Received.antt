@@ -1,0 +1,64 @@
+-- What a contract sees of a receiver: the numbers that it took, and its acknowledgement of them.
+use Rattle.std.specs.Prelude.{ℕ, ◌+◌, ◌*◌, ◌≡◌, ◌≤◌, ◌%◌, ◌^◌, ◌<◌, Bool, true, not, ◌&&◌, if◌then◌else◌, nat_eq, nat_lt, nat_le, List, [], ◌∷◌, length}
+use Rattle.std.specs.Ordering.{nat_cmp}
+use Rattle.std.specs.FinSet as set
+use Rattle.gb_types.specs.declared.limits.TheConstants.{LAST_FRAME}
+use Rattle.gb_link.specs.declared.receiver.Admission.{Admission}
+use Rattle.gb_link.specs.declared.receiver.Admission.TheVariants.{First, Seen, Outside}
+use Rattle.gb_link.specs.Ack.{covers}
+use Prim.Native.Nat.{zero, suc}
+
+-- the numbers received
+abbrev pub Received : Type 0
+Received = set.FinSet nat_cmp
+
+-- the first number from n on that is not in the set, or n + k where the k numbers from n on are
+abbrev pub first_missing : Received → ℕ → ℕ → ℕ
+first_missing s n zero = n
+first_missing s n (suc k) = if set.contains s n then first_missing s (n + 1) k else n
+
+-- the least number not received: k received numbers leave one of 1 to k + 1
+unfoldable pub base_of : Received → ℕ
+base_of s = first_missing s 1 (length (set.items s))
+
+-- the word whose bit i, for i below k, says whether n + i was received
+abbrev pub word_of : Received → ℕ → ℕ → ℕ
+word_of s n zero = 0
+word_of s n (suc k) = (if set.contains s n then 1 else 0) + 2 * word_of s (n + 1) k
+
+-- bit i, for i below 64, stands for base + i
+unfoldable pub mask_of : Received → ℕ
+mask_of s = word_of s (base_of s) 64
+
+-- the number is one of the 64 from the base on, and a frame may have it
+abbrev pub is_awaited : Received → ℕ → Bool
+is_awaited s n = nat_le (base_of s) n && nat_lt n (base_of s + 64) && nat_le n LAST_FRAME
+
+-- what becomes of an arriving frame
+abbrev pub admission : Received → ℕ → Admission
+admission s n = if set.contains s n then Seen else if is_awaited s n then First else Outside
+
+-- the numbers received after that answer
+abbrev pub taken : Received → ℕ → Admission → Received
+taken s n First = set.insert s n
+taken s n Seen = s
+taken s n Outside = s
+
+abbrev pub admitted : Received → ℕ → Received
+admitted s n = taken s n (admission s n)
+
+-- the numbers below n, the greatest first
+abbrev pub below : ℕ → List ℕ
+below zero = []
+below (suc n) = n ∷ below n
+
+-- the numbers from 1 on that an acknowledgement by a base and a mask of 64 bits covers
+unfoldable pub covered : ℕ → ℕ → Received
+covered base mask = set.retain (set.from_list (below (base + 64))) (λ n. not (nat_eq n 0) && covers base mask n)
+
+-- what each receiver keeps: base and mask are the acknowledgement of what they cover
+pub record IsReceiver (base mask : ℕ) : Type 0 where
+  pub started : 1 ≤ base
+  pub word : mask < 2 ^ 64
+  pub even : mask % 2 ≡ 0
+  pub last : (n : ℕ) → set.contains (covered base mask) n ≡ true → n ≤ LAST_FRAME

@@ -1,0 +1,105 @@
+// The receiving end of a link.
+ghost use Rattle.std.specs.Prelude.{◌≡◌, ℕ, ◌+◌, ◌%◌, ◌≤◌, true};
+ghost use Rattle.std.specs.FinSet as set;
+ghost use Rattle.gb_link.specs.Ack.{covers};
+
+use crate::ack::covers;
+use gb_types::limits::{LAST_FRAME, LINK_WINDOW};
+use std::marker::Model;
+
+/// What becomes of an arriving frame.
+#[derive(Clone, Copy, Debug, PartialEq, Eq)]
+pub enum Admission {
+    /// Its number came for the first time.
+    First,
+    /// Its number was received before.
+    Seen,
+    /// Its number is beyond the window, and it is not received.
+    Outside,
+}
+
+/// The set of the frame numbers received. Its size is fixed: all numbers below the base are received, and bit
+/// `i` of the mask says whether `base + i` is.
+#[derive(Drop)]
+pub struct Receiver {
+    base: u64,
+    mask: u64,
+}
+
+impl Model for Receiver {
+    ghost use Rattle.std.specs.Ordering.{nat_cmp};
+    ghost use Rattle.std.specs.FinSet as set;
+    ghost use Rattle.std.specs.Coded.{coded_ℕ};
+
+    ghost Value = { set.FinSet nat_cmp };
+
+    ghost coded = { set.code coded_ℕ };
+
+    ghost use Rattle.gb_link.specs.Received.{covered, IsReceiver};
+
+    ghost view = { λ r. covered r.base r.mask };
+
+    ghost invariant = { λ r. IsReceiver r.base r.mask };
+}
+
+impl Receiver {
+    ghost use Rattle.gb_link.specs.Received.{admission, taken, base_of, mask_of};
+
+    /// A receiver that received nothing.
+    pub fn new() -> Receiver
+        ensures { result ≡ set.empty }
+    {
+        Receiver { base: 1, mask: 0 }
+    }
+
+    /// Receives the frame number, unless it was received before or is beyond the window.
+    pub fn admit(&mut self, number: u64) -> Admission
+        requires { 1 ≤ number }
+        ensures answer { result ≡ admission self.old number }
+        ensures after { self.new ≡ taken self.old number result }
+    {
+        if covers(self.base, self.mask, number) {
+            return Admission::Seen;
+        }
+        let ahead = number - self.base;
+        if ahead >= LINK_WINDOW || number > LAST_FRAME {
+            return Admission::Outside;
+        }
+        let (base, mask) = slid(self.base, self.mask | (1 << ahead));
+        self.base = base;
+        self.mask = mask;
+        Admission::First
+    }
+
+    /// The acknowledgement of all that was received: the least number not received, and the mask of the 64
+    /// numbers from it on.
+    pub fn ack(&self) -> (u64, u64)
+        ensures base { result.0 ≡ base_of self.now }
+        ensures mask { result.1 ≡ mask_of self.now }
+
+        // So the base is at least 1 and its own bit is 0, and what is covered is what was received.
+        ensures started { 1 ≤ result.0 }
+        ensures even { result.1 % 2 ≡ 0 }
+        ensures exact { (n : ℕ) → 1 ≤ n → covers result.0 result.1 n ≡ set.contains self.now n }
+    {
+        (self.base, self.mask)
+    }
+}
+
+ghost use Rattle.gb_link.specs.Received.{covered};
+ghost use Rattle.gb_types.specs.declared.limits.TheConstants.{LAST_FRAME};
+
+/// The same numbers, from the first one on that is not covered.
+fn slid(mut base: u64, mut mask: u64) -> (u64, u64)
+    requires started { 1 ≤ base }
+    requires last { (n : ℕ) → set.contains (covered base mask) n ≡ true → n ≤ LAST_FRAME }
+    ensures same { covered result.0 result.1 ≡ covered base mask }
+    ensures started { 1 ≤ result.0 }
+    ensures even { result.1 % 2 ≡ 0 }
+{
+    while mask % 2 == 1 {
+        mask >>= 1;
+        base += 1;
+    }
+    (base, mask)
+}
