@@ -10,8 +10,9 @@ use Rattle.std.proofs.lemmas.List.Sums.{sum_by-append}
 use Rattle.std.proofs.lemmas.Nat.Bits.{bit_at_lowest, bit_at-suc, bit_at-zero}
 use Rattle.gb_link.specs.Received.{Received, first_missing, base_of, word_of}
 
-cons : (p : ℕ → Bool) (x : ℕ) (xs : List ℕ) → count_by p (x ∷ xs) ≡ cond (p x) 1 0 + count_by p xs
-cons p x xs = let e = sum_by-append (λ y. cond {A = ℕ} (p y) 1 0) (x ∷ []) xs in omega (arith, e)
+-- a count, with one more element
+pub count-cons : {X : Type 0} (p : X → Bool) (x : X) (xs : List X) → count_by p (x ∷ xs) ≡ cond (p x) 1 0 + count_by p xs
+count-cons p x xs = let e = sum_by-append (λ y. cond {A = ℕ} (p y) 1 0) (x ∷ []) xs in omega (arith, e)
 
 -- how many of the numbers are n or above
 pub from : ℕ → List ℕ → ℕ
@@ -21,8 +22,8 @@ from_less : (n : ℕ) (xs : List ℕ) → from (n + 1) xs ≤ from n xs
 unfolding from
 from_less n [] = omega arith
 from_less n (x ∷ xs) =
-    let low = cons (λ y. nat_le n y) x xs in
-    let high = cons (λ y. nat_le (n + 1) y) x xs in
+    let low = count-cons (λ y. nat_le n y) x xs in
+    let high = count-cons (λ y. nat_le (n + 1) y) x xs in
     let rest = from_less n xs in
     let fewer : cond {A = ℕ} (nat_le (n + 1) x) 1 0 ≤ cond {A = ℕ} (nat_le n x) 1 0 = grind (arith, nat_tests) in
     omega (arith, low, high, rest, fewer)
@@ -32,8 +33,8 @@ from_more : (n : ℕ) (xs : List ℕ) → list_any (eq_by_cmp nat_cmp n) xs ≡ 
 unfolding from
 from_more n [] h = absurd cc
 from_more n (x ∷ xs) h =
-    let low = cons (λ y. nat_le n y) x xs in
-    let high = cons (λ y. nat_le (n + 1) y) x xs in
+    let low = count-cons (λ y. nat_le n y) x xs in
+    let high = count-cons (λ y. nat_le (n + 1) y) x xs in
     elim (eq_by_cmp nat_cmp n x) as (λ b. eq_by_cmp nat_cmp n x ≡ b → (b || list_any (eq_by_cmp nat_cmp n) xs) ≡ true → count_by (λ y. nat_le (n + 1) y) (x ∷ xs) + 1 ≤ count_by (λ y. nat_le n y) (x ∷ xs)) [
       | true ↦ λ tied _.
           let same : nat_eq n x ≡ true = sym (unsigned_tied n x) ∙ tied in
@@ -50,7 +51,7 @@ from_most : (n : ℕ) (xs : List ℕ) → from n xs ≤ length xs
 unfolding from
 from_most n [] = omega arith
 from_most n (x ∷ xs) =
-    let e = cons (λ y. nat_le n y) x xs in
+    let e = count-cons (λ y. nat_le n y) x xs in
     let rest = from_most n xs in
     let one : cond {A = ℕ} (nat_le n x) 1 0 ≤ 1 = grind (arith, nat_tests) in
     omega (arith, e, rest, one)

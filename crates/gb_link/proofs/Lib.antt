@@ -3,3 +3,4 @@ pub mod WindowLemmas
 pub mod FirstLemmas
 pub mod ReceivedLemmas
 pub mod BaseLemmas
+pub mod LinkLemmas

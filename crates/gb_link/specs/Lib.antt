@@ -1,3 +1,4 @@
 pub mod Ack
 pub mod SendWindow
 pub mod Received
+pub mod Link

@@ -5,5 +5,6 @@
 #![tactic(auto)]
 
 pub mod ack;
+pub mod link;
 pub mod receiver;
 pub mod sender;
