@@ -1,5 +1,5 @@
 -- What every event on a link keeps.
-use Rattle.std.proofs.Common.{◌≡◌, ◌≢◌, ℕ, ◌+◌, ◌-◌, ◌<◌, ◌≤◌, Bool, true, false, not, ◌&&◌, ◌||◌, cond, nat_eq, nat_lt, nat_le, IsTrue, List, [], ◌∷◌, ◌++◌, count_by, refl, ap, ap₂, sym, ◌∙◌, arith, Option, Some, None, subst}
+use Rattle.std.proofs.Common.{◌≡◌, ℕ, ◌+◌, ◌-◌, ◌<◌, ◌≤◌, Bool, true, false, not, ◌&&◌, ◌||◌, cond, nat_eq, nat_lt, nat_le, List, [], ◌∷◌, ◌++◌, count_by, refl, ap, ap₂, sym, ◌∙◌, arith, Option, Some, None, subst}
 use Rattle.std.specs.Int.{bit_at}
 use Rattle.std.specs.List.{list_any, find}
 use Rattle.std.specs.Cmp.{nat_cmp_total, unsigned_tied}
@@ -8,12 +8,11 @@ use Rattle.std.specs.FinSet as set
 use Rattle.std.proofs.lemmas.Bool.Decides.{nat_tests}
 use Rattle.std.proofs.lemmas.List.Folds.{list_any-append}
 use Rattle.gb_types.specs.declared.limits.TheConstants.{LAST_FRAME}
-use Rattle.gb_link.specs.declared.receiver.Admission.{Admission}
 use Rattle.gb_link.specs.declared.receiver.Admission.TheVariants.{First, Seen, Outside}
 use Rattle.gb_link.specs.Ack.{covers}
-use Rattle.gb_link.specs.SendWindow.{SendWindow, IsWindow, AreAscending, AreRecent, has_room, pushed, without_first, lowest_covered, acknowledged}
+use Rattle.gb_link.specs.SendWindow.{AreAscending, AreRecent, has_room, pushed, without_first, lowest_covered, acknowledged}
 use Rattle.gb_link.specs.Received.{Received, base_of, mask_of, admission, admitted, taken}
-use Rattle.gb_link.specs.Link.{LinkEvent, push, arrive, make_ack, take_ack, Link, new_link, is_first, is_outside, is_number, is_undone, was_pushed, was_made, with_done, step, run_from, run, IsLossless}
+use Rattle.gb_link.specs.Link.{LinkEvent, push, arrive, make_ack, take_ack, Link, new_link, is_first, is_outside, is_number, is_undone, was_pushed, was_made, with_done, step, run_from, run, IsSound}
 use Rattle.gb_link.proofs.BaseLemmas.{count-cons, base_of_from, base_of_below, base_of_lacks, word_of_bit}
 use Rattle.gb_link.proofs.WindowLemmas.{IsWindow-pushed, IsWindow-acknowledged}
 
@@ -63,18 +62,19 @@ admission_near s n from near last =
           ap (λ b. cond b First Outside) awaited
     ] refl
   where
-  at_least : (s : Received) (n : ℕ) → 1 ≤ n → set.contains s n ≡ false → base_of s ≤ n
-  at_least s n from lacks =
-      elim (nat_lt n (base_of s)) as (λ b. nat_lt n (base_of s) ≡ b → base_of s ≤ n) [
-        | true ↦ λ low. let below : n < base_of s = grind (arith, nat_tests) in let there = base_of_below s n from below in absurd cc
-        | false ↦ λ high. grind (arith, nat_tests)
-      ] refl
+    at_least : (s : Received) (n : ℕ) → 1 ≤ n → set.contains s n ≡ false → base_of s ≤ n
+    at_least s n from lacks =
+        elim (nat_lt n (base_of s)) as (λ b. nat_lt n (base_of s) ≡ b → base_of s ≤ n) [
+          | true ↦ λ low. let below : n < base_of s = grind (arith, nat_tests) in let there = base_of_below s n from below in absurd cc
+          | false ↦ λ high. grind (arith, nat_tests)
+        ] refl
 
 module _ {F : Type 0} where
   -- ---- undone frames
 
   undone-pushed : (us : List (ℕ × F)) (next : ℕ) (frame : F) (n : ℕ) → is_undone (us ++ (next, frame) ∷ []) n ≡ (is_undone us n || nat_eq next n)
   undone-pushed us next frame n = list_any-append (λ u. nat_eq u.0 n) us ((next, frame) ∷ []) ∙ ap (λ b. is_undone us n || b) (or_false (nat_eq next n))
+
   undone_recent : (next : ℕ) (us : List (ℕ × F)) (n : ℕ) → AreRecent next us → is_undone us n ≡ true → (n < next) × (next ≤ n + 64)
   undone_recent next [] n r is = absurd cc
   undone_recent next (u ∷ us) n r is =
@@ -100,8 +100,8 @@ module _ {F : Type 0} where
         | false ↦ λ _ later. let rest = found_undone test us u later in (ap (λ b. nat_eq v.0 u.0 || b) rest.0 ∙ or_true (nat_eq v.0 u.0), rest.1)
       ] refl e
     where
-    itself : (n : ℕ) → nat_eq n n ≡ true
-    itself n = grind (arith, nat_tests)
+      itself : (n : ℕ) → nat_eq n n ≡ true
+      itself n = grind (arith, nat_tests)
 
   not_undone : (low : ℕ) (us : List (ℕ × F)) (n : ℕ) → AreAscending low us → n < low → is_undone us n ≡ false
   not_undone low us n h below =
@@ -136,6 +136,7 @@ module _ {F : Type 0} where
               | false ↦ λ _. rest
             ] refl
       ] e
+
   none_gone : (test : ℕ × F → Bool) (us : List (ℕ × F)) → find test us ≡ None → without_first test us ≡ us
   none_gone test [] e = refl
   none_gone test (v ∷ us) e =
@@ -146,11 +147,12 @@ module _ {F : Type 0} where
 
   -- ---- the events
 
-  IsLossless-new : IsLossless (new_link {F = F})
-  IsLossless-new = record {
+  IsSound-new : IsSound (new_link {F = F})
+  IsSound-new = record {
     window = record { started = omega arith; last = omega arith; ascending = tt; recent = tt };
     none_outside = refl;
-    received = (λ n. set.contains-empty nat_cmp n);
+    received_pushed = (λ n is. let none = set.contains-empty nat_cmp n in absurd cc);
+    received_arrived = (λ n. set.contains-empty nat_cmp n);
     first_once = (λ n. sym (ap (λ b. cond {A = ℕ} b 1 0) (set.contains-empty nat_cmp n)));
     accounted = (λ n was. absurd (never n was));
     done_pushed = (λ n is. absurd cc);
@@ -159,8 +161,8 @@ module _ {F : Type 0} where
     acks_received = (λ base mask n made from is. absurd cc);
   }
     where
-    never : (n : ℕ) → (nat_le 1 n && nat_lt n 1) ≡ true → ⊥
-    never n was = grind (arith, nat_tests, was)
+      never : (n : ℕ) → (nat_le 1 n && nat_lt n 1) ≡ true → ⊥
+      never n was = grind (arith, nat_tests, was)
 
   pushed_is : (l : Link F) (n : ℕ) → was_pushed l n ≡ true → (1 ≤ n) × (n < l.sender.next)
   pushed_is l n was = (grind (arith, nat_tests, was), grind (arith, nat_tests, was))
@@ -168,23 +170,27 @@ module _ {F : Type 0} where
   is_pushed : (l : Link F) (n : ℕ) → 1 ≤ n → n < l.sender.next → was_pushed l n ≡ true
   is_pushed l n from below = grind (arith, nat_tests)
 
-  IsLossless-push : (l : Link F) (frame : F) → IsLossless l → has_room l.sender ≡ true → IsLossless (record l { sender = pushed l.sender frame })
-  IsLossless-push l frame kept room = record {
+  IsSound-push : (l : Link F) (frame : F) → IsSound l → has_room l.sender ≡ true → IsSound (record l { sender = pushed l.sender frame })
+  IsSound-push l frame kept room = record {
     window = IsWindow-pushed l.sender frame room kept.window;
     none_outside = kept.none_outside;
-    received = kept.received;
+    received_pushed = (λ n is. still n (kept.received_pushed n is));
+    received_arrived = kept.received_arrived;
     first_once = kept.first_once;
     accounted = accounted;
-    done_pushed = (λ n is. let was = pushed_is l n (kept.done_pushed n is) in let from = was.0 in let below = was.1 in grind (arith, nat_tests));
+    done_pushed = (λ n is. still n (kept.done_pushed n is));
     done_once = kept.done_once;
     done_received = kept.done_received;
     acks_received = kept.acks_received;
   }
     where
-    accounted : (n : ℕ) → (nat_le 1 n && nat_lt n (l.sender.next + 1)) ≡ true → is_undone (pushed l.sender frame).undone n ≡ not (is_number n l.done)
-    accounted n was =
-        undone-pushed l.sender.undone l.sender.next frame n
-        ∙ elim (nat_eq l.sender.next n) as (λ b. nat_eq l.sender.next n ≡ b → (is_undone l.sender.undone n || b) ≡ not (is_number n l.done)) [
+      still : (n : ℕ) → was_pushed l n ≡ true → (nat_le 1 n && nat_lt n (l.sender.next + 1)) ≡ true
+      still n was = let from = (pushed_is l n was).0 in let below = (pushed_is l n was).1 in grind (arith, nat_tests)
+
+      accounted : (n : ℕ) → (nat_le 1 n && nat_lt n (l.sender.next + 1)) ≡ true → is_undone (pushed l.sender frame).undone n ≡ not (is_number n l.done)
+      accounted n was =
+          undone-pushed l.sender.undone l.sender.next frame n
+          ∙ elim (nat_eq l.sender.next n) as (λ b. nat_eq l.sender.next n ≡ b → (is_undone l.sender.undone n || b) ≡ not (is_number n l.done)) [
             | true ↦ λ is.
                 let same : l.sender.next ≡ n = grind (arith, nat_tests) in
                 or_true (is_undone l.sender.undone n) ∙ sym (ap (λ b. not b) (not_done n same))
@@ -192,16 +198,16 @@ module _ {F : Type 0} where
                 let here : was_pushed l n ≡ true = grind (arith, nat_tests, was) in
                 or_false (is_undone l.sender.undone n) ∙ kept.accounted n here
           ] refl
-      where
-      not_done : (n : ℕ) → l.sender.next ≡ n → is_number n l.done ≡ false
-      not_done n same =
-          elim (is_number n l.done) as (λ b. is_number n l.done ≡ b → b ≡ false) [
-            | true ↦ λ is. let below = (pushed_is l n (kept.done_pushed n is)).1 in absurd (omega (arith, below, same))
-            | false ↦ λ _. refl
-          ] refl
+        where
+          not_done : (n : ℕ) → l.sender.next ≡ n → is_number n l.done ≡ false
+          not_done n same =
+              elim (is_number n l.done) as (λ b. is_number n l.done ≡ b → b ≡ false) [
+                | true ↦ λ is. let below = (pushed_is l n (kept.done_pushed n is)).1 in absurd (omega (arith, below, same))
+                | false ↦ λ _. refl
+              ] refl
 
   -- the numbers pushed are in the receiver's window
-  near_pushed : (l : Link F) (n : ℕ) → IsLossless l → was_pushed l n ≡ true → (1 ≤ n) × (n < base_of l.receiver + 64) × (n ≤ LAST_FRAME)
+  near_pushed : (l : Link F) (n : ℕ) → IsSound l → was_pushed l n ≡ true → (1 ≤ n) × (n < base_of l.receiver + 64) × (n ≤ LAST_FRAME)
   near_pushed l n kept was =
       let from = (pushed_is l n was).0 in
       let below = (pushed_is l n was).1 in
@@ -215,25 +221,26 @@ module _ {F : Type 0} where
         | false ↦ λ ge. let over : l.sender.next ≤ base_of l.receiver = grind (arith, nat_tests) in (from, omega (arith, over, below), omega (arith, below, last))
       ] refl
     where
-    base_undone : was_pushed l (base_of l.receiver) ≡ true → is_undone l.sender.undone (base_of l.receiver) ≡ true
-    base_undone here =
-        let not_done : not (is_number (base_of l.receiver) l.done) ≡ true =
+      base_undone : was_pushed l (base_of l.receiver) ≡ true → is_undone l.sender.undone (base_of l.receiver) ≡ true
+      base_undone here =
+          let not_done : not (is_number (base_of l.receiver) l.done) ≡ true =
           elim (is_number (base_of l.receiver) l.done) as (λ b. is_number (base_of l.receiver) l.done ≡ b → not b ≡ true) [
             | true ↦ λ is. let there = kept.done_received (base_of l.receiver) is in let gone = base_of_lacks l.receiver in absurd cc
             | false ↦ λ _. refl
           ] refl in
-        kept.accounted (base_of l.receiver) here ∙ not_done
+          kept.accounted (base_of l.receiver) here ∙ not_done
 
   -- so a frame that arrives is received then, and is First where it was not before
-  IsLossless-arrive : (l : Link F) (n : ℕ) → IsLossless l → was_pushed l n ≡ true
-      → IsLossless (record l { receiver = admitted l.receiver n; arrivals = (n, admission l.receiver n) ∷ l.arrivals })
-  IsLossless-arrive l n kept was = record {
+  IsSound-arrive : (l : Link F) (n : ℕ) → IsSound l → was_pushed l n ≡ true
+      → IsSound (record l { receiver = admitted l.receiver n; arrivals = (n, admission l.receiver n) ∷ l.arrivals })
+  IsSound-arrive l n kept was = record {
     window = kept.window;
     none_outside = (λ i. is_outside (answer i) || list_any (λ a. is_outside a.1) l.arrivals) ∙ (inside (set.contains l.receiver n) ∙ kept.none_outside);
-    received = (λ m. after m ∙ ap (λ b. nat_eq n m || b) (kept.received m));
+    received_pushed = (λ m is. was_sent m (sym (after m) ∙ is));
+    received_arrived = (λ m. after m ∙ ap (λ b. nat_eq n m || b) (kept.received_arrived m));
     first_once = (λ m.
-      count-cons (λ a. nat_eq a.0 m && is_first a.1) (n, admission l.receiver n) l.arrivals
-      ∙ (ap₂ (λ x y. cond {A = ℕ} (nat_eq n m && is_first x) 1 0 + y) answer (kept.first_once m)
+        count-cons (λ a. nat_eq a.0 m && is_first a.1) (n, admission l.receiver n) l.arrivals
+        ∙ (ap₂ (λ x y. cond {A = ℕ} (nat_eq n m && is_first x) 1 0 + y) answer (kept.first_once m)
         ∙ (first m (set.contains l.receiver n) refl ∙ sym (ap (λ b. cond {A = ℕ} b 1 0) (after m)))));
     accounted = kept.accounted;
     done_pushed = kept.done_pushed;
@@ -242,41 +249,54 @@ module _ {F : Type 0} where
     acks_received = (λ base mask m made from is. still m (kept.acks_received base mask m made from is));
   }
     where
-    answer : admission l.receiver n ≡ cond (set.contains l.receiver n) Seen First
-    answer = let near = near_pushed l n kept was in admission_near l.receiver n near.0 near.1 near.2
-    inside : (b : Bool) → (is_outside (cond b Seen First) || list_any (λ a. is_outside a.1) l.arrivals) ≡ list_any (λ a. is_outside a.1) l.arrivals
-    inside true = refl
-    inside false = refl
-    grows : (m : ℕ) (b : Bool) → set.contains l.receiver n ≡ b → set.contains (taken l.receiver n (cond b Seen First)) m ≡ (nat_eq n m || set.contains l.receiver m)
-    grows m true there =
-        elim (nat_eq n m) as (λ b. nat_eq n m ≡ b → set.contains l.receiver m ≡ (b || set.contains l.receiver m)) [
-          | true ↦ λ is. let same : n ≡ m = grind (arith, nat_tests) in ap (λ k. set.contains l.receiver k) (sym same) ∙ there
-          | false ↦ λ _. refl
-        ] refl
-    grows m false lacks = contains-inserted l.receiver n m
-    after : (m : ℕ) → set.contains (admitted l.receiver n) m ≡ (nat_eq n m || set.contains l.receiver m)
-    after m = ap (λ a. set.contains (taken l.receiver n a) m) answer ∙ grows m (set.contains l.receiver n) refl
-    still : (m : ℕ) → set.contains l.receiver m ≡ true → set.contains (admitted l.receiver n) m ≡ true
-    still m there = after m ∙ (ap (λ b. nat_eq n m || b) there ∙ or_true (nat_eq n m))
-    first : (m : ℕ) (b : Bool) → set.contains l.receiver n ≡ b → cond {A = ℕ} (nat_eq n m && is_first (cond b Seen First)) 1 0 + cond (set.contains l.receiver m) 1 0 ≡ cond (nat_eq n m || set.contains l.receiver m) 1 0
-    first m b is =
-        elim (nat_eq n m) as (λ e. nat_eq n m ≡ e → cond {A = ℕ} (e && is_first (cond b Seen First)) 1 0 + cond (set.contains l.receiver m) 1 0 ≡ cond (e || set.contains l.receiver m) 1 0) [
-          | true ↦ λ e.
-              let same : n ≡ m = grind (arith, nat_tests) in
-              let there : set.contains l.receiver m ≡ b = ap (λ k. set.contains l.receiver k) (sym same) ∙ is in
-              ap (λ c. cond {A = ℕ} (is_first (cond b Seen First)) 1 0 + cond c 1 0) there ∙ one b
-          | false ↦ λ _. omega arith
-        ] refl
-      where
-      one : (b : Bool) → cond {A = ℕ} (is_first (cond b Seen First)) 1 0 + cond b 1 0 ≡ 1
-      one true = refl
-      one false = refl
+      answer : admission l.receiver n ≡ cond (set.contains l.receiver n) Seen First
+      answer = let near = near_pushed l n kept was in admission_near l.receiver n near.0 near.1 near.2
 
-  IsLossless-make_ack : (l : Link F) → IsLossless l → IsLossless (record l { acks = (base_of l.receiver, mask_of l.receiver) ∷ l.acks })
-  IsLossless-make_ack l kept = record {
+      inside : (b : Bool) → (is_outside (cond b Seen First) || list_any (λ a. is_outside a.1) l.arrivals) ≡ list_any (λ a. is_outside a.1) l.arrivals
+      inside true = refl
+      inside false = refl
+
+      grows : (m : ℕ) (b : Bool) → set.contains l.receiver n ≡ b → set.contains (taken l.receiver n (cond b Seen First)) m ≡ (nat_eq n m || set.contains l.receiver m)
+      grows m true there =
+          elim (nat_eq n m) as (λ b. nat_eq n m ≡ b → set.contains l.receiver m ≡ (b || set.contains l.receiver m)) [
+            | true ↦ λ is. let same : n ≡ m = grind (arith, nat_tests) in ap (λ k. set.contains l.receiver k) (sym same) ∙ there
+            | false ↦ λ _. refl
+          ] refl
+      grows m false lacks = contains-inserted l.receiver n m
+
+      after : (m : ℕ) → set.contains (admitted l.receiver n) m ≡ (nat_eq n m || set.contains l.receiver m)
+      after m = ap (λ a. set.contains (taken l.receiver n a) m) answer ∙ grows m (set.contains l.receiver n) refl
+
+      still : (m : ℕ) → set.contains l.receiver m ≡ true → set.contains (admitted l.receiver n) m ≡ true
+      still m there = after m ∙ (ap (λ b. nat_eq n m || b) there ∙ or_true (nat_eq n m))
+
+      was_sent : (m : ℕ) → (nat_eq n m || set.contains l.receiver m) ≡ true → was_pushed l m ≡ true
+      was_sent m is =
+          elim (nat_eq n m) as (λ b. nat_eq n m ≡ b → (b || set.contains l.receiver m) ≡ true → was_pushed l m ≡ true) [
+            | true ↦ λ e _. let same : n ≡ m = grind (arith, nat_tests) in subst (λ k. was_pushed l k ≡ true) same was
+            | false ↦ λ _ before. kept.received_pushed m before
+          ] refl is
+
+      first : (m : ℕ) (b : Bool) → set.contains l.receiver n ≡ b → cond {A = ℕ} (nat_eq n m && is_first (cond b Seen First)) 1 0 + cond (set.contains l.receiver m) 1 0 ≡ cond (nat_eq n m || set.contains l.receiver m) 1 0
+      first m b is =
+          elim (nat_eq n m) as (λ e. nat_eq n m ≡ e → cond {A = ℕ} (e && is_first (cond b Seen First)) 1 0 + cond (set.contains l.receiver m) 1 0 ≡ cond (e || set.contains l.receiver m) 1 0) [
+            | true ↦ λ e.
+                let same : n ≡ m = grind (arith, nat_tests) in
+                let there : set.contains l.receiver m ≡ b = ap (λ k. set.contains l.receiver k) (sym same) ∙ is in
+                ap (λ c. cond {A = ℕ} (is_first (cond b Seen First)) 1 0 + cond c 1 0) there ∙ one b
+            | false ↦ λ _. omega arith
+          ] refl
+        where
+          one : (b : Bool) → cond {A = ℕ} (is_first (cond b Seen First)) 1 0 + cond b 1 0 ≡ 1
+          one true = refl
+          one false = refl
+
+  IsSound-make_ack : (l : Link F) → IsSound l → IsSound (record l { acks = (base_of l.receiver, mask_of l.receiver) ∷ l.acks })
+  IsSound-make_ack l kept = record {
     window = kept.window;
     none_outside = kept.none_outside;
-    received = kept.received;
+    received_pushed = kept.received_pushed;
+    received_arrived = kept.received_arrived;
     first_once = kept.first_once;
     accounted = kept.accounted;
     done_pushed = kept.done_pushed;
@@ -285,22 +305,23 @@ module _ {F : Type 0} where
     acks_received = received;
   }
     where
-    received : (base mask n : ℕ) → ((nat_eq (base_of l.receiver) base && nat_eq (mask_of l.receiver) mask) || was_made l.acks base mask) ≡ true → 1 ≤ n → covers base mask n ≡ true → set.contains l.receiver n ≡ true
-    received base mask n made from is =
-        elim (nat_eq (base_of l.receiver) base && nat_eq (mask_of l.receiver) mask) as (λ b. (nat_eq (base_of l.receiver) base && nat_eq (mask_of l.receiver) mask) ≡ b → (b || was_made l.acks base mask) ≡ true → set.contains l.receiver n ≡ true) [
-          | true ↦ λ now _.
-              let one : base_of l.receiver ≡ base = grind (arith, nat_tests, now) in
-              let other : mask_of l.receiver ≡ mask = grind (arith, nat_tests, now) in
-              covered_received l.receiver n from ((λ i. covers (one i) (other i) n) ∙ is)
-          | false ↦ λ _ before. kept.acks_received base mask n before from is
-        ] refl made
+      received : (base mask n : ℕ) → ((nat_eq (base_of l.receiver) base && nat_eq (mask_of l.receiver) mask) || was_made l.acks base mask) ≡ true → 1 ≤ n → covers base mask n ≡ true → set.contains l.receiver n ≡ true
+      received base mask n made from is =
+          elim (nat_eq (base_of l.receiver) base && nat_eq (mask_of l.receiver) mask) as (λ b. (nat_eq (base_of l.receiver) base && nat_eq (mask_of l.receiver) mask) ≡ b → (b || was_made l.acks base mask) ≡ true → set.contains l.receiver n ≡ true) [
+            | true ↦ λ now _.
+                let one : base_of l.receiver ≡ base = grind (arith, nat_tests, now) in
+                let other : mask_of l.receiver ≡ mask = grind (arith, nat_tests, now) in
+                covered_received l.receiver n from ((λ i. covers (one i) (other i) n) ∙ is)
+            | false ↦ λ _ before. kept.acks_received base mask n before from is
+          ] refl made
 
-  IsLossless-take_ack : (l : Link F) (base mask : ℕ) → IsLossless l → was_made l.acks base mask ≡ true
-      → IsLossless (record l { sender = acknowledged l.sender base mask; done = with_done (lowest_covered l.sender base mask) l.done })
-  IsLossless-take_ack l base mask kept made = record {
+  IsSound-take_ack : (l : Link F) (base mask : ℕ) → IsSound l → was_made l.acks base mask ≡ true
+      → IsSound (record l { sender = acknowledged l.sender base mask; done = with_done (lowest_covered l.sender base mask) l.done })
+  IsSound-take_ack l base mask kept made = record {
     window = IsWindow-acknowledged l.sender base mask kept.window;
     none_outside = kept.none_outside;
-    received = kept.received;
+    received_pushed = kept.received_pushed;
+    received_arrived = kept.received_arrived;
     first_once = kept.first_once;
     accounted = (λ n was. accounted n was (lowest_covered l.sender base mask) refl);
     done_pushed = (λ n is. pushed_done n (lowest_covered l.sender base mask) refl is);
@@ -309,88 +330,92 @@ module _ {F : Type 0} where
     acks_received = kept.acks_received;
   }
     where
-    test : ℕ × F → Bool
-    test u = covers base mask u.0
-    accounted : (n : ℕ) → was_pushed l n ≡ true → (o : Option (ℕ × F)) → find (λ u. covers base mask u.0) l.sender.undone ≡ o
-        → is_undone (without_first (λ u. covers base mask u.0) l.sender.undone) n ≡ not (is_number n (with_done o l.done))
-    accounted n was None e = ap (λ us. is_undone us n) (none_gone (λ u. covers base mask u.0) l.sender.undone e) ∙ kept.accounted n was
-    accounted n was (Some u) e =
-        undone-without (λ u. covers base mask u.0) 1 l.sender.undone u n kept.window.ascending e
-        ∙ (ap (λ b. b && not (nat_eq u.0 n)) (kept.accounted n was) ∙ neither (is_number n l.done) (nat_eq u.0 n))
-      where
-      neither : (a b : Bool) → (not a && not b) ≡ not (b || a)
-      neither true true = refl
-      neither true false = refl
-      neither false true = refl
-      neither false false = refl
-    is_held : (u : ℕ × F) → find (λ u. covers base mask u.0) l.sender.undone ≡ Some u → is_undone l.sender.undone u.0 ≡ true
-    is_held u e = (found_undone (λ u. covers base mask u.0) l.sender.undone u e).0
-    was_held : (u : ℕ × F) → find (λ u. covers base mask u.0) l.sender.undone ≡ Some u → was_pushed l u.0 ≡ true
-    was_held u e =
-        is_pushed l u.0 (undone_above 1 l.sender.undone u.0 kept.window.ascending (is_held u e))
-        (undone_recent l.sender.next l.sender.undone u.0 kept.window.recent (is_held u e)).0
-    -- a fact of the number handed out and of each that was done is one of each that is done now
-    each : (P : ℕ → Type 0) (u : ℕ × F) (n : ℕ) → P u.0 → (is_number n l.done ≡ true → P n) → (nat_eq u.0 n || is_number n l.done) ≡ true → P n
-    each P u n here before is =
-        elim (nat_eq u.0 n) as (λ b. nat_eq u.0 n ≡ b → (b || is_number n l.done) ≡ true → P n) [
-          | true ↦ λ e _. let same : u.0 ≡ n = grind (arith, nat_tests) in subst P same here
-          | false ↦ λ _ old. before old
-        ] refl is
-    pushed_done : (n : ℕ) (o : Option (ℕ × F)) → find (λ u. covers base mask u.0) l.sender.undone ≡ o → is_number n (with_done o l.done) ≡ true → was_pushed l n ≡ true
-    pushed_done n None e is = kept.done_pushed n is
-    pushed_done n (Some u) e is = each (λ m. was_pushed l m ≡ true) u n (was_held u e) (kept.done_pushed n) is
-    received_done : (n : ℕ) (o : Option (ℕ × F)) → find (λ u. covers base mask u.0) l.sender.undone ≡ o → is_number n (with_done o l.done) ≡ true → set.contains l.receiver n ≡ true
-    received_done n None e is = kept.done_received n is
-    received_done n (Some u) e is =
-        let passes : covers base mask u.0 ≡ true = (found_undone (λ u. covers base mask u.0) l.sender.undone u e).1 in
-        each (λ m. set.contains l.receiver m ≡ true) u n (kept.acks_received base mask u.0 made (pushed_is l u.0 (was_held u e)).0 passes) (kept.done_received n) is
-    once : (n : ℕ) (o : Option (ℕ × F)) → find (λ u. covers base mask u.0) l.sender.undone ≡ o → count_by (λ d. nat_eq d n) (with_done o l.done) ≡ cond (is_number n (with_done o l.done)) 1 0
-    once n None e = kept.done_once n
-    once n (Some u) e =
-        count-cons (λ d. nat_eq d n) u.0 l.done
-        ∙ (ap (λ k. cond {A = ℕ} (nat_eq u.0 n) 1 0 + k) (kept.done_once n)
+      accounted : (n : ℕ) → was_pushed l n ≡ true → (o : Option (ℕ × F)) → find (λ u. covers base mask u.0) l.sender.undone ≡ o
+          → is_undone (without_first (λ u. covers base mask u.0) l.sender.undone) n ≡ not (is_number n (with_done o l.done))
+      accounted n was None e = ap (λ us. is_undone us n) (none_gone (λ u. covers base mask u.0) l.sender.undone e) ∙ kept.accounted n was
+      accounted n was (Some u) e =
+          undone-without (λ u. covers base mask u.0) 1 l.sender.undone u n kept.window.ascending e
+          ∙ (ap (λ b. b && not (nat_eq u.0 n)) (kept.accounted n was) ∙ neither (is_number n l.done) (nat_eq u.0 n))
+        where
+          neither : (a b : Bool) → (not a && not b) ≡ not (b || a)
+          neither true true = refl
+          neither true false = refl
+          neither false true = refl
+          neither false false = refl
+
+      is_held : (u : ℕ × F) → find (λ u. covers base mask u.0) l.sender.undone ≡ Some u → is_undone l.sender.undone u.0 ≡ true
+      is_held u e = (found_undone (λ u. covers base mask u.0) l.sender.undone u e).0
+
+      was_held : (u : ℕ × F) → find (λ u. covers base mask u.0) l.sender.undone ≡ Some u → was_pushed l u.0 ≡ true
+      was_held u e =
+          is_pushed l u.0 (undone_above 1 l.sender.undone u.0 kept.window.ascending (is_held u e))
+          (undone_recent l.sender.next l.sender.undone u.0 kept.window.recent (is_held u e)).0
+
+      -- a fact of the number handed out and of each that was done is one of each that is done now
+      each : (P : ℕ → Type 0) (u : ℕ × F) (n : ℕ) → P u.0 → (is_number n l.done ≡ true → P n) → (nat_eq u.0 n || is_number n l.done) ≡ true → P n
+      each P u n here before is =
+          elim (nat_eq u.0 n) as (λ b. nat_eq u.0 n ≡ b → (b || is_number n l.done) ≡ true → P n) [
+            | true ↦ λ e _. let same : u.0 ≡ n = grind (arith, nat_tests) in subst P same here
+            | false ↦ λ _ old. before old
+          ] refl is
+
+      pushed_done : (n : ℕ) (o : Option (ℕ × F)) → find (λ u. covers base mask u.0) l.sender.undone ≡ o → is_number n (with_done o l.done) ≡ true → was_pushed l n ≡ true
+      pushed_done n None e is = kept.done_pushed n is
+      pushed_done n (Some u) e is = each (λ m. was_pushed l m ≡ true) u n (was_held u e) (kept.done_pushed n) is
+
+      received_done : (n : ℕ) (o : Option (ℕ × F)) → find (λ u. covers base mask u.0) l.sender.undone ≡ o → is_number n (with_done o l.done) ≡ true → set.contains l.receiver n ≡ true
+      received_done n None e is = kept.done_received n is
+      received_done n (Some u) e is =
+          let passes : covers base mask u.0 ≡ true = (found_undone (λ u. covers base mask u.0) l.sender.undone u e).1 in
+          each (λ m. set.contains l.receiver m ≡ true) u n (kept.acks_received base mask u.0 made (pushed_is l u.0 (was_held u e)).0 passes) (kept.done_received n) is
+
+      once : (n : ℕ) (o : Option (ℕ × F)) → find (λ u. covers base mask u.0) l.sender.undone ≡ o → count_by (λ d. nat_eq d n) (with_done o l.done) ≡ cond (is_number n (with_done o l.done)) 1 0
+      once n None e = kept.done_once n
+      once n (Some u) e =
+          count-cons (λ d. nat_eq d n) u.0 l.done
+          ∙ (ap (λ k. cond {A = ℕ} (nat_eq u.0 n) 1 0 + k) (kept.done_once n)
           ∙ elim (nat_eq u.0 n) as (λ b. nat_eq u.0 n ≡ b → cond {A = ℕ} b 1 0 + cond (is_number n l.done) 1 0 ≡ cond (b || is_number n l.done) 1 0) [
-              | true ↦ λ is.
-                  let same : u.0 ≡ n = grind (arith, nat_tests) in
-                  let new : is_number n l.done ≡ false = subst (λ m. is_number m l.done ≡ false) same (negated (is_number u.0 l.done) (sym (kept.accounted u.0 (was_held u e)) ∙ is_held u e)) in
-                  ap (λ b. 1 + cond {A = ℕ} b 1 0) new
-              | false ↦ λ _. omega arith
-            ] refl)
-      where
-      negated : (b : Bool) → not b ≡ true → b ≡ false
-      negated true h = cc
-      negated false h = refl
+            | true ↦ λ is.
+                let same : u.0 ≡ n = grind (arith, nat_tests) in
+                let new : is_number n l.done ≡ false = subst (λ m. is_number m l.done ≡ false) same (negated (is_number u.0 l.done) (sym (kept.accounted u.0 (was_held u e)) ∙ is_held u e)) in
+                ap (λ b. 1 + cond {A = ℕ} b 1 0) new
+            | false ↦ λ _. omega arith
+          ] refl)
+        where
+          negated : (b : Bool) → not b ≡ true → b ≡ false
+          negated true h = cc
+          negated false h = refl
 
-  IsLossless-step : (l : Link F) (e : LinkEvent F) → IsLossless l → IsLossless (step l e)
-  IsLossless-step l (push frame) kept =
-      elim (has_room l.sender) as (λ b. has_room l.sender ≡ b → IsLossless (cond b (record l { sender = pushed l.sender frame }) l)) [
-        | true ↦ λ room. IsLossless-push l frame kept room
+  IsSound-step : (l : Link F) (e : LinkEvent F) → IsSound l → IsSound (step l e)
+  IsSound-step l (push frame) kept =
+      elim (has_room l.sender) as (λ b. has_room l.sender ≡ b → IsSound (cond b (record l { sender = pushed l.sender frame }) l)) [
+        | true ↦ λ room. IsSound-push l frame kept room
         | false ↦ λ _. kept
       ] refl
-  IsLossless-step l (arrive n) kept =
-      elim (was_pushed l n) as (λ b. was_pushed l n ≡ b → IsLossless (cond b (record l { receiver = admitted l.receiver n; arrivals = (n, admission l.receiver n) ∷ l.arrivals }) l)) [
-        | true ↦ λ was. IsLossless-arrive l n kept was
+  IsSound-step l (arrive n) kept =
+      elim (was_pushed l n) as (λ b. was_pushed l n ≡ b → IsSound (cond b (record l { receiver = admitted l.receiver n; arrivals = (n, admission l.receiver n) ∷ l.arrivals }) l)) [
+        | true ↦ λ was. IsSound-arrive l n kept was
         | false ↦ λ _. kept
       ] refl
-  IsLossless-step l make_ack kept = IsLossless-make_ack l kept
-  IsLossless-step l (take_ack base mask) kept =
-      elim (was_made l.acks base mask) as (λ b. was_made l.acks base mask ≡ b → IsLossless (cond b (record l { sender = acknowledged l.sender base mask; done = with_done (lowest_covered l.sender base mask) l.done }) l)) [
-        | true ↦ λ made. IsLossless-take_ack l base mask kept made
+  IsSound-step l make_ack kept = IsSound-make_ack l kept
+  IsSound-step l (take_ack base mask) kept =
+      elim (was_made l.acks base mask) as (λ b. was_made l.acks base mask ≡ b → IsSound (cond b (record l { sender = acknowledged l.sender base mask; done = with_done (lowest_covered l.sender base mask) l.done }) l)) [
+        | true ↦ λ made. IsSound-take_ack l base mask kept made
         | false ↦ λ _. kept
       ] refl
 
-  IsLossless-run_from : (l : Link F) (events : List (LinkEvent F)) → IsLossless l → IsLossless (run_from l events)
-  IsLossless-run_from l [] kept = kept
-  IsLossless-run_from l (e ∷ events) kept = IsLossless-run_from (step l e) events (IsLossless-step l e kept)
+  IsSound-run_from : (l : Link F) (events : List (LinkEvent F)) → IsSound l → IsSound (run_from l events)
+  IsSound-run_from l [] kept = kept
+  IsSound-run_from l (e ∷ events) kept = IsSound-run_from (step l e) events (IsSound-step l e kept)
 
   -- after any events
-  pub IsLossless-run : (events : List (LinkEvent F)) → IsLossless (run events)
-  IsLossless-run events = IsLossless-run_from new_link events IsLossless-new
+  pub IsSound-run : (events : List (LinkEvent F)) → IsSound (run events)
+  IsSound-run events = IsSound-run_from new_link events IsSound-new
 
   -- one event more
   pub run-snoc : (events : List (LinkEvent F)) (e : LinkEvent F) → run (events ++ e ∷ []) ≡ step (run events) e
   run-snoc events e = go new_link events
     where
-    go : (l : Link F) (events : List (LinkEvent F)) → run_from l (events ++ e ∷ []) ≡ step (run_from l events) e
-    go l [] = refl
-    go l (d ∷ events) = go (step l d) events
+      go : (l : Link F) (events : List (LinkEvent F)) → run_from l (events ++ e ∷ []) ≡ step (run_from l events) e
+      go l [] = refl
+      go l (d ∷ events) = go (step l d) events

@@ -12,7 +12,8 @@ use Rattle.std.proofs.lemmas.Nat.Bits.{bit_at_lowest, bit_at-suc, bit_at-zero, b
 use Rattle.gb_types.specs.declared.limits.TheConstants.{LAST_FRAME}
 use Rattle.gb_link.specs.Ack.{covers}
 use Rattle.gb_link.specs.declared.receiver.Admission.TheVariants.{First, Seen, Outside}
-use Rattle.gb_link.specs.Received.{Received, covered, below, admission, IsReceiver, base_of, word_of, mask_of}
+use Rattle.gb_link.specs.Received.{Received, admission, base_of, word_of, mask_of}
+use Rattle.gb_link.specs.Words.{covered, below, IsReceiver}
 use Rattle.gb_link.proofs.BaseLemmas.{base_of_is, word_of_is}
 use Rattle.gb_link.proofs.AckLemmas.{not_covered_beyond}
 
@@ -193,3 +194,20 @@ first_in_range base mask n kept is near last m there =
       | true ↦ λ e _. let same : m ≡ n = grind (arith, nat_tests) in omega (arith, same, last)
       | false ↦ λ _ before. kept.last m before
     ] refl inserted
+
+-- with a mask of zeros, what is received is what lies below the base
+pub IsReceiver-clear : (base : ℕ) → 1 ≤ base → base ≤ LAST_FRAME + 1 → IsReceiver base 0
+IsReceiver-clear base started end = record {
+  started = started;
+  word = omega arith;
+  even = omega arith;
+  last = last;
+}
+  where
+    last : (n : ℕ) → set.contains (covered base 0) n ≡ true → n ≤ LAST_FRAME
+    last zero there = omega arith
+    last (suc n) there =
+        let is : covers base 0 (suc n) ≡ true = sym (contains-covered base 0 (suc n) (omega arith) (omega arith)) ∙ there in
+        let clear : bit_at 0 (suc n - base) ≡ 0 = bit_at-zero (suc n - base) in
+        let below : suc n < base = grind (arith, nat_tests, is, clear) in
+        omega arith

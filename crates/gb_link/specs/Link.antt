@@ -1,5 +1,5 @@
 -- A sender and a receiver over a network that loses, delays, repeats and reorders frames and acknowledgements.
-use Rattle.std.specs.Prelude.{◌≡◌, ℕ, ◌+◌, ◌<◌, ◌≤◌, Bool, true, false, not, ◌&&◌, if◌then◌else◌, nat_eq, nat_lt, nat_le, count_by, List, [], ◌∷◌, Option, Some, None}
+use Rattle.std.specs.Prelude.{◌≡◌, ℕ, ◌≤◌, Bool, true, false, not, ◌&&◌, if◌then◌else◌, nat_eq, nat_lt, nat_le, count_by, List, [], ◌∷◌, Option, Some, None}
 use Rattle.std.specs.List.{list_any}
 use Rattle.std.specs.FinSet as set
 use Rattle.gb_link.specs.declared.receiver.Admission.{Admission}
@@ -77,19 +77,20 @@ module _ {F : Type 0} where
   run events = run_from new_link events
 
   -- what holds of a link, whatever happens on it
-  pub record IsLossless (l : Link F) : Type 0 where
+  pub record IsSound (l : Link F) : Type 0 where
     pub window : IsWindow l.sender
-    -- no frame that arrived was outside the receiver's window
+    -- no frame that was pushed arrived outside the receiver's window
     pub none_outside : list_any (λ a. is_outside a.1) l.arrivals ≡ false
-    -- a number is received where a frame of it arrived
-    pub received : (n : ℕ) → set.contains l.receiver n ≡ list_any (λ a. nat_eq a.0 n) l.arrivals
-    -- one of these arrivals was the first
+    -- no creation: a number is received where a frame of it was pushed and arrived
+    pub received_pushed : (n : ℕ) → set.contains l.receiver n ≡ true → was_pushed l n ≡ true
+    pub received_arrived : (n : ℕ) → set.contains l.receiver n ≡ list_any (λ a. nat_eq a.0 n) l.arrivals
+    -- no duplication: of these arrivals one was the first
     pub first_once : (n : ℕ) → count_by (λ a. nat_eq a.0 n && is_first a.1) l.arrivals ≡ (if set.contains l.receiver n then 1 else 0)
     -- each number pushed is undone or done, and not both
     pub accounted : (n : ℕ) → was_pushed l n ≡ true → is_undone l.sender.undone n ≡ not (is_number n l.done)
-    -- only pushed numbers are handed out as done, each once, and they were received
+    -- a number that is done was pushed and received, and was handed out once
     pub done_pushed : (n : ℕ) → is_number n l.done ≡ true → was_pushed l n ≡ true
-    pub done_once : (n : ℕ) → count_by (λ d. nat_eq d n) l.done ≡ (if is_number n l.done then 1 else 0)
     pub done_received : (n : ℕ) → is_number n l.done ≡ true → set.contains l.receiver n ≡ true
-    -- so was whatever an acknowledgement covers
+    pub done_once : (n : ℕ) → count_by (λ d. nat_eq d n) l.done ≡ (if is_number n l.done then 1 else 0)
+    -- an acknowledgement covers received numbers alone
     pub acks_received : (base mask n : ℕ) → was_made l.acks base mask ≡ true → 1 ≤ n → covers base mask n ≡ true → set.contains l.receiver n ≡ true

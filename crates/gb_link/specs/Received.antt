@@ -1,11 +1,10 @@
 -- What a contract sees of a receiver: the numbers that it took, and its acknowledgement of them.
-use Rattle.std.specs.Prelude.{ℕ, ◌+◌, ◌*◌, ◌≡◌, ◌≤◌, ◌%◌, ◌^◌, ◌<◌, Bool, true, not, ◌&&◌, if◌then◌else◌, nat_eq, nat_lt, nat_le, List, [], ◌∷◌, length}
+use Rattle.std.specs.Prelude.{ℕ, ◌+◌, ◌*◌, Bool, ◌&&◌, if◌then◌else◌, nat_lt, nat_le, length}
 use Rattle.std.specs.Ordering.{nat_cmp}
 use Rattle.std.specs.FinSet as set
 use Rattle.gb_types.specs.declared.limits.TheConstants.{LAST_FRAME}
 use Rattle.gb_link.specs.declared.receiver.Admission.{Admission}
 use Rattle.gb_link.specs.declared.receiver.Admission.TheVariants.{First, Seen, Outside}
-use Rattle.gb_link.specs.Ack.{covers}
 use Prim.Native.Nat.{zero, suc}
 
 -- the numbers received
@@ -46,19 +45,3 @@ taken s n Outside = s
 
 abbrev pub admitted : Received → ℕ → Received
 admitted s n = taken s n (admission s n)
-
--- the numbers below n, the greatest first
-abbrev pub below : ℕ → List ℕ
-below zero = []
-below (suc n) = n ∷ below n
-
--- the numbers from 1 on that an acknowledgement by a base and a mask of 64 bits covers
-unfoldable pub covered : ℕ → ℕ → Received
-covered base mask = set.retain (set.from_list (below (base + 64))) (λ n. not (nat_eq n 0) && covers base mask n)
-
--- what each receiver keeps: base and mask are the acknowledgement of what they cover
-pub record IsReceiver (base mask : ℕ) : Type 0 where
-  pub started : 1 ≤ base
-  pub word : mask < 2 ^ 64
-  pub even : mask % 2 ≡ 0
-  pub last : (n : ℕ) → set.contains (covered base mask) n ≡ true → n ≤ LAST_FRAME

@@ -1,7 +1,10 @@
 // The receiving end of a link.
-ghost use Rattle.std.specs.Prelude.{◌≡◌, ℕ, ◌+◌, ◌%◌, ◌≤◌, true};
+ghost use Rattle.std.specs.Prelude.{◌≡◌, ℕ, ◌%◌, ◌≤◌, true};
 ghost use Rattle.std.specs.FinSet as set;
+ghost use Rattle.gb_types.specs.declared.limits.TheConstants.{LAST_FRAME};
 ghost use Rattle.gb_link.specs.Ack.{covers};
+ghost use Rattle.gb_link.specs.Received.{admission, taken, base_of, mask_of};
+ghost use Rattle.gb_link.specs.Words.{covered};
 
 use crate::ack::covers;
 use gb_types::limits::{LAST_FRAME, LINK_WINDOW};
@@ -10,16 +13,16 @@ use std::marker::Model;
 /// What becomes of an arriving frame.
 #[derive(Clone, Copy, Debug, PartialEq, Eq)]
 pub enum Admission {
-    /// Its number came for the first time.
+    /// Its number came for the first time, and is received.
     First,
     /// Its number was received before.
     Seen,
-    /// Its number is beyond the window, and it is not received.
+    /// Its number is beyond the window or above `LAST_FRAME`, and is not received.
     Outside,
 }
 
-/// The set of the frame numbers received. Its size is fixed: all numbers below the base are received, and bit
-/// `i` of the mask says whether `base + i` is.
+/// The set of the frame numbers received, in two words: every number below the base is received, and `base + i`
+/// where bit `i` of the mask is set. The base itself is not received.
 #[derive(Drop)]
 pub struct Receiver {
     base: u64,
@@ -30,12 +33,11 @@ impl Model for Receiver {
     ghost use Rattle.std.specs.Ordering.{nat_cmp};
     ghost use Rattle.std.specs.FinSet as set;
     ghost use Rattle.std.specs.Coded.{coded_ℕ};
+    ghost use Rattle.gb_link.specs.Words.{covered, IsReceiver};
 
     ghost Value = { set.FinSet nat_cmp };
 
     ghost coded = { set.code coded_ℕ };
-
-    ghost use Rattle.gb_link.specs.Received.{covered, IsReceiver};
 
     ghost view = { λ r. covered r.base r.mask };
 
@@ -43,8 +45,6 @@ impl Model for Receiver {
 }
 
 impl Receiver {
-    ghost use Rattle.gb_link.specs.Received.{admission, taken, base_of, mask_of};
-
     /// A receiver that received nothing.
     pub fn new() -> Receiver
         ensures { result ≡ set.empty }
@@ -52,7 +52,8 @@ impl Receiver {
         Receiver { base: 1, mask: 0 }
     }
 
-    /// Receives the frame number, unless it was received before or is beyond the window.
+    /// Receives the number of an arriving frame, unless it was received before or is outside the window: the 64
+    /// numbers from the least one not received on, as far as `LAST_FRAME`.
     pub fn admit(&mut self, number: u64) -> Admission
         requires { 1 ≤ number }
         ensures answer { result ≡ admission self.old number }
@@ -71,13 +72,13 @@ impl Receiver {
         Admission::First
     }
 
-    /// The acknowledgement of all that was received: the least number not received, and the mask of the 64
-    /// numbers from it on.
+    /// The acknowledgement of now, base and mask: the least number not received, and in bit `i` whether
+    /// `base + i` was received.
     pub fn ack(&self) -> (u64, u64)
         ensures base { result.0 ≡ base_of self.now }
         ensures mask { result.1 ≡ mask_of self.now }
 
-        // So the base is at least 1 and its own bit is 0, and what is covered is what was received.
+        // So the base is at least 1, its own bit is 0, and what is covered is what was received.
         ensures started { 1 ≤ result.0 }
         ensures even { result.1 % 2 ≡ 0 }
         ensures exact { (n : ℕ) → 1 ≤ n → covers result.0 result.1 n ≡ set.contains self.now n }
@@ -86,10 +87,8 @@ impl Receiver {
     }
 }
 
-ghost use Rattle.gb_link.specs.Received.{covered};
-ghost use Rattle.gb_types.specs.declared.limits.TheConstants.{LAST_FRAME};
-
-/// The same numbers, from the first one on that is not covered.
+/// The words of the same set whose mask has its lowest bit clear: the base moves up to the least number that is
+/// not in the set.
 fn slid(mut base: u64, mut mask: u64) -> (u64, u64)
     requires started { 1 ≤ base }
     requires last { (n : ℕ) → set.contains (covered base mask) n ≡ true → n ≤ LAST_FRAME }
@@ -103,3 +102,6 @@ fn slid(mut base: u64, mut mask: u64) -> (u64, u64)
     }
     (base, mask)
 }
+
+#[cfg(test)]
+mod tests;

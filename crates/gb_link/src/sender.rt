@@ -1,8 +1,8 @@
 // The sending end of a link.
-ghost use Rattle.std.specs.Prelude.{◌≡◌, IsTrue, OnOk, OnErr, IfOk, is_ok, Some, position, nat_eq, find};
+ghost use Rattle.std.specs.Prelude.{◌≡◌, IsTrue, OnOk, OnErr, IfOk, position, nat_eq, find};
 ghost use Rattle.std.specs.Option.{option_map, option_copied};
 ghost use Rattle.gb_link.specs.Ack.{covers};
-ghost use Rattle.gb_link.specs.SendWindow.{IsWindow, new_window, has_room, pushed, frame_again, lowest_covered, acknowledged};
+ghost use Rattle.gb_link.specs.SendWindow.{IsWindow, new_window, has_room, pushed, frame_again, lowest_covered, acknowledged, without_first};
 
 use crate::ack::covers;
 use gb_types::limits::{LAST_FRAME, LINK_WINDOW};
@@ -80,16 +80,23 @@ impl<F: Drop> Sender<F> {
         parts(held_under(&self.undone, number))
     }
 
-    /// Hands out the lowest undone frame that the acknowledgement covers, which is then done. To take an
-    /// acknowledgement whole, call again until there is none.
+    /// Hands out the lowest undone frame that the acknowledgement covers, with its number; it is done then. To
+    /// take an acknowledgement whole, call until there is none.
     pub fn acked(&mut self, base: u64, mask: u64) -> Option<(u64, F)>
         ensures handed_out { result ≡ lowest_covered self.old base mask }
         ensures done { self.new ≡ acknowledged self.old base mask }
     {
-        match first_covered(&self.undone, base, mask) {
-            None => None,
-            Some(place) => self.undone.remove(place),
-        }
+        take_covered(&mut self.undone, base, mask)
+    }
+}
+
+fn take_covered<F>(undone: &mut VecDeque<(u64, F)>, base: u64, mask: u64) -> Option<(u64, F)>
+    ensures handed_out { result ≡ find (λ held. covers base mask held.0) undone.old.items }
+    ensures left { undone.new.items ≡ without_first (λ held. covers base mask held.0) undone.old.items }
+{
+    match first_covered(undone, base, mask) {
+        None => None,
+        Some(place) => undone.remove(place),
     }
 }
 
@@ -100,7 +107,6 @@ fn first_covered<F>(undone: &VecDeque<(u64, F)>, base: u64, mask: u64) -> Option
     undone.iter().position(|held| covers(base, mask, held.0))
 }
 
-/// The frame of this number.
 fn held_under<F>(undone: &VecDeque<(u64, F)>, number: u64) -> Option<&(u64, F)>
     ensures { option_copied result ≡ find (λ held. nat_eq held.0 number) undone.now.items }
 {
@@ -115,3 +121,6 @@ fn parts<F>(held: Option<&(u64, F)>) -> Option<(u64, &F)>
         Some(found) => Some((found.0, &found.1)),
     }
 }
+
+#[cfg(test)]
+mod tests;

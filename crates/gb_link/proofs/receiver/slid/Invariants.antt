@@ -1,5 +1,5 @@
 use Rattle.std.proofs.Common.{◌≡◌, ◌≤◌, ◌<◌, ◌^◌}
-use Rattle.gb_link.specs.Received.{covered}
+use Rattle.gb_link.specs.Words.{covered}
 use Rattle.gb_link.proofs.receiver.slid.Given as goal
 
 abbrev pub invariant-loop-mask : goal.invariant-loop-mask
