@@ -3,4 +3,5 @@ pub mod WindowLemmas
 pub mod FirstLemmas
 pub mod ReceivedLemmas
 pub mod BaseLemmas
+pub mod ArrivalLemmas
 pub mod LinkLemmas

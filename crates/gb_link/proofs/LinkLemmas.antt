@@ -2,7 +2,6 @@
 use Rattle.std.proofs.Common.{◌≡◌, ℕ, ◌+◌, ◌-◌, ◌<◌, ◌≤◌, Bool, true, false, not, ◌&&◌, ◌||◌, cond, nat_eq, nat_lt, nat_le, List, [], ◌∷◌, ◌++◌, count_by, refl, ap, ap₂, sym, ◌∙◌, arith, Option, Some, None, subst}
 use Rattle.std.specs.Int.{bit_at}
 use Rattle.std.specs.List.{list_any, find}
-use Rattle.std.specs.Cmp.{nat_cmp_total, unsigned_tied}
 use Rattle.std.specs.Ordering.{nat_cmp}
 use Rattle.std.specs.FinSet as set
 use Rattle.std.proofs.lemmas.Bool.Decides.{nat_tests}
@@ -11,8 +10,9 @@ use Rattle.gb_types.specs.declared.limits.TheConstants.{LAST_FRAME}
 use Rattle.gb_link.specs.declared.receiver.Admission.TheVariants.{First, Seen, Outside}
 use Rattle.gb_link.specs.Ack.{covers}
 use Rattle.gb_link.specs.SendWindow.{AreAscending, AreRecent, has_room, pushed, without_first, lowest_covered, acknowledged}
-use Rattle.gb_link.specs.Received.{Received, base_of, mask_of, admission, admitted, taken}
-use Rattle.gb_link.specs.Link.{LinkEvent, push, arrive, make_ack, take_ack, Link, new_link, is_first, is_outside, is_number, is_undone, was_pushed, was_made, with_done, step, run_from, run, IsSound}
+use Rattle.gb_link.specs.Received.{Received, base_of, mask_of, admission, admitted, taken, is_first}
+use Rattle.gb_link.specs.Link.{LinkEvent, push, arrive, make_ack, take_ack, Link, new_link, is_outside, is_number, is_undone, was_pushed, was_made, with_done, step, run_from, run, IsSound}
+use Rattle.gb_link.proofs.ArrivalLemmas.{contains-inserted}
 use Rattle.gb_link.proofs.BaseLemmas.{count-cons, base_of_from, base_of_below, base_of_lacks, word_of_bit}
 use Rattle.gb_link.proofs.WindowLemmas.{IsWindow-pushed, IsWindow-acknowledged}
 
@@ -45,11 +45,6 @@ covered_received s n from is =
     ] refl is
 
 -- ---- what becomes of an arriving frame
-
-contains-inserted : (s : Received) (n m : ℕ) → set.contains (set.insert s n) m ≡ (nat_eq n m || set.contains s m)
-contains-inserted s n m =
-    let swap : nat_eq m n ≡ nat_eq n m = grind (arith, nat_tests) in
-    set.contains-insert nat_cmp_total s n m ∙ ap (λ b. b || set.contains s m) (unsigned_tied m n ∙ swap)
 
 -- a number in the window is First or Seen
 admission_near : (s : Received) (n : ℕ) → 1 ≤ n → n < base_of s + 64 → n ≤ LAST_FRAME → admission s n ≡ cond (set.contains s n) Seen First

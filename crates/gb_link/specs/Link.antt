@@ -6,7 +6,7 @@ use Rattle.gb_link.specs.declared.receiver.Admission.{Admission}
 use Rattle.gb_link.specs.declared.receiver.Admission.TheVariants.{First, Seen, Outside}
 use Rattle.gb_link.specs.Ack.{covers}
 use Rattle.gb_link.specs.SendWindow.{SendWindow, IsWindow, new_window, has_room, pushed, lowest_covered, acknowledged}
-use Rattle.gb_link.specs.Received.{Received, base_of, mask_of, admission, admitted}
+use Rattle.gb_link.specs.Received.{Received, base_of, mask_of, admission, admitted, is_first}
 
 -- what can happen on a link
 pub data LinkEvent (F : Type 0) : Type 0 where
@@ -26,11 +26,6 @@ pub record Link (F : Type 0) : Type 0 where
   pub acks : List (ℕ × ℕ)
   pub arrivals : List (ℕ × Admission)
   pub done : List ℕ
-
-abbrev pub is_first : Admission → Bool
-is_first First = true
-is_first Seen = false
-is_first Outside = false
 
 abbrev pub is_outside : Admission → Bool
 is_outside First = false

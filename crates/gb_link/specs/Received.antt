@@ -1,5 +1,5 @@
 -- What a contract sees of a receiver: the numbers that it took, and its acknowledgement of them.
-use Rattle.std.specs.Prelude.{ℕ, ◌+◌, ◌*◌, Bool, ◌&&◌, if◌then◌else◌, nat_lt, nat_le, length}
+use Rattle.std.specs.Prelude.{ℕ, ◌+◌, ◌*◌, Bool, true, false, ◌&&◌, if◌then◌else◌, nat_eq, nat_lt, nat_le, List, [], ◌∷◌, length}
 use Rattle.std.specs.Ordering.{nat_cmp}
 use Rattle.std.specs.FinSet as set
 use Rattle.gb_types.specs.declared.limits.TheConstants.{LAST_FRAME}
@@ -45,3 +45,13 @@ taken s n Outside = s
 
 abbrev pub admitted : Received → ℕ → Received
 admitted s n = taken s n (admission s n)
+
+abbrev pub is_first : Admission → Bool
+is_first First = true
+is_first Seen = false
+is_first Outside = false
+
+-- how often a frame of number n is First, where frames of these numbers arrive one after another
+abbrev pub firsts : Received → ℕ → List ℕ → ℕ
+firsts s n [] = 0
+firsts s n (m ∷ ms) = (if nat_eq m n && is_first (admission s m) then 1 else 0) + firsts (admitted s m) n ms

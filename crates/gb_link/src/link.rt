@@ -12,7 +12,7 @@ pub fn soundness<F>()
 #[cfg(test)]
 mod tests {
     use super::*;
-    use crate::receiver::{Admission, Receiver};
+    use crate::receiver::{Admission, Receiver, first_once};
     use crate::sender::Sender;
     use std::test::Fail;
 
@@ -20,6 +20,7 @@ mod tests {
     #[test]
     fn lost_frames_are_given_again(rt: HostRuntime) -> Result<(), Fail> {
         soundness::<u64>();
+        first_once();
         let mut sender = Sender::new(rt.alloc());
         let mut receiver = Receiver::new();
         for frame in 1..65u64 {

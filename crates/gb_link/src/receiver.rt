@@ -1,9 +1,9 @@
 // The receiving end of a link.
-ghost use Rattle.std.specs.Prelude.{◌≡◌, ℕ, ◌%◌, ◌≤◌, true};
+ghost use Rattle.std.specs.Prelude.{◌≡◌, ℕ, ◌%◌, ◌≤◌, true, List};
 ghost use Rattle.std.specs.FinSet as set;
 ghost use Rattle.gb_types.specs.declared.limits.TheConstants.{LAST_FRAME};
 ghost use Rattle.gb_link.specs.Ack.{covers};
-ghost use Rattle.gb_link.specs.Received.{admission, taken, base_of, mask_of};
+ghost use Rattle.gb_link.specs.Received.{Received, admission, taken, base_of, mask_of, firsts};
 ghost use Rattle.gb_link.specs.Words.{covered};
 
 use crate::ack::covers;
@@ -86,6 +86,12 @@ impl Receiver {
         (self.base, self.mask)
     }
 }
+
+/// A law of every receiver, whatever it received before and whatever numbers arrive: each number is `First` once
+/// at most. The function does nothing when it runs; its contract is the law.
+pub fn first_once()
+    ensures { (received : Received) (n : ℕ) (numbers : List ℕ) → firsts received n numbers ≤ 1 }
+{}
 
 /// The words of the same set whose mask has its lowest bit clear: the base moves up to the least number that is
 /// not in the set.
