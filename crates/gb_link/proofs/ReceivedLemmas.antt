@@ -3,23 +3,20 @@ use Rattle.std.proofs.Common.{◌≡◌, ◌≢◌, ℕ, ◌+◌, ◌-◌, ◌*�
 use Rattle.std.proofs.lemmas.Nat.{or_lt}
 use Rattle.std.specs.Int.{bit_at}
 use Rattle.std.specs.Ordering.{nat_cmp}
-use Rattle.std.specs.List.{list_any}
 use Rattle.std.specs.Cmp.{nat_cmp_total, unsigned_tied}
 use Rattle.std.specs.FinSet as set
 use Rattle.std.specs.FinSet.{nat_cmp-IsAntisymmetric}
 use Rattle.std.proofs.lemmas.Bool.Decides.{nat_tests}
 use Rattle.std.proofs.lemmas.Nat.Bits.{bit_at_lowest, bit_at-suc, bit_at-zero, bit_at_set_same, bit_at_set_other}
 use Rattle.gb_types.specs.declared.limits.TheConstants.{LAST_FRAME}
+use Rattle.gb_types.specs.Places.{below}
+use Rattle.gb_types.proofs.PlaceLemmas.{any-below}
 use Rattle.gb_link.specs.Ack.{covers}
 use Rattle.gb_link.specs.declared.receiver.Admission.TheVariants.{First, Seen, Outside}
 use Rattle.gb_link.specs.Received.{Received, admission, base_of, word_of, mask_of}
-use Rattle.gb_link.specs.Words.{covered, below, IsReceiver}
+use Rattle.gb_link.specs.Words.{covered, IsReceiver}
 use Rattle.gb_link.proofs.BaseLemmas.{base_of_is, word_of_is}
 use Rattle.gb_link.proofs.AckLemmas.{not_covered_beyond}
-
-any-below : (n q : ℕ) → list_any (λ y. nat_eq y q) (below n) ≡ nat_lt q n
-any-below zero q = grind (arith, nat_tests)
-any-below (suc n) q = let e = any-below n q in grind (arith, nat_tests, e)
 
 in_covered : (base mask n : ℕ) → set.contains (covered base mask) n ≡ (nat_lt n (base + 64) && (not (nat_eq n 0) && covers base mask n))
 unfolding covered

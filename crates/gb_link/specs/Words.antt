@@ -1,15 +1,10 @@
 -- The set of numbers that the two words of a receiver stand for.
-use Rattle.std.specs.Prelude.{◌≡◌, ℕ, ◌+◌, ◌%◌, ◌^◌, ◌<◌, ◌≤◌, true, not, ◌&&◌, nat_eq, List, [], ◌∷◌}
+use Rattle.std.specs.Prelude.{◌≡◌, ℕ, ◌+◌, ◌%◌, ◌^◌, ◌<◌, ◌≤◌, true, not, ◌&&◌, nat_eq}
 use Rattle.std.specs.FinSet as set
 use Rattle.gb_types.specs.declared.limits.TheConstants.{LAST_FRAME}
+use Rattle.gb_types.specs.Places.{below}
 use Rattle.gb_link.specs.Ack.{covers}
 use Rattle.gb_link.specs.Received.{Received}
-use Prim.Native.Nat.{zero, suc}
-
--- the numbers below n, the greatest first
-abbrev pub below : ℕ → List ℕ
-below zero = []
-below (suc n) = n ∷ below n
 
 -- the numbers from 1 on that an acknowledgement by a base and a mask of 64 bits covers
 unfoldable pub covered : ℕ → ℕ → Received
