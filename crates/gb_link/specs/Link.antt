@@ -27,11 +27,13 @@ pub record Link (F : Type 0) : Type 0 where
   pub arrivals : List (ℕ × Admission)
   pub done : List ℕ
 
+-- the answer says that the number was outside the window
 abbrev pub is_outside : Admission → Bool
 is_outside First = false
 is_outside Seen = false
 is_outside Outside = true
 
+-- the number is in the list
 abbrev pub is_number : ℕ → List ℕ → Bool
 is_number n xs = list_any (λ x. nat_eq x n) xs
 
@@ -40,6 +42,7 @@ abbrev pub was_made : List (ℕ × ℕ) → ℕ → ℕ → Bool
 was_made acks base mask = list_any (λ a. nat_eq a.0 base && nat_eq a.1 mask) acks
 
 module _ {F : Type 0} where
+  -- nothing has happened
   abbrev pub new_link : Link F
   new_link = record { sender = new_window; receiver = set.empty; acks = []; arrivals = []; done = [] }
 
@@ -63,15 +66,16 @@ module _ {F : Type 0} where
   step l make_ack = record l { acks = (base_of l.receiver, mask_of l.receiver) ∷ l.acks }
   step l (take_ack base mask) = if was_made l.acks base mask then record l { sender = acknowledged l.sender base mask; done = with_done (lowest_covered l.sender base mask) l.done } else l
 
+  -- the link after these events more, the first first
   abbrev pub run_from : Link F → List (LinkEvent F) → Link F
   run_from l [] = l
   run_from l (e ∷ events) = run_from (step l e) events
 
-  -- the link after these events, the first first
+  -- the link after these events from the start
   abbrev pub run : List (LinkEvent F) → Link F
   run events = run_from new_link events
 
-  -- what holds of a link, whatever happens on it
+  -- what holds of a link, whatever happens on it (no creation and no duplication are those of the perfect links of Cachin, Guerraoui and Rodrigues)
   pub record IsSound (l : Link F) : Type 0 where
     pub window : IsWindow l.sender
     -- no frame that was pushed arrived outside the receiver's window

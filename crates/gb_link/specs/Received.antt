@@ -43,9 +43,11 @@ taken s n First = set.insert s n
 taken s n Seen = s
 taken s n Outside = s
 
+-- the numbers received after a frame of number n arrived
 abbrev pub admitted : Received → ℕ → Received
 admitted s n = taken s n (admission s n)
 
+-- the answer says that the number came for the first time
 abbrev pub is_first : Admission → Bool
 is_first First = true
 is_first Seen = false
