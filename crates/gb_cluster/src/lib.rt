@@ -7,6 +7,7 @@
 
 pub mod answer;
 pub mod event;
+mod frames;
 pub mod group;
 pub mod packet;
 pub mod plan;
