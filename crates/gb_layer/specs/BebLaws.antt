@@ -1,7 +1,8 @@
 -- The laws of `Beb`.
-use Rattle.std.proofs.Common.{◌≡◌, ℕ, ◌≤◌, Bool, true, false, cond, ◌&&◌, ◌||◌, nat_eq, List, [], ◌∷◌, count_by, refl, ap, ◌∙◌, sym, arith}
-use Rattle.std.proofs.lemmas.Bool.{eqb-true}
+use Rattle.std.proofs.Common.{◌≡◌, ℕ, ◌≤◌, true, false, cond, ◌&&◌, nat_eq, List, [], ◌∷◌, count_by, refl, ap, ◌∙◌, sym, arith}
+use Rattle.std.proofs.lemmas.Bool.{eqb-true, or_from}
 use Rattle.std.proofs.lemmas.Bool.Decides.{nat_tests}
+use Rattle.std.proofs.Math.Bool.{and-false}
 use Rattle.gb_types.specs.declared.node.NodeId.{NodeId}
 use Rattle.gb_types.specs.declared.message.MsgId.{MsgId}
 use Rattle.gb_types.specs.Message.{same}
@@ -10,16 +11,9 @@ use Rattle.gb_layer.specs.declared.effects.Up.{Up}
 use Rattle.gb_layer.specs.declared.call.Call.{Call}
 use Rattle.gb_layer.specs.declared.call.Call.TheVariants.{Say, Came, Notice}
 use Rattle.gb_layer.specs.Machine.{nothing, after, all_sends, all_ups, mentions, was_said, came_from, IsFair, count_sends, is_up, is_of}
+use Rattle.gb_layer.specs.Bools.{or_left, or_right}
 use Rattle.gb_layer.specs.Counts.{count_by-append_nil, none_more, once_more, at_most_once}
 use Rattle.gb_layer.specs.BebMachine.{beb_gives}
-
-or_left : (a b : Bool) → (a || b) ≡ false → a ≡ false
-or_left true b h = h
-or_left false b h = refl
-
-or_right : (a b : Bool) → (a || b) ≡ false → b ≡ false
-or_right true b h = cc
-or_right false b h = h
 
 -- no message comes twice from one node
 abbrev pub IsOnce : ℕ → List Call → Type 0
@@ -54,20 +48,13 @@ beb_ups me (Came p x ∷ past) via m h =
     refl h.0 (alike me.number p.number via x m past) (beb_ups me past via m h.1)
 beb_ups me (Notice q ∷ past) via m h = count_by-append_nil (is_up via m) (ups me past) ∙ beb_ups me past via m h
 
-and_false : (a : Bool) → (a && false) ≡ false
-and_false true = refl
-and_false false = refl
-
-or_false : (a b : Bool) → a ≡ false → b ≡ false → (a || b) ≡ false
-or_false a b e f = cc
-
 -- what did not come from here was not said
 pub not_said : (me : ℕ) (past : List Call) (m : MsgId) → came_from me past me m ≡ false → was_said past m ≡ false
 not_said me [] m h = refl
 not_said me (Say x ∷ past) m h =
     let e : nat_eq me me ≡ true = grind (arith, nat_tests) in
     let f : (true && same x m) ≡ false = ap (λ b. b && same x m) (sym e) ∙ or_left _ (came_from me past me m) h in
-    or_false _ _ f (not_said me past m (or_right (nat_eq me me && same x m) _ h))
+    or_from _ _ f (not_said me past m (or_right (nat_eq me me && same x m) _ h))
 not_said me (Came p x ∷ past) m h = not_said me past m (or_right (nat_eq p.number me && same x m) _ h)
 not_said me (Notice q ∷ past) m h = not_said me past m h
 
@@ -107,10 +94,10 @@ beb_noticed_once me past q = (refl, refl)
 pub came_here : (me : ℕ) (past : List Call) (m : MsgId) → IsFair me past → was_said past m ≡ false → came_from me past me m ≡ false
 came_here me [] m f h = refl
 came_here me (Say x ∷ past) m f h =
-    or_false _ _ (ap (λ b. nat_eq me me && b) (or_left (same x m) _ h) ∙ and_false (nat_eq me me)) (came_here me past m f.1 (or_right (same x m) _ h))
+    or_from _ _ (ap (λ b. nat_eq me me && b) (or_left (same x m) _ h) ∙ and-false (nat_eq me me)) (came_here me past m f.1 (or_right (same x m) _ h))
 came_here me (Came p x ∷ past) m f h =
     let e : nat_eq p.number me ≡ false = let n = f.0.0 in grind (arith, nat_tests) in
-    or_false _ _ (ap (λ b. b && same x m) e) (came_here me past m f.1 h)
+    or_from _ _ (ap (λ b. b && same x m) e) (came_here me past m f.1 h)
 came_here me (Notice q ∷ past) m f h = came_here me past m f.1 h
 
 -- no pair comes twice in a fair history

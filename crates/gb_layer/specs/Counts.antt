@@ -1,5 +1,6 @@
--- How often something stands in a list that grows at its end.
-use Rattle.std.proofs.Common.{◌≡◌, ℕ, ◌+◌, ◌≤◌, Bool, true, false, cond, ◌||◌, List, [], ◌∷◌, ◌++◌, count_by, filter, refl, ap, arith}
+-- How often something stands in a list that grows at its end or is changed in place.
+use Rattle.std.proofs.Common.{◌≡◌, ℕ, ◌+◌, ◌<◌, ◌≤◌, Bool, true, false, cond, ◌||◌, List, [], ◌∷◌, ◌++◌, map, length, set, get_or, slice_get, count_by, filter, refl, ap, sym, ◌∙◌, arith, zero, suc}
+use Rattle.std.specs.declared.option.Option.TheVariants.{Some}
 use Rattle.std.proofs.lemmas.List.Sums.{sum_by-append}
 
 pub count_by-append : {X : Type 0} (p : X → Bool) (xs ys : List X) → count_by p (xs ++ ys) ≡ count_by p xs + count_by p ys
@@ -43,3 +44,38 @@ count_by-filter p q (x ∷ xs) =
       | true ↦ (let k = count_by-cons p x (filter q xs) in omega (arith, h, e, k))
       | false ↦ omega (arith, h, e)
     ]
+
+-- one element is changed
+pub count_by-set : {X : Type 0} (p : X → Bool) (xs : List X) (i : ℕ) (x y : X) → i < length xs → x ≡ get_or xs i x → count_by p (set xs i y) + count_by p (x ∷ []) ≡ count_by p xs + count_by p (y ∷ [])
+count_by-set p [] i x y lt is = absurd (omega arith)
+count_by-set p (z ∷ xs) zero x y lt is =
+    let a = count_by-cons p y xs in let b = count_by-cons p z xs in let c = count_by-cons p x [] in let d = count_by-cons p y [] in
+    let e : cond {A = ℕ} (p x) 1 0 ≡ cond (p z) 1 0 = ap (λ w. cond {A = ℕ} (p w) 1 0) is in omega (arith, a, b, c, d, e)
+count_by-set p (z ∷ xs) (suc i) x y lt is =
+    let less : i < length xs = omega arith in
+    let a = count_by-cons p z (set xs i y) in let b = count_by-cons p z xs in let c = count_by-set p xs i x y less is in omega (arith, a, b, c)
+
+-- a change in place that keeps a test keeps the count
+pub count_by-map : {X : Type 0} (p : X → Bool) (f : X → X) → ((x : X) → p (f x) ≡ p x) → (xs : List X) → count_by p (map f xs) ≡ count_by p xs
+count_by-map p f keeps [] = refl
+count_by-map p f keeps (x ∷ xs) =
+    count_by-cons p (f x) (map f xs)
+    ∙ (ap (λ b. cond b 1 0 + count_by p (map f xs)) (keeps x) ∙ (ap (λ n. cond (p x) 1 0 + n) (count_by-map p f keeps xs) ∙ sym (count_by-cons p x xs)))
+
+-- a change in place that may only clear a test
+pub count_by-fewer : {X : Type 0} (p : X → Bool) (f : X → X) → ((x : X) → cond (p (f x)) 1 0 ≤ cond (p x) 1 0) → (xs : List X) → count_by p (map f xs) ≤ count_by p xs
+count_by-fewer p f less [] = omega arith
+count_by-fewer p f less (x ∷ xs) =
+    let a = count_by-cons p (f x) (map f xs) in let b = count_by-cons p x xs in let c = count_by-fewer p f less xs in let d = less x in omega (arith, a, b, c, d)
+
+-- and clears it at a place
+pub count_by-one_fewer : {X : Type 0} (p : X → Bool) (f : X → X) → ((x : X) → cond (p (f x)) 1 0 ≤ cond (p x) 1 0) → (xs : List X) (i : ℕ) (e : X) → slice_get xs i ≡ Some e → p e ≡ true → p (f e) ≡ false → count_by p (map f xs) + 1 ≤ count_by p xs
+count_by-one_fewer p f less [] i e is was now = cc
+count_by-one_fewer p f less (x ∷ xs) zero e is was now =
+    let same : x ≡ e = cc in
+    let a = count_by-cons p (f x) (map f xs) in let b = count_by-cons p x xs in let c = count_by-fewer p f less xs in
+    let d : cond (p (f x)) 1 0 ≡ 0 = ap (λ y. cond {A = ℕ} (p (f y)) 1 0) same ∙ ap (λ v. cond {A = ℕ} v 1 0) now in
+    let k : cond (p x) 1 0 ≡ 1 = ap (λ y. cond {A = ℕ} (p y) 1 0) same ∙ ap (λ v. cond {A = ℕ} v 1 0) was in omega (arith, a, b, c, d, k)
+count_by-one_fewer p f less (x ∷ xs) (suc i) e is was now =
+    let a = count_by-cons p (f x) (map f xs) in let b = count_by-cons p x xs in let d = less x in
+    let c = count_by-one_fewer p f less xs i e is was now in omega (arith, a, b, c, d)

@@ -2,8 +2,12 @@ pub mod Room
 pub mod Machine
 pub mod Modules
 pub mod Laws
+pub mod Bools
+pub mod Lists
 pub mod Counts
+pub mod Histories
+pub mod FirstMentions
 pub mod BebMachine
 pub mod BebLaws
 pub mod DirectLaws
-pub mod ModuleLaws
+pub mod Examples

@@ -15,5 +15,9 @@ pub mod beb;
 pub mod call;
 pub mod direct;
 pub mod effects;
+pub mod examples;
 pub mod layer;
 pub mod modules;
+pub mod plain;
+#[cfg(test)]
+mod tests;

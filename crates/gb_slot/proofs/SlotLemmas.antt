@@ -1,5 +1,5 @@
 -- What a slot answers and shows.
-use Rattle.std.proofs.Common.{◌≡◌, ℕ, ◌+◌, ◌≤◌, ◌||◌, ◌&&◌, not, Bool, true, false, List, [], ◌∷◌, length, take, drop, Some, None, refl, sym, ◌∙◌, ap, arith}
+use Rattle.std.proofs.Common.{◌≡◌, ℕ, ◌+◌, ◌≤◌, ◌||◌, ◌&&◌, not, true, false, List, [], ◌∷◌, length, take, drop, Some, None, sym, ◌∙◌, ap, arith}
 use Rattle.std.specs.Prelude.{map, slice_get, nat_lt, if◌then◌else◌}
 use Rattle.std.specs.FinSet as set
 use Rattle.std.proofs.lemmas.Bool.Decides.{nat_tests}
@@ -8,7 +8,6 @@ use Rattle.gb_types.specs.declared.entry.Entry.{Entry}
 use Rattle.gb_types.specs.declared.limits.TheConstants.{FETCH}
 use Rattle.gb_types.specs.declared.message.MsgId.{MsgId}
 use Rattle.gb_types.specs.declared.refusal.Refusal.TheVariants.{BadPlace}
-use Rattle.gb_types.specs.declared.reply.Reply.{Reply}
 use Rattle.gb_types.specs.declared.reply.Reply.TheVariants.{Log, Refused}
 use Rattle.gb_layer.specs.declared.effects.Up.{Up}
 use Rattle.gb_layer.specs.Machine.{messages}

@@ -1,5 +1,5 @@
 -- Where the payloads of a store stand.
-use Rattle.std.specs.Prelude.{ℕ, ◌≡◌, ◌≤◌, ◌<◌, ◌||◌, Bool, false, List, [], ◌∷◌, length, map, slice_range, Option, Some, None, if◌then◌else◌}
+use Rattle.std.specs.Prelude.{ℕ, ◌≤◌, List, [], ◌∷◌, length, map, slice_range, Option, Some, None, if◌then◌else◌}
 use Rattle.gb_types.specs.declared.entry.Entry.{Entry}
 use Rattle.gb_types.specs.declared.message.MsgId.{MsgId}
 use Rattle.gb_types.specs.Message.{same}

@@ -1,22 +1,21 @@
 -- What each call makes of a slot.
-use Rattle.std.specs.Prelude.{ℕ, ◌≡◌, ◌≤◌, ◌<◌, ◌+◌, ◌&&◌, not, Bool, true, false, List, [], ◌∷◌, ◌++◌, length, map, drop, replicate, slice_index_or, slice_set, Option, Some, None, if◌then◌else◌}
+use Rattle.std.specs.Prelude.{ℕ, ◌≤◌, ◌<◌, ◌+◌, ◌&&◌, not, Bool, List, [], ◌∷◌, ◌++◌, map, drop, replicate, slice_index_or, slice_set, if◌then◌else◌}
 use Rattle.std.specs.Ordering.{nat_cmp}
 use Rattle.std.specs.FinSet as set
 use Rattle.gb_types.specs.Entry.{message_of}
 use Rattle.gb_types.specs.declared.entry.Entry.{Entry}
 use Rattle.gb_types.specs.declared.limits.TheConstants.{NODES, MESSAGES, BYTES, WINDOW}
-use Rattle.gb_types.specs.declared.message.MsgId.{MsgId}
 use Rattle.gb_types.specs.declared.node.NodeId.{NodeId}
 use Rattle.gb_types.specs.declared.reply.Reply.{Reply}
 use Rattle.gb_types.specs.declared.reply.Reply.TheVariants.{Done, Said}
 use Rattle.gb_types.specs.declared.spec.Spec.{Spec}
-use Rattle.gb_layer.specs.Machine.{messages}
-use Rattle.gb_layer.specs.ModuleLaws.{direct_beb}
+use Rattle.gb_layer.specs.Machine.{Gives, own_gives, messages}
+use Rattle.gb_layer.specs.BebMachine.{beb_gives}
 use Rattle.gb_layer.specs.declared.call.Call.{Call}
 use Rattle.gb_layer.specs.declared.call.Call.TheVariants.{Say, Came}
 use Rattle.gb_slot.specs.declared.phase.Phase.TheVariants.{Made, Opened}
 use Rattle.gb_slot.specs.Messages.{has, entry_in, with_new}
-use Rattle.gb_slot.specs.Rules.{Shown, is_member, is_other, is_let_fall}
+use Rattle.gb_slot.specs.Rules.{Shown, is_other, is_let_fall}
 use Rattle.gb_slot.specs.SlotState.{SlotState}
 
 -- the numbers of a spec are within the service's limits
@@ -47,12 +46,16 @@ abbrev pub slot_opened : Reply → SlotState → SlotState
 slot_opened Done s = record s { phase = Opened }
 slot_opened reply s = s
 
+-- what the broadcast of a slot gives at a call: best-effort broadcast hands up what came from its origin
+abbrev pub stack_gives : NodeId → Call → Gives
+stack_gives me c = own_gives (beb_gives me c)
+
 -- the broadcast takes a call, after which these messages are known
 abbrev pub slot_called : Call → List Entry → SlotState → SlotState
 slot_called c store s = record s {
   store = store;
-  log = s.log ++ messages (direct_beb s.stack c).ups;
-  outgoing = s.outgoing ++ (direct_beb s.stack c).sends;
+  log = s.log ++ messages (stack_gives s.stack c).ups;
+  outgoing = s.outgoing ++ (stack_gives s.stack c).sends;
 }
 
 -- the message that is said next here

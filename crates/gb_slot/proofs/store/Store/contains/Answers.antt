@@ -1,7 +1,6 @@
 use Rattle.std.proofs.Common.{sym, ◌∙◌, ap}
 use Rattle.std.specs.Prelude.{is_some}
-use Rattle.gb_slot.specs.Messages.{has}
-use Rattle.gb_slot.specs.Kept.{found, entries_of}
+use Rattle.gb_slot.specs.Kept.{found}
 use Rattle.gb_slot.proofs.KeptLemmas.{has-entries_of}
 use Rattle.gb_slot.proofs.store.Store.contains.Goals as goal
 
