@@ -6,6 +6,7 @@
 #![tactic(auto)]
 
 pub mod answer;
+pub mod cluster;
 pub mod event;
 mod frames;
 pub mod group;
@@ -13,3 +14,7 @@ mod node;
 pub mod packet;
 pub mod plan;
 pub mod step;
+pub mod trace;
+
+#[cfg(test)]
+mod tests;
