@@ -1,5 +1,5 @@
 -- What the parts of a cluster's step give together.
-use Rattle.std.proofs.Common.{◌≡◌, ℕ, zero, suc, ◌+◌, ◌≤◌, ◌<◌, List, [], ◌∷◌, ◌++◌, length, Bool, true, false, ◌⊎◌, inl, inr, refl, sym, ◌∙◌, ap, subst, arith, get_or}
+use Rattle.std.proofs.Common.{◌≡◌, ℕ, zero, suc, ◌+◌, ◌≤◌, ◌<◌, List, [], ◌∷◌, ◌++◌, length, Bool, true, false, inl, inr, refl, sym, ◌∙◌, ap, subst, arith, get_or}
 use Rattle.std.specs.Prelude.{reverse, replicate, slice_set, slice_index_or, Result, Ok, Err, OnErr, if◌then◌else◌}
 use Rattle.std.proofs.lemmas.List.{reverse-append, set-get_or, length-replicate, length_push}
 use Rattle.gb_types.specs.declared.entry.Entry.{Entry}
@@ -9,14 +9,14 @@ use Rattle.gb_types.specs.declared.reply.Reply.{Reply}
 use Rattle.gb_types.specs.declared.reply.Reply.TheVariants.{Log}
 use Rattle.gb_types.specs.declared.request.Request.{Request}
 use Rattle.gb_types.specs.declared.request.Request.TheVariants.{AddTenant, Make, OpenGroup, Say, Fetch}
-use Rattle.gb_cluster.specs.Headline.{IsStep, IsPlaced, ArePlaced, AreIsolated, starved_answer}
+use Rattle.gb_cluster.specs.Headline.{IsStep, IsPlaced, ArePlaced, AreIsolated}
 use Rattle.gb_cluster.specs.Holds.{Holds}
 use Rattle.gb_cluster.specs.NodeValue.{NodeValue}
 use Rattle.gb_cluster.specs.Project.{packet_at}
 use Rattle.gb_cluster.specs.Trace.{bare, answered, steps_of, ComesTo, IsRun}
-use Rattle.gb_cluster.specs.World.{World, new_node, node_of, node_did, node_reply, sent_by, sent_answer, arrive_answer, arrived_world, answer_of, changed, with_step, with_node, has_received, world_after, new_world}
+use Rattle.gb_cluster.specs.World.{World, new_node, node_of, node_did, node_reply, sent_by, sent_answer, arrive_answer, arrived_world, answer_of, changed, with_step, has_received, world_after, new_world}
 use Rattle.gb_cluster.specs.declared.answer.Answer.{Answer}
-use Rattle.gb_cluster.specs.declared.answer.Answer.TheVariants.{Reply as Replied, Sent as Gave, Taken as Took_in, NoPacket}
+use Rattle.gb_cluster.specs.declared.answer.Answer.TheVariants.{Reply as Replied, Taken as Took_in}
 use Rattle.gb_cluster.specs.declared.answer.Frame.TheVariants.{First, Seen}
 use Rattle.gb_cluster.specs.declared.answer.Taken.TheVariants.{Good as Accepted}
 use Rattle.gb_cluster.specs.declared.event.Event.{Event}
@@ -58,19 +58,23 @@ stepped w nodes others past later packets held more e a was same step grown =
   where
     turned : reverse later ≡ record { event = e; answer = a } ∷ reverse past
     turned = ap reverse grown ∙ reverse-append past (record { event = e; answer = a } ∷ [])
+
     joined : (ns : List NodeValue) (ps : List Packet) (x : Answer) → others ≡ ns → more ≡ ps → a ≡ x → world others (reverse later) more ≡ world ns (record { event = e; answer = x } ∷ reverse past) ps
     joined ns ps x nodes_are packets_are answer =
         ap (λ (zs : List NodeValue). record { nodes = zs; steps = reverse later; packets = more }) nodes_are
         ∙ (ap (λ (zs : List Packet). record { nodes = ns; steps = reverse later; packets = zs }) packets_are
         ∙ (ap (λ (zs : List Step). record { nodes = ns; steps = zs; packets = ps }) turned
         ∙ ap (λ (z : Answer). record { nodes = ns; steps = record { event = e; answer = z } ∷ reverse past; packets = ps }) answer))
+
     go : IsStep (bare nodes packets) e a (with_step e a (bare others more)) → IsStep (record { nodes = nodes; steps = reverse past; packets = packets }) e a (record { nodes = others; steps = reverse later; packets = more })
     go (inl starved) = inl (starved.0, joined nodes packets a (ap (λ (w : World). w.nodes) starved.1) (ap (λ (w : World). w.packets) starved.1) refl)
     go (inr goes) =
         let whole : with_step e a (bare others more) ≡ record { nodes = (changed (bare nodes packets) e).nodes; steps = record { event = e; answer = answer_of (bare nodes packets) e } ∷ []; packets = (changed (bare nodes packets) e).packets } = goes.1 ∙ same_changes nodes [] packets e in
-        inr (goes.0 ∙ sym (same_answer nodes (reverse past) packets e),
+        inr (
+          goes.0 ∙ sym (same_answer nodes (reverse past) packets e),
           joined (changed (bare nodes packets) e).nodes (changed (bare nodes packets) e).packets (answer_of (bare nodes packets) e) (ap (λ (w : World). w.nodes) whole) (ap (λ (w : World). w.packets) whole) goes.0
-          ∙ sym (same_changes nodes (reverse past) packets e))
+              ∙ sym (same_changes nodes (reverse past) packets e),
+        )
 
 -- a log changes no node
 quiet_log : (me : NodeId) (request : Request) (entries : List Entry) (v : NodeValue) → node_did me request (Log entries) v ≡ v
@@ -127,9 +131,9 @@ steps_after w u e a (inr goes) =
 pub started : (n i : ℕ) (nodes : List NodeValue) (past : List Step) (packets : List Packet) → i ≡ n → nodes ≡ replicate i new_node → past ≡ [] → packets ≡ [] → n ≤ NODES → Holds (world nodes (reverse past) packets)
 started n i nodes past packets all nodes_are past_is packets_are few =
     let is : world nodes (reverse past) packets ≡ new_world n =
-      ap (λ (ns : List NodeValue). world ns (reverse past) packets) (nodes_are ∙ ap (λ k. replicate k new_node) all)
-      ∙ (ap (λ (ss : List Step). world (replicate n new_node) (reverse ss) packets) past_is
-      ∙ ap (λ (ps : List Packet). world (replicate n new_node) [] ps) packets_are) in
+    ap (λ (ns : List NodeValue). world ns (reverse past) packets) (nodes_are ∙ ap (λ k. replicate k new_node) all)
+    ∙ (ap (λ (ss : List Step). world (replicate n new_node) (reverse ss) packets) past_is
+    ∙ ap (λ (ps : List Packet). world (replicate n new_node) [] ps) packets_are) in
     subst Holds (sym is) (start_holds n few)
 
 -- every cluster keeps what holds
@@ -178,7 +182,7 @@ pub run_goes : (nodes : ℕ) (w u : World) (events more : List Event) (answers o
 unfolding ComesTo
 run_goes nodes w u events more answers others e a was events_are answers_are step isolated =
     let steps : steps_of more others ≡ record { event = e; answer = a } ∷ steps_of events answers =
-      ap (λ (es : List Event). steps_of es others) events_are ∙ (ap (steps_of (events ++ e ∷ [])) answers_are ∙ steps_of-push events answers e a was.complete) in
+    ap (λ (es : List Event). steps_of es others) events_are ∙ (ap (steps_of (events ++ e ∷ [])) answers_are ∙ steps_of-push events answers e a was.complete) in
     record {
       comes = subst (λ (ss : List Step). ComesTo nodes ss u) (sym steps) (w, was.comes, step);
       steps = steps_after w u e a step ∙ (ap (λ (ss : List Step). record { event = e; answer = a } ∷ ss) was.steps ∙ sym steps);

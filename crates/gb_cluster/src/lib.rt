@@ -14,7 +14,6 @@ mod node;
 pub mod packet;
 pub mod plan;
 pub mod step;
-pub mod trace;
-
 #[cfg(test)]
 mod tests;
+pub mod trace;

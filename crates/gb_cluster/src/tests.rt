@@ -1,4 +1,6 @@
 //! Runs of small clusters, answer by answer.
+ghost use Rattle.std.specs.Prelude.{◌≡◌};
+
 use crate::answer::{Answer, Frame, Sent, Taken};
 use crate::cluster::Cluster;
 use crate::event::Event;
@@ -19,7 +21,9 @@ use std::test::Fail;
 
 const TOKEN: [u8; 32] = [0; 32];
 
-fn plan(nodes: u8) -> Plan {
+fn plan(nodes: u8) -> Plan
+    ensures { result.nodes ≡ nodes }
+{
     Plan {
         nodes,
         silence: 2,
@@ -76,11 +80,7 @@ fn open(addr: Addr) -> Request {
 }
 
 fn say(alloc: Global, addr: Addr, payload: &[u8]) -> Result<Request, OutOfMemory> {
-    Ok(Request::Say(
-        TOKEN,
-        addr,
-        Payload::from_slice(alloc, payload)?,
-    ))
+    Ok(Request::Say(TOKEN, addr, Payload::from_slice(alloc, payload)?))
 }
 
 fn fetch(addr: Addr) -> Request {

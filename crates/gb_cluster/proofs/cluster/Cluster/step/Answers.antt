@@ -1,7 +1,6 @@
-use Rattle.std.proofs.Common.{◌≡◌, List, [], ◌∷◌, ◌++◌, length, sym, ◌∙◌, ap, subst}
+use Rattle.std.proofs.Common.{List, [], ◌∷◌, ◌++◌, length, sym, ◌∙◌, ap, subst}
 use Rattle.gb_cluster.specs.Headline.{AreInside}
 use Rattle.gb_cluster.specs.Holds.{Holds}
-use Rattle.gb_cluster.specs.declared.packet.Packet.{Packet}
 use Rattle.gb_cluster.specs.declared.step.Step.{Step}
 use Rattle.gb_cluster.proofs.CodeLemmas.{stepped, unchanged, steps_after, keeps, count_after, on_err}
 use Rattle.gb_cluster.proofs.Theorem.{all_isolated, all_inside}
