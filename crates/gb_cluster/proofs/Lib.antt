@@ -11,3 +11,4 @@ pub mod FrameLemmas
 pub mod ArriveLemmas
 pub mod StepLemmas
 pub mod Theorem
+pub mod CodeLemmas

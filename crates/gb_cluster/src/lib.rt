@@ -6,8 +6,14 @@
 #![tactic(auto)]
 
 pub mod answer;
+pub mod cluster;
 pub mod event;
+mod frames;
 pub mod group;
+mod node;
 pub mod packet;
 pub mod plan;
 pub mod step;
+#[cfg(test)]
+mod tests;
+pub mod trace;
