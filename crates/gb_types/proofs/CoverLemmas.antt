@@ -1,6 +1,6 @@
 -- When each member of a set passes a test.
 use Rattle.gb_types.specs.declared.limits.TheConstants.{NODES}
-use Rattle.std.proofs.Common.{◌≡◌, ℕ, ◌<◌, Bool, true, false, List, [], ◌∷◌, slice_index_or, nat_eq, nat_lt, ◌||◌, ◌&&◌, not, refl, ap, sym, ◌∙◌, arith}
+use Rattle.std.proofs.Common.{◌≡◌, ℕ, ◌<◌, ◌≤◌, Bool, true, false, List, [], ◌∷◌, slice_index_or, nat_lt, ◌||◌, ◌&&◌, refl, ap, sym, ◌∙◌, arith}
 use Rattle.std.specs.Ordering.{nat_cmp, eq_by_cmp}
 use Rattle.std.specs.List.{list_any, list_all}
 use Rattle.std.specs.FinSet as fin
@@ -71,3 +71,15 @@ pub uncovered : (a b c : List Bool) (k : ℕ) → k < NODES → slice_index_or a
 uncovered a b c k lt h i j =
     not_all_members (λ p. fin.contains (places b) p || fin.contains (places c) p) (places a) k (at_place a k lt ∙ h)
     (ap (λ v. v || fin.contains (places c) k) (at_place b k lt ∙ i) ∙ (at_place c k lt ∙ j))
+
+-- the place k is not of the table, or below the bound
+abbrev pub IsBelow : List Bool → ℕ → ℕ → Type 0
+IsBelow a n k = slice_index_or a k false ≡ true → k < n
+
+pub below_all : (a : List Bool) (n : ℕ) → ((k : ℕ) → k < NODES → IsBelow a n k) → list_all (λ p. nat_lt p n) (fin.items (places a)) ≡ true
+below_all a n f =
+    all_members (λ p. nat_lt p n) (places a)
+    (λ q h. let lt = in_range a q h in let b : q < n = f q lt (sym (at_place a q lt) ∙ h) in grind (arith, nat_tests))
+
+pub not_below : (a : List Bool) (n k : ℕ) → k < NODES → slice_index_or a k false ≡ true → n ≤ k → list_all (λ p. nat_lt p n) (fin.items (places a)) ≡ false
+not_below a n k lt h le = not_all_members (λ p. nat_lt p n) (places a) k (at_place a k lt ∙ h) (grind (arith, nat_tests))

@@ -1,0 +1,39 @@
+//! What happens to one group, by itself.
+use gb_types::node::NodeId;
+use gb_types::payload::Payload;
+use gb_types::spec::Spec;
+
+/// What a tenant may have for each of its groups: its row without tenant and key.
+#[derive(Clone, Copy, PartialEq, Eq, Debug)]
+pub struct Reserve {
+    pub groups: u32,
+    pub msgs: u32,
+    pub bytes: u32,
+    pub window: u32,
+}
+
+/// What happens to a group at a node. Items go by numbers, never by what is in them.
+#[derive(Drop)]
+pub enum GroupEvent {
+    /// The group's tenant is taken in.
+    Tenant(Reserve),
+    /// A command to make the group.
+    AskMake(Spec),
+    /// A command to open it.
+    AskOpen,
+    /// A command to say something.
+    AskSay(Payload),
+    /// A command to read the log, from a place on, so many entries at most.
+    AskFetch(u32, u32),
+    /// So many more of the items put out to the node are carried.
+    Took(NodeId, u64),
+    /// The item with this place among those that the node put out to this one comes.
+    Came(NodeId, u64),
+}
+
+/// What happens to a group, and the node at which it happens.
+#[derive(Drop)]
+pub struct GroupStep {
+    pub node: NodeId,
+    pub event: GroupEvent,
+}

@@ -1,0 +1,13 @@
+//! A cluster: its nodes, every packet ever sent, and what came of each event. And the theorem that each group in
+//! it is what it would be alone.
+//!
+//! There is no time, no thread and no socket here: a cluster is told what happens, event by event. Read
+//! `cluster::Cluster` first, then specs/Alone.antt and specs/Headline.antt.
+#![tactic(auto)]
+
+pub mod answer;
+pub mod event;
+pub mod group;
+pub mod packet;
+pub mod plan;
+pub mod step;

@@ -1,0 +1,4 @@
+pub mod SetLemmas
+pub mod TickLemmas
+pub mod ReplayLemmas
+pub mod StretchLemmas

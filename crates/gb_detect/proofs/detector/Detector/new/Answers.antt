@@ -1,0 +1,9 @@
+use Rattle.gb_detect.proofs.SetLemmas.{nodes_where-empty}
+use Rattle.gb_detect.proofs.ReplayLemmas.{stands-start}
+use Rattle.gb_detect.proofs.detector.Detector.new.Goals as goal
+
+pub returns-clause-value : goal.returns-clause-value
+returns-clause-value c = rw (c.new.ensures, nodes_where-empty)
+
+pub returns-clause-stands : goal.returns-clause-stands
+returns-clause-stands c = rw (c.new.ensures, nodes_where-empty) (stands-start c.args.me.number c.args.nodes c.args.silence c.requires.cluster c.requires.least)

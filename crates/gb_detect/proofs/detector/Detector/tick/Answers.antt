@@ -1,0 +1,21 @@
+use Rattle.std.proofs.Common.{◌+◌, min, map, ap, sym, subst, ◌∷◌}
+use Rattle.std.specs.FinSet as set
+use Rattle.std.specs.Ordering.{nat_cmp}
+use Rattle.gb_detect.specs.Silence.{Tick}
+use Rattle.gb_detect.specs.Watch.{Watch, nodes_where, is_due, StandsFor}
+use Rattle.gb_detect.proofs.SetLemmas.{nodes_where-union}
+use Rattle.gb_detect.proofs.ReplayLemmas.{stands-tick}
+use Rattle.gb_detect.proofs.detector.Detector.tick.Goals as goal
+
+ticked : goal.returns-clause-value
+ticked c =
+    let a = c.self.inside in
+    let value : Watch = record { me = a.me.number; nodes = a.nodes; silence = a.silence; silences = a.silences; noticed = nodes_where a.nodes (set.contains a.noticed) } in
+    rw (c.count_tick.ensures, c.insert_each.ensures, c.due-found.ensures.value, ← c.self.view_is)
+    (ap (λ (s : set.FinSet nat_cmp). record value { silences = map (λ ticks. min (ticks + 1) a.silence) a.silences; noticed = s }) (nodes_where-union a.nodes a.noticed (is_due value)))
+
+pub returns-clause-value : goal.returns-clause-value
+returns-clause-value c = ticked c
+
+pub returns-clause-stands : goal.returns-clause-stands
+returns-clause-stands c calls stands = subst (λ (d : Watch). StandsFor (Tick ∷ calls) d) (sym (ticked c)) (stands-tick calls c.args.self.now stands)

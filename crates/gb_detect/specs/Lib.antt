@@ -1,0 +1,3 @@
+pub mod Silence
+pub mod Watch
+pub mod Laws

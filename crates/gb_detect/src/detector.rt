@@ -1,0 +1,268 @@
+//! The detector of one node.
+ghost use Rattle.std.specs.Prelude.{◌≡◌, ℕ, ◌+◌, ◌<◌, ◌≤◌, List, [], ◌∷◌, map, min};
+ghost use Rattle.std.specs.FinSet as set;
+ghost use Rattle.gb_detect.specs.Silence.{Call, Heard, Tick};
+ghost use Rattle.gb_detect.specs.Watch.{start, after_heard, after_tick, due, is_due, nodes_where, StandsFor, AreNoticed, AreNew};
+
+use gb_types::limits::{NODES, SILENCE_MAX, SILENCE_MIN};
+use gb_types::node::{NodeId, NodeSet};
+use std::marker::Model;
+
+/// Which nodes of a cluster one of them holds for crashed: those that it has not heard for `silence` ticks.
+#[derive(Drop)]
+pub struct Detector {
+    me: NodeId,
+    nodes: u8,
+    silence: u16,
+    /// For each node, the ticks since it was last heard, up to `silence`.
+    silences: [u16; NODES],
+    noticed: NodeSet,
+}
+
+impl Model for Detector {
+    ghost use Rattle.std.specs.Prelude.{◌≤◌};
+    ghost use Rattle.std.specs.FinSet as set;
+    ghost use Rattle.gb_types.specs.declared.limits.TheConstants.{NODES};
+    ghost use Rattle.gb_detect.specs.Watch.{Watch, watch_code, nodes_where};
+
+    ghost Value = { Watch };
+
+    ghost coded = { watch_code };
+
+    ghost view = { λ a. record {
+      me = a.me.number;
+      nodes = a.nodes;
+      silence = a.silence;
+      silences = a.silences;
+      noticed = nodes_where a.nodes (set.contains a.noticed);
+    } };
+
+    ghost invariant = { λ a. a.nodes ≤ NODES };
+}
+
+/// Puts the nodes below `nodes` of one set into another.
+fn insert_each(all: &mut NodeSet, more: &NodeSet, nodes: u8)
+    requires { nodes ≤ NODES }
+    ensures { all.new ≡ set.union all.old (nodes_where nodes (set.contains more.now)) }
+{
+    for number in 0..nodes {
+        let node = NodeId { number };
+        if more.contains(node) {
+            all.insert(node);
+        }
+    }
+}
+
+/// One more tick for each node, up to the limit.
+fn count_tick(silences: &mut [u16; NODES], silence: u16)
+    ensures { silences.new ≡ map (λ ticks. min (ticks + 1) silence) silences.old }
+{
+    for ticks in silences.iter_mut() {
+        *ticks = ticks.saturating_add(1).min(silence);
+    }
+}
+
+impl Detector {
+    /// A detector at node `me` of a cluster of the nodes below `nodes`. It has heard nothing yet, and will
+    /// notice a node that is silent for `silence` ticks.
+    pub fn new(me: NodeId, nodes: u8, silence: u16) -> Detector
+        requires cluster { nodes ≤ NODES }
+        requires member { me.number < nodes }
+        requires least { SILENCE_MIN ≤ silence }
+        requires most { silence ≤ SILENCE_MAX }
+        ensures value { result ≡ start me.number nodes silence }
+        ensures stands { StandsFor [] result }
+    {
+        Detector {
+            me,
+            nodes,
+            silence,
+            silences: [0; NODES],
+            noticed: NodeSet::new(),
+        }
+    }
+
+    /// A packet of this node was heard, so its silence begins again. A notice stays, and this node itself and
+    /// nodes outside the cluster may be named.
+    pub fn heard(&mut self, node: NodeId)
+        ensures value { self.new ≡ after_heard self.old node.number }
+        ensures stands { (calls : List Call) → StandsFor calls self.old → StandsFor (Heard node.number ∷ calls) self.new }
+    {
+        self.silences[node.number as usize] = 0;
+    }
+
+    /// Whether a tick would notice this node of the cluster.
+    fn is_due(&self, node: NodeId) -> bool
+        requires { node.number < self.now.nodes }
+        ensures { result ≡ is_due self.now node.number }
+    {
+        node.number != self.me.number
+            && !self.noticed.contains(node)
+            && self.silences[node.number as usize].saturating_add(1) >= self.silence
+    }
+
+    /// The nodes that a tick would notice now: those whose silence is one tick short.
+    pub fn due(&self) -> NodeSet
+        ensures value { result ≡ due self.now }
+        ensures definition { (calls : List Call) → StandsFor calls self.now → AreNew self.now calls result }
+    {
+        let mut found = NodeSet::new();
+        for number in 0..self.nodes {
+            let node = NodeId { number };
+            if self.is_due(node) {
+                found.insert(node);
+            }
+        }
+        found
+    }
+
+    /// The time ticks. Answers the nodes that this tick notices, none of them noticed before.
+    pub fn tick(&mut self) -> NodeSet
+        ensures value { self.new ≡ after_tick self.old }
+        ensures stands { (calls : List Call) → StandsFor calls self.old → StandsFor (Tick ∷ calls) self.new }
+        ensures found { result ≡ due self.old }
+        ensures definition { (calls : List Call) → StandsFor calls self.old → AreNew self.old calls result }
+    {
+        let found = self.due();
+        insert_each(&mut self.noticed, &found, self.nodes);
+        count_tick(&mut self.silences, self.silence);
+        found
+    }
+
+    /// All nodes that are noticed so far.
+    pub fn noticed(&self) -> NodeSet
+        ensures value { result ≡ self.now.noticed }
+        ensures definition { (calls : List Call) → StandsFor calls self.now → AreNoticed self.now calls result }
+    {
+        let mut found = NodeSet::new();
+        insert_each(&mut found, &self.noticed, self.nodes);
+        found
+    }
+}
+
+#[cfg(test)]
+mod tests {
+    use super::*;
+    use std::alloc::{AllocError, Global};
+    use std::test::Fail;
+
+    const NODE_1: NodeId = NodeId { number: 1 };
+
+    const NODE_3: NodeId = NodeId { number: 3 };
+
+    // The nodes of a set, in rising order.
+    fn listed(alloc: Global, set: &NodeSet) -> Result<Vec<u8>, AllocError> {
+        let mut numbers = Vec::new(alloc);
+        for number in 0..NODES as u8 {
+            if set.contains(NodeId { number }) {
+                numbers.push(number)?;
+            }
+        }
+        Ok(numbers)
+    }
+
+    #[test]
+    fn a_packet_in_front_of_the_ticks_does_not_help(rt: HostRuntime) -> Result<(), Fail> {
+        let mut detector = Detector::new(NodeId { number: 0 }, 2, 2);
+        detector.heard(NODE_1);
+        assert_eq!(rt;
+            listed(rt.alloc(), &detector.tick())?.as_slice(),
+            [].as_slice()
+        );
+        assert_eq!(rt;
+            listed(rt.alloc(), &detector.tick())?.as_slice(),
+            [1].as_slice()
+        );
+        Ok(())
+    }
+
+    #[test]
+    fn a_packet_between_ticks_starts_the_silence_again(rt: HostRuntime) -> Result<(), Fail> {
+        let mut detector = Detector::new(NodeId { number: 0 }, 2, 2);
+        for _ in 0..5 {
+            assert_eq!(rt;
+                listed(rt.alloc(), &detector.tick())?.as_slice(),
+                [].as_slice()
+            );
+            detector.heard(NODE_1);
+        }
+        assert_eq!(rt;
+            listed(rt.alloc(), &detector.tick())?.as_slice(),
+            [].as_slice()
+        );
+        assert_eq!(rt;
+            listed(rt.alloc(), &detector.due())?.as_slice(),
+            [1].as_slice()
+        );
+        assert_eq!(rt;
+            listed(rt.alloc(), &detector.noticed())?.as_slice(),
+            [].as_slice()
+        );
+        assert_eq!(rt;
+            listed(rt.alloc(), &detector.tick())?.as_slice(),
+            [1].as_slice()
+        );
+        assert_eq!(rt;
+            listed(rt.alloc(), &detector.noticed())?.as_slice(),
+            [1].as_slice()
+        );
+        Ok(())
+    }
+
+    #[test]
+    fn several_notices_in_one_tick_stay(rt: HostRuntime) -> Result<(), Fail> {
+        let mut detector = Detector::new(NodeId { number: 2 }, 5, 2);
+        assert_eq!(rt;
+            listed(rt.alloc(), &detector.tick())?.as_slice(),
+            [].as_slice()
+        );
+        detector.heard(NODE_1);
+        assert_eq!(rt;
+            listed(rt.alloc(), &detector.tick())?.as_slice(),
+            [0, 3, 4].as_slice()
+        );
+        detector.heard(NODE_3);
+        assert_eq!(rt;
+            listed(rt.alloc(), &detector.noticed())?.as_slice(),
+            [0, 3, 4].as_slice()
+        );
+        assert_eq!(rt;
+            listed(rt.alloc(), &detector.tick())?.as_slice(),
+            [1].as_slice()
+        );
+        assert_eq!(rt;
+            listed(rt.alloc(), &detector.tick())?.as_slice(),
+            [].as_slice()
+        );
+        assert_eq!(rt;
+            listed(rt.alloc(), &detector.noticed())?.as_slice(),
+            [0, 1, 3, 4].as_slice()
+        );
+        Ok(())
+    }
+
+    #[test]
+    fn a_silence_of_a_thousand_ticks(rt: HostRuntime) -> Result<(), Fail> {
+        let mut detector = Detector::new(NodeId { number: 15 }, 16, 1_000);
+        for _ in 0..999 {
+            assert_eq!(rt;
+                listed(rt.alloc(), &detector.tick())?.as_slice(),
+                [].as_slice()
+            );
+        }
+        let others = [0, 1, 2, 3, 4, 5, 6, 7, 8, 9, 10, 11, 12, 13, 14];
+        assert_eq!(rt;
+            listed(rt.alloc(), &detector.due())?.as_slice(),
+            others.as_slice()
+        );
+        assert_eq!(rt;
+            listed(rt.alloc(), &detector.tick())?.as_slice(),
+            others.as_slice()
+        );
+        assert_eq!(rt;
+            listed(rt.alloc(), &detector.due())?.as_slice(),
+            [].as_slice()
+        );
+        Ok(())
+    }
+}

@@ -1,0 +1,13 @@
+pub mod Room
+pub mod Machine
+pub mod Modules
+pub mod Laws
+pub mod Bools
+pub mod Lists
+pub mod Counts
+pub mod Histories
+pub mod FirstMentions
+pub mod BebMachine
+pub mod BebLaws
+pub mod DirectLaws
+pub mod Examples

@@ -1,0 +1,36 @@
+-- Parts of lists.
+use Rattle.std.proofs.Common.{◌≡◌, ℕ, zero, suc, ◌+◌, ◌-◌, ◌≤◌, List, [], ◌∷◌, length, take, drop, Some, None, refl, sym, ◌∙◌, ap, arith, length-drop}
+use Rattle.std.specs.Prelude.{min, map, slice_get}
+use Rattle.std.proofs.lemmas.List.{take_min, take-map, drop-map, drop_more}
+use Rattle.std.proofs.Math.Seq.{take-length}
+use Rattle.std.proofs.lemmas.Option.{slice_get_within, get_or_from_slice_get}
+use Rattle.gb_types.specs.declared.message.MsgId.{MsgId}
+use Rattle.gb_types.specs.declared.entry.Entry.{Entry}
+use Rattle.gb_layer.specs.declared.effects.Up.{Up}
+use Rattle.gb_layer.specs.Machine.{messages}
+
+-- a part from a place on, no longer than the rest
+pub page-is : {X : Type 0} (xs : List X) (from most n : ℕ) → from ≤ length xs → n ≡ min most (length (take (length xs - from) (drop from xs))) → take n (take (length xs - from) (drop from xs)) ≡ take most (drop from xs)
+page-is xs from most n within is =
+    let rest : length xs - from ≡ length (drop from xs) = omega (arith, length-drop from xs) in
+    let whole : take (length xs - from) (drop from xs) ≡ drop from xs = ap (λ k. take k (drop from xs)) rest ∙ take-length (drop from xs) in
+    let count : n ≡ min most (length (drop from xs)) = is ∙ ap (λ ys. min most (length ys)) whole in
+    ap (take n) whole ∙ (ap (λ k. take k (drop from xs)) count ∙ take_min most (drop from xs))
+
+-- the same part of a list of messages
+pub page-map : (f : MsgId → Entry) (ups : List Up) (from most : ℕ) → map f (messages (take most (drop from ups))) ≡ take most (drop from (map f (messages ups)))
+page-map f ups from most =
+    let m : Up → MsgId = λ u. u.m in
+    ap (map f) (sym (take-map m most (drop from ups)) ∙ ap (take most) (sym (drop-map m from ups)))
+    ∙ (sym (take-map f most (drop from (messages ups))) ∙ ap (take most) (sym (drop-map f from (messages ups))))
+
+-- the rest of a list from the place of an item
+pub drop-at : {X : Type 0} (xs : List X) (i : ℕ) (x : X) → slice_get xs i ≡ Some x → drop i xs ≡ x ∷ drop (i + 1) xs
+drop-at xs i x is = drop_more xs i x (slice_get_within xs i x is) ∙ ap (λ y. y ∷ drop (i + 1) xs) (get_or_from_slice_get xs i x x is)
+
+-- nothing is left from a place at which there is no item
+pub drop-none : {X : Type 0} (xs : List X) (i : ℕ) → slice_get xs i ≡ None → drop i xs ≡ []
+drop-none [] zero is = refl
+drop-none [] (suc i) is = refl
+drop-none (x ∷ xs) zero is = cc
+drop-none (x ∷ xs) (suc i) is = drop-none xs i is

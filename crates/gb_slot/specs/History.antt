@@ -1,0 +1,58 @@
+-- What a group delivers and broadcasts at a node, from all that it was told there. Histories have the newest first.
+use Rattle.std.specs.Prelude.{ℕ, ◌+◌, List, [], ◌∷◌, map}
+use Rattle.std.specs.FinSet as set
+use Rattle.gb_types.specs.Entry.{message_of}
+use Rattle.gb_types.specs.declared.entry.Entry.{Entry}
+use Rattle.gb_types.specs.declared.kind.Kind.{Kind}
+use Rattle.gb_types.specs.declared.kind.Kind.TheVariants.{Beb}
+use Rattle.gb_types.specs.declared.message.MsgId.{MsgId}
+use Rattle.gb_types.specs.declared.spec.Spec.{Spec}
+use Rattle.gb_layer.specs.Modules.{log, broadcasts}
+use Rattle.gb_layer.specs.declared.base.Base.{Base}
+use Rattle.gb_layer.specs.declared.base.Base.TheVariants.{BestEffort}
+use Rattle.gb_layer.specs.declared.call.Call.{Call}
+use Rattle.gb_layer.specs.declared.call.Call.TheVariants.{Say, Came}
+use Rattle.gb_slot.specs.declared.history.GroupCall.{GroupCall}
+use Rattle.gb_slot.specs.declared.history.GroupCall.TheVariants.{Own, Other}
+use Rattle.gb_slot.specs.Messages.{entry_in, with_new}
+
+-- the module of broadcast that a kind is
+abbrev pub base_of : Kind → Base
+base_of Beb = BestEffort
+
+-- the message that the group is told of
+abbrev pub entry_told : GroupCall → Entry
+entry_told (Own x) = x
+entry_told (Other p x) = x
+
+-- what the broadcast is called for
+abbrev pub call_of : GroupCall → Call
+call_of (Own x) = Say (message_of x)
+call_of (Other p x) = Came p (message_of x)
+
+unfoldable pub calls_of : List GroupCall → List Call
+calls_of [] = []
+calls_of (c ∷ told) = call_of c ∷ calls_of told
+
+-- the messages that the group was told of, in the order of first mention, with the payloads that they had then
+unfoldable pub known : List GroupCall → List Entry
+known [] = []
+known (c ∷ told) = with_new (known told) (entry_told c)
+
+-- how many messages were said here
+unfoldable pub said_in : List GroupCall → ℕ
+said_in [] = 0
+said_in (Own x ∷ told) = said_in told + 1
+said_in (Other p x ∷ told) = said_in told
+
+-- the messages that the group's broadcast delivers, in order
+abbrev pub delivered : Spec → ℕ → List GroupCall → List MsgId
+delivered spec me told = log (base_of spec.kind) me (set.items spec.members) (calls_of told)
+
+-- the log: these messages with their payloads
+abbrev pub log_of : Spec → ℕ → List GroupCall → List Entry
+log_of spec me told = map (entry_in (known told)) (delivered spec me told)
+
+-- what a call makes the group broadcast, with payloads
+abbrev pub puts_of : Spec → ℕ → GroupCall → List GroupCall → List Entry
+puts_of spec me c told = map (entry_in (known (c ∷ told))) (broadcasts (base_of spec.kind) me (call_of c) (calls_of told))

@@ -1,0 +1,60 @@
+-- What holds of a slot for every history that it stands for.
+use Rattle.std.specs.Prelude.{ℕ, ◌≡◌, ◌≢◌, ◌≤◌, ◌<◌, ◌+◌, false, List, [], ◌∷◌, ◌++◌, length, drop, if◌then◌else◌}
+use Rattle.std.specs.Ordering.{nat_cmp}
+use Rattle.std.specs.FinSet as set
+use Rattle.gb_types.specs.declared.entry.Entry.{Entry}
+use Rattle.gb_types.specs.declared.limits.TheConstants.{NODES}
+use Rattle.gb_types.specs.declared.node.NodeId.{NodeId}
+use Rattle.gb_types.specs.declared.reply.Reply.{Reply}
+use Rattle.gb_types.specs.declared.reply.Reply.TheVariants.{Said}
+use Rattle.gb_types.specs.declared.spec.Spec.{Spec}
+use Rattle.gb_slot.specs.declared.history.GroupCall.{GroupCall}
+use Rattle.gb_slot.specs.declared.history.GroupCall.TheVariants.{Own, Other}
+use Rattle.gb_slot.specs.History.{log_of, puts_of}
+use Rattle.gb_slot.specs.Slot.{new_slot, shown, waiting, own_entry, slot_opened, slot_said, falls, slot_came, slot_took}
+use Rattle.gb_slot.specs.SlotState.{SlotState}
+use Rattle.gb_slot.specs.StandsFor.{StandsFor, falls_after, reaches}
+
+-- a slot that was just made stands for the empty history
+abbrev pub FreshStands : Type 0
+FreshStands = (spec : Spec) (me : NodeId) (noticed : set.FinSet nat_cmp) → StandsFor (new_slot spec me noticed) []
+
+-- opening changes nothing of it
+abbrev pub OpenedStands : Type 0
+OpenedStands = (s : SlotState) (told : List GroupCall) (reply : Reply) → StandsFor s told → StandsFor (slot_opened reply s) told
+
+-- after a message was said the slot stands for the history with it
+abbrev pub SaidStands : Type 0
+SaidStands = (s : SlotState) (told : List GroupCall) (payload : List ℕ) → StandsFor s told → StandsFor (slot_said payload (Said (s.said + 1)) s) (Own (own_entry s payload) ∷ told)
+
+-- and so after an item that is not let fall
+abbrev pub CameStands : Type 0
+CameStands = (s : SlotState) (told : List GroupCall) (from : NodeId) (x : Entry) → StandsFor s told → falls from x s ≡ false → StandsFor (slot_came from x s) (Other from x ∷ told)
+
+-- taking items to be sent changes nothing of it
+abbrev pub TookStands : Type 0
+TookStands = (s : SlotState) (told : List GroupCall) (b count : ℕ) → StandsFor s told → b < NODES → count ≤ length (waiting s b) → StandsFor (slot_took b count s) told
+
+-- the log is what the history delivers
+abbrev pub LogIs : Type 0
+LogIs = (s : SlotState) (told : List GroupCall) → StandsFor s told → (shown s).log ≡ log_of s.spec s.me.number told
+
+-- which items are let fall is read from the history
+abbrev pub FallsIs : Type 0
+FallsIs = (s : SlotState) (told : List GroupCall) (from : NodeId) (x : Entry) → StandsFor s told → falls from x s ≡ falls_after s.spec s.me.number told from.number x
+
+-- what waits for a node grows by what the history broadcasts
+abbrev pub WaitingSaid : Type 0
+WaitingSaid = (s : SlotState) (told : List GroupCall) (payload : List ℕ) (b : ℕ) → StandsFor s told
+    → waiting (slot_said payload (Said (s.said + 1)) s) b ≡ waiting s b ++ (if reaches s b then puts_of s.spec s.me.number (Own (own_entry s payload)) told else [])
+
+abbrev pub WaitingCame : Type 0
+WaitingCame = (s : SlotState) (told : List GroupCall) (from : NodeId) (x : Entry) (b : ℕ) → StandsFor s told → falls from x s ≡ false
+    → waiting (slot_came from x s) b ≡ waiting s b ++ (if reaches s b then puts_of s.spec s.me.number (Other from x) told else [])
+
+-- and shrinks by what is taken, for this node alone
+abbrev pub WaitingTook : Type 0
+WaitingTook = (s : SlotState) (told : List GroupCall) (b count : ℕ) → StandsFor s told → b < NODES → waiting (slot_took b count s) b ≡ drop count (waiting s b)
+
+abbrev pub WaitingElsewhere : Type 0
+WaitingElsewhere = (s : SlotState) (b c count : ℕ) → c ≢ b → waiting (slot_took b count s) c ≡ waiting s c

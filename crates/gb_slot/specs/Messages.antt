@@ -1,0 +1,24 @@
+-- Lists of messages with their payloads.
+use Rattle.std.specs.Prelude.{ℕ, Bool, false, ◌||◌, List, [], ◌∷◌, ◌++◌, if◌then◌else◌}
+use Rattle.gb_types.specs.declared.entry.Entry.{Entry}
+use Rattle.gb_types.specs.declared.message.MsgId.{MsgId}
+use Rattle.gb_types.specs.Entry.{message_of}
+use Rattle.gb_types.specs.Message.{same}
+
+-- the list has the message
+abbrev pub has : List Entry → MsgId → Bool
+has [] m = false
+has (x ∷ xs) m = same (message_of x) m || has xs m
+
+-- the payload of the message, as the list has it first
+abbrev pub payload_in : List Entry → MsgId → List ℕ
+payload_in [] m = []
+payload_in (x ∷ xs) m = if same (message_of x) m then x.payload else payload_in xs m
+
+-- the message with that payload
+abbrev pub entry_in : List Entry → MsgId → Entry
+entry_in xs m = record { origin = m.origin; seq = m.seq; payload = payload_in xs m }
+
+-- the list, with the message at its end where it was not there
+abbrev pub with_new : List Entry → Entry → List Entry
+with_new xs x = if has xs (message_of x) then xs else xs ++ x ∷ []

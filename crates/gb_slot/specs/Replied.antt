@@ -1,0 +1,23 @@
+-- Results of a slot's calls as replies.
+use Rattle.std.specs.Prelude.{ℕ, Result, Ok, Err}
+use Rattle.std.specs.declared.vec.Vec.{Vec}
+use Rattle.std.specs.declared.alloc.Global.{Global}
+use Rattle.gb_types.specs.declared.entry.Entry.{Entry}
+use Rattle.gb_types.specs.declared.refusal.Refusal.{Refusal}
+use Rattle.gb_types.specs.declared.reply.Reply.{Reply}
+use Rattle.gb_types.specs.declared.reply.Reply.TheVariants.{Done, Said, Log, Refused}
+
+-- a call that gives nothing
+abbrev pub done_reply : {T : Type 0} → Result T Refusal → Reply
+done_reply (Ok v) = Done
+done_reply (Err why) = Refused why
+
+-- a call that gives the number of a message
+abbrev pub said_reply : Result ℕ Refusal → Reply
+said_reply (Ok seq) = Said seq
+said_reply (Err why) = Refused why
+
+-- a call that gives entries
+abbrev pub log_reply : Result (Vec Entry Global) Refusal → Reply
+log_reply (Ok entries) = Log entries.items
+log_reply (Err why) = Refused why

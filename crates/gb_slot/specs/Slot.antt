@@ -1,0 +1,82 @@
+-- What each call makes of a slot.
+use Rattle.std.specs.Prelude.{ℕ, ◌≤◌, ◌<◌, ◌+◌, ◌&&◌, not, Bool, List, [], ◌∷◌, ◌++◌, map, drop, replicate, slice_index_or, slice_set, if◌then◌else◌}
+use Rattle.std.specs.Ordering.{nat_cmp}
+use Rattle.std.specs.FinSet as set
+use Rattle.gb_types.specs.Entry.{message_of}
+use Rattle.gb_types.specs.declared.entry.Entry.{Entry}
+use Rattle.gb_types.specs.declared.limits.TheConstants.{NODES, MESSAGES, BYTES, WINDOW}
+use Rattle.gb_types.specs.declared.node.NodeId.{NodeId}
+use Rattle.gb_types.specs.declared.reply.Reply.{Reply}
+use Rattle.gb_types.specs.declared.reply.Reply.TheVariants.{Done, Said}
+use Rattle.gb_types.specs.declared.spec.Spec.{Spec}
+use Rattle.gb_layer.specs.Machine.{Gives, own_gives, messages}
+use Rattle.gb_layer.specs.BebMachine.{beb_gives}
+use Rattle.gb_layer.specs.declared.call.Call.{Call}
+use Rattle.gb_layer.specs.declared.call.Call.TheVariants.{Say, Came}
+use Rattle.gb_slot.specs.declared.phase.Phase.TheVariants.{Made, Opened}
+use Rattle.gb_slot.specs.Messages.{has, entry_in, with_new}
+use Rattle.gb_slot.specs.Rules.{Shown, is_other, is_let_fall}
+use Rattle.gb_slot.specs.SlotState.{SlotState}
+
+-- the numbers of a spec are within the service's limits
+pub record IsWithinLimits (spec : Spec) : Type 0 where
+  pub some : 0 < spec.msgs
+  pub msgs : spec.msgs ≤ MESSAGES
+  pub bytes : spec.bytes ≤ BYTES
+  pub window : spec.window ≤ WINDOW
+
+-- a slot in which nothing has happened, at a node that has noticed these
+abbrev pub new_slot : Spec → NodeId → set.FinSet nat_cmp → SlotState
+new_slot spec me noticed = record { spec = spec; me = me; phase = Made; noticed = noticed; stack = me; said = 0; store = []; log = []; outgoing = []; taken = replicate NODES 0 }
+
+-- what the rules read of it
+abbrev pub shown : SlotState → Shown
+shown s = record { spec = s.spec; phase = s.phase; said = s.said; log = map (entry_in s.store) s.log }
+
+-- how many items were taken to be sent to the node
+abbrev pub taken_for : SlotState → ℕ → ℕ
+taken_for s b = slice_index_or s.taken b 0
+
+-- the items that wait for the node
+abbrev pub waiting : SlotState → ℕ → List Entry
+waiting s b = if is_other s.spec s.me.number b && not (set.contains s.noticed b) then map (entry_in s.store) (drop (taken_for s b) s.outgoing) else []
+
+-- after the answer to a request that opens it
+abbrev pub slot_opened : Reply → SlotState → SlotState
+slot_opened Done s = record s { phase = Opened }
+slot_opened reply s = s
+
+-- what the broadcast of a slot gives at a call: best-effort broadcast hands up what came from its origin
+abbrev pub stack_gives : NodeId → Call → Gives
+stack_gives me c = own_gives (beb_gives me c)
+
+-- the broadcast takes a call, after which these messages are known
+abbrev pub slot_called : Call → List Entry → SlotState → SlotState
+slot_called c store s = record s {
+  store = store;
+  log = s.log ++ messages (stack_gives s.stack c).ups;
+  outgoing = s.outgoing ++ (stack_gives s.stack c).sends;
+}
+
+-- the message that is said next here
+abbrev pub own_entry : SlotState → List ℕ → Entry
+own_entry s payload = record { origin = s.me; seq = s.said + 1; payload = payload }
+
+-- after the answer to a request that says something
+abbrev pub slot_said : List ℕ → Reply → SlotState → SlotState
+slot_said payload (Said seq) s =
+    let next = slot_called (Say (message_of (own_entry s payload))) (s.store ++ own_entry s payload ∷ []) s in
+    record next { said = s.said + 1 }
+slot_said payload reply s = s
+
+-- whether an item is let fall
+abbrev pub falls : NodeId → Entry → SlotState → Bool
+falls from x s = is_let_fall s.spec s.me.number from.number x (has s.store (message_of x)) (has s.store (message_of x))
+
+-- an item came from a node
+abbrev pub slot_came : NodeId → Entry → SlotState → SlotState
+slot_came from x s = if falls from x s then s else slot_called (Came from (message_of x)) (with_new s.store x) s
+
+-- so many more items are taken to be sent to the node
+abbrev pub slot_took : ℕ → ℕ → SlotState → SlotState
+slot_took b count s = record s { taken = slice_set s.taken b (taken_for s b + count) }

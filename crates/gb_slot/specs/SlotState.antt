@@ -1,0 +1,35 @@
+-- A slot as contracts see it.
+use Rattle.std.specs.Prelude.{ℕ, List}
+use Rattle.std.specs.Ordering.{nat_cmp}
+use Rattle.std.specs.FinSet as set
+use Rattle.gb_types.specs.declared.entry.Entry.{Entry}
+use Rattle.gb_types.specs.declared.message.MsgId.{MsgId}
+use Rattle.gb_types.specs.declared.node.NodeId.{NodeId}
+use Rattle.gb_types.specs.declared.spec.Spec.{Spec}
+use Rattle.gb_slot.specs.declared.phase.Phase.{Phase}
+
+-- one group at one node
+pub record SlotState : Type 0 where
+  pub spec : Spec
+  pub me : NodeId
+  pub phase : Phase
+  -- the nodes that were noticed before the group was made here
+  pub noticed : set.FinSet nat_cmp
+  -- what the broadcast remembers
+  pub stack : NodeId
+  -- how many messages were said here
+  pub said : ℕ
+  -- the messages that are known, in the order in which they became known
+  pub store : List Entry
+  -- what was delivered, in order
+  pub log : List MsgId
+  -- what was broadcast, in order: the same for each other member
+  pub outgoing : List MsgId
+  -- for each node, how many of these were taken to be sent to it
+  pub taken : List ℕ
+
+-- a slot, with the room that it has: so many more items can come, with so many bytes in all
+pub record SlotValue : Type 0 where
+  pub state : SlotState
+  pub calls : ℕ
+  pub bytes : ℕ

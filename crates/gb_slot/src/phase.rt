@@ -1,0 +1,10 @@
+//! The phases of a group at a node.
+
+/// The phase of a group at a node. It takes items in and delivers in each of them.
+#[derive(Clone, Copy, PartialEq, Eq, Debug)]
+pub enum Phase {
+    /// Made, and not yet open for its member's messages.
+    Made,
+    /// Open for its member's messages.
+    Opened,
+}

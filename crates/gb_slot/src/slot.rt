@@ -1,0 +1,263 @@
+//! One group at one node.
+ghost use Rattle.std.specs.Prelude.{◌≡◌, ◌⊎◌, ℕ, ◌+◌, ◌*◌, ◌≤◌, ◌<◌, ◌&&◌, not, List, [], ◌∷◌, ◌++◌, take, drop, map, slice_get, length, vec_len, Ok, Err, IfOk, OnOk, OnErr, MatchOption, true, IsOkUnless};
+ghost use Rattle.std.specs.FinSet as set;
+ghost use Rattle.gb_types.specs.declared.entry.Entry.{Entry as EntryValue};
+ghost use Rattle.gb_layer.specs.Machine.{messages};
+ghost use Rattle.gb_slot.specs.Messages.{entry_in};
+ghost use Rattle.gb_slot.specs.Replied.{done_reply, said_reply, log_reply};
+ghost use Rattle.gb_slot.specs.Rules.{is_member, is_other, is_let_fall, open_answer, say_answer, fetch_answer};
+
+use crate::phase::Phase;
+use crate::store::Store;
+use gb_layer::beb::Beb;
+use gb_layer::direct::Direct;
+use gb_layer::effects::{Effects, Up};
+use gb_layer::layer::Layer;
+use gb_types::entry::Entry;
+use gb_types::limits::{FETCH, NODES, PAYLOAD};
+use gb_types::memory::OutOfMemory;
+use gb_types::message::MsgId;
+use gb_types::node::{NodeId, NodeSet};
+use gb_types::refusal::Refusal;
+use gb_types::spec::Spec;
+use std::alloc::Global;
+use std::marker::Model;
+
+/// One group at one node. Contracts see its state, and beside it the room that it has.
+#[derive(Drop)]
+pub struct Slot {
+    alloc: Global,
+    spec: Spec,
+    me: NodeId,
+    phase: Phase,
+    noticed: NodeSet,
+    stack: Direct<Beb>,
+    /// All that was broadcast and delivered, in order.
+    effects: Effects,
+    store: Store,
+    said: u32,
+    taken: [usize; NODES],
+    /// So many more calls of the stack take no memory.
+    calls: usize,
+}
+
+impl Model for Slot {
+    ghost use Rattle.std.specs.Prelude.{◌≤◌};
+    ghost use Rattle.gb_types.specs.declared.limits.TheConstants.{MESSAGES};
+    ghost use Rattle.gb_layer.specs.Machine.{messages};
+    ghost use Rattle.gb_layer.specs.Room.{free_sends, free_ups};
+    ghost use Rattle.gb_slot.specs.SlotState.{SlotValue};
+    ghost use Rattle.std.specs.Coded.{codes, coded_ℕ};
+    ghost use Rattle.std.specs.Ordering.{nat_cmp};
+    ghost use Rattle.std.specs.FinSet as set;
+
+    ghost Value = { SlotValue };
+
+    ghost coded = { Prim.hlevel (codes, set.code {R = nat_cmp} coded_ℕ) };
+
+    ghost view = { λ s. record { state = record { spec = s.spec; me = s.me; phase = s.phase; noticed = s.noticed; stack = s.stack.lower.me; said = s.said; store = s.store.entries; log = messages s.effects.ups.items; outgoing = s.effects.sends.items; taken = s.taken }; calls = s.calls; bytes = s.store.bytes } };
+
+    ghost invariant = { λ s. (s.said ≤ s.spec.msgs) × (s.spec.msgs ≤ MESSAGES) × (s.calls ≤ s.store.places) × (s.calls ≤ free_sends s.effects) × (s.calls ≤ free_ups s.effects) };
+}
+
+impl Slot {
+    ghost use Rattle.gb_slot.specs.Slot.{IsWithinLimits, new_slot, shown, waiting, slot_opened, slot_said, falls, slot_came, slot_took, taken_for};
+
+    /// A group that was just made at the node `me`, one of its members, which has noticed these nodes. What is
+    /// broadcast is put out to the other members.
+    pub fn new(alloc: Global, spec: Spec, me: NodeId, noticed: &NodeSet) -> Result<Slot, Refusal>
+        requires limits { IsWithinLimits spec }
+        requires member { is_member spec me.number ≡ true }
+        ensures ok { IfOk result (λ s. s.state ≡ new_slot spec me noticed.now) }
+        ensures err { IsOkUnless result Refusal.OutOfMemory }
+    {
+        Ok(Slot {
+            alloc,
+            spec,
+            me,
+            phase: Phase::Made,
+            noticed: noticed.duplicate(),
+            stack: Direct::new(Beb::new(me)),
+            effects: Effects::new(alloc),
+            store: Store::new(alloc),
+            said: 0,
+            taken: [0; NODES],
+            calls: 0,
+        })
+    }
+
+    /// Opens the group for its member's messages. WrongPhase where it was opened before.
+    pub fn open_group(&mut self) -> Result<(), Refusal>
+        ensures answer { done_reply result ≡ open_answer (shown self.old.state) }
+        ensures state { self.new.state ≡ slot_opened (done_reply result) self.old.state }
+    {
+        match self.phase {
+            Phase::Made => {
+                self.phase = Phase::Opened;
+                Ok(())
+            }
+            Phase::Opened => Err(Refusal::WrongPhase),
+        }
+    }
+
+    /// Makes room, so that the next calls of `came`, so many, with so many payload bytes in all, take no
+    /// memory.
+    pub fn ready(&mut self, calls: usize, bytes: usize) -> Result<(), OutOfMemory>
+        ensures state { self.new.state ≡ self.old.state }
+        ensures room { OnOk result ((calls ≤ self.new.calls) × (bytes ≤ self.new.bytes)) }
+    {
+        self.calls = 0;
+        self.stack.ready(calls, &mut self.effects)?;
+        self.store.reserve(calls, bytes)?;
+        self.calls = calls;
+        Ok(())
+    }
+
+    /// Broadcasts a payload, and gives its number here. WrongPhase where the group is not open, TooLong above
+    /// 1,024 bytes, Budget where all messages are said, in this order; OutOfMemory last.
+    pub fn say(&mut self, payload: &[u8]) -> Result<u16, Refusal>
+        ensures answer { (result ≡ Err Refusal.OutOfMemory) ⊎ (said_reply result ≡ say_answer (shown self.old.state) payload.now) }
+        ensures state { self.new.state ≡ slot_said payload.now (said_reply result) self.old.state }
+    {
+        if self.phase == Phase::Made {
+            return Err(Refusal::WrongPhase);
+        }
+        if payload.len() > PAYLOAD {
+            return Err(Refusal::TooLong);
+        }
+        if self.said >= self.spec.msgs {
+            return Err(Refusal::Budget);
+        }
+        let room = self.ready(1, payload.len());
+        if room.is_err() {
+            return Err(Refusal::OutOfMemory);
+        }
+        let seq = (self.said + 1) as u16;
+        let m = MsgId {
+            origin: self.me,
+            seq,
+        };
+        self.calls -= 1;
+        self.stack.say(m, &mut self.effects);
+        self.store.push(m, payload);
+        self.said += 1;
+        Ok(seq)
+    }
+
+    /// Whether an item that came from a node is let fall.
+    fn lets_fall(&self, from: NodeId, m: MsgId, known: bool) -> bool
+        ensures { result ≡ is_let_fall self.now.state.spec self.now.state.me.number from.number (record { origin = m.origin; seq = m.seq; payload = [] }) known known }
+    {
+        if !self.spec.members.contains(from) || !self.spec.members.contains(m.origin) {
+            return true;
+        }
+        if from == self.me || known || m.seq == 0 {
+            return true;
+        }
+        u32::from(m.seq) > self.spec.msgs || m.origin != from
+    }
+
+    /// Takes an item that came from a node: it is let fall, or the broadcast takes it. Takes no memory.
+    pub fn came(&mut self, from: NodeId, origin: NodeId, seq: u16, payload: &[u8])
+        requires call { 1 ≤ self.old.calls }
+        requires bytes { length payload.now ≤ self.old.bytes }
+        ensures state { self.new.state ≡ slot_came from (record { origin = origin; seq = seq; payload = payload.now }) self.old.state }
+        ensures calls { self.old.calls ≤ self.new.calls + 1 }
+        ensures bytes { self.old.bytes ≤ self.new.bytes + length payload.now }
+    {
+        let m = MsgId { origin, seq };
+        let known = self.store.contains(m);
+        if self.lets_fall(from, m, known) {
+            return;
+        }
+        self.calls -= 1;
+        self.stack.came(from, m, &mut self.effects);
+        self.store.push(m, payload);
+    }
+
+    /// The log from a place on, `max` entries at most; places count from 0. BadPlace where the place is above
+    /// the log's length, or more than 16 entries are asked for.
+    pub fn fetch(&self, from: u32, max: u32) -> Result<Vec<Entry>, Refusal>
+        ensures { (result ≡ Err Refusal.OutOfMemory) ⊎ (log_reply result ≡ fetch_answer (shown self.now.state) from max) }
+    {
+        let from = from as usize;
+        if from > self.effects.ups.len() || max > FETCH {
+            return Err(Refusal::BadPlace);
+        }
+        let found = page(&self.effects.ups, from, max as usize);
+        match copies(self.alloc, &self.store, found) {
+            Ok(entries) => Ok(entries),
+            Err(_) => Err(Refusal::OutOfMemory),
+        }
+    }
+
+    /// Whether items are put out to the node: it is another member, and was not noticed.
+    fn is_reached(&self, dest: NodeId) -> bool
+        ensures { result ≡ (is_other self.now.state.spec self.now.state.me.number dest.number && not (set.contains self.now.state.noticed dest.number)) }
+    {
+        self.spec.members.contains(dest) && dest != self.me && !self.noticed.contains(dest)
+    }
+
+    /// The first item that waits for the node, with its payload.
+    pub fn peek(&self, dest: NodeId) -> Option<(MsgId, &[u8])>
+        ensures { MatchOption result (waiting self.now.state dest.number ≡ []) (λ r. (rest : List EntryValue) × (waiting self.now.state dest.number ≡ record { origin = r.0.origin; seq = r.0.seq; payload = r.1.now } ∷ rest)) }
+    {
+        if !self.is_reached(dest) {
+            return None;
+        }
+        let next = item_at(&self.effects.sends, self.taken[dest.index()]);
+        match next {
+            Some(m) => Some((m, self.store.payload(m))),
+            None => None,
+        }
+    }
+
+    /// How many items wait for the node.
+    pub fn waiting_for(&self, dest: NodeId) -> usize
+        ensures { result ≡ length (waiting self.now.state dest.number) }
+    {
+        if !self.is_reached(dest) {
+            return 0;
+        }
+        self.effects
+            .sends
+            .len()
+            .saturating_sub(self.taken[dest.index()])
+    }
+
+    /// The first items that wait for the node, so many, are taken to be sent to it.
+    pub fn took(&mut self, dest: NodeId, count: usize)
+        requires { count ≤ length (waiting self.old.state dest.number) }
+        ensures state { self.new.state ≡ slot_took dest.number count self.old.state }
+    {
+        self.taken[dest.index()] += count;
+    }
+}
+
+/// The item at a place.
+fn item_at(items: &[MsgId], at: usize) -> Option<MsgId>
+    ensures { result ≡ slice_get items.now at }
+{
+    items.get(at).copied()
+}
+
+/// What came up from a place on, so many pairs at most.
+fn page(ups: &[Up], from: usize, most: usize) -> &[Up]
+    requires { from ≤ length ups.now }
+    ensures { result.now ≡ take most (drop from ups.entry.now) }
+{
+    let rest = &ups[from..];
+    let count = most.min(rest.len());
+    &rest[..count]
+}
+
+/// The messages that came up, with their payloads.
+fn copies(alloc: Global, store: &Store, ups: &[Up]) -> Result<Vec<Entry>, OutOfMemory>
+    ensures { IfOk result (λ v. v.items ≡ map (entry_in store.now.entries) (messages ups.now)) }
+{
+    let mut entries = Vec::with_capacity(alloc, ups.len())?;
+    for up in ups {
+        entries.push(store.entry(alloc, up.m)?)?;
+    }
+    Ok(entries)
+}
