@@ -1,0 +1,13 @@
+pub mod MemberLemmas
+pub mod NodeLemmas
+pub mod WorldLemmas
+pub mod RequestLemmas
+pub mod MakeLemmas
+pub mod AtLemmas
+pub mod IdleLemmas
+pub mod MoreLemmas
+pub mod PackLemmas
+pub mod FrameLemmas
+pub mod ArriveLemmas
+pub mod StepLemmas
+pub mod Theorem

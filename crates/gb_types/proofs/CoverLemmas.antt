@@ -4,7 +4,7 @@ use Rattle.std.proofs.Common.{◌≡◌, ℕ, ◌<◌, ◌≤◌, Bool, true, fa
 use Rattle.std.specs.Ordering.{nat_cmp, eq_by_cmp}
 use Rattle.std.specs.List.{list_any, list_all}
 use Rattle.std.specs.FinSet as fin
-use Rattle.std.specs.Cmp.{unsigned_tied}
+use Rattle.std.specs.Cmp.{nat_cmp_total, unsigned_tied}
 use Rattle.std.proofs.lemmas.Bool.{eqb-true, eq-eqb}
 use Rattle.std.proofs.lemmas.Bool.Decides.{nat_tests}
 use Rattle.gb_types.specs.Places.{places}
@@ -54,7 +54,7 @@ not_all_members p s q h k =
 pub at_place : (has : List Bool) (q : ℕ) → q < NODES → fin.contains (places has) q ≡ slice_index_or has q false
 at_place has q lt = let k : nat_lt q NODES ≡ true = grind (arith, nat_tests) in contains-places has q ∙ ap (λ b. b && slice_index_or has q false) k
 
-in_range : (has : List Bool) (q : ℕ) → fin.contains (places has) q ≡ true → q < NODES
+pub in_range : (has : List Bool) (q : ℕ) → fin.contains (places has) q ≡ true → q < NODES
 in_range has q h = let k : nat_lt q NODES ≡ true = and_left _ (slice_index_or has q false) (sym (contains-places has q) ∙ h) in grind (arith, nat_tests)
 
 -- the place k is not of the first table, or is of another
@@ -83,3 +83,19 @@ below_all a n f =
 
 pub not_below : (a : List Bool) (n k : ℕ) → k < NODES → slice_index_or a k false ≡ true → n ≤ k → list_all (λ p. nat_lt p n) (fin.items (places a)) ≡ false
 not_below a n k lt h le = not_all_members (λ p. nat_lt p n) (places a) k (at_place a k lt ∙ h) (grind (arith, nat_tests))
+
+or_same : (b : Bool) → (b || b) ≡ b
+or_same true = refl
+or_same false = refl
+
+-- to be in one of two equal sets is to be in it
+pub subset_is : (s t : fin.FinSet nat_cmp) → list_all (λ p. fin.contains t p || fin.contains t p) (fin.items s) ≡ fin.is_subset s t
+subset_is s t =
+    let p : ℕ → Bool = λ p. fin.contains t p || fin.contains t p in
+    elim (list_all p (fin.items s)) as (λ b. list_all p (fin.items s) ≡ b → b ≡ fin.is_subset s t) [
+      | true ↦ λ all. sym (fin.contains-is_subset nat_cmp_total s t (λ q h. sym (or_same (fin.contains t q)) ∙ from_all p (fin.items s) q all (sym (fin.contains-items s q) ∙ h)))
+      | false ↦ λ some. elim (fin.is_subset s t) as (λ b. fin.is_subset s t ≡ b → false ≡ b) [
+        | true ↦ λ sub. sym some ∙ all_members p s (λ q h. let e = fin.is_subset-contains nat_cmp_total s t sub q h in or_same (fin.contains t q) ∙ e)
+        | false ↦ λ _. refl
+      ] refl
+    ] refl

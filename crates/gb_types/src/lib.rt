@@ -5,12 +5,21 @@
 pub mod address;
 pub mod entry;
 pub mod kind;
+pub mod kind_word;
+pub mod laws;
 pub mod limits;
+pub mod members_word;
 pub mod memory;
 pub mod message;
 pub mod node;
+pub mod nodes;
+pub mod number;
 pub mod payload;
+pub mod payload_word;
 pub mod refusal;
 pub mod reply;
+pub mod reply_text;
 pub mod request;
 pub mod spec;
+#[cfg(test)]
+mod tests;

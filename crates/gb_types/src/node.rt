@@ -1,11 +1,13 @@
 //! Nodes, and sets of them.
-ghost use Rattle.std.specs.Prelude.{◌≡◌, ℕ, ◌<◌, ◌≤◌, ◌↔◌, ◌||◌, ◌&&◌, nat_lt, count_by, IsNone, IfSome};
+ghost use Rattle.std.specs.Prelude.{◌≡◌, ℕ, ◌<◌, ◌≤◌, ◌↔◌, ◌||◌, ◌&&◌, [], ◌∷◌, ◌+◌, nat_lt, count_by, IsNone, IfSome, MatchOption, IsTrue};
 ghost use Rattle.std.specs.List.{list_all};
 ghost use Rattle.std.specs.FinSet as set;
 ghost use Rattle.gb_types.specs.Places.{places, below, common};
+ghost use Rattle.gb_types.specs.Rising.{rising, rising_from, AreNodes};
 ghost use Rattle.gb_types.specs.declared.limits.TheConstants.{NODES};
 
 use crate::limits::NODES;
+use crate::nodes::Nodes;
 use std::marker::Model;
 
 /// A node, by its number.
@@ -123,6 +125,55 @@ impl NodeSet {
         ensures { result ≡ set.contains self.now node.number }
     {
         self.has[node.number as usize]
+    }
+
+    /// Whether there are none.
+    pub fn is_empty(&self) -> bool
+        ensures { IsTrue result ↔ (self.now ≡ set.empty) }
+    {
+        !self.has.contains(&true)
+    }
+
+    /// Whether each of these nodes is in the other set.
+    pub fn is_subset(&self, other: &NodeSet) -> bool
+        ensures { result ≡ set.is_subset self.now other.now }
+    {
+        is_within(&self.has, &other.has, &other.has)
+    }
+
+    /// The first node of the set that has this number or a greater one.
+    pub fn next_from(&self, number: usize) -> Option<NodeId>
+        ensures { MatchOption result (rising_from self.now number ≡ [])
+            (λ n. rising_from self.now number ≡ n.number ∷ rising_from self.now (n.number + 1)) }
+    {
+        for i in number..NODES {
+            let node = NodeId::new(i as u8);
+            if self.contains(node) {
+                return Some(node);
+            }
+        }
+        None
+    }
+
+    /// The nodes of the set, rising.
+    pub fn nodes(&self) -> Nodes<'_>
+        ensures rising { result ≡ rising self.now }
+        ensures whole { AreNodes self.now }
+    {
+        // The proof reads what the table has.
+        let _ = &self.has;
+        Nodes::new(self)
+    }
+
+    /// The nodes that are in one of the two sets, or in both.
+    pub fn union(&self, other: &NodeSet) -> NodeSet
+        ensures { result ≡ set.union self.now other.now }
+    {
+        let mut both = self.duplicate();
+        for node in other.nodes() {
+            both.insert(node);
+        }
+        both
     }
 
     /// Whether each of these nodes is in one of the two sets.

@@ -1,0 +1,47 @@
+-- What holds of every cluster says that each group is isolated.
+use Rattle.std.proofs.Common.{◌≡◌, ℕ, ◌<◌, List, [], ◌∷◌, length, Option, Some, None, refl, sym, ◌∙◌, ap}
+use Rattle.std.proofs.Math.ListN.{length-set}
+use Rattle.gb_types.specs.declared.address.Addr.{Addr}
+use Rattle.gb_types.specs.declared.spec.Spec.{Spec}
+use Rattle.gb_slot.specs.History.{log_of}
+use Rattle.gb_slot.specs.SlotState.{SlotState}
+use Rattle.gb_slot.proofs.HistoryLemmas.{log_is}
+use Rattle.gb_cluster.specs.declared.event.Event.{Event}
+use Rattle.gb_cluster.specs.declared.event.Event.TheVariants.{At, Pack, Arrive}
+use Rattle.gb_cluster.specs.declared.packet.Packet.{Packet}
+use Rattle.gb_cluster.specs.Alone.{Member, alone, log_at}
+use Rattle.gb_cluster.specs.Headline.{log_in, IsIsolated, AreIsolated, AreInside}
+use Rattle.gb_cluster.specs.Project.{project, packet_at}
+use Rattle.gb_cluster.specs.World.{World, slot_for, node_of, world_after, arrived_world}
+use Rattle.gb_cluster.specs.Holds.{SlotIs, Holds, BehavesAlone}
+
+log_same : (a : ℕ) (o : Option SlotState) (m : Member) → SlotIs a o m → log_in o ≡ log_at a m.spec m.told
+log_same a None m st = sym (ap (λ (x : Option Spec). log_at a x m.told) st.spec)
+log_same a (Some s) m st = log_is s m.told st.history ∙ (ap (λ k. log_of s.spec k m.told) st.here ∙ sym (ap (λ (x : Option Spec). log_at a x m.told) st.spec))
+
+isolated : (g : Addr) (w : World) → BehavesAlone g w → IsIsolated g w
+isolated g w alone_too = record {
+  legal = alone_too.legal;
+  same = λ a b in_a in_b.
+      let st = alone_too.fits.stands a in_a in
+      λ i. record {
+        replies = sym (alone_too.fits.replies a in_a) i;
+        log = log_same a (slot_for g (node_of w a).group) (alone (length w.nodes) g.group (project g w.packets w.steps) a) st.slot i;
+        put = sym (st.put b in_b) i;
+      };
+}
+
+pub all_isolated : (w : World) → Holds w → AreIsolated w
+all_isolated w holds g served = isolated g w (holds.groups g served)
+
+pub all_inside : (w : World) → Holds w → AreInside (length w.nodes) w.packets
+all_inside w holds k p at = let framed = holds.links.framed k p at in (framed.from, framed.to)
+
+pub same_count : (w : World) (e : Event) → length (world_after w e).nodes ≡ length w.nodes
+same_count w (At a request) = length-set w.nodes a.number _
+same_count w (Pack a b) = length-set w.nodes a.number _
+same_count w (Arrive k) = go (packet_at w.packets k)
+  where
+    go : (found : List Packet) → length (arrived_world w found).nodes ≡ length w.nodes
+    go [] = refl
+    go (p ∷ found) = length-set w.nodes p.to.number _

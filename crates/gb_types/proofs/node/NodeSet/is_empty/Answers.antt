@@ -1,0 +1,5 @@
+use Rattle.gb_types.proofs.EmptyLemmas.{is_empty}
+use Rattle.gb_types.proofs.node.NodeSet.is_empty.Goals as goal
+
+pub returns : goal.returns
+returns c = rw (← c.self.view_is) (is_empty c.self.inside.has c.contains.result c.self.told c.contains.ensures.cases)

@@ -1,0 +1,40 @@
+//! What words and texts keep: where a value is written, nothing is lost. Each function is a law: its contract
+//! is what it is for.
+ghost use Rattle.std.specs.Prelude.{◌≡◌, ◌≤◌, Some, decimal};
+ghost use Rattle.gb_types.specs.Laws.{OneTextOneReply, OneWordOneNumber, OneWordOneKind, OneWordOneGroup, PayloadReadsBack};
+
+use crate::number::read_number;
+
+/// Two replies with one text are equal.
+pub fn one_text_one_reply()
+    ensures { OneTextOneReply }
+{}
+
+/// Two numbers with one word are equal.
+pub fn one_word_one_number()
+    ensures { OneWordOneNumber }
+{}
+
+/// Two kinds with one word are equal.
+pub fn one_word_one_kind()
+    ensures { OneWordOneKind }
+{}
+
+/// Two groups of members with one word are equal.
+pub fn one_word_one_group()
+    ensures { OneWordOneGroup }
+{}
+
+/// A payload that is written in a word reads back.
+pub fn payload_reads_back()
+    ensures { PayloadReadsBack }
+{}
+
+/// A number's word reads back as the number.
+pub fn number_reads_back(word: &[u8], number: u64, max: u64) -> Option<u64>
+    requires written { word.now ≡ decimal number }
+    requires within { number ≤ max }
+    ensures { result ≡ Some number }
+{
+    read_number(word, max)
+}

@@ -1,0 +1,38 @@
+//! The members of a group in a word: their numbers, rising, parted by commas.
+ghost use Rattle.std.specs.Prelude.{◌≡◌, ◌≢◌, ◌↔◌, ℕ, ◌<◌, Some, IfSome, IfNone, decimal};
+ghost use Rattle.std.specs.Ordering.{nat_cmp};
+ghost use Rattle.std.specs.FinSet as set;
+ghost use Rattle.gb_types.specs.Rising.{AreNodes};
+ghost use Rattle.gb_types.specs.MembersWord.{members_word};
+
+use crate::limits::NODES;
+use crate::node::{NodeId, NodeSet};
+use crate::number::read_number;
+
+/// The node whose number a word spells.
+fn read_node(word: &[u8]) -> Option<NodeId>
+    ensures some { IfSome result (λ node. word.now ≡ decimal node.number) }
+    ensures none { IfNone result ((n : ℕ) → n < NODES → word.now ≢ decimal n) }
+{
+    let number = read_number(word, NODES as u64 - 1)?;
+    Some(NodeId::new(number as u8))
+}
+
+/// The members that a word spells: one or more numbers of nodes, strictly rising, parted by commas.
+pub fn read_members(word: &[u8]) -> Option<NodeSet>
+    ensures { (s : set.FinSet nat_cmp)
+        → (result ≡ Some s) ↔ (AreNodes s × (s ≢ set.empty) × (word.now ≡ members_word s)) }
+{
+    let mut members = NodeSet::new();
+    // The least number that may come next.
+    let mut lowest: u8 = 0;
+    for part in word.split(|byte| *byte == b',') {
+        let node = read_node(part)?;
+        if node.number < lowest {
+            return None;
+        }
+        members.insert(node);
+        lowest = node.number + 1;
+    }
+    Some(members)
+}

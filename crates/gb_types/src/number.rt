@@ -1,0 +1,34 @@
+//! Numbers in words: decimal digits without a leading zero.
+ghost use Rattle.std.specs.Prelude.{◌≡◌, ℕ, ◌<◌, ◌≤◌, ◌↔◌, ◌⊎◌, ◌++◌, Some, IsTrue, OnOk, OnErr, slice_index, length, decimal};
+
+use crate::memory::OutOfMemory;
+
+/// Whether a word begins as no number does: with a sign, or with a zero before more digits.
+fn begins_badly(word: &[u8]) -> bool
+    // 43 is `+`, and 48 is `0`.
+    ensures { IsTrue result ↔ ((slice_index word.now 0 ≡ 43)
+        ⊎ ((slice_index word.now 0 ≡ 48) × (1 < length word.now))) }
+{
+    matches!(word, [b'+', ..] | [b'0', _, ..])
+}
+
+/// The number that a word spells, where it is `max` at most. A word of any length is answered.
+pub fn read_number(word: &[u8], max: u64) -> Option<u64>
+    ensures { (n : ℕ) → (result ≡ Some n) ↔ ((n ≤ max) × (word.now ≡ decimal n)) }
+{
+    if begins_badly(word) {
+        return None;
+    }
+    let number: u64 = str::from_utf8(word).ok()?.parse().ok()?;
+    (number <= max).then_some(number)
+}
+
+/// Appends a number. Without memory nothing has changed.
+pub fn put_number(out: &mut Vec<u8>, number: u64) -> Result<(), OutOfMemory>
+    ensures ok { OnOk result (out.new.items ≡ out.old.items ++ decimal number) }
+    ensures err { OnErr result (out.new.items ≡ out.old.items) }
+{
+    let digits = number.to_string(*out.allocator())?;
+    out.extend_from_slice(digits.as_bytes())?;
+    Ok(())
+}
