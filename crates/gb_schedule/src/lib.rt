@@ -2,4 +2,8 @@
 //! Nothing is run here. Read `lines::LineBuffer` first.
 #![tactic(auto)]
 
+pub mod command;
+pub mod grammar;
+pub mod head;
 pub mod lines;
+pub mod words;
