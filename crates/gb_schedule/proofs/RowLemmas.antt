@@ -1,5 +1,5 @@
 -- For each head: the command that its words spell, from what the readers of its words found.
-use Rattle.std.proofs.Common.{◌≡◌, ◌≢◌, ◌↔◌, ℕ, ◌<◌, ◌≤◌, List, [], ◌∷◌, Option, Some, None, refl, sym, ap, ◌∙◌, decimal, arith}
+use Rattle.std.proofs.Common.{◌≡◌, ◌≢◌, ℕ, ◌<◌, ◌≤◌, List, [], ◌∷◌, Some, refl, sym, ◌∙◌, decimal, arith}
 use Rattle.std.specs.FinSet as set
 use Rattle.std.specs.Ordering.{nat_cmp}
 use Rattle.gb_types.specs.declared.limits.TheConstants.{NODES, SILENCE_MIN, SILENCE_MAX}
@@ -13,9 +13,8 @@ use Rattle.gb_types.specs.declared.address.Addr.{Addr}
 use Rattle.gb_types.specs.declared.spec.Spec.{Spec}
 use Rattle.gb_types.specs.declared.spec.TenantRow.{TenantRow}
 use Rattle.gb_types.specs.declared.request.Request.TheVariants.{AddTenant, Make, OpenGroup, Say, Fetch}
-use Rattle.gb_schedule.specs.declared.command.Command.{Command}
-use Rattle.gb_schedule.specs.declared.command.Command.TheVariants.{Cluster, Request, Pack, Arrive}
-use Rattle.gb_schedule.specs.Grammar.{no_token, IsShort, IsLong, SpellsSpec, SpellsCluster, SpellsTenant, SpellsMake, SpellsOpen, SpellsSay, SpellsFetch, SpellsPack, SpellsArrive}
+use Rattle.gb_schedule.specs.declared.command.Command.TheVariants.{Cluster, Request, Pack}
+use Rattle.gb_schedule.specs.Grammar.{no_token, IsShort, IsLong, SpellsSpec, SpellsCluster, SpellsTenant, SpellsMake, SpellsOpen, SpellsSay, SpellsFetch, SpellsPack}
 use Rattle.gb_schedule.proofs.GrammarLemmas.{Reads, found, only, reads_one, some_same}
 
 -- what the readers of single words find

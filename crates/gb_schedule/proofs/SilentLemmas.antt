@@ -1,12 +1,11 @@
 -- A line that asks for nothing begins with no head.
-use Rattle.std.proofs.Common.{◌≡◌, ◌≢◌, ℕ, List, [], ◌∷◌, ◌++◌, Option, length, get_or, refl, sym, ap, ◌∙◌, arith}
+use Rattle.std.proofs.Common.{◌≡◌, ℕ, List, [], ◌∷◌, get_or, refl, sym, ap, ◌∙◌, arith}
 use Rattle.std.specs.List.{onto_first}
-use Rattle.gb_schedule.specs.declared.command.Command.{Command}
 use Rattle.gb_schedule.specs.declared.head.Head.{Head}
 use Rattle.gb_schedule.specs.declared.head.Head.TheVariants.{Cluster, Tenant, Make, Open, Say, Fetch, Pack, Arrive}
 use Rattle.gb_schedule.specs.Head.{head_word}
 use Rattle.gb_schedule.specs.Words.{words_of}
-use Rattle.gb_schedule.specs.Grammar.{IsSilent, IsCommandLine, SilentLinesSpellNothing}
+use Rattle.gb_schedule.specs.Grammar.{SilentLinesSpellNothing}
 
 -- heads begin with letters
 head_word-letter : (head : Head) → (get_or (head_word head) 0 0 ≡ 0 → ⊥) × (get_or (head_word head) 0 0 ≡ 35 → ⊥)

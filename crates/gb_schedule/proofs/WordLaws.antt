@@ -1,6 +1,6 @@
 -- What the words of a line are, by induction on the words and on the line.
-use Rattle.std.proofs.Common.{◌≡◌, ◌≢◌, ℕ, List, [], ◌∷◌, ◌++◌, false, eqb, refl, sym, ap, ◌∙◌, inl, inr}
-use Rattle.std.specs.List.{onto_first, slice_split, join_with_byte, All}
+use Rattle.std.proofs.Common.{◌≡◌, ◌≢◌, ℕ, List, [], ◌∷◌, false, eqb, refl, ap, ◌∙◌, inl, inr}
+use Rattle.std.specs.List.{onto_first, join_with_byte, All}
 use Rattle.std.proofs.lemmas.Bool.{cases_eq, eq-eqb, ne_eqb}
 use Rattle.std.proofs.lemmas.List.Splits.{slice_split_none, slice_split_at, join_with_byte-slice_split}
 use Rattle.std.proofs.lemmas.List.Elements.{All-nil, All-cons, All-head, All-tail, All-weaker}

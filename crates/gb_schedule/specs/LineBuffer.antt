@@ -1,5 +1,5 @@
 -- How a line buffer keeps what stands in it.
-use Rattle.std.specs.Prelude.{◌≡◌, ℕ, ◌≤◌, slice_range, vec_len}
+use Rattle.std.specs.Prelude.{◌≡◌, ◌≤◌, slice_range, vec_len}
 use Rattle.gb_schedule.specs.declared.lines.TheConstants.{SPACE, READS}
 use Rattle.gb_schedule.specs.declared.lines.LineBuffer.TheInside.{Inside}
 use Rattle.gb_schedule.specs.Buffered.{Buffered, NoLineFeed}

@@ -42,7 +42,8 @@ fn read_u32(word: &[u8]) -> Option<u32>
 
 // A number from the least to the most.
 fn read_between(word: &[u8], least: u64, most: u64) -> Option<u64>
-    ensures { (n : ℕ) → (result ≡ Some n) ↔ ((least ≤ n) × (n ≤ most) × (word.now ≡ decimal n)) }
+    ensures { (n : ℕ) → (result ≡ Some n)
+        ↔ ((least ≤ n) × (n ≤ most) × (word.now ≡ decimal n)) }
 {
     let number = read_number(word, most)?;
     if number < least {
@@ -54,7 +55,8 @@ fn read_between(word: &[u8], least: u64, most: u64) -> Option<u64>
 // A node of a cluster of so many nodes.
 fn read_node(word: &[u8], nodes: u8) -> Option<NodeId>
     requires { (1 ≤ nodes) × (nodes ≤ NODES) }
-    ensures { (node : TheNode) → (result ≡ Some node) ↔ ((node.number < nodes) × (word.now ≡ decimal node.number)) }
+    ensures { (node : TheNode) → (result ≡ Some node)
+        ↔ ((node.number < nodes) × (word.now ≡ decimal node.number)) }
 {
     let number = read_number(word, u64::from(nodes) - 1)?;
     Some(NodeId::new(number as u8))
@@ -63,7 +65,8 @@ fn read_node(word: &[u8], nodes: u8) -> Option<NodeId>
 // An address.
 fn read_address(tenant: &[u8], group: &[u8]) -> Option<Addr>
     ensures { (address : TheAddress) → (result ≡ Some address)
-        ↔ (IsShort address.tenant × (tenant.now ≡ decimal address.tenant) × IsShort address.group × (group.now ≡ decimal address.group)) }
+        ↔ (IsShort address.tenant × (tenant.now ≡ decimal address.tenant)
+        × IsShort address.group × (group.now ≡ decimal address.group)) }
 {
     let tenant = read_u16(tenant)?;
     let group = read_u16(group)?;
@@ -72,7 +75,8 @@ fn read_address(tenant: &[u8], group: &[u8]) -> Option<Addr>
 
 // KIND MEMBERS MSGS BYTES WINDOW
 fn read_spec(words: &[&[u8]]) -> Option<Spec>
-    ensures { (spec : TheSpec) → (result ≡ Some spec) ↔ SpellsSpec spec (map (λ word. word.now) words.now) }
+    ensures { (spec : TheSpec) → (result ≡ Some spec)
+        ↔ SpellsSpec spec (map (λ word. word.now) words.now) }
 {
     let [kind, members, msgs, bytes, window] = words else {
         return None;
@@ -93,7 +97,8 @@ fn read_spec(words: &[&[u8]]) -> Option<Spec>
 
 // cluster N S
 fn read_cluster(words: &[&[u8]]) -> Option<Command>
-    ensures { (command : TheCommand) → (result ≡ Some command) ↔ SpellsCluster command (map (λ word. word.now) words.now) }
+    ensures { (command : TheCommand) → (result ≡ Some command)
+        ↔ SpellsCluster command (map (λ word. word.now) words.now) }
 {
     let [nodes, silence] = words else {
         return None;
@@ -109,7 +114,8 @@ fn read_cluster(words: &[&[u8]]) -> Option<Command>
 // tenant A T GROUPS MSGS BYTES WINDOW
 fn read_tenant(nodes: u8, words: &[&[u8]]) -> Option<Command>
     requires { (1 ≤ nodes) × (nodes ≤ NODES) }
-    ensures { (command : TheCommand) → (result ≡ Some command) ↔ SpellsTenant nodes command (map (λ word. word.now) words.now) }
+    ensures { (command : TheCommand) → (result ≡ Some command)
+        ↔ SpellsTenant nodes command (map (λ word. word.now) words.now) }
 {
     let [node, tenant, groups, msgs, bytes, window] = words else {
         return None;
@@ -134,7 +140,8 @@ fn read_tenant(nodes: u8, words: &[&[u8]]) -> Option<Command>
 // make A T G KIND MEMBERS MSGS BYTES WINDOW
 fn read_make(nodes: u8, words: &[&[u8]]) -> Option<Command>
     requires { (1 ≤ nodes) × (nodes ≤ NODES) }
-    ensures { (command : TheCommand) → (result ≡ Some command) ↔ SpellsMake nodes command (map (λ word. word.now) words.now) }
+    ensures { (command : TheCommand) → (result ≡ Some command)
+        ↔ SpellsMake nodes command (map (λ word. word.now) words.now) }
 {
     let [node, tenant, group, spec @ ..] = words else {
         return None;
@@ -148,7 +155,8 @@ fn read_make(nodes: u8, words: &[&[u8]]) -> Option<Command>
 // open A T G
 fn read_open(nodes: u8, words: &[&[u8]]) -> Option<Command>
     requires { (1 ≤ nodes) × (nodes ≤ NODES) }
-    ensures { (command : TheCommand) → (result ≡ Some command) ↔ SpellsOpen nodes command (map (λ word. word.now) words.now) }
+    ensures { (command : TheCommand) → (result ≡ Some command)
+        ↔ SpellsOpen nodes command (map (λ word. word.now) words.now) }
 {
     let [node, tenant, group] = words else {
         return None;
@@ -161,7 +169,8 @@ fn read_open(nodes: u8, words: &[&[u8]]) -> Option<Command>
 // say A T G PAYLOAD
 fn read_say(alloc: Global, nodes: u8, words: &[&[u8]]) -> Result<Option<Command>, OutOfMemory>
     requires { (1 ≤ nodes) × (nodes ≤ NODES) }
-    ensures { IfOk result (λ found. (command : TheCommand) → (found ≡ Some command) ↔ SpellsSay nodes command (map (λ word. word.now) words.now)) }
+    ensures { IfOk result (λ found. (command : TheCommand) → (found ≡ Some command)
+        ↔ SpellsSay nodes command (map (λ word. word.now) words.now)) }
 {
     let [node, tenant, group, payload] = words else {
         return Ok(None);
@@ -182,7 +191,8 @@ fn read_say(alloc: Global, nodes: u8, words: &[&[u8]]) -> Result<Option<Command>
 // fetch A T G FROM MAX
 fn read_fetch(nodes: u8, words: &[&[u8]]) -> Option<Command>
     requires { (1 ≤ nodes) × (nodes ≤ NODES) }
-    ensures { (command : TheCommand) → (result ≡ Some command) ↔ SpellsFetch nodes command (map (λ word. word.now) words.now) }
+    ensures { (command : TheCommand) → (result ≡ Some command)
+        ↔ SpellsFetch nodes command (map (λ word. word.now) words.now) }
 {
     let [node, tenant, group, from, most] = words else {
         return None;
@@ -197,7 +207,8 @@ fn read_fetch(nodes: u8, words: &[&[u8]]) -> Option<Command>
 // pack A B
 fn read_pack(nodes: u8, words: &[&[u8]]) -> Option<Command>
     requires { (1 ≤ nodes) × (nodes ≤ NODES) }
-    ensures { (command : TheCommand) → (result ≡ Some command) ↔ SpellsPack nodes command (map (λ word. word.now) words.now) }
+    ensures { (command : TheCommand) → (result ≡ Some command)
+        ↔ SpellsPack nodes command (map (λ word. word.now) words.now) }
 {
     let [node, to] = words else {
         return None;
@@ -209,7 +220,8 @@ fn read_pack(nodes: u8, words: &[&[u8]]) -> Option<Command>
 
 // arrive K
 fn read_arrive(words: &[&[u8]]) -> Option<Command>
-    ensures { (command : TheCommand) → (result ≡ Some command) ↔ SpellsArrive command (map (λ word. word.now) words.now) }
+    ensures { (command : TheCommand) → (result ≡ Some command)
+        ↔ SpellsArrive command (map (λ word. word.now) words.now) }
 {
     let [packet] = words else {
         return None;
@@ -225,7 +237,8 @@ fn read_arguments(
     arguments: &[&[u8]],
 ) -> Result<Option<Command>, OutOfMemory>
     requires { ForSome nodes (λ count. (1 ≤ count) × (count ≤ NODES)) }
-    ensures { IfOk result (λ found. (command : TheCommand) → (found ≡ Some command) ↔ Spells head nodes command (map (λ word. word.now) arguments.now)) }
+    ensures { IfOk result (λ found. (command : TheCommand) → (found ≡ Some command)
+        ↔ Spells head nodes command (map (λ word. word.now) arguments.now)) }
 {
     let Some(nodes) = nodes else {
         return Ok(match head {
@@ -245,15 +258,16 @@ fn read_arguments(
     }
 }
 
-/// The command that a line spells, or None where it spells none. `nodes` is how many nodes the cluster has, once there
-/// is one.
+/// The command that a line spells, or None where it spells none. `nodes` is how many nodes the
+/// cluster has, once there is one.
 pub fn read_command(
     alloc: Global,
     nodes: Option<u8>,
     line: &[u8],
 ) -> Result<Option<Command>, OutOfMemory>
     requires { ForSome nodes (λ count. (1 ≤ count) × (count ≤ NODES)) }
-    ensures spelt { IfOk result (λ found. (command : TheCommand) → (found ≡ Some command) ↔ IsCommandLine nodes line.now command) }
+    ensures spelt { IfOk result (λ found. (command : TheCommand) → (found ≡ Some command)
+        ↔ IsCommandLine nodes line.now command) }
     ensures in_place { IfOk result (λ found. IfSome found (IsInPlace nodes)) }
 {
     let words = split_words(alloc, line)?;

@@ -1,4 +1,4 @@
-use Rattle.std.proofs.Common.{◌≡◌, ◌≤◌, ℕ, decimal, arith}
+use Rattle.std.proofs.Common.{◌≡◌, ◌≤◌, decimal}
 use Rattle.gb_schedule.proofs.GrammarLemmas.{found, only, reads_one}
 use Rattle.gb_schedule.proofs.grammar.read_between.Goals as goal
 

@@ -1,5 +1,4 @@
-use Rattle.std.proofs.Common.{◌≡◌, ◌≤◌, ◌<◌, ℕ, decimal, ap, sym, ◌∙◌, arith}
-use Rattle.gb_types.specs.declared.node.NodeId.{NodeId}
+use Rattle.std.proofs.Common.{◌∙◌, arith}
 use Rattle.gb_types.proofs.SameLemmas.{same_number}
 use Rattle.gb_schedule.proofs.GrammarLemmas.{found, only, reads_one}
 use Rattle.gb_schedule.proofs.RowLemmas.{IsNodeWord}

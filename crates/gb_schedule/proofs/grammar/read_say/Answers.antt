@@ -1,6 +1,4 @@
-use Rattle.std.proofs.Common.{◌≡◌, Some, sym, ap, ◌∙◌, arith}
-use Rattle.std.specs.Option.{option_map}
-use Rattle.gb_types.specs.PayloadWord.{payload_of}
+use Rattle.std.proofs.Common.{Some, sym, ap, ◌∙◌, arith}
 use Rattle.gb_schedule.proofs.GrammarLemmas.{words_are}
 use Rattle.gb_schedule.proofs.RowLemmas.{say_reads}
 use Rattle.gb_schedule.proofs.grammar.read_say.Goals as goal
