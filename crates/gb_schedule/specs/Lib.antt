@@ -1,0 +1,7 @@
+pub mod Lines
+pub mod LineLaws
+pub mod Buffered
+pub mod LineBuffer
+pub mod Head
+pub mod Words
+pub mod Grammar
