@@ -1,6 +1,6 @@
 -- How many places say true.
 use Rattle.gb_types.specs.declared.limits.TheConstants.{NODES}
-use Rattle.std.proofs.Common.{◌≡◌, ℕ, ◌+◌, ◌<◌, Bool, true, false, cond, List, [], ◌∷◌, slice_index_or, ◌&&◌, refl, ap, sym, ◌∙◌, arith, count_by, suc, zero, add-one}
+use Rattle.std.proofs.Common.{◌≡◌, ℕ, ◌+◌, ◌<◌, Bool, false, cond, List, [], ◌∷◌, slice_index_or, ◌&&◌, ap, ◌∙◌, arith, count_by, add-one}
 use Rattle.std.specs.FinSet as fin
 use Rattle.std.proofs.lemmas.List.Sums.{sum_by-append}
 use Rattle.gb_types.specs.Places.{places, below}

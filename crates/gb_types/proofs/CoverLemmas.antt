@@ -1,6 +1,6 @@
 -- When each member of a set passes a test.
 use Rattle.gb_types.specs.declared.limits.TheConstants.{NODES}
-use Rattle.std.proofs.Common.{◌≡◌, ℕ, ◌<◌, Bool, true, false, List, [], ◌∷◌, slice_index_or, nat_eq, nat_lt, ◌||◌, ◌&&◌, not, refl, ap, sym, ◌∙◌, arith}
+use Rattle.std.proofs.Common.{◌≡◌, ℕ, ◌<◌, Bool, true, false, List, [], ◌∷◌, slice_index_or, nat_lt, ◌||◌, ◌&&◌, refl, ap, sym, ◌∙◌, arith}
 use Rattle.std.specs.Ordering.{nat_cmp, eq_by_cmp}
 use Rattle.std.specs.List.{list_any, list_all}
 use Rattle.std.specs.FinSet as fin

@@ -1,11 +1,9 @@
 use Rattle.gb_types.specs.declared.limits.TheConstants.{NODES}
-use Rattle.std.proofs.Common.{◌≡◌, ℕ, ◌+◌, ◌<◌, Bool, true, false, List, [], ◌∷◌, slice_index_or, nat_eq, nat_lt, length, set, get_or, ◌||◌, ◌&&◌, refl, ap, sym, ◌∙◌, arith, replicate, zero, suc, get_or-set_other, get_or-set_same, subst, ◌≢◌}
-use Rattle.std.specs.declared.cmp.Ordering.{Ordering}
-use Rattle.std.specs.declared.cmp.Ordering.TheVariants.{Equal}
+use Rattle.std.proofs.Common.{◌≡◌, ℕ, ◌<◌, Bool, true, false, List, slice_index_or, nat_eq, nat_lt, length, set, get_or, ◌||◌, ◌&&◌, refl, ap, sym, ◌∙◌, arith, replicate, zero, suc, get_or-set_other, get_or-set_same, ◌≢◌}
 use Rattle.std.specs.Ordering.{nat_cmp, eq_by_cmp}
 use Rattle.std.specs.List.{list_any}
 use Rattle.std.specs.FinSet as fin
-use Rattle.std.specs.FinSet.{members, nat_cmp-IsAntisymmetric}
+use Rattle.std.specs.FinSet.{nat_cmp-IsAntisymmetric}
 use Rattle.std.specs.Cmp.{nat_cmp_total, unsigned_tied}
 use Rattle.std.proofs.lemmas.Bool.Decides.{nat_tests}
 use Rattle.gb_types.specs.Places.{places, below}

@@ -1,5 +1,5 @@
-// Nodes, and sets of them.
-ghost use Rattle.std.specs.Prelude.{◌≡◌, ℕ, ◌<◌, ◌||◌, ◌&&◌, count_by};
+//! Nodes, and sets of them.
+ghost use Rattle.std.specs.Prelude.{◌≡◌, ℕ, ◌<◌, ◌≤◌, ◌↔◌, ◌||◌, ◌&&◌, count_by, IsNone, IfSome};
 ghost use Rattle.std.specs.List.{list_all};
 ghost use Rattle.std.specs.FinSet as set;
 ghost use Rattle.gb_types.specs.Places.{places, below, common};
@@ -15,8 +15,38 @@ pub struct NodeId {
     ghost below: { number < NODES },
 }
 
-/// A set of nodes.
-#[derive(Drop)]
+impl NodeId {
+    /// The node with this number.
+    pub fn new(number: u8) -> NodeId
+        requires { number < NODES }
+        ensures { result.number ≡ number }
+    {
+        NodeId { number }
+    }
+
+    /// The node with this number, where there may be one.
+    pub fn from_number(number: u8) -> Option<NodeId>
+        ensures none { IsNone result ↔ (NODES ≤ number) }
+        ensures some { IfSome result (λ n. n.number ≡ number) }
+    {
+        if usize::from(number) < NODES {
+            Some(NodeId { number })
+        } else {
+            None
+        }
+    }
+
+    /// Its number, as a place in a table.
+    pub fn index(self) -> usize
+        ensures value { result ≡ self.number }
+        ensures bound { result < NODES }
+    {
+        self.number as usize
+    }
+}
+
+/// A set of nodes. Contracts see a finite set of their numbers.
+#[derive(Debug, Drop)]
 pub struct NodeSet {
     has: [bool; NODES],
 }
@@ -60,12 +90,23 @@ fn count_both(has: &[bool; NODES], other: &[bool; NODES]) -> usize
 }
 
 impl NodeSet {
+    /// No nodes.
     pub fn new() -> NodeSet
         ensures { result ≡ set.empty }
     {
-        NodeSet { has: [false; NODES] }
+        NodeSet {
+            has: [false; NODES],
+        }
     }
 
+    /// The same set.
+    pub fn duplicate(&self) -> NodeSet
+        ensures { result ≡ self.now }
+    {
+        NodeSet { has: self.has }
+    }
+
+    /// Whether the node is in the set.
     pub fn contains(&self, node: NodeId) -> bool
         ensures { result ≡ set.contains self.now node.number }
     {
@@ -86,6 +127,7 @@ impl NodeSet {
         count_both(&self.has, &other.has)
     }
 
+    /// Puts the node in.
     pub fn insert(&mut self, node: NodeId)
         ensures { self.new ≡ set.insert self.old node.number }
     {

@@ -1,5 +1,5 @@
 use Rattle.gb_types.specs.declared.limits.TheConstants.{NODES}
-use Rattle.std.proofs.Common.{◌≡◌, ◌≤◌, ◌+◌, ◌&&◌, ◌<◌, true, false, arith, refl, ap, ◌∙◌, count_by, slice_index_or}
+use Rattle.std.proofs.Common.{◌&&◌, ◌<◌, true, false, arith, ap, slice_index_or}
 use Rattle.gb_types.proofs.CountLemmas.{both_more}
 use Rattle.gb_types.proofs.node.count_both.Goals as goal
 use Rattle.gb_types.proofs.node.count_both.Goals.{then-has-i+then-other-i, else-has-i, else-has-i-via-then-has-i+else-other-i, else-has-i-via-else-has-i}

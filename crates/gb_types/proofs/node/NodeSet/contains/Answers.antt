@@ -1,6 +1,5 @@
 use Rattle.gb_types.specs.declared.limits.TheConstants.{NODES}
 use Rattle.std.proofs.Common.{sym, ◌∙◌, ap, ◌≡◌, nat_lt, true, ◌&&◌, slice_index_or, false, arith}
-use Rattle.std.specs.FinSet as set
 use Rattle.std.proofs.lemmas.Bool.Decides.{nat_tests}
 use Rattle.gb_types.proofs.PlaceLemmas.{contains-places}
 use Rattle.gb_types.proofs.node.NodeSet.contains.Goals as goal

@@ -1,0 +1,9 @@
+pub mod Room
+pub mod Machine
+pub mod Modules
+pub mod Laws
+pub mod Counts
+pub mod BebMachine
+pub mod BebLaws
+pub mod DirectLaws
+pub mod ModuleLaws

@@ -1,0 +1,80 @@
+//! The lowest layer.
+ghost use Rattle.std.specs.Prelude.{◌≡◌, ◌≤◌};
+ghost use Rattle.std.proofs.Common.{arith, refl};
+ghost use Rattle.gb_types.specs.declared.node.NodeId.{NodeId};
+ghost use Rattle.gb_layer.specs.BebMachine.{beb_gives};
+ghost use Rattle.gb_layer.specs.BebLaws.{beb_sends_handed_in, beb_ups_handed_in, beb_up_once, beb_sent_once, beb_noticed_once, fair_once};
+
+use crate::effects::Effects;
+use crate::layer::Layer;
+use gb_types::memory::OutOfMemory;
+use gb_types::message::MsgId;
+use gb_types::node::NodeId;
+
+/// Sends what is said, and hands up what is said and whatever comes, from whichever node (Cachin, Guerraoui,
+/// Rodrigues 2011, Algorithm 3.1, Basic Broadcast).
+#[derive(Drop)]
+pub struct Beb {
+    me: NodeId,
+}
+
+impl Beb {
+    /// A layer at the node me.
+    pub fn new(me: NodeId) -> Beb
+        ensures meaning { ⟦<Beb as Layer>⟧.meaning result ≡ me }
+        ensures fresh { ⟦<Beb as Layer>⟧.is_fresh (⟦<Beb as Layer>⟧.meaning result) }
+    {
+        Beb { me }
+    }
+}
+
+impl Layer for Beb {
+    ghost State = { NodeId };
+
+    ghost meaning = { λ b. b.me };
+
+    ghost me = { λ s. s };
+
+    ghost is_fresh = { λ _. Unit {0} };
+
+    ghost next = { λ s _. s };
+
+    ghost gives = { beb_gives };
+
+    ghost has_room = { λ _ sends ups calls. (calls ≤ sends) × (calls ≤ ups) };
+
+    fn me(&self) -> NodeId {
+        self.me
+    }
+
+    fn ready(&mut self, calls: usize, out: &mut Effects) -> Result<(), OutOfMemory> {
+        out.sends.reserve(calls)?;
+        out.ups.reserve(calls)?;
+        Ok(())
+    }
+
+    fn say(&mut self, m: MsgId, out: &mut Effects) {
+        out.send(m);
+        out.up(self.me, m);
+    }
+
+    fn came(&mut self, from: NodeId, m: MsgId, out: &mut Effects) {
+        out.up(from, m);
+    }
+
+    fn notice(&mut self, _who: NodeId, _out: &mut Effects) {}
+
+    ghost roomier = { λ x a b n a' b' n' h i j k. Prim.omega arith };
+
+    ghost me_stays = { λ s c. refl };
+
+    ghost sends_handed_in = { λ s past m _. beb_sends_handed_in s past m };
+
+    ghost ups_handed_in = { λ s past m _. beb_ups_handed_in s past m };
+
+    ghost up_once = { λ s past via m _ h. beb_up_once s past via m (fair_once s.number past h) };
+
+    ghost sent_once = { λ s past m _ h. beb_sent_once s past m (fair_once s.number past h) };
+
+    ghost noticed_once = { λ s past q _ _. beb_noticed_once s past q };
+}

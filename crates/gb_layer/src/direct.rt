@@ -1,0 +1,104 @@
+//! A layer that lets through what came from where it was made.
+ghost use Rattle.std.specs.Prelude.{◌≡◌, ◌≤◌, ◌++◌, take, drop, filter, vec_len, vec_capacity};
+ghost use Rattle.gb_layer.specs.Machine.{is_own, own_gives};
+ghost use Rattle.gb_layer.specs.DirectLaws.{direct_sends_handed_in, direct_ups_handed_in, direct_up_once, direct_sent_once, direct_noticed_once, own_pairs};
+
+use crate::effects::{Effects, Up};
+use crate::layer::{Broadcast, Layer};
+use gb_types::memory::OutOfMemory;
+use gb_types::message::MsgId;
+use gb_types::node::NodeId;
+
+/// Keeps, of the pairs from a place on, those that came from where the message was made.
+fn keep_own(ups: &mut Vec<Up>, from: usize)
+    requires { from ≤ vec_len ups.old }
+    ensures items { ups.new.items ≡ take from ups.old.items ++ filter is_own (drop from ups.old.items) }
+    ensures len { vec_len ups.new ≤ vec_len ups.old }
+    ensures capacity { vec_capacity ups.new ≡ vec_capacity ups.old }
+{
+    let mut at = from;
+    while at < ups.len() {
+        let up = ups[at];
+        if up.via == up.m.origin {
+            at += 1;
+        } else {
+            let _ = ups.remove(at);
+        }
+    }
+}
+
+/// Hands up only what came from where it was made; a copy that another node relayed stays below. All else is
+/// the lower layer's. `Direct<Beb>` is best-effort broadcast (Cachin, Guerraoui, Rodrigues 2011, Module 3.1).
+#[derive(Drop)]
+pub struct Direct<L> {
+    pub lower: L,
+}
+
+impl<L: Layer> Direct<L> {
+    /// A layer over another, in which it is all that is remembered.
+    pub fn new(lower: L) -> Direct<L>
+        ensures { ⟦<Direct<L> as Layer>⟧.meaning result ≡ L.meaning lower }
+    {
+        Direct { lower }
+    }
+}
+
+impl<L: Layer> Layer for Direct<L> {
+    ghost State = { L.State };
+
+    ghost meaning = { λ d. L.meaning d.lower };
+
+    ghost me = { L.me };
+
+    ghost is_fresh = { L.is_fresh };
+
+    ghost next = { L.next };
+
+    ghost gives = { λ s c. own_gives (L.gives s c) };
+
+    ghost has_room = { λ d. L.has_room d.lower };
+
+    fn me(&self) -> NodeId {
+        self.lower.me()
+    }
+
+    fn ready(&mut self, calls: usize, out: &mut Effects) -> Result<(), OutOfMemory> {
+        self.lower.ready(calls, out)
+    }
+
+    fn say(&mut self, m: MsgId, out: &mut Effects) {
+        let first = out.ups.len();
+        self.lower.say(m, out);
+        keep_own(&mut out.ups, first);
+    }
+
+    fn came(&mut self, from: NodeId, m: MsgId, out: &mut Effects) {
+        let first = out.ups.len();
+        self.lower.came(from, m, out);
+        keep_own(&mut out.ups, first);
+    }
+
+    fn notice(&mut self, who: NodeId, out: &mut Effects) {
+        let first = out.ups.len();
+        self.lower.notice(who, out);
+        keep_own(&mut out.ups, first);
+    }
+
+    ghost roomier = { λ d. L.roomier d.lower };
+
+    ghost me_stays = { L.me_stays };
+
+    ghost sends_handed_in = { direct_sends_handed_in L.next L.gives L.is_fresh L.sends_handed_in };
+
+    ghost ups_handed_in = { direct_ups_handed_in L.next L.gives L.is_fresh L.ups_handed_in };
+
+    ghost up_once = { direct_up_once L.next L.gives L.is_fresh L.me L.up_once };
+
+    ghost sent_once = { direct_sent_once L.next L.gives L.is_fresh L.me L.sent_once };
+
+    ghost noticed_once = { direct_noticed_once L.next L.gives L.is_fresh L.noticed_once };
+}
+
+impl<L: Layer> Broadcast for Direct<L> {
+    ghost own_via = { λ s c. own_pairs (L.gives s c).ups };
+}

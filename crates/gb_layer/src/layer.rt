@@ -1,0 +1,129 @@
+//! What a layer is.
+ghost use Rattle.std.specs.Prelude.{◌≡◌, ℕ, ◌+◌, ◌≤◌, ◌++◌, OnOk};
+ghost use Rattle.gb_types.specs.declared.node.NodeId.{NodeId};
+ghost use Rattle.gb_layer.specs.declared.call.Call.{Call};
+ghost use Rattle.gb_layer.specs.declared.call.Call.TheVariants.{Say, Came, Notice};
+ghost use Rattle.gb_layer.specs.Laws.{StaysAtItsNode, ComesFromItsOrigin, SendsWhatWasHandedIn, HandsUpWhatWasHandedIn, HandsUpOnce, SendsOnce, NoticesOnce};
+ghost use Rattle.gb_layer.specs.Machine.{Gives};
+ghost use Rattle.gb_layer.specs.Room.{free_sends, free_ups};
+
+use crate::call::Call;
+use crate::effects::Effects;
+use gb_types::memory::OutOfMemory;
+use gb_types::message::MsgId;
+use gb_types::node::NodeId;
+
+/// A layer of a broadcast at one node.
+///
+/// What a call gives, and what the layer then remembers, is a function of what it remembered and of the call:
+/// `gives` and `next`. What it gives is appended to `out`, whose earlier items stay. No call but `ready` takes
+/// memory.
+///
+/// The caller owes: each message is said at most once; no pair of a sender and a message comes twice; `from`
+/// and `who` are other nodes. Where it does not keep these, each call still does as `gives` and `next` say,
+/// and only the two laws `up_once` and `sent_once` are lost.
+pub trait Layer {
+    /// What the layer remembers.
+    ghost State: { Type 0 };
+
+    ghost meaning: { Self → State };
+
+    /// The node where the layer is.
+    ghost me: { State → NodeId };
+
+    /// Nothing was handed in yet.
+    ghost is_fresh: { State → Type 0 };
+
+    /// The state after a call.
+    ghost next: { State → Call → State };
+
+    /// What a call gives.
+    ghost gives: { State → Call → Gives };
+
+    /// Where so many more sends and so many more pairs fit into `out`, the next calls, so many, take no memory,
+    /// also if nobody empties `out` between them.
+    ghost has_room: { Self → ℕ → ℕ → ℕ → Type 0 };
+
+    /// The node where the layer is.
+    fn me(&self) -> NodeId
+        ensures { result ≡ me (meaning self.now) };
+
+    /// Makes room for the next `calls` calls, in the layer and in `out`. A refusal changes nothing that is
+    /// remembered or was given.
+    fn ready(&mut self, calls: usize, out: &mut Effects) -> Result<(), OutOfMemory>
+        ensures meaning { meaning self.new ≡ meaning self.old }
+        ensures sends { out.new.sends.items ≡ out.old.sends.items }
+        ensures ups { out.new.ups.items ≡ out.old.ups.items }
+        ensures room { OnOk result (has_room self.new (free_sends out.new) (free_ups out.new) calls) };
+
+    /// Broadcasts m, a message of this node.
+    fn say(&mut self, m: MsgId, out: &mut Effects)
+        requires { has_room self.old (free_sends out.old) (free_ups out.old) 1 }
+        ensures meaning { meaning self.new ≡ next (meaning self.old) (Say m) }
+        ensures sends { out.new.sends.items ≡ out.old.sends.items ++ (gives (meaning self.old) (Say m)).sends }
+        ensures ups { out.new.ups.items ≡ out.old.ups.items ++ (gives (meaning self.old) (Say m)).ups }
+        ensures room { (n : ℕ) → has_room self.old (free_sends out.old) (free_ups out.old) (n + 1)
+            → has_room self.new (free_sends out.new) (free_ups out.new) n };
+
+    /// Takes m, which came from another node: its origin, or a node that relayed it.
+    fn came(&mut self, from: NodeId, m: MsgId, out: &mut Effects)
+        requires { has_room self.old (free_sends out.old) (free_ups out.old) 1 }
+        ensures meaning { meaning self.new ≡ next (meaning self.old) (Came from m) }
+        ensures sends { out.new.sends.items ≡ out.old.sends.items ++ (gives (meaning self.old) (Came from m)).sends }
+        ensures ups { out.new.ups.items ≡ out.old.ups.items ++ (gives (meaning self.old) (Came from m)).ups }
+        ensures room { (n : ℕ) → has_room self.old (free_sends out.old) (free_ups out.old) (n + 1)
+            → has_room self.new (free_sends out.new) (free_ups out.new) n };
+
+    /// Takes note that another node has stopped.
+    fn notice(&mut self, who: NodeId, out: &mut Effects)
+        requires { has_room self.old (free_sends out.old) (free_ups out.old) 1 }
+        ensures meaning { meaning self.new ≡ next (meaning self.old) (Notice who) }
+        ensures sends { out.new.sends.items ≡ out.old.sends.items ++ (gives (meaning self.old) (Notice who)).sends }
+        ensures ups { out.new.ups.items ≡ out.old.ups.items ++ (gives (meaning self.old) (Notice who)).ups }
+        ensures room { (n : ℕ) → has_room self.old (free_sends out.old) (free_ups out.old) (n + 1)
+            → has_room self.new (free_sends out.new) (free_ups out.new) n };
+
+    /// Takes any of the three calls.
+    fn take(&mut self, call: Call, out: &mut Effects)
+        requires { has_room self.old (free_sends out.old) (free_ups out.old) 1 }
+        ensures meaning { meaning self.new ≡ next (meaning self.old) call }
+        ensures sends { out.new.sends.items ≡ out.old.sends.items ++ (gives (meaning self.old) call).sends }
+        ensures ups { out.new.ups.items ≡ out.old.ups.items ++ (gives (meaning self.old) call).ups }
+        ensures room { (n : ℕ) → has_room self.old (free_sends out.old) (free_ups out.old) (n + 1)
+            → has_room self.new (free_sends out.new) (free_ups out.new) n }
+    {
+        match call {
+            Call::Say(m) => self.say(m, out),
+            Call::Came(from, m) => self.came(from, m, out),
+            Call::Notice(who) => self.notice(who, out),
+        }
+    }
+
+    /// More free places are room for as many calls, or fewer.
+    ghost roomier: { (x : Self) (a b n a' b' n' : ℕ) → a ≤ a' → b ≤ b' → n' ≤ n → has_room x a b n → has_room x a' b' n' };
+
+    /// A layer stays at its node.
+    ghost me_stays: { StaysAtItsNode next me };
+
+    /// Only what was handed in is sent.
+    ghost sends_handed_in: { SendsWhatWasHandedIn next gives is_fresh };
+
+    /// Only what was handed in comes up.
+    ghost ups_handed_in: { HandsUpWhatWasHandedIn next gives is_fresh };
+
+    /// No pair comes up twice, where the caller keeps its conditions.
+    ghost up_once: { HandsUpOnce next gives is_fresh me };
+
+    /// No message is sent twice, where the caller keeps its conditions.
+    ghost sent_once: { SendsOnce next gives is_fresh me };
+
+    /// A second notice of a node has no effect.
+    ghost noticed_once: { NoticesOnce next gives is_fresh };
+}
+
+/// A layer that hands up each message as if it came from where it was made: so no message comes up twice,
+/// where the caller keeps its conditions.
+pub trait Broadcast: Layer {
+    /// Whatever comes up came from where it was made.
+    ghost own_via: { ComesFromItsOrigin Self.gives };
+}

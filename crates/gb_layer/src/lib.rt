@@ -1,0 +1,19 @@
+//! A broadcast at one node, in layers: what is said here, and what comes from other nodes, goes through a
+//! layer, which answers what to send to the other members and what comes up.
+//!
+//! A layer neither sends nor keeps a payload, knows no clock and takes no memory in a call for which it was
+//! made ready. It is given calls, and gives messages by their names.
+//!
+//! Read `layer::Layer` first: a layer's contract, and the laws that each layer owes. `beb::Beb` is the lowest
+//! layer, and `direct::Direct<Beb>` the broadcast by best effort. What the modules of broadcast mean, whatever
+//! computes them, stands in specs/Modules.antt, as tests on all that ever came; `modules` says which layers
+//! are which module, and `plain` computes the modules slowly, straight from their meaning.
+#![tactic(auto)]
+
+pub mod base;
+pub mod beb;
+pub mod call;
+pub mod direct;
+pub mod effects;
+pub mod layer;
+pub mod modules;

@@ -1,0 +1,107 @@
+//! Messages with what they say.
+ghost use Rattle.std.specs.Prelude.{◌≡◌, ◌==◌, ◌∷◌, ◌++◌, [], length, OnOk, OnErr, IfOk};
+
+use crate::memory::OutOfMemory;
+use crate::message::MsgId;
+use crate::node::NodeId;
+use crate::payload::Payload;
+use std::alloc::Global;
+use std::marker::Model;
+
+/// A message with what it says.
+#[derive(Debug, Drop)]
+pub struct Entry {
+    pub origin: NodeId,
+    /// 1 for the first message of its origin in its group.
+    pub seq: u16,
+    pub payload: Payload,
+}
+
+impl Entry {
+    ghost use Rattle.gb_types.specs.Entry.{message_of};
+
+    /// Which message it is.
+    pub fn message(&self) -> MsgId
+        ensures { result ≡ message_of self.now }
+    {
+        MsgId {
+            origin: self.origin,
+            seq: self.seq,
+        }
+    }
+
+    /// The same entry, copied.
+    pub fn duplicate(&self, alloc: Global) -> Result<Entry, OutOfMemory>
+        ensures { IfOk result (λ e. e ≡ self.now) }
+    {
+        let payload = self.payload.duplicate(alloc)?;
+        Ok(Entry {
+            origin: self.origin,
+            seq: self.seq,
+            payload,
+        })
+    }
+}
+
+/// Entries in order. Contracts see the list.
+#[derive(Debug, Drop)]
+pub struct Entries {
+    items: Vec<Entry>,
+}
+
+impl Model for Entries {
+    ghost use Rattle.std.specs.Prelude.{List};
+    ghost use Rattle.gb_types.specs.declared.entry.Entry.{Entry};
+
+    ghost Value = { List Entry };
+
+    ghost view = { λ e. e.items.items };
+}
+
+impl Entries {
+    /// None.
+    pub fn new(alloc: Global) -> Entries
+        ensures { result ≡ [] }
+    {
+        Entries {
+            items: Vec::new(alloc),
+        }
+    }
+
+    pub fn len(&self) -> usize
+        ensures { result ≡ length self.now }
+    {
+        self.items.len()
+    }
+
+    /// Whether there are none.
+    pub fn is_empty(&self) -> bool
+        ensures { result ≡ (length self.now == 0) }
+    {
+        self.items.is_empty()
+    }
+
+    pub fn as_slice(&self) -> &[Entry]
+        ensures { result.now ≡ self.now }
+    {
+        self.items.as_slice()
+    }
+
+    /// Adds an entry at the end. Without memory nothing has changed, and the entry is lost.
+    pub fn push(&mut self, entry: Entry) -> Result<(), OutOfMemory>
+        ensures ok { OnOk result (self.new ≡ self.old ++ entry ∷ []) }
+        ensures err { OnErr result (self.new ≡ self.old) }
+    {
+        self.items.reserve(1)?;
+        self.items.push_reserved(entry);
+        Ok(())
+    }
+}
+
+impl From<Vec<Entry>> for Entries {
+    ghost from_gives = { λ v e. e ≡ v.items };
+
+    fn from(items: Vec<Entry>) -> Entries {
+        Entries { items }
+    }
+}

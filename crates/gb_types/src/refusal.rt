@@ -1,0 +1,109 @@
+//! Why a request is refused.
+ghost use Rattle.std.specs.Prelude.{◌≡◌};
+
+use thiserror::Error;
+
+/// Why a request was refused. Nothing has changed then.
+#[derive(Clone, Copy, Debug, PartialEq, Eq, Error)]
+pub enum Refusal {
+    /// The token is not the one that the request needs, or the tenant is not known here.
+    #[error("denied")]
+    Denied,
+    /// The group was never made here, or its number is not below the tenant's.
+    #[error("no such group")]
+    NoGroup,
+    /// The group was made here before, or is given up.
+    #[error("the group's number is spent")]
+    Spent,
+    /// The members are none, without this node, or beyond the cluster.
+    #[error("bad members")]
+    BadMembers,
+    /// More is asked than the tenant has, or than the service gives.
+    #[error("over the reserve")]
+    OverReserve,
+    /// The group is not in the phase that the request needs.
+    #[error("wrong phase")]
+    WrongPhase,
+    /// The payload is longer than the longest.
+    #[error("the payload is too long")]
+    TooLong,
+    /// All messages that the group allows this member are said.
+    #[error("the budget of messages is spent")]
+    Budget,
+    /// The payload would pass the bytes that the group allows this member.
+    #[error("the budget of bytes is spent")]
+    Bytes,
+    /// As many own messages are unfinished as the group allows.
+    #[error("the window is full")]
+    Window,
+    /// The place is beyond the log, or too many entries are asked for.
+    #[error("bad place")]
+    BadPlace,
+    /// The node has no place for so many groups.
+    #[error("no room")]
+    NoRoom,
+    /// The tenant is there already.
+    #[error("the tenant is there")]
+    TenantThere,
+    /// The request is not in the grammar.
+    #[error("malformed")]
+    Malformed,
+    /// The node has stopped.
+    #[error("stopped")]
+    Stopped,
+    /// A request for memory was refused.
+    #[error("out of memory")]
+    OutOfMemory,
+}
+
+impl Refusal {
+    ghost use Rattle.gb_types.specs.Refusal.{refusal_number, refusal_name};
+
+    /// Its number, 1 to 16.
+    pub fn number(self) -> u8
+        ensures { result ≡ refusal_number self }
+    {
+        match self {
+            Refusal::Denied => 1,
+            Refusal::NoGroup => 2,
+            Refusal::Spent => 3,
+            Refusal::BadMembers => 4,
+            Refusal::OverReserve => 5,
+            Refusal::WrongPhase => 6,
+            Refusal::TooLong => 7,
+            Refusal::Budget => 8,
+            Refusal::Bytes => 9,
+            Refusal::Window => 10,
+            Refusal::BadPlace => 11,
+            Refusal::NoRoom => 12,
+            Refusal::TenantThere => 13,
+            Refusal::Malformed => 14,
+            Refusal::Stopped => 15,
+            Refusal::OutOfMemory => 16,
+        }
+    }
+
+    /// Its name, as it is written.
+    pub fn name(self) -> &'static str
+        ensures { result.now ≡ refusal_name self }
+    {
+        match self {
+            Refusal::Denied => "Denied",
+            Refusal::NoGroup => "NoGroup",
+            Refusal::Spent => "Spent",
+            Refusal::BadMembers => "BadMembers",
+            Refusal::OverReserve => "OverReserve",
+            Refusal::WrongPhase => "WrongPhase",
+            Refusal::TooLong => "TooLong",
+            Refusal::Budget => "Budget",
+            Refusal::Bytes => "Bytes",
+            Refusal::Window => "Window",
+            Refusal::BadPlace => "BadPlace",
+            Refusal::NoRoom => "NoRoom",
+            Refusal::TenantThere => "TenantThere",
+            Refusal::Malformed => "Malformed",
+            Refusal::Stopped => "Stopped",
+            Refusal::OutOfMemory => "OutOfMemory",
+        }
+    }
+}

@@ -1,0 +1,19 @@
+//! What a caller may ask of a node.
+use crate::address::Addr;
+use crate::payload::Payload;
+use crate::spec::{Spec, TenantRow};
+
+/// A request at a node, with the token that it is asked under.
+#[derive(Drop)]
+pub enum Request {
+    /// Takes a tenant in.
+    AddTenant([u8; 32], TenantRow),
+    /// Makes a group, in which nothing can be said yet.
+    Make([u8; 32], Addr, Spec),
+    /// Opens a group for its member's messages.
+    OpenGroup([u8; 32], Addr),
+    /// Broadcasts a payload to the group.
+    Say([u8; 32], Addr, Payload),
+    /// Reads the group's log from a place on, so many entries at most.
+    Fetch([u8; 32], Addr, u32, u32),
+}
