@@ -34,8 +34,8 @@ tells_more first second n difference so_far =
           rw (before, same n (omega arith), xor_self) refl;
     }
 
-pub tells_all : (first second : List ℕ) (n difference : ℕ) → length first ≡ n → length second ≡ n → TellsBelow first second n difference → (difference ≡ 0) ↔ (first ≡ second)
-tells_all first second n difference len1 len2 told = (
-  λ none. same_lists first second (omega arith) (λ k d below. get_or_default first k d 0 below ∙ told.agree none k (omega arith) ∙ get_or_default second k 0 d (omega arith)),
+pub tells_all : (first second : List ℕ) (difference : ℕ) → length first ≡ length second → TellsBelow first second (length first) difference → (difference ≡ 0) ↔ (first ≡ second)
+tells_all first second difference len told = (
+  λ none. same_lists first second len (λ k d below. get_or_default first k d 0 below ∙ told.agree none k below ∙ get_or_default second k 0 d (omega arith)),
   λ same. told.zero (λ k below. ap (λ xs. get_or xs k 0) same),
 )

@@ -3,7 +3,7 @@
 //! hash function of our own: SHA-256 is the crate `sha2`. Read `token::Need` and `hmac::HmacKey` first.
 #![tactic(auto)]
 
-mod compare;
+pub mod compare;
 pub mod hmac;
 #[cfg(test)]
 mod tests;
