@@ -1,0 +1,4 @@
+pub mod Packet
+pub mod Spelling
+pub mod Reading
+pub mod Faults
