@@ -1,5 +1,5 @@
 -- Reading bytes as a packet, as a function on lists.
-use Rattle.std.specs.Prelude.{◌≡◌, ℕ, zero, suc, ◌+◌, ◌-◌, ◌%◌, ◌<◌, Bool, ◌||◌, ◌&&◌, not, nat_lt, nat_eq, List, [], ◌∷◌, length, take, drop, is_none, ◌==◌, Option, Some, None, option_and_then, Result, Ok, Err, if◌then◌else◌, slice_index}
+use Rattle.std.specs.Prelude.{◌≡◌, ℕ, zero, suc, ◌+◌, ◌-◌, ◌%◌, ◌<◌, Bool, ◌||◌, ◌&&◌, not, nat_lt, nat_eq, List, [], ◌∷◌, length, take, drop, is_none, find, ◌==◌, Option, Some, None, option_and_then, Result, Ok, Err, if◌then◌else◌, slice_index}
 use Rattle.std.specs.Cmp.Lexicographic.{pointwise}
 use Rattle.std.specs.Int.{Width, w16, w64, byte_len, from_be_bytes}
 use Rattle.gb_types.specs.declared.limits.TheConstants.{NODES, PAYLOAD, PACKET}
@@ -89,20 +89,26 @@ is_counted bytes = if frame_in bytes == 0 then count_in bytes == 0 else nat_lt 0
 abbrev pub is_tagged : List ℕ → List ℕ → Bool
 is_tagged key bytes = pointwise nat_eq (tag_in bytes) (tag_of key (tagged_in bytes))
 
--- the first fault, test by test
+-- the test of each fault
+abbrev pub test : List ℕ → List ℕ → PacketFault → Bool
+test key bytes Short = nat_lt (length bytes) SHORTEST
+test key bytes Magic = not (is_magic bytes)
+test key bytes Version = not (version_in bytes == VERSION)
+test key bytes Node = not (is_between_nodes bytes)
+test key bytes Mask = not (is_acknowledgement bytes)
+test key bytes Count = not (is_counted bytes)
+test key bytes Length = is_none (parsed bytes)
+test key bytes Trailing = nat_lt 0 (length (left_over (parsed bytes)))
+test key bytes TooLong = nat_lt PACKET (length bytes)
+test key bytes Tag = not (is_tagged key bytes)
+
+-- the faults in the order of the checks
+abbrev pub faults : List PacketFault
+faults = Short ∷ Magic ∷ Version ∷ Node ∷ Mask ∷ Count ∷ Length ∷ Trailing ∷ TooLong ∷ Tag ∷ []
+
+-- the first fault whose test says so
 unfoldable pub fault_in : List ℕ → List ℕ → Option PacketFault
-fault_in key bytes =
-    if nat_lt (length bytes) SHORTEST then Some Short
-    else if not (is_magic bytes) then Some Magic
-    else if not (version_in bytes == VERSION) then Some Version
-    else if not (is_between_nodes bytes) then Some Node
-    else if not (is_acknowledgement bytes) then Some Mask
-    else if not (is_counted bytes) then Some Count
-    else if is_none (parsed bytes) then Some Length
-    else if nat_lt 0 (length (left_over (parsed bytes))) then Some Trailing
-    else if nat_lt PACKET (length bytes) then Some TooLong
-    else if not (is_tagged key bytes) then Some Tag
-    else None
+fault_in key bytes = find (test key bytes) faults
 
 -- what bytes without a fault say
 abbrev pub content_in : List ℕ → Content
