@@ -1,6 +1,6 @@
 -- Reading finds a packet exactly in its text, and otherwise the first fault of the table.
 use Rattle.std.proofs.Common.{◌≡◌, ◌≢◌, ℕ, suc, ◌+◌, ◌-◌, ◌*◌, ◌^◌, ◌<◌, ◌≤◌, Bool, true, false, cond, eqb, ltb, List, [], ◌∷◌, ◌++◌, length, get_or, take, drop, codes, Option, Some, None, Result, Ok, Err, refl, sym, ap, subst, ◌∙◌, append_assoc, arith, inl, inr, ◌⊎◌}
-use Rattle.std.specs.Prelude.{find, not, ◌&&◌, ◌==◌, ◌%◌, ◌↔◌, nat_lt, nat_eq, is_none, All, if◌then◌else◌}
+use Rattle.std.specs.Prelude.{find, not, ◌&&◌, ◌==◌, ◌%◌, ◌↔◌, nat_lt, nat_eq, is_none, IfNone, IfSome, IsSome, is_some, All, if◌then◌else◌}
 use Rattle.std.specs.Cmp.Lexicographic.{pointwise, same_text, other_text}
 use Rattle.std.specs.Int.{w16, w64, to_be_bytes}
 use Rattle.std.proofs.Math.Seq.{drop-cons}
@@ -15,11 +15,12 @@ use Rattle.gb_frame.specs.declared.fault.PacketFault.TheVariants.{Short, Magic, 
 use Rattle.gb_frame.specs.declared.item.Item.{Item}
 use Rattle.gb_frame.specs.Packet.{Content}
 use Rattle.gb_frame.specs.Spelling.{items_text, tagged_text, tag_of, packet_text, IsBytes, IsItem, IsWithinLimits, IsPacket, IsText}
-use Rattle.gb_frame.specs.Reading.{number_at, faults, test, fault_in, content_in, reading, is_magic, is_between_nodes, is_acknowledgement, is_counted, is_tagged, version_in, from_in, to_in, base_in, mask_in, frame_in, count_in, items_in, parsed, left_over, items_of, tag_in, tagged_in}
+use Rattle.gb_frame.specs.Reading.{number_at, unless, faults, test, fault_in, content_in, reading, is_magic, is_between_nodes, is_acknowledgement, is_counted, is_tagged, version_in, from_in, to_in, base_in, mask_in, frame_in, count_in, items_in, parsed, left_over, items_of, tag_in, tagged_in}
 use Rattle.gb_frame.specs.Faults.{fault_number, Stand, Holds, IsFirstFault}
+use Rattle.gb_frame.specs.Laws.{WhatIsWrittenIsRead}
 use Rattle.gb_frame.proofs.Numbers.{IsBytes-take, IsBytes-drop, wide16, wide64, cut, number_below}
 use Rattle.gb_frame.proofs.ItemLaws.{items_take, stand_again, some_is}
-use Rattle.gb_frame.proofs.TextLaws.{Reads, text_reads, one_packet, length-tag_of}
+use Rattle.gb_frame.proofs.TextLaws.{Reads, text_reads}
 use Rattle.gb_frame.proofs.FaultLaws.{First, found_first, found_none, faults_numbered, below_eleven, not-true, not-false, IsGood, magic_there, magic_told, counted_there, nodes_there, acknowledged_there, parsed_there}
 
 -- ---- a test that says so
@@ -60,17 +61,17 @@ count_wrong n m e =
       | false ↦ λ h f. inr (λ none. let t = eq-eqb _ _ none in cc, let le = ltb-false _ _ f in omega arith)
     ] refl e
 
-says : (key bytes : List ℕ) → IsBytes bytes → (f : PacketFault) → test key bytes f ≡ true → Holds key bytes f
-says key bytes fits Short e = ltb-true _ _ e
-says key bytes fits Magic e = λ there. let t = magic_told bytes there in let n = not-true _ e in cc
-says key bytes fits Version e = λ there. let t = eq-eqb _ _ there in let n = not-true _ e in cc
-says key bytes fits Node e = nodes_wrong (from_in bytes) (to_in bytes) NODES (not-true _ e)
-says key bytes fits Mask e = acknowledgement_wrong (base_in bytes) (mask_in bytes) (not-true _ e)
-says key bytes fits Count e = count_wrong (frame_in bytes) (count_in bytes) (not-true _ e)
-says key bytes fits Length e = none_stand key bytes e
-says key bytes fits Trailing e = left_stand key bytes fits (parsed bytes) refl e
-says key bytes fits TooLong e = ltb-true _ _ e
-says key bytes fits Tag e = other_text (tag_in bytes) (tag_of key (tagged_in bytes)) (sym (not-true _ e))
+says : (key bytes : List ℕ) (f : PacketFault) → (f ≡ Trailing → IsBytes bytes) → test key bytes f ≡ true → Holds key bytes f
+says key bytes Short fits e = ltb-true _ _ e
+says key bytes Magic fits e = λ there. let t = magic_told bytes there in let n = not-true _ e in cc
+says key bytes Version fits e = λ there. let t = eq-eqb _ _ there in let n = not-true _ e in cc
+says key bytes Node fits e = nodes_wrong (from_in bytes) (to_in bytes) NODES (not-true _ e)
+says key bytes Mask fits e = acknowledgement_wrong (base_in bytes) (mask_in bytes) (not-true _ e)
+says key bytes Count fits e = count_wrong (frame_in bytes) (count_in bytes) (not-true _ e)
+says key bytes Length fits e = none_stand key bytes e
+says key bytes Trailing fits e = left_stand key bytes (fits refl) (parsed bytes) refl e
+says key bytes TooLong fits e = ltb-true _ _ e
+says key bytes Tag fits e = other_text (tag_in bytes) (tag_of key (tagged_in bytes)) (sym (not-true _ e))
 
 -- ---- a test that doesn't
 
@@ -108,7 +109,7 @@ pub is_first_fault : (key bytes : List ℕ) (f : PacketFault) → IsBytes bytes 
 unfolding fault_in
 is_first_fault key bytes f fits e =
     let t = found_first (test key bytes) 1 faults f faults_numbered e in
-    record { holds = says key bytes fits f t.passes; first = λ g lower. denies key bytes fits g (t.earlier g (below_eleven g).0 lower) }
+    record { holds = says key bytes f (λ _. fits) t.passes; first = λ g lower. denies key bytes fits g (t.earlier g (below_eleven g).0 lower) }
 
 all_denied : (key bytes : List ℕ) → fault_in key bytes ≡ None → (f : PacketFault) → test key bytes f ≡ false
 unfolding fault_in
@@ -116,7 +117,7 @@ all_denied key bytes e f = found_none (test key bytes) 1 faults faults_numbered 
 
 -- ---- bytes without a fault are a packet's text
 
-good : (key bytes : List ℕ) → fault_in key bytes ≡ None → IsGood key bytes
+pub good : (key bytes : List ℕ) → fault_in key bytes ≡ None → IsGood key bytes
 good key bytes none =
     let t = all_denied key bytes none in
     let nodes = nodes_there (from_in bytes) (to_in bytes) NODES (not-false _ (t Node)) in
@@ -191,11 +192,13 @@ is_text key bytes fits none =
     let s : Stand (count_in bytes) (items_in bytes) (items_of (parsed bytes)) [] = items_take (count_in bytes) (items_in bytes) (items_of (parsed bytes), []) (IsBytes-drop HEADER (tagged_in bytes) (IsBytes-take (length bytes - TAG) bytes fits)) g.parsed in
     (record {
       limits = within key bytes g s;
-      from = g.from;
-      to = g.to;
-      base = number_below w64 (2 ^ 64) wide64 5 bytes fits;
-      mask = number_below w64 (2 ^ 64) wide64 13 bytes fits;
-      frame = number_below w64 (2 ^ 64) wide64 21 bytes fits;
+      fields = record {
+        from = g.from;
+        to = g.to;
+        base = number_below w64 (2 ^ 64) wide64 5 bytes fits;
+        mask = number_below w64 (2 ^ 64) wide64 13 bytes fits;
+        frame = number_below w64 (2 ^ 64) wide64 21 bytes fits;
+      };
       items = s.fit;
     }, spelled key bytes fits g s)
 
@@ -212,9 +215,9 @@ no_fault key bytes c t f =
       | Magic ↦ λ h. h r.magic
       | Version ↦ λ h. h r.version
       | Node ↦ λ h. elim h [
-          | inl a ↦ let e = r.from in let b = p.from in absurd (omega arith)
+          | inl a ↦ let e = r.from in let b = p.fields.from in absurd (omega arith)
           | inr g ↦ elim g [
-              | inl a ↦ let e = r.to in let b = p.to in absurd (omega arith)
+              | inl a ↦ let e = r.to in let b = p.fields.to in absurd (omega arith)
               | inr same ↦ p.limits.apart (sym r.from ∙ same ∙ r.to)
             ]
         ]
@@ -232,12 +235,56 @@ no_fault key bytes c t f =
       | Tag ↦ λ h. h (r.tag ∙ ap (tag_of key) (sym r.tagged))
     ]
 
-nothing_found : (key bytes : List ℕ) (c : Content) → IsBytes bytes → IsText key bytes c → (o : Option PacketFault) → fault_in key bytes ≡ o → fault_in key bytes ≡ None
-nothing_found key bytes c fits t None e = e
-nothing_found key bytes c fits t (Some f) e = absurd (no_fault key bytes c t f (is_first_fault key bytes f fits e).holds)
+untested : (key bytes : List ℕ) (c : Content) → IsText key bytes c → (f : PacketFault) → (f ≡ Trailing → ⊥) → test key bytes f ≡ false
+untested key bytes c t f other =
+    elim (test key bytes f) as (λ b. test key bytes f ≡ b → b ≡ false) [
+      | true ↦ λ e. absurd (no_fault key bytes c t f (says key bytes f (λ trailing. absurd (other trailing)) e))
+      | false ↦ λ e. refl
+    ] refl
+
+passed_over : (p : PacketFault → Bool) (fs : List PacketFault) → ((f : PacketFault) → p f ≡ false) → find p fs ≡ None
+passed_over p [] none = refl
+passed_over p (f ∷ fs) none = rw (none f) (passed_over p fs none)
+
+all_untested : (key bytes : List ℕ) (c : Content) → IsText key bytes c → (f : PacketFault) → test key bytes f ≡ false
+all_untested key bytes c t Short = untested key bytes c t Short (λ e. cc)
+all_untested key bytes c t Magic = untested key bytes c t Magic (λ e. cc)
+all_untested key bytes c t Version = untested key bytes c t Version (λ e. cc)
+all_untested key bytes c t Node = untested key bytes c t Node (λ e. cc)
+all_untested key bytes c t Mask = untested key bytes c t Mask (λ e. cc)
+all_untested key bytes c t Count = untested key bytes c t Count (λ e. cc)
+all_untested key bytes c t Length = untested key bytes c t Length (λ e. cc)
+all_untested key bytes c t Trailing = ap (λ o. nat_lt 0 (length (left_over o))) (text_reads key bytes c t).parsed
+all_untested key bytes c t TooLong = untested key bytes c t TooLong (λ e. cc)
+all_untested key bytes c t Tag = untested key bytes c t Tag (λ e. cc)
 
 -- a packet's text is read as that packet
-pub text_found : (key bytes : List ℕ) (c : Content) → IsBytes bytes → IsText key bytes c → (fault_in key bytes ≡ None) × (content_in bytes ≡ c)
-text_found key bytes c fits t =
-    let none = nothing_found key bytes c fits t (fault_in key bytes) refl in
-    (none, one_packet key bytes (content_in bytes) c (is_text key bytes fits none) t)
+pub text_found : (key bytes : List ℕ) (c : Content) → IsText key bytes c → (fault_in key bytes ≡ None) × (content_in bytes ≡ c)
+unfolding fault_in
+text_found key bytes c t =
+    let r = text_reads key bytes c t in
+    let items : items_of (parsed bytes) ≡ c.items = ap items_of r.parsed in
+    (passed_over (test key bytes) faults (all_untested key bytes c t), λ i. record { from = r.from i; to = r.to i; base = r.base i; mask = r.mask i; frame = r.frame i; items = items i })
+
+pub text_read : WhatIsWrittenIsRead
+text_read key c p =
+    let t = text_found key (packet_text key c) c (p, refl) in
+    ap (λ o. unless o (content_in (packet_text key c))) t.0 ∙ ap Ok t.1
+
+-- ---- what decoding answers
+
+-- what was read, where nothing is wrong
+pub found_text : (key bytes : List ℕ) (o : Option PacketFault) → IsBytes bytes → fault_in key bytes ≡ o → IfNone o (IsText key bytes (content_in bytes))
+found_text key bytes None fits e = is_text key bytes fits e
+found_text key bytes (Some f) fits e = tt
+
+pub found_fault : (key bytes : List ℕ) (o : Option PacketFault) → IsBytes bytes → fault_in key bytes ≡ o → IfSome o (IsFirstFault key bytes)
+found_fault key bytes None fits e = tt
+found_fault key bytes (Some f) fits e = is_first_fault key bytes f fits e
+
+pub is_there : (key bytes : List ℕ) → fault_in key bytes ≡ None → IsSome (parsed bytes)
+is_there key bytes none = ap is_some (good key bytes none).parsed
+
+-- a fault where there is a packet's text
+pub no_fault_found : (key bytes : List ℕ) (c : Content) (f : PacketFault) → IsText key bytes c → fault_in key bytes ≡ Some f → ⊥
+no_fault_found key bytes c f t e = let none = (text_found key bytes c t).0 in absurd cc

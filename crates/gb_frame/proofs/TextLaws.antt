@@ -5,7 +5,8 @@ use Rattle.std.proofs.lemmas.List.{take_at, drop_at, length-append, length-take,
 use Rattle.gb_cap.specs.Hmac.{hmac_of, length-hmac_of}
 use Rattle.gb_frame.specs.declared.limits.TheConstants.{VERSION, TAG, SHORTEST}
 use Rattle.gb_frame.specs.Packet.{Content}
-use Rattle.gb_frame.specs.Spelling.{items_text, tagged_text, tag_of, packet_text, IsPacket, IsText, OneTextHasOnePacket, OnePacketHasOneText}
+use Rattle.gb_frame.specs.Spelling.{items_text, tagged_text, tag_of, packet_text, IsPacket, IsText}
+use Rattle.gb_frame.specs.Laws.{OneTextHasOnePacket, OnePacketHasOneText}
 use Rattle.gb_frame.specs.Reading.{version_in, from_in, to_in, base_in, mask_in, frame_in, count_in, items_in, tagged_in, tag_in, parsed, items_at}
 use Rattle.gb_frame.proofs.Room.{count_fits}
 use Rattle.gb_frame.proofs.Numbers.{wide16, wide64, number_again}
@@ -49,9 +50,9 @@ reads key c p =
       version = refl;
       from = refl;
       to = refl;
-      base = number_again w64 (2 ^ 64) wide64 5 bytes c.base p.base refl;
-      mask = number_again w64 (2 ^ 64) wide64 13 bytes c.mask p.mask refl;
-      frame = number_again w64 (2 ^ 64) wide64 21 bytes c.frame p.frame refl;
+      base = number_again w64 (2 ^ 64) wide64 5 bytes c.base p.fields.base refl;
+      mask = number_again w64 (2 ^ 64) wide64 13 bytes c.mask p.fields.mask refl;
+      frame = number_again w64 (2 ^ 64) wide64 21 bytes c.frame p.fields.frame refl;
       count = count;
       tagged = tagged;
       tag = drop_at (tagged_text c) tag (length bytes - 8) before;

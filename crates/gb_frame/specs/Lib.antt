@@ -2,3 +2,4 @@ pub mod Packet
 pub mod Spelling
 pub mod Reading
 pub mod Faults
+pub mod Laws

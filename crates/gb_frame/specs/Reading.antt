@@ -7,7 +7,8 @@ use Rattle.gb_frame.specs.declared.limits.TheConstants.{VERSION, HEADER, ITEM_HE
 use Rattle.gb_frame.specs.declared.item.Item.{Item}
 use Rattle.gb_frame.specs.declared.fault.PacketFault.{PacketFault}
 use Rattle.gb_frame.specs.declared.fault.PacketFault.TheVariants.{Short, Magic, Version, Node, Mask, Count, Length, Trailing, TooLong, Tag}
-use Rattle.gb_frame.specs.Packet.{Content}
+use Rattle.gb_frame.specs.declared.packet.Packet.{Packet}
+use Rattle.gb_frame.specs.Packet.{Content, content}
 use Rattle.gb_frame.specs.Spelling.{tag_of}
 
 -- the number at a place, high byte first
@@ -122,3 +123,8 @@ unless None c = Ok c
 -- the packet that the bytes are, or the first fault
 abbrev pub reading : List ℕ → List ℕ → Result Content PacketFault
 reading key bytes = unless (fault_in key bytes) (content_in bytes)
+
+-- what decoding answered, without where it lies in memory
+abbrev pub seen : Result Packet PacketFault → Result Content PacketFault
+seen (Ok p) = Ok (content p)
+seen (Err fault) = Err fault

@@ -52,24 +52,20 @@ pub record IsWithinLimits (c : Content) : Type 0 where
   pub payloads : All (λ i. length i.payload ≤ PAYLOAD) c.items
   pub room : length (items_text c.items) ≤ ROOM
 
--- a packet that has a text
-pub record IsPacket (c : Content) : Type 0 where
-  pub limits : IsWithinLimits c
+-- each field fits the bytes that it is written in
+pub record FitsFields (c : Content) : Type 0 where
   pub from : c.from < NODES
   pub to : c.to < NODES
   pub base : c.base < 2 ^ 64
   pub mask : c.mask < 2 ^ 64
   pub frame : c.frame < 2 ^ 64
+
+-- a packet that has a text
+pub record IsPacket (c : Content) : Type 0 where
+  pub limits : IsWithinLimits c
+  pub fields : FitsFields c
   pub items : All IsItem c.items
 
 -- the bytes are this packet's text under the key
 abbrev pub IsText : List ℕ → List ℕ → Content → Type 0
 IsText key bytes c = IsPacket c × (bytes ≡ packet_text key c)
-
--- bytes are the text of one packet at most
-abbrev pub OneTextHasOnePacket : Type 0
-OneTextHasOnePacket = (key bytes : List ℕ) (c d : Content) → IsText key bytes c → IsText key bytes d → c ≡ d
-
--- a packet has one text under a key
-abbrev pub OnePacketHasOneText : Type 0
-OnePacketHasOneText = (key bytes others : List ℕ) (c : Content) → IsText key bytes c → IsText key others c → bytes ≡ others

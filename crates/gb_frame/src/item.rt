@@ -33,7 +33,7 @@ pub struct ItemView<'a> {
 }
 
 ghost use Rattle.gb_frame.specs.Packet.{item_of};
-ghost use Rattle.gb_frame.specs.Spelling.{item_text};
+ghost use Rattle.gb_frame.specs.Spelling.{item_text, IsItem};
 ghost use Rattle.gb_frame.specs.Reading.{item_at, items_at, items_of, left_over};
 
 impl Item {
@@ -71,7 +71,9 @@ pub fn put_item(item: ItemView<'_>, text: &mut Vec<u8>)
     requires payload { length item.payload.now ≤ PAYLOAD }
     requires room { vec_len text.old + ITEM_HEADER + length item.payload.now ≤ vec_capacity text.old }
     ensures written { text.new.items ≡ text.old.items ++ item_text (item_of item.entry) }
-    ensures room { vec_capacity text.old ≤ vec_capacity text.new }
+    ensures len { vec_len text.new ≡ vec_len text.old + ITEM_HEADER + length item.entry.payload.now }
+    ensures capacity { vec_capacity text.old ≤ vec_capacity text.new }
+    ensures fits { IsItem (item_of item.entry) }
 {
     let tenant = item.tenant.to_be_bytes();
     let group = item.group.to_be_bytes();

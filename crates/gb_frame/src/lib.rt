@@ -6,9 +6,11 @@
 
 pub mod fault;
 pub mod item;
+pub mod laws;
 pub mod limits;
 pub mod packet;
 pub mod reading;
+pub mod writing;
 
 mod header;
 mod number;
