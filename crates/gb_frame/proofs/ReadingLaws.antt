@@ -14,7 +14,7 @@ use Rattle.gb_frame.specs.declared.fault.PacketFault.{PacketFault}
 use Rattle.gb_frame.specs.declared.fault.PacketFault.TheVariants.{Short, Magic, Version, Node, Mask, Count, Length, Trailing, TooLong, Tag}
 use Rattle.gb_frame.specs.declared.item.Item.{Item}
 use Rattle.gb_frame.specs.Packet.{Content}
-use Rattle.gb_frame.specs.Spelling.{items_text, tagged_text, tag_of, packet_text, IsBytes, IsItem, IsWithinLimits, IsPacket, IsText}
+use Rattle.gb_frame.specs.Spelling.{items_text, header_text, tagged_text, tag_of, packet_text, IsBytes, IsItem, IsWithinLimits, IsPacket, IsText}
 use Rattle.gb_frame.specs.Reading.{number_at, unless, faults, test, fault_in, content_in, reading, is_magic, is_between_nodes, is_acknowledgement, is_counted, is_tagged, version_in, from_in, to_in, base_in, mask_in, frame_in, count_in, items_in, parsed, left_over, items_of, tag_in, tagged_in}
 use Rattle.gb_frame.specs.Faults.{fault_number, Stand, Holds, IsFirstFault}
 use Rattle.gb_frame.specs.Laws.{WhatIsWrittenIsRead}
@@ -162,6 +162,7 @@ behind_header bytes long =
     ap (drop 31) (sym (take-append-drop (length bytes - TAG) bytes)) ∙ drop-append-le 31 (tagged_in bytes) (tag_in bytes) (omega (arith, length-take (length bytes - TAG) bytes))
 
 spelled : (key bytes : List ℕ) → IsBytes bytes → IsGood key bytes → Stand (count_in bytes) (items_in bytes) (items_of (parsed bytes)) [] → bytes ≡ packet_text key (content_in bytes)
+unfolding header_text
 spelled key bytes fits g s =
     let c : Content = content_in bytes in
     let items : items_in bytes ≡ items_text c.items = s.parts ∙ append-nil (items_text c.items) in

@@ -40,3 +40,19 @@ room_more items i item room below is fits so_far =
 pub count_fits : (items : List Item) → 9 * length items ≤ length (items_text items)
 count_fits [] = omega arith
 count_fits (i ∷ items) = let rest = count_fits items in let here = length-item_text i in let both = ap length (flat_map-cons item_text i items) ∙ length-append (item_text i) (items_text items) in omega (arith, rest, here, both)
+
+-- what stands before an item, and the item, are not more than all
+pub one_fits : (items : List Item) (i : ℕ) (item : Item) → i < length items → item ≡ get_or items i item → length (items_text (take i items)) + (9 + length item.payload) ≤ length (items_text items)
+one_fits items i item below is =
+    let before = length-flat_map-take item_text items i item below in
+    let here = length-item_text item in
+    let same = ap (λ (x : Item). length (item_text x)) is in
+    omega (arith, before, here, same)
+
+-- the length with one more item
+pub length_more : (items : List Item) (i : ℕ) (item : Item) → i < length items → item ≡ get_or items i item → length (items_text (take (i + 1) items)) ≡ length (items_text (take i items)) + (9 + length item.payload)
+length_more items i item below is =
+    let here = length-item_text item in
+    let same = ap (λ (x : Item). length (item_text x)) is in
+    let whole = ap length (texts_more items i item below) ∙ length-append (items_text (take i items)) (item_text (get_or items i item)) in
+    omega (arith, here, same, whole)

@@ -5,7 +5,7 @@ use Rattle.std.proofs.lemmas.List.{take_at, drop_at, length-append, length-take,
 use Rattle.gb_cap.specs.Hmac.{hmac_of, length-hmac_of}
 use Rattle.gb_frame.specs.declared.limits.TheConstants.{VERSION, TAG, SHORTEST}
 use Rattle.gb_frame.specs.Packet.{Content}
-use Rattle.gb_frame.specs.Spelling.{items_text, tagged_text, tag_of, packet_text, IsPacket, IsText}
+use Rattle.gb_frame.specs.Spelling.{items_text, tagged_text, tag_of, header_text, packet_text, IsPacket, IsText}
 use Rattle.gb_frame.specs.Laws.{OneTextHasOnePacket, OnePacketHasOneText}
 use Rattle.gb_frame.specs.Reading.{version_in, from_in, to_in, base_in, mask_in, frame_in, count_in, items_in, tagged_in, tag_in, parsed, items_at}
 use Rattle.gb_frame.proofs.Room.{count_fits}
@@ -33,6 +33,7 @@ pub record Reads (key bytes : List ℕ) (c : Content) : Type 0 where
   pub parsed : parsed bytes ≡ Some (c.items, [])
 
 pub reads : (key : List ℕ) (c : Content) → IsPacket c → Reads key (packet_text key c) c
+unfolding header_text
 reads key c p =
     let bytes : List ℕ = packet_text key c in
     let tag : List ℕ = tag_of key (tagged_text c) in

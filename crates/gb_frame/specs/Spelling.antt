@@ -16,7 +16,7 @@ abbrev pub items_text : List Item → List ℕ
 items_text items = flat_map item_text items
 
 -- the header: magic, version, sender, destination, acknowledgement, frame number, count of items
-abbrev pub header_text : Content → List ℕ
+unfoldable pub header_text : Content → List ℕ
 header_text c = codes "GB" ++ VERSION ∷ c.from ∷ c.to ∷ [] ++ to_be_bytes w64 c.base ++ to_be_bytes w64 c.mask ++ to_be_bytes w64 c.frame ++ to_be_bytes w16 (length c.items)
 
 -- what the tag is made of

@@ -1,5 +1,5 @@
 //! Items: one message of one group each, and their texts.
-ghost use Rattle.std.specs.Prelude.{◌≡◌, ◌+◌, ◌≤◌, ◌++◌, length, MatchOption, IfOk, IsSome, None, Some, vec_len, vec_capacity};
+ghost use Rattle.std.specs.Prelude.{◌≡◌, ◌+◌, ◌≤◌, ◌++◌, length, MatchOption, IfOk, IsSome, All, None, Some, vec_len, vec_capacity};
 ghost use Rattle.gb_types.specs.declared.limits.TheConstants.{PAYLOAD};
 ghost use Rattle.gb_frame.specs.declared.limits.TheConstants.{ITEM_HEADER};
 
@@ -33,7 +33,7 @@ pub struct ItemView<'a> {
 }
 
 ghost use Rattle.gb_frame.specs.Packet.{item_of};
-ghost use Rattle.gb_frame.specs.Spelling.{item_text, IsItem};
+ghost use Rattle.gb_frame.specs.Spelling.{item_text, items_text, IsItem, IsBytes};
 ghost use Rattle.gb_frame.specs.Reading.{item_at, items_at, items_of, left_over};
 
 impl Item {
@@ -66,6 +66,12 @@ impl Item {
     }
 }
 
+/// What the type of a payload says, for the clauses that name it. There is nothing to run.
+fn are_bytes(payload: &[u8])
+    ensures { IsBytes payload.now }
+{
+}
+
 /// Appends an item's text. Takes no memory.
 pub fn put_item(item: ItemView<'_>, text: &mut Vec<u8>)
     requires payload { length item.payload.now ≤ PAYLOAD }
@@ -78,12 +84,28 @@ pub fn put_item(item: ItemView<'_>, text: &mut Vec<u8>)
     let tenant = item.tenant.to_be_bytes();
     let group = item.group.to_be_bytes();
     let seq = item.seq.to_be_bytes();
-    let len = (item.payload.len() as u16).to_be_bytes();
+    let payload = item.payload;
+    are_bytes(payload);
+    let len = (payload.len() as u16).to_be_bytes();
     let header = [
         tenant[0], tenant[1], group[0], group[1], item.origin, seq[0], seq[1], len[0], len[1],
     ];
     text.extend_from_slice(&header).unwrap();
-    text.extend_from_slice(item.payload).unwrap();
+    text.extend_from_slice(payload).unwrap();
+}
+
+/// Appends the texts of items. Takes no memory.
+pub fn put_items(items: &[Item], text: &mut Vec<u8>)
+    requires payloads { All (λ i. length i.payload ≤ PAYLOAD) items.now }
+    requires room { vec_len text.old + length (items_text items.now) ≤ vec_capacity text.old }
+    ensures written { text.new.items ≡ text.old.items ++ items_text items.now }
+    ensures len { vec_len text.new ≡ vec_len text.old + length (items_text items.now) }
+    ensures capacity { vec_capacity text.old ≤ vec_capacity text.new }
+    ensures fit { All IsItem items.now }
+{
+    for item in items {
+        put_item(item.view(), text);
+    }
 }
 
 /// The item at the front of these texts and the texts behind it; `None` where no whole item stands

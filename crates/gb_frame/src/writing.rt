@@ -4,7 +4,7 @@ ghost use Rattle.gb_frame.specs.declared.limits.TheConstants.{HEADER};
 ghost use Rattle.gb_frame.specs.Packet.{content};
 ghost use Rattle.gb_frame.specs.Spelling.{header_text, IsWithinLimits, FitsFields, IsText};
 
-use crate::item::put_item;
+use crate::item::put_items;
 use crate::limits::{HEADER, VERSION};
 use crate::packet::{Packet, room_beside};
 use crate::tag::tag;
@@ -14,6 +14,7 @@ use gb_types::memory::OutOfMemory;
 use std::alloc::Global;
 
 /// Appends a packet's header. Takes no memory.
+#[tactic(auto, unfolding(crate::specs::Spelling::header_text))]
 fn put_header(packet: &Packet, text: &mut Vec<u8>)
     requires count { length packet.now.items.items < 2 ^ 16 }
     requires room { vec_len text.old + HEADER ≤ vec_capacity text.old }
@@ -22,13 +23,18 @@ fn put_header(packet: &Packet, text: &mut Vec<u8>)
     ensures capacity { vec_capacity text.old ≤ vec_capacity text.new }
     ensures fits { FitsFields (content packet.now) }
 {
-    let start = [b'G', b'B', VERSION, packet.from.number, packet.to.number];
-    let count = packet.items.len() as u16;
-    text.extend_from_slice(&start).unwrap();
-    text.extend_from_slice(&packet.base.to_be_bytes()).unwrap();
-    text.extend_from_slice(&packet.mask.to_be_bytes()).unwrap();
-    text.extend_from_slice(&packet.frame.to_be_bytes()).unwrap();
-    text.extend_from_slice(&count.to_be_bytes()).unwrap();
+    let base = packet.base.to_be_bytes();
+    let mask = packet.mask.to_be_bytes();
+    let frame = packet.frame.to_be_bytes();
+    let count = (packet.items.len() as u16).to_be_bytes();
+    let header = [
+        b'G', b'B', VERSION, packet.from.number, packet.to.number,
+        base[0], base[1], base[2], base[3], base[4], base[5], base[6], base[7],
+        mask[0], mask[1], mask[2], mask[3], mask[4], mask[5], mask[6], mask[7],
+        frame[0], frame[1], frame[2], frame[3], frame[4], frame[5], frame[6], frame[7],
+        count[0], count[1],
+    ];
+    text.extend_from_slice(&header).unwrap();
 }
 
 /// The one text of a packet under a key.
@@ -39,9 +45,7 @@ pub fn encode_under(alloc: Global, packet: &Packet, key: &HmacKey) -> Result<Vec
     let room = room_beside(&packet.items).unwrap();
     let mut text = Vec::with_capacity(alloc, PACKET - room)?;
     put_header(packet, &mut text);
-    for item in &packet.items {
-        put_item(item.view(), &mut text);
-    }
+    put_items(&packet.items, &mut text);
     let end = tag(&text, key);
     text.extend_from_slice(&end).unwrap();
     Ok(text)
