@@ -19,25 +19,24 @@ use Rattle.gb_frame.specs.Reading.{faults, is_magic, version_in, from_in, to_in,
 -- the fault of a number
 fault_of : ℕ → PacketFault
 fault_of n = elim n [
-    zero ↦ Short
+  | zero ↦ Short
   | suc n1 ↦ elim n1 [
-      zero ↦ Short
+    | zero ↦ Short
     | suc n2 ↦ elim n2 [
-        zero ↦ Magic
+      | zero ↦ Magic
       | suc n3 ↦ elim n3 [
-          zero ↦ Version
+        | zero ↦ Version
         | suc n4 ↦ elim n4 [
-            zero ↦ Node
+          | zero ↦ Node
           | suc n5 ↦ elim n5 [
-              zero ↦ Mask
+            | zero ↦ Mask
             | suc n6 ↦ elim n6 [
-                zero ↦ Count
+              | zero ↦ Count
               | suc n7 ↦ elim n7 [
-                  zero ↦ Length
+                | zero ↦ Length
                 | suc n8 ↦ elim n8 [
-                    zero ↦ Trailing
+                  | zero ↦ Trailing
                   | suc n9 ↦ elim n9 [ zero ↦ TooLong | suc n10 ↦ Tag ]
-                  ]
                 ]
               ]
             ]
@@ -46,6 +45,7 @@ fault_of n = elim n [
       ]
     ]
   ]
+]
 
 fault_of-fault_number : (f : PacketFault) → fault_of (fault_number f) ≡ f
 unfolding fault_of
@@ -101,9 +101,9 @@ found_none p n (x ∷ xs) num e g low high =
     elim (p x) as (λ b. p x ≡ b → cond b (Some x) (find p xs) ≡ None → p g ≡ false) [
       | true ↦ λ h e. absurd cc
       | false ↦ λ h e. elim (eqb_tells (fault_number g) n) [
-          | inl here ↦ ap p (one_number g x (here.1 ∙ sym num.0)) ∙ h
-          | inr there ↦ let differ = there.1 in found_none p (suc n) xs num.1 e g (omega arith) (omega arith)
-        ]
+        | inl here ↦ ap p (one_number g x (here.1 ∙ sym num.0)) ∙ h
+        | inr there ↦ let differ = there.1 in found_none p (suc n) xs num.1 e g (omega arith) (omega arith)
+      ]
     ] refl e
 
 pub below_eleven : (f : PacketFault) → (1 ≤ fault_number f) × (fault_number f < 1 + length faults)

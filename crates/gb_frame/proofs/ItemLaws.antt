@@ -47,10 +47,12 @@ item_takes bytes x fits e =
     let e5 = cut w16 (2 ^ 16) wide16 5 bytes fits (omega arith) in
     let e7 = cut w16 (2 ^ 16) wide16 7 bytes fits (omega arith) in
     let parts : bytes ≡ to_be_bytes w16 (number_at w16 0 bytes) ++ (to_be_bytes w16 (number_at w16 2 bytes) ++ (get_or bytes 4 0 ∷ (to_be_bytes w16 (number_at w16 5 bytes) ++ (to_be_bytes w16 len ++ (take len rest ++ drop len rest))))) =
-        e0 ∙ ap (λ t. to_be_bytes w16 (number_at w16 0 bytes) ++ t) (e2 ∙ ap (λ t. to_be_bytes w16 (number_at w16 2 bytes) ++ t) (origin ∙ ap (λ t. get_or bytes 4 0 ∷ t) (e5 ∙ ap (λ t. to_be_bytes w16 (number_at w16 5 bytes) ++ t) (e7 ∙ ap (λ t. to_be_bytes w16 len ++ t) (sym (take-append-drop len rest)))))) in
+    e0 ∙ ap (λ t. to_be_bytes w16 (number_at w16 0 bytes) ++ t) (e2 ∙ ap (λ t. to_be_bytes w16 (number_at w16 2 bytes) ++ t) (origin ∙ ap (λ t. get_or bytes 4 0 ∷ t) (e5 ∙ ap (λ t. to_be_bytes w16 (number_at w16 5 bytes) ++ t) (e7 ∙ ap (λ t. to_be_bytes w16 len ++ t) (sym (take-append-drop len rest)))))) in
     let spelled : bytes ≡ item_text made ++ drop len rest = parts ∙ ap (λ n. to_be_bytes w16 (number_at w16 0 bytes) ++ (to_be_bytes w16 (number_at w16 2 bytes) ++ (get_or bytes 4 0 ∷ (to_be_bytes w16 (number_at w16 5 bytes) ++ (to_be_bytes w16 n ++ (take len rest ++ drop len rest)))))) (sym whole) in
-    let found : Takes bytes (item_text made) (drop len rest) × IsItem made = (record { parts = spelled; rest_fits = IsBytes-drop len rest (IsBytes-drop 9 bytes fits) },
-      record { tenant = number_below w16 (2 ^ 16) wide16 0 bytes fits; group = number_below w16 (2 ^ 16) wide16 2 bytes fits; origin = fits 4; seq = number_below w16 (2 ^ 16) wide16 5 bytes fits; bytes = IsBytes-take len rest (IsBytes-drop 9 bytes fits); length = omega (arith, whole, small) }) in
+    let found : Takes bytes (item_text made) (drop len rest) × IsItem made = (
+      record { parts = spelled; rest_fits = IsBytes-drop len rest (IsBytes-drop 9 bytes fits) },
+      record { tenant = number_below w16 (2 ^ 16) wide16 0 bytes fits; group = number_below w16 (2 ^ 16) wide16 2 bytes fits; origin = fits 4; seq = number_below w16 (2 ^ 16) wide16 5 bytes fits; bytes = IsBytes-take len rest (IsBytes-drop 9 bytes fits); length = omega (arith, whole, small) },
+    ) in
     subst (λ (y : Item × List ℕ). Takes bytes (item_text y.0) y.1 × IsItem y.0) p.1 found
 
 pub item_again : (i : Item) (rest : List ℕ) → IsItem i → item_at (item_text i ++ rest) ≡ Some (i, rest)
@@ -85,7 +87,7 @@ items_take (suc n) bytes x fits e =
     let first = item_takes bytes a.0 fits a.1 in
     let others = items_take n a.0.1 b.0 first.0.rest_fits b.1 in
     let both : bytes ≡ items_text (a.0.0 ∷ b.0.0) ++ b.0.1 =
-        first.0.parts ∙ ap (λ t. item_text a.0.0 ++ t) others.parts ∙ sym (append_assoc (item_text a.0.0) (items_text b.0.0) b.0.1) ∙ ap (λ t. t ++ b.0.1) (sym (flat_map-cons item_text a.0.0 b.0.0)) in
+    first.0.parts ∙ ap (λ t. item_text a.0.0 ++ t) others.parts ∙ sym (append_assoc (item_text a.0.0) (items_text b.0.0) b.0.1) ∙ ap (λ t. t ++ b.0.1) (sym (flat_map-cons item_text a.0.0 b.0.0)) in
     let found : Stand (suc n) bytes (a.0.0 ∷ b.0.0) b.0.1 = record { count = ap suc others.count; fit = All-cons IsItem a.0.0 b.0.0 first.1 others.fit; parts = both } in
     subst (λ (y : List Item × List ℕ). Stand (suc n) bytes y.0 y.1) (some_is (a.0.0 ∷ b.0.0, b.0.1) x b.2) found
 

@@ -39,9 +39,9 @@ nodes_wrong a b n e =
     elim (nat_lt a n) as (λ p. nat_lt a n ≡ p → (p && nat_lt b n && not (a == b)) ≡ false → (n ≤ a) ⊎ (n ≤ b) ⊎ (a ≡ b)) [
       | false ↦ λ h f. inl (ltb-false _ _ h)
       | true ↦ λ h f. elim (nat_lt b n) as (λ q. nat_lt b n ≡ q → (q && not (a == b)) ≡ false → (n ≤ a) ⊎ (n ≤ b) ⊎ (a ≡ b)) [
-          | false ↦ λ k g. inr (inl (ltb-false _ _ k))
-          | true ↦ λ k g. inr (inr (eqb-true _ _ (not-false _ g)))
-        ] refl f
+        | false ↦ λ k g. inr (inl (ltb-false _ _ k))
+        | true ↦ λ k g. inr (inr (eqb-true _ _ (not-false _ g)))
+      ] refl f
     ] refl e
 
 below_two : (n : ℕ) → n % 2 ≢ 0 → n % 2 ≡ 1
@@ -153,7 +153,7 @@ header_cut bytes rest fits long magic version behind =
     let from_mask : drop 13 bytes ≡ to_be_bytes w64 (mask_in bytes) ++ (to_be_bytes w64 (frame_in bytes) ++ (to_be_bytes w16 (count_in bytes) ++ rest)) = e13 ∙ ap (λ t. to_be_bytes w64 (mask_in bytes) ++ t) from_frame in
     let from_base : drop 5 bytes ≡ to_be_bytes w64 (base_in bytes) ++ (to_be_bytes w64 (mask_in bytes) ++ (to_be_bytes w64 (frame_in bytes) ++ (to_be_bytes w16 (count_in bytes) ++ rest))) = e5 ∙ ap (λ t. to_be_bytes w64 (base_in bytes) ++ t) from_mask in
     let from_version : drop 2 bytes ≡ VERSION ∷ from_in bytes ∷ to_in bytes ∷ (to_be_bytes w64 (base_in bytes) ++ (to_be_bytes w64 (mask_in bytes) ++ (to_be_bytes w64 (frame_in bytes) ++ (to_be_bytes w16 (count_in bytes) ++ rest)))) =
-        e2 ∙ ap (λ t. VERSION ∷ t) (e3 ∙ ap (λ t. from_in bytes ∷ t) (e4 ∙ ap (λ t. to_in bytes ∷ t) from_base)) in
+    e2 ∙ ap (λ t. VERSION ∷ t) (e3 ∙ ap (λ t. from_in bytes ∷ t) (e4 ∙ ap (λ t. to_in bytes ∷ t) from_base)) in
     sym (take-append-drop 2 bytes) ∙ ap (λ t. t ++ drop 2 bytes) magic ∙ ap (λ t. codes "GB" ++ t) from_version
 
 -- the texts and the tag, where the items leave nothing
@@ -190,18 +190,20 @@ within key bytes g s =
 pub is_text : (key bytes : List ℕ) → IsBytes bytes → fault_in key bytes ≡ None → IsText key bytes (content_in bytes)
 is_text key bytes fits none =
     let g = good key bytes none in
-    let s : Stand (count_in bytes) (items_in bytes) (items_of (parsed bytes)) [] = items_take (count_in bytes) (items_in bytes) (items_of (parsed bytes), []) (IsBytes-drop HEADER (tagged_in bytes) (IsBytes-take (length bytes - TAG) bytes fits)) g.parsed in
-    (record {
-      limits = within key bytes g s;
-      fields = record {
-        from = g.from;
-        to = g.to;
-        base = number_below w64 (2 ^ 64) wide64 5 bytes fits;
-        mask = number_below w64 (2 ^ 64) wide64 13 bytes fits;
-        frame = number_below w64 (2 ^ 64) wide64 21 bytes fits;
-      };
-      items = s.fit;
-    }, spelled key bytes fits g s)
+    let s : Stand (count_in bytes) (items_in bytes) (items_of (parsed bytes)) [] = items_take (count_in bytes) (items_in bytes) (items_of (parsed bytes), []) (IsBytes-drop HEADER (tagged_in bytes) (IsBytes-take (length bytes - TAG) bytes fits)) g.parsed in (
+      record {
+        limits = within key bytes g s;
+        fields = record {
+          from = g.from;
+          to = g.to;
+          base = number_below w64 (2 ^ 64) wide64 5 bytes fits;
+          mask = number_below w64 (2 ^ 64) wide64 13 bytes fits;
+          frame = number_below w64 (2 ^ 64) wide64 21 bytes fits;
+        };
+        items = s.fit;
+      },
+      spelled key bytes fits g s,
+    )
 
 -- ---- a packet's text has no fault
 
@@ -216,20 +218,20 @@ no_fault key bytes c t f =
       | Magic ↦ λ h. h r.magic
       | Version ↦ λ h. h r.version
       | Node ↦ λ h. elim h [
-          | inl a ↦ let e = r.from in let b = p.fields.from in absurd (omega arith)
-          | inr g ↦ elim g [
-              | inl a ↦ let e = r.to in let b = p.fields.to in absurd (omega arith)
-              | inr same ↦ p.limits.apart (sym r.from ∙ same ∙ r.to)
-            ]
+        | inl a ↦ let e = r.from in let b = p.fields.from in absurd (omega arith)
+        | inr g ↦ elim g [
+          | inl a ↦ let e = r.to in let b = p.fields.to in absurd (omega arith)
+          | inr same ↦ p.limits.apart (sym r.from ∙ same ∙ r.to)
         ]
+      ]
       | Mask ↦ λ h. elim h [
-          | inl a ↦ let e = r.base in let b = p.limits.base in absurd (omega arith)
-          | inr a ↦ let e = ap (λ m. m % 2) r.mask in let b = p.limits.mask in absurd (omega (arith, a, e, b))
-        ]
+        | inl a ↦ let e = r.base in let b = p.limits.base in absurd (omega arith)
+        | inr a ↦ let e = ap (λ m. m % 2) r.mask in let b = p.limits.mask in absurd (omega (arith, a, e, b))
+      ]
       | Count ↦ λ h. elim h [
-          | inl a ↦ a.1 (r.count ∙ p.limits.frame.0 (sym r.frame ∙ a.0))
-          | inr a ↦ a.0 (r.frame ∙ p.limits.frame.1 (sym r.count ∙ a.1))
-        ]
+        | inl a ↦ a.1 (r.count ∙ p.limits.frame.0 (sym r.frame ∙ a.0))
+        | inr a ↦ a.0 (r.frame ∙ p.limits.frame.1 (sym r.count ∙ a.1))
+      ]
       | Length ↦ λ h. h c.items [] s
       | Trailing ↦ λ h. h.2 (ap (λ x. x.1) (some_is (h.0, h.1) (c.items, []) (sym (stand_again (count_in bytes) (items_in bytes) h.0 h.1 h.3) ∙ r.parsed)))
       | TooLong ↦ λ h. let l = r.len in absurd (omega arith)

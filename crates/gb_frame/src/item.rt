@@ -69,8 +69,7 @@ impl Item {
 /// What the type of a payload says, for the clauses that name it. There is nothing to run.
 fn are_bytes(payload: &[u8])
     ensures { IsBytes payload.now }
-{
-}
+{}
 
 /// Appends an item's text. Takes no memory.
 pub fn put_item(item: ItemView<'_>, text: &mut Vec<u8>)
@@ -88,7 +87,15 @@ pub fn put_item(item: ItemView<'_>, text: &mut Vec<u8>)
     are_bytes(payload);
     let len = (payload.len() as u16).to_be_bytes();
     let header = [
-        tenant[0], tenant[1], group[0], group[1], item.origin, seq[0], seq[1], len[0], len[1],
+        tenant[0],
+        tenant[1],
+        group[0],
+        group[1],
+        item.origin,
+        seq[0],
+        seq[1],
+        len[0],
+        len[1],
     ];
     text.extend_from_slice(&header).unwrap();
     text.extend_from_slice(payload).unwrap();

@@ -5,13 +5,14 @@
 #![tactic(auto)]
 
 pub mod fault;
+mod header;
 pub mod item;
 pub mod laws;
 pub mod limits;
+mod number;
 pub mod packet;
 pub mod reading;
-pub mod writing;
-
-mod header;
-mod number;
 mod tag;
+#[cfg(test)]
+mod tests;
+pub mod writing;

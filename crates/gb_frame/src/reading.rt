@@ -8,7 +8,10 @@ ghost use Rattle.gb_frame.specs.Spelling.{IsText};
 ghost use Rattle.gb_frame.specs.Faults.{IsFirstFault};
 
 use crate::fault::PacketFault;
-use crate::header::{base_of, count_of, frame_of, has_acknowledgement, has_counted_frame, has_magic, has_nodes, mask_of, texts_of};
+use crate::header::{
+    base_of, count_of, frame_of, has_acknowledgement, has_counted_frame, has_magic, has_nodes,
+    mask_of, texts_of,
+};
 use crate::item::{copy_items, skip_items};
 use crate::limits::{SHORTEST, VERSION};
 use crate::packet::Packet;
@@ -89,7 +92,11 @@ fn packet_in(alloc: Global, bytes: &[u8]) -> Result<Packet, OutOfMemory>
 
 /// The packet that these bytes are under a key, with its payloads copied, or the first fault. Nothing
 /// is allocated before the tag is found right.
-pub fn decode_under(alloc: Global, bytes: &[u8], key: &HmacKey) -> Result<Result<Packet, PacketFault>, OutOfMemory>
+pub fn decode_under(
+    alloc: Global,
+    bytes: &[u8],
+    key: &HmacKey,
+) -> Result<Result<Packet, PacketFault>, OutOfMemory>
     // What is read is spelled so.
     ensures read { IfOk result (λ answer. IfOk answer (λ p. IsText key.now bytes.now (content p))) }
     // What is spelled so is read, unless memory runs out.
@@ -107,7 +114,11 @@ pub fn decode_under(alloc: Global, bytes: &[u8], key: &HmacKey) -> Result<Result
 }
 
 /// `decode_under` for a key that is not kept.
-pub fn decode(alloc: Global, bytes: &[u8], key: &Key) -> Result<Result<Packet, PacketFault>, OutOfMemory>
+pub fn decode(
+    alloc: Global,
+    bytes: &[u8],
+    key: &Key,
+) -> Result<Result<Packet, PacketFault>, OutOfMemory>
     ensures read { IfOk result (λ answer. IfOk answer (λ p. IsText key.now bytes.now (content p))) }
     ensures only { (c : Content) → IsText key.now bytes.now c → IfOk result (λ answer. seen answer ≡ Ok c) }
     ensures fault { IfOk result (λ answer. IfErr answer (IsFirstFault key.now bytes.now)) }
