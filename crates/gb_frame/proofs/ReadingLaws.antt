@@ -1,27 +1,26 @@
 -- Reading finds a packet exactly in its text, and otherwise the first fault of the table.
-use Rattle.std.proofs.Common.{◌≡◌, ◌≢◌, ℕ, suc, ◌+◌, ◌-◌, ◌*◌, ◌^◌, ◌<◌, ◌≤◌, Bool, true, false, cond, eqb, ltb, List, [], ◌∷◌, ◌++◌, length, get_or, take, drop, codes, Option, Some, None, Result, Ok, Err, refl, sym, ap, subst, ◌∙◌, append_assoc, arith, inl, inr, ◌⊎◌}
-use Rattle.std.specs.Prelude.{find, not, ◌&&◌, ◌==◌, ◌%◌, ◌↔◌, nat_lt, nat_eq, is_none, IfNone, IfSome, IsSome, is_some, All, if◌then◌else◌}
-use Rattle.std.specs.Cmp.Lexicographic.{pointwise, same_text, other_text}
+use Rattle.std.proofs.Common.{◌≡◌, ◌≢◌, ℕ, ◌-◌, ◌^◌, ◌≤◌, Bool, true, false, cond, List, [], ◌∷◌, ◌++◌, length, take, drop, codes, Option, Some, None, Ok, refl, sym, ap, ◌∙◌, arith, inl, inr, ◌⊎◌}
+use Rattle.std.specs.Prelude.{find, not, ◌&&◌, ◌==◌, ◌%◌, nat_lt, is_none, IfNone, IfSome, IsSome, is_some, if◌then◌else◌}
+use Rattle.std.specs.Cmp.Lexicographic.{same_text, other_text}
 use Rattle.std.specs.Int.{w16, w64, to_be_bytes}
 use Rattle.std.proofs.Math.Seq.{drop-cons}
-use Rattle.std.proofs.lemmas.Bool.{eqb-true, eq-eqb, ltb-false, ltb-true, le-ltb, lt-ltb}
-use Rattle.std.proofs.lemmas.Bool.Decides.{nat_tests}
+use Rattle.std.proofs.lemmas.Bool.{eqb-true, eq-eqb, ltb-false, ltb-true, lt-ltb}
 use Rattle.std.proofs.lemmas.List.{take-append-drop, drop-append-le, take_at, length-take, length-drop, length-append, append-nil, nil_from_length}
 use Rattle.std.proofs.lemmas.List.Elements.{All-weaker}
-use Rattle.gb_types.specs.declared.limits.TheConstants.{NODES, PAYLOAD, PACKET}
-use Rattle.gb_frame.specs.declared.limits.TheConstants.{VERSION, SHORTEST, HEADER, TAG, ROOM}
+use Rattle.gb_types.specs.declared.limits.TheConstants.{NODES, PAYLOAD}
+use Rattle.gb_frame.specs.declared.limits.TheConstants.{VERSION, SHORTEST, HEADER, TAG}
 use Rattle.gb_frame.specs.declared.fault.PacketFault.{PacketFault}
 use Rattle.gb_frame.specs.declared.fault.PacketFault.TheVariants.{Short, Magic, Version, Node, Mask, Count, Length, Trailing, TooLong, Tag}
 use Rattle.gb_frame.specs.declared.item.Item.{Item}
 use Rattle.gb_frame.specs.Packet.{Content}
-use Rattle.gb_frame.specs.Spelling.{items_text, header_text, tagged_text, tag_of, packet_text, IsBytes, IsItem, IsWithinLimits, IsPacket, IsText}
-use Rattle.gb_frame.specs.Reading.{number_at, unless, faults, test, fault_in, content_in, reading, is_magic, is_between_nodes, is_acknowledgement, is_counted, is_tagged, version_in, from_in, to_in, base_in, mask_in, frame_in, count_in, items_in, parsed, left_over, items_of, tag_in, tagged_in}
-use Rattle.gb_frame.specs.Faults.{fault_number, Stand, Holds, IsFirstFault}
+use Rattle.gb_frame.specs.Spelling.{items_text, header_text, tagged_text, tag_of, packet_text, IsBytes, IsItem, IsWithinLimits, IsText}
+use Rattle.gb_frame.specs.Reading.{unless, faults, test, fault_in, content_in, version_in, from_in, to_in, base_in, mask_in, frame_in, count_in, items_in, parsed, left_over, items_of, tag_in, tagged_in}
+use Rattle.gb_frame.specs.Faults.{Stand, Holds, IsFirstFault}
 use Rattle.gb_frame.specs.Laws.{WhatIsWrittenIsRead}
 use Rattle.gb_frame.proofs.Numbers.{IsBytes-take, IsBytes-drop, wide16, wide64, cut, number_below}
 use Rattle.gb_frame.proofs.ItemLaws.{items_take, stand_again, some_is}
-use Rattle.gb_frame.proofs.TextLaws.{Reads, text_reads}
-use Rattle.gb_frame.proofs.FaultLaws.{First, found_first, found_none, faults_numbered, below_eleven, not-true, not-false, IsGood, magic_there, magic_told, counted_there, nodes_there, acknowledged_there, parsed_there}
+use Rattle.gb_frame.proofs.TextLaws.{text_reads}
+use Rattle.gb_frame.proofs.FaultLaws.{found_first, found_none, faults_numbered, below_eleven, not-true, not-false, IsGood, magic_there, magic_told, counted_there, nodes_there, acknowledged_there, parsed_there}
 
 -- ---- a test that says so
 

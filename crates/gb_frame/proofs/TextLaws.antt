@@ -1,6 +1,6 @@
 -- What stands where in the text of a packet.
-use Rattle.std.proofs.Common.{◌≡◌, ℕ, ◌+◌, ◌-◌, ◌*◌, ◌^◌, ◌<◌, ◌≤◌, List, [], ◌∷◌, ◌++◌, length, take, drop, codes, Some, refl, sym, ap, ◌∙◌, arith}
-use Rattle.std.specs.Int.{w16, w64, to_be_bytes}
+use Rattle.std.proofs.Common.{◌≡◌, ℕ, ◌+◌, ◌-◌, ◌^◌, ◌<◌, List, [], length, take, drop, codes, Some, refl, sym, ap, ◌∙◌, arith}
+use Rattle.std.specs.Int.{w16, w64}
 use Rattle.std.proofs.lemmas.List.{take_at, drop_at, length-append, length-take, append-nil}
 use Rattle.gb_cap.specs.Hmac.{hmac_of, length-hmac_of}
 use Rattle.gb_frame.specs.declared.limits.TheConstants.{VERSION, TAG, SHORTEST}

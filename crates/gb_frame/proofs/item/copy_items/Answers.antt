@@ -1,8 +1,8 @@
-use Rattle.std.proofs.Common.{◌≡◌, ◌-◌, ◌+◌, ◌++◌, ◌∷◌, [], arith, suc, None, ap, sym, ◌∙◌}
+use Rattle.std.proofs.Common.{◌≡◌, ◌-◌, ◌+◌, ◌++◌, ◌∷◌, [], arith, suc, ap, sym, ◌∙◌}
 use Rattle.std.proofs.lemmas.List.{append-nil}
 use Rattle.gb_frame.specs.Packet.{item_of}
-use Rattle.gb_frame.specs.Reading.{item_at, items_at}
-use Rattle.gb_frame.proofs.Walk.{after, after_more, none_left, some_unless, next_is_there, after_all}
+use Rattle.gb_frame.specs.Reading.{items_at}
+use Rattle.gb_frame.proofs.Walk.{after_more, none_left, some_unless, next_is_there, after_all}
 use Rattle.gb_frame.proofs.item.copy_items.Goals as goal
 
 pub unwrap-requires : goal.unwrap-requires

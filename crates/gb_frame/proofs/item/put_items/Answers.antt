@@ -1,4 +1,4 @@
-use Rattle.std.proofs.Common.{◌≡◌, ℕ, ◌+◌, ◌*◌, ◌<◌, ◌≤◌, ◌++◌, length, get_or, take, arith, sym, ap, ◌∙◌, append_assoc, All, vec_len, vec_capacity}
+use Rattle.std.proofs.Common.{◌≡◌, length, get_or, take, arith, ap, ◌∙◌, append_assoc}
 use Rattle.std.proofs.lemmas.List.Elements.{All-more}
 use Rattle.gb_frame.specs.Packet.{item_of}
 use Rattle.gb_frame.specs.Spelling.{item_text, items_text, IsItem}
