@@ -13,8 +13,18 @@ use gb_types::limits::PACKET;
 use gb_types::memory::OutOfMemory;
 use std::alloc::Global;
 
+/// Appends bytes. Takes no memory.
+fn append(text: &mut Vec<u8>, bytes: &[u8])
+    requires { vec_len text.old + length bytes.now ≤ vec_capacity text.old }
+    ensures items { text.new.items ≡ text.old.items ++ bytes.now }
+    ensures len { vec_len text.new ≡ vec_len text.old + length bytes.now }
+    ensures capacity { vec_capacity text.old ≤ vec_capacity text.new }
+{
+    text.extend_from_slice(bytes).unwrap();
+}
+
 /// Appends a packet's header. Takes no memory.
-#[tactic(auto, unfolding(crate::specs::Spelling::header_text))]
+#[tactic(auto, unfolding(crate::specs::Spelling::header_text), using(std::proofs::lemmas::List::append_assoc))]
 fn put_header(packet: &Packet, text: &mut Vec<u8>)
     requires count { length packet.now.items.items < 2 ^ 16 }
     requires room { vec_len text.old + HEADER ≤ vec_capacity text.old }
@@ -23,44 +33,15 @@ fn put_header(packet: &Packet, text: &mut Vec<u8>)
     ensures capacity { vec_capacity text.old ≤ vec_capacity text.new }
     ensures fits { FitsFields (content packet.now) }
 {
-    let base = packet.base.to_be_bytes();
-    let mask = packet.mask.to_be_bytes();
-    let frame = packet.frame.to_be_bytes();
-    let count = (packet.items.len() as u16).to_be_bytes();
-    let header = [
-        b'G',
-        b'B',
-        VERSION,
-        packet.from.number,
-        packet.to.number,
-        base[0],
-        base[1],
-        base[2],
-        base[3],
-        base[4],
-        base[5],
-        base[6],
-        base[7],
-        mask[0],
-        mask[1],
-        mask[2],
-        mask[3],
-        mask[4],
-        mask[5],
-        mask[6],
-        mask[7],
-        frame[0],
-        frame[1],
-        frame[2],
-        frame[3],
-        frame[4],
-        frame[5],
-        frame[6],
-        frame[7],
-        count[0],
-        count[1],
-    ];
-    text.extend_from_slice(&header).unwrap();
+    let count = packet.items.len() as u16;
+    append(
+        text,
+        &[b'G', b'B', VERSION, packet.from.number, packet.to.number],
+    );
+    append(text, &packet.base.to_be_bytes());
+    append(text, &packet.mask.to_be_bytes());
+    append(text, &packet.frame.to_be_bytes());
+    append(text, &count.to_be_bytes());
 }
 
 /// The one text of a packet under a key.
@@ -73,7 +54,7 @@ pub fn encode_under(alloc: Global, packet: &Packet, key: &HmacKey) -> Result<Vec
     put_header(packet, &mut text);
     put_items(&packet.items, &mut text);
     let end = tag(&text, key);
-    text.extend_from_slice(&end).unwrap();
+    append(&mut text, &end);
     Ok(text)
 }
 
