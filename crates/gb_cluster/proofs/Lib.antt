@@ -1,0 +1,4 @@
+pub mod DeliveryLemmas
+pub mod KnownLemmas
+pub mod AcceptedLemmas
+pub mod IntegrityLemmas

@@ -8,6 +8,7 @@
 pub mod answer;
 pub mod event;
 pub mod group;
+pub mod laws;
 pub mod packet;
 pub mod plan;
 pub mod step;
