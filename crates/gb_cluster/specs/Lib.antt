@@ -6,3 +6,4 @@ pub mod World
 pub mod Headline
 pub mod Holds
 pub mod Laws
+pub mod TwoRuns

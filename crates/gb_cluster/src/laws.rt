@@ -1,8 +1,14 @@
 //! Laws of one group: what follows for it from its definition alone, over every list of events.
 ghost use Rattle.gb_cluster.specs.Laws.{IsIntegral};
+ghost use Rattle.gb_cluster.specs.TwoRuns.{AreAlike};
 
 /// Integrity of a group alone: each entry of a log is the message that its origin was told is accepted under
 /// that number, with that payload, and no message stands twice in a log.
 pub fn integrity()
     ensures { IsIntegral }
+{}
+
+/// Two runs that agree on a group show the same of it at each node.
+pub fn two_runs()
+    ensures { AreAlike }
 {}
