@@ -1,16 +1,26 @@
 -- What holds of every group alone, and so of each group in a cluster. A law speaks of every legal list of events; each list with which a legal one begins is
 -- legal too, so what a law says of the whole list it says at every moment: a message was accepted before it stands in any log.
-use Rattle.std.specs.Prelude.{ℕ, ◌-◌, ◌≡◌, ◌≤◌, ◌<◌, List, [], ◌∷◌, ◌++◌, All, count_by, Some, slice_get, nat_eq, if◌then◌else◌}
+use Rattle.std.specs.Prelude.{ℕ, ◌-◌, ◌≡◌, ◌≤◌, ◌<◌, ◌&&◌, List, [], ◌∷◌, ◌++◌, All, count_by, length, Some, slice_get, nat_eq, if◌then◌else◌}
 use Rattle.gb_types.specs.Entry.{message_of}
 use Rattle.gb_types.specs.Message.{same}
+use Rattle.gb_types.specs.declared.address.Addr.{Addr}
 use Rattle.gb_types.specs.declared.entry.Entry.{Entry}
 use Rattle.gb_types.specs.declared.message.MsgId.{MsgId}
 use Rattle.gb_types.specs.declared.reply.Reply.{Reply}
 use Rattle.gb_types.specs.declared.reply.Reply.TheVariants.{Said}
+use Rattle.gb_types.specs.declared.request.Request.TheVariants.{Say}
 use Rattle.gb_cluster.specs.Alone.{Group, reply_to, after, nobody, alone, log_at, IsLegal}
+use Rattle.gb_cluster.specs.Headline.{seen_in, IsIsolated}
+use Rattle.gb_cluster.specs.Project.{is_addr, has_row}
+use Rattle.gb_cluster.specs.World.{World}
+use Rattle.gb_cluster.specs.declared.answer.Answer.{Answer}
+use Rattle.gb_cluster.specs.declared.answer.Answer.TheVariants.{Reply as Replied}
+use Rattle.gb_cluster.specs.declared.event.Event.{Event}
+use Rattle.gb_cluster.specs.declared.event.Event.TheVariants.{At}
 use Rattle.gb_cluster.specs.declared.group.GroupEvent.{GroupEvent}
 use Rattle.gb_cluster.specs.declared.group.GroupEvent.TheVariants.{AskSay}
 use Rattle.gb_cluster.specs.declared.group.GroupStep.{GroupStep}
+use Rattle.gb_cluster.specs.declared.step.Step.{Step}
 
 -- the payload of a message that was accepted
 abbrev pub accepted_in : GroupEvent → Reply → List (List ℕ)
@@ -51,3 +61,23 @@ pub record Integrity (nodes number : ℕ) (steps : List GroupStep) : Type 0 wher
 
 abbrev pub IsIntegral : Type 0
 IsIntegral = (nodes number : ℕ) (steps : List GroupStep) → IsLegal nodes number steps → Integrity nodes number steps
+
+-- In a cluster.
+
+abbrev pub accepted_by : Addr → List Step → Event → Answer → ℕ → List (List ℕ)
+accepted_by g steps (At x (Say token addr payload)) (Replied (Said seq)) s = if nat_eq x.number s && (has_row s g.tenant steps && is_addr g addr) then payload ∷ [] else []
+accepted_by g steps event answer s = []
+
+-- the payloads of the group's messages that were accepted at a node that has its tenant, in order
+unfoldable pub accepted_there : Addr → List Step → ℕ → List (List ℕ)
+accepted_there g [] s = []
+accepted_there g (x ∷ steps) s = accepted_there g steps s ++ accepted_by g steps x.event x.answer s
+
+-- the log seen at each node keeps integrity, and each item seen between two nodes was accepted at its origin
+pub record RunIntegrity (g : Addr) (w : World) : Type 0 where
+  pub logs : (a b : ℕ) → a < length w.nodes → b < length w.nodes → KeepsIntegrity (accepted_there g w.steps) (seen_in w g a b).log
+  pub items : (a b : ℕ) → a < length w.nodes → b < length w.nodes → All (IsAccepted (accepted_there g w.steps)) (seen_in w g a b).put
+
+-- so of each group that is what it is alone
+abbrev pub AreIntegral : Type 0
+AreIntegral = (g : Addr) (w : World) → IsIsolated g w → RunIntegrity g w
