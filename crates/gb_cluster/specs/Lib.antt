@@ -6,3 +6,5 @@ pub mod World
 pub mod Headline
 pub mod Holds
 pub mod Trace
+pub mod Laws
+pub mod TwoRuns

@@ -11,6 +11,7 @@ pub mod event;
 mod frames;
 pub mod group;
 mod node;
+pub mod laws;
 pub mod packet;
 pub mod plan;
 pub mod step;

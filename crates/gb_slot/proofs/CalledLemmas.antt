@@ -9,7 +9,6 @@ use Rattle.gb_types.specs.declared.message.MsgId.{MsgId}
 use Rattle.gb_types.specs.declared.node.NodeId.{NodeId}
 use Rattle.gb_layer.specs.Machine.{mentions, messages, came_from}
 use Rattle.gb_layer.specs.Modules.{IsLawful, broadcasts}
-
 use Rattle.gb_slot.specs.declared.history.GroupCall.{GroupCall}
 use Rattle.gb_slot.specs.History.{base_of, call_of, calls_of, entry_told, known, said_in, delivered, puts_of}
 use Rattle.gb_slot.specs.Messages.{has, entry_in, with_new}
