@@ -5,3 +5,4 @@ pub mod NodeValue
 pub mod World
 pub mod Headline
 pub mod Holds
+pub mod Observation

@@ -10,4 +10,5 @@ pub mod event;
 pub mod group;
 pub mod packet;
 pub mod plan;
+pub mod projection;
 pub mod step;
