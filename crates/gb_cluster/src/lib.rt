@@ -8,6 +8,7 @@
 pub mod answer;
 pub mod event;
 pub mod group;
+pub mod observation;
 pub mod packet;
 pub mod plan;
 pub mod projection;
