@@ -20,3 +20,4 @@ pub mod CommandLemmas
 pub mod RunCommands
 pub mod InsideLemmas
 pub mod RunIntegrity
+pub mod PastLemmas

@@ -8,3 +8,4 @@ pub mod Holds
 pub mod Trace
 pub mod Laws
 pub mod TwoRuns
+pub mod Observation

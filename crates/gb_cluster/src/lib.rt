@@ -12,8 +12,10 @@ mod frames;
 pub mod group;
 mod node;
 pub mod laws;
+pub mod observation;
 pub mod packet;
 pub mod plan;
+pub mod projection;
 pub mod step;
 #[cfg(test)]
 mod tests;
