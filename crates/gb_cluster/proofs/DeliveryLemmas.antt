@@ -6,7 +6,7 @@ use Rattle.gb_types.specs.Message.{same}
 use Rattle.gb_types.specs.declared.message.MsgId.{MsgId}
 use Rattle.gb_types.proofs.SameLemmas.{and-first, same-true}
 use Rattle.gb_layer.specs.Machine.{mentions, was_noticed, came_from}
-use Rattle.gb_layer.specs.ModuleLaws.{first_mentions_mentioned, first_mentions_once}
+use Rattle.gb_layer.specs.FirstMentions.{first_mentions-mentioned, first_mentions-once}
 use Rattle.gb_layer.specs.Modules.{first_mentions, holds, is_delivered, now_delivered, now_broadcast, newly, delivers, broadcasts, log}
 use Rattle.gb_layer.specs.declared.base.Base.{Base}
 use Rattle.gb_layer.specs.declared.base.Base.TheVariants.{BestEffort, Lazy, Eager, AllAck}
@@ -92,7 +92,7 @@ filter-one q m (x ∷ xs) = go (q x) refl (same x m) refl (filter-one q m xs)
 newly_once : (test : List Call → MsgId → Bool) (c : Call) (past : List Call) (m : MsgId) → (test (c ∷ past) m ≡ true → mentions (c ∷ past) m ≡ true) → filter (λ x. same x m) (newly test c past) ≡ cond (test (c ∷ past) m && not (test past m)) (m ∷ []) []
 newly_once test c past m within =
     filter-one (λ x. test (c ∷ past) x && not (test past x)) m (first_mentions (c ∷ past))
-    ∙ (ap (λ xs. cond (test (c ∷ past) m && not (test past m)) xs []) (first_mentions_once (c ∷ past) m) ∙ both (test (c ∷ past) m) (not (test past m)) (mentions (c ∷ past) m) within)
+    ∙ (ap (λ xs. cond (test (c ∷ past) m && not (test past m)) xs []) (first_mentions-once (c ∷ past) m) ∙ both (test (c ∷ past) m) (not (test past m)) (mentions (c ∷ past) m) within)
   where
     both : (a b d : Bool) → (a ≡ true → d ≡ true) → cond (a && b) (cond d (m ∷ []) []) [] ≡ cond (a && b) (m ∷ []) []
     both true true d f = ap (λ e. cond e (m ∷ []) []) (f refl)
@@ -129,7 +129,7 @@ all_weaker P Q f [] a = tt
 all_weaker P Q f (x ∷ xs) a = (f x a.0, all_weaker P Q f xs a.1)
 
 newly_mentioned : (test : List Call → MsgId → Bool) (c : Call) (past : List Call) → AllByRecursion (λ m. mentions (c ∷ past) m ≡ true) (newly test c past)
-newly_mentioned test c past = all_filter (λ m. mentions (c ∷ past) m ≡ true) (λ m. test (c ∷ past) m && not (test past m)) (first_mentions (c ∷ past)) (first_mentions_mentioned (c ∷ past))
+newly_mentioned test c past = all_filter (λ m. mentions (c ∷ past) m ≡ true) (λ m. test (c ∷ past) m && not (test past m)) (first_mentions (c ∷ past)) (first_mentions-mentioned (c ∷ past))
 
 pub broadcasts_mentioned : (base : Base) (me : ℕ) (c : Call) (past : List Call) → AllByRecursion (λ m. mentions (c ∷ past) m ≡ true) (broadcasts base me c past)
 broadcasts_mentioned base me c past = newly_mentioned (now_broadcast base me) c past
