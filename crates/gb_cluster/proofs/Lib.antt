@@ -1,1 +1,2 @@
 pub mod PastLemmas
+pub mod ModelLemmas
