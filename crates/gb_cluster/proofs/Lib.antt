@@ -21,3 +21,4 @@ pub mod RunCommands
 pub mod InsideLemmas
 pub mod RunIntegrity
 pub mod PastLemmas
+pub mod ModelLemmas

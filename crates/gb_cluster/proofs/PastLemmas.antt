@@ -58,7 +58,7 @@ take_past zero xs ys le = refl
 take_past (suc n) [] ys le = absurd (omega arith)
 take_past (suc n) (x ∷ xs) ys le = ap (λ zs. x ∷ zs) (take_past n xs ys (omega arith))
 
-take_short : {X : Type 0} (n : ℕ) (xs : List X) → length xs ≤ n → take n xs ≡ xs
+pub take_short : {X : Type 0} (n : ℕ) (xs : List X) → length xs ≤ n → take n xs ≡ xs
 take_short zero [] le = refl
 take_short (suc n) [] le = refl
 take_short zero (x ∷ xs) le = absurd (omega arith)

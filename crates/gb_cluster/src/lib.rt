@@ -2,7 +2,8 @@
 //! it is what it would be alone.
 //!
 //! There is no time, no thread and no socket here: a cluster is told what happens, event by event. Read
-//! `cluster::Cluster` first, then specs/Alone.antt and specs/Headline.antt.
+//! `cluster::Cluster` first, then specs/Alone.antt and specs/Headline.antt. `projection`, `observation` and `model`
+//! compute the two sides of the theorem plainly and slowly, to run them on short runs.
 #![tactic(auto)]
 
 pub mod answer;
@@ -12,6 +13,7 @@ mod frames;
 pub mod group;
 mod node;
 pub mod laws;
+pub mod model;
 pub mod observation;
 pub mod packet;
 pub mod plan;

@@ -98,7 +98,7 @@ pub(crate) fn copies(alloc: Global, entries: &[Entry]) -> Result<Entries, OutOfM
 }
 
 /// The same reply, copied.
-fn copy_of(alloc: Global, reply: &Reply) -> Result<Reply, OutOfMemory>
+pub(crate) fn copy_of(alloc: Global, reply: &Reply) -> Result<Reply, OutOfMemory>
     ensures { IfOk result (λ r. r ≡ reply.now) }
 {
     Ok(match reply {

@@ -1,6 +1,7 @@
 use super::*;
 use crate::answer::{Frame, Good, Sent, Taken};
 use crate::group::{GroupEvent, GroupStep};
+use crate::model::alone;
 use crate::projection::project;
 use gb_types::kind::Kind;
 use gb_types::node::{NodeId, NodeSet};
@@ -286,5 +287,56 @@ fn the_other_group_is_seen_apart(rt: HostRuntime) -> Result<(), Fail> {
     assert_eq!(rt; nodes.len(), 2);
     is_seen(&rt, rt.alloc(), &nodes[0], &[Got::Done], &[0, 1])?;
     is_seen(&rt, rt.alloc(), &nodes[1], &[], &[0, 0])?;
+    Ok(())
+}
+
+fn are_same(some: &[Entry], others: &[Entry]) -> bool {
+    if some.len() != others.len() {
+        return false;
+    }
+    for (x, y) in some.iter().zip(others) {
+        if x.message() != y.message() || x.payload.as_slice() != y.payload.as_slice() {
+            return false;
+        }
+    }
+    true
+}
+
+/// Compares what is seen at a node of a run with what is seen there of the group alone.
+fn are_alike(rt: &impl Abort, seen: &NodeSeen, told: &NodeSeen) {
+    assert_eq!(rt; seen.replies().len(), told.replies().len());
+    for (some, other) in seen.replies().iter().zip(told.replies()) {
+        assert_eq!(rt; short_reply(some), short_reply(other));
+        if let Reply::Log(entries) = some {
+            if let Reply::Log(others) = other {
+                assert!(rt; are_same(entries.as_slice(), others.as_slice()));
+            }
+        }
+    }
+    assert_eq!(rt; seen.carried().len(), told.carried().len());
+    for (some, other) in seen.carried().iter().zip(told.carried()) {
+        assert!(rt; are_same(some.as_slice(), other.as_slice()));
+    }
+}
+
+/// The two sides of the theorem, by running both.
+#[test]
+fn the_observation_is_that_of_the_projection_alone(rt: HostRuntime) -> Result<(), Fail> {
+    let run = example(rt.alloc())?;
+    let steps = project(rt.alloc(), &run.events, &run.answers, &run.packets, GROUP)?;
+    let seen = observe(
+        rt.alloc(),
+        3,
+        &run.events,
+        &run.answers,
+        &run.packets,
+        GROUP,
+    )?;
+    let told = alone(rt.alloc(), 3, GROUP.group, &steps)?;
+    assert_eq!(rt; seen.nodes().len(), 3);
+    assert_eq!(rt; told.nodes().len(), 3);
+    for (some, other) in seen.nodes().iter().zip(told.nodes()) {
+        are_alike(&rt, some, other);
+    }
     Ok(())
 }

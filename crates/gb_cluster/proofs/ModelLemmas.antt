@@ -1,0 +1,250 @@
+-- The plain program's lists stand for the group alone.
+use Rattle.std.proofs.Common.{◌≡◌, ℕ, zero, suc, ◌+◌, ◌-◌, ◌^◌, ◌<◌, ◌≤◌, ◌≢◌, ◌⊎◌, inl, inr, List, [], ◌∷◌, ◌++◌, length, take, get_or, nat_eq, Bool, true, false, ◌∙◌, ap, sym, subst, refl, arith, add-one, length-append}
+use Rattle.std.specs.Prelude.{map, min, fold, replicate, reverse, slice_get, slice_index_or, slice_set, Option, Some, None, is_some, if◌then◌else◌}
+use Rattle.std.specs.FinSet as set
+use Rattle.std.proofs.lemmas.List.{get_or-replicate, get_or-set_same, get_or-set_other, get_or_append_left, length-set, length-map, map-append, take_more}
+use Rattle.std.proofs.lemmas.List.Sums.{fold-append}
+use Rattle.std.proofs.Math.Seq.{get_or-append_seam}
+use Rattle.std.proofs.lemmas.Bool.Decides.{eqb_tells}
+use Rattle.gb_types.specs.declared.entry.Entry.{Entry}
+use Rattle.gb_types.specs.declared.kind.Kind.{Kind}
+use Rattle.gb_types.specs.declared.kind.Kind.TheVariants.{Beb}
+use Rattle.gb_types.specs.declared.limits.TheConstants.{NODES}
+use Rattle.gb_types.specs.declared.node.NodeId.{NodeId}
+use Rattle.gb_types.specs.declared.reply.Reply.{Reply}
+use Rattle.gb_types.specs.declared.reply.Reply.TheVariants.{Done, Said}
+use Rattle.gb_types.specs.declared.spec.Spec.{Spec}
+use Rattle.gb_layer.specs.Modules.{log, delivers}
+use Rattle.gb_layer.specs.declared.base.Base.TheVariants.{BestEffort}
+use Rattle.gb_layer.specs.declared.call.Call.{Call}
+use Rattle.gb_slot.specs.History.{base_of, puts_of, log_of, calls_of, known}
+use Rattle.gb_slot.specs.Messages.{entry_in}
+use Rattle.gb_slot.specs.Rules.{Shown, is_other, open_answer, say_answer, fetch_answer}
+use Rattle.gb_slot.specs.declared.history.GroupCall.{GroupCall}
+use Rattle.gb_slot.specs.declared.history.GroupCall.TheVariants.{Own, Other}
+use Rattle.gb_slot.specs.declared.phase.Phase.{Phase}
+use Rattle.gb_slot.specs.declared.phase.Phase.TheVariants.{Made, Opened}
+use Rattle.gb_cluster.specs.Alone.{Member, Group, shown, shown_of, reply_to, put_to, called, did, commanded, falls, item_came, taken_in, member_after, after, nobody, alone, alone_from}
+use Rattle.gb_cluster.specs.Observation.{upto, MemberValue, new_member, member_of, row_with, rows_with, value_called, value_did, value_commanded, value_came, value_taken_in, value_took, value_at, value_after, values_after, IsListed, AreListed}
+use Rattle.gb_cluster.specs.Rules.{make_answer, by_tenant, on_made}
+use Rattle.gb_cluster.specs.declared.group.GroupEvent.{GroupEvent}
+use Rattle.gb_cluster.specs.declared.group.GroupEvent.TheVariants.{Tenant, AskMake, AskOpen, AskSay, AskFetch, Took, Came}
+use Rattle.gb_cluster.specs.declared.group.GroupStep.{GroupStep}
+use Rattle.gb_cluster.specs.declared.group.Reserve.{Reserve}
+use Rattle.gb_cluster.proofs.PastLemmas.{map_more}
+
+-- best-effort broadcast does not ask who the members are
+log_any : (kind : Kind) (me : ℕ) (xs ys : List ℕ) (past : List Call) → log (base_of kind) me xs past ≡ log (base_of kind) me ys past
+log_any Beb me xs ys [] = refl
+log_any Beb me xs ys (c ∷ past) = ap (λ l. l ++ delivers BestEffort me xs c past) (log_any Beb me xs ys past)
+
+pub log_of_any : (spec : Spec) (me : ℕ) (xs : List ℕ) (told : List GroupCall) → map (entry_in (known told)) (log (base_of spec.kind) me xs (calls_of told)) ≡ log_of spec me told
+log_of_any spec me xs told = ap (map (entry_in (known told))) (log_any spec.kind me xs (set.items spec.members) (calls_of told))
+
+-- An item of a list over numbers.
+
+length_upto : (n : ℕ) → length (upto n) ≡ n
+unfolding upto
+length_upto zero = refl
+length_upto (suc n) = omega (arith, length-append (upto n) (n ∷ []), length_upto n)
+
+get_upto : {X : Type 0} (f : ℕ → X) (n b : ℕ) (d : X) → b < n → get_or (map f (upto n)) b d ≡ f b
+unfolding upto
+get_upto f zero b d lt = absurd (omega arith)
+get_upto f (suc n) b d lt =
+    let len : length (map f (upto n)) ≡ n = length-map (upto n) f ∙ length_upto n in
+    ap (λ xs. get_or xs b d) (map-append f (upto n) (n ∷ [])) ∙ elim (eqb_tells b n) [
+      | inl p ↦ ap (λ k. get_or (map f (upto n) ++ f n ∷ []) k d) (p.1 ∙ sym len) ∙ (get_or-append_seam (map f (upto n)) (f n) [] d ∙ ap f (sym p.1))
+      | inr p ↦ get_or_append_left (map f (upto n)) (f n ∷ []) d b (omega (arith, len, p.1)) ∙ get_upto f n b d (omega (arith, p.1))
+    ]
+
+-- Counts that stop at the greatest number of 64 bits.
+
+min_twice : (t c most : ℕ) → min (min t most + c) most ≡ min (t + c) most
+min_twice t c most = omega arith
+
+took_at : (x b count most : ℕ) (t : ℕ → ℕ) (taken : List ℕ) → b < length taken → get_or taken b 0 ≡ min (t b) most → get_or taken x 0 ≡ min (t x) most
+    → get_or (slice_set taken b (min (get_or taken b 0 + count) most)) x 0 ≡ min (if nat_eq x b then t x + count else t x) most
+took_at x b count most t taken lt here there = elim (eqb_tells x b) [
+  | inl p ↦
+      ap (λ k. get_or (slice_set taken b (min (get_or taken b 0 + count) most)) k 0) p.1
+      ∙ (get_or-set_same taken b (min (get_or taken b 0 + count) most) 0 lt
+      ∙ (ap (λ k. min (k + count) most) here
+      ∙ (min_twice (t b) count most
+      ∙ (ap (λ k. min (t k + count) most) (sym p.1)
+      ∙ ap (λ (e : Bool). min (if e then t x + count else t x) most) (sym p.0)))))
+  | inr p ↦
+      get_or-set_other taken b x (min (get_or taken b 0 + count) most) 0 p.1
+      ∙ (there ∙ ap (λ (e : Bool). min (if e then t x + count else t x) most) (sym p.0))
+]
+
+-- The member after each change.
+
+shown_listed : (me : ℕ) (v : MemberValue) (m : Member) → IsListed v m → shown me (member_of v) ≡ shown me m
+shown_listed me v m h =
+    ap (λ (p : Phase). shown_of me p v.told v.spec) h.phase
+    ∙ (ap (λ (t : List GroupCall). shown_of me m.phase t v.spec) h.told ∙ ap (λ (s : Option Spec). shown_of me m.phase m.told s) h.spec)
+
+by_both : (answer : Shown → Reply) (r r' : Option Reserve) (s s' : Option Shown) → r ≡ r' → s ≡ s' → by_tenant (λ _. on_made answer s) r ≡ by_tenant (λ _. on_made answer s') r'
+by_both answer r r' s s' e f = ap (λ (x : Option Reserve). by_tenant (λ _. on_made answer s) x) e ∙ ap (λ (x : Option Shown). by_tenant (λ _. on_made answer x) r') f
+
+reply_listed : (nodes number me : ℕ) (event : GroupEvent) (v : MemberValue) (m : Member) → IsListed v m → reply_to nodes number me event (member_of v) ≡ reply_to nodes number me event m
+reply_listed nodes number me (AskMake spec) v m h =
+    ap (λ (r : Option Reserve). by_tenant (make_answer nodes me number (is_some v.spec) spec) r) h.reserve
+    ∙ ap (λ (s : Option Spec). by_tenant (make_answer nodes me number (is_some s) spec) m.reserve) h.spec
+reply_listed nodes number me AskOpen v m h = by_both open_answer v.reserve m.reserve (shown me (member_of v)) (shown me m) h.reserve (shown_listed me v m h)
+reply_listed nodes number me (AskSay payload) v m h = by_both (λ s. say_answer s payload) v.reserve m.reserve (shown me (member_of v)) (shown me m) h.reserve (shown_listed me v m h)
+reply_listed nodes number me (AskFetch from most) v m h = by_both (λ s. fetch_answer s from most) v.reserve m.reserve (shown me (member_of v)) (shown me m) h.reserve (shown_listed me v m h)
+reply_listed nodes number me (Tenant reserve) v m h = refl
+reply_listed nodes number me (Took b count) v m h = refl
+reply_listed nodes number me (Came from place) v m h = refl
+
+rows_listed : (me : ℕ) (spec : Option Spec) (c : GroupCall) (told : List GroupCall) (rows : List (List Entry)) (put : ℕ → List Entry) → ((b : ℕ) → b < NODES → slice_index_or rows b [] ≡ put b)
+    → (b : ℕ) → b < NODES → slice_index_or (rows_with me spec c told rows) b [] ≡ put_to me spec c told put b
+rows_listed me None c told rows put same b lt = same b lt
+rows_listed me (Some spec) c told rows put same b lt =
+    get_upto (row_with spec me rows (puts_of spec me c told)) NODES b [] lt
+    ∙ ap (λ (row : List Entry). if is_other spec me b then row ++ puts_of spec me c told else row) (same b lt)
+
+called_listed : (me : ℕ) (c : GroupCall) (v : MemberValue) (m : Member) → IsListed v m → IsListed (value_called me c v) (called me c m)
+called_listed me c v m h = record {
+  reserve = h.reserve;
+  spec = h.spec;
+  phase = h.phase;
+  told = ap (λ (t : List GroupCall). c ∷ t) h.told;
+  replies = h.replies;
+  put = λ b lt.
+      ap (λ (s : Option Spec). slice_index_or (rows_with me s c v.told v.put) b []) h.spec
+      ∙ (ap (λ (t : List GroupCall). slice_index_or (rows_with me m.spec c t v.put) b []) h.told
+      ∙ rows_listed me m.spec c m.told v.put m.put h.put b lt);
+  taken = h.taken;
+  size = h.size;
+}
+
+did_listed : (me : NodeId) (event : GroupEvent) (reply : Reply) (v : MemberValue) (m : Member) → IsListed v m → IsListed (value_did me event reply v) (did me event reply m)
+did_listed me (AskMake spec) Done v m h = record { reserve = h.reserve; spec = refl; phase = h.phase; told = h.told; replies = h.replies; put = h.put; taken = h.taken; size = h.size }
+did_listed me AskOpen Done v m h = record { reserve = h.reserve; spec = h.spec; phase = refl; told = h.told; replies = h.replies; put = h.put; taken = h.taken; size = h.size }
+did_listed me (AskSay payload) (Said seq) v m h = called_listed me.number (Own (record { origin = me; seq = seq; payload = payload })) v m h
+did_listed me event reply v m h = h
+
+commanded_listed : (me : NodeId) (event : GroupEvent) (reply : Reply) (v : MemberValue) (m : Member) → IsListed v m → IsListed (value_commanded me event reply v) (commanded me event reply m)
+commanded_listed me event reply v m h =
+    let next = did_listed me event reply v m h in
+    record {
+      reserve = next.reserve;
+      spec = next.spec;
+      phase = next.phase;
+      told = next.told;
+      replies = ap (λ (rs : List Reply). rs ++ reply ∷ []) h.replies;
+      put = next.put;
+      taken = next.taken;
+      size = next.size;
+    }
+
+either_listed : (b : Bool) (v w : MemberValue) (m n : Member) → IsListed v m → IsListed w n → IsListed (if b then v else w) (if b then m else n)
+either_listed true v w m n h k = h
+either_listed false v w m n h k = k
+
+came_listed : (me : ℕ) (from : NodeId) (x : Entry) (v : MemberValue) (m : Member) → IsListed v m → IsListed (value_came me from x v) (item_came me from x m)
+came_listed me from x v m h =
+    let same = ap (λ (t : List GroupCall). falls me from.number x t v.spec) h.told ∙ ap (λ (s : Option Spec). falls me from.number x m.told s) h.spec in
+    let P : Bool → Type 0 = λ b. IsListed (if b then v else value_called me (Other from x) v) (item_came me from x m) in
+    subst P (sym same) (either_listed (falls me from.number x m.told m.spec) v (value_called me (Other from x) v) m (called me (Other from x) m) h (called_listed me (Other from x) v m h))
+
+with_place : (v : MemberValue) (m : Member) (come : ℕ → List ℕ) → IsListed v m → IsListed v (record m { come = come })
+with_place v m come h = record { reserve = h.reserve; spec = h.spec; phase = h.phase; told = h.told; replies = h.replies; put = h.put; taken = h.taken; size = h.size }
+
+taken_in_listed : (me : ℕ) (from : NodeId) (place : ℕ) (item : Option Entry) (v : MemberValue) (m : Member) → IsListed v m → IsListed (value_taken_in me from item v) (taken_in me from place item m)
+taken_in_listed me from place None v m h = h
+taken_in_listed me from place (Some x) v m h =
+    let next = item_came me from x m in
+    with_place (value_came me from x v) next (λ b. if nat_eq b from.number then place ∷ m.come b else m.come b) (came_listed me from x v m h)
+
+took_listed : (b count : ℕ) (v : MemberValue) (m : Member) → b < NODES → IsListed v m → IsListed (value_took b count v) (record m { taken = λ x. if nat_eq x b then m.taken x + count else m.taken x })
+took_listed b count v m lt h = record {
+  reserve = h.reserve;
+  spec = h.spec;
+  phase = h.phase;
+  told = h.told;
+  replies = h.replies;
+  put = h.put;
+  taken = λ x below. took_at x b count (2 ^ 64 - 1) m.taken v.taken (omega (arith, h.size)) (h.taken b lt) (h.taken x below);
+  size = length-set v.taken b (min (slice_index_or v.taken b 0 + count) (2 ^ 64 - 1)) ∙ h.size;
+}
+
+command_listed : (nodes number : ℕ) (me : NodeId) (event : GroupEvent) (v : MemberValue) (m : Member) → IsListed v m
+    → IsListed (value_commanded me event (reply_to nodes number me.number event (member_of v)) v) (commanded me event (reply_to nodes number me.number event m) m)
+command_listed nodes number me event v m h =
+    let P : Reply → Type 0 = λ r. IsListed (value_commanded me event r v) (commanded me event (reply_to nodes number me.number event m) m) in
+    subst P (sym (reply_listed nodes number me.number event v m h)) (commanded_listed me event (reply_to nodes number me.number event m) v m h)
+
+member_listed : (nodes number : ℕ) (me : NodeId) (event : GroupEvent) (vs : List MemberValue) (group : Group) → AreListed vs group → IsListed (value_after nodes number me event vs) (member_after nodes number me event group)
+member_listed nodes number me (Tenant reserve) vs group h =
+    let here = h.members me.number me.below in
+    record { reserve = refl; spec = here.spec; phase = here.phase; told = here.told; replies = here.replies; put = here.put; taken = here.taken; size = here.size }
+member_listed nodes number me (Took b count) vs group h = took_listed b.number count (value_at vs me.number) (group me.number) b.below (h.members me.number me.below)
+member_listed nodes number me (Came from place) vs group h =
+    let P : List Entry → Type 0 = λ row. IsListed (value_taken_in me.number from (slice_get row (place - 1)) (value_at vs me.number)) (member_after nodes number me (Came from place) group) in
+    subst P (sym ((h.members from.number from.below).put me.number me.below))
+    (taken_in_listed me.number from place (slice_get ((group from.number).put me.number) (place - 1)) (value_at vs me.number) (group me.number) (h.members me.number me.below))
+member_listed nodes number me (AskMake spec) vs group h = command_listed nodes number me (AskMake spec) (value_at vs me.number) (group me.number) (h.members me.number me.below)
+member_listed nodes number me AskOpen vs group h = command_listed nodes number me AskOpen (value_at vs me.number) (group me.number) (h.members me.number me.below)
+member_listed nodes number me (AskSay payload) vs group h = command_listed nodes number me (AskSay payload) (value_at vs me.number) (group me.number) (h.members me.number me.below)
+member_listed nodes number me (AskFetch from most) vs group h = command_listed nodes number me (AskFetch from most) (value_at vs me.number) (group me.number) (h.members me.number me.below)
+
+-- The group after each step.
+
+step_listed : (nodes number : ℕ) (step : GroupStep) (vs : List MemberValue) (group : Group) → AreListed vs group → AreListed (values_after nodes number vs step) (after nodes number group step)
+unfolding after
+step_listed nodes number step vs group h = record {
+  members = λ x lt.
+      let me = step.node in
+      let w = value_after nodes number me step.event vs in
+      let m = member_after nodes number me step.event group in
+      let P : Bool → MemberValue → Type 0 = λ e v. IsListed v (if e then m else group x) in
+      elim (eqb_tells x me.number) [
+        | inl p ↦
+            let is : value_at (slice_set vs me.number w) x ≡ w = ap (λ k. value_at (slice_set vs me.number w) k) p.1 ∙ get_or-set_same vs me.number w new_member (omega (arith, h.size, me.below)) in
+            subst (λ (v : MemberValue). P (nat_eq x me.number) v) (sym is) (subst (λ (e : Bool). P e w) (sym p.0) (member_listed nodes number me step.event vs group h))
+        | inr p ↦
+            subst (λ (v : MemberValue). P (nat_eq x me.number) v) (sym (get_or-set_other vs me.number x w new_member p.1)) (subst (λ (e : Bool). P e (value_at vs x)) (sym p.0) (h.members x lt))
+      ];
+  size = length-set vs step.node.number (value_after nodes number step.node step.event vs) ∙ h.size;
+}
+
+steps_listed : (nodes number : ℕ) (steps : List GroupStep) (vs : List MemberValue) (group : Group) → AreListed vs group → AreListed (fold (values_after nodes number) vs steps) (alone_from nodes number group steps)
+steps_listed nodes number [] vs group h = h
+steps_listed nodes number (s ∷ steps) vs group h = steps_listed nodes number steps (values_after nodes number vs s) (after nodes number group s) (step_listed nodes number s vs group h)
+
+new_listed : (x : ℕ) → IsListed new_member (nobody x)
+new_listed x = record {
+  reserve = refl;
+  spec = refl;
+  phase = refl;
+  told = refl;
+  replies = refl;
+  put = λ b lt. refl;
+  taken = λ b lt. get_or-replicate NODES b 0 0 lt;
+  size = refl;
+}
+
+start_listed : AreListed (replicate NODES new_member) nobody
+start_listed = record {
+  members = λ x lt. let P : MemberValue → Type 0 = λ v. IsListed v (nobody x) in subst P (sym (get_or-replicate NODES x new_member new_member lt)) (new_listed x);
+  size = refl;
+}
+
+-- the plain program's lists after all steps are the group alone
+pub alone_listed : (nodes number : ℕ) (steps : List GroupStep) → AreListed (fold (values_after nodes number) (replicate NODES new_member) steps) (alone nodes number steps)
+alone_listed nodes number steps = steps_listed nodes number steps (replicate NODES new_member) nobody start_listed
+
+-- one step more
+pub more_values : (nodes number : ℕ) (steps : List GroupStep) (vs : List MemberValue) (i : ℕ) (s : GroupStep) → i < length steps → s ≡ get_or steps i s
+    → fold (values_after nodes number) vs (take (i + 1) steps) ≡ values_after nodes number (fold (values_after nodes number) vs (take i steps)) s
+more_values nodes number steps vs i s lt is =
+    ap (fold (values_after nodes number) vs) (take_more steps i s lt)
+    ∙ (fold-append (values_after nodes number) vs (take i steps) (get_or steps i s ∷ [])
+    ∙ ap (λ (t : GroupStep). values_after nodes number (fold (values_after nodes number) vs (take i steps)) t) (sym is))
+
+pub length_after : (nodes number : ℕ) (vs : List MemberValue) (s : GroupStep) → length (values_after nodes number vs s) ≡ length vs
+length_after nodes number vs s = length-set vs s.node.number (value_after nodes number s.node s.event vs)
