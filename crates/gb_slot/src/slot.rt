@@ -90,6 +90,7 @@ impl Slot {
     pub fn open_group(&mut self) -> Result<(), Refusal>
         ensures answer { done_reply result ≡ open_answer (shown self.old.state) }
         ensures state { self.new.state ≡ slot_opened (done_reply result) self.old.state }
+        ensures room { (self.new.calls ≡ self.old.calls) × (self.new.bytes ≡ self.old.bytes) }
     {
         match self.phase {
             Phase::Made => {
@@ -101,7 +102,7 @@ impl Slot {
     }
 
     /// Makes room, so that the next calls of `came`, so many, with so many payload bytes in all, take no
-    /// memory.
+    /// memory. A `say` in between may use the room up; no other call does.
     pub fn ready(&mut self, calls: usize, bytes: usize) -> Result<(), OutOfMemory>
         ensures state { self.new.state ≡ self.old.state }
         ensures room { OnOk result ((calls ≤ self.new.calls) × (bytes ≤ self.new.bytes)) }
@@ -229,6 +230,7 @@ impl Slot {
     pub fn took(&mut self, dest: NodeId, count: usize)
         requires { count ≤ length (waiting self.old.state dest.number) }
         ensures state { self.new.state ≡ slot_took dest.number count self.old.state }
+        ensures room { (self.new.calls ≡ self.old.calls) × (self.new.bytes ≡ self.old.bytes) }
     {
         self.taken[dest.index()] += count;
     }
