@@ -12,7 +12,8 @@ use Rattle.std.proofs.lemmas.Bool.Decides.{eqb_tells}
 use Rattle.gb_frame.specs.declared.fault.PacketFault.{PacketFault}
 use Rattle.gb_frame.specs.declared.fault.PacketFault.TheVariants.{Short, Magic, Version, Node, Mask, Count, Length, Trailing, TooLong, Tag}
 use Rattle.gb_frame.specs.Faults.{fault_number}
-use Rattle.gb_frame.specs.Reading.{faults, is_magic, version_in, from_in, to_in, base_in, mask_in, frame_in, count_in, parsed, left_over, items_of, tag_in, tagged_in}
+use Rattle.gb_frame.specs.Fields.{version_in, from_in, to_in, base_in, mask_in, frame_in, count_in, tag_in, tagged_in}
+use Rattle.gb_frame.specs.Reading.{faults, is_magic, parsed, left_over, items_of}
 
 -- ---- the order of the table
 

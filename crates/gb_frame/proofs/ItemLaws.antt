@@ -10,7 +10,8 @@ use Rattle.std.proofs.lemmas.List.Concat.{flat_map-cons}
 use Rattle.gb_types.specs.declared.limits.TheConstants.{PAYLOAD}
 use Rattle.gb_frame.specs.declared.item.Item.{Item}
 use Rattle.gb_frame.specs.Spelling.{item_text, items_text, IsBytes, IsItem}
-use Rattle.gb_frame.specs.Reading.{number_at, item_at, items_at}
+use Rattle.gb_frame.specs.Fields.{number_at}
+use Rattle.gb_frame.specs.Reading.{item_at, items_at}
 use Rattle.gb_frame.specs.Faults.{Stand}
 use Rattle.gb_frame.proofs.Numbers.{IsBytes-drop, IsBytes-take, wide16, cut, number_below, number_again}
 

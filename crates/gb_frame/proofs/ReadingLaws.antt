@@ -14,7 +14,8 @@ use Rattle.gb_frame.specs.declared.fault.PacketFault.TheVariants.{Short, Magic, 
 use Rattle.gb_frame.specs.declared.item.Item.{Item}
 use Rattle.gb_frame.specs.Packet.{Content}
 use Rattle.gb_frame.specs.Spelling.{items_text, header_text, tagged_text, tag_of, packet_text, IsBytes, IsItem, IsWithinLimits, IsText}
-use Rattle.gb_frame.specs.Reading.{unless, faults, test, fault_in, content_in, version_in, from_in, to_in, base_in, mask_in, frame_in, count_in, items_in, parsed, left_over, items_of, tag_in, tagged_in}
+use Rattle.gb_frame.specs.Fields.{version_in, from_in, to_in, base_in, mask_in, frame_in, count_in, items_in, tag_in, tagged_in}
+use Rattle.gb_frame.specs.Reading.{unless, faults, test, fault_in, content_in, parsed, left_over, items_of}
 use Rattle.gb_frame.specs.Faults.{Stand, Holds, IsFirstFault}
 use Rattle.gb_frame.specs.Laws.{WhatIsWrittenIsRead}
 use Rattle.gb_frame.proofs.Numbers.{IsBytes-take, IsBytes-drop, wide16, wide64, cut, number_below}

@@ -1,5 +1,6 @@
 pub mod Packet
 pub mod Spelling
+pub mod Fields
 pub mod Reading
 pub mod Faults
 pub mod Laws

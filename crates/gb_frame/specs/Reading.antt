@@ -1,19 +1,16 @@
 -- Reading bytes as a packet, as a function on lists.
-use Rattle.std.specs.Prelude.{ℕ, zero, suc, ◌-◌, ◌%◌, Bool, ◌||◌, ◌&&◌, not, nat_lt, nat_eq, List, [], ◌∷◌, length, take, drop, is_none, find, ◌==◌, Option, Some, None, option_and_then, Result, Ok, Err, if◌then◌else◌, slice_index}
+use Rattle.std.specs.Prelude.{ℕ, zero, suc, ◌%◌, Bool, ◌||◌, ◌&&◌, not, nat_lt, nat_eq, List, [], ◌∷◌, length, take, drop, is_none, find, ◌==◌, Option, Some, None, option_and_then, Result, Ok, Err, if◌then◌else◌, slice_index}
 use Rattle.std.specs.Cmp.Lexicographic.{pointwise}
-use Rattle.std.specs.Int.{Width, w16, w64, byte_len, from_be_bytes}
+use Rattle.std.specs.Int.{w16}
 use Rattle.gb_types.specs.declared.limits.TheConstants.{NODES, PAYLOAD, PACKET}
-use Rattle.gb_frame.specs.declared.limits.TheConstants.{VERSION, HEADER, ITEM_HEADER, TAG, SHORTEST}
+use Rattle.gb_frame.specs.declared.limits.TheConstants.{VERSION, ITEM_HEADER, SHORTEST}
 use Rattle.gb_frame.specs.declared.item.Item.{Item}
 use Rattle.gb_frame.specs.declared.fault.PacketFault.{PacketFault}
 use Rattle.gb_frame.specs.declared.fault.PacketFault.TheVariants.{Short, Magic, Version, Node, Mask, Count, Length, Trailing, TooLong, Tag}
 use Rattle.gb_frame.specs.declared.packet.Packet.{Packet}
+use Rattle.gb_frame.specs.Fields.{number_at, version_in, from_in, to_in, base_in, mask_in, frame_in, count_in, tagged_in, tag_in, items_in}
 use Rattle.gb_frame.specs.Packet.{Content, content}
 use Rattle.gb_frame.specs.Spelling.{tag_of}
-
--- the number at a place, high byte first
-unfoldable pub number_at : Width → ℕ → List ℕ → ℕ
-number_at w at bytes = from_be_bytes w (take (byte_len w) (drop at bytes))
 
 -- the item at the front, and the bytes after it
 unfoldable pub item_at : List ℕ → Option (Item × List ℕ)
@@ -36,38 +33,6 @@ left_over (Some x) = x.1
 abbrev pub items_of : Option (List Item × List ℕ) → List Item
 items_of None = []
 items_of (Some x) = x.0
-
--- the fields of bytes that are long enough
-abbrev pub version_in : List ℕ → ℕ
-version_in bytes = slice_index bytes 2
-
-abbrev pub from_in : List ℕ → ℕ
-from_in bytes = slice_index bytes 3
-
-abbrev pub to_in : List ℕ → ℕ
-to_in bytes = slice_index bytes 4
-
-abbrev pub base_in : List ℕ → ℕ
-base_in bytes = number_at w64 5 bytes
-
-abbrev pub mask_in : List ℕ → ℕ
-mask_in bytes = number_at w64 13 bytes
-
-abbrev pub frame_in : List ℕ → ℕ
-frame_in bytes = number_at w64 21 bytes
-
-abbrev pub count_in : List ℕ → ℕ
-count_in bytes = number_at w16 29 bytes
-
--- what the tag is made of, the tag, and the texts of the items
-abbrev pub tagged_in : List ℕ → List ℕ
-tagged_in bytes = take (length bytes - TAG) bytes
-
-abbrev pub tag_in : List ℕ → List ℕ
-tag_in bytes = drop (length bytes - TAG) bytes
-
-abbrev pub items_in : List ℕ → List ℕ
-items_in bytes = drop HEADER (tagged_in bytes)
 
 -- the items and what is left, where all items that are counted are there
 abbrev pub parsed : List ℕ → Option (List Item × List ℕ)

@@ -1,7 +1,8 @@
 // The header of a packet: its fields, and the tests of them.
 ghost use Rattle.std.specs.Prelude.{◌≡◌, ◌≤◌, length};
 ghost use Rattle.gb_frame.specs.declared.limits.TheConstants.{HEADER, SHORTEST};
-ghost use Rattle.gb_frame.specs.Reading.{is_magic, is_between_nodes, is_acknowledgement, is_counted, base_in, mask_in, frame_in, count_in, items_in};
+ghost use Rattle.gb_frame.specs.Fields.{base_in, mask_in, frame_in, count_in, items_in};
+ghost use Rattle.gb_frame.specs.Reading.{is_magic, is_between_nodes, is_acknowledgement, is_counted};
 
 use crate::limits::{HEADER, TAG};
 use crate::number::{u16_at, u64_at};

@@ -1,10 +1,10 @@
 // Numbers in bytes, high byte first.
 ghost use Rattle.std.specs.Prelude.{◌≡◌, ◌+◌, ◌≤◌, length};
 ghost use Rattle.std.specs.Int.{w16, w64};
-ghost use Rattle.gb_frame.specs.Reading.{number_at};
+ghost use Rattle.gb_frame.specs.Fields.{number_at};
 
 /// The number in two bytes.
-#[tactic(auto, unfolding(crate::specs::Reading::number_at))]
+#[tactic(auto, unfolding(crate::specs::Fields::number_at))]
 pub fn u16_at(bytes: &[u8], at: usize) -> u16
     requires { at + 2 ≤ length bytes.now }
     ensures { result ≡ number_at w16 at bytes.now }
@@ -13,7 +13,7 @@ pub fn u16_at(bytes: &[u8], at: usize) -> u16
 }
 
 /// The number in eight bytes.
-#[tactic(auto, unfolding(crate::specs::Reading::number_at))]
+#[tactic(auto, unfolding(crate::specs::Fields::number_at))]
 pub fn u64_at(bytes: &[u8], at: usize) -> u64
     requires { at + 8 ≤ length bytes.now }
     ensures { result ≡ number_at w64 at bytes.now }

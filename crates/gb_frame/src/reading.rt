@@ -3,7 +3,8 @@ ghost use Rattle.std.specs.Prelude.{◌≡◌, ◌≤◌, ◌<◌, length, Ok, I
 ghost use Rattle.gb_types.specs.declared.limits.TheConstants.{NODES};
 ghost use Rattle.gb_frame.specs.declared.limits.TheConstants.{SHORTEST};
 ghost use Rattle.gb_frame.specs.Packet.{Content, content};
-ghost use Rattle.gb_frame.specs.Reading.{fault_in, content_in, from_in, to_in, parsed, seen, reading};
+ghost use Rattle.gb_frame.specs.Fields.{from_in, to_in};
+ghost use Rattle.gb_frame.specs.Reading.{fault_in, content_in, parsed, seen, reading};
 ghost use Rattle.gb_frame.specs.Spelling.{IsText};
 ghost use Rattle.gb_frame.specs.Faults.{IsFirstFault};
 
