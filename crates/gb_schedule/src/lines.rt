@@ -1,5 +1,5 @@
 //! The lines of a text, read from any reader.
-ghost use Rattle.std.specs.Prelude.{◌≡◌, ◌≢◌, ◌≤◌, ◌<◌, ◌+◌, ◌↔◌, ◌⊎◌, ℕ, [], ◌∷◌, ◌++◌, true, false, length, slice_index, IfSome, IfNone, IfOk, IsTrue};
+ghost use Rattle.std.specs.Prelude.{◌≡◌, ◌≢◌, ◌≤◌, ◌<◌, ◌+◌, ◌↔◌, ◌⊎◌, ℕ, [], ◌∷◌, ◌++◌, true, false, length, slice_index, vec_len, IfSome, IfNone, IfOk, IsTrue};
 ghost use Rattle.std.specs.Io.KnownBytes.{Keeps};
 ghost use Rattle.gb_schedule.specs.Lines.{IsLine, GivesLine, BeginsLonger};
 ghost use Rattle.gb_schedule.specs.LineLaws.{WrittenLinesAreRead, LastMayLackItsLineFeed, EachTextIsItsLines};
@@ -79,6 +79,13 @@ fn line_feed_within(bytes: &[u8], from: usize, to: usize) -> Option<usize>
     }
 }
 
+// The space, filled with zeros.
+fn make_space(alloc: Global) -> Result<Vec<u8>, OutOfMemory>
+    ensures { IfOk result (λ bytes. vec_len bytes ≡ SPACE) }
+{
+    Ok(vec![in alloc; 0u8; SPACE]?)
+}
+
 impl Model for LineBuffer {
     ghost use Rattle.gb_schedule.specs.LineLaws.{WrittenLinesAreRead, LastMayLackItsLineFeed, EachTextIsItsLines};
     ghost use Rattle.gb_schedule.specs.Buffered.{Buffered};
@@ -99,7 +106,7 @@ impl LineBuffer {
             (λ lines. lines ≡ record { line = []; unread = []; has_ended = false; reads = 0 }) }
     {
         Ok(LineBuffer {
-            bytes: vec![in alloc; 0u8; SPACE]?,
+            bytes: make_space(alloc)?,
             line_start: 0,
             line_end: 0,
             start: 0,
