@@ -13,7 +13,8 @@ use Rattle.gb_cluster.specs.Headline.{IsStep, IsPlaced, ArePlaced, AreIsolated}
 use Rattle.gb_cluster.specs.Holds.{Holds}
 use Rattle.gb_cluster.specs.NodeValue.{NodeValue}
 use Rattle.gb_cluster.specs.Project.{packet_at}
-use Rattle.gb_cluster.specs.Trace.{bare, answered, steps_of, ComesTo, IsRun}
+use Rattle.gb_cluster.specs.Observation.{paired, steps_of}
+use Rattle.gb_cluster.specs.Trace.{bare, ComesTo, IsRun}
 use Rattle.gb_cluster.specs.World.{World, new_node, node_of, node_did, node_reply, sent_by, sent_answer, arrive_answer, arrived_world, answer_of, changed, with_step, has_received, world_after, new_world}
 use Rattle.gb_cluster.specs.declared.answer.Answer.{Answer}
 use Rattle.gb_cluster.specs.declared.answer.Answer.TheVariants.{Reply as Replied, Taken as Took_in}
@@ -153,19 +154,19 @@ on_err (Ok x) P p = tt
 on_err (Err e) P p = p
 
 -- one event more, with its answer
-answered-push : (events : List Event) (answers : List Answer) (e : Event) (a : Answer) → length answers ≡ length events → answered (events ++ e ∷ []) (answers ++ a ∷ []) ≡ answered events answers ++ record { event = e; answer = a } ∷ []
-unfolding answered
-answered-push [] [] e a same = refl
-answered-push [] (b ∷ answers) e a same = absurd (omega arith)
-answered-push (f ∷ events) [] e a same = absurd (omega arith)
-answered-push (f ∷ events) (b ∷ answers) e a same = ap (λ ss. record { event = f; answer = b } ∷ ss) (answered-push events answers e a (omega arith))
+paired-push : (events : List Event) (answers : List Answer) (e : Event) (a : Answer) → length answers ≡ length events → paired (events ++ e ∷ []) (answers ++ a ∷ []) ≡ paired events answers ++ record { event = e; answer = a } ∷ []
+paired-push [] [] e a same = refl
+paired-push [] (b ∷ answers) e a same = absurd (omega arith)
+paired-push (f ∷ events) [] e a same = absurd (omega arith)
+paired-push (f ∷ events) (b ∷ answers) e a same = ap (λ ss. record { event = f; answer = b } ∷ ss) (paired-push events answers e a (omega arith))
 
 steps_of-push : (events : List Event) (answers : List Answer) (e : Event) (a : Answer) → length answers ≡ length events → steps_of (events ++ e ∷ []) (answers ++ a ∷ []) ≡ record { event = e; answer = a } ∷ steps_of events answers
-steps_of-push events answers e a same = ap reverse (answered-push events answers e a same) ∙ reverse-append (answered events answers) (record { event = e; answer = a } ∷ [])
+unfolding steps_of
+steps_of-push events answers e a same = ap reverse (paired-push events answers e a same) ∙ reverse-append (paired events answers) (record { event = e; answer = a } ∷ [])
 
 -- a run of no event
 pub run_begins : (nodes : ℕ) (w : World) (events : List Event) (answers : List Answer) → events ≡ [] → answers ≡ [] → w ≡ new_world nodes → AreIsolated w → IsRun nodes events answers w.packets w
-unfolding answered ComesTo
+unfolding steps_of ComesTo
 run_begins nodes w events answers none none_yet new isolated =
     let steps : steps_of events answers ≡ [] = ap (λ (es : List Event). steps_of es answers) none ∙ ap (λ (given : List Answer). steps_of [] given) none_yet in
     record {

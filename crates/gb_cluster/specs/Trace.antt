@@ -4,6 +4,7 @@ use Rattle.gb_types.specs.declared.refusal.Refusal.TheVariants.{OutOfMemory}
 use Rattle.gb_types.specs.declared.reply.Reply.TheVariants.{Refused}
 use Rattle.gb_cluster.specs.Headline.{IsStep, AreIsolated}
 use Rattle.gb_cluster.specs.NodeValue.{NodeValue}
+use Rattle.gb_cluster.specs.Observation.{steps_of}
 use Rattle.gb_cluster.specs.World.{World, new_world}
 use Rattle.gb_cluster.specs.declared.answer.Answer.{Answer}
 use Rattle.gb_cluster.specs.declared.answer.Answer.TheVariants.{Reply as Replied, Sent as Gave, Taken as Took_in}
@@ -16,16 +17,6 @@ use Rattle.gb_cluster.specs.declared.step.Step.{Step}
 -- nodes and packets, of which nothing is told
 abbrev pub bare : List NodeValue → List Packet → World
 bare nodes packets = record { nodes = nodes; steps = []; packets = packets }
-
--- each event with its answer
-unfoldable pub answered : List Event → List Answer → List Step
-answered [] answers = []
-answered (e ∷ events) [] = []
-answered (e ∷ events) (a ∷ answers) = record { event = e; answer = a } ∷ answered events answers
-
--- what happened in a run, with the newest first
-abbrev pub steps_of : List Event → List Answer → List Step
-steps_of events answers = reverse (answered events answers)
 
 -- the answer says that a node lacked memory
 abbrev pub is_starved : Answer → Bool
