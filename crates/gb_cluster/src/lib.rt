@@ -7,7 +7,9 @@
 
 pub mod answer;
 pub mod event;
+mod frames;
 pub mod group;
+mod node;
 pub mod packet;
 pub mod plan;
 pub mod step;
