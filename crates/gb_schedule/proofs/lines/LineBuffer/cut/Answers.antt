@@ -1,0 +1,35 @@
+use Rattle.std.proofs.Common.{◌≡◌, ◌≤◌, ◌<◌, ℕ, List, length, sym, ◌∙◌, ap, subst, arith}
+use Rattle.std.specs.List.{between}
+use Rattle.std.proofs.lemmas.List.Edits.{between_none}
+use Rattle.gb_schedule.specs.Buffered.{NoLineFeed, CutsLine, IsTooLong}
+use Rattle.gb_schedule.proofs.CutLemmas.{NoLineFeed-join, cuts_here, cuts_last, too_long_here}
+use Rattle.gb_schedule.proofs.lines.LineBuffer.cut.Goals as goal
+
+pub returns-then-line_end-self-gt-LINE-clause-too_long :
+    goal.returns-then-line_end-self-gt-LINE-clause-too_long
+returns-then-line_end-self-gt-LINE-clause-too_long c _ =
+    let b = c.self.inside in
+    let found = c.in-Some.ensures.found in
+    rw (← c.self.view_is) (too_long_here b.bytes.items b.start c.in-Some.line_end b.end (omega arith) (omega arith) (omega arith)
+    (NoLineFeed-join b.bytes.items b.start b.searched c.in-Some.line_end c.self.invariant.no_line_feed (rw c.deref.ensures.value at found.3)) (omega arith))
+
+pub returns-then-self-gt-LINE-clause-too_long : goal.returns-then-self-gt-LINE-clause-too_long
+returns-then-self-gt-LINE-clause-too_long c _ =
+    let b = c.self.inside in
+    rw (← c.self.view_is) (too_long_here b.bytes.items b.start b.end b.end (omega arith) (omega arith) (omega arith)
+    (NoLineFeed-join b.bytes.items b.start b.searched b.end c.self.invariant.no_line_feed (rw c.deref.ensures.value at c.in-None.ensures.none)) (omega arith))
+
+pub returns-else-line_end-self-gt-LINE-clause-given :
+    goal.returns-else-line_end-self-gt-LINE-clause-given
+returns-else-line_end-self-gt-LINE-clause-given c _ =
+    let b = c.self.inside in
+    let found = c.in-Some.ensures.found in
+    rw (← c.self.view_is) (cuts_here b.bytes.items b.start c.in-Some.line_end b.end b.has_ended (omega arith) (omega arith) (omega arith)
+    (rw c.deref.ensures.value at found.2)
+    (NoLineFeed-join b.bytes.items b.start b.searched c.in-Some.line_end c.self.invariant.no_line_feed (rw c.deref.ensures.value at found.3)) (omega arith))
+
+pub returns-else-self-clause-given : goal.returns-else-self-clause-given
+returns-else-self-clause-given c _ =
+    let b = c.self.inside in
+    rw (← c.self.view_is, c.if-not-self.false, between_none b.bytes.items b.end) (cuts_last b.bytes.items b.start b.end (omega arith) (omega arith)
+    (NoLineFeed-join b.bytes.items b.start b.searched b.end c.self.invariant.no_line_feed (rw c.deref.ensures.value at c.in-None.ensures.none)) (omega arith))

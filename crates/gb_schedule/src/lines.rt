@@ -1,0 +1,218 @@
+//! The lines of a text, read from any reader.
+ghost use Rattle.std.specs.Prelude.{◌≡◌, ◌≢◌, ◌≤◌, ◌<◌, ◌+◌, ◌↔◌, ◌⊎◌, ℕ, [], ◌∷◌, ◌++◌, true, false, length, slice_index, IfSome, IfNone, IfOk, IsTrue};
+ghost use Rattle.std.specs.Io.KnownBytes.{Keeps};
+ghost use Rattle.gb_schedule.specs.Lines.{IsLine, GivesLine, BeginsLonger};
+ghost use Rattle.gb_schedule.specs.LineLaws.{WrittenLinesAreRead, LastMayLackItsLineFeed, EachTextIsItsLines};
+ghost use Rattle.gb_schedule.specs.Buffered.{left, WhereKnown, NoLineFeed, CutsLine, IsTooLong};
+
+use gb_types::memory::OutOfMemory;
+use memchr::memchr;
+use std::alloc::Global;
+use std::io::{ErrorKind, Read};
+use std::marker::Model;
+use thiserror::Error;
+
+/// The bytes of the longest line, its line feed not counted.
+pub const LINE: usize = 32_768;
+
+/// How many reads are made at most.
+pub const READS: u64 = 64_000_000;
+
+/// The bytes that are kept at once: a line that is not whole yet, and as much again for the next read.
+const SPACE: usize = 65_536;
+
+/// What comes next in a text.
+#[derive(Clone, Copy, Debug, PartialEq, Eq)]
+pub enum NextLine {
+    /// A line, which `LineBuffer::line` shows.
+    Given,
+    /// A line of more than `LINE` bytes. It is not given, and nothing behind it can be.
+    TooLong,
+    /// No line: the text is at its end.
+    End,
+}
+
+/// Why no line came.
+#[derive(Clone, Copy, Debug, PartialEq, Eq, Error)]
+pub enum LinesFault {
+    /// A read failed.
+    #[error("a read failed")]
+    Read,
+    /// `READS` reads were made, and one more was wanted.
+    #[error("too many reads")]
+    TooManyReads,
+}
+
+/// What the lines of a text are: written lines are read again, also where the last one lacks its line feed, and each
+/// text is its lines.
+pub fn lines_are_the_pieces_of_a_text()
+    ensures written { WrittenLinesAreRead }
+    ensures last { LastMayLackItsLineFeed }
+    ensures each { EachTextIsItsLines }
+{}
+
+/// Reads a text by large pieces and gives its lines, one at a time. A read of 0 bytes is the end of the text, and
+/// none is made after it. A read that a signal interrupted is made again.
+#[derive(Drop)]
+pub struct LineBuffer {
+    bytes: Vec<u8>,
+    line_start: usize,
+    line_end: usize,
+    start: usize,
+    searched: usize,
+    end: usize,
+    has_ended: bool,
+    reads: u64,
+}
+
+// The first line feed from `from` up to `to`.
+fn line_feed_within(bytes: &[u8], from: usize, to: usize) -> Option<usize>
+    requires ordered { from ≤ to }
+    requires within { to ≤ length bytes.now }
+    ensures found { IfSome result (λ place. (from ≤ place) × (place < to) × (slice_index bytes.now place ≡ 10) × NoLineFeed bytes.now from place) }
+    ensures none { IfNone result (NoLineFeed bytes.now from to) }
+{
+    match memchr(b'\n', &bytes[from..to]) {
+        Some(place) => Some(from + place),
+        None => None,
+    }
+}
+
+impl Model for LineBuffer {
+    ghost use Rattle.gb_schedule.specs.LineLaws.{WrittenLinesAreRead, LastMayLackItsLineFeed, EachTextIsItsLines};
+    ghost use Rattle.gb_schedule.specs.Buffered.{Buffered};
+
+    ghost Value = { Buffered };
+
+    ghost use Rattle.gb_schedule.specs.LineBuffer.{buffered, IsKept};
+
+    ghost view = { buffered };
+
+    ghost invariant = { IsKept };
+}
+
+impl LineBuffer {
+    /// A buffer before the first read.
+    pub fn new(alloc: Global) -> Result<LineBuffer, OutOfMemory>
+        ensures { IfOk result (λ lines. lines ≡ record { line = []; unread = []; has_ended = false; reads = 0 }) }
+    {
+        Ok(LineBuffer {
+            bytes: vec![in alloc; 0u8; SPACE]?,
+            line_start: 0,
+            line_end: 0,
+            start: 0,
+            searched: 0,
+            end: 0,
+            has_ended: false,
+            reads: 0,
+        })
+    }
+
+    /// The line that was given last, without its line feed; empty where the last call gave none.
+    pub fn line(&self) -> &[u8]
+        ensures { result.now ≡ self.now.line }
+    {
+        &self.bytes[self.line_start..self.line_end]
+    }
+
+    // The next line, as far as the unread bytes tell.
+    fn cut(&mut self) -> Option<NextLine>
+        ensures given { result ≡ Some NextLine.Given → CutsLine self.new.line self.old.unread self.new.unread self.old.has_ended }
+        ensures too_long { result ≡ Some NextLine.TooLong → IsTooLong self.old.unread }
+        ensures end { result ≡ Some NextLine.End → (self.old.unread ≡ []) × (self.old.has_ended ≡ true) }
+        ensures none { IfNone result ((length self.old.unread ≤ LINE) × (self.old.has_ended ≡ false)) }
+        ensures not_given { result ≢ Some NextLine.Given → self.new ≡ record self.old { line = [] } }
+        ensures ended { self.new.has_ended ≡ self.old.has_ended }
+        ensures reads { self.new.reads ≡ self.old.reads }
+        ensures bounded { self.new.reads ≤ READS }
+    {
+        self.line_start = self.start;
+        self.line_end = self.start;
+        match line_feed_within(&self.bytes, self.searched, self.end) {
+            Some(line_end) => {
+                if line_end - self.start > LINE {
+                    return Some(NextLine::TooLong);
+                }
+                self.line_end = line_end;
+                self.start = line_end + 1;
+                self.searched = self.start;
+                Some(NextLine::Given)
+            }
+            None => {
+                self.searched = self.end;
+                if self.end - self.start > LINE {
+                    return Some(NextLine::TooLong);
+                }
+                if !self.has_ended {
+                    return None;
+                }
+                if self.start == self.end {
+                    return Some(NextLine::End);
+                }
+                self.line_end = self.end;
+                self.start = self.end;
+                Some(NextLine::Given)
+            }
+        }
+    }
+
+    // Moves the unread bytes to the front, and makes one read behind them.
+    fn fill<R: Read>(&mut self, reader: &mut R) -> Result<(), LinesFault>
+        requires short { length self.old.unread ≤ LINE }
+        requires goes_on { self.old.has_ended ≡ false }
+        ensures left { Keeps (left self.old (R.remaining reader.old)) (left self.new (R.remaining reader.new)) }
+        ensures line { self.new.line ≡ [] }
+        ensures reads { (self.old.reads ≤ self.new.reads) × (self.new.reads ≤ READS) }
+        ensures ok { IfOk result (λ _. self.new.reads ≡ self.old.reads + 1) }
+        ensures read { result ≡ Err LinesFault.Read → self.new.reads ≡ self.old.reads + 1 }
+        ensures too_many_reads { result ≡ Err LinesFault.TooManyReads → self.new.reads ≡ READS }
+    {
+        self.bytes.copy_within(self.start..self.end, 0);
+        self.searched -= self.start;
+        self.end -= self.start;
+        self.start = 0;
+        self.line_start = 0;
+        self.line_end = 0;
+        if self.reads == READS {
+            return Err(LinesFault::TooManyReads);
+        }
+        self.reads += 1;
+        match reader.read(&mut self.bytes[self.end..]) {
+            Ok(0) => {
+                self.has_ended = true;
+                Ok(())
+            }
+            Ok(count) => {
+                self.end += count;
+                Ok(())
+            }
+            Err(error) => match error.kind() {
+                ErrorKind::Interrupted => Ok(()),
+                _ => Err(LinesFault::Read),
+            },
+        }
+    }
+
+    /// Gives the next line of what is left of the text. Where none is given, all that was left still is.
+    pub fn next<R: Read>(&mut self, reader: &mut R) -> Result<NextLine, LinesFault>
+        ensures given { result ≡ Ok NextLine.Given → WhereKnown (GivesLine self.new.line) (left self.old (R.remaining reader.old)) (left self.new (R.remaining reader.new)) }
+        ensures line { result ≡ Ok NextLine.Given → IsLine self.new.line × (length self.new.line ≤ LINE) }
+        ensures too_long { result ≡ Ok NextLine.TooLong → IfSome (left self.old (R.remaining reader.old)) (BeginsLonger LINE) }
+        ensures end { result ≡ Ok NextLine.End → (left self.new (R.remaining reader.new) ≡ Some []) × IfSome (left self.old (R.remaining reader.old)) (λ text. text ≡ []) }
+        ensures not_given { result ≢ Ok NextLine.Given → Keeps (left self.old (R.remaining reader.old)) (left self.new (R.remaining reader.new)) }
+        ensures no_line { result ≢ Ok NextLine.Given → self.new.line ≡ [] }
+        ensures reads { (self.old.reads ≤ self.new.reads) × (self.new.reads ≤ READS) }
+        ensures read { result ≡ Err LinesFault.Read → self.old.reads < self.new.reads }
+        ensures too_many_reads { result ≡ Err LinesFault.TooManyReads → self.new.reads ≡ READS }
+    {
+        loop {
+            if let Some(next) = self.cut() {
+                return Ok(next);
+            }
+            self.fill(reader)?;
+        }
+    }
+}
+
+#[cfg(test)]
+mod tests;
