@@ -11,3 +11,13 @@ pub mod FrameLemmas
 pub mod ArriveLemmas
 pub mod StepLemmas
 pub mod Theorem
+pub mod CodeLemmas
+pub mod DeliveryLemmas
+pub mod KnownLemmas
+pub mod AcceptedLemmas
+pub mod IntegrityLemmas
+pub mod CommandLemmas
+pub mod RunCommands
+pub mod InsideLemmas
+pub mod RunIntegrity
+pub mod PastLemmas

@@ -5,3 +5,7 @@ pub mod NodeValue
 pub mod World
 pub mod Headline
 pub mod Holds
+pub mod Trace
+pub mod Laws
+pub mod TwoRuns
+pub mod Observation

@@ -6,10 +6,17 @@
 #![tactic(auto)]
 
 pub mod answer;
+pub mod cluster;
 pub mod event;
 mod frames;
 pub mod group;
 mod node;
+pub mod laws;
+pub mod observation;
 pub mod packet;
 pub mod plan;
+pub mod projection;
 pub mod step;
+#[cfg(test)]
+mod tests;
+pub mod trace;

@@ -106,8 +106,7 @@ impl Hosted {
         let payload = packet.entry.payload.as_slice();
         self.slot.ready(1, payload.len())?;
         frames.insert(packet.frame)?;
-        self.slot
-            .came(packet.from, packet.entry.origin, packet.entry.seq, payload);
+        self.slot.came(packet.from, packet.entry.origin, packet.entry.seq, payload);
         Ok(())
     }
 

@@ -1,6 +1,7 @@
 -- What stands in a line buffer, and what is left of a text that is read through one.
 use Rattle.std.specs.Prelude.{◌≡◌, ◌≢◌, ℕ, ◌<◌, ◌≤◌, ◌⊎◌, Bool, true, List, [], ◌∷◌, ◌++◌, length, Option, None, Some, ⊤, if◌then◌else◌, slice_index}
 use Rattle.std.specs.Io.KnownBytes.{prepend_known}
+use Rattle.gb_schedule.specs.declared.lines.TheConstants.{LINE}
 use Rattle.gb_schedule.specs.Lines.{IsLine}
 
 -- the line given last, the bytes that were read and not given, whether the reader has ended, and the reads made
@@ -27,9 +28,9 @@ NoLineFeed bytes i j = (k : ℕ) → i ≤ k → k < j → slice_index bytes k �
 -- a line was cut off the front of the unread bytes; where the reader has ended, their end ends it too
 pub record CutsLine (line old new : List ℕ) (has_ended : Bool) : Type 0 where
   pub whole : IsLine line
-  pub short : length line ≤ 32768
+  pub short : length line ≤ LINE
   pub consumed : (old ≡ line ++ 10 ∷ new) ⊎ ((has_ended ≡ true) × (old ≡ line) × (new ≡ []) × (line ≢ []))
 
 -- the unread bytes begin with more than a longest line, and no line feed in it
 abbrev pub IsTooLong : List ℕ → Type 0
-IsTooLong unread = (line : List ℕ) × (rest : List ℕ) × IsLine line × (32768 < length line) × (unread ≡ line ++ rest)
+IsTooLong unread = (line : List ℕ) × (rest : List ℕ) × IsLine line × (LINE < length line) × (unread ≡ line ++ rest)

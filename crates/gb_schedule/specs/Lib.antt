@@ -2,3 +2,6 @@ pub mod Lines
 pub mod LineLaws
 pub mod Buffered
 pub mod LineBuffer
+pub mod Head
+pub mod Words
+pub mod Grammar

@@ -1,6 +1,6 @@
 -- Lines as POSIX has them: a line ends at a line feed, and the last one may lack it.
 use Rattle.std.specs.Prelude.{◌≡◌, ◌≢◌, ℕ, ◌<◌, ◌⊎◌, List, [], ◌∷◌, ◌++◌, length, if◌then◌else◌, ◌==◌, All}
-use Rattle.std.specs.List.{onto_first, flat_map}
+use Rattle.std.specs.List.{onto_first}
 
 -- the pieces of a text between its line feeds; an empty rest after the last line feed is no line
 abbrev pub lines_of : List ℕ → List (List ℕ)

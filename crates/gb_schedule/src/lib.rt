@@ -1,5 +1,10 @@
-//! Schedules as text: the lines of a schedule, read from any reader, and the commands that lines spell.
-//! Nothing is run here. Read `lines::LineBuffer` first.
+//! Schedules as text: the lines of a schedule, read from any reader, and the command that each line
+//! spells. Nothing is run here. Read `lines::LineBuffer` first, then `command::Command` and
+//! `grammar::read_command`.
 #![tactic(auto)]
 
+pub mod command;
+pub mod grammar;
+pub mod head;
 pub mod lines;
+pub mod words;

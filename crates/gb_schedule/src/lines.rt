@@ -18,7 +18,7 @@ pub const LINE: usize = 32_768;
 /// How many reads are made at most.
 pub const READS: u64 = 64_000_000;
 
-/// The bytes that are kept at once: a line that is not whole yet, and as much again for the next read.
+/// The bytes that are kept at once: a line that is not whole yet, and as much again for a read.
 const SPACE: usize = 65_536;
 
 /// What comes next in a text.
@@ -43,16 +43,16 @@ pub enum LinesFault {
     TooManyReads,
 }
 
-/// What the lines of a text are: written lines are read again, also where the last one lacks its line feed, and each
-/// text is its lines.
+/// What the lines of a text are: written lines are read again, also where the last one lacks its
+/// line feed, and each text is its lines.
 pub fn lines_are_the_pieces_of_a_text()
     ensures written { WrittenLinesAreRead }
     ensures last { LastMayLackItsLineFeed }
     ensures each { EachTextIsItsLines }
 {}
 
-/// Reads a text by large pieces and gives its lines, one at a time. A read of 0 bytes is the end of the text, and
-/// none is made after it. A read that a signal interrupted is made again.
+/// Reads a text by large pieces and gives its lines, one at a time. A read of 0 bytes is the end of
+/// the text, and none is made after it. A read that a signal interrupted is made again.
 #[derive(Drop)]
 pub struct LineBuffer {
     bytes: Vec<u8>,
@@ -69,7 +69,8 @@ pub struct LineBuffer {
 fn line_feed_within(bytes: &[u8], from: usize, to: usize) -> Option<usize>
     requires ordered { from ≤ to }
     requires within { to ≤ length bytes.now }
-    ensures found { IfSome result (λ place. (from ≤ place) × (place < to) × (slice_index bytes.now place ≡ 10) × NoLineFeed bytes.now from place) }
+    ensures found { IfSome result (λ place. (from ≤ place) × (place < to)
+        × (slice_index bytes.now place ≡ 10) × NoLineFeed bytes.now from place) }
     ensures none { IfNone result (NoLineFeed bytes.now from to) }
 {
     match memchr(b'\n', &bytes[from..to]) {
@@ -94,7 +95,8 @@ impl Model for LineBuffer {
 impl LineBuffer {
     /// A buffer before the first read.
     pub fn new(alloc: Global) -> Result<LineBuffer, OutOfMemory>
-        ensures { IfOk result (λ lines. lines ≡ record { line = []; unread = []; has_ended = false; reads = 0 }) }
+        ensures { IfOk result
+            (λ lines. lines ≡ record { line = []; unread = []; has_ended = false; reads = 0 }) }
     {
         Ok(LineBuffer {
             bytes: vec![in alloc; 0u8; SPACE]?,
@@ -117,10 +119,13 @@ impl LineBuffer {
 
     // The next line, as far as the unread bytes tell.
     fn cut(&mut self) -> Option<NextLine>
-        ensures given { result ≡ Some NextLine.Given → CutsLine self.new.line self.old.unread self.new.unread self.old.has_ended }
+        ensures given { result ≡ Some NextLine.Given
+            → CutsLine self.new.line self.old.unread self.new.unread self.old.has_ended }
         ensures too_long { result ≡ Some NextLine.TooLong → IsTooLong self.old.unread }
-        ensures end { result ≡ Some NextLine.End → (self.old.unread ≡ []) × (self.old.has_ended ≡ true) }
-        ensures none { IfNone result ((length self.old.unread ≤ LINE) × (self.old.has_ended ≡ false)) }
+        ensures end { result ≡ Some NextLine.End
+            → (self.old.unread ≡ []) × (self.old.has_ended ≡ true) }
+        ensures none { IfNone result
+            ((length self.old.unread ≤ LINE) × (self.old.has_ended ≡ false)) }
         ensures not_given { result ≢ Some NextLine.Given → self.new ≡ record self.old { line = [] } }
         ensures ended { self.new.has_ended ≡ self.old.has_ended }
         ensures reads { self.new.reads ≡ self.old.reads }
@@ -160,7 +165,8 @@ impl LineBuffer {
     fn fill<R: Read>(&mut self, reader: &mut R) -> Result<(), LinesFault>
         requires short { length self.old.unread ≤ LINE }
         requires goes_on { self.old.has_ended ≡ false }
-        ensures left { Keeps (left self.old (R.remaining reader.old)) (left self.new (R.remaining reader.new)) }
+        ensures left { Keeps (left self.old (R.remaining reader.old))
+            (left self.new (R.remaining reader.new)) }
         ensures line { self.new.line ≡ [] }
         ensures reads { (self.old.reads ≤ self.new.reads) × (self.new.reads ≤ READS) }
         ensures ok { IfOk result (λ _. self.new.reads ≡ self.old.reads + 1) }
@@ -195,11 +201,19 @@ impl LineBuffer {
 
     /// Gives the next line of what is left of the text. Where none is given, all that was left still is.
     pub fn next<R: Read>(&mut self, reader: &mut R) -> Result<NextLine, LinesFault>
-        ensures given { result ≡ Ok NextLine.Given → WhereKnown (GivesLine self.new.line) (left self.old (R.remaining reader.old)) (left self.new (R.remaining reader.new)) }
-        ensures line { result ≡ Ok NextLine.Given → IsLine self.new.line × (length self.new.line ≤ LINE) }
-        ensures too_long { result ≡ Ok NextLine.TooLong → IfSome (left self.old (R.remaining reader.old)) (BeginsLonger LINE) }
-        ensures end { result ≡ Ok NextLine.End → (left self.new (R.remaining reader.new) ≡ Some []) × IfSome (left self.old (R.remaining reader.old)) (λ text. text ≡ []) }
-        ensures not_given { result ≢ Ok NextLine.Given → Keeps (left self.old (R.remaining reader.old)) (left self.new (R.remaining reader.new)) }
+        ensures given { result ≡ Ok NextLine.Given
+            → WhereKnown (GivesLine self.new.line) (left self.old (R.remaining reader.old))
+            (left self.new (R.remaining reader.new)) }
+        ensures line { result ≡ Ok NextLine.Given
+            → IsLine self.new.line × (length self.new.line ≤ LINE) }
+        ensures too_long { result ≡ Ok NextLine.TooLong
+            → IfSome (left self.old (R.remaining reader.old)) (BeginsLonger LINE) }
+        ensures end { result ≡ Ok NextLine.End
+            → (left self.new (R.remaining reader.new) ≡ Some [])
+            × IfSome (left self.old (R.remaining reader.old)) (λ text. text ≡ []) }
+        ensures not_given { result ≢ Ok NextLine.Given
+            → Keeps (left self.old (R.remaining reader.old))
+            (left self.new (R.remaining reader.new)) }
         ensures no_line { result ≢ Ok NextLine.Given → self.new.line ≡ [] }
         ensures reads { (self.old.reads ≤ self.new.reads) × (self.new.reads ≤ READS) }
         ensures read { result ≡ Err LinesFault.Read → self.old.reads < self.new.reads }

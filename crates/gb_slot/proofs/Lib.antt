@@ -1,6 +1,9 @@
 pub mod BroadcastLemmas
+pub mod CalledLemmas
+pub mod FallsLemmas
 pub mod HistoryLemmas
 pub mod KeptLemmas
 pub mod KnownLemmas
 pub mod PageLemmas
 pub mod SlotLemmas
+pub mod TakenLemmas

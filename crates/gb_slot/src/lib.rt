@@ -9,3 +9,5 @@ pub mod history;
 pub mod phase;
 pub mod slot;
 pub mod store;
+#[cfg(test)]
+mod tests;

@@ -1,5 +1,6 @@
-//! The words that every crate shares: limits, nodes, addresses, requests and replies, and how a reply is
-//! spelt. There is no state and no rule here. Read `request::Request` and `reply::Reply` first.
+//! The words that every crate shares: limits, nodes, addresses, requests and replies; how a reply is spelt, and
+//! how numbers, kinds, members and payloads stand in words. There is no state and no rule here. Read
+//! `request::Request` and `reply::Reply` first.
 #![tactic(auto)]
 
 pub mod address;

@@ -1,7 +1,5 @@
-use Rattle.std.proofs.Common.{◌≡◌, ◌≤◌, ◌<◌, ℕ, List, length, sym, ◌∙◌, ap, subst, arith}
-use Rattle.std.specs.List.{between}
+use Rattle.std.proofs.Common.{arith}
 use Rattle.std.proofs.lemmas.List.Edits.{between_none}
-use Rattle.gb_schedule.specs.Buffered.{NoLineFeed, CutsLine, IsTooLong}
 use Rattle.gb_schedule.proofs.CutLemmas.{NoLineFeed-join, cuts_here, cuts_last, too_long_here}
 use Rattle.gb_schedule.proofs.lines.LineBuffer.cut.Goals as goal
 

@@ -1,5 +1,5 @@
-use Rattle.std.proofs.Common.{◌≡◌, ◌-◌, ◌+◌, ℕ, List, ◌++◌, take, length, sym, ◌∙◌, ap, false, arith, rules}
-use Rattle.std.specs.List.{between, copy_within}
+use Rattle.std.proofs.Common.{◌≡◌, ◌-◌, take, length, ◌∙◌, ap, false, arith}
+use Rattle.std.specs.List.{copy_within}
 use Rattle.gb_schedule.proofs.CutLemmas.{read_behind_in}
 use Rattle.gb_schedule.proofs.LeftLemmas.{left_read}
 use Rattle.gb_schedule.proofs.lines.LineBuffer.fill.Goals as goal

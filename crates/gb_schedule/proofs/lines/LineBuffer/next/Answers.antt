@@ -1,4 +1,3 @@
-use Rattle.std.proofs.Common.{◌≡◌, Ok, Some}
 use Rattle.gb_schedule.proofs.LeftLemmas.{left_cut, left_too_long}
 use Rattle.gb_schedule.proofs.lines.LineBuffer.next.Goals as goal
 

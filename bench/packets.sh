@@ -1,0 +1,17 @@
+#!/usr/bin/env bash
+# Prints how many megabytes a second packets are written and read at, beside the bare SHA-256 of the same
+# bytes. The program is built in bench/out, apart from the repository's own crates.
+set -eu
+top=$(cd "$(dirname "$0")/.." && pwd)
+work=$top/bench/out/packets
+mkdir -p "$work/crates"
+for crate in gb_types gb_cap gb_frame; do
+    mkdir -p "$work/crates/$crate"
+    cp -r "$top/crates/$crate/." "$work/crates/$crate/"
+done
+mkdir -p "$work/crates/packets"
+cp -r "$top/bench/packets/." "$work/crates/packets/"
+grep -E '^gb_(types|cap|frame):' "$top/crates.txt" >"$work/crates.txt"
+echo 'packets: gb_types gb_cap gb_frame anyhow sha2' >>"$work/crates.txt"
+cd "$work/crates/packets"
+"${RT:-rt}" run

@@ -1,0 +1,10 @@
+//! Capabilities: keyed hashes of messages (HMAC-SHA-256) and the tokens made from them. Who holds the
+//! token that a need asks for may do what the need names. There is no table of keys here, and no
+//! hash function of our own: SHA-256 is the crate `sha2`. Read `token::Need` and `hmac::HmacKey` first.
+#![tactic(auto)]
+
+pub mod compare;
+pub mod hmac;
+#[cfg(test)]
+mod tests;
+pub mod token;

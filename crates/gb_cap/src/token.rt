@@ -1,0 +1,76 @@
+// What a token allows, and the tokens.
+ghost use Rattle.std.specs.Prelude.{◌≡◌, ◌↔◌, IsTrue};
+ghost use Rattle.gb_cap.specs.Token.{token_of, TextsTellNeedsApart, SharedTokensCollide};
+
+use crate::compare::is_same;
+use crate::hmac::{HmacKey, Key, Mac};
+use gb_types::node::NodeId;
+
+/// Who holds it may do what its need names.
+pub type Token = Mac;
+
+/// What a token is asked for.
+#[derive(Clone, Copy, PartialEq, Eq, Debug)]
+pub enum Need {
+    /// To admit tenants to a node. Its token is made under the node's administrator key, those of the
+    /// other needs under the tenant's key.
+    Admin,
+    /// To make, open, shut and drop groups of this tenant.
+    Tenant(u16),
+    /// To say and to fetch in a group, of this tenant and this number, at this node.
+    Member(u16, u16, NodeId),
+}
+
+impl HmacKey {
+    ghost use Rattle.gb_cap.specs.Token.{token_of};
+
+    /// The token for a need.
+    pub fn token(&self, need: Need) -> Token
+        ensures { result ≡ token_of self.now need }
+    {
+        match need {
+            Need::Admin => self.hmac(b"A"),
+            Need::Tenant(tenant) => {
+                let tenant = tenant.to_be_bytes();
+                self.hmac(&[b'T', tenant[0], tenant[1]])
+            }
+            Need::Member(tenant, group, node) => {
+                let tenant = tenant.to_be_bytes();
+                let group = group.to_be_bytes();
+                self.hmac(&[b'M', tenant[0], tenant[1], group[0], group[1], node.number])
+            }
+        }
+    }
+
+    /// Whether this is the token for the need.
+    pub fn admits(&self, need: Need, token: &Token) -> bool
+        ensures { IsTrue result ↔ (token.now ≡ token_of self.now need) }
+    {
+        is_same(token, &self.token(need))
+    }
+}
+
+/// The token for a need under a key.
+pub fn token(key: &Key, need: Need) -> Token
+    ensures { result ≡ token_of key.now need }
+{
+    HmacKey::new(key).token(need)
+}
+
+/// Whether this is the token for the need under the key.
+pub fn admits(key: &Key, need: Need, token: &Token) -> bool
+    ensures { IsTrue result ↔ (token.now ≡ token_of key.now need) }
+{
+    HmacKey::new(key).admits(need, token)
+}
+
+/// A law, with nothing to run: two needs with one text are one need.
+pub fn texts_tell_needs_apart()
+    ensures { TextsTellNeedsApart }
+{}
+
+/// A law, with nothing to run: where two needs have one token under a key, the hash collides at one of
+/// two known pairs of texts.
+pub fn shared_tokens_collide()
+    ensures { SharedTokensCollide }
+{}

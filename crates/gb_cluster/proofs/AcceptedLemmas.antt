@@ -1,0 +1,94 @@
+-- What a node was told to say is what was accepted there.
+use Rattle.std.proofs.Common.{◌≡◌, ℕ, ◌+◌, ◌-◌, Bool, true, false, nat_eq, List, [], ◌∷◌, ◌++◌, length, Option, Some, None, refl, sym, ap, ◌∙◌, subst, length-append}
+use Rattle.std.specs.Prelude.{slice_get, nat_lt, nat_le, if◌then◌else◌}
+use Rattle.std.proofs.lemmas.Bool.{eqb-true}
+use Rattle.std.proofs.lemmas.List.{append-nil, append_assoc}
+use Rattle.gb_types.specs.declared.entry.Entry.{Entry}
+use Rattle.gb_types.specs.declared.node.NodeId.{NodeId}
+use Rattle.gb_types.specs.declared.limits.TheConstants.{PAYLOAD}
+use Rattle.gb_types.specs.declared.refusal.Refusal.TheVariants.{TooLong, Budget}
+use Rattle.gb_types.specs.declared.reply.Reply.{Reply}
+use Rattle.gb_types.specs.declared.reply.Reply.TheVariants.{Done, Said, Refused}
+use Rattle.gb_types.specs.declared.spec.Spec.{Spec}
+use Rattle.gb_slot.specs.History.{said_in, log_of}
+use Rattle.gb_slot.specs.Rules.{say_answer}
+use Rattle.gb_slot.specs.declared.history.GroupCall.{GroupCall}
+use Rattle.gb_slot.specs.declared.history.GroupCall.TheVariants.{Own, Other}
+use Rattle.gb_slot.specs.declared.phase.Phase.{Phase}
+use Rattle.gb_slot.specs.declared.phase.Phase.TheVariants.{Made, Opened}
+use Rattle.gb_cluster.specs.Alone.{Member, Group, reply_to, shown_of, called, did, falls, taken_in, member_after, after, nobody, alone_from, alone}
+use Rattle.gb_cluster.specs.Laws.{accepted_in, accepted_at, accepted_from, accepted}
+use Rattle.gb_cluster.specs.Rules.{by_tenant, on_made}
+use Rattle.gb_cluster.specs.declared.group.GroupEvent.{GroupEvent}
+use Rattle.gb_cluster.specs.declared.group.GroupEvent.TheVariants.{Tenant, AskMake, AskOpen, AskSay, Took, Came}
+use Rattle.gb_cluster.specs.declared.group.GroupStep.{GroupStep}
+use Rattle.gb_cluster.specs.declared.group.Reserve.{Reserve}
+
+-- the payloads of what was said here, in order
+unfoldable pub own_payloads : List GroupCall → List (List ℕ)
+own_payloads [] = []
+own_payloads (Own x ∷ told) = own_payloads told ++ x.payload ∷ []
+own_payloads (Other p x ∷ told) = own_payloads told
+
+pub length-own_payloads : (told : List GroupCall) → length (own_payloads told) ≡ said_in told
+unfolding own_payloads said_in
+length-own_payloads [] = refl
+length-own_payloads (Own x ∷ told) = length-append (own_payloads told) (x.payload ∷ []) ∙ ap (λ n. n + 1) (length-own_payloads told)
+length-own_payloads (Other p x ∷ told) = length-own_payloads told
+
+-- an accepted message has the next number
+pub next_said : (me : ℕ) (m : Member) (payload : List ℕ) (seq : ℕ) (nodes number : ℕ) → reply_to nodes number me (AskSay payload) m ≡ Said seq → seq ≡ said_in m.told + 1
+next_said me m payload seq nodes number = by m.reserve m.spec
+  where
+    admitted : (long many : Bool) → (if long then Refused TooLong else (if many then Refused Budget else Said (said_in m.told + 1))) ≡ Said seq → seq ≡ said_in m.told + 1
+    admitted true many h = cc
+    admitted false true h = cc
+    admitted false false h = cc
+
+    answered : (spec : Spec) (phase : Phase) (log : List Entry) → say_answer (record { spec = spec; phase = phase; said = said_in m.told; log = log }) payload ≡ Said seq → seq ≡ said_in m.told + 1
+    answered spec Made log h = cc
+    answered spec Opened log h = admitted (nat_lt PAYLOAD (length payload)) (nat_le spec.msgs (said_in m.told)) h
+
+    by : (reserve : Option Reserve) (spec : Option Spec) → by_tenant (λ _. on_made (λ s. say_answer s payload) (shown_of me m.phase m.told spec)) reserve ≡ Said seq → seq ≡ said_in m.told + 1
+    by None spec h = cc
+    by (Some reserve) None h = cc
+    by (Some reserve) (Some spec) h = answered spec m.phase (log_of spec me m.told) h
+
+did_payloads : (me : NodeId) (event : GroupEvent) (reply : Reply) (m : Member) → own_payloads (did me event reply m).told ≡ own_payloads m.told ++ accepted_in event reply
+unfolding own_payloads
+did_payloads me (AskMake spec) Done m = sym (append-nil (own_payloads m.told))
+did_payloads me AskOpen Done m = sym (append-nil (own_payloads m.told))
+did_payloads me (AskSay payload) (Said seq) m = refl
+did_payloads me event reply m = sym (append-nil (own_payloads m.told))
+
+taken_payloads : (me : ℕ) (from : NodeId) (place : ℕ) (o : Option Entry) (m : Member) → own_payloads (taken_in me from place o m).told ≡ own_payloads m.told
+unfolding own_payloads
+taken_payloads me from place None m = refl
+taken_payloads me from place (Some x) m = elim (falls me from.number x m.told m.spec) as (λ b. own_payloads (if b then m else called me (Other from x) m).told ≡ own_payloads m.told) [ true ↦ refl | false ↦ refl ]
+
+pub event_payloads : (nodes number : ℕ) (me : NodeId) (event : GroupEvent) (group : Group)
+    → own_payloads (member_after nodes number me event group).told ≡ own_payloads (group me.number).told ++ accepted_in event (reply_to nodes number me.number event (group me.number))
+event_payloads nodes number me (Tenant reserve) group = sym (append-nil (own_payloads (group me.number).told))
+event_payloads nodes number me (Took b count) group = sym (append-nil (own_payloads (group me.number).told))
+event_payloads nodes number me (Came from place) group = taken_payloads me.number from place (slice_get ((group from.number).put me.number) (place - 1)) (group me.number) ∙ sym (append-nil (own_payloads (group me.number).told))
+event_payloads nodes number me event group = did_payloads me event (reply_to nodes number me.number event (group me.number)) (group me.number)
+
+pub step_payloads : (nodes number : ℕ) (group : Group) (step : GroupStep) (s : ℕ) → own_payloads (after nodes number group step s).told ≡ own_payloads (group s).told ++ accepted_at nodes number group step s
+unfolding after
+step_payloads nodes number group step s = go (nat_eq s step.node.number) refl
+  where
+    go : (b : Bool) → nat_eq s step.node.number ≡ b → own_payloads (if b then member_after nodes number step.node step.event group else group s).told ≡ own_payloads (group s).told ++ (if b then accepted_in step.event (reply_to nodes number s step.event (group s)) else [])
+    go true here = subst (λ y. own_payloads (member_after nodes number step.node step.event group).told ≡ own_payloads (group y).told ++ accepted_in step.event (reply_to nodes number y step.event (group y))) (sym (eqb-true s step.node.number here)) (event_payloads nodes number step.node step.event group)
+    go false here = sym (append-nil (own_payloads (group s).told))
+
+run_payloads : (nodes number s : ℕ) (steps : List GroupStep) (group : Group) → own_payloads (alone_from nodes number group steps s).told ≡ own_payloads (group s).told ++ accepted_from nodes number group steps s
+unfolding accepted_from
+run_payloads nodes number s [] group = sym (append-nil (own_payloads (group s).told))
+run_payloads nodes number s (step ∷ steps) group =
+    run_payloads nodes number s steps (after nodes number group step)
+    ∙ (ap (λ ps. ps ++ accepted_from nodes number (after nodes number group step) steps s) (step_payloads nodes number group step s)
+    ∙ append_assoc (own_payloads (group s).told) (accepted_at nodes number group step s) (accepted_from nodes number (after nodes number group step) steps s))
+
+pub alone_payloads : (nodes number s : ℕ) (steps : List GroupStep) → own_payloads (alone nodes number steps s).told ≡ accepted nodes number steps s
+unfolding own_payloads
+alone_payloads nodes number s steps = run_payloads nodes number s steps nobody

@@ -1,0 +1,142 @@
+-- What a history mentions, delivers and broadcasts, in every module of broadcast.
+use Rattle.std.proofs.Common.{◌≡◌, ℕ, Bool, true, false, cond, not, ◌&&◌, ◌||◌, nat_eq, List, [], ◌∷◌, ◌++◌, filter, refl, sym, ap, ◌∙◌}
+use Rattle.std.specs.List.{AllByRecursion, list_all}
+use Rattle.std.proofs.lemmas.List.Elements.{filter-append}
+use Rattle.gb_types.specs.Message.{same}
+use Rattle.gb_types.specs.declared.message.MsgId.{MsgId}
+use Rattle.gb_types.proofs.SameLemmas.{and-first, same-true}
+use Rattle.gb_layer.specs.Machine.{mentions, was_noticed, came_from}
+use Rattle.gb_layer.specs.ModuleLaws.{first_mentions_mentioned, first_mentions_once}
+use Rattle.gb_layer.specs.Modules.{first_mentions, holds, is_delivered, now_delivered, now_broadcast, newly, delivers, broadcasts, log}
+use Rattle.gb_layer.specs.declared.base.Base.{Base}
+use Rattle.gb_layer.specs.declared.base.Base.TheVariants.{BestEffort, Lazy, Eager, AllAck}
+use Rattle.gb_layer.specs.declared.call.Call.{Call}
+use Rattle.gb_layer.specs.declared.call.Call.TheVariants.{Say, Came, Notice}
+
+or_more : (a b c : Bool) → (b ≡ true → c ≡ true) → (a || b) ≡ true → (a || c) ≡ true
+or_more true b c f h = refl
+or_more false b c f h = f h
+
+or_each : (a b c d : Bool) → (a ≡ true → c ≡ true) → (b ≡ true → d ≡ true) → (a || b) ≡ true → (c || d) ≡ true
+or_each true b c d f g h = ap (λ e. e || d) (f refl)
+or_each false b true d f g h = refl
+or_each false b false d f g h = g h
+
+and_each : (a b c d : Bool) → (a ≡ true → c ≡ true) → (b ≡ true → d ≡ true) → (a && b) ≡ true → (c && d) ≡ true
+and_each true b c d f g h = ap (λ e. e && d) (f refl) ∙ g h
+and_each false b c d f g h = cc
+
+or_new : (a b : Bool) → b ≡ true → (a || b) ≡ true
+or_new true b h = refl
+or_new false b h = h
+
+-- Nothing is forgotten.
+
+mentions_stays : (c : Call) (past : List Call) (m : MsgId) → mentions past m ≡ true → mentions (c ∷ past) m ≡ true
+mentions_stays (Say x) past m h = or_new (same x m) (mentions past m) h
+mentions_stays (Came p x) past m h = or_new (same x m) (mentions past m) h
+mentions_stays (Notice q) past m h = h
+
+noticed_stays : (c : Call) (past : List Call) (q : ℕ) → was_noticed past q ≡ true → was_noticed (c ∷ past) q ≡ true
+noticed_stays (Say x) past q h = h
+noticed_stays (Came p x) past q h = h
+noticed_stays (Notice p) past q h = or_new (nat_eq p.number q) (was_noticed past q) h
+
+came_stays : (me : ℕ) (c : Call) (past : List Call) (p : ℕ) (m : MsgId) → came_from me past p m ≡ true → came_from me (c ∷ past) p m ≡ true
+came_stays me (Say x) past p m h = or_new (nat_eq me p && same x m) (came_from me past p m) h
+came_stays me (Came q x) past p m h = or_new (nat_eq q.number p && same x m) (came_from me past p m) h
+came_stays me (Notice q) past p m h = h
+
+holds_stays : (me : ℕ) (c : Call) (past : List Call) (p : ℕ) (m : MsgId) → holds me past p m ≡ true → holds me (c ∷ past) p m ≡ true
+holds_stays me c past p m h =
+    or_each (came_from me past p m) (nat_eq me p && mentions past m) (came_from me (c ∷ past) p m) (nat_eq me p && mentions (c ∷ past) m) (came_stays me c past p m)
+    (and_each (nat_eq me p) (mentions past m) (nat_eq me p) (mentions (c ∷ past) m) (λ e. e) (mentions_stays c past m)) h
+
+list_all_stays : (p q : ℕ → Bool) → ((x : ℕ) → p x ≡ true → q x ≡ true) → (xs : List ℕ) → list_all p xs ≡ true → list_all q xs ≡ true
+list_all_stays p q f [] h = refl
+list_all_stays p q f (x ∷ xs) h = and_each (p x) (list_all p xs) (q x) (list_all q xs) (f x) (list_all_stays p q f xs) h
+
+is_delivered_stays : (base : Base) (me : ℕ) (members : List ℕ) (c : Call) (past : List Call) (m : MsgId) → is_delivered base me members past m ≡ true → is_delivered base me members (c ∷ past) m ≡ true
+is_delivered_stays BestEffort me members c past m h = came_stays me c past m.origin.number m h
+is_delivered_stays Lazy me members c past m h = refl
+is_delivered_stays Eager me members c past m h = refl
+is_delivered_stays AllAck me members c past m h =
+    list_all_stays (λ p. was_noticed past p || holds me past p m) (λ p. was_noticed (c ∷ past) p || holds me (c ∷ past) p m)
+    (λ p. or_each (was_noticed past p) (holds me past p m) (was_noticed (c ∷ past) p) (holds me (c ∷ past) p m) (noticed_stays c past p) (holds_stays me c past p m)) members h
+
+-- a delivered message stays delivered
+pub delivered_stays : (base : Base) (me : ℕ) (members : List ℕ) (c : Call) (past : List Call) (m : MsgId) → now_delivered base me members past m ≡ true → now_delivered base me members (c ∷ past) m ≡ true
+delivered_stays base me members c past m =
+    and_each (mentions past m) (is_delivered base me members past m) (mentions (c ∷ past) m) (is_delivered base me members (c ∷ past) m) (mentions_stays c past m) (is_delivered_stays base me members c past m)
+
+-- Each message is delivered once.
+
+-- the copies of a message that a filter keeps
+filter-one : (q : MsgId → Bool) (m : MsgId) (xs : List MsgId) → filter (λ x. same x m) (filter q xs) ≡ cond (q m) (filter (λ x. same x m) xs) []
+filter-one q m [] = elim (q m) as (λ b. ◌≡◌ {A = List MsgId} [] (cond b [] [])) [ true ↦ refl | false ↦ refl ]
+filter-one q m (x ∷ xs) = go (q x) refl (same x m) refl (filter-one q m xs)
+  where
+    go : (b : Bool) → q x ≡ b → (e : Bool) → same x m ≡ e → filter (λ y. same y m) (filter q xs) ≡ cond (q m) (filter (λ y. same y m) xs) []
+        → filter (λ y. same y m) (cond b (x ∷ filter q xs) (filter q xs)) ≡ cond (q m) (cond e (x ∷ filter (λ y. same y m) xs) (filter (λ y. same y m) xs)) []
+    go true k true e rest =
+        let kept : q m ≡ true = ap q (sym (same-true x m e)) ∙ k in
+        ap (λ b. cond b (x ∷ filter (λ y. same y m) (filter q xs)) (filter (λ y. same y m) (filter q xs))) e
+        ∙ (ap (λ ys. x ∷ ys) (rest ∙ ap (λ b. cond b (filter (λ y. same y m) xs) []) kept) ∙ sym (ap (λ b. cond b (x ∷ filter (λ y. same y m) xs) []) kept))
+    go true k false e rest = ap (λ b. cond b (x ∷ filter (λ y. same y m) (filter q xs)) (filter (λ y. same y m) (filter q xs))) e ∙ rest
+    go false k true e rest =
+        let lost : q m ≡ false = ap q (sym (same-true x m e)) ∙ k in
+        rest ∙ (ap (λ b. cond b (filter (λ y. same y m) xs) []) lost ∙ sym (ap (λ b. cond b (x ∷ filter (λ y. same y m) xs) []) lost))
+    go false k false e rest = rest
+
+-- a message passes a test newly at one call
+newly_once : (test : List Call → MsgId → Bool) (c : Call) (past : List Call) (m : MsgId) → (test (c ∷ past) m ≡ true → mentions (c ∷ past) m ≡ true) → filter (λ x. same x m) (newly test c past) ≡ cond (test (c ∷ past) m && not (test past m)) (m ∷ []) []
+newly_once test c past m within =
+    filter-one (λ x. test (c ∷ past) x && not (test past x)) m (first_mentions (c ∷ past))
+    ∙ (ap (λ xs. cond (test (c ∷ past) m && not (test past m)) xs []) (first_mentions_once (c ∷ past) m) ∙ both (test (c ∷ past) m) (not (test past m)) (mentions (c ∷ past) m) within)
+  where
+    both : (a b d : Bool) → (a ≡ true → d ≡ true) → cond (a && b) (cond d (m ∷ []) []) [] ≡ cond (a && b) (m ∷ []) []
+    both true true d f = ap (λ e. cond e (m ∷ []) []) (f refl)
+    both true false d f = refl
+    both false b d f = refl
+
+-- a message stands in the log once, if it is delivered
+pub log_once : (base : Base) (me : ℕ) (members : List ℕ) (past : List Call) (m : MsgId) → filter (λ x. same x m) (log base me members past) ≡ cond (now_delivered base me members past m) (m ∷ []) []
+log_once base me members [] m = refl
+log_once base me members (c ∷ past) m =
+    filter-append (λ x. same x m) (log base me members past) (delivers base me members c past)
+    ∙ (ap (λ xs. xs ++ filter (λ x. same x m) (delivers base me members c past)) (log_once base me members past m)
+    ∙ (ap (λ xs. cond (now_delivered base me members past m) (m ∷ []) [] ++ xs) (newly_once (now_delivered base me members) c past m (and-first (mentions (c ∷ past) m) (is_delivered base me members (c ∷ past) m)))
+    ∙ joined (now_delivered base me members past m) (now_delivered base me members (c ∷ past) m) (delivered_stays base me members c past m)))
+  where
+    joined : (a b : Bool) → (a ≡ true → b ≡ true) → cond a (m ∷ []) [] ++ cond (b && not a) (m ∷ []) [] ≡ cond b (m ∷ []) []
+    joined true true f = refl
+    joined true false f = let e : false ≡ true = f refl in cc
+    joined false true f = refl
+    joined false false f = refl
+
+-- What is delivered or broadcast was mentioned.
+
+all_filter : (P : MsgId → Type 0) (q : MsgId → Bool) (xs : List MsgId) → AllByRecursion P xs → AllByRecursion P (filter q xs)
+all_filter P q [] a = tt
+all_filter P q (x ∷ xs) a = elim (q x) as (λ b. AllByRecursion P (cond b (x ∷ filter q xs) (filter q xs))) [ true ↦ (a.0, all_filter P q xs a.1) | false ↦ all_filter P q xs a.1 ]
+
+all_append : (P : MsgId → Type 0) (xs ys : List MsgId) → AllByRecursion P xs → AllByRecursion P ys → AllByRecursion P (xs ++ ys)
+all_append P [] ys a b = b
+all_append P (x ∷ xs) ys a b = (a.0, all_append P xs ys a.1 b)
+
+all_weaker : (P Q : MsgId → Type 0) → ((x : MsgId) → P x → Q x) → (xs : List MsgId) → AllByRecursion P xs → AllByRecursion Q xs
+all_weaker P Q f [] a = tt
+all_weaker P Q f (x ∷ xs) a = (f x a.0, all_weaker P Q f xs a.1)
+
+newly_mentioned : (test : List Call → MsgId → Bool) (c : Call) (past : List Call) → AllByRecursion (λ m. mentions (c ∷ past) m ≡ true) (newly test c past)
+newly_mentioned test c past = all_filter (λ m. mentions (c ∷ past) m ≡ true) (λ m. test (c ∷ past) m && not (test past m)) (first_mentions (c ∷ past)) (first_mentions_mentioned (c ∷ past))
+
+pub broadcasts_mentioned : (base : Base) (me : ℕ) (c : Call) (past : List Call) → AllByRecursion (λ m. mentions (c ∷ past) m ≡ true) (broadcasts base me c past)
+broadcasts_mentioned base me c past = newly_mentioned (now_broadcast base me) c past
+
+pub log_mentioned : (base : Base) (me : ℕ) (members : List ℕ) (past : List Call) → AllByRecursion (λ m. mentions past m ≡ true) (log base me members past)
+log_mentioned base me members [] = tt
+log_mentioned base me members (c ∷ past) =
+    all_append (λ m. mentions (c ∷ past) m ≡ true) (log base me members past) (delivers base me members c past)
+    (all_weaker (λ m. mentions past m ≡ true) (λ m. mentions (c ∷ past) m ≡ true) (λ m. mentions_stays c past m) (log base me members past) (log_mentioned base me members past))
+    (newly_mentioned (now_delivered base me members) c past)

@@ -1,0 +1,186 @@
+-- The steps of a run, from its front.
+use Rattle.std.proofs.Common.{◌≡◌, ℕ, zero, suc, ◌+◌, ◌<◌, ◌≤◌, List, [], ◌∷◌, ◌++◌, length, take, get_or, ◌∙◌, ap, sym, refl, arith, add-one, length-append, append_assoc}
+use Rattle.std.specs.Prelude.{reverse, min, map, Bool, false, if◌then◌else◌}
+use Rattle.std.proofs.lemmas.List.{reverse-append, append-nil, map-append}
+use Rattle.gb_types.specs.declared.address.Addr.{Addr}
+use Rattle.gb_types.specs.declared.entry.Entry.{Entry}
+use Rattle.gb_types.specs.declared.reply.Reply.{Reply}
+use Rattle.gb_cluster.specs.Observation.{paired, steps_of, upto, SeenAt, seen_at, seen_by}
+use Rattle.gb_cluster.specs.Project.{is_addr, items_in, items_of, frames, frame_at, project, gives, replies_to, reply_in}
+use Rattle.gb_cluster.specs.declared.answer.Answer.{Answer}
+use Rattle.gb_cluster.specs.declared.event.Event.{Event}
+use Rattle.gb_cluster.specs.declared.packet.Packet.{Packet}
+use Rattle.gb_cluster.specs.declared.step.Step.{Step}
+
+paired_more : (i : ℕ) (events : List Event) (answers : List Answer) (e : Event) (a : Answer) → i < length events → i < length answers
+    → paired (take (suc i) events) (take (suc i) answers) ≡ paired (take i events) (take i answers) ++ record { event = get_or events i e; answer = get_or answers i a } ∷ []
+paired_more i [] answers e a lt ls = absurd (omega arith)
+paired_more i (x ∷ events) [] e a lt ls = absurd (omega arith)
+paired_more zero (x ∷ events) (y ∷ answers) e a lt ls = refl
+paired_more (suc i) (x ∷ events) (y ∷ answers) e a lt ls = ap (λ (ss : List Step). record { event = x; answer = y } ∷ ss) (paired_more i events answers e a (omega arith) (omega arith))
+
+paired_all : (n : ℕ) (events : List Event) (answers : List Answer) → n ≡ min (length events) (length answers) → paired (take n events) (take n answers) ≡ paired events answers
+paired_all zero [] answers is = refl
+paired_all zero (x ∷ events) [] is = refl
+paired_all zero (x ∷ events) (y ∷ answers) is = absurd (omega arith)
+paired_all (suc n) [] answers is = refl
+paired_all (suc n) (x ∷ events) [] is = refl
+paired_all (suc n) (x ∷ events) (y ∷ answers) is = ap (λ (ss : List Step). record { event = x; answer = y } ∷ ss) (paired_all n events answers (omega arith))
+
+-- one step more
+pub newest : (events : List Event) (answers : List Answer) (i : ℕ) (e : Event) (a : Answer) → i < length events → i < length answers
+    → steps_of (take (i + 1) events) (take (i + 1) answers) ≡ record { event = get_or events i e; answer = get_or answers i a } ∷ steps_of (take i events) (take i answers)
+unfolding steps_of
+newest events answers i e a lt ls =
+    rw add-one (ap reverse (paired_more i events answers e a lt ls) ∙ reverse-append (paired (take i events) (take i answers)) (record { event = get_or events i e; answer = get_or answers i a } ∷ []))
+
+-- the same, where the event and its answer have names
+newest_named : (events : List Event) (answers : List Answer) (i : ℕ) (e : Event) (a : Answer) → i < length events → i < length answers → e ≡ get_or events i e → a ≡ get_or answers i a
+    → steps_of (take (i + 1) events) (take (i + 1) answers) ≡ record { event = e; answer = a } ∷ steps_of (take i events) (take i answers)
+newest_named events answers i e a lt ls is it =
+    newest events answers i e a lt ls
+    ∙ (ap (λ (t : Event). record { event = t; answer = get_or answers i a } ∷ steps_of (take i events) (take i answers)) (sym is)
+    ∙ ap (λ (t : Answer). record { event = e; answer = t } ∷ steps_of (take i events) (take i answers)) (sym it))
+
+pub no_steps : steps_of [] [] ≡ []
+unfolding steps_of
+no_steps = refl
+
+-- all the steps
+pub all_steps : (events : List Event) (answers : List Answer) (n : ℕ) → n ≡ min (length events) (length answers) → steps_of (take n events) (take n answers) ≡ steps_of events answers
+unfolding steps_of
+all_steps events answers n is = ap reverse (paired_all n events answers is)
+
+-- Frames and their items.
+
+take_past : {X : Type 0} (n : ℕ) (xs ys : List X) → n ≤ length xs → take n (xs ++ ys) ≡ take n xs
+take_past zero xs ys le = refl
+take_past (suc n) [] ys le = absurd (omega arith)
+take_past (suc n) (x ∷ xs) ys le = ap (λ zs. x ∷ zs) (take_past n xs ys (omega arith))
+
+take_short : {X : Type 0} (n : ℕ) (xs : List X) → length xs ≤ n → take n xs ≡ xs
+take_short zero [] le = refl
+take_short (suc n) [] le = refl
+take_short zero (x ∷ xs) le = absurd (omega arith)
+take_short (suc n) (x ∷ xs) le = ap (λ zs. x ∷ zs) (take_short n xs (omega arith))
+
+pub items_of-append : (g : Addr) (ps qs : List Packet) → items_of g (ps ++ qs) ≡ items_of g ps ++ items_of g qs
+unfolding items_of
+items_of-append g [] qs = refl
+items_of-append g (p ∷ ps) qs = ap (λ xs. items_in g p ++ xs) (items_of-append g ps qs) ∙ sym (append_assoc (items_in g p) (items_of g ps) (items_of g qs))
+
+pub items_of_one : (g : Addr) (p : Packet) → items_of g (p ∷ []) ≡ items_in g p
+unfolding items_of
+items_of_one g p = append-nil (items_in g p)
+
+pub items_of_none : (g : Addr) → items_of g [] ≡ []
+unfolding items_of
+items_of_none g = refl
+
+-- the first n frames after one more, which is one of them
+pub frame_counts : (g : Addr) (n : ℕ) (fs : List Packet) (p : Packet) → length fs < n → length (items_of g (take n (fs ++ p ∷ []))) ≡ length (items_of g (take n fs)) + length (items_in g p)
+frame_counts g n fs p lt =
+    ap (λ xs. length (items_of g xs)) (take_short n (fs ++ p ∷ []) (omega (arith, length-append fs (p ∷ []))))
+    ∙ (ap length (items_of-append g fs (p ∷ [])) ∙ (length-append (items_of g fs) (items_of g (p ∷ []))
+    ∙ (ap (λ xs. length (items_of g fs) + length xs) (items_of_one g p) ∙ ap (λ xs. length (items_of g xs) + length (items_in g p)) (sym (take_short n fs (omega arith))))))
+
+-- the first n frames after one more, which is none of them
+pub frame_passes : (g : Addr) (n : ℕ) (fs : List Packet) (p : Packet) → n ≤ length fs → length (items_of g (take n (fs ++ p ∷ []))) ≡ length (items_of g (take n fs))
+frame_passes g n fs p le = ap (λ xs. length (items_of g xs)) (take_past n fs (p ∷ []) le)
+
+pub no_frames : (g : Addr) (n : ℕ) → 0 ≡ length (items_of g (take n []))
+unfolding items_of
+no_frames g zero = refl
+no_frames g (suc n) = refl
+
+-- the frames after one more step
+pub newest_frames : (a b : ℕ) (packets : List Packet) (events : List Event) (answers : List Answer) (i : ℕ) (e : Event) (r : Answer) → i < length events → i < length answers → e ≡ get_or events i e → r ≡ get_or answers i r
+    → frames a b packets (steps_of (take (i + 1) events) (take (i + 1) answers)) ≡ frames a b packets (steps_of (take i events) (take i answers)) ++ frame_at a b packets e r
+unfolding frames
+newest_frames a b packets events answers i e r lt ls is it = ap (frames a b packets) (newest_named events answers i e r lt ls is it)
+
+-- the projection after one more step
+pub newest_projected : (g : Addr) (packets : List Packet) (events : List Event) (answers : List Answer) (i : ℕ) (e : Event) (r : Answer) → i < length events → i < length answers → e ≡ get_or events i e → r ≡ get_or answers i r
+    → project g packets (steps_of (take (i + 1) events) (take (i + 1) answers)) ≡ project g packets (steps_of (take i events) (take i answers)) ++ gives g packets (steps_of (take i events) (take i answers)) e r
+unfolding project
+newest_projected g packets events answers i e r lt ls is it = ap (project g packets) (newest_named events answers i e r lt ls is it)
+
+-- so many of the first n of some frames' items, after i steps
+pub record Counted (g : Addr) (n i total number : ℕ) (fs : List Packet) : Type 0 where
+  pub items : total ≡ length (items_of g (take n fs))
+  pub seen : number ≡ length fs
+  pub few : total ≤ i
+  pub fewer : number ≤ i
+
+pub counted_none : (g : Addr) (n i items seen : ℕ) (fs more : List Packet) → more ≡ [] → Counted g n i items seen fs → Counted g n (i + 1) items seen (fs ++ more)
+counted_none g n i items seen fs more none was = rw (none, append-nil fs) (record { items = was.items; seen = was.seen; few = omega (arith, was.few); fewer = omega (arith, was.fewer) })
+
+pub counted_one : (g : Addr) (n i items seen found : ℕ) (fs more : List Packet) (p : Packet) → more ≡ p ∷ [] → found ≡ length (items_in g p) → found ≤ 1 → seen < n → Counted g n i items seen fs → Counted g n (i + 1) (items + found) (seen + 1) (fs ++ more)
+counted_one g n i items seen found fs more p one count small lt was = rw one (record {
+  items = omega (arith, was.items, count, frame_counts g n fs p (omega (arith, was.seen)));
+  seen = omega (arith, was.seen, length-append fs (p ∷ []));
+  few = omega (arith, was.few);
+  fewer = omega (arith, was.fewer);
+})
+
+pub counted_past : (g : Addr) (n i items seen : ℕ) (fs more : List Packet) (p : Packet) → more ≡ p ∷ [] → n ≤ seen → Counted g n i items seen fs → Counted g n (i + 1) items (seen + 1) (fs ++ more)
+counted_past g n i items seen fs more p one le was = rw one (record {
+  items = omega (arith, was.items, frame_passes g n fs p (omega (arith, was.seen)));
+  seen = omega (arith, was.seen, length-append fs (p ∷ []));
+  few = omega (arith, was.few);
+  fewer = omega (arith, was.fewer);
+})
+
+-- the items that are carried after one more step
+pub newest_items : (g : Addr) (a b : ℕ) (packets : List Packet) (events : List Event) (answers : List Answer) (i : ℕ) (e : Event) (r : Answer) → i < length events → i < length answers → e ≡ get_or events i e → r ≡ get_or answers i r
+    → items_of g (frames a b packets (steps_of (take (i + 1) events) (take (i + 1) answers))) ≡ items_of g (frames a b packets (steps_of (take i events) (take i answers))) ++ items_of g (frame_at a b packets e r)
+newest_items g a b packets events answers i e r lt ls is it =
+    ap (items_of g) (newest_frames a b packets events answers i e r lt ls is it) ∙ items_of-append g (frames a b packets (steps_of (take i events) (take i answers))) (frame_at a b packets e r)
+
+-- the replies after one more step
+pub newest_replies : (g : Addr) (a : ℕ) (events : List Event) (answers : List Answer) (i : ℕ) (e : Event) (r : Answer) → i < length events → i < length answers → e ≡ get_or events i e → r ≡ get_or answers i r
+    → replies_to g a (steps_of (take (i + 1) events) (take (i + 1) answers)) ≡ replies_to g a (steps_of (take i events) (take i answers)) ++ reply_in g a (steps_of (take i events) (take i answers)) e r
+unfolding replies_to
+newest_replies g a events answers i e r lt ls is it = ap (replies_to g a) (newest_named events answers i e r lt ls is it)
+
+-- a packet of another group has none of its items
+pub items_of_other : (g : Addr) (p : Packet) → is_addr g p.addr ≡ false → items_of g (p ∷ []) ≡ []
+items_of_other g p other = items_of_one g p ∙ ap (λ (b : Bool). if b then p.entry ∷ [] else []) other
+
+pub add_nothing : (xs more : List Entry) → more ≡ [] → xs ≡ xs ++ more
+add_nothing xs more none = rw none (sym (append-nil xs))
+
+pub no_items : (g : Addr) (a b : ℕ) (packets : List Packet) → items_of g (frames a b packets (steps_of [] [])) ≡ []
+unfolding items_of frames steps_of
+no_items g a b packets = refl
+
+pub no_replies : (g : Addr) (a : ℕ) → replies_to g a (steps_of [] []) ≡ []
+unfolding replies_to steps_of
+no_replies g a = refl
+
+-- Numbers in order.
+
+pub map_more : {X : Type 0} (f : ℕ → X) (n : ℕ) → map f (upto (n + 1)) ≡ map f (upto n) ++ f n ∷ []
+unfolding upto
+map_more f n = rw add-one (map-append f (upto n) (n ∷ []))
+
+pub map_none : {X : Type 0} (f : ℕ → X) → map f (upto 0) ≡ []
+unfolding upto
+map_none f = refl
+
+-- lists of what is seen are equal where the nodes are
+map_same : {X : Type 0} (f h : ℕ → X) (n : ℕ) → ((a : ℕ) → a < n → f a ≡ h a) → map f (upto n) ≡ map h (upto n)
+unfolding upto
+map_same f h zero same = refl
+map_same f h (suc n) same =
+    map-append f (upto n) (n ∷ [])
+    ∙ (ap (λ xs. xs ++ f n ∷ []) (map_same f h n (λ a lt. same a (omega arith)))
+    ∙ (ap (λ x. map h (upto n) ++ x ∷ []) (same n (omega arith))
+    ∙ sym (map-append h (upto n) (n ∷ []))))
+
+pub seen_same : (nodes : ℕ) (replies others : ℕ → List Reply) (carried taken : ℕ → ℕ → List Entry) → ((a : ℕ) → a < nodes → replies a ≡ others a) → ((a b : ℕ) → a < nodes → b < nodes → carried a b ≡ taken a b)
+    → seen_by nodes replies carried ≡ seen_by nodes others taken
+seen_same nodes replies others carried taken same there =
+    map_same (seen_at nodes replies carried) (seen_at nodes others taken) nodes (λ a lt.
+    ap (λ (rs : List Reply). record { replies = rs; carried = map (carried a) (upto nodes) }) (same a lt)
+    ∙ ap (λ (cs : List (List Entry)). record { replies = others a; carried = cs }) (map_same (carried a) (taken a) nodes (λ b below. there a b lt below)))

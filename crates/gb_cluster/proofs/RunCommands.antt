@@ -1,0 +1,136 @@
+-- The commands of a run on a group, with their replies.
+use Rattle.std.proofs.Common.{◌≡◌, ℕ, zero, suc, ◌+◌, ◌-◌, Bool, true, false, ◌&&◌, nat_eq, List, [], ◌∷◌, ◌++◌, length, take, refl, sym, ap, ◌∙◌, subst, arith}
+use Rattle.std.specs.Prelude.{if◌then◌else◌}
+use Rattle.std.proofs.lemmas.Bool.{eqb-true}
+use Rattle.std.proofs.lemmas.Bool.Decides.{nat_tests}
+use Rattle.gb_types.specs.declared.address.Addr.{Addr}
+use Rattle.gb_types.specs.declared.node.NodeId.{NodeId}
+use Rattle.gb_types.specs.declared.reply.Reply.{Reply}
+use Rattle.gb_types.specs.declared.reply.Reply.TheVariants.{Done, Said}
+use Rattle.gb_types.specs.declared.request.Request.{Request}
+use Rattle.gb_types.specs.declared.request.Request.TheVariants.{AddTenant, Make, OpenGroup, Say, Fetch}
+use Rattle.gb_cluster.specs.Laws.{accepted_in, accepted_by, accepted_there}
+use Rattle.gb_cluster.specs.Project.{is_addr, has_row, took, comes, arrived, is_taken, items_in, items_of, frames, packet_at, gives, project, reply_in, replies_to}
+use Rattle.gb_cluster.specs.Rules.{reserve_of}
+use Rattle.gb_cluster.specs.declared.answer.Answer.{Answer}
+use Rattle.gb_cluster.specs.declared.answer.Answer.TheVariants.{Reply as Replied, Sent as Gave, Taken as Took_in}
+use Rattle.gb_cluster.specs.declared.answer.Sent.TheVariants.{Packet as Numbered}
+use Rattle.gb_cluster.specs.declared.answer.Taken.TheVariants.{Good as Accepted}
+use Rattle.gb_cluster.specs.declared.event.Event.{Event}
+use Rattle.gb_cluster.specs.declared.event.Event.TheVariants.{At, Pack, Arrive}
+use Rattle.gb_cluster.specs.declared.group.GroupEvent.{GroupEvent}
+use Rattle.gb_cluster.specs.declared.group.GroupEvent.TheVariants.{Tenant, AskMake, AskOpen, AskSay, AskFetch, Took, Came}
+use Rattle.gb_cluster.specs.declared.group.GroupStep.{GroupStep}
+use Rattle.gb_cluster.specs.declared.packet.Packet.{Packet}
+use Rattle.gb_cluster.specs.declared.step.Step.{Step}
+use Rattle.gb_cluster.proofs.CommandLemmas.{command_in, commands_at, commands, commands-append, Pairs, pairs_append, no_pairs, one_pair}
+
+-- no command is among these
+abbrev IsQuiet : ℕ → List GroupStep → Type 0
+IsQuiet s steps = commands s steps ≡ []
+
+quiet_step : (s : ℕ) (a : NodeId) (event : GroupEvent) → command_in event ≡ [] → commands_at s (record { node = a; event = event }) ≡ []
+quiet_step s a event h = elim (nat_eq s a.number) as (λ b. (if b then command_in event else []) ≡ []) [ true ↦ h | false ↦ refl ]
+
+quiet_took : (s : ℕ) (a b : NodeId) (count : ℕ) → IsQuiet s (took a b count)
+unfolding commands
+quiet_took s a b zero = refl
+quiet_took s a b (suc k) = ap (λ es. es ++ []) (quiet_step s a (Took b (suc k)) refl)
+
+quiet_comes : (s : ℕ) (from to : NodeId) (place count : ℕ) → IsQuiet s (comes from to place count)
+unfolding commands
+quiet_comes s from to place zero = refl
+quiet_comes s from to place (suc k) = ap (λ es. es ++ commands s (comes from to (place + 1) k)) (quiet_step s to (Came from (place + 1)) refl) ∙ quiet_comes s from to (place + 1) k
+
+quiet_arrived : (g : Addr) (packets : List Packet) (steps : List Step) (s : ℕ) (ps : List Packet) → IsQuiet s (arrived g packets steps ps)
+unfolding commands
+quiet_arrived g packets steps s [] = refl
+quiet_arrived g packets steps s (p ∷ others) = go (is_taken p.from.number p.to.number p.frame packets steps)
+  where
+    before : ℕ
+    before = length (items_of g (take (p.frame - 1) (frames p.from.number p.to.number packets steps)))
+
+    go : (b : Bool) → IsQuiet s (if b then [] else comes p.from p.to before (length (items_in g p)))
+    go true = refl
+    go false = quiet_comes s p.from p.to before (length (items_in g p))
+
+quiet_pairs : (s : ℕ) (steps : List GroupStep) → IsQuiet s steps → Pairs (commands s steps) [] []
+quiet_pairs s steps quiet = subst (λ es. Pairs es [] []) (sym quiet) no_pairs
+
+-- a command at a node that may have the tenant, which names the group or not
+request_pairs : (s : ℕ) (a : NodeId) (e : GroupEvent) (r : Reply) (has : ℕ → Bool) (named : Bool) → command_in e ≡ e ∷ []
+    → Pairs (commands s (if has a.number then (if named then record { node = a; event = e } ∷ [] else []) else [])) (if nat_eq a.number s && (has s && named) then r ∷ [] else []) (if nat_eq a.number s && (has s && named) then accepted_in e r else [])
+unfolding commands
+request_pairs s a e r has named is = go (nat_eq a.number s) refl
+  where
+    turned : nat_eq a.number s ≡ nat_eq s a.number
+    turned = grind (arith, nat_tests)
+
+    here : nat_eq a.number s ≡ true → (h n : Bool) → Pairs (commands s (if h then (if n then record { node = a; event = e } ∷ [] else []) else [])) (if h && n then r ∷ [] else []) (if h && n then accepted_in e r else [])
+    here at true true = subst (λ es. Pairs (es ++ []) (r ∷ []) (accepted_in e r)) (sym (ap (λ (b : Bool). if b then command_in e else []) (sym turned ∙ at) ∙ is)) (one_pair e r)
+    here at true false = no_pairs
+    here at false n = no_pairs
+
+    elsewhere : nat_eq a.number s ≡ false → (h n : Bool) → Pairs (commands s (if h then (if n then record { node = a; event = e } ∷ [] else []) else [])) [] []
+    elsewhere at true true = subst (λ es. Pairs (es ++ []) [] []) (sym (ap (λ (b : Bool). if b then command_in e else []) (sym turned ∙ at))) no_pairs
+    elsewhere at true false = no_pairs
+    elsewhere at false n = no_pairs
+
+    go : (b : Bool) → nat_eq a.number s ≡ b → Pairs (commands s (if has a.number then (if named then record { node = a; event = e } ∷ [] else []) else [])) (if b && (has s && named) then r ∷ [] else []) (if b && (has s && named) then accepted_in e r else [])
+    go true at = subst (λ h. Pairs (commands s (if h then (if named then record { node = a; event = e } ∷ [] else []) else [])) (if has s && named then r ∷ [] else []) (if has s && named then accepted_in e r else [])) (sym (ap has (eqb-true a.number s at))) (here at (has s) named)
+    go false at = elsewhere at (has a.number) named
+
+-- no payload
+silent : (b : Bool) → ◌≡◌ {A = List (List ℕ)} (if b then [] else []) []
+silent true = refl
+silent false = refl
+
+quiet_request : (g : Addr) (steps : List Step) (s : ℕ) (a : NodeId) (e : GroupEvent) (r : Reply) (named : Bool) → command_in e ≡ e ∷ [] → accepted_in e r ≡ []
+    → Pairs (commands s (if has_row a.number g.tenant steps then (if named then record { node = a; event = e } ∷ [] else []) else [])) (if nat_eq a.number s && (has_row s g.tenant steps && named) then r ∷ [] else []) []
+quiet_request g steps s a e r named is none =
+    subst (λ ps. Pairs (commands s (if has_row a.number g.tenant steps then (if named then record { node = a; event = e } ∷ [] else []) else [])) (if nat_eq a.number s && (has_row s g.tenant steps && named) then r ∷ [] else []) ps)
+    (ap (λ (ps : List (List ℕ)). if nat_eq a.number s && (has_row s g.tenant steps && named) then ps else []) none ∙ silent (nat_eq a.number s && (has_row s g.tenant steps && named)))
+    (request_pairs s a e r (λ x. has_row x g.tenant steps) named is)
+
+unnamed : (a b : Bool) (r : Reply) → (if a && (b && false) then r ∷ [] else []) ≡ []
+unnamed true true r = refl
+unnamed true false r = refl
+unnamed false b r = refl
+
+tenant_pairs : (s : ℕ) (steps : List GroupStep) (a b : Bool) (r : Reply) → IsQuiet s steps → Pairs (commands s steps) (if a && (b && false) then r ∷ [] else []) []
+tenant_pairs s steps a b r quiet = subst (λ rs. Pairs (commands s steps) rs []) (sym (unnamed a b r)) (quiet_pairs s steps quiet)
+
+reply_pairs : (g : Addr) (packets : List Packet) (steps : List Step) (s : ℕ) (a : NodeId) (request : Request) (reply : Reply)
+    → Pairs (commands s (gives g packets steps (At a request) (Replied reply))) (reply_in g s steps (At a request) (Replied reply)) (accepted_by g steps (At a request) (Replied reply) s)
+unfolding commands
+reply_pairs g packets steps s a (AddTenant token row) Done =
+    tenant_pairs s (if nat_eq row.tenant g.tenant then record { node = a; event = Tenant (reserve_of row) } ∷ [] else []) (nat_eq a.number s) (has_row s g.tenant steps) Done
+    (elim (nat_eq row.tenant g.tenant) as (λ b. IsQuiet s (if b then record { node = a; event = Tenant (reserve_of row) } ∷ [] else [])) [
+      | true ↦ ap (λ es. es ++ []) (quiet_step s a (Tenant (reserve_of row)) refl)
+      | false ↦ refl
+    ])
+reply_pairs g packets steps s a (AddTenant token row) reply =
+    tenant_pairs s (if has_row a.number g.tenant steps then [] else []) (nat_eq a.number s) (has_row s g.tenant steps) reply
+    (elim (has_row a.number g.tenant steps) as (λ b. IsQuiet s (if b then [] else [])) [ true ↦ refl | false ↦ refl ])
+reply_pairs g packets steps s a (Make token addr spec) reply = quiet_request g steps s a (AskMake spec) reply (is_addr g addr) refl refl
+reply_pairs g packets steps s a (OpenGroup token addr) reply = quiet_request g steps s a AskOpen reply (is_addr g addr) refl refl
+reply_pairs g packets steps s a (Say token addr payload) (Said seq) = request_pairs s a (AskSay payload) (Said seq) (λ x. has_row x g.tenant steps) (is_addr g addr) refl
+reply_pairs g packets steps s a (Say token addr payload) reply = quiet_request g steps s a (AskSay payload) reply (is_addr g addr) refl refl
+reply_pairs g packets steps s a (Fetch token addr from most) reply = quiet_request g steps s a (AskFetch from most) reply (is_addr g addr) refl refl
+
+given_pairs : (g : Addr) (packets : List Packet) (steps : List Step) (s : ℕ) (event : Event) (answer : Answer)
+    → Pairs (commands s (gives g packets steps event answer)) (reply_in g s steps event answer) (accepted_by g steps event answer s)
+unfolding commands
+given_pairs g packets steps s (At a request) (Replied reply) = reply_pairs g packets steps s a request reply
+given_pairs g packets steps s (Pack a b) (Gave (Numbered k)) = quiet_pairs s (took a b (length (items_of g (packet_at packets k)))) (quiet_took s a b (length (items_of g (packet_at packets k))))
+given_pairs g packets steps s (Arrive k) (Took_in (Accepted good)) = quiet_pairs s (arrived g packets steps (packet_at packets k)) (quiet_arrived g packets steps s (packet_at packets k))
+given_pairs g packets steps s (At a (Say token addr payload)) answer = no_pairs
+given_pairs g packets steps s event answer = no_pairs
+
+pub run_pairs : (g : Addr) (packets : List Packet) (s : ℕ) (steps : List Step) → Pairs (commands s (project g packets steps)) (replies_to g s steps) (accepted_there g steps s)
+unfolding commands project replies_to accepted_there
+run_pairs g packets s [] = no_pairs
+run_pairs g packets s (x ∷ steps) =
+    subst (λ es. Pairs es (replies_to g s steps ++ reply_in g s steps x.event x.answer) (accepted_there g steps s ++ accepted_by g steps x.event x.answer s)) (sym (commands-append s (project g packets steps) (gives g packets steps x.event x.answer)))
+    (pairs_append (commands s (project g packets steps)) (commands s (gives g packets steps x.event x.answer)) (replies_to g s steps) (reply_in g s steps x.event x.answer) (accepted_there g steps s) (accepted_by g steps x.event x.answer s)
+    (run_pairs g packets s steps) (given_pairs g packets steps s x.event x.answer))

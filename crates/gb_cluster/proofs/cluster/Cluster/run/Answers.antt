@@ -1,0 +1,21 @@
+use Rattle.std.proofs.Common.{◌++◌, ◌∷◌, [], take, refl, sym, ◌∙◌, ap, subst, arith}
+use Rattle.std.proofs.lemmas.List.{take_more}
+use Rattle.gb_cluster.specs.Headline.{IsPlaced}
+use Rattle.gb_cluster.specs.declared.event.Event.{Event}
+use Rattle.gb_cluster.proofs.CodeLemmas.{run_begins, run_goes, placed_at}
+use Rattle.gb_cluster.proofs.cluster.Cluster.run.Goals as goal
+
+pub loop-event-init : goal.loop-event-init
+loop-event-init c = run_begins c.args.plan.nodes c.in_ok-cluster.cluster [] c.in_ok-answers.answers.items refl c.in_ok-answers.ensures.items c.in_ok-cluster.ensures.world c.in_ok-cluster.ensures.isolated
+
+pub step-requires : goal.step-requires
+step-requires c =
+    subst (λ n. IsPlaced n c.event-item.result) (sym c.loop-event.invariant.count) (placed_at c.args.plan.nodes c.args.events.now c.loop-event.event-index c.event-item.result c.requires.placed (omega arith) c.event-item.is)
+
+pub loop-event-preserved : goal.loop-event-preserved
+loop-event-preserved c =
+    let events = c.args.events.now in
+    let i = c.loop-event.event-index in
+    let e = c.event-item.result in
+    run_goes c.args.plan.nodes c.loop-event.cluster c.step.new.self (take i events) _ c.loop-event.answers.items _ e c.in_ok-answer.answer c.loop-event.invariant
+    (take_more events i e (omega arith) ∙ ap (λ (x : Event). take i events ++ x ∷ []) (sym c.event-item.is)) c.in_ok-push.ensures.items c.in_ok-answer.ensures.step c.step.ensures.isolated

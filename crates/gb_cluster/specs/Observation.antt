@@ -1,0 +1,47 @@
+-- What is seen of a group at its nodes: the replies to its commands, and its items that are carried.
+use Rattle.std.specs.Prelude.{ℕ, zero, suc, List, [], ◌∷◌, ◌++◌, map, reverse, take}
+use Rattle.gb_types.specs.declared.address.Addr.{Addr}
+use Rattle.gb_types.specs.declared.entry.Entry.{Entry}
+use Rattle.gb_types.specs.declared.reply.Reply.{Reply}
+use Rattle.gb_cluster.specs.Alone.{Group}
+use Rattle.gb_cluster.specs.Project.{frames, items_of, replies_to}
+use Rattle.gb_cluster.specs.declared.answer.Answer.{Answer}
+use Rattle.gb_cluster.specs.declared.event.Event.{Event}
+use Rattle.gb_cluster.specs.declared.packet.Packet.{Packet}
+use Rattle.gb_cluster.specs.declared.step.Step.{Step}
+
+-- each event with its answer, in order; as many as the shorter list has
+abbrev pub paired : List Event → List Answer → List Step
+paired [] answers = []
+paired (e ∷ events) [] = []
+paired (e ∷ events) (a ∷ answers) = record { event = e; answer = a } ∷ paired events answers
+
+-- the steps of a run, the newest first
+unfoldable pub steps_of : List Event → List Answer → List Step
+steps_of events answers = reverse (paired events answers)
+
+-- at a node: the replies to the group's commands, and for each node the items that are carried to it
+pub record SeenAt : Type 0 where
+  pub replies : List Reply
+  pub carried : List (List Entry)
+
+-- the numbers below n, in order
+unfoldable pub upto : ℕ → List ℕ
+upto zero = []
+upto (suc n) = upto n ++ n ∷ []
+
+-- at a node of so many
+abbrev pub seen_at : ℕ → (ℕ → List Reply) → (ℕ → ℕ → List Entry) → ℕ → SeenAt
+seen_at nodes replies carried a = record { replies = replies a; carried = map (carried a) (upto nodes) }
+
+-- at each of so many nodes
+abbrev pub seen_by : ℕ → (ℕ → List Reply) → (ℕ → ℕ → List Entry) → List SeenAt
+seen_by nodes replies carried = map (seen_at nodes replies carried) (upto nodes)
+
+-- what is seen of a group in a run: from events, answers and packets
+abbrev pub observed : ℕ → Addr → List Packet → List Step → List SeenAt
+observed nodes g packets steps = seen_by nodes (λ a. replies_to g a steps) (λ a b. items_of g (frames a b packets steps))
+
+-- what is seen of a group alone
+abbrev pub observed_alone : ℕ → Group → List SeenAt
+observed_alone nodes group = seen_by nodes (λ a. (group a).replies) (λ a b. take ((group a).taken b) ((group a).put b))

@@ -1,0 +1,299 @@
+//! What is seen of a group at its nodes, but for what only the nodes hold.
+ghost use Rattle.std.specs.Prelude.{◌≡◌, ◌++◌, [], ◌∷◌, IfOk, OnOk, IfSome, IfNone, None, map};
+ghost use Rattle.gb_cluster.specs.Observation.{steps_of, upto, observed};
+ghost use Rattle.gb_cluster.specs.Project as projected;
+ghost use Rattle.gb_cluster.specs.Project.{reply_in, replies_to, frames, frame_at, items_in, items_of};
+
+use crate::answer::Answer;
+use crate::event::Event;
+use crate::packet::Packet;
+use crate::projection::{frame_of, is_row_there, is_same};
+use gb_types::address::Addr;
+use gb_types::entry::{Entries, Entry};
+use gb_types::memory::OutOfMemory;
+use gb_types::reply::Reply;
+use gb_types::request::Request;
+use std::alloc::Global;
+use std::marker::Model;
+
+/// What is seen of a group at a node.
+#[derive(Drop)]
+pub struct NodeSeen {
+    replies: Vec<Reply>,
+    carried: Vec<Entries>,
+}
+
+impl Model for NodeSeen {
+    ghost use Rattle.gb_cluster.specs.Observation.{SeenAt};
+
+    ghost Value = { SeenAt };
+
+    ghost view = { λ s. record { replies = s.replies.items; carried = s.carried.items } };
+}
+
+impl NodeSeen {
+    /// These replies and carried items.
+    pub fn new(replies: Vec<Reply>, carried: Vec<Entries>) -> NodeSeen
+        ensures { result ≡ record { replies = replies.items; carried = carried.items } }
+    {
+        NodeSeen { replies, carried }
+    }
+
+    /// The replies to the group's commands, in order.
+    pub fn replies(&self) -> &[Reply]
+        ensures { result.now ≡ self.now.replies }
+    {
+        self.replies.as_slice()
+    }
+
+    /// For each node, the items that are carried to it, in order.
+    pub fn carried(&self) -> &[Entries]
+        ensures { result.now ≡ self.now.carried }
+    {
+        self.carried.as_slice()
+    }
+}
+
+/// What is seen of a group at each node. Contracts see the list, node 0 first.
+#[derive(Drop)]
+pub struct Observation {
+    nodes: Vec<NodeSeen>,
+}
+
+impl Model for Observation {
+    ghost use Rattle.std.specs.Prelude.{List};
+    ghost use Rattle.gb_cluster.specs.Observation.{SeenAt};
+
+    ghost Value = { List SeenAt };
+
+    ghost view = { λ o. o.nodes.items };
+}
+
+impl Observation {
+    /// What is seen at each node.
+    pub fn nodes(&self) -> &[NodeSeen]
+        ensures { result.now ≡ self.now }
+    {
+        self.nodes.as_slice()
+    }
+}
+
+impl From<Vec<NodeSeen>> for Observation {
+    ghost from_gives = { λ v o. o ≡ v.items };
+
+    fn from(nodes: Vec<NodeSeen>) -> Observation {
+        Observation { nodes }
+    }
+}
+
+/// These entries, copied.
+pub(crate) fn copies(alloc: Global, entries: &[Entry]) -> Result<Entries, OutOfMemory>
+    ensures { IfOk result (λ e. e ≡ entries.now) }
+{
+    let mut copied = Entries::new(alloc);
+    for entry in entries {
+        copied.push(entry.duplicate(alloc)?)?;
+    }
+    Ok(copied)
+}
+
+/// The same reply, copied.
+fn copy_of(alloc: Global, reply: &Reply) -> Result<Reply, OutOfMemory>
+    ensures { IfOk result (λ r. r ≡ reply.now) }
+{
+    Ok(match reply {
+        Reply::Done => Reply::Done,
+        Reply::Said(seq) => Reply::Said(*seq),
+        Reply::Log(entries) => Reply::Log(copies(alloc, entries.as_slice())?),
+        Reply::Refused(refusal) => Reply::Refused(*refusal),
+    })
+}
+
+/// Whether the request names the group.
+fn is_named(addr: Addr, request: &Request) -> bool
+    ensures { result ≡ projected.is_named addr request.now }
+{
+    match request {
+        Request::AddTenant(_, _) => false,
+        Request::Make(_, named, _) => is_same(addr, *named),
+        Request::OpenGroup(_, named) => is_same(addr, *named),
+        Request::Say(_, named, _) => is_same(addr, *named),
+        Request::Fetch(_, named, _, _) => is_same(addr, *named),
+    }
+}
+
+/// The reply that the event brings to the group at the node, after these events.
+fn reply_of<'a>(
+    addr: Addr,
+    a: u8,
+    events: &[Event],
+    answers: &[Answer],
+    event: &Event,
+    answer: &'a Answer,
+) -> Option<&'a Reply>
+    ensures none { IfNone result (reply_in addr a (steps_of events.now answers.now) event.now answer.now ≡ []) }
+    ensures some { IfSome result (λ r. reply_in addr a (steps_of events.now answers.now) event.now answer.now ≡ r.now ∷ []) }
+{
+    match event {
+        Event::At(node, request) => match answer {
+            Answer::Reply(reply) => {
+                if node.number != a || !is_row_there(a, addr.tenant, events, answers) {
+                    return None;
+                }
+                if is_named(addr, request) {
+                    Some(reply)
+                } else {
+                    None
+                }
+            }
+            _ => None,
+        },
+        _ => None,
+    }
+}
+
+/// Adds a copy of the reply that the event brings to the group at the node, after these events.
+fn add_reply(
+    alloc: Global,
+    addr: Addr,
+    a: u8,
+    events: &[Event],
+    answers: &[Answer],
+    event: &Event,
+    answer: &Answer,
+    replies: &mut Vec<Reply>,
+) -> Result<(), OutOfMemory>
+    ensures { OnOk result (replies.new.items ≡ replies.old.items ++ reply_in addr a (steps_of events.now answers.now) event.now answer.now) }
+{
+    if let Some(reply) = reply_of(addr, a, events, answers, event, answer) {
+        replies.push(copy_of(alloc, reply)?)?;
+    }
+    Ok(())
+}
+
+/// The replies to the group's commands at the node.
+#[tactic(auto, using(crate::proofs::PastLemmas::all_steps, crate::proofs::PastLemmas::no_replies))]
+fn replies_at(
+    alloc: Global,
+    addr: Addr,
+    a: u8,
+    events: &[Event],
+    answers: &[Answer],
+) -> Result<Vec<Reply>, OutOfMemory>
+    ensures { IfOk result (λ v. v.items ≡ replies_to addr a (steps_of events.now answers.now)) }
+{
+    let count = events.len().min(answers.len());
+    let mut replies = Vec::new(alloc);
+    for i in 0..count {
+        let before = &events[..i];
+        let past = &answers[..i];
+        add_reply(
+            alloc,
+            addr,
+            a,
+            before,
+            past,
+            &events[i],
+            &answers[i],
+            &mut replies,
+        )?;
+    }
+    Ok(replies)
+}
+
+/// Adds a copy of the group's items that the event packs at a for b.
+#[tactic(auto, using(crate::proofs::PastLemmas::items_of_one, crate::proofs::PastLemmas::items_of_none))]
+fn add_items(
+    alloc: Global,
+    addr: Addr,
+    a: u8,
+    b: u8,
+    packets: &[Packet],
+    event: &Event,
+    answer: &Answer,
+    items: &mut Entries,
+) -> Result<(), OutOfMemory>
+    ensures { OnOk result (items.new ≡ items.old ++ items_of addr (frame_at a b packets.now event.now answer.now)) }
+{
+    if let Some(packet) = frame_of(a, b, packets, event, answer) {
+        if is_same(addr, packet.addr) {
+            items.push(packet.entry.duplicate(alloc)?)?;
+        }
+    }
+    Ok(())
+}
+
+/// The group's items that are carried from a to b.
+#[tactic(auto, using(crate::proofs::PastLemmas::all_steps, crate::proofs::PastLemmas::no_items))]
+fn items_to(
+    alloc: Global,
+    addr: Addr,
+    a: u8,
+    b: u8,
+    events: &[Event],
+    answers: &[Answer],
+    packets: &[Packet],
+) -> Result<Entries, OutOfMemory>
+    ensures { IfOk result (λ e. e ≡ items_of addr (frames a b packets.now (steps_of events.now answers.now))) }
+{
+    let count = events.len().min(answers.len());
+    let mut items = Entries::new(alloc);
+    for i in 0..count {
+        add_items(
+            alloc,
+            addr,
+            a,
+            b,
+            packets,
+            &events[i],
+            &answers[i],
+            &mut items,
+        )?;
+    }
+    Ok(items)
+}
+
+/// The group's items that are carried from the node to each of so many.
+#[tactic(auto, using(crate::proofs::PastLemmas::map_more, crate::proofs::PastLemmas::map_none))]
+fn items_from(
+    alloc: Global,
+    addr: Addr,
+    nodes: u8,
+    a: u8,
+    events: &[Event],
+    answers: &[Answer],
+    packets: &[Packet],
+) -> Result<Vec<Entries>, OutOfMemory>
+    ensures { IfOk result (λ v. v.items ≡ map (λ b. items_of addr (frames a b packets.now (steps_of events.now answers.now))) (upto nodes)) }
+{
+    let mut carried = Vec::new(alloc);
+    for b in 0..nodes {
+        carried.push(items_to(alloc, addr, a, b, events, answers, packets)?)?;
+    }
+    Ok(carried)
+}
+
+/// What is seen of the group in a run, at each of so many nodes: the replies to its commands, and its items
+/// that are carried. Events beyond the answers do not count, nor answers beyond the events.
+#[tactic(auto, using(crate::proofs::PastLemmas::map_more, crate::proofs::PastLemmas::map_none))]
+pub fn observe(
+    alloc: Global,
+    nodes: u8,
+    events: &[Event],
+    answers: &[Answer],
+    packets: &[Packet],
+    addr: Addr,
+) -> Result<Observation, OutOfMemory>
+    ensures { IfOk result (λ o. o ≡ observed nodes addr packets.now (steps_of events.now answers.now)) }
+{
+    let mut seen = Vec::new(alloc);
+    for a in 0..nodes {
+        let replies = replies_at(alloc, addr, a, events, answers)?;
+        let carried = items_from(alloc, addr, nodes, a, events, answers, packets)?;
+        seen.push(NodeSeen::new(replies, carried))?;
+    }
+    Ok(Observation::from(seen))
+}
+
+#[cfg(test)]
+mod tests;

@@ -1,0 +1,228 @@
+//! Runs of small clusters, answer by answer.
+ghost use Rattle.std.specs.Prelude.{◌≡◌};
+
+use crate::answer::{Answer, Frame, Sent, Taken};
+use crate::cluster::Cluster;
+use crate::event::Event;
+use crate::plan::Plan;
+use crate::trace::{Trace, are_placed};
+use gb_types::address::Addr;
+use gb_types::kind::Kind;
+use gb_types::limits::NODES;
+use gb_types::memory::OutOfMemory;
+use gb_types::node::{NodeId, NodeSet};
+use gb_types::payload::Payload;
+use gb_types::reply_text::reply_text;
+use gb_types::request::Request;
+use gb_types::spec::{Spec, TenantRow};
+use std::alloc::Global;
+use std::process::Abort;
+use std::test::Fail;
+
+const TOKEN: [u8; 32] = [0; 32];
+
+fn plan(nodes: u8) -> Plan
+    ensures { result.nodes ≡ nodes }
+{
+    Plan {
+        nodes,
+        silence: 2,
+        places: 1,
+        cluster_key: [1; 32],
+        admin_key: [2; 32],
+    }
+}
+
+fn node(rt: &impl Abort, number: u8) -> NodeId {
+    NodeId::from_number(number).expect(rt, "a node")
+}
+
+fn addr(tenant: u16, group: u16) -> Addr {
+    Addr { tenant, group }
+}
+
+// Takes a tenant in that may have two groups.
+fn tenant(tenant: u16) -> Request {
+    Request::AddTenant(
+        TOKEN,
+        TenantRow {
+            tenant,
+            key: [7; 32],
+            groups: 2,
+            msgs: 3,
+            bytes: 100,
+            window: 3,
+        },
+    )
+}
+
+// Makes a best-effort group of these members.
+fn make(addr: Addr, members: &[NodeId]) -> Request {
+    let mut set = NodeSet::new();
+    for member in members {
+        set.insert(*member);
+    }
+    Request::Make(
+        TOKEN,
+        addr,
+        Spec {
+            kind: Kind::Beb,
+            members: set,
+            msgs: 2,
+            bytes: 50,
+            window: 2,
+        },
+    )
+}
+
+fn open(addr: Addr) -> Request {
+    Request::OpenGroup(TOKEN, addr)
+}
+
+fn say(alloc: Global, addr: Addr, payload: &[u8]) -> Result<Request, OutOfMemory> {
+    Ok(Request::Say(TOKEN, addr, Payload::from_slice(alloc, payload)?))
+}
+
+fn fetch(addr: Addr) -> Request {
+    Request::Fetch(TOKEN, addr, 0, 16)
+}
+
+// An answer in words; a reply as it is written elsewhere.
+fn told(alloc: Global, answer: &Answer) -> Result<Vec<u8>, OutOfMemory> {
+    let words: &[u8] = match answer {
+        Answer::Reply(reply) => return reply_text(alloc, reply),
+        Answer::Taken(Taken::Good(good)) => match (good.frame, good.items) {
+            (Frame::First, 1) => b"first",
+            (Frame::Seen, 0) => b"seen",
+            _ => b"other",
+        },
+        Answer::Taken(Taken::Refused(_)) => b"lost",
+        Answer::Sent(Sent::Packet(1)) => b"packet 1",
+        Answer::Sent(Sent::Packet(2)) => b"packet 2",
+        Answer::Sent(Sent::Packet(_)) => b"packet",
+        Answer::Sent(Sent::Nothing) => b"nothing",
+        Answer::Sent(Sent::Refused(_)) => b"not sent",
+        Answer::NoPacket => b"no packet",
+    };
+    Ok(Vec::from_slice(alloc, words)?)
+}
+
+// Runs events, and compares each answer.
+fn run(
+    rt: &impl Abort,
+    alloc: Global,
+    nodes: u8,
+    wanted: &[(Event, &str)],
+) -> Result<Trace, OutOfMemory> {
+    let mut events = Vec::new(alloc);
+    for (event, _) in wanted {
+        events.push(event.duplicate(alloc)?)?;
+    }
+    assert!(rt; 1 <= nodes && usize::from(nodes) <= NODES);
+    assert!(rt; are_placed(usize::from(nodes), events.as_slice()));
+    let trace = Cluster::run(alloc, plan(nodes), events.as_slice())?;
+    assert_eq!(rt; trace.answers.len(), wanted.len());
+    for (answer, (_, want)) in trace.answers.iter().zip(wanted) {
+        assert_eq!(rt; told(alloc, answer)?.as_slice(), want.as_bytes());
+    }
+    assert!(rt; !trace.refused);
+    Ok(trace)
+}
+
+#[test]
+fn three_nodes_and_an_empty_payload(rt: HostRuntime) -> Result<(), Fail> {
+    let alloc = rt.alloc();
+    let (a, b, c) = (node(&rt, 0), node(&rt, 1), node(&rt, 2));
+    let g = addr(7, 1);
+    let trace = run(
+        &rt,
+        alloc,
+        3,
+        &[
+            (Event::At(a, tenant(7)), "ok"),
+            (Event::At(b, tenant(7)), "ok"),
+            (Event::At(c, tenant(7)), "ok"),
+            (Event::At(a, make(g, &[a, b, c])), "ok"),
+            (Event::At(b, make(g, &[a, b, c])), "ok"),
+            (Event::At(c, make(g, &[a, b, c])), "ok"),
+            (Event::At(a, open(g)), "ok"),
+            (Event::At(b, open(g)), "ok"),
+            (Event::At(c, open(g)), "ok"),
+            (Event::At(a, say(alloc, g, b"")?), "said 1"),
+            (Event::Pack(a, b), "packet 1"),
+            (Event::Pack(a, c), "packet 2"),
+            (Event::Arrive(1), "first"),
+            (Event::Arrive(2), "first"),
+            (Event::Arrive(1), "seen"),
+            (Event::At(a, fetch(g)), "log 1 0:1:-"),
+            (Event::At(b, fetch(g)), "log 1 0:1:-"),
+            (Event::At(c, fetch(g)), "log 1 0:1:-"),
+        ],
+    )?;
+    assert_eq!(rt; trace.packets.len(), 2);
+    Ok(())
+}
+
+#[test]
+fn two_groups_with_unlike_addresses(rt: HostRuntime) -> Result<(), Fail> {
+    let alloc = rt.alloc();
+    let (a, b) = (node(&rt, 0), node(&rt, 1));
+    let (g, h) = (addr(7, 1), addr(7, 0));
+    run(
+        &rt,
+        alloc,
+        2,
+        &[
+            (Event::At(a, tenant(7)), "ok"),
+            (Event::At(b, tenant(7)), "ok"),
+            (Event::At(a, make(g, &[a, b])), "ok"),
+            (Event::At(b, make(h, &[a, b])), "ok"),
+            (Event::At(a, tenant(8)), "refused 12 NoRoom"),
+            (Event::At(a, tenant(7)), "refused 13 TenantThere"),
+            (Event::At(a, make(h, &[a, b])), "refused 12 NoRoom"),
+            (Event::At(a, make(h, &[b])), "refused 4 BadMembers"),
+            (Event::At(a, make(g, &[a, b])), "refused 3 Spent"),
+            (Event::At(a, make(addr(7, 2), &[a])), "refused 2 NoGroup"),
+            (Event::At(a, make(addr(8, 0), &[a])), "refused 1 Denied"),
+            (Event::At(a, open(g)), "ok"),
+            (Event::At(a, open(h)), "refused 2 NoGroup"),
+            (Event::At(b, open(h)), "ok"),
+            (Event::At(a, say(alloc, g, b"x")?), "said 1"),
+            (Event::Pack(a, b), "packet 1"),
+            (Event::Arrive(1), "first"),
+            (Event::At(a, fetch(g)), "log 1 0:1:78"),
+            (Event::At(b, fetch(h)), "log 0"),
+            (Event::At(b, fetch(g)), "refused 2 NoGroup"),
+        ],
+    )?;
+    Ok(())
+}
+
+#[test]
+fn nothing_is_sent_and_nothing_comes(rt: HostRuntime) -> Result<(), Fail> {
+    let alloc = rt.alloc();
+    let (a, b, beyond) = (node(&rt, 0), node(&rt, 1), node(&rt, 2));
+    let g = addr(7, 1);
+    run(
+        &rt,
+        alloc,
+        2,
+        &[
+            (Event::Pack(a, b), "nothing"),
+            (Event::At(a, tenant(7)), "ok"),
+            (Event::At(a, make(g, &[a, b])), "ok"),
+            (Event::At(a, open(g)), "ok"),
+            (Event::Pack(a, b), "nothing"),
+            (Event::At(a, say(alloc, g, b"x")?), "said 1"),
+            (Event::Pack(a, a), "nothing"),
+            (Event::Pack(a, beyond), "nothing"),
+            (Event::Arrive(0), "no packet"),
+            (Event::Arrive(1), "no packet"),
+            (Event::Pack(a, b), "packet 1"),
+            (Event::Pack(a, b), "nothing"),
+            (Event::Arrive(2), "no packet"),
+            (Event::Arrive(1), "first"),
+        ],
+    )?;
+    Ok(())
+}

@@ -1,0 +1,84 @@
+//! Whole runs of a cluster.
+ghost use Rattle.std.specs.Prelude.{◌≡◌, ◌≤◌, ◌↔◌, IsTrue, IfOk};
+ghost use Rattle.std.specs.List.{list_any};
+ghost use Rattle.gb_types.specs.declared.limits.TheConstants.{NODES as MOST};
+ghost use Rattle.gb_cluster.specs.Headline.{ArePlaced};
+ghost use Rattle.gb_cluster.specs.Trace.{is_starved, IsRun};
+ghost use Rattle.gb_cluster.specs.World.{World};
+
+use crate::answer::{Answer, Sent, Taken};
+use crate::cluster::{Cluster, is_placed};
+use crate::event::Event;
+use crate::packet::Packet;
+use crate::plan::Plan;
+use gb_types::memory::OutOfMemory;
+use gb_types::refusal::Refusal;
+use gb_types::reply::Reply;
+use std::alloc::Global;
+
+/// What a run of a cluster leaves.
+#[derive(Drop)]
+pub struct Trace {
+    /// The answer to each event, in order.
+    pub answers: Vec<Answer>,
+    /// Every packet that was sent, in order: packet 1 stands first.
+    pub packets: Vec<Packet>,
+    /// Whether a node lacked memory for some event.
+    pub refused: bool,
+}
+
+/// Whether the answer says that a node lacked memory.
+fn is_refused(answer: &Answer) -> bool
+    ensures { result ≡ is_starved answer.now }
+{
+    match answer {
+        Answer::Reply(Reply::Refused(why)) => *why == Refusal::OutOfMemory,
+        Answer::Taken(Taken::Refused(why)) => *why == Refusal::OutOfMemory,
+        Answer::Sent(Sent::Refused(why)) => *why == Refusal::OutOfMemory,
+        _ => false,
+    }
+}
+
+/// Whether some answer says so.
+fn has_refusal(answers: &[Answer]) -> bool
+    ensures { result ≡ list_any is_starved answers.now }
+{
+    answers.iter().any(is_refused)
+}
+
+/// Whether each node that acts is one of so many.
+pub fn are_placed(nodes: usize, events: &[Event]) -> bool
+    ensures { IsTrue result ↔ ArePlaced nodes events.now }
+{
+    for event in events {
+        if !is_placed(nodes, event) {
+            return false;
+        }
+    }
+    true
+}
+
+impl Cluster {
+    /// A whole run. For each group it is what the group is alone. `Err` says that there was no memory to keep the
+    /// run; a node's want of memory is an answer.
+    pub fn run(alloc: Global, plan: Plan, events: &[Event]) -> Result<Trace, OutOfMemory>
+        requires some { 1 ≤ plan.nodes }
+        requires few { plan.nodes ≤ MOST }
+        requires placed { ArePlaced plan.nodes events.now }
+        ensures run { IfOk result (λ t. (w : World) × IsRun plan.nodes events.now t.answers.items t.packets.items w) }
+        ensures refused { IfOk result (λ t. t.refused ≡ list_any is_starved t.answers.items) }
+    {
+        let mut cluster = Cluster::start(alloc, plan)?;
+        let mut answers = Vec::with_capacity(alloc, events.len())?;
+        for event in events {
+            let answer = cluster.step(event)?;
+            answers.push(answer)?;
+        }
+        let refused = has_refusal(answers.as_slice());
+        Ok(Trace {
+            answers,
+            packets: cluster.into_packets(),
+            refused,
+        })
+    }
+}

@@ -1,0 +1,102 @@
+-- What is read as items is their text, and their text is read as those items.
+use Rattle.std.proofs.Common.{◌≡◌, ℕ, zero, suc, ◌^◌, ◌≤◌, Bool, true, false, ◌||◌, cond, ltb, List, [], ◌∷◌, ◌++◌, length, get_or, take, drop, All, Option, Some, None, refl, sym, ap, subst, ◌∙◌, append_assoc, arith}
+use Rattle.std.specs.Prelude.{option_and_then}
+use Rattle.std.specs.Int.{w16, to_be_bytes}
+use Rattle.std.proofs.Math.Seq.{drop-cons}
+use Rattle.std.proofs.lemmas.Bool.{ltb-false, le-ltb}
+use Rattle.std.proofs.lemmas.List.{take_at, drop_at, take-append-drop, length-append, length-take}
+use Rattle.std.proofs.lemmas.List.Elements.{All-nil, All-cons, All-head, All-tail}
+use Rattle.std.proofs.lemmas.List.Concat.{flat_map-cons}
+use Rattle.gb_types.specs.declared.limits.TheConstants.{PAYLOAD}
+use Rattle.gb_frame.specs.declared.item.Item.{Item}
+use Rattle.gb_frame.specs.Spelling.{item_text, items_text, IsBytes, IsItem}
+use Rattle.gb_frame.specs.Reading.{number_at, item_at, items_at}
+use Rattle.gb_frame.specs.Faults.{Stand}
+use Rattle.gb_frame.proofs.Numbers.{IsBytes-drop, IsBytes-take, wide16, cut, number_below, number_again}
+
+-- what was read at the front, and what is left
+pub record Takes (bytes text rest : List ℕ) : Type 0 where
+  pub parts : bytes ≡ text ++ rest
+  pub rest_fits : IsBytes rest
+
+or-false : (a b : Bool) → (a || b) ≡ false → (a ≡ false) × (b ≡ false)
+or-false true b e = absurd cc
+or-false false b e = (refl, e)
+
+-- a test that let a value pass
+passed : {A : Type 0} (b : Bool) (x y : A) → cond b None (Some x) ≡ Some y → (b ≡ false) × (x ≡ y)
+passed true x y e = absurd cc
+passed false x y e = (refl, cc)
+
+pub item_takes : (bytes : List ℕ) (x : Item × List ℕ) → IsBytes bytes → item_at bytes ≡ Some x → Takes bytes (item_text x.0) x.1 × IsItem x.0
+unfolding item_at
+item_takes bytes x fits e =
+    let len : ℕ = number_at w16 7 bytes in
+    let rest : List ℕ = drop 9 bytes in
+    let made : Item = record { tenant = number_at w16 0 bytes; group = number_at w16 2 bytes; origin = get_or bytes 4 0; seq = number_at w16 5 bytes; payload = take len rest } in
+    let p = passed (ltb (length bytes) 9 || (ltb PAYLOAD len || ltb (length rest) len)) (made, drop len rest) x e in
+    let t = or-false (ltb (length bytes) 9) (ltb PAYLOAD len || ltb (length rest) len) p.0 in
+    let u = or-false (ltb PAYLOAD len) (ltb (length rest) len) t.1 in
+    let long : 9 ≤ length bytes = ltb-false _ _ t.0 in
+    let small : len ≤ PAYLOAD = ltb-false _ _ u.0 in
+    let there : len ≤ length rest = ltb-false _ _ u.1 in
+    let whole : length (take len rest) ≡ len = omega (arith, length-take len rest) in
+    let origin : drop 4 bytes ≡ get_or bytes 4 0 ∷ drop 5 bytes = drop-cons bytes 4 0 (omega arith) in
+    let e0 = cut w16 (2 ^ 16) wide16 0 bytes fits (omega arith) in
+    let e2 = cut w16 (2 ^ 16) wide16 2 bytes fits (omega arith) in
+    let e5 = cut w16 (2 ^ 16) wide16 5 bytes fits (omega arith) in
+    let e7 = cut w16 (2 ^ 16) wide16 7 bytes fits (omega arith) in
+    let parts : bytes ≡ to_be_bytes w16 (number_at w16 0 bytes) ++ (to_be_bytes w16 (number_at w16 2 bytes) ++ (get_or bytes 4 0 ∷ (to_be_bytes w16 (number_at w16 5 bytes) ++ (to_be_bytes w16 len ++ (take len rest ++ drop len rest))))) =
+    e0 ∙ ap (λ t. to_be_bytes w16 (number_at w16 0 bytes) ++ t) (e2 ∙ ap (λ t. to_be_bytes w16 (number_at w16 2 bytes) ++ t) (origin ∙ ap (λ t. get_or bytes 4 0 ∷ t) (e5 ∙ ap (λ t. to_be_bytes w16 (number_at w16 5 bytes) ++ t) (e7 ∙ ap (λ t. to_be_bytes w16 len ++ t) (sym (take-append-drop len rest)))))) in
+    let spelled : bytes ≡ item_text made ++ drop len rest = parts ∙ ap (λ n. to_be_bytes w16 (number_at w16 0 bytes) ++ (to_be_bytes w16 (number_at w16 2 bytes) ++ (get_or bytes 4 0 ∷ (to_be_bytes w16 (number_at w16 5 bytes) ++ (to_be_bytes w16 n ++ (take len rest ++ drop len rest)))))) (sym whole) in
+    let found : Takes bytes (item_text made) (drop len rest) × IsItem made = (
+      record { parts = spelled; rest_fits = IsBytes-drop len rest (IsBytes-drop 9 bytes fits) },
+      record { tenant = number_below w16 (2 ^ 16) wide16 0 bytes fits; group = number_below w16 (2 ^ 16) wide16 2 bytes fits; origin = fits 4; seq = number_below w16 (2 ^ 16) wide16 5 bytes fits; bytes = IsBytes-take len rest (IsBytes-drop 9 bytes fits); length = omega (arith, whole, small) },
+    ) in
+    subst (λ (y : Item × List ℕ). Takes bytes (item_text y.0) y.1 × IsItem y.0) p.1 found
+
+pub item_again : (i : Item) (rest : List ℕ) → IsItem i → item_at (item_text i ++ rest) ≡ Some (i, rest)
+unfolding item_at
+item_again i rest fits =
+    let t : List ℕ = item_text i ++ rest in
+    let payload = fits.length in
+    let tenant : number_at w16 0 t ≡ i.tenant = number_again w16 (2 ^ 16) wide16 0 t i.tenant fits.tenant refl in
+    let group : number_at w16 2 t ≡ i.group = number_again w16 (2 ^ 16) wide16 2 t i.group fits.group refl in
+    let seq : number_at w16 5 t ≡ i.seq = number_again w16 (2 ^ 16) wide16 5 t i.seq fits.seq refl in
+    let len : number_at w16 7 t ≡ length i.payload = number_again w16 (2 ^ 16) wide16 7 t (length i.payload) (omega arith) refl in
+    let long : ltb (length t) 9 ≡ false = le-ltb _ _ (omega arith) in
+    let small : ltb PAYLOAD (length i.payload) ≡ false = le-ltb _ _ payload in
+    let there : ltb (length (i.payload ++ rest)) (length i.payload) ≡ false = le-ltb _ _ (omega (arith, length-append i.payload rest)) in
+    rw (len, long, small, there, tenant, group, seq, take_at i.payload rest (length i.payload) refl, drop_at i.payload rest (length i.payload) refl) refl
+
+-- an option's value after a step
+then_some : {A B : Type 0} (o : Option A) (f : A → Option B) (y : B) → option_and_then f o ≡ Some y → (x : A) × (o ≡ Some x) × (f x ≡ Some y)
+then_some None f y e = absurd cc
+then_some (Some x) f y e = (x, refl, e)
+
+pub some_is : {A : Type 0} (x y : A) → Some x ≡ Some y → x ≡ y
+some_is x y e = cc
+
+pub items_take : (n : ℕ) (bytes : List ℕ) (x : List Item × List ℕ) → IsBytes bytes → items_at n bytes ≡ Some x → Stand n bytes x.0 x.1
+unfolding items_at
+items_take zero bytes x fits e =
+    subst (λ (y : List Item × List ℕ). Stand 0 bytes y.0 y.1) (some_is ([], bytes) x e) (record { count = refl; fit = All-nil IsItem; parts = refl })
+items_take (suc n) bytes x fits e =
+    let a = then_some (item_at bytes) (λ first. option_and_then (λ others. Some (first.0 ∷ others.0, others.1)) (items_at n first.1)) x e in
+    let b = then_some (items_at n a.0.1) (λ others. Some (a.0.0 ∷ others.0, others.1)) x a.2 in
+    let first = item_takes bytes a.0 fits a.1 in
+    let others = items_take n a.0.1 b.0 first.0.rest_fits b.1 in
+    let both : bytes ≡ items_text (a.0.0 ∷ b.0.0) ++ b.0.1 =
+    first.0.parts ∙ ap (λ t. item_text a.0.0 ++ t) others.parts ∙ sym (append_assoc (item_text a.0.0) (items_text b.0.0) b.0.1) ∙ ap (λ t. t ++ b.0.1) (sym (flat_map-cons item_text a.0.0 b.0.0)) in
+    let found : Stand (suc n) bytes (a.0.0 ∷ b.0.0) b.0.1 = record { count = ap suc others.count; fit = All-cons IsItem a.0.0 b.0.0 first.1 others.fit; parts = both } in
+    subst (λ (y : List Item × List ℕ). Stand (suc n) bytes y.0 y.1) (some_is (a.0.0 ∷ b.0.0, b.0.1) x b.2) found
+
+pub items_again : (items : List Item) (rest : List ℕ) → All IsItem items → items_at (length items) (items_text items ++ rest) ≡ Some (items, rest)
+unfolding items_at
+items_again [] rest fits = refl
+items_again (i ∷ items) rest fits =
+    let regrouped : items_text (i ∷ items) ++ rest ≡ item_text i ++ (items_text items ++ rest) = ap (λ t. t ++ rest) (flat_map-cons item_text i items) ∙ append_assoc (item_text i) (items_text items) rest in
+    ap (items_at (suc (length items))) regrouped ∙ rw (item_again i (items_text items ++ rest) (All-head IsItem i items fits), items_again items rest (All-tail IsItem i items fits)) refl
+
+pub stand_again : (n : ℕ) (bytes : List ℕ) (items : List Item) (rest : List ℕ) → Stand n bytes items rest → items_at n bytes ≡ Some (items, rest)
+stand_again n bytes items rest s = rw (← s.count, s.parts) (items_again items rest s.fit)

@@ -1,0 +1,7 @@
+pub mod Room
+pub mod Walk
+pub mod Numbers
+pub mod ItemLaws
+pub mod TextLaws
+pub mod FaultLaws
+pub mod ReadingLaws

@@ -1,0 +1,7 @@
+use Rattle.std.proofs.Common.{◌≡◌, ◌-◌}
+use Rattle.gb_frame.specs.Reading.{items_at}
+use Rattle.gb_frame.proofs.Walk.{behind}
+use Rattle.gb_frame.proofs.item.skip_items.Given as goal
+
+abbrev pub invariant-loop : goal.invariant-loop
+invariant-loop l = behind (items_at (l.count - l.counter) l.rest) ≡ behind (items_at l.count l.texts)

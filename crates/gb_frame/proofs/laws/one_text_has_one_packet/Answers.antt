@@ -1,0 +1,5 @@
+use Rattle.gb_frame.proofs.TextLaws.{one_packet}
+use Rattle.gb_frame.proofs.laws.one_text_has_one_packet.Goals as goal
+
+pub returns : goal.returns
+returns c = one_packet

@@ -1,0 +1,46 @@
+-- The table of faults: where each holds of bytes, and which is the first.
+use Rattle.std.specs.Prelude.{◌≡◌, ◌≢◌, ℕ, ◌<◌, ◌≤◌, ◌%◌, ◌⊎◌, List, [], ◌++◌, length, take, codes, All}
+use Rattle.gb_types.specs.declared.limits.TheConstants.{NODES, PACKET}
+use Rattle.gb_frame.specs.declared.limits.TheConstants.{VERSION, SHORTEST}
+use Rattle.gb_frame.specs.declared.fault.PacketFault.{PacketFault}
+use Rattle.gb_frame.specs.declared.fault.PacketFault.TheVariants.{Short, Magic, Version, Node, Mask, Count, Length, Trailing, TooLong, Tag}
+use Rattle.gb_frame.specs.declared.item.Item.{Item}
+use Rattle.gb_frame.specs.Spelling.{items_text, IsItem, tag_of}
+use Rattle.gb_frame.specs.Reading.{version_in, from_in, to_in, base_in, mask_in, frame_in, count_in, items_in, tagged_in, tag_in}
+
+-- the place of a fault in the table
+abbrev pub fault_number : PacketFault → ℕ
+fault_number Short = 1
+fault_number Magic = 2
+fault_number Version = 3
+fault_number Node = 4
+fault_number Mask = 5
+fault_number Count = 6
+fault_number Length = 7
+fault_number Trailing = 8
+fault_number TooLong = 9
+fault_number Tag = 10
+
+-- these bytes are the texts of so many items, and the rest behind them
+pub record Stand (n : ℕ) (bytes : List ℕ) (items : List Item) (rest : List ℕ) : Type 0 where
+  pub count : length items ≡ n
+  pub fit : All IsItem items
+  pub parts : bytes ≡ items_text items ++ rest
+
+-- where a fault holds, whatever else does
+abbrev pub Holds : List ℕ → List ℕ → PacketFault → Type 0
+Holds key bytes Short = length bytes < SHORTEST
+Holds key bytes Magic = take 2 bytes ≢ codes "GB"
+Holds key bytes Version = version_in bytes ≢ VERSION
+Holds key bytes Node = (NODES ≤ from_in bytes) ⊎ (NODES ≤ to_in bytes) ⊎ (from_in bytes ≡ to_in bytes)
+Holds key bytes Mask = (base_in bytes ≡ 0) ⊎ (mask_in bytes % 2 ≡ 1)
+Holds key bytes Count = ((frame_in bytes ≡ 0) × (count_in bytes ≢ 0)) ⊎ ((frame_in bytes ≢ 0) × (count_in bytes ≡ 0))
+Holds key bytes Length = (items : List Item) (rest : List ℕ) → ¬ Stand (count_in bytes) (items_in bytes) items rest
+Holds key bytes Trailing = (items : List Item) × (rest : List ℕ) × (rest ≢ []) × Stand (count_in bytes) (items_in bytes) items rest
+Holds key bytes TooLong = PACKET < length bytes
+Holds key bytes Tag = tag_in bytes ≢ tag_of key (tagged_in bytes)
+
+-- the fault holds, and none before it in the table
+pub record IsFirstFault (key bytes : List ℕ) (fault : PacketFault) : Type 0 where
+  pub holds : Holds key bytes fault
+  pub first : (earlier : PacketFault) → fault_number earlier < fault_number fault → ¬ Holds key bytes earlier

@@ -1,0 +1,21 @@
+-- What a packet says.
+use Rattle.std.specs.Prelude.{ℕ, List}
+use Rattle.gb_frame.specs.declared.item.Item.{Item}
+use Rattle.gb_frame.specs.declared.item.ItemView.{ItemView}
+use Rattle.gb_frame.specs.declared.packet.Packet.{Packet}
+
+-- what a packet says, without where it lies in memory
+pub record Content : Type 0 where
+  pub from : ℕ
+  pub to : ℕ
+  pub base : ℕ
+  pub mask : ℕ
+  pub frame : ℕ
+  pub items : List Item
+
+abbrev pub content : Packet → Content
+content p = record { from = p.from.number; to = p.to.number; base = p.base; mask = p.mask; frame = p.frame; items = p.items.items }
+
+-- an item whose payload lies elsewhere, as an item
+abbrev pub item_of : ItemView → Item
+item_of v = record { tenant = v.tenant; group = v.group; origin = v.origin; seq = v.seq; payload = v.payload.now }

@@ -1,0 +1,130 @@
+-- Reading bytes as a packet, as a function on lists.
+use Rattle.std.specs.Prelude.{ℕ, zero, suc, ◌-◌, ◌%◌, Bool, ◌||◌, ◌&&◌, not, nat_lt, nat_eq, List, [], ◌∷◌, length, take, drop, is_none, find, ◌==◌, Option, Some, None, option_and_then, Result, Ok, Err, if◌then◌else◌, slice_index}
+use Rattle.std.specs.Cmp.Lexicographic.{pointwise}
+use Rattle.std.specs.Int.{Width, w16, w64, byte_len, from_be_bytes}
+use Rattle.gb_types.specs.declared.limits.TheConstants.{NODES, PAYLOAD, PACKET}
+use Rattle.gb_frame.specs.declared.limits.TheConstants.{VERSION, HEADER, ITEM_HEADER, TAG, SHORTEST}
+use Rattle.gb_frame.specs.declared.item.Item.{Item}
+use Rattle.gb_frame.specs.declared.fault.PacketFault.{PacketFault}
+use Rattle.gb_frame.specs.declared.fault.PacketFault.TheVariants.{Short, Magic, Version, Node, Mask, Count, Length, Trailing, TooLong, Tag}
+use Rattle.gb_frame.specs.declared.packet.Packet.{Packet}
+use Rattle.gb_frame.specs.Packet.{Content, content}
+use Rattle.gb_frame.specs.Spelling.{tag_of}
+
+-- the number at a place, high byte first
+unfoldable pub number_at : Width → ℕ → List ℕ → ℕ
+number_at w at bytes = from_be_bytes w (take (byte_len w) (drop at bytes))
+
+-- the item at the front, and the bytes after it
+unfoldable pub item_at : List ℕ → Option (Item × List ℕ)
+item_at bytes =
+    let len = number_at w16 7 bytes in
+    let rest = drop ITEM_HEADER bytes in
+    if nat_lt (length bytes) ITEM_HEADER || (nat_lt PAYLOAD len || nat_lt (length rest) len) then None
+    else Some (record { tenant = number_at w16 0 bytes; group = number_at w16 2 bytes; origin = slice_index bytes 4; seq = number_at w16 5 bytes; payload = take len rest }, drop len rest)
+
+-- so many items at the front, and the bytes after them
+unfoldable pub items_at : ℕ → List ℕ → Option (List Item × List ℕ)
+items_at zero bytes = Some ([], bytes)
+items_at (suc n) bytes = option_and_then (λ first. option_and_then (λ others. Some (first.0 ∷ others.0, others.1)) (items_at n first.1)) (item_at bytes)
+
+-- the items, and what is left behind them
+abbrev pub left_over : Option (List Item × List ℕ) → List ℕ
+left_over None = []
+left_over (Some x) = x.1
+
+abbrev pub items_of : Option (List Item × List ℕ) → List Item
+items_of None = []
+items_of (Some x) = x.0
+
+-- the fields of bytes that are long enough
+abbrev pub version_in : List ℕ → ℕ
+version_in bytes = slice_index bytes 2
+
+abbrev pub from_in : List ℕ → ℕ
+from_in bytes = slice_index bytes 3
+
+abbrev pub to_in : List ℕ → ℕ
+to_in bytes = slice_index bytes 4
+
+abbrev pub base_in : List ℕ → ℕ
+base_in bytes = number_at w64 5 bytes
+
+abbrev pub mask_in : List ℕ → ℕ
+mask_in bytes = number_at w64 13 bytes
+
+abbrev pub frame_in : List ℕ → ℕ
+frame_in bytes = number_at w64 21 bytes
+
+abbrev pub count_in : List ℕ → ℕ
+count_in bytes = number_at w16 29 bytes
+
+-- what the tag is made of, the tag, and the texts of the items
+abbrev pub tagged_in : List ℕ → List ℕ
+tagged_in bytes = take (length bytes - TAG) bytes
+
+abbrev pub tag_in : List ℕ → List ℕ
+tag_in bytes = drop (length bytes - TAG) bytes
+
+abbrev pub items_in : List ℕ → List ℕ
+items_in bytes = drop HEADER (tagged_in bytes)
+
+-- the items and what is left, where all items that are counted are there
+abbrev pub parsed : List ℕ → Option (List Item × List ℕ)
+parsed bytes = items_at (count_in bytes) (items_in bytes)
+
+-- the tests of the header
+abbrev pub is_magic : List ℕ → Bool
+is_magic bytes = slice_index bytes 0 == 71 && slice_index bytes 1 == 66
+
+abbrev pub is_between_nodes : List ℕ → Bool
+is_between_nodes bytes = nat_lt (from_in bytes) NODES && nat_lt (to_in bytes) NODES && not (from_in bytes == to_in bytes)
+
+abbrev pub is_acknowledgement : List ℕ → Bool
+is_acknowledgement bytes = nat_lt 0 (base_in bytes) && mask_in bytes % 2 == 0
+
+abbrev pub is_counted : List ℕ → Bool
+is_counted bytes = if frame_in bytes == 0 then count_in bytes == 0 else nat_lt 0 (count_in bytes)
+
+-- whether the tag is the one under the key
+abbrev pub is_tagged : List ℕ → List ℕ → Bool
+is_tagged key bytes = pointwise nat_eq (tag_in bytes) (tag_of key (tagged_in bytes))
+
+-- the test of each fault
+abbrev pub test : List ℕ → List ℕ → PacketFault → Bool
+test key bytes Short = nat_lt (length bytes) SHORTEST
+test key bytes Magic = not (is_magic bytes)
+test key bytes Version = not (version_in bytes == VERSION)
+test key bytes Node = not (is_between_nodes bytes)
+test key bytes Mask = not (is_acknowledgement bytes)
+test key bytes Count = not (is_counted bytes)
+test key bytes Length = is_none (parsed bytes)
+test key bytes Trailing = nat_lt 0 (length (left_over (parsed bytes)))
+test key bytes TooLong = nat_lt PACKET (length bytes)
+test key bytes Tag = not (is_tagged key bytes)
+
+-- the faults in the order of the checks
+abbrev pub faults : List PacketFault
+faults = Short ∷ Magic ∷ Version ∷ Node ∷ Mask ∷ Count ∷ Length ∷ Trailing ∷ TooLong ∷ Tag ∷ []
+
+-- the first fault whose test says so
+unfoldable pub fault_in : List ℕ → List ℕ → Option PacketFault
+fault_in key bytes = find (test key bytes) faults
+
+-- what bytes without a fault say
+abbrev pub content_in : List ℕ → Content
+content_in bytes = record { from = from_in bytes; to = to_in bytes; base = base_in bytes; mask = mask_in bytes; frame = frame_in bytes; items = items_of (parsed bytes) }
+
+-- a fault, or what the bytes say
+abbrev pub unless : Option PacketFault → Content → Result Content PacketFault
+unless (Some fault) c = Err fault
+unless None c = Ok c
+
+-- the packet that the bytes are, or the first fault
+abbrev pub reading : List ℕ → List ℕ → Result Content PacketFault
+reading key bytes = unless (fault_in key bytes) (content_in bytes)
+
+-- what decoding answered, without where it lies in memory
+abbrev pub seen : Result Packet PacketFault → Result Content PacketFault
+seen (Ok p) = Ok (content p)
+seen (Err fault) = Err fault

@@ -1,0 +1,71 @@
+-- The one text of each packet under a key: the header, the items, and the tag of both.
+use Rattle.std.specs.Prelude.{◌≡◌, ◌≢◌, ℕ, ◌%◌, ◌^◌, ◌<◌, ◌≤◌, ◌↔◌, List, [], ◌∷◌, ◌++◌, length, take, slice_index_or, codes, All}
+use Rattle.std.specs.Int.{w16, w64, to_be_bytes}
+use Rattle.std.specs.List.{flat_map}
+use Rattle.gb_types.specs.declared.limits.TheConstants.{NODES, PAYLOAD}
+use Rattle.gb_cap.specs.Hmac.{hmac_of}
+use Rattle.gb_frame.specs.declared.limits.TheConstants.{VERSION, TAG, ROOM}
+use Rattle.gb_frame.specs.declared.item.Item.{Item}
+use Rattle.gb_frame.specs.Packet.{Content}
+
+-- an item: tenant, group, origin, sequence number, the payload's length, the payload
+abbrev pub item_text : Item → List ℕ
+item_text i = to_be_bytes w16 i.tenant ++ to_be_bytes w16 i.group ++ i.origin ∷ [] ++ to_be_bytes w16 i.seq ++ to_be_bytes w16 (length i.payload) ++ i.payload
+
+abbrev pub items_text : List Item → List ℕ
+items_text items = flat_map item_text items
+
+-- the header: magic, version, sender, destination, acknowledgement, frame number, count of items
+unfoldable pub header_text : Content → List ℕ
+header_text c = codes "GB" ++ VERSION ∷ c.from ∷ c.to ∷ [] ++ to_be_bytes w64 c.base ++ to_be_bytes w64 c.mask ++ to_be_bytes w64 c.frame ++ to_be_bytes w16 (length c.items)
+
+-- what the tag is made of
+abbrev pub tagged_text : Content → List ℕ
+tagged_text c = header_text c ++ items_text c.items
+
+-- the first bytes of the HMAC under the key
+unfoldable pub tag_of : List ℕ → List ℕ → List ℕ
+tag_of key text = take TAG (hmac_of key text)
+
+abbrev pub packet_text : List ℕ → Content → List ℕ
+packet_text key c = tagged_text c ++ tag_of key (tagged_text c)
+
+-- each number of a list is a byte
+abbrev pub IsBytes : List ℕ → Type 0
+IsBytes bytes = (i : ℕ) → slice_index_or bytes i 0 < 2 ^ 8
+
+-- an item that has a text
+pub record IsItem (i : Item) : Type 0 where
+  pub tenant : i.tenant < 2 ^ 16
+  pub group : i.group < 2 ^ 16
+  pub origin : i.origin < 2 ^ 8
+  pub seq : i.seq < 2 ^ 16
+  pub bytes : IsBytes i.payload
+  pub length : length i.payload ≤ PAYLOAD
+
+-- the limits that a packet's sender keeps to
+pub record IsWithinLimits (c : Content) : Type 0 where
+  pub apart : c.from ≢ c.to
+  pub base : 0 < c.base
+  pub mask : c.mask % 2 ≡ 0
+  pub frame : (c.frame ≡ 0) ↔ (length c.items ≡ 0)
+  pub payloads : All (λ i. length i.payload ≤ PAYLOAD) c.items
+  pub room : length (items_text c.items) ≤ ROOM
+
+-- each field fits the bytes that it is written in
+pub record FitsFields (c : Content) : Type 0 where
+  pub from : c.from < NODES
+  pub to : c.to < NODES
+  pub base : c.base < 2 ^ 64
+  pub mask : c.mask < 2 ^ 64
+  pub frame : c.frame < 2 ^ 64
+
+-- a packet that has a text
+pub record IsPacket (c : Content) : Type 0 where
+  pub limits : IsWithinLimits c
+  pub fields : FitsFields c
+  pub items : All IsItem c.items
+
+-- the bytes are this packet's text under the key
+abbrev pub IsText : List ℕ → List ℕ → Content → Type 0
+IsText key bytes c = IsPacket c × (bytes ≡ packet_text key c)

@@ -1,0 +1,61 @@
+//! What is wrong with bytes that are no packet.
+ghost use Rattle.std.specs.Prelude.{◌≡◌};
+
+use thiserror::Error;
+
+/// Why bytes are not a packet: the first of these that holds.
+#[derive(Clone, Copy, Debug, PartialEq, Eq, Error)]
+pub enum PacketFault {
+    /// Fewer bytes than the shortest packet has.
+    #[error("short")]
+    Short,
+    /// The first two bytes are not `GB`.
+    #[error("magic")]
+    Magic,
+    /// The version byte is not 1.
+    #[error("version")]
+    Version,
+    /// The sender or the destination is beyond the greatest node number, or they are one node.
+    #[error("node")]
+    Node,
+    /// The acknowledgement's base is 0, or its mask has bit 0 set.
+    #[error("mask")]
+    Mask,
+    /// Frame number 0 with items, or another frame number with none.
+    #[error("count")]
+    Count,
+    /// An item's length is above the longest payload, or an item runs into the tag.
+    #[error("length")]
+    Length,
+    /// Bytes are left between the last item and the tag.
+    #[error("trailing")]
+    Trailing,
+    /// More bytes than the longest packet has.
+    #[error("too long")]
+    TooLong,
+    /// The last 8 bytes are not the tag of what stands before them.
+    #[error("tag")]
+    Tag,
+}
+
+impl PacketFault {
+    ghost use Rattle.gb_frame.specs.Faults.{fault_number};
+
+    /// The fault's number in the table of faults, from 1.
+    pub fn number(self) -> u8
+        ensures { result ≡ fault_number self }
+    {
+        match self {
+            PacketFault::Short => 1,
+            PacketFault::Magic => 2,
+            PacketFault::Version => 3,
+            PacketFault::Node => 4,
+            PacketFault::Mask => 5,
+            PacketFault::Count => 6,
+            PacketFault::Length => 7,
+            PacketFault::Trailing => 8,
+            PacketFault::TooLong => 9,
+            PacketFault::Tag => 10,
+        }
+    }
+}

@@ -1,0 +1,81 @@
+// The header of a packet: its fields, and the tests of them.
+ghost use Rattle.std.specs.Prelude.{◌≡◌, ◌≤◌, length};
+ghost use Rattle.gb_frame.specs.declared.limits.TheConstants.{HEADER, SHORTEST};
+ghost use Rattle.gb_frame.specs.Reading.{is_magic, is_between_nodes, is_acknowledgement, is_counted, base_in, mask_in, frame_in, count_in, items_in};
+
+use crate::limits::{HEADER, TAG};
+use crate::number::{u16_at, u64_at};
+use gb_types::limits::NODES;
+
+pub fn base_of(bytes: &[u8]) -> u64
+    requires { HEADER ≤ length bytes.now }
+    ensures { result ≡ base_in bytes.now }
+{
+    u64_at(bytes, 5)
+}
+
+pub fn mask_of(bytes: &[u8]) -> u64
+    requires { HEADER ≤ length bytes.now }
+    ensures { result ≡ mask_in bytes.now }
+{
+    u64_at(bytes, 13)
+}
+
+pub fn frame_of(bytes: &[u8]) -> u64
+    requires { HEADER ≤ length bytes.now }
+    ensures { result ≡ frame_in bytes.now }
+{
+    u64_at(bytes, 21)
+}
+
+pub fn count_of(bytes: &[u8]) -> u16
+    requires { HEADER ≤ length bytes.now }
+    ensures { result ≡ count_in bytes.now }
+{
+    u16_at(bytes, 29)
+}
+
+pub fn has_magic(bytes: &[u8]) -> bool
+    requires { HEADER ≤ length bytes.now }
+    ensures { result ≡ is_magic bytes.now }
+{
+    bytes[0] == b'G' && bytes[1] == b'B'
+}
+
+/// Whether two different nodes are named.
+pub fn has_nodes(bytes: &[u8]) -> bool
+    requires { HEADER ≤ length bytes.now }
+    ensures { result ≡ is_between_nodes bytes.now }
+{
+    (bytes[3] as usize) < NODES && (bytes[4] as usize) < NODES && bytes[3] != bytes[4]
+}
+
+/// Whether the acknowledgement has a base, and its mask speaks of frames above the base alone.
+pub fn has_acknowledgement(bytes: &[u8]) -> bool
+    requires { HEADER ≤ length bytes.now }
+    ensures { result ≡ is_acknowledgement bytes.now }
+{
+    base_of(bytes) > 0 && mask_of(bytes) % 2 == 0
+}
+
+/// Whether there are items exactly where there is a frame number.
+pub fn has_counted_frame(bytes: &[u8]) -> bool
+    requires { HEADER ≤ length bytes.now }
+    ensures { result ≡ is_counted bytes.now }
+{
+    if frame_of(bytes) == 0 {
+        count_of(bytes) == 0
+    } else {
+        count_of(bytes) > 0
+    }
+}
+
+/// What stands between the header and the tag.
+pub fn texts_of(bytes: &[u8]) -> &[u8]
+    requires { SHORTEST ≤ length bytes.now }
+    ensures { result.now ≡ items_in bytes.now }
+{
+    let (tagged, _tag) = bytes.split_at(bytes.len() - TAG);
+    let (_header, texts) = tagged.split_at(HEADER);
+    texts
+}

@@ -1,0 +1,169 @@
+//! Items: one message of one group each, and their texts.
+ghost use Rattle.std.specs.Prelude.{◌≡◌, ◌+◌, ◌≤◌, ◌++◌, length, MatchOption, IfOk, IsSome, All, None, Some, vec_len, vec_capacity};
+ghost use Rattle.gb_types.specs.declared.limits.TheConstants.{PAYLOAD};
+ghost use Rattle.gb_frame.specs.declared.limits.TheConstants.{ITEM_HEADER};
+
+use crate::limits::ITEM_HEADER;
+use crate::number::u16_at;
+use gb_types::limits::PAYLOAD;
+use gb_types::memory::OutOfMemory;
+use gb_types::payload::Payload;
+use std::alloc::Global;
+
+/// A message of a group on its way. Nothing but the payload's length is judged here.
+#[derive(Debug, Drop)]
+pub struct Item {
+    pub tenant: u16,
+    pub group: u16,
+    /// The number of the node that said the message.
+    pub origin: u8,
+    pub seq: u16,
+    pub payload: Payload,
+}
+
+/// An item whose payload lies elsewhere, as in a packet's bytes.
+#[derive(Clone, Copy)]
+pub struct ItemView<'a> {
+    pub tenant: u16,
+    pub group: u16,
+    /// The number of the node that said the message.
+    pub origin: u8,
+    pub seq: u16,
+    pub payload: &'a [u8],
+}
+
+ghost use Rattle.gb_frame.specs.Packet.{item_of};
+ghost use Rattle.gb_frame.specs.Spelling.{item_text, items_text, IsItem, IsBytes};
+ghost use Rattle.gb_frame.specs.Reading.{item_at, items_at, items_of, left_over};
+
+impl Item {
+    ghost use Rattle.gb_frame.specs.Packet.{item_of};
+
+    /// The item, with its payload where it is.
+    pub fn view(&self) -> ItemView<'_>
+        ensures { item_of result ≡ self.now }
+    {
+        ItemView {
+            tenant: self.tenant,
+            group: self.group,
+            origin: self.origin,
+            seq: self.seq,
+            payload: self.payload.as_slice(),
+        }
+    }
+
+    /// The item with its payload copied.
+    pub fn from_view(alloc: Global, item: ItemView<'_>) -> Result<Item, OutOfMemory>
+        ensures { IfOk result (λ i. i ≡ item_of item.entry) }
+    {
+        Ok(Item {
+            tenant: item.tenant,
+            group: item.group,
+            origin: item.origin,
+            seq: item.seq,
+            payload: Payload::from_slice(alloc, item.payload)?,
+        })
+    }
+}
+
+/// What the type of a payload says, for the clauses that name it. There is nothing to run.
+fn are_bytes(payload: &[u8])
+    ensures { IsBytes payload.now }
+{}
+
+/// Appends an item's text. Takes no memory.
+pub fn put_item(item: ItemView<'_>, text: &mut Vec<u8>)
+    requires payload { length item.payload.now ≤ PAYLOAD }
+    requires room { vec_len text.old + ITEM_HEADER + length item.payload.now ≤ vec_capacity text.old }
+    ensures written { text.new.items ≡ text.old.items ++ item_text (item_of item.entry) }
+    ensures len { vec_len text.new ≡ vec_len text.old + ITEM_HEADER + length item.entry.payload.now }
+    ensures capacity { vec_capacity text.old ≤ vec_capacity text.new }
+    ensures fits { IsItem (item_of item.entry) }
+{
+    let tenant = item.tenant.to_be_bytes();
+    let group = item.group.to_be_bytes();
+    let seq = item.seq.to_be_bytes();
+    let payload = item.payload;
+    are_bytes(payload);
+    let len = (payload.len() as u16).to_be_bytes();
+    let header = [
+        tenant[0],
+        tenant[1],
+        group[0],
+        group[1],
+        item.origin,
+        seq[0],
+        seq[1],
+        len[0],
+        len[1],
+    ];
+    text.extend_from_slice(&header).unwrap();
+    text.extend_from_slice(payload).unwrap();
+}
+
+/// Appends the texts of items. Takes no memory.
+pub fn put_items(items: &[Item], text: &mut Vec<u8>)
+    requires payloads { All (λ i. length i.payload ≤ PAYLOAD) items.now }
+    requires room { vec_len text.old + length (items_text items.now) ≤ vec_capacity text.old }
+    ensures written { text.new.items ≡ text.old.items ++ items_text items.now }
+    ensures len { vec_len text.new ≡ vec_len text.old + length (items_text items.now) }
+    ensures capacity { vec_capacity text.old ≤ vec_capacity text.new }
+    ensures fit { All IsItem items.now }
+{
+    for item in items {
+        put_item(item.view(), text);
+    }
+}
+
+/// The item at the front of these texts and the texts behind it; `None` where no whole item stands
+/// there, or its length is above the longest payload. Takes no memory.
+#[tactic(auto, unfolding(crate::specs::Reading::item_at))]
+pub fn first_item(texts: &[u8]) -> Option<(ItemView<'_>, &[u8])>
+    ensures { MatchOption result (item_at texts.now ≡ None) (λ x. item_at texts.now ≡ Some (item_of x.0, x.1.now)) }
+{
+    if texts.len() < ITEM_HEADER {
+        return None;
+    }
+    let len = u16_at(texts, 7) as usize;
+    let rest = &texts[ITEM_HEADER..];
+    if len > PAYLOAD || len > rest.len() {
+        return None;
+    }
+    let item = ItemView {
+        tenant: u16_at(texts, 0),
+        group: u16_at(texts, 2),
+        origin: texts[4],
+        seq: u16_at(texts, 5),
+        payload: &rest[..len],
+    };
+    Some((item, &rest[len..]))
+}
+
+/// What stands behind so many items; `None` where so many do not stand at the front. Takes no memory.
+pub fn skip_items(count: u16, texts: &[u8]) -> Option<&[u8]>
+    ensures { MatchOption result (items_at count texts.now ≡ None) (λ rest. IsSome (items_at count texts.now) × (left_over (items_at count texts.now) ≡ rest.now)) }
+{
+    let mut rest = texts;
+    for _ in 0..count {
+        let Some((_item, after)) = first_item(rest) else {
+            return None;
+        };
+        rest = after;
+    }
+    Some(rest)
+}
+
+/// So many items, copied, which stand at the front of these texts.
+pub fn copy_items(alloc: Global, count: u16, texts: &[u8]) -> Result<Vec<Item>, OutOfMemory>
+    requires { IsSome (items_at count texts.now) }
+    ensures { IfOk result (λ items. items.items ≡ items_of (items_at count texts.now)) }
+{
+    let mut items = Vec::with_capacity(alloc, count as usize)?;
+    let mut rest = texts;
+    for _ in 0..count {
+        let (item, after) = first_item(rest).unwrap();
+        items.push_reserved(Item::from_view(alloc, item)?);
+        rest = after;
+    }
+    Ok(items)
+}

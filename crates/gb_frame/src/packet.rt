@@ -1,0 +1,64 @@
+//! Packets, and which of them can be written.
+ghost use Rattle.std.specs.Prelude.{◌≡◌, ◌↔◌, ◌+◌, ◌≤◌, length, IsTrue, IsSome, IfSome, All};
+ghost use Rattle.gb_types.specs.declared.limits.TheConstants.{PAYLOAD};
+ghost use Rattle.gb_frame.specs.declared.limits.TheConstants.{ROOM};
+
+use crate::item::Item;
+use crate::limits::{ITEM_HEADER, ROOM};
+use gb_types::limits::PAYLOAD;
+use gb_types::node::NodeId;
+
+/// What one node sends another at once.
+#[derive(Debug, Drop)]
+pub struct Packet {
+    /// The sender.
+    pub from: NodeId,
+    /// The destination, another node.
+    pub to: NodeId,
+    /// The acknowledgement's base, at least 1: every frame number below it was received.
+    pub base: u64,
+    /// The acknowledgement's mask: bit i, of value 2 to the i, says that `base + i` was received. Bit 0 is
+    /// clear.
+    pub mask: u64,
+    /// The frame's number. A packet without items has none, which is written 0.
+    pub frame: u64,
+    /// The frame's items.
+    pub items: Vec<Item>,
+}
+
+ghost use Rattle.gb_frame.specs.Packet.{content};
+ghost use Rattle.gb_frame.specs.Spelling.{items_text, IsWithinLimits};
+
+/// How many of the bytes that a packet has for items these leave, where they fit and each payload is
+/// within its limit.
+pub fn room_beside(items: &[Item]) -> Option<usize>
+    ensures fits { IsSome result ↔ (All (λ i. length i.payload ≤ PAYLOAD) items.now × (length (items_text items.now) ≤ ROOM)) }
+    ensures left { IfSome result (λ room. length (items_text items.now) + room ≡ ROOM) }
+{
+    let mut room = ROOM;
+    for item in items {
+        let payload = item.payload.len();
+        if payload > PAYLOAD {
+            return None;
+        }
+        let len = ITEM_HEADER + payload;
+        if len > room {
+            return None;
+        }
+        room -= len;
+    }
+    Some(room)
+}
+
+impl Packet {
+    /// Whether this packet can be written.
+    pub fn is_within_limits(&self) -> bool
+        ensures { IsTrue result ↔ IsWithinLimits (content self.now) }
+    {
+        self.from != self.to
+            && self.base > 0
+            && self.mask % 2 == 0
+            && (self.frame == 0) == self.items.is_empty()
+            && room_beside(&self.items).is_some()
+    }
+}

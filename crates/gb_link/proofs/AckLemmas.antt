@@ -1,0 +1,11 @@
+-- A mask of 64 bits covers nothing from base + 64 on.
+use Rattle.std.proofs.Common.{◌≡◌, ℕ, ◌-◌, ◌<◌, ◌≤◌, ◌^◌, false, arith}
+use Rattle.std.specs.Int.{bit_at}
+use Rattle.std.proofs.lemmas.Nat.Bits.{bit_at_above}
+use Rattle.std.proofs.lemmas.Bool.Decides.{nat_tests}
+use Rattle.gb_link.specs.Ack.{covers}
+
+pub not_covered_beyond : (base mask n : ℕ) → base ≤ n → 64 ≤ n - base → mask < 2 ^ 64 → covers base mask n ≡ false
+not_covered_beyond base mask n from beyond word =
+    let clear : bit_at mask (n - base) ≡ 0 = bit_at_above mask 64 (n - base) word beyond in
+    grind (arith, nat_tests, clear)

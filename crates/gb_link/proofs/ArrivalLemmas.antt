@@ -1,0 +1,50 @@
+-- A set of received numbers, and how often a number is First.
+use Rattle.std.proofs.Common.{◌≡◌, ℕ, ◌+◌, ◌≤◌, Bool, true, false, ◌&&◌, ◌||◌, cond, nat_eq, List, [], ◌∷◌, refl, ap, sym, ◌∙◌, arith}
+use Rattle.std.specs.Cmp.{nat_cmp_total, unsigned_tied}
+use Rattle.std.specs.FinSet as set
+use Rattle.std.proofs.lemmas.Bool.Decides.{nat_tests}
+use Rattle.gb_link.specs.declared.receiver.Admission.TheVariants.{First, Seen, Outside}
+use Rattle.gb_link.specs.Received.{Received, is_awaited, taken, is_first, firsts}
+
+pub contains-inserted : (s : Received) (n m : ℕ) → set.contains (set.insert s n) m ≡ (nat_eq n m || set.contains s m)
+contains-inserted s n m =
+    let swap : nat_eq m n ≡ nat_eq n m = grind (arith, nat_tests) in
+    set.contains-insert nat_cmp_total s n m ∙ ap (λ b. b || set.contains s m) (unsigned_tied m n ∙ swap)
+
+and_false : (b : Bool) → (b && false) ≡ false
+and_false true = refl
+and_false false = refl
+
+at_most_one : (b : Bool) → 0 + cond {A = ℕ} b 1 0 ≤ 1
+at_most_one true = omega arith
+at_most_one false = omega arith
+
+-- an arrival that changes nothing
+unchanged : (s : Received) (n m : ℕ) (ms : List ℕ) → firsts s n ms + cond (set.contains s n) 1 0 ≤ 1 → cond {A = ℕ} (nat_eq m n && false) 1 0 + firsts s n ms + cond (set.contains s n) 1 0 ≤ 1
+unchanged s n m ms rest = let none = ap (λ b. cond {A = ℕ} b 1 0) (and_false (nat_eq m n)) in omega (arith, rest, none)
+
+-- a first arrival
+inserted : (s : Received) (n m : ℕ) (ms : List ℕ) → firsts (set.insert s m) n ms + cond (set.contains (set.insert s m) n) 1 0 ≤ 1 → set.contains s m ≡ false
+    → cond {A = ℕ} (nat_eq m n && true) 1 0 + firsts (set.insert s m) n ms + cond (set.contains s n) 1 0 ≤ 1
+inserted s n m ms rest lacks =
+    let after = ap (λ b. cond {A = ℕ} b 1 0) (contains-inserted s m n) in
+    elim (nat_eq m n) as (λ b. nat_eq m n ≡ b → cond {A = ℕ} (set.contains (set.insert s m) n) 1 0 ≡ cond (b || set.contains s n) 1 0 → cond {A = ℕ} (b && true) 1 0 + firsts (set.insert s m) n ms + cond (set.contains s n) 1 0 ≤ 1) [
+      | true ↦ λ is one.
+          let same : m ≡ n = grind (arith, nat_tests) in
+          let none = ap (λ b. cond {A = ℕ} b 1 0) (ap (λ k. set.contains s k) (sym same) ∙ lacks) in
+          omega (arith, rest, one, none)
+      | false ↦ λ _ one. omega (arith, rest, one)
+    ] refl after
+
+-- a number is First once at most, and not at all where it was received before
+pub firsts_most : (s : Received) (n : ℕ) (ms : List ℕ) → firsts s n ms + cond (set.contains s n) 1 0 ≤ 1
+firsts_most s n [] = at_most_one (set.contains s n)
+firsts_most s n (m ∷ ms) =
+    elim (set.contains s m) as (λ b. set.contains s m ≡ b → cond {A = ℕ} (nat_eq m n && is_first (cond b Seen (cond (is_awaited s m) First Outside))) 1 0 + firsts (taken s m (cond b Seen (cond (is_awaited s m) First Outside))) n ms + cond (set.contains s n) 1 0 ≤ 1) [
+      | true ↦ λ _. unchanged s n m ms (firsts_most s n ms)
+      | false ↦ λ lacks.
+          elim (is_awaited s m) as (λ w. cond {A = ℕ} (nat_eq m n && is_first (cond w First Outside)) 1 0 + firsts (taken s m (cond w First Outside)) n ms + cond (set.contains s n) 1 0 ≤ 1) [
+            | true ↦ inserted s n m ms (firsts_most (set.insert s m) n ms) lacks
+            | false ↦ unchanged s n m ms (firsts_most s n ms)
+          ]
+    ] refl

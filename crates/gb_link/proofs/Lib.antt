@@ -1,0 +1,7 @@
+pub mod AckLemmas
+pub mod WindowLemmas
+pub mod FirstLemmas
+pub mod ReceivedLemmas
+pub mod BaseLemmas
+pub mod ArrivalLemmas
+pub mod LinkLemmas

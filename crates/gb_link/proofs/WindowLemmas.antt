@@ -1,0 +1,66 @@
+-- What a sender keeps, through each of its calls.
+use Rattle.std.proofs.Common.{◌≡◌, ℕ, ◌+◌, ◌≤◌, true, false, cond, IsTrue, ◌&&◌, List, [], ◌∷◌, ◌++◌, arith, Bool}
+use Rattle.std.proofs.lemmas.Bool.Decides.{nat_tests}
+use Rattle.gb_types.specs.declared.limits.TheConstants.{LAST_FRAME}
+use Rattle.gb_link.specs.SendWindow.{SendWindow, IsWindow, AreAscending, AreRecent, without_first, pushed, has_room, is_in_window, acknowledged}
+use Rattle.gb_link.specs.Ack.{covers}
+
+-- `IsTrue b` as an equation
+and_second : (a b : Bool) → IsTrue (a && b) → b ≡ true
+and_second true b h = h
+and_second false b h = cc
+
+module _ {F : Type 0} where
+  -- ascending from a lower number on
+  pub ascending_lower : (low high : ℕ) (us : List (ℕ × F)) → low ≤ high → AreAscending high us → AreAscending low us
+  ascending_lower low high [] le h = tt
+  ascending_lower low high (u ∷ us) le h = (omega (arith, h.0), h.1)
+
+  pub ascending-without : (test : ℕ × F → Bool) (low : ℕ) (us : List (ℕ × F)) → AreAscending low us → AreAscending low (without_first test us)
+  ascending-without test low [] h = tt
+  ascending-without test low (u ∷ us) h =
+      elim (test u) as (λ b. AreAscending low (cond b us (u ∷ without_first test us))) [
+        | true ↦ ascending_lower low (u.0 + 1) us (omega (arith, h.0)) h.1
+        | false ↦ (h.0, ascending-without test (u.0 + 1) us h.1)
+      ]
+
+  pub recent-without : (test : ℕ × F → Bool) (next : ℕ) (us : List (ℕ × F)) → AreRecent next us → AreRecent next (without_first test us)
+  recent-without test next [] h = tt
+  recent-without test next (u ∷ us) h =
+      elim (test u) as (λ b. AreRecent next (cond b us (u ∷ without_first test us))) [
+        | true ↦ h.2
+        | false ↦ (h.0, h.1, recent-without test next us h.2)
+      ]
+
+  pub ascending-pushed : (low next : ℕ) (frame : F) (us : List (ℕ × F)) → low ≤ next → AreAscending low us → AreRecent next us → AreAscending low (us ++ (next, frame) ∷ [])
+  ascending-pushed low next frame [] le h r = (le, tt)
+  ascending-pushed low next frame (u ∷ us) le h r = (h.0, ascending-pushed (u.0 + 1) next frame us (omega (arith, r.0)) h.1 r.2)
+
+  pub recent-pushed : (low next : ℕ) (frame : F) (us : List (ℕ × F)) → next ≤ low + 63 → AreAscending low us → AreRecent next us → AreRecent (next + 1) (us ++ (next, frame) ∷ [])
+  recent-pushed low next frame [] le h r = (omega arith, omega arith, tt)
+  recent-pushed low next frame (u ∷ us) le h r =
+      (omega (arith, r.0), omega (arith, h.0), recent-pushed (u.0 + 1) next frame us (omega (arith, h.0)) h.1 r.2)
+
+  recent-room : (next : ℕ) (frame : F) (us : List (ℕ × F)) → is_in_window next us ≡ true → AreAscending 1 us → AreRecent next us → AreRecent (next + 1) (us ++ (next, frame) ∷ [])
+  recent-room next frame [] room h r = (omega arith, omega arith, tt)
+  recent-room next frame (u ∷ us) room h r =
+      let within : next ≤ u.0 + 63 = grind (arith, nat_tests, room) in
+      recent-pushed u.0 next frame (u ∷ us) within (omega arith, h.1) r
+
+  -- a push in the room keeps the window
+  pub IsWindow-pushed : (w : SendWindow F) (frame : F) → IsTrue (has_room w) → IsWindow w → IsWindow (pushed w frame)
+  IsWindow-pushed w frame room kept = record {
+    started = omega (arith, kept.started);
+    last = (let numbered : w.next ≤ LAST_FRAME = grind (arith, nat_tests, room) in omega arith);
+    ascending = ascending-pushed 1 w.next frame w.undone kept.started kept.ascending kept.recent;
+    recent = recent-room w.next frame w.undone (and_second _ _ room) kept.ascending kept.recent;
+  }
+
+  -- so does an acknowledgement
+  pub IsWindow-acknowledged : (w : SendWindow F) (base mask : ℕ) → IsWindow w → IsWindow (acknowledged w base mask)
+  IsWindow-acknowledged w base mask kept = record {
+    started = kept.started;
+    last = kept.last;
+    ascending = ascending-without (λ u. covers base mask u.0) 1 w.undone kept.ascending;
+    recent = recent-without (λ u. covers base mask u.0) w.next w.undone kept.recent;
+  }

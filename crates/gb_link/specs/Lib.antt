@@ -1,0 +1,5 @@
+pub mod Ack
+pub mod SendWindow
+pub mod Received
+pub mod Words
+pub mod Link

@@ -1,0 +1,59 @@
+-- What a contract sees of a receiver: the numbers that it took, and its acknowledgement of them.
+use Rattle.std.specs.Prelude.{ℕ, ◌+◌, ◌*◌, Bool, true, false, ◌&&◌, if◌then◌else◌, nat_eq, nat_lt, nat_le, List, [], ◌∷◌, length}
+use Rattle.std.specs.Ordering.{nat_cmp}
+use Rattle.std.specs.FinSet as set
+use Rattle.gb_types.specs.declared.limits.TheConstants.{LAST_FRAME}
+use Rattle.gb_link.specs.declared.receiver.Admission.{Admission}
+use Rattle.gb_link.specs.declared.receiver.Admission.TheVariants.{First, Seen, Outside}
+use Prim.Native.Nat.{zero, suc}
+
+-- the numbers received
+abbrev pub Received : Type 0
+Received = set.FinSet nat_cmp
+
+-- the first number from n on that is not in the set, or n + k where the k numbers from n on are
+abbrev pub first_missing : Received → ℕ → ℕ → ℕ
+first_missing s n zero = n
+first_missing s n (suc k) = if set.contains s n then first_missing s (n + 1) k else n
+
+-- the least number not received: k received numbers leave one of 1 to k + 1
+unfoldable pub base_of : Received → ℕ
+base_of s = first_missing s 1 (length (set.items s))
+
+-- the word whose bit i, for i below k, says whether n + i was received
+abbrev pub word_of : Received → ℕ → ℕ → ℕ
+word_of s n zero = 0
+word_of s n (suc k) = (if set.contains s n then 1 else 0) + 2 * word_of s (n + 1) k
+
+-- bit i, for i below 64, stands for base + i
+unfoldable pub mask_of : Received → ℕ
+mask_of s = word_of s (base_of s) 64
+
+-- the number is one of the 64 from the base on, and a frame may have it
+abbrev pub is_awaited : Received → ℕ → Bool
+is_awaited s n = nat_le (base_of s) n && nat_lt n (base_of s + 64) && nat_le n LAST_FRAME
+
+-- what becomes of an arriving frame
+abbrev pub admission : Received → ℕ → Admission
+admission s n = if set.contains s n then Seen else if is_awaited s n then First else Outside
+
+-- the numbers received after that answer
+abbrev pub taken : Received → ℕ → Admission → Received
+taken s n First = set.insert s n
+taken s n Seen = s
+taken s n Outside = s
+
+-- the numbers received after a frame of number n arrived
+abbrev pub admitted : Received → ℕ → Received
+admitted s n = taken s n (admission s n)
+
+-- the answer says that the number came for the first time
+abbrev pub is_first : Admission → Bool
+is_first First = true
+is_first Seen = false
+is_first Outside = false
+
+-- how often a frame of number n is First, where frames of these numbers arrive one after another
+abbrev pub firsts : Received → ℕ → List ℕ → ℕ
+firsts s n [] = 0
+firsts s n (m ∷ ms) = (if nat_eq m n && is_first (admission s m) then 1 else 0) + firsts (admitted s m) n ms

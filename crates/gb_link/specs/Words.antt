@@ -1,0 +1,18 @@
+-- The set of numbers that the two words of a receiver stand for.
+use Rattle.std.specs.Prelude.{◌≡◌, ℕ, ◌+◌, ◌%◌, ◌^◌, ◌<◌, ◌≤◌, true, not, ◌&&◌, nat_eq}
+use Rattle.std.specs.FinSet as set
+use Rattle.gb_types.specs.declared.limits.TheConstants.{LAST_FRAME}
+use Rattle.gb_types.specs.Places.{below}
+use Rattle.gb_link.specs.Ack.{covers}
+use Rattle.gb_link.specs.Received.{Received}
+
+-- the numbers from 1 on that an acknowledgement by a base and a mask of 64 bits covers
+unfoldable pub covered : ℕ → ℕ → Received
+covered base mask = set.retain (set.from_list (below (base + 64))) (λ n. not (nat_eq n 0) && covers base mask n)
+
+-- what each receiver keeps: base and mask are the acknowledgement of what they cover
+pub record IsReceiver (base mask : ℕ) : Type 0 where
+  pub started : 1 ≤ base
+  pub word : mask < 2 ^ 64
+  pub even : mask % 2 ≡ 0
+  pub last : (n : ℕ) → set.contains (covered base mask) n ≡ true → n ≤ LAST_FRAME

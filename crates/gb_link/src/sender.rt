@@ -1,0 +1,126 @@
+// The sending end of a link.
+ghost use Rattle.std.specs.Prelude.{◌≡◌, IsTrue, OnOk, OnErr, IfOk, position, nat_eq, find};
+ghost use Rattle.std.specs.Option.{option_map, option_copied};
+ghost use Rattle.gb_link.specs.Ack.{covers};
+ghost use Rattle.gb_link.specs.SendWindow.{IsWindow, new_window, has_room, pushed, frame_again, lowest_covered, acknowledged, without_first};
+
+use crate::ack::covers;
+use gb_types::limits::{LAST_FRAME, LINK_WINDOW};
+use gb_types::memory::OutOfMemory;
+use std::alloc::Global;
+use std::collections::VecDeque;
+use std::marker::Model;
+
+/// Frames that were pushed and not acknowledged yet, each under its number. Numbers rise from 1 to
+/// `LAST_FRAME` and are never used again. At most `LINK_WINDOW` frames are undone, so a search among them
+/// takes a bounded time however many frames went before.
+#[derive(Drop)]
+pub struct Sender<F> {
+    next: u64,
+    undone: VecDeque<(u64, F)>,
+}
+
+impl<F> Model for Sender<F> {
+    ghost use Rattle.gb_link.specs.SendWindow.{SendWindow, send_window_code, IsWindow};
+
+    ghost Value = { SendWindow F };
+
+    ghost coded = { send_window_code F.code };
+
+    ghost view = { λ s. record { next = s.next; undone = s.undone.items } };
+
+    ghost invariant = { λ s. IsWindow (record { next = s.next; undone = s.undone.items }) };
+}
+
+impl<F: Drop> Sender<F> {
+    /// A sender that pushed nothing.
+    pub fn new(alloc: Global) -> Sender<F>
+        ensures { result ≡ new_window }
+    {
+        Sender {
+            next: 1,
+            undone: VecDeque::new(alloc),
+        }
+    }
+
+    /// Whether one more frame may be pushed: its number is at most `LAST_FRAME`, and at most 63 above the
+    /// lowest undone one.
+    pub fn room(&self) -> bool
+        ensures room { result ≡ has_room self.now }
+        ensures window { IsWindow self.now }
+    {
+        self.next <= LAST_FRAME
+            && match self.undone.front() {
+                None => true,
+                Some(lowest) => self.next - lowest.0 < LINK_WINDOW,
+            }
+    }
+
+    /// Pushes a frame, and gives its number.
+    pub fn push(&mut self, frame: F) -> Result<u64, OutOfMemory>
+        requires { IsTrue (has_room self.old) }
+        ensures number { IfOk result (λ number. number ≡ self.old.next) }
+        ensures ok { OnOk result (self.new ≡ pushed self.old frame) }
+        ensures err { OnErr result (self.new ≡ self.old) }
+    {
+        self.undone.reserve(1)?;
+        let number = self.next;
+        self.undone.push_back_reserved((number, frame));
+        self.next += 1;
+        Ok(number)
+    }
+
+    /// The undone frame of this number, and the number; for 0 the lowest undone frame.
+    pub fn again(&self, number: u64) -> Option<(u64, &F)>
+        ensures { option_map (λ found. (found.0, found.1.now)) result ≡ frame_again self.now number }
+    {
+        if number == 0 {
+            return parts(self.undone.front());
+        }
+        parts(held_under(&self.undone, number))
+    }
+
+    /// Hands out the lowest undone frame that the acknowledgement covers, with its number; it is done then. To
+    /// take an acknowledgement whole, call until there is none.
+    pub fn acked(&mut self, base: u64, mask: u64) -> Option<(u64, F)>
+        ensures handed_out { result ≡ lowest_covered self.old base mask }
+        ensures done { self.new ≡ acknowledged self.old base mask }
+    {
+        take_covered(&mut self.undone, base, mask)
+    }
+}
+
+fn take_covered<F>(undone: &mut VecDeque<(u64, F)>, base: u64, mask: u64) -> Option<(u64, F)>
+    ensures handed_out { result ≡ find (λ held. covers base mask held.0) undone.old.items }
+    ensures left { undone.new.items ≡ without_first (λ held. covers base mask held.0) undone.old.items }
+{
+    match first_covered(undone, base, mask) {
+        None => None,
+        Some(place) => undone.remove(place),
+    }
+}
+
+/// The place of the lowest frame that the acknowledgement covers.
+fn first_covered<F>(undone: &VecDeque<(u64, F)>, base: u64, mask: u64) -> Option<usize>
+    ensures { result ≡ position (λ held. covers base mask held.0) undone.now.items }
+{
+    undone.iter().position(|held| covers(base, mask, held.0))
+}
+
+fn held_under<F>(undone: &VecDeque<(u64, F)>, number: u64) -> Option<&(u64, F)>
+    ensures { option_copied result ≡ find (λ held. nat_eq held.0 number) undone.now.items }
+{
+    undone.iter().find(|held| held.0 == number)
+}
+
+fn parts<F>(held: Option<&(u64, F)>) -> Option<(u64, &F)>
+    ensures { option_map (λ found. (found.0, found.1.now)) result ≡ option_copied held.entry }
+{
+    match held {
+        None => None,
+        Some(found) => Some((found.0, &found.1)),
+    }
+}
+
+#[cfg(test)]
+mod tests;

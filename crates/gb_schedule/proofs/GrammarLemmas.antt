@@ -1,0 +1,52 @@
+-- Words behind a head, one by one, and what a reader of words answers.
+use Rattle.std.proofs.Common.{◌≡◌, ◌↔◌, ℕ, zero, suc, ◌-◌, ◌≤◌, List, [], ◌∷◌, ◌++◌, Some, length, map, take, drop, get_or, refl, sym, ap, ◌∙◌, subst, arith}
+use Rattle.std.proofs.lemmas.List.{take_rest}
+use denote.Ref.{Bor}
+
+-- so many words from a place on
+abbrev pub words_from : List (Bor (List ℕ)) → Bor (List ℕ) → ℕ → ℕ → List (List ℕ)
+words_from words d zero k = []
+words_from words d (suc n) k = (get_or words k d).now ∷ words_from words d n (suc k)
+
+words_from-behind : (word : Bor (List ℕ)) (words : List (Bor (List ℕ))) (d : Bor (List ℕ)) (n k : ℕ) → words_from (word ∷ words) d n (suc k) ≡ words_from words d n k
+words_from-behind word words d zero k = refl
+words_from-behind word words d (suc n) k = ap (λ ws. (get_or words k d).now ∷ ws) (words_from-behind word words d n (suc k))
+
+-- words, where it is known how many there are
+pub words_are : (words : List (Bor (List ℕ))) (d : Bor (List ℕ)) (n : ℕ) → length words ≡ n → map (λ word. word.now) words ≡ words_from words d n 0
+words_are [] d zero count = refl
+words_are [] d (suc n) count = absurd (omega arith)
+words_are (word ∷ words) d zero count = absurd (omega arith)
+words_are (word ∷ words) d (suc n) count =
+    ap (λ ws. word.now ∷ ws) (words_are words d n (omega arith) ∙ sym (words_from-behind word words d n 0))
+
+words_are_then : (words : List (Bor (List ℕ))) (d : Bor (List ℕ)) (n : ℕ) → n ≤ length words → map (λ word. word.now) words ≡ words_from words d n 0 ++ map (λ word. word.now) (drop n words)
+words_are_then words d zero count = refl
+words_are_then [] d (suc n) count = absurd (omega arith)
+words_are_then (word ∷ words) d (suc n) count =
+    ap (λ ws. word.now ∷ ws) (words_are_then words d n (omega arith) ∙ ap (λ ws. ws ++ map (λ w. w.now) (drop n words)) (sym (words_from-behind word words d n 0)))
+
+-- words, where it is known that there are so many and others behind them
+pub words_and_rest : (words : List (Bor (List ℕ))) (d : Bor (List ℕ)) (n : ℕ) → n ≤ length words
+    → map (λ word. word.now) words ≡ words_from words d n 0 ++ map (λ word. word.now) (take (length words - n) (drop n words))
+words_and_rest words d n count =
+    words_are_then words d n count ∙ ap (λ ws. words_from words d n 0 ++ map (λ word. word.now) ws) (sym (take_rest words n))
+
+-- x is what a reader found, and Q says what it may find
+abbrev pub Reads : {X : Type 0} → (X → Type 0) → X → Type 0
+Reads {X} Q x = (y : X) → (Some x ≡ Some y) ↔ Q y
+
+-- what was found is spelt
+pub found : {X : Type 0} (Q : X → Type 0) (x : X) → Reads Q x → Q x
+found Q x reads = (reads x).0 refl
+
+pub some_same : {X : Type 0} (x y : X) → Some x ≡ Some y → x ≡ y
+some_same x y is = cc
+
+-- nothing else is spelt
+pub only : {X : Type 0} (Q : X → Type 0) (x y : X) → Reads Q x → Q y → x ≡ y
+only Q x y reads spelt = some_same x y ((reads y).1 spelt)
+
+-- what is spelt, alone, is found
+pub reads_one : {X : Type 0} (Q : X → Type 0) (x : X) → Q x → ((y : X) → Q y → x ≡ y) → Reads Q x
+reads_one Q x here alone y = (λ is. subst Q (some_same x y is) here, λ spelt. ap Some (alone y spelt))

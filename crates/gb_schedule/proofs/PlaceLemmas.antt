@@ -1,0 +1,38 @@
+-- The command of a line is in its place.
+use Rattle.std.proofs.Common.{ℕ, List, Option, Some, None, Result, Ok, Err, refl}
+use Rattle.std.specs.Result.{IfOk}
+use Rattle.std.specs.Option.{IfSome}
+use Rattle.gb_schedule.specs.declared.command.Command.{Command}
+use Rattle.gb_schedule.specs.declared.head.Head.{Head}
+use Rattle.gb_schedule.specs.declared.head.Head.TheVariants.{Cluster, Tenant, Make, Open, Say, Fetch, Pack, Arrive}
+use Rattle.gb_schedule.specs.Grammar.{Spells, IsCommandLine, IsInPlace}
+use Rattle.gb_schedule.proofs.CommandLemmas.{Finds}
+
+spelt_in_place : (head : Head) (nodes : Option ℕ) (command : Command) (words : List (List ℕ)) → Spells head nodes command words → IsInPlace nodes command
+spelt_in_place Cluster None command words s = rw s.command_is (s.nodes_in.0, s.nodes_in.1, s.silence_in.0, s.silence_in.1)
+spelt_in_place Cluster (Some nodes) command words s = absurd s
+spelt_in_place Tenant None command words s = absurd s
+spelt_in_place Tenant (Some nodes) command words s = rw s.command_is s.in_cluster
+spelt_in_place Make None command words s = absurd s
+spelt_in_place Make (Some nodes) command words s = rw s.command_is s.in_cluster
+spelt_in_place Open None command words s = absurd s
+spelt_in_place Open (Some nodes) command words s = rw s.command_is s.in_cluster
+spelt_in_place Say None command words s = absurd s
+spelt_in_place Say (Some nodes) command words s = rw s.command_is s.in_cluster
+spelt_in_place Fetch None command words s = absurd s
+spelt_in_place Fetch (Some nodes) command words s = rw s.command_is s.in_cluster
+spelt_in_place Pack None command words s = absurd s
+spelt_in_place Pack (Some nodes) command words s = rw s.command_is (s.in_cluster, s.to_in_cluster)
+spelt_in_place Arrive None command words s = absurd s
+spelt_in_place Arrive (Some nodes) command words s = rw s.command_is s.packet_in
+
+found_in_place : (nodes : Option ℕ) (line : List ℕ) (answer : Option Command) → Finds (IsCommandLine nodes line) answer → IfSome answer (IsInPlace nodes)
+found_in_place nodes line None finds = tt
+found_in_place nodes line (Some command) finds =
+    let spelt : IsCommandLine nodes line command = (finds command).0 refl in
+    spelt_in_place spelt.head nodes command spelt.words spelt.spelt
+
+pub command_in_place : {E : Type 0} (nodes : Option ℕ) (line : List ℕ) (result : Result (Option Command) E)
+    → IfOk result (Finds (IsCommandLine nodes line)) → IfOk result (λ answer. IfSome answer (IsInPlace nodes))
+command_in_place nodes line (Ok answer) finds = found_in_place nodes line answer finds
+command_in_place nodes line (Err e) finds = tt

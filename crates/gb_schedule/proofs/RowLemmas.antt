@@ -1,0 +1,241 @@
+-- For each head: the command that its words spell, from what the readers of its words found.
+use Rattle.std.proofs.Common.{◌≡◌, ◌≢◌, ℕ, ◌<◌, ◌≤◌, List, [], ◌∷◌, Some, refl, sym, ◌∙◌, decimal, arith}
+use Rattle.std.specs.FinSet as set
+use Rattle.std.specs.Ordering.{nat_cmp}
+use Rattle.gb_types.specs.declared.limits.TheConstants.{NODES, SILENCE_MIN, SILENCE_MAX}
+use Rattle.gb_types.specs.Rising.{AreNodes}
+use Rattle.gb_types.specs.KindWord.{kind_word}
+use Rattle.gb_types.specs.MembersWord.{members_word}
+use Rattle.gb_types.specs.PayloadWord.{payload_of}
+use Rattle.gb_types.specs.declared.kind.Kind.{Kind}
+use Rattle.gb_types.specs.declared.node.NodeId.{NodeId}
+use Rattle.gb_types.specs.declared.address.Addr.{Addr}
+use Rattle.gb_types.specs.declared.spec.Spec.{Spec}
+use Rattle.gb_types.specs.declared.spec.TenantRow.{TenantRow}
+use Rattle.gb_types.specs.declared.request.Request.TheVariants.{AddTenant, Make, OpenGroup, Say, Fetch}
+use Rattle.gb_schedule.specs.declared.command.Command.TheVariants.{Cluster, Request, Pack}
+use Rattle.gb_schedule.specs.Grammar.{no_token, IsShort, IsLong, SpellsSpec, SpellsCluster, SpellsTenant, SpellsMake, SpellsOpen, SpellsSay, SpellsFetch, SpellsPack}
+use Rattle.gb_schedule.proofs.GrammarLemmas.{Reads, found, only, reads_one, some_same}
+
+-- what the readers of single words find
+abbrev pub IsShortWord : List ℕ → ℕ → Type 0
+IsShortWord word n = IsShort n × (word ≡ decimal n)
+
+abbrev pub IsLongWord : List ℕ → ℕ → Type 0
+IsLongWord word n = IsLong n × (word ≡ decimal n)
+
+abbrev pub IsNodeWord : ℕ → List ℕ → NodeId → Type 0
+IsNodeWord nodes word node = (node.number < nodes) × (word ≡ decimal node.number)
+
+abbrev pub AreAddressWords : List ℕ → List ℕ → Addr → Type 0
+AreAddressWords t g address = IsShort address.tenant × (t ≡ decimal address.tenant) × IsShort address.group × (g ≡ decimal address.group)
+
+pub open_reads : (nodes : ℕ) (words : List (List ℕ)) (a t g : List ℕ) (node : NodeId) (address : Addr) → words ≡ a ∷ t ∷ g ∷ []
+    → Reads (IsNodeWord nodes a) node → Reads (AreAddressWords t g) address
+    → Reads (λ command. SpellsOpen nodes command words) (Request node (OpenGroup no_token address))
+open_reads nodes words a t g node address are reads_node reads_address =
+    let is_node = found (IsNodeWord nodes a) node reads_node in
+    let is_address = found (AreAddressWords t g) address reads_address in
+    let here : SpellsOpen nodes (Request node (OpenGroup no_token address)) words = record {
+      node = node;
+      address = address;
+      command_is = refl;
+      words_are = cc (are, is_node.1, is_address.1, is_address.3);
+      in_cluster = is_node.0;
+      tenant = is_address.0;
+      group = is_address.2;
+    } in
+    reads_one (λ command. SpellsOpen nodes command words) _ here (λ command spelt.
+    let same : a ∷ t ∷ g ∷ [] ≡ decimal spelt.node.number ∷ decimal spelt.address.tenant ∷ decimal spelt.address.group ∷ [] = sym are ∙ spelt.words_are in
+    let same_node : node ≡ spelt.node = only (IsNodeWord nodes a) node spelt.node reads_node (spelt.in_cluster, cc) in
+    let same_address : address ≡ spelt.address = only (AreAddressWords t g) address spelt.address reads_address (spelt.tenant, cc, spelt.group, cc) in
+    cc spelt.command_is)
+
+pub cluster_reads : (words : List (List ℕ)) (n s : List ℕ) (nodes silence : ℕ) (least most : ℕ) → words ≡ n ∷ s ∷ []
+    → Reads (λ k. (1 ≤ k) × (k ≤ NODES) × (n ≡ decimal k)) nodes → least ≡ SILENCE_MIN → most ≡ SILENCE_MAX → Reads (λ k. (least ≤ k) × (k ≤ most) × (s ≡ decimal k)) silence
+    → Reads (λ command. SpellsCluster command words) (Cluster nodes silence)
+cluster_reads words n s nodes silence least most are reads_nodes low high reads_silence =
+    let is_nodes = found (λ k. (1 ≤ k) × (k ≤ NODES) × (n ≡ decimal k)) nodes reads_nodes in
+    let is_silence = found (λ k. (least ≤ k) × (k ≤ most) × (s ≡ decimal k)) silence reads_silence in
+    let here : SpellsCluster (Cluster nodes silence) words = record {
+      nodes = nodes;
+      silence = silence;
+      command_is = refl;
+      words_are = cc (are, is_nodes.2, is_silence.2);
+      nodes_in = (is_nodes.0, is_nodes.1);
+      silence_in = (omega arith, omega arith);
+    } in
+    reads_one (λ command. SpellsCluster command words) _ here (λ command spelt.
+    let same : n ∷ s ∷ [] ≡ decimal spelt.nodes ∷ decimal spelt.silence ∷ [] = sym are ∙ spelt.words_are in
+    let same_nodes : nodes ≡ spelt.nodes = only (λ k. (1 ≤ k) × (k ≤ NODES) × (n ≡ decimal k)) nodes spelt.nodes reads_nodes (spelt.nodes_in.0, spelt.nodes_in.1, cc) in
+    let same_silence : silence ≡ spelt.silence = only (λ k. (least ≤ k) × (k ≤ most) × (s ≡ decimal k)) silence spelt.silence reads_silence (omega arith, omega arith, cc) in
+    cc spelt.command_is)
+
+pub tenant_reads : (nodes : ℕ) (words : List (List ℕ)) (a t gs m b w : List ℕ) (node : NodeId) (tenant groups msgs bytes window : ℕ) → words ≡ a ∷ t ∷ gs ∷ m ∷ b ∷ w ∷ []
+    → Reads (IsNodeWord nodes a) node → Reads (IsShortWord t) tenant → Reads (IsLongWord gs) groups → Reads (IsLongWord m) msgs → Reads (IsLongWord b) bytes → Reads (IsLongWord w) window
+    → Reads (λ command. SpellsTenant nodes command words)
+    (Request node (AddTenant no_token (record { tenant = tenant; key = no_token; groups = groups; msgs = msgs; bytes = bytes; window = window })))
+tenant_reads nodes words a t gs m b w node tenant groups msgs bytes window are reads_node reads_tenant reads_groups reads_msgs reads_bytes reads_window =
+    let is_node = found (IsNodeWord nodes a) node reads_node in
+    let is_tenant = found (IsShortWord t) tenant reads_tenant in
+    let is_groups = found (IsLongWord gs) groups reads_groups in
+    let is_msgs = found (IsLongWord m) msgs reads_msgs in
+    let is_bytes = found (IsLongWord b) bytes reads_bytes in
+    let is_window = found (IsLongWord w) window reads_window in
+    let row : TenantRow = record { tenant = tenant; key = no_token; groups = groups; msgs = msgs; bytes = bytes; window = window } in
+    let here : SpellsTenant nodes (Request node (AddTenant no_token row)) words = record {
+      node = node;
+      row = row;
+      command_is = refl;
+      words_are = cc (are, is_node.1, is_tenant.1, is_groups.1, is_msgs.1, is_bytes.1, is_window.1);
+      in_cluster = is_node.0;
+      tenant = is_tenant.0;
+      key = refl;
+      groups = is_groups.0;
+      msgs = is_msgs.0;
+      bytes = is_bytes.0;
+      window = is_window.0;
+    } in
+    reads_one (λ command. SpellsTenant nodes command words) _ here (λ command spelt.
+    let other = spelt.row in
+    let same : a ∷ t ∷ gs ∷ m ∷ b ∷ w ∷ [] ≡ decimal spelt.node.number ∷ decimal other.tenant ∷ decimal other.groups ∷ decimal other.msgs ∷ decimal other.bytes ∷ decimal other.window ∷ [] = sym are ∙ spelt.words_are in
+    let same_node : node ≡ spelt.node = only (IsNodeWord nodes a) node spelt.node reads_node (spelt.in_cluster, cc) in
+    let same_tenant : tenant ≡ other.tenant = only (IsShortWord t) tenant other.tenant reads_tenant (spelt.tenant, cc) in
+    let same_groups : groups ≡ other.groups = only (IsLongWord gs) groups other.groups reads_groups (spelt.groups, cc) in
+    let same_msgs : msgs ≡ other.msgs = only (IsLongWord m) msgs other.msgs reads_msgs (spelt.msgs, cc) in
+    let same_bytes : bytes ≡ other.bytes = only (IsLongWord b) bytes other.bytes reads_bytes (spelt.bytes, cc) in
+    let same_window : window ≡ other.window = only (IsLongWord w) window other.window reads_window (spelt.window, cc) in
+    let same_key : no_token ≡ other.key = sym spelt.key in
+    let same_row : row ≡ other = λ i. record { tenant = same_tenant i; key = same_key i; groups = same_groups i; msgs = same_msgs i; bytes = same_bytes i; window = same_window i } in
+    cc spelt.command_is)
+
+pub spec_reads : (words : List (List ℕ)) (k ms m b w : List ℕ) (kind : Kind) (members : set.FinSet nat_cmp) (msgs bytes window : ℕ) → words ≡ k ∷ ms ∷ m ∷ b ∷ w ∷ []
+    → Reads (λ x. k ≡ kind_word x) kind → Reads (λ s. AreNodes s × (s ≢ set.empty) × (ms ≡ members_word s)) members
+    → Reads (IsLongWord m) msgs → Reads (IsLongWord b) bytes → Reads (IsLongWord w) window
+    → Reads (λ spec. SpellsSpec spec words) (record { kind = kind; members = members; msgs = msgs; bytes = bytes; window = window })
+spec_reads words k ms m b w kind members msgs bytes window are reads_kind reads_members reads_msgs reads_bytes reads_window =
+    let is_kind = found (λ x. k ≡ kind_word x) kind reads_kind in
+    let is_members = found (λ s. AreNodes s × (s ≢ set.empty) × (ms ≡ members_word s)) members reads_members in
+    let is_msgs = found (IsLongWord m) msgs reads_msgs in
+    let is_bytes = found (IsLongWord b) bytes reads_bytes in
+    let is_window = found (IsLongWord w) window reads_window in
+    let spec : Spec = record { kind = kind; members = members; msgs = msgs; bytes = bytes; window = window } in
+    let here : SpellsSpec spec words = record {
+      words_are = cc (are, is_kind, is_members.2, is_msgs.1, is_bytes.1, is_window.1);
+      are_nodes = is_members.0;
+      not_empty = is_members.1;
+      msgs = is_msgs.0;
+      bytes = is_bytes.0;
+      window = is_window.0;
+    } in
+    reads_one (λ spec. SpellsSpec spec words) _ here (λ other spelt.
+    let same : k ∷ ms ∷ m ∷ b ∷ w ∷ [] ≡ kind_word other.kind ∷ members_word other.members ∷ decimal other.msgs ∷ decimal other.bytes ∷ decimal other.window ∷ [] = sym are ∙ spelt.words_are in
+    let same_kind : kind ≡ other.kind = only (λ x. k ≡ kind_word x) kind other.kind reads_kind cc in
+    let same_members : members ≡ other.members = only (λ s. AreNodes s × (s ≢ set.empty) × (ms ≡ members_word s)) members other.members reads_members (spelt.are_nodes, spelt.not_empty, cc) in
+    let same_msgs : msgs ≡ other.msgs = only (IsLongWord m) msgs other.msgs reads_msgs (spelt.msgs, cc) in
+    let same_bytes : bytes ≡ other.bytes = only (IsLongWord b) bytes other.bytes reads_bytes (spelt.bytes, cc) in
+    let same_window : window ≡ other.window = only (IsLongWord w) window other.window reads_window (spelt.window, cc) in
+    λ i. record { kind = same_kind i; members = same_members i; msgs = same_msgs i; bytes = same_bytes i; window = same_window i })
+
+pub make_reads : (nodes : ℕ) (words : List (List ℕ)) (a t g : List ℕ) (rest : List (List ℕ)) (node : NodeId) (address : Addr) (spec : Spec) → words ≡ a ∷ t ∷ g ∷ rest
+    → Reads (IsNodeWord nodes a) node → Reads (AreAddressWords t g) address → Reads (λ x. SpellsSpec x rest) spec
+    → Reads (λ command. SpellsMake nodes command words) (Request node (Make no_token address spec))
+make_reads nodes words a t g rest node address spec are reads_node reads_address reads_spec =
+    let is_node = found (IsNodeWord nodes a) node reads_node in
+    let is_address = found (AreAddressWords t g) address reads_address in
+    let is_spec = found (λ x. SpellsSpec x rest) spec reads_spec in
+    let here : SpellsMake nodes (Request node (Make no_token address spec)) words = record {
+      node = node;
+      address = address;
+      spec = spec;
+      spec_words = rest;
+      command_is = refl;
+      words_are = cc (are, is_node.1, is_address.1, is_address.3);
+      in_cluster = is_node.0;
+      tenant = is_address.0;
+      group = is_address.2;
+      spells_spec = is_spec;
+    } in
+    reads_one (λ command. SpellsMake nodes command words) _ here (λ command spelt.
+    let same : a ∷ t ∷ g ∷ rest ≡ decimal spelt.node.number ∷ decimal spelt.address.tenant ∷ decimal spelt.address.group ∷ spelt.spec_words = sym are ∙ spelt.words_are in
+    let same_node : node ≡ spelt.node = only (IsNodeWord nodes a) node spelt.node reads_node (spelt.in_cluster, cc) in
+    let same_address : address ≡ spelt.address = only (AreAddressWords t g) address spelt.address reads_address (spelt.tenant, cc, spelt.group, cc) in
+    let same_words : spelt.spec_words ≡ rest = cc in
+    let same_spec : spec ≡ spelt.spec = only (λ x. SpellsSpec x rest) spec spelt.spec reads_spec (rw same_words at spelt.spells_spec) in
+    cc spelt.command_is)
+
+pub say_reads : (nodes : ℕ) (words : List (List ℕ)) (a t g p : List ℕ) (node : NodeId) (address : Addr) (payload : List ℕ) → words ≡ a ∷ t ∷ g ∷ p ∷ []
+    → Reads (IsNodeWord nodes a) node → Reads (AreAddressWords t g) address → payload_of p ≡ Some payload
+    → Reads (λ command. SpellsSay nodes command words) (Request node (Say no_token address payload))
+say_reads nodes words a t g p node address payload are reads_node reads_address is_payload =
+    let is_node = found (IsNodeWord nodes a) node reads_node in
+    let is_address = found (AreAddressWords t g) address reads_address in
+    let here : SpellsSay nodes (Request node (Say no_token address payload)) words = record {
+      node = node;
+      address = address;
+      payload = payload;
+      payload_word = p;
+      command_is = refl;
+      words_are = cc (are, is_node.1, is_address.1, is_address.3);
+      in_cluster = is_node.0;
+      tenant = is_address.0;
+      group = is_address.2;
+      payload_is = is_payload;
+    } in
+    reads_one (λ command. SpellsSay nodes command words) _ here (λ command spelt.
+    let same : a ∷ t ∷ g ∷ p ∷ [] ≡ decimal spelt.node.number ∷ decimal spelt.address.tenant ∷ decimal spelt.address.group ∷ spelt.payload_word ∷ [] = sym are ∙ spelt.words_are in
+    let same_node : node ≡ spelt.node = only (IsNodeWord nodes a) node spelt.node reads_node (spelt.in_cluster, cc) in
+    let same_address : address ≡ spelt.address = only (AreAddressWords t g) address spelt.address reads_address (spelt.tenant, cc, spelt.group, cc) in
+    let same_word : spelt.payload_word ≡ p = cc in
+    let spelt_payload : payload_of p ≡ Some spelt.payload = rw same_word at spelt.payload_is in
+    let same_payload : payload ≡ spelt.payload = some_same payload spelt.payload (sym is_payload ∙ spelt_payload) in
+    cc spelt.command_is)
+
+pub fetch_reads : (nodes : ℕ) (words : List (List ℕ)) (a t g f m : List ℕ) (node : NodeId) (address : Addr) (from most : ℕ) → words ≡ a ∷ t ∷ g ∷ f ∷ m ∷ []
+    → Reads (IsNodeWord nodes a) node → Reads (AreAddressWords t g) address → Reads (IsLongWord f) from → Reads (IsLongWord m) most
+    → Reads (λ command. SpellsFetch nodes command words) (Request node (Fetch no_token address from most))
+fetch_reads nodes words a t g f m node address from most are reads_node reads_address reads_from reads_most =
+    let is_node = found (IsNodeWord nodes a) node reads_node in
+    let is_address = found (AreAddressWords t g) address reads_address in
+    let is_from = found (IsLongWord f) from reads_from in
+    let is_most = found (IsLongWord m) most reads_most in
+    let here : SpellsFetch nodes (Request node (Fetch no_token address from most)) words = record {
+      node = node;
+      address = address;
+      from = from;
+      most = most;
+      command_is = refl;
+      words_are = cc (are, is_node.1, is_address.1, is_address.3, is_from.1, is_most.1);
+      in_cluster = is_node.0;
+      tenant = is_address.0;
+      group = is_address.2;
+      from_in = is_from.0;
+      most_in = is_most.0;
+    } in
+    reads_one (λ command. SpellsFetch nodes command words) _ here (λ command spelt.
+    let same : a ∷ t ∷ g ∷ f ∷ m ∷ [] ≡ decimal spelt.node.number ∷ decimal spelt.address.tenant ∷ decimal spelt.address.group ∷ decimal spelt.from ∷ decimal spelt.most ∷ [] = sym are ∙ spelt.words_are in
+    let same_node : node ≡ spelt.node = only (IsNodeWord nodes a) node spelt.node reads_node (spelt.in_cluster, cc) in
+    let same_address : address ≡ spelt.address = only (AreAddressWords t g) address spelt.address reads_address (spelt.tenant, cc, spelt.group, cc) in
+    let same_from : from ≡ spelt.from = only (IsLongWord f) from spelt.from reads_from (spelt.from_in, cc) in
+    let same_most : most ≡ spelt.most = only (IsLongWord m) most spelt.most reads_most (spelt.most_in, cc) in
+    cc spelt.command_is)
+
+pub pack_reads : (nodes : ℕ) (words : List (List ℕ)) (a b : List ℕ) (node to : NodeId) → words ≡ a ∷ b ∷ []
+    → Reads (IsNodeWord nodes a) node → Reads (IsNodeWord nodes b) to
+    → Reads (λ command. SpellsPack nodes command words) (Pack node to)
+pack_reads nodes words a b node to are reads_node reads_to =
+    let is_node = found (IsNodeWord nodes a) node reads_node in
+    let is_to = found (IsNodeWord nodes b) to reads_to in
+    let here : SpellsPack nodes (Pack node to) words = record {
+      node = node;
+      to = to;
+      command_is = refl;
+      words_are = cc (are, is_node.1, is_to.1);
+      in_cluster = is_node.0;
+      to_in_cluster = is_to.0;
+    } in
+    reads_one (λ command. SpellsPack nodes command words) _ here (λ command spelt.
+    let same : a ∷ b ∷ [] ≡ decimal spelt.node.number ∷ decimal spelt.to.number ∷ [] = sym are ∙ spelt.words_are in
+    let same_node : node ≡ spelt.node = only (IsNodeWord nodes a) node spelt.node reads_node (spelt.in_cluster, cc) in
+    let same_to : to ≡ spelt.to = only (IsNodeWord nodes b) to spelt.to reads_to (spelt.to_in_cluster, cc) in
+    cc spelt.command_is)

@@ -1,0 +1,9 @@
+use Rattle.std.proofs.Common.{arith}
+use Rattle.gb_schedule.proofs.GrammarLemmas.{words_are}
+use Rattle.gb_schedule.proofs.RowLemmas.{fetch_reads}
+use Rattle.gb_schedule.proofs.grammar.read_fetch.Goals as goal
+
+pub returns : goal.returns
+returns c =
+    fetch_reads _ _ _ _ _ _ _ _ _ _ _ (words_are c.args.words.now _ 5 (omega arith))
+    c.in_ok-node.ensures c.in_ok-address.ensures c.in_ok-from.ensures c.in_ok-most.ensures

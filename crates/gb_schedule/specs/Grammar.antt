@@ -1,0 +1,168 @@
+-- The grammar of a schedule: for each head, the words behind it and the command that they spell. Numbers are decimal,
+-- without a leading zero.
+use Rattle.std.specs.Prelude.{◌≡◌, ◌≢◌, ℕ, ◌<◌, ◌≤◌, List, [], ◌∷◌, Option, None, Some, decimal, replicate}
+use Rattle.std.specs.FinSet as set
+use Rattle.gb_types.specs.declared.limits.TheConstants.{NODES, SILENCE_MIN, SILENCE_MAX}
+use Rattle.gb_types.specs.Rising.{AreNodes}
+use Rattle.gb_types.specs.KindWord.{kind_word}
+use Rattle.gb_types.specs.MembersWord.{members_word}
+use Rattle.gb_types.specs.PayloadWord.{payload_of}
+use Rattle.gb_types.specs.declared.node.NodeId.{NodeId}
+use Rattle.gb_types.specs.declared.address.Addr.{Addr}
+use Rattle.gb_types.specs.declared.spec.Spec.{Spec}
+use Rattle.gb_types.specs.declared.spec.TenantRow.{TenantRow}
+use Rattle.gb_types.specs.declared.request.Request.TheVariants.{AddTenant, Make, OpenGroup, Say, Fetch}
+use Rattle.gb_schedule.specs.declared.command.Command.{Command}
+use Rattle.gb_schedule.specs.declared.command.Command.TheVariants.{Cluster, Request, Pack, Arrive}
+use Rattle.gb_schedule.specs.declared.head.Head.{Head}
+use Rattle.gb_schedule.specs.declared.head.Head.TheVariants as heads
+use Rattle.gb_schedule.specs.Head.{head_word}
+use Rattle.gb_schedule.specs.Words.{words_of}
+
+-- the token of each request and the key of each tenant, until there are tokens
+abbrev pub no_token : List ℕ
+no_token = replicate 32 0
+
+-- tenants and groups have numbers of two bytes, the other numbers of a request have four
+abbrev pub IsShort : ℕ → Type 0
+IsShort n = n ≤ 65535
+
+abbrev pub IsLong : ℕ → Type 0
+IsLong n = n ≤ 4294967295
+
+-- what a group is made with, in the words KIND MEMBERS MSGS BYTES WINDOW
+pub record SpellsSpec (spec : Spec) (words : List (List ℕ)) : Type 0 where
+  pub words_are : words ≡ kind_word spec.kind ∷ members_word spec.members ∷ decimal spec.msgs ∷ decimal spec.bytes ∷ decimal spec.window ∷ []
+  pub are_nodes : AreNodes spec.members
+  pub not_empty : spec.members ≢ set.empty
+  pub msgs : IsLong spec.msgs
+  pub bytes : IsLong spec.bytes
+  pub window : IsLong spec.window
+
+-- `cluster N S`
+pub record SpellsCluster (command : Command) (words : List (List ℕ)) : Type 0 where
+  pub nodes : ℕ
+  pub silence : ℕ
+  pub command_is : command ≡ Cluster nodes silence
+  pub words_are : words ≡ decimal nodes ∷ decimal silence ∷ []
+  pub nodes_in : (1 ≤ nodes) × (nodes ≤ NODES)
+  pub silence_in : (SILENCE_MIN ≤ silence) × (silence ≤ SILENCE_MAX)
+
+-- `tenant A T GROUPS MSGS BYTES WINDOW`
+pub record SpellsTenant (nodes : ℕ) (command : Command) (words : List (List ℕ)) : Type 0 where
+  pub node : NodeId
+  pub row : TenantRow
+  pub command_is : command ≡ Request node (AddTenant no_token row)
+  pub words_are : words ≡ decimal node.number ∷ decimal row.tenant ∷ decimal row.groups ∷ decimal row.msgs ∷ decimal row.bytes ∷ decimal row.window ∷ []
+  pub in_cluster : node.number < nodes
+  pub tenant : IsShort row.tenant
+  pub key : row.key ≡ no_token
+  pub groups : IsLong row.groups
+  pub msgs : IsLong row.msgs
+  pub bytes : IsLong row.bytes
+  pub window : IsLong row.window
+
+-- `make A T G KIND MEMBERS MSGS BYTES WINDOW`
+pub record SpellsMake (nodes : ℕ) (command : Command) (words : List (List ℕ)) : Type 0 where
+  pub node : NodeId
+  pub address : Addr
+  pub spec : Spec
+  pub spec_words : List (List ℕ)
+  pub command_is : command ≡ Request node (Make no_token address spec)
+  pub words_are : words ≡ decimal node.number ∷ decimal address.tenant ∷ decimal address.group ∷ spec_words
+  pub in_cluster : node.number < nodes
+  pub tenant : IsShort address.tenant
+  pub group : IsShort address.group
+  pub spells_spec : SpellsSpec spec spec_words
+
+-- `open A T G`
+pub record SpellsOpen (nodes : ℕ) (command : Command) (words : List (List ℕ)) : Type 0 where
+  pub node : NodeId
+  pub address : Addr
+  pub command_is : command ≡ Request node (OpenGroup no_token address)
+  pub words_are : words ≡ decimal node.number ∷ decimal address.tenant ∷ decimal address.group ∷ []
+  pub in_cluster : node.number < nodes
+  pub tenant : IsShort address.tenant
+  pub group : IsShort address.group
+
+-- `say A T G PAYLOAD`; a payload may be spelt in digits of both cases
+pub record SpellsSay (nodes : ℕ) (command : Command) (words : List (List ℕ)) : Type 0 where
+  pub node : NodeId
+  pub address : Addr
+  pub payload : List ℕ
+  pub payload_word : List ℕ
+  pub command_is : command ≡ Request node (Say no_token address payload)
+  pub words_are : words ≡ decimal node.number ∷ decimal address.tenant ∷ decimal address.group ∷ payload_word ∷ []
+  pub in_cluster : node.number < nodes
+  pub tenant : IsShort address.tenant
+  pub group : IsShort address.group
+  pub payload_is : payload_of payload_word ≡ Some payload
+
+-- `fetch A T G FROM MAX`
+pub record SpellsFetch (nodes : ℕ) (command : Command) (words : List (List ℕ)) : Type 0 where
+  pub node : NodeId
+  pub address : Addr
+  pub from : ℕ
+  pub most : ℕ
+  pub command_is : command ≡ Request node (Fetch no_token address from most)
+  pub words_are : words ≡ decimal node.number ∷ decimal address.tenant ∷ decimal address.group ∷ decimal from ∷ decimal most ∷ []
+  pub in_cluster : node.number < nodes
+  pub tenant : IsShort address.tenant
+  pub group : IsShort address.group
+  pub from_in : IsLong from
+  pub most_in : IsLong most
+
+-- `pack A B`
+pub record SpellsPack (nodes : ℕ) (command : Command) (words : List (List ℕ)) : Type 0 where
+  pub node : NodeId
+  pub to : NodeId
+  pub command_is : command ≡ Pack node to
+  pub words_are : words ≡ decimal node.number ∷ decimal to.number ∷ []
+  pub in_cluster : node.number < nodes
+  pub to_in_cluster : to.number < nodes
+
+-- `arrive K`
+pub record SpellsArrive (command : Command) (words : List (List ℕ)) : Type 0 where
+  pub packet : ℕ
+  pub command_is : command ≡ Arrive packet
+  pub words_are : words ≡ decimal packet ∷ []
+  pub packet_in : packet ≤ 18446744073709551615
+
+-- The table: what the words behind each head spell. The cluster is started first, and once; its number of nodes is
+-- known from then on.
+abbrev pub Spells : Head → Option ℕ → Command → List (List ℕ) → Type 0
+Spells heads.Cluster None command words = SpellsCluster command words
+Spells heads.Cluster (Some nodes) command words = ⊥
+Spells heads.Tenant (Some nodes) command words = SpellsTenant nodes command words
+Spells heads.Make (Some nodes) command words = SpellsMake nodes command words
+Spells heads.Open (Some nodes) command words = SpellsOpen nodes command words
+Spells heads.Say (Some nodes) command words = SpellsSay nodes command words
+Spells heads.Fetch (Some nodes) command words = SpellsFetch nodes command words
+Spells heads.Pack (Some nodes) command words = SpellsPack nodes command words
+Spells heads.Arrive (Some nodes) command words = SpellsArrive command words
+Spells other None command words = ⊥
+
+-- the line is a head and the words behind it, and they spell this command
+pub record IsCommandLine (nodes : Option ℕ) (line : List ℕ) (command : Command) : Type 0 where
+  pub head : Head
+  pub words : List (List ℕ)
+  pub line_is : words_of line ≡ head_word head ∷ words
+  pub spelt : Spells head nodes command words
+
+-- A command in its place: the cluster is started first and once, and later commands name nodes below its number of
+-- nodes.
+abbrev pub IsInPlace : Option ℕ → Command → Type 0
+IsInPlace None (Cluster nodes silence) = (1 ≤ nodes) × (nodes ≤ NODES) × (SILENCE_MIN ≤ silence) × (silence ≤ SILENCE_MAX)
+IsInPlace (Some nodes) (Request node request) = node.number < nodes
+IsInPlace (Some nodes) (Pack node to) = (node.number < nodes) × (to.number < nodes)
+IsInPlace (Some nodes) (Arrive packet) = packet ≤ 18446744073709551615
+IsInPlace other command = ⊥
+
+-- the line is empty, or begins with `#`
+abbrev pub IsSilent : List ℕ → Type 0
+IsSilent [] = Unit {0}
+IsSilent (byte ∷ bytes) = byte ≡ 35
+
+-- no line both asks for nothing and spells a command
+abbrev pub SilentLinesSpellNothing : Type 0
+SilentLinesSpellNothing = (nodes : Option ℕ) (line : List ℕ) (command : Command) → IsSilent line → IsCommandLine nodes line command → ⊥

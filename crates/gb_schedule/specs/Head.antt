@@ -1,0 +1,15 @@
+-- The words that lines of a schedule begin with.
+use Rattle.std.specs.Prelude.{ℕ, List, codes}
+use Rattle.gb_schedule.specs.declared.head.Head.{Head}
+use Rattle.gb_schedule.specs.declared.head.Head.TheVariants.{Cluster, Tenant, Make, Open, Say, Fetch, Pack, Arrive}
+
+-- the word for a head
+abbrev pub head_word : Head → List ℕ
+head_word Cluster = codes "cluster"
+head_word Tenant = codes "tenant"
+head_word Make = codes "make"
+head_word Open = codes "open"
+head_word Say = codes "say"
+head_word Fetch = codes "fetch"
+head_word Pack = codes "pack"
+head_word Arrive = codes "arrive"

@@ -1,0 +1,17 @@
+//! What a line of a schedule asks for.
+use gb_types::node::NodeId;
+use gb_types::request::Request;
+
+/// What a line of a schedule asks for.
+#[derive(Drop)]
+pub enum Command {
+    /// Starts a cluster of so many nodes; a node is noticed after so many ticks without a good
+    /// packet of it.
+    Cluster { nodes: u8, silence: u16 },
+    /// Makes a request at a node.
+    Request(NodeId, Request),
+    /// Lets the first node pack what waits for the second.
+    Pack(NodeId, NodeId),
+    /// Lets a packet arrive where it was sent to. Packets are numbered from 1 as they are sent.
+    Arrive(u64),
+}

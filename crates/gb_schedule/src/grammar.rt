@@ -1,0 +1,296 @@
+//! The grammar of a schedule: the words behind each head, and the command that they spell.
+ghost use Rattle.std.specs.Prelude.{◌≡◌, ◌≤◌, ◌<◌, ◌↔◌, ℕ, [], ◌∷◌, Some, IfOk, IfSome, IsTrue, decimal, map};
+ghost use Rattle.std.specs.Option.{ForSome};
+ghost use Rattle.gb_types.specs.declared.node.NodeId.{NodeId as TheNode};
+ghost use Rattle.gb_types.specs.declared.address.Addr.{Addr as TheAddress};
+ghost use Rattle.gb_types.specs.declared.spec.Spec.{Spec as TheSpec};
+ghost use Rattle.gb_schedule.specs.declared.command.Command.{Command as TheCommand};
+ghost use Rattle.gb_schedule.specs.Grammar.{IsShort, IsLong, SpellsSpec, SpellsCluster, SpellsTenant, SpellsMake, SpellsOpen, SpellsSay, SpellsFetch, SpellsPack, SpellsArrive, Spells, IsCommandLine, IsInPlace, IsSilent, SilentLinesSpellNothing};
+
+use crate::command::Command;
+use crate::head::{Head, read_head};
+use crate::words::split_words;
+use gb_types::address::Addr;
+use gb_types::kind_word::read_kind;
+use gb_types::limits::{NODES, SILENCE_MAX, SILENCE_MIN};
+use gb_types::members_word::read_members;
+use gb_types::memory::OutOfMemory;
+use gb_types::node::NodeId;
+use gb_types::number::read_number;
+use gb_types::payload::Payload;
+use gb_types::payload_word::read_payload;
+use gb_types::request::Request;
+use gb_types::spec::{Spec, TenantRow};
+use std::alloc::Global;
+
+/// The token of each request and the key of each tenant, until there are tokens.
+const NO_TOKEN: [u8; 32] = [0; 32];
+
+// A number of two bytes.
+fn read_u16(word: &[u8]) -> Option<u16>
+    ensures { (n : ℕ) → (result ≡ Some n) ↔ (IsShort n × (word.now ≡ decimal n)) }
+{
+    Some(read_number(word, 65_535)? as u16)
+}
+
+// A number of four bytes.
+fn read_u32(word: &[u8]) -> Option<u32>
+    ensures { (n : ℕ) → (result ≡ Some n) ↔ (IsLong n × (word.now ≡ decimal n)) }
+{
+    Some(read_number(word, 4_294_967_295)? as u32)
+}
+
+// A number from the least to the most.
+fn read_between(word: &[u8], least: u64, most: u64) -> Option<u64>
+    ensures { (n : ℕ) → (result ≡ Some n)
+        ↔ ((least ≤ n) × (n ≤ most) × (word.now ≡ decimal n)) }
+{
+    let number = read_number(word, most)?;
+    if number < least {
+        return None;
+    }
+    Some(number)
+}
+
+// A node of a cluster of so many nodes.
+fn read_node(word: &[u8], nodes: u8) -> Option<NodeId>
+    requires { (1 ≤ nodes) × (nodes ≤ NODES) }
+    ensures { (node : TheNode) → (result ≡ Some node)
+        ↔ ((node.number < nodes) × (word.now ≡ decimal node.number)) }
+{
+    let number = read_number(word, u64::from(nodes) - 1)?;
+    Some(NodeId::new(number as u8))
+}
+
+// An address.
+fn read_address(tenant: &[u8], group: &[u8]) -> Option<Addr>
+    ensures { (address : TheAddress) → (result ≡ Some address)
+        ↔ (IsShort address.tenant × (tenant.now ≡ decimal address.tenant)
+        × IsShort address.group × (group.now ≡ decimal address.group)) }
+{
+    let tenant = read_u16(tenant)?;
+    let group = read_u16(group)?;
+    Some(Addr { tenant, group })
+}
+
+// KIND MEMBERS MSGS BYTES WINDOW
+fn read_spec(words: &[&[u8]]) -> Option<Spec>
+    ensures { (spec : TheSpec) → (result ≡ Some spec)
+        ↔ SpellsSpec spec (map (λ word. word.now) words.now) }
+{
+    let [kind, members, msgs, bytes, window] = words else {
+        return None;
+    };
+    let kind = read_kind(kind)?;
+    let members = read_members(members)?;
+    let msgs = read_u32(msgs)?;
+    let bytes = read_u32(bytes)?;
+    let window = read_u32(window)?;
+    Some(Spec {
+        kind,
+        members,
+        msgs,
+        bytes,
+        window,
+    })
+}
+
+// cluster N S
+fn read_cluster(words: &[&[u8]]) -> Option<Command>
+    ensures { (command : TheCommand) → (result ≡ Some command)
+        ↔ SpellsCluster command (map (λ word. word.now) words.now) }
+{
+    let [nodes, silence] = words else {
+        return None;
+    };
+    let nodes = read_between(nodes, 1, NODES as u64)?;
+    let silence = read_between(silence, u64::from(SILENCE_MIN), u64::from(SILENCE_MAX))?;
+    Some(Command::Cluster {
+        nodes: nodes as u8,
+        silence: silence as u16,
+    })
+}
+
+// tenant A T GROUPS MSGS BYTES WINDOW
+fn read_tenant(nodes: u8, words: &[&[u8]]) -> Option<Command>
+    requires { (1 ≤ nodes) × (nodes ≤ NODES) }
+    ensures { (command : TheCommand) → (result ≡ Some command)
+        ↔ SpellsTenant nodes command (map (λ word. word.now) words.now) }
+{
+    let [node, tenant, groups, msgs, bytes, window] = words else {
+        return None;
+    };
+    let node = read_node(node, nodes)?;
+    let tenant = read_u16(tenant)?;
+    let groups = read_u32(groups)?;
+    let msgs = read_u32(msgs)?;
+    let bytes = read_u32(bytes)?;
+    let window = read_u32(window)?;
+    let row = TenantRow {
+        tenant,
+        key: NO_TOKEN,
+        groups,
+        msgs,
+        bytes,
+        window,
+    };
+    Some(Command::Request(node, Request::AddTenant(NO_TOKEN, row)))
+}
+
+// make A T G KIND MEMBERS MSGS BYTES WINDOW
+fn read_make(nodes: u8, words: &[&[u8]]) -> Option<Command>
+    requires { (1 ≤ nodes) × (nodes ≤ NODES) }
+    ensures { (command : TheCommand) → (result ≡ Some command)
+        ↔ SpellsMake nodes command (map (λ word. word.now) words.now) }
+{
+    let [node, tenant, group, spec @ ..] = words else {
+        return None;
+    };
+    let node = read_node(node, nodes)?;
+    let address = read_address(tenant, group)?;
+    let spec = read_spec(spec)?;
+    Some(Command::Request(node, Request::Make(NO_TOKEN, address, spec)))
+}
+
+// open A T G
+fn read_open(nodes: u8, words: &[&[u8]]) -> Option<Command>
+    requires { (1 ≤ nodes) × (nodes ≤ NODES) }
+    ensures { (command : TheCommand) → (result ≡ Some command)
+        ↔ SpellsOpen nodes command (map (λ word. word.now) words.now) }
+{
+    let [node, tenant, group] = words else {
+        return None;
+    };
+    let node = read_node(node, nodes)?;
+    let address = read_address(tenant, group)?;
+    Some(Command::Request(node, Request::OpenGroup(NO_TOKEN, address)))
+}
+
+// say A T G PAYLOAD
+fn read_say(alloc: Global, nodes: u8, words: &[&[u8]]) -> Result<Option<Command>, OutOfMemory>
+    requires { (1 ≤ nodes) × (nodes ≤ NODES) }
+    ensures { IfOk result (λ found. (command : TheCommand) → (found ≡ Some command)
+        ↔ SpellsSay nodes command (map (λ word. word.now) words.now)) }
+{
+    let [node, tenant, group, payload] = words else {
+        return Ok(None);
+    };
+    let Some(node) = read_node(node, nodes) else {
+        return Ok(None);
+    };
+    let Some(address) = read_address(tenant, group) else {
+        return Ok(None);
+    };
+    let Some(payload) = read_payload(alloc, payload)? else {
+        return Ok(None);
+    };
+    let request = Request::Say(NO_TOKEN, address, Payload::from(payload));
+    Ok(Some(Command::Request(node, request)))
+}
+
+// fetch A T G FROM MAX
+fn read_fetch(nodes: u8, words: &[&[u8]]) -> Option<Command>
+    requires { (1 ≤ nodes) × (nodes ≤ NODES) }
+    ensures { (command : TheCommand) → (result ≡ Some command)
+        ↔ SpellsFetch nodes command (map (λ word. word.now) words.now) }
+{
+    let [node, tenant, group, from, most] = words else {
+        return None;
+    };
+    let node = read_node(node, nodes)?;
+    let address = read_address(tenant, group)?;
+    let from = read_u32(from)?;
+    let most = read_u32(most)?;
+    Some(Command::Request(node, Request::Fetch(NO_TOKEN, address, from, most)))
+}
+
+// pack A B
+fn read_pack(nodes: u8, words: &[&[u8]]) -> Option<Command>
+    requires { (1 ≤ nodes) × (nodes ≤ NODES) }
+    ensures { (command : TheCommand) → (result ≡ Some command)
+        ↔ SpellsPack nodes command (map (λ word. word.now) words.now) }
+{
+    let [node, to] = words else {
+        return None;
+    };
+    let node = read_node(node, nodes)?;
+    let to = read_node(to, nodes)?;
+    Some(Command::Pack(node, to))
+}
+
+// arrive K
+fn read_arrive(words: &[&[u8]]) -> Option<Command>
+    ensures { (command : TheCommand) → (result ≡ Some command)
+        ↔ SpellsArrive command (map (λ word. word.now) words.now) }
+{
+    let [packet] = words else {
+        return None;
+    };
+    Some(Command::Arrive(read_number(packet, u64::MAX)?))
+}
+
+// The command that a head and the words behind it, its arguments, spell.
+fn read_arguments(
+    alloc: Global,
+    nodes: Option<u8>,
+    head: Head,
+    arguments: &[&[u8]],
+) -> Result<Option<Command>, OutOfMemory>
+    requires { ForSome nodes (λ count. (1 ≤ count) × (count ≤ NODES)) }
+    ensures { IfOk result (λ found. (command : TheCommand) → (found ≡ Some command)
+        ↔ Spells head nodes command (map (λ word. word.now) arguments.now)) }
+{
+    let Some(nodes) = nodes else {
+        return Ok(match head {
+            Head::Cluster => read_cluster(arguments),
+            _ => None,
+        });
+    };
+    match head {
+        Head::Cluster => Ok(None),
+        Head::Tenant => Ok(read_tenant(nodes, arguments)),
+        Head::Make => Ok(read_make(nodes, arguments)),
+        Head::Open => Ok(read_open(nodes, arguments)),
+        Head::Say => read_say(alloc, nodes, arguments),
+        Head::Fetch => Ok(read_fetch(nodes, arguments)),
+        Head::Pack => Ok(read_pack(nodes, arguments)),
+        Head::Arrive => Ok(read_arrive(arguments)),
+    }
+}
+
+/// The command that a line spells, or None where it spells none. `nodes` is how many nodes the
+/// cluster has, once there is one.
+pub fn read_command(
+    alloc: Global,
+    nodes: Option<u8>,
+    line: &[u8],
+) -> Result<Option<Command>, OutOfMemory>
+    requires { ForSome nodes (λ count. (1 ≤ count) × (count ≤ NODES)) }
+    ensures spelt { IfOk result (λ found. (command : TheCommand) → (found ≡ Some command)
+        ↔ IsCommandLine nodes line.now command) }
+    ensures in_place { IfOk result (λ found. IfSome found (IsInPlace nodes)) }
+{
+    let words = split_words(alloc, line)?;
+    let [head, arguments @ ..] = words.as_slice() else {
+        return Ok(None);
+    };
+    let Some(head) = read_head(head) else {
+        return Ok(None);
+    };
+    read_arguments(alloc, nodes, head, arguments)
+}
+
+/// Whether a line asks for nothing: it is empty, or a comment, which begins with `#`.
+pub fn is_silent(line: &[u8]) -> bool
+    ensures { IsTrue result ↔ IsSilent line.now }
+{
+    matches!(line, [] | [b'#', ..])
+}
+
+/// A line that asks for nothing spells no command, so it does not matter which is asked first.
+pub fn silent_lines_spell_nothing()
+    ensures { SilentLinesSpellNothing }
+{}
+
+#[cfg(test)]
+mod tests;

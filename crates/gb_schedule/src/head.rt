@@ -1,0 +1,34 @@
+//! The words that lines of a schedule begin with.
+ghost use Rattle.std.specs.Prelude.{◌≡◌, ◌↔◌, Some};
+ghost use Rattle.gb_schedule.specs.declared.head.Head.{Head};
+ghost use Rattle.gb_schedule.specs.Head.{head_word};
+
+/// The first word of a line.
+#[derive(Clone, Copy, Debug, PartialEq, Eq)]
+pub enum Head {
+    Cluster,
+    Tenant,
+    Make,
+    Open,
+    Say,
+    Fetch,
+    Pack,
+    Arrive,
+}
+
+/// The head that a word names.
+pub fn read_head(word: &[u8]) -> Option<Head>
+    ensures { (head : Head) → (result ≡ Some head) ↔ (word.now ≡ head_word head) }
+{
+    match word {
+        b"cluster" => Some(Head::Cluster),
+        b"tenant" => Some(Head::Tenant),
+        b"make" => Some(Head::Make),
+        b"open" => Some(Head::Open),
+        b"say" => Some(Head::Say),
+        b"fetch" => Some(Head::Fetch),
+        b"pack" => Some(Head::Pack),
+        b"arrive" => Some(Head::Arrive),
+        _ => None,
+    }
+}
