@@ -21,3 +21,6 @@ fn main(rt: HostRuntime) -> ExitCode {
         Err(_) => ExitCode::from(1),
     }
 }
+
+#[cfg(test)]
+mod tests;
