@@ -1,0 +1,28 @@
+#!/usr/bin/env bash
+# Prints how many lines a second gb_sim answers, on a schedule of 10,000 and on one of 100,000 lines of says,
+# packs, arrives and fetches on a cluster of 4 nodes, and the ratio of the two times.
+set -eu
+top=$(cd "$(dirname "$0")/.." && pwd)
+work=$top/bench/out/schedule
+mkdir -p "$work"
+(cd "$top/crates/gb_sim" && "${RT:-rt}" run >/dev/null)
+program=${1:-$top/crates/gb_sim/out/gb_sim}
+python3 "$top/bench/schedule.py" 10000 >"$work/10000"
+python3 "$top/bench/schedule.py" 100000 >"$work/100000"
+python3 - "$program" "$work" <<'PYTHON'
+import subprocess, sys, time
+
+program, work = sys.argv[1:]
+times = []
+for lines in (10000, 100000):
+    best = None
+    for _ in range(3):
+        with open(f'{work}/{lines}') as schedule, open(f'{work}/{lines}.out', 'w') as out:
+            start = time.monotonic()
+            subprocess.run([program], stdin=schedule, stdout=out, check=True)
+            took = time.monotonic() - start
+        best = took if best is None else min(best, took)
+    times.append(best)
+    print(f'{lines} lines: {best:.3f} s, {lines / best:.0f} lines a second')
+print(f'ten times the lines take {times[1] / times[0]:.1f} times as long')
+PYTHON

@@ -1,0 +1,87 @@
+-- What a schedule makes a cluster answer.
+use Rattle.std.specs.Prelude.{ℕ, ◌+◌, ◌≡◌, ◌≤◌, ◌<◌, ◌⊎◌, List, [], ◌∷◌, ◌++◌, length, Option, Some, None, codes, decimal}
+use Rattle.gb_types.specs.ReplyText.{reply_spelling}
+use Rattle.gb_types.specs.declared.reply.Reply.TheVariants.{Refused}
+use Rattle.gb_cluster.specs.Headline.{IsStep}
+use Rattle.gb_cluster.specs.World.{World, new_world}
+use Rattle.gb_cluster.specs.declared.answer.Answer.{Answer}
+use Rattle.gb_cluster.specs.declared.answer.Answer.TheVariants.{Reply as Replied, Sent as Gave, Taken as Took_in, NoPacket}
+use Rattle.gb_cluster.specs.declared.answer.Frame.{Frame}
+use Rattle.gb_cluster.specs.declared.answer.Frame.TheVariants.{First, Seen}
+use Rattle.gb_cluster.specs.declared.answer.Sent.TheVariants.{Packet as Numbered, Nothing, Refused as Unsent}
+use Rattle.gb_cluster.specs.declared.answer.Taken.TheVariants.{Good as Accepted, Refused as Lost}
+use Rattle.gb_cluster.specs.declared.event.Event.{Event}
+use Rattle.gb_cluster.specs.declared.event.Event.TheVariants.{At, Pack as PackEvent, Arrive as ArriveEvent}
+use Rattle.gb_schedule.specs.Grammar.{IsCommandLine, IsSilent}
+use Rattle.gb_schedule.specs.Lines.{ended}
+use Rattle.gb_schedule.specs.declared.command.Command.{Command}
+use Rattle.gb_schedule.specs.declared.command.Command.TheVariants.{Cluster, Request, Pack, Arrive}
+use Rattle.gb_schedule.specs.declared.lines.TheConstants.{LINE}
+use Rattle.gb_sim.specs.declared.simulate.SimEnd.{SimEnd}
+use Rattle.gb_sim.specs.declared.simulate.SimEnd.TheVariants.{All, BadLine}
+use Rattle.gb_sim.specs.declared.simulate.TheConstants.{LINES}
+
+-- what a node made of a frame, in a word
+abbrev pub frame_word : Frame → List ℕ
+frame_word First = codes "first"
+frame_word Seen = codes "seen"
+
+-- the text of an answer
+abbrev pub answer_spelling : Answer → List ℕ
+answer_spelling (Replied reply) = reply_spelling reply
+answer_spelling (Gave (Numbered k)) = codes "packet " ++ decimal k
+answer_spelling (Gave Nothing) = codes "nothing"
+answer_spelling (Gave (Unsent why)) = reply_spelling (Refused why)
+answer_spelling (Took_in (Accepted good)) = codes "good " ++ frame_word good.frame ++ codes " " ++ decimal good.items ++ codes " " ++ decimal good.done
+answer_spelling (Took_in (Lost why)) = reply_spelling (Refused why)
+answer_spelling NoPacket = codes "no packet"
+
+-- the line that says which line is bad
+abbrev pub bad_line : ℕ → List ℕ
+bad_line n = ended (codes "bad line " ++ decimal n)
+
+-- the event that a command is, once there is a cluster
+abbrev pub event_of : Command → Option Event
+event_of (Cluster nodes silence) = None
+event_of (Request node request) = Some (At node request)
+event_of (Pack node to) = Some (PackEvent node to)
+event_of (Arrive packet) = Some (ArriveEvent packet)
+
+-- how many nodes the cluster has, once there is one
+abbrev pub nodes_in : Option World → Option ℕ
+nodes_in None = None
+nodes_in (Some w) = Some (length w.nodes)
+
+-- a cluster takes an event, and its answer is written
+pub record Answers (w : World) (event : Event) (after : Option World) (text : List ℕ) : Type 0 where
+  pub answer : Answer
+  pub next : World
+  pub step : IsStep w event answer next
+  pub after_is : after ≡ Some next
+  pub text_is : text ≡ ended (answer_spelling answer)
+
+-- what a command does: it starts a cluster, or is an event of the one that there is
+abbrev pub Obeys : Option World → Command → Option Event → Option World → List ℕ → Type 0
+Obeys None (Cluster nodes silence) event after text = (after ≡ Some (new_world nodes)) × (text ≡ ended (codes "ok"))
+Obeys (Some w) command (Some event) after text = Answers w event after text
+Obeys w command event after text = ⊥
+
+-- a line that asks for nothing gives no answer; a command is obeyed
+abbrev pub GoesOn : Option World → List ℕ → Option World → List ℕ → Type 0
+GoesOn w line after text = (IsSilent line × (after ≡ w) × (text ≡ [])) ⊎ ((command : Command) × IsCommandLine (nodes_in w) line command × Obeys w command (event_of command) after text)
+
+-- a line that is in no case of the grammar
+abbrev pub IsNoLine : Option World → List ℕ → Type 0
+IsNoLine w line = (IsSilent line → ⊥) × ((command : Command) → IsCommandLine (nodes_in w) line command → ⊥)
+
+-- a bad line: in no case of the grammar, too long, or beyond the last line that a schedule may have
+abbrev pub IsBadLine : ℕ → Option World → List ℕ → Type 0
+IsBadLine n w line = (LINES < n) ⊎ ((LINE < length line) ⊎ IsNoLine w line)
+
+-- The text of a schedule from its line n on, given its lines and the cluster so far: the answer of each line in a run
+-- of the cluster, up to the first bad line, and how it ends.
+unfoldable pub IsText : ℕ → Option World → List (List ℕ) → List ℕ → SimEnd → Type 0
+IsText n w [] text end = (text ≡ []) × (end ≡ All)
+IsText n w (line ∷ lines) text end =
+    (IsBadLine n w line × (text ≡ bad_line n) × (end ≡ BadLine n))
+    ⊎ ((n ≤ LINES) × (length line ≤ LINE) × (first : List ℕ) × (after : Option World) × (rest : List ℕ) × GoesOn w line after first × (text ≡ first ++ rest) × IsText (n + 1) after lines rest end)

@@ -1,0 +1,221 @@
+//! Whole schedules and their answers, over readers and writers in memory that give and take a text in pieces, and
+//! that fail.
+use super::*;
+use std::alloc::Global;
+use std::cmp;
+use std::io::{ErrorKind, Read, Write};
+use std::test::Fail;
+
+/// Gives a text by pieces of at most so many bytes, and fails where `fails` is set and the text is at its end.
+#[derive(Drop)]
+struct Pieces<'a> {
+    text: &'a [u8],
+    piece: usize,
+    fails: bool,
+}
+
+impl Read for Pieces<'_> {
+    fn read(&mut self, buf: &mut [u8]) -> io::Result<usize> {
+        let text = self.text;
+        if text.is_empty() && self.fails {
+            return Err(ErrorKind::Other.into());
+        }
+        let count = cmp::min(cmp::min(self.piece, text.len()), buf.len());
+        buf[..count].copy_from_slice(&text[..count]);
+        self.text = &text[count..];
+        Ok(count)
+    }
+}
+
+/// Gives so many line feeds.
+#[derive(Drop)]
+struct LineFeeds {
+    left: usize,
+}
+
+impl Read for LineFeeds {
+    fn read(&mut self, buf: &mut [u8]) -> io::Result<usize> {
+        let count = cmp::min(self.left, buf.len());
+        buf[..count].fill(b'\n');
+        self.left -= count;
+        Ok(count)
+    }
+}
+
+/// Takes so many bytes, by pieces of at most so many, and then fails.
+#[derive(Drop)]
+struct Space {
+    taken: Vec<u8>,
+    left: usize,
+    piece: usize,
+}
+
+impl Write for Space {
+    fn write(&mut self, buf: &[u8]) -> io::Result<usize> {
+        let count = cmp::min(cmp::min(self.piece, self.left), buf.len());
+        if count == 0 && !buf.is_empty() {
+            return Err(ErrorKind::Other.into());
+        }
+        self.taken.extend_from_slice(&buf[..count])?;
+        self.left -= count;
+        Ok(count)
+    }
+
+    fn flush(&mut self) -> io::Result<()> {
+        Ok(())
+    }
+}
+
+fn pieces(text: &str, piece: usize) -> Pieces<'_> {
+    Pieces {
+        text: text.as_bytes(),
+        piece,
+        fails: false,
+    }
+}
+
+fn space(alloc: Global, left: usize, piece: usize) -> Space {
+    Space {
+        taken: Vec::new(alloc),
+        left,
+        piece,
+    }
+}
+
+/// A schedule, the text that it makes, and how it ends.
+type Case = (&'static str, &'static str, SimEnd);
+
+const EMPTY_PAYLOAD: Case = (
+    "cluster 3 3\ntenant 0 7 4 8 4096 4\nmake 0 7 1 beb 0,1,2 8 4096 4\nopen 0 7 1\ntenant 1 7 4 8 4096 4\nmake 1 7 1 beb 0,1,2 8 4096 4\nopen 1 7 1\ntenant 2 7 4 8 4096 4\nmake 2 7 1 beb 0,1,2 8 4096 4\nopen 2 7 1\nsay 0 7 1 -\npack 0 1\npack 0 2\narrive 1\narrive 2\nfetch 0 7 1 0 16\nfetch 1 7 1 0 16\nfetch 2 7 1 0 16\n",
+    "ok\nok\nok\nok\nok\nok\nok\nok\nok\nok\nsaid 1\npacket 1\npacket 2\ngood first 1 0\ngood first 1 0\nlog 1 0:1:-\nlog 1 0:1:-\nlog 1 0:1:-\n",
+    SimEnd::All,
+);
+
+const PACKET_ARRIVES_TWICE: Case = (
+    "cluster 3 3\ntenant 0 7 4 8 4096 4\nmake 0 7 1 beb 0,1,2 8 4096 4\nopen 0 7 1\ntenant 1 7 4 8 4096 4\nmake 1 7 1 beb 0,1,2 8 4096 4\nopen 1 7 1\ntenant 2 7 4 8 4096 4\nmake 2 7 1 beb 0,1,2 8 4096 4\nopen 2 7 1\nsay 0 7 1 -\npack 0 1\npack 0 2\narrive 1\narrive 1\narrive 2\nfetch 0 7 1 0 16\nfetch 1 7 1 0 16\nfetch 2 7 1 0 16\n",
+    "ok\nok\nok\nok\nok\nok\nok\nok\nok\nok\nsaid 1\npacket 1\npacket 2\ngood first 1 0\ngood seen 0 0\ngood first 1 0\nlog 1 0:1:-\nlog 1 0:1:-\nlog 1 0:1:-\n",
+    SimEnd::All,
+);
+
+const UNKNOWN_WORD: Case = (
+    "cluster 2 3\nhello\n",
+    "ok\nbad line 2\n",
+    SimEnd::BadLine(2),
+);
+
+const ONE_TENANT_AND_ONE_GROUP_A_NODE: Case = (
+    "cluster 1 2\ntenant 0 7 4 8 4096 4\ntenant 0 8 4 8 4096 4\ntenant 0 7 4 8 4096 4\ntenant 0 8 0 8 4096 4\nmake 0 7 1 beb 0 8 4096 4\nmake 0 7 2 beb 0 8 4096 4\nmake 0 7 2 beb 0 9 4096 4\nmake 0 7 4 beb 0 8 4096 4\nmake 0 8 1 beb 0 8 4096 4\nmake 0 7 1 beb 0 8 4096 4\nopen 0 7 2\nsay 0 8 1 61\nsay 0 7 1 61\n",
+    "ok\nok\nrefused 12 NoRoom\nrefused 13 TenantThere\nrefused 5 OverReserve\nok\nrefused 12 NoRoom\nrefused 5 OverReserve\nrefused 2 NoGroup\nrefused 1 Denied\nrefused 3 Spent\nrefused 2 NoGroup\nrefused 1 Denied\nrefused 6 WrongPhase\n",
+    SimEnd::All,
+);
+
+const NODES_WITH_UNLIKE_GROUPS: Case = (
+    "cluster 2 3\ntenant 0 7 4 8 4096 4\nmake 0 7 1 beb 0,1 8 4096 4\nopen 0 7 1\ntenant 1 7 4 8 4096 4\nmake 1 7 2 beb 0,1 8 4096 4\nopen 1 7 2\nsay 0 7 1 61\npack 0 1\narrive 1\nfetch 1 7 2 0 16\nfetch 1 7 1 0 16\n",
+    "ok\nok\nok\nok\nok\nok\nok\nsaid 1\npacket 1\ngood first 1 0\nlog 0\nrefused 2 NoGroup\n",
+    SimEnd::All,
+);
+
+/// Runs a schedule, by pieces of so many bytes.
+fn is_run(alloc: Global, case: &Case, piece: usize) -> Result<bool, SimFault> {
+    let (schedule, answers, end) = *case;
+    let mut out = space(alloc, 1_000_000, piece);
+    let found = simulate(alloc, &mut pieces(schedule, piece), &mut out)?;
+    Ok(found == end && out.taken.as_slice() == answers.as_bytes())
+}
+
+#[test]
+fn worked_schedules_in_any_pieces(rt: HostRuntime) -> Result<(), Fail> {
+    let cases = [
+        EMPTY_PAYLOAD,
+        PACKET_ARRIVES_TWICE,
+        UNKNOWN_WORD,
+        ONE_TENANT_AND_ONE_GROUP_A_NODE,
+        NODES_WITH_UNLIKE_GROUPS,
+        ("", "", SimEnd::All),
+    ];
+    for case in &cases {
+        for piece in [1, 7, 100_000] {
+            assert!(rt; is_run(rt.alloc(), case, piece)?);
+        }
+    }
+    Ok(())
+}
+
+#[test]
+fn lines_at_their_edges(rt: HostRuntime) -> Result<(), Fail> {
+    let cases: [Case; 9] = [
+        ("cluster 1 2", "ok\n", SimEnd::All),
+        ("\n# a comment\n\ncluster 1 2\n\n", "ok\n", SimEnd::All),
+        (
+            "\n# a comment\n\ncluster 1 2\ncluster 1 2\n",
+            "ok\nbad line 5\n",
+            SimEnd::BadLine(5),
+        ),
+        ("cluster 1 2\r\n", "bad line 1\n", SimEnd::BadLine(1)),
+        ("cluster 1 2\nhello", "ok\nbad line 2\n", SimEnd::BadLine(2)),
+        ("cluster 17 2\n", "bad line 1\n", SimEnd::BadLine(1)),
+        (
+            "cluster 1 2\npack 0 1\n",
+            "ok\nbad line 2\n",
+            SimEnd::BadLine(2),
+        ),
+        ("arrive 1\n", "bad line 1\n", SimEnd::BadLine(1)),
+        (
+            "cluster 1 2\narrive 1\narrive 01\narrive 1\n",
+            "ok\nno packet\nbad line 3\n",
+            SimEnd::BadLine(3),
+        ),
+    ];
+    for case in &cases {
+        assert!(rt; is_run(rt.alloc(), case, 5)?);
+    }
+    Ok(())
+}
+
+#[test]
+fn payloads_are_written_in_lower_case(rt: HostRuntime) -> Result<(), Fail> {
+    let case: Case = (
+        "cluster 1 2\ntenant 0 7 4 8 4096 4\nmake 0 7 1 beb 0 8 4096 4\nopen 0 7 1\nsay 0 7 1 C0fFEe\nfetch 0 7 1 0 16\n",
+        "ok\nok\nok\nok\nsaid 1\nlog 1 0:1:c0ffee\n",
+        SimEnd::All,
+    );
+    assert!(rt; is_run(rt.alloc(), &case, 3)?);
+    Ok(())
+}
+
+#[test]
+fn a_failed_read_keeps_the_answers_before_it(rt: HostRuntime) -> Result<(), Fail> {
+    let alloc = rt.alloc();
+    let mut reader = Pieces {
+        text: b"cluster 1 2\narrive 1\narr",
+        piece: 4,
+        fails: true,
+    };
+    let mut out = space(alloc, 1_000, 1_000);
+    assert!(rt; simulate(alloc, &mut reader, &mut out) == Err(SimFault::Read));
+    assert!(rt; out.taken.as_slice() == b"ok\nno packet\n".as_slice());
+    Ok(())
+}
+
+#[test]
+fn a_failed_write_ends_the_run(rt: HostRuntime) -> Result<(), Fail> {
+    let alloc = rt.alloc();
+    let mut out = space(alloc, 5, 2);
+    let schedule = "cluster 1 2\narrive 1\n";
+    assert!(rt; simulate(alloc, &mut pieces(schedule, 100), &mut out) == Err(SimFault::Write));
+    assert!(rt; out.taken.as_slice() == b"ok\nno".as_slice());
+    Ok(())
+}
+
+#[test]
+fn the_line_after_the_last_that_is_allowed_is_bad(rt: HostRuntime) -> Result<(), Fail> {
+    let alloc = rt.alloc();
+    let mut out = space(alloc, 1_000, 1_000);
+    let allowed = simulate(alloc, &mut LineFeeds { left: 1_000_000 }, &mut out)?;
+    assert!(rt; allowed == SimEnd::All);
+    assert!(rt; out.taken.is_empty());
+    let more = simulate(alloc, &mut LineFeeds { left: 1_000_001 }, &mut out)?;
+    assert!(rt; more == SimEnd::BadLine(1_000_001));
+    assert!(rt; out.taken.as_slice() == b"bad line 1000001\n".as_slice());
+    Ok(())
+}
