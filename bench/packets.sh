@@ -9,8 +9,8 @@ for crate in gb_types gb_cap gb_frame; do
     mkdir -p "$work/crates/$crate"
     cp -r "$top/crates/$crate/." "$work/crates/$crate/"
 done
-mkdir -p "$work/crates/packets"
-cp -r "$top/bench/packets/." "$work/crates/packets/"
+mkdir -p "$work/crates/packets/src"
+cp "$top/bench/packets/main.rt.txt" "$work/crates/packets/src/main.rt"
 grep -E '^gb_(types|cap|frame):' "$top/crates.txt" >"$work/crates.txt"
 echo 'packets: gb_types gb_cap gb_frame anyhow sha2' >>"$work/crates.txt"
 cd "$work/crates/packets"
