@@ -22,3 +22,4 @@ pub mod InsideLemmas
 pub mod RunIntegrity
 pub mod PastLemmas
 pub mod ModelLemmas
+pub mod ObservedLemmas

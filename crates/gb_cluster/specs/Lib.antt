@@ -8,4 +8,5 @@ pub mod Holds
 pub mod Laws
 pub mod TwoRuns
 pub mod Observation
+pub mod Observed
 pub mod Trace

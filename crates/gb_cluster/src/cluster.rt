@@ -4,6 +4,7 @@ ghost use Rattle.gb_types.specs.declared.entry.Entry.{Entry as EntryValue};
 ghost use Rattle.gb_types.specs.declared.limits.TheConstants.{NODES as MOST};
 ghost use Rattle.gb_cluster.specs.World.{new_node, new_world, node_reply, node_did, sent_by, answer_of, changed, with_step};
 ghost use Rattle.gb_cluster.specs.Headline.{AreIsolated, AreInside, IsPlaced, IsStep, starved_answer};
+ghost use Rattle.gb_cluster.specs.Observed.{AreObserved};
 ghost use Rattle.gb_cluster.specs.Trace.{bare};
 
 use crate::answer::{Answer, Frame, Good, Sent, Taken};
@@ -236,9 +237,10 @@ impl Cluster {
         Ok(answer)
     }
 
-    /// Every packet that was sent, in order.
+    /// Every packet that was sent, in order. What is seen of each group in the run is what is seen of it alone.
     pub fn into_packets(self) -> Vec<Packet>
-        ensures { result.items ≡ self.packets }
+        ensures packets { result.items ≡ self.packets }
+        ensures observed { AreObserved (length self.nodes) self.packets self.steps }
     {
         self.packets
     }

@@ -3,6 +3,8 @@ ghost use Rattle.std.specs.Prelude.{◌≡◌, ◌≤◌, ◌↔◌, IsTrue, IfO
 ghost use Rattle.std.specs.List.{list_any};
 ghost use Rattle.gb_types.specs.declared.limits.TheConstants.{NODES as MOST};
 ghost use Rattle.gb_cluster.specs.Headline.{ArePlaced};
+ghost use Rattle.gb_cluster.specs.Observation.{steps_of};
+ghost use Rattle.gb_cluster.specs.Observed.{AreObserved};
 ghost use Rattle.gb_cluster.specs.Trace.{is_starved, IsRun};
 ghost use Rattle.gb_cluster.specs.World.{World};
 
@@ -66,6 +68,7 @@ impl Cluster {
         requires few { plan.nodes ≤ MOST }
         requires placed { ArePlaced plan.nodes events.now }
         ensures run { IfOk result (λ t. (w : World) × IsRun plan.nodes events.now t.answers.items t.packets.items w) }
+        ensures observed { IfOk result (λ t. AreObserved plan.nodes t.packets.items (steps_of events.now t.answers.items)) }
         ensures refused { IfOk result (λ t. t.refused ≡ list_any is_starved t.answers.items) }
     {
         let mut cluster = Cluster::start(alloc, plan)?;

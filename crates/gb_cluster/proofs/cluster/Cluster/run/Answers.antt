@@ -1,8 +1,10 @@
-use Rattle.std.proofs.Common.{◌++◌, ◌∷◌, [], take, refl, sym, ◌∙◌, ap, subst, arith}
-use Rattle.std.proofs.lemmas.List.{take_more}
+use Rattle.std.proofs.Common.{List, ◌++◌, ◌∷◌, [], length, take, refl, sym, ◌∙◌, ap, subst, arith}
+use Rattle.std.proofs.lemmas.List.{take_all, take_more}
 use Rattle.gb_cluster.specs.Headline.{IsPlaced}
+use Rattle.gb_cluster.specs.Observation.{steps_of}
 use Rattle.gb_cluster.specs.declared.event.Event.{Event}
 use Rattle.gb_cluster.proofs.CodeLemmas.{run_begins, run_goes, placed_at}
+use Rattle.gb_cluster.proofs.ObservedLemmas.{observed_run}
 use Rattle.gb_cluster.proofs.cluster.Cluster.run.Goals as goal
 
 pub loop-event-init : goal.loop-event-init
@@ -19,3 +21,10 @@ loop-event-preserved c =
     let e = c.event-item.result in
     run_goes c.args.plan.nodes c.loop-event.cluster c.step.new.self (take i events) _ c.loop-event.answers.items _ e c.in_ok-answer.answer c.loop-event.invariant
     (take_more events i e (omega arith) ∙ ap (λ (x : Event). take i events ++ x ∷ []) (sym c.event-item.is)) c.in_ok-push.ensures.items c.in_ok-answer.ensures.step c.step.ensures.isolated
+
+pub returns-clause-observed : goal.returns-clause-observed
+returns-clause-observed c =
+    let w = c.loop-event.cluster in
+    let whole = take_all c.loop-event.event-index c.args.events.now (omega arith) in
+    observed_run c.args.plan.nodes (length w.nodes) c.into_packets.result.items w.packets (steps_of c.args.events.now c.loop-event.answers.items) w.steps
+    c.loop-event.invariant.count (sym c.into_packets.ensures.packets) (c.loop-event.invariant.steps ∙ ap (λ (es : List Event). steps_of es c.loop-event.answers.items) whole) c.into_packets.ensures.observed
