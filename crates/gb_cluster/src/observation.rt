@@ -296,4 +296,4 @@ pub fn observe(
 }
 
 #[cfg(test)]
-mod tests;
+pub mod tests;

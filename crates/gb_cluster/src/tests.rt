@@ -4,7 +4,11 @@ ghost use Rattle.std.specs.Prelude.{◌≡◌};
 use crate::answer::{Answer, Frame, Sent, Taken};
 use crate::cluster::Cluster;
 use crate::event::Event;
+use crate::model::alone;
+use crate::observation::observe;
+use crate::observation::tests::are_alike;
 use crate::plan::Plan;
+use crate::projection::project;
 use crate::trace::{Trace, are_placed};
 use gb_types::address::Addr;
 use gb_types::kind::Kind;
@@ -107,11 +111,33 @@ fn told(alloc: Global, answer: &Answer) -> Result<Vec<u8>, OutOfMemory> {
     Ok(Vec::from_slice(alloc, words)?)
 }
 
-// Runs events, and compares each answer.
+// Runs both sides of the theorem: what is seen of the group in the run, and of the projection on it alone.
+fn compare_with_alone(
+    rt: &impl Abort,
+    alloc: Global,
+    nodes: u8,
+    events: &[Event],
+    trace: &Trace,
+    group: Addr,
+) -> Result<(), OutOfMemory> {
+    assert!(rt; usize::from(nodes) <= NODES);
+    let seen = observe(alloc, nodes, events, &trace.answers, &trace.packets, group)?;
+    let steps = project(alloc, events, &trace.answers, &trace.packets, group)?;
+    let told = alone(alloc, nodes, group.group, &steps)?;
+    assert_eq!(rt; seen.nodes().len(), usize::from(nodes));
+    assert_eq!(rt; told.nodes().len(), usize::from(nodes));
+    for (some, other) in seen.nodes().iter().zip(told.nodes()) {
+        are_alike(rt, some, other);
+    }
+    Ok(())
+}
+
+// Runs events, and compares each answer, and what is seen of a group that was served with the group alone.
 fn run(
     rt: &impl Abort,
     alloc: Global,
     nodes: u8,
+    served: Addr,
     wanted: &[(Event, &str)],
 ) -> Result<Trace, OutOfMemory> {
     let mut events = Vec::new(alloc);
@@ -126,6 +152,7 @@ fn run(
         assert_eq!(rt; told(alloc, answer)?.as_slice(), want.as_bytes());
     }
     assert!(rt; !trace.refused);
+    compare_with_alone(rt, alloc, nodes, events.as_slice(), &trace, served)?;
     Ok(trace)
 }
 
@@ -138,6 +165,7 @@ fn three_nodes_and_an_empty_payload(rt: HostRuntime) -> Result<(), Fail> {
         &rt,
         alloc,
         3,
+        g,
         &[
             (Event::At(a, tenant(7)), "ok"),
             (Event::At(b, tenant(7)), "ok"),
@@ -172,6 +200,7 @@ fn two_groups_with_unlike_addresses(rt: HostRuntime) -> Result<(), Fail> {
         &rt,
         alloc,
         2,
+        g,
         &[
             (Event::At(a, tenant(7)), "ok"),
             (Event::At(b, tenant(7)), "ok"),
@@ -207,6 +236,7 @@ fn nothing_is_sent_and_nothing_comes(rt: HostRuntime) -> Result<(), Fail> {
         &rt,
         alloc,
         2,
+        g,
         &[
             (Event::Pack(a, b), "nothing"),
             (Event::At(a, tenant(7)), "ok"),

@@ -303,7 +303,7 @@ fn are_same(some: &[Entry], others: &[Entry]) -> bool {
 }
 
 /// Compares what is seen at a node of a run with what is seen there of the group alone.
-fn are_alike(rt: &impl Abort, seen: &NodeSeen, told: &NodeSeen) {
+pub fn are_alike(rt: &impl Abort, seen: &NodeSeen, told: &NodeSeen) {
     assert_eq!(rt; seen.replies().len(), told.replies().len());
     for (some, other) in seen.replies().iter().zip(told.replies()) {
         assert_eq!(rt; short_reply(some), short_reply(other));
