@@ -66,7 +66,7 @@ impl Write for Space {
     }
 }
 
-fn pieces(text: &str, piece: usize) -> Pieces<'_> {
+fn in_pieces(text: &str, piece: usize) -> Pieces<'_> {
     Pieces {
         text: text.as_bytes(),
         piece,
@@ -74,7 +74,7 @@ fn pieces(text: &str, piece: usize) -> Pieces<'_> {
     }
 }
 
-fn space(alloc: Global, left: usize, piece: usize) -> Space {
+fn with_space(alloc: Global, left: usize, piece: usize) -> Space {
     Space {
         taken: Vec::new(alloc),
         left,
@@ -118,8 +118,8 @@ const NODES_WITH_UNLIKE_GROUPS: Case = (
 /// Runs a schedule, by pieces of so many bytes.
 fn is_run(alloc: Global, case: &Case, piece: usize) -> Result<bool, SimFault> {
     let (schedule, answers, end) = *case;
-    let mut out = space(alloc, 1_000_000, piece);
-    let found = simulate(alloc, &mut pieces(schedule, piece), &mut out)?;
+    let mut out = with_space(alloc, 1_000_000, piece);
+    let found = simulate(alloc, &mut in_pieces(schedule, piece), &mut out)?;
     Ok(found == end && out.taken.as_slice() == answers.as_bytes())
 }
 
@@ -191,7 +191,7 @@ fn a_failed_read_keeps_the_answers_before_it(rt: HostRuntime) -> Result<(), Fail
         piece: 4,
         fails: true,
     };
-    let mut out = space(alloc, 1_000, 1_000);
+    let mut out = with_space(alloc, 1_000, 1_000);
     assert!(rt; simulate(alloc, &mut reader, &mut out) == Err(SimFault::Read));
     assert!(rt; out.taken.as_slice() == b"ok\nno packet\n".as_slice());
     Ok(())
@@ -200,9 +200,9 @@ fn a_failed_read_keeps_the_answers_before_it(rt: HostRuntime) -> Result<(), Fail
 #[test]
 fn a_failed_write_ends_the_run(rt: HostRuntime) -> Result<(), Fail> {
     let alloc = rt.alloc();
-    let mut out = space(alloc, 5, 2);
+    let mut out = with_space(alloc, 5, 2);
     let schedule = "cluster 1 2\narrive 1\n";
-    assert!(rt; simulate(alloc, &mut pieces(schedule, 100), &mut out) == Err(SimFault::Write));
+    assert!(rt; simulate(alloc, &mut in_pieces(schedule, 100), &mut out) == Err(SimFault::Write));
     assert!(rt; out.taken.as_slice() == b"ok\nno".as_slice());
     Ok(())
 }
@@ -210,7 +210,7 @@ fn a_failed_write_ends_the_run(rt: HostRuntime) -> Result<(), Fail> {
 #[test]
 fn the_line_after_the_last_that_is_allowed_is_bad(rt: HostRuntime) -> Result<(), Fail> {
     let alloc = rt.alloc();
-    let mut out = space(alloc, 1_000, 1_000);
+    let mut out = with_space(alloc, 1_000, 1_000);
     let allowed = simulate(alloc, &mut LineFeeds { left: 1_000_000 }, &mut out)?;
     assert!(rt; allowed == SimEnd::All);
     assert!(rt; out.taken.is_empty());
