@@ -1,5 +1,8 @@
 #!/usr/bin/env python3
-"""Writes a schedule of so many lines: says, packs, arrives and fetches on a cluster of 4 nodes."""
+"""Writes a schedule of so many lines: says, packs, arrives and fetches on a cluster of 4 nodes.
+
+Each group may have 1,024 messages at a node; what is said beyond that is refused, and nothing waits then.
+"""
 import sys
 
 NODES = 4
@@ -9,8 +12,8 @@ def schedule(lines):
     yield f'cluster {NODES} 3'
     members = ','.join(str(node) for node in range(NODES))
     for node in range(NODES):
-        yield f'tenant {node} 7 1 1000000 100000000 1000000'
-        yield f'make {node} 7 1 beb {members} 1000000 100000000 1000000'
+        yield f'tenant {node} 7 2 1024 65536 1024'
+        yield f'make {node} 7 1 beb {members} 1024 65536 1024'
         yield f'open {node} 7 1'
     sent = 0
     turn = 0

@@ -5,7 +5,7 @@ set -eu
 top=$(cd "$(dirname "$0")/.." && pwd)
 work=$top/bench/out/schedule
 mkdir -p "$work"
-(cd "$top/crates/gb_sim" && "${RT:-rt}" run >/dev/null)
+(cd "$top/crates/gb_sim" && "${RT:-rt}" run <stdin >/dev/null)
 program=${1:-$top/crates/gb_sim/out/gb_sim}
 python3 "$top/bench/schedule.py" 10000 >"$work/10000"
 python3 "$top/bench/schedule.py" 100000 >"$work/100000"
