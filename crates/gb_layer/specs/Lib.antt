@@ -11,3 +11,10 @@ pub mod BebMachine
 pub mod BebLaws
 pub mod DirectLaws
 pub mod Examples
+pub mod Rule
+pub mod Relay
+pub mod RelayState
+pub mod EntryLaws
+pub mod TraceLaws
+pub mod RelayLaws
+pub mod RelayOnce

@@ -15,9 +15,12 @@ pub mod beb;
 pub mod call;
 pub mod direct;
 pub mod effects;
+pub mod entries;
 pub mod examples;
 pub mod layer;
 pub mod modules;
 pub mod plain;
+pub mod relay;
+pub mod rule;
 #[cfg(test)]
 mod tests;

@@ -1,0 +1,26 @@
+use Rattle.std.proofs.Common.{arith, ◌≡◌, ◌≤◌, ◌+◌, ℕ, vec_capacity, count_by, map, ap, ◌∙◌}
+use Rattle.gb_layer.specs.Room.{free_sends, free_ups}
+use Rattle.gb_layer.specs.Relay.{is_unsent, is_ungiven, marked_sent}
+use Rattle.gb_layer.specs.RelayState.{unsent, ungiven}
+use Rattle.gb_layer.proofs.Counted.{all_marked_ungiven}
+use Rattle.gb_layer.proofs.relay.Relay.relay_at.Goals as goal
+
+pub call_lower-requires : goal.call_lower-requires
+call_lower-requires g c =
+    let h = c.in-Some.ensures.unsent in
+    let a = free_sends c.args.out.now in
+    let b = vec_capacity c.args.self.now.below in
+    g.met.L.Layer.roomier c.args.self.now.lower a b (unsent c.args.self.now) a b 1 (omega arith) (omega arith) (omega (arith, h)) c.requires.room
+
+pub returns-in-Some-clause-room : goal.returns-in-Some-clause-room
+returns-in-Some-clause-room g c = λ n room.
+    let h = c.in-Some.ensures.unsent in
+    let e : unsent c.call_lower.new.self ≡ count_by is_unsent (map (marked_sent c.in-Some.m) c.args.self.now.entries.items) = c.call_lower.ensures.unsent ∙ ap (count_by is_unsent) c.mark_sent.ensures.items in
+    let a = free_sends c.args.out.now in
+    let b = vec_capacity c.args.self.now.below in
+    c.call_lower.ensures.room (n + unsent c.call_lower.new.self)
+    (g.met.L.Layer.roomier c.args.self.now.lower a b (n + unsent c.args.self.now) a b (n + unsent c.call_lower.new.self + 1) (omega arith) (omega arith) (omega (arith, h, e)) room)
+
+pub returns-in-Some-clause-ungiven : goal.returns-in-Some-clause-ungiven
+returns-in-Some-clause-ungiven g c =
+    c.call_lower.ensures.ungiven ∙ (ap (count_by is_ungiven) c.mark_sent.ensures.items ∙ all_marked_ungiven c.in-Some.m c.args.self.now.entries.items)

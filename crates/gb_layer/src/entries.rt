@@ -1,0 +1,114 @@
+//! What a relay remembers of each message, in the order of first mention.
+ghost use Rattle.std.specs.Prelude.{◌≡◌, ◌+◌, ◌≤◌, map, vec_len, vec_capacity, count_by};
+ghost use Rattle.std.specs.List.{list_any};
+ghost use Rattle.gb_layer.specs.Relay.{is_for, is_sent, noted, held, taken_in, marked_sent, is_unsent, is_ungiven};
+
+use crate::effects::Up;
+use gb_types::message::MsgId;
+use gb_types::node::{NodeId, NodeSet};
+
+/// A message, which nodes hold it as far as this node knows, and whether it was sent and handed up from here.
+#[derive(Drop)]
+pub struct Entry {
+    pub m: MsgId,
+    pub holders: NodeSet,
+    pub sent: bool,
+    pub given: bool,
+}
+
+/// Whether there is an entry of m.
+pub(crate) fn has_entry(entries: &[Entry], m: MsgId) -> bool
+    ensures { result ≡ list_any (is_for m) entries.now }
+{
+    entries.iter().any(|e| e.m == m)
+}
+
+/// Whether m was sent from here.
+pub(crate) fn was_sent(entries: &[Entry], m: MsgId) -> bool
+    ensures { result ≡ is_sent entries.now m }
+{
+    entries.iter().any(|e| e.m == m && e.sent)
+}
+
+/// Adds an entry of m, where there is none.
+pub(crate) fn note(entries: &mut Vec<Entry>, m: MsgId)
+    requires { vec_len entries.old + 1 ≤ vec_capacity entries.old }
+    ensures items { entries.new.items ≡ noted entries.old.items m }
+    ensures len { vec_len entries.new ≤ vec_len entries.old + 1 }
+    ensures capacity { vec_capacity entries.old ≤ vec_capacity entries.new }
+    ensures unsent { count_by is_unsent entries.new.items ≤ count_by is_unsent entries.old.items + 1 }
+    ensures ungiven { count_by is_ungiven entries.new.items ≤ count_by is_ungiven entries.old.items + 1 }
+{
+    if !has_entry(entries, m) {
+        entries.push_reserved(Entry {
+            m,
+            holders: NodeSet::new(),
+            sent: false,
+            given: false,
+        });
+    }
+}
+
+/// Writes down in an entry, if it is of m, that this node and via hold m.
+fn hold_one(e: &mut Entry, me: NodeId, via: NodeId, m: MsgId)
+    ensures { e.new ≡ held me via m e.old }
+{
+    if e.m == m {
+        e.holders.insert(me);
+        e.holders.insert(via);
+    }
+}
+
+/// Writes down that this node and via hold m.
+fn hold(entries: &mut [Entry], me: NodeId, via: NodeId, m: MsgId)
+    ensures { entries.new ≡ map (held me via m) entries.old }
+{
+    for e in entries.iter_mut() {
+        hold_one(e, me, via, m);
+    }
+}
+
+/// Writes down who holds what came up below.
+fn take_in_all(entries: &mut [Entry], me: NodeId, ups: &[Up])
+    ensures { entries.new ≡ taken_in me ups.now entries.old }
+{
+    for up in ups {
+        hold(entries, me, up.via, up.m);
+    }
+}
+
+/// Writes down who holds what came up below.
+pub(crate) fn take_in(entries: &mut Vec<Entry>, me: NodeId, ups: &[Up])
+    ensures items { entries.new.items ≡ taken_in me ups.now entries.old.items }
+    ensures len { vec_len entries.new ≡ vec_len entries.old }
+    ensures capacity { vec_capacity entries.new ≡ vec_capacity entries.old }
+{
+    take_in_all(entries, me, ups);
+}
+
+/// Marks an entry, if it is of m, as sent from here.
+fn mark_one(e: &mut Entry, m: MsgId)
+    ensures { e.new ≡ marked_sent m e.old }
+{
+    if e.m == m {
+        e.sent = true;
+    }
+}
+
+/// Marks m as sent from here.
+fn mark_all(entries: &mut [Entry], m: MsgId)
+    ensures { entries.new ≡ map (marked_sent m) entries.old }
+{
+    for e in entries.iter_mut() {
+        mark_one(e, m);
+    }
+}
+
+/// Marks m as sent from here.
+pub(crate) fn mark_sent(entries: &mut Vec<Entry>, m: MsgId)
+    ensures items { entries.new.items ≡ map (marked_sent m) entries.old.items }
+    ensures len { vec_len entries.new ≡ vec_len entries.old }
+    ensures capacity { vec_capacity entries.new ≡ vec_capacity entries.old }
+{
+    mark_all(entries, m);
+}

@@ -1,0 +1,356 @@
+//! A layer that relays, by a rule.
+ghost use Rattle.std.specs.Prelude.{◌≡◌, ℕ, ◌+◌, ◌≤◌, ◌<◌, [], ◌∷◌, ◌++◌, slice_get, vec_len, vec_capacity, OnOk, IfSome, count_by, map, filter};
+ghost use Rattle.gb_layer.specs.declared.call.Call.TheVariants.{Say};
+ghost use Rattle.gb_layer.specs.Room.{free_sends, free_ups};
+ghost use Rattle.gb_layer.specs.Relay.{State, IsNew, at_start, is_unsent, is_ungiven, marked_sent, call_below, due_to_relay, due_to_deliver, due_message, relay_if, relay_if_sends, relayed, relayed_sends, begun, begun_sends, given, given_ups, is_repeat, relay_next, relay_gives, handed, up_of};
+ghost use Rattle.gb_layer.specs.RelayLaws.{relay_me_stays, relay_noticed_once, relay_own};
+ghost use Rattle.gb_layer.specs.RelayOnce.{relay_sends_handed_in, relay_ups_handed_in, relay_up_once, relay_sent_once};
+ghost use Rattle.gb_layer.specs.RelayState.{state_of, HasRoom, unsent, ungiven, relay_roomier};
+
+use crate::call::Call;
+use crate::effects::{Effects, Up};
+use crate::entries::{Entry, mark_sent, note, take_in, was_sent};
+use crate::layer::{Broadcast, Layer};
+use crate::rule::Rule;
+use gb_types::memory::OutOfMemory;
+use gb_types::message::MsgId;
+use gb_types::node::{NodeId, NodeSet};
+use std::alloc::Global;
+use std::mem;
+
+/// Says below, once, each message that the rule broadcasts, and hands up, once, each message that the rule
+/// delivers, as from its origin. A message is here once the layer below has brought it up, and is then held by
+/// this node too. What one call sets free goes in the order of first mention.
+///
+/// Over `Beb` this is the module of broadcast whose tests the rule has: see `relays::relays`.
+#[derive(Drop)]
+pub struct Relay<L, R> {
+    lower: L,
+    rule: R,
+    members: NodeSet,
+    noticed: NodeSet,
+    /// The messages that were handed in, in the order of first mention.
+    entries: Vec<Entry>,
+    /// What the last call of the layer below brought up.
+    below: Vec<Up>,
+}
+
+/// Whether a message is here and is to be relayed.
+fn is_due<R: Rule>(entry: &Entry, rule: &R, me: NodeId, noticed: &NodeSet) -> bool
+    ensures { result ≡ due_to_relay R.rules me noticed.now entry.now }
+{
+    !entry.sent && (entry.holders.contains(me) && rule.broadcasts(me, noticed, entry.m))
+}
+
+/// Whether a message is here and is to be handed up.
+fn is_ready<R: Rule>(
+    entry: &Entry,
+    rule: &R,
+    me: NodeId,
+    members: &NodeSet,
+    noticed: &NodeSet,
+) -> bool
+    ensures { result ≡ due_to_deliver R.rules me members.now noticed.now entry.now }
+{
+    !entry.given && (entry.holders.contains(me) && rule.delivers(members, noticed, &entry.holders))
+}
+
+/// Hands up one message, where it is to be.
+fn deliver_one<R: Rule>(
+    entry: &mut Entry,
+    rule: &R,
+    me: NodeId,
+    members: &NodeSet,
+    noticed: &NodeSet,
+    out: &mut Effects,
+)
+    requires { count_by is_ungiven (entry.old ∷ []) ≤ free_ups out.old }
+    ensures entry { entry.new ≡ handed (due_to_deliver R.rules me members.now noticed.now) entry.old }
+    ensures ups { out.new.ups.items ≡ out.old.ups.items ++ map up_of (filter (due_to_deliver R.rules me members.now noticed.now) (entry.old ∷ [])) }
+    ensures sends { out.new.sends ≡ out.old.sends }
+    ensures room { free_ups out.old + count_by is_ungiven (entry.new ∷ []) ≤ free_ups out.new + count_by is_ungiven (entry.old ∷ []) }
+{
+    if is_ready(entry, rule, me, members, noticed) {
+        entry.given = true;
+        let m = entry.m;
+        out.up(m.origin, m);
+    }
+}
+
+/// Hands up everything that is to be.
+fn deliver_all<R: Rule>(
+    entries: &mut Vec<Entry>,
+    rule: &R,
+    me: NodeId,
+    members: &NodeSet,
+    noticed: &NodeSet,
+    out: &mut Effects,
+)
+    requires { count_by is_ungiven entries.old.items ≤ free_ups out.old }
+    ensures items { entries.new.items ≡ map (handed (due_to_deliver R.rules me members.now noticed.now)) entries.old.items }
+    ensures ups { out.new.ups.items ≡ out.old.ups.items ++ map up_of (filter (due_to_deliver R.rules me members.now noticed.now) entries.old.items) }
+    ensures sends { out.new.sends ≡ out.old.sends }
+    ensures room { free_ups out.old + count_by is_ungiven entries.new.items ≤ free_ups out.new + count_by is_ungiven entries.old.items }
+    ensures len { vec_len entries.new ≡ vec_len entries.old }
+    ensures capacity { vec_capacity entries.new ≡ vec_capacity entries.old }
+{
+    for i in 0..entries.len() {
+        deliver_one(&mut entries[i], rule, me, members, noticed, out);
+    }
+}
+
+impl<L: Layer, R: Rule> Relay<L, R> {
+    /// A relay over a layer, by a rule, in a group with these members, that was told nothing yet.
+    pub fn new(alloc: Global, lower: L, rule: R, members: NodeSet) -> Relay<L, R>
+        ensures meaning { ⟦<Relay<L, R> as Layer>⟧.meaning result ≡ at_start (L.meaning lower) members }
+        ensures fresh { L.is_fresh (L.meaning lower) → ⟦<Relay<L, R> as Layer>⟧.is_fresh (⟦<Relay<L, R> as Layer>⟧.meaning result) }
+    {
+        Relay {
+            lower,
+            rule,
+            members,
+            noticed: NodeSet::new(),
+            entries: Vec::new(alloc),
+            below: Vec::new(alloc),
+        }
+    }
+
+    /// Makes a call of the layer below, and writes down who holds what came up.
+    fn call_lower(&mut self, call: Call, out: &mut Effects)
+        requires { L.has_room self.old.lower (free_sends out.old) (vec_capacity self.old.below) 1 }
+        ensures state { state_of L.meaning self.new ≡ call_below L.next L.gives L.me (state_of L.meaning self.old) call }
+        ensures sends { out.new.sends.items ≡ out.old.sends.items ++ (L.gives (L.meaning self.old.lower) call).sends }
+        ensures ups { out.new.ups ≡ out.old.ups }
+        ensures room { (n : ℕ) → L.has_room self.old.lower (free_sends out.old) (vec_capacity self.old.below) (n + 1) → L.has_room self.new.lower (free_sends out.new) (vec_capacity self.new.below) n }
+        ensures capacity { vec_capacity self.new.entries ≡ vec_capacity self.old.entries }
+        ensures len { vec_len self.new.entries ≡ vec_len self.old.entries }
+        ensures unsent { unsent self.new ≡ unsent self.old }
+        ensures ungiven { ungiven self.new ≡ ungiven self.old }
+    {
+        self.below.clear();
+        mem::swap(&mut out.ups, &mut self.below);
+        let me = self.lower.me();
+        self.lower.take(call, out);
+        mem::swap(&mut out.ups, &mut self.below);
+        take_in(&mut self.entries, me, &self.below);
+    }
+
+    /// The message of the entry at i, where it is to be relayed.
+    fn due(&self, i: usize) -> Option<MsgId>
+        requires { i < vec_len self.now.entries }
+        ensures message { result ≡ due_message L.next L.gives L.me R.rules (state_of L.meaning self.now) (slice_get self.now.entries.items i) }
+        ensures unsent { IfSome result (λ m. count_by is_unsent (map (marked_sent m) self.now.entries.items) + 1 ≤ unsent self.now) }
+    {
+        let me = self.lower.me();
+        let entry = &self.entries[i];
+        if is_due(entry, &self.rule, me, &self.noticed) {
+            Some(entry.m)
+        } else {
+            None
+        }
+    }
+
+    /// Relays the message of the entry at i, where it is to be.
+    fn relay_at(&mut self, i: usize, out: &mut Effects)
+        requires within { i < vec_len self.old.entries }
+        requires room { L.has_room self.old.lower (free_sends out.old) (vec_capacity self.old.below) (unsent self.old) }
+        ensures state { state_of L.meaning self.new ≡ relay_if L.next L.gives L.me R.rules (state_of L.meaning self.old) (slice_get self.old.entries.items i) }
+        ensures sends { out.new.sends.items ≡ out.old.sends.items ++ relay_if_sends L.next L.gives L.me R.rules (state_of L.meaning self.old) (slice_get self.old.entries.items i) }
+        ensures ups { out.new.ups ≡ out.old.ups }
+        ensures room { (n : ℕ) → L.has_room self.old.lower (free_sends out.old) (vec_capacity self.old.below) (n + unsent self.old) → L.has_room self.new.lower (free_sends out.new) (vec_capacity self.new.below) (n + unsent self.new) }
+        ensures capacity { vec_capacity self.new.entries ≡ vec_capacity self.old.entries }
+        ensures len { vec_len self.new.entries ≡ vec_len self.old.entries }
+        ensures ungiven { ungiven self.new ≡ ungiven self.old }
+    {
+        if let Some(m) = self.due(i) {
+            mark_sent(&mut self.entries, m);
+            self.call_lower(Call::Say(m), out);
+        }
+    }
+
+    /// Relays everything that is to be.
+    fn relay_all(&mut self, out: &mut Effects)
+        requires { L.has_room self.old.lower (free_sends out.old) (vec_capacity self.old.below) (unsent self.old) }
+        ensures state { state_of L.meaning self.new ≡ relayed L.next L.gives L.me R.rules (state_of L.meaning self.old) }
+        ensures sends { out.new.sends.items ≡ out.old.sends.items ++ relayed_sends L.next L.gives L.me R.rules (state_of L.meaning self.old) }
+        ensures ups { out.new.ups ≡ out.old.ups }
+        ensures room { (n : ℕ) → L.has_room self.old.lower (free_sends out.old) (vec_capacity self.old.below) (n + unsent self.old) → L.has_room self.new.lower (free_sends out.new) (vec_capacity self.new.below) (n + unsent self.new) }
+        ensures capacity { vec_capacity self.new.entries ≡ vec_capacity self.old.entries }
+        ensures len { vec_len self.new.entries ≡ vec_len self.old.entries }
+        ensures ungiven { ungiven self.new ≡ ungiven self.old }
+    {
+        let count = self.entries.len();
+        for i in 0..count {
+            self.relay_at(i, out);
+        }
+    }
+
+    /// Says m below, unless it was sent from here.
+    fn begin_say(&mut self, m: MsgId, out: &mut Effects)
+        requires below { L.has_room self.old.lower (free_sends out.old) (vec_capacity self.old.below) (2 + unsent self.old) }
+        requires entries { vec_len self.old.entries + 1 ≤ vec_capacity self.old.entries }
+        ensures state { state_of L.meaning self.new ≡ begun L.next L.gives L.me (state_of L.meaning self.old) (Say m) }
+        ensures sends { out.new.sends.items ≡ out.old.sends.items ++ begun_sends L.next L.gives L.me (state_of L.meaning self.old) (Say m) }
+        ensures ups { out.new.ups ≡ out.old.ups }
+        ensures room { (n : ℕ) → L.has_room self.old.lower (free_sends out.old) (vec_capacity self.old.below) (n + 2 + unsent self.old) → L.has_room self.new.lower (free_sends out.new) (vec_capacity self.new.below) (n + unsent self.new) }
+        ensures capacity { vec_capacity self.old.entries ≤ vec_capacity self.new.entries }
+        ensures len { vec_len self.new.entries ≤ vec_len self.old.entries + 1 }
+        ensures ungiven { ungiven self.new ≤ ungiven self.old + 1 }
+    {
+        if !was_sent(&self.entries, m) {
+            note(&mut self.entries, m);
+            mark_sent(&mut self.entries, m);
+            self.call_lower(Call::Say(m), out);
+        }
+    }
+
+    /// Does the call itself, before anything is relayed.
+    fn begin(&mut self, call: Call, out: &mut Effects)
+        requires below { L.has_room self.old.lower (free_sends out.old) (vec_capacity self.old.below) (2 + unsent self.old) }
+        requires entries { vec_len self.old.entries + 1 ≤ vec_capacity self.old.entries }
+        ensures state { state_of L.meaning self.new ≡ begun L.next L.gives L.me (state_of L.meaning self.old) call }
+        ensures sends { out.new.sends.items ≡ out.old.sends.items ++ begun_sends L.next L.gives L.me (state_of L.meaning self.old) call }
+        ensures ups { out.new.ups ≡ out.old.ups }
+        ensures room { (n : ℕ) → L.has_room self.old.lower (free_sends out.old) (vec_capacity self.old.below) (n + 2 + unsent self.old) → L.has_room self.new.lower (free_sends out.new) (vec_capacity self.new.below) (n + unsent self.new) }
+        ensures capacity { vec_capacity self.old.entries ≤ vec_capacity self.new.entries }
+        ensures len { vec_len self.new.entries ≤ vec_len self.old.entries + 1 }
+        ensures ungiven { ungiven self.new ≤ ungiven self.old + 1 }
+    {
+        match call {
+            Call::Say(m) => self.begin_say(m, out),
+            Call::Came(from, m) => {
+                note(&mut self.entries, m);
+                self.call_lower(Call::Came(from, m), out);
+            }
+            Call::Notice(who) => {
+                self.noticed.insert(who);
+                self.call_lower(Call::Notice(who), out);
+            }
+        }
+    }
+
+    /// Relays and hands up everything that is to be.
+    fn finish(&mut self, out: &mut Effects)
+        requires below { L.has_room self.old.lower (free_sends out.old) (vec_capacity self.old.below) (unsent self.old) }
+        requires ups { ungiven self.old ≤ free_ups out.old }
+        ensures state { state_of L.meaning self.new ≡ given L.me R.rules (relayed L.next L.gives L.me R.rules (state_of L.meaning self.old)) }
+        ensures sends { out.new.sends.items ≡ out.old.sends.items ++ relayed_sends L.next L.gives L.me R.rules (state_of L.meaning self.old) }
+        ensures ups { out.new.ups.items ≡ out.old.ups.items ++ given_ups L.me R.rules (relayed L.next L.gives L.me R.rules (state_of L.meaning self.old)) }
+        ensures room { (n : ℕ) → L.has_room self.old.lower (free_sends out.old) (vec_capacity self.old.below) (n + unsent self.old) → L.has_room self.new.lower (free_sends out.new) (vec_capacity self.new.below) (n + unsent self.new) }
+        ensures capacity { vec_capacity self.new.entries ≡ vec_capacity self.old.entries }
+        ensures len { vec_len self.new.entries ≡ vec_len self.old.entries }
+        ensures free { free_ups out.old + ungiven self.new ≤ free_ups out.new + ungiven self.old }
+    {
+        self.relay_all(out);
+        let me = self.lower.me();
+        deliver_all(
+            &mut self.entries,
+            &self.rule,
+            me,
+            &self.members,
+            &self.noticed,
+            out,
+        );
+    }
+
+    /// Whether the call is the notice of a node that was noticed.
+    fn repeats(&self, call: Call) -> bool
+        ensures { result ≡ is_repeat (state_of L.meaning self.now) call }
+    {
+        match call {
+            Call::Say(_) | Call::Came(_, _) => false,
+            Call::Notice(who) => self.noticed.contains(who),
+        }
+    }
+
+    /// Takes any call.
+    fn step(&mut self, call: Call, out: &mut Effects)
+        requires { HasRoom L.has_room self.old (free_sends out.old) (free_ups out.old) 1 }
+        ensures state { state_of L.meaning self.new ≡ relay_next L.next L.gives L.me R.rules (state_of L.meaning self.old) call }
+        ensures sends { out.new.sends.items ≡ out.old.sends.items ++ (relay_gives L.next L.gives L.me R.rules (state_of L.meaning self.old) call).sends }
+        ensures ups { out.new.ups.items ≡ out.old.ups.items ++ (relay_gives L.next L.gives L.me R.rules (state_of L.meaning self.old) call).ups }
+        ensures room { (n : ℕ) → HasRoom L.has_room self.old (free_sends out.old) (free_ups out.old) (n + 1) → HasRoom L.has_room self.new (free_sends out.new) (free_ups out.new) n }
+    {
+        if !self.repeats(call) {
+            self.begin(call, out);
+            self.finish(out);
+        }
+    }
+
+    /// Makes room for so many calls of the layer below.
+    fn ready_below(&mut self, calls: usize, out: &mut Effects) -> Result<(), OutOfMemory>
+        ensures meaning { L.meaning self.new.lower ≡ L.meaning self.old.lower }
+        ensures entries { self.new.entries ≡ self.old.entries }
+        ensures members { self.new.members ≡ self.old.members }
+        ensures noticed { self.new.noticed ≡ self.old.noticed }
+        ensures sends { out.new.sends.items ≡ out.old.sends.items }
+        ensures ups { out.new.ups ≡ out.old.ups }
+        ensures room { OnOk result (L.has_room self.new.lower (free_sends out.new) (vec_capacity self.new.below) calls) }
+    {
+        self.below.clear();
+        mem::swap(&mut out.ups, &mut self.below);
+        let made = self.lower.ready(calls, out);
+        mem::swap(&mut out.ups, &mut self.below);
+        made
+    }
+}
+
+impl<L: Layer, R: Rule> Layer for Relay<L, R> {
+    ghost State = { State L.State };
+
+    ghost meaning = { state_of L.meaning };
+
+    ghost me = { λ r. L.me r.lower };
+
+    ghost is_fresh = { IsNew L.is_fresh };
+
+    ghost next = { relay_next L.next L.gives L.me R.rules };
+
+    ghost gives = { relay_gives L.next L.gives L.me R.rules };
+
+    ghost has_room = { HasRoom L.has_room };
+
+    fn me(&self) -> NodeId {
+        self.lower.me()
+    }
+
+    fn ready(&mut self, calls: usize, out: &mut Effects) -> Result<(), OutOfMemory> {
+        let count = self.entries.len();
+        let twice = calls.checked_add(calls).ok_or(OutOfMemory)?;
+        let below = twice.checked_add(count).ok_or(OutOfMemory)?;
+        let ups = count.checked_add(calls).ok_or(OutOfMemory)?;
+        self.entries.reserve(calls)?;
+        out.ups.reserve(ups)?;
+        self.ready_below(below, out)
+    }
+
+    fn say(&mut self, m: MsgId, out: &mut Effects) {
+        self.step(Call::Say(m), out);
+    }
+
+    fn came(&mut self, from: NodeId, m: MsgId, out: &mut Effects) {
+        self.step(Call::Came(from, m), out);
+    }
+
+    fn notice(&mut self, who: NodeId, out: &mut Effects) {
+        self.step(Call::Notice(who), out);
+    }
+
+    ghost roomier = { relay_roomier L.has_room L.roomier };
+
+    ghost me_stays = { relay_me_stays L.next L.gives L.me R.rules L.me_stays };
+
+    ghost sends_handed_in = { relay_sends_handed_in L.next L.gives L.me R.rules L.is_fresh L.sends_handed_in };
+
+    ghost ups_handed_in = { relay_ups_handed_in L.next L.gives L.me R.rules L.is_fresh };
+
+    ghost up_once = { relay_up_once L.next L.gives L.me R.rules L.is_fresh };
+
+    ghost sent_once = { relay_sent_once L.next L.gives L.me R.rules L.is_fresh L.sent_once };
+
+    ghost noticed_once = { relay_noticed_once L.next L.gives L.me R.rules (IsNew L.is_fresh) };
+}
+
+impl<L: Layer, R: Rule> Broadcast for Relay<L, R> {
+    ghost own_via = { relay_own L.next L.gives L.me R.rules };
+}
