@@ -62,7 +62,7 @@ first_mentions-once (Say x ∷ past) m = grown_once past x m (first_mentions-onc
 first_mentions-once (Came p x ∷ past) m = grown_once past x m (first_mentions-once past m)
 first_mentions-once (Notice q ∷ past) m = first_mentions-once past m
 
-same_swap : (a b : MsgId) → same a b ≡ same b a
+pub same_swap : (a b : MsgId) → same a b ≡ same b a
 same_swap a b = grind (arith, nat_tests)
 
 -- one message that is mentioned, picked out of the first mentions

@@ -12,6 +12,7 @@ pub mod BebLaws
 pub mod DirectLaws
 pub mod Examples
 pub mod Rule
+pub mod RuleLaws
 pub mod Relay
 pub mod RelayState
 pub mod EntryLaws

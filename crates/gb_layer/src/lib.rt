@@ -21,6 +21,7 @@ pub mod layer;
 pub mod modules;
 pub mod plain;
 pub mod relay;
+pub mod relays;
 pub mod rule;
 #[cfg(test)]
 mod tests;
