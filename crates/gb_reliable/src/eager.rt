@@ -1,0 +1,34 @@
+//! Eager reliable broadcast.
+ghost use Rattle.gb_reliable.specs.Rules.{eager_rules};
+ghost use Rattle.gb_reliable.specs.EagerLaws.{eager_more, eager_delivers_more, eager_own};
+
+use gb_layer::relay::Relay;
+use gb_layer::rule::Rule;
+use gb_types::message::MsgId;
+use gb_types::node::{NodeId, NodeSet};
+
+/// The rule of eager reliable broadcast: a message is broadcast and delivered as soon as it is here.
+#[derive(Clone, Copy, Debug, Drop)]
+pub struct Eagerly;
+
+impl Rule for Eagerly {
+    ghost rules = { eager_rules };
+
+    fn broadcasts(&self, _me: NodeId, _noticed: &NodeSet, _m: MsgId) -> bool {
+        true
+    }
+
+    fn delivers(&self, _members: &NodeSet, _noticed: &NodeSet, _holders: &NodeSet) -> bool {
+        true
+    }
+
+    ghost broadcasts_more = { eager_more };
+
+    ghost delivers_more = { eager_delivers_more };
+
+    ghost broadcasts_its_own = { eager_own };
+}
+
+/// Eager reliable broadcast over a layer (Cachin, Guerraoui, Rodrigues 2011, Algorithm 3.3): relays each message
+/// once, when it first comes.
+pub type Eager<L> = Relay<L, Eagerly>;

@@ -1,0 +1,35 @@
+//! Lazy reliable broadcast.
+ghost use Rattle.gb_reliable.specs.Rules.{lazy_rules};
+ghost use Rattle.gb_reliable.specs.LazyLaws.{lazy_more, lazy_delivers_more, lazy_own};
+
+use gb_layer::relay::Relay;
+use gb_layer::rule::Rule;
+use gb_types::message::MsgId;
+use gb_types::node::{NodeId, NodeSet};
+
+/// The rule of lazy reliable broadcast: own messages are broadcast, and those whose origin was noticed; a message
+/// is delivered as soon as it is here.
+#[derive(Clone, Copy, Debug, Drop)]
+pub struct Lazily;
+
+impl Rule for Lazily {
+    ghost rules = { lazy_rules };
+
+    fn broadcasts(&self, me: NodeId, noticed: &NodeSet, m: MsgId) -> bool {
+        m.origin == me || noticed.contains(m.origin)
+    }
+
+    fn delivers(&self, _members: &NodeSet, _noticed: &NodeSet, _holders: &NodeSet) -> bool {
+        true
+    }
+
+    ghost broadcasts_more = { lazy_more };
+
+    ghost delivers_more = { lazy_delivers_more };
+
+    ghost broadcasts_its_own = { lazy_own };
+}
+
+/// Lazy reliable broadcast over a layer (Cachin, Guerraoui, Rodrigues 2011, Algorithm 3.2): relays the messages of
+/// a node from the notice of that node on.
+pub type Lazy<L> = Relay<L, Lazily>;

@@ -1,0 +1,9 @@
+-- The rules of uniform reliable broadcast.
+use Rattle.std.specs.Prelude.{true, ◌||◌}
+use Rattle.std.specs.List.{list_all}
+use Rattle.std.specs.FinSet as set
+use Rattle.gb_layer.specs.Rule.{Rules}
+
+-- all-ack broadcasts at once, and delivers once each member was noticed or holds the message (Cachin, Guerraoui, Rodrigues 2011, Algorithm 3.4)
+abbrev pub all_ack_rules : Rules
+all_ack_rules = record { broadcasts = λ _ _ _. true; delivers = λ members noticed holders. list_all (λ p. set.contains noticed p || set.contains holders p) (set.items members) }

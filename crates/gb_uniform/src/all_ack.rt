@@ -1,0 +1,35 @@
+//! All-ack uniform reliable broadcast.
+ghost use Rattle.gb_uniform.specs.Rules.{all_ack_rules};
+ghost use Rattle.gb_uniform.specs.AllAckLaws.{all_ack_more, all_ack_delivers_more, all_ack_own};
+
+use gb_layer::relay::Relay;
+use gb_layer::rule::Rule;
+use gb_types::message::MsgId;
+use gb_types::node::{NodeId, NodeSet};
+
+/// The rule of all-ack uniform reliable broadcast: a message is broadcast as soon as it is here, and delivered
+/// once each member was noticed or holds it.
+#[derive(Clone, Copy, Debug, Drop)]
+pub struct AllAcked;
+
+impl Rule for AllAcked {
+    ghost rules = { all_ack_rules };
+
+    fn broadcasts(&self, _me: NodeId, _noticed: &NodeSet, _m: MsgId) -> bool {
+        true
+    }
+
+    fn delivers(&self, members: &NodeSet, noticed: &NodeSet, holders: &NodeSet) -> bool {
+        members.is_covered(noticed, holders)
+    }
+
+    ghost broadcasts_more = { all_ack_more };
+
+    ghost delivers_more = { all_ack_delivers_more };
+
+    ghost broadcasts_its_own = { all_ack_own };
+}
+
+/// All-ack uniform reliable broadcast over a layer (Cachin, Guerraoui, Rodrigues 2011, Algorithm 3.4): relays each
+/// message once, and hands it up once every member that was not noticed is known to hold it.
+pub type AllAck<L> = Relay<L, AllAcked>;
