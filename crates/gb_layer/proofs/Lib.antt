@@ -4,4 +4,4 @@ pub mod Counted
 pub mod NodeSets
 pub mod RelayPass
 pub mod RelayOverBeb
-pub mod RelayBases
+pub mod RelayModules

@@ -3,7 +3,7 @@ use Rattle.std.proofs.Common.{◌≡◌, ℕ, Bool, true, false, cond, not, ◌&
 use Rattle.std.specs.List.{list_any}
 use Rattle.std.specs.Ordering.{nat_cmp}
 use Rattle.std.specs.FinSet as set
-use Rattle.std.proofs.Math.Bool.{and-not_self, and_comm}
+use Rattle.std.proofs.Math.Bool.{and-not_self}
 use Rattle.std.proofs.lemmas.List.{map-append}
 use Rattle.gb_types.specs.declared.node.NodeId.{NodeId}
 use Rattle.gb_types.specs.declared.message.MsgId.{MsgId}
@@ -120,10 +120,10 @@ no_holders me (Came p x ∷ past) m h =
 no_holders me (Notice q ∷ past) m h = no_holders me past m h
 
 -- what the call itself sends
-abbrev spoken : Call → MsgId → Bool
-spoken (Say m) x = same x m
-spoken (Came p m) x = false
-spoken (Notice q) x = false
+abbrev says : Call → MsgId → Bool
+says (Say m) x = same x m
+says (Came p m) x = false
+says (Notice q) x = false
 
 module _ (rules : Rules) (broadcasts_more : BroadcastsMore rules) (delivers_more : DeliversMore rules) (broadcasts_its_own : BroadcastsItsOwn rules) (me : NodeId) (members : Nodes) where
   abbrev N : State NodeId → Call → State NodeId
@@ -139,8 +139,8 @@ module _ (rules : Rules) (broadcasts_more : BroadcastsMore rules) (delivers_more
   up = now_delivered_by rules me.number members
 
   -- what a relay remembers of x
-  abbrev at : List Call → MsgId → Entry
-  at past x = record { m = x; holders = holders_in me.number past x; sent = out past x; given = up past x }
+  abbrev entry_at : List Call → MsgId → Entry
+  entry_at past x = record { m = x; holders = holders_in me.number past x; sent = out past x; given = up past x }
 
   out_more : (c : Call) (past : List Call) (x : MsgId) → out past x ≡ true → out (c ∷ past) x ≡ true
   out_more c past x = and_more (mentions past x) (rules.broadcasts me.number (noticed_in past) x) (mentions (c ∷ past) x) (rules.broadcasts me.number (noticed_in (c ∷ past)) x)
@@ -151,16 +151,16 @@ module _ (rules : Rules) (broadcasts_more : BroadcastsMore rules) (delivers_more
       (mention_more c past x) (delivers_more members (noticed_in past) (noticed_in (c ∷ past)) (holders_in me.number past x) (holders_in me.number (c ∷ past) x) (noticed_more c past) (holders_more me.number c past x))
 
   -- the entry of m after the call itself, and after the messages that are due were sent on
-  abbrev mid : Call → List Call → MsgId → Entry
-  mid c past x = record { m = x; holders = holders_in me.number (c ∷ past) x; sent = spoken c x || out past x; given = up past x }
+  abbrev begun_entry : Call → List Call → MsgId → Entry
+  begun_entry c past x = record { m = x; holders = holders_in me.number (c ∷ past) x; sent = says c x || out past x; given = up past x }
 
-  abbrev late : Call → List Call → MsgId → Entry
-  late c past x = record { m = x; holders = holders_in me.number (c ∷ past) x; sent = out (c ∷ past) x; given = up past x }
+  abbrev relayed_entry : Call → List Call → MsgId → Entry
+  relayed_entry c past x = record { m = x; holders = holders_in me.number (c ∷ past) x; sent = out (c ∷ past) x; given = up past x }
 
-  abbrev state_of : List Call → List Entry → State NodeId
-  state_of past es = record { lower = me; members = members; noticed = noticed_in past; entries = es }
+  abbrev with_entries : List Call → List Entry → State NodeId
+  with_entries past es = record { lower = me; members = members; noticed = noticed_in past; entries = es }
 
-  blank_at : (past : List Call) (m : MsgId) → mentions past m ≡ false → at past m ≡ new_entry m
+  blank_at : (past : List Call) (m : MsgId) → mentions past m ≡ false → entry_at past m ≡ new_entry m
   blank_at past m h = λ i. record {
     m = m;
     holders = no_holders me.number past m h i;
@@ -168,30 +168,30 @@ module _ (rules : Rules) (broadcasts_more : BroadcastsMore rules) (delivers_more
     given = h i && rules.delivers members (noticed_in past) (holders_in me.number past m);
   }
 
-  has : (past : List Call) (m : MsgId) → list_any (is_for m) (map (at past) (first_mentions past)) ≡ mentions past m
-  has past m = has_mentioned past (map (at past) (first_mentions past)) m (keys_of (at past) (λ x. refl) (first_mentions past))
+  has : (past : List Call) (m : MsgId) → list_any (is_for m) (map (entry_at past) (first_mentions past)) ≡ mentions past m
+  has past m = has_mentioned past (map (entry_at past) (first_mentions past)) m (keys_of (entry_at past) (λ x. refl) (first_mentions past))
 
-  noted_at : (past : List Call) (m : MsgId) → noted (map (at past) (first_mentions past)) m ≡ map (at past) (cond (mentions past m) (first_mentions past) (first_mentions past ++ m ∷ []))
+  noted_at : (past : List Call) (m : MsgId) → noted (map (entry_at past) (first_mentions past)) m ≡ map (entry_at past) (cond (mentions past m) (first_mentions past) (first_mentions past ++ m ∷ []))
   noted_at past m =
-      let es = map (at past) (first_mentions past) in
+      let es = map (entry_at past) (first_mentions past) in
       ap (λ b. cond b es (es ++ new_entry m ∷ [])) (has past m)
-      ∙ elim (mentions past m) as (λ b. mentions past m ≡ b → cond b es (es ++ new_entry m ∷ []) ≡ map (at past) (cond b (first_mentions past) (first_mentions past ++ m ∷ []))) [
+      ∙ elim (mentions past m) as (λ b. mentions past m ≡ b → cond b es (es ++ new_entry m ∷ []) ≡ map (entry_at past) (cond b (first_mentions past) (first_mentions past ++ m ∷ []))) [
         | true ↦ λ _. refl
-        | false ↦ λ h. sym (map-append (at past) (first_mentions past) (m ∷ []) ∙ ap (λ (e : Entry). es ++ e ∷ []) (blank_at past m h))
+        | false ↦ λ h. sym (map-append (entry_at past) (first_mentions past) (m ∷ []) ∙ ap (λ (e : Entry). es ++ e ∷ []) (blank_at past m h))
       ] refl
 
-  came_at : (past : List Call) (p : NodeId) (m x : MsgId) → held me p m (at past x) ≡ mid (Came p m) past x
+  came_at : (past : List Call) (p : NodeId) (m x : MsgId) → held me p m (entry_at past x) ≡ begun_entry (Came p m) past x
   came_at past p m x =
       let h = holders_in me.number past x in
-      elim (same x m) as (λ b. cond b (record { m = x; holders = set.insert (set.insert h me.number) p.number; sent = out past x; given = up past x }) (at past x)
+      elim (same x m) as (λ b. cond b (record { m = x; holders = set.insert (set.insert h me.number) p.number; sent = out past x; given = up past x }) (entry_at past x)
       ≡ record { m = x; holders = cond b (set.insert (set.insert h me.number) p.number) h; sent = out past x; given = up past x }) [ true ↦ refl | false ↦ refl ]
 
-  marked_at : (past : List Call) (m x : MsgId) → marked_sent m (at past x) ≡ record { m = x; holders = holders_in me.number past x; sent = same x m || out past x; given = up past x }
+  marked_at : (past : List Call) (m x : MsgId) → marked_sent m (entry_at past x) ≡ record { m = x; holders = holders_in me.number past x; sent = same x m || out past x; given = up past x }
   marked_at past m x =
-      elim (same x m) as (λ b. cond b (record { m = x; holders = holders_in me.number past x; sent = true; given = up past x }) (at past x)
+      elim (same x m) as (λ b. cond b (record { m = x; holders = holders_in me.number past x; sent = true; given = up past x }) (entry_at past x)
       ≡ record { m = x; holders = holders_in me.number past x; sent = b || out past x; given = up past x }) [ true ↦ refl | false ↦ refl ]
 
-  said_at : (past : List Call) (m x : MsgId) → held me me m (marked_sent m (at past x)) ≡ mid (Say m) past x
+  said_at : (past : List Call) (m x : MsgId) → held me me m (marked_sent m (entry_at past x)) ≡ begun_entry (Say m) past x
   said_at past m x =
       let h = holders_in me.number past x in
       let s = same x m || out past x in
@@ -203,45 +203,45 @@ module _ (rules : Rules) (broadcasts_more : BroadcastsMore rules) (delivers_more
         | false ↦ refl
       ]
 
-  unsent_at : (past : List Call) (m : MsgId) → mentions past m ≡ false → is_sent (map (at past) (first_mentions past)) m ≡ false
+  unsent_at : (past : List Call) (m : MsgId) → mentions past m ≡ false → is_sent (map (entry_at past) (first_mentions past)) m ≡ false
   unsent_at past m h =
-      let es = map (at past) (first_mentions past) in
+      let es = map (entry_at past) (first_mentions past) in
       elim (is_sent es m) as (λ b. is_sent es m ≡ b → b ≡ false) [
         | true ↦ λ e. let f : mentions past m ≡ true = sym (has past m) ∙ sent_has es m e in cc
         | false ↦ λ _. refl
       ] refl
 
   -- what a relay remembers
-  abbrev now : List Call → State NodeId
-  now past = record { lower = me; members = members; noticed = noticed_in past; entries = map (at past) (first_mentions past) }
+  abbrev state_at : List Call → State NodeId
+  state_at past = record { lower = me; members = members; noticed = noticed_in past; entries = map (entry_at past) (first_mentions past) }
 
   -- the call itself, by the case
   abbrev Begun : Call → List Call → Type 0
-  Begun c past = begun (λ s _. s) beb_gives (λ s. s) (now past) c ≡ state_of (c ∷ past) (map (mid c past) (first_mentions (c ∷ past)))
+  Begun c past = begun (λ s _. s) beb_gives (λ s. s) (state_at past) c ≡ with_entries (c ∷ past) (map (begun_entry c past) (first_mentions (c ∷ past)))
 
   begun_said : (past : List Call) (m : MsgId) → mentions past m ≡ false → Begun (Say m) past
   begun_said past m h =
-      let r = now past in
+      let r = state_at past in
       ap (λ b. cond b r (relay (λ s _. s) beb_gives (λ s. s) (noting r m) m)) (unsent_at past m h)
-      ∙ ap (state_of past)
+      ∙ ap (with_entries past)
       (ap (λ es. map (held me me m) (map (marked_sent m) es)) (noted_at past m)
-      ∙ (ap (map (held me me m)) (map_same (marked_sent m) (at past) (λ x. marked_sent m (at past x)) (λ x. refl) (first_mentions (Say m ∷ past)))
-      ∙ map_same (held me me m) (λ x. marked_sent m (at past x)) (mid (Say m) past) (said_at past m) (first_mentions (Say m ∷ past))))
+      ∙ (ap (map (held me me m)) (map_same (marked_sent m) (entry_at past) (λ x. marked_sent m (entry_at past x)) (λ x. refl) (first_mentions (Say m ∷ past)))
+      ∙ map_same (held me me m) (λ x. marked_sent m (entry_at past x)) (begun_entry (Say m) past) (said_at past m) (first_mentions (Say m ∷ past))))
 
   begun_came : (past : List Call) (p : NodeId) (m : MsgId) → Begun (Came p m) past
   begun_came past p m =
-      ap (state_of past)
+      ap (with_entries past)
       (ap (map (held me p m)) (noted_at past m)
-      ∙ map_same (held me p m) (at past) (mid (Came p m) past) (came_at past p m) (first_mentions (Came p m ∷ past)))
+      ∙ map_same (held me p m) (entry_at past) (begun_entry (Came p m) past) (came_at past p m) (first_mentions (Came p m ∷ past)))
 
   -- the marks
-  due_at : (c : Call) (past : List Call) (x : MsgId) → due_to_relay rules me (noticed_in (c ∷ past)) (mid c past x) ≡ (not (spoken c x || out past x) && out (c ∷ past) x)
-  due_at c past x = ap (λ b. not (spoken c x || out past x) && (b && rules.broadcasts me.number (noticed_in (c ∷ past)) x)) (here_in me.number (c ∷ past) x)
+  due_at : (c : Call) (past : List Call) (x : MsgId) → due_to_relay rules me (noticed_in (c ∷ past)) (begun_entry c past x) ≡ (not (says c x || out past x) && out (c ∷ past) x)
+  due_at c past x = ap (λ b. not (says c x || out past x) && (b && rules.broadcasts me.number (noticed_in (c ∷ past)) x)) (here_in me.number (c ∷ past) x)
 
-  ready_at : (c : Call) (past : List Call) (x : MsgId) → due_to_deliver rules me members (noticed_in (c ∷ past)) (late c past x) ≡ (not (up past x) && up (c ∷ past) x)
+  ready_at : (c : Call) (past : List Call) (x : MsgId) → due_to_deliver rules me members (noticed_in (c ∷ past)) (relayed_entry c past x) ≡ (not (up past x) && up (c ∷ past) x)
   ready_at c past x = ap (λ b. not (up past x) && (b && rules.delivers members (noticed_in (c ∷ past)) (holders_in me.number (c ∷ past) x))) (here_in me.number (c ∷ past) x)
 
-  sent_later : (c : Call) (past : List Call) → MayCome me.number past c → (x : MsgId) → (spoken c x || out past x) ≡ true → out (c ∷ past) x ≡ true
+  sent_later : (c : Call) (past : List Call) → MayCome me.number past c → (x : MsgId) → (says c x || out past x) ≡ true → out (c ∷ past) x ≡ true
   sent_later (Say m) past l x h =
       elim (same x m) as (λ b. same x m ≡ b → (b || out past x) ≡ true → out (Say m ∷ past) x ≡ true) [
         | true ↦ λ e _.
@@ -253,58 +253,58 @@ module _ (rules : Rules) (broadcasts_more : BroadcastsMore rules) (delivers_more
   sent_later (Came p m) past l x h = out_more (Came p m) past x h
   sent_later (Notice q) past l x h = out_more (Notice q) past x h
 
-  fixed_at : (c : Call) (past : List Call) → MayCome me.number past c → (x : MsgId) → fixed rules me members (noticed_in (c ∷ past)) (mid c past x) ≡ late c past x
+  fixed_at : (c : Call) (past : List Call) → MayCome me.number past c → (x : MsgId) → fixed rules me members (noticed_in (c ∷ past)) (begun_entry c past x) ≡ relayed_entry c past x
   fixed_at c past l x =
-      let d = due_to_relay rules me (noticed_in (c ∷ past)) (mid c past x) in
-      let s = spoken c x || out past x in
-      elim d as (λ b. cond b (record { m = x; holders = holders_in me.number (c ∷ past) x; sent = true; given = up past x }) (mid c past x)
+      let d = due_to_relay rules me (noticed_in (c ∷ past)) (begun_entry c past x) in
+      let s = says c x || out past x in
+      elim d as (λ b. cond b (record { m = x; holders = holders_in me.number (c ∷ past) x; sent = true; given = up past x }) (begun_entry c past x)
       ≡ record { m = x; holders = holders_in me.number (c ∷ past) x; sent = cond b true s; given = up past x }) [ true ↦ refl | false ↦ refl ]
       ∙ (λ i. record { m = x; holders = holders_in me.number (c ∷ past) x; sent = marked d s (out (c ∷ past) x) (due_at c past x) (sent_later c past l x) i; given = up past x })
 
-  given_at : (c : Call) (past : List Call) (x : MsgId) → handed (due_to_deliver rules me members (noticed_in (c ∷ past))) (late c past x) ≡ at (c ∷ past) x
+  given_at : (c : Call) (past : List Call) (x : MsgId) → handed (due_to_deliver rules me members (noticed_in (c ∷ past))) (relayed_entry c past x) ≡ entry_at (c ∷ past) x
   given_at c past x =
-      let d = due_to_deliver rules me members (noticed_in (c ∷ past)) (late c past x) in
-      elim d as (λ b. cond b (record { m = x; holders = holders_in me.number (c ∷ past) x; sent = out (c ∷ past) x; given = true }) (late c past x)
+      let d = due_to_deliver rules me members (noticed_in (c ∷ past)) (relayed_entry c past x) in
+      elim d as (λ b. cond b (record { m = x; holders = holders_in me.number (c ∷ past) x; sent = out (c ∷ past) x; given = true }) (relayed_entry c past x)
       ≡ record { m = x; holders = holders_in me.number (c ∷ past) x; sent = out (c ∷ past) x; given = cond b true (up past x) }) [ true ↦ refl | false ↦ refl ]
       ∙ (λ i. record { m = x; holders = holders_in me.number (c ∷ past) x; sent = out (c ∷ past) x; given = marked d (up past x) (up (c ∷ past) x) (ready_at c past x) (up_more c past x) i })
 
   -- after everything was sent on
   relayed_at : (c : Call) (past : List Call) → MayCome me.number past c → Begun c past
-      → relayed (λ s _. s) beb_gives (λ s. s) rules (begun (λ s _. s) beb_gives (λ s. s) (now past) c) ≡ state_of (c ∷ past) (map (late c past) (first_mentions (c ∷ past)))
+      → relayed (λ s _. s) beb_gives (λ s. s) rules (begun (λ s _. s) beb_gives (λ s. s) (state_at past) c) ≡ with_entries (c ∷ past) (map (relayed_entry c past) (first_mentions (c ∷ past)))
   relayed_at c past l b =
       ap (relayed (λ s _. s) beb_gives (λ s. s) rules) b
-      ∙ (relayed_all rules me members (noticed_in (c ∷ past)) (map (mid c past) (first_mentions (c ∷ past))) (firsts_distinct (mid c past) (λ x. refl) (c ∷ past))
-      ∙ ap (state_of (c ∷ past)) (map_same (fixed rules me members (noticed_in (c ∷ past))) (mid c past) (late c past) (fixed_at c past l) (first_mentions (c ∷ past))))
+      ∙ (relayed_all rules me members (noticed_in (c ∷ past)) (map (begun_entry c past) (first_mentions (c ∷ past))) (firsts_distinct (begun_entry c past) (λ x. refl) (c ∷ past))
+      ∙ ap (with_entries (c ∷ past)) (map_same (fixed rules me members (noticed_in (c ∷ past))) (begun_entry c past) (relayed_entry c past) (fixed_at c past l) (first_mentions (c ∷ past))))
 
   full_next : (c : Call) (past : List Call) → MayCome me.number past c → Begun c past
-      → given (λ s. s) rules (relayed (λ s _. s) beb_gives (λ s. s) rules (begun (λ s _. s) beb_gives (λ s. s) (now past) c)) ≡ now (c ∷ past)
+      → given (λ s. s) rules (relayed (λ s _. s) beb_gives (λ s. s) rules (begun (λ s _. s) beb_gives (λ s. s) (state_at past) c)) ≡ state_at (c ∷ past)
   full_next c past l b =
       ap (given (λ s. s) rules) (relayed_at c past l b)
-      ∙ ap (state_of (c ∷ past)) (map_same (handed (due_to_deliver rules me members (noticed_in (c ∷ past)))) (late c past) (at (c ∷ past)) (given_at c past) (first_mentions (c ∷ past)))
+      ∙ ap (with_entries (c ∷ past)) (map_same (handed (due_to_deliver rules me members (noticed_in (c ∷ past)))) (relayed_entry c past) (entry_at (c ∷ past)) (given_at c past) (first_mentions (c ∷ past)))
 
   full_ups : (c : Call) (past : List Call) → MayCome me.number past c → Begun c past
-      → messages (given_ups (λ s. s) rules (relayed (λ s _. s) beb_gives (λ s. s) rules (begun (λ s _. s) beb_gives (λ s. s) (now past) c))) ≡ rule_delivers rules me.number members c past
+      → messages (given_ups (λ s. s) rules (relayed (λ s _. s) beb_gives (λ s. s) rules (begun (λ s _. s) beb_gives (λ s. s) (state_at past) c))) ≡ rule_delivers rules me.number members c past
   full_ups c past l b =
       let due = due_to_deliver rules me members (noticed_in (c ∷ past)) in
       ap (λ r. messages (given_ups (λ s. s) rules r)) (relayed_at c past l b)
-      ∙ (ups_keys (filter due (map (late c past) (first_mentions (c ∷ past))))
-      ∙ (keys_filter due (late c past) (λ x. refl) (first_mentions (c ∷ past))
-      ∙ same_filter (λ x. due (late c past x)) (λ x. up (c ∷ past) x && not (up past x)) (λ x. ready_at c past x ∙ and_swap (up past x) (up (c ∷ past) x)) (first_mentions (c ∷ past))))
+      ∙ (ups_keys (filter due (map (relayed_entry c past) (first_mentions (c ∷ past))))
+      ∙ (keys_filter due (relayed_entry c past) (λ x. refl) (first_mentions (c ∷ past))
+      ∙ same_filter (λ x. due (relayed_entry c past x)) (λ x. up (c ∷ past) x && not (up past x)) (λ x. ready_at c past x ∙ and_swap (up past x) (up (c ∷ past) x)) (first_mentions (c ∷ past))))
 
   full_sends : (c : Call) (past : List Call) → Begun c past
-      → relayed_sends (λ s _. s) beb_gives (λ s. s) rules (begun (λ s _. s) beb_gives (λ s. s) (now past) c) ≡ filter (λ x. not (spoken c x || out past x) && out (c ∷ past) x) (first_mentions (c ∷ past))
+      → relayed_sends (λ s _. s) beb_gives (λ s. s) rules (begun (λ s _. s) beb_gives (λ s. s) (state_at past) c) ≡ filter (λ x. not (says c x || out past x) && out (c ∷ past) x) (first_mentions (c ∷ past))
   full_sends c past b =
       let due = due_to_relay rules me (noticed_in (c ∷ past)) in
       ap (relayed_sends (λ s _. s) beb_gives (λ s. s) rules) b
-      ∙ (relayed_all_sends rules me members (noticed_in (c ∷ past)) (map (mid c past) (first_mentions (c ∷ past))) (firsts_distinct (mid c past) (λ x. refl) (c ∷ past))
-      ∙ (keys_filter due (mid c past) (λ x. refl) (first_mentions (c ∷ past))
-      ∙ same_filter (λ x. due (mid c past x)) (λ x. not (spoken c x || out past x) && out (c ∷ past) x) (due_at c past) (first_mentions (c ∷ past))))
+      ∙ (relayed_all_sends rules me members (noticed_in (c ∷ past)) (map (begun_entry c past) (first_mentions (c ∷ past))) (firsts_distinct (begun_entry c past) (λ x. refl) (c ∷ past))
+      ∙ (keys_filter due (begun_entry c past) (λ x. refl) (first_mentions (c ∷ past))
+      ∙ same_filter (λ x. due (begun_entry c past x)) (λ x. not (says c x || out past x) && out (c ∷ past) x) (due_at c past) (first_mentions (c ∷ past))))
 
   -- a repeated notice
   same_noticed : (past : List Call) (q : NodeId) → set.contains (noticed_in past) q.number ≡ true → noticed_in (Notice q ∷ past) ≡ noticed_in past
   same_noticed past q h = again (noticed_in past) q.number h
 
-  repeat_next : (past : List Call) (q : NodeId) → set.contains (noticed_in past) q.number ≡ true → now past ≡ now (Notice q ∷ past)
+  repeat_next : (past : List Call) (q : NodeId) → set.contains (noticed_in past) q.number ≡ true → state_at past ≡ state_at (Notice q ∷ past)
   repeat_next past q h =
       ap (λ n. record {
         lower = me;
@@ -342,40 +342,40 @@ module _ (rules : Rules) (broadcasts_more : BroadcastsMore rules) (delivers_more
   none_due true b a = refl
   none_due false b a = not_itself (b && a)
 
-  said_relays : (past : List Call) (m : MsgId) → filter (λ x. not (spoken (Say m) x || out past x) && out (Say m ∷ past) x) (first_mentions (Say m ∷ past)) ≡ []
+  said_relays : (past : List Call) (m : MsgId) → filter (λ x. not (says (Say m) x || out past x) && out (Say m ∷ past) x) (first_mentions (Say m ∷ past)) ≡ []
   said_relays past m =
       sym (none_of (λ x. not (same x m || out past x) && out (Say m ∷ past) x)
       (λ x. ap (λ b. not (same x m || out past x) && ((b || mentions past x) && rules.broadcasts me.number (noticed_in past) x)) (same_swap m x) ∙ none_due (same x m) (mentions past x) (rules.broadcasts me.number (noticed_in past) x))
       (first_mentions (Say m ∷ past)))
 
   said_sends : (past : List Call) (m : MsgId) → mentions past m ≡ false → m.origin.number ≡ me.number
-      → begun_sends (λ s _. s) beb_gives (λ s. s) (now past) (Say m) ++ relayed_sends (λ s _. s) beb_gives (λ s. s) rules (begun (λ s _. s) beb_gives (λ s. s) (now past) (Say m)) ≡ rule_broadcasts rules me.number (Say m) past
+      → begun_sends (λ s _. s) beb_gives (λ s. s) (state_at past) (Say m) ++ relayed_sends (λ s _. s) beb_gives (λ s. s) rules (begun (λ s _. s) beb_gives (λ s. s) (state_at past) (Say m)) ≡ rule_broadcasts rules me.number (Say m) past
   said_sends past m new o =
       (λ i. cond (unsent_at past m new i) [] (m ∷ []) ++ (full_sends (Say m) past (begun_said past m new) ∙ said_relays past m) i)
       ∙ sym (said_broadcasts past m new o)
 
-  other_sends : (c : Call) (past : List Call) → ((x : MsgId) → spoken c x ≡ false) → filter (λ x. not (spoken c x || out past x) && out (c ∷ past) x) (first_mentions (c ∷ past)) ≡ rule_broadcasts rules me.number c past
+  other_sends : (c : Call) (past : List Call) → ((x : MsgId) → says c x ≡ false) → filter (λ x. not (says c x || out past x) && out (c ∷ past) x) (first_mentions (c ∷ past)) ≡ rule_broadcasts rules me.number c past
   other_sends c past none =
-      same_filter (λ x. not (spoken c x || out past x) && out (c ∷ past) x) (λ x. out (c ∷ past) x && not (out past x))
+      same_filter (λ x. not (says c x || out past x) && out (c ∷ past) x) (λ x. out (c ∷ past) x && not (out past x))
       (λ x. ap (λ b. not (b || out past x) && out (c ∷ past) x) (none x) ∙ and_swap (out past x) (out (c ∷ past) x)) (first_mentions (c ∷ past))
 
   -- one call
-  rule_next : (c : Call) (past : List Call) → IsLawful me.number (c ∷ past) → N (now past) c ≡ now (c ∷ past)
+  rule_next : (c : Call) (past : List Call) → IsLawful me.number (c ∷ past) → N (state_at past) c ≡ state_at (c ∷ past)
   rule_next (Say m) past l = full_next (Say m) past l.0 (begun_said past m (not_mentioned me [] past m l.1 l.0.0 l.0.1))
   rule_next (Came p m) past l = full_next (Came p m) past l.0 (begun_came past p m)
   rule_next (Notice q) past l =
-      let r = now past in
+      let r = state_at past in
       elim (set.contains (noticed_in past) q.number) as (λ b. set.contains (noticed_in past) q.number ≡ b
-      → cond b r (given (λ s. s) rules (relayed (λ s _. s) beb_gives (λ s. s) rules (begun (λ s _. s) beb_gives (λ s. s) r (Notice q)))) ≡ now (Notice q ∷ past)) [
+      → cond b r (given (λ s. s) rules (relayed (λ s _. s) beb_gives (λ s. s) rules (begun (λ s _. s) beb_gives (λ s. s) r (Notice q)))) ≡ state_at (Notice q ∷ past)) [
         | true ↦ λ h. repeat_next past q h
         | false ↦ λ _. full_next (Notice q) past l.0 refl
       ] refl
 
-  rule_ups : (c : Call) (past : List Call) → IsLawful me.number (c ∷ past) → messages (G (now past) c).ups ≡ rule_delivers rules me.number members c past
+  rule_ups : (c : Call) (past : List Call) → IsLawful me.number (c ∷ past) → messages (G (state_at past) c).ups ≡ rule_delivers rules me.number members c past
   rule_ups (Say m) past l = full_ups (Say m) past l.0 (begun_said past m (not_mentioned me [] past m l.1 l.0.0 l.0.1))
   rule_ups (Came p m) past l = full_ups (Came p m) past l.0 (begun_came past p m)
   rule_ups (Notice q) past l =
-      let r = now past in
+      let r = state_at past in
       let b = begun (λ s _. s) beb_gives (λ s. s) r (Notice q) in
       elim (set.contains (noticed_in past) q.number) as (λ v. set.contains (noticed_in past) q.number ≡ v
       → messages (cond v nothing (record { sends = begun_sends (λ s _. s) beb_gives (λ s. s) r (Notice q) ++ relayed_sends (λ s _. s) beb_gives (λ s. s) rules b; ups = given_ups (λ s. s) rules (relayed (λ s _. s) beb_gives (λ s. s) rules b) })).ups
@@ -384,11 +384,11 @@ module _ (rules : Rules) (broadcasts_more : BroadcastsMore rules) (delivers_more
         | false ↦ λ _. full_ups (Notice q) past l.0 refl
       ] refl
 
-  rule_sends : (c : Call) (past : List Call) → IsLawful me.number (c ∷ past) → (G (now past) c).sends ≡ rule_broadcasts rules me.number c past
+  rule_sends : (c : Call) (past : List Call) → IsLawful me.number (c ∷ past) → (G (state_at past) c).sends ≡ rule_broadcasts rules me.number c past
   rule_sends (Say m) past l = said_sends past m (not_mentioned me [] past m l.1 l.0.0 l.0.1) l.0.0
   rule_sends (Came p m) past l = full_sends (Came p m) past (begun_came past p m) ∙ other_sends (Came p m) past (λ x. refl)
   rule_sends (Notice q) past l =
-      let r = now past in
+      let r = state_at past in
       let b = begun (λ s _. s) beb_gives (λ s. s) r (Notice q) in
       elim (set.contains (noticed_in past) q.number) as (λ v. set.contains (noticed_in past) q.number ≡ v
       → (cond v nothing (record { sends = begun_sends (λ s _. s) beb_gives (λ s. s) r (Notice q) ++ relayed_sends (λ s _. s) beb_gives (λ s. s) rules b; ups = given_ups (λ s. s) rules (relayed (λ s _. s) beb_gives (λ s. s) rules b) })).sends
@@ -401,7 +401,7 @@ module _ (rules : Rules) (broadcasts_more : BroadcastsMore rules) (delivers_more
   abbrev start : State NodeId
   start = at_start me members
 
-  rule_after : (past : List Call) → IsLawful me.number past → after N start past ≡ now past
+  rule_after : (past : List Call) → IsLawful me.number past → after N start past ≡ state_at past
   rule_after [] l = refl
   rule_after (c ∷ past) l = ap (λ r. N r c) (rule_after past l.1) ∙ rule_next c past l
 

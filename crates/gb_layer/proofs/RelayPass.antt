@@ -1,25 +1,24 @@
 -- One pass over the entries sends on what is due, each by itself, where best-effort broadcast is below.
-use Rattle.std.proofs.Common.{◌≡◌, ◌≢◌, ℕ, ◌+◌, ◌≤◌, Bool, true, false, cond, not, ◌&&◌, ◌||◌, nat_eq, List, [], ◌∷◌, ◌++◌, length, map, filter, slice_get, refl, ap, ◌∙◌, sym, arith, subst, zero, suc, append_assoc, length-append}
+use Rattle.std.proofs.Common.{◌≡◌, ℕ, ◌+◌, Bool, true, false, cond, not, ◌&&◌, List, [], ◌∷◌, ◌++◌, length, map, filter, slice_get, refl, ap, ◌∙◌, sym, append_assoc, length-append}
 use Rattle.std.specs.declared.option.Option.{Option}
 use Rattle.std.specs.declared.option.Option.TheVariants.{None, Some}
-use Rattle.std.specs.List.{list_any, AllByRecursion}
+use Rattle.std.specs.List.{AllByRecursion}
 use Rattle.std.specs.FinSet as set
 use Rattle.std.proofs.lemmas.List.{map-append}
 use Rattle.gb_types.specs.declared.node.NodeId.{NodeId}
 use Rattle.gb_types.specs.declared.message.MsgId.{MsgId}
 use Rattle.gb_types.specs.Message.{same}
 use Rattle.gb_types.proofs.SameLemmas.{same-true, same_itself}
-use Rattle.gb_layer.specs.declared.effects.Up.{Up}
 use Rattle.gb_layer.specs.declared.call.Call.{Call}
 use Rattle.gb_layer.specs.declared.call.Call.TheVariants.{Say, Came, Notice}
-use Rattle.gb_layer.specs.Machine.{Gives, mentions}
+use Rattle.gb_layer.specs.Machine.{mentions}
 use Rattle.gb_layer.specs.BebMachine.{beb_gives}
 use Rattle.gb_layer.specs.Modules.{first_mentions}
 use Rattle.gb_layer.specs.FirstMentions.{first_mentions-mentioned, same_swap}
 use Rattle.gb_layer.specs.Lists.{all_weaker, all_push}
 use Rattle.gb_layer.specs.declared.entries.Entry.{Entry}
 use Rattle.gb_layer.specs.Rule.{Nodes, Rules}
-use Rattle.gb_layer.specs.Relay.{State, is_for, held, marked_sent, due_to_relay, relay, relay_any, relay_any_sends, relay_from, relay_from_sends, relayed, relayed_sends, due_message}
+use Rattle.gb_layer.specs.Relay.{State, held, marked_sent, due_to_relay, relay_any, relay_any_sends, relay_from, relay_from_sends, relayed, relayed_sends, due_message}
 use Rattle.gb_layer.proofs.NodeSets.{again, twice}
 
 abbrev sent_entry : Entry → Entry

@@ -1,5 +1,5 @@
 -- How often a relay sends a message, and hands it up.
-use Rattle.std.proofs.Common.{◌≡◌, ◌≢◌, ℕ, ◌+◌, ◌≤◌, Bool, true, false, cond, not, ◌&&◌, ◌||◌, nat_eq, List, [], ◌∷◌, ◌++◌, length, map, filter, slice_get, count_by, refl, ap, ◌∙◌, sym, arith, subst, zero, suc}
+use Rattle.std.proofs.Common.{◌≡◌, ℕ, ◌+◌, ◌≤◌, Bool, true, false, cond, not, ◌&&◌, nat_eq, List, [], ◌∷◌, ◌++◌, length, map, slice_get, count_by, refl, ap, ◌∙◌, sym, arith, subst, zero, suc}
 use Rattle.std.specs.declared.option.Option.{Option}
 use Rattle.std.specs.declared.option.Option.TheVariants.{None, Some}
 use Rattle.gb_types.specs.declared.node.NodeId.{NodeId}
@@ -9,8 +9,7 @@ use Rattle.gb_layer.specs.declared.effects.Up.{Up}
 use Rattle.gb_layer.specs.declared.call.Call.{Call}
 use Rattle.gb_layer.specs.declared.call.Call.TheVariants.{Say, Came, Notice}
 use Rattle.gb_layer.specs.Counts.{count_by-cons, count_by-append}
-use Rattle.gb_layer.specs.Machine.{Gives, nothing, after, all_sends, all_ups, mentions, IsFair, count_sends, is_up, is_of}
-use Rattle.gb_layer.specs.declared.entries.Entry.{Entry}
+use Rattle.gb_layer.specs.Machine.{Gives, nothing, after, all_ups, mentions, count_sends, is_up, is_of}
 use Rattle.gb_layer.specs.Laws.{SendsWhatWasHandedIn, HandsUpWhatWasHandedIn, HandsUpOnce, SendsOnce}
 use Rattle.gb_layer.specs.Rule.{Rules}
 use Rattle.gb_layer.specs.Relay.{State, noted, noting, marked_sent, is_sent, is_repeat, relay, relay_any, begun, begun_sends, wants_delivery, due_message, relay_from, given, given_ups, relayed, relayed_sends, relay_next, relay_gives, IsNew}

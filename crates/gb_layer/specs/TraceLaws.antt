@@ -1,24 +1,22 @@
 -- A run of a relay, told by the run of the layer below.
-use Rattle.std.proofs.Common.{◌≡◌, ◌≢◌, ℕ, ◌+◌, ◌≤◌, Bool, true, false, cond, not, ◌&&◌, ◌||◌, nat_eq, List, [], ◌∷◌, ◌++◌, length, map, filter, slice_get, count_by, refl, ap, ◌∙◌, sym, arith, subst, zero, suc, append_assoc}
+use Rattle.std.proofs.Common.{◌≡◌, ◌≢◌, ℕ, ◌+◌, Bool, true, false, cond, not, ◌&&◌, ◌||◌, nat_eq, List, [], ◌∷◌, ◌++◌, length, map, filter, slice_get, refl, ap, ◌∙◌, sym, arith, subst, zero, suc, append_assoc}
 use Rattle.std.specs.declared.option.Option.{Option}
 use Rattle.std.specs.declared.option.Option.TheVariants.{None, Some}
-use Rattle.std.specs.List.{list_any}
 use Rattle.std.proofs.lemmas.Bool.Decides.{nat_tests}
 use Rattle.std.proofs.lemmas.List.{append-nil}
 use Rattle.gb_types.specs.declared.node.NodeId.{NodeId}
 use Rattle.gb_types.specs.declared.message.MsgId.{MsgId}
 use Rattle.gb_types.specs.Message.{same}
 use Rattle.gb_types.proofs.SameLemmas.{same-true, same_itself}
-use Rattle.gb_layer.specs.declared.effects.Up.{Up}
 use Rattle.gb_layer.specs.declared.call.Call.{Call}
 use Rattle.gb_layer.specs.declared.call.Call.TheVariants.{Say, Came, Notice}
-use Rattle.gb_layer.specs.Machine.{Gives, nothing, after, all_sends, all_ups, mentions, was_said, was_noticed, came_from, IsFair, MayFollow, count_sends, is_up, is_of}
+use Rattle.gb_layer.specs.Machine.{Gives, nothing, after, all_sends, mentions, was_said, came_from, IsFair}
 use Rattle.gb_layer.specs.Modules.{first_mentions}
 use Rattle.gb_layer.specs.FirstMentions.{first_mentions-once}
 use Rattle.gb_layer.specs.Bools.{or_second}
 use Rattle.gb_layer.specs.declared.entries.Entry.{Entry}
 use Rattle.gb_layer.specs.Rule.{Rules}
-use Rattle.gb_layer.specs.Relay.{State, is_for, new_entry, noted, held, taken_in, marked_sent, is_sent, up_of, due_to_relay, due_to_deliver, handed, sending, noting, noticing, is_repeat, call_below, relay, relay_sends, begun, begun_sends, wants_relay, wants_delivery, due_message, relay_any, relay_any_sends, relay_if, relay_if_sends, relay_from, relay_from_sends, given, given_ups, relayed, relayed_sends, relay_next, relay_gives}
+use Rattle.gb_layer.specs.Relay.{State, noted, marked_sent, is_sent, noting, is_repeat, relay, relay_sends, begun, begun_sends, wants_relay, wants_delivery, due_message, relay_any, relay_any_sends, relay_from, relay_from_sends, given, given_ups, relayed, relayed_sends, relay_next, relay_gives}
 use Rattle.gb_layer.specs.EntryLaws.{keys, keys_taken_in, keys_marked, keys_handed, keys_noted, has_mentioned, sent_taken_in, sent_handed, sent_noted, sent_marked, unsent_at, any_at, sent_has}
 
 or_false : (a b : Bool) → a ≡ false → (a || b) ≡ b

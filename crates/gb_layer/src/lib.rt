@@ -5,7 +5,8 @@
 //! made ready. It is given calls, and gives messages by their names.
 //!
 //! Read `layer::Layer` first: a layer's contract, and the laws that each layer owes. `beb::Beb` is the lowest
-//! layer, and `direct::Direct<Beb>` the broadcast by best effort. What the modules of broadcast mean, whatever
+//! layer, and `direct::Direct<Beb>` the broadcast by best effort. `relay::Relay` relays, by a `rule::Rule`: the
+//! reliable broadcasts are rules, and `relays` says what each is. What the modules of broadcast mean, whatever
 //! computes them, stands in specs/Modules.antt, as tests on all that ever came; `modules` says which layers
 //! are which module, and `plain` computes the modules slowly, straight from their meaning.
 #![tactic(auto)]

@@ -1,4 +1,4 @@
-use Rattle.std.proofs.Common.{◌≡◌, ◌∙◌, ap, sym, arith, ◌<◌, length, get_or, refl}
+use Rattle.std.proofs.Common.{◌≡◌, ◌∙◌, arith, ◌<◌, length, get_or}
 use Rattle.gb_layer.specs.Relay.{due_to_deliver, handed, up_of, is_ungiven}
 use Rattle.gb_layer.specs.Counts.{count_by-set}
 use Rattle.gb_layer.proofs.Mapped.{mapped_more, mapped_at, picked_more}

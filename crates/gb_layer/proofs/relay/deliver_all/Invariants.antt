@@ -1,5 +1,5 @@
-use Rattle.std.proofs.Common.{◌≡◌, ◌≤◌, ◌+◌, ◌++◌, ℕ, vec_capacity, vec_len, count_by, map, filter, take, drop}
-use Rattle.gb_layer.specs.Room.{free_sends, free_ups}
+use Rattle.std.proofs.Common.{◌≡◌, ◌≤◌, ◌+◌, ◌++◌, vec_capacity, vec_len, count_by, map, filter, take, drop}
+use Rattle.gb_layer.specs.Room.{free_ups}
 use Rattle.gb_layer.specs.Relay.{due_to_deliver, handed, up_of, is_ungiven}
 use Rattle.gb_layer.proofs.relay.deliver_all.Given as goal
 

@@ -1,4 +1,4 @@
-use Rattle.std.proofs.Common.{◌∙◌, sym, ◌<◌, length, vec_len, arith}
+use Rattle.std.proofs.Common.{◌∙◌, sym, ◌<◌, length, arith}
 use Rattle.gb_layer.specs.RelayState.{state_of}
 use Rattle.gb_layer.proofs.Counted.{due_fewer, not_due}
 use Rattle.gb_layer.proofs.relay.Relay.due.Goals as goal

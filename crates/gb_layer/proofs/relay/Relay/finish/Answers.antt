@@ -1,4 +1,4 @@
-use Rattle.std.proofs.Common.{arith, ◌≡◌, ◌+◌, ◌-◌, count_by, ap, ◌∙◌, sym, ℕ, vec_capacity, vec_len}
+use Rattle.std.proofs.Common.{arith, ◌≡◌, ◌+◌, ◌-◌, count_by, ap, ◌∙◌, vec_capacity, vec_len}
 use Rattle.gb_layer.specs.Room.{free_sends}
 use Rattle.gb_layer.specs.Relay.{is_unsent, due_to_deliver}
 use Rattle.gb_layer.specs.RelayState.{unsent}

@@ -1,5 +1,5 @@
-use Rattle.std.proofs.Common.{◌≡◌, ◌≤◌, ◌+◌, ◌-◌, ◌++◌, ℕ, vec_capacity, vec_len}
-use Rattle.gb_layer.specs.Room.{free_sends, free_ups}
+use Rattle.std.proofs.Common.{◌≡◌, ◌+◌, ◌-◌, ◌++◌, ℕ, vec_capacity, vec_len}
+use Rattle.gb_layer.specs.Room.{free_sends}
 use Rattle.gb_layer.specs.Relay.{relay_from, relay_from_sends}
 use Rattle.gb_layer.specs.RelayState.{state_of, unsent, ungiven}
 use Rattle.gb_layer.proofs.relay.Relay.relay_all.Given as goal

@@ -1,7 +1,7 @@
-use Rattle.std.proofs.Common.{arith, ◌≡◌, ◌≤◌, ◌+◌, ℕ, vec_capacity, count_by, map, ap, ◌∙◌}
-use Rattle.gb_layer.specs.Room.{free_sends, free_ups}
+use Rattle.std.proofs.Common.{arith, ◌≡◌, ◌+◌, vec_capacity, count_by, map, ap, ◌∙◌}
+use Rattle.gb_layer.specs.Room.{free_sends}
 use Rattle.gb_layer.specs.Relay.{is_unsent, is_ungiven, marked_sent}
-use Rattle.gb_layer.specs.RelayState.{unsent, ungiven}
+use Rattle.gb_layer.specs.RelayState.{unsent}
 use Rattle.gb_layer.proofs.Counted.{all_marked_ungiven}
 use Rattle.gb_layer.proofs.relay.Relay.relay_at.Goals as goal
 
