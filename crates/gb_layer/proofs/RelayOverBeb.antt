@@ -13,7 +13,7 @@ use Rattle.gb_layer.specs.declared.effects.Up.{Up}
 use Rattle.gb_layer.specs.declared.call.Call.{Call}
 use Rattle.gb_layer.specs.declared.call.Call.TheVariants.{Say, Came, Notice}
 use Rattle.gb_layer.specs.declared.entries.Entry.{Entry}
-use Rattle.gb_layer.specs.Bools.{or_left, or_right, or_second}
+use Rattle.gb_layer.specs.Bools.{and_more, or_left, or_right, or_second}
 use Rattle.gb_layer.specs.Lists.{same_filter, filter-never}
 use Rattle.gb_layer.specs.FirstMentions.{picked, same_swap}
 use Rattle.gb_layer.specs.Machine.{Gives, nothing, after, all_ups, mentions, messages}
@@ -25,10 +25,6 @@ use Rattle.gb_layer.specs.EntryLaws.{keys, has_mentioned, sent_has}
 use Rattle.gb_layer.proofs.BestEffort.{only, at_new, not_mentioned}
 use Rattle.gb_layer.proofs.NodeSets.{again, added, kept, twice}
 use Rattle.gb_layer.proofs.RelayPass.{fixed, relayed_all, relayed_all_sends, firsts_distinct}
-
-and_more : (a b c d : Bool) → (a ≡ true → c ≡ true) → (b ≡ true → d ≡ true) → (a && b) ≡ true → (c && d) ≡ true
-and_more true b c d f g h = let e : c ≡ true = f refl in let k : d ≡ true = g h in cc
-and_more false b c d f g h = cc
 
 and_swap : (a b : Bool) → (not a && b) ≡ (b && not a)
 and_swap true true = refl

@@ -2,7 +2,6 @@
 use Rattle.std.proofs.Common.{◌≡◌, ℕ, ◌+◌, ◌≤◌, Bool, true, false, cond, ◌&&◌, ◌||◌, List, [], ◌∷◌, ◌++◌, length, map, filter, slice_get, count_by, refl, ap, ◌∙◌, sym, arith, subst, zero, suc}
 use Rattle.std.specs.declared.option.Option.TheVariants.{Some}
 use Rattle.std.specs.List.{list_any}
-use Rattle.std.specs.FinSet as set
 use Rattle.std.proofs.Math.Bool.{and-true, and-false, or-true}
 use Rattle.std.proofs.lemmas.List.{map-append}
 use Rattle.std.proofs.lemmas.List.Sums.{length-filter}
@@ -17,7 +16,7 @@ use Rattle.gb_layer.specs.Modules.{first_mentions}
 use Rattle.gb_layer.specs.FirstMentions.{first_mentions-once}
 use Rattle.gb_layer.specs.Counts.{count_by-cons, count_by-append, count_by-map}
 use Rattle.gb_layer.specs.declared.entries.Entry.{Entry}
-use Rattle.gb_layer.specs.Relay.{is_for, new_entry, noted, held, taken_in, marked_sent, is_sent, up_of, handed}
+use Rattle.gb_layer.specs.Relay.{is_for, new_entry, noted, held_entry, sent_entry, given_entry, held, taken_in, marked_sent, is_sent, up_of, handed}
 
 abbrev pub keys : List Entry → List MsgId
 keys = map (λ e. e.m)
@@ -31,23 +30,14 @@ any_map : (p : Entry → Bool) (f : Entry → Entry) → ((e : Entry) → p (f e
 any_map p f k [] = refl
 any_map p f k (e ∷ es) = ap (λ b. b || list_any p (map f es)) (k e) ∙ ap (λ b. p e || b) (any_map p f k es)
 
-abbrev held_entry : NodeId → NodeId → Entry → Entry
-held_entry me via e = record { m = e.m; holders = set.insert (set.insert e.holders me.number) via.number; sent = e.sent; given = e.given }
-
-abbrev sent_entry : Entry → Entry
-sent_entry e = record { m = e.m; holders = e.holders; sent = true; given = e.given }
-
-abbrev given_entry : Entry → Entry
-given_entry e = record { m = e.m; holders = e.holders; sent = e.sent; given = true }
-
 -- what a change in place leaves as it was
-held_same : {A : Type 0} (p : Entry → A) (me via : NodeId) (x : MsgId) → ((e : Entry) → p (held_entry me via e) ≡ p e) → (e : Entry) → p (held me via x e) ≡ p e
+pub held_same : {A : Type 0} (p : Entry → A) (me via : NodeId) (x : MsgId) → ((e : Entry) → p (held_entry me via e) ≡ p e) → (e : Entry) → p (held me via x e) ≡ p e
 held_same p me via x k e = elim (is_for x e) as (λ b. p (cond b (held_entry me via e) e) ≡ p e) [ true ↦ k e | false ↦ refl ]
 
-marked_same : {A : Type 0} (p : Entry → A) (x : MsgId) → ((e : Entry) → p (sent_entry e) ≡ p e) → (e : Entry) → p (marked_sent x e) ≡ p e
+pub marked_same : {A : Type 0} (p : Entry → A) (x : MsgId) → ((e : Entry) → p (sent_entry e) ≡ p e) → (e : Entry) → p (marked_sent x e) ≡ p e
 marked_same p x k e = elim (is_for x e) as (λ b. p (cond b (sent_entry e) e) ≡ p e) [ true ↦ k e | false ↦ refl ]
 
-handed_same : {A : Type 0} (p : Entry → A) (due : Entry → Bool) → ((e : Entry) → p (given_entry e) ≡ p e) → (e : Entry) → p (handed due e) ≡ p e
+pub handed_same : {A : Type 0} (p : Entry → A) (due : Entry → Bool) → ((e : Entry) → p (given_entry e) ≡ p e) → (e : Entry) → p (handed due e) ≡ p e
 handed_same p due k e = elim (due e) as (λ b. p (cond b (given_entry e) e) ≡ p e) [ true ↦ k e | false ↦ refl ]
 
 -- keys
@@ -174,9 +164,13 @@ unsent_at (x ∷ es) (suc i) e is s h =
 abbrev pub given_for : MsgId → Entry → Bool
 given_for m e = is_for m e && e.given
 
+-- what the holders do not count for
+pub count_taken_in : (p : Entry → Bool) (me : NodeId) → ((via : NodeId) (e : Entry) → p (held_entry me via e) ≡ p e) → (us : List Up) (es : List Entry) → count_by p (taken_in me us es) ≡ count_by p es
+count_taken_in p me k [] es = refl
+count_taken_in p me k (u ∷ us) es = count_taken_in p me k us (map (held me u.via u.m) es) ∙ count_by-map p (held me u.via u.m) (held_same p me u.via u.m (k u.via)) es
+
 pub given_taken_in : (me : NodeId) (us : List Up) (es : List Entry) (m : MsgId) → count_by (given_for m) (taken_in me us es) ≡ count_by (given_for m) es
-given_taken_in me [] es m = refl
-given_taken_in me (u ∷ us) es m = given_taken_in me us (map (held me u.via u.m) es) m ∙ count_by-map (given_for m) (held me u.via u.m) (held_same (given_for m) me u.via u.m (λ e. refl)) es
+given_taken_in me us es m = count_taken_in (given_for m) me (λ via e. refl) us es
 
 pub given_marked : (x : MsgId) (es : List Entry) (m : MsgId) → count_by (given_for m) (map (marked_sent x) es) ≡ count_by (given_for m) es
 given_marked x es m = count_by-map (given_for m) (marked_sent x) (marked_same (given_for m) x (λ e. refl)) es

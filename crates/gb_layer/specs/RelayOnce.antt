@@ -1,5 +1,5 @@
 -- How often a relay sends a message, and hands it up.
-use Rattle.std.proofs.Common.{◌≡◌, ℕ, ◌+◌, ◌≤◌, Bool, true, false, cond, not, ◌&&◌, nat_eq, List, [], ◌∷◌, ◌++◌, length, map, slice_get, count_by, refl, ap, ◌∙◌, sym, arith, subst, zero, suc}
+use Rattle.std.proofs.Common.{◌≡◌, ℕ, ◌+◌, ◌≤◌, Bool, true, false, cond, ◌&&◌, nat_eq, List, [], ◌∷◌, ◌++◌, length, map, slice_get, count_by, refl, ap, ◌∙◌, sym, arith, subst, zero, suc}
 use Rattle.std.specs.declared.option.Option.{Option}
 use Rattle.std.specs.declared.option.Option.TheVariants.{None, Some}
 use Rattle.gb_types.specs.declared.node.NodeId.{NodeId}
@@ -8,6 +8,7 @@ use Rattle.gb_types.specs.Message.{same}
 use Rattle.gb_layer.specs.declared.effects.Up.{Up}
 use Rattle.gb_layer.specs.declared.call.Call.{Call}
 use Rattle.gb_layer.specs.declared.call.Call.TheVariants.{Say, Came, Notice}
+use Rattle.gb_layer.specs.Bools.{first_not}
 use Rattle.gb_layer.specs.Counts.{count_by-cons, count_by-append}
 use Rattle.gb_layer.specs.Machine.{Gives, nothing, after, all_ups, mentions, count_sends, is_up, is_of}
 use Rattle.gb_layer.specs.Laws.{SendsWhatWasHandedIn, HandsUpWhatWasHandedIn, HandsUpOnce, SendsOnce}
@@ -31,10 +32,6 @@ zero_most b = omega arith
 
 up_less : (via : ℕ) (m : MsgId) (u : Up) → cond {A = ℕ} (is_up via m u) 1 0 ≤ cond (is_of m u) 1 0
 up_less via m u = elim (nat_eq u.via.number via) as (λ b. cond {A = ℕ} (b && same u.m m) 1 0 ≤ cond (same u.m m) 1 0) [ true ↦ omega arith | false ↦ zero_most (same u.m m) ]
-
-new_of : (g b : Bool) → (not g && b) ≡ true → g ≡ false
-new_of true b h = cc
-new_of false b h = refl
 
 cond_most : (b : Bool) (n : ℕ) → n ≤ cond b 1 0 → n ≤ 1
 cond_most true n h = h
@@ -78,7 +75,7 @@ module _ {S : Type 0} (next : S → Call → S) (gives : S → Call → Gives) (
         | false ↦
             let b = begun next gives me r c in
             let t = relayed next gives me rules b in
-            let h = given_handed (wants_delivery me rules t) (λ e w. new_of e.given _ w) t.entries m in
+            let h = given_handed (wants_delivery me rules t) (λ e w. first_not e.given _ w) t.entries m in
             let k : count_by (given_for m) t.entries ≡ count_by (given_for m) r.entries = from_count (length b.entries) 0 b m ∙ begun_count r c m in
             ap (λ n. n + count_by (is_of m) (given_ups me rules t)) (sym k) ∙ h
       ]

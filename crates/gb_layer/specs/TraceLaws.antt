@@ -1,5 +1,5 @@
 -- A run of a relay, told by the run of the layer below.
-use Rattle.std.proofs.Common.{◌≡◌, ◌≢◌, ℕ, ◌+◌, Bool, true, false, cond, not, ◌&&◌, ◌||◌, nat_eq, List, [], ◌∷◌, ◌++◌, length, map, filter, slice_get, refl, ap, ◌∙◌, sym, arith, subst, zero, suc, append_assoc}
+use Rattle.std.proofs.Common.{◌≡◌, ◌≢◌, ℕ, ◌+◌, Bool, true, false, cond, ◌&&◌, ◌||◌, nat_eq, List, [], ◌∷◌, ◌++◌, length, map, filter, slice_get, refl, ap, ◌∙◌, sym, arith, subst, zero, suc, append_assoc}
 use Rattle.std.specs.declared.option.Option.{Option}
 use Rattle.std.specs.declared.option.Option.TheVariants.{None, Some}
 use Rattle.std.proofs.lemmas.Bool.Decides.{nat_tests}
@@ -13,7 +13,7 @@ use Rattle.gb_layer.specs.declared.call.Call.TheVariants.{Say, Came, Notice}
 use Rattle.gb_layer.specs.Machine.{Gives, nothing, after, all_sends, mentions, was_said, came_from, IsFair}
 use Rattle.gb_layer.specs.Modules.{first_mentions}
 use Rattle.gb_layer.specs.FirstMentions.{first_mentions-once}
-use Rattle.gb_layer.specs.Bools.{or_second}
+use Rattle.gb_layer.specs.Bools.{or_second, or_more, first_not}
 use Rattle.gb_layer.specs.declared.entries.Entry.{Entry}
 use Rattle.gb_layer.specs.Rule.{Rules}
 use Rattle.gb_layer.specs.Relay.{State, noted, marked_sent, is_sent, noting, is_repeat, relay, relay_sends, begun, begun_sends, wants_relay, wants_delivery, due_message, relay_any, relay_any_sends, relay_from, relay_from_sends, given, given_ups, relayed, relayed_sends, relay_next, relay_gives}
@@ -27,14 +27,6 @@ and_left a b h = ap (λ v. v && b) h
 
 not_equal : (a b : ℕ) → b ≢ a → nat_eq a b ≡ false
 not_equal a b h = grind (arith, nat_tests)
-
-or_more : (a b c : Bool) → (b ≡ true → c ≡ true) → (a || b) ≡ true → (a || c) ≡ true
-or_more true b c f h = refl
-or_more false b c f h = f h
-
-unsent_of : (sent b : Bool) → (not sent && b) ≡ true → sent ≡ false
-unsent_of true b h = cc
-unsent_of false b h = refl
 
 -- after the history past of a relay that began over s0, its state is r and xs was sent
 pub record Trace {S : Type 0} (next : S → Call → S) (gives : S → Call → Gives) (node : ℕ) (s0 : S) (past : List Call) (r : State S) (xs : List MsgId) : Type 0 where
@@ -88,7 +80,7 @@ module _ {S : Type 0} (next : S → Call → S) (gives : S → Call → Gives) (
   due_of r None m d = cc
   due_of r (Some e) m d =
       elim (wants_relay me rules r e) as (λ b. wants_relay me rules r e ≡ b → cond b (Some e.m) None ≡ Some m → (e' : Entry) × (Some e ≡ Some e') × (e'.m ≡ m) × (e'.sent ≡ false)) [
-        | true ↦ λ w k. (e, refl, cc, unsent_of e.sent _ w)
+        | true ↦ λ w k. (e, refl, cc, first_not e.sent _ w)
         | false ↦ λ w k. cc
       ] refl d
 
@@ -166,7 +158,7 @@ module _ {S : Type 0} (next : S → Call → S) (gives : S → Call → Gives) (
         entries = keys_taken_in k us es ∙ keys_noted past r.entries m t.entries;
         said = λ x. t.said x ∙ sym (sent_taken_in k us es x ∙ sent_noted r.entries m x);
         pairs = λ q x ne. ap (λ b. (nat_eq p.number q && same m x) || b) (t.pairs q x ne);
-        known = λ x h. or_more (same m x) _ _ (t.known x) h;
+        known = λ x h. or_more (same m x) _ (same m x) _ (λ e. e) (t.known x) h;
         fair = λ f. ((f.0.0, t.pairs p.number m f.0.0 ∙ f.0.1), t.fair f.1);
       }
   trace_begun past r xs (Notice q) t =

@@ -1,19 +1,16 @@
 -- The laws of the rule of lazy reliable broadcast, and that it has the module's tests.
-use Rattle.std.proofs.Common.{◌≡◌, Bool, true, false, ◌||◌, ◌&&◌, nat_eq, refl, ap}
+use Rattle.std.proofs.Common.{◌||◌, ◌&&◌, nat_eq, refl, ap}
 use Rattle.std.specs.FinSet as set
 use Rattle.std.proofs.lemmas.Bool.{eq-eqb}
 use Rattle.gb_layer.specs.declared.base.Base.TheVariants.{Lazy}
+use Rattle.gb_layer.specs.Bools.{or_more}
 use Rattle.gb_layer.specs.Machine.{mentions}
 use Rattle.gb_layer.specs.Rule.{BroadcastsMore, DeliversMore, BroadcastsItsOwn, BroadcastsAs, DeliversAs}
 use Rattle.gb_layer.specs.RuleLaws.{noticed_is}
 use Rattle.gb_reliable.specs.Rules.{lazy_rules}
 
-or_stays : (a b c : Bool) → (b ≡ true → c ≡ true) → (a || b) ≡ true → (a || c) ≡ true
-or_stays true b c f h = refl
-or_stays false b c f h = f h
-
 pub lazy_more : BroadcastsMore lazy_rules
-lazy_more me noticed more m f h = or_stays (nat_eq m.origin.number me) _ _ (f m.origin.number) h
+lazy_more me noticed more m f h = or_more (nat_eq m.origin.number me) _ (nat_eq m.origin.number me) _ (λ e. e) (f m.origin.number) h
 
 pub lazy_delivers_more : DeliversMore lazy_rules
 lazy_delivers_more members noticed more_noticed holders more_holders f g h = h

@@ -1,9 +1,9 @@
-use crate::eager::Eagerly;
-use crate::lazy::Lazily;
+use crate::eager::{Eager, Eagerly};
+use crate::lazy::{Lazily, Lazy};
 use gb_layer::base::Base;
 use gb_layer::beb::Beb;
 use gb_layer::call::Call;
-use gb_layer::effects::Effects;
+use gb_layer::effects::{Effects, Up};
 use gb_layer::layer::{Broadcast, Layer};
 use gb_layer::plain;
 use gb_layer::relay::Relay;
@@ -33,6 +33,15 @@ const SECOND: MsgId = MsgId {
     origin: ORIGIN,
     seq: 2,
 };
+
+/// The members, as a set.
+fn members() -> NodeSet {
+    let mut members = NodeSet::new();
+    members.insert(ORIGIN);
+    members.insert(ME);
+    members.insert(OTHER);
+    members
+}
 
 /// Every call that tells a node of an own message, of two messages of another node, and of the other nodes.
 const CALLS: [Call; 9] = [
@@ -114,11 +123,7 @@ fn compare_all<R: Rule + Copy + Drop>(
     let mut whole: usize = 0;
     for n in 0..729 {
         let calls = [CALLS[n / 81], CALLS[n / 9 % 9], CALLS[n % 9]];
-        let mut members = NodeSet::new();
-        members.insert(ORIGIN);
-        members.insert(ME);
-        members.insert(OTHER);
-        let layer = Relay::new(alloc, Beb::new(ME), rule, members);
+        let layer = Relay::new(alloc, Beb::new(ME), rule, members());
         if compare(rt, alloc, layer, base, &calls)? {
             whole += 1;
         }
@@ -135,4 +140,55 @@ fn lazy_is_the_plain_lazy(rt: HostRuntime) -> Result<(), Fail> {
 #[test]
 fn eager_is_the_plain_eager(rt: HostRuntime) -> Result<(), Fail> {
     compare_all(&rt, rt.alloc(), Eagerly, Base::Eager)
+}
+
+/// Nothing is relayed before the origin is noticed; at the notice what came before is, and what comes later at
+/// once.
+#[test]
+fn lazy_relays_from_the_notice_on(rt: HostRuntime) -> Result<(), Fail> {
+    let mut out = Effects::new(rt.alloc());
+    let mut layer: Lazy<Beb> = Relay::new(rt.alloc(), Beb::new(ME), Lazily, members());
+    assert_eq!(rt; layer.me(), ME);
+    layer.ready(1, &mut out)?;
+    layer.came(ORIGIN, FIRST, &mut out);
+    assert_eq!(rt; out.sends.len(), 0);
+    layer.ready(1, &mut out)?;
+    layer.notice(ORIGIN, &mut out);
+    assert_eq!(rt; out.sends.as_slice(), [FIRST].as_slice());
+    layer.ready(1, &mut out)?;
+    layer.notice(ORIGIN, &mut out);
+    layer.ready(1, &mut out)?;
+    layer.came(OTHER, SECOND, &mut out);
+    assert_eq!(rt; out.sends.as_slice(), [FIRST, SECOND].as_slice());
+    assert_eq!(rt; out.ups.len(), 2);
+    Ok(())
+}
+
+/// A message is relayed and handed up when it first comes, and an own message is not sent again when it is
+/// relayed back.
+#[test]
+fn eager_relays_each_message_once(rt: HostRuntime) -> Result<(), Fail> {
+    let mut out = Effects::new(rt.alloc());
+    let mut layer: Eager<Beb> = Relay::new(rt.alloc(), Beb::new(ME), Eagerly, members());
+    layer.ready(1, &mut out)?;
+    layer.say(OWN, &mut out);
+    layer.ready(1, &mut out)?;
+    layer.came(OTHER, OWN, &mut out);
+    layer.ready(1, &mut out)?;
+    layer.came(OTHER, FIRST, &mut out);
+    layer.ready(1, &mut out)?;
+    layer.came(ORIGIN, FIRST, &mut out);
+    assert_eq!(rt; out.sends.as_slice(), [OWN, FIRST].as_slice());
+    assert_eq!(rt;
+        out.ups.as_slice(),
+        [
+            Up { via: ME, m: OWN },
+            Up {
+                via: ORIGIN,
+                m: FIRST
+            }
+        ]
+        .as_slice()
+    );
+    Ok(())
 }

@@ -1,26 +1,18 @@
 -- The laws of the rule of all-ack uniform reliable broadcast, and that it has the module's tests.
-use Rattle.std.proofs.Common.{◌≡◌, ℕ, Bool, true, false, ◌||◌, ◌&&◌, List, [], ◌∷◌, refl, ap}
+use Rattle.std.proofs.Common.{◌≡◌, ℕ, Bool, true, ◌||◌, ◌&&◌, List, [], ◌∷◌, refl, ap}
 use Rattle.std.specs.List.{list_all}
 use Rattle.std.specs.FinSet as set
 use Rattle.gb_layer.specs.declared.base.Base.TheVariants.{AllAck}
+use Rattle.gb_layer.specs.Bools.{or_more, and_more}
 use Rattle.gb_layer.specs.Machine.{mentions, was_noticed}
 use Rattle.gb_layer.specs.Modules.{holds}
 use Rattle.gb_layer.specs.Rule.{BroadcastsMore, DeliversMore, BroadcastsItsOwn, BroadcastsAs, DeliversAs, noticed_in, holders_in}
 use Rattle.gb_layer.specs.RuleLaws.{noticed_is, holders_is}
 use Rattle.gb_uniform.specs.Rules.{all_ack_rules}
 
-or_both : (a b c d : Bool) → (a ≡ true → c ≡ true) → (b ≡ true → d ≡ true) → (a || b) ≡ true → (c || d) ≡ true
-or_both true b c d f g h = let e : c ≡ true = f refl in ap (λ v. v || d) e
-or_both false b true d f g h = refl
-or_both false b false d f g h = g h
-
-and_both : (a b c d : Bool) → (a ≡ true → c ≡ true) → (b ≡ true → d ≡ true) → (a && b) ≡ true → (c && d) ≡ true
-and_both true b c d f g h = let e : c ≡ true = f refl in let k : d ≡ true = g h in cc
-and_both false b c d f g h = cc
-
 all_stays : (p q : ℕ → Bool) → ((x : ℕ) → p x ≡ true → q x ≡ true) → (xs : List ℕ) → list_all p xs ≡ true → list_all q xs ≡ true
 all_stays p q f [] h = refl
-all_stays p q f (x ∷ xs) h = and_both (p x) _ (q x) _ (f x) (all_stays p q f xs) h
+all_stays p q f (x ∷ xs) h = and_more (p x) _ (q x) _ (f x) (all_stays p q f xs) h
 
 all_alike : (p q : ℕ → Bool) → ((x : ℕ) → p x ≡ q x) → (xs : List ℕ) → list_all p xs ≡ list_all q xs
 all_alike p q k [] = refl
@@ -32,7 +24,7 @@ all_ack_more me noticed more m f h = h
 pub all_ack_delivers_more : DeliversMore all_ack_rules
 all_ack_delivers_more members noticed more_noticed holders more_holders f g h =
     all_stays (λ p. set.contains noticed p || set.contains holders p) (λ p. set.contains more_noticed p || set.contains more_holders p)
-    (λ x. or_both _ _ _ _ (f x) (g x)) (set.items members) h
+    (λ x. or_more _ _ _ _ (f x) (g x)) (set.items members) h
 
 pub all_ack_own : BroadcastsItsOwn all_ack_rules
 all_ack_own me noticed m h = refl

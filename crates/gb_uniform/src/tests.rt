@@ -1,8 +1,8 @@
-use crate::all_ack::AllAcked;
+use crate::all_ack::{AllAck, AllAcked};
 use gb_layer::base::Base;
 use gb_layer::beb::Beb;
 use gb_layer::call::Call;
-use gb_layer::effects::Effects;
+use gb_layer::effects::{Effects, Up};
 use gb_layer::layer::{Broadcast, Layer};
 use gb_layer::plain;
 use gb_layer::relay::Relay;
@@ -32,6 +32,15 @@ const SECOND: MsgId = MsgId {
     origin: ORIGIN,
     seq: 2,
 };
+
+/// The members, as a set.
+fn members() -> NodeSet {
+    let mut members = NodeSet::new();
+    members.insert(ORIGIN);
+    members.insert(ME);
+    members.insert(OTHER);
+    members
+}
 
 /// Every call that tells a node of an own message, of two messages of another node, and of the other nodes.
 const CALLS: [Call; 9] = [
@@ -113,11 +122,7 @@ fn compare_all<R: Rule + Copy + Drop>(
     let mut whole: usize = 0;
     for n in 0..729 {
         let calls = [CALLS[n / 81], CALLS[n / 9 % 9], CALLS[n % 9]];
-        let mut members = NodeSet::new();
-        members.insert(ORIGIN);
-        members.insert(ME);
-        members.insert(OTHER);
-        let layer = Relay::new(alloc, Beb::new(ME), rule, members);
+        let layer = Relay::new(alloc, Beb::new(ME), rule, members());
         if compare(rt, alloc, layer, base, &calls)? {
             whole += 1;
         }
@@ -129,4 +134,41 @@ fn compare_all<R: Rule + Copy + Drop>(
 #[test]
 fn all_ack_is_the_plain_all_ack(rt: HostRuntime) -> Result<(), Fail> {
     compare_all(&rt, rt.alloc(), AllAcked, Base::AllAck)
+}
+
+/// A message is relayed when it first comes, and handed up once the last member that was not noticed holds it.
+/// One notice sets two messages free, in the order of first mention.
+#[test]
+fn all_ack_waits_for_each_member(rt: HostRuntime) -> Result<(), Fail> {
+    let mut out = Effects::new(rt.alloc());
+    let mut layer: AllAck<Beb> = Relay::new(rt.alloc(), Beb::new(ME), AllAcked, members());
+    layer.ready(1, &mut out)?;
+    layer.came(ORIGIN, SECOND, &mut out);
+    layer.ready(1, &mut out)?;
+    layer.came(ORIGIN, FIRST, &mut out);
+    layer.ready(1, &mut out)?;
+    layer.say(OWN, &mut out);
+    assert_eq!(rt; out.sends.as_slice(), [SECOND, FIRST, OWN].as_slice());
+    assert_eq!(rt; out.ups.len(), 0);
+    layer.ready(1, &mut out)?;
+    layer.notice(OTHER, &mut out);
+    assert_eq!(rt;
+        out.ups.as_slice(),
+        [
+            Up {
+                via: ORIGIN,
+                m: SECOND
+            },
+            Up {
+                via: ORIGIN,
+                m: FIRST
+            }
+        ]
+        .as_slice()
+    );
+    layer.ready(1, &mut out)?;
+    layer.came(ORIGIN, OWN, &mut out);
+    assert_eq!(rt; out.sends.len(), 3);
+    assert_eq!(rt; out.ups.len(), 3);
+    Ok(())
 }
