@@ -4,7 +4,8 @@ use Rattle.std.specs.List.{prefix_len, range_with_len}
 use Rattle.std.proofs.Math.Seq.{drop-append_seam}
 use Rattle.std.proofs.lemmas.Bool.Decides.{nat_tests}
 use Rattle.std.proofs.lemmas.List.{append-nil, drop_all, drop-append-le, map-append, take_more}
-use Rattle.std.proofs.lemmas.List.FromFn.{length-range_with_len}
+use Rattle.std.proofs.lemmas.List.FromFn.{length-range_with_len, get_or-range_with_len}
+use Rattle.std.proofs.lemmas.List.Sums.{prefix_len-le-length, prefix_len_passes, prefix_len_stops}
 use Rattle.gb_types.specs.declared.node.NodeId.{NodeId}
 use Rattle.gb_types.specs.declared.message.MsgId.{MsgId}
 use Rattle.gb_types.specs.Message.{same}
@@ -66,21 +67,44 @@ module _ (origin : NodeId) (delivered : List MsgId) where
       let e : 0 + prefix_len p (range_with_len 1 (greatest delivered)) ≡ k = prefix_is p k (greatest delivered) 0 (omega arith) (omega (arith, a)) f g in
       omega (arith, e)
 
+  -- each up to the top stands there
+  pub stands : (seq : ℕ) → 1 ≤ seq → seq ≤ top origin delivered → is_in delivered (numbered origin seq) ≡ true
+  stands seq some below =
+      let p = λ (n : ℕ). is_in delivered (numbered origin n) in
+      let last = greatest delivered in
+      let j = seq - 1 in
+      let l = prefix_len-le-length p (upto last) in
+      let e = length_upto last in
+      let lt : j < prefix_len p (upto last) = omega (arith, some, below) in
+      let at : get_or (range_with_len 1 last) j 0 ≡ seq = get_or-range_with_len 1 last j 0 (omega (arith, l, e, lt)) ∙ omega (arith, some) in
+      ap p (sym at) ∙ prefix_len_passes p (upto last) j 0 lt
+
+  -- the one after it does not
+  pub ends : is_in delivered (numbered origin (top origin delivered + 1)) ≡ false
+  ends =
+      let p = λ (n : ℕ). is_in delivered (numbered origin n) in
+      let last = greatest delivered in
+      let k = top origin delivered in
+      let e = length_upto last in
+      elim (nat_lt k last) as (λ v. nat_lt k last ≡ v → p (k + 1) ≡ false) [
+        | true ↦ λ h.
+            let lt : k < last = grind (arith, nat_tests, h) in
+            let at : get_or (range_with_len 1 last) k 0 ≡ k + 1 = get_or-range_with_len 1 last k 0 lt ∙ omega arith in
+            ap p (sym at) ∙ prefix_len_stops p (upto last) 0 (omega (arith, e, lt))
+        | false ↦ λ h.
+            let le : last ≤ k = grind (arith, nat_tests, h) in
+            elim (p (k + 1)) as (λ v. p (k + 1) ≡ v → v ≡ false) [
+              | true ↦ λ w. let a : k + 1 ≤ last = in_greatest delivered (numbered origin (k + 1)) w in absurd (omega (arith, a, le))
+              | false ↦ λ _. refl
+            ] refl
+      ] refl
+
 -- one more number that stands there
 pub counted_more : (p : ℕ → Bool) (k last n : ℕ) → k < last → p (k + 1) ≡ true → k + prefix_len p (range_with_len (k + 1) (last - k)) ≡ n → (k + 1) + prefix_len p (range_with_len ((k + 1) + 1) (last - (k + 1))) ≡ n
 counted_more p k last n lt h is =
     let rest = prefix_len p (range_with_len ((k + 1) + 1) (last - (k + 1))) in
     let e : last - k ≡ suc (last - (k + 1)) = omega arith in
     let f : prefix_len p (range_with_len (k + 1) (last - k)) ≡ 1 + rest =
-    ap (λ j. prefix_len p (range_with_len (k + 1) j)) e ∙ ap (λ v. cond {A = ℕ} v (1 + rest) 0) h in
-    omega (arith, f, is)
-
--- and the first that does not
-pub counted_all : (p : ℕ → Bool) (k last n : ℕ) → k < last → p (k + 1) ≡ false → k + prefix_len p (range_with_len (k + 1) (last - k)) ≡ n → k ≡ n
-counted_all p k last n lt h is =
-    let rest = prefix_len p (range_with_len ((k + 1) + 1) (last - (k + 1))) in
-    let e : last - k ≡ suc (last - (k + 1)) = omega arith in
-    let f : prefix_len p (range_with_len (k + 1) (last - k)) ≡ 0 =
     ap (λ j. prefix_len p (range_with_len (k + 1) j)) e ∙ ap (λ v. cond {A = ℕ} v (1 + rest) 0) h in
     omega (arith, f, is)
 

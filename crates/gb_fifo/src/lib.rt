@@ -7,6 +7,7 @@
 #![tactic(auto)]
 
 mod entry;
+pub mod examples;
 pub mod fifo;
 mod ledger;
 pub mod order;

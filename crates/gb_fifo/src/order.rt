@@ -1,13 +1,20 @@
 //! The order of what a fifo gives up, over every layer below: laws, with no code.
-ghost use Rattle.std.specs.Prelude.{◌≡◌, List, ◌∷◌, ◌++◌};
+ghost use Rattle.std.specs.Prelude.{◌≡◌, ℕ, ◌+◌, ◌≤◌, true, false, List, ◌∷◌, ◌++◌};
+ghost use Rattle.gb_types.specs.declared.node.NodeId.{NodeId};
 ghost use Rattle.gb_types.specs.declared.message.MsgId.{MsgId};
 ghost use Rattle.gb_layer.specs.declared.call.Call.{Call};
 ghost use Rattle.gb_layer.specs.Machine.{after, all_ups, messages};
 ghost use Rattle.gb_fifo.specs.FifoMachine.{FifoState};
-ghost use Rattle.gb_fifo.specs.Order.{RunsFromOne, ordered_after, in_order};
+ghost use Rattle.gb_fifo.specs.Order.{is_in, numbered, top, RunsFromOne, ordered_after, in_order};
 
 use crate::fifo::Fifo;
 use gb_layer::layer::{Broadcast, Layer};
+
+/// The top is what its name says: up to it each message of the origin stands in the list, and the next does not.
+pub fn top_is_the_greatest()
+    ensures stand { (origin : NodeId) (delivered : List MsgId) (seq : ℕ) → 1 ≤ seq → seq ≤ top origin delivered → is_in delivered (numbered origin seq) ≡ true }
+    ensures ends { (origin : NodeId) (delivered : List MsgId) → is_in delivered (numbered origin (top origin delivered + 1)) ≡ false }
+{}
 
 /// Over each history, whatever the layer below brings up, each origin's messages come up as 1, 2, 3, ..
 pub fn one_two_three<L: Broadcast>()
