@@ -18,7 +18,7 @@ use Rattle.gb_layer.specs.Laws.{HandsUpWhatWasHandedIn}
 use Rattle.gb_layer.specs.Counts.{count_by-cons, count_by-append, count_by-map}
 use Rattle.gb_fifo.specs.declared.entry.Entry.{Entry}
 use Rattle.gb_fifo.specs.Entries.{is_for, blank, noted, noted_by, brought, brought_entry, given_entry, up_of, is_ungiven, is_next, next_of, is_given_of, given_of, pick, give, released, released_ups, taken_one, taken_one_ups, taken, taken_ups}
-use Rattle.gb_fifo.specs.EntryLaws.{keys, any_keys, keys_taken_one, keys_noted_by, has_mentioned, brought_same, next_new, all_append}
+use Rattle.gb_fifo.specs.EntryLaws.{keys, any_keys, keys_taken_one, keys_noted_by, has_mentioned, brought_same, next_new, at_most, all_append}
 use Rattle.gb_fifo.specs.FifoMachine.{FifoState, fifo_next, fifo_gives}
 use Rattle.gb_fifo.specs.FifoRoom.{IsNew}
 use Rattle.gb_fifo.specs.FifoLaws.{keys_after, lower_after}
@@ -36,7 +36,7 @@ never : (b : Bool) → (b ≡ true → ⊥) → b ≡ false
 never true f = absurd (f refl)
 never false f = refl
 
--- lists
+-- lists of entries, and tests on them
 any_weaker : (f g : Entry → Bool) → ((e : Entry) → f e ≡ true → g e ≡ true) → (es : List Entry) → list_any f es ≡ true → list_any g es ≡ true
 any_weaker f g k [] h = cc
 any_weaker f g k (e ∷ es) h =
@@ -90,28 +90,27 @@ settles s (suc n) es h =
       | false ↦ λ e. subst (λ (xs : List Entry). list_any (next_of s xs) xs ≡ false) (sym (stays s (suc n) es e)) e
     ] refl
 
-at_most : (b : Bool) → cond {A = ℕ} b 1 0 ≤ 1
-at_most true = omega arith
-at_most false = omega arith
-
 ungiven_most : (es : List Entry) → count_by is_ungiven es ≤ length es
 ungiven_most [] = omega arith
 ungiven_most (e ∷ es) = let a = count_by-cons is_ungiven e es in let b = ungiven_most es in let c = at_most (is_ungiven e) in omega (arith, a, b, c)
 
--- what came up below is marked, and what is marked as handed up is no more than that
-abbrev is_here : MsgId → Entry → Bool
+-- the entry is of m, and came up
+abbrev pub is_here : MsgId → Entry → Bool
 is_here m e = is_for m e && e.here
 
-abbrev Below : (ℕ → ℕ) → List Entry → Type 0
+-- each entry that is marked as handed up has a number up to its origin's count
+abbrev pub Below : (ℕ → ℕ) → List Entry → Type 0
 Below t = AllByRecursion (λ e. e.given ≡ true → e.m.seq ≤ t e.m.origin.number)
 
-record Inv (es : List Entry) (delivered : List MsgId) : Type 0 where
+-- what came up below is marked so; the messages marked as handed up are those of each origin up to its count, which all came up
+pub record IsMarked (es : List Entry) (delivered : List MsgId) : Type 0 where
   pub here : (m : MsgId) → list_any (is_here m) es ≡ is_in delivered m
   pub below : Below (λ q. given_of q es) es
   pub run : (s : NodeId) (j : ℕ) → j < given_of s.number es → is_in delivered (numbered s (j + 1)) ≡ true
 
-record Full (es : List Entry) (delivered : List MsgId) : Type 0 where
-  pub inv : Inv es delivered
+-- and of no origin did the next message come up
+pub record IsSettled (es : List Entry) (delivered : List MsgId) : Type 0 where
+  pub marked : IsMarked es delivered
   pub ends : (s : NodeId) → is_in delivered (numbered s (given_of s.number es + 1)) ≡ false
 
 below_more : (t t' : ℕ → ℕ) → ((q : ℕ) → t q ≤ t' q) → (es : List Entry) → Below t es → Below t' es
@@ -161,41 +160,41 @@ cond_more true n = omega arith
 cond_more false n = omega arith
 
 -- one more is handed up
-inv_give : (s : NodeId) (es : List Entry) (delivered : List MsgId) → Inv es delivered → Inv (give (next_of s.number es) es) delivered
-inv_give s es delivered inv =
+marked_give : (s : NodeId) (es : List Entry) (delivered : List MsgId) → IsMarked es delivered → IsMarked (give (next_of s.number es) es) delivered
+marked_give s es delivered marked =
     let k = given_of s.number es in
     let p = next_of s.number es in
-    elim (list_any p es) as (λ b. list_any p es ≡ b → Inv (give p es) delivered) [
+    elim (list_any p es) as (λ b. list_any p es ≡ b → IsMarked (give p es) delivered) [
       | true ↦ λ any.
           let mono : (q : ℕ) → given_of q es ≤ given_of q (give p es) = λ q. let a = more_given q s.number k es in let b = cond_more (nat_eq s.number q && list_any p es) (given_of q es) in omega (arith, a, b) in
           let rises : k + 1 ≤ given_of s.number (give p es) = let a = more_given s.number s.number k es in
           let b : cond {A = ℕ} (nat_eq s.number s.number && list_any p es) 1 0 ≡ 1 = λ i. cond {A = ℕ} (eq-eqb s.number s.number refl i && any i) 1 0 in omega (arith, a, b) in
           record {
-            here = λ m. any_give (is_here m) (λ e. refl) p es ∙ inv.here m;
-            below = below_give (λ q. given_of q es) (λ q. given_of q (give p es)) s.number k mono rises es inv.below;
+            here = λ m. any_give (is_here m) (λ e. refl) p es ∙ marked.here m;
+            below = below_give (λ q. given_of q es) (λ q. given_of q (give p es)) s.number k mono rises es marked.below;
             run = λ q j lt.
                 let a = more_given q.number s.number k es in
                 elim (nat_eq s.number q.number) as (λ v. nat_eq s.number q.number ≡ v → is_in delivered (numbered q (j + 1)) ≡ true) [
                   | true ↦ λ e.
                       let same_of : s.number ≡ q.number = eqb-true s.number q.number e in
-                      let here : is_in delivered (numbered q (k + 1)) ≡ true = sym (inv.here (numbered q (k + 1))) ∙ any_next_here q k es (subst (λ (n : ℕ). list_any (is_next n k) es ≡ true) same_of any) in
+                      let here : is_in delivered (numbered q (k + 1)) ≡ true = sym (marked.here (numbered q (k + 1))) ∙ any_next_here q k es (subst (λ (n : ℕ). list_any (is_next n k) es ≡ true) same_of any) in
                       let kq : given_of q.number es ≡ k = ap (λ n. given_of n es) (sym same_of) in
                       let b : cond {A = ℕ} (nat_eq s.number q.number && list_any p es) 1 0 ≡ 1 = λ i. cond {A = ℕ} (e i && any i) 1 0 in
                       elim (nat_lt j k) as (λ v. nat_lt j k ≡ v → is_in delivered (numbered q (j + 1)) ≡ true) [
-                        | true ↦ λ f. let jk : j < k = grind (arith, nat_tests, f) in inv.run q j (omega (arith, jk, kq))
+                        | true ↦ λ f. let jk : j < k = grind (arith, nat_tests, f) in marked.run q j (omega (arith, jk, kq))
                         | false ↦ λ f. let jk : k ≤ j = grind (arith, nat_tests, f) in let eq : k ≡ j = omega (arith, jk, a, b, kq, lt) in subst (λ (n : ℕ). is_in delivered (numbered q (n + 1)) ≡ true) eq here
                       ] refl
                   | false ↦ λ e.
                       let b : cond {A = ℕ} (nat_eq s.number q.number && list_any p es) 1 0 ≡ 0 = ap (λ v. cond {A = ℕ} (v && list_any p es) 1 0) e in
-                      inv.run q j (omega (arith, a, b, lt))
+                      marked.run q j (omega (arith, a, b, lt))
                 ] refl;
           }
-      | false ↦ λ none. subst (λ (xs : List Entry). Inv xs delivered) (none_given p es none) inv
+      | false ↦ λ none. subst (λ (xs : List Entry). IsMarked xs delivered) (none_given p es none) marked
     ] refl
 
-inv_released : (s : NodeId) (n : ℕ) (es : List Entry) (delivered : List MsgId) → Inv es delivered → Inv (released s.number n es) delivered
-inv_released s zero es delivered inv = inv
-inv_released s (suc n) es delivered inv = inv_released s n (give (next_of s.number es) es) delivered (inv_give s es delivered inv)
+marked_released : (s : NodeId) (n : ℕ) (es : List Entry) (delivered : List MsgId) → IsMarked es delivered → IsMarked (released s.number n es) delivered
+marked_released s zero es delivered marked = marked
+marked_released s (suc n) es delivered marked = marked_released s n (give (next_of s.number es) es) delivered (marked_give s es delivered marked)
 
 -- one more is here
 brought_all : (x : MsgId) (es : List Entry) → list_any (is_for x) es ≡ true → list_any (is_here x) (map (brought x) es) ≡ true
@@ -220,11 +219,11 @@ here_brought es x m h =
       | false ↦ λ k. any_map (is_here m) (brought x) (brought_other x m k) es
     ] refl
 
-inv_brought : (m : MsgId) (es : List Entry) (delivered : List MsgId) → list_any (is_for m) es ≡ true → Inv es delivered → Inv (map (brought m) es) (delivered ++ m ∷ [])
-inv_brought m es delivered there inv = record {
-  here = λ x. here_brought es m x there ∙ (ap (λ b. same m x || b) (inv.here x) ∙ sym (any_push (λ y. same y x) delivered m));
-  below = below_brought (λ q. given_of q es) (λ q. given_of q (map (brought m) es)) m (λ q. let a = given_brought q m es in omega (arith, a)) es inv.below;
-  run = λ s j lt. any_push (λ y. same y (numbered s (j + 1))) delivered m ∙ (ap (λ b. same m (numbered s (j + 1)) || b) (inv.run s j (let a = given_brought s.number m es in omega (arith, a, lt))) ∙ or-true _);
+marked_brought : (m : MsgId) (es : List Entry) (delivered : List MsgId) → list_any (is_for m) es ≡ true → IsMarked es delivered → IsMarked (map (brought m) es) (delivered ++ m ∷ [])
+marked_brought m es delivered there marked = record {
+  here = λ x. here_brought es m x there ∙ (ap (λ b. same m x || b) (marked.here x) ∙ sym (any_push (λ y. same y x) delivered m));
+  below = below_brought (λ q. given_of q es) (λ q. given_of q (map (brought m) es)) m (λ q. let a = given_brought q m es in omega (arith, a)) es marked.below;
+  run = λ s j lt. any_push (λ y. same y (numbered s (j + 1))) delivered m ∙ (ap (λ b. same m (numbered s (j + 1)) || b) (marked.run s j (let a = given_brought s.number m es in omega (arith, a, lt))) ∙ or-true _);
 }
 
 -- another origin's count stays
@@ -235,27 +234,27 @@ released_other q s (suc n) es h =
     let b : cond {A = ℕ} (nat_eq s q && list_any (next_of s es) es) 1 0 ≡ 0 = ap (λ v. cond {A = ℕ} (v && list_any (next_of s es) es) 1 0) h in
     released_other q s n (give (next_of s es) es) h ∙ omega (arith, a, b)
 
-full_one : (m : MsgId) (es : List Entry) (delivered : List MsgId) → list_any (is_for m) es ≡ true → Full es delivered → Full (taken_one m es) (delivered ++ m ∷ [])
-full_one m es delivered there full =
+settled_one : (m : MsgId) (es : List Entry) (delivered : List MsgId) → list_any (is_for m) es ≡ true → IsSettled es delivered → IsSettled (taken_one m es) (delivered ++ m ∷ [])
+settled_one m es delivered there settled =
     let o = m.origin in
     let es' = taken_one m es in
-    let inv = inv_released o (length es) (map (brought m) es) (delivered ++ m ∷ []) (inv_brought m es delivered there full.inv) in
+    let marked = marked_released o (length es) (map (brought m) es) (delivered ++ m ∷ []) (marked_brought m es delivered there settled.marked) in
     let ended = settles o.number (length es) (map (brought m) es) (let a = count_by-map is_ungiven (brought m) (brought_same is_ungiven m (λ e. refl)) es in let b = ungiven_most es in omega (arith, a, b)) in
     record {
-      inv = inv;
+      marked = marked;
       ends = λ q.
           elim (nat_eq o.number q.number) as (λ v. nat_eq o.number q.number ≡ v → is_in (delivered ++ m ∷ []) (numbered q (given_of q.number es' + 1)) ≡ false) [
             | true ↦ λ e.
                 let k = given_of q.number es' in
                 let none : list_any (is_next q.number k) es' ≡ false = subst (λ (n : ℕ). list_any (next_of n es') es' ≡ false) (eqb-true o.number q.number e) ended in
                 never (is_in (delivered ++ m ∷ []) (numbered q (k + 1)))
-                (λ h. let some : list_any (is_next q.number k) es' ≡ true = any_here_next q k (λ n. given_of n es') refl es' inv.below (inv.here (numbered q (k + 1)) ∙ h) in absurd cc)
+                (λ h. let some : list_any (is_next q.number k) es' ≡ true = any_here_next q k (λ n. given_of n es') refl es' marked.below (marked.here (numbered q (k + 1)) ∙ h) in absurd cc)
             | false ↦ λ e.
                 let same_count : given_of q.number es' ≡ given_of q.number es = released_other q.number o.number (length es) (map (brought m) es) e ∙ given_brought q.number m es in
                 let x = numbered q (given_of q.number es' + 1) in
                 any_push (λ y. same y x) delivered m
                 ∙ (ap (λ b. (b && nat_eq m.seq (given_of q.number es' + 1)) || is_in delivered x) e
-                ∙ (ap (λ n. is_in delivered (numbered q (n + 1))) same_count ∙ full.ends q))
+                ∙ (ap (λ n. is_in delivered (numbered q (n + 1))) same_count ∙ settled.ends q))
           ] refl;
     }
 
@@ -279,37 +278,39 @@ origin_released : (s n : ℕ) (es : List Entry) → AllByRecursion (λ (u : Up).
 origin_released s zero es = tt
 origin_released s (suc n) es = all_append (λ (u : Up). u.m.origin.number ≡ s) (pick (next_of s es) es) _ (origin_pick s (given_of s es) es) (origin_released s n (give (next_of s es) es))
 
-gives_one : (m : MsgId) (es : List Entry) (delivered : List MsgId) → list_any (is_for m) es ≡ true → Full es delivered → messages (taken_one_ups m es) ≡ given_at delivered m
-gives_one m es delivered there full =
+gives_one : (m : MsgId) (es : List Entry) (delivered : List MsgId) → list_any (is_for m) es ≡ true → IsSettled es delivered → messages (taken_one_ups m es) ≡ given_at delivered m
+gives_one m es delivered there settled =
     let o = m.origin in
-    let later = full_one m es delivered there full in
-    let before_top = top_is o delivered (given_of o.number es) (full.inv.run o) (full.ends o) in
-    let after_top = top_is o (delivered ++ m ∷ []) (given_of o.number (taken_one m es)) (later.inv.run o) (later.ends o) in
+    let later = settled_one m es delivered there settled in
+    let before_top = top_is o delivered (given_of o.number es) (settled.marked.run o) (settled.ends o) in
+    let after_top = top_is o (delivered ++ m ∷ []) (given_of o.number (taken_one m es)) (later.marked.run o) (later.ends o) in
     renumbered o (taken_one_ups m es) (origin_released o.number (length es) (map (brought m) es))
     ∙ ap (map (numbered o))
     (drop_upto (given_of o.number es) _ _ (taken_one_numbers o.number m es)
     ∙ (λ i. drop (sym before_top i) (upto (sym after_top i))))
 
--- each is one of the entries
-abbrev There : List Entry → List Up → Type 0
+-- each of these pairs has an entry
+abbrev pub There : List Entry → List Up → Type 0
 There es = AllByRecursion (λ u. list_any (is_for u.m) es ≡ true)
 
 there_keys : (es es' : List Entry) → keys es' ≡ keys es → (us : List Up) → There es us → There es' us
 there_keys es es' k [] a = tt
 there_keys es es' k (u ∷ us) a = (any_keys u.m es' ∙ (ap (list_any (λ y. same y u.m)) k ∙ (sym (any_keys u.m es) ∙ a.0)), there_keys es es' k us a.1)
 
-full_all : (us : List Up) (es : List Entry) (delivered : List MsgId) → There es us → Full es delivered → Full (taken us es) (delivered ++ messages us)
-full_all [] es delivered a full = subst (λ (xs : List MsgId). Full es xs) (sym (append-nil delivered)) full
-full_all (u ∷ us) es delivered a full =
-    subst (λ (xs : List MsgId). Full (taken us (taken_one u.m es)) xs) (append_assoc delivered (u.m ∷ []) (messages us))
-    (full_all us (taken_one u.m es) (delivered ++ u.m ∷ []) (there_keys es (taken_one u.m es) (keys_taken_one u.m es) us a.1) (full_one u.m es delivered a.0 full))
+-- once these pairs were taken the entries have settled again
+pub settled_all : (us : List Up) (es : List Entry) (delivered : List MsgId) → There es us → IsSettled es delivered → IsSettled (taken us es) (delivered ++ messages us)
+settled_all [] es delivered a settled = subst (λ (xs : List MsgId). IsSettled es xs) (sym (append-nil delivered)) settled
+settled_all (u ∷ us) es delivered a settled =
+    subst (λ (xs : List MsgId). IsSettled (taken us (taken_one u.m es)) xs) (append_assoc delivered (u.m ∷ []) (messages us))
+    (settled_all us (taken_one u.m es) (delivered ++ u.m ∷ []) (there_keys es (taken_one u.m es) (keys_taken_one u.m es) us a.1) (settled_one u.m es delivered a.0 settled))
 
-gives_all : (us : List Up) (es : List Entry) (delivered : List MsgId) → There es us → Full es delivered → messages (taken_ups us es) ≡ ordered_after delivered (messages us)
-gives_all [] es delivered a full = refl
-gives_all (u ∷ us) es delivered a full =
+-- what these pairs set free is what the order gives up for them, in view of what was delivered before
+pub gives_all : (us : List Up) (es : List Entry) (delivered : List MsgId) → There es us → IsSettled es delivered → messages (taken_ups us es) ≡ ordered_after delivered (messages us)
+gives_all [] es delivered a settled = refl
+gives_all (u ∷ us) es delivered a settled =
     messages-append (taken_one_ups u.m es) (taken_ups us (taken_one u.m es))
-    ∙ (λ i. gives_one u.m es delivered a.0 full i
-    ++ gives_all us (taken_one u.m es) (delivered ++ u.m ∷ []) (there_keys es (taken_one u.m es) (keys_taken_one u.m es) us a.1) (full_one u.m es delivered a.0 full) i)
+    ∙ (λ i. gives_one u.m es delivered a.0 settled i
+    ++ gives_all us (taken_one u.m es) (delivered ++ u.m ∷ []) (there_keys es (taken_one u.m es) (keys_taken_one u.m es) us a.1) (settled_one u.m es delivered a.0 settled) i)
 
 -- a new entry changes nothing
 below_push : (t t' : ℕ → ℕ) (m : MsgId) → ((q : ℕ) → t q ≤ t' q) → (es : List Entry) → Below t es → Below t' (es ++ blank m ∷ [])
@@ -321,26 +322,26 @@ count_push q es m =
     let a = count_by-append (is_given_of q) es (blank m ∷ []) in
     let b : count_by (is_given_of q) (blank m ∷ []) ≡ 0 = ap (λ v. 0 + cond {A = ℕ} v 1 0) (and-false (nat_eq m.origin.number q)) in omega (arith, a, b)
 
-full_push : (m : MsgId) (es : List Entry) (delivered : List MsgId) → Full es delivered → Full (es ++ blank m ∷ []) delivered
-full_push m es delivered full = record {
-  inv = record {
-    here = λ x. any_push (is_here x) es (blank m) ∙ (ap (λ b. b || list_any (is_here x) es) (and-false (same m x)) ∙ full.inv.here x);
-    below = below_push (λ q. given_of q es) (λ q. given_of q (es ++ blank m ∷ [])) m (λ q. let a = count_push q es m in omega (arith, a)) es full.inv.below;
-    run = λ s j lt. full.inv.run s j (let a = count_push s.number es m in omega (arith, a, lt));
+settled_push : (m : MsgId) (es : List Entry) (delivered : List MsgId) → IsSettled es delivered → IsSettled (es ++ blank m ∷ []) delivered
+settled_push m es delivered settled = record {
+  marked = record {
+    here = λ x. any_push (is_here x) es (blank m) ∙ (ap (λ b. b || list_any (is_here x) es) (and-false (same m x)) ∙ settled.marked.here x);
+    below = below_push (λ q. given_of q es) (λ q. given_of q (es ++ blank m ∷ [])) m (λ q. let a = count_push q es m in omega (arith, a)) es settled.marked.below;
+    run = λ s j lt. settled.marked.run s j (let a = count_push s.number es m in omega (arith, a, lt));
   };
-  ends = λ s. ap (λ n. is_in delivered (numbered s (n + 1))) (count_push s.number es m) ∙ full.ends s;
+  ends = λ s. ap (λ n. is_in delivered (numbered s (n + 1))) (count_push s.number es m) ∙ settled.ends s;
 }
 
-full_noted : (m : MsgId) (es : List Entry) (delivered : List MsgId) → Full es delivered → Full (noted es m) delivered
-full_noted m es delivered full = elim (list_any (is_for m) es) as (λ b. Full (cond b es (es ++ blank m ∷ [])) delivered) [ true ↦ full | false ↦ full_push m es delivered full ]
+settled_noted : (m : MsgId) (es : List Entry) (delivered : List MsgId) → IsSettled es delivered → IsSettled (noted es m) delivered
+settled_noted m es delivered settled = elim (list_any (is_for m) es) as (λ b. IsSettled (cond b es (es ++ blank m ∷ [])) delivered) [ true ↦ settled | false ↦ settled_push m es delivered settled ]
 
-full_noted_by : (c : Call) (es : List Entry) (delivered : List MsgId) → Full es delivered → Full (noted_by c es) delivered
-full_noted_by (Say m) es delivered full = full_noted m es delivered full
-full_noted_by (Came p m) es delivered full = full_noted m es delivered full
-full_noted_by (Notice q) es delivered full = full
+settled_noted_by : (c : Call) (es : List Entry) (delivered : List MsgId) → IsSettled es delivered → IsSettled (noted_by c es) delivered
+settled_noted_by (Say m) es delivered settled = settled_noted m es delivered settled
+settled_noted_by (Came p m) es delivered settled = settled_noted m es delivered settled
+settled_noted_by (Notice q) es delivered settled = settled
 
-full_new : Full [] []
-full_new = record { inv = record { here = λ m. refl; below = tt; run = λ s j lt. absurd (omega arith) }; ends = λ s. refl }
+settled_new : IsSettled [] []
+settled_new = record { marked = record { here = λ m. refl; below = tt; run = λ s j lt. absurd (omega arith) }; ends = λ s. refl }
 
 -- what comes up below was mentioned
 all_mentioned : (b : MsgId → Bool) (us : List Up) → ((m : MsgId) → b m ≡ false → count_by (is_of m) us ≡ 0) → AllByRecursion (λ (u : Up). b u.m ≡ true) us
@@ -363,29 +364,31 @@ there_mentioned past es k (u ∷ us) a = (has_mentioned past es u.m k ∙ a.0, t
 module _ {S : Type 0} (next : S → Call → S) (gives : S → Call → Gives) (is_fresh : S → Type 0)
     (ups_handed_in : HandsUpWhatWasHandedIn next gives is_fresh)
     (s : FifoState S) (new : IsNew is_fresh s) where
-  abbrev N : FifoState S → Call → FifoState S
+  abbrev pub N : FifoState S → Call → FifoState S
   N = fifo_next next gives
 
-  abbrev G : FifoState S → Call → Gives
+  abbrev pub G : FifoState S → Call → Gives
   G = fifo_gives next gives
 
-  abbrev lower_ups : List Call → List Up
+  abbrev pub lower_ups : List Call → List Up
   lower_ups past = all_ups next gives s.lower past
 
-  there : (past : List Call) (c : Call) → There (noted_by c (after N s past).entries) (gives (after next s.lower past) c).ups
+  -- whatever the layer below brings up has an entry
+  pub there : (past : List Call) (c : Call) → There (noted_by c (after N s past).entries) (gives (after next s.lower past) c).ups
   there past c =
       let us = (gives (after next s.lower past) c).ups in
       there_mentioned (c ∷ past) (noted_by c (after N s past).entries) (keys_noted_by c past (after N s past).entries (keys_after next gives s new.entries past)) us
       (all_mentioned (mentions (c ∷ past)) us (λ m e. let a = ups_handed_in s.lower (c ∷ past) m new.lower e in let b = count_by-append (is_of m) (lower_ups past) us in omega (arith, a, b)))
 
-  full_after : (past : List Call) → Full (after N s past).entries (messages (lower_ups past))
-  full_after [] = subst (λ (es : List Entry). Full es []) (sym new.entries) full_new
-  full_after (c ∷ past) =
+  -- after each history the entries have settled
+  pub settled_after : (past : List Call) → IsSettled (after N s past).entries (messages (lower_ups past))
+  settled_after [] = subst (λ (es : List Entry). IsSettled es []) (sym new.entries) settled_new
+  settled_after (c ∷ past) =
       let us = (gives (after next s.lower past) c).ups in
       let es = noted_by c (after N s past).entries in
-      subst (λ (l : S). Full (taken (gives l c).ups es) (messages (lower_ups past ++ us))) (sym (lower_after next gives s past))
-      (subst (λ (xs : List MsgId). Full (taken us es) xs) (sym (messages-append (lower_ups past) us))
-      (full_all us es (messages (lower_ups past)) (there past c) (full_noted_by c (after N s past).entries (messages (lower_ups past)) (full_after past))))
+      subst (λ (l : S). IsSettled (taken (gives l c).ups es) (messages (lower_ups past ++ us))) (sym (lower_after next gives s past))
+      (subst (λ (xs : List MsgId). IsSettled (taken us es) xs) (sym (messages-append (lower_ups past) us))
+      (settled_all us es (messages (lower_ups past)) (there past c) (settled_noted_by c (after N s past).entries (messages (lower_ups past)) (settled_after past))))
 
   -- what a call gives up is what its messages from below set free, in view of those before
   pub call_order : (past : List Call) (c : Call)
@@ -394,7 +397,7 @@ module _ {S : Type 0} (next : S → Call → S) (gives : S → Call → Gives) (
       let us = (gives (after next s.lower past) c).ups in
       let es = noted_by c (after N s past).entries in
       (λ i. messages (taken_ups (gives (lower_after next gives s past i) c).ups es))
-      ∙ gives_all us es (messages (lower_ups past)) (there past c) (full_noted_by c (after N s past).entries (messages (lower_ups past)) (full_after past))
+      ∙ gives_all us es (messages (lower_ups past)) (there past c) (settled_noted_by c (after N s past).entries (messages (lower_ups past)) (settled_after past))
 
   -- what comes up over a history is, in order, what the layer below brings up
   pub fifo_order : (past : List Call) → messages (all_ups (fifo_next next gives) (fifo_gives next gives) s past) ≡ in_order (messages (all_ups next gives s.lower past))

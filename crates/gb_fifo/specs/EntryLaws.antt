@@ -148,7 +148,8 @@ given_taken (u ∷ us) es m =
     let b = given_taken us (taken_one u.m es) m in
     let c = count_by-append (is_of m) (taken_one_ups u.m es) (taken_ups us (taken_one u.m es)) in omega (arith, a, b, c)
 
-at_most : (b : Bool) → cond {A = ℕ} b 1 0 ≤ 1
+-- a test counts once at most
+pub at_most : (b : Bool) → cond {A = ℕ} b 1 0 ≤ 1
 at_most true = omega arith
 at_most false = omega arith
 
