@@ -1,0 +1,4 @@
+pub mod Placed
+pub mod OrderLemmas
+pub mod NumberLemmas
+pub mod FifoOrder

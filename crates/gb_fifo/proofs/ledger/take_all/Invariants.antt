@@ -1,0 +1,15 @@
+use Rattle.std.proofs.Common.{◌≡◌, ◌≤◌, ◌+◌, ◌++◌, vec_capacity, vec_len, count_by, drop}
+use Rattle.gb_layer.specs.Room.{free_ups}
+use Rattle.gb_fifo.specs.Entries.{taken, taken_ups, is_ungiven}
+use Rattle.gb_fifo.proofs.ledger.take_all.Given as goal
+
+abbrev pub invariant-loop-up : goal.invariant-loop-up
+invariant-loop-up l =
+    record {
+      items : taken (drop l.up-index l.ups) l.entries.items ≡ taken l.ups l.fn.entries.items;
+      ups : l.out.ups.items ++ taken_ups (drop l.up-index l.ups) l.entries.items ≡ l.fn.out.ups.items ++ taken_ups l.ups l.fn.entries.items;
+      sends : l.out.sends ≡ l.fn.out.sends;
+      room : free_ups l.fn.out + count_by is_ungiven l.entries.items ≤ free_ups l.out + count_by is_ungiven l.fn.entries.items;
+      capacity : vec_capacity l.entries ≡ vec_capacity l.fn.entries;
+      len : vec_len l.entries ≡ vec_len l.fn.entries;
+    }

@@ -1,0 +1,5 @@
+use Rattle.std.proofs.Common.{length}
+use Rattle.gb_fifo.proofs.plain.+greatest.Given as goal
+
+abbrev pub decreases-greatest : goal.decreases-greatest
+decreases-greatest l = length l.delivered.now

@@ -1,0 +1,10 @@
+use Rattle.std.proofs.Common.{◌≡◌, ◌≤◌, ◌++◌, map, drop, max}
+use Rattle.gb_fifo.specs.Order.{numbered, upto}
+use Rattle.gb_fifo.proofs.plain.add_numbered.Given as goal
+
+abbrev pub invariant-loop-k : goal.invariant-loop-k
+invariant-loop-k l =
+    record {
+      within : l.k ≤ max l.from l.to;
+      items : l.given.items ≡ l.fn.given.items ++ map (numbered l.origin) (drop l.from (upto l.k));
+    }

@@ -1,0 +1,48 @@
+-- The order of each origin's messages: first in, first out (Hadzilacos, Toueg 1994; Cachin, Guerraoui, Rodrigues 2011, Broadcast with Sequence Number).
+use Rattle.std.specs.Prelude.{◌≡◌, ℕ, max, Bool, nat_eq, List, [], ◌∷◌, ◌++◌, map, filter, drop, length}
+use Rattle.std.specs.List.{list_any, prefix_len, range_with_len}
+use Rattle.gb_types.specs.declared.node.NodeId.{NodeId}
+use Rattle.gb_types.specs.declared.message.MsgId.{MsgId}
+use Rattle.gb_types.specs.Message.{same}
+
+-- the numbers 1 to n
+abbrev pub upto : ℕ → List ℕ
+upto n = range_with_len 1 n
+
+-- the message of an origin with a number
+abbrev pub numbered : NodeId → ℕ → MsgId
+numbered origin seq = record { origin = origin; seq = seq }
+
+-- m stands in a list of messages
+abbrev pub is_in : List MsgId → MsgId → Bool
+is_in delivered m = list_any (λ x. same x m) delivered
+
+-- the greatest number in a list of messages, 0 where there are none
+abbrev pub greatest : List MsgId → ℕ
+greatest [] = 0
+greatest (m ∷ ms) = max m.seq (greatest ms)
+
+-- the greatest k such that the messages 1 to k of an origin all stand in a list
+abbrev pub top : NodeId → List MsgId → ℕ
+top origin delivered = prefix_len (λ seq. is_in delivered (numbered origin seq)) (upto (greatest delivered))
+
+-- what is given up where m is delivered after others: of m's origin the messages that are newly without a gap, from the old top to the new one
+abbrev pub given_at : List MsgId → MsgId → List MsgId
+given_at earlier m = map (numbered m.origin) (drop (top m.origin earlier) (upto (top m.origin (earlier ++ m ∷ []))))
+
+-- what is given up where messages are delivered one by one after others
+abbrev pub ordered_after : List MsgId → List MsgId → List MsgId
+ordered_after earlier [] = []
+ordered_after earlier (m ∷ ms) = given_at earlier m ++ ordered_after (earlier ++ m ∷ []) ms
+
+-- the delivered messages in the order of each origin, each held back until those before it were delivered
+abbrev pub in_order : List MsgId → List MsgId
+in_order delivered = ordered_after [] delivered
+
+-- the numbers of an origin's messages in a list
+abbrev pub numbers_of : ℕ → List MsgId → List ℕ
+numbers_of origin messages = map (λ m. m.seq) (filter (λ m. nat_eq m.origin.number origin) messages)
+
+-- each origin's messages stand in a list as 1, 2, 3, .., without a gap and none twice
+abbrev pub RunsFromOne : List MsgId → Type 0
+RunsFromOne messages = (origin : ℕ) → numbers_of origin messages ≡ upto (length (numbers_of origin messages))

@@ -1,0 +1,10 @@
+//! What a fifo remembers of a message.
+use gb_types::message::MsgId;
+
+/// A message, whether the layer below brought it up, and whether it was handed up from here.
+#[derive(Drop)]
+pub struct Entry {
+    pub m: MsgId,
+    pub here: bool,
+    pub given: bool,
+}

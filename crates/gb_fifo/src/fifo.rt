@@ -1,0 +1,166 @@
+//! The layer that keeps each origin's order.
+ghost use Rattle.std.specs.Prelude.{◌≡◌, ℕ, ◌+◌, ◌≤◌, ◌++◌, vec_len, vec_capacity, OnOk};
+ghost use Rattle.gb_layer.specs.Room.{free_sends, free_ups};
+ghost use Rattle.gb_fifo.specs.Entries.{noted_by};
+ghost use Rattle.gb_fifo.specs.FifoMachine.{FifoState, fifo_next, fifo_gives};
+ghost use Rattle.gb_fifo.specs.FifoRoom.{state_of, HasRoom, ungiven, IsNew, fifo_roomier};
+ghost use Rattle.gb_fifo.specs.FifoLaws.{fifo_me_stays, fifo_sends_handed_in, fifo_ups_handed_in, fifo_up_once, fifo_sent_once, fifo_noticed_once, fifo_own};
+
+use crate::entry::Entry;
+use crate::ledger::{count_ungiven, note, take_all};
+use gb_layer::call::Call;
+use gb_layer::effects::{Effects, Up};
+use gb_layer::layer::{Broadcast, Layer};
+use gb_types::memory::OutOfMemory;
+use gb_types::message::MsgId;
+use gb_types::node::NodeId;
+use std::alloc::Global;
+use std::mem;
+
+/// Gives up each origin's messages in the order 1, 2, 3, .. (Hadzilacos, Toueg 1994; Cachin, Guerraoui, Rodrigues
+/// 2011, Broadcast with Sequence Number): what the layer below brings up waits until the messages before it have
+/// come up. All else is the lower layer's, which takes the same calls.
+#[derive(Drop)]
+pub struct Fifo<L> {
+    lower: L,
+    /// The messages that were handed in, in the order of their first mention.
+    entries: Vec<Entry>,
+    /// What the newest call of the layer below brought up.
+    below: Vec<Up>,
+}
+
+impl<L: Broadcast> Fifo<L> {
+    /// A fifo over a layer to which nothing was handed in yet.
+    pub fn new(alloc: Global, lower: L) -> Self
+        requires { L.is_fresh (L.meaning lower) }
+        ensures lower { (⟦<Fifo<L> as Layer>⟧.meaning result).lower ≡ L.meaning lower }
+        ensures fresh { ⟦<Fifo<L> as Layer>⟧.is_fresh (⟦<Fifo<L> as Layer>⟧.meaning result) }
+    {
+        Fifo {
+            lower,
+            entries: Vec::new(alloc),
+            below: Vec::new(alloc),
+        }
+    }
+
+    /// Notes what the call hands in.
+    fn note_call(&mut self, call: Call)
+        requires { vec_len self.old.entries + 1 ≤ vec_capacity self.old.entries }
+        ensures items { self.new.entries.items ≡ noted_by call self.old.entries.items }
+        ensures lower { self.new.lower ≡ self.old.lower }
+        ensures below { self.new.below ≡ self.old.below }
+        ensures len { vec_len self.new.entries ≤ vec_len self.old.entries + 1 }
+        ensures capacity { vec_capacity self.old.entries ≤ vec_capacity self.new.entries }
+        ensures ungiven { ungiven self.new ≤ ungiven self.old + 1 }
+    {
+        match call {
+            Call::Say(m) | Call::Came(_, m) => note(&mut self.entries, m),
+            Call::Notice(_) => {}
+        }
+    }
+
+    /// Makes the call of the layer below. What that brings up is put aside, and what it sends is sent.
+    fn call_lower(&mut self, call: Call, out: &mut Effects)
+        requires { L.has_room self.old.lower (free_sends out.old) (vec_capacity self.old.below) 1 }
+        ensures lower { L.meaning self.new.lower ≡ L.next (L.meaning self.old.lower) call }
+        ensures entries { self.new.entries ≡ self.old.entries }
+        ensures below { self.new.below.items ≡ (L.gives (L.meaning self.old.lower) call).ups }
+        ensures sends { out.new.sends.items ≡ out.old.sends.items ++ (L.gives (L.meaning self.old.lower) call).sends }
+        ensures ups { out.new.ups ≡ out.old.ups }
+        ensures room { (n : ℕ) → L.has_room self.old.lower (free_sends out.old) (vec_capacity self.old.below) (n + 1)
+            → L.has_room self.new.lower (free_sends out.new) (vec_capacity self.new.below) n }
+    {
+        self.below.clear();
+        mem::swap(&mut out.ups, &mut self.below);
+        self.lower.take(call, out);
+        mem::swap(&mut out.ups, &mut self.below);
+    }
+
+    /// Takes any call.
+    fn step(&mut self, call: Call, out: &mut Effects)
+        requires { HasRoom L.has_room self.old (free_sends out.old) (free_ups out.old) 1 }
+        ensures state { state_of L.meaning self.new ≡ fifo_next L.next L.gives (state_of L.meaning self.old) call }
+        ensures sends { out.new.sends.items ≡ out.old.sends.items ++ (fifo_gives L.next L.gives (state_of L.meaning self.old) call).sends }
+        ensures ups { out.new.ups.items ≡ out.old.ups.items ++ (fifo_gives L.next L.gives (state_of L.meaning self.old) call).ups }
+        ensures room { (n : ℕ) → HasRoom L.has_room self.old (free_sends out.old) (free_ups out.old) (n + 1)
+            → HasRoom L.has_room self.new (free_sends out.new) (free_ups out.new) n }
+    {
+        self.note_call(call);
+        self.call_lower(call, out);
+        take_all(&mut self.entries, &self.below, out);
+    }
+
+    /// Makes room below for the next calls, so many.
+    fn ready_below(&mut self, calls: usize, out: &mut Effects) -> Result<(), OutOfMemory>
+        ensures meaning { L.meaning self.new.lower ≡ L.meaning self.old.lower }
+        ensures entries { self.new.entries ≡ self.old.entries }
+        ensures sends { out.new.sends.items ≡ out.old.sends.items }
+        ensures ups { out.new.ups ≡ out.old.ups }
+        ensures room { OnOk result (L.has_room self.new.lower (free_sends out.new) (vec_capacity self.new.below) calls) }
+    {
+        self.below.clear();
+        mem::swap(&mut out.ups, &mut self.below);
+        let made = self.lower.ready(calls, out);
+        mem::swap(&mut out.ups, &mut self.below);
+        made
+    }
+}
+
+impl<L: Broadcast> Layer for Fifo<L> {
+    ghost State = { FifoState L.State };
+
+    ghost meaning = { state_of L.meaning };
+
+    ghost me = { λ s. L.me s.lower };
+
+    ghost is_fresh = { IsNew L.is_fresh };
+
+    ghost next = { fifo_next L.next L.gives };
+
+    ghost gives = { fifo_gives L.next L.gives };
+
+    ghost has_room = { HasRoom L.has_room };
+
+    fn me(&self) -> NodeId {
+        self.lower.me()
+    }
+
+    fn ready(&mut self, calls: usize, out: &mut Effects) -> Result<(), OutOfMemory> {
+        let Some(ups) = count_ungiven(&self.entries).checked_add(calls) else {
+            return Err(OutOfMemory);
+        };
+        self.entries.reserve(calls)?;
+        out.ups.reserve(ups)?;
+        self.ready_below(calls, out)
+    }
+
+    fn say(&mut self, m: MsgId, out: &mut Effects) {
+        self.step(Call::Say(m), out);
+    }
+
+    fn came(&mut self, from: NodeId, m: MsgId, out: &mut Effects) {
+        self.step(Call::Came(from, m), out);
+    }
+
+    fn notice(&mut self, who: NodeId, out: &mut Effects) {
+        self.step(Call::Notice(who), out);
+    }
+
+    ghost roomier = { fifo_roomier L.has_room L.roomier };
+
+    ghost me_stays = { fifo_me_stays L.next L.gives L.me L.me_stays };
+
+    ghost sends_handed_in = { fifo_sends_handed_in L.next L.gives L.is_fresh L.sends_handed_in };
+
+    ghost ups_handed_in = { fifo_ups_handed_in L.next L.gives L.is_fresh };
+
+    ghost up_once = { fifo_up_once L.next L.gives L.is_fresh L.me };
+
+    ghost sent_once = { fifo_sent_once L.next L.gives L.is_fresh L.me L.sent_once };
+
+    ghost noticed_once = { fifo_noticed_once L.next L.gives L.is_fresh L.noticed_once };
+}
+
+impl<L: Broadcast> Broadcast for Fifo<L> {
+    ghost own_via = { fifo_own L.next L.gives };
+}

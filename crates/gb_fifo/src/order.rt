@@ -1,0 +1,41 @@
+//! The order of what a fifo gives up, over every layer below: laws, with no code.
+ghost use Rattle.std.specs.Prelude.{◌≡◌, ℕ, ◌+◌, ◌≤◌, true, false, List, ◌∷◌, ◌++◌};
+ghost use Rattle.gb_types.specs.declared.node.NodeId.{NodeId};
+ghost use Rattle.gb_types.specs.declared.message.MsgId.{MsgId};
+ghost use Rattle.gb_layer.specs.declared.call.Call.{Call};
+ghost use Rattle.gb_layer.specs.Machine.{after, all_ups, messages};
+ghost use Rattle.gb_fifo.specs.FifoMachine.{FifoState};
+ghost use Rattle.gb_fifo.specs.Order.{is_in, numbered, top, RunsFromOne, ordered_after, in_order};
+
+use crate::fifo::Fifo;
+use gb_layer::layer::{Broadcast, Layer};
+
+/// The top is what its name says: up to it each message of the origin stands in the list, and the next does not.
+pub fn top_is_the_greatest()
+    ensures stand { (origin : NodeId) (delivered : List MsgId) (seq : ℕ) → 1 ≤ seq → seq ≤ top origin delivered → is_in delivered (numbered origin seq) ≡ true }
+    ensures ends { (origin : NodeId) (delivered : List MsgId) → is_in delivered (numbered origin (top origin delivered + 1)) ≡ false }
+{}
+
+/// Over each history, whatever the layer below brings up, each origin's messages come up as 1, 2, 3, ..
+pub fn one_two_three<L: Broadcast>()
+    ensures { (s : FifoState L.State) (past : List Call) → ⟦<Fifo<L> as Layer>⟧.is_fresh s
+        → RunsFromOne (messages (all_ups ⟦<Fifo<L> as Layer>⟧.next ⟦<Fifo<L> as Layer>⟧.gives s past)) }
+{}
+
+/// Over each history, what comes up is, in the order of each origin, what the layer below brings up: a call gives
+/// up what its own messages from below set free, in view of all that came up below before. It sends what the
+/// layer below sends.
+pub fn in_origin_order<L: Broadcast>()
+    ensures up { (s : FifoState L.State) (past : List Call) (c : Call) → ⟦<Fifo<L> as Layer>⟧.is_fresh s
+        → messages (⟦<Fifo<L> as Layer>⟧.gives (after ⟦<Fifo<L> as Layer>⟧.next s past) c).ups
+        ≡ ordered_after (messages (all_ups L.next L.gives s.lower past)) (messages (L.gives (after L.next s.lower past) c).ups) }
+    ensures out { (s : FifoState L.State) (past : List Call) (c : Call)
+        → (⟦<Fifo<L> as Layer>⟧.gives (after ⟦<Fifo<L> as Layer>⟧.next s past) c).sends ≡ (L.gives (after L.next s.lower past) c).sends }
+    ensures log { (s : FifoState L.State) (past : List Call) → ⟦<Fifo<L> as Layer>⟧.is_fresh s
+        → messages (all_ups ⟦<Fifo<L> as Layer>⟧.next ⟦<Fifo<L> as Layer>⟧.gives s past) ≡ in_order (messages (all_ups L.next L.gives s.lower past)) }
+{}
+
+/// The order grows at its end: messages that are delivered later change nothing of what was given up before.
+pub fn grows_at_its_end()
+    ensures { (earlier later : List MsgId) → in_order (earlier ++ later) ≡ in_order earlier ++ ordered_after earlier later }
+{}

@@ -1,0 +1,68 @@
+//! The order of each origin's messages, computed plainly from its meaning: slow, for short lists, to compare
+//! layers with.
+ghost use Rattle.std.specs.Prelude.{◌≡◌, ◌++◌, ◌∷◌, [], drop, map, IfOk, OnOk};
+ghost use Rattle.gb_fifo.specs.Order as order;
+ghost use Rattle.gb_fifo.specs.Order.{numbered, upto};
+
+use gb_types::memory::OutOfMemory;
+use gb_types::message::MsgId;
+use gb_types::node::NodeId;
+use std::alloc::Global;
+
+/// Whether m stands in the list.
+fn is_in(delivered: &[MsgId], m: MsgId) -> bool
+    ensures { result ≡ order.is_in delivered.now m }
+{
+    delivered.iter().any(|x| *x == m)
+}
+
+/// The greatest number in the list, 0 where there are none.
+fn greatest(delivered: &[MsgId]) -> u16
+    ensures { result ≡ order.greatest delivered.now }
+{
+    match delivered {
+        [] => 0,
+        [m, others @ ..] => m.seq.max(greatest(others)),
+    }
+}
+
+/// The greatest k such that the messages 1 to k of the origin all stand in the list.
+fn top(origin: NodeId, delivered: &[MsgId]) -> u16
+    ensures { result ≡ order.top origin delivered.now }
+{
+    let last = greatest(delivered);
+    let mut k: u16 = 0;
+    while k < last && is_in(delivered, MsgId { origin, seq: k + 1 }) {
+        k += 1;
+    }
+    k
+}
+
+/// Adds the origin's messages after the one numbered `from`, up to the one numbered `to`.
+fn add_numbered(
+    given: &mut Vec<MsgId>,
+    origin: NodeId,
+    from: u16,
+    to: u16,
+) -> Result<(), OutOfMemory>
+    ensures { OnOk result (given.new.items ≡ given.old.items ++ map (numbered origin) (drop from (upto to))) }
+{
+    for k in from..to {
+        given.push(MsgId { origin, seq: k + 1 })?;
+    }
+    Ok(())
+}
+
+/// The delivered messages in the order of each origin, each held back until those before it were delivered.
+pub fn in_order(alloc: Global, delivered: &[MsgId]) -> Result<Vec<MsgId>, OutOfMemory>
+    ensures { IfOk result (λ given. given.items ≡ order.in_order delivered.now) }
+{
+    let mut given = Vec::new(alloc);
+    for i in 0..delivered.len() {
+        let m = delivered[i];
+        let from = top(m.origin, &delivered[..i]);
+        let to = top(m.origin, &delivered[..i + 1]);
+        add_numbered(&mut given, m.origin, from, to)?;
+    }
+    Ok(given)
+}
