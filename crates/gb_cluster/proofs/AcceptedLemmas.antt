@@ -6,21 +6,21 @@ use Rattle.std.proofs.lemmas.List.{append-nil, append_assoc}
 use Rattle.gb_types.specs.declared.entry.Entry.{Entry}
 use Rattle.gb_types.specs.declared.node.NodeId.{NodeId}
 use Rattle.gb_types.specs.declared.limits.TheConstants.{PAYLOAD}
-use Rattle.gb_types.specs.declared.refusal.Refusal.TheVariants.{TooLong, Budget}
+use Rattle.gb_types.specs.declared.refusal.Refusal.TheVariants.{TooLong, Budget, Stopped}
 use Rattle.gb_types.specs.declared.reply.Reply.{Reply}
 use Rattle.gb_types.specs.declared.reply.Reply.TheVariants.{Done, Said, Refused}
 use Rattle.gb_types.specs.declared.spec.Spec.{Spec}
 use Rattle.gb_slot.specs.History.{said_in, log_of}
-use Rattle.gb_slot.specs.Rules.{say_answer}
+use Rattle.gb_slot.specs.Rules.{is_other, say_answer}
 use Rattle.gb_slot.specs.declared.history.GroupCall.{GroupCall}
-use Rattle.gb_slot.specs.declared.history.GroupCall.TheVariants.{Own, Other}
+use Rattle.gb_slot.specs.declared.history.GroupCall.TheVariants.{Own, Other, Crashed}
 use Rattle.gb_slot.specs.declared.phase.Phase.{Phase}
 use Rattle.gb_slot.specs.declared.phase.Phase.TheVariants.{Made, Opened}
-use Rattle.gb_cluster.specs.Alone.{Member, Group, reply_to, shown_of, called, did, falls, taken_in, member_after, after, nobody, alone_from, alone}
+use Rattle.gb_cluster.specs.Alone.{Member, Group, reply_to, shown_of, called, did, falls, taken_in, cut, took_notice, member_after, after, nobody, alone_from, alone}
 use Rattle.gb_cluster.specs.Laws.{accepted_in, accepted_at, accepted_from, accepted}
 use Rattle.gb_cluster.specs.Rules.{by_tenant, on_made}
 use Rattle.gb_cluster.specs.declared.group.GroupEvent.{GroupEvent}
-use Rattle.gb_cluster.specs.declared.group.GroupEvent.TheVariants.{Tenant, AskMake, AskOpen, AskSay, Took, Came}
+use Rattle.gb_cluster.specs.declared.group.GroupEvent.TheVariants.{Tenant, AskMake, AskOpen, AskSay, Took, Came, Acknowledged, Notice, Stop}
 use Rattle.gb_cluster.specs.declared.group.GroupStep.{GroupStep}
 use Rattle.gb_cluster.specs.declared.group.Reserve.{Reserve}
 
@@ -29,16 +29,18 @@ unfoldable pub own_payloads : List GroupCall → List (List ℕ)
 own_payloads [] = []
 own_payloads (Own x ∷ told) = own_payloads told ++ x.payload ∷ []
 own_payloads (Other p x ∷ told) = own_payloads told
+own_payloads (Crashed q ∷ told) = own_payloads told
 
 pub length-own_payloads : (told : List GroupCall) → length (own_payloads told) ≡ said_in told
 unfolding own_payloads said_in
 length-own_payloads [] = refl
 length-own_payloads (Own x ∷ told) = length-append (own_payloads told) (x.payload ∷ []) ∙ ap (λ n. n + 1) (length-own_payloads told)
 length-own_payloads (Other p x ∷ told) = length-own_payloads told
+length-own_payloads (Crashed q ∷ told) = length-own_payloads told
 
 -- an accepted message has the next number
 pub next_said : (me : ℕ) (m : Member) (payload : List ℕ) (seq : ℕ) (nodes number : ℕ) → reply_to nodes number me (AskSay payload) m ≡ Said seq → seq ≡ said_in m.told + 1
-next_said me m payload seq nodes number = by m.reserve m.spec
+next_said me m payload seq nodes number = running m.stopped
   where
     admitted : (long many : Bool) → (if long then Refused TooLong else (if many then Refused Budget else Said (said_in m.told + 1))) ≡ Said seq → seq ≡ said_in m.told + 1
     admitted true many h = cc
@@ -54,6 +56,10 @@ next_said me m payload seq nodes number = by m.reserve m.spec
     by (Some reserve) None h = cc
     by (Some reserve) (Some spec) h = answered spec m.phase (log_of spec me m.told) h
 
+    running : (stopped : Bool) → (if stopped then Refused Stopped else by_tenant (λ _. on_made (λ s. say_answer s payload) (shown_of me m.phase m.told m.spec)) m.reserve) ≡ Said seq → seq ≡ said_in m.told + 1
+    running true h = cc
+    running false h = by m.reserve m.spec h
+
 did_payloads : (me : NodeId) (event : GroupEvent) (reply : Reply) (m : Member) → own_payloads (did me event reply m).told ≡ own_payloads m.told ++ accepted_in event reply
 unfolding own_payloads
 did_payloads me (AskMake spec) Done m = sym (append-nil (own_payloads m.told))
@@ -66,11 +72,19 @@ unfolding own_payloads
 taken_payloads me from place None m = refl
 taken_payloads me from place (Some x) m = elim (falls me from.number x m.told m.spec) as (λ b. own_payloads (if b then m else called me (Other from x) m).told ≡ own_payloads m.told) [ true ↦ refl | false ↦ refl ]
 
+noticed_payloads : (me : ℕ) (q : NodeId) (o : Option Spec) (m : Member) → own_payloads (took_notice me q o m).told ≡ own_payloads m.told
+unfolding own_payloads
+noticed_payloads me q None m = refl
+noticed_payloads me q (Some spec) m = elim (is_other spec me q.number) as (λ b. own_payloads (if b then called me (Crashed q) (cut q m) else m).told ≡ own_payloads m.told) [ true ↦ refl | false ↦ refl ]
+
 pub event_payloads : (nodes number : ℕ) (me : NodeId) (event : GroupEvent) (group : Group)
     → own_payloads (member_after nodes number me event group).told ≡ own_payloads (group me.number).told ++ accepted_in event (reply_to nodes number me.number event (group me.number))
 event_payloads nodes number me (Tenant reserve) group = sym (append-nil (own_payloads (group me.number).told))
 event_payloads nodes number me (Took b count) group = sym (append-nil (own_payloads (group me.number).told))
 event_payloads nodes number me (Came from place) group = taken_payloads me.number from place (slice_get ((group from.number).put me.number) (place - 1)) (group me.number) ∙ sym (append-nil (own_payloads (group me.number).told))
+event_payloads nodes number me (Acknowledged b place count) group = sym (append-nil (own_payloads (group me.number).told))
+event_payloads nodes number me (Notice q) group = noticed_payloads me.number q (group me.number).spec (group me.number) ∙ sym (append-nil (own_payloads (group me.number).told))
+event_payloads nodes number me Stop group = sym (append-nil (own_payloads (group me.number).told))
 event_payloads nodes number me event group = did_payloads me event (reply_to nodes number me.number event (group me.number)) (group me.number)
 
 pub step_payloads : (nodes number : ℕ) (group : Group) (step : GroupStep) (s : ℕ) → own_payloads (after nodes number group step s).told ≡ own_payloads (group s).told ++ accepted_at nodes number group step s

@@ -1,157 +1,188 @@
 -- A request at a node of the cluster.
-use Rattle.std.proofs.Common.{◌≡◌, ◌≢◌, ℕ, ◌<◌, List, [], ◌∷◌, ◌++◌, length, Bool, true, false, ◌||◌, ◌⊎◌, inl, inr, refl, sym, ◌∙◌, ap, subst, arith, get_or}
-use Rattle.std.specs.Prelude.{nat_eq, is_some}
-use Rattle.std.specs.List.{list_any}
-use Rattle.std.proofs.lemmas.Bool.{cases_eq}
+use Rattle.std.proofs.Common.{◌≡◌, ◌≢◌, ℕ, ◌<◌, List, [], ◌∷◌, ◌++◌, length, Option, Some, None, Bool, true, false, ◌&&◌, ◌||◌, ◌⊎◌, inl, inr, refl, sym, ◌∙◌, ap, subst, arith, get_or}
+use Rattle.std.specs.Prelude.{if◌then◌else◌, is_some, nat_eq}
+use Rattle.std.specs.FinSet as set
+use Rattle.std.proofs.lemmas.Bool.{cases_Bool}
 use Rattle.std.proofs.lemmas.List.{append-nil}
-use Rattle.std.proofs.Math.ListN.{set, length-set}
 use Rattle.gb_types.specs.declared.address.Addr.{Addr}
 use Rattle.gb_types.specs.declared.entry.Entry.{Entry}
-use Rattle.gb_types.specs.declared.limits.TheConstants.{NODES}
 use Rattle.gb_types.specs.declared.node.NodeId.{NodeId}
-use Rattle.gb_types.specs.declared.request.Request.{Request}
+use Rattle.gb_types.specs.declared.refusal.Refusal.TheVariants.{Stopped}
 use Rattle.gb_types.specs.declared.reply.Reply.{Reply}
-use Rattle.gb_cluster.specs.declared.event.Event.TheVariants.{At}
+use Rattle.gb_types.specs.declared.reply.Reply.TheVariants.{Done, Said, Refused}
+use Rattle.gb_types.specs.declared.request.Request.{Request}
+use Rattle.gb_types.specs.declared.request.Request.TheVariants.{AddTenant, Make, OpenGroup, Say}
+use Rattle.gb_types.specs.declared.spec.TenantRow.{TenantRow}
+use Rattle.gb_link.specs.SendWindow.{new_window}
 use Rattle.gb_cluster.specs.declared.answer.Answer.TheVariants.{Reply as Replied}
+use Rattle.gb_cluster.specs.declared.event.Event.TheVariants.{At}
 use Rattle.gb_cluster.specs.declared.step.Step.{Step}
-use Rattle.gb_cluster.specs.declared.group.GroupStep.{GroupStep}
-use Rattle.gb_cluster.specs.Alone.{Member, Group, alone, alone_from, IsLegalFrom}
+use Rattle.gb_cluster.specs.Alone.{Member, Group, alone, alone_from}
+use Rattle.gb_cluster.specs.Holds.{Stands, MemberIs, AreMarked, NodeIs, Links, BehavesAlone, Holds, window_of}
 use Rattle.gb_cluster.specs.NodeValue.{NodeValue}
-use Rattle.gb_cluster.specs.Project.{project, has_row, is_taken_in, frames, items_of, is_taken, requested, reply_in, replies_to, is_served, is_turned_away}
-use Rattle.gb_cluster.specs.World.{World, nth, reserve_for, node_of, new_node, world_after, node_reply, has_received}
-use Rattle.gb_cluster.specs.Holds.{Stands, Fits, Links, BehavesAlone, Holds}
+use Rattle.gb_cluster.specs.Project.{project, has_row, is_taken_in, frames, items_of, is_taken, is_acked, is_noticed, is_stopped, made_by, watched, asked, requested, is_turned_away}
+use Rattle.gb_cluster.specs.Rules.{reserve_of}
+use Rattle.gb_cluster.specs.World.{World, node_of, reserve_for, row_answer, running_reply, node_reply, node_did, world_after}
+use Rattle.gb_cluster.proofs.AskLemmas.{Before, After, asking}
 use Rattle.gb_cluster.proofs.NodeLemmas.{same_carried}
-use Rattle.gb_cluster.proofs.RequestLemmas.{AtMost, node_after}
-use Rattle.gb_cluster.proofs.MakeLemmas.{at_request, row_after, links_after}
-use Rattle.gb_cluster.proofs.WorldLemmas.{goes_on, after_there, after_elsewhere, frames-quiet, served_before, node_there, node_elsewhere, row_elsewhere, silent_elsewhere}
+use Rattle.gb_cluster.proofs.NoticeLemmas.{noticed_below}
+use Rattle.gb_cluster.proofs.StoppedLemmas.{refused, node_unchanged, at_stopped}
+use Rattle.gb_cluster.proofs.TenantLemmas.{row_done, at_running}
+use Rattle.gb_cluster.proofs.Turns.{turned, ActsAt, GroupTurn, frames_turned, taken_turned, acked_turned, quiet_link, same_marks, links_turn, holds_turn}
+use Rattle.gb_cluster.proofs.WorldLemmas.{eqb_self, eqb_apart_back, row_elsewhere, silent_elsewhere}
 
--- what the events given do to the group
-pub record Result (nodes : ℕ) (g : Addr) (a : NodeId) (v : NodeValue) (group next : Group) (carried : ℕ → List Entry) (given : List GroupStep) (told : List Reply) : Type 0 where
-  pub legal : IsLegalFrom nodes g.group group given
-  pub stands : Stands nodes g a.number v (next a.number) carried
-  pub replies : (next a.number).replies ≡ (group a.number).replies ++ told
-  pub come : (next a.number).come ≡ (group a.number).come
-  pub others : (x : ℕ) → x ≢ a.number → next x ≡ group x
-
-result : (nodes : ℕ) (g : Addr) (a : NodeId) (v : NodeValue) (group : Group) (carried : ℕ → List Entry) (given : List GroupStep) (told : List Reply) → AtMost nodes g a v group carried given told → Result nodes g a v group (alone_from nodes g.group group given) carried given told
-result nodes g a v group carried given told (inl quiet) =
-    subst (λ xs. Result nodes g a v group (alone_from nodes g.group group xs) carried xs told) (sym quiet.none) (record {
-      legal = tt;
-      stands = quiet.stands;
-      replies = sym (ap (λ rs. (group a.number).replies ++ rs) quiet.silent ∙ append-nil (group a.number).replies);
-      come = refl;
-      others = λ x other. refl;
-    })
-result nodes g a v group carried given told (inr happens) =
-    let there = after_there nodes g.group group a happens.event in
-    subst (λ xs. Result nodes g a v group (alone_from nodes g.group group xs) carried xs told) (sym happens.one) (record {
-      legal = (happens.may, tt);
-      stands = subst (λ (m : Member). Stands nodes g a.number v m carried) (sym there) happens.stands;
-      replies = ap (λ (m : Member). m.replies) there ∙ happens.replies;
-      come = ap (λ (m : Member). m.come) there ∙ happens.come;
-      others = λ x other. after_elsewhere nodes g.group group a x happens.event other;
-    })
-
--- the cluster after the request
-abbrev at_world : World → NodeId → Request → World
-at_world w a request = world_after w (At a request)
-
-at_links : (w : World) (a : NodeId) (request : Request) → a.number < length w.nodes → Links w → Links (at_world w a request)
-unfolding has_row is_taken
-at_links w a request within links =
-    let v : NodeValue = node_after (length w.nodes) a (node_of w a.number) request in
-    let len : length (set w.nodes a.number v) ≡ length w.nodes = length-set w.nodes a.number v in
-    let s : Step = record { event = At a request; answer = Replied (node_reply (length w.nodes) a.number (node_of w a.number) request) } in
-    let same_links = links_after (length w.nodes) a (node_of w a.number) request in
-    record {
-      few = rw len links.few;
-      rows = λ x tenant in_cluster. rows_at x tenant (rw (← len) in_cluster) (cases_eq x a.number);
-      size = λ x in_cluster. by_node x (λ u. length u.sent ≡ NODES) (λ is. rw (same_links.0) (links.size a.number within)) (λ other. links.size x (rw (← len) in_cluster)) (cases_eq x a.number);
-      sent = λ x y in_x in_y. by_node x (λ u. nth u.sent y ≡ length (frames x y w.packets (s ∷ w.steps))) (λ is. rw (same_links.0, frames-quiet x y w.packets s w.steps refl, is) (links.sent a.number y within (rw (← len) in_y))) (λ other. rw (frames-quiet x y w.packets s w.steps refl) (links.sent x y (rw (← len) in_x) (rw (← len) in_y))) (cases_eq x a.number);
-      links = λ x in_cluster. by_node x (λ u. length u.received ≡ NODES) (λ is. rw (same_links.1) (links.links a.number within)) (λ other. links.links x (rw (← len) in_cluster)) (cases_eq x a.number);
-      received = λ x y n in_x in_y. by_node y (λ u. has_received u x n ≡ is_taken x y n w.packets w.steps) (λ is. rw (same_links.1, is) (links.received x a.number n (rw (← len) in_x) within)) (λ other. links.received x y n (rw (← len) in_x) (rw (← len) in_y)) (cases_eq y a.number);
-      framed = λ k p at. let was = links.framed k p at in record { from = rw len was.from; to = rw len was.to; some = was.some; there = rw (frames-quiet p.from.number p.to.number w.packets s w.steps refl) was.there };
-      numbered = (omega arith, links.numbered);
-    }
+-- any request, for a group at the node
+at_request : (nodes : ℕ) (g : Addr) (a : NodeId) (v : NodeValue) (group : Group) (carried : ℕ → List Entry) (steps : List Step) (request : Request) (reply : Reply) → reply ≡ node_reply nodes a.number v request
+    → v.stopped ≡ is_stopped a.number steps → Before nodes g a v group carried steps → is_turned_away g (At a request) (Replied reply) ≡ false
+    → After nodes g a (node_did a request reply v) group carried steps request reply (asked g steps a request reply)
+at_request nodes g a v group carried steps request reply is halted before free = go (cases_Bool (is_stopped a.number steps))
   where
-    v : NodeValue
-    v = node_after (length w.nodes) a (node_of w a.number) request
+    by : (b : Bool) → is_stopped a.number steps ≡ b → reply ≡ (if b then refused else running_reply nodes a.number v request)
+    by b now = is ∙ ap (λ (c : Bool). if c then Refused Stopped else running_reply nodes a.number v request) (halted ∙ now)
 
-    by_node : (x : ℕ) (P : NodeValue → Type 0) → (x ≡ a.number → P v) → (x ≢ a.number → P (node_of w x)) → ((x ≡ a.number) ⊎ (x ≡ a.number → ⊥)) → P (get_or (set w.nodes a.number v) x new_node)
-    by_node x P here there (inl is) = subst P (sym (ap (λ y. get_or (set w.nodes a.number v) y new_node) is ∙ node_there w a.number v within)) (here is)
-    by_node x P here there (inr other) = subst P (sym (node_elsewhere w a.number x v other)) (there other)
+    running : is_stopped a.number steps ≡ false → After nodes g a (node_did a request reply v) group carried steps request reply (requested g steps a request reply)
+    running now = subst (λ r. is_turned_away g (At a request) (Replied r) ≡ false → After nodes g a (node_did a request r v) group carried steps request r (requested g steps a request r)) (sym (by false now))
+        (λ room. at_running nodes g a v group carried steps request now before room) free
 
-    reply : Reply
-    reply = node_reply (length w.nodes) a.number (node_of w a.number) request
+    go : ((is_stopped a.number steps ≡ true) ⊎ (is_stopped a.number steps ≡ false)) → After nodes g a (node_did a request reply v) group carried steps request reply (asked g steps a request reply)
+    go (inl now) = subst (λ r. After nodes g a (node_did a request r v) group carried steps request r (asked g steps a request r)) (sym (by true now))
+        (subst (λ u. After nodes g a u group carried steps request refused (asked g steps a request refused)) (sym (node_unchanged a request v)) (at_stopped nodes g a v group carried steps request now before))
+    go (inr now) = subst (After nodes g a (node_did a request reply v) group carried steps request reply) (sym (asked_running now)) (running now)
+      where
+        asked_running : is_stopped a.number steps ≡ false → asked g steps a request reply ≡ requested g steps a request reply
+        asked_running now = rw now refl
 
-    rows_at : (x tenant : ℕ) → x < length w.nodes → ((x ≡ a.number) ⊎ (x ≡ a.number → ⊥)) → (is_taken_in x tenant (At a request) (Replied reply) || has_row x tenant w.steps) ≡ is_some (reserve_for tenant (get_or (set w.nodes a.number v) x new_node).row)
-    rows_at x tenant in_cluster (inl is) = subst (λ y. (is_taken_in y tenant (At a request) (Replied reply) || has_row y tenant w.steps) ≡ is_some (reserve_for tenant (get_or (set w.nodes a.number v) y new_node).row)) (sym is) (rw (node_there w a.number v within, links.rows a.number tenant within) (sym (row_after (length w.nodes) a (node_of w a.number) request tenant)))
-    rows_at x tenant in_cluster (inr other) = rw (node_elsewhere w a.number x v other, row_elsewhere a x tenant request reply other) (links.rows x tenant in_cluster)
+-- The node.
 
-at_fits : (g : Addr) (w : World) (a : NodeId) (request : Request) (group next : Group) (given : List GroupStep) → a.number < length w.nodes
-    → Fits g w group
-    → Result (length w.nodes) g a (node_after (length w.nodes) a (node_of w a.number) request) group next (λ b. items_of g (frames a.number b w.packets w.steps)) given (reply_in g a.number w.steps (At a request) (Replied (node_reply (length w.nodes) a.number (node_of w a.number) request)))
-    → Fits g (at_world w a request) next
-unfolding replies_to is_taken
-at_fits g w a request group next given within fits res = record {
-  stands = λ x in_x. stands_at x (rw (← len) in_x) (cases_eq x a.number);
-  replies = λ x in_x. replies_at x (rw (← len) in_x) (cases_eq x a.number);
-  bounded = λ x y place in_x in_y above. come_same y (λ (come : ℕ → List ℕ). list_any (λ p. nat_eq p place) (come x) ≡ false) (cases_eq y a.number) (fits.bounded x y place (rw (← len) in_x) (rw (← len) in_y) (rw (← same_frames x y) above));
-  fresh = λ x y n place in_x in_y untaken low high. come_same y (λ (come : ℕ → List ℕ). list_any (λ p. nat_eq p place) (come x) ≡ false) (cases_eq y a.number) (fits.fresh x y n place (rw (← len) in_x) (rw (← len) in_y) untaken (rw (← same_frames x y) low) (rw (← same_frames x y) high));
-}
+-- what a request leaves of the node
+record KeepsNode (v u : NodeValue) : Type 0 where
+  senders : u.senders ≡ v.senders
+  receivers : u.receivers ≡ v.receivers
+  watch : u.watch ≡ v.watch
+  stopped : u.stopped ≡ v.stopped
+
+node_keeps : (a : NodeId) (request : Request) (reply : Reply) (v : NodeValue) → KeepsNode v (node_did a request reply v)
+node_keeps a (AddTenant token row) Done v = record { senders = refl; receivers = refl; watch = refl; stopped = refl }
+node_keeps a (Make token addr spec) Done v = record { senders = refl; receivers = refl; watch = refl; stopped = refl }
+node_keeps a (OpenGroup token addr) Done v = record { senders = refl; receivers = refl; watch = refl; stopped = refl }
+node_keeps a (Say token addr payload) (Said seq) v = record { senders = refl; receivers = refl; watch = refl; stopped = refl }
+node_keeps a request reply v = record { senders = refl; receivers = refl; watch = refl; stopped = refl }
+
+unmade_elsewhere : (g : Addr) (a : NodeId) (x : ℕ) (request : Request) (reply : Reply) → x ≢ a.number → made_by g x (At a request) (Replied reply) ≡ None
+unmade_elsewhere g a x (Make token addr spec) Done other = rw (eqb_apart_back x a.number other) refl
+unmade_elsewhere g a x request reply other = refl
+
+-- the node's row is the one that was answered that it is taken in
+row_by : (a : NodeId) (v : NodeValue) (request : Request) (reply : Reply) (tenant : ℕ) → ((token : List ℕ) (row : TenantRow) → request ≡ AddTenant token row → reply ≡ Done → v.row ≡ None)
+    → is_some (reserve_for tenant (node_did a request reply v).row) ≡ (is_taken_in a.number tenant (At a request) (Replied reply) || is_some (reserve_for tenant v.row))
+row_by a v (AddTenant token row) Done tenant free = here v.row (free token row refl refl)
   where
-    nodes : ℕ
-    nodes = length w.nodes
+    test : (b : Bool) → is_some (if b then Some (reserve_of row) else None) ≡ (b || false)
+    test true = refl
+    test false = refl
 
-    v : NodeValue
-    v = node_after nodes a (node_of w a.number) request
+    here : (held : Option TenantRow) → held ≡ None → is_some (reserve_for tenant (Some row)) ≡ ((nat_eq a.number a.number && nat_eq row.tenant tenant) || is_some (reserve_for tenant held))
+    here held none = rw (none, eqb_self a.number) (test (nat_eq row.tenant tenant))
+row_by a v (Make token addr spec) Done tenant free = refl
+row_by a v (OpenGroup token addr) Done tenant free = refl
+row_by a v (Say token addr payload) (Said seq) tenant free = refl
+row_by a v request reply tenant free = refl
 
-    reply : Reply
-    reply = node_reply nodes a.number (node_of w a.number) request
-
-    s : Step
-    s = record { event = At a request; answer = Replied reply }
-
-    len : length (set w.nodes a.number v) ≡ nodes
-    len = length-set w.nodes a.number v
-
-    same_frames : (x y : ℕ) → frames x y w.packets (s ∷ w.steps) ≡ frames x y w.packets w.steps
-    same_frames x y = frames-quiet x y w.packets s w.steps refl
-
-    stands_at : (x : ℕ) → x < nodes → ((x ≡ a.number) ⊎ (x ≡ a.number → ⊥)) → Stands (length (set w.nodes a.number v)) g x (get_or (set w.nodes a.number v) x new_node) (next x) (λ b. items_of g (frames x b w.packets (s ∷ w.steps)))
-    stands_at x in_x (inl is) = subst (λ y. Stands (length (set w.nodes a.number v)) g y (get_or (set w.nodes a.number v) y new_node) (next y) (λ b. items_of g (frames y b w.packets (s ∷ w.steps)))) (sym is)
-        (rw (len, node_there w a.number v within) (same_carried nodes g a.number v (next a.number) _ _ (λ b. ap (items_of g) (sym (same_frames a.number b))) res.stands))
-    stands_at x in_x (inr other) = rw (len, node_elsewhere w a.number x v other, res.others x other) (same_carried nodes g x (node_of w x) (group x) _ _ (λ b. ap (items_of g) (sym (same_frames x b))) (fits.stands x in_x))
-
-    replies_at : (x : ℕ) → x < nodes → ((x ≡ a.number) ⊎ (x ≡ a.number → ⊥)) → (next x).replies ≡ replies_to g x w.steps ++ reply_in g x w.steps (At a request) (Replied reply)
-    replies_at x in_x (inl is) = subst (λ y. (next y).replies ≡ replies_to g y w.steps ++ reply_in g y w.steps (At a request) (Replied reply)) (sym is) (res.replies ∙ ap (λ rs. rs ++ reply_in g a.number w.steps (At a request) (Replied reply)) (fits.replies a.number within))
-    replies_at x in_x (inr other) = ap (λ (m : Member). m.replies) (res.others x other) ∙ (fits.replies x in_x ∙ (sym (append-nil (replies_to g x w.steps)) ∙ ap (λ rs. replies_to g x w.steps ++ rs) (sym (silent_elsewhere g a x w.steps request reply other))))
-
-    come_same : (y : ℕ) (P : (ℕ → List ℕ) → Type 0) → ((y ≡ a.number) ⊎ (y ≡ a.number → ⊥)) → P (group y).come → P (next y).come
-    come_same y P (inl is) old = subst P (sym (subst (λ z. (next z).come ≡ (group z).come) (sym is) res.come)) old
-    come_same y P (inr other) old = subst P (sym (ap (λ (m : Member). m.come) (res.others y other))) old
-
--- every group behaves as alone after the request too
-pub at_holds : (w : World) (a : NodeId) (request : Request) → a.number < length w.nodes → Holds w → Holds (at_world w a request)
-unfolding project
-at_holds w a request within holds = record {
-  links = at_links w a request within holds.links;
-  groups = λ g room. group_at g (served_before g s w.steps room);
-}
+row_free : (nodes : ℕ) (a : NodeId) (v : NodeValue) (request : Request) (token : List ℕ) (row : TenantRow) → request ≡ AddTenant token row → node_reply nodes a.number v request ≡ Done → v.row ≡ None
+row_free nodes a v request token row is done = by v.stopped (sym (ap (node_reply nodes a.number v) is) ∙ done)
   where
-    nodes : ℕ
-    nodes = length w.nodes
+    by : (b : Bool) → (if b then Refused Stopped else row_answer row v.row) ≡ Done → v.row ≡ None
+    by true is = absurd (cc)
+    by false is = row_done row v.row is
 
-    reply : Reply
-    reply = node_reply nodes a.number (node_of w a.number) request
+module _ (w : World) (a : NodeId) (request : Request) where
+  abbrev before_node : NodeValue
+  before_node = node_of w a.number
 
-    s : Step
-    s = record { event = At a request; answer = Replied reply }
+  abbrev reply : Reply
+  reply = node_reply (length w.nodes) a.number before_node request
 
-    group_at : (g : Addr) → (is_turned_away g (At a request) (Replied reply) ≡ false) × (is_served g w.steps ≡ true) → BehavesAlone g (at_world w a request)
-    group_at g room =
-        let before : BehavesAlone g w = holds.groups g room.1 in
-        let given : List GroupStep = requested g w.steps a request reply in
-        let group : Group = alone nodes g.group (project g w.packets w.steps) in
-        let res = result nodes g a (node_after nodes a (node_of w a.number) request) group (λ b. items_of g (frames a.number b w.packets w.steps)) given (reply_in g a.number w.steps (At a request) (Replied reply)) (at_request nodes g a (node_of w a.number) group (λ b. items_of g (frames a.number b w.packets w.steps)) w.steps request (holds.links.rows a.number g.tenant within) room.0 (before.fits.stands a.number within)) in
-        goes_on g w (at_world w a request) given (length-set w.nodes a.number (node_after nodes a (node_of w a.number) request)) refl before res.legal (at_fits g w a request group (alone_from nodes g.group group given) given within before.fits res)
+  abbrev node : NodeValue
+  node = node_did a request reply before_node
+
+  abbrev step : Step
+  step = asking a request reply
+
+  node_at : a.number < length w.nodes → Links w → NodeIs (length w.nodes) w.silence (w.packets ++ []) (step ∷ w.steps) a.number node
+  unfolding has_row is_stopped is_noticed frames is_taken is_acked watched
+  node_at within links =
+      let was = links.node a.number within in
+      let keeps = node_keeps a request reply before_node in
+      rw (append-nil w.packets) (record {
+        rows = λ tenant. ap (λ b. is_taken_in a.number tenant (At a request) (Replied reply) || b) (was.rows tenant) ∙ sym (row_by a before_node request reply tenant (row_free (length w.nodes) a before_node request));
+        stopped = keeps.stopped ∙ was.stopped;
+        watch = keeps.watch ∙ was.watch;
+        noticed = λ b. ap (λ d. set.contains d.noticed b) keeps.watch ∙ was.noticed b;
+        senders = ap length keeps.senders ∙ was.senders;
+        receivers = ap length keeps.receivers ∙ was.receivers;
+        sender = λ b in_b. ap (λ ws. get_or ws b new_window) keeps.senders ∙ (was.sender b in_b ∙ ap (window_of (λ n. is_acked a.number b n w.packets w.steps)) (sym (append-nil (frames a.number b w.packets w.steps))));
+        receiver = λ b n in_b some. ap (λ rs. set.contains (get_or rs b set.empty) n) keeps.receivers ∙ was.receiver b n in_b some;
+      })
+
+  acts : ActsAt w a.number step []
+  acts = record {
+    number = omega arith;
+    frame = λ x y other. refl;
+    taken = λ x y n other. refl;
+    acked = λ x y n other. refl;
+    row = λ x tenant other. row_elsewhere a x tenant request reply other;
+    reply = λ g x other. silent_elsewhere g a x w.steps request reply other;
+    made = λ g x other. unmade_elsewhere g a x request reply other;
+    noticed = λ x b other. refl;
+    stopped = λ x other. refl;
+    met = λ g x other. rw (eqb_apart_back x a.number other) refl;
+    watched = λ x other. refl;
+    sent_taken = λ x y n in_x in_y is. absurd (cc);
+    sent_acked = λ x y n in_x in_y some is. absurd (cc);
+  }
+
+  links_at : a.number < length w.nodes → Links w → Links (turned w a.number node step [])
+  links_at within links = links_turn w a.number node step [] within links acts (node_at within links)
+      (λ x y in_x in_y. quiet_link w step [] x y links.numbered refl (λ n. refl) (λ n. refl) (links.link x y in_x in_y))
+      (λ k p at. absurd (cc))
+
+  before_request : (g : Addr) → a.number < length w.nodes → Links w → BehavesAlone g w
+      → Before (length w.nodes) g a before_node (alone (length w.nodes) g.group (project g w.packets w.steps)) (λ b. items_of g (frames a.number b w.packets w.steps)) w.steps
+  before_request g within links alike =
+      let was = links.node a.number within in
+      record {
+        rows = was.rows g.tenant;
+        noticed = was.noticed;
+        below = noticed_below (length w.nodes) w.silence w.packets w.steps a.number before_node links.few links.silence was;
+        stands = alike.fits.stands a.number within;
+        member = alike.fits.member a.number within;
+      }
+
+  group_at : (g : Addr) → a.number < length w.nodes → Links w → is_turned_away g (At a request) (Replied reply) ≡ false → BehavesAlone g w
+      → GroupTurn g w a.number node step [] (alone (length w.nodes) g.group (project g w.packets w.steps))
+      (alone_from (length w.nodes) g.group (alone (length w.nodes) g.group (project g w.packets w.steps)) (asked g w.steps a request reply)) (asked g w.steps a request reply)
+  unfolding is_taken is_acked
+  group_at g within links free alike = record {
+    legal = happens.legal;
+    others = happens.others;
+    stands = subst (λ (m : Member). Stands (length w.nodes) g a.number node m (λ b. items_of g (frames a.number b (w.packets ++ []) (step ∷ w.steps)))) (sym happens.there)
+        (same_carried (length w.nodes) g a.number node happens.next (λ b. items_of g (frames a.number b w.packets w.steps)) (λ b. items_of g (frames a.number b (w.packets ++ []) (step ∷ w.steps)))
+        (λ b. ap (items_of g) (sym (frames_turned w step [] links.numbered a.number b ∙ append-nil (frames a.number b w.packets w.steps)))) happens.stands);
+    member = subst (MemberIs g a.number (step ∷ w.steps)) (sym happens.there) happens.member;
+    come = λ x in_x. subst (λ (f : ℕ → List ℕ). AreMarked g (frames x a.number w.packets w.steps) (λ n. is_taken x a.number n (w.packets ++ []) (step ∷ w.steps)) (f x)) (sym (ap (λ (m : Member). m.come) happens.there ∙ happens.come))
+        (same_marks g (frames x a.number w.packets w.steps) (λ n. is_taken x a.number n w.packets w.steps) (λ n. is_taken x a.number n (w.packets ++ []) (step ∷ w.steps)) ((group a.number).come x)
+        (λ n. sym (taken_turned w step [] links.numbered x a.number n)) (alike.fits.come x a.number in_x within));
+    done = λ b in_b. subst (λ (f : ℕ → List ℕ). AreMarked g (frames a.number b w.packets w.steps) (λ n. is_acked a.number b n (w.packets ++ []) (step ∷ w.steps)) (f b)) (sym (ap (λ (m : Member). m.done) happens.there ∙ happens.done))
+        (same_marks g (frames a.number b w.packets w.steps) (λ n. is_acked a.number b n w.packets w.steps) (λ n. is_acked a.number b n (w.packets ++ []) (step ∷ w.steps)) ((group a.number).done b)
+        (λ n. sym (acked_turned w step [] links.numbered a.number b n)) (alike.fits.done a.number b within in_b));
+  }
+    where
+      group : Group
+      group = alone (length w.nodes) g.group (project g w.packets w.steps)
+
+      happens : After (length w.nodes) g a node group (λ b. items_of g (frames a.number b w.packets w.steps)) w.steps request reply (asked g w.steps a request reply)
+      happens = at_request (length w.nodes) g a before_node group (λ b. items_of g (frames a.number b w.packets w.steps)) w.steps request reply refl ((links.node a.number within).stopped) (before_request g within links alike) free
+
+-- every cluster keeps what it holds through a request
+pub at_holds : (w : World) (a : NodeId) (request : Request) → a.number < length w.nodes → Holds w → Holds (world_after w (At a request))
+at_holds w a request within holds = holds_turn w a.number (node w a request) (step w a request) [] within holds (acts w a request) (links_at w a request within holds.links) (λ g free alike. group_at w a request g within holds.links free alike)

@@ -1,80 +1,72 @@
 -- What the parts of a cluster's step give together.
-use Rattle.std.proofs.Common.{◌≡◌, ℕ, zero, suc, ◌+◌, ◌≤◌, ◌<◌, List, [], ◌∷◌, ◌++◌, length, Bool, true, false, inl, inr, refl, sym, ◌∙◌, ap, subst, arith, get_or}
-use Rattle.std.specs.Prelude.{reverse, replicate, slice_set, slice_index_or, Result, Ok, Err, OnErr, if◌then◌else◌}
-use Rattle.std.proofs.lemmas.List.{reverse-append, set-get_or, length-replicate, length_push}
+use Rattle.std.proofs.Common.{◌≡◌, ℕ, zero, suc, ◌+◌, ◌≤◌, ◌<◌, List, [], ◌∷◌, ◌++◌, length, map, Bool, true, false, inl, inr, refl, sym, ◌∙◌, ap, subst, arith, get_or}
+use Rattle.std.specs.Prelude.{reverse, slice_set, slice_index_or, Result, Ok, Err, OnErr, if◌then◌else◌}
+use Rattle.std.specs.List.{range_with_len}
+use Rattle.std.proofs.lemmas.List.{reverse-append, set-get_or, length_push, append-nil}
+use Rattle.std.proofs.lemmas.List.FromFn.{length-map-range_with_len}
+use Rattle.gb_detect.specs.Watch.{due}
 use Rattle.gb_types.specs.declared.entry.Entry.{Entry}
-use Rattle.gb_types.specs.declared.limits.TheConstants.{NODES}
+use Rattle.gb_types.specs.declared.limits.TheConstants.{NODES, SILENCE_MIN}
 use Rattle.gb_types.specs.declared.node.NodeId.{NodeId}
+use Rattle.gb_types.specs.declared.refusal.Refusal.{Refusal}
+use Rattle.gb_types.specs.declared.refusal.Refusal.TheVariants.{Stopped}
 use Rattle.gb_types.specs.declared.reply.Reply.{Reply}
 use Rattle.gb_types.specs.declared.reply.Reply.TheVariants.{Log}
 use Rattle.gb_types.specs.declared.request.Request.{Request}
 use Rattle.gb_types.specs.declared.request.Request.TheVariants.{AddTenant, Make, OpenGroup, Say, Fetch}
 use Rattle.gb_cluster.specs.Headline.{IsStep, IsPlaced, ArePlaced, AreIsolated}
 use Rattle.gb_cluster.specs.Holds.{Holds}
+use Rattle.gb_cluster.specs.LinkLaws.{IsLinkStep, KeepsLinks}
+use Rattle.gb_cluster.proofs.LinkStep.{link_step}
 use Rattle.gb_cluster.specs.NodeValue.{NodeValue}
 use Rattle.gb_cluster.specs.Project.{packet_at}
 use Rattle.gb_cluster.specs.Observation.{paired, steps_of}
 use Rattle.gb_cluster.specs.Trace.{bare, ComesTo, IsRun}
-use Rattle.gb_cluster.specs.World.{World, new_node, node_of, node_did, node_reply, sent_by, sent_answer, arrive_answer, arrived_world, answer_of, changed, with_step, has_received, world_after, new_world}
+use Rattle.gb_cluster.specs.World.{World, new_node, no_node, node_did, node_reply, node_packed, node_sent, node_again, node_ack, node_took, good_of, node_ticked, only_answered, sent_part, found_part, goal_of, answer_of, changed, with_step, world_after, new_world}
 use Rattle.gb_cluster.specs.declared.answer.Answer.{Answer}
-use Rattle.gb_cluster.specs.declared.answer.Answer.TheVariants.{Reply as Replied, Taken as Took_in}
-use Rattle.gb_cluster.specs.declared.answer.Frame.TheVariants.{First, Seen}
-use Rattle.gb_cluster.specs.declared.answer.Taken.TheVariants.{Good as Accepted}
+use Rattle.gb_cluster.specs.declared.answer.Answer.TheVariants.{Reply as Replied, Sent as Gave, Taken as Took_in, Ticked as Ticked_so, Halted as Halted_so}
+use Rattle.gb_cluster.specs.declared.answer.Halted.TheVariants.{Done as Halts, Refused as Ended}
+use Rattle.gb_cluster.specs.declared.answer.Sent.TheVariants.{Refused as Unsent}
+use Rattle.gb_cluster.specs.declared.answer.Taken.TheVariants.{Good as Accepted, Refused as Lost}
+use Rattle.gb_cluster.specs.declared.answer.Ticked.TheVariants.{Noticed, Refused as Untold}
 use Rattle.gb_cluster.specs.declared.event.Event.{Event}
-use Rattle.gb_cluster.specs.declared.event.Event.TheVariants.{At, Pack, Arrive}
+use Rattle.gb_cluster.specs.declared.event.Event.TheVariants.{At, Pack, Again, Ack, Arrive, Tick, Stop}
 use Rattle.gb_cluster.specs.declared.packet.Packet.{Packet}
 use Rattle.gb_cluster.specs.declared.step.Step.{Step}
-use Rattle.gb_cluster.proofs.StepLemmas.{step_holds, starved_holds, start_holds}
+use Rattle.gb_cluster.proofs.StartLemmas.{starved_holds, start_holds}
+use Rattle.gb_cluster.proofs.StepLemmas.{step_holds}
 use Rattle.gb_cluster.proofs.Theorem.{same_count}
 
-abbrev pub world : List NodeValue → List Step → List Packet → World
-world nodes steps packets = record { nodes = nodes; steps = steps; packets = packets }
+abbrev pub world : List NodeValue → List Step → List Packet → ℕ → World
+world nodes steps packets silence = record { nodes = nodes; steps = steps; packets = packets; silence = silence }
 
 -- what happened is told, also where nothing was told of what was before
-same_changes : (nodes : List NodeValue) (steps : List Step) (packets : List Packet) (e : Event) → world_after (record { nodes = nodes; steps = steps; packets = packets }) e
-    ≡ record { nodes = (changed (bare nodes packets) e).nodes; steps = record { event = e; answer = answer_of (bare nodes packets) e } ∷ steps; packets = (changed (bare nodes packets) e).packets }
-same_changes nodes steps packets (At a request) = refl
-same_changes nodes steps packets (Pack a b) = refl
-same_changes nodes steps packets (Arrive k) = go (packet_at packets k)
-  where
-    go : (found : List Packet) → with_step (Arrive k) (arrive_answer (record { nodes = nodes; steps = steps; packets = packets }) found) (arrived_world (record { nodes = nodes; steps = steps; packets = packets }) found)
-        ≡ record { nodes = (arrived_world (bare nodes packets) found).nodes; steps = record { event = Arrive k; answer = arrive_answer (bare nodes packets) found } ∷ steps; packets = (arrived_world (bare nodes packets) found).packets }
-    go [] = refl
-    go (p ∷ found) = refl
-
-same_answer : (nodes : List NodeValue) (steps : List Step) (packets : List Packet) (e : Event) → answer_of (record { nodes = nodes; steps = steps; packets = packets }) e ≡ answer_of (bare nodes packets) e
-same_answer nodes steps packets (At a request) = refl
-same_answer nodes steps packets (Pack a b) = refl
-same_answer nodes steps packets (Arrive k) = go (packet_at packets k)
-  where
-    go : (found : List Packet) → arrive_answer (record { nodes = nodes; steps = steps; packets = packets }) found ≡ arrive_answer (bare nodes packets) found
-    go [] = refl
-    go (p ∷ found) = refl
+same_changes : (nodes : List NodeValue) (steps : List Step) (packets : List Packet) (silence : ℕ) (e : Event)
+    → world_after (world nodes steps packets silence) e ≡ world (changed (bare nodes packets) e).nodes (record { event = e; answer = answer_of (bare nodes packets) e } ∷ steps) (changed (bare nodes packets) e).packets silence
+same_changes nodes steps packets silence e = refl
 
 -- the code's step, from what its parts give
-pub stepped : (w : World) (nodes others : List NodeValue) (past later : List Step) (packets held more : List Packet) (e : Event) (a : Answer) → world nodes (reverse past) packets ≡ w → held ≡ packets → IsStep (bare nodes held) e a (with_step e a (bare others more))
-    → later ≡ past ++ record { event = e; answer = a } ∷ [] → IsStep w e a (world others (reverse later) more)
-stepped w nodes others past later packets held more e a was same step grown =
-    subst (λ (v : World). IsStep v e a (world others (reverse later) more)) was (go (subst (λ (ps : List Packet). IsStep (bare nodes ps) e a (with_step e a (bare others more))) same step))
+pub stepped : (w : World) (nodes others : List NodeValue) (past later : List Step) (packets held more : List Packet) (silence : ℕ) (e : Event) (a : Answer) → world nodes (reverse past) packets silence ≡ w → held ≡ packets → IsStep (bare nodes held) e a (with_step e a (bare others more))
+    → later ≡ past ++ record { event = e; answer = a } ∷ [] → IsStep w e a (world others (reverse later) more silence)
+stepped w nodes others past later packets held more silence e a was same step grown =
+    subst (λ (v : World). IsStep v e a (world others (reverse later) more silence)) was (go (subst (λ (ps : List Packet). IsStep (bare nodes ps) e a (with_step e a (bare others more))) same step))
   where
     turned : reverse later ≡ record { event = e; answer = a } ∷ reverse past
     turned = ap reverse grown ∙ reverse-append past (record { event = e; answer = a } ∷ [])
 
-    joined : (ns : List NodeValue) (ps : List Packet) (x : Answer) → others ≡ ns → more ≡ ps → a ≡ x → world others (reverse later) more ≡ world ns (record { event = e; answer = x } ∷ reverse past) ps
+    joined : (ns : List NodeValue) (ps : List Packet) (x : Answer) → others ≡ ns → more ≡ ps → a ≡ x → world others (reverse later) more silence ≡ world ns (record { event = e; answer = x } ∷ reverse past) ps silence
     joined ns ps x nodes_are packets_are answer =
-        ap (λ (zs : List NodeValue). record { nodes = zs; steps = reverse later; packets = more }) nodes_are
-        ∙ (ap (λ (zs : List Packet). record { nodes = ns; steps = reverse later; packets = zs }) packets_are
-        ∙ (ap (λ (zs : List Step). record { nodes = ns; steps = zs; packets = ps }) turned
-        ∙ ap (λ (z : Answer). record { nodes = ns; steps = record { event = e; answer = z } ∷ reverse past; packets = ps }) answer))
+        ap (λ (zs : List Step). world others zs more silence) turned
+        ∙ (λ j. world (nodes_are j) (record { event = e; answer = answer j } ∷ reverse past) (packets_are j) silence)
 
-    go : IsStep (bare nodes packets) e a (with_step e a (bare others more)) → IsStep (record { nodes = nodes; steps = reverse past; packets = packets }) e a (record { nodes = others; steps = reverse later; packets = more })
+    go : IsStep (bare nodes packets) e a (with_step e a (bare others more)) → IsStep (world nodes (reverse past) packets silence) e a (world others (reverse later) more silence)
     go (inl starved) = inl (starved.0, joined nodes packets a (ap (λ (w : World). w.nodes) starved.1) (ap (λ (w : World). w.packets) starved.1) refl)
     go (inr goes) =
-        let whole : with_step e a (bare others more) ≡ record { nodes = (changed (bare nodes packets) e).nodes; steps = record { event = e; answer = answer_of (bare nodes packets) e } ∷ []; packets = (changed (bare nodes packets) e).packets } = goes.1 ∙ same_changes nodes [] packets e in
+        let whole : with_step e a (bare others more) ≡ world (changed (bare nodes packets) e).nodes (record { event = e; answer = answer_of (bare nodes packets) e } ∷ []) (changed (bare nodes packets) e).packets 0 = goes.1 ∙ same_changes nodes [] packets 0 e in
         inr (
-          goes.0 ∙ sym (same_answer nodes (reverse past) packets e),
+          goes.0,
           joined (changed (bare nodes packets) e).nodes (changed (bare nodes packets) e).packets (answer_of (bare nodes packets) e) (ap (λ (w : World). w.nodes) whole) (ap (λ (w : World). w.packets) whole) goes.0
-              ∙ sym (same_changes nodes (reverse past) packets e),
+              ∙ sym (same_changes nodes (reverse past) packets silence e),
         )
 
 -- a log changes no node
@@ -85,62 +77,85 @@ quiet_log me (OpenGroup token addr) entries v = refl
 quiet_log me (Say token addr payload) entries v = refl
 quiet_log me (Fetch token addr from most) entries v = refl
 
+-- an answer is no log
+abbrev pub IsNoLog : Answer → Type 0
+IsNoLog answer = (entries : List Entry) → answer ≡ Replied (Log entries) → ⊥
+
+sent_is_no_log : (count : ℕ) (v u : NodeValue) (why : Refusal) (packets : List Packet) (stopped : Bool) → IsNoLog (if stopped then only_answered v (Gave (Unsent why)) else sent_part count u packets).answer
+sent_is_no_log count v u why packets true entries is = cc
+sent_is_no_log count v u why [] false entries is = cc
+sent_is_no_log count v u why (p ∷ packets) false entries is = cc
+
+taken_is_no_log : (p : Packet) (v : NodeValue) (stopped : Bool) → IsNoLog (if stopped then only_answered v (Took_in (Lost Stopped)) else only_answered (node_took p v) (Took_in (Accepted (good_of p v)))).answer
+taken_is_no_log p v true entries is = cc
+taken_is_no_log p v false entries is = cc
+
+found_is_no_log : (packets : List Packet) (v : NodeValue) → IsNoLog (found_part packets v).answer
+found_is_no_log [] v entries is = cc
+found_is_no_log (p ∷ packets) v entries is = taken_is_no_log p v v.stopped entries is
+
+ticked_is_no_log : (v : NodeValue) (stopped : Bool) → IsNoLog (if stopped then only_answered v (Ticked_so (Untold Stopped)) else only_answered (node_ticked v) (Ticked_so (Noticed (due v.watch)))).answer
+ticked_is_no_log v true entries is = cc
+ticked_is_no_log v false entries is = cc
+
+halted_is_no_log : (v u : NodeValue) (stopped : Bool) → IsNoLog (if stopped then only_answered v (Halted_so (Ended Stopped)) else only_answered u (Halted_so Halts)).answer
+halted_is_no_log v u true entries is = cc
+halted_is_no_log v u false entries is = cc
+
 -- an event that is answered by a log changes nothing else
 log_changes_nothing : (nodes others : List NodeValue) (packets more : List Packet) (e : Event) (a : Answer) (entries : List Entry) → a ≡ Replied (Log entries) → IsStep (bare nodes packets) e a (with_step e a (bare others more)) → (others ≡ nodes) × (more ≡ packets)
 log_changes_nothing nodes others packets more e a entries is (inl starved) = (ap (λ (w : World). w.nodes) starved.1, ap (λ (w : World). w.packets) starved.1)
 log_changes_nothing nodes others packets more e a entries is (inr goes) =
-    let whole : with_step e a (bare others more) ≡ record { nodes = (changed (bare nodes packets) e).nodes; steps = record { event = e; answer = answer_of (bare nodes packets) e } ∷ []; packets = (changed (bare nodes packets) e).packets } = goes.1 ∙ same_changes nodes [] packets e in
+    let whole : with_step e a (bare others more) ≡ world (changed (bare nodes packets) e).nodes (record { event = e; answer = answer_of (bare nodes packets) e } ∷ []) (changed (bare nodes packets) e).packets 0 = goes.1 ∙ same_changes nodes [] packets 0 e in
     let same = quiet e (sym goes.0 ∙ is) in
     (ap (λ (w : World). w.nodes) whole ∙ same.0, ap (λ (w : World). w.packets) whole ∙ same.1)
   where
     quiet : (f : Event) → answer_of (bare nodes packets) f ≡ Replied (Log entries) → ((changed (bare nodes packets) f).nodes ≡ nodes) × ((changed (bare nodes packets) f).packets ≡ packets)
     quiet (At b request) answer =
-        let v = slice_index_or nodes b.number new_node in
+        let v = slice_index_or nodes b.number no_node in
         let reply : node_reply (length nodes) b.number v request ≡ Log entries = cc in
-        (ap (λ (r : Reply). slice_set nodes b.number (node_did b request r v)) reply ∙ (ap (slice_set nodes b.number) (quiet_log b request entries v) ∙ set-get_or nodes b.number new_node), refl)
-    quiet (Pack b c) answer = absurd (unsent (sent_by (bare nodes packets) b c) answer)
-      where
-        unsent : (ps : List Packet) → sent_answer (length packets) ps ≡ Replied (Log entries) → ⊥
-        unsent [] eq = cc
-        unsent (p ∷ ps) eq = cc
-    quiet (Arrive k) answer = absurd (unlogged (packet_at packets k) answer)
-      where
-        unlogged : (found : List Packet) → arrive_answer (bare nodes packets) found ≡ Replied (Log entries) → ⊥
-        unlogged [] eq = cc
-        unlogged (p ∷ found) eq = seen (has_received (node_of (bare nodes packets) p.to.number) p.from.number p.frame) eq
-          where
-            seen : (b : Bool) → (if b then Took_in (Accepted (record { from = p.from; frame = Seen; items = 0; done = 0 })) else Took_in (Accepted (record { from = p.from; frame = First; items = 1; done = 0 }))) ≡ Replied (Log entries) → ⊥
-            seen true was = cc
-            seen false was = cc
+        (ap (λ (r : Reply). slice_set nodes b.number (node_did b request r v)) reply ∙ (ap (slice_set nodes b.number) (quiet_log b request entries v) ∙ set-get_or nodes b.number no_node), append-nil packets)
+    quiet (Pack b c) answer =
+        let v = slice_index_or nodes b.number no_node in
+        absurd (sent_is_no_log (length packets) v (node_sent c (node_packed (length nodes) b c v) v) Stopped (node_packed (length nodes) b c v) v.stopped entries answer)
+    quiet (Again b c n) answer =
+        let v = slice_index_or nodes b.number no_node in
+        absurd (sent_is_no_log (length packets) v v Stopped (node_again (length nodes) b c n v) v.stopped entries answer)
+    quiet (Ack b c) answer =
+        let v = slice_index_or nodes b.number no_node in
+        absurd (sent_is_no_log (length packets) v v Stopped (node_ack (length nodes) b c v) v.stopped entries answer)
+    quiet (Arrive k) answer = absurd (found_is_no_log (packet_at packets k) (slice_index_or nodes (goal_of (packet_at packets k)) no_node) entries answer)
+    quiet (Tick b) answer = let v = slice_index_or nodes b.number no_node in absurd (ticked_is_no_log v v.stopped entries answer)
+    quiet (Stop b) answer = let v = slice_index_or nodes b.number no_node in absurd (halted_is_no_log v (record v { stopped = true }) v.stopped entries answer)
 
-pub unchanged : (w : World) (nodes others : List NodeValue) (past later : List Step) (packets held more : List Packet) (e : Event) (a : Answer) (entries : List Entry) → world nodes (reverse past) packets ≡ w → held ≡ packets → later ≡ past → a ≡ Replied (Log entries)
-    → IsStep (bare nodes held) e a (with_step e a (bare others more)) → world others (reverse later) more ≡ w
-unchanged w nodes others past later packets held more e a entries was same past_same is step =
+pub unchanged : (w : World) (nodes others : List NodeValue) (past later : List Step) (packets held more : List Packet) (silence : ℕ) (e : Event) (a : Answer) (entries : List Entry) → world nodes (reverse past) packets silence ≡ w → held ≡ packets → later ≡ past → a ≡ Replied (Log entries)
+    → IsStep (bare nodes held) e a (with_step e a (bare others more)) → world others (reverse later) more silence ≡ w
+unchanged w nodes others past later packets held more silence e a entries was same past_same is step =
     let quiet = log_changes_nothing nodes others held more e a entries is step in
-    ap (λ (ns : List NodeValue). world ns (reverse later) more) quiet.0
-    ∙ (ap (λ (ps : List Packet). world nodes (reverse later) ps) (quiet.1 ∙ same)
-    ∙ (ap (λ (ss : List Step). world nodes (reverse ss) packets) past_same ∙ was))
+    (λ j. world (quiet.0 j) (reverse (past_same j)) ((quiet.1 ∙ same) j) silence) ∙ was
 
 -- what happened is told
 pub steps_after : (w u : World) (e : Event) (a : Answer) → IsStep w e a u → u.steps ≡ record { event = e; answer = a } ∷ w.steps
 steps_after w u e a (inl starved) = ap (λ (x : World). x.steps) starved.1
-steps_after w u e a (inr goes) =
-    ap (λ (x : World). x.steps) (goes.1 ∙ same_changes w.nodes w.steps w.packets e)
-    ∙ ap (λ (x : Answer). record { event = e; answer = x } ∷ w.steps) (sym (goes.0 ∙ same_answer w.nodes w.steps w.packets e))
+steps_after w u e a (inr goes) = ap (λ (x : World). x.steps) goes.1 ∙ ap (λ (x : Answer). record { event = e; answer = x } ∷ w.steps) (sym goes.0)
 
 -- a cluster in which nothing has happened
-pub started : (n i : ℕ) (nodes : List NodeValue) (past : List Step) (packets : List Packet) → i ≡ n → nodes ≡ replicate i new_node → past ≡ [] → packets ≡ [] → n ≤ NODES → Holds (world nodes (reverse past) packets)
-started n i nodes past packets all nodes_are past_is packets_are few =
-    let is : world nodes (reverse past) packets ≡ new_world n =
-    ap (λ (ns : List NodeValue). world ns (reverse past) packets) (nodes_are ∙ ap (λ k. replicate k new_node) all)
-    ∙ (ap (λ (ss : List Step). world (replicate n new_node) (reverse ss) packets) past_is
-    ∙ ap (λ (ps : List Packet). world (replicate n new_node) [] ps) packets_are) in
-    subst Holds (sym is) (start_holds n few)
+pub started : (n i silence : ℕ) (nodes : List NodeValue) (past : List Step) (packets : List Packet) → i ≡ n → nodes ≡ map (λ a. new_node a n silence) (range_with_len 0 i) → past ≡ [] → packets ≡ [] → world nodes (reverse past) packets silence ≡ new_world n silence
+started n i silence nodes past packets all nodes_are past_is packets_are = λ j. world ((nodes_are ∙ ap (λ k. map (λ a. new_node a n silence) (range_with_len 0 k)) all) j) (reverse (past_is j)) (packets_are j) silence
+
+pub started_holds : (n silence : ℕ) (w : World) → 0 < n → n ≤ NODES → SILENCE_MIN ≤ silence → w ≡ new_world n silence → Holds w
+started_holds n silence w some few least is = subst Holds (sym is) (start_holds n silence some few least)
+
+-- every step does what links owe
+pub links_kept : (w u : World) (e : Event) (a : Answer) → IsPlaced (length w.nodes) e → Holds w → IsStep w e a u → KeepsLinks w e a u
+links_kept w u e a placed holds (inl starved) = inl starved.0
+links_kept w u e a placed holds (inr goes) =
+    inr (subst (λ (x : Answer). IsLinkStep w e x u) (sym goes.0) (subst (λ (y : World). IsLinkStep w e (answer_of w e) y) (sym goes.1) (link_step w e placed holds)))
 
 -- every cluster keeps what holds
 pub keeps : (w u : World) (e : Event) (a : Answer) → IsPlaced (length w.nodes) e → Holds w → IsStep w e a u → Holds u
 keeps w u e a placed holds (inl starved) =
-    subst Holds (sym (starved.1 ∙ ap (λ (x : Answer). with_step e x w) starved.0)) (starved_holds w e holds)
+    subst Holds (sym (starved.1 ∙ ap (λ (x : Answer). with_step e x w) starved.0)) (starved_holds w e placed holds)
 keeps w u e a placed holds (inr goes) = subst Holds (sym goes.1) (step_holds w e placed holds)
 
 -- so many nodes stay
@@ -165,27 +180,27 @@ unfolding steps_of
 steps_of-push events answers e a same = ap reverse (paired-push events answers e a same) ∙ reverse-append (paired events answers) (record { event = e; answer = a } ∷ [])
 
 -- a run of no event
-pub run_begins : (nodes : ℕ) (w : World) (events : List Event) (answers : List Answer) → events ≡ [] → answers ≡ [] → w ≡ new_world nodes → AreIsolated w → IsRun nodes events answers w.packets w
+pub run_begins : (nodes silence : ℕ) (w : World) (events : List Event) (answers : List Answer) → events ≡ [] → answers ≡ [] → w ≡ new_world nodes silence → AreIsolated w → IsRun nodes silence events answers w.packets w
 unfolding steps_of ComesTo
-run_begins nodes w events answers none none_yet new isolated =
+run_begins nodes silence w events answers none none_yet new isolated =
     let steps : steps_of events answers ≡ [] = ap (λ (es : List Event). steps_of es answers) none ∙ ap (λ (given : List Answer). steps_of [] given) none_yet in
     record {
-      comes = subst (λ (ss : List Step). ComesTo nodes ss w) (sym steps) new;
+      comes = subst (λ (ss : List Step). ComesTo nodes silence ss w) (sym steps) new;
       steps = ap (λ (u : World). u.steps) new ∙ sym steps;
       complete = ap length none_yet ∙ sym (ap length none);
       sent = refl;
-      count = ap (λ (u : World). length u.nodes) new ∙ length-replicate nodes new_node;
+      count = ap (λ (u : World). length u.nodes) new ∙ length-map-range_with_len (λ a. new_node a nodes silence) 0 nodes;
       isolated = isolated;
     }
 
 -- a run of one event more
-pub run_goes : (nodes : ℕ) (w u : World) (events more : List Event) (answers others : List Answer) (e : Event) (a : Answer) → IsRun nodes events answers w.packets w → more ≡ events ++ e ∷ [] → others ≡ answers ++ a ∷ [] → IsStep w e a u → AreIsolated u → IsRun nodes more others u.packets u
+pub run_goes : (nodes silence : ℕ) (w u : World) (events more : List Event) (answers others : List Answer) (e : Event) (a : Answer) → IsRun nodes silence events answers w.packets w → more ≡ events ++ e ∷ [] → others ≡ answers ++ a ∷ [] → IsStep w e a u → KeepsLinks w e a u → AreIsolated u → IsRun nodes silence more others u.packets u
 unfolding ComesTo
-run_goes nodes w u events more answers others e a was events_are answers_are step isolated =
+run_goes nodes silence w u events more answers others e a was events_are answers_are step links isolated =
     let steps : steps_of more others ≡ record { event = e; answer = a } ∷ steps_of events answers =
     ap (λ (es : List Event). steps_of es others) events_are ∙ (ap (steps_of (events ++ e ∷ [])) answers_are ∙ steps_of-push events answers e a was.complete) in
     record {
-      comes = subst (λ (ss : List Step). ComesTo nodes ss u) (sym steps) (w, was.comes, step);
+      comes = subst (λ (ss : List Step). ComesTo nodes silence ss u) (sym steps) (w, was.comes, step, links);
       steps = steps_after w u e a step ∙ (ap (λ (ss : List Step). record { event = e; answer = a } ∷ ss) was.steps ∙ sym steps);
       complete = ap length answers_are ∙ (length_push answers a ∙ (ap (λ n. n + 1) was.complete ∙ sym (ap length events_are ∙ length_push events e)));
       sent = refl;

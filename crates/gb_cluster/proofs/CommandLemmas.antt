@@ -6,17 +6,22 @@ use Rattle.std.proofs.lemmas.List.{append-nil, append_assoc}
 use Rattle.gb_types.specs.declared.entry.Entry.{Entry}
 use Rattle.gb_types.specs.declared.node.NodeId.{NodeId}
 use Rattle.gb_types.specs.declared.reply.Reply.{Reply}
-use Rattle.gb_slot.specs.declared.history.GroupCall.TheVariants.{Other}
-use Rattle.gb_cluster.specs.Alone.{Member, Group, reply_to, called, falls, taken_in, member_after, after, alone_from}
+use Rattle.gb_types.specs.declared.spec.Spec.{Spec}
+use Rattle.gb_slot.specs.Rules.{is_other}
+use Rattle.gb_slot.specs.declared.history.GroupCall.TheVariants.{Other, Crashed}
+use Rattle.gb_cluster.specs.Alone.{Member, Group, reply_to, called, falls, taken_in, cut, took_notice, member_after, after, alone_from}
 use Rattle.gb_cluster.specs.Laws.{accepted_in, accepted_at, accepted_from}
 use Rattle.gb_cluster.specs.declared.group.GroupEvent.{GroupEvent}
-use Rattle.gb_cluster.specs.declared.group.GroupEvent.TheVariants.{Tenant, Took, Came}
+use Rattle.gb_cluster.specs.declared.group.GroupEvent.TheVariants.{Tenant, Took, Came, Acknowledged, Notice, Stop}
 use Rattle.gb_cluster.specs.declared.group.GroupStep.{GroupStep}
 
 abbrev pub command_in : GroupEvent → List GroupEvent
 command_in (Tenant reserve) = []
 command_in (Took b count) = []
 command_in (Came from place) = []
+command_in (Acknowledged b place count) = []
+command_in (Notice q) = []
+command_in Stop = []
 command_in event = event ∷ []
 
 abbrev pub commands_at : ℕ → GroupStep → List GroupEvent
@@ -66,6 +71,9 @@ abbrev reply_of : GroupEvent → Reply → List Reply
 reply_of (Tenant reserve) reply = []
 reply_of (Took b count) reply = []
 reply_of (Came from place) reply = []
+reply_of (Acknowledged b place count) reply = []
+reply_of (Notice q) reply = []
+reply_of Stop reply = []
 reply_of event reply = reply ∷ []
 
 abbrev replies_at : ℕ → ℕ → Group → GroupStep → ℕ → List Reply
@@ -79,10 +87,17 @@ taken_replies : (me : ℕ) (from : NodeId) (place : ℕ) (o : Option Entry) (m :
 taken_replies me from place None m = refl
 taken_replies me from place (Some x) m = elim (falls me from.number x m.told m.spec) as (λ b. (if b then m else called me (Other from x) m).replies ≡ m.replies) [ true ↦ refl | false ↦ refl ]
 
+noticed_replies : (me : ℕ) (q : NodeId) (o : Option Spec) (m : Member) → (took_notice me q o m).replies ≡ m.replies
+noticed_replies me q None m = refl
+noticed_replies me q (Some spec) m = elim (is_other spec me q.number) as (λ b. (if b then called me (Crashed q) (cut q m) else m).replies ≡ m.replies) [ true ↦ refl | false ↦ refl ]
+
 event_replies : (nodes number : ℕ) (me : NodeId) (event : GroupEvent) (group : Group) → (member_after nodes number me event group).replies ≡ (group me.number).replies ++ reply_of event (reply_to nodes number me.number event (group me.number))
 event_replies nodes number me (Tenant reserve) group = sym (append-nil (group me.number).replies)
 event_replies nodes number me (Took b count) group = sym (append-nil (group me.number).replies)
 event_replies nodes number me (Came from place) group = taken_replies me.number from place (slice_get ((group from.number).put me.number) (place - 1)) (group me.number) ∙ sym (append-nil (group me.number).replies)
+event_replies nodes number me (Acknowledged b place count) group = sym (append-nil (group me.number).replies)
+event_replies nodes number me (Notice q) group = noticed_replies me.number q (group me.number).spec (group me.number) ∙ sym (append-nil (group me.number).replies)
+event_replies nodes number me Stop group = sym (append-nil (group me.number).replies)
 event_replies nodes number me event group = refl
 
 step_replies : (nodes number : ℕ) (group : Group) (step : GroupStep) (s : ℕ) → (after nodes number group step s).replies ≡ (group s).replies ++ replies_at nodes number group step s
@@ -105,6 +120,9 @@ event_pairs : (event : GroupEvent) (reply : Reply) → Pairs (command_in event) 
 event_pairs (Tenant reserve) reply = no_pairs
 event_pairs (Took b count) reply = no_pairs
 event_pairs (Came from place) reply = no_pairs
+event_pairs (Acknowledged b place count) reply = no_pairs
+event_pairs (Notice q) reply = no_pairs
+event_pairs Stop reply = no_pairs
 event_pairs event reply = one_pair event reply
 
 pub alone_pairs : (nodes number s : ℕ) (steps : List GroupStep) (group : Group) → Pairs (commands s steps) (replies_from nodes number group steps s) (accepted_from nodes number group steps s)

@@ -7,23 +7,23 @@ use Rattle.std.proofs.lemmas.Bool.{eqb-true}
 use Rattle.std.proofs.lemmas.Bool.Decides.{nat_tests}
 use Rattle.gb_types.specs.declared.entry.Entry.{Entry}
 use Rattle.gb_types.specs.declared.node.NodeId.{NodeId}
-use Rattle.gb_types.specs.declared.refusal.Refusal.TheVariants.{NoGroup, Spent, BadMembers, OverReserve}
+use Rattle.gb_types.specs.declared.refusal.Refusal.TheVariants.{NoGroup, Spent, BadMembers, OverReserve, Stopped}
 use Rattle.gb_types.specs.declared.reply.Reply.{Reply}
 use Rattle.gb_types.specs.declared.reply.Reply.TheVariants.{Done, Said, Refused}
 use Rattle.gb_types.specs.declared.spec.Spec.{Spec}
 use Rattle.gb_types.proofs.CoverLemmas.{not_all_members}
-use Rattle.gb_slot.specs.Rules.{say_answer, is_member}
-use Rattle.gb_slot.specs.declared.history.GroupCall.TheVariants.{Other}
-use Rattle.gb_cluster.specs.Alone.{Member, Group, reply_to, shown_of, called, did, falls, taken_in, member_after, after}
+use Rattle.gb_slot.specs.Rules.{say_answer, is_member, is_other}
+use Rattle.gb_slot.specs.declared.history.GroupCall.TheVariants.{Other, Crashed}
+use Rattle.gb_cluster.specs.Alone.{Member, Group, reply_to, shown_of, called, did, falls, taken_in, cut, took_notice, member_after, after}
 use Rattle.gb_cluster.specs.Laws.{accepted_in, accepted_at, accepted_from}
 use Rattle.gb_cluster.specs.Rules.{is_bad, is_over, make_answer, by_tenant, on_made}
 use Rattle.gb_cluster.specs.declared.group.GroupEvent.{GroupEvent}
-use Rattle.gb_cluster.specs.declared.group.GroupEvent.TheVariants.{Tenant, AskMake, AskOpen, AskSay, Took, Came}
+use Rattle.gb_cluster.specs.declared.group.GroupEvent.TheVariants.{Tenant, AskMake, AskOpen, AskSay, Took, Came, Acknowledged, Notice, Stop}
 use Rattle.gb_cluster.specs.declared.group.GroupStep.{GroupStep}
 use Rattle.gb_cluster.specs.declared.group.Reserve.{Reserve}
 
 make_inside : (nodes number me : ℕ) (spec : Spec) (m : Member) → reply_to nodes number me (AskMake spec) m ≡ Done → me < nodes
-make_inside nodes number me spec m = by m.reserve
+make_inside nodes number me spec m = running m.stopped
   where
     fine : (x y : Bool) → (not x || not y) ≡ false → (x ≡ true) × (y ≡ true)
     fine true true h = (refl, refl)
@@ -49,6 +49,10 @@ make_inside nodes number me spec m = by m.reserve
     by None h = cc
     by (Some reserve) h = admitted (nat_le reserve.groups number) (is_some m.spec) (is_bad nodes me spec) (is_over reserve spec) refl h
 
+    running : (stopped : Bool) → (if stopped then Refused Stopped else by_tenant (make_answer nodes me number (is_some m.spec) spec) m.reserve) ≡ Done → me < nodes
+    running true h = cc
+    running false h = by m.reserve h
+
 -- a group that was made there is at a node of the cluster
 abbrev pub IsInside : ℕ → ℕ → Member → Type 0
 IsInside nodes a m = (spec : Spec) → m.spec ≡ Some spec → a < nodes
@@ -63,10 +67,17 @@ taken_inside : (nodes me : ℕ) (from : NodeId) (place : ℕ) (o : Option Entry)
 taken_inside nodes me from place None m old = old
 taken_inside nodes me from place (Some x) m old = elim (falls me from.number x m.told m.spec) as (λ b. (spec : Spec) → (if b then m else called me (Other from x) m).spec ≡ Some spec → me < nodes) [ true ↦ old | false ↦ old ]
 
+noticed_inside : (nodes me : ℕ) (q : NodeId) (o : Option Spec) (m : Member) → IsInside nodes me m → IsInside nodes me (took_notice me q o m)
+noticed_inside nodes me q None m old = old
+noticed_inside nodes me q (Some made) m old = elim (is_other made me q.number) as (λ b. (spec : Spec) → (if b then called me (Crashed q) (cut q m) else m).spec ≡ Some spec → me < nodes) [ true ↦ old | false ↦ old ]
+
 event_inside : (nodes number : ℕ) (me : NodeId) (event : GroupEvent) (group : Group) → IsInside nodes me.number (group me.number) → IsInside nodes me.number (member_after nodes number me event group)
 event_inside nodes number me (Tenant reserve) group old = old
 event_inside nodes number me (Took b count) group old = old
 event_inside nodes number me (Came from place) group old = taken_inside nodes me.number from place (slice_get ((group from.number).put me.number) (place - 1)) (group me.number) old
+event_inside nodes number me (Acknowledged b place count) group old = old
+event_inside nodes number me (Notice q) group old = noticed_inside nodes me.number q (group me.number).spec (group me.number) old
+event_inside nodes number me Stop group old = old
 event_inside nodes number me event group old = did_inside nodes number me event (reply_to nodes number me.number event (group me.number)) (group me.number) refl old
 
 abbrev pub AllInside : ℕ → Group → Type 0
@@ -82,12 +93,16 @@ step_inside nodes number group step all x = go (nat_eq x step.node.number) refl
 
 -- and so nothing is accepted elsewhere
 refused_beyond : (nodes number s : ℕ) (event : GroupEvent) (m : Member) → nodes ≤ s → IsInside nodes s m → accepted_in event (reply_to nodes number s event m) ≡ []
-refused_beyond nodes number s (AskSay payload) m beyond inside = by m.reserve m.spec refl
+refused_beyond nodes number s (AskSay payload) m beyond inside = running m.stopped
   where
     by : (reserve : Option Reserve) (o : Option Spec) → m.spec ≡ o → accepted_in (AskSay payload) (by_tenant (λ _. on_made (λ x. say_answer x payload) (shown_of s m.phase m.told o)) reserve) ≡ []
     by None o is = refl
     by (Some reserve) None is = refl
     by (Some reserve) (Some spec) is = let low : s < nodes = inside spec is in absurd (omega arith)
+
+    running : (stopped : Bool) → accepted_in (AskSay payload) (if stopped then Refused Stopped else by_tenant (λ _. on_made (λ x. say_answer x payload) (shown_of s m.phase m.told m.spec)) m.reserve) ≡ []
+    running true = refl
+    running false = by m.reserve m.spec refl
 refused_beyond nodes number s event m beyond inside = refl
 
 pub none_beyond : (nodes number s : ℕ) → nodes ≤ s → (steps : List GroupStep) (group : Group) → AllInside nodes group → accepted_from nodes number group steps s ≡ []

@@ -1,25 +1,26 @@
 -- Every message that a node knows or puts out was accepted at its origin.
-use Rattle.std.proofs.Common.{◌≡◌, ℕ, zero, suc, ◌+◌, ◌-◌, ◌≤◌, Bool, true, false, nat_eq, List, [], ◌∷◌, ◌++◌, length, Option, Some, None, refl, sym, ap, ◌∙◌, arith}
+use Rattle.std.proofs.Common.{◌≡◌, ℕ, zero, suc, ◌+◌, ◌-◌, ◌≤◌, Bool, true, false, not, ◌&&◌, nat_eq, take, List, [], ◌∷◌, ◌++◌, length, Option, Some, None, refl, sym, subst, ap, ◌∙◌, arith}
 use Rattle.std.specs.Prelude.{All, slice_get, if◌then◌else◌}
 use Rattle.std.proofs.lemmas.Bool.{eq-eqb}
-use Rattle.std.proofs.lemmas.List.Elements.{All-nil, All-append, All-weaker}
+use Rattle.std.proofs.lemmas.List.Elements.{All-nil, All-cons, All-head, All-tail, All-append, All-weaker}
 use Rattle.gb_types.specs.declared.entry.Entry.{Entry}
 use Rattle.gb_types.specs.declared.message.MsgId.{MsgId}
 use Rattle.gb_types.specs.declared.node.NodeId.{NodeId}
 use Rattle.gb_types.specs.declared.reply.Reply.{Reply}
 use Rattle.gb_types.specs.declared.reply.Reply.TheVariants.{Done, Said}
 use Rattle.gb_types.specs.declared.spec.Spec.{Spec}
-use Rattle.gb_slot.specs.History.{entry_told, known, puts_of, said_in}
+use Rattle.gb_slot.specs.History.{calls_of, known, puts_of, said_in}
+use Rattle.gb_layer.specs.Machine.{was_noticed}
 use Rattle.gb_slot.specs.Rules.{is_other}
 use Rattle.gb_slot.specs.declared.history.GroupCall.{GroupCall}
-use Rattle.gb_slot.specs.declared.history.GroupCall.TheVariants.{Own, Other}
-use Rattle.gb_cluster.specs.Alone.{Member, Group, reply_to, put_to, called, did, falls, item_came, taken_in, member_after, after, nobody, alone_from, alone, log_at}
+use Rattle.gb_slot.specs.declared.history.GroupCall.TheVariants.{Own, Other, Crashed}
+use Rattle.gb_cluster.specs.Alone.{Member, Group, reply_to, put_to, called, did, falls, item_came, taken_in, cut, took_notice, member_after, after, nobody, alone_from, alone, log_at}
 use Rattle.gb_cluster.specs.Laws.{accepted_in, accepted_at, accepted, IsAccepted, copies, IsIntegral}
 use Rattle.gb_cluster.specs.declared.group.GroupEvent.{GroupEvent}
-use Rattle.gb_cluster.specs.declared.group.GroupEvent.TheVariants.{Tenant, AskMake, AskOpen, AskSay, Took, Came}
+use Rattle.gb_cluster.specs.declared.group.GroupEvent.TheVariants.{Tenant, AskMake, AskOpen, AskSay, Took, Came, Acknowledged, Notice, Stop}
 use Rattle.gb_cluster.specs.declared.group.GroupStep.{GroupStep}
 use Rattle.gb_cluster.proofs.AcceptedLemmas.{own_payloads, length-own_payloads, next_said, step_payloads, alone_payloads}
-use Rattle.gb_cluster.proofs.KnownLemmas.{all_known, all_puts, all_at, all_log, copies-log}
+use Rattle.gb_cluster.proofs.KnownLemmas.{HoldsOfTold, all_known, all_puts, all_at, all_log, copies-log}
 
 -- what holds of a node, where these are the payloads of what each node said
 pub record Fits (said : ℕ → List (List ℕ)) (m : Member) : Type 0 where
@@ -49,7 +50,7 @@ fits_later said next later m fits = record {
 }
 
 -- the group is told of a message that was said
-fits_called : (said : ℕ → List (List ℕ)) (me : ℕ) (c : GroupCall) (m : Member) → IsAccepted said (entry_told c) → Fits said m → Fits said (called me c m)
+fits_called : (said : ℕ → List (List ℕ)) (me : ℕ) (c : GroupCall) (m : Member) → HoldsOfTold (IsAccepted said) c → Fits said m → Fits said (called me c m)
 fits_called said me c m is fits = record {
   known = grown;
   put = λ b. put b m.spec;
@@ -60,7 +61,7 @@ fits_called said me c m is fits = record {
 
     put : (b : ℕ) (o : Option Spec) → All (IsAccepted said) (put_to me o c m.told m.put b)
     put b None = fits.put b
-    put b (Some spec) = elim (is_other spec me b) as (λ t. All (IsAccepted said) (if t then m.put b ++ puts_of spec me c m.told else m.put b)) [
+    put b (Some spec) = elim (is_other spec me b && not (was_noticed (calls_of (c ∷ m.told)) b)) as (λ t. All (IsAccepted said) (if t then m.put b ++ puts_of spec me c m.told else m.put b)) [
       | true ↦ All-append (IsAccepted said) (m.put b) (puts_of spec me c m.told) (fits.put b) (all_puts (IsAccepted said) spec me c m.told grown)
       | false ↦ fits.put b
     ]
@@ -73,6 +74,32 @@ fits_taken said me from place (Some x) m is fits =
       | false ↦ fits_called said me (Other from x) m (is x refl) fits
     ] in
     record { known = next.known; put = next.put }
+
+all_taken : (P : Entry → Type 0) (n : ℕ) (xs : List Entry) → All P xs → All P (take n xs)
+all_taken P n [] all = subst (All P) (sym (take_none n)) all
+  where
+    take_none : (n : ℕ) → take n (let none : List Entry = [] in none) ≡ []
+    take_none zero = refl
+    take_none (suc n) = refl
+all_taken P zero (x ∷ xs) all = All-nil P
+all_taken P (suc n) (x ∷ xs) all = All-cons P x (take n xs) (All-head P x xs all) (all_taken P n xs (All-tail P x xs all))
+
+-- what waits is given up
+fits_cut : (said : ℕ → List (List ℕ)) (q : NodeId) (m : Member) → Fits said m → Fits said (cut q m)
+fits_cut said q m fits = record {
+  known = fits.known;
+  put = λ b. elim (nat_eq b q.number) as (λ t. All (IsAccepted said) (if t then take (m.taken b) (m.put b) else m.put b)) [
+    | true ↦ all_taken (IsAccepted said) (m.taken b) (m.put b) (fits.put b)
+    | false ↦ fits.put b
+  ];
+}
+
+fits_noticed : (said : ℕ → List (List ℕ)) (me : ℕ) (q : NodeId) (o : Option Spec) (m : Member) → Fits said m → Fits said (took_notice me q o m)
+fits_noticed said me q None m fits = fits
+fits_noticed said me q (Some spec) m fits = elim (is_other spec me q.number) as (λ b. Fits said (if b then called me (Crashed q) (cut q m) else m)) [
+  | true ↦ fits_called said me (Crashed q) (cut q m) tt (fits_cut said q m fits)
+  | false ↦ fits
+]
 
 -- what is said now has the next number
 said_now : (said : ℕ → List (List ℕ)) (me : NodeId) (seq : ℕ) (payload : List ℕ) (told : List GroupCall) → seq ≡ said_in told + 1 → said me.number ≡ own_payloads told ++ payload ∷ [] → IsAccepted said (record { origin = me; seq = seq; payload = payload })
@@ -103,6 +130,9 @@ event_fits nodes number said me (Took b count) group now all = record { known = 
 event_fits nodes number said me (Came from place) group now all =
     fits_taken said me.number from place (slice_get ((group from.number).put me.number) (place - 1)) (group me.number)
     (λ x e. all_at (IsAccepted said) ((group from.number).put me.number) (place - 1) x ((all from.number).put me.number) e) (all me.number)
+event_fits nodes number said me (Acknowledged b place count) group now all = record { known = (all me.number).known; put = (all me.number).put }
+event_fits nodes number said me (Notice q) group now all = let next = fits_noticed said me.number q (group me.number).spec (group me.number) (all me.number) in record { known = next.known; put = next.put }
+event_fits nodes number said me Stop group now all = record { known = (all me.number).known; put = (all me.number).put }
 event_fits nodes number said me event group now all =
     let next = commanded_fits nodes number said me event (group me.number) now (all me.number) in
     record { known = next.known; put = next.put }

@@ -14,10 +14,10 @@ use Rattle.gb_types.specs.declared.spec.Spec.{Spec}
 use Rattle.gb_types.proofs.SameLemmas.{same-true}
 use Rattle.gb_layer.specs.Machine.{mentions}
 use Rattle.gb_layer.specs.Modules.{now_delivered, broadcasts}
-use Rattle.gb_slot.specs.History.{base_of, entry_told, call_of, calls_of, known, delivered, log_of, puts_of}
+use Rattle.gb_slot.specs.History.{base_of, call_of, calls_of, known, delivered, log_of, puts_of}
 use Rattle.gb_slot.specs.Messages.{has, payload_in, entry_in, with_new}
 use Rattle.gb_slot.specs.declared.history.GroupCall.{GroupCall}
-use Rattle.gb_slot.specs.declared.history.GroupCall.TheVariants.{Own, Other}
+use Rattle.gb_slot.specs.declared.history.GroupCall.TheVariants.{Own, Other, Crashed}
 use Rattle.gb_cluster.specs.Laws.{copies}
 use Rattle.gb_cluster.proofs.DeliveryLemmas.{log_once, log_mentioned, broadcasts_mentioned}
 
@@ -47,6 +47,7 @@ unfolding known calls_of
 has-known [] m = refl
 has-known (Own x ∷ told) m = has-with_new (known told) x m ∙ ap (λ b. same (message_of x) m || b) (has-known told m)
 has-known (Other p x ∷ told) m = has-with_new (known told) x m ∙ ap (λ b. same (message_of x) m || b) (has-known told m)
+has-known (Crashed q ∷ told) m = has-known told m
 
 -- what holds of each message of a list holds of the entry that is found there
 entry_found : (P : Entry → Type 0) (xs : List Entry) (m : MsgId) → All P xs → has xs m ≡ true → P (entry_in xs m)
@@ -70,13 +71,24 @@ pub all_puts : (P : Entry → Type 0) (spec : Spec) (me : ℕ) (c : GroupCall) (
 unfolding calls_of
 all_puts P spec me c told all = All-from_recursion P (puts_of spec me c told) (entries_found P (c ∷ told) (broadcasts (base_of spec.kind) me (call_of c) (calls_of told)) all (broadcasts_mentioned (base_of spec.kind) me (call_of c) (calls_of told)))
 
--- a call makes one more message known at most
-pub all_known : (P : Entry → Type 0) (c : GroupCall) (told : List GroupCall) → P (entry_told c) → All P (known told) → All P (known (c ∷ told))
-unfolding known
-all_known P c told here all = elim (has (known told) (message_of (entry_told c))) as (λ b. All P (if b then known told else known told ++ entry_told c ∷ [])) [
+with_one : (P : Entry → Type 0) (xs : List Entry) (x : Entry) → P x → All P xs → All P (with_new xs x)
+with_one P xs x here all = elim (has xs (message_of x)) as (λ b. All P (if b then xs else xs ++ x ∷ [])) [
   | true ↦ all
-  | false ↦ All-push P (known told) (entry_told c) all here
+  | false ↦ All-push P xs x all here
 ]
+
+-- it holds of the message that the group is told of, if there is one
+abbrev pub HoldsOfTold : (Entry → Type 0) → GroupCall → Type 0
+HoldsOfTold P (Own x) = P x
+HoldsOfTold P (Other p x) = P x
+HoldsOfTold P (Crashed q) = Unit {0}
+
+-- a call makes one more message known at most
+pub all_known : (P : Entry → Type 0) (c : GroupCall) (told : List GroupCall) → HoldsOfTold P c → All P (known told) → All P (known (c ∷ told))
+unfolding known
+all_known P (Own x) told here all = with_one P (known told) x here all
+all_known P (Other p x) told here all = with_one P (known told) x here all
+all_known P (Crashed q) told here all = all
 
 pub all_at : (P : Entry → Type 0) (xs : List Entry) (i : ℕ) (x : Entry) → All P xs → slice_get xs i ≡ Some x → P x
 all_at P xs i x all e = subst P (get_or_from_slice_get xs i x x e) (All-get_or P xs i x (slice_get_within xs i x e) all)

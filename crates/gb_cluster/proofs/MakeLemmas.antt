@@ -1,42 +1,37 @@
--- What making a group, or taking a tenant in, does to each group at the node; and any request.
-use Rattle.std.proofs.Common.{◌≡◌, ℕ, zero, suc, List, [], ◌∷◌, ◌++◌, length, drop, Option, Some, None, Bool, true, false, not, ◌&&◌, ◌||◌, ◌⊎◌, inl, inr, refl, sym, ◌∙◌, ap, subst}
-use Rattle.std.specs.Prelude.{if◌then◌else◌, is_some, nat_eq, map}
-use Rattle.std.specs.FinSet as set
+-- What making a group at a running node does to each group there: the group learns of the nodes that were noticed before.
+use Rattle.std.proofs.Common.{◌≡◌, ℕ, ◌<◌, List, [], ◌∷◌, ◌++◌, length, Option, Some, None, Bool, true, false, ◌&&◌, ◌||◌, ◌⊎◌, inl, inr, refl, sym, ◌∙◌, ap, subst}
+use Rattle.std.specs.Prelude.{if◌then◌else◌, is_some, nat_eq}
 use Rattle.std.proofs.lemmas.Bool.{cases_Bool}
 use Rattle.std.proofs.lemmas.List.{append-nil}
 use Rattle.gb_types.specs.declared.address.Addr.{Addr}
 use Rattle.gb_types.specs.declared.entry.Entry.{Entry}
-use Rattle.gb_types.specs.declared.message.MsgId.{MsgId}
+use Rattle.gb_types.specs.declared.limits.TheConstants.{NODES}
 use Rattle.gb_types.specs.declared.node.NodeId.{NodeId}
-use Rattle.gb_types.specs.declared.refusal.Refusal.TheVariants.{OverReserve, NoRoom, TenantThere}
 use Rattle.gb_types.specs.declared.reply.Reply.{Reply}
 use Rattle.gb_types.specs.declared.reply.Reply.TheVariants.{Done, Said, Log, Refused}
-use Rattle.gb_types.specs.declared.request.Request.{Request}
-use Rattle.gb_types.specs.declared.request.Request.TheVariants.{AddTenant, Make, OpenGroup, Say, Fetch}
+use Rattle.gb_types.specs.declared.request.Request.TheVariants.{Make}
 use Rattle.gb_types.specs.declared.spec.Spec.{Spec}
-use Rattle.gb_types.specs.declared.spec.TenantRow.{TenantRow}
-use Rattle.gb_slot.specs.Messages.{entry_in}
-use Rattle.gb_slot.specs.Slot.{new_slot, waiting, taken_for}
-use Rattle.gb_slot.specs.SlotState.{SlotState}
-use Rattle.gb_slot.specs.StandsFor.{StandsFor, reaches}
-use Rattle.gb_slot.proofs.HistoryLemmas.{fresh_stands}
+use Rattle.gb_slot.specs.Slot.{new_slot}
 use Rattle.gb_cluster.specs.declared.answer.Answer.TheVariants.{Reply as Replied}
 use Rattle.gb_cluster.specs.declared.event.Event.TheVariants.{At}
-use Rattle.gb_cluster.specs.declared.group.GroupEvent.TheVariants.{Tenant, AskMake}
-use Rattle.gb_cluster.specs.declared.group.GroupStep.{GroupStep}
+use Rattle.gb_cluster.specs.declared.group.GroupEvent.TheVariants.{AskMake}
 use Rattle.gb_cluster.specs.declared.group.Reserve.{Reserve}
 use Rattle.gb_cluster.specs.declared.step.Step.{Step}
-use Rattle.gb_cluster.specs.Alone.{Member, Group, did, commanded}
+use Rattle.gb_cluster.specs.Alone.{Member, Group, after, alone_from, commanded, did, is_marked, reply_to, IsLegalFrom}
+use Rattle.gb_cluster.specs.Alone as alone
 use Rattle.gb_cluster.specs.Headline.{waiting_in}
-use Rattle.gb_cluster.specs.Holds.{SlotIs, SlotStands, NotMade, Stands}
+use Rattle.gb_cluster.specs.Holds.{SlotIs, NotMade, Stands, MemberIs, is_concerned}
 use Rattle.gb_cluster.specs.NodeValue.{GroupAt, NodeValue}
-use Rattle.gb_cluster.specs.Project.{is_addr, has_row, requested, reply_in, is_turned_away, is_taken_in}
-use Rattle.gb_cluster.specs.Rules.{reserve_of, is_over_limits, make_answer, by_tenant}
-use Rattle.gb_cluster.specs.World.{reserve_for, slot_for, in_room, row_answer, node_reply, node_did}
-use Rattle.gb_cluster.proofs.MemberLemmas.{made-is, same_slot}
+use Rattle.gb_cluster.specs.Project.{is_addr, has_row, is_noticed, is_stopped, is_met, made_at, made_by, or_else, replies_to, requested, is_turned_away}
+use Rattle.gb_cluster.specs.Rules.{make_answer, by_tenant}
+use Rattle.gb_cluster.specs.World.{reserve_for, slot_for, in_room, running_reply, node_did}
+use Rattle.gb_cluster.proofs.AskLemmas.{Before, AtNode, asking, at_command, at_other, if_same, replies_running, told_one, unmet_now}
+use Rattle.gb_cluster.proofs.FreshLemmas.{noticed_before, before_rising, marked_before, fresh_slot, fresh_put, waiting-new}
+use Rattle.gb_cluster.proofs.MemberLemmas.{made-is}
 use Rattle.gb_cluster.proofs.NodeLemmas.{addr_same, is_addr-self, same_stands}
-use Rattle.gb_cluster.proofs.RequestLemmas.{AtMost, AtNode, node_after, at_command, at_other, at_open, at_say, at_fetch, if_same, and_false}
-use Rattle.gb_cluster.proofs.WorldLemmas.{eqb_self}
+use Rattle.gb_cluster.proofs.NoticeLemmas.{or_none, KeepsOthers, all_noticed, notices_of, notices_there, notices_elsewhere, notices_keep, notices_mark, notices_legal}
+use Rattle.gb_cluster.proofs.StopLemmas.{unmet}
+use Rattle.gb_cluster.proofs.WorldLemmas.{eqb_self, after_there, after_elsewhere}
 
 -- there was room where the answer is not that there is none
 in_room-same : (g : Addr) (a : NodeId) (token : List ℕ) (spec : Spec) (h : Option GroupAt) (r : Reply) → is_turned_away g (At a (Make token g spec)) (Replied (in_room h r)) ≡ false → in_room h r ≡ r
@@ -45,9 +40,7 @@ in_room-same g a token spec (Some here) Done free = absurd (clash (is_addr-self 
   where
     clash : is_addr g g ≡ true → is_addr g g ≡ false → ⊥
     clash there absent = cc
-in_room-same g a token spec (Some here) (Said seq) free = refl
-in_room-same g a token spec (Some here) (Log entries) free = refl
-in_room-same g a token spec (Some here) (Refused why) free = refl
+in_room-same g a token spec (Some here) r free = refl
 
 in_room-done : (h : Option GroupAt) (r : Reply) → in_room h r ≡ Done → h ≡ None
 in_room-done None r is = refl
@@ -56,167 +49,143 @@ in_room-done (Some here) (Said seq) is = absurd (cc)
 in_room-done (Some here) (Log entries) is = absurd (cc)
 in_room-done (Some here) (Refused why) is = absurd (cc)
 
-new_stands : (a : NodeId) (spec : Spec) (m : Member) → NotMade m → SlotStands a.number (new_slot spec a set.empty) (record m { spec = Some spec })
-new_stands a spec m st = record {
-  spec = refl;
-  phase = st.phase;
-  here = refl;
-  noticed = refl;
-  history = subst (StandsFor (new_slot spec a set.empty)) (sym st.told) (fresh_stands spec a set.empty);
-}
-
-abbrev none_sent : List MsgId
-none_sent = []
-
-abbrev none_waits : List Entry
-none_waits = []
-
-waiting-new : (a : NodeId) (spec : Spec) (b : ℕ) → waiting (new_slot spec a set.empty) b ≡ []
-waiting-new a spec b = go (reaches (new_slot spec a set.empty) b) (taken_for (new_slot spec a set.empty) b)
-  where
-    drop_none : (n : ℕ) → drop n none_sent ≡ none_sent
-    drop_none zero = refl
-    drop_none (suc n) = refl
-
-    go : (other : Bool) (n : ℕ) → (if other then map (entry_in none_waits) (drop n none_sent) else none_waits) ≡ none_waits
-    go true n = ap (map (entry_in none_waits)) (drop_none n)
-    go false n = refl
-
-make_stands : (nodes : ℕ) (g : Addr) (a : NodeId) (token : List ℕ) (v : NodeValue) (m : Member) (spec : Spec) (carried : ℕ → List Entry) (r : Reply) → (r ≡ Done → v.group ≡ None) → Stands nodes g a.number v m carried → Stands nodes g a.number (node_did a (Make token g spec) r v) (did a (AskMake spec) r m) carried
-make_stands nodes g a token v m spec carried Done free st =
-    let none : slot_for g v.group ≡ None = ap (slot_for g) (free refl) in
-    let slots : slot_for g (Some (record { addr = g; slot = new_slot spec a set.empty })) ≡ Some (new_slot spec a set.empty) = rw (is_addr-self g) refl in
-    record {
-      row = st.row;
-      slot = subst (λ o. SlotIs a.number o (record m { spec = Some spec })) (sym slots) (new_stands a spec m (subst (λ o. SlotIs a.number o m) none st.slot));
-      put = λ b in_cluster. st.put b in_cluster ∙ ap (λ xs. carried b ++ xs) (ap (λ o. waiting_in o b) none ∙ (sym (waiting-new a spec b) ∙ sym (ap (λ o. waiting_in o b) slots)));
-      taken = st.taken;
-    }
-make_stands nodes g a token v m spec carried (Said seq) free st = st
-make_stands nodes g a token v m spec carried (Log entries) free st = st
-make_stands nodes g a token v m spec carried (Refused why) free st = st
-
 make_elsewhere : (nodes : ℕ) (g addr : Addr) (a : NodeId) (token : List ℕ) (v : NodeValue) (m : Member) (spec : Spec) (carried : ℕ → List Entry) (r : Reply) → (r ≡ Done → v.group ≡ None) → is_addr g addr ≡ false → Stands nodes g a.number v m carried → Stands nodes g a.number (node_did a (Make token addr spec) r v) m carried
 make_elsewhere nodes g addr a token v m spec carried Done free other st =
-    same_stands nodes g a.number v (record v { group = Some (record { addr = addr; slot = new_slot spec a set.empty }) }) m m carried refl (rw other (sym (ap (slot_for g) (free refl)))) refl refl refl refl refl refl st
-make_elsewhere nodes g addr a token v m spec carried (Said seq) free other st = st
-make_elsewhere nodes g addr a token v m spec carried (Log entries) free other st = st
-make_elsewhere nodes g addr a token v m spec carried (Refused why) free other st = st
+    same_stands nodes g a.number v (record v { group = Some (record { addr = addr; slot = new_slot spec a v.watch.noticed }) }) m m carried refl (rw other (sym (ap (slot_for g) (free refl)))) refl refl refl refl refl refl st
+make_elsewhere nodes g addr a token v m spec carried r free other st = st
 
-pub at_make : (nodes : ℕ) (g : Addr) (a : NodeId) (v : NodeValue) (group : Group) (carried : ℕ → List Entry) (steps : List Step) (token : List ℕ) (addr : Addr) (spec : Spec) → has_row a.number g.tenant steps ≡ is_some (reserve_for g.tenant v.row) → is_turned_away g (At a (Make token addr spec)) (Replied (node_reply nodes a.number v (Make token addr spec))) ≡ false → Stands nodes g a.number v (group a.number) carried → AtNode nodes g a v group carried steps (Make token addr spec)
-at_make nodes g a v group carried steps token addr spec rows free st = go (cases_Bool (is_addr g addr))
+made_elsewhere : (g addr : Addr) (a : NodeId) (token : List ℕ) (spec : Spec) (r : Reply) → is_addr g addr ≡ false → made_by g a.number (At a (Make token addr spec)) (Replied r) ≡ None
+made_elsewhere g addr a token spec Done other = ap (λ b. if nat_eq a.number a.number && b then Some spec else None) other ∙ by (nat_eq a.number a.number)
+  where
+    by : (b : Bool) → (if b && false then Some spec else None) ≡ None
+    by true = refl
+    by false = refl
+made_elsewhere g addr a token spec r other = refl
+
+none_requested : (g addr : Addr) (a : NodeId) (steps : List Step) (token : List ℕ) (spec : Spec) (r : Reply) → is_addr g addr ≡ false → requested g steps a (Make token addr spec) r ≡ []
+none_requested g addr a steps token spec Done other = rw other (if_same (has_row a.number g.tenant steps) [])
+none_requested g addr a steps token spec r other = rw other (if_same (has_row a.number g.tenant steps) [])
+
+-- The group is made.
+
+module _ (nodes : ℕ) (g : Addr) (a : NodeId) (v : NodeValue) (group : Group) (carried : ℕ → List Entry) (steps : List Step) (token : List ℕ) (spec : Spec) where
+  abbrev new : ℕ → Bool
+  new b = is_noticed a.number b steps
+
+  abbrev made : Member
+  made = commanded a (AskMake spec) Done (group a.number)
+
+  abbrev noticed_now : List ℕ
+  noticed_now = noticed_before spec a.number new
+
+  abbrev next : Member
+  next = all_noticed a.number noticed_now made
+
+  made_stands : Before nodes g a v group carried steps → v.group ≡ None → NotMade (group a.number) → Stands nodes g a.number (record v { group = Some (record { addr = g; slot = new_slot spec a v.watch.noticed }) }) next carried
+  made_stands before free absent = record {
+    row = keeps.reserve ∙ st.row;
+    slot = subst (λ o. SlotIs a.number o next) (sym slots) (fresh_slot a spec new v.watch.noticed made before.below before.noticed refl absent.phase absent.told);
+    put = λ b in_cluster. fresh_put a.number spec new made b refl absent.told (count b in_cluster) ∙ (st.put b in_cluster ∙ ap (λ xs. carried b ++ xs) (ap (λ o. waiting_in o b) none ∙ (sym (waiting-new a spec v.watch.noticed b) ∙ sym (ap (λ o. waiting_in o b) slots))));
+    taken = λ b in_cluster. ap (λ (f : ℕ → ℕ). f b) keeps.taken ∙ st.taken b in_cluster;
+  }
+    where
+      keeps : KeepsOthers made next
+      keeps = notices_keep a.number noticed_now made
+
+      st : Stands nodes g a.number v (group a.number) carried
+      st = before.stands
+
+      none : slot_for g v.group ≡ None
+      none = ap (slot_for g) free
+
+      slots : slot_for g (Some (record { addr = g; slot = new_slot spec a v.watch.noticed })) ≡ Some (new_slot spec a v.watch.noticed)
+      slots = rw (is_addr-self g) refl
+
+      count : (b : ℕ) → b < nodes → (group a.number).taken b ≡ length ((group a.number).put b)
+      count b in_cluster = st.taken b in_cluster ∙ ap length (sym (st.put b in_cluster ∙ (ap (λ o. carried b ++ waiting_in o b) none ∙ append-nil (carried b))))
+
+  made_member : is_stopped a.number steps ≡ false → has_row a.number g.tenant steps ≡ true → MemberIs g a.number steps (group a.number) → (group a.number).spec ≡ None → ((b : ℕ) → is_noticed a.number b steps ≡ true → b < NODES)
+      → MemberIs g a.number (asking a (Make token g spec) Done ∷ steps) next
+  unfolding replies_to made_at is_noticed is_met
+  made_member running row was absent below =
+      let keeps = notices_keep a.number noticed_now made in
+      let now : or_else (made_by g a.number (At a (Make token g spec)) (Replied Done)) (made_at g a.number steps) ≡ Some spec = rw (eqb_self a.number, is_addr-self g) refl in
+      record {
+        replies = keeps.replies ∙ (ap (λ rs. rs ++ Done ∷ []) was.replies ∙ ap (λ rs. replies_to g a.number steps ++ rs) (sym (told_one g a steps (Make token g spec) Done row (is_addr-self g))));
+        spec = keeps.spec ∙ sym now;
+        noticed = λ b. notices_mark a.number 0 noticed_now made b (before_rising spec a.number new) ∙ (ap (λ c. c || is_marked b (group a.number).noticed) (marked_before spec a.number new below b)
+            ∙ (ap (λ c. (is_concerned a.number b (Some spec) && is_noticed a.number b steps) || c) (unmarked b) ∙ (or_none (is_concerned a.number b (Some spec) && is_noticed a.number b steps) ∙ ap (λ o. is_concerned a.number b o && is_noticed a.number b steps) (sym now))));
+        stopped = keeps.stopped ∙ (was.stopped ∙ ap (λ b. b || is_met g a.number steps) (sym (unmet_now g a steps (Make token g spec) running)));
+      }
+    where
+      unmarked : (b : ℕ) → is_marked b (group a.number).noticed ≡ false
+      unmarked b = was.noticed b ∙ ap (λ o. is_concerned a.number b o && is_noticed a.number b steps) (sym was.spec ∙ absent)
+
+  made_after : is_stopped a.number steps ≡ false → Before nodes g a v group carried steps → v.group ≡ None → has_row a.number g.tenant steps ≡ true → alone.running_reply nodes g.group a.number (AskMake spec) (group a.number) ≡ Done
+      → AtNode nodes g a v group carried steps (Make token g spec) Done
+  made_after running before free row is =
+      record {
+        next = next;
+        there = ap (λ es. alone_from nodes g.group group es a.number) given ∙ (notices_there nodes g.group a noticed_now first ∙ ap (all_noticed a.number noticed_now) first_there);
+        others = λ x other. ap (λ es. alone_from nodes g.group group es x) given ∙ (notices_elsewhere nodes g.group a noticed_now first x other ∙ after_elsewhere nodes g.group group a x (AskMake spec) other);
+        legal = subst (λ es. IsLegalFrom nodes g.group group es) (sym given) (
+          tt,
+          notices_legal nodes g.group a 0 noticed_now first (before_rising spec a.number new) (ap (λ (m : Member). m.stopped) first_there ∙ (before.member.stopped ∙ unmet g a.number steps running))
+              (λ x new. ap (λ (m : Member). is_marked x m.noticed) first_there ∙ (before.member.noticed x ∙ ap (λ o. is_concerned a.number x o && is_noticed a.number x steps) (sym before.member.spec ∙ absent.spec))),
+        );
+        stands = made_stands before free absent;
+        member = made_member running row before.member absent.spec before.below;
+        come = keeps.come;
+        done = keeps.done;
+      }
+    where
+      keeps : KeepsOthers made next
+      keeps = notices_keep a.number noticed_now made
+
+      absent : NotMade (group a.number)
+      absent = subst (λ o. SlotIs a.number o (group a.number)) (ap (slot_for g) free) before.stands.slot
+
+      first : Group
+      first = after nodes g.group group (record { node = a; event = AskMake spec })
+
+      first_there : first a.number ≡ made
+      first_there = after_there nodes g.group group a (AskMake spec) ∙ ap (λ r. commanded a (AskMake spec) r (group a.number)) (replies_running nodes g a steps (AskMake spec) (group a.number) running before.member ∙ is)
+
+      given : requested g steps a (Make token g spec) Done ≡ record { node = a; event = AskMake spec } ∷ notices_of a noticed_now
+      given = rw (row, is_addr-self g) refl
+
+-- Making, by its reply.
+
+make_by : (nodes : ℕ) (g : Addr) (a : NodeId) (v : NodeValue) (group : Group) (carried : ℕ → List Entry) (steps : List Step) (token : List ℕ) (spec : Spec) (r : Reply)
+    → is_stopped a.number steps ≡ false → Before nodes g a v group carried steps → (r ≡ Done → v.group ≡ None) → (r ≡ Done → has_row a.number g.tenant steps ≡ true)
+    → alone.running_reply nodes g.group a.number (AskMake spec) (group a.number) ≡ r → AtNode nodes g a v group carried steps (Make token g spec) r
+make_by nodes g a v group carried steps token spec Done running before free row is = made_after nodes g a v group carried steps token spec running before (free refl) (row refl) is
+make_by nodes g a v group carried steps token spec r running before free row is =
+    at_command nodes g a v group carried steps (Make token g spec) r (AskMake spec) running before (is_addr-self g) (rw (is_addr-self g) refl) refl tt refl is refl (λ none. refl) before.stands
+
+pub at_make : (nodes : ℕ) (g : Addr) (a : NodeId) (v : NodeValue) (group : Group) (carried : ℕ → List Entry) (steps : List Step) (token : List ℕ) (addr : Addr) (spec : Spec)
+    → is_stopped a.number steps ≡ false → Before nodes g a v group carried steps → is_turned_away g (At a (Make token addr spec)) (Replied (running_reply nodes a.number v (Make token addr spec))) ≡ false
+    → AtNode nodes g a v group carried steps (Make token addr spec) (running_reply nodes a.number v (Make token addr spec))
+at_make nodes g a v group carried steps token addr spec running before free = go (cases_Bool (is_addr g addr))
   where
     rule : Addr → Reply
     rule x = by_tenant (make_answer nodes a.number x.group (is_some (slot_for x v.group)) spec) (reserve_for x.tenant v.row)
 
-    mine : is_turned_away g (At a (Make token g spec)) (Replied (node_reply nodes a.number v (Make token g spec))) ≡ false → AtNode nodes g a v group carried steps (Make token g spec)
-    mine room = at_command nodes g a v group carried steps (Make token g spec) (AskMake spec) refl (rw (is_addr-self g) refl) (is_addr-self g) tt rows
-        (λ none. ap (λ (x : Reply). node_did a (Make token g spec) x v) (in_room-same g a token spec v.group (rule g) room ∙ ap (by_tenant (make_answer nodes a.number g.group (is_some (slot_for g v.group)) spec)) none))
-        (ap (λ (x : Reply). commanded a (AskMake spec) x (group a.number))
-        (ap (λ (b : Bool). by_tenant (make_answer nodes a.number g.group b spec) (group a.number).reserve) (made-is a.number (slot_for g v.group) (group a.number) st.slot)
-        ∙ (ap (by_tenant (make_answer nodes a.number g.group (is_some (slot_for g v.group)) spec)) st.row ∙ sym (in_room-same g a token spec v.group (rule g) room))))
-        (make_stands nodes g a token v (group a.number) spec carried _ (in_room-done v.group (rule g)) st) st
+    r : Addr → Reply
+    r x = in_room v.group (rule x)
 
-    go : ((is_addr g addr ≡ true) ⊎ (is_addr g addr ≡ false)) → AtNode nodes g a v group carried steps (Make token addr spec)
-    go (inl h) = subst (λ (x : Addr). is_turned_away g (At a (Make token x spec)) (Replied (node_reply nodes a.number v (Make token x spec))) ≡ false → AtNode nodes g a v group carried steps (Make token x spec)) (sym (addr_same g addr h)) mine free
-    go (inr h) = inl (at_other nodes g a (node_after nodes a v (Make token addr spec)) group carried steps (Make token addr spec) (node_reply nodes a.number v (Make token addr spec)) refl (rw h refl) h (make_elsewhere nodes g addr a token v (group a.number) spec carried (node_reply nodes a.number v (Make token addr spec)) (in_room-done v.group (rule addr)) h st))
+    granted : (row : Option Reserve) → reserve_for g.tenant v.row ≡ row → by_tenant (make_answer nodes a.number g.group (is_some (slot_for g v.group)) spec) row ≡ Done → has_row a.number g.tenant steps ≡ true
+    granted None there is = absurd (cc)
+    granted (Some row) there is = before.rows ∙ ap (λ (x : Option Reserve). is_some x) there
 
--- A tenant.
+    mine : is_turned_away g (At a (Make token g spec)) (Replied (r g)) ≡ false → AtNode nodes g a v group carried steps (Make token g spec) (r g)
+    mine room =
+        let same : r g ≡ rule g = in_room-same g a token spec v.group (rule g) room in
+        make_by nodes g a v group carried steps token spec (r g) running before (in_room-done v.group (rule g)) (λ is. granted (reserve_for g.tenant v.row) refl (sym same ∙ is))
+        (ap (λ (b : Bool). by_tenant (make_answer nodes a.number g.group b spec) (group a.number).reserve) (made-is a.number (slot_for g v.group) (group a.number) before.stands.slot)
+        ∙ (ap (by_tenant (make_answer nodes a.number g.group (is_some (slot_for g v.group)) spec)) before.stands.row ∙ sym same))
 
-row_done : (row : TenantRow) (o : Option TenantRow) → row_answer row o ≡ Done → o ≡ None
-row_done row None is = refl
-row_done row (Some held) is = absurd (go (is_over_limits row) (nat_eq held.tenant row.tenant) is)
-  where
-    go : (b c : Bool) → (if b then Refused OverReserve else (if c then Refused TenantThere else Refused NoRoom)) ≡ Done → ⊥
-    go true c is = cc
-    go false true is = cc
-    go false false is = cc
-
-unnamed_silent : (g : Addr) (a : NodeId) (steps : List Step) (token : List ℕ) (row : TenantRow) (reply : Reply) → reply_in g a.number steps (At a (AddTenant token row)) (Replied reply) ≡ []
-unnamed_silent g a steps token row reply = rw (and_false (nat_eq a.number a.number) (has_row a.number g.tenant steps)) refl
-
-tenant_by : (nodes : ℕ) (g : Addr) (a : NodeId) (v : NodeValue) (group : Group) (carried : ℕ → List Entry) (steps : List Step) (token : List ℕ) (row : TenantRow) (r : Reply) → (r ≡ Done → v.row ≡ None) → Stands nodes g a.number v (group a.number) carried → AtMost nodes g a (node_did a (AddTenant token row) r v) group carried (requested g steps a (AddTenant token row) r) (reply_in g a.number steps (At a (AddTenant token row)) (Replied r))
-tenant_by nodes g a v group carried steps token row Done free st = go (cases_Bool (nat_eq row.tenant g.tenant))
-  where
-    before : reserve_for g.tenant v.row ≡ None
-    before = ap (reserve_for g.tenant) (free refl)
-
-    go : ((nat_eq row.tenant g.tenant ≡ true) ⊎ (nat_eq row.tenant g.tenant ≡ false)) → AtMost nodes g a (record v { row = Some row }) group carried (requested g steps a (AddTenant token row) Done) (reply_in g a.number steps (At a (AddTenant token row)) (Replied Done))
-    go (inl h) = inr (record {
-      event = Tenant (reserve_of row);
-      one = rw h refl;
-      may = tt;
-      stands = record {
-        row = rw h refl;
-        slot = same_slot a.number (slot_for g v.group) (group a.number) (let m = group a.number in record m { reserve = Some (reserve_of row) }) refl refl refl st.slot;
-        put = st.put;
-        taken = st.taken;
-      };
-      replies = sym (ap (λ rs. (group a.number).replies ++ rs) (unnamed_silent g a steps token row Done) ∙ append-nil (group a.number).replies);
-      come = refl;
-    })
-    go (inr h) = inl (record {
-      none = rw h refl;
-      silent = unnamed_silent g a steps token row Done;
-      stands = same_stands nodes g a.number v (record v { row = Some row }) (group a.number) (group a.number) carried (rw h (sym before)) refl refl refl refl refl refl refl st;
-    })
-tenant_by nodes g a v group carried steps token row (Said seq) free st = inl (record { none = if_same (has_row a.number g.tenant steps) []; silent = unnamed_silent g a steps token row (Said seq); stands = st })
-tenant_by nodes g a v group carried steps token row (Log entries) free st = inl (record { none = if_same (has_row a.number g.tenant steps) []; silent = unnamed_silent g a steps token row (Log entries); stands = st })
-tenant_by nodes g a v group carried steps token row (Refused why) free st = inl (record { none = if_same (has_row a.number g.tenant steps) []; silent = unnamed_silent g a steps token row (Refused why); stands = st })
-
--- any request
-pub at_request : (nodes : ℕ) (g : Addr) (a : NodeId) (v : NodeValue) (group : Group) (carried : ℕ → List Entry) (steps : List Step) (request : Request) → has_row a.number g.tenant steps ≡ is_some (reserve_for g.tenant v.row) → is_turned_away g (At a request) (Replied (node_reply nodes a.number v request)) ≡ false → Stands nodes g a.number v (group a.number) carried → AtNode nodes g a v group carried steps request
-at_request nodes g a v group carried steps (AddTenant token row) rows free st = tenant_by nodes g a v group carried steps token row (row_answer row v.row) (row_done row v.row) st
-at_request nodes g a v group carried steps (Make token addr spec) rows free st = at_make nodes g a v group carried steps token addr spec rows free st
-at_request nodes g a v group carried steps (OpenGroup token addr) rows free st = at_open nodes g a v group carried steps token addr rows st
-at_request nodes g a v group carried steps (Say token addr payload) rows free st = at_say nodes g a v group carried steps token addr payload rows st
-at_request nodes g a v group carried steps (Fetch token addr from most) rows free st = at_fetch nodes g a v group carried steps token addr from most rows st
-
--- the node's row is the one that was answered that it is taken in, and its links stay
-pub row_after : (nodes : ℕ) (a : NodeId) (v : NodeValue) (request : Request) (tenant : ℕ) → is_some (reserve_for tenant (node_after nodes a v request).row) ≡ (is_taken_in a.number tenant (At a request) (Replied (node_reply nodes a.number v request)) || is_some (reserve_for tenant v.row))
-row_after nodes a v (AddTenant token row) tenant = go (row_answer row v.row) (row_done row v.row)
-  where
-    here : (held : Option TenantRow) → held ≡ None → is_some (reserve_for tenant (Some row)) ≡ ((nat_eq a.number a.number && nat_eq row.tenant tenant) || is_some (reserve_for tenant held))
-    here held none = rw (none, eqb_self a.number) (test (nat_eq row.tenant tenant))
-      where
-        test : (b : Bool) → is_some (if b then Some (reserve_of row) else None) ≡ (b || false)
-        test true = refl
-        test false = refl
-
-    go : (r : Reply) → (r ≡ Done → v.row ≡ None) → is_some (reserve_for tenant (node_did a (AddTenant token row) r v).row) ≡ (is_taken_in a.number tenant (At a (AddTenant token row)) (Replied r) || is_some (reserve_for tenant v.row))
-    go Done free = here v.row (free refl)
-    go (Said seq) free = refl
-    go (Log entries) free = refl
-    go (Refused why) free = refl
-row_after nodes a v (Make token addr spec) tenant = go (node_reply nodes a.number v (Make token addr spec))
-  where
-    go : (r : Reply) → is_some (reserve_for tenant (node_did a (Make token addr spec) r v).row) ≡ is_some (reserve_for tenant v.row)
-    go Done = refl
-    go (Said seq) = refl
-    go (Log entries) = refl
-    go (Refused why) = refl
-row_after nodes a v (OpenGroup token addr) tenant = go (node_reply nodes a.number v (OpenGroup token addr))
-  where
-    go : (r : Reply) → is_some (reserve_for tenant (node_did a (OpenGroup token addr) r v).row) ≡ is_some (reserve_for tenant v.row)
-    go Done = refl
-    go (Said seq) = refl
-    go (Log entries) = refl
-    go (Refused why) = refl
-row_after nodes a v (Say token addr payload) tenant = go (node_reply nodes a.number v (Say token addr payload))
-  where
-    go : (r : Reply) → is_some (reserve_for tenant (node_did a (Say token addr payload) r v).row) ≡ is_some (reserve_for tenant v.row)
-    go Done = refl
-    go (Said seq) = refl
-    go (Log entries) = refl
-    go (Refused why) = refl
-row_after nodes a v (Fetch token addr from most) tenant = refl
-
-pub links_after : (nodes : ℕ) (a : NodeId) (v : NodeValue) (request : Request) → ((node_after nodes a v request).sent ≡ v.sent) × ((node_after nodes a v request).received ≡ v.received)
-links_after nodes a v request = go request (node_reply nodes a.number v request)
-  where
-    go : (q : Request) (r : Reply) → ((node_did a q r v).sent ≡ v.sent) × ((node_did a q r v).received ≡ v.received)
-    go (AddTenant token row) Done = (refl, refl)
-    go (Make token addr spec) Done = (refl, refl)
-    go (OpenGroup token addr) Done = (refl, refl)
-    go (Say token addr payload) (Said seq) = (refl, refl)
-    go q r = (refl, refl)
+    go : ((is_addr g addr ≡ true) ⊎ (is_addr g addr ≡ false)) → AtNode nodes g a v group carried steps (Make token addr spec) (r addr)
+    go (inl h) = subst (λ (x : Addr). is_turned_away g (At a (Make token x spec)) (Replied (r x)) ≡ false → AtNode nodes g a v group carried steps (Make token x spec) (r x)) (sym (addr_same g addr h)) mine free
+    go (inr h) = at_other nodes g a v group carried steps (Make token addr spec) (r addr) running before h (none_requested g addr a steps token spec (r addr) h) (made_elsewhere g addr a token spec (r addr) h)
+        (make_elsewhere nodes g addr a token v (group a.number) spec carried (r addr) (in_room-done v.group (rule addr)) h before.stands)

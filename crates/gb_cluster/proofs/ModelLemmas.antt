@@ -1,10 +1,11 @@
 -- The plain program's lists stand for the group alone.
-use Rattle.std.proofs.Common.{◌≡◌, ℕ, zero, suc, ◌+◌, ◌-◌, ◌^◌, ◌<◌, ◌≤◌, ◌≢◌, ◌⊎◌, inl, inr, List, [], ◌∷◌, ◌++◌, length, take, get_or, nat_eq, Bool, true, false, ◌∙◌, ap, sym, subst, refl, arith, add-one, length-append}
-use Rattle.std.specs.Prelude.{map, min, fold, replicate, reverse, slice_get, slice_index_or, slice_set, Option, Some, None, is_some, if◌then◌else◌}
+use Rattle.std.proofs.Common.{◌≡◌, ℕ, zero, suc, ◌+◌, ◌-◌, ◌<◌, ◌≤◌, ◌⊎◌, inl, inr, List, [], ◌∷◌, ◌++◌, length, take, get_or, nat_eq, Bool, true, false, not, ◌&&◌, ◌∙◌, ap, sym, subst, refl, arith, length-append}
+use Rattle.std.specs.Prelude.{map, fold, replicate, slice_get, slice_index_or, slice_set, Option, Some, None, is_some, if◌then◌else◌}
 use Rattle.std.specs.FinSet as set
 use Rattle.std.proofs.lemmas.List.{get_or-replicate, get_or-set_same, get_or-set_other, get_or_append_left, length-set, length-map, map-append, take_more}
 use Rattle.std.proofs.lemmas.List.Sums.{fold-append}
 use Rattle.std.proofs.Math.Seq.{get_or-append_seam}
+use Rattle.std.proofs.lemmas.Bool.{cases_lt}
 use Rattle.std.proofs.lemmas.Bool.Decides.{eqb_tells}
 use Rattle.gb_types.specs.declared.entry.Entry.{Entry}
 use Rattle.gb_types.specs.declared.kind.Kind.{Kind}
@@ -12,7 +13,8 @@ use Rattle.gb_types.specs.declared.kind.Kind.TheVariants.{Beb}
 use Rattle.gb_types.specs.declared.limits.TheConstants.{NODES}
 use Rattle.gb_types.specs.declared.node.NodeId.{NodeId}
 use Rattle.gb_types.specs.declared.reply.Reply.{Reply}
-use Rattle.gb_types.specs.declared.reply.Reply.TheVariants.{Done, Said}
+use Rattle.gb_types.specs.declared.refusal.Refusal.TheVariants.{Stopped}
+use Rattle.gb_types.specs.declared.reply.Reply.TheVariants.{Done, Said, Refused}
 use Rattle.gb_types.specs.declared.spec.Spec.{Spec}
 use Rattle.gb_layer.specs.Modules.{log, delivers}
 use Rattle.gb_layer.specs.declared.base.Base.TheVariants.{BestEffort}
@@ -21,17 +23,16 @@ use Rattle.gb_slot.specs.History.{base_of, puts_of, log_of, calls_of, known}
 use Rattle.gb_slot.specs.Messages.{entry_in}
 use Rattle.gb_slot.specs.Rules.{Shown, is_other, open_answer, say_answer, fetch_answer}
 use Rattle.gb_slot.specs.declared.history.GroupCall.{GroupCall}
-use Rattle.gb_slot.specs.declared.history.GroupCall.TheVariants.{Own, Other}
+use Rattle.gb_layer.specs.Machine.{was_noticed}
+use Rattle.gb_slot.specs.declared.history.GroupCall.TheVariants.{Own, Other, Crashed}
 use Rattle.gb_slot.specs.declared.phase.Phase.{Phase}
-use Rattle.gb_slot.specs.declared.phase.Phase.TheVariants.{Made, Opened}
-use Rattle.gb_cluster.specs.Alone.{Member, Group, shown, shown_of, reply_to, put_to, called, did, commanded, falls, item_came, taken_in, member_after, after, nobody, alone, alone_from}
-use Rattle.gb_cluster.specs.Observation.{upto, MemberValue, new_member, member_of, row_with, rows_with, value_called, value_did, value_commanded, value_came, value_taken_in, value_took, value_at, value_after, values_after, IsListed, AreListed}
+use Rattle.gb_cluster.specs.Alone.{Member, Group, shown, shown_of, running_reply, reply_to, cut, took_notice, put_to, called, did, commanded, falls, item_came, taken_in, member_after, after, nobody, alone, alone_from}
+use Rattle.gb_cluster.specs.Observation.{upto, MemberValue, new_member, member_of, row_with, rows_with, value_called, value_did, value_commanded, value_came, value_taken_in, value_took, value_cut, value_noticed, value_at, value_after, values_after, IsListed, AreListed}
 use Rattle.gb_cluster.specs.Rules.{make_answer, by_tenant, on_made}
 use Rattle.gb_cluster.specs.declared.group.GroupEvent.{GroupEvent}
-use Rattle.gb_cluster.specs.declared.group.GroupEvent.TheVariants.{Tenant, AskMake, AskOpen, AskSay, AskFetch, Took, Came}
+use Rattle.gb_cluster.specs.declared.group.GroupEvent.TheVariants.{Tenant, AskMake, AskOpen, AskSay, AskFetch, Took, Came, Acknowledged, Notice, Stop}
 use Rattle.gb_cluster.specs.declared.group.GroupStep.{GroupStep}
 use Rattle.gb_cluster.specs.declared.group.Reserve.{Reserve}
-use Rattle.gb_cluster.proofs.PastLemmas.{map_more}
 
 -- best-effort broadcast does not ask who the members are
 log_any : (kind : Kind) (me : ℕ) (xs ys : List ℕ) (past : List Call) → log (base_of kind) me xs past ≡ log (base_of kind) me ys past
@@ -58,24 +59,20 @@ get_upto f (suc n) b d lt =
       | inr p ↦ get_or_append_left (map f (upto n)) (f n ∷ []) d b (omega (arith, len, p.1)) ∙ get_upto f n b d (omega (arith, p.1))
     ]
 
--- Counts that stop at the greatest number of 64 bits.
+-- Counts.
 
-min_twice : (t c most : ℕ) → min (min t most + c) most ≡ min (t + c) most
-min_twice t c most = omega arith
-
-took_at : (x b count most : ℕ) (t : ℕ → ℕ) (taken : List ℕ) → b < length taken → get_or taken b 0 ≡ min (t b) most → get_or taken x 0 ≡ min (t x) most
-    → get_or (slice_set taken b (min (get_or taken b 0 + count) most)) x 0 ≡ min (if nat_eq x b then t x + count else t x) most
-took_at x b count most t taken lt here there = elim (eqb_tells x b) [
+took_at : (x b count : ℕ) (t : ℕ → ℕ) (taken : List ℕ) → b < length taken → get_or taken b 0 ≡ t b → get_or taken x 0 ≡ t x
+    → get_or (slice_set taken b (get_or taken b 0 + count)) x 0 ≡ (if nat_eq x b then t x + count else t x)
+took_at x b count t taken lt here there = elim (eqb_tells x b) [
   | inl p ↦
-      ap (λ k. get_or (slice_set taken b (min (get_or taken b 0 + count) most)) k 0) p.1
-      ∙ (get_or-set_same taken b (min (get_or taken b 0 + count) most) 0 lt
-      ∙ (ap (λ k. min (k + count) most) here
-      ∙ (min_twice (t b) count most
-      ∙ (ap (λ k. min (t k + count) most) (sym p.1)
-      ∙ ap (λ (e : Bool). min (if e then t x + count else t x) most) (sym p.0)))))
+      ap (λ k. get_or (slice_set taken b (get_or taken b 0 + count)) k 0) p.1
+      ∙ (get_or-set_same taken b (get_or taken b 0 + count) 0 lt
+      ∙ (ap (λ k. k + count) here
+      ∙ (ap (λ k. t k + count) (sym p.1)
+      ∙ ap (λ (e : Bool). if e then t x + count else t x) (sym p.0))))
   | inr p ↦
-      get_or-set_other taken b x (min (get_or taken b 0 + count) most) 0 p.1
-      ∙ (there ∙ ap (λ (e : Bool). min (if e then t x + count else t x) most) (sym p.0))
+      get_or-set_other taken b x (get_or taken b 0 + count) 0 p.1
+      ∙ (there ∙ ap (λ (e : Bool). if e then t x + count else t x) (sym p.0))
 ]
 
 -- The member after each change.
@@ -88,23 +85,26 @@ shown_listed me v m h =
 by_both : (answer : Shown → Reply) (r r' : Option Reserve) (s s' : Option Shown) → r ≡ r' → s ≡ s' → by_tenant (λ _. on_made answer s) r ≡ by_tenant (λ _. on_made answer s') r'
 by_both answer r r' s s' e f = ap (λ (x : Option Reserve). by_tenant (λ _. on_made answer s) x) e ∙ ap (λ (x : Option Shown). by_tenant (λ _. on_made answer x) r') f
 
-reply_listed : (nodes number me : ℕ) (event : GroupEvent) (v : MemberValue) (m : Member) → IsListed v m → reply_to nodes number me event (member_of v) ≡ reply_to nodes number me event m
-reply_listed nodes number me (AskMake spec) v m h =
+running_listed : (nodes number me : ℕ) (event : GroupEvent) (v : MemberValue) (m : Member) → IsListed v m → running_reply nodes number me event (member_of v) ≡ running_reply nodes number me event m
+running_listed nodes number me (AskMake spec) v m h =
     ap (λ (r : Option Reserve). by_tenant (make_answer nodes me number (is_some v.spec) spec) r) h.reserve
     ∙ ap (λ (s : Option Spec). by_tenant (make_answer nodes me number (is_some s) spec) m.reserve) h.spec
-reply_listed nodes number me AskOpen v m h = by_both open_answer v.reserve m.reserve (shown me (member_of v)) (shown me m) h.reserve (shown_listed me v m h)
-reply_listed nodes number me (AskSay payload) v m h = by_both (λ s. say_answer s payload) v.reserve m.reserve (shown me (member_of v)) (shown me m) h.reserve (shown_listed me v m h)
-reply_listed nodes number me (AskFetch from most) v m h = by_both (λ s. fetch_answer s from most) v.reserve m.reserve (shown me (member_of v)) (shown me m) h.reserve (shown_listed me v m h)
-reply_listed nodes number me (Tenant reserve) v m h = refl
-reply_listed nodes number me (Took b count) v m h = refl
-reply_listed nodes number me (Came from place) v m h = refl
+running_listed nodes number me AskOpen v m h = by_both open_answer v.reserve m.reserve (shown me (member_of v)) (shown me m) h.reserve (shown_listed me v m h)
+running_listed nodes number me (AskSay payload) v m h = by_both (λ s. say_answer s payload) v.reserve m.reserve (shown me (member_of v)) (shown me m) h.reserve (shown_listed me v m h)
+running_listed nodes number me (AskFetch from most) v m h = by_both (λ s. fetch_answer s from most) v.reserve m.reserve (shown me (member_of v)) (shown me m) h.reserve (shown_listed me v m h)
+running_listed nodes number me event v m h = refl
+
+reply_listed : (nodes number me : ℕ) (event : GroupEvent) (v : MemberValue) (m : Member) → IsListed v m → reply_to nodes number me event (member_of v) ≡ reply_to nodes number me event m
+reply_listed nodes number me event v m h =
+    ap (λ (b : Bool). if b then Refused Stopped else running_reply nodes number me event (member_of v)) h.stopped
+    ∙ ap (λ (r : Reply). if m.stopped then Refused Stopped else r) (running_listed nodes number me event v m h)
 
 rows_listed : (me : ℕ) (spec : Option Spec) (c : GroupCall) (told : List GroupCall) (rows : List (List Entry)) (put : ℕ → List Entry) → ((b : ℕ) → b < NODES → slice_index_or rows b [] ≡ put b)
     → (b : ℕ) → b < NODES → slice_index_or (rows_with me spec c told rows) b [] ≡ put_to me spec c told put b
 rows_listed me None c told rows put same b lt = same b lt
 rows_listed me (Some spec) c told rows put same b lt =
-    get_upto (row_with spec me rows (puts_of spec me c told)) NODES b [] lt
-    ∙ ap (λ (row : List Entry). if is_other spec me b then row ++ puts_of spec me c told else row) (same b lt)
+    get_upto (row_with spec me (c ∷ told) rows (puts_of spec me c told)) NODES b [] lt
+    ∙ ap (λ (row : List Entry). if is_other spec me b && not (was_noticed (calls_of (c ∷ told)) b) then row ++ puts_of spec me c told else row) (same b lt)
 
 called_listed : (me : ℕ) (c : GroupCall) (v : MemberValue) (m : Member) → IsListed v m → IsListed (value_called me c v) (called me c m)
 called_listed me c v m h = record {
@@ -119,11 +119,12 @@ called_listed me c v m h = record {
       ∙ rows_listed me m.spec c m.told v.put m.put h.put b lt);
   taken = h.taken;
   size = h.size;
+  stopped = h.stopped;
 }
 
 did_listed : (me : NodeId) (event : GroupEvent) (reply : Reply) (v : MemberValue) (m : Member) → IsListed v m → IsListed (value_did me event reply v) (did me event reply m)
-did_listed me (AskMake spec) Done v m h = record { reserve = h.reserve; spec = refl; phase = h.phase; told = h.told; replies = h.replies; put = h.put; taken = h.taken; size = h.size }
-did_listed me AskOpen Done v m h = record { reserve = h.reserve; spec = h.spec; phase = refl; told = h.told; replies = h.replies; put = h.put; taken = h.taken; size = h.size }
+did_listed me (AskMake spec) Done v m h = record { reserve = h.reserve; spec = refl; phase = h.phase; told = h.told; replies = h.replies; put = h.put; taken = h.taken; size = h.size; stopped = h.stopped }
+did_listed me AskOpen Done v m h = record { reserve = h.reserve; spec = h.spec; phase = refl; told = h.told; replies = h.replies; put = h.put; taken = h.taken; size = h.size; stopped = h.stopped }
 did_listed me (AskSay payload) (Said seq) v m h = called_listed me.number (Own (record { origin = me; seq = seq; payload = payload })) v m h
 did_listed me event reply v m h = h
 
@@ -139,6 +140,7 @@ commanded_listed me event reply v m h =
       put = next.put;
       taken = next.taken;
       size = next.size;
+      stopped = next.stopped;
     }
 
 either_listed : (b : Bool) (v w : MemberValue) (m n : Member) → IsListed v m → IsListed w n → IsListed (if b then v else w) (if b then m else n)
@@ -152,7 +154,7 @@ came_listed me from x v m h =
     subst P (sym same) (either_listed (falls me from.number x m.told m.spec) v (value_called me (Other from x) v) m (called me (Other from x) m) h (called_listed me (Other from x) v m h))
 
 with_place : (v : MemberValue) (m : Member) (come : ℕ → List ℕ) → IsListed v m → IsListed v (record m { come = come })
-with_place v m come h = record { reserve = h.reserve; spec = h.spec; phase = h.phase; told = h.told; replies = h.replies; put = h.put; taken = h.taken; size = h.size }
+with_place v m come h = record { reserve = h.reserve; spec = h.spec; phase = h.phase; told = h.told; replies = h.replies; put = h.put; taken = h.taken; size = h.size; stopped = h.stopped }
 
 taken_in_listed : (me : ℕ) (from : NodeId) (place : ℕ) (item : Option Entry) (v : MemberValue) (m : Member) → IsListed v m → IsListed (value_taken_in me from item v) (taken_in me from place item m)
 taken_in_listed me from place None v m h = h
@@ -168,9 +170,54 @@ took_listed b count v m lt h = record {
   told = h.told;
   replies = h.replies;
   put = h.put;
-  taken = λ x below. took_at x b count (2 ^ 64 - 1) m.taken v.taken (omega (arith, h.size)) (h.taken b lt) (h.taken x below);
-  size = length-set v.taken b (min (slice_index_or v.taken b 0 + count) (2 ^ 64 - 1)) ∙ h.size;
+  taken = λ x below. took_at x b count m.taken v.taken (omega (arith, h.size)) (h.taken b lt) (h.taken x below);
+  size = length-set v.taken b (slice_index_or v.taken b 0 + count) ∙ h.size;
+  stopped = h.stopped;
 }
+
+cut_at : (x q : ℕ) (taken : List ℕ) (t : ℕ → ℕ) (rows : List (List Entry)) (put : ℕ → List Entry) → get_or taken q 0 ≡ t q → get_or rows q [] ≡ put q → get_or rows x [] ≡ put x
+    → get_or (slice_set rows q (take (get_or taken q 0) (get_or rows q []))) x [] ≡ (if nat_eq x q then take (t x) (put x) else put x)
+cut_at x q taken t rows put count there here = elim (eqb_tells x q) [
+  | inl p ↦
+      ap (λ k. get_or (slice_set rows q (take (get_or taken q 0) (get_or rows q []))) k []) p.1
+      ∙ (same (cases_lt q (length rows))
+      ∙ ((λ i. take (count i) (there i)) ∙ (ap (λ k. take (t k) (put k)) (sym p.1) ∙ ap (λ (e : Bool). if e then take (t x) (put x) else put x) (sym p.0))))
+  | inr p ↦
+      get_or-set_other rows q x (take (get_or taken q 0) (get_or rows q [])) [] p.1
+      ∙ (here ∙ ap (λ (e : Bool). if e then take (t x) (put x) else put x) (sym p.0))
+]
+  where
+    beyond : (ys : List (List Entry)) (k : ℕ) (y : List Entry) → length ys ≤ k → (get_or ys k [] ≡ []) × (get_or (slice_set ys k y) k [] ≡ [])
+    beyond [] k y le = (refl, refl)
+    beyond (z ∷ ys) zero y le = absurd (omega arith)
+    beyond (z ∷ ys) (suc k) y le = beyond ys k y (omega arith)
+
+    take_none : (n : ℕ) → take n (let none : List Entry = [] in none) ≡ []
+    take_none zero = refl
+    take_none (suc n) = refl
+
+    same : ((q < length rows) ⊎ (length rows ≤ q)) → get_or (slice_set rows q (take (get_or taken q 0) (get_or rows q []))) q [] ≡ take (get_or taken q 0) (get_or rows q [])
+    same (inl within) = get_or-set_same rows q (take (get_or taken q 0) (get_or rows q [])) [] within
+    same (inr outside) =
+        let none = beyond rows q (take (get_or taken q 0) (get_or rows q [])) outside in
+        none.1 ∙ (sym (take_none (get_or taken q 0)) ∙ ap (take (get_or taken q 0)) (sym none.0))
+
+cut_listed : (q : NodeId) (v : MemberValue) (m : Member) → IsListed v m → IsListed (value_cut q v) (cut q m)
+cut_listed q v m h = record {
+  reserve = h.reserve;
+  spec = h.spec;
+  phase = h.phase;
+  told = h.told;
+  replies = h.replies;
+  put = λ b lt. cut_at b q.number v.taken m.taken v.put m.put (h.taken q.number q.below) (h.put q.number q.below) (h.put b lt);
+  taken = h.taken;
+  size = h.size;
+  stopped = h.stopped;
+}
+
+notice_listed : (me : ℕ) (q : NodeId) (o : Option Spec) (v : MemberValue) (m : Member) → IsListed v m → IsListed (value_noticed me q o v) (took_notice me q o m)
+notice_listed me q None v m h = h
+notice_listed me q (Some spec) v m h = either_listed (is_other spec me q.number) (value_called me (Crashed q) (value_cut q v)) v (called me (Crashed q) (cut q m)) m (called_listed me (Crashed q) (value_cut q v) (cut q m) (cut_listed q v m h)) h
 
 command_listed : (nodes number : ℕ) (me : NodeId) (event : GroupEvent) (v : MemberValue) (m : Member) → IsListed v m
     → IsListed (value_commanded me event (reply_to nodes number me.number event (member_of v)) v) (commanded me event (reply_to nodes number me.number event m) m)
@@ -181,12 +228,23 @@ command_listed nodes number me event v m h =
 member_listed : (nodes number : ℕ) (me : NodeId) (event : GroupEvent) (vs : List MemberValue) (group : Group) → AreListed vs group → IsListed (value_after nodes number me event vs) (member_after nodes number me event group)
 member_listed nodes number me (Tenant reserve) vs group h =
     let here = h.members me.number me.below in
-    record { reserve = refl; spec = here.spec; phase = here.phase; told = here.told; replies = here.replies; put = here.put; taken = here.taken; size = here.size }
+    record { reserve = refl; spec = here.spec; phase = here.phase; told = here.told; replies = here.replies; put = here.put; taken = here.taken; size = here.size; stopped = here.stopped }
 member_listed nodes number me (Took b count) vs group h = took_listed b.number count (value_at vs me.number) (group me.number) b.below (h.members me.number me.below)
 member_listed nodes number me (Came from place) vs group h =
     let P : List Entry → Type 0 = λ row. IsListed (value_taken_in me.number from (slice_get row (place - 1)) (value_at vs me.number)) (member_after nodes number me (Came from place) group) in
     subst P (sym ((h.members from.number from.below).put me.number me.below))
     (taken_in_listed me.number from place (slice_get ((group from.number).put me.number) (place - 1)) (value_at vs me.number) (group me.number) (h.members me.number me.below))
+member_listed nodes number me (Acknowledged b place count) vs group h =
+    let here = h.members me.number me.below in
+    record { reserve = here.reserve; spec = here.spec; phase = here.phase; told = here.told; replies = here.replies; put = here.put; taken = here.taken; size = here.size; stopped = here.stopped }
+member_listed nodes number me (Notice q) vs group h =
+    let v : MemberValue = value_at vs me.number in
+    let next = subst (λ (o : Option Spec). IsListed (value_noticed me.number q o v) (took_notice me.number q (group me.number).spec (group me.number))) (sym (h.members me.number me.below).spec)
+    (notice_listed me.number q (group me.number).spec v (group me.number) (h.members me.number me.below)) in
+    record { reserve = next.reserve; spec = next.spec; phase = next.phase; told = next.told; replies = next.replies; put = next.put; taken = next.taken; size = next.size; stopped = next.stopped }
+member_listed nodes number me Stop vs group h =
+    let here = h.members me.number me.below in
+    record { reserve = here.reserve; spec = here.spec; phase = here.phase; told = here.told; replies = here.replies; put = here.put; taken = here.taken; size = here.size; stopped = refl }
 member_listed nodes number me (AskMake spec) vs group h = command_listed nodes number me (AskMake spec) (value_at vs me.number) (group me.number) (h.members me.number me.below)
 member_listed nodes number me AskOpen vs group h = command_listed nodes number me AskOpen (value_at vs me.number) (group me.number) (h.members me.number me.below)
 member_listed nodes number me (AskSay payload) vs group h = command_listed nodes number me (AskSay payload) (value_at vs me.number) (group me.number) (h.members me.number me.below)
@@ -226,6 +284,7 @@ new_listed x = record {
   put = λ b lt. refl;
   taken = λ b lt. get_or-replicate NODES b 0 0 lt;
   size = refl;
+  stopped = refl;
 }
 
 start_listed : AreListed (replicate NODES new_member) nobody

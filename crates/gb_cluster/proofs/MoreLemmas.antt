@@ -1,17 +1,20 @@
 -- Packets sent later change nothing of what was before.
-use Rattle.std.proofs.Common.{◌≡◌, ℕ, zero, suc, ◌<◌, ◌≤◌, List, [], ◌∷◌, ◌++◌, length, take, refl, sym, ◌∙◌, ap, arith, length-append}
-use Rattle.std.specs.Prelude.{slice_get}
+use Rattle.std.proofs.Common.{◌≡◌, ℕ, Bool, not, ◌&&◌, zero, suc, ◌+◌, ◌-◌, ◌<◌, ◌≤◌, List, [], ◌∷◌, ◌++◌, length, take, refl, sym, ◌∙◌, ap, arith, length-append}
+use Rattle.std.specs.Prelude.{slice_get, if◌then◌else◌}
 use Rattle.std.proofs.lemmas.List.{append_assoc, take-append-le}
 use Rattle.gb_types.specs.declared.address.Addr.{Addr}
 use Rattle.gb_cluster.specs.declared.event.Event.{Event}
-use Rattle.gb_cluster.specs.declared.event.Event.TheVariants.{At, Pack, Arrive}
+use Rattle.gb_cluster.specs.declared.event.Event.TheVariants.{At, Pack, Arrive, Tick}
 use Rattle.gb_cluster.specs.declared.answer.Answer.{Answer}
-use Rattle.gb_cluster.specs.declared.answer.Answer.TheVariants.{Reply as Replied, Sent as Gave, Taken as Took_in}
+use Rattle.gb_cluster.specs.declared.answer.Answer.TheVariants.{Reply as Replied, Sent as Gave, Taken as Took_in, Ticked as Ticked_so}
+use Rattle.gb_cluster.specs.declared.answer.Ticked.TheVariants.{Noticed}
 use Rattle.gb_cluster.specs.declared.answer.Sent.TheVariants.{Packet as Numbered}
 use Rattle.gb_cluster.specs.declared.answer.Taken.TheVariants.{Good as Accepted}
 use Rattle.gb_cluster.specs.declared.step.Step.{Step}
 use Rattle.gb_cluster.specs.declared.packet.Packet.{Packet}
-use Rattle.gb_cluster.specs.Project.{project, gives, frames, frame_at, packet_at, items_of, items_in, is_frame, is_taken, is_taken_by, arrived}
+use Rattle.gb_types.specs.declared.node.NodeId.{NodeId}
+use Rattle.gb_link.specs.Ack.{covers}
+use Rattle.gb_cluster.specs.Project.{project, gives, frames, frame_at, packet_at, items_of, items_in, is_frame, is_taken, is_taken_by, is_ack, is_acked, is_acked_by, watched, watched_by, heard_from, is_new_ack, acknowledged, all_acknowledged, comes, arrived}
 use Rattle.gb_cluster.specs.Holds.{IsNumbered, number_of, offset}
 
 pub slice_get-append : {X : Type 0} (xs ys : List X) (k : ℕ) → k < length xs → slice_get (xs ++ ys) k ≡ slice_get xs k
@@ -41,14 +44,43 @@ unfolding is_taken
 is_taken-more x y n packets new [] numbered = refl
 is_taken-more x y n packets new (s ∷ steps) numbered = rw (is_taken-more x y n packets new steps numbered.1, taken_by-more x y n packets new s.event s.answer numbered.0) refl
 
+acked_by-more : (x y n : ℕ) (packets new : List Packet) (e : Event) (a : Answer) → number_of e a ≤ length packets → is_acked_by x y n (packets ++ new) e a ≡ is_acked_by x y n packets e a
+acked_by-more x y n packets new (Arrive k) (Took_in (Accepted good)) le = ap (is_ack x y n) (packet_at-more packets new k le)
+acked_by-more x y n packets new e a le = refl
+
+pub is_acked-more : (x y n : ℕ) (packets new : List Packet) (steps : List Step) → IsNumbered (length packets) steps → is_acked x y n (packets ++ new) steps ≡ is_acked x y n packets steps
+unfolding is_acked
+is_acked-more x y n packets new [] numbered = refl
+is_acked-more x y n packets new (s ∷ steps) numbered = rw (is_acked-more x y n packets new steps numbered.1, acked_by-more x y n packets new s.event s.answer numbered.0) refl
+
+watched_by-more : (x : ℕ) (packets new : List Packet) (e : Event) (a : Answer) → number_of e a ≤ length packets → watched_by x (packets ++ new) e a ≡ watched_by x packets e a
+watched_by-more x packets new (Arrive k) (Took_in (Accepted good)) le = ap (heard_from x) (packet_at-more packets new k le)
+watched_by-more x packets new e a le = refl
+
+pub watched-more : (x : ℕ) (packets new : List Packet) (steps : List Step) → IsNumbered (length packets) steps → watched x (packets ++ new) steps ≡ watched x packets steps
+unfolding watched
+watched-more x packets new [] numbered = refl
+watched-more x packets new (s ∷ steps) numbered = rw (watched-more x packets new steps numbered.1, watched_by-more x packets new s.event s.answer numbered.0) refl
+
+acknowledged-same : (g : Addr) (a b : NodeId) (test other : ℕ → Bool) (n before : ℕ) (fs : List Packet) → ((k : ℕ) → test k ≡ other k) → all_acknowledged g a b test n before fs ≡ all_acknowledged g a b other n before fs
+acknowledged-same g a b test other n before [] same = refl
+acknowledged-same g a b test other n before (f ∷ fs) same =
+    ap (λ (t : Bool). (if t then acknowledged a b (before + 1) (length (items_in g f)) else []) ++ all_acknowledged g a b test (n + 1) (before + length (items_in g f)) fs) (same n)
+    ∙ ap (λ xs. (if other n then acknowledged a b (before + 1) (length (items_in g f)) else []) ++ xs) (acknowledged-same g a b test other (n + 1) (before + length (items_in g f)) fs same)
+
 arrived-more : (g : Addr) (packets new : List Packet) (steps : List Step) (here : List Packet) → IsNumbered (length packets) steps → arrived g (packets ++ new) steps here ≡ arrived g packets steps here
 arrived-more g packets new steps [] numbered = refl
-arrived-more g packets new steps (p ∷ others) numbered = rw (is_taken-more p.from.number p.to.number p.frame packets new steps numbered, frames-more p.from.number p.to.number packets new steps numbered) refl
+arrived-more g packets new steps (p ∷ others) numbered =
+    rw (is_taken-more p.from.number p.to.number p.frame packets new steps numbered, frames-more p.from.number p.to.number packets new steps numbered, frames-more p.to.number p.from.number packets new steps numbered)
+    (ap (λ xs. xs ++ (if is_taken p.from.number p.to.number p.frame packets steps then [] else comes p.from p.to (length (items_of g (take (p.frame - 1) (frames p.from.number p.to.number packets steps)))) (length (items_in g p))))
+    (acknowledged-same g p.to p.from (is_new_ack (packets ++ new) steps p) (is_new_ack packets steps p) 1 0 (frames p.to.number p.from.number packets steps)
+    (λ n. ap (λ (t : Bool). covers p.base p.mask n && not t) (is_acked-more p.to.number p.from.number n packets new steps numbered))))
 
 gives-more : (g : Addr) (packets new : List Packet) (steps : List Step) (e : Event) (a : Answer) → number_of e a ≤ length packets → IsNumbered (length packets) steps → gives g (packets ++ new) steps e a ≡ gives g packets steps e a
 gives-more g packets new steps (At x request) (Replied reply) le numbered = refl
 gives-more g packets new steps (Pack b c) (Gave (Numbered k)) le numbered = rw (packet_at-more packets new k le) refl
 gives-more g packets new steps (Arrive k) (Took_in (Accepted good)) le numbered = ap (arrived g (packets ++ new) steps) (packet_at-more packets new k le) ∙ arrived-more g packets new steps (packet_at packets k) numbered
+gives-more g packets new steps (Tick x) (Ticked_so (Noticed found)) le numbered = refl
 gives-more g packets new steps e a le numbered = refl
 
 pub project-more : (g : Addr) (packets new : List Packet) (steps : List Step) → IsNumbered (length packets) steps → project g (packets ++ new) steps ≡ project g packets steps

@@ -1,6 +1,5 @@
 -- A node stands for each group through each item.
-use Rattle.std.proofs.Common.{◌≡◌, ℕ, List, ◌++◌, length, Option, Some, None, Bool, true, false, ◌⊎◌, inl, inr, refl, sym, ◌∙◌, ap, subst, arith}
-use Rattle.std.specs.Prelude.{if◌then◌else◌}
+use Rattle.std.proofs.Common.{◌≡◌, ℕ, List, ◌++◌, length, Option, Some, None, true, false, ◌⊎◌, inl, inr, refl, sym, ◌∙◌, ap, subst, arith}
 use Rattle.std.specs.Option.{option_map}
 use Rattle.std.proofs.lemmas.Bool.Decides.{nat_tests}
 use Rattle.std.proofs.lemmas.Bool.{cases_Bool}
@@ -68,8 +67,8 @@ stands-came nodes g me place from e v u m carried rows group st =
     let slots : slot_for g u.group ≡ option_map (slot_came from e) (slot_for g v.group) = ap (slot_for g) group ∙ slot_for-on_same g (slot_came from e) v.group in
     let rest = item_came-rest me from e m in
     record {
-      row = rest.0 ∙ (st.row ∙ ap (reserve_for g.tenant) (sym rows));
+      row = rest.reserve ∙ (st.row ∙ ap (reserve_for g.tenant) (sym rows));
       slot = subst (λ o. SlotIs me o (taken_in me from place (Some e) m)) (sym slots) (same_slot me (option_map (slot_came from e) (slot_for g v.group)) (item_came me from e m) (taken_in me from place (Some e) m) refl refl refl (slot-came me from e (slot_for g v.group) m st.slot));
       put = λ b in_cluster. put-item_came me from e (slot_for g v.group) m b (carried b) st.slot (st.put b in_cluster) ∙ ap (λ xs. carried b ++ xs) (sym (ap (λ o. waiting_in o b) slots));
-      taken = λ b in_cluster. ap (λ (f : ℕ → ℕ). f b) rest.2 ∙ st.taken b in_cluster;
+      taken = λ b in_cluster. ap (λ (f : ℕ → ℕ). f b) rest.taken ∙ st.taken b in_cluster;
     }

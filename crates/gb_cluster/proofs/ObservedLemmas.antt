@@ -1,5 +1,5 @@
 -- What holds of every cluster says what the plain programs see of each group.
-use Rattle.std.proofs.Common.{◌≡◌, ℕ, ◌<◌, List, ◌++◌, length, take, refl, sym, ◌∙◌, ap, subst, true, arith}
+use Rattle.std.proofs.Common.{◌≡◌, ℕ, ◌<◌, List, ◌++◌, length, take, sym, ◌∙◌, ap, subst, arith}
 use Rattle.std.proofs.lemmas.List.{take_all, take-append-le}
 use Rattle.gb_types.specs.declared.address.Addr.{Addr}
 use Rattle.gb_types.specs.declared.entry.Entry.{Entry}
@@ -27,7 +27,7 @@ observed_of : (g : Addr) (w : World) → BehavesAlone g w → IsObserved (length
 observed_of g w alone_too = record {
   legal = alone_too.legal;
   same = seen_same (length w.nodes) (λ a. replies_to g a w.steps) (λ a. (group a).replies) (λ a b. items_of g (frames a b w.packets w.steps)) (λ a b. take ((group a).taken b) ((group a).put b))
-      (λ a inside. sym (alone_too.fits.replies a inside))
+      (λ a inside. sym (alone_too.fits.member a inside).replies)
       (λ a b inside below. carried_are_taken (length w.nodes) g a (node_of w a) (group a) (λ x. items_of g (frames a x w.packets w.steps)) b below (alone_too.fits.stands a inside));
 }
   where

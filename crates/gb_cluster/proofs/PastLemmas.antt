@@ -1,13 +1,23 @@
 -- The steps of a run, from its front.
 use Rattle.std.proofs.Common.{◌≡◌, ℕ, zero, suc, ◌+◌, ◌<◌, ◌≤◌, List, [], ◌∷◌, ◌++◌, length, take, get_or, ◌∙◌, ap, sym, refl, arith, add-one, length-append, append_assoc}
-use Rattle.std.specs.Prelude.{reverse, min, map, Bool, false, if◌then◌else◌}
+use Rattle.std.specs.Prelude.{reverse, min, map, filter, Bool, true, false, cond, ◌&&◌, ◌||◌, if◌then◌else◌}
+use Rattle.std.specs.List.{range_with_len}
 use Rattle.std.proofs.lemmas.List.{reverse-append, append-nil, map-append}
+use Rattle.std.proofs.lemmas.List.Elements.{filter-append}
 use Rattle.gb_types.specs.declared.address.Addr.{Addr}
 use Rattle.gb_types.specs.declared.entry.Entry.{Entry}
+use Rattle.gb_types.specs.declared.node.NodeId.{NodeId}
+use Rattle.gb_types.specs.declared.spec.Spec.{Spec}
+use Rattle.gb_types.proofs.SameLemmas.{same_number}
+use Rattle.gb_slot.specs.Rules.{is_other}
+use Rattle.gb_cluster.specs.Nodes.{node_numbered}
+use Rattle.gb_cluster.specs.declared.group.GroupEvent.TheVariants.{Notice}
+use Rattle.gb_cluster.specs.declared.group.GroupStep.{GroupStep}
 use Rattle.gb_types.specs.declared.reply.Reply.{Reply}
-use Rattle.gb_cluster.specs.Observation.{paired, steps_of, upto, SeenAt, seen_at, seen_by}
-use Rattle.gb_cluster.specs.Project.{is_addr, items_in, items_of, frames, frame_at, project, gives, replies_to, reply_in}
+use Rattle.gb_cluster.specs.Observation.{paired, steps_of, upto, seen_at, seen_by}
+use Rattle.gb_cluster.specs.Project.{items_in, items_of, frames, frame_at, acknowledged, all_acknowledged, is_met_by, is_met, project, gives, replies_to, reply_in}
 use Rattle.gb_cluster.specs.declared.answer.Answer.{Answer}
+use Rattle.gb_cluster.specs.declared.answer.Answer.TheVariants.{NoPacket}
 use Rattle.gb_cluster.specs.declared.event.Event.{Event}
 use Rattle.gb_cluster.specs.declared.packet.Packet.{Packet}
 use Rattle.gb_cluster.specs.declared.step.Step.{Step}
@@ -131,6 +141,119 @@ counted_past g n i items seen fs more p one le was = rw one (record {
   fewer = omega (arith, was.fewer);
 })
 
+-- Acknowledgements.
+
+-- what one frame gives, where it has the number n and stands behind so many items
+abbrev one_acknowledged : Addr → NodeId → NodeId → (ℕ → Bool) → Packet → ℕ → ℕ → List GroupStep
+one_acknowledged g a b new f n before = if new n then acknowledged a b (before + 1) (length (items_in g f)) else []
+
+-- one frame more
+pub all_acknowledged_more : (g : Addr) (a b : NodeId) (new : ℕ → Bool) (n before : ℕ) (fs : List Packet) (f : Packet)
+    → all_acknowledged g a b new n before (fs ++ f ∷ []) ≡ all_acknowledged g a b new n before fs ++ (if new (n + length fs) then acknowledged a b (before + length (items_of g fs) + 1) (length (items_in g f)) else [])
+unfolding items_of
+all_acknowledged_more g a b new n before [] f =
+    let same : n + 0 ≡ n = omega arith in
+    let place : before + 0 ≡ before = omega arith in
+    append-nil (one_acknowledged g a b new f n before) ∙ sym (ap (λ k. one_acknowledged g a b new f k (before + 0)) same ∙ ap (one_acknowledged g a b new f n) place)
+all_acknowledged_more g a b new n before (h ∷ fs) f =
+    let number : n + 1 + length fs ≡ n + length (h ∷ fs) = omega arith in
+    let place : before + length (items_in g h) + length (items_of g fs) ≡ before + length (items_of g (h ∷ fs)) = omega (arith, length-append (items_in g h) (items_of g fs)) in
+    ap (λ xs. one_acknowledged g a b new h n before ++ xs) (all_acknowledged_more g a b new (n + 1) (before + length (items_in g h)) fs f
+    ∙ (ap (λ k. all_acknowledged g a b new (n + 1) (before + length (items_in g h)) fs ++ one_acknowledged g a b new f k (before + length (items_in g h) + length (items_of g fs))) number
+    ∙ ap (λ k. all_acknowledged g a b new (n + 1) (before + length (items_in g h)) fs ++ one_acknowledged g a b new f (n + length (h ∷ fs)) k) place))
+    ∙ sym (append_assoc (one_acknowledged g a b new h n before) (all_acknowledged g a b new (n + 1) (before + length (items_in g h)) fs) (one_acknowledged g a b new f (n + length (h ∷ fs)) (before + length (items_of g (h ∷ fs)))))
+
+-- the steps after what some frames' acknowledgement gives, with so many frames and items of the group in them, after i steps
+pub record Acked (g : Addr) (a b : NodeId) (new : ℕ → Bool) (i total number : ℕ) (fs : List Packet) (before now : List GroupStep) : Type 0 where
+  pub steps : now ≡ before ++ all_acknowledged g a b new 1 0 fs
+  pub items : total ≡ length (items_of g fs)
+  pub seen : number ≡ length fs
+  pub few : total ≤ i
+  pub fewer : number ≤ i
+
+pub acked_start : (g : Addr) (a b : NodeId) (new : ℕ → Bool) (steps : List GroupStep) → Acked g a b new 0 0 0 [] steps steps
+unfolding items_of
+acked_start g a b new steps = record { steps = sym (append-nil steps); items = refl; seen = refl; few = omega arith; fewer = omega arith }
+
+-- no frame more
+pub acked_none : (g : Addr) (a b : NodeId) (new : ℕ → Bool) (i items seen : ℕ) (fs more : List Packet) (before now : List GroupStep) → more ≡ [] → Acked g a b new i items seen fs before now → Acked g a b new (i + 1) items seen (fs ++ more) before now
+acked_none g a b new i items seen fs more before now none was =
+    rw (none, append-nil fs) (record { steps = was.steps; items = was.items; seen = was.seen; few = omega (arith, was.few); fewer = omega (arith, was.fewer) })
+
+-- one frame more, which gives these steps
+acked_more : (g : Addr) (a b : NodeId) (new : ℕ → Bool) (i items seen found : ℕ) (fs more : List Packet) (f : Packet) (before now later given : List GroupStep) → more ≡ f ∷ [] → found ≡ length (items_in g f) → found ≤ 1
+    → given ≡ one_acknowledged g a b new f (seen + 1) items → later ≡ now ++ given → Acked g a b new i items seen fs before now → Acked g a b new (i + 1) (items + found) (seen + 1) (fs ++ more) before later
+acked_more g a b new i items seen found fs more f before now later given one count small gives adds was =
+    let number : seen + 1 ≡ 1 + length fs = omega (arith, was.seen) in
+    let place : items ≡ 0 + length (items_of g fs) = omega (arith, was.items) in
+    rw one (record {
+      steps = adds ∙ (ap (λ xs. xs ++ given) was.steps ∙ (append_assoc before (all_acknowledged g a b new 1 0 fs) given
+          ∙ ap (λ xs. before ++ xs) (ap (λ xs. all_acknowledged g a b new 1 0 fs ++ xs) (gives ∙ (ap (λ k. one_acknowledged g a b new f k items) number ∙ ap (one_acknowledged g a b new f (1 + length fs)) place))
+          ∙ sym (all_acknowledged_more g a b new 1 0 fs f))));
+      items = omega (arith, was.items, count, ap length (items_of-append g fs (f ∷ [])), length-append (items_of g fs) (items_of g (f ∷ [])), ap length (items_of_one g f));
+      seen = omega (arith, was.seen, length-append fs (f ∷ []));
+      few = omega (arith, was.few);
+      fewer = omega (arith, was.fewer);
+    })
+
+-- one frame more, which is newly acknowledged
+pub acked_one : (g : Addr) (a b : NodeId) (new : ℕ → Bool) (i items seen found : ℕ) (fs more : List Packet) (f : Packet) (before now later : List GroupStep) → more ≡ f ∷ [] → found ≡ length (items_in g f) → found ≤ 1
+    → new (seen + 1) ≡ true → later ≡ now ++ acknowledged a b (items + 1) (length (items_in g f)) → Acked g a b new i items seen fs before now → Acked g a b new (i + 1) (items + found) (seen + 1) (fs ++ more) before later
+acked_one g a b new i items seen found fs more f before now later one count small is adds was =
+    acked_more g a b new i items seen found fs more f before now later (acknowledged a b (items + 1) (length (items_in g f))) one count small (ap (λ (t : Bool). if t then acknowledged a b (items + 1) (length (items_in g f)) else []) (sym is)) adds was
+
+-- one frame more, which is not
+pub acked_past : (g : Addr) (a b : NodeId) (new : ℕ → Bool) (i items seen found : ℕ) (fs more : List Packet) (f : Packet) (before now : List GroupStep) → more ≡ f ∷ [] → found ≡ length (items_in g f) → found ≤ 1
+    → new (seen + 1) ≡ false → Acked g a b new i items seen fs before now → Acked g a b new (i + 1) (items + found) (seen + 1) (fs ++ more) before now
+acked_past g a b new i items seen found fs more f before now one count small is was =
+    acked_more g a b new i items seen found fs more f before now now [] one count small (ap (λ (t : Bool). if t then acknowledged a b (items + 1) (length (items_in g f)) else []) (sym is)) (sym (append-nil now)) was
+
+-- Notices.
+
+-- the notices of the nodes with numbers below n
+abbrev pub notices_below : NodeId → Spec → (ℕ → Bool) → ℕ → List GroupStep
+notices_below a spec new n = map (λ b. record { node = a; event = Notice (node_numbered b) }) (filter (λ b. is_other spec a.number b && new b) (range_with_len 0 n))
+
+range_more : (low n j : ℕ) → low + n ≡ j → range_with_len low (suc n) ≡ range_with_len low n ++ j ∷ []
+range_more low zero j is = let same : low ≡ j = omega arith in ap (λ k. k ∷ []) same
+range_more low (suc n) j is = ap (λ xs. low ∷ xs) (range_more (low + 1) n j (omega arith))
+
+-- one node more
+notices_more : (a : NodeId) (spec : Spec) (new : ℕ → Bool) (n : ℕ)
+    → notices_below a spec new (n + 1) ≡ notices_below a spec new n ++ (if is_other spec a.number n && new n then record { node = a; event = Notice (node_numbered n) } ∷ [] else [])
+notices_more a spec new n =
+    ap (map told) (ap (filter test) (ap (range_with_len 0) (add-one n) ∙ range_more 0 n n (omega arith)) ∙ filter-append test (range_with_len 0 n) (n ∷ []))
+    ∙ (map-append told (filter test (range_with_len 0 n)) (filter test (n ∷ [])) ∙ ap (λ xs. notices_below a spec new n ++ xs) (elim (test n) as (λ t. map told (cond t (n ∷ []) []) ≡ (if t then told n ∷ [] else [])) [ true ↦ refl | false ↦ refl ]))
+  where
+    told : ℕ → GroupStep
+    told b = record { node = a; event = Notice (node_numbered b) }
+
+    test : ℕ → Bool
+    test b = is_other spec a.number b && new b
+
+-- the steps with one notice more
+pub noticed_more : (a other : NodeId) (spec : Spec) (new : ℕ → Bool) (n : ℕ) (is_new : Bool) (before now later : List GroupStep) → other.number ≡ n → is_new ≡ new other.number
+    → later ≡ now ++ (if is_other spec a.number other.number && is_new then record { node = a; event = Notice other } ∷ [] else []) → now ≡ before ++ notices_below a spec new n → later ≡ before ++ notices_below a spec new (n + 1)
+noticed_more a other spec new n is_new before now later number is adds was =
+    adds
+    ∙ (ap (λ xs. xs ++ given other.number is_new other) was
+    ∙ (append_assoc before (notices_below a spec new n) (given other.number is_new other)
+    ∙ ap (λ xs. before ++ xs) (ap (λ xs. notices_below a spec new n ++ xs) (ap (λ t. given other.number t other) is ∙ (ap (given other.number (new other.number)) (same_number other (node_numbered other.number) (omega (arith, other.below))) ∙ ap (λ k. given k (new k) (node_numbered k)) number)) ∙ sym (notices_more a spec new n))))
+  where
+    given : ℕ → Bool → NodeId → List GroupStep
+    given k t b = if is_other spec a.number k && t then record { node = a; event = Notice b } ∷ [] else []
+
+pub noticed_none : (a : NodeId) (spec : Spec) (new : ℕ → Bool) (steps : List GroupStep) → steps ≡ steps ++ notices_below a spec new 0
+noticed_none a spec new steps = sym (append-nil steps)
+
+-- a command that meets a stop after one more step
+pub newest_met : (g : Addr) (a : ℕ) (events : List Event) (answers : List Answer) (i : ℕ) (e : Event) → i < length events → i < length answers → e ≡ get_or events i e
+    → is_met g a (steps_of (take (i + 1) events) (take (i + 1) answers)) ≡ (is_met_by g a (steps_of (take i events) (take i answers)) e || is_met g a (steps_of (take i events) (take i answers)))
+unfolding is_met
+newest_met g a events answers i e lt ls is =
+    ap (is_met g a) (newest events answers i e NoPacket lt ls)
+    ∙ ap (λ (t : Event). is_met_by g a (steps_of (take i events) (take i answers)) t || is_met g a (steps_of (take i events) (take i answers))) (sym is)
+
 -- the items that are carried after one more step
 pub newest_items : (g : Addr) (a b : ℕ) (packets : List Packet) (events : List Event) (answers : List Answer) (i : ℕ) (e : Event) (r : Answer) → i < length events → i < length answers → e ≡ get_or events i e → r ≡ get_or answers i r
     → items_of g (frames a b packets (steps_of (take (i + 1) events) (take (i + 1) answers))) ≡ items_of g (frames a b packets (steps_of (take i events) (take i answers))) ++ items_of g (frame_at a b packets e r)
@@ -142,10 +265,6 @@ pub newest_replies : (g : Addr) (a : ℕ) (events : List Event) (answers : List 
     → replies_to g a (steps_of (take (i + 1) events) (take (i + 1) answers)) ≡ replies_to g a (steps_of (take i events) (take i answers)) ++ reply_in g a (steps_of (take i events) (take i answers)) e r
 unfolding replies_to
 newest_replies g a events answers i e r lt ls is it = ap (replies_to g a) (newest_named events answers i e r lt ls is it)
-
--- a packet of another group has none of its items
-pub items_of_other : (g : Addr) (p : Packet) → is_addr g p.addr ≡ false → items_of g (p ∷ []) ≡ []
-items_of_other g p other = items_of_one g p ∙ ap (λ (b : Bool). if b then p.entry ∷ [] else []) other
 
 pub add_nothing : (xs more : List Entry) → more ≡ [] → xs ≡ xs ++ more
 add_nothing xs more none = rw none (sym (append-nil xs))

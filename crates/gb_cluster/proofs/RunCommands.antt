@@ -1,25 +1,34 @@
 -- The commands of a run on a group, with their replies.
 use Rattle.std.proofs.Common.{◌≡◌, ℕ, zero, suc, ◌+◌, ◌-◌, Bool, true, false, ◌&&◌, nat_eq, List, [], ◌∷◌, ◌++◌, length, take, refl, sym, ap, ◌∙◌, subst, arith}
-use Rattle.std.specs.Prelude.{if◌then◌else◌}
+use Rattle.std.specs.Prelude.{if◌then◌else◌, map, filter, Option, Some, None}
+use Rattle.std.specs.FinSet as set
+use Rattle.std.specs.List.{range_with_len}
+use Rattle.std.specs.Ordering.{nat_cmp}
+use Rattle.std.proofs.lemmas.List.{append-nil}
 use Rattle.std.proofs.lemmas.Bool.{eqb-true}
 use Rattle.std.proofs.lemmas.Bool.Decides.{nat_tests}
 use Rattle.gb_types.specs.declared.address.Addr.{Addr}
+use Rattle.gb_types.specs.declared.limits.TheConstants.{NODES}
 use Rattle.gb_types.specs.declared.node.NodeId.{NodeId}
+use Rattle.gb_types.specs.declared.spec.Spec.{Spec}
+use Rattle.gb_slot.specs.Rules.{is_other}
 use Rattle.gb_types.specs.declared.reply.Reply.{Reply}
 use Rattle.gb_types.specs.declared.reply.Reply.TheVariants.{Done, Said}
 use Rattle.gb_types.specs.declared.request.Request.{Request}
 use Rattle.gb_types.specs.declared.request.Request.TheVariants.{AddTenant, Make, OpenGroup, Say, Fetch}
 use Rattle.gb_cluster.specs.Laws.{accepted_in, accepted_by, accepted_there}
-use Rattle.gb_cluster.specs.Project.{is_addr, has_row, took, comes, arrived, is_taken, items_in, items_of, frames, packet_at, gives, project, reply_in, replies_to}
+use Rattle.gb_cluster.specs.Nodes.{node_numbered}
+use Rattle.gb_cluster.specs.Project.{is_addr, has_row, took, comes, acknowledged, all_acknowledged, is_new_ack, arrived, notices, made_notices, made_at, ticked, with_stop, asked, requested, command_for, is_stopped, is_met, is_noticed, is_taken, items_in, items_of, frames, packet_at, gives, project, reply_in, replies_to}
 use Rattle.gb_cluster.specs.Rules.{reserve_of}
 use Rattle.gb_cluster.specs.declared.answer.Answer.{Answer}
-use Rattle.gb_cluster.specs.declared.answer.Answer.TheVariants.{Reply as Replied, Sent as Gave, Taken as Took_in}
+use Rattle.gb_cluster.specs.declared.answer.Answer.TheVariants.{Reply as Replied, Sent as Gave, Taken as Took_in, Ticked as Ticked_so}
 use Rattle.gb_cluster.specs.declared.answer.Sent.TheVariants.{Packet as Numbered}
 use Rattle.gb_cluster.specs.declared.answer.Taken.TheVariants.{Good as Accepted}
+use Rattle.gb_cluster.specs.declared.answer.Ticked.TheVariants.{Noticed}
 use Rattle.gb_cluster.specs.declared.event.Event.{Event}
-use Rattle.gb_cluster.specs.declared.event.Event.TheVariants.{At, Pack, Arrive}
+use Rattle.gb_cluster.specs.declared.event.Event.TheVariants.{At, Pack, Arrive, Tick}
 use Rattle.gb_cluster.specs.declared.group.GroupEvent.{GroupEvent}
-use Rattle.gb_cluster.specs.declared.group.GroupEvent.TheVariants.{Tenant, AskMake, AskOpen, AskSay, AskFetch, Took, Came}
+use Rattle.gb_cluster.specs.declared.group.GroupEvent.TheVariants.{Tenant, AskMake, AskOpen, AskSay, AskFetch, Took, Came, Acknowledged, Notice, Stop as Ends}
 use Rattle.gb_cluster.specs.declared.group.GroupStep.{GroupStep}
 use Rattle.gb_cluster.specs.declared.packet.Packet.{Packet}
 use Rattle.gb_cluster.specs.declared.step.Step.{Step}
@@ -42,10 +51,71 @@ unfolding commands
 quiet_comes s from to place zero = refl
 quiet_comes s from to place (suc k) = ap (λ es. es ++ commands s (comes from to (place + 1) k)) (quiet_step s to (Came from (place + 1)) refl) ∙ quiet_comes s from to (place + 1) k
 
+quiet_both : (s : ℕ) (xs ys : List GroupStep) → IsQuiet s xs → IsQuiet s ys → IsQuiet s (xs ++ ys)
+quiet_both s xs ys a b = commands-append s xs ys ∙ (ap (λ es. es ++ commands s ys) a ∙ b)
+
+quiet_one : (s : ℕ) (a b : NodeId) (place count : ℕ) → IsQuiet s (acknowledged a b place count)
+unfolding commands
+quiet_one s a b place zero = refl
+quiet_one s a b place (suc k) = ap (λ es. es ++ []) (quiet_step s a (Acknowledged b place (suc k)) refl)
+
+quiet_acknowledged : (g : Addr) (s : ℕ) (a b : NodeId) (test : ℕ → Bool) (n before : ℕ) (fs : List Packet) → IsQuiet s (all_acknowledged g a b test n before fs)
+unfolding commands
+quiet_acknowledged g s a b test n before [] = refl
+quiet_acknowledged g s a b test n before (f ∷ fs) =
+    quiet_both s (if test n then acknowledged a b (before + 1) (length (items_in g f)) else []) (all_acknowledged g a b test (n + 1) (before + length (items_in g f)) fs)
+    (elim (test n) as (λ t. IsQuiet s (if t then acknowledged a b (before + 1) (length (items_in g f)) else [])) [ true ↦ quiet_one s a b (before + 1) (length (items_in g f)) | false ↦ refl ])
+    (quiet_acknowledged g s a b test (n + 1) (before + length (items_in g f)) fs)
+
+-- notices are no commands
+quiet_mapped : (s : ℕ) (a : NodeId) (bs : List ℕ) → IsQuiet s (map (λ b. record { node = a; event = Notice (node_numbered b) }) bs)
+unfolding commands
+quiet_mapped s a [] = refl
+quiet_mapped s a (b ∷ bs) = ap (λ es. es ++ commands s (map (λ b. record { node = a; event = Notice (node_numbered b) }) bs)) (quiet_step s a (Notice (node_numbered b)) refl) ∙ quiet_mapped s a bs
+
+quiet_notices : (s : ℕ) (a : NodeId) (spec : Spec) (test : ℕ → Bool) → IsQuiet s (notices a spec test)
+quiet_notices s a spec test = quiet_mapped s a (filter (λ b. is_other spec a.number b && test b) (range_with_len 0 NODES))
+
+quiet_ticked : (s : ℕ) (a : NodeId) (found : set.FinSet nat_cmp) (o : Option Spec) → IsQuiet s (ticked a found o)
+unfolding commands
+quiet_ticked s a found None = refl
+quiet_ticked s a found (Some spec) = quiet_notices s a spec (set.contains found)
+
+quiet_made : (g : Addr) (steps : List Step) (s : ℕ) (a : NodeId) (request : Request) (reply : Reply) → IsQuiet s (made_notices g steps a request reply)
+unfolding commands
+quiet_made g steps s a (Make token addr spec) Done = elim (is_addr g addr) as (λ b. IsQuiet s (if b then notices a spec (λ c. is_noticed a.number c steps) else [])) [ true ↦ quiet_notices s a spec (λ c. is_noticed a.number c steps) | false ↦ refl ]
+quiet_made g steps s a request reply = refl
+
+-- a stop that is shown is no command
+commands_stopped : (s : ℕ) (a : NodeId) (met : Bool) (cs : List GroupStep) → commands s (with_stop a met cs) ≡ commands s cs
+unfolding commands
+commands_stopped s a met [] = refl
+commands_stopped s a true (c ∷ cs) = refl
+commands_stopped s a false (c ∷ cs) = ap (λ es. es ++ commands s (c ∷ cs)) (quiet_step s a Ends refl)
+
+-- what a request gives besides the command is no command
+commands_asked : (g : Addr) (steps : List Step) (s : ℕ) (a : NodeId) (request : Request) (reply : Reply) → (requested g steps a request reply ≡ (if has_row a.number g.tenant steps then command_for g a request ++ made_notices g steps a request reply else []))
+    → commands s (asked g steps a request reply) ≡ commands s (if has_row a.number g.tenant steps then command_for g a request else [])
+unfolding commands
+commands_asked g steps s a request reply plain =
+    elim (is_stopped a.number steps) as (λ t. commands s (if t then (if has_row a.number g.tenant steps then with_stop a (is_met g a.number steps) (command_for g a request) else []) else requested g steps a request reply) ≡ commands s (if has_row a.number g.tenant steps then command_for g a request else [])) [
+      | true ↦ elim (has_row a.number g.tenant steps) as (λ h. commands s (if h then with_stop a (is_met g a.number steps) (command_for g a request) else []) ≡ commands s (if h then command_for g a request else [])) [
+        | true ↦ commands_stopped s a (is_met g a.number steps) (command_for g a request)
+        | false ↦ refl
+      ]
+      | false ↦ ap (commands s) plain ∙ elim (has_row a.number g.tenant steps) as (λ h. commands s (if h then command_for g a request ++ made_notices g steps a request reply else []) ≡ commands s (if h then command_for g a request else [])) [
+        | true ↦ commands-append s (command_for g a request) (made_notices g steps a request reply) ∙ (ap (λ es. commands s (command_for g a request) ++ es) (quiet_made g steps s a request reply) ∙ append-nil (commands s (command_for g a request)))
+        | false ↦ refl
+      ]
+    ]
+
 quiet_arrived : (g : Addr) (packets : List Packet) (steps : List Step) (s : ℕ) (ps : List Packet) → IsQuiet s (arrived g packets steps ps)
 unfolding commands
 quiet_arrived g packets steps s [] = refl
-quiet_arrived g packets steps s (p ∷ others) = go (is_taken p.from.number p.to.number p.frame packets steps)
+quiet_arrived g packets steps s (p ∷ others) =
+    quiet_both s (all_acknowledged g p.to p.from (is_new_ack packets steps p) 1 0 (frames p.to.number p.from.number packets steps)) _
+    (quiet_acknowledged g s p.to p.from (is_new_ack packets steps p) 1 0 (frames p.to.number p.from.number packets steps))
+    (go (is_taken p.from.number p.to.number p.frame packets steps))
   where
     before : ℕ
     before = length (items_of g (take (p.frame - 1) (frames p.from.number p.to.number packets steps)))
@@ -100,23 +170,32 @@ unnamed false b r = refl
 tenant_pairs : (s : ℕ) (steps : List GroupStep) (a b : Bool) (r : Reply) → IsQuiet s steps → Pairs (commands s steps) (if a && (b && false) then r ∷ [] else []) []
 tenant_pairs s steps a b r quiet = subst (λ rs. Pairs (commands s steps) rs []) (sym (unnamed a b r)) (quiet_pairs s steps quiet)
 
+-- the commands of a request are those of what it asks
+asked_pairs : (g : Addr) (steps : List Step) (s : ℕ) (a : NodeId) (request : Request) (reply : Reply) (rs : List Reply) (ps : List (List ℕ)) → (requested g steps a request reply ≡ (if has_row a.number g.tenant steps then command_for g a request ++ made_notices g steps a request reply else []))
+    → Pairs (commands s (if has_row a.number g.tenant steps then command_for g a request else [])) rs ps → Pairs (commands s (asked g steps a request reply)) rs ps
+asked_pairs g steps s a request reply rs ps plain pairs = subst (λ es. Pairs es rs ps) (sym (commands_asked g steps s a request reply plain)) pairs
+
 reply_pairs : (g : Addr) (packets : List Packet) (steps : List Step) (s : ℕ) (a : NodeId) (request : Request) (reply : Reply)
     → Pairs (commands s (gives g packets steps (At a request) (Replied reply))) (reply_in g s steps (At a request) (Replied reply)) (accepted_by g steps (At a request) (Replied reply) s)
 unfolding commands
 reply_pairs g packets steps s a (AddTenant token row) Done =
-    tenant_pairs s (if nat_eq row.tenant g.tenant then record { node = a; event = Tenant (reserve_of row) } ∷ [] else []) (nat_eq a.number s) (has_row s g.tenant steps) Done
-    (elim (nat_eq row.tenant g.tenant) as (λ b. IsQuiet s (if b then record { node = a; event = Tenant (reserve_of row) } ∷ [] else [])) [
-      | true ↦ ap (λ es. es ++ []) (quiet_step s a (Tenant (reserve_of row)) refl)
-      | false ↦ refl
+    tenant_pairs s (asked g steps a (AddTenant token row) Done) (nat_eq a.number s) (has_row s g.tenant steps) Done
+    (elim (is_stopped a.number steps) as (λ t. IsQuiet s (if t then (if has_row a.number g.tenant steps then [] else []) else (if nat_eq row.tenant g.tenant then record { node = a; event = Tenant (reserve_of row) } ∷ [] else []))) [
+      | true ↦ elim (has_row a.number g.tenant steps) as (λ b. IsQuiet s (if b then [] else [])) [ true ↦ refl | false ↦ refl ]
+      | false ↦ elim (nat_eq row.tenant g.tenant) as (λ b. IsQuiet s (if b then record { node = a; event = Tenant (reserve_of row) } ∷ [] else [])) [
+        | true ↦ ap (λ es. es ++ []) (quiet_step s a (Tenant (reserve_of row)) refl)
+        | false ↦ refl
+      ]
     ])
 reply_pairs g packets steps s a (AddTenant token row) reply =
-    tenant_pairs s (if has_row a.number g.tenant steps then [] else []) (nat_eq a.number s) (has_row s g.tenant steps) reply
-    (elim (has_row a.number g.tenant steps) as (λ b. IsQuiet s (if b then [] else [])) [ true ↦ refl | false ↦ refl ])
-reply_pairs g packets steps s a (Make token addr spec) reply = quiet_request g steps s a (AskMake spec) reply (is_addr g addr) refl refl
-reply_pairs g packets steps s a (OpenGroup token addr) reply = quiet_request g steps s a AskOpen reply (is_addr g addr) refl refl
-reply_pairs g packets steps s a (Say token addr payload) (Said seq) = request_pairs s a (AskSay payload) (Said seq) (λ x. has_row x g.tenant steps) (is_addr g addr) refl
-reply_pairs g packets steps s a (Say token addr payload) reply = quiet_request g steps s a (AskSay payload) reply (is_addr g addr) refl refl
-reply_pairs g packets steps s a (Fetch token addr from most) reply = quiet_request g steps s a (AskFetch from most) reply (is_addr g addr) refl refl
+    asked_pairs g steps s a (AddTenant token row) reply _ _ refl
+    (tenant_pairs s (if has_row a.number g.tenant steps then [] else []) (nat_eq a.number s) (has_row s g.tenant steps) reply
+    (elim (has_row a.number g.tenant steps) as (λ b. IsQuiet s (if b then [] else [])) [ true ↦ refl | false ↦ refl ]))
+reply_pairs g packets steps s a (Make token addr spec) reply = asked_pairs g steps s a (Make token addr spec) reply _ _ refl (quiet_request g steps s a (AskMake spec) reply (is_addr g addr) refl refl)
+reply_pairs g packets steps s a (OpenGroup token addr) reply = asked_pairs g steps s a (OpenGroup token addr) reply _ _ refl (quiet_request g steps s a AskOpen reply (is_addr g addr) refl refl)
+reply_pairs g packets steps s a (Say token addr payload) (Said seq) = asked_pairs g steps s a (Say token addr payload) (Said seq) _ _ refl (request_pairs s a (AskSay payload) (Said seq) (λ x. has_row x g.tenant steps) (is_addr g addr) refl)
+reply_pairs g packets steps s a (Say token addr payload) reply = asked_pairs g steps s a (Say token addr payload) reply _ _ refl (quiet_request g steps s a (AskSay payload) reply (is_addr g addr) refl refl)
+reply_pairs g packets steps s a (Fetch token addr from most) reply = asked_pairs g steps s a (Fetch token addr from most) reply _ _ refl (quiet_request g steps s a (AskFetch from most) reply (is_addr g addr) refl refl)
 
 given_pairs : (g : Addr) (packets : List Packet) (steps : List Step) (s : ℕ) (event : Event) (answer : Answer)
     → Pairs (commands s (gives g packets steps event answer)) (reply_in g s steps event answer) (accepted_by g steps event answer s)
@@ -124,6 +203,7 @@ unfolding commands
 given_pairs g packets steps s (At a request) (Replied reply) = reply_pairs g packets steps s a request reply
 given_pairs g packets steps s (Pack a b) (Gave (Numbered k)) = quiet_pairs s (took a b (length (items_of g (packet_at packets k)))) (quiet_took s a b (length (items_of g (packet_at packets k))))
 given_pairs g packets steps s (Arrive k) (Took_in (Accepted good)) = quiet_pairs s (arrived g packets steps (packet_at packets k)) (quiet_arrived g packets steps s (packet_at packets k))
+given_pairs g packets steps s (Tick a) (Ticked_so (Noticed found)) = quiet_pairs s (ticked a found (made_at g a.number steps)) (quiet_ticked s a found (made_at g a.number steps))
 given_pairs g packets steps s (At a (Say token addr payload)) answer = no_pairs
 given_pairs g packets steps s event answer = no_pairs
 

@@ -1,5 +1,5 @@
 -- What holds of every cluster says that each group is isolated.
-use Rattle.std.proofs.Common.{◌≡◌, ℕ, ◌<◌, List, [], ◌∷◌, length, Option, Some, None, refl, sym, ◌∙◌, ap}
+use Rattle.std.proofs.Common.{◌≡◌, ℕ, length, Option, Some, None, sym, ◌∙◌, ap}
 use Rattle.std.proofs.Math.ListN.{length-set}
 use Rattle.gb_types.specs.declared.address.Addr.{Addr}
 use Rattle.gb_types.specs.declared.spec.Spec.{Spec}
@@ -7,12 +7,10 @@ use Rattle.gb_slot.specs.History.{log_of}
 use Rattle.gb_slot.specs.SlotState.{SlotState}
 use Rattle.gb_slot.proofs.HistoryLemmas.{log_is}
 use Rattle.gb_cluster.specs.declared.event.Event.{Event}
-use Rattle.gb_cluster.specs.declared.event.Event.TheVariants.{At, Pack, Arrive}
-use Rattle.gb_cluster.specs.declared.packet.Packet.{Packet}
 use Rattle.gb_cluster.specs.Alone.{Member, alone, log_at}
 use Rattle.gb_cluster.specs.Headline.{log_in, IsIsolated, AreIsolated, AreInside}
-use Rattle.gb_cluster.specs.Project.{project, packet_at}
-use Rattle.gb_cluster.specs.World.{World, slot_for, node_of, world_after, arrived_world}
+use Rattle.gb_cluster.specs.Project.{project}
+use Rattle.gb_cluster.specs.World.{World, slot_for, node_of, acting, part_of, world_after}
 use Rattle.gb_cluster.specs.Holds.{SlotIs, Holds, BehavesAlone}
 
 log_same : (a : ℕ) (o : Option SlotState) (m : Member) → SlotIs a o m → log_in o ≡ log_at a m.spec m.told
@@ -25,7 +23,7 @@ isolated g w alone_too = record {
   same = λ a b in_a in_b.
       let st = alone_too.fits.stands a in_a in
       λ i. record {
-        replies = sym (alone_too.fits.replies a in_a) i;
+        replies = sym (alone_too.fits.member a in_a).replies i;
         log = log_same a (slot_for g (node_of w a).group) (alone (length w.nodes) g.group (project g w.packets w.steps) a) st.slot i;
         put = sym (st.put b in_b) i;
       };
@@ -38,10 +36,4 @@ pub all_inside : (w : World) → Holds w → AreInside (length w.nodes) w.packet
 all_inside w holds k p at = let framed = holds.links.framed k p at in (framed.from, framed.to)
 
 pub same_count : (w : World) (e : Event) → length (world_after w e).nodes ≡ length w.nodes
-same_count w (At a request) = length-set w.nodes a.number _
-same_count w (Pack a b) = length-set w.nodes a.number _
-same_count w (Arrive k) = go (packet_at w.packets k)
-  where
-    go : (found : List Packet) → length (arrived_world w found).nodes ≡ length w.nodes
-    go [] = refl
-    go (p ∷ found) = length-set w.nodes p.to.number _
+same_count w e = length-set w.nodes (acting w.packets e) (part_of w e).value

@@ -20,7 +20,7 @@ use Rattle.gb_cluster.specs.declared.group.GroupStep.{GroupStep}
 use Rattle.gb_cluster.specs.Alone.{Group, nobody, after, alone, alone_from, member_after, IsLegalFrom}
 use Rattle.gb_cluster.specs.NodeValue.{NodeValue}
 use Rattle.gb_cluster.specs.Project.{project, is_taken_in, frames, frame_at, reply_in, is_served, is_turned_away}
-use Rattle.gb_cluster.specs.World.{World, new_node}
+use Rattle.gb_cluster.specs.World.{World, no_node}
 use Rattle.gb_cluster.specs.Holds.{Fits, BehavesAlone}
 
 -- The group goes on.
@@ -76,11 +76,11 @@ served_before g s steps served = go (is_turned_away g s.event s.answer) served
     go true is = absurd (cc)
     go false is = (refl, is)
 
-pub node_there : (w : World) (a : ℕ) (v : NodeValue) → a < length w.nodes → get_or (set w.nodes a v) a new_node ≡ v
-node_there w a v within = get_or-set_same w.nodes a v new_node within
+pub node_there : (w : World) (a : ℕ) (v : NodeValue) → a < length w.nodes → get_or (set w.nodes a v) a no_node ≡ v
+node_there w a v within = get_or-set_same w.nodes a v no_node within
 
-pub node_elsewhere : (w : World) (a x : ℕ) (v : NodeValue) → x ≢ a → get_or (set w.nodes a v) x new_node ≡ get_or w.nodes x new_node
-node_elsewhere w a x v other = get_or-set_other w.nodes a x v new_node other
+pub node_elsewhere : (w : World) (a x : ℕ) (v : NodeValue) → x ≢ a → get_or (set w.nodes a v) x no_node ≡ get_or w.nodes x no_node
+node_elsewhere w a x v other = get_or-set_other w.nodes a x v no_node other
 
 pub row_elsewhere : (a : NodeId) (x tenant : ℕ) (request : Request) (reply : Reply) → x ≢ a.number → is_taken_in x tenant (At a request) (Replied reply) ≡ false
 row_elsewhere a x tenant (AddTenant token row) Done other = rw (eqb_apart_back x a.number other) refl

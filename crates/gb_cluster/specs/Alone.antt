@@ -1,22 +1,23 @@
 -- One group, by itself: no links, frames, packets or other groups. Histories have the newest first.
-use Rattle.std.specs.Prelude.{ℕ, ◌+◌, ◌-◌, ◌≡◌, ◌≤◌, ◌<◌, Bool, true, false, List, [], ◌∷◌, ◌++◌, length, fold, Option, Some, None, is_some, slice_get, nat_eq, if◌then◌else◌}
+use Rattle.std.specs.Prelude.{ℕ, zero, suc, ◌+◌, ◌-◌, ◌≡◌, ◌≤◌, ◌<◌, ◌&&◌, not, Bool, true, false, List, [], ◌∷◌, ◌++◌, length, fold, take, Option, Some, None, is_some, slice_get, nat_eq, if◌then◌else◌}
 use Rattle.std.specs.List.{list_any}
-use Rattle.gb_types.specs.Entry.{message_of}
 use Rattle.gb_types.specs.declared.entry.Entry.{Entry}
 use Rattle.gb_types.specs.declared.node.NodeId.{NodeId}
+use Rattle.gb_types.specs.declared.refusal.Refusal.TheVariants.{Stopped}
 use Rattle.gb_types.specs.declared.reply.Reply.{Reply}
-use Rattle.gb_types.specs.declared.reply.Reply.TheVariants.{Done, Said}
+use Rattle.gb_types.specs.declared.reply.Reply.TheVariants.{Done, Said, Refused}
 use Rattle.gb_types.specs.declared.spec.Spec.{Spec}
-use Rattle.gb_slot.specs.History.{said_in, log_of, puts_of}
+use Rattle.gb_layer.specs.Machine.{was_noticed}
+use Rattle.gb_slot.specs.History.{calls_of, said_in, log_of, puts_of}
 use Rattle.gb_slot.specs.Rules.{Shown, is_other, open_answer, say_answer, fetch_answer}
 use Rattle.gb_slot.specs.StandsFor.{falls_after}
 use Rattle.gb_slot.specs.declared.history.GroupCall.{GroupCall}
-use Rattle.gb_slot.specs.declared.history.GroupCall.TheVariants.{Own, Other}
+use Rattle.gb_slot.specs.declared.history.GroupCall.TheVariants.{Own, Other, Crashed}
 use Rattle.gb_slot.specs.declared.phase.Phase.{Phase}
 use Rattle.gb_slot.specs.declared.phase.Phase.TheVariants.{Made, Opened}
 use Rattle.gb_cluster.specs.Rules.{make_answer, by_tenant, on_made}
 use Rattle.gb_cluster.specs.declared.group.GroupEvent.{GroupEvent}
-use Rattle.gb_cluster.specs.declared.group.GroupEvent.TheVariants.{Tenant, AskMake, AskOpen, AskSay, AskFetch, Took, Came}
+use Rattle.gb_cluster.specs.declared.group.GroupEvent.TheVariants.{Tenant, AskMake, AskOpen, AskSay, AskFetch, Took, Came, Acknowledged, Notice, Stop}
 use Rattle.gb_cluster.specs.declared.group.GroupStep.{GroupStep}
 use Rattle.gb_cluster.specs.declared.group.Reserve.{Reserve}
 
@@ -37,6 +38,11 @@ pub record Member : Type 0 where
   pub taken : ℕ → ℕ
   -- the places that have come from each node
   pub come : ℕ → List ℕ
+  -- the places of the items put out to each node that are acknowledged
+  pub done : ℕ → List ℕ
+  -- the nodes that were noticed here
+  pub noticed : List ℕ
+  pub stopped : Bool
 
 -- the group at all nodes
 abbrev pub Group : Type 0
@@ -55,18 +61,22 @@ shown_of me phase told (Some spec) = Some (record { spec = spec; phase = phase; 
 abbrev pub shown : ℕ → Member → Option Shown
 shown me m = shown_of me m.phase m.told m.spec
 
--- the reply to a command at a node of a cluster of so many, to the group with this number
-abbrev pub reply_to : ℕ → ℕ → ℕ → GroupEvent → Member → Reply
-reply_to nodes number me (AskMake spec) m = by_tenant (make_answer nodes me number (is_some m.spec) spec) m.reserve
-reply_to nodes number me AskOpen m = by_tenant (λ _. on_made open_answer (shown me m)) m.reserve
-reply_to nodes number me (AskSay payload) m = by_tenant (λ _. on_made (λ s. say_answer s payload) (shown me m)) m.reserve
-reply_to nodes number me (AskFetch from most) m = by_tenant (λ _. on_made (λ s. fetch_answer s from most) (shown me m)) m.reserve
-reply_to nodes number me event m = Done
+-- the reply to a command at a running node of a cluster of so many, to the group with this number
+abbrev pub running_reply : ℕ → ℕ → ℕ → GroupEvent → Member → Reply
+running_reply nodes number me (AskMake spec) m = by_tenant (make_answer nodes me number (is_some m.spec) spec) m.reserve
+running_reply nodes number me AskOpen m = by_tenant (λ _. on_made open_answer (shown me m)) m.reserve
+running_reply nodes number me (AskSay payload) m = by_tenant (λ _. on_made (λ s. say_answer s payload) (shown me m)) m.reserve
+running_reply nodes number me (AskFetch from most) m = by_tenant (λ _. on_made (λ s. fetch_answer s from most) (shown me m)) m.reserve
+running_reply nodes number me event m = Done
 
--- what a call makes the group broadcast is put out to each other member
+-- the reply to a command
+abbrev pub reply_to : ℕ → ℕ → ℕ → GroupEvent → Member → Reply
+reply_to nodes number me event m = if m.stopped then Refused Stopped else running_reply nodes number me event m
+
+-- what a call makes the group broadcast is put out to each other member that was not noticed
 abbrev pub put_to : ℕ → Option Spec → GroupCall → List GroupCall → (ℕ → List Entry) → ℕ → List Entry
 put_to me None c told put b = put b
-put_to me (Some spec) c told put b = if is_other spec me b then put b ++ puts_of spec me c told else put b
+put_to me (Some spec) c told put b = if is_other spec me b && not (was_noticed (calls_of (c ∷ told)) b) then put b ++ puts_of spec me c told else put b
 
 -- the group is told something at the node
 abbrev pub called : ℕ → GroupCall → Member → Member
@@ -98,11 +108,36 @@ taken_in me from place (Some x) m =
     let next = item_came me from x m in
     record next { come = λ b. if nat_eq b from.number then place ∷ m.come b else m.come b }
 
+-- so many places, from one on
+abbrev pub places : ℕ → ℕ → List ℕ
+places place zero = []
+places place (suc k) = place ∷ places (place + 1) k
+
+-- items put out to a node are acknowledged
+abbrev pub item_done : NodeId → ℕ → ℕ → Member → Member
+item_done b place count m = record m { done = λ x. if nat_eq x b.number then places place count ++ m.done x else m.done x }
+
+-- what waits for a node is given up
+abbrev pub cut : NodeId → Member → Member
+cut q m = record m { put = λ b. if nat_eq b q.number then take (m.taken b) (m.put b) else m.put b }
+
+-- a made group takes the notice of another member: nothing more is put out to it
+abbrev pub took_notice : ℕ → NodeId → Option Spec → Member → Member
+took_notice me q None m = m
+took_notice me q (Some spec) m = if is_other spec me q.number then called me (Crashed q) (cut q m) else m
+
+-- a node is noticed
+abbrev pub node_noticed : ℕ → NodeId → Member → Member
+node_noticed me q m = let next = took_notice me q m.spec m in record next { noticed = q.number ∷ m.noticed }
+
 -- the group's part at a node after an event there
 abbrev pub member_after : ℕ → ℕ → NodeId → GroupEvent → Group → Member
 member_after nodes number me (Tenant reserve) group = let m = group me.number in record m { reserve = Some reserve }
 member_after nodes number me (Took b count) group = let m = group me.number in record m { taken = λ x. if nat_eq x b.number then m.taken x + count else m.taken x }
 member_after nodes number me (Came from place) group = taken_in me.number from place (slice_get ((group from.number).put me.number) (place - 1)) (group me.number)
+member_after nodes number me (Acknowledged b place count) group = item_done b place count (group me.number)
+member_after nodes number me (Notice q) group = node_noticed me.number q (group me.number)
+member_after nodes number me Stop group = let m = group me.number in record m { stopped = true }
 member_after nodes number me event group = commanded me event (reply_to nodes number me.number event (group me.number)) (group me.number)
 
 -- the group after an event
@@ -111,7 +146,7 @@ after nodes number group step x = if nat_eq x step.node.number then member_after
 
 -- nothing has happened
 abbrev pub nobody : Group
-nobody x = record { reserve = None; spec = None; phase = Made; told = []; replies = []; put = λ b. []; taken = λ b. 0; come = λ b. [] }
+nobody x = record { reserve = None; spec = None; phase = Made; told = []; replies = []; put = λ b. []; taken = λ b. 0; come = λ b. []; done = λ b. []; noticed = []; stopped = false }
 
 abbrev pub alone_from : ℕ → ℕ → Group → List GroupStep → Group
 alone_from nodes number group steps = fold (after nodes number) group steps
@@ -120,11 +155,20 @@ alone_from nodes number group steps = fold (after nodes number) group steps
 abbrev pub alone : ℕ → ℕ → List GroupStep → Group
 alone nodes number steps = alone_from nodes number nobody steps
 
--- what may happen next: what waits is taken, and what is carried comes once
+-- the place is marked
+abbrev pub is_marked : ℕ → List ℕ → Bool
+is_marked place marks = list_any (λ p. nat_eq p place) marks
+
+-- What may happen next: what waits is taken, what is carried comes once, what came is acknowledged once, a node is noticed once at another, and nothing but commands
+-- happens at a stopped node.
 abbrev pub MayHappen : NodeId → GroupEvent → Group → Type 0
-MayHappen me (Took b count) group = (0 < count) × ((group me.number).taken b.number + count ≤ length ((group me.number).put b.number))
+MayHappen me (Took b count) group = ((group me.number).stopped ≡ false) × (0 < count) × ((group me.number).taken b.number + count ≤ length ((group me.number).put b.number))
 MayHappen me (Came from place) group =
-    (0 < place) × (place ≤ (group from.number).taken me.number) × (list_any (λ p. nat_eq p place) ((group me.number).come from.number) ≡ false)
+    ((group me.number).stopped ≡ false) × (0 < place) × (place ≤ (group from.number).taken me.number) × (is_marked place ((group me.number).come from.number) ≡ false)
+MayHappen me (Acknowledged b place count) group =
+    ((group me.number).stopped ≡ false) × (0 < count)
+    × ((p : ℕ) → place ≤ p → p < place + count → (is_marked p ((group b.number).come me.number) ≡ true) × (is_marked p ((group me.number).done b.number) ≡ false))
+MayHappen me (Notice q) group = ((group me.number).stopped ≡ false) × (is_marked q.number (group me.number).noticed ≡ false)
 MayHappen me event group = Unit {0}
 
 abbrev pub IsLegalFrom : ℕ → ℕ → Group → List GroupStep → Type 0

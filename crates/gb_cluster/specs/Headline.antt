@@ -1,5 +1,5 @@
 -- What is seen of a group, and that each group in a cluster is what it is alone.
-use Rattle.std.specs.Prelude.{ℕ, ◌≡◌, ◌<◌, ◌≤◌, ◌⊎◌, Bool, true, false, List, [], ◌∷◌, ◌++◌, length, map, Option, Some, None, slice_get}
+use Rattle.std.specs.Prelude.{ℕ, ◌≡◌, ◌<◌, ◌⊎◌, true, List, [], ◌∷◌, ◌++◌, length, Option, Some, None, slice_get}
 use Rattle.gb_types.specs.declared.address.Addr.{Addr}
 use Rattle.gb_types.specs.declared.entry.Entry.{Entry}
 use Rattle.gb_types.specs.declared.refusal.Refusal.TheVariants.{OutOfMemory}
@@ -11,13 +11,14 @@ use Rattle.gb_cluster.specs.Alone.{Group, alone, log_at, IsLegal}
 use Rattle.gb_cluster.specs.Project.{project, frames, items_of, replies_to, is_served}
 use Rattle.gb_cluster.specs.World.{World, node_of, slot_for, with_step, answer_of, world_after}
 use Rattle.gb_cluster.specs.declared.answer.Answer.{Answer}
-use Rattle.gb_cluster.specs.declared.answer.Answer.TheVariants.{Reply as Replied, Sent as Gave, Taken as Took_in}
+use Rattle.gb_cluster.specs.declared.answer.Answer.TheVariants.{Reply as Replied, Sent as Gave, Taken as Took_in, Ticked as Ticked_so, Halted as Halted_so}
+use Rattle.gb_cluster.specs.declared.answer.Halted.TheVariants.{Refused as Ended}
 use Rattle.gb_cluster.specs.declared.answer.Sent.TheVariants.{Refused as Unsent}
 use Rattle.gb_cluster.specs.declared.answer.Taken.TheVariants.{Refused as Lost}
+use Rattle.gb_cluster.specs.declared.answer.Ticked.TheVariants.{Refused as Untold}
 use Rattle.gb_cluster.specs.declared.event.Event.{Event}
-use Rattle.gb_cluster.specs.declared.event.Event.TheVariants.{At, Pack, Arrive}
+use Rattle.gb_cluster.specs.declared.event.Event.TheVariants.{At, Pack, Again, Ack, Arrive, Tick, Stop}
 use Rattle.gb_cluster.specs.declared.packet.Packet.{Packet}
-use Rattle.gb_cluster.specs.declared.step.Step.{Step}
 
 -- what is seen of a group at a node, and towards another node
 pub record Seen : Type 0 where
@@ -61,7 +62,11 @@ AreIsolated w = (g : Addr) → is_served g w.steps ≡ true → IsIsolated g w
 abbrev pub starved_answer : Event → Answer
 starved_answer (At a request) = Replied (Refused OutOfMemory)
 starved_answer (Pack a b) = Gave (Unsent OutOfMemory)
+starved_answer (Again a b n) = Gave (Unsent OutOfMemory)
+starved_answer (Ack a b) = Gave (Unsent OutOfMemory)
 starved_answer (Arrive k) = Took_in (Lost OutOfMemory)
+starved_answer (Tick a) = Ticked_so (Untold OutOfMemory)
+starved_answer (Stop a) = Halted_so (Ended OutOfMemory)
 
 -- a step of the cluster: it goes on, or the node lacked memory and nothing has changed but that this was answered
 abbrev pub IsStep : World → Event → Answer → World → Type 0
@@ -71,7 +76,11 @@ IsStep old event answer new = ((answer ≡ starved_answer event) × (new ≡ wit
 abbrev pub IsPlaced : ℕ → Event → Type 0
 IsPlaced nodes (At a request) = a.number < nodes
 IsPlaced nodes (Pack a b) = a.number < nodes
+IsPlaced nodes (Again a b n) = a.number < nodes
+IsPlaced nodes (Ack a b) = a.number < nodes
 IsPlaced nodes (Arrive k) = Unit {0}
+IsPlaced nodes (Tick a) = a.number < nodes
+IsPlaced nodes (Stop a) = a.number < nodes
 
 abbrev pub ArePlaced : ℕ → List Event → Type 0
 ArePlaced nodes [] = Unit {0}

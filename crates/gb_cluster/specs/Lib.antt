@@ -1,12 +1,16 @@
 pub mod Rules
+pub mod Nodes
 pub mod Alone
 pub mod Project
 pub mod NodeValue
 pub mod World
+pub mod Hosted
 pub mod Headline
+pub mod Acting
 pub mod Holds
 pub mod Laws
 pub mod TwoRuns
+pub mod LinkLaws
 pub mod Observation
 pub mod Observed
 pub mod Trace

@@ -1,9 +1,9 @@
 -- The rules of tenants and of making groups, in the order of their refusals.
-use Rattle.std.specs.Prelude.{ℕ, ◌||◌, not, Bool, true, false, Option, Some, None, nat_lt, nat_le, nat_eq, if◌then◌else◌}
+use Rattle.std.specs.Prelude.{ℕ, ◌||◌, not, Bool, Option, Some, None, nat_lt, nat_le, nat_eq, if◌then◌else◌}
 use Rattle.std.specs.List.{list_all}
 use Rattle.std.specs.FinSet as set
 use Rattle.gb_types.specs.declared.limits.TheConstants.{GROUPS, MESSAGES, BYTES, WINDOW}
-use Rattle.gb_types.specs.declared.refusal.Refusal.TheVariants.{Denied, NoGroup, Spent, BadMembers, OverReserve, NoRoom, TenantThere}
+use Rattle.gb_types.specs.declared.refusal.Refusal.TheVariants.{Denied, NoGroup, Spent, BadMembers, OverReserve}
 use Rattle.gb_types.specs.declared.reply.Reply.{Reply}
 use Rattle.gb_types.specs.declared.reply.Reply.TheVariants.{Done, Refused}
 use Rattle.gb_types.specs.declared.spec.Spec.{Spec}

@@ -1,5 +1,5 @@
 //! What comes of an event.
-use gb_types::node::NodeId;
+use gb_types::node::{NodeId, NodeSet};
 use gb_types::refusal::Refusal;
 use gb_types::reply::Reply;
 
@@ -12,6 +12,10 @@ pub enum Answer {
     Taken(Taken),
     /// What the node sent.
     Sent(Sent),
+    /// What a tick brought to light.
+    Ticked(Ticked),
+    /// Whether the node stopped.
+    Halted(Halted),
     /// No packet with that number was sent so far.
     NoPacket,
 }
@@ -20,7 +24,7 @@ pub enum Answer {
 #[derive(Clone, Copy, PartialEq, Eq, Debug)]
 pub enum Taken {
     Good(Good),
-    /// OutOfMemory: the packet is lost, and nothing has changed.
+    /// Stopped, or OutOfMemory: the packet is lost, and nothing has changed.
     Refused(Refusal),
 }
 
@@ -39,10 +43,14 @@ pub struct Good {
 /// What a node made of a frame.
 #[derive(Clone, Copy, PartialEq, Eq, Debug)]
 pub enum Frame {
+    /// The packet has none.
+    Nothing,
     /// It came for the first time.
     First,
     /// It had come before.
     Seen,
+    /// Its number is outside the window of the link.
+    Outside,
 }
 
 /// What a node sent.
@@ -51,6 +59,23 @@ pub enum Sent {
     /// A packet with this number among all.
     Packet(u64),
     Nothing,
-    /// OutOfMemory: nothing has changed.
+    /// Stopped, or OutOfMemory: nothing has changed.
+    Refused(Refusal),
+}
+
+/// What a tick brought to light.
+#[derive(Drop)]
+pub enum Ticked {
+    /// The nodes that are noticed from now on.
+    Noticed(NodeSet),
+    /// Stopped, or OutOfMemory: nothing has changed.
+    Refused(Refusal),
+}
+
+/// Whether a node stopped.
+#[derive(Clone, Copy, PartialEq, Eq, Debug)]
+pub enum Halted {
+    Done,
+    /// Stopped: it had stopped before.
     Refused(Refusal),
 }

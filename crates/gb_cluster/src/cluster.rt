@@ -1,19 +1,26 @@
 //! The cluster.
-ghost use Rattle.std.specs.Prelude.{◌≡◌, ◌⊎◌, ◌↔◌, ◌≤◌, ◌<◌, ◌∷◌, [], List, IsTrue, length, vec_len, vec_capacity, slice_index_or, slice_set, IfOk, OnOk, OnErr};
+ghost use Rattle.std.specs.Prelude.{◌≡◌, ◌⊎◌, ◌↔◌, ◌≤◌, ◌<◌, ◌∷◌, ◌++◌, [], ℕ, List, IsTrue, length, vec_len, vec_capacity, IfOk, OnOk, OnErr};
+ghost use Rattle.std.specs.Option.{option_to_list};
 ghost use Rattle.gb_types.specs.declared.entry.Entry.{Entry as EntryValue};
-ghost use Rattle.gb_types.specs.declared.limits.TheConstants.{NODES as MOST};
-ghost use Rattle.gb_cluster.specs.World.{new_node, new_world, node_reply, node_did, sent_by, answer_of, changed, with_step};
-ghost use Rattle.gb_cluster.specs.Headline.{AreIsolated, AreInside, IsPlaced, IsStep, starved_answer};
+ghost use Rattle.gb_types.specs.declared.limits.TheConstants.{NODES as MOST, SILENCE_MIN, SILENCE_MAX};
+ghost use Rattle.gb_types.specs.declared.node.NodeId.{NodeId as Id};
+ghost use Rattle.gb_cluster.specs.NodeValue.{NodeValue};
+ghost use Rattle.gb_cluster.specs.World.{new_world, sent_part, arrive_part, tick_part, stop_part, with_step};
+ghost use Rattle.gb_cluster.specs.Acting.{Goes, Acts};
+ghost use Rattle.gb_cluster.specs.Headline.{AreIsolated, AreInside, IsPlaced, IsStep};
+ghost use Rattle.gb_cluster.specs.LinkLaws.{KeepsLinks};
 ghost use Rattle.gb_cluster.specs.Observed.{AreObserved};
 ghost use Rattle.gb_cluster.specs.Trace.{bare};
+ghost use Rattle.gb_cluster.specs.declared.packet.Packet.{Packet as PacketValue};
 
-use crate::answer::{Answer, Frame, Good, Sent, Taken};
+use crate::answer::{Answer, Halted, Sent, Taken, Ticked};
 use crate::event::Event;
 use crate::node::OneNode;
 use crate::packet::Packet;
 use crate::plan::Plan;
 use crate::step::Step;
 use gb_types::entry::Entries;
+use gb_types::limits::{SILENCE_MAX, SILENCE_MIN};
 use gb_types::memory::OutOfMemory;
 use gb_types::node::NodeId;
 use gb_types::refusal::Refusal;
@@ -44,9 +51,9 @@ impl Model for Cluster {
 
     ghost coded = { Prim.hlevel (codes, set.code {R = nat_cmp} coded_ℕ) };
 
-    ghost view = { λ c. record { nodes = c.nodes.items; steps = reverse c.past.items; packets = c.packets.items } };
+    ghost view = { λ c. record { nodes = c.nodes.items; steps = reverse c.past.items; packets = c.packets.items; silence = c.plan.silence } };
 
-    ghost invariant = { λ c. Holds (record { nodes = c.nodes.items; steps = reverse c.past.items; packets = c.packets.items }) };
+    ghost invariant = { λ c. Holds (record { nodes = c.nodes.items; steps = reverse c.past.items; packets = c.packets.items; silence = c.plan.silence }) };
 }
 
 /// Whether the node that acts is one of so many.
@@ -56,7 +63,11 @@ pub fn is_placed(nodes: usize, event: &Event) -> bool
     match event {
         Event::At(a, _) => a.index() < nodes,
         Event::Pack(a, _) => a.index() < nodes,
+        Event::Again(a, _, _) => a.index() < nodes,
+        Event::Ack(a, _) => a.index() < nodes,
         Event::Arrive(_) => true,
+        Event::Tick(a) => a.index() < nodes,
+        Event::Stop(a) => a.index() < nodes,
     }
 }
 
@@ -85,62 +96,106 @@ fn copied(alloc: Global, answer: &Answer) -> Result<Answer, OutOfMemory>
         Answer::Reply(Reply::Refused(why)) => Answer::Reply(Reply::Refused(*why)),
         Answer::Taken(taken) => Answer::Taken(*taken),
         Answer::Sent(sent) => Answer::Sent(*sent),
+        Answer::Ticked(Ticked::Noticed(found)) => {
+            Answer::Ticked(Ticked::Noticed(found.duplicate()))
+        }
+        Answer::Ticked(Ticked::Refused(why)) => Answer::Ticked(Ticked::Refused(*why)),
+        Answer::Halted(halted) => Answer::Halted(*halted),
         Answer::NoPacket => Answer::NoPacket,
     })
 }
 
 /// The reply to a request at a node.
-fn ask(nodes: &mut Vec<OneNode>, a: NodeId, request: &Request) -> Reply
-    requires { a.number < length nodes.old.items }
-    ensures reply { (result ≡ Reply.Refused Refusal.OutOfMemory) ⊎ (result ≡ node_reply (length nodes.old.items) a.number (slice_index_or nodes.old.items a.number new_node) request.now) }
-    ensures nodes { nodes.new.items ≡ slice_set nodes.old.items a.number (node_did a request.now result (slice_index_or nodes.old.items a.number new_node)) }
+fn ask(node: &mut OneNode, nodes: usize, a: NodeId, request: &Request) -> Reply
+    ensures { (packets : List PacketValue) → Acts nodes (Event.At a request.now) packets node.old (Answer.Reply result) packets node.new }
 {
-    let count = nodes.len();
-    let node = &mut nodes[a.index()];
-    node.request(count, a, request)
+    node.request(nodes, a, request)
 }
 
-/// The next frame from a node to another, sent from now on.
-fn send(nodes: &mut Vec<OneNode>, packets: &mut Vec<Packet>, a: NodeId, b: NodeId) -> Sent
-    requires placed { a.number < length nodes.old.items }
-    requires room { vec_len packets.old < vec_capacity packets.old }
-    ensures { ((result ≡ Sent.Refused Refusal.OutOfMemory) × (nodes.new.items ≡ nodes.old.items) × (packets.new.items ≡ packets.old.items))
-        ⊎ ((Answer.Sent result ≡ answer_of (bare nodes.old.items packets.old.items) (Event.Pack a b))
-        × (nodes.new.items ≡ (changed (bare nodes.old.items packets.old.items) (Event.Pack a b)).nodes)
-        × (packets.new.items ≡ (changed (bare nodes.old.items packets.old.items) (Event.Pack a b)).packets)) }
+/// Numbers the packet, if there is one, and keeps it, sent from now on.
+fn send(packets: &mut Vec<Packet>, packet: Option<Packet>) -> Sent
+    requires { vec_len packets.old < vec_capacity packets.old }
+    ensures packets { packets.new.items ≡ packets.old.items ++ option_to_list packet }
+    ensures answer { (v : NodeValue) → Answer.Sent result ≡ (sent_part (length packets.old.items) v (option_to_list packet)).answer }
 {
-    if b.index() >= nodes.len() {
-        return Sent::Nothing;
-    }
-    let node = &mut nodes[a.index()];
-    match node.pack(a, b) {
-        Ok(None) => Sent::Nothing,
-        Ok(Some(packet)) => {
+    match packet {
+        None => Sent::Nothing,
+        Some(packet) => {
             packets.push_reserved(packet);
             Sent::Packet(packets.len() as u64)
         }
+    }
+}
+
+/// The next frame from a node to another, sent from now on.
+fn pack(node: &mut OneNode, packets: &mut Vec<Packet>, nodes: usize, a: NodeId, b: NodeId) -> Sent
+    requires { vec_len packets.old < vec_capacity packets.old }
+    ensures { Acts nodes (Event.Pack a b) packets.old.items node.old (Answer.Sent result) packets.new.items node.new }
+{
+    if node.is_stopped() {
+        return Sent::Refused(Refusal::Stopped);
+    }
+    match node.pack(nodes, a, b) {
+        Ok(packet) => send(packets, packet),
         Err(_) => Sent::Refused(Refusal::OutOfMemory),
     }
 }
 
-/// A packet was taken.
-fn accepted(from: NodeId, frame: Frame, items: u32) -> Answer
-    ensures { result ≡ Answer.Taken (Taken.Good (record { from = from; frame = frame; items = items; done = 0 })) }
+/// A frame that was not acknowledged, sent once more.
+fn again(
+    node: &OneNode,
+    packets: &mut Vec<Packet>,
+    nodes: usize,
+    a: NodeId,
+    b: NodeId,
+    number: u64,
+) -> Sent
+    requires { vec_len packets.old < vec_capacity packets.old }
+    ensures { Acts nodes (Event.Again a b number) packets.old.items node.now (Answer.Sent result) packets.new.items node.now }
 {
-    Answer::Taken(Taken::Good(Good {
-        from,
-        frame,
-        items,
-        done: 0,
-    }))
+    if node.is_stopped() {
+        return Sent::Refused(Refusal::Stopped);
+    }
+    match node.again(nodes, a, b, number) {
+        Ok(packet) => send(packets, packet),
+        Err(_) => Sent::Refused(Refusal::OutOfMemory),
+    }
+}
+
+/// An acknowledgement alone, sent from now on.
+fn acknowledge(
+    node: &OneNode,
+    packets: &mut Vec<Packet>,
+    nodes: usize,
+    a: NodeId,
+    b: NodeId,
+) -> Sent
+    requires { vec_len packets.old < vec_capacity packets.old }
+    ensures { Acts nodes (Event.Ack a b) packets.old.items node.now (Answer.Sent result) packets.new.items node.now }
+{
+    if node.is_stopped() {
+        return Sent::Refused(Refusal::Stopped);
+    }
+    send(packets, node.ack(nodes, a, b))
+}
+
+/// A packet, handed in at the node that it was sent to.
+fn hand_in(node: &mut OneNode, packet: &Packet) -> Taken
+    ensures { (k : ℕ) (packets : List PacketValue) → Goes (Event.Arrive k) (arrive_part packet.now node.old) packets node.old (Answer.Taken result) packets node.new }
+{
+    if node.is_stopped() {
+        return Taken::Refused(Refusal::Stopped);
+    }
+    match node.came(packet) {
+        Ok(good) => Taken::Good(good),
+        Err(_) => Taken::Refused(Refusal::OutOfMemory),
+    }
 }
 
 /// The packet with the number, handed in at the node that it was sent to.
 fn deliver(nodes: &mut Vec<OneNode>, packets: &[Packet], k: u64) -> Answer
     requires { AreInside (length nodes.old.items) packets.now }
-    ensures { ((result ≡ starved_answer (Event.Arrive k)) × (nodes.new.items ≡ nodes.old.items))
-        ⊎ ((result ≡ answer_of (bare nodes.old.items packets.now) (Event.Arrive k))
-        × (nodes.new.items ≡ (changed (bare nodes.old.items packets.now) (Event.Arrive k)).nodes)) }
+    ensures { IsStep (bare nodes.old.items packets.now) (Event.Arrive k) result (with_step (Event.Arrive k) result (bare nodes.new.items packets.now)) }
 {
     if k == 0 {
         return Answer::NoPacket;
@@ -149,11 +204,31 @@ fn deliver(nodes: &mut Vec<OneNode>, packets: &[Packet], k: u64) -> Answer
         return Answer::NoPacket;
     };
     let node = &mut nodes[packet.to.index()];
-    match node.came(packet) {
-        Ok(true) => accepted(packet.from, Frame::First, 1),
-        Ok(false) => accepted(packet.from, Frame::Seen, 0),
-        Err(_) => Answer::Taken(Taken::Refused(Refusal::OutOfMemory)),
+    Answer::Taken(hand_in(node, packet))
+}
+
+/// The nodes that a node notices when the time ticks.
+fn tick(node: &mut OneNode) -> Ticked
+    ensures { (a : Id) (packets : List PacketValue) → Goes (Event.Tick a) (tick_part node.old) packets node.old (Answer.Ticked result) packets node.new }
+{
+    if node.is_stopped() {
+        return Ticked::Refused(Refusal::Stopped);
     }
+    match node.tick() {
+        Ok(found) => Ticked::Noticed(found),
+        Err(_) => Ticked::Refused(Refusal::OutOfMemory),
+    }
+}
+
+/// Whether a node stops: it does unless it had stopped before.
+fn stop(node: &mut OneNode) -> Halted
+    ensures { (a : Id) (packets : List PacketValue) → Goes (Event.Stop a) (stop_part node.old) packets node.old (Answer.Halted result) packets node.new }
+{
+    if node.is_stopped() {
+        return Halted::Refused(Refusal::Stopped);
+    }
+    node.stop();
+    Halted::Done
 }
 
 /// What comes of an event, with nodes and packets after it.
@@ -163,10 +238,15 @@ fn take(nodes: &mut Vec<OneNode>, packets: &mut Vec<Packet>, event: &Event) -> A
     requires room { vec_len packets.old < vec_capacity packets.old }
     ensures { IsStep (bare nodes.old.items packets.old.items) event.now result (with_step event.now result (bare nodes.new.items packets.new.items)) }
 {
+    let n = nodes.len();
     match event {
-        Event::At(a, request) => Answer::Reply(ask(nodes, *a, request)),
-        Event::Pack(a, b) => Answer::Sent(send(nodes, packets, *a, *b)),
+        Event::At(a, request) => Answer::Reply(ask(&mut nodes[a.index()], n, *a, request)),
+        Event::Pack(a, b) => Answer::Sent(pack(&mut nodes[a.index()], packets, n, *a, *b)),
+        Event::Again(a, b, k) => Answer::Sent(again(&nodes[a.index()], packets, n, *a, *b, *k)),
+        Event::Ack(a, b) => Answer::Sent(acknowledge(&nodes[a.index()], packets, n, *a, *b)),
         Event::Arrive(k) => deliver(nodes, packets, *k),
+        Event::Tick(a) => Answer::Ticked(tick(&mut nodes[a.index()])),
+        Event::Stop(a) => Answer::Halted(stop(&mut nodes[a.index()])),
     }
 }
 
@@ -186,12 +266,15 @@ impl Cluster {
     pub fn start(alloc: Global, plan: Plan) -> Result<Cluster, OutOfMemory>
         requires some { 1 ≤ plan.nodes }
         requires few { plan.nodes ≤ MOST }
-        ensures world { IfOk result (λ w. w ≡ new_world plan.nodes) }
+        requires least { SILENCE_MIN ≤ plan.silence }
+        requires most { plan.silence ≤ SILENCE_MAX }
+        ensures world { IfOk result (λ w. w ≡ new_world plan.nodes plan.silence) }
         ensures isolated { IfOk result AreIsolated }
     {
         let mut nodes = Vec::with_capacity(alloc, plan.nodes as usize)?;
-        for _node in 0..plan.nodes {
-            nodes.push(OneNode::new(alloc))?;
+        for number in 0..plan.nodes {
+            let me = NodeId::new(number);
+            nodes.push(OneNode::new(alloc, me, plan.nodes, plan.silence))?;
         }
         Ok(Cluster {
             alloc,
@@ -222,6 +305,7 @@ impl Cluster {
         requires { IsPlaced (length self.old.nodes) event.now }
         ensures steps { IfOk result (λ a. self.new.steps ≡ record { event = event.now; answer = a } ∷ self.old.steps) }
         ensures step { IfOk result (λ a. IsStep self.old event.now a self.new) }
+        ensures links { IfOk result (λ a. KeepsLinks self.old event.now a self.new) }
         ensures nodes { length self.new.nodes ≡ length self.old.nodes }
         ensures isolated { AreIsolated self.new }
         ensures err { OnErr result (self.new ≡ self.old) }

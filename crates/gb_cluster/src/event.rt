@@ -13,8 +13,17 @@ pub enum Event {
     At(NodeId, Request),
     /// The first node packs what waits for the second as the next frame of their link.
     Pack(NodeId, NodeId),
+    /// The first node sends the second a frame of their link again that was not acknowledged yet, by its number;
+    /// 0 stands for the lowest such number.
+    Again(NodeId, NodeId, u64),
+    /// The first node sends the second an acknowledgement alone.
+    Ack(NodeId, NodeId),
     /// The packet with this number arrives at the node that it was sent to, for the first time or again.
     Arrive(u64),
+    /// The time ticks at a node.
+    Tick(NodeId),
+    /// A node stops, for good.
+    Stop(NodeId),
 }
 
 /// A copy of a request.
@@ -40,7 +49,11 @@ impl Event {
         Ok(match self {
             Event::At(node, request) => Event::At(*node, copied(alloc, request)?),
             Event::Pack(from, to) => Event::Pack(*from, *to),
+            Event::Again(from, to, number) => Event::Again(*from, *to, *number),
+            Event::Ack(from, to) => Event::Ack(*from, *to),
             Event::Arrive(number) => Event::Arrive(*number),
+            Event::Tick(node) => Event::Tick(*node),
+            Event::Stop(node) => Event::Stop(*node),
         })
     }
 }

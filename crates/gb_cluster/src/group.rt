@@ -29,6 +29,12 @@ pub enum GroupEvent {
     Took(NodeId, u64),
     /// The item with this place among those that the node put out to this one comes.
     Came(NodeId, u64),
+    /// Of the items put out to the node, those from this place on, so many, are acknowledged.
+    Acknowledged(NodeId, u64, u64),
+    /// The node is noticed to have crashed.
+    Notice(NodeId),
+    /// This node has stopped.
+    Stop,
 }
 
 /// What happens to a group, and the node at which it happens.

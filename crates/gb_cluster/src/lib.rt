@@ -9,7 +9,6 @@
 pub mod answer;
 pub mod cluster;
 pub mod event;
-mod frames;
 pub mod group;
 pub mod laws;
 pub mod model;

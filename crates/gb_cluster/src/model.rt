@@ -1,5 +1,5 @@
 //! A group alone, computed plainly from its meaning: slow, for short lists of what happens to it.
-ghost use Rattle.std.specs.Prelude.{ℕ, ◌≡◌, ◌+◌, ◌-◌, ◌<◌, ◌≤◌, ◌++◌, [], ◌∷◌, ◌||◌, IfOk, OnOk, IfSome, IfNone, None, Some, length, map, min, take, drop, replicate, slice_get, slice_index_or, slice_set, if◌then◌else◌};
+ghost use Rattle.std.specs.Prelude.{ℕ, ◌≡◌, ◌+◌, ◌-◌, ◌<◌, ◌≤◌, ◌++◌, [], ◌∷◌, ◌||◌, ◌&&◌, not, true, IfOk, OnOk, IfSome, IfNone, None, Some, length, map, min, take, drop, replicate, slice_get, slice_index_or, slice_set, if◌then◌else◌};
 ghost use Rattle.std.specs.Option.{option_to_list};
 ghost use Rattle.gb_types.specs.declared.limits.TheConstants.{NODES as MOST};
 ghost use Rattle.gb_layer.specs.Machine as machine;
@@ -43,16 +43,6 @@ fn base(kind: Kind) -> Base
     }
 }
 
-/// The message that the group is told of.
-fn entry_told(call: &GroupCall) -> &Entry
-    ensures { result.now ≡ history.entry_told call.entry.now }
-{
-    match call {
-        GroupCall::Own(x) => x,
-        GroupCall::Other(_, x) => x,
-    }
-}
-
 /// What the broadcast is called for.
 fn call_of(call: &GroupCall) -> Call
     ensures { result ≡ history.call_of call.now }
@@ -60,6 +50,7 @@ fn call_of(call: &GroupCall) -> Call
     match call {
         GroupCall::Own(x) => Call::Say(x.message()),
         GroupCall::Other(from, x) => Call::Came(*from, x.message()),
+        GroupCall::Crashed(who) => Call::Notice(*who),
     }
 }
 
@@ -88,6 +79,7 @@ fn said_in(told: &[GroupCall]) -> usize
         [] => 0,
         [GroupCall::Own(_), past @ ..] => said_in(past) + 1,
         [GroupCall::Other(_, _), past @ ..] => said_in(past),
+        [GroupCall::Crashed(_), past @ ..] => said_in(past),
     }
 }
 
@@ -133,6 +125,16 @@ fn entries_in(alloc: Global, known: &[Entry], found: &[MsgId]) -> Result<Entries
     Ok(entries)
 }
 
+/// Adds a copy of the entry at the end, where its message was not there.
+fn add_new(alloc: Global, entries: &mut Entries, x: &Entry) -> Result<(), OutOfMemory>
+    ensures { OnOk result (entries.new ≡ messages.with_new entries.old x.now) }
+{
+    if !has(entries.as_slice(), x.message()) {
+        entries.push(x.duplicate(alloc)?)?;
+    }
+    Ok(())
+}
+
 /// The messages that the group was told of, with the payloads that they had then.
 #[tactic(auto, unfolding(gb_slot::specs::History::known))]
 fn known(alloc: Global, told: &[GroupCall]) -> Result<Entries, OutOfMemory>
@@ -142,9 +144,10 @@ fn known(alloc: Global, told: &[GroupCall]) -> Result<Entries, OutOfMemory>
         [] => Ok(Entries::new(alloc)),
         [call, past @ ..] => {
             let mut entries = known(alloc, past)?;
-            let x = entry_told(call);
-            if !has(entries.as_slice(), x.message()) {
-                entries.push(x.duplicate(alloc)?)?;
+            match call {
+                GroupCall::Own(x) => add_new(alloc, &mut entries, x)?,
+                GroupCall::Other(_, x) => add_new(alloc, &mut entries, x)?,
+                GroupCall::Crashed(_) => {}
             }
             Ok(entries)
         }
@@ -201,6 +204,23 @@ fn came_from(me: NodeId, calls: &[Call], p: NodeId, m: MsgId) -> bool
                 Call::Notice(_) => false,
             };
             here || came_from(me, past, p, m)
+        }
+    }
+}
+
+/// Whether the node was noticed.
+fn was_noticed(calls: &[Call], q: NodeId) -> bool
+    ensures { result ≡ machine.was_noticed calls.now q.number }
+{
+    match calls {
+        [] => false,
+        [call, past @ ..] => {
+            let here = match *call {
+                Call::Say(_) => false,
+                Call::Came(_, _) => false,
+                Call::Notice(p) => p == q,
+            };
+            here || was_noticed(past, q)
         }
     }
 }
@@ -323,6 +343,14 @@ fn add_copies(alloc: Global, row: &mut Entries, more: &[Entry]) -> Result<(), Ou
     Ok(())
 }
 
+/// The first of these, so many at most.
+fn first_of(row: &[Entry], count: u64) -> &[Entry]
+    ensures { result.now ≡ take count row.entry.now }
+{
+    let count = (count as usize).min(row.len());
+    &row[..count]
+}
+
 /// The items put out to a node so far.
 fn row_of(put: &[Entries], b: usize) -> &[Entry]
     ensures { result.now ≡ slice_index_or put.entry.now b [] }
@@ -333,19 +361,24 @@ fn row_of(put: &[Entries], b: usize) -> &[Entry]
     }
 }
 
-/// The items put out to a node, after these too, where it is another member.
+/// Whether items are put out to the node: it is another member, and was not noticed.
+fn is_reached(spec: &Spec, me: NodeId, b: NodeId, calls: &[Call]) -> bool
+    ensures { result ≡ (rules_of.is_other spec.now me.number b.number && not (machine.was_noticed calls.now b.number)) }
+{
+    spec.members.contains(b) && b != me && !was_noticed(calls, b)
+}
+
+/// The items put out to a node, after these too, where it is reached.
 fn row_after(
     alloc: Global,
-    spec: &Spec,
-    me: NodeId,
-    b: NodeId,
+    is_reached: bool,
     row: &[Entry],
     more: &[Entry],
 ) -> Result<Entries, OutOfMemory>
-    ensures { IfOk result (λ e. e ≡ (if rules_of.is_other spec.now me.number b.number then row.now ++ more.now else row.now)) }
+    ensures { IfOk result (λ e. e ≡ (if is_reached then row.now ++ more.now else row.now)) }
 {
     let mut next = copies(alloc, row)?;
-    if spec.members.contains(b) && b != me {
+    if is_reached {
         add_copies(alloc, &mut next, more)?;
     }
     Ok(next)
@@ -357,15 +390,17 @@ fn rows_after(
     alloc: Global,
     spec: &Spec,
     me: NodeId,
+    told: &[GroupCall],
     put: &[Entries],
     more: &[Entry],
 ) -> Result<Vec<Entries>, OutOfMemory>
-    ensures { IfOk result (λ v. v.items ≡ map (row_with spec.now me.number put.now more.now) (upto MOST)) }
+    ensures { IfOk result (λ v. v.items ≡ map (row_with spec.now me.number told.now put.now more.now) (upto MOST)) }
 {
+    let calls = calls_of(alloc, told)?;
     let mut rows = Vec::new(alloc);
     for b in 0..NODES {
-        let node = NodeId::new(b as u8);
-        rows.push(row_after(alloc, spec, me, node, row_of(put, b), more)?)?;
+        let reached = is_reached(spec, me, NodeId::new(b as u8), &calls);
+        rows.push(row_after(alloc, reached, row_of(put, b), more)?)?;
     }
     Ok(rows)
 }
@@ -383,6 +418,7 @@ struct Member {
     put: Vec<Entries>,
     /// For each node how many of these items are carried.
     taken: [u64; NODES],
+    stopped: bool,
 }
 
 impl Model for Member {
@@ -395,11 +431,11 @@ impl Model for Member {
 
     ghost coded = { Prim.hlevel (codes, set.code {R = nat_cmp} coded_ℕ) };
 
-    ghost view = { λ m. record { reserve = m.reserve; spec = m.spec; phase = m.phase; told = m.told.items; replies = m.replies.items; put = m.put.items; taken = m.taken } };
+    ghost view = { λ m. record { reserve = m.reserve; spec = m.spec; phase = m.phase; told = m.told.items; replies = m.replies.items; put = m.put.items; taken = m.taken; stopped = m.stopped } };
 }
 
 impl Member {
-    ghost use Rattle.gb_cluster.specs.Observation.{MemberValue, member_of, new_member, value_called, value_did, value_commanded, value_came, value_taken_in, value_took};
+    ghost use Rattle.gb_cluster.specs.Observation.{MemberValue, member_of, new_member, value_called, value_did, value_commanded, value_came, value_taken_in, value_took, value_cut, value_noticed};
 
     /// Nothing has happened.
     fn new(alloc: Global) -> Member
@@ -413,6 +449,7 @@ impl Member {
             replies: Vec::new(alloc),
             put: Vec::new(alloc),
             taken: [0; NODES],
+            stopped: false,
         }
     }
 
@@ -425,7 +462,7 @@ impl Member {
 
     /// The reply to a command to open the group.
     fn open_reply(&self) -> Reply
-        ensures { (nodes number me : ℕ) → result ≡ one_group.reply_to nodes number me GroupEvent.AskOpen (member_of self.now) }
+        ensures { (nodes number me : ℕ) → result ≡ one_group.running_reply nodes number me GroupEvent.AskOpen (member_of self.now) }
     {
         if self.reserve.is_none() {
             return Reply::Refused(Refusal::Denied);
@@ -441,7 +478,7 @@ impl Member {
 
     /// The reply to a command to say something. `Err` where there is no number for it.
     fn say_reply(&self, payload: &Payload) -> Result<Reply, OutOfMemory>
-        ensures { IfOk result (λ r. (nodes number me : ℕ) → r ≡ one_group.reply_to nodes number me (GroupEvent.AskSay payload.now) (member_of self.now)) }
+        ensures { IfOk result (λ r. (nodes number me : ℕ) → r ≡ one_group.running_reply nodes number me (GroupEvent.AskSay payload.now) (member_of self.now)) }
     {
         if self.reserve.is_none() {
             return Ok(Reply::Refused(Refusal::Denied));
@@ -473,7 +510,7 @@ impl Member {
         from: u32,
         max: u32,
     ) -> Result<Reply, OutOfMemory>
-        ensures { IfOk result (λ r. (nodes number : ℕ) → r ≡ one_group.reply_to nodes number me.number (GroupEvent.AskFetch from max) (member_of self.now)) }
+        ensures { IfOk result (λ r. (nodes number : ℕ) → r ≡ one_group.running_reply nodes number me.number (GroupEvent.AskFetch from max) (member_of self.now)) }
     {
         if self.reserve.is_none() {
             return Ok(Reply::Refused(Refusal::Denied));
@@ -492,7 +529,7 @@ impl Member {
 
     /// The reply to a command to make the group.
     fn make_reply(&self, nodes: u8, number: u16, me: NodeId, spec: &Spec) -> Reply
-        ensures { result ≡ one_group.reply_to nodes number me.number (GroupEvent.AskMake spec.now) (member_of self.now) }
+        ensures { result ≡ one_group.running_reply nodes number me.number (GroupEvent.AskMake spec.now) (member_of self.now) }
     {
         match &self.reserve {
             None => Reply::Refused(Refusal::Denied),
@@ -500,8 +537,8 @@ impl Member {
         }
     }
 
-    /// The reply to a command.
-    fn reply(
+    /// The reply to a command at a node that has not stopped.
+    fn running_reply(
         &self,
         alloc: Global,
         nodes: u8,
@@ -509,7 +546,7 @@ impl Member {
         me: NodeId,
         event: &GroupEvent,
     ) -> Result<Reply, OutOfMemory>
-        ensures { IfOk result (λ r. r ≡ one_group.reply_to nodes number me.number event.now (member_of self.now)) }
+        ensures { IfOk result (λ r. r ≡ one_group.running_reply nodes number me.number event.now (member_of self.now)) }
     {
         match event {
             GroupEvent::AskMake(spec) => Ok(self.make_reply(nodes, number, me, spec)),
@@ -525,7 +562,28 @@ impl Member {
             GroupEvent::Tenant(_) => Ok(Reply::Done),
             GroupEvent::Took(_, _) => Ok(Reply::Done),
             GroupEvent::Came(_, _) => Ok(Reply::Done),
+            GroupEvent::Acknowledged(_, _, _) => Ok(Reply::Done),
+            GroupEvent::Notice(_) => Ok(Reply::Done),
+            GroupEvent::Stop => Ok(Reply::Done),
         }
+    }
+
+    /// The reply to a command.
+    fn reply(
+        &self,
+        alloc: Global,
+        nodes: u8,
+        number: u16,
+        me: NodeId,
+        event: &GroupEvent,
+    ) -> Result<Reply, OutOfMemory>
+        ensures { IfOk result (λ r. r ≡ one_group.reply_to nodes number me.number event.now (member_of self.now)) }
+    {
+        if self.stopped {
+            return Ok(Reply::Refused(Refusal::Stopped));
+        }
+        let reply = self.running_reply(alloc, nodes, number, me, event)?;
+        Ok(reply)
     }
 
     /// The group is told something here.
@@ -535,7 +593,7 @@ impl Member {
         self.told.insert(0, call)?;
         if let Some(spec) = &self.spec {
             let more = puts_of(alloc, spec, me, &self.told)?;
-            self.put = rows_after(alloc, spec, me, &self.put, more.as_slice())?;
+            self.put = rows_after(alloc, spec, me, &self.told, &self.put, more.as_slice())?;
         }
         Ok(())
     }
@@ -618,12 +676,51 @@ impl Member {
         Ok(())
     }
 
-    /// So many more items to a node are carried.
-    fn took(&mut self, b: NodeId, count: u64)
-        ensures { self.new ≡ value_took b.number count self.old }
+    /// So many more items to a node are carried. `Err` where no number is so great.
+    fn took(&mut self, b: NodeId, count: u64) -> Result<(), OutOfMemory>
+        ensures { OnOk result (self.new ≡ value_took b.number count self.old) }
     {
         let before = self.taken[b.index()];
-        self.taken[b.index()] = before.saturating_add(count);
+        let Some(now) = before.checked_add(count) else {
+            return Err(OutOfMemory);
+        };
+        self.taken[b.index()] = now;
+        Ok(())
+    }
+
+    /// What waits for a node is given up.
+    fn cut(&mut self, alloc: Global, q: NodeId) -> Result<(), OutOfMemory>
+        ensures { OnOk result (self.new ≡ value_cut q self.old) }
+    {
+        if q.index() >= self.put.len() {
+            return Ok(());
+        }
+        let count = self.taken[q.index()];
+        let kept = copies(alloc, first_of(row_of(&self.put, q.index()), count))?;
+        self.put[q.index()] = kept;
+        Ok(())
+    }
+
+    /// A node is noticed.
+    fn notice(&mut self, alloc: Global, me: NodeId, q: NodeId) -> Result<(), OutOfMemory>
+        ensures { OnOk result (self.new ≡ value_noticed me.number q self.old.spec self.old) }
+    {
+        let concerned = match &self.spec {
+            None => false,
+            Some(spec) => spec.members.contains(q) && q != me,
+        };
+        if concerned {
+            self.cut(alloc, q)?;
+            self.call(alloc, me, GroupCall::Crashed(q))?;
+        }
+        Ok(())
+    }
+
+    /// The node stops.
+    fn stop(&mut self)
+        ensures { self.new ≡ record self.old { stopped = true } }
+    {
+        self.stopped = true;
     }
 
     /// The item with this place among those put out to a node.
@@ -642,9 +739,7 @@ impl Member {
         requires { b < MOST }
         ensures { IfOk result (λ e. (m : Prior) → IsListed self.now m → e ≡ take (m.taken b) (m.put b)) }
     {
-        let row = row_of(&self.put, b);
-        let count = (self.taken[b] as usize).min(row.len());
-        copies(alloc, &row[..count])
+        copies(alloc, first_of(row_of(&self.put, b), self.taken[b]))
     }
 
     /// The replies to the group's commands, copied.
@@ -725,7 +820,10 @@ fn step_at(
     let me = step.node;
     match &step.event {
         GroupEvent::Tenant(reserve) => group[me.index()].take_tenant(*reserve),
-        GroupEvent::Took(b, count) => group[me.index()].took(*b, *count),
+        GroupEvent::Took(b, count) => group[me.index()].took(*b, *count)?,
+        GroupEvent::Acknowledged(_, _, _) => {}
+        GroupEvent::Notice(q) => group[me.index()].notice(alloc, me, *q)?,
+        GroupEvent::Stop => group[me.index()].stop(),
         GroupEvent::Came(from, place) => item_at(alloc, group, me, *from, *place)?,
         GroupEvent::AskMake(_) => command_at(alloc, nodes, number, group, me, &step.event)?,
         GroupEvent::AskOpen => command_at(alloc, nodes, number, group, me, &step.event)?,
@@ -764,7 +862,8 @@ fn all_seen(alloc: Global, nodes: u8, group: &[Member]) -> Result<Observation, O
 }
 
 /// The group with this number among its tenant's, alone, in a cluster of so many nodes: what is seen of it after
-/// these steps. `Err` also where a node says more than 65,535 messages, since no more have numbers.
+/// these steps. `Err` also where a node says more than 65,535 messages, or more than 2^64 - 1 items are carried,
+/// since no more have numbers.
 pub fn alone(
     alloc: Global,
     nodes: u8,

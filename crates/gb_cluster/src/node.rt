@@ -1,20 +1,30 @@
 //! A node with room for one tenant and one group.
-ghost use Rattle.std.specs.Prelude.{◌≡◌, ◌⊎◌, not, ◌≤◌, ◌<◌, ℕ, List, length, is_some, IsSome, IfOk, OnOk, OnErr};
+ghost use Rattle.std.specs.Prelude.{◌≡◌, ◌⊎◌, ◌≤◌, ◌<◌, true, ℕ, List, Some, filter, fold, length, is_some, nat_eq, if◌then◌else◌, IsSome, IfOk, OnOk, OnErr};
 ghost use Rattle.std.specs.Option.{option_to_list};
+ghost use Rattle.gb_types.specs.Entry.{message_of};
+ghost use Rattle.gb_types.specs.Rising.{rising};
+ghost use Rattle.gb_types.specs.declared.limits.TheConstants.{NODES as MOST, SILENCE_MIN, SILENCE_MAX};
 ghost use Rattle.gb_types.specs.declared.node.NodeId.{NodeId as Id};
+ghost use Rattle.gb_detect.specs.Watch.{due};
+ghost use Rattle.gb_link.specs.Ack.{covers};
+ghost use Rattle.gb_link.specs.Received.{admission, taken};
 ghost use Rattle.gb_slot.specs.Rules.{open_answer, say_answer, fetch_answer, is_member};
-ghost use Rattle.gb_slot.specs.Slot.{IsWithinLimits, new_slot, waiting, slot_opened, slot_said, slot_came, slot_took};
+ghost use Rattle.gb_slot.specs.Slot.{IsWithinLimits, new_slot, waiting, slot_opened, slot_said, slot_came, slot_done, slot_took};
+ghost use Rattle.gb_cluster.specs.Hosted.{group_at, group_of, HasRoom, KeepsRoom, first_waiting};
 ghost use Rattle.gb_cluster.specs.Project.{is_addr};
 ghost use Rattle.gb_cluster.specs.Rules.{is_over_limits, is_bad, is_over, make_answer, by_tenant, on_made};
-ghost use Rattle.gb_cluster.specs.World.{first_of, has_frame, with_frame, new_node, reserve_for, slot_for, shown_for, row_answer, in_room, node_reply, on_slot, group_took, node_did, packed, node_packed, node_sent, has_received, node_came};
+ghost use Rattle.gb_cluster.specs.World.{first_of, new_node, reserve_for, slot_for, shown_for, row_answer, in_room, running_reply, node_reply, on_slot, group_took, node_did, packet_for, is_reached, is_another, node_packed, node_sent, node_again, node_ack, without_done, item_done, item_came, group_came, kind_of, count_of, node_took, good_of, slot_noticed_all, group_noticed, node_ticked};
 
-use crate::frames::FrameSet;
+use crate::answer::{Frame, Good};
 use crate::group::Reserve;
-use crate::packet::Packet;
+use crate::packet::{Item, Packet};
+use gb_detect::detector::Detector;
+use gb_link::receiver::{Admission, Receiver};
+use gb_link::sender::Sender;
 use gb_slot::slot::Slot;
 use gb_types::address::{Addr, TenantId};
 use gb_types::entry::{Entries, Entry};
-use gb_types::limits::{BYTES, GROUPS, LAST_FRAME, MESSAGES, NODES, WINDOW};
+use gb_types::limits::{BYTES, GROUPS, MESSAGES, NODES, SILENCE_MAX, SILENCE_MIN, WINDOW};
 use gb_types::memory::OutOfMemory;
 use gb_types::node::{NodeId, NodeSet};
 use gb_types::payload::Payload;
@@ -25,24 +35,11 @@ use gb_types::spec::{Spec, TenantRow};
 use std::alloc::Global;
 use std::marker::Model;
 
-/// A group at its address. Contracts see the slot's state, and not the room that it has.
+/// A group at its address.
 #[derive(Drop)]
 struct Hosted {
     addr: Addr,
     slot: Slot,
-}
-
-impl Model for Hosted {
-    ghost use Rattle.std.specs.Coded.{codes, coded_ℕ};
-    ghost use Rattle.std.specs.Ordering.{nat_cmp};
-    ghost use Rattle.std.specs.FinSet as set;
-    ghost use Rattle.gb_cluster.specs.NodeValue.{GroupAt};
-
-    ghost Value = { GroupAt };
-
-    ghost coded = { Prim.hlevel (codes, set.code {R = nat_cmp} coded_ℕ) };
-
-    ghost view = { λ h. record { addr = h.addr; slot = h.slot.state } };
 }
 
 fn is_same(a: Addr, b: Addr) -> bool
@@ -54,8 +51,8 @@ fn is_same(a: Addr, b: Addr) -> bool
 impl Hosted {
     /// Opens the group, where it is the one with this address.
     fn open_group(&mut self, addr: Addr) -> Reply
-        ensures reply { result ≡ on_made open_answer (shown_for (slot_for addr (Some self.old))) }
-        ensures state { Some self.new ≡ on_slot addr (slot_opened result) (Some self.old) }
+        ensures reply { result ≡ on_made open_answer (shown_for (slot_for addr (Some (group_at self.old)))) }
+        ensures state { Some (group_at self.new) ≡ on_slot addr (slot_opened result) (Some (group_at self.old)) }
     {
         if !is_same(addr, self.addr) {
             return Reply::Refused(Refusal::NoGroup);
@@ -68,8 +65,8 @@ impl Hosted {
 
     /// Says something in the group, where it is the one with this address.
     fn say(&mut self, addr: Addr, payload: &Payload) -> Reply
-        ensures reply { (result ≡ Reply.Refused Refusal.OutOfMemory) ⊎ (result ≡ on_made (λ s. say_answer s payload.now) (shown_for (slot_for addr (Some self.old)))) }
-        ensures state { Some self.new ≡ on_slot addr (slot_said payload.now result) (Some self.old) }
+        ensures reply { (result ≡ Reply.Refused Refusal.OutOfMemory) ⊎ (result ≡ on_made (λ s. say_answer s payload.now) (shown_for (slot_for addr (Some (group_at self.old))))) }
+        ensures state { Some (group_at self.new) ≡ on_slot addr (slot_said payload.now result) (Some (group_at self.old)) }
     {
         if !is_same(addr, self.addr) {
             return Reply::Refused(Refusal::NoGroup);
@@ -82,7 +79,7 @@ impl Hosted {
 
     /// Reads the group's log, where it is the one with this address.
     fn fetch(&self, addr: Addr, from: u32, most: u32) -> Reply
-        ensures { (result ≡ Reply.Refused Refusal.OutOfMemory) ⊎ (result ≡ on_made (λ s. fetch_answer s from most) (shown_for (slot_for addr (Some self.now)))) }
+        ensures { (result ≡ Reply.Refused Refusal.OutOfMemory) ⊎ (result ≡ on_made (λ s. fetch_answer s from most) (shown_for (slot_for addr (Some (group_at self.now))))) }
     {
         if !is_same(addr, self.addr) {
             return Reply::Refused(Refusal::NoGroup);
@@ -93,26 +90,9 @@ impl Hosted {
         }
     }
 
-    /// Takes in a packet whose frame comes for the first time. All growths come first.
-    fn take_in(&mut self, frames: &mut FrameSet, packet: &Packet) -> Result<(), OutOfMemory>
-        ensures group { OnOk result (Some self.new ≡ on_slot packet.now.addr (slot_came packet.now.from packet.now.entry) (Some self.old)) }
-        ensures frames { OnOk result (frames.new ≡ with_frame frames.old packet.now.frame) }
-        ensures err { OnErr result ((self.new ≡ self.old) × (frames.new ≡ frames.old)) }
-    {
-        if !is_same(packet.addr, self.addr) {
-            frames.insert(packet.frame)?;
-            return Ok(());
-        }
-        let payload = packet.entry.payload.as_slice();
-        self.slot.ready(1, payload.len())?;
-        frames.insert(packet.frame)?;
-        self.slot.came(packet.from, packet.entry.origin, packet.entry.seq, payload);
-        Ok(())
-    }
-
     /// The first item that waits for the node, copied.
     fn first_for(&self, alloc: Global, to: NodeId) -> Result<Option<Entry>, OutOfMemory>
-        ensures { IfOk result (λ e. e ≡ first_of (waiting self.now.slot to.number)) }
+        ensures { IfOk result (λ e. e ≡ first_of (waiting self.now.slot.state to.number)) }
     {
         match self.slot.peek(to) {
             None => Ok(None),
@@ -123,14 +103,6 @@ impl Hosted {
             })),
         }
     }
-
-    /// Takes the first item that waits for the node, to be sent to it.
-    fn took_first(&mut self, to: NodeId)
-        requires { IsSome (first_of (waiting self.old.slot to.number)) }
-        ensures { Some self.new ≡ group_took to.number (Some self.old) }
-    {
-        self.slot.took(to, 1);
-    }
 }
 
 /// A node with room for one tenant and one group. Any token is admitted.
@@ -139,10 +111,12 @@ pub struct OneNode {
     alloc: Global,
     row: Option<TenantRow>,
     group: Option<Hosted>,
-    /// For each node, how many frames were packed for it.
-    sent: [u64; NODES],
-    /// For each node, its frames that were received.
-    received: [FrameSet; NODES],
+    /// For each node, the sending end of the link to it.
+    senders: [Sender<Item>; NODES],
+    /// For each node, the receiving end of the link from it.
+    receivers: [Receiver; NODES],
+    detector: Detector,
+    stopped: bool,
 }
 
 impl Model for OneNode {
@@ -150,6 +124,7 @@ impl Model for OneNode {
     ghost use Rattle.std.specs.Coded.{codes, coded_ℕ};
     ghost use Rattle.std.specs.Ordering.{nat_cmp};
     ghost use Rattle.std.specs.FinSet as set;
+    ghost use Rattle.gb_cluster.specs.Hosted.{group_of};
     ghost use Rattle.gb_cluster.specs.NodeValue.{NodeValue};
 
     ghost Value = { NodeValue };
@@ -158,14 +133,14 @@ impl Model for OneNode {
 
     ghost use Rattle.gb_cluster.specs.Rules.{is_over_limits};
 
-    ghost view = { λ n. record { row = n.row; group = n.group; sent = n.sent; received = n.received } };
+    ghost view = { λ n. record { row = n.row; group = group_of n.group; senders = n.senders; receivers = n.receivers; watch = n.detector; stopped = n.stopped } };
 
     ghost invariant = { λ n. IfSome n.row (λ r. is_over_limits r ≡ false) };
 }
 
 /// Whether the group with this address is here.
 fn is_here(group: &Option<Hosted>, addr: Addr) -> bool
-    ensures { result ≡ is_some (slot_for addr group.now) }
+    ensures { result ≡ is_some (slot_for addr (group_of group.now)) }
 {
     match group {
         Some(hosted) => is_same(addr, hosted.addr),
@@ -269,53 +244,204 @@ fn answer_make(
     Reply::Done
 }
 
-/// Takes in a packet whose frame comes for the first time. Without memory nothing has changed.
-fn take_in(
-    group: &mut Option<Hosted>,
-    frames: &mut FrameSet,
-    packet: &Packet,
-) -> Result<(), OutOfMemory>
-    ensures group { OnOk result (group.new ≡ on_slot packet.now.addr (slot_came packet.now.from packet.now.entry) group.old) }
-    ensures frames { OnOk result (frames.new ≡ with_frame frames.old packet.now.frame) }
-    ensures err { OnErr result ((group.new ≡ group.old) × (frames.new ≡ frames.old)) }
+/// Whether a node is another one of so many.
+fn is_another(nodes: usize, me: NodeId, to: NodeId) -> bool
+    ensures { result ≡ is_another nodes me to }
 {
-    let Some(mut hosted) = group.take() else {
-        frames.insert(packet.frame)?;
+    to.index() < nodes && to != me
+}
+
+/// The first item that waits for the node in the group, copied.
+fn first_item(
+    group: &Option<Hosted>,
+    alloc: Global,
+    to: NodeId,
+) -> Result<Option<Item>, OutOfMemory>
+    ensures { IfOk result (λ i. i ≡ first_waiting to.number (group_of group.now)) }
+{
+    let Some(hosted) = group else {
+        return Ok(None);
+    };
+    let Some(entry) = hosted.first_for(alloc, to)? else {
+        return Ok(None);
+    };
+    Ok(Some(Item {
+        addr: hosted.addr,
+        entry,
+    }))
+}
+
+/// Takes the first item that waits for the node in the group, to be sent to it.
+fn take_first(group: &mut Option<Hosted>, to: NodeId)
+    requires { IsSome (first_waiting to.number (group_of group.old)) }
+    ensures { group_of group.new ≡ group_took to.number (group_of group.old) }
+{
+    if let Some(hosted) = group {
+        hosted.slot.took(to, 1);
+    }
+}
+
+/// Makes room for the item, where it is one of the group.
+fn make_room(group: &mut Option<Hosted>, item: &Option<Item>) -> Result<(), OutOfMemory>
+    ensures group { group_of group.new ≡ group_of group.old }
+    ensures room { OnOk result (HasRoom item.now group.new) }
+{
+    let Some(item) = item else {
         return Ok(());
     };
-    let taken = hosted.take_in(frames, packet);
-    *group = Some(hosted);
-    taken
+    if let Some(hosted) = group {
+        if is_same(item.addr, hosted.addr) {
+            hosted.slot.ready(1, item.entry.payload.len())?;
+        }
+    }
+    Ok(())
+}
+
+/// Keeps that a node acknowledged the item, where it is one of the group.
+fn finish(group: &mut Option<Hosted>, by: NodeId, item: &Item)
+    ensures group { group_of group.new ≡ on_slot item.now.addr (slot_done by (message_of item.now.entry)) (group_of group.old) }
+    ensures room { KeepsRoom group.old group.new }
+{
+    if let Some(hosted) = group {
+        if is_same(item.addr, hosted.addr) {
+            hosted.slot.done(by, item.entry.message());
+        }
+    }
+}
+
+/// Takes an item in that came from a node, where it is one of the group.
+fn bring(group: &mut Option<Hosted>, from: NodeId, item: &Item)
+    requires { HasRoom (Some item.now) group.old }
+    ensures { group_of group.new ≡ on_slot item.now.addr (slot_came from item.now.entry) (group_of group.old) }
+{
+    if let Some(hosted) = group {
+        if is_same(item.addr, hosted.addr) {
+            let entry = &item.entry;
+            hosted
+                .slot
+                .came(from, entry.origin, entry.seq, entry.payload.as_slice());
+        }
+    }
+}
+
+/// Takes a packet's acknowledgement: the frames that it newly covers are done, and their items in the group. How
+/// many these are.
+fn take_ack(group: &mut Option<Hosted>, sender: &mut Sender<Item>, packet: &Packet) -> u32
+    ensures count { result ≡ length (filter (λ u. covers packet.now.base packet.now.mask u.0) sender.old.undone) }
+    ensures sender { sender.new ≡ without_done packet.now sender.old }
+    ensures group { group_of group.new ≡ fold (item_done packet.now.from) (group_of group.old) (filter (λ u. covers packet.now.base packet.now.mask u.0) sender.old.undone) }
+    ensures room { KeepsRoom group.old group.new }
+{
+    // The proof reads how many frames may be undone.
+    let _ = sender.room();
+    let mut done = 0;
+    while let Some((_, item)) = sender.acked(packet.base, packet.mask) {
+        finish(group, packet.from, &item);
+        done += 1;
+    }
+    done
+}
+
+/// Takes a packet's frame, if it has one: its item goes to the group where its number comes for the first time.
+/// What became of it, and how many items it has then.
+fn take_frame(group: &mut Option<Hosted>, receiver: &mut Receiver, packet: &Packet) -> (Frame, u32)
+    requires { HasRoom packet.now.item group.old }
+    ensures frame { result.0 ≡ (if nat_eq packet.now.frame 0 then Frame.Nothing else kind_of (admission receiver.old packet.now.frame)) }
+    ensures items { result.1 ≡ (if nat_eq packet.now.frame 0 then 0 else count_of (admission receiver.old packet.now.frame) packet.now.item) }
+    ensures receiver { receiver.new ≡ (if nat_eq packet.now.frame 0 then receiver.old else taken receiver.old packet.now.frame (admission receiver.old packet.now.frame)) }
+    ensures group { group_of group.new ≡ (if nat_eq packet.now.frame 0 then group_of group.old else group_came packet.now (admission receiver.old packet.now.frame) (group_of group.old)) }
+{
+    if packet.frame == 0 {
+        return (Frame::Nothing, 0);
+    }
+    match receiver.admit(packet.frame) {
+        Admission::First => {}
+        Admission::Seen => return (Frame::Seen, 0),
+        Admission::Outside => return (Frame::Outside, 0),
+    }
+    match &packet.item {
+        None => (Frame::First, 0),
+        Some(item) => {
+            bring(group, packet.from, item);
+            (Frame::First, 1)
+        }
+    }
+}
+
+/// Notices these nodes in a slot that has room for it, rising.
+fn notice_each(slot: &mut Slot, found: &NodeSet)
+    requires { length (rising found.now) ≤ slot.old.calls }
+    ensures { slot.new.state ≡ slot_noticed_all slot.old.state (rising found.now) }
+{
+    for node in found.nodes() {
+        slot.notice(node);
+    }
+}
+
+/// Notices these nodes in the group, rising. Without memory nothing has changed.
+fn notice_all(group: &mut Option<Hosted>, found: &NodeSet) -> Result<(), OutOfMemory>
+    ensures ok { OnOk result (group_of group.new ≡ group_noticed (rising found.now) (group_of group.old)) }
+    ensures err { OnErr result (group_of group.new ≡ group_of group.old) }
+{
+    if let Some(hosted) = group {
+        hosted.slot.ready(found.count_in(found), 0)?;
+        notice_each(&mut hosted.slot, found);
+    }
+    Ok(())
 }
 
 impl OneNode {
-    /// A node at which nothing has happened.
-    pub fn new(alloc: Global) -> OneNode
-        ensures { result ≡ new_node }
+    /// A node at which nothing has happened, in a cluster of so many. It notices a node that is silent for so
+    /// many ticks.
+    pub fn new(alloc: Global, me: NodeId, nodes: u8, silence: u16) -> OneNode
+        requires cluster { nodes ≤ MOST }
+        requires member { me.number < nodes }
+        requires least { SILENCE_MIN ≤ silence }
+        requires most { silence ≤ SILENCE_MAX }
+        ensures { result ≡ new_node me.number nodes silence }
     {
         OneNode {
             alloc,
             row: None,
             group: None,
-            sent: [0; NODES],
-            received: [
-                FrameSet::new(alloc),
-                FrameSet::new(alloc),
-                FrameSet::new(alloc),
-                FrameSet::new(alloc),
-                FrameSet::new(alloc),
-                FrameSet::new(alloc),
-                FrameSet::new(alloc),
-                FrameSet::new(alloc),
-                FrameSet::new(alloc),
-                FrameSet::new(alloc),
-                FrameSet::new(alloc),
-                FrameSet::new(alloc),
-                FrameSet::new(alloc),
-                FrameSet::new(alloc),
-                FrameSet::new(alloc),
-                FrameSet::new(alloc),
+            senders: [
+                Sender::new(alloc),
+                Sender::new(alloc),
+                Sender::new(alloc),
+                Sender::new(alloc),
+                Sender::new(alloc),
+                Sender::new(alloc),
+                Sender::new(alloc),
+                Sender::new(alloc),
+                Sender::new(alloc),
+                Sender::new(alloc),
+                Sender::new(alloc),
+                Sender::new(alloc),
+                Sender::new(alloc),
+                Sender::new(alloc),
+                Sender::new(alloc),
+                Sender::new(alloc),
             ],
+            receivers: [
+                Receiver::new(),
+                Receiver::new(),
+                Receiver::new(),
+                Receiver::new(),
+                Receiver::new(),
+                Receiver::new(),
+                Receiver::new(),
+                Receiver::new(),
+                Receiver::new(),
+                Receiver::new(),
+                Receiver::new(),
+                Receiver::new(),
+                Receiver::new(),
+                Receiver::new(),
+                Receiver::new(),
+                Receiver::new(),
+            ],
+            detector: Detector::new(me, nodes, silence),
+            stopped: false,
         }
     }
 
@@ -345,7 +471,7 @@ impl OneNode {
         if self.group.is_some() {
             return Reply::Refused(Refusal::NoRoom);
         }
-        match Slot::new(self.alloc, spec.duplicate(), me, &NodeSet::new()) {
+        match Slot::new(self.alloc, spec.duplicate(), me, &self.detector.noticed()) {
             Ok(slot) => {
                 self.group = Some(Hosted { addr, slot });
                 Reply::Done
@@ -401,6 +527,9 @@ impl OneNode {
         ensures reply { (result ≡ Reply.Refused Refusal.OutOfMemory) ⊎ (result ≡ node_reply nodes me.number self.old request.now) }
         ensures state { self.new ≡ node_did me request.now result self.old }
     {
+        if self.stopped {
+            return Reply::Refused(Refusal::Stopped);
+        }
         match request {
             Request::AddTenant(_, row) => self.add_tenant(row),
             Request::Make(_, addr, spec) => self.make(nodes, me, *addr, spec),
@@ -410,50 +539,127 @@ impl OneNode {
         }
     }
 
+    /// Whether frames are sent to the node: it is another one of so many, and was not noticed.
+    fn is_reached(&self, nodes: usize, me: NodeId, to: NodeId) -> bool
+        ensures { result ≡ is_reached nodes me to self.now }
+    {
+        is_another(nodes, me, to) && !self.detector.noticed().contains(to)
+    }
+
+    /// A packet that acknowledges what came from the node so far.
+    fn packet(&self, me: NodeId, to: NodeId, frame: u64, item: Option<Item>) -> Packet
+        ensures { result ≡ packet_for me to self.now frame item }
+    {
+        let (base, mask) = self.receivers[to.index()].ack();
+        Packet {
+            from: me,
+            to,
+            base,
+            mask,
+            frame,
+            item,
+        }
+    }
+
     /// Packs the first item that waits for another node as the next frame of their link. Without memory nothing
     /// has changed.
-    pub fn pack(&mut self, me: NodeId, to: NodeId) -> Result<Option<Packet>, OutOfMemory>
-        ensures packet { IfOk result (λ p. option_to_list p ≡ node_packed me to self.old) }
+    pub fn pack(
+        &mut self,
+        nodes: usize,
+        me: NodeId,
+        to: NodeId,
+    ) -> Result<Option<Packet>, OutOfMemory>
+        ensures packet { IfOk result (λ p. option_to_list p ≡ node_packed nodes me to self.old) }
         ensures state { IfOk result (λ p. self.new ≡ node_sent to (option_to_list p) self.old) }
         ensures err { OnErr result (self.new ≡ self.old) }
     {
-        let sent = self.sent[to.index()];
-        if sent >= LAST_FRAME {
+        if !self.is_reached(nodes, me, to) || !self.senders[to.index()].room() {
             return Ok(None);
         }
-        let Some(mut hosted) = self.group.take() else {
+        let Some(item) = first_item(&self.group, self.alloc, to)? else {
             return Ok(None);
         };
-        let addr = hosted.addr;
-        let first = hosted.first_for(self.alloc, to);
-        if let Ok(Some(_)) = &first {
-            hosted.took_first(to);
-        }
-        self.group = Some(hosted);
-        let Some(entry) = first? else {
-            return Ok(None);
-        };
-        self.sent[to.index()] = sent + 1;
-        Ok(Some(Packet {
-            from: me,
-            to,
-            frame: sent + 1,
-            addr,
-            entry,
-        }))
+        let kept = item.duplicate(self.alloc)?;
+        let number = self.senders[to.index()].push(kept)?;
+        take_first(&mut self.group, to);
+        Ok(Some(self.packet(me, to, number, Some(item))))
     }
 
-    /// Takes a packet in. Whether its frame came for the first time. Without memory nothing has changed.
-    pub fn came(&mut self, packet: &Packet) -> Result<bool, OutOfMemory>
-        ensures first { IfOk result (λ b. b ≡ not (has_received self.old packet.now.from.number packet.now.frame)) }
-        ensures state { OnOk result (self.new ≡ node_came packet.now self.old) }
+    /// The packet with a frame that was not acknowledged, by its number; 0 stands for the lowest such number.
+    pub fn again(
+        &self,
+        nodes: usize,
+        me: NodeId,
+        to: NodeId,
+        number: u64,
+    ) -> Result<Option<Packet>, OutOfMemory>
+        ensures { IfOk result (λ p. option_to_list p ≡ node_again nodes me to number self.now) }
+    {
+        if !self.is_reached(nodes, me, to) {
+            return Ok(None);
+        }
+        let Some((frame, item)) = self.senders[to.index()].again(number) else {
+            return Ok(None);
+        };
+        let copy = item.duplicate(self.alloc)?;
+        Ok(Some(self.packet(me, to, frame, Some(copy))))
+    }
+
+    /// The packet with an acknowledgement alone.
+    pub fn ack(&self, nodes: usize, me: NodeId, to: NodeId) -> Option<Packet>
+        ensures { option_to_list result ≡ node_ack nodes me to self.now }
+    {
+        if is_another(nodes, me, to) {
+            Some(self.packet(me, to, 0, None))
+        } else {
+            None
+        }
+    }
+
+    /// Takes a packet in: its sender is heard, then its acknowledgement counts, then its frame. All growths come
+    /// first: without memory nothing has changed.
+    pub fn came(&mut self, packet: &Packet) -> Result<Good, OutOfMemory>
+        ensures good { IfOk result (λ g. g ≡ good_of packet.now self.old) }
+        ensures state { OnOk result (self.new ≡ node_took packet.now self.old) }
         ensures err { OnErr result (self.new ≡ self.old) }
     {
-        let frames = &mut self.received[packet.from.index()];
-        if frames.contains(packet.frame) {
-            return Ok(false);
-        }
-        take_in(&mut self.group, frames, packet)?;
-        Ok(true)
+        make_room(&mut self.group, &packet.item)?;
+        let from = packet.from;
+        self.detector.heard(from);
+        let sender = &mut self.senders[from.index()];
+        let done = take_ack(&mut self.group, sender, packet);
+        let receiver = &mut self.receivers[from.index()];
+        let (frame, items) = take_frame(&mut self.group, receiver, packet);
+        Ok(Good {
+            from,
+            frame,
+            items,
+            done,
+        })
+    }
+
+    /// The time ticks. The nodes that are noticed now. All growths come first: without memory nothing has
+    /// changed.
+    pub fn tick(&mut self) -> Result<NodeSet, OutOfMemory>
+        ensures found { IfOk result (λ f. f ≡ due self.old.watch) }
+        ensures state { OnOk result (self.new ≡ node_ticked self.old) }
+        ensures err { OnErr result (self.new ≡ self.old) }
+    {
+        notice_all(&mut self.group, &self.detector.due())?;
+        Ok(self.detector.tick())
+    }
+
+    /// Whether the node stopped.
+    pub fn is_stopped(&self) -> bool
+        ensures { result ≡ self.now.stopped }
+    {
+        self.stopped
+    }
+
+    /// Stops the node, for good.
+    pub fn stop(&mut self)
+        ensures { self.new ≡ record self.old { stopped = true } }
+    {
+        self.stopped = true;
     }
 }

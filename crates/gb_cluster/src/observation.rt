@@ -1,18 +1,16 @@
 //! What is seen of a group at its nodes, but for what only the nodes hold.
 ghost use Rattle.std.specs.Prelude.{◌≡◌, ◌++◌, [], ◌∷◌, IfOk, OnOk, IfSome, IfNone, None, map};
 ghost use Rattle.gb_cluster.specs.Observation.{steps_of, upto, observed};
-ghost use Rattle.gb_cluster.specs.Project as projected;
 ghost use Rattle.gb_cluster.specs.Project.{reply_in, replies_to, frames, frame_at, items_in, items_of};
 
 use crate::answer::Answer;
 use crate::event::Event;
 use crate::packet::Packet;
-use crate::projection::{frame_of, is_row_there, is_same};
+use crate::projection::past::{frame_of, is_named, is_row_there, is_same};
 use gb_types::address::Addr;
 use gb_types::entry::{Entries, Entry};
 use gb_types::memory::OutOfMemory;
 use gb_types::reply::Reply;
-use gb_types::request::Request;
 use std::alloc::Global;
 use std::marker::Model;
 
@@ -109,19 +107,6 @@ pub(crate) fn copy_of(alloc: Global, reply: &Reply) -> Result<Reply, OutOfMemory
     })
 }
 
-/// Whether the request names the group.
-fn is_named(addr: Addr, request: &Request) -> bool
-    ensures { result ≡ projected.is_named addr request.now }
-{
-    match request {
-        Request::AddTenant(_, _) => false,
-        Request::Make(_, named, _) => is_same(addr, *named),
-        Request::OpenGroup(_, named) => is_same(addr, *named),
-        Request::Say(_, named, _) => is_same(addr, *named),
-        Request::Fetch(_, named, _, _) => is_same(addr, *named),
-    }
-}
-
 /// The reply that the event brings to the group at the node, after these events.
 fn reply_of<'a>(
     addr: Addr,
@@ -201,6 +186,23 @@ fn replies_at(
     Ok(replies)
 }
 
+/// Adds a copy of the packet's item, where it is the group's.
+fn add_item(
+    alloc: Global,
+    addr: Addr,
+    packet: &Packet,
+    items: &mut Entries,
+) -> Result<(), OutOfMemory>
+    ensures { OnOk result (items.new ≡ items.old ++ items_in addr packet.now) }
+{
+    if let Some(item) = &packet.item {
+        if is_same(addr, item.addr) {
+            items.push(item.entry.duplicate(alloc)?)?;
+        }
+    }
+    Ok(())
+}
+
 /// Adds a copy of the group's items that the event packs at a for b.
 #[tactic(auto, using(crate::proofs::PastLemmas::items_of_one, crate::proofs::PastLemmas::items_of_none))]
 fn add_items(
@@ -216,9 +218,7 @@ fn add_items(
     ensures { OnOk result (items.new ≡ items.old ++ items_of addr (frame_at a b packets.now event.now answer.now)) }
 {
     if let Some(packet) = frame_of(a, b, packets, event, answer) {
-        if is_same(addr, packet.addr) {
-            items.push(packet.entry.duplicate(alloc)?)?;
-        }
+        add_item(alloc, addr, packet, items)?;
     }
     Ok(())
 }

@@ -5,7 +5,7 @@
 pub struct Plan {
     /// How many nodes, 1 to 16.
     pub nodes: u8,
-    /// How many ticks without a good packet make a node noticed, 2 to 1,000. Nothing reads it yet.
+    /// How many ticks without a good packet make a node noticed, 2 to 1,000.
     pub silence: u16,
     /// How many groups the tenants of a node may reserve in all. Nothing reads it yet.
     pub places: u16,

@@ -1,172 +1,49 @@
 //! The projection of a run on one group, computed plainly from its meaning.
-ghost use Rattle.std.specs.Prelude.{◌≡◌, ◌+◌, ◌-◌, ◌<◌, ◌≤◌, ◌++◌, [], ◌∷◌, IfOk, OnOk, IfSome, IfNone, None, length, take};
+ghost use Rattle.std.specs.Prelude.{◌≡◌, ◌+◌, ◌-◌, ◌++◌, ◌&&◌, [], ◌∷◌, IfOk, OnOk, IfSome, None, length, take, if◌then◌else◌};
+ghost use Rattle.std.specs.FinSet as set;
 ghost use Rattle.std.specs.Option.{option_to_list};
 ghost use Rattle.gb_cluster.specs.Observation.{steps_of};
-ghost use Rattle.gb_cluster.specs.Project.{is_addr, is_taken_in, has_row, packet_at, frame_at, frames, items_in, items_of, is_taken_by, is_taken, command_for, requested, took, arrived, gives};
+ghost use Rattle.gb_cluster.specs.Project.{packet_at, frames, items_in, items_of, is_taken, is_noticed, made_at, notices, command_for, made_notices, requested, is_met, with_stop, asked, took, comes, acknowledged, all_acknowledged, is_new_ack, arrived, ticked, gives};
 ghost use Rattle.gb_cluster.specs.Project as projected;
 ghost use Rattle.gb_cluster.specs.Rules.{reserve_of};
+ghost use Rattle.gb_slot.specs.Rules.{is_other};
+ghost use Rattle.gb_cluster.specs.declared.group.GroupEvent.TheVariants.{Notice as Noticed_so};
 
-use crate::answer::{Answer, Sent, Taken};
+pub(crate) mod past;
+
+use crate::answer::{Answer, Sent, Taken, Ticked};
 use crate::event::Event;
 use crate::group::{GroupEvent, GroupStep, Reserve};
 use crate::packet::Packet;
+use crate::projection::past::{
+    count_in, frame_of, is_row_there, is_same, items_before, made_with, packet_of,
+    was_acknowledged, was_met, was_noticed, was_stopped, was_taken,
+};
+use gb_link::ack::covers;
 use gb_types::address::Addr;
+use gb_types::limits::NODES;
 use gb_types::memory::OutOfMemory;
-use gb_types::node::NodeId;
+use gb_types::node::{NodeId, NodeSet};
 use gb_types::reply::Reply;
 use gb_types::request::Request;
-use gb_types::spec::TenantRow;
+use gb_types::spec::{Spec, TenantRow};
 use std::alloc::Global;
-
-/// Whether the group has this address.
-pub(crate) fn is_same(addr: Addr, other: Addr) -> bool
-    ensures { result ≡ is_addr addr other }
-{
-    addr.tenant == other.tenant && addr.group == other.group
-}
-
-/// Whether the node took the tenant in.
-fn takes_in(a: u8, tenant: u16, event: &Event, answer: &Answer) -> bool
-    ensures { result ≡ is_taken_in a tenant event.now answer.now }
-{
-    match event {
-        Event::At(node, Request::AddTenant(_, row)) => match answer {
-            Answer::Reply(Reply::Done) => node.number == a && row.tenant == tenant,
-            _ => false,
-        },
-        _ => false,
-    }
-}
-
-/// Whether the node has a row of the tenant after these events.
-#[tactic(auto, using(crate::proofs::PastLemmas::newest, crate::proofs::PastLemmas::all_steps, crate::proofs::PastLemmas::no_steps), unfolding(crate::specs::Project::has_row))]
-pub(crate) fn is_row_there(a: u8, tenant: u16, events: &[Event], answers: &[Answer]) -> bool
-    ensures { result ≡ has_row a tenant (steps_of events.now answers.now) }
-{
-    let count = events.len().min(answers.len());
-    let mut found = false;
-    for i in 0..count {
-        found = takes_in(a, tenant, &events[i], &answers[i]) || found;
-    }
-    found
-}
-
-/// The packet with the number.
-fn packet_of(packets: &[Packet], number: u64) -> Option<&Packet>
-    ensures none { IfNone result (packet_at packets.now number ≡ []) }
-    ensures some { IfSome result (λ p. packet_at packets.now number ≡ p.now ∷ []) }
-{
-    if number == 0 {
-        return None;
-    }
-    packets.get((number - 1) as usize)
-}
-
-/// Whether the frame from a was taken at b.
-fn takes(a: u8, b: u8, frame: u64, packets: &[Packet], event: &Event, answer: &Answer) -> bool
-    ensures { result ≡ is_taken_by a b frame packets.now event.now answer.now }
-{
-    match event {
-        Event::Arrive(number) => match answer {
-            Answer::Taken(Taken::Good(_)) => match packet_of(packets, *number) {
-                None => false,
-                Some(packet) => {
-                    packet.from.number == a && packet.to.number == b && packet.frame == frame
-                }
-            },
-            _ => false,
-        },
-        _ => false,
-    }
-}
-
-/// Whether the frame from a was taken at b in these events.
-#[tactic(auto, using(crate::proofs::PastLemmas::newest, crate::proofs::PastLemmas::all_steps, crate::proofs::PastLemmas::no_steps), unfolding(crate::specs::Project::is_taken))]
-fn was_taken(
-    a: u8,
-    b: u8,
-    frame: u64,
-    packets: &[Packet],
-    events: &[Event],
-    answers: &[Answer],
-) -> bool
-    ensures { result ≡ is_taken a b frame packets.now (steps_of events.now answers.now) }
-{
-    let count = events.len().min(answers.len());
-    let mut taken = false;
-    for i in 0..count {
-        taken = takes(a, b, frame, packets, &events[i], &answers[i]) || taken;
-    }
-    taken
-}
-
-/// How many items of the group the packet has.
-fn count_in(addr: Addr, packet: &Packet) -> usize
-    ensures count { result ≡ length (items_in addr packet.now) }
-    ensures one { result ≤ 1 }
-{
-    if is_same(addr, packet.addr) { 1 } else { 0 }
-}
-
-/// The packet that the event packs at a for b.
-pub(crate) fn frame_of<'a>(
-    a: u8,
-    b: u8,
-    packets: &'a [Packet],
-    event: &Event,
-    answer: &Answer,
-) -> Option<&'a Packet>
-    ensures none { IfNone result (frame_at a b packets.now event.now answer.now ≡ []) }
-    ensures some { IfSome result (λ p. frame_at a b packets.now event.now answer.now ≡ p.now ∷ []) }
-{
-    match event {
-        Event::Pack(x, y) => match answer {
-            Answer::Sent(Sent::Packet(number)) => {
-                if x.number == a && y.number == b {
-                    packet_of(packets, *number)
-                } else {
-                    None
-                }
-            }
-            _ => None,
-        },
-        _ => None,
-    }
-}
-
-/// How many items of the group stand in the first frames from a to b.
-#[tactic(auto, using(crate::proofs::PastLemmas::all_steps))]
-fn items_before(
-    addr: Addr,
-    a: u8,
-    b: u8,
-    first: u64,
-    packets: &[Packet],
-    events: &[Event],
-    answers: &[Answer],
-) -> usize
-    ensures count { result ≡ length (items_of addr (take first (frames a b packets.now (steps_of events.now answers.now)))) }
-    ensures few { result ≤ length events.now }
-{
-    let count = events.len().min(answers.len());
-    let mut items = 0;
-    let mut seen = 0usize;
-    for i in 0..count {
-        if let Some(packet) = frame_of(a, b, packets, &events[i], &answers[i]) {
-            if (seen as u64) < first {
-                items += count_in(addr, packet);
-            }
-            seen += 1;
-        }
-    }
-    items
-}
 
 /// What the group is told at the node.
 fn at(node: NodeId, event: GroupEvent) -> GroupStep
     ensures { result ≡ record { node = node; event = event } }
 {
     GroupStep { node, event }
+}
+
+/// Adds a step at the end, where there is one.
+fn add(step: Option<GroupStep>, steps: &mut Vec<GroupStep>) -> Result<(), OutOfMemory>
+    ensures { OnOk result (steps.new.items ≡ steps.old.items ++ option_to_list step) }
+{
+    if let Some(step) = step {
+        steps.push(step)?;
+    }
+    Ok(())
 }
 
 /// What a row lets each group of its tenant have.
@@ -220,7 +97,130 @@ fn command(
     }
 }
 
-/// What a request with its reply gives the group, after these events.
+/// Adds the notice of a node, where it is another member and is new.
+fn add_notice(
+    node: NodeId,
+    spec: &Spec,
+    other: NodeId,
+    new: bool,
+    steps: &mut Vec<GroupStep>,
+) -> Result<(), OutOfMemory>
+    ensures { OnOk result (steps.new.items ≡ steps.old.items ++ (if is_other spec.now node.number other.number && new then record { node = node; event = Noticed_so other } ∷ [] else [])) }
+{
+    if spec.members.contains(other) && other.number != node.number && new {
+        steps.push(at(node, GroupEvent::Notice(other)))?;
+    }
+    Ok(())
+}
+
+/// Adds the group's notices of the nodes that were noticed in these events.
+fn add_noticed(
+    node: NodeId,
+    spec: &Spec,
+    events: &[Event],
+    answers: &[Answer],
+    steps: &mut Vec<GroupStep>,
+) -> Result<(), OutOfMemory>
+    ensures { OnOk result (steps.new.items ≡ steps.old.items ++ notices node spec.now (λ b. is_noticed node.number b (steps_of events.now answers.now))) }
+{
+    for b in 0..NODES {
+        let other = NodeId::new(b as u8);
+        let new = was_noticed(node.number, other, events, answers);
+        add_notice(node, spec, other, new, steps)?;
+    }
+    Ok(())
+}
+
+/// Adds the group's notices of the nodes that were found.
+fn add_found(
+    node: NodeId,
+    spec: &Spec,
+    found: &NodeSet,
+    steps: &mut Vec<GroupStep>,
+) -> Result<(), OutOfMemory>
+    ensures { OnOk result (steps.new.items ≡ steps.old.items ++ notices node spec.now (set.contains found.now)) }
+{
+    for b in 0..NODES {
+        let other = NodeId::new(b as u8);
+        add_notice(node, spec, other, found.contains(other), steps)?;
+    }
+    Ok(())
+}
+
+/// Adds the notices of a group that is made, after these events.
+fn of_make(
+    addr: Addr,
+    events: &[Event],
+    answers: &[Answer],
+    node: NodeId,
+    request: &Request,
+    reply: &Reply,
+    steps: &mut Vec<GroupStep>,
+) -> Result<(), OutOfMemory>
+    ensures { OnOk result (steps.new.items ≡ steps.old.items ++ made_notices addr (steps_of events.now answers.now) node request.now reply.now) }
+{
+    if let Request::Make(_, named, spec) = request {
+        if let Reply::Done = reply {
+            if is_same(addr, *named) {
+                return add_noticed(node, spec, events, answers, steps);
+            }
+        }
+    }
+    Ok(())
+}
+
+/// Adds what a request with its reply gives the group at a node that has not stopped, after these events.
+fn of_running(
+    alloc: Global,
+    addr: Addr,
+    events: &[Event],
+    answers: &[Answer],
+    node: NodeId,
+    request: &Request,
+    reply: &Reply,
+    steps: &mut Vec<GroupStep>,
+) -> Result<(), OutOfMemory>
+    ensures { OnOk result (steps.new.items ≡ steps.old.items ++ requested addr (steps_of events.now answers.now) node request.now reply.now) }
+{
+    if let Request::AddTenant(_, row) = request {
+        if let Reply::Done = reply {
+            if row.tenant == addr.tenant {
+                steps.push(at(node, GroupEvent::Tenant(reserve(row))))?;
+            }
+        }
+        return Ok(());
+    }
+    if !is_row_there(node.number, addr.tenant, events, answers) {
+        return Ok(());
+    }
+    let step = command(alloc, addr, node, request)?;
+    add(step, steps)?;
+    of_make(addr, events, answers, node, request, reply, steps)
+}
+
+/// Adds what a request gives the group at a node that has stopped, after these events: the first command of the
+/// group shows the stop.
+fn of_stopped(
+    alloc: Global,
+    addr: Addr,
+    events: &[Event],
+    answers: &[Answer],
+    node: NodeId,
+    request: &Request,
+    steps: &mut Vec<GroupStep>,
+) -> Result<(), OutOfMemory>
+    ensures { OnOk result (steps.new.items ≡ steps.old.items ++ with_stop node (is_met addr node.number (steps_of events.now answers.now)) (command_for addr node request.now)) }
+{
+    if let Some(step) = command(alloc, addr, node, request)? {
+        if !was_met(addr, node.number, events, answers) {
+            steps.push(at(node, GroupEvent::Stop))?;
+        }
+        steps.push(step)?;
+    }
+    Ok(())
+}
+
+/// Adds what a request with its reply gives the group, after these events.
 fn of_request(
     alloc: Global,
     addr: Addr,
@@ -229,21 +229,17 @@ fn of_request(
     node: NodeId,
     request: &Request,
     reply: &Reply,
-) -> Result<Option<GroupStep>, OutOfMemory>
-    ensures { IfOk result (λ s. option_to_list s ≡ requested addr (steps_of events.now answers.now) node request.now reply.now) }
+    steps: &mut Vec<GroupStep>,
+) -> Result<(), OutOfMemory>
+    ensures { OnOk result (steps.new.items ≡ steps.old.items ++ asked addr (steps_of events.now answers.now) node request.now reply.now) }
 {
-    if let Request::AddTenant(_, row) = request {
-        if let Reply::Done = reply {
-            if row.tenant == addr.tenant {
-                return Ok(Some(at(node, GroupEvent::Tenant(reserve(row)))));
-            }
-        }
-        return Ok(None);
+    if !was_stopped(node.number, events, answers) {
+        return of_running(alloc, addr, events, answers, node, request, reply, steps);
     }
-    if !is_row_there(node.number, addr.tenant, events, answers) {
-        return Ok(None);
+    if is_row_there(node.number, addr.tenant, events, answers) {
+        return of_stopped(alloc, addr, events, answers, node, request, steps);
     }
-    command(alloc, addr, node, request)
+    Ok(())
 }
 
 /// What a packet that is sent gives the group.
@@ -253,24 +249,87 @@ fn of_sent(addr: Addr, a: NodeId, b: NodeId, packet: Option<&Packet>) -> Option<
     ensures some { IfSome packet.entry (λ p. option_to_list result ≡ took a b (length (items_of addr (p.now ∷ [])))) }
 {
     let packet = packet?;
-    if !is_same(addr, packet.addr) {
+    if count_in(addr, packet) == 0 {
         return None;
     }
     Some(at(a, GroupEvent::Took(b, 1)))
 }
 
-/// What a packet that arrives gives the group, after these events.
-fn of_packet(
+/// Adds the acknowledgement of a frame's items, of which the first has this place.
+fn add_acknowledged(
+    addr: Addr,
+    a: NodeId,
+    b: NodeId,
+    place: u64,
+    frame: &Packet,
+    steps: &mut Vec<GroupStep>,
+) -> Result<(), OutOfMemory>
+    ensures { OnOk result (steps.new.items ≡ steps.old.items ++ acknowledged a b place (length (items_in addr frame.now))) }
+{
+    if count_in(addr, frame) != 0 {
+        steps.push(at(a, GroupEvent::Acknowledged(b, place, 1)))?;
+    }
+    Ok(())
+}
+
+/// Whether the packet, after these events, acknowledges the frame with this number for the first time.
+fn is_new(
+    packets: &[Packet],
+    events: &[Event],
+    answers: &[Answer],
+    packet: &Packet,
+    frame: u64,
+) -> bool
+    ensures { result ≡ is_new_ack packets.now (steps_of events.now answers.now) packet.now frame }
+{
+    let from = packet.from.number;
+    let to = packet.to.number;
+    covers(packet.base, packet.mask, frame)
+        && !was_acknowledged(to, from, frame, packets, events, answers)
+}
+
+/// Adds what the acknowledgement of a packet that arrives gives the group, after these events.
+#[tactic(auto, using(crate::proofs::PastLemmas::all_steps))]
+fn of_acknowledgement(
     addr: Addr,
     packets: &[Packet],
     events: &[Event],
     answers: &[Answer],
-    packet: Option<&Packet>,
-) -> Option<GroupStep>
-    ensures none { packet.entry ≡ None → result ≡ None }
-    ensures some { IfSome packet.entry (λ p. option_to_list result ≡ arrived addr packets.now (steps_of events.now answers.now) (p.now ∷ [])) }
+    packet: &Packet,
+    steps: &mut Vec<GroupStep>,
+) -> Result<(), OutOfMemory>
+    ensures { OnOk result (steps.new.items ≡ steps.old.items ++ all_acknowledged addr packet.now.to packet.now.from (is_new_ack packets.now (steps_of events.now answers.now) packet.now) 1 0 (frames packet.now.to.number packet.now.from.number packets.now (steps_of events.now answers.now))) }
 {
-    let packet = packet?;
+    let a = packet.to;
+    let b = packet.from;
+    let count = events.len().min(answers.len());
+    let mut items = 0;
+    let mut seen = 0usize;
+    for i in 0..count {
+        if let Some(frame) = frame_of(a.number, b.number, packets, &events[i], &answers[i]) {
+            if is_new(packets, events, answers, packet, seen as u64 + 1) {
+                add_acknowledged(addr, a, b, items as u64 + 1, frame, steps)?;
+            }
+            items += count_in(addr, frame);
+            seen += 1;
+        }
+    }
+    Ok(())
+}
+
+/// What the item of a packet that arrives gives the group, after these events.
+fn of_item(
+    addr: Addr,
+    packets: &[Packet],
+    events: &[Event],
+    answers: &[Answer],
+    packet: &Packet,
+) -> Option<GroupStep>
+    ensures { let p = packet.now in
+        let steps = steps_of events.now answers.now in
+        option_to_list result ≡ (if is_taken p.from.number p.to.number p.frame packets.now steps then []
+        else comes p.from p.to (length (items_of addr (take (p.frame - 1) (frames p.from.number p.to.number packets.now steps)))) (length (items_in addr p))) }
+{
     let from = packet.from;
     let to = packet.to;
     if was_taken(
@@ -283,7 +342,7 @@ fn of_packet(
     ) {
         return None;
     }
-    if !is_same(addr, packet.addr) {
+    if count_in(addr, packet) == 0 {
         return None;
     }
     let before = packet.frame.saturating_sub(1);
@@ -299,7 +358,43 @@ fn of_packet(
     Some(at(to, GroupEvent::Came(from, place + 1)))
 }
 
-/// What an event with its answer gives the group, after these events.
+/// Adds what the packet with the number gives the group when it arrives, after these events: its acknowledgement
+/// counts first.
+fn of_packet(
+    addr: Addr,
+    packets: &[Packet],
+    events: &[Event],
+    answers: &[Answer],
+    number: u64,
+    steps: &mut Vec<GroupStep>,
+) -> Result<(), OutOfMemory>
+    ensures { OnOk result (steps.new.items ≡ steps.old.items ++ arrived addr packets.now (steps_of events.now answers.now) (packet_at packets.now number)) }
+{
+    if let Some(packet) = packet_of(packets, number) {
+        of_acknowledgement(addr, packets, events, answers, packet, steps)?;
+        add(of_item(addr, packets, events, answers, packet), steps)?;
+    }
+    Ok(())
+}
+
+/// Adds what a tick that found these nodes gives the group, after these events.
+fn of_tick(
+    addr: Addr,
+    events: &[Event],
+    answers: &[Answer],
+    node: NodeId,
+    found: &NodeSet,
+    steps: &mut Vec<GroupStep>,
+) -> Result<(), OutOfMemory>
+    ensures { OnOk result (steps.new.items ≡ steps.old.items ++ ticked node found.now (made_at addr node.number (steps_of events.now answers.now))) }
+{
+    match made_with(addr, node.number, events, answers) {
+        None => Ok(()),
+        Some(spec) => add_found(node, spec, found, steps),
+    }
+}
+
+/// Adds what an event with its answer gives the group, after these events.
 fn of_step(
     alloc: Global,
     addr: Addr,
@@ -308,43 +403,37 @@ fn of_step(
     answers: &[Answer],
     event: &Event,
     answer: &Answer,
-) -> Result<Option<GroupStep>, OutOfMemory>
-    ensures { IfOk result (λ s. option_to_list s ≡ gives addr packets.now (steps_of events.now answers.now) event.now answer.now) }
+    steps: &mut Vec<GroupStep>,
+) -> Result<(), OutOfMemory>
+    ensures { OnOk result (steps.new.items ≡ steps.old.items ++ gives addr packets.now (steps_of events.now answers.now) event.now answer.now) }
 {
     match event {
         Event::At(node, request) => match answer {
-            Answer::Reply(reply) => {
-                of_request(alloc, addr, events, answers, *node, request, reply)
-            }
-            _ => Ok(None),
+            Answer::Reply(reply) => of_request(
+                alloc, addr, events, answers, *node, request, reply, steps,
+            ),
+            _ => Ok(()),
         },
         Event::Pack(a, b) => match answer {
             Answer::Sent(Sent::Packet(number)) => {
-                Ok(of_sent(addr, *a, *b, packet_of(packets, *number)))
+                add(of_sent(addr, *a, *b, packet_of(packets, *number)), steps)
             }
-            _ => Ok(None),
+            _ => Ok(()),
         },
         Event::Arrive(number) => match answer {
-            Answer::Taken(Taken::Good(_)) => Ok(of_packet(
-                addr,
-                packets,
-                events,
-                answers,
-                packet_of(packets, *number),
-            )),
-            _ => Ok(None),
+            Answer::Taken(Taken::Good(_)) => {
+                of_packet(addr, packets, events, answers, *number, steps)
+            }
+            _ => Ok(()),
         },
+        Event::Tick(node) => match answer {
+            Answer::Ticked(Ticked::Noticed(found)) => {
+                of_tick(addr, events, answers, *node, found, steps)
+            }
+            _ => Ok(()),
+        },
+        _ => Ok(()),
     }
-}
-
-/// Adds a step at the end, where there is one.
-fn add(steps: &mut Vec<GroupStep>, step: Option<GroupStep>) -> Result<(), OutOfMemory>
-    ensures { OnOk result (steps.new.items ≡ steps.old.items ++ option_to_list step) }
-{
-    if let Some(step) = step {
-        steps.push(step)?;
-    }
-    Ok(())
 }
 
 /// The projection of a run on the group: what concerns it of events, answers and packets. Events beyond the
@@ -364,8 +453,16 @@ pub fn project(
     for i in 0..count {
         let before = &events[..i];
         let past = &answers[..i];
-        let step = of_step(alloc, addr, packets, before, past, &events[i], &answers[i])?;
-        add(&mut steps, step)?;
+        of_step(
+            alloc,
+            addr,
+            packets,
+            before,
+            past,
+            &events[i],
+            &answers[i],
+            &mut steps,
+        )?;
     }
     Ok(steps)
 }

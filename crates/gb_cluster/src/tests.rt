@@ -1,7 +1,7 @@
 //! Runs of small clusters, answer by answer.
 ghost use Rattle.std.specs.Prelude.{◌≡◌};
 
-use crate::answer::{Answer, Frame, Sent, Taken};
+use crate::answer::{Answer, Frame, Good, Halted, Sent, Taken, Ticked};
 use crate::cluster::Cluster;
 use crate::event::Event;
 use crate::model::alone;
@@ -26,7 +26,8 @@ use std::test::Fail;
 const TOKEN: [u8; 32] = [0; 32];
 
 fn plan(nodes: u8) -> Plan
-    ensures { result.nodes ≡ nodes }
+    ensures nodes { result.nodes ≡ nodes }
+    ensures silence { result.silence ≡ 2 }
 {
     Plan {
         nodes,
@@ -91,21 +92,47 @@ fn fetch(addr: Addr) -> Request {
     Request::Fetch(TOKEN, addr, 0, 16)
 }
 
+// What was made of a packet, in words.
+fn told_good(good: &Good) -> &'static [u8] {
+    match (good.frame, good.items, good.done) {
+        (Frame::First, 1, 0) => b"first",
+        (Frame::First, 1, 1) => b"first, one done",
+        (Frame::Seen, 0, 0) => b"seen",
+        (Frame::Nothing, 0, 0) => b"heard",
+        (Frame::Nothing, 0, 1) => b"one done",
+        _ => b"other",
+    }
+}
+
+// Which of the nodes 0, 1 and 2 are noticed, in words.
+fn told_noticed(rt: &impl Abort, found: &NodeSet) -> &'static [u8] {
+    let has = |number| found.contains(node(rt, number));
+    match (has(0), has(1), has(2)) {
+        (false, false, false) => b"nobody",
+        (true, false, false) => b"noticed 0",
+        (false, true, false) => b"noticed 1",
+        (false, false, true) => b"noticed 2",
+        (false, true, true) => b"noticed 1 2",
+        _ => b"noticed others",
+    }
+}
+
 // An answer in words; a reply as it is written elsewhere.
-fn told(alloc: Global, answer: &Answer) -> Result<Vec<u8>, OutOfMemory> {
+fn told(rt: &impl Abort, alloc: Global, answer: &Answer) -> Result<Vec<u8>, OutOfMemory> {
     let words: &[u8] = match answer {
         Answer::Reply(reply) => return reply_text(alloc, reply),
-        Answer::Taken(Taken::Good(good)) => match (good.frame, good.items) {
-            (Frame::First, 1) => b"first",
-            (Frame::Seen, 0) => b"seen",
-            _ => b"other",
-        },
+        Answer::Taken(Taken::Good(good)) => told_good(good),
         Answer::Taken(Taken::Refused(_)) => b"lost",
         Answer::Sent(Sent::Packet(1)) => b"packet 1",
         Answer::Sent(Sent::Packet(2)) => b"packet 2",
+        Answer::Sent(Sent::Packet(3)) => b"packet 3",
         Answer::Sent(Sent::Packet(_)) => b"packet",
         Answer::Sent(Sent::Nothing) => b"nothing",
         Answer::Sent(Sent::Refused(_)) => b"not sent",
+        Answer::Ticked(Ticked::Noticed(found)) => told_noticed(rt, found),
+        Answer::Ticked(Ticked::Refused(_)) => b"no tick",
+        Answer::Halted(Halted::Done) => b"stopped",
+        Answer::Halted(Halted::Refused(_)) => b"stopped before",
         Answer::NoPacket => b"no packet",
     };
     Ok(Vec::from_slice(alloc, words)?)
@@ -149,7 +176,7 @@ fn run(
     let trace = Cluster::run(alloc, plan(nodes), events.as_slice())?;
     assert_eq!(rt; trace.answers.len(), wanted.len());
     for (answer, (_, want)) in trace.answers.iter().zip(wanted) {
-        assert_eq!(rt; told(alloc, answer)?.as_slice(), want.as_bytes());
+        assert_eq!(rt; told(rt, alloc, answer)?.as_slice(), want.as_bytes());
     }
     assert!(rt; !trace.refused);
     compare_with_alone(rt, alloc, nodes, events.as_slice(), &trace, served)?;
@@ -252,6 +279,126 @@ fn nothing_is_sent_and_nothing_comes(rt: HostRuntime) -> Result<(), Fail> {
             (Event::Pack(a, b), "nothing"),
             (Event::Arrive(2), "no packet"),
             (Event::Arrive(1), "first"),
+        ],
+    )?;
+    Ok(())
+}
+
+#[test]
+fn frames_are_acknowledged_and_sent_again(rt: HostRuntime) -> Result<(), Fail> {
+    let alloc = rt.alloc();
+    let (a, b) = (node(&rt, 0), node(&rt, 1));
+    let g = addr(7, 1);
+    let trace = run(
+        &rt,
+        alloc,
+        2,
+        g,
+        &[
+            (Event::At(a, tenant(7)), "ok"),
+            (Event::At(b, tenant(7)), "ok"),
+            (Event::At(a, make(g, &[a, b])), "ok"),
+            (Event::At(b, make(g, &[a, b])), "ok"),
+            (Event::At(a, open(g)), "ok"),
+            (Event::At(a, say(alloc, g, b"x")?), "said 1"),
+            (Event::At(a, say(alloc, g, b"y")?), "said 2"),
+            (Event::Pack(a, b), "packet 1"),
+            (Event::Pack(a, b), "packet 2"),
+            (Event::Arrive(2), "first"),
+            (Event::Ack(b, a), "packet 3"),
+            (Event::Arrive(3), "one done"),
+            (Event::Arrive(3), "heard"),
+            (Event::Again(a, b, 2), "nothing"),
+            (Event::Again(a, b, 1), "packet"),
+            (Event::Arrive(4), "first"),
+            (Event::Arrive(1), "seen"),
+            (Event::Ack(b, a), "packet"),
+            (Event::Arrive(5), "one done"),
+            (Event::Again(a, b, 0), "nothing"),
+            (Event::At(b, fetch(g)), "log 2 0:2:79 0:1:78"),
+        ],
+    )?;
+    assert_eq!(rt; trace.packets.len(), 5);
+    assert_eq!(rt; trace.packets[3].frame, 1);
+    assert_eq!(rt; trace.packets[2].base, 1);
+    assert_eq!(rt; trace.packets[2].mask, 2);
+    assert_eq!(rt; trace.packets[4].base, 3);
+    Ok(())
+}
+
+#[test]
+fn a_silent_node_is_noticed(rt: HostRuntime) -> Result<(), Fail> {
+    let alloc = rt.alloc();
+    let (a, b, c) = (node(&rt, 0), node(&rt, 1), node(&rt, 2));
+    let (g, h) = (addr(7, 1), addr(7, 0));
+    run(
+        &rt,
+        alloc,
+        3,
+        g,
+        &[
+            (Event::At(a, tenant(7)), "ok"),
+            (Event::At(c, tenant(7)), "ok"),
+            (Event::At(a, make(g, &[a, b, c])), "ok"),
+            (Event::At(a, open(g)), "ok"),
+            (Event::At(a, say(alloc, g, b"x")?), "said 1"),
+            (Event::Pack(a, c), "packet 1"),
+            (Event::Ack(c, a), "packet 2"),
+            (Event::Tick(a), "nobody"),
+            (Event::Arrive(2), "heard"),
+            (Event::Tick(a), "noticed 1"),
+            (Event::Tick(a), "noticed 2"),
+            (Event::Tick(a), "nobody"),
+            (Event::Pack(a, b), "nothing"),
+            (Event::Again(a, c, 1), "nothing"),
+            (Event::Ack(a, c), "packet 3"),
+            (Event::At(a, say(alloc, g, b"y")?), "said 2"),
+            (Event::Pack(a, c), "nothing"),
+            (Event::At(a, fetch(g)), "log 2 0:1:78 0:2:79"),
+            (Event::Tick(c), "nobody"),
+            (Event::Tick(c), "noticed others"),
+            (Event::At(c, make(g, &[a, c])), "ok"),
+            (Event::At(c, open(g)), "ok"),
+            (Event::At(c, say(alloc, g, b"z")?), "said 1"),
+            (Event::Pack(c, a), "nothing"),
+            (Event::Arrive(1), "first"),
+            (Event::At(c, fetch(g)), "log 2 2:1:7a 0:1:78"),
+            (Event::At(c, make(h, &[c])), "refused 12 NoRoom"),
+        ],
+    )?;
+    Ok(())
+}
+
+#[test]
+fn a_stopped_node_refuses_all(rt: HostRuntime) -> Result<(), Fail> {
+    let alloc = rt.alloc();
+    let (a, b) = (node(&rt, 0), node(&rt, 1));
+    let g = addr(7, 1);
+    run(
+        &rt,
+        alloc,
+        2,
+        g,
+        &[
+            (Event::At(a, tenant(7)), "ok"),
+            (Event::At(b, tenant(7)), "ok"),
+            (Event::At(a, make(g, &[a, b])), "ok"),
+            (Event::At(b, make(g, &[a, b])), "ok"),
+            (Event::At(a, open(g)), "ok"),
+            (Event::At(a, say(alloc, g, b"x")?), "said 1"),
+            (Event::Pack(a, b), "packet 1"),
+            (Event::Stop(b), "stopped"),
+            (Event::Stop(b), "stopped before"),
+            (Event::Arrive(1), "lost"),
+            (Event::Arrive(9), "no packet"),
+            (Event::Tick(b), "no tick"),
+            (Event::Pack(b, a), "not sent"),
+            (Event::Again(b, a, 0), "not sent"),
+            (Event::Ack(b, a), "not sent"),
+            (Event::At(b, fetch(g)), "refused 15 Stopped"),
+            (Event::At(b, open(g)), "refused 15 Stopped"),
+            (Event::At(b, tenant(8)), "refused 15 Stopped"),
+            (Event::At(a, fetch(g)), "log 1 0:1:78"),
         ],
     )?;
     Ok(())

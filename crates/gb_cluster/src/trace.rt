@@ -1,18 +1,19 @@
 //! Whole runs of a cluster.
 ghost use Rattle.std.specs.Prelude.{◌≡◌, ◌≤◌, ◌↔◌, IsTrue, IfOk};
 ghost use Rattle.std.specs.List.{list_any};
-ghost use Rattle.gb_types.specs.declared.limits.TheConstants.{NODES as MOST};
+ghost use Rattle.gb_types.specs.declared.limits.TheConstants.{NODES as MOST, SILENCE_MIN, SILENCE_MAX};
 ghost use Rattle.gb_cluster.specs.Headline.{ArePlaced};
 ghost use Rattle.gb_cluster.specs.Observation.{steps_of};
 ghost use Rattle.gb_cluster.specs.Observed.{AreObserved};
 ghost use Rattle.gb_cluster.specs.Trace.{is_starved, IsRun};
 ghost use Rattle.gb_cluster.specs.World.{World};
 
-use crate::answer::{Answer, Sent, Taken};
+use crate::answer::{Answer, Halted, Sent, Taken, Ticked};
 use crate::cluster::{Cluster, is_placed};
 use crate::event::Event;
 use crate::packet::Packet;
 use crate::plan::Plan;
+use gb_types::limits::{SILENCE_MAX, SILENCE_MIN};
 use gb_types::memory::OutOfMemory;
 use gb_types::refusal::Refusal;
 use gb_types::reply::Reply;
@@ -37,6 +38,8 @@ fn is_refused(answer: &Answer) -> bool
         Answer::Reply(Reply::Refused(why)) => *why == Refusal::OutOfMemory,
         Answer::Taken(Taken::Refused(why)) => *why == Refusal::OutOfMemory,
         Answer::Sent(Sent::Refused(why)) => *why == Refusal::OutOfMemory,
+        Answer::Ticked(Ticked::Refused(why)) => *why == Refusal::OutOfMemory,
+        Answer::Halted(Halted::Refused(why)) => *why == Refusal::OutOfMemory,
         _ => false,
     }
 }
@@ -66,8 +69,10 @@ impl Cluster {
     pub fn run(alloc: Global, plan: Plan, events: &[Event]) -> Result<Trace, OutOfMemory>
         requires some { 1 ≤ plan.nodes }
         requires few { plan.nodes ≤ MOST }
+        requires least { SILENCE_MIN ≤ plan.silence }
+        requires most { plan.silence ≤ SILENCE_MAX }
         requires placed { ArePlaced plan.nodes events.now }
-        ensures run { IfOk result (λ t. (w : World) × IsRun plan.nodes events.now t.answers.items t.packets.items w) }
+        ensures run { IfOk result (λ t. (w : World) × IsRun plan.nodes plan.silence events.now t.answers.items t.packets.items w) }
         ensures observed { IfOk result (λ t. AreObserved plan.nodes t.packets.items (steps_of events.now t.answers.items)) }
         ensures refused { IfOk result (λ t. t.refused ≡ list_any is_starved t.answers.items) }
     {

@@ -4,7 +4,7 @@ use Rattle.std.specs.Result.{IfOk}
 use Rattle.std.specs.Option.{IfSome}
 use Rattle.gb_schedule.specs.declared.command.Command.{Command}
 use Rattle.gb_schedule.specs.declared.head.Head.{Head}
-use Rattle.gb_schedule.specs.declared.head.Head.TheVariants.{Cluster, Tenant, Make, Open, Say, Fetch, Pack, Arrive}
+use Rattle.gb_schedule.specs.declared.head.Head.TheVariants.{Cluster, Tenant, Make, Open, Say, Fetch, Pack, Again, Ack, Arrive, Tick, Stop}
 use Rattle.gb_schedule.specs.Grammar.{Spells, IsCommandLine, IsInPlace}
 use Rattle.gb_schedule.proofs.CommandLemmas.{Finds}
 
@@ -23,8 +23,16 @@ spelt_in_place Fetch None command words s = absurd s
 spelt_in_place Fetch (Some nodes) command words s = rw s.command_is s.in_cluster
 spelt_in_place Pack None command words s = absurd s
 spelt_in_place Pack (Some nodes) command words s = rw s.command_is (s.in_cluster, s.to_in_cluster)
+spelt_in_place Again None command words s = absurd s
+spelt_in_place Again (Some nodes) command words s = rw s.command_is (s.in_cluster, s.to_in_cluster, s.frame_in)
+spelt_in_place Ack None command words s = absurd s
+spelt_in_place Ack (Some nodes) command words s = rw s.command_is (s.in_cluster, s.to_in_cluster)
 spelt_in_place Arrive None command words s = absurd s
 spelt_in_place Arrive (Some nodes) command words s = rw s.command_is s.packet_in
+spelt_in_place Tick None command words s = absurd s
+spelt_in_place Tick (Some nodes) command words s = rw s.command_is s.in_cluster
+spelt_in_place Stop None command words s = absurd s
+spelt_in_place Stop (Some nodes) command words s = rw s.command_is s.in_cluster
 
 found_in_place : (nodes : Option ℕ) (line : List ℕ) (answer : Option Command) → Finds (IsCommandLine nodes line) answer → IfSome answer (IsInPlace nodes)
 found_in_place nodes line None finds = tt

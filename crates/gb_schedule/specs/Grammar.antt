@@ -13,7 +13,7 @@ use Rattle.gb_types.specs.declared.spec.Spec.{Spec}
 use Rattle.gb_types.specs.declared.spec.TenantRow.{TenantRow}
 use Rattle.gb_types.specs.declared.request.Request.TheVariants.{AddTenant, Make, OpenGroup, Say, Fetch}
 use Rattle.gb_schedule.specs.declared.command.Command.{Command}
-use Rattle.gb_schedule.specs.declared.command.Command.TheVariants.{Cluster, Request, Pack, Arrive}
+use Rattle.gb_schedule.specs.declared.command.Command.TheVariants.{Cluster, Request, Pack, Again, Ack, Arrive, Tick, Stop}
 use Rattle.gb_schedule.specs.declared.head.Head.{Head}
 use Rattle.gb_schedule.specs.declared.head.Head.TheVariants as heads
 use Rattle.gb_schedule.specs.Head.{head_word}
@@ -121,12 +121,46 @@ pub record SpellsPack (nodes : ℕ) (command : Command) (words : List (List ℕ)
   pub in_cluster : node.number < nodes
   pub to_in_cluster : to.number < nodes
 
+-- `again A B F`; 0 stands for the lowest frame that is not done
+pub record SpellsAgain (nodes : ℕ) (command : Command) (words : List (List ℕ)) : Type 0 where
+  pub node : NodeId
+  pub to : NodeId
+  pub frame : ℕ
+  pub command_is : command ≡ Again node to frame
+  pub words_are : words ≡ decimal node.number ∷ decimal to.number ∷ decimal frame ∷ []
+  pub in_cluster : node.number < nodes
+  pub to_in_cluster : to.number < nodes
+  pub frame_in : frame ≤ 18446744073709551615
+
+-- `ack A B`
+pub record SpellsAck (nodes : ℕ) (command : Command) (words : List (List ℕ)) : Type 0 where
+  pub node : NodeId
+  pub to : NodeId
+  pub command_is : command ≡ Ack node to
+  pub words_are : words ≡ decimal node.number ∷ decimal to.number ∷ []
+  pub in_cluster : node.number < nodes
+  pub to_in_cluster : to.number < nodes
+
 -- `arrive K`
 pub record SpellsArrive (command : Command) (words : List (List ℕ)) : Type 0 where
   pub packet : ℕ
   pub command_is : command ≡ Arrive packet
   pub words_are : words ≡ decimal packet ∷ []
   pub packet_in : packet ≤ 18446744073709551615
+
+-- `tick A`
+pub record SpellsTick (nodes : ℕ) (command : Command) (words : List (List ℕ)) : Type 0 where
+  pub node : NodeId
+  pub command_is : command ≡ Tick node
+  pub words_are : words ≡ decimal node.number ∷ []
+  pub in_cluster : node.number < nodes
+
+-- `stop A`
+pub record SpellsStop (nodes : ℕ) (command : Command) (words : List (List ℕ)) : Type 0 where
+  pub node : NodeId
+  pub command_is : command ≡ Stop node
+  pub words_are : words ≡ decimal node.number ∷ []
+  pub in_cluster : node.number < nodes
 
 -- The table: what the words behind each head spell. The cluster is started first, and once; its number of nodes is
 -- known from then on.
@@ -139,7 +173,11 @@ Spells heads.Open (Some nodes) command words = SpellsOpen nodes command words
 Spells heads.Say (Some nodes) command words = SpellsSay nodes command words
 Spells heads.Fetch (Some nodes) command words = SpellsFetch nodes command words
 Spells heads.Pack (Some nodes) command words = SpellsPack nodes command words
+Spells heads.Again (Some nodes) command words = SpellsAgain nodes command words
+Spells heads.Ack (Some nodes) command words = SpellsAck nodes command words
 Spells heads.Arrive (Some nodes) command words = SpellsArrive command words
+Spells heads.Tick (Some nodes) command words = SpellsTick nodes command words
+Spells heads.Stop (Some nodes) command words = SpellsStop nodes command words
 Spells other None command words = ⊥
 
 -- the line is a head and the words behind it, and they spell this command
@@ -155,7 +193,11 @@ abbrev pub IsInPlace : Option ℕ → Command → Type 0
 IsInPlace None (Cluster nodes silence) = (1 ≤ nodes) × (nodes ≤ NODES) × (SILENCE_MIN ≤ silence) × (silence ≤ SILENCE_MAX)
 IsInPlace (Some nodes) (Request node request) = node.number < nodes
 IsInPlace (Some nodes) (Pack node to) = (node.number < nodes) × (to.number < nodes)
+IsInPlace (Some nodes) (Again node to frame) = (node.number < nodes) × (to.number < nodes) × (frame ≤ 18446744073709551615)
+IsInPlace (Some nodes) (Ack node to) = (node.number < nodes) × (to.number < nodes)
 IsInPlace (Some nodes) (Arrive packet) = packet ≤ 18446744073709551615
+IsInPlace (Some nodes) (Tick node) = node.number < nodes
+IsInPlace (Some nodes) (Stop node) = node.number < nodes
 IsInPlace other command = ⊥
 
 -- the line is empty, or begins with `#`

@@ -1,7 +1,7 @@
 -- The words that lines of a schedule begin with.
 use Rattle.std.specs.Prelude.{ℕ, List, codes}
 use Rattle.gb_schedule.specs.declared.head.Head.{Head}
-use Rattle.gb_schedule.specs.declared.head.Head.TheVariants.{Cluster, Tenant, Make, Open, Say, Fetch, Pack, Arrive}
+use Rattle.gb_schedule.specs.declared.head.Head.TheVariants.{Cluster, Tenant, Make, Open, Say, Fetch, Pack, Again, Ack, Arrive, Tick, Stop}
 
 -- the word for a head
 abbrev pub head_word : Head → List ℕ
@@ -12,4 +12,8 @@ head_word Open = codes "open"
 head_word Say = codes "say"
 head_word Fetch = codes "fetch"
 head_word Pack = codes "pack"
+head_word Again = codes "again"
+head_word Ack = codes "ack"
 head_word Arrive = codes "arrive"
+head_word Tick = codes "tick"
+head_word Stop = codes "stop"

@@ -12,6 +12,15 @@ pub enum Command {
     Request(NodeId, Request),
     /// Lets the first node pack what waits for the second.
     Pack(NodeId, NodeId),
+    /// Lets the first node give its frame with this number to the second again, where the frame is
+    /// not done there; 0 stands for the lowest such number.
+    Again(NodeId, NodeId, u64),
+    /// Lets the first node acknowledge to the second the frames that it received of it.
+    Ack(NodeId, NodeId),
     /// Lets a packet arrive where it was sent to. Packets are numbered from 1 as they are sent.
     Arrive(u64),
+    /// Lets time pass at a node.
+    Tick(NodeId),
+    /// Stops a node for good.
+    Stop(NodeId),
 }

@@ -5,7 +5,7 @@ ghost use Rattle.gb_types.specs.declared.node.NodeId.{NodeId as TheNode};
 ghost use Rattle.gb_types.specs.declared.address.Addr.{Addr as TheAddress};
 ghost use Rattle.gb_types.specs.declared.spec.Spec.{Spec as TheSpec};
 ghost use Rattle.gb_schedule.specs.declared.command.Command.{Command as TheCommand};
-ghost use Rattle.gb_schedule.specs.Grammar.{IsShort, IsLong, SpellsSpec, SpellsCluster, SpellsTenant, SpellsMake, SpellsOpen, SpellsSay, SpellsFetch, SpellsPack, SpellsArrive, Spells, IsCommandLine, IsInPlace, IsSilent, SilentLinesSpellNothing};
+ghost use Rattle.gb_schedule.specs.Grammar.{IsShort, IsLong, SpellsSpec, SpellsCluster, SpellsTenant, SpellsMake, SpellsOpen, SpellsSay, SpellsFetch, SpellsPack, SpellsAgain, SpellsAck, SpellsArrive, SpellsTick, SpellsStop, Spells, IsCommandLine, IsInPlace, IsSilent, SilentLinesSpellNothing};
 
 use crate::command::Command;
 use crate::head::{Head, read_head};
@@ -218,6 +218,35 @@ fn read_pack(nodes: u8, words: &[&[u8]]) -> Option<Command>
     Some(Command::Pack(node, to))
 }
 
+// again A B F
+fn read_again(nodes: u8, words: &[&[u8]]) -> Option<Command>
+    requires { (1 ≤ nodes) × (nodes ≤ NODES) }
+    ensures { (command : TheCommand) → (result ≡ Some command)
+        ↔ SpellsAgain nodes command (map (λ word. word.now) words.now) }
+{
+    let [node, to, frame] = words else {
+        return None;
+    };
+    let node = read_node(node, nodes)?;
+    let to = read_node(to, nodes)?;
+    let frame = read_number(frame, u64::MAX)?;
+    Some(Command::Again(node, to, frame))
+}
+
+// ack A B
+fn read_ack(nodes: u8, words: &[&[u8]]) -> Option<Command>
+    requires { (1 ≤ nodes) × (nodes ≤ NODES) }
+    ensures { (command : TheCommand) → (result ≡ Some command)
+        ↔ SpellsAck nodes command (map (λ word. word.now) words.now) }
+{
+    let [node, to] = words else {
+        return None;
+    };
+    let node = read_node(node, nodes)?;
+    let to = read_node(to, nodes)?;
+    Some(Command::Ack(node, to))
+}
+
 // arrive K
 fn read_arrive(words: &[&[u8]]) -> Option<Command>
     ensures { (command : TheCommand) → (result ≡ Some command)
@@ -227,6 +256,32 @@ fn read_arrive(words: &[&[u8]]) -> Option<Command>
         return None;
     };
     Some(Command::Arrive(read_number(packet, u64::MAX)?))
+}
+
+// tick A
+fn read_tick(nodes: u8, words: &[&[u8]]) -> Option<Command>
+    requires { (1 ≤ nodes) × (nodes ≤ NODES) }
+    ensures { (command : TheCommand) → (result ≡ Some command)
+        ↔ SpellsTick nodes command (map (λ word. word.now) words.now) }
+{
+    let [node] = words else {
+        return None;
+    };
+    let node = read_node(node, nodes)?;
+    Some(Command::Tick(node))
+}
+
+// stop A
+fn read_stop(nodes: u8, words: &[&[u8]]) -> Option<Command>
+    requires { (1 ≤ nodes) × (nodes ≤ NODES) }
+    ensures { (command : TheCommand) → (result ≡ Some command)
+        ↔ SpellsStop nodes command (map (λ word. word.now) words.now) }
+{
+    let [node] = words else {
+        return None;
+    };
+    let node = read_node(node, nodes)?;
+    Some(Command::Stop(node))
 }
 
 // The command that a head and the words behind it, its arguments, spell.
@@ -254,7 +309,11 @@ fn read_arguments(
         Head::Say => read_say(alloc, nodes, arguments),
         Head::Fetch => Ok(read_fetch(nodes, arguments)),
         Head::Pack => Ok(read_pack(nodes, arguments)),
+        Head::Again => Ok(read_again(nodes, arguments)),
+        Head::Ack => Ok(read_ack(nodes, arguments)),
         Head::Arrive => Ok(read_arrive(arguments)),
+        Head::Tick => Ok(read_tick(nodes, arguments)),
+        Head::Stop => Ok(read_stop(nodes, arguments)),
     }
 }
 

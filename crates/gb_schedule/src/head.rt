@@ -13,7 +13,11 @@ pub enum Head {
     Say,
     Fetch,
     Pack,
+    Again,
+    Ack,
     Arrive,
+    Tick,
+    Stop,
 }
 
 /// The head that a word names.
@@ -28,7 +32,11 @@ pub fn read_head(word: &[u8]) -> Option<Head>
         b"say" => Some(Head::Say),
         b"fetch" => Some(Head::Fetch),
         b"pack" => Some(Head::Pack),
+        b"again" => Some(Head::Again),
+        b"ack" => Some(Head::Ack),
         b"arrive" => Some(Head::Arrive),
+        b"tick" => Some(Head::Tick),
+        b"stop" => Some(Head::Stop),
         _ => None,
     }
 }

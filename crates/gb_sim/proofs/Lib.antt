@@ -1,1 +1,2 @@
 pub mod ProgressLemmas
+pub mod AnswerLemmas

@@ -1,21 +1,26 @@
 -- What a schedule makes a cluster answer.
 use Rattle.std.specs.Prelude.{ℕ, ◌+◌, ◌≡◌, ◌≤◌, ◌<◌, ◌⊎◌, List, [], ◌∷◌, ◌++◌, length, Option, Some, None, codes, decimal}
+use Rattle.std.specs.FinSet as set
+use Rattle.std.specs.Ordering.{nat_cmp}
 use Rattle.gb_types.specs.ReplyText.{reply_spelling}
+use Rattle.gb_types.specs.Rising.{rising}
 use Rattle.gb_types.specs.declared.reply.Reply.TheVariants.{Refused}
 use Rattle.gb_cluster.specs.Headline.{IsStep}
 use Rattle.gb_cluster.specs.World.{World, new_world}
 use Rattle.gb_cluster.specs.declared.answer.Answer.{Answer}
-use Rattle.gb_cluster.specs.declared.answer.Answer.TheVariants.{Reply as Replied, Sent as Gave, Taken as Took_in, NoPacket}
+use Rattle.gb_cluster.specs.declared.answer.Answer.TheVariants.{Reply as Replied, Sent as Gave, Taken as Took_in, Ticked as Ticked_so, Halted as Halted_so, NoPacket}
 use Rattle.gb_cluster.specs.declared.answer.Frame.{Frame}
-use Rattle.gb_cluster.specs.declared.answer.Frame.TheVariants.{First, Seen}
+use Rattle.gb_cluster.specs.declared.answer.Frame.TheVariants.{Nothing as No_frame, First, Seen, Outside}
+use Rattle.gb_cluster.specs.declared.answer.Halted.TheVariants.{Done as Halts, Refused as Ended}
 use Rattle.gb_cluster.specs.declared.answer.Sent.TheVariants.{Packet as Numbered, Nothing, Refused as Unsent}
 use Rattle.gb_cluster.specs.declared.answer.Taken.TheVariants.{Good as Accepted, Refused as Lost}
+use Rattle.gb_cluster.specs.declared.answer.Ticked.TheVariants.{Noticed, Refused as Untold}
 use Rattle.gb_cluster.specs.declared.event.Event.{Event}
-use Rattle.gb_cluster.specs.declared.event.Event.TheVariants.{At, Pack as PackEvent, Arrive as ArriveEvent}
+use Rattle.gb_cluster.specs.declared.event.Event.TheVariants.{At, Pack as PackEvent, Again as AgainEvent, Ack as AckEvent, Arrive as ArriveEvent, Tick as TickEvent, Stop as StopEvent}
 use Rattle.gb_schedule.specs.Grammar.{IsCommandLine, IsSilent}
 use Rattle.gb_schedule.specs.Lines.{ended}
 use Rattle.gb_schedule.specs.declared.command.Command.{Command}
-use Rattle.gb_schedule.specs.declared.command.Command.TheVariants.{Cluster, Request, Pack, Arrive}
+use Rattle.gb_schedule.specs.declared.command.Command.TheVariants.{Cluster, Request, Pack, Again, Ack, Arrive, Tick, Stop}
 use Rattle.gb_schedule.specs.declared.lines.TheConstants.{LINE}
 use Rattle.gb_sim.specs.declared.simulate.SimEnd.{SimEnd}
 use Rattle.gb_sim.specs.declared.simulate.SimEnd.TheVariants.{All, BadLine}
@@ -23,8 +28,20 @@ use Rattle.gb_sim.specs.declared.simulate.TheConstants.{LINES}
 
 -- what a node made of a frame, in a word
 abbrev pub frame_word : Frame → List ℕ
+frame_word No_frame = codes "none"
 frame_word First = codes "first"
 frame_word Seen = codes "seen"
+frame_word Outside = codes "outside"
+
+-- numbers, each after a space
+abbrev pub each_after_space : List ℕ → List ℕ
+each_after_space [] = []
+each_after_space (b ∷ bs) = codes " " ++ decimal b ++ each_after_space bs
+
+-- the nodes that are noticed, rising
+abbrev pub noticed_words : List ℕ → List ℕ
+noticed_words [] = codes "noticed -"
+noticed_words (b ∷ bs) = codes "noticed" ++ each_after_space (b ∷ bs)
 
 -- the text of an answer
 abbrev pub answer_spelling : Answer → List ℕ
@@ -34,6 +51,10 @@ answer_spelling (Gave Nothing) = codes "nothing"
 answer_spelling (Gave (Unsent why)) = reply_spelling (Refused why)
 answer_spelling (Took_in (Accepted good)) = codes "good " ++ frame_word good.frame ++ codes " " ++ decimal good.items ++ codes " " ++ decimal good.done
 answer_spelling (Took_in (Lost why)) = reply_spelling (Refused why)
+answer_spelling (Ticked_so (Noticed found)) = noticed_words (rising found)
+answer_spelling (Ticked_so (Untold why)) = reply_spelling (Refused why)
+answer_spelling (Halted_so Halts) = codes "ok"
+answer_spelling (Halted_so (Ended why)) = reply_spelling (Refused why)
 answer_spelling NoPacket = codes "no packet"
 
 -- the line that says which line is bad
@@ -45,7 +66,11 @@ abbrev pub event_of : Command → Option Event
 event_of (Cluster nodes silence) = None
 event_of (Request node request) = Some (At node request)
 event_of (Pack node to) = Some (PackEvent node to)
+event_of (Again node to frame) = Some (AgainEvent node to frame)
+event_of (Ack node to) = Some (AckEvent node to)
 event_of (Arrive packet) = Some (ArriveEvent packet)
+event_of (Tick node) = Some (TickEvent node)
+event_of (Stop node) = Some (StopEvent node)
 
 -- how many nodes the cluster has, once there is one
 abbrev pub nodes_in : Option World → Option ℕ
@@ -62,7 +87,7 @@ pub record Answers (w : World) (event : Event) (after : Option World) (text : Li
 
 -- what a command does: it starts a cluster, or is an event of the one that there is
 abbrev pub Obeys : Option World → Command → Option Event → Option World → List ℕ → Type 0
-Obeys None (Cluster nodes silence) event after text = (after ≡ Some (new_world nodes)) × (text ≡ ended (codes "ok"))
+Obeys None (Cluster nodes silence) event after text = (after ≡ Some (new_world nodes silence)) × (text ≡ ended (codes "ok"))
 Obeys (Some w) command (Some event) after text = Answers w event after text
 Obeys w command event after text = ⊥
 

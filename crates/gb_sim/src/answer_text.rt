@@ -1,11 +1,13 @@
 //! How an answer is written.
 ghost use Rattle.std.specs.Prelude.{◌≡◌, ◌++◌, ◌∷◌, [], codes, OnOk};
+ghost use Rattle.gb_types.specs.Rising.{rising, rising_from};
 ghost use Rattle.gb_types.specs.ReplyText.{reply_spelling};
 ghost use Rattle.gb_schedule.specs.Lines.{ended};
-ghost use Rattle.gb_sim.specs.Schedule.{answer_spelling, bad_line};
+ghost use Rattle.gb_sim.specs.Schedule.{answer_spelling, bad_line, each_after_space, frame_word, noticed_words};
 
-use gb_cluster::answer::{Answer, Frame, Good, Sent, Taken};
+use gb_cluster::answer::{Answer, Frame, Good, Halted, Sent, Taken, Ticked};
 use gb_types::memory::OutOfMemory;
+use gb_types::node::NodeSet;
 use gb_types::number::put_number;
 use gb_types::refusal::Refusal;
 use gb_types::reply::Reply;
@@ -28,15 +30,25 @@ fn put_refusal(alloc: Global, out: &mut Vec<u8>, why: Refusal) -> Result<(), Out
     put_reply(alloc, out, &Reply::Refused(why))
 }
 
+/// Appends what a node made of a frame, in a word.
+fn put_frame(out: &mut Vec<u8>, frame: Frame) -> Result<(), OutOfMemory>
+    ensures { OnOk result (out.new.items ≡ out.old.items ++ frame_word frame) }
+{
+    match frame {
+        Frame::Nothing => out.extend_from_slice(b"none")?,
+        Frame::First => out.extend_from_slice(b"first")?,
+        Frame::Seen => out.extend_from_slice(b"seen")?,
+        Frame::Outside => out.extend_from_slice(b"outside")?,
+    }
+    Ok(())
+}
+
 /// Appends `good FRAME ITEMS DONE`.
 fn put_good(out: &mut Vec<u8>, good: &Good) -> Result<(), OutOfMemory>
     ensures { OnOk result (out.new.items ≡ out.old.items ++ answer_spelling (Answer.Taken (Taken.Good good.now))) }
 {
     out.extend_from_slice(b"good ")?;
-    match good.frame {
-        Frame::First => out.extend_from_slice(b"first")?,
-        Frame::Seen => out.extend_from_slice(b"seen")?,
-    }
+    put_frame(out, good.frame)?;
     out.extend_from_slice(b" ")?;
     put_number(out, u64::from(good.items))?;
     out.extend_from_slice(b" ")?;
@@ -60,6 +72,35 @@ fn put_sent(alloc: Global, out: &mut Vec<u8>, sent: Sent) -> Result<(), OutOfMem
     }
 }
 
+/// Appends the numbers of the nodes of a set, rising, each after a space.
+fn put_each(out: &mut Vec<u8>, found: &NodeSet) -> Result<(), OutOfMemory>
+    ensures { OnOk result (out.new.items ≡ out.old.items ++ each_after_space (rising_from found.now 0)) }
+{
+    let mut from = 0;
+    'all: while let Some(node) = found.next_from(from) {
+        out.extend_from_slice(b" ")?;
+        put_number(out, u64::from(node.number))?;
+        from = node.index() + 1;
+    }
+    Ok(())
+}
+
+/// Appends `noticed` and the nodes that are noticed, or `noticed -`.
+fn put_noticed(out: &mut Vec<u8>, found: &NodeSet) -> Result<(), OutOfMemory>
+    ensures { OnOk result (out.new.items ≡ out.old.items ++ noticed_words (rising found.now)) }
+{
+    match found.next_from(0) {
+        None => {
+            out.extend_from_slice(b"noticed -")?;
+            Ok(())
+        }
+        Some(_) => {
+            out.extend_from_slice(b"noticed")?;
+            put_each(out, found)
+        }
+    }
+}
+
 /// Appends the text of an answer.
 fn put_text(alloc: Global, out: &mut Vec<u8>, answer: &Answer) -> Result<(), OutOfMemory>
     ensures { OnOk result (out.new.items ≡ out.old.items ++ answer_spelling answer.now) }
@@ -69,6 +110,10 @@ fn put_text(alloc: Global, out: &mut Vec<u8>, answer: &Answer) -> Result<(), Out
         Answer::Sent(sent) => put_sent(alloc, out, *sent),
         Answer::Taken(Taken::Good(good)) => put_good(out, good),
         Answer::Taken(Taken::Refused(why)) => put_refusal(alloc, out, *why),
+        Answer::Ticked(Ticked::Noticed(found)) => put_noticed(out, found),
+        Answer::Ticked(Ticked::Refused(why)) => put_refusal(alloc, out, *why),
+        Answer::Halted(Halted::Done) => put_reply(alloc, out, &Reply::Done),
+        Answer::Halted(Halted::Refused(why)) => put_refusal(alloc, out, *why),
         Answer::NoPacket => {
             out.extend_from_slice(b"no packet")?;
             Ok(())

@@ -1,7 +1,7 @@
 //! Runs a schedule, line by line.
 ghost use Rattle.std.specs.Prelude.{◌≡◌, ◌≤◌, ◌++◌, [], List, ℕ, true, false, codes, length, Some, IfOk, OnOk, IfSome};
 ghost use Rattle.std.specs.Io.KnownBytes.{Appends};
-ghost use Rattle.gb_types.specs.declared.limits.TheConstants.{NODES};
+ghost use Rattle.gb_types.specs.declared.limits.TheConstants.{NODES, SILENCE_MIN, SILENCE_MAX};
 ghost use Rattle.gb_cluster.specs.Headline.{IsPlaced};
 ghost use Rattle.gb_cluster.specs.World.{new_world};
 ghost use Rattle.gb_schedule.specs.Grammar.{IsInPlace};
@@ -59,7 +59,8 @@ impl From<OutOfMemory> for SimFault {
 
 /// The plan of the cluster that a schedule starts. Its keys are zero bytes: nothing reads them yet.
 fn plan_of(nodes: u8, silence: u16) -> Plan
-    ensures { result.nodes ≡ nodes }
+    ensures nodes { result.nodes ≡ nodes }
+    ensures silence { result.silence ≡ silence }
 {
     Plan {
         nodes,
@@ -79,8 +80,10 @@ fn begin(
 ) -> Result<(), OutOfMemory>
     requires some { 1 ≤ plan.nodes }
     requires few { plan.nodes ≤ NODES }
+    requires least { SILENCE_MIN ≤ plan.silence }
+    requires most { plan.silence ≤ SILENCE_MAX }
     ensures few { OnOk result (HasNodes cluster.new) }
-    ensures started { OnOk result (cluster.new ≡ Some (new_world plan.nodes)) }
+    ensures started { OnOk result (cluster.new ≡ Some (new_world plan.nodes plan.silence)) }
     ensures out { OnOk result (out.new.items ≡ out.old.items ++ ended (codes "ok")) }
 {
     *cluster = Some(Cluster::start(alloc, plan)?);
@@ -140,7 +143,13 @@ fn obey(
             obey_event(alloc, cluster, &Event::At(node, request), out)
         }
         Command::Pack(node, to) => obey_event(alloc, cluster, &Event::Pack(node, to), out),
+        Command::Again(node, to, frame) => {
+            obey_event(alloc, cluster, &Event::Again(node, to, frame), out)
+        }
+        Command::Ack(node, to) => obey_event(alloc, cluster, &Event::Ack(node, to), out),
         Command::Arrive(packet) => obey_event(alloc, cluster, &Event::Arrive(packet), out),
+        Command::Tick(node) => obey_event(alloc, cluster, &Event::Tick(node), out),
+        Command::Stop(node) => obey_event(alloc, cluster, &Event::Stop(node), out),
     }
 }
 

@@ -1,6 +1,7 @@
 //! Whole schedules and their answers, over readers and writers in memory that give and take a text in pieces, and
 //! that fail.
 use super::*;
+use gb_types::number::put_number;
 use std::alloc::Global;
 use std::cmp;
 use std::io::{ErrorKind, Read, Write};
@@ -115,6 +116,30 @@ const NODES_WITH_UNLIKE_GROUPS: Case = (
     SimEnd::All,
 );
 
+const STOPPED_NODE_REFUSES_ALL: Case = (
+    "cluster 1 2\nstop 0\ntick 0\nsay 0 7 1 61\narrive 1\n",
+    "ok\nok\nrefused 15 Stopped\nrefused 15 Stopped\nno packet\n",
+    SimEnd::All,
+);
+
+const ACKNOWLEDGED_FRAME_IS_NOT_GIVEN_AGAIN: Case = (
+    "cluster 2 3\ntenant 0 7 4 8 4096 4\nmake 0 7 1 beb 0,1 8 4096 4\nopen 0 7 1\ntenant 1 7 4 8 4096 4\nmake 1 7 1 beb 0,1 8 4096 4\nopen 1 7 1\nsay 0 7 1 61\npack 0 1\narrive 1\narrive 1\nack 1 0\narrive 2\nagain 0 1 0\n",
+    "ok\nok\nok\nok\nok\nok\nok\nsaid 1\npacket 1\ngood first 1 0\ngood seen 0 0\npacket 2\ngood none 0 1\nnothing\n",
+    SimEnd::All,
+);
+
+const NOTHING_IS_SENT_TO_NO_OTHER_NODE: Case = (
+    "cluster 3 2\npack 0 0\nagain 0 0 0\nack 0 0\npack 0 1\nagain 0 1 0\nagain 0 1 18446744073709551615\nack 0 1\narrive 1\ntick 0\ntick 0\ntick 0\nack 0 1\npack 0 1\nagain 0 1 0\narrive 2\nack 1 0\narrive 3\ntick 0\ntick 1\ntick 1\narrive 0\narrive 18446744073709551615\n",
+    "ok\nnothing\nnothing\nnothing\nnothing\nnothing\nnothing\npacket 1\ngood none 0 0\nnoticed -\nnoticed 1 2\nnoticed -\npacket 2\nnothing\nnothing\ngood none 0 0\npacket 3\ngood none 0 0\nnoticed -\nnoticed -\nnoticed 0 2\nno packet\nno packet\n",
+    SimEnd::All,
+);
+
+const NOTICED_NODES_ARE_CUT_OFF: Case = (
+    "cluster 3 2\ntenant 0 7 4 8 4096 4\nmake 0 7 1 beb 0,1,2 8 4096 4\nopen 0 7 1\nsay 0 7 1 61\npack 0 1\nack 1 0\narrive 2\ntick 0\nack 1 0\narrive 3\ntick 0\npack 0 2\nagain 0 1 1\ntick 0\npack 0 1\nsay 0 7 1 62\npack 0 1\nmake 0 7 2 beb 0,1 8 4096 4\nfetch 0 7 1 0 16\nstop 0\nfetch 0 7 1 0 16\npack 0 1\narrive 2\nstop 0\n",
+    "ok\nok\nok\nok\nsaid 1\npacket 1\npacket 2\ngood none 0 0\nnoticed -\npacket 3\ngood none 0 0\nnoticed 2\nnothing\npacket 4\nnoticed 1\nnothing\nsaid 2\nnothing\nrefused 12 NoRoom\nlog 2 0:1:61 0:2:62\nok\nrefused 15 Stopped\nrefused 15 Stopped\nrefused 15 Stopped\nrefused 15 Stopped\n",
+    SimEnd::All,
+);
+
 /// Runs a schedule, by pieces of so many bytes.
 fn is_run(alloc: Global, case: &Case, piece: usize) -> Result<bool, SimFault> {
     let (schedule, answers, end) = *case;
@@ -131,6 +156,10 @@ fn worked_schedules_in_any_pieces(rt: HostRuntime) -> Result<(), Fail> {
         UNKNOWN_WORD,
         ONE_TENANT_AND_ONE_GROUP_A_NODE,
         NODES_WITH_UNLIKE_GROUPS,
+        STOPPED_NODE_REFUSES_ALL,
+        ACKNOWLEDGED_FRAME_IS_NOT_GIVEN_AGAIN,
+        NOTHING_IS_SENT_TO_NO_OTHER_NODE,
+        NOTICED_NODES_ARE_CUT_OFF,
         ("", "", SimEnd::All),
     ];
     for case in &cases {
@@ -138,6 +167,40 @@ fn worked_schedules_in_any_pieces(rt: HostRuntime) -> Result<(), Fail> {
             assert!(rt; is_run(rt.alloc(), case, piece)?);
         }
     }
+    Ok(())
+}
+
+// 64 frames that are not acknowledged fill a link; an acknowledgement of the first makes room for one more.
+#[test]
+fn a_window_of_64_frames(rt: HostRuntime) -> Result<(), Fail> {
+    let alloc = rt.alloc();
+    let mut schedule = Vec::from_slice(
+        alloc,
+        b"cluster 2 3\ntenant 0 7 4 100 4096 100\nmake 0 7 1 beb 0,1 100 4096 100\nopen 0 7 1\n",
+    )?;
+    let mut answers = Vec::from_slice(alloc, b"ok\nok\nok\nok\n")?;
+    for number in 1..65u64 {
+        schedule.extend_from_slice(b"say 0 7 1 61\npack 0 1\n")?;
+        answers.extend_from_slice(b"said ")?;
+        put_number(&mut answers, number)?;
+        answers.extend_from_slice(b"\npacket ")?;
+        put_number(&mut answers, number)?;
+        answers.extend_from_slice(b"\n")?;
+    }
+    schedule.extend_from_slice(
+        b"say 0 7 1 61\npack 0 1\narrive 1\nack 1 0\narrive 65\npack 0 1\narrive 66\n",
+    )?;
+    answers.extend_from_slice(
+        b"said 65\nnothing\ngood first 1 0\npacket 65\ngood none 0 1\npacket 66\ngood first 1 0\n",
+    )?;
+    let mut reader = Pieces {
+        text: schedule.as_slice(),
+        piece: 100,
+        fails: false,
+    };
+    let mut out = with_space(alloc, 1_000_000, 1_000);
+    assert!(rt; simulate(alloc, &mut reader, &mut out)? == SimEnd::All);
+    assert!(rt; out.taken.as_slice() == answers.as_slice());
     Ok(())
 }
 

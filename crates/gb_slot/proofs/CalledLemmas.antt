@@ -1,40 +1,44 @@
 -- What one call of the group's broadcast makes of a slot.
-use Rattle.std.proofs.Common.{◌≡◌, ℕ, ◌<◌, true, false, List, [], ◌∷◌, ◌++◌, drop, refl, sym, ◌∙◌, ap, subst, arith, length-append}
+use Rattle.std.proofs.Common.{◌≡◌, ℕ, ◌<◌, true, false, List, [], ◌∷◌, ◌++◌, length, drop, refl, sym, ◌∙◌, ap, subst, arith, length-append}
 use Rattle.std.specs.Prelude.{if◌then◌else◌, map}
+use Rattle.std.specs.Ordering.{nat_cmp}
 use Rattle.std.specs.FinSet as set
 use Rattle.std.specs.List.{AllByRecursion}
 use Rattle.std.proofs.lemmas.List.{drop-append-le, map-append}
 use Rattle.gb_types.specs.declared.entry.Entry.{Entry}
 use Rattle.gb_types.specs.declared.message.MsgId.{MsgId}
 use Rattle.gb_types.specs.declared.node.NodeId.{NodeId}
-use Rattle.gb_layer.specs.Machine.{mentions, messages, came_from}
+use Rattle.gb_layer.specs.Machine.{mentions, messages, was_noticed, came_from}
 use Rattle.gb_layer.specs.Modules.{IsLawful, broadcasts}
 use Rattle.gb_slot.specs.declared.history.GroupCall.{GroupCall}
-use Rattle.gb_slot.specs.History.{base_of, call_of, calls_of, entry_told, known, said_in, delivered, puts_of}
-use Rattle.gb_slot.specs.Messages.{has, entry_in, with_new}
+use Rattle.gb_slot.specs.History.{base_of, call_of, calls_of, with_told, known, said_in, delivered, puts_of}
+use Rattle.gb_slot.specs.Messages.{has, entry_in}
+use Rattle.gb_slot.specs.Rules.{is_other}
 use Rattle.gb_slot.specs.Slot.{stack_gives, waiting, taken_for, slot_called}
 use Rattle.gb_slot.specs.SlotState.{SlotState}
 use Rattle.gb_slot.specs.StandsFor.{StandsFor, reaches}
 use Rattle.gb_slot.proofs.BroadcastLemmas.{sends_are, ups_are, all-append, all-drop, all-weaker, broadcasts_mentioned}
-use Rattle.gb_slot.proofs.KnownLemmas.{has-known, still_has, entries-stay}
+use Rattle.gb_slot.proofs.KnownLemmas.{has-known, still_told, entries-stay_told}
 
 -- what the broadcast makes of a call
 called_sends : (s : SlotState) (told : List GroupCall) (c : GroupCall) → StandsFor s told → IsLawful s.me.number (call_of c ∷ calls_of told) → (stack_gives s.stack (call_of c)).sends ≡ broadcasts (base_of s.spec.kind) s.me.number (call_of c) (calls_of told)
 called_sends s told c st lawful = ap (λ k. (stack_gives k (call_of c)).sends) st.stack ∙ sends_are s.spec.kind s.me (call_of c) (calls_of told) lawful
 
 -- the messages that are known after a call
-called_known : (s : SlotState) (told : List GroupCall) (c : GroupCall) → StandsFor s told → with_new s.store (entry_told c) ≡ known (c ∷ told)
+called_known : (s : SlotState) (told : List GroupCall) (c : GroupCall) → StandsFor s told → with_told s.store c ≡ known (c ∷ told)
 unfolding known
-called_known s told c st = ap (λ es. with_new es (entry_told c)) st.store
+called_known s told c st = ap (λ es. with_told es c) st.store
 
 -- a slot whose broadcast takes a call stands for the history with it
-pub called_stands : (s : SlotState) (told : List GroupCall) (c : GroupCall) (said : ℕ) → StandsFor s told → IsLawful s.me.number (call_of c ∷ calls_of told) → said ≡ said_in (c ∷ told)
+pub called_stands : (s : SlotState) (told : List GroupCall) (c : GroupCall) (said : ℕ) (noticed : set.FinSet nat_cmp) (acknowledged : List (set.FinSet nat_cmp)) → StandsFor s told → IsLawful s.me.number (call_of c ∷ calls_of told) → said ≡ said_in (c ∷ told)
     → ((x : MsgId) → x.origin.number ≡ s.me.number → said < x.seq → mentions (call_of c ∷ calls_of told) x ≡ false)
     → ((x : MsgId) → came_from s.me.number (call_of c ∷ calls_of told) x.origin.number x ≡ mentions (call_of c ∷ calls_of told) x)
-    → StandsFor (record (slot_called (call_of c) (with_new s.store (entry_told c)) s) { said = said }) (c ∷ told)
+    → ((b : ℕ) → is_other s.spec s.me.number b ≡ true → set.contains noticed b ≡ was_noticed (call_of c ∷ calls_of told) b)
+    → length acknowledged ≡ said
+    → StandsFor (record (slot_called (call_of c) (with_told s.store c) s) { said = said; noticed = noticed; acknowledged = acknowledged }) (c ∷ told)
 unfolding calls_of
-called_stands s told c said st lawful count own direct =
-    let store : List Entry = with_new s.store (entry_told c) in
+called_stands s told c said noticed acknowledged st lawful count own direct others kept =
+    let store : List Entry = with_told s.store c in
     let sends : List MsgId = (stack_gives s.stack (call_of c)).sends in
     let P : MsgId → Type 0 = λ m. has store m ≡ true in
     let new : AllByRecursion P (broadcasts (base_of s.spec.kind) s.me.number (call_of c) (calls_of told)) =
@@ -47,9 +51,11 @@ called_stands s told c said st lawful count own direct =
       said = count;
       own = own;
       direct = direct;
-      outgoing = all-append P s.outgoing sends (all-weaker (λ m. has s.store m ≡ true) P (λ m there. still_has s.store (entry_told c) m there) s.outgoing st.outgoing) (subst (AllByRecursion P) (sym (called_sends s told c st lawful)) new);
+      outgoing = all-append P s.outgoing sends (all-weaker (λ m. has s.store m ≡ true) P (λ m there. still_told s.store c m there) s.outgoing st.outgoing) (subst (AllByRecursion P) (sym (called_sends s told c st lawful)) new);
       taken = λ b. omega (arith, st.taken b, length-append s.outgoing sends);
       size = st.size;
+      noticed = others;
+      acknowledged = kept;
     }
   where
     messages_of : NodeId → List MsgId
@@ -57,7 +63,7 @@ called_stands s told c said st lawful count own direct =
 
 -- what waits for a node after a call
 pub waiting-called : (s : SlotState) (told : List GroupCall) (c : GroupCall) (b : ℕ) → StandsFor s told → IsLawful s.me.number (call_of c ∷ calls_of told)
-    → waiting (slot_called (call_of c) (with_new s.store (entry_told c)) s) b ≡ waiting s b ++ (if reaches s b then puts_of s.spec s.me.number c told else [])
+    → waiting (slot_called (call_of c) (with_told s.store c) s) b ≡ waiting s b ++ (if reaches s b then puts_of s.spec s.me.number c told else [])
 waiting-called s told c b st lawful =
     elim (reaches s b) as (λ r. (if r then map (entry_in store) (drop (taken_for s b) (s.outgoing ++ sends)) else []) ≡ (if r then map (entry_in s.store) (drop (taken_for s b) s.outgoing) else []) ++ (if r then puts_of s.spec s.me.number c told else [])) [
       | true ↦ reached
@@ -65,7 +71,7 @@ waiting-called s told c b st lawful =
     ]
   where
     store : List Entry
-    store = with_new s.store (entry_told c)
+    store = with_told s.store c
 
     sends : List MsgId
     sends = (stack_gives s.stack (call_of c)).sends
@@ -77,6 +83,6 @@ waiting-called s told c b st lawful =
     reached =
         ap (map (entry_in store)) (drop-append-le (taken_for s b) s.outgoing sends (st.taken b))
         ∙ (map-append (entry_in store) waited sends
-        ∙ (ap (λ es. es ++ map (entry_in store) sends) (entries-stay s.store (entry_told c) waited (all-drop (λ m. has s.store m ≡ true) (taken_for s b) s.outgoing st.outgoing))
+        ∙ (ap (λ es. es ++ map (entry_in store) sends) (entries-stay_told s.store c waited (all-drop (λ m. has s.store m ≡ true) (taken_for s b) s.outgoing st.outgoing))
         ∙ (ap (λ ms. map (entry_in s.store) waited ++ map (entry_in store) ms) (called_sends s told c st lawful)
         ∙ ap (λ es. map (entry_in s.store) waited ++ map (entry_in es) (broadcasts (base_of s.spec.kind) s.me.number (call_of c) (calls_of told))) (called_known s told c st))))

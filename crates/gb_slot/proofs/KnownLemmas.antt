@@ -9,8 +9,8 @@ use Rattle.gb_types.specs.declared.message.MsgId.{MsgId}
 use Rattle.gb_types.proofs.SameLemmas.{same-true}
 use Rattle.gb_layer.specs.Machine.{mentions}
 use Rattle.gb_slot.specs.declared.history.GroupCall.{GroupCall}
-use Rattle.gb_slot.specs.declared.history.GroupCall.TheVariants.{Own, Other}
-use Rattle.gb_slot.specs.History.{calls_of, known}
+use Rattle.gb_slot.specs.declared.history.GroupCall.TheVariants.{Own, Other, Crashed}
+use Rattle.gb_slot.specs.History.{calls_of, known, with_told}
 use Rattle.gb_slot.specs.Messages.{has, payload_in, entry_in, with_new}
 
 or_swap : (a b c : Bool) → (a || (b || c)) ≡ (b || (a || c))
@@ -38,7 +38,7 @@ has-with_new xs x m =
     ] refl
 
 -- what was there is still there
-pub still_has : (xs : List Entry) (x : Entry) (m : MsgId) → has xs m ≡ true → has (with_new xs x) m ≡ true
+still_has : (xs : List Entry) (x : Entry) (m : MsgId) → has xs m ≡ true → has (with_new xs x) m ≡ true
 still_has xs x m there = has-with_new xs x m ∙ (ap (λ b. same (message_of x) m || b) there ∙ or_true (same (message_of x) m))
   where
     or_true : (b : Bool) → (b || true) ≡ true
@@ -51,6 +51,13 @@ unfolding known calls_of
 has-known [] m = refl
 has-known (Own x ∷ told) m = has-with_new (known told) x m ∙ ap (λ b. same (message_of x) m || b) (has-known told m)
 has-known (Other p x ∷ told) m = has-with_new (known told) x m ∙ ap (λ b. same (message_of x) m || b) (has-known told m)
+has-known (Crashed q ∷ told) m = has-known told m
+
+-- what was there is still there after a call
+pub still_told : (xs : List Entry) (c : GroupCall) (m : MsgId) → has xs m ≡ true → has (with_told xs c) m ≡ true
+still_told xs (Own x) m there = still_has xs x m there
+still_told xs (Other p x) m there = still_has xs x m there
+still_told xs (Crashed q) m there = there
 
 payload_in-append : (xs : List Entry) (x : Entry) (m : MsgId) → has xs m ≡ true → payload_in (xs ++ x ∷ []) m ≡ payload_in xs m
 payload_in-append [] x m there = cc
@@ -68,6 +75,12 @@ entry-stays xs x m there =
       | false ↦ (let p = payload_in-append xs x m there in λ i. record { origin = m.origin; seq = m.seq; payload = p i })
     ]
 
-pub entries-stay : (xs : List Entry) (x : Entry) (ms : List MsgId) → AllByRecursion (λ m. has xs m ≡ true) ms → map (entry_in (with_new xs x)) ms ≡ map (entry_in xs) ms
+entries-stay : (xs : List Entry) (x : Entry) (ms : List MsgId) → AllByRecursion (λ m. has xs m ≡ true) ms → map (entry_in (with_new xs x)) ms ≡ map (entry_in xs) ms
 entries-stay xs x [] there = refl
 entries-stay xs x (m ∷ ms) there = (λ i. entry-stays xs x m there.0 i ∷ map (entry_in (with_new xs x)) ms) ∙ ap (λ es. entry_in xs m ∷ es) (entries-stay xs x ms there.1)
+
+-- and so after a call
+pub entries-stay_told : (xs : List Entry) (c : GroupCall) (ms : List MsgId) → AllByRecursion (λ m. has xs m ≡ true) ms → map (entry_in (with_told xs c)) ms ≡ map (entry_in xs) ms
+entries-stay_told xs (Own x) ms there = entries-stay xs x ms there
+entries-stay_told xs (Other p x) ms there = entries-stay xs x ms there
+entries-stay_told xs (Crashed q) ms there = refl

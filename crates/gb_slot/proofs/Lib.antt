@@ -4,6 +4,7 @@ pub mod FallsLemmas
 pub mod HistoryLemmas
 pub mod KeptLemmas
 pub mod KnownLemmas
+pub mod NoticeLemmas
 pub mod PageLemmas
 pub mod SlotLemmas
 pub mod TakenLemmas

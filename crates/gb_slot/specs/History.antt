@@ -11,24 +11,26 @@ use Rattle.gb_layer.specs.Modules.{log, broadcasts}
 use Rattle.gb_layer.specs.declared.base.Base.{Base}
 use Rattle.gb_layer.specs.declared.base.Base.TheVariants.{BestEffort}
 use Rattle.gb_layer.specs.declared.call.Call.{Call}
-use Rattle.gb_layer.specs.declared.call.Call.TheVariants.{Say, Came}
+use Rattle.gb_layer.specs.declared.call.Call.TheVariants.{Say, Came, Notice}
 use Rattle.gb_slot.specs.declared.history.GroupCall.{GroupCall}
-use Rattle.gb_slot.specs.declared.history.GroupCall.TheVariants.{Own, Other}
+use Rattle.gb_slot.specs.declared.history.GroupCall.TheVariants.{Own, Other, Crashed}
 use Rattle.gb_slot.specs.Messages.{entry_in, with_new}
 
 -- the module of broadcast that a kind is
 abbrev pub base_of : Kind → Base
 base_of Beb = BestEffort
 
--- the message that the group is told of
-abbrev pub entry_told : GroupCall → Entry
-entry_told (Own x) = x
-entry_told (Other p x) = x
+-- the messages, with the one that the group is told of
+abbrev pub with_told : List Entry → GroupCall → List Entry
+with_told xs (Own x) = with_new xs x
+with_told xs (Other p x) = with_new xs x
+with_told xs (Crashed q) = xs
 
 -- what the broadcast is called for
 abbrev pub call_of : GroupCall → Call
 call_of (Own x) = Say (message_of x)
 call_of (Other p x) = Came p (message_of x)
+call_of (Crashed q) = Notice q
 
 unfoldable pub calls_of : List GroupCall → List Call
 calls_of [] = []
@@ -37,13 +39,14 @@ calls_of (c ∷ told) = call_of c ∷ calls_of told
 -- the messages that the group was told of, in the order of first mention, with the payloads that they had then
 unfoldable pub known : List GroupCall → List Entry
 known [] = []
-known (c ∷ told) = with_new (known told) (entry_told c)
+known (c ∷ told) = with_told (known told) c
 
 -- how many messages were said here
 unfoldable pub said_in : List GroupCall → ℕ
 said_in [] = 0
 said_in (Own x ∷ told) = said_in told + 1
 said_in (Other p x ∷ told) = said_in told
+said_in (Crashed q ∷ told) = said_in told
 
 -- the messages that the group's broadcast delivers, in order
 abbrev pub delivered : Spec → ℕ → List GroupCall → List MsgId

@@ -1,23 +1,27 @@
 -- What holds of a slot for every history that it stands for.
-use Rattle.std.specs.Prelude.{ℕ, ◌≡◌, ◌≢◌, ◌≤◌, ◌<◌, ◌+◌, false, List, [], ◌∷◌, ◌++◌, length, drop, if◌then◌else◌}
+use Rattle.std.specs.Prelude.{ℕ, ◌≡◌, ◌≢◌, ◌≤◌, ◌<◌, ◌+◌, true, false, List, [], ◌∷◌, ◌++◌, length, map, drop, nat_eq, if◌then◌else◌}
 use Rattle.std.specs.Ordering.{nat_cmp}
 use Rattle.std.specs.FinSet as set
+use Rattle.std.specs.List.{AllByRecursion, list_any}
 use Rattle.gb_types.specs.declared.entry.Entry.{Entry}
 use Rattle.gb_types.specs.declared.limits.TheConstants.{NODES}
+use Rattle.gb_types.specs.declared.message.MsgId.{MsgId}
 use Rattle.gb_types.specs.declared.node.NodeId.{NodeId}
 use Rattle.gb_types.specs.declared.reply.Reply.{Reply}
 use Rattle.gb_types.specs.declared.reply.Reply.TheVariants.{Said}
 use Rattle.gb_types.specs.declared.spec.Spec.{Spec}
 use Rattle.gb_slot.specs.declared.history.GroupCall.{GroupCall}
-use Rattle.gb_slot.specs.declared.history.GroupCall.TheVariants.{Own, Other}
+use Rattle.gb_slot.specs.declared.history.GroupCall.TheVariants.{Own, Other, Crashed}
 use Rattle.gb_slot.specs.History.{log_of, puts_of}
-use Rattle.gb_slot.specs.Slot.{new_slot, shown, waiting, own_entry, slot_opened, slot_said, falls, slot_came, slot_took}
+use Rattle.gb_slot.specs.Rules.{is_other}
+use Rattle.gb_slot.specs.Slot.{new_slot, shown, waiting, own_entry, slot_opened, slot_said, falls, slot_came, slot_noticed, slot_done, slot_took}
 use Rattle.gb_slot.specs.SlotState.{SlotState}
 use Rattle.gb_slot.specs.StandsFor.{StandsFor, falls_after, reaches}
 
--- a slot that was just made stands for the empty history
+-- a slot that was just made, at a node that has noticed these, stands for their notices
 abbrev pub FreshStands : Type 0
-FreshStands = (spec : Spec) (me : NodeId) (noticed : set.FinSet nat_cmp) → StandsFor (new_slot spec me noticed) []
+FreshStands = (spec : Spec) (me : NodeId) (noticed : set.FinSet nat_cmp) (qs : List NodeId) → AllByRecursion (λ q. q.number ≢ me.number) qs
+    → ((b : ℕ) → is_other spec me.number b ≡ true → set.contains noticed b ≡ list_any (λ q. nat_eq q.number b) qs) → StandsFor (new_slot spec me noticed) (map Crashed qs)
 
 -- opening changes nothing of it
 abbrev pub OpenedStands : Type 0
@@ -31,7 +35,15 @@ SaidStands = (s : SlotState) (told : List GroupCall) (payload : List ℕ) → St
 abbrev pub CameStands : Type 0
 CameStands = (s : SlotState) (told : List GroupCall) (from : NodeId) (x : Entry) → StandsFor s told → falls from x s ≡ false → StandsFor (slot_came from x s) (Other from x ∷ told)
 
--- taking items to be sent changes nothing of it
+-- and so after another member was noticed
+abbrev pub NoticedStands : Type 0
+NoticedStands = (s : SlotState) (told : List GroupCall) (q : NodeId) → StandsFor s told → is_other s.spec s.me.number q.number ≡ true → StandsFor (slot_noticed q s) (Crashed q ∷ told)
+
+-- an acknowledgement changes nothing of it
+abbrev pub DoneStands : Type 0
+DoneStands = (s : SlotState) (told : List GroupCall) (b : NodeId) (m : MsgId) → StandsFor s told → StandsFor (slot_done b m s) told
+
+-- nor does taking items to be sent
 abbrev pub TookStands : Type 0
 TookStands = (s : SlotState) (told : List GroupCall) (b count : ℕ) → StandsFor s told → b < NODES → count ≤ length (waiting s b) → StandsFor (slot_took b count s) told
 
@@ -51,6 +63,11 @@ WaitingSaid = (s : SlotState) (told : List GroupCall) (payload : List ℕ) (b : 
 abbrev pub WaitingCame : Type 0
 WaitingCame = (s : SlotState) (told : List GroupCall) (from : NodeId) (x : Entry) (b : ℕ) → StandsFor s told → falls from x s ≡ false
     → waiting (slot_came from x s) b ≡ waiting s b ++ (if reaches s b then puts_of s.spec s.me.number (Other from x) told else [])
+
+-- nothing waits for a node that is noticed
+abbrev pub WaitingNoticed : Type 0
+WaitingNoticed = (s : SlotState) (told : List GroupCall) (q : NodeId) (b : ℕ) → StandsFor s told → is_other s.spec s.me.number q.number ≡ true
+    → waiting (slot_noticed q s) b ≡ (if nat_eq b q.number then [] else waiting s b ++ (if reaches s b then puts_of s.spec s.me.number (Crashed q) told else []))
 
 -- and shrinks by what is taken, for this node alone
 abbrev pub WaitingTook : Type 0

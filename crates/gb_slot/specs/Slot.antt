@@ -1,10 +1,11 @@
 -- What each call makes of a slot.
-use Rattle.std.specs.Prelude.{ℕ, ◌≤◌, ◌<◌, ◌+◌, ◌&&◌, not, Bool, List, [], ◌∷◌, ◌++◌, map, drop, replicate, slice_index_or, slice_set, if◌then◌else◌}
+use Rattle.std.specs.Prelude.{ℕ, ◌≤◌, ◌<◌, ◌+◌, ◌-◌, ◌&&◌, not, Bool, List, [], ◌∷◌, ◌++◌, length, map, drop, replicate, nat_eq, nat_le, slice_index_or, slice_set, if◌then◌else◌}
 use Rattle.std.specs.Ordering.{nat_cmp}
 use Rattle.std.specs.FinSet as set
 use Rattle.gb_types.specs.Entry.{message_of}
 use Rattle.gb_types.specs.declared.entry.Entry.{Entry}
 use Rattle.gb_types.specs.declared.limits.TheConstants.{NODES, MESSAGES, BYTES, WINDOW}
+use Rattle.gb_types.specs.declared.message.MsgId.{MsgId}
 use Rattle.gb_types.specs.declared.node.NodeId.{NodeId}
 use Rattle.gb_types.specs.declared.reply.Reply.{Reply}
 use Rattle.gb_types.specs.declared.reply.Reply.TheVariants.{Done, Said}
@@ -12,7 +13,7 @@ use Rattle.gb_types.specs.declared.spec.Spec.{Spec}
 use Rattle.gb_layer.specs.Machine.{Gives, own_gives, messages}
 use Rattle.gb_layer.specs.BebMachine.{beb_gives}
 use Rattle.gb_layer.specs.declared.call.Call.{Call}
-use Rattle.gb_layer.specs.declared.call.Call.TheVariants.{Say, Came}
+use Rattle.gb_layer.specs.declared.call.Call.TheVariants.{Say, Came, Notice}
 use Rattle.gb_slot.specs.declared.phase.Phase.TheVariants.{Made, Opened}
 use Rattle.gb_slot.specs.Messages.{has, entry_in, with_new}
 use Rattle.gb_slot.specs.Rules.{Shown, is_other, is_let_fall}
@@ -27,7 +28,7 @@ pub record IsWithinLimits (spec : Spec) : Type 0 where
 
 -- a slot in which nothing has happened, at a node that has noticed these
 abbrev pub new_slot : Spec → NodeId → set.FinSet nat_cmp → SlotState
-new_slot spec me noticed = record { spec = spec; me = me; phase = Made; noticed = noticed; stack = me; said = 0; store = []; log = []; outgoing = []; taken = replicate NODES 0 }
+new_slot spec me noticed = record { spec = spec; me = me; phase = Made; noticed = noticed; stack = me; said = 0; store = []; log = []; outgoing = []; taken = replicate NODES 0; acknowledged = [] }
 
 -- what the rules read of it
 abbrev pub shown : SlotState → Shown
@@ -66,7 +67,7 @@ own_entry s payload = record { origin = s.me; seq = s.said + 1; payload = payloa
 abbrev pub slot_said : List ℕ → Reply → SlotState → SlotState
 slot_said payload (Said seq) s =
     let next = slot_called (Say (message_of (own_entry s payload))) (s.store ++ own_entry s payload ∷ []) s in
-    record next { said = s.said + 1 }
+    record next { said = s.said + 1; acknowledged = s.acknowledged ++ set.empty ∷ [] }
 slot_said payload reply s = s
 
 -- whether an item is let fall
@@ -76,6 +77,27 @@ falls from x s = is_let_fall s.spec s.me.number from.number x (has s.store (mess
 -- an item came from a node
 abbrev pub slot_came : NodeId → Entry → SlotState → SlotState
 slot_came from x s = if falls from x s then s else slot_called (Came from (message_of x)) (with_new s.store x) s
+
+-- another member is noticed to have crashed
+abbrev pub slot_noticed : NodeId → SlotState → SlotState
+slot_noticed q s =
+    if is_other s.spec s.me.number q.number then (
+    let next = slot_called (Notice q) s.store s in
+    record next { noticed = set.insert s.noticed q.number }
+    ) else s
+
+-- the message with the number from 1 is acknowledged by a node, too
+abbrev pub with_acknowledgement : ℕ → NodeId → List (set.FinSet nat_cmp) → List (set.FinSet nat_cmp)
+with_acknowledgement seq b acknowledged =
+    if nat_le 1 seq && nat_le seq (length acknowledged) then slice_set acknowledged (seq - 1) (set.insert (slice_index_or acknowledged (seq - 1) set.empty) b.number) else acknowledged
+
+-- the nodes that acknowledged each message that was said here, after a node acknowledged a message
+abbrev pub acknowledged_by : NodeId → MsgId → SlotState → List (set.FinSet nat_cmp)
+acknowledged_by b m s = if nat_eq m.origin.number s.me.number then with_acknowledgement m.seq b s.acknowledged else s.acknowledged
+
+-- a node acknowledged a message
+abbrev pub slot_done : NodeId → MsgId → SlotState → SlotState
+slot_done b m s = record s { acknowledged = acknowledged_by b m s }
 
 -- so many more items are taken to be sent to the node
 abbrev pub slot_took : ℕ → ℕ → SlotState → SlotState

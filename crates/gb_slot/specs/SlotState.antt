@@ -13,7 +13,7 @@ pub record SlotState : Type 0 where
   pub spec : Spec
   pub me : NodeId
   pub phase : Phase
-  -- the nodes that were noticed before the group was made here
+  -- the nodes that were noticed
   pub noticed : set.FinSet nat_cmp
   -- what the broadcast remembers
   pub stack : NodeId
@@ -27,6 +27,8 @@ pub record SlotState : Type 0 where
   pub outgoing : List MsgId
   -- for each node, how many of these were taken to be sent to it
   pub taken : List ℕ
+  -- for each message that was said here, in order, the nodes that acknowledged it
+  pub acknowledged : List (set.FinSet nat_cmp)
 
 -- a slot, with the room that it has: so many more items can come, with so many bytes in all
 pub record SlotValue : Type 0 where

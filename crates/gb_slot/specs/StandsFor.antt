@@ -6,7 +6,7 @@ use Rattle.gb_types.specs.Entry.{message_of}
 use Rattle.gb_types.specs.declared.entry.Entry.{Entry}
 use Rattle.gb_types.specs.declared.limits.TheConstants.{NODES}
 use Rattle.gb_types.specs.declared.message.MsgId.{MsgId}
-use Rattle.gb_layer.specs.Machine.{mentions, came_from}
+use Rattle.gb_layer.specs.Machine.{mentions, was_noticed, came_from}
 use Rattle.gb_layer.specs.Modules.{IsLawful}
 use Rattle.gb_types.specs.declared.spec.Spec.{Spec}
 use Rattle.gb_slot.specs.declared.history.GroupCall.{GroupCall}
@@ -39,3 +39,7 @@ pub record StandsFor (s : SlotState) (told : List GroupCall) : Type 0 where
   pub outgoing : AllByRecursion (λ m. has s.store m ≡ true) s.outgoing
   pub taken : (b : ℕ) → taken_for s b ≤ length s.outgoing
   pub size : length s.taken ≡ NODES
+  -- the other members that were noticed are those of the history
+  pub noticed : (b : ℕ) → is_other s.spec s.me.number b ≡ true → set.contains s.noticed b ≡ was_noticed (calls_of told) b
+  -- acknowledgements are kept for each message that was said
+  pub acknowledged : length s.acknowledged ≡ s.said

@@ -1,5 +1,5 @@
 //! What a group is told at a node, and what a slot stands for.
-ghost use Rattle.gb_slot.specs.HistoryLaws.{FreshStands, OpenedStands, SaidStands, CameStands, TookStands, LogIs, FallsIs, WaitingSaid, WaitingCame, WaitingTook, WaitingElsewhere};
+ghost use Rattle.gb_slot.specs.HistoryLaws.{FreshStands, OpenedStands, SaidStands, CameStands, NoticedStands, DoneStands, TookStands, LogIs, FallsIs, WaitingSaid, WaitingCame, WaitingNoticed, WaitingTook, WaitingElsewhere};
 
 use gb_types::entry::Entry;
 use gb_types::node::NodeId;
@@ -11,6 +11,8 @@ pub enum GroupCall {
     Own(Entry),
     /// A message comes from another node.
     Other(NodeId, Entry),
+    /// Another member is noticed to have crashed.
+    Crashed(NodeId),
 }
 
 /// What a slot holds is, for every history that it stands for, what the group's broadcast makes of the history.
@@ -19,11 +21,14 @@ pub fn stands()
     ensures opened { OpenedStands }
     ensures said { SaidStands }
     ensures came { CameStands }
+    ensures noticed { NoticedStands }
+    ensures done { DoneStands }
     ensures took { TookStands }
     ensures log { LogIs }
     ensures falls { FallsIs }
     ensures waiting_said { WaitingSaid }
     ensures waiting_came { WaitingCame }
+    ensures waiting_noticed { WaitingNoticed }
     ensures waiting_took { WaitingTook }
     ensures waiting_elsewhere { WaitingElsewhere }
 {}

@@ -6,6 +6,7 @@ ghost use Rattle.gb_layer.specs.Machine.{messages};
 ghost use Rattle.gb_slot.specs.Messages.{entry_in};
 ghost use Rattle.gb_slot.specs.Replied.{done_reply, said_reply, log_reply};
 ghost use Rattle.gb_slot.specs.Rules.{is_member, is_other, is_let_fall, open_answer, say_answer, fetch_answer};
+ghost use Rattle.gb_slot.specs.Slot.{with_acknowledgement};
 
 use crate::phase::Phase;
 use crate::store::Store;
@@ -37,6 +38,8 @@ pub struct Slot {
     store: Store,
     said: u32,
     taken: [usize; NODES],
+    /// For each message that was said here, in order, the nodes that acknowledged it.
+    acknowledged: Vec<NodeSet>,
     /// So many more calls of the stack take no memory.
     calls: usize,
 }
@@ -55,13 +58,13 @@ impl Model for Slot {
 
     ghost coded = { Prim.hlevel (codes, set.code {R = nat_cmp} coded_ℕ) };
 
-    ghost view = { λ s. record { state = record { spec = s.spec; me = s.me; phase = s.phase; noticed = s.noticed; stack = s.stack.lower.me; said = s.said; store = s.store.entries; log = messages s.effects.ups.items; outgoing = s.effects.sends.items; taken = s.taken }; calls = s.calls; bytes = s.store.bytes } };
+    ghost view = { λ s. record { state = record { spec = s.spec; me = s.me; phase = s.phase; noticed = s.noticed; stack = s.stack.lower.me; said = s.said; store = s.store.entries; log = messages s.effects.ups.items; outgoing = s.effects.sends.items; taken = s.taken; acknowledged = s.acknowledged.items }; calls = s.calls; bytes = s.store.bytes } };
 
     ghost invariant = { λ s. (s.said ≤ s.spec.msgs) × (s.spec.msgs ≤ MESSAGES) × (s.calls ≤ s.store.places) × (s.calls ≤ free_sends s.effects) × (s.calls ≤ free_ups s.effects) };
 }
 
 impl Slot {
-    ghost use Rattle.gb_slot.specs.Slot.{IsWithinLimits, new_slot, shown, waiting, slot_opened, slot_said, falls, slot_came, slot_took, taken_for};
+    ghost use Rattle.gb_slot.specs.Slot.{IsWithinLimits, new_slot, shown, waiting, slot_opened, slot_said, falls, slot_came, slot_noticed, slot_done, slot_took, taken_for};
 
     /// A group that was just made at the node `me`, one of its members, which has noticed these nodes. What is
     /// broadcast is put out to the other members.
@@ -82,6 +85,7 @@ impl Slot {
             store: Store::new(alloc),
             said: 0,
             taken: [0; NODES],
+            acknowledged: Vec::new(alloc),
             calls: 0,
         })
     }
@@ -101,8 +105,8 @@ impl Slot {
         }
     }
 
-    /// Makes room, so that the next calls of `came`, so many, with so many payload bytes in all, take no
-    /// memory. A `say` in between may use the room up; no other call does.
+    /// Makes room, so that the next calls of `came` and `notice`, so many, with so many payload bytes in all,
+    /// take no memory. A `say` in between may use the room up; no other call does.
     pub fn ready(&mut self, calls: usize, bytes: usize) -> Result<(), OutOfMemory>
         ensures state { self.new.state ≡ self.old.state }
         ensures room { OnOk result ((calls ≤ self.new.calls) × (bytes ≤ self.new.bytes)) }
@@ -133,6 +137,10 @@ impl Slot {
         if room.is_err() {
             return Err(Refusal::OutOfMemory);
         }
+        let place = self.acknowledged.reserve(1);
+        if place.is_err() {
+            return Err(Refusal::OutOfMemory);
+        }
         let seq = (self.said + 1) as u16;
         let m = MsgId {
             origin: self.me,
@@ -141,6 +149,7 @@ impl Slot {
         self.calls -= 1;
         self.stack.say(m, &mut self.effects);
         self.store.push(m, payload);
+        self.acknowledged.push_reserved(NodeSet::new());
         self.said += 1;
         Ok(seq)
     }
@@ -174,6 +183,40 @@ impl Slot {
         self.calls -= 1;
         self.stack.came(from, m, &mut self.effects);
         self.store.push(m, payload);
+    }
+
+    /// Takes note that a node has crashed. Nothing waits for it from then on. A node that is no other member
+    /// changes nothing. Takes no memory.
+    pub fn notice(&mut self, who: NodeId)
+        requires call { 1 ≤ self.old.calls }
+        ensures state { self.new.state ≡ slot_noticed who self.old.state }
+        ensures calls { self.old.calls ≤ self.new.calls + 1 }
+        ensures bytes { self.old.bytes ≤ self.new.bytes }
+    {
+        if !self.spec.members.contains(who) || who == self.me {
+            return;
+        }
+        self.noticed.insert(who);
+        self.calls -= 1;
+        self.stack.notice(who, &mut self.effects);
+    }
+
+    /// Takes an acknowledgement of a message from a node: it is kept where the message was said here. Takes no
+    /// memory.
+    pub fn done(&mut self, dest: NodeId, m: MsgId)
+        ensures state { self.new.state ≡ slot_done dest m self.old.state }
+        ensures room { (self.new.calls ≡ self.old.calls) × (self.new.bytes ≡ self.old.bytes) }
+    {
+        if m.origin == self.me {
+            acknowledge(&mut self.acknowledged, m.seq, dest);
+        }
+    }
+
+    /// For each message that was said here, in order, the nodes that acknowledged it.
+    pub fn acknowledged(&self) -> &[NodeSet]
+        ensures { result.now ≡ self.now.state.acknowledged }
+    {
+        &self.acknowledged
     }
 
     /// The log from a place on, `max` entries at most; places count from 0. BadPlace where the place is above
@@ -233,6 +276,19 @@ impl Slot {
         ensures room { (self.new.calls ≡ self.old.calls) × (self.new.bytes ≡ self.old.bytes) }
     {
         self.taken[dest.index()] += count;
+    }
+}
+
+/// The message with the number from 1 is acknowledged by a node, too.
+fn acknowledge(acknowledged: &mut [NodeSet], seq: u16, by: NodeId)
+    ensures { acknowledged.new ≡ with_acknowledgement seq by acknowledged.old }
+{
+    if seq == 0 {
+        return;
+    }
+    let place = usize::from(seq) - 1;
+    if place < acknowledged.len() {
+        acknowledged[place].insert(by);
     }
 }
 

@@ -264,3 +264,131 @@ fn items_are_let_fall(rt: HostRuntime) -> Result<(), Fail> {
         ],
     )
 }
+
+/// A node is noticed to have crashed, after room was made for the notice.
+fn notice_crash(slot: &mut Slot, who: NodeId) -> Result<(), OutOfMemory> {
+    slot.ready(1, 0)?;
+    slot.notice(who);
+    Ok(())
+}
+
+#[test]
+fn nothing_waits_for_a_node_that_crashes(rt: HostRuntime) -> Result<(), Fail> {
+    let mut slot = group(rt.alloc(), 4)?;
+    slot.open_group()?;
+    slot.say(b"one")?;
+    slot.say(b"two")?;
+    take(&rt, &mut slot, OTHER, 1);
+    notice_crash(&mut slot, FRIEND)?;
+    assert_idle(&rt, &slot, FRIEND);
+    assert_waiting(&rt, &slot, OTHER, 1, 2, b"two");
+    slot.say(b"three")?;
+    assert_idle(&rt, &slot, FRIEND);
+    assert_waiting(&rt, &slot, OTHER, 2, 2, b"two");
+    notice_crash(&mut slot, FRIEND)?;
+    assert_idle(&rt, &slot, FRIEND);
+    assert_waiting(&rt, &slot, OTHER, 2, 2, b"two");
+    receive(&mut slot, FRIEND, FRIEND, 1, b"sent before")?;
+    assert_log(
+        &rt,
+        &slot,
+        &[
+            (ME, 1, b"one"),
+            (ME, 2, b"two"),
+            (ME, 3, b"three"),
+            (FRIEND, 1, b"sent before"),
+        ],
+    )?;
+    notice_crash(&mut slot, OTHER)?;
+    slot.say(b"four")?;
+    assert_idle(&rt, &slot, FRIEND);
+    assert_idle(&rt, &slot, OTHER);
+    Ok(())
+}
+
+#[test]
+fn notices_of_no_other_member_change_nothing(rt: HostRuntime) -> Result<(), Fail> {
+    let mut slot = group(rt.alloc(), 3)?;
+    slot.open_group()?;
+    slot.say(b"one")?;
+    for who in [STRANGER, ME] {
+        notice_crash(&mut slot, who)?;
+        assert_waiting(&rt, &slot, FRIEND, 1, 1, b"one");
+        assert_waiting(&rt, &slot, OTHER, 1, 1, b"one");
+        assert_log(&rt, &slot, &[(ME, 1, b"one")])?;
+    }
+    slot.say(b"two")?;
+    assert_waiting(&rt, &slot, FRIEND, 2, 1, b"one");
+    assert_idle(&rt, &slot, ME);
+    assert_idle(&rt, &slot, STRANGER);
+    Ok(())
+}
+
+#[test]
+fn room_that_was_made_serves_notices(rt: HostRuntime) -> Result<(), Fail> {
+    let mut slot = group(rt.alloc(), 3)?;
+    slot.open_group()?;
+    slot.say(b"one")?;
+    slot.ready(4, 7)?;
+    slot.came(FRIEND, FRIEND, 1, b"");
+    slot.notice(FRIEND);
+    slot.notice(STRANGER);
+    slot.came(OTHER, OTHER, 1, b"earlier");
+    assert_idle(&rt, &slot, FRIEND);
+    assert_waiting(&rt, &slot, OTHER, 1, 1, b"one");
+    assert_log(
+        &rt,
+        &slot,
+        &[(ME, 1, b"one"), (FRIEND, 1, b""), (OTHER, 1, b"earlier")],
+    )
+}
+
+/// Of each message that was said, in order, these nodes acknowledged it, and no others.
+fn assert_acknowledged(rt: &impl Abort, slot: &Slot, want: &[&[NodeId]]) {
+    let found = slot.acknowledged();
+    assert_eq!(rt; found.len(), want.len());
+    for (set, nodes) in found.iter().zip(want) {
+        for node in [ME, FRIEND, OTHER, STRANGER] {
+            assert_eq!(rt; set.contains(node), nodes.contains(&node));
+        }
+    }
+}
+
+#[test]
+fn acknowledgements_are_kept(rt: HostRuntime) -> Result<(), Fail> {
+    let mut slot = group(rt.alloc(), 3)?;
+    assert_acknowledged(&rt, &slot, &[]);
+    slot.open_group()?;
+    slot.say(b"one")?;
+    slot.say(b"two")?;
+    assert_acknowledged(&rt, &slot, &[&[], &[]]);
+    slot.done(FRIEND, MsgId { origin: ME, seq: 2 });
+    assert_acknowledged(&rt, &slot, &[&[], &[FRIEND]]);
+    slot.done(OTHER, MsgId { origin: ME, seq: 1 });
+    slot.done(FRIEND, MsgId { origin: ME, seq: 1 });
+    let want: [&[NodeId]; 2] = [&[FRIEND, OTHER], &[FRIEND]];
+    assert_acknowledged(&rt, &slot, &want);
+    for (origin, seq) in [
+        // Acknowledged before.
+        (ME, 1),
+        (ME, 2),
+        // Said elsewhere.
+        (FRIEND, 1),
+        (OTHER, 2),
+        (STRANGER, 2),
+        // Never said.
+        (ME, 0),
+        (ME, 3),
+        (ME, u16::MAX),
+    ] {
+        slot.done(FRIEND, MsgId { origin, seq });
+        assert_acknowledged(&rt, &slot, &want);
+        assert_waiting(&rt, &slot, FRIEND, 2, 1, b"one");
+    }
+    slot.say(b"three")?;
+    assert_acknowledged(&rt, &slot, &[&[FRIEND, OTHER], &[FRIEND], &[]]);
+    notice_crash(&mut slot, FRIEND)?;
+    slot.done(OTHER, MsgId { origin: ME, seq: 3 });
+    assert_acknowledged(&rt, &slot, &[&[FRIEND, OTHER], &[FRIEND], &[OTHER]]);
+    Ok(())
+}

@@ -1,12 +1,14 @@
 use super::*;
-use crate::answer::{Frame, Good, Sent, Taken};
+use crate::answer::{Frame, Good, Halted, Sent, Taken, Ticked};
 use crate::group::{GroupEvent, GroupStep};
 use crate::model::alone;
+use crate::packet::Item;
 use crate::projection::project;
 use gb_types::kind::Kind;
 use gb_types::node::{NodeId, NodeSet};
 use gb_types::payload::Payload;
 use gb_types::refusal::Refusal;
+use gb_types::request::Request;
 use gb_types::spec::{Spec, TenantRow};
 use std::process::Abort;
 use std::test::Fail;
@@ -50,6 +52,9 @@ enum Told {
     Fetch(u32, u32),
     Took(u8, u64),
     Came(u8, u64),
+    Acknowledged(u8, u64, u64),
+    Notice(u8),
+    Stop,
 }
 
 fn short_event(step: &GroupStep) -> (u8, Told) {
@@ -61,6 +66,11 @@ fn short_event(step: &GroupStep) -> (u8, Told) {
         GroupEvent::AskFetch(from, max) => Told::Fetch(*from, *max),
         GroupEvent::Took(to, count) => Told::Took(to.number, *count),
         GroupEvent::Came(from, place) => Told::Came(from.number, *place),
+        GroupEvent::Acknowledged(to, place, count) => {
+            Told::Acknowledged(to.number, *place, *count)
+        }
+        GroupEvent::Notice(who) => Told::Notice(who.number),
+        GroupEvent::Stop => Told::Stop,
     };
     (step.node.number, event)
 }
@@ -111,10 +121,41 @@ impl Run {
         self.packets.push(Packet {
             from: A,
             to,
+            base: 1,
+            mask: 0,
             frame,
-            addr,
-            entry,
+            item: Some(Item { addr, entry }),
         })?;
+        Ok(())
+    }
+
+    /// Node 1 acknowledges to node 0 the frames that base and mask cover.
+    fn acknowledge(&mut self, number: u64, base: u64, mask: u64) -> Result<(), OutOfMemory> {
+        self.events.push(Event::Ack(B, A))?;
+        self.answers.push(Answer::Sent(Sent::Packet(number)))?;
+        self.packets.push(Packet {
+            from: B,
+            to: A,
+            base,
+            mask,
+            frame: 0,
+            item: None,
+        })?;
+        Ok(())
+    }
+
+    /// A tick at node 0 brings a node to light.
+    fn tick(&mut self, who: NodeId) -> Result<(), OutOfMemory> {
+        let mut found = NodeSet::new();
+        found.insert(who);
+        self.events.push(Event::Tick(A))?;
+        self.answers.push(Answer::Ticked(Ticked::Noticed(found)))?;
+        Ok(())
+    }
+
+    fn stop(&mut self, node: NodeId) -> Result<(), OutOfMemory> {
+        self.events.push(Event::Stop(node))?;
+        self.answers.push(Answer::Halted(Halted::Done))?;
         Ok(())
     }
 
@@ -222,6 +263,71 @@ fn the_projection_has_the_groups_own_events(rt: HostRuntime) -> Result<(), Fail>
             (0, Told::Fetch(0, 16)),
             (1, Told::Fetch(0, 16)),
             (2, Told::Fetch(0, 16)),
+        ]
+        .as_slice()
+    );
+    Ok(())
+}
+
+/// A notice before the group is made is told after its making; an acknowledgement counts once; a stop is shown where
+/// the first command meets it.
+#[test]
+fn the_projection_has_acknowledgements_notices_and_stops(rt: HostRuntime) -> Result<(), Fail> {
+    let alloc = rt.alloc();
+    let mut run = Run {
+        alloc,
+        events: Vec::new(alloc),
+        answers: Vec::new(alloc),
+        packets: Vec::new(alloc),
+    };
+    run.tick(C)?;
+    for node in [A, B] {
+        run.ask(node, Request::AddTenant(TOKEN, ROW), Reply::Done)?;
+        run.ask(node, Request::Make(TOKEN, GROUP, spec()), Reply::Done)?;
+    }
+    run.ask(A, Request::OpenGroup(TOKEN, GROUP), Reply::Done)?;
+    run.ask(
+        A,
+        Request::Say(TOKEN, GROUP, Payload::new(alloc)),
+        Reply::Said(1),
+    )?;
+    run.pack(B, 1, 1, OTHER)?;
+    run.pack(B, 2, 2, GROUP)?;
+    run.arrive(2, Frame::First)?;
+    run.acknowledge(3, 1, 2)?;
+    run.arrive(3, Frame::Nothing)?;
+    run.arrive(3, Frame::Nothing)?;
+    run.tick(B)?;
+    run.stop(A)?;
+    for _ in 0..2 {
+        run.ask(
+            A,
+            Request::Fetch(TOKEN, GROUP, 0, 16),
+            Reply::Refused(Refusal::Stopped),
+        )?;
+    }
+    let steps = project(alloc, &run.events, &run.answers, &run.packets, GROUP)?;
+    let mut found = Vec::new(alloc);
+    for step in &steps {
+        found.push(short_event(step))?;
+    }
+    assert_eq!(rt;
+        found.as_slice(),
+        [
+            (0, Told::Tenant),
+            (0, Told::Make),
+            (0, Told::Notice(2)),
+            (1, Told::Tenant),
+            (1, Told::Make),
+            (0, Told::Open),
+            (0, Told::Say(0)),
+            (0, Told::Took(1, 1)),
+            (1, Told::Came(0, 1)),
+            (0, Told::Acknowledged(1, 1, 1)),
+            (0, Told::Notice(1)),
+            (0, Told::Stop),
+            (0, Told::Fetch(0, 16)),
+            (0, Told::Fetch(0, 16)),
         ]
         .as_slice()
     );

@@ -64,7 +64,17 @@ fn told(alloc: Global, nodes: Option<u8>, line: &[u8]) -> Result<String, OutOfMe
             format!(in alloc; "at {}: {}", node.number, told_request(alloc, &request)?)?
         }
         Command::Pack(node, to) => format!(in alloc; "pack {} to {}", node.number, to.number)?,
+        Command::Again(node, to, frame) => format!(in alloc;
+            "frame {frame} of {} again to {}",
+            node.number, to.number
+        )?,
+        Command::Ack(node, to) => format!(in alloc;
+            "{} acknowledges to {}",
+            node.number, to.number
+        )?,
         Command::Arrive(packet) => format!(in alloc; "packet {packet} arrives")?,
+        Command::Tick(node) => format!(in alloc; "time passes at {}", node.number)?,
+        Command::Stop(node) => format!(in alloc; "{} stops", node.number)?,
     })
 }
 
@@ -82,6 +92,10 @@ fn the_first_line(rt: HostRuntime) -> Result<(), Fail> {
         ("cluster 2 3 4", "bad"),
         ("open 0 7 1", "bad"),
         ("arrive 1", "bad"),
+        ("again 0 0 0", "bad"),
+        ("ack 0 0", "bad"),
+        ("tick 0", "bad"),
+        ("stop 0", "bad"),
     ];
     for (line, asked) in lines {
         assert_eq!(rt;
@@ -113,6 +127,20 @@ fn good_lines(rt: HostRuntime) -> Result<(), Fail> {
         ),
         ("pack 0 2", "pack 0 to 2"),
         ("pack 1 1", "pack 1 to 1"),
+        ("again 0 2 1", "frame 1 of 0 again to 2"),
+        ("again 2 0 0", "frame 0 of 2 again to 0"),
+        ("again 1 1 0", "frame 0 of 1 again to 1"),
+        (
+            "again 1 2 18446744073709551615",
+            "frame 18446744073709551615 of 1 again to 2",
+        ),
+        ("ack 0 2", "0 acknowledges to 2"),
+        ("ack 2 0", "2 acknowledges to 0"),
+        ("ack 1 1", "1 acknowledges to 1"),
+        ("tick 0", "time passes at 0"),
+        ("tick 2", "time passes at 2"),
+        ("stop 0", "0 stops"),
+        ("stop 2", "2 stops"),
         ("arrive 0", "packet 0 arrives"),
         (
             "arrive 18446744073709551615",
@@ -163,6 +191,35 @@ fn bad_lines(rt: HostRuntime) -> Result<(), Fail> {
         "say 0 7 1",
         "say 0 7 1 ",
         "pack 0 3",
+        "again 3 0 1",
+        "again 0 3 1",
+        "again 0 1 18446744073709551616",
+        "again 0 1 -",
+        "again 0 1 01",
+        "again 0 1",
+        "again 0 1 ",
+        "again 0 1 1 1",
+        "again",
+        "ack 3 0",
+        "ack 0 3",
+        "ack 0",
+        "ack 0 1 1",
+        "ack 0  1",
+        "ack",
+        "acknowledge 0 1",
+        "tick 3",
+        "tick 258",
+        "tick 00",
+        "tick 0 1",
+        "tick",
+        "tick ",
+        "ticks 0",
+        "stop 3",
+        "stop 256",
+        "stop 0 1",
+        "stop",
+        "Stop 0",
+        "sto 0",
         "",
         " ",
     ];

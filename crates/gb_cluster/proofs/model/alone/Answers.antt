@@ -1,4 +1,4 @@
-use Rattle.std.proofs.Common.{◌<◌, length, ◌∙◌, ap, sym, subst, List, take}
+use Rattle.std.proofs.Common.{length, ◌∙◌, ap, sym, subst, List}
 use Rattle.std.specs.Prelude.{fold, replicate}
 use Rattle.gb_types.specs.declared.limits.TheConstants.{NODES}
 use Rattle.gb_cluster.specs.Alone as one_group

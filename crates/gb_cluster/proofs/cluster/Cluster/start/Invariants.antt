@@ -1,6 +1,7 @@
-use Rattle.std.proofs.Common.{◌≡◌, replicate}
+use Rattle.std.proofs.Common.{◌≡◌, map}
+use Rattle.std.specs.List.{range_with_len}
 use Rattle.gb_cluster.specs.World.{new_node}
 use Rattle.gb_cluster.proofs.cluster.Cluster.start.Given as goal
 
-abbrev pub invariant-loop-node : goal.invariant-loop-node
-invariant-loop-node l = l.nodes.items ≡ replicate l._node new_node
+abbrev pub invariant-loop-number : goal.invariant-loop-number
+invariant-loop-number l = l.nodes.items ≡ map (λ a. new_node a l.plan.nodes l.plan.silence) (range_with_len 0 l.number)
