@@ -1,5 +1,5 @@
 -- The notices of a group that was just made.
-use Rattle.std.proofs.Common.{◌≡◌, ◌≢◌, ℕ, zero, suc, ◌+◌, ◌<◌, ◌≤◌, List, [], ◌∷◌, ◌++◌, length, take, drop, Option, Some, Bool, true, false, not, ◌||◌, ◌&&◌, refl, sym, ◌∙◌, ap, subst, arith}
+use Rattle.std.proofs.Common.{◌≡◌, ℕ, zero, suc, ◌+◌, ◌<◌, ◌≤◌, List, [], ◌∷◌, ◌++◌, length, take, drop, Option, Some, Bool, true, false, not, ◌||◌, ◌&&◌, refl, sym, ◌∙◌, ap, subst, arith}
 use Rattle.std.specs.Prelude.{nat_eq, map, filter, if◌then◌else◌}
 use Rattle.std.specs.List.{AllByRecursion, list_any, range_with_len}
 use Rattle.std.proofs.Math.Seq.{take-length}
@@ -15,14 +15,14 @@ use Rattle.gb_layer.specs.Machine.{was_noticed}
 use Rattle.gb_layer.specs.Modules.{first_mentions, now_broadcast}
 use Rattle.gb_layer.specs.declared.call.Call.{Call}
 use Rattle.gb_layer.specs.declared.call.Call.TheVariants.{Notice as Crash}
-use Rattle.gb_slot.specs.History.{base_of, calls_of, known, puts_of}
+use Rattle.gb_stack.specs.Kinds.{base_of}
+use Rattle.gb_slot.specs.History.{calls_of, known, puts_of}
 use Rattle.gb_slot.specs.Messages.{entry_in}
 use Rattle.gb_slot.specs.Rules.{is_other}
 use Rattle.gb_slot.specs.Slot.{new_slot, waiting, taken_for}
 use Rattle.gb_slot.specs.StandsFor.{StandsFor, reaches}
 use Rattle.gb_slot.specs.declared.history.GroupCall.TheVariants.{Crashed}
 use Rattle.gb_slot.proofs.HistoryLemmas.{fresh_stands}
-use Rattle.gb_slot.proofs.NoticeLemmas.{other_differs}
 use Rattle.gb_cluster.specs.Alone.{Member, called, cut, took_notice, node_noticed, put_to, is_marked}
 use Rattle.gb_cluster.specs.Nodes.{node_numbered}
 use Rattle.gb_cluster.specs.Holds.{SlotStands}
@@ -57,9 +57,9 @@ onto_any spec me (b ∷ bs) qs x others =
     onto_any spec me bs (node_numbered b ∷ qs) x others.1
     ∙ (ap (λ k. is_marked x bs || (nat_eq k x || list_any (λ q. nat_eq q.number x) qs)) (numbered_is b others.0.0) ∙ or_turned (is_marked x bs) (nat_eq b x) (list_any (λ q. nat_eq q.number x) qs))
 
-onto_others : (spec : Spec) (me : ℕ) (bs : List ℕ) (qs : List NodeId) → AreOthers spec me bs → AllByRecursion (λ q. q.number ≢ me) qs → AllByRecursion (λ q. q.number ≢ me) (numbered_onto bs qs)
+onto_others : (spec : Spec) (me : ℕ) (bs : List ℕ) (qs : List NodeId) → AreOthers spec me bs → AllByRecursion (λ q. is_other spec me q.number ≡ true) qs → AllByRecursion (λ q. is_other spec me q.number ≡ true) (numbered_onto bs qs)
 onto_others spec me [] qs others before = before
-onto_others spec me (b ∷ bs) qs others before = onto_others spec me bs (node_numbered b ∷ qs) others.1 (subst (λ k. k ≢ me) (sym (numbered_is b others.0.0)) (other_differs spec me b others.0.1), before)
+onto_others spec me (b ∷ bs) qs others before = onto_others spec me bs (node_numbered b ∷ qs) others.1 (subst (λ k. is_other spec me k ≡ true) (sym (numbered_is b others.0.0)) others.0.1, before)
 
 -- The group.
 

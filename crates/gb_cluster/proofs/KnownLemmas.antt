@@ -1,5 +1,5 @@
 -- Messages with the payloads that a history gave them.
-use Rattle.std.proofs.Common.{◌≡◌, ℕ, suc, ◌≤◌, Bool, true, false, cond, ◌||◌, List, [], ◌∷◌, ◌++◌, length, Some, filter, refl, sym, ap, ◌∙◌, subst, arith}
+use Rattle.std.proofs.Common.{◌≡◌, ℕ, suc, ◌≤◌, Bool, true, false, cond, ◌||◌, List, [], ◌∷◌, ◌++◌, length, Some, filter, refl, sym, ap, ◌∙◌, subst}
 use Rattle.std.specs.Prelude.{map, All, slice_get, if◌then◌else◌}
 use Rattle.std.specs.List.{AllByRecursion}
 use Rattle.std.specs.FinSet as set
@@ -13,13 +13,13 @@ use Rattle.gb_types.specs.declared.message.MsgId.{MsgId}
 use Rattle.gb_types.specs.declared.spec.Spec.{Spec}
 use Rattle.gb_types.proofs.SameLemmas.{same-true}
 use Rattle.gb_layer.specs.Machine.{mentions}
-use Rattle.gb_layer.specs.Modules.{now_delivered, broadcasts}
-use Rattle.gb_slot.specs.History.{base_of, call_of, calls_of, known, delivered, log_of, puts_of}
+use Rattle.gb_slot.specs.History.{call_of, calls_of, known, delivered, log_of, puts_of}
 use Rattle.gb_slot.specs.Messages.{has, payload_in, entry_in, with_new}
 use Rattle.gb_slot.specs.declared.history.GroupCall.{GroupCall}
 use Rattle.gb_slot.specs.declared.history.GroupCall.TheVariants.{Own, Other, Crashed}
 use Rattle.gb_cluster.specs.Laws.{copies}
-use Rattle.gb_cluster.proofs.DeliveryLemmas.{log_once, log_mentioned, broadcasts_mentioned}
+use Rattle.gb_stack.specs.Kinds.{kind_broadcasts}
+use Rattle.gb_stack.proofs.DeliveryLemmas.{kind_log_once, kind_log_mentioned, kind_broadcasts_mentioned}
 
 has-push : (xs : List Entry) (x : Entry) (m : MsgId) → has (xs ++ x ∷ []) m ≡ (same (message_of x) m || has xs m)
 has-push [] x m = refl
@@ -64,12 +64,12 @@ entries_found P told (m ∷ ms) all there = (entry_found P (known told) m all (h
 
 -- what holds of each known message holds of the log
 pub all_log : (P : Entry → Type 0) (spec : Spec) (me : ℕ) (told : List GroupCall) → All P (known told) → All P (log_of spec me told)
-all_log P spec me told all = All-from_recursion P (log_of spec me told) (entries_found P told (delivered spec me told) all (log_mentioned (base_of spec.kind) me (set.items spec.members) (calls_of told)))
+all_log P spec me told all = All-from_recursion P (log_of spec me told) (entries_found P told (delivered spec me told) all (kind_log_mentioned spec.kind me (set.items spec.members) (calls_of told)))
 
 -- and of what a call makes the group broadcast
 pub all_puts : (P : Entry → Type 0) (spec : Spec) (me : ℕ) (c : GroupCall) (told : List GroupCall) → All P (known (c ∷ told)) → All P (puts_of spec me c told)
 unfolding calls_of
-all_puts P spec me c told all = All-from_recursion P (puts_of spec me c told) (entries_found P (c ∷ told) (broadcasts (base_of spec.kind) me (call_of c) (calls_of told)) all (broadcasts_mentioned (base_of spec.kind) me (call_of c) (calls_of told)))
+all_puts P spec me c told all = All-from_recursion P (puts_of spec me c told) (entries_found P (c ∷ told) (kind_broadcasts spec.kind me (call_of c) (calls_of told)) all (kind_broadcasts_mentioned spec.kind me (call_of c) (calls_of told)))
 
 with_one : (P : Entry → Type 0) (xs : List Entry) (x : Entry) → P x → All P xs → All P (with_new xs x)
 with_one P xs x here all = elim (has xs (message_of x)) as (λ b. All P (if b then xs else xs ++ x ∷ [])) [
@@ -107,10 +107,13 @@ copies-entries xs m (y ∷ ms) = go (same y m) (copies-entries xs m ms)
 -- no message stands twice in a log
 pub copies-log : (spec : Spec) (me : ℕ) (told : List GroupCall) (m : MsgId) → copies m (log_of spec me told) ≤ 1
 copies-log spec me told m =
-    subst (λ n. n ≤ 1)
-    (sym (ap length (log_once (base_of spec.kind) me (set.items spec.members) (calls_of told) m)) ∙ (sym (copies-entries (known told) m (delivered spec me told)) ∙ length-filter (λ (x : Entry). same (message_of x) m) (log_of spec me told)))
-    (few (now_delivered (base_of spec.kind) me (set.items spec.members) (calls_of told) m))
+    subst (λ n. n ≤ 1) (sym (copies-entries (known told) m (delivered spec me told)) ∙ length-filter (λ (x : Entry). same (message_of x) m) (log_of spec me told))
+    (kind_log_once spec.kind me (set.items spec.members) (calls_of told) m)
+
+-- the messages of a log are what was delivered
+pub messages-log : (spec : Spec) (me : ℕ) (told : List GroupCall) → map message_of (log_of spec me told) ≡ delivered spec me told
+messages-log spec me told = of_entries (known told) (delivered spec me told)
   where
-    few : (b : Bool) → length (cond b (m ∷ []) []) ≤ 1
-    few true = omega arith
-    few false = omega arith
+    of_entries : (xs : List Entry) (ms : List MsgId) → map message_of (map (entry_in xs) ms) ≡ ms
+    of_entries xs [] = refl
+    of_entries xs (m ∷ ms) = ap (λ ys. m ∷ ys) (of_entries xs ms)

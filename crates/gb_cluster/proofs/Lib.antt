@@ -42,10 +42,10 @@ pub mod NodeCodeLemmas
 pub mod ActingLemmas
 pub mod Theorem
 pub mod CodeLemmas
-pub mod DeliveryLemmas
 pub mod KnownLemmas
 pub mod AcceptedLemmas
 pub mod IntegrityLemmas
+pub mod OrderLemmas
 pub mod CommandLemmas
 pub mod RunCommands
 pub mod InsideLemmas

@@ -8,18 +8,17 @@ use Rattle.std.proofs.Math.Seq.{get_or-append_seam}
 use Rattle.std.proofs.lemmas.Bool.{cases_lt}
 use Rattle.std.proofs.lemmas.Bool.Decides.{eqb_tells}
 use Rattle.gb_types.specs.declared.entry.Entry.{Entry}
-use Rattle.gb_types.specs.declared.kind.Kind.{Kind}
-use Rattle.gb_types.specs.declared.kind.Kind.TheVariants.{Beb}
 use Rattle.gb_types.specs.declared.limits.TheConstants.{NODES}
 use Rattle.gb_types.specs.declared.node.NodeId.{NodeId}
 use Rattle.gb_types.specs.declared.reply.Reply.{Reply}
 use Rattle.gb_types.specs.declared.refusal.Refusal.TheVariants.{Stopped}
 use Rattle.gb_types.specs.declared.reply.Reply.TheVariants.{Done, Said, Refused}
 use Rattle.gb_types.specs.declared.spec.Spec.{Spec}
-use Rattle.gb_layer.specs.Modules.{log, delivers}
-use Rattle.gb_layer.specs.declared.base.Base.TheVariants.{BestEffort}
-use Rattle.gb_layer.specs.declared.call.Call.{Call}
-use Rattle.gb_slot.specs.History.{base_of, puts_of, log_of, calls_of, known}
+use Rattle.gb_stack.specs.Kinds.{kind_log}
+use Rattle.gb_stack.proofs.DeliveryLemmas.{same_members}
+use Rattle.gb_types.specs.Rising.{rising, AreNodes}
+use Rattle.gb_types.proofs.AllMemberLemmas.{all_rising}
+use Rattle.gb_slot.specs.History.{puts_of, log_of, calls_of, known}
 use Rattle.gb_slot.specs.Messages.{entry_in}
 use Rattle.gb_slot.specs.Rules.{Shown, is_other, open_answer, say_answer, fetch_answer}
 use Rattle.gb_slot.specs.declared.history.GroupCall.{GroupCall}
@@ -34,13 +33,9 @@ use Rattle.gb_cluster.specs.declared.group.GroupEvent.TheVariants.{Tenant, AskMa
 use Rattle.gb_cluster.specs.declared.group.GroupStep.{GroupStep}
 use Rattle.gb_cluster.specs.declared.group.Reserve.{Reserve}
 
--- best-effort broadcast does not ask who the members are
-log_any : (kind : Kind) (me : ℕ) (xs ys : List ℕ) (past : List Call) → log (base_of kind) me xs past ≡ log (base_of kind) me ys past
-log_any Beb me xs ys [] = refl
-log_any Beb me xs ys (c ∷ past) = ap (λ l. l ++ delivers BestEffort me xs c past) (log_any Beb me xs ys past)
-
-pub log_of_any : (spec : Spec) (me : ℕ) (xs : List ℕ) (told : List GroupCall) → map (entry_in (known told)) (log (base_of spec.kind) me xs (calls_of told)) ≡ log_of spec me told
-log_of_any spec me xs told = ap (map (entry_in (known told))) (log_any spec.kind me xs (set.items spec.members) (calls_of told))
+-- the log, whichever way the members are listed
+pub log_is : (spec : Spec) (me : ℕ) (told : List GroupCall) → AreNodes spec.members → map (entry_in (known told)) (kind_log spec.kind me (rising spec.members) (calls_of told)) ≡ log_of spec me told
+log_is spec me told nodes = ap (map (entry_in (known told))) (same_members spec.kind me (rising spec.members) (set.items spec.members) (λ p. sym (all_rising spec.members nodes p)) (calls_of told))
 
 -- An item of a list over numbers.
 

@@ -1,5 +1,5 @@
 -- What the parts of a node's code give together.
-use Rattle.std.proofs.Common.{◌≡◌, ℕ, zero, suc, ◌+◌, ◌≤◌, List, [], ◌∷◌, ◌++◌, length, Option, Some, None, Bool, true, false, cond, ◌&&◌, ◌⊎◌, inl, inr, refl, ◌∙◌, ap, arith, count_by, length-append}
+use Rattle.std.proofs.Common.{◌≡◌, ℕ, zero, suc, ◌+◌, ◌≤◌, List, [], ◌∷◌, ◌++◌, length, Option, Some, None, Bool, true, false, cond, ◌&&◌, ◌⊎◌, inl, inr, refl, sym, ◌∙◌, ap, arith, count_by, length-append}
 use Rattle.std.specs.Prelude.{filter, fold, nat_eq, slice_set, if◌then◌else◌}
 use Rattle.std.specs.FinSet as set
 use Rattle.std.specs.List.{range_with_len}
@@ -21,11 +21,15 @@ use Rattle.gb_types.specs.Rising.{rising}
 use Rattle.gb_types.specs.declared.entry.Entry.{Entry}
 use Rattle.gb_types.specs.declared.limits.TheConstants.{NODES}
 use Rattle.gb_types.specs.declared.node.NodeId.{NodeId}
+use Rattle.gb_types.specs.declared.refusal.Refusal.TheVariants.{OutOfMemory, Stopped}
+use Rattle.gb_types.specs.declared.reply.Reply.{Reply}
+use Rattle.gb_types.specs.declared.reply.Reply.TheVariants.{Refused}
+use Rattle.gb_types.specs.declared.request.Request.{Request}
 use Rattle.gb_types.specs.declared.spec.TenantRow.{TenantRow}
 use Rattle.gb_cluster.specs.Hosted.{first_waiting}
 use Rattle.gb_cluster.specs.NodeValue.{GroupAt, NodeValue}
 use Rattle.gb_cluster.specs.Nodes.{node_numbered}
-use Rattle.gb_cluster.specs.World.{first_of, is_reached, packed, packed_of, packet_for, node_packed, sender_to, receiver_from, item_done, newly_done, without_done, admission_of, group_came, node_took}
+use Rattle.gb_cluster.specs.World.{first_of, is_reached, packed, packed_of, packet_for, node_packed, sender_to, receiver_from, item_done, newly_done, without_done, admission_of, group_came, node_took, running_reply, node_reply}
 use Rattle.gb_cluster.specs.declared.packet.Item.{Item}
 use Rattle.gb_cluster.specs.declared.packet.Packet.{Packet}
 
@@ -121,3 +125,8 @@ took_parts p v i j S sender R receiver ready acked group watch place place_too S
     watch_is
     (receiver_is ∙ ap (λ r. if nat_eq p.frame 0 then r else taken r p.frame (admission r p.frame)) R_is)
     (group_is ∙ (λ k. if nat_eq p.frame 0 then whole k else group_came p (admission (R_is k) p.frame) (whole k)))
+
+-- a running node's reply is the node's
+pub replied : (nodes me : ℕ) (v : NodeValue) (request : Request) (r : Reply) → v.stopped ≡ false → (r ≡ Refused OutOfMemory) ⊎ (r ≡ running_reply nodes me v request) → (r ≡ Refused OutOfMemory) ⊎ (r ≡ node_reply nodes me v request)
+replied nodes me v request r running (inl none) = inl none
+replied nodes me v request r running (inr is) = inr (is ∙ sym (ap (λ (b : Bool). if b then Refused Stopped else running_reply nodes me v request) running))

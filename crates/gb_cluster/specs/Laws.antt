@@ -1,6 +1,6 @@
 -- What holds of every group alone, and so of each group in a cluster. A law speaks of every legal list of events; each list with which a legal one begins is
 -- legal too, so what a law says of the whole list it says at every moment: a message was accepted before it stands in any log.
-use Rattle.std.specs.Prelude.{ℕ, ◌-◌, ◌≡◌, ◌≤◌, ◌<◌, ◌&&◌, List, [], ◌∷◌, ◌++◌, All, count_by, length, Some, slice_get, nat_eq, if◌then◌else◌}
+use Rattle.std.specs.Prelude.{ℕ, ◌-◌, ◌≡◌, ◌≤◌, ◌<◌, ◌&&◌, List, [], ◌∷◌, ◌++◌, All, count_by, length, map, Option, Some, None, true, slice_get, nat_eq, if◌then◌else◌}
 use Rattle.gb_types.specs.Entry.{message_of}
 use Rattle.gb_types.specs.Message.{same}
 use Rattle.gb_types.specs.declared.address.Addr.{Addr}
@@ -9,9 +9,12 @@ use Rattle.gb_types.specs.declared.message.MsgId.{MsgId}
 use Rattle.gb_types.specs.declared.reply.Reply.{Reply}
 use Rattle.gb_types.specs.declared.reply.Reply.TheVariants.{Said}
 use Rattle.gb_types.specs.declared.request.Request.TheVariants.{Say}
+use Rattle.gb_types.specs.declared.spec.Spec.{Spec}
+use Rattle.gb_fifo.specs.Order.{RunsFromOne}
+use Rattle.gb_stack.specs.Kinds.{is_fifo}
 use Rattle.gb_cluster.specs.Alone.{Group, reply_to, after, nobody, alone, log_at, IsLegal}
 use Rattle.gb_cluster.specs.Headline.{seen_in, IsIsolated}
-use Rattle.gb_cluster.specs.Project.{is_addr, has_row}
+use Rattle.gb_cluster.specs.Project.{is_addr, has_row, project}
 use Rattle.gb_cluster.specs.World.{World}
 use Rattle.gb_cluster.specs.declared.answer.Answer.{Answer}
 use Rattle.gb_cluster.specs.declared.answer.Answer.TheVariants.{Reply as Replied}
@@ -81,3 +84,19 @@ pub record RunIntegrity (g : Addr) (w : World) : Type 0 where
 -- so of each group that is what it is alone
 abbrev pub AreIntegral : Type 0
 AreIntegral = (g : Addr) (w : World) → IsIsolated g w → RunIntegrity g w
+
+-- Order.
+
+-- where the group was made with a first-in first-out kind, the messages of each origin stand in the log as 1, 2, 3, .. (Hadzilacos, Toueg 1994, FIFO Order)
+abbrev pub KeepsOrder : Option Spec → List Entry → Type 0
+KeepsOrder None log = Unit {0}
+KeepsOrder (Some spec) log = is_fifo spec.kind ≡ true → RunsFromOne (map message_of log)
+
+-- so in the log of each node, for the kind that was chosen there
+abbrev pub AreInOrder : Type 0
+AreInOrder = (nodes number : ℕ) (steps : List GroupStep) → IsLegal nodes number steps → (b : ℕ) → KeepsOrder (alone nodes number steps b).spec (log_at b (alone nodes number steps b).spec (alone nodes number steps b).told)
+
+-- and in the log that is seen at each node of a cluster, of each group that is what it is alone
+abbrev pub RunsAreInOrder : Type 0
+RunsAreInOrder = (g : Addr) (w : World) → IsIsolated g w → (a b : ℕ) → a < length w.nodes → b < length w.nodes
+    → KeepsOrder (alone (length w.nodes) g.group (project g w.packets w.steps) a).spec (seen_in w g a b).log

@@ -1,5 +1,5 @@
 //! Laws of one group: what follows for it from its definition alone, over every list of events.
-ghost use Rattle.gb_cluster.specs.Laws.{AreIntegral, IsIntegral};
+ghost use Rattle.gb_cluster.specs.Laws.{AreInOrder, AreIntegral, IsIntegral, RunsAreInOrder};
 ghost use Rattle.gb_cluster.specs.TwoRuns.{AreAlike};
 
 /// Integrity of a group alone: each entry of a log is the message that its origin was told is accepted under
@@ -12,6 +12,17 @@ pub fn integrity()
 /// answered as accepted under that number at its origin, with that payload, and no message is seen there twice.
 pub fn run_integrity()
     ensures { AreIntegral }
+{}
+
+/// Order of a group alone: where its kind is first-in first-out, each log has each origin's messages as 1, 2, 3, ..
+/// without a gap.
+pub fn order()
+    ensures { AreInOrder }
+{}
+
+/// Order in a run: so has each log that is seen of a group that is what it is alone.
+pub fn run_order()
+    ensures { RunsAreInOrder }
 {}
 
 /// Two runs that agree on a group show the same of it at each node.

@@ -2,6 +2,7 @@
 ghost use Rattle.std.specs.Prelude.{ℕ, ◌≡◌, ◌+◌, ◌-◌, ◌<◌, ◌≤◌, ◌++◌, [], ◌∷◌, ◌||◌, ◌&&◌, not, true, IfOk, OnOk, IfSome, IfNone, None, Some, length, map, min, take, drop, replicate, slice_get, slice_index_or, slice_set, if◌then◌else◌};
 ghost use Rattle.std.specs.Option.{option_to_list};
 ghost use Rattle.gb_types.specs.declared.limits.TheConstants.{NODES as MOST};
+ghost use Rattle.gb_types.specs.Rising.{rising, AreNodes};
 ghost use Rattle.gb_layer.specs.Machine as machine;
 ghost use Rattle.gb_slot.specs.History as history;
 ghost use Rattle.gb_slot.specs.Messages as messages;
@@ -14,13 +15,11 @@ ghost use Rattle.gb_cluster.specs.Rules as rules;
 
 use crate::group::{GroupEvent, GroupStep, Reserve};
 use crate::observation::{NodeSeen, Observation, copies, copy_of};
-use gb_layer::base::Base;
 use gb_layer::call::Call;
-use gb_layer::plain;
 use gb_slot::history::GroupCall;
 use gb_slot::phase::Phase;
+use gb_stack::plain;
 use gb_types::entry::{Entries, Entry};
-use gb_types::kind::Kind;
 use gb_types::limits::{FETCH, NODES, PAYLOAD};
 use gb_types::memory::OutOfMemory;
 use gb_types::message::MsgId;
@@ -33,15 +32,6 @@ use std::alloc::Global;
 use std::marker::Model;
 
 // What a group's history gives.
-
-/// The module of broadcast that a kind is.
-fn base(kind: Kind) -> Base
-    ensures { result ≡ history.base_of kind }
-{
-    match kind {
-        Kind::Beb => Base::BestEffort,
-    }
-}
 
 /// What the broadcast is called for.
 fn call_of(call: &GroupCall) -> Call
@@ -154,8 +144,20 @@ fn known(alloc: Global, told: &[GroupCall]) -> Result<Entries, OutOfMemory>
     }
 }
 
-/// What the group delivered. Best-effort broadcast does not ask who the members are.
-#[tactic(auto, using(crate::proofs::ModelLemmas::log_of_any))]
+/// The members, rising.
+fn members_of(alloc: Global, spec: &Spec) -> Result<Vec<NodeId>, OutOfMemory>
+    ensures rising { IfOk result (λ v. machine.numbers v.items ≡ rising spec.now.members) }
+    ensures nodes { IfOk result (λ _. AreNodes spec.now.members) }
+{
+    let mut members = Vec::new(alloc);
+    for member in spec.members.nodes() {
+        members.push(member)?;
+    }
+    Ok(members)
+}
+
+/// What the group delivered.
+#[tactic(auto, using(crate::proofs::ModelLemmas::log_is))]
 fn log_of(
     alloc: Global,
     spec: &Spec,
@@ -165,7 +167,8 @@ fn log_of(
     ensures { IfOk result (λ e. e ≡ history.log_of spec.now me.number told.now) }
 {
     let calls = calls_of(alloc, told)?;
-    let delivered = plain::log(alloc, base(spec.kind), me, &[], &calls)?;
+    let members = members_of(alloc, spec)?;
+    let delivered = plain::log(alloc, spec.kind, me, &members, &calls)?;
     let known = known(alloc, told)?;
     entries_in(alloc, known.as_slice(), &delivered)
 }
@@ -184,7 +187,7 @@ fn puts_of(
         [] => Ok(Entries::new(alloc)),
         [_, ..] => {
             let calls = calls_of(alloc, told)?;
-            let sent = plain::broadcasts(alloc, base(spec.kind), me, &calls)?;
+            let sent = plain::broadcasts(alloc, spec.kind, me, &calls)?;
             let known = known(alloc, told)?;
             entries_in(alloc, known.as_slice(), &sent)
         }
@@ -256,7 +259,7 @@ fn is_let_fall(spec: &Spec, me: NodeId, from: NodeId, x: &Entry, before: bool, k
     if u32::from(x.seq) > spec.msgs {
         return true;
     }
-    (x.origin == me && !known) || x.origin != from
+    x.origin == me && !known
 }
 
 /// Whether the item is let fall, after all that the group was told.

@@ -1,5 +1,6 @@
 //! A node with room for one tenant and one group.
-ghost use Rattle.std.specs.Prelude.{◌≡◌, ◌⊎◌, ◌≤◌, ◌<◌, true, ℕ, List, Some, filter, fold, length, is_some, nat_eq, if◌then◌else◌, IsSome, IfOk, OnOk, OnErr};
+ghost use Rattle.std.specs.Prelude.{◌≡◌, ◌⊎◌, ◌≤◌, ◌<◌, true, ℕ, List, Some, filter, fold, length, is_some, nat_eq, replicate, if◌then◌else◌, IsSome, IfOk, OnOk, OnErr};
+ghost use Rattle.std.specs.FinSet as set;
 ghost use Rattle.std.specs.Option.{option_to_list};
 ghost use Rattle.gb_types.specs.Entry.{message_of};
 ghost use Rattle.gb_types.specs.Rising.{rising};
@@ -8,6 +9,7 @@ ghost use Rattle.gb_types.specs.declared.node.NodeId.{NodeId as Id};
 ghost use Rattle.gb_detect.specs.Watch.{due};
 ghost use Rattle.gb_link.specs.Ack.{covers};
 ghost use Rattle.gb_link.specs.Received.{admission, taken};
+ghost use Rattle.gb_link.specs.SendWindow.{new_window};
 ghost use Rattle.gb_slot.specs.Rules.{open_answer, say_answer, fetch_answer, is_member};
 ghost use Rattle.gb_slot.specs.Slot.{IsWithinLimits, new_slot, waiting, slot_opened, slot_said, slot_came, slot_done, slot_took};
 ghost use Rattle.gb_cluster.specs.Hosted.{group_at, group_of, HasRoom, KeepsRoom, first_waiting};
@@ -390,6 +392,54 @@ fn notice_all(group: &mut Option<Hosted>, found: &NodeSet) -> Result<(), OutOfMe
     Ok(())
 }
 
+/// For each node, the sending end of a link on which nothing was sent.
+fn new_senders(alloc: Global) -> [Sender<Item>; NODES]
+    ensures { result ≡ replicate MOST new_window }
+{
+    [
+        Sender::new(alloc),
+        Sender::new(alloc),
+        Sender::new(alloc),
+        Sender::new(alloc),
+        Sender::new(alloc),
+        Sender::new(alloc),
+        Sender::new(alloc),
+        Sender::new(alloc),
+        Sender::new(alloc),
+        Sender::new(alloc),
+        Sender::new(alloc),
+        Sender::new(alloc),
+        Sender::new(alloc),
+        Sender::new(alloc),
+        Sender::new(alloc),
+        Sender::new(alloc),
+    ]
+}
+
+/// For each node, the receiving end of a link on which nothing came.
+fn new_receivers() -> [Receiver; NODES]
+    ensures { result ≡ replicate MOST set.empty }
+{
+    [
+        Receiver::new(),
+        Receiver::new(),
+        Receiver::new(),
+        Receiver::new(),
+        Receiver::new(),
+        Receiver::new(),
+        Receiver::new(),
+        Receiver::new(),
+        Receiver::new(),
+        Receiver::new(),
+        Receiver::new(),
+        Receiver::new(),
+        Receiver::new(),
+        Receiver::new(),
+        Receiver::new(),
+        Receiver::new(),
+    ]
+}
+
 impl OneNode {
     /// A node at which nothing has happened, in a cluster of so many. It notices a node that is silent for so
     /// many ticks.
@@ -404,42 +454,8 @@ impl OneNode {
             alloc,
             row: None,
             group: None,
-            senders: [
-                Sender::new(alloc),
-                Sender::new(alloc),
-                Sender::new(alloc),
-                Sender::new(alloc),
-                Sender::new(alloc),
-                Sender::new(alloc),
-                Sender::new(alloc),
-                Sender::new(alloc),
-                Sender::new(alloc),
-                Sender::new(alloc),
-                Sender::new(alloc),
-                Sender::new(alloc),
-                Sender::new(alloc),
-                Sender::new(alloc),
-                Sender::new(alloc),
-                Sender::new(alloc),
-            ],
-            receivers: [
-                Receiver::new(),
-                Receiver::new(),
-                Receiver::new(),
-                Receiver::new(),
-                Receiver::new(),
-                Receiver::new(),
-                Receiver::new(),
-                Receiver::new(),
-                Receiver::new(),
-                Receiver::new(),
-                Receiver::new(),
-                Receiver::new(),
-                Receiver::new(),
-                Receiver::new(),
-                Receiver::new(),
-                Receiver::new(),
-            ],
+            senders: new_senders(alloc),
+            receivers: new_receivers(),
             detector: Detector::new(me, nodes, silence),
             stopped: false,
         }

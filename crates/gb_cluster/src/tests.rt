@@ -63,6 +63,11 @@ fn tenant(tenant: u16) -> Request {
 
 // Makes a best-effort group of these members.
 fn make(addr: Addr, members: &[NodeId]) -> Request {
+    make_kind(addr, Kind::Beb, members)
+}
+
+// Makes a group of this kind.
+fn make_kind(addr: Addr, kind: Kind, members: &[NodeId]) -> Request {
     let mut set = NodeSet::new();
     for member in members {
         set.insert(*member);
@@ -71,7 +76,7 @@ fn make(addr: Addr, members: &[NodeId]) -> Request {
         TOKEN,
         addr,
         Spec {
-            kind: Kind::Beb,
+            kind,
             members: set,
             msgs: 2,
             bytes: 50,
@@ -401,5 +406,87 @@ fn a_stopped_node_refuses_all(rt: HostRuntime) -> Result<(), Fail> {
             (Event::At(a, fetch(g)), "log 1 0:1:78"),
         ],
     )?;
+    Ok(())
+}
+
+// Says what node 0 sends in two frames, of which the second comes first, and passes on whatever waits, with a
+// notice of node 0 at node 1 in between.
+fn passed_on(alloc: Global, nodes: [NodeId; 3], g: Addr) -> Result<Vec<Event>, OutOfMemory> {
+    let [a, b, c] = nodes;
+    let mut events = Vec::new(alloc);
+    events.push(Event::At(a, say(alloc, g, b"x")?))?;
+    events.push(Event::At(a, say(alloc, g, b"y")?))?;
+    events.push(Event::At(c, say(alloc, g, b"z")?))?;
+    for (from, to) in [(a, b), (a, b), (a, c), (c, b)] {
+        events.push(Event::Pack(from, to))?;
+    }
+    for number in [2, 4, 1, 3, 2] {
+        events.push(Event::Arrive(number))?;
+    }
+    events.push(Event::Ack(c, b))?;
+    events.push(Event::Tick(b))?;
+    events.push(Event::Arrive(5))?;
+    events.push(Event::Tick(b))?;
+    for (from, to) in [(b, c), (b, c), (b, c), (b, a), (c, b), (c, b), (c, a)] {
+        events.push(Event::Pack(from, to))?;
+    }
+    events.push(Event::Again(a, b, 0))?;
+    for number in 1..20 {
+        events.push(Event::Arrive(number))?;
+    }
+    events.push(Event::Pack(c, b))?;
+    events.push(Event::Pack(c, b))?;
+    for number in 1..24 {
+        events.push(Event::Arrive(number))?;
+    }
+    events.push(Event::Stop(c))?;
+    for node in nodes {
+        events.push(Event::At(node, fetch(g)))?;
+    }
+    Ok(events)
+}
+
+// A run of three nodes with a group of this kind; what the last three events, fetches at each node, were answered.
+fn run_kind(rt: &impl Abort, alloc: Global, kind: Kind) -> Result<[Vec<u8>; 3], OutOfMemory> {
+    let nodes = [node(rt, 0), node(rt, 1), node(rt, 2)];
+    let g = addr(7, 1);
+    let mut events = Vec::new(alloc);
+    for node in nodes {
+        events.push(Event::At(node, tenant(7)))?;
+        events.push(Event::At(node, make_kind(g, kind, &nodes)))?;
+        events.push(Event::At(node, open(g)))?;
+    }
+    for event in passed_on(alloc, nodes, g)? {
+        events.push(event)?;
+    }
+    assert!(rt; are_placed(3, events.as_slice()));
+    let trace = Cluster::run(alloc, plan(3), events.as_slice())?;
+    assert!(rt; !trace.refused);
+    compare_with_alone(rt, alloc, 3, events.as_slice(), &trace, g)?;
+    assert!(rt; trace.answers.len() == events.len() && 3 <= events.len());
+    let last = trace.answers.len() - 3;
+    let first = told(rt, alloc, &trace.answers[last])?;
+    let second = told(rt, alloc, &trace.answers[last + 1])?;
+    let third = told(rt, alloc, &trace.answers[last + 2])?;
+    Ok([first, second, third])
+}
+
+#[test]
+fn each_kind_is_what_it_is_alone(rt: HostRuntime) -> Result<(), Fail> {
+    let wanted = [
+        (Kind::Beb, "log 3 0:2:79 2:1:7a 0:1:78"),
+        (Kind::Lazy, "log 3 0:2:79 2:1:7a 0:1:78"),
+        (Kind::Eager, "log 3 0:2:79 2:1:7a 0:1:78"),
+        (Kind::AllAck, "log 3 2:1:7a 0:1:78 0:2:79"),
+        (Kind::FifoBeb, "log 3 2:1:7a 0:1:78 0:2:79"),
+        (Kind::FifoLazy, "log 3 2:1:7a 0:1:78 0:2:79"),
+        (Kind::FifoEager, "log 3 2:1:7a 0:1:78 0:2:79"),
+        (Kind::FifoAllAck, "log 3 2:1:7a 0:1:78 0:2:79"),
+    ];
+    for (kind, log) in wanted {
+        let [_, second, third] = run_kind(&rt, rt.alloc(), kind)?;
+        assert_eq!(rt; second.as_slice(), log.as_bytes());
+        assert_eq!(rt; third.as_slice(), b"refused 15 Stopped".as_slice());
+    }
     Ok(())
 }

@@ -18,7 +18,7 @@ use Rattle.gb_fifo.specs.FifoMachine.{FifoState, fifo_next, fifo_gives}
 use Rattle.gb_fifo.specs.Order.{upto, numbers_of, RunsFromOne}
 use Rattle.gb_fifo.proofs.OrderLemmas.{upto_more, length_upto}
 
-numbers-append : (q : ℕ) (xs ys : List MsgId) → numbers_of q (xs ++ ys) ≡ numbers_of q xs ++ numbers_of q ys
+pub numbers-append : (q : ℕ) (xs ys : List MsgId) → numbers_of q (xs ++ ys) ≡ numbers_of q xs ++ numbers_of q ys
 numbers-append q xs ys =
     ap (map (λ (m : MsgId). m.seq)) (filter-append (λ (m : MsgId). nat_eq m.origin.number q) xs ys)
     ∙ map-append (λ (m : MsgId). m.seq) (filter (λ (m : MsgId). nat_eq m.origin.number q) xs) (filter (λ (m : MsgId). nat_eq m.origin.number q) ys)

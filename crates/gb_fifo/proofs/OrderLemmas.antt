@@ -108,7 +108,7 @@ counted_more p k last n lt h is =
     ap (λ j. prefix_len p (range_with_len (k + 1) j)) e ∙ ap (λ v. cond {A = ℕ} v (1 + rest) 0) h in
     omega (arith, f, is)
 
-drop_short : (k n : ℕ) → n ≤ k → drop k (upto n) ≡ []
+pub drop_short : (k n : ℕ) → n ≤ k → drop k (upto n) ≡ []
 drop_short k n h = drop_all k (upto n) (let e = length_upto n in omega (arith, e, h))
 
 -- messages are added one by one: none yet

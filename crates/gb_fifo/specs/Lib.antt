@@ -4,3 +4,4 @@ pub mod FifoMachine
 pub mod FifoRoom
 pub mod EntryLaws
 pub mod FifoLaws
+pub mod OrderLaws

@@ -5,7 +5,8 @@ ghost use Rattle.gb_types.specs.declared.message.MsgId.{MsgId};
 ghost use Rattle.gb_layer.specs.declared.call.Call.{Call};
 ghost use Rattle.gb_layer.specs.Machine.{after, all_ups, messages};
 ghost use Rattle.gb_fifo.specs.FifoMachine.{FifoState};
-ghost use Rattle.gb_fifo.specs.Order.{is_in, numbered, top, RunsFromOne, ordered_after, in_order};
+ghost use Rattle.gb_fifo.specs.Order.{is_in, numbered, upto, top, numbers_of, RunsFromOne, ordered_after, in_order};
+ghost use Rattle.gb_fifo.specs.OrderLaws.{AllIn, NoneTwice};
 
 use crate::fifo::Fifo;
 use gb_layer::layer::{Broadcast, Layer};
@@ -38,4 +39,13 @@ pub fn in_origin_order<L: Broadcast>()
 /// The order grows at its end: messages that are delivered later change nothing of what was given up before.
 pub fn grows_at_its_end()
     ensures { (earlier later : List MsgId) → in_order (earlier ++ later) ≡ in_order earlier ++ ordered_after earlier later }
+{}
+
+/// Of any list of messages the order gives up each origin's messages from 1 to its top, in this order, no message
+/// that does not stand in the list, and none twice, however often it stands there.
+pub fn gives_up_whole_runs()
+    ensures numbers { (origin : NodeId) (delivered : List MsgId) → numbers_of origin.number (in_order delivered) ≡ upto (top origin delivered) }
+    ensures runs { (delivered : List MsgId) → RunsFromOne (in_order delivered) }
+    ensures delivered { (delivered : List MsgId) → AllIn delivered (in_order delivered) }
+    ensures once { (delivered : List MsgId) → NoneTwice (in_order delivered) }
 {}

@@ -140,6 +140,66 @@ const NOTICED_NODES_ARE_CUT_OFF: Case = (
     SimEnd::All,
 );
 
+const SMALLEST_GROUP: Case = (
+    "cluster 1 2\ntenant 0 7 4 8 4096 4\nmake 0 7 1 allack 0 8 4096 4\nopen 0 7 1\nsay 0 7 1 61\nfetch 0 7 1 0 16\n",
+    "ok\nok\nok\nok\nsaid 1\nlog 1 0:1:61\n",
+    SimEnd::All,
+);
+
+const FIFO_HOLDS_BACK_WHAT_COMES_EARLY: Case = (
+    "cluster 2 3\ntenant 0 7 4 8 4096 4\nmake 0 7 1 fbeb 0,1 8 4096 4\nopen 0 7 1\ntenant 1 7 4 8 4096 4\nmake 1 7 1 fbeb 0,1 8 4096 4\nopen 1 7 1\nsay 0 7 1 61\npack 0 1\nsay 0 7 1 62\npack 0 1\narrive 2\nfetch 1 7 1 0 16\narrive 1\nfetch 1 7 1 0 16\n",
+    "ok\nok\nok\nok\nok\nok\nok\nsaid 1\npacket 1\nsaid 2\npacket 2\ngood first 1 0\nlog 0\ngood first 1 0\nlog 2 0:1:61 0:2:62\n",
+    SimEnd::All,
+);
+
+const PLAIN_BROADCAST_HOLDS_NOTHING_BACK: Case = (
+    "cluster 2 3\ntenant 0 7 4 8 4096 4\nmake 0 7 1 beb 0,1 8 4096 4\nopen 0 7 1\ntenant 1 7 4 8 4096 4\nmake 1 7 1 beb 0,1 8 4096 4\nopen 1 7 1\nsay 0 7 1 61\npack 0 1\nsay 0 7 1 62\npack 0 1\narrive 2\nfetch 1 7 1 0 16\narrive 1\nfetch 1 7 1 0 16\n",
+    "ok\nok\nok\nok\nok\nok\nok\nsaid 1\npacket 1\nsaid 2\npacket 2\ngood first 1 0\nlog 1 0:2:62\ngood first 1 0\nlog 2 0:2:62 0:1:61\n",
+    SimEnd::All,
+);
+
+const LAZY_RELAYS_FOR_A_CRASHED_ORIGIN: Case = (
+    "cluster 3 3\ntenant 0 7 4 8 4096 4\nmake 0 7 1 lazy 0,1,2 8 4096 4\nopen 0 7 1\ntenant 1 7 4 8 4096 4\nmake 1 7 1 lazy 0,1,2 8 4096 4\nopen 1 7 1\ntenant 2 7 4 8 4096 4\nmake 2 7 1 lazy 0,1,2 8 4096 4\nopen 2 7 1\nsay 0 7 1 61\npack 0 1\nsay 0 7 1 62\npack 0 1\narrive 1\nstop 0\ntick 1\ntick 1\nack 2 1\narrive 3\ntick 1\npack 1 2\narrive 4\nfetch 2 7 1 0 16\narrive 2\npack 1 2\narrive 5\nfetch 2 7 1 0 16\n",
+    "ok\nok\nok\nok\nok\nok\nok\nok\nok\nok\nsaid 1\npacket 1\nsaid 2\npacket 2\ngood first 1 0\nok\nnoticed -\nnoticed -\npacket 3\ngood none 0 0\nnoticed 0\npacket 4\ngood first 1 0\nlog 1 0:1:61\ngood first 1 0\npacket 5\ngood first 1 0\nlog 2 0:1:61 0:2:62\n",
+    SimEnd::All,
+);
+
+const GROUP_MADE_AFTER_A_NOTICE: Case = (
+    "cluster 2 2\ntick 0\ntick 0\ntenant 0 7 4 8 4096 4\nmake 0 7 1 allack 0,1 8 4096 4\nopen 0 7 1\nsay 0 7 1 61\nfetch 0 7 1 0 16\n",
+    "ok\nnoticed -\nnoticed 1\nok\nok\nok\nsaid 1\nlog 1 0:1:61\n",
+    SimEnd::All,
+);
+
+const NODES_WITH_UNLIKE_KINDS: Case = (
+    "cluster 3 3\ntenant 0 7 4 8 4096 4\nmake 0 7 1 eager 0,1,2 8 4096 4\nopen 0 7 1\ntenant 1 7 4 8 4096 4\nmake 1 7 1 beb 0,1,2 8 4096 4\nopen 1 7 1\ntenant 2 7 4 8 4096 4\nmake 2 7 1 beb 0,1,2 8 4096 4\nopen 2 7 1\nsay 2 7 1 61\npack 2 0\npack 2 1\narrive 1\npack 0 1\narrive 3\nfetch 1 7 1 0 16\narrive 2\nfetch 1 7 1 0 16\n",
+    "ok\nok\nok\nok\nok\nok\nok\nok\nok\nok\nsaid 1\npacket 1\npacket 2\ngood first 1 0\npacket 3\ngood first 1 0\nlog 0\ngood first 1 0\nlog 1 2:1:61\n",
+    SimEnd::All,
+);
+
+const PLACES_OF_A_LOG: Case = (
+    "cluster 1 2\ntenant 0 7 4 8 4096 4\nmake 0 7 1 allack 0 8 4096 4\nopen 0 7 1\nsay 0 7 1 61\nfetch 0 7 1 0 16\nfetch 0 7 1 1 16\nfetch 0 7 1 2 16\nfetch 0 7 1 0 17\n",
+    "ok\nok\nok\nok\nsaid 1\nlog 1 0:1:61\nlog 0\nrefused 11 BadPlace\nrefused 11 BadPlace\n",
+    SimEnd::All,
+);
+
+const ALL_ACK_WAITS_FOR_EACH_MEMBER: Case = (
+    "cluster 2 3\ntenant 0 7 4 8 4096 4\nmake 0 7 1 allack 0,1 8 4096 4\nopen 0 7 1\ntenant 1 7 4 8 4096 4\nmake 1 7 1 allack 0,1 8 4096 4\nopen 1 7 1\nsay 0 7 1 61\nfetch 0 7 1 0 16\npack 0 1\narrive 1\nfetch 1 7 1 0 16\npack 1 0\narrive 2\nfetch 0 7 1 0 16\n",
+    "ok\nok\nok\nok\nok\nok\nok\nsaid 1\nlog 0\npacket 1\ngood first 1 0\nlog 1 0:1:61\npacket 2\ngood first 1 1\nlog 1 0:1:61\n",
+    SimEnd::All,
+);
+
+const FRAMES_GIVEN_AGAIN_IN_FIFO_ORDER: Case = (
+    "cluster 2 3\ntenant 0 7 4 8 4096 4\nmake 0 7 1 fbeb 0,1 8 4096 4\nopen 0 7 1\ntenant 1 7 4 8 4096 4\nmake 1 7 1 fbeb 0,1 8 4096 4\nopen 1 7 1\nsay 0 7 1 61\npack 0 1\nsay 0 7 1 62\npack 0 1\narrive 2\nack 1 0\narrive 3\nagain 0 1 2\nagain 0 1 1\narrive 4\nagain 0 1 0\narrive 5\nfetch 1 7 1 0 16\n",
+    "ok\nok\nok\nok\nok\nok\nok\nsaid 1\npacket 1\nsaid 2\npacket 2\ngood first 1 0\npacket 3\ngood none 0 1\nnothing\npacket 4\ngood first 1 0\npacket 5\ngood seen 0 0\nlog 2 0:1:61 0:2:62\n",
+    SimEnd::All,
+);
+
+const NOTICES_OF_ONE_TICK_COUNT_IN_TURN: Case = (
+    "cluster 4 2\ntenant 0 7 4 8 4096 4\nmake 0 7 1 lazy 0,1,2,3 8 4096 4\nopen 0 7 1\ntenant 1 7 4 8 4096 4\nmake 1 7 1 lazy 0,1,2,3 8 4096 4\nopen 1 7 1\ntenant 2 7 4 8 4096 4\nmake 2 7 1 lazy 0,1,2,3 8 4096 4\nopen 2 7 1\ntenant 3 7 4 8 4096 4\nmake 3 7 1 lazy 0,1,2,3 8 4096 4\nopen 3 7 1\nsay 2 7 1 62\npack 2 0\narrive 1\nsay 1 7 1 61\npack 1 0\narrive 2\ntick 0\nack 3 0\narrive 3\ntick 0\npack 0 3\npack 0 3\narrive 4\narrive 5\nfetch 3 7 1 0 16\n",
+    "ok\nok\nok\nok\nok\nok\nok\nok\nok\nok\nok\nok\nok\nsaid 1\npacket 1\ngood first 1 0\nsaid 1\npacket 2\ngood first 1 0\nnoticed -\npacket 3\ngood none 0 0\nnoticed 1 2\npacket 4\npacket 5\ngood first 1 0\ngood first 1 0\nlog 2 1:1:61 2:1:62\n",
+    SimEnd::All,
+);
+
 /// Runs a schedule, by pieces of so many bytes.
 fn is_run(alloc: Global, case: &Case, piece: usize) -> Result<bool, SimFault> {
     let (schedule, answers, end) = *case;
@@ -166,6 +226,26 @@ fn worked_schedules_in_any_pieces(rt: HostRuntime) -> Result<(), Fail> {
         for piece in [1, 7, 100_000] {
             assert!(rt; is_run(rt.alloc(), case, piece)?);
         }
+    }
+    Ok(())
+}
+
+#[test]
+fn worked_schedules_of_the_kinds(rt: HostRuntime) -> Result<(), Fail> {
+    let cases = [
+        SMALLEST_GROUP,
+        FIFO_HOLDS_BACK_WHAT_COMES_EARLY,
+        PLAIN_BROADCAST_HOLDS_NOTHING_BACK,
+        LAZY_RELAYS_FOR_A_CRASHED_ORIGIN,
+        GROUP_MADE_AFTER_A_NOTICE,
+        NODES_WITH_UNLIKE_KINDS,
+        PLACES_OF_A_LOG,
+        ALL_ACK_WAITS_FOR_EACH_MEMBER,
+        FRAMES_GIVEN_AGAIN_IN_FIFO_ORDER,
+        NOTICES_OF_ONE_TICK_COUNT_IN_TURN,
+    ];
+    for case in &cases {
+        assert!(rt; is_run(rt.alloc(), case, 100)?);
     }
     Ok(())
 }

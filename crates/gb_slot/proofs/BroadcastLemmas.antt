@@ -1,24 +1,12 @@
--- What the group's broadcast gives, as its kind's module says.
+-- Facts of each item of a list, and that what is broadcast is mentioned.
 use Rattle.std.proofs.Common.{◌≡◌, ℕ, Bool, true, false, cond, List, zero, suc, [], ◌∷◌, ◌++◌, drop, filter}
 use Rattle.std.specs.List.{AllByRecursion}
 use Rattle.gb_types.specs.declared.kind.Kind.{Kind}
-use Rattle.gb_types.specs.declared.kind.Kind.TheVariants.{Beb}
-use Rattle.gb_types.specs.declared.node.NodeId.{NodeId}
-use Rattle.gb_layer.specs.Machine.{mentions, messages}
-use Rattle.gb_layer.specs.Modules.{IsLawful, first_mentions, broadcasts, delivers}
-use Rattle.gb_layer.proofs.BestEffort.{best_effort_out, best_effort_up}
+use Rattle.gb_layer.specs.Machine.{mentions}
+use Rattle.gb_layer.specs.Modules.{first_mentions}
 use Rattle.gb_layer.specs.FirstMentions.{first_mentions-mentioned}
-use Rattle.gb_slot.specs.Slot.{stack_gives}
-use Rattle.gb_layer.specs.declared.base.Base.{Base}
 use Rattle.gb_layer.specs.declared.call.Call.{Call}
-use Rattle.gb_slot.specs.History.{base_of}
-
--- what is broadcast and what is delivered is what the kind's module says
-pub sends_are : (kind : Kind) (me : NodeId) (c : Call) (past : List Call) → IsLawful me.number (c ∷ past) → (stack_gives me c).sends ≡ broadcasts (base_of kind) me.number c past
-sends_are Beb me c past lawful = best_effort_out me [] past c lawful
-
-pub ups_are : (kind : Kind) (me : NodeId) (members : List ℕ) (c : Call) (past : List Call) → IsLawful me.number (c ∷ past) → messages (stack_gives me c).ups ≡ delivers (base_of kind) me.number members c past
-ups_are Beb me members c past lawful = best_effort_up me members past c lawful
+use Rattle.gb_stack.specs.Kinds.{kind_broadcasts}
 
 all-filter : {X : Type 0} (P : X → Type 0) (q : X → Bool) (xs : List X) → AllByRecursion P xs → AllByRecursion P (filter q xs)
 all-filter P q [] a = tt
@@ -46,5 +34,5 @@ all-weaker P Q f [] a = tt
 all-weaker P Q f (x ∷ xs) a = (f x a.0, all-weaker P Q f xs a.1)
 
 -- only mentioned messages are broadcast
-pub broadcasts_mentioned : (base : Base) (me : ℕ) (c : Call) (past : List Call) → AllByRecursion (λ m. mentions (c ∷ past) m ≡ true) (broadcasts base me c past)
-broadcasts_mentioned base me c past = all-filter _ _ (first_mentions (c ∷ past)) (first_mentions-mentioned (c ∷ past))
+pub broadcasts_mentioned : (kind : Kind) (me : ℕ) (c : Call) (past : List Call) → AllByRecursion (λ m. mentions (c ∷ past) m ≡ true) (kind_broadcasts kind me c past)
+broadcasts_mentioned kind me c past = all-filter _ _ (first_mentions (c ∷ past)) (first_mentions-mentioned (c ∷ past))

@@ -1,5 +1,5 @@
 -- What one call of the group's broadcast makes of a slot.
-use Rattle.std.proofs.Common.{◌≡◌, ℕ, ◌<◌, true, false, List, [], ◌∷◌, ◌++◌, length, drop, refl, sym, ◌∙◌, ap, subst, arith, length-append}
+use Rattle.std.proofs.Common.{◌≡◌, ◌≢◌, ℕ, ◌<◌, true, false, List, [], ◌∷◌, ◌++◌, length, drop, refl, sym, ◌∙◌, ap, subst, arith, length-append}
 use Rattle.std.specs.Prelude.{if◌then◌else◌, map}
 use Rattle.std.specs.Ordering.{nat_cmp}
 use Rattle.std.specs.FinSet as set
@@ -7,22 +7,27 @@ use Rattle.std.specs.List.{AllByRecursion}
 use Rattle.std.proofs.lemmas.List.{drop-append-le, map-append}
 use Rattle.gb_types.specs.declared.entry.Entry.{Entry}
 use Rattle.gb_types.specs.declared.message.MsgId.{MsgId}
-use Rattle.gb_types.specs.declared.node.NodeId.{NodeId}
 use Rattle.gb_layer.specs.Machine.{mentions, messages, was_noticed, came_from}
-use Rattle.gb_layer.specs.Modules.{IsLawful, broadcasts}
+use Rattle.gb_layer.specs.Modules.{IsLawful}
+use Rattle.gb_stack.specs.Kinds.{kind_delivers, kind_broadcasts}
+use Rattle.gb_stack.specs.StackState.{stack_gives}
+use Rattle.gb_stack.proofs.StandsLemmas as stack
 use Rattle.gb_slot.specs.declared.history.GroupCall.{GroupCall}
-use Rattle.gb_slot.specs.History.{base_of, call_of, calls_of, with_told, known, said_in, delivered, puts_of}
+use Rattle.gb_slot.specs.History.{call_of, calls_of, with_told, known, said_in, puts_of}
 use Rattle.gb_slot.specs.Messages.{has, entry_in}
 use Rattle.gb_slot.specs.Rules.{is_other}
-use Rattle.gb_slot.specs.Slot.{stack_gives, waiting, taken_for, slot_called}
+use Rattle.gb_slot.specs.Slot.{waiting, taken_for, came_before, slot_called}
 use Rattle.gb_slot.specs.SlotState.{SlotState}
 use Rattle.gb_slot.specs.StandsFor.{StandsFor, reaches}
-use Rattle.gb_slot.proofs.BroadcastLemmas.{sends_are, ups_are, all-append, all-drop, all-weaker, broadcasts_mentioned}
+use Rattle.gb_slot.proofs.BroadcastLemmas.{all-append, all-drop, all-weaker, broadcasts_mentioned}
 use Rattle.gb_slot.proofs.KnownLemmas.{has-known, still_told, entries-stay_told}
 
 -- what the broadcast makes of a call
-called_sends : (s : SlotState) (told : List GroupCall) (c : GroupCall) → StandsFor s told → IsLawful s.me.number (call_of c ∷ calls_of told) → (stack_gives s.stack (call_of c)).sends ≡ broadcasts (base_of s.spec.kind) s.me.number (call_of c) (calls_of told)
-called_sends s told c st lawful = ap (λ k. (stack_gives k (call_of c)).sends) st.stack ∙ sends_are s.spec.kind s.me (call_of c) (calls_of told) lawful
+called_sends : (s : SlotState) (told : List GroupCall) (c : GroupCall) → StandsFor s told → IsLawful s.me.number (call_of c ∷ calls_of told) → (stack_gives s.stack (call_of c)).sends ≡ kind_broadcasts s.spec.kind s.me.number (call_of c) (calls_of told)
+called_sends s told c st lawful = stack.sends_broadcast s.spec.kind s.me s.spec.members (calls_of told) s.stack (call_of c) st.stack lawful
+
+called_ups : (s : SlotState) (told : List GroupCall) (c : GroupCall) → StandsFor s told → IsLawful s.me.number (call_of c ∷ calls_of told) → messages (stack_gives s.stack (call_of c)).ups ≡ kind_delivers s.spec.kind s.me.number (set.items s.spec.members) (call_of c) (calls_of told)
+called_ups s told c st lawful = stack.hands_up_delivered s.spec.kind s.me s.spec.members (calls_of told) s.stack (call_of c) st.stack lawful
 
 -- the messages that are known after a call
 called_known : (s : SlotState) (told : List GroupCall) (c : GroupCall) → StandsFor s told → with_told s.store c ≡ known (c ∷ told)
@@ -32,34 +37,33 @@ called_known s told c st = ap (λ es. with_told es c) st.store
 -- a slot whose broadcast takes a call stands for the history with it
 pub called_stands : (s : SlotState) (told : List GroupCall) (c : GroupCall) (said : ℕ) (noticed : set.FinSet nat_cmp) (acknowledged : List (set.FinSet nat_cmp)) → StandsFor s told → IsLawful s.me.number (call_of c ∷ calls_of told) → said ≡ said_in (c ∷ told)
     → ((x : MsgId) → x.origin.number ≡ s.me.number → said < x.seq → mentions (call_of c ∷ calls_of told) x ≡ false)
-    → ((x : MsgId) → came_from s.me.number (call_of c ∷ calls_of told) x.origin.number x ≡ mentions (call_of c ∷ calls_of told) x)
+    → ((p : ℕ) (x : MsgId) → p ≢ s.me.number → came_before (slot_called (call_of c) (with_told s.store c) s) p x ≡ came_from s.me.number (call_of c ∷ calls_of told) p x)
     → ((b : ℕ) → is_other s.spec s.me.number b ≡ true → set.contains noticed b ≡ was_noticed (call_of c ∷ calls_of told) b)
     → length acknowledged ≡ said
     → StandsFor (record (slot_called (call_of c) (with_told s.store c) s) { said = said; noticed = noticed; acknowledged = acknowledged }) (c ∷ told)
 unfolding calls_of
-called_stands s told c said noticed acknowledged st lawful count own direct others kept =
+called_stands s told c said noticed acknowledged st lawful count own arrivals others kept =
     let store : List Entry = with_told s.store c in
     let sends : List MsgId = (stack_gives s.stack (call_of c)).sends in
     let P : MsgId → Type 0 = λ m. has store m ≡ true in
-    let new : AllByRecursion P (broadcasts (base_of s.spec.kind) s.me.number (call_of c) (calls_of told)) =
-    all-weaker (λ m. mentions (call_of c ∷ calls_of told) m ≡ true) P (λ m is. ap (λ es. has es m) (called_known s told c st) ∙ (has-known (c ∷ told) m ∙ is)) _ (broadcasts_mentioned (base_of s.spec.kind) s.me.number (call_of c) (calls_of told)) in
+    let new : AllByRecursion P (kind_broadcasts s.spec.kind s.me.number (call_of c) (calls_of told)) =
+    all-weaker (λ m. mentions (call_of c ∷ calls_of told) m ≡ true) P (λ m is. ap (λ es. has es m) (called_known s told c st) ∙ (has-known (c ∷ told) m ∙ is)) _ (broadcasts_mentioned s.spec.kind s.me.number (call_of c) (calls_of told)) in
     record {
       lawful = lawful;
-      stack = st.stack;
+      stack = stack.called_stands s.spec.kind s.me s.spec.members (calls_of told) s.stack (call_of c) st.stack;
       store = called_known s told c st;
-      log = ap (λ k. s.log ++ messages_of k) st.stack ∙ (ap (λ ms. ms ++ messages_of s.me) st.log ∙ ap (λ ms. delivered s.spec s.me.number told ++ ms) (ups_are s.spec.kind s.me (set.items s.spec.members) (call_of c) (calls_of told) lawful));
+      log =
+          (λ i. st.log i ++ called_ups s told c st lawful i)
+          ∙ sym (stack.log_grows s.spec.kind s.me.number (set.items s.spec.members) (call_of c) (calls_of told));
       said = count;
       own = own;
-      direct = direct;
+      arrivals = arrivals;
       outgoing = all-append P s.outgoing sends (all-weaker (λ m. has s.store m ≡ true) P (λ m there. still_told s.store c m there) s.outgoing st.outgoing) (subst (AllByRecursion P) (sym (called_sends s told c st lawful)) new);
       taken = λ b. omega (arith, st.taken b, length-append s.outgoing sends);
       size = st.size;
       noticed = others;
       acknowledged = kept;
     }
-  where
-    messages_of : NodeId → List MsgId
-    messages_of k = messages (stack_gives k (call_of c)).ups
 
 -- what waits for a node after a call
 pub waiting-called : (s : SlotState) (told : List GroupCall) (c : GroupCall) (b : ℕ) → StandsFor s told → IsLawful s.me.number (call_of c ∷ calls_of told)
@@ -85,4 +89,4 @@ waiting-called s told c b st lawful =
         ∙ (map-append (entry_in store) waited sends
         ∙ (ap (λ es. es ++ map (entry_in store) sends) (entries-stay_told s.store c waited (all-drop (λ m. has s.store m ≡ true) (taken_for s b) s.outgoing st.outgoing))
         ∙ (ap (λ ms. map (entry_in s.store) waited ++ map (entry_in store) ms) (called_sends s told c st lawful)
-        ∙ ap (λ es. map (entry_in s.store) waited ++ map (entry_in es) (broadcasts (base_of s.spec.kind) s.me.number (call_of c) (calls_of told))) (called_known s told c st))))
+        ∙ ap (λ es. map (entry_in s.store) waited ++ map (entry_in es) (kind_broadcasts s.spec.kind s.me.number (call_of c) (calls_of told))) (called_known s told c st))))

@@ -2,45 +2,53 @@
 use Rattle.std.proofs.Common.{◌≡◌, ◌≢◌, ℕ, ◌+◌, ◌-◌, ◌≤◌, ◌<◌, ◌||◌, ◌&&◌, not, Bool, true, false, List, [], ◌∷◌, ◌++◌, length, drop, refl, sym, ◌∙◌, ap, subst, arith, length-append}
 use Rattle.std.specs.Prelude.{if◌then◌else◌, map, nat_eq, nat_le, slice_index_or, slice_set}
 use Rattle.std.specs.FinSet as set
+use Rattle.std.specs.List.{list_any}
 use Rattle.std.proofs.Math.Seq.{drop-nil}
 use Rattle.std.proofs.lemmas.Bool.{eqb-true}
 use Rattle.std.proofs.lemmas.Bool.Decides.{nat_tests}
 use Rattle.std.proofs.lemmas.List.{drop-map, length-replicate, length-set}
 use Rattle.gb_types.specs.Entry.{message_of}
 use Rattle.gb_types.specs.Message.{same}
+use Rattle.gb_types.proofs.SameLemmas.{same-true}
 use Rattle.gb_types.specs.declared.entry.Entry.{Entry}
 use Rattle.gb_types.specs.declared.limits.TheConstants.{NODES}
 use Rattle.gb_types.specs.declared.message.MsgId.{MsgId}
 use Rattle.gb_types.specs.declared.node.NodeId.{NodeId}
 use Rattle.gb_types.specs.declared.reply.Reply.TheVariants.{Done}
-use Rattle.gb_layer.specs.Machine.{mentions, was_said, came_from}
+use Rattle.gb_layer.specs.declared.effects.Up.{Up}
+use Rattle.gb_layer.specs.Machine.{mentions, was_said, came_from, is_up}
 use Rattle.gb_layer.specs.Modules.{IsLawful}
-use Rattle.gb_layer.specs.Histories.{said_mentioned, came_mentioned}
+use Rattle.gb_layer.specs.Histories.{said_mentioned, own_said}
 use Rattle.gb_layer.specs.declared.call.Call.{Call}
+use Rattle.gb_stack.specs.StackState.{new_stack}
+use Rattle.gb_stack.specs.Stands.{IsStackAfter}
+use Rattle.gb_stack.proofs.StandsLemmas as stack
 use Rattle.gb_slot.specs.declared.history.GroupCall.{GroupCall}
 use Rattle.gb_slot.specs.declared.history.GroupCall.TheVariants.{Own, Other, Crashed}
-use Rattle.gb_slot.specs.History.{base_of, call_of, calls_of, known, said_in, puts_of}
+use Rattle.gb_slot.specs.History.{call_of, calls_of, known, said_in, puts_of}
 use Rattle.gb_slot.specs.HistoryLaws.{FreshStands, OpenedStands, SaidStands, CameStands, NoticedStands, DoneStands, TookStands, LogIs, FallsIs, WaitingSaid, WaitingCame, WaitingNoticed, WaitingTook, WaitingElsewhere}
 use Rattle.gb_slot.specs.Messages.{has, entry_in, with_new}
 use Rattle.gb_slot.specs.Rules.{is_other, is_let_fall}
-use Rattle.gb_slot.specs.Slot.{waiting, taken_for, own_entry, slot_called, falls, with_acknowledgement, acknowledged_by, slot_took}
+use Rattle.gb_slot.specs.Slot.{waiting, taken_for, came_before, own_entry, slot_called, falls, with_acknowledgement, acknowledged_by, slot_took}
 use Rattle.gb_slot.specs.SlotState.{SlotState}
 use Rattle.gb_slot.specs.StandsFor.{StandsFor, reaches}
 use Rattle.gb_slot.proofs.KnownLemmas.{has-known}
-use Rattle.gb_slot.proofs.NoticeLemmas.{contains-inserted, other_differs, notices_lawful, none_mentioned, none_came, none_known, none_said, none_delivered, noticed_are}
+use Rattle.gb_slot.proofs.NoticeLemmas.{contains-inserted, other_differs, notices_lawful, none_mentioned, none_came, none_known, none_said, none_logged, notice_calls, others_differ, notices_tell, noticed_are}
 use Rattle.gb_slot.proofs.TakenLemmas.{none_taken, drop-drop, taken_more, taken_elsewhere, waiting_few}
 use Rattle.gb_slot.proofs.CalledLemmas.{called_stands, waiting-called}
 use Rattle.gb_slot.proofs.FallsLemmas.{not_fallen, falls-alike}
 
 pub fresh_stands : FreshStands
 fresh_stands spec me noticed qs others tell = record {
-  lawful = notices_lawful me.number qs others;
-  stack = refl;
+  lawful = notices_lawful me.number qs (others_differ spec me.number qs others);
+  stack =
+      subst (λ calls. IsStackAfter spec.kind me spec.members calls (new_stack spec.kind me spec.members noticed)) (notice_calls qs)
+      (stack.new_stands spec.kind me spec.members noticed qs (notices_tell spec me noticed qs others tell));
   store = none_known qs;
-  log = none_delivered (base_of spec.kind) me.number (set.items spec.members) qs;
+  log = none_logged spec.kind me.number (set.items spec.members) qs;
   said = none_said qs;
   own = λ x here above. none_mentioned qs x;
-  direct = λ x. none_came me.number qs x.origin.number x ∙ sym (none_mentioned qs x);
+  arrivals = λ p x _. sym (none_came me.number qs p x);
   outgoing = tt;
   taken = λ b. none_taken NODES b;
   size = length-replicate {A = ℕ} NODES 0;
@@ -56,7 +64,7 @@ opened_stands s told Done st = record {
   log = st.log;
   said = st.said;
   own = st.own;
-  direct = st.direct;
+  arrivals = st.arrivals;
   outgoing = st.outgoing;
   taken = st.taken;
   size = st.size;
@@ -73,17 +81,15 @@ not_said past m new =
       | false ↦ λ e. refl
     ] refl
 
--- nor did it come
-not_come : (me : ℕ) (past : List Call) (p : ℕ) (m : MsgId) → mentions past m ≡ false → came_from me past p m ≡ false
-not_come me past p m new =
-    elim (came_from me past p m) as (λ b. came_from me past p m ≡ b → b ≡ false) [
-      | true ↦ λ e. let f : mentions past m ≡ true = came_mentioned me past p m e in cc
-      | false ↦ λ e. refl
-    ] refl
-
--- a message that comes from its origin was mentioned, as those before it
-from_origin : (p : ℕ) (m x : MsgId) (before : Bool) → m.origin.number ≡ p → ((nat_eq p x.origin.number && same m x) || before) ≡ (same m x || before)
-from_origin p m x before origin = grind (arith, nat_tests)
+-- one more is taken in
+any_push : (p : Up → Bool) (us : List Up) (u : Up) → list_any p (us ++ u ∷ []) ≡ (p u || list_any p us)
+any_push p [] u = refl
+any_push p (x ∷ us) u = ap (λ b. p x || b) (any_push p us u) ∙ or_swap (p x) (p u) (list_any p us)
+  where
+    or_swap : (a b c : Bool) → (a || (b || c)) ≡ (b || (a || c))
+    or_swap true true c = refl
+    or_swap true false c = refl
+    or_swap false b c = refl
 
 -- the next own message is new
 own_new : (s : SlotState) (told : List GroupCall) (payload : List ℕ) → StandsFor s told → mentions (calls_of told) (message_of (own_entry s payload)) ≡ false
@@ -109,9 +115,12 @@ said_stands s told payload st =
     subst (λ store. StandsFor (said_with s payload store) (Own (own_entry s payload) ∷ told)) (own_store s told payload st)
     (called_stands s told (Own (own_entry s payload)) (s.said + 1) s.noticed (s.acknowledged ++ set.empty ∷ []) st (own_lawful s told payload st) (ap (λ n. n + 1) st.said)
     (λ x here above. let old : mentions (calls_of told) x ≡ false = st.own x here (omega arith) in later m x (mentions (calls_of told) x) above old)
-    (λ x. ap (λ b. (nat_eq s.me.number x.origin.number && same m x) || b) (st.direct x) ∙ from_origin s.me.number m x (mentions (calls_of told) x) refl)
+    (λ p x other. st.arrivals p x other ∙ elsewhere p (same m x) (came_from s.me.number (calls_of told) p x) other)
     st.noticed (length-append s.acknowledged (set.empty ∷ []) ∙ ap (λ n. n + 1) st.acknowledged))
   where
+    elsewhere : (p : ℕ) (a b : Bool) → p ≢ s.me.number → b ≡ ((nat_eq s.me.number p && a) || b)
+    elsewhere p a b other = let out : nat_eq s.me.number p ≡ false = grind (arith, nat_tests) in sym (ap (λ v. (v && a) || b) out)
+
     later : (m x : MsgId) (old : Bool) → m.seq < x.seq → old ≡ false → (same m x || old) ≡ false
     later m x old above is = grind (arith, nat_tests)
 
@@ -120,15 +129,16 @@ waiting_said s told payload b st =
     ap (λ store. waiting (said_with s payload store) b) (sym (own_store s told payload st))
     ∙ waiting-called s told (Own (own_entry s payload)) b st (own_lawful s told payload st)
 
-came_new : (s : SlotState) (told : List GroupCall) (from : NodeId) (x : Entry) → StandsFor s told → falls from x s ≡ false → (from.number ≢ s.me.number) × (mentions (calls_of told) (message_of x) ≡ false) × (x.origin.number ≡ from.number)
+came_new : (s : SlotState) (told : List GroupCall) (from : NodeId) (x : Entry) → StandsFor s told → falls from x s ≡ false
+    → (from.number ≢ s.me.number) × (came_from s.me.number (calls_of told) from.number (message_of x) ≡ false) × (x.origin.number ≡ s.me.number → mentions (calls_of told) (message_of x) ≡ true)
 came_new s told from x st stays =
-    let facts = not_fallen s.spec s.me.number from.number x (has s.store (message_of x)) stays in
-    (facts.0, sym (ap (λ es. has es (message_of x)) st.store ∙ has-known told (message_of x)) ∙ facts.1, facts.2)
+    let facts = not_fallen s.spec s.me.number from.number x (came_before s from.number (message_of x)) (has s.store (message_of x)) stays in
+    (facts.0, sym (st.arrivals from.number (message_of x) facts.0) ∙ facts.1, λ own. sym (ap (λ es. has es (message_of x)) st.store ∙ has-known told (message_of x)) ∙ facts.2 own)
 
 came_lawful : (s : SlotState) (told : List GroupCall) (from : NodeId) (x : Entry) → StandsFor s told → falls from x s ≡ false → IsLawful s.me.number (call_of (Other from x) ∷ calls_of told)
 came_lawful s told from x st stays =
     let facts = came_new s told from x st stays in
-    ((facts.0, λ own. absurd (facts.0 (sym facts.2 ∙ own)), not_come s.me.number (calls_of told) from.number (message_of x) facts.1), st.lawful)
+    ((facts.0, λ own. own_said s.me.number (calls_of told) (message_of x) st.lawful own (facts.2 own), facts.1), st.lawful)
 
 pub came_stands : CameStands
 unfolding said_in
@@ -137,12 +147,16 @@ came_stands s told from x st stays =
     let m : MsgId = message_of x in
     subst (λ b. StandsFor (if b then s else slot_called (call_of (Other from x)) (with_new s.store x) s) (Other from x ∷ told)) (sym stays)
     (called_stands s told (Other from x) s.said s.noticed s.acknowledged st (came_lawful s told from x st stays) st.said
-    (λ y here above. elsewhere m y (mentions (calls_of told) y) here facts.0 facts.2 (st.own y here above))
-    (λ y. ap (λ b. (nat_eq from.number y.origin.number && same m y) || b) (st.direct y) ∙ from_origin from.number m y (mentions (calls_of told) y) facts.2)
+    (λ y here above. let old = st.own y here above in apart m y (mentions (calls_of told) y) (λ e. let there : mentions (calls_of told) m ≡ true = facts.2 (ap (λ k. k.origin.number) (same-true m y e) ∙ here) in ap (mentions (calls_of told)) (sym (same-true m y e)) ∙ there) old)
+    (λ p y other. any_push (is_up p y) s.arrivals (record { via = from; m = m }) ∙ ap (λ b. (nat_eq from.number p && same m y) || b) (st.arrivals p y other))
     st.noticed st.acknowledged)
   where
-    elsewhere : (m y : MsgId) (old : Bool) → y.origin.number ≡ s.me.number → from.number ≢ s.me.number → m.origin.number ≡ from.number → old ≡ false → (same m y || old) ≡ false
-    elsewhere m y old here other origin is = grind (arith, nat_tests)
+    apart : (m y : MsgId) (old : Bool) → (same m y ≡ true → old ≡ true) → old ≡ false → (same m y || old) ≡ false
+    apart m y old there none =
+        elim (same m y) as (λ b. same m y ≡ b → (b || old) ≡ false) [
+          | true ↦ λ e. let here : old ≡ true = there e in cc
+          | false ↦ λ _. none
+        ] refl
 
 pub waiting_came : WaitingCame
 waiting_came s told from x b st stays =
@@ -161,7 +175,7 @@ pub noticed_stands : NoticedStands
 unfolding said_in
 noticed_stands s told q st other =
     subst (λ b. StandsFor (if b then noticed_with s q else s) (Crashed q ∷ told)) (sym other)
-    (called_stands s told (Crashed q) s.said (set.insert s.noticed q.number) s.acknowledged st (notice_lawful s told q st other) st.said st.own st.direct
+    (called_stands s told (Crashed q) s.said (set.insert s.noticed q.number) s.acknowledged st (notice_lawful s told q st other) st.said st.own st.arrivals
     (λ b is. contains-inserted s.noticed q.number b ∙ ap (λ v. nat_eq q.number b || v) (st.noticed b is)) st.acknowledged)
 
 pub waiting_noticed : WaitingNoticed
@@ -204,7 +218,7 @@ done_stands s told b m st = record {
   log = st.log;
   said = st.said;
   own = st.own;
-  direct = st.direct;
+  arrivals = st.arrivals;
   outgoing = st.outgoing;
   taken = st.taken;
   size = st.size;
@@ -219,9 +233,9 @@ pub falls_is : FallsIs
 falls_is s told from x st =
     let m : MsgId = message_of x in
     let there : has s.store m ≡ mentions (calls_of told) m = ap (λ es. has es m) st.store ∙ has-known told m in
-    ap (λ b. is_let_fall s.spec s.me.number from.number x b b) there
-    ∙ falls-alike s.spec s.me.number from.number x (came_from s.me.number (calls_of told) from.number m) (mentions (calls_of told) m)
-    (λ origin. ap (λ p. came_from s.me.number (calls_of told) p m) (sym origin) ∙ st.direct m)
+    ap (is_let_fall s.spec s.me.number from.number x (came_before s from.number m)) there
+    ∙ falls-alike s.spec s.me.number from.number x (came_before s from.number m) (came_from s.me.number (calls_of told) from.number m) (mentions (calls_of told) m)
+    (λ other. st.arrivals from.number m other)
 
 pub took_stands : TookStands
 took_stands s told b count st within enough = record {
@@ -231,7 +245,7 @@ took_stands s told b count st within enough = record {
   log = st.log;
   said = st.said;
   own = st.own;
-  direct = st.direct;
+  arrivals = st.arrivals;
   outgoing = st.outgoing;
   taken = λ c. at c (nat_eq c b) refl;
   size = length-set s.taken b (taken_for s b + count) ∙ st.size;

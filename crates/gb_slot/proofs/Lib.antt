@@ -6,5 +6,6 @@ pub mod KeptLemmas
 pub mod KnownLemmas
 pub mod NoticeLemmas
 pub mod PageLemmas
+pub mod RoomLemmas
 pub mod SlotLemmas
 pub mod TakenLemmas

@@ -1,11 +1,13 @@
 -- Histories of notices alone, and the nodes that are noticed.
-use Rattle.std.proofs.Common.{◌≡◌, ◌≢◌, ℕ, Bool, true, false, ◌&&◌, ◌||◌, not, List, [], ◌∷◌, ◌++◌, refl, ◌∙◌, ap, arith}
+use Rattle.std.proofs.Common.{◌≡◌, ◌≢◌, ℕ, Bool, true, false, ◌&&◌, ◌||◌, not, List, [], ◌∷◌, ◌++◌, refl, sym, ◌∙◌, ap, arith}
 use Rattle.std.specs.Prelude.{map, filter, nat_eq}
 use Rattle.std.specs.Cmp.{nat_cmp_total, unsigned_tied}
 use Rattle.std.specs.Ordering.{nat_cmp}
 use Rattle.std.specs.FinSet as set
 use Rattle.std.specs.List.{AllByRecursion, list_any}
+use Rattle.std.proofs.lemmas.Bool.{eqb-true}
 use Rattle.std.proofs.lemmas.Bool.Decides.{nat_tests}
+use Rattle.gb_types.specs.declared.kind.Kind.{Kind}
 use Rattle.gb_types.specs.declared.message.MsgId.{MsgId}
 use Rattle.gb_types.specs.declared.node.NodeId.{NodeId}
 use Rattle.gb_types.specs.declared.spec.Spec.{Spec}
@@ -14,6 +16,9 @@ use Rattle.gb_layer.specs.Modules.{IsLawful, first_mentions, log, now_delivered}
 use Rattle.gb_layer.specs.declared.base.Base.{Base}
 use Rattle.gb_layer.specs.declared.call.Call.{Call}
 use Rattle.gb_layer.specs.declared.call.Call.TheVariants.{Notice}
+use Rattle.gb_stack.specs.Kinds.{base_of, kind_log}
+use Rattle.gb_stack.specs.Stands.{is_other_noticed}
+use Rattle.gb_stack.proofs.StandsLemmas as stack
 use Rattle.gb_slot.specs.declared.history.GroupCall.TheVariants.{Crashed}
 use Rattle.gb_slot.specs.History.{calls_of, known, said_in}
 use Rattle.gb_slot.specs.Rules.{is_other}
@@ -59,13 +64,55 @@ unfolding calls_of
 none_first [] = refl
 none_first (q ∷ qs) = none_first qs
 
-pub none_delivered : (base : Base) (me : ℕ) (members : List ℕ) (qs : List NodeId) → [] ≡ log base me members (calls_of (map Crashed qs))
+none_delivered : (base : Base) (me : ℕ) (members : List ℕ) (qs : List NodeId) → [] ≡ log base me members (calls_of (map Crashed qs))
 unfolding calls_of
 none_delivered base me members [] = refl
 none_delivered base me members (q ∷ qs) =
     let past : List Call = calls_of (map Crashed qs) in
     let test : MsgId → Bool = λ m. now_delivered base me members (Notice q ∷ past) m && not (now_delivered base me members past m) in
     λ i. none_delivered base me members qs i ++ filter test (none_first qs i)
+
+pub none_logged : (kind : Kind) (me : ℕ) (members : List ℕ) (qs : List NodeId) → [] ≡ kind_log kind me members (calls_of (map Crashed qs))
+none_logged kind me members qs = stack.none_logged kind me members (calls_of (map Crashed qs)) (none_delivered (base_of kind) me members qs)
+
+-- the calls that notices are
+pub notice_calls : (qs : List NodeId) → map Notice qs ≡ calls_of (map Crashed qs)
+unfolding calls_of
+notice_calls [] = refl
+notice_calls (q ∷ qs) = ap (λ cs. Notice q ∷ cs) (notice_calls qs)
+
+-- notices of other members are of other nodes
+pub others_differ : (spec : Spec) (me : ℕ) (qs : List NodeId) → AllByRecursion (λ q. is_other spec me q.number ≡ true) qs → AllByRecursion (λ q. q.number ≢ me) qs
+others_differ spec me [] others = tt
+others_differ spec me (q ∷ qs) others = (other_differs spec me q.number others.0, others_differ spec me qs others.1)
+
+-- and name no other nodes
+others_alone : (spec : Spec) (me : ℕ) (qs : List NodeId) (b : ℕ) → AllByRecursion (λ q. is_other spec me q.number ≡ true) qs → is_other spec me b ≡ false → list_any (λ q. nat_eq q.number b) qs ≡ false
+others_alone spec me [] b others out = refl
+others_alone spec me (q ∷ qs) b others out =
+    let rest = others_alone spec me qs b others.1 out in
+    elim (nat_eq q.number b) as (λ v. nat_eq q.number b ≡ v → (v || list_any (λ p. nat_eq p.number b) qs) ≡ false) [
+      | true ↦ λ e. let there : is_other spec me b ≡ true = ap (is_other spec me) (sym (eqb-true q.number b e)) ∙ others.0 in cc
+      | false ↦ λ _. rest
+    ] refl
+
+-- notices that name, of the other members, those that were noticed
+pub notices_tell : (spec : Spec) (me : NodeId) (noticed : set.FinSet nat_cmp) (qs : List NodeId) → AllByRecursion (λ q. is_other spec me.number q.number ≡ true) qs
+    → ((b : ℕ) → is_other spec me.number b ≡ true → set.contains noticed b ≡ list_any (λ q. nat_eq q.number b) qs)
+    → (b : ℕ) → list_any (λ q. nat_eq q.number b) qs ≡ is_other_noticed me spec.members noticed b
+notices_tell spec me noticed qs others tell b =
+    elim (is_other spec me.number b) as (λ v. is_other spec me.number b ≡ v → list_any (λ q. nat_eq q.number b) qs ≡ is_other_noticed me spec.members noticed b) [
+      | true ↦ λ e. sym (tell b e) ∙ inside (set.contains noticed b) (set.contains spec.members b) (not (nat_eq b me.number)) e
+      | false ↦ λ e. others_alone spec me.number qs b others e ∙ outside (set.contains noticed b) (set.contains spec.members b) (not (nat_eq b me.number)) e
+    ] refl
+  where
+    inside : (x y z : Bool) → (y && z) ≡ true → x ≡ ((x && y) && z)
+    inside true y z h = sym h
+    inside false y z h = refl
+
+    outside : (x y z : Bool) → (y && z) ≡ false → false ≡ ((x && y) && z)
+    outside true y z h = sym h
+    outside false y z h = refl
 
 -- the nodes that notices name are noticed
 pub noticed_are : (qs : List NodeId) (b : ℕ) → was_noticed (calls_of (map Crashed qs)) b ≡ list_any (λ q. nat_eq q.number b) qs

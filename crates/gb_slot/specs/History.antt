@@ -3,22 +3,14 @@ use Rattle.std.specs.Prelude.{ℕ, ◌+◌, List, [], ◌∷◌, map}
 use Rattle.std.specs.FinSet as set
 use Rattle.gb_types.specs.Entry.{message_of}
 use Rattle.gb_types.specs.declared.entry.Entry.{Entry}
-use Rattle.gb_types.specs.declared.kind.Kind.{Kind}
-use Rattle.gb_types.specs.declared.kind.Kind.TheVariants.{Beb}
 use Rattle.gb_types.specs.declared.message.MsgId.{MsgId}
 use Rattle.gb_types.specs.declared.spec.Spec.{Spec}
-use Rattle.gb_layer.specs.Modules.{log, broadcasts}
-use Rattle.gb_layer.specs.declared.base.Base.{Base}
-use Rattle.gb_layer.specs.declared.base.Base.TheVariants.{BestEffort}
 use Rattle.gb_layer.specs.declared.call.Call.{Call}
 use Rattle.gb_layer.specs.declared.call.Call.TheVariants.{Say, Came, Notice}
+use Rattle.gb_stack.specs.Kinds.{kind_broadcasts, kind_log}
 use Rattle.gb_slot.specs.declared.history.GroupCall.{GroupCall}
 use Rattle.gb_slot.specs.declared.history.GroupCall.TheVariants.{Own, Other, Crashed}
 use Rattle.gb_slot.specs.Messages.{entry_in, with_new}
-
--- the module of broadcast that a kind is
-abbrev pub base_of : Kind → Base
-base_of Beb = BestEffort
 
 -- the messages, with the one that the group is told of
 abbrev pub with_told : List Entry → GroupCall → List Entry
@@ -50,7 +42,7 @@ said_in (Crashed q ∷ told) = said_in told
 
 -- the messages that the group's broadcast delivers, in order
 abbrev pub delivered : Spec → ℕ → List GroupCall → List MsgId
-delivered spec me told = log (base_of spec.kind) me (set.items spec.members) (calls_of told)
+delivered spec me told = kind_log spec.kind me (set.items spec.members) (calls_of told)
 
 -- the log: these messages with their payloads
 abbrev pub log_of : Spec → ℕ → List GroupCall → List Entry
@@ -58,4 +50,4 @@ log_of spec me told = map (entry_in (known told)) (delivered spec me told)
 
 -- what a call makes the group broadcast, with payloads
 abbrev pub puts_of : Spec → ℕ → GroupCall → List GroupCall → List Entry
-puts_of spec me c told = map (entry_in (known (c ∷ told))) (broadcasts (base_of spec.kind) me (call_of c) (calls_of told))
+puts_of spec me c told = map (entry_in (known (c ∷ told))) (kind_broadcasts spec.kind me (call_of c) (calls_of told))

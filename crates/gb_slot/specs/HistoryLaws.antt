@@ -18,9 +18,9 @@ use Rattle.gb_slot.specs.Slot.{new_slot, shown, waiting, own_entry, slot_opened,
 use Rattle.gb_slot.specs.SlotState.{SlotState}
 use Rattle.gb_slot.specs.StandsFor.{StandsFor, falls_after, reaches}
 
--- a slot that was just made, at a node that has noticed these, stands for their notices
+-- a slot that was just made, at a node that has noticed these, stands for the notices of the other members among them
 abbrev pub FreshStands : Type 0
-FreshStands = (spec : Spec) (me : NodeId) (noticed : set.FinSet nat_cmp) (qs : List NodeId) → AllByRecursion (λ q. q.number ≢ me.number) qs
+FreshStands = (spec : Spec) (me : NodeId) (noticed : set.FinSet nat_cmp) (qs : List NodeId) → AllByRecursion (λ q. is_other spec me.number q.number ≡ true) qs
     → ((b : ℕ) → is_other spec me.number b ≡ true → set.contains noticed b ≡ list_any (λ q. nat_eq q.number b) qs) → StandsFor (new_slot spec me noticed) (map Crashed qs)
 
 -- opening changes nothing of it

@@ -52,9 +52,9 @@ fetch_answer s from most =
     if nat_lt (length s.log) from || nat_lt FETCH most then Refused BadPlace
     else Log (take most (drop from s.log))
 
--- an item that came from a node is let fall: `before` says that the same came from that node before, and
--- `known` that the message is known here
+-- An item that came from a node is let fall: `before` says that the same came from that node before, and `known` that the message is known
+-- here. A copy that another member relayed is taken in.
 abbrev pub is_let_fall : Spec → ℕ → ℕ → Entry → Bool → Bool → Bool
 is_let_fall spec me from x before known =
     not (is_member spec from) || (not (is_member spec x.origin.number) || (nat_eq from me || (before
-    || (nat_eq x.seq 0 || (nat_lt spec.msgs x.seq || ((nat_eq x.origin.number me && not known) || not (nat_eq x.origin.number from)))))))
+    || (nat_eq x.seq 0 || (nat_lt spec.msgs x.seq || (nat_eq x.origin.number me && not known))))))

@@ -10,10 +10,12 @@ use Rattle.gb_types.specs.declared.node.NodeId.{NodeId}
 use Rattle.gb_types.specs.declared.reply.Reply.{Reply}
 use Rattle.gb_types.specs.declared.reply.Reply.TheVariants.{Done, Said}
 use Rattle.gb_types.specs.declared.spec.Spec.{Spec}
-use Rattle.gb_layer.specs.Machine.{Gives, own_gives, messages}
-use Rattle.gb_layer.specs.BebMachine.{beb_gives}
+use Rattle.std.specs.List.{list_any}
+use Rattle.gb_layer.specs.Machine.{is_up, messages}
 use Rattle.gb_layer.specs.declared.call.Call.{Call}
 use Rattle.gb_layer.specs.declared.call.Call.TheVariants.{Say, Came, Notice}
+use Rattle.gb_layer.specs.declared.effects.Up.{Up}
+use Rattle.gb_stack.specs.StackState.{new_stack, stack_next, stack_gives}
 use Rattle.gb_slot.specs.declared.phase.Phase.TheVariants.{Made, Opened}
 use Rattle.gb_slot.specs.Messages.{has, entry_in, with_new}
 use Rattle.gb_slot.specs.Rules.{Shown, is_other, is_let_fall}
@@ -28,7 +30,7 @@ pub record IsWithinLimits (spec : Spec) : Type 0 where
 
 -- a slot in which nothing has happened, at a node that has noticed these
 abbrev pub new_slot : Spec → NodeId → set.FinSet nat_cmp → SlotState
-new_slot spec me noticed = record { spec = spec; me = me; phase = Made; noticed = noticed; stack = me; said = 0; store = []; log = []; outgoing = []; taken = replicate NODES 0; acknowledged = [] }
+new_slot spec me noticed = record { spec = spec; me = me; phase = Made; noticed = noticed; stack = new_stack spec.kind me spec.members noticed; arrivals = []; said = 0; store = []; log = []; outgoing = []; taken = replicate NODES 0; acknowledged = [] }
 
 -- what the rules read of it
 abbrev pub shown : SlotState → Shown
@@ -47,13 +49,17 @@ abbrev pub slot_opened : Reply → SlotState → SlotState
 slot_opened Done s = record s { phase = Opened }
 slot_opened reply s = s
 
--- what the broadcast of a slot gives at a call: best-effort broadcast hands up what came from its origin
-abbrev pub stack_gives : NodeId → Call → Gives
-stack_gives me c = own_gives (beb_gives me c)
+-- what was taken in from other nodes, with what a call brings
+abbrev pub with_arrival : Call → List Up → List Up
+with_arrival (Say m) ups = ups
+with_arrival (Came p m) ups = ups ++ record { via = p; m = m } ∷ []
+with_arrival (Notice q) ups = ups
 
 -- the broadcast takes a call, after which these messages are known
 abbrev pub slot_called : Call → List Entry → SlotState → SlotState
 slot_called c store s = record s {
+  stack = stack_next s.stack c;
+  arrivals = with_arrival c s.arrivals;
   store = store;
   log = s.log ++ messages (stack_gives s.stack c).ups;
   outgoing = s.outgoing ++ (stack_gives s.stack c).sends;
@@ -70,9 +76,13 @@ slot_said payload (Said seq) s =
     record next { said = s.said + 1; acknowledged = s.acknowledged ++ set.empty ∷ [] }
 slot_said payload reply s = s
 
+-- the same message was taken in from the node before
+abbrev pub came_before : SlotState → ℕ → MsgId → Bool
+came_before s from m = list_any (is_up from m) s.arrivals
+
 -- whether an item is let fall
 abbrev pub falls : NodeId → Entry → SlotState → Bool
-falls from x s = is_let_fall s.spec s.me.number from.number x (has s.store (message_of x)) (has s.store (message_of x))
+falls from x s = is_let_fall s.spec s.me.number from.number x (came_before s from.number (message_of x)) (has s.store (message_of x))
 
 -- an item came from a node
 abbrev pub slot_came : NodeId → Entry → SlotState → SlotState

@@ -6,6 +6,8 @@ use Rattle.gb_types.specs.declared.entry.Entry.{Entry}
 use Rattle.gb_types.specs.declared.message.MsgId.{MsgId}
 use Rattle.gb_types.specs.declared.node.NodeId.{NodeId}
 use Rattle.gb_types.specs.declared.spec.Spec.{Spec}
+use Rattle.gb_layer.specs.declared.effects.Up.{Up}
+use Rattle.gb_stack.specs.StackState.{StackState}
 use Rattle.gb_slot.specs.declared.phase.Phase.{Phase}
 
 -- one group at one node
@@ -16,7 +18,9 @@ pub record SlotState : Type 0 where
   -- the nodes that were noticed
   pub noticed : set.FinSet nat_cmp
   -- what the broadcast remembers
-  pub stack : NodeId
+  pub stack : StackState
+  -- what was taken in from other nodes, in order
+  pub arrivals : List Up
   -- how many messages were said here
   pub said : ℕ
   -- the messages that are known, in the order in which they became known

@@ -1,5 +1,5 @@
 -- When a slot stands for a history.
-use Rattle.std.specs.Prelude.{ℕ, ◌≡◌, ◌≤◌, ◌<◌, ◌&&◌, not, Bool, true, false, List, length}
+use Rattle.std.specs.Prelude.{ℕ, ◌≡◌, ◌≢◌, ◌≤◌, ◌<◌, ◌&&◌, not, Bool, true, false, List, length}
 use Rattle.std.specs.List.{AllByRecursion}
 use Rattle.std.specs.FinSet as set
 use Rattle.gb_types.specs.Entry.{message_of}
@@ -9,11 +9,12 @@ use Rattle.gb_types.specs.declared.message.MsgId.{MsgId}
 use Rattle.gb_layer.specs.Machine.{mentions, was_noticed, came_from}
 use Rattle.gb_layer.specs.Modules.{IsLawful}
 use Rattle.gb_types.specs.declared.spec.Spec.{Spec}
+use Rattle.gb_stack.specs.Stands.{IsStackAfter}
 use Rattle.gb_slot.specs.declared.history.GroupCall.{GroupCall}
 use Rattle.gb_slot.specs.History.{calls_of, known, said_in, delivered}
 use Rattle.gb_slot.specs.Messages.{has}
 use Rattle.gb_slot.specs.Rules.{is_other, is_let_fall}
-use Rattle.gb_slot.specs.Slot.{taken_for}
+use Rattle.gb_slot.specs.Slot.{taken_for, came_before}
 use Rattle.gb_slot.specs.SlotState.{SlotState}
 
 -- an item that comes from a node is let fall, read from the history
@@ -27,14 +28,15 @@ reaches s b = is_other s.spec s.me.number b && not (set.contains s.noticed b)
 -- the slot stands for the history: what it holds is what the history gives
 pub record StandsFor (s : SlotState) (told : List GroupCall) : Type 0 where
   pub lawful : IsLawful s.me.number (calls_of told)
-  pub stack : s.stack ≡ s.me
+  -- the broadcast was told the same
+  pub stack : IsStackAfter s.spec.kind s.me s.spec.members (calls_of told) s.stack
   pub store : s.store ≡ known told
   pub log : s.log ≡ delivered s.spec s.me.number told
   pub said : s.said ≡ said_in told
   -- no own message beyond those that were said is known
   pub own : (x : MsgId) → x.origin.number ≡ s.me.number → s.said < x.seq → mentions (calls_of told) x ≡ false
-  -- each message that is known came from its origin
-  pub direct : (x : MsgId) → came_from s.me.number (calls_of told) x.origin.number x ≡ mentions (calls_of told) x
+  -- what was taken in from another node is what came from it
+  pub arrivals : (p : ℕ) (x : MsgId) → p ≢ s.me.number → came_before s p x ≡ came_from s.me.number (calls_of told) p x
   -- what was broadcast is known, and no more of it was taken than there is
   pub outgoing : AllByRecursion (λ m. has s.store m ≡ true) s.outgoing
   pub taken : (b : ℕ) → taken_for s b ≤ length s.outgoing

@@ -2,18 +2,18 @@
 ghost use Rattle.std.specs.Prelude.{◌≡◌, ◌⊎◌, ℕ, ◌+◌, ◌*◌, ◌≤◌, ◌<◌, ◌&&◌, not, List, [], ◌∷◌, ◌++◌, take, drop, map, slice_get, length, vec_len, Ok, Err, IfOk, OnOk, OnErr, MatchOption, true, IsOkUnless};
 ghost use Rattle.std.specs.FinSet as set;
 ghost use Rattle.gb_types.specs.declared.entry.Entry.{Entry as EntryValue};
-ghost use Rattle.gb_layer.specs.Machine.{messages};
+ghost use Rattle.std.specs.List.{list_any};
+ghost use Rattle.gb_layer.specs.Machine.{is_up, messages};
 ghost use Rattle.gb_slot.specs.Messages.{entry_in};
 ghost use Rattle.gb_slot.specs.Replied.{done_reply, said_reply, log_reply};
 ghost use Rattle.gb_slot.specs.Rules.{is_member, is_other, is_let_fall, open_answer, say_answer, fetch_answer};
-ghost use Rattle.gb_slot.specs.Slot.{with_acknowledgement};
+ghost use Rattle.gb_slot.specs.Slot.{came_before, with_acknowledgement};
 
 use crate::phase::Phase;
 use crate::store::Store;
-use gb_layer::beb::Beb;
-use gb_layer::direct::Direct;
 use gb_layer::effects::{Effects, Up};
 use gb_layer::layer::Layer;
+use gb_stack::stack::Stack;
 use gb_types::entry::Entry;
 use gb_types::limits::{FETCH, NODES, PAYLOAD};
 use gb_types::memory::OutOfMemory;
@@ -32,10 +32,12 @@ pub struct Slot {
     me: NodeId,
     phase: Phase,
     noticed: NodeSet,
-    stack: Direct<Beb>,
+    stack: Stack,
     /// All that was broadcast and delivered, in order.
     effects: Effects,
     store: Store,
+    /// What was taken in from other nodes, in order.
+    arrivals: Vec<Up>,
     said: u32,
     taken: [usize; NODES],
     /// For each message that was said here, in order, the nodes that acknowledged it.
@@ -45,8 +47,9 @@ pub struct Slot {
 }
 
 impl Model for Slot {
-    ghost use Rattle.std.specs.Prelude.{◌≤◌};
+    ghost use Rattle.std.specs.Prelude.{◌≤◌, ◌+◌, vec_len, vec_capacity};
     ghost use Rattle.gb_types.specs.declared.limits.TheConstants.{MESSAGES};
+    ghost use Rattle.gb_stack.specs.StackLaws.{stack_room};
     ghost use Rattle.gb_layer.specs.Machine.{messages};
     ghost use Rattle.gb_layer.specs.Room.{free_sends, free_ups};
     ghost use Rattle.gb_slot.specs.SlotState.{SlotValue};
@@ -58,9 +61,9 @@ impl Model for Slot {
 
     ghost coded = { Prim.hlevel (codes, set.code {R = nat_cmp} coded_ℕ) };
 
-    ghost view = { λ s. record { state = record { spec = s.spec; me = s.me; phase = s.phase; noticed = s.noticed; stack = s.stack.lower.me; said = s.said; store = s.store.entries; log = messages s.effects.ups.items; outgoing = s.effects.sends.items; taken = s.taken; acknowledged = s.acknowledged.items }; calls = s.calls; bytes = s.store.bytes } };
+    ghost view = { λ s. record { state = record { spec = s.spec; me = s.me; phase = s.phase; noticed = s.noticed; stack = ⟦<Stack as Layer>⟧.meaning s.stack; arrivals = s.arrivals.items; said = s.said; store = s.store.entries; log = messages s.effects.ups.items; outgoing = s.effects.sends.items; taken = s.taken; acknowledged = s.acknowledged.items }; calls = s.calls; bytes = s.store.bytes } };
 
-    ghost invariant = { λ s. (s.said ≤ s.spec.msgs) × (s.spec.msgs ≤ MESSAGES) × (s.calls ≤ s.store.places) × (s.calls ≤ free_sends s.effects) × (s.calls ≤ free_ups s.effects) };
+    ghost invariant = { λ s. (s.said ≤ s.spec.msgs) × (s.spec.msgs ≤ MESSAGES) × (s.calls ≤ s.store.places) × (s.calls + vec_len s.arrivals ≤ vec_capacity s.arrivals) × (1 ≤ s.calls → stack_room s.stack (free_sends s.effects) (free_ups s.effects) s.calls) };
 }
 
 impl Slot {
@@ -74,15 +77,20 @@ impl Slot {
         ensures ok { IfOk result (λ s. s.state ≡ new_slot spec me noticed.now) }
         ensures err { IsOkUnless result Refusal.OutOfMemory }
     {
+        let stack = match Stack::new(alloc, &spec, me, noticed) {
+            Ok(stack) => stack,
+            Err(_) => return Err(Refusal::OutOfMemory),
+        };
         Ok(Slot {
             alloc,
             spec,
             me,
             phase: Phase::Made,
             noticed: noticed.duplicate(),
-            stack: Direct::new(Beb::new(me)),
+            stack,
             effects: Effects::new(alloc),
             store: Store::new(alloc),
+            arrivals: Vec::new(alloc),
             said: 0,
             taken: [0; NODES],
             acknowledged: Vec::new(alloc),
@@ -114,6 +122,7 @@ impl Slot {
         self.calls = 0;
         self.stack.ready(calls, &mut self.effects)?;
         self.store.reserve(calls, bytes)?;
+        self.arrivals.reserve(calls)?;
         self.calls = calls;
         Ok(())
     }
@@ -156,15 +165,15 @@ impl Slot {
 
     /// Whether an item that came from a node is let fall.
     fn lets_fall(&self, from: NodeId, m: MsgId, known: bool) -> bool
-        ensures { result ≡ is_let_fall self.now.state.spec self.now.state.me.number from.number (record { origin = m.origin; seq = m.seq; payload = [] }) known known }
+        ensures { result ≡ is_let_fall self.now.state.spec self.now.state.me.number from.number (record { origin = m.origin; seq = m.seq; payload = [] }) (came_before self.now.state from.number m) known }
     {
         if !self.spec.members.contains(from) || !self.spec.members.contains(m.origin) {
             return true;
         }
-        if from == self.me || known || m.seq == 0 {
+        if from == self.me || has_arrived(&self.arrivals, from, m) || m.seq == 0 {
             return true;
         }
-        u32::from(m.seq) > self.spec.msgs || m.origin != from
+        u32::from(m.seq) > self.spec.msgs || (m.origin == self.me && !known)
     }
 
     /// Takes an item that came from a node: it is let fall, or the broadcast takes it. Takes no memory.
@@ -182,7 +191,10 @@ impl Slot {
         }
         self.calls -= 1;
         self.stack.came(from, m, &mut self.effects);
-        self.store.push(m, payload);
+        self.arrivals.push_reserved(Up { via: from, m });
+        if !known {
+            self.store.push(m, payload);
+        }
     }
 
     /// Takes note that a node has crashed. Nothing waits for it from then on. A node that is no other member
@@ -277,6 +289,13 @@ impl Slot {
     {
         self.taken[dest.index()] += count;
     }
+}
+
+/// Whether the message was taken in from the node.
+fn has_arrived(arrivals: &[Up], from: NodeId, m: MsgId) -> bool
+    ensures { result ≡ list_any (is_up from.number m) arrivals.now }
+{
+    arrivals.iter().any(|up| up.via == from && up.m == m)
 }
 
 /// The message with the number from 1 is acknowledged by a node, too.

@@ -22,15 +22,27 @@ const OTHER: NodeId = NodeId { number: 3 };
 
 const STRANGER: NodeId = NodeId { number: 4 };
 
-/// A group of three members at one of them, which noticed nobody. Each says so many messages.
+/// A best-effort group of three members at one of them, which noticed nobody. Each says so many messages.
 fn group(alloc: Global, msgs: u32) -> Result<Slot, Refusal>
     requires some { 1 ≤ msgs }
     requires most { msgs ≤ MESSAGES }
 {
-    group_noticing(alloc, msgs, &NodeSet::new())
+    group_noticing(alloc, Kind::Beb, msgs, &NodeSet::new())
 }
 
-fn group_noticing(alloc: Global, msgs: u32, noticed: &NodeSet) -> Result<Slot, Refusal>
+/// A group of this kind that is open, at a node that noticed these.
+fn open_group(alloc: Global, kind: Kind, noticed: &[NodeId]) -> Result<Slot, Refusal> {
+    let mut seen = NodeSet::new();
+    for who in noticed {
+        seen.insert(*who);
+    }
+    let mut slot = group_noticing(alloc, kind, 4, &seen)?;
+    slot.open_group()?;
+    Ok(slot)
+}
+
+/// A group of this kind at a node that noticed these.
+fn group_noticing(alloc: Global, kind: Kind, msgs: u32, noticed: &NodeSet) -> Result<Slot, Refusal>
     requires some { 1 ≤ msgs }
     requires most { msgs ≤ MESSAGES }
 {
@@ -42,7 +54,7 @@ fn group_noticing(alloc: Global, msgs: u32, noticed: &NodeSet) -> Result<Slot, R
         return Err(Refusal::BadMembers);
     }
     let spec = Spec {
-        kind: Kind::Beb,
+        kind,
         members,
         msgs,
         bytes: 65_536,
@@ -76,19 +88,17 @@ fn assert_log(rt: &impl Abort, slot: &Slot, want: &[(NodeId, u16, &[u8])]) -> Re
     Ok(())
 }
 
-#[test]
-fn members_say_and_hear(rt: HostRuntime) -> Result<(), Fail> {
-    let mut slot = group(rt.alloc(), 3)?;
+fn check_members_say_and_hear(rt: &impl Abort, slot: &mut Slot) -> Result<(), Fail> {
     slot.open_group()?;
     assert_eq!(rt; slot.say(b"one")?, 1);
-    receive(&mut slot, FRIEND, FRIEND, 2, b"hello")?;
+    receive(slot, FRIEND, FRIEND, 2, b"hello")?;
     assert_eq!(rt; slot.say(b"")?, 2);
     slot.ready(2, 7)?;
     slot.came(OTHER, OTHER, 1, b"");
     slot.came(FRIEND, FRIEND, 1, b"earlier");
     assert_log(
-        &rt,
-        &slot,
+        rt,
+        slot,
         &[
             (ME, 1, b"one"),
             (FRIEND, 2, b"hello"),
@@ -105,13 +115,38 @@ fn members_say_and_hear(rt: HostRuntime) -> Result<(), Fail> {
     Ok(())
 }
 
+#[test]
+fn members_say_and_hear(rt: HostRuntime) -> Result<(), Fail> {
+    let mut slot = group(rt.alloc(), 3)?;
+    check_members_say_and_hear(&rt, &mut slot)
+}
+
 /// So many items are taken, of those that wait for the node.
 fn take(rt: &impl Abort, slot: &mut Slot, dest: NodeId, count: usize) {
     assert!(rt; count <= slot.waiting_for(dest));
     slot.took(dest, count);
 }
 
-/// What waits first for the node is this, and so many wait.
+/// What waits first for the node is this message, and so many wait.
+fn assert_first(
+    rt: &impl Abort,
+    slot: &Slot,
+    dest: NodeId,
+    count: usize,
+    want: MsgId,
+    payload: &[u8],
+) {
+    assert_eq!(rt; slot.waiting_for(dest), count);
+    match slot.peek(dest) {
+        Some((m, found)) => {
+            assert_eq!(rt; m, want);
+            assert_eq!(rt; found, payload);
+        }
+        None => assert!(rt; false, "nothing waits"),
+    }
+}
+
+/// What waits first for the node is this own message, and so many wait.
 fn assert_waiting(
     rt: &impl Abort,
     slot: &Slot,
@@ -120,14 +155,7 @@ fn assert_waiting(
     seq: u16,
     payload: &[u8],
 ) {
-    assert_eq!(rt; slot.waiting_for(dest), count);
-    match slot.peek(dest) {
-        Some((m, found)) => {
-            assert_eq!(rt; m, MsgId { origin: ME, seq });
-            assert_eq!(rt; found, payload);
-        }
-        None => assert!(rt; false, "nothing waits"),
-    }
+    assert_first(rt, slot, dest, count, MsgId { origin: ME, seq }, payload);
 }
 
 /// Nothing waits for the node.
@@ -136,55 +164,67 @@ fn assert_idle(rt: &impl Abort, slot: &Slot, dest: NodeId) {
     assert!(rt; slot.peek(dest).is_none());
 }
 
+fn check_what_is_said_waits_for_each_other_member(
+    rt: &impl Abort,
+    slot: &mut Slot,
+) -> Result<(), Fail> {
+    slot.open_group()?;
+    assert_idle(rt, slot, FRIEND);
+    slot.say(b"one")?;
+    receive(slot, FRIEND, FRIEND, 1, b"not sent on")?;
+    slot.say(b"two")?;
+    assert_waiting(rt, slot, FRIEND, 2, 1, b"one");
+    assert_waiting(rt, slot, OTHER, 2, 1, b"one");
+    take(rt, slot, FRIEND, 1);
+    assert_waiting(rt, slot, FRIEND, 1, 2, b"two");
+    assert_waiting(rt, slot, OTHER, 2, 1, b"one");
+    take(rt, slot, OTHER, 2);
+    assert_idle(rt, slot, OTHER);
+    slot.say(b"three")?;
+    assert_waiting(rt, slot, FRIEND, 2, 2, b"two");
+    assert_waiting(rt, slot, OTHER, 1, 3, b"three");
+    assert_idle(rt, slot, ME);
+    assert_idle(rt, slot, STRANGER);
+    Ok(())
+}
+
 #[test]
 fn what_is_said_waits_for_each_other_member(rt: HostRuntime) -> Result<(), Fail> {
     let mut slot = group(rt.alloc(), 3)?;
+    check_what_is_said_waits_for_each_other_member(&rt, &mut slot)
+}
+
+fn check_nothing_waits_for_a_node_that_was_noticed(
+    rt: &impl Abort,
+    slot: &mut Slot,
+) -> Result<(), Fail> {
     slot.open_group()?;
-    assert_idle(&rt, &slot, FRIEND);
     slot.say(b"one")?;
-    receive(&mut slot, FRIEND, FRIEND, 1, b"not sent on")?;
-    slot.say(b"two")?;
-    assert_waiting(&rt, &slot, FRIEND, 2, 1, b"one");
-    assert_waiting(&rt, &slot, OTHER, 2, 1, b"one");
-    take(&rt, &mut slot, FRIEND, 1);
-    assert_waiting(&rt, &slot, FRIEND, 1, 2, b"two");
-    assert_waiting(&rt, &slot, OTHER, 2, 1, b"one");
-    take(&rt, &mut slot, OTHER, 2);
-    assert_idle(&rt, &slot, OTHER);
-    slot.say(b"three")?;
-    assert_waiting(&rt, &slot, FRIEND, 2, 2, b"two");
-    assert_waiting(&rt, &slot, OTHER, 1, 3, b"three");
-    assert_idle(&rt, &slot, ME);
-    assert_idle(&rt, &slot, STRANGER);
-    Ok(())
+    assert_idle(rt, slot, OTHER);
+    assert_waiting(rt, slot, FRIEND, 1, 1, b"one");
+    receive(slot, OTHER, OTHER, 1, b"sent before")?;
+    assert_log(rt, slot, &[(ME, 1, b"one"), (OTHER, 1, b"sent before")])
 }
 
 #[test]
 fn nothing_waits_for_a_node_that_was_noticed(rt: HostRuntime) -> Result<(), Fail> {
     let mut noticed = NodeSet::new();
     noticed.insert(OTHER);
-    let mut slot = group_noticing(rt.alloc(), 3, &noticed)?;
-    slot.open_group()?;
-    slot.say(b"one")?;
-    assert_idle(&rt, &slot, OTHER);
-    assert_waiting(&rt, &slot, FRIEND, 1, 1, b"one");
-    receive(&mut slot, OTHER, OTHER, 1, b"sent before")?;
-    assert_log(&rt, &slot, &[(ME, 1, b"one"), (OTHER, 1, b"sent before")])
+    let mut slot = group_noticing(rt.alloc(), Kind::Beb, 3, &noticed)?;
+    check_nothing_waits_for_a_node_that_was_noticed(&rt, &mut slot)
 }
 
-#[test]
-fn refusals_come_in_their_order(rt: HostRuntime) -> Result<(), Fail> {
+fn check_refusals_come_in_their_order(rt: &impl Abort, slot: &mut Slot) -> Result<(), Fail> {
     let longest = [7u8; 1_024];
     let too_long = [7u8; 1_025];
-    let mut slot = group(rt.alloc(), 2)?;
     assert_eq!(rt;
         slot.say(&too_long),
         Err(Refusal::WrongPhase),
         "not open, and too long"
     );
     assert_eq!(rt; slot.say(b"early"), Err(Refusal::WrongPhase));
-    receive(&mut slot, FRIEND, FRIEND, 1, b"early")?;
-    assert_log(&rt, &slot, &[(FRIEND, 1, b"early")])?;
+    receive(slot, FRIEND, FRIEND, 1, b"early")?;
+    assert_log(rt, slot, &[(FRIEND, 1, b"early")])?;
     slot.open_group()?;
     assert_eq!(rt; slot.open_group(), Err(Refusal::WrongPhase));
     assert_eq!(rt; slot.say(&too_long), Err(Refusal::TooLong));
@@ -196,10 +236,10 @@ fn refusals_come_in_their_order(rt: HostRuntime) -> Result<(), Fail> {
         "too long, and all are said"
     );
     assert_eq!(rt; slot.say(b""), Err(Refusal::Budget));
-    assert_waiting(&rt, &slot, FRIEND, 2, 1, &longest);
+    assert_waiting(rt, slot, FRIEND, 2, 1, &longest);
     assert_log(
-        &rt,
-        &slot,
+        rt,
+        slot,
         &[(FRIEND, 1, b"early"), (ME, 1, &longest), (ME, 2, b"last")],
     )?;
     assert!(rt; slot.fetch(3, 16)?.is_empty());
@@ -218,11 +258,15 @@ fn refusals_come_in_their_order(rt: HostRuntime) -> Result<(), Fail> {
 }
 
 #[test]
-fn items_are_let_fall(rt: HostRuntime) -> Result<(), Fail> {
-    let mut slot = group(rt.alloc(), 3)?;
+fn refusals_come_in_their_order(rt: HostRuntime) -> Result<(), Fail> {
+    let mut slot = group(rt.alloc(), 2)?;
+    check_refusals_come_in_their_order(&rt, &mut slot)
+}
+
+fn check_items_are_let_fall(rt: &impl Abort, slot: &mut Slot) -> Result<(), Fail> {
     slot.open_group()?;
     slot.say(b"own")?;
-    receive(&mut slot, FRIEND, FRIEND, 1, b"first")?;
+    receive(slot, FRIEND, FRIEND, 1, b"first")?;
     for (from, origin, seq) in [
         // From no member, or made by none.
         (STRANGER, STRANGER, 1),
@@ -238,23 +282,19 @@ fn items_are_let_fall(rt: HostRuntime) -> Result<(), Fail> {
         (FRIEND, FRIEND, 0),
         (FRIEND, FRIEND, 4),
         (FRIEND, FRIEND, u16::MAX),
-        // From another member than its origin, before and after it came from there.
-        (OTHER, FRIEND, 2),
-        (OTHER, FRIEND, 1),
-        // An own message from another node, said or not.
-        (FRIEND, ME, 1),
+        // An own message from another node that was not said.
         (FRIEND, ME, 2),
     ] {
-        receive(&mut slot, from, origin, seq, b"fallen")?;
-        assert_log(&rt, &slot, &[(ME, 1, b"own"), (FRIEND, 1, b"first")])?;
-        assert_waiting(&rt, &slot, OTHER, 1, 1, b"own");
+        receive(slot, from, origin, seq, b"fallen")?;
+        assert_log(rt, slot, &[(ME, 1, b"own"), (FRIEND, 1, b"first")])?;
+        assert_waiting(rt, slot, OTHER, 1, 1, b"own");
     }
-    receive(&mut slot, FRIEND, FRIEND, 3, b"third")?;
-    receive(&mut slot, FRIEND, FRIEND, 2, b"second")?;
+    receive(slot, FRIEND, FRIEND, 3, b"third")?;
+    receive(slot, FRIEND, FRIEND, 2, b"second")?;
     slot.say(b"own again")?;
     assert_log(
-        &rt,
-        &slot,
+        rt,
+        slot,
         &[
             (ME, 1, b"own"),
             (FRIEND, 1, b"first"),
@@ -265,6 +305,12 @@ fn items_are_let_fall(rt: HostRuntime) -> Result<(), Fail> {
     )
 }
 
+#[test]
+fn items_are_let_fall(rt: HostRuntime) -> Result<(), Fail> {
+    let mut slot = group(rt.alloc(), 3)?;
+    check_items_are_let_fall(&rt, &mut slot)
+}
+
 /// A node is noticed to have crashed, after room was made for the notice.
 fn notice_crash(slot: &mut Slot, who: NodeId) -> Result<(), OutOfMemory> {
     slot.ready(1, 0)?;
@@ -272,26 +318,27 @@ fn notice_crash(slot: &mut Slot, who: NodeId) -> Result<(), OutOfMemory> {
     Ok(())
 }
 
-#[test]
-fn nothing_waits_for_a_node_that_crashes(rt: HostRuntime) -> Result<(), Fail> {
-    let mut slot = group(rt.alloc(), 4)?;
+fn check_nothing_waits_for_a_node_that_crashes(
+    rt: &impl Abort,
+    slot: &mut Slot,
+) -> Result<(), Fail> {
     slot.open_group()?;
     slot.say(b"one")?;
     slot.say(b"two")?;
-    take(&rt, &mut slot, OTHER, 1);
-    notice_crash(&mut slot, FRIEND)?;
-    assert_idle(&rt, &slot, FRIEND);
-    assert_waiting(&rt, &slot, OTHER, 1, 2, b"two");
+    take(rt, slot, OTHER, 1);
+    notice_crash(slot, FRIEND)?;
+    assert_idle(rt, slot, FRIEND);
+    assert_waiting(rt, slot, OTHER, 1, 2, b"two");
     slot.say(b"three")?;
-    assert_idle(&rt, &slot, FRIEND);
-    assert_waiting(&rt, &slot, OTHER, 2, 2, b"two");
-    notice_crash(&mut slot, FRIEND)?;
-    assert_idle(&rt, &slot, FRIEND);
-    assert_waiting(&rt, &slot, OTHER, 2, 2, b"two");
-    receive(&mut slot, FRIEND, FRIEND, 1, b"sent before")?;
+    assert_idle(rt, slot, FRIEND);
+    assert_waiting(rt, slot, OTHER, 2, 2, b"two");
+    notice_crash(slot, FRIEND)?;
+    assert_idle(rt, slot, FRIEND);
+    assert_waiting(rt, slot, OTHER, 2, 2, b"two");
+    receive(slot, FRIEND, FRIEND, 1, b"sent before")?;
     assert_log(
-        &rt,
-        &slot,
+        rt,
+        slot,
         &[
             (ME, 1, b"one"),
             (ME, 2, b"two"),
@@ -299,34 +346,45 @@ fn nothing_waits_for_a_node_that_crashes(rt: HostRuntime) -> Result<(), Fail> {
             (FRIEND, 1, b"sent before"),
         ],
     )?;
-    notice_crash(&mut slot, OTHER)?;
+    notice_crash(slot, OTHER)?;
     slot.say(b"four")?;
-    assert_idle(&rt, &slot, FRIEND);
-    assert_idle(&rt, &slot, OTHER);
+    assert_idle(rt, slot, FRIEND);
+    assert_idle(rt, slot, OTHER);
+    Ok(())
+}
+
+#[test]
+fn nothing_waits_for_a_node_that_crashes(rt: HostRuntime) -> Result<(), Fail> {
+    let mut slot = group(rt.alloc(), 4)?;
+    check_nothing_waits_for_a_node_that_crashes(&rt, &mut slot)
+}
+
+fn check_notices_of_no_other_member_change_nothing(
+    rt: &impl Abort,
+    slot: &mut Slot,
+) -> Result<(), Fail> {
+    slot.open_group()?;
+    slot.say(b"one")?;
+    for who in [STRANGER, ME] {
+        notice_crash(slot, who)?;
+        assert_waiting(rt, slot, FRIEND, 1, 1, b"one");
+        assert_waiting(rt, slot, OTHER, 1, 1, b"one");
+        assert_log(rt, slot, &[(ME, 1, b"one")])?;
+    }
+    slot.say(b"two")?;
+    assert_waiting(rt, slot, FRIEND, 2, 1, b"one");
+    assert_idle(rt, slot, ME);
+    assert_idle(rt, slot, STRANGER);
     Ok(())
 }
 
 #[test]
 fn notices_of_no_other_member_change_nothing(rt: HostRuntime) -> Result<(), Fail> {
     let mut slot = group(rt.alloc(), 3)?;
-    slot.open_group()?;
-    slot.say(b"one")?;
-    for who in [STRANGER, ME] {
-        notice_crash(&mut slot, who)?;
-        assert_waiting(&rt, &slot, FRIEND, 1, 1, b"one");
-        assert_waiting(&rt, &slot, OTHER, 1, 1, b"one");
-        assert_log(&rt, &slot, &[(ME, 1, b"one")])?;
-    }
-    slot.say(b"two")?;
-    assert_waiting(&rt, &slot, FRIEND, 2, 1, b"one");
-    assert_idle(&rt, &slot, ME);
-    assert_idle(&rt, &slot, STRANGER);
-    Ok(())
+    check_notices_of_no_other_member_change_nothing(&rt, &mut slot)
 }
 
-#[test]
-fn room_that_was_made_serves_notices(rt: HostRuntime) -> Result<(), Fail> {
-    let mut slot = group(rt.alloc(), 3)?;
+fn check_room_that_was_made_serves_notices(rt: &impl Abort, slot: &mut Slot) -> Result<(), Fail> {
     slot.open_group()?;
     slot.say(b"one")?;
     slot.ready(4, 7)?;
@@ -334,13 +392,19 @@ fn room_that_was_made_serves_notices(rt: HostRuntime) -> Result<(), Fail> {
     slot.notice(FRIEND);
     slot.notice(STRANGER);
     slot.came(OTHER, OTHER, 1, b"earlier");
-    assert_idle(&rt, &slot, FRIEND);
-    assert_waiting(&rt, &slot, OTHER, 1, 1, b"one");
+    assert_idle(rt, slot, FRIEND);
+    assert_waiting(rt, slot, OTHER, 1, 1, b"one");
     assert_log(
-        &rt,
-        &slot,
+        rt,
+        slot,
         &[(ME, 1, b"one"), (FRIEND, 1, b""), (OTHER, 1, b"earlier")],
     )
+}
+
+#[test]
+fn room_that_was_made_serves_notices(rt: HostRuntime) -> Result<(), Fail> {
+    let mut slot = group(rt.alloc(), 3)?;
+    check_room_that_was_made_serves_notices(&rt, &mut slot)
 }
 
 /// Of each message that was said, in order, these nodes acknowledged it, and no others.
@@ -354,20 +418,191 @@ fn assert_acknowledged(rt: &impl Abort, slot: &Slot, want: &[&[NodeId]]) {
     }
 }
 
+/// A copy that another member relayed is taken in and not delivered; the origin's own then is, with the bytes that came
+/// first.
+fn check_best_effort_takes_relayed_copies_in(rt: &impl Abort, slot: &mut Slot) -> Result<(), Fail> {
+    receive(slot, OTHER, FRIEND, 1, b"first")?;
+    receive(slot, OTHER, FRIEND, 1, b"again")?;
+    assert_log(rt, slot, &[])?;
+    receive(slot, FRIEND, FRIEND, 1, b"later")?;
+    assert_log(rt, slot, &[(FRIEND, 1, b"first")])?;
+    receive(slot, OTHER, FRIEND, 1, b"again")?;
+    slot.say(b"own")?;
+    receive(slot, FRIEND, ME, 1, b"back")?;
+    assert_log(rt, slot, &[(FRIEND, 1, b"first"), (ME, 1, b"own")])?;
+    assert_waiting(rt, slot, FRIEND, 1, 1, b"own");
+    assert_waiting(rt, slot, OTHER, 1, 1, b"own");
+    Ok(())
+}
+
 #[test]
-fn acknowledgements_are_kept(rt: HostRuntime) -> Result<(), Fail> {
-    let mut slot = group(rt.alloc(), 3)?;
-    assert_acknowledged(&rt, &slot, &[]);
+fn best_effort_takes_relayed_copies_in(rt: HostRuntime) -> Result<(), Fail> {
+    let mut slot = open_group(rt.alloc(), Kind::Beb, &[])?;
+    check_best_effort_takes_relayed_copies_in(&rt, &mut slot)
+}
+
+/// A lazy group relays what its crashed origin said, from the notice on.
+fn check_lazy_groups_relay_after_a_crash(rt: &impl Abort, slot: &mut Slot) -> Result<(), Fail> {
+    let one = MsgId {
+        origin: FRIEND,
+        seq: 1,
+    };
+    let two = MsgId {
+        origin: FRIEND,
+        seq: 2,
+    };
+    receive(slot, FRIEND, FRIEND, 1, b"one")?;
+    assert_idle(rt, slot, OTHER);
+    notice_crash(slot, FRIEND)?;
+    assert_first(rt, slot, OTHER, 1, one, b"one");
+    receive(slot, OTHER, FRIEND, 2, b"two")?;
+    assert_first(rt, slot, OTHER, 2, one, b"one");
+    take(rt, slot, OTHER, 1);
+    assert_first(rt, slot, OTHER, 1, two, b"two");
+    assert_idle(rt, slot, FRIEND);
+    assert_log(rt, slot, &[(FRIEND, 1, b"one"), (FRIEND, 2, b"two")])
+}
+
+#[test]
+fn lazy_groups_relay_after_a_crash(rt: HostRuntime) -> Result<(), Fail> {
+    let mut slot = open_group(rt.alloc(), Kind::Lazy, &[])?;
+    check_lazy_groups_relay_after_a_crash(&rt, &mut slot)
+}
+
+fn check_lazy_groups_relay_after_a_crash_before_them(
+    rt: &impl Abort,
+    slot: &mut Slot,
+) -> Result<(), Fail> {
+    let one = MsgId {
+        origin: FRIEND,
+        seq: 1,
+    };
+    receive(slot, OTHER, FRIEND, 1, b"one")?;
+    assert_first(rt, slot, OTHER, 1, one, b"one");
+    assert_log(rt, slot, &[(FRIEND, 1, b"one")])
+}
+
+#[test]
+fn lazy_groups_relay_after_a_crash_before_them(rt: HostRuntime) -> Result<(), Fail> {
+    let mut slot = open_group(rt.alloc(), Kind::Lazy, &[FRIEND, STRANGER])?;
+    check_lazy_groups_relay_after_a_crash_before_them(&rt, &mut slot)
+}
+
+/// An eager group relays each message once, to its origin too.
+fn check_eager_groups_relay_at_once(rt: &impl Abort, slot: &mut Slot) -> Result<(), Fail> {
+    let one = MsgId {
+        origin: FRIEND,
+        seq: 1,
+    };
+    receive(slot, OTHER, FRIEND, 1, b"one")?;
+    receive(slot, FRIEND, FRIEND, 1, b"one")?;
+    assert_first(rt, slot, FRIEND, 1, one, b"one");
+    assert_first(rt, slot, OTHER, 1, one, b"one");
+    assert_log(rt, slot, &[(FRIEND, 1, b"one")])
+}
+
+#[test]
+fn eager_groups_relay_at_once(rt: HostRuntime) -> Result<(), Fail> {
+    let mut slot = open_group(rt.alloc(), Kind::Eager, &[])?;
+    check_eager_groups_relay_at_once(&rt, &mut slot)
+}
+
+/// An all-ack group delivers once every member that was not noticed holds the message.
+fn check_all_ack_groups_wait_for_each_member(rt: &impl Abort, slot: &mut Slot) -> Result<(), Fail> {
+    slot.say(b"one")?;
+    receive(slot, FRIEND, ME, 1, b"one")?;
+    receive(slot, FRIEND, ME, 1, b"one")?;
+    assert_log(rt, slot, &[])?;
+    receive(slot, OTHER, ME, 1, b"one")?;
+    assert_log(rt, slot, &[(ME, 1, b"one")])?;
+    slot.say(b"two")?;
+    receive(slot, FRIEND, FRIEND, 1, b"three")?;
+    assert_log(rt, slot, &[(ME, 1, b"one")])?;
+    assert_waiting(rt, slot, OTHER, 3, 1, b"one");
+    notice_crash(slot, OTHER)?;
+    assert_log(rt, slot, &[(ME, 1, b"one"), (FRIEND, 1, b"three")])?;
+    receive(slot, FRIEND, ME, 2, b"two")?;
+    assert_log(
+        rt,
+        slot,
+        &[(ME, 1, b"one"), (FRIEND, 1, b"three"), (ME, 2, b"two")],
+    )
+}
+
+#[test]
+fn all_ack_groups_wait_for_each_member(rt: HostRuntime) -> Result<(), Fail> {
+    let mut slot = open_group(rt.alloc(), Kind::AllAck, &[])?;
+    check_all_ack_groups_wait_for_each_member(&rt, &mut slot)
+}
+
+/// In a group of this kind a message waits for those before it of its origin, and for no other origin's.
+fn check_order(rt: &impl Abort, slot: &mut Slot) -> Result<(), Fail> {
+    receive(slot, FRIEND, FRIEND, 3, b"three")?;
+    receive(slot, FRIEND, FRIEND, 2, b"two")?;
+    receive(slot, OTHER, OTHER, 1, b"other")?;
+    assert_log(rt, slot, &[(OTHER, 1, b"other")])?;
+    receive(slot, FRIEND, FRIEND, 1, b"one")?;
+    slot.say(b"own")?;
+    assert_log(
+        rt,
+        slot,
+        &[
+            (OTHER, 1, b"other"),
+            (FRIEND, 1, b"one"),
+            (FRIEND, 2, b"two"),
+            (FRIEND, 3, b"three"),
+            (ME, 1, b"own"),
+        ],
+    )
+}
+
+fn assert_order_kept(rt: &impl Abort, alloc: Global, kind: Kind) -> Result<(), Fail> {
+    let mut slot = open_group(alloc, kind, &[])?;
+    check_order(rt, &mut slot)
+}
+
+#[test]
+fn fifo_groups_keep_each_origins_order(rt: HostRuntime) -> Result<(), Fail> {
+    assert_order_kept(&rt, rt.alloc(), Kind::FifoBeb)?;
+    assert_order_kept(&rt, rt.alloc(), Kind::FifoLazy)?;
+    assert_order_kept(&rt, rt.alloc(), Kind::FifoEager)
+}
+
+/// A fifo all-ack group delivers a message once those before it of its origin are held by all, in room that was made
+/// before.
+fn check_fifo_all_ack_groups_wait_and_keep_order(
+    rt: &impl Abort,
+    slot: &mut Slot,
+) -> Result<(), Fail> {
+    slot.say(b"one")?;
+    slot.say(b"two")?;
+    slot.ready(4, 0)?;
+    slot.came(FRIEND, ME, 2, b"");
+    slot.came(OTHER, ME, 2, b"");
+    assert_log(rt, slot, &[])?;
+    slot.came(FRIEND, ME, 1, b"");
+    slot.notice(OTHER);
+    assert_log(rt, slot, &[(ME, 1, b"one"), (ME, 2, b"two")])
+}
+
+#[test]
+fn fifo_all_ack_groups_wait_and_keep_order(rt: HostRuntime) -> Result<(), Fail> {
+    let mut slot = open_group(rt.alloc(), Kind::FifoAllAck, &[])?;
+    check_fifo_all_ack_groups_wait_and_keep_order(&rt, &mut slot)
+}
+
+fn check_acknowledgements_are_kept(rt: &impl Abort, slot: &mut Slot) -> Result<(), Fail> {
+    assert_acknowledged(rt, slot, &[]);
     slot.open_group()?;
     slot.say(b"one")?;
     slot.say(b"two")?;
-    assert_acknowledged(&rt, &slot, &[&[], &[]]);
+    assert_acknowledged(rt, slot, &[&[], &[]]);
     slot.done(FRIEND, MsgId { origin: ME, seq: 2 });
-    assert_acknowledged(&rt, &slot, &[&[], &[FRIEND]]);
+    assert_acknowledged(rt, slot, &[&[], &[FRIEND]]);
     slot.done(OTHER, MsgId { origin: ME, seq: 1 });
     slot.done(FRIEND, MsgId { origin: ME, seq: 1 });
     let want: [&[NodeId]; 2] = [&[FRIEND, OTHER], &[FRIEND]];
-    assert_acknowledged(&rt, &slot, &want);
+    assert_acknowledged(rt, slot, &want);
     for (origin, seq) in [
         // Acknowledged before.
         (ME, 1),
@@ -382,13 +617,19 @@ fn acknowledgements_are_kept(rt: HostRuntime) -> Result<(), Fail> {
         (ME, u16::MAX),
     ] {
         slot.done(FRIEND, MsgId { origin, seq });
-        assert_acknowledged(&rt, &slot, &want);
-        assert_waiting(&rt, &slot, FRIEND, 2, 1, b"one");
+        assert_acknowledged(rt, slot, &want);
+        assert_waiting(rt, slot, FRIEND, 2, 1, b"one");
     }
     slot.say(b"three")?;
-    assert_acknowledged(&rt, &slot, &[&[FRIEND, OTHER], &[FRIEND], &[]]);
-    notice_crash(&mut slot, FRIEND)?;
+    assert_acknowledged(rt, slot, &[&[FRIEND, OTHER], &[FRIEND], &[]]);
+    notice_crash(slot, FRIEND)?;
     slot.done(OTHER, MsgId { origin: ME, seq: 3 });
-    assert_acknowledged(&rt, &slot, &[&[FRIEND, OTHER], &[FRIEND], &[OTHER]]);
+    assert_acknowledged(rt, slot, &[&[FRIEND, OTHER], &[FRIEND], &[OTHER]]);
     Ok(())
+}
+
+#[test]
+fn acknowledgements_are_kept(rt: HostRuntime) -> Result<(), Fail> {
+    let mut slot = group(rt.alloc(), 3)?;
+    check_acknowledgements_are_kept(&rt, &mut slot)
 }

@@ -6,4 +6,18 @@
 pub enum Kind {
     /// Best-effort broadcast.
     Beb,
+    /// Lazy reliable broadcast: a message is relayed once a notice says that its origin stopped.
+    Lazy,
+    /// Eager reliable broadcast: every message is relayed.
+    Eager,
+    /// All-ack uniform reliable broadcast: a message is delivered once every member not noticed holds it.
+    AllAck,
+    /// Best-effort broadcast in the order in which each origin said its messages.
+    FifoBeb,
+    /// Lazy reliable broadcast in the order in which each origin said its messages.
+    FifoLazy,
+    /// Eager reliable broadcast in the order in which each origin said its messages.
+    FifoEager,
+    /// All-ack uniform reliable broadcast in the order in which each origin said its messages.
+    FifoAllAck,
 }

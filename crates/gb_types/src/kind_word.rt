@@ -11,6 +11,13 @@ pub fn read_kind(word: &[u8]) -> Option<Kind>
 {
     match word {
         b"beb" => Some(Kind::Beb),
+        b"lazy" => Some(Kind::Lazy),
+        b"eager" => Some(Kind::Eager),
+        b"allack" => Some(Kind::AllAck),
+        b"fbeb" => Some(Kind::FifoBeb),
+        b"flazy" => Some(Kind::FifoLazy),
+        b"feager" => Some(Kind::FifoEager),
+        b"fallack" => Some(Kind::FifoAllAck),
         _ => None,
     }
 }

@@ -136,8 +136,31 @@ fn numbers_are_written(rt: HostRuntime) -> Result<(), Fail> {
 
 #[test]
 fn kinds(rt: HostRuntime) {
-    assert_eq!(rt; read_kind(b"beb"), Some(Kind::Beb));
-    for word in [b"".as_slice(), b"be", b"bebb", b"Beb", b"beb "] {
+    for (word, kind) in [
+        (b"beb".as_slice(), Kind::Beb),
+        (b"lazy", Kind::Lazy),
+        (b"eager", Kind::Eager),
+        (b"allack", Kind::AllAck),
+        (b"fbeb", Kind::FifoBeb),
+        (b"flazy", Kind::FifoLazy),
+        (b"feager", Kind::FifoEager),
+        (b"fallack", Kind::FifoAllAck),
+    ] {
+        assert_eq!(rt; read_kind(word), Some(kind));
+    }
+    for word in [
+        b"".as_slice(),
+        b"f",
+        b"be",
+        b"bebb",
+        b"Beb",
+        b"beb ",
+        b"fifo",
+        b"ffbeb",
+        b"lazyf",
+        b"all-ack",
+        b"fLazy",
+    ] {
         assert_eq!(rt; read_kind(word), None);
     }
 }

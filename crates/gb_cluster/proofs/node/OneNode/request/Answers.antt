@@ -1,6 +1,11 @@
-use Rattle.std.proofs.Common.{◌∙◌, ap, sym}
+use Rattle.std.proofs.Common.{◌≡◌, ◌⊎◌, ◌∙◌, ap, subst, sym}
+use Rattle.gb_types.specs.declared.refusal.Refusal.TheVariants.{OutOfMemory}
+use Rattle.gb_types.specs.declared.reply.Reply.TheVariants.{Refused}
 use Rattle.gb_types.specs.declared.request.Request.{Request}
-use Rattle.gb_cluster.specs.World.{node_did}
+use Rattle.gb_types.specs.declared.request.Request.TheVariants.{Say, Fetch}
+use Rattle.gb_cluster.specs.NodeValue.{NodeValue}
+use Rattle.gb_cluster.specs.World.{node_did, node_reply}
+use Rattle.gb_cluster.proofs.NodeCodeLemmas.{replied}
 use Rattle.gb_cluster.proofs.node.OneNode.request.Goals as goal
 
 pub returns-in-AddTenant-clause-state : goal.returns-in-AddTenant-clause-state
@@ -14,3 +19,13 @@ returns-in-OpenGroup-clause-state c =
 pub returns-in-Say-clause-state : goal.returns-in-Say-clause-state
 returns-in-Say-clause-state c =
     c.say.ensures.state c.args.me c.in-Say.field-0 ∙ ap (λ (r : Request). node_did c.args.me r c.say.result c.args.self.now) (sym c.in-Say.is)
+
+pub returns-in-Say-clause-reply : goal.returns-in-Say-clause-reply
+returns-in-Say-clause-reply c =
+    subst (λ (q : Request). (c.say.result ≡ Refused OutOfMemory) ⊎ (c.say.result ≡ node_reply c.args.nodes c.args.me.number c.args.self.now q)) (sym c.in-Say.is)
+    (replied c.args.nodes c.args.me.number c.args.self.now (Say c.in-Say.field-0 c.in-Say.addr c.in-Say.payload) c.say.result (sym (ap (λ (v : NodeValue). v.stopped) c.self.view_is) ∙ c.if-self.false) c.say.ensures.reply)
+
+pub returns-in-Fetch-clause-reply : goal.returns-in-Fetch-clause-reply
+returns-in-Fetch-clause-reply c =
+    subst (λ (q : Request). (c.fetch.result ≡ Refused OutOfMemory) ⊎ (c.fetch.result ≡ node_reply c.args.nodes c.args.me.number c.args.self.now q)) (sym c.in-Fetch.is)
+    (replied c.args.nodes c.args.me.number c.args.self.now (Fetch c.in-Fetch.field-0 c.in-Fetch.addr c.in-Fetch.from c.in-Fetch.most) c.fetch.result (sym (ap (λ (v : NodeValue). v.stopped) c.self.view_is) ∙ c.if-self.false) c.fetch.ensures)

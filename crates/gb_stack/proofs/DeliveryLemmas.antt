@@ -1,8 +1,9 @@
--- What a history mentions, delivers and broadcasts, in every module of broadcast.
-use Rattle.std.proofs.Common.{◌≡◌, ℕ, Bool, true, false, cond, not, ◌&&◌, ◌||◌, nat_eq, List, [], ◌∷◌, ◌++◌, filter, refl, sym, ap, ◌∙◌}
+-- What a history mentions, delivers and broadcasts, in every module of broadcast and in every kind.
+use Rattle.std.proofs.Common.{◌≡◌, ℕ, Bool, true, false, cond, not, ◌&&◌, ◌||◌, nat_eq, List, [], ◌∷◌, ◌++◌, filter, length, ◌≤◌, refl, sym, ap, ◌∙◌, arith, subst}
 use Rattle.std.specs.List.{AllByRecursion, list_all}
 use Rattle.std.proofs.lemmas.List.Elements.{filter-append}
 use Rattle.gb_types.specs.Message.{same}
+use Rattle.gb_types.specs.declared.kind.Kind.{Kind}
 use Rattle.gb_types.specs.declared.message.MsgId.{MsgId}
 use Rattle.gb_types.proofs.SameLemmas.{and-first, same-true}
 use Rattle.gb_layer.specs.Machine.{mentions, was_noticed, came_from}
@@ -12,6 +13,10 @@ use Rattle.gb_layer.specs.declared.base.Base.{Base}
 use Rattle.gb_layer.specs.declared.base.Base.TheVariants.{BestEffort, Lazy, Eager, AllAck}
 use Rattle.gb_layer.specs.declared.call.Call.{Call}
 use Rattle.gb_layer.specs.declared.call.Call.TheVariants.{Say, Came, Notice}
+use Rattle.gb_fifo.specs.Order.{is_in, in_order, RunsFromOne}
+use Rattle.gb_fifo.specs.OrderLaws.{AllIn}
+use Rattle.gb_fifo.proofs.InOrderLemmas.{order_runs, order_delivered, order_once}
+use Rattle.gb_stack.specs.Kinds.{base_of, is_fifo, kind_broadcasts, kind_log}
 
 or_more : (a b c : Bool) → (b ≡ true → c ≡ true) → (a || b) ≡ true → (a || c) ≡ true
 or_more true b c f h = refl
@@ -140,3 +145,67 @@ log_mentioned base me members (c ∷ past) =
     all_append (λ m. mentions (c ∷ past) m ≡ true) (log base me members past) (delivers base me members c past)
     (all_weaker (λ m. mentions past m ≡ true) (λ m. mentions (c ∷ past) m ≡ true) (λ m. mentions_stays c past m) (log base me members past) (log_mentioned base me members past))
     (newly_mentioned (now_delivered base me members) c past)
+
+-- The kinds: the log of the module, or this in the order of each origin.
+
+-- what holds of each message of a list holds of one that stands in it
+holds_of : (P : MsgId → Type 0) (xs : List MsgId) → AllByRecursion P xs → (m : MsgId) → is_in xs m ≡ true → P m
+holds_of P [] all m h = cc
+holds_of P (x ∷ xs) all m h = go (same x m) refl h (holds_of P xs all.1 m)
+  where
+    go : (b : Bool) → same x m ≡ b → (b || is_in xs m) ≡ true → (is_in xs m ≡ true → P m) → P m
+    go true e k later = subst P (same-true x m e) all.0
+    go false e k later = later k
+
+-- and of each message of a list whose messages all stand in it
+all_in : (P : MsgId → Type 0) (xs ys : List MsgId) → AllByRecursion P xs → AllIn xs ys → AllByRecursion P ys
+all_in P xs ys all = all_weaker (λ m. is_in xs m ≡ true) P (holds_of P xs all) ys
+
+pub kind_log_mentioned : (kind : Kind) (me : ℕ) (members : List ℕ) (past : List Call) → AllByRecursion (λ m. mentions past m ≡ true) (kind_log kind me members past)
+kind_log_mentioned kind me members past =
+    let plain = log (base_of kind) me members past in
+    let all = log_mentioned (base_of kind) me members past in
+    elim (is_fifo kind) as (λ b. AllByRecursion (λ m. mentions past m ≡ true) (cond b (in_order plain) plain)) [
+      | true ↦ all_in (λ m. mentions past m ≡ true) plain (in_order plain) all (order_delivered plain)
+      | false ↦ all
+    ]
+
+pub kind_broadcasts_mentioned : (kind : Kind) (me : ℕ) (c : Call) (past : List Call) → AllByRecursion (λ m. mentions (c ∷ past) m ≡ true) (kind_broadcasts kind me c past)
+kind_broadcasts_mentioned kind = broadcasts_mentioned (base_of kind)
+
+-- no message stands in the log twice
+pub kind_log_once : (kind : Kind) (me : ℕ) (members : List ℕ) (past : List Call) (m : MsgId) → length (filter (λ x. same x m) (kind_log kind me members past)) ≤ 1
+kind_log_once kind me members past m =
+    let base = base_of kind in
+    let plain = log base me members past in
+    elim (is_fifo kind) as (λ b. length (filter (λ x. same x m) (cond b (in_order plain) plain)) ≤ 1) [
+      | true ↦ order_once plain m
+      | false ↦ at_most (now_delivered base me members past m) (filter (λ x. same x m) plain) (log_once base me members past m)
+    ]
+  where
+    at_most : (b : Bool) (xs : List MsgId) → xs ≡ cond b (m ∷ []) [] → length xs ≤ 1
+    at_most true xs e = let k : length xs ≡ 1 = ap length e in omega (arith, k)
+    at_most false xs e = let k : length xs ≡ 0 = ap length e in omega (arith, k)
+
+-- where the kind keeps an order each origin's messages stand in the log as 1, 2, 3, ..
+pub kind_log_in_order : (kind : Kind) (me : ℕ) (members : List ℕ) (past : List Call) → is_fifo kind ≡ true → RunsFromOne (kind_log kind me members past)
+kind_log_in_order kind me members past fifo =
+    let plain = log (base_of kind) me members past in
+    subst (λ (b : Bool). RunsFromOne (cond b (in_order plain) plain)) (sym fifo) (order_runs plain)
+
+-- The members are read through tests on all of them alone.
+
+module _ (me : ℕ) (ms ns : List ℕ) (alike : (p : ℕ → Bool) → list_all p ms ≡ list_all p ns) where
+  delivered_alike : (base : Base) (past : List Call) (m : MsgId) → is_delivered base me ms past m ≡ is_delivered base me ns past m
+  delivered_alike BestEffort past m = refl
+  delivered_alike Lazy past m = refl
+  delivered_alike Eager past m = refl
+  delivered_alike AllAck past m = alike (λ p. was_noticed past p || holds me past p m)
+
+  log_alike : (base : Base) (past : List Call) → log base me ms past ≡ log base me ns past
+  log_alike base [] = refl
+  log_alike base (c ∷ past) = λ i. log_alike base past i ++ newly (λ h m. mentions h m && delivered_alike base h m i) c past
+
+-- two lists of the same members give the same log
+pub same_members : (kind : Kind) (me : ℕ) (ms ns : List ℕ) → ((p : ℕ → Bool) → list_all p ms ≡ list_all p ns) → (past : List Call) → kind_log kind me ms past ≡ kind_log kind me ns past
+same_members kind me ms ns alike past = ap (λ xs. cond (is_fifo kind) (in_order xs) xs) (log_alike me ms ns alike (base_of kind) past)

@@ -1,0 +1,3 @@
+pub mod StartLemmas
+pub mod StandsLemmas
+pub mod DeliveryLemmas

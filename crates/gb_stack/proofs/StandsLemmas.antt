@@ -1,0 +1,185 @@
+-- What a stack gives over a history is what its kind delivers and broadcasts.
+use Rattle.std.proofs.Common.{◌≡◌, ℕ, true, false, cond, List, [], ◌∷◌, ◌++◌, refl, ap, ◌∙◌}
+use Rattle.std.specs.FinSet as set
+use Rattle.gb_types.specs.declared.kind.Kind.{Kind}
+use Rattle.gb_types.specs.declared.node.NodeId.{NodeId}
+use Rattle.gb_layer.specs.declared.base.Base.{Base}
+use Rattle.gb_layer.specs.declared.base.Base.TheVariants.{BestEffort, Lazy, Eager, AllAck}
+use Rattle.gb_layer.specs.declared.call.Call.{Call}
+use Rattle.gb_layer.specs.BebLaws.{stays}
+use Rattle.gb_layer.specs.Machine.{Gives, after, all_ups, messages}
+use Rattle.gb_layer.specs.Modules.{IsLawful, delivers, broadcasts, log}
+use Rattle.gb_layer.specs.Relay.{at_start}
+use Rattle.gb_layer.specs.Rule.{Nodes}
+use Rattle.gb_layer.proofs.BestEffort.{direct_beb, best_effort_up, best_effort_out, best_effort_log}
+use Rattle.gb_reliable.proofs.ByCalls.{lazy_next, lazy_gives, lazy_up, lazy_out, lazy_log, eager_next, eager_gives, eager_up, eager_out, eager_log}
+use Rattle.gb_uniform.proofs.ByCalls.{all_ack_next, all_ack_gives, all_ack_up, all_ack_out, all_ack_log}
+use Rattle.gb_fifo.specs.FifoLaws.{lower_after}
+use Rattle.gb_fifo.specs.FifoMachine.{FifoState, fifo_next, fifo_gives}
+use Rattle.gb_fifo.specs.FifoRoom.{IsNew}
+use Rattle.gb_fifo.specs.Order.{ordered_after, in_order}
+use Rattle.gb_fifo.proofs.FifoOrder.{call_order, fifo_order}
+use Rattle.gb_fifo.proofs.OrderLemmas.{ordered_append}
+use Rattle.gb_stack.specs.Inside.{gives_into, ups_into}
+use Rattle.gb_stack.specs.Kinds.{base_of, is_fifo, kind_delivers, kind_broadcasts, kind_log}
+use Rattle.gb_stack.specs.StackState.{UnorderedState, best_effort, lazy, eager, all_ack, unordered, fifo, unordered_next, unordered_gives, unordered_noticing, IsUntold, stack_next, stack_gives, untold_stack}
+use Rattle.gb_stack.specs.Stands.{NewStackStands, CalledStackStands, HandsUpWhatIsDelivered, SendsWhatIsBroadcast, HandsUpTheLog, LogGrows}
+use Rattle.gb_stack.specs.UnorderedLaws.{unordered_ups_handed_in}
+use Rattle.gb_stack.proofs.StartLemmas.{new_is}
+
+-- `Beb` remembers its node alone
+abbrev stay : NodeId → Call → NodeId
+stay s _ = s
+
+-- a broadcast without an order that was told nothing
+abbrev untold : Base → NodeId → Nodes → UnorderedState
+untold base me members = unordered_noticing base me members set.empty
+
+was_untold : (base : Base) (me : NodeId) (members : Nodes) → IsUntold (untold base me members)
+was_untold BestEffort me members = tt
+was_untold Lazy me members = record { lower = tt; noticed = refl; entries = refl }
+was_untold Eager me members = record { lower = tt; noticed = refl; entries = refl }
+was_untold AllAck me members = record { lower = tt; noticed = refl; entries = refl }
+
+-- what a call gives, in the words of the kind's own layer
+module _ (me : NodeId) (members : Nodes) (past : List Call) (c : Call) where
+  best_effort_call : unordered_gives (after unordered_next (best_effort me) past) c ≡ direct_beb me c
+  best_effort_call = gives_into stay direct_beb unordered_next unordered_gives best_effort (λ s c. refl) (λ s c. refl) me past c ∙ ap (λ k. direct_beb k c) (stays me past)
+
+  lazy_call : unordered_gives (after unordered_next (untold Lazy me members) past) c ≡ lazy_gives (after lazy_next (at_start me members) past) c
+  lazy_call = gives_into lazy_next lazy_gives unordered_next unordered_gives lazy (λ s c. refl) (λ s c. refl) (at_start me members) past c
+
+  eager_call : unordered_gives (after unordered_next (untold Eager me members) past) c ≡ eager_gives (after eager_next (at_start me members) past) c
+  eager_call = gives_into eager_next eager_gives unordered_next unordered_gives eager (λ s c. refl) (λ s c. refl) (at_start me members) past c
+
+  all_ack_call : unordered_gives (after unordered_next (untold AllAck me members) past) c ≡ all_ack_gives (after all_ack_next (at_start me members) past) c
+  all_ack_call = gives_into all_ack_next all_ack_gives unordered_next unordered_gives all_ack (λ s c. refl) (λ s c. refl) (at_start me members) past c
+
+unordered_up : (base : Base) (me : NodeId) (members : Nodes) (past : List Call) (c : Call) → IsLawful me.number (c ∷ past)
+    → messages (unordered_gives (after unordered_next (untold base me members) past) c).ups ≡ delivers base me.number (set.items members) c past
+unordered_up BestEffort me members past c l = ap (λ (g : Gives). messages g.ups) (best_effort_call me members past c) ∙ best_effort_up me (set.items members) past c l
+unordered_up Lazy me members past c l = ap (λ (g : Gives). messages g.ups) (lazy_call me members past c) ∙ lazy_up me members past c l
+unordered_up Eager me members past c l = ap (λ (g : Gives). messages g.ups) (eager_call me members past c) ∙ eager_up me members past c l
+unordered_up AllAck me members past c l = ap (λ (g : Gives). messages g.ups) (all_ack_call me members past c) ∙ all_ack_up me members past c l
+
+unordered_out : (base : Base) (me : NodeId) (members : Nodes) (past : List Call) (c : Call) → IsLawful me.number (c ∷ past)
+    → (unordered_gives (after unordered_next (untold base me members) past) c).sends ≡ broadcasts base me.number c past
+unordered_out BestEffort me members past c l = ap (λ (g : Gives). g.sends) (best_effort_call me members past c) ∙ best_effort_out me [] past c l
+unordered_out Lazy me members past c l = ap (λ (g : Gives). g.sends) (lazy_call me members past c) ∙ lazy_out me members past c l
+unordered_out Eager me members past c l = ap (λ (g : Gives). g.sends) (eager_call me members past c) ∙ eager_out me members past c l
+unordered_out AllAck me members past c l = ap (λ (g : Gives). g.sends) (all_ack_call me members past c) ∙ all_ack_out me members past c l
+
+unordered_log : (base : Base) (me : NodeId) (members : Nodes) (past : List Call) → IsLawful me.number past
+    → messages (all_ups unordered_next unordered_gives (untold base me members) past) ≡ log base me.number (set.items members) past
+unordered_log BestEffort me members past l =
+    ap messages (ups_into stay direct_beb unordered_next unordered_gives best_effort (λ s c. refl) (λ s c. refl) me past) ∙ best_effort_log me (set.items members) past l
+unordered_log Lazy me members past l =
+    ap messages (ups_into lazy_next lazy_gives unordered_next unordered_gives lazy (λ s c. refl) (λ s c. refl) (at_start me members) past) ∙ lazy_log me members past l
+unordered_log Eager me members past l =
+    ap messages (ups_into eager_next eager_gives unordered_next unordered_gives eager (λ s c. refl) (λ s c. refl) (at_start me members) past) ∙ eager_log me members past l
+unordered_log AllAck me members past l =
+    ap messages (ups_into all_ack_next all_ack_gives unordered_next unordered_gives all_ack (λ s c. refl) (λ s c. refl) (at_start me members) past) ∙ all_ack_log me members past l
+
+-- the step of a fifo over a broadcast without an order
+abbrev ordered_next : FifoState UnorderedState → Call → FifoState UnorderedState
+ordered_next = fifo_next unordered_next unordered_gives
+
+abbrev ordered_gives : FifoState UnorderedState → Call → Gives
+ordered_gives = fifo_gives unordered_next unordered_gives
+
+module _ (base : Base) (me : NodeId) (members : Nodes) where
+  -- a fifo that was told nothing
+  abbrev ordered : FifoState UnorderedState
+  ordered = record { lower = untold base me members; entries = [] }
+
+  was_new : IsNew IsUntold ordered
+  was_new = record { lower = was_untold base me members; entries = refl }
+
+  fifo_call : (past : List Call) (c : Call) → stack_gives (after stack_next (fifo ordered) past) c ≡ ordered_gives (after ordered_next ordered past) c
+  fifo_call = gives_into ordered_next ordered_gives stack_next stack_gives fifo (λ s c. refl) (λ s c. refl) ordered
+
+  plain_call : (past : List Call) (c : Call) → stack_gives (after stack_next (unordered (untold base me members)) past) c ≡ unordered_gives (after unordered_next (untold base me members) past) c
+  plain_call = gives_into unordered_next unordered_gives stack_next stack_gives unordered (λ s c. refl) (λ s c. refl) (untold base me members)
+
+  fifo_up : (past : List Call) (c : Call) → IsLawful me.number (c ∷ past)
+      → messages (stack_gives (after stack_next (fifo ordered) past) c).ups ≡ ordered_after (log base me.number (set.items members) past) (delivers base me.number (set.items members) c past)
+  fifo_up past c l =
+      ap (λ (g : Gives). messages g.ups) (fifo_call past c)
+      ∙ (call_order unordered_next unordered_gives IsUntold unordered_ups_handed_in ordered was_new past c
+      ∙ (λ i. ordered_after (unordered_log base me members past l.1 i) (unordered_up base me members past c l i)))
+
+  plain_up : (past : List Call) (c : Call) → IsLawful me.number (c ∷ past)
+      → messages (stack_gives (after stack_next (unordered (untold base me members)) past) c).ups ≡ delivers base me.number (set.items members) c past
+  plain_up past c l = ap (λ (g : Gives). messages g.ups) (plain_call past c) ∙ unordered_up base me members past c l
+
+  fifo_out : (past : List Call) (c : Call) → IsLawful me.number (c ∷ past) → (stack_gives (after stack_next (fifo ordered) past) c).sends ≡ broadcasts base me.number c past
+  fifo_out past c l =
+      ap (λ (g : Gives). g.sends) (fifo_call past c)
+      ∙ (ap (λ s. (unordered_gives s c).sends) (lower_after unordered_next unordered_gives ordered past) ∙ unordered_out base me members past c l)
+
+  plain_out : (past : List Call) (c : Call) → IsLawful me.number (c ∷ past) → (stack_gives (after stack_next (unordered (untold base me members)) past) c).sends ≡ broadcasts base me.number c past
+  plain_out past c l = ap (λ (g : Gives). g.sends) (plain_call past c) ∙ unordered_out base me members past c l
+
+  fifo_log : (past : List Call) → IsLawful me.number past → messages (all_ups stack_next stack_gives (fifo ordered) past) ≡ in_order (log base me.number (set.items members) past)
+  fifo_log past l =
+      ap messages (ups_into ordered_next ordered_gives stack_next stack_gives fifo (λ s c. refl) (λ s c. refl) ordered past)
+      ∙ (fifo_order unordered_next unordered_gives IsUntold unordered_ups_handed_in ordered was_new past ∙ ap in_order (unordered_log base me members past l))
+
+  plain_log : (past : List Call) → IsLawful me.number past → messages (all_ups stack_next stack_gives (unordered (untold base me members)) past) ≡ log base me.number (set.items members) past
+  plain_log past l =
+      ap messages (ups_into unordered_next unordered_gives stack_next stack_gives unordered (λ s c. refl) (λ s c. refl) (untold base me members) past) ∙ unordered_log base me members past l
+
+stack_up : (kind : Kind) (me : NodeId) (members : Nodes) (past : List Call) (c : Call) → IsLawful me.number (c ∷ past)
+    → messages (stack_gives (after stack_next (untold_stack kind me members) past) c).ups ≡ kind_delivers kind me.number (set.items members) c past
+stack_up kind me members past c l =
+    let base = base_of kind in
+    elim (is_fifo kind) as (λ b. messages (stack_gives (after stack_next (cond b (fifo (ordered base me members)) (unordered (untold base me members))) past) c).ups
+    ≡ cond b (ordered_after (log base me.number (set.items members) past) (delivers base me.number (set.items members) c past)) (delivers base me.number (set.items members) c past)) [
+      | true ↦ fifo_up base me members past c l
+      | false ↦ plain_up base me members past c l
+    ]
+
+stack_out : (kind : Kind) (me : NodeId) (members : Nodes) (past : List Call) (c : Call) → IsLawful me.number (c ∷ past)
+    → (stack_gives (after stack_next (untold_stack kind me members) past) c).sends ≡ kind_broadcasts kind me.number c past
+stack_out kind me members past c l =
+    let base = base_of kind in
+    elim (is_fifo kind) as (λ b. (stack_gives (after stack_next (cond b (fifo (ordered base me members)) (unordered (untold base me members))) past) c).sends ≡ broadcasts base me.number c past) [
+      | true ↦ fifo_out base me members past c l
+      | false ↦ plain_out base me members past c l
+    ]
+
+pub hands_up_log : HandsUpTheLog
+hands_up_log kind me members past l =
+    let base = base_of kind in
+    elim (is_fifo kind) as (λ b. messages (all_ups stack_next stack_gives (cond b (fifo (ordered base me members)) (unordered (untold base me members))) past)
+    ≡ cond b (in_order (log base me.number (set.items members) past)) (log base me.number (set.items members) past)) [
+      | true ↦ fifo_log base me members past l
+      | false ↦ plain_log base me members past l
+    ]
+
+pub log_grows : LogGrows
+log_grows kind me members c past =
+    let earlier = log (base_of kind) me members past in
+    let new = delivers (base_of kind) me members c past in
+    elim (is_fifo kind) as (λ b. cond b (in_order (earlier ++ new)) (earlier ++ new) ≡ cond b (in_order earlier) earlier ++ cond b (ordered_after earlier new) new) [
+      | true ↦ ordered_append [] earlier new
+      | false ↦ refl
+    ]
+
+-- where the module delivers nothing, nor does the kind
+pub none_logged : (kind : Kind) (me : ℕ) (members : List ℕ) (past : List Call) → [] ≡ log (base_of kind) me members past → [] ≡ kind_log kind me members past
+none_logged kind me members past none =
+    let delivered = log (base_of kind) me members past in
+    elim (is_fifo kind) as (λ b. [] ≡ cond b (in_order delivered) delivered) [ true ↦ ap in_order none | false ↦ none ]
+
+pub new_stands : NewStackStands
+new_stands kind me members noticed qs tell = record { is = new_is kind me members noticed qs tell }
+
+pub called_stands : CalledStackStands
+called_stands kind me members calls value c st = record { is = ap (λ v. stack_next v c) st.is }
+
+pub hands_up_delivered : HandsUpWhatIsDelivered
+hands_up_delivered kind me members calls value c st l = ap (λ v. messages (stack_gives v c).ups) st.is ∙ stack_up kind me members calls c l
+
+pub sends_broadcast : SendsWhatIsBroadcast
+sends_broadcast kind me members calls value c st l = ap (λ v. (stack_gives v c).sends) st.is ∙ stack_out kind me members calls c l

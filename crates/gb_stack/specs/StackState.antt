@@ -1,0 +1,111 @@
+-- What a stack remembers, what a call gives and what is remembered then.
+use Rattle.std.specs.Prelude.{[], if◌then◌else◌}
+use Rattle.std.specs.FinSet as set
+use Rattle.gb_types.specs.declared.kind.Kind.{Kind}
+use Rattle.gb_types.specs.declared.node.NodeId.{NodeId}
+use Rattle.gb_layer.specs.declared.base.Base.{Base}
+use Rattle.gb_layer.specs.declared.base.Base.TheVariants.{BestEffort, Lazy, Eager, AllAck}
+use Rattle.gb_layer.specs.declared.call.Call.{Call}
+use Rattle.gb_layer.specs.BebMachine.{beb_gives}
+use Rattle.gb_layer.specs.Machine.{Gives, own_gives}
+use Rattle.gb_layer.specs.Relay as relay
+use Rattle.gb_layer.specs.Relay.{State, relay_next, relay_gives}
+use Rattle.gb_layer.specs.Rule.{Nodes, Rules}
+use Rattle.gb_reliable.specs.Rules.{lazy_rules, eager_rules}
+use Rattle.gb_uniform.specs.Rules.{all_ack_rules}
+use Rattle.gb_fifo.specs.FifoMachine.{FifoState, fifo_next, fifo_gives}
+use Rattle.gb_fifo.specs.FifoRoom as fifo_room
+use Rattle.gb_stack.specs.Kinds.{base_of, is_fifo}
+
+-- what a broadcast without an order remembers: best effort its node alone, the others as a relay
+pub data UnorderedState : Type 0 where
+  best_effort : NodeId → UnorderedState
+  lazy : State NodeId → UnorderedState
+  eager : State NodeId → UnorderedState
+  all_ack : State NodeId → UnorderedState
+
+-- what a stack remembers
+pub data StackState : Type 0 where
+  unordered : UnorderedState → StackState
+  fifo : FifoState UnorderedState → StackState
+
+-- what a relay over `Beb` remembers after a call, by its rules
+abbrev pub relayed_next : Rules → State NodeId → Call → State NodeId
+relayed_next = relay_next (λ s _. s) beb_gives (λ s. s)
+
+-- what the call gives
+abbrev pub relayed_gives : Rules → State NodeId → Call → Gives
+relayed_gives = relay_gives (λ s _. s) beb_gives (λ s. s)
+
+-- what is remembered after a call
+abbrev pub unordered_next : UnorderedState → Call → UnorderedState
+unordered_next (best_effort s) c = best_effort s
+unordered_next (lazy s) c = lazy (relayed_next lazy_rules s c)
+unordered_next (eager s) c = eager (relayed_next eager_rules s c)
+unordered_next (all_ack s) c = all_ack (relayed_next all_ack_rules s c)
+
+-- what the call gives
+abbrev pub unordered_gives : UnorderedState → Call → Gives
+unordered_gives (best_effort s) c = own_gives (beb_gives s c)
+unordered_gives (lazy s) c = relayed_gives lazy_rules s c
+unordered_gives (eager s) c = relayed_gives eager_rules s c
+unordered_gives (all_ack s) c = relayed_gives all_ack_rules s c
+
+-- the node where it is
+abbrev pub unordered_me : UnorderedState → NodeId
+unordered_me (best_effort s) = s
+unordered_me (lazy s) = s.lower
+unordered_me (eager s) = s.lower
+unordered_me (all_ack s) = s.lower
+
+-- it was told nothing yet
+abbrev pub IsUntold : UnorderedState → Type 0
+IsUntold (best_effort s) = Unit {0}
+IsUntold (lazy s) = relay.IsNew (λ _. Unit {0}) s
+IsUntold (eager s) = relay.IsNew (λ _. Unit {0}) s
+IsUntold (all_ack s) = relay.IsNew (λ _. Unit {0}) s
+
+-- what a stack remembers after a call
+abbrev pub stack_next : StackState → Call → StackState
+stack_next (unordered s) c = unordered (unordered_next s c)
+stack_next (fifo s) c = fifo (fifo_next unordered_next unordered_gives s c)
+
+-- what the call gives
+abbrev pub stack_gives : StackState → Call → Gives
+stack_gives (unordered s) c = unordered_gives s c
+stack_gives (fifo s) c = fifo_gives unordered_next unordered_gives s c
+
+-- the node where a stack is
+abbrev pub stack_me : StackState → NodeId
+stack_me (unordered s) = unordered_me s
+stack_me (fifo s) = unordered_me s.lower
+
+-- a stack was told nothing yet
+abbrev pub IsUntoldStack : StackState → Type 0
+IsUntoldStack (unordered s) = IsUntold s
+IsUntoldStack (fifo s) = fifo_room.IsNew IsUntold s
+
+-- a broadcast at a node, in a group with these members, that was told that these nodes stopped, and nothing more
+abbrev pub unordered_noticing : Base → NodeId → Nodes → Nodes → UnorderedState
+unordered_noticing BestEffort me members noticed = best_effort me
+unordered_noticing Lazy me members noticed = lazy (record { lower = me; members = members; noticed = noticed; entries = [] })
+unordered_noticing Eager me members noticed = eager (record { lower = me; members = members; noticed = noticed; entries = [] })
+unordered_noticing AllAck me members noticed = all_ack (record { lower = me; members = members; noticed = noticed; entries = [] })
+
+-- and so a stack of a kind
+abbrev pub stack_noticing : Kind → NodeId → Nodes → Nodes → StackState
+stack_noticing kind me members noticed =
+    if is_fifo kind then fifo (record { lower = unordered_noticing (base_of kind) me members noticed; entries = [] })
+    else unordered (unordered_noticing (base_of kind) me members noticed)
+
+-- a stack that was told nothing
+abbrev pub untold_stack : Kind → NodeId → Nodes → StackState
+untold_stack kind me members = stack_noticing kind me members set.empty
+
+-- the other members among these nodes
+abbrev pub others_in : NodeId → Nodes → Nodes → Nodes
+others_in me members nodes = set.remove (set.intersection nodes members) me.number
+
+-- a stack that starts at a node which has noticed these: the other members among them were noticed
+abbrev pub new_stack : Kind → NodeId → Nodes → Nodes → StackState
+new_stack kind me members noticed = stack_noticing kind me members (others_in me members noticed)

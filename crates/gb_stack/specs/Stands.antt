@@ -1,0 +1,67 @@
+-- When a stack stands for a history, and what holds of it then.
+use Rattle.std.specs.Prelude.{◌≡◌, ℕ, Bool, ◌&&◌, not, nat_eq, nat_lt, List, ◌∷◌, ◌++◌, map}
+use Rattle.std.specs.FinSet as set
+use Rattle.std.specs.List.{list_any}
+use Rattle.gb_types.specs.declared.kind.Kind.{Kind}
+use Rattle.gb_types.specs.declared.node.NodeId.{NodeId}
+use Rattle.gb_layer.specs.declared.call.Call.{Call}
+use Rattle.gb_layer.specs.declared.call.Call.TheVariants.{Notice}
+use Rattle.gb_layer.specs.Machine.{after, all_ups, messages}
+use Rattle.gb_layer.specs.Modules.{IsLawful}
+use Rattle.gb_layer.specs.Rule.{Nodes}
+use Rattle.gb_stack.specs.Kinds.{kind_delivers, kind_broadcasts, kind_log}
+use Rattle.gb_stack.specs.StackState.{StackState, stack_next, stack_gives, untold_stack, new_stack}
+
+-- what a stack of a kind remembers at the node me, in a group with these members, after these calls, the newest first
+pub record IsStackAfter (kind : Kind) (me : NodeId) (members : Nodes) (calls : List Call) (value : StackState) : Type 0 where
+  pub is : value ≡ after stack_next (untold_stack kind me members) calls
+
+-- the node b is another member that was noticed
+abbrev pub is_other_noticed : NodeId → Nodes → Nodes → ℕ → Bool
+is_other_noticed me members noticed b = (set.contains noticed b && set.contains members b) && not (nat_eq b me.number)
+
+-- a stack that starts at a node which has noticed these stands for notices of the other members among them, whichever way they are listed
+abbrev pub NewStackStands : Type 0
+NewStackStands =
+    (kind : Kind) (me : NodeId) (members noticed : Nodes) (qs : List NodeId)
+    → ((b : ℕ) → list_any (λ q. nat_eq q.number b) qs ≡ is_other_noticed me members noticed b)
+    → IsStackAfter kind me members (map Notice qs) (new_stack kind me members noticed)
+
+-- between two states a layer was told of the other members that were noticed, with numbers below a bound
+pub record HasHeard {S : Type 0} (next : S → Call → S) (me : NodeId) (members noticed : Nodes) (bound : ℕ) (old new : S) : Type 0 where
+  pub qs : List NodeId
+  pub tell : (b : ℕ) → list_any (λ q. nat_eq q.number b) qs ≡ (is_other_noticed me members noticed b && nat_lt b bound)
+  pub is : new ≡ after next old (map Notice qs)
+
+-- after a call a stack stands for the history with it
+abbrev pub CalledStackStands : Type 0
+CalledStackStands =
+    (kind : Kind) (me : NodeId) (members : Nodes) (calls : List Call) (value : StackState) (c : Call)
+    → IsStackAfter kind me members calls value → IsStackAfter kind me members (c ∷ calls) (stack_next value c)
+
+-- what a call hands up is what the kind delivers then
+abbrev pub HandsUpWhatIsDelivered : Type 0
+HandsUpWhatIsDelivered =
+    (kind : Kind) (me : NodeId) (members : Nodes) (calls : List Call) (value : StackState) (c : Call)
+    → IsStackAfter kind me members calls value → IsLawful me.number (c ∷ calls)
+    → messages (stack_gives value c).ups ≡ kind_delivers kind me.number (set.items members) c calls
+
+-- what a call sends is what the kind broadcasts then
+abbrev pub SendsWhatIsBroadcast : Type 0
+SendsWhatIsBroadcast =
+    (kind : Kind) (me : NodeId) (members : Nodes) (calls : List Call) (value : StackState) (c : Call)
+    → IsStackAfter kind me members calls value → IsLawful me.number (c ∷ calls)
+    → (stack_gives value c).sends ≡ kind_broadcasts kind me.number c calls
+
+-- all that comes up over a history is the kind's log
+abbrev pub HandsUpTheLog : Type 0
+HandsUpTheLog =
+    (kind : Kind) (me : NodeId) (members : Nodes) (calls : List Call)
+    → IsLawful me.number calls
+    → messages (all_ups stack_next stack_gives (untold_stack kind me members) calls) ≡ kind_log kind me.number (set.items members) calls
+
+-- a kind's log grows by what the kind delivers
+abbrev pub LogGrows : Type 0
+LogGrows =
+    (kind : Kind) (me : ℕ) (members : List ℕ) (c : Call) (past : List Call)
+    → kind_log kind me members (c ∷ past) ≡ kind_log kind me members past ++ kind_delivers kind me members c past

@@ -1,0 +1,46 @@
+//! What a kind broadcasts, and its log, computed plainly from their meaning: slow, for short histories, to compare
+//! stacks with. A history has the newest call first.
+ghost use Rattle.std.specs.Prelude.{◌≡◌, IfOk};
+ghost use Rattle.gb_layer.specs.Machine.{numbers};
+ghost use Rattle.gb_layer.specs.Modules.{newest};
+ghost use Rattle.gb_stack.specs.Kinds.{kind_broadcasts, kind_log};
+
+use crate::kinds::{base, is_fifo};
+use gb_fifo::plain::in_order;
+use gb_layer::call::Call;
+use gb_layer::plain;
+use gb_types::kind::Kind;
+use gb_types::memory::OutOfMemory;
+use gb_types::message::MsgId;
+use gb_types::node::NodeId;
+use std::alloc::Global;
+
+/// What the newest call of a history broadcasts from here, in order. An empty history broadcasts nothing.
+pub fn broadcasts(
+    alloc: Global,
+    kind: Kind,
+    me: NodeId,
+    history: &[Call],
+) -> Result<Vec<MsgId>, OutOfMemory>
+    ensures { IfOk result (λ found. found.items ≡ newest (kind_broadcasts kind me.number) history.now) }
+{
+    plain::broadcasts(alloc, base(kind), me, history)
+}
+
+/// The log of a history: what its calls delivered, the oldest first.
+pub fn log(
+    alloc: Global,
+    kind: Kind,
+    me: NodeId,
+    members: &[NodeId],
+    history: &[Call],
+) -> Result<Vec<MsgId>, OutOfMemory>
+    ensures { IfOk result (λ found. found.items ≡ kind_log kind me.number (numbers members.now) history.now) }
+{
+    let delivered = plain::log(alloc, base(kind), me, members, history)?;
+    if is_fifo(kind) {
+        in_order(alloc, &delivered)
+    } else {
+        Ok(delivered)
+    }
+}

@@ -1,0 +1,183 @@
+//! The broadcast of a group.
+ghost use Rattle.std.specs.Prelude.{◌≡◌, ℕ, ◌+◌, ◌++◌, IfOk, if◌then◌else◌};
+ghost use Rattle.std.specs.FinSet as set;
+ghost use Rattle.gb_types.specs.declared.limits.TheConstants.{NODES};
+ghost use Rattle.gb_layer.specs.declared.call.Call.TheVariants.{Notice};
+ghost use Rattle.gb_layer.specs.Room.{free_sends, free_ups};
+ghost use Rattle.gb_stack.specs.Stands.{is_other_noticed, HasHeard};
+ghost use Rattle.gb_stack.specs.StackState.{StackState, unordered, fifo, stack_next, stack_gives, stack_me, IsUntoldStack, untold_stack, new_stack};
+ghost use Rattle.gb_stack.specs.StackLaws.{stack_room, stack_roomier, stack_me_stays, stack_own, stack_sends_handed_in, stack_ups_handed_in, stack_up_once, stack_sent_once, stack_noticed_once};
+ghost use Rattle.gb_stack.specs.declared.stack.Stack.TheVariants as variant;
+
+use crate::kinds::{base, is_fifo};
+use crate::unordered::Unordered;
+use gb_fifo::fifo::Fifo;
+use gb_layer::call::Call;
+use gb_layer::effects::Effects;
+use gb_layer::layer::{Broadcast, Layer};
+use gb_types::kind::Kind;
+use gb_types::limits::NODES;
+use gb_types::memory::OutOfMemory;
+use gb_types::message::MsgId;
+use gb_types::node::{NodeId, NodeSet};
+use gb_types::spec::Spec;
+use std::alloc::Global;
+
+/// The layer takes note of a node's stop, where the node is another member that was noticed.
+fn hear_of<L: Layer>(
+    layer: &mut L,
+    me: NodeId,
+    members: &NodeSet,
+    noticed: &NodeSet,
+    node: NodeId,
+    out: &mut Effects,
+)
+    requires { L.has_room layer.old (free_sends out.old) (free_ups out.old) 1 }
+    ensures meaning { L.meaning layer.new
+        ≡ (if is_other_noticed me members.now noticed.now node.number then L.next (L.meaning layer.old) (Notice node) else L.meaning layer.old) }
+    ensures room { (n : ℕ) → L.has_room layer.old (free_sends out.old) (free_ups out.old) (n + 1)
+        → L.has_room layer.new (free_sends out.new) (free_ups out.new) n }
+{
+    if noticed.contains(node) && members.contains(node) && node != me {
+        layer.notice(node, out);
+    }
+}
+
+/// The layer takes note of the stops of the other members that were noticed.
+fn hear<L: Layer>(
+    layer: &mut L,
+    me: NodeId,
+    members: &NodeSet,
+    noticed: &NodeSet,
+    out: &mut Effects,
+)
+    requires { L.has_room layer.old (free_sends out.old) (free_ups out.old) NODES }
+    ensures { HasHeard L.next me members.now noticed.now NODES (L.meaning layer.old) (L.meaning layer.new) }
+{
+    for i in 0..NODES {
+        let node = NodeId::new(i as u8);
+        hear_of(layer, me, members, noticed, node, out);
+    }
+}
+
+/// The broadcast of a group, of the kind that the group chose: one of four, plain or in the order of each origin.
+#[derive(Drop)]
+pub enum Stack {
+    /// Messages are delivered as they come.
+    Unordered(Unordered),
+    /// Each origin's messages are delivered in the order in which they were said.
+    Fifo(Fifo<Unordered>),
+}
+
+impl Stack {
+    /// A stack that was told nothing.
+    fn untold(alloc: Global, kind: Kind, me: NodeId, members: NodeSet) -> Stack
+        ensures { ⟦<Stack as Layer>⟧.meaning result ≡ untold_stack kind me members }
+    {
+        let lower = Unordered::new(alloc, base(kind), me, members);
+        if is_fifo(kind) {
+            Stack::Fifo(Fifo::new(alloc, lower))
+        } else {
+            Stack::Unordered(lower)
+        }
+    }
+
+    /// Takes any call.
+    fn step(&mut self, call: Call, out: &mut Effects)
+        requires { stack_room self.old (free_sends out.old) (free_ups out.old) 1 }
+        ensures meaning { ⟦<Stack as Layer>⟧.meaning self.new ≡ stack_next (⟦<Stack as Layer>⟧.meaning self.old) call }
+        ensures sends { out.new.sends.items ≡ out.old.sends.items ++ (stack_gives (⟦<Stack as Layer>⟧.meaning self.old) call).sends }
+        ensures ups { out.new.ups.items ≡ out.old.ups.items ++ (stack_gives (⟦<Stack as Layer>⟧.meaning self.old) call).ups }
+        ensures room { (n : ℕ) → stack_room self.old (free_sends out.old) (free_ups out.old) (n + 1)
+            → stack_room self.new (free_sends out.new) (free_ups out.new) n }
+    {
+        match self {
+            Stack::Unordered(layer) => layer.take(call, out),
+            Stack::Fifo(layer) => layer.take(call, out),
+        }
+    }
+}
+
+impl Stack {
+    /// The stack of a group at the node me, which has noticed these nodes: the stack starts as if it had been told,
+    /// one after the other, that the other members among them stopped.
+    pub fn new(
+        alloc: Global,
+        spec: &Spec,
+        me: NodeId,
+        noticed: &NodeSet,
+    ) -> Result<Stack, OutOfMemory>
+        ensures { IfOk result (λ s. ⟦<Stack as Layer>⟧.meaning s ≡ new_stack spec.now.kind me spec.now.members noticed.now) }
+    {
+        let mut stack = Stack::untold(alloc, spec.kind, me, spec.members.duplicate());
+        let mut out = Effects::new(alloc);
+        stack.ready(NODES, &mut out)?;
+        hear(&mut stack, me, &spec.members, noticed, &mut out);
+        // The proof reads that only nodes were noticed.
+        let _ = noticed.nodes();
+        Ok(stack)
+    }
+}
+
+impl Layer for Stack {
+    ghost State = { StackState };
+
+    ghost meaning = { elim [
+      | variant.Unordered l ↦ unordered (⟦<Unordered as Layer>⟧.meaning l)
+      | variant.Fifo l ↦ fifo (⟦<Fifo<Unordered> as Layer>⟧.meaning l)
+    ] };
+
+    ghost me = { stack_me };
+
+    ghost is_fresh = { IsUntoldStack };
+
+    ghost next = { stack_next };
+
+    ghost gives = { stack_gives };
+
+    ghost has_room = { stack_room };
+
+    fn me(&self) -> NodeId {
+        match self {
+            Stack::Unordered(layer) => layer.me(),
+            Stack::Fifo(layer) => layer.me(),
+        }
+    }
+
+    fn ready(&mut self, calls: usize, out: &mut Effects) -> Result<(), OutOfMemory> {
+        match self {
+            Stack::Unordered(layer) => layer.ready(calls, out),
+            Stack::Fifo(layer) => layer.ready(calls, out),
+        }
+    }
+
+    fn say(&mut self, m: MsgId, out: &mut Effects) {
+        self.step(Call::Say(m), out);
+    }
+
+    fn came(&mut self, from: NodeId, m: MsgId, out: &mut Effects) {
+        self.step(Call::Came(from, m), out);
+    }
+
+    fn notice(&mut self, who: NodeId, out: &mut Effects) {
+        self.step(Call::Notice(who), out);
+    }
+
+    ghost roomier = { stack_roomier };
+
+    ghost me_stays = { stack_me_stays };
+
+    ghost sends_handed_in = { stack_sends_handed_in };
+
+    ghost ups_handed_in = { stack_ups_handed_in };
+
+    ghost up_once = { stack_up_once };
+
+    ghost sent_once = { stack_sent_once };
+
+    ghost noticed_once = { stack_noticed_once };
+}
+
+impl Broadcast for Stack {
+    ghost own_via = { stack_own };
+}

@@ -1,0 +1,23 @@
+//! What a stack stands for: laws, with no code.
+ghost use Rattle.gb_stack.specs.LogLaws.{FifoLogRuns, KindLogMentioned, KindLogOnce};
+ghost use Rattle.gb_stack.specs.Stands.{NewStackStands, CalledStackStands, HandsUpWhatIsDelivered, SendsWhatIsBroadcast, HandsUpTheLog, LogGrows};
+
+/// What a stack remembers stands for the history of its calls: a new stack stands for the notices that it starts
+/// with, and a call adds itself. For each lawful history that a stack stands for, what a call hands up is what the
+/// kind delivers then, what it sends is what the kind broadcasts then, and all that came up is the kind's log.
+pub fn stands()
+    ensures new { NewStackStands }
+    ensures called { CalledStackStands }
+    ensures up { HandsUpWhatIsDelivered }
+    ensures out { SendsWhatIsBroadcast }
+    ensures log { HandsUpTheLog }
+    ensures grows { LogGrows }
+{}
+
+/// Whatever the history, in the log of a fifo kind each origin's messages stand as 1, 2, 3, .., without a gap, and the
+/// log of each kind has only messages that were said or came, and none of them twice.
+pub fn logs()
+    ensures runs { FifoLogRuns }
+    ensures once { KindLogOnce }
+    ensures mentioned { KindLogMentioned }
+{}
