@@ -1,6 +1,6 @@
 -- What the parts of a cluster's step give together.
 use Rattle.std.proofs.Common.{◌≡◌, ℕ, zero, suc, ◌+◌, ◌≤◌, ◌<◌, List, [], ◌∷◌, ◌++◌, length, map, Bool, true, false, inl, inr, refl, sym, ◌∙◌, ap, subst, arith, get_or}
-use Rattle.std.specs.Prelude.{reverse, slice_set, slice_index_or, Result, Ok, Err, OnErr, if◌then◌else◌}
+use Rattle.std.specs.Prelude.{reverse, slice_set, slice_index_or, if◌then◌else◌}
 use Rattle.std.specs.List.{range_with_len}
 use Rattle.std.proofs.lemmas.List.{reverse-append, set-get_or, length_push, append-nil}
 use Rattle.std.proofs.lemmas.List.FromFn.{length-map-range_with_len}
@@ -14,15 +14,15 @@ use Rattle.gb_types.specs.declared.reply.Reply.{Reply}
 use Rattle.gb_types.specs.declared.reply.Reply.TheVariants.{Log}
 use Rattle.gb_types.specs.declared.request.Request.{Request}
 use Rattle.gb_types.specs.declared.request.Request.TheVariants.{AddTenant, Make, OpenGroup, Say, Fetch}
-use Rattle.gb_cluster.specs.Headline.{IsStep, IsPlaced, ArePlaced, AreIsolated}
+use Rattle.gb_cluster.specs.Headline.{TakesMemory, IsStep, IsPlaced, ArePlaced, AreIsolated}
 use Rattle.gb_cluster.specs.Holds.{Holds}
-use Rattle.gb_cluster.specs.LinkLaws.{IsLinkStep, KeepsLinks}
+use Rattle.gb_cluster.specs.LinkLaws.{IsLinkStep, MayStarve, stopped_answer, found_by}
 use Rattle.gb_cluster.proofs.LinkStep.{link_step}
 use Rattle.gb_cluster.specs.NodeValue.{NodeValue}
 use Rattle.gb_cluster.specs.Project.{packet_at}
 use Rattle.gb_cluster.specs.Observation.{paired, steps_of}
 use Rattle.gb_cluster.specs.Trace.{bare, ComesTo, IsRun}
-use Rattle.gb_cluster.specs.World.{World, new_node, no_node, node_did, node_reply, node_packed, node_sent, node_again, node_ack, node_took, good_of, node_ticked, only_answered, sent_part, found_part, goal_of, answer_of, changed, with_step, world_after, new_world}
+use Rattle.gb_cluster.specs.World.{World, node_of, new_node, no_node, node_did, node_reply, node_packed, node_sent, node_again, node_ack, node_took, good_of, node_ticked, only_answered, sent_part, found_part, goal_of, answer_of, changed, with_step, world_after, new_world}
 use Rattle.gb_cluster.specs.declared.answer.Answer.{Answer}
 use Rattle.gb_cluster.specs.declared.answer.Answer.TheVariants.{Reply as Replied, Sent as Gave, Taken as Took_in, Ticked as Ticked_so, Halted as Halted_so}
 use Rattle.gb_cluster.specs.declared.answer.Halted.TheVariants.{Done as Halts, Refused as Ended}
@@ -146,27 +146,49 @@ started n i silence nodes past packets all nodes_are past_is packets_are = λ j.
 pub started_holds : (n silence : ℕ) (w : World) → 0 < n → n ≤ NODES → SILENCE_MIN ≤ silence → w ≡ new_world n silence → Holds w
 started_holds n silence w some few least is = subst Holds (sym is) (start_holds n silence some few least)
 
+-- a node that has stopped takes no memory
+stopped_takes_none : (e : Event) (found : List Packet) → TakesMemory e (stopped_answer e found) → ⊥
+stopped_takes_none (At a (AddTenant token row)) found takes = takes
+stopped_takes_none (At a (Make token addr spec)) found takes = cc
+stopped_takes_none (At a (OpenGroup token addr)) found takes = takes
+stopped_takes_none (At a (Say token addr payload)) found takes = cc
+stopped_takes_none (At a (Fetch token addr from most)) found takes = cc
+stopped_takes_none (Pack a b) found takes = takes
+stopped_takes_none (Again a b n) found takes = takes
+stopped_takes_none (Ack a b) found takes = takes
+stopped_takes_none (Arrive k) [] takes = takes
+stopped_takes_none (Arrive k) (p ∷ found) takes = takes
+stopped_takes_none (Tick a) found takes = takes
+stopped_takes_none (Stop a) found takes = takes
+
+may_starve : (w : World) (e : Event) → TakesMemory e (answer_of w e) → MayStarve w e
+may_starve w (At a request) takes = tt
+may_starve w (Pack a b) takes = tt
+may_starve w (Again a b n) takes = tt
+may_starve w (Ack a b) takes = takes
+may_starve w (Arrive k) takes = λ none. subst (λ (ps : List Packet). TakesMemory (Arrive k) (found_part ps (node_of w (goal_of ps))).answer) none takes
+may_starve w (Tick a) takes = tt
+may_starve w (Stop a) takes = takes
+
 -- every step does what links owe
-pub links_kept : (w u : World) (e : Event) (a : Answer) → IsPlaced (length w.nodes) e → Holds w → IsStep w e a u → KeepsLinks w e a u
-links_kept w u e a placed holds (inl starved) = inl starved.0
+pub links_kept : (w u : World) (e : Event) (a : Answer) → IsPlaced (length w.nodes) e → Holds w → IsStep w e a u → IsLinkStep w e a u
+links_kept w u e a placed holds (inl starved) = record {
+  stopped = λ is. absurd (stopped_takes_none e (found_by w e) (subst (TakesMemory e) ((link_step w e placed holds).stopped is).answer_is starved.0.1));
+  running = λ _. inl (may_starve w e starved.0.1, record { answer_is = starved.0.0; nodes = ap (λ (x : World). x.nodes) starved.1; packets = ap (λ (x : World). x.packets) starved.1 });
+}
 links_kept w u e a placed holds (inr goes) =
-    inr (subst (λ (x : Answer). IsLinkStep w e x u) (sym goes.0) (subst (λ (y : World). IsLinkStep w e (answer_of w e) y) (sym goes.1) (link_step w e placed holds)))
+    subst (λ (x : Answer). IsLinkStep w e x u) (sym goes.0) (subst (λ (y : World). IsLinkStep w e (answer_of w e) y) (sym goes.1) (link_step w e placed holds))
 
 -- every cluster keeps what holds
 pub keeps : (w u : World) (e : Event) (a : Answer) → IsPlaced (length w.nodes) e → Holds w → IsStep w e a u → Holds u
 keeps w u e a placed holds (inl starved) =
-    subst Holds (sym (starved.1 ∙ ap (λ (x : Answer). with_step e x w) starved.0)) (starved_holds w e placed holds)
+    subst Holds (sym (starved.1 ∙ ap (λ (x : Answer). with_step e x w) starved.0.0)) (starved_holds w e placed holds)
 keeps w u e a placed holds (inr goes) = subst Holds (sym goes.1) (step_holds w e placed holds)
 
 -- so many nodes stay
 pub count_after : (w u : World) (e : Event) (a : Answer) → IsStep w e a u → length u.nodes ≡ length w.nodes
 count_after w u e a (inl starved) = ap (λ (x : World). length x.nodes) starved.1
 count_after w u e a (inr goes) = ap (λ (x : World). length x.nodes) goes.1 ∙ same_count w e
-
--- what holds anyway holds where the result is an error
-pub on_err : {T E : Type 0} (r : Result T E) (P : Type 0) → P → OnErr r P
-on_err (Ok x) P p = tt
-on_err (Err e) P p = p
 
 -- one event more, with its answer
 paired-push : (events : List Event) (answers : List Answer) (e : Event) (a : Answer) → length answers ≡ length events → paired (events ++ e ∷ []) (answers ++ a ∷ []) ≡ paired events answers ++ record { event = e; answer = a } ∷ []
@@ -194,7 +216,7 @@ run_begins nodes silence w events answers none none_yet new isolated =
     }
 
 -- a run of one event more
-pub run_goes : (nodes silence : ℕ) (w u : World) (events more : List Event) (answers others : List Answer) (e : Event) (a : Answer) → IsRun nodes silence events answers w.packets w → more ≡ events ++ e ∷ [] → others ≡ answers ++ a ∷ [] → IsStep w e a u → KeepsLinks w e a u → AreIsolated u → IsRun nodes silence more others u.packets u
+pub run_goes : (nodes silence : ℕ) (w u : World) (events more : List Event) (answers others : List Answer) (e : Event) (a : Answer) → IsRun nodes silence events answers w.packets w → more ≡ events ++ e ∷ [] → others ≡ answers ++ a ∷ [] → IsStep w e a u → IsLinkStep w e a u → AreIsolated u → IsRun nodes silence more others u.packets u
 unfolding ComesTo
 run_goes nodes silence w u events more answers others e a was events_are answers_are step links isolated =
     let steps : steps_of more others ≡ record { event = e; answer = a } ∷ steps_of events answers =

@@ -177,8 +177,12 @@ pub link_step : (w : World) (e : Event) → IsPlaced (length w.nodes) e → Hold
 link_step w e placed holds = record {
   stopped = λ is.
       let part = stopped_part w e (flag ∙ is) in
-      (ap (λ (x : Part). x.answer) part, ap (λ (x : Part). set w.nodes a x.value) part ∙ set-get_or w.nodes a no_node, ap (λ (x : Part). w.packets ++ x.sent) part ∙ append-nil w.packets);
-  running = λ is. runs_so w e placed holds.links (flag ∙ is);
+      record {
+        answer_is = ap (λ (x : Part). x.answer) part;
+        nodes = ap (λ (x : Part). set w.nodes a x.value) part ∙ set-get_or w.nodes a no_node;
+        packets = ap (λ (x : Part). w.packets ++ x.sent) part ∙ append-nil w.packets;
+      };
+  running = λ is. inr (runs_so w e placed holds.links (flag ∙ is));
 }
   where
     a : ℕ

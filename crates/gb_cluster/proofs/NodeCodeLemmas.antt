@@ -1,6 +1,6 @@
 -- What the parts of a node's code give together.
-use Rattle.std.proofs.Common.{◌≡◌, ℕ, zero, suc, ◌+◌, ◌≤◌, List, [], ◌∷◌, ◌++◌, length, Option, Some, None, Bool, true, false, cond, ◌&&◌, ◌⊎◌, inl, inr, refl, sym, ◌∙◌, ap, arith, count_by, length-append}
-use Rattle.std.specs.Prelude.{filter, fold, nat_eq, slice_set, if◌then◌else◌}
+use Rattle.std.proofs.Common.{◌≡◌, ℕ, zero, suc, ◌+◌, ◌≤◌, List, [], ◌∷◌, ◌++◌, length, Option, Some, None, Bool, true, false, cond, ◌&&◌, ◌⊎◌, inl, inr, refl, sym, ◌∙◌, ap, subst, arith, count_by, length-append}
+use Rattle.std.specs.Prelude.{◌≢◌, filter, fold, nat_eq, slice_set, if◌then◌else◌, Result, Ok, Err, OnErr}
 use Rattle.std.specs.FinSet as set
 use Rattle.std.specs.List.{range_with_len}
 use Rattle.std.specs.Option.{option_map}
@@ -21,17 +21,23 @@ use Rattle.gb_types.specs.Rising.{rising}
 use Rattle.gb_types.specs.declared.entry.Entry.{Entry}
 use Rattle.gb_types.specs.declared.limits.TheConstants.{NODES}
 use Rattle.gb_types.specs.declared.node.NodeId.{NodeId}
-use Rattle.gb_types.specs.declared.refusal.Refusal.TheVariants.{OutOfMemory, Stopped}
+use Rattle.gb_types.specs.declared.refusal.Refusal.TheVariants.{Stopped}
 use Rattle.gb_types.specs.declared.reply.Reply.{Reply}
 use Rattle.gb_types.specs.declared.reply.Reply.TheVariants.{Refused}
 use Rattle.gb_types.specs.declared.request.Request.{Request}
 use Rattle.gb_types.specs.declared.spec.TenantRow.{TenantRow}
+use Rattle.gb_cluster.specs.Headline.{IsReplyTo}
 use Rattle.gb_cluster.specs.Hosted.{first_waiting}
 use Rattle.gb_cluster.specs.NodeValue.{GroupAt, NodeValue}
 use Rattle.gb_cluster.specs.Nodes.{node_numbered}
-use Rattle.gb_cluster.specs.World.{first_of, is_reached, packed, packed_of, packet_for, node_packed, sender_to, receiver_from, item_done, newly_done, without_done, admission_of, group_came, node_took, running_reply, node_reply}
+use Rattle.gb_cluster.specs.World.{first_of, is_reached, packed, packed_of, packet_for, node_packed, sender_to, receiver_from, item_done, newly_done, without_done, admission_of, group_came, node_took, group_noticed, running_reply, node_reply}
 use Rattle.gb_cluster.specs.declared.packet.Item.{Item}
 use Rattle.gb_cluster.specs.declared.packet.Packet.{Packet}
+
+-- what holds anyway holds where the result is an error
+pub on_err : {T E : Type 0} (r : Result T E) (P : Type 0) → P → OnErr r P
+on_err (Ok x) P p = tt
+on_err (Err e) P p = p
 
 -- a node is the one with its number
 pub numbered_same : (n : NodeId) → node_numbered n.number ≡ n
@@ -76,6 +82,9 @@ packed_in me b v item (Some here) found = go (waiting here.slot b.number) found
 pub packed_is : (nodes : ℕ) (me b : NodeId) (v : NodeValue) (item : Item) → is_reached nodes me b v ≡ true → has_room (sender_to v b.number) ≡ true → first_waiting b.number v.group ≡ Some item
     → node_packed nodes me b v ≡ packet_for me b v (sender_to v b.number).next (Some item) ∷ []
 packed_is nodes me b v item reached room found = rw (reached, room) (packed_in me b v item v.group found)
+
+pub packs_some : (nodes : ℕ) (me b : NodeId) (v : NodeValue) (item : Item) → is_reached nodes me b v ≡ true → has_room (sender_to v b.number) ≡ true → first_waiting b.number v.group ≡ Some item → node_packed nodes me b v ≢ []
+packs_some nodes me b v item reached room found none = let packed = packed_is nodes me b v item reached room found in cc
 
 abbrev pub node_with : Option TenantRow → Option GroupAt → List (SendWindow Item) → List Received → Watch → Bool → NodeValue
 node_with row group senders receivers watch stopped = record { row = row; group = group; senders = senders; receivers = receivers; watch = watch; stopped = stopped }
@@ -127,6 +136,22 @@ took_parts p v i j S sender R receiver ready acked group watch place place_too S
     (group_is ∙ (λ k. if nat_eq p.frame 0 then whole k else group_came p (admission (R_is k) p.frame) (whole k)))
 
 -- a running node's reply is the node's
-pub replied : (nodes me : ℕ) (v : NodeValue) (request : Request) (r : Reply) → v.stopped ≡ false → (r ≡ Refused OutOfMemory) ⊎ (r ≡ running_reply nodes me v request) → (r ≡ Refused OutOfMemory) ⊎ (r ≡ node_reply nodes me v request)
-replied nodes me v request r running (inl none) = inl none
-replied nodes me v request r running (inr is) = inr (is ∙ sym (ap (λ (b : Bool). if b then Refused Stopped else running_reply nodes me v request) running))
+pub replied : (nodes me : ℕ) (v : NodeValue) (request : Request) (r : Reply) → v.stopped ≡ false → IsReplyTo request (running_reply nodes me v request) r → IsReplyTo request (node_reply nodes me v request) r
+replied nodes me v request r running is = subst (λ (should : Reply). IsReplyTo request should r) (sym (ap (λ (b : Bool). if b then Refused Stopped else running_reply nodes me v request) running)) is
+
+-- there is no node in no set
+none_of : (ns : List ℕ) → filter (set.contains {R = nat_cmp} set.empty) ns ≡ []
+none_of [] = refl
+none_of (n ∷ ns) = rw (set.contains-empty nat_cmp n) (none_of ns)
+
+pub rising_none : rising set.empty ≡ []
+unfolding rising
+rising_none = none_of (range_with_len 0 NODES)
+
+-- where no node is noticed the group stays
+pub none_noticed : (found : set.FinSet nat_cmp) (group : Option GroupAt) → found ≡ set.empty → group_noticed (rising found) group ≡ group
+none_noticed found group none = ap (λ (s : set.FinSet nat_cmp). group_noticed (rising s) group) none ∙ (ap (λ bs. group_noticed bs group) rising_none ∙ stays group)
+  where
+    stays : (g : Option GroupAt) → group_noticed [] g ≡ g
+    stays None = refl
+    stays (Some here) = refl

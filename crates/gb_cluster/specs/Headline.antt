@@ -1,10 +1,14 @@
 -- What is seen of a group, and that each group in a cluster is what it is alone.
-use Rattle.std.specs.Prelude.{ℕ, ◌≡◌, ◌<◌, ◌⊎◌, true, List, [], ◌∷◌, ◌++◌, length, Option, Some, None, slice_get}
+use Rattle.std.specs.Prelude.{ℕ, ◌≡◌, ◌≢◌, ◌<◌, ◌⊎◌, true, List, [], ◌∷◌, ◌++◌, length, Option, Some, None, slice_get}
+use Rattle.std.specs.FinSet as set
 use Rattle.gb_types.specs.declared.address.Addr.{Addr}
 use Rattle.gb_types.specs.declared.entry.Entry.{Entry}
 use Rattle.gb_types.specs.declared.refusal.Refusal.TheVariants.{OutOfMemory}
 use Rattle.gb_types.specs.declared.reply.Reply.{Reply}
 use Rattle.gb_types.specs.declared.reply.Reply.TheVariants.{Refused}
+use Rattle.gb_types.specs.declared.request.Request.{Request}
+use Rattle.gb_types.specs.declared.request.Request.TheVariants.{AddTenant, Make, OpenGroup, Say, Fetch}
+use Rattle.gb_slot.specs.Replied.{is_granted}
 use Rattle.gb_slot.specs.Slot.{shown, waiting}
 use Rattle.gb_slot.specs.SlotState.{SlotState}
 use Rattle.gb_cluster.specs.Alone.{Group, alone, log_at, IsLegal}
@@ -13,9 +17,9 @@ use Rattle.gb_cluster.specs.World.{World, node_of, slot_for, with_step, answer_o
 use Rattle.gb_cluster.specs.declared.answer.Answer.{Answer}
 use Rattle.gb_cluster.specs.declared.answer.Answer.TheVariants.{Reply as Replied, Sent as Gave, Taken as Took_in, Ticked as Ticked_so, Halted as Halted_so}
 use Rattle.gb_cluster.specs.declared.answer.Halted.TheVariants.{Refused as Ended}
-use Rattle.gb_cluster.specs.declared.answer.Sent.TheVariants.{Refused as Unsent}
-use Rattle.gb_cluster.specs.declared.answer.Taken.TheVariants.{Refused as Lost}
-use Rattle.gb_cluster.specs.declared.answer.Ticked.TheVariants.{Refused as Untold}
+use Rattle.gb_cluster.specs.declared.answer.Sent.TheVariants.{Packet as Numbered, Refused as Unsent}
+use Rattle.gb_cluster.specs.declared.answer.Taken.TheVariants.{Good as Accepted, Refused as Lost}
+use Rattle.gb_cluster.specs.declared.answer.Ticked.TheVariants.{Noticed, Refused as Untold}
 use Rattle.gb_cluster.specs.declared.event.Event.{Event}
 use Rattle.gb_cluster.specs.declared.event.Event.TheVariants.{At, Pack, Again, Ack, Arrive, Tick, Stop}
 use Rattle.gb_cluster.specs.declared.packet.Packet.{Packet}
@@ -68,9 +72,35 @@ starved_answer (Arrive k) = Took_in (Lost OutOfMemory)
 starved_answer (Tick a) = Ticked_so (Untold OutOfMemory)
 starved_answer (Stop a) = Halted_so (Ended OutOfMemory)
 
+-- a request takes memory where it makes a group, says a message or reads a log
+abbrev pub RequestTakesMemory : Request → Reply → Type 0
+RequestTakesMemory (AddTenant token row) reply = ⊥
+RequestTakesMemory (Make token addr spec) reply = is_granted reply ≡ true
+RequestTakesMemory (OpenGroup token addr) reply = ⊥
+RequestTakesMemory (Say token addr payload) reply = is_granted reply ≡ true
+RequestTakesMemory (Fetch token addr from most) reply = is_granted reply ≡ true
+
+-- the reply is this one, or want of memory, where this one takes memory
+abbrev pub IsReplyTo : Request → Reply → Reply → Type 0
+IsReplyTo request should reply = ((reply ≡ Refused OutOfMemory) × RequestTakesMemory request should) ⊎ (reply ≡ should)
+
+-- an event takes memory where it is answered so: a frame goes out, a packet is taken in, nodes are noticed. What is refused or gives nothing takes none, nor does
+-- an acknowledgement alone, or a stop.
+abbrev pub TakesMemory : Event → Answer → Type 0
+TakesMemory (At a request) (Replied reply) = RequestTakesMemory request reply
+TakesMemory (Pack a b) (Gave (Numbered k)) = Unit {0}
+TakesMemory (Again a b n) (Gave (Numbered k)) = Unit {0}
+TakesMemory (Arrive k) (Took_in (Accepted good)) = Unit {0}
+TakesMemory (Tick a) (Ticked_so (Noticed found)) = found ≢ set.empty
+TakesMemory event answer = ⊥
+
+-- the answer is want of memory, where what it should be takes memory
+abbrev pub IsStarved : Event → Answer → Answer → Type 0
+IsStarved event should answer = (answer ≡ starved_answer event) × TakesMemory event should
+
 -- a step of the cluster: it goes on, or the node lacked memory and nothing has changed but that this was answered
 abbrev pub IsStep : World → Event → Answer → World → Type 0
-IsStep old event answer new = ((answer ≡ starved_answer event) × (new ≡ with_step event answer old)) ⊎ ((answer ≡ answer_of old event) × (new ≡ world_after old event))
+IsStep old event answer new = (IsStarved event (answer_of old event) answer × (new ≡ with_step event answer old)) ⊎ ((answer ≡ answer_of old event) × (new ≡ world_after old event))
 
 -- the acting node is one of the cluster's
 abbrev pub IsPlaced : ℕ → Event → Type 0

@@ -145,11 +145,23 @@ RunsSo w (Arrive k) answer u = (u.packets ≡ w.packets) × TakesFound w answer 
 RunsSo w (Tick a) answer u = (u.packets ≡ w.packets) × (found : set.FinSet nat_cmp) × (answer ≡ Ticked_so (Noticed found)) × AreNew (start a.number (length w.nodes) w.silence) (watched a.number w.packets w.steps) found
 RunsSo w (Stop a) answer u = (u.packets ≡ w.packets) × (answer ≡ Halted_so Halts)
 
--- A step, unless the node lacked memory: a node that has stopped answers Stopped and stays as it is, a running one answers so.
-pub record IsLinkStep (w : World) (event : Event) (answer : Answer) (u : World) : Type 0 where
-  pub stopped : is_stopped (acting w.packets event) w.steps ≡ true → (answer ≡ stopped_answer event (found_by w event)) × (u.nodes ≡ w.nodes) × (u.packets ≡ w.packets)
-  pub running : is_stopped (acting w.packets event) w.steps ≡ false → RunsSo w event answer u
+-- Where a running node may lack memory: not for an acknowledgement alone, a stop, or a packet that is not there.
+abbrev pub MayStarve : World → Event → Type 0
+MayStarve w (At a request) = Unit {0}
+MayStarve w (Pack a b) = Unit {0}
+MayStarve w (Again a b n) = Unit {0}
+MayStarve w (Ack a b) = ⊥
+MayStarve w (Arrive k) = packet_at w.packets k ≢ []
+MayStarve w (Tick a) = Unit {0}
+MayStarve w (Stop a) = ⊥
 
--- a step of the cluster does what links owe, unless the node lacked memory
-abbrev pub KeepsLinks : World → Event → Answer → World → Type 0
-KeepsLinks w event answer u = (answer ≡ starved_answer event) ⊎ IsLinkStep w event answer u
+-- only this was answered, and nothing else has changed
+pub record OnlyAnswered (w : World) (should answer : Answer) (u : World) : Type 0 where
+  pub answer_is : answer ≡ should
+  pub nodes : u.nodes ≡ w.nodes
+  pub packets : u.packets ≡ w.packets
+
+-- A step of the cluster: a node that has stopped answers Stopped and stays as it is; a running one answers want of memory and stays as it is, or answers so.
+pub record IsLinkStep (w : World) (event : Event) (answer : Answer) (u : World) : Type 0 where
+  pub stopped : is_stopped (acting w.packets event) w.steps ≡ true → OnlyAnswered w (stopped_answer event (found_by w event)) answer u
+  pub running : is_stopped (acting w.packets event) w.steps ≡ false → (MayStarve w event × OnlyAnswered w (starved_answer event) answer u) ⊎ RunsSo w event answer u

@@ -3,7 +3,7 @@ use Rattle.std.specs.Prelude.{ℕ, ◌≡◌, Bool, true, false, List, [], ◌�
 use Rattle.gb_types.specs.declared.refusal.Refusal.TheVariants.{OutOfMemory}
 use Rattle.gb_types.specs.declared.reply.Reply.TheVariants.{Refused}
 use Rattle.gb_cluster.specs.Headline.{IsStep, AreIsolated}
-use Rattle.gb_cluster.specs.LinkLaws.{KeepsLinks}
+use Rattle.gb_cluster.specs.LinkLaws.{IsLinkStep}
 use Rattle.gb_cluster.specs.NodeValue.{NodeValue}
 use Rattle.gb_cluster.specs.Observation.{steps_of}
 use Rattle.gb_cluster.specs.World.{World, new_world}
@@ -33,7 +33,7 @@ is_starved answer = false
 -- a cluster of so many nodes, in which nothing had happened, comes by these steps, the newest first, to this, and its links do what they owe
 unfoldable pub ComesTo : ℕ → ℕ → List Step → World → Type 0
 ComesTo nodes silence [] w = w ≡ new_world nodes silence
-ComesTo nodes silence (s ∷ steps) w = (before : World) × ComesTo nodes silence steps before × IsStep before s.event s.answer w × KeepsLinks before s.event s.answer w
+ComesTo nodes silence (s ∷ steps) w = (before : World) × ComesTo nodes silence steps before × IsStep before s.event s.answer w × IsLinkStep before s.event s.answer w
 
 -- a cluster of so many nodes, which notice a node that is silent for so many ticks, took these events in order, with these answers, and these are the packets that
 -- were sent; in it each group is what it is alone

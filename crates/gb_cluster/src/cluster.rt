@@ -8,7 +8,7 @@ ghost use Rattle.gb_cluster.specs.NodeValue.{NodeValue};
 ghost use Rattle.gb_cluster.specs.World.{new_world, sent_part, arrive_part, tick_part, stop_part, with_step};
 ghost use Rattle.gb_cluster.specs.Acting.{Goes, Acts};
 ghost use Rattle.gb_cluster.specs.Headline.{AreIsolated, AreInside, IsPlaced, IsStep};
-ghost use Rattle.gb_cluster.specs.LinkLaws.{KeepsLinks};
+ghost use Rattle.gb_cluster.specs.LinkLaws.{IsLinkStep};
 ghost use Rattle.gb_cluster.specs.Observed.{AreObserved};
 ghost use Rattle.gb_cluster.specs.Trace.{bare};
 ghost use Rattle.gb_cluster.specs.declared.packet.Packet.{Packet as PacketValue};
@@ -305,7 +305,7 @@ impl Cluster {
         requires { IsPlaced (length self.old.nodes) event.now }
         ensures steps { IfOk result (λ a. self.new.steps ≡ record { event = event.now; answer = a } ∷ self.old.steps) }
         ensures step { IfOk result (λ a. IsStep self.old event.now a self.new) }
-        ensures links { IfOk result (λ a. KeepsLinks self.old event.now a self.new) }
+        ensures links { IfOk result (λ a. IsLinkStep self.old event.now a self.new) }
         ensures nodes { length self.new.nodes ≡ length self.old.nodes }
         ensures isolated { AreIsolated self.new }
         ensures err { OnErr result (self.new ≡ self.old) }

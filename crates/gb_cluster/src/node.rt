@@ -1,5 +1,5 @@
 //! A node with room for one tenant and one group.
-ghost use Rattle.std.specs.Prelude.{◌≡◌, ◌⊎◌, ◌≤◌, ◌<◌, true, ℕ, List, Some, filter, fold, length, is_some, nat_eq, replicate, if◌then◌else◌, IsSome, IfOk, OnOk, OnErr};
+ghost use Rattle.std.specs.Prelude.{◌≡◌, ◌≢◌, ◌≤◌, [], ◌<◌, true, ℕ, List, Some, filter, fold, length, is_some, nat_eq, replicate, if◌then◌else◌, IsSome, IfOk, OnOk, OnErr};
 ghost use Rattle.std.specs.FinSet as set;
 ghost use Rattle.std.specs.Option.{option_to_list};
 ghost use Rattle.gb_types.specs.Entry.{message_of};
@@ -10,9 +10,11 @@ ghost use Rattle.gb_detect.specs.Watch.{due};
 ghost use Rattle.gb_link.specs.Ack.{covers};
 ghost use Rattle.gb_link.specs.Received.{admission, taken};
 ghost use Rattle.gb_link.specs.SendWindow.{new_window};
+ghost use Rattle.gb_slot.specs.Replied.{IsReply};
 ghost use Rattle.gb_slot.specs.Rules.{open_answer, say_answer, fetch_answer, is_member};
 ghost use Rattle.gb_slot.specs.Slot.{IsWithinLimits, new_slot, waiting, slot_opened, slot_said, slot_came, slot_done, slot_took};
 ghost use Rattle.gb_cluster.specs.Hosted.{group_at, group_of, HasRoom, KeepsRoom, first_waiting};
+ghost use Rattle.gb_cluster.specs.Headline.{IsReplyTo};
 ghost use Rattle.gb_cluster.specs.Project.{is_addr};
 ghost use Rattle.gb_cluster.specs.Rules.{is_over_limits, is_bad, is_over, make_answer, by_tenant, on_made};
 ghost use Rattle.gb_cluster.specs.World.{first_of, new_node, reserve_for, slot_for, shown_for, row_answer, in_room, running_reply, node_reply, on_slot, group_took, node_did, packet_for, is_reached, is_another, node_packed, node_sent, node_again, node_ack, without_done, item_done, item_came, group_came, kind_of, count_of, node_took, good_of, slot_noticed_all, group_noticed, node_ticked};
@@ -67,7 +69,7 @@ impl Hosted {
 
     /// Says something in the group, where it is the one with this address.
     fn say(&mut self, addr: Addr, payload: &Payload) -> Reply
-        ensures reply { (result ≡ Reply.Refused Refusal.OutOfMemory) ⊎ (result ≡ on_made (λ s. say_answer s payload.now) (shown_for (slot_for addr (Some (group_at self.old))))) }
+        ensures reply { IsReply (on_made (λ s. say_answer s payload.now) (shown_for (slot_for addr (Some (group_at self.old))))) result }
         ensures state { Some (group_at self.new) ≡ on_slot addr (slot_said payload.now result) (Some (group_at self.old)) }
     {
         if !is_same(addr, self.addr) {
@@ -81,7 +83,7 @@ impl Hosted {
 
     /// Reads the group's log, where it is the one with this address.
     fn fetch(&self, addr: Addr, from: u32, most: u32) -> Reply
-        ensures { (result ≡ Reply.Refused Refusal.OutOfMemory) ⊎ (result ≡ on_made (λ s. fetch_answer s from most) (shown_for (slot_for addr (Some (group_at self.now))))) }
+        ensures { IsReply (on_made (λ s. fetch_answer s from most) (shown_for (slot_for addr (Some (group_at self.now))))) result }
     {
         if !is_same(addr, self.addr) {
             return Reply::Refused(Refusal::NoGroup);
@@ -94,7 +96,8 @@ impl Hosted {
 
     /// The first item that waits for the node, copied.
     fn first_for(&self, alloc: Global, to: NodeId) -> Result<Option<Entry>, OutOfMemory>
-        ensures { IfOk result (λ e. e ≡ first_of (waiting self.now.slot.state to.number)) }
+        ensures first { IfOk result (λ e. e ≡ first_of (waiting self.now.slot.state to.number)) }
+        ensures lack { OnErr result (IsSome (first_of (waiting self.now.slot.state to.number))) }
     {
         match self.slot.peek(to) {
             None => Ok(None),
@@ -259,7 +262,8 @@ fn first_item(
     alloc: Global,
     to: NodeId,
 ) -> Result<Option<Item>, OutOfMemory>
-    ensures { IfOk result (λ i. i ≡ first_waiting to.number (group_of group.now)) }
+    ensures first { IfOk result (λ i. i ≡ first_waiting to.number (group_of group.now)) }
+    ensures lack { OnErr result (IsSome (first_waiting to.number (group_of group.now))) }
 {
     let Some(hosted) = group else {
         return Ok(None);
@@ -380,11 +384,16 @@ fn notice_each(slot: &mut Slot, found: &NodeSet)
     }
 }
 
-/// Notices these nodes in the group, rising. Without memory nothing has changed.
+/// Notices these nodes in the group, rising. Takes no memory where there are none; without memory nothing has
+/// changed.
 fn notice_all(group: &mut Option<Hosted>, found: &NodeSet) -> Result<(), OutOfMemory>
     ensures ok { OnOk result (group_of group.new ≡ group_noticed (rising found.now) (group_of group.old)) }
     ensures err { OnErr result (group_of group.new ≡ group_of group.old) }
+    ensures lack { OnErr result (found.now ≢ set.empty) }
 {
+    if found.is_empty() {
+        return Ok(());
+    }
     if let Some(hosted) = group {
         hosted.slot.ready(found.count_in(found), 0)?;
         notice_each(&mut hosted.slot, found);
@@ -473,7 +482,7 @@ impl OneNode {
     }
 
     fn make(&mut self, nodes: usize, me: NodeId, addr: Addr, spec: &Spec) -> Reply
-        ensures reply { (result ≡ Reply.Refused Refusal.OutOfMemory) ⊎ (result ≡ in_room self.old.group (by_tenant (make_answer nodes me.number addr.group (is_some (slot_for addr self.old.group)) spec.now) (reserve_for addr.tenant self.old.row))) }
+        ensures reply { IsReply (in_room self.old.group (by_tenant (make_answer nodes me.number addr.group (is_some (slot_for addr self.old.group)) spec.now) (reserve_for addr.tenant self.old.row))) result }
         ensures state { (token : List ℕ) → self.new ≡ node_did me (Request.Make token addr spec.now) result self.old }
     {
         let Some(reserve) = reserve_of(&self.row, addr.tenant) else {
@@ -512,7 +521,7 @@ impl OneNode {
     }
 
     fn say(&mut self, addr: Addr, payload: &Payload) -> Reply
-        ensures reply { (result ≡ Reply.Refused Refusal.OutOfMemory) ⊎ (result ≡ by_tenant (λ _. on_made (λ s. say_answer s payload.now) (shown_for (slot_for addr self.old.group))) (reserve_for addr.tenant self.old.row)) }
+        ensures reply { IsReply (by_tenant (λ _. on_made (λ s. say_answer s payload.now) (shown_for (slot_for addr self.old.group))) (reserve_for addr.tenant self.old.row)) result }
         ensures state { (me : Id) (token : List ℕ) → self.new ≡ node_did me (Request.Say token addr payload.now) result self.old }
     {
         if reserve_of(&self.row, addr.tenant).is_none() {
@@ -527,7 +536,7 @@ impl OneNode {
     }
 
     fn fetch(&self, addr: Addr, from: u32, most: u32) -> Reply
-        ensures { (result ≡ Reply.Refused Refusal.OutOfMemory) ⊎ (result ≡ by_tenant (λ _. on_made (λ s. fetch_answer s from most) (shown_for (slot_for addr self.now.group))) (reserve_for addr.tenant self.now.row)) }
+        ensures { IsReply (by_tenant (λ _. on_made (λ s. fetch_answer s from most) (shown_for (slot_for addr self.now.group))) (reserve_for addr.tenant self.now.row)) result }
     {
         if reserve_of(&self.row, addr.tenant).is_none() {
             return Reply::Refused(Refusal::Denied);
@@ -540,7 +549,7 @@ impl OneNode {
 
     /// Answers a request. Where the answer is want of memory, nothing has changed.
     pub fn request(&mut self, nodes: usize, me: NodeId, request: &Request) -> Reply
-        ensures reply { (result ≡ Reply.Refused Refusal.OutOfMemory) ⊎ (result ≡ node_reply nodes me.number self.old request.now) }
+        ensures reply { IsReplyTo request.now (node_reply nodes me.number self.old request.now) result }
         ensures state { self.new ≡ node_did me request.now result self.old }
     {
         if self.stopped {
@@ -577,8 +586,8 @@ impl OneNode {
         }
     }
 
-    /// Packs the first item that waits for another node as the next frame of their link. Without memory nothing
-    /// has changed.
+    /// Packs the first item that waits for another node as the next frame of their link. Without memory for it
+    /// nothing has changed.
     pub fn pack(
         &mut self,
         nodes: usize,
@@ -588,6 +597,7 @@ impl OneNode {
         ensures packet { IfOk result (λ p. option_to_list p ≡ node_packed nodes me to self.old) }
         ensures state { IfOk result (λ p. self.new ≡ node_sent to (option_to_list p) self.old) }
         ensures err { OnErr result (self.new ≡ self.old) }
+        ensures lack { OnErr result (node_packed nodes me to self.old ≢ []) }
     {
         if !self.is_reached(nodes, me, to) || !self.senders[to.index()].room() {
             return Ok(None);
@@ -609,7 +619,8 @@ impl OneNode {
         to: NodeId,
         number: u64,
     ) -> Result<Option<Packet>, OutOfMemory>
-        ensures { IfOk result (λ p. option_to_list p ≡ node_again nodes me to number self.now) }
+        ensures packet { IfOk result (λ p. option_to_list p ≡ node_again nodes me to number self.now) }
+        ensures lack { OnErr result (node_again nodes me to number self.now ≢ []) }
     {
         if !self.is_reached(nodes, me, to) {
             return Ok(None);
@@ -660,6 +671,7 @@ impl OneNode {
         ensures found { IfOk result (λ f. f ≡ due self.old.watch) }
         ensures state { OnOk result (self.new ≡ node_ticked self.old) }
         ensures err { OnErr result (self.new ≡ self.old) }
+        ensures lack { OnErr result (due self.old.watch ≢ set.empty) }
     {
         notice_all(&mut self.group, &self.detector.due())?;
         Ok(self.detector.tick())

@@ -1,9 +1,10 @@
 -- Results of a slot's calls as replies.
-use Rattle.std.specs.Prelude.{ℕ, Result, Ok, Err}
+use Rattle.std.specs.Prelude.{ℕ, ◌≡◌, ◌⊎◌, Bool, true, false, Result, Ok, Err}
 use Rattle.std.specs.declared.vec.Vec.{Vec}
 use Rattle.std.specs.declared.alloc.Global.{Global}
 use Rattle.gb_types.specs.declared.entry.Entry.{Entry}
 use Rattle.gb_types.specs.declared.refusal.Refusal.{Refusal}
+use Rattle.gb_types.specs.declared.refusal.Refusal.TheVariants.{OutOfMemory}
 use Rattle.gb_types.specs.declared.reply.Reply.{Reply}
 use Rattle.gb_types.specs.declared.reply.Reply.TheVariants.{Done, Said, Log, Refused}
 
@@ -21,3 +22,12 @@ said_reply (Err why) = Refused why
 abbrev pub log_reply : Result (Vec Entry Global) Refusal → Reply
 log_reply (Ok entries) = Log entries.items
 log_reply (Err why) = Refused why
+
+-- the reply grants what was asked
+abbrev pub is_granted : Reply → Bool
+is_granted (Refused why) = false
+is_granted reply = true
+
+-- the reply is what it should be; memory may be wanting in its place only where it would grant what was asked
+abbrev pub IsReply : Reply → Reply → Type 0
+IsReply should reply = ((reply ≡ Refused OutOfMemory) × (is_granted should ≡ true)) ⊎ (reply ≡ should)

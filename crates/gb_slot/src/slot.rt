@@ -5,7 +5,7 @@ ghost use Rattle.gb_types.specs.declared.entry.Entry.{Entry as EntryValue};
 ghost use Rattle.std.specs.List.{list_any};
 ghost use Rattle.gb_layer.specs.Machine.{is_up, messages};
 ghost use Rattle.gb_slot.specs.Messages.{entry_in};
-ghost use Rattle.gb_slot.specs.Replied.{done_reply, said_reply, log_reply};
+ghost use Rattle.gb_slot.specs.Replied.{done_reply, said_reply, log_reply, IsReply};
 ghost use Rattle.gb_slot.specs.Rules.{is_member, is_other, is_let_fall, open_answer, say_answer, fetch_answer};
 ghost use Rattle.gb_slot.specs.Slot.{came_before, with_acknowledgement};
 
@@ -130,7 +130,7 @@ impl Slot {
     /// Broadcasts a payload, and gives its number here. WrongPhase where the group is not open, TooLong above
     /// 1,024 bytes, Budget where all messages are said, in this order; OutOfMemory last.
     pub fn say(&mut self, payload: &[u8]) -> Result<u16, Refusal>
-        ensures answer { (result ≡ Err Refusal.OutOfMemory) ⊎ (said_reply result ≡ say_answer (shown self.old.state) payload.now) }
+        ensures answer { IsReply (say_answer (shown self.old.state) payload.now) (said_reply result) }
         ensures state { self.new.state ≡ slot_said payload.now (said_reply result) self.old.state }
     {
         if self.phase == Phase::Made {
@@ -234,7 +234,7 @@ impl Slot {
     /// The log from a place on, `max` entries at most; places count from 0. BadPlace where the place is above
     /// the log's length, or more than 16 entries are asked for.
     pub fn fetch(&self, from: u32, max: u32) -> Result<Vec<Entry>, Refusal>
-        ensures { (result ≡ Err Refusal.OutOfMemory) ⊎ (log_reply result ≡ fetch_answer (shown self.now.state) from max) }
+        ensures { IsReply (fetch_answer (shown self.now.state) from max) (log_reply result) }
     {
         let from = from as usize;
         if from > self.effects.ups.len() || max > FETCH {

@@ -2,7 +2,8 @@ use Rattle.std.proofs.Common.{List, [], ◌∷◌, ◌++◌, length, sym, ◌∙
 use Rattle.gb_cluster.specs.Headline.{AreInside}
 use Rattle.gb_cluster.specs.Holds.{Holds}
 use Rattle.gb_cluster.specs.declared.step.Step.{Step}
-use Rattle.gb_cluster.proofs.CodeLemmas.{stepped, unchanged, steps_after, links_kept, keeps, count_after, on_err}
+use Rattle.gb_cluster.proofs.CodeLemmas.{stepped, unchanged, steps_after, links_kept, keeps, count_after}
+use Rattle.gb_cluster.proofs.NodeCodeLemmas.{on_err}
 use Rattle.gb_cluster.proofs.Theorem.{all_isolated, all_inside}
 use Rattle.gb_cluster.proofs.cluster.Cluster.step.Goals as goal
 

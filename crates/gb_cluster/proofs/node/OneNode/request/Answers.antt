@@ -1,8 +1,7 @@
-use Rattle.std.proofs.Common.{◌≡◌, ◌⊎◌, ◌∙◌, ap, subst, sym}
-use Rattle.gb_types.specs.declared.refusal.Refusal.TheVariants.{OutOfMemory}
-use Rattle.gb_types.specs.declared.reply.Reply.TheVariants.{Refused}
+use Rattle.std.proofs.Common.{◌∙◌, ap, subst, sym, inr}
 use Rattle.gb_types.specs.declared.request.Request.{Request}
-use Rattle.gb_types.specs.declared.request.Request.TheVariants.{Say, Fetch}
+use Rattle.gb_types.specs.declared.request.Request.TheVariants.{OpenGroup, Say, Fetch}
+use Rattle.gb_cluster.specs.Headline.{IsReplyTo}
 use Rattle.gb_cluster.specs.NodeValue.{NodeValue}
 use Rattle.gb_cluster.specs.World.{node_did, node_reply}
 use Rattle.gb_cluster.proofs.NodeCodeLemmas.{replied}
@@ -16,16 +15,21 @@ pub returns-in-OpenGroup-clause-state : goal.returns-in-OpenGroup-clause-state
 returns-in-OpenGroup-clause-state c =
     c.open_group.ensures.state c.args.me c.in-OpenGroup.field-0 ∙ ap (λ (r : Request). node_did c.args.me r c.open_group.result c.args.self.now) (sym c.in-OpenGroup.is)
 
+pub returns-in-OpenGroup-clause-reply : goal.returns-in-OpenGroup-clause-reply
+returns-in-OpenGroup-clause-reply c =
+    subst (λ (q : Request). IsReplyTo q (node_reply c.args.nodes c.args.me.number c.args.self.now q) c.open_group.result) (sym c.in-OpenGroup.is)
+    (replied c.args.nodes c.args.me.number c.args.self.now (OpenGroup c.in-OpenGroup.field-0 c.in-OpenGroup.addr) c.open_group.result (sym (ap (λ (v : NodeValue). v.stopped) c.self.view_is) ∙ c.if-self.false) (inr c.open_group.ensures.reply))
+
 pub returns-in-Say-clause-state : goal.returns-in-Say-clause-state
 returns-in-Say-clause-state c =
     c.say.ensures.state c.args.me c.in-Say.field-0 ∙ ap (λ (r : Request). node_did c.args.me r c.say.result c.args.self.now) (sym c.in-Say.is)
 
 pub returns-in-Say-clause-reply : goal.returns-in-Say-clause-reply
 returns-in-Say-clause-reply c =
-    subst (λ (q : Request). (c.say.result ≡ Refused OutOfMemory) ⊎ (c.say.result ≡ node_reply c.args.nodes c.args.me.number c.args.self.now q)) (sym c.in-Say.is)
+    subst (λ (q : Request). IsReplyTo q (node_reply c.args.nodes c.args.me.number c.args.self.now q) c.say.result) (sym c.in-Say.is)
     (replied c.args.nodes c.args.me.number c.args.self.now (Say c.in-Say.field-0 c.in-Say.addr c.in-Say.payload) c.say.result (sym (ap (λ (v : NodeValue). v.stopped) c.self.view_is) ∙ c.if-self.false) c.say.ensures.reply)
 
 pub returns-in-Fetch-clause-reply : goal.returns-in-Fetch-clause-reply
 returns-in-Fetch-clause-reply c =
-    subst (λ (q : Request). (c.fetch.result ≡ Refused OutOfMemory) ⊎ (c.fetch.result ≡ node_reply c.args.nodes c.args.me.number c.args.self.now q)) (sym c.in-Fetch.is)
+    subst (λ (q : Request). IsReplyTo q (node_reply c.args.nodes c.args.me.number c.args.self.now q) c.fetch.result) (sym c.in-Fetch.is)
     (replied c.args.nodes c.args.me.number c.args.self.now (Fetch c.in-Fetch.field-0 c.in-Fetch.addr c.in-Fetch.from c.in-Fetch.most) c.fetch.result (sym (ap (λ (v : NodeValue). v.stopped) c.self.view_is) ∙ c.if-self.false) c.fetch.ensures)
