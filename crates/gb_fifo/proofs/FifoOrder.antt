@@ -5,20 +5,23 @@ use Rattle.std.proofs.Math.Bool.{or-true, and-false}
 use Rattle.std.proofs.lemmas.Bool.{eqb-true, eq-eqb}
 use Rattle.std.proofs.lemmas.Bool.Decides.{nat_tests}
 use Rattle.std.proofs.lemmas.List.{append-nil}
+use Rattle.std.proofs.lemmas.List.Sums.{count_by-le-length}
 use Rattle.gb_types.specs.declared.node.NodeId.{NodeId}
 use Rattle.gb_types.specs.declared.message.MsgId.{MsgId}
 use Rattle.gb_types.specs.Message.{same}
-use Rattle.gb_types.proofs.SameLemmas.{same-true, same_itself, same_number, and-first, and-second}
+use Rattle.gb_types.proofs.SameLemmas.{same_itself, same_number, and-first, and-second}
 use Rattle.gb_layer.specs.declared.effects.Up.{Up}
 use Rattle.gb_layer.specs.declared.call.Call.{Call}
 use Rattle.gb_layer.specs.declared.call.Call.TheVariants.{Say, Came, Notice}
 use Rattle.gb_layer.specs.Machine.{Gives, after, all_ups, mentions, is_of, messages}
 use Rattle.gb_layer.specs.Modules.{first_mentions}
 use Rattle.gb_layer.specs.Laws.{HandsUpWhatWasHandedIn}
-use Rattle.gb_layer.specs.Counts.{count_by-cons, count_by-append, count_by-map}
+use Rattle.gb_layer.specs.Counts.{count_by-cons, count_by-append, count_by-map, count_by-grown}
+use Rattle.gb_layer.specs.EntryLists.{any_keys, has_mentioned, any_marked}
+use Rattle.gb_layer.specs.Lists.{all_append, any_weaker, any_push}
 use Rattle.gb_fifo.specs.declared.entry.Entry.{Entry}
 use Rattle.gb_fifo.specs.Entries.{is_for, blank, noted, noted_by, brought, brought_entry, given_entry, up_of, is_ungiven, is_next, next_of, is_given_of, given_of, pick, give, released, released_ups, taken_one, taken_one_ups, taken, taken_ups}
-use Rattle.gb_fifo.specs.EntryLaws.{keys, any_keys, keys_taken_one, keys_noted_by, has_mentioned, brought_same, next_new, at_most, all_append}
+use Rattle.gb_fifo.specs.EntryLaws.{keys, keys_taken_one, keys_noted_by, brought_same, next_new}
 use Rattle.gb_fifo.specs.FifoMachine.{FifoState, fifo_next, fifo_gives}
 use Rattle.gb_fifo.specs.FifoRoom.{IsNew}
 use Rattle.gb_fifo.specs.FifoLaws.{keys_after, lower_after}
@@ -27,32 +30,11 @@ use Rattle.gb_fifo.proofs.Placed.{none_given, stays}
 use Rattle.gb_fifo.proofs.OrderLemmas.{drop_upto, top_is, ordered_append}
 use Rattle.gb_fifo.proofs.NumberLemmas.{messages-append, next_origin, next_seq, more_given, given_brought, taken_one_numbers}
 
-or_swap : (a b c : Bool) → (a || (b || c)) ≡ (b || (a || c))
-or_swap true true c = refl
-or_swap true false c = refl
-or_swap false b c = refl
-
 never : (b : Bool) → (b ≡ true → ⊥) → b ≡ false
 never true f = absurd (f refl)
 never false f = refl
 
--- lists of entries, and tests on them
-any_weaker : (f g : Entry → Bool) → ((e : Entry) → f e ≡ true → g e ≡ true) → (es : List Entry) → list_any f es ≡ true → list_any g es ≡ true
-any_weaker f g k [] h = cc
-any_weaker f g k (e ∷ es) h =
-    elim (f e) as (λ b. f e ≡ b → (b || list_any f es) ≡ true → (g e || list_any g es) ≡ true) [
-      | true ↦ λ w _. ap (λ b. b || list_any g es) (k e w)
-      | false ↦ λ _ l. ap (λ b. g e || b) (any_weaker f g k es l) ∙ or-true (g e)
-    ] refl h
-
-any_push : {X : Type 0} (p : X → Bool) (xs : List X) (x : X) → list_any p (xs ++ x ∷ []) ≡ (p x || list_any p xs)
-any_push p [] x = refl
-any_push p (y ∷ xs) x = ap (λ b. p y || b) (any_push p xs x) ∙ or_swap (p y) (p x) _
-
-any_map : (p : Entry → Bool) (f : Entry → Entry) → ((e : Entry) → p (f e) ≡ p e) → (es : List Entry) → list_any p (map f es) ≡ list_any p es
-any_map p f k [] = refl
-any_map p f k (e ∷ es) = λ i. k e i || any_map p f k es i
-
+-- a test that a mark as handed up keeps
 any_give : (f : Entry → Bool) → ((e : Entry) → f (given_entry e) ≡ f e) → (p : Entry → Bool) (es : List Entry) → list_any f (give p es) ≡ list_any f es
 any_give f k p [] = refl
 any_give f k p (e ∷ es) =
@@ -89,10 +71,6 @@ settles s (suc n) es h =
           settles s n (give (next_of s es) es) (omega (arith, f, g, h))
       | false ↦ λ e. subst (λ (xs : List Entry). list_any (next_of s xs) xs ≡ false) (sym (stays s (suc n) es e)) e
     ] refl
-
-ungiven_most : (es : List Entry) → count_by is_ungiven es ≤ length es
-ungiven_most [] = omega arith
-ungiven_most (e ∷ es) = let a = count_by-cons is_ungiven e es in let b = ungiven_most es in let c = at_most (is_ungiven e) in omega (arith, a, b, c)
 
 -- the entry is of m, and came up
 abbrev pub is_here : MsgId → Entry → Bool
@@ -197,27 +175,8 @@ marked_released s zero es delivered marked = marked
 marked_released s (suc n) es delivered marked = marked_released s n (give (next_of s.number es) es) delivered (marked_give s es delivered marked)
 
 -- one more is here
-brought_all : (x : MsgId) (es : List Entry) → list_any (is_for x) es ≡ true → list_any (is_here x) (map (brought x) es) ≡ true
-brought_all x [] h = cc
-brought_all x (e ∷ es) h =
-    elim (is_for x e) as (λ b. is_for x e ≡ b → (b || list_any (is_for x) es) ≡ true → (is_here x (cond b (brought_entry e) e) || list_any (is_here x) (map (brought x) es)) ≡ true) [
-      | true ↦ λ k _. ap (λ b. (b && true) || list_any (is_here x) (map (brought x) es)) k
-      | false ↦ λ k h. ap (λ b. (b && e.here) || list_any (is_here x) (map (brought x) es)) k ∙ brought_all x es h
-    ] refl h
-
-brought_other : (x m : MsgId) → same x m ≡ false → (e : Entry) → is_here m (brought x e) ≡ is_here m e
-brought_other x m h e =
-    elim (is_for x e) as (λ b. is_for x e ≡ b → is_here m (cond b (brought_entry e) e) ≡ is_here m e) [
-      | true ↦ λ k. let f : same e.m m ≡ false = ap (λ y. same y m) (same-true e.m x k) ∙ h in ap (λ b. b && true) f ∙ ap (λ b. b && e.here) (sym f)
-      | false ↦ λ _. refl
-    ] refl
-
 here_brought : (es : List Entry) (x m : MsgId) → list_any (is_for x) es ≡ true → list_any (is_here m) (map (brought x) es) ≡ (same x m || list_any (is_here m) es)
-here_brought es x m h =
-    elim (same x m) as (λ b. same x m ≡ b → list_any (is_here m) (map (brought x) es) ≡ (b || list_any (is_here m) es)) [
-      | true ↦ λ k. subst (λ (y : MsgId). list_any (is_here y) (map (brought x) es) ≡ true) (same-true x m k) (brought_all x es h)
-      | false ↦ λ k. any_map (is_here m) (brought x) (brought_other x m k) es
-    ] refl
+here_brought es x m h = any_marked (λ e. e.m) (λ e. e.here) brought_entry (λ e. refl) (λ e. refl) es x m h
 
 marked_brought : (m : MsgId) (es : List Entry) (delivered : List MsgId) → list_any (is_for m) es ≡ true → IsMarked es delivered → IsMarked (map (brought m) es) (delivered ++ m ∷ [])
 marked_brought m es delivered there marked = record {
@@ -239,7 +198,7 @@ settled_one m es delivered there settled =
     let o = m.origin in
     let es' = taken_one m es in
     let marked = marked_released o (length es) (map (brought m) es) (delivered ++ m ∷ []) (marked_brought m es delivered there settled.marked) in
-    let ended = settles o.number (length es) (map (brought m) es) (let a = count_by-map is_ungiven (brought m) (brought_same is_ungiven m (λ e. refl)) es in let b = ungiven_most es in omega (arith, a, b)) in
+    let ended = settles o.number (length es) (map (brought m) es) (let a = count_by-map is_ungiven (brought m) (brought_same is_ungiven m (λ e. refl)) es in let b = count_by-le-length is_ungiven es in omega (arith, a, b)) in
     record {
       marked = marked;
       ends = λ q.
@@ -295,7 +254,7 @@ There es = AllByRecursion (λ u. list_any (is_for u.m) es ≡ true)
 
 there_keys : (es es' : List Entry) → keys es' ≡ keys es → (us : List Up) → There es us → There es' us
 there_keys es es' k [] a = tt
-there_keys es es' k (u ∷ us) a = (any_keys u.m es' ∙ (ap (list_any (λ y. same y u.m)) k ∙ (sym (any_keys u.m es) ∙ a.0)), there_keys es es' k us a.1)
+there_keys es es' k (u ∷ us) a = (any_keys (λ e. e.m) u.m es' ∙ (ap (list_any (λ y. same y u.m)) k ∙ (sym (any_keys (λ e. e.m) u.m es) ∙ a.0)), there_keys es es' k us a.1)
 
 -- once these pairs were taken the entries have settled again
 pub settled_all : (us : List Up) (es : List Entry) (delivered : List MsgId) → There es us → IsSettled es delivered → IsSettled (taken us es) (delivered ++ messages us)
@@ -318,9 +277,7 @@ below_push t t' m f [] b = ((λ g. cc), tt)
 below_push t t' m f (e ∷ es) b = ((λ g. let h = b.0 g in let k = f e.m.origin.number in omega (arith, h, k)), below_push t t' m f es b.1)
 
 count_push : (q : ℕ) (es : List Entry) (m : MsgId) → given_of q (es ++ blank m ∷ []) ≡ given_of q es
-count_push q es m =
-    let a = count_by-append (is_given_of q) es (blank m ∷ []) in
-    let b : count_by (is_given_of q) (blank m ∷ []) ≡ 0 = ap (λ v. 0 + cond {A = ℕ} v 1 0) (and-false (nat_eq m.origin.number q)) in omega (arith, a, b)
+count_push q es m = count_by-grown (is_given_of q) false es (blank m) (and-false (nat_eq m.origin.number q))
 
 settled_push : (m : MsgId) (es : List Entry) (delivered : List MsgId) → IsSettled es delivered → IsSettled (es ++ blank m ∷ []) delivered
 settled_push m es delivered settled = record {
@@ -359,7 +316,7 @@ all_mentioned b (u ∷ us) f = (
 
 there_mentioned : (past : List Call) (es : List Entry) → keys es ≡ first_mentions past → (us : List Up) → AllByRecursion (λ (u : Up). mentions past u.m ≡ true) us → There es us
 there_mentioned past es k [] a = tt
-there_mentioned past es k (u ∷ us) a = (has_mentioned past es u.m k ∙ a.0, there_mentioned past es k us a.1)
+there_mentioned past es k (u ∷ us) a = (has_mentioned (λ e. e.m) past es u.m k ∙ a.0, there_mentioned past es k us a.1)
 
 module _ {S : Type 0} (next : S → Call → S) (gives : S → Call → Gives) (is_fresh : S → Type 0)
     (ups_handed_in : HandsUpWhatWasHandedIn next gives is_fresh)

@@ -1,8 +1,8 @@
 -- The first entry that passes a test is handed up, and the next message of an origin again and again.
-use Rattle.std.proofs.Common.{◌≡◌, ℕ, ◌+◌, ◌-◌, ◌<◌, Bool, true, false, cond, not, ◌||◌, List, [], ◌∷◌, ◌++◌, take, set, get_or, length, count_by, refl, ap, sym, ◌∙◌, arith, zero, suc, append_assoc}
+use Rattle.std.proofs.Common.{◌≡◌, ℕ, ◌+◌, ◌-◌, ◌<◌, Bool, true, false, cond, not, List, [], ◌∷◌, ◌++◌, take, set, get_or, length, count_by, refl, ap, sym, ◌∙◌, arith, zero, suc, append_assoc}
 use Rattle.std.specs.declared.option.Option.TheVariants.{Some}
 use Rattle.std.specs.List.{list_any}
-use Rattle.std.proofs.Math.Bool.{or-true}
+use Rattle.std.proofs.lemmas.List.Folds.{list_any_at}
 use Rattle.std.proofs.lemmas.Option.{slice_get-get_or}
 use Rattle.gb_layer.specs.declared.effects.Up.{Up}
 use Rattle.gb_layer.specs.Bools.{or_left, or_right}
@@ -38,11 +38,6 @@ picked_core p (y ∷ es) (suc i) x lt is h n =
     let less : i < length es = omega arith in
     picked_core p es i x less is h (or_right (p y) _ n) ∙ ap (λ b. cond b (up_of y ∷ []) (pick p es)) (sym (or_left (p y) _ n))
 
-any_core : (p : Entry → Bool) (es : List Entry) (i : ℕ) (x : Entry) → i < length es → x ≡ get_or es i x → p x ≡ true → list_any p es ≡ true
-any_core p [] i x lt is h = absurd (omega arith)
-any_core p (y ∷ es) zero x lt is h = ap (λ b. b || list_any p es) (ap p (sym is) ∙ h)
-any_core p (y ∷ es) (suc i) x lt is h = let less : i < length es = omega arith in ap (λ b. p y || b) (any_core p es i x less is h) ∙ or-true (p y)
-
 -- the entry at the place is the one that is handed up
 pub given_at : (p : Entry → Bool) (es : List Entry) (i : ℕ) (x : Entry) → IsPlace p es (Some i) → x ≡ get_or es i x → set es i (given_entry x) ≡ give p es
 given_at p es i x h is = given_core p es i x h.0 is (passes p es i x h is) h.2
@@ -51,7 +46,7 @@ pub picked_at : (p : Entry → Bool) (es : List Entry) (i : ℕ) (x : Entry) →
 picked_at p es i x h is = picked_core p es i x h.0 is (passes p es i x h is) h.2
 
 pub any_at : (p : Entry → Bool) (es : List Entry) (i : ℕ) (x : Entry) → IsPlace p es (Some i) → x ≡ get_or es i x → list_any p es ≡ true
-any_at p es i x h is = any_core p es i x h.0 is (passes p es i x h is)
+any_at p es i x h is = list_any_at p es i x h.0 (ap p (sym is) ∙ passes p es i x h is)
 
 -- and leaves one fewer
 pub fewer : (s k : ℕ) (es : List Entry) (i : ℕ) (x : Entry) → IsPlace (is_next s k) es (Some i) → x ≡ get_or es i x → count_by is_ungiven (set es i (given_entry x)) + 1 ≡ count_by is_ungiven es

@@ -1,35 +1,30 @@
 -- Which messages have entries, and how many of them were handed up.
-use Rattle.std.proofs.Common.{◌≡◌, ℕ, ◌+◌, ◌≤◌, Bool, true, false, cond, not, ◌&&◌, ◌||◌, List, [], ◌∷◌, ◌++◌, length, map, filter, count_by, refl, ap, ◌∙◌, sym, arith, zero, suc}
+use Rattle.std.proofs.Common.{◌≡◌, ℕ, ◌+◌, Bool, true, false, cond, not, ◌&&◌, List, [], ◌∷◌, length, map, count_by, refl, ap, ◌∙◌, arith, zero, suc}
 use Rattle.std.specs.List.{list_any, AllByRecursion}
 use Rattle.std.proofs.Math.Bool.{and-true, and-false}
-use Rattle.std.proofs.lemmas.List.{map-append}
-use Rattle.std.proofs.lemmas.List.Sums.{length-filter}
 use Rattle.gb_types.specs.declared.message.MsgId.{MsgId}
 use Rattle.gb_types.specs.Message.{same}
 use Rattle.gb_layer.specs.declared.effects.Up.{Up}
 use Rattle.gb_layer.specs.declared.call.Call.{Call}
 use Rattle.gb_layer.specs.declared.call.Call.TheVariants.{Say, Came, Notice}
-use Rattle.gb_layer.specs.Machine.{mentions, is_of}
+use Rattle.gb_layer.specs.Machine.{is_of}
 use Rattle.gb_layer.specs.Modules.{first_mentions}
-use Rattle.gb_layer.specs.FirstMentions.{first_mentions-once}
-use Rattle.gb_layer.specs.Counts.{count_by-cons, count_by-append, count_by-map}
+use Rattle.gb_layer.specs.EntryLists.{keys_noted}
+use Rattle.gb_layer.specs.Lists.{all_append, map_same}
+use Rattle.gb_layer.specs.Counts.{count_by-cons, count_by-append, count_by-map, count_by-grown}
 use Rattle.gb_fifo.specs.declared.entry.Entry.{Entry}
-use Rattle.gb_fifo.specs.Entries.{is_for, blank, noted, noted_by, brought, brought_entry, given_entry, up_of, is_next, next_of, given_of, pick, give, released, released_ups, taken_one, taken_one_ups, taken, taken_ups}
+use Rattle.gb_fifo.specs.Entries.{is_for, blank, noted_by, brought, brought_entry, given_entry, up_of, is_next, next_of, given_of, pick, give, released, released_ups, taken_one, taken_one_ups, taken, taken_ups}
 
 -- the messages of entries
 abbrev pub keys : List Entry → List MsgId
 keys = map (λ e. e.m)
-
-keeps_keys : (f : Entry → Entry) → ((e : Entry) → (f e).m ≡ e.m) → (es : List Entry) → keys (map f es) ≡ keys es
-keeps_keys f k [] = refl
-keeps_keys f k (e ∷ es) = λ i. k e i ∷ keeps_keys f k es i
 
 -- a mark that a message came up keeps all else
 pub brought_same : {A : Type 0} (p : Entry → A) (x : MsgId) → ((e : Entry) → p (brought_entry e) ≡ p e) → (e : Entry) → p (brought x e) ≡ p e
 brought_same p x k e = elim (is_for x e) as (λ b. p (cond b (brought_entry e) e) ≡ p e) [ true ↦ k e | false ↦ refl ]
 
 keys_brought : (x : MsgId) (es : List Entry) → keys (map (brought x) es) ≡ keys es
-keys_brought x es = keeps_keys (brought x) (brought_same (λ e. e.m) x (λ e. refl)) es
+keys_brought x es = map_same (λ e. e.m) (brought x) (λ e. e.m) (brought_same (λ e. e.m) x (λ e. refl)) es
 
 keys_give : (p : Entry → Bool) (es : List Entry) → keys (give p es) ≡ keys es
 keys_give p [] = refl
@@ -47,41 +42,10 @@ pub keys_taken : (us : List Up) (es : List Entry) → keys (taken us es) ≡ key
 keys_taken [] es = refl
 keys_taken (u ∷ us) es = keys_taken us (taken_one u.m es) ∙ keys_taken_one u.m es
 
--- there is an entry of m where m is among the messages
-pub any_keys : (m : MsgId) (es : List Entry) → list_any (is_for m) es ≡ list_any (λ y. same y m) (keys es)
-any_keys m [] = refl
-any_keys m (e ∷ es) = ap (λ b. same e.m m || b) (any_keys m es)
-
-abbrev some_left : List MsgId → Bool
-some_left [] = false
-some_left (x ∷ xs) = true
-
-any_filter : (p : MsgId → Bool) (xs : List MsgId) → list_any p xs ≡ some_left (filter p xs)
-any_filter p [] = refl
-any_filter p (x ∷ xs) = elim (p x) as (λ b. (b || list_any p xs) ≡ some_left (cond b (x ∷ filter p xs) (filter p xs))) [ true ↦ refl | false ↦ any_filter p xs ]
-
-left_of : (b : Bool) (m : MsgId) → some_left (cond b (m ∷ []) []) ≡ b
-left_of true m = refl
-left_of false m = refl
-
--- there is an entry of what was mentioned, and of nothing else
-pub has_mentioned : (past : List Call) (es : List Entry) (m : MsgId) → keys es ≡ first_mentions past → list_any (is_for m) es ≡ mentions past m
-has_mentioned past es m k =
-    any_keys m es ∙ (ap (list_any (λ y. same y m)) k ∙ (any_filter (λ y. same y m) (first_mentions past) ∙ (ap some_left (first_mentions-once past m) ∙ left_of (mentions past m) m)))
-
-keys_grown : (b : Bool) (es : List Entry) (m : MsgId) → keys (cond b es (es ++ blank m ∷ [])) ≡ cond b (keys es) (keys es ++ m ∷ [])
-keys_grown true es m = refl
-keys_grown false es m = map-append (λ e. e.m) es (blank m ∷ [])
-
-keys_noted : (past : List Call) (es : List Entry) (m : MsgId) → keys es ≡ first_mentions past → keys (noted es m) ≡ cond (mentions past m) (first_mentions past) (first_mentions past ++ m ∷ [])
-keys_noted past es m k =
-    keys_grown (list_any (is_for m) es) es m
-    ∙ (ap (λ b. cond b (keys es) (keys es ++ m ∷ [])) (has_mentioned past es m k) ∙ ap (λ xs. cond (mentions past m) xs (xs ++ m ∷ [])) k)
-
 -- the entries stay those of the first mentions
 pub keys_noted_by : (c : Call) (past : List Call) (es : List Entry) → keys es ≡ first_mentions past → keys (noted_by c es) ≡ first_mentions (c ∷ past)
-keys_noted_by (Say m) past es k = keys_noted past es m k
-keys_noted_by (Came p m) past es k = keys_noted past es m k
+keys_noted_by (Say m) past es k = keys_noted (λ e. e.m) past es (blank m) k
+keys_noted_by (Came p m) past es k = keys_noted (λ e. e.m) past es (blank m) k
 keys_noted_by (Notice q) past es k = k
 
 -- the entry is of m, and was handed up
@@ -89,18 +53,9 @@ abbrev pub given_for : MsgId → Entry → Bool
 given_for m e = is_for m e && e.given
 
 -- a test that a new entry fails
-count_noted : (p : Entry → Bool) → ((m : MsgId) → p (blank m) ≡ false) → (es : List Entry) (x : MsgId) → count_by p (noted es x) ≡ count_by p es
-count_noted p f es x =
-    elim (list_any (is_for x) es) as (λ b. count_by p (cond b es (es ++ blank x ∷ [])) ≡ count_by p es) [
-      | true ↦ refl
-      | false ↦
-          let a = count_by-append p es (blank x ∷ []) in
-          let b : count_by p (blank x ∷ []) ≡ 0 = ap (λ v. 0 + cond {A = ℕ} v 1 0) (f x) in omega (arith, a, b)
-    ]
-
 pub count_noted_by : (p : Entry → Bool) → ((m : MsgId) → p (blank m) ≡ false) → (c : Call) (es : List Entry) → count_by p (noted_by c es) ≡ count_by p es
-count_noted_by p f (Say m) es = count_noted p f es m
-count_noted_by p f (Came q m) es = count_noted p f es m
+count_noted_by p f (Say m) es = count_by-grown p (list_any (is_for m) es) es (blank m) (f m)
+count_noted_by p f (Came q m) es = count_by-grown p (list_any (is_for m) es) es (blank m) (f m)
 count_noted_by p f (Notice q) es = refl
 
 -- each that is handed up now was not before
@@ -147,36 +102,6 @@ given_taken (u ∷ us) es m =
     let a = given_taken_one u.m es m in
     let b = given_taken us (taken_one u.m es) m in
     let c = count_by-append (is_of m) (taken_one_ups u.m es) (taken_ups us (taken_one u.m es)) in omega (arith, a, b, c)
-
--- a test counts once at most
-pub at_most : (b : Bool) → cond {A = ℕ} b 1 0 ≤ 1
-at_most true = omega arith
-at_most false = omega arith
-
-less_given : (m : MsgId) (e : Entry) → cond {A = ℕ} (given_for m e) 1 0 ≤ cond (same e.m m) 1 0
-less_given m e = elim (same e.m m) as (λ b. cond {A = ℕ} (b && e.given) 1 0 ≤ cond b 1 0) [ true ↦ at_most (e.given) | false ↦ omega arith ]
-
-given_keys : (es : List Entry) (m : MsgId) → count_by (given_for m) es ≤ count_by (λ y. same y m) (keys es)
-given_keys [] m = omega arith
-given_keys (e ∷ es) m =
-    let a = count_by-cons (given_for m) e es in let b = count_by-cons (λ y. same y m) e.m (keys es) in let c = given_keys es m in let d = less_given m e in omega (arith, a, b, c, d)
-
-length_of : (b : Bool) (m : MsgId) → length (cond b (m ∷ []) []) ≡ cond b 1 0
-length_of true m = refl
-length_of false m = refl
-
--- a message is marked as handed up once, and only where it was mentioned
-pub given_count : (past : List Call) (es : List Entry) (m : MsgId) → keys es ≡ first_mentions past → count_by (given_for m) es ≤ cond (mentions past m) 1 0
-given_count past es m k =
-    let a = given_keys es m in
-    let b : count_by (λ y. same y m) (keys es) ≡ length (cond (mentions past m) (m ∷ []) []) = ap (count_by (λ y. same y m)) k ∙ (sym (length-filter (λ y. same y m) (first_mentions past)) ∙ ap length (first_mentions-once past m)) in
-    let c : length (cond (mentions past m) (m ∷ []) []) ≡ cond (mentions past m) 1 0 = length_of (mentions past m) m in
-    omega (arith, a, b, c)
-
--- what holds of each of two lists of pairs holds of each of both
-pub all_append : (P : Up → Type 0) (us vs : List Up) → AllByRecursion P us → AllByRecursion P vs → AllByRecursion P (us ++ vs)
-all_append P [] vs a b = b
-all_append P (u ∷ us) vs a b = (a.0, all_append P us vs a.1 b)
 
 -- whatever comes up came from its origin
 abbrev IsOwn : Up → Type 0

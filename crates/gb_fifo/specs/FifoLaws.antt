@@ -1,35 +1,20 @@
 -- The laws of a fifo, from those of the layer below, which takes the same calls.
-use Rattle.std.proofs.Common.{◌≡◌, ℕ, ◌+◌, ◌≤◌, Bool, true, false, cond, ◌&&◌, nat_eq, List, [], ◌∷◌, ◌++◌, count_by, refl, ap, ◌∙◌, sym, arith, subst}
+use Rattle.std.proofs.Common.{◌≡◌, ℕ, ◌+◌, ◌≤◌, cond, List, [], ◌∷◌, ◌++◌, count_by, refl, ap, ◌∙◌, sym, arith, subst}
 use Rattle.std.proofs.Math.Bool.{and-false}
 use Rattle.gb_types.specs.declared.node.NodeId.{NodeId}
 use Rattle.gb_types.specs.declared.message.MsgId.{MsgId}
 use Rattle.gb_types.specs.Message.{same}
-use Rattle.gb_layer.specs.declared.effects.Up.{Up}
 use Rattle.gb_layer.specs.declared.call.Call.{Call}
 use Rattle.gb_layer.specs.declared.call.Call.TheVariants.{Notice}
-use Rattle.gb_layer.specs.Machine.{Gives, nothing, after, all_sends, all_ups, mentions, count_sends, is_up, is_of}
+use Rattle.gb_layer.specs.Machine.{Gives, nothing, after, all_sends, all_ups, mentions, count_sends, is_of}
 use Rattle.gb_layer.specs.Modules.{first_mentions}
-use Rattle.gb_layer.specs.Counts.{count_by-cons, count_by-append}
+use Rattle.gb_layer.specs.Counts.{cond_most, count_by-append, count_by-is_up}
+use Rattle.gb_layer.specs.EntryLists.{mark_count}
 use Rattle.gb_layer.specs.Laws.{StaysAtItsNode, ComesFromItsOrigin, SendsWhatWasHandedIn, HandsUpWhatWasHandedIn, HandsUpOnce, SendsOnce, NoticesOnce}
 use Rattle.gb_fifo.specs.Entries.{noted_by, taken, taken_ups}
-use Rattle.gb_fifo.specs.EntryLaws.{keys, keys_taken, keys_noted_by, given_for, count_noted_by, given_taken, given_count, own_taken}
+use Rattle.gb_fifo.specs.EntryLaws.{keys, keys_taken, keys_noted_by, given_for, count_noted_by, given_taken, own_taken}
 use Rattle.gb_fifo.specs.FifoMachine.{FifoState, fifo_next, fifo_gives}
 use Rattle.gb_fifo.specs.FifoRoom.{IsNew}
-
-weaker_count : (p q : Up → Bool) → ((u : Up) → cond {A = ℕ} (p u) 1 0 ≤ cond (q u) 1 0) → (us : List Up) → count_by p us ≤ count_by q us
-weaker_count p q f [] = omega arith
-weaker_count p q f (u ∷ us) =
-    let a = count_by-cons p u us in let b = count_by-cons q u us in let c = weaker_count p q f us in let d = f u in omega (arith, a, b, c, d)
-
-zero_most : (b : Bool) → 0 ≤ cond {A = ℕ} b 1 0
-zero_most b = omega arith
-
-up_less : (via : ℕ) (m : MsgId) (u : Up) → cond {A = ℕ} (is_up via m u) 1 0 ≤ cond (is_of m u) 1 0
-up_less via m u = elim (nat_eq u.via.number via) as (λ b. cond {A = ℕ} (b && same u.m m) 1 0 ≤ cond (same u.m m) 1 0) [ true ↦ omega arith | false ↦ zero_most (same u.m m) ]
-
-cond_most : (b : Bool) (n : ℕ) → n ≤ cond b 1 0 → n ≤ 1
-cond_most true n h = h
-cond_most false n h = omega arith
 
 module _ {S : Type 0} (next : S → Call → S) (gives : S → Call → Gives) where
   abbrev N : FifoState S → Call → FifoState S
@@ -71,7 +56,7 @@ module _ {S : Type 0} (next : S → Call → S) (gives : S → Call → Gives) w
       a ∙ (ap (λ n. n + count_by (is_of m) (G (after N s past) c).ups) h ∙ k)
 
   most : (s : FifoState S) → s.entries ≡ [] → (past : List Call) (m : MsgId) → count_by (is_of m) (all_ups N G s past) ≤ cond (mentions past m) 1 0
-  most s es past m = subst (λ (n : ℕ). n ≤ cond (mentions past m) 1 0) (sym (total s es past m)) (given_count past (after N s past).entries m (keys_after s es past))
+  most s es past m = subst (λ (n : ℕ). n ≤ cond (mentions past m) 1 0) (sym (total s es past m)) (mark_count (λ e. e.m) (λ e. e.given) past (after N s past).entries m (keys_after s es past))
 
   pub fifo_me_stays : (me : S → NodeId) → StaysAtItsNode next me → StaysAtItsNode (fifo_next next gives) (λ s. me s.lower)
   fifo_me_stays me law s c = law s.lower c
@@ -87,7 +72,7 @@ module _ {S : Type 0} (next : S → Call → S) (gives : S → Call → Gives) w
   pub fifo_up_once : (is_fresh : S → Type 0) (me : S → NodeId) → HandsUpOnce (fifo_next next gives) (fifo_gives next gives) (IsNew is_fresh) (λ s. me s.lower)
   fifo_up_once is_fresh me s past via m f _ =
       let k = cond_most (mentions past m) _ (most s f.entries past m) in
-      let w = weaker_count (is_up via m) (is_of m) (up_less via m) (all_ups N G s past) in omega (arith, k, w)
+      let w = count_by-is_up via m (all_ups N G s past) in omega (arith, k, w)
 
   pub fifo_sent_once : (is_fresh : S → Type 0) (me : S → NodeId) → SendsOnce next gives is_fresh me → SendsOnce (fifo_next next gives) (fifo_gives next gives) (IsNew is_fresh) (λ s. me s.lower)
   fifo_sent_once is_fresh me law s past m f h = subst (λ (xs : List MsgId). count_sends m xs ≤ 1) (sym (fifo_sends s past)) (law s.lower past m f.lower h)

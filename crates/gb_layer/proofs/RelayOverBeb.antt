@@ -14,14 +14,15 @@ use Rattle.gb_layer.specs.declared.call.Call.{Call}
 use Rattle.gb_layer.specs.declared.call.Call.TheVariants.{Say, Came, Notice}
 use Rattle.gb_layer.specs.declared.entries.Entry.{Entry}
 use Rattle.gb_layer.specs.Bools.{and_more, or_left, or_right, or_second}
-use Rattle.gb_layer.specs.Lists.{same_filter, filter-never}
+use Rattle.gb_layer.specs.Lists.{map_same, same_filter, filter-never}
 use Rattle.gb_layer.specs.FirstMentions.{picked, same_swap}
 use Rattle.gb_layer.specs.Machine.{Gives, nothing, after, all_ups, mentions, messages}
 use Rattle.gb_layer.specs.BebMachine.{beb_gives}
 use Rattle.gb_layer.specs.Modules.{first_mentions, MayCome, IsLawful}
 use Rattle.gb_layer.specs.Rule.{Nodes, Rules, IsWithin, BroadcastsMore, DeliversMore, BroadcastsItsOwn, noticed_in, holders_in, now_broadcast_by, now_delivered_by, rule_broadcasts, rule_delivers, rule_log}
 use Rattle.gb_layer.specs.Relay.{State, at_start, is_for, new_entry, noted, held, marked_sent, is_sent, up_of, due_to_relay, due_to_deliver, handed, noting, begun, begun_sends, relay, relayed, relayed_sends, given, given_ups, relay_next, relay_gives}
-use Rattle.gb_layer.specs.EntryLaws.{keys, has_mentioned, sent_has}
+use Rattle.gb_layer.specs.EntryLaws.{keys, sent_has}
+use Rattle.gb_layer.specs.EntryLists.{has_mentioned}
 use Rattle.gb_layer.proofs.BestEffort.{only, at_new, not_mentioned}
 use Rattle.gb_layer.proofs.NodeSets.{again, added, kept, twice}
 use Rattle.gb_layer.proofs.RelayPass.{fixed, relayed_all, relayed_all_sends, firsts_distinct}
@@ -44,10 +45,6 @@ marked true false n h f = h
 marked false false n h f = h
 
 -- lists
-map_same : {X Y Z : Type 0} (f : Y → Z) (g : X → Y) (h : X → Z) → ((x : X) → f (g x) ≡ h x) → (xs : List X) → map f (map g xs) ≡ map h xs
-map_same f g h k [] = refl
-map_same f g h k (x ∷ xs) = λ i. k x i ∷ map_same f g h k xs i
-
 keys_of : (g : MsgId → Entry) → ((x : MsgId) → (g x).m ≡ x) → (xs : List MsgId) → keys (map g xs) ≡ xs
 keys_of g k [] = refl
 keys_of g k (x ∷ xs) = λ i. k x i ∷ keys_of g k xs i
@@ -165,7 +162,7 @@ module _ (rules : Rules) (broadcasts_more : BroadcastsMore rules) (delivers_more
   }
 
   has : (past : List Call) (m : MsgId) → list_any (is_for m) (map (entry_at past) (first_mentions past)) ≡ mentions past m
-  has past m = has_mentioned past (map (entry_at past) (first_mentions past)) m (keys_of (entry_at past) (λ x. refl) (first_mentions past))
+  has past m = has_mentioned (λ e. e.m) past (map (entry_at past) (first_mentions past)) m (keys_of (entry_at past) (λ x. refl) (first_mentions past))
 
   noted_at : (past : List Call) (m : MsgId) → noted (map (entry_at past) (first_mentions past)) m ≡ map (entry_at past) (cond (mentions past m) (first_mentions past) (first_mentions past ++ m ∷ []))
   noted_at past m =

@@ -7,6 +7,7 @@ pub mod Lists
 pub mod Counts
 pub mod Histories
 pub mod FirstMentions
+pub mod EntryLists
 pub mod BebMachine
 pub mod BebLaws
 pub mod DirectLaws
