@@ -2,7 +2,6 @@
 use Rattle.std.proofs.Common.{◌≡◌, ◌≢◌, ℕ, ◌+◌, ◌-◌, ◌≤◌, ◌<◌, ◌||◌, ◌&&◌, not, Bool, true, false, List, [], ◌∷◌, ◌++◌, length, drop, refl, sym, ◌∙◌, ap, subst, arith, length-append}
 use Rattle.std.specs.Prelude.{if◌then◌else◌, map, nat_eq, nat_le, slice_index_or, slice_set}
 use Rattle.std.specs.FinSet as set
-use Rattle.std.specs.List.{list_any}
 use Rattle.std.proofs.Math.Seq.{drop-nil}
 use Rattle.std.proofs.lemmas.Bool.{eqb-true}
 use Rattle.std.proofs.lemmas.Bool.Decides.{nat_tests}
@@ -15,7 +14,7 @@ use Rattle.gb_types.specs.declared.limits.TheConstants.{NODES}
 use Rattle.gb_types.specs.declared.message.MsgId.{MsgId}
 use Rattle.gb_types.specs.declared.node.NodeId.{NodeId}
 use Rattle.gb_types.specs.declared.reply.Reply.TheVariants.{Done}
-use Rattle.gb_layer.specs.declared.effects.Up.{Up}
+use Rattle.gb_layer.specs.Lists.{any_push}
 use Rattle.gb_layer.specs.Machine.{mentions, was_said, came_from, is_up}
 use Rattle.gb_layer.specs.Modules.{IsLawful}
 use Rattle.gb_layer.specs.Histories.{said_mentioned, own_said}
@@ -80,16 +79,6 @@ not_said past m new =
       | true ↦ λ e. let f : mentions past m ≡ true = said_mentioned past m e in cc
       | false ↦ λ e. refl
     ] refl
-
--- one more is taken in
-any_push : (p : Up → Bool) (us : List Up) (u : Up) → list_any p (us ++ u ∷ []) ≡ (p u || list_any p us)
-any_push p [] u = refl
-any_push p (x ∷ us) u = ap (λ b. p x || b) (any_push p us u) ∙ or_swap (p x) (p u) (list_any p us)
-  where
-    or_swap : (a b c : Bool) → (a || (b || c)) ≡ (b || (a || c))
-    or_swap true true c = refl
-    or_swap true false c = refl
-    or_swap false b c = refl
 
 -- the next own message is new
 own_new : (s : SlotState) (told : List GroupCall) (payload : List ℕ) → StandsFor s told → mentions (calls_of told) (message_of (own_entry s payload)) ≡ false

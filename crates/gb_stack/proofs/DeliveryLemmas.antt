@@ -6,6 +6,7 @@ use Rattle.gb_types.specs.Message.{same}
 use Rattle.gb_types.specs.declared.kind.Kind.{Kind}
 use Rattle.gb_types.specs.declared.message.MsgId.{MsgId}
 use Rattle.gb_types.proofs.SameLemmas.{and-first, same-true}
+use Rattle.gb_layer.specs.Lists.{all_append, all_weaker}
 use Rattle.gb_layer.specs.Machine.{mentions, was_noticed, came_from}
 use Rattle.gb_layer.specs.FirstMentions.{first_mentions-mentioned, first_mentions-once}
 use Rattle.gb_layer.specs.Modules.{first_mentions, holds, is_delivered, now_delivered, now_broadcast, newly, delivers, broadcasts, log}
@@ -124,14 +125,6 @@ log_once base me members (c ∷ past) m =
 all_filter : (P : MsgId → Type 0) (q : MsgId → Bool) (xs : List MsgId) → AllByRecursion P xs → AllByRecursion P (filter q xs)
 all_filter P q [] a = tt
 all_filter P q (x ∷ xs) a = elim (q x) as (λ b. AllByRecursion P (cond b (x ∷ filter q xs) (filter q xs))) [ true ↦ (a.0, all_filter P q xs a.1) | false ↦ all_filter P q xs a.1 ]
-
-all_append : (P : MsgId → Type 0) (xs ys : List MsgId) → AllByRecursion P xs → AllByRecursion P ys → AllByRecursion P (xs ++ ys)
-all_append P [] ys a b = b
-all_append P (x ∷ xs) ys a b = (a.0, all_append P xs ys a.1 b)
-
-all_weaker : (P Q : MsgId → Type 0) → ((x : MsgId) → P x → Q x) → (xs : List MsgId) → AllByRecursion P xs → AllByRecursion Q xs
-all_weaker P Q f [] a = tt
-all_weaker P Q f (x ∷ xs) a = (f x a.0, all_weaker P Q f xs a.1)
 
 newly_mentioned : (test : List Call → MsgId → Bool) (c : Call) (past : List Call) → AllByRecursion (λ m. mentions (c ∷ past) m ≡ true) (newly test c past)
 newly_mentioned test c past = all_filter (λ m. mentions (c ∷ past) m ≡ true) (λ m. test (c ∷ past) m && not (test past m)) (first_mentions (c ∷ past)) (first_mentions-mentioned (c ∷ past))
