@@ -24,6 +24,7 @@ use Rattle.gb_cluster.specs.Project.{project, frames, items_of, is_taken, is_ack
 use Rattle.gb_cluster.specs.World.{World, node_of, new_node, new_world, with_step}
 use Rattle.gb_cluster.specs.Holds.{NodeIs, IsLink, Holds, undone_of}
 use Rattle.gb_cluster.proofs.IdleLemmas.{IsQuiet, idle_holds}
+use Rattle.gb_cluster.proofs.QuietLemmas.{quiet}
 use Rattle.gb_cluster.proofs.WorldLemmas.{eqb_apart_back}
 
 -- Events for which a node lacked memory.
@@ -112,90 +113,12 @@ starved_request w a request = record {
 -- a cluster keeps what it holds through every event for which a node lacked memory
 pub starved_holds : (w : World) (e : Event) → IsPlaced (length w.nodes) e → Holds w → Holds (with_step e (starved_answer e) w)
 starved_holds w (At a request) placed holds = idle_holds w a.number (At a request) (starved_answer (At a request)) placed (starved_request w a request) holds
-starved_holds w (Pack a b) placed holds = idle_holds w a.number (Pack a b) (starved_answer (Pack a b)) placed (record {
-  frame = λ x y. refl;
-  taken = λ x y n. refl;
-  acked = λ x y n. refl;
-  row = λ x tenant. refl;
-  made = λ g x. refl;
-  noticed = λ x b. refl;
-  stopped = λ x. refl;
-  watched = λ x. refl;
-  number = omega arith;
-  reply = λ g x other. refl;
-  met = λ g x other. refl;
-  free = λ g room. record { reply = λ x. refl; met = λ x. refl; given = refl };
-}) holds
-starved_holds w (Again a b n) placed holds = idle_holds w a.number (Again a b n) (starved_answer (Again a b n)) placed (record {
-  frame = λ x y. refl;
-  taken = λ x y n. refl;
-  acked = λ x y n. refl;
-  row = λ x tenant. refl;
-  made = λ g x. refl;
-  noticed = λ x b. refl;
-  stopped = λ x. refl;
-  watched = λ x. refl;
-  number = omega arith;
-  reply = λ g x other. refl;
-  met = λ g x other. refl;
-  free = λ g room. record { reply = λ x. refl; met = λ x. refl; given = refl };
-}) holds
-starved_holds w (Ack a b) placed holds = idle_holds w a.number (Ack a b) (starved_answer (Ack a b)) placed (record {
-  frame = λ x y. refl;
-  taken = λ x y n. refl;
-  acked = λ x y n. refl;
-  row = λ x tenant. refl;
-  made = λ g x. refl;
-  noticed = λ x b. refl;
-  stopped = λ x. refl;
-  watched = λ x. refl;
-  number = omega arith;
-  reply = λ g x other. refl;
-  met = λ g x other. refl;
-  free = λ g room. record { reply = λ x. refl; met = λ x. refl; given = refl };
-}) holds
-starved_holds w (Arrive k) placed holds = idle_holds w 0 (Arrive k) (starved_answer (Arrive k)) holds.links.some (record {
-  frame = λ x y. refl;
-  taken = λ x y n. refl;
-  acked = λ x y n. refl;
-  row = λ x tenant. refl;
-  made = λ g x. refl;
-  noticed = λ x b. refl;
-  stopped = λ x. refl;
-  watched = λ x. refl;
-  number = omega arith;
-  reply = λ g x other. refl;
-  met = λ g x other. refl;
-  free = λ g room. record { reply = λ x. refl; met = λ x. refl; given = refl };
-}) holds
-starved_holds w (Tick a) placed holds = idle_holds w a.number (Tick a) (starved_answer (Tick a)) placed (record {
-  frame = λ x y. refl;
-  taken = λ x y n. refl;
-  acked = λ x y n. refl;
-  row = λ x tenant. refl;
-  made = λ g x. refl;
-  noticed = λ x b. refl;
-  stopped = λ x. refl;
-  watched = λ x. refl;
-  number = omega arith;
-  reply = λ g x other. refl;
-  met = λ g x other. refl;
-  free = λ g room. record { reply = λ x. refl; met = λ x. refl; given = refl };
-}) holds
-starved_holds w (Stop a) placed holds = idle_holds w a.number (Stop a) (starved_answer (Stop a)) placed (record {
-  frame = λ x y. refl;
-  taken = λ x y n. refl;
-  acked = λ x y n. refl;
-  row = λ x tenant. refl;
-  made = λ g x. refl;
-  noticed = λ x b. refl;
-  stopped = λ x. refl;
-  watched = λ x. refl;
-  number = omega arith;
-  reply = λ g x other. refl;
-  met = λ g x other. refl;
-  free = λ g room. record { reply = λ x. refl; met = λ x. refl; given = refl };
-}) holds
+starved_holds w (Pack a b) placed holds = idle_holds w a.number (Pack a b) (starved_answer (Pack a b)) placed (quiet refl) holds
+starved_holds w (Again a b n) placed holds = idle_holds w a.number (Again a b n) (starved_answer (Again a b n)) placed (quiet refl) holds
+starved_holds w (Ack a b) placed holds = idle_holds w a.number (Ack a b) (starved_answer (Ack a b)) placed (quiet refl) holds
+starved_holds w (Arrive k) placed holds = idle_holds w 0 (Arrive k) (starved_answer (Arrive k)) holds.links.some (quiet refl) holds
+starved_holds w (Tick a) placed holds = idle_holds w a.number (Tick a) (starved_answer (Tick a)) placed (quiet refl) holds
+starved_holds w (Stop a) placed holds = idle_holds w a.number (Stop a) (starved_answer (Stop a)) placed (quiet refl) holds
 
 -- At first.
 

@@ -29,7 +29,8 @@ use Rattle.gb_cluster.specs.NodeValue.{NodeValue}
 use Rattle.gb_cluster.specs.Project.{project, ticked, has_row, frames, items_of, is_taken, is_acked, is_noticed, is_stopped, is_met, made_at, watched, replies_to}
 use Rattle.gb_cluster.specs.World.{World, Part, only_answered, node_of, slot_for, slot_noticed_all, node_ticked, world_after}
 use Rattle.gb_cluster.specs.Holds.{Stands, AreMarked, MemberIs, is_concerned, Fits, NodeIs, Links, Holds, window_of}
-use Rattle.gb_cluster.proofs.IdleLemmas.{IsQuiet, idle_turn}
+use Rattle.gb_cluster.proofs.IdleLemmas.{idle_turn}
+use Rattle.gb_cluster.proofs.QuietLemmas.{quiet}
 use Rattle.gb_cluster.proofs.NodeLemmas.{same_carried}
 use Rattle.gb_cluster.proofs.NoticeLemmas.{all_noticed, notices_of, notices_there, notices_elsewhere, KeepsOthers, notices_keep, notices_legal, notices_mark, passing_marked, passing_rising}
 use Rattle.gb_cluster.proofs.SlotNotices.{SlotFits, fits-all, slot_for-noticed}
@@ -221,23 +222,6 @@ tick_holds w a in_a running holds =
     group : Addr → Group
     group g = alone (length w.nodes) g.group (project g w.packets w.steps)
 
--- a stopped node only tells that it has stopped
-untold_quiet : (w : World) (a : NodeId) → IsQuiet w a.number (Tick a) (Ticked_so (Untold Stopped))
-untold_quiet w a = record {
-  frame = λ x y. refl;
-  taken = λ x y n. refl;
-  acked = λ x y n. refl;
-  row = λ x tenant. refl;
-  made = λ g x. refl;
-  noticed = λ x b. refl;
-  stopped = λ x. refl;
-  watched = λ x. refl;
-  number = omega arith;
-  reply = λ g x other. refl;
-  met = λ g x other. refl;
-  free = λ g room. record { reply = λ x. refl; met = λ x. refl; given = refl };
-}
-
 -- a cluster keeps what it holds through a tick
 pub any_tick : (w : World) (a : NodeId) → a.number < length w.nodes → Holds w → Holds (world_after w (Tick a))
 any_tick w a in_a holds = go (node_of w a.number).stopped refl
@@ -246,5 +230,5 @@ any_tick w a in_a holds = go (node_of w a.number).stopped refl
     part b = if b then only_answered (node_of w a.number) (Ticked_so (Untold Stopped)) else only_answered (node_ticked (node_of w a.number)) (Ticked_so (Noticed (due (node_of w a.number).watch)))
 
     go : (b : Bool) → (node_of w a.number).stopped ≡ b → Holds (turned w a.number (part b).value (record { event = Tick a; answer = (part b).answer }) (part b).sent)
-    go true is = idle_turn w a.number (Tick a) (Ticked_so (Untold Stopped)) in_a (untold_quiet w a) holds
+    go true is = idle_turn w a.number (Tick a) (Ticked_so (Untold Stopped)) in_a (quiet refl) holds
     go false is = tick_holds w a in_a is holds
