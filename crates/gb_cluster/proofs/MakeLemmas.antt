@@ -27,9 +27,9 @@ use Rattle.gb_cluster.specs.Rules.{make_answer, by_tenant}
 use Rattle.gb_cluster.specs.World.{reserve_for, slot_for, in_room, running_reply, node_did}
 use Rattle.gb_cluster.proofs.AskLemmas.{Before, AtNode, asking, at_command, at_other, if_same, replies_running, told_one, unmet_now}
 use Rattle.gb_cluster.proofs.FreshLemmas.{noticed_before, before_rising, marked_before, fresh_slot, fresh_put, waiting-new}
-use Rattle.gb_cluster.proofs.MemberLemmas.{made-is}
+use Rattle.gb_cluster.proofs.MemberLemmas.{made-is, KeepsRest}
 use Rattle.gb_cluster.proofs.NodeLemmas.{addr_same, is_addr-self, same_stands}
-use Rattle.gb_cluster.proofs.NoticeLemmas.{or_none, KeepsOthers, all_noticed, notices_of, notices_there, notices_elsewhere, notices_keep, notices_mark, notices_legal}
+use Rattle.gb_cluster.proofs.NoticeLemmas.{or_none, all_noticed, notices_of, notices_there, notices_elsewhere, notices_keep, notices_mark, notices_legal}
 use Rattle.gb_cluster.proofs.StopLemmas.{unmet}
 use Rattle.gb_cluster.proofs.WorldLemmas.{eqb_self, after_there, after_elsewhere}
 
@@ -89,7 +89,7 @@ module _ (nodes : ℕ) (g : Addr) (a : NodeId) (v : NodeValue) (group : Group) (
     taken = λ b in_cluster. ap (λ (f : ℕ → ℕ). f b) keeps.taken ∙ st.taken b in_cluster;
   }
     where
-      keeps : KeepsOthers made next
+      keeps : KeepsRest made next
       keeps = notices_keep a.number noticed_now made
 
       st : Stands nodes g a.number v (group a.number) carried
@@ -139,7 +139,7 @@ module _ (nodes : ℕ) (g : Addr) (a : NodeId) (v : NodeValue) (group : Group) (
         done = keeps.done;
       }
     where
-      keeps : KeepsOthers made next
+      keeps : KeepsRest made next
       keeps = notices_keep a.number noticed_now made
 
       absent : NotMade (group a.number)

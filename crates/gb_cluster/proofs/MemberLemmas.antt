@@ -156,23 +156,27 @@ put-item_came me from e (Some s) m b carried st was = go (cases_Bool (falls from
         ap (λ (x : Member). x.put b) (handed_in me from e m (falls-is me from e s m st ∙ h))
         ∙ put_grown me s m (Other from e) b carried (waiting (slot_came from e s) b) other_quiet st (waiting_came s m.told from e b st.history h) was
 
--- the fields that an item leaves
+-- the fields that an item and a notice leave
 pub record KeepsRest (m n : Member) : Type 0 where
   pub reserve : n.reserve ≡ m.reserve
   pub spec : n.spec ≡ m.spec
+  pub phase : n.phase ≡ m.phase
   pub replies : n.replies ≡ m.replies
   pub taken : n.taken ≡ m.taken
   pub come : n.come ≡ m.come
   pub done : n.done ≡ m.done
-  pub noticed : n.noticed ≡ m.noticed
   pub stopped : n.stopped ≡ m.stopped
 
 pub item_came-rest : (me : ℕ) (from : NodeId) (e : Entry) (m : Member) → KeepsRest m (item_came me from e m)
 item_came-rest me from e m = go (alone.falls me from.number e m.told m.spec)
   where
     go : (b : Bool) → KeepsRest m (if b then m else called me (Other from e) m)
-    go true = record { reserve = refl; spec = refl; replies = refl; taken = refl; come = refl; done = refl; noticed = refl; stopped = refl }
-    go false = record { reserve = refl; spec = refl; replies = refl; taken = refl; come = refl; done = refl; noticed = refl; stopped = refl }
+    go true = record { reserve = refl; spec = refl; phase = refl; replies = refl; taken = refl; come = refl; done = refl; stopped = refl }
+    go false = record { reserve = refl; spec = refl; phase = refl; replies = refl; taken = refl; come = refl; done = refl; stopped = refl }
+
+-- an item leaves the notices too
+pub item_came-noticed : (me : ℕ) (from : NodeId) (e : Entry) (m : Member) → (item_came me from e m).noticed ≡ m.noticed
+item_came-noticed me from e m = elim (alone.falls me from.number e m.told m.spec) as (λ b. (if b then m else called me (Other from e) m).noticed ≡ m.noticed) [ true ↦ refl | false ↦ refl ]
 
 -- A node is noticed.
 

@@ -26,7 +26,7 @@ use Rattle.gb_cluster.proofs.IdleLemmas.{idle_turn}
 use Rattle.gb_cluster.proofs.QuietLemmas.{quiet}
 use Rattle.gb_cluster.proofs.StopLemmas.{unmet}
 use Rattle.gb_cluster.proofs.Turns.{turned}
-use Rattle.gb_cluster.proofs.SendTurns.{GroupSends, sends_turn}
+use Rattle.gb_cluster.proofs.SendTurns.{GroupSends, none_sent, sends_turn}
 use Rattle.gb_cluster.proofs.PacketLemmas.{packet_at-last, another_is}
 use Rattle.gb_cluster.proofs.SendLemmas.{Packs, packs_of}
 use Rattle.gb_cluster.proofs.PackGroups.{pack_mine, pack_other}
@@ -92,17 +92,8 @@ module _ (g : Addr) (w : World) (a b : NodeId) (p : Packet) (hosted : GroupAt) (
       one : is_addr g hosted.addr ≡ true → items_at g (Some item) ≡ x ∷ []
       one own = ap (λ (c : Bool). if c then x ∷ [] else []) own
   pack_group false foreign =
-      subst (λ k. GroupSends g w a.number u s (p ∷ []) group (alone_from (length w.nodes) g.group group (took a b k)) (took a b k)) (sym (ap length (none foreign))) (record {
-        legal = tt;
-        others = λ y other. refl;
-        stands = pack_other (length w.nodes) g a.number b.number v u hosted (group a.number) carried later refl refl packs.group foreign (λ c. same c (cases_eq c b.number)) (fits.stands a.number in_a);
-        replies = refl;
-        spec = refl;
-        noticed = refl;
-        stopped = refl;
-        come = refl;
-        done = refl;
-      })
+      subst (λ k. GroupSends g w a.number u s (p ∷ []) group (alone_from (length w.nodes) g.group group (took a b k)) (took a b k)) (sym (ap length (none foreign)))
+      (none_sent g w a.number u s (p ∷ []) group (pack_other (length w.nodes) g a.number b.number v u hosted (group a.number) carried later refl refl packs.group foreign (λ c. same c (cases_eq c b.number)) (fits.stands a.number in_a)))
     where
       none : is_addr g hosted.addr ≡ false → items_at g (Some item) ≡ []
       none foreign = ap (λ (c : Bool). if c then x ∷ [] else []) foreign

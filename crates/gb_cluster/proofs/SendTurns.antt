@@ -58,6 +58,10 @@ pub record GroupSends (g : Addr) (w : World) (a : ℕ) (v : NodeValue) (s : Step
   pub come : (next a).come ≡ (group a).come
   pub done : (next a).done ≡ (group a).done
 
+-- where the step carries nothing of the group, it goes on as it was
+pub none_sent : (g : Addr) (w : World) (a : ℕ) (v : NodeValue) (s : Step) (more : List Packet) (group : Group) → Stands (length w.nodes) g a v (group a) (λ b. items_of g (frames a b (w.packets ++ more) (s ∷ w.steps))) → GroupSends g w a v s more group group []
+none_sent g w a v s more group stands = record { legal = tt; others = λ x other. refl; stands = stands; replies = refl; spec = refl; noticed = refl; stopped = refl; come = refl; done = refl }
+
 or_false : (b c : Bool) → b ≡ false → (b || c) ≡ c
 or_false true c is = absurd (cc)
 or_false false c is = refl
@@ -164,18 +168,9 @@ only_sends w a e part in_a sends holds = subst (λ (v : NodeValue). Holds (turne
   link = λ b in_b. quiet_link w s part.sent a b holds.links.numbered (sends.frame a b (w.packets ++ part.sent)) (λ n. sends.step.taken (w.packets ++ part.sent) a b n) (λ n. sends.step.acked (w.packets ++ part.sent) a b n) (holds.links.link a b in_a in_b);
   framed = λ k p at. framed_stays w a (node_of w a) s part.sent p holds.links.numbered (sends.framed k p at);
 }) (λ g before. subst (λ (given : List GroupStep). GroupSends g w a (node_of w a) s part.sent (alone (length w.nodes) g.group (project g w.packets w.steps)) (alone_from (length w.nodes) g.group (alone (length w.nodes) g.group (project g w.packets w.steps)) given) given)
-    (sym (sends.given g (w.packets ++ part.sent))) (record {
-      legal = tt;
-      others = λ x other. refl;
-      stands = same_carried (length w.nodes) g a (node_of w a) (alone (length w.nodes) g.group (project g w.packets w.steps) a) (λ b. items_of g (frames a b w.packets w.steps)) (λ b. items_of g (frames a b (w.packets ++ part.sent) (s ∷ w.steps)))
-          (λ b. ap (items_of g) (sym (same b))) (before.fits.stands a in_a);
-      replies = refl;
-      spec = refl;
-      noticed = refl;
-      stopped = refl;
-      come = refl;
-      done = refl;
-    })))
+    (sym (sends.given g (w.packets ++ part.sent))) (none_sent g w a (node_of w a) s part.sent (alone (length w.nodes) g.group (project g w.packets w.steps))
+    (same_carried (length w.nodes) g a (node_of w a) (alone (length w.nodes) g.group (project g w.packets w.steps) a) (λ b. items_of g (frames a b w.packets w.steps)) (λ b. items_of g (frames a b (w.packets ++ part.sent) (s ∷ w.steps)))
+    (λ b. ap (items_of g) (sym (same b))) (before.fits.stands a in_a)))))
   where
     s : Step
     s = record { event = e; answer = part.answer }

@@ -31,8 +31,9 @@ use Rattle.gb_cluster.specs.World.{World, Part, only_answered, node_of, slot_for
 use Rattle.gb_cluster.specs.Holds.{Stands, AreMarked, MemberIs, is_concerned, Fits, NodeIs, Links, Holds, window_of}
 use Rattle.gb_cluster.proofs.IdleLemmas.{idle_turn}
 use Rattle.gb_cluster.proofs.QuietLemmas.{quiet}
+use Rattle.gb_cluster.proofs.MemberLemmas.{KeepsRest}
 use Rattle.gb_cluster.proofs.NodeLemmas.{same_carried}
-use Rattle.gb_cluster.proofs.NoticeLemmas.{all_noticed, notices_of, notices_there, notices_elsewhere, KeepsOthers, notices_keep, notices_legal, notices_mark, passing_marked, passing_rising}
+use Rattle.gb_cluster.proofs.NoticeLemmas.{all_noticed, notices_of, notices_there, notices_elsewhere, notices_keep, notices_legal, notices_mark, passing_marked, passing_rising}
 use Rattle.gb_cluster.proofs.SlotNotices.{SlotFits, fits-all, slot_for-noticed}
 use Rattle.gb_cluster.proofs.StopLemmas.{unmet}
 use Rattle.gb_cluster.proofs.Turns.{turned, ActsAt, GroupTurn, frames_turned, taken_turned, acked_turned, quiet_link, links_turn, same_marks, holds_turn}
@@ -166,7 +167,7 @@ tick_group g w a v group in_a here running links fits = record {
     held : NodeIs (length w.nodes) w.silence w.packets w.steps a.number v
     held = subst (NodeIs (length w.nodes) w.silence w.packets w.steps a.number) (sym here) (links.node a.number in_a)
 
-    keeps : KeepsOthers (group a.number) (all_noticed a.number bs (group a.number))
+    keeps : KeepsRest (group a.number) (all_noticed a.number bs (group a.number))
     keeps = notices_keep a.number bs (group a.number)
 
     there : alone_from (length w.nodes) g.group group (notices_of a bs) a.number ≡ all_noticed a.number bs (group a.number)
