@@ -5,7 +5,7 @@ use Rattle.std.proofs.lemmas.Bool.Decides.{nat_tests}
 use Rattle.std.proofs.Math.Seq.{take-length}
 use Rattle.std.specs.Option.{option_map}
 use Rattle.std.specs.FinSet as set
-use Rattle.std.proofs.lemmas.Bool.{cases_Bool}
+use Rattle.std.proofs.lemmas.Bool.{cases_Bool, and_right}
 use Rattle.std.proofs.lemmas.List.{append-nil, append_assoc, take-append-le}
 use Rattle.gb_types.specs.declared.entry.Entry.{Entry}
 use Rattle.gb_types.specs.declared.node.NodeId.{NodeId}
@@ -242,17 +242,13 @@ put-noticed me q (Some s) m b carried st was count = go (cases_Bool (is_other s.
         by : ((nat_eq b q.number ≡ true) ⊎ (nat_eq b q.number ≡ false)) → put_to me (Some s.spec) (Crashed q) m.told (cut q m).put b ≡ carried ++ (if nat_eq b q.number then [] else waiting s b ++ (if reaches s b then puts_of s.spec s.me.number (Crashed q) m.told else []))
         by (inl at) =
             ap (λ (n : Bool). if is_other s.spec me b && not n then (cut q m).put b ++ outs else (cut q m).put b) (noticed_now at)
-            ∙ (ap (λ (c : Bool). if c then (cut q m).put b ++ outs else (cut q m).put b) (and_off (is_other s.spec me b))
+            ∙ (ap (λ (c : Bool). if c then (cut q m).put b ++ outs else (cut q m).put b) (and_right (is_other s.spec me b) false refl)
             ∙ (ap (λ (c : Bool). if c then take (m.taken b) (m.put b) else m.put b) at
             ∙ (ap (λ xs. take (m.taken b) xs) was ∙ (ap (λ n. take n (carried ++ waiting s b)) count ∙ (take-append-le (length carried) carried (waiting s b) (omega arith) ∙ (take-length carried ∙ (sym (append-nil carried)
             ∙ ap (λ (c : Bool). carried ++ (if c then [] else waiting s b ++ (if reaches s b then puts_of s.spec s.me.number (Crashed q) m.told else []))) (sym at))))))))
           where
             noticed_now : nat_eq b q.number ≡ true → was_noticed (calls_of (Crashed q ∷ m.told)) b ≡ true
             noticed_now at = let same : b ≡ q.number = grind (arith, nat_tests) in let turned : nat_eq q.number b ≡ true = grind (arith, nat_tests) in rw turned refl
-
-            and_off : (c : Bool) → (c && false) ≡ false
-            and_off true = refl
-            and_off false = refl
         by (inr off) =
             ap (λ (n : Bool). if is_other s.spec me b && not n then (cut q m).put b ++ outs else (cut q m).put b) (noticed_before off)
             ∙ (ap (λ (c : Bool). if other then (if c then take (m.taken b) (m.put b) else m.put b) ++ outs else (if c then take (m.taken b) (m.put b) else m.put b)) off

@@ -27,10 +27,6 @@ use Rattle.gb_cluster.proofs.WorldLemmas.{eqb_self, after_there, after_elsewhere
 
 -- Tests.
 
-pub or_none : (b : Bool) → (b || false) ≡ b
-or_none true = refl
-or_none false = refl
-
 pub or_turned : (p q r : Bool) → (p || (q || r)) ≡ ((q || p) || r)
 or_turned true true r = refl
 or_turned true false r = refl

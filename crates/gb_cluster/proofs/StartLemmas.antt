@@ -1,8 +1,9 @@
 -- A cluster at its start, and events for which a node lacked memory.
-use Rattle.std.proofs.Common.{◌≡◌, ℕ, ◌<◌, ◌≤◌, List, [], length, None, Bool, true, false, ◌&&◌, refl, ◌∙◌, ap, arith}
+use Rattle.std.proofs.Common.{◌≡◌, ℕ, ◌<◌, ◌≤◌, List, [], length, None, Bool, true, false, refl, ◌∙◌, ap, arith}
 use Rattle.std.specs.Prelude.{if◌then◌else◌, nat_eq}
 use Rattle.std.specs.Ordering.{nat_cmp}
 use Rattle.std.specs.FinSet as fin
+use Rattle.std.proofs.lemmas.Bool.{and_right}
 use Rattle.std.proofs.lemmas.List.{get_or-replicate, length-replicate}
 use Rattle.std.proofs.lemmas.List.FromFn.{get_or-map-range_with_len, length-map-range_with_len}
 use Rattle.gb_types.specs.declared.address.Addr.{Addr}
@@ -23,19 +24,12 @@ use Rattle.gb_cluster.specs.Headline.{IsPlaced, starved_answer}
 use Rattle.gb_cluster.specs.Project.{project, frames, items_of, is_taken, is_acked, is_noticed, made_at, watched, replies_to, asked, requested, command_for, has_row, is_met, is_met_by, is_named, is_own, is_stopped, is_taken_in, made_by, reply_in, with_stop}
 use Rattle.gb_cluster.specs.World.{World, node_of, new_node, new_world, with_step}
 use Rattle.gb_cluster.specs.Holds.{NodeIs, IsLink, Holds, undone_of}
+use Rattle.gb_cluster.proofs.AskLemmas.{if_same}
 use Rattle.gb_cluster.proofs.IdleLemmas.{IsQuiet, idle_holds}
 use Rattle.gb_cluster.proofs.QuietLemmas.{quiet}
 use Rattle.gb_cluster.proofs.WorldLemmas.{eqb_apart_back}
 
 -- Events for which a node lacked memory.
-
-if_same : {X : Type 0} (b : Bool) (x : X) → (if b then x else x) ≡ x
-if_same true x = refl
-if_same false x = refl
-
-and_false : (b : Bool) → (b && false) ≡ false
-and_false true = refl
-and_false false = refl
 
 starved_row : (x tenant : ℕ) (a : NodeId) (request : Request) → is_taken_in x tenant (At a request) (Replied (Refused OutOfMemory)) ≡ false
 starved_row x tenant a (AddTenant token row) = refl
@@ -85,10 +79,10 @@ starved_given g steps a request foreign =
 
 -- where the request does not name the group
 silent : (g : Addr) (x : ℕ) (steps : List Step) (a : NodeId) (request : Request) → is_named g request ≡ false → reply_in g x steps (At a request) (Replied (Refused OutOfMemory)) ≡ []
-silent g x steps a request foreign = rw foreign (rw (and_false (has_row x g.tenant steps)) (rw (and_false (nat_eq a.number x)) refl))
+silent g x steps a request foreign = rw foreign (rw (and_right (has_row x g.tenant steps) false refl) (rw (and_right (nat_eq a.number x) false refl) refl))
 
 unmet_by : (g : Addr) (x : ℕ) (steps : List Step) (a : NodeId) (request : Request) → is_named g request ≡ false → is_met_by g x steps (At a request) ≡ false
-unmet_by g x steps a request foreign = rw foreign (and_false (nat_eq a.number x))
+unmet_by g x steps a request foreign = rw foreign (and_right (nat_eq a.number x) false refl)
 
 starved_request : (w : World) (a : NodeId) (request : Request) → IsQuiet w a.number (At a request) (Replied (Refused OutOfMemory))
 starved_request w a request = record {

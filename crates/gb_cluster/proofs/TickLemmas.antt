@@ -4,6 +4,7 @@ use Rattle.std.specs.Prelude.{if◌then◌else◌, nat_eq, nat_lt, nat_le, filte
 use Rattle.std.specs.List.{range_with_len}
 use Rattle.std.specs.Option.{option_map}
 use Rattle.std.specs.FinSet as fin
+use Rattle.std.proofs.lemmas.Bool.{and_parts, and_right}
 use Rattle.std.proofs.lemmas.Bool.Decides.{nat_tests}
 use Rattle.std.proofs.lemmas.List.{append-nil}
 use Rattle.gb_types.specs.Rising.{rising}
@@ -173,19 +174,11 @@ tick_group g w a v group in_a here running links fits = record {
     there : alone_from (length w.nodes) g.group group (notices_of a bs) a.number ≡ all_noticed a.number bs (group a.number)
     there = notices_there (length w.nodes) g.group a bs group
 
-    and_second : (b c : Bool) → (b && c) ≡ true → c ≡ true
-    and_second true c is = is
-    and_second false c is = absurd (cc)
-
-    and_false : (b : Bool) → (b && false) ≡ false
-    and_false true = refl
-    and_false false = refl
-
     few : v.watch.nodes ≤ NODES
     few = let all = links.few in omega (arith, all, ap (λ (d : Watch). d.nodes) held.watch ∙ nodes_stay (start a.number (length w.nodes) w.silence) (watched a.number w.packets w.steps))
 
     due_at : (x : ℕ) → test x ≡ true → (x < v.watch.nodes) × (fin.contains v.watch.noticed x ≡ false)
-    due_at x is = due_new v.watch x (and_second (is_concerned a.number x made) (fin.contains (due v.watch) x) is)
+    due_at x is = due_new v.watch x (and_parts (is_concerned a.number x made) (fin.contains (due v.watch) x) is).1
 
     below : (x : ℕ) → test x ≡ true → x < NODES
     below x is = let at = due_at x is in let lt = at.0 in omega (arith, lt, few)
@@ -193,7 +186,7 @@ tick_group g w a v group in_a here running links fits = record {
     new : (x : ℕ) → is_marked x bs ≡ true → is_marked x (group a.number).noticed ≡ false
     new x is =
         let at = due_at x (sym (passing_marked test below x) ∙ is) in
-        was.noticed x ∙ (ap (λ (t : Bool). is_concerned a.number x made && t) (sym (held.noticed x) ∙ at.1) ∙ and_false (is_concerned a.number x made))
+        was.noticed x ∙ (ap (λ (t : Bool). is_concerned a.number x made && t) (sym (held.noticed x) ∙ at.1) ∙ and_right (is_concerned a.number x made) false refl)
 
     both : (c now before : Bool) → ((c && now) || (c && before)) ≡ (c && (now || before))
     both true now before = refl
