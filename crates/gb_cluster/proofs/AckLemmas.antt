@@ -1,7 +1,7 @@
 -- An acknowledgement is taken: by the sending end of a link, by the slot, and by the group alone.
 use Rattle.std.proofs.Common.{◌≡◌, ◌≢◌, ℕ, zero, suc, ◌+◌, List, [], ◌∷◌, ◌++◌, length, filter, fold, Option, Some, None, Bool, true, false, not, ◌&&◌, ◌||◌, ◌⊎◌, inl, inr, refl, sym, ◌∙◌, ap, subst, arith}
 use Rattle.std.specs.Prelude.{nat_eq, if◌then◌else◌}
-use Rattle.std.proofs.lemmas.Bool.{cases_Bool}
+use Rattle.std.proofs.lemmas.Bool.{cases_Bool, or_right}
 use Rattle.std.proofs.lemmas.Bool.Decides.{nat_tests}
 use Rattle.std.proofs.lemmas.List.Sums.{fold-append}
 use Rattle.gb_types.specs.declared.address.Addr.{Addr}
@@ -184,18 +184,14 @@ all_acked nodes g me from new n before (f ∷ fs) group apart running may = go (
         → ((place : ℕ) → is_in g new (n + 1) (before + count) fs place ≡ true → (is_marked place ((mid from.number).come me.number) ≡ true) × (is_marked place ((mid me.number).done from.number) ≡ false))
         → Acked nodes g me from mid (alone_from nodes g.group mid later) later (is_in g new (n + 1) (before + count) fs)
 
-    last : (b c : Bool) → c ≡ true → (b || c) ≡ true
-    last true c is = refl
-    last false c is = is
-
     go : ((new n ≡ true) ⊎ (new n ≡ false)) → Later → Acked nodes g me from group (alone_from nodes g.group group (all_acknowledged g me from new n before (f ∷ fs))) (all_acknowledged g me from new n before (f ∷ fs)) (is_in g new n before (f ∷ fs))
-    go (inr old) rest = rw old (same_acked nodes g me from group (alone_from nodes g.group group later) later (is_in g new (n + 1) (before + count) fs) (is_in g new n before (f ∷ fs)) (λ place. ap (λ b. (b && is_between before (before + count) place) || is_in g new (n + 1) (before + count) fs place) old) (rest group apart running (λ place is. may place (last (new n && is_between before (before + count) place) (is_in g new (n + 1) (before + count) fs place) is))))
+    go (inr old) rest = rw old (same_acked nodes g me from group (alone_from nodes g.group group later) later (is_in g new (n + 1) (before + count) fs) (is_in g new n before (f ∷ fs)) (λ place. ap (λ b. (b && is_between before (before + count) place) || is_in g new (n + 1) (before + count) fs place) old) (rest group apart running (λ place is. may place (or_right (new n && is_between before (before + count) place) (is_in g new (n + 1) (before + count) fs place) is))))
     go (inl now) rest =
         let one = frame_acked nodes g me from before count group running (λ place is. may place (rw (now, is) refl)) in
         let mid : Group = alone_from nodes g.group group (acknowledged me from (before + 1) count) in
         rw now (acked-append nodes g me from group mid (acknowledged me from (before + 1) count) later (is_between before (before + count)) (is_in g new (n + 1) (before + count) fs) (is_in g new n before (f ∷ fs)) refl (λ place. ap (λ b. (b && is_between before (before + count) place) || is_in g new (n + 1) (before + count) fs place) now) one
         (rest mid apart (ap (λ (m : Member). m.stopped) one.member ∙ running) (λ place is.
-        let was = may place (last (new n && is_between before (before + count) place) (is_in g new (n + 1) (before + count) fs place) is) in
+        let was = may place (or_right (new n && is_between before (before + count) place) (is_in g new (n + 1) (before + count) fs place) is) in
         let above = in_above g new (n + 1) (before + count) fs place is in (
           ap (λ (m : Member). is_marked place (m.come me.number)) (one.others from.number (λ same. apart (sym same))) ∙ was.0,
           one.marks place ∙ (or_off (is_between before (before + count) place) (is_marked place ((group me.number).done from.number)) (grind (arith, nat_tests, above)) ∙ was.1),

@@ -1,5 +1,5 @@
 -- A packet arrives.
-use Rattle.std.proofs.Common.{◌≡◌, ℕ, zero, suc, ◌≤◌, List, [], ◌∷◌, length, Option, Some, None, Bool, true, false, ◌⊎◌, inl, inr, refl, sym, ◌∙◌, ap, subst, arith}
+use Rattle.std.proofs.Common.{◌≡◌, ℕ, zero, suc, ◌≤◌, List, [], ◌∷◌, length, Option, Some, None, Bool, true, false, ◌⊎◌, inl, inr, refl, sym, ◌∙◌, ap, subst}
 use Rattle.std.specs.Prelude.{slice_get, if◌then◌else◌}
 use Rattle.std.specs.Option.{option_to_list}
 use Rattle.std.proofs.lemmas.Bool.{cases_Bool}
@@ -15,6 +15,7 @@ use Rattle.gb_cluster.specs.Project.{project, packet_at}
 use Rattle.gb_cluster.specs.World.{World, node_of, world_after, good_of, goal_of, found_part, only_answered, node_took, Part}
 use Rattle.gb_cluster.specs.Holds.{IsFramed, Holds}
 use Rattle.gb_cluster.proofs.IdleLemmas.{idle_turn}
+use Rattle.gb_cluster.proofs.QuietLemmas.{quiet}
 use Rattle.gb_cluster.proofs.MarkLemmas.{slice_get-within}
 use Rattle.gb_cluster.proofs.TakenLinks.{IsGood, good_step, good_acts, good_links}
 use Rattle.gb_cluster.proofs.TakenGroups.{good_turn}
@@ -29,37 +30,11 @@ good_arrive w k p is holds =
 
 -- there is no such packet
 no_packet : (w : World) (k : ℕ) → Holds w → Holds (turned w 0 (node_of w 0) (record { event = Arrive k; answer = NoPacket }) [])
-no_packet w k holds = idle_turn w 0 (Arrive k) NoPacket holds.links.some (record {
-  frame = λ x y. refl;
-  taken = λ x y n. refl;
-  acked = λ x y n. refl;
-  row = λ x tenant. refl;
-  made = λ g x. refl;
-  noticed = λ x b. refl;
-  stopped = λ x. refl;
-  watched = λ x. refl;
-  number = omega arith;
-  reply = λ g x other. refl;
-  met = λ g x other. refl;
-  free = λ g room. record { reply = λ x. refl; met = λ x. refl; given = refl };
-}) holds
+no_packet w k holds = idle_turn w 0 (Arrive k) NoPacket holds.links.some (quiet refl) holds
 
 -- the node has stopped
 lost : (w : World) (k : ℕ) (p : Packet) → IsFramed (length w.nodes) w.packets w.steps p → Holds w → Holds (turned w p.to.number (node_of w p.to.number) (record { event = Arrive k; answer = Took_in (Lost Stopped) }) [])
-lost w k p framed holds = idle_turn w p.to.number (Arrive k) (Took_in (Lost Stopped)) framed.to (record {
-  frame = λ x y. refl;
-  taken = λ x y n. refl;
-  acked = λ x y n. refl;
-  row = λ x tenant. refl;
-  made = λ g x. refl;
-  noticed = λ x b. refl;
-  stopped = λ x. refl;
-  watched = λ x. refl;
-  number = omega arith;
-  reply = λ g x other. refl;
-  met = λ g x other. refl;
-  free = λ g room. record { reply = λ x. refl; met = λ x. refl; given = refl };
-}) holds
+lost w k p framed holds = idle_turn w p.to.number (Arrive k) (Took_in (Lost Stopped)) framed.to (quiet refl) holds
 
 -- the cluster after the arrival at a node, whose part is this
 abbrev with_part : World → ℕ → ℕ → Part → World

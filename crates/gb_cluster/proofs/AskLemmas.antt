@@ -2,6 +2,7 @@
 use Rattle.std.proofs.Common.{◌≡◌, ◌≢◌, ℕ, ◌<◌, List, [], ◌∷◌, ◌++◌, Option, Some, None, Bool, true, false, ◌&&◌, ◌||◌, refl, sym, ◌∙◌, ap, subst}
 use Rattle.std.specs.Prelude.{if◌then◌else◌, is_some, nat_eq}
 use Rattle.std.specs.FinSet as set
+use Rattle.std.proofs.lemmas.Bool.{and_right}
 use Rattle.std.proofs.lemmas.List.{append-nil}
 use Rattle.gb_types.specs.declared.address.Addr.{Addr}
 use Rattle.gb_types.specs.declared.entry.Entry.{Entry}
@@ -54,10 +55,6 @@ pub if_same : {A : Type 0} (b : Bool) (x : A) → (if b then x else x) ≡ x
 if_same true x = refl
 if_same false x = refl
 
-pub and_off : (b : Bool) → (b && false) ≡ false
-and_off true = refl
-and_off false = refl
-
 -- A command.
 
 -- what a command leaves of the group
@@ -82,8 +79,8 @@ replies_running nodes g a steps e m running member = ap (λ (b : Bool). if b the
 pub unmet_now : (g : Addr) (a : NodeId) (steps : List Step) (request : Request) → is_stopped a.number steps ≡ false → is_met_by g a.number steps (At a request) ≡ false
 unmet_now g a steps request running =
     ap (λ b. nat_eq a.number a.number && (is_named g request && (has_row a.number g.tenant steps && b))) running
-    ∙ (ap (λ b. nat_eq a.number a.number && (is_named g request && b)) (and_off (has_row a.number g.tenant steps))
-    ∙ (ap (λ b. nat_eq a.number a.number && b) (and_off (is_named g request)) ∙ and_off (nat_eq a.number a.number)))
+    ∙ (ap (λ b. nat_eq a.number a.number && (is_named g request && b)) (and_right (has_row a.number g.tenant steps) false refl)
+    ∙ (ap (λ b. nat_eq a.number a.number && b) (and_right (is_named g request) false refl) ∙ and_right (nat_eq a.number a.number) false refl))
 
 -- the member after a request
 pub member_asked : (g : Addr) (a : NodeId) (steps : List Step) (request : Request) (reply : Reply) (m n : Member) → MemberIs g a.number steps m
@@ -140,12 +137,12 @@ module _ (nodes : ℕ) (g : Addr) (a : NodeId) (v : NodeValue) (group : Group) (
 pub silent_unnamed : (g : Addr) (a : NodeId) (steps : List Step) (request : Request) (reply : Reply) → is_named g request ≡ false → reply_in g a.number steps (At a request) (Replied reply) ≡ []
 silent_unnamed g a steps request reply unnamed =
     ap (λ b. if nat_eq a.number a.number && (has_row a.number g.tenant steps && b) then reply ∷ [] else []) unnamed
-    ∙ (ap (λ b. if nat_eq a.number a.number && b then reply ∷ [] else []) (and_off (has_row a.number g.tenant steps)) ∙ ap (λ b. if b then reply ∷ [] else []) (and_off (nat_eq a.number a.number)))
+    ∙ (ap (λ b. if nat_eq a.number a.number && b then reply ∷ [] else []) (and_right (has_row a.number g.tenant steps) false refl) ∙ ap (λ b. if b then reply ∷ [] else []) (and_right (nat_eq a.number a.number) false refl))
 
 -- nor where its tenant is not here
 pub silent_absent : (g : Addr) (a : NodeId) (steps : List Step) (request : Request) (reply : Reply) → has_row a.number g.tenant steps ≡ false → reply_in g a.number steps (At a request) (Replied reply) ≡ []
 silent_absent g a steps request reply absent =
-    ap (λ b. if nat_eq a.number a.number && (b && is_named g request) then reply ∷ [] else []) absent ∙ ap (λ b. if b then reply ∷ [] else []) (and_off (nat_eq a.number a.number))
+    ap (λ b. if nat_eq a.number a.number && (b && is_named g request) then reply ∷ [] else []) absent ∙ ap (λ b. if b then reply ∷ [] else []) (and_right (nat_eq a.number a.number) false refl)
 
 pub told_one : (g : Addr) (a : NodeId) (steps : List Step) (request : Request) (reply : Reply) → has_row a.number g.tenant steps ≡ true → is_named g request ≡ true → reply_in g a.number steps (At a request) (Replied reply) ≡ reply ∷ []
 told_one g a steps request reply row named =

@@ -17,7 +17,7 @@ use Rattle.gb_cluster.specs.Project.{is_addr, items_of, items_at}
 use Rattle.gb_cluster.specs.World.{slot_for, on_slot, reserve_for}
 use Rattle.gb_cluster.specs.Holds.{Stands, AreMarked, offset}
 use Rattle.gb_cluster.proofs.MarkLemmas.{offset_next, offset_all, item_there, marks_added}
-use Rattle.gb_cluster.proofs.MemberLemmas.{KeepsRest, item_came-rest}
+use Rattle.gb_cluster.proofs.MemberLemmas.{KeepsRest, item_came-rest, item_came-noticed}
 use Rattle.gb_cluster.proofs.MoreLemmas.{offset_rises}
 use Rattle.gb_cluster.proofs.NodeLemmas.{addr_same, stands-came, same_stands}
 use Rattle.gb_cluster.proofs.WorldLemmas.{after_there, after_elsewhere, eqb_self, eqb_apart}
@@ -79,7 +79,7 @@ one_comes nodes g from me v u fs test next carried group i f item waits at has m
   replies = ap (λ (m : Member). m.replies) member ∙ rest.replies;
   spec = ap (λ (m : Member). m.spec) member ∙ rest.spec;
   done = ap (λ (m : Member). m.done) member ∙ rest.done;
-  noticed = ap (λ (m : Member). m.noticed) member ∙ rest.noticed;
+  noticed = ap (λ (m : Member). m.noticed) member ∙ item_came-noticed me.number from item.entry (group me.number);
   stopped = ap (λ (m : Member). m.stopped) member ∙ rest.stopped;
   elsewhere = λ x other. ap (λ (m : Member). m.come x) member ∙ (rw (eqb_apart x from.number other) refl);
   here = marks_added g fs (nat_eq (i + 1)) test next (nat_eq place) ((group me.number).come from.number) ((after nodes g.group group (record { node = me; event = Came from place }) me.number).come from.number)

@@ -19,18 +19,18 @@ module _ {F : Type 0} where
             rw (h, h) (filter-find test us u later)
       ]
 
+  -- where none passes the first does not, nor does a later one
+  none_first : (test : ℕ × F → Bool) (x : ℕ × F) (us : List (ℕ × F)) → find test (x ∷ us) ≡ None → (test x ≡ false) × (find test us ≡ None)
+  none_first test x us found = go (test x) refl found
+    where
+      go : (b : Bool) → test x ≡ b → cond b (Some x) (find test us) ≡ None → (test x ≡ false) × (find test us ≡ None)
+      go true is found = absurd (cc)
+      go false is found = (is, found)
+
   -- none passes
   pub filter-find_none : (test : ℕ × F → Bool) (us : List (ℕ × F)) → find test us ≡ None → filter test us ≡ []
   filter-find_none test [] found = refl
-  filter-find_none test (x ∷ us) found =
-      elim (cases_Bool (test x)) [
-        | inl h ↦
-            let here : Some x ≡ None = sym (ap (λ b. cond b (Some x) (find test us)) h) ∙ found in
-            cc
-        | inr h ↦
-            let later : find test us ≡ None = sym (ap (λ b. cond b (Some x) (find test us)) h) ∙ found in
-            rw h (filter-find_none test us later)
-      ]
+  filter-find_none test (x ∷ us) found = let rest = none_first test x us found in rw (rest.0) (filter-find_none test us rest.1)
 
   -- those that do not pass stay
   pub filter_not-without_first : (test : ℕ × F → Bool) (us : List (ℕ × F)) → filter (λ u. not (test u)) (without_first test us) ≡ filter (λ u. not (test u)) us
@@ -44,15 +44,7 @@ module _ {F : Type 0} where
   -- where none passes all stay
   pub without_first-none : (test : ℕ × F → Bool) (us : List (ℕ × F)) → find test us ≡ None → without_first test us ≡ filter (λ u. not (test u)) us
   without_first-none test [] found = refl
-  without_first-none test (x ∷ us) found =
-      elim (cases_Bool (test x)) [
-        | inl h ↦
-            let here : Some x ≡ None = sym (ap (λ b. cond b (Some x) (find test us)) h) ∙ found in
-            cc
-        | inr h ↦
-            let later : find test us ≡ None = sym (ap (λ b. cond b (Some x) (find test us)) h) ∙ found in
-            rw h (ap (λ (vs : List (ℕ × F)). x ∷ vs) (without_first-none test us later))
-      ]
+  without_first-none test (x ∷ us) found = let rest = none_first test x us found in rw (rest.0) (ap (λ (vs : List (ℕ × F)). x ∷ vs) (without_first-none test us rest.1))
 
   -- one frame less
   pub length-without_first : (test : ℕ × F → Bool) (us : List (ℕ × F)) (u : ℕ × F) → find test us ≡ Some u → length (without_first test us) < length us

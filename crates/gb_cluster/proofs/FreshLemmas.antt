@@ -11,6 +11,8 @@ use Rattle.gb_types.specs.declared.node.NodeId.{NodeId}
 use Rattle.gb_types.specs.declared.spec.Spec.{Spec}
 use Rattle.std.specs.FinSet as set
 use Rattle.std.specs.Ordering.{nat_cmp}
+use Rattle.std.proofs.Math.Bool.{or-false}
+use Rattle.std.proofs.lemmas.Bool.{and_parts}
 use Rattle.gb_layer.specs.Machine.{was_noticed}
 use Rattle.gb_layer.specs.Modules.{first_mentions, now_broadcast}
 use Rattle.gb_layer.specs.declared.call.Call.{Call}
@@ -26,7 +28,7 @@ use Rattle.gb_slot.proofs.HistoryLemmas.{fresh_stands}
 use Rattle.gb_cluster.specs.Alone.{Member, called, cut, took_notice, node_noticed, put_to, is_marked}
 use Rattle.gb_cluster.specs.Nodes.{node_numbered}
 use Rattle.gb_cluster.specs.Holds.{SlotStands}
-use Rattle.gb_cluster.proofs.NoticeLemmas.{or_none, or_turned, AreRising, numbered_is, all_noticed, notices_keep, passing_rising, passing_marked}
+use Rattle.gb_cluster.proofs.NoticeLemmas.{or_turned, AreRising, numbered_is, all_noticed, notices_keep, passing_rising, passing_marked}
 
 -- The nodes.
 
@@ -136,11 +138,7 @@ pub before_rising : (spec : Spec) (me : ℕ) (new : ℕ → Bool) → AreRising 
 before_rising spec me new = passing_rising (other_noticed spec me new) 0 NODES (omega arith)
 
 pub marked_before : (spec : Spec) (me : ℕ) (new : ℕ → Bool) → ((x : ℕ) → new x ≡ true → x < NODES) → (x : ℕ) → is_marked x (noticed_before spec me new) ≡ (is_other spec me x && new x)
-marked_before spec me new nodes x = passing_marked (other_noticed spec me new) (λ y is. nodes y (second (is_other spec me y) (new y) is)) x
-  where
-    second : (b c : Bool) → (b && c) ≡ true → c ≡ true
-    second true c is = is
-    second false c is = absurd (cc)
+marked_before spec me new nodes x = passing_marked (other_noticed spec me new) (λ y is. nodes y (and_parts (is_other spec me y) (new y) is).1) x
 
 -- the new slot stands for the group after its notices
 pub fresh_slot : (a : NodeId) (spec : Spec) (new : ℕ → Bool) (noticed : set.FinSet nat_cmp) (m : Member) → ((x : ℕ) → new x ≡ true → x < NODES) → ((x : ℕ) → set.contains noticed x ≡ new x)
@@ -163,7 +161,7 @@ fresh_slot a spec new noticed m nodes is made phase told =
     tell : (b : ℕ) → is_other spec a.number b ≡ true → set.contains noticed b ≡ list_any (λ q. nat_eq q.number b) qs
     tell b other =
         is b ∙ (sym (ap (λ c. c && new b) other) ∙ (sym (marked_before spec a.number new nodes b)
-        ∙ (sym (or_none (is_marked b (noticed_before spec a.number new))) ∙ sym (onto_any spec a.number (noticed_before spec a.number new) [] b others))))
+        ∙ (sym (or-false (is_marked b (noticed_before spec a.number new))) ∙ sym (onto_any spec a.number (noticed_before spec a.number new) [] b others))))
 
 -- and what is put out stays
 pub fresh_put : (me : ℕ) (spec : Spec) (new : ℕ → Bool) (m : Member) (x : ℕ) → m.spec ≡ Some spec → m.told ≡ [] → m.taken x ≡ length (m.put x) → (all_noticed me (noticed_before spec me new) m).put x ≡ m.put x

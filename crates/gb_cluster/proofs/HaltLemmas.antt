@@ -15,7 +15,8 @@ use Rattle.gb_cluster.specs.NodeValue.{NodeValue}
 use Rattle.gb_cluster.specs.Project.{project, has_row, frames, items_of, is_taken, is_acked, is_noticed, is_stopped, is_met, made_at, watched, replies_to}
 use Rattle.gb_cluster.specs.World.{World, Part, only_answered, node_of, world_after}
 use Rattle.gb_cluster.specs.Holds.{MemberIs, Fits, NodeIs, Links, Holds, window_of}
-use Rattle.gb_cluster.proofs.IdleLemmas.{IsQuiet, idle_turn}
+use Rattle.gb_cluster.proofs.IdleLemmas.{idle_turn}
+use Rattle.gb_cluster.proofs.QuietLemmas.{quiet}
 use Rattle.gb_cluster.proofs.NodeLemmas.{same_stands, same_carried}
 use Rattle.gb_cluster.proofs.Turns.{turned, ActsAt, GroupTurn, frames_turned, taken_turned, acked_turned, quiet_link, links_turn, same_marks, holds_turn}
 use Rattle.gb_cluster.proofs.WorldLemmas.{eqb_self, eqb_apart_back}
@@ -97,23 +98,6 @@ halt_holds w a in_a holds =
     (λ k p at. absurd (cc)))
     (λ g room before. halt_group g w a (alone (length w.nodes) g.group (project g w.packets w.steps)) in_a holds.links before.fits)
 
--- a stopped node only tells that it has stopped
-ended_quiet : (w : World) (a : NodeId) → IsQuiet w a.number (Stop a) (Halted_so (Ended Stopped))
-ended_quiet w a = record {
-  frame = λ x y. refl;
-  taken = λ x y n. refl;
-  acked = λ x y n. refl;
-  row = λ x tenant. refl;
-  made = λ g x. refl;
-  noticed = λ x b. refl;
-  stopped = λ x. refl;
-  watched = λ x. refl;
-  number = omega arith;
-  reply = λ g x other. refl;
-  met = λ g x other. refl;
-  free = λ g room. record { reply = λ x. refl; met = λ x. refl; given = refl };
-}
-
 -- a cluster keeps what it holds through a stop
 pub any_stop : (w : World) (a : NodeId) → a.number < length w.nodes → Holds w → Holds (world_after w (Stop a))
 any_stop w a in_a holds = go (node_of w a.number).stopped
@@ -122,5 +106,5 @@ any_stop w a in_a holds = go (node_of w a.number).stopped
     part b = if b then only_answered (node_of w a.number) (Halted_so (Ended Stopped)) else only_answered (record (node_of w a.number) { stopped = true }) (Halted_so Halts)
 
     go : (b : Bool) → Holds (turned w a.number (part b).value (record { event = Stop a; answer = (part b).answer }) (part b).sent)
-    go true = idle_turn w a.number (Stop a) (Halted_so (Ended Stopped)) in_a (ended_quiet w a) holds
+    go true = idle_turn w a.number (Stop a) (Halted_so (Ended Stopped)) in_a (quiet refl) holds
     go false = halt_holds w a in_a holds

@@ -1,5 +1,5 @@
 -- A step that changes nothing of nodes and packets.
-use Rattle.std.proofs.Common.{◌≡◌, ◌≢◌, ℕ, arith, ◌<◌, ◌≤◌, List, [], ◌∷◌, ◌++◌, length, None, Bool, true, false, ◌||◌, ◌&&◌, refl, sym, ◌∙◌, ap, subst}
+use Rattle.std.proofs.Common.{◌≡◌, ◌≢◌, ℕ, arith, ◌<◌, ◌≤◌, List, [], ◌∷◌, ◌++◌, length, None, Bool, true, false, ◌&&◌, refl, sym, ◌∙◌, ap, subst}
 use Rattle.std.proofs.lemmas.List.{append-nil, set-get_or}
 use Rattle.gb_types.specs.declared.address.Addr.{Addr}
 use Rattle.gb_detect.specs.Silence.{Call}
@@ -14,6 +14,7 @@ use Rattle.gb_cluster.specs.NodeValue.{NodeValue}
 use Rattle.gb_cluster.specs.Project.{project, gives, has_row, is_taken_in, frames, frame_at, items_of, is_taken, is_taken_by, is_acked, is_acked_by, is_noticed, is_noticed_by, is_stopped, is_stopped_by, is_met, is_met_by, made_at, made_by, or_else, watched, watched_by, reply_in, replies_to, is_turned_away}
 use Rattle.gb_cluster.specs.World.{World, node_of, no_node, with_step}
 use Rattle.gb_cluster.specs.Holds.{number_of, MemberIs, is_concerned, Fits, NodeIs, Links, Holds, window_of}
+use Rattle.gb_cluster.proofs.MarkLemmas.{or_off}
 use Rattle.gb_cluster.proofs.NodeLemmas.{same_carried}
 use Rattle.gb_cluster.proofs.Turns.{turned, ActsAt, GroupTurn, frames_turned, taken_turned, acked_turned, quiet_link, links_turn, same_marks, holds_turn}
 
@@ -38,24 +39,20 @@ pub record IsQuiet (w : World) (a : ℕ) (e : Event) (answer : Answer) : Type 0 
   pub met : (g : Addr) (x : ℕ) → x ≢ a → is_met_by g x w.steps e ≡ false
   pub free : (g : Addr) → is_turned_away g e answer ≡ false → IsQuietFor w e answer g
 
-or_right : (b c : Bool) → b ≡ false → (b || c) ≡ c
-or_right true c is = absurd (cc)
-or_right false c is = refl
-
 -- the node goes on as it was
 idle_node : (w : World) (a : ℕ) (e : Event) (answer : Answer) → a < length w.nodes → IsQuiet w a e answer → Links w → NodeIs (length w.nodes) w.silence (w.packets ++ []) (record { event = e; answer = answer } ∷ w.steps) a (node_of w a)
 unfolding has_row is_stopped is_noticed frames is_taken is_acked watched
 idle_node w a e answer in_a quiet links =
     let was = links.node a in_a in
     rw (append-nil w.packets) (record {
-      rows = λ tenant. or_right _ _ (quiet.row a tenant) ∙ was.rows tenant;
-      stopped = was.stopped ∙ sym (or_right _ _ (quiet.stopped a));
+      rows = λ tenant. or_off _ _ (quiet.row a tenant) ∙ was.rows tenant;
+      stopped = was.stopped ∙ sym (or_off _ _ (quiet.stopped a));
       watch = was.watch ∙ ap (λ (cs : List Call). replay (start a (length w.nodes) w.silence) (cs ++ watched a w.packets w.steps)) (sym (quiet.watched a));
-      noticed = λ b. was.noticed b ∙ sym (or_right _ _ (quiet.noticed a b));
+      noticed = λ b. was.noticed b ∙ sym (or_off _ _ (quiet.noticed a b));
       senders = was.senders;
       receivers = was.receivers;
-      sender = λ b in_b. was.sender b in_b ∙ (λ i. window_of (λ n. sym (or_right _ (is_acked a b n w.packets w.steps) (quiet.acked a b n)) i) (sym (fs b) i));
-      receiver = λ b n in_b some. was.receiver b n in_b some ∙ sym (or_right _ _ (quiet.taken b a n));
+      sender = λ b in_b. was.sender b in_b ∙ (λ i. window_of (λ n. sym (or_off _ (is_acked a b n w.packets w.steps) (quiet.acked a b n)) i) (sym (fs b) i));
+      receiver = λ b n in_b some. was.receiver b n in_b some ∙ sym (or_off _ _ (quiet.taken b a n));
     })
   where
     fs : (b : ℕ) → frames a b w.packets w.steps ++ frame_at a b w.packets e answer ≡ frames a b w.packets w.steps
@@ -99,13 +96,13 @@ idle_group g w a e answer group in_a quiet free links fits = subst (λ (given : 
   member = record {
     replies = was.replies ∙ (sym (append-nil (replies_to g a w.steps)) ∙ ap (λ rs. replies_to g a w.steps ++ rs) (sym (free.reply a)));
     spec = was.spec ∙ sym made;
-    noticed = λ b. was.noticed b ∙ (λ i. is_concerned a b (sym made i) && sym (or_right _ (is_noticed a b w.steps) (quiet.noticed a b)) i);
-    stopped = was.stopped ∙ sym (or_right _ _ (free.met a));
+    noticed = λ b. was.noticed b ∙ (λ i. is_concerned a b (sym made i) && sym (or_off _ (is_noticed a b w.steps) (quiet.noticed a b)) i);
+    stopped = was.stopped ∙ sym (or_off _ _ (free.met a));
   };
   come = λ x in_x. same_marks g (frames x a w.packets w.steps) (λ n. is_taken x a n w.packets w.steps) (λ n. is_taken x a n (w.packets ++ []) (s ∷ w.steps)) ((group a).come x)
-      (λ n. sym (taken_turned w s [] links.numbered x a n ∙ or_right _ _ (acts_taken x n))) (fits.come x a in_x in_a);
+      (λ n. sym (taken_turned w s [] links.numbered x a n ∙ or_off _ _ (acts_taken x n))) (fits.come x a in_x in_a);
   done = λ b in_b. same_marks g (frames a b w.packets w.steps) (λ n. is_acked a b n w.packets w.steps) (λ n. is_acked a b n (w.packets ++ []) (s ∷ w.steps)) ((group a).done b)
-      (λ n. sym (acked_turned w s [] links.numbered a b n ∙ or_right _ _ (acts_acked b n))) (fits.done a b in_a in_b);
+      (λ n. sym (acked_turned w s [] links.numbered a b n ∙ or_off _ _ (acts_acked b n))) (fits.done a b in_a in_b);
 })
   where
     s : Step

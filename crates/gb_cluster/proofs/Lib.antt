@@ -11,6 +11,7 @@ pub mod TenantLemmas
 pub mod StoppedLemmas
 pub mod AtLemmas
 pub mod IdleLemmas
+pub mod QuietLemmas
 pub mod MoreLemmas
 pub mod Turns
 pub mod MarkLemmas

@@ -1,6 +1,7 @@
 -- What making a group at a running node does to each group there: the group learns of the nodes that were noticed before.
 use Rattle.std.proofs.Common.{◌≡◌, ℕ, ◌<◌, List, [], ◌∷◌, ◌++◌, length, Option, Some, None, Bool, true, false, ◌&&◌, ◌||◌, ◌⊎◌, inl, inr, refl, sym, ◌∙◌, ap, subst}
 use Rattle.std.specs.Prelude.{if◌then◌else◌, is_some, nat_eq}
+use Rattle.std.proofs.Math.Bool.{or-false}
 use Rattle.std.proofs.lemmas.Bool.{cases_Bool}
 use Rattle.std.proofs.lemmas.List.{append-nil}
 use Rattle.gb_types.specs.declared.address.Addr.{Addr}
@@ -27,9 +28,9 @@ use Rattle.gb_cluster.specs.Rules.{make_answer, by_tenant}
 use Rattle.gb_cluster.specs.World.{reserve_for, slot_for, in_room, running_reply, node_did}
 use Rattle.gb_cluster.proofs.AskLemmas.{Before, AtNode, asking, at_command, at_other, if_same, replies_running, told_one, unmet_now}
 use Rattle.gb_cluster.proofs.FreshLemmas.{noticed_before, before_rising, marked_before, fresh_slot, fresh_put, waiting-new}
-use Rattle.gb_cluster.proofs.MemberLemmas.{made-is}
+use Rattle.gb_cluster.proofs.MemberLemmas.{made-is, KeepsRest}
 use Rattle.gb_cluster.proofs.NodeLemmas.{addr_same, is_addr-self, same_stands}
-use Rattle.gb_cluster.proofs.NoticeLemmas.{or_none, KeepsOthers, all_noticed, notices_of, notices_there, notices_elsewhere, notices_keep, notices_mark, notices_legal}
+use Rattle.gb_cluster.proofs.NoticeLemmas.{all_noticed, notices_of, notices_there, notices_elsewhere, notices_keep, notices_mark, notices_legal}
 use Rattle.gb_cluster.proofs.StopLemmas.{unmet}
 use Rattle.gb_cluster.proofs.WorldLemmas.{eqb_self, after_there, after_elsewhere}
 
@@ -89,7 +90,7 @@ module _ (nodes : ℕ) (g : Addr) (a : NodeId) (v : NodeValue) (group : Group) (
     taken = λ b in_cluster. ap (λ (f : ℕ → ℕ). f b) keeps.taken ∙ st.taken b in_cluster;
   }
     where
-      keeps : KeepsOthers made next
+      keeps : KeepsRest made next
       keeps = notices_keep a.number noticed_now made
 
       st : Stands nodes g a.number v (group a.number) carried
@@ -114,7 +115,7 @@ module _ (nodes : ℕ) (g : Addr) (a : NodeId) (v : NodeValue) (group : Group) (
         replies = keeps.replies ∙ (ap (λ rs. rs ++ Done ∷ []) was.replies ∙ ap (λ rs. replies_to g a.number steps ++ rs) (sym (told_one g a steps (Make token g spec) Done row (is_addr-self g))));
         spec = keeps.spec ∙ sym now;
         noticed = λ b. notices_mark a.number 0 noticed_now made b (before_rising spec a.number new) ∙ (ap (λ c. c || is_marked b (group a.number).noticed) (marked_before spec a.number new below b)
-            ∙ (ap (λ c. (is_concerned a.number b (Some spec) && is_noticed a.number b steps) || c) (unmarked b) ∙ (or_none (is_concerned a.number b (Some spec) && is_noticed a.number b steps) ∙ ap (λ o. is_concerned a.number b o && is_noticed a.number b steps) (sym now))));
+            ∙ (ap (λ c. (is_concerned a.number b (Some spec) && is_noticed a.number b steps) || c) (unmarked b) ∙ (or-false (is_concerned a.number b (Some spec) && is_noticed a.number b steps) ∙ ap (λ o. is_concerned a.number b o && is_noticed a.number b steps) (sym now))));
         stopped = keeps.stopped ∙ (was.stopped ∙ ap (λ b. b || is_met g a.number steps) (sym (unmet_now g a steps (Make token g spec) running)));
       }
     where
@@ -139,7 +140,7 @@ module _ (nodes : ℕ) (g : Addr) (a : NodeId) (v : NodeValue) (group : Group) (
         done = keeps.done;
       }
     where
-      keeps : KeepsOthers made next
+      keeps : KeepsRest made next
       keeps = notices_keep a.number noticed_now made
 
       absent : NotMade (group a.number)

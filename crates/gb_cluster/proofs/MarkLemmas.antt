@@ -1,7 +1,7 @@
 -- The places of a group's items among the frames of a link, and which of them are marked.
 use Rattle.std.proofs.Common.{◌≡◌, ℕ, zero, suc, ◌+◌, ◌<◌, ◌≤◌, List, [], ◌∷◌, ◌++◌, length, take, Some, Bool, true, false, ◌&&◌, ◌||◌, ◌⊎◌, inl, inr, refl, sym, ◌∙◌, ap, subst, arith, length-append, add-one, zero-add}
 use Rattle.std.specs.Prelude.{nat_lt, nat_le, slice_get}
-use Rattle.std.proofs.lemmas.Bool.{cases_Bool}
+use Rattle.std.proofs.lemmas.Bool.{cases_Bool, and_parts, and_right, or_cases, or_from}
 use Rattle.std.proofs.lemmas.Bool.Decides.{nat_tests}
 use Rattle.std.proofs.lemmas.List.{append-nil, append_assoc}
 use Rattle.gb_types.specs.declared.address.Addr.{Addr}
@@ -70,25 +70,10 @@ abbrev pub is_in : Addr → (ℕ → Bool) → ℕ → ℕ → List Packet → �
 is_in g new n before [] place = false
 is_in g new n before (f ∷ fs) place = (new n && is_between before (before + length (items_in g f)) place) || is_in g new (n + 1) (before + length (items_in g f)) fs place
 
-pub or_at : (b c : Bool) → (b || c) ≡ true → (b ≡ true) ⊎ (c ≡ true)
-or_at true c is = inl refl
-or_at false c is = inr is
-
-pub and_at : (b c : Bool) → (b && c) ≡ true → (b ≡ true) × (c ≡ true)
-and_at true c is = (refl, is)
-and_at false c is = absurd (cc)
-
+-- where the first test fails the second decides
 pub or_off : (b c : Bool) → b ≡ false → (b || c) ≡ c
 or_off true c is = absurd (cc)
 or_off false c is = refl
-
-pub or_none : (b c : Bool) → b ≡ false → c ≡ false → (b || c) ≡ false
-or_none true c is off = absurd (cc)
-or_none false c is off = off
-
-and_off : (b c : Bool) → c ≡ false → (b && c) ≡ false
-and_off true c is = is
-and_off false c is = refl
 
 and_on : (b c : Bool) → c ≡ true → (b && c) ≡ b
 and_on true c is = is
@@ -101,10 +86,10 @@ or_last false c is = is
 -- then it stands behind those before
 pub in_above : (g : Addr) (new : ℕ → Bool) (n before : ℕ) (fs : List Packet) (place : ℕ) → is_in g new n before fs place ≡ true → before < place
 in_above g new n before [] place is = absurd (cc)
-in_above g new n before (f ∷ fs) place is = go (in_above g new (n + 1) (before + length (items_in g f)) fs place) (or_at (new n && is_between before (before + length (items_in g f)) place) (is_in g new (n + 1) (before + length (items_in g f)) fs place) is)
+in_above g new n before (f ∷ fs) place is = go (in_above g new (n + 1) (before + length (items_in g f)) fs place) (or_cases (new n && is_between before (before + length (items_in g f)) place) (is_in g new (n + 1) (before + length (items_in g f)) fs place) is)
   where
     go : (is_in g new (n + 1) (before + length (items_in g f)) fs place ≡ true → before + length (items_in g f) < place) → (((new n && is_between before (before + length (items_in g f)) place) ≡ true) ⊎ (is_in g new (n + 1) (before + length (items_in g f)) fs place ≡ true)) → before < place
-    go later (inl here) = let low = (and_at (nat_lt before place) (nat_le place (before + length (items_in g f))) (and_at (new n) (is_between before (before + length (items_in g f)) place) here).1).0 in grind (arith, nat_tests)
+    go later (inl here) = let low = (and_parts (nat_lt before place) (nat_le place (before + length (items_in g f))) (and_parts (new n) (is_between before (before + length (items_in g f)) place) here).1).0 in grind (arith, nat_tests)
     go later (inr there) = let rest = later there in omega arith
 
 not_in : (g : Addr) (new : ℕ → Bool) (n before : ℕ) (fs : List Packet) (place : ℕ) → place ≤ before → is_in g new n before fs place ≡ false
@@ -129,7 +114,7 @@ in_frame g new n before (f ∷ fs) zero place low high =
     above : before < place
     above = omega (arith, low)
 in_frame g new n before (f ∷ fs) (suc i) place low high =
-    or_off (new n && is_between before (before + length (items_in g f)) place) (is_in g new (n + 1) (before + length (items_in g f)) fs place) (and_off (new n) (is_between before (before + length (items_in g f)) place) (grind (arith, nat_tests, above)))
+    or_off (new n && is_between before (before + length (items_in g f)) place) (is_in g new (n + 1) (before + length (items_in g f)) fs place) (and_right (new n) (is_between before (before + length (items_in g f)) place) (grind (arith, nat_tests, above)))
     ∙ (in_frame g new (n + 1) (before + length (items_in g f)) fs i place (omega (arith, low, length-append (items_in g f) (items_of g (take i fs)))) (omega (arith, high, next)) ∙ ap new (omega arith))
   where
     above : before + length (items_in g f) < place
@@ -143,7 +128,7 @@ pub in_beyond : (g : Addr) (new : ℕ → Bool) (n before : ℕ) (fs : List Pack
 unfolding items_of
 in_beyond g new n before [] place above = refl
 in_beyond g new n before (f ∷ fs) place above =
-    or_none (new n && is_between before (before + length (items_in g f)) place) (is_in g new (n + 1) (before + length (items_in g f)) fs place) (and_off (new n) (is_between before (before + length (items_in g f)) place) (grind (arith, nat_tests, past)))
+    or_from (new n && is_between before (before + length (items_in g f)) place) (is_in g new (n + 1) (before + length (items_in g f)) fs place) (and_right (new n) (is_between before (before + length (items_in g f)) place) (grind (arith, nat_tests, past)))
     (in_beyond g new (n + 1) (before + length (items_in g f)) fs place (omega (arith, above, length-append (items_in g f) (items_of g fs))))
   where
     past : before + length (items_in g f) < place
@@ -159,12 +144,12 @@ pub record Found (g : Addr) (new : ℕ → Bool) (n before : ℕ) (fs : List Pac
 pub in_found : (g : Addr) (new : ℕ → Bool) (n before : ℕ) (fs : List Packet) (place : ℕ) → is_in g new n before fs place ≡ true → Found g new n before fs place
 unfolding items_of
 in_found g new n before [] place is = absurd (cc)
-in_found g new n before (f ∷ fs) place is = go (in_found g new (n + 1) (before + length (items_in g f)) fs place) (or_at (new n && is_between before (before + length (items_in g f)) place) (is_in g new (n + 1) (before + length (items_in g f)) fs place) is)
+in_found g new n before (f ∷ fs) place is = go (in_found g new (n + 1) (before + length (items_in g f)) fs place) (or_cases (new n && is_between before (before + length (items_in g f)) place) (is_in g new (n + 1) (before + length (items_in g f)) fs place) is)
   where
     go : (is_in g new (n + 1) (before + length (items_in g f)) fs place ≡ true → Found g new (n + 1) (before + length (items_in g f)) fs place) → (((new n && is_between before (before + length (items_in g f)) place) ≡ true) ⊎ (is_in g new (n + 1) (before + length (items_in g f)) fs place ≡ true)) → Found g new n before (f ∷ fs) place
     go later (inl here) =
-        let parts = and_at (new n) (is_between before (before + length (items_in g f)) place) here in
-        let ends = and_at (nat_lt before place) (nat_le place (before + length (items_in g f))) parts.1 in
+        let parts = and_parts (new n) (is_between before (before + length (items_in g f)) place) here in
+        let ends = and_parts (nat_lt before place) (nat_le place (before + length (items_in g f))) parts.1 in
         let low : before < place = grind (arith, nat_tests, ends.0) in
         let high : place ≤ before + length (items_in g f) = grind (arith, nat_tests, ends.1) in
         record {
@@ -196,7 +181,7 @@ pub marks_added : (g : Addr) (fs : List Packet) (new test after : ℕ → Bool) 
     → AreMarked g fs test marks → AreMarked g fs after next
 marks_added g fs new test after added marks next within beyond more is was = record {
   each = λ n place low high. more place ∙ ((λ i. within n place low high i || was.each n place low high i) ∙ sym (is (n + 1) (omega arith)));
-  beyond = λ place above. more place ∙ or_none (added place) (is_marked place marks) (beyond place above) (was.beyond place above);
+  beyond = λ place above. more place ∙ or_from (added place) (is_marked place marks) (beyond place above) (was.beyond place above);
 }
 
 -- the same marks, by another name

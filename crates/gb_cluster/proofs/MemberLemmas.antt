@@ -5,7 +5,7 @@ use Rattle.std.proofs.lemmas.Bool.Decides.{nat_tests}
 use Rattle.std.proofs.Math.Seq.{take-length}
 use Rattle.std.specs.Option.{option_map}
 use Rattle.std.specs.FinSet as set
-use Rattle.std.proofs.lemmas.Bool.{cases_Bool}
+use Rattle.std.proofs.lemmas.Bool.{cases_Bool, and_right}
 use Rattle.std.proofs.lemmas.List.{append-nil, append_assoc, take-append-le}
 use Rattle.gb_types.specs.declared.entry.Entry.{Entry}
 use Rattle.gb_types.specs.declared.node.NodeId.{NodeId}
@@ -156,23 +156,27 @@ put-item_came me from e (Some s) m b carried st was = go (cases_Bool (falls from
         ap (λ (x : Member). x.put b) (handed_in me from e m (falls-is me from e s m st ∙ h))
         ∙ put_grown me s m (Other from e) b carried (waiting (slot_came from e s) b) other_quiet st (waiting_came s m.told from e b st.history h) was
 
--- the fields that an item leaves
+-- the fields that an item and a notice leave
 pub record KeepsRest (m n : Member) : Type 0 where
   pub reserve : n.reserve ≡ m.reserve
   pub spec : n.spec ≡ m.spec
+  pub phase : n.phase ≡ m.phase
   pub replies : n.replies ≡ m.replies
   pub taken : n.taken ≡ m.taken
   pub come : n.come ≡ m.come
   pub done : n.done ≡ m.done
-  pub noticed : n.noticed ≡ m.noticed
   pub stopped : n.stopped ≡ m.stopped
 
 pub item_came-rest : (me : ℕ) (from : NodeId) (e : Entry) (m : Member) → KeepsRest m (item_came me from e m)
 item_came-rest me from e m = go (alone.falls me from.number e m.told m.spec)
   where
     go : (b : Bool) → KeepsRest m (if b then m else called me (Other from e) m)
-    go true = record { reserve = refl; spec = refl; replies = refl; taken = refl; come = refl; done = refl; noticed = refl; stopped = refl }
-    go false = record { reserve = refl; spec = refl; replies = refl; taken = refl; come = refl; done = refl; noticed = refl; stopped = refl }
+    go true = record { reserve = refl; spec = refl; phase = refl; replies = refl; taken = refl; come = refl; done = refl; stopped = refl }
+    go false = record { reserve = refl; spec = refl; phase = refl; replies = refl; taken = refl; come = refl; done = refl; stopped = refl }
+
+-- an item leaves the notices too
+pub item_came-noticed : (me : ℕ) (from : NodeId) (e : Entry) (m : Member) → (item_came me from e m).noticed ≡ m.noticed
+item_came-noticed me from e m = elim (alone.falls me from.number e m.told m.spec) as (λ b. (if b then m else called me (Other from e) m).noticed ≡ m.noticed) [ true ↦ refl | false ↦ refl ]
 
 -- A node is noticed.
 
@@ -238,17 +242,13 @@ put-noticed me q (Some s) m b carried st was count = go (cases_Bool (is_other s.
         by : ((nat_eq b q.number ≡ true) ⊎ (nat_eq b q.number ≡ false)) → put_to me (Some s.spec) (Crashed q) m.told (cut q m).put b ≡ carried ++ (if nat_eq b q.number then [] else waiting s b ++ (if reaches s b then puts_of s.spec s.me.number (Crashed q) m.told else []))
         by (inl at) =
             ap (λ (n : Bool). if is_other s.spec me b && not n then (cut q m).put b ++ outs else (cut q m).put b) (noticed_now at)
-            ∙ (ap (λ (c : Bool). if c then (cut q m).put b ++ outs else (cut q m).put b) (and_off (is_other s.spec me b))
+            ∙ (ap (λ (c : Bool). if c then (cut q m).put b ++ outs else (cut q m).put b) (and_right (is_other s.spec me b) false refl)
             ∙ (ap (λ (c : Bool). if c then take (m.taken b) (m.put b) else m.put b) at
             ∙ (ap (λ xs. take (m.taken b) xs) was ∙ (ap (λ n. take n (carried ++ waiting s b)) count ∙ (take-append-le (length carried) carried (waiting s b) (omega arith) ∙ (take-length carried ∙ (sym (append-nil carried)
             ∙ ap (λ (c : Bool). carried ++ (if c then [] else waiting s b ++ (if reaches s b then puts_of s.spec s.me.number (Crashed q) m.told else []))) (sym at))))))))
           where
             noticed_now : nat_eq b q.number ≡ true → was_noticed (calls_of (Crashed q ∷ m.told)) b ≡ true
             noticed_now at = let same : b ≡ q.number = grind (arith, nat_tests) in let turned : nat_eq q.number b ≡ true = grind (arith, nat_tests) in rw turned refl
-
-            and_off : (c : Bool) → (c && false) ≡ false
-            and_off true = refl
-            and_off false = refl
         by (inr off) =
             ap (λ (n : Bool). if is_other s.spec me b && not n then (cut q m).put b ++ outs else (cut q m).put b) (noticed_before off)
             ∙ (ap (λ (c : Bool). if other then (if c then take (m.taken b) (m.put b) else m.put b) ++ outs else (if c then take (m.taken b) (m.put b) else m.put b)) off

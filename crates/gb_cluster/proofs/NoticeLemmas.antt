@@ -22,13 +22,10 @@ use Rattle.gb_cluster.specs.declared.group.GroupEvent.TheVariants.{Notice}
 use Rattle.gb_cluster.specs.declared.group.GroupStep.{GroupStep}
 use Rattle.gb_cluster.specs.declared.packet.Packet.{Packet}
 use Rattle.gb_cluster.specs.declared.step.Step.{Step}
+use Rattle.gb_cluster.proofs.MemberLemmas.{KeepsRest}
 use Rattle.gb_cluster.proofs.WorldLemmas.{eqb_self, after_there, after_elsewhere}
 
 -- Tests.
-
-pub or_none : (b : Bool) → (b || false) ≡ b
-or_none true = refl
-or_none false = refl
 
 pub or_turned : (p q r : Bool) → (p || (q || r)) ≡ ((q || p) || r)
 or_turned true true r = refl
@@ -123,32 +120,19 @@ pub notices_elsewhere : (nodes number : ℕ) (a : NodeId) (bs : List ℕ) (group
 notices_elsewhere nodes number a [] group x other = refl
 notices_elsewhere nodes number a (b ∷ bs) group x other = notices_elsewhere nodes number a bs _ x other ∙ after_elsewhere nodes number group a x (Notice (node_numbered b)) other
 
--- what a notice leaves of the group at the node
-pub record KeepsOthers (m n : Member) : Type 0 where
-  pub reserve : n.reserve ≡ m.reserve
-  pub spec : n.spec ≡ m.spec
-  pub phase : n.phase ≡ m.phase
-  pub replies : n.replies ≡ m.replies
-  pub taken : n.taken ≡ m.taken
-  pub come : n.come ≡ m.come
-  pub done : n.done ≡ m.done
-  pub stopped : n.stopped ≡ m.stopped
-
-pub notice_keeps : (me : ℕ) (q : NodeId) (m : Member) → KeepsOthers m (node_noticed me q m)
+-- a notice leaves the rest of the group at the node
+pub notice_keeps : (me : ℕ) (q : NodeId) (m : Member) → KeepsRest m (node_noticed me q m)
 notice_keeps me q m = go m.spec
   where
-    alike : KeepsOthers m m
-    alike = record { reserve = refl; spec = refl; phase = refl; replies = refl; taken = refl; come = refl; done = refl; stopped = refl }
-
-    by : (spec : Spec) (b : Bool) → KeepsOthers m (let next = (if b then called me (Crashed q) (cut q m) else m) in record next { noticed = q.number ∷ m.noticed })
+    by : (spec : Spec) (b : Bool) → KeepsRest m (let next = (if b then called me (Crashed q) (cut q m) else m) in record next { noticed = q.number ∷ m.noticed })
     by spec true = record { reserve = refl; spec = refl; phase = refl; replies = refl; taken = refl; come = refl; done = refl; stopped = refl }
     by spec false = record { reserve = refl; spec = refl; phase = refl; replies = refl; taken = refl; come = refl; done = refl; stopped = refl }
 
-    go : (o : Option Spec) → KeepsOthers m (let next = took_notice me q o m in record next { noticed = q.number ∷ m.noticed })
+    go : (o : Option Spec) → KeepsRest m (let next = took_notice me q o m in record next { noticed = q.number ∷ m.noticed })
     go None = record { reserve = refl; spec = refl; phase = refl; replies = refl; taken = refl; come = refl; done = refl; stopped = refl }
     go (Some spec) = by spec (is_other spec me q.number)
 
-pub notices_keep : (me : ℕ) (bs : List ℕ) (m : Member) → KeepsOthers m (all_noticed me bs m)
+pub notices_keep : (me : ℕ) (bs : List ℕ) (m : Member) → KeepsRest m (all_noticed me bs m)
 notices_keep me [] m = record { reserve = refl; spec = refl; phase = refl; replies = refl; taken = refl; come = refl; done = refl; stopped = refl }
 notices_keep me (b ∷ bs) m =
     let one = notice_keeps me (node_numbered b) m in

@@ -9,7 +9,6 @@ use Rattle.gb_types.specs.declared.node.NodeId.{NodeId}
 use Rattle.gb_types.specs.declared.refusal.Refusal.TheVariants.{Stopped}
 use Rattle.gb_cluster.specs.declared.event.Event.TheVariants.{Pack}
 use Rattle.gb_cluster.specs.declared.answer.Answer.TheVariants.{Sent as Gave}
-use Rattle.gb_cluster.specs.declared.answer.Sent.{Sent}
 use Rattle.gb_cluster.specs.declared.answer.Sent.TheVariants.{Packet as Numbered, Nothing, Refused as Unsent}
 use Rattle.gb_cluster.specs.declared.step.Step.{Step}
 use Rattle.gb_cluster.specs.declared.packet.Item.{Item}
@@ -18,18 +17,20 @@ use Rattle.gb_cluster.specs.declared.group.GroupEvent.TheVariants.{Took}
 use Rattle.gb_cluster.specs.declared.group.GroupStep.{GroupStep}
 use Rattle.gb_cluster.specs.Alone.{Member, Group, alone, alone_from}
 use Rattle.gb_cluster.specs.NodeValue.{GroupAt, NodeValue}
-use Rattle.gb_cluster.specs.Project.{is_addr, project, gives, frames, frame_at, items_of, items_in, items_at, took}
+use Rattle.gb_cluster.specs.Project.{is_addr, project, gives, frames, items_of, items_in, items_at, took}
 use Rattle.gb_cluster.specs.World.{World, Part, node_of, packed, node_packed, node_sent, only_answered, sent_part, world_after}
-use Rattle.gb_cluster.specs.Holds.{number_of, Stands, Fits, Links, BehavesAlone, Holds}
+use Rattle.gb_cluster.specs.Holds.{Stands, Fits, Links, BehavesAlone, Holds}
 use Rattle.gb_cluster.proofs.WorldLemmas.{after_there, after_elsewhere}
 use Rattle.gb_cluster.proofs.MoreLemmas.{items_of-append}
+use Rattle.gb_cluster.proofs.IdleLemmas.{idle_turn}
+use Rattle.gb_cluster.proofs.QuietLemmas.{quiet}
 use Rattle.gb_cluster.proofs.StopLemmas.{unmet}
 use Rattle.gb_cluster.proofs.Turns.{turned}
-use Rattle.gb_cluster.proofs.SendTurns.{GroupSends, sends_turn, only_sends}
+use Rattle.gb_cluster.proofs.SendTurns.{GroupSends, none_sent, sends_turn}
 use Rattle.gb_cluster.proofs.PacketLemmas.{packet_at-last, another_is}
 use Rattle.gb_cluster.proofs.SendLemmas.{Packs, packs_of}
 use Rattle.gb_cluster.proofs.PackGroups.{pack_mine, pack_other}
-use Rattle.gb_cluster.proofs.PackLinks.{pack_step, packs_send, frames_there, frames_elsewhere, pack_sends}
+use Rattle.gb_cluster.proofs.PackLinks.{pack_step, frames_there, frames_elsewhere, pack_sends}
 
 -- the group
 module _ (g : Addr) (w : World) (a b : NodeId) (p : Packet) (hosted : GroupAt) (x : Entry) (rest : List Entry) (in_a : a.number < length w.nodes) (links : Links w) (packs : Packs w a b p hosted x rest) (group : Group) (fits : Fits g w group)
@@ -91,17 +92,8 @@ module _ (g : Addr) (w : World) (a b : NodeId) (p : Packet) (hosted : GroupAt) (
       one : is_addr g hosted.addr ≡ true → items_at g (Some item) ≡ x ∷ []
       one own = ap (λ (c : Bool). if c then x ∷ [] else []) own
   pack_group false foreign =
-      subst (λ k. GroupSends g w a.number u s (p ∷ []) group (alone_from (length w.nodes) g.group group (took a b k)) (took a b k)) (sym (ap length (none foreign))) (record {
-        legal = tt;
-        others = λ y other. refl;
-        stands = pack_other (length w.nodes) g a.number b.number v u hosted (group a.number) carried later refl refl packs.group foreign (λ c. same c (cases_eq c b.number)) (fits.stands a.number in_a);
-        replies = refl;
-        spec = refl;
-        noticed = refl;
-        stopped = refl;
-        come = refl;
-        done = refl;
-      })
+      subst (λ k. GroupSends g w a.number u s (p ∷ []) group (alone_from (length w.nodes) g.group group (took a b k)) (took a b k)) (sym (ap length (none foreign)))
+      (none_sent g w a.number u s (p ∷ []) group (pack_other (length w.nodes) g a.number b.number v u hosted (group a.number) carried later refl refl packs.group foreign (λ c. same c (cases_eq c b.number)) (fits.stands a.number in_a)))
     where
       none : is_addr g hosted.addr ≡ false → items_at g (Some item) ≡ []
       none foreign = ap (λ (c : Bool). if c then x ∷ [] else []) foreign
@@ -130,17 +122,6 @@ pack_turn w a b p ps in_a holds runs is =
             subst (λ (given : List GroupStep). GroupSends g w a.number (node_sent b (p ∷ ps) (node_of w a.number)) (pack_step w a b) (p ∷ []) group (alone_from nodes g.group group given) given)
             (sym (given_is g w a b p hosted x rest in_a holds.links packs group before.fits runs)) (pack_group g w a b p hosted x rest in_a holds.links packs group before.fits runs (is_addr g hosted.addr) refl)
 
-pack_idle : (w : World) (a b : NodeId) (sent : Sent) → a.number < length w.nodes → ((ps : List Packet) (x y : ℕ) → frame_at x y ps (Pack a b) (Gave sent) ≡ []) → number_of (Pack a b) (Gave sent) ≡ 0 → ((g : Addr) (ps : List Packet) → gives g ps w.steps (Pack a b) (Gave sent) ≡ [])
-    → Holds w → Holds (turned w a.number (node_of w a.number) (record { event = Pack a b; answer = Gave sent }) [])
-pack_idle w a b sent in_a frame number given holds = only_sends w a.number (Pack a b) (only_answered (node_of w a.number) (Gave sent)) in_a (record {
-  value = refl;
-  step = packs_send a b sent;
-  number = number;
-  frame = λ x y ps. frame ps x y;
-  given = given;
-  framed = λ k p at. absurd (cc);
-}) holds
-
 -- whatever is packed
 pub any_pack : (w : World) (a b : NodeId) → a.number < length w.nodes → Holds w → Holds (world_after w (Pack a b))
 any_pack w a b in_a holds = go (node_of w a.number).stopped refl (node_packed (length w.nodes) a b (node_of w a.number)) refl
@@ -150,6 +131,6 @@ any_pack w a b in_a holds = go (node_of w a.number).stopped refl (node_packed (l
 
     go : (stopped : Bool) → (node_of w a.number).stopped ≡ stopped → (ps : List Packet) → node_packed (length w.nodes) a b (node_of w a.number) ≡ ps
         → Holds (turned w a.number (part stopped ps).value (record { event = Pack a b; answer = (part stopped ps).answer }) (part stopped ps).sent)
-    go true is ps packed = pack_idle w a b (Unsent Stopped) in_a (λ ps x y. refl) refl (λ g ps. refl) holds
-    go false is [] packed = pack_idle w a b Nothing in_a (λ ps x y. refl) refl (λ g ps. refl) holds
+    go true is ps packed = idle_turn w a.number (Pack a b) (Gave (Unsent Stopped)) in_a (quiet refl) holds
+    go false is [] packed = idle_turn w a.number (Pack a b) (Gave Nothing) in_a (quiet refl) holds
     go false is (p ∷ ps) packed = pack_turn w a b p ps in_a holds is packed

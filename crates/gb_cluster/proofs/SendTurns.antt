@@ -1,5 +1,5 @@
 -- A step in which a node sends to another: nothing is taken, and no request is asked.
-use Rattle.std.proofs.Common.{◌≡◌, ◌≢◌, ℕ, arith, ◌<◌, ◌≤◌, List, [], ◌∷◌, ◌++◌, length, Some, None, Bool, true, false, ◌||◌, ◌&&◌, ◌⊎◌, inl, inr, refl, sym, ◌∙◌, ap, subst, get_or}
+use Rattle.std.proofs.Common.{◌≡◌, ◌≢◌, ℕ, arith, ◌<◌, ◌≤◌, List, [], ◌∷◌, ◌++◌, length, Some, None, false, ◌&&◌, ◌⊎◌, inl, inr, refl, sym, ◌∙◌, ap, subst, get_or}
 use Rattle.std.specs.Prelude.{slice_get, is_some}
 use Rattle.std.specs.FinSet as fin
 use Rattle.std.proofs.lemmas.Bool.{cases_eq, true≢false}
@@ -17,6 +17,7 @@ use Rattle.gb_cluster.specs.NodeValue.{NodeValue}
 use Rattle.gb_cluster.specs.Project.{project, gives, has_row, is_taken_in, frames, frame_at, items_of, is_taken, is_taken_by, is_acked, is_acked_by, is_noticed, is_noticed_by, is_stopped, is_stopped_by, is_met, is_met_by, made_at, made_by, or_else, watched, watched_by, reply_in, replies_to}
 use Rattle.gb_cluster.specs.World.{World, Part, node_of, reserve_for, sender_to}
 use Rattle.gb_cluster.specs.Holds.{number_of, Stands, AreMarked, is_concerned, Fits, NodeIs, IsFramed, IsLink, Links, BehavesAlone, Holds, window_of}
+use Rattle.gb_cluster.proofs.MarkLemmas.{or_off}
 use Rattle.gb_cluster.proofs.NodeLemmas.{same_carried}
 use Rattle.gb_cluster.proofs.Turns.{turned, ActsAt, GroupTurn, framed_stays, frames_turned, taken_turned, acked_turned, watched_turned, quiet_link, links_turn, same_marks, holds_turn}
 
@@ -58,16 +59,16 @@ pub record GroupSends (g : Addr) (w : World) (a : ℕ) (v : NodeValue) (s : Step
   pub come : (next a).come ≡ (group a).come
   pub done : (next a).done ≡ (group a).done
 
-or_false : (b c : Bool) → b ≡ false → (b || c) ≡ c
-or_false true c is = absurd (cc)
-or_false false c is = refl
+-- where the step carries nothing of the group, it goes on as it was
+pub none_sent : (g : Addr) (w : World) (a : ℕ) (v : NodeValue) (s : Step) (more : List Packet) (group : Group) → Stands (length w.nodes) g a v (group a) (λ b. items_of g (frames a b (w.packets ++ more) (s ∷ w.steps))) → GroupSends g w a v s more group group []
+none_sent g w a v s more group stands = record { legal = tt; others = λ x other. refl; stands = stands; replies = refl; spec = refl; noticed = refl; stopped = refl; come = refl; done = refl }
 
 module _ (w : World) (a : ℕ) (v : NodeValue) (s : Step) (more : List Packet) (in_a : a < length w.nodes) (sends : Sends w a v s more) (links : Links w) where
   taken_still : (x y n : ℕ) → is_taken x y n (w.packets ++ more) (s ∷ w.steps) ≡ is_taken x y n w.packets w.steps
-  taken_still x y n = taken_turned w s more links.numbered x y n ∙ or_false _ _ (sends.step.taken (w.packets ++ more) x y n)
+  taken_still x y n = taken_turned w s more links.numbered x y n ∙ or_off _ _ (sends.step.taken (w.packets ++ more) x y n)
 
   acked_still : (x y n : ℕ) → is_acked x y n (w.packets ++ more) (s ∷ w.steps) ≡ is_acked x y n w.packets w.steps
-  acked_still x y n = acked_turned w s more links.numbered x y n ∙ or_false _ _ (sends.step.acked (w.packets ++ more) x y n)
+  acked_still x y n = acked_turned w s more links.numbered x y n ∙ or_off _ _ (sends.step.acked (w.packets ++ more) x y n)
 
   sends_acts : ActsAt w a s more
   sends_acts = record {
@@ -91,10 +92,10 @@ module _ (w : World) (a : ℕ) (v : NodeValue) (s : Step) (more : List Packet) (
   sends_node =
       let was = links.node a in_a in
       record {
-        rows = λ tenant. or_false _ _ (sends.step.row a tenant) ∙ (was.rows tenant ∙ ap (λ row. is_some (reserve_for tenant row)) (sym sends.row));
-        stopped = sends.stopped ∙ (was.stopped ∙ sym (or_false _ _ (sends.step.stopped a)));
+        rows = λ tenant. or_off _ _ (sends.step.row a tenant) ∙ (was.rows tenant ∙ ap (λ row. is_some (reserve_for tenant row)) (sym sends.row));
+        stopped = sends.stopped ∙ (was.stopped ∙ sym (or_off _ _ (sends.step.stopped a)));
         watch = sends.watch ∙ (was.watch ∙ ap (replay (start a (length w.nodes) w.silence)) (sym (watched_turned w s more links.numbered a ∙ ap (λ (cs : List Call). cs ++ watched a w.packets w.steps) (sends.step.watched (w.packets ++ more) a))));
-        noticed = λ b. ap (λ (d : Watch). fin.contains d.noticed b) sends.watch ∙ (was.noticed b ∙ sym (or_false _ _ (sends.step.noticed a b)));
+        noticed = λ b. ap (λ (d : Watch). fin.contains d.noticed b) sends.watch ∙ (was.noticed b ∙ sym (or_off _ _ (sends.step.noticed a b)));
         senders = sends.senders ∙ was.senders;
         receivers = ap length sends.receivers ∙ was.receivers;
         sender = λ b in_b. sends.sender b in_b ∙ (λ i. window_of (λ n. sym (acked_still a b n) i) (frames a b (w.packets ++ more) (s ∷ w.steps)));
@@ -119,8 +120,8 @@ module _ (w : World) (a : ℕ) (v : NodeValue) (s : Step) (more : List Packet) (
         member = record {
           replies = turn.replies ∙ (was.replies ∙ (sym (append-nil (replies_to g a w.steps)) ∙ ap (λ rs. replies_to g a w.steps ++ rs) (sym (sends.step.reply g a w.steps))));
           spec = turn.spec ∙ (was.spec ∙ sym made);
-          noticed = λ b. ap (is_marked b) turn.noticed ∙ (was.noticed b ∙ (λ i. is_concerned a b (sym made i) && sym (or_false _ (is_noticed a b w.steps) (sends.step.noticed a b)) i));
-          stopped = turn.stopped ∙ (was.stopped ∙ sym (or_false _ _ (sends.step.met g a w.steps)));
+          noticed = λ b. ap (is_marked b) turn.noticed ∙ (was.noticed b ∙ (λ i. is_concerned a b (sym made i) && sym (or_off _ (is_noticed a b w.steps) (sends.step.noticed a b)) i));
+          stopped = turn.stopped ∙ (was.stopped ∙ sym (or_off _ _ (sends.step.met g a w.steps)));
         };
         come = λ x in_x. subst (λ (marks : ℕ → List ℕ). AreMarked g (frames x a w.packets w.steps) (λ n. is_taken x a n (w.packets ++ more) (s ∷ w.steps)) (marks x)) (sym turn.come)
             (same_marks g (frames x a w.packets w.steps) (λ n. is_taken x a n w.packets w.steps) (λ n. is_taken x a n (w.packets ++ more) (s ∷ w.steps)) ((group a).come x) (λ n. sym (taken_still x a n)) (fits.come x a in_x in_a));
@@ -164,18 +165,9 @@ only_sends w a e part in_a sends holds = subst (λ (v : NodeValue). Holds (turne
   link = λ b in_b. quiet_link w s part.sent a b holds.links.numbered (sends.frame a b (w.packets ++ part.sent)) (λ n. sends.step.taken (w.packets ++ part.sent) a b n) (λ n. sends.step.acked (w.packets ++ part.sent) a b n) (holds.links.link a b in_a in_b);
   framed = λ k p at. framed_stays w a (node_of w a) s part.sent p holds.links.numbered (sends.framed k p at);
 }) (λ g before. subst (λ (given : List GroupStep). GroupSends g w a (node_of w a) s part.sent (alone (length w.nodes) g.group (project g w.packets w.steps)) (alone_from (length w.nodes) g.group (alone (length w.nodes) g.group (project g w.packets w.steps)) given) given)
-    (sym (sends.given g (w.packets ++ part.sent))) (record {
-      legal = tt;
-      others = λ x other. refl;
-      stands = same_carried (length w.nodes) g a (node_of w a) (alone (length w.nodes) g.group (project g w.packets w.steps) a) (λ b. items_of g (frames a b w.packets w.steps)) (λ b. items_of g (frames a b (w.packets ++ part.sent) (s ∷ w.steps)))
-          (λ b. ap (items_of g) (sym (same b))) (before.fits.stands a in_a);
-      replies = refl;
-      spec = refl;
-      noticed = refl;
-      stopped = refl;
-      come = refl;
-      done = refl;
-    })))
+    (sym (sends.given g (w.packets ++ part.sent))) (none_sent g w a (node_of w a) s part.sent (alone (length w.nodes) g.group (project g w.packets w.steps))
+    (same_carried (length w.nodes) g a (node_of w a) (alone (length w.nodes) g.group (project g w.packets w.steps) a) (λ b. items_of g (frames a b w.packets w.steps)) (λ b. items_of g (frames a b (w.packets ++ part.sent) (s ∷ w.steps)))
+    (λ b. ap (items_of g) (sym (same b))) (before.fits.stands a in_a)))))
   where
     s : Step
     s = record { event = e; answer = part.answer }

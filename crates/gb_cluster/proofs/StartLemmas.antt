@@ -1,8 +1,9 @@
 -- A cluster at its start, and events for which a node lacked memory.
-use Rattle.std.proofs.Common.{◌≡◌, ℕ, ◌<◌, ◌≤◌, List, [], length, None, Bool, true, false, ◌&&◌, refl, ◌∙◌, ap, arith}
+use Rattle.std.proofs.Common.{◌≡◌, ℕ, ◌<◌, ◌≤◌, List, [], length, None, Bool, true, false, refl, ◌∙◌, ap, arith}
 use Rattle.std.specs.Prelude.{if◌then◌else◌, nat_eq}
 use Rattle.std.specs.Ordering.{nat_cmp}
 use Rattle.std.specs.FinSet as fin
+use Rattle.std.proofs.lemmas.Bool.{and_right}
 use Rattle.std.proofs.lemmas.List.{get_or-replicate, length-replicate}
 use Rattle.std.proofs.lemmas.List.FromFn.{get_or-map-range_with_len, length-map-range_with_len}
 use Rattle.gb_types.specs.declared.address.Addr.{Addr}
@@ -23,18 +24,12 @@ use Rattle.gb_cluster.specs.Headline.{IsPlaced, starved_answer}
 use Rattle.gb_cluster.specs.Project.{project, frames, items_of, is_taken, is_acked, is_noticed, made_at, watched, replies_to, asked, requested, command_for, has_row, is_met, is_met_by, is_named, is_own, is_stopped, is_taken_in, made_by, reply_in, with_stop}
 use Rattle.gb_cluster.specs.World.{World, node_of, new_node, new_world, with_step}
 use Rattle.gb_cluster.specs.Holds.{NodeIs, IsLink, Holds, undone_of}
+use Rattle.gb_cluster.proofs.AskLemmas.{if_same}
 use Rattle.gb_cluster.proofs.IdleLemmas.{IsQuiet, idle_holds}
+use Rattle.gb_cluster.proofs.QuietLemmas.{quiet}
 use Rattle.gb_cluster.proofs.WorldLemmas.{eqb_apart_back}
 
 -- Events for which a node lacked memory.
-
-if_same : {X : Type 0} (b : Bool) (x : X) → (if b then x else x) ≡ x
-if_same true x = refl
-if_same false x = refl
-
-and_false : (b : Bool) → (b && false) ≡ false
-and_false true = refl
-and_false false = refl
 
 starved_row : (x tenant : ℕ) (a : NodeId) (request : Request) → is_taken_in x tenant (At a request) (Replied (Refused OutOfMemory)) ≡ false
 starved_row x tenant a (AddTenant token row) = refl
@@ -84,10 +79,10 @@ starved_given g steps a request foreign =
 
 -- where the request does not name the group
 silent : (g : Addr) (x : ℕ) (steps : List Step) (a : NodeId) (request : Request) → is_named g request ≡ false → reply_in g x steps (At a request) (Replied (Refused OutOfMemory)) ≡ []
-silent g x steps a request foreign = rw foreign (rw (and_false (has_row x g.tenant steps)) (rw (and_false (nat_eq a.number x)) refl))
+silent g x steps a request foreign = rw foreign (rw (and_right (has_row x g.tenant steps) false refl) (rw (and_right (nat_eq a.number x) false refl) refl))
 
 unmet_by : (g : Addr) (x : ℕ) (steps : List Step) (a : NodeId) (request : Request) → is_named g request ≡ false → is_met_by g x steps (At a request) ≡ false
-unmet_by g x steps a request foreign = rw foreign (and_false (nat_eq a.number x))
+unmet_by g x steps a request foreign = rw foreign (and_right (nat_eq a.number x) false refl)
 
 starved_request : (w : World) (a : NodeId) (request : Request) → IsQuiet w a.number (At a request) (Replied (Refused OutOfMemory))
 starved_request w a request = record {
@@ -112,90 +107,12 @@ starved_request w a request = record {
 -- a cluster keeps what it holds through every event for which a node lacked memory
 pub starved_holds : (w : World) (e : Event) → IsPlaced (length w.nodes) e → Holds w → Holds (with_step e (starved_answer e) w)
 starved_holds w (At a request) placed holds = idle_holds w a.number (At a request) (starved_answer (At a request)) placed (starved_request w a request) holds
-starved_holds w (Pack a b) placed holds = idle_holds w a.number (Pack a b) (starved_answer (Pack a b)) placed (record {
-  frame = λ x y. refl;
-  taken = λ x y n. refl;
-  acked = λ x y n. refl;
-  row = λ x tenant. refl;
-  made = λ g x. refl;
-  noticed = λ x b. refl;
-  stopped = λ x. refl;
-  watched = λ x. refl;
-  number = omega arith;
-  reply = λ g x other. refl;
-  met = λ g x other. refl;
-  free = λ g room. record { reply = λ x. refl; met = λ x. refl; given = refl };
-}) holds
-starved_holds w (Again a b n) placed holds = idle_holds w a.number (Again a b n) (starved_answer (Again a b n)) placed (record {
-  frame = λ x y. refl;
-  taken = λ x y n. refl;
-  acked = λ x y n. refl;
-  row = λ x tenant. refl;
-  made = λ g x. refl;
-  noticed = λ x b. refl;
-  stopped = λ x. refl;
-  watched = λ x. refl;
-  number = omega arith;
-  reply = λ g x other. refl;
-  met = λ g x other. refl;
-  free = λ g room. record { reply = λ x. refl; met = λ x. refl; given = refl };
-}) holds
-starved_holds w (Ack a b) placed holds = idle_holds w a.number (Ack a b) (starved_answer (Ack a b)) placed (record {
-  frame = λ x y. refl;
-  taken = λ x y n. refl;
-  acked = λ x y n. refl;
-  row = λ x tenant. refl;
-  made = λ g x. refl;
-  noticed = λ x b. refl;
-  stopped = λ x. refl;
-  watched = λ x. refl;
-  number = omega arith;
-  reply = λ g x other. refl;
-  met = λ g x other. refl;
-  free = λ g room. record { reply = λ x. refl; met = λ x. refl; given = refl };
-}) holds
-starved_holds w (Arrive k) placed holds = idle_holds w 0 (Arrive k) (starved_answer (Arrive k)) holds.links.some (record {
-  frame = λ x y. refl;
-  taken = λ x y n. refl;
-  acked = λ x y n. refl;
-  row = λ x tenant. refl;
-  made = λ g x. refl;
-  noticed = λ x b. refl;
-  stopped = λ x. refl;
-  watched = λ x. refl;
-  number = omega arith;
-  reply = λ g x other. refl;
-  met = λ g x other. refl;
-  free = λ g room. record { reply = λ x. refl; met = λ x. refl; given = refl };
-}) holds
-starved_holds w (Tick a) placed holds = idle_holds w a.number (Tick a) (starved_answer (Tick a)) placed (record {
-  frame = λ x y. refl;
-  taken = λ x y n. refl;
-  acked = λ x y n. refl;
-  row = λ x tenant. refl;
-  made = λ g x. refl;
-  noticed = λ x b. refl;
-  stopped = λ x. refl;
-  watched = λ x. refl;
-  number = omega arith;
-  reply = λ g x other. refl;
-  met = λ g x other. refl;
-  free = λ g room. record { reply = λ x. refl; met = λ x. refl; given = refl };
-}) holds
-starved_holds w (Stop a) placed holds = idle_holds w a.number (Stop a) (starved_answer (Stop a)) placed (record {
-  frame = λ x y. refl;
-  taken = λ x y n. refl;
-  acked = λ x y n. refl;
-  row = λ x tenant. refl;
-  made = λ g x. refl;
-  noticed = λ x b. refl;
-  stopped = λ x. refl;
-  watched = λ x. refl;
-  number = omega arith;
-  reply = λ g x other. refl;
-  met = λ g x other. refl;
-  free = λ g room. record { reply = λ x. refl; met = λ x. refl; given = refl };
-}) holds
+starved_holds w (Pack a b) placed holds = idle_holds w a.number (Pack a b) (starved_answer (Pack a b)) placed (quiet refl) holds
+starved_holds w (Again a b n) placed holds = idle_holds w a.number (Again a b n) (starved_answer (Again a b n)) placed (quiet refl) holds
+starved_holds w (Ack a b) placed holds = idle_holds w a.number (Ack a b) (starved_answer (Ack a b)) placed (quiet refl) holds
+starved_holds w (Arrive k) placed holds = idle_holds w 0 (Arrive k) (starved_answer (Arrive k)) holds.links.some (quiet refl) holds
+starved_holds w (Tick a) placed holds = idle_holds w a.number (Tick a) (starved_answer (Tick a)) placed (quiet refl) holds
+starved_holds w (Stop a) placed holds = idle_holds w a.number (Stop a) (starved_answer (Stop a)) placed (quiet refl) holds
 
 -- At first.
 

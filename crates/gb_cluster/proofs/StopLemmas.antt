@@ -1,6 +1,7 @@
 -- A command of a group meets the stop of a node that has stopped.
 use Rattle.std.proofs.Common.{◌≡◌, ℕ, List, [], ◌∷◌, Bool, true, false, ◌||◌, ◌&&◌, ◌⊎◌, inl, inr, refl, ◌∙◌, ap}
 use Rattle.std.specs.Prelude.{nat_eq}
+use Rattle.std.proofs.lemmas.Bool.{or_cases, or_right}
 use Rattle.gb_types.specs.declared.address.Addr.{Addr}
 use Rattle.gb_cluster.specs.declared.event.Event.{Event}
 use Rattle.gb_cluster.specs.declared.event.Event.TheVariants.{At}
@@ -17,18 +18,10 @@ met_now : (g : Addr) (a : ℕ) (steps : List Step) (e : Event) → is_met_by g a
 met_now g a steps (At x request) is = last_holds (nat_eq x.number a) (is_named g request) (has_row a g.tenant steps) (is_stopped a steps) is
 met_now g a steps e is = absurd (cc)
 
-or_cases : (b c : Bool) → (b || c) ≡ true → (b ≡ true) ⊎ (c ≡ true)
-or_cases true c is = inl refl
-or_cases false c is = inr is
-
-or_true : (b : Bool) → (b || true) ≡ true
-or_true true = refl
-or_true false = refl
-
 pub met_stopped : (g : Addr) (a : ℕ) (steps : List Step) → is_met g a steps ≡ true → is_stopped a steps ≡ true
 unfolding is_met is_stopped
 met_stopped g a [] is = absurd (cc)
-met_stopped g a (s ∷ steps) is = ap (λ b. is_stopped_by a s.event s.answer || b) (by (or_cases (is_met_by g a steps s.event) (is_met g a steps) is) (met_stopped g a steps)) ∙ or_true (is_stopped_by a s.event s.answer)
+met_stopped g a (s ∷ steps) is = ap (λ b. is_stopped_by a s.event s.answer || b) (by (or_cases (is_met_by g a steps s.event) (is_met g a steps) is) (met_stopped g a steps)) ∙ or_right (is_stopped_by a s.event s.answer) true refl
   where
     by : ((is_met_by g a steps s.event ≡ true) ⊎ (is_met g a steps ≡ true)) → (is_met g a steps ≡ true → is_stopped a steps ≡ true) → is_stopped a steps ≡ true
     by (inl now) before = met_now g a steps s.event now

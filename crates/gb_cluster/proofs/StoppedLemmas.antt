@@ -1,7 +1,7 @@
 -- What a request at a node that has stopped does to each group there: the first command of a group meets the stop.
 use Rattle.std.proofs.Common.{◌≡◌, ℕ, List, [], ◌∷◌, ◌++◌, None, Bool, true, false, ◌&&◌, ◌||◌, ◌⊎◌, inl, inr, refl, sym, ◌∙◌, ap, subst}
 use Rattle.std.specs.Prelude.{if◌then◌else◌, nat_eq}
-use Rattle.std.proofs.lemmas.Bool.{cases_Bool}
+use Rattle.std.proofs.lemmas.Bool.{cases_Bool, and_right}
 use Rattle.gb_types.specs.declared.address.Addr.{Addr}
 use Rattle.gb_types.specs.declared.entry.Entry.{Entry}
 use Rattle.gb_types.specs.declared.node.NodeId.{NodeId}
@@ -20,7 +20,7 @@ use Rattle.gb_cluster.specs.Alone.{Member, Group, after, alone_from, commanded, 
 use Rattle.gb_cluster.specs.NodeValue.{NodeValue}
 use Rattle.gb_cluster.specs.Project.{has_row, is_stopped, is_met, is_met_by, is_named, made_by, command_for, with_stop, asked}
 use Rattle.gb_cluster.specs.World.{node_did}
-use Rattle.gb_cluster.proofs.AskLemmas.{Before, After, quiet, member_asked, silent_unnamed, silent_absent, told_one, and_off}
+use Rattle.gb_cluster.proofs.AskLemmas.{Before, After, quiet, member_asked, silent_unnamed, silent_absent, told_one}
 use Rattle.gb_cluster.proofs.NodeLemmas.{same_stands}
 use Rattle.gb_cluster.proofs.WorldLemmas.{eqb_self, after_there, after_elsewhere}
 
@@ -152,5 +152,5 @@ at_stopped nodes g a v group carried steps request stopped before = go (cases_Bo
     go : ((has_row a.number g.tenant steps ≡ true) ⊎ (has_row a.number g.tenant steps ≡ false)) → ((is_named g request ≡ true) ⊎ (is_named g request ≡ false)) → After nodes g a v group carried steps request refused given
     go (inr absent) named = quiet nodes g a v group carried steps request refused given v before (form false absent) (silent_absent g a steps request refused absent) (unmade g a request) (none_met (ap (λ b. b && is_named g request) absent)) before.stands
     go (inl row) (inr unnamed) = quiet nodes g a v group carried steps request refused given v before (form true row ∙ ap (with_stop a (is_met g a.number steps)) (command_unnamed g a request unnamed)) (silent_unnamed g a steps request refused unnamed) (unmade g a request)
-        (none_met (ap (λ b. has_row a.number g.tenant steps && b) unnamed ∙ and_off (has_row a.number g.tenant steps))) before.stands
+        (none_met (ap (λ b. has_row a.number g.tenant steps && b) unnamed ∙ and_right (has_row a.number g.tenant steps) false refl)) before.stands
     go (inl row) (inl named) = refused_after nodes g a v group carried steps request given (command_named g a request named) before stopped row named (form true row) (is_met g a.number steps) refl

@@ -1,7 +1,7 @@
 -- A packet is taken: what it does to a group.
 use Rattle.std.proofs.Common.{◌≡◌, ℕ, ◌+◌, ◌-◌, ◌<◌, ◌≤◌, List, [], ◌∷◌, ◌++◌, length, fold, Option, Some, None, Bool, true, false, not, ◌&&◌, ◌||◌, ◌⊎◌, inl, inr, refl, sym, ◌∙◌, ap, subst, arith}
 use Rattle.std.specs.Prelude.{nat_eq, slice_get, if◌then◌else◌}
-use Rattle.std.proofs.lemmas.Bool.{cases_Bool, cases_eq}
+use Rattle.std.proofs.lemmas.Bool.{cases_Bool, cases_eq, or_right}
 use Rattle.std.proofs.lemmas.Bool.Decides.{nat_tests}
 use Rattle.std.proofs.lemmas.List.{append-nil}
 use Rattle.std.proofs.lemmas.List.Sums.{fold-append}
@@ -160,11 +160,7 @@ module _ (w : World) (k : ℕ) (p : Packet) (good : Good) (is : IsGood w k p) (l
       where
         by : (n : ℕ) → ((p.frame ≡ n) ⊎ (p.frame ≡ n → ⊥)) → (nat_eq p.frame n || is_taken p.from.number p.to.number n w.packets w.steps) ≡ is_taken p.from.number p.to.number n w.packets w.steps
         by n (inl here) = let there : is_taken p.from.number p.to.number n w.packets w.steps ≡ true = subst (λ m. is_taken p.from.number p.to.number m w.packets w.steps ≡ true) here taken in
-            ap (λ b. nat_eq p.frame n || b) there ∙ (last (nat_eq p.frame n) ∙ sym there)
-          where
-            last : (b : Bool) → (b || true) ≡ true
-            last true = refl
-            last false = refl
+            ap (λ b. nat_eq p.frame n || b) there ∙ (or_right (nat_eq p.frame n) true refl ∙ sym there)
         by n (inr other) = let off : nat_eq p.frame n ≡ false = grind (arith, nat_tests, other) in rw off refl
 
     -- a frame without an item of the group comes for the first time

@@ -2,7 +2,7 @@
 use Rattle.std.proofs.Common.{◌≡◌, ℕ, ◌+◌, ◌<◌, ◌≤◌, length, fold, Bool, true, false, ◌||◌, ◌⊎◌, inl, inr, refl, sym, ◌∙◌, ap, arith}
 use Rattle.std.specs.Prelude.{nat_eq, nat_lt, nat_le, if◌then◌else◌}
 use Rattle.std.specs.FinSet as fin
-use Rattle.std.proofs.lemmas.Bool.{cases_Bool, cases_eq, cases_lt}
+use Rattle.std.proofs.lemmas.Bool.{cases_Bool, cases_eq, cases_lt, or_right, false_from_ne_true}
 use Rattle.std.proofs.lemmas.Bool.Decides.{nat_tests}
 use Rattle.std.proofs.Math.ListN.{set}
 use Rattle.gb_types.specs.declared.limits.TheConstants.{LAST_FRAME}
@@ -16,10 +16,6 @@ use Rattle.gb_cluster.specs.NodeValue.{NodeValue}
 use Rattle.gb_cluster.specs.Project.{frames, is_taken, is_acked}
 use Rattle.gb_cluster.specs.World.{World, node_of, sender_to, receiver_from, newly_done, without_done, item_done, group_came, admission_of, took_ack, node_took}
 use Rattle.gb_cluster.specs.Holds.{IsLink, Links}
-
-not_true : (b : Bool) → (b ≡ true → ⊥) → b ≡ false
-not_true true none = absurd (none refl)
-not_true false none = refl
 
 -- a frame that was sent is within the window of the receiver: it was taken before, or comes for the first time
 pub sent_frames_are_inside : (w : World) (a b n : ℕ) → a < length w.nodes → b < length w.nodes → Links w → 1 ≤ n → n ≤ length (frames a b w.packets w.steps)
@@ -37,7 +33,7 @@ sent_frames_are_inside w a b n in_a in_b links some sent = ap (λ c. if c then S
 
     -- what is missing was not acknowledged
     unacked : is_acked a b (base_of r) w.packets w.steps ≡ false
-    unacked = not_true (is_acked a b (base_of r) w.packets w.steps) (λ is.
+    unacked = false_from_ne_true (is_acked a b (base_of r) w.packets w.steps) (λ is.
         let here = link.acked (base_of r) (base_of_from r) is in
         let lacks = base_of_lacks r in
         let same = received (base_of r) (base_of_from r) in cc)
@@ -74,11 +70,7 @@ pub received_now : (r : Received) (n m : ℕ) (was : Bool) → fin.contains r n 
 received_now r n m true there is = ap (λ x. fin.contains (taken r n x) m) is ∙ by (cases_eq n m)
   where
     by : ((n ≡ m) ⊎ (n ≡ m → ⊥)) → fin.contains r m ≡ (nat_eq n m || fin.contains r m)
-    by (inl same) = let here : fin.contains r m ≡ true = ap (fin.contains r) (sym same) ∙ there in rw here (last (nat_eq n m))
-      where
-        last : (b : Bool) → true ≡ (b || true)
-        last true = refl
-        last false = refl
+    by (inl same) = let here : fin.contains r m ≡ true = ap (fin.contains r) (sym same) ∙ there in rw here (sym (or_right (nat_eq n m) true refl))
     by (inr other) = let apart : nat_eq n m ≡ false = grind (arith, nat_tests) in rw apart refl
 received_now r n m false there is = ap (λ x. fin.contains (taken r n x) m) is ∙ contains-inserted r n m
 

@@ -2,7 +2,7 @@
 use Rattle.std.proofs.Common.{◌≡◌, ◌≢◌, ℕ, ◌+◌, ◌-◌, ◌<◌, ◌≤◌, List, [], ◌∷◌, ◌++◌, length, Bool, true, false, ◌&&◌, ◌||◌, ◌⊎◌, inl, inr, refl, sym, ◌∙◌, ap, subst, arith, get_or}
 use Rattle.std.specs.Prelude.{nat_eq, slice_get}
 use Rattle.std.specs.FinSet as fin
-use Rattle.std.proofs.lemmas.Bool.{cases_eq}
+use Rattle.std.proofs.lemmas.Bool.{cases_eq, and_right, or_cases, or_parts, or_right}
 use Rattle.std.proofs.lemmas.Bool.Decides.{nat_tests}
 use Rattle.std.proofs.lemmas.List.{append-nil, get_or-set_same, get_or-set_other}
 use Rattle.std.proofs.Math.ListN.{set, length-set}
@@ -24,7 +24,7 @@ use Rattle.gb_cluster.specs.Project.{has_row, packet_at, frames, is_frame, is_ta
 use Rattle.gb_cluster.specs.World.{World, node_of, sender_to, receiver_from, without_done, admission_of, node_took}
 use Rattle.gb_cluster.specs.Holds.{NodeIs, IsOfFrame, IsFramed, IsLink, Links, window_of}
 use Rattle.gb_cluster.proofs.AckLemmas.{undone_without}
-use Rattle.gb_cluster.proofs.MarkLemmas.{slice_get-within, or_at, or_off}
+use Rattle.gb_cluster.proofs.MarkLemmas.{slice_get-within, or_off}
 use Rattle.gb_cluster.proofs.TakenLemmas.{sent_frames_are_inside, received_now, IsTook, node_took-is}
 use Rattle.gb_cluster.proofs.Turns.{turned, ActsAt, frames_turned, taken_turned, acked_turned, watched_turned, links_turn}
 use Rattle.gb_cluster.proofs.WorldLemmas.{eqb_self, eqb_apart_back}
@@ -92,8 +92,8 @@ module _ (w : World) (k : ℕ) (p : Packet) (good : Good) (is : IsGood w k p) (l
   good_acts = record {
     number = is.number;
     frame = λ x y other. refl;
-    taken = λ x y n other. ap (is_frame x y n) is.packet ∙ rw (eqb_apart_back y p.to.number other) (off (nat_eq p.from.number x));
-    acked = λ x y n other. ap (is_ack x y n) is.packet ∙ rw (eqb_apart_back x p.to.number other) (off (nat_eq p.from.number y));
+    taken = λ x y n other. ap (is_frame x y n) is.packet ∙ rw (eqb_apart_back y p.to.number other) (and_right (nat_eq p.from.number x) false refl);
+    acked = λ x y n other. ap (is_ack x y n) is.packet ∙ rw (eqb_apart_back x p.to.number other) (and_right (nat_eq p.from.number y) false refl);
     row = λ x tenant other. refl;
     reply = λ g x other. refl;
     made = λ g x other. refl;
@@ -104,18 +104,14 @@ module _ (w : World) (k : ℕ) (p : Packet) (good : Good) (is : IsGood w k p) (l
     sent_taken = λ x y n in_x in_y now. taken_sent x y n (sym (ap (is_frame x y n) is.packet) ∙ now);
     sent_acked = λ x y n in_x in_y some now. (links.link x y in_x in_y).taken n (acked_taken x y n some (sym (ap (is_ack x y n) is.packet) ∙ now));
   }
-    where
-      off : (b : Bool) → (b && false) ≡ false
-      off true = refl
-      off false = refl
 
   good_link : (x y : ℕ) → x < length w.nodes → y < length w.nodes → IsLink (w.packets ++ []) (good_step k good ∷ w.steps) x y
   good_link x y in_x in_y = record {
     items = λ i f at. was.items i f (sym (ap (λ fs. slice_get fs i) (frames_now x y)) ∙ at);
     last = rw (frames_now x y) was.last;
-    taken = λ n now. rw (frames_now x y) (sent n (or_at (nat_eq p.from.number x && (nat_eq p.to.number y && nat_eq p.frame n)) (is_taken x y n w.packets w.steps) (sym (taken_now x y n) ∙ now)));
-    acked = λ n some now. taken_now x y n ∙ last (nat_eq p.from.number x && (nat_eq p.to.number y && nat_eq p.frame n)) (is_taken x y n w.packets w.steps) (took n some (or_at (nat_eq p.from.number y && (nat_eq p.to.number x && covers p.base p.mask n)) (is_acked x y n w.packets w.steps) (sym (acked_now x y n) ∙ now)));
-    window = λ n some within none. rw (frames_now x y) (was.window n some (rw (frames_now x y) at within) (second (nat_eq p.from.number y && (nat_eq p.to.number x && covers p.base p.mask n)) (is_acked x y n w.packets w.steps) (sym (acked_now x y n) ∙ none)));
+    taken = λ n now. rw (frames_now x y) (sent n (or_cases (nat_eq p.from.number x && (nat_eq p.to.number y && nat_eq p.frame n)) (is_taken x y n w.packets w.steps) (sym (taken_now x y n) ∙ now)));
+    acked = λ n some now. taken_now x y n ∙ or_right (nat_eq p.from.number x && (nat_eq p.to.number y && nat_eq p.frame n)) (is_taken x y n w.packets w.steps) (took n some (or_cases (nat_eq p.from.number y && (nat_eq p.to.number x && covers p.base p.mask n)) (is_acked x y n w.packets w.steps) (sym (acked_now x y n) ∙ now)));
+    window = λ n some within none. rw (frames_now x y) (was.window n some (rw (frames_now x y) at within) (or_parts (nat_eq p.from.number y && (nat_eq p.to.number x && covers p.base p.mask n)) (is_acked x y n w.packets w.steps) (sym (acked_now x y n) ∙ none)).1);
   }
     where
       was : IsLink w.packets w.steps x y
@@ -128,14 +124,6 @@ module _ (w : World) (k : ℕ) (p : Packet) (good : Good) (is : IsGood w k p) (l
       took : (n : ℕ) → 1 ≤ n → (((nat_eq p.from.number y && (nat_eq p.to.number x && covers p.base p.mask n)) ≡ true) ⊎ (is_acked x y n w.packets w.steps ≡ true)) → is_taken x y n w.packets w.steps ≡ true
       took n some (inl now) = acked_taken x y n some now
       took n some (inr before) = was.acked n some before
-
-      last : (b c : Bool) → c ≡ true → (b || c) ≡ true
-      last true c there = refl
-      last false c there = there
-
-      second : (b c : Bool) → (b || c) ≡ false → c ≡ false
-      second true c none = absurd (cc)
-      second false c none = none
 
   good_node : NodeIs (length w.nodes) w.silence (w.packets ++ []) (good_step k good ∷ w.steps) p.to.number (node_took p (node_of w p.to.number))
   unfolding has_row is_stopped is_noticed

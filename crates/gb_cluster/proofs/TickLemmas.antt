@@ -4,6 +4,7 @@ use Rattle.std.specs.Prelude.{if◌then◌else◌, nat_eq, nat_lt, nat_le, filte
 use Rattle.std.specs.List.{range_with_len}
 use Rattle.std.specs.Option.{option_map}
 use Rattle.std.specs.FinSet as fin
+use Rattle.std.proofs.lemmas.Bool.{and_parts, and_right}
 use Rattle.std.proofs.lemmas.Bool.Decides.{nat_tests}
 use Rattle.std.proofs.lemmas.List.{append-nil}
 use Rattle.gb_types.specs.Rising.{rising}
@@ -29,9 +30,11 @@ use Rattle.gb_cluster.specs.NodeValue.{NodeValue}
 use Rattle.gb_cluster.specs.Project.{project, ticked, has_row, frames, items_of, is_taken, is_acked, is_noticed, is_stopped, is_met, made_at, watched, replies_to}
 use Rattle.gb_cluster.specs.World.{World, Part, only_answered, node_of, slot_for, slot_noticed_all, node_ticked, world_after}
 use Rattle.gb_cluster.specs.Holds.{Stands, AreMarked, MemberIs, is_concerned, Fits, NodeIs, Links, Holds, window_of}
-use Rattle.gb_cluster.proofs.IdleLemmas.{IsQuiet, idle_turn}
+use Rattle.gb_cluster.proofs.IdleLemmas.{idle_turn}
+use Rattle.gb_cluster.proofs.QuietLemmas.{quiet}
+use Rattle.gb_cluster.proofs.MemberLemmas.{KeepsRest}
 use Rattle.gb_cluster.proofs.NodeLemmas.{same_carried}
-use Rattle.gb_cluster.proofs.NoticeLemmas.{all_noticed, notices_of, notices_there, notices_elsewhere, KeepsOthers, notices_keep, notices_legal, notices_mark, passing_marked, passing_rising}
+use Rattle.gb_cluster.proofs.NoticeLemmas.{all_noticed, notices_of, notices_there, notices_elsewhere, notices_keep, notices_legal, notices_mark, passing_marked, passing_rising}
 use Rattle.gb_cluster.proofs.SlotNotices.{SlotFits, fits-all, slot_for-noticed}
 use Rattle.gb_cluster.proofs.StopLemmas.{unmet}
 use Rattle.gb_cluster.proofs.Turns.{turned, ActsAt, GroupTurn, frames_turned, taken_turned, acked_turned, quiet_link, links_turn, same_marks, holds_turn}
@@ -165,25 +168,17 @@ tick_group g w a v group in_a here running links fits = record {
     held : NodeIs (length w.nodes) w.silence w.packets w.steps a.number v
     held = subst (NodeIs (length w.nodes) w.silence w.packets w.steps a.number) (sym here) (links.node a.number in_a)
 
-    keeps : KeepsOthers (group a.number) (all_noticed a.number bs (group a.number))
+    keeps : KeepsRest (group a.number) (all_noticed a.number bs (group a.number))
     keeps = notices_keep a.number bs (group a.number)
 
     there : alone_from (length w.nodes) g.group group (notices_of a bs) a.number ≡ all_noticed a.number bs (group a.number)
     there = notices_there (length w.nodes) g.group a bs group
 
-    and_second : (b c : Bool) → (b && c) ≡ true → c ≡ true
-    and_second true c is = is
-    and_second false c is = absurd (cc)
-
-    and_false : (b : Bool) → (b && false) ≡ false
-    and_false true = refl
-    and_false false = refl
-
     few : v.watch.nodes ≤ NODES
     few = let all = links.few in omega (arith, all, ap (λ (d : Watch). d.nodes) held.watch ∙ nodes_stay (start a.number (length w.nodes) w.silence) (watched a.number w.packets w.steps))
 
     due_at : (x : ℕ) → test x ≡ true → (x < v.watch.nodes) × (fin.contains v.watch.noticed x ≡ false)
-    due_at x is = due_new v.watch x (and_second (is_concerned a.number x made) (fin.contains (due v.watch) x) is)
+    due_at x is = due_new v.watch x (and_parts (is_concerned a.number x made) (fin.contains (due v.watch) x) is).1
 
     below : (x : ℕ) → test x ≡ true → x < NODES
     below x is = let at = due_at x is in let lt = at.0 in omega (arith, lt, few)
@@ -191,7 +186,7 @@ tick_group g w a v group in_a here running links fits = record {
     new : (x : ℕ) → is_marked x bs ≡ true → is_marked x (group a.number).noticed ≡ false
     new x is =
         let at = due_at x (sym (passing_marked test below x) ∙ is) in
-        was.noticed x ∙ (ap (λ (t : Bool). is_concerned a.number x made && t) (sym (held.noticed x) ∙ at.1) ∙ and_false (is_concerned a.number x made))
+        was.noticed x ∙ (ap (λ (t : Bool). is_concerned a.number x made && t) (sym (held.noticed x) ∙ at.1) ∙ and_right (is_concerned a.number x made) false refl)
 
     both : (c now before : Bool) → ((c && now) || (c && before)) ≡ (c && (now || before))
     both true now before = refl
@@ -221,23 +216,6 @@ tick_holds w a in_a running holds =
     group : Addr → Group
     group g = alone (length w.nodes) g.group (project g w.packets w.steps)
 
--- a stopped node only tells that it has stopped
-untold_quiet : (w : World) (a : NodeId) → IsQuiet w a.number (Tick a) (Ticked_so (Untold Stopped))
-untold_quiet w a = record {
-  frame = λ x y. refl;
-  taken = λ x y n. refl;
-  acked = λ x y n. refl;
-  row = λ x tenant. refl;
-  made = λ g x. refl;
-  noticed = λ x b. refl;
-  stopped = λ x. refl;
-  watched = λ x. refl;
-  number = omega arith;
-  reply = λ g x other. refl;
-  met = λ g x other. refl;
-  free = λ g room. record { reply = λ x. refl; met = λ x. refl; given = refl };
-}
-
 -- a cluster keeps what it holds through a tick
 pub any_tick : (w : World) (a : NodeId) → a.number < length w.nodes → Holds w → Holds (world_after w (Tick a))
 any_tick w a in_a holds = go (node_of w a.number).stopped refl
@@ -246,5 +224,5 @@ any_tick w a in_a holds = go (node_of w a.number).stopped refl
     part b = if b then only_answered (node_of w a.number) (Ticked_so (Untold Stopped)) else only_answered (node_ticked (node_of w a.number)) (Ticked_so (Noticed (due (node_of w a.number).watch)))
 
     go : (b : Bool) → (node_of w a.number).stopped ≡ b → Holds (turned w a.number (part b).value (record { event = Tick a; answer = (part b).answer }) (part b).sent)
-    go true is = idle_turn w a.number (Tick a) (Ticked_so (Untold Stopped)) in_a (untold_quiet w a) holds
+    go true is = idle_turn w a.number (Tick a) (Ticked_so (Untold Stopped)) in_a (quiet refl) holds
     go false is = tick_holds w a in_a is holds

@@ -1,7 +1,7 @@
 -- One step of a cluster, in which one node acts: what has to be shown of it, and that then the cluster keeps what it holds.
 use Rattle.std.proofs.Common.{◌≡◌, ◌≢◌, ℕ, zero, suc, ◌+◌, ◌-◌, ◌<◌, ◌≤◌, List, [], ◌∷◌, ◌++◌, length, Some, None, Bool, true, false, ◌||◌, ◌&&◌, ◌⊎◌, inl, inr, refl, sym, ◌∙◌, ap, subst, arith, length-append, get_or}
 use Rattle.std.specs.Prelude.{slice_get}
-use Rattle.std.proofs.lemmas.Bool.{cases_eq, cases_lt}
+use Rattle.std.proofs.lemmas.Bool.{cases_eq, cases_lt, or_cases, or_right}
 use Rattle.std.proofs.lemmas.List.{append-nil}
 use Rattle.std.proofs.Math.ListN.{set, length-set}
 use Rattle.gb_types.specs.declared.address.Addr.{Addr}
@@ -15,6 +15,7 @@ use Rattle.gb_cluster.specs.NodeValue.{NodeValue}
 use Rattle.gb_cluster.specs.Project.{project, gives, has_row, is_taken_in, frames, frame_at, items_of, is_taken, is_taken_by, is_acked, is_acked_by, is_noticed, is_noticed_by, is_stopped, is_stopped_by, is_met, is_met_by, made_at, made_by, or_else, watched, watched_by, reply_in, replies_to, is_served, is_turned_away}
 use Rattle.gb_cluster.specs.World.{World, node_of, no_node}
 use Rattle.gb_cluster.specs.Holds.{Stands, AreMarked, MemberIs, is_concerned, Fits, NodeIs, IsOfFrame, IsFramed, IsLink, Links, BehavesAlone, Holds, IsNumbered, number_of, offset, window_of}
+use Rattle.gb_cluster.proofs.MarkLemmas.{or_off}
 use Rattle.gb_cluster.proofs.MoreLemmas.{frames-more, is_taken-more, is_acked-more, watched-more, project-more, numbered-more, items_of-append, offset_past, offset_within}
 use Rattle.gb_cluster.proofs.NodeLemmas.{same_carried}
 use Rattle.gb_cluster.proofs.WorldLemmas.{goes_on, served_before, node_there, node_elsewhere}
@@ -69,23 +70,11 @@ module _ (w : World) (s : Step) (more : List Packet) (numbered : IsNumbered (len
   unfolding watched
   watched_turned x = rw (watched-more x w.packets more w.steps numbered) refl
 
-or_right : (b c : Bool) → b ≡ false → (b || c) ≡ c
-or_right true c is = absurd (cc)
-or_right false c is = refl
-
-or_true : (b : Bool) → (b || true) ≡ true
-or_true true = refl
-or_true false = refl
-
-or_cases : (b c : Bool) → (b || c) ≡ true → (b ≡ true) ⊎ (c ≡ true)
-or_cases true c is = inl refl
-or_cases false c is = inr is
-
 -- Links.
 
 -- what was taken stays taken
 taken_stays : (w : World) (s : Step) (more : List Packet) → IsNumbered (length w.packets) w.steps → (x y n : ℕ) → is_taken x y n w.packets w.steps ≡ true → is_taken x y n (w.packets ++ more) (s ∷ w.steps) ≡ true
-taken_stays w s more numbered x y n is = taken_turned w s more numbered x y n ∙ (ap (λ b. is_taken_by x y n (w.packets ++ more) s.event s.answer || b) is ∙ or_true (is_taken_by x y n (w.packets ++ more) s.event s.answer))
+taken_stays w s more numbered x y n is = taken_turned w s more numbered x y n ∙ (ap (λ b. is_taken_by x y n (w.packets ++ more) s.event s.answer || b) is ∙ or_right (is_taken_by x y n (w.packets ++ more) s.event s.answer) true refl)
 
 slice_get-longer : {X : Type 0} (xs ys : List X) (k : ℕ) (y : X) → slice_get xs k ≡ Some y → slice_get (xs ++ ys) k ≡ Some y
 slice_get-longer [] ys k y is = absurd (cc)
@@ -120,19 +109,19 @@ quiet_link w s more x y numbered none untaken unacked was =
     }
   where
     takes : (n : ℕ) → is_taken x y n (w.packets ++ more) (s ∷ w.steps) ≡ is_taken x y n w.packets w.steps
-    takes n = taken_turned w s more numbered x y n ∙ or_right _ _ (untaken n)
+    takes n = taken_turned w s more numbered x y n ∙ or_off _ _ (untaken n)
 
     acks : (n : ℕ) → is_acked x y n (w.packets ++ more) (s ∷ w.steps) ≡ is_acked x y n w.packets w.steps
-    acks n = acked_turned w s more numbered x y n ∙ or_right _ _ (unacked n)
+    acks n = acked_turned w s more numbered x y n ∙ or_off _ _ (unacked n)
 
 -- a node at which nothing happened
 node_stays : (w : World) (a : ℕ) (s : Step) (more : List Packet) (x : ℕ) → IsNumbered (length w.packets) w.steps → ActsAt w a s more → x ≢ a → NodeIs (length w.nodes) w.silence w.packets w.steps x (node_of w x) → NodeIs (length w.nodes) w.silence (w.packets ++ more) (s ∷ w.steps) x (node_of w x)
 unfolding has_row is_stopped is_noticed
 node_stays w a s more x numbered acts other was = record {
-  rows = λ tenant. or_right _ _ (acts.row x tenant other) ∙ was.rows tenant;
-  stopped = was.stopped ∙ sym (or_right _ _ (acts.stopped x other));
+  rows = λ tenant. or_off _ _ (acts.row x tenant other) ∙ was.rows tenant;
+  stopped = was.stopped ∙ sym (or_off _ _ (acts.stopped x other));
   watch = was.watch ∙ ap (replay (start x (length w.nodes) w.silence)) (sym (watched_turned w s more numbered x ∙ ap (λ (cs : List Call). cs ++ watched x w.packets w.steps) (acts.watched x other)));
-  noticed = λ b. was.noticed b ∙ sym (or_right _ _ (acts.noticed x b other));
+  noticed = λ b. was.noticed b ∙ sym (or_off _ _ (acts.noticed x b other));
   senders = was.senders;
   receivers = was.receivers;
   sender = λ b in_b. was.sender b in_b ∙ (ap (λ (fs : List Packet). window_of (λ n. is_acked x b n w.packets w.steps) fs) (sym (fs b)) ∙ acks b);
@@ -143,13 +132,13 @@ node_stays w a s more x numbered acts other was = record {
     fs b = frames_turned w s more numbered x b ∙ (ap (λ zs. frames x b w.packets w.steps ++ zs) (acts.frame x b other) ∙ append-nil (frames x b w.packets w.steps))
 
     ack_at : (b n : ℕ) → is_acked x b n w.packets w.steps ≡ is_acked x b n (w.packets ++ more) (s ∷ w.steps)
-    ack_at b n = sym (acked_turned w s more numbered x b n ∙ or_right _ _ (acts.acked x b n other))
+    ack_at b n = sym (acked_turned w s more numbered x b n ∙ or_off _ _ (acts.acked x b n other))
 
     acks : (b : ℕ) → window_of (λ n. is_acked x b n w.packets w.steps) (frames x b (w.packets ++ more) (s ∷ w.steps)) ≡ window_of (λ n. is_acked x b n (w.packets ++ more) (s ∷ w.steps)) (frames x b (w.packets ++ more) (s ∷ w.steps))
     acks b = λ i. window_of (λ n. ack_at b n i) (frames x b (w.packets ++ more) (s ∷ w.steps))
 
     taken_before : (b n : ℕ) → b < length w.nodes → is_taken b x n w.packets w.steps ≡ is_taken b x n (w.packets ++ more) (s ∷ w.steps)
-    taken_before b n in_b = sym (taken_turned w s more numbered b x n ∙ or_right _ _ (acts.taken b x n other))
+    taken_before b n in_b = sym (taken_turned w s more numbered b x n ∙ or_off _ _ (acts.taken b x n other))
 
 -- the links of a cluster after a step
 pub links_turn : (w : World) (a : ℕ) (v : NodeValue) (s : Step) (more : List Packet) → a < length w.nodes → Links w → ActsAt w a s more
@@ -206,8 +195,8 @@ unfolding replies_to made_at is_noticed is_met
 member_stays g w a s more x m acts other was = record {
   replies = was.replies ∙ (sym (append-nil (replies_to g x w.steps)) ∙ ap (λ rs. replies_to g x w.steps ++ rs) (sym (acts.reply g x other)));
   spec = was.spec ∙ sym made;
-  noticed = λ b. was.noticed b ∙ (λ i. is_concerned x b (sym made i) && sym (or_right _ (is_noticed x b w.steps) (acts.noticed x b other)) i);
-  stopped = was.stopped ∙ sym (or_right _ _ (acts.met g x other));
+  noticed = λ b. was.noticed b ∙ (λ i. is_concerned x b (sym made i) && sym (or_off _ (is_noticed x b w.steps) (acts.noticed x b other)) i);
+  stopped = was.stopped ∙ sym (or_off _ _ (acts.met g x other));
 }
   where
     made : or_else (made_by g x s.event s.answer) (made_at g x w.steps) ≡ made_at g x w.steps
@@ -267,13 +256,13 @@ fits_turn g w a v s more group next given in_a links acts fits turn = record {
     come_at x y in_x in_y (inl is) = subst (λ z. AreMarked g (frames x z w.packets w.steps) (λ n. is_taken x z n (w.packets ++ more) (s ∷ w.steps)) ((next z).come x)) (sym is) (turn.come x in_x)
     come_at x y in_x in_y (inr other) = subst (λ (m : Member). AreMarked g (frames x y w.packets w.steps) (λ n. is_taken x y n (w.packets ++ more) (s ∷ w.steps)) (m.come x)) (sym (turn.others y other))
         (same_marks g (frames x y w.packets w.steps) (λ n. is_taken x y n w.packets w.steps) (λ n. is_taken x y n (w.packets ++ more) (s ∷ w.steps)) ((group y).come x)
-        (λ n. sym (taken_turned w s more numbered x y n ∙ or_right _ _ (acts.taken x y n other))) (fits.come x y in_x in_y))
+        (λ n. sym (taken_turned w s more numbered x y n ∙ or_off _ _ (acts.taken x y n other))) (fits.come x y in_x in_y))
 
     done_at : (x y : ℕ) → x < nodes → y < nodes → ((x ≡ a) ⊎ (x ≡ a → ⊥)) → AreMarked g (frames x y w.packets w.steps) (λ n. is_acked x y n (w.packets ++ more) (s ∷ w.steps)) ((next x).done y)
     done_at x y in_x in_y (inl is) = subst (λ z. AreMarked g (frames z y w.packets w.steps) (λ n. is_acked z y n (w.packets ++ more) (s ∷ w.steps)) ((next z).done y)) (sym is) (turn.done y in_y)
     done_at x y in_x in_y (inr other) = subst (λ (m : Member). AreMarked g (frames x y w.packets w.steps) (λ n. is_acked x y n (w.packets ++ more) (s ∷ w.steps)) (m.done y)) (sym (turn.others x other))
         (same_marks g (frames x y w.packets w.steps) (λ n. is_acked x y n w.packets w.steps) (λ n. is_acked x y n (w.packets ++ more) (s ∷ w.steps)) ((group x).done y)
-        (λ n. sym (acked_turned w s more numbered x y n ∙ or_right _ _ (acts.acked x y n other))) (fits.done x y in_x in_y))
+        (λ n. sym (acked_turned w s more numbered x y n ∙ or_off _ _ (acts.acked x y n other))) (fits.done x y in_x in_y))
 
     grown_done : (x y : ℕ) → x < nodes → y < nodes → AreMarked g (frames x y w.packets w.steps) (λ n. is_acked x y n (w.packets ++ more) (s ∷ w.steps)) ((next x).done y) → AreMarked g (frames x y (w.packets ++ more) (s ∷ w.steps)) (λ n. is_acked x y n (w.packets ++ more) (s ∷ w.steps)) ((next x).done y)
     grown_done x y in_x in_y was = grown x y (λ n. is_acked x y n (w.packets ++ more) (s ∷ w.steps)) ((next x).done y) (late_acked x y in_x in_y) was

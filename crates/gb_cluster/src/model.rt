@@ -16,6 +16,7 @@ ghost use Rattle.gb_cluster.specs.Rules as rules;
 use crate::group::{GroupEvent, GroupStep, Reserve};
 use crate::observation::{NodeSeen, Observation, copies, copy_of};
 use gb_layer::call::Call;
+use gb_layer::plain::{came_from, is_mentioned, is_noticed};
 use gb_slot::history::GroupCall;
 use gb_slot::phase::Phase;
 use gb_stack::plain;
@@ -194,57 +195,6 @@ fn puts_of(
     }
 }
 
-/// Whether m came from p, what is said here coming from me.
-fn came_from(me: NodeId, calls: &[Call], p: NodeId, m: MsgId) -> bool
-    ensures { result ≡ machine.came_from me.number calls.now p.number m }
-{
-    match calls {
-        [] => false,
-        [call, past @ ..] => {
-            let here = match *call {
-                Call::Say(x) => me == p && x == m,
-                Call::Came(q, x) => q == p && x == m,
-                Call::Notice(_) => false,
-            };
-            here || came_from(me, past, p, m)
-        }
-    }
-}
-
-/// Whether the node was noticed.
-fn was_noticed(calls: &[Call], q: NodeId) -> bool
-    ensures { result ≡ machine.was_noticed calls.now q.number }
-{
-    match calls {
-        [] => false,
-        [call, past @ ..] => {
-            let here = match *call {
-                Call::Say(_) => false,
-                Call::Came(_, _) => false,
-                Call::Notice(p) => p == q,
-            };
-            here || was_noticed(past, q)
-        }
-    }
-}
-
-/// Whether m was said or came.
-fn mentions(calls: &[Call], m: MsgId) -> bool
-    ensures { result ≡ machine.mentions calls.now m }
-{
-    match calls {
-        [] => false,
-        [call, past @ ..] => {
-            let here = match *call {
-                Call::Say(x) => x == m,
-                Call::Came(_, x) => x == m,
-                Call::Notice(_) => false,
-            };
-            here || mentions(past, m)
-        }
-    }
-}
-
 /// Whether the item that comes from a node is let fall: the same came from it `before`, and `known` says that
 /// the message is known.
 fn is_let_fall(spec: &Spec, me: NodeId, from: NodeId, x: &Entry, before: bool, known: bool) -> bool
@@ -275,7 +225,7 @@ fn falls_after(
 {
     let calls = calls_of(alloc, told)?;
     let before = came_from(me, &calls, from, x.message());
-    let known = mentions(&calls, x.message());
+    let known = is_mentioned(&calls, x.message());
     Ok(is_let_fall(spec, me, from, x, before, known))
 }
 
@@ -368,7 +318,7 @@ fn row_of(put: &[Entries], b: usize) -> &[Entry]
 fn is_reached(spec: &Spec, me: NodeId, b: NodeId, calls: &[Call]) -> bool
     ensures { result ≡ (rules_of.is_other spec.now me.number b.number && not (machine.was_noticed calls.now b.number)) }
 {
-    spec.members.contains(b) && b != me && !was_noticed(calls, b)
+    spec.members.contains(b) && b != me && !is_noticed(calls, b)
 }
 
 /// The items put out to a node, after these too, where it is reached.

@@ -15,8 +15,8 @@ use gb_types::message::MsgId;
 use gb_types::node::NodeId;
 use std::alloc::Global;
 
-/// Whether m was said or came.
-fn is_mentioned(history: &[Call], m: MsgId) -> bool
+/// Whether m was said, or came from any node, in a history with the newest call first.
+pub fn is_mentioned(history: &[Call], m: MsgId) -> bool
     ensures { result ≡ machine.mentions history.now m }
 {
     match history {
@@ -32,8 +32,8 @@ fn is_mentioned(history: &[Call], m: MsgId) -> bool
     }
 }
 
-/// Whether q was noticed.
-fn is_noticed(history: &[Call], q: NodeId) -> bool
+/// Whether the node q was noticed, in a history with the newest call first.
+pub fn is_noticed(history: &[Call], q: NodeId) -> bool
     ensures { result ≡ machine.was_noticed history.now q.number }
 {
     match history {
@@ -49,8 +49,9 @@ fn is_noticed(history: &[Call], q: NodeId) -> bool
     }
 }
 
-/// Whether m came from p, what is said here coming from me.
-fn came_from(me: NodeId, history: &[Call], p: NodeId, m: MsgId) -> bool
+/// Whether m came from the node p, in a history with the newest call first: `me` is the node of the history, from
+/// which comes what is said there.
+pub fn came_from(me: NodeId, history: &[Call], p: NodeId, m: MsgId) -> bool
     ensures { result ≡ machine.came_from me.number history.now p.number m }
 {
     match history {
