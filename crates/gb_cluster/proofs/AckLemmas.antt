@@ -11,7 +11,7 @@ use Rattle.gb_types.specs.declared.message.MsgId.{MsgId}
 use Rattle.gb_types.specs.Entry.{message_of}
 use Rattle.gb_slot.specs.Slot.{slot_done}
 use Rattle.gb_slot.proofs.HistoryLemmas.{done_stands}
-use Rattle.gb_cluster.specs.declared.group.GroupEvent.TheVariants.{Acknowledged}
+use Rattle.gb_cluster.specs.declared.group.GroupEvent.TheVariants.{Done as Acknowledged}
 use Rattle.gb_cluster.specs.declared.group.GroupStep.{GroupStep}
 use Rattle.gb_cluster.specs.declared.packet.Item.{Item}
 use Rattle.gb_cluster.specs.declared.packet.Packet.{Packet}

@@ -15,7 +15,7 @@ use Rattle.gb_types.specs.declared.request.Request.{Request}
 use Rattle.gb_cluster.specs.declared.answer.Answer.TheVariants.{Reply as Replied}
 use Rattle.gb_cluster.specs.declared.event.Event.TheVariants.{At}
 use Rattle.gb_cluster.specs.declared.group.GroupEvent.{GroupEvent}
-use Rattle.gb_cluster.specs.declared.group.GroupEvent.TheVariants.{AskMake, AskOpen, AskSay}
+use Rattle.gb_cluster.specs.declared.group.GroupEvent.TheVariants.{Make as AskMake, Open as AskOpen, Say as AskSay}
 use Rattle.gb_cluster.specs.declared.group.GroupStep.{GroupStep}
 use Rattle.gb_cluster.specs.declared.group.Reserve.{Reserve}
 use Rattle.gb_cluster.specs.declared.step.Step.{Step}

@@ -16,6 +16,7 @@ use Rattle.gb_types.specs.declared.request.Request.{Request}
 use Rattle.gb_types.specs.declared.request.Request.TheVariants.{AddTenant, Make, OpenGroup, Say, Fetch}
 use Rattle.gb_cluster.specs.Headline.{TakesMemory, IsStep, IsPlaced, ArePlaced, AreIsolated}
 use Rattle.gb_cluster.specs.Holds.{Holds}
+use Rattle.gb_cluster.specs.Laws.{AreIntegral, AreInOrder}
 use Rattle.gb_cluster.specs.LinkLaws.{IsLinkStep, MayStarve, stopped_answer, found_by}
 use Rattle.gb_cluster.proofs.LinkStep.{link_step}
 use Rattle.gb_cluster.specs.NodeValue.{NodeValue}
@@ -202,9 +203,9 @@ unfolding steps_of
 steps_of-push events answers e a same = ap reverse (paired-push events answers e a same) ∙ reverse-append (paired events answers) (record { event = e; answer = a } ∷ [])
 
 -- a run of no event
-pub run_begins : (nodes silence : ℕ) (w : World) (events : List Event) (answers : List Answer) → events ≡ [] → answers ≡ [] → w ≡ new_world nodes silence → AreIsolated w → IsRun nodes silence events answers w.packets w
+pub run_begins : (nodes silence : ℕ) (w : World) (events : List Event) (answers : List Answer) → events ≡ [] → answers ≡ [] → w ≡ new_world nodes silence → AreIsolated w → AreIntegral w → AreInOrder w → IsRun nodes silence events answers w.packets w
 unfolding steps_of ComesTo
-run_begins nodes silence w events answers none none_yet new isolated =
+run_begins nodes silence w events answers none none_yet new isolated integral in_order =
     let steps : steps_of events answers ≡ [] = ap (λ (es : List Event). steps_of es answers) none ∙ ap (λ (given : List Answer). steps_of [] given) none_yet in
     record {
       comes = subst (λ (ss : List Step). ComesTo nodes silence ss w) (sym steps) new;
@@ -213,12 +214,14 @@ run_begins nodes silence w events answers none none_yet new isolated =
       sent = refl;
       count = ap (λ (u : World). length u.nodes) new ∙ length-map-range_with_len (λ a. new_node a nodes silence) 0 nodes;
       isolated = isolated;
+      integral = integral;
+      in_order = in_order;
     }
 
 -- a run of one event more
-pub run_goes : (nodes silence : ℕ) (w u : World) (events more : List Event) (answers others : List Answer) (e : Event) (a : Answer) → IsRun nodes silence events answers w.packets w → more ≡ events ++ e ∷ [] → others ≡ answers ++ a ∷ [] → IsStep w e a u → IsLinkStep w e a u → AreIsolated u → IsRun nodes silence more others u.packets u
+pub run_goes : (nodes silence : ℕ) (w u : World) (events more : List Event) (answers others : List Answer) (e : Event) (a : Answer) → IsRun nodes silence events answers w.packets w → more ≡ events ++ e ∷ [] → others ≡ answers ++ a ∷ [] → IsStep w e a u → IsLinkStep w e a u → AreIsolated u → AreIntegral u → AreInOrder u → IsRun nodes silence more others u.packets u
 unfolding ComesTo
-run_goes nodes silence w u events more answers others e a was events_are answers_are step links isolated =
+run_goes nodes silence w u events more answers others e a was events_are answers_are step links isolated integral in_order =
     let steps : steps_of more others ≡ record { event = e; answer = a } ∷ steps_of events answers =
     ap (λ (es : List Event). steps_of es others) events_are ∙ (ap (steps_of (events ++ e ∷ [])) answers_are ∙ steps_of-push events answers e a was.complete) in
     record {
@@ -228,6 +231,8 @@ run_goes nodes silence w u events more answers others e a was events_are answers
       sent = refl;
       count = count_after w u e a step ∙ was.count;
       isolated = isolated;
+      integral = integral;
+      in_order = in_order;
     }
 
 -- each event of the list is placed

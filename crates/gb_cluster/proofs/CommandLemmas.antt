@@ -12,7 +12,7 @@ use Rattle.gb_slot.specs.declared.history.GroupCall.TheVariants.{Other, Crashed}
 use Rattle.gb_cluster.specs.Alone.{Member, Group, reply_to, called, falls, taken_in, cut, took_notice, member_after, after, alone_from}
 use Rattle.gb_cluster.specs.Laws.{accepted_in, accepted_at, accepted_from}
 use Rattle.gb_cluster.specs.declared.group.GroupEvent.{GroupEvent}
-use Rattle.gb_cluster.specs.declared.group.GroupEvent.TheVariants.{Tenant, Took, Came, Acknowledged, Notice, Stop}
+use Rattle.gb_cluster.specs.declared.group.GroupEvent.TheVariants.{Tenant, Took, Came, Done as Acknowledged, Notice, Stop}
 use Rattle.gb_cluster.specs.declared.group.GroupStep.{GroupStep}
 
 abbrev pub command_in : GroupEvent → List GroupEvent

@@ -18,7 +18,7 @@ use Rattle.gb_cluster.specs.Alone.{Member, Group, reply_to, shown_of, called, di
 use Rattle.gb_cluster.specs.Laws.{accepted_in, accepted_at, accepted_from}
 use Rattle.gb_cluster.specs.Rules.{is_bad, is_over, make_answer, by_tenant, on_made}
 use Rattle.gb_cluster.specs.declared.group.GroupEvent.{GroupEvent}
-use Rattle.gb_cluster.specs.declared.group.GroupEvent.TheVariants.{Tenant, AskMake, AskOpen, AskSay, Took, Came, Acknowledged, Notice, Stop}
+use Rattle.gb_cluster.specs.declared.group.GroupEvent.TheVariants.{Tenant, Make as AskMake, Open as AskOpen, Say as AskSay, Took, Came, Done as Acknowledged, Notice, Stop}
 use Rattle.gb_cluster.specs.declared.group.GroupStep.{GroupStep}
 use Rattle.gb_cluster.specs.declared.group.Reserve.{Reserve}
 

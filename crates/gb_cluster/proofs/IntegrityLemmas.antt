@@ -17,7 +17,7 @@ use Rattle.gb_slot.specs.declared.history.GroupCall.TheVariants.{Own, Other, Cra
 use Rattle.gb_cluster.specs.Alone.{Member, Group, reply_to, put_to, called, did, falls, item_came, taken_in, cut, took_notice, member_after, after, nobody, alone_from, alone, log_at}
 use Rattle.gb_cluster.specs.Laws.{accepted_in, accepted_at, accepted, IsAccepted, copies, IsIntegral}
 use Rattle.gb_cluster.specs.declared.group.GroupEvent.{GroupEvent}
-use Rattle.gb_cluster.specs.declared.group.GroupEvent.TheVariants.{Tenant, AskMake, AskOpen, AskSay, Took, Came, Acknowledged, Notice, Stop}
+use Rattle.gb_cluster.specs.declared.group.GroupEvent.TheVariants.{Tenant, Make as AskMake, Open as AskOpen, Say as AskSay, Took, Came, Done as Acknowledged, Notice, Stop}
 use Rattle.gb_cluster.specs.declared.group.GroupStep.{GroupStep}
 use Rattle.gb_cluster.proofs.AcceptedLemmas.{own_payloads, length-own_payloads, next_said, step_payloads, alone_payloads}
 use Rattle.gb_cluster.proofs.KnownLemmas.{HoldsOfTold, all_known, all_puts, all_at, all_log, copies-log}

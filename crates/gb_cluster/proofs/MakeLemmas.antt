@@ -15,7 +15,7 @@ use Rattle.gb_types.specs.declared.spec.Spec.{Spec}
 use Rattle.gb_slot.specs.Slot.{new_slot}
 use Rattle.gb_cluster.specs.declared.answer.Answer.TheVariants.{Reply as Replied}
 use Rattle.gb_cluster.specs.declared.event.Event.TheVariants.{At}
-use Rattle.gb_cluster.specs.declared.group.GroupEvent.TheVariants.{AskMake}
+use Rattle.gb_cluster.specs.declared.group.GroupEvent.TheVariants.{Make as AskMake}
 use Rattle.gb_cluster.specs.declared.group.Reserve.{Reserve}
 use Rattle.gb_cluster.specs.declared.step.Step.{Step}
 use Rattle.gb_cluster.specs.Alone.{Member, Group, after, alone_from, commanded, did, is_marked, reply_to, IsLegalFrom}

@@ -26,10 +26,11 @@ use Rattle.gb_layer.specs.Machine.{was_noticed}
 use Rattle.gb_slot.specs.declared.history.GroupCall.TheVariants.{Own, Other, Crashed}
 use Rattle.gb_slot.specs.declared.phase.Phase.{Phase}
 use Rattle.gb_cluster.specs.Alone.{Member, Group, shown, shown_of, running_reply, reply_to, cut, took_notice, put_to, called, did, commanded, falls, item_came, taken_in, member_after, after, nobody, alone, alone_from}
-use Rattle.gb_cluster.specs.Observation.{upto, MemberValue, new_member, member_of, row_with, rows_with, value_called, value_did, value_commanded, value_came, value_taken_in, value_took, value_cut, value_noticed, value_at, value_after, values_after, IsListed, AreListed}
+use Rattle.gb_cluster.specs.Listed.{MemberValue, new_member, member_of, row_with, rows_with, value_called, value_did, value_commanded, value_came, value_taken_in, value_took, value_cut, value_noticed, value_at, value_after, values_after, IsListed, AreListed}
+use Rattle.gb_cluster.specs.Observation.{numbers_below}
 use Rattle.gb_cluster.specs.Rules.{make_answer, by_tenant, on_made}
 use Rattle.gb_cluster.specs.declared.group.GroupEvent.{GroupEvent}
-use Rattle.gb_cluster.specs.declared.group.GroupEvent.TheVariants.{Tenant, AskMake, AskOpen, AskSay, AskFetch, Took, Came, Acknowledged, Notice, Stop}
+use Rattle.gb_cluster.specs.declared.group.GroupEvent.TheVariants.{Tenant, Make as AskMake, Open as AskOpen, Say as AskSay, Fetch as AskFetch, Took, Came, Done as Acknowledged, Notice, Stop}
 use Rattle.gb_cluster.specs.declared.group.GroupStep.{GroupStep}
 use Rattle.gb_cluster.specs.declared.group.Reserve.{Reserve}
 
@@ -39,19 +40,19 @@ log_is spec me told nodes = ap (map (entry_in (known told))) (same_members spec.
 
 -- An item of a list over numbers.
 
-length_upto : (n : ℕ) → length (upto n) ≡ n
-unfolding upto
-length_upto zero = refl
-length_upto (suc n) = omega (arith, length-append (upto n) (n ∷ []), length_upto n)
+length_numbers_below : (n : ℕ) → length (numbers_below n) ≡ n
+unfolding numbers_below
+length_numbers_below zero = refl
+length_numbers_below (suc n) = omega (arith, length-append (numbers_below n) (n ∷ []), length_numbers_below n)
 
-get_upto : {X : Type 0} (f : ℕ → X) (n b : ℕ) (d : X) → b < n → get_or (map f (upto n)) b d ≡ f b
-unfolding upto
-get_upto f zero b d lt = absurd (omega arith)
-get_upto f (suc n) b d lt =
-    let len : length (map f (upto n)) ≡ n = length-map (upto n) f ∙ length_upto n in
-    ap (λ xs. get_or xs b d) (map-append f (upto n) (n ∷ [])) ∙ elim (eqb_tells b n) [
-      | inl p ↦ ap (λ k. get_or (map f (upto n) ++ f n ∷ []) k d) (p.1 ∙ sym len) ∙ (get_or-append_seam (map f (upto n)) (f n) [] d ∙ ap f (sym p.1))
-      | inr p ↦ get_or_append_left (map f (upto n)) (f n ∷ []) d b (omega (arith, len, p.1)) ∙ get_upto f n b d (omega (arith, p.1))
+get_numbers_below : {X : Type 0} (f : ℕ → X) (n b : ℕ) (d : X) → b < n → get_or (map f (numbers_below n)) b d ≡ f b
+unfolding numbers_below
+get_numbers_below f zero b d lt = absurd (omega arith)
+get_numbers_below f (suc n) b d lt =
+    let len : length (map f (numbers_below n)) ≡ n = length-map (numbers_below n) f ∙ length_numbers_below n in
+    ap (λ xs. get_or xs b d) (map-append f (numbers_below n) (n ∷ [])) ∙ elim (eqb_tells b n) [
+      | inl p ↦ ap (λ k. get_or (map f (numbers_below n) ++ f n ∷ []) k d) (p.1 ∙ sym len) ∙ (get_or-append_seam (map f (numbers_below n)) (f n) [] d ∙ ap f (sym p.1))
+      | inr p ↦ get_or_append_left (map f (numbers_below n)) (f n ∷ []) d b (omega (arith, len, p.1)) ∙ get_numbers_below f n b d (omega (arith, p.1))
     ]
 
 -- Counts.
@@ -98,7 +99,7 @@ rows_listed : (me : ℕ) (spec : Option Spec) (c : GroupCall) (told : List Group
     → (b : ℕ) → b < NODES → slice_index_or (rows_with me spec c told rows) b [] ≡ put_to me spec c told put b
 rows_listed me None c told rows put same b lt = same b lt
 rows_listed me (Some spec) c told rows put same b lt =
-    get_upto (row_with spec me (c ∷ told) rows (puts_of spec me c told)) NODES b [] lt
+    get_numbers_below (row_with spec me (c ∷ told) rows (puts_of spec me c told)) NODES b [] lt
     ∙ ap (λ (row : List Entry). if is_other spec me b && not (was_noticed (calls_of (c ∷ told)) b) then row ++ puts_of spec me c told else row) (same b lt)
 
 called_listed : (me : ℕ) (c : GroupCall) (v : MemberValue) (m : Member) → IsListed v m → IsListed (value_called me c v) (called me c m)

@@ -14,7 +14,7 @@ use Rattle.gb_cluster.specs.Nodes.{node_numbered}
 use Rattle.gb_cluster.specs.declared.group.GroupEvent.TheVariants.{Notice}
 use Rattle.gb_cluster.specs.declared.group.GroupStep.{GroupStep}
 use Rattle.gb_types.specs.declared.reply.Reply.{Reply}
-use Rattle.gb_cluster.specs.Observation.{paired, steps_of, upto, seen_at, seen_by}
+use Rattle.gb_cluster.specs.Observation.{paired, steps_of, numbers_below, seen_at, seen_by}
 use Rattle.gb_cluster.specs.Project.{items_in, items_of, frames, frame_at, acknowledged, all_acknowledged, is_met_by, is_met, project, gives, replies_to, reply_in}
 use Rattle.gb_cluster.specs.declared.answer.Answer.{Answer}
 use Rattle.gb_cluster.specs.declared.answer.Answer.TheVariants.{NoPacket}
@@ -279,27 +279,27 @@ no_replies g a = refl
 
 -- Numbers in order.
 
-pub map_more : {X : Type 0} (f : ℕ → X) (n : ℕ) → map f (upto (n + 1)) ≡ map f (upto n) ++ f n ∷ []
-unfolding upto
-map_more f n = rw add-one (map-append f (upto n) (n ∷ []))
+pub map_more : {X : Type 0} (f : ℕ → X) (n : ℕ) → map f (numbers_below (n + 1)) ≡ map f (numbers_below n) ++ f n ∷ []
+unfolding numbers_below
+map_more f n = rw add-one (map-append f (numbers_below n) (n ∷ []))
 
-pub map_none : {X : Type 0} (f : ℕ → X) → map f (upto 0) ≡ []
-unfolding upto
+pub map_none : {X : Type 0} (f : ℕ → X) → map f (numbers_below 0) ≡ []
+unfolding numbers_below
 map_none f = refl
 
 -- lists of what is seen are equal where the nodes are
-map_same : {X : Type 0} (f h : ℕ → X) (n : ℕ) → ((a : ℕ) → a < n → f a ≡ h a) → map f (upto n) ≡ map h (upto n)
-unfolding upto
+map_same : {X : Type 0} (f h : ℕ → X) (n : ℕ) → ((a : ℕ) → a < n → f a ≡ h a) → map f (numbers_below n) ≡ map h (numbers_below n)
+unfolding numbers_below
 map_same f h zero same = refl
 map_same f h (suc n) same =
-    map-append f (upto n) (n ∷ [])
+    map-append f (numbers_below n) (n ∷ [])
     ∙ (ap (λ xs. xs ++ f n ∷ []) (map_same f h n (λ a lt. same a (omega arith)))
-    ∙ (ap (λ x. map h (upto n) ++ x ∷ []) (same n (omega arith))
-    ∙ sym (map-append h (upto n) (n ∷ []))))
+    ∙ (ap (λ x. map h (numbers_below n) ++ x ∷ []) (same n (omega arith))
+    ∙ sym (map-append h (numbers_below n) (n ∷ []))))
 
 pub seen_same : (nodes : ℕ) (replies others : ℕ → List Reply) (carried taken : ℕ → ℕ → List Entry) → ((a : ℕ) → a < nodes → replies a ≡ others a) → ((a b : ℕ) → a < nodes → b < nodes → carried a b ≡ taken a b)
     → seen_by nodes replies carried ≡ seen_by nodes others taken
 seen_same nodes replies others carried taken same there =
     map_same (seen_at nodes replies carried) (seen_at nodes others taken) nodes (λ a lt.
-    ap (λ (rs : List Reply). record { replies = rs; carried = map (carried a) (upto nodes) }) (same a lt)
+    ap (λ (rs : List Reply). record { replies = rs; carried = map (carried a) (numbers_below nodes) }) (same a lt)
     ∙ ap (λ (cs : List (List Entry)). record { replies = others a; carried = cs }) (map_same (carried a) (taken a) nodes (λ b below. there a b lt below)))

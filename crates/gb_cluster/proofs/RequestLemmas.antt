@@ -19,7 +19,7 @@ use Rattle.gb_slot.specs.declared.history.GroupCall.TheVariants.{Own}
 use Rattle.gb_slot.specs.declared.phase.Phase.{Phase}
 use Rattle.gb_slot.specs.declared.phase.Phase.TheVariants.{Made, Opened}
 use Rattle.gb_slot.proofs.HistoryLemmas.{opened_stands}
-use Rattle.gb_cluster.specs.declared.group.GroupEvent.TheVariants.{AskOpen, AskSay, AskFetch}
+use Rattle.gb_cluster.specs.declared.group.GroupEvent.TheVariants.{Open as AskOpen, Say as AskSay, Fetch as AskFetch}
 use Rattle.gb_cluster.specs.declared.group.Reserve.{Reserve}
 use Rattle.gb_cluster.specs.declared.step.Step.{Step}
 use Rattle.gb_cluster.specs.Alone.{Member, Group, called, did}

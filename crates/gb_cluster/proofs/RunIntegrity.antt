@@ -6,8 +6,8 @@ use Rattle.std.proofs.lemmas.List.Elements.{All-weaker}
 use Rattle.gb_types.specs.declared.address.Addr.{Addr}
 use Rattle.gb_types.specs.declared.entry.Entry.{Entry}
 use Rattle.gb_cluster.specs.Alone.{nobody}
-use Rattle.gb_cluster.specs.Headline.{seen_in, IsIsolated}
-use Rattle.gb_cluster.specs.Laws.{accepted, IsAccepted, KeepsIntegrity, Integrity, accepted_there, AreIntegral}
+use Rattle.gb_cluster.specs.Headline.{seen_in, IsIsolated, AreIsolated}
+use Rattle.gb_cluster.specs.Laws.{accepted, IsAccepted, KeepsIntegrity, Integrity, accepted_there, RunIntegrity, AreIntegral}
 use Rattle.gb_cluster.specs.Project.{project}
 use Rattle.gb_cluster.specs.World.{World}
 use Rattle.gb_cluster.specs.declared.group.GroupStep.{GroupStep}
@@ -41,8 +41,8 @@ accepted_moved g w isolated x is = go (nat_lt x.origin.number (length w.nodes)) 
         let bad : slice_get [] (x.seq - 1) ≡ Some x.payload = ap (λ ps. slice_get ps (x.seq - 1)) (sym none) ∙ is.1 in
         absurd (cc)
 
-pub are_integral : AreIntegral
-are_integral g w isolated = record {
+integral : (g : Addr) (w : World) → IsIsolated g w → RunIntegrity g w
+integral g w isolated = record {
   logs = λ a b la lb. let kept = subst (λ s. KeepsIntegrity before s.log) (sym (isolated.same a b la lb)) (law.logs a) in
       record { no_duplication = kept.no_duplication; no_creation = All-weaker (IsAccepted before) (IsAccepted (accepted_there g w.steps)) (accepted_moved g w isolated) (seen_in w g a b).log kept.no_creation };
   items = λ a b la lb. All-weaker (IsAccepted before) (IsAccepted (accepted_there g w.steps)) (accepted_moved g w isolated) (seen_in w g a b).put (subst (λ s. All (IsAccepted before) s.put) (sym (isolated.same a b la lb)) (law.items a b));
@@ -53,3 +53,6 @@ are_integral g w isolated = record {
 
     law : Integrity (length w.nodes) g.group (project g w.packets w.steps)
     law = is_integral (length w.nodes) g.group (project g w.packets w.steps) isolated.legal
+
+pub all_integral : (w : World) → AreIsolated w → AreIntegral w
+all_integral w isolated g served = integral g w (isolated g served)

@@ -13,7 +13,7 @@ use Rattle.gb_types.specs.declared.request.Request.TheVariants.{AddTenant, Make,
 use Rattle.gb_cluster.specs.declared.answer.Answer.TheVariants.{Reply as Replied}
 use Rattle.gb_cluster.specs.declared.event.Event.TheVariants.{At}
 use Rattle.gb_cluster.specs.declared.group.GroupEvent.{GroupEvent}
-use Rattle.gb_cluster.specs.declared.group.GroupEvent.TheVariants.{AskMake, AskOpen, AskSay, AskFetch, Stop}
+use Rattle.gb_cluster.specs.declared.group.GroupEvent.TheVariants.{Make as AskMake, Open as AskOpen, Say as AskSay, Fetch as AskFetch, Stop}
 use Rattle.gb_cluster.specs.declared.group.GroupStep.{GroupStep}
 use Rattle.gb_cluster.specs.declared.step.Step.{Step}
 use Rattle.gb_cluster.specs.Alone.{Member, Group, after, alone_from, commanded, did, member_after, reply_to, running_reply, MayHappen, IsLegalFrom}

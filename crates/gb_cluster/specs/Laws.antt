@@ -13,15 +13,15 @@ use Rattle.gb_types.specs.declared.spec.Spec.{Spec}
 use Rattle.gb_fifo.specs.Order.{RunsFromOne}
 use Rattle.gb_stack.specs.Kinds.{is_fifo}
 use Rattle.gb_cluster.specs.Alone.{Group, reply_to, after, nobody, alone, log_at, IsLegal}
-use Rattle.gb_cluster.specs.Headline.{seen_in, IsIsolated}
-use Rattle.gb_cluster.specs.Project.{is_addr, has_row, project}
+use Rattle.gb_cluster.specs.Headline.{seen_in}
+use Rattle.gb_cluster.specs.Project.{is_addr, has_row, made_at, is_served}
 use Rattle.gb_cluster.specs.World.{World}
 use Rattle.gb_cluster.specs.declared.answer.Answer.{Answer}
 use Rattle.gb_cluster.specs.declared.answer.Answer.TheVariants.{Reply as Replied}
 use Rattle.gb_cluster.specs.declared.event.Event.{Event}
 use Rattle.gb_cluster.specs.declared.event.Event.TheVariants.{At}
 use Rattle.gb_cluster.specs.declared.group.GroupEvent.{GroupEvent}
-use Rattle.gb_cluster.specs.declared.group.GroupEvent.TheVariants.{AskSay}
+use Rattle.gb_cluster.specs.declared.group.GroupEvent.TheVariants.{Say as AskSay}
 use Rattle.gb_cluster.specs.declared.group.GroupStep.{GroupStep}
 use Rattle.gb_cluster.specs.declared.step.Step.{Step}
 
@@ -81,9 +81,9 @@ pub record RunIntegrity (g : Addr) (w : World) : Type 0 where
   pub logs : (a b : ℕ) → a < length w.nodes → b < length w.nodes → KeepsIntegrity (accepted_there g w.steps) (seen_in w g a b).log
   pub items : (a b : ℕ) → a < length w.nodes → b < length w.nodes → All (IsAccepted (accepted_there g w.steps)) (seen_in w g a b).put
 
--- so of each group that is what it is alone
-abbrev pub AreIntegral : Type 0
-AreIntegral = (g : Addr) (w : World) → IsIsolated g w → RunIntegrity g w
+-- so of each group of which no request was refused for want of room or of memory
+abbrev pub AreIntegral : World → Type 0
+AreIntegral w = (g : Addr) → is_served g w.steps ≡ true → RunIntegrity g w
 
 -- Order.
 
@@ -93,10 +93,10 @@ KeepsOrder None log = Unit {0}
 KeepsOrder (Some spec) log = is_fifo spec.kind ≡ true → RunsFromOne (map message_of log)
 
 -- so in the log of each node, for the kind that was chosen there
-abbrev pub AreInOrder : Type 0
-AreInOrder = (nodes number : ℕ) (steps : List GroupStep) → IsLegal nodes number steps → (b : ℕ) → KeepsOrder (alone nodes number steps b).spec (log_at b (alone nodes number steps b).spec (alone nodes number steps b).told)
+abbrev pub IsInOrder : Type 0
+IsInOrder = (nodes number : ℕ) (steps : List GroupStep) → IsLegal nodes number steps → (b : ℕ) → KeepsOrder (alone nodes number steps b).spec (log_at b (alone nodes number steps b).spec (alone nodes number steps b).told)
 
--- and in the log that is seen at each node of a cluster, of each group that is what it is alone
-abbrev pub RunsAreInOrder : Type 0
-RunsAreInOrder = (g : Addr) (w : World) → IsIsolated g w → (a b : ℕ) → a < length w.nodes → b < length w.nodes
-    → KeepsOrder (alone (length w.nodes) g.group (project g w.packets w.steps) a).spec (seen_in w g a b).log
+-- and in a cluster in the log that is seen at each node, for the kind that the group was made with there, of each group of which no request was refused for want of
+-- room or of memory
+abbrev pub AreInOrder : World → Type 0
+AreInOrder w = (g : Addr) → is_served g w.steps ≡ true → (a b : ℕ) → a < length w.nodes → b < length w.nodes → KeepsOrder (made_at g a w.steps) (seen_in w g a b).log

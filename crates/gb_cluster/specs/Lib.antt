@@ -12,5 +12,6 @@ pub mod Laws
 pub mod TwoRuns
 pub mod LinkLaws
 pub mod Observation
+pub mod Listed
 pub mod Observed
 pub mod Trace

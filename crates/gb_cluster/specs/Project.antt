@@ -27,7 +27,7 @@ use Rattle.gb_cluster.specs.declared.answer.Taken.TheVariants.{Good as Accepted}
 use Rattle.gb_cluster.specs.declared.answer.Ticked.TheVariants.{Noticed}
 use Rattle.gb_cluster.specs.declared.event.Event.{Event}
 use Rattle.gb_cluster.specs.declared.event.Event.TheVariants.{At, Pack, Arrive, Tick, Stop}
-use Rattle.gb_cluster.specs.declared.group.GroupEvent.TheVariants.{Tenant, AskMake, AskOpen, AskSay, AskFetch, Took, Came, Acknowledged, Notice, Stop as Ends}
+use Rattle.gb_cluster.specs.declared.group.GroupEvent.TheVariants.{Tenant, Make as AskMake, Open as AskOpen, Say as AskSay, Fetch as AskFetch, Took, Came, Done as Acknowledged, Notice, Stop as Ends}
 use Rattle.gb_cluster.specs.declared.group.GroupStep.{GroupStep}
 use Rattle.gb_cluster.specs.declared.packet.Item.{Item}
 use Rattle.gb_cluster.specs.declared.packet.Packet.{Packet}

@@ -3,6 +3,7 @@ use Rattle.std.specs.Prelude.{ℕ, ◌≡◌, Bool, true, false, List, [], ◌�
 use Rattle.gb_types.specs.declared.refusal.Refusal.TheVariants.{OutOfMemory}
 use Rattle.gb_types.specs.declared.reply.Reply.TheVariants.{Refused}
 use Rattle.gb_cluster.specs.Headline.{IsStep, AreIsolated}
+use Rattle.gb_cluster.specs.Laws.{AreIntegral, AreInOrder}
 use Rattle.gb_cluster.specs.LinkLaws.{IsLinkStep}
 use Rattle.gb_cluster.specs.NodeValue.{NodeValue}
 use Rattle.gb_cluster.specs.Observation.{steps_of}
@@ -36,7 +37,7 @@ ComesTo nodes silence [] w = w ≡ new_world nodes silence
 ComesTo nodes silence (s ∷ steps) w = (before : World) × ComesTo nodes silence steps before × IsStep before s.event s.answer w × IsLinkStep before s.event s.answer w
 
 -- a cluster of so many nodes, which notice a node that is silent for so many ticks, took these events in order, with these answers, and these are the packets that
--- were sent; in it each group is what it is alone
+-- were sent; in it each group is what it is alone, and its logs keep integrity and order
 pub record IsRun (nodes silence : ℕ) (events : List Event) (answers : List Answer) (packets : List Packet) (w : World) : Type 0 where
   pub comes : ComesTo nodes silence (steps_of events answers) w
   pub steps : w.steps ≡ steps_of events answers
@@ -44,3 +45,5 @@ pub record IsRun (nodes silence : ℕ) (events : List Event) (answers : List Ans
   pub sent : w.packets ≡ packets
   pub count : length w.nodes ≡ nodes
   pub isolated : AreIsolated w
+  pub integral : AreIntegral w
+  pub in_order : AreInOrder w

@@ -1,7 +1,13 @@
 //! What comes of an event.
+ghost use Rattle.std.specs.Prelude.{◌≡◌, List, IfOk, OnErr};
+ghost use Rattle.gb_types.specs.declared.entry.Entry.{Entry as EntryValue};
+
+use gb_types::entry::{Entries, Entry};
+use gb_types::memory::OutOfMemory;
 use gb_types::node::{NodeId, NodeSet};
 use gb_types::refusal::Refusal;
 use gb_types::reply::Reply;
+use std::alloc::Global;
 
 /// What comes of an event.
 #[derive(Drop)]
@@ -78,4 +84,28 @@ pub enum Halted {
     Done,
     /// Stopped: it had stopped before.
     Refused(Refusal),
+}
+
+/// These entries, copied.
+pub(crate) fn copied_entries(alloc: Global, entries: &[Entry]) -> Result<Entries, OutOfMemory>
+    ensures { IfOk result (λ e. e ≡ entries.now) }
+{
+    let mut copied = Entries::new(alloc);
+    for entry in entries {
+        copied.push(entry.duplicate(alloc)?)?;
+    }
+    Ok(copied)
+}
+
+/// The same reply, copied. Only a log takes memory.
+pub(crate) fn copied_reply(alloc: Global, reply: &Reply) -> Result<Reply, OutOfMemory>
+    ensures ok { IfOk result (λ r. r ≡ reply.now) }
+    ensures err { OnErr result ((entries : List EntryValue) × (reply.now ≡ Reply.Log entries)) }
+{
+    Ok(match reply {
+        Reply::Done => Reply::Done,
+        Reply::Said(seq) => Reply::Said(*seq),
+        Reply::Log(entries) => Reply::Log(copied_entries(alloc, entries.as_slice())?),
+        Reply::Refused(refusal) => Reply::Refused(*refusal),
+    })
 }

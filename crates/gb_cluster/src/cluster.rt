@@ -8,18 +8,18 @@ ghost use Rattle.gb_cluster.specs.NodeValue.{NodeValue};
 ghost use Rattle.gb_cluster.specs.World.{new_world, sent_part, arrive_part, tick_part, stop_part, with_step};
 ghost use Rattle.gb_cluster.specs.Acting.{Goes, Acts};
 ghost use Rattle.gb_cluster.specs.Headline.{AreIsolated, AreInside, IsPlaced, IsStep};
+ghost use Rattle.gb_cluster.specs.Laws.{AreIntegral, AreInOrder};
 ghost use Rattle.gb_cluster.specs.LinkLaws.{IsLinkStep};
 ghost use Rattle.gb_cluster.specs.Observed.{AreObserved};
 ghost use Rattle.gb_cluster.specs.Trace.{bare};
 ghost use Rattle.gb_cluster.specs.declared.packet.Packet.{Packet as PacketValue};
 
-use crate::answer::{Answer, Halted, Sent, Taken, Ticked};
+use crate::answer::{Answer, Halted, Sent, Taken, Ticked, copied_reply};
 use crate::event::Event;
 use crate::node::OneNode;
 use crate::packet::Packet;
 use crate::plan::Plan;
 use crate::step::Step;
-use gb_types::entry::Entries;
 use gb_types::limits::{SILENCE_MAX, SILENCE_MIN};
 use gb_types::memory::OutOfMemory;
 use gb_types::node::NodeId;
@@ -71,29 +71,13 @@ pub fn is_placed(nodes: usize, event: &Event) -> bool
     }
 }
 
-/// A copy of entries.
-fn copied_entries(alloc: Global, entries: &Entries) -> Result<Entries, OutOfMemory>
-    ensures { IfOk result (λ e. e ≡ entries.now) }
-{
-    let mut copies = Vec::new(alloc);
-    for entry in entries.as_slice() {
-        copies.push(entry.duplicate(alloc)?)?;
-    }
-    Ok(Entries::from(copies))
-}
-
 /// A copy of an answer. Only a log takes memory.
 fn copied(alloc: Global, answer: &Answer) -> Result<Answer, OutOfMemory>
     ensures ok { IfOk result (λ a. a ≡ answer.now) }
     ensures err { OnErr result ((entries : List EntryValue) × (answer.now ≡ Answer.Reply (Reply.Log entries))) }
 {
     Ok(match answer {
-        Answer::Reply(Reply::Done) => Answer::Reply(Reply::Done),
-        Answer::Reply(Reply::Said(seq)) => Answer::Reply(Reply::Said(*seq)),
-        Answer::Reply(Reply::Log(entries)) => {
-            Answer::Reply(Reply::Log(copied_entries(alloc, entries)?))
-        }
-        Answer::Reply(Reply::Refused(why)) => Answer::Reply(Reply::Refused(*why)),
+        Answer::Reply(reply) => Answer::Reply(copied_reply(alloc, reply)?),
         Answer::Taken(taken) => Answer::Taken(*taken),
         Answer::Sent(sent) => Answer::Sent(*sent),
         Answer::Ticked(Ticked::Noticed(found)) => {
@@ -270,6 +254,8 @@ impl Cluster {
         requires most { plan.silence ≤ SILENCE_MAX }
         ensures world { IfOk result (λ w. w ≡ new_world plan.nodes plan.silence) }
         ensures isolated { IfOk result AreIsolated }
+        ensures integrity { IfOk result AreIntegral }
+        ensures order { IfOk result AreInOrder }
     {
         let mut nodes = Vec::with_capacity(alloc, plan.nodes as usize)?;
         for number in 0..plan.nodes {
@@ -299,7 +285,8 @@ impl Cluster {
         is_placed(self.nodes.len(), event)
     }
 
-    /// One event. Each group goes on as it would alone. `Err` says that the cluster itself had no memory to keep
+    /// One event. Each group of which no request was refused for want of room or of memory goes on as it would
+    /// alone, and its logs keep integrity and order. `Err` says that the cluster itself had no memory to keep
     /// the event and its answer; a node's want of memory is an answer. In both cases the nodes are as before.
     pub fn step(&mut self, event: &Event) -> Result<Answer, OutOfMemory>
         requires { IsPlaced (length self.old.nodes) event.now }
@@ -308,6 +295,8 @@ impl Cluster {
         ensures links { IfOk result (λ a. IsLinkStep self.old event.now a self.new) }
         ensures nodes { length self.new.nodes ≡ length self.old.nodes }
         ensures isolated { AreIsolated self.new }
+        ensures integrity { OnOk result (AreIntegral self.new) }
+        ensures order { OnOk result (AreInOrder self.new) }
         ensures err { OnErr result (self.new ≡ self.old) }
     {
         let kept = event.duplicate(self.alloc)?;

@@ -1,7 +1,12 @@
 //! What happens to one group, by itself.
+ghost use Rattle.std.specs.Prelude.{◌≡◌};
+ghost use Rattle.gb_cluster.specs.Project.{is_addr};
+ghost use Rattle.gb_cluster.specs.Rules.{reserve_of};
+
+use gb_types::address::Addr;
 use gb_types::node::NodeId;
 use gb_types::payload::Payload;
-use gb_types::spec::Spec;
+use gb_types::spec::{Spec, TenantRow};
 
 /// What a tenant may have for each of its groups: its row without tenant and key.
 #[derive(Clone, Copy, PartialEq, Eq, Debug)]
@@ -12,25 +17,46 @@ pub struct Reserve {
     pub window: u32,
 }
 
+impl Reserve {
+    /// What the row lets each group of its tenant have.
+    pub fn of(row: &TenantRow) -> Reserve
+        ensures { result ≡ reserve_of row.now }
+    {
+        Reserve {
+            groups: row.groups,
+            msgs: row.msgs,
+            bytes: row.bytes,
+            window: row.window,
+        }
+    }
+}
+
+/// Whether the group has this address.
+pub(crate) fn is_same(addr: Addr, other: Addr) -> bool
+    ensures { result ≡ is_addr addr other }
+{
+    addr.tenant == other.tenant && addr.group == other.group
+}
+
 /// What happens to a group at a node. Items go by numbers, never by what is in them.
 #[derive(Drop)]
 pub enum GroupEvent {
     /// The group's tenant is taken in.
     Tenant(Reserve),
     /// A command to make the group.
-    AskMake(Spec),
+    Make(Spec),
     /// A command to open it.
-    AskOpen,
+    Open,
     /// A command to say something.
-    AskSay(Payload),
+    Say(Payload),
     /// A command to read the log, from a place on, so many entries at most.
-    AskFetch(u32, u32),
+    Fetch(u32, u32),
     /// So many more of the items put out to the node are carried.
     Took(NodeId, u64),
     /// The item with this place among those that the node put out to this one comes.
     Came(NodeId, u64),
     /// Of the items put out to the node, those from this place on, so many, are acknowledged.
-    Acknowledged(NodeId, u64, u64),
+    Done(NodeId, u64, u64),
     /// The node is noticed to have crashed.
     Notice(NodeId),
     /// This node has stopped.

@@ -10,16 +10,20 @@ ghost use Rattle.gb_slot.specs.Rules as rules_of;
 ghost use Rattle.gb_slot.specs.StandsFor.{falls_after};
 ghost use Rattle.gb_cluster.specs.Alone as one_group;
 ghost use Rattle.gb_cluster.specs.Alone.{Member as Prior, Group};
-ghost use Rattle.gb_cluster.specs.Observation.{upto, observed_alone, newest_puts, row_with, member_of, new_member, value_at, value_commanded, value_taken_in, values_after, MemberValue, IsListed, AreListed, seen_at};
+ghost use Rattle.gb_cluster.specs.Listed.{newest_puts, row_with, member_of, new_member, value_at, value_commanded, value_taken_in, values_after, MemberValue, IsListed, AreListed};
+ghost use Rattle.gb_cluster.specs.Observation.{numbers_below, observed_alone, seen_at};
 ghost use Rattle.gb_cluster.specs.Rules as rules;
 
+use crate::answer::{copied_entries, copied_reply};
 use crate::group::{GroupEvent, GroupStep, Reserve};
-use crate::observation::{NodeSeen, Observation, copies, copy_of};
+use crate::observation::{NodeSeen, Observation};
+use crate::plan::Plan;
 use gb_layer::call::Call;
 use gb_layer::plain::{came_from, is_mentioned, is_noticed};
 use gb_slot::history::GroupCall;
 use gb_slot::phase::Phase;
 use gb_stack::plain;
+use gb_types::address::Addr;
 use gb_types::entry::{Entries, Entry};
 use gb_types::limits::{FETCH, NODES, PAYLOAD};
 use gb_types::memory::OutOfMemory;
@@ -330,7 +334,7 @@ fn row_after(
 ) -> Result<Entries, OutOfMemory>
     ensures { IfOk result (λ e. e ≡ (if is_reached then row.now ++ more.now else row.now)) }
 {
-    let mut next = copies(alloc, row)?;
+    let mut next = copied_entries(alloc, row)?;
     if is_reached {
         add_copies(alloc, &mut next, more)?;
     }
@@ -347,7 +351,7 @@ fn rows_after(
     put: &[Entries],
     more: &[Entry],
 ) -> Result<Vec<Entries>, OutOfMemory>
-    ensures { IfOk result (λ v. v.items ≡ map (row_with spec.now me.number told.now put.now more.now) (upto MOST)) }
+    ensures { IfOk result (λ v. v.items ≡ map (row_with spec.now me.number told.now put.now more.now) (numbers_below MOST)) }
 {
     let calls = calls_of(alloc, told)?;
     let mut rows = Vec::new(alloc);
@@ -378,7 +382,7 @@ impl Model for Member {
     ghost use Rattle.std.specs.Coded.{codes, coded_ℕ};
     ghost use Rattle.std.specs.FinSet as set;
     ghost use Rattle.std.specs.Ordering.{nat_cmp};
-    ghost use Rattle.gb_cluster.specs.Observation.{MemberValue};
+    ghost use Rattle.gb_cluster.specs.Listed.{MemberValue};
 
     ghost Value = { MemberValue };
 
@@ -388,7 +392,7 @@ impl Model for Member {
 }
 
 impl Member {
-    ghost use Rattle.gb_cluster.specs.Observation.{MemberValue, member_of, new_member, value_called, value_did, value_commanded, value_came, value_taken_in, value_took, value_cut, value_noticed};
+    ghost use Rattle.gb_cluster.specs.Listed.{MemberValue, member_of, new_member, value_called, value_did, value_commanded, value_came, value_taken_in, value_took, value_cut, value_noticed};
 
     /// Nothing has happened.
     fn new(alloc: Global) -> Member
@@ -415,7 +419,7 @@ impl Member {
 
     /// The reply to a command to open the group.
     fn open_reply(&self) -> Reply
-        ensures { (nodes number me : ℕ) → result ≡ one_group.running_reply nodes number me GroupEvent.AskOpen (member_of self.now) }
+        ensures { (nodes number me : ℕ) → result ≡ one_group.running_reply nodes number me GroupEvent.Open (member_of self.now) }
     {
         if self.reserve.is_none() {
             return Reply::Refused(Refusal::Denied);
@@ -431,7 +435,7 @@ impl Member {
 
     /// The reply to a command to say something. `Err` where there is no number for it.
     fn say_reply(&self, payload: &Payload) -> Result<Reply, OutOfMemory>
-        ensures { IfOk result (λ r. (nodes number me : ℕ) → r ≡ one_group.running_reply nodes number me (GroupEvent.AskSay payload.now) (member_of self.now)) }
+        ensures { IfOk result (λ r. (nodes number me : ℕ) → r ≡ one_group.running_reply nodes number me (GroupEvent.Say payload.now) (member_of self.now)) }
     {
         if self.reserve.is_none() {
             return Ok(Reply::Refused(Refusal::Denied));
@@ -463,7 +467,7 @@ impl Member {
         from: u32,
         max: u32,
     ) -> Result<Reply, OutOfMemory>
-        ensures { IfOk result (λ r. (nodes number : ℕ) → r ≡ one_group.running_reply nodes number me.number (GroupEvent.AskFetch from max) (member_of self.now)) }
+        ensures { IfOk result (λ r. (nodes number : ℕ) → r ≡ one_group.running_reply nodes number me.number (GroupEvent.Fetch from max) (member_of self.now)) }
     {
         if self.reserve.is_none() {
             return Ok(Reply::Refused(Refusal::Denied));
@@ -476,13 +480,13 @@ impl Member {
         if log.len() < from || max > FETCH {
             return Ok(Reply::Refused(Refusal::BadPlace));
         }
-        let found = copies(alloc, page(log.as_slice(), from, max as usize))?;
+        let found = copied_entries(alloc, page(log.as_slice(), from, max as usize))?;
         Ok(Reply::Log(found))
     }
 
     /// The reply to a command to make the group.
     fn make_reply(&self, nodes: u8, number: u16, me: NodeId, spec: &Spec) -> Reply
-        ensures { result ≡ one_group.running_reply nodes number me.number (GroupEvent.AskMake spec.now) (member_of self.now) }
+        ensures { result ≡ one_group.running_reply nodes number me.number (GroupEvent.Make spec.now) (member_of self.now) }
     {
         match &self.reserve {
             None => Reply::Refused(Refusal::Denied),
@@ -502,20 +506,20 @@ impl Member {
         ensures { IfOk result (λ r. r ≡ one_group.running_reply nodes number me.number event.now (member_of self.now)) }
     {
         match event {
-            GroupEvent::AskMake(spec) => Ok(self.make_reply(nodes, number, me, spec)),
-            GroupEvent::AskOpen => Ok(self.open_reply()),
-            GroupEvent::AskSay(payload) => {
+            GroupEvent::Make(spec) => Ok(self.make_reply(nodes, number, me, spec)),
+            GroupEvent::Open => Ok(self.open_reply()),
+            GroupEvent::Say(payload) => {
                 let said = self.say_reply(payload)?;
                 Ok(said)
             }
-            GroupEvent::AskFetch(from, max) => {
+            GroupEvent::Fetch(from, max) => {
                 let found = self.fetch_reply(alloc, me, *from, *max)?;
                 Ok(found)
             }
             GroupEvent::Tenant(_) => Ok(Reply::Done),
             GroupEvent::Took(_, _) => Ok(Reply::Done),
             GroupEvent::Came(_, _) => Ok(Reply::Done),
-            GroupEvent::Acknowledged(_, _, _) => Ok(Reply::Done),
+            GroupEvent::Done(_, _, _) => Ok(Reply::Done),
             GroupEvent::Notice(_) => Ok(Reply::Done),
             GroupEvent::Stop => Ok(Reply::Done),
         }
@@ -562,9 +566,9 @@ impl Member {
         ensures { OnOk result (self.new ≡ value_did me event.now reply.now self.old) }
     {
         match (event, reply) {
-            (GroupEvent::AskMake(spec), Reply::Done) => self.spec = Some(spec.duplicate()),
-            (GroupEvent::AskOpen, Reply::Done) => self.phase = Phase::Opened,
-            (GroupEvent::AskSay(payload), Reply::Said(seq)) => {
+            (GroupEvent::Make(spec), Reply::Done) => self.spec = Some(spec.duplicate()),
+            (GroupEvent::Open, Reply::Done) => self.phase = Phase::Opened,
+            (GroupEvent::Say(payload), Reply::Said(seq)) => {
                 let payload = payload.duplicate(alloc)?;
                 let x = Entry {
                     origin: me,
@@ -649,7 +653,7 @@ impl Member {
             return Ok(());
         }
         let count = self.taken[q.index()];
-        let kept = copies(alloc, first_of(row_of(&self.put, q.index()), count))?;
+        let kept = copied_entries(alloc, first_of(row_of(&self.put, q.index()), count))?;
         self.put[q.index()] = kept;
         Ok(())
     }
@@ -692,7 +696,7 @@ impl Member {
         requires { b < MOST }
         ensures { IfOk result (λ e. (m : Prior) → IsListed self.now m → e ≡ take (m.taken b) (m.put b)) }
     {
-        copies(alloc, first_of(row_of(&self.put, b), self.taken[b]))
+        copied_entries(alloc, first_of(row_of(&self.put, b), self.taken[b]))
     }
 
     /// The replies to the group's commands, copied.
@@ -709,7 +713,7 @@ fn copied_replies(alloc: Global, replies: &[Reply]) -> Result<Vec<Reply>, OutOfM
 {
     let mut copied = Vec::new(alloc);
     for reply in replies {
-        copied.push(copy_of(alloc, reply)?)?;
+        copied.push(copied_reply(alloc, reply)?)?;
     }
     Ok(copied)
 }
@@ -774,14 +778,14 @@ fn step_at(
     match &step.event {
         GroupEvent::Tenant(reserve) => group[me.index()].take_tenant(*reserve),
         GroupEvent::Took(b, count) => group[me.index()].took(*b, *count)?,
-        GroupEvent::Acknowledged(_, _, _) => {}
+        GroupEvent::Done(_, _, _) => {}
         GroupEvent::Notice(q) => group[me.index()].notice(alloc, me, *q)?,
         GroupEvent::Stop => group[me.index()].stop(),
         GroupEvent::Came(from, place) => item_at(alloc, group, me, *from, *place)?,
-        GroupEvent::AskMake(_) => command_at(alloc, nodes, number, group, me, &step.event)?,
-        GroupEvent::AskOpen => command_at(alloc, nodes, number, group, me, &step.event)?,
-        GroupEvent::AskSay(_) => command_at(alloc, nodes, number, group, me, &step.event)?,
-        GroupEvent::AskFetch(_, _) => command_at(alloc, nodes, number, group, me, &step.event)?,
+        GroupEvent::Make(_) => command_at(alloc, nodes, number, group, me, &step.event)?,
+        GroupEvent::Open => command_at(alloc, nodes, number, group, me, &step.event)?,
+        GroupEvent::Say(_) => command_at(alloc, nodes, number, group, me, &step.event)?,
+        GroupEvent::Fetch(_, _) => command_at(alloc, nodes, number, group, me, &step.event)?,
     }
     Ok(())
 }
@@ -790,7 +794,7 @@ fn step_at(
 #[tactic(auto, using(crate::proofs::PastLemmas::map_more, crate::proofs::PastLemmas::map_none))]
 fn seen_of(alloc: Global, nodes: u8, member: &Member) -> Result<NodeSeen, OutOfMemory>
     requires { nodes ≤ MOST }
-    ensures { IfOk result (λ s. (m : Prior) → IsListed member.now m → s ≡ record { replies = m.replies; carried = map (λ b. take (m.taken b) (m.put b)) (upto nodes) }) }
+    ensures { IfOk result (λ s. (m : Prior) → IsListed member.now m → s ≡ record { replies = m.replies; carried = map (λ b. take (m.taken b) (m.put b)) (numbers_below nodes) }) }
 {
     let replies = member.replies(alloc)?;
     let mut carried = Vec::new(alloc);
@@ -814,10 +818,8 @@ fn all_seen(alloc: Global, nodes: u8, group: &[Member]) -> Result<Observation, O
     Ok(Observation::from(seen))
 }
 
-/// The group with this number among its tenant's, alone, in a cluster of so many nodes: what is seen of it after
-/// these steps. `Err` also where a node says more than 65,535 messages, or more than 2^64 - 1 items are carried,
-/// since no more have numbers.
-pub fn alone(
+/// What is seen of the group with this number, alone, in a cluster of so many nodes.
+fn seen_alone(
     alloc: Global,
     nodes: u8,
     number: u16,
@@ -832,4 +834,18 @@ pub fn alone(
     }
     let seen = all_seen(alloc, nodes, group.as_slice())?;
     Ok(seen)
+}
+
+/// The group alone, in a cluster of this plan: what is seen of it after these steps. `Err` also where a node says
+/// more than 65,535 messages, or more than 2^64 - 1 items are carried, since no more have numbers.
+pub fn alone(
+    alloc: Global,
+    plan: &Plan,
+    addr: Addr,
+    steps: &[GroupStep],
+) -> Result<Observation, OutOfMemory>
+    requires { plan.now.nodes ≤ MOST }
+    ensures { IfOk result (λ o. o ≡ observed_alone plan.now.nodes (one_group.alone plan.now.nodes addr.group steps.now)) }
+{
+    seen_alone(alloc, plan.nodes, addr.group, steps)
 }

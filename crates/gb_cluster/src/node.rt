@@ -15,12 +15,11 @@ ghost use Rattle.gb_slot.specs.Rules.{open_answer, say_answer, fetch_answer, is_
 ghost use Rattle.gb_slot.specs.Slot.{IsWithinLimits, new_slot, waiting, slot_opened, slot_said, slot_came, slot_done, slot_took};
 ghost use Rattle.gb_cluster.specs.Hosted.{group_at, group_of, HasRoom, KeepsRoom, first_waiting};
 ghost use Rattle.gb_cluster.specs.Headline.{IsReplyTo};
-ghost use Rattle.gb_cluster.specs.Project.{is_addr};
 ghost use Rattle.gb_cluster.specs.Rules.{is_over_limits, is_bad, is_over, make_answer, by_tenant, on_made};
 ghost use Rattle.gb_cluster.specs.World.{first_of, new_node, reserve_for, slot_for, shown_for, row_answer, in_room, running_reply, node_reply, on_slot, group_took, node_did, packet_for, is_reached, is_another, node_packed, node_sent, node_again, node_ack, without_done, item_done, item_came, group_came, kind_of, count_of, node_took, good_of, slot_noticed_all, group_noticed, node_ticked};
 
 use crate::answer::{Frame, Good};
-use crate::group::Reserve;
+use crate::group::{Reserve, is_same};
 use crate::packet::{Item, Packet};
 use gb_detect::detector::Detector;
 use gb_link::receiver::{Admission, Receiver};
@@ -44,12 +43,6 @@ use std::marker::Model;
 struct Hosted {
     addr: Addr,
     slot: Slot,
-}
-
-fn is_same(a: Addr, b: Addr) -> bool
-    ensures { result ≡ is_addr a b }
-{
-    a.tenant == b.tenant && a.group == b.group
 }
 
 impl Hosted {
@@ -160,12 +153,7 @@ fn reserve_of(row: &Option<TenantRow>, tenant: TenantId) -> Option<Reserve>
     match row {
         Some(row) => {
             if row.tenant == tenant {
-                Some(Reserve {
-                    groups: row.groups,
-                    msgs: row.msgs,
-                    bytes: row.bytes,
-                    window: row.window,
-                })
+                Some(Reserve::of(row))
             } else {
                 None
             }

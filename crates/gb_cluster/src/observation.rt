@@ -1,12 +1,15 @@
 //! What is seen of a group at its nodes, but for what only the nodes hold.
 ghost use Rattle.std.specs.Prelude.{◌≡◌, ◌++◌, [], ◌∷◌, IfOk, OnOk, IfSome, IfNone, None, map};
-ghost use Rattle.gb_cluster.specs.Observation.{steps_of, upto, observed};
+ghost use Rattle.gb_cluster.specs.Observation.{steps_of, numbers_below, observed};
 ghost use Rattle.gb_cluster.specs.Project.{reply_in, replies_to, frames, frame_at, items_in, items_of};
 
-use crate::answer::Answer;
+use crate::answer::{Answer, copied_reply};
 use crate::event::Event;
+use crate::group::is_same;
 use crate::packet::Packet;
-use crate::projection::past::{frame_of, is_named, is_row_there, is_same};
+use crate::plan::Plan;
+use crate::projection::past::{frame_of, is_named, is_row_there};
+use crate::trace::Trace;
 use gb_types::address::Addr;
 use gb_types::entry::{Entries, Entry};
 use gb_types::memory::OutOfMemory;
@@ -84,29 +87,6 @@ impl From<Vec<NodeSeen>> for Observation {
     }
 }
 
-/// These entries, copied.
-pub(crate) fn copies(alloc: Global, entries: &[Entry]) -> Result<Entries, OutOfMemory>
-    ensures { IfOk result (λ e. e ≡ entries.now) }
-{
-    let mut copied = Entries::new(alloc);
-    for entry in entries {
-        copied.push(entry.duplicate(alloc)?)?;
-    }
-    Ok(copied)
-}
-
-/// The same reply, copied.
-pub(crate) fn copy_of(alloc: Global, reply: &Reply) -> Result<Reply, OutOfMemory>
-    ensures { IfOk result (λ r. r ≡ reply.now) }
-{
-    Ok(match reply {
-        Reply::Done => Reply::Done,
-        Reply::Said(seq) => Reply::Said(*seq),
-        Reply::Log(entries) => Reply::Log(copies(alloc, entries.as_slice())?),
-        Reply::Refused(refusal) => Reply::Refused(*refusal),
-    })
-}
-
 /// The reply that the event brings to the group at the node, after these events.
 fn reply_of<'a>(
     addr: Addr,
@@ -151,7 +131,7 @@ fn add_reply(
     ensures { OnOk result (replies.new.items ≡ replies.old.items ++ reply_in addr a (steps_of events.now answers.now) event.now answer.now) }
 {
     if let Some(reply) = reply_of(addr, a, events, answers, event, answer) {
-        replies.push(copy_of(alloc, reply)?)?;
+        replies.push(copied_reply(alloc, reply)?)?;
     }
     Ok(())
 }
@@ -264,7 +244,7 @@ fn items_from(
     answers: &[Answer],
     packets: &[Packet],
 ) -> Result<Vec<Entries>, OutOfMemory>
-    ensures { IfOk result (λ v. v.items ≡ map (λ b. items_of addr (frames a b packets.now (steps_of events.now answers.now))) (upto nodes)) }
+    ensures { IfOk result (λ v. v.items ≡ map (λ b. items_of addr (frames a b packets.now (steps_of events.now answers.now))) (numbers_below nodes)) }
 {
     let mut carried = Vec::new(alloc);
     for b in 0..nodes {
@@ -273,10 +253,9 @@ fn items_from(
     Ok(carried)
 }
 
-/// What is seen of the group in a run, at each of so many nodes: the replies to its commands, and its items
-/// that are carried. Events beyond the answers do not count, nor answers beyond the events.
+/// What is seen of the group at each of so many nodes.
 #[tactic(auto, using(crate::proofs::PastLemmas::map_more, crate::proofs::PastLemmas::map_none))]
-pub fn observe(
+fn seen_in(
     alloc: Global,
     nodes: u8,
     events: &[Event],
@@ -293,6 +272,27 @@ pub fn observe(
         seen.push(NodeSeen::new(replies, carried))?;
     }
     Ok(Observation::from(seen))
+}
+
+/// What is seen of the group in a run, at each node of the plan: the replies to its commands, and its items
+/// that are carried. Events beyond the answers do not count, nor answers beyond the events.
+pub fn observe(
+    alloc: Global,
+    plan: &Plan,
+    events: &[Event],
+    trace: &Trace,
+    addr: Addr,
+) -> Result<Observation, OutOfMemory>
+    ensures { IfOk result (λ o. o ≡ observed plan.now.nodes addr trace.now.packets.items (steps_of events.now trace.now.answers.items)) }
+{
+    seen_in(
+        alloc,
+        plan.nodes,
+        events,
+        &trace.answers,
+        &trace.packets,
+        addr,
+    )
 }
 
 #[cfg(test)]

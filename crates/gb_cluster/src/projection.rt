@@ -5,7 +5,6 @@ ghost use Rattle.std.specs.Option.{option_to_list};
 ghost use Rattle.gb_cluster.specs.Observation.{steps_of};
 ghost use Rattle.gb_cluster.specs.Project.{packet_at, frames, items_in, items_of, is_taken, is_noticed, made_at, notices, command_for, made_notices, requested, is_met, with_stop, asked, took, comes, acknowledged, all_acknowledged, is_new_ack, arrived, ticked, gives};
 ghost use Rattle.gb_cluster.specs.Project as projected;
-ghost use Rattle.gb_cluster.specs.Rules.{reserve_of};
 ghost use Rattle.gb_slot.specs.Rules.{is_other};
 ghost use Rattle.gb_cluster.specs.declared.group.GroupEvent.TheVariants.{Notice as Noticed_so};
 
@@ -13,12 +12,13 @@ pub(crate) mod past;
 
 use crate::answer::{Answer, Sent, Taken, Ticked};
 use crate::event::Event;
-use crate::group::{GroupEvent, GroupStep, Reserve};
+use crate::group::{GroupEvent, GroupStep, Reserve, is_same};
 use crate::packet::Packet;
 use crate::projection::past::{
-    count_in, frame_of, is_row_there, is_same, items_before, made_with, packet_of,
+    count_in, frame_of, is_row_there, items_before, made_with, packet_of,
     was_acknowledged, was_met, was_noticed, was_stopped, was_taken,
 };
+use crate::trace::Trace;
 use gb_link::ack::covers;
 use gb_types::address::Addr;
 use gb_types::limits::NODES;
@@ -26,7 +26,7 @@ use gb_types::memory::OutOfMemory;
 use gb_types::node::{NodeId, NodeSet};
 use gb_types::reply::Reply;
 use gb_types::request::Request;
-use gb_types::spec::{Spec, TenantRow};
+use gb_types::spec::Spec;
 use std::alloc::Global;
 
 /// What the group is told at the node.
@@ -46,18 +46,6 @@ fn add(step: Option<GroupStep>, steps: &mut Vec<GroupStep>) -> Result<(), OutOfM
     Ok(())
 }
 
-/// What a row lets each group of its tenant have.
-fn reserve(row: &TenantRow) -> Reserve
-    ensures { result ≡ reserve_of row.now }
-{
-    Reserve {
-        groups: row.groups,
-        msgs: row.msgs,
-        bytes: row.bytes,
-        window: row.window,
-    }
-}
-
 /// The group's command that a request is.
 fn command(
     alloc: Global,
@@ -71,26 +59,26 @@ fn command(
         Request::AddTenant(_, _) => Ok(None),
         Request::Make(_, named, spec) => {
             if is_same(addr, *named) {
-                return Ok(Some(at(node, GroupEvent::AskMake(spec.duplicate()))));
+                return Ok(Some(at(node, GroupEvent::Make(spec.duplicate()))));
             }
             Ok(None)
         }
         Request::OpenGroup(_, named) => {
             if is_same(addr, *named) {
-                return Ok(Some(at(node, GroupEvent::AskOpen)));
+                return Ok(Some(at(node, GroupEvent::Open)));
             }
             Ok(None)
         }
         Request::Say(_, named, payload) => {
             if is_same(addr, *named) {
                 let payload = payload.duplicate(alloc)?;
-                return Ok(Some(at(node, GroupEvent::AskSay(payload))));
+                return Ok(Some(at(node, GroupEvent::Say(payload))));
             }
             Ok(None)
         }
         Request::Fetch(_, named, from, max) => {
             if is_same(addr, *named) {
-                return Ok(Some(at(node, GroupEvent::AskFetch(*from, *max))));
+                return Ok(Some(at(node, GroupEvent::Fetch(*from, *max))));
             }
             Ok(None)
         }
@@ -185,7 +173,7 @@ fn of_running(
     if let Request::AddTenant(_, row) = request {
         if let Reply::Done = reply {
             if row.tenant == addr.tenant {
-                steps.push(at(node, GroupEvent::Tenant(reserve(row))))?;
+                steps.push(at(node, GroupEvent::Tenant(Reserve::of(row))))?;
             }
         }
         return Ok(());
@@ -267,7 +255,7 @@ fn add_acknowledged(
     ensures { OnOk result (steps.new.items ≡ steps.old.items ++ acknowledged a b place (length (items_in addr frame.now))) }
 {
     if count_in(addr, frame) != 0 {
-        steps.push(at(a, GroupEvent::Acknowledged(b, place, 1)))?;
+        steps.push(at(a, GroupEvent::Done(b, place, 1)))?;
     }
     Ok(())
 }
@@ -436,10 +424,9 @@ fn of_step(
     }
 }
 
-/// The projection of a run on the group: what concerns it of events, answers and packets. Events beyond the
-/// answers do not count, nor answers beyond the events.
+/// What concerns the group of events, answers and packets.
 #[tactic(auto, using(crate::proofs::PastLemmas::newest_projected, crate::proofs::PastLemmas::all_steps, crate::proofs::PastLemmas::no_steps), unfolding(crate::specs::Project::project))]
-pub fn project(
+fn of_run(
     alloc: Global,
     events: &[Event],
     answers: &[Answer],
@@ -465,4 +452,17 @@ pub fn project(
         )?;
     }
     Ok(steps)
+}
+
+/// The projection of a run on the group: what concerns it of events, answers and packets. Events beyond the
+/// answers do not count, nor answers beyond the events.
+pub fn project(
+    alloc: Global,
+    events: &[Event],
+    trace: &Trace,
+    addr: Addr,
+) -> Result<Vec<GroupStep>, OutOfMemory>
+    ensures { IfOk result (λ v. v.items ≡ projected.project addr trace.now.packets.items (steps_of events.now trace.now.answers.items)) }
+{
+    of_run(alloc, events, &trace.answers, &trace.packets, addr)
 }

@@ -25,19 +25,6 @@ use std::test::Fail;
 
 const TOKEN: [u8; 32] = [0; 32];
 
-fn plan(nodes: u8) -> Plan
-    ensures nodes { result.nodes ≡ nodes }
-    ensures silence { result.silence ≡ 2 }
-{
-    Plan {
-        nodes,
-        silence: 2,
-        places: 1,
-        cluster_key: [1; 32],
-        admin_key: [2; 32],
-    }
-}
-
 fn node(rt: &impl Abort, number: u8) -> NodeId {
     NodeId::from_number(number).expect(rt, "a node")
 }
@@ -153,9 +140,9 @@ fn compare_with_alone(
     group: Addr,
 ) -> Result<(), OutOfMemory> {
     assert!(rt; usize::from(nodes) <= NODES);
-    let seen = observe(alloc, nodes, events, &trace.answers, &trace.packets, group)?;
-    let steps = project(alloc, events, &trace.answers, &trace.packets, group)?;
-    let told = alone(alloc, nodes, group.group, &steps)?;
+    let seen = observe(alloc, &plan(nodes), events, trace, group)?;
+    let steps = project(alloc, events, trace, group)?;
+    let told = alone(alloc, &plan(nodes), group, &steps)?;
     assert_eq!(rt; seen.nodes().len(), usize::from(nodes));
     assert_eq!(rt; told.nodes().len(), usize::from(nodes));
     for (some, other) in seen.nodes().iter().zip(told.nodes()) {

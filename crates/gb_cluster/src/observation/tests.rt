@@ -42,6 +42,19 @@ const C: NodeId = NodeId { number: 2 };
 
 const NODES: [NodeId; 3] = [A, B, C];
 
+pub fn plan(nodes: u8) -> Plan
+    ensures nodes { result.nodes ≡ nodes }
+    ensures silence { result.silence ≡ 2 }
+{
+    Plan {
+        nodes,
+        silence: 2,
+        places: 1,
+        cluster_key: [1; 32],
+        admin_key: [2; 32],
+    }
+}
+
 /// What happens to a group, in short.
 #[derive(Clone, Copy, PartialEq, Eq, Debug)]
 enum Told {
@@ -52,7 +65,7 @@ enum Told {
     Fetch(u32, u32),
     Took(u8, u64),
     Came(u8, u64),
-    Acknowledged(u8, u64, u64),
+    Done(u8, u64, u64),
     Notice(u8),
     Stop,
 }
@@ -60,14 +73,14 @@ enum Told {
 fn short_event(step: &GroupStep) -> (u8, Told) {
     let event = match &step.event {
         GroupEvent::Tenant(_) => Told::Tenant,
-        GroupEvent::AskMake(_) => Told::Make,
-        GroupEvent::AskOpen => Told::Open,
-        GroupEvent::AskSay(payload) => Told::Say(payload.len()),
-        GroupEvent::AskFetch(from, max) => Told::Fetch(*from, *max),
+        GroupEvent::Make(_) => Told::Make,
+        GroupEvent::Open => Told::Open,
+        GroupEvent::Say(payload) => Told::Say(payload.len()),
+        GroupEvent::Fetch(from, max) => Told::Fetch(*from, *max),
         GroupEvent::Took(to, count) => Told::Took(to.number, *count),
         GroupEvent::Came(from, place) => Told::Came(from.number, *place),
-        GroupEvent::Acknowledged(to, place, count) => {
-            Told::Acknowledged(to.number, *place, *count)
+        GroupEvent::Done(to, place, count) => {
+            Told::Done(to.number, *place, *count)
         }
         GroupEvent::Notice(who) => Told::Notice(who.number),
         GroupEvent::Stop => Told::Stop,
@@ -98,14 +111,13 @@ fn short_reply(reply: &Reply) -> Got {
 struct Run {
     alloc: Global,
     events: Vec<Event>,
-    answers: Vec<Answer>,
-    packets: Vec<Packet>,
+    trace: Trace,
 }
 
 impl Run {
     fn ask(&mut self, node: NodeId, request: Request, reply: Reply) -> Result<(), OutOfMemory> {
         self.events.push(Event::At(node, request))?;
-        self.answers.push(Answer::Reply(reply))?;
+        self.trace.answers.push(Answer::Reply(reply))?;
         Ok(())
     }
 
@@ -117,8 +129,8 @@ impl Run {
             payload: Payload::new(self.alloc),
         };
         self.events.push(Event::Pack(A, to))?;
-        self.answers.push(Answer::Sent(Sent::Packet(number)))?;
-        self.packets.push(Packet {
+        self.trace.answers.push(Answer::Sent(Sent::Packet(number)))?;
+        self.trace.packets.push(Packet {
             from: A,
             to,
             base: 1,
@@ -132,8 +144,8 @@ impl Run {
     /// Node 1 acknowledges to node 0 the frames that base and mask cover.
     fn acknowledge(&mut self, number: u64, base: u64, mask: u64) -> Result<(), OutOfMemory> {
         self.events.push(Event::Ack(B, A))?;
-        self.answers.push(Answer::Sent(Sent::Packet(number)))?;
-        self.packets.push(Packet {
+        self.trace.answers.push(Answer::Sent(Sent::Packet(number)))?;
+        self.trace.packets.push(Packet {
             from: B,
             to: A,
             base,
@@ -149,13 +161,13 @@ impl Run {
         let mut found = NodeSet::new();
         found.insert(who);
         self.events.push(Event::Tick(A))?;
-        self.answers.push(Answer::Ticked(Ticked::Noticed(found)))?;
+        self.trace.answers.push(Answer::Ticked(Ticked::Noticed(found)))?;
         Ok(())
     }
 
     fn stop(&mut self, node: NodeId) -> Result<(), OutOfMemory> {
         self.events.push(Event::Stop(node))?;
-        self.answers.push(Answer::Halted(Halted::Done))?;
+        self.trace.answers.push(Answer::Halted(Halted::Done))?;
         Ok(())
     }
 
@@ -167,7 +179,7 @@ impl Run {
             done: 0,
         };
         self.events.push(Event::Arrive(number))?;
-        self.answers.push(Answer::Taken(Taken::Good(good)))?;
+        self.trace.answers.push(Answer::Taken(Taken::Good(good)))?;
         Ok(())
     }
 }
@@ -202,8 +214,11 @@ fn example(alloc: Global) -> Result<Run, OutOfMemory> {
     let mut run = Run {
         alloc,
         events: Vec::new(alloc),
-        answers: Vec::new(alloc),
-        packets: Vec::new(alloc),
+        trace: Trace {
+            answers: Vec::new(alloc),
+            packets: Vec::new(alloc),
+            refused: false,
+        },
     };
     run.ask(
         B,
@@ -238,7 +253,7 @@ fn example(alloc: Global) -> Result<Run, OutOfMemory> {
 #[test]
 fn the_projection_has_the_groups_own_events(rt: HostRuntime) -> Result<(), Fail> {
     let run = example(rt.alloc())?;
-    let steps = project(rt.alloc(), &run.events, &run.answers, &run.packets, GROUP)?;
+    let steps = project(rt.alloc(), &run.events, &run.trace, GROUP)?;
     let mut found = Vec::new(rt.alloc());
     for step in &steps {
         found.push(short_event(step))?;
@@ -277,8 +292,11 @@ fn the_projection_has_acknowledgements_notices_and_stops(rt: HostRuntime) -> Res
     let mut run = Run {
         alloc,
         events: Vec::new(alloc),
-        answers: Vec::new(alloc),
-        packets: Vec::new(alloc),
+        trace: Trace {
+            answers: Vec::new(alloc),
+            packets: Vec::new(alloc),
+            refused: false,
+        },
     };
     run.tick(C)?;
     for node in [A, B] {
@@ -306,7 +324,7 @@ fn the_projection_has_acknowledgements_notices_and_stops(rt: HostRuntime) -> Res
             Reply::Refused(Refusal::Stopped),
         )?;
     }
-    let steps = project(alloc, &run.events, &run.answers, &run.packets, GROUP)?;
+    let steps = project(alloc, &run.events, &run.trace, GROUP)?;
     let mut found = Vec::new(alloc);
     for step in &steps {
         found.push(short_event(step))?;
@@ -323,7 +341,7 @@ fn the_projection_has_acknowledgements_notices_and_stops(rt: HostRuntime) -> Res
             (0, Told::Say(0)),
             (0, Told::Took(1, 1)),
             (1, Told::Came(0, 1)),
-            (0, Told::Acknowledged(1, 1, 1)),
+            (0, Told::Done(1, 1, 1)),
             (0, Told::Notice(1)),
             (0, Told::Stop),
             (0, Told::Fetch(0, 16)),
@@ -359,14 +377,7 @@ fn is_seen(
 #[test]
 fn the_observation_has_the_groups_own_replies_and_items(rt: HostRuntime) -> Result<(), Fail> {
     let run = example(rt.alloc())?;
-    let seen = observe(
-        rt.alloc(),
-        3,
-        &run.events,
-        &run.answers,
-        &run.packets,
-        GROUP,
-    )?;
+    let seen = observe(rt.alloc(), &plan(3), &run.events, &run.trace, GROUP)?;
     let nodes = seen.nodes();
     assert_eq!(rt; nodes.len(), 3);
     let first = [Got::Done, Got::Done, Got::Said(1), Got::Log(1)];
@@ -381,14 +392,7 @@ fn the_observation_has_the_groups_own_replies_and_items(rt: HostRuntime) -> Resu
 #[test]
 fn the_other_group_is_seen_apart(rt: HostRuntime) -> Result<(), Fail> {
     let run = example(rt.alloc())?;
-    let seen = observe(
-        rt.alloc(),
-        2,
-        &run.events,
-        &run.answers,
-        &run.packets,
-        OTHER,
-    )?;
+    let seen = observe(rt.alloc(), &plan(2), &run.events, &run.trace, OTHER)?;
     let nodes = seen.nodes();
     assert_eq!(rt; nodes.len(), 2);
     is_seen(&rt, rt.alloc(), &nodes[0], &[Got::Done], &[0, 1])?;
@@ -429,16 +433,9 @@ pub fn are_alike(rt: &impl Abort, seen: &NodeSeen, told: &NodeSeen) {
 #[test]
 fn the_observation_is_that_of_the_projection_alone(rt: HostRuntime) -> Result<(), Fail> {
     let run = example(rt.alloc())?;
-    let steps = project(rt.alloc(), &run.events, &run.answers, &run.packets, GROUP)?;
-    let seen = observe(
-        rt.alloc(),
-        3,
-        &run.events,
-        &run.answers,
-        &run.packets,
-        GROUP,
-    )?;
-    let told = alone(rt.alloc(), 3, GROUP.group, &steps)?;
+    let steps = project(rt.alloc(), &run.events, &run.trace, GROUP)?;
+    let seen = observe(rt.alloc(), &plan(3), &run.events, &run.trace, GROUP)?;
+    let told = alone(rt.alloc(), &plan(3), GROUP, &steps)?;
     assert_eq!(rt; seen.nodes().len(), 3);
     assert_eq!(rt; told.nodes().len(), 3);
     for (some, other) in seen.nodes().iter().zip(told.nodes()) {

@@ -2,11 +2,12 @@
 ghost use Rattle.std.specs.Prelude.{◌≡◌, ◌≤◌, [], ◌∷◌, IfSome, IfNone, length, take};
 ghost use Rattle.std.specs.Option.{option_copied};
 ghost use Rattle.gb_cluster.specs.Observation.{steps_of};
-ghost use Rattle.gb_cluster.specs.Project.{is_addr, is_taken_in, has_row, packet_at, frame_at, frames, items_in, items_of, is_taken_by, is_taken, is_acked_by, is_acked, is_noticed_by, is_noticed, is_stopped_by, is_stopped, is_met_by, is_met, made_by, made_at};
+ghost use Rattle.gb_cluster.specs.Project.{is_taken_in, has_row, packet_at, frame_at, frames, items_in, items_of, is_taken_by, is_taken, is_acked_by, is_acked, is_noticed_by, is_noticed, is_stopped_by, is_stopped, is_met_by, is_met, made_by, made_at};
 ghost use Rattle.gb_cluster.specs.Project as projected;
 
 use crate::answer::{Answer, Halted, Sent, Taken, Ticked};
 use crate::event::Event;
+use crate::group::is_same;
 use crate::packet::Packet;
 use gb_link::ack::covers;
 use gb_types::address::Addr;
@@ -14,13 +15,6 @@ use gb_types::node::NodeId;
 use gb_types::reply::Reply;
 use gb_types::request::Request;
 use gb_types::spec::Spec;
-
-/// Whether the group has this address.
-pub(crate) fn is_same(addr: Addr, other: Addr) -> bool
-    ensures { result ≡ is_addr addr other }
-{
-    addr.tenant == other.tenant && addr.group == other.group
-}
 
 /// Whether the request names the group.
 pub(crate) fn is_named(addr: Addr, request: &Request) -> bool

@@ -2,7 +2,8 @@ use Rattle.std.proofs.Common.{◌≡◌, ◌<◌, List, [], ◌∷◌, ◌++◌,
 use Rattle.std.specs.Prelude.{map}
 use Rattle.std.proofs.lemmas.List.{get_or_default}
 use Rattle.gb_types.specs.declared.limits.TheConstants.{NODES}
-use Rattle.gb_cluster.specs.Observation.{SeenAt, MemberValue, new_member, upto, seen_at, IsListed}
+use Rattle.gb_cluster.specs.Listed.{MemberValue, new_member, IsListed}
+use Rattle.gb_cluster.specs.Observation.{SeenAt, numbers_below, seen_at}
 use Rattle.gb_cluster.proofs.PastLemmas.{map_more, map_none}
 use Rattle.gb_cluster.proofs.model.all_seen.Goals as goal
 
@@ -21,9 +22,9 @@ loop-a-preserved c = λ g h.
     let was = c.loop-a.invariant g h in
     c.in_ok-push.ensures.items
     ∙ (ap (λ (xs : List SeenAt). xs ++ c.in_ok-seen_of.field-0 ∷ []) was
-    ∙ (ap (λ (x : SeenAt). map (seen_at c.args.nodes (λ x. (g x).replies) (λ x b. take ((g x).taken b) ((g x).put b))) (upto a) ++ x ∷ []) now ∙ sym more))
+    ∙ (ap (λ (x : SeenAt). map (seen_at c.args.nodes (λ x. (g x).replies) (λ x b. take ((g x).taken b) ((g x).put b))) (numbers_below a) ++ x ∷ []) now ∙ sym more))
 
 pub returns : goal.returns
 returns c = λ g h.
     let all : c.loop-a.a ≡ c.args.nodes = omega arith in
-    c.from.ensures ∙ (c.loop-a.invariant g h ∙ ap (λ k. map (seen_at c.args.nodes (λ x. (g x).replies) (λ x b. take ((g x).taken b) ((g x).put b))) (upto k)) all)
+    c.from.ensures ∙ (c.loop-a.invariant g h ∙ ap (λ k. map (seen_at c.args.nodes (λ x. (g x).replies) (λ x b. take ((g x).taken b) ((g x).put b))) (numbers_below k)) all)

@@ -1,7 +1,7 @@
 use Rattle.std.proofs.Common.{◌≡◌, ◌-◌, ◌≤◌, length}
 use Rattle.std.specs.Prelude.{replicate}
 use Rattle.gb_types.specs.declared.limits.TheConstants.{NODES}
-use Rattle.gb_cluster.specs.Observation.{new_member}
+use Rattle.gb_cluster.specs.Listed.{new_member}
 use Rattle.gb_cluster.proofs.model.members.Given as goal
 
 abbrev pub invariant-all : goal.invariant-all

@@ -2,7 +2,7 @@ use Rattle.std.proofs.Common.{◌≡◌, List, [], ◌∷◌, ◌++◌, ◌∙�
 use Rattle.std.specs.Prelude.{map}
 use Rattle.gb_types.specs.declared.entry.Entry.{Entry}
 use Rattle.gb_types.specs.declared.reply.Reply.{Reply}
-use Rattle.gb_cluster.specs.Observation.{SeenAt, upto}
+use Rattle.gb_cluster.specs.Observation.{SeenAt, numbers_below}
 use Rattle.gb_cluster.proofs.PastLemmas.{map_more, map_none}
 use Rattle.gb_cluster.proofs.model.seen_of.Goals as goal
 
@@ -16,13 +16,13 @@ loop-b-preserved c = λ m h.
     let was = c.loop-b.invariant m h in
     c.in_ok-push.ensures.items
     ∙ (ap (λ (xs : List (List Entry)). xs ++ c.in_ok-carried.field-0 ∷ []) was
-    ∙ (ap (λ (x : List Entry). map (λ b. take (m.taken b) (m.put b)) (upto c.loop-b.b) ++ x ∷ []) now ∙ sym more))
+    ∙ (ap (λ (x : List Entry). map (λ b. take (m.taken b) (m.put b)) (numbers_below c.loop-b.b) ++ x ∷ []) now ∙ sym more))
 
 pub returns : goal.returns
 returns c = λ m h.
     let was = c.loop-b.invariant m h in
     let all : c.loop-b.b ≡ c.args.nodes = omega arith in
-    let there = was ∙ ap (λ k. map (λ b. take (m.taken b) (m.put b)) (upto k)) all in
+    let there = was ∙ ap (λ k. map (λ b. take (m.taken b) (m.put b)) (numbers_below k)) all in
     c.new.ensures
     ∙ (ap (λ (rs : List Reply). let s : SeenAt = record { replies = rs; carried = c.loop-b.carried.items } in s) (c.in_ok-replies.ensures ∙ h.replies)
     ∙ ap (λ (cs : List (List Entry)). let s : SeenAt = record { replies = m.replies; carried = cs } in s) there)

@@ -8,7 +8,7 @@ use Rattle.gb_cluster.proofs.ObservedLemmas.{observed_run}
 use Rattle.gb_cluster.proofs.cluster.Cluster.run.Goals as goal
 
 pub loop-event-init : goal.loop-event-init
-loop-event-init c = run_begins c.args.plan.nodes c.args.plan.silence c.in_ok-cluster.cluster [] c.in_ok-answers.answers.items refl c.in_ok-answers.ensures.items c.in_ok-cluster.ensures.world c.in_ok-cluster.ensures.isolated
+loop-event-init c = run_begins c.args.plan.nodes c.args.plan.silence c.in_ok-cluster.cluster [] c.in_ok-answers.answers.items refl c.in_ok-answers.ensures.items c.in_ok-cluster.ensures.world c.in_ok-cluster.ensures.isolated c.in_ok-cluster.ensures.integrity c.in_ok-cluster.ensures.order
 
 pub step-requires : goal.step-requires
 step-requires c =
@@ -20,7 +20,7 @@ loop-event-preserved c =
     let i = c.loop-event.event-index in
     let e = c.event-item.result in
     run_goes c.args.plan.nodes c.args.plan.silence c.loop-event.cluster c.step.new.self (take i events) _ c.loop-event.answers.items _ e c.in_ok-answer.answer c.loop-event.invariant
-    (take_more events i e (omega arith) ∙ ap (λ (x : Event). take i events ++ x ∷ []) (sym c.event-item.is)) c.in_ok-push.ensures.items c.in_ok-answer.ensures.step c.in_ok-answer.ensures.links c.step.ensures.isolated
+    (take_more events i e (omega arith) ∙ ap (λ (x : Event). take i events ++ x ∷ []) (sym c.event-item.is)) c.in_ok-push.ensures.items c.in_ok-answer.ensures.step c.in_ok-answer.ensures.links c.step.ensures.isolated c.in_ok-answer.ensures.integrity c.in_ok-answer.ensures.order
 
 pub returns-clause-observed : goal.returns-clause-observed
 returns-clause-observed c =

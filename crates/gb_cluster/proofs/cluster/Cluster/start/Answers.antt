@@ -4,6 +4,8 @@ use Rattle.std.proofs.lemmas.List.FromFn.{map-range_with_len_more}
 use Rattle.gb_cluster.specs.NodeValue.{NodeValue}
 use Rattle.gb_cluster.specs.World.{new_node}
 use Rattle.gb_cluster.proofs.CodeLemmas.{started, started_holds}
+use Rattle.gb_cluster.proofs.OrderLemmas.{all_in_order}
+use Rattle.gb_cluster.proofs.RunIntegrity.{all_integral}
 use Rattle.gb_cluster.proofs.Theorem.{all_isolated}
 use Rattle.gb_cluster.proofs.cluster.Cluster.start.Goals as goal
 
@@ -26,3 +28,9 @@ invariant_of-result c = started_holds c.args.plan.nodes c.args.plan.silence _ (o
 
 pub returns-clause-isolated : goal.returns-clause-isolated
 returns-clause-isolated c = all_isolated _ (invariant_of-result c)
+
+pub returns-clause-integrity : goal.returns-clause-integrity
+returns-clause-integrity c = all_integral _ (returns-clause-isolated c)
+
+pub returns-clause-order : goal.returns-clause-order
+returns-clause-order c = all_in_order _ (invariant_of-result c)

@@ -4,6 +4,8 @@ use Rattle.gb_cluster.specs.Holds.{Holds}
 use Rattle.gb_cluster.specs.declared.step.Step.{Step}
 use Rattle.gb_cluster.proofs.CodeLemmas.{stepped, unchanged, steps_after, links_kept, keeps, count_after}
 use Rattle.gb_cluster.proofs.NodeCodeLemmas.{on_err}
+use Rattle.gb_cluster.proofs.OrderLemmas.{all_in_order}
+use Rattle.gb_cluster.proofs.RunIntegrity.{all_integral}
 use Rattle.gb_cluster.proofs.Theorem.{all_isolated, all_inside}
 use Rattle.gb_cluster.proofs.cluster.Cluster.step.Goals as goal
 
@@ -33,6 +35,12 @@ invariant_of-self-2 c = keeps c.args.self.now _ c.args.event.now c.take-answer.r
 
 pub returns-clause-isolated : goal.returns-clause-isolated
 returns-clause-isolated c = all_isolated _ (invariant_of-self-2 c)
+
+pub returns-clause-integrity : goal.returns-clause-integrity
+returns-clause-integrity c = all_integral _ (returns-clause-isolated c)
+
+pub returns-clause-order : goal.returns-clause-order
+returns-clause-order c = all_in_order _ (invariant_of-self-2 c)
 
 pub returns-in_err-copy-clause-err : goal.returns-in_err-copy-clause-err
 returns-in_err-copy-clause-err c =

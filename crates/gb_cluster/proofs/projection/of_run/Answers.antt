@@ -2,7 +2,7 @@ use Rattle.std.proofs.Common.{◌<◌, ◌++◌, ◌∙◌, ap, sym, length, tak
 use Rattle.gb_cluster.specs.Observation.{steps_of}
 use Rattle.gb_cluster.specs.Project.{gives}
 use Rattle.gb_cluster.proofs.PastLemmas.{newest_projected}
-use Rattle.gb_cluster.proofs.projection.project.Goals as goal
+use Rattle.gb_cluster.proofs.projection.of_run.Goals as goal
 
 pub loop-i-preserved : goal.loop-i-preserved
 loop-i-preserved c =

@@ -2,10 +2,10 @@ use Rattle.std.proofs.Common.{length, ◌∙◌, ap, sym, subst, List}
 use Rattle.std.specs.Prelude.{fold, replicate}
 use Rattle.gb_types.specs.declared.limits.TheConstants.{NODES}
 use Rattle.gb_cluster.specs.Alone as one_group
-use Rattle.gb_cluster.specs.Observation.{MemberValue, new_member, values_after, AreListed}
+use Rattle.gb_cluster.specs.Listed.{MemberValue, new_member, values_after, AreListed}
 use Rattle.gb_cluster.proofs.PastLemmas.{take_short}
 use Rattle.gb_cluster.proofs.ModelLemmas.{alone_listed, more_values, length_after}
-use Rattle.gb_cluster.proofs.model.alone.Goals as goal
+use Rattle.gb_cluster.proofs.model.seen_alone.Goals as goal
 
 pub loop-step-init : goal.loop-step-init
 loop-step-init c = (c.in_ok-group.ensures, ap length c.in_ok-group.ensures)

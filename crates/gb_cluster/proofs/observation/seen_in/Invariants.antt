@@ -1,0 +1,10 @@
+use Rattle.std.proofs.Common.{◌≡◌}
+use Rattle.std.specs.Prelude.{map}
+use Rattle.gb_cluster.specs.Observation.{steps_of, numbers_below, seen_at}
+use Rattle.gb_cluster.specs.Project.{frames, items_of, replies_to}
+use Rattle.gb_cluster.proofs.observation.seen_in.Given as goal
+
+abbrev pub invariant-loop-a : goal.invariant-loop-a
+invariant-loop-a l =
+    let steps = steps_of l.events l.answers in
+    l.seen.items ≡ map (seen_at l.nodes (λ a. replies_to l.addr a steps) (λ a b. items_of l.addr (frames a b l.packets steps))) (numbers_below l.a)
