@@ -12,6 +12,7 @@ use Rattle.gb_types.specs.declared.refusal.Refusal.TheVariants.{Stopped}
 use Rattle.gb_types.specs.declared.reply.Reply.{Reply}
 use Rattle.gb_types.specs.declared.reply.Reply.TheVariants.{Done, Said, Refused}
 use Rattle.gb_types.specs.declared.request.Request.{Request}
+use Rattle.gb_types.specs.declared.request.Request.TheVariants.{AddTenant, Make, OpenGroup, Say, Fetch}
 use Rattle.gb_cluster.specs.declared.answer.Answer.TheVariants.{Reply as Replied}
 use Rattle.gb_cluster.specs.declared.event.Event.TheVariants.{At}
 use Rattle.gb_cluster.specs.declared.group.GroupEvent.{GroupEvent}
@@ -22,11 +23,19 @@ use Rattle.gb_cluster.specs.declared.step.Step.{Step}
 use Rattle.gb_cluster.specs.Alone.{Member, Group, did, commanded, member_after, alone_from, reply_to, running_reply, is_marked, MayHappen, IsLegalFrom}
 use Rattle.gb_cluster.specs.Holds.{Stands, MemberIs, is_concerned}
 use Rattle.gb_cluster.specs.NodeValue.{NodeValue}
-use Rattle.gb_cluster.specs.Project.{has_row, is_noticed, is_stopped, is_met, is_met_by, is_named, made_at, made_by, or_else, replies_to, reply_in, requested}
+use Rattle.gb_cluster.specs.Project.{command_for, has_row, is_noticed, is_stopped, is_met, is_met_by, is_named, made_at, made_by, or_else, replies_to, reply_in, requested}
 use Rattle.gb_cluster.specs.World.{reserve_for, node_did}
 use Rattle.gb_cluster.proofs.NodeLemmas.{same_stands}
 use Rattle.gb_cluster.proofs.StopLemmas.{unmet}
 use Rattle.gb_cluster.proofs.WorldLemmas.{eqb_self, after_there, after_elsewhere}
+
+-- a request that does not name the group is no command of it
+pub command_unnamed : (g : Addr) (a : NodeId) (request : Request) → is_named g request ≡ false → command_for g a request ≡ []
+command_unnamed g a (AddTenant token row) unnamed = refl
+command_unnamed g a (Make token addr spec) unnamed = rw unnamed refl
+command_unnamed g a (OpenGroup token addr) unnamed = rw unnamed refl
+command_unnamed g a (Say token addr payload) unnamed = rw unnamed refl
+command_unnamed g a (Fetch token addr from most) unnamed = rw unnamed refl
 
 -- a node and a group before a request
 pub record Before (nodes : ℕ) (g : Addr) (a : NodeId) (v : NodeValue) (group : Group) (carried : ℕ → List Entry) (steps : List Step) : Type 0 where

@@ -3,6 +3,7 @@ use Rattle.std.proofs.Common.{◌≡◌, ℕ, zero, suc, ◌+◌, ◌-◌, ◌�
 use Rattle.std.specs.Prelude.{All, slice_get, if◌then◌else◌}
 use Rattle.std.proofs.lemmas.Bool.{eq-eqb}
 use Rattle.std.proofs.lemmas.List.Elements.{All-nil, All-cons, All-head, All-tail, All-append, All-weaker}
+use Rattle.std.proofs.Math.Seq.{take-nil}
 use Rattle.gb_types.specs.declared.entry.Entry.{Entry}
 use Rattle.gb_types.specs.declared.message.MsgId.{MsgId}
 use Rattle.gb_types.specs.declared.node.NodeId.{NodeId}
@@ -76,11 +77,7 @@ fits_taken said me from place (Some x) m is fits =
     record { known = next.known; put = next.put }
 
 all_taken : (P : Entry → Type 0) (n : ℕ) (xs : List Entry) → All P xs → All P (take n xs)
-all_taken P n [] all = subst (All P) (sym (take_none n)) all
-  where
-    take_none : (n : ℕ) → take n (let none : List Entry = [] in none) ≡ []
-    take_none zero = refl
-    take_none (suc n) = refl
+all_taken P n [] all = subst (All P) (sym (take-nil n)) all
 all_taken P zero (x ∷ xs) all = All-nil P
 all_taken P (suc n) (x ∷ xs) all = All-cons P x (take n xs) (All-head P x xs all) (all_taken P n xs (All-tail P x xs all))
 

@@ -4,7 +4,7 @@ use Rattle.std.specs.Prelude.{map, fold, replicate, slice_get, slice_index_or, s
 use Rattle.std.specs.FinSet as set
 use Rattle.std.proofs.lemmas.List.{get_or-replicate, get_or-set_same, get_or-set_other, get_or_append_left, length-set, length-map, map-append, take_more}
 use Rattle.std.proofs.lemmas.List.Sums.{fold-append}
-use Rattle.std.proofs.Math.Seq.{get_or-append_seam}
+use Rattle.std.proofs.Math.Seq.{get_or-append_seam, take-nil}
 use Rattle.std.proofs.lemmas.Bool.{cases_lt}
 use Rattle.std.proofs.lemmas.Bool.Decides.{eqb_tells}
 use Rattle.gb_types.specs.declared.entry.Entry.{Entry}
@@ -188,15 +188,11 @@ cut_at x q taken t rows put count there here = elim (eqb_tells x q) [
     beyond (z ∷ ys) zero y le = absurd (omega arith)
     beyond (z ∷ ys) (suc k) y le = beyond ys k y (omega arith)
 
-    take_none : (n : ℕ) → take n (let none : List Entry = [] in none) ≡ []
-    take_none zero = refl
-    take_none (suc n) = refl
-
     same : ((q < length rows) ⊎ (length rows ≤ q)) → get_or (slice_set rows q (take (get_or taken q 0) (get_or rows q []))) q [] ≡ take (get_or taken q 0) (get_or rows q [])
     same (inl within) = get_or-set_same rows q (take (get_or taken q 0) (get_or rows q [])) [] within
     same (inr outside) =
         let none = beyond rows q (take (get_or taken q 0) (get_or rows q [])) outside in
-        none.1 ∙ (sym (take_none (get_or taken q 0)) ∙ ap (take (get_or taken q 0)) (sym none.0))
+        none.1 ∙ (sym (take-nil (get_or taken q 0)) ∙ ap (take (get_or taken q 0)) (sym none.0))
 
 cut_listed : (q : NodeId) (v : MemberValue) (m : Member) → IsListed v m → IsListed (value_cut q v) (cut q m)
 cut_listed q v m h = record {

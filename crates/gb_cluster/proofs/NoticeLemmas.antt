@@ -8,6 +8,7 @@ use Rattle.std.proofs.lemmas.Bool.Decides.{nat_tests}
 use Rattle.gb_types.specs.declared.limits.TheConstants.{NODES, SILENCE_MIN}
 use Rattle.gb_types.specs.declared.node.NodeId.{NodeId}
 use Rattle.gb_types.specs.declared.spec.Spec.{Spec}
+use Rattle.gb_layer.specs.Bools.{or_second}
 use Rattle.gb_detect.specs.Silence.{is_noticed as after_silence}
 use Rattle.gb_detect.specs.Watch.{Watch}
 use Rattle.gb_detect.proofs.ReplayLemmas.{noticed-replay}
@@ -166,16 +167,12 @@ notices_legal nodes number a low (b ∷ bs) group rise running new =
           (λ x is. ap (λ (m : Member). is_marked x m.noticed) there ∙ (ap (λ k. nat_eq k x || is_marked x (group a.number).noticed) (numbered_is b rise.1) ∙ later x is)),
     )
   where
-    or_on : (c d : Bool) → d ≡ true → (c || d) ≡ true
-    or_on true d is = refl
-    or_on false d is = is
-
     differs : (x : ℕ) → is_marked x bs ≡ true → ((b ≡ x) ⊎ (b ≡ x → ⊥)) → nat_eq b x ≡ false
     differs x is (inl same) = let none : is_marked x bs ≡ false = unmarked_below (b + 1) x bs (omega arith) rise.2 in cc
     differs x is (inr other) = grind (arith, nat_tests)
 
     later : (x : ℕ) → is_marked x bs ≡ true → (nat_eq b x || is_marked x (group a.number).noticed) ≡ false
-    later x is = ap (λ c. c || is_marked x (group a.number).noticed) (differs x is (cases_eq b x)) ∙ new x (or_on (nat_eq b x) (is_marked x bs) is)
+    later x is = ap (λ c. c || is_marked x (group a.number).noticed) (differs x is (cases_eq b x)) ∙ new x (or_second (nat_eq b x) (is_marked x bs) is)
 
 -- only nodes are noticed
 pub noticed_below : (nodes silence : ℕ) (packets : List Packet) (steps : List Step) (a : ℕ) (v : NodeValue) → nodes ≤ NODES → SILENCE_MIN ≤ silence → NodeIs nodes silence packets steps a v → (b : ℕ) → is_noticed a b steps ≡ true → b < NODES

@@ -21,6 +21,7 @@ use Rattle.gb_cluster.specs.declared.answer.Answer.TheVariants.{NoPacket}
 use Rattle.gb_cluster.specs.declared.event.Event.{Event}
 use Rattle.gb_cluster.specs.declared.packet.Packet.{Packet}
 use Rattle.gb_cluster.specs.declared.step.Step.{Step}
+use Rattle.gb_cluster.proofs.MoreLemmas.{items_of-append}
 
 paired_more : (i : ℕ) (events : List Event) (answers : List Answer) (e : Event) (a : Answer) → i < length events → i < length answers
     → paired (take (suc i) events) (take (suc i) answers) ≡ paired (take i events) (take i answers) ++ record { event = get_or events i e; answer = get_or answers i a } ∷ []
@@ -73,11 +74,6 @@ take_short zero [] le = refl
 take_short (suc n) [] le = refl
 take_short zero (x ∷ xs) le = absurd (omega arith)
 take_short (suc n) (x ∷ xs) le = ap (λ zs. x ∷ zs) (take_short n xs (omega arith))
-
-pub items_of-append : (g : Addr) (ps qs : List Packet) → items_of g (ps ++ qs) ≡ items_of g ps ++ items_of g qs
-unfolding items_of
-items_of-append g [] qs = refl
-items_of-append g (p ∷ ps) qs = ap (λ xs. items_in g p ++ xs) (items_of-append g ps qs) ∙ sym (append_assoc (items_in g p) (items_of g ps) (items_of g qs))
 
 pub items_of_one : (g : Addr) (p : Packet) → items_of g (p ∷ []) ≡ items_in g p
 unfolding items_of

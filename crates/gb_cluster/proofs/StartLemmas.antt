@@ -24,7 +24,7 @@ use Rattle.gb_cluster.specs.Headline.{IsPlaced, starved_answer}
 use Rattle.gb_cluster.specs.Project.{project, frames, items_of, is_taken, is_acked, is_noticed, made_at, watched, replies_to, asked, requested, command_for, has_row, is_met, is_met_by, is_named, is_own, is_stopped, is_taken_in, made_by, reply_in, with_stop}
 use Rattle.gb_cluster.specs.World.{World, node_of, new_node, new_world, with_step}
 use Rattle.gb_cluster.specs.Holds.{NodeIs, IsLink, Holds, undone_of}
-use Rattle.gb_cluster.proofs.AskLemmas.{if_same}
+use Rattle.gb_cluster.proofs.AskLemmas.{if_same, command_unnamed}
 use Rattle.gb_cluster.proofs.IdleLemmas.{IsQuiet, idle_holds}
 use Rattle.gb_cluster.proofs.QuietLemmas.{quiet}
 use Rattle.gb_cluster.proofs.WorldLemmas.{eqb_apart_back}
@@ -52,14 +52,6 @@ named_own g (OpenGroup token addr) foreign = foreign
 named_own g (Say token addr payload) foreign = foreign
 named_own g (Fetch token addr from most) foreign = foreign
 
--- a request that does not name the group is no command of it
-foreign_command : (g : Addr) (a : NodeId) (request : Request) → is_named g request ≡ false → command_for g a request ≡ []
-foreign_command g a (AddTenant token row) foreign = refl
-foreign_command g a (Make token addr spec) foreign = rw foreign refl
-foreign_command g a (OpenGroup token addr) foreign = rw foreign refl
-foreign_command g a (Say token addr payload) foreign = rw foreign refl
-foreign_command g a (Fetch token addr from most) foreign = rw foreign refl
-
 -- a request that was refused for want of memory gives a group nothing, unless it is the group's own
 starved_requested : (g : Addr) (steps : List Step) (a : NodeId) (request : Request) → is_named g request ≡ false → requested g steps a request (Refused OutOfMemory) ≡ []
 starved_requested g steps a (AddTenant token row) foreign = if_same (has_row a.number g.tenant steps) []
@@ -70,7 +62,7 @@ starved_requested g steps a (Fetch token addr from most) foreign = rw foreign (i
 
 starved_given : (g : Addr) (steps : List Step) (a : NodeId) (request : Request) → is_named g request ≡ false → asked g steps a request (Refused OutOfMemory) ≡ []
 starved_given g steps a request foreign =
-    rw (starved_requested g steps a request foreign, foreign_command g a request foreign) (by (is_stopped a.number steps) (has_row a.number g.tenant steps))
+    rw (starved_requested g steps a request foreign, command_unnamed g a request foreign) (by (is_stopped a.number steps) (has_row a.number g.tenant steps))
   where
     by : (stopped row : Bool) → (if stopped then (if row then with_stop a (is_met g a.number steps) [] else []) else []) ≡ []
     by true true = refl

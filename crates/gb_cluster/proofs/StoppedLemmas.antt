@@ -20,7 +20,7 @@ use Rattle.gb_cluster.specs.Alone.{Member, Group, after, alone_from, commanded, 
 use Rattle.gb_cluster.specs.NodeValue.{NodeValue}
 use Rattle.gb_cluster.specs.Project.{has_row, is_stopped, is_met, is_met_by, is_named, made_by, command_for, with_stop, asked}
 use Rattle.gb_cluster.specs.World.{node_did}
-use Rattle.gb_cluster.proofs.AskLemmas.{Before, After, quiet, member_asked, silent_unnamed, silent_absent, told_one}
+use Rattle.gb_cluster.proofs.AskLemmas.{Before, After, quiet, command_unnamed, member_asked, silent_unnamed, silent_absent, told_one}
 use Rattle.gb_cluster.proofs.NodeLemmas.{same_stands}
 use Rattle.gb_cluster.proofs.WorldLemmas.{eqb_self, after_there, after_elsewhere}
 
@@ -57,13 +57,6 @@ command_named g a (Make token addr spec) named = record { event = AskMake spec; 
 command_named g a (OpenGroup token addr) named = record { event = AskOpen; one = rw named refl; may = λ group. tt; replied = λ nodes number group. refl; nothing = λ m. refl }
 command_named g a (Say token addr payload) named = record { event = AskSay payload; one = rw named refl; may = λ group. tt; replied = λ nodes number group. refl; nothing = λ m. refl }
 command_named g a (Fetch token addr from most) named = record { event = AskFetch from most; one = rw named refl; may = λ group. tt; replied = λ nodes number group. refl; nothing = λ m. refl }
-
-command_unnamed : (g : Addr) (a : NodeId) (request : Request) → is_named g request ≡ false → command_for g a request ≡ []
-command_unnamed g a (AddTenant token row) unnamed = refl
-command_unnamed g a (Make token addr spec) unnamed = rw unnamed refl
-command_unnamed g a (OpenGroup token addr) unnamed = rw unnamed refl
-command_unnamed g a (Say token addr payload) unnamed = rw unnamed refl
-command_unnamed g a (Fetch token addr from most) unnamed = rw unnamed refl
 
 -- the command meets the stop
 met_now : (g : Addr) (a : NodeId) (steps : List Step) (request : Request) → has_row a.number g.tenant steps ≡ true → is_named g request ≡ true → is_stopped a.number steps ≡ true → is_met_by g a.number steps (At a request) ≡ true

@@ -159,7 +159,7 @@ alone nodes number steps = alone_from nodes number nobody steps
 abbrev pub is_marked : ℕ → List ℕ → Bool
 is_marked place marks = list_any (λ p. nat_eq p place) marks
 
--- What may happen next: what waits is taken, what is carried comes once, what came is acknowledged once, a node is noticed once at another, and nothing but commands
+-- What may happen next: what waits is taken, what is carried comes once, what came is acknowledged once, a node is noticed once at another, and none of these
 -- happens at a stopped node.
 abbrev pub MayHappen : NodeId → GroupEvent → Group → Type 0
 MayHappen me (Took b count) group = ((group me.number).stopped ≡ false) × (0 < count) × ((group me.number).taken b.number + count ≤ length ((group me.number).put b.number))

@@ -1,4 +1,4 @@
--- What links do: each answer about a packet, a tick or a stop, read from the events, answers and packets before it, never from the nodes' state.
+-- What links do: each answer about a packet, a tick or a stop, read from the events, answers and packets before it, never from the nodes' state, but for what waits there.
 use Rattle.std.specs.Prelude.{ℕ, ◌+◌, ◌-◌, ◌%◌, ◌≡◌, ◌≢◌, ◌≤◌, ◌⊎◌, true, false, List, [], ◌∷◌, ◌++◌, length, count_by, Some, None, is_some, slice_get, nat_eq, if◌then◌else◌}
 use Rattle.std.specs.List.{range_with_len}
 use Rattle.std.specs.FinSet as set

@@ -37,7 +37,7 @@ ComesTo nodes silence [] w = w ≡ new_world nodes silence
 ComesTo nodes silence (s ∷ steps) w = (before : World) × ComesTo nodes silence steps before × IsStep before s.event s.answer w × IsLinkStep before s.event s.answer w
 
 -- a cluster of so many nodes, which notice a node that is silent for so many ticks, took these events in order, with these answers, and these are the packets that
--- were sent; in it each group is what it is alone, and its logs keep integrity and order
+-- were sent; in it each group of which no request was refused for want of room or of memory is what it is alone, and its logs keep integrity and order
 pub record IsRun (nodes silence : ℕ) (events : List Event) (answers : List Answer) (packets : List Packet) (w : World) : Type 0 where
   pub comes : ComesTo nodes silence (steps_of events answers) w
   pub steps : w.steps ≡ steps_of events answers

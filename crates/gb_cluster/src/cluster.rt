@@ -310,7 +310,8 @@ impl Cluster {
         Ok(answer)
     }
 
-    /// Every packet that was sent, in order. What is seen of each group in the run is what is seen of it alone.
+    /// Every packet that was sent, in order. The replies and the carried items that are seen in the run of each group
+    /// of which no request was refused for want of room or of memory are what is seen of it alone.
     pub fn into_packets(self) -> Vec<Packet>
         ensures packets { result.items ≡ self.packets }
         ensures observed { AreObserved (length self.nodes) self.packets self.steps }

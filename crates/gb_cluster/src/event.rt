@@ -11,7 +11,7 @@ use std::alloc::Global;
 pub enum Event {
     /// A request is asked at a node.
     At(NodeId, Request),
-    /// The first node packs what waits for the second as the next frame of their link.
+    /// The first node packs the first item that waits for the second as the next frame of their link.
     Pack(NodeId, NodeId),
     /// The first node sends the second a frame of their link again that was not acknowledged yet, by its number;
     /// 0 stands for the lowest such number.

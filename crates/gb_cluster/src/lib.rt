@@ -1,5 +1,5 @@
 //! A cluster: its nodes, every packet ever sent, and what came of each event. And the theorem that each group in
-//! it is what it would be alone.
+//! it of which no request was refused for want of room or of memory is what it would be alone.
 //!
 //! There is no time, no thread and no socket here: a cluster is told what happens, event by event. Read
 //! `cluster::Cluster` first, then specs/Alone.antt and specs/Headline.antt. `projection`, `observation` and `model`

@@ -15,8 +15,8 @@ use crate::event::Event;
 use crate::group::{GroupEvent, GroupStep, Reserve, is_same};
 use crate::packet::Packet;
 use crate::projection::past::{
-    count_in, frame_of, is_row_there, items_before, made_with, packet_of,
-    was_acknowledged, was_met, was_noticed, was_stopped, was_taken,
+    count_in, frame_of, is_row_there, items_before, made_with, packet_of, was_acknowledged,
+    was_met, was_noticed, was_stopped, was_taken,
 };
 use crate::trace::Trace;
 use gb_link::ack::covers;

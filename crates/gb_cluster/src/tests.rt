@@ -1,13 +1,10 @@
 //! Runs of small clusters, answer by answer.
-ghost use Rattle.std.specs.Prelude.{◌≡◌};
-
 use crate::answer::{Answer, Frame, Good, Halted, Sent, Taken, Ticked};
 use crate::cluster::Cluster;
 use crate::event::Event;
 use crate::model::alone;
 use crate::observation::observe;
-use crate::observation::tests::are_alike;
-use crate::plan::Plan;
+use crate::observation::tests::{are_alike, plan};
 use crate::projection::project;
 use crate::trace::{Trace, are_placed};
 use gb_types::address::Addr;

@@ -10,7 +10,7 @@ pub enum Command {
     Cluster { nodes: u8, silence: u16 },
     /// Makes a request at a node.
     Request(NodeId, Request),
-    /// Lets the first node pack what waits for the second.
+    /// Lets the first node pack the first item that waits for the second.
     Pack(NodeId, NodeId),
     /// Lets the first node give its frame with this number to the second again, where the frame is
     /// not done there; 0 stands for the lowest such number.

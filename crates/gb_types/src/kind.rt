@@ -6,7 +6,7 @@
 pub enum Kind {
     /// Best-effort broadcast.
     Beb,
-    /// Lazy reliable broadcast: a message is relayed once a notice says that its origin stopped.
+    /// Lazy reliable broadcast: a message is relayed once its origin is noticed to have crashed.
     Lazy,
     /// Eager reliable broadcast: every message is relayed.
     Eager,

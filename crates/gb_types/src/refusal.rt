@@ -18,7 +18,7 @@ pub enum Refusal {
     /// The members are none, without this node, or beyond the cluster.
     #[error("bad members")]
     BadMembers,
-    /// More is asked than the tenant has, or than the service gives.
+    /// More is asked than the tenant has, or than the service gives, or nothing where something is needed.
     #[error("over the reserve")]
     OverReserve,
     /// The group is not in the phase that the request needs.
@@ -30,16 +30,16 @@ pub enum Refusal {
     /// All messages that the group allows this member are said.
     #[error("the budget of messages is spent")]
     Budget,
-    /// The payload would pass the bytes that the group allows this member.
+    /// The payload would pass the bytes that the group allows this member. Not answered yet.
     #[error("the budget of bytes is spent")]
     Bytes,
-    /// As many own messages are unfinished as the group allows.
+    /// As many own messages are unfinished as the group allows. Not answered yet.
     #[error("the window is full")]
     Window,
     /// The place is beyond the log, or too many entries are asked for.
     #[error("bad place")]
     BadPlace,
-    /// The node has no place for so many groups.
+    /// The node has no place for another tenant or group.
     #[error("no room")]
     NoRoom,
     /// The tenant is there already.

@@ -1,3 +1,5 @@
+ghost use Rattle.std.specs.Prelude.{◌≡◌};
+
 use super::*;
 use crate::answer::{Frame, Good, Halted, Sent, Taken, Ticked};
 use crate::group::{GroupEvent, GroupStep};
@@ -79,9 +81,7 @@ fn short_event(step: &GroupStep) -> (u8, Told) {
         GroupEvent::Fetch(from, max) => Told::Fetch(*from, *max),
         GroupEvent::Took(to, count) => Told::Took(to.number, *count),
         GroupEvent::Came(from, place) => Told::Came(from.number, *place),
-        GroupEvent::Done(to, place, count) => {
-            Told::Done(to.number, *place, *count)
-        }
+        GroupEvent::Done(to, place, count) => { Told::Done(to.number, *place, *count) }
         GroupEvent::Notice(who) => Told::Notice(who.number),
         GroupEvent::Stop => Told::Stop,
     };
@@ -161,7 +161,9 @@ impl Run {
         let mut found = NodeSet::new();
         found.insert(who);
         self.events.push(Event::Tick(A))?;
-        self.trace.answers.push(Answer::Ticked(Ticked::Noticed(found)))?;
+        self.trace
+            .answers
+            .push(Answer::Ticked(Ticked::Noticed(found)))?;
         Ok(())
     }
 
