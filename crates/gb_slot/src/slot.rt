@@ -197,8 +197,8 @@ impl Slot {
         }
     }
 
-    /// Takes note that a node has crashed. Nothing waits for it from then on. A node that is no other member
-    /// changes nothing. Takes no memory.
+    /// Takes note that a node is noticed to have crashed. Nothing waits for it from then on. A node that is no
+    /// other member changes nothing. Takes no memory.
     pub fn notice(&mut self, who: NodeId)
         requires call { 1 ≤ self.old.calls }
         ensures state { self.new.state ≡ slot_noticed who self.old.state }

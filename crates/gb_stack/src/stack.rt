@@ -22,7 +22,7 @@ use gb_types::node::{NodeId, NodeSet};
 use gb_types::spec::Spec;
 use std::alloc::Global;
 
-/// The layer takes note that a node was noticed to have crashed, where the node is another member that was.
+/// The layer takes the notice of a node, where the node is another member that was noticed.
 fn hear_of<L: Layer>(
     layer: &mut L,
     me: NodeId,
@@ -42,7 +42,7 @@ fn hear_of<L: Layer>(
     }
 }
 
-/// The layer takes note that the other members that were noticed have crashed.
+/// The layer takes the notices of the other members that were noticed.
 fn hear<L: Layer>(
     layer: &mut L,
     me: NodeId,
