@@ -1,10 +1,10 @@
 use crate::fifo::Fifo;
-use crate::plain;
+use crate::{order, plain};
 use gb_layer::beb::Beb;
 use gb_layer::call::Call;
 use gb_layer::direct::Direct;
 use gb_layer::effects::Effects;
-use gb_layer::layer::{Broadcast, Layer};
+use gb_layer::layer::Layer;
 use gb_types::message::MsgId;
 use gb_types::node::NodeId;
 use std::alloc::Global;
@@ -72,6 +72,8 @@ fn compare(rt: &impl Abort, alloc: Global, calls: &[Call]) -> Result<(), Fail> {
 /// relayed copy and a notice.
 #[test]
 fn fifo_is_the_plain_order_over_every_short_history(rt: HostRuntime) -> Result<(), Fail> {
+    order::one_two_three::<Direct<Beb>>();
+    order::in_origin_order::<Direct<Beb>>();
     let choices = [
         arrival(ORIGIN, 1),
         arrival(ORIGIN, 2),

@@ -1,9 +1,9 @@
 //! The lowest layer.
-ghost use Rattle.std.specs.Prelude.{◌≡◌, ◌≤◌};
-ghost use Rattle.std.proofs.Common.{arith, refl};
+ghost use Rattle.std.specs.Prelude.{◌≡◌};
+ghost use Rattle.std.proofs.Common.{refl};
 ghost use Rattle.gb_types.specs.declared.node.NodeId.{NodeId};
-ghost use Rattle.gb_layer.specs.BebMachine.{beb_gives};
-ghost use Rattle.gb_layer.specs.BebLaws.{beb_sends_handed_in, beb_ups_handed_in, beb_up_once, beb_sent_once, beb_noticed_once, fair_once};
+ghost use Rattle.gb_layer.specs.BebMachine.{beb_gives, BebRoom};
+ghost use Rattle.gb_layer.specs.BebLaws.{beb_roomier, beb_sends_handed_in, beb_ups_handed_in, beb_up_once, beb_sent_once, beb_noticed_once, fair_once};
 
 use crate::effects::Effects;
 use crate::layer::Layer;
@@ -41,7 +41,7 @@ impl Layer for Beb {
 
     ghost gives = { beb_gives };
 
-    ghost has_room = { λ _ sends ups calls. (calls ≤ sends) × (calls ≤ ups) };
+    ghost has_room = { BebRoom };
 
     fn me(&self) -> NodeId {
         self.me
@@ -64,7 +64,7 @@ impl Layer for Beb {
 
     fn notice(&mut self, _who: NodeId, _out: &mut Effects) {}
 
-    ghost roomier = { λ x a b n a' b' n' h i j k. Prim.omega arith };
+    ghost roomier = { beb_roomier };
 
     ghost me_stays = { λ s c. refl };
 

@@ -74,7 +74,7 @@ pub trait Layer {
         ensures room { (n : ℕ) → has_room self.old (free_sends out.old) (free_ups out.old) (n + 1)
             → has_room self.new (free_sends out.new) (free_ups out.new) n };
 
-    /// Takes note that another node has stopped.
+    /// Takes note that another node is noticed to have crashed.
     fn notice(&mut self, who: NodeId, out: &mut Effects)
         requires { has_room self.old (free_sends out.old) (free_ups out.old) 1 }
         ensures meaning { meaning self.new ≡ next (meaning self.old) (Notice who) }

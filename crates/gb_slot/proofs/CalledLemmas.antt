@@ -1,5 +1,5 @@
 -- What one call of the group's broadcast makes of a slot.
-use Rattle.std.proofs.Common.{◌≡◌, ◌≢◌, ℕ, ◌<◌, true, false, List, [], ◌∷◌, ◌++◌, length, drop, refl, sym, ◌∙◌, ap, subst, arith, length-append}
+use Rattle.std.proofs.Common.{◌≡◌, ◌≢◌, ℕ, ◌<◌, true, false, List, zero, suc, [], ◌∷◌, ◌++◌, length, drop, refl, sym, ◌∙◌, ap, subst, arith, length-append}
 use Rattle.std.specs.Prelude.{if◌then◌else◌, map}
 use Rattle.std.specs.Ordering.{nat_cmp}
 use Rattle.std.specs.FinSet as set
@@ -7,20 +7,32 @@ use Rattle.std.specs.List.{AllByRecursion}
 use Rattle.std.proofs.lemmas.List.{drop-append-le, map-append}
 use Rattle.gb_types.specs.declared.entry.Entry.{Entry}
 use Rattle.gb_types.specs.declared.message.MsgId.{MsgId}
+use Rattle.gb_layer.specs.Lists.{all_append, all_weaker}
 use Rattle.gb_layer.specs.Machine.{mentions, messages, was_noticed, came_from}
 use Rattle.gb_layer.specs.Modules.{IsLawful}
 use Rattle.gb_stack.specs.Kinds.{kind_delivers, kind_broadcasts}
 use Rattle.gb_stack.specs.StackState.{stack_gives}
+use Rattle.gb_stack.proofs.DeliveryLemmas.{kind_broadcasts_mentioned}
 use Rattle.gb_stack.proofs.StandsLemmas as stack
 use Rattle.gb_slot.specs.declared.history.GroupCall.{GroupCall}
 use Rattle.gb_slot.specs.History.{call_of, calls_of, with_told, known, said_in, puts_of}
+use Rattle.gb_slot.specs.KnownLaws.{has-known}
 use Rattle.gb_slot.specs.Messages.{has, entry_in}
 use Rattle.gb_slot.specs.Rules.{is_other}
 use Rattle.gb_slot.specs.Slot.{waiting, taken_for, came_before, slot_called}
 use Rattle.gb_slot.specs.SlotState.{SlotState}
 use Rattle.gb_slot.specs.StandsFor.{StandsFor, reaches}
-use Rattle.gb_slot.proofs.BroadcastLemmas.{all-append, all-drop, all-weaker, broadcasts_mentioned}
-use Rattle.gb_slot.proofs.KnownLemmas.{has-known, still_told, entries-stay_told}
+use Rattle.gb_slot.proofs.KnownLemmas.{still_told, entries-stay_told}
+
+-- what holds of each element holds of each that is left
+all_drop : {X : Type 0} (P : X → Type 0) (n : ℕ) (xs : List X) → AllByRecursion P xs → AllByRecursion P (drop n xs)
+all_drop P n [] a = all_drop_nil n
+  where
+    all_drop_nil : (n : ℕ) → AllByRecursion P (drop n [])
+    all_drop_nil zero = tt
+    all_drop_nil (suc n) = tt
+all_drop P zero (x ∷ xs) a = a
+all_drop P (suc n) (x ∷ xs) a = all_drop P n xs a.1
 
 -- what the broadcast makes of a call
 called_sends : (s : SlotState) (told : List GroupCall) (c : GroupCall) → StandsFor s told → IsLawful s.me.number (call_of c ∷ calls_of told) → (stack_gives s.stack (call_of c)).sends ≡ kind_broadcasts s.spec.kind s.me.number (call_of c) (calls_of told)
@@ -47,7 +59,7 @@ called_stands s told c said noticed acknowledged st lawful count own arrivals ot
     let sends : List MsgId = (stack_gives s.stack (call_of c)).sends in
     let P : MsgId → Type 0 = λ m. has store m ≡ true in
     let new : AllByRecursion P (kind_broadcasts s.spec.kind s.me.number (call_of c) (calls_of told)) =
-    all-weaker (λ m. mentions (call_of c ∷ calls_of told) m ≡ true) P (λ m is. ap (λ es. has es m) (called_known s told c st) ∙ (has-known (c ∷ told) m ∙ is)) _ (broadcasts_mentioned s.spec.kind s.me.number (call_of c) (calls_of told)) in
+    all_weaker (λ m. mentions (call_of c ∷ calls_of told) m ≡ true) P (λ m is. ap (λ es. has es m) (called_known s told c st) ∙ (has-known (c ∷ told) m ∙ is)) _ (kind_broadcasts_mentioned s.spec.kind s.me.number (call_of c) (calls_of told)) in
     record {
       lawful = lawful;
       stack = stack.called_stands s.spec.kind s.me s.spec.members (calls_of told) s.stack (call_of c) st.stack;
@@ -58,7 +70,7 @@ called_stands s told c said noticed acknowledged st lawful count own arrivals ot
       said = count;
       own = own;
       arrivals = arrivals;
-      outgoing = all-append P s.outgoing sends (all-weaker (λ m. has s.store m ≡ true) P (λ m there. still_told s.store c m there) s.outgoing st.outgoing) (subst (AllByRecursion P) (sym (called_sends s told c st lawful)) new);
+      outgoing = all_append P s.outgoing sends (all_weaker (λ m. has s.store m ≡ true) P (λ m there. still_told s.store c m there) s.outgoing st.outgoing) (subst (AllByRecursion P) (sym (called_sends s told c st lawful)) new);
       taken = λ b. omega (arith, st.taken b, length-append s.outgoing sends);
       size = st.size;
       noticed = others;
@@ -87,6 +99,6 @@ waiting-called s told c b st lawful =
     reached =
         ap (map (entry_in store)) (drop-append-le (taken_for s b) s.outgoing sends (st.taken b))
         ∙ (map-append (entry_in store) waited sends
-        ∙ (ap (λ es. es ++ map (entry_in store) sends) (entries-stay_told s.store c waited (all-drop (λ m. has s.store m ≡ true) (taken_for s b) s.outgoing st.outgoing))
+        ∙ (ap (λ es. es ++ map (entry_in store) sends) (entries-stay_told s.store c waited (all_drop (λ m. has s.store m ≡ true) (taken_for s b) s.outgoing st.outgoing))
         ∙ (ap (λ ms. map (entry_in s.store) waited ++ map (entry_in store) ms) (called_sends s told c st lawful)
         ∙ ap (λ es. map (entry_in s.store) waited ++ map (entry_in es) (kind_broadcasts s.spec.kind s.me.number (call_of c) (calls_of told))) (called_known s told c st))))

@@ -31,7 +31,7 @@ use Rattle.gb_slot.specs.Rules.{is_other, is_let_fall}
 use Rattle.gb_slot.specs.Slot.{waiting, taken_for, came_before, own_entry, slot_called, falls, with_acknowledgement, acknowledged_by, slot_took}
 use Rattle.gb_slot.specs.SlotState.{SlotState}
 use Rattle.gb_slot.specs.StandsFor.{StandsFor, reaches}
-use Rattle.gb_slot.proofs.KnownLemmas.{has-known}
+use Rattle.gb_slot.specs.KnownLaws.{has-known}
 use Rattle.gb_slot.proofs.NoticeLemmas.{contains-inserted, other_differs, notices_lawful, none_mentioned, none_came, none_known, none_said, none_logged, notice_calls, others_differ, notices_tell, noticed_are}
 use Rattle.gb_slot.proofs.TakenLemmas.{none_taken, drop-drop, taken_more, taken_elsewhere, waiting_few}
 use Rattle.gb_slot.proofs.CalledLemmas.{called_stands, waiting-called}

@@ -1,4 +1,3 @@
-pub mod BroadcastLemmas
 pub mod CalledLemmas
 pub mod FallsLemmas
 pub mod HistoryLemmas

@@ -6,5 +6,6 @@ pub mod Rules
 pub mod Replied
 pub mod Slot
 pub mod History
+pub mod KnownLaws
 pub mod StandsFor
 pub mod HistoryLaws

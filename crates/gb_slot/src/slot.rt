@@ -1,5 +1,5 @@
 //! One group at one node.
-ghost use Rattle.std.specs.Prelude.{◌≡◌, ◌⊎◌, ℕ, ◌+◌, ◌*◌, ◌≤◌, ◌<◌, ◌&&◌, not, List, [], ◌∷◌, ◌++◌, take, drop, map, slice_get, length, vec_len, Ok, Err, IfOk, OnOk, OnErr, MatchOption, true, IsOkUnless};
+ghost use Rattle.std.specs.Prelude.{◌≡◌, ◌+◌, ◌≤◌, ◌<◌, ◌&&◌, not, List, [], ◌∷◌, take, drop, map, slice_get, length, vec_len, Ok, Err, IfOk, OnOk, MatchOption, true, IsOkUnless};
 ghost use Rattle.std.specs.FinSet as set;
 ghost use Rattle.gb_types.specs.declared.entry.Entry.{Entry as EntryValue};
 ghost use Rattle.std.specs.List.{list_any};
@@ -67,7 +67,7 @@ impl Model for Slot {
 }
 
 impl Slot {
-    ghost use Rattle.gb_slot.specs.Slot.{IsWithinLimits, new_slot, shown, waiting, slot_opened, slot_said, falls, slot_came, slot_noticed, slot_done, slot_took, taken_for};
+    ghost use Rattle.gb_slot.specs.Slot.{IsWithinLimits, new_slot, shown, waiting, slot_opened, slot_said, slot_came, slot_noticed, slot_done, slot_took};
 
     /// A group that was just made at the node `me`, one of its members, which has noticed these nodes. What is
     /// broadcast is put out to the other members.
@@ -197,8 +197,8 @@ impl Slot {
         }
     }
 
-    /// Takes note that a node has crashed. Nothing waits for it from then on. A node that is no other member
-    /// changes nothing. Takes no memory.
+    /// Takes note that a node is noticed to have crashed. Nothing waits for it from then on. A node that is no
+    /// other member changes nothing. Takes no memory.
     pub fn notice(&mut self, who: NodeId)
         requires call { 1 ≤ self.old.calls }
         ensures state { self.new.state ≡ slot_noticed who self.old.state }

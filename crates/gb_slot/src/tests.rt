@@ -1,7 +1,5 @@
-ghost use Rattle.std.specs.Prelude.{◌≡◌, ◌≤◌, true, IfOk, length};
+ghost use Rattle.std.specs.Prelude.{◌≤◌};
 ghost use Rattle.gb_types.specs.declared.limits.TheConstants.{MESSAGES};
-ghost use Rattle.gb_slot.specs.Rules.{is_member};
-ghost use Rattle.gb_slot.specs.Slot.{IsWithinLimits};
 
 use crate::slot::Slot;
 use gb_types::kind::Kind;

@@ -6,7 +6,9 @@ use Rattle.gb_types.specs.Message.{same}
 use Rattle.gb_types.specs.declared.kind.Kind.{Kind}
 use Rattle.gb_types.specs.declared.message.MsgId.{MsgId}
 use Rattle.gb_types.proofs.SameLemmas.{and-first, same-true}
-use Rattle.gb_layer.specs.Lists.{all_append, all_weaker}
+use Rattle.gb_layer.specs.Bools.{or_more, or_second, and_more}
+use Rattle.gb_layer.specs.Histories.{mentions_stays}
+use Rattle.gb_layer.specs.Lists.{all_append, all_weaker, list_all_weaker}
 use Rattle.gb_layer.specs.Machine.{mentions, was_noticed, came_from}
 use Rattle.gb_layer.specs.FirstMentions.{first_mentions-mentioned, first_mentions-once}
 use Rattle.gb_layer.specs.Modules.{first_mentions, holds, is_delivered, now_delivered, now_broadcast, newly, delivers, broadcasts, log}
@@ -19,61 +21,35 @@ use Rattle.gb_fifo.specs.OrderLaws.{AllIn}
 use Rattle.gb_fifo.proofs.InOrderLemmas.{order_runs, order_delivered, order_once}
 use Rattle.gb_stack.specs.Kinds.{base_of, is_fifo, kind_broadcasts, kind_log}
 
-or_more : (a b c : Bool) → (b ≡ true → c ≡ true) → (a || b) ≡ true → (a || c) ≡ true
-or_more true b c f h = refl
-or_more false b c f h = f h
-
-or_each : (a b c d : Bool) → (a ≡ true → c ≡ true) → (b ≡ true → d ≡ true) → (a || b) ≡ true → (c || d) ≡ true
-or_each true b c d f g h = ap (λ e. e || d) (f refl)
-or_each false b true d f g h = refl
-or_each false b false d f g h = g h
-
-and_each : (a b c d : Bool) → (a ≡ true → c ≡ true) → (b ≡ true → d ≡ true) → (a && b) ≡ true → (c && d) ≡ true
-and_each true b c d f g h = ap (λ e. e && d) (f refl) ∙ g h
-and_each false b c d f g h = cc
-
-or_new : (a b : Bool) → b ≡ true → (a || b) ≡ true
-or_new true b h = refl
-or_new false b h = h
-
 -- Nothing is forgotten.
-
-mentions_stays : (c : Call) (past : List Call) (m : MsgId) → mentions past m ≡ true → mentions (c ∷ past) m ≡ true
-mentions_stays (Say x) past m h = or_new (same x m) (mentions past m) h
-mentions_stays (Came p x) past m h = or_new (same x m) (mentions past m) h
-mentions_stays (Notice q) past m h = h
 
 noticed_stays : (c : Call) (past : List Call) (q : ℕ) → was_noticed past q ≡ true → was_noticed (c ∷ past) q ≡ true
 noticed_stays (Say x) past q h = h
 noticed_stays (Came p x) past q h = h
-noticed_stays (Notice p) past q h = or_new (nat_eq p.number q) (was_noticed past q) h
+noticed_stays (Notice p) past q h = or_second (nat_eq p.number q) (was_noticed past q) h
 
 came_stays : (me : ℕ) (c : Call) (past : List Call) (p : ℕ) (m : MsgId) → came_from me past p m ≡ true → came_from me (c ∷ past) p m ≡ true
-came_stays me (Say x) past p m h = or_new (nat_eq me p && same x m) (came_from me past p m) h
-came_stays me (Came q x) past p m h = or_new (nat_eq q.number p && same x m) (came_from me past p m) h
+came_stays me (Say x) past p m h = or_second (nat_eq me p && same x m) (came_from me past p m) h
+came_stays me (Came q x) past p m h = or_second (nat_eq q.number p && same x m) (came_from me past p m) h
 came_stays me (Notice q) past p m h = h
 
 holds_stays : (me : ℕ) (c : Call) (past : List Call) (p : ℕ) (m : MsgId) → holds me past p m ≡ true → holds me (c ∷ past) p m ≡ true
 holds_stays me c past p m h =
-    or_each (came_from me past p m) (nat_eq me p && mentions past m) (came_from me (c ∷ past) p m) (nat_eq me p && mentions (c ∷ past) m) (came_stays me c past p m)
-    (and_each (nat_eq me p) (mentions past m) (nat_eq me p) (mentions (c ∷ past) m) (λ e. e) (mentions_stays c past m)) h
-
-list_all_stays : (p q : ℕ → Bool) → ((x : ℕ) → p x ≡ true → q x ≡ true) → (xs : List ℕ) → list_all p xs ≡ true → list_all q xs ≡ true
-list_all_stays p q f [] h = refl
-list_all_stays p q f (x ∷ xs) h = and_each (p x) (list_all p xs) (q x) (list_all q xs) (f x) (list_all_stays p q f xs) h
+    or_more (came_from me past p m) (nat_eq me p && mentions past m) (came_from me (c ∷ past) p m) (nat_eq me p && mentions (c ∷ past) m) (came_stays me c past p m)
+    (and_more (nat_eq me p) (mentions past m) (nat_eq me p) (mentions (c ∷ past) m) (λ e. e) (mentions_stays c past m)) h
 
 is_delivered_stays : (base : Base) (me : ℕ) (members : List ℕ) (c : Call) (past : List Call) (m : MsgId) → is_delivered base me members past m ≡ true → is_delivered base me members (c ∷ past) m ≡ true
 is_delivered_stays BestEffort me members c past m h = came_stays me c past m.origin.number m h
 is_delivered_stays Lazy me members c past m h = refl
 is_delivered_stays Eager me members c past m h = refl
 is_delivered_stays AllAck me members c past m h =
-    list_all_stays (λ p. was_noticed past p || holds me past p m) (λ p. was_noticed (c ∷ past) p || holds me (c ∷ past) p m)
-    (λ p. or_each (was_noticed past p) (holds me past p m) (was_noticed (c ∷ past) p) (holds me (c ∷ past) p m) (noticed_stays c past p) (holds_stays me c past p m)) members h
+    list_all_weaker (λ p. was_noticed past p || holds me past p m) (λ p. was_noticed (c ∷ past) p || holds me (c ∷ past) p m)
+    (λ p. or_more (was_noticed past p) (holds me past p m) (was_noticed (c ∷ past) p) (holds me (c ∷ past) p m) (noticed_stays c past p) (holds_stays me c past p m)) members h
 
 -- a delivered message stays delivered
 pub delivered_stays : (base : Base) (me : ℕ) (members : List ℕ) (c : Call) (past : List Call) (m : MsgId) → now_delivered base me members past m ≡ true → now_delivered base me members (c ∷ past) m ≡ true
 delivered_stays base me members c past m =
-    and_each (mentions past m) (is_delivered base me members past m) (mentions (c ∷ past) m) (is_delivered base me members (c ∷ past) m) (mentions_stays c past m) (is_delivered_stays base me members c past m)
+    and_more (mentions past m) (is_delivered base me members past m) (mentions (c ∷ past) m) (is_delivered base me members (c ∷ past) m) (mentions_stays c past m) (is_delivered_stays base me members c past m)
 
 -- Each message is delivered once.
 

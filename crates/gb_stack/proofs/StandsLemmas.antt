@@ -15,7 +15,7 @@ use Rattle.gb_layer.proofs.BestEffort.{direct_beb, best_effort_up, best_effort_o
 use Rattle.gb_reliable.proofs.ByCalls.{lazy_next, lazy_gives, lazy_up, lazy_out, lazy_log, eager_next, eager_gives, eager_up, eager_out, eager_log}
 use Rattle.gb_uniform.proofs.ByCalls.{all_ack_next, all_ack_gives, all_ack_up, all_ack_out, all_ack_log}
 use Rattle.gb_fifo.specs.FifoLaws.{lower_after}
-use Rattle.gb_fifo.specs.FifoMachine.{FifoState, fifo_next, fifo_gives}
+use Rattle.gb_fifo.specs.FifoMachine.{FifoState}
 use Rattle.gb_fifo.specs.FifoRoom.{IsNew}
 use Rattle.gb_fifo.specs.Order.{ordered_after, in_order}
 use Rattle.gb_fifo.proofs.FifoOrder.{call_order, fifo_order}
@@ -24,12 +24,9 @@ use Rattle.gb_stack.specs.Inside.{gives_into, ups_into}
 use Rattle.gb_stack.specs.Kinds.{base_of, is_fifo, kind_delivers, kind_broadcasts, kind_log}
 use Rattle.gb_stack.specs.StackState.{UnorderedState, best_effort, lazy, eager, all_ack, unordered, fifo, unordered_next, unordered_gives, unordered_noticing, IsUntold, stack_next, stack_gives, untold_stack}
 use Rattle.gb_stack.specs.Stands.{NewStackStands, CalledStackStands, HandsUpWhatIsDelivered, SendsWhatIsBroadcast, HandsUpTheLog, LogGrows}
-use Rattle.gb_stack.specs.UnorderedLaws.{unordered_ups_handed_in}
+use Rattle.gb_stack.specs.UnorderedLaws.{stay, unordered_ups_handed_in}
+use Rattle.gb_stack.specs.StackLaws.{ordered_next, ordered_gives}
 use Rattle.gb_stack.proofs.StartLemmas.{new_is}
-
--- `Beb` remembers its node alone
-abbrev stay : NodeId → Call → NodeId
-stay s _ = s
 
 -- a broadcast without an order that was told nothing
 abbrev untold : Base → NodeId → Nodes → UnorderedState
@@ -79,13 +76,6 @@ unordered_log Eager me members past l =
     ap messages (ups_into eager_next eager_gives unordered_next unordered_gives eager (λ s c. refl) (λ s c. refl) (at_start me members) past) ∙ eager_log me members past l
 unordered_log AllAck me members past l =
     ap messages (ups_into all_ack_next all_ack_gives unordered_next unordered_gives all_ack (λ s c. refl) (λ s c. refl) (at_start me members) past) ∙ all_ack_log me members past l
-
--- the step of a fifo over a broadcast without an order
-abbrev ordered_next : FifoState UnorderedState → Call → FifoState UnorderedState
-ordered_next = fifo_next unordered_next unordered_gives
-
-abbrev ordered_gives : FifoState UnorderedState → Call → Gives
-ordered_gives = fifo_gives unordered_next unordered_gives
 
 module _ (base : Base) (me : NodeId) (members : Nodes) where
   -- a fifo that was told nothing

@@ -1,4 +1,4 @@
--- Stacks that were told of stopped nodes, and nothing more.
+-- Stacks that were told the notices of nodes, and nothing more.
 use Rattle.std.proofs.Common.{◌≡◌, ℕ, ◌+◌, ◌<◌, Bool, true, false, cond, ◌&&◌, ◌||◌, not, nat_eq, nat_lt, List, [], ◌∷◌, map, refl, ap, ◌∙◌, sym, arith}
 use Rattle.std.specs.Cmp.{nat_cmp_total, unsigned_tied}
 use Rattle.std.specs.FinSet as set
@@ -27,7 +27,7 @@ use Rattle.gb_stack.specs.Kinds.{base_of, is_fifo}
 use Rattle.gb_stack.specs.StackState.{StackState, unordered, fifo, lazy, eager, all_ack, relayed_next, relayed_gives, unordered_next, unordered_gives, unordered_noticing, stack_next, stack_noticing, untold_stack, others_in, new_stack}
 use Rattle.gb_stack.specs.Stands.{is_other_noticed, HasHeard}
 
--- a relay that was told of stopped nodes alone
+-- a relay that was told notices alone
 abbrev noticing : NodeId → Nodes → Nodes → State NodeId
 noticing me members noticed = record { lower = me; members = members; noticed = noticed; entries = [] }
 

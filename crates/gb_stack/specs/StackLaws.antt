@@ -22,10 +22,10 @@ stack_roomier (variant.Unordered l) = unordered_roomier l
 stack_roomier (variant.Fifo l) = fifo_roomier unordered_room unordered_roomier l
 
 -- the step of a fifo over a broadcast without an order
-abbrev ordered_next : FifoState UnorderedState → Call → FifoState UnorderedState
+abbrev pub ordered_next : FifoState UnorderedState → Call → FifoState UnorderedState
 ordered_next = fifo_next unordered_next unordered_gives
 
-abbrev ordered_gives : FifoState UnorderedState → Call → Gives
+abbrev pub ordered_gives : FifoState UnorderedState → Call → Gives
 ordered_gives = fifo_gives unordered_next unordered_gives
 
 pub stack_me_stays : StaysAtItsNode stack_next stack_me

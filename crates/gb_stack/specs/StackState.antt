@@ -85,7 +85,7 @@ abbrev pub IsUntoldStack : StackState → Type 0
 IsUntoldStack (unordered s) = IsUntold s
 IsUntoldStack (fifo s) = fifo_room.IsNew IsUntold s
 
--- a broadcast at a node, in a group with these members, that was told that these nodes stopped, and nothing more
+-- a broadcast at a node, in a group with these members, that was told the notices of these nodes, and nothing more
 abbrev pub unordered_noticing : Base → NodeId → Nodes → Nodes → UnorderedState
 unordered_noticing BestEffort me members noticed = best_effort me
 unordered_noticing Lazy me members noticed = lazy (record { lower = me; members = members; noticed = noticed; entries = [] })

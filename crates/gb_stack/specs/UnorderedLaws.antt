@@ -1,10 +1,9 @@
 -- The laws of a broadcast without an order: each is that of its kind.
-use Rattle.std.proofs.Common.{ℕ, ◌≤◌, refl, arith}
+use Rattle.std.proofs.Common.{ℕ, ◌≤◌, refl}
 use Rattle.gb_types.specs.declared.node.NodeId.{NodeId}
-use Rattle.gb_layer.specs.declared.beb.Beb.{Beb}
 use Rattle.gb_layer.specs.declared.call.Call.{Call}
-use Rattle.gb_layer.specs.BebLaws.{beb_sends_handed_in, beb_ups_handed_in, beb_up_once, beb_sent_once, beb_noticed_once, fair_once}
-use Rattle.gb_layer.specs.BebMachine.{beb_gives}
+use Rattle.gb_layer.specs.BebLaws.{beb_roomier, beb_sends_handed_in, beb_ups_handed_in, beb_up_once, beb_sent_once, beb_noticed_once, fair_once}
+use Rattle.gb_layer.specs.BebMachine.{beb_gives, BebRoom}
 use Rattle.gb_layer.specs.DirectLaws.{own_pairs, direct_sends_handed_in, direct_ups_handed_in, direct_up_once, direct_sent_once, direct_noticed_once}
 use Rattle.gb_layer.specs.Laws.{StaysAtItsNode, ComesFromItsOrigin, SendsWhatWasHandedIn, HandsUpWhatWasHandedIn, HandsUpOnce, SendsOnce, NoticesOnce}
 use Rattle.gb_layer.specs.Machine.{Gives, own_gives}
@@ -19,14 +18,6 @@ use Rattle.gb_stack.specs.declared.unordered.Unordered.{Unordered}
 use Rattle.gb_stack.specs.declared.unordered.Unordered.TheVariants as variant
 use Rattle.gb_stack.specs.Inside.{sends_handed_in_into, ups_handed_in_into, up_once_into, sent_once_into, noticed_once_into}
 use Rattle.gb_stack.specs.StackState.{best_effort, lazy, eager, all_ack, relayed_next, relayed_gives, unordered_next, unordered_gives, unordered_me, IsUntold}
-
--- there is room for so many calls of `Beb` beside so many free places for sends and for pairs
-abbrev pub BebRoom : Beb → ℕ → ℕ → ℕ → Type 0
-BebRoom _ sends ups calls = (calls ≤ sends) × (calls ≤ ups)
-
--- more free places are room for as many calls, or fewer
-pub beb_roomier : (x : Beb) (a b n a' b' n' : ℕ) → a ≤ a' → b ≤ b' → n' ≤ n → BebRoom x a b n → BebRoom x a' b' n'
-beb_roomier x a b n a' b' n' h i j k = (omega (arith, h, j, k.0), omega (arith, i, j, k.1))
 
 -- there is room for so many calls of a broadcast without an order
 abbrev pub unordered_room : Unordered → ℕ → ℕ → ℕ → Type 0
@@ -46,7 +37,7 @@ abbrev IsAny : NodeId → Type 0
 IsAny _ = Unit {0}
 
 -- `Beb` remembers its node alone
-abbrev stay : NodeId → Call → NodeId
+abbrev pub stay : NodeId → Call → NodeId
 stay s _ = s
 
 -- best effort gives what came from its origin

@@ -1,6 +1,5 @@
 //! The broadcast of a group.
 ghost use Rattle.std.specs.Prelude.{◌≡◌, ℕ, ◌+◌, ◌++◌, IfOk, if◌then◌else◌};
-ghost use Rattle.std.specs.FinSet as set;
 ghost use Rattle.gb_types.specs.declared.limits.TheConstants.{NODES};
 ghost use Rattle.gb_layer.specs.declared.call.Call.TheVariants.{Notice};
 ghost use Rattle.gb_layer.specs.Room.{free_sends, free_ups};
@@ -23,7 +22,7 @@ use gb_types::node::{NodeId, NodeSet};
 use gb_types::spec::Spec;
 use std::alloc::Global;
 
-/// The layer takes note of a node's stop, where the node is another member that was noticed.
+/// The layer takes the notice of a node, where the node is another member that was noticed.
 fn hear_of<L: Layer>(
     layer: &mut L,
     me: NodeId,
@@ -43,7 +42,7 @@ fn hear_of<L: Layer>(
     }
 }
 
-/// The layer takes note of the stops of the other members that were noticed.
+/// The layer takes the notices of the other members that were noticed.
 fn hear<L: Layer>(
     layer: &mut L,
     me: NodeId,
@@ -63,7 +62,7 @@ fn hear<L: Layer>(
 /// The broadcast of a group, of the kind that the group chose: one of four, plain or in the order of each origin.
 #[derive(Drop)]
 pub enum Stack {
-    /// Messages are delivered as they come.
+    /// Messages are delivered as their module has it, in no order of their origins.
     Unordered(Unordered),
     /// Each origin's messages are delivered in the order in which they were said.
     Fifo(Fifo<Unordered>),
@@ -100,7 +99,7 @@ impl Stack {
 
 impl Stack {
     /// The stack of a group at the node me, which has noticed these nodes: the stack starts as if it had been told,
-    /// one after the other, that the other members among them stopped.
+    /// one after the other, that the other members among them were noticed to have crashed.
     pub fn new(
         alloc: Global,
         spec: &Spec,

@@ -1,18 +1,15 @@
 -- The laws of the rule of all-ack uniform reliable broadcast, and that it has the module's tests.
-use Rattle.std.proofs.Common.{◌≡◌, ℕ, Bool, true, ◌||◌, ◌&&◌, List, [], ◌∷◌, refl, ap}
+use Rattle.std.proofs.Common.{◌≡◌, ℕ, Bool, ◌||◌, ◌&&◌, List, [], ◌∷◌, refl, ap}
 use Rattle.std.specs.List.{list_all}
 use Rattle.std.specs.FinSet as set
 use Rattle.gb_layer.specs.declared.base.Base.TheVariants.{AllAck}
-use Rattle.gb_layer.specs.Bools.{or_more, and_more}
+use Rattle.gb_layer.specs.Bools.{or_more}
+use Rattle.gb_layer.specs.Lists.{list_all_weaker}
 use Rattle.gb_layer.specs.Machine.{mentions, was_noticed}
 use Rattle.gb_layer.specs.Modules.{holds}
 use Rattle.gb_layer.specs.Rule.{BroadcastsMore, DeliversMore, BroadcastsItsOwn, BroadcastsAs, DeliversAs, noticed_in, holders_in}
 use Rattle.gb_layer.specs.RuleLaws.{noticed_is, holders_is}
 use Rattle.gb_uniform.specs.Rules.{all_ack_rules}
-
-all_stays : (p q : ℕ → Bool) → ((x : ℕ) → p x ≡ true → q x ≡ true) → (xs : List ℕ) → list_all p xs ≡ true → list_all q xs ≡ true
-all_stays p q f [] h = refl
-all_stays p q f (x ∷ xs) h = and_more (p x) _ (q x) _ (f x) (all_stays p q f xs) h
 
 all_alike : (p q : ℕ → Bool) → ((x : ℕ) → p x ≡ q x) → (xs : List ℕ) → list_all p xs ≡ list_all q xs
 all_alike p q k [] = refl
@@ -23,7 +20,7 @@ all_ack_more me noticed more m f h = h
 
 pub all_ack_delivers_more : DeliversMore all_ack_rules
 all_ack_delivers_more members noticed more_noticed holders more_holders f g h =
-    all_stays (λ p. set.contains noticed p || set.contains holders p) (λ p. set.contains more_noticed p || set.contains more_holders p)
+    list_all_weaker (λ p. set.contains noticed p || set.contains holders p) (λ p. set.contains more_noticed p || set.contains more_holders p)
     (λ x. or_more _ _ _ _ (f x) (g x)) (set.items members) h
 
 pub all_ack_own : BroadcastsItsOwn all_ack_rules
