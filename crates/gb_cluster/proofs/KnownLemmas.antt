@@ -13,6 +13,7 @@ use Rattle.gb_types.specs.declared.message.MsgId.{MsgId}
 use Rattle.gb_types.specs.declared.spec.Spec.{Spec}
 use Rattle.gb_types.proofs.SameLemmas.{same-true}
 use Rattle.gb_layer.specs.Machine.{mentions}
+use Rattle.gb_slot.specs.KnownLaws.{has-known}
 use Rattle.gb_slot.specs.History.{call_of, calls_of, known, delivered, log_of, puts_of}
 use Rattle.gb_slot.specs.Messages.{has, payload_in, entry_in, with_new}
 use Rattle.gb_slot.specs.declared.history.GroupCall.{GroupCall}
@@ -20,34 +21,6 @@ use Rattle.gb_slot.specs.declared.history.GroupCall.TheVariants.{Own, Other, Cra
 use Rattle.gb_cluster.specs.Laws.{copies}
 use Rattle.gb_stack.specs.Kinds.{kind_broadcasts}
 use Rattle.gb_stack.proofs.DeliveryLemmas.{kind_log_once, kind_log_mentioned, kind_broadcasts_mentioned}
-
-has-push : (xs : List Entry) (x : Entry) (m : MsgId) → has (xs ++ x ∷ []) m ≡ (same (message_of x) m || has xs m)
-has-push [] x m = refl
-has-push (y ∷ xs) x m = ap (λ b. same (message_of y) m || b) (has-push xs x m) ∙ swap (same (message_of y) m) (same (message_of x) m) (has xs m)
-  where
-    swap : (a b c : Bool) → (a || (b || c)) ≡ (b || (a || c))
-    swap true true c = refl
-    swap true false c = refl
-    swap false b c = refl
-
-has-with_new : (xs : List Entry) (x : Entry) (m : MsgId) → has (with_new xs x) m ≡ (same (message_of x) m || has xs m)
-has-with_new xs x m = go (has xs (message_of x)) refl
-  where
-    old : (b : Bool) → same (message_of x) m ≡ b → has xs (message_of x) ≡ true → has xs m ≡ (b || has xs m)
-    old true e is = sym (ap (has xs) (same-true (message_of x) m e)) ∙ is
-    old false e is = refl
-
-    go : (b : Bool) → has xs (message_of x) ≡ b → has (if b then xs else xs ++ x ∷ []) m ≡ (same (message_of x) m || has xs m)
-    go true is = old (same (message_of x) m) refl is
-    go false is = has-push xs x m
-
--- what was mentioned is known
-has-known : (told : List GroupCall) (m : MsgId) → has (known told) m ≡ mentions (calls_of told) m
-unfolding known calls_of
-has-known [] m = refl
-has-known (Own x ∷ told) m = has-with_new (known told) x m ∙ ap (λ b. same (message_of x) m || b) (has-known told m)
-has-known (Other p x ∷ told) m = has-with_new (known told) x m ∙ ap (λ b. same (message_of x) m || b) (has-known told m)
-has-known (Crashed q ∷ told) m = has-known told m
 
 -- what holds of each message of a list holds of the entry that is found there
 entry_found : (P : Entry → Type 0) (xs : List Entry) (m : MsgId) → All P xs → has xs m ≡ true → P (entry_in xs m)
