@@ -3,6 +3,7 @@ use crate::{plain, stands};
 use gb_layer::call::Call;
 use gb_layer::effects::{Effects, Up};
 use gb_layer::layer::{Broadcast, Layer};
+use gb_layer::modules;
 use gb_types::kind::Kind;
 use gb_types::memory::OutOfMemory;
 use gb_types::message::MsgId;
@@ -168,6 +169,7 @@ fn compare_all(rt: &impl Abort, alloc: Global, noticed: &[NodeId]) -> Result<(),
 fn each_stack_is_its_plain_kind(rt: HostRuntime) -> Result<(), Fail> {
     stands::stands();
     stands::logs();
+    modules::each_once::<Stack>();
     compare_all(&rt, rt.alloc(), &[])
 }
 
