@@ -21,7 +21,7 @@ use Rattle.gb_cluster.specs.declared.event.Event.TheVariants.{At, Pack, Again, A
 use Rattle.gb_cluster.specs.declared.packet.Item.{Item}
 use Rattle.gb_cluster.specs.declared.step.Step.{Step}
 use Rattle.gb_cluster.specs.Headline.{IsPlaced, starved_answer}
-use Rattle.gb_cluster.specs.Project.{project, frames, items_of, is_taken, is_acked, is_noticed, made_at, watched, replies_to, asked, requested, command_for, has_row, is_met, is_met_by, is_named, is_own, is_stopped, is_taken_in, made_by, reply_in, with_stop}
+use Rattle.gb_cluster.specs.Project.{project, frames, items_of, is_taken, is_acked, is_noticed, made_at, watched, replies_to, asked, requested, has_row, is_met, is_met_by, is_named, is_own, is_stopped, is_taken_in, made_by, reply_in, with_stop}
 use Rattle.gb_cluster.specs.World.{World, node_of, new_node, new_world, with_step}
 use Rattle.gb_cluster.specs.Holds.{NodeIs, IsLink, Holds, undone_of}
 use Rattle.gb_cluster.proofs.AskLemmas.{if_same, command_unnamed}
