@@ -39,10 +39,6 @@ pub on_err : {T E : Type 0} (r : Result T E) (P : Type 0) → P → OnErr r P
 on_err (Ok x) P p = tt
 on_err (Err e) P p = p
 
--- a node is the one with its number
-pub numbered_same : (n : NodeId) → node_numbered n.number ≡ n
-numbered_same n = same_number (node_numbered n.number) n (omega (arith, n.below))
-
 range_push : (a n : ℕ) → range_with_len a (suc n) ≡ range_with_len a n ++ (a + n) ∷ []
 range_push a zero = let e : a ≡ a + 0 = omega arith in ap (λ k. k ∷ []) e
 range_push a (suc n) =

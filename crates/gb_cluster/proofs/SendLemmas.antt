@@ -172,33 +172,6 @@ again_sent w a b n k p in_a links at =
         let same : packet_for a b v u.0 (Some u.1) ≡ p = cc in
         subst (IsAgain (length w.nodes) w.packets w.steps a b n) same (of_found u (another_is (length w.nodes) a b another).0 found another)
 
--- The answers.
-
--- a packet that is answered has been sent, under the number that is answered
-sent_numbered : (stopped : Bool) (packets : List Packet) (v u : NodeValue) (ps : List Packet) (k : ℕ) → (if stopped then only_answered v (Gave (Unsent Stopped)) else sent_part (length packets) u ps).answer ≡ Gave (Numbered k)
-    → (p : Packet) × (slice_get (if stopped then only_answered v (Gave (Unsent Stopped)) else sent_part (length packets) u ps).sent 0 ≡ Some p) × (packet_at (packets ++ (if stopped then only_answered v (Gave (Unsent Stopped)) else sent_part (length packets) u ps).sent) k ≡ p ∷ [])
-sent_numbered true packets v u ps k is = absurd (cc)
-sent_numbered false packets v u [] k is = absurd (cc)
-sent_numbered false packets v u (p ∷ ps) k is = let number : length packets + 1 ≡ k = cc in (p, refl, ap (λ (j : ℕ). packet_at (packets ++ p ∷ []) j) (sym number) ∙ packet_at-last packets p)
-
-pub pack_numbered : (w : World) (a b : NodeId) (k : ℕ) → a.number < length w.nodes → Links w → answer_of w (Pack a b) ≡ Gave (Numbered k) → (p : Packet) × (packet_at (world_after w (Pack a b)).packets k ≡ p ∷ []) × IsPacked (length w.nodes) w.packets w.steps a b p
-pack_numbered w a b k in_a links is =
-    let v : NodeValue = node_of w a.number in
-    let sent = sent_numbered v.stopped w.packets v (node_sent b (node_packed (length w.nodes) a b v) v) (node_packed (length w.nodes) a b v) k is in
-    (sent.0, sent.2, pack_sent w a b 0 sent.0 in_a links sent.1)
-
-pub again_numbered : (w : World) (a b : NodeId) (n k : ℕ) → a.number < length w.nodes → Links w → answer_of w (Again a b n) ≡ Gave (Numbered k) → (p : Packet) × (packet_at (world_after w (Again a b n)).packets k ≡ p ∷ []) × IsAgain (length w.nodes) w.packets w.steps a b n p
-again_numbered w a b n k in_a links is =
-    let v : NodeValue = node_of w a.number in
-    let sent = sent_numbered v.stopped w.packets v v (node_again (length w.nodes) a b n v) k is in
-    (sent.0, sent.2, again_sent w a b n 0 sent.0 in_a links sent.1)
-
-pub ack_numbered : (w : World) (a b : NodeId) (k : ℕ) → a.number < length w.nodes → Links w → answer_of w (Ack a b) ≡ Gave (Numbered k) → (p : Packet) × (packet_at (world_after w (Ack a b)).packets k ≡ p ∷ []) × IsAck (length w.nodes) w.packets w.steps a b p
-ack_numbered w a b k in_a links is =
-    let v : NodeValue = node_of w a.number in
-    let sent = sent_numbered v.stopped w.packets v v (node_ack (length w.nodes) a b v) k is in
-    (sent.0, sent.2, ack_sent w a b 0 sent.0 in_a links sent.1)
-
 -- The cluster.
 
 pub any_ack : (w : World) (a b : NodeId) → a.number < length w.nodes → Holds w → Holds (world_after w (Ack a b))

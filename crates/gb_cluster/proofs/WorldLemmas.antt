@@ -64,10 +64,6 @@ after_elsewhere nodes number group a x e other = rw (eqb_apart x a.number other)
 
 -- Lists of what happened.
 
-pub frames-quiet : (x y : ℕ) (packets : List Packet) (s : Step) (steps : List Step) → frame_at x y packets s.event s.answer ≡ [] → frames x y packets (s ∷ steps) ≡ frames x y packets steps
-unfolding frames
-frames-quiet x y packets s steps none = rw none (append-nil (frames x y packets steps))
-
 pub served_before : (g : Addr) (s : Step) (steps : List Step) → is_served g (s ∷ steps) ≡ true → (is_turned_away g s.event s.answer ≡ false) × (is_served g steps ≡ true)
 unfolding is_served
 served_before g s steps served = go (is_turned_away g s.event s.answer) served

@@ -133,9 +133,6 @@ and-true : (a b : Bool) → (a && b) ≡ true → (a ≡ true) × (b ≡ true)
 and-true true b e = (refl, e)
 and-true false b e = absurd cc
 
-both-true : (a b : Bool) → a ≡ true → b ≡ true → (a && b) ≡ true
-both-true a b p q = rw (p, q) refl
-
 -- what bytes without a fault are
 pub record IsGood (key bytes : List ℕ) : Type 0 where
   pub long : SHORTEST ≤ length bytes

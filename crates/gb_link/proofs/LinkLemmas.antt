@@ -406,11 +406,3 @@ module _ {F : Type 0} where
   -- after any events
   pub IsSound-run : (events : List (LinkEvent F)) → IsSound (run events)
   IsSound-run events = IsSound-run_from new_link events IsSound-new
-
-  -- one event more
-  pub run-snoc : (events : List (LinkEvent F)) (e : LinkEvent F) → run (events ++ e ∷ []) ≡ step (run events) e
-  run-snoc events e = go new_link events
-    where
-      go : (l : Link F) (events : List (LinkEvent F)) → run_from l (events ++ e ∷ []) ≡ step (run_from l events) e
-      go l [] = refl
-      go l (d ∷ events) = go (step l d) events

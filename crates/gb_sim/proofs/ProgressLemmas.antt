@@ -11,12 +11,6 @@ use Rattle.gb_sim.specs.Progress.{TakesLine, Ends, Continues, IsAnswered, IsFini
 use Rattle.gb_sim.specs.declared.simulate.SimEnd.{SimEnd}
 use Rattle.gb_sim.specs.declared.simulate.SimEnd.TheVariants.{All, BadLine}
 
--- nothing is read and nothing is answered yet
-pub begin_halfway : (input before : Option (List ℕ)) → IsHalfway input before 1 None input before []
-begin_halfway None before = tt
-begin_halfway (Some i) None = tt
-begin_halfway (Some i) (Some b) = λ more end is. (more, ap (λ xs. xs ++ more) (append-nil b), is)
-
 -- a line was answered
 answered_more : (i b rest rest' line : List ℕ) (n : ℕ) (w after : Option World) (done text : List ℕ)
     → lines_of rest ≡ line ∷ lines_of rest' → n ≤ 1000000 → length line ≤ 32768 → GoesOn w line after text
@@ -82,9 +76,3 @@ written : (i b : List ℕ) (now after : Option (List ℕ)) (out : List ℕ) (end
 written i b None after out end answered appends = absurd answered
 written i b (Some new) None out end answered appends = absurd appends
 written i b (Some new) (Some new') out end answered appends = (answered.0, ap Some (appends ∙ answered.1), answered.2)
-
-pub finished_written : (input before now after : Option (List ℕ)) (out : List ℕ) (end : SimEnd) → IsFinished input before now out end → Appends now after out
-    → IfSome input (λ i. IfSome before (λ b. IsWritten i b after end))
-finished_written None before now after out end finished appends = tt
-finished_written (Some i) None now after out end finished appends = tt
-finished_written (Some i) (Some b) now after out end finished appends = written i b now after out end finished appends

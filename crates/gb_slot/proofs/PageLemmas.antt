@@ -9,14 +9,6 @@ use Rattle.gb_types.specs.declared.entry.Entry.{Entry}
 use Rattle.gb_layer.specs.declared.effects.Up.{Up}
 use Rattle.gb_layer.specs.Machine.{messages}
 
--- a part from a place on, no longer than the rest
-pub page-is : {X : Type 0} (xs : List X) (from most n : ℕ) → from ≤ length xs → n ≡ min most (length (take (length xs - from) (drop from xs))) → take n (take (length xs - from) (drop from xs)) ≡ take most (drop from xs)
-page-is xs from most n within is =
-    let rest : length xs - from ≡ length (drop from xs) = omega (arith, length-drop from xs) in
-    let whole : take (length xs - from) (drop from xs) ≡ drop from xs = ap (λ k. take k (drop from xs)) rest ∙ take-length (drop from xs) in
-    let count : n ≡ min most (length (drop from xs)) = is ∙ ap (λ ys. min most (length ys)) whole in
-    ap (take n) whole ∙ (ap (λ k. take k (drop from xs)) count ∙ take_min most (drop from xs))
-
 -- the same part of a list of messages
 pub page-map : (f : MsgId → Entry) (ups : List Up) (from most : ℕ) → map f (messages (take most (drop from ups))) ≡ take most (drop from (map f (messages ups)))
 page-map f ups from most =
