@@ -1,10 +1,10 @@
 -- What is read as items is their text, and their text is read as those items.
-use Rattle.std.proofs.Common.{◌≡◌, ℕ, zero, suc, ◌^◌, ◌≤◌, Bool, true, false, ◌||◌, cond, ltb, List, [], ◌∷◌, ◌++◌, length, get_or, take, drop, All, Option, Some, None, refl, sym, ap, subst, ◌∙◌, append_assoc, arith}
+use Rattle.std.proofs.Common.{◌≡◌, ℕ, zero, suc, ◌+◌, ◌^◌, ◌≤◌, Bool, true, false, ◌||◌, cond, ltb, List, [], ◌∷◌, ◌++◌, length, get_or, take, drop, All, Option, Some, None, refl, sym, ap, subst, ◌∙◌, append_assoc, arith}
 use Rattle.std.specs.Prelude.{option_and_then}
 use Rattle.std.specs.Int.{w16, to_be_bytes}
 use Rattle.std.proofs.Math.Seq.{drop-cons}
 use Rattle.std.proofs.lemmas.Bool.{ltb-false, le-ltb}
-use Rattle.std.proofs.lemmas.List.{take_at, drop_at, take-append-drop, length-append, length-take}
+use Rattle.std.proofs.lemmas.List.{take_at, drop_at, take-append-drop, length-append, length-take, length-drop}
 use Rattle.std.proofs.lemmas.List.Elements.{All-nil, All-cons, All-head, All-tail}
 use Rattle.std.proofs.lemmas.List.Concat.{flat_map-cons}
 use Rattle.gb_types.specs.declared.limits.TheConstants.{PAYLOAD}
@@ -56,6 +56,18 @@ item_takes bytes x fits e =
     ) in
     subst (λ (y : Item × List ℕ). Takes bytes (item_text y.0) y.1 × IsItem y.0) p.1 found
 
+-- an item takes its header at least
+pub item_shrinks : (bytes : List ℕ) (x : Item × List ℕ) → item_at bytes ≡ Some x → 9 + length x.1 ≤ length bytes
+unfolding item_at
+item_shrinks bytes x e =
+    let len : ℕ = number_at w16 7 bytes in
+    let rest : List ℕ = drop 9 bytes in
+    let made : Item = record { tenant = number_at w16 0 bytes; group = number_at w16 2 bytes; origin = get_or bytes 4 0; seq = number_at w16 5 bytes; payload = take len rest } in
+    let p = passed (ltb (length bytes) 9 || (ltb PAYLOAD len || ltb (length rest) len)) (made, drop len rest) x e in
+    let long : 9 ≤ length bytes = ltb-false _ _ (or-false (ltb (length bytes) 9) (ltb PAYLOAD len || ltb (length rest) len) p.0).0 in
+    let after : drop len rest ≡ x.1 = ap (λ (y : Item × List ℕ). y.1) p.1 in
+    omega (arith, long, ap length after, length-drop len rest, length-drop 9 bytes)
+
 pub item_again : (i : Item) (rest : List ℕ) → IsItem i → item_at (item_text i ++ rest) ≡ Some (i, rest)
 unfolding item_at
 item_again i rest fits =
@@ -74,6 +86,11 @@ item_again i rest fits =
 then_some : {A B : Type 0} (o : Option A) (f : A → Option B) (y : B) → option_and_then f o ≡ Some y → (x : A) × (o ≡ Some x) × (f x ≡ Some y)
 then_some None f y e = absurd cc
 then_some (Some x) f y e = (x, refl, e)
+
+-- no item stands where nothing does
+pub none_at_end : item_at [] ≡ None
+unfolding item_at
+none_at_end = refl
 
 pub some_is : {A : Type 0} (x y : A) → Some x ≡ Some y → x ≡ y
 some_is x y e = cc

@@ -1,5 +1,6 @@
 pub mod Room
 pub mod Walk
+pub mod Texts
 pub mod Numbers
 pub mod ItemLaws
 pub mod TextLaws

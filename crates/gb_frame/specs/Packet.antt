@@ -2,6 +2,7 @@
 use Rattle.std.specs.Prelude.{ℕ, List}
 use Rattle.gb_frame.specs.declared.item.Item.{Item}
 use Rattle.gb_frame.specs.declared.item.ItemView.{ItemView}
+use Rattle.gb_frame.specs.declared.packet.Head.{Head}
 use Rattle.gb_frame.specs.declared.packet.Packet.{Packet}
 
 -- what a packet says, without where it lies in memory
@@ -19,3 +20,7 @@ content p = record { from = p.from.number; to = p.to.number; base = p.base; mask
 -- an item whose payload lies elsewhere, as an item
 abbrev pub item_of : ItemView → Item
 item_of v = record { tenant = v.tenant; group = v.group; origin = v.origin; seq = v.seq; payload = v.payload.now }
+
+-- what the packet with this head and these items says
+abbrev pub packet_of : Head → List Item → Content
+packet_of h items = record { from = h.from.number; to = h.to.number; base = h.base; mask = h.mask; frame = h.frame; items = items }

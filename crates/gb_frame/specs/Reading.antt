@@ -7,9 +7,8 @@ use Rattle.gb_frame.specs.declared.limits.TheConstants.{VERSION, ITEM_HEADER, SH
 use Rattle.gb_frame.specs.declared.item.Item.{Item}
 use Rattle.gb_frame.specs.declared.fault.PacketFault.{PacketFault}
 use Rattle.gb_frame.specs.declared.fault.PacketFault.TheVariants.{Short, Magic, Version, Node, Mask, Count, Length, Trailing, TooLong, Tag}
-use Rattle.gb_frame.specs.declared.packet.Packet.{Packet}
 use Rattle.gb_frame.specs.Fields.{number_at, version_in, from_in, to_in, base_in, mask_in, frame_in, count_in, tagged_in, tag_in, items_in}
-use Rattle.gb_frame.specs.Packet.{Content, content}
+use Rattle.gb_frame.specs.Packet.{Content}
 use Rattle.gb_frame.specs.Spelling.{tag_of}
 
 -- the item at the front, and the bytes after it
@@ -88,8 +87,3 @@ unless None c = Ok c
 -- the packet that the bytes are, or the first fault
 abbrev pub reading : List ℕ → List ℕ → Result Content PacketFault
 reading key bytes = unless (fault_in key bytes) (content_in bytes)
-
--- what decoding answered, without where it lies in memory
-abbrev pub seen : Result Packet PacketFault → Result Content PacketFault
-seen (Ok p) = Ok (content p)
-seen (Err fault) = Err fault

@@ -43,6 +43,11 @@ pub record IsItem (i : Item) : Type 0 where
   pub bytes : IsBytes i.payload
   pub length : length i.payload ≤ PAYLOAD
 
+-- these bytes are the texts of these items, one after another
+pub record AreTexts (bytes : List ℕ) (items : List Item) : Type 0 where
+  pub parts : bytes ≡ items_text items
+  pub fit : All IsItem items
+
 -- the limits that a packet's sender keeps to
 pub record IsWithinLimits (c : Content) : Type 0 where
   pub apart : c.from ≢ c.to

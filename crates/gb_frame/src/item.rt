@@ -1,14 +1,12 @@
 //! Items: one message of one group each, and their texts.
-ghost use Rattle.std.specs.Prelude.{◌≡◌, ◌+◌, ◌≤◌, ◌++◌, length, MatchOption, IfOk, IsSome, All, None, Some, vec_len, vec_capacity};
+ghost use Rattle.std.specs.Prelude.{◌≡◌, ◌+◌, ◌≤◌, ◌++◌, List, length, MatchOption, IsSome, All, None, Some, vec_len, vec_capacity};
 ghost use Rattle.gb_types.specs.declared.limits.TheConstants.{PAYLOAD};
-ghost use Rattle.gb_frame.specs.declared.limits.TheConstants.{ITEM_HEADER};
+ghost use Rattle.gb_frame.specs.declared.limits.TheConstants.{ITEM_HEADER, ROOM};
 
 use crate::limits::ITEM_HEADER;
 use crate::number::u16_at;
 use gb_types::limits::PAYLOAD;
-use gb_types::memory::OutOfMemory;
 use gb_types::payload::Payload;
-use std::alloc::Global;
 
 /// A message of a group on its way. Nothing but the payload's length is judged here.
 #[derive(Debug, Drop)]
@@ -33,8 +31,9 @@ pub struct ItemView<'a> {
 }
 
 ghost use Rattle.gb_frame.specs.Packet.{item_of};
-ghost use Rattle.gb_frame.specs.Spelling.{item_text, items_text, IsItem, IsBytes};
-ghost use Rattle.gb_frame.specs.Reading.{item_at, items_at, items_of, left_over};
+ghost use Rattle.gb_frame.specs.Spelling.{item_text, items_text, IsItem, IsBytes, AreTexts};
+ghost use Rattle.gb_frame.specs.Reading.{item_at, items_at, left_over};
+ghost use Rattle.gb_frame.specs.declared.item.Item.{Item};
 
 impl Item {
     ghost use Rattle.gb_frame.specs.Packet.{item_of};
@@ -50,19 +49,6 @@ impl Item {
             seq: self.seq,
             payload: self.payload.as_slice(),
         }
-    }
-
-    /// The item with its payload copied.
-    pub fn from_view(alloc: Global, item: ItemView<'_>) -> Result<Item, OutOfMemory>
-        ensures { IfOk result (λ i. i ≡ item_of item.entry) }
-    {
-        Ok(Item {
-            tenant: item.tenant,
-            group: item.group,
-            origin: item.origin,
-            seq: item.seq,
-            payload: Payload::from_slice(alloc, item.payload)?,
-        })
     }
 }
 
@@ -140,7 +126,7 @@ pub fn first_item(texts: &[u8]) -> Option<(ItemView<'_>, &[u8])>
 }
 
 /// What stands behind so many items; `None` where so many do not stand at the front. Takes no memory.
-pub fn skip_items(count: u16, texts: &[u8]) -> Option<&[u8]>
+pub(crate) fn skip_items(count: u16, texts: &[u8]) -> Option<&[u8]>
     ensures { MatchOption result (items_at count texts.now ≡ None) (λ rest. IsSome (items_at count texts.now) × (left_over (items_at count texts.now) ≡ rest.now)) }
 {
     let mut rest = texts;
@@ -153,17 +139,16 @@ pub fn skip_items(count: u16, texts: &[u8]) -> Option<&[u8]>
     Some(rest)
 }
 
-/// So many items, copied, which stand at the front of these texts.
-pub fn copy_items(alloc: Global, count: u16, texts: &[u8]) -> Result<Vec<Item>, OutOfMemory>
-    requires { IsSome (items_at count texts.now) }
-    ensures { IfOk result (λ items. items.items ≡ items_of (items_at count texts.now)) }
+/// How many items have these texts. Takes no memory.
+pub(crate) fn count_items(texts: &[u8]) -> u16
+    requires { length texts.now ≤ ROOM }
+    ensures { (items : List Item) → AreTexts texts.now items → result ≡ length items }
 {
-    let mut items = Vec::with_capacity(alloc, count as usize)?;
     let mut rest = texts;
-    for _ in 0..count {
-        let (item, after) = first_item(rest).unwrap();
-        items.push_reserved(Item::from_view(alloc, item)?);
+    let mut count = 0;
+    while let Some((_item, after)) = first_item(rest) {
         rest = after;
+        count += 1;
     }
-    Ok(items)
+    count
 }

@@ -1,7 +1,8 @@
 //! Packets: what one node sends another at once, written as bytes and read back exactly. A packet
 //! carries an acknowledgement, and perhaps a numbered frame of items; a keyed tag ends it. There is no
 //! link and no network here, and no judgement of what an item says: tenants, groups, origins and
-//! sequence numbers are carried as they are. Read `packet::Packet` first, then `reading::decode`.
+//! sequence numbers are carried as they are. Read `packet::Packet` first, then `reading::decode`, whose
+//! answer reads the payloads where they lie, and `writing::wrap`, which sends a frame from where it stays.
 #![tactic(auto)]
 
 pub mod fault;
@@ -15,4 +16,5 @@ pub mod reading;
 mod tag;
 #[cfg(test)]
 mod tests;
+pub mod view;
 pub mod writing;

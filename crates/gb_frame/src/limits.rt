@@ -2,7 +2,7 @@
 //! service shares, as the longest payload and the longest packet, are those of `gb_types::limits`.
 ghost use Rattle.std.specs.Prelude.{◌≡◌};
 
-use gb_types::limits::PACKET;
+use gb_types::limits::{NODES, PACKET, PAYLOAD};
 
 /// The version byte.
 pub const VERSION: u8 = 1;
@@ -23,3 +23,8 @@ pub const SHORTEST: usize = 39;
 pub const ROOM: usize = 8_153;
 
 const _: () = prove!(HEADER + TAG == SHORTEST && SHORTEST + ROOM == PACKET);
+
+// The values that the definitions of the text cite.
+const _: () = prove!(VERSION == 1 && HEADER == 31 && ITEM_HEADER == 9 && TAG == 8);
+
+const _: () = prove!(NODES == 16 && PAYLOAD == 1_024 && PACKET == 8_192);

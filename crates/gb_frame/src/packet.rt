@@ -8,9 +8,9 @@ use crate::limits::{ITEM_HEADER, ROOM};
 use gb_types::limits::PAYLOAD;
 use gb_types::node::NodeId;
 
-/// What one node sends another at once.
-#[derive(Debug, Drop)]
-pub struct Packet {
+/// A packet without its items.
+#[derive(Clone, Copy, Debug, PartialEq, Eq)]
+pub struct Head {
     /// The sender.
     pub from: NodeId,
     /// The destination, another node.
@@ -22,11 +22,20 @@ pub struct Packet {
     pub mask: u64,
     /// The frame's number. A packet without items has none, which is written 0.
     pub frame: u64,
-    /// The frame's items.
+}
+
+/// What one node sends another at once: the fields of a `Head`, and the frame's items.
+#[derive(Debug, Drop)]
+pub struct Packet {
+    pub from: NodeId,
+    pub to: NodeId,
+    pub base: u64,
+    pub mask: u64,
+    pub frame: u64,
     pub items: Vec<Item>,
 }
 
-ghost use Rattle.gb_frame.specs.Packet.{content};
+ghost use Rattle.gb_frame.specs.Packet.{content, packet_of};
 ghost use Rattle.gb_frame.specs.Spelling.{items_text, IsWithinLimits};
 
 /// How many of the bytes that a packet has for items these leave, where they fit and each payload is
@@ -51,6 +60,19 @@ pub fn room_beside(items: &[Item]) -> Option<usize>
 }
 
 impl Packet {
+    /// The packet without its items.
+    pub fn head(&self) -> Head
+        ensures { packet_of result self.now.items.items ≡ content self.now }
+    {
+        Head {
+            from: self.from,
+            to: self.to,
+            base: self.base,
+            mask: self.mask,
+            frame: self.frame,
+        }
+    }
+
     /// Whether this packet can be written.
     pub fn is_within_limits(&self) -> bool
         ensures { IsTrue result ↔ IsWithinLimits (content self.now) }

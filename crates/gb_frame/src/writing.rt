@@ -1,14 +1,15 @@
 //! Writing packets.
-ghost use Rattle.std.specs.Prelude.{◌≡◌, ◌+◌, ◌<◌, ◌≤◌, ◌^◌, ◌++◌, length, IfOk, vec_len, vec_capacity};
-ghost use Rattle.gb_frame.specs.declared.limits.TheConstants.{HEADER};
-ghost use Rattle.gb_frame.specs.Packet.{content};
-ghost use Rattle.gb_frame.specs.Spelling.{header_text, IsWithinLimits, FitsFields, IsText};
+ghost use Rattle.std.specs.Prelude.{◌≡◌, ◌+◌, ◌≤◌, ◌++◌, List, length, drop, IfOk, vec_len, vec_capacity};
+ghost use Rattle.gb_frame.specs.declared.limits.TheConstants.{HEADER, TAG, SHORTEST};
+ghost use Rattle.gb_frame.specs.declared.item.Item.{Item};
+ghost use Rattle.gb_frame.specs.Packet.{content, packet_of};
+ghost use Rattle.gb_frame.specs.Spelling.{header_text, tag_of, packet_text, AreTexts, IsWithinLimits, FitsFields, IsPacket, IsText};
 
-use crate::item::put_items;
-use crate::limits::{HEADER, VERSION};
-use crate::packet::{Packet, room_beside};
+use crate::item::{count_items, put_items};
+use crate::limits::VERSION;
+use crate::packet::{Head, Packet, room_beside};
 use crate::tag::tag;
-use gb_cap::hmac::{HmacKey, Key};
+use gb_cap::hmac::HmacKey;
 use gb_types::limits::PACKET;
 use gb_types::memory::OutOfMemory;
 use std::alloc::Global;
@@ -23,45 +24,61 @@ fn append(text: &mut Vec<u8>, bytes: &[u8])
     text.extend_from_slice(bytes).unwrap();
 }
 
-/// Appends a packet's header. Takes no memory.
+/// Appends the header of a packet with so many items. Takes no memory.
 #[tactic(auto, unfolding(crate::specs::Spelling::header_text), using(std::proofs::lemmas::List::append_assoc))]
-fn put_header(packet: &Packet, text: &mut Vec<u8>)
-    requires count { length packet.now.items.items < 2 ^ 16 }
+fn put_header(head: Head, count: u16, text: &mut Vec<u8>)
     requires room { vec_len text.old + HEADER ≤ vec_capacity text.old }
-    ensures written { text.new.items ≡ text.old.items ++ header_text (content packet.now) }
+    ensures written { (items : List Item) → length items ≡ count → text.new.items ≡ text.old.items ++ header_text (packet_of head items) }
     ensures len { vec_len text.new ≡ vec_len text.old + HEADER }
     ensures capacity { vec_capacity text.old ≤ vec_capacity text.new }
-    ensures fits { FitsFields (content packet.now) }
+    ensures fits { (items : List Item) → FitsFields (packet_of head items) }
 {
-    let count = packet.items.len() as u16;
     append(
         text,
-        &[b'G', b'B', VERSION, packet.from.number, packet.to.number],
+        &[b'G', b'B', VERSION, head.from.number, head.to.number],
     );
-    append(text, &packet.base.to_be_bytes());
-    append(text, &packet.mask.to_be_bytes());
-    append(text, &packet.frame.to_be_bytes());
+    append(text, &head.base.to_be_bytes());
+    append(text, &head.mask.to_be_bytes());
+    append(text, &head.frame.to_be_bytes());
     append(text, &count.to_be_bytes());
 }
 
+/// Appends the tag of what stands from this place on. Takes no memory.
+fn put_tag(start: usize, key: &HmacKey, text: &mut Vec<u8>)
+    requires start { start ≤ vec_len text.old }
+    requires room { vec_len text.old + TAG ≤ vec_capacity text.old }
+    ensures written { text.new.items ≡ text.old.items ++ tag_of key.now (drop start text.old.items) }
+    ensures capacity { vec_capacity text.old ≤ vec_capacity text.new }
+{
+    let end = tag(&text[start..], key);
+    append(text, &end);
+}
+
 /// The one text of a packet under a key.
-pub fn encode_under(alloc: Global, packet: &Packet, key: &HmacKey) -> Result<Vec<u8>, OutOfMemory>
+pub fn encode(alloc: Global, packet: &Packet, key: &HmacKey) -> Result<Vec<u8>, OutOfMemory>
     requires { IsWithinLimits (content packet.now) }
     ensures { IfOk result (λ text. IsText key.now text.items (content packet.now)) }
 {
     let room = room_beside(&packet.items).unwrap();
     let mut text = Vec::with_capacity(alloc, PACKET - room)?;
-    put_header(packet, &mut text);
+    let count = packet.items.len() as u16;
+    put_header(packet.head(), count, &mut text);
     put_items(&packet.items, &mut text);
-    let end = tag(&text, key);
-    append(&mut text, &end);
+    put_tag(0, key, &mut text);
     Ok(text)
 }
 
-/// `encode_under` for a key that is not kept.
-pub fn encode(alloc: Global, packet: &Packet, key: &Key) -> Result<Vec<u8>, OutOfMemory>
-    requires { IsWithinLimits (content packet.now) }
-    ensures { IfOk result (λ text. IsText key.now text.items (content packet.now)) }
+/// Appends the text of the packet with this head and the items whose texts `put_item` wrote: what
+/// `encode` gives. Takes no memory.
+pub fn wrap(head: Head, texts: &[u8], key: &HmacKey, packet: &mut Vec<u8>)
+    requires packet { (items : List Item) × AreTexts texts.now items × IsWithinLimits (packet_of head items) }
+    requires room { vec_len packet.old + SHORTEST + length texts.now ≤ vec_capacity packet.old }
+    ensures written { (items : List Item) → AreTexts texts.now items → packet.new.items ≡ packet.old.items ++ packet_text key.now (packet_of head items) }
+    ensures packet { (items : List Item) → AreTexts texts.now items → IsPacket (packet_of head items) }
+    ensures capacity { vec_capacity packet.old ≤ vec_capacity packet.new }
 {
-    encode_under(alloc, packet, &HmacKey::new(key))
+    let start = packet.len();
+    put_header(head, count_items(texts), packet);
+    append(packet, texts);
+    put_tag(start, key, packet);
 }

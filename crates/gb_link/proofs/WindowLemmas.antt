@@ -1,5 +1,7 @@
 -- What a sender keeps, through each of its calls.
-use Rattle.std.proofs.Common.{◌≡◌, ℕ, ◌+◌, ◌≤◌, true, false, cond, IsTrue, ◌&&◌, List, [], ◌∷◌, ◌++◌, arith, Bool}
+use Rattle.std.proofs.Common.{◌≡◌, ℕ, ◌+◌, ◌≤◌, true, false, cond, IsTrue, ◌&&◌, List, [], ◌∷◌, ◌++◌, arith, Bool, Option, None, Some, ap, refl}
+use Rattle.std.specs.Prelude.{MatchOption, OnSome, IfNone}
+use Rattle.std.specs.List.{find, filter}
 use Rattle.std.proofs.lemmas.Bool.Decides.{nat_tests}
 use Rattle.gb_types.specs.declared.limits.TheConstants.{LAST_FRAME}
 use Rattle.gb_link.specs.SendWindow.{SendWindow, IsWindow, AreAscending, AreRecent, without_first, pushed, has_room, is_in_window, acknowledged}
@@ -9,6 +11,11 @@ use Rattle.gb_link.specs.Ack.{covers}
 and_second : (a b : Bool) → IsTrue (a && b) → b ≡ true
 and_second true b h = h
 and_second false b h = cc
+
+-- an element that is taken out leaves no more
+pub no_more : {T D : Type 0} (len : D → ℕ) (o : Option T) (new old : D) → OnSome o (len new + 1 ≡ len old) → IfNone o (new ≡ old) → len new ≤ len old
+no_more len None new old some none = omega (arith, ap len none)
+no_more len (Some x) new old some none = omega (arith, some)
 
 module _ {F : Type 0} where
   -- ascending from a lower number on
@@ -64,3 +71,22 @@ module _ {F : Type 0} where
     ascending = ascending-without (λ u. covers base mask u.0) 1 w.undone kept.ascending;
     recent = recent-without (λ u. covers base mask u.0) w.next w.undone kept.recent;
   }
+
+  -- what passes a test ascends too
+  pub ascending-filter : (test : ℕ × F → Bool) (low : ℕ) (us : List (ℕ × F)) → AreAscending low us → AreAscending low (filter test us)
+  ascending-filter test low [] h = tt
+  ascending-filter test low (u ∷ us) h =
+      let rest = ascending-filter test (u.0 + 1) us h.1 in
+      elim (test u) as (λ b. AreAscending low (cond b (u ∷ filter test us) (filter test us))) [
+        | true ↦ (h.0, rest)
+        | false ↦ ascending_lower low (u.0 + 1) (filter test us) (omega (arith, h.0)) rest
+      ]
+
+  -- the first that passes, and the others that do
+  pub filter_first : (test : ℕ × F → Bool) (us : List (ℕ × F)) → MatchOption (find test us) (filter test us ≡ []) (λ u. filter test us ≡ u ∷ filter test (without_first test us))
+  filter_first test [] = refl
+  filter_first test (v ∷ us) =
+      elim (test v) as (λ b. test v ≡ b → MatchOption (cond b (Some v) (find test us)) (cond b (v ∷ filter test us) (filter test us) ≡ []) (λ u. cond b (v ∷ filter test us) (filter test us) ≡ u ∷ filter test (cond b us (v ∷ without_first test us)))) [
+        | true ↦ λ _. refl
+        | false ↦ λ fails. rw fails (filter_first test us)
+      ] refl

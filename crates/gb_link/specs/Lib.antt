@@ -1,5 +1,6 @@
 pub mod Ack
 pub mod SendWindow
+pub mod Spaced
 pub mod Received
 pub mod Words
 pub mod Link

@@ -1,6 +1,6 @@
 -- What a contract sees of a sender (the sending window of a sliding window protocol).
 use Rattle.std.specs.Prelude.{ℕ, ◌+◌, ◌<◌, ◌≤◌, Bool, true, ◌&&◌, if◌then◌else◌, nat_eq, nat_le, List, [], ◌∷◌, ◌++◌, Option, refl}
-use Rattle.std.specs.List.{find, slice_get}
+use Rattle.std.specs.List.{find, filter, slice_get}
 use Rattle.std.specs.Coded.{Coded, code_by, coded×, coded_ℕ, coded_list}
 use Rattle.gb_types.specs.declared.limits.TheConstants.{LAST_FRAME}
 use Rattle.gb_link.specs.Ack.{covers}
@@ -50,6 +50,10 @@ module _ {F : Type 0} where
   -- that frame is done
   abbrev pub acknowledged : SendWindow F → ℕ → ℕ → SendWindow F
   acknowledged w base mask = record w { undone = without_first (λ u. covers base mask u.0) w.undone }
+
+  -- the frames that an acknowledgement frees, each under its number, in order
+  abbrev pub freed : SendWindow F → ℕ → ℕ → List (ℕ × F)
+  freed w base mask = filter (λ u. covers base mask u.0) w.undone
 
   -- the numbers ascend from the first one on
   abbrev pub AreAscending : ℕ → List (ℕ × F) → Type 0

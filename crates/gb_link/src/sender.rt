@@ -1,8 +1,9 @@
 // The sending end of a link.
-ghost use Rattle.std.specs.Prelude.{◌≡◌, IsTrue, OnOk, OnErr, IfOk, position, nat_eq, find};
+ghost use Rattle.std.specs.Prelude.{◌≡◌, ◌≤◌, [], ◌∷◌, IsTrue, OnOk, OnErr, IfOk, MatchOption, position, nat_eq, find};
+ghost use Rattle.std.specs.VecDeque.{deque_len, deque_capacity};
 ghost use Rattle.std.specs.Option.{option_map, option_copied};
 ghost use Rattle.gb_link.specs.Ack.{covers};
-ghost use Rattle.gb_link.specs.SendWindow.{IsWindow, new_window, has_room, pushed, frame_again, lowest_covered, acknowledged, without_first};
+ghost use Rattle.gb_link.specs.SendWindow.{IsWindow, AreAscending, new_window, has_room, pushed, frame_again, lowest_covered, acknowledged, without_first, freed};
 
 use crate::ack::covers;
 use gb_types::limits::{LAST_FRAME, LINK_WINDOW};
@@ -10,6 +11,9 @@ use gb_types::memory::OutOfMemory;
 use std::alloc::Global;
 use std::collections::VecDeque;
 use std::marker::Model;
+
+// The values that the definitions of a window cite.
+const _: () = prove!(LINK_WINDOW == 64 && LAST_FRAME == 18_446_744_073_709_551_614);
 
 /// Frames that were pushed and not acknowledged yet, each under its number. Numbers rise from 1 to
 /// `LAST_FRAME` and are never used again. At most `LINK_WINDOW` frames are undone, so a search among them
@@ -49,11 +53,7 @@ impl<F: Drop> Sender<F> {
         ensures room { result ≡ has_room self.now }
         ensures window { IsWindow self.now }
     {
-        self.next <= LAST_FRAME
-            && match self.undone.front() {
-                None => true,
-                Some(lowest) => self.next - lowest.0 < LINK_WINDOW,
-            }
+        is_open(self.next, &self.undone)
     }
 
     /// Pushes a frame, and gives its number.
@@ -85,14 +85,36 @@ impl<F: Drop> Sender<F> {
     pub fn acked(&mut self, base: u64, mask: u64) -> Option<(u64, F)>
         ensures handed_out { result ≡ lowest_covered self.old base mask }
         ensures done { self.new ≡ acknowledged self.old base mask }
+
+        // All that the acknowledgement frees is one list, by rising number, and a call takes its first.
+        ensures first { MatchOption result (freed self.old base mask ≡ []) (λ u. freed self.old base mask ≡ u ∷ freed self.new base mask) }
+        ensures rising { AreAscending 1 (freed self.old base mask) }
     {
         take_covered(&mut self.undone, base, mask)
     }
 }
 
-fn take_covered<F>(undone: &mut VecDeque<(u64, F)>, base: u64, mask: u64) -> Option<(u64, F)>
+/// Whether one more frame may have this number.
+pub(crate) fn is_open<F>(next: u64, undone: &VecDeque<(u64, F)>) -> bool
+    requires { IsWindow (record { next = next; undone = undone.now.items }) }
+    ensures { result ≡ has_room (record { next = next; undone = undone.now.items }) }
+{
+    next <= LAST_FRAME
+        && match undone.front() {
+            None => true,
+            Some(lowest) => next - lowest.0 < LINK_WINDOW,
+        }
+}
+
+pub(crate) fn take_covered<F>(
+    undone: &mut VecDeque<(u64, F)>,
+    base: u64,
+    mask: u64,
+) -> Option<(u64, F)>
     ensures handed_out { result ≡ find (λ held. covers base mask held.0) undone.old.items }
     ensures left { undone.new.items ≡ without_first (λ held. covers base mask held.0) undone.old.items }
+    ensures len { deque_len undone.new ≤ deque_len undone.old }
+    ensures capacity { deque_capacity undone.new ≡ deque_capacity undone.old }
 {
     match first_covered(undone, base, mask) {
         None => None,
@@ -107,13 +129,13 @@ fn first_covered<F>(undone: &VecDeque<(u64, F)>, base: u64, mask: u64) -> Option
     undone.iter().position(|held| covers(base, mask, held.0))
 }
 
-fn held_under<F>(undone: &VecDeque<(u64, F)>, number: u64) -> Option<&(u64, F)>
+pub(crate) fn held_under<F>(undone: &VecDeque<(u64, F)>, number: u64) -> Option<&(u64, F)>
     ensures { option_copied result ≡ find (λ held. nat_eq held.0 number) undone.now.items }
 {
     undone.iter().find(|held| held.0 == number)
 }
 
-fn parts<F>(held: Option<&(u64, F)>) -> Option<(u64, &F)>
+pub(crate) fn parts<F>(held: Option<&(u64, F)>) -> Option<(u64, &F)>
     ensures { option_map (λ found. (found.0, found.1.now)) result ≡ option_copied held.entry }
 {
     match held {

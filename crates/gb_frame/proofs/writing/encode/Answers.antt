@@ -1,4 +1,6 @@
+use Rattle.std.proofs.Common.{arith}
+use Rattle.gb_frame.proofs.Room.{count_fits}
 use Rattle.gb_frame.proofs.writing.encode.Goals as goal
 
-pub returns : goal.returns
-returns c = rw c.new.ensures at c.encode_under.ensures
+pub overflow_cast-count : goal.overflow_cast-count
+overflow_cast-count c = let few = count_fits c.args.packet.now.items.items in let room = c.requires.room in let len = c.len-count.ensures in omega (arith, few, room, len)

@@ -1,0 +1,27 @@
+use Rattle.std.proofs.Common.{sym, ap, ◌∙◌, Ok, arith}
+use Rattle.gb_frame.proofs.ReadingLaws.{good, is_there, is_text, is_first_fault, text_found, no_fault_found}
+use Rattle.gb_frame.proofs.reading.decode.Goals as goal
+
+pub of-requires-clause-long : goal.of-requires-clause-long
+of-requires-clause-long c = (good c.args.key.now c.args.bytes.now (sym c.in-None.ensures)).long
+
+pub of-requires-clause-from : goal.of-requires-clause-from
+of-requires-clause-from c = (good c.args.key.now c.args.bytes.now (sym c.in-None.ensures)).from
+
+pub of-requires-clause-to : goal.of-requires-clause-to
+of-requires-clause-to c = (good c.args.key.now c.args.bytes.now (sym c.in-None.ensures)).to
+
+pub of-requires-clause-items : goal.of-requires-clause-items
+of-requires-clause-items c = is_there c.args.key.now c.args.bytes.now (sym c.in-None.ensures)
+
+pub returns-in-Some-clause-only : goal.returns-in-Some-clause-only
+returns-in-Some-clause-only c = λ d t. absurd (no_fault_found c.args.key.now c.args.bytes.now d c.in-Some.fault t (sym c.in-Some.ensures))
+
+pub returns-in-Some-clause-fault : goal.returns-in-Some-clause-fault
+returns-in-Some-clause-fault c = is_first_fault c.args.key.now c.args.bytes.now c.in-Some.fault (λ i. omega (arith, c.type_inv.bytes i)) (sym c.in-Some.ensures)
+
+pub returns-in-None-clause-read : goal.returns-in-None-clause-read
+returns-in-None-clause-read c = rw c.of.ensures (is_text c.args.key.now c.args.bytes.now (λ i. omega (arith, c.type_inv.bytes i)) (sym c.in-None.ensures))
+
+pub returns-in-None-clause-only : goal.returns-in-None-clause-only
+returns-in-None-clause-only c = λ d t. ap Ok (c.of.ensures ∙ (text_found c.args.key.now c.args.bytes.now d t).1)

@@ -1,0 +1,149 @@
+//! The sending end of a link whose frames are built where they stay.
+ghost use Rattle.std.specs.Prelude.{◌≡◌, ◌≤◌, ◌<◌, true, false, [], ◌∷◌, length, IsTrue, OnOk, OnErr, IfOk, MatchOption, Some, vec_capacity};
+ghost use Rattle.std.specs.Option.{option_map};
+ghost use Rattle.std.specs.Borrow.{Lends, sem};
+ghost use Rattle.gb_link.specs.SendWindow.{IsWindow, AreAscending, new_window, has_room, pushed, frame_again, lowest_covered, acknowledged, freed};
+
+use crate::sender::{held_under, is_open, parts, take_covered};
+use gb_types::memory::OutOfMemory;
+use std::alloc::Global;
+use std::collections::VecDeque;
+use std::marker::Model;
+use std::mem;
+
+/// A `Sender` of frames that are written in its spare, and stay there: `space` makes room, the caller
+/// writes in `spare`, and `commit` makes it the next frame, without a copy and without memory. The spare,
+/// and whether there is room for it, are no part of the window.
+#[derive(Drop)]
+pub struct SpacedSender<F> {
+    next: u64,
+    undone: VecDeque<(u64, F)>,
+    spare: F,
+    spaced: bool,
+    alloc: Global,
+}
+
+impl<F> Model for SpacedSender<F> {
+    ghost use Rattle.std.specs.Prelude.{◌≡◌, ◌<◌, true};
+    ghost use Rattle.std.specs.VecDeque.{deque_len, deque_capacity};
+    ghost use Rattle.gb_link.specs.SendWindow.{IsWindow};
+    ghost use Rattle.gb_link.specs.Spaced.{Spaced, spaced_code};
+
+    ghost Value = { Spaced F };
+
+    ghost coded = { spaced_code F.code };
+
+    ghost view = { λ s. record { window = record { next = s.next; undone = s.undone.items }; spare = s.spare; spaced = s.spaced } };
+
+    ghost invariant = { λ s. IsWindow (record { next = s.next; undone = s.undone.items }) × (s.spaced ≡ true → deque_len s.undone < deque_capacity s.undone) };
+}
+
+impl<F: Drop> SpacedSender<F> {
+    ghost use Rattle.gb_link.specs.contracts.spaced.SpacedSender.{the_row};
+
+    /// Whether one more frame may be pushed or committed, as `Sender::room` says.
+    pub fn room(&self) -> bool
+        ensures room { result ≡ has_room self.now.window }
+        ensures window { IsWindow self.now.window }
+    {
+        is_open(self.next, &self.undone)
+    }
+
+    /// Pushes a frame, and gives its number. The room that `space` made is used up.
+    pub fn push(&mut self, frame: F) -> Result<u64, OutOfMemory>
+        requires { IsTrue (has_room self.old.window) }
+        ensures number { IfOk result (λ number. number ≡ self.old.window.next) }
+        ensures ok { OnOk result (self.new ≡ record self.old { window = pushed self.old.window frame; spaced = false }) }
+        ensures err { OnErr result (self.new ≡ self.old) }
+    {
+        self.undone.reserve(1)?;
+        let number = self.next;
+        self.undone.push_back_reserved((number, frame));
+        self.next += 1;
+        self.spaced = false;
+        Ok(number)
+    }
+
+    /// The undone frame of this number, and the number; for 0 the lowest undone frame.
+    pub fn again(&self, number: u64) -> Option<(u64, &F)>
+        ensures { option_map (λ found. (found.0, found.1.now)) result ≡ frame_again self.now.window number }
+    {
+        if number == 0 {
+            return parts(self.undone.front());
+        }
+        parts(held_under(&self.undone, number))
+    }
+
+    /// Hands out the lowest undone frame that the acknowledgement covers, as `Sender::acked` does.
+    pub fn acked(&mut self, base: u64, mask: u64) -> Option<(u64, F)>
+        ensures handed_out { result ≡ lowest_covered self.old.window base mask }
+        ensures done { self.new ≡ record self.old { window = acknowledged self.old.window base mask } }
+        ensures first { MatchOption result (freed self.old.window base mask ≡ []) (λ u. freed self.old.window base mask ≡ u ∷ freed self.new.window base mask) }
+        ensures rising { AreAscending 1 (freed self.old.window base mask) }
+    {
+        take_covered(&mut self.undone, base, mask)
+    }
+
+    /// The spare, for the caller to write in.
+    pub fn spare(&mut self) -> &mut F
+        ensures* writes_back { sem 𝓛 (Lends (the_row F.row) F.row self.entry result (λ w. record self.old { spare = w })) }
+        ensures value { result.now ≡ self.old.spare }
+    {
+        &mut self.spare
+    }
+}
+
+impl SpacedSender<Vec<u8>> {
+    /// A sender that pushed nothing, with an empty spare.
+    pub fn new(alloc: Global) -> SpacedSender<Vec<u8>>
+        ensures window { result.window ≡ new_window }
+        ensures spaced { result.spaced ≡ false }
+        ensures spare { result.spare.items ≡ [] }
+    {
+        SpacedSender {
+            next: 1,
+            undone: VecDeque::new(alloc),
+            spare: Vec::new(alloc),
+            spaced: false,
+            alloc,
+        }
+    }
+
+    /// Makes room for the spare to be the next frame, and empties it, with room for so many bytes. The
+    /// sender is spaced then until its next `push` or `commit`.
+    pub fn space(&mut self, len: usize) -> Result<(), OutOfMemory>
+        requires { IsTrue (has_room self.old.window) }
+        ensures window { self.new.window ≡ self.old.window }
+        ensures spaced { OnOk result (self.new.spaced ≡ true) }
+        ensures empty { OnOk result (self.new.spare.items ≡ []) }
+        ensures capacity { OnOk result (len ≤ vec_capacity self.new.spare) }
+        ensures err { OnErr result ((self.new.spaced ≡ self.old.spaced) × (self.new.spare.items ≡ self.old.spare.items) × (vec_capacity self.old.spare ≤ vec_capacity self.new.spare)) }
+    {
+        self.undone.reserve(1)?;
+        self.spare.reserve(len)?;
+        self.spare.clear();
+        self.spaced = true;
+        Ok(())
+    }
+
+    /// Makes the spare the next frame, and gives its number. Takes no memory.
+    pub fn commit(&mut self) -> u64
+        requires room { IsTrue (has_room self.old.window) }
+        requires spaced { IsTrue self.old.spaced }
+        requires frame { 0 < length self.old.spare.items }
+        ensures number { result ≡ self.old.window.next }
+        ensures window { self.new.window ≡ pushed self.old.window self.old.spare }
+        ensures spaced { self.new.spaced ≡ false }
+        ensures spare { self.new.spare.items ≡ [] }
+    {
+        let number = self.next;
+        let frame = mem::replace(&mut self.spare, Vec::new(self.alloc));
+        self.undone.push_back_reserved((number, frame));
+        self.next += 1;
+        self.spaced = false;
+        number
+    }
+}
+
+#[cfg(test)]
+mod tests;
