@@ -1,22 +1,17 @@
 -- Item texts one after another, from the front.
-use Rattle.std.proofs.Common.{◌≡◌, ℕ, List, [], ◌∷◌, ◌++◌, length, Some, None, refl, sym, ap, ◌∙◌, arith}
-use Rattle.std.proofs.lemmas.List.{length-append}
+use Rattle.std.proofs.Common.{◌≡◌, ℕ, List, [], ◌∷◌, ◌++◌, Some, None, refl, sym, ap, ◌∙◌}
 use Rattle.std.proofs.lemmas.List.Elements.{All-head, All-tail}
 use Rattle.std.proofs.lemmas.List.Concat.{flat_map-cons}
 use Rattle.gb_frame.specs.declared.item.Item.{Item}
 use Rattle.gb_frame.specs.Spelling.{item_text, items_text, IsItem, AreTexts}
 use Rattle.gb_frame.specs.Reading.{item_at}
-use Rattle.gb_frame.proofs.Room.{length-item_text}
 use Rattle.gb_frame.proofs.ItemLaws.{item_again, none_at_end, some_is}
 
 -- the first item stands at the front, and the others behind it
-pub first_again : (bytes : List ℕ) (i : Item) (items : List Item) → AreTexts bytes (i ∷ items) → item_at bytes ≡ Some (i, items_text items)
+first_again : (bytes : List ℕ) (i : Item) (items : List Item) → AreTexts bytes (i ∷ items) → item_at bytes ≡ Some (i, items_text items)
 first_again bytes i items t =
     let parts : bytes ≡ item_text i ++ items_text items = t.parts ∙ flat_map-cons item_text i items in
     ap item_at parts ∙ item_again i (items_text items) (All-head IsItem i items t.fit)
-
-pub others_again : (bytes : List ℕ) (i : Item) (items : List Item) → AreTexts bytes (i ∷ items) → AreTexts (items_text items) items
-others_again bytes i items t = record { parts = refl; fit = All-tail IsItem i items t.fit }
 
 -- where no item stands at the front, there are none
 pub none_again : (bytes : List ℕ) (items : List Item) → AreTexts bytes items → item_at bytes ≡ None → items ≡ []
@@ -32,16 +27,3 @@ behind_first bytes (j ∷ items) i rest t found =
     let item : i ≡ j = ap (λ (x : Item × List ℕ). x.0) same in
     let left : rest ≡ items_text items = ap (λ (x : Item × List ℕ). x.1) same in
     (items, record { parts = left; fit = All-tail IsItem j items t.fit }, ap (λ x. x ∷ items) (sym item))
-
--- bytes are the texts of one list of items at most
-pub same_items : (bytes : List ℕ) (a b : List Item) → AreTexts bytes a → AreTexts bytes b → a ≡ b
-same_items bytes [] b s t = elim b as (λ b. AreTexts bytes b → [] ≡ b) [
-  | [] ↦ λ t. refl
-  | j ∷ items ↦ λ t.
-      let empty : length bytes ≡ 0 = ap length s.parts in
-      let long = ap length (t.parts ∙ flat_map-cons item_text j items) ∙ length-append (item_text j) (items_text items) in
-      absurd (omega (arith, empty, long, length-item_text j))
-] t
-same_items bytes (i ∷ items) b s t =
-    let r = behind_first bytes b i (items_text items) t (first_again bytes i items s) in
-    ap (λ left. i ∷ left) (same_items (items_text items) items r.0 (others_again bytes i items s) r.1) ∙ sym r.2
