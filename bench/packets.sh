@@ -1,5 +1,5 @@
 #!/usr/bin/env bash
-# Prints how many megabytes a second packets are written and read at, beside the bare SHA-256 of the same
+# Prints how many megabytes a second packets are written, wrapped and read at, beside the bare SHA-256 of the same
 # bytes. The program is built in bench/out, apart from the repository's own crates.
 set -eu
 top=$(cd "$(dirname "$0")/.." && pwd)
@@ -11,6 +11,7 @@ for crate in gb_types gb_cap gb_frame; do
 done
 mkdir -p "$work/crates/packets/src"
 cp "$top/bench/packets/main.rt.txt" "$work/crates/packets/src/main.rt"
+cp -r "$top/bench/packets/proofs" "$work/crates/packets/"
 grep -E '^gb_(types|cap|frame):' "$top/crates.txt" >"$work/crates.txt"
 echo 'packets: gb_types gb_cap gb_frame anyhow sha2' >>"$work/crates.txt"
 cd "$work/crates/packets"
