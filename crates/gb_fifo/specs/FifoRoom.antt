@@ -1,6 +1,5 @@
 -- What a fifo stands for, and when it has room.
 use Rattle.std.specs.Prelude.{◌≡◌, ℕ, ◌+◌, ◌≤◌, [], vec_len, vec_capacity, count_by}
-use Rattle.std.proofs.Common.{arith}
 use Rattle.gb_fifo.specs.declared.fifo.Fifo.{Fifo}
 use Rattle.gb_fifo.specs.Entries.{is_ungiven}
 use Rattle.gb_fifo.specs.FifoMachine.{FifoState}
@@ -23,14 +22,3 @@ pub record HasRoom {L : Type 0} (below : L → ℕ → ℕ → ℕ → Type 0) (
   pub lower : below f.lower a (vec_capacity f.below) calls
   pub entries : vec_len f.entries + calls ≤ vec_capacity f.entries
   pub ups : ungiven f + calls ≤ b
-
-pub fifo_roomier : {L : Type 0} (below : L → ℕ → ℕ → ℕ → Type 0) → ((x : L) (a b n a' b' n' : ℕ) → a ≤ a' → b ≤ b' → n' ≤ n → below x a b n → below x a' b' n')
-    → (f : Fifo L) (a b n a' b' n' : ℕ) → a ≤ a' → b ≤ b' → n' ≤ n → HasRoom below f a b n → HasRoom below f a' b' n'
-fifo_roomier below law f a b n a' b' n' h i j k =
-    let ke = k.entries in
-    let ku = k.ups in
-    record {
-      lower = law f.lower a (vec_capacity f.below) n a' (vec_capacity f.below) n' h (omega arith) j k.lower;
-      entries = omega arith;
-      ups = omega arith;
-    }

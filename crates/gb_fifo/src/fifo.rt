@@ -3,8 +3,9 @@ ghost use Rattle.std.specs.Prelude.{◌≡◌, ℕ, ◌+◌, ◌≤◌, ◌++◌
 ghost use Rattle.gb_layer.specs.Room.{free_sends, free_ups};
 ghost use Rattle.gb_fifo.specs.Entries.{noted_by};
 ghost use Rattle.gb_fifo.specs.FifoMachine.{FifoState, fifo_next, fifo_gives};
-ghost use Rattle.gb_fifo.specs.FifoRoom.{state_of, HasRoom, ungiven, IsNew, fifo_roomier};
-ghost use Rattle.gb_fifo.specs.FifoLaws.{fifo_me_stays, fifo_sends_handed_in, fifo_ups_handed_in, fifo_up_once, fifo_sent_once, fifo_noticed_once, fifo_own};
+ghost use Rattle.gb_fifo.specs.FifoRoom.{state_of, HasRoom, ungiven, IsNew};
+ghost use Rattle.gb_fifo.specs.RoomLemmas.{fifo_roomier};
+ghost use Rattle.gb_fifo.specs.FifoLemmas.{fifo_me_stays, fifo_sends_handed_in, fifo_ups_handed_in, fifo_up_once, fifo_sent_once, fifo_noticed_once, fifo_own};
 
 use crate::entry::Entry;
 use crate::ledger::{count_ungiven, note, take_all};
@@ -12,7 +13,6 @@ use gb_layer::call::Call;
 use gb_layer::effects::{Effects, Up};
 use gb_layer::layer::{Broadcast, Layer};
 use gb_types::memory::OutOfMemory;
-use gb_types::message::MsgId;
 use gb_types::node::NodeId;
 use std::alloc::Global;
 use std::mem;
@@ -76,20 +76,6 @@ impl<L: Broadcast> Fifo<L> {
         mem::swap(&mut out.ups, &mut self.below);
     }
 
-    /// Takes any call.
-    fn step(&mut self, call: Call, out: &mut Effects)
-        requires { HasRoom L.has_room self.old (free_sends out.old) (free_ups out.old) 1 }
-        ensures state { state_of L.meaning self.new ≡ fifo_next L.next L.gives (state_of L.meaning self.old) call }
-        ensures sends { out.new.sends.items ≡ out.old.sends.items ++ (fifo_gives L.next L.gives (state_of L.meaning self.old) call).sends }
-        ensures ups { out.new.ups.items ≡ out.old.ups.items ++ (fifo_gives L.next L.gives (state_of L.meaning self.old) call).ups }
-        ensures room { (n : ℕ) → HasRoom L.has_room self.old (free_sends out.old) (free_ups out.old) (n + 1)
-            → HasRoom L.has_room self.new (free_sends out.new) (free_ups out.new) n }
-    {
-        self.note_call(call);
-        self.call_lower(call, out);
-        take_all(&mut self.entries, &self.below, out);
-    }
-
     /// Makes room below for the next calls, so many.
     fn ready_below(&mut self, calls: usize, out: &mut Effects) -> Result<(), OutOfMemory>
         ensures meaning { L.meaning self.new.lower ≡ L.meaning self.old.lower }
@@ -134,16 +120,10 @@ impl<L: Broadcast> Layer for Fifo<L> {
         self.ready_below(calls, out)
     }
 
-    fn say(&mut self, m: MsgId, out: &mut Effects) {
-        self.step(Call::Say(m), out);
-    }
-
-    fn came(&mut self, from: NodeId, m: MsgId, out: &mut Effects) {
-        self.step(Call::Came(from, m), out);
-    }
-
-    fn notice(&mut self, who: NodeId, out: &mut Effects) {
-        self.step(Call::Notice(who), out);
+    fn take(&mut self, call: Call, out: &mut Effects) {
+        self.note_call(call);
+        self.call_lower(call, out);
+        take_all(&mut self.entries, &self.below, out);
     }
 
     ghost roomier = { fifo_roomier L.has_room L.roomier };

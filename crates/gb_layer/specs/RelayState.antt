@@ -1,6 +1,5 @@
 -- What a relay's memory stands for, and how much of it is free.
 use Rattle.std.specs.Prelude.{ℕ, ◌+◌, ◌≤◌, vec_len, vec_capacity, count_by}
-use Rattle.std.proofs.Common.{arith}
 use Rattle.gb_layer.specs.declared.relay.Relay.{Relay}
 use Rattle.gb_layer.specs.Relay.{State, is_unsent, is_ungiven}
 
@@ -21,15 +20,3 @@ pub record HasRoom {L R : Type 0} (below : L → ℕ → ℕ → ℕ → Type 0)
   pub lower : below r.lower a (vec_capacity r.below) (calls + calls + unsent r)
   pub entries : vec_len r.entries + calls ≤ vec_capacity r.entries
   pub ups : ungiven r + calls ≤ b
-
--- more free places are room for as many calls, or fewer
-pub relay_roomier : {L R : Type 0} (below : L → ℕ → ℕ → ℕ → Type 0) → ((x : L) (a b n a' b' n' : ℕ) → a ≤ a' → b ≤ b' → n' ≤ n → below x a b n → below x a' b' n')
-    → (r : Relay L R) (a b n a' b' n' : ℕ) → a ≤ a' → b ≤ b' → n' ≤ n → HasRoom below r a b n → HasRoom below r a' b' n'
-relay_roomier below law r a b n a' b' n' h i j k =
-    let ke = k.entries in
-    let ku = k.ups in
-    record {
-      lower = law r.lower a (vec_capacity r.below) (n + n + unsent r) a' (vec_capacity r.below) (n' + n' + unsent r) h (omega arith) (omega arith) k.lower;
-      entries = omega arith;
-      ups = omega arith;
-    }

@@ -3,12 +3,13 @@ ghost use Rattle.std.specs.Prelude.{◌≡◌};
 ghost use Rattle.std.proofs.Common.{refl};
 ghost use Rattle.gb_types.specs.declared.node.NodeId.{NodeId};
 ghost use Rattle.gb_layer.specs.BebMachine.{beb_gives, BebRoom};
-ghost use Rattle.gb_layer.specs.BebLaws.{beb_roomier, beb_sends_handed_in, beb_ups_handed_in, beb_up_once, beb_sent_once, beb_noticed_once, fair_once};
+ghost use Rattle.gb_layer.specs.RoomLemmas.{beb_roomier};
+ghost use Rattle.gb_layer.specs.BebLemmas.{beb_sends_handed_in, beb_ups_handed_in, beb_up_once, beb_sent_once, beb_noticed_once, fair_once};
 
+use crate::call::Call;
 use crate::effects::Effects;
 use crate::layer::Layer;
 use gb_types::memory::OutOfMemory;
-use gb_types::message::MsgId;
 use gb_types::node::NodeId;
 
 /// Sends what is said, and hands up what is said and whatever comes, from whichever node (Cachin, Guerraoui,
@@ -53,16 +54,16 @@ impl Layer for Beb {
         Ok(())
     }
 
-    fn say(&mut self, m: MsgId, out: &mut Effects) {
-        out.send(m);
-        out.up(self.me, m);
+    fn take(&mut self, call: Call, out: &mut Effects) {
+        match call {
+            Call::Say(m) => {
+                out.send(m);
+                out.up(self.me, m);
+            }
+            Call::Came(from, m) => out.up(from, m),
+            Call::Notice(_) => {}
+        }
     }
-
-    fn came(&mut self, from: NodeId, m: MsgId, out: &mut Effects) {
-        out.up(from, m);
-    }
-
-    fn notice(&mut self, _who: NodeId, _out: &mut Effects) {}
 
     ghost roomier = { beb_roomier };
 

@@ -1,12 +1,12 @@
 //! A layer that lets through what came from where it was made.
 ghost use Rattle.std.specs.Prelude.{◌≡◌, ◌≤◌, ◌++◌, take, drop, filter, vec_len, vec_capacity};
 ghost use Rattle.gb_layer.specs.Machine.{is_own, own_gives};
-ghost use Rattle.gb_layer.specs.DirectLaws.{direct_sends_handed_in, direct_ups_handed_in, direct_up_once, direct_sent_once, direct_noticed_once, own_pairs};
+ghost use Rattle.gb_layer.specs.DirectLemmas.{direct_sends_handed_in, direct_ups_handed_in, direct_up_once, direct_sent_once, direct_noticed_once, own_pairs};
 
+use crate::call::Call;
 use crate::effects::{Effects, Up};
 use crate::layer::{Broadcast, Layer};
 use gb_types::memory::OutOfMemory;
-use gb_types::message::MsgId;
 use gb_types::node::NodeId;
 
 /// Keeps, of the pairs from a place on, those that came from where the message was made.
@@ -37,7 +37,8 @@ pub struct Direct<L> {
 impl<L: Layer> Direct<L> {
     /// A layer over another, in which it is all that is remembered.
     pub fn new(lower: L) -> Direct<L>
-        ensures { ⟦<Direct<L> as Layer>⟧.meaning result ≡ L.meaning lower }
+        ensures meaning { ⟦<Direct<L> as Layer>⟧.meaning result ≡ L.meaning lower }
+        ensures fresh { L.is_fresh (L.meaning lower) → ⟦<Direct<L> as Layer>⟧.is_fresh (⟦<Direct<L> as Layer>⟧.meaning result) }
     {
         Direct { lower }
     }
@@ -66,21 +67,9 @@ impl<L: Layer> Layer for Direct<L> {
         self.lower.ready(calls, out)
     }
 
-    fn say(&mut self, m: MsgId, out: &mut Effects) {
+    fn take(&mut self, call: Call, out: &mut Effects) {
         let first = out.ups.len();
-        self.lower.say(m, out);
-        keep_own(&mut out.ups, first);
-    }
-
-    fn came(&mut self, from: NodeId, m: MsgId, out: &mut Effects) {
-        let first = out.ups.len();
-        self.lower.came(from, m, out);
-        keep_own(&mut out.ups, first);
-    }
-
-    fn notice(&mut self, who: NodeId, out: &mut Effects) {
-        let first = out.ups.len();
-        self.lower.notice(who, out);
+        self.lower.take(call, out);
         keep_own(&mut out.ups, first);
     }
 

@@ -56,47 +56,49 @@ pub trait Layer {
         ensures ups { out.new.ups.items ≡ out.old.ups.items }
         ensures room { OnOk result (has_room self.new (free_sends out.new) (free_ups out.new) calls) };
 
-    /// Broadcasts m, a message of this node.
-    fn say(&mut self, m: MsgId, out: &mut Effects)
-        requires { has_room self.old (free_sends out.old) (free_ups out.old) 1 }
-        ensures meaning { meaning self.new ≡ next (meaning self.old) (Say m) }
-        ensures sends { out.new.sends.items ≡ out.old.sends.items ++ (gives (meaning self.old) (Say m)).sends }
-        ensures ups { out.new.ups.items ≡ out.old.ups.items ++ (gives (meaning self.old) (Say m)).ups }
-        ensures room { (n : ℕ) → has_room self.old (free_sends out.old) (free_ups out.old) (n + 1)
-            → has_room self.new (free_sends out.new) (free_ups out.new) n };
-
-    /// Takes m, which came from another node: its origin, or a node that relayed it.
-    fn came(&mut self, from: NodeId, m: MsgId, out: &mut Effects)
-        requires { has_room self.old (free_sends out.old) (free_ups out.old) 1 }
-        ensures meaning { meaning self.new ≡ next (meaning self.old) (Came from m) }
-        ensures sends { out.new.sends.items ≡ out.old.sends.items ++ (gives (meaning self.old) (Came from m)).sends }
-        ensures ups { out.new.ups.items ≡ out.old.ups.items ++ (gives (meaning self.old) (Came from m)).ups }
-        ensures room { (n : ℕ) → has_room self.old (free_sends out.old) (free_ups out.old) (n + 1)
-            → has_room self.new (free_sends out.new) (free_ups out.new) n };
-
-    /// Takes note that another node is noticed to have crashed.
-    fn notice(&mut self, who: NodeId, out: &mut Effects)
-        requires { has_room self.old (free_sends out.old) (free_ups out.old) 1 }
-        ensures meaning { meaning self.new ≡ next (meaning self.old) (Notice who) }
-        ensures sends { out.new.sends.items ≡ out.old.sends.items ++ (gives (meaning self.old) (Notice who)).sends }
-        ensures ups { out.new.ups.items ≡ out.old.ups.items ++ (gives (meaning self.old) (Notice who)).ups }
-        ensures room { (n : ℕ) → has_room self.old (free_sends out.old) (free_ups out.old) (n + 1)
-            → has_room self.new (free_sends out.new) (free_ups out.new) n };
-
-    /// Takes any of the three calls.
+    /// Takes a call: a layer's own work. `say`, `came` and `notice` are this, one for each call.
     fn take(&mut self, call: Call, out: &mut Effects)
         requires { has_room self.old (free_sends out.old) (free_ups out.old) 1 }
         ensures meaning { meaning self.new ≡ next (meaning self.old) call }
         ensures sends { out.new.sends.items ≡ out.old.sends.items ++ (gives (meaning self.old) call).sends }
         ensures ups { out.new.ups.items ≡ out.old.ups.items ++ (gives (meaning self.old) call).ups }
         ensures room { (n : ℕ) → has_room self.old (free_sends out.old) (free_ups out.old) (n + 1)
+            → has_room self.new (free_sends out.new) (free_ups out.new) n };
+
+    /// Broadcasts m, a message of this node.
+    final fn say(&mut self, m: MsgId, out: &mut Effects)
+        requires { has_room self.old (free_sends out.old) (free_ups out.old) 1 }
+        ensures meaning { meaning self.new ≡ next (meaning self.old) (Say m) }
+        ensures sends { out.new.sends.items ≡ out.old.sends.items ++ (gives (meaning self.old) (Say m)).sends }
+        ensures ups { out.new.ups.items ≡ out.old.ups.items ++ (gives (meaning self.old) (Say m)).ups }
+        ensures room { (n : ℕ) → has_room self.old (free_sends out.old) (free_ups out.old) (n + 1)
             → has_room self.new (free_sends out.new) (free_ups out.new) n }
     {
-        match call {
-            Call::Say(m) => self.say(m, out),
-            Call::Came(from, m) => self.came(from, m, out),
-            Call::Notice(who) => self.notice(who, out),
-        }
+        self.take(Call::Say(m), out);
+    }
+
+    /// Takes m, which came from another node: its origin, or a node that relayed it.
+    final fn came(&mut self, from: NodeId, m: MsgId, out: &mut Effects)
+        requires { has_room self.old (free_sends out.old) (free_ups out.old) 1 }
+        ensures meaning { meaning self.new ≡ next (meaning self.old) (Came from m) }
+        ensures sends { out.new.sends.items ≡ out.old.sends.items ++ (gives (meaning self.old) (Came from m)).sends }
+        ensures ups { out.new.ups.items ≡ out.old.ups.items ++ (gives (meaning self.old) (Came from m)).ups }
+        ensures room { (n : ℕ) → has_room self.old (free_sends out.old) (free_ups out.old) (n + 1)
+            → has_room self.new (free_sends out.new) (free_ups out.new) n }
+    {
+        self.take(Call::Came(from, m), out);
+    }
+
+    /// Takes note that another node is noticed to have crashed.
+    final fn notice(&mut self, who: NodeId, out: &mut Effects)
+        requires { has_room self.old (free_sends out.old) (free_ups out.old) 1 }
+        ensures meaning { meaning self.new ≡ next (meaning self.old) (Notice who) }
+        ensures sends { out.new.sends.items ≡ out.old.sends.items ++ (gives (meaning self.old) (Notice who)).sends }
+        ensures ups { out.new.ups.items ≡ out.old.ups.items ++ (gives (meaning self.old) (Notice who)).ups }
+        ensures room { (n : ℕ) → has_room self.old (free_sends out.old) (free_ups out.old) (n + 1)
+            → has_room self.new (free_sends out.new) (free_ups out.new) n }
+    {
+        self.take(Call::Notice(who), out);
     }
 
     /// More free places are room for as many calls, or fewer.

@@ -24,5 +24,3 @@ pub mod plain;
 pub mod relay;
 pub mod relays;
 pub mod rule;
-#[cfg(test)]
-mod tests;

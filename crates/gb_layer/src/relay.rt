@@ -3,9 +3,10 @@ ghost use Rattle.std.specs.Prelude.{◌≡◌, ℕ, ◌+◌, ◌≤◌, ◌<◌,
 ghost use Rattle.gb_layer.specs.declared.call.Call.TheVariants.{Say};
 ghost use Rattle.gb_layer.specs.Room.{free_sends, free_ups};
 ghost use Rattle.gb_layer.specs.Relay.{State, IsNew, at_start, is_unsent, is_ungiven, marked_sent, call_below, due_to_relay, due_to_deliver, due_message, relay_if, relay_if_sends, relayed, relayed_sends, begun, begun_sends, given, given_ups, is_repeat, relay_next, relay_gives, handed, up_of};
-ghost use Rattle.gb_layer.specs.RelayLaws.{relay_me_stays, relay_noticed_once, relay_own};
-ghost use Rattle.gb_layer.specs.RelayOnce.{relay_sends_handed_in, relay_ups_handed_in, relay_up_once, relay_sent_once};
-ghost use Rattle.gb_layer.specs.RelayState.{state_of, HasRoom, unsent, ungiven, relay_roomier};
+ghost use Rattle.gb_layer.specs.RelayLemmas.{relay_me_stays, relay_noticed_once, relay_own};
+ghost use Rattle.gb_layer.specs.RelayOnceLemmas.{relay_sends_handed_in, relay_ups_handed_in, relay_up_once, relay_sent_once};
+ghost use Rattle.gb_layer.specs.RelayState.{state_of, HasRoom, unsent, ungiven};
+ghost use Rattle.gb_layer.specs.RoomLemmas.{relay_roomier};
 
 use crate::call::Call;
 use crate::effects::{Effects, Up};
@@ -263,20 +264,6 @@ impl<L: Layer, R: Rule> Relay<L, R> {
         }
     }
 
-    /// Takes any call.
-    fn step(&mut self, call: Call, out: &mut Effects)
-        requires { HasRoom L.has_room self.old (free_sends out.old) (free_ups out.old) 1 }
-        ensures state { state_of L.meaning self.new ≡ relay_next L.next L.gives L.me R.rules (state_of L.meaning self.old) call }
-        ensures sends { out.new.sends.items ≡ out.old.sends.items ++ (relay_gives L.next L.gives L.me R.rules (state_of L.meaning self.old) call).sends }
-        ensures ups { out.new.ups.items ≡ out.old.ups.items ++ (relay_gives L.next L.gives L.me R.rules (state_of L.meaning self.old) call).ups }
-        ensures room { (n : ℕ) → HasRoom L.has_room self.old (free_sends out.old) (free_ups out.old) (n + 1) → HasRoom L.has_room self.new (free_sends out.new) (free_ups out.new) n }
-    {
-        if !self.repeats(call) {
-            self.begin(call, out);
-            self.finish(out);
-        }
-    }
-
     /// Makes room for so many calls of the layer below.
     fn ready_below(&mut self, calls: usize, out: &mut Effects) -> Result<(), OutOfMemory>
         ensures meaning { L.meaning self.new.lower ≡ L.meaning self.old.lower }
@@ -324,16 +311,11 @@ impl<L: Layer, R: Rule> Layer for Relay<L, R> {
         self.ready_below(below, out)
     }
 
-    fn say(&mut self, m: MsgId, out: &mut Effects) {
-        self.step(Call::Say(m), out);
-    }
-
-    fn came(&mut self, from: NodeId, m: MsgId, out: &mut Effects) {
-        self.step(Call::Came(from, m), out);
-    }
-
-    fn notice(&mut self, who: NodeId, out: &mut Effects) {
-        self.step(Call::Notice(who), out);
+    fn take(&mut self, call: Call, out: &mut Effects) {
+        if !self.repeats(call) {
+            self.begin(call, out);
+            self.finish(out);
+        }
     }
 
     ghost roomier = { relay_roomier L.has_room L.roomier };

@@ -3,7 +3,6 @@ use crate::{plain, stands};
 use gb_layer::call::Call;
 use gb_layer::effects::{Effects, Up};
 use gb_layer::layer::{Broadcast, Layer};
-use gb_layer::modules;
 use gb_types::kind::Kind;
 use gb_types::memory::OutOfMemory;
 use gb_types::message::MsgId;
@@ -169,7 +168,7 @@ fn compare_all(rt: &impl Abort, alloc: Global, noticed: &[NodeId]) -> Result<(),
 fn each_stack_is_its_plain_kind(rt: HostRuntime) -> Result<(), Fail> {
     stands::stands();
     stands::logs();
-    modules::each_once::<Stack>();
+    stands::starts();
     compare_all(&rt, rt.alloc(), &[])
 }
 

@@ -3,7 +3,8 @@ ghost use Rattle.std.specs.Prelude.{◌≡◌, ℕ, ◌+◌, ◌++◌};
 ghost use Rattle.std.specs.FinSet as set;
 ghost use Rattle.gb_layer.specs.Room.{free_sends, free_ups};
 ghost use Rattle.gb_stack.specs.StackState.{UnorderedState, best_effort, lazy, eager, all_ack, unordered_next, unordered_gives, unordered_me, IsUntold, unordered_noticing};
-ghost use Rattle.gb_stack.specs.UnorderedLaws.{unordered_room, unordered_roomier, unordered_me_stays, unordered_own, unordered_sends_handed_in, unordered_ups_handed_in, unordered_up_once, unordered_sent_once, unordered_noticed_once};
+ghost use Rattle.gb_stack.specs.StackRoom.{unordered_room};
+ghost use Rattle.gb_stack.specs.UnorderedLemmas.{unordered_roomier, unordered_me_stays, unordered_own, unordered_sends_handed_in, unordered_ups_handed_in, unordered_up_once, unordered_sent_once, unordered_noticed_once};
 ghost use Rattle.gb_stack.specs.declared.unordered.Unordered.TheVariants as variant;
 
 use gb_layer::base::Base;
@@ -16,7 +17,6 @@ use gb_layer::relay::Relay;
 use gb_reliable::eager::{Eager, Eagerly};
 use gb_reliable::lazy::{Lazily, Lazy};
 use gb_types::memory::OutOfMemory;
-use gb_types::message::MsgId;
 use gb_types::node::{NodeId, NodeSet};
 use gb_uniform::all_ack::{AllAck, AllAcked};
 use std::alloc::Global;
@@ -37,7 +37,8 @@ pub enum Unordered {
 impl Unordered {
     /// A module's broadcast at the node me, in a group with these members, that was told nothing yet.
     pub fn new(alloc: Global, base: Base, me: NodeId, members: NodeSet) -> Unordered
-        ensures { ⟦<Unordered as Layer>⟧.meaning result ≡ unordered_noticing base me members set.empty }
+        ensures meaning { ⟦<Unordered as Layer>⟧.meaning result ≡ unordered_noticing base me members set.empty }
+        ensures fresh { ⟦<Unordered as Layer>⟧.is_fresh (⟦<Unordered as Layer>⟧.meaning result) }
     {
         let lower = Beb::new(me);
         match base {
@@ -45,23 +46,6 @@ impl Unordered {
             Base::Lazy => Unordered::Lazy(Relay::new(alloc, lower, Lazily, members)),
             Base::Eager => Unordered::Eager(Relay::new(alloc, lower, Eagerly, members)),
             Base::AllAck => Unordered::AllAck(Relay::new(alloc, lower, AllAcked, members)),
-        }
-    }
-
-    /// Takes any call.
-    fn step(&mut self, call: Call, out: &mut Effects)
-        requires { unordered_room self.old (free_sends out.old) (free_ups out.old) 1 }
-        ensures meaning { ⟦<Unordered as Layer>⟧.meaning self.new ≡ unordered_next (⟦<Unordered as Layer>⟧.meaning self.old) call }
-        ensures sends { out.new.sends.items ≡ out.old.sends.items ++ (unordered_gives (⟦<Unordered as Layer>⟧.meaning self.old) call).sends }
-        ensures ups { out.new.ups.items ≡ out.old.ups.items ++ (unordered_gives (⟦<Unordered as Layer>⟧.meaning self.old) call).ups }
-        ensures room { (n : ℕ) → unordered_room self.old (free_sends out.old) (free_ups out.old) (n + 1)
-            → unordered_room self.new (free_sends out.new) (free_ups out.new) n }
-    {
-        match self {
-            Unordered::BestEffort(layer) => layer.take(call, out),
-            Unordered::Lazy(layer) => layer.take(call, out),
-            Unordered::Eager(layer) => layer.take(call, out),
-            Unordered::AllAck(layer) => layer.take(call, out),
         }
     }
 }
@@ -104,16 +88,13 @@ impl Layer for Unordered {
         }
     }
 
-    fn say(&mut self, m: MsgId, out: &mut Effects) {
-        self.step(Call::Say(m), out);
-    }
-
-    fn came(&mut self, from: NodeId, m: MsgId, out: &mut Effects) {
-        self.step(Call::Came(from, m), out);
-    }
-
-    fn notice(&mut self, who: NodeId, out: &mut Effects) {
-        self.step(Call::Notice(who), out);
+    fn take(&mut self, call: Call, out: &mut Effects) {
+        match self {
+            Unordered::BestEffort(layer) => layer.take(call, out),
+            Unordered::Lazy(layer) => layer.take(call, out),
+            Unordered::Eager(layer) => layer.take(call, out),
+            Unordered::AllAck(layer) => layer.take(call, out),
+        }
     }
 
     ghost roomier = { unordered_roomier };

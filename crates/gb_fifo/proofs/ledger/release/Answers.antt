@@ -1,6 +1,6 @@
 use Rattle.std.proofs.Common.{◌≡◌, ◌<◌, ◌-◌, ◌++◌, ◌∙◌, ap, sym, arith, rules, length}
 use Rattle.gb_fifo.specs.Entries.{released, released_ups}
-use Rattle.gb_fifo.proofs.Placed.{released_more, released_ups_more, released_done, released_ups_done}
+use Rattle.gb_fifo.proofs.PlacedLemmas.{released_more, released_ups_more, released_done, released_ups_done}
 use Rattle.gb_fifo.proofs.ledger.release.Goals as goal
 
 pub returns-then-not-give_next-clause-items : goal.returns-then-not-give_next-clause-items

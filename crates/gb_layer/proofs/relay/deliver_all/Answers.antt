@@ -1,7 +1,7 @@
 use Rattle.std.proofs.Common.{◌≡◌, ◌∙◌, arith, ◌<◌, length, get_or}
 use Rattle.gb_layer.specs.Relay.{due_to_deliver, handed, up_of, is_ungiven}
 use Rattle.gb_layer.specs.Counts.{count_by-set}
-use Rattle.gb_layer.proofs.Mapped.{mapped_more, mapped_at, picked_more}
+use Rattle.gb_layer.proofs.MappedLemmas.{mapped_more, mapped_at, picked_more}
 use Rattle.gb_layer.proofs.relay.deliver_all.Goals as goal
 
 pub loop-i-preserved : goal.loop-i-preserved

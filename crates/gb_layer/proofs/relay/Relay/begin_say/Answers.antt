@@ -2,7 +2,7 @@ use Rattle.std.proofs.Common.{arith, ◌≡◌, ◌+◌, vec_capacity, count_by,
 use Rattle.gb_layer.specs.Room.{free_sends}
 use Rattle.gb_layer.specs.Relay.{is_unsent, marked_sent}
 use Rattle.gb_layer.specs.RelayState.{unsent}
-use Rattle.gb_layer.proofs.Counted.{marked_no_more}
+use Rattle.gb_layer.proofs.CountedLemmas.{marked_no_more}
 use Rattle.gb_layer.proofs.relay.Relay.begin_say.Goals as goal
 
 pub returns-then-not-was_sent-clause-room : goal.returns-then-not-was_sent-clause-room

@@ -1,6 +1,6 @@
 use Rattle.std.proofs.Common.{◌∙◌, ap, count_by}
 use Rattle.gb_layer.specs.Relay.{is_unsent, is_ungiven}
-use Rattle.gb_layer.proofs.Counted.{taken_in_unsent, taken_in_ungiven}
+use Rattle.gb_layer.proofs.CountedLemmas.{taken_in_unsent, taken_in_ungiven}
 use Rattle.gb_layer.proofs.relay.Relay.call_lower.Goals as goal
 
 pub returns-clause-unsent : goal.returns-clause-unsent

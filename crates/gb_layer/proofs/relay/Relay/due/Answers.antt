@@ -1,6 +1,6 @@
 use Rattle.std.proofs.Common.{◌∙◌, sym, ◌<◌, length, arith}
 use Rattle.gb_layer.specs.RelayState.{state_of}
-use Rattle.gb_layer.proofs.Counted.{due_fewer, not_due}
+use Rattle.gb_layer.proofs.CountedLemmas.{due_fewer, not_due}
 use Rattle.gb_layer.proofs.relay.Relay.due.Goals as goal
 
 pub returns-then-is_due-clause-unsent : goal.returns-then-is_due-clause-unsent

@@ -2,7 +2,7 @@ use Rattle.std.proofs.Common.{arith, ◌≡◌, ◌+◌, ◌-◌, count_by, ap, 
 use Rattle.gb_layer.specs.Room.{free_sends}
 use Rattle.gb_layer.specs.Relay.{is_unsent, due_to_deliver}
 use Rattle.gb_layer.specs.RelayState.{unsent}
-use Rattle.gb_layer.proofs.Counted.{handed_unsent}
+use Rattle.gb_layer.proofs.CountedLemmas.{handed_unsent}
 use Rattle.gb_layer.proofs.relay.Relay.finish.Goals as goal
 
 pub returns-clause-room : goal.returns-clause-room

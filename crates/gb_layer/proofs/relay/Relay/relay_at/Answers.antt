@@ -2,7 +2,7 @@ use Rattle.std.proofs.Common.{arith, ◌≡◌, ◌+◌, vec_capacity, count_by,
 use Rattle.gb_layer.specs.Room.{free_sends}
 use Rattle.gb_layer.specs.Relay.{is_unsent, is_ungiven, marked_sent}
 use Rattle.gb_layer.specs.RelayState.{unsent}
-use Rattle.gb_layer.proofs.Counted.{all_marked_ungiven}
+use Rattle.gb_layer.proofs.CountedLemmas.{all_marked_ungiven}
 use Rattle.gb_layer.proofs.relay.Relay.relay_at.Goals as goal
 
 pub call_lower-requires : goal.call_lower-requires
