@@ -4,5 +4,6 @@ pub mod FifoMachine
 pub mod FifoRoom
 pub mod OrderLaws
 pub mod RoomLemmas
+pub mod WholeLemmas
 pub mod EntryLemmas
 pub mod FifoLemmas

@@ -9,6 +9,8 @@ pub mod Histories
 pub mod BebMachine
 pub mod Examples
 pub mod Rule
+pub mod Limit
+pub mod Table
 pub mod Relay
 pub mod RelayState
 pub mod RoomLemmas
@@ -20,3 +22,6 @@ pub mod TraceLemmas
 pub mod RelayOnceLemmas
 pub mod FirstMentionLemmas
 pub mod EntryListLemmas
+pub mod PigeonholeLemmas
+pub mod TableLemmas
+pub mod WholeLemmas

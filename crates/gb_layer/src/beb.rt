@@ -2,7 +2,7 @@
 ghost use Rattle.std.specs.Prelude.{◌≡◌};
 ghost use Rattle.std.proofs.Common.{refl};
 ghost use Rattle.gb_types.specs.declared.node.NodeId.{NodeId};
-ghost use Rattle.gb_layer.specs.BebMachine.{beb_gives, BebRoom};
+ghost use Rattle.gb_layer.specs.BebMachine.{beb_gives, BebRoom, beb_need};
 ghost use Rattle.gb_layer.specs.RoomLemmas.{beb_roomier};
 ghost use Rattle.gb_layer.specs.BebLemmas.{beb_sends_handed_in, beb_ups_handed_in, beb_up_once, beb_sent_once, beb_noticed_once, fair_once};
 
@@ -10,7 +10,7 @@ use crate::call::Call;
 use crate::effects::Effects;
 use crate::layer::Layer;
 use gb_types::memory::OutOfMemory;
-use gb_types::node::NodeId;
+use gb_types::node::{NodeId, NodeSet};
 
 /// Sends what is said, and hands up what is said and whatever comes, from whichever node (Cachin, Guerraoui,
 /// Rodrigues 2011, Algorithm 3.1, Basic Broadcast).
@@ -38,11 +38,17 @@ impl Layer for Beb {
 
     ghost is_fresh = { λ _. Unit {0} };
 
+    ghost is_empty = { λ _. Unit {0} };
+
     ghost next = { λ s _. s };
 
     ghost gives = { beb_gives };
 
     ghost has_room = { BebRoom };
+
+    ghost is_whole = { λ _ _. Unit {0} };
+
+    ghost need = { beb_need };
 
     fn me(&self) -> NodeId {
         self.me
@@ -52,6 +58,16 @@ impl Layer for Beb {
         out.sends.reserve(calls)?;
         out.ups.reserve(calls)?;
         Ok(())
+    }
+
+    fn whole(
+        &mut self,
+        _members: &NodeSet,
+        _msgs: u16,
+        calls: usize,
+        out: &mut Effects,
+    ) -> Result<(), OutOfMemory> {
+        self.ready(calls, out)
     }
 
     fn take(&mut self, call: Call, out: &mut Effects) {
@@ -66,6 +82,8 @@ impl Layer for Beb {
     }
 
     ghost roomier = { beb_roomier };
+
+    ghost whole_room = { λ x l a b _ h k. (h, k) };
 
     ghost me_stays = { λ s c. refl };
 

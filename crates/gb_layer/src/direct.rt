@@ -7,7 +7,7 @@ use crate::call::Call;
 use crate::effects::{Effects, Up};
 use crate::layer::{Broadcast, Layer};
 use gb_types::memory::OutOfMemory;
-use gb_types::node::NodeId;
+use gb_types::node::{NodeId, NodeSet};
 
 /// Keeps, of the pairs from a place on, those that came from where the message was made.
 fn keep_own(ups: &mut Vec<Up>, from: usize)
@@ -53,11 +53,17 @@ impl<L: Layer> Layer for Direct<L> {
 
     ghost is_fresh = { L.is_fresh };
 
+    ghost is_empty = { L.is_empty };
+
     ghost next = { L.next };
 
     ghost gives = { λ s c. own_gives (L.gives s c) };
 
     ghost has_room = { λ d. L.has_room d.lower };
+
+    ghost is_whole = { λ d. L.is_whole d.lower };
+
+    ghost need = { L.need };
 
     fn me(&self) -> NodeId {
         self.lower.me()
@@ -67,6 +73,16 @@ impl<L: Layer> Layer for Direct<L> {
         self.lower.ready(calls, out)
     }
 
+    fn whole(
+        &mut self,
+        members: &NodeSet,
+        msgs: u16,
+        calls: usize,
+        out: &mut Effects,
+    ) -> Result<(), OutOfMemory> {
+        self.lower.whole(members, msgs, calls, out)
+    }
+
     fn take(&mut self, call: Call, out: &mut Effects) {
         let first = out.ups.len();
         self.lower.take(call, out);
@@ -74,6 +90,8 @@ impl<L: Layer> Layer for Direct<L> {
     }
 
     ghost roomier = { λ d. L.roomier d.lower };
+
+    ghost whole_room = { λ d. L.whole_room d.lower };
 
     ghost me_stays = { L.me_stays };
 

@@ -3,6 +3,7 @@ pub mod StackState
 pub mod Stands
 pub mod LogLaws
 pub mod StackRoom
+pub mod WholeLemmas
 pub mod StackLemmas
 pub mod UnorderedLemmas
 pub mod InsideLemmas

@@ -1,6 +1,7 @@
--- When a stack has room.
+-- When a stack has room, and when it has all its memory.
 use Rattle.std.specs.Prelude.{ℕ}
-use Rattle.gb_layer.specs.BebMachine.{BebRoom}
+use Rattle.gb_layer.specs.BebMachine.{BebRoom, beb_need}
+use Rattle.gb_layer.specs.Limit.{Limit, Need}
 use Rattle.gb_layer.specs.RelayState as relay
 use Rattle.gb_fifo.specs.FifoRoom as fifo
 use Rattle.gb_stack.specs.declared.stack.Stack.{Stack}
@@ -19,3 +20,19 @@ unordered_room (variant.AllAck l) = relay.HasRoom BebRoom l
 abbrev pub stack_room : Stack → ℕ → ℕ → ℕ → Type 0
 stack_room (stack.Unordered l) = unordered_room l
 stack_room (stack.Fifo l) = fifo.HasRoom unordered_room l
+
+-- what so many calls of a stack give at most, whichever its kind: no more than a relay over `Beb`
+abbrev pub stack_need : Limit → Need
+stack_need = relay.relay_need beb_need
+
+-- a broadcast without an order has the memory for all calls within the limit
+abbrev pub unordered_whole : Unordered → Limit → Type 0
+unordered_whole (variant.BestEffort l) = λ _. Unit {0}
+unordered_whole (variant.Lazy l) = relay.IsWhole (λ _ _. Unit {0}) beb_need l
+unordered_whole (variant.Eager l) = relay.IsWhole (λ _ _. Unit {0}) beb_need l
+unordered_whole (variant.AllAck l) = relay.IsWhole (λ _ _. Unit {0}) beb_need l
+
+-- a stack has the memory for all calls within the limit
+abbrev pub stack_whole : Stack → Limit → Type 0
+stack_whole (stack.Unordered l) = unordered_whole l
+stack_whole (stack.Fifo l) = fifo.IsWhole unordered_whole stack_need l

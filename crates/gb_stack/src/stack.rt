@@ -4,8 +4,9 @@ ghost use Rattle.gb_types.specs.declared.limits.TheConstants.{NODES};
 ghost use Rattle.gb_layer.specs.declared.call.Call.TheVariants.{Notice};
 ghost use Rattle.gb_layer.specs.Room.{free_sends, free_ups};
 ghost use Rattle.gb_stack.specs.Stands.{is_other_noticed, HasHeard, HasStarted};
-ghost use Rattle.gb_stack.specs.StackState.{StackState, unordered, fifo, stack_next, stack_gives, stack_me, IsUntoldStack, untold_stack, new_stack};
-ghost use Rattle.gb_stack.specs.StackRoom.{stack_room};
+ghost use Rattle.gb_stack.specs.StackState.{StackState, unordered, fifo, stack_next, stack_gives, stack_me, IsUntoldStack, IsEmptyStack, untold_stack, new_stack};
+ghost use Rattle.gb_stack.specs.StackRoom.{stack_room, stack_whole, stack_need};
+ghost use Rattle.gb_stack.specs.WholeLemmas.{stack_whole_room};
 ghost use Rattle.gb_stack.specs.StackLemmas.{stack_roomier, stack_me_stays, stack_own, stack_sends_handed_in, stack_ups_handed_in, stack_up_once, stack_sent_once, stack_noticed_once};
 ghost use Rattle.gb_stack.specs.declared.stack.Stack.TheVariants as variant;
 
@@ -91,6 +92,7 @@ impl Stack {
         noticed: &NodeSet,
     ) -> Result<Stack, OutOfMemory>
         ensures meaning { IfOk result (λ s. ⟦<Stack as Layer>⟧.meaning s ≡ new_stack spec.now.kind me spec.now.members noticed.now) }
+        ensures empty { IfOk result (λ s. ⟦<Stack as Layer>⟧.is_empty (⟦<Stack as Layer>⟧.meaning s)) }
         ensures started { IfOk result (λ s. HasStarted me spec.now.members noticed.now (⟦<Stack as Layer>⟧.meaning s)) }
     {
         let mut stack = Stack::untold(alloc, spec.kind, me, spec.members.duplicate());
@@ -115,11 +117,17 @@ impl Layer for Stack {
 
     ghost is_fresh = { IsUntoldStack };
 
+    ghost is_empty = { IsEmptyStack };
+
     ghost next = { stack_next };
 
     ghost gives = { stack_gives };
 
     ghost has_room = { stack_room };
+
+    ghost is_whole = { stack_whole };
+
+    ghost need = { stack_need };
 
     fn me(&self) -> NodeId {
         match self {
@@ -132,6 +140,19 @@ impl Layer for Stack {
         match self {
             Stack::Unordered(layer) => layer.ready(calls, out),
             Stack::Fifo(layer) => layer.ready(calls, out),
+        }
+    }
+
+    fn whole(
+        &mut self,
+        members: &NodeSet,
+        msgs: u16,
+        calls: usize,
+        out: &mut Effects,
+    ) -> Result<(), OutOfMemory> {
+        match self {
+            Stack::Unordered(layer) => layer.whole(members, msgs, calls, out),
+            Stack::Fifo(layer) => layer.whole(members, msgs, calls, out),
         }
     }
 
@@ -155,6 +176,8 @@ impl Layer for Stack {
     ghost sent_once = { stack_sent_once };
 
     ghost noticed_once = { stack_noticed_once };
+
+    ghost whole_room = { stack_whole_room };
 }
 
 impl Broadcast for Stack {

@@ -1,9 +1,10 @@
 //! The broadcasts that keep no order.
-ghost use Rattle.std.specs.Prelude.{◌≡◌, ℕ, ◌+◌, ◌++◌};
+ghost use Rattle.std.specs.Prelude.{◌≡◌, ◌≤◌, OnOk};
 ghost use Rattle.std.specs.FinSet as set;
 ghost use Rattle.gb_layer.specs.Room.{free_sends, free_ups};
-ghost use Rattle.gb_stack.specs.StackState.{UnorderedState, best_effort, lazy, eager, all_ack, unordered_next, unordered_gives, unordered_me, IsUntold, unordered_noticing};
-ghost use Rattle.gb_stack.specs.StackRoom.{unordered_room};
+ghost use Rattle.gb_stack.specs.StackState.{UnorderedState, best_effort, lazy, eager, all_ack, unordered_next, unordered_gives, unordered_me, IsUntold, IsEmpty, unordered_noticing};
+ghost use Rattle.gb_stack.specs.StackRoom.{unordered_room, unordered_whole, stack_need};
+ghost use Rattle.gb_stack.specs.WholeLemmas.{unordered_whole_room};
 ghost use Rattle.gb_stack.specs.UnorderedLemmas.{unordered_roomier, unordered_me_stays, unordered_own, unordered_sends_handed_in, unordered_ups_handed_in, unordered_up_once, unordered_sent_once, unordered_noticed_once};
 ghost use Rattle.gb_stack.specs.declared.unordered.Unordered.TheVariants as variant;
 
@@ -50,6 +51,27 @@ impl Unordered {
     }
 }
 
+/// Makes room in `out` for all that so many calls within a limit give, of whichever broadcast.
+fn reserve_most(
+    members: &NodeSet,
+    msgs: u16,
+    calls: usize,
+    out: &mut Effects,
+) -> Result<(), OutOfMemory>
+    ensures sends { out.new.sends.items ≡ out.old.sends.items }
+    ensures ups { out.new.ups.items ≡ out.old.ups.items }
+    ensures free_sends { OnOk result ((stack_need (record { members = members.now; msgs = msgs; calls = calls })).sends ≤ free_sends out.new) }
+    ensures free_ups { OnOk result ((stack_need (record { members = members.now; msgs = msgs; calls = calls })).ups ≤ free_ups out.new) }
+{
+    let count = members.count_in(members);
+    let messages = count.checked_mul(usize::from(msgs)).ok_or(OutOfMemory)?;
+    let once = messages.checked_add(calls).ok_or(OutOfMemory)?;
+    let sends = once.checked_add(calls).ok_or(OutOfMemory)?;
+    out.sends.reserve(sends)?;
+    out.ups.reserve(once)?;
+    Ok(())
+}
+
 impl Layer for Unordered {
     ghost State = { UnorderedState };
 
@@ -64,11 +86,17 @@ impl Layer for Unordered {
 
     ghost is_fresh = { IsUntold };
 
+    ghost is_empty = { IsEmpty };
+
     ghost next = { unordered_next };
 
     ghost gives = { unordered_gives };
 
     ghost has_room = { unordered_room };
+
+    ghost is_whole = { unordered_whole };
+
+    ghost need = { stack_need };
 
     fn me(&self) -> NodeId {
         match self {
@@ -85,6 +113,21 @@ impl Layer for Unordered {
             Unordered::Lazy(layer) => layer.ready(calls, out),
             Unordered::Eager(layer) => layer.ready(calls, out),
             Unordered::AllAck(layer) => layer.ready(calls, out),
+        }
+    }
+
+    fn whole(
+        &mut self,
+        members: &NodeSet,
+        msgs: u16,
+        calls: usize,
+        out: &mut Effects,
+    ) -> Result<(), OutOfMemory> {
+        match self {
+            Unordered::BestEffort(_) => reserve_most(members, msgs, calls, out),
+            Unordered::Lazy(layer) => layer.whole(members, msgs, calls, out),
+            Unordered::Eager(layer) => layer.whole(members, msgs, calls, out),
+            Unordered::AllAck(layer) => layer.whole(members, msgs, calls, out),
         }
     }
 
@@ -110,6 +153,8 @@ impl Layer for Unordered {
     ghost sent_once = { unordered_sent_once };
 
     ghost noticed_once = { unordered_noticed_once };
+
+    ghost whole_room = { unordered_whole_room };
 }
 
 impl Broadcast for Unordered {

@@ -24,6 +24,7 @@ loop-i-preserved g c =
       ups = picked_more up_of due xs c.loop-i.out.ups.items c.args.out.now.ups.items c.deliver_one.new.out.ups.items i x c.loop-i.invariant.ups c.deliver_one.ensures.ups (mapped_at (handed due) xs es i x c.loop-i.invariant.items lt is) lt;
       sends = c.deliver_one.ensures.sends ∙ c.loop-i.invariant.sends;
       room = (let a = c.deliver_one.ensures.room in let b = c.loop-i.invariant.room in omega (arith, a, b, k));
+      ups_memory = (let a = c.deliver_one.ensures.ups_memory in let b = c.loop-i.invariant.ups_memory in omega (arith, a, b));
       capacity = c.loop-i.invariant.capacity;
       len = c.loop-i.invariant.len;
     }

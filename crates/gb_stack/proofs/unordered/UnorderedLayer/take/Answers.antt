@@ -17,3 +17,12 @@ returns-in-Eager-clause-room c = λ n room. c.take-in-Eager.ensures.room n (rw c
 
 pub returns-in-AllAck-clause-room : goal.returns-in-AllAck-clause-room
 returns-in-AllAck-clause-room c = λ n room. c.take-in-AllAck.ensures.room n (rw c.in-AllAck.is at room)
+
+pub returns-in-Lazy-clause-whole : goal.returns-in-Lazy-clause-whole
+returns-in-Lazy-clause-whole c = λ l w h. c.take-in-Lazy.ensures.whole l (rw c.in-Lazy.is at w) h
+
+pub returns-in-Eager-clause-whole : goal.returns-in-Eager-clause-whole
+returns-in-Eager-clause-whole c = λ l w h. c.take-in-Eager.ensures.whole l (rw c.in-Eager.is at w) h
+
+pub returns-in-AllAck-clause-whole : goal.returns-in-AllAck-clause-whole
+returns-in-AllAck-clause-whole c = λ l w h. c.take-in-AllAck.ensures.whole l (rw c.in-AllAck.is at w) h
