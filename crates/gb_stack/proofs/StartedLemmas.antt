@@ -1,10 +1,9 @@
 -- What the laws of a layer say of one that started with notices.
-use Rattle.std.proofs.Common.{◌≡◌, ◌≢◌, ℕ, ◌+◌, ◌≤◌, Bool, true, false, ◌&&◌, ◌||◌, not, nat_eq, nat_lt, List, [], ◌∷◌, ◌++◌, map, count_by, refl, ap, ◌∙◌, sym, arith, subst, append_assoc}
+use Rattle.std.proofs.Common.{◌≡◌, ◌≢◌, ℕ, ◌+◌, ◌≤◌, false, ◌&&◌, ◌||◌, not, nat_eq, nat_lt, List, [], ◌∷◌, ◌++◌, map, count_by, refl, ap, ◌∙◌, sym, arith, subst, append_assoc}
 use Rattle.std.specs.FinSet as set
 use Rattle.std.specs.List.{list_any}
 use Rattle.std.proofs.Math.Bool.{and-false}
 use Rattle.std.proofs.lemmas.Bool.{eq-eqb}
-use Rattle.std.proofs.lemmas.Bool.Decides.{nat_tests}
 use Rattle.std.proofs.lemmas.List.{append-nil}
 use Rattle.gb_types.specs.Message.{same}
 use Rattle.gb_types.specs.declared.limits.TheConstants.{NODES}
@@ -12,14 +11,13 @@ use Rattle.gb_types.specs.declared.message.MsgId.{MsgId}
 use Rattle.gb_types.specs.declared.node.NodeId.{NodeId}
 use Rattle.gb_layer.specs.declared.call.Call.{Call}
 use Rattle.gb_layer.specs.declared.call.Call.TheVariants.{Say, Came, Notice}
-use Rattle.gb_layer.specs.declared.effects.Up.{Up}
 use Rattle.gb_layer.specs.Bools.{or_left, or_right}
 use Rattle.gb_layer.specs.Counts.{count_by-append}
 use Rattle.gb_layer.specs.Laws.{HandsUpEachOnce}
 use Rattle.gb_layer.specs.Machine.{Gives, after, all_ups, was_said, came_from, IsFair, is_of}
 use Rattle.gb_layer.specs.Rule.{Nodes}
-use Rattle.gb_stack.specs.StackState.{StackState, stack_next, stack_gives, stack_me, IsUntoldStack}
-use Rattle.gb_stack.specs.Stands.{is_other_noticed, HasStarted, StartedHandsUpEachOnce}
+use Rattle.gb_stack.specs.StackState.{stack_next, stack_gives, stack_me, IsUntoldStack}
+use Rattle.gb_stack.specs.Stands.{is_other_noticed, StartedHandsUpEachOnce}
 
 module _ {S : Type 0} (next : S → Call → S) (gives : S → Call → Gives) (s : S) (earlier : List Call) where
   after_append : (past : List Call) → after next s (past ++ earlier) ≡ after next (after next s earlier) past
@@ -36,7 +34,7 @@ module _ {S : Type 0} (next : S → Call → S) (gives : S → Call → Gives) (
   later_less : (past : List Call) (m : MsgId) → count_by (is_of m) (all_ups next gives (after next s earlier) past) ≤ count_by (is_of m) (all_ups next gives s (past ++ earlier))
   later_less past m =
       let e : count_by (is_of m) (all_ups next gives s (past ++ earlier)) ≡ count_by (is_of m) (all_ups next gives s earlier) + count_by (is_of m) (all_ups next gives (after next s earlier) past) =
-            ap (count_by (is_of m)) (ups_append past) ∙ count_by-append (is_of m) (all_ups next gives s earlier) (all_ups next gives (after next s earlier) past) in
+      ap (count_by (is_of m)) (ups_append past) ∙ count_by-append (is_of m) (all_ups next gives s earlier) (all_ups next gives (after next s earlier) past) in
       omega (arith, e)
 
 said_none : (qs : List NodeId) (m : MsgId) → was_said (map Notice qs) m ≡ false
@@ -85,5 +83,5 @@ started_once law me members noticed value past m started fair =
     let all = law started.start (past ++ map Notice qs) m started.untold fair' in
     let less = later_less stack_next stack_gives started.start (map Notice qs) past m in
     let e : count_by (is_of m) (all_ups stack_next stack_gives value past) ≡ count_by (is_of m) (all_ups stack_next stack_gives (after stack_next started.start (map Notice qs)) past) =
-          ap (λ v. count_by (is_of m) (all_ups stack_next stack_gives v past)) started.heard.is in
+    ap (λ v. count_by (is_of m) (all_ups stack_next stack_gives v past)) started.heard.is in
     omega (arith, all, less, e)

@@ -1,5 +1,5 @@
 -- A stack that has its memory has room.
-use Rattle.std.proofs.Common.{ℕ, ◌+◌, ◌≤◌, arith}
+use Rattle.std.proofs.Common.{ℕ, ◌≤◌, arith}
 use Rattle.gb_layer.specs.declared.beb.Beb.{Beb}
 use Rattle.gb_layer.specs.BebMachine.{BebRoom, beb_need}
 use Rattle.gb_layer.specs.Limit.{Limit}

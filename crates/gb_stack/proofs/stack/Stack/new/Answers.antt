@@ -1,5 +1,5 @@
-use Rattle.std.proofs.Common.{◌≡◌, ap, ◌∙◌, sym, refl, subst}
-use Rattle.gb_stack.specs.StackState.{StackState, untold_stack, IsUntoldStack, IsEmptyStack, stack_me}
+use Rattle.std.proofs.Common.{ap, ◌∙◌, sym, subst}
+use Rattle.gb_stack.specs.StackState.{untold_stack, IsUntoldStack, IsEmptyStack, stack_me}
 use Rattle.gb_stack.proofs.StartLemmas.{new_heard, untold_me, new_empty}
 use Rattle.gb_stack.proofs.stack.Stack.new.Goals as goal
 
