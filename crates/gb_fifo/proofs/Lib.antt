@@ -1,5 +1,5 @@
-pub mod Placed
+pub mod PlacedLemmas
 pub mod OrderLemmas
 pub mod NumberLemmas
-pub mod FifoOrder
+pub mod FifoOrderLemmas
 pub mod InOrderLemmas

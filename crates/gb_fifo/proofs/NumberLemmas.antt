@@ -13,7 +13,7 @@ use Rattle.gb_layer.specs.Machine.{Gives, after, all_ups, messages}
 use Rattle.gb_layer.specs.Counts.{count_by-cons, count_by-map}
 use Rattle.gb_fifo.specs.declared.entry.Entry.{Entry}
 use Rattle.gb_fifo.specs.Entries.{noted_by, brought, given_entry, up_of, is_next, next_of, is_given_of, given_of, pick, give, released, released_ups, taken_one, taken_one_ups, taken, taken_ups}
-use Rattle.gb_fifo.specs.EntryLaws.{brought_same, count_noted_by, next_new}
+use Rattle.gb_fifo.specs.EntryLemmas.{brought_same, count_noted_by, next_new}
 use Rattle.gb_fifo.specs.FifoMachine.{FifoState, fifo_next, fifo_gives}
 use Rattle.gb_fifo.specs.Order.{upto, numbers_of, RunsFromOne}
 use Rattle.gb_fifo.proofs.OrderLemmas.{upto_more, length_upto}

@@ -1,6 +1,9 @@
 -- What a fifo stands for, and when it has room.
-use Rattle.std.specs.Prelude.{◌≡◌, ℕ, ◌+◌, ◌≤◌, [], vec_len, vec_capacity, count_by}
-use Rattle.std.proofs.Common.{arith}
+use Rattle.std.specs.Prelude.{◌≡◌, ℕ, ◌+◌, ◌≤◌, true, [], vec_len, vec_capacity, count_by}
+use Rattle.std.specs.List.{list_all, IsDistinct}
+use Rattle.gb_types.specs.Message.{same}
+use Rattle.gb_layer.specs.Limit.{Limit, Need, is_counted, message_count}
+use Rattle.gb_fifo.specs.EntryLemmas.{keys}
 use Rattle.gb_fifo.specs.declared.fifo.Fifo.{Fifo}
 use Rattle.gb_fifo.specs.Entries.{is_ungiven}
 use Rattle.gb_fifo.specs.FifoMachine.{FifoState}
@@ -24,13 +27,14 @@ pub record HasRoom {L : Type 0} (below : L → ℕ → ℕ → ℕ → Type 0) (
   pub entries : vec_len f.entries + calls ≤ vec_capacity f.entries
   pub ups : ungiven f + calls ≤ b
 
-pub fifo_roomier : {L : Type 0} (below : L → ℕ → ℕ → ℕ → Type 0) → ((x : L) (a b n a' b' n' : ℕ) → a ≤ a' → b ≤ b' → n' ≤ n → below x a b n → below x a' b' n')
-    → (f : Fifo L) (a b n a' b' n' : ℕ) → a ≤ a' → b ≤ b' → n' ≤ n → HasRoom below f a b n → HasRoom below f a' b' n'
-fifo_roomier below law f a b n a' b' n' h i j k =
-    let ke = k.entries in
-    let ku = k.ups in
-    record {
-      lower = law f.lower a (vec_capacity f.below) n a' (vec_capacity f.below) n' h (omega arith) j k.lower;
-      entries = omega arith;
-      ups = omega arith;
-    }
+-- what so many calls of a fifo give at most: what the layer below sends, and each message comes up at most once
+abbrev pub fifo_need : (Limit → Need) → Limit → Need
+fifo_need need l = record { sends = (need l).sends; ups = message_count l + l.calls }
+
+-- A fifo has the memory for all calls within the limit: so has the layer below, and what comes up there and all messages have their places. Its entries are of different messages within the limit.
+pub record IsWhole {L : Type 0} (below_whole : L → Limit → Type 0) (below_need : Limit → Need) (f : Fifo L) (l : Limit) : Type 0 where
+  pub lower : below_whole f.lower l
+  pub below : (below_need l).ups ≤ vec_capacity f.below
+  pub capacity : message_count l + l.calls ≤ vec_capacity f.entries
+  pub counted : list_all (is_counted l) (keys f.entries.items) ≡ true
+  pub once : IsDistinct same (keys f.entries.items)

@@ -2,6 +2,8 @@ pub mod Order
 pub mod Entries
 pub mod FifoMachine
 pub mod FifoRoom
-pub mod EntryLaws
-pub mod FifoLaws
 pub mod OrderLaws
+pub mod RoomLemmas
+pub mod WholeLemmas
+pub mod EntryLemmas
+pub mod FifoLemmas

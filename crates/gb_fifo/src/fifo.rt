@@ -1,10 +1,13 @@
 //! The layer that keeps each origin's order.
-ghost use Rattle.std.specs.Prelude.{◌≡◌, ℕ, ◌+◌, ◌≤◌, ◌++◌, vec_len, vec_capacity, OnOk};
+ghost use Rattle.std.specs.Prelude.{◌≡◌, ℕ, ◌+◌, ◌≤◌, ◌++◌, vec_len, vec_capacity, OnOk, true};
+ghost use Rattle.gb_layer.specs.Limit.{Limit, is_within, message_count};
 ghost use Rattle.gb_layer.specs.Room.{free_sends, free_ups};
 ghost use Rattle.gb_fifo.specs.Entries.{noted_by};
 ghost use Rattle.gb_fifo.specs.FifoMachine.{FifoState, fifo_next, fifo_gives};
-ghost use Rattle.gb_fifo.specs.FifoRoom.{state_of, HasRoom, ungiven, IsNew, fifo_roomier};
-ghost use Rattle.gb_fifo.specs.FifoLaws.{fifo_me_stays, fifo_sends_handed_in, fifo_ups_handed_in, fifo_up_once, fifo_sent_once, fifo_noticed_once, fifo_own};
+ghost use Rattle.gb_fifo.specs.FifoRoom.{state_of, HasRoom, IsWhole, fifo_need, ungiven, IsNew};
+ghost use Rattle.gb_fifo.specs.WholeLemmas.{fifo_whole_room};
+ghost use Rattle.gb_fifo.specs.RoomLemmas.{fifo_roomier};
+ghost use Rattle.gb_fifo.specs.FifoLemmas.{fifo_me_stays, fifo_sends_handed_in, fifo_ups_handed_in, fifo_up_once, fifo_sent_once, fifo_noticed_once, fifo_own};
 
 use crate::entry::Entry;
 use crate::ledger::{count_ungiven, note, take_all};
@@ -12,8 +15,7 @@ use gb_layer::call::Call;
 use gb_layer::effects::{Effects, Up};
 use gb_layer::layer::{Broadcast, Layer};
 use gb_types::memory::OutOfMemory;
-use gb_types::message::MsgId;
-use gb_types::node::NodeId;
+use gb_types::node::{NodeId, NodeSet};
 use std::alloc::Global;
 use std::mem;
 
@@ -69,25 +71,14 @@ impl<L: Broadcast> Fifo<L> {
         ensures ups { out.new.ups ≡ out.old.ups }
         ensures room { (n : ℕ) → L.has_room self.old.lower (free_sends out.old) (vec_capacity self.old.below) (n + 1)
             → L.has_room self.new.lower (free_sends out.new) (vec_capacity self.new.below) n }
+        ensures whole { (l : Limit) → L.is_whole self.old.lower l → is_within l call ≡ true → L.is_whole self.new.lower l }
+        ensures below_memory { vec_capacity self.old.below ≤ vec_capacity self.new.below }
+        ensures sends_memory { vec_capacity out.old.sends ≤ vec_capacity out.new.sends }
     {
         self.below.clear();
         mem::swap(&mut out.ups, &mut self.below);
         self.lower.take(call, out);
         mem::swap(&mut out.ups, &mut self.below);
-    }
-
-    /// Takes any call.
-    fn step(&mut self, call: Call, out: &mut Effects)
-        requires { HasRoom L.has_room self.old (free_sends out.old) (free_ups out.old) 1 }
-        ensures state { state_of L.meaning self.new ≡ fifo_next L.next L.gives (state_of L.meaning self.old) call }
-        ensures sends { out.new.sends.items ≡ out.old.sends.items ++ (fifo_gives L.next L.gives (state_of L.meaning self.old) call).sends }
-        ensures ups { out.new.ups.items ≡ out.old.ups.items ++ (fifo_gives L.next L.gives (state_of L.meaning self.old) call).ups }
-        ensures room { (n : ℕ) → HasRoom L.has_room self.old (free_sends out.old) (free_ups out.old) (n + 1)
-            → HasRoom L.has_room self.new (free_sends out.new) (free_ups out.new) n }
-    {
-        self.note_call(call);
-        self.call_lower(call, out);
-        take_all(&mut self.entries, &self.below, out);
     }
 
     /// Makes room below for the next calls, so many.
@@ -104,6 +95,29 @@ impl<L: Broadcast> Fifo<L> {
         mem::swap(&mut out.ups, &mut self.below);
         made
     }
+
+    /// Takes all the memory that the layer below ever needs.
+    fn whole_below(
+        &mut self,
+        members: &NodeSet,
+        msgs: u16,
+        calls: usize,
+        out: &mut Effects,
+    ) -> Result<(), OutOfMemory>
+        requires empty { IsNew L.is_empty (state_of L.meaning self.old) }
+        requires memory { message_count (record { members = members.now; msgs = msgs; calls = calls }) + calls ≤ vec_capacity self.old.entries }
+        ensures state { state_of L.meaning self.new ≡ state_of L.meaning self.old }
+        ensures sends { out.new.sends.items ≡ out.old.sends.items }
+        ensures ups { out.new.ups ≡ out.old.ups }
+        ensures whole { OnOk result (IsWhole L.is_whole L.need self.new (record { members = members.now; msgs = msgs; calls = calls })) }
+        ensures free_sends { OnOk result ((L.need (record { members = members.now; msgs = msgs; calls = calls })).sends ≤ free_sends out.new) }
+    {
+        self.below.clear();
+        mem::swap(&mut out.ups, &mut self.below);
+        let made = self.lower.whole(members, msgs, calls, out);
+        mem::swap(&mut out.ups, &mut self.below);
+        made
+    }
 }
 
 impl<L: Broadcast> Layer for Fifo<L> {
@@ -115,11 +129,17 @@ impl<L: Broadcast> Layer for Fifo<L> {
 
     ghost is_fresh = { IsNew L.is_fresh };
 
+    ghost is_empty = { IsNew L.is_empty };
+
     ghost next = { fifo_next L.next L.gives };
 
     ghost gives = { fifo_gives L.next L.gives };
 
     ghost has_room = { HasRoom L.has_room };
+
+    ghost is_whole = { IsWhole L.is_whole L.need };
+
+    ghost need = { fifo_need L.need };
 
     fn me(&self) -> NodeId {
         self.lower.me()
@@ -134,16 +154,25 @@ impl<L: Broadcast> Layer for Fifo<L> {
         self.ready_below(calls, out)
     }
 
-    fn say(&mut self, m: MsgId, out: &mut Effects) {
-        self.step(Call::Say(m), out);
+    fn whole(
+        &mut self,
+        members: &NodeSet,
+        msgs: u16,
+        calls: usize,
+        out: &mut Effects,
+    ) -> Result<(), OutOfMemory> {
+        let count = members.count_in(members);
+        let messages = count.checked_mul(usize::from(msgs)).ok_or(OutOfMemory)?;
+        let once = messages.checked_add(calls).ok_or(OutOfMemory)?;
+        self.entries.reserve(once)?;
+        out.ups.reserve(once)?;
+        self.whole_below(members, msgs, calls, out)
     }
 
-    fn came(&mut self, from: NodeId, m: MsgId, out: &mut Effects) {
-        self.step(Call::Came(from, m), out);
-    }
-
-    fn notice(&mut self, who: NodeId, out: &mut Effects) {
-        self.step(Call::Notice(who), out);
+    fn take(&mut self, call: Call, out: &mut Effects) {
+        self.note_call(call);
+        self.call_lower(call, out);
+        take_all(&mut self.entries, &self.below, out);
     }
 
     ghost roomier = { fifo_roomier L.has_room L.roomier };
@@ -159,6 +188,8 @@ impl<L: Broadcast> Layer for Fifo<L> {
     ghost sent_once = { fifo_sent_once L.next L.gives L.is_fresh L.me L.sent_once };
 
     ghost noticed_once = { fifo_noticed_once L.next L.gives L.is_fresh L.noticed_once };
+
+    ghost whole_room = { fifo_whole_room L.has_room L.is_whole L.need L.whole_room };
 }
 
 impl<L: Broadcast> Broadcast for Fifo<L> {

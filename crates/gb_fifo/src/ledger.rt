@@ -114,6 +114,7 @@ fn give_one(e: &mut Entry, out: &mut Effects)
     ensures ups { out.new.ups.items ≡ out.old.ups.items ++ up_of e.old ∷ [] }
     ensures sends { out.new.sends ≡ out.old.sends }
     ensures room { free_ups out.old ≤ free_ups out.new + 1 }
+    ensures memory { vec_capacity out.old.ups ≤ vec_capacity out.new.ups }
 {
     e.given = true;
     let m = e.m;
@@ -130,6 +131,7 @@ fn give_next(entries: &mut Vec<Entry>, origin: NodeId, out: &mut Effects) -> boo
     ensures room { free_ups out.old + count_by is_ungiven entries.new.items ≤ free_ups out.new + count_by is_ungiven entries.old.items }
     ensures len { vec_len entries.new ≡ vec_len entries.old }
     ensures capacity { vec_capacity entries.new ≡ vec_capacity entries.old }
+    ensures memory { vec_capacity out.old.ups ≤ vec_capacity out.new.ups }
 {
     match find_next(entries, origin) {
         Some(i) => {
@@ -149,6 +151,7 @@ fn release(entries: &mut Vec<Entry>, origin: NodeId, out: &mut Effects)
     ensures room { free_ups out.old + count_by is_ungiven entries.new.items ≤ free_ups out.new + count_by is_ungiven entries.old.items }
     ensures len { vec_len entries.new ≡ vec_len entries.old }
     ensures capacity { vec_capacity entries.new ≡ vec_capacity entries.old }
+    ensures memory { vec_capacity out.old.ups ≤ vec_capacity out.new.ups }
 {
     let count = entries.len();
     for i in 0..count {
@@ -167,6 +170,7 @@ fn take_one(entries: &mut Vec<Entry>, m: MsgId, out: &mut Effects)
     ensures room { free_ups out.old + count_by is_ungiven entries.new.items ≤ free_ups out.new + count_by is_ungiven entries.old.items }
     ensures len { vec_len entries.new ≡ vec_len entries.old }
     ensures capacity { vec_capacity entries.new ≡ vec_capacity entries.old }
+    ensures memory { vec_capacity out.old.ups ≤ vec_capacity out.new.ups }
 {
     bring(entries, m);
     release(entries, m.origin, out);
@@ -181,6 +185,7 @@ pub fn take_all(entries: &mut Vec<Entry>, ups: &[Up], out: &mut Effects)
     ensures room { free_ups out.old + count_by is_ungiven entries.new.items ≤ free_ups out.new + count_by is_ungiven entries.old.items }
     ensures len { vec_len entries.new ≡ vec_len entries.old }
     ensures capacity { vec_capacity entries.new ≡ vec_capacity entries.old }
+    ensures memory { vec_capacity out.old.ups ≤ vec_capacity out.new.ups }
 {
     for up in ups {
         take_one(entries, up.m, out);

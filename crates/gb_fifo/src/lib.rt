@@ -12,5 +12,3 @@ pub mod fifo;
 mod ledger;
 pub mod order;
 pub mod plain;
-#[cfg(test)]
-mod tests;

@@ -1,35 +1,42 @@
 -- What a relay's memory stands for, and how much of it is free.
-use Rattle.std.specs.Prelude.{ℕ, ◌+◌, ◌≤◌, vec_len, vec_capacity, count_by}
-use Rattle.std.proofs.Common.{arith}
+use Rattle.std.specs.Prelude.{◌≡◌, ℕ, ◌+◌, ◌≤◌, true, vec_len, vec_capacity, count_by}
+use Rattle.std.specs.List.{list_all, IsDistinct}
+use Rattle.gb_types.specs.Message.{same}
+use Rattle.gb_layer.specs.Limit.{Limit, Need, is_counted, in_calls, message_count}
+use Rattle.gb_layer.specs.EntryLemmas.{keys}
 use Rattle.gb_layer.specs.declared.relay.Relay.{Relay}
 use Rattle.gb_layer.specs.Relay.{State, is_unsent, is_ungiven}
 
 -- what a relay remembers
 abbrev pub state_of : {S L R : Type 0} → (L → S) → Relay L R → State S
-state_of meaning r = record { lower = meaning r.lower; members = r.members; noticed = r.noticed; entries = r.entries.items }
+state_of meaning r = record { lower = meaning r.lower; members = r.members; noticed = r.noticed; entries = r.entries.list.items }
 
 -- how many messages were not sent from here yet
 abbrev pub unsent : {L R : Type 0} → Relay L R → ℕ
-unsent r = count_by is_unsent r.entries.items
+unsent r = count_by is_unsent r.entries.list.items
 
 -- how many messages were not handed up yet
 abbrev pub ungiven : {L R : Type 0} → Relay L R → ℕ
-ungiven r = count_by is_ungiven r.entries.items
+ungiven r = count_by is_ungiven r.entries.list.items
 
 -- There is room for the next `calls` calls beside a free places for sends and b for pairs: each call may add an entry and make two calls below, and each message that is not sent yet one more.
 pub record HasRoom {L R : Type 0} (below : L → ℕ → ℕ → ℕ → Type 0) (r : Relay L R) (a b calls : ℕ) : Type 0 where
   pub lower : below r.lower a (vec_capacity r.below) (calls + calls + unsent r)
-  pub entries : vec_len r.entries + calls ≤ vec_capacity r.entries
+  pub entries : vec_len r.entries.list + calls ≤ vec_capacity r.entries.list
   pub ups : ungiven r + calls ≤ b
 
--- more free places are room for as many calls, or fewer
-pub relay_roomier : {L R : Type 0} (below : L → ℕ → ℕ → ℕ → Type 0) → ((x : L) (a b n a' b' n' : ℕ) → a ≤ a' → b ≤ b' → n' ≤ n → below x a b n → below x a' b' n')
-    → (r : Relay L R) (a b n a' b' n' : ℕ) → a ≤ a' → b ≤ b' → n' ≤ n → HasRoom below r a b n → HasRoom below r a' b' n'
-relay_roomier below law r a b n a' b' n' h i j k =
-    let ke = k.entries in
-    let ku = k.ups in
-    record {
-      lower = law r.lower a (vec_capacity r.below) (n + n + unsent r) a' (vec_capacity r.below) (n' + n' + unsent r) h (omega arith) (omega arith) k.lower;
-      entries = omega arith;
-      ups = omega arith;
-    }
+-- a relay makes, of the layer below, two calls a call and one more for each message
+abbrev pub limit_below : Limit → Limit
+limit_below l = in_calls l (l.calls + l.calls + message_count l)
+
+-- what so many calls of a relay give at most: each message comes up at most once
+abbrev pub relay_need : (Limit → Need) → Limit → Need
+relay_need need l = record { sends = (need (limit_below l)).sends; ups = message_count l + l.calls }
+
+-- A relay has the memory for all calls within the limit: so has the layer below, and what comes up there and all messages have their places. Its entries are of different messages within the limit.
+pub record IsWhole {L R : Type 0} (below_whole : L → Limit → Type 0) (below_need : Limit → Need) (r : Relay L R) (l : Limit) : Type 0 where
+  pub lower : below_whole r.lower (limit_below l)
+  pub below : (below_need (limit_below l)).ups ≤ vec_capacity r.below
+  pub capacity : message_count l + l.calls ≤ vec_capacity r.entries.list
+  pub counted : list_all (is_counted l) (keys r.entries.list.items) ≡ true
+  pub once : IsDistinct same (keys r.entries.list.items)

@@ -2,14 +2,15 @@
 ghost use Rattle.std.specs.Prelude.{◌≡◌};
 ghost use Rattle.std.proofs.Common.{refl};
 ghost use Rattle.gb_types.specs.declared.node.NodeId.{NodeId};
-ghost use Rattle.gb_layer.specs.BebMachine.{beb_gives, BebRoom};
-ghost use Rattle.gb_layer.specs.BebLaws.{beb_roomier, beb_sends_handed_in, beb_ups_handed_in, beb_up_once, beb_sent_once, beb_noticed_once, fair_once};
+ghost use Rattle.gb_layer.specs.BebMachine.{beb_gives, BebRoom, beb_need};
+ghost use Rattle.gb_layer.specs.RoomLemmas.{beb_roomier};
+ghost use Rattle.gb_layer.specs.BebLemmas.{beb_sends_handed_in, beb_ups_handed_in, beb_up_once, beb_sent_once, beb_noticed_once, fair_once};
 
+use crate::call::Call;
 use crate::effects::Effects;
 use crate::layer::Layer;
 use gb_types::memory::OutOfMemory;
-use gb_types::message::MsgId;
-use gb_types::node::NodeId;
+use gb_types::node::{NodeId, NodeSet};
 
 /// Sends what is said, and hands up what is said and whatever comes, from whichever node (Cachin, Guerraoui,
 /// Rodrigues 2011, Algorithm 3.1, Basic Broadcast).
@@ -37,11 +38,17 @@ impl Layer for Beb {
 
     ghost is_fresh = { λ _. Unit {0} };
 
+    ghost is_empty = { λ _. Unit {0} };
+
     ghost next = { λ s _. s };
 
     ghost gives = { beb_gives };
 
     ghost has_room = { BebRoom };
+
+    ghost is_whole = { λ _ _. Unit {0} };
+
+    ghost need = { beb_need };
 
     fn me(&self) -> NodeId {
         self.me
@@ -53,18 +60,30 @@ impl Layer for Beb {
         Ok(())
     }
 
-    fn say(&mut self, m: MsgId, out: &mut Effects) {
-        out.send(m);
-        out.up(self.me, m);
+    fn whole(
+        &mut self,
+        _members: &NodeSet,
+        _msgs: u16,
+        calls: usize,
+        out: &mut Effects,
+    ) -> Result<(), OutOfMemory> {
+        self.ready(calls, out)
     }
 
-    fn came(&mut self, from: NodeId, m: MsgId, out: &mut Effects) {
-        out.up(from, m);
+    fn take(&mut self, call: Call, out: &mut Effects) {
+        match call {
+            Call::Say(m) => {
+                out.send(m);
+                out.up(self.me, m);
+            }
+            Call::Came(from, m) => out.up(from, m),
+            Call::Notice(_) => {}
+        }
     }
-
-    fn notice(&mut self, _who: NodeId, _out: &mut Effects) {}
 
     ghost roomier = { beb_roomier };
+
+    ghost whole_room = { λ x l a b _ h k. (h, k) };
 
     ghost me_stays = { λ s c. refl };
 

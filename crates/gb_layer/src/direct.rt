@@ -1,13 +1,13 @@
 //! A layer that lets through what came from where it was made.
 ghost use Rattle.std.specs.Prelude.{◌≡◌, ◌≤◌, ◌++◌, take, drop, filter, vec_len, vec_capacity};
 ghost use Rattle.gb_layer.specs.Machine.{is_own, own_gives};
-ghost use Rattle.gb_layer.specs.DirectLaws.{direct_sends_handed_in, direct_ups_handed_in, direct_up_once, direct_sent_once, direct_noticed_once, own_pairs};
+ghost use Rattle.gb_layer.specs.DirectLemmas.{direct_sends_handed_in, direct_ups_handed_in, direct_up_once, direct_sent_once, direct_noticed_once, own_pairs};
 
+use crate::call::Call;
 use crate::effects::{Effects, Up};
 use crate::layer::{Broadcast, Layer};
 use gb_types::memory::OutOfMemory;
-use gb_types::message::MsgId;
-use gb_types::node::NodeId;
+use gb_types::node::{NodeId, NodeSet};
 
 /// Keeps, of the pairs from a place on, those that came from where the message was made.
 fn keep_own(ups: &mut Vec<Up>, from: usize)
@@ -37,7 +37,8 @@ pub struct Direct<L> {
 impl<L: Layer> Direct<L> {
     /// A layer over another, in which it is all that is remembered.
     pub fn new(lower: L) -> Direct<L>
-        ensures { ⟦<Direct<L> as Layer>⟧.meaning result ≡ L.meaning lower }
+        ensures meaning { ⟦<Direct<L> as Layer>⟧.meaning result ≡ L.meaning lower }
+        ensures fresh { L.is_fresh (L.meaning lower) → ⟦<Direct<L> as Layer>⟧.is_fresh (⟦<Direct<L> as Layer>⟧.meaning result) }
     {
         Direct { lower }
     }
@@ -52,11 +53,17 @@ impl<L: Layer> Layer for Direct<L> {
 
     ghost is_fresh = { L.is_fresh };
 
+    ghost is_empty = { L.is_empty };
+
     ghost next = { L.next };
 
     ghost gives = { λ s c. own_gives (L.gives s c) };
 
     ghost has_room = { λ d. L.has_room d.lower };
+
+    ghost is_whole = { λ d. L.is_whole d.lower };
+
+    ghost need = { L.need };
 
     fn me(&self) -> NodeId {
         self.lower.me()
@@ -66,25 +73,25 @@ impl<L: Layer> Layer for Direct<L> {
         self.lower.ready(calls, out)
     }
 
-    fn say(&mut self, m: MsgId, out: &mut Effects) {
-        let first = out.ups.len();
-        self.lower.say(m, out);
-        keep_own(&mut out.ups, first);
+    fn whole(
+        &mut self,
+        members: &NodeSet,
+        msgs: u16,
+        calls: usize,
+        out: &mut Effects,
+    ) -> Result<(), OutOfMemory> {
+        self.lower.whole(members, msgs, calls, out)
     }
 
-    fn came(&mut self, from: NodeId, m: MsgId, out: &mut Effects) {
+    fn take(&mut self, call: Call, out: &mut Effects) {
         let first = out.ups.len();
-        self.lower.came(from, m, out);
-        keep_own(&mut out.ups, first);
-    }
-
-    fn notice(&mut self, who: NodeId, out: &mut Effects) {
-        let first = out.ups.len();
-        self.lower.notice(who, out);
+        self.lower.take(call, out);
         keep_own(&mut out.ups, first);
     }
 
     ghost roomier = { λ d. L.roomier d.lower };
+
+    ghost whole_room = { λ d. L.whole_room d.lower };
 
     ghost me_stays = { L.me_stays };
 

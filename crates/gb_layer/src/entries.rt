@@ -1,9 +1,8 @@
 //! What a relay remembers of each message, in the order of first mention.
-ghost use Rattle.std.specs.Prelude.{◌≡◌, ◌+◌, ◌≤◌, map, vec_len, vec_capacity, count_by};
+ghost use Rattle.std.specs.Prelude.{◌≡◌, map, vec_len, vec_capacity};
 ghost use Rattle.std.specs.List.{list_any};
-ghost use Rattle.gb_layer.specs.Relay.{is_for, is_sent, noted, held, taken_in, marked_sent, is_unsent, is_ungiven};
+ghost use Rattle.gb_layer.specs.Relay.{is_for, is_sent, held, marked_sent};
 
-use crate::effects::Up;
 use gb_types::message::MsgId;
 use gb_types::node::{NodeId, NodeSet};
 
@@ -30,27 +29,8 @@ pub(crate) fn was_sent(entries: &[Entry], m: MsgId) -> bool
     entries.iter().any(|e| e.m == m && e.sent)
 }
 
-/// Adds an entry of m, where there is none.
-pub(crate) fn note(entries: &mut Vec<Entry>, m: MsgId)
-    requires { vec_len entries.old + 1 ≤ vec_capacity entries.old }
-    ensures items { entries.new.items ≡ noted entries.old.items m }
-    ensures len { vec_len entries.new ≤ vec_len entries.old + 1 }
-    ensures capacity { vec_capacity entries.old ≤ vec_capacity entries.new }
-    ensures unsent { count_by is_unsent entries.new.items ≤ count_by is_unsent entries.old.items + 1 }
-    ensures ungiven { count_by is_ungiven entries.new.items ≤ count_by is_ungiven entries.old.items + 1 }
-{
-    if !has_entry(entries, m) {
-        entries.push_reserved(Entry {
-            m,
-            holders: NodeSet::new(),
-            sent: false,
-            given: false,
-        });
-    }
-}
-
 /// Writes down in an entry, if it is of m, that this node and via hold m.
-fn hold_one(e: &mut Entry, me: NodeId, via: NodeId, m: MsgId)
+pub(crate) fn hold_one(e: &mut Entry, me: NodeId, via: NodeId, m: MsgId)
     ensures { e.new ≡ held me via m e.old }
 {
     if e.m == m {
@@ -60,7 +40,7 @@ fn hold_one(e: &mut Entry, me: NodeId, via: NodeId, m: MsgId)
 }
 
 /// Writes down that this node and via hold m.
-fn hold(entries: &mut [Entry], me: NodeId, via: NodeId, m: MsgId)
+pub(crate) fn hold(entries: &mut [Entry], me: NodeId, via: NodeId, m: MsgId)
     ensures { entries.new ≡ map (held me via m) entries.old }
 {
     for e in entries.iter_mut() {
@@ -68,26 +48,17 @@ fn hold(entries: &mut [Entry], me: NodeId, via: NodeId, m: MsgId)
     }
 }
 
-/// Writes down who holds what came up below.
-fn take_in_all(entries: &mut [Entry], me: NodeId, ups: &[Up])
-    ensures { entries.new ≡ taken_in me ups.now entries.old }
-{
-    for up in ups {
-        hold(entries, me, up.via, up.m);
-    }
-}
-
-/// Writes down who holds what came up below.
-pub(crate) fn take_in(entries: &mut Vec<Entry>, me: NodeId, ups: &[Up])
-    ensures items { entries.new.items ≡ taken_in me ups.now entries.old.items }
+/// Writes down that this node and via hold m.
+pub(crate) fn hold_in(entries: &mut Vec<Entry>, me: NodeId, via: NodeId, m: MsgId)
+    ensures items { entries.new.items ≡ map (held me via m) entries.old.items }
     ensures len { vec_len entries.new ≡ vec_len entries.old }
     ensures capacity { vec_capacity entries.new ≡ vec_capacity entries.old }
 {
-    take_in_all(entries, me, ups);
+    hold(entries, me, via, m);
 }
 
 /// Marks an entry, if it is of m, as sent from here.
-fn mark_one(e: &mut Entry, m: MsgId)
+pub(crate) fn mark_one(e: &mut Entry, m: MsgId)
     ensures { e.new ≡ marked_sent m e.old }
 {
     if e.m == m {
@@ -96,7 +67,7 @@ fn mark_one(e: &mut Entry, m: MsgId)
 }
 
 /// Marks m as sent from here.
-fn mark_all(entries: &mut [Entry], m: MsgId)
+pub(crate) fn mark_all(entries: &mut [Entry], m: MsgId)
     ensures { entries.new ≡ map (marked_sent m) entries.old }
 {
     for e in entries.iter_mut() {

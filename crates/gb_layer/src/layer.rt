@@ -1,9 +1,10 @@
 //! What a layer is.
-ghost use Rattle.std.specs.Prelude.{◌≡◌, ℕ, ◌+◌, ◌≤◌, ◌++◌, OnOk};
+ghost use Rattle.std.specs.Prelude.{◌≡◌, ℕ, ◌+◌, ◌≤◌, ◌++◌, OnOk, true, vec_capacity};
 ghost use Rattle.gb_types.specs.declared.node.NodeId.{NodeId};
 ghost use Rattle.gb_layer.specs.declared.call.Call.{Call};
 ghost use Rattle.gb_layer.specs.declared.call.Call.TheVariants.{Say, Came, Notice};
 ghost use Rattle.gb_layer.specs.Laws.{StaysAtItsNode, ComesFromItsOrigin, SendsWhatWasHandedIn, HandsUpWhatWasHandedIn, HandsUpOnce, SendsOnce, NoticesOnce};
+ghost use Rattle.gb_layer.specs.Limit.{Limit, Need, is_within};
 ghost use Rattle.gb_layer.specs.Machine.{Gives};
 ghost use Rattle.gb_layer.specs.Room.{free_sends, free_ups};
 
@@ -11,13 +12,14 @@ use crate::call::Call;
 use crate::effects::Effects;
 use gb_types::memory::OutOfMemory;
 use gb_types::message::MsgId;
-use gb_types::node::NodeId;
+use gb_types::node::{NodeId, NodeSet};
 
 /// A layer of a broadcast at one node.
 ///
 /// What a call gives, and what the layer then remembers, is a function of what it remembered and of the call:
-/// `gives` and `next`. What it gives is appended to `out`, whose earlier items stay. No call but `ready` takes
-/// memory.
+/// `gives` and `next`. What it gives is appended to `out`, whose earlier items stay. No call but `ready` and
+/// `whole` takes memory: `ready` makes room for the next calls, and `whole`, asked once, for all calls that are
+/// about messages within a limit.
 ///
 /// The caller owes: each message is said at most once; no pair of a sender and a message comes twice; `from`
 /// and `who` are other nodes. Where it does not keep these, each call still does as `gives` and `next` say,
@@ -34,6 +36,9 @@ pub trait Layer {
     /// Nothing was handed in yet.
     ghost is_fresh: { State → Type 0 };
 
+    /// No message was handed in yet: nothing, or notices alone.
+    ghost is_empty: { State → Type 0 };
+
     /// The state after a call.
     ghost next: { State → Call → State };
 
@@ -43,6 +48,12 @@ pub trait Layer {
     /// Where so many more sends and so many more pairs fit into `out`, the next calls, so many, take no memory,
     /// also if nobody empties `out` between them.
     ghost has_room: { Self → ℕ → ℕ → ℕ → Type 0 };
+
+    /// It has the memory for all calls within the limit.
+    ghost is_whole: { Self → Limit → Type 0 };
+
+    /// The most that so many calls within the limit give.
+    ghost need: { Limit → Need };
 
     /// The node where the layer is.
     fn me(&self) -> NodeId
@@ -56,34 +67,25 @@ pub trait Layer {
         ensures ups { out.new.ups.items ≡ out.old.ups.items }
         ensures room { OnOk result (has_room self.new (free_sends out.new) (free_ups out.new) calls) };
 
-    /// Broadcasts m, a message of this node.
-    fn say(&mut self, m: MsgId, out: &mut Effects)
-        requires { has_room self.old (free_sends out.old) (free_ups out.old) 1 }
-        ensures meaning { meaning self.new ≡ next (meaning self.old) (Say m) }
-        ensures sends { out.new.sends.items ≡ out.old.sends.items ++ (gives (meaning self.old) (Say m)).sends }
-        ensures ups { out.new.ups.items ≡ out.old.ups.items ++ (gives (meaning self.old) (Say m)).ups }
-        ensures room { (n : ℕ) → has_room self.old (free_sends out.old) (free_ups out.old) (n + 1)
-            → has_room self.new (free_sends out.new) (free_ups out.new) n };
+    /// Takes, once, all the memory that calls ever need that are about messages of these members, numbered from 1
+    /// to `msgs`, where `out` is emptied after each `calls` calls and keeps its memory. A refusal changes nothing
+    /// that is remembered or was given.
+    fn whole(
+        &mut self,
+        members: &NodeSet,
+        msgs: u16,
+        calls: usize,
+        out: &mut Effects,
+    ) -> Result<(), OutOfMemory>
+        requires { is_empty (meaning self.old) }
+        ensures meaning { meaning self.new ≡ meaning self.old }
+        ensures sends { out.new.sends.items ≡ out.old.sends.items }
+        ensures ups { out.new.ups.items ≡ out.old.ups.items }
+        ensures whole { OnOk result (is_whole self.new (record { members = members.now; msgs = msgs; calls = calls })) }
+        ensures free_sends { OnOk result ((need (record { members = members.now; msgs = msgs; calls = calls })).sends ≤ free_sends out.new) }
+        ensures free_ups { OnOk result ((need (record { members = members.now; msgs = msgs; calls = calls })).ups ≤ free_ups out.new) };
 
-    /// Takes m, which came from another node: its origin, or a node that relayed it.
-    fn came(&mut self, from: NodeId, m: MsgId, out: &mut Effects)
-        requires { has_room self.old (free_sends out.old) (free_ups out.old) 1 }
-        ensures meaning { meaning self.new ≡ next (meaning self.old) (Came from m) }
-        ensures sends { out.new.sends.items ≡ out.old.sends.items ++ (gives (meaning self.old) (Came from m)).sends }
-        ensures ups { out.new.ups.items ≡ out.old.ups.items ++ (gives (meaning self.old) (Came from m)).ups }
-        ensures room { (n : ℕ) → has_room self.old (free_sends out.old) (free_ups out.old) (n + 1)
-            → has_room self.new (free_sends out.new) (free_ups out.new) n };
-
-    /// Takes note that another node is noticed to have crashed.
-    fn notice(&mut self, who: NodeId, out: &mut Effects)
-        requires { has_room self.old (free_sends out.old) (free_ups out.old) 1 }
-        ensures meaning { meaning self.new ≡ next (meaning self.old) (Notice who) }
-        ensures sends { out.new.sends.items ≡ out.old.sends.items ++ (gives (meaning self.old) (Notice who)).sends }
-        ensures ups { out.new.ups.items ≡ out.old.ups.items ++ (gives (meaning self.old) (Notice who)).ups }
-        ensures room { (n : ℕ) → has_room self.old (free_sends out.old) (free_ups out.old) (n + 1)
-            → has_room self.new (free_sends out.new) (free_ups out.new) n };
-
-    /// Takes any of the three calls.
+    /// Takes a call: a layer's own work. `say`, `came` and `notice` are this, one for each call.
     fn take(&mut self, call: Call, out: &mut Effects)
         requires { has_room self.old (free_sends out.old) (free_ups out.old) 1 }
         ensures meaning { meaning self.new ≡ next (meaning self.old) call }
@@ -91,12 +93,53 @@ pub trait Layer {
         ensures ups { out.new.ups.items ≡ out.old.ups.items ++ (gives (meaning self.old) call).ups }
         ensures room { (n : ℕ) → has_room self.old (free_sends out.old) (free_ups out.old) (n + 1)
             → has_room self.new (free_sends out.new) (free_ups out.new) n }
+        ensures whole { (l : Limit) → is_whole self.old l → is_within l call ≡ true → is_whole self.new l }
+        ensures sends_memory { vec_capacity out.old.sends ≤ vec_capacity out.new.sends }
+        ensures ups_memory { vec_capacity out.old.ups ≤ vec_capacity out.new.ups };
+
+    /// Broadcasts m, a message of this node.
+    final fn say(&mut self, m: MsgId, out: &mut Effects)
+        requires { has_room self.old (free_sends out.old) (free_ups out.old) 1 }
+        ensures meaning { meaning self.new ≡ next (meaning self.old) (Say m) }
+        ensures sends { out.new.sends.items ≡ out.old.sends.items ++ (gives (meaning self.old) (Say m)).sends }
+        ensures ups { out.new.ups.items ≡ out.old.ups.items ++ (gives (meaning self.old) (Say m)).ups }
+        ensures room { (n : ℕ) → has_room self.old (free_sends out.old) (free_ups out.old) (n + 1)
+            → has_room self.new (free_sends out.new) (free_ups out.new) n }
+        ensures whole { (l : Limit) → is_whole self.old l → is_within l (Say m) ≡ true → is_whole self.new l }
+        ensures sends_memory { vec_capacity out.old.sends ≤ vec_capacity out.new.sends }
+        ensures ups_memory { vec_capacity out.old.ups ≤ vec_capacity out.new.ups }
     {
-        match call {
-            Call::Say(m) => self.say(m, out),
-            Call::Came(from, m) => self.came(from, m, out),
-            Call::Notice(who) => self.notice(who, out),
-        }
+        self.take(Call::Say(m), out);
+    }
+
+    /// Takes m, which came from another node: its origin, or a node that relayed it.
+    final fn came(&mut self, from: NodeId, m: MsgId, out: &mut Effects)
+        requires { has_room self.old (free_sends out.old) (free_ups out.old) 1 }
+        ensures meaning { meaning self.new ≡ next (meaning self.old) (Came from m) }
+        ensures sends { out.new.sends.items ≡ out.old.sends.items ++ (gives (meaning self.old) (Came from m)).sends }
+        ensures ups { out.new.ups.items ≡ out.old.ups.items ++ (gives (meaning self.old) (Came from m)).ups }
+        ensures room { (n : ℕ) → has_room self.old (free_sends out.old) (free_ups out.old) (n + 1)
+            → has_room self.new (free_sends out.new) (free_ups out.new) n }
+        ensures whole { (l : Limit) → is_whole self.old l → is_within l (Came from m) ≡ true → is_whole self.new l }
+        ensures sends_memory { vec_capacity out.old.sends ≤ vec_capacity out.new.sends }
+        ensures ups_memory { vec_capacity out.old.ups ≤ vec_capacity out.new.ups }
+    {
+        self.take(Call::Came(from, m), out);
+    }
+
+    /// Takes note that another node is noticed to have crashed.
+    final fn notice(&mut self, who: NodeId, out: &mut Effects)
+        requires { has_room self.old (free_sends out.old) (free_ups out.old) 1 }
+        ensures meaning { meaning self.new ≡ next (meaning self.old) (Notice who) }
+        ensures sends { out.new.sends.items ≡ out.old.sends.items ++ (gives (meaning self.old) (Notice who)).sends }
+        ensures ups { out.new.ups.items ≡ out.old.ups.items ++ (gives (meaning self.old) (Notice who)).ups }
+        ensures room { (n : ℕ) → has_room self.old (free_sends out.old) (free_ups out.old) (n + 1)
+            → has_room self.new (free_sends out.new) (free_ups out.new) n }
+        ensures whole { (l : Limit) → is_whole self.old l → is_within l (Notice who) ≡ true → is_whole self.new l }
+        ensures sends_memory { vec_capacity out.old.sends ≤ vec_capacity out.new.sends }
+        ensures ups_memory { vec_capacity out.old.ups ≤ vec_capacity out.new.ups }
+    {
+        self.take(Call::Notice(who), out);
     }
 
     /// More free places are room for as many calls, or fewer.
@@ -119,6 +162,9 @@ pub trait Layer {
 
     /// A second notice of a node has no effect.
     ghost noticed_once: { NoticesOnce next gives is_fresh };
+
+    /// A layer that has its memory has room, where what the calls give at most fits into `out`.
+    ghost whole_room: { (x : Self) (l : Limit) (a b : ℕ) → is_whole x l → (need l).sends ≤ a → (need l).ups ≤ b → has_room x a b l.calls };
 }
 
 /// A layer that hands up each message as if it came from where it was made: so no message comes up twice,

@@ -2,7 +2,8 @@
 //! layer, which answers what to send to the other members and what comes up.
 //!
 //! A layer neither sends nor keeps a payload, knows no clock and takes no memory in a call for which it was
-//! made ready. It is given calls, and gives messages by their names.
+//! made ready, or for which it took its memory once (`layer::Layer::whole`; `whole` has its caller). It is given
+//! calls, and gives messages by their names.
 //!
 //! Read `layer::Layer` first: a layer's contract, and the laws that each layer owes. `beb::Beb` is the lowest
 //! layer, and `direct::Direct<Beb>` the broadcast by best effort. `relay::Relay` relays, by a `rule::Rule`: the
@@ -19,10 +20,10 @@ pub mod effects;
 pub mod entries;
 pub mod examples;
 pub mod layer;
+pub mod ledger;
 pub mod modules;
 pub mod plain;
 pub mod relay;
 pub mod relays;
 pub mod rule;
-#[cfg(test)]
-mod tests;
+pub mod whole;

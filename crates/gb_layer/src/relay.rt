@@ -1,16 +1,20 @@
 //! A layer that relays, by a rule.
-ghost use Rattle.std.specs.Prelude.{◌≡◌, ℕ, ◌+◌, ◌≤◌, ◌<◌, [], ◌∷◌, ◌++◌, slice_get, vec_len, vec_capacity, OnOk, IfSome, count_by, map, filter};
-ghost use Rattle.gb_layer.specs.declared.call.Call.TheVariants.{Say};
+ghost use Rattle.std.specs.Prelude.{◌≡◌, ℕ, ◌+◌, ◌≤◌, ◌<◌, [], ◌∷◌, ◌++◌, slice_get, vec_len, vec_capacity, OnOk, IfSome, count_by, map, filter, true};
+ghost use Rattle.gb_layer.specs.declared.call.Call.TheVariants.{Say, Came};
 ghost use Rattle.gb_layer.specs.Room.{free_sends, free_ups};
-ghost use Rattle.gb_layer.specs.Relay.{State, IsNew, at_start, is_unsent, is_ungiven, marked_sent, call_below, due_to_relay, due_to_deliver, due_message, relay_if, relay_if_sends, relayed, relayed_sends, begun, begun_sends, given, given_ups, is_repeat, relay_next, relay_gives, handed, up_of};
-ghost use Rattle.gb_layer.specs.RelayLaws.{relay_me_stays, relay_noticed_once, relay_own};
-ghost use Rattle.gb_layer.specs.RelayOnce.{relay_sends_handed_in, relay_ups_handed_in, relay_up_once, relay_sent_once};
-ghost use Rattle.gb_layer.specs.RelayState.{state_of, HasRoom, unsent, ungiven, relay_roomier};
+ghost use Rattle.gb_layer.specs.Relay.{State, IsNew, IsEmpty, at_start, is_unsent, is_ungiven, marked_sent, call_below, due_to_relay, due_to_deliver, due_message, relay_if, relay_if_sends, relayed, relayed_sends, begun, begun_sends, given, given_ups, is_repeat, relay_next, relay_gives, handed, up_of};
+ghost use Rattle.gb_layer.specs.Limit.{Limit, is_counted, is_within, message_count};
+ghost use Rattle.gb_layer.specs.WholeLemmas.{relay_whole_room};
+ghost use Rattle.gb_layer.specs.RelayLemmas.{relay_me_stays, relay_noticed_once, relay_own};
+ghost use Rattle.gb_layer.specs.RelayOnceLemmas.{relay_sends_handed_in, relay_ups_handed_in, relay_up_once, relay_sent_once};
+ghost use Rattle.gb_layer.specs.RelayState.{state_of, HasRoom, IsWhole, limit_below, relay_need, unsent, ungiven};
+ghost use Rattle.gb_layer.specs.RoomLemmas.{relay_roomier};
 
 use crate::call::Call;
 use crate::effects::{Effects, Up};
-use crate::entries::{Entry, mark_sent, note, take_in, was_sent};
+use crate::entries::Entry;
 use crate::layer::{Broadcast, Layer};
+use crate::ledger::Ledger;
 use crate::rule::Rule;
 use gb_types::memory::OutOfMemory;
 use gb_types::message::MsgId;
@@ -30,7 +34,7 @@ pub struct Relay<L, R> {
     members: NodeSet,
     noticed: NodeSet,
     /// The messages that were handed in, in the order of first mention.
-    entries: Vec<Entry>,
+    entries: Ledger,
     /// What the last call of the layer below brought up.
     below: Vec<Up>,
 }
@@ -69,6 +73,8 @@ fn deliver_one<R: Rule>(
     ensures ups { out.new.ups.items ≡ out.old.ups.items ++ map up_of (filter (due_to_deliver R.rules me members.now noticed.now) (entry.old ∷ [])) }
     ensures sends { out.new.sends ≡ out.old.sends }
     ensures room { free_ups out.old + count_by is_ungiven (entry.new ∷ []) ≤ free_ups out.new + count_by is_ungiven (entry.old ∷ []) }
+    ensures sends_memory { vec_capacity out.new.sends ≡ vec_capacity out.old.sends }
+    ensures ups_memory { vec_capacity out.old.ups ≤ vec_capacity out.new.ups }
 {
     if is_ready(entry, rule, me, members, noticed) {
         entry.given = true;
@@ -93,10 +99,34 @@ fn deliver_all<R: Rule>(
     ensures room { free_ups out.old + count_by is_ungiven entries.new.items ≤ free_ups out.new + count_by is_ungiven entries.old.items }
     ensures len { vec_len entries.new ≡ vec_len entries.old }
     ensures capacity { vec_capacity entries.new ≡ vec_capacity entries.old }
+    ensures sends_memory { vec_capacity out.new.sends ≡ vec_capacity out.old.sends }
+    ensures ups_memory { vec_capacity out.old.ups ≤ vec_capacity out.new.ups }
 {
     for i in 0..entries.len() {
         deliver_one(&mut entries[i], rule, me, members, noticed, out);
     }
+}
+
+/// Hands up everything that is to be.
+fn deliver_in<R: Rule>(
+    ledger: &mut Ledger,
+    rule: &R,
+    me: NodeId,
+    members: &NodeSet,
+    noticed: &NodeSet,
+    out: &mut Effects,
+)
+    requires { count_by is_ungiven ledger.old.list.items ≤ free_ups out.old }
+    ensures items { ledger.new.list.items ≡ map (handed (due_to_deliver R.rules me members.now noticed.now)) ledger.old.list.items }
+    ensures ups { out.new.ups.items ≡ out.old.ups.items ++ map up_of (filter (due_to_deliver R.rules me members.now noticed.now) ledger.old.list.items) }
+    ensures sends { out.new.sends ≡ out.old.sends }
+    ensures room { free_ups out.old + count_by is_ungiven ledger.new.list.items ≤ free_ups out.new + count_by is_ungiven ledger.old.list.items }
+    ensures len { vec_len ledger.new.list ≡ vec_len ledger.old.list }
+    ensures capacity { vec_capacity ledger.new.list ≡ vec_capacity ledger.old.list }
+    ensures sends_memory { vec_capacity out.new.sends ≡ vec_capacity out.old.sends }
+    ensures ups_memory { vec_capacity out.old.ups ≤ vec_capacity out.new.ups }
+{
+    deliver_all(&mut ledger.list, rule, me, members, noticed, out);
 }
 
 impl<L: Layer, R: Rule> Relay<L, R> {
@@ -110,7 +140,7 @@ impl<L: Layer, R: Rule> Relay<L, R> {
             rule,
             members,
             noticed: NodeSet::new(),
-            entries: Vec::new(alloc),
+            entries: Ledger::new(alloc),
             below: Vec::new(alloc),
         }
     }
@@ -122,27 +152,29 @@ impl<L: Layer, R: Rule> Relay<L, R> {
         ensures sends { out.new.sends.items ≡ out.old.sends.items ++ (L.gives (L.meaning self.old.lower) call).sends }
         ensures ups { out.new.ups ≡ out.old.ups }
         ensures room { (n : ℕ) → L.has_room self.old.lower (free_sends out.old) (vec_capacity self.old.below) (n + 1) → L.has_room self.new.lower (free_sends out.new) (vec_capacity self.new.below) n }
-        ensures capacity { vec_capacity self.new.entries ≡ vec_capacity self.old.entries }
-        ensures len { vec_len self.new.entries ≡ vec_len self.old.entries }
+        ensures capacity { vec_capacity self.new.entries.list ≡ vec_capacity self.old.entries.list }
+        ensures len { vec_len self.new.entries.list ≡ vec_len self.old.entries.list }
         ensures unsent { unsent self.new ≡ unsent self.old }
         ensures ungiven { ungiven self.new ≡ ungiven self.old }
+        ensures whole { (l : Limit) → IsWhole L.is_whole L.need self.old l → is_within l call ≡ true → IsWhole L.is_whole L.need self.new l }
+        ensures sends_memory { vec_capacity out.old.sends ≤ vec_capacity out.new.sends }
     {
         self.below.clear();
         mem::swap(&mut out.ups, &mut self.below);
         let me = self.lower.me();
         self.lower.take(call, out);
         mem::swap(&mut out.ups, &mut self.below);
-        take_in(&mut self.entries, me, &self.below);
+        self.entries.take_in(me, &self.below);
     }
 
     /// The message of the entry at i, where it is to be relayed.
     fn due(&self, i: usize) -> Option<MsgId>
-        requires { i < vec_len self.now.entries }
-        ensures message { result ≡ due_message L.next L.gives L.me R.rules (state_of L.meaning self.now) (slice_get self.now.entries.items i) }
-        ensures unsent { IfSome result (λ m. count_by is_unsent (map (marked_sent m) self.now.entries.items) + 1 ≤ unsent self.now) }
+        requires { i < vec_len self.now.entries.list }
+        ensures message { result ≡ due_message L.next L.gives L.me R.rules (state_of L.meaning self.now) (slice_get self.now.entries.list.items i) }
+        ensures unsent { IfSome result (λ m. count_by is_unsent (map (marked_sent m) self.now.entries.list.items) + 1 ≤ unsent self.now) }
     {
         let me = self.lower.me();
-        let entry = &self.entries[i];
+        let entry = &self.entries.list[i];
         if is_due(entry, &self.rule, me, &self.noticed) {
             Some(entry.m)
         } else {
@@ -152,18 +184,20 @@ impl<L: Layer, R: Rule> Relay<L, R> {
 
     /// Relays the message of the entry at i, where it is to be.
     fn relay_at(&mut self, i: usize, out: &mut Effects)
-        requires within { i < vec_len self.old.entries }
+        requires within { i < vec_len self.old.entries.list }
         requires room { L.has_room self.old.lower (free_sends out.old) (vec_capacity self.old.below) (unsent self.old) }
-        ensures state { state_of L.meaning self.new ≡ relay_if L.next L.gives L.me R.rules (state_of L.meaning self.old) (slice_get self.old.entries.items i) }
-        ensures sends { out.new.sends.items ≡ out.old.sends.items ++ relay_if_sends L.next L.gives L.me R.rules (state_of L.meaning self.old) (slice_get self.old.entries.items i) }
+        ensures state { state_of L.meaning self.new ≡ relay_if L.next L.gives L.me R.rules (state_of L.meaning self.old) (slice_get self.old.entries.list.items i) }
+        ensures sends { out.new.sends.items ≡ out.old.sends.items ++ relay_if_sends L.next L.gives L.me R.rules (state_of L.meaning self.old) (slice_get self.old.entries.list.items i) }
         ensures ups { out.new.ups ≡ out.old.ups }
         ensures room { (n : ℕ) → L.has_room self.old.lower (free_sends out.old) (vec_capacity self.old.below) (n + unsent self.old) → L.has_room self.new.lower (free_sends out.new) (vec_capacity self.new.below) (n + unsent self.new) }
-        ensures capacity { vec_capacity self.new.entries ≡ vec_capacity self.old.entries }
-        ensures len { vec_len self.new.entries ≡ vec_len self.old.entries }
+        ensures capacity { vec_capacity self.new.entries.list ≡ vec_capacity self.old.entries.list }
+        ensures len { vec_len self.new.entries.list ≡ vec_len self.old.entries.list }
         ensures ungiven { ungiven self.new ≡ ungiven self.old }
+        ensures whole { (l : Limit) → IsWhole L.is_whole L.need self.old l → IsWhole L.is_whole L.need self.new l }
+        ensures sends_memory { vec_capacity out.old.sends ≤ vec_capacity out.new.sends }
     {
         if let Some(m) = self.due(i) {
-            mark_sent(&mut self.entries, m);
+            self.entries.mark_sent(m);
             self.call_lower(Call::Say(m), out);
         }
     }
@@ -175,11 +209,13 @@ impl<L: Layer, R: Rule> Relay<L, R> {
         ensures sends { out.new.sends.items ≡ out.old.sends.items ++ relayed_sends L.next L.gives L.me R.rules (state_of L.meaning self.old) }
         ensures ups { out.new.ups ≡ out.old.ups }
         ensures room { (n : ℕ) → L.has_room self.old.lower (free_sends out.old) (vec_capacity self.old.below) (n + unsent self.old) → L.has_room self.new.lower (free_sends out.new) (vec_capacity self.new.below) (n + unsent self.new) }
-        ensures capacity { vec_capacity self.new.entries ≡ vec_capacity self.old.entries }
-        ensures len { vec_len self.new.entries ≡ vec_len self.old.entries }
+        ensures capacity { vec_capacity self.new.entries.list ≡ vec_capacity self.old.entries.list }
+        ensures len { vec_len self.new.entries.list ≡ vec_len self.old.entries.list }
         ensures ungiven { ungiven self.new ≡ ungiven self.old }
+        ensures whole { (l : Limit) → IsWhole L.is_whole L.need self.old l → IsWhole L.is_whole L.need self.new l }
+        ensures sends_memory { vec_capacity out.old.sends ≤ vec_capacity out.new.sends }
     {
-        let count = self.entries.len();
+        let count = self.entries.list.len();
         for i in 0..count {
             self.relay_at(i, out);
         }
@@ -188,40 +224,59 @@ impl<L: Layer, R: Rule> Relay<L, R> {
     /// Says m below, unless it was sent from here.
     fn begin_say(&mut self, m: MsgId, out: &mut Effects)
         requires below { L.has_room self.old.lower (free_sends out.old) (vec_capacity self.old.below) (2 + unsent self.old) }
-        requires entries { vec_len self.old.entries + 1 ≤ vec_capacity self.old.entries }
+        requires entries { vec_len self.old.entries.list + 1 ≤ vec_capacity self.old.entries.list }
         ensures state { state_of L.meaning self.new ≡ begun L.next L.gives L.me (state_of L.meaning self.old) (Say m) }
         ensures sends { out.new.sends.items ≡ out.old.sends.items ++ begun_sends L.next L.gives L.me (state_of L.meaning self.old) (Say m) }
         ensures ups { out.new.ups ≡ out.old.ups }
         ensures room { (n : ℕ) → L.has_room self.old.lower (free_sends out.old) (vec_capacity self.old.below) (n + 2 + unsent self.old) → L.has_room self.new.lower (free_sends out.new) (vec_capacity self.new.below) (n + unsent self.new) }
-        ensures capacity { vec_capacity self.old.entries ≤ vec_capacity self.new.entries }
-        ensures len { vec_len self.new.entries ≤ vec_len self.old.entries + 1 }
+        ensures capacity { vec_capacity self.old.entries.list ≤ vec_capacity self.new.entries.list }
+        ensures len { vec_len self.new.entries.list ≤ vec_len self.old.entries.list + 1 }
         ensures ungiven { ungiven self.new ≤ ungiven self.old + 1 }
+        ensures whole { (l : Limit) → IsWhole L.is_whole L.need self.old l → is_counted l m ≡ true → IsWhole L.is_whole L.need self.new l }
+        ensures sends_memory { vec_capacity out.old.sends ≤ vec_capacity out.new.sends }
     {
-        if !was_sent(&self.entries, m) {
-            note(&mut self.entries, m);
-            mark_sent(&mut self.entries, m);
+        if !self.entries.was_sent(m) {
+            self.entries.note(m);
+            self.entries.mark_sent(m);
             self.call_lower(Call::Say(m), out);
         }
+    }
+
+    /// Takes m below.
+    fn begin_came(&mut self, from: NodeId, m: MsgId, out: &mut Effects)
+        requires below { L.has_room self.old.lower (free_sends out.old) (vec_capacity self.old.below) (2 + unsent self.old) }
+        requires entries { vec_len self.old.entries.list + 1 ≤ vec_capacity self.old.entries.list }
+        ensures state { state_of L.meaning self.new ≡ begun L.next L.gives L.me (state_of L.meaning self.old) (Came from m) }
+        ensures sends { out.new.sends.items ≡ out.old.sends.items ++ begun_sends L.next L.gives L.me (state_of L.meaning self.old) (Came from m) }
+        ensures ups { out.new.ups ≡ out.old.ups }
+        ensures room { (n : ℕ) → L.has_room self.old.lower (free_sends out.old) (vec_capacity self.old.below) (n + 2 + unsent self.old) → L.has_room self.new.lower (free_sends out.new) (vec_capacity self.new.below) (n + unsent self.new) }
+        ensures capacity { vec_capacity self.old.entries.list ≤ vec_capacity self.new.entries.list }
+        ensures len { vec_len self.new.entries.list ≤ vec_len self.old.entries.list + 1 }
+        ensures ungiven { ungiven self.new ≤ ungiven self.old + 1 }
+        ensures whole { (l : Limit) → IsWhole L.is_whole L.need self.old l → is_within l (Came from m) ≡ true → IsWhole L.is_whole L.need self.new l }
+        ensures sends_memory { vec_capacity out.old.sends ≤ vec_capacity out.new.sends }
+    {
+        self.entries.note(m);
+        self.call_lower(Call::Came(from, m), out);
     }
 
     /// Does the call itself, before anything is relayed.
     fn begin(&mut self, call: Call, out: &mut Effects)
         requires below { L.has_room self.old.lower (free_sends out.old) (vec_capacity self.old.below) (2 + unsent self.old) }
-        requires entries { vec_len self.old.entries + 1 ≤ vec_capacity self.old.entries }
+        requires entries { vec_len self.old.entries.list + 1 ≤ vec_capacity self.old.entries.list }
         ensures state { state_of L.meaning self.new ≡ begun L.next L.gives L.me (state_of L.meaning self.old) call }
         ensures sends { out.new.sends.items ≡ out.old.sends.items ++ begun_sends L.next L.gives L.me (state_of L.meaning self.old) call }
         ensures ups { out.new.ups ≡ out.old.ups }
         ensures room { (n : ℕ) → L.has_room self.old.lower (free_sends out.old) (vec_capacity self.old.below) (n + 2 + unsent self.old) → L.has_room self.new.lower (free_sends out.new) (vec_capacity self.new.below) (n + unsent self.new) }
-        ensures capacity { vec_capacity self.old.entries ≤ vec_capacity self.new.entries }
-        ensures len { vec_len self.new.entries ≤ vec_len self.old.entries + 1 }
+        ensures capacity { vec_capacity self.old.entries.list ≤ vec_capacity self.new.entries.list }
+        ensures len { vec_len self.new.entries.list ≤ vec_len self.old.entries.list + 1 }
         ensures ungiven { ungiven self.new ≤ ungiven self.old + 1 }
+        ensures whole { (l : Limit) → IsWhole L.is_whole L.need self.old l → is_within l call ≡ true → IsWhole L.is_whole L.need self.new l }
+        ensures sends_memory { vec_capacity out.old.sends ≤ vec_capacity out.new.sends }
     {
         match call {
             Call::Say(m) => self.begin_say(m, out),
-            Call::Came(from, m) => {
-                note(&mut self.entries, m);
-                self.call_lower(Call::Came(from, m), out);
-            }
+            Call::Came(from, m) => self.begin_came(from, m, out),
             Call::Notice(who) => {
                 self.noticed.insert(who);
                 self.call_lower(Call::Notice(who), out);
@@ -237,13 +292,16 @@ impl<L: Layer, R: Rule> Relay<L, R> {
         ensures sends { out.new.sends.items ≡ out.old.sends.items ++ relayed_sends L.next L.gives L.me R.rules (state_of L.meaning self.old) }
         ensures ups { out.new.ups.items ≡ out.old.ups.items ++ given_ups L.me R.rules (relayed L.next L.gives L.me R.rules (state_of L.meaning self.old)) }
         ensures room { (n : ℕ) → L.has_room self.old.lower (free_sends out.old) (vec_capacity self.old.below) (n + unsent self.old) → L.has_room self.new.lower (free_sends out.new) (vec_capacity self.new.below) (n + unsent self.new) }
-        ensures capacity { vec_capacity self.new.entries ≡ vec_capacity self.old.entries }
-        ensures len { vec_len self.new.entries ≡ vec_len self.old.entries }
+        ensures capacity { vec_capacity self.new.entries.list ≡ vec_capacity self.old.entries.list }
+        ensures len { vec_len self.new.entries.list ≡ vec_len self.old.entries.list }
         ensures free { free_ups out.old + ungiven self.new ≤ free_ups out.new + ungiven self.old }
+        ensures whole { (l : Limit) → IsWhole L.is_whole L.need self.old l → IsWhole L.is_whole L.need self.new l }
+        ensures sends_memory { vec_capacity out.old.sends ≤ vec_capacity out.new.sends }
+        ensures ups_memory { vec_capacity out.old.ups ≤ vec_capacity out.new.ups }
     {
         self.relay_all(out);
         let me = self.lower.me();
-        deliver_all(
+        deliver_in(
             &mut self.entries,
             &self.rule,
             me,
@@ -263,24 +321,10 @@ impl<L: Layer, R: Rule> Relay<L, R> {
         }
     }
 
-    /// Takes any call.
-    fn step(&mut self, call: Call, out: &mut Effects)
-        requires { HasRoom L.has_room self.old (free_sends out.old) (free_ups out.old) 1 }
-        ensures state { state_of L.meaning self.new ≡ relay_next L.next L.gives L.me R.rules (state_of L.meaning self.old) call }
-        ensures sends { out.new.sends.items ≡ out.old.sends.items ++ (relay_gives L.next L.gives L.me R.rules (state_of L.meaning self.old) call).sends }
-        ensures ups { out.new.ups.items ≡ out.old.ups.items ++ (relay_gives L.next L.gives L.me R.rules (state_of L.meaning self.old) call).ups }
-        ensures room { (n : ℕ) → HasRoom L.has_room self.old (free_sends out.old) (free_ups out.old) (n + 1) → HasRoom L.has_room self.new (free_sends out.new) (free_ups out.new) n }
-    {
-        if !self.repeats(call) {
-            self.begin(call, out);
-            self.finish(out);
-        }
-    }
-
     /// Makes room for so many calls of the layer below.
     fn ready_below(&mut self, calls: usize, out: &mut Effects) -> Result<(), OutOfMemory>
         ensures meaning { L.meaning self.new.lower ≡ L.meaning self.old.lower }
-        ensures entries { self.new.entries ≡ self.old.entries }
+        ensures entries { self.new.entries.list ≡ self.old.entries.list }
         ensures members { self.new.members ≡ self.old.members }
         ensures noticed { self.new.noticed ≡ self.old.noticed }
         ensures sends { out.new.sends.items ≡ out.old.sends.items }
@@ -290,6 +334,31 @@ impl<L: Layer, R: Rule> Relay<L, R> {
         self.below.clear();
         mem::swap(&mut out.ups, &mut self.below);
         let made = self.lower.ready(calls, out);
+        mem::swap(&mut out.ups, &mut self.below);
+        made
+    }
+
+    /// Takes all the memory that the layer below ever needs, which is called so many times.
+    fn whole_below(
+        &mut self,
+        members: &NodeSet,
+        msgs: u16,
+        calls: usize,
+        below: usize,
+        out: &mut Effects,
+    ) -> Result<(), OutOfMemory>
+        requires empty { IsEmpty L.is_empty (state_of L.meaning self.old) }
+        requires below { below ≡ calls + calls + message_count (record { members = members.now; msgs = msgs; calls = calls }) }
+        requires memory { message_count (record { members = members.now; msgs = msgs; calls = calls }) + calls ≤ vec_capacity self.old.entries.list }
+        ensures state { state_of L.meaning self.new ≡ state_of L.meaning self.old }
+        ensures sends { out.new.sends.items ≡ out.old.sends.items }
+        ensures ups { out.new.ups ≡ out.old.ups }
+        ensures whole { OnOk result (IsWhole L.is_whole L.need self.new (record { members = members.now; msgs = msgs; calls = calls })) }
+        ensures free_sends { OnOk result ((L.need (limit_below (record { members = members.now; msgs = msgs; calls = calls }))).sends ≤ free_sends out.new) }
+    {
+        self.below.clear();
+        mem::swap(&mut out.ups, &mut self.below);
+        let made = self.lower.whole(members, msgs, below, out);
         mem::swap(&mut out.ups, &mut self.below);
         made
     }
@@ -304,39 +373,60 @@ impl<L: Layer, R: Rule> Layer for Relay<L, R> {
 
     ghost is_fresh = { IsNew L.is_fresh };
 
+    ghost is_empty = { IsEmpty L.is_empty };
+
     ghost next = { relay_next L.next L.gives L.me R.rules };
 
     ghost gives = { relay_gives L.next L.gives L.me R.rules };
 
     ghost has_room = { HasRoom L.has_room };
 
+    ghost is_whole = { IsWhole L.is_whole L.need };
+
+    ghost need = { relay_need L.need };
+
     fn me(&self) -> NodeId {
         self.lower.me()
     }
 
     fn ready(&mut self, calls: usize, out: &mut Effects) -> Result<(), OutOfMemory> {
-        let count = self.entries.len();
+        let count = self.entries.list.len();
         let twice = calls.checked_add(calls).ok_or(OutOfMemory)?;
         let below = twice.checked_add(count).ok_or(OutOfMemory)?;
         let ups = count.checked_add(calls).ok_or(OutOfMemory)?;
-        self.entries.reserve(calls)?;
+        self.entries.list.reserve(calls)?;
         out.ups.reserve(ups)?;
         self.ready_below(below, out)
     }
 
-    fn say(&mut self, m: MsgId, out: &mut Effects) {
-        self.step(Call::Say(m), out);
+    fn whole(
+        &mut self,
+        members: &NodeSet,
+        msgs: u16,
+        calls: usize,
+        out: &mut Effects,
+    ) -> Result<(), OutOfMemory> {
+        let count = members.count_in(members);
+        let messages = count.checked_mul(usize::from(msgs)).ok_or(OutOfMemory)?;
+        let once = messages.checked_add(calls).ok_or(OutOfMemory)?;
+        let twice = calls.checked_add(calls).ok_or(OutOfMemory)?;
+        let below = twice.checked_add(messages).ok_or(OutOfMemory)?;
+        self.entries.list.reserve(once)?;
+        self.entries.cover(msgs)?;
+        out.ups.reserve(once)?;
+        self.whole_below(members, msgs, calls, below, out)
     }
 
-    fn came(&mut self, from: NodeId, m: MsgId, out: &mut Effects) {
-        self.step(Call::Came(from, m), out);
-    }
-
-    fn notice(&mut self, who: NodeId, out: &mut Effects) {
-        self.step(Call::Notice(who), out);
+    fn take(&mut self, call: Call, out: &mut Effects) {
+        if !self.repeats(call) {
+            self.begin(call, out);
+            self.finish(out);
+        }
     }
 
     ghost roomier = { relay_roomier L.has_room L.roomier };
+
+    ghost whole_room = { relay_whole_room L.has_room L.roomier L.is_whole L.need L.whole_room };
 
     ghost me_stays = { relay_me_stays L.next L.gives L.me R.rules L.me_stays };
 

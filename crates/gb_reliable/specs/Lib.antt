@@ -1,3 +1,3 @@
 pub mod Rules
-pub mod LazyLaws
-pub mod EagerLaws
+pub mod LazyLemmas
+pub mod EagerLemmas

@@ -1,6 +1,6 @@
 //! Eager reliable broadcast.
 ghost use Rattle.gb_reliable.specs.Rules.{eager_rules};
-ghost use Rattle.gb_reliable.specs.EagerLaws.{eager_more, eager_delivers_more, eager_own};
+ghost use Rattle.gb_reliable.specs.EagerLemmas.{eager_more, eager_delivers_more, eager_own};
 
 use gb_layer::relay::Relay;
 use gb_layer::rule::Rule;

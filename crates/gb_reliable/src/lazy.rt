@@ -1,6 +1,6 @@
 //! Lazy reliable broadcast.
 ghost use Rattle.gb_reliable.specs.Rules.{lazy_rules};
-ghost use Rattle.gb_reliable.specs.LazyLaws.{lazy_more, lazy_delivers_more, lazy_own};
+ghost use Rattle.gb_reliable.specs.LazyLemmas.{lazy_more, lazy_delivers_more, lazy_own};
 
 use gb_layer::relay::Relay;
 use gb_layer::rule::Rule;

@@ -6,5 +6,3 @@
 pub mod eager;
 pub mod lazy;
 pub mod modules;
-#[cfg(test)]
-mod tests;

@@ -14,7 +14,6 @@ use crate::lazy::Lazily;
 use gb_layer::beb::Beb;
 use gb_layer::layer::Layer;
 use gb_layer::relay::Relay;
-use gb_layer::relays;
 
 /// `Lazy` over `Beb` at the node me, in a group with these members, is lazy reliable broadcast: over every
 /// lawful history what a call hands up is what it delivers, what it sends is what it broadcasts, and all that
@@ -26,9 +25,7 @@ pub fn lazy()
         → (⟦<Relay<Beb, Lazily> as Layer>⟧.gives (after ⟦<Relay<Beb, Lazily> as Layer>⟧.next (at_start me members) past) c).sends ≡ broadcasts Lazy me.number c past }
     ensures log { (me : NodeId) (members : Nodes) (past : List Call) → IsLawful me.number past
         → messages (all_ups ⟦<Relay<Beb, Lazily> as Layer>⟧.next ⟦<Relay<Beb, Lazily> as Layer>⟧.gives (at_start me members) past) ≡ log Lazy me.number (set.items members) past }
-{
-    relays::relays::<Lazily>();
-}
+{}
 
 /// `Eager` over `Beb` at the node me, in a group with these members, is eager reliable broadcast: over every
 /// lawful history what a call hands up is what it delivers, what it sends is what it broadcasts, and all that
@@ -40,6 +37,4 @@ pub fn eager()
         → (⟦<Relay<Beb, Eagerly> as Layer>⟧.gives (after ⟦<Relay<Beb, Eagerly> as Layer>⟧.next (at_start me members) past) c).sends ≡ broadcasts Eager me.number c past }
     ensures log { (me : NodeId) (members : Nodes) (past : List Call) → IsLawful me.number past
         → messages (all_ups ⟦<Relay<Beb, Eagerly> as Layer>⟧.next ⟦<Relay<Beb, Eagerly> as Layer>⟧.gives (at_start me members) past) ≡ log Eager me.number (set.items members) past }
-{
-    relays::relays::<Eagerly>();
-}
+{}

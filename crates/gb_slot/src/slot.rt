@@ -49,7 +49,7 @@ pub struct Slot {
 impl Model for Slot {
     ghost use Rattle.std.specs.Prelude.{◌≤◌, ◌+◌, vec_len, vec_capacity};
     ghost use Rattle.gb_types.specs.declared.limits.TheConstants.{MESSAGES};
-    ghost use Rattle.gb_stack.specs.StackLaws.{stack_room};
+    ghost use Rattle.gb_stack.specs.StackRoom.{stack_room};
     ghost use Rattle.gb_layer.specs.Machine.{messages};
     ghost use Rattle.gb_layer.specs.Room.{free_sends, free_ups};
     ghost use Rattle.gb_slot.specs.SlotState.{SlotValue};

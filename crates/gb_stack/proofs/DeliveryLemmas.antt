@@ -10,7 +10,7 @@ use Rattle.gb_layer.specs.Bools.{or_more, or_second, and_more}
 use Rattle.gb_layer.specs.Histories.{mentions_stays}
 use Rattle.gb_layer.specs.Lists.{all_append, all_weaker, list_all_weaker}
 use Rattle.gb_layer.specs.Machine.{mentions, was_noticed, came_from}
-use Rattle.gb_layer.specs.FirstMentions.{first_mentions-mentioned, first_mentions-once}
+use Rattle.gb_layer.specs.FirstMentionLemmas.{first_mentions-mentioned, first_mentions-once}
 use Rattle.gb_layer.specs.Modules.{first_mentions, holds, is_delivered, now_delivered, now_broadcast, newly, delivers, broadcasts, log}
 use Rattle.gb_layer.specs.declared.base.Base.{Base}
 use Rattle.gb_layer.specs.declared.base.Base.TheVariants.{BestEffort, Lazy, Eager, AllAck}

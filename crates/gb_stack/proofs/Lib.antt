@@ -1,3 +1,4 @@
 pub mod StartLemmas
+pub mod StartedLemmas
 pub mod StandsLemmas
 pub mod DeliveryLemmas

@@ -6,26 +6,29 @@ use Rattle.gb_types.specs.declared.node.NodeId.{NodeId}
 use Rattle.gb_layer.specs.declared.base.Base.{Base}
 use Rattle.gb_layer.specs.declared.base.Base.TheVariants.{BestEffort, Lazy, Eager, AllAck}
 use Rattle.gb_layer.specs.declared.call.Call.{Call}
-use Rattle.gb_layer.specs.BebLaws.{stays}
+use Rattle.gb_layer.specs.BebLemmas.{stays}
 use Rattle.gb_layer.specs.Machine.{Gives, after, all_ups, messages}
 use Rattle.gb_layer.specs.Modules.{IsLawful, delivers, broadcasts, log}
-use Rattle.gb_layer.specs.Relay.{at_start}
-use Rattle.gb_layer.specs.Rule.{Nodes}
-use Rattle.gb_layer.proofs.BestEffort.{direct_beb, best_effort_up, best_effort_out, best_effort_log}
-use Rattle.gb_reliable.proofs.ByCalls.{lazy_next, lazy_gives, lazy_up, lazy_out, lazy_log, eager_next, eager_gives, eager_up, eager_out, eager_log}
-use Rattle.gb_uniform.proofs.ByCalls.{all_ack_next, all_ack_gives, all_ack_up, all_ack_out, all_ack_log}
-use Rattle.gb_fifo.specs.FifoLaws.{lower_after}
+use Rattle.gb_layer.specs.Relay.{State, at_start}
+use Rattle.gb_layer.specs.Rule.{Nodes, Rules}
+use Rattle.gb_layer.proofs.BestEffortLemmas.{direct_beb, best_effort_up, best_effort_out, best_effort_log}
+use Rattle.gb_layer.proofs.RelayModuleLemmas.{IsModule}
+use Rattle.gb_reliable.proofs.ModuleLemmas.{lazy_is_module, eager_is_module}
+use Rattle.gb_reliable.specs.Rules.{lazy_rules, eager_rules}
+use Rattle.gb_uniform.proofs.ModuleLemmas.{all_ack_is_module}
+use Rattle.gb_uniform.specs.Rules.{all_ack_rules}
+use Rattle.gb_fifo.specs.FifoLemmas.{lower_after}
 use Rattle.gb_fifo.specs.FifoMachine.{FifoState}
 use Rattle.gb_fifo.specs.FifoRoom.{IsNew}
 use Rattle.gb_fifo.specs.Order.{ordered_after, in_order}
-use Rattle.gb_fifo.proofs.FifoOrder.{call_order, fifo_order}
+use Rattle.gb_fifo.proofs.FifoOrderLemmas.{call_order, fifo_order}
 use Rattle.gb_fifo.proofs.OrderLemmas.{ordered_append}
-use Rattle.gb_stack.specs.Inside.{gives_into, ups_into}
+use Rattle.gb_stack.specs.InsideLemmas.{gives_into, ups_into}
 use Rattle.gb_stack.specs.Kinds.{base_of, is_fifo, kind_delivers, kind_broadcasts, kind_log}
-use Rattle.gb_stack.specs.StackState.{UnorderedState, best_effort, lazy, eager, all_ack, unordered, fifo, unordered_next, unordered_gives, unordered_noticing, IsUntold, stack_next, stack_gives, untold_stack}
+use Rattle.gb_stack.specs.StackState.{UnorderedState, best_effort, lazy, eager, all_ack, unordered, fifo, relayed_next, relayed_gives, unordered_next, unordered_gives, unordered_noticing, IsUntold, stack_next, stack_gives, untold_stack}
 use Rattle.gb_stack.specs.Stands.{NewStackStands, CalledStackStands, HandsUpWhatIsDelivered, SendsWhatIsBroadcast, HandsUpTheLog, LogGrows}
-use Rattle.gb_stack.specs.UnorderedLaws.{stay, unordered_ups_handed_in}
-use Rattle.gb_stack.specs.StackLaws.{ordered_next, ordered_gives}
+use Rattle.gb_stack.specs.UnorderedLemmas.{stay, unordered_ups_handed_in}
+use Rattle.gb_stack.specs.StackLemmas.{ordered_next, ordered_gives}
 use Rattle.gb_stack.proofs.StartLemmas.{new_is}
 
 -- a broadcast without an order that was told nothing
@@ -38,44 +41,46 @@ was_untold Lazy me members = record { lower = tt; noticed = refl; entries = refl
 was_untold Eager me members = record { lower = tt; noticed = refl; entries = refl }
 was_untold AllAck me members = record { lower = tt; noticed = refl; entries = refl }
 
--- what a call gives, in the words of the kind's own layer
-module _ (me : NodeId) (members : Nodes) (past : List Call) (c : Call) where
-  best_effort_call : unordered_gives (after unordered_next (best_effort me) past) c ≡ direct_beb me c
-  best_effort_call = gives_into stay direct_beb unordered_next unordered_gives best_effort (λ s c. refl) (λ s c. refl) me past c ∙ ap (λ k. direct_beb k c) (stays me past)
+-- a relay among the broadcasts without an order is the module that its rules make
+module _ (rules : Rules) (base : Base) (into : State NodeId → UnorderedState) (nexts : (s : State NodeId) (c : Call) → unordered_next (into s) c ≡ into (relayed_next rules s c))
+    (alike : (s : State NodeId) (c : Call) → unordered_gives (into s) c ≡ relayed_gives rules s c) (is : IsModule rules base) (me : NodeId) (members : Nodes) (past : List Call) where
+  relay_call : (c : Call) → unordered_gives (after unordered_next (into (at_start me members)) past) c ≡ relayed_gives rules (after (relayed_next rules) (at_start me members) past) c
+  relay_call = gives_into (relayed_next rules) (relayed_gives rules) unordered_next unordered_gives into nexts alike (at_start me members) past
 
-  lazy_call : unordered_gives (after unordered_next (untold Lazy me members) past) c ≡ lazy_gives (after lazy_next (at_start me members) past) c
-  lazy_call = gives_into lazy_next lazy_gives unordered_next unordered_gives lazy (λ s c. refl) (λ s c. refl) (at_start me members) past c
+  relay_up : (c : Call) → IsLawful me.number (c ∷ past) → messages (unordered_gives (after unordered_next (into (at_start me members)) past) c).ups ≡ delivers base me.number (set.items members) c past
+  relay_up c l = ap (λ (g : Gives). messages g.ups) (relay_call c) ∙ is.up me members past c l
 
-  eager_call : unordered_gives (after unordered_next (untold Eager me members) past) c ≡ eager_gives (after eager_next (at_start me members) past) c
-  eager_call = gives_into eager_next eager_gives unordered_next unordered_gives eager (λ s c. refl) (λ s c. refl) (at_start me members) past c
+  relay_out : (c : Call) → IsLawful me.number (c ∷ past) → (unordered_gives (after unordered_next (into (at_start me members)) past) c).sends ≡ broadcasts base me.number c past
+  relay_out c l = ap (λ (g : Gives). g.sends) (relay_call c) ∙ is.out me members past c l
 
-  all_ack_call : unordered_gives (after unordered_next (untold AllAck me members) past) c ≡ all_ack_gives (after all_ack_next (at_start me members) past) c
-  all_ack_call = gives_into all_ack_next all_ack_gives unordered_next unordered_gives all_ack (λ s c. refl) (λ s c. refl) (at_start me members) past c
+  relay_log : IsLawful me.number past → messages (all_ups unordered_next unordered_gives (into (at_start me members)) past) ≡ log base me.number (set.items members) past
+  relay_log l =
+      ap messages (ups_into (relayed_next rules) (relayed_gives rules) unordered_next unordered_gives into nexts alike (at_start me members) past) ∙ is.log me members past l
+
+best_effort_call : (me : NodeId) (past : List Call) (c : Call) → unordered_gives (after unordered_next (best_effort me) past) c ≡ direct_beb me c
+best_effort_call me past c = gives_into stay direct_beb unordered_next unordered_gives best_effort (λ s c. refl) (λ s c. refl) me past c ∙ ap (λ k. direct_beb k c) (stays me past)
 
 unordered_up : (base : Base) (me : NodeId) (members : Nodes) (past : List Call) (c : Call) → IsLawful me.number (c ∷ past)
     → messages (unordered_gives (after unordered_next (untold base me members) past) c).ups ≡ delivers base me.number (set.items members) c past
-unordered_up BestEffort me members past c l = ap (λ (g : Gives). messages g.ups) (best_effort_call me members past c) ∙ best_effort_up me (set.items members) past c l
-unordered_up Lazy me members past c l = ap (λ (g : Gives). messages g.ups) (lazy_call me members past c) ∙ lazy_up me members past c l
-unordered_up Eager me members past c l = ap (λ (g : Gives). messages g.ups) (eager_call me members past c) ∙ eager_up me members past c l
-unordered_up AllAck me members past c l = ap (λ (g : Gives). messages g.ups) (all_ack_call me members past c) ∙ all_ack_up me members past c l
+unordered_up BestEffort me members past c l = ap (λ (g : Gives). messages g.ups) (best_effort_call me past c) ∙ best_effort_up me (set.items members) past c l
+unordered_up Lazy me members past c l = relay_up lazy_rules Lazy lazy (λ s c. refl) (λ s c. refl) lazy_is_module me members past c l
+unordered_up Eager me members past c l = relay_up eager_rules Eager eager (λ s c. refl) (λ s c. refl) eager_is_module me members past c l
+unordered_up AllAck me members past c l = relay_up all_ack_rules AllAck all_ack (λ s c. refl) (λ s c. refl) all_ack_is_module me members past c l
 
 unordered_out : (base : Base) (me : NodeId) (members : Nodes) (past : List Call) (c : Call) → IsLawful me.number (c ∷ past)
     → (unordered_gives (after unordered_next (untold base me members) past) c).sends ≡ broadcasts base me.number c past
-unordered_out BestEffort me members past c l = ap (λ (g : Gives). g.sends) (best_effort_call me members past c) ∙ best_effort_out me [] past c l
-unordered_out Lazy me members past c l = ap (λ (g : Gives). g.sends) (lazy_call me members past c) ∙ lazy_out me members past c l
-unordered_out Eager me members past c l = ap (λ (g : Gives). g.sends) (eager_call me members past c) ∙ eager_out me members past c l
-unordered_out AllAck me members past c l = ap (λ (g : Gives). g.sends) (all_ack_call me members past c) ∙ all_ack_out me members past c l
+unordered_out BestEffort me members past c l = ap (λ (g : Gives). g.sends) (best_effort_call me past c) ∙ best_effort_out me [] past c l
+unordered_out Lazy me members past c l = relay_out lazy_rules Lazy lazy (λ s c. refl) (λ s c. refl) lazy_is_module me members past c l
+unordered_out Eager me members past c l = relay_out eager_rules Eager eager (λ s c. refl) (λ s c. refl) eager_is_module me members past c l
+unordered_out AllAck me members past c l = relay_out all_ack_rules AllAck all_ack (λ s c. refl) (λ s c. refl) all_ack_is_module me members past c l
 
 unordered_log : (base : Base) (me : NodeId) (members : Nodes) (past : List Call) → IsLawful me.number past
     → messages (all_ups unordered_next unordered_gives (untold base me members) past) ≡ log base me.number (set.items members) past
 unordered_log BestEffort me members past l =
     ap messages (ups_into stay direct_beb unordered_next unordered_gives best_effort (λ s c. refl) (λ s c. refl) me past) ∙ best_effort_log me (set.items members) past l
-unordered_log Lazy me members past l =
-    ap messages (ups_into lazy_next lazy_gives unordered_next unordered_gives lazy (λ s c. refl) (λ s c. refl) (at_start me members) past) ∙ lazy_log me members past l
-unordered_log Eager me members past l =
-    ap messages (ups_into eager_next eager_gives unordered_next unordered_gives eager (λ s c. refl) (λ s c. refl) (at_start me members) past) ∙ eager_log me members past l
-unordered_log AllAck me members past l =
-    ap messages (ups_into all_ack_next all_ack_gives unordered_next unordered_gives all_ack (λ s c. refl) (λ s c. refl) (at_start me members) past) ∙ all_ack_log me members past l
+unordered_log Lazy me members past l = relay_log lazy_rules Lazy lazy (λ s c. refl) (λ s c. refl) lazy_is_module me members past l
+unordered_log Eager me members past l = relay_log eager_rules Eager eager (λ s c. refl) (λ s c. refl) eager_is_module me members past l
+unordered_log AllAck me members past l = relay_log all_ack_rules AllAck all_ack (λ s c. refl) (λ s c. refl) all_ack_is_module me members past l
 
 module _ (base : Base) (me : NodeId) (members : Nodes) where
   -- a fifo that was told nothing

@@ -19,12 +19,12 @@ use Rattle.gb_layer.specs.declared.call.Call.TheVariants.{Notice}
 use Rattle.gb_layer.specs.Machine.{nothing, after}
 use Rattle.gb_layer.specs.Relay.{State}
 use Rattle.gb_layer.specs.Rule.{Nodes, Rules, noticed_in}
-use Rattle.gb_layer.proofs.NodeSets.{again}
+use Rattle.gb_layer.proofs.NodeSetLemmas.{again}
 use Rattle.gb_reliable.specs.Rules.{lazy_rules, eager_rules}
 use Rattle.gb_uniform.specs.Rules.{all_ack_rules}
 use Rattle.gb_fifo.specs.Entries.{taken}
 use Rattle.gb_stack.specs.Kinds.{base_of, is_fifo}
-use Rattle.gb_stack.specs.StackState.{StackState, unordered, fifo, lazy, eager, all_ack, relayed_next, relayed_gives, unordered_next, unordered_gives, unordered_noticing, stack_next, stack_noticing, untold_stack, others_in, new_stack}
+use Rattle.gb_stack.specs.StackState.{StackState, unordered, fifo, lazy, eager, all_ack, relayed_next, relayed_gives, unordered_next, unordered_gives, unordered_me, unordered_noticing, IsEmpty, IsEmptyStack, stack_next, stack_me, stack_noticing, untold_stack, others_in, new_stack}
 use Rattle.gb_stack.specs.Stands.{is_other_noticed, HasHeard}
 
 -- a relay that was told notices alone
@@ -164,3 +164,32 @@ new_heard kind me members noticed old s nodes from heard =
         last false = refl
     all true y z false f = let e : false ≡ true = f refl in cc
     all false y z w f = refl
+
+-- a stack that was told nothing is at its node
+pub untold_me : (kind : Kind) (me : NodeId) (members : Nodes) → stack_me (untold_stack kind me members) ≡ me
+untold_me kind me members =
+    elim (is_fifo kind) as (λ b. stack_me (cond b (fifo (record { lower = unordered_noticing (base_of kind) me members set.empty; entries = [] })) (unordered (unordered_noticing (base_of kind) me members set.empty))) ≡ me) [
+      | true ↦ at (base_of kind)
+      | false ↦ at (base_of kind)
+    ]
+  where
+    at : (base : Base) → unordered_me (unordered_noticing base me members set.empty) ≡ me
+    at BestEffort = refl
+    at Lazy = refl
+    at Eager = refl
+    at AllAck = refl
+
+-- a new stack was told of no message
+pub new_empty : (kind : Kind) (me : NodeId) (members noticed : Nodes) → IsEmptyStack (new_stack kind me members noticed)
+new_empty kind me members noticed =
+    let nodes = others_in me members noticed in
+    elim (is_fifo kind) as (λ b. IsEmptyStack (cond b (fifo (record { lower = unordered_noticing (base_of kind) me members nodes; entries = [] })) (unordered (unordered_noticing (base_of kind) me members nodes)))) [
+      | true ↦ record { lower = none (base_of kind); entries = refl }
+      | false ↦ none (base_of kind)
+    ]
+  where
+    none : (base : Base) → IsEmpty (unordered_noticing base me members (others_in me members noticed))
+    none BestEffort = tt
+    none Lazy = record { lower = tt; entries = refl }
+    none Eager = record { lower = tt; entries = refl }
+    none AllAck = record { lower = tt; entries = refl }

@@ -1,7 +1,9 @@
 pub mod Kinds
 pub mod StackState
-pub mod Inside
-pub mod UnorderedLaws
-pub mod StackLaws
 pub mod Stands
 pub mod LogLaws
+pub mod StackRoom
+pub mod WholeLemmas
+pub mod StackLemmas
+pub mod UnorderedLemmas
+pub mod InsideLemmas

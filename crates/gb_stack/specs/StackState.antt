@@ -65,6 +65,13 @@ IsUntold (lazy s) = relay.IsNew (λ _. Unit {0}) s
 IsUntold (eager s) = relay.IsNew (λ _. Unit {0}) s
 IsUntold (all_ack s) = relay.IsNew (λ _. Unit {0}) s
 
+-- it was told of no message yet
+abbrev pub IsEmpty : UnorderedState → Type 0
+IsEmpty (best_effort s) = Unit {0}
+IsEmpty (lazy s) = relay.IsEmpty (λ _. Unit {0}) s
+IsEmpty (eager s) = relay.IsEmpty (λ _. Unit {0}) s
+IsEmpty (all_ack s) = relay.IsEmpty (λ _. Unit {0}) s
+
 -- what a stack remembers after a call
 abbrev pub stack_next : StackState → Call → StackState
 stack_next (unordered s) c = unordered (unordered_next s c)
@@ -84,6 +91,11 @@ stack_me (fifo s) = unordered_me s.lower
 abbrev pub IsUntoldStack : StackState → Type 0
 IsUntoldStack (unordered s) = IsUntold s
 IsUntoldStack (fifo s) = fifo_room.IsNew IsUntold s
+
+-- a stack was told of no message yet
+abbrev pub IsEmptyStack : StackState → Type 0
+IsEmptyStack (unordered s) = IsEmpty s
+IsEmptyStack (fifo s) = fifo_room.IsNew IsEmpty s
 
 -- a broadcast at a node, in a group with these members, that was told the notices of these nodes, and nothing more
 abbrev pub unordered_noticing : Base → NodeId → Nodes → Nodes → UnorderedState

@@ -1,16 +1,18 @@
 -- When a stack stands for a history, and what holds of it then.
-use Rattle.std.specs.Prelude.{◌≡◌, ℕ, Bool, ◌&&◌, not, nat_eq, nat_lt, List, ◌∷◌, ◌++◌, map}
+use Rattle.std.specs.Prelude.{◌≡◌, ℕ, ◌≤◌, Bool, ◌&&◌, not, nat_eq, nat_lt, List, ◌∷◌, ◌++◌, map, count_by}
 use Rattle.std.specs.FinSet as set
 use Rattle.std.specs.List.{list_any}
 use Rattle.gb_types.specs.declared.kind.Kind.{Kind}
+use Rattle.gb_types.specs.declared.limits.TheConstants.{NODES}
+use Rattle.gb_types.specs.declared.message.MsgId.{MsgId}
 use Rattle.gb_types.specs.declared.node.NodeId.{NodeId}
 use Rattle.gb_layer.specs.declared.call.Call.{Call}
 use Rattle.gb_layer.specs.declared.call.Call.TheVariants.{Notice}
-use Rattle.gb_layer.specs.Machine.{after, all_ups, messages}
+use Rattle.gb_layer.specs.Machine.{after, all_ups, messages, IsFair, is_of}
 use Rattle.gb_layer.specs.Modules.{IsLawful}
 use Rattle.gb_layer.specs.Rule.{Nodes}
 use Rattle.gb_stack.specs.Kinds.{kind_delivers, kind_broadcasts, kind_log}
-use Rattle.gb_stack.specs.StackState.{StackState, stack_next, stack_gives, untold_stack, new_stack}
+use Rattle.gb_stack.specs.StackState.{StackState, stack_next, stack_gives, stack_me, IsUntoldStack, untold_stack, new_stack}
 
 -- what a stack of a kind remembers at the node me, in a group with these members, after these calls, the newest first
 pub record IsStackAfter (kind : Kind) (me : NodeId) (members : Nodes) (calls : List Call) (value : StackState) : Type 0 where
@@ -32,6 +34,19 @@ pub record HasHeard {S : Type 0} (next : S → Call → S) (me : NodeId) (member
   pub qs : List NodeId
   pub tell : (b : ℕ) → list_any (λ q. nat_eq q.number b) qs ≡ (is_other_noticed me members noticed b && nat_lt b bound)
   pub is : new ≡ after next old (map Notice qs)
+
+-- a stack that was told nothing was told of the other members that were noticed, and of nothing more
+pub record HasStarted (me : NodeId) (members noticed : Nodes) (value : StackState) : Type 0 where
+  pub start : StackState
+  pub untold : IsUntoldStack start
+  pub here : stack_me start ≡ me
+  pub heard : HasHeard stack_next me members noticed NODES start value
+
+-- whatever a stack that so started is then told, no message comes up twice, where the caller keeps its conditions
+abbrev pub StartedHandsUpEachOnce : Type 0
+StartedHandsUpEachOnce =
+    (me : NodeId) (members noticed : Nodes) (value : StackState) (past : List Call) (m : MsgId)
+    → HasStarted me members noticed value → IsFair me.number past → count_by (is_of m) (all_ups stack_next stack_gives value past) ≤ 1
 
 -- after a call a stack stands for the history with it
 abbrev pub CalledStackStands : Type 0

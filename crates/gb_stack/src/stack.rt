@@ -3,9 +3,11 @@ ghost use Rattle.std.specs.Prelude.{◌≡◌, ℕ, ◌+◌, ◌++◌, IfOk, if�
 ghost use Rattle.gb_types.specs.declared.limits.TheConstants.{NODES};
 ghost use Rattle.gb_layer.specs.declared.call.Call.TheVariants.{Notice};
 ghost use Rattle.gb_layer.specs.Room.{free_sends, free_ups};
-ghost use Rattle.gb_stack.specs.Stands.{is_other_noticed, HasHeard};
-ghost use Rattle.gb_stack.specs.StackState.{StackState, unordered, fifo, stack_next, stack_gives, stack_me, IsUntoldStack, untold_stack, new_stack};
-ghost use Rattle.gb_stack.specs.StackLaws.{stack_room, stack_roomier, stack_me_stays, stack_own, stack_sends_handed_in, stack_ups_handed_in, stack_up_once, stack_sent_once, stack_noticed_once};
+ghost use Rattle.gb_stack.specs.Stands.{is_other_noticed, HasHeard, HasStarted};
+ghost use Rattle.gb_stack.specs.StackState.{StackState, unordered, fifo, stack_next, stack_gives, stack_me, IsUntoldStack, IsEmptyStack, untold_stack, new_stack};
+ghost use Rattle.gb_stack.specs.StackRoom.{stack_room, stack_whole, stack_need};
+ghost use Rattle.gb_stack.specs.WholeLemmas.{stack_whole_room};
+ghost use Rattle.gb_stack.specs.StackLemmas.{stack_roomier, stack_me_stays, stack_own, stack_sends_handed_in, stack_ups_handed_in, stack_up_once, stack_sent_once, stack_noticed_once};
 ghost use Rattle.gb_stack.specs.declared.stack.Stack.TheVariants as variant;
 
 use crate::kinds::{base, is_fifo};
@@ -17,7 +19,6 @@ use gb_layer::layer::{Broadcast, Layer};
 use gb_types::kind::Kind;
 use gb_types::limits::NODES;
 use gb_types::memory::OutOfMemory;
-use gb_types::message::MsgId;
 use gb_types::node::{NodeId, NodeSet};
 use gb_types::spec::Spec;
 use std::alloc::Global;
@@ -71,7 +72,8 @@ pub enum Stack {
 impl Stack {
     /// A stack that was told nothing.
     fn untold(alloc: Global, kind: Kind, me: NodeId, members: NodeSet) -> Stack
-        ensures { ⟦<Stack as Layer>⟧.meaning result ≡ untold_stack kind me members }
+        ensures meaning { ⟦<Stack as Layer>⟧.meaning result ≡ untold_stack kind me members }
+        ensures fresh { ⟦<Stack as Layer>⟧.is_fresh (⟦<Stack as Layer>⟧.meaning result) }
     {
         let lower = Unordered::new(alloc, base(kind), me, members);
         if is_fifo(kind) {
@@ -81,23 +83,6 @@ impl Stack {
         }
     }
 
-    /// Takes any call.
-    fn step(&mut self, call: Call, out: &mut Effects)
-        requires { stack_room self.old (free_sends out.old) (free_ups out.old) 1 }
-        ensures meaning { ⟦<Stack as Layer>⟧.meaning self.new ≡ stack_next (⟦<Stack as Layer>⟧.meaning self.old) call }
-        ensures sends { out.new.sends.items ≡ out.old.sends.items ++ (stack_gives (⟦<Stack as Layer>⟧.meaning self.old) call).sends }
-        ensures ups { out.new.ups.items ≡ out.old.ups.items ++ (stack_gives (⟦<Stack as Layer>⟧.meaning self.old) call).ups }
-        ensures room { (n : ℕ) → stack_room self.old (free_sends out.old) (free_ups out.old) (n + 1)
-            → stack_room self.new (free_sends out.new) (free_ups out.new) n }
-    {
-        match self {
-            Stack::Unordered(layer) => layer.take(call, out),
-            Stack::Fifo(layer) => layer.take(call, out),
-        }
-    }
-}
-
-impl Stack {
     /// The stack of a group at the node me, which has noticed these nodes: the stack starts as if it had been told,
     /// one after the other, that the other members among them were noticed to have crashed.
     pub fn new(
@@ -106,7 +91,9 @@ impl Stack {
         me: NodeId,
         noticed: &NodeSet,
     ) -> Result<Stack, OutOfMemory>
-        ensures { IfOk result (λ s. ⟦<Stack as Layer>⟧.meaning s ≡ new_stack spec.now.kind me spec.now.members noticed.now) }
+        ensures meaning { IfOk result (λ s. ⟦<Stack as Layer>⟧.meaning s ≡ new_stack spec.now.kind me spec.now.members noticed.now) }
+        ensures empty { IfOk result (λ s. ⟦<Stack as Layer>⟧.is_empty (⟦<Stack as Layer>⟧.meaning s)) }
+        ensures started { IfOk result (λ s. HasStarted me spec.now.members noticed.now (⟦<Stack as Layer>⟧.meaning s)) }
     {
         let mut stack = Stack::untold(alloc, spec.kind, me, spec.members.duplicate());
         let mut out = Effects::new(alloc);
@@ -130,11 +117,17 @@ impl Layer for Stack {
 
     ghost is_fresh = { IsUntoldStack };
 
+    ghost is_empty = { IsEmptyStack };
+
     ghost next = { stack_next };
 
     ghost gives = { stack_gives };
 
     ghost has_room = { stack_room };
+
+    ghost is_whole = { stack_whole };
+
+    ghost need = { stack_need };
 
     fn me(&self) -> NodeId {
         match self {
@@ -150,16 +143,24 @@ impl Layer for Stack {
         }
     }
 
-    fn say(&mut self, m: MsgId, out: &mut Effects) {
-        self.step(Call::Say(m), out);
+    fn whole(
+        &mut self,
+        members: &NodeSet,
+        msgs: u16,
+        calls: usize,
+        out: &mut Effects,
+    ) -> Result<(), OutOfMemory> {
+        match self {
+            Stack::Unordered(layer) => layer.whole(members, msgs, calls, out),
+            Stack::Fifo(layer) => layer.whole(members, msgs, calls, out),
+        }
     }
 
-    fn came(&mut self, from: NodeId, m: MsgId, out: &mut Effects) {
-        self.step(Call::Came(from, m), out);
-    }
-
-    fn notice(&mut self, who: NodeId, out: &mut Effects) {
-        self.step(Call::Notice(who), out);
+    fn take(&mut self, call: Call, out: &mut Effects) {
+        match self {
+            Stack::Unordered(layer) => layer.take(call, out),
+            Stack::Fifo(layer) => layer.take(call, out),
+        }
     }
 
     ghost roomier = { stack_roomier };
@@ -175,6 +176,8 @@ impl Layer for Stack {
     ghost sent_once = { stack_sent_once };
 
     ghost noticed_once = { stack_noticed_once };
+
+    ghost whole_room = { stack_whole_room };
 }
 
 impl Broadcast for Stack {

@@ -1,6 +1,9 @@
 //! What a stack stands for: laws, with no code.
 ghost use Rattle.gb_stack.specs.LogLaws.{FifoLogRuns, KindLogMentioned, KindLogOnce};
-ghost use Rattle.gb_stack.specs.Stands.{NewStackStands, CalledStackStands, HandsUpWhatIsDelivered, SendsWhatIsBroadcast, HandsUpTheLog, LogGrows};
+ghost use Rattle.gb_stack.specs.Stands.{NewStackStands, CalledStackStands, HandsUpWhatIsDelivered, SendsWhatIsBroadcast, HandsUpTheLog, LogGrows, StartedHandsUpEachOnce};
+
+use crate::stack::Stack;
+use gb_layer::modules::each_once;
 
 /// What a stack remembers stands for the history of its calls: a new stack stands for the notices that it starts
 /// with, and a call adds itself. For each lawful history that a stack stands for, what a call hands up is what the
@@ -21,3 +24,10 @@ pub fn logs()
     ensures once { KindLogOnce }
     ensures mentioned { KindLogMentioned }
 {}
+
+/// The laws of a broadcast hold of a stack as `Stack::new` makes it: no message comes up twice.
+pub fn starts()
+    ensures { StartedHandsUpEachOnce }
+{
+    each_once::<Stack>();
+}

@@ -1,9 +1,11 @@
+ghost use Rattle.std.specs.Prelude.{IfOk};
+
 use crate::stack::Stack;
 use crate::{plain, stands};
 use gb_layer::call::Call;
 use gb_layer::effects::{Effects, Up};
 use gb_layer::layer::{Broadcast, Layer};
-use gb_layer::modules;
+use gb_layer::whole::take_two;
 use gb_types::kind::Kind;
 use gb_types::memory::OutOfMemory;
 use gb_types::message::MsgId;
@@ -59,15 +61,22 @@ const CALLS: [Call; 9] = [
     Call::Notice(OTHER),
 ];
 
-/// A stack of a kind, at a node that noticed these.
-fn stack(alloc: Global, kind: Kind, noticed: &NodeSet) -> Result<Stack, OutOfMemory> {
+/// The members, as a set.
+fn members() -> NodeSet {
     let mut members = NodeSet::new();
     for member in MEMBERS {
         members.insert(member);
     }
+    members
+}
+
+/// A stack of a kind, at a node that noticed these.
+fn stack(alloc: Global, kind: Kind, noticed: &NodeSet) -> Result<Stack, OutOfMemory>
+    ensures { IfOk result (λ s. ⟦<Stack as Layer>⟧.is_empty (⟦<Stack as Layer>⟧.meaning s)) }
+{
     let spec = Spec {
         kind,
-        members,
+        members: members(),
         msgs: 8,
         bytes: 4_096,
         window: 4,
@@ -169,7 +178,7 @@ fn compare_all(rt: &impl Abort, alloc: Global, noticed: &[NodeId]) -> Result<(),
 fn each_stack_is_its_plain_kind(rt: HostRuntime) -> Result<(), Fail> {
     stands::stands();
     stands::logs();
-    modules::each_once::<Stack>();
+    stands::starts();
     compare_all(&rt, rt.alloc(), &[])
 }
 
@@ -257,5 +266,32 @@ fn fifo_lazy_waits_and_relays(rt: HostRuntime) -> Result<(), Fail> {
         ]
         .as_slice()
     );
+    Ok(())
+}
+
+/// Each stack, of a new node and of one that noticed another, takes its memory once: two copies of a message then
+/// send and bring up what the plain program says. The last number that the limit allows is allowed, the next is not.
+#[test]
+fn each_stack_takes_its_memory_once(rt: HostRuntime) -> Result<(), Fail> {
+    let first = Call::Came(ORIGIN, FIRST);
+    let second = Call::Came(OTHER, FIRST);
+    for kind in KINDS {
+        let mut layer = stack(rt.alloc(), kind, &NodeSet::new())?;
+        let mut out = Effects::new(rt.alloc());
+        assert!(rt; take_two(&mut layer, &members(), 1, first, second, &mut out)?);
+        let mut log = plain::log(rt.alloc(), kind, ME, &MEMBERS, &[first])?;
+        for up in &out.ups {
+            log.push(up.m)?;
+        }
+        let told = plain::log(rt.alloc(), kind, ME, &MEMBERS, &[second, first])?;
+        assert_eq!(rt; log.as_slice(), told.as_slice());
+        let broadcasts = plain::broadcasts(rt.alloc(), kind, ME, &[second, first])?;
+        assert_eq!(rt; out.sends.as_slice(), broadcasts.as_slice());
+        let mut noticed = NodeSet::new();
+        noticed.insert(OTHER);
+        let mut layer = stack(rt.alloc(), kind, &noticed)?;
+        let beyond = Call::Came(ORIGIN, SECOND);
+        assert!(rt; !take_two(&mut layer, &members(), 1, first, beyond, &mut out)?);
+    }
     Ok(())
 }

@@ -1,9 +1,11 @@
 //! The broadcasts that keep no order.
-ghost use Rattle.std.specs.Prelude.{◌≡◌, ℕ, ◌+◌, ◌++◌};
+ghost use Rattle.std.specs.Prelude.{◌≡◌, ◌≤◌, OnOk};
 ghost use Rattle.std.specs.FinSet as set;
 ghost use Rattle.gb_layer.specs.Room.{free_sends, free_ups};
-ghost use Rattle.gb_stack.specs.StackState.{UnorderedState, best_effort, lazy, eager, all_ack, unordered_next, unordered_gives, unordered_me, IsUntold, unordered_noticing};
-ghost use Rattle.gb_stack.specs.UnorderedLaws.{unordered_room, unordered_roomier, unordered_me_stays, unordered_own, unordered_sends_handed_in, unordered_ups_handed_in, unordered_up_once, unordered_sent_once, unordered_noticed_once};
+ghost use Rattle.gb_stack.specs.StackState.{UnorderedState, best_effort, lazy, eager, all_ack, unordered_next, unordered_gives, unordered_me, IsUntold, IsEmpty, unordered_noticing};
+ghost use Rattle.gb_stack.specs.StackRoom.{unordered_room, unordered_whole, stack_need};
+ghost use Rattle.gb_stack.specs.WholeLemmas.{unordered_whole_room};
+ghost use Rattle.gb_stack.specs.UnorderedLemmas.{unordered_roomier, unordered_me_stays, unordered_own, unordered_sends_handed_in, unordered_ups_handed_in, unordered_up_once, unordered_sent_once, unordered_noticed_once};
 ghost use Rattle.gb_stack.specs.declared.unordered.Unordered.TheVariants as variant;
 
 use gb_layer::base::Base;
@@ -16,7 +18,6 @@ use gb_layer::relay::Relay;
 use gb_reliable::eager::{Eager, Eagerly};
 use gb_reliable::lazy::{Lazily, Lazy};
 use gb_types::memory::OutOfMemory;
-use gb_types::message::MsgId;
 use gb_types::node::{NodeId, NodeSet};
 use gb_uniform::all_ack::{AllAck, AllAcked};
 use std::alloc::Global;
@@ -37,7 +38,8 @@ pub enum Unordered {
 impl Unordered {
     /// A module's broadcast at the node me, in a group with these members, that was told nothing yet.
     pub fn new(alloc: Global, base: Base, me: NodeId, members: NodeSet) -> Unordered
-        ensures { ⟦<Unordered as Layer>⟧.meaning result ≡ unordered_noticing base me members set.empty }
+        ensures meaning { ⟦<Unordered as Layer>⟧.meaning result ≡ unordered_noticing base me members set.empty }
+        ensures fresh { ⟦<Unordered as Layer>⟧.is_fresh (⟦<Unordered as Layer>⟧.meaning result) }
     {
         let lower = Beb::new(me);
         match base {
@@ -47,23 +49,27 @@ impl Unordered {
             Base::AllAck => Unordered::AllAck(Relay::new(alloc, lower, AllAcked, members)),
         }
     }
+}
 
-    /// Takes any call.
-    fn step(&mut self, call: Call, out: &mut Effects)
-        requires { unordered_room self.old (free_sends out.old) (free_ups out.old) 1 }
-        ensures meaning { ⟦<Unordered as Layer>⟧.meaning self.new ≡ unordered_next (⟦<Unordered as Layer>⟧.meaning self.old) call }
-        ensures sends { out.new.sends.items ≡ out.old.sends.items ++ (unordered_gives (⟦<Unordered as Layer>⟧.meaning self.old) call).sends }
-        ensures ups { out.new.ups.items ≡ out.old.ups.items ++ (unordered_gives (⟦<Unordered as Layer>⟧.meaning self.old) call).ups }
-        ensures room { (n : ℕ) → unordered_room self.old (free_sends out.old) (free_ups out.old) (n + 1)
-            → unordered_room self.new (free_sends out.new) (free_ups out.new) n }
-    {
-        match self {
-            Unordered::BestEffort(layer) => layer.take(call, out),
-            Unordered::Lazy(layer) => layer.take(call, out),
-            Unordered::Eager(layer) => layer.take(call, out),
-            Unordered::AllAck(layer) => layer.take(call, out),
-        }
-    }
+/// Makes room in `out` for all that so many calls within a limit give, of whichever broadcast.
+fn reserve_most(
+    members: &NodeSet,
+    msgs: u16,
+    calls: usize,
+    out: &mut Effects,
+) -> Result<(), OutOfMemory>
+    ensures sends { out.new.sends.items ≡ out.old.sends.items }
+    ensures ups { out.new.ups.items ≡ out.old.ups.items }
+    ensures free_sends { OnOk result ((stack_need (record { members = members.now; msgs = msgs; calls = calls })).sends ≤ free_sends out.new) }
+    ensures free_ups { OnOk result ((stack_need (record { members = members.now; msgs = msgs; calls = calls })).ups ≤ free_ups out.new) }
+{
+    let count = members.count_in(members);
+    let messages = count.checked_mul(usize::from(msgs)).ok_or(OutOfMemory)?;
+    let once = messages.checked_add(calls).ok_or(OutOfMemory)?;
+    let sends = once.checked_add(calls).ok_or(OutOfMemory)?;
+    out.sends.reserve(sends)?;
+    out.ups.reserve(once)?;
+    Ok(())
 }
 
 impl Layer for Unordered {
@@ -80,11 +86,17 @@ impl Layer for Unordered {
 
     ghost is_fresh = { IsUntold };
 
+    ghost is_empty = { IsEmpty };
+
     ghost next = { unordered_next };
 
     ghost gives = { unordered_gives };
 
     ghost has_room = { unordered_room };
+
+    ghost is_whole = { unordered_whole };
+
+    ghost need = { stack_need };
 
     fn me(&self) -> NodeId {
         match self {
@@ -104,16 +116,28 @@ impl Layer for Unordered {
         }
     }
 
-    fn say(&mut self, m: MsgId, out: &mut Effects) {
-        self.step(Call::Say(m), out);
+    fn whole(
+        &mut self,
+        members: &NodeSet,
+        msgs: u16,
+        calls: usize,
+        out: &mut Effects,
+    ) -> Result<(), OutOfMemory> {
+        match self {
+            Unordered::BestEffort(_) => reserve_most(members, msgs, calls, out),
+            Unordered::Lazy(layer) => layer.whole(members, msgs, calls, out),
+            Unordered::Eager(layer) => layer.whole(members, msgs, calls, out),
+            Unordered::AllAck(layer) => layer.whole(members, msgs, calls, out),
+        }
     }
 
-    fn came(&mut self, from: NodeId, m: MsgId, out: &mut Effects) {
-        self.step(Call::Came(from, m), out);
-    }
-
-    fn notice(&mut self, who: NodeId, out: &mut Effects) {
-        self.step(Call::Notice(who), out);
+    fn take(&mut self, call: Call, out: &mut Effects) {
+        match self {
+            Unordered::BestEffort(layer) => layer.take(call, out),
+            Unordered::Lazy(layer) => layer.take(call, out),
+            Unordered::Eager(layer) => layer.take(call, out),
+            Unordered::AllAck(layer) => layer.take(call, out),
+        }
     }
 
     ghost roomier = { unordered_roomier };
@@ -129,6 +153,8 @@ impl Layer for Unordered {
     ghost sent_once = { unordered_sent_once };
 
     ghost noticed_once = { unordered_noticed_once };
+
+    ghost whole_room = { unordered_whole_room };
 }
 
 impl Broadcast for Unordered {

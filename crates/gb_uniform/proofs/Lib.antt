@@ -1,1 +1,1 @@
-pub mod ByCalls
+pub mod ModuleLemmas

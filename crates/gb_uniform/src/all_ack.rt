@@ -1,6 +1,6 @@
 //! All-ack uniform reliable broadcast.
 ghost use Rattle.gb_uniform.specs.Rules.{all_ack_rules};
-ghost use Rattle.gb_uniform.specs.AllAckLaws.{all_ack_more, all_ack_delivers_more, all_ack_own};
+ghost use Rattle.gb_uniform.specs.AllAckLemmas.{all_ack_more, all_ack_delivers_more, all_ack_own};
 
 use gb_layer::relay::Relay;
 use gb_layer::rule::Rule;

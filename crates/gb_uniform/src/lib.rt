@@ -5,5 +5,3 @@
 
 pub mod all_ack;
 pub mod modules;
-#[cfg(test)]
-mod tests;

@@ -13,7 +13,6 @@ use crate::all_ack::AllAcked;
 use gb_layer::beb::Beb;
 use gb_layer::layer::Layer;
 use gb_layer::relay::Relay;
-use gb_layer::relays;
 
 /// `AllAck` over `Beb` at the node me, in a group with these members, is all-ack uniform reliable broadcast: over every
 /// lawful history what a call hands up is what it delivers, what it sends is what it broadcasts, and all that
@@ -25,6 +24,4 @@ pub fn all_ack()
         → (⟦<Relay<Beb, AllAcked> as Layer>⟧.gives (after ⟦<Relay<Beb, AllAcked> as Layer>⟧.next (at_start me members) past) c).sends ≡ broadcasts AllAck me.number c past }
     ensures log { (me : NodeId) (members : Nodes) (past : List Call) → IsLawful me.number past
         → messages (all_ups ⟦<Relay<Beb, AllAcked> as Layer>⟧.next ⟦<Relay<Beb, AllAcked> as Layer>⟧.gives (at_start me members) past) ≡ log AllAck me.number (set.items members) past }
-{
-    relays::relays::<AllAcked>();
-}
+{}

@@ -1,5 +1,5 @@
 use Rattle.std.proofs.Common.{ap, sym, ◌∙◌}
-use Rattle.gb_layer.proofs.Mapped.{mapped_more}
+use Rattle.gb_layer.proofs.MappedLemmas.{mapped_more}
 use Rattle.gb_fifo.specs.Entries.{brought}
 use Rattle.gb_fifo.proofs.ledger.bring_all.Goals as goal
 

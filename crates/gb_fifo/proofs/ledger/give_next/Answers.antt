@@ -4,7 +4,7 @@ use Rattle.std.proofs.lemmas.List.{append-nil}
 use Rattle.std.specs.declared.option.Option.TheVariants.{Some}
 use Rattle.gb_fifo.specs.declared.entry.Entry.{Entry}
 use Rattle.gb_fifo.specs.Entries.{next_of, given_of, is_ungiven, IsPlace}
-use Rattle.gb_fifo.proofs.Placed.{none_given, none_picked, given_at, picked_at, any_at, fewer}
+use Rattle.gb_fifo.proofs.PlacedLemmas.{none_given, none_picked, given_at, picked_at, any_at, fewer}
 use Rattle.gb_fifo.proofs.ledger.give_next.Goals as goal
 
 pub give_one-requires : goal.give_one-requires

@@ -1,6 +1,6 @@
 use Rattle.std.proofs.Common.{◌≡◌, ◌<◌, ◌-◌, ◌++◌, ◌∙◌, ap, sym, arith, rules, length}
 use Rattle.gb_fifo.specs.Entries.{released, released_ups}
-use Rattle.gb_fifo.proofs.Placed.{released_more, released_ups_more, released_done, released_ups_done}
+use Rattle.gb_fifo.proofs.PlacedLemmas.{released_more, released_ups_more, released_done, released_ups_done}
 use Rattle.gb_fifo.proofs.ledger.release.Goals as goal
 
 pub returns-then-not-give_next-clause-items : goal.returns-then-not-give_next-clause-items
@@ -37,4 +37,5 @@ loop-i-preserved c =
       room = (let a = c.give_next.ensures.room in let b = c.loop-i.invariant.room in omega (arith, a, b));
       capacity = c.give_next.ensures.capacity ∙ c.loop-i.invariant.capacity;
       len = c.give_next.ensures.len ∙ c.loop-i.invariant.len;
+      memory = (let a = c.give_next.ensures.memory in let b = c.loop-i.invariant.memory in omega (arith, a, b));
     }

@@ -13,4 +13,5 @@ invariant-loop-i l =
       room : free_ups l.fn.out + count_by is_ungiven l.entries.items ≤ free_ups l.out + count_by is_ungiven l.fn.entries.items;
       capacity : vec_capacity l.entries ≡ vec_capacity l.fn.entries;
       len : vec_len l.entries ≡ vec_len l.fn.entries;
+      memory : vec_capacity l.fn.out.ups ≤ vec_capacity l.out.ups;
     }

@@ -1,6 +1,6 @@
 use Rattle.std.proofs.Common.{ap}
-use Rattle.gb_fifo.specs.FifoLaws.{lower_after}
-use Rattle.gb_fifo.proofs.FifoOrder.{call_order, fifo_order}
+use Rattle.gb_fifo.specs.FifoLemmas.{lower_after}
+use Rattle.gb_fifo.proofs.FifoOrderLemmas.{call_order, fifo_order}
 use Rattle.gb_fifo.proofs.order.in_origin_order.Goals as goal
 
 pub returns-clause-up : goal.returns-clause-up

@@ -1,7 +1,7 @@
 use Rattle.std.proofs.Common.{◌≡◌, ◌∙◌, arith, ◌<◌, length, get_or}
 use Rattle.gb_layer.specs.Relay.{due_to_deliver, handed, up_of, is_ungiven}
 use Rattle.gb_layer.specs.Counts.{count_by-set}
-use Rattle.gb_layer.proofs.Mapped.{mapped_more, mapped_at, picked_more}
+use Rattle.gb_layer.proofs.MappedLemmas.{mapped_more, mapped_at, picked_more}
 use Rattle.gb_layer.proofs.relay.deliver_all.Goals as goal
 
 pub loop-i-preserved : goal.loop-i-preserved
@@ -24,6 +24,7 @@ loop-i-preserved g c =
       ups = picked_more up_of due xs c.loop-i.out.ups.items c.args.out.now.ups.items c.deliver_one.new.out.ups.items i x c.loop-i.invariant.ups c.deliver_one.ensures.ups (mapped_at (handed due) xs es i x c.loop-i.invariant.items lt is) lt;
       sends = c.deliver_one.ensures.sends ∙ c.loop-i.invariant.sends;
       room = (let a = c.deliver_one.ensures.room in let b = c.loop-i.invariant.room in omega (arith, a, b, k));
+      ups_memory = (let a = c.deliver_one.ensures.ups_memory in let b = c.loop-i.invariant.ups_memory in omega (arith, a, b));
       capacity = c.loop-i.invariant.capacity;
       len = c.loop-i.invariant.len;
     }

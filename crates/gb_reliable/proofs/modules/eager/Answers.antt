@@ -1,12 +1,11 @@
-use Rattle.gb_layer.specs.declared.base.Base.TheVariants.{Eager}
-use Rattle.gb_reliable.specs.EagerLaws.{eager_broadcasts_as, eager_delivers_as}
+use Rattle.gb_reliable.proofs.ModuleLemmas.{eager_is_module}
 use Rattle.gb_reliable.proofs.modules.eager.Goals as goal
 
 pub returns-clause-up : goal.returns-clause-up
-returns-clause-up c = c.relays.ensures.module_up Eager eager_delivers_as
+returns-clause-up c = eager_is_module.up
 
 pub returns-clause-out : goal.returns-clause-out
-returns-clause-out c = c.relays.ensures.module_out Eager eager_broadcasts_as
+returns-clause-out c = eager_is_module.out
 
 pub returns-clause-log : goal.returns-clause-log
-returns-clause-log c = c.relays.ensures.module_log Eager eager_delivers_as
+returns-clause-log c = eager_is_module.log

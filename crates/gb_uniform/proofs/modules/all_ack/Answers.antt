@@ -1,12 +1,11 @@
-use Rattle.gb_layer.specs.declared.base.Base.TheVariants.{AllAck}
-use Rattle.gb_uniform.specs.AllAckLaws.{all_ack_broadcasts_as, all_ack_delivers_as}
+use Rattle.gb_uniform.proofs.ModuleLemmas.{all_ack_is_module}
 use Rattle.gb_uniform.proofs.modules.all_ack.Goals as goal
 
 pub returns-clause-up : goal.returns-clause-up
-returns-clause-up c = c.relays.ensures.module_up AllAck all_ack_delivers_as
+returns-clause-up c = all_ack_is_module.up
 
 pub returns-clause-out : goal.returns-clause-out
-returns-clause-out c = c.relays.ensures.module_out AllAck all_ack_broadcasts_as
+returns-clause-out c = all_ack_is_module.out
 
 pub returns-clause-log : goal.returns-clause-log
-returns-clause-log c = c.relays.ensures.module_log AllAck all_ack_delivers_as
+returns-clause-log c = all_ack_is_module.log

@@ -2,14 +2,23 @@ use Rattle.std.proofs.Common.{arith, ◌≡◌, ◌+◌, ◌-◌, count_by, ap, 
 use Rattle.gb_layer.specs.Room.{free_sends}
 use Rattle.gb_layer.specs.Relay.{is_unsent, due_to_deliver}
 use Rattle.gb_layer.specs.RelayState.{unsent}
-use Rattle.gb_layer.proofs.Counted.{handed_unsent}
+use Rattle.gb_layer.proofs.CountedLemmas.{handed_unsent}
+use Rattle.std.proofs.Common.{rules}
+use Rattle.gb_layer.specs.EntryLemmas.{keys, keys_handed}
+use Rattle.gb_layer.specs.WholeLemmas.{whole_kept}
 use Rattle.gb_layer.proofs.relay.Relay.finish.Goals as goal
 
 pub returns-clause-room : goal.returns-clause-room
 returns-clause-room g c = λ n room.
     let due = due_to_deliver g.R.Rule.rules c.me-me.result c.relay_all.new.self.members c.relay_all.new.self.noticed in
-    let e : count_by is_unsent c.deliver_all.new.entries.items ≡ unsent c.relay_all.new.self = ap (count_by is_unsent) c.deliver_all.ensures.items ∙ handed_unsent due c.relay_all.new.self.entries.items in
-    let f : free_sends c.deliver_all.new.out ≡ free_sends c.relay_all.new.out = ap (λ v. vec_capacity v - vec_len v) c.deliver_all.ensures.sends in
+    let e : count_by is_unsent c.deliver_in.new.ledger.list.items ≡ unsent c.relay_all.new.self = ap (count_by is_unsent) c.deliver_in.ensures.items ∙ handed_unsent due c.relay_all.new.self.entries.list.items in
+    let f : free_sends c.deliver_in.new.out ≡ free_sends c.relay_all.new.out = ap (λ v. vec_capacity v - vec_len v) c.deliver_in.ensures.sends in
     let b = vec_capacity c.relay_all.new.self.below in
-    g.met.L.Layer.roomier c.relay_all.new.self.lower (free_sends c.relay_all.new.out) b (n + unsent c.relay_all.new.self) (free_sends c.deliver_all.new.out) b (n + count_by is_unsent c.deliver_all.new.entries.items)
+    g.met.L.Layer.roomier c.relay_all.new.self.lower (free_sends c.relay_all.new.out) b (n + unsent c.relay_all.new.self) (free_sends c.deliver_in.new.out) b (n + count_by is_unsent c.deliver_in.new.ledger.list.items)
     (omega (arith, f)) (omega arith) (omega (arith, e)) (c.relay_all.ensures.room n room)
+
+pub returns-clause-whole : goal.returns-clause-whole
+returns-clause-whole g c = λ l w.
+    let due = due_to_deliver g.R.Rule.rules c.me-me.result c.relay_all.new.self.members c.relay_all.new.self.noticed in
+    whole_kept g.L.Layer.is_whole g.L.Layer.need c.relay_all.new.self _ l (λ k. k) (omega arith) (search rules)
+    (ap keys c.deliver_in.ensures.items ∙ keys_handed due c.relay_all.new.self.entries.list.items) (c.relay_all.ensures.whole l w)

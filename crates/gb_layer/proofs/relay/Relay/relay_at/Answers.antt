@@ -2,7 +2,11 @@ use Rattle.std.proofs.Common.{arith, ◌≡◌, ◌+◌, vec_capacity, count_by,
 use Rattle.gb_layer.specs.Room.{free_sends}
 use Rattle.gb_layer.specs.Relay.{is_unsent, is_ungiven, marked_sent}
 use Rattle.gb_layer.specs.RelayState.{unsent}
-use Rattle.gb_layer.proofs.Counted.{all_marked_ungiven}
+use Rattle.gb_layer.proofs.CountedLemmas.{all_marked_ungiven}
+use Rattle.std.proofs.Common.{rules}
+use Rattle.gb_layer.specs.EntryLemmas.{keys, keys_marked}
+use Rattle.gb_layer.specs.RelayState.{state_of}
+use Rattle.gb_layer.specs.WholeLemmas.{whole_kept, due_counted}
 use Rattle.gb_layer.proofs.relay.Relay.relay_at.Goals as goal
 
 pub call_lower-requires : goal.call_lower-requires
@@ -15,7 +19,7 @@ call_lower-requires g c =
 pub returns-in-Some-clause-room : goal.returns-in-Some-clause-room
 returns-in-Some-clause-room g c = λ n room.
     let h = c.in-Some.ensures.unsent in
-    let e : unsent c.call_lower.new.self ≡ count_by is_unsent (map (marked_sent c.in-Some.m) c.args.self.now.entries.items) = c.call_lower.ensures.unsent ∙ ap (count_by is_unsent) c.mark_sent.ensures.items in
+    let e : unsent c.call_lower.new.self ≡ count_by is_unsent (map (marked_sent c.in-Some.m) c.args.self.now.entries.list.items) = c.call_lower.ensures.unsent ∙ ap (count_by is_unsent) c.mark_sent.ensures.items in
     let a = free_sends c.args.out.now in
     let b = vec_capacity c.args.self.now.below in
     c.call_lower.ensures.room (n + unsent c.call_lower.new.self)
@@ -23,4 +27,11 @@ returns-in-Some-clause-room g c = λ n room.
 
 pub returns-in-Some-clause-ungiven : goal.returns-in-Some-clause-ungiven
 returns-in-Some-clause-ungiven g c =
-    c.call_lower.ensures.ungiven ∙ (ap (count_by is_ungiven) c.mark_sent.ensures.items ∙ all_marked_ungiven c.in-Some.m c.args.self.now.entries.items)
+    c.call_lower.ensures.ungiven ∙ (ap (count_by is_ungiven) c.mark_sent.ensures.items ∙ all_marked_ungiven c.in-Some.m c.args.self.now.entries.list.items)
+
+pub returns-in-Some-clause-whole : goal.returns-in-Some-clause-whole
+returns-in-Some-clause-whole g c = λ l w.
+    let L = g.L.Layer in
+    c.call_lower.ensures.whole l
+    (whole_kept L.is_whole L.need c.args.self.now _ l (λ k. k) (omega arith) (search rules) (ap keys c.mark_sent.ensures.items ∙ keys_marked c.in-Some.m c.args.self.now.entries.list.items) w)
+    (due_counted L.next L.gives L.me g.R.Rule.rules (state_of L.meaning c.args.self.now) l c.args.i c.in-Some.m c.in-Some.ensures.message w.counted)

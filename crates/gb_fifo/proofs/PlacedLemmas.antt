@@ -1,0 +1,93 @@
+-- The first entry that passes a test is handed up, and the next message of an origin again and again.
+use Rattle.std.proofs.Common.{◌≡◌, ℕ, ◌+◌, ◌-◌, ◌<◌, Bool, true, false, cond, not, List, [], ◌∷◌, ◌++◌, take, set, get_or, length, count_by, refl, ap, sym, ◌∙◌, arith, zero, suc, append_assoc}
+use Rattle.std.specs.declared.option.Option.TheVariants.{Some}
+use Rattle.std.specs.List.{list_any}
+use Rattle.std.proofs.lemmas.List.Folds.{list_any_at}
+use Rattle.std.proofs.lemmas.Option.{slice_get-get_or}
+use Rattle.gb_layer.specs.declared.effects.Up.{Up}
+use Rattle.gb_layer.specs.Bools.{or_left, or_right}
+use Rattle.gb_layer.specs.Counts.{count_by-cons, count_by-set}
+use Rattle.gb_fifo.specs.declared.entry.Entry.{Entry}
+use Rattle.gb_fifo.specs.Entries.{give, pick, given_entry, up_of, is_ungiven, is_next, IsPlace, released, released_ups, next_of}
+use Rattle.gb_fifo.specs.EntryLemmas.{next_new}
+
+-- where none passes, nothing is handed up
+pub none_given : (p : Entry → Bool) (es : List Entry) → list_any p es ≡ false → es ≡ give p es
+none_given p [] h = refl
+none_given p (e ∷ es) h = ap (λ xs. e ∷ xs) (none_given p es (or_right (p e) _ h)) ∙ ap (λ b. cond b (given_entry e ∷ es) (e ∷ give p es)) (sym (or_left (p e) _ h))
+
+pub none_picked : (p : Entry → Bool) (es : List Entry) → list_any p es ≡ false → [] ≡ pick p es
+none_picked p [] h = refl
+none_picked p (e ∷ es) h = none_picked p es (or_right (p e) _ h) ∙ ap (λ b. cond b (up_of e ∷ []) (pick p es)) (sym (or_left (p e) _ h))
+
+-- the entry at the place passes
+pub passes : (p : Entry → Bool) (es : List Entry) (i : ℕ) (x : Entry) → IsPlace p es (Some i) → x ≡ get_or es i x → p x ≡ true
+passes p es i x h is = h.1 x (slice_get-get_or es i x h.0 ∙ ap Some (sym is))
+
+given_core : (p : Entry → Bool) (es : List Entry) (i : ℕ) (x : Entry) → i < length es → x ≡ get_or es i x → p x ≡ true → list_any p (take i es) ≡ false → set es i (given_entry x) ≡ give p es
+given_core p [] i x lt is h n = absurd (omega arith)
+given_core p (y ∷ es) zero x lt is h n = ap (λ z. given_entry z ∷ es) is ∙ ap (λ b. cond b (given_entry y ∷ es) (y ∷ give p es)) (sym (ap p (sym is) ∙ h))
+given_core p (y ∷ es) (suc i) x lt is h n =
+    let less : i < length es = omega arith in
+    ap (λ xs. y ∷ xs) (given_core p es i x less is h (or_right (p y) _ n)) ∙ ap (λ b. cond b (given_entry y ∷ es) (y ∷ give p es)) (sym (or_left (p y) _ n))
+
+picked_core : (p : Entry → Bool) (es : List Entry) (i : ℕ) (x : Entry) → i < length es → x ≡ get_or es i x → p x ≡ true → list_any p (take i es) ≡ false → up_of x ∷ [] ≡ pick p es
+picked_core p [] i x lt is h n = absurd (omega arith)
+picked_core p (y ∷ es) zero x lt is h n = ap (λ z. up_of z ∷ []) is ∙ ap (λ b. cond b (up_of y ∷ []) (pick p es)) (sym (ap p (sym is) ∙ h))
+picked_core p (y ∷ es) (suc i) x lt is h n =
+    let less : i < length es = omega arith in
+    picked_core p es i x less is h (or_right (p y) _ n) ∙ ap (λ b. cond b (up_of y ∷ []) (pick p es)) (sym (or_left (p y) _ n))
+
+-- the entry at the place is the one that is handed up
+pub given_at : (p : Entry → Bool) (es : List Entry) (i : ℕ) (x : Entry) → IsPlace p es (Some i) → x ≡ get_or es i x → set es i (given_entry x) ≡ give p es
+given_at p es i x h is = given_core p es i x h.0 is (passes p es i x h is) h.2
+
+pub picked_at : (p : Entry → Bool) (es : List Entry) (i : ℕ) (x : Entry) → IsPlace p es (Some i) → x ≡ get_or es i x → up_of x ∷ [] ≡ pick p es
+picked_at p es i x h is = picked_core p es i x h.0 is (passes p es i x h is) h.2
+
+pub any_at : (p : Entry → Bool) (es : List Entry) (i : ℕ) (x : Entry) → IsPlace p es (Some i) → x ≡ get_or es i x → list_any p es ≡ true
+any_at p es i x h is = list_any_at p es i x h.0 (ap p (sym is) ∙ passes p es i x h is)
+
+-- and leaves one fewer
+pub fewer : (s k : ℕ) (es : List Entry) (i : ℕ) (x : Entry) → IsPlace (is_next s k) es (Some i) → x ≡ get_or es i x → count_by is_ungiven (set es i (given_entry x)) + 1 ≡ count_by is_ungiven es
+fewer s k es i x h is =
+    let new : x.given ≡ false = next_new s k x (passes (is_next s k) es i x h is) in
+    let lt : i < length es = h.0 in
+    let a = count_by-set is_ungiven es i x (given_entry x) lt is in
+    let b = count_by-cons is_ungiven x [] in
+    let d = count_by-cons is_ungiven (given_entry x) [] in
+    let f : cond {A = ℕ} (is_ungiven x) 1 0 ≡ 1 = ap (λ v. cond {A = ℕ} (not v) 1 0) new in
+    omega (arith, a, b, d, f)
+
+released_step : (s a i : ℕ) (es : List Entry) → i < a → released s (a - i) es ≡ released s (a - (i + 1)) (give (next_of s es) es)
+released_step s a i es lt = let e : a - i ≡ suc (a - (i + 1)) = omega arith in ap (λ n. released s n es) e
+
+released_ups_step : (s a i : ℕ) (es : List Entry) → i < a → released_ups s (a - i) es ≡ pick (next_of s es) es ++ released_ups s (a - (i + 1)) (give (next_of s es) es)
+released_ups_step s a i es lt = let e : a - i ≡ suc (a - (i + 1)) = omega arith in ap (λ n. released_ups s n es) e
+
+-- one more time
+pub released_more : (s a i : ℕ) (es es' all : List Entry) → i < a → es' ≡ give (next_of s es) es → released s (a - i) es ≡ all → released s (a - (i + 1)) es' ≡ all
+released_more s a i es es' all lt new h = ap (released s (a - (i + 1))) new ∙ (sym (released_step s a i es lt) ∙ h)
+
+pub released_ups_more : (s a i : ℕ) (es es' : List Entry) (us us' all : List Up) → i < a → es' ≡ give (next_of s es) es → us' ≡ us ++ pick (next_of s es) es → us ++ released_ups s (a - i) es ≡ all → us' ++ released_ups s (a - (i + 1)) es' ≡ all
+released_ups_more s a i es es' us us' all lt new more h =
+    (λ j. more j ++ released_ups s (a - (i + 1)) (new j))
+    ∙ (append_assoc us (pick (next_of s es) es) (released_ups s (a - (i + 1)) (give (next_of s es) es))
+    ∙ (ap (λ xs. us ++ xs) (sym (released_ups_step s a i es lt)) ∙ h))
+
+-- where nothing is next, all stays
+pub stays : (s n : ℕ) (es : List Entry) → list_any (next_of s es) es ≡ false → released s n es ≡ es
+stays s zero es h = refl
+stays s (suc n) es h = ap (released s n) (sym (none_given (next_of s es) es h)) ∙ stays s n es h
+
+stays_ups : (s n : ℕ) (es : List Entry) → list_any (next_of s es) es ≡ false → released_ups s n es ≡ []
+stays_ups s zero es h = refl
+stays_ups s (suc n) es h = (λ i. sym (none_picked (next_of s es) es h) i ++ released_ups s n (sym (none_given (next_of s es) es h) i)) ∙ stays_ups s n es h
+
+-- and the release is over
+pub released_done : (s n : ℕ) (es es' all : List Entry) → list_any (next_of s es) es ≡ false → es' ≡ give (next_of s es) es → released s n es ≡ all → es' ≡ all
+released_done s n es es' all none new h = new ∙ (sym (none_given (next_of s es) es none) ∙ (sym (stays s n es none) ∙ h))
+
+pub released_ups_done : (s n : ℕ) (es : List Entry) (us us' all : List Up) → list_any (next_of s es) es ≡ false → us' ≡ us ++ pick (next_of s es) es → us ++ released_ups s n es ≡ all → us' ≡ all
+released_ups_done s n es us us' all none more h =
+    more ∙ (ap (λ xs. us ++ xs) (sym (none_picked (next_of s es) es none) ∙ sym (stays_ups s n es none)) ∙ h)

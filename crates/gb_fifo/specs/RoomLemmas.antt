@@ -1,0 +1,15 @@
+-- More free places are room for as many calls, or fewer.
+use Rattle.std.proofs.Common.{ℕ, ◌≤◌, vec_capacity, arith}
+use Rattle.gb_fifo.specs.declared.fifo.Fifo.{Fifo}
+use Rattle.gb_fifo.specs.FifoRoom.{HasRoom}
+
+pub fifo_roomier : {L : Type 0} (below : L → ℕ → ℕ → ℕ → Type 0) → ((x : L) (a b n a' b' n' : ℕ) → a ≤ a' → b ≤ b' → n' ≤ n → below x a b n → below x a' b' n')
+    → (f : Fifo L) (a b n a' b' n' : ℕ) → a ≤ a' → b ≤ b' → n' ≤ n → HasRoom below f a b n → HasRoom below f a' b' n'
+fifo_roomier below law f a b n a' b' n' h i j k =
+    let ke = k.entries in
+    let ku = k.ups in
+    record {
+      lower = law f.lower a (vec_capacity f.below) n a' (vec_capacity f.below) n' h (omega arith) j k.lower;
+      entries = omega arith;
+      ups = omega arith;
+    }

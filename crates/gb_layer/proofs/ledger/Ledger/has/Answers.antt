@@ -1,0 +1,14 @@
+use Rattle.std.proofs.Common.{◌∙◌}
+use Rattle.gb_layer.specs.Relay.{is_for}
+use Rattle.gb_layer.specs.TableLemmas.{any_at, any_none}
+use Rattle.gb_layer.proofs.ledger.Ledger.has.Goals as goal
+
+pub returns-in-Some-place : goal.returns-in-Some-place
+returns-in-Some-place c =
+    let l = c.args.self.now in
+    c.is_of.ensures ∙ any_at l.width l.table.items c.args.m c.in-Some.v l.list.items c.in-Some.ensures l.leads (is_for c.args.m) (λ e h. h) c.in-Some-place.k c.index.result.now c.in-Some-place.ensures c.index.ensures
+
+pub returns-in-None-place : goal.returns-in-None-place
+returns-in-None-place c =
+    let l = c.args.self.now in
+    any_none l.width l.table.items c.args.m c.in-Some.v l.list.items c.in-Some.ensures l.leads (is_for c.args.m) (λ e h. h) c.in-None-place.ensures

@@ -1,0 +1,168 @@
+-- What a table finds is what a search finds.
+use Rattle.std.proofs.Common.{◌≡◌, ◌≢◌, ◌⊎◌, inl, ℕ, ◌+◌, ◌-◌, ◌*◌, ◌%◌, ◌/◌, ◌≤◌, ◌<◌, Bool, true, false, cond, ◌&&◌, ◌||◌, nat_eq, nat_le, List, [], ◌∷◌, ◌++◌, length, map, set, get_or, slice_get, refl, ap, ◌∙◌, sym, arith, zero, suc}
+use Rattle.std.specs.declared.option.Option.TheVariants.{None, Some}
+use Rattle.std.specs.List.{list_any}
+use Rattle.std.proofs.lemmas.Bool.{eqb-true}
+use Rattle.std.proofs.lemmas.Bool.Decides.{nat_tests}
+use Rattle.std.proofs.Math.Bool.{or-false}
+use Rattle.std.proofs.Math.Nat.{mul-add-mod_self_right, mod-eq_of_lt, mul-div_cancel}
+use Rattle.gb_types.specs.declared.message.MsgId.{MsgId}
+use Rattle.gb_types.specs.Message.{same}
+use Rattle.gb_types.proofs.SameLemmas.{same-true, and-first, and-second}
+use Rattle.gb_layer.specs.declared.entries.Entry.{Entry}
+use Rattle.gb_types.specs.declared.node.NodeId.{NodeId}
+use Rattle.gb_layer.specs.Bools.{or_left, or_right, and_more}
+use Rattle.gb_layer.specs.Lists.{map_same}
+use Rattle.gb_layer.specs.Relay.{is_for, new_entry, held, held_entry, marked_sent, sent_entry}
+use Rattle.gb_layer.specs.EntryLemmas.{keys, held_same}
+use Rattle.gb_layer.specs.Table.{covers, spot, told, says, leads, IsNowhere, IsThere}
+
+module _ (width : ℕ) (table : List ℕ) (m : MsgId) (v : ℕ) (is : told width table m ≡ Some v) where
+  -- an entry of m at a place is where the table says
+  here : (e : Entry) (i : ℕ) → is_for m e ≡ true → says (told width table e.m) (i + 1) ≡ true → v ≡ i + 1
+  here e i f h =
+      let k : says (told width table m) (i + 1) ≡ true = ap (λ y. says (told width table y) (i + 1)) (sym (same-true e.m m f)) ∙ h in
+      let n : nat_eq v (i + 1) ≡ true = ap (λ o. says o (i + 1)) (sym is) ∙ k in
+      eqb-true v (i + 1) n
+
+  module _ (f : Entry → Entry) (leaves : (e : Entry) → is_for m e ≡ false → f e ≡ e) where
+    -- where the table leads to no place, a change of m changes nothing
+    pub map_nowhere : (es : List Entry) (i : ℕ) → (v ≤ i) ⊎ (i + length es < v) → leads width table i (keys es) ≡ true → map f es ≡ es
+    map_nowhere [] i out h = refl
+    map_nowhere (e ∷ es) i out h =
+        elim (is_for m e) as (λ b. is_for m e ≡ b → map f (e ∷ es) ≡ e ∷ es) [
+          | true ↦ λ k. let n = here e i k (and-first _ _ h) in absurd (grind (arith, n, out))
+          | false ↦ λ k.
+              let rest : (v ≤ i + 1) ⊎ (i + 1 + length es < v) = grind (arith, out) in
+              λ j. leaves e k j ∷ map_nowhere es (i + 1) rest (and-second _ _ h) j
+        ] refl
+
+    -- where it leads to a place, a change of m changes that place
+    pub map_there : (es : List Entry) (i k : ℕ) (d : Entry) → v ≡ i + k + 1 → k < length es → leads width table i (keys es) ≡ true → map f es ≡ set es k (f (get_or es k d))
+    map_there [] i k d e lt h = absurd (omega arith)
+    map_there (x ∷ es) i zero d e lt h = let l : v ≤ i + 1 = omega (arith, e) in ap (λ ys. f x ∷ ys) (map_nowhere es (i + 1) (inl l) (and-second _ _ h))
+    map_there (x ∷ es) i (suc k) d e lt h =
+        let e' : v ≡ i + 1 + k + 1 = omega (arith, e) in
+        let lt' : k < length es = omega (arith, lt) in
+        elim (is_for m x) as (λ b. is_for m x ≡ b → f x ∷ map f es ≡ x ∷ set es k (f (get_or es k d))) [
+          | true ↦ λ t. let n = here x i t (and-first _ _ h) in absurd (omega (arith, n, e))
+          | false ↦ λ t. λ j. leaves x t j ∷ map_there es (i + 1) k d e' lt' (and-second _ _ h) j
+        ] refl
+
+  module _ (p : Entry → Bool) (only : (e : Entry) → is_for m e ≡ false → p e ≡ false) where
+    -- where the table leads to no place, a search for m finds nothing
+    pub any_nowhere : (es : List Entry) (i : ℕ) → (v ≤ i) ⊎ (i + length es < v) → leads width table i (keys es) ≡ true → list_any p es ≡ false
+    any_nowhere [] i out h = refl
+    any_nowhere (e ∷ es) i out h =
+        elim (is_for m e) as (λ b. is_for m e ≡ b → list_any p (e ∷ es) ≡ false) [
+          | true ↦ λ k. let n = here e i k (and-first _ _ h) in absurd (grind (arith, n, out))
+          | false ↦ λ k.
+              let rest : (v ≤ i + 1) ⊎ (i + 1 + length es < v) = grind (arith, out) in
+              ap (λ b. b || list_any p es) (only e k) ∙ any_nowhere es (i + 1) rest (and-second _ _ h)
+        ] refl
+
+    -- where it leads to a place, a search for m finds what is there
+    pub any_there : (es : List Entry) (i k : ℕ) (d : Entry) → v ≡ i + k + 1 → k < length es → leads width table i (keys es) ≡ true → list_any p es ≡ p (get_or es k d)
+    any_there [] i k d e lt h = absurd (omega arith)
+    any_there (x ∷ es) i zero d e lt h =
+        let l : v ≤ i + 1 = omega (arith, e) in ap (λ b. p x || b) (any_nowhere es (i + 1) (inl l) (and-second _ _ h)) ∙ or-false (p x)
+    any_there (x ∷ es) i (suc k) d e lt h =
+        let e' : v ≡ i + 1 + k + 1 = omega (arith, e) in
+        let lt' : k < length es = omega (arith, lt) in
+        elim (is_for m x) as (λ b. is_for m x ≡ b → (p x || list_any p es) ≡ p (get_or es k d)) [
+          | true ↦ λ t. let n = here x i t (and-first _ _ h) in absurd (omega (arith, n, e))
+          | false ↦ λ t. ap (λ b. b || list_any p es) (only x t) ∙ any_there es (i + 1) k d e' lt' (and-second _ _ h)
+        ] refl
+
+pub keys_held : (me via : NodeId) (m : MsgId) (es : List Entry) → keys (map (held me via m) es) ≡ keys es
+keys_held me via m es = map_same (λ e. e.m) (held me via m) (λ e. e.m) (held_same (λ e. e.m) me via m (λ e. refl)) es
+
+pub not_held : (me via : NodeId) (m : MsgId) (e : Entry) → is_for m e ≡ false → held me via m e ≡ e
+not_held me via m e h = ap (λ b. cond b (held_entry me via e) e) h
+
+pub not_marked : (m : MsgId) (e : Entry) → is_for m e ≡ false → marked_sent m e ≡ e
+not_marked m e h = ap (λ b. cond b (sent_entry e) e) h
+
+pub not_sent : (m : MsgId) (e : Entry) → is_for m e ≡ false → (is_for m e && e.sent) ≡ false
+not_sent m e h = ap (λ b. b && e.sent) h
+
+-- the entry at the place is changed
+pub set_there : (width : ℕ) (table : List ℕ) (m : MsgId) (v : ℕ) (f : Entry → Entry) → ((e : Entry) → is_for m e ≡ false → f e ≡ e) → (es : List Entry) (k : ℕ) (x y : Entry)
+    → Some v ≡ told width table m → IsThere (length es) v k → leads width table 0 (keys es) ≡ true → x ≡ get_or es k x → y ≡ f x → set es k y ≡ map f es
+set_there width table m v f leaves es k x y is at h old new =
+    ap (set es k) (new ∙ ap f old) ∙ sym (map_there width table m v (sym is) f leaves es 0 k x at.0 at.1 h)
+
+-- what each way to look m up finds
+module _ (width : ℕ) (table : List ℕ) (m : MsgId) (v : ℕ) (es : List Entry) (is : Some v ≡ told width table m) (h : leads width table 0 (keys es) ≡ true) where
+  pub any_at : (p : Entry → Bool) → ((e : Entry) → is_for m e ≡ false → p e ≡ false) → (k : ℕ) (x : Entry) → IsThere (length es) v k → x ≡ get_or es k x → p x ≡ list_any p es
+  any_at p only k x at old = ap p old ∙ sym (any_there width table m v (sym is) p only es 0 k x at.0 at.1 h)
+
+  pub any_none : (p : Entry → Bool) → ((e : Entry) → is_for m e ≡ false → p e ≡ false) → IsNowhere (length es) v → false ≡ list_any p es
+  any_none p only out = sym (any_nowhere width table m v (sym is) p only es 0 out h)
+
+  pub map_none : (f : Entry → Entry) → ((e : Entry) → is_for m e ≡ false → f e ≡ e) → IsNowhere (length es) v → es ≡ map f es
+  map_none f leaves out = sym (map_nowhere width table m v (sym is) f leaves es 0 out h)
+
+slice_get_set_other : (xs : List ℕ) (i j y : ℕ) → j ≢ i → slice_get (set xs i y) j ≡ slice_get xs j
+slice_get_set_other [] i j y d = refl
+slice_get_set_other (x ∷ xs) zero zero y d = absurd (d refl)
+slice_get_set_other (x ∷ xs) zero (suc j) y d = refl
+slice_get_set_other (x ∷ xs) (suc i) zero y d = refl
+slice_get_set_other (x ∷ xs) (suc i) (suc j) y d = slice_get_set_other xs i j y (λ e. d (ap suc e))
+
+slice_get_set_same : (xs : List ℕ) (i y : ℕ) → i < length xs → slice_get (set xs i y) i ≡ Some y
+slice_get_set_same [] i y h = absurd (omega arith)
+slice_get_set_same (x ∷ xs) zero y h = refl
+slice_get_set_same (x ∷ xs) (suc i) y h = let lt : i < length xs = omega (arith, h) in slice_get_set_same xs i y lt
+
+-- different messages stand at different places of the table
+spot_other : (width : ℕ) (x m : MsgId) → covers width x ≡ true → covers width m ≡ true → spot width x ≡ spot width m → same x m ≡ true
+spot_other width x m h k e =
+    let hx : 1 ≤ x.seq = let a = and-first (nat_le 1 x.seq) (nat_le x.seq width) h in grind (arith, nat_tests) in
+    let wx : x.seq ≤ width = let a = and-second (nat_le 1 x.seq) (nat_le x.seq width) h in grind (arith, nat_tests) in
+    let hm : 1 ≤ m.seq = let a = and-first (nat_le 1 m.seq) (nat_le m.seq width) k in grind (arith, nat_tests) in
+    let wm : m.seq ≤ width = let a = and-second (nat_le 1 m.seq) (nat_le m.seq width) k in grind (arith, nat_tests) in
+    let rx : (x.origin.number * width + (x.seq - 1)) % width ≡ x.seq - 1 = mul-add-mod_self_right x.origin.number width (x.seq - 1) ∙ mod-eq_of_lt {n = x.seq - 1} {m = width} (omega (arith, hx, wx)) in
+    let rm : (m.origin.number * width + (m.seq - 1)) % width ≡ m.seq - 1 = mul-add-mod_self_right m.origin.number width (m.seq - 1) ∙ mod-eq_of_lt {n = m.seq - 1} {m = width} (omega (arith, hm, wm)) in
+    let r : x.seq - 1 ≡ m.seq - 1 = sym rx ∙ (ap (λ n. n % width) e ∙ rm) in
+    let s : x.seq ≡ m.seq = omega (arith, r, hx, hm) in
+    let p : x.origin.number * width ≡ m.origin.number * width = omega (arith, e, r) in
+    let o : x.origin.number ≡ m.origin.number = (let w : 0 < width = omega (arith, hx, wx) in sym (mul-div_cancel x.origin.number w) ∙ (ap (λ n. n / width) p ∙ mul-div_cancel m.origin.number w)) in
+    grind (arith, nat_tests)
+
+-- what the table says of another message stays
+told_other : (width : ℕ) (table : List ℕ) (x m : MsgId) (u : ℕ) → covers width m ≡ true → same x m ≡ false → told width (set table (spot width m) u) x ≡ told width table x
+told_other width table x m u k n =
+    elim (covers width x) as (λ b. covers width x ≡ b → cond b (slice_get (set table (spot width m) u) (spot width x)) None ≡ cond b (slice_get table (spot width x)) None) [
+      | true ↦ λ h.
+          let d : spot width x ≢ spot width m = λ e. let t = spot_other width x m h k e in let z : true ≡ false = sym t ∙ n in cc in
+          slice_get_set_other table (spot width m) (spot width x) u d
+      | false ↦ λ _. refl
+    ] refl
+
+leads_other : (width : ℕ) (table : List ℕ) (m : MsgId) (u i : ℕ) (es : List Entry) → covers width m ≡ true → list_any (is_for m) es ≡ false → leads width table i (keys es) ≡ true → leads width (set table (spot width m) u) i (keys es) ≡ true
+leads_other width table m u i [] k n h = refl
+leads_other width table m u i (e ∷ es) k n h =
+    and_more (says (told width table e.m) (i + 1)) _ (says (told width (set table (spot width m) u) e.m) (i + 1)) _
+    (λ w. ap (λ o. says o (i + 1)) (told_other width table e.m m u k (or_left _ _ n)) ∙ w)
+    (λ w. leads_other width table m u (i + 1) es k (or_right (is_for m e) _ n) w) h
+
+leads_pushed : (width : ℕ) (table : List ℕ) (m : MsgId) (i : ℕ) (es : List Entry) → says (told width table m) (i + length es + 1) ≡ true → leads width table i (keys es) ≡ true → leads width table i (keys (es ++ new_entry m ∷ [])) ≡ true
+leads_pushed width table m i [] s h = let e : i + 0 + 1 ≡ i + 1 = omega arith in ap (λ b. b && true) (ap (λ n. says (told width table m) n) (sym e) ∙ s)
+leads_pushed width table m i (e ∷ es) s h =
+    let n : i + suc (length es) + 1 ≡ i + 1 + length es + 1 = omega arith in
+    and_more (says (told width table e.m) (i + 1)) _ (says (told width table e.m) (i + 1)) _ (λ w. w)
+    (λ w. leads_pushed width table m (i + 1) es (ap (λ v. says (told width table m) v) (sym n) ∙ s) w) h
+
+-- a message of which the table does not speak is added
+pub leads_unsaid : (width : ℕ) (table : List ℕ) (m : MsgId) (es : List Entry) → told width table m ≡ None → leads width table 0 (keys es) ≡ true → leads width table 0 (keys (es ++ new_entry m ∷ [])) ≡ true
+leads_unsaid width table m es n h = leads_pushed width table m 0 es (ap (λ o. says o (0 + length es + 1)) n) h
+
+-- a new message is added, and the table says its place
+pub leads_said : (width : ℕ) (table : List ℕ) (m : MsgId) (es : List Entry) (at v : ℕ) → covers width m ≡ true → at ≡ spot width m → at < length table → v ≡ length es + 1 → list_any (is_for m) es ≡ false
+    → leads width table 0 (keys es) ≡ true → leads width (set table at v) 0 (keys (es ++ new_entry m ∷ [])) ≡ true
+leads_said width table m es at v k e lt new n h =
+    let lt' : spot width m < length table = omega (arith, e, lt) in
+    let t : told width (set table (spot width m) v) m ≡ Some v = ap (λ b. cond b (slice_get (set table (spot width m) v) (spot width m)) None) k ∙ slice_get_set_same table (spot width m) v lt' in
+    let s : says (told width (set table (spot width m) v) m) (0 + length es + 1) ≡ true = ap (λ o. says o (0 + length es + 1)) t ∙ grind (arith, nat_tests, new) in
+    ap (λ a. leads width (set table a v) 0 (keys (es ++ new_entry m ∷ []))) e ∙ leads_pushed width (set table (spot width m) v) m 0 es s (leads_other width table m v 0 es k n h)

@@ -1,0 +1,202 @@
+//! What a relay remembers of each message, with a table that leads to it.
+ghost use Rattle.std.specs.Prelude.{◌≡◌, ◌+◌, ◌≤◌, ◌<◌, ◌&&◌, true, [], count_by, OnOk, map, length, MatchOption, vec_len, vec_capacity};
+ghost use Rattle.std.specs.List.{list_any};
+ghost use Rattle.std.specs.declared.option.Option.TheVariants.{None};
+ghost use Rattle.gb_layer.specs.EntryLemmas.{keys};
+ghost use Rattle.gb_layer.specs.Relay.{is_for, is_sent, new_entry, held, taken_in, is_unsent, is_ungiven, marked_sent, noted};
+ghost use Rattle.gb_layer.specs.Table.{told, covers, spot, leads, IsNowhere, IsThere};
+
+use crate::effects::Up;
+use crate::entries::{Entry, has_entry, hold_in, hold_one, mark_one, mark_sent, was_sent};
+use gb_types::limits::NODES;
+use gb_types::memory::OutOfMemory;
+use gb_types::message::MsgId;
+use gb_types::node::{NodeId, NodeSet};
+use std::alloc::Global;
+
+/// The entries in the order of first mention, and where each is, by origin and number.
+#[derive(Drop)]
+pub struct Ledger {
+    pub list: Vec<Entry>,
+    pub table: Vec<usize>,
+    pub width: u16,
+    ghost leads: { leads width table.items 0 (keys list.items) ≡ true },
+}
+
+impl Ledger {
+    /// No entries.
+    pub fn new(alloc: Global) -> Ledger
+        ensures { result.list.items ≡ [] }
+    {
+        Ledger {
+            list: Vec::new(alloc),
+            table: Vec::new(alloc),
+            width: 0,
+        }
+    }
+
+    /// Has the table cover messages numbered from 1 to this width, where there are no entries yet.
+    pub fn cover(&mut self, width: u16) -> Result<(), OutOfMemory>
+        requires { self.old.list.items ≡ [] }
+        ensures list { self.new.list ≡ self.old.list }
+        ensures width { OnOk result (self.new.width ≡ width) }
+    {
+        let places = NODES * usize::from(width);
+        self.table.resize(places, 0)?;
+        self.width = width;
+        Ok(())
+    }
+
+    /// What the table says of m: 0, or one more than the place of its entry; nothing where it does not cover m.
+    fn told(&self, m: MsgId) -> Option<usize>
+        ensures { result ≡ told self.now.width self.now.table.items m }
+    {
+        if m.seq == 0 || m.seq > self.width {
+            return None;
+        }
+        let at = m.origin.index() * usize::from(self.width) + usize::from(m.seq - 1);
+        self.table.get(at).copied()
+    }
+
+    /// Where the table speaks of m, if it does.
+    fn spot(&self, m: MsgId) -> Option<usize>
+        ensures { MatchOption result (told self.now.width self.now.table.items m ≡ None)
+            (λ at. (covers self.now.width m ≡ true) × (at ≡ spot self.now.width m) × (at < length self.now.table.items)) }
+    {
+        if m.seq == 0 || m.seq > self.width {
+            return None;
+        }
+        let at = m.origin.index() * usize::from(self.width) + usize::from(m.seq - 1);
+        if at < self.table.len() {
+            Some(at)
+        } else {
+            None
+        }
+    }
+
+    /// The place that the table means by v, if there is one.
+    fn place(&self, v: usize) -> Option<usize>
+        ensures { MatchOption result (IsNowhere (length self.now.list.items) v) (IsThere (length self.now.list.items) v) }
+    {
+        if v == 0 {
+            return None;
+        }
+        if v > self.list.len() {
+            return None;
+        }
+        Some(v - 1)
+    }
+
+    /// Whether there is an entry of m.
+    pub fn has(&self, m: MsgId) -> bool
+        ensures { result ≡ list_any (is_for m) self.now.list.items }
+    {
+        match self.told(m) {
+            Some(v) => match self.place(v) {
+                Some(k) => is_of(&self.list[k], m),
+                None => false,
+            },
+            None => has_entry(&self.list, m),
+        }
+    }
+
+    /// Whether m was sent from here.
+    pub fn was_sent(&self, m: MsgId) -> bool
+        ensures { result ≡ is_sent self.now.list.items m }
+    {
+        match self.told(m) {
+            Some(v) => match self.place(v) {
+                Some(k) => is_sent_of(&self.list[k], m),
+                None => false,
+            },
+            None => was_sent(&self.list, m),
+        }
+    }
+
+    /// Adds an entry of m, where there is none.
+    pub fn note(&mut self, m: MsgId)
+        requires { vec_len self.old.list + 1 ≤ vec_capacity self.old.list }
+        ensures items { self.new.list.items ≡ noted self.old.list.items m }
+        ensures len { vec_len self.new.list ≤ vec_len self.old.list + 1 }
+        ensures capacity { vec_capacity self.old.list ≤ vec_capacity self.new.list }
+        ensures unsent { count_by is_unsent self.new.list.items ≤ count_by is_unsent self.old.list.items + 1 }
+        ensures ungiven { count_by is_ungiven self.new.list.items ≤ count_by is_ungiven self.old.list.items + 1 }
+    {
+        if !self.has(m) {
+            match self.spot(m) {
+                Some(at) => {
+                    self.table[at] = self.list.len() + 1;
+                    self.list.push_reserved(new_entry(m));
+                }
+                None => self.list.push_reserved(new_entry(m)),
+            }
+        }
+    }
+
+    /// Writes down that this node and via hold m.
+    pub fn hold(&mut self, me: NodeId, via: NodeId, m: MsgId)
+        ensures items { self.new.list.items ≡ map (held me via m) self.old.list.items }
+        ensures len { vec_len self.new.list ≡ vec_len self.old.list }
+        ensures capacity { vec_capacity self.new.list ≡ vec_capacity self.old.list }
+    {
+        match self.told(m) {
+            Some(v) => match self.place(v) {
+                Some(k) => hold_one(&mut self.list[k], me, via, m),
+                None => {}
+            },
+            None => hold_in(&mut self.list, me, via, m),
+        }
+    }
+
+    /// Writes down who holds what came up below.
+    pub fn take_in(&mut self, me: NodeId, ups: &[Up])
+        ensures items { self.new.list.items ≡ taken_in me ups.now self.old.list.items }
+        ensures len { vec_len self.new.list ≡ vec_len self.old.list }
+        ensures capacity { vec_capacity self.new.list ≡ vec_capacity self.old.list }
+    {
+        for up in ups {
+            self.hold(me, up.via, up.m);
+        }
+    }
+
+    /// Marks m as sent from here.
+    pub fn mark_sent(&mut self, m: MsgId)
+        ensures items { self.new.list.items ≡ map (marked_sent m) self.old.list.items }
+        ensures len { vec_len self.new.list ≡ vec_len self.old.list }
+        ensures capacity { vec_capacity self.new.list ≡ vec_capacity self.old.list }
+    {
+        match self.told(m) {
+            Some(v) => match self.place(v) {
+                Some(k) => mark_one(&mut self.list[k], m),
+                None => {}
+            },
+            None => mark_sent(&mut self.list, m),
+        }
+    }
+}
+
+/// An entry of m that has nothing yet.
+fn new_entry(m: MsgId) -> Entry
+    ensures { result ≡ new_entry m }
+{
+    Entry {
+        m,
+        holders: NodeSet::new(),
+        sent: false,
+        given: false,
+    }
+}
+
+/// Whether the entry is of m.
+fn is_of(e: &Entry, m: MsgId) -> bool
+    ensures { result ≡ is_for m e.now }
+{
+    e.m == m
+}
+
+/// Whether the entry is of m, which was sent from here.
+fn is_sent_of(e: &Entry, m: MsgId) -> bool
+    ensures { result ≡ (is_for m e.now && e.now.sent) }
+{
+    e.m == m && e.sent
+}

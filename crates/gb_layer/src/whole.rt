@@ -1,0 +1,59 @@
+//! A layer that took its memory once takes no more.
+ghost use Rattle.std.specs.Prelude.{◌≡◌, true, IfOk};
+ghost use Rattle.gb_layer.specs.Limit as limit;
+
+use crate::call::Call;
+use crate::effects::Effects;
+use crate::layer::Layer;
+use gb_types::memory::OutOfMemory;
+use gb_types::message::MsgId;
+use gb_types::node::NodeSet;
+
+/// Whether m is of one of these members, with a number from 1 to `msgs`.
+fn is_counted(members: &NodeSet, msgs: u16, m: MsgId) -> bool
+    ensures { result ≡ limit.is_counted (record { members = members.now; msgs = msgs; calls = 1 }) m }
+{
+    members.contains(m.origin) && (1 <= m.seq && m.seq <= msgs)
+}
+
+/// Whether a layer that asked for the memory of these members, and of as many messages each, has the memory for a
+/// call.
+pub fn is_within(members: &NodeSet, msgs: u16, call: Call) -> bool
+    ensures { result ≡ limit.is_within (record { members = members.now; msgs = msgs; calls = 1 }) call }
+{
+    match call {
+        Call::Say(m) => is_counted(members, msgs, m),
+        Call::Came(from, m) => members.contains(from) && is_counted(members, msgs, m),
+        Call::Notice(_) => true,
+    }
+}
+
+/// Has a layer that was told of no message yet take all its memory, and then two calls, with nothing made ready
+/// between them; lets go of what the first gives. Answers whether both calls were within the limit: where one was
+/// not, the layer takes neither.
+pub fn take_two<L: Layer>(
+    layer: &mut L,
+    members: &NodeSet,
+    msgs: u16,
+    first: Call,
+    second: Call,
+    out: &mut Effects,
+) -> Result<bool, OutOfMemory>
+    requires { L.is_empty (L.meaning layer.old) }
+    ensures meaning { IfOk result (λ both. both ≡ true → L.meaning layer.new ≡ L.next (L.next (L.meaning layer.old) first) second) }
+    ensures sends { IfOk result (λ both. both ≡ true → out.new.sends.items ≡ (L.gives (L.next (L.meaning layer.old) first) second).sends) }
+    ensures ups { IfOk result (λ both. both ≡ true → out.new.ups.items ≡ (L.gives (L.next (L.meaning layer.old) first) second).ups) }
+{
+    if !is_within(members, msgs, first) {
+        return Ok(false);
+    }
+    if !is_within(members, msgs, second) {
+        return Ok(false);
+    }
+    layer.whole(members, msgs, 1, out)?;
+    layer.take(first, out);
+    out.sends.clear();
+    out.ups.clear();
+    layer.take(second, out);
+    Ok(true)
+}

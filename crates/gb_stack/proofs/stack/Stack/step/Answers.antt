@@ -1,7 +1,0 @@
-use Rattle.gb_stack.proofs.stack.Stack.step.Goals as goal
-
-pub take-requires-in-Fifo : goal.take-requires-in-Fifo
-take-requires-in-Fifo c = rw c.in-Fifo.is at c.requires
-
-pub returns-in-Fifo-clause-room : goal.returns-in-Fifo-clause-room
-returns-in-Fifo-clause-room c = λ n room. c.take-in-Fifo.ensures.room n (rw c.in-Fifo.is at room)

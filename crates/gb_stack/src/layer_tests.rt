@@ -1,0 +1,81 @@
+//! The lowest layer, and the plain program on a history worked out by hand.
+use gb_layer::base::Base;
+use gb_layer::beb::Beb;
+use gb_layer::call::Call;
+use gb_layer::effects::{Effects, Up};
+use gb_layer::layer::Layer;
+use gb_layer::plain;
+use gb_types::message::MsgId;
+use gb_types::node::NodeId;
+use std::test::Fail;
+
+const ORIGIN: NodeId = NodeId { number: 0 };
+
+const ME: NodeId = NodeId { number: 1 };
+
+const OTHER: NodeId = NodeId { number: 2 };
+
+const MEMBERS: [NodeId; 3] = [ORIGIN, ME, OTHER];
+
+const OWN: MsgId = MsgId { origin: ME, seq: 1 };
+
+const FIRST: MsgId = MsgId {
+    origin: ORIGIN,
+    seq: 1,
+};
+
+const SECOND: MsgId = MsgId {
+    origin: ORIGIN,
+    seq: 2,
+};
+
+#[test]
+fn beb_hands_up_whatever_comes(rt: HostRuntime) -> Result<(), Fail> {
+    let mut layer = Beb::new(ME);
+    let mut out = Effects::new(rt.alloc());
+    assert_eq!(rt; layer.me(), ME);
+    layer.ready(3, &mut out)?;
+    assert!(rt; out.sends.capacity() >= 3 && out.ups.capacity() >= 3);
+    layer.say(OWN, &mut out);
+    layer.ready(1, &mut out)?;
+    layer.came(OTHER, FIRST, &mut out);
+    layer.ready(1, &mut out)?;
+    layer.notice(ORIGIN, &mut out);
+    assert_eq!(rt; out.sends.as_slice(), [OWN].as_slice());
+    assert_eq!(rt;
+        out.ups.as_slice(),
+        [
+            Up { via: ME, m: OWN },
+            Up {
+                via: OTHER,
+                m: FIRST
+            }
+        ]
+        .as_slice()
+    );
+    Ok(())
+}
+
+/// The log of a history and the broadcasts of its last call, for each base, worked out by hand from the book's
+/// algorithms: a message of a node that was noticed is relayed, and its second one comes from a relay.
+#[test]
+fn plain_answers_are_those_of_the_algorithms(rt: HostRuntime) -> Result<(), Fail> {
+    let history = [
+        Call::Came(OTHER, SECOND),
+        Call::Notice(ORIGIN),
+        Call::Came(ORIGIN, FIRST),
+    ];
+    let told: [(Base, &[MsgId], &[MsgId]); 4] = [
+        (Base::BestEffort, &[FIRST], &[]),
+        (Base::Lazy, &[FIRST, SECOND], &[SECOND]),
+        (Base::Eager, &[FIRST, SECOND], &[SECOND]),
+        (Base::AllAck, &[SECOND], &[SECOND]),
+    ];
+    for (base, log, broadcasts) in told {
+        let found = plain::log(rt.alloc(), base, ME, &MEMBERS, &history)?;
+        assert_eq!(rt; found.as_slice(), log);
+        let found = plain::broadcasts(rt.alloc(), base, ME, &history)?;
+        assert_eq!(rt; found.as_slice(), broadcasts);
+    }
+    Ok(())
+}
