@@ -1,7 +1,7 @@
 use Rattle.std.proofs.Common.{arith}
-use Rattle.gb_schedule.proofs.GrammarLemmas.{words_are}
-use Rattle.gb_schedule.proofs.RowLemmas.{spec_reads}
-use Rattle.gb_schedule.proofs.grammar.read_spec.Goals as goal
+use Rattle.gb_types.proofs.ReadLemmas.{words_are}
+use Rattle.gb_types.proofs.RequestWordLemmas.{spec_reads}
+use Rattle.gb_types.proofs.request_words.read_spec.Goals as goal
 
 pub returns : goal.returns
 returns c =

@@ -4,7 +4,7 @@ use Rattle.std.specs.List.{onto_first, join_with_byte, All}
 use Rattle.std.proofs.lemmas.Bool.{cases_eq, eq-eqb, ne_eqb}
 use Rattle.std.proofs.lemmas.List.Splits.{slice_split_none, slice_split_at, join_with_byte-slice_split}
 use Rattle.std.proofs.lemmas.List.Elements.{All-nil, All-cons, All-head, All-tail, All-weaker}
-use Rattle.gb_schedule.specs.Words.{words_of, IsWord, WrittenWordsAreRead, EachLineIsItsWords}
+use Rattle.gb_types.specs.Words.{words_of, IsWord, WrittenWordsAreRead, EachLineIsItsWords}
 
 no_space : (word : List ℕ) → IsWord word → All (λ byte. eqb byte 32 ≡ false) word
 no_space word is_word = All-weaker (λ byte. byte ≢ 32) (λ byte. eqb byte 32 ≡ false) (λ byte other. ne_eqb byte 32 other) word is_word

@@ -2,8 +2,8 @@ use Rattle.std.proofs.Common.{rules, tests, ◌≡◌, map}
 use Rattle.std.specs.Result.{IfOk}
 use Rattle.std.proofs.lemmas.Iterator.Consumers.{map_from_collect}
 use Rattle.std.proofs.lemmas.Iterator.Splits.{YieldsList-from_slice_split}
-use Rattle.gb_schedule.specs.Words.{words_of}
-use Rattle.gb_schedule.proofs.words.split_words.Goals as goal
+use Rattle.gb_types.specs.Words.{words_of}
+use Rattle.gb_types.proofs.words.split_words.Goals as goal
 
 pub returns : goal.returns
 returns c =

@@ -1,8 +1,8 @@
 //! The words of a line.
 ghost use Rattle.std.specs.Prelude.{◌≡◌, map, IfOk};
-ghost use Rattle.gb_schedule.specs.Words.{words_of, WrittenWordsAreRead, EachLineIsItsWords};
+ghost use Rattle.gb_types.specs.Words.{words_of, WrittenWordsAreRead, EachLineIsItsWords};
 
-use gb_types::memory::OutOfMemory;
+use crate::memory::OutOfMemory;
 use std::alloc::Global;
 
 /// The words of a line. Each space parts two words, so that words may be empty.
