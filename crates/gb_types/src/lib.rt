@@ -23,7 +23,7 @@ pub mod reply_text;
 pub mod request;
 pub mod request_words;
 pub mod spec;
-pub mod token_word;
-pub mod words;
 #[cfg(test)]
 mod tests;
+pub mod token_word;
+pub mod words;
