@@ -60,7 +60,7 @@ asked_first answers s t requests before after n m is_over first = (first.0, firs
 -- nothing was read yet
 pub served_none : {S : Type 0} (answers : S → Request → Reply → S → Type 0) (s : S) (input before : Option (List ℕ)) (feed : FeedValue) (count reads : ℕ) → feed ≡ record { begun = []; is_malformed = false } → count ≡ 0 → reads ≡ 0
     → HasServed answers s s input input before before feed count reads
-served_none answers s input before feed count reads is none zero =
+served_none answers s input before feed count reads is none none_yet =
     let fresh : HasGiven [] [] (record { begun = []; is_malformed = false }) = record { rest = []; holds = refl; stands = (refl, inl (omega arith)) } in
     ([], Consumes-none input, [], [], subst (HasGiven [] []) (sym is) fresh, ap (λ f. f.is_malformed) is, refl, Appends-none before, none, omega arith, omega arith)
 

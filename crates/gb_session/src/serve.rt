@@ -224,3 +224,6 @@ pub fn serve<A: Answers, R: Read, W: Write>(
     }
     Ok(SessionEnd::Limit)
 }
+
+#[cfg(test)]
+mod tests;

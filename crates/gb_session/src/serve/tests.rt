@@ -4,9 +4,8 @@ ghost use Rattle.gb_types.specs.declared.refusal.Refusal.TheVariants as refusals
 ghost use Rattle.gb_types.specs.declared.reply.Reply.TheVariants.{Refused};
 
 use super::*;
-use std::cmp;
-use std::io;
 use std::test::Fail;
+use std::{cmp, io};
 
 /// Answers as a node without tenants does.
 #[derive(Drop)]
@@ -125,7 +124,12 @@ fn with_space(alloc: Global, left: usize) -> Space {
 fn is_held(alloc: Global, case: &Case, piece: usize) -> Result<bool, SessionFault> {
     let (read, written, end) = *case;
     let mut out = with_space(alloc, 1_000);
-    let found = serve(alloc, &mut Denies, &mut in_pieces(read, piece, false), &mut out)?;
+    let found = serve(
+        alloc,
+        &mut Denies,
+        &mut in_pieces(read, piece, false),
+        &mut out,
+    )?;
     Ok(found == end && out.taken.as_slice() == written)
 }
 
