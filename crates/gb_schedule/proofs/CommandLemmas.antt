@@ -4,9 +4,9 @@ use Rattle.std.specs.Result.{IfOk}
 use Rattle.gb_schedule.specs.declared.command.Command.{Command}
 use Rattle.gb_schedule.specs.declared.head.Head.{Head}
 use Rattle.gb_schedule.specs.Head.{head_word}
-use Rattle.gb_schedule.specs.Words.{words_of}
+use Rattle.gb_types.specs.Words.{words_of}
 use Rattle.gb_schedule.specs.Grammar.{Spells, IsCommandLine}
-use Rattle.gb_schedule.proofs.GrammarLemmas.{Reads, found, only}
+use Rattle.gb_types.proofs.ReadLemmas.{Reads, found, only}
 
 -- what is found is the command that is spelt, and nothing else is spelt
 abbrev pub Finds : (Command → Type 0) → Option Command → Type 0

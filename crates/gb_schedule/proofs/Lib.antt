@@ -2,9 +2,7 @@ pub mod LineLemmas
 pub mod LineLaws
 pub mod LeftLemmas
 pub mod CutLemmas
-pub mod GrammarLemmas
 pub mod RowLemmas
 pub mod CommandLemmas
-pub mod WordLaws
 pub mod SilentLemmas
 pub mod PlaceLemmas

@@ -1,37 +1,24 @@
 -- For each head: the command that its words spell, from what the readers of its words found.
-use Rattle.std.proofs.Common.{◌≡◌, ◌≢◌, ℕ, ◌<◌, ◌≤◌, List, [], ◌∷◌, Some, refl, sym, ◌∙◌, decimal, arith}
-use Rattle.std.specs.FinSet as set
-use Rattle.std.specs.Ordering.{nat_cmp}
+use Rattle.std.proofs.Common.{◌≡◌, ℕ, ◌<◌, ◌≤◌, List, [], ◌∷◌, Some, refl, sym, ◌∙◌, decimal, arith}
 use Rattle.gb_types.specs.declared.limits.TheConstants.{NODES, SILENCE_MIN, SILENCE_MAX}
-use Rattle.gb_types.specs.Rising.{AreNodes}
-use Rattle.gb_types.specs.KindWord.{kind_word}
-use Rattle.gb_types.specs.MembersWord.{members_word}
 use Rattle.gb_types.specs.PayloadWord.{payload_of}
-use Rattle.gb_types.specs.declared.kind.Kind.{Kind}
 use Rattle.gb_types.specs.declared.node.NodeId.{NodeId}
 use Rattle.gb_types.specs.declared.address.Addr.{Addr}
 use Rattle.gb_types.specs.declared.spec.Spec.{Spec}
 use Rattle.gb_types.specs.declared.spec.TenantRow.{TenantRow}
 use Rattle.gb_types.specs.declared.request.Request.TheVariants.{AddTenant, Make, OpenGroup, Say, Fetch}
 use Rattle.gb_schedule.specs.declared.command.Command.TheVariants.{Cluster, Request, Pack, Again, Ack, Tick, Stop}
-use Rattle.gb_schedule.specs.Grammar.{no_token, IsShort, IsLong, SpellsSpec, SpellsCluster, SpellsTenant, SpellsMake, SpellsOpen, SpellsSay, SpellsFetch, SpellsPack, SpellsAgain, SpellsAck, SpellsTick, SpellsStop}
-use Rattle.gb_schedule.proofs.GrammarLemmas.{Reads, found, only, reads_one, some_same}
+use Rattle.gb_types.specs.RequestWords.{SpellsSpec}
+use Rattle.gb_types.proofs.RequestWordLemmas.{IsShortWord, IsLongWord, AreAddressWords}
+use Rattle.gb_schedule.specs.Grammar.{no_token, SpellsCluster, SpellsTenant, SpellsMake, SpellsOpen, SpellsSay, SpellsFetch, SpellsPack, SpellsAgain, SpellsAck, SpellsTick, SpellsStop}
+use Rattle.gb_types.proofs.ReadLemmas.{Reads, found, only, reads_one, some_same}
 
 -- what the readers of single words find
-abbrev pub IsShortWord : List ℕ → ℕ → Type 0
-IsShortWord word n = IsShort n × (word ≡ decimal n)
-
-abbrev pub IsLongWord : List ℕ → ℕ → Type 0
-IsLongWord word n = IsLong n × (word ≡ decimal n)
-
 abbrev pub IsNodeWord : ℕ → List ℕ → NodeId → Type 0
 IsNodeWord nodes word node = (node.number < nodes) × (word ≡ decimal node.number)
 
 abbrev pub IsFrameWord : List ℕ → ℕ → Type 0
 IsFrameWord word n = (n ≤ 18446744073709551615) × (word ≡ decimal n)
-
-abbrev pub AreAddressWords : List ℕ → List ℕ → Addr → Type 0
-AreAddressWords t g address = IsShort address.tenant × (t ≡ decimal address.tenant) × IsShort address.group × (g ≡ decimal address.group)
 
 pub open_reads : (nodes : ℕ) (words : List (List ℕ)) (a t g : List ℕ) (node : NodeId) (address : Addr) → words ≡ a ∷ t ∷ g ∷ []
     → Reads (IsNodeWord nodes a) node → Reads (AreAddressWords t g) address
@@ -111,34 +98,6 @@ tenant_reads nodes words a t gs m b w node tenant groups msgs bytes window are r
     let same_key : no_token ≡ other.key = sym spelt.key in
     let same_row : row ≡ other = λ i. record { tenant = same_tenant i; key = same_key i; groups = same_groups i; msgs = same_msgs i; bytes = same_bytes i; window = same_window i } in
     cc spelt.command_is)
-
-pub spec_reads : (words : List (List ℕ)) (k ms m b w : List ℕ) (kind : Kind) (members : set.FinSet nat_cmp) (msgs bytes window : ℕ) → words ≡ k ∷ ms ∷ m ∷ b ∷ w ∷ []
-    → Reads (λ x. k ≡ kind_word x) kind → Reads (λ s. AreNodes s × (s ≢ set.empty) × (ms ≡ members_word s)) members
-    → Reads (IsLongWord m) msgs → Reads (IsLongWord b) bytes → Reads (IsLongWord w) window
-    → Reads (λ spec. SpellsSpec spec words) (record { kind = kind; members = members; msgs = msgs; bytes = bytes; window = window })
-spec_reads words k ms m b w kind members msgs bytes window are reads_kind reads_members reads_msgs reads_bytes reads_window =
-    let is_kind = found (λ x. k ≡ kind_word x) kind reads_kind in
-    let is_members = found (λ s. AreNodes s × (s ≢ set.empty) × (ms ≡ members_word s)) members reads_members in
-    let is_msgs = found (IsLongWord m) msgs reads_msgs in
-    let is_bytes = found (IsLongWord b) bytes reads_bytes in
-    let is_window = found (IsLongWord w) window reads_window in
-    let spec : Spec = record { kind = kind; members = members; msgs = msgs; bytes = bytes; window = window } in
-    let here : SpellsSpec spec words = record {
-      words_are = cc (are, is_kind, is_members.2, is_msgs.1, is_bytes.1, is_window.1);
-      are_nodes = is_members.0;
-      not_empty = is_members.1;
-      msgs = is_msgs.0;
-      bytes = is_bytes.0;
-      window = is_window.0;
-    } in
-    reads_one (λ spec. SpellsSpec spec words) _ here (λ other spelt.
-    let same : k ∷ ms ∷ m ∷ b ∷ w ∷ [] ≡ kind_word other.kind ∷ members_word other.members ∷ decimal other.msgs ∷ decimal other.bytes ∷ decimal other.window ∷ [] = sym are ∙ spelt.words_are in
-    let same_kind : kind ≡ other.kind = only (λ x. k ≡ kind_word x) kind other.kind reads_kind cc in
-    let same_members : members ≡ other.members = only (λ s. AreNodes s × (s ≢ set.empty) × (ms ≡ members_word s)) members other.members reads_members (spelt.are_nodes, spelt.not_empty, cc) in
-    let same_msgs : msgs ≡ other.msgs = only (IsLongWord m) msgs other.msgs reads_msgs (spelt.msgs, cc) in
-    let same_bytes : bytes ≡ other.bytes = only (IsLongWord b) bytes other.bytes reads_bytes (spelt.bytes, cc) in
-    let same_window : window ≡ other.window = only (IsLongWord w) window other.window reads_window (spelt.window, cc) in
-    λ i. record { kind = same_kind i; members = same_members i; msgs = same_msgs i; bytes = same_bytes i; window = same_window i })
 
 pub make_reads : (nodes : ℕ) (words : List (List ℕ)) (a t g : List ℕ) (rest : List (List ℕ)) (node : NodeId) (address : Addr) (spec : Spec) → words ≡ a ∷ t ∷ g ∷ rest
     → Reads (IsNodeWord nodes a) node → Reads (AreAddressWords t g) address → Reads (λ x. SpellsSpec x rest) spec

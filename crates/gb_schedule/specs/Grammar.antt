@@ -1,12 +1,9 @@
 -- The grammar of a schedule: for each head, the words behind it and the command that they spell. Numbers are decimal,
 -- without a leading zero.
-use Rattle.std.specs.Prelude.{◌≡◌, ◌≢◌, ℕ, ◌<◌, ◌≤◌, List, [], ◌∷◌, Option, None, Some, decimal, replicate}
-use Rattle.std.specs.FinSet as set
+use Rattle.std.specs.Prelude.{◌≡◌, ℕ, ◌<◌, ◌≤◌, List, [], ◌∷◌, Option, None, Some, decimal, replicate}
 use Rattle.gb_types.specs.declared.limits.TheConstants.{NODES, SILENCE_MIN, SILENCE_MAX}
-use Rattle.gb_types.specs.Rising.{AreNodes}
-use Rattle.gb_types.specs.KindWord.{kind_word}
-use Rattle.gb_types.specs.MembersWord.{members_word}
 use Rattle.gb_types.specs.PayloadWord.{payload_of}
+use Rattle.gb_types.specs.RequestWords.{IsShort, IsLong, SpellsSpec}
 use Rattle.gb_types.specs.declared.node.NodeId.{NodeId}
 use Rattle.gb_types.specs.declared.address.Addr.{Addr}
 use Rattle.gb_types.specs.declared.spec.Spec.{Spec}
@@ -17,27 +14,11 @@ use Rattle.gb_schedule.specs.declared.command.Command.TheVariants.{Cluster, Requ
 use Rattle.gb_schedule.specs.declared.head.Head.{Head}
 use Rattle.gb_schedule.specs.declared.head.Head.TheVariants as heads
 use Rattle.gb_schedule.specs.Head.{head_word}
-use Rattle.gb_schedule.specs.Words.{words_of}
+use Rattle.gb_types.specs.Words.{words_of}
 
 -- the token of each request and the key of each tenant, until there are tokens
 abbrev pub no_token : List ℕ
 no_token = replicate 32 0
-
--- tenants and groups have numbers of two bytes, the other numbers of a request have four
-abbrev pub IsShort : ℕ → Type 0
-IsShort n = n ≤ 65535
-
-abbrev pub IsLong : ℕ → Type 0
-IsLong n = n ≤ 4294967295
-
--- what a group is made with, in the words KIND MEMBERS MSGS BYTES WINDOW
-pub record SpellsSpec (spec : Spec) (words : List (List ℕ)) : Type 0 where
-  pub words_are : words ≡ kind_word spec.kind ∷ members_word spec.members ∷ decimal spec.msgs ∷ decimal spec.bytes ∷ decimal spec.window ∷ []
-  pub are_nodes : AreNodes spec.members
-  pub not_empty : spec.members ≢ set.empty
-  pub msgs : IsLong spec.msgs
-  pub bytes : IsLong spec.bytes
-  pub window : IsLong spec.window
 
 -- `cluster N S`
 pub record SpellsCluster (command : Command) (words : List (List ℕ)) : Type 0 where

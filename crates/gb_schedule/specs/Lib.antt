@@ -3,5 +3,4 @@ pub mod LineLaws
 pub mod Buffered
 pub mod LineBuffer
 pub mod Head
-pub mod Words
 pub mod Grammar

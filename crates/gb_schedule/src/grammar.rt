@@ -2,43 +2,25 @@
 ghost use Rattle.std.specs.Prelude.{◌≡◌, ◌≤◌, ◌<◌, ◌↔◌, ℕ, [], ◌∷◌, Some, IfOk, IfSome, IsTrue, decimal, map};
 ghost use Rattle.std.specs.Option.{ForSome};
 ghost use Rattle.gb_types.specs.declared.node.NodeId.{NodeId as TheNode};
-ghost use Rattle.gb_types.specs.declared.address.Addr.{Addr as TheAddress};
-ghost use Rattle.gb_types.specs.declared.spec.Spec.{Spec as TheSpec};
 ghost use Rattle.gb_schedule.specs.declared.command.Command.{Command as TheCommand};
-ghost use Rattle.gb_schedule.specs.Grammar.{IsShort, IsLong, SpellsSpec, SpellsCluster, SpellsTenant, SpellsMake, SpellsOpen, SpellsSay, SpellsFetch, SpellsPack, SpellsAgain, SpellsAck, SpellsArrive, SpellsTick, SpellsStop, Spells, IsCommandLine, IsInPlace, IsSilent, SilentLinesSpellNothing};
+ghost use Rattle.gb_schedule.specs.Grammar.{SpellsCluster, SpellsTenant, SpellsMake, SpellsOpen, SpellsSay, SpellsFetch, SpellsPack, SpellsAgain, SpellsAck, SpellsArrive, SpellsTick, SpellsStop, Spells, IsCommandLine, IsInPlace, IsSilent, SilentLinesSpellNothing};
 
 use crate::command::Command;
 use crate::head::{Head, read_head};
-use crate::words::split_words;
-use gb_types::address::Addr;
-use gb_types::kind_word::read_kind;
 use gb_types::limits::{NODES, SILENCE_MAX, SILENCE_MIN};
-use gb_types::members_word::read_members;
 use gb_types::memory::OutOfMemory;
 use gb_types::node::NodeId;
 use gb_types::number::read_number;
 use gb_types::payload::Payload;
 use gb_types::payload_word::read_payload;
 use gb_types::request::Request;
-use gb_types::spec::{Spec, TenantRow};
+use gb_types::request_words::{read_address, read_spec, read_u16, read_u32};
+use gb_types::spec::TenantRow;
+use gb_types::words::split_words;
 use std::alloc::Global;
 
 /// The token of each request and the key of each tenant, until there are tokens.
 const NO_TOKEN: [u8; 32] = [0; 32];
-
-// A number of two bytes.
-fn read_u16(word: &[u8]) -> Option<u16>
-    ensures { (n : ℕ) → (result ≡ Some n) ↔ (IsShort n × (word.now ≡ decimal n)) }
-{
-    Some(read_number(word, 65_535)? as u16)
-}
-
-// A number of four bytes.
-fn read_u32(word: &[u8]) -> Option<u32>
-    ensures { (n : ℕ) → (result ≡ Some n) ↔ (IsLong n × (word.now ≡ decimal n)) }
-{
-    Some(read_number(word, 4_294_967_295)? as u32)
-}
 
 // A number from the least to the most.
 fn read_between(word: &[u8], least: u64, most: u64) -> Option<u64>
@@ -60,39 +42,6 @@ fn read_node(word: &[u8], nodes: u8) -> Option<NodeId>
 {
     let number = read_number(word, u64::from(nodes) - 1)?;
     Some(NodeId::new(number as u8))
-}
-
-// An address.
-fn read_address(tenant: &[u8], group: &[u8]) -> Option<Addr>
-    ensures { (address : TheAddress) → (result ≡ Some address)
-        ↔ (IsShort address.tenant × (tenant.now ≡ decimal address.tenant)
-        × IsShort address.group × (group.now ≡ decimal address.group)) }
-{
-    let tenant = read_u16(tenant)?;
-    let group = read_u16(group)?;
-    Some(Addr { tenant, group })
-}
-
-// KIND MEMBERS MSGS BYTES WINDOW
-fn read_spec(words: &[&[u8]]) -> Option<Spec>
-    ensures { (spec : TheSpec) → (result ≡ Some spec)
-        ↔ SpellsSpec spec (map (λ word. word.now) words.now) }
-{
-    let [kind, members, msgs, bytes, window] = words else {
-        return None;
-    };
-    let kind = read_kind(kind)?;
-    let members = read_members(members)?;
-    let msgs = read_u32(msgs)?;
-    let bytes = read_u32(bytes)?;
-    let window = read_u32(window)?;
-    Some(Spec {
-        kind,
-        members,
-        msgs,
-        bytes,
-        window,
-    })
 }
 
 // cluster N S

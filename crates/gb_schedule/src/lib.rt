@@ -7,4 +7,3 @@ pub mod command;
 pub mod grammar;
 pub mod head;
 pub mod lines;
-pub mod words;

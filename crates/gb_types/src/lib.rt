@@ -1,5 +1,5 @@
 //! The words that every crate shares: limits, nodes, addresses, requests and replies; how a reply is spelt, and
-//! how numbers, kinds, members and payloads stand in words. There is no state and no rule here. Read
+//! how numbers, kinds, members, payloads and tokens stand in words. There is no state and no rule here. Read
 //! `request::Request` and `reply::Reply` first.
 #![tactic(auto)]
 
@@ -21,6 +21,9 @@ pub mod refusal;
 pub mod reply;
 pub mod reply_text;
 pub mod request;
+pub mod request_words;
 pub mod spec;
 #[cfg(test)]
 mod tests;
+pub mod token_word;
+pub mod words;

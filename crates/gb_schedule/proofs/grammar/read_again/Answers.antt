@@ -1,5 +1,5 @@
 use Rattle.std.proofs.Common.{arith}
-use Rattle.gb_schedule.proofs.GrammarLemmas.{words_are}
+use Rattle.gb_types.proofs.ReadLemmas.{words_are}
 use Rattle.gb_schedule.proofs.RowLemmas.{again_reads}
 use Rattle.gb_schedule.proofs.grammar.read_again.Goals as goal
 

@@ -1,5 +1,5 @@
 use Rattle.std.proofs.Common.{◌≡◌, ◌≤◌, decimal}
-use Rattle.gb_schedule.proofs.GrammarLemmas.{found, only, reads_one}
+use Rattle.gb_types.proofs.ReadLemmas.{found, only, reads_one}
 use Rattle.gb_schedule.proofs.grammar.read_between.Goals as goal
 
 pub returns : goal.returns

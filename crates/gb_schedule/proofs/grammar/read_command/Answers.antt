@@ -1,7 +1,7 @@
 use Rattle.std.proofs.Common.{sym, ap, map, ◌∙◌, arith}
 use Rattle.std.specs.Result.{IfOk}
 use Rattle.gb_schedule.specs.Grammar.{IsCommandLine}
-use Rattle.gb_schedule.proofs.GrammarLemmas.{words_and_rest}
+use Rattle.gb_types.proofs.ReadLemmas.{words_and_rest}
 use Rattle.gb_schedule.proofs.CommandLemmas.{Finds, command_found}
 use Rattle.gb_schedule.proofs.PlaceLemmas.{command_in_place}
 use Rattle.gb_schedule.proofs.grammar.read_command.Goals as goal

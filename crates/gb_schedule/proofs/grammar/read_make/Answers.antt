@@ -1,5 +1,5 @@
 use Rattle.std.proofs.Common.{arith}
-use Rattle.gb_schedule.proofs.GrammarLemmas.{words_and_rest}
+use Rattle.gb_types.proofs.ReadLemmas.{words_and_rest}
 use Rattle.gb_schedule.proofs.RowLemmas.{make_reads}
 use Rattle.gb_schedule.proofs.grammar.read_make.Goals as goal
 

@@ -1,6 +1,6 @@
 use Rattle.std.proofs.Common.{◌∙◌, arith}
 use Rattle.gb_types.proofs.SameLemmas.{same_number}
-use Rattle.gb_schedule.proofs.GrammarLemmas.{found, only, reads_one}
+use Rattle.gb_types.proofs.ReadLemmas.{found, only, reads_one}
 use Rattle.gb_schedule.proofs.RowLemmas.{IsNodeWord}
 use Rattle.gb_schedule.proofs.grammar.read_node.Goals as goal
 

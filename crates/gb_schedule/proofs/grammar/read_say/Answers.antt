@@ -1,5 +1,5 @@
 use Rattle.std.proofs.Common.{Some, sym, ap, ◌∙◌, arith}
-use Rattle.gb_schedule.proofs.GrammarLemmas.{words_are}
+use Rattle.gb_types.proofs.ReadLemmas.{words_are}
 use Rattle.gb_schedule.proofs.RowLemmas.{say_reads}
 use Rattle.gb_schedule.proofs.grammar.read_say.Goals as goal
 

@@ -1,9 +1,0 @@
-use Rattle.std.proofs.Common.{arith}
-use Rattle.gb_schedule.proofs.GrammarLemmas.{words_are}
-use Rattle.gb_schedule.proofs.RowLemmas.{spec_reads}
-use Rattle.gb_schedule.proofs.grammar.read_spec.Goals as goal
-
-pub returns : goal.returns
-returns c =
-    spec_reads _ _ _ _ _ _ _ _ _ _ _ (words_are c.args.words.now _ 5 (omega arith))
-    c.in_ok-kind.ensures c.in_ok-members.ensures c.in_ok-msgs.ensures c.in_ok-bytes.ensures c.in_ok-window.ensures

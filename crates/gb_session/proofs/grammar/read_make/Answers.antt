@@ -1,0 +1,7 @@
+use Rattle.std.proofs.Common.{arith}
+use Rattle.gb_types.proofs.ReadLemmas.{words_and_rest}
+use Rattle.gb_session.proofs.RequestLemmas.{make_reads}
+use Rattle.gb_session.proofs.grammar.read_make.Goals as goal
+
+pub returns : goal.returns
+returns c = make_reads _ _ _ _ _ _ _ (words_and_rest c.args.words.now _ 2 (omega arith)) c.in_ok-address.ensures c.in_ok-spec.ensures

@@ -1,0 +1,9 @@
+use Rattle.std.proofs.Common.{sym, ◌∙◌, arith}
+use Rattle.gb_types.proofs.ReadLemmas.{words_are}
+use Rattle.gb_session.proofs.RequestLemmas.{tenant_reads}
+use Rattle.gb_session.proofs.grammar.read_tenant.Goals as goal
+
+pub returns : goal.returns
+returns c =
+    tenant_reads _ _ _ _ _ _ _ _ _ _ _ _ _ _ (words_are c.args.words.now _ 6 (omega arith))
+    c.in_ok-tenant.ensures (sym c.in_ok-key.ensures) c.in_ok-groups.ensures c.in_ok-msgs.ensures c.in_ok-bytes.ensures c.in_ok-window.ensures

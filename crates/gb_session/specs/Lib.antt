@@ -1,0 +1,9 @@
+pub mod Head
+pub mod Grammar
+pub mod Streams
+pub mod Fronts
+pub mod Feeds
+pub mod FeedState
+pub mod Runs
+pub mod Sessions
+pub mod Progress

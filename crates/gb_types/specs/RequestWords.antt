@@ -1,0 +1,23 @@
+-- The words that requests are spelt in.
+use Rattle.std.specs.Prelude.{◌≡◌, ◌≢◌, ℕ, ◌≤◌, List, [], ◌∷◌, decimal}
+use Rattle.std.specs.FinSet as set
+use Rattle.gb_types.specs.Rising.{AreNodes}
+use Rattle.gb_types.specs.KindWord.{kind_word}
+use Rattle.gb_types.specs.MembersWord.{members_word}
+use Rattle.gb_types.specs.declared.spec.Spec.{Spec}
+
+-- tenants and groups have numbers of two bytes, the other numbers of a request have four
+abbrev pub IsShort : ℕ → Type 0
+IsShort n = n ≤ 65535
+
+abbrev pub IsLong : ℕ → Type 0
+IsLong n = n ≤ 4294967295
+
+-- what a group is made with, in the words KIND MEMBERS MSGS BYTES WINDOW
+pub record SpellsSpec (spec : Spec) (words : List (List ℕ)) : Type 0 where
+  pub words_are : words ≡ kind_word spec.kind ∷ members_word spec.members ∷ decimal spec.msgs ∷ decimal spec.bytes ∷ decimal spec.window ∷ []
+  pub are_nodes : AreNodes spec.members
+  pub not_empty : spec.members ≢ set.empty
+  pub msgs : IsLong spec.msgs
+  pub bytes : IsLong spec.bytes
+  pub window : IsLong spec.window

@@ -1,0 +1,58 @@
+//! The words of requests: numbers of two and of four bytes, addresses, and what a group is made with.
+ghost use Rattle.std.specs.Prelude.{◌≡◌, ◌↔◌, ℕ, Some, decimal, map};
+ghost use Rattle.gb_types.specs.RequestWords.{IsShort, IsLong, SpellsSpec};
+ghost use Rattle.gb_types.specs.declared.address.Addr.{Addr as TheAddress};
+ghost use Rattle.gb_types.specs.declared.spec.Spec.{Spec as TheSpec};
+
+use crate::address::Addr;
+use crate::kind_word::read_kind;
+use crate::members_word::read_members;
+use crate::number::read_number;
+use crate::spec::Spec;
+
+/// A number of two bytes, 0 to 65,535.
+pub fn read_u16(word: &[u8]) -> Option<u16>
+    ensures { (n : ℕ) → (result ≡ Some n) ↔ (IsShort n × (word.now ≡ decimal n)) }
+{
+    Some(read_number(word, 65_535)? as u16)
+}
+
+/// A number of four bytes, 0 to 4,294,967,295.
+pub fn read_u32(word: &[u8]) -> Option<u32>
+    ensures { (n : ℕ) → (result ≡ Some n) ↔ (IsLong n × (word.now ≡ decimal n)) }
+{
+    Some(read_number(word, 4_294_967_295)? as u32)
+}
+
+/// The address of a group: T and G.
+pub fn read_address(tenant: &[u8], group: &[u8]) -> Option<Addr>
+    ensures { (address : TheAddress) → (result ≡ Some address)
+        ↔ (IsShort address.tenant × (tenant.now ≡ decimal address.tenant)
+        × IsShort address.group × (group.now ≡ decimal address.group)) }
+{
+    let tenant = read_u16(tenant)?;
+    let group = read_u16(group)?;
+    Some(Addr { tenant, group })
+}
+
+/// What a group is made with: KIND MEMBERS MSGS BYTES WINDOW.
+pub fn read_spec(words: &[&[u8]]) -> Option<Spec>
+    ensures { (spec : TheSpec) → (result ≡ Some spec)
+        ↔ SpellsSpec spec (map (λ word. word.now) words.now) }
+{
+    let [kind, members, msgs, bytes, window] = words else {
+        return None;
+    };
+    let kind = read_kind(kind)?;
+    let members = read_members(members)?;
+    let msgs = read_u32(msgs)?;
+    let bytes = read_u32(bytes)?;
+    let window = read_u32(window)?;
+    Some(Spec {
+        kind,
+        members,
+        msgs,
+        bytes,
+        window,
+    })
+}

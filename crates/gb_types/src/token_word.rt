@@ -1,0 +1,12 @@
+//! Tokens and keys in words: 64 hexadecimal digits.
+ghost use Rattle.std.specs.Prelude.{◌≡◌};
+ghost use Rattle.gb_types.specs.TokenWord.{token_of};
+
+use hex::FromHex;
+
+/// The 32 bytes that a word spells, with digits of both cases.
+pub fn read_token(word: &[u8]) -> Option<[u8; 32]>
+    ensures { result ≡ token_of word.now }
+{
+    <[u8; 32] as FromHex>::from_hex(word).ok()
+}

@@ -1,0 +1,20 @@
+//! The words of a line.
+ghost use Rattle.std.specs.Prelude.{◌≡◌, map, IfOk};
+ghost use Rattle.gb_types.specs.Words.{words_of, WrittenWordsAreRead, EachLineIsItsWords};
+
+use crate::memory::OutOfMemory;
+use std::alloc::Global;
+
+/// The words of a line. Each space parts two words, so that words may be empty.
+pub fn split_words(alloc: Global, line: &[u8]) -> Result<Vec<&[u8]>, OutOfMemory>
+    ensures { IfOk result (λ words. map (λ word. word.now) words.items ≡ words_of line.now) }
+{
+    Ok(line.split(|byte| *byte == b' ').collect(alloc)?)
+}
+
+/// What the words of a line are: words that were written with single spaces between them are read
+/// again, and each line is its words.
+pub fn words_are_the_parts_of_a_line()
+    ensures written { WrittenWordsAreRead }
+    ensures each { EachLineIsItsWords }
+{}
