@@ -1,5 +1,5 @@
 -- What stands in a line buffer, and what is left of a text that is read through one.
-use Rattle.std.specs.Prelude.{◌≡◌, ◌≢◌, ℕ, ◌<◌, ◌≤◌, ◌⊎◌, Bool, true, List, [], ◌∷◌, ◌++◌, length, Option, None, Some, ⊤, if◌then◌else◌, slice_index}
+use Rattle.std.specs.Prelude.{◌≡◌, ◌≢◌, ℕ, ◌<◌, ◌≤◌, ◌⊎◌, Bool, true, false, List, [], ◌∷◌, ◌++◌, length, Option, None, Some, ⊤, if◌then◌else◌, slice_index}
 use Rattle.std.specs.Io.KnownBytes.{prepend_known}
 use Rattle.gb_schedule.specs.declared.lines.TheConstants.{LINE}
 use Rattle.gb_schedule.specs.Lines.{IsLine}
@@ -34,3 +34,9 @@ pub record CutsLine (line old new : List ℕ) (has_ended : Bool) : Type 0 where
 -- the unread bytes begin with more than a longest line, and no line feed in it
 abbrev pub IsTooLong : List ℕ → Type 0
 IsTooLong unread = (line : List ℕ) × (rest : List ℕ) × IsLine line × (LINE < length line) × (unread ≡ line ++ rest)
+
+-- no line can be given without a read: the unread bytes hold none, and the reader has not ended
+pub record WantsRead (b : Buffered) : Type 0 where
+  pub unended : IsLine b.unread
+  pub short : length b.unread ≤ LINE
+  pub goes_on : b.has_ended ≡ false

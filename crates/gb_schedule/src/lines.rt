@@ -1,22 +1,27 @@
 //! The lines of a text, read from any reader.
-ghost use Rattle.std.specs.Prelude.{◌≡◌, ◌≢◌, ◌≤◌, ◌<◌, ◌+◌, ◌↔◌, ◌⊎◌, ℕ, [], ◌∷◌, ◌++◌, true, false, length, slice_index, vec_len, IfSome, IfNone, IfOk, IsTrue};
+ghost use Rattle.std.specs.Prelude.{◌≡◌, ◌≢◌, ◌≤◌, ◌<◌, ◌+◌, ◌↔◌, ◌⊎◌, ℕ, [], ◌∷◌, ◌++◌, true, false, length, slice_index, vec_len, IfSome, IfNone, IfOk, OnErr, IsTrue};
+ghost use Rattle.std.specs.IoError.{error_kind};
+ghost use Rattle.std.specs.List.{copy_within};
 ghost use Rattle.std.specs.Io.KnownBytes.{Keeps};
 ghost use Rattle.gb_schedule.specs.Lines.{IsLine, GivesLine, BeginsLonger};
 ghost use Rattle.gb_schedule.specs.LineLaws.{WrittenLinesAreRead, LastMayLackItsLineFeed, EachTextIsItsLines};
-ghost use Rattle.gb_schedule.specs.Buffered.{left, WhereKnown, NoLineFeed, CutsLine, IsTooLong};
+ghost use Rattle.gb_schedule.specs.Buffered.{left, WhereKnown, WantsRead, NoLineFeed, CutsLine, IsTooLong};
 
 use gb_types::memory::OutOfMemory;
 use memchr::memchr;
 use std::alloc::Global;
-use std::io::{ErrorKind, Read};
+use std::io::{Error, ErrorKind, Read};
 use std::marker::Model;
-use thiserror::Error;
 
 /// The bytes of the longest line, its line feed not counted.
 pub const LINE: usize = 32_768;
 
+const _: () = prove!(LINE == 32_768);
+
 /// How many reads are made at most.
 pub const READS: u64 = 64_000_000;
+
+const _: () = prove!(READS == 64_000_000);
 
 /// The bytes that are kept at once: a line that is not whole yet, and as much again for a read.
 const SPACE: usize = 65_536;
@@ -33,7 +38,7 @@ pub enum NextLine {
 }
 
 /// Why no line came.
-#[derive(Clone, Copy, Debug, PartialEq, Eq, Error)]
+#[derive(Clone, Copy, Debug, PartialEq, Eq, thiserror::Error)]
 pub enum LinesFault {
     /// A read failed.
     #[error("a read failed")]
@@ -76,6 +81,31 @@ fn line_feed_within(bytes: &[u8], from: usize, to: usize) -> Option<usize>
     match memchr(b'\n', &bytes[from..to]) {
         Some(place) => Some(from + place),
         None => None,
+    }
+}
+
+// What the error of a read comes to: none where a signal interrupted it, since the next read is made
+// then as after a read that gave nothing yet.
+fn judge_error(error: &Error) -> Result<(), LinesFault>
+    ensures interrupted { error_kind error.now ≡ ErrorKind.Interrupted → result ≡ Ok tt }
+    ensures failed { error_kind error.now ≢ ErrorKind.Interrupted → result ≡ Err LinesFault.Read }
+{
+    match error.kind() {
+        ErrorKind::Interrupted => Ok(()),
+        _ => Err(LinesFault::Read),
+    }
+}
+
+// Moves a part of the bytes to the front. It is not copied where it stands there, so that an
+// unfinished line, to which bytes come behind, is copied once at most.
+fn move_to_front(bytes: &mut Vec<u8>, start: usize, end: usize)
+    requires ordered { start ≤ end }
+    requires within { end ≤ vec_len bytes.old }
+    ensures items { bytes.new.items ≡ copy_within bytes.old.items start end 0 }
+    ensures len { vec_len bytes.new ≡ vec_len bytes.old }
+{
+    if start > 0 {
+        bytes.copy_within(start..end, 0);
     }
 }
 
@@ -131,8 +161,7 @@ impl LineBuffer {
         ensures too_long { result ≡ Some NextLine.TooLong → IsTooLong self.old.unread }
         ensures end { result ≡ Some NextLine.End
             → (self.old.unread ≡ []) × (self.old.has_ended ≡ true) }
-        ensures none { IfNone result
-            ((length self.old.unread ≤ LINE) × (self.old.has_ended ≡ false)) }
+        ensures none { IfNone result (WantsRead self.old) }
         ensures not_given { result ≢ Some NextLine.Given → self.new ≡ record self.old { line = [] } }
         ensures ended { self.new.has_ended ≡ self.old.has_ended }
         ensures reads { self.new.reads ≡ self.old.reads }
@@ -168,19 +197,19 @@ impl LineBuffer {
         }
     }
 
-    // Moves the unread bytes to the front, and makes one read behind them.
+    // Makes one read behind the unread bytes, which stand at the front then.
     fn fill<R: Read>(&mut self, reader: &mut R) -> Result<(), LinesFault>
-        requires short { length self.old.unread ≤ LINE }
-        requires goes_on { self.old.has_ended ≡ false }
+        requires { WantsRead self.old }
         ensures left { Keeps (left self.old (R.remaining reader.old))
             (left self.new (R.remaining reader.new)) }
         ensures line { self.new.line ≡ [] }
+        ensures unread { OnErr result ((self.new.unread ≡ self.old.unread) × (self.new.has_ended ≡ false)) }
         ensures reads { (self.old.reads ≤ self.new.reads) × (self.new.reads ≤ READS) }
         ensures ok { IfOk result (λ _. self.new.reads ≡ self.old.reads + 1) }
         ensures read { result ≡ Err LinesFault.Read → self.new.reads ≡ self.old.reads + 1 }
         ensures too_many_reads { result ≡ Err LinesFault.TooManyReads → self.new.reads ≡ READS }
     {
-        self.bytes.copy_within(self.start..self.end, 0);
+        move_to_front(&mut self.bytes, self.start, self.end);
         self.searched -= self.start;
         self.end -= self.start;
         self.start = 0;
@@ -199,10 +228,7 @@ impl LineBuffer {
                 self.end += count;
                 Ok(())
             }
-            Err(error) => match error.kind() {
-                ErrorKind::Interrupted => Ok(()),
-                _ => Err(LinesFault::Read),
-            },
+            Err(error) => judge_error(&error),
         }
     }
 
@@ -225,6 +251,7 @@ impl LineBuffer {
         ensures reads { (self.old.reads ≤ self.new.reads) × (self.new.reads ≤ READS) }
         ensures read { result ≡ Err LinesFault.Read → self.old.reads < self.new.reads }
         ensures too_many_reads { result ≡ Err LinesFault.TooManyReads → self.new.reads ≡ READS }
+        ensures wanted { OnErr result (WantsRead self.new) }
     {
         loop {
             if let Some(next) = self.cut() {

@@ -166,3 +166,17 @@ fn the_longest_line_without_its_line_feed(rt: HostRuntime) -> Result<(), Fail> {
     }
     Ok(())
 }
+
+// The count of reads is set, since as many reads take long.
+#[test]
+fn as_many_reads_as_are_allowed(rt: HostRuntime) -> Result<(), Fail> {
+    for (made, shown) in [
+        (63_999_997, Ok(NextLine::Given)),
+        (63_999_998, Err(LinesFault::TooManyReads)),
+    ] {
+        let mut lines = LineBuffer::new(rt.alloc())?;
+        lines.reads = made;
+        assert_eq!(rt; lines.next(&mut in_pieces(b"ab\n", 1)), shown);
+    }
+    Ok(())
+}

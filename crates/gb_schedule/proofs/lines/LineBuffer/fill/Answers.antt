@@ -8,8 +8,8 @@ pub returns-in-Ok-clause-left : goal.returns-in-Ok-clause-left
 returns-in-Ok-clause-left g c =
     let b = c.self.inside in
     let still : b.has_ended ≡ false = ap (λ v. v.has_ended) c.self.view_is ∙ c.requires.goes_on in
-    let moved : c.deref_mut.result.now ≡ copy_within b.bytes.items b.start b.end 0 = c.deref_mut.ensures.value ∙ c.copy_within.ensures.items in
+    let moved : c.deref_mut.result.now ≡ copy_within b.bytes.items b.start b.end 0 = c.deref_mut.ensures.value ∙ c.move_to_front.ensures.items in
     left_read c.args.self.now _ (take c.in-Ok.count c.read.new.buf) b.has_ended _ _ c.requires.goes_on still
-    (rw (← c.self.view_is) (read_behind_in b.bytes.items c.deref_mut.result.now c.read.new.buf _ b.start b.end (length c.deref_mut.result.now - (b.end - b.start)) c.in-Ok.count c.copy_within.new.self.len
+    (rw (← c.self.view_is) (read_behind_in b.bytes.items c.deref_mut.result.now c.read.new.buf _ b.start b.end (length c.deref_mut.result.now - (b.end - b.start)) c.in-Ok.count c.move_to_front.new.bytes.len
     (omega arith) (omega arith) moved (omega (arith, c.in-Ok.ensures.bound.0)) (omega arith) (omega arith) (omega arith)))
     c.in-Ok.ensures.bytes.0

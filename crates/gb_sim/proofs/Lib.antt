@@ -1,2 +1,0 @@
-pub mod ProgressLemmas
-pub mod AnswerLemmas

@@ -1,2 +1,0 @@
-pub mod Schedule
-pub mod Progress

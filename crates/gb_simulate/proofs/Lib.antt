@@ -1,0 +1,5 @@
+pub mod ProgressLemmas
+pub mod AnswerLemmas
+pub mod OfClusterLemmas
+pub mod WritingLemmas
+pub mod FaultLemmas

@@ -1,0 +1,6 @@
+pub mod OfCluster
+pub mod Schedule
+pub mod Status
+pub mod Writing
+pub mod Text
+pub mod Progress

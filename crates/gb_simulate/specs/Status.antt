@@ -1,0 +1,14 @@
+-- The status with which the program ends.
+use Rattle.std.specs.Prelude.{ℕ, Result, Ok, Err}
+use Rattle.gb_simulate.specs.declared.outcome.SimEnd.{SimEnd}
+use Rattle.gb_simulate.specs.declared.outcome.SimEnd.TheVariants.{All, BadLine}
+use Rattle.gb_simulate.specs.declared.outcome.SimFault.{SimFault}
+use Rattle.gb_simulate.specs.declared.outcome.SimFault.TheVariants.{Read, Write, OutOfMemory}
+
+-- all lines were read; a read or a write failed; a bad line; no memory
+abbrev pub status : Result SimEnd SimFault → ℕ
+status (Ok All) = 0
+status (Err Read) = 1
+status (Err Write) = 1
+status (Ok (BadLine number why)) = 2
+status (Err OutOfMemory) = 3

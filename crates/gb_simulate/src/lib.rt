@@ -1,0 +1,11 @@
+//! Runs a schedule of a cluster: reads it from any reader, and writes one line for each event. Read
+//! `simulate::simulate` first, then `outcome` for how it ends, and `obey::answer_line` for what one line does.
+#![tactic(auto)]
+
+pub mod answer_text;
+pub mod obey;
+pub mod outcome;
+pub mod simulate;
+#[cfg(test)]
+mod tests;
+pub mod writing;

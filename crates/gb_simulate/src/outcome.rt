@@ -1,0 +1,78 @@
+//! How a schedule ends.
+ghost use Rattle.std.specs.Prelude.{◌≡◌};
+ghost use Rattle.gb_simulate.specs.Status.{status};
+ghost use Rattle.gb_simulate.specs.declared.outcome.SimFault.TheVariants.{Read as ReadFault, OutOfMemory as NoMemory};
+
+use gb_schedule::lines::LinesFault;
+use gb_types::memory::OutOfMemory;
+use thiserror::Error;
+
+/// Why a line is bad. Where it is too long, nothing else is asked; then whether there are too many.
+#[derive(Clone, Copy, Debug, PartialEq, Eq, Error)]
+pub enum BadLine {
+    /// The line has more bytes than a line may have.
+    #[error("it is too long")]
+    TooLong,
+    /// There are more lines than a schedule may have.
+    #[error("there are too many lines")]
+    TooMany,
+    /// No cluster was started yet, and the line starts none.
+    #[error("it starts no cluster, and none was started before")]
+    NoCluster,
+    /// The line spells no command of the cluster that was started.
+    #[error("it spells no command of the cluster")]
+    NoCommand,
+}
+
+/// How a schedule ended.
+#[derive(Clone, Copy, Debug, PartialEq, Eq)]
+pub enum SimEnd {
+    /// All lines were read.
+    All,
+    /// The line with this number, from 1, is bad. What is behind it was not read.
+    BadLine(u64, BadLine),
+}
+
+/// Why a schedule was not run to its end.
+#[derive(Clone, Copy, Debug, PartialEq, Eq, Error)]
+pub enum SimFault {
+    /// A read failed, or too many were made.
+    #[error("a read failed")]
+    Read,
+    /// A write failed.
+    #[error("a write failed")]
+    Write,
+    /// A request for memory was refused.
+    #[error("out of memory")]
+    OutOfMemory,
+}
+
+impl From<OutOfMemory> for SimFault {
+    ghost from_gives = { λ _ fault. fault ≡ NoMemory };
+
+    fn from(_error: OutOfMemory) -> SimFault {
+        SimFault::OutOfMemory
+    }
+}
+
+impl From<LinesFault> for SimFault {
+    ghost from_gives = { λ _ fault. fault ≡ ReadFault };
+
+    fn from(_error: LinesFault) -> SimFault {
+        SimFault::Read
+    }
+}
+
+/// The status with which the program ends. 0: all lines were read; 1: a read or a write failed; 2: a
+/// bad line; 3: no memory.
+pub fn status_of(outcome: &Result<SimEnd, SimFault>) -> u8
+    ensures { result ≡ status outcome.now }
+{
+    match outcome {
+        Ok(SimEnd::All) => 0,
+        Ok(SimEnd::BadLine(_, _)) => 2,
+        Err(SimFault::OutOfMemory) => 3,
+        Err(SimFault::Read) => 1,
+        Err(SimFault::Write) => 1,
+    }
+}

@@ -1,0 +1,501 @@
+//! Whole schedules and their answers, over readers and writers in memory that give and take a text in pieces, and
+//! that fail.
+use crate::outcome::{BadLine, SimEnd, SimFault};
+use crate::simulate::simulate;
+use gb_types::number::put_number;
+use std::alloc::Global;
+use std::cell::Cell;
+use std::io::{ErrorKind, Read, Write};
+use std::test::Fail;
+use std::{cmp, io};
+
+/// Gives a text by pieces of at most so many bytes, and fails where `fails` is set and the text is at its end.
+#[derive(Drop)]
+struct Pieces<'a> {
+    text: &'a [u8],
+    piece: usize,
+    fails: bool,
+}
+
+impl Read for Pieces<'_> {
+    fn read(&mut self, buf: &mut [u8]) -> io::Result<usize> {
+        let text = self.text;
+        if text.is_empty() && self.fails {
+            return Err(ErrorKind::Other.into());
+        }
+        let count = cmp::min(cmp::min(self.piece, text.len()), buf.len());
+        buf[..count].copy_from_slice(&text[..count]);
+        self.text = &text[count..];
+        Ok(count)
+    }
+}
+
+/// Gives so many line feeds.
+#[derive(Drop)]
+struct LineFeeds {
+    left: usize,
+}
+
+impl Read for LineFeeds {
+    fn read(&mut self, buf: &mut [u8]) -> io::Result<usize> {
+        let count = cmp::min(self.left, buf.len());
+        buf[..count].fill(b'\n');
+        self.left -= count;
+        Ok(count)
+    }
+}
+
+/// Takes so many bytes, by pieces of at most so many, and then fails so, or takes nothing. Where
+/// `interrupted` is set the next write is interrupted, and where `stuck` is set each flush fails.
+#[derive(Drop)]
+struct Space {
+    taken: Vec<u8>,
+    left: usize,
+    piece: usize,
+    full: Option<ErrorKind>,
+    interrupted: bool,
+    stuck: bool,
+}
+
+impl Write for Space {
+    fn write(&mut self, buf: &[u8]) -> io::Result<usize> {
+        if self.interrupted {
+            self.interrupted = false;
+            return Err(ErrorKind::Interrupted.into());
+        }
+        let count = cmp::min(cmp::min(self.piece, self.left), buf.len());
+        if count == 0
+            && let Some(kind) = self.full
+        {
+            return Err(kind.into());
+        }
+        self.taken.extend_from_slice(&buf[..count])?;
+        self.left -= count;
+        Ok(count)
+    }
+
+    fn flush(&mut self) -> io::Result<()> {
+        if self.stuck {
+            return Err(ErrorKind::Other.into());
+        }
+        Ok(())
+    }
+}
+
+/// Gives a line a read, and fails where not as many bytes were flushed before it as stand beside it.
+#[derive(Drop)]
+struct Asking<'a> {
+    lines: &'a [(&'a str, usize)],
+    flushed: &'a Cell<usize>,
+}
+
+impl Read for Asking<'_> {
+    fn read(&mut self, buf: &mut [u8]) -> io::Result<usize> {
+        let lines = self.lines;
+        let [(line, flushed), rest @ ..] = lines else {
+            return Ok(0);
+        };
+        if self.flushed.get() != *flushed {
+            return Err(ErrorKind::Other.into());
+        }
+        let count = cmp::min(line.len(), buf.len());
+        buf[..count].copy_from_slice(&line.as_bytes()[..count]);
+        self.lines = rest;
+        Ok(count)
+    }
+}
+
+/// Counts the bytes that it took, and tells the count when it is flushed.
+#[derive(Drop)]
+struct Flushed<'a> {
+    taken: usize,
+    flushed: &'a Cell<usize>,
+}
+
+impl Write for Flushed<'_> {
+    fn write(&mut self, buf: &[u8]) -> io::Result<usize> {
+        self.taken = self.taken.saturating_add(buf.len());
+        Ok(buf.len())
+    }
+
+    fn flush(&mut self) -> io::Result<()> {
+        self.flushed.set(self.taken);
+        Ok(())
+    }
+}
+
+fn in_pieces(text: &str, piece: usize) -> Pieces<'_> {
+    Pieces {
+        text: text.as_bytes(),
+        piece,
+        fails: false,
+    }
+}
+
+fn with_space(alloc: Global, left: usize, piece: usize) -> Space {
+    Space {
+        taken: Vec::new(alloc),
+        left,
+        piece,
+        full: Some(ErrorKind::Other),
+        interrupted: false,
+        stuck: false,
+    }
+}
+
+/// A schedule, the text that it makes, and how it ends.
+type Case = (&'static str, &'static str, SimEnd);
+
+const EMPTY_PAYLOAD: Case = (
+    "cluster 3 3\ntenant 0 7 4 8 4096 4\nmake 0 7 1 beb 0,1,2 8 4096 4\nopen 0 7 1\ntenant 1 7 4 8 4096 4\nmake 1 7 1 beb 0,1,2 8 4096 4\nopen 1 7 1\ntenant 2 7 4 8 4096 4\nmake 2 7 1 beb 0,1,2 8 4096 4\nopen 2 7 1\nsay 0 7 1 -\npack 0 1\npack 0 2\narrive 1\narrive 2\nfetch 0 7 1 0 16\nfetch 1 7 1 0 16\nfetch 2 7 1 0 16\n",
+    "ok\nok\nok\nok\nok\nok\nok\nok\nok\nok\nsaid 1\npacket 1\npacket 2\ngood first 1 0\ngood first 1 0\nlog 1 0:1:-\nlog 1 0:1:-\nlog 1 0:1:-\n",
+    SimEnd::All,
+);
+
+const PACKET_ARRIVES_TWICE: Case = (
+    "cluster 3 3\ntenant 0 7 4 8 4096 4\nmake 0 7 1 beb 0,1,2 8 4096 4\nopen 0 7 1\ntenant 1 7 4 8 4096 4\nmake 1 7 1 beb 0,1,2 8 4096 4\nopen 1 7 1\ntenant 2 7 4 8 4096 4\nmake 2 7 1 beb 0,1,2 8 4096 4\nopen 2 7 1\nsay 0 7 1 -\npack 0 1\npack 0 2\narrive 1\narrive 1\narrive 2\nfetch 0 7 1 0 16\nfetch 1 7 1 0 16\nfetch 2 7 1 0 16\n",
+    "ok\nok\nok\nok\nok\nok\nok\nok\nok\nok\nsaid 1\npacket 1\npacket 2\ngood first 1 0\ngood seen 0 0\ngood first 1 0\nlog 1 0:1:-\nlog 1 0:1:-\nlog 1 0:1:-\n",
+    SimEnd::All,
+);
+
+const UNKNOWN_WORD: Case = (
+    "cluster 2 3\nhello\n",
+    "ok\nbad line 2\n",
+    SimEnd::BadLine(2, BadLine::NoCommand),
+);
+
+const ONE_TENANT_AND_ONE_GROUP_A_NODE: Case = (
+    "cluster 1 2\ntenant 0 7 4 8 4096 4\ntenant 0 8 4 8 4096 4\ntenant 0 7 4 8 4096 4\ntenant 0 8 0 8 4096 4\nmake 0 7 1 beb 0 8 4096 4\nmake 0 7 2 beb 0 8 4096 4\nmake 0 7 2 beb 0 9 4096 4\nmake 0 7 4 beb 0 8 4096 4\nmake 0 8 1 beb 0 8 4096 4\nmake 0 7 1 beb 0 8 4096 4\nopen 0 7 2\nsay 0 8 1 61\nsay 0 7 1 61\n",
+    "ok\nok\nrefused 12 NoRoom\nrefused 13 TenantThere\nrefused 5 OverReserve\nok\nrefused 12 NoRoom\nrefused 5 OverReserve\nrefused 2 NoGroup\nrefused 1 Denied\nrefused 3 Spent\nrefused 2 NoGroup\nrefused 1 Denied\nrefused 6 WrongPhase\n",
+    SimEnd::All,
+);
+
+const NODES_WITH_UNLIKE_GROUPS: Case = (
+    "cluster 2 3\ntenant 0 7 4 8 4096 4\nmake 0 7 1 beb 0,1 8 4096 4\nopen 0 7 1\ntenant 1 7 4 8 4096 4\nmake 1 7 2 beb 0,1 8 4096 4\nopen 1 7 2\nsay 0 7 1 61\npack 0 1\narrive 1\nfetch 1 7 2 0 16\nfetch 1 7 1 0 16\n",
+    "ok\nok\nok\nok\nok\nok\nok\nsaid 1\npacket 1\ngood first 1 0\nlog 0\nrefused 2 NoGroup\n",
+    SimEnd::All,
+);
+
+const STOPPED_NODE_REFUSES_ALL: Case = (
+    "cluster 1 2\nstop 0\ntick 0\nsay 0 7 1 61\narrive 1\n",
+    "ok\nok\nrefused 15 Stopped\nrefused 15 Stopped\nno packet\n",
+    SimEnd::All,
+);
+
+const ACKNOWLEDGED_FRAME_IS_NOT_GIVEN_AGAIN: Case = (
+    "cluster 2 3\ntenant 0 7 4 8 4096 4\nmake 0 7 1 beb 0,1 8 4096 4\nopen 0 7 1\ntenant 1 7 4 8 4096 4\nmake 1 7 1 beb 0,1 8 4096 4\nopen 1 7 1\nsay 0 7 1 61\npack 0 1\narrive 1\narrive 1\nack 1 0\narrive 2\nagain 0 1 0\n",
+    "ok\nok\nok\nok\nok\nok\nok\nsaid 1\npacket 1\ngood first 1 0\ngood seen 0 0\npacket 2\ngood none 0 1\nnothing\n",
+    SimEnd::All,
+);
+
+const NOTHING_IS_SENT_TO_NO_OTHER_NODE: Case = (
+    "cluster 3 2\npack 0 0\nagain 0 0 0\nack 0 0\npack 0 1\nagain 0 1 0\nagain 0 1 18446744073709551615\nack 0 1\narrive 1\ntick 0\ntick 0\ntick 0\nack 0 1\npack 0 1\nagain 0 1 0\narrive 2\nack 1 0\narrive 3\ntick 0\ntick 1\ntick 1\narrive 0\narrive 18446744073709551615\n",
+    "ok\nnothing\nnothing\nnothing\nnothing\nnothing\nnothing\npacket 1\ngood none 0 0\nnoticed -\nnoticed 1 2\nnoticed -\npacket 2\nnothing\nnothing\ngood none 0 0\npacket 3\ngood none 0 0\nnoticed -\nnoticed -\nnoticed 0 2\nno packet\nno packet\n",
+    SimEnd::All,
+);
+
+const NOTICED_NODES_ARE_CUT_OFF: Case = (
+    "cluster 3 2\ntenant 0 7 4 8 4096 4\nmake 0 7 1 beb 0,1,2 8 4096 4\nopen 0 7 1\nsay 0 7 1 61\npack 0 1\nack 1 0\narrive 2\ntick 0\nack 1 0\narrive 3\ntick 0\npack 0 2\nagain 0 1 1\ntick 0\npack 0 1\nsay 0 7 1 62\npack 0 1\nmake 0 7 2 beb 0,1 8 4096 4\nfetch 0 7 1 0 16\nstop 0\nfetch 0 7 1 0 16\npack 0 1\narrive 2\nstop 0\n",
+    "ok\nok\nok\nok\nsaid 1\npacket 1\npacket 2\ngood none 0 0\nnoticed -\npacket 3\ngood none 0 0\nnoticed 2\nnothing\npacket 4\nnoticed 1\nnothing\nsaid 2\nnothing\nrefused 12 NoRoom\nlog 2 0:1:61 0:2:62\nok\nrefused 15 Stopped\nrefused 15 Stopped\nrefused 15 Stopped\nrefused 15 Stopped\n",
+    SimEnd::All,
+);
+
+const SMALLEST_GROUP: Case = (
+    "cluster 1 2\ntenant 0 7 4 8 4096 4\nmake 0 7 1 allack 0 8 4096 4\nopen 0 7 1\nsay 0 7 1 61\nfetch 0 7 1 0 16\n",
+    "ok\nok\nok\nok\nsaid 1\nlog 1 0:1:61\n",
+    SimEnd::All,
+);
+
+const FIFO_HOLDS_BACK_WHAT_COMES_EARLY: Case = (
+    "cluster 2 3\ntenant 0 7 4 8 4096 4\nmake 0 7 1 fbeb 0,1 8 4096 4\nopen 0 7 1\ntenant 1 7 4 8 4096 4\nmake 1 7 1 fbeb 0,1 8 4096 4\nopen 1 7 1\nsay 0 7 1 61\npack 0 1\nsay 0 7 1 62\npack 0 1\narrive 2\nfetch 1 7 1 0 16\narrive 1\nfetch 1 7 1 0 16\n",
+    "ok\nok\nok\nok\nok\nok\nok\nsaid 1\npacket 1\nsaid 2\npacket 2\ngood first 1 0\nlog 0\ngood first 1 0\nlog 2 0:1:61 0:2:62\n",
+    SimEnd::All,
+);
+
+const PLAIN_BROADCAST_HOLDS_NOTHING_BACK: Case = (
+    "cluster 2 3\ntenant 0 7 4 8 4096 4\nmake 0 7 1 beb 0,1 8 4096 4\nopen 0 7 1\ntenant 1 7 4 8 4096 4\nmake 1 7 1 beb 0,1 8 4096 4\nopen 1 7 1\nsay 0 7 1 61\npack 0 1\nsay 0 7 1 62\npack 0 1\narrive 2\nfetch 1 7 1 0 16\narrive 1\nfetch 1 7 1 0 16\n",
+    "ok\nok\nok\nok\nok\nok\nok\nsaid 1\npacket 1\nsaid 2\npacket 2\ngood first 1 0\nlog 1 0:2:62\ngood first 1 0\nlog 2 0:2:62 0:1:61\n",
+    SimEnd::All,
+);
+
+const LAZY_RELAYS_FOR_A_CRASHED_ORIGIN: Case = (
+    "cluster 3 3\ntenant 0 7 4 8 4096 4\nmake 0 7 1 lazy 0,1,2 8 4096 4\nopen 0 7 1\ntenant 1 7 4 8 4096 4\nmake 1 7 1 lazy 0,1,2 8 4096 4\nopen 1 7 1\ntenant 2 7 4 8 4096 4\nmake 2 7 1 lazy 0,1,2 8 4096 4\nopen 2 7 1\nsay 0 7 1 61\npack 0 1\nsay 0 7 1 62\npack 0 1\narrive 1\nstop 0\ntick 1\ntick 1\nack 2 1\narrive 3\ntick 1\npack 1 2\narrive 4\nfetch 2 7 1 0 16\narrive 2\npack 1 2\narrive 5\nfetch 2 7 1 0 16\n",
+    "ok\nok\nok\nok\nok\nok\nok\nok\nok\nok\nsaid 1\npacket 1\nsaid 2\npacket 2\ngood first 1 0\nok\nnoticed -\nnoticed -\npacket 3\ngood none 0 0\nnoticed 0\npacket 4\ngood first 1 0\nlog 1 0:1:61\ngood first 1 0\npacket 5\ngood first 1 0\nlog 2 0:1:61 0:2:62\n",
+    SimEnd::All,
+);
+
+const GROUP_MADE_AFTER_A_NOTICE: Case = (
+    "cluster 2 2\ntick 0\ntick 0\ntenant 0 7 4 8 4096 4\nmake 0 7 1 allack 0,1 8 4096 4\nopen 0 7 1\nsay 0 7 1 61\nfetch 0 7 1 0 16\n",
+    "ok\nnoticed -\nnoticed 1\nok\nok\nok\nsaid 1\nlog 1 0:1:61\n",
+    SimEnd::All,
+);
+
+const NODES_WITH_UNLIKE_KINDS: Case = (
+    "cluster 3 3\ntenant 0 7 4 8 4096 4\nmake 0 7 1 eager 0,1,2 8 4096 4\nopen 0 7 1\ntenant 1 7 4 8 4096 4\nmake 1 7 1 beb 0,1,2 8 4096 4\nopen 1 7 1\ntenant 2 7 4 8 4096 4\nmake 2 7 1 beb 0,1,2 8 4096 4\nopen 2 7 1\nsay 2 7 1 61\npack 2 0\npack 2 1\narrive 1\npack 0 1\narrive 3\nfetch 1 7 1 0 16\narrive 2\nfetch 1 7 1 0 16\n",
+    "ok\nok\nok\nok\nok\nok\nok\nok\nok\nok\nsaid 1\npacket 1\npacket 2\ngood first 1 0\npacket 3\ngood first 1 0\nlog 0\ngood first 1 0\nlog 1 2:1:61\n",
+    SimEnd::All,
+);
+
+const PLACES_OF_A_LOG: Case = (
+    "cluster 1 2\ntenant 0 7 4 8 4096 4\nmake 0 7 1 allack 0 8 4096 4\nopen 0 7 1\nsay 0 7 1 61\nfetch 0 7 1 0 16\nfetch 0 7 1 1 16\nfetch 0 7 1 2 16\nfetch 0 7 1 0 17\n",
+    "ok\nok\nok\nok\nsaid 1\nlog 1 0:1:61\nlog 0\nrefused 11 BadPlace\nrefused 11 BadPlace\n",
+    SimEnd::All,
+);
+
+const ALL_ACK_WAITS_FOR_EACH_MEMBER: Case = (
+    "cluster 2 3\ntenant 0 7 4 8 4096 4\nmake 0 7 1 allack 0,1 8 4096 4\nopen 0 7 1\ntenant 1 7 4 8 4096 4\nmake 1 7 1 allack 0,1 8 4096 4\nopen 1 7 1\nsay 0 7 1 61\nfetch 0 7 1 0 16\npack 0 1\narrive 1\nfetch 1 7 1 0 16\npack 1 0\narrive 2\nfetch 0 7 1 0 16\n",
+    "ok\nok\nok\nok\nok\nok\nok\nsaid 1\nlog 0\npacket 1\ngood first 1 0\nlog 1 0:1:61\npacket 2\ngood first 1 1\nlog 1 0:1:61\n",
+    SimEnd::All,
+);
+
+const FRAMES_GIVEN_AGAIN_IN_FIFO_ORDER: Case = (
+    "cluster 2 3\ntenant 0 7 4 8 4096 4\nmake 0 7 1 fbeb 0,1 8 4096 4\nopen 0 7 1\ntenant 1 7 4 8 4096 4\nmake 1 7 1 fbeb 0,1 8 4096 4\nopen 1 7 1\nsay 0 7 1 61\npack 0 1\nsay 0 7 1 62\npack 0 1\narrive 2\nack 1 0\narrive 3\nagain 0 1 2\nagain 0 1 1\narrive 4\nagain 0 1 0\narrive 5\nfetch 1 7 1 0 16\n",
+    "ok\nok\nok\nok\nok\nok\nok\nsaid 1\npacket 1\nsaid 2\npacket 2\ngood first 1 0\npacket 3\ngood none 0 1\nnothing\npacket 4\ngood first 1 0\npacket 5\ngood seen 0 0\nlog 2 0:1:61 0:2:62\n",
+    SimEnd::All,
+);
+
+const NOTICES_OF_ONE_TICK_COUNT_IN_TURN: Case = (
+    "cluster 4 2\ntenant 0 7 4 8 4096 4\nmake 0 7 1 lazy 0,1,2,3 8 4096 4\nopen 0 7 1\ntenant 1 7 4 8 4096 4\nmake 1 7 1 lazy 0,1,2,3 8 4096 4\nopen 1 7 1\ntenant 2 7 4 8 4096 4\nmake 2 7 1 lazy 0,1,2,3 8 4096 4\nopen 2 7 1\ntenant 3 7 4 8 4096 4\nmake 3 7 1 lazy 0,1,2,3 8 4096 4\nopen 3 7 1\nsay 2 7 1 62\npack 2 0\narrive 1\nsay 1 7 1 61\npack 1 0\narrive 2\ntick 0\nack 3 0\narrive 3\ntick 0\npack 0 3\npack 0 3\narrive 4\narrive 5\nfetch 3 7 1 0 16\n",
+    "ok\nok\nok\nok\nok\nok\nok\nok\nok\nok\nok\nok\nok\nsaid 1\npacket 1\ngood first 1 0\nsaid 1\npacket 2\ngood first 1 0\nnoticed -\npacket 3\ngood none 0 0\nnoticed 1 2\npacket 4\npacket 5\ngood first 1 0\ngood first 1 0\nlog 2 1:1:61 2:1:62\n",
+    SimEnd::All,
+);
+
+/// Runs a schedule, by pieces of so many bytes.
+fn is_run(alloc: Global, case: &Case, piece: usize) -> Result<bool, SimFault> {
+    let (schedule, answers, end) = *case;
+    let mut out = with_space(alloc, 1_000_000, piece);
+    let found = simulate(alloc, &mut in_pieces(schedule, piece), &mut out)?;
+    Ok(found == end && out.taken.as_slice() == answers.as_bytes())
+}
+
+#[test]
+fn worked_schedules_in_any_pieces(rt: HostRuntime) -> Result<(), Fail> {
+    let cases = [
+        EMPTY_PAYLOAD,
+        PACKET_ARRIVES_TWICE,
+        UNKNOWN_WORD,
+        ONE_TENANT_AND_ONE_GROUP_A_NODE,
+        NODES_WITH_UNLIKE_GROUPS,
+        STOPPED_NODE_REFUSES_ALL,
+        ACKNOWLEDGED_FRAME_IS_NOT_GIVEN_AGAIN,
+        NOTHING_IS_SENT_TO_NO_OTHER_NODE,
+        NOTICED_NODES_ARE_CUT_OFF,
+        ("", "", SimEnd::All),
+    ];
+    for case in &cases {
+        for piece in [1, 7, 100_000] {
+            assert!(rt; is_run(rt.alloc(), case, piece)?);
+        }
+    }
+    Ok(())
+}
+
+#[test]
+fn worked_schedules_of_the_kinds(rt: HostRuntime) -> Result<(), Fail> {
+    let cases = [
+        SMALLEST_GROUP,
+        FIFO_HOLDS_BACK_WHAT_COMES_EARLY,
+        PLAIN_BROADCAST_HOLDS_NOTHING_BACK,
+        LAZY_RELAYS_FOR_A_CRASHED_ORIGIN,
+        GROUP_MADE_AFTER_A_NOTICE,
+        NODES_WITH_UNLIKE_KINDS,
+        PLACES_OF_A_LOG,
+        ALL_ACK_WAITS_FOR_EACH_MEMBER,
+        FRAMES_GIVEN_AGAIN_IN_FIFO_ORDER,
+        NOTICES_OF_ONE_TICK_COUNT_IN_TURN,
+    ];
+    for case in &cases {
+        assert!(rt; is_run(rt.alloc(), case, 100)?);
+    }
+    Ok(())
+}
+
+// 64 frames that are not acknowledged fill a link; an acknowledgement of the first makes room for one more.
+#[test]
+fn a_window_of_64_frames(rt: HostRuntime) -> Result<(), Fail> {
+    let alloc = rt.alloc();
+    let mut schedule = Vec::from_slice(
+        alloc,
+        b"cluster 2 3\ntenant 0 7 4 100 4096 100\nmake 0 7 1 beb 0,1 100 4096 100\nopen 0 7 1\n",
+    )?;
+    let mut answers = Vec::from_slice(alloc, b"ok\nok\nok\nok\n")?;
+    for number in 1..65u64 {
+        schedule.extend_from_slice(b"say 0 7 1 61\npack 0 1\n")?;
+        answers.extend_from_slice(b"said ")?;
+        put_number(&mut answers, number)?;
+        answers.extend_from_slice(b"\npacket ")?;
+        put_number(&mut answers, number)?;
+        answers.extend_from_slice(b"\n")?;
+    }
+    schedule.extend_from_slice(
+        b"say 0 7 1 61\npack 0 1\narrive 1\nack 1 0\narrive 65\npack 0 1\narrive 66\n",
+    )?;
+    answers.extend_from_slice(
+        b"said 65\nnothing\ngood first 1 0\npacket 65\ngood none 0 1\npacket 66\ngood first 1 0\n",
+    )?;
+    let mut reader = Pieces {
+        text: schedule.as_slice(),
+        piece: 100,
+        fails: false,
+    };
+    let mut out = with_space(alloc, 1_000_000, 1_000);
+    assert!(rt; simulate(alloc, &mut reader, &mut out)? == SimEnd::All);
+    assert!(rt; out.taken.as_slice() == answers.as_slice());
+    Ok(())
+}
+
+#[test]
+fn lines_at_their_edges(rt: HostRuntime) -> Result<(), Fail> {
+    let cases: [Case; 9] = [
+        ("cluster 1 2", "ok\n", SimEnd::All),
+        ("\n# a comment\n\ncluster 1 2\n\n", "ok\n", SimEnd::All),
+        (
+            "\n# a comment\n\ncluster 1 2\ncluster 1 2\n",
+            "ok\nbad line 5\n",
+            SimEnd::BadLine(5, BadLine::NoCommand),
+        ),
+        (
+            "cluster 1 2\r\n",
+            "bad line 1\n",
+            SimEnd::BadLine(1, BadLine::NoCluster),
+        ),
+        (
+            "cluster 1 2\nhello",
+            "ok\nbad line 2\n",
+            SimEnd::BadLine(2, BadLine::NoCommand),
+        ),
+        (
+            "cluster 17 2\n",
+            "bad line 1\n",
+            SimEnd::BadLine(1, BadLine::NoCluster),
+        ),
+        (
+            "cluster 1 2\npack 0 1\n",
+            "ok\nbad line 2\n",
+            SimEnd::BadLine(2, BadLine::NoCommand),
+        ),
+        (
+            "arrive 1\n",
+            "bad line 1\n",
+            SimEnd::BadLine(1, BadLine::NoCluster),
+        ),
+        (
+            "cluster 1 2\narrive 1\narrive 01\narrive 1\n",
+            "ok\nno packet\nbad line 3\n",
+            SimEnd::BadLine(3, BadLine::NoCommand),
+        ),
+    ];
+    for case in &cases {
+        assert!(rt; is_run(rt.alloc(), case, 5)?);
+    }
+    Ok(())
+}
+
+#[test]
+fn payloads_are_written_in_lower_case(rt: HostRuntime) -> Result<(), Fail> {
+    let case: Case = (
+        "cluster 1 2\ntenant 0 7 4 8 4096 4\nmake 0 7 1 beb 0 8 4096 4\nopen 0 7 1\nsay 0 7 1 C0fFEe\nfetch 0 7 1 0 16\n",
+        "ok\nok\nok\nok\nsaid 1\nlog 1 0:1:c0ffee\n",
+        SimEnd::All,
+    );
+    assert!(rt; is_run(rt.alloc(), &case, 3)?);
+    Ok(())
+}
+
+#[test]
+fn a_failed_read_keeps_the_answers_before_it(rt: HostRuntime) -> Result<(), Fail> {
+    let alloc = rt.alloc();
+    let mut reader = Pieces {
+        text: b"cluster 1 2\narrive 1\narr",
+        piece: 4,
+        fails: true,
+    };
+    let mut out = with_space(alloc, 1_000, 1_000);
+    assert!(rt; simulate(alloc, &mut reader, &mut out) == Err(SimFault::Read));
+    assert!(rt; out.taken.as_slice() == b"ok\nno packet\n".as_slice());
+    Ok(())
+}
+
+#[test]
+fn a_failed_write_ends_the_run(rt: HostRuntime) -> Result<(), Fail> {
+    let schedule = "cluster 1 2\narrive 1\n";
+    for full in [Some(ErrorKind::Other), None] {
+        let mut out = with_space(rt.alloc(), 5, 2);
+        out.full = full;
+        assert!(rt;
+            simulate(rt.alloc(), &mut in_pieces(schedule, 100), &mut out) == Err(SimFault::Write)
+        );
+        assert!(rt; out.taken.as_slice() == b"ok\nno".as_slice());
+    }
+    let mut out = with_space(rt.alloc(), 1_000, 2);
+    out.stuck = true;
+    assert!(rt;
+        simulate(rt.alloc(), &mut in_pieces(schedule, 100), &mut out) == Err(SimFault::Write)
+    );
+    assert!(rt; out.taken.as_slice() == b"ok\n".as_slice());
+    Ok(())
+}
+
+#[test]
+fn an_interrupted_write_is_made_again(rt: HostRuntime) -> Result<(), Fail> {
+    let mut out = with_space(rt.alloc(), 1_000, 1);
+    out.interrupted = true;
+    let mut reader = in_pieces("cluster 1 2\n", 100);
+    assert!(rt; simulate(rt.alloc(), &mut reader, &mut out)? == SimEnd::All);
+    assert!(rt; out.taken.as_slice() == b"ok\n".as_slice());
+    Ok(())
+}
+
+#[test]
+fn each_answer_is_written_before_the_next_read(rt: HostRuntime) -> Result<(), Fail> {
+    let flushed = Cell::new(0);
+    let lines = [
+        ("cluster 1 2\n", 0),
+        ("# a comment\n", 3),
+        ("arrive 1\narri", 3),
+        ("ve 2\n", 13),
+        ("tick 0\n", 23),
+    ];
+    let mut reader = Asking {
+        lines: &lines,
+        flushed: &flushed,
+    };
+    let mut writer = Flushed {
+        taken: 0,
+        flushed: &flushed,
+    };
+    assert!(rt; simulate(rt.alloc(), &mut reader, &mut writer)? == SimEnd::All);
+    assert!(rt; flushed.get() == 33);
+    Ok(())
+}
+
+#[test]
+fn a_line_is_as_long_as_it_may_be(rt: HostRuntime) -> Result<(), Fail> {
+    for (count, end) in [
+        (32_768, SimEnd::All),
+        (32_769, SimEnd::BadLine(1, BadLine::TooLong)),
+    ] {
+        let text = vec![in rt.alloc(); b'#'; count]?;
+        let mut reader = Pieces {
+            text: text.as_slice(),
+            piece: 1,
+            fails: false,
+        };
+        let mut out = with_space(rt.alloc(), 1_000, 1_000);
+        assert!(rt; simulate(rt.alloc(), &mut reader, &mut out)? == end);
+    }
+    Ok(())
+}
+
+#[test]
+fn the_line_after_the_last_that_is_allowed_is_bad(rt: HostRuntime) -> Result<(), Fail> {
+    let alloc = rt.alloc();
+    let mut out = with_space(alloc, 1_000, 1_000);
+    let allowed = simulate(alloc, &mut LineFeeds { left: 1_000_000 }, &mut out)?;
+    assert!(rt; allowed == SimEnd::All);
+    assert!(rt; out.taken.is_empty());
+    let more = simulate(alloc, &mut LineFeeds { left: 1_000_001 }, &mut out)?;
+    assert!(rt; more == SimEnd::BadLine(1_000_001, BadLine::TooMany));
+    assert!(rt; out.taken.as_slice() == b"bad line 1000001\n".as_slice());
+    Ok(())
+}

@@ -1,0 +1,66 @@
+//! Writes answers, and says how far a failed write came.
+ghost use Rattle.std.specs.Prelude.{◌≡◌, ◌≢◌, ◌≤◌, ◌⊎◌, length, take, IfOk, OnOk, IfErr, codes};
+ghost use Rattle.std.specs.Io.KnownBytes.{Appends, Keeps};
+ghost use Rattle.gb_schedule.specs.Lines.{ended};
+ghost use Rattle.gb_simulate.specs.Writing.{AppendsFront};
+
+use crate::outcome::{SimEnd, SimFault};
+use std::io::{ErrorKind, Write};
+
+/// Makes one write of a part of the text, and says how many bytes it took: none, where a signal interrupted it.
+fn write_some<W: Write>(writer: &mut W, text: &[u8]) -> Result<usize, SimFault>
+    ensures within { IfOk result (λ count. count ≤ length text.now) }
+    ensures ok { IfOk result (λ count. Appends (W.contents writer.old) (W.contents writer.new) (take count text.now)) }
+    ensures fault { IfErr result (λ why. (why ≡ SimFault.Write) × Keeps (W.contents writer.old) (W.contents writer.new)) }
+{
+    match writer.write(text) {
+        Ok(0) => Err(SimFault::Write),
+        Ok(count) => Ok(count),
+        Err(error) => match error.kind() {
+            ErrorKind::Interrupted => Ok(0),
+            _ => Err(SimFault::Write),
+        },
+    }
+}
+
+/// Lets nothing wait in the writer.
+fn flush<W: Write>(writer: &mut W) -> Result<(), SimFault>
+    ensures kept { Keeps (W.contents writer.old) (W.contents writer.new) }
+    ensures fault { IfErr result (λ why. why ≡ SimFault.Write) }
+{
+    match writer.flush() {
+        Ok(()) => Ok(()),
+        Err(_) => Err(SimFault::Write),
+    }
+}
+
+/// Writes a whole text and flushes it. A fault is a failed write, and only a front of the text may
+/// stand there then.
+pub fn write_text<W: Write>(writer: &mut W, text: &[u8]) -> Result<(), SimFault>
+    ensures ok { OnOk result (Appends (W.contents writer.old) (W.contents writer.new) text.now) }
+    ensures fault { IfErr result (λ why. (why ≡ SimFault.Write) × AppendsFront (W.contents writer.old) (W.contents writer.new) text.now) }
+{
+    let mut written = 0;
+    for _ in 0..u64::MAX {
+        if written == text.len() {
+            return flush(writer);
+        }
+        written += write_some(writer, &text[written..])?;
+    }
+    Err(SimFault::Write)
+}
+
+/// Writes the line `out of memory` behind the answers, where a schedule ended so.
+pub fn tell_want_of_memory<W: Write>(
+    outcome: Result<SimEnd, SimFault>,
+    writer: &mut W,
+) -> Result<SimEnd, SimFault>
+    ensures other { outcome ≢ Err SimFault.OutOfMemory → (result ≡ outcome) × Keeps (W.contents writer.old) (W.contents writer.new) }
+    ensures told { outcome ≡ Err SimFault.OutOfMemory → result ≢ Err SimFault.Write → (result ≡ outcome) × Appends (W.contents writer.old) (W.contents writer.new) (ended (codes "out of memory")) }
+    ensures fault { result ≡ Err SimFault.Write → outcome ≢ Err SimFault.Write → AppendsFront (W.contents writer.old) (W.contents writer.new) (ended (codes "out of memory")) }
+{
+    if outcome == Err(SimFault::OutOfMemory) {
+        write_text(writer, b"out of memory\n")?;
+    }
+    outcome
+}
