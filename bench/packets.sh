@@ -11,7 +11,8 @@ for crate in gb_types gb_cap gb_frame; do
 done
 mkdir -p "$work/crates/packets/src"
 cp "$top/bench/packets/main.rt.txt" "$work/crates/packets/src/main.rt"
-cp -r "$top/bench/packets/proofs" "$work/crates/packets/"
+mkdir -p "$work/crates/packets/proofs/wraps"
+cp "$top/bench/packets/wraps.antt.txt" "$work/crates/packets/proofs/wraps/Answers.antt"
 grep -E '^gb_(types|cap|frame):' "$top/crates.txt" >"$work/crates.txt"
 echo 'packets: gb_types gb_cap gb_frame anyhow sha2' >>"$work/crates.txt"
 cd "$work/crates/packets"

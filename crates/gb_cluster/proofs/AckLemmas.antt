@@ -11,16 +11,17 @@ use Rattle.gb_types.specs.declared.message.MsgId.{MsgId}
 use Rattle.gb_types.specs.Entry.{message_of}
 use Rattle.gb_slot.specs.Slot.{slot_done}
 use Rattle.gb_slot.proofs.HistoryLemmas.{done_stands}
-use Rattle.gb_cluster.specs.declared.group.GroupEvent.TheVariants.{Done as Acknowledged}
-use Rattle.gb_cluster.specs.declared.group.GroupStep.{GroupStep}
-use Rattle.gb_cluster.specs.declared.packet.Item.{Item}
-use Rattle.gb_cluster.specs.declared.packet.Packet.{Packet}
-use Rattle.gb_cluster.specs.Alone.{Member, Group, after, alone_from, places, is_marked, IsLegalFrom}
-use Rattle.gb_cluster.specs.Headline.{waiting_in}
+use Rattle.gb_alone.specs.declared.event.GroupEvent.TheVariants.{Done as Acknowledged}
+use Rattle.gb_alone.specs.declared.event.GroupStep.{GroupStep}
+use Rattle.gb_record.specs.declared.packet.Item.{Item}
+use Rattle.gb_record.specs.declared.packet.Packet.{Packet}
+use Rattle.gb_alone.specs.Alone.{Member, Group, after, alone_from, places, is_marked, IsLegalFrom}
+use Rattle.gb_cluster.specs.State.{waiting_in}
 use Rattle.gb_cluster.specs.NodeValue.{GroupAt, NodeValue}
-use Rattle.gb_cluster.specs.Project.{is_addr, items_in, acknowledged, all_acknowledged}
-use Rattle.gb_cluster.specs.World.{reserve_for, slot_for, on_slot, item_done}
-use Rattle.gb_cluster.specs.Holds.{SlotIs, Stands, under, undone_of}
+use Rattle.gb_rules.specs.Address.{is_addr}
+use Rattle.gb_record.specs.Project.{items_in, acknowledged, all_acknowledged}
+use Rattle.gb_cluster.specs.NodeStep.{reserve_for, slot_for, on_slot, item_done}
+use Rattle.gb_cluster.proofs.Invariant.{SlotIs, Stands, under, undone_of}
 use Rattle.gb_cluster.proofs.MarkLemmas.{is_between, is_in, in_above, or_off}
 use Rattle.gb_cluster.proofs.MemberLemmas.{same_slot}
 use Rattle.gb_cluster.proofs.WorldLemmas.{legal-append, after_there, after_elsewhere, eqb_self, eqb_apart}

@@ -5,15 +5,16 @@ use Rattle.std.specs.Option.{option_to_list}
 use Rattle.std.proofs.lemmas.Bool.{cases_Bool}
 use Rattle.std.proofs.lemmas.List.{append-nil}
 use Rattle.gb_types.specs.declared.refusal.Refusal.TheVariants.{Stopped}
-use Rattle.gb_cluster.specs.declared.answer.Answer.TheVariants.{Taken as Took_in, NoPacket}
-use Rattle.gb_cluster.specs.declared.answer.Good.{Good}
-use Rattle.gb_cluster.specs.declared.answer.Taken.TheVariants.{Good as Accepted, Refused as Lost}
-use Rattle.gb_cluster.specs.declared.event.Event.TheVariants.{Arrive}
-use Rattle.gb_cluster.specs.declared.packet.Packet.{Packet}
-use Rattle.gb_cluster.specs.Alone.{alone}
-use Rattle.gb_cluster.specs.Project.{project, packet_at}
-use Rattle.gb_cluster.specs.World.{World, node_of, world_after, good_of, goal_of, found_part, only_answered, node_took, Part}
-use Rattle.gb_cluster.specs.Holds.{IsFramed, Holds}
+use Rattle.gb_record.specs.declared.answer.Answer.TheVariants.{Taken as AnswerTaken, NoPacket}
+use Rattle.gb_record.specs.declared.answer.Good.{Good}
+use Rattle.gb_record.specs.declared.answer.Taken.TheVariants.{Good as TakenGood, Refused as TakenRefused}
+use Rattle.gb_record.specs.declared.event.Event.TheVariants.{Arrive}
+use Rattle.gb_record.specs.declared.packet.Packet.{Packet}
+use Rattle.gb_alone.specs.Alone.{alone}
+use Rattle.gb_record.specs.Project.{project, packet_at}
+use Rattle.gb_cluster.proofs.World.{World, node_of, world_after}
+use Rattle.gb_cluster.specs.NodeStep.{good_of, goal_of, found_part, only_answered, node_took, Part}
+use Rattle.gb_cluster.proofs.Invariant.{IsFramed, Holds}
 use Rattle.gb_cluster.proofs.IdleLemmas.{idle_turn}
 use Rattle.gb_cluster.proofs.QuietLemmas.{quiet}
 use Rattle.gb_cluster.proofs.MarkLemmas.{slice_get-within}
@@ -33,8 +34,8 @@ no_packet : (w : World) (k : ℕ) → Holds w → Holds (turned w 0 (node_of w 0
 no_packet w k holds = idle_turn w 0 (Arrive k) NoPacket holds.links.some (quiet refl) holds
 
 -- the node has stopped
-lost : (w : World) (k : ℕ) (p : Packet) → IsFramed (length w.nodes) w.packets w.steps p → Holds w → Holds (turned w p.to.number (node_of w p.to.number) (record { event = Arrive k; answer = Took_in (Lost Stopped) }) [])
-lost w k p framed holds = idle_turn w p.to.number (Arrive k) (Took_in (Lost Stopped)) framed.to (quiet refl) holds
+lost : (w : World) (k : ℕ) (p : Packet) → IsFramed (length w.nodes) w.packets w.steps p → Holds w → Holds (turned w p.to.number (node_of w p.to.number) (record { event = Arrive k; answer = AnswerTaken (TakenRefused Stopped) }) [])
+lost w k p framed holds = idle_turn w p.to.number (Arrive k) (AnswerTaken (TakenRefused Stopped)) framed.to (quiet refl) holds
 
 -- the cluster after the arrival at a node, whose part is this
 abbrev with_part : World → ℕ → ℕ → Part → World
@@ -48,7 +49,7 @@ found_arrive : (w : World) (k : ℕ) (p : Packet) → packet_at w.packets k ≡ 
 found_arrive w k p at number framed holds = by (cases_Bool (node_of w p.to.number).stopped)
   where
     at_node : Bool → World
-    at_node stopped = with_part w k p.to.number (if stopped then only_answered (node_of w p.to.number) (Took_in (Lost Stopped)) else only_answered (node_took p (node_of w p.to.number)) (Took_in (Accepted (good_of p (node_of w p.to.number)))))
+    at_node stopped = with_part w k p.to.number (if stopped then only_answered (node_of w p.to.number) (AnswerTaken (TakenRefused Stopped)) else only_answered (node_took p (node_of w p.to.number)) (AnswerTaken (TakenGood (good_of p (node_of w p.to.number)))))
 
     by : (((node_of w p.to.number).stopped ≡ true) ⊎ ((node_of w p.to.number).stopped ≡ false)) → Holds (arrived_world w k (p ∷ []))
     by (inl stopped) = subst (λ b. Holds (at_node b)) (sym stopped) (lost w k p framed holds)

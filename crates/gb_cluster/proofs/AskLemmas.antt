@@ -13,18 +13,18 @@ use Rattle.gb_types.specs.declared.reply.Reply.{Reply}
 use Rattle.gb_types.specs.declared.reply.Reply.TheVariants.{Done, Said, Refused}
 use Rattle.gb_types.specs.declared.request.Request.{Request}
 use Rattle.gb_types.specs.declared.request.Request.TheVariants.{AddTenant, Make, OpenGroup, Say, Fetch}
-use Rattle.gb_cluster.specs.declared.answer.Answer.TheVariants.{Reply as Replied}
-use Rattle.gb_cluster.specs.declared.event.Event.TheVariants.{At}
-use Rattle.gb_cluster.specs.declared.group.GroupEvent.{GroupEvent}
-use Rattle.gb_cluster.specs.declared.group.GroupEvent.TheVariants.{Make as AskMake, Open as AskOpen, Say as AskSay}
-use Rattle.gb_cluster.specs.declared.group.GroupStep.{GroupStep}
-use Rattle.gb_cluster.specs.declared.group.Reserve.{Reserve}
-use Rattle.gb_cluster.specs.declared.step.Step.{Step}
-use Rattle.gb_cluster.specs.Alone.{Member, Group, did, commanded, member_after, alone_from, reply_to, running_reply, is_marked, MayHappen, IsLegalFrom}
-use Rattle.gb_cluster.specs.Holds.{Stands, MemberIs, is_concerned}
+use Rattle.gb_record.specs.declared.answer.Answer.TheVariants.{Reply as AnswerReply}
+use Rattle.gb_record.specs.declared.event.Event.TheVariants.{At}
+use Rattle.gb_alone.specs.declared.event.GroupEvent.{GroupEvent}
+use Rattle.gb_alone.specs.declared.event.GroupEvent.TheVariants.{Make as AskMake, Open as AskOpen, Say as AskSay}
+use Rattle.gb_alone.specs.declared.event.GroupStep.{GroupStep}
+use Rattle.gb_rules.specs.declared.reserve.Reserve.{Reserve}
+use Rattle.gb_record.specs.declared.step.Step.{Step}
+use Rattle.gb_alone.specs.Alone.{Member, Group, did, commanded, member_after, alone_from, reply_to, running_reply, is_marked, MayHappen, IsLegalFrom}
+use Rattle.gb_cluster.proofs.Invariant.{Stands, MemberIs, is_concerned}
 use Rattle.gb_cluster.specs.NodeValue.{NodeValue}
-use Rattle.gb_cluster.specs.Project.{command_for, has_row, is_noticed, is_stopped, is_met, is_met_by, is_named, made_at, made_by, or_else, replies_to, reply_in, requested}
-use Rattle.gb_cluster.specs.World.{reserve_for, node_did}
+use Rattle.gb_record.specs.Project.{command_for, has_row, is_noticed, is_stopped, is_met, is_met_by, is_named, made_at, made_by, or_else, replies_to, reply_in, requested}
+use Rattle.gb_cluster.specs.NodeStep.{reserve_for, node_did}
 use Rattle.gb_cluster.proofs.NodeLemmas.{same_stands}
 use Rattle.gb_cluster.proofs.StopLemmas.{unmet}
 use Rattle.gb_cluster.proofs.WorldLemmas.{eqb_self, after_there, after_elsewhere}
@@ -47,7 +47,7 @@ pub record Before (nodes : ℕ) (g : Addr) (a : NodeId) (v : NodeValue) (group :
 
 -- the step that a request with its reply is
 abbrev pub asking : NodeId → Request → Reply → Step
-asking a request reply = record { event = At a request; answer = Replied reply }
+asking a request reply = record { event = At a request; answer = AnswerReply reply }
 
 -- and after it, in which these group events are given
 pub record After (nodes : ℕ) (g : Addr) (a : NodeId) (v : NodeValue) (group : Group) (carried : ℕ → List Entry) (steps : List Step) (request : Request) (reply : Reply) (given : List GroupStep) : Type 0 where
@@ -93,15 +93,15 @@ unmet_now g a steps request running =
 
 -- the member after a request
 pub member_asked : (g : Addr) (a : NodeId) (steps : List Step) (request : Request) (reply : Reply) (m n : Member) → MemberIs g a.number steps m
-    → n.replies ≡ m.replies ++ reply_in g a.number steps (At a request) (Replied reply)
-    → n.spec ≡ m.spec → made_by g a.number (At a request) (Replied reply) ≡ None → n.noticed ≡ m.noticed
+    → n.replies ≡ m.replies ++ reply_in g a.number steps (At a request) (AnswerReply reply)
+    → n.spec ≡ m.spec → made_by g a.number (At a request) (AnswerReply reply) ≡ None → n.noticed ≡ m.noticed
     → n.stopped ≡ (is_met_by g a.number steps (At a request) || m.stopped)
     → MemberIs g a.number (asking a request reply ∷ steps) n
 unfolding replies_to made_at is_noticed is_met
 member_asked g a steps request reply m n was replies spec unmade noticed stopped =
-    let same : or_else (made_by g a.number (At a request) (Replied reply)) (made_at g a.number steps) ≡ made_at g a.number steps = ap (λ o. or_else o (made_at g a.number steps)) unmade in
+    let same : or_else (made_by g a.number (At a request) (AnswerReply reply)) (made_at g a.number steps) ≡ made_at g a.number steps = ap (λ o. or_else o (made_at g a.number steps)) unmade in
     record {
-      replies = replies ∙ ap (λ rs. rs ++ reply_in g a.number steps (At a request) (Replied reply)) was.replies;
+      replies = replies ∙ ap (λ rs. rs ++ reply_in g a.number steps (At a request) (AnswerReply reply)) was.replies;
       spec = spec ∙ (was.spec ∙ sym same);
       noticed = λ b. ap (λ xs. is_marked b xs) noticed ∙ (was.noticed b ∙ ap (λ o. is_concerned a.number b o && is_noticed a.number b steps) (sym same));
       stopped = stopped ∙ ap (λ b. is_met_by g a.number steps (At a request) || b) was.stopped;
@@ -109,7 +109,7 @@ member_asked g a steps request reply m n was replies spec unmade noticed stopped
 
 module _ (nodes : ℕ) (g : Addr) (a : NodeId) (v : NodeValue) (group : Group) (carried : ℕ → List Entry) (steps : List Step) (request : Request) (reply : Reply) (given : List GroupStep) where
   -- nothing happens to the group
-  pub quiet : (u : NodeValue) → Before nodes g a v group carried steps → given ≡ [] → reply_in g a.number steps (At a request) (Replied reply) ≡ [] → made_by g a.number (At a request) (Replied reply) ≡ None → is_met_by g a.number steps (At a request) ≡ false
+  pub quiet : (u : NodeValue) → Before nodes g a v group carried steps → given ≡ [] → reply_in g a.number steps (At a request) (AnswerReply reply) ≡ [] → made_by g a.number (At a request) (AnswerReply reply) ≡ None → is_met_by g a.number steps (At a request) ≡ false
       → Stands nodes g a.number u (group a.number) carried → After nodes g a u group carried steps request reply given
   quiet u before none silent unmade unmet st = record {
     next = group a.number;
@@ -123,7 +123,7 @@ module _ (nodes : ℕ) (g : Addr) (a : NodeId) (v : NodeValue) (group : Group) (
   }
 
   -- one command happens to it, which is not that it is made
-  pub commands : (u : NodeValue) (e : GroupEvent) → Before nodes g a v group carried steps → given ≡ record { node = a; event = e } ∷ [] → reply_in g a.number steps (At a request) (Replied reply) ≡ reply ∷ [] → made_by g a.number (At a request) (Replied reply) ≡ None → is_met_by g a.number steps (At a request) ≡ false
+  pub commands : (u : NodeValue) (e : GroupEvent) → Before nodes g a v group carried steps → given ≡ record { node = a; event = e } ∷ [] → reply_in g a.number steps (At a request) (AnswerReply reply) ≡ reply ∷ [] → made_by g a.number (At a request) (AnswerReply reply) ≡ None → is_met_by g a.number steps (At a request) ≡ false
       → MayHappen a e group → member_after nodes g.group a e group ≡ commanded a e reply (group a.number) → (did a e reply (group a.number)).spec ≡ (group a.number).spec
       → Stands nodes g a.number u (did a e reply (group a.number)) carried → After nodes g a u group carried steps request reply given
   commands u e before one say unmade unmet may is spec st =
@@ -143,17 +143,17 @@ module _ (nodes : ℕ) (g : Addr) (a : NodeId) (v : NodeValue) (group : Group) (
 -- A request, by whether it names the group.
 
 -- the group has no reply where the request does not name it
-pub silent_unnamed : (g : Addr) (a : NodeId) (steps : List Step) (request : Request) (reply : Reply) → is_named g request ≡ false → reply_in g a.number steps (At a request) (Replied reply) ≡ []
+pub silent_unnamed : (g : Addr) (a : NodeId) (steps : List Step) (request : Request) (reply : Reply) → is_named g request ≡ false → reply_in g a.number steps (At a request) (AnswerReply reply) ≡ []
 silent_unnamed g a steps request reply unnamed =
     ap (λ b. if nat_eq a.number a.number && (has_row a.number g.tenant steps && b) then reply ∷ [] else []) unnamed
     ∙ (ap (λ b. if nat_eq a.number a.number && b then reply ∷ [] else []) (and_right (has_row a.number g.tenant steps) false refl) ∙ ap (λ b. if b then reply ∷ [] else []) (and_right (nat_eq a.number a.number) false refl))
 
 -- nor where its tenant is not here
-pub silent_absent : (g : Addr) (a : NodeId) (steps : List Step) (request : Request) (reply : Reply) → has_row a.number g.tenant steps ≡ false → reply_in g a.number steps (At a request) (Replied reply) ≡ []
+pub silent_absent : (g : Addr) (a : NodeId) (steps : List Step) (request : Request) (reply : Reply) → has_row a.number g.tenant steps ≡ false → reply_in g a.number steps (At a request) (AnswerReply reply) ≡ []
 silent_absent g a steps request reply absent =
     ap (λ b. if nat_eq a.number a.number && (b && is_named g request) then reply ∷ [] else []) absent ∙ ap (λ b. if b then reply ∷ [] else []) (and_right (nat_eq a.number a.number) false refl)
 
-pub told_one : (g : Addr) (a : NodeId) (steps : List Step) (request : Request) (reply : Reply) → has_row a.number g.tenant steps ≡ true → is_named g request ≡ true → reply_in g a.number steps (At a request) (Replied reply) ≡ reply ∷ []
+pub told_one : (g : Addr) (a : NodeId) (steps : List Step) (request : Request) (reply : Reply) → has_row a.number g.tenant steps ≡ true → is_named g request ≡ true → reply_in g a.number steps (At a request) (AnswerReply reply) ≡ reply ∷ []
 told_one g a steps request reply row named =
     ap (λ b. if b && (has_row a.number g.tenant steps && is_named g request) then reply ∷ [] else []) (eqb_self a.number)
     ∙ (ap (λ b. if b && is_named g request then reply ∷ [] else []) row ∙ ap (λ b. if b then reply ∷ [] else []) named)
@@ -167,7 +167,7 @@ pub at_command : (nodes : ℕ) (g : Addr) (a : NodeId) (v : NodeValue) (group : 
     → is_stopped a.number steps ≡ false → Before nodes g a v group carried steps
     → is_named g request ≡ true
     → requested g steps a request reply ≡ (if has_row a.number g.tenant steps then record { node = a; event = e } ∷ [] else [])
-    → made_by g a.number (At a request) (Replied reply) ≡ None
+    → made_by g a.number (At a request) (AnswerReply reply) ≡ None
     → MayHappen a e group
     → member_after nodes g.group a e group ≡ commanded a e (reply_to nodes g.group a.number e (group a.number)) (group a.number)
     → running_reply nodes g.group a.number e (group a.number) ≡ reply
@@ -190,7 +190,7 @@ at_command nodes g a v group carried steps request reply e running before named 
 -- a request that names another group
 pub at_other : (nodes : ℕ) (g : Addr) (a : NodeId) (v : NodeValue) (group : Group) (carried : ℕ → List Entry) (steps : List Step) (request : Request) (reply : Reply)
     → is_stopped a.number steps ≡ false → Before nodes g a v group carried steps
-    → is_named g request ≡ false → requested g steps a request reply ≡ [] → made_by g a.number (At a request) (Replied reply) ≡ None
+    → is_named g request ≡ false → requested g steps a request reply ≡ [] → made_by g a.number (At a request) (AnswerReply reply) ≡ None
     → Stands nodes g a.number (node_did a request reply v) (group a.number) carried → AtNode nodes g a v group carried steps request reply
 at_other nodes g a v group carried steps request reply running before unnamed none unmade st =
     quiet nodes g a v group carried steps request reply (requested g steps a request reply) (node_did a request reply v) before none (silent_unnamed g a steps request reply unnamed) unmade (unmet_now g a steps request running) st

@@ -14,15 +14,16 @@ use Rattle.gb_types.specs.declared.request.Request.{Request}
 use Rattle.gb_types.specs.declared.request.Request.TheVariants.{AddTenant, Make, OpenGroup, Say}
 use Rattle.gb_types.specs.declared.spec.TenantRow.{TenantRow}
 use Rattle.gb_link.specs.SendWindow.{new_window}
-use Rattle.gb_cluster.specs.declared.answer.Answer.TheVariants.{Reply as Replied}
-use Rattle.gb_cluster.specs.declared.event.Event.TheVariants.{At}
-use Rattle.gb_cluster.specs.declared.step.Step.{Step}
-use Rattle.gb_cluster.specs.Alone.{Member, Group, alone, alone_from}
-use Rattle.gb_cluster.specs.Holds.{Stands, MemberIs, AreMarked, NodeIs, Links, BehavesAlone, Holds, window_of}
+use Rattle.gb_record.specs.declared.answer.Answer.TheVariants.{Reply as AnswerReply}
+use Rattle.gb_record.specs.declared.event.Event.TheVariants.{At}
+use Rattle.gb_record.specs.declared.step.Step.{Step}
+use Rattle.gb_alone.specs.Alone.{Member, Group, alone, alone_from}
+use Rattle.gb_cluster.proofs.Invariant.{Stands, MemberIs, AreMarked, NodeIs, Links, BehavesAlone, Holds, window_of}
 use Rattle.gb_cluster.specs.NodeValue.{NodeValue}
-use Rattle.gb_cluster.specs.Project.{project, has_row, is_taken_in, frames, items_of, is_taken, is_acked, is_noticed, is_stopped, made_by, watched, asked, requested, is_turned_away}
-use Rattle.gb_cluster.specs.Rules.{reserve_of}
-use Rattle.gb_cluster.specs.World.{World, node_of, reserve_for, row_answer, running_reply, node_reply, node_did, world_after}
+use Rattle.gb_record.specs.Project.{project, has_row, is_taken_in, frames, items_of, is_taken, is_acked, is_noticed, is_stopped, made_by, watched, asked, requested, is_turned_away}
+use Rattle.gb_rules.specs.Tenant.{reserve_of}
+use Rattle.gb_cluster.proofs.World.{World, node_of, world_after}
+use Rattle.gb_cluster.specs.NodeStep.{reserve_for, row_answer, running_reply, node_reply, node_did}
 use Rattle.gb_cluster.proofs.AskLemmas.{Before, After, asking}
 use Rattle.gb_cluster.proofs.NodeLemmas.{same_carried}
 use Rattle.gb_cluster.proofs.NoticeLemmas.{noticed_below}
@@ -33,7 +34,7 @@ use Rattle.gb_cluster.proofs.WorldLemmas.{eqb_self, eqb_apart_back, row_elsewher
 
 -- any request, for a group at the node
 at_request : (nodes : ℕ) (g : Addr) (a : NodeId) (v : NodeValue) (group : Group) (carried : ℕ → List Entry) (steps : List Step) (request : Request) (reply : Reply) → reply ≡ node_reply nodes a.number v request
-    → v.stopped ≡ is_stopped a.number steps → Before nodes g a v group carried steps → is_turned_away g (At a request) (Replied reply) ≡ false
+    → v.stopped ≡ is_stopped a.number steps → Before nodes g a v group carried steps → is_turned_away g (At a request) (AnswerReply reply) ≡ false
     → After nodes g a (node_did a request reply v) group carried steps request reply (asked g steps a request reply)
 at_request nodes g a v group carried steps request reply is halted before free = go (cases_Bool (is_stopped a.number steps))
   where
@@ -41,7 +42,7 @@ at_request nodes g a v group carried steps request reply is halted before free =
     by b now = is ∙ ap (λ (c : Bool). if c then Refused Stopped else running_reply nodes a.number v request) (halted ∙ now)
 
     running : is_stopped a.number steps ≡ false → After nodes g a (node_did a request reply v) group carried steps request reply (requested g steps a request reply)
-    running now = subst (λ r. is_turned_away g (At a request) (Replied r) ≡ false → After nodes g a (node_did a request r v) group carried steps request r (requested g steps a request r)) (sym (by false now))
+    running now = subst (λ r. is_turned_away g (At a request) (AnswerReply r) ≡ false → After nodes g a (node_did a request r v) group carried steps request r (requested g steps a request r)) (sym (by false now))
         (λ room. at_running nodes g a v group carried steps request now before room) free
 
     go : ((is_stopped a.number steps ≡ true) ⊎ (is_stopped a.number steps ≡ false)) → After nodes g a (node_did a request reply v) group carried steps request reply (asked g steps a request reply)
@@ -68,13 +69,13 @@ node_keeps a (OpenGroup token addr) Done v = record { senders = refl; receivers 
 node_keeps a (Say token addr payload) (Said seq) v = record { senders = refl; receivers = refl; watch = refl; stopped = refl }
 node_keeps a request reply v = record { senders = refl; receivers = refl; watch = refl; stopped = refl }
 
-unmade_elsewhere : (g : Addr) (a : NodeId) (x : ℕ) (request : Request) (reply : Reply) → x ≢ a.number → made_by g x (At a request) (Replied reply) ≡ None
+unmade_elsewhere : (g : Addr) (a : NodeId) (x : ℕ) (request : Request) (reply : Reply) → x ≢ a.number → made_by g x (At a request) (AnswerReply reply) ≡ None
 unmade_elsewhere g a x (Make token addr spec) Done other = rw (eqb_apart_back x a.number other) refl
 unmade_elsewhere g a x request reply other = refl
 
 -- the node's row is the one that was answered that it is taken in
 row_by : (a : NodeId) (v : NodeValue) (request : Request) (reply : Reply) (tenant : ℕ) → ((token : List ℕ) (row : TenantRow) → request ≡ AddTenant token row → reply ≡ Done → v.row ≡ None)
-    → is_some (reserve_for tenant (node_did a request reply v).row) ≡ (is_taken_in a.number tenant (At a request) (Replied reply) || is_some (reserve_for tenant v.row))
+    → is_some (reserve_for tenant (node_did a request reply v).row) ≡ (is_taken_in a.number tenant (At a request) (AnswerReply reply) || is_some (reserve_for tenant v.row))
 row_by a v (AddTenant token row) Done tenant free = here v.row (free token row refl refl)
   where
     test : (b : Bool) → is_some (if b then Some (reserve_of row) else None) ≡ (b || false)
@@ -114,7 +115,7 @@ module _ (w : World) (a : NodeId) (request : Request) where
       let was = links.node a.number within in
       let keeps = node_keeps a request reply before_node in
       rw (append-nil w.packets) (record {
-        rows = λ tenant. ap (λ b. is_taken_in a.number tenant (At a request) (Replied reply) || b) (was.rows tenant) ∙ sym (row_by a before_node request reply tenant (row_free (length w.nodes) a before_node request));
+        rows = λ tenant. ap (λ b. is_taken_in a.number tenant (At a request) (AnswerReply reply) || b) (was.rows tenant) ∙ sym (row_by a before_node request reply tenant (row_free (length w.nodes) a before_node request));
         stopped = keeps.stopped ∙ was.stopped;
         watch = keeps.watch ∙ was.watch;
         noticed = λ b. ap (λ d. set.contains d.noticed b) keeps.watch ∙ was.noticed b;
@@ -158,7 +159,7 @@ module _ (w : World) (a : NodeId) (request : Request) where
         member = alike.fits.member a.number within;
       }
 
-  group_at : (g : Addr) → a.number < length w.nodes → Links w → is_turned_away g (At a request) (Replied reply) ≡ false → BehavesAlone g w
+  group_at : (g : Addr) → a.number < length w.nodes → Links w → is_turned_away g (At a request) (AnswerReply reply) ≡ false → BehavesAlone g w
       → GroupTurn g w a.number node step [] (alone (length w.nodes) g.group (project g w.packets w.steps))
       (alone_from (length w.nodes) g.group (alone (length w.nodes) g.group (project g w.packets w.steps)) (asked g w.steps a request reply)) (asked g w.steps a request reply)
   unfolding is_taken is_acked

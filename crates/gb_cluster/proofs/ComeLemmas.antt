@@ -7,18 +7,20 @@ use Rattle.gb_types.specs.declared.address.Addr.{Addr}
 use Rattle.gb_types.specs.declared.entry.Entry.{Entry}
 use Rattle.gb_types.specs.declared.node.NodeId.{NodeId}
 use Rattle.gb_slot.specs.Slot.{slot_came}
-use Rattle.gb_cluster.specs.declared.group.GroupEvent.TheVariants.{Came}
-use Rattle.gb_cluster.specs.declared.group.GroupStep.{GroupStep}
-use Rattle.gb_cluster.specs.declared.packet.Item.{Item}
-use Rattle.gb_cluster.specs.declared.packet.Packet.{Packet}
-use Rattle.gb_cluster.specs.Alone.{Member, Group, after, alone_from, is_marked, IsLegalFrom, item_came, taken_in}
+use Rattle.gb_alone.specs.declared.event.GroupEvent.TheVariants.{Came}
+use Rattle.gb_alone.specs.declared.event.GroupStep.{GroupStep}
+use Rattle.gb_record.specs.declared.packet.Item.{Item}
+use Rattle.gb_record.specs.declared.packet.Packet.{Packet}
+use Rattle.gb_alone.specs.Alone.{Member, Group, after, alone_from, is_marked, IsLegalFrom, item_came, taken_in}
 use Rattle.gb_cluster.specs.NodeValue.{NodeValue}
-use Rattle.gb_cluster.specs.Project.{is_addr, items_of, items_at}
-use Rattle.gb_cluster.specs.World.{slot_for, on_slot, reserve_for}
-use Rattle.gb_cluster.specs.Holds.{Stands, AreMarked, offset}
+use Rattle.gb_rules.specs.Address.{is_addr}
+use Rattle.gb_record.specs.Project.{items_of, items_at}
+use Rattle.gb_cluster.specs.NodeStep.{slot_for, on_slot, reserve_for}
+use Rattle.gb_cluster.proofs.Invariant.{Stands, AreMarked}
+use Rattle.gb_record.proofs.Numbers.{offset}
 use Rattle.gb_cluster.proofs.MarkLemmas.{offset_next, offset_all, item_there, marks_added}
 use Rattle.gb_cluster.proofs.MemberLemmas.{KeepsRest, item_came-rest, item_came-noticed}
-use Rattle.gb_cluster.proofs.MoreLemmas.{offset_rises}
+use Rattle.gb_record.proofs.LaterPackets.{offset_rises}
 use Rattle.gb_cluster.proofs.NodeLemmas.{addr_same, stands-came, same_stands}
 use Rattle.gb_cluster.proofs.WorldLemmas.{after_there, after_elsewhere, eqb_self, eqb_apart}
 

@@ -18,16 +18,16 @@ use Rattle.gb_layer.specs.Modules.{first_mentions, now_broadcast}
 use Rattle.gb_layer.specs.declared.call.Call.{Call}
 use Rattle.gb_layer.specs.declared.call.Call.TheVariants.{Notice as Crash}
 use Rattle.gb_stack.specs.Kinds.{base_of}
-use Rattle.gb_slot.specs.History.{calls_of, known, puts_of}
-use Rattle.gb_slot.specs.Messages.{entry_in}
-use Rattle.gb_slot.specs.Rules.{is_other}
+use Rattle.gb_history.specs.History.{calls_of, known, puts_of}
+use Rattle.gb_history.specs.Messages.{entry_in}
+use Rattle.gb_rules.specs.Group.{is_other}
 use Rattle.gb_slot.specs.Slot.{new_slot, waiting, taken_for}
 use Rattle.gb_slot.specs.StandsFor.{StandsFor, reaches}
-use Rattle.gb_slot.specs.declared.history.GroupCall.TheVariants.{Crashed}
+use Rattle.gb_history.specs.declared.call.GroupCall.TheVariants.{Crashed}
 use Rattle.gb_slot.proofs.HistoryLemmas.{fresh_stands}
-use Rattle.gb_cluster.specs.Alone.{Member, called, cut, took_notice, node_noticed, put_to, is_marked}
-use Rattle.gb_cluster.specs.Nodes.{node_numbered}
-use Rattle.gb_cluster.specs.Holds.{SlotStands}
+use Rattle.gb_alone.specs.Alone.{Member, called, cut, took_notice, node_noticed, put_to, is_marked}
+use Rattle.gb_record.specs.Nodes.{node_numbered}
+use Rattle.gb_cluster.proofs.Invariant.{SlotStands}
 use Rattle.gb_cluster.proofs.NoticeLemmas.{or_turned, AreRising, numbered_is, all_noticed, notices_keep, passing_rising, passing_marked}
 
 -- The nodes.

@@ -5,16 +5,17 @@ use Rattle.std.proofs.lemmas.List.{append-nil}
 use Rattle.gb_types.specs.declared.address.Addr.{Addr}
 use Rattle.gb_types.specs.declared.node.NodeId.{NodeId}
 use Rattle.gb_types.specs.declared.refusal.Refusal.TheVariants.{Stopped}
-use Rattle.gb_cluster.specs.declared.answer.Answer.TheVariants.{Halted as Halted_so}
-use Rattle.gb_cluster.specs.declared.answer.Halted.TheVariants.{Done as Halts, Refused as Ended}
-use Rattle.gb_cluster.specs.declared.event.Event.TheVariants.{Stop}
-use Rattle.gb_cluster.specs.declared.packet.Packet.{Packet}
-use Rattle.gb_cluster.specs.declared.step.Step.{Step}
-use Rattle.gb_cluster.specs.Alone.{Group, alone}
+use Rattle.gb_record.specs.declared.answer.Answer.TheVariants.{Halted as AnswerHalted}
+use Rattle.gb_record.specs.declared.answer.Halted.TheVariants.{Done as HaltDone, Refused as HaltRefused}
+use Rattle.gb_record.specs.declared.event.Event.TheVariants.{Stop}
+use Rattle.gb_record.specs.declared.packet.Packet.{Packet}
+use Rattle.gb_record.specs.declared.step.Step.{Step}
+use Rattle.gb_alone.specs.Alone.{Group, alone}
 use Rattle.gb_cluster.specs.NodeValue.{NodeValue}
-use Rattle.gb_cluster.specs.Project.{project, has_row, frames, items_of, is_taken, is_acked, is_noticed, is_stopped, is_met, made_at, watched, replies_to}
-use Rattle.gb_cluster.specs.World.{World, Part, only_answered, node_of, world_after}
-use Rattle.gb_cluster.specs.Holds.{MemberIs, Fits, NodeIs, Links, Holds, window_of}
+use Rattle.gb_record.specs.Project.{project, has_row, frames, items_of, is_taken, is_acked, is_noticed, is_stopped, is_met, made_at, watched, replies_to}
+use Rattle.gb_cluster.proofs.World.{World, node_of, world_after}
+use Rattle.gb_cluster.specs.NodeStep.{Part, only_answered}
+use Rattle.gb_cluster.proofs.Invariant.{MemberIs, Fits, NodeIs, Links, Holds, window_of}
 use Rattle.gb_cluster.proofs.IdleLemmas.{idle_turn}
 use Rattle.gb_cluster.proofs.QuietLemmas.{quiet}
 use Rattle.gb_cluster.proofs.NodeLemmas.{same_stands, same_carried}
@@ -23,7 +24,7 @@ use Rattle.gb_cluster.proofs.WorldLemmas.{eqb_self, eqb_apart_back}
 
 -- a node that stops tells so
 abbrev halt_step : NodeId → Step
-halt_step a = record { event = Stop a; answer = Halted_so Halts }
+halt_step a = record { event = Stop a; answer = AnswerHalted HaltDone }
 
 -- and is stopped from then on
 abbrev halted : NodeValue → NodeValue
@@ -103,8 +104,8 @@ pub any_stop : (w : World) (a : NodeId) → a.number < length w.nodes → Holds 
 any_stop w a in_a holds = go (node_of w a.number).stopped
   where
     part : Bool → Part
-    part b = if b then only_answered (node_of w a.number) (Halted_so (Ended Stopped)) else only_answered (record (node_of w a.number) { stopped = true }) (Halted_so Halts)
+    part b = if b then only_answered (node_of w a.number) (AnswerHalted (HaltRefused Stopped)) else only_answered (record (node_of w a.number) { stopped = true }) (AnswerHalted HaltDone)
 
     go : (b : Bool) → Holds (turned w a.number (part b).value (record { event = Stop a; answer = (part b).answer }) (part b).sent)
-    go true = idle_turn w a.number (Stop a) (Halted_so (Ended Stopped)) in_a (quiet refl) holds
+    go true = idle_turn w a.number (Stop a) (AnswerHalted (HaltRefused Stopped)) in_a (quiet refl) holds
     go false = halt_holds w a in_a holds

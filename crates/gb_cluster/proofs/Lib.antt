@@ -12,7 +12,6 @@ pub mod StoppedLemmas
 pub mod AtLemmas
 pub mod IdleLemmas
 pub mod QuietLemmas
-pub mod MoreLemmas
 pub mod Turns
 pub mod MarkLemmas
 pub mod AckLemmas
@@ -43,14 +42,10 @@ pub mod NodeCodeLemmas
 pub mod ActingLemmas
 pub mod Theorem
 pub mod CodeLemmas
-pub mod KnownLemmas
-pub mod AcceptedLemmas
-pub mod IntegrityLemmas
-pub mod OrderLemmas
-pub mod CommandLemmas
+pub mod RunOrder
 pub mod RunCommands
-pub mod InsideLemmas
 pub mod RunIntegrity
-pub mod PastLemmas
-pub mod ModelLemmas
 pub mod ObservedLemmas
+pub mod Invariant
+pub mod RunLemmas
+pub mod World

@@ -11,14 +11,15 @@ use Rattle.gb_detect.proofs.ReplayLemmas.{stands-start, stands-heard, stands-tic
 use Rattle.gb_link.specs.Ack.{covers}
 use Rattle.gb_link.specs.SendWindow.{SendWindow}
 use Rattle.gb_link.specs.declared.receiver.Admission.TheVariants.{First, Seen}
-use Rattle.gb_cluster.specs.declared.answer.Frame.TheVariants.{Nothing as No_frame, First as Came_first, Seen as Came_before}
-use Rattle.gb_cluster.specs.declared.packet.Item.{Item}
-use Rattle.gb_cluster.specs.declared.packet.Packet.{Packet}
+use Rattle.gb_record.specs.declared.answer.Frame.TheVariants.{Nothing as No_frame, First as Came_first, Seen as Came_before}
+use Rattle.gb_record.specs.declared.packet.Item.{Item}
+use Rattle.gb_record.specs.declared.packet.Packet.{Packet}
 use Rattle.gb_cluster.specs.LinkLaws.{frame_now, items_now, done_now, IsTaken, TakesFound}
 use Rattle.gb_cluster.specs.NodeValue.{NodeValue}
-use Rattle.gb_cluster.specs.Project.{packet_at, frames, is_taken, is_acked}
-use Rattle.gb_cluster.specs.World.{World, node_of, goal_of, newly_done, admission_of, kind_of, count_of, good_of, found_part}
-use Rattle.gb_cluster.specs.Holds.{IsOfFrame, IsFramed, Links}
+use Rattle.gb_record.specs.Project.{packet_at, frames, is_taken, is_acked}
+use Rattle.gb_cluster.proofs.World.{World, transcript_of, node_of}
+use Rattle.gb_cluster.specs.NodeStep.{goal_of, newly_done, admission_of, kind_of, count_of, good_of, found_part}
+use Rattle.gb_cluster.proofs.Invariant.{IsOfFrame, IsFramed, Links}
 use Rattle.gb_cluster.proofs.LinkWindow.{count_done}
 use Rattle.gb_cluster.proofs.TakenLemmas.{sent_frames_are_inside}
 use Rattle.gb_cluster.proofs.TakenLinks.{frame_sent}
@@ -81,7 +82,7 @@ module _ (w : World) (p : Packet) (links : Links w) (framed : IsFramed (length w
       ap (λ (s : SendWindow Item). length (filter (λ (u : ℕ × Item). covers p.base p.mask u.0) s.undone)) ((links.node p.to.number framed.to).sender p.from.number framed.from)
       ∙ count_done (covers p.base p.mask) (λ n. is_acked p.to.number p.from.number n w.packets w.steps) 1 (frames p.to.number p.from.number w.packets w.steps) (links.link p.to.number p.from.number framed.to framed.from).items
 
-  is_told : IsTaken w p (good_of p v)
+  is_told : IsTaken (transcript_of w) p (good_of p v)
   is_told = record {
     told = λ i. record { from = p.from; frame = frame_told i; items = items_told i; done = done_told i };
     packed = packed;
@@ -104,10 +105,10 @@ goal_there w k links = go (packet_at w.packets k) refl
     go [] is = links.some
     go (p ∷ rest) is = (framed_found w k p rest links is).to
 
-pub takes_found : (w : World) (k : ℕ) → Links w → (node_of w (goal_of (packet_at w.packets k))).stopped ≡ false → TakesFound w (found_part (packet_at w.packets k) (node_of w (goal_of (packet_at w.packets k)))).answer (packet_at w.packets k)
+pub takes_found : (w : World) (k : ℕ) → Links w → (node_of w (goal_of (packet_at w.packets k))).stopped ≡ false → TakesFound (transcript_of w) (found_part (packet_at w.packets k) (node_of w (goal_of (packet_at w.packets k)))).answer (packet_at w.packets k)
 takes_found w k links running = go (packet_at w.packets k) refl running
   where
-    go : (ps : List Packet) → packet_at w.packets k ≡ ps → (node_of w (goal_of ps)).stopped ≡ false → TakesFound w (found_part ps (node_of w (goal_of ps))).answer ps
+    go : (ps : List Packet) → packet_at w.packets k ≡ ps → (node_of w (goal_of ps)).stopped ≡ false → TakesFound (transcript_of w) (found_part ps (node_of w (goal_of ps))).answer ps
     go [] is running = refl
     go (p ∷ rest) is running = (good_of p (node_of w p.to.number), rw running refl, is_told w p links (framed_found w k p rest links is))
 

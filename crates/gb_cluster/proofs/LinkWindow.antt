@@ -13,14 +13,16 @@ use Rattle.gb_types.specs.declared.node.NodeId.{NodeId}
 use Rattle.gb_link.specs.SendWindow.{has_room, is_in_window, frame_again}
 use Rattle.gb_link.proofs.BaseLemmas.{count-cons}
 use Rattle.gb_slot.specs.Slot.{waiting}
-use Rattle.gb_cluster.specs.declared.packet.Item.{Item}
-use Rattle.gb_cluster.specs.declared.packet.Packet.{Packet}
-use Rattle.gb_cluster.specs.Headline.{waiting_in}
+use Rattle.gb_record.specs.declared.packet.Item.{Item}
+use Rattle.gb_record.specs.declared.packet.Packet.{Packet}
+use Rattle.gb_cluster.specs.State.{waiting_in}
 use Rattle.gb_cluster.specs.LinkLaws.{IsNoOther, IsCut, IsFull, NoneUndone}
 use Rattle.gb_cluster.specs.NodeValue.{GroupAt, NodeValue}
-use Rattle.gb_cluster.specs.Project.{is_addr, frames, is_acked}
-use Rattle.gb_cluster.specs.World.{World, node_of, slot_for, sender_to, is_another, is_reached, packed, packed_of}
-use Rattle.gb_cluster.specs.Holds.{Links, under, undone_of, window_of}
+use Rattle.gb_rules.specs.Address.{is_addr}
+use Rattle.gb_record.specs.Project.{frames, is_acked}
+use Rattle.gb_cluster.proofs.World.{World, transcript_of, held_by, node_of}
+use Rattle.gb_cluster.specs.NodeStep.{slot_for, sender_to, is_another, is_reached, packed, packed_of}
+use Rattle.gb_cluster.proofs.Invariant.{Links, under, undone_of, window_of}
 use Rattle.gb_cluster.proofs.UndoneLemmas.{HaveItems, undone_there}
 
 -- No frame goes there.
@@ -36,10 +38,10 @@ not_another nodes a b none = go (cases_lt b.number nodes) (cases_eq b.number a.n
         let apart : nat_eq b.number a.number ≡ false = grind (arith, nat_tests) in
         absurd (true≢false (sym (λ i. inside i && not (apart i)) ∙ none))
 
-pub not_reached : (w : World) (a b : NodeId) → a.number < length w.nodes → Links w → is_reached (length w.nodes) a b (node_of w a.number) ≡ false → IsCut w a b
+pub not_reached : (w : World) (a b : NodeId) → a.number < length w.nodes → Links w → is_reached (length w.nodes) a b (node_of w a.number) ≡ false → IsCut (transcript_of w) a b
 not_reached w a b in_a links none = go (is_another (length w.nodes) a b) refl (set.contains (node_of w a.number).watch.noticed b.number) refl none
   where
-    go : (other : Bool) → is_another (length w.nodes) a b ≡ other → (noticed : Bool) → set.contains (node_of w a.number).watch.noticed b.number ≡ noticed → (other && not noticed) ≡ false → IsCut w a b
+    go : (other : Bool) → is_another (length w.nodes) a b ≡ other → (noticed : Bool) → set.contains (node_of w a.number).watch.noticed b.number ≡ noticed → (other && not noticed) ≡ false → IsCut (transcript_of w) a b
     go false is noticed known none = inl (not_another (length w.nodes) a b is)
     go true is true known none = inr (sym ((links.node a.number in_a).noticed b.number) ∙ known)
     go true is false known none = absurd (true≢false none)
@@ -63,7 +65,7 @@ not_room done fs none = go (cases_lt (length fs) LAST_FRAME) (undone_of done 1 f
         let above : u.0 + 63 ≤ length fs = grind (arith, nat_tests, far) in
         inr (u.0, low, omega (arith, within, low), there.1, above)
 
-pub full_link : (w : World) (a b : NodeId) → a.number < length w.nodes → b.number < length w.nodes → Links w → has_room (sender_to (node_of w a.number) b.number) ≡ false → IsFull w a b
+pub full_link : (w : World) (a b : NodeId) → a.number < length w.nodes → b.number < length w.nodes → Links w → has_room (sender_to (node_of w a.number) b.number) ≡ false → IsFull (transcript_of w) a b
 full_link w a b in_a in_b links none = go (not_room done fs (ap has_room (sym ((links.node a.number in_a).sender b.number in_b)) ∙ none))
   where
     done : ℕ → Bool
@@ -72,7 +74,7 @@ full_link w a b in_a in_b links none = go (not_room done fs (ap has_room (sym ((
     fs : List Packet
     fs = frames a.number b.number w.packets w.steps
 
-    go : ((LAST_FRAME ≤ length fs) ⊎ ((n : ℕ) × (1 ≤ n) × (n ≤ length fs) × (done n ≡ false) × (n + 63 ≤ length fs))) → IsFull w a b
+    go : ((LAST_FRAME ≤ length fs) ⊎ ((n : ℕ) × (1 ≤ n) × (n ≤ length fs) × (done n ≡ false) × (n + 63 ≤ length fs))) → IsFull (transcript_of w) a b
     go (inl last) = inl last
     go (inr far) = inr (far.0, record { some = far.1; sent = far.2; unacked = far.3 }, far.4)
 
@@ -133,7 +135,7 @@ not_found done n m fs have none some sent not_done = go (nat_eq n 0) refl none
         let other : nat_eq m n ≡ false = found_nowhere (λ (u : ℕ × Item). nat_eq u.0 n) us there.0 (m, there.1) none there.2 in
         (grind (arith, nat_tests, is), grind (arith, nat_tests, other))
 
-pub none_undone : (w : World) (a b : NodeId) (n : ℕ) → a.number < length w.nodes → b.number < length w.nodes → Links w → frame_again (sender_to (node_of w a.number) b.number) n ≡ None → NoneUndone w a b n
+pub none_undone : (w : World) (a b : NodeId) (n : ℕ) → a.number < length w.nodes → b.number < length w.nodes → Links w → frame_again (sender_to (node_of w a.number) b.number) n ≡ None → NoneUndone (transcript_of w) a b n
 none_undone w a b n in_a in_b links none m undone =
     not_found (λ k. is_acked a.number b.number k w.packets w.steps) n m (frames a.number b.number w.packets w.steps) (links.link a.number b.number in_a in_b).items
     (ap (λ s. frame_again s n) (sym ((links.node a.number in_a).sender b.number in_b)) ∙ none) undone.some undone.sent undone.unacked

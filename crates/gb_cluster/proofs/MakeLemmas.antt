@@ -13,19 +13,20 @@ use Rattle.gb_types.specs.declared.reply.Reply.TheVariants.{Done, Said, Log, Ref
 use Rattle.gb_types.specs.declared.request.Request.TheVariants.{Make}
 use Rattle.gb_types.specs.declared.spec.Spec.{Spec}
 use Rattle.gb_slot.specs.Slot.{new_slot}
-use Rattle.gb_cluster.specs.declared.answer.Answer.TheVariants.{Reply as Replied}
-use Rattle.gb_cluster.specs.declared.event.Event.TheVariants.{At}
-use Rattle.gb_cluster.specs.declared.group.GroupEvent.TheVariants.{Make as AskMake}
-use Rattle.gb_cluster.specs.declared.group.Reserve.{Reserve}
-use Rattle.gb_cluster.specs.declared.step.Step.{Step}
-use Rattle.gb_cluster.specs.Alone.{Member, Group, after, alone_from, commanded, did, is_marked, reply_to, IsLegalFrom}
-use Rattle.gb_cluster.specs.Alone as alone
-use Rattle.gb_cluster.specs.Headline.{waiting_in}
-use Rattle.gb_cluster.specs.Holds.{SlotIs, NotMade, Stands, MemberIs, is_concerned}
+use Rattle.gb_record.specs.declared.answer.Answer.TheVariants.{Reply as AnswerReply}
+use Rattle.gb_record.specs.declared.event.Event.TheVariants.{At}
+use Rattle.gb_alone.specs.declared.event.GroupEvent.TheVariants.{Make as AskMake}
+use Rattle.gb_rules.specs.declared.reserve.Reserve.{Reserve}
+use Rattle.gb_record.specs.declared.step.Step.{Step}
+use Rattle.gb_alone.specs.Alone.{Member, Group, after, alone_from, commanded, did, is_marked, reply_to, IsLegalFrom}
+use Rattle.gb_alone.specs.Alone as alone
+use Rattle.gb_cluster.specs.State.{waiting_in}
+use Rattle.gb_cluster.proofs.Invariant.{SlotIs, NotMade, Stands, MemberIs, is_concerned}
 use Rattle.gb_cluster.specs.NodeValue.{GroupAt, NodeValue}
-use Rattle.gb_cluster.specs.Project.{is_addr, has_row, is_noticed, is_stopped, is_met, made_at, made_by, or_else, replies_to, requested, is_turned_away}
-use Rattle.gb_cluster.specs.Rules.{make_answer, by_tenant}
-use Rattle.gb_cluster.specs.World.{reserve_for, slot_for, in_room, running_reply, node_did}
+use Rattle.gb_rules.specs.Address.{is_addr}
+use Rattle.gb_record.specs.Project.{has_row, is_noticed, is_stopped, is_met, made_at, made_by, or_else, replies_to, requested, is_turned_away}
+use Rattle.gb_rules.specs.Tenant.{make_answer, by_tenant}
+use Rattle.gb_cluster.specs.NodeStep.{reserve_for, slot_for, in_room, running_reply, node_did}
 use Rattle.gb_cluster.proofs.AskLemmas.{Before, AtNode, asking, at_command, at_other, if_same, replies_running, told_one, unmet_now}
 use Rattle.gb_cluster.proofs.FreshLemmas.{noticed_before, before_rising, marked_before, fresh_slot, fresh_put, waiting-new}
 use Rattle.gb_cluster.proofs.MemberLemmas.{made-is, KeepsRest}
@@ -35,7 +36,7 @@ use Rattle.gb_cluster.proofs.StopLemmas.{unmet}
 use Rattle.gb_cluster.proofs.WorldLemmas.{eqb_self, after_there, after_elsewhere}
 
 -- there was room where the answer is not that there is none
-in_room-same : (g : Addr) (a : NodeId) (token : List ℕ) (spec : Spec) (h : Option GroupAt) (r : Reply) → is_turned_away g (At a (Make token g spec)) (Replied (in_room h r)) ≡ false → in_room h r ≡ r
+in_room-same : (g : Addr) (a : NodeId) (token : List ℕ) (spec : Spec) (h : Option GroupAt) (r : Reply) → is_turned_away g (At a (Make token g spec)) (AnswerReply (in_room h r)) ≡ false → in_room h r ≡ r
 in_room-same g a token spec None r free = refl
 in_room-same g a token spec (Some here) Done free = absurd (clash (is_addr-self g) free)
   where
@@ -55,7 +56,7 @@ make_elsewhere nodes g addr a token v m spec carried Done free other st =
     same_stands nodes g a.number v (record v { group = Some (record { addr = addr; slot = new_slot spec a v.watch.noticed }) }) m m carried refl (rw other (sym (ap (slot_for g) (free refl)))) refl refl refl refl refl refl st
 make_elsewhere nodes g addr a token v m spec carried r free other st = st
 
-made_elsewhere : (g addr : Addr) (a : NodeId) (token : List ℕ) (spec : Spec) (r : Reply) → is_addr g addr ≡ false → made_by g a.number (At a (Make token addr spec)) (Replied r) ≡ None
+made_elsewhere : (g addr : Addr) (a : NodeId) (token : List ℕ) (spec : Spec) (r : Reply) → is_addr g addr ≡ false → made_by g a.number (At a (Make token addr spec)) (AnswerReply r) ≡ None
 made_elsewhere g addr a token spec Done other = ap (λ b. if nat_eq a.number a.number && b then Some spec else None) other ∙ by (nat_eq a.number a.number)
   where
     by : (b : Bool) → (if b && false then Some spec else None) ≡ None
@@ -110,7 +111,7 @@ module _ (nodes : ℕ) (g : Addr) (a : NodeId) (v : NodeValue) (group : Group) (
   unfolding replies_to made_at is_noticed is_met
   made_member running row was absent below =
       let keeps = notices_keep a.number noticed_now made in
-      let now : or_else (made_by g a.number (At a (Make token g spec)) (Replied Done)) (made_at g a.number steps) ≡ Some spec = rw (eqb_self a.number, is_addr-self g) refl in
+      let now : or_else (made_by g a.number (At a (Make token g spec)) (AnswerReply Done)) (made_at g a.number steps) ≡ Some spec = rw (eqb_self a.number, is_addr-self g) refl in
       record {
         replies = keeps.replies ∙ (ap (λ rs. rs ++ Done ∷ []) was.replies ∙ ap (λ rs. replies_to g a.number steps ++ rs) (sym (told_one g a steps (Make token g spec) Done row (is_addr-self g))));
         spec = keeps.spec ∙ sym now;
@@ -165,7 +166,7 @@ make_by nodes g a v group carried steps token spec r running before free row is 
     at_command nodes g a v group carried steps (Make token g spec) r (AskMake spec) running before (is_addr-self g) (rw (is_addr-self g) refl) refl tt refl is refl (λ none. refl) before.stands
 
 pub at_make : (nodes : ℕ) (g : Addr) (a : NodeId) (v : NodeValue) (group : Group) (carried : ℕ → List Entry) (steps : List Step) (token : List ℕ) (addr : Addr) (spec : Spec)
-    → is_stopped a.number steps ≡ false → Before nodes g a v group carried steps → is_turned_away g (At a (Make token addr spec)) (Replied (running_reply nodes a.number v (Make token addr spec))) ≡ false
+    → is_stopped a.number steps ≡ false → Before nodes g a v group carried steps → is_turned_away g (At a (Make token addr spec)) (AnswerReply (running_reply nodes a.number v (Make token addr spec))) ≡ false
     → AtNode nodes g a v group carried steps (Make token addr spec) (running_reply nodes a.number v (Make token addr spec))
 at_make nodes g a v group carried steps token addr spec running before free = go (cases_Bool (is_addr g addr))
   where
@@ -179,7 +180,7 @@ at_make nodes g a v group carried steps token addr spec running before free = go
     granted None there is = absurd (cc)
     granted (Some row) there is = before.rows ∙ ap (λ (x : Option Reserve). is_some x) there
 
-    mine : is_turned_away g (At a (Make token g spec)) (Replied (r g)) ≡ false → AtNode nodes g a v group carried steps (Make token g spec) (r g)
+    mine : is_turned_away g (At a (Make token g spec)) (AnswerReply (r g)) ≡ false → AtNode nodes g a v group carried steps (Make token g spec) (r g)
     mine room =
         let same : r g ≡ rule g = in_room-same g a token spec v.group (rule g) room in
         make_by nodes g a v group carried steps token spec (r g) running before (in_room-done v.group (rule g)) (λ is. granted (reserve_for g.tenant v.row) refl (sym same ∙ is))
@@ -187,6 +188,6 @@ at_make nodes g a v group carried steps token addr spec running before free = go
         ∙ (ap (by_tenant (make_answer nodes a.number g.group (is_some (slot_for g v.group)) spec)) before.stands.row ∙ sym same))
 
     go : ((is_addr g addr ≡ true) ⊎ (is_addr g addr ≡ false)) → AtNode nodes g a v group carried steps (Make token addr spec) (r addr)
-    go (inl h) = subst (λ (x : Addr). is_turned_away g (At a (Make token x spec)) (Replied (r x)) ≡ false → AtNode nodes g a v group carried steps (Make token x spec) (r x)) (sym (addr_same g addr h)) mine free
+    go (inl h) = subst (λ (x : Addr). is_turned_away g (At a (Make token x spec)) (AnswerReply (r x)) ≡ false → AtNode nodes g a v group carried steps (Make token x spec) (r x)) (sym (addr_same g addr h)) mine free
     go (inr h) = at_other nodes g a v group carried steps (Make token addr spec) (r addr) running before h (none_requested g addr a steps token spec (r addr) h) (made_elsewhere g addr a token spec (r addr) h)
         (make_elsewhere nodes g addr a token v (group a.number) spec carried (r addr) (in_room-done v.group (rule addr)) h before.stands)

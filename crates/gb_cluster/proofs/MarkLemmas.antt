@@ -6,11 +6,13 @@ use Rattle.std.proofs.lemmas.Bool.Decides.{nat_tests}
 use Rattle.std.proofs.lemmas.List.{append-nil, append_assoc}
 use Rattle.gb_types.specs.declared.address.Addr.{Addr}
 use Rattle.gb_types.specs.declared.entry.Entry.{Entry}
-use Rattle.gb_cluster.specs.declared.packet.Item.{Item}
-use Rattle.gb_cluster.specs.declared.packet.Packet.{Packet}
-use Rattle.gb_cluster.specs.Alone.{is_marked}
-use Rattle.gb_cluster.specs.Project.{is_addr, items_of, items_in}
-use Rattle.gb_cluster.specs.Holds.{AreMarked, offset}
+use Rattle.gb_record.specs.declared.packet.Item.{Item}
+use Rattle.gb_record.specs.declared.packet.Packet.{Packet}
+use Rattle.gb_alone.specs.Alone.{is_marked}
+use Rattle.gb_rules.specs.Address.{is_addr}
+use Rattle.gb_record.specs.Project.{items_of, items_in}
+use Rattle.gb_cluster.proofs.Invariant.{AreMarked}
+use Rattle.gb_record.proofs.Numbers.{offset}
 
 pub slice_get-within : {X : Type 0} (xs : List X) (x : X) (k : ℕ) → slice_get xs k ≡ Some x → k < length xs
 slice_get-within [] x k is = absurd (cc)

@@ -14,21 +14,21 @@ use Rattle.gb_types.specs.declared.spec.Spec.{Spec}
 use Rattle.gb_types.proofs.SameLemmas.{same_number}
 use Rattle.gb_types.specs.Entry.{message_of}
 use Rattle.gb_layer.specs.declared.call.Call.TheVariants.{Came, Notice as Crash}
-use Rattle.gb_slot.specs.Messages.{with_new}
+use Rattle.gb_history.specs.Messages.{with_new}
 use Rattle.gb_layer.specs.Machine.{was_noticed}
-use Rattle.gb_slot.specs.History.{calls_of, log_of, puts_of}
-use Rattle.gb_slot.specs.Rules.{is_other}
+use Rattle.gb_history.specs.History.{calls_of, log_of, puts_of, falls_after}
+use Rattle.gb_rules.specs.Group.{is_other}
 use Rattle.gb_slot.specs.Slot.{shown, waiting, own_entry, slot_called, slot_said, slot_came, slot_noticed, falls}
 use Rattle.gb_slot.specs.SlotState.{SlotState}
-use Rattle.gb_slot.specs.StandsFor.{StandsFor, falls_after, reaches}
-use Rattle.gb_slot.specs.declared.history.GroupCall.{GroupCall}
-use Rattle.gb_slot.specs.declared.history.GroupCall.TheVariants.{Own, Other, Crashed}
+use Rattle.gb_slot.specs.StandsFor.{StandsFor, reaches}
+use Rattle.gb_history.specs.declared.call.GroupCall.{GroupCall}
+use Rattle.gb_history.specs.declared.call.GroupCall.TheVariants.{Own, Other, Crashed}
 use Rattle.gb_slot.proofs.HistoryLemmas.{said_stands, came_stands, noticed_stands, log_is, falls_is, waiting_said, waiting_came, waiting_noticed}
-use Rattle.gb_cluster.specs.Alone.{Member, shown_of, called, item_came, put_to, cut, took_notice, node_noticed}
-use Rattle.gb_cluster.specs.Alone as alone
-use Rattle.gb_cluster.specs.Headline.{waiting_in}
-use Rattle.gb_cluster.specs.Holds.{SlotIs, SlotStands, NotMade}
-use Rattle.gb_cluster.specs.World.{shown_for}
+use Rattle.gb_alone.specs.Alone.{Member, shown_of, called, item_came, put_to, cut, took_notice, node_noticed}
+use Rattle.gb_alone.specs.Alone as alone
+use Rattle.gb_cluster.specs.State.{waiting_in}
+use Rattle.gb_cluster.proofs.Invariant.{SlotIs, SlotStands, NotMade}
+use Rattle.gb_cluster.specs.NodeStep.{shown_for}
 
 -- the rules read the same of the slot and of the group alone
 pub shown-is : (me : ℕ) (o : Option SlotState) (m : Member) → SlotIs me o m → alone.shown me m ≡ shown_for o

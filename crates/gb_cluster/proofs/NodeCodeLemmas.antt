@@ -1,5 +1,5 @@
 -- What the parts of a node's code give together.
-use Rattle.std.proofs.Common.{◌≡◌, ℕ, zero, suc, ◌+◌, ◌≤◌, List, [], ◌∷◌, ◌++◌, length, Option, Some, None, Bool, true, false, cond, ◌&&◌, ◌⊎◌, inl, inr, refl, sym, ◌∙◌, ap, subst, arith, count_by, length-append}
+use Rattle.std.proofs.Common.{◌≡◌, ℕ, zero, suc, ◌+◌, ◌≤◌, List, [], ◌∷◌, ◌++◌, length, Option, Some, None, Bool, true, false, cond, ◌&&◌, ◌||◌, ◌⊎◌, inl, inr, refl, sym, ◌∙◌, ap, subst, arith, count_by, length-append}
 use Rattle.std.specs.Prelude.{◌≢◌, filter, fold, nat_eq, slice_set, if◌then◌else◌, Result, Ok, Err, OnErr}
 use Rattle.std.specs.FinSet as set
 use Rattle.std.specs.List.{range_with_len}
@@ -14,7 +14,10 @@ use Rattle.gb_detect.specs.Watch.{Watch, after_heard}
 use Rattle.gb_link.specs.Ack.{covers}
 use Rattle.gb_link.specs.Received.{Received, admission, taken}
 use Rattle.gb_link.specs.SendWindow.{SendWindow, has_room}
-use Rattle.gb_slot.specs.Slot.{waiting}
+use Rattle.gb_layer.specs.declared.call.Call.TheVariants.{Notice}
+use Rattle.gb_rules.specs.Group.{is_other}
+use Rattle.gb_slot.specs.Slot.{waiting, slot_called}
+use Rattle.gb_slot.specs.SlotState.{SlotState}
 use Rattle.gb_types.proofs.SameLemmas.{same_number}
 use Rattle.gb_types.specs.Places.{below, common}
 use Rattle.gb_types.specs.Rising.{rising}
@@ -26,13 +29,14 @@ use Rattle.gb_types.specs.declared.reply.Reply.{Reply}
 use Rattle.gb_types.specs.declared.reply.Reply.TheVariants.{Refused}
 use Rattle.gb_types.specs.declared.request.Request.{Request}
 use Rattle.gb_types.specs.declared.spec.TenantRow.{TenantRow}
-use Rattle.gb_cluster.specs.Headline.{IsReplyTo}
-use Rattle.gb_cluster.specs.Hosted.{first_waiting}
+use Rattle.gb_cluster.specs.Memory.{IsReplyTo, has_other_of}
+use Rattle.gb_cluster.specs.GroupRoom.{first_waiting, group_of}
+use Rattle.gb_cluster.specs.declared.node.Hosted.{Hosted}
 use Rattle.gb_cluster.specs.NodeValue.{GroupAt, NodeValue}
-use Rattle.gb_cluster.specs.Nodes.{node_numbered}
-use Rattle.gb_cluster.specs.World.{first_of, is_reached, packed, packed_of, packet_for, node_packed, sender_to, receiver_from, item_done, newly_done, without_done, admission_of, group_came, node_took, group_noticed, running_reply, node_reply}
-use Rattle.gb_cluster.specs.declared.packet.Item.{Item}
-use Rattle.gb_cluster.specs.declared.packet.Packet.{Packet}
+use Rattle.gb_record.specs.Nodes.{node_numbered}
+use Rattle.gb_cluster.specs.NodeStep.{first_of, is_reached, packed, packed_of, packet_for, node_packed, sender_to, receiver_from, item_done, newly_done, without_done, admission_of, group_came, node_took, group_noticed, slot_noticed_all, running_reply, node_reply}
+use Rattle.gb_record.specs.declared.packet.Item.{Item}
+use Rattle.gb_record.specs.declared.packet.Packet.{Packet}
 
 -- what holds anyway holds where the result is an error
 pub on_err : {T E : Type 0} (r : Result T E) (P : Type 0) → P → OnErr r P
@@ -144,10 +148,21 @@ pub rising_none : rising set.empty ≡ []
 unfolding rising
 rising_none = none_of (range_with_len 0 NODES)
 
--- where no node is noticed the group stays
-pub none_noticed : (found : set.FinSet nat_cmp) (group : Option GroupAt) → found ≡ set.empty → group_noticed (rising found) group ≡ group
-none_noticed found group none = ap (λ (s : set.FinSet nat_cmp). group_noticed (rising s) group) none ∙ (ap (λ bs. group_noticed bs group) rising_none ∙ stays group)
+-- nodes of which none is another member change nothing of a slot
+slot_stays : (s : SlotState) (bs : List ℕ) → has_other_of s bs ≡ false → slot_noticed_all s bs ≡ s
+slot_stays s [] none = refl
+slot_stays s (b ∷ bs) none =
+    let parts = or_false (is_other s.spec s.me.number (node_numbered b).number) (has_other_of s bs) none in
+    ap (λ (t : Bool). slot_noticed_all (if t then noticed b else s) bs) parts.0 ∙ slot_stays s bs parts.1
   where
-    stays : (g : Option GroupAt) → group_noticed [] g ≡ g
-    stays None = refl
-    stays (Some here) = refl
+    noticed : ℕ → SlotState
+    noticed b =
+        let next = slot_called (Notice (node_numbered b)) s.store s in
+        record next { noticed = set.insert s.noticed (node_numbered b).number }
+
+    or_false : (x y : Bool) → (x || y) ≡ false → (x ≡ false) × (y ≡ false)
+    or_false true y h = absurd (cc)
+    or_false false y h = (refl, h)
+
+pub none_concerned : (h : Hosted) (found : set.FinSet nat_cmp) → has_other_of h.slot.state (rising found) ≡ false → group_noticed (rising found) (group_of (Some h)) ≡ group_of (Some h)
+none_concerned h found none = ap (λ (s : SlotState). Some (record { addr = h.addr; slot = s })) (slot_stays h.slot.state (rising found) none)

@@ -8,12 +8,12 @@ use Rattle.gb_types.specs.declared.entry.Entry.{Entry}
 use Rattle.gb_types.specs.declared.node.NodeId.{NodeId}
 use Rattle.gb_slot.specs.Slot.{slot_came}
 use Rattle.gb_slot.specs.SlotState.{SlotState}
-use Rattle.gb_cluster.specs.Alone.{Member, item_came, taken_in}
-use Rattle.gb_cluster.specs.Headline.{waiting_in}
-use Rattle.gb_cluster.specs.Holds.{SlotIs, Stands}
+use Rattle.gb_alone.specs.Alone.{Member, item_came, taken_in}
+use Rattle.gb_cluster.specs.State.{waiting_in}
+use Rattle.gb_cluster.proofs.Invariant.{SlotIs, Stands}
 use Rattle.gb_cluster.specs.NodeValue.{GroupAt, NodeValue}
-use Rattle.gb_cluster.specs.Project.{is_addr}
-use Rattle.gb_cluster.specs.World.{reserve_for, slot_for, on_slot}
+use Rattle.gb_rules.specs.Address.{is_addr}
+use Rattle.gb_cluster.specs.NodeStep.{reserve_for, slot_for, on_slot}
 use Rattle.gb_cluster.proofs.MemberLemmas.{same_slot, slot-came, put-item_came, item_came-rest}
 
 pub addr_same : (g addr : Addr) → is_addr g addr ≡ true → addr ≡ g

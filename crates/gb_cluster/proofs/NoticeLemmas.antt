@@ -12,17 +12,17 @@ use Rattle.gb_layer.specs.Bools.{or_second}
 use Rattle.gb_detect.specs.Silence.{is_noticed as after_silence}
 use Rattle.gb_detect.specs.Watch.{Watch}
 use Rattle.gb_detect.proofs.ReplayLemmas.{noticed-replay}
-use Rattle.gb_slot.specs.Rules.{is_other}
-use Rattle.gb_slot.specs.declared.history.GroupCall.TheVariants.{Crashed}
-use Rattle.gb_cluster.specs.Alone.{Member, Group, after, alone_from, called, cut, took_notice, node_noticed, is_marked, IsLegalFrom}
-use Rattle.gb_cluster.specs.Holds.{NodeIs}
-use Rattle.gb_cluster.specs.Nodes.{node_numbered}
+use Rattle.gb_rules.specs.Group.{is_other}
+use Rattle.gb_history.specs.declared.call.GroupCall.TheVariants.{Crashed}
+use Rattle.gb_alone.specs.Alone.{Member, Group, after, alone_from, called, cut, took_notice, node_noticed, is_marked, IsLegalFrom}
+use Rattle.gb_cluster.proofs.Invariant.{NodeIs}
+use Rattle.gb_record.specs.Nodes.{node_numbered}
 use Rattle.gb_cluster.specs.NodeValue.{NodeValue}
-use Rattle.gb_cluster.specs.Project.{is_noticed, watched}
-use Rattle.gb_cluster.specs.declared.group.GroupEvent.TheVariants.{Notice}
-use Rattle.gb_cluster.specs.declared.group.GroupStep.{GroupStep}
-use Rattle.gb_cluster.specs.declared.packet.Packet.{Packet}
-use Rattle.gb_cluster.specs.declared.step.Step.{Step}
+use Rattle.gb_record.specs.Project.{is_noticed, watched}
+use Rattle.gb_alone.specs.declared.event.GroupEvent.TheVariants.{Notice}
+use Rattle.gb_alone.specs.declared.event.GroupStep.{GroupStep}
+use Rattle.gb_record.specs.declared.packet.Packet.{Packet}
+use Rattle.gb_record.specs.declared.step.Step.{Step}
 use Rattle.gb_cluster.proofs.MemberLemmas.{KeepsRest}
 use Rattle.gb_cluster.proofs.WorldLemmas.{eqb_self, after_there, after_elsewhere}
 

@@ -3,16 +3,17 @@ use Rattle.std.proofs.Common.{◌≡◌, ℕ, ◌<◌, List, ◌++◌, length, t
 use Rattle.std.proofs.lemmas.List.{take_all, take-append-le}
 use Rattle.gb_types.specs.declared.address.Addr.{Addr}
 use Rattle.gb_types.specs.declared.entry.Entry.{Entry}
-use Rattle.gb_cluster.specs.Alone.{Group, Member, alone}
-use Rattle.gb_cluster.specs.Headline.{waiting_in}
-use Rattle.gb_cluster.specs.Holds.{Holds, BehavesAlone, Stands}
+use Rattle.gb_alone.specs.Alone.{Group, Member, alone}
+use Rattle.gb_cluster.specs.State.{waiting_in}
+use Rattle.gb_cluster.proofs.Invariant.{Holds, BehavesAlone, Stands}
 use Rattle.gb_cluster.specs.NodeValue.{NodeValue}
-use Rattle.gb_cluster.specs.Observed.{IsObserved, AreObserved}
-use Rattle.gb_cluster.specs.Project.{project, frames, items_of, replies_to}
-use Rattle.gb_cluster.specs.World.{World, slot_for, node_of}
-use Rattle.gb_cluster.specs.declared.packet.Packet.{Packet}
-use Rattle.gb_cluster.specs.declared.step.Step.{Step}
-use Rattle.gb_cluster.proofs.PastLemmas.{seen_same}
+use Rattle.gb_record.specs.Observed.{IsObserved, AreObserved}
+use Rattle.gb_record.specs.Project.{project, frames, items_of, replies_to}
+use Rattle.gb_cluster.proofs.World.{World, transcript_of, node_of}
+use Rattle.gb_cluster.specs.NodeStep.{slot_for}
+use Rattle.gb_record.specs.declared.packet.Packet.{Packet}
+use Rattle.gb_record.specs.declared.step.Step.{Step}
+use Rattle.gb_alone.proofs.ObservationLemmas.{seen_same}
 
 -- the first items of a list that is continued
 take_front : (xs ys : List Entry) → take (length xs) (xs ++ ys) ≡ xs
@@ -23,7 +24,7 @@ carried_are_taken : (nodes : ℕ) (g : Addr) (me : ℕ) (v : NodeValue) (m : Mem
 carried_are_taken nodes g me v m carried b inside st =
     sym (ap (λ n. take n (m.put b)) (st.taken b inside) ∙ (ap (take (length (carried b))) (st.put b inside) ∙ take_front (carried b) (waiting_in (slot_for g v.group) b)))
 
-observed_of : (g : Addr) (w : World) → BehavesAlone g w → IsObserved (length w.nodes) w.packets w.steps g
+observed_of : (g : Addr) (w : World) → BehavesAlone g w → IsObserved (transcript_of w) g
 observed_of g w alone_too = record {
   legal = alone_too.legal;
   same = seen_same (length w.nodes) (λ a. replies_to g a w.steps) (λ a. (group a).replies) (λ a b. items_of g (frames a b w.packets w.steps)) (λ a b. take ((group a).taken b) ((group a).put b))
@@ -34,9 +35,5 @@ observed_of g w alone_too = record {
     group : Group
     group = alone (length w.nodes) g.group (project g w.packets w.steps)
 
-pub all_observed : (w : World) → Holds w → AreObserved (length w.nodes) w.packets w.steps
+pub all_observed : (w : World) → Holds w → AreObserved (transcript_of w)
 all_observed w holds g served = observed_of g w (holds.groups g served)
-
-pub observed_run : (nodes n : ℕ) (packets sent : List Packet) (steps past : List Step) → n ≡ nodes → sent ≡ packets → past ≡ steps → AreObserved n sent past → AreObserved nodes packets steps
-observed_run nodes n packets sent steps past same_nodes same_packets same_steps all =
-    subst (λ k. AreObserved k packets steps) same_nodes (subst (λ (ps : List Packet). AreObserved n ps steps) same_packets (subst (λ (ss : List Step). AreObserved n sent ss) same_steps all))

@@ -9,12 +9,12 @@ use Rattle.gb_types.specs.declared.limits.TheConstants.{NODES}
 use Rattle.gb_slot.specs.Slot.{waiting, slot_took}
 use Rattle.gb_slot.specs.SlotState.{SlotState}
 use Rattle.gb_slot.proofs.HistoryLemmas.{took_stands, waiting_took, waiting_elsewhere}
-use Rattle.gb_cluster.specs.Alone.{Member}
-use Rattle.gb_cluster.specs.Headline.{waiting_in}
+use Rattle.gb_alone.specs.Alone.{Member}
+use Rattle.gb_cluster.specs.State.{waiting_in}
 use Rattle.gb_cluster.specs.NodeValue.{GroupAt, NodeValue}
-use Rattle.gb_cluster.specs.Project.{is_addr}
-use Rattle.gb_cluster.specs.World.{reserve_for, slot_for, group_took}
-use Rattle.gb_cluster.specs.Holds.{SlotIs, SlotStands, Stands}
+use Rattle.gb_rules.specs.Address.{is_addr}
+use Rattle.gb_cluster.specs.NodeStep.{reserve_for, slot_for, group_took}
+use Rattle.gb_cluster.proofs.Invariant.{SlotIs, SlotStands, Stands}
 use Rattle.gb_cluster.proofs.MemberLemmas.{same_slot}
 use Rattle.gb_cluster.proofs.NodeLemmas.{same_stands, same_carried}
 use Rattle.gb_cluster.proofs.WorldLemmas.{eqb_self, eqb_apart}

@@ -7,21 +7,23 @@ use Rattle.gb_types.specs.declared.address.Addr.{Addr}
 use Rattle.gb_types.specs.declared.entry.Entry.{Entry}
 use Rattle.gb_types.specs.declared.node.NodeId.{NodeId}
 use Rattle.gb_types.specs.declared.refusal.Refusal.TheVariants.{Stopped}
-use Rattle.gb_cluster.specs.declared.event.Event.TheVariants.{Pack}
-use Rattle.gb_cluster.specs.declared.answer.Answer.TheVariants.{Sent as Gave}
-use Rattle.gb_cluster.specs.declared.answer.Sent.TheVariants.{Packet as Numbered, Nothing, Refused as Unsent}
-use Rattle.gb_cluster.specs.declared.step.Step.{Step}
-use Rattle.gb_cluster.specs.declared.packet.Item.{Item}
-use Rattle.gb_cluster.specs.declared.packet.Packet.{Packet}
-use Rattle.gb_cluster.specs.declared.group.GroupEvent.TheVariants.{Took}
-use Rattle.gb_cluster.specs.declared.group.GroupStep.{GroupStep}
-use Rattle.gb_cluster.specs.Alone.{Member, Group, alone, alone_from}
+use Rattle.gb_record.specs.declared.event.Event.TheVariants.{Pack}
+use Rattle.gb_record.specs.declared.answer.Answer.TheVariants.{Sent as AnswerSent}
+use Rattle.gb_record.specs.declared.answer.Sent.TheVariants.{Packet as SentPacket, Nothing, Refused as SentRefused}
+use Rattle.gb_record.specs.declared.step.Step.{Step}
+use Rattle.gb_record.specs.declared.packet.Item.{Item}
+use Rattle.gb_record.specs.declared.packet.Packet.{Packet}
+use Rattle.gb_alone.specs.declared.event.GroupEvent.TheVariants.{Took}
+use Rattle.gb_alone.specs.declared.event.GroupStep.{GroupStep}
+use Rattle.gb_alone.specs.Alone.{Member, Group, alone, alone_from}
 use Rattle.gb_cluster.specs.NodeValue.{GroupAt, NodeValue}
-use Rattle.gb_cluster.specs.Project.{is_addr, project, gives, frames, items_of, items_in, items_at, took}
-use Rattle.gb_cluster.specs.World.{World, Part, node_of, packed, node_packed, node_sent, only_answered, sent_part, world_after}
-use Rattle.gb_cluster.specs.Holds.{Stands, Fits, Links, BehavesAlone, Holds}
+use Rattle.gb_rules.specs.Address.{is_addr}
+use Rattle.gb_record.specs.Project.{project, gives, frames, items_of, items_in, items_at, took}
+use Rattle.gb_cluster.proofs.World.{World, node_of, world_after}
+use Rattle.gb_cluster.specs.NodeStep.{Part, packed, node_packed, node_sent, only_answered, sent_part}
+use Rattle.gb_cluster.proofs.Invariant.{Stands, Fits, Links, BehavesAlone, Holds}
 use Rattle.gb_cluster.proofs.WorldLemmas.{after_there, after_elsewhere}
-use Rattle.gb_cluster.proofs.MoreLemmas.{items_of-append}
+use Rattle.gb_record.proofs.LaterPackets.{items_of-append}
 use Rattle.gb_cluster.proofs.IdleLemmas.{idle_turn}
 use Rattle.gb_cluster.proofs.QuietLemmas.{quiet}
 use Rattle.gb_cluster.proofs.StopLemmas.{unmet}
@@ -63,7 +65,7 @@ module _ (g : Addr) (w : World) (a b : NodeId) (p : Packet) (hosted : GroupAt) (
   unfolding items_of
   its_items = append-nil (items_in g p) ∙ ap (λ (q : Packet). items_at g q.item) (sym packs.packet)
 
-  given_is : gives g (w.packets ++ p ∷ []) w.steps (Pack a b) (Gave (Numbered (length w.packets + 1))) ≡ took a b (length (items_at g (Some item)))
+  given_is : gives g (w.packets ++ p ∷ []) w.steps (Pack a b) (AnswerSent (SentPacket (length w.packets + 1))) ≡ took a b (length (items_at g (Some item)))
   given_is = ap (λ (qs : List Packet). took a b (length (items_of g qs))) (packet_at-last w.packets p) ∙ ap (λ (xs : List Entry). took a b (length xs)) its_items
 
   at_b : later b.number ≡ carried b.number ++ items_at g (Some item)
@@ -116,7 +118,7 @@ pack_turn w a b p ps in_a holds runs is =
       where
         turn : (g : Addr) → BehavesAlone g w
             → GroupSends g w a.number (node_sent b (p ∷ ps) (node_of w a.number)) (pack_step w a b) (p ∷ []) (alone nodes g.group (project g w.packets w.steps))
-            (alone_from nodes g.group (alone nodes g.group (project g w.packets w.steps)) (gives g (w.packets ++ p ∷ []) w.steps (Pack a b) (Gave (Numbered (length w.packets + 1))))) (gives g (w.packets ++ p ∷ []) w.steps (Pack a b) (Gave (Numbered (length w.packets + 1))))
+            (alone_from nodes g.group (alone nodes g.group (project g w.packets w.steps)) (gives g (w.packets ++ p ∷ []) w.steps (Pack a b) (AnswerSent (SentPacket (length w.packets + 1))))) (gives g (w.packets ++ p ∷ []) w.steps (Pack a b) (AnswerSent (SentPacket (length w.packets + 1))))
         turn g before =
             let group : Group = alone nodes g.group (project g w.packets w.steps) in
             subst (λ (given : List GroupStep). GroupSends g w a.number (node_sent b (p ∷ ps) (node_of w a.number)) (pack_step w a b) (p ∷ []) group (alone_from nodes g.group group given) given)
@@ -127,10 +129,10 @@ pub any_pack : (w : World) (a b : NodeId) → a.number < length w.nodes → Hold
 any_pack w a b in_a holds = go (node_of w a.number).stopped refl (node_packed (length w.nodes) a b (node_of w a.number)) refl
   where
     part : Bool → List Packet → Part
-    part stopped ps = if stopped then only_answered (node_of w a.number) (Gave (Unsent Stopped)) else sent_part (length w.packets) (node_sent b ps (node_of w a.number)) ps
+    part stopped ps = if stopped then only_answered (node_of w a.number) (AnswerSent (SentRefused Stopped)) else sent_part (length w.packets) (node_sent b ps (node_of w a.number)) ps
 
     go : (stopped : Bool) → (node_of w a.number).stopped ≡ stopped → (ps : List Packet) → node_packed (length w.nodes) a b (node_of w a.number) ≡ ps
         → Holds (turned w a.number (part stopped ps).value (record { event = Pack a b; answer = (part stopped ps).answer }) (part stopped ps).sent)
-    go true is ps packed = idle_turn w a.number (Pack a b) (Gave (Unsent Stopped)) in_a (quiet refl) holds
-    go false is [] packed = idle_turn w a.number (Pack a b) (Gave Nothing) in_a (quiet refl) holds
+    go true is ps packed = idle_turn w a.number (Pack a b) (AnswerSent (SentRefused Stopped)) in_a (quiet refl) holds
+    go false is [] packed = idle_turn w a.number (Pack a b) (AnswerSent Nothing) in_a (quiet refl) holds
     go false is (p ∷ ps) packed = pack_turn w a b p ps in_a holds is packed

@@ -8,17 +8,18 @@ use Rattle.gb_types.specs.declared.entry.Entry.{Entry}
 use Rattle.gb_types.specs.declared.limits.TheConstants.{LAST_FRAME}
 use Rattle.gb_types.specs.declared.node.NodeId.{NodeId}
 use Rattle.gb_link.specs.SendWindow.{SendWindow, new_window, has_room, is_in_window, pushed}
-use Rattle.gb_cluster.specs.declared.event.Event.TheVariants.{Pack}
-use Rattle.gb_cluster.specs.declared.answer.Answer.TheVariants.{Sent as Gave}
-use Rattle.gb_cluster.specs.declared.answer.Sent.{Sent}
-use Rattle.gb_cluster.specs.declared.answer.Sent.TheVariants.{Packet as Numbered}
-use Rattle.gb_cluster.specs.declared.step.Step.{Step}
-use Rattle.gb_cluster.specs.declared.packet.Item.{Item}
-use Rattle.gb_cluster.specs.declared.packet.Packet.{Packet}
+use Rattle.gb_record.specs.declared.event.Event.TheVariants.{Pack}
+use Rattle.gb_record.specs.declared.answer.Answer.TheVariants.{Sent as AnswerSent}
+use Rattle.gb_record.specs.declared.answer.Sent.{Sent}
+use Rattle.gb_record.specs.declared.answer.Sent.TheVariants.{Packet as SentPacket}
+use Rattle.gb_record.specs.declared.step.Step.{Step}
+use Rattle.gb_record.specs.declared.packet.Item.{Item}
+use Rattle.gb_record.specs.declared.packet.Packet.{Packet}
 use Rattle.gb_cluster.specs.NodeValue.{GroupAt, NodeValue}
-use Rattle.gb_cluster.specs.Project.{frames, frame_at, packet_at, is_taken, is_acked}
-use Rattle.gb_cluster.specs.World.{World, node_of, sender_to, pushed_item, node_sent}
-use Rattle.gb_cluster.specs.Holds.{IsFramed, IsLink, Links, window_of, undone_of}
+use Rattle.gb_record.specs.Project.{frames, frame_at, packet_at, is_taken, is_acked}
+use Rattle.gb_cluster.proofs.World.{World, node_of}
+use Rattle.gb_cluster.specs.NodeStep.{sender_to, pushed_item, node_sent}
+use Rattle.gb_cluster.proofs.Invariant.{IsFramed, IsLink, Links, window_of, undone_of}
 use Rattle.gb_cluster.proofs.WorldLemmas.{eqb_self, eqb_apart_back}
 use Rattle.gb_cluster.proofs.Turns.{frames_turned, taken_turned, acked_turned, quiet_link}
 use Rattle.gb_cluster.proofs.UndoneLemmas.{undone-last, undone_near}
@@ -41,16 +42,16 @@ next_window done fs p item is new =
     λ i. record { next = count i; undone = rest i }
 
 abbrev pub pack_step : World → NodeId → NodeId → Step
-pack_step w a b = record { event = Pack a b; answer = Gave (Numbered (length w.packets + 1)) }
+pack_step w a b = record { event = Pack a b; answer = AnswerSent (SentPacket (length w.packets + 1)) }
 
-pub packs_send : (a b : NodeId) (sent : Sent) → IsSending (record { event = Pack a b; answer = Gave sent })
+pub packs_send : (a b : NodeId) (sent : Sent) → IsSending (record { event = Pack a b; answer = AnswerSent sent })
 packs_send a b sent = record { taken = λ ps x y n. refl; acked = λ ps x y n. refl; row = λ x tenant. refl; made = λ g x. refl; noticed = λ x y. refl; stopped = λ x. refl; watched = λ ps x. refl; reply = λ g x steps. refl; met = λ g x steps. refl }
 
 module _ (w : World) (a b : NodeId) (p : Packet) (links : Links w) where
-  frame_there : frame_at a.number b.number (w.packets ++ p ∷ []) (Pack a b) (Gave (Numbered (length w.packets + 1))) ≡ p ∷ []
+  frame_there : frame_at a.number b.number (w.packets ++ p ∷ []) (Pack a b) (AnswerSent (SentPacket (length w.packets + 1))) ≡ p ∷ []
   frame_there = rw (eqb_self a.number, eqb_self b.number) (packet_at-last w.packets p)
 
-  frame_elsewhere : (y z : ℕ) → (y ≢ a.number) ⊎ (z ≢ b.number) → frame_at y z (w.packets ++ p ∷ []) (Pack a b) (Gave (Numbered (length w.packets + 1))) ≡ []
+  frame_elsewhere : (y z : ℕ) → (y ≢ a.number) ⊎ (z ≢ b.number) → frame_at y z (w.packets ++ p ∷ []) (Pack a b) (AnswerSent (SentPacket (length w.packets + 1))) ≡ []
   frame_elsewhere y z (inl other) = rw (eqb_apart_back y a.number other) refl
   frame_elsewhere y z (inr other) = rw (eqb_apart_back z b.number other) (off (nat_eq a.number y))
     where
@@ -170,7 +171,7 @@ module _ (w : World) (a b : NodeId) (p : Packet) (hosted : GroupAt) (x : Entry) 
 
   pub pack_sends : Sends w a.number u s (p ∷ [])
   pack_sends = record {
-    step = packs_send a b (Numbered (length w.packets + 1));
+    step = packs_send a b (SentPacket (length w.packets + 1));
     number = omega (arith, length-append w.packets (p ∷ []));
     frame = λ y z other. frame_elsewhere w a b p links y z (inl other);
     row = refl;

@@ -8,12 +8,13 @@ use Rattle.gb_types.specs.declared.node.NodeId.{NodeId}
 use Rattle.gb_link.specs.Ack.{covers}
 use Rattle.gb_link.specs.Received.{Received, base_of, mask_of}
 use Rattle.gb_link.proofs.BaseLemmas.{base_of_from, base_of_lacks}
-use Rattle.gb_cluster.specs.declared.packet.Item.{Item}
-use Rattle.gb_cluster.specs.declared.packet.Packet.{Packet}
-use Rattle.gb_cluster.specs.declared.step.Step.{Step}
-use Rattle.gb_cluster.specs.Project.{packet_at, frames, is_taken, is_acked}
-use Rattle.gb_cluster.specs.World.{World, node_of, receiver_from, packet_for, is_another}
-use Rattle.gb_cluster.specs.Holds.{IsOfFrame, IsFramed, IsLink, Links}
+use Rattle.gb_record.specs.declared.packet.Item.{Item}
+use Rattle.gb_record.specs.declared.packet.Packet.{Packet}
+use Rattle.gb_record.specs.declared.step.Step.{Step}
+use Rattle.gb_record.specs.Project.{packet_at, frames, is_taken, is_acked}
+use Rattle.gb_cluster.proofs.World.{World, node_of}
+use Rattle.gb_cluster.specs.NodeStep.{receiver_from, packet_for, is_another}
+use Rattle.gb_cluster.proofs.Invariant.{IsOfFrame, IsFramed, IsLink, Links}
 use Rattle.gb_cluster.proofs.CoverLemmas.{covers_received, mask_even}
 
 -- the packet goes from a to another node b, and acknowledges exactly the frames from b that were taken at a

@@ -4,16 +4,16 @@ use Rattle.gb_types.specs.declared.address.Addr.{Addr}
 use Rattle.gb_types.specs.declared.reply.Reply.{Reply}
 use Rattle.gb_types.specs.declared.spec.Spec.{Spec}
 use Rattle.gb_detect.specs.Silence.{Call}
-use Rattle.gb_cluster.specs.declared.answer.Answer.{Answer}
-use Rattle.gb_cluster.specs.declared.answer.Answer.TheVariants.{NoPacket}
-use Rattle.gb_cluster.specs.declared.event.Event.{Event}
-use Rattle.gb_cluster.specs.declared.event.Event.TheVariants.{Ack}
-use Rattle.gb_cluster.specs.declared.group.GroupStep.{GroupStep}
-use Rattle.gb_cluster.specs.declared.packet.Packet.{Packet}
-use Rattle.gb_cluster.specs.Nodes.{node_numbered}
-use Rattle.gb_cluster.specs.Project.{gives, frame_at, is_taken_by, is_acked_by, is_taken_in, made_by, is_noticed_by, is_stopped_by, watched_by, reply_in, is_met_by}
-use Rattle.gb_cluster.specs.World.{World}
-use Rattle.gb_cluster.specs.Holds.{number_of}
+use Rattle.gb_record.specs.declared.answer.Answer.{Answer}
+use Rattle.gb_record.specs.declared.answer.Answer.TheVariants.{NoPacket}
+use Rattle.gb_record.specs.declared.event.Event.{Event}
+use Rattle.gb_record.specs.declared.event.Event.TheVariants.{Ack}
+use Rattle.gb_alone.specs.declared.event.GroupStep.{GroupStep}
+use Rattle.gb_record.specs.declared.packet.Packet.{Packet}
+use Rattle.gb_record.specs.Nodes.{node_numbered}
+use Rattle.gb_record.specs.Project.{gives, frame_at, is_taken_by, is_acked_by, is_taken_in, made_by, is_noticed_by, is_stopped_by, watched_by, reply_in, is_met_by}
+use Rattle.gb_cluster.proofs.World.{World}
+use Rattle.gb_record.proofs.Numbers.{number_of}
 use Rattle.gb_cluster.proofs.IdleLemmas.{IsQuiet}
 
 -- all that an event with its answer tells

@@ -12,23 +12,24 @@ use Rattle.gb_types.specs.declared.reply.Reply.{Reply}
 use Rattle.gb_types.specs.declared.reply.Reply.TheVariants.{Done, Said, Refused}
 use Rattle.gb_types.specs.declared.request.Request.TheVariants.{OpenGroup, Say, Fetch}
 use Rattle.gb_types.specs.declared.spec.Spec.{Spec}
-use Rattle.gb_slot.specs.Rules.{Shown, open_answer, say_answer, fetch_answer}
+use Rattle.gb_rules.specs.Group.{Shown, open_answer, say_answer, fetch_answer, on_made}
 use Rattle.gb_slot.specs.Slot.{shown, waiting, slot_opened, slot_said}
 use Rattle.gb_slot.specs.SlotState.{SlotState}
-use Rattle.gb_slot.specs.declared.history.GroupCall.TheVariants.{Own}
-use Rattle.gb_slot.specs.declared.phase.Phase.{Phase}
-use Rattle.gb_slot.specs.declared.phase.Phase.TheVariants.{Made, Opened}
+use Rattle.gb_history.specs.declared.call.GroupCall.TheVariants.{Own}
+use Rattle.gb_rules.specs.declared.phase.Phase.{Phase}
+use Rattle.gb_rules.specs.declared.phase.Phase.TheVariants.{Made, Opened}
 use Rattle.gb_slot.proofs.HistoryLemmas.{opened_stands}
-use Rattle.gb_cluster.specs.declared.group.GroupEvent.TheVariants.{Open as AskOpen, Say as AskSay, Fetch as AskFetch}
-use Rattle.gb_cluster.specs.declared.group.Reserve.{Reserve}
-use Rattle.gb_cluster.specs.declared.step.Step.{Step}
-use Rattle.gb_cluster.specs.Alone.{Member, Group, called, did}
-use Rattle.gb_cluster.specs.Headline.{waiting_in}
-use Rattle.gb_cluster.specs.Holds.{SlotIs, SlotStands, Stands}
+use Rattle.gb_alone.specs.declared.event.GroupEvent.TheVariants.{Open as AskOpen, Say as AskSay, Fetch as AskFetch}
+use Rattle.gb_rules.specs.declared.reserve.Reserve.{Reserve}
+use Rattle.gb_record.specs.declared.step.Step.{Step}
+use Rattle.gb_alone.specs.Alone.{Member, Group, called, did}
+use Rattle.gb_cluster.specs.State.{waiting_in}
+use Rattle.gb_cluster.proofs.Invariant.{SlotIs, SlotStands, Stands}
 use Rattle.gb_cluster.specs.NodeValue.{NodeValue}
-use Rattle.gb_cluster.specs.Project.{is_addr, is_stopped}
-use Rattle.gb_cluster.specs.Rules.{by_tenant, on_made}
-use Rattle.gb_cluster.specs.World.{reserve_for, slot_for, shown_for, on_slot, running_reply, node_did}
+use Rattle.gb_rules.specs.Address.{is_addr}
+use Rattle.gb_record.specs.Project.{is_stopped}
+use Rattle.gb_rules.specs.Tenant.{by_tenant}
+use Rattle.gb_cluster.specs.NodeStep.{reserve_for, slot_for, shown_for, on_slot, running_reply, node_did}
 use Rattle.gb_cluster.proofs.AskLemmas.{Before, AtNode, at_command, at_other, if_same}
 use Rattle.gb_cluster.proofs.MemberLemmas.{shown-is, said_member, put-said}
 use Rattle.gb_cluster.proofs.NodeLemmas.{addr_same, is_addr-self, slot_for-on_same, slot_for-on_other, same_stands}

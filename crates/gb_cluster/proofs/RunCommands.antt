@@ -11,28 +11,30 @@ use Rattle.gb_types.specs.declared.address.Addr.{Addr}
 use Rattle.gb_types.specs.declared.limits.TheConstants.{NODES}
 use Rattle.gb_types.specs.declared.node.NodeId.{NodeId}
 use Rattle.gb_types.specs.declared.spec.Spec.{Spec}
-use Rattle.gb_slot.specs.Rules.{is_other}
+use Rattle.gb_rules.specs.Group.{is_other}
 use Rattle.gb_types.specs.declared.reply.Reply.{Reply}
 use Rattle.gb_types.specs.declared.reply.Reply.TheVariants.{Done, Said}
 use Rattle.gb_types.specs.declared.request.Request.{Request}
 use Rattle.gb_types.specs.declared.request.Request.TheVariants.{AddTenant, Make, OpenGroup, Say, Fetch}
-use Rattle.gb_cluster.specs.Laws.{accepted_in, accepted_by, accepted_there}
-use Rattle.gb_cluster.specs.Nodes.{node_numbered}
-use Rattle.gb_cluster.specs.Project.{is_addr, has_row, took, comes, acknowledged, all_acknowledged, is_new_ack, arrived, notices, made_notices, made_at, ticked, with_stop, asked, requested, command_for, is_stopped, is_met, is_noticed, is_taken, items_in, items_of, frames, packet_at, gives, project, reply_in, replies_to}
-use Rattle.gb_cluster.specs.Rules.{reserve_of}
-use Rattle.gb_cluster.specs.declared.answer.Answer.{Answer}
-use Rattle.gb_cluster.specs.declared.answer.Answer.TheVariants.{Reply as Replied, Sent as Gave, Taken as Took_in, Ticked as Ticked_so}
-use Rattle.gb_cluster.specs.declared.answer.Sent.TheVariants.{Packet as Numbered}
-use Rattle.gb_cluster.specs.declared.answer.Taken.TheVariants.{Good as Accepted}
-use Rattle.gb_cluster.specs.declared.answer.Ticked.TheVariants.{Noticed}
-use Rattle.gb_cluster.specs.declared.event.Event.{Event}
-use Rattle.gb_cluster.specs.declared.event.Event.TheVariants.{At, Pack, Arrive, Tick}
-use Rattle.gb_cluster.specs.declared.group.GroupEvent.{GroupEvent}
-use Rattle.gb_cluster.specs.declared.group.GroupEvent.TheVariants.{Tenant, Make as AskMake, Open as AskOpen, Say as AskSay, Fetch as AskFetch, Took, Came, Done as Acknowledged, Notice, Stop as Ends}
-use Rattle.gb_cluster.specs.declared.group.GroupStep.{GroupStep}
-use Rattle.gb_cluster.specs.declared.packet.Packet.{Packet}
-use Rattle.gb_cluster.specs.declared.step.Step.{Step}
-use Rattle.gb_cluster.proofs.CommandLemmas.{command_in, commands_at, commands, commands-append, Pairs, pairs_append, no_pairs, one_pair}
+use Rattle.gb_alone.specs.Laws.{Accepted, accepted_in}
+use Rattle.gb_record.specs.RunLaws.{accepted_by, accepted_there}
+use Rattle.gb_record.specs.Nodes.{node_numbered}
+use Rattle.gb_rules.specs.Address.{is_addr}
+use Rattle.gb_record.specs.Project.{has_row, took, comes, acknowledged, all_acknowledged, is_new_ack, arrived, notices, made_notices, made_at, ticked, with_stop, asked, requested, command_for, is_stopped, is_met, is_noticed, is_taken, items_in, items_of, frames, packet_at, gives, project, reply_in, replies_to}
+use Rattle.gb_rules.specs.Tenant.{reserve_of}
+use Rattle.gb_record.specs.declared.answer.Answer.{Answer}
+use Rattle.gb_record.specs.declared.answer.Answer.TheVariants.{Reply as AnswerReply, Sent as AnswerSent, Taken as AnswerTaken, Ticked as AnswerTicked}
+use Rattle.gb_record.specs.declared.answer.Sent.TheVariants.{Packet as SentPacket}
+use Rattle.gb_record.specs.declared.answer.Taken.TheVariants.{Good as TakenGood}
+use Rattle.gb_record.specs.declared.answer.Ticked.TheVariants.{Noticed}
+use Rattle.gb_record.specs.declared.event.Event.{Event}
+use Rattle.gb_record.specs.declared.event.Event.TheVariants.{At, Pack, Arrive, Tick}
+use Rattle.gb_alone.specs.declared.event.GroupEvent.{GroupEvent}
+use Rattle.gb_alone.specs.declared.event.GroupEvent.TheVariants.{Tenant, Make as AskMake, Open as AskOpen, Say as AskSay, Fetch as AskFetch, Took, Came, Done as Acknowledged, Notice, Stop as Ends}
+use Rattle.gb_alone.specs.declared.event.GroupStep.{GroupStep}
+use Rattle.gb_record.specs.declared.packet.Packet.{Packet}
+use Rattle.gb_record.specs.declared.step.Step.{Step}
+use Rattle.gb_alone.proofs.CommandLemmas.{command_in, commands_at, commands, commands-append, Pairs, pairs_append, no_pairs, one_pair}
 
 -- no command is among these
 abbrev IsQuiet : ℕ → List GroupStep → Type 0
@@ -151,7 +153,7 @@ request_pairs s a e r has named is = go (nat_eq a.number s) refl
     go false at = elsewhere at (has a.number) named
 
 -- no payload
-silent : (b : Bool) → ◌≡◌ {A = List (List ℕ)} (if b then [] else []) []
+silent : (b : Bool) → ◌≡◌ {A = List Accepted} (if b then [] else []) []
 silent true = refl
 silent false = refl
 
@@ -159,7 +161,7 @@ quiet_request : (g : Addr) (steps : List Step) (s : ℕ) (a : NodeId) (e : Group
     → Pairs (commands s (if has_row a.number g.tenant steps then (if named then record { node = a; event = e } ∷ [] else []) else [])) (if nat_eq a.number s && (has_row s g.tenant steps && named) then r ∷ [] else []) []
 quiet_request g steps s a e r named is none =
     subst (λ ps. Pairs (commands s (if has_row a.number g.tenant steps then (if named then record { node = a; event = e } ∷ [] else []) else [])) (if nat_eq a.number s && (has_row s g.tenant steps && named) then r ∷ [] else []) ps)
-    (ap (λ (ps : List (List ℕ)). if nat_eq a.number s && (has_row s g.tenant steps && named) then ps else []) none ∙ silent (nat_eq a.number s && (has_row s g.tenant steps && named)))
+    (ap (λ (ps : List Accepted). if nat_eq a.number s && (has_row s g.tenant steps && named) then ps else []) none ∙ silent (nat_eq a.number s && (has_row s g.tenant steps && named)))
     (request_pairs s a e r (λ x. has_row x g.tenant steps) named is)
 
 unnamed : (a b : Bool) (r : Reply) → (if a && (b && false) then r ∷ [] else []) ≡ []
@@ -171,12 +173,12 @@ tenant_pairs : (s : ℕ) (steps : List GroupStep) (a b : Bool) (r : Reply) → I
 tenant_pairs s steps a b r quiet = subst (λ rs. Pairs (commands s steps) rs []) (sym (unnamed a b r)) (quiet_pairs s steps quiet)
 
 -- the commands of a request are those of what it asks
-asked_pairs : (g : Addr) (steps : List Step) (s : ℕ) (a : NodeId) (request : Request) (reply : Reply) (rs : List Reply) (ps : List (List ℕ)) → (requested g steps a request reply ≡ (if has_row a.number g.tenant steps then command_for g a request ++ made_notices g steps a request reply else []))
+asked_pairs : (g : Addr) (steps : List Step) (s : ℕ) (a : NodeId) (request : Request) (reply : Reply) (rs : List Reply) (ps : List Accepted) → (requested g steps a request reply ≡ (if has_row a.number g.tenant steps then command_for g a request ++ made_notices g steps a request reply else []))
     → Pairs (commands s (if has_row a.number g.tenant steps then command_for g a request else [])) rs ps → Pairs (commands s (asked g steps a request reply)) rs ps
 asked_pairs g steps s a request reply rs ps plain pairs = subst (λ es. Pairs es rs ps) (sym (commands_asked g steps s a request reply plain)) pairs
 
 reply_pairs : (g : Addr) (packets : List Packet) (steps : List Step) (s : ℕ) (a : NodeId) (request : Request) (reply : Reply)
-    → Pairs (commands s (gives g packets steps (At a request) (Replied reply))) (reply_in g s steps (At a request) (Replied reply)) (accepted_by g steps (At a request) (Replied reply) s)
+    → Pairs (commands s (gives g packets steps (At a request) (AnswerReply reply))) (reply_in g s steps (At a request) (AnswerReply reply)) (accepted_by g steps (At a request) (AnswerReply reply) s)
 unfolding commands
 reply_pairs g packets steps s a (AddTenant token row) Done =
     tenant_pairs s (asked g steps a (AddTenant token row) Done) (nat_eq a.number s) (has_row s g.tenant steps) Done
@@ -200,10 +202,10 @@ reply_pairs g packets steps s a (Fetch token addr from most) reply = asked_pairs
 given_pairs : (g : Addr) (packets : List Packet) (steps : List Step) (s : ℕ) (event : Event) (answer : Answer)
     → Pairs (commands s (gives g packets steps event answer)) (reply_in g s steps event answer) (accepted_by g steps event answer s)
 unfolding commands
-given_pairs g packets steps s (At a request) (Replied reply) = reply_pairs g packets steps s a request reply
-given_pairs g packets steps s (Pack a b) (Gave (Numbered k)) = quiet_pairs s (took a b (length (items_of g (packet_at packets k)))) (quiet_took s a b (length (items_of g (packet_at packets k))))
-given_pairs g packets steps s (Arrive k) (Took_in (Accepted good)) = quiet_pairs s (arrived g packets steps (packet_at packets k)) (quiet_arrived g packets steps s (packet_at packets k))
-given_pairs g packets steps s (Tick a) (Ticked_so (Noticed found)) = quiet_pairs s (ticked a found (made_at g a.number steps)) (quiet_ticked s a found (made_at g a.number steps))
+given_pairs g packets steps s (At a request) (AnswerReply reply) = reply_pairs g packets steps s a request reply
+given_pairs g packets steps s (Pack a b) (AnswerSent (SentPacket k)) = quiet_pairs s (took a b (length (items_of g (packet_at packets k)))) (quiet_took s a b (length (items_of g (packet_at packets k))))
+given_pairs g packets steps s (Arrive k) (AnswerTaken (TakenGood good)) = quiet_pairs s (arrived g packets steps (packet_at packets k)) (quiet_arrived g packets steps s (packet_at packets k))
+given_pairs g packets steps s (Tick a) (AnswerTicked (Noticed found)) = quiet_pairs s (ticked a found (made_at g a.number steps)) (quiet_ticked s a found (made_at g a.number steps))
 given_pairs g packets steps s (At a (Say token addr payload)) answer = no_pairs
 given_pairs g packets steps s event answer = no_pairs
 

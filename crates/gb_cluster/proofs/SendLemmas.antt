@@ -8,31 +8,31 @@ use Rattle.std.proofs.lemmas.Option.{slice_get_within}
 use Rattle.gb_types.specs.declared.node.NodeId.{NodeId}
 use Rattle.gb_types.specs.declared.refusal.Refusal.TheVariants.{Stopped}
 use Rattle.gb_link.specs.SendWindow.{SendWindow, has_room, frame_again}
-use Rattle.gb_cluster.specs.declared.answer.Answer.TheVariants.{Sent as Gave}
-use Rattle.gb_cluster.specs.declared.answer.Sent.TheVariants.{Packet as Numbered, Refused as Unsent}
-use Rattle.gb_cluster.specs.declared.event.Event.TheVariants.{Pack, Again, Ack}
-use Rattle.gb_cluster.specs.declared.packet.Item.{Item}
-use Rattle.gb_cluster.specs.declared.packet.Packet.{Packet}
-use Rattle.gb_cluster.specs.declared.step.Step.{Step}
-use Rattle.gb_cluster.specs.NodeValue.{NodeValue}
+use Rattle.gb_record.specs.declared.answer.Answer.TheVariants.{Sent as AnswerSent}
+use Rattle.gb_record.specs.declared.answer.Sent.TheVariants.{Packet as SentPacket, Refused as SentRefused}
+use Rattle.gb_record.specs.declared.event.Event.TheVariants.{Pack, Again, Ack}
+use Rattle.gb_record.specs.declared.packet.Item.{Item}
+use Rattle.gb_record.specs.declared.packet.Packet.{Packet}
+use Rattle.gb_record.specs.declared.step.Step.{Step}
+use Rattle.gb_cluster.specs.NodeValue.{NodeValue, GroupAt}
 use Rattle.gb_types.specs.declared.entry.Entry.{Entry}
 use Rattle.gb_slot.specs.Slot.{waiting}
-use Rattle.gb_cluster.specs.NodeValue.{GroupAt}
-use Rattle.gb_cluster.specs.Project.{packet_at, frames, is_acked}
-use Rattle.gb_cluster.specs.World.{World, node_of, sender_to, packet_for, is_another, is_reached, packed, packed_of, node_packed, node_sent, again_of, node_again, node_ack, only_answered, sent_part, part_of, answer_of, world_after}
-use Rattle.gb_cluster.specs.Holds.{Links, Holds, window_of}
+use Rattle.gb_record.specs.Project.{packet_at, frames, is_acked}
+use Rattle.gb_cluster.proofs.World.{World, node_of, part_of, answer_of, world_after}
+use Rattle.gb_cluster.specs.NodeStep.{sender_to, packet_for, is_another, is_reached, packed, packed_of, node_packed, node_sent, again_of, node_again, node_ack, only_answered, sent_part}
+use Rattle.gb_cluster.proofs.Invariant.{Links, Holds, window_of}
 use Rattle.gb_cluster.proofs.SendTurns.{only_sends}
 use Rattle.gb_cluster.proofs.UndoneLemmas.{HaveItems, undone_there, undone_lowest, found_there}
 use Rattle.gb_cluster.proofs.PacketLemmas.{Acknowledges, packet_at-last, packet_acks, acks_framed, another_is}
 
 -- a node that runs sends the first of these packets, a stopped one none
-pub part_sent : (stopped : Bool) (count : ℕ) (v u : NodeValue) (ps : List Packet) (k : ℕ) (p : Packet) → slice_get (if stopped then only_answered v (Gave (Unsent Stopped)) else sent_part count u ps).sent k ≡ Some p → (stopped ≡ false) × (slice_get ps 0 ≡ Some p)
+pub part_sent : (stopped : Bool) (count : ℕ) (v u : NodeValue) (ps : List Packet) (k : ℕ) (p : Packet) → slice_get (if stopped then only_answered v (AnswerSent (SentRefused Stopped)) else sent_part count u ps).sent k ≡ Some p → (stopped ≡ false) × (slice_get ps 0 ≡ Some p)
 part_sent true count v u ps k p at = absurd (cc)
 part_sent false count v u [] k p at = absurd (cc)
 part_sent false count v u (q ∷ ps) zero p at = (refl, at)
 part_sent false count v u (q ∷ ps) (suc k) p at = absurd (cc)
 
-part_value : (stopped : Bool) (count : ℕ) (v : NodeValue) (ps : List Packet) → (if stopped then only_answered v (Gave (Unsent Stopped)) else sent_part count v ps).value ≡ v
+part_value : (stopped : Bool) (count : ℕ) (v : NodeValue) (ps : List Packet) → (if stopped then only_answered v (AnswerSent (SentRefused Stopped)) else sent_part count v ps).value ≡ v
 part_value true count v ps = refl
 part_value false count v [] = refl
 part_value false count v (p ∷ ps) = refl

@@ -8,15 +8,17 @@ use Rattle.gb_types.specs.declared.address.Addr.{Addr}
 use Rattle.gb_detect.specs.Silence.{Call}
 use Rattle.gb_detect.specs.Watch.{Watch, start, replay}
 use Rattle.gb_link.specs.Received.{Received}
-use Rattle.gb_cluster.specs.declared.event.Event.{Event}
-use Rattle.gb_cluster.specs.declared.group.GroupStep.{GroupStep}
-use Rattle.gb_cluster.specs.declared.packet.Packet.{Packet}
-use Rattle.gb_cluster.specs.declared.step.Step.{Step}
-use Rattle.gb_cluster.specs.Alone.{Group, alone, alone_from, is_marked, IsLegalFrom}
+use Rattle.gb_record.specs.declared.event.Event.{Event}
+use Rattle.gb_alone.specs.declared.event.GroupStep.{GroupStep}
+use Rattle.gb_record.specs.declared.packet.Packet.{Packet}
+use Rattle.gb_record.specs.declared.step.Step.{Step}
+use Rattle.gb_alone.specs.Alone.{Group, alone, alone_from, is_marked, IsLegalFrom}
 use Rattle.gb_cluster.specs.NodeValue.{NodeValue}
-use Rattle.gb_cluster.specs.Project.{project, gives, has_row, is_taken_in, frames, frame_at, items_of, is_taken, is_taken_by, is_acked, is_acked_by, is_noticed, is_noticed_by, is_stopped, is_stopped_by, is_met, is_met_by, made_at, made_by, or_else, watched, watched_by, reply_in, replies_to}
-use Rattle.gb_cluster.specs.World.{World, Part, node_of, reserve_for, sender_to}
-use Rattle.gb_cluster.specs.Holds.{number_of, Stands, AreMarked, is_concerned, Fits, NodeIs, IsFramed, IsLink, Links, BehavesAlone, Holds, window_of}
+use Rattle.gb_record.specs.Project.{project, gives, has_row, is_taken_in, frames, frame_at, items_of, is_taken, is_taken_by, is_acked, is_acked_by, is_noticed, is_noticed_by, is_stopped, is_stopped_by, is_met, is_met_by, made_at, made_by, or_else, watched, watched_by, reply_in, replies_to}
+use Rattle.gb_cluster.proofs.World.{World, node_of}
+use Rattle.gb_cluster.specs.NodeStep.{Part, reserve_for, sender_to}
+use Rattle.gb_record.proofs.Numbers.{number_of}
+use Rattle.gb_cluster.proofs.Invariant.{Stands, AreMarked, is_concerned, Fits, NodeIs, IsFramed, IsLink, Links, BehavesAlone, Holds, window_of}
 use Rattle.gb_cluster.proofs.MarkLemmas.{or_off}
 use Rattle.gb_cluster.proofs.NodeLemmas.{same_carried}
 use Rattle.gb_cluster.proofs.Turns.{turned, ActsAt, GroupTurn, framed_stays, frames_turned, taken_turned, acked_turned, watched_turned, quiet_link, links_turn, same_marks, holds_turn}

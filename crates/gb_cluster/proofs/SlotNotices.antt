@@ -9,17 +9,17 @@ use Rattle.gb_types.specs.declared.entry.Entry.{Entry}
 use Rattle.gb_types.specs.declared.limits.TheConstants.{NODES}
 use Rattle.gb_types.specs.declared.node.NodeId.{NodeId}
 use Rattle.gb_types.specs.declared.spec.Spec.{Spec}
-use Rattle.gb_slot.specs.Rules.{is_other}
+use Rattle.gb_rules.specs.Group.{is_other}
 use Rattle.gb_slot.specs.Slot.{slot_called, slot_noticed}
 use Rattle.gb_slot.specs.SlotState.{SlotState}
 use Rattle.gb_layer.specs.declared.call.Call.TheVariants.{Notice as Crash}
-use Rattle.gb_cluster.specs.Alone.{Member, node_noticed}
-use Rattle.gb_cluster.specs.Headline.{waiting_in}
-use Rattle.gb_cluster.specs.Holds.{SlotIs, SlotStands}
+use Rattle.gb_alone.specs.Alone.{Member, node_noticed}
+use Rattle.gb_cluster.specs.State.{waiting_in}
+use Rattle.gb_cluster.proofs.Invariant.{SlotIs, SlotStands}
 use Rattle.gb_cluster.specs.NodeValue.{GroupAt}
-use Rattle.gb_cluster.specs.Nodes.{node_numbered}
-use Rattle.gb_cluster.specs.Project.{is_addr}
-use Rattle.gb_cluster.specs.World.{slot_for, slot_noticed_all, group_noticed}
+use Rattle.gb_record.specs.Nodes.{node_numbered}
+use Rattle.gb_rules.specs.Address.{is_addr}
+use Rattle.gb_cluster.specs.NodeStep.{slot_for, slot_noticed_all, group_noticed}
 use Rattle.gb_cluster.proofs.MemberLemmas.{slot-noticed, put-noticed}
 use Rattle.gb_cluster.proofs.NoticeLemmas.{numbered_is, all_noticed, notice_keeps}
 

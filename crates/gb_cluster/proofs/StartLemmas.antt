@@ -15,15 +15,17 @@ use Rattle.gb_types.specs.declared.request.Request.{Request}
 use Rattle.gb_types.specs.declared.request.Request.TheVariants.{AddTenant, Make, OpenGroup, Say, Fetch}
 use Rattle.gb_link.specs.Received.{Received}
 use Rattle.gb_link.specs.SendWindow.{SendWindow, new_window}
-use Rattle.gb_cluster.specs.declared.answer.Answer.TheVariants.{Reply as Replied}
-use Rattle.gb_cluster.specs.declared.event.Event.{Event}
-use Rattle.gb_cluster.specs.declared.event.Event.TheVariants.{At, Pack, Again, Ack, Arrive, Tick, Stop}
-use Rattle.gb_cluster.specs.declared.packet.Item.{Item}
-use Rattle.gb_cluster.specs.declared.step.Step.{Step}
-use Rattle.gb_cluster.specs.Headline.{IsPlaced, starved_answer}
-use Rattle.gb_cluster.specs.Project.{project, frames, items_of, is_taken, is_acked, is_noticed, made_at, watched, replies_to, asked, requested, has_row, is_met, is_met_by, is_named, is_own, is_stopped, is_taken_in, made_by, reply_in, with_stop}
-use Rattle.gb_cluster.specs.World.{World, node_of, new_node, new_world, with_step}
-use Rattle.gb_cluster.specs.Holds.{NodeIs, IsLink, Holds, undone_of}
+use Rattle.gb_record.specs.declared.answer.Answer.TheVariants.{Reply as AnswerReply}
+use Rattle.gb_record.specs.declared.event.Event.{Event}
+use Rattle.gb_record.specs.declared.event.Event.TheVariants.{At, Pack, Again, Ack, Arrive, Tick, Stop}
+use Rattle.gb_record.specs.declared.packet.Item.{Item}
+use Rattle.gb_record.specs.declared.step.Step.{Step}
+use Rattle.gb_record.specs.Placed.{IsPlaced}
+use Rattle.gb_cluster.specs.Memory.{starved_answer}
+use Rattle.gb_record.specs.Project.{project, frames, items_of, is_taken, is_acked, is_noticed, made_at, watched, replies_to, asked, requested, has_row, is_met, is_met_by, is_named, is_own, is_stopped, is_taken_in, made_by, reply_in, with_stop}
+use Rattle.gb_cluster.proofs.World.{World, node_of, new_world, with_step}
+use Rattle.gb_cluster.specs.NodeStep.{new_node}
+use Rattle.gb_cluster.proofs.Invariant.{NodeIs, IsLink, Holds, undone_of}
 use Rattle.gb_cluster.proofs.AskLemmas.{if_same, command_unnamed}
 use Rattle.gb_cluster.proofs.IdleLemmas.{IsQuiet, idle_holds}
 use Rattle.gb_cluster.proofs.QuietLemmas.{quiet}
@@ -31,14 +33,14 @@ use Rattle.gb_cluster.proofs.WorldLemmas.{eqb_apart_back}
 
 -- Events for which a node lacked memory.
 
-starved_row : (x tenant : ℕ) (a : NodeId) (request : Request) → is_taken_in x tenant (At a request) (Replied (Refused OutOfMemory)) ≡ false
+starved_row : (x tenant : ℕ) (a : NodeId) (request : Request) → is_taken_in x tenant (At a request) (AnswerReply (Refused OutOfMemory)) ≡ false
 starved_row x tenant a (AddTenant token row) = refl
 starved_row x tenant a (Make token addr spec) = refl
 starved_row x tenant a (OpenGroup token addr) = refl
 starved_row x tenant a (Say token addr payload) = refl
 starved_row x tenant a (Fetch token addr from most) = refl
 
-starved_made : (g : Addr) (x : ℕ) (a : NodeId) (request : Request) → made_by g x (At a request) (Replied (Refused OutOfMemory)) ≡ None
+starved_made : (g : Addr) (x : ℕ) (a : NodeId) (request : Request) → made_by g x (At a request) (AnswerReply (Refused OutOfMemory)) ≡ None
 starved_made g x a (AddTenant token row) = refl
 starved_made g x a (Make token addr spec) = refl
 starved_made g x a (OpenGroup token addr) = refl
@@ -70,13 +72,13 @@ starved_given g steps a request foreign =
     by false row = refl
 
 -- where the request does not name the group
-silent : (g : Addr) (x : ℕ) (steps : List Step) (a : NodeId) (request : Request) → is_named g request ≡ false → reply_in g x steps (At a request) (Replied (Refused OutOfMemory)) ≡ []
+silent : (g : Addr) (x : ℕ) (steps : List Step) (a : NodeId) (request : Request) → is_named g request ≡ false → reply_in g x steps (At a request) (AnswerReply (Refused OutOfMemory)) ≡ []
 silent g x steps a request foreign = rw foreign (rw (and_right (has_row x g.tenant steps) false refl) (rw (and_right (nat_eq a.number x) false refl) refl))
 
 unmet_by : (g : Addr) (x : ℕ) (steps : List Step) (a : NodeId) (request : Request) → is_named g request ≡ false → is_met_by g x steps (At a request) ≡ false
 unmet_by g x steps a request foreign = rw foreign (and_right (nat_eq a.number x) false refl)
 
-starved_request : (w : World) (a : NodeId) (request : Request) → IsQuiet w a.number (At a request) (Replied (Refused OutOfMemory))
+starved_request : (w : World) (a : NodeId) (request : Request) → IsQuiet w a.number (At a request) (AnswerReply (Refused OutOfMemory))
 starved_request w a request = record {
   frame = λ x y. refl;
   taken = λ x y n. refl;

@@ -1,10 +1,10 @@
 -- Any event of the cluster.
 use Rattle.std.proofs.Common.{length}
-use Rattle.gb_cluster.specs.declared.event.Event.{Event}
-use Rattle.gb_cluster.specs.declared.event.Event.TheVariants.{At, Pack, Again, Ack, Arrive, Tick, Stop}
-use Rattle.gb_cluster.specs.Headline.{IsPlaced}
-use Rattle.gb_cluster.specs.World.{World, world_after}
-use Rattle.gb_cluster.specs.Holds.{Holds}
+use Rattle.gb_record.specs.declared.event.Event.{Event}
+use Rattle.gb_record.specs.declared.event.Event.TheVariants.{At, Pack, Again, Ack, Arrive, Tick, Stop}
+use Rattle.gb_record.specs.Placed.{IsPlaced}
+use Rattle.gb_cluster.proofs.World.{World, world_after}
+use Rattle.gb_cluster.proofs.Invariant.{Holds}
 use Rattle.gb_cluster.proofs.AtLemmas.{at_holds}
 use Rattle.gb_cluster.proofs.PackLemmas.{any_pack}
 use Rattle.gb_cluster.proofs.SendLemmas.{any_again, any_ack}

@@ -3,10 +3,10 @@ use Rattle.std.proofs.Common.{◌≡◌, ℕ, List, [], ◌∷◌, Bool, true, f
 use Rattle.std.specs.Prelude.{nat_eq}
 use Rattle.std.proofs.lemmas.Bool.{or_cases, or_right}
 use Rattle.gb_types.specs.declared.address.Addr.{Addr}
-use Rattle.gb_cluster.specs.declared.event.Event.{Event}
-use Rattle.gb_cluster.specs.declared.event.Event.TheVariants.{At}
-use Rattle.gb_cluster.specs.declared.step.Step.{Step}
-use Rattle.gb_cluster.specs.Project.{has_row, is_named, is_stopped, is_stopped_by, is_met, is_met_by}
+use Rattle.gb_record.specs.declared.event.Event.{Event}
+use Rattle.gb_record.specs.declared.event.Event.TheVariants.{At}
+use Rattle.gb_record.specs.declared.step.Step.{Step}
+use Rattle.gb_record.specs.Project.{has_row, is_named, is_stopped, is_stopped_by, is_met, is_met_by}
 
 last_holds : (b c d e : Bool) → (b && (c && (d && e))) ≡ true → e ≡ true
 last_holds true true true e is = is

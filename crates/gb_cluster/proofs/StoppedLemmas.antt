@@ -10,16 +10,16 @@ use Rattle.gb_types.specs.declared.reply.Reply.{Reply}
 use Rattle.gb_types.specs.declared.reply.Reply.TheVariants.{Refused}
 use Rattle.gb_types.specs.declared.request.Request.{Request}
 use Rattle.gb_types.specs.declared.request.Request.TheVariants.{AddTenant, Make, OpenGroup, Say, Fetch}
-use Rattle.gb_cluster.specs.declared.answer.Answer.TheVariants.{Reply as Replied}
-use Rattle.gb_cluster.specs.declared.event.Event.TheVariants.{At}
-use Rattle.gb_cluster.specs.declared.group.GroupEvent.{GroupEvent}
-use Rattle.gb_cluster.specs.declared.group.GroupEvent.TheVariants.{Make as AskMake, Open as AskOpen, Say as AskSay, Fetch as AskFetch, Stop}
-use Rattle.gb_cluster.specs.declared.group.GroupStep.{GroupStep}
-use Rattle.gb_cluster.specs.declared.step.Step.{Step}
-use Rattle.gb_cluster.specs.Alone.{Member, Group, after, alone_from, commanded, did, member_after, reply_to, running_reply, MayHappen, IsLegalFrom}
+use Rattle.gb_record.specs.declared.answer.Answer.TheVariants.{Reply as AnswerReply}
+use Rattle.gb_record.specs.declared.event.Event.TheVariants.{At}
+use Rattle.gb_alone.specs.declared.event.GroupEvent.{GroupEvent}
+use Rattle.gb_alone.specs.declared.event.GroupEvent.TheVariants.{Make as AskMake, Open as AskOpen, Say as AskSay, Fetch as AskFetch, Stop}
+use Rattle.gb_alone.specs.declared.event.GroupStep.{GroupStep}
+use Rattle.gb_record.specs.declared.step.Step.{Step}
+use Rattle.gb_alone.specs.Alone.{Member, Group, after, alone_from, commanded, did, member_after, reply_to, running_reply, MayHappen, IsLegalFrom}
 use Rattle.gb_cluster.specs.NodeValue.{NodeValue}
-use Rattle.gb_cluster.specs.Project.{has_row, is_stopped, is_met, is_met_by, is_named, made_by, command_for, with_stop, asked}
-use Rattle.gb_cluster.specs.World.{node_did}
+use Rattle.gb_record.specs.Project.{has_row, is_stopped, is_met, is_met_by, is_named, made_by, command_for, with_stop, asked}
+use Rattle.gb_cluster.specs.NodeStep.{node_did}
 use Rattle.gb_cluster.proofs.AskLemmas.{Before, After, quiet, command_unnamed, member_asked, silent_unnamed, silent_absent, told_one}
 use Rattle.gb_cluster.proofs.NodeLemmas.{same_stands}
 use Rattle.gb_cluster.proofs.WorldLemmas.{eqb_self, after_there, after_elsewhere}
@@ -36,7 +36,7 @@ node_unchanged a (OpenGroup token addr) v = refl
 node_unchanged a (Say token addr payload) v = refl
 node_unchanged a (Fetch token addr from most) v = refl
 
-unmade : (g : Addr) (a : NodeId) (request : Request) → made_by g a.number (At a request) (Replied refused) ≡ None
+unmade : (g : Addr) (a : NodeId) (request : Request) → made_by g a.number (At a request) (AnswerReply refused) ≡ None
 unmade g a (AddTenant token row) = refl
 unmade g a (Make token addr spec) = refl
 unmade g a (OpenGroup token addr) = refl

@@ -10,16 +10,19 @@ use Rattle.gb_types.specs.declared.entry.Entry.{Entry}
 use Rattle.gb_link.specs.Ack.{covers}
 use Rattle.gb_link.specs.declared.receiver.Admission.TheVariants.{First, Seen}
 use Rattle.gb_slot.specs.Slot.{slot_came}
-use Rattle.gb_cluster.specs.declared.answer.Good.{Good}
-use Rattle.gb_cluster.specs.declared.group.GroupStep.{GroupStep}
-use Rattle.gb_cluster.specs.declared.packet.Item.{Item}
-use Rattle.gb_cluster.specs.declared.packet.Packet.{Packet}
-use Rattle.gb_cluster.specs.Alone.{Member, Group, after, alone_from, is_marked}
-use Rattle.gb_cluster.specs.Headline.{waiting_in}
+use Rattle.gb_record.specs.declared.answer.Good.{Good}
+use Rattle.gb_alone.specs.declared.event.GroupStep.{GroupStep}
+use Rattle.gb_record.specs.declared.packet.Item.{Item}
+use Rattle.gb_record.specs.declared.packet.Packet.{Packet}
+use Rattle.gb_alone.specs.Alone.{Member, Group, after, alone_from, is_marked}
+use Rattle.gb_cluster.specs.State.{waiting_in}
 use Rattle.gb_cluster.specs.NodeValue.{NodeValue}
-use Rattle.gb_cluster.specs.Project.{is_addr, packet_at, frames, items_of, items_in, items_at, is_taken, is_acked, is_noticed, is_met, made_at, replies_to, is_new_ack, all_acknowledged, comes, arrived}
-use Rattle.gb_cluster.specs.World.{World, node_of, slot_for, newly_done, item_done, item_came, group_came, node_took}
-use Rattle.gb_cluster.specs.Holds.{Stands, AreMarked, MemberIs, Fits, NodeIs, IsOfFrame, Links, offset}
+use Rattle.gb_rules.specs.Address.{is_addr}
+use Rattle.gb_record.specs.Project.{packet_at, frames, items_of, items_in, items_at, is_taken, is_acked, is_noticed, is_met, made_at, replies_to, is_new_ack, all_acknowledged, comes, arrived}
+use Rattle.gb_cluster.proofs.World.{World, node_of}
+use Rattle.gb_cluster.specs.NodeStep.{slot_for, newly_done, item_done, item_came, group_came, node_took}
+use Rattle.gb_cluster.proofs.Invariant.{Stands, AreMarked, MemberIs, Fits, NodeIs, IsOfFrame, Links}
+use Rattle.gb_record.proofs.Numbers.{offset}
 use Rattle.gb_cluster.proofs.AckLemmas.{Acked, all_acked, all_done-same, stands-done}
 use Rattle.gb_cluster.proofs.ComeLemmas.{Coming, nothing_comes, none_marked, one_comes}
 use Rattle.gb_cluster.proofs.MarkLemmas.{Found, is_in, in_frame, in_beyond, in_found, offset_next, marks_added, marks_same}

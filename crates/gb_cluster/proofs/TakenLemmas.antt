@@ -11,11 +11,12 @@ use Rattle.gb_link.specs.Received.{Received, base_of, is_awaited, admission, tak
 use Rattle.gb_link.specs.declared.receiver.Admission.TheVariants.{First, Seen, Outside}
 use Rattle.gb_link.proofs.ArrivalLemmas.{contains-inserted}
 use Rattle.gb_link.proofs.BaseLemmas.{base_of_from, base_of_below, base_of_lacks}
-use Rattle.gb_cluster.specs.declared.packet.Packet.{Packet}
+use Rattle.gb_record.specs.declared.packet.Packet.{Packet}
 use Rattle.gb_cluster.specs.NodeValue.{NodeValue}
-use Rattle.gb_cluster.specs.Project.{frames, is_taken, is_acked}
-use Rattle.gb_cluster.specs.World.{World, node_of, sender_to, receiver_from, newly_done, without_done, item_done, group_came, admission_of, took_ack, node_took}
-use Rattle.gb_cluster.specs.Holds.{IsLink, Links}
+use Rattle.gb_record.specs.Project.{frames, is_taken, is_acked}
+use Rattle.gb_cluster.proofs.World.{World, node_of}
+use Rattle.gb_cluster.specs.NodeStep.{sender_to, receiver_from, newly_done, without_done, item_done, group_came, admission_of, took_ack, node_took}
+use Rattle.gb_cluster.proofs.Invariant.{IsLink, Links}
 
 -- a frame that was sent is within the window of the receiver: it was taken before, or comes for the first time
 pub sent_frames_are_inside : (w : World) (a b n : ℕ) → a < length w.nodes → b < length w.nodes → Links w → 1 ≤ n → n ≤ length (frames a b w.packets w.steps)

@@ -12,17 +12,18 @@ use Rattle.gb_detect.specs.Watch.{start, replay, after_heard}
 use Rattle.gb_link.specs.Ack.{covers}
 use Rattle.gb_link.specs.Received.{taken}
 use Rattle.gb_link.specs.SendWindow.{SendWindow, new_window}
-use Rattle.gb_cluster.specs.declared.answer.Answer.TheVariants.{Taken as Took_in}
-use Rattle.gb_cluster.specs.declared.answer.Good.{Good}
-use Rattle.gb_cluster.specs.declared.answer.Taken.TheVariants.{Good as Accepted}
-use Rattle.gb_cluster.specs.declared.event.Event.TheVariants.{Arrive}
-use Rattle.gb_cluster.specs.declared.packet.Item.{Item}
-use Rattle.gb_cluster.specs.declared.packet.Packet.{Packet}
-use Rattle.gb_cluster.specs.declared.step.Step.{Step}
+use Rattle.gb_record.specs.declared.answer.Answer.TheVariants.{Taken as AnswerTaken}
+use Rattle.gb_record.specs.declared.answer.Good.{Good}
+use Rattle.gb_record.specs.declared.answer.Taken.TheVariants.{Good as TakenGood}
+use Rattle.gb_record.specs.declared.event.Event.TheVariants.{Arrive}
+use Rattle.gb_record.specs.declared.packet.Item.{Item}
+use Rattle.gb_record.specs.declared.packet.Packet.{Packet}
+use Rattle.gb_record.specs.declared.step.Step.{Step}
 use Rattle.gb_cluster.specs.NodeValue.{NodeValue}
-use Rattle.gb_cluster.specs.Project.{has_row, packet_at, frames, is_frame, is_taken, is_ack, is_acked, is_noticed, is_stopped, heard_from, watched}
-use Rattle.gb_cluster.specs.World.{World, node_of, sender_to, receiver_from, without_done, admission_of, node_took}
-use Rattle.gb_cluster.specs.Holds.{NodeIs, IsOfFrame, IsFramed, IsLink, Links, window_of}
+use Rattle.gb_record.specs.Project.{has_row, packet_at, frames, is_frame, is_taken, is_ack, is_acked, is_noticed, is_stopped, heard_from, watched}
+use Rattle.gb_cluster.proofs.World.{World, node_of}
+use Rattle.gb_cluster.specs.NodeStep.{sender_to, receiver_from, without_done, admission_of, node_took}
+use Rattle.gb_cluster.proofs.Invariant.{NodeIs, IsOfFrame, IsFramed, IsLink, Links, window_of}
 use Rattle.gb_cluster.proofs.AckLemmas.{undone_without}
 use Rattle.gb_cluster.proofs.MarkLemmas.{slice_get-within, or_off}
 use Rattle.gb_cluster.proofs.TakenLemmas.{sent_frames_are_inside, received_now, IsTook, node_took-is}
@@ -37,7 +38,7 @@ pub record IsGood (w : World) (k : ℕ) (p : Packet) : Type 0 where
   pub running : (node_of w p.to.number).stopped ≡ false
 
 abbrev pub good_step : ℕ → Good → Step
-good_step k good = record { event = Arrive k; answer = Took_in (Accepted good) }
+good_step k good = record { event = Arrive k; answer = AnswerTaken (TakenGood good) }
 
 -- the frame was sent
 pub frame_sent : (fs : List Packet) (p : Packet) → IsOfFrame fs p → p.frame ≤ length fs

@@ -5,12 +5,12 @@ use Rattle.gb_link.specs.Ack.{covers}
 use Rattle.gb_link.specs.SendWindow.{SendWindow, IsWindow, lowest_covered, acknowledged, without_first}
 use Rattle.gb_slot.specs.Slot.{slot_done}
 use Rattle.gb_types.specs.Entry.{message_of}
-use Rattle.gb_cluster.specs.Hosted.{group_of, KeepsRoom}
+use Rattle.gb_cluster.specs.GroupRoom.{group_of, KeepsRoom}
 use Rattle.gb_cluster.specs.NodeValue.{GroupAt}
-use Rattle.gb_cluster.specs.World.{on_slot, item_done, without_done}
+use Rattle.gb_cluster.specs.NodeStep.{on_slot, item_done, without_done}
 use Rattle.gb_cluster.specs.declared.node.Hosted.{Hosted}
-use Rattle.gb_cluster.specs.declared.packet.Item.{Item}
-use Rattle.gb_cluster.specs.declared.packet.Packet.{Packet}
+use Rattle.gb_record.specs.declared.packet.Item.{Item}
+use Rattle.gb_record.specs.declared.packet.Packet.{Packet}
 use Rattle.gb_cluster.proofs.DoneLemmas.{filter-find, filter-find_none, filter_not-without_first, without_first-none, length-without_first, length-filter_most, window_few}
 
 -- of the frames that the packet's acknowledgement covers so many are done, and those that are left are still to be done

@@ -12,15 +12,15 @@ use Rattle.gb_types.specs.declared.reply.Reply.TheVariants.{Done, Refused}
 use Rattle.gb_types.specs.declared.request.Request.{Request}
 use Rattle.gb_types.specs.declared.request.Request.TheVariants.{AddTenant, Make, OpenGroup, Say, Fetch}
 use Rattle.gb_types.specs.declared.spec.TenantRow.{TenantRow}
-use Rattle.gb_cluster.specs.declared.answer.Answer.TheVariants.{Reply as Replied}
-use Rattle.gb_cluster.specs.declared.event.Event.TheVariants.{At}
-use Rattle.gb_cluster.specs.declared.group.GroupEvent.TheVariants.{Tenant}
-use Rattle.gb_cluster.specs.declared.step.Step.{Step}
-use Rattle.gb_cluster.specs.Alone.{Member, Group, alone_from, IsLegalFrom}
+use Rattle.gb_record.specs.declared.answer.Answer.TheVariants.{Reply as AnswerReply}
+use Rattle.gb_record.specs.declared.event.Event.TheVariants.{At}
+use Rattle.gb_alone.specs.declared.event.GroupEvent.TheVariants.{Tenant}
+use Rattle.gb_record.specs.declared.step.Step.{Step}
+use Rattle.gb_alone.specs.Alone.{Member, Group, alone_from, IsLegalFrom}
 use Rattle.gb_cluster.specs.NodeValue.{NodeValue}
-use Rattle.gb_cluster.specs.Project.{has_row, is_stopped, is_turned_away, requested}
-use Rattle.gb_cluster.specs.Rules.{reserve_of, is_over_limits}
-use Rattle.gb_cluster.specs.World.{reserve_for, slot_for, row_answer, running_reply}
+use Rattle.gb_record.specs.Project.{has_row, is_stopped, is_turned_away, requested}
+use Rattle.gb_rules.specs.Tenant.{reserve_of, is_over_limits}
+use Rattle.gb_cluster.specs.NodeStep.{reserve_for, slot_for, row_answer, running_reply}
 use Rattle.gb_cluster.proofs.AskLemmas.{Before, AtNode, quiet, member_asked, silent_unnamed, unmet_now, if_same}
 use Rattle.gb_cluster.proofs.MakeLemmas.{at_make}
 use Rattle.gb_cluster.proofs.MemberLemmas.{same_slot}
@@ -76,7 +76,7 @@ at_tenant nodes g a v group carried steps token row r running before free =
 
 -- any request at a running node
 pub at_running : (nodes : ℕ) (g : Addr) (a : NodeId) (v : NodeValue) (group : Group) (carried : ℕ → List Entry) (steps : List Step) (request : Request)
-    → is_stopped a.number steps ≡ false → Before nodes g a v group carried steps → is_turned_away g (At a request) (Replied (running_reply nodes a.number v request)) ≡ false
+    → is_stopped a.number steps ≡ false → Before nodes g a v group carried steps → is_turned_away g (At a request) (AnswerReply (running_reply nodes a.number v request)) ≡ false
     → AtNode nodes g a v group carried steps request (running_reply nodes a.number v request)
 at_running nodes g a v group carried steps (AddTenant token row) running before free = at_tenant nodes g a v group carried steps token row (row_answer row v.row) running before (row_done row v.row)
 at_running nodes g a v group carried steps (Make token addr spec) running before free = at_make nodes g a v group carried steps token addr spec running before free

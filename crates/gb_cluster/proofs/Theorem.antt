@@ -3,15 +3,16 @@ use Rattle.std.proofs.Common.{◌≡◌, ℕ, length, Option, Some, None, sym, �
 use Rattle.std.proofs.Math.ListN.{length-set}
 use Rattle.gb_types.specs.declared.address.Addr.{Addr}
 use Rattle.gb_types.specs.declared.spec.Spec.{Spec}
-use Rattle.gb_slot.specs.History.{log_of}
+use Rattle.gb_history.specs.History.{log_of}
 use Rattle.gb_slot.specs.SlotState.{SlotState}
 use Rattle.gb_slot.proofs.HistoryLemmas.{log_is}
-use Rattle.gb_cluster.specs.declared.event.Event.{Event}
-use Rattle.gb_cluster.specs.Alone.{Member, alone, log_at}
-use Rattle.gb_cluster.specs.Headline.{log_in, IsIsolated, AreIsolated, AreInside}
-use Rattle.gb_cluster.specs.Project.{project}
-use Rattle.gb_cluster.specs.World.{World, slot_for, node_of, acting, part_of, world_after}
-use Rattle.gb_cluster.specs.Holds.{SlotIs, Holds, BehavesAlone}
+use Rattle.gb_record.specs.declared.event.Event.{Event}
+use Rattle.gb_alone.specs.Alone.{Member, alone, log_at}
+use Rattle.gb_cluster.specs.State.{log_in}
+use Rattle.gb_cluster.proofs.World.{IsIsolated, AreIsolated, World, node_of, part_of, world_after}
+use Rattle.gb_record.specs.Project.{project}
+use Rattle.gb_cluster.specs.NodeStep.{slot_for, acting}
+use Rattle.gb_cluster.proofs.Invariant.{SlotIs, Holds, BehavesAlone}
 
 log_same : (a : ℕ) (o : Option SlotState) (m : Member) → SlotIs a o m → log_in o ≡ log_at a m.spec m.told
 log_same a None m st = sym (ap (λ (x : Option Spec). log_at a x m.told) st.spec)
@@ -31,9 +32,6 @@ isolated g w alone_too = record {
 
 pub all_isolated : (w : World) → Holds w → AreIsolated w
 all_isolated w holds g served = isolated g w (holds.groups g served)
-
-pub all_inside : (w : World) → Holds w → AreInside (length w.nodes) w.packets
-all_inside w holds k p at = let framed = holds.links.framed k p at in (framed.from, framed.to)
 
 pub same_count : (w : World) (e : Event) → length (world_after w e).nodes ≡ length w.nodes
 same_count w e = length-set w.nodes (acting w.packets e) (part_of w e).value

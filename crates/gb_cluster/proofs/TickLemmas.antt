@@ -19,17 +19,18 @@ use Rattle.gb_detect.specs.Silence.{Call, Heard, Tick as Ticks}
 use Rattle.gb_detect.specs.Watch.{Watch, start, replay, is_due, due, after_tick}
 use Rattle.gb_detect.proofs.SetLemmas.{contains-either, contains-nodes_where}
 use Rattle.gb_slot.specs.SlotState.{SlotState}
-use Rattle.gb_cluster.specs.declared.answer.Answer.TheVariants.{Ticked as Ticked_so}
-use Rattle.gb_cluster.specs.declared.answer.Ticked.TheVariants.{Noticed, Refused as Untold}
-use Rattle.gb_cluster.specs.declared.event.Event.TheVariants.{Tick}
-use Rattle.gb_cluster.specs.declared.group.GroupStep.{GroupStep}
-use Rattle.gb_cluster.specs.declared.packet.Packet.{Packet}
-use Rattle.gb_cluster.specs.declared.step.Step.{Step}
-use Rattle.gb_cluster.specs.Alone.{Member, Group, alone, alone_from, is_marked}
+use Rattle.gb_record.specs.declared.answer.Answer.TheVariants.{Ticked as AnswerTicked}
+use Rattle.gb_record.specs.declared.answer.Ticked.TheVariants.{Noticed, Refused as TickRefused}
+use Rattle.gb_record.specs.declared.event.Event.TheVariants.{Tick}
+use Rattle.gb_alone.specs.declared.event.GroupStep.{GroupStep}
+use Rattle.gb_record.specs.declared.packet.Packet.{Packet}
+use Rattle.gb_record.specs.declared.step.Step.{Step}
+use Rattle.gb_alone.specs.Alone.{Member, Group, alone, alone_from, is_marked}
 use Rattle.gb_cluster.specs.NodeValue.{NodeValue}
-use Rattle.gb_cluster.specs.Project.{project, ticked, has_row, frames, items_of, is_taken, is_acked, is_noticed, is_stopped, is_met, made_at, watched, replies_to}
-use Rattle.gb_cluster.specs.World.{World, Part, only_answered, node_of, slot_for, slot_noticed_all, node_ticked, world_after}
-use Rattle.gb_cluster.specs.Holds.{Stands, AreMarked, MemberIs, is_concerned, Fits, NodeIs, Links, Holds, window_of}
+use Rattle.gb_record.specs.Project.{project, ticked, has_row, frames, items_of, is_taken, is_acked, is_noticed, is_stopped, is_met, made_at, watched, replies_to}
+use Rattle.gb_cluster.proofs.World.{World, node_of, world_after}
+use Rattle.gb_cluster.specs.NodeStep.{Part, only_answered, slot_for, slot_noticed_all, node_ticked}
+use Rattle.gb_cluster.proofs.Invariant.{Stands, AreMarked, MemberIs, is_concerned, Fits, NodeIs, Links, Holds, window_of}
 use Rattle.gb_cluster.proofs.IdleLemmas.{idle_turn}
 use Rattle.gb_cluster.proofs.QuietLemmas.{quiet}
 use Rattle.gb_cluster.proofs.MemberLemmas.{KeepsRest}
@@ -42,7 +43,7 @@ use Rattle.gb_cluster.proofs.WorldLemmas.{eqb_self, eqb_apart_back}
 
 -- what a tick answers
 abbrev tick_step : NodeId → NodeValue → Step
-tick_step a v = record { event = Tick a; answer = Ticked_so (Noticed (due v.watch)) }
+tick_step a v = record { event = Tick a; answer = AnswerTicked (Noticed (due v.watch)) }
 
 -- what is due is another node of the cluster that was not noticed
 due_new : (d : Watch) (b : ℕ) → fin.contains (due d) b ≡ true → (b < d.nodes) × (fin.contains d.noticed b ≡ false)
@@ -221,8 +222,8 @@ pub any_tick : (w : World) (a : NodeId) → a.number < length w.nodes → Holds 
 any_tick w a in_a holds = go (node_of w a.number).stopped refl
   where
     part : Bool → Part
-    part b = if b then only_answered (node_of w a.number) (Ticked_so (Untold Stopped)) else only_answered (node_ticked (node_of w a.number)) (Ticked_so (Noticed (due (node_of w a.number).watch)))
+    part b = if b then only_answered (node_of w a.number) (AnswerTicked (TickRefused Stopped)) else only_answered (node_ticked (node_of w a.number)) (AnswerTicked (Noticed (due (node_of w a.number).watch)))
 
     go : (b : Bool) → (node_of w a.number).stopped ≡ b → Holds (turned w a.number (part b).value (record { event = Tick a; answer = (part b).answer }) (part b).sent)
-    go true is = idle_turn w a.number (Tick a) (Ticked_so (Untold Stopped)) in_a (quiet refl) holds
+    go true is = idle_turn w a.number (Tick a) (AnswerTicked (TickRefused Stopped)) in_a (quiet refl) holds
     go false is = tick_holds w a in_a is holds

@@ -7,16 +7,18 @@ use Rattle.std.proofs.Math.ListN.{set, length-set}
 use Rattle.gb_types.specs.declared.address.Addr.{Addr}
 use Rattle.gb_detect.specs.Silence.{Call}
 use Rattle.gb_detect.specs.Watch.{start, replay}
-use Rattle.gb_cluster.specs.declared.packet.Packet.{Packet}
-use Rattle.gb_cluster.specs.declared.step.Step.{Step}
-use Rattle.gb_cluster.specs.declared.group.GroupStep.{GroupStep}
-use Rattle.gb_cluster.specs.Alone.{Member, Group, alone, alone_from, is_marked, IsLegalFrom}
+use Rattle.gb_record.specs.declared.packet.Packet.{Packet}
+use Rattle.gb_record.specs.declared.step.Step.{Step}
+use Rattle.gb_alone.specs.declared.event.GroupStep.{GroupStep}
+use Rattle.gb_alone.specs.Alone.{Member, Group, alone, alone_from, is_marked, IsLegalFrom}
 use Rattle.gb_cluster.specs.NodeValue.{NodeValue}
-use Rattle.gb_cluster.specs.Project.{project, gives, has_row, is_taken_in, frames, frame_at, items_of, is_taken, is_taken_by, is_acked, is_acked_by, is_noticed, is_noticed_by, is_stopped, is_stopped_by, is_met, is_met_by, made_at, made_by, or_else, watched, watched_by, reply_in, replies_to, is_served, is_turned_away}
-use Rattle.gb_cluster.specs.World.{World, node_of, no_node}
-use Rattle.gb_cluster.specs.Holds.{Stands, AreMarked, MemberIs, is_concerned, Fits, NodeIs, IsOfFrame, IsFramed, IsLink, Links, BehavesAlone, Holds, IsNumbered, number_of, offset, window_of}
+use Rattle.gb_record.specs.Project.{project, gives, has_row, is_taken_in, frames, frame_at, items_of, is_taken, is_taken_by, is_acked, is_acked_by, is_noticed, is_noticed_by, is_stopped, is_stopped_by, is_met, is_met_by, made_at, made_by, or_else, watched, watched_by, reply_in, replies_to, is_served, is_turned_away}
+use Rattle.gb_cluster.proofs.World.{World, node_of}
+use Rattle.gb_cluster.specs.NodeStep.{no_node}
+use Rattle.gb_cluster.proofs.Invariant.{Stands, AreMarked, MemberIs, is_concerned, Fits, NodeIs, IsOfFrame, IsFramed, IsLink, Links, BehavesAlone, Holds, window_of}
+use Rattle.gb_record.proofs.Numbers.{IsNumbered, number_of, offset}
 use Rattle.gb_cluster.proofs.MarkLemmas.{or_off}
-use Rattle.gb_cluster.proofs.MoreLemmas.{frames-more, is_taken-more, is_acked-more, watched-more, project-more, numbered-more, items_of-append, offset_past, offset_within}
+use Rattle.gb_record.proofs.LaterPackets.{frames-more, is_taken-more, is_acked-more, watched-more, project-more, numbered-more, items_of-append, offset_past, offset_within}
 use Rattle.gb_cluster.proofs.NodeLemmas.{same_carried}
 use Rattle.gb_cluster.proofs.WorldLemmas.{goes_on, served_before, node_there, node_elsewhere}
 

@@ -11,17 +11,18 @@ use Rattle.gb_types.specs.declared.request.Request.{Request}
 use Rattle.gb_types.specs.declared.request.Request.TheVariants.{AddTenant}
 use Rattle.gb_types.specs.declared.reply.Reply.{Reply}
 use Rattle.gb_types.specs.declared.reply.Reply.TheVariants.{Done}
-use Rattle.gb_cluster.specs.declared.event.Event.TheVariants.{At}
-use Rattle.gb_cluster.specs.declared.answer.Answer.TheVariants.{Reply as Replied}
-use Rattle.gb_cluster.specs.declared.step.Step.{Step}
-use Rattle.gb_cluster.specs.declared.packet.Packet.{Packet}
-use Rattle.gb_cluster.specs.declared.group.GroupEvent.{GroupEvent}
-use Rattle.gb_cluster.specs.declared.group.GroupStep.{GroupStep}
-use Rattle.gb_cluster.specs.Alone.{Group, nobody, after, alone, alone_from, member_after, IsLegalFrom}
+use Rattle.gb_record.specs.declared.event.Event.TheVariants.{At}
+use Rattle.gb_record.specs.declared.answer.Answer.TheVariants.{Reply as AnswerReply}
+use Rattle.gb_record.specs.declared.step.Step.{Step}
+use Rattle.gb_record.specs.declared.packet.Packet.{Packet}
+use Rattle.gb_alone.specs.declared.event.GroupEvent.{GroupEvent}
+use Rattle.gb_alone.specs.declared.event.GroupStep.{GroupStep}
+use Rattle.gb_alone.specs.Alone.{Group, nobody, after, alone, alone_from, member_after, IsLegalFrom}
 use Rattle.gb_cluster.specs.NodeValue.{NodeValue}
-use Rattle.gb_cluster.specs.Project.{project, is_taken_in, frames, frame_at, reply_in, is_served, is_turned_away}
-use Rattle.gb_cluster.specs.World.{World, no_node}
-use Rattle.gb_cluster.specs.Holds.{Fits, BehavesAlone}
+use Rattle.gb_record.specs.Project.{project, is_taken_in, frames, frame_at, reply_in, is_served, is_turned_away}
+use Rattle.gb_cluster.proofs.World.{World}
+use Rattle.gb_cluster.specs.NodeStep.{no_node}
+use Rattle.gb_cluster.proofs.Invariant.{Fits, BehavesAlone}
 
 -- The group goes on.
 
@@ -78,9 +79,9 @@ node_there w a v within = get_or-set_same w.nodes a v no_node within
 pub node_elsewhere : (w : World) (a x : ℕ) (v : NodeValue) → x ≢ a → get_or (set w.nodes a v) x no_node ≡ get_or w.nodes x no_node
 node_elsewhere w a x v other = get_or-set_other w.nodes a x v no_node other
 
-pub row_elsewhere : (a : NodeId) (x tenant : ℕ) (request : Request) (reply : Reply) → x ≢ a.number → is_taken_in x tenant (At a request) (Replied reply) ≡ false
+pub row_elsewhere : (a : NodeId) (x tenant : ℕ) (request : Request) (reply : Reply) → x ≢ a.number → is_taken_in x tenant (At a request) (AnswerReply reply) ≡ false
 row_elsewhere a x tenant (AddTenant token row) Done other = rw (eqb_apart_back x a.number other) refl
 row_elsewhere a x tenant request reply other = refl
 
-pub silent_elsewhere : (g : Addr) (a : NodeId) (x : ℕ) (steps : List Step) (request : Request) (reply : Reply) → x ≢ a.number → reply_in g x steps (At a request) (Replied reply) ≡ []
+pub silent_elsewhere : (g : Addr) (a : NodeId) (x : ℕ) (steps : List Step) (request : Request) (reply : Reply) → x ≢ a.number → reply_in g x steps (At a request) (AnswerReply reply) ≡ []
 silent_elsewhere g a x steps request reply other = rw (eqb_apart_back x a.number other) refl

@@ -6,7 +6,7 @@ use Rattle.gb_detect.specs.Watch.{Watch}
 use Rattle.gb_link.specs.Received.{Received}
 use Rattle.gb_link.specs.SendWindow.{SendWindow}
 use Rattle.gb_slot.specs.SlotState.{SlotState}
-use Rattle.gb_cluster.specs.declared.packet.Item.{Item}
+use Rattle.gb_record.specs.declared.packet.Item.{Item}
 
 -- a group at its address
 pub record GroupAt : Type 0 where

@@ -1,59 +1,55 @@
 //! The cluster.
-ghost use Rattle.std.specs.Prelude.{◌≡◌, ◌⊎◌, ◌↔◌, ◌≤◌, ◌<◌, ◌∷◌, ◌++◌, [], ℕ, List, IsTrue, length, vec_len, vec_capacity, IfOk, OnOk, OnErr};
+ghost use Rattle.std.specs.Prelude.{◌≡◌, ◌↔◌, ◌≤◌, ◌<◌, ◌∷◌, ◌++◌, [], ℕ, List, IsTrue, length, vec_len, vec_capacity, IfOk, OnErr};
 ghost use Rattle.std.specs.Option.{option_to_list};
-ghost use Rattle.gb_types.specs.declared.entry.Entry.{Entry as EntryValue};
 ghost use Rattle.gb_types.specs.declared.limits.TheConstants.{NODES as MOST, SILENCE_MIN, SILENCE_MAX};
 ghost use Rattle.gb_types.specs.declared.node.NodeId.{NodeId as Id};
+ghost use Rattle.gb_cluster.specs.NodeStep.{sent_part, arrive_part, tick_part, stop_part};
 ghost use Rattle.gb_cluster.specs.NodeValue.{NodeValue};
-ghost use Rattle.gb_cluster.specs.World.{new_world, sent_part, arrive_part, tick_part, stop_part, with_step};
-ghost use Rattle.gb_cluster.specs.Acting.{Goes, Acts};
-ghost use Rattle.gb_cluster.specs.Headline.{AreIsolated, AreInside, IsPlaced, IsStep};
-ghost use Rattle.gb_cluster.specs.Laws.{AreIntegral, AreInOrder};
+ghost use Rattle.gb_cluster.specs.Acting.{Goes, Acts, AreForNodes};
 ghost use Rattle.gb_cluster.specs.LinkLaws.{IsLinkStep};
-ghost use Rattle.gb_cluster.specs.Observed.{AreObserved};
-ghost use Rattle.gb_cluster.specs.Trace.{bare};
-ghost use Rattle.gb_cluster.specs.declared.packet.Packet.{Packet as PacketValue};
+ghost use Rattle.gb_cluster.specs.State.{bare, IsStep, new_state, ComesTo, OfEachRun};
+ghost use Rattle.gb_record.specs.Isolation.{AreLegal, HaveOwnReplies, HaveOwnLogs, HaveOwnItems};
+ghost use Rattle.gb_record.specs.Placed.{IsPlaced};
+ghost use Rattle.gb_record.specs.RunLaws.{AreIntegral, AreInOrder};
+ghost use Rattle.gb_record.specs.declared.packet.Packet.{Packet as PacketValue};
+ghost use Rattle.gb_record.specs.declared.step.Step.{Step as StepValue};
 
-use crate::answer::{Answer, Halted, Sent, Taken, Ticked, copied_reply};
-use crate::event::Event;
 use crate::node::OneNode;
-use crate::packet::Packet;
-use crate::plan::Plan;
-use crate::step::Step;
+use gb_record::answer::{Answer, Halted, Sent, Taken, Ticked};
+use gb_record::event::Event;
+use gb_record::packet::Packet;
 use gb_types::limits::{SILENCE_MAX, SILENCE_MIN};
 use gb_types::memory::OutOfMemory;
 use gb_types::node::NodeId;
+use gb_types::plan::Plan;
 use gb_types::refusal::Refusal;
 use gb_types::reply::Reply;
 use gb_types::request::Request;
 use std::alloc::Global;
 use std::marker::Model;
 
-/// A cluster. Contracts see its nodes, what happened with the newest first, and every packet ever sent.
+/// A cluster. Contracts see its nodes and every packet ever sent. It keeps no event and no answer: what its contracts
+/// say of a run they say of each run that leads to what it is.
 #[derive(Drop)]
 pub struct Cluster {
-    alloc: Global,
     plan: Plan,
     nodes: Vec<OneNode>,
-    past: Vec<Step>,
     packets: Vec<Packet>,
 }
 
 impl Model for Cluster {
-    ghost use Rattle.std.specs.Prelude.{reverse};
-    ghost use Rattle.gb_cluster.specs.World.{World};
-    ghost use Rattle.gb_cluster.specs.Holds.{Holds};
+    ghost use Rattle.gb_cluster.specs.State.{State, IsReached};
     ghost use Rattle.std.specs.Coded.{codes, coded_ℕ};
     ghost use Rattle.std.specs.Ordering.{nat_cmp};
     ghost use Rattle.std.specs.FinSet as set;
 
-    ghost Value = { World };
+    ghost Value = { State };
 
     ghost coded = { Prim.hlevel (codes, set.code {R = nat_cmp} coded_ℕ) };
 
-    ghost view = { λ c. record { nodes = c.nodes.items; steps = reverse c.past.items; packets = c.packets.items; silence = c.plan.silence } };
+    ghost view = { λ c. record { nodes = c.nodes.items; packets = c.packets.items; silence = c.plan.silence } };
 
-    ghost invariant = { λ c. Holds (record { nodes = c.nodes.items; steps = reverse c.past.items; packets = c.packets.items; silence = c.plan.silence }) };
+    ghost invariant = { λ c. IsReached (record { nodes = c.nodes.items; packets = c.packets.items; silence = c.plan.silence }) };
 }
 
 /// Whether the node that acts is one of so many.
@@ -69,24 +65,6 @@ pub fn is_placed(nodes: usize, event: &Event) -> bool
         Event::Tick(a) => a.index() < nodes,
         Event::Stop(a) => a.index() < nodes,
     }
-}
-
-/// A copy of an answer. Only a log takes memory.
-fn copied(alloc: Global, answer: &Answer) -> Result<Answer, OutOfMemory>
-    ensures ok { IfOk result (λ a. a ≡ answer.now) }
-    ensures err { OnErr result ((entries : List EntryValue) × (answer.now ≡ Answer.Reply (Reply.Log entries))) }
-{
-    Ok(match answer {
-        Answer::Reply(reply) => Answer::Reply(copied_reply(alloc, reply)?),
-        Answer::Taken(taken) => Answer::Taken(*taken),
-        Answer::Sent(sent) => Answer::Sent(*sent),
-        Answer::Ticked(Ticked::Noticed(found)) => {
-            Answer::Ticked(Ticked::Noticed(found.duplicate()))
-        }
-        Answer::Ticked(Ticked::Refused(why)) => Answer::Ticked(Ticked::Refused(*why)),
-        Answer::Halted(halted) => Answer::Halted(*halted),
-        Answer::NoPacket => Answer::NoPacket,
-    })
 }
 
 /// The reply to a request at a node.
@@ -178,8 +156,8 @@ fn hand_in(node: &mut OneNode, packet: &Packet) -> Taken
 
 /// The packet with the number, handed in at the node that it was sent to.
 fn deliver(nodes: &mut Vec<OneNode>, packets: &[Packet], k: u64) -> Answer
-    requires { AreInside (length nodes.old.items) packets.now }
-    ensures { IsStep (bare nodes.old.items packets.now) (Event.Arrive k) result (with_step (Event.Arrive k) result (bare nodes.new.items packets.now)) }
+    requires { AreForNodes (length nodes.old.items) packets.now }
+    ensures { IsStep (bare nodes.old.items packets.now) (Event.Arrive k) result (bare nodes.new.items packets.now) }
 {
     if k == 0 {
         return Answer::NoPacket;
@@ -218,9 +196,9 @@ fn stop(node: &mut OneNode) -> Halted
 /// What comes of an event, with nodes and packets after it.
 fn take(nodes: &mut Vec<OneNode>, packets: &mut Vec<Packet>, event: &Event) -> Answer
     requires placed { IsPlaced (length nodes.old.items) event.now }
-    requires inside { AreInside (length nodes.old.items) packets.old.items }
+    requires inside { AreForNodes (length nodes.old.items) packets.old.items }
     requires room { vec_len packets.old < vec_capacity packets.old }
-    ensures { IsStep (bare nodes.old.items packets.old.items) event.now result (with_step event.now result (bare nodes.new.items packets.new.items)) }
+    ensures { IsStep (bare nodes.old.items packets.old.items) event.now result (bare nodes.new.items packets.new.items) }
 {
     let n = nodes.len();
     match event {
@@ -234,17 +212,6 @@ fn take(nodes: &mut Vec<OneNode>, packets: &mut Vec<Packet>, event: &Event) -> A
     }
 }
 
-/// Room for one more step, and for one more packet.
-fn make_room(past: &mut Vec<Step>, packets: &mut Vec<Packet>) -> Result<(), OutOfMemory>
-    ensures past { past.new.items ≡ past.old.items }
-    ensures packets { packets.new.items ≡ packets.old.items }
-    ensures room { OnOk result ((vec_len past.new < vec_capacity past.new) × (vec_len packets.new < vec_capacity packets.new)) }
-{
-    past.reserve(1)?;
-    packets.reserve(1)?;
-    Ok(())
-}
-
 impl Cluster {
     /// A cluster in which nothing has happened.
     pub fn start(alloc: Global, plan: Plan) -> Result<Cluster, OutOfMemory>
@@ -252,10 +219,9 @@ impl Cluster {
         requires few { plan.nodes ≤ MOST }
         requires least { SILENCE_MIN ≤ plan.silence }
         requires most { plan.silence ≤ SILENCE_MAX }
-        ensures world { IfOk result (λ w. w ≡ new_world plan.nodes plan.silence) }
-        ensures isolated { IfOk result AreIsolated }
-        ensures integrity { IfOk result AreIntegral }
-        ensures order { IfOk result AreInOrder }
+        ensures state { IfOk result (λ c. c ≡ new_state plan.nodes plan.silence) }
+        ensures nodes { IfOk result (λ c. length c.nodes ≡ plan.nodes) }
+        ensures comes { IfOk result (ComesTo []) }
     {
         let mut nodes = Vec::with_capacity(alloc, plan.nodes as usize)?;
         for number in 0..plan.nodes {
@@ -263,10 +229,8 @@ impl Cluster {
             nodes.push(OneNode::new(alloc, me, plan.nodes, plan.silence))?;
         }
         Ok(Cluster {
-            alloc,
             plan,
             nodes,
-            past: Vec::new(alloc),
             packets: Vec::new(alloc),
         })
     }
@@ -285,36 +249,31 @@ impl Cluster {
         is_placed(self.nodes.len(), event)
     }
 
-    /// One event. Each group of which no request was refused for want of room or of memory goes on as it would
-    /// alone, and its logs keep integrity and order. `Err` says that the cluster itself had no memory to keep
-    /// the event and its answer; a node's want of memory is an answer. In both cases the nodes are as before.
+    /// One event. `Err` says that the cluster itself had no memory for one more packet, and nothing has changed; a
+    /// node's want of memory is an answer. After it, as at every moment, what holds of each run that leads to what the
+    /// cluster is: each group of which no request was refused for want of room or of memory is what it would be alone,
+    /// and keeps integrity and order.
     pub fn step(&mut self, event: &Event) -> Result<Answer, OutOfMemory>
         requires { IsPlaced (length self.old.nodes) event.now }
-        ensures steps { IfOk result (λ a. self.new.steps ≡ record { event = event.now; answer = a } ∷ self.old.steps) }
         ensures step { IfOk result (λ a. IsStep self.old event.now a self.new) }
-        ensures links { IfOk result (λ a. IsLinkStep self.old event.now a self.new) }
+        ensures run { IfOk result (λ a. (steps : List StepValue) → ComesTo steps self.old → ComesTo (record { event = event.now; answer = a } ∷ steps) self.new) }
+        ensures links { IfOk result (λ a. (steps : List StepValue) → ComesTo steps self.old → IsLinkStep steps self.old event.now a self.new) }
         ensures nodes { length self.new.nodes ≡ length self.old.nodes }
-        ensures isolated { AreIsolated self.new }
-        ensures integrity { OnOk result (AreIntegral self.new) }
-        ensures order { OnOk result (AreInOrder self.new) }
+        ensures legal { OfEachRun AreLegal self.new }
+        ensures replies { OfEachRun HaveOwnReplies self.new }
+        ensures log { OfEachRun HaveOwnLogs self.new }
+        ensures put { OfEachRun HaveOwnItems self.new }
+        ensures integrity { OfEachRun AreIntegral self.new }
+        ensures order { OfEachRun AreInOrder self.new }
         ensures err { OnErr result (self.new ≡ self.old) }
     {
-        let kept = event.duplicate(self.alloc)?;
-        make_room(&mut self.past, &mut self.packets)?;
-        let answer = take(&mut self.nodes, &mut self.packets, event);
-        let copy = copied(self.alloc, &answer)?;
-        self.past.push_reserved(Step {
-            event: kept,
-            answer: copy,
-        });
-        Ok(answer)
+        self.packets.reserve(1)?;
+        Ok(take(&mut self.nodes, &mut self.packets, event))
     }
 
-    /// Every packet that was sent, in order. The replies and the carried items that are seen in the run of each group
-    /// of which no request was refused for want of room or of memory are what is seen of it alone.
+    /// Every packet that was sent, in order.
     pub fn into_packets(self) -> Vec<Packet>
-        ensures packets { result.items ≡ self.packets }
-        ensures observed { AreObserved (length self.nodes) self.packets self.steps }
+        ensures { result.items ≡ self.packets }
     {
         self.packets
     }

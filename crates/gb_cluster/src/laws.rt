@@ -1,17 +1,10 @@
-//! Laws of one group: what follows for it from its definition alone, over every list of events.
-ghost use Rattle.gb_cluster.specs.Laws.{IsInOrder, IsIntegral};
+//! Laws of all runs of all clusters.
+ghost use Rattle.gb_cluster.specs.Runs.{AreLawful};
 ghost use Rattle.gb_cluster.specs.TwoRuns.{AreAlike};
 
-/// Integrity of a group alone: each entry of a log is the message that its origin was told is accepted under
-/// that number, with that payload, and no message stands twice in a log.
-pub fn integrity()
-    ensures { IsIntegral }
-{}
-
-/// Order of a group alone: where a node made it first-in first-out, that node's log has each origin's messages as
-/// 1, 2, 3, .. without a gap.
-pub fn order()
-    ensures { IsInOrder }
+/// Isolation, integrity and order, and what links owe, at every moment of every run.
+pub fn isolation()
+    ensures { AreLawful }
 {}
 
 /// Two runs that agree on a group show the same of it at each node.

@@ -1,23 +1,16 @@
-//! A cluster: its nodes, every packet ever sent, and what came of each event. And the theorem that each group in
-//! it of which no request was refused for want of room or of memory is what it would be alone.
+//! A cluster: its nodes and every packet ever sent. And the theorem that each group in it of which no request was
+//! refused for want of room or of memory is what it would be alone.
 //!
 //! There is no time, no thread and no socket here: a cluster is told what happens, event by event. Read
-//! `cluster::Cluster` first, then specs/Alone.antt and specs/Headline.antt. `projection`, `observation` and `model`
-//! compute the two sides of the theorem plainly and slowly, to run them on short runs.
+//! `cluster::Cluster` first, then specs/Isolation.antt. What a run shows of a group stands in gb_record, and the group
+//! alone in gb_alone; their plain programs have their public names here too.
 #![tactic(auto)]
 
-pub mod answer;
 pub mod cluster;
-pub mod event;
-pub mod group;
 pub mod laws;
-pub mod model;
 mod node;
-pub mod observation;
-pub mod packet;
-pub mod plan;
-pub mod projection;
-pub mod step;
-#[cfg(test)]
-mod tests;
-pub mod trace;
+pub mod run;
+
+pub use gb_alone::alone::alone;
+pub use gb_record::observation::observe;
+pub use gb_record::projection::project;

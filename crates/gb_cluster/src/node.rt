@@ -10,24 +10,27 @@ ghost use Rattle.gb_detect.specs.Watch.{due};
 ghost use Rattle.gb_link.specs.Ack.{covers};
 ghost use Rattle.gb_link.specs.Received.{admission, taken};
 ghost use Rattle.gb_link.specs.SendWindow.{new_window};
-ghost use Rattle.gb_slot.specs.Replied.{IsReply};
-ghost use Rattle.gb_slot.specs.Rules.{open_answer, say_answer, fetch_answer, is_member};
+ghost use Rattle.gb_rules.specs.Replied.{IsReply};
+ghost use Rattle.gb_rules.specs.Group.{open_answer, say_answer, fetch_answer, is_member, on_made};
 ghost use Rattle.gb_slot.specs.Slot.{IsWithinLimits, new_slot, waiting, slot_opened, slot_said, slot_came, slot_done, slot_took};
-ghost use Rattle.gb_cluster.specs.Hosted.{group_at, group_of, HasRoom, KeepsRoom, first_waiting};
-ghost use Rattle.gb_cluster.specs.Headline.{IsReplyTo};
-ghost use Rattle.gb_cluster.specs.Rules.{is_over_limits, is_bad, is_over, make_answer, by_tenant, on_made};
-ghost use Rattle.gb_cluster.specs.World.{first_of, new_node, reserve_for, slot_for, shown_for, row_answer, in_room, running_reply, node_reply, on_slot, group_took, node_did, packet_for, is_reached, is_another, node_packed, node_sent, node_again, node_ack, without_done, item_done, item_came, group_came, kind_of, count_of, node_took, good_of, slot_noticed_all, group_noticed, node_ticked};
+ghost use Rattle.gb_cluster.specs.GroupRoom.{is_new_frame, group_at, group_of, HasRoom, KeepsRoom, first_waiting};
+ghost use Rattle.gb_cluster.specs.Memory.{IsReplyTo, has_other_of, is_concerned};
+ghost use Rattle.gb_rules.specs.Tenant.{is_over_limits, is_bad, is_over, make_answer, by_tenant};
+ghost use Rattle.gb_cluster.specs.NodeStep.{first_of, new_node, reserve_for, slot_for, shown_for, row_answer, in_room, running_reply, node_reply, on_slot, group_took, node_did, packet_for, is_reached, is_another, node_packed, node_sent, node_again, node_ack, without_done, item_done, item_came, group_came, kind_of, count_of, node_took, good_of, slot_noticed_all, group_noticed, node_ticked};
 
-use crate::answer::{Frame, Good};
-use crate::group::{Reserve, is_same};
-use crate::packet::{Item, Packet};
 use gb_detect::detector::Detector;
+use gb_link::ack::covers;
 use gb_link::receiver::{Admission, Receiver};
 use gb_link::sender::Sender;
+use gb_record::answer::{Frame, Good};
+use gb_record::packet::{Item, Packet};
+use gb_rules::address::is_same;
+use gb_rules::reserve::Reserve;
+use gb_rules::tenant::{answer_make, is_over_limits};
 use gb_slot::slot::Slot;
 use gb_types::address::{Addr, TenantId};
 use gb_types::entry::{Entries, Entry};
-use gb_types::limits::{BYTES, GROUPS, MESSAGES, NODES, SILENCE_MAX, SILENCE_MIN, WINDOW};
+use gb_types::limits::{LAST_FRAME, LINK_WINDOW, NODES, SILENCE_MAX, SILENCE_MIN};
 use gb_types::memory::OutOfMemory;
 use gb_types::node::{NodeId, NodeSet};
 use gb_types::payload::Payload;
@@ -122,14 +125,14 @@ impl Model for OneNode {
     ghost use Rattle.std.specs.Coded.{codes, coded_ℕ};
     ghost use Rattle.std.specs.Ordering.{nat_cmp};
     ghost use Rattle.std.specs.FinSet as set;
-    ghost use Rattle.gb_cluster.specs.Hosted.{group_of};
+    ghost use Rattle.gb_cluster.specs.GroupRoom.{group_of};
     ghost use Rattle.gb_cluster.specs.NodeValue.{NodeValue};
 
     ghost Value = { NodeValue };
 
     ghost coded = { Prim.hlevel (codes, set.code {R = nat_cmp} coded_ℕ) };
 
-    ghost use Rattle.gb_cluster.specs.Rules.{is_over_limits};
+    ghost use Rattle.gb_rules.specs.Tenant.{is_over_limits};
 
     ghost view = { λ n. record { row = n.row; group = group_of n.group; senders = n.senders; receivers = n.receivers; watch = n.detector; stopped = n.stopped } };
 
@@ -162,24 +165,11 @@ fn reserve_of(row: &Option<TenantRow>, tenant: TenantId) -> Option<Reserve>
     }
 }
 
-/// Whether a row asks for more than the service gives.
-fn is_beyond(row: &TenantRow) -> bool
-    ensures { result ≡ is_over_limits row.now }
-{
-    if row.tenant == 0 || row.groups == 0 || row.groups > GROUPS {
-        return true;
-    }
-    if row.msgs == 0 || row.msgs > MESSAGES || row.bytes > BYTES {
-        return true;
-    }
-    row.window == 0 || row.window > WINDOW
-}
-
 /// The answer to a row.
 fn answer_row(row: &TenantRow, held: &Option<TenantRow>) -> Reply
     ensures { result ≡ row_answer row.now held.now }
 {
-    if is_beyond(row) {
+    if is_over_limits(row) {
         return Reply::Refused(Refusal::OverReserve);
     }
     match held {
@@ -192,49 +182,6 @@ fn answer_row(row: &TenantRow, held: &Option<TenantRow>) -> Reply
             }
         }
     }
-}
-
-/// Whether members are none, without this node, or beyond the cluster.
-fn is_bad_members(nodes: usize, me: NodeId, spec: &Spec) -> bool
-    ensures { result ≡ is_bad nodes me.number spec.now }
-{
-    !spec.members.contains(me) || !spec.members.is_below(nodes)
-}
-
-/// Whether a spec asks for more than its tenant has.
-fn is_over_reserve(reserve: &Reserve, spec: &Spec) -> bool
-    ensures { result ≡ is_over reserve.now spec.now }
-{
-    if spec.msgs == 0 || spec.msgs > reserve.msgs || spec.bytes > reserve.bytes {
-        return true;
-    }
-    spec.window == 0 || spec.window > reserve.window
-}
-
-/// The answer to a request to make a group, where there is room for it.
-fn answer_make(
-    nodes: usize,
-    me: NodeId,
-    group: u16,
-    made: bool,
-    spec: &Spec,
-    reserve: &Reserve,
-) -> Reply
-    ensures { result ≡ make_answer nodes me.number group made spec.now reserve.now }
-{
-    if u32::from(group) >= reserve.groups {
-        return Reply::Refused(Refusal::NoGroup);
-    }
-    if made {
-        return Reply::Refused(Refusal::Spent);
-    }
-    if is_bad_members(nodes, me, spec) {
-        return Reply::Refused(Refusal::BadMembers);
-    }
-    if is_over_reserve(reserve, spec) {
-        return Reply::Refused(Refusal::OverReserve);
-    }
-    Reply::Done
 }
 
 /// Whether a node is another one of so many.
@@ -275,11 +222,39 @@ fn take_first(group: &mut Option<Hosted>, to: NodeId)
     }
 }
 
-/// Makes room for the item, where it is one of the group.
-fn make_room(group: &mut Option<Hosted>, item: &Option<Item>) -> Result<(), OutOfMemory>
-    ensures group { group_of group.new ≡ group_of group.old }
-    ensures room { OnOk result (HasRoom item.now group.new) }
+/// Whether a frame with the number would come for the first time; 0 stands for no frame.
+fn is_new_frame(receiver: &Receiver, number: u64) -> bool
+    ensures { result ≡ is_new_frame receiver.now number }
 {
+    if number == 0 {
+        return false;
+    }
+    let (base, mask) = receiver.ack();
+    if covers(base, mask, number) {
+        return false;
+    }
+    if number > LAST_FRAME || number < base {
+        return false;
+    }
+    if number - base >= LINK_WINDOW {
+        return false;
+    }
+    true
+}
+
+/// Makes room for the item, where it is new and one of the group.
+fn make_room(
+    group: &mut Option<Hosted>,
+    item: &Option<Item>,
+    is_new: bool,
+) -> Result<(), OutOfMemory>
+    ensures group { group_of group.new ≡ group_of group.old }
+    ensures room { OnOk result (is_new ≡ true → HasRoom item.now group.new) }
+    ensures lack { OnErr result ((is_new ≡ true) × (is_some item.now ≡ true)) }
+{
+    if !is_new {
+        return Ok(());
+    }
     let Some(item) = item else {
         return Ok(());
     };
@@ -339,7 +314,7 @@ fn take_ack(group: &mut Option<Hosted>, sender: &mut Sender<Item>, packet: &Pack
 /// Takes a packet's frame, if it has one: its item goes to the group where its number comes for the first time.
 /// What became of it, and how many items it has then.
 fn take_frame(group: &mut Option<Hosted>, receiver: &mut Receiver, packet: &Packet) -> (Frame, u32)
-    requires { HasRoom packet.now.item group.old }
+    requires { is_new_frame receiver.old packet.now.frame ≡ true → HasRoom packet.now.item group.old }
     ensures frame { result.0 ≡ (if nat_eq packet.now.frame 0 then Frame.Nothing else kind_of (admission receiver.old packet.now.frame)) }
     ensures items { result.1 ≡ (if nat_eq packet.now.frame 0 then 0 else count_of (admission receiver.old packet.now.frame) packet.now.item) }
     ensures receiver { receiver.new ≡ (if nat_eq packet.now.frame 0 then receiver.old else taken receiver.old packet.now.frame (admission receiver.old packet.now.frame)) }
@@ -372,20 +347,33 @@ fn notice_each(slot: &mut Slot, found: &NodeSet)
     }
 }
 
-/// Notices these nodes in the group, rising. Takes no memory where there are none; without memory nothing has
-/// changed.
+/// Whether some of these nodes is another member of the slot's group.
+fn has_other_of(slot: &Slot, found: &NodeSet) -> bool
+    ensures { result ≡ has_other_of slot.now.state (rising found.now) }
+{
+    for node in found.nodes() {
+        if slot.has_other(node) {
+            return true;
+        }
+    }
+    false
+}
+
+/// Notices these nodes in the group, rising. Takes no memory where none of them is another member of it; without
+/// memory nothing has changed.
 fn notice_all(group: &mut Option<Hosted>, found: &NodeSet) -> Result<(), OutOfMemory>
     ensures ok { OnOk result (group_of group.new ≡ group_noticed (rising found.now) (group_of group.old)) }
     ensures err { OnErr result (group_of group.new ≡ group_of group.old) }
-    ensures lack { OnErr result (found.now ≢ set.empty) }
+    ensures lack { OnErr result (is_concerned (group_of group.old) found.now ≡ true) }
 {
-    if found.is_empty() {
+    let Some(hosted) = group else {
+        return Ok(());
+    };
+    if !has_other_of(&hosted.slot, found) {
         return Ok(());
     }
-    if let Some(hosted) = group {
-        hosted.slot.ready(found.count_in(found), 0)?;
-        notice_each(&mut hosted.slot, found);
-    }
+    hosted.slot.ready(found.count_in(found), 0)?;
+    notice_each(&mut hosted.slot, found);
     Ok(())
 }
 
@@ -637,9 +625,11 @@ impl OneNode {
         ensures good { IfOk result (λ g. g ≡ good_of packet.now self.old) }
         ensures state { OnOk result (self.new ≡ node_took packet.now self.old) }
         ensures err { OnErr result (self.new ≡ self.old) }
+        ensures lack { OnErr result ((good_of packet.now self.old).items ≢ 0) }
     {
-        make_room(&mut self.group, &packet.item)?;
         let from = packet.from;
+        let is_new = is_new_frame(&self.receivers[from.index()], packet.frame);
+        make_room(&mut self.group, &packet.item, is_new)?;
         self.detector.heard(from);
         let sender = &mut self.senders[from.index()];
         let done = take_ack(&mut self.group, sender, packet);
@@ -659,7 +649,7 @@ impl OneNode {
         ensures found { IfOk result (λ f. f ≡ due self.old.watch) }
         ensures state { OnOk result (self.new ≡ node_ticked self.old) }
         ensures err { OnErr result (self.new ≡ self.old) }
-        ensures lack { OnErr result (due self.old.watch ≢ set.empty) }
+        ensures lack { OnErr result (is_concerned self.old.group (due self.old.watch) ≡ true) }
     {
         notice_all(&mut self.group, &self.detector.due())?;
         Ok(self.detector.tick())

@@ -4,16 +4,16 @@ use Rattle.std.specs.Option.{ForSome}
 use Rattle.gb_types.specs.ReplyText.{reply_spelling}
 use Rattle.gb_types.specs.Rising.{rising}
 use Rattle.gb_types.specs.declared.reply.Reply.TheVariants.{Refused}
-use Rattle.gb_cluster.specs.declared.answer.Answer.{Answer}
-use Rattle.gb_cluster.specs.declared.answer.Answer.TheVariants.{Reply as Replied, Sent as Gave, Taken as Took_in, Ticked as Ticked_so, Halted as Halted_so, NoPacket}
-use Rattle.gb_cluster.specs.declared.answer.Frame.{Frame}
-use Rattle.gb_cluster.specs.declared.answer.Frame.TheVariants.{Nothing as No_frame, First, Seen, Outside}
-use Rattle.gb_cluster.specs.declared.answer.Halted.TheVariants.{Done as Halts, Refused as Ended}
-use Rattle.gb_cluster.specs.declared.answer.Sent.TheVariants.{Packet as Numbered, Nothing, Refused as Unsent}
-use Rattle.gb_cluster.specs.declared.answer.Taken.TheVariants.{Good as Accepted, Refused as Lost}
-use Rattle.gb_cluster.specs.declared.answer.Ticked.TheVariants.{Noticed, Refused as Untold}
-use Rattle.gb_cluster.specs.declared.event.Event.{Event}
-use Rattle.gb_cluster.specs.declared.event.Event.TheVariants.{At, Pack as PackEvent, Again as AgainEvent, Ack as AckEvent, Arrive as ArriveEvent, Tick as TickEvent, Stop as StopEvent}
+use Rattle.gb_record.specs.declared.answer.Answer.{Answer}
+use Rattle.gb_record.specs.declared.answer.Answer.TheVariants.{Reply as AnswerReply, Sent as AnswerSent, Taken as AnswerTaken, Ticked as AnswerTicked, Halted as AnswerHalted, NoPacket}
+use Rattle.gb_record.specs.declared.answer.Frame.{Frame}
+use Rattle.gb_record.specs.declared.answer.Frame.TheVariants.{Nothing as No_frame, First, Seen, Outside}
+use Rattle.gb_record.specs.declared.answer.Halted.TheVariants.{Done as HaltDone, Refused as HaltRefused}
+use Rattle.gb_record.specs.declared.answer.Sent.TheVariants.{Packet as SentPacket, Nothing, Refused as SentRefused}
+use Rattle.gb_record.specs.declared.answer.Taken.TheVariants.{Good as TakenGood, Refused as TakenRefused}
+use Rattle.gb_record.specs.declared.answer.Ticked.TheVariants.{Noticed, Refused as TickRefused}
+use Rattle.gb_record.specs.declared.event.Event.{Event}
+use Rattle.gb_record.specs.declared.event.Event.TheVariants.{At, Pack as PackEvent, Again as AgainEvent, Ack as AckEvent, Arrive as ArriveEvent, Tick as TickEvent, Stop as StopEvent}
 use Rattle.gb_schedule.specs.Grammar.{IsCommandLine, IsSilent}
 use Rattle.gb_schedule.specs.Lines.{ended}
 use Rattle.gb_schedule.specs.declared.command.Command.{Command}
@@ -44,16 +44,16 @@ noticed_words (b ∷ bs) = codes "noticed" ++ each_after_space (b ∷ bs)
 
 -- the text of an answer
 abbrev pub answer_spelling : Answer → List ℕ
-answer_spelling (Replied reply) = reply_spelling reply
-answer_spelling (Gave (Numbered k)) = codes "packet " ++ decimal k
-answer_spelling (Gave Nothing) = codes "nothing"
-answer_spelling (Gave (Unsent why)) = reply_spelling (Refused why)
-answer_spelling (Took_in (Accepted good)) = codes "good " ++ frame_word good.frame ++ codes " " ++ decimal good.items ++ codes " " ++ decimal good.done
-answer_spelling (Took_in (Lost why)) = reply_spelling (Refused why)
-answer_spelling (Ticked_so (Noticed found)) = noticed_words (rising found)
-answer_spelling (Ticked_so (Untold why)) = reply_spelling (Refused why)
-answer_spelling (Halted_so Halts) = codes "ok"
-answer_spelling (Halted_so (Ended why)) = reply_spelling (Refused why)
+answer_spelling (AnswerReply reply) = reply_spelling reply
+answer_spelling (AnswerSent (SentPacket k)) = codes "packet " ++ decimal k
+answer_spelling (AnswerSent Nothing) = codes "nothing"
+answer_spelling (AnswerSent (SentRefused why)) = reply_spelling (Refused why)
+answer_spelling (AnswerTaken (TakenGood good)) = codes "good " ++ frame_word good.frame ++ codes " " ++ decimal good.items ++ codes " " ++ decimal good.done
+answer_spelling (AnswerTaken (TakenRefused why)) = reply_spelling (Refused why)
+answer_spelling (AnswerTicked (Noticed found)) = noticed_words (rising found)
+answer_spelling (AnswerTicked (TickRefused why)) = reply_spelling (Refused why)
+answer_spelling (AnswerHalted HaltDone) = codes "ok"
+answer_spelling (AnswerHalted (HaltRefused why)) = reply_spelling (Refused why)
 answer_spelling NoPacket = codes "no packet"
 
 -- the line that says which line is bad

@@ -5,7 +5,7 @@ ghost use Rattle.gb_types.specs.ReplyText.{reply_spelling};
 ghost use Rattle.gb_schedule.specs.Lines.{ended};
 ghost use Rattle.gb_simulate.specs.Schedule.{answer_spelling, bad_line, each_after_space, frame_word, noticed_words};
 
-use gb_cluster::answer::{Answer, Frame, Good, Halted, Sent, Taken, Ticked};
+use gb_record::answer::{Answer, Frame, Good, Halted, Sent, Taken, Ticked};
 use gb_types::memory::OutOfMemory;
 use gb_types::node::NodeSet;
 use gb_types::number::put_number;

@@ -10,11 +10,11 @@ ghost use Rattle.gb_simulate.specs.Schedule.{Answers, Obeys, GoesOn, event_of, I
 use crate::answer_text::{put_answer, put_started};
 use crate::outcome::BadLine;
 use gb_cluster::cluster::Cluster;
-use gb_cluster::event::Event;
-use gb_cluster::plan::Plan;
+use gb_record::event::Event;
 use gb_schedule::command::Command;
 use gb_schedule::grammar::{is_silent, read_command};
 use gb_types::memory::OutOfMemory;
+use gb_types::plan::Plan;
 use std::alloc::Global;
 
 /// How many lines a schedule may have.

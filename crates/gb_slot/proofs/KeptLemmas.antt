@@ -5,7 +5,7 @@ use Rattle.std.proofs.lemmas.List.{take-append-le, drop-append-le, map-append}
 use Rattle.gb_types.specs.declared.message.MsgId.{MsgId}
 use Rattle.gb_types.specs.Message.{same}
 use Rattle.gb_slot.specs.declared.store.Kept.{Kept}
-use Rattle.gb_slot.specs.Messages.{has, payload_in}
+use Rattle.gb_history.specs.Messages.{has, payload_in}
 use Rattle.gb_slot.specs.Kept.{entry_of, entries_of, AreInside, found}
 
 pub has-entries_of : (bytes : List ℕ) (kept : List Kept) (m : MsgId) → has (entries_of bytes kept) m ≡ is_some (found kept m)

@@ -1,8 +1,6 @@
 pub mod CalledLemmas
-pub mod FallsLemmas
 pub mod HistoryLemmas
 pub mod KeptLemmas
-pub mod KnownLemmas
 pub mod NoticeLemmas
 pub mod PageLemmas
 pub mod RoomLemmas

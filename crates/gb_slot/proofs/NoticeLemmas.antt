@@ -19,9 +19,9 @@ use Rattle.gb_layer.specs.declared.call.Call.TheVariants.{Notice}
 use Rattle.gb_stack.specs.Kinds.{base_of, kind_log}
 use Rattle.gb_stack.specs.Stands.{is_other_noticed}
 use Rattle.gb_stack.proofs.StandsLemmas as stack
-use Rattle.gb_slot.specs.declared.history.GroupCall.TheVariants.{Crashed}
-use Rattle.gb_slot.specs.History.{calls_of, known, said_in}
-use Rattle.gb_slot.specs.Rules.{is_other}
+use Rattle.gb_history.specs.declared.call.GroupCall.TheVariants.{Crashed}
+use Rattle.gb_history.specs.History.{calls_of, known, said_in}
+use Rattle.gb_rules.specs.Group.{is_other}
 
 pub contains-inserted : (s : set.FinSet nat_cmp) (n m : ℕ) → set.contains (set.insert s n) m ≡ (nat_eq n m || set.contains s m)
 contains-inserted s n m =

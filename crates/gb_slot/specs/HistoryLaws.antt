@@ -10,13 +10,13 @@ use Rattle.gb_types.specs.declared.node.NodeId.{NodeId}
 use Rattle.gb_types.specs.declared.reply.Reply.{Reply}
 use Rattle.gb_types.specs.declared.reply.Reply.TheVariants.{Said}
 use Rattle.gb_types.specs.declared.spec.Spec.{Spec}
-use Rattle.gb_slot.specs.declared.history.GroupCall.{GroupCall}
-use Rattle.gb_slot.specs.declared.history.GroupCall.TheVariants.{Own, Other, Crashed}
-use Rattle.gb_slot.specs.History.{log_of, puts_of}
-use Rattle.gb_slot.specs.Rules.{is_other}
+use Rattle.gb_history.specs.declared.call.GroupCall.{GroupCall}
+use Rattle.gb_history.specs.declared.call.GroupCall.TheVariants.{Own, Other, Crashed}
+use Rattle.gb_history.specs.History.{log_of, puts_of, falls_after}
+use Rattle.gb_rules.specs.Group.{is_other}
 use Rattle.gb_slot.specs.Slot.{new_slot, shown, waiting, own_entry, slot_opened, slot_said, falls, slot_came, slot_noticed, slot_done, slot_took}
 use Rattle.gb_slot.specs.SlotState.{SlotState}
-use Rattle.gb_slot.specs.StandsFor.{StandsFor, falls_after, reaches}
+use Rattle.gb_slot.specs.StandsFor.{StandsFor, reaches}
 
 -- a slot that was just made, at a node that has noticed these, stands for the notices of the other members among them
 abbrev pub FreshStands : Type 0

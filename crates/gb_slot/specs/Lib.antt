@@ -1,11 +1,6 @@
-pub mod Messages
 pub mod StoreValue
 pub mod Kept
 pub mod SlotState
-pub mod Rules
-pub mod Replied
 pub mod Slot
-pub mod History
-pub mod KnownLaws
 pub mod StandsFor
 pub mod HistoryLaws

@@ -8,7 +8,7 @@ use Rattle.gb_types.specs.declared.node.NodeId.{NodeId}
 use Rattle.gb_types.specs.declared.spec.Spec.{Spec}
 use Rattle.gb_layer.specs.declared.effects.Up.{Up}
 use Rattle.gb_stack.specs.StackState.{StackState}
-use Rattle.gb_slot.specs.declared.phase.Phase.{Phase}
+use Rattle.gb_rules.specs.declared.phase.Phase.{Phase}
 
 -- one group at one node
 pub record SlotState : Type 0 where

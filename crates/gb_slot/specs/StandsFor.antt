@@ -10,16 +10,13 @@ use Rattle.gb_layer.specs.Machine.{mentions, was_noticed, came_from}
 use Rattle.gb_layer.specs.Modules.{IsLawful}
 use Rattle.gb_types.specs.declared.spec.Spec.{Spec}
 use Rattle.gb_stack.specs.Stands.{IsStackAfter}
-use Rattle.gb_slot.specs.declared.history.GroupCall.{GroupCall}
-use Rattle.gb_slot.specs.History.{calls_of, known, said_in, delivered}
-use Rattle.gb_slot.specs.Messages.{has}
-use Rattle.gb_slot.specs.Rules.{is_other, is_let_fall}
+use Rattle.gb_history.specs.declared.call.GroupCall.{GroupCall}
+use Rattle.gb_history.specs.History.{calls_of, known, said_in, delivered}
+use Rattle.gb_history.specs.Messages.{has}
+use Rattle.gb_rules.specs.Group.{is_other}
+use Rattle.gb_rules.specs.LetFall.{is_let_fall}
 use Rattle.gb_slot.specs.Slot.{taken_for, came_before}
 use Rattle.gb_slot.specs.SlotState.{SlotState}
-
--- an item that comes from a node is let fall, read from the history
-abbrev pub falls_after : Spec → ℕ → List GroupCall → ℕ → Entry → Bool
-falls_after spec me told from x = is_let_fall spec me from x (came_from me (calls_of told) from (message_of x)) (mentions (calls_of told) (message_of x))
 
 -- items are put out to the node
 abbrev pub reaches : SlotState → ℕ → Bool

@@ -1,19 +1,5 @@
-//! What a group is told at a node, and what a slot stands for.
+//! What a slot stands for.
 ghost use Rattle.gb_slot.specs.HistoryLaws.{FreshStands, OpenedStands, SaidStands, CameStands, NoticedStands, DoneStands, TookStands, LogIs, FallsIs, WaitingSaid, WaitingCame, WaitingNoticed, WaitingTook, WaitingElsewhere};
-
-use gb_types::entry::Entry;
-use gb_types::node::NodeId;
-
-/// What a group is told at a node, with what the message says.
-#[derive(Drop)]
-pub enum GroupCall {
-    /// The member says a message of its own.
-    Own(Entry),
-    /// A message comes from another node.
-    Other(NodeId, Entry),
-    /// Another member is noticed to have crashed.
-    Crashed(NodeId),
-}
 
 /// What a slot holds is, for every history that it stands for, what the group's broadcast makes of the history.
 pub fn stands()

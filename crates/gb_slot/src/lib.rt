@@ -6,7 +6,6 @@
 #![tactic(auto)]
 
 pub mod history;
-pub mod phase;
 pub mod slot;
 pub mod store;
 #[cfg(test)]

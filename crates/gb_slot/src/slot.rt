@@ -1,21 +1,24 @@
 //! One group at one node.
-ghost use Rattle.std.specs.Prelude.{◌≡◌, ◌+◌, ◌≤◌, ◌<◌, ◌&&◌, not, List, [], ◌∷◌, take, drop, map, slice_get, length, vec_len, Ok, Err, IfOk, OnOk, MatchOption, true, IsOkUnless};
+ghost use Rattle.std.specs.Prelude.{◌≡◌, ◌≢◌, OnErr, ◌+◌, ◌≤◌, ◌<◌, ◌&&◌, not, List, [], ◌∷◌, take, drop, map, slice_get, length, vec_len, Ok, Err, IfOk, OnOk, MatchOption, true, IsOkUnless};
 ghost use Rattle.std.specs.FinSet as set;
 ghost use Rattle.gb_types.specs.declared.entry.Entry.{Entry as EntryValue};
 ghost use Rattle.std.specs.List.{list_any};
 ghost use Rattle.gb_layer.specs.Machine.{is_up, messages};
-ghost use Rattle.gb_slot.specs.Messages.{entry_in};
-ghost use Rattle.gb_slot.specs.Replied.{done_reply, said_reply, log_reply, IsReply};
-ghost use Rattle.gb_slot.specs.Rules.{is_member, is_other, is_let_fall, open_answer, say_answer, fetch_answer};
+ghost use Rattle.gb_history.specs.Messages.{entry_in};
+ghost use Rattle.gb_rules.specs.Replied.{done_reply, said_reply, log_reply, IsReply};
+ghost use Rattle.gb_rules.specs.Group.{is_member, is_other, open_answer, say_answer, fetch_answer};
+ghost use Rattle.gb_rules.specs.LetFall.{is_let_fall};
 ghost use Rattle.gb_slot.specs.Slot.{came_before, with_acknowledgement};
 
-use crate::phase::Phase;
 use crate::store::Store;
 use gb_layer::effects::{Effects, Up};
 use gb_layer::layer::Layer;
+use gb_rules::group::{check_open, check_say, is_bad_place};
+use gb_rules::let_fall::is_let_fall;
+use gb_rules::phase::Phase;
 use gb_stack::stack::Stack;
 use gb_types::entry::Entry;
-use gb_types::limits::{FETCH, NODES, PAYLOAD};
+use gb_types::limits::NODES;
 use gb_types::memory::OutOfMemory;
 use gb_types::message::MsgId;
 use gb_types::node::{NodeId, NodeSet};
@@ -104,13 +107,9 @@ impl Slot {
         ensures state { self.new.state ≡ slot_opened (done_reply result) self.old.state }
         ensures room { (self.new.calls ≡ self.old.calls) × (self.new.bytes ≡ self.old.bytes) }
     {
-        match self.phase {
-            Phase::Made => {
-                self.phase = Phase::Opened;
-                Ok(())
-            }
-            Phase::Opened => Err(Refusal::WrongPhase),
-        }
+        check_open(self.phase)?;
+        self.phase = Phase::Opened;
+        Ok(())
     }
 
     /// Makes room, so that the next calls of `came` and `notice`, so many, with so many payload bytes in all,
@@ -133,14 +132,8 @@ impl Slot {
         ensures answer { IsReply (say_answer (shown self.old.state) payload.now) (said_reply result) }
         ensures state { self.new.state ≡ slot_said payload.now (said_reply result) self.old.state }
     {
-        if self.phase == Phase::Made {
-            return Err(Refusal::WrongPhase);
-        }
-        if payload.len() > PAYLOAD {
-            return Err(Refusal::TooLong);
-        }
-        if self.said >= self.spec.msgs {
-            return Err(Refusal::Budget);
+        if let Err(why) = check_say(&self.spec, self.phase, self.said, payload) {
+            return Err(why);
         }
         let room = self.ready(1, payload.len());
         if room.is_err() {
@@ -163,19 +156,6 @@ impl Slot {
         Ok(seq)
     }
 
-    /// Whether an item that came from a node is let fall.
-    fn lets_fall(&self, from: NodeId, m: MsgId, known: bool) -> bool
-        ensures { result ≡ is_let_fall self.now.state.spec self.now.state.me.number from.number (record { origin = m.origin; seq = m.seq; payload = [] }) (came_before self.now.state from.number m) known }
-    {
-        if !self.spec.members.contains(from) || !self.spec.members.contains(m.origin) {
-            return true;
-        }
-        if from == self.me || has_arrived(&self.arrivals, from, m) || m.seq == 0 {
-            return true;
-        }
-        u32::from(m.seq) > self.spec.msgs || (m.origin == self.me && !known)
-    }
-
     /// Takes an item that came from a node: it is let fall, or the broadcast takes it. Takes no memory.
     pub fn came(&mut self, from: NodeId, origin: NodeId, seq: u16, payload: &[u8])
         requires call { 1 ≤ self.old.calls }
@@ -186,7 +166,8 @@ impl Slot {
     {
         let m = MsgId { origin, seq };
         let known = self.store.contains(m);
-        if self.lets_fall(from, m, known) {
+        let before = has_arrived(&self.arrivals, from, m);
+        if is_let_fall(&self.spec, self.me, from, m, before, known) {
             return;
         }
         self.calls -= 1;
@@ -236,15 +217,21 @@ impl Slot {
     pub fn fetch(&self, from: u32, max: u32) -> Result<Vec<Entry>, Refusal>
         ensures { IsReply (fetch_answer (shown self.now.state) from max) (log_reply result) }
     {
-        let from = from as usize;
-        if from > self.effects.ups.len() || max > FETCH {
+        if is_bad_place(self.effects.ups.len(), from, max) {
             return Err(Refusal::BadPlace);
         }
-        let found = page(&self.effects.ups, from, max as usize);
+        let found = page(&self.effects.ups, from as usize, max as usize);
         match copies(self.alloc, &self.store, found) {
             Ok(entries) => Ok(entries),
             Err(_) => Err(Refusal::OutOfMemory),
         }
+    }
+
+    /// Whether the node is a member other than this one.
+    pub fn has_other(&self, node: NodeId) -> bool
+        ensures { result ≡ is_other self.now.state.spec self.now.state.me.number node.number }
+    {
+        self.spec.members.contains(node) && node != self.me
     }
 
     /// Whether items are put out to the node: it is another member, and was not noticed.
@@ -330,8 +317,12 @@ fn page(ups: &[Up], from: usize, most: usize) -> &[Up]
 
 /// The messages that came up, with their payloads.
 fn copies(alloc: Global, store: &Store, ups: &[Up]) -> Result<Vec<Entry>, OutOfMemory>
-    ensures { IfOk result (λ v. v.items ≡ map (entry_in store.now.entries) (messages ups.now)) }
+    ensures ok { IfOk result (λ v. v.items ≡ map (entry_in store.now.entries) (messages ups.now)) }
+    ensures lack { OnErr result (ups.now ≢ []) }
 {
+    if ups.is_empty() {
+        return Ok(Vec::new(alloc));
+    }
     let mut entries = Vec::with_capacity(alloc, ups.len())?;
     for up in ups {
         entries.push(store.entry(alloc, up.m)?)?;

@@ -1,6 +1,6 @@
 //! The messages that a slot knows, with their payloads. Each payload stands here once.
 ghost use Rattle.std.specs.Prelude.{◌≡◌, ◌+◌, ◌≤◌, ◌<◌, ◌-◌, ◌∷◌, ◌++◌, [], length, slice_range, vec_len, vec_capacity, IfOk, OnOk};
-ghost use Rattle.gb_slot.specs.Messages.{has, payload_in, entry_in};
+ghost use Rattle.gb_history.specs.Messages.{has, payload_in, entry_in};
 ghost use Rattle.gb_slot.specs.Kept.{found, entries_of, AreInside};
 
 use gb_types::entry::Entry;

@@ -98,6 +98,19 @@ impl Entries {
     }
 }
 
+impl Entries {
+    /// These entries, copied.
+    pub fn from_slice(alloc: Global, entries: &[Entry]) -> Result<Entries, OutOfMemory>
+        ensures { IfOk result (λ e. e ≡ entries.now) }
+    {
+        let mut copied = Entries::new(alloc);
+        for entry in entries {
+            copied.push(entry.duplicate(alloc)?)?;
+        }
+        Ok(copied)
+    }
+}
+
 impl From<Vec<Entry>> for Entries {
     ghost from_gives = { λ v e. e ≡ v.items };
 

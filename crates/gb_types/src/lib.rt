@@ -17,6 +17,7 @@ pub mod nodes;
 pub mod number;
 pub mod payload;
 pub mod payload_word;
+pub mod plan;
 pub mod refusal;
 pub mod reply;
 pub mod reply_text;

@@ -38,3 +38,14 @@ pub const FETCH: u32 = 16;
 
 /// How many groups all tenants of a node may reserve at most.
 pub const PLACES: u16 = 4_096;
+
+// Definitions cite these values.
+const _: () = prove!(NODES == 16 && GROUPS == 256 && PLACES == 4_096);
+
+const _: () = prove!(MESSAGES == 1_024 && BYTES == 65_536 && WINDOW == 1_024 && FETCH == 16);
+
+const _: () = prove!(PAYLOAD == 1_024 && PACKET == 8_192);
+
+const _: () = prove!(LINK_WINDOW == 64 && LAST_FRAME == 18_446_744_073_709_551_614);
+
+const _: () = prove!(SILENCE_MIN == 2 && SILENCE_MAX == 1_000);

@@ -1,7 +1,6 @@
-use Rattle.std.proofs.Common.{arith, ◌≡◌, ◌-◌, Some}
+use Rattle.std.proofs.Common.{arith, ◌≡◌, ◌-◌, Some, refl}
 use Rattle.std.specs.Prelude.{slice_get}
 use Rattle.std.proofs.lemmas.Option.{slice_get_read}
-use Rattle.std.proofs.Common.{refl}
 use Rattle.gb_cluster.proofs.ActingLemmas.{undelivered_past, delivered}
 use Rattle.gb_cluster.proofs.cluster.deliver.Goals as goal
 
@@ -13,7 +12,7 @@ index_mut-node-requires c =
     let found = c.in-Some.ensures.lookup in
     let at : slice_get c.args.packets.now (c.args.k - 1) ≡ Some c.in-Some.packet.now = slice_get_read c.args.packets.now _ (c.args.k - 1) c.in-Some.packet.now refl found.3.0 found.1 in
     let ends = c.requires (c.args.k - 1) c.in-Some.packet.now at in
-    omega (arith, ends.1, c.index.ensures.value)
+    omega (arith, ends, c.index.ensures.value)
 
 pub returns : goal.returns
 returns c =
@@ -21,4 +20,4 @@ returns c =
     let at : slice_get c.args.packets.now (c.args.k - 1) ≡ Some c.in-Some.packet.now = slice_get_read c.args.packets.now _ (c.args.k - 1) c.in-Some.packet.now refl found.3.0 found.1 in
     let ends = c.requires (c.args.k - 1) c.in-Some.packet.now at in
     delivered c.args.nodes.now.items c.args.packets.now c.args.k c.in-Some.packet.now c.index.result _ c.index_mut-node.result.now c.hand_in.new.node c.if-k-eq0.false at c.index.ensures.value
-    (omega (arith, ends.1, c.index.ensures.value)) c.index_mut-node.ensures.value (c.hand_in.ensures c.args.k c.args.packets.now)
+    (omega (arith, ends, c.index.ensures.value)) c.index_mut-node.ensures.value (c.hand_in.ensures c.args.k c.args.packets.now)

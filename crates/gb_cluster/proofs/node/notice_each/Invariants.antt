@@ -1,6 +1,6 @@
 use Rattle.std.proofs.Common.{◌≡◌, ◌≤◌, length}
 use Rattle.gb_types.specs.Rising.{rising}
-use Rattle.gb_cluster.specs.World.{slot_noticed_all}
+use Rattle.gb_cluster.specs.NodeStep.{slot_noticed_all}
 use Rattle.gb_cluster.proofs.node.notice_each.Given as goal
 
 abbrev pub invariant-loop-node : goal.invariant-loop-node

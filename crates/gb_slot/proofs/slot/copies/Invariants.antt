@@ -1,7 +1,7 @@
 use Rattle.std.proofs.Common.{◌≡◌, take}
 use Rattle.std.specs.Prelude.{map}
 use Rattle.gb_layer.specs.Machine.{messages}
-use Rattle.gb_slot.specs.Messages.{entry_in}
+use Rattle.gb_history.specs.Messages.{entry_in}
 use Rattle.gb_slot.proofs.slot.copies.Given as goal
 
 abbrev pub invariant-loop-up : goal.invariant-loop-up

@@ -1,5 +1,5 @@
 use Rattle.std.proofs.Common.{take}
-use Rattle.gb_cluster.specs.Trace.{IsRun}
+use Rattle.gb_cluster.specs.Runs.{IsRun}
 use Rattle.gb_cluster.proofs.cluster.Cluster.run.Given as goal
 
 abbrev pub invariant-loop-event : goal.invariant-loop-event

@@ -1,6 +1,6 @@
 use Rattle.std.proofs.Common.{◌≡◌, map}
 use Rattle.std.specs.List.{range_with_len}
-use Rattle.gb_cluster.specs.World.{new_node}
+use Rattle.gb_cluster.specs.NodeStep.{new_node}
 use Rattle.gb_cluster.proofs.cluster.Cluster.start.Given as goal
 
 abbrev pub invariant-loop-number : goal.invariant-loop-number

@@ -1,7 +1,7 @@
 use Rattle.std.proofs.Common.{sym, ◌∙◌, ap, List}
 use Rattle.std.specs.Prelude.{slice_get, slice_index_or}
 use Rattle.gb_types.specs.declared.message.MsgId.{MsgId}
-use Rattle.gb_slot.specs.Messages.{payload_in}
+use Rattle.gb_history.specs.Messages.{payload_in}
 use Rattle.gb_slot.specs.SlotState.{SlotValue}
 use Rattle.gb_slot.specs.Slot.{taken_for}
 use Rattle.gb_slot.proofs.SlotLemmas.{waiting-at, waiting-none}

@@ -1,0 +1,108 @@
+-- What a node was told to say is what was accepted there.
+use Rattle.std.proofs.Common.{◌≡◌, ℕ, ◌+◌, ◌-◌, Bool, true, false, nat_eq, List, [], ◌∷◌, ◌++◌, length, Option, Some, None, refl, sym, ap, ◌∙◌, subst, length-append}
+use Rattle.std.specs.Prelude.{slice_get, nat_lt, nat_le, if◌then◌else◌}
+use Rattle.std.proofs.lemmas.Bool.{eqb-true}
+use Rattle.std.proofs.lemmas.List.{append-nil, append_assoc}
+use Rattle.gb_types.specs.declared.entry.Entry.{Entry}
+use Rattle.gb_types.specs.declared.node.NodeId.{NodeId}
+use Rattle.gb_types.specs.declared.limits.TheConstants.{PAYLOAD}
+use Rattle.gb_types.specs.declared.refusal.Refusal.TheVariants.{TooLong, Budget, Stopped}
+use Rattle.gb_types.specs.declared.reply.Reply.{Reply}
+use Rattle.gb_types.specs.declared.reply.Reply.TheVariants.{Done, Said, Refused}
+use Rattle.gb_types.specs.declared.spec.Spec.{Spec}
+use Rattle.gb_history.specs.History.{said_in, log_of}
+use Rattle.gb_rules.specs.Group.{is_other, say_answer, on_made}
+use Rattle.gb_history.specs.declared.call.GroupCall.{GroupCall}
+use Rattle.gb_history.specs.declared.call.GroupCall.TheVariants.{Own, Other, Crashed}
+use Rattle.gb_rules.specs.declared.phase.Phase.{Phase}
+use Rattle.gb_rules.specs.declared.phase.Phase.TheVariants.{Made, Opened}
+use Rattle.gb_alone.specs.Alone.{Member, Group, reply_to, shown_of, called, did, falls, taken_in, cut, took_notice, member_after, after, nobody, alone_from, alone}
+use Rattle.gb_alone.specs.Laws.{Accepted, accepted_in, accepted_at, accepted_from, accepted}
+use Rattle.gb_rules.specs.Tenant.{by_tenant}
+use Rattle.gb_alone.specs.declared.event.GroupEvent.{GroupEvent}
+use Rattle.gb_alone.specs.declared.event.GroupEvent.TheVariants.{Tenant, Make as AskMake, Open as AskOpen, Say as AskSay, Took, Came, Done as Acknowledged, Notice, Stop}
+use Rattle.gb_alone.specs.declared.event.GroupStep.{GroupStep}
+use Rattle.gb_rules.specs.declared.reserve.Reserve.{Reserve}
+
+-- what was said here, in order
+unfoldable pub own_said : List GroupCall → List Accepted
+own_said [] = []
+own_said (Own x ∷ told) = own_said told ++ record { seq = x.seq; payload = x.payload } ∷ []
+own_said (Other p x ∷ told) = own_said told
+own_said (Crashed q ∷ told) = own_said told
+
+pub length-own_said : (told : List GroupCall) → length (own_said told) ≡ said_in told
+unfolding own_said said_in
+length-own_said [] = refl
+length-own_said (Own x ∷ told) = length-append (own_said told) (record { seq = x.seq; payload = x.payload } ∷ []) ∙ ap (λ n. n + 1) (length-own_said told)
+length-own_said (Other p x ∷ told) = length-own_said told
+length-own_said (Crashed q ∷ told) = length-own_said told
+
+-- an accepted message has the next number
+pub next_said : (me : ℕ) (m : Member) (payload : List ℕ) (seq : ℕ) (nodes number : ℕ) → reply_to nodes number me (AskSay payload) m ≡ Said seq → seq ≡ said_in m.told + 1
+next_said me m payload seq nodes number = running m.stopped
+  where
+    admitted : (long many : Bool) → (if long then Refused TooLong else (if many then Refused Budget else Said (said_in m.told + 1))) ≡ Said seq → seq ≡ said_in m.told + 1
+    admitted true many h = cc
+    admitted false true h = cc
+    admitted false false h = cc
+
+    answered : (spec : Spec) (phase : Phase) (log : List Entry) → say_answer (record { spec = spec; phase = phase; said = said_in m.told; log = log }) payload ≡ Said seq → seq ≡ said_in m.told + 1
+    answered spec Made log h = cc
+    answered spec Opened log h = admitted (nat_lt PAYLOAD (length payload)) (nat_le spec.msgs (said_in m.told)) h
+
+    by : (reserve : Option Reserve) (spec : Option Spec) → by_tenant (λ _. on_made (λ s. say_answer s payload) (shown_of me m.phase m.told spec)) reserve ≡ Said seq → seq ≡ said_in m.told + 1
+    by None spec h = cc
+    by (Some reserve) None h = cc
+    by (Some reserve) (Some spec) h = answered spec m.phase (log_of spec me m.told) h
+
+    running : (stopped : Bool) → (if stopped then Refused Stopped else by_tenant (λ _. on_made (λ s. say_answer s payload) (shown_of me m.phase m.told m.spec)) m.reserve) ≡ Said seq → seq ≡ said_in m.told + 1
+    running true h = cc
+    running false h = by m.reserve m.spec h
+
+did_said : (me : NodeId) (event : GroupEvent) (reply : Reply) (m : Member) → own_said (did me event reply m).told ≡ own_said m.told ++ accepted_in event reply
+unfolding own_said
+did_said me (AskMake spec) Done m = sym (append-nil (own_said m.told))
+did_said me AskOpen Done m = sym (append-nil (own_said m.told))
+did_said me (AskSay payload) (Said seq) m = refl
+did_said me event reply m = sym (append-nil (own_said m.told))
+
+taken_said : (me : ℕ) (from : NodeId) (place : ℕ) (o : Option Entry) (m : Member) → own_said (taken_in me from place o m).told ≡ own_said m.told
+unfolding own_said
+taken_said me from place None m = refl
+taken_said me from place (Some x) m = elim (falls me from.number x m.told m.spec) as (λ b. own_said (if b then m else called me (Other from x) m).told ≡ own_said m.told) [ true ↦ refl | false ↦ refl ]
+
+noticed_said : (me : ℕ) (q : NodeId) (o : Option Spec) (m : Member) → own_said (took_notice me q o m).told ≡ own_said m.told
+unfolding own_said
+noticed_said me q None m = refl
+noticed_said me q (Some spec) m = elim (is_other spec me q.number) as (λ b. own_said (if b then called me (Crashed q) (cut q m) else m).told ≡ own_said m.told) [ true ↦ refl | false ↦ refl ]
+
+pub event_said : (nodes number : ℕ) (me : NodeId) (event : GroupEvent) (group : Group)
+    → own_said (member_after nodes number me event group).told ≡ own_said (group me.number).told ++ accepted_in event (reply_to nodes number me.number event (group me.number))
+event_said nodes number me (Tenant reserve) group = sym (append-nil (own_said (group me.number).told))
+event_said nodes number me (Took b count) group = sym (append-nil (own_said (group me.number).told))
+event_said nodes number me (Came from place) group = taken_said me.number from place (slice_get ((group from.number).put me.number) (place - 1)) (group me.number) ∙ sym (append-nil (own_said (group me.number).told))
+event_said nodes number me (Acknowledged b place count) group = sym (append-nil (own_said (group me.number).told))
+event_said nodes number me (Notice q) group = noticed_said me.number q (group me.number).spec (group me.number) ∙ sym (append-nil (own_said (group me.number).told))
+event_said nodes number me Stop group = sym (append-nil (own_said (group me.number).told))
+event_said nodes number me event group = did_said me event (reply_to nodes number me.number event (group me.number)) (group me.number)
+
+pub step_said : (nodes number : ℕ) (group : Group) (step : GroupStep) (s : ℕ) → own_said (after nodes number group step s).told ≡ own_said (group s).told ++ accepted_at nodes number group step s
+unfolding after
+step_said nodes number group step s = go (nat_eq s step.node.number) refl
+  where
+    go : (b : Bool) → nat_eq s step.node.number ≡ b → own_said (if b then member_after nodes number step.node step.event group else group s).told ≡ own_said (group s).told ++ (if b then accepted_in step.event (reply_to nodes number s step.event (group s)) else [])
+    go true here = subst (λ y. own_said (member_after nodes number step.node step.event group).told ≡ own_said (group y).told ++ accepted_in step.event (reply_to nodes number y step.event (group y))) (sym (eqb-true s step.node.number here)) (event_said nodes number step.node step.event group)
+    go false here = sym (append-nil (own_said (group s).told))
+
+run_said : (nodes number s : ℕ) (steps : List GroupStep) (group : Group) → own_said (alone_from nodes number group steps s).told ≡ own_said (group s).told ++ accepted_from nodes number group steps s
+unfolding accepted_from
+run_said nodes number s [] group = sym (append-nil (own_said (group s).told))
+run_said nodes number s (step ∷ steps) group =
+    run_said nodes number s steps (after nodes number group step)
+    ∙ (ap (λ ps. ps ++ accepted_from nodes number (after nodes number group step) steps s) (step_said nodes number group step s)
+    ∙ append_assoc (own_said (group s).told) (accepted_at nodes number group step s) (accepted_from nodes number (after nodes number group step) steps s))
+
+pub alone_said : (nodes number s : ℕ) (steps : List GroupStep) → own_said (alone nodes number steps s).told ≡ accepted nodes number steps s
+unfolding own_said
+alone_said nodes number s steps = run_said nodes number s steps nobody

@@ -1,0 +1,116 @@
+-- Only nodes of the cluster make groups, and so only they say messages.
+use Rattle.std.proofs.Common.{◌≡◌, ℕ, ◌-◌, ◌≤◌, ◌<◌, Bool, true, false, not, ◌||◌, nat_eq, List, [], ◌∷◌, ◌++◌, Option, Some, None, refl, sym, ap, ◌∙◌, subst, arith}
+use Rattle.std.specs.Prelude.{slice_get, is_some, nat_lt, nat_le, if◌then◌else◌}
+use Rattle.std.specs.List.{list_all}
+use Rattle.std.specs.FinSet as set
+use Rattle.std.proofs.lemmas.Bool.{eqb-true}
+use Rattle.std.proofs.lemmas.Bool.Decides.{nat_tests}
+use Rattle.gb_types.specs.declared.entry.Entry.{Entry}
+use Rattle.gb_types.specs.declared.node.NodeId.{NodeId}
+use Rattle.gb_types.specs.declared.refusal.Refusal.TheVariants.{NoGroup, Spent, BadMembers, OverReserve, Stopped}
+use Rattle.gb_types.specs.declared.reply.Reply.{Reply}
+use Rattle.gb_types.specs.declared.reply.Reply.TheVariants.{Done, Said, Refused}
+use Rattle.gb_types.specs.declared.spec.Spec.{Spec}
+use Rattle.gb_types.proofs.CoverLemmas.{not_all_members}
+use Rattle.gb_rules.specs.Group.{say_answer, is_member, is_other, on_made}
+use Rattle.gb_history.specs.declared.call.GroupCall.TheVariants.{Other, Crashed}
+use Rattle.gb_alone.specs.Alone.{Member, Group, reply_to, shown_of, called, did, falls, taken_in, cut, took_notice, member_after, after}
+use Rattle.gb_alone.specs.Laws.{Accepted, accepted_in, accepted_at, accepted_from}
+use Rattle.gb_rules.specs.Tenant.{is_bad, is_over, make_answer, by_tenant}
+use Rattle.gb_alone.specs.declared.event.GroupEvent.{GroupEvent}
+use Rattle.gb_alone.specs.declared.event.GroupEvent.TheVariants.{Tenant, Make as AskMake, Open as AskOpen, Say as AskSay, Took, Came, Done as Acknowledged, Notice, Stop}
+use Rattle.gb_alone.specs.declared.event.GroupStep.{GroupStep}
+use Rattle.gb_rules.specs.declared.reserve.Reserve.{Reserve}
+
+make_inside : (nodes number me : ℕ) (spec : Spec) (m : Member) → reply_to nodes number me (AskMake spec) m ≡ Done → me < nodes
+make_inside nodes number me spec m = running m.stopped
+  where
+    fine : (x y : Bool) → (not x || not y) ≡ false → (x ≡ true) × (y ≡ true)
+    fine true true h = (refl, refl)
+    fine true false h = absurd (cc)
+    fine false y h = absurd (cc)
+
+    inside : (b : Bool) → nat_lt me nodes ≡ b → is_bad nodes me spec ≡ false → me < nodes
+    inside true e good = grind (arith, nat_tests)
+    inside false e good =
+        let parts = fine (is_member spec me) (list_all (λ b. nat_lt b nodes) (set.items spec.members)) good in
+        let none : list_all (λ b. nat_lt b nodes) (set.items spec.members) ≡ false = not_all_members (λ b. nat_lt b nodes) spec.members me parts.0 e in
+        let yes : list_all (λ b. nat_lt b nodes) (set.items spec.members) ≡ true = parts.1 in
+        absurd (cc)
+
+    admitted : (a b c d : Bool) → is_bad nodes me spec ≡ c → (if a then Refused NoGroup else (if b then Refused Spent else (if c then Refused BadMembers else (if d then Refused OverReserve else Done)))) ≡ Done → me < nodes
+    admitted true b c d good h = cc
+    admitted false true c d good h = cc
+    admitted false false true d good h = cc
+    admitted false false false true good h = cc
+    admitted false false false false good h = inside (nat_lt me nodes) refl good
+
+    by : (reserve : Option Reserve) → by_tenant (make_answer nodes me number (is_some m.spec) spec) reserve ≡ Done → me < nodes
+    by None h = cc
+    by (Some reserve) h = admitted (nat_le reserve.groups number) (is_some m.spec) (is_bad nodes me spec) (is_over reserve spec) refl h
+
+    running : (stopped : Bool) → (if stopped then Refused Stopped else by_tenant (make_answer nodes me number (is_some m.spec) spec) m.reserve) ≡ Done → me < nodes
+    running true h = cc
+    running false h = by m.reserve h
+
+-- a group that was made there is at a node of the cluster
+abbrev pub IsInside : ℕ → ℕ → Member → Type 0
+IsInside nodes a m = (spec : Spec) → m.spec ≡ Some spec → a < nodes
+
+did_inside : (nodes number : ℕ) (me : NodeId) (event : GroupEvent) (reply : Reply) (m : Member) → reply_to nodes number me.number event m ≡ reply → IsInside nodes me.number m → IsInside nodes me.number (did me event reply m)
+did_inside nodes number me (AskMake spec) Done m e old = λ s is. make_inside nodes number me.number spec m e
+did_inside nodes number me AskOpen Done m e old = old
+did_inside nodes number me (AskSay payload) (Said seq) m e old = old
+did_inside nodes number me event reply m e old = old
+
+taken_inside : (nodes me : ℕ) (from : NodeId) (place : ℕ) (o : Option Entry) (m : Member) → IsInside nodes me m → IsInside nodes me (taken_in me from place o m)
+taken_inside nodes me from place None m old = old
+taken_inside nodes me from place (Some x) m old = elim (falls me from.number x m.told m.spec) as (λ b. (spec : Spec) → (if b then m else called me (Other from x) m).spec ≡ Some spec → me < nodes) [ true ↦ old | false ↦ old ]
+
+noticed_inside : (nodes me : ℕ) (q : NodeId) (o : Option Spec) (m : Member) → IsInside nodes me m → IsInside nodes me (took_notice me q o m)
+noticed_inside nodes me q None m old = old
+noticed_inside nodes me q (Some made) m old = elim (is_other made me q.number) as (λ b. (spec : Spec) → (if b then called me (Crashed q) (cut q m) else m).spec ≡ Some spec → me < nodes) [ true ↦ old | false ↦ old ]
+
+event_inside : (nodes number : ℕ) (me : NodeId) (event : GroupEvent) (group : Group) → IsInside nodes me.number (group me.number) → IsInside nodes me.number (member_after nodes number me event group)
+event_inside nodes number me (Tenant reserve) group old = old
+event_inside nodes number me (Took b count) group old = old
+event_inside nodes number me (Came from place) group old = taken_inside nodes me.number from place (slice_get ((group from.number).put me.number) (place - 1)) (group me.number) old
+event_inside nodes number me (Acknowledged b place count) group old = old
+event_inside nodes number me (Notice q) group old = noticed_inside nodes me.number q (group me.number).spec (group me.number) old
+event_inside nodes number me Stop group old = old
+event_inside nodes number me event group old = did_inside nodes number me event (reply_to nodes number me.number event (group me.number)) (group me.number) refl old
+
+abbrev pub AllInside : ℕ → Group → Type 0
+AllInside nodes group = (a : ℕ) → IsInside nodes a (group a)
+
+step_inside : (nodes number : ℕ) (group : Group) (step : GroupStep) → AllInside nodes group → AllInside nodes (after nodes number group step)
+unfolding after
+step_inside nodes number group step all x = go (nat_eq x step.node.number) refl
+  where
+    go : (b : Bool) → nat_eq x step.node.number ≡ b → IsInside nodes x (if b then member_after nodes number step.node step.event group else group x)
+    go true here = subst (λ y. IsInside nodes y (member_after nodes number step.node step.event group)) (sym (eqb-true x step.node.number here)) (event_inside nodes number step.node step.event group (all step.node.number))
+    go false here = all x
+
+-- and so nothing is accepted elsewhere
+refused_beyond : (nodes number s : ℕ) (event : GroupEvent) (m : Member) → nodes ≤ s → IsInside nodes s m → accepted_in event (reply_to nodes number s event m) ≡ []
+refused_beyond nodes number s (AskSay payload) m beyond inside = running m.stopped
+  where
+    by : (reserve : Option Reserve) (o : Option Spec) → m.spec ≡ o → accepted_in (AskSay payload) (by_tenant (λ _. on_made (λ x. say_answer x payload) (shown_of s m.phase m.told o)) reserve) ≡ []
+    by None o is = refl
+    by (Some reserve) None is = refl
+    by (Some reserve) (Some spec) is = let low : s < nodes = inside spec is in absurd (omega arith)
+
+    running : (stopped : Bool) → accepted_in (AskSay payload) (if stopped then Refused Stopped else by_tenant (λ _. on_made (λ x. say_answer x payload) (shown_of s m.phase m.told m.spec)) m.reserve) ≡ []
+    running true = refl
+    running false = by m.reserve m.spec refl
+refused_beyond nodes number s event m beyond inside = refl
+
+pub none_beyond : (nodes number s : ℕ) → nodes ≤ s → (steps : List GroupStep) (group : Group) → AllInside nodes group → accepted_from nodes number group steps s ≡ []
+unfolding accepted_from
+none_beyond nodes number s beyond [] group all = refl
+none_beyond nodes number s beyond (step ∷ steps) group all =
+    let first : accepted_at nodes number group step s ≡ [] = elim (nat_eq s step.node.number) as (λ b. (if b then accepted_in step.event (reply_to nodes number s step.event (group s)) else []) ≡ []) [
+      | true ↦ refused_beyond nodes number s step.event (group s) beyond (all s)
+      | false ↦ refl
+    ] in
+    ap (λ ps. ps ++ accepted_from nodes number (after nodes number group step) steps s) first ∙ none_beyond nodes number s beyond steps (after nodes number group step) (step_inside nodes number group step all)

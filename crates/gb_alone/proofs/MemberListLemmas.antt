@@ -1,0 +1,297 @@
+-- The plain program's lists stand for the group alone.
+use Rattle.std.proofs.Common.{◌≡◌, ℕ, zero, suc, ◌+◌, ◌-◌, ◌<◌, ◌≤◌, ◌⊎◌, inl, inr, List, [], ◌∷◌, ◌++◌, length, take, get_or, nat_eq, Bool, true, false, not, ◌&&◌, ◌∙◌, ap, sym, subst, refl, arith, length-append}
+use Rattle.std.specs.Prelude.{map, fold, replicate, slice_get, slice_index_or, slice_set, Option, Some, None, is_some, if◌then◌else◌}
+use Rattle.std.specs.FinSet as set
+use Rattle.std.proofs.lemmas.List.{get_or-replicate, get_or-set_same, get_or-set_other, get_or_append_left, length-set, length-map, map-append, take_more}
+use Rattle.std.proofs.lemmas.List.Sums.{fold-append}
+use Rattle.std.proofs.Math.Seq.{get_or-append_seam, take-nil}
+use Rattle.std.proofs.lemmas.Bool.{cases_lt}
+use Rattle.std.proofs.lemmas.Bool.Decides.{eqb_tells}
+use Rattle.gb_types.specs.declared.entry.Entry.{Entry}
+use Rattle.gb_types.specs.declared.limits.TheConstants.{NODES}
+use Rattle.gb_types.specs.declared.node.NodeId.{NodeId}
+use Rattle.gb_types.specs.declared.reply.Reply.{Reply}
+use Rattle.gb_types.specs.declared.refusal.Refusal.TheVariants.{Stopped}
+use Rattle.gb_types.specs.declared.reply.Reply.TheVariants.{Done, Said, Refused}
+use Rattle.gb_types.specs.declared.spec.Spec.{Spec}
+use Rattle.gb_stack.specs.Kinds.{kind_log}
+use Rattle.gb_stack.proofs.DeliveryLemmas.{same_members}
+use Rattle.gb_types.specs.Rising.{rising, AreNodes}
+use Rattle.gb_types.proofs.AllMemberLemmas.{all_rising}
+use Rattle.gb_history.specs.History.{puts_of, log_of, calls_of, known}
+use Rattle.gb_history.specs.Messages.{entry_in}
+use Rattle.gb_rules.specs.Group.{Shown, is_other, open_answer, say_answer, fetch_answer, on_made}
+use Rattle.gb_history.specs.declared.call.GroupCall.{GroupCall}
+use Rattle.gb_layer.specs.Machine.{was_noticed}
+use Rattle.gb_history.specs.declared.call.GroupCall.TheVariants.{Own, Other, Crashed}
+use Rattle.gb_rules.specs.declared.phase.Phase.{Phase}
+use Rattle.gb_alone.specs.Alone.{Member, Group, shown, shown_of, running_reply, reply_to, cut, took_notice, put_to, called, did, commanded, falls, item_came, taken_in, member_after, after, nobody, alone, alone_from}
+use Rattle.gb_alone.specs.MemberLists.{MemberValue, new_member, member_of, row_with, rows_with, value_called, value_did, value_commanded, value_came, value_taken_in, value_took, value_cut, value_noticed, value_at, value_after, values_after, IsListed, AreListed}
+use Rattle.gb_alone.specs.Observation.{numbers_below}
+use Rattle.gb_rules.specs.Tenant.{make_answer, by_tenant}
+use Rattle.gb_alone.specs.declared.event.GroupEvent.{GroupEvent}
+use Rattle.gb_alone.specs.declared.event.GroupEvent.TheVariants.{Tenant, Make as AskMake, Open as AskOpen, Say as AskSay, Fetch as AskFetch, Took, Came, Done as Acknowledged, Notice, Stop}
+use Rattle.gb_alone.specs.declared.event.GroupStep.{GroupStep}
+use Rattle.gb_rules.specs.declared.reserve.Reserve.{Reserve}
+
+-- An item of a list over numbers.
+
+length_numbers_below : (n : ℕ) → length (numbers_below n) ≡ n
+unfolding numbers_below
+length_numbers_below zero = refl
+length_numbers_below (suc n) = omega (arith, length-append (numbers_below n) (n ∷ []), length_numbers_below n)
+
+get_numbers_below : {X : Type 0} (f : ℕ → X) (n b : ℕ) (d : X) → b < n → get_or (map f (numbers_below n)) b d ≡ f b
+unfolding numbers_below
+get_numbers_below f zero b d lt = absurd (omega arith)
+get_numbers_below f (suc n) b d lt =
+    let len : length (map f (numbers_below n)) ≡ n = length-map (numbers_below n) f ∙ length_numbers_below n in
+    ap (λ xs. get_or xs b d) (map-append f (numbers_below n) (n ∷ [])) ∙ elim (eqb_tells b n) [
+      | inl p ↦ ap (λ k. get_or (map f (numbers_below n) ++ f n ∷ []) k d) (p.1 ∙ sym len) ∙ (get_or-append_seam (map f (numbers_below n)) (f n) [] d ∙ ap f (sym p.1))
+      | inr p ↦ get_or_append_left (map f (numbers_below n)) (f n ∷ []) d b (omega (arith, len, p.1)) ∙ get_numbers_below f n b d (omega (arith, p.1))
+    ]
+
+-- Counts.
+
+took_at : (x b count : ℕ) (t : ℕ → ℕ) (taken : List ℕ) → b < length taken → get_or taken b 0 ≡ t b → get_or taken x 0 ≡ t x
+    → get_or (slice_set taken b (get_or taken b 0 + count)) x 0 ≡ (if nat_eq x b then t x + count else t x)
+took_at x b count t taken lt here there = elim (eqb_tells x b) [
+  | inl p ↦
+      ap (λ k. get_or (slice_set taken b (get_or taken b 0 + count)) k 0) p.1
+      ∙ (get_or-set_same taken b (get_or taken b 0 + count) 0 lt
+      ∙ (ap (λ k. k + count) here
+      ∙ (ap (λ k. t k + count) (sym p.1)
+      ∙ ap (λ (e : Bool). if e then t x + count else t x) (sym p.0))))
+  | inr p ↦
+      get_or-set_other taken b x (get_or taken b 0 + count) 0 p.1
+      ∙ (there ∙ ap (λ (e : Bool). if e then t x + count else t x) (sym p.0))
+]
+
+-- The member after each change.
+
+shown_listed : (me : ℕ) (v : MemberValue) (m : Member) → IsListed v m → shown me (member_of v) ≡ shown me m
+shown_listed me v m h =
+    ap (λ (p : Phase). shown_of me p v.told v.spec) h.phase
+    ∙ (ap (λ (t : List GroupCall). shown_of me m.phase t v.spec) h.told ∙ ap (λ (s : Option Spec). shown_of me m.phase m.told s) h.spec)
+
+by_both : (answer : Shown → Reply) (r r' : Option Reserve) (s s' : Option Shown) → r ≡ r' → s ≡ s' → by_tenant (λ _. on_made answer s) r ≡ by_tenant (λ _. on_made answer s') r'
+by_both answer r r' s s' e f = ap (λ (x : Option Reserve). by_tenant (λ _. on_made answer s) x) e ∙ ap (λ (x : Option Shown). by_tenant (λ _. on_made answer x) r') f
+
+running_listed : (nodes number me : ℕ) (event : GroupEvent) (v : MemberValue) (m : Member) → IsListed v m → running_reply nodes number me event (member_of v) ≡ running_reply nodes number me event m
+running_listed nodes number me (AskMake spec) v m h =
+    ap (λ (r : Option Reserve). by_tenant (make_answer nodes me number (is_some v.spec) spec) r) h.reserve
+    ∙ ap (λ (s : Option Spec). by_tenant (make_answer nodes me number (is_some s) spec) m.reserve) h.spec
+running_listed nodes number me AskOpen v m h = by_both open_answer v.reserve m.reserve (shown me (member_of v)) (shown me m) h.reserve (shown_listed me v m h)
+running_listed nodes number me (AskSay payload) v m h = by_both (λ s. say_answer s payload) v.reserve m.reserve (shown me (member_of v)) (shown me m) h.reserve (shown_listed me v m h)
+running_listed nodes number me (AskFetch from most) v m h = by_both (λ s. fetch_answer s from most) v.reserve m.reserve (shown me (member_of v)) (shown me m) h.reserve (shown_listed me v m h)
+running_listed nodes number me event v m h = refl
+
+reply_listed : (nodes number me : ℕ) (event : GroupEvent) (v : MemberValue) (m : Member) → IsListed v m → reply_to nodes number me event (member_of v) ≡ reply_to nodes number me event m
+reply_listed nodes number me event v m h =
+    ap (λ (b : Bool). if b then Refused Stopped else running_reply nodes number me event (member_of v)) h.stopped
+    ∙ ap (λ (r : Reply). if m.stopped then Refused Stopped else r) (running_listed nodes number me event v m h)
+
+rows_listed : (me : ℕ) (spec : Option Spec) (c : GroupCall) (told : List GroupCall) (rows : List (List Entry)) (put : ℕ → List Entry) → ((b : ℕ) → b < NODES → slice_index_or rows b [] ≡ put b)
+    → (b : ℕ) → b < NODES → slice_index_or (rows_with me spec c told rows) b [] ≡ put_to me spec c told put b
+rows_listed me None c told rows put same b lt = same b lt
+rows_listed me (Some spec) c told rows put same b lt =
+    get_numbers_below (row_with spec me (c ∷ told) rows (puts_of spec me c told)) NODES b [] lt
+    ∙ ap (λ (row : List Entry). if is_other spec me b && not (was_noticed (calls_of (c ∷ told)) b) then row ++ puts_of spec me c told else row) (same b lt)
+
+called_listed : (me : ℕ) (c : GroupCall) (v : MemberValue) (m : Member) → IsListed v m → IsListed (value_called me c v) (called me c m)
+called_listed me c v m h = record {
+  reserve = h.reserve;
+  spec = h.spec;
+  phase = h.phase;
+  told = ap (λ (t : List GroupCall). c ∷ t) h.told;
+  replies = h.replies;
+  put = λ b lt.
+      ap (λ (s : Option Spec). slice_index_or (rows_with me s c v.told v.put) b []) h.spec
+      ∙ (ap (λ (t : List GroupCall). slice_index_or (rows_with me m.spec c t v.put) b []) h.told
+      ∙ rows_listed me m.spec c m.told v.put m.put h.put b lt);
+  taken = h.taken;
+  size = h.size;
+  stopped = h.stopped;
+}
+
+did_listed : (me : NodeId) (event : GroupEvent) (reply : Reply) (v : MemberValue) (m : Member) → IsListed v m → IsListed (value_did me event reply v) (did me event reply m)
+did_listed me (AskMake spec) Done v m h = record { reserve = h.reserve; spec = refl; phase = h.phase; told = h.told; replies = h.replies; put = h.put; taken = h.taken; size = h.size; stopped = h.stopped }
+did_listed me AskOpen Done v m h = record { reserve = h.reserve; spec = h.spec; phase = refl; told = h.told; replies = h.replies; put = h.put; taken = h.taken; size = h.size; stopped = h.stopped }
+did_listed me (AskSay payload) (Said seq) v m h = called_listed me.number (Own (record { origin = me; seq = seq; payload = payload })) v m h
+did_listed me event reply v m h = h
+
+commanded_listed : (me : NodeId) (event : GroupEvent) (reply : Reply) (v : MemberValue) (m : Member) → IsListed v m → IsListed (value_commanded me event reply v) (commanded me event reply m)
+commanded_listed me event reply v m h =
+    let next = did_listed me event reply v m h in
+    record {
+      reserve = next.reserve;
+      spec = next.spec;
+      phase = next.phase;
+      told = next.told;
+      replies = ap (λ (rs : List Reply). rs ++ reply ∷ []) h.replies;
+      put = next.put;
+      taken = next.taken;
+      size = next.size;
+      stopped = next.stopped;
+    }
+
+either_listed : (b : Bool) (v w : MemberValue) (m n : Member) → IsListed v m → IsListed w n → IsListed (if b then v else w) (if b then m else n)
+either_listed true v w m n h k = h
+either_listed false v w m n h k = k
+
+came_listed : (me : ℕ) (from : NodeId) (x : Entry) (v : MemberValue) (m : Member) → IsListed v m → IsListed (value_came me from x v) (item_came me from x m)
+came_listed me from x v m h =
+    let same = ap (λ (t : List GroupCall). falls me from.number x t v.spec) h.told ∙ ap (λ (s : Option Spec). falls me from.number x m.told s) h.spec in
+    let P : Bool → Type 0 = λ b. IsListed (if b then v else value_called me (Other from x) v) (item_came me from x m) in
+    subst P (sym same) (either_listed (falls me from.number x m.told m.spec) v (value_called me (Other from x) v) m (called me (Other from x) m) h (called_listed me (Other from x) v m h))
+
+with_place : (v : MemberValue) (m : Member) (come : ℕ → List ℕ) → IsListed v m → IsListed v (record m { come = come })
+with_place v m come h = record { reserve = h.reserve; spec = h.spec; phase = h.phase; told = h.told; replies = h.replies; put = h.put; taken = h.taken; size = h.size; stopped = h.stopped }
+
+taken_in_listed : (me : ℕ) (from : NodeId) (place : ℕ) (item : Option Entry) (v : MemberValue) (m : Member) → IsListed v m → IsListed (value_taken_in me from item v) (taken_in me from place item m)
+taken_in_listed me from place None v m h = h
+taken_in_listed me from place (Some x) v m h =
+    let next = item_came me from x m in
+    with_place (value_came me from x v) next (λ b. if nat_eq b from.number then place ∷ m.come b else m.come b) (came_listed me from x v m h)
+
+took_listed : (b count : ℕ) (v : MemberValue) (m : Member) → b < NODES → IsListed v m → IsListed (value_took b count v) (record m { taken = λ x. if nat_eq x b then m.taken x + count else m.taken x })
+took_listed b count v m lt h = record {
+  reserve = h.reserve;
+  spec = h.spec;
+  phase = h.phase;
+  told = h.told;
+  replies = h.replies;
+  put = h.put;
+  taken = λ x below. took_at x b count m.taken v.taken (omega (arith, h.size)) (h.taken b lt) (h.taken x below);
+  size = length-set v.taken b (slice_index_or v.taken b 0 + count) ∙ h.size;
+  stopped = h.stopped;
+}
+
+cut_at : (x q : ℕ) (taken : List ℕ) (t : ℕ → ℕ) (rows : List (List Entry)) (put : ℕ → List Entry) → get_or taken q 0 ≡ t q → get_or rows q [] ≡ put q → get_or rows x [] ≡ put x
+    → get_or (slice_set rows q (take (get_or taken q 0) (get_or rows q []))) x [] ≡ (if nat_eq x q then take (t x) (put x) else put x)
+cut_at x q taken t rows put count there here = elim (eqb_tells x q) [
+  | inl p ↦
+      ap (λ k. get_or (slice_set rows q (take (get_or taken q 0) (get_or rows q []))) k []) p.1
+      ∙ (same (cases_lt q (length rows))
+      ∙ ((λ i. take (count i) (there i)) ∙ (ap (λ k. take (t k) (put k)) (sym p.1) ∙ ap (λ (e : Bool). if e then take (t x) (put x) else put x) (sym p.0))))
+  | inr p ↦
+      get_or-set_other rows q x (take (get_or taken q 0) (get_or rows q [])) [] p.1
+      ∙ (here ∙ ap (λ (e : Bool). if e then take (t x) (put x) else put x) (sym p.0))
+]
+  where
+    beyond : (ys : List (List Entry)) (k : ℕ) (y : List Entry) → length ys ≤ k → (get_or ys k [] ≡ []) × (get_or (slice_set ys k y) k [] ≡ [])
+    beyond [] k y le = (refl, refl)
+    beyond (z ∷ ys) zero y le = absurd (omega arith)
+    beyond (z ∷ ys) (suc k) y le = beyond ys k y (omega arith)
+
+    same : ((q < length rows) ⊎ (length rows ≤ q)) → get_or (slice_set rows q (take (get_or taken q 0) (get_or rows q []))) q [] ≡ take (get_or taken q 0) (get_or rows q [])
+    same (inl within) = get_or-set_same rows q (take (get_or taken q 0) (get_or rows q [])) [] within
+    same (inr outside) =
+        let none = beyond rows q (take (get_or taken q 0) (get_or rows q [])) outside in
+        none.1 ∙ (sym (take-nil (get_or taken q 0)) ∙ ap (take (get_or taken q 0)) (sym none.0))
+
+cut_listed : (q : NodeId) (v : MemberValue) (m : Member) → IsListed v m → IsListed (value_cut q v) (cut q m)
+cut_listed q v m h = record {
+  reserve = h.reserve;
+  spec = h.spec;
+  phase = h.phase;
+  told = h.told;
+  replies = h.replies;
+  put = λ b lt. cut_at b q.number v.taken m.taken v.put m.put (h.taken q.number q.below) (h.put q.number q.below) (h.put b lt);
+  taken = h.taken;
+  size = h.size;
+  stopped = h.stopped;
+}
+
+notice_listed : (me : ℕ) (q : NodeId) (o : Option Spec) (v : MemberValue) (m : Member) → IsListed v m → IsListed (value_noticed me q o v) (took_notice me q o m)
+notice_listed me q None v m h = h
+notice_listed me q (Some spec) v m h = either_listed (is_other spec me q.number) (value_called me (Crashed q) (value_cut q v)) v (called me (Crashed q) (cut q m)) m (called_listed me (Crashed q) (value_cut q v) (cut q m) (cut_listed q v m h)) h
+
+command_listed : (nodes number : ℕ) (me : NodeId) (event : GroupEvent) (v : MemberValue) (m : Member) → IsListed v m
+    → IsListed (value_commanded me event (reply_to nodes number me.number event (member_of v)) v) (commanded me event (reply_to nodes number me.number event m) m)
+command_listed nodes number me event v m h =
+    let P : Reply → Type 0 = λ r. IsListed (value_commanded me event r v) (commanded me event (reply_to nodes number me.number event m) m) in
+    subst P (sym (reply_listed nodes number me.number event v m h)) (commanded_listed me event (reply_to nodes number me.number event m) v m h)
+
+member_listed : (nodes number : ℕ) (me : NodeId) (event : GroupEvent) (vs : List MemberValue) (group : Group) → AreListed vs group → IsListed (value_after nodes number me event vs) (member_after nodes number me event group)
+member_listed nodes number me (Tenant reserve) vs group h =
+    let here = h.members me.number me.below in
+    record { reserve = refl; spec = here.spec; phase = here.phase; told = here.told; replies = here.replies; put = here.put; taken = here.taken; size = here.size; stopped = here.stopped }
+member_listed nodes number me (Took b count) vs group h = took_listed b.number count (value_at vs me.number) (group me.number) b.below (h.members me.number me.below)
+member_listed nodes number me (Came from place) vs group h =
+    let P : List Entry → Type 0 = λ row. IsListed (value_taken_in me.number from (slice_get row (place - 1)) (value_at vs me.number)) (member_after nodes number me (Came from place) group) in
+    subst P (sym ((h.members from.number from.below).put me.number me.below))
+    (taken_in_listed me.number from place (slice_get ((group from.number).put me.number) (place - 1)) (value_at vs me.number) (group me.number) (h.members me.number me.below))
+member_listed nodes number me (Acknowledged b place count) vs group h =
+    let here = h.members me.number me.below in
+    record { reserve = here.reserve; spec = here.spec; phase = here.phase; told = here.told; replies = here.replies; put = here.put; taken = here.taken; size = here.size; stopped = here.stopped }
+member_listed nodes number me (Notice q) vs group h =
+    let v : MemberValue = value_at vs me.number in
+    let next = subst (λ (o : Option Spec). IsListed (value_noticed me.number q o v) (took_notice me.number q (group me.number).spec (group me.number))) (sym (h.members me.number me.below).spec)
+    (notice_listed me.number q (group me.number).spec v (group me.number) (h.members me.number me.below)) in
+    record { reserve = next.reserve; spec = next.spec; phase = next.phase; told = next.told; replies = next.replies; put = next.put; taken = next.taken; size = next.size; stopped = next.stopped }
+member_listed nodes number me Stop vs group h =
+    let here = h.members me.number me.below in
+    record { reserve = here.reserve; spec = here.spec; phase = here.phase; told = here.told; replies = here.replies; put = here.put; taken = here.taken; size = here.size; stopped = refl }
+member_listed nodes number me (AskMake spec) vs group h = command_listed nodes number me (AskMake spec) (value_at vs me.number) (group me.number) (h.members me.number me.below)
+member_listed nodes number me AskOpen vs group h = command_listed nodes number me AskOpen (value_at vs me.number) (group me.number) (h.members me.number me.below)
+member_listed nodes number me (AskSay payload) vs group h = command_listed nodes number me (AskSay payload) (value_at vs me.number) (group me.number) (h.members me.number me.below)
+member_listed nodes number me (AskFetch from most) vs group h = command_listed nodes number me (AskFetch from most) (value_at vs me.number) (group me.number) (h.members me.number me.below)
+
+-- The group after each step.
+
+step_listed : (nodes number : ℕ) (step : GroupStep) (vs : List MemberValue) (group : Group) → AreListed vs group → AreListed (values_after nodes number vs step) (after nodes number group step)
+unfolding after
+step_listed nodes number step vs group h = record {
+  members = λ x lt.
+      let me = step.node in
+      let w = value_after nodes number me step.event vs in
+      let m = member_after nodes number me step.event group in
+      let P : Bool → MemberValue → Type 0 = λ e v. IsListed v (if e then m else group x) in
+      elim (eqb_tells x me.number) [
+        | inl p ↦
+            let is : value_at (slice_set vs me.number w) x ≡ w = ap (λ k. value_at (slice_set vs me.number w) k) p.1 ∙ get_or-set_same vs me.number w new_member (omega (arith, h.size, me.below)) in
+            subst (λ (v : MemberValue). P (nat_eq x me.number) v) (sym is) (subst (λ (e : Bool). P e w) (sym p.0) (member_listed nodes number me step.event vs group h))
+        | inr p ↦
+            subst (λ (v : MemberValue). P (nat_eq x me.number) v) (sym (get_or-set_other vs me.number x w new_member p.1)) (subst (λ (e : Bool). P e (value_at vs x)) (sym p.0) (h.members x lt))
+      ];
+  size = length-set vs step.node.number (value_after nodes number step.node step.event vs) ∙ h.size;
+}
+
+steps_listed : (nodes number : ℕ) (steps : List GroupStep) (vs : List MemberValue) (group : Group) → AreListed vs group → AreListed (fold (values_after nodes number) vs steps) (alone_from nodes number group steps)
+steps_listed nodes number [] vs group h = h
+steps_listed nodes number (s ∷ steps) vs group h = steps_listed nodes number steps (values_after nodes number vs s) (after nodes number group s) (step_listed nodes number s vs group h)
+
+new_listed : (x : ℕ) → IsListed new_member (nobody x)
+new_listed x = record {
+  reserve = refl;
+  spec = refl;
+  phase = refl;
+  told = refl;
+  replies = refl;
+  put = λ b lt. refl;
+  taken = λ b lt. get_or-replicate NODES b 0 0 lt;
+  size = refl;
+  stopped = refl;
+}
+
+start_listed : AreListed (replicate NODES new_member) nobody
+start_listed = record {
+  members = λ x lt. let P : MemberValue → Type 0 = λ v. IsListed v (nobody x) in subst P (sym (get_or-replicate NODES x new_member new_member lt)) (new_listed x);
+  size = refl;
+}
+
+-- the plain program's lists after all steps are the group alone
+pub alone_listed : (nodes number : ℕ) (steps : List GroupStep) → AreListed (fold (values_after nodes number) (replicate NODES new_member) steps) (alone nodes number steps)
+alone_listed nodes number steps = steps_listed nodes number steps (replicate NODES new_member) nobody start_listed
+
+-- one step more
+pub more_values : (nodes number : ℕ) (steps : List GroupStep) (vs : List MemberValue) (i : ℕ) (s : GroupStep) → i < length steps → s ≡ get_or steps i s
+    → fold (values_after nodes number) vs (take (i + 1) steps) ≡ values_after nodes number (fold (values_after nodes number) vs (take i steps)) s
+more_values nodes number steps vs i s lt is =
+    ap (fold (values_after nodes number) vs) (take_more steps i s lt)
+    ∙ (fold-append (values_after nodes number) vs (take i steps) (get_or steps i s ∷ [])
+    ∙ ap (λ (t : GroupStep). values_after nodes number (fold (values_after nodes number) vs (take i steps)) t) (sym is))
+
+pub length_after : (nodes number : ℕ) (vs : List MemberValue) (s : GroupStep) → length (values_after nodes number vs s) ≡ length vs
+length_after nodes number vs s = length-set vs s.node.number (value_after nodes number s.node s.event vs)

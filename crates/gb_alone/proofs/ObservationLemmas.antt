@@ -1,0 +1,40 @@
+-- Numbers below a bound, and what is seen at each node.
+use Rattle.std.proofs.Common.{◌≡◌, ℕ, zero, suc, ◌+◌, ◌<◌, ◌≤◌, List, [], ◌∷◌, ◌++◌, length, take, ◌∙◌, ap, sym, refl, arith, add-one}
+use Rattle.std.specs.Prelude.{map}
+use Rattle.std.proofs.lemmas.List.{map-append}
+use Rattle.gb_types.specs.declared.entry.Entry.{Entry}
+use Rattle.gb_types.specs.declared.reply.Reply.{Reply}
+use Rattle.gb_alone.specs.Observation.{numbers_below, seen_at, seen_by}
+
+pub take_short : {X : Type 0} (n : ℕ) (xs : List X) → length xs ≤ n → take n xs ≡ xs
+take_short zero [] le = refl
+take_short (suc n) [] le = refl
+take_short zero (x ∷ xs) le = absurd (omega arith)
+take_short (suc n) (x ∷ xs) le = ap (λ zs. x ∷ zs) (take_short n xs (omega arith))
+
+-- Numbers in order.
+
+pub map_more : {X : Type 0} (f : ℕ → X) (n : ℕ) → map f (numbers_below (n + 1)) ≡ map f (numbers_below n) ++ f n ∷ []
+unfolding numbers_below
+map_more f n = rw add-one (map-append f (numbers_below n) (n ∷ []))
+
+pub map_none : {X : Type 0} (f : ℕ → X) → map f (numbers_below 0) ≡ []
+unfolding numbers_below
+map_none f = refl
+
+-- lists of what is seen are equal where the nodes are
+map_same : {X : Type 0} (f h : ℕ → X) (n : ℕ) → ((a : ℕ) → a < n → f a ≡ h a) → map f (numbers_below n) ≡ map h (numbers_below n)
+unfolding numbers_below
+map_same f h zero same = refl
+map_same f h (suc n) same =
+    map-append f (numbers_below n) (n ∷ [])
+    ∙ (ap (λ xs. xs ++ f n ∷ []) (map_same f h n (λ a lt. same a (omega arith)))
+    ∙ (ap (λ x. map h (numbers_below n) ++ x ∷ []) (same n (omega arith))
+    ∙ sym (map-append h (numbers_below n) (n ∷ []))))
+
+pub seen_same : (nodes : ℕ) (replies others : ℕ → List Reply) (carried taken : ℕ → ℕ → List Entry) → ((a : ℕ) → a < nodes → replies a ≡ others a) → ((a b : ℕ) → a < nodes → b < nodes → carried a b ≡ taken a b)
+    → seen_by nodes replies carried ≡ seen_by nodes others taken
+seen_same nodes replies others carried taken same there =
+    map_same (seen_at nodes replies carried) (seen_at nodes others taken) nodes (λ a lt.
+    ap (λ (rs : List Reply). record { replies = rs; carried = map (carried a) (numbers_below nodes) }) (same a lt)
+    ∙ ap (λ (cs : List (List Entry)). record { replies = others a; carried = cs }) (map_same (carried a) (taken a) nodes (λ b below. there a b lt below)))

@@ -1,0 +1,8 @@
+use Rattle.std.proofs.Common.{◌≡◌, take, length}
+use Rattle.std.specs.Prelude.{fold, replicate}
+use Rattle.gb_types.specs.declared.limits.TheConstants.{NODES}
+use Rattle.gb_alone.specs.MemberLists.{new_member, values_after}
+use Rattle.gb_alone.proofs.alone.seen_alone.Given as goal
+
+abbrev pub invariant-loop-step : goal.invariant-loop-step
+invariant-loop-step l = (l.group.items ≡ fold (values_after l.nodes l.number) (replicate NODES new_member) (take l.step-index l.steps)) × (length l.group.items ≡ NODES)

@@ -1,0 +1,179 @@
+-- One group, by itself: no links, frames, packets or other groups. Histories have the newest first.
+use Rattle.std.specs.Prelude.{ℕ, zero, suc, ◌+◌, ◌-◌, ◌≡◌, ◌≤◌, ◌<◌, ◌&&◌, not, Bool, true, false, List, [], ◌∷◌, ◌++◌, length, fold, take, Option, Some, None, is_some, slice_get, nat_eq, if◌then◌else◌}
+use Rattle.std.specs.List.{list_any}
+use Rattle.gb_types.specs.declared.entry.Entry.{Entry}
+use Rattle.gb_types.specs.declared.node.NodeId.{NodeId}
+use Rattle.gb_types.specs.declared.refusal.Refusal.TheVariants.{Stopped}
+use Rattle.gb_types.specs.declared.reply.Reply.{Reply}
+use Rattle.gb_types.specs.declared.reply.Reply.TheVariants.{Done, Said, Refused}
+use Rattle.gb_types.specs.declared.spec.Spec.{Spec}
+use Rattle.gb_layer.specs.Machine.{was_noticed}
+use Rattle.gb_history.specs.History.{calls_of, said_in, log_of, puts_of, falls_after}
+use Rattle.gb_rules.specs.Group.{Shown, is_other, open_answer, say_answer, fetch_answer, on_made}
+use Rattle.gb_history.specs.declared.call.GroupCall.{GroupCall}
+use Rattle.gb_history.specs.declared.call.GroupCall.TheVariants.{Own, Other, Crashed}
+use Rattle.gb_rules.specs.declared.phase.Phase.{Phase}
+use Rattle.gb_rules.specs.declared.phase.Phase.TheVariants.{Made, Opened}
+use Rattle.gb_rules.specs.Tenant.{make_answer, by_tenant}
+use Rattle.gb_alone.specs.declared.event.GroupEvent.{GroupEvent}
+use Rattle.gb_alone.specs.declared.event.GroupEvent.TheVariants.{Tenant, Make as AskMake, Open as AskOpen, Say as AskSay, Fetch as AskFetch, Took, Came, Done as Acknowledged, Notice, Stop}
+use Rattle.gb_alone.specs.declared.event.GroupStep.{GroupStep}
+use Rattle.gb_rules.specs.declared.reserve.Reserve.{Reserve}
+
+-- the group at one node
+pub record Member : Type 0 where
+  -- what its tenant may have; None until the tenant is taken in
+  pub reserve : Option Reserve
+  -- None until the group is made
+  pub spec : Option Spec
+  pub phase : Phase
+  -- all that the group was told here
+  pub told : List GroupCall
+  -- the replies to its commands, in order
+  pub replies : List Reply
+  -- the items put out to each node, in order
+  pub put : ℕ → List Entry
+  -- how many of them are carried; the others wait
+  pub taken : ℕ → ℕ
+  -- the places that have come from each node
+  pub come : ℕ → List ℕ
+  -- the places of the items put out to each node that are acknowledged
+  pub done : ℕ → List ℕ
+  -- the nodes that were noticed here
+  pub noticed : List ℕ
+  pub stopped : Bool
+
+-- the group at all nodes
+abbrev pub Group : Type 0
+Group = ℕ → Member
+
+-- what was delivered at a node
+abbrev pub log_at : ℕ → Option Spec → List GroupCall → List Entry
+log_at me None told = []
+log_at me (Some spec) told = log_of spec me told
+
+abbrev pub shown_of : ℕ → Phase → List GroupCall → Option Spec → Option Shown
+shown_of me phase told None = None
+shown_of me phase told (Some spec) = Some (record { spec = spec; phase = phase; said = said_in told; log = log_of spec me told })
+
+-- what the rules read
+abbrev pub shown : ℕ → Member → Option Shown
+shown me m = shown_of me m.phase m.told m.spec
+
+-- the reply to a command at a running node of a cluster of so many, to the group with this number
+abbrev pub running_reply : ℕ → ℕ → ℕ → GroupEvent → Member → Reply
+running_reply nodes number me (AskMake spec) m = by_tenant (make_answer nodes me number (is_some m.spec) spec) m.reserve
+running_reply nodes number me AskOpen m = by_tenant (λ _. on_made open_answer (shown me m)) m.reserve
+running_reply nodes number me (AskSay payload) m = by_tenant (λ _. on_made (λ s. say_answer s payload) (shown me m)) m.reserve
+running_reply nodes number me (AskFetch from most) m = by_tenant (λ _. on_made (λ s. fetch_answer s from most) (shown me m)) m.reserve
+running_reply nodes number me event m = Done
+
+-- the reply to a command
+abbrev pub reply_to : ℕ → ℕ → ℕ → GroupEvent → Member → Reply
+reply_to nodes number me event m = if m.stopped then Refused Stopped else running_reply nodes number me event m
+
+-- what a call makes the group broadcast is put out to each other member that was not noticed
+abbrev pub put_to : ℕ → Option Spec → GroupCall → List GroupCall → (ℕ → List Entry) → ℕ → List Entry
+put_to me None c told put b = put b
+put_to me (Some spec) c told put b = if is_other spec me b && not (was_noticed (calls_of (c ∷ told)) b) then put b ++ puts_of spec me c told else put b
+
+-- the group is told something at the node
+abbrev pub called : ℕ → GroupCall → Member → Member
+called me c m = record m { told = c ∷ m.told; put = put_to me m.spec c m.told m.put }
+
+-- what a command does besides its reply
+abbrev pub did : NodeId → GroupEvent → Reply → Member → Member
+did me (AskMake spec) Done m = record m { spec = Some spec }
+did me AskOpen Done m = record m { phase = Opened }
+did me (AskSay payload) (Said seq) m = called me.number (Own (record { origin = me; seq = seq; payload = payload })) m
+did me event reply m = m
+
+-- a command is answered
+abbrev pub commanded : NodeId → GroupEvent → Reply → Member → Member
+commanded me event reply m = let next = did me event reply m in record next { replies = m.replies ++ reply ∷ [] }
+
+abbrev pub falls : ℕ → ℕ → Entry → List GroupCall → Option Spec → Bool
+falls me from x told None = true
+falls me from x told (Some spec) = falls_after spec me told from x
+
+-- an item is let fall, or the group is told of it
+abbrev pub item_came : ℕ → NodeId → Entry → Member → Member
+item_came me from x m = if falls me from.number x m.told m.spec then m else called me (Other from x) m
+
+-- the item with a place comes from a node
+abbrev pub taken_in : ℕ → NodeId → ℕ → Option Entry → Member → Member
+taken_in me from place None m = m
+taken_in me from place (Some x) m =
+    let next = item_came me from x m in
+    record next { come = λ b. if nat_eq b from.number then place ∷ m.come b else m.come b }
+
+-- so many places, from one on
+abbrev pub places : ℕ → ℕ → List ℕ
+places place zero = []
+places place (suc k) = place ∷ places (place + 1) k
+
+-- items put out to a node are acknowledged
+abbrev pub item_done : NodeId → ℕ → ℕ → Member → Member
+item_done b place count m = record m { done = λ x. if nat_eq x b.number then places place count ++ m.done x else m.done x }
+
+-- what waits for a node is given up
+abbrev pub cut : NodeId → Member → Member
+cut q m = record m { put = λ b. if nat_eq b q.number then take (m.taken b) (m.put b) else m.put b }
+
+-- a made group takes the notice of another member: nothing more is put out to it
+abbrev pub took_notice : ℕ → NodeId → Option Spec → Member → Member
+took_notice me q None m = m
+took_notice me q (Some spec) m = if is_other spec me q.number then called me (Crashed q) (cut q m) else m
+
+-- a node is noticed
+abbrev pub node_noticed : ℕ → NodeId → Member → Member
+node_noticed me q m = let next = took_notice me q m.spec m in record next { noticed = q.number ∷ m.noticed }
+
+-- the group's part at a node after an event there
+abbrev pub member_after : ℕ → ℕ → NodeId → GroupEvent → Group → Member
+member_after nodes number me (Tenant reserve) group = let m = group me.number in record m { reserve = Some reserve }
+member_after nodes number me (Took b count) group = let m = group me.number in record m { taken = λ x. if nat_eq x b.number then m.taken x + count else m.taken x }
+member_after nodes number me (Came from place) group = taken_in me.number from place (slice_get ((group from.number).put me.number) (place - 1)) (group me.number)
+member_after nodes number me (Acknowledged b place count) group = item_done b place count (group me.number)
+member_after nodes number me (Notice q) group = node_noticed me.number q (group me.number)
+member_after nodes number me Stop group = let m = group me.number in record m { stopped = true }
+member_after nodes number me event group = commanded me event (reply_to nodes number me.number event (group me.number)) (group me.number)
+
+-- the group after an event
+unfoldable pub after : ℕ → ℕ → Group → GroupStep → Group
+after nodes number group step x = if nat_eq x step.node.number then member_after nodes number step.node step.event group else group x
+
+-- nothing has happened
+abbrev pub nobody : Group
+nobody x = record { reserve = None; spec = None; phase = Made; told = []; replies = []; put = λ b. []; taken = λ b. 0; come = λ b. []; done = λ b. []; noticed = []; stopped = false }
+
+abbrev pub alone_from : ℕ → ℕ → Group → List GroupStep → Group
+alone_from nodes number group steps = fold (after nodes number) group steps
+
+-- the group with this number among its tenant's, in a cluster of so many nodes, after these events
+abbrev pub alone : ℕ → ℕ → List GroupStep → Group
+alone nodes number steps = alone_from nodes number nobody steps
+
+-- the place is marked
+abbrev pub is_marked : ℕ → List ℕ → Bool
+is_marked place marks = list_any (λ p. nat_eq p place) marks
+
+-- What may happen next: what waits is taken, what is carried comes once, what came is acknowledged once, a node is noticed once at another, and none of these
+-- happens at a stopped node.
+abbrev pub MayHappen : NodeId → GroupEvent → Group → Type 0
+MayHappen me (Took b count) group = ((group me.number).stopped ≡ false) × (0 < count) × ((group me.number).taken b.number + count ≤ length ((group me.number).put b.number))
+MayHappen me (Came from place) group =
+    ((group me.number).stopped ≡ false) × (0 < place) × (place ≤ (group from.number).taken me.number) × (is_marked place ((group me.number).come from.number) ≡ false)
+MayHappen me (Acknowledged b place count) group =
+    ((group me.number).stopped ≡ false) × (0 < count)
+    × ((p : ℕ) → place ≤ p → p < place + count → (is_marked p ((group b.number).come me.number) ≡ true) × (is_marked p ((group me.number).done b.number) ≡ false))
+MayHappen me (Notice q) group = ((group me.number).stopped ≡ false) × (is_marked q.number (group me.number).noticed ≡ false)
+MayHappen me event group = Unit {0}
+
+abbrev pub IsLegalFrom : ℕ → ℕ → Group → List GroupStep → Type 0
+IsLegalFrom nodes number group [] = Unit {0}
+IsLegalFrom nodes number group (step ∷ steps) = MayHappen step.node step.event group × IsLegalFrom nodes number (after nodes number group step) steps
+
+-- each event may happen when it does
+abbrev pub IsLegal : ℕ → ℕ → List GroupStep → Type 0
+IsLegal nodes number steps = IsLegalFrom nodes number nobody steps

@@ -1,0 +1,75 @@
+-- What holds of every group alone, and so of each group in a cluster. A law speaks of every legal list of events; each list with which a legal one begins is
+-- legal too, so what a law says of the whole list it says at every moment: a message was accepted before it stands in any log.
+use Rattle.std.specs.Prelude.{ℕ, ◌-◌, ◌≡◌, ◌≤◌, ◌<◌, ◌&&◌, List, [], ◌∷◌, ◌++◌, All, count_by, length, map, Option, Some, None, true, slice_get, nat_eq, if◌then◌else◌}
+use Rattle.gb_types.specs.Entry.{message_of}
+use Rattle.gb_types.specs.Message.{same}
+use Rattle.gb_types.specs.declared.address.Addr.{Addr}
+use Rattle.gb_types.specs.declared.entry.Entry.{Entry}
+use Rattle.gb_types.specs.declared.message.MsgId.{MsgId}
+use Rattle.gb_types.specs.declared.reply.Reply.{Reply}
+use Rattle.gb_types.specs.declared.reply.Reply.TheVariants.{Said}
+use Rattle.gb_types.specs.declared.request.Request.TheVariants.{Say}
+use Rattle.gb_types.specs.declared.spec.Spec.{Spec}
+use Rattle.gb_fifo.specs.Order.{RunsFromOne}
+use Rattle.gb_stack.specs.Kinds.{is_fifo}
+use Rattle.gb_alone.specs.Alone.{Group, reply_to, after, nobody, alone, log_at, IsLegal}
+use Rattle.gb_rules.specs.Address.{is_addr}
+use Rattle.gb_alone.specs.declared.event.GroupEvent.{GroupEvent}
+use Rattle.gb_alone.specs.declared.event.GroupEvent.TheVariants.{Say as AskSay}
+use Rattle.gb_alone.specs.declared.event.GroupStep.{GroupStep}
+
+-- a message that was accepted, with the number that its origin was told
+pub record Accepted : Type 0 where
+  pub seq : ℕ
+  pub payload : List ℕ
+
+abbrev pub accepted_in : GroupEvent → Reply → List Accepted
+accepted_in (AskSay payload) (Said seq) = record { seq = seq; payload = payload } ∷ []
+accepted_in event reply = []
+
+abbrev pub accepted_at : ℕ → ℕ → Group → GroupStep → ℕ → List Accepted
+accepted_at nodes number group step s = if nat_eq s step.node.number then accepted_in step.event (reply_to nodes number s step.event (group s)) else []
+
+unfoldable pub accepted_from : ℕ → ℕ → Group → List GroupStep → ℕ → List Accepted
+accepted_from nodes number group [] s = []
+accepted_from nodes number group (step ∷ steps) s = accepted_at nodes number group step s ++ accepted_from nodes number (after nodes number group step) steps s
+
+-- the messages that were accepted at a node, in order
+abbrev pub accepted : ℕ → ℕ → List GroupStep → ℕ → List Accepted
+accepted nodes number steps s = accepted_from nodes number nobody steps s
+
+-- The entry is the message to whose say its origin was told its number, with its payload; and it is the seq-th that was accepted there, counted from 1. These are
+-- the messages accepted at each node.
+abbrev pub IsAccepted : (ℕ → List Accepted) → Entry → Type 0
+IsAccepted accepted x = (0 < x.seq) × (slice_get (accepted x.origin.number) (x.seq - 1) ≡ Some (record { seq = x.seq; payload = x.payload }))
+
+-- how often a message stands in a list, whatever its payload
+abbrev pub copies : MsgId → List Entry → ℕ
+copies m xs = count_by (λ (x : Entry). same (message_of x) m) xs
+
+-- A log keeps integrity (Hadzilacos, Toueg, A Modular Approach to Fault-Tolerant Broadcasts and Related Problems, 1994, Integrity; Cachin, Guerraoui,
+-- Rodrigues 2011, Module 3.1, BEB2 and BEB3).
+pub record KeepsIntegrity (accepted : ℕ → List Accepted) (log : List Entry) : Type 0 where
+  -- no message stands there twice
+  pub no_duplication : (m : MsgId) → copies m log ≤ 1
+  -- each entry was accepted at its origin
+  pub no_creation : All (IsAccepted accepted) log
+
+-- the log of each node keeps integrity, and each item that a node puts out was accepted at its origin
+pub record Integrity (nodes number : ℕ) (steps : List GroupStep) : Type 0 where
+  pub logs : (b : ℕ) → KeepsIntegrity (accepted nodes number steps) (log_at b (alone nodes number steps b).spec (alone nodes number steps b).told)
+  pub items : (b c : ℕ) → All (IsAccepted (accepted nodes number steps)) ((alone nodes number steps b).put c)
+
+abbrev pub IsIntegral : Type 0
+IsIntegral = (nodes number : ℕ) (steps : List GroupStep) → IsLegal nodes number steps → Integrity nodes number steps
+
+-- Order.
+
+-- where the group was made with a first-in first-out kind, the messages of each origin stand in the log as 1, 2, 3, .. (Hadzilacos, Toueg 1994, FIFO Order)
+abbrev pub KeepsOrder : Option Spec → List Entry → Type 0
+KeepsOrder None log = Unit {0}
+KeepsOrder (Some spec) log = is_fifo spec.kind ≡ true → RunsFromOne (map message_of log)
+
+-- so in the log of each node, for the kind that was chosen there
+abbrev pub IsInOrder : Type 0
+IsInOrder = (nodes number : ℕ) (steps : List GroupStep) → IsLegal nodes number steps → (b : ℕ) → KeepsOrder (alone nodes number steps b).spec (log_at b (alone nodes number steps b).spec (alone nodes number steps b).told)

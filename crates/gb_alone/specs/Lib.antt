@@ -1,0 +1,4 @@
+pub mod Alone
+pub mod Laws
+pub mod MemberLists
+pub mod Observation

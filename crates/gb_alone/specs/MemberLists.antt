@@ -1,0 +1,122 @@
+-- A group alone in lists, as the plain program keeps it. Each change is that of Alone.antt.
+use Rattle.std.specs.Prelude.{ℕ, ◌+◌, ◌-◌, ◌≡◌, ◌<◌, ◌&&◌, not, Bool, false, true, List, [], ◌∷◌, ◌++◌, length, map, replicate, take, slice_get, slice_index_or, slice_set, Option, Some, None, if◌then◌else◌}
+use Rattle.gb_types.specs.declared.entry.Entry.{Entry}
+use Rattle.gb_types.specs.declared.limits.TheConstants.{NODES}
+use Rattle.gb_types.specs.declared.node.NodeId.{NodeId}
+use Rattle.gb_types.specs.declared.reply.Reply.TheVariants.{Done, Said}
+use Rattle.gb_types.specs.declared.reply.Reply.{Reply}
+use Rattle.gb_types.specs.declared.spec.Spec.{Spec}
+use Rattle.gb_layer.specs.Machine.{was_noticed}
+use Rattle.gb_history.specs.History.{calls_of, puts_of}
+use Rattle.gb_rules.specs.Group.{is_other}
+use Rattle.gb_history.specs.declared.call.GroupCall.TheVariants.{Own, Other, Crashed}
+use Rattle.gb_history.specs.declared.call.GroupCall.{GroupCall}
+use Rattle.gb_rules.specs.declared.phase.Phase.TheVariants.{Made, Opened}
+use Rattle.gb_rules.specs.declared.phase.Phase.{Phase}
+use Rattle.gb_alone.specs.Alone.{Group, Member, falls, reply_to}
+use Rattle.gb_alone.specs.Observation.{numbers_below}
+use Rattle.gb_alone.specs.declared.event.GroupEvent.TheVariants.{Tenant, Make as AskMake, Open as AskOpen, Say as AskSay, Took, Came, Done as Acknowledged, Notice, Stop}
+use Rattle.gb_alone.specs.declared.event.GroupEvent.{GroupEvent}
+use Rattle.gb_alone.specs.declared.event.GroupStep.{GroupStep}
+use Rattle.gb_rules.specs.declared.reserve.Reserve.{Reserve}
+
+-- the group at one node: a place for each node in `put` and in `taken`
+pub record MemberValue : Type 0 where
+  pub reserve : Option Reserve
+  pub spec : Option Spec
+  pub phase : Phase
+  pub told : List GroupCall
+  pub replies : List Reply
+  pub put : List (List Entry)
+  pub taken : List ℕ
+  pub stopped : Bool
+
+abbrev pub new_member : MemberValue
+new_member = record { reserve = None; spec = None; phase = Made; told = []; replies = []; put = []; taken = replicate NODES 0; stopped = false }
+
+-- the member that the lists are
+abbrev pub member_of : MemberValue → Member
+member_of v = record {
+  reserve = v.reserve;
+  spec = v.spec;
+  phase = v.phase;
+  told = v.told;
+  replies = v.replies;
+  put = λ b. slice_index_or v.put b [];
+  taken = λ b. slice_index_or v.taken b 0;
+  come = λ b. [];
+  done = λ b. [];
+  noticed = [];
+  stopped = v.stopped;
+}
+
+-- the items put out to a node, after these too, where the group was told these calls
+abbrev pub row_with : Spec → ℕ → List GroupCall → List (List Entry) → List Entry → ℕ → List Entry
+row_with spec me told put more b = if is_other spec me b && not (was_noticed (calls_of told) b) then slice_index_or put b [] ++ more else slice_index_or put b []
+
+abbrev pub rows_with : ℕ → Option Spec → GroupCall → List GroupCall → List (List Entry) → List (List Entry)
+rows_with me None c told put = put
+rows_with me (Some spec) c told put = map (row_with spec me (c ∷ told) put (puts_of spec me c told)) (numbers_below NODES)
+
+abbrev pub value_called : ℕ → GroupCall → MemberValue → MemberValue
+value_called me c v = record v { told = c ∷ v.told; put = rows_with me v.spec c v.told v.put }
+
+abbrev pub value_did : NodeId → GroupEvent → Reply → MemberValue → MemberValue
+value_did me (AskMake spec) Done v = record v { spec = Some spec }
+value_did me AskOpen Done v = record v { phase = Opened }
+value_did me (AskSay payload) (Said seq) v = value_called me.number (Own (record { origin = me; seq = seq; payload = payload })) v
+value_did me event reply v = v
+
+abbrev pub value_commanded : NodeId → GroupEvent → Reply → MemberValue → MemberValue
+value_commanded me event reply v = let next = value_did me event reply v in record next { replies = v.replies ++ reply ∷ [] }
+
+abbrev pub value_came : ℕ → NodeId → Entry → MemberValue → MemberValue
+value_came me from x v = if falls me from.number x v.told v.spec then v else value_called me (Other from x) v
+
+abbrev pub value_taken_in : ℕ → NodeId → Option Entry → MemberValue → MemberValue
+value_taken_in me from None v = v
+value_taken_in me from (Some x) v = value_came me from x v
+
+abbrev pub value_took : ℕ → ℕ → MemberValue → MemberValue
+value_took b count v = record v { taken = slice_set v.taken b (slice_index_or v.taken b 0 + count) }
+
+-- what waits for a node is given up
+abbrev pub value_cut : NodeId → MemberValue → MemberValue
+value_cut q v = record v { put = slice_set v.put q.number (take (slice_index_or v.taken q.number 0) (slice_index_or v.put q.number [])) }
+
+abbrev pub value_noticed : ℕ → NodeId → Option Spec → MemberValue → MemberValue
+value_noticed me q None v = v
+value_noticed me q (Some spec) v = if is_other spec me q.number then value_called me (Crashed q) (value_cut q v) else v
+
+abbrev pub value_at : List MemberValue → ℕ → MemberValue
+value_at vs a = slice_index_or vs a new_member
+
+abbrev pub value_after : ℕ → ℕ → NodeId → GroupEvent → List MemberValue → MemberValue
+value_after nodes number me (Tenant reserve) vs = let v = value_at vs me.number in record v { reserve = Some reserve }
+value_after nodes number me (Took b count) vs = value_took b.number count (value_at vs me.number)
+value_after nodes number me (Came from place) vs =
+    value_taken_in me.number from (slice_get (slice_index_or (value_at vs from.number).put me.number []) (place - 1)) (value_at vs me.number)
+value_after nodes number me (Acknowledged b place count) vs = value_at vs me.number
+value_after nodes number me (Notice q) vs = let v = value_at vs me.number in value_noticed me.number q v.spec v
+value_after nodes number me Stop vs = let v = value_at vs me.number in record v { stopped = true }
+value_after nodes number me event vs = value_commanded me event (reply_to nodes number me.number event (member_of (value_at vs me.number))) (value_at vs me.number)
+
+abbrev pub values_after : ℕ → ℕ → List MemberValue → GroupStep → List MemberValue
+values_after nodes number vs step = slice_set vs step.node.number (value_after nodes number step.node step.event vs)
+
+-- the lists are the member, as far as there are nodes
+pub record IsListed (v : MemberValue) (m : Member) : Type 0 where
+  pub reserve : v.reserve ≡ m.reserve
+  pub spec : v.spec ≡ m.spec
+  pub phase : v.phase ≡ m.phase
+  pub told : v.told ≡ m.told
+  pub replies : v.replies ≡ m.replies
+  pub put : (b : ℕ) → b < NODES → slice_index_or v.put b [] ≡ m.put b
+  pub taken : (b : ℕ) → b < NODES → slice_index_or v.taken b 0 ≡ m.taken b
+  pub size : length v.taken ≡ NODES
+  pub stopped : v.stopped ≡ m.stopped
+
+-- the lists are the group
+pub record AreListed (vs : List MemberValue) (group : Group) : Type 0 where
+  pub members : (a : ℕ) → a < NODES → IsListed (value_at vs a) (group a)
+  pub size : length vs ≡ NODES

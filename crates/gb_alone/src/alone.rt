@@ -1,0 +1,149 @@
+//! A group by itself, computed plainly from its meaning: slow, for short lists of what happens to it.
+ghost use Rattle.std.specs.Prelude.{◌≡◌, ◌≤◌, ◌-◌, [], IfOk, OnOk, length, map, take, replicate, slice_get, slice_index_or, slice_set};
+ghost use Rattle.gb_types.specs.declared.limits.TheConstants.{NODES as MOST};
+ghost use Rattle.gb_alone.specs.Alone as one_group;
+ghost use Rattle.gb_alone.specs.Alone.{Member as Prior, Group};
+ghost use Rattle.gb_alone.specs.MemberLists.{member_of, new_member, value_at, value_commanded, value_taken_in, values_after, IsListed, AreListed};
+ghost use Rattle.gb_alone.specs.Observation.{numbers_below, observed_alone};
+
+use crate::event::{GroupEvent, GroupStep};
+use crate::member::Member;
+use crate::observation::{NodeSeen, Observation};
+use gb_types::address::Addr;
+use gb_types::limits::NODES;
+use gb_types::memory::OutOfMemory;
+use gb_types::node::NodeId;
+use gb_types::plan::Plan;
+use std::alloc::Global;
+
+/// The group at every node before anything has happened.
+fn members(alloc: Global) -> Result<Vec<Member>, OutOfMemory>
+    ensures { IfOk result (λ v. v.items ≡ replicate MOST new_member) }
+{
+    let mut members = Vec::new(alloc);
+    'all: while members.len() < NODES {
+        members.push(Member::new(alloc))?;
+    }
+    Ok(members)
+}
+
+/// A command is asked at a node and answered.
+fn command_at(
+    alloc: Global,
+    nodes: u8,
+    number: u16,
+    group: &mut Vec<Member>,
+    me: NodeId,
+    event: &GroupEvent,
+) -> Result<(), OutOfMemory>
+    requires { length group.old.items ≡ MOST }
+    ensures { OnOk result (group.new.items ≡ slice_set group.old.items me.number (value_commanded me event.now (one_group.reply_to nodes number me.number event.now (member_of (value_at group.old.items me.number))) (value_at group.old.items me.number))) }
+{
+    let at = me.index();
+    let reply = group[at].reply(alloc, nodes, number, me, event)?;
+    group[at].command(alloc, me, event, reply)?;
+    Ok(())
+}
+
+/// An item comes from a node, where there is one with this place.
+fn item_at(
+    alloc: Global,
+    group: &mut Vec<Member>,
+    me: NodeId,
+    from: NodeId,
+    place: u64,
+) -> Result<(), OutOfMemory>
+    requires { length group.old.items ≡ MOST }
+    ensures { OnOk result (group.new.items ≡ slice_set group.old.items me.number (value_taken_in me.number from (slice_get (slice_index_or (value_at group.old.items from.number).put me.number []) (place - 1)) (value_at group.old.items me.number))) }
+{
+    let item = group[from.index()].item(alloc, me, place)?;
+    group[me.index()].take_in(alloc, me, from, item)?;
+    Ok(())
+}
+
+/// What happens at a node changes the group there.
+fn step_at(
+    alloc: Global,
+    nodes: u8,
+    number: u16,
+    group: &mut Vec<Member>,
+    step: &GroupStep,
+) -> Result<(), OutOfMemory>
+    requires { length group.old.items ≡ MOST }
+    ensures { OnOk result (group.new.items ≡ values_after nodes number group.old.items step.now) }
+{
+    let me = step.node;
+    match &step.event {
+        GroupEvent::Tenant(reserve) => group[me.index()].take_tenant(*reserve),
+        GroupEvent::Took(b, count) => group[me.index()].took(*b, *count)?,
+        GroupEvent::Done(_, _, _) => {}
+        GroupEvent::Notice(q) => group[me.index()].notice(alloc, me, *q)?,
+        GroupEvent::Stop => group[me.index()].stop(),
+        GroupEvent::Came(from, place) => item_at(alloc, group, me, *from, *place)?,
+        GroupEvent::Make(_) => command_at(alloc, nodes, number, group, me, &step.event)?,
+        GroupEvent::Open => command_at(alloc, nodes, number, group, me, &step.event)?,
+        GroupEvent::Say(_) => command_at(alloc, nodes, number, group, me, &step.event)?,
+        GroupEvent::Fetch(_, _) => command_at(alloc, nodes, number, group, me, &step.event)?,
+    }
+    Ok(())
+}
+
+/// What is seen at a node of so many.
+#[tactic(auto, using(crate::proofs::ObservationLemmas::map_more, crate::proofs::ObservationLemmas::map_none))]
+fn seen_of(alloc: Global, nodes: u8, member: &Member) -> Result<NodeSeen, OutOfMemory>
+    requires { nodes ≤ MOST }
+    ensures { IfOk result (λ s. (m : Prior) → IsListed member.now m → s ≡ record { replies = m.replies; carried = map (λ b. take (m.taken b) (m.put b)) (numbers_below nodes) }) }
+{
+    let replies = member.replies(alloc)?;
+    let mut carried = Vec::new(alloc);
+    for b in 0..usize::from(nodes) {
+        carried.push(member.carried(alloc, b)?)?;
+    }
+    Ok(NodeSeen::new(replies, carried))
+}
+
+/// What is seen at each of so many nodes.
+#[tactic(auto, using(crate::proofs::ObservationLemmas::map_more, crate::proofs::ObservationLemmas::map_none))]
+fn all_seen(alloc: Global, nodes: u8, group: &[Member]) -> Result<Observation, OutOfMemory>
+    requires few { nodes ≤ MOST }
+    requires size { length group.now ≡ MOST }
+    ensures { IfOk result (λ o. (g : Group) → AreListed group.now g → o ≡ observed_alone nodes g) }
+{
+    let mut seen = Vec::new(alloc);
+    for a in 0..usize::from(nodes) {
+        seen.push(seen_of(alloc, nodes, &group[a])?)?;
+    }
+    Ok(Observation::from(seen))
+}
+
+/// What is seen of the group with this number, alone, in a cluster of so many nodes.
+fn seen_alone(
+    alloc: Global,
+    nodes: u8,
+    number: u16,
+    steps: &[GroupStep],
+) -> Result<Observation, OutOfMemory>
+    requires { nodes ≤ MOST }
+    ensures { IfOk result (λ o. o ≡ observed_alone nodes (one_group.alone nodes number steps.now)) }
+{
+    let mut group = members(alloc)?;
+    for step in steps {
+        step_at(alloc, nodes, number, &mut group, step)?;
+    }
+    let seen = all_seen(alloc, nodes, group.as_slice())?;
+    Ok(seen)
+}
+
+/// The group alone, in a cluster of this plan: what is seen of it after these steps. `Err` also where a node says
+/// more than 65,535 messages, or more than 2^64 - 1 items are carried, since no more have numbers.
+pub fn alone(
+    alloc: Global,
+    plan: &Plan,
+    addr: Addr,
+    steps: &[GroupStep],
+) -> Result<Observation, OutOfMemory>
+    requires { plan.now.nodes ≤ MOST }
+    ensures { IfOk result (λ o. o ≡ observed_alone plan.now.nodes (one_group.alone plan.now.nodes addr.group steps.now)) }
+{
+    seen_alone(alloc, plan.nodes, addr.group, steps)
+}

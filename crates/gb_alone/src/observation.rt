@@ -1,0 +1,76 @@
+//! What is seen of a group at its nodes, but for what only the nodes hold.
+ghost use Rattle.std.specs.Prelude.{◌≡◌};
+
+use gb_types::entry::Entries;
+use gb_types::reply::Reply;
+use std::marker::Model;
+
+/// What is seen of a group at a node.
+#[derive(Drop)]
+pub struct NodeSeen {
+    replies: Vec<Reply>,
+    carried: Vec<Entries>,
+}
+
+impl Model for NodeSeen {
+    ghost use Rattle.gb_alone.specs.Observation.{SeenAt};
+
+    ghost Value = { SeenAt };
+
+    ghost view = { λ s. record { replies = s.replies.items; carried = s.carried.items } };
+}
+
+impl NodeSeen {
+    /// These replies and carried items.
+    pub fn new(replies: Vec<Reply>, carried: Vec<Entries>) -> NodeSeen
+        ensures { result ≡ record { replies = replies.items; carried = carried.items } }
+    {
+        NodeSeen { replies, carried }
+    }
+
+    /// The replies to the group's commands, in order.
+    pub fn replies(&self) -> &[Reply]
+        ensures { result.now ≡ self.now.replies }
+    {
+        self.replies.as_slice()
+    }
+
+    /// For each node, the items that are carried to it, in order.
+    pub fn carried(&self) -> &[Entries]
+        ensures { result.now ≡ self.now.carried }
+    {
+        self.carried.as_slice()
+    }
+}
+
+/// What is seen of a group at each node. Contracts see the list, node 0 first.
+#[derive(Drop)]
+pub struct Observation {
+    nodes: Vec<NodeSeen>,
+}
+
+impl Model for Observation {
+    ghost use Rattle.std.specs.Prelude.{List};
+    ghost use Rattle.gb_alone.specs.Observation.{SeenAt};
+
+    ghost Value = { List SeenAt };
+
+    ghost view = { λ o. o.nodes.items };
+}
+
+impl Observation {
+    /// What is seen at each node.
+    pub fn nodes(&self) -> &[NodeSeen]
+        ensures { result.now ≡ self.now }
+    {
+        self.nodes.as_slice()
+    }
+}
+
+impl From<Vec<NodeSeen>> for Observation {
+    ghost from_gives = { λ v o. o ≡ v.items };
+
+    fn from(nodes: Vec<NodeSeen>) -> Observation {
+        Observation { nodes }
+    }
+}

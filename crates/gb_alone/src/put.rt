@@ -1,0 +1,89 @@
+//! What a group puts out to other nodes.
+ghost use Rattle.std.specs.Prelude.{◌≡◌, ◌++◌, [], ◌&&◌, not, IfOk, OnOk, map, take, slice_index_or, if◌then◌else◌};
+ghost use Rattle.gb_types.specs.declared.limits.TheConstants.{NODES as MOST};
+ghost use Rattle.gb_layer.specs.Machine as machine;
+ghost use Rattle.gb_rules.specs.Group as rules;
+ghost use Rattle.gb_alone.specs.MemberLists.{row_with};
+ghost use Rattle.gb_alone.specs.Observation.{numbers_below};
+
+use gb_history::call::{GroupCall, calls_of};
+use gb_layer::call::Call;
+use gb_layer::plain::is_noticed;
+use gb_types::entry::{Entries, Entry};
+use gb_types::limits::NODES;
+use gb_types::memory::OutOfMemory;
+use gb_types::node::NodeId;
+use gb_types::spec::Spec;
+use std::alloc::Global;
+
+/// Adds copies of entries at the end.
+fn add_copies(alloc: Global, row: &mut Entries, more: &[Entry]) -> Result<(), OutOfMemory>
+    ensures { OnOk result (row.new ≡ row.old ++ more.now) }
+{
+    for x in more {
+        row.push(x.duplicate(alloc)?)?;
+    }
+    Ok(())
+}
+
+/// The first of these, so many at most.
+pub(crate) fn first_of(row: &[Entry], count: u64) -> &[Entry]
+    ensures { result.now ≡ take count row.entry.now }
+{
+    let count = (count as usize).min(row.len());
+    &row[..count]
+}
+
+/// The items put out to a node so far.
+pub(crate) fn row_of(put: &[Entries], b: usize) -> &[Entry]
+    ensures { result.now ≡ slice_index_or put.entry.now b [] }
+{
+    match put.get(b) {
+        Some(row) => row.as_slice(),
+        None => &[],
+    }
+}
+
+/// Whether items are put out to the node: it is another member, and was not noticed.
+fn is_reached(spec: &Spec, me: NodeId, b: NodeId, calls: &[Call]) -> bool
+    ensures { result ≡ (rules.is_other spec.now me.number b.number && not (machine.was_noticed calls.now b.number)) }
+{
+    spec.members.contains(b) && b != me && !is_noticed(calls, b)
+}
+
+/// The items put out to a node, after these too, where it is reached.
+fn row_after(
+    alloc: Global,
+    is_reached: bool,
+    row: &[Entry],
+    more: &[Entry],
+) -> Result<Entries, OutOfMemory>
+    ensures { IfOk result (λ e. e ≡ (if is_reached then row.now ++ more.now else row.now)) }
+{
+    let mut next = Entries::from_slice(alloc, row)?;
+    if is_reached {
+        add_copies(alloc, &mut next, more)?;
+    }
+    Ok(next)
+}
+
+/// The items put out to each node, after these too.
+#[tactic(auto, using(crate::proofs::ObservationLemmas::map_more, crate::proofs::ObservationLemmas::map_none))]
+pub(crate) fn rows_after(
+    alloc: Global,
+    spec: &Spec,
+    me: NodeId,
+    told: &[GroupCall],
+    put: &[Entries],
+    more: &[Entry],
+) -> Result<Vec<Entries>, OutOfMemory>
+    ensures { IfOk result (λ v. v.items ≡ map (row_with spec.now me.number told.now put.now more.now) (numbers_below MOST)) }
+{
+    let calls = calls_of(alloc, told)?;
+    let mut rows = Vec::new(alloc);
+    for b in 0..NODES {
+        let reached = is_reached(spec, me, NodeId::new(b as u8), &calls);
+        rows.push(row_after(alloc, reached, row_of(put, b), more)?)?;
+    }
+    Ok(rows)
+}

@@ -1,9 +1,0 @@
-use Rattle.std.proofs.Common.{◌≡◌, take}
-use Rattle.std.specs.Prelude.{map}
-use Rattle.gb_cluster.specs.Alone.{Group}
-use Rattle.gb_cluster.specs.Listed.{AreListed}
-use Rattle.gb_cluster.specs.Observation.{numbers_below, seen_at}
-use Rattle.gb_cluster.proofs.model.all_seen.Given as goal
-
-abbrev pub invariant-loop-a : goal.invariant-loop-a
-invariant-loop-a l = (g : Group) → AreListed l.group g → l.seen.items ≡ map (seen_at l.nodes (λ a. (g a).replies) (λ a b. take ((g a).taken b) ((g a).put b))) (numbers_below l.a)

@@ -1,8 +1,0 @@
-use Rattle.std.proofs.Common.{◌≡◌}
-use Rattle.std.specs.Prelude.{map}
-use Rattle.gb_cluster.specs.Listed.{row_with}
-use Rattle.gb_cluster.specs.Observation.{numbers_below}
-use Rattle.gb_cluster.proofs.model.rows_after.Given as goal
-
-abbrev pub invariant-loop-b : goal.invariant-loop-b
-invariant-loop-b l = l.rows.items ≡ map (row_with l.spec l.me.number l.told l.put l.more) (numbers_below l.b)

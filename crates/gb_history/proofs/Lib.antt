@@ -1,0 +1,3 @@
+pub mod MentionLemmas
+pub mod KnownLemmas
+pub mod LogLemmas

@@ -1,0 +1,84 @@
+//! What a group delivers and broadcasts, and what is let fall.
+ghost use Rattle.std.specs.Prelude.{◌≡◌, [], IfOk};
+ghost use Rattle.gb_types.specs.Rising.{rising, AreNodes};
+ghost use Rattle.gb_layer.specs.Machine as machine;
+ghost use Rattle.gb_history.specs.History as history;
+
+use crate::call::{GroupCall, calls_of};
+use crate::messages::{entries_in, known};
+use gb_layer::plain::{came_from, is_mentioned};
+use gb_rules::let_fall::is_let_fall;
+use gb_stack::plain;
+use gb_types::entry::Entries;
+use gb_types::memory::OutOfMemory;
+use gb_types::message::MsgId;
+use gb_types::node::NodeId;
+use gb_types::spec::Spec;
+use std::alloc::Global;
+
+/// The members, rising.
+fn members_of(alloc: Global, spec: &Spec) -> Result<Vec<NodeId>, OutOfMemory>
+    ensures rising { IfOk result (λ v. machine.numbers v.items ≡ rising spec.now.members) }
+    ensures nodes { IfOk result (λ _. AreNodes spec.now.members) }
+{
+    let mut members = Vec::new(alloc);
+    for member in spec.members.nodes() {
+        members.push(member)?;
+    }
+    Ok(members)
+}
+
+/// What the group delivered.
+#[tactic(auto, using(crate::proofs::LogLemmas::log_is))]
+pub fn log_of(
+    alloc: Global,
+    spec: &Spec,
+    me: NodeId,
+    told: &[GroupCall],
+) -> Result<Entries, OutOfMemory>
+    ensures { IfOk result (λ e. e ≡ history.log_of spec.now me.number told.now) }
+{
+    let calls = calls_of(alloc, told)?;
+    let members = members_of(alloc, spec)?;
+    let delivered = plain::log(alloc, spec.kind, me, &members, &calls)?;
+    let known = known(alloc, told)?;
+    entries_in(alloc, known.as_slice(), &delivered)
+}
+
+/// What the newest call made the group broadcast.
+#[tactic(auto, unfolding(crate::specs::History::calls_of))]
+pub fn puts_of(
+    alloc: Global,
+    spec: &Spec,
+    me: NodeId,
+    told: &[GroupCall],
+) -> Result<Entries, OutOfMemory>
+    ensures { IfOk result (λ e. e ≡ history.newest_puts spec.now me.number told.now) }
+{
+    match told {
+        [] => Ok(Entries::new(alloc)),
+        [_, ..] => {
+            let calls = calls_of(alloc, told)?;
+            let sent = plain::broadcasts(alloc, spec.kind, me, &calls)?;
+            let known = known(alloc, told)?;
+            entries_in(alloc, known.as_slice(), &sent)
+        }
+    }
+}
+
+/// Whether an item that comes from a node is let fall, after all that the group was told.
+pub fn falls_after(
+    alloc: Global,
+    spec: &Spec,
+    me: NodeId,
+    told: &[GroupCall],
+    from: NodeId,
+    m: MsgId,
+) -> Result<bool, OutOfMemory>
+    ensures { IfOk result (λ b. b ≡ history.falls_after spec.now me.number told.now from.number (record { origin = m.origin; seq = m.seq; payload = [] })) }
+{
+    let calls = calls_of(alloc, told)?;
+    let before = came_from(me, &calls, from, m);
+    let known = is_mentioned(&calls, m);
+    Ok(is_let_fall(spec, me, from, m, before, known))
+}

@@ -1,0 +1,86 @@
+//! Messages with what they say, as a history has them.
+ghost use Rattle.std.specs.Prelude.{◌≡◌, ◌++◌, ◌∷◌, map, IfOk, OnOk};
+ghost use Rattle.gb_history.specs.History as history;
+ghost use Rattle.gb_history.specs.Messages as words;
+
+use crate::call::GroupCall;
+use gb_types::entry::{Entries, Entry};
+use gb_types::memory::OutOfMemory;
+use gb_types::message::MsgId;
+use gb_types::payload::Payload;
+use std::alloc::Global;
+
+/// Whether the message is among the entries.
+fn has(entries: &[Entry], m: MsgId) -> bool
+    ensures { result ≡ words.has entries.now m }
+{
+    match entries {
+        [] => false,
+        [x, others @ ..] => x.message() == m || has(others, m),
+    }
+}
+
+/// The payload of the message, as the entries have it first.
+fn payload_in(entries: &[Entry], m: MsgId) -> &[u8]
+    ensures { result.now ≡ words.payload_in entries.entry.now m }
+{
+    match entries {
+        [] => &[],
+        [x, others @ ..] => {
+            if x.message() == m {
+                x.payload.as_slice()
+            } else {
+                payload_in(others, m)
+            }
+        }
+    }
+}
+
+/// The messages with their payloads.
+pub(crate) fn entries_in(
+    alloc: Global,
+    known: &[Entry],
+    found: &[MsgId],
+) -> Result<Entries, OutOfMemory>
+    ensures { IfOk result (λ e. e ≡ map (words.entry_in known.now) found.now) }
+{
+    let mut entries = Entries::new(alloc);
+    for m in found {
+        let payload = Payload::from_slice(alloc, payload_in(known, *m))?;
+        entries.push(Entry {
+            origin: m.origin,
+            seq: m.seq,
+            payload,
+        })?;
+    }
+    Ok(entries)
+}
+
+/// Adds a copy of the entry at the end, where its message was not there.
+fn add_new(alloc: Global, entries: &mut Entries, x: &Entry) -> Result<(), OutOfMemory>
+    ensures { OnOk result (entries.new ≡ words.with_new entries.old x.now) }
+{
+    if !has(entries.as_slice(), x.message()) {
+        entries.push(x.duplicate(alloc)?)?;
+    }
+    Ok(())
+}
+
+/// The messages that the group was told of, with the payloads that they had then.
+#[tactic(auto, unfolding(crate::specs::History::known))]
+pub fn known(alloc: Global, told: &[GroupCall]) -> Result<Entries, OutOfMemory>
+    ensures { IfOk result (λ e. e ≡ history.known told.now) }
+{
+    match told {
+        [] => Ok(Entries::new(alloc)),
+        [call, past @ ..] => {
+            let mut entries = known(alloc, past)?;
+            match call {
+                GroupCall::Own(x) => add_new(alloc, &mut entries, x)?,
+                GroupCall::Other(_, x) => add_new(alloc, &mut entries, x)?,
+                GroupCall::Crashed(_) => {}
+            }
+            Ok(entries)
+        }
+    }
+}

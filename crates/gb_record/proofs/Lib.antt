@@ -1,0 +1,3 @@
+pub mod LaterPackets
+pub mod Numbers
+pub mod StepsLemmas

@@ -1,0 +1,22 @@
+-- Which items are let fall.
+use Rattle.std.proofs.Common.{◌≡◌, ◌≢◌, ℕ, Bool, true, false, refl, ap, sym, ◌∙◌, arith}
+use Rattle.std.specs.Prelude.{nat_eq}
+use Rattle.std.proofs.lemmas.Bool.Decides.{nat_tests}
+use Rattle.gb_types.specs.declared.entry.Entry.{Entry}
+use Rattle.gb_types.specs.declared.spec.Spec.{Spec}
+use Rattle.gb_rules.specs.LetFall.{is_let_fall}
+
+-- an item that is not let fall came from another node, from which it did not come before; an own message is known
+pub not_fallen : (spec : Spec) (me from : ℕ) (x : Entry) (before there : Bool) → is_let_fall spec me from x before there ≡ false → (from ≢ me) × (before ≡ false) × (x.origin.number ≡ me → there ≡ true)
+not_fallen spec me from x before there stays = grind (arith, nat_tests)
+
+-- whether the same came before matters only where it came from another node
+pub falls-alike : (spec : Spec) (me from : ℕ) (x : Entry) (before after there : Bool) → (from ≢ me → before ≡ after) → is_let_fall spec me from x before there ≡ is_let_fall spec me from x after there
+falls-alike spec me from x before after there alike =
+    elim (nat_eq from me) as (λ b. nat_eq from me ≡ b → is_let_fall spec me from x before there ≡ is_let_fall spec me from x after there) [
+      | true ↦ λ e. falls_anyhow before e ∙ sym (falls_anyhow after e)
+      | false ↦ λ e. let other : from ≢ me = grind (arith, nat_tests) in ap (λ b. is_let_fall spec me from x b there) (alike other)
+    ] refl
+  where
+    falls_anyhow : (b : Bool) → nat_eq from me ≡ true → is_let_fall spec me from x b there ≡ true
+    falls_anyhow b here = grind (arith, nat_tests)

@@ -1,0 +1,70 @@
+-- The rules of a group at a node: what is answered to its commands, in which order refusals come.
+use Rattle.std.specs.Prelude.{ℕ, ◌+◌, ◌&&◌, ◌||◌, not, Bool, List, [], length, take, drop, nat_lt, nat_le, nat_eq, Option, Some, None, Result, Ok, Err, if◌then◌else◌}
+use Rattle.std.specs.FinSet as set
+use Rattle.gb_types.specs.declared.entry.Entry.{Entry}
+use Rattle.gb_types.specs.declared.limits.TheConstants.{PAYLOAD, FETCH}
+use Rattle.gb_types.specs.declared.refusal.Refusal.{Refusal}
+use Rattle.gb_types.specs.declared.refusal.Refusal.TheVariants.{NoGroup, WrongPhase, TooLong, Budget, BadPlace}
+use Rattle.gb_types.specs.declared.reply.Reply.{Reply}
+use Rattle.gb_types.specs.declared.reply.Reply.TheVariants.{Done, Said, Log, Refused}
+use Rattle.gb_types.specs.declared.spec.Spec.{Spec}
+use Rattle.gb_rules.specs.declared.phase.Phase.{Phase}
+use Rattle.gb_rules.specs.declared.phase.Phase.TheVariants.{Made, Opened}
+
+-- what the rules read of a group that was made at a node
+pub record Shown : Type 0 where
+  pub spec : Spec
+  pub phase : Phase
+  -- how many messages were said here
+  pub said : ℕ
+  -- what was delivered here
+  pub log : List Entry
+
+-- the node is a member
+abbrev pub is_member : Spec → ℕ → Bool
+is_member spec b = set.contains spec.members b
+
+-- the node is a member other than this one
+abbrev pub is_other : Spec → ℕ → ℕ → Bool
+is_other spec me b = is_member spec b && not (nat_eq b me)
+
+-- a made group is opened once
+abbrev pub open_in : Phase → Reply
+open_in Made = Done
+open_in Opened = Refused WrongPhase
+
+abbrev pub open_answer : Shown → Reply
+open_answer s = open_in s.phase
+
+-- a message is said in an open group, within the payload's limit and the budget of messages
+abbrev pub say_answer : Shown → List ℕ → Reply
+say_answer s payload = say_in s.phase
+  where
+    say_in : Phase → Reply
+    say_in Made = Refused WrongPhase
+    say_in Opened =
+        if nat_lt PAYLOAD (length payload) then Refused TooLong
+        else (if nat_le s.spec.msgs s.said then Refused Budget
+        else Said (s.said + 1))
+
+-- a log of this length has no such place, or too many entries are asked for; places count from 0
+abbrev pub is_bad_place : ℕ → ℕ → ℕ → Bool
+is_bad_place count from most = nat_lt count from || nat_lt FETCH most
+
+-- the log from a place on, so many entries at most
+abbrev pub fetch_answer : Shown → ℕ → ℕ → Reply
+fetch_answer s from most = if is_bad_place (length s.log) from most then Refused BadPlace else Log (take most (drop from s.log))
+
+-- a command on a group that may have been made here
+abbrev pub on_made : (Shown → Reply) → Option Shown → Reply
+on_made answer None = Refused NoGroup
+on_made answer (Some s) = answer s
+
+-- what the rules on saying read of a group
+abbrev pub unlogged : Spec → Phase → ℕ → Shown
+unlogged spec phase said = record { spec = spec; phase = phase; said = said; log = [] }
+
+-- a message may be said next, with the number after so many, or not
+abbrev pub said_next : ℕ → Result Unit Refusal → Reply
+said_next said (Ok v) = Said (said + 1)
+said_next said (Err why) = Refused why

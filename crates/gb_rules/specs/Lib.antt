@@ -1,0 +1,5 @@
+pub mod Address
+pub mod Group
+pub mod LetFall
+pub mod Replied
+pub mod Tenant

@@ -1,0 +1,45 @@
+-- The rules of tenants and of making groups, in the order of their refusals.
+use Rattle.std.specs.Prelude.{ℕ, ◌||◌, not, Bool, Option, Some, None, nat_lt, nat_le, nat_eq, if◌then◌else◌}
+use Rattle.std.specs.List.{list_all}
+use Rattle.std.specs.FinSet as set
+use Rattle.gb_types.specs.declared.limits.TheConstants.{GROUPS, MESSAGES, BYTES, WINDOW}
+use Rattle.gb_types.specs.declared.refusal.Refusal.TheVariants.{Denied, NoGroup, Spent, BadMembers, OverReserve}
+use Rattle.gb_types.specs.declared.reply.Reply.{Reply}
+use Rattle.gb_types.specs.declared.reply.Reply.TheVariants.{Done, Refused}
+use Rattle.gb_types.specs.declared.spec.Spec.{Spec}
+use Rattle.gb_types.specs.declared.spec.TenantRow.{TenantRow}
+use Rattle.gb_rules.specs.Group.{is_member}
+use Rattle.gb_rules.specs.declared.reserve.Reserve.{Reserve}
+
+-- what a row lets each of its tenant's groups have
+abbrev pub reserve_of : TenantRow → Reserve
+reserve_of row = record { groups = row.groups; msgs = row.msgs; bytes = row.bytes; window = row.window }
+
+-- a row asks for more than the service gives
+abbrev pub is_over_limits : TenantRow → Bool
+is_over_limits row =
+    nat_eq row.tenant 0 || (nat_eq row.groups 0 || (nat_lt GROUPS row.groups || (nat_eq row.msgs 0 || (nat_lt MESSAGES row.msgs || (nat_lt BYTES row.bytes
+    || (nat_eq row.window 0 || nat_lt WINDOW row.window))))))
+
+-- members are none, without this node, or beyond the cluster
+abbrev pub is_bad : ℕ → ℕ → Spec → Bool
+is_bad nodes me spec = not (is_member spec me) || not (list_all (λ b. nat_lt b nodes) (set.items spec.members))
+
+-- a spec asks for more than its tenant has
+abbrev pub is_over : Reserve → Spec → Bool
+is_over reserve spec =
+    nat_eq spec.msgs 0 || (nat_lt reserve.msgs spec.msgs || (nat_lt reserve.bytes spec.bytes || (nat_eq spec.window 0 || nat_lt reserve.window spec.window)))
+
+-- a group with this number, which may have been made here before, is made
+abbrev pub make_answer : ℕ → ℕ → ℕ → Bool → Spec → Reserve → Reply
+make_answer nodes me number made spec reserve =
+    if nat_le reserve.groups number then Refused NoGroup
+    else (if made then Refused Spent
+    else (if is_bad nodes me spec then Refused BadMembers
+    else (if is_over reserve spec then Refused OverReserve
+    else Done)))
+
+-- a request of a tenant that may be here
+abbrev pub by_tenant : (Reserve → Reply) → Option Reserve → Reply
+by_tenant answer None = Refused Denied
+by_tenant answer (Some reserve) = answer reserve

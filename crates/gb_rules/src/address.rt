@@ -1,0 +1,12 @@
+//! The addresses of groups.
+ghost use Rattle.std.specs.Prelude.{◌≡◌};
+ghost use Rattle.gb_rules.specs.Address.{is_addr};
+
+use gb_types::address::Addr;
+
+/// Whether two addresses are the same.
+pub fn is_same(addr: Addr, other: Addr) -> bool
+    ensures { result ≡ is_addr addr other }
+{
+    addr.tenant == other.tenant && addr.group == other.group
+}

@@ -1,0 +1,48 @@
+//! What is answered to a group's commands where it was made.
+ghost use Rattle.std.specs.Prelude.{◌≡◌, ◌<◌, ◌≤◌, false, OnOk};
+ghost use Rattle.gb_types.specs.declared.limits.TheConstants.{FETCH as MOST};
+ghost use Rattle.gb_rules.specs.Group.{open_in, say_answer, is_bad_place, unlogged, said_next};
+ghost use Rattle.gb_rules.specs.Replied.{done_reply};
+
+use crate::phase::Phase;
+use gb_types::limits::{FETCH, PAYLOAD};
+use gb_types::refusal::Refusal;
+use gb_types::spec::Spec;
+
+/// Whether a group in the phase is opened: WrongPhase where it was opened before.
+pub fn check_open(phase: Phase) -> Result<(), Refusal>
+    ensures { done_reply result ≡ open_in phase }
+{
+    match phase {
+        Phase::Made => Ok(()),
+        Phase::Opened => Err(Refusal::WrongPhase),
+    }
+}
+
+/// Whether the next message may be said in a group, of whose messages so many were said here. WrongPhase where
+/// the group is not open, TooLong above 1,024 bytes, Budget where all messages are said, in this order.
+pub fn check_say(spec: &Spec, phase: Phase, said: u32, payload: &[u8]) -> Result<(), Refusal>
+    ensures answer { said_next said result ≡ say_answer (unlogged spec.now phase said) payload.now }
+    ensures room { OnOk result (said < spec.now.msgs) }
+{
+    if phase == Phase::Made {
+        return Err(Refusal::WrongPhase);
+    }
+    if payload.len() > PAYLOAD {
+        return Err(Refusal::TooLong);
+    }
+    if said >= spec.msgs {
+        return Err(Refusal::Budget);
+    }
+    Ok(())
+}
+
+/// Whether a log with so many entries is not to be read so: the place is above its length, or more than 16
+/// entries are asked for.
+pub fn is_bad_place(count: usize, from: u32, most: u32) -> bool
+    ensures test { result ≡ is_bad_place count from most }
+    ensures place { result ≡ false → from ≤ count }
+    ensures few { result ≡ false → most ≤ MOST }
+{
+    from as usize > count || most > FETCH
+}

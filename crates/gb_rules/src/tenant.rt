@@ -1,0 +1,67 @@
+//! What is answered where a tenant is taken in, and where it makes a group.
+ghost use Rattle.std.specs.Prelude.{◌≡◌};
+ghost use Rattle.gb_rules.specs.Tenant.{is_over_limits, is_bad, is_over, make_answer};
+
+use crate::reserve::Reserve;
+use gb_types::limits::{BYTES, GROUPS, MESSAGES, WINDOW};
+use gb_types::node::NodeId;
+use gb_types::refusal::Refusal;
+use gb_types::reply::Reply;
+use gb_types::spec::{Spec, TenantRow};
+
+/// Whether a row asks for more than the service gives.
+pub fn is_over_limits(row: &TenantRow) -> bool
+    ensures { result ≡ is_over_limits row.now }
+{
+    if row.tenant == 0 || row.groups == 0 || row.groups > GROUPS {
+        return true;
+    }
+    if row.msgs == 0 || row.msgs > MESSAGES || row.bytes > BYTES {
+        return true;
+    }
+    row.window == 0 || row.window > WINDOW
+}
+
+/// Whether members are none, without this node, or beyond a cluster of so many nodes.
+fn is_bad_members(nodes: usize, me: NodeId, spec: &Spec) -> bool
+    ensures { result ≡ is_bad nodes me.number spec.now }
+{
+    !spec.members.contains(me) || !spec.members.is_below(nodes)
+}
+
+/// Whether a spec asks for more than its tenant has.
+fn is_over_reserve(reserve: &Reserve, spec: &Spec) -> bool
+    ensures { result ≡ is_over reserve.now spec.now }
+{
+    if spec.msgs == 0 || spec.msgs > reserve.msgs || spec.bytes > reserve.bytes {
+        return true;
+    }
+    spec.window == 0 || spec.window > reserve.window
+}
+
+/// The answer to a request to make the group with this number, which may have been `made` here before: NoGroup
+/// where its tenant has no such number, Spent, BadMembers, OverReserve, in this order.
+pub fn answer_make(
+    nodes: usize,
+    me: NodeId,
+    number: u16,
+    made: bool,
+    spec: &Spec,
+    reserve: &Reserve,
+) -> Reply
+    ensures { result ≡ make_answer nodes me.number number made spec.now reserve.now }
+{
+    if u32::from(number) >= reserve.groups {
+        return Reply::Refused(Refusal::NoGroup);
+    }
+    if made {
+        return Reply::Refused(Refusal::Spent);
+    }
+    if is_bad_members(nodes, me, spec) {
+        return Reply::Refused(Refusal::BadMembers);
+    }
+    if is_over_reserve(reserve, spec) {
+        return Reply::Refused(Refusal::OverReserve);
+    }
+    Reply::Done
+}
