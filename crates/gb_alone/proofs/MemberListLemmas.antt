@@ -26,7 +26,7 @@ use Rattle.gb_layer.specs.Machine.{was_noticed}
 use Rattle.gb_history.specs.declared.call.GroupCall.TheVariants.{Own, Other, Crashed}
 use Rattle.gb_rules.specs.declared.phase.Phase.{Phase}
 use Rattle.gb_alone.specs.Alone.{Member, Group, shown, shown_of, running_reply, reply_to, cut, took_notice, put_to, called, did, commanded, falls, item_came, taken_in, member_after, after, nobody, alone, alone_from}
-use Rattle.gb_alone.specs.MemberLists.{MemberValue, new_member, member_of, row_with, rows_with, value_called, value_did, value_commanded, value_came, value_taken_in, value_took, value_cut, value_noticed, value_at, value_after, values_after, IsListed, AreListed}
+use Rattle.gb_alone.specs.MemberLists.{MemberValue, new_member, member_of, row_with, rows_with, value_called, value_did, value_commanded, value_came, value_taken_in, value_took, value_cut, value_noticed, value_at, value_after, values_after, StandsForMember, StandForMembers}
 use Rattle.gb_alone.specs.Observation.{numbers_below}
 use Rattle.gb_rules.specs.Tenant.{make_answer, by_tenant}
 use Rattle.gb_alone.specs.declared.event.GroupEvent.{GroupEvent}
@@ -69,7 +69,7 @@ took_at x b count t taken lt here there = elim (eqb_tells x b) [
 
 -- The member after each change.
 
-shown_listed : (me : ℕ) (v : MemberValue) (m : Member) → IsListed v m → shown me (member_of v) ≡ shown me m
+shown_listed : (me : ℕ) (v : MemberValue) (m : Member) → StandsForMember v m → shown me (member_of v) ≡ shown me m
 shown_listed me v m h =
     ap (λ (p : Phase). shown_of me p v.told v.spec) h.phase
     ∙ (ap (λ (t : List GroupCall). shown_of me m.phase t v.spec) h.told ∙ ap (λ (s : Option Spec). shown_of me m.phase m.told s) h.spec)
@@ -77,7 +77,7 @@ shown_listed me v m h =
 by_both : (answer : Shown → Reply) (r r' : Option Reserve) (s s' : Option Shown) → r ≡ r' → s ≡ s' → by_tenant (λ _. on_made answer s) r ≡ by_tenant (λ _. on_made answer s') r'
 by_both answer r r' s s' e f = ap (λ (x : Option Reserve). by_tenant (λ _. on_made answer s) x) e ∙ ap (λ (x : Option Shown). by_tenant (λ _. on_made answer x) r') f
 
-running_listed : (nodes number me : ℕ) (event : GroupEvent) (v : MemberValue) (m : Member) → IsListed v m → running_reply nodes number me event (member_of v) ≡ running_reply nodes number me event m
+running_listed : (nodes number me : ℕ) (event : GroupEvent) (v : MemberValue) (m : Member) → StandsForMember v m → running_reply nodes number me event (member_of v) ≡ running_reply nodes number me event m
 running_listed nodes number me (AskMake spec) v m h =
     ap (λ (r : Option Reserve). by_tenant (make_answer nodes me number (is_some v.spec) spec) r) h.reserve
     ∙ ap (λ (s : Option Spec). by_tenant (make_answer nodes me number (is_some s) spec) m.reserve) h.spec
@@ -86,7 +86,7 @@ running_listed nodes number me (AskSay payload) v m h = by_both (λ s. say_answe
 running_listed nodes number me (AskFetch from most) v m h = by_both (λ s. fetch_answer s from most) v.reserve m.reserve (shown me (member_of v)) (shown me m) h.reserve (shown_listed me v m h)
 running_listed nodes number me event v m h = refl
 
-reply_listed : (nodes number me : ℕ) (event : GroupEvent) (v : MemberValue) (m : Member) → IsListed v m → reply_to nodes number me event (member_of v) ≡ reply_to nodes number me event m
+reply_listed : (nodes number me : ℕ) (event : GroupEvent) (v : MemberValue) (m : Member) → StandsForMember v m → reply_to nodes number me event (member_of v) ≡ reply_to nodes number me event m
 reply_listed nodes number me event v m h =
     ap (λ (b : Bool). if b then Refused Stopped else running_reply nodes number me event (member_of v)) h.stopped
     ∙ ap (λ (r : Reply). if m.stopped then Refused Stopped else r) (running_listed nodes number me event v m h)
@@ -98,7 +98,7 @@ rows_listed me (Some spec) c told rows put same b lt =
     get_numbers_below (row_with spec me (c ∷ told) rows (puts_of spec me c told)) NODES b [] lt
     ∙ ap (λ (row : List Entry). if is_other spec me b && not (was_noticed (calls_of (c ∷ told)) b) then row ++ puts_of spec me c told else row) (same b lt)
 
-called_listed : (me : ℕ) (c : GroupCall) (v : MemberValue) (m : Member) → IsListed v m → IsListed (value_called me c v) (called me c m)
+called_listed : (me : ℕ) (c : GroupCall) (v : MemberValue) (m : Member) → StandsForMember v m → StandsForMember (value_called me c v) (called me c m)
 called_listed me c v m h = record {
   reserve = h.reserve;
   spec = h.spec;
@@ -114,13 +114,13 @@ called_listed me c v m h = record {
   stopped = h.stopped;
 }
 
-did_listed : (me : NodeId) (event : GroupEvent) (reply : Reply) (v : MemberValue) (m : Member) → IsListed v m → IsListed (value_did me event reply v) (did me event reply m)
+did_listed : (me : NodeId) (event : GroupEvent) (reply : Reply) (v : MemberValue) (m : Member) → StandsForMember v m → StandsForMember (value_did me event reply v) (did me event reply m)
 did_listed me (AskMake spec) Done v m h = record { reserve = h.reserve; spec = refl; phase = h.phase; told = h.told; replies = h.replies; put = h.put; taken = h.taken; size = h.size; stopped = h.stopped }
 did_listed me AskOpen Done v m h = record { reserve = h.reserve; spec = h.spec; phase = refl; told = h.told; replies = h.replies; put = h.put; taken = h.taken; size = h.size; stopped = h.stopped }
 did_listed me (AskSay payload) (Said seq) v m h = called_listed me.number (Own (record { origin = me; seq = seq; payload = payload })) v m h
 did_listed me event reply v m h = h
 
-commanded_listed : (me : NodeId) (event : GroupEvent) (reply : Reply) (v : MemberValue) (m : Member) → IsListed v m → IsListed (value_commanded me event reply v) (commanded me event reply m)
+commanded_listed : (me : NodeId) (event : GroupEvent) (reply : Reply) (v : MemberValue) (m : Member) → StandsForMember v m → StandsForMember (value_commanded me event reply v) (commanded me event reply m)
 commanded_listed me event reply v m h =
     let next = did_listed me event reply v m h in
     record {
@@ -135,26 +135,26 @@ commanded_listed me event reply v m h =
       stopped = next.stopped;
     }
 
-either_listed : (b : Bool) (v w : MemberValue) (m n : Member) → IsListed v m → IsListed w n → IsListed (if b then v else w) (if b then m else n)
+either_listed : (b : Bool) (v w : MemberValue) (m n : Member) → StandsForMember v m → StandsForMember w n → StandsForMember (if b then v else w) (if b then m else n)
 either_listed true v w m n h k = h
 either_listed false v w m n h k = k
 
-came_listed : (me : ℕ) (from : NodeId) (x : Entry) (v : MemberValue) (m : Member) → IsListed v m → IsListed (value_came me from x v) (item_came me from x m)
+came_listed : (me : ℕ) (from : NodeId) (x : Entry) (v : MemberValue) (m : Member) → StandsForMember v m → StandsForMember (value_came me from x v) (item_came me from x m)
 came_listed me from x v m h =
     let same = ap (λ (t : List GroupCall). falls me from.number x t v.spec) h.told ∙ ap (λ (s : Option Spec). falls me from.number x m.told s) h.spec in
-    let P : Bool → Type 0 = λ b. IsListed (if b then v else value_called me (Other from x) v) (item_came me from x m) in
+    let P : Bool → Type 0 = λ b. StandsForMember (if b then v else value_called me (Other from x) v) (item_came me from x m) in
     subst P (sym same) (either_listed (falls me from.number x m.told m.spec) v (value_called me (Other from x) v) m (called me (Other from x) m) h (called_listed me (Other from x) v m h))
 
-with_place : (v : MemberValue) (m : Member) (come : ℕ → List ℕ) → IsListed v m → IsListed v (record m { come = come })
+with_place : (v : MemberValue) (m : Member) (come : ℕ → List ℕ) → StandsForMember v m → StandsForMember v (record m { come = come })
 with_place v m come h = record { reserve = h.reserve; spec = h.spec; phase = h.phase; told = h.told; replies = h.replies; put = h.put; taken = h.taken; size = h.size; stopped = h.stopped }
 
-taken_in_listed : (me : ℕ) (from : NodeId) (place : ℕ) (item : Option Entry) (v : MemberValue) (m : Member) → IsListed v m → IsListed (value_taken_in me from item v) (taken_in me from place item m)
+taken_in_listed : (me : ℕ) (from : NodeId) (place : ℕ) (item : Option Entry) (v : MemberValue) (m : Member) → StandsForMember v m → StandsForMember (value_taken_in me from item v) (taken_in me from place item m)
 taken_in_listed me from place None v m h = h
 taken_in_listed me from place (Some x) v m h =
     let next = item_came me from x m in
     with_place (value_came me from x v) next (λ b. if nat_eq b from.number then place ∷ m.come b else m.come b) (came_listed me from x v m h)
 
-took_listed : (b count : ℕ) (v : MemberValue) (m : Member) → b < NODES → IsListed v m → IsListed (value_took b count v) (record m { taken = λ x. if nat_eq x b then m.taken x + count else m.taken x })
+took_listed : (b count : ℕ) (v : MemberValue) (m : Member) → b < NODES → StandsForMember v m → StandsForMember (value_took b count v) (record m { taken = λ x. if nat_eq x b then m.taken x + count else m.taken x })
 took_listed b count v m lt h = record {
   reserve = h.reserve;
   spec = h.spec;
@@ -190,7 +190,7 @@ cut_at x q taken t rows put count there here = elim (eqb_tells x q) [
         let none = beyond rows q (take (get_or taken q 0) (get_or rows q [])) outside in
         none.1 ∙ (sym (take-nil (get_or taken q 0)) ∙ ap (take (get_or taken q 0)) (sym none.0))
 
-cut_listed : (q : NodeId) (v : MemberValue) (m : Member) → IsListed v m → IsListed (value_cut q v) (cut q m)
+cut_listed : (q : NodeId) (v : MemberValue) (m : Member) → StandsForMember v m → StandsForMember (value_cut q v) (cut q m)
 cut_listed q v m h = record {
   reserve = h.reserve;
   spec = h.spec;
@@ -203,23 +203,23 @@ cut_listed q v m h = record {
   stopped = h.stopped;
 }
 
-notice_listed : (me : ℕ) (q : NodeId) (o : Option Spec) (v : MemberValue) (m : Member) → IsListed v m → IsListed (value_noticed me q o v) (took_notice me q o m)
+notice_listed : (me : ℕ) (q : NodeId) (o : Option Spec) (v : MemberValue) (m : Member) → StandsForMember v m → StandsForMember (value_noticed me q o v) (took_notice me q o m)
 notice_listed me q None v m h = h
 notice_listed me q (Some spec) v m h = either_listed (is_other spec me q.number) (value_called me (Crashed q) (value_cut q v)) v (called me (Crashed q) (cut q m)) m (called_listed me (Crashed q) (value_cut q v) (cut q m) (cut_listed q v m h)) h
 
-command_listed : (nodes number : ℕ) (me : NodeId) (event : GroupEvent) (v : MemberValue) (m : Member) → IsListed v m
-    → IsListed (value_commanded me event (reply_to nodes number me.number event (member_of v)) v) (commanded me event (reply_to nodes number me.number event m) m)
+command_listed : (nodes number : ℕ) (me : NodeId) (event : GroupEvent) (v : MemberValue) (m : Member) → StandsForMember v m
+    → StandsForMember (value_commanded me event (reply_to nodes number me.number event (member_of v)) v) (commanded me event (reply_to nodes number me.number event m) m)
 command_listed nodes number me event v m h =
-    let P : Reply → Type 0 = λ r. IsListed (value_commanded me event r v) (commanded me event (reply_to nodes number me.number event m) m) in
+    let P : Reply → Type 0 = λ r. StandsForMember (value_commanded me event r v) (commanded me event (reply_to nodes number me.number event m) m) in
     subst P (sym (reply_listed nodes number me.number event v m h)) (commanded_listed me event (reply_to nodes number me.number event m) v m h)
 
-member_listed : (nodes number : ℕ) (me : NodeId) (event : GroupEvent) (vs : List MemberValue) (group : Group) → AreListed vs group → IsListed (value_after nodes number me event vs) (member_after nodes number me event group)
+member_listed : (nodes number : ℕ) (me : NodeId) (event : GroupEvent) (vs : List MemberValue) (group : Group) → StandForMembers vs group → StandsForMember (value_after nodes number me event vs) (member_after nodes number me event group)
 member_listed nodes number me (Tenant reserve) vs group h =
     let here = h.members me.number me.below in
     record { reserve = refl; spec = here.spec; phase = here.phase; told = here.told; replies = here.replies; put = here.put; taken = here.taken; size = here.size; stopped = here.stopped }
 member_listed nodes number me (Took b count) vs group h = took_listed b.number count (value_at vs me.number) (group me.number) b.below (h.members me.number me.below)
 member_listed nodes number me (Came from place) vs group h =
-    let P : List Entry → Type 0 = λ row. IsListed (value_taken_in me.number from (slice_get row (place - 1)) (value_at vs me.number)) (member_after nodes number me (Came from place) group) in
+    let P : List Entry → Type 0 = λ row. StandsForMember (value_taken_in me.number from (slice_get row (place - 1)) (value_at vs me.number)) (member_after nodes number me (Came from place) group) in
     subst P (sym ((h.members from.number from.below).put me.number me.below))
     (taken_in_listed me.number from place (slice_get ((group from.number).put me.number) (place - 1)) (value_at vs me.number) (group me.number) (h.members me.number me.below))
 member_listed nodes number me (Acknowledged b place count) vs group h =
@@ -227,7 +227,7 @@ member_listed nodes number me (Acknowledged b place count) vs group h =
     record { reserve = here.reserve; spec = here.spec; phase = here.phase; told = here.told; replies = here.replies; put = here.put; taken = here.taken; size = here.size; stopped = here.stopped }
 member_listed nodes number me (Notice q) vs group h =
     let v : MemberValue = value_at vs me.number in
-    let next = subst (λ (o : Option Spec). IsListed (value_noticed me.number q o v) (took_notice me.number q (group me.number).spec (group me.number))) (sym (h.members me.number me.below).spec)
+    let next = subst (λ (o : Option Spec). StandsForMember (value_noticed me.number q o v) (took_notice me.number q (group me.number).spec (group me.number))) (sym (h.members me.number me.below).spec)
     (notice_listed me.number q (group me.number).spec v (group me.number) (h.members me.number me.below)) in
     record { reserve = next.reserve; spec = next.spec; phase = next.phase; told = next.told; replies = next.replies; put = next.put; taken = next.taken; size = next.size; stopped = next.stopped }
 member_listed nodes number me Stop vs group h =
@@ -240,14 +240,14 @@ member_listed nodes number me (AskFetch from most) vs group h = command_listed n
 
 -- The group after each step.
 
-step_listed : (nodes number : ℕ) (step : GroupStep) (vs : List MemberValue) (group : Group) → AreListed vs group → AreListed (values_after nodes number vs step) (after nodes number group step)
+step_listed : (nodes number : ℕ) (step : GroupStep) (vs : List MemberValue) (group : Group) → StandForMembers vs group → StandForMembers (values_after nodes number vs step) (after nodes number group step)
 unfolding after
 step_listed nodes number step vs group h = record {
   members = λ x lt.
       let me = step.node in
       let w = value_after nodes number me step.event vs in
       let m = member_after nodes number me step.event group in
-      let P : Bool → MemberValue → Type 0 = λ e v. IsListed v (if e then m else group x) in
+      let P : Bool → MemberValue → Type 0 = λ e v. StandsForMember v (if e then m else group x) in
       elim (eqb_tells x me.number) [
         | inl p ↦
             let is : value_at (slice_set vs me.number w) x ≡ w = ap (λ k. value_at (slice_set vs me.number w) k) p.1 ∙ get_or-set_same vs me.number w new_member (omega (arith, h.size, me.below)) in
@@ -258,11 +258,11 @@ step_listed nodes number step vs group h = record {
   size = length-set vs step.node.number (value_after nodes number step.node step.event vs) ∙ h.size;
 }
 
-steps_listed : (nodes number : ℕ) (steps : List GroupStep) (vs : List MemberValue) (group : Group) → AreListed vs group → AreListed (fold (values_after nodes number) vs steps) (alone_from nodes number group steps)
+steps_listed : (nodes number : ℕ) (steps : List GroupStep) (vs : List MemberValue) (group : Group) → StandForMembers vs group → StandForMembers (fold (values_after nodes number) vs steps) (alone_from nodes number group steps)
 steps_listed nodes number [] vs group h = h
 steps_listed nodes number (s ∷ steps) vs group h = steps_listed nodes number steps (values_after nodes number vs s) (after nodes number group s) (step_listed nodes number s vs group h)
 
-new_listed : (x : ℕ) → IsListed new_member (nobody x)
+new_listed : (x : ℕ) → StandsForMember new_member (nobody x)
 new_listed x = record {
   reserve = refl;
   spec = refl;
@@ -275,14 +275,14 @@ new_listed x = record {
   stopped = refl;
 }
 
-start_listed : AreListed (replicate NODES new_member) nobody
+start_listed : StandForMembers (replicate NODES new_member) nobody
 start_listed = record {
-  members = λ x lt. let P : MemberValue → Type 0 = λ v. IsListed v (nobody x) in subst P (sym (get_or-replicate NODES x new_member new_member lt)) (new_listed x);
+  members = λ x lt. let P : MemberValue → Type 0 = λ v. StandsForMember v (nobody x) in subst P (sym (get_or-replicate NODES x new_member new_member lt)) (new_listed x);
   size = refl;
 }
 
 -- the plain program's lists after all steps are the group alone
-pub alone_listed : (nodes number : ℕ) (steps : List GroupStep) → AreListed (fold (values_after nodes number) (replicate NODES new_member) steps) (alone nodes number steps)
+pub alone_listed : (nodes number : ℕ) (steps : List GroupStep) → StandForMembers (fold (values_after nodes number) (replicate NODES new_member) steps) (alone nodes number steps)
 alone_listed nodes number steps = steps_listed nodes number steps (replicate NODES new_member) nobody start_listed
 
 -- one step more

@@ -105,7 +105,7 @@ abbrev pub values_after : ℕ → ℕ → List MemberValue → GroupStep → Lis
 values_after nodes number vs step = slice_set vs step.node.number (value_after nodes number step.node step.event vs)
 
 -- the lists are the member, as far as there are nodes
-pub record IsListed (v : MemberValue) (m : Member) : Type 0 where
+pub record StandsForMember (v : MemberValue) (m : Member) : Type 0 where
   pub reserve : v.reserve ≡ m.reserve
   pub spec : v.spec ≡ m.spec
   pub phase : v.phase ≡ m.phase
@@ -117,6 +117,6 @@ pub record IsListed (v : MemberValue) (m : Member) : Type 0 where
   pub stopped : v.stopped ≡ m.stopped
 
 -- the lists are the group
-pub record AreListed (vs : List MemberValue) (group : Group) : Type 0 where
-  pub members : (a : ℕ) → a < NODES → IsListed (value_at vs a) (group a)
+pub record StandForMembers (vs : List MemberValue) (group : Group) : Type 0 where
+  pub members : (a : ℕ) → a < NODES → StandsForMember (value_at vs a) (group a)
   pub size : length vs ≡ NODES

@@ -3,7 +3,7 @@ ghost use Rattle.std.specs.Prelude.{◌≡◌, ◌≤◌, ◌-◌, [], IfOk, OnO
 ghost use Rattle.gb_types.specs.declared.limits.TheConstants.{NODES as MOST};
 ghost use Rattle.gb_alone.specs.Alone as one_group;
 ghost use Rattle.gb_alone.specs.Alone.{Member as Prior, Group};
-ghost use Rattle.gb_alone.specs.MemberLists.{member_of, new_member, value_at, value_commanded, value_taken_in, values_after, IsListed, AreListed};
+ghost use Rattle.gb_alone.specs.MemberLists.{member_of, new_member, value_at, value_commanded, value_taken_in, values_after, StandsForMember, StandForMembers};
 ghost use Rattle.gb_alone.specs.Observation.{numbers_below, observed_alone};
 
 use crate::event::{GroupEvent, GroupStep};
@@ -92,7 +92,7 @@ fn step_at(
 #[tactic(auto, using(crate::proofs::ObservationLemmas::map_more, crate::proofs::ObservationLemmas::map_none))]
 fn seen_of(alloc: Global, nodes: u8, member: &Member) -> Result<NodeSeen, OutOfMemory>
     requires { nodes ≤ MOST }
-    ensures { IfOk result (λ s. (m : Prior) → IsListed member.now m → s ≡ record { replies = m.replies; carried = map (λ b. take (m.taken b) (m.put b)) (numbers_below nodes) }) }
+    ensures { IfOk result (λ s. (m : Prior) → StandsForMember member.now m → s ≡ record { replies = m.replies; carried = map (λ b. take (m.taken b) (m.put b)) (numbers_below nodes) }) }
 {
     let replies = member.replies(alloc)?;
     let mut carried = Vec::new(alloc);
@@ -107,7 +107,7 @@ fn seen_of(alloc: Global, nodes: u8, member: &Member) -> Result<NodeSeen, OutOfM
 fn all_seen(alloc: Global, nodes: u8, group: &[Member]) -> Result<Observation, OutOfMemory>
     requires few { nodes ≤ MOST }
     requires size { length group.now ≡ MOST }
-    ensures { IfOk result (λ o. (g : Group) → AreListed group.now g → o ≡ observed_alone nodes g) }
+    ensures { IfOk result (λ o. (g : Group) → StandForMembers group.now g → o ≡ observed_alone nodes g) }
 {
     let mut seen = Vec::new(alloc);
     for a in 0..usize::from(nodes) {

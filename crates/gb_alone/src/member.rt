@@ -3,7 +3,7 @@ ghost use Rattle.std.specs.Prelude.{ℕ, ◌≡◌, ◌-◌, ◌<◌, ◌≤◌,
 ghost use Rattle.gb_types.specs.declared.limits.TheConstants.{NODES as MOST};
 ghost use Rattle.gb_alone.specs.Alone as one_group;
 ghost use Rattle.gb_alone.specs.Alone.{Member as Prior};
-ghost use Rattle.gb_alone.specs.MemberLists.{member_of, IsListed};
+ghost use Rattle.gb_alone.specs.MemberLists.{member_of, StandsForMember};
 
 use crate::event::GroupEvent;
 use crate::put::{first_of, row_of, rows_after};
@@ -372,7 +372,7 @@ impl Member {
     /// The items to a node that are carried.
     pub(crate) fn carried(&self, alloc: Global, b: usize) -> Result<Entries, OutOfMemory>
         requires { b < MOST }
-        ensures { IfOk result (λ e. (m : Prior) → IsListed self.now m → e ≡ take (m.taken b) (m.put b)) }
+        ensures { IfOk result (λ e. (m : Prior) → StandsForMember self.now m → e ≡ take (m.taken b) (m.put b)) }
     {
         Entries::from_slice(alloc, first_of(row_of(&self.put, b), self.taken[b]))
     }

@@ -18,7 +18,7 @@ use Rattle.gb_record.specs.declared.answer.Answer.TheVariants.{Reply as AnswerRe
 use Rattle.gb_record.specs.declared.event.Event.TheVariants.{At}
 use Rattle.gb_record.specs.declared.step.Step.{Step}
 use Rattle.gb_alone.specs.Alone.{Member, Group, alone, alone_from}
-use Rattle.gb_cluster.proofs.Invariant.{Stands, MemberIs, AreMarked, NodeIs, Links, BehavesAlone, Holds, window_of}
+use Rattle.gb_cluster.proofs.Invariant.{Stands, MemberIs, AreMarked, NodeIs, Links, BehavesAlone, Invariant, window_of}
 use Rattle.gb_cluster.specs.NodeValue.{NodeValue}
 use Rattle.gb_record.specs.Project.{project, has_row, is_taken_in, frames, items_of, is_taken, is_acked, is_noticed, is_stopped, made_by, watched, asked, requested, is_turned_away}
 use Rattle.gb_rules.specs.Tenant.{reserve_of}
@@ -185,5 +185,5 @@ module _ (w : World) (a : NodeId) (request : Request) where
       happens = at_request (length w.nodes) g a before_node group (λ b. items_of g (frames a.number b w.packets w.steps)) w.steps request reply refl ((links.node a.number within).stopped) (before_request g within links alike) free
 
 -- every cluster keeps what it holds through a request
-pub at_holds : (w : World) (a : NodeId) (request : Request) → a.number < length w.nodes → Holds w → Holds (world_after w (At a request))
+pub at_holds : (w : World) (a : NodeId) (request : Request) → a.number < length w.nodes → Invariant w → Invariant (world_after w (At a request))
 at_holds w a request within holds = holds_turn w a.number (node w a request) (step w a request) [] within holds (acts w a request) (links_at w a request within holds.links) (λ g free alike. group_at w a request g within holds.links free alike)

@@ -21,7 +21,7 @@ use Rattle.gb_record.specs.declared.event.Event.{Event}
 use Rattle.gb_record.specs.declared.event.Event.TheVariants.{At, Pack, Again, Ack, Arrive, Tick, Stop}
 use Rattle.gb_record.specs.declared.packet.Packet.{Packet}
 use Rattle.gb_record.specs.declared.step.Step.{Step}
-use Rattle.gb_cluster.proofs.Invariant.{Holds}
+use Rattle.gb_cluster.proofs.Invariant.{Invariant}
 use Rattle.gb_cluster.proofs.LinkStep.{link_step}
 use Rattle.gb_cluster.proofs.StartLemmas.{starved_holds, start_holds}
 use Rattle.gb_cluster.proofs.StepLemmas.{step_holds}
@@ -51,8 +51,8 @@ pub goes_on : (c d : State) (steps : List Step) (e : Event) (a : Answer) → IsP
 unfolding ComesTo
 goes_on c d steps e a placed step comes = (c, comes, placed, step)
 
-started_holds : (n silence : ℕ) (w : World) → 0 < n → n ≤ NODES → SILENCE_MIN ≤ silence → w ≡ new_world n silence → Holds w
-started_holds n silence w some few least is = subst Holds (sym is) (start_holds n silence some few least)
+started_holds : (n silence : ℕ) (w : World) → 0 < n → n ≤ NODES → SILENCE_MIN ≤ silence → w ≡ new_world n silence → Invariant w
+started_holds n silence w some few least is = subst Invariant (sym is) (start_holds n silence some few least)
 
 -- a node that has stopped takes no memory
 stopped_takes_none : (v : NodeValue) (e : Event) (found : List Packet) → TakesMemory v e (stopped_answer e found) → ⊥
@@ -79,7 +79,7 @@ may_starve w (Tick a) takes = tt
 may_starve w (Stop a) takes = takes
 
 -- every step does what links owe
-pub links_kept : (c d : State) (steps : List Step) (e : Event) (a : Answer) → IsPlaced (length c.nodes) e → Holds (told steps c) → IsStep c e a d → IsLinkStep steps c e a d
+pub links_kept : (c d : State) (steps : List Step) (e : Event) (a : Answer) → IsPlaced (length c.nodes) e → Invariant (told steps c) → IsStep c e a d → IsLinkStep steps c e a d
 links_kept c d steps e a placed holds (inl starved) = record {
   stopped = λ is. absurd (stopped_takes_none (node_of (told steps c) (acting c.packets e)) e (found_by c.packets e) (subst (TakesMemory (node_of (told steps c) (acting c.packets e)) e) ((link_step (told steps c) e placed holds).stopped is).answer_is starved.0.1));
   running = λ _. inl (may_starve (told steps c) e starved.0.1, record { answer_is = starved.0.0; same = starved.1 });
@@ -88,16 +88,16 @@ links_kept c d steps e a placed holds (inr goes) =
     subst (λ (x : Answer). IsLinkStep steps c e x d) (sym goes.0) (subst (λ (y : State). IsLinkStep steps c e (answer_of (told steps c) e) y) (sym goes.1) (link_step (told steps c) e placed holds))
 
 -- every step keeps what holds
-keeps : (c d : State) (steps : List Step) (e : Event) (a : Answer) → IsPlaced (length c.nodes) e → Holds (told steps c) → IsStep c e a d → Holds (told (record { event = e; answer = a } ∷ steps) d)
+keeps : (c d : State) (steps : List Step) (e : Event) (a : Answer) → IsPlaced (length c.nodes) e → Invariant (told steps c) → IsStep c e a d → Invariant (told (record { event = e; answer = a } ∷ steps) d)
 keeps c d steps e a placed holds (inl starved) =
-    subst (λ (x : Answer). Holds (told (record { event = e; answer = x } ∷ steps) d)) (sym starved.0.0)
-    (subst (λ (y : State). Holds (told (record { event = e; answer = starved_answer e } ∷ steps) y)) (sym starved.1) (starved_holds (told steps c) e placed holds))
+    subst (λ (x : Answer). Invariant (told (record { event = e; answer = x } ∷ steps) d)) (sym starved.0.0)
+    (subst (λ (y : State). Invariant (told (record { event = e; answer = starved_answer e } ∷ steps) y)) (sym starved.1) (starved_holds (told steps c) e placed holds))
 keeps c d steps e a placed holds (inr goes) =
-    subst (λ (x : Answer). Holds (told (record { event = e; answer = x } ∷ steps) d)) (sym goes.0)
-    (subst (λ (y : State). Holds (told (record { event = e; answer = answer_of (told steps c) e } ∷ steps) y)) (sym goes.1) (step_holds (told steps c) e placed holds))
+    subst (λ (x : Answer). Invariant (told (record { event = e; answer = x } ∷ steps) d)) (sym goes.0)
+    (subst (λ (y : State). Invariant (told (record { event = e; answer = answer_of (told steps c) e } ∷ steps) y)) (sym goes.1) (step_holds (told steps c) e placed holds))
 
 -- what holds of every cluster that was started, with the steps that led to it
-pub holds : (steps : List Step) (c : State) → ComesTo steps c → Holds (told steps c)
+pub holds : (steps : List Step) (c : State) → ComesTo steps c → Invariant (told steps c)
 unfolding ComesTo
 holds [] c comes = started_holds comes.0 comes.1 (told [] c) (omega (arith, comes.2.some)) comes.2.few comes.2.least (ap (told []) comes.3)
 holds (s ∷ steps) c comes = keeps comes.0 c steps s.event s.answer comes.2 (holds steps comes.0 comes.1) comes.3

@@ -15,7 +15,7 @@ use Rattle.gb_cluster.specs.NodeValue.{NodeValue}
 use Rattle.gb_record.specs.Project.{project, has_row, frames, items_of, is_taken, is_acked, is_noticed, is_stopped, is_met, made_at, watched, replies_to}
 use Rattle.gb_cluster.proofs.World.{World, node_of, world_after}
 use Rattle.gb_cluster.specs.NodeStep.{Part, only_answered}
-use Rattle.gb_cluster.proofs.Invariant.{MemberIs, Fits, NodeIs, Links, Holds, window_of}
+use Rattle.gb_cluster.proofs.Invariant.{MemberIs, Fits, NodeIs, Links, Invariant, window_of}
 use Rattle.gb_cluster.proofs.IdleLemmas.{idle_turn}
 use Rattle.gb_cluster.proofs.QuietLemmas.{quiet}
 use Rattle.gb_cluster.proofs.NodeLemmas.{same_stands, same_carried}
@@ -91,7 +91,7 @@ halt_group g w a group in_a links fits = record {
     was : MemberIs g a.number w.steps (group a.number)
     was = fits.member a.number in_a
 
-halt_holds : (w : World) (a : NodeId) → a.number < length w.nodes → Holds w → Holds (turned w a.number (halted (node_of w a.number)) (halt_step a) [])
+halt_holds : (w : World) (a : NodeId) → a.number < length w.nodes → Invariant w → Invariant (turned w a.number (halted (node_of w a.number)) (halt_step a) [])
 halt_holds w a in_a holds =
     holds_turn w a.number (halted (node_of w a.number)) (halt_step a) [] in_a holds (halt_acts w a)
     (links_turn w a.number (halted (node_of w a.number)) (halt_step a) [] in_a holds.links (halt_acts w a) (halt_node w a (node_of w a.number) (holds.links.node a.number in_a))
@@ -100,12 +100,12 @@ halt_holds w a in_a holds =
     (λ g room before. halt_group g w a (alone (length w.nodes) g.group (project g w.packets w.steps)) in_a holds.links before.fits)
 
 -- a cluster keeps what it holds through a stop
-pub any_stop : (w : World) (a : NodeId) → a.number < length w.nodes → Holds w → Holds (world_after w (Stop a))
+pub any_stop : (w : World) (a : NodeId) → a.number < length w.nodes → Invariant w → Invariant (world_after w (Stop a))
 any_stop w a in_a holds = go (node_of w a.number).stopped
   where
     part : Bool → Part
     part b = if b then only_answered (node_of w a.number) (AnswerHalted (HaltRefused Stopped)) else only_answered (record (node_of w a.number) { stopped = true }) (AnswerHalted HaltDone)
 
-    go : (b : Bool) → Holds (turned w a.number (part b).value (record { event = Stop a; answer = (part b).answer }) (part b).sent)
+    go : (b : Bool) → Invariant (turned w a.number (part b).value (record { event = Stop a; answer = (part b).answer }) (part b).sent)
     go true = idle_turn w a.number (Stop a) (AnswerHalted (HaltRefused Stopped)) in_a (quiet refl) holds
     go false = halt_holds w a in_a holds

@@ -15,7 +15,7 @@ use Rattle.gb_record.specs.Project.{project, gives, has_row, is_taken_in, frames
 use Rattle.gb_cluster.proofs.World.{World, node_of, with_step}
 use Rattle.gb_cluster.specs.NodeStep.{no_node}
 use Rattle.gb_record.proofs.Numbers.{number_of}
-use Rattle.gb_cluster.proofs.Invariant.{MemberIs, is_concerned, Fits, NodeIs, Links, Holds, window_of}
+use Rattle.gb_cluster.proofs.Invariant.{MemberIs, is_concerned, Fits, NodeIs, Links, Invariant, window_of}
 use Rattle.gb_cluster.proofs.MarkLemmas.{or_off}
 use Rattle.gb_cluster.proofs.NodeLemmas.{same_carried}
 use Rattle.gb_cluster.proofs.Turns.{turned, ActsAt, GroupTurn, frames_turned, taken_turned, acked_turned, quiet_link, links_turn, same_marks, holds_turn}
@@ -129,7 +129,7 @@ idle_group g w a e answer group in_a quiet free links fits = subst (λ (given : 
     acts_acked b n = ap (λ ps. is_acked_by a b n ps e answer) (append-nil w.packets) ∙ quiet.acked a b n
 
 -- a cluster keeps what it holds through such a step
-pub idle_turn : (w : World) (a : ℕ) (e : Event) (answer : Answer) → a < length w.nodes → IsQuiet w a e answer → Holds w → Holds (turned w a (node_of w a) (record { event = e; answer = answer }) [])
+pub idle_turn : (w : World) (a : ℕ) (e : Event) (answer : Answer) → a < length w.nodes → IsQuiet w a e answer → Invariant w → Invariant (turned w a (node_of w a) (record { event = e; answer = answer }) [])
 idle_turn w a e answer in_a quiet holds =
     holds_turn w a (node_of w a) s [] in_a holds (idle_acts w a e answer quiet)
     (links_turn w a (node_of w a) s [] in_a holds.links (idle_acts w a e answer quiet) (idle_node w a e answer in_a quiet holds.links)
@@ -147,5 +147,5 @@ idle_same w a e answer =
     ap (λ (ns : List NodeValue). record w { nodes = ns; steps = record { event = e; answer = answer } ∷ w.steps; packets = w.packets ++ [] }) (set-get_or w.nodes a no_node)
     ∙ ap (λ (ps : List Packet). record w { steps = record { event = e; answer = answer } ∷ w.steps; packets = ps }) (append-nil w.packets)
 
-pub idle_holds : (w : World) (a : ℕ) (e : Event) (answer : Answer) → a < length w.nodes → IsQuiet w a e answer → Holds w → Holds (with_step e answer w)
-idle_holds w a e answer in_a quiet holds = subst Holds (idle_same w a e answer) (idle_turn w a e answer in_a quiet holds)
+pub idle_holds : (w : World) (a : ℕ) (e : Event) (answer : Answer) → a < length w.nodes → IsQuiet w a e answer → Invariant w → Invariant (with_step e answer w)
+idle_holds w a e answer in_a quiet holds = subst Invariant (idle_same w a e answer) (idle_turn w a e answer in_a quiet holds)

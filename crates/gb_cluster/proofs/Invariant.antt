@@ -145,6 +145,6 @@ pub record BehavesAlone (g : Addr) (w : World) : Type 0 where
   pub fits : Fits g w (alone (length w.nodes) g.group (project g w.packets w.steps))
 
 -- what every cluster keeps
-pub record Holds (w : World) : Type 0 where
+pub record Invariant (w : World) : Type 0 where
   pub links : Links w
   pub groups : (g : Addr) → is_served g w.steps ≡ true → BehavesAlone g w

@@ -26,7 +26,7 @@ use Rattle.gb_record.specs.Project.{packet_at, is_stopped, watched}
 use Rattle.gb_cluster.specs.State.{state}
 use Rattle.gb_cluster.proofs.World.{World, transcript_of, held_by, state_of, node_of, part_of, answer_of, world_after}
 use Rattle.gb_cluster.specs.NodeStep.{Part, no_node, sender_to, packet_for, is_another, is_reached, packed_of, node_packed, node_sent, again_of, node_again, node_ack, node_did, running_reply, good_of, node_took, node_ticked, only_answered, sent_part, acting, goal_of, found_part}
-use Rattle.gb_cluster.proofs.Invariant.{Links, Holds}
+use Rattle.gb_cluster.proofs.Invariant.{Links, Invariant}
 use Rattle.gb_cluster.proofs.LinkTaken.{goal_there, takes_found, due_new}
 use Rattle.gb_cluster.proofs.LinkWindow.{not_another, not_reached, full_link, none_waits, none_undone}
 use Rattle.gb_cluster.proofs.PacketLemmas.{Acknowledges, another_is}
@@ -175,7 +175,7 @@ runs_so w (Tick a) placed links running = (
 )
 runs_so w (Stop a) placed links running = (ap (λ (x : Part). w.packets ++ x.sent) (stop_runs w a running) ∙ append-nil w.packets, ap (λ (x : Part). x.answer) (stop_runs w a running))
 
-pub link_step : (w : World) (e : Event) → IsPlaced (length w.nodes) e → Holds w → IsLinkStep w.steps (state_of w) e (answer_of w e) (state_of (world_after w e))
+pub link_step : (w : World) (e : Event) → IsPlaced (length w.nodes) e → Invariant w → IsLinkStep w.steps (state_of w) e (answer_of w e) (state_of (world_after w e))
 link_step w e placed holds = record {
   stopped = λ is.
       let part = stopped_part w e (flag ∙ is) in

@@ -31,7 +31,7 @@ use Rattle.gb_types.specs.declared.request.Request.{Request}
 use Rattle.gb_types.specs.declared.spec.TenantRow.{TenantRow}
 use Rattle.gb_cluster.specs.Memory.{IsReplyTo, has_other_of}
 use Rattle.gb_cluster.specs.GroupRoom.{first_waiting, group_of}
-use Rattle.gb_cluster.specs.declared.node.Hosted.{Hosted}
+use Rattle.gb_cluster.specs.declared.node.AddressedSlot.{AddressedSlot}
 use Rattle.gb_cluster.specs.NodeValue.{GroupAt, NodeValue}
 use Rattle.gb_record.specs.Nodes.{node_numbered}
 use Rattle.gb_cluster.specs.NodeStep.{first_of, is_reached, packed, packed_of, packet_for, node_packed, sender_to, receiver_from, item_done, newly_done, without_done, admission_of, group_came, node_took, group_noticed, slot_noticed_all, running_reply, node_reply}
@@ -164,5 +164,5 @@ slot_stays s (b ∷ bs) none =
     or_false true y h = absurd (cc)
     or_false false y h = (refl, h)
 
-pub none_concerned : (h : Hosted) (found : set.FinSet nat_cmp) → has_other_of h.slot.state (rising found) ≡ false → group_noticed (rising found) (group_of (Some h)) ≡ group_of (Some h)
+pub none_concerned : (h : AddressedSlot) (found : set.FinSet nat_cmp) → has_other_of h.slot.state (rising found) ≡ false → group_noticed (rising found) (group_of (Some h)) ≡ group_of (Some h)
 none_concerned h found none = ap (λ (s : SlotState). Some (record { addr = h.addr; slot = s })) (slot_stays h.slot.state (rising found) none)

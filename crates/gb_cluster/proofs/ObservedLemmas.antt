@@ -5,7 +5,7 @@ use Rattle.gb_types.specs.declared.address.Addr.{Addr}
 use Rattle.gb_types.specs.declared.entry.Entry.{Entry}
 use Rattle.gb_alone.specs.Alone.{Group, Member, alone}
 use Rattle.gb_cluster.specs.State.{waiting_in}
-use Rattle.gb_cluster.proofs.Invariant.{Holds, BehavesAlone, Stands}
+use Rattle.gb_cluster.proofs.Invariant.{Invariant, BehavesAlone, Stands}
 use Rattle.gb_cluster.specs.NodeValue.{NodeValue}
 use Rattle.gb_record.specs.Observed.{IsObserved, AreObserved}
 use Rattle.gb_record.specs.Project.{project, frames, items_of, replies_to}
@@ -35,5 +35,5 @@ observed_of g w alone_too = record {
     group : Group
     group = alone (length w.nodes) g.group (project g w.packets w.steps)
 
-pub all_observed : (w : World) → Holds w → AreObserved (transcript_of w)
+pub all_observed : (w : World) → Invariant w → AreObserved (transcript_of w)
 all_observed w holds g served = observed_of g w (holds.groups g served)

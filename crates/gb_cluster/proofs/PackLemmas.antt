@@ -21,7 +21,7 @@ use Rattle.gb_rules.specs.Address.{is_addr}
 use Rattle.gb_record.specs.Project.{project, gives, frames, items_of, items_in, items_at, took}
 use Rattle.gb_cluster.proofs.World.{World, node_of, world_after}
 use Rattle.gb_cluster.specs.NodeStep.{Part, packed, node_packed, node_sent, only_answered, sent_part}
-use Rattle.gb_cluster.proofs.Invariant.{Stands, Fits, Links, BehavesAlone, Holds}
+use Rattle.gb_cluster.proofs.Invariant.{Stands, Fits, Links, BehavesAlone, Invariant}
 use Rattle.gb_cluster.proofs.WorldLemmas.{after_there, after_elsewhere}
 use Rattle.gb_record.proofs.LaterPackets.{items_of-append}
 use Rattle.gb_cluster.proofs.IdleLemmas.{idle_turn}
@@ -105,7 +105,7 @@ module _ (g : Addr) (w : World) (a b : NodeId) (p : Packet) (hosted : GroupAt) (
       same c (inr other) = sym (elsewhere c other)
 
 -- the cluster
-pack_turn : (w : World) (a b : NodeId) (p : Packet) (ps : List Packet) → a.number < length w.nodes → Holds w → (node_of w a.number).stopped ≡ false → node_packed (length w.nodes) a b (node_of w a.number) ≡ p ∷ ps → Holds (turned w a.number (node_sent b (p ∷ ps) (node_of w a.number)) (pack_step w a b) (p ∷ []))
+pack_turn : (w : World) (a b : NodeId) (p : Packet) (ps : List Packet) → a.number < length w.nodes → Invariant w → (node_of w a.number).stopped ≡ false → node_packed (length w.nodes) a b (node_of w a.number) ≡ p ∷ ps → Invariant (turned w a.number (node_sent b (p ∷ ps) (node_of w a.number)) (pack_step w a b) (p ∷ []))
 pack_turn w a b p ps in_a holds runs is =
     let packed = packs_of w a b p (ap (λ qs. slice_get qs 0) is) in
     go packed.0 packed.1 packed.2 packed.3
@@ -113,7 +113,7 @@ pack_turn w a b p ps in_a holds runs is =
     nodes : ℕ
     nodes = length w.nodes
 
-    go : (hosted : GroupAt) (x : Entry) (rest : List Entry) → Packs w a b p hosted x rest → Holds (turned w a.number (node_sent b (p ∷ ps) (node_of w a.number)) (pack_step w a b) (p ∷ []))
+    go : (hosted : GroupAt) (x : Entry) (rest : List Entry) → Packs w a b p hosted x rest → Invariant (turned w a.number (node_sent b (p ∷ ps) (node_of w a.number)) (pack_step w a b) (p ∷ []))
     go hosted x rest packs = sends_turn w a.number (node_sent b (p ∷ ps) (node_of w a.number)) (pack_step w a b) (p ∷ []) in_a holds (pack_sends w a b p hosted x rest in_a holds.links packs) turn
       where
         turn : (g : Addr) → BehavesAlone g w
@@ -125,14 +125,14 @@ pack_turn w a b p ps in_a holds runs is =
             (sym (given_is g w a b p hosted x rest in_a holds.links packs group before.fits runs)) (pack_group g w a b p hosted x rest in_a holds.links packs group before.fits runs (is_addr g hosted.addr) refl)
 
 -- whatever is packed
-pub any_pack : (w : World) (a b : NodeId) → a.number < length w.nodes → Holds w → Holds (world_after w (Pack a b))
+pub any_pack : (w : World) (a b : NodeId) → a.number < length w.nodes → Invariant w → Invariant (world_after w (Pack a b))
 any_pack w a b in_a holds = go (node_of w a.number).stopped refl (node_packed (length w.nodes) a b (node_of w a.number)) refl
   where
     part : Bool → List Packet → Part
     part stopped ps = if stopped then only_answered (node_of w a.number) (AnswerSent (SentRefused Stopped)) else sent_part (length w.packets) (node_sent b ps (node_of w a.number)) ps
 
     go : (stopped : Bool) → (node_of w a.number).stopped ≡ stopped → (ps : List Packet) → node_packed (length w.nodes) a b (node_of w a.number) ≡ ps
-        → Holds (turned w a.number (part stopped ps).value (record { event = Pack a b; answer = (part stopped ps).answer }) (part stopped ps).sent)
+        → Invariant (turned w a.number (part stopped ps).value (record { event = Pack a b; answer = (part stopped ps).answer }) (part stopped ps).sent)
     go true is ps packed = idle_turn w a.number (Pack a b) (AnswerSent (SentRefused Stopped)) in_a (quiet refl) holds
     go false is [] packed = idle_turn w a.number (Pack a b) (AnswerSent Nothing) in_a (quiet refl) holds
     go false is (p ∷ ps) packed = pack_turn w a b p ps in_a holds is packed

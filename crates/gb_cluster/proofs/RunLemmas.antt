@@ -11,14 +11,14 @@ use Rattle.gb_record.specs.Project.{is_served}
 use Rattle.gb_record.specs.declared.packet.Packet.{Packet}
 use Rattle.gb_record.specs.declared.step.Step.{Step}
 use Rattle.gb_cluster.proofs.CodeLemmas.{holds, links_kept}
-use Rattle.gb_cluster.proofs.Invariant.{Holds}
+use Rattle.gb_cluster.proofs.Invariant.{Invariant}
 use Rattle.gb_cluster.proofs.ObservedLemmas.{all_observed}
 use Rattle.gb_cluster.proofs.RunIntegrity.{all_integral}
 use Rattle.gb_cluster.proofs.RunOrder.{all_in_order}
 use Rattle.gb_cluster.proofs.Theorem.{all_isolated}
 use Rattle.gb_cluster.proofs.World.{World, told, transcript_of, held_by}
 
-lawful_world : (w : World) → Holds w → IsLawful (transcript_of w) (held_by w)
+lawful_world : (w : World) → Invariant w → IsLawful (transcript_of w) (held_by w)
 lawful_world w held_so = record {
   legal = λ g served. (all_isolated w held_so g served).legal;
   replies = λ g served a in_a. ap (λ (s : Seen). s.replies) ((all_isolated w held_so g served).same a a in_a in_a);

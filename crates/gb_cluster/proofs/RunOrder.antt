@@ -8,7 +8,7 @@ use Rattle.gb_history.specs.History.{calls_of}
 use Rattle.gb_history.specs.declared.call.GroupCall.{GroupCall}
 use Rattle.gb_alone.specs.Alone.{alone, log_at}
 use Rattle.gb_cluster.proofs.World.{transcript_of, held_by, seen_in, IsIsolated, World}
-use Rattle.gb_cluster.proofs.Invariant.{Holds}
+use Rattle.gb_cluster.proofs.Invariant.{Invariant}
 use Rattle.gb_record.specs.Project.{project}
 use Rattle.gb_alone.specs.declared.event.GroupStep.{GroupStep}
 use Rattle.gb_alone.specs.Laws.{KeepsOrder, IsInOrder}
@@ -17,7 +17,7 @@ use Rattle.gb_alone.proofs.KnownLemmas.{messages-log}
 use Rattle.gb_cluster.proofs.Theorem.{all_isolated}
 use Rattle.gb_alone.proofs.OrderLemmas.{in_order}
 
-pub all_in_order : (w : World) → Holds w → AreInOrder (transcript_of w) (held_by w)
+pub all_in_order : (w : World) → Invariant w → AreInOrder (transcript_of w) (held_by w)
 all_in_order w holds g served a b in_a in_b =
     subst (λ o. KeepsOrder o (seen_in w g a b).log) ((holds.groups g served).fits.member a in_a).spec
     (subst (λ s. KeepsOrder (alone nodes g.group steps a).spec s.log) (sym (isolated.same a b in_a in_b)) (in_order nodes g.group steps isolated.legal a))

@@ -20,7 +20,7 @@ use Rattle.gb_slot.specs.Slot.{waiting}
 use Rattle.gb_record.specs.Project.{packet_at, frames, is_acked}
 use Rattle.gb_cluster.proofs.World.{World, node_of, part_of, answer_of, world_after}
 use Rattle.gb_cluster.specs.NodeStep.{sender_to, packet_for, is_another, is_reached, packed, packed_of, node_packed, node_sent, again_of, node_again, node_ack, only_answered, sent_part}
-use Rattle.gb_cluster.proofs.Invariant.{Links, Holds, window_of}
+use Rattle.gb_cluster.proofs.Invariant.{Links, Invariant, window_of}
 use Rattle.gb_cluster.proofs.SendTurns.{only_sends}
 use Rattle.gb_cluster.proofs.UndoneLemmas.{HaveItems, undone_there, undone_lowest, found_there}
 use Rattle.gb_cluster.proofs.PacketLemmas.{Acknowledges, packet_at-last, packet_acks, acks_framed, another_is}
@@ -174,7 +174,7 @@ again_sent w a b n k p in_a links at =
 
 -- The cluster.
 
-pub any_ack : (w : World) (a b : NodeId) → a.number < length w.nodes → Holds w → Holds (world_after w (Ack a b))
+pub any_ack : (w : World) (a b : NodeId) → a.number < length w.nodes → Invariant w → Invariant (world_after w (Ack a b))
 any_ack w a b in_a holds = only_sends w a.number (Ack a b) (part_of w (Ack a b)) in_a (record {
   value = part_value _ (length w.packets) (node_of w a.number) (node_ack (length w.nodes) a b (node_of w a.number));
   step = record { taken = λ ps x y n. refl; acked = λ ps x y n. refl; row = λ x tenant. refl; made = λ g x. refl; noticed = λ x y. refl; stopped = λ x. refl; watched = λ ps x. refl; reply = λ g x steps. refl; met = λ g x steps. refl };
@@ -184,7 +184,7 @@ any_ack w a b in_a holds = only_sends w a.number (Ack a b) (part_of w (Ack a b))
   framed = λ k p at. let is = ack_sent w a b k p in_a holds.links at in acks_framed w a b p w.packets w.steps in_a is.acks (λ n was. was) (inl (is.frame, is.item));
 }) holds
 
-pub any_again : (w : World) (a b : NodeId) (n : ℕ) → a.number < length w.nodes → Holds w → Holds (world_after w (Again a b n))
+pub any_again : (w : World) (a b : NodeId) (n : ℕ) → a.number < length w.nodes → Invariant w → Invariant (world_after w (Again a b n))
 any_again w a b n in_a holds = only_sends w a.number (Again a b n) (part_of w (Again a b n)) in_a (record {
   value = part_value _ (length w.packets) (node_of w a.number) (node_again (length w.nodes) a b n (node_of w a.number));
   step = record { taken = λ ps x y n. refl; acked = λ ps x y n. refl; row = λ x tenant. refl; made = λ g x. refl; noticed = λ x y. refl; stopped = λ x. refl; watched = λ ps x. refl; reply = λ g x steps. refl; met = λ g x steps. refl };

@@ -18,7 +18,7 @@ use Rattle.gb_record.specs.Project.{project, gives, has_row, is_taken_in, frames
 use Rattle.gb_cluster.proofs.World.{World, node_of}
 use Rattle.gb_cluster.specs.NodeStep.{Part, reserve_for, sender_to}
 use Rattle.gb_record.proofs.Numbers.{number_of}
-use Rattle.gb_cluster.proofs.Invariant.{Stands, AreMarked, is_concerned, Fits, NodeIs, IsFramed, IsLink, Links, BehavesAlone, Holds, window_of}
+use Rattle.gb_cluster.proofs.Invariant.{Stands, AreMarked, is_concerned, Fits, NodeIs, IsFramed, IsLink, Links, BehavesAlone, Invariant, window_of}
 use Rattle.gb_cluster.proofs.MarkLemmas.{or_off}
 use Rattle.gb_cluster.proofs.NodeLemmas.{same_carried}
 use Rattle.gb_cluster.proofs.Turns.{turned, ActsAt, GroupTurn, framed_stays, frames_turned, taken_turned, acked_turned, watched_turned, quiet_link, links_turn, same_marks, holds_turn}
@@ -135,11 +135,11 @@ module _ (w : World) (a : ℕ) (v : NodeValue) (s : Step) (more : List Packet) (
       made = ap (λ o. or_else o (made_at g a w.steps)) (sends.step.made g a)
 
 -- the cluster keeps what it holds through such a step
-pub sends_turn : (w : World) (a : ℕ) (v : NodeValue) (s : Step) (more : List Packet) → a < length w.nodes → Holds w → Sends w a v s more
+pub sends_turn : (w : World) (a : ℕ) (v : NodeValue) (s : Step) (more : List Packet) → a < length w.nodes → Invariant w → Sends w a v s more
     → ((g : Addr) → BehavesAlone g w
     → GroupSends g w a v s more (alone (length w.nodes) g.group (project g w.packets w.steps))
     (alone_from (length w.nodes) g.group (alone (length w.nodes) g.group (project g w.packets w.steps)) (gives g (w.packets ++ more) w.steps s.event s.answer)) (gives g (w.packets ++ more) w.steps s.event s.answer))
-    → Holds (turned w a v s more)
+    → Invariant (turned w a v s more)
 sends_turn w a v s more in_a holds sends turn =
     holds_turn w a v s more in_a holds (sends_acts w a v s more in_a sends holds.links) (sends_links w a v s more in_a sends holds.links)
     (λ g room before. sends_group w a v s more in_a sends holds.links g _ _ _ before.fits (turn g before))
@@ -153,8 +153,8 @@ pub record OnlySends (w : World) (a : ℕ) (e : Event) (part : Part) : Type 0 wh
   pub given : (g : Addr) (ps : List Packet) → gives g ps w.steps e part.answer ≡ []
   pub framed : (k : ℕ) (p : Packet) → slice_get part.sent k ≡ Some p → IsFramed (length w.nodes) w.packets w.steps p
 
-pub only_sends : (w : World) (a : ℕ) (e : Event) (part : Part) → a < length w.nodes → OnlySends w a e part → Holds w → Holds (turned w a part.value (record { event = e; answer = part.answer }) part.sent)
-only_sends w a e part in_a sends holds = subst (λ (v : NodeValue). Holds (turned w a v s part.sent)) (sym sends.value) (sends_turn w a (node_of w a) s part.sent in_a holds (record {
+pub only_sends : (w : World) (a : ℕ) (e : Event) (part : Part) → a < length w.nodes → OnlySends w a e part → Invariant w → Invariant (turned w a part.value (record { event = e; answer = part.answer }) part.sent)
+only_sends w a e part in_a sends holds = subst (λ (v : NodeValue). Invariant (turned w a v s part.sent)) (sym sends.value) (sends_turn w a (node_of w a) s part.sent in_a holds (record {
   step = sends.step;
   number = rw (sends.number) (omega arith);
   frame = λ x y other. sends.frame x y (w.packets ++ part.sent);

@@ -25,7 +25,7 @@ use Rattle.gb_cluster.specs.Memory.{starved_answer}
 use Rattle.gb_record.specs.Project.{project, frames, items_of, is_taken, is_acked, is_noticed, made_at, watched, replies_to, asked, requested, has_row, is_met, is_met_by, is_named, is_own, is_stopped, is_taken_in, made_by, reply_in, with_stop}
 use Rattle.gb_cluster.proofs.World.{World, node_of, new_world, with_step}
 use Rattle.gb_cluster.specs.NodeStep.{new_node}
-use Rattle.gb_cluster.proofs.Invariant.{NodeIs, IsLink, Holds, undone_of}
+use Rattle.gb_cluster.proofs.Invariant.{NodeIs, IsLink, Invariant, undone_of}
 use Rattle.gb_cluster.proofs.AskLemmas.{if_same, command_unnamed}
 use Rattle.gb_cluster.proofs.IdleLemmas.{IsQuiet, idle_holds}
 use Rattle.gb_cluster.proofs.QuietLemmas.{quiet}
@@ -99,7 +99,7 @@ starved_request w a request = record {
 }
 
 -- a cluster keeps what it holds through every event for which a node lacked memory
-pub starved_holds : (w : World) (e : Event) → IsPlaced (length w.nodes) e → Holds w → Holds (with_step e (starved_answer e) w)
+pub starved_holds : (w : World) (e : Event) → IsPlaced (length w.nodes) e → Invariant w → Invariant (with_step e (starved_answer e) w)
 starved_holds w (At a request) placed holds = idle_holds w a.number (At a request) (starved_answer (At a request)) placed (starved_request w a request) holds
 starved_holds w (Pack a b) placed holds = idle_holds w a.number (Pack a b) (starved_answer (Pack a b)) placed (quiet refl) holds
 starved_holds w (Again a b n) placed holds = idle_holds w a.number (Again a b n) (starved_answer (Again a b n)) placed (quiet refl) holds
@@ -140,7 +140,7 @@ new_link a b = record {
 }
 
 -- a cluster in which nothing has happened
-pub start_holds : (n silence : ℕ) → 0 < n → n ≤ NODES → SILENCE_MIN ≤ silence → Holds (new_world n silence)
+pub start_holds : (n silence : ℕ) → 0 < n → n ≤ NODES → SILENCE_MIN ≤ silence → Invariant (new_world n silence)
 unfolding project frames items_of is_taken is_acked is_noticed is_met made_at has_row replies_to
 start_holds n silence some few least = record {
   links = record {

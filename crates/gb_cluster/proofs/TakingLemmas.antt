@@ -8,25 +8,25 @@ use Rattle.gb_types.specs.Entry.{message_of}
 use Rattle.gb_cluster.specs.GroupRoom.{group_of, KeepsRoom}
 use Rattle.gb_cluster.specs.NodeValue.{GroupAt}
 use Rattle.gb_cluster.specs.NodeStep.{on_slot, item_done, without_done}
-use Rattle.gb_cluster.specs.declared.node.Hosted.{Hosted}
+use Rattle.gb_cluster.specs.declared.node.AddressedSlot.{AddressedSlot}
 use Rattle.gb_record.specs.declared.packet.Item.{Item}
 use Rattle.gb_record.specs.declared.packet.Packet.{Packet}
 use Rattle.gb_cluster.proofs.DoneLemmas.{filter-find, filter-find_none, filter_not-without_first, without_first-none, length-without_first, length-filter_most, window_few}
 
 -- of the frames that the packet's acknowledgement covers so many are done, and those that are left are still to be done
-pub record IsTaking (p : Packet) (whole : SendWindow Item) (before : Option Hosted) (left : SendWindow Item) (after : Option Hosted) (done : ℕ) : Type 0 where
+pub record IsTaking (p : Packet) (whole : SendWindow Item) (before : Option AddressedSlot) (left : SendWindow Item) (after : Option AddressedSlot) (done : ℕ) : Type 0 where
   pub next : left.next ≡ whole.next
   pub undone : filter (λ u. not (covers p.base p.mask u.0)) left.undone ≡ filter (λ u. not (covers p.base p.mask u.0)) whole.undone
   pub count : done + length (filter (λ u. covers p.base p.mask u.0) left.undone) ≡ length (filter (λ u. covers p.base p.mask u.0) whole.undone)
   pub group : fold (item_done p.from) (group_of after) (filter (λ u. covers p.base p.mask u.0) left.undone) ≡ fold (item_done p.from) (group_of before) (filter (λ u. covers p.base p.mask u.0) whole.undone)
   pub room : KeepsRoom before after
 
-pub taking_begins : (p : Packet) (whole : SendWindow Item) (before : Option Hosted) → IsTaking p whole before whole before 0
+pub taking_begins : (p : Packet) (whole : SendWindow Item) (before : Option AddressedSlot) → IsTaking p whole before whole before 0
 taking_begins p whole before = record { next = refl; undone = refl; count = omega arith; group = refl; room = λ item h. h }
 
-module _ (p : Packet) (whole left next : SendWindow Item) (before after : Option Hosted) (done : ℕ) where
+module _ (p : Packet) (whole left next : SendWindow Item) (before after : Option AddressedSlot) (done : ℕ) where
   -- one more frame is done
-  pub taking_goes : (later : Option Hosted) (u : ℕ × Item) → IsTaking p whole before left after done → Some u ≡ lowest_covered left p.base p.mask → next ≡ acknowledged left p.base p.mask
+  pub taking_goes : (later : Option AddressedSlot) (u : ℕ × Item) → IsTaking p whole before left after done → Some u ≡ lowest_covered left p.base p.mask → next ≡ acknowledged left p.base p.mask
       → group_of later ≡ on_slot u.1.addr (slot_done p.from (message_of u.1.entry)) (group_of after) → KeepsRoom after later → IsTaking p whole before next later (done + 1)
   taking_goes later u so found window group room =
       let test : ℕ × Item → Bool = λ x. covers p.base p.mask x.0 in

@@ -12,7 +12,7 @@ use Rattle.gb_cluster.specs.State.{log_in}
 use Rattle.gb_cluster.proofs.World.{IsIsolated, AreIsolated, World, node_of, part_of, world_after}
 use Rattle.gb_record.specs.Project.{project}
 use Rattle.gb_cluster.specs.NodeStep.{slot_for, acting}
-use Rattle.gb_cluster.proofs.Invariant.{SlotIs, Holds, BehavesAlone}
+use Rattle.gb_cluster.proofs.Invariant.{SlotIs, Invariant, BehavesAlone}
 
 log_same : (a : ℕ) (o : Option SlotState) (m : Member) → SlotIs a o m → log_in o ≡ log_at a m.spec m.told
 log_same a None m st = sym (ap (λ (x : Option Spec). log_at a x m.told) st.spec)
@@ -30,7 +30,7 @@ isolated g w alone_too = record {
       };
 }
 
-pub all_isolated : (w : World) → Holds w → AreIsolated w
+pub all_isolated : (w : World) → Invariant w → AreIsolated w
 all_isolated w holds g served = isolated g w (holds.groups g served)
 
 pub same_count : (w : World) (e : Event) → length (world_after w e).nodes ≡ length w.nodes

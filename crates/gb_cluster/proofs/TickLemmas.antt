@@ -30,7 +30,7 @@ use Rattle.gb_cluster.specs.NodeValue.{NodeValue}
 use Rattle.gb_record.specs.Project.{project, ticked, has_row, frames, items_of, is_taken, is_acked, is_noticed, is_stopped, is_met, made_at, watched, replies_to}
 use Rattle.gb_cluster.proofs.World.{World, node_of, world_after}
 use Rattle.gb_cluster.specs.NodeStep.{Part, only_answered, slot_for, slot_noticed_all, node_ticked}
-use Rattle.gb_cluster.proofs.Invariant.{Stands, AreMarked, MemberIs, is_concerned, Fits, NodeIs, Links, Holds, window_of}
+use Rattle.gb_cluster.proofs.Invariant.{Stands, AreMarked, MemberIs, is_concerned, Fits, NodeIs, Links, Invariant, window_of}
 use Rattle.gb_cluster.proofs.IdleLemmas.{idle_turn}
 use Rattle.gb_cluster.proofs.QuietLemmas.{quiet}
 use Rattle.gb_cluster.proofs.MemberLemmas.{KeepsRest}
@@ -199,7 +199,7 @@ tick_group g w a v group in_a here running links fits = record {
         ∙ (both (is_concerned a.number b made) (fin.contains (due v.watch) b) (is_noticed a.number b w.steps)
         ∙ ap (λ (t : Bool). is_concerned a.number b made && ((t && fin.contains (due v.watch) b) || is_noticed a.number b w.steps)) (sym (eqb_self a.number))))
 
-tick_holds : (w : World) (a : NodeId) → a.number < length w.nodes → (node_of w a.number).stopped ≡ false → Holds w → Holds (turned w a.number (node_ticked (node_of w a.number)) (tick_step a (node_of w a.number)) [])
+tick_holds : (w : World) (a : NodeId) → a.number < length w.nodes → (node_of w a.number).stopped ≡ false → Invariant w → Invariant (turned w a.number (node_ticked (node_of w a.number)) (tick_step a (node_of w a.number)) [])
 tick_holds w a in_a running holds =
     holds_turn w a.number (node_ticked v) s [] in_a holds (tick_acts w a v)
     (links_turn w a.number (node_ticked v) s [] in_a holds.links (tick_acts w a v) (tick_node w a v (holds.links.node a.number in_a))
@@ -218,12 +218,12 @@ tick_holds w a in_a running holds =
     group g = alone (length w.nodes) g.group (project g w.packets w.steps)
 
 -- a cluster keeps what it holds through a tick
-pub any_tick : (w : World) (a : NodeId) → a.number < length w.nodes → Holds w → Holds (world_after w (Tick a))
+pub any_tick : (w : World) (a : NodeId) → a.number < length w.nodes → Invariant w → Invariant (world_after w (Tick a))
 any_tick w a in_a holds = go (node_of w a.number).stopped refl
   where
     part : Bool → Part
     part b = if b then only_answered (node_of w a.number) (AnswerTicked (TickRefused Stopped)) else only_answered (node_ticked (node_of w a.number)) (AnswerTicked (Noticed (due (node_of w a.number).watch)))
 
-    go : (b : Bool) → (node_of w a.number).stopped ≡ b → Holds (turned w a.number (part b).value (record { event = Tick a; answer = (part b).answer }) (part b).sent)
+    go : (b : Bool) → (node_of w a.number).stopped ≡ b → Invariant (turned w a.number (part b).value (record { event = Tick a; answer = (part b).answer }) (part b).sent)
     go true is = idle_turn w a.number (Tick a) (AnswerTicked (TickRefused Stopped)) in_a (quiet refl) holds
     go false is = tick_holds w a in_a is holds

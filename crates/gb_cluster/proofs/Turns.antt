@@ -15,7 +15,7 @@ use Rattle.gb_cluster.specs.NodeValue.{NodeValue}
 use Rattle.gb_record.specs.Project.{project, gives, has_row, is_taken_in, frames, frame_at, items_of, is_taken, is_taken_by, is_acked, is_acked_by, is_noticed, is_noticed_by, is_stopped, is_stopped_by, is_met, is_met_by, made_at, made_by, or_else, watched, watched_by, reply_in, replies_to, is_served, is_turned_away}
 use Rattle.gb_cluster.proofs.World.{World, node_of}
 use Rattle.gb_cluster.specs.NodeStep.{no_node}
-use Rattle.gb_cluster.proofs.Invariant.{Stands, AreMarked, MemberIs, is_concerned, Fits, NodeIs, IsOfFrame, IsFramed, IsLink, Links, BehavesAlone, Holds, window_of}
+use Rattle.gb_cluster.proofs.Invariant.{Stands, AreMarked, MemberIs, is_concerned, Fits, NodeIs, IsOfFrame, IsFramed, IsLink, Links, BehavesAlone, Invariant, window_of}
 use Rattle.gb_record.proofs.Numbers.{IsNumbered, number_of, offset}
 use Rattle.gb_cluster.proofs.MarkLemmas.{or_off}
 use Rattle.gb_record.proofs.LaterPackets.{frames-more, is_taken-more, is_acked-more, watched-more, project-more, numbered-more, items_of-append, offset_past, offset_within}
@@ -270,11 +270,11 @@ fits_turn g w a v s more group next given in_a links acts fits turn = record {
     grown_done x y in_x in_y was = grown x y (λ n. is_acked x y n (w.packets ++ more) (s ∷ w.steps)) ((next x).done y) (late_acked x y in_x in_y) was
 
 -- the cluster keeps what it holds through the step
-pub holds_turn : (w : World) (a : ℕ) (v : NodeValue) (s : Step) (more : List Packet) → a < length w.nodes → Holds w → ActsAt w a s more → Links (turned w a v s more)
+pub holds_turn : (w : World) (a : ℕ) (v : NodeValue) (s : Step) (more : List Packet) → a < length w.nodes → Invariant w → ActsAt w a s more → Links (turned w a v s more)
     → ((g : Addr) → is_turned_away g s.event s.answer ≡ false → BehavesAlone g w
     → GroupTurn g w a v s more (alone (length w.nodes) g.group (project g w.packets w.steps))
     (alone_from (length w.nodes) g.group (alone (length w.nodes) g.group (project g w.packets w.steps)) (gives g (w.packets ++ more) w.steps s.event s.answer)) (gives g (w.packets ++ more) w.steps s.event s.answer))
-    → Holds (turned w a v s more)
+    → Invariant (turned w a v s more)
 unfolding project
 holds_turn w a v s more in_a holds acts links turn = record {
   links = links;

@@ -7,33 +7,33 @@ use Rattle.gb_cluster.specs.NodeStep.{first_of, slot_for}
 use Rattle.gb_link.specs.Received.{Received, admission}
 use Rattle.gb_link.specs.declared.receiver.Admission.{Admission}
 use Rattle.gb_link.specs.declared.receiver.Admission.TheVariants.{First, Seen, Outside}
-use Rattle.gb_cluster.specs.declared.node.Hosted.{Hosted}
+use Rattle.gb_cluster.specs.declared.node.AddressedSlot.{AddressedSlot}
 use Rattle.gb_record.specs.declared.packet.Item.{Item}
 
 -- the group without the room
-abbrev pub group_at : Hosted → GroupAt
+abbrev pub group_at : AddressedSlot → GroupAt
 group_at h = record { addr = h.addr; slot = h.slot.state }
 
-abbrev pub group_of : Option Hosted → Option GroupAt
+abbrev pub group_of : Option AddressedSlot → Option GroupAt
 group_of None = None
 group_of (Some h) = Some (group_at h)
 
 -- so many more items can come, with so many bytes in all
-abbrev pub calls_of : Option Hosted → ℕ
+abbrev pub calls_of : Option AddressedSlot → ℕ
 calls_of None = 0
 calls_of (Some h) = h.slot.calls
 
-abbrev pub bytes_of : Option Hosted → ℕ
+abbrev pub bytes_of : Option AddressedSlot → ℕ
 bytes_of None = 0
 bytes_of (Some h) = h.slot.bytes
 
 -- where the item is one of the group, it can come
-abbrev pub HasRoom : Option Item → Option Hosted → Type 0
+abbrev pub HasRoom : Option Item → Option AddressedSlot → Type 0
 HasRoom None h = Unit {0}
 HasRoom (Some item) h = is_some (slot_for item.addr (group_of h)) ≡ true → (1 ≤ calls_of h) × (length item.entry.payload ≤ bytes_of h)
 
 -- what could come still can
-abbrev pub KeepsRoom : Option Hosted → Option Hosted → Type 0
+abbrev pub KeepsRoom : Option AddressedSlot → Option AddressedSlot → Type 0
 KeepsRoom old new = (item : Option Item) → HasRoom item old → HasRoom item new
 
 -- the first item that waits for a node

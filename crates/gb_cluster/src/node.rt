@@ -43,12 +43,12 @@ use std::marker::Model;
 
 /// A group at its address.
 #[derive(Drop)]
-struct Hosted {
+struct AddressedSlot {
     addr: Addr,
     slot: Slot,
 }
 
-impl Hosted {
+impl AddressedSlot {
     /// Opens the group, where it is the one with this address.
     fn open_group(&mut self, addr: Addr) -> Reply
         ensures reply { result ≡ on_made open_answer (shown_for (slot_for addr (Some (group_at self.old)))) }
@@ -111,7 +111,7 @@ impl Hosted {
 pub struct OneNode {
     alloc: Global,
     row: Option<TenantRow>,
-    group: Option<Hosted>,
+    group: Option<AddressedSlot>,
     /// For each node, the sending end of the link to it.
     senders: [Sender<Item>; NODES],
     /// For each node, the receiving end of the link from it.
@@ -140,7 +140,7 @@ impl Model for OneNode {
 }
 
 /// Whether the group with this address is here.
-fn is_here(group: &Option<Hosted>, addr: Addr) -> bool
+fn is_here(group: &Option<AddressedSlot>, addr: Addr) -> bool
     ensures { result ≡ is_some (slot_for addr (group_of group.now)) }
 {
     match group {
@@ -193,7 +193,7 @@ fn is_another(nodes: usize, me: NodeId, to: NodeId) -> bool
 
 /// The first item that waits for the node in the group, copied.
 fn first_item(
-    group: &Option<Hosted>,
+    group: &Option<AddressedSlot>,
     alloc: Global,
     to: NodeId,
 ) -> Result<Option<Item>, OutOfMemory>
@@ -213,7 +213,7 @@ fn first_item(
 }
 
 /// Takes the first item that waits for the node in the group, to be sent to it.
-fn take_first(group: &mut Option<Hosted>, to: NodeId)
+fn take_first(group: &mut Option<AddressedSlot>, to: NodeId)
     requires { IsSome (first_waiting to.number (group_of group.old)) }
     ensures { group_of group.new ≡ group_took to.number (group_of group.old) }
 {
@@ -244,7 +244,7 @@ fn is_new_frame(receiver: &Receiver, number: u64) -> bool
 
 /// Makes room for the item, where it is new and one of the group.
 fn make_room(
-    group: &mut Option<Hosted>,
+    group: &mut Option<AddressedSlot>,
     item: &Option<Item>,
     is_new: bool,
 ) -> Result<(), OutOfMemory>
@@ -267,7 +267,7 @@ fn make_room(
 }
 
 /// Keeps that a node acknowledged the item, where it is one of the group.
-fn finish(group: &mut Option<Hosted>, by: NodeId, item: &Item)
+fn finish(group: &mut Option<AddressedSlot>, by: NodeId, item: &Item)
     ensures group { group_of group.new ≡ on_slot item.now.addr (slot_done by (message_of item.now.entry)) (group_of group.old) }
     ensures room { KeepsRoom group.old group.new }
 {
@@ -279,7 +279,7 @@ fn finish(group: &mut Option<Hosted>, by: NodeId, item: &Item)
 }
 
 /// Takes an item in that came from a node, where it is one of the group.
-fn bring(group: &mut Option<Hosted>, from: NodeId, item: &Item)
+fn bring(group: &mut Option<AddressedSlot>, from: NodeId, item: &Item)
     requires { HasRoom (Some item.now) group.old }
     ensures { group_of group.new ≡ on_slot item.now.addr (slot_came from item.now.entry) (group_of group.old) }
 {
@@ -295,7 +295,7 @@ fn bring(group: &mut Option<Hosted>, from: NodeId, item: &Item)
 
 /// Takes a packet's acknowledgement: the frames that it newly covers are done, and their items in the group. How
 /// many these are.
-fn take_ack(group: &mut Option<Hosted>, sender: &mut Sender<Item>, packet: &Packet) -> u32
+fn take_ack(group: &mut Option<AddressedSlot>, sender: &mut Sender<Item>, packet: &Packet) -> u32
     ensures count { result ≡ length (filter (λ u. covers packet.now.base packet.now.mask u.0) sender.old.undone) }
     ensures sender { sender.new ≡ without_done packet.now sender.old }
     ensures group { group_of group.new ≡ fold (item_done packet.now.from) (group_of group.old) (filter (λ u. covers packet.now.base packet.now.mask u.0) sender.old.undone) }
@@ -313,7 +313,11 @@ fn take_ack(group: &mut Option<Hosted>, sender: &mut Sender<Item>, packet: &Pack
 
 /// Takes a packet's frame, if it has one: its item goes to the group where its number comes for the first time.
 /// What became of it, and how many items it has then.
-fn take_frame(group: &mut Option<Hosted>, receiver: &mut Receiver, packet: &Packet) -> (Frame, u32)
+fn take_frame(
+    group: &mut Option<AddressedSlot>,
+    receiver: &mut Receiver,
+    packet: &Packet,
+) -> (Frame, u32)
     requires { is_new_frame receiver.old packet.now.frame ≡ true → HasRoom packet.now.item group.old }
     ensures frame { result.0 ≡ (if nat_eq packet.now.frame 0 then Frame.Nothing else kind_of (admission receiver.old packet.now.frame)) }
     ensures items { result.1 ≡ (if nat_eq packet.now.frame 0 then 0 else count_of (admission receiver.old packet.now.frame) packet.now.item) }
@@ -361,7 +365,7 @@ fn has_other_of(slot: &Slot, found: &NodeSet) -> bool
 
 /// Notices these nodes in the group, rising. Takes no memory where none of them is another member of it; without
 /// memory nothing has changed.
-fn notice_all(group: &mut Option<Hosted>, found: &NodeSet) -> Result<(), OutOfMemory>
+fn notice_all(group: &mut Option<AddressedSlot>, found: &NodeSet) -> Result<(), OutOfMemory>
     ensures ok { OnOk result (group_of group.new ≡ group_noticed (rising found.now) (group_of group.old)) }
     ensures err { OnErr result (group_of group.new ≡ group_of group.old) }
     ensures lack { OnErr result (is_concerned (group_of group.old) found.now ≡ true) }
@@ -474,7 +478,7 @@ impl OneNode {
         }
         match Slot::new(self.alloc, spec.duplicate(), me, &self.detector.noticed()) {
             Ok(slot) => {
-                self.group = Some(Hosted { addr, slot });
+                self.group = Some(AddressedSlot { addr, slot });
                 Reply::Done
             }
             Err(why) => Reply::Refused(why),

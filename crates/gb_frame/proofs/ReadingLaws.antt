@@ -16,7 +16,7 @@ use Rattle.gb_frame.specs.Packet.{Content}
 use Rattle.gb_frame.specs.Spelling.{items_text, header_text, tagged_text, tag_of, packet_text, IsBytes, IsItem, IsWithinLimits, IsText}
 use Rattle.gb_frame.specs.Fields.{version_in, from_in, to_in, base_in, mask_in, frame_in, count_in, items_in, tag_in, tagged_in}
 use Rattle.gb_frame.specs.Reading.{unless, faults, test, fault_in, content_in, parsed, left_over, items_of}
-use Rattle.gb_frame.specs.Faults.{Stand, Holds, IsFirstFault}
+use Rattle.gb_frame.specs.Faults.{Stand, HasFault, IsFirstFault}
 use Rattle.gb_frame.specs.Laws.{WhatIsWrittenIsRead}
 use Rattle.gb_frame.proofs.Numbers.{IsBytes-take, IsBytes-drop, wide16, wide64, cut, number_below}
 use Rattle.gb_frame.proofs.ItemLaws.{items_take, stand_again, some_is}
@@ -25,10 +25,10 @@ use Rattle.gb_frame.proofs.FaultLaws.{found_first, found_none, faults_numbered, 
 
 -- ---- a test that says so
 
-none_stand : (key bytes : List ℕ) → is_none (parsed bytes) ≡ true → Holds key bytes Length
+none_stand : (key bytes : List ℕ) → is_none (parsed bytes) ≡ true → HasFault key bytes Length
 none_stand key bytes e items rest s = let found = stand_again (count_in bytes) (items_in bytes) items rest s in absurd (let there : is_none (parsed bytes) ≡ false = ap is_none found in cc)
 
-left_stand : (key bytes : List ℕ) → IsBytes bytes → (o : Option (List Item × List ℕ)) → parsed bytes ≡ o → nat_lt 0 (length (left_over o)) ≡ true → Holds key bytes Trailing
+left_stand : (key bytes : List ℕ) → IsBytes bytes → (o : Option (List Item × List ℕ)) → parsed bytes ≡ o → nat_lt 0 (length (left_over o)) ≡ true → HasFault key bytes Trailing
 left_stand key bytes fits None is e = absurd cc
 left_stand key bytes fits (Some x) is e =
     let long = ltb-true _ _ e in
@@ -61,7 +61,7 @@ count_wrong n m e =
       | false ↦ λ h f. inr (λ none. let t = eq-eqb _ _ none in cc, let le = ltb-false _ _ f in omega arith)
     ] refl e
 
-says : (key bytes : List ℕ) (f : PacketFault) → (f ≡ Trailing → IsBytes bytes) → test key bytes f ≡ true → Holds key bytes f
+says : (key bytes : List ℕ) (f : PacketFault) → (f ≡ Trailing → IsBytes bytes) → test key bytes f ≡ true → HasFault key bytes f
 says key bytes Short fits e = ltb-true _ _ e
 says key bytes Magic fits e = λ there. let t = magic_told bytes there in let n = not-true _ e in cc
 says key bytes Version fits e = λ there. let t = eq-eqb _ _ there in let n = not-true _ e in cc
@@ -75,17 +75,17 @@ says key bytes Tag fits e = other_text (tag_in bytes) (tag_of key (tagged_in byt
 
 -- ---- a test that doesn't
 
-some_stands : (key bytes : List ℕ) → IsBytes bytes → (o : Option (List Item × List ℕ)) → parsed bytes ≡ o → is_none o ≡ false → ¬ (Holds key bytes Length)
+some_stands : (key bytes : List ℕ) → IsBytes bytes → (o : Option (List Item × List ℕ)) → parsed bytes ≡ o → is_none o ≡ false → ¬ (HasFault key bytes Length)
 some_stands key bytes fits None is e = absurd cc
 some_stands key bytes fits (Some x) is e = λ no. no x.0 x.1 (items_take (count_in bytes) (items_in bytes) x (IsBytes-drop HEADER (tagged_in bytes) (IsBytes-take (length bytes - TAG) bytes fits)) is)
 
-none_left : (key bytes : List ℕ) → nat_lt 0 (length (left_over (parsed bytes))) ≡ false → ¬ (Holds key bytes Trailing)
+none_left : (key bytes : List ℕ) → nat_lt 0 (length (left_over (parsed bytes))) ≡ false → ¬ (HasFault key bytes Trailing)
 none_left key bytes e (items, rest, more, s) =
     let found = stand_again (count_in bytes) (items_in bytes) items rest s in
     let left : left_over (parsed bytes) ≡ rest = ap left_over found in
     more (nil_from_length rest (let h = ltb-false _ _ e in let k = ap length left in omega arith))
 
-denies : (key bytes : List ℕ) → IsBytes bytes → (f : PacketFault) → test key bytes f ≡ false → ¬ (Holds key bytes f)
+denies : (key bytes : List ℕ) → IsBytes bytes → (f : PacketFault) → test key bytes f ≡ false → ¬ (HasFault key bytes f)
 denies key bytes fits Short e = λ h. let t = lt-ltb _ _ h in cc
 denies key bytes fits Magic e = λ h. h (magic_there bytes (not-false _ e))
 denies key bytes fits Version e = λ h. h (eqb-true _ _ (not-false _ e))
@@ -207,13 +207,13 @@ is_text key bytes fits none =
 
 -- ---- a packet's text has no fault
 
-no_fault : (key bytes : List ℕ) (c : Content) → IsText key bytes c → (f : PacketFault) → ¬ (Holds key bytes f)
+no_fault : (key bytes : List ℕ) (c : Content) → IsText key bytes c → (f : PacketFault) → ¬ (HasFault key bytes f)
 no_fault key bytes c t f =
     let r = text_reads key bytes c t in
     let p = t.0 in
     let room = p.limits.room in
     let s : Stand (count_in bytes) (items_in bytes) c.items [] = record { count = sym r.count; fit = p.items; parts = r.items ∙ sym (append-nil (items_text c.items)) } in
-    elim f as (λ f. ¬ (Holds key bytes f)) [
+    elim f as (λ f. ¬ (HasFault key bytes f)) [
       | Short ↦ λ h. let l = r.len in absurd (omega arith)
       | Magic ↦ λ h. h r.magic
       | Version ↦ λ h. h r.version

@@ -28,19 +28,19 @@ pub record Stand (n : ℕ) (bytes : List ℕ) (items : List Item) (rest : List �
   pub parts : bytes ≡ items_text items ++ rest
 
 -- where a fault holds, whatever else does
-abbrev pub Holds : List ℕ → List ℕ → PacketFault → Type 0
-Holds key bytes Short = length bytes < SHORTEST
-Holds key bytes Magic = take 2 bytes ≢ codes "GB"
-Holds key bytes Version = version_in bytes ≢ VERSION
-Holds key bytes Node = (NODES ≤ from_in bytes) ⊎ (NODES ≤ to_in bytes) ⊎ (from_in bytes ≡ to_in bytes)
-Holds key bytes Mask = (base_in bytes ≡ 0) ⊎ (mask_in bytes % 2 ≡ 1)
-Holds key bytes Count = ((frame_in bytes ≡ 0) × (count_in bytes ≢ 0)) ⊎ ((frame_in bytes ≢ 0) × (count_in bytes ≡ 0))
-Holds key bytes Length = (items : List Item) (rest : List ℕ) → ¬ Stand (count_in bytes) (items_in bytes) items rest
-Holds key bytes Trailing = (items : List Item) × (rest : List ℕ) × (rest ≢ []) × Stand (count_in bytes) (items_in bytes) items rest
-Holds key bytes TooLong = PACKET < length bytes
-Holds key bytes Tag = tag_in bytes ≢ tag_of key (tagged_in bytes)
+abbrev pub HasFault : List ℕ → List ℕ → PacketFault → Type 0
+HasFault key bytes Short = length bytes < SHORTEST
+HasFault key bytes Magic = take 2 bytes ≢ codes "GB"
+HasFault key bytes Version = version_in bytes ≢ VERSION
+HasFault key bytes Node = (NODES ≤ from_in bytes) ⊎ (NODES ≤ to_in bytes) ⊎ (from_in bytes ≡ to_in bytes)
+HasFault key bytes Mask = (base_in bytes ≡ 0) ⊎ (mask_in bytes % 2 ≡ 1)
+HasFault key bytes Count = ((frame_in bytes ≡ 0) × (count_in bytes ≢ 0)) ⊎ ((frame_in bytes ≢ 0) × (count_in bytes ≡ 0))
+HasFault key bytes Length = (items : List Item) (rest : List ℕ) → ¬ Stand (count_in bytes) (items_in bytes) items rest
+HasFault key bytes Trailing = (items : List Item) × (rest : List ℕ) × (rest ≢ []) × Stand (count_in bytes) (items_in bytes) items rest
+HasFault key bytes TooLong = PACKET < length bytes
+HasFault key bytes Tag = tag_in bytes ≢ tag_of key (tagged_in bytes)
 
 -- the fault holds, and none before it in the table
 pub record IsFirstFault (key bytes : List ℕ) (fault : PacketFault) : Type 0 where
-  pub holds : Holds key bytes fault
-  pub first : (earlier : PacketFault) → fault_number earlier < fault_number fault → ¬ Holds key bytes earlier
+  pub holds : HasFault key bytes fault
+  pub first : (earlier : PacketFault) → fault_number earlier < fault_number fault → ¬ HasFault key bytes earlier

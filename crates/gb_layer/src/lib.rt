@@ -12,8 +12,8 @@
 //! are which module, and `plain` computes the modules slowly, straight from their meaning.
 #![tactic(auto)]
 
-pub mod base;
 pub mod beb;
+pub mod broadcast_module;
 pub mod call;
 pub mod direct;
 pub mod effects;

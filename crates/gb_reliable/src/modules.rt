@@ -2,7 +2,7 @@
 ghost use Rattle.std.specs.Prelude.{◌≡◌, List, ◌∷◌};
 ghost use Rattle.std.specs.FinSet as set;
 ghost use Rattle.gb_types.specs.declared.node.NodeId.{NodeId};
-ghost use Rattle.gb_layer.specs.declared.base.Base.TheVariants.{Lazy, Eager};
+ghost use Rattle.gb_layer.specs.declared.broadcast_module.BroadcastModule.TheVariants.{Lazy, Eager};
 ghost use Rattle.gb_layer.specs.declared.call.Call.{Call};
 ghost use Rattle.gb_layer.specs.Machine.{after, all_ups, messages};
 ghost use Rattle.gb_layer.specs.Modules.{IsLawful, broadcasts, delivers, log};

@@ -6,7 +6,7 @@ use Rattle.std.proofs.lemmas.Bool.{false≢true}
 use Rattle.std.proofs.lemmas.List.{append_assoc, append-nil, length-append}
 use Rattle.gb_types.specs.declared.reply.Reply.{Reply}
 use Rattle.gb_types.specs.declared.request.Request.{Request}
-use Rattle.gb_session.specs.Streams.{framed, Holds, IsBegun, IsMalformed}
+use Rattle.gb_session.specs.Streams.{framed, SpellsRequests, IsBegun, IsMalformed}
 use Rattle.gb_session.specs.Feeds.{FeedValue, HasGiven, StandsAt, Gives}
 use Rattle.gb_session.specs.Runs.{IsRun, HasAsked, reply_message}
 use Rattle.gb_session.specs.Sessions.{AnswersFirst, EndsPiece, IsSession, IsMetAtLast, malformed_message}
@@ -77,9 +77,9 @@ asked_more answers s t u input unread before after feed count reads served more 
 begun_rest : (feed : FeedValue) (stream : List ℕ) (requests : List Request) → feed.is_malformed ≡ false → (has : HasGiven stream requests feed) → (has.rest ≡ feed.begun) × IsBegun has.rest
 begun_rest feed stream requests good has = subst (λ b. StandsAt b feed.begun has.rest) good has.stands
 
-Holds-split : (a b : List Request) (s r : List ℕ) → Holds (a ++ b) s r → (mid : List ℕ) × Holds a s mid
-Holds-split [] b s r holds = (s, refl)
-Holds-split (q ∷ a) b s r (body, more, is, spelt, rest) = let next = Holds-split a b more r rest in (next.0, (body, more, is, spelt, next.1))
+SpellsRequests-split : (a b : List Request) (s r : List ℕ) → SpellsRequests (a ++ b) s r → (mid : List ℕ) × SpellsRequests a s mid
+SpellsRequests-split [] b s r holds = (s, refl)
+SpellsRequests-split (q ∷ a) b s r (body, more, is, spelt, rest) = let next = SpellsRequests-split a b more r rest in (next.0, (body, more, is, spelt, next.1))
 
 -- the replies to a piece behind those before it
 written_more : (before now after : Option (List ℕ)) (x y : List Reply) → Appends before now (flat_map reply_message x) → Appends now after (flat_map reply_message y) → Appends before after (flat_map reply_message (x ++ y))
@@ -144,8 +144,8 @@ pub ends_limit : {S : Type 0} (answers : S → Request → Reply → S → Type 
 ends_limit answers s t u input unread unread' before now after feed feed' piece requests n m reads served read short gives first =
     let has : HasGiven (served.0 ++ piece) (served.2 ++ requests) feed' = gives served.0 served.2 served.4 in
     let parts : served.2 ++ requests ≡ (served.2 ++ first.0) ++ first.1 = ap (λ x. served.2 ++ x) first.3 ∙ sym (append_assoc served.2 first.0 first.1) in
-    let holds : Holds ((served.2 ++ first.0) ++ first.1) (served.0 ++ piece) has.rest = subst (λ x. Holds x (served.0 ++ piece) has.rest) parts has.holds in
-    let front = Holds-split (served.2 ++ first.0) first.1 (served.0 ++ piece) has.rest holds in (
+    let holds : SpellsRequests ((served.2 ++ first.0) ++ first.1) (served.0 ++ piece) has.rest = subst (λ x. SpellsRequests x (served.0 ++ piece) has.rest) parts has.holds in
+    let front = SpellsRequests-split (served.2 ++ first.0) first.1 (served.0 ++ piece) has.rest holds in (
       served.0 ++ piece,
       Consumes-join input unread unread' served.0 piece served.1 read,
       served.2 ++ first.0,

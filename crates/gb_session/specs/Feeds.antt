@@ -1,7 +1,7 @@
 -- What a feed of pieces has given of a stream.
 use Rattle.std.specs.Prelude.{◌≡◌, ℕ, Bool, true, false, List, ◌++◌}
 use Rattle.gb_types.specs.declared.request.Request.{Request}
-use Rattle.gb_session.specs.Streams.{Holds, IsBegun, IsMalformed}
+use Rattle.gb_session.specs.Streams.{SpellsRequests, IsBegun, IsMalformed}
 use Rattle.gb_session.specs.Fronts.{AddsRequests}
 
 -- what came of the message that is begun, and whether a Malformed one was met
@@ -18,7 +18,7 @@ StandsAt false begun rest = (rest ≡ begun) × IsBegun rest
 -- one, which was then met.
 pub record HasGiven (stream : List ℕ) (requests : List Request) (feed : FeedValue) : Type 0 where
   pub rest : List ℕ
-  pub holds : Holds requests stream rest
+  pub holds : SpellsRequests requests stream rest
   pub stands : StandsAt feed.is_malformed feed.begun rest
 
 -- A piece came and gave these requests: whatever stream the feed stood for before, and whatever it had given of it, it now

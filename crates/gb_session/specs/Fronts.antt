@@ -2,7 +2,7 @@
 use Rattle.std.specs.Prelude.{◌≡◌, ℕ, ◌+◌, ◌≤◌, List, ◌++◌, take, drop, length}
 use Rattle.gb_types.specs.declared.request.Request.{Request}
 use Rattle.gb_session.specs.Grammar.{IsRequestText}
-use Rattle.gb_session.specs.Streams.{IsBegun, IsMalformed, said_length, framed, Holds, Stops}
+use Rattle.gb_session.specs.Streams.{IsBegun, IsMalformed, said_length, framed, SpellsRequests, Stops}
 use Rattle.gb_session.specs.declared.messages.Front.{Front}
 use Rattle.gb_session.specs.declared.messages.Front.TheVariants.{Begun, Malformed, Message}
 
@@ -21,4 +21,4 @@ IsFront bytes (Message request end) = IsMessage bytes request end
 
 -- some bytes' requests stand behind those that were there before, up to where the bytes stop
 abbrev pub AddsRequests : List Request → List Request → List ℕ → List ℕ → Type 0
-AddsRequests old new bytes rest = (requests : List Request) × (new ≡ old ++ requests) × Holds requests bytes rest
+AddsRequests old new bytes rest = (requests : List Request) × (new ≡ old ++ requests) × SpellsRequests requests bytes rest

@@ -3,8 +3,8 @@ use Rattle.std.proofs.Common.{◌≡◌, ℕ, true, false, cond, List, [], ◌�
 use Rattle.std.specs.FinSet as set
 use Rattle.gb_types.specs.declared.kind.Kind.{Kind}
 use Rattle.gb_types.specs.declared.node.NodeId.{NodeId}
-use Rattle.gb_layer.specs.declared.base.Base.{Base}
-use Rattle.gb_layer.specs.declared.base.Base.TheVariants.{BestEffort, Lazy, Eager, AllAck}
+use Rattle.gb_layer.specs.declared.broadcast_module.BroadcastModule.{BroadcastModule}
+use Rattle.gb_layer.specs.declared.broadcast_module.BroadcastModule.TheVariants.{BestEffort, Lazy, Eager, AllAck}
 use Rattle.gb_layer.specs.declared.call.Call.{Call}
 use Rattle.gb_layer.specs.BebLemmas.{stays}
 use Rattle.gb_layer.specs.Machine.{Gives, after, all_ups, messages}
@@ -24,7 +24,7 @@ use Rattle.gb_fifo.specs.Order.{ordered_after, in_order}
 use Rattle.gb_fifo.proofs.FifoOrderLemmas.{call_order, fifo_order}
 use Rattle.gb_fifo.proofs.OrderLemmas.{ordered_append}
 use Rattle.gb_stack.specs.InsideLemmas.{gives_into, ups_into}
-use Rattle.gb_stack.specs.Kinds.{base_of, is_fifo, kind_delivers, kind_broadcasts, kind_log}
+use Rattle.gb_stack.specs.Kinds.{module_of, is_fifo, kind_delivers, kind_broadcasts, kind_log}
 use Rattle.gb_stack.specs.StackState.{UnorderedState, best_effort, lazy, eager, all_ack, unordered, fifo, relayed_next, relayed_gives, unordered_next, unordered_gives, unordered_noticing, IsUntold, stack_next, stack_gives, untold_stack}
 use Rattle.gb_stack.specs.Stands.{NewStackStands, CalledStackStands, HandsUpWhatIsDelivered, SendsWhatIsBroadcast, HandsUpTheLog, LogGrows}
 use Rattle.gb_stack.specs.UnorderedLemmas.{stay, unordered_ups_handed_in}
@@ -32,17 +32,17 @@ use Rattle.gb_stack.specs.StackLemmas.{ordered_next, ordered_gives}
 use Rattle.gb_stack.proofs.StartLemmas.{new_is}
 
 -- a broadcast without an order that was told nothing
-abbrev untold : Base → NodeId → Nodes → UnorderedState
+abbrev untold : BroadcastModule → NodeId → Nodes → UnorderedState
 untold base me members = unordered_noticing base me members set.empty
 
-was_untold : (base : Base) (me : NodeId) (members : Nodes) → IsUntold (untold base me members)
+was_untold : (base : BroadcastModule) (me : NodeId) (members : Nodes) → IsUntold (untold base me members)
 was_untold BestEffort me members = tt
 was_untold Lazy me members = record { lower = tt; noticed = refl; entries = refl }
 was_untold Eager me members = record { lower = tt; noticed = refl; entries = refl }
 was_untold AllAck me members = record { lower = tt; noticed = refl; entries = refl }
 
 -- a relay among the broadcasts without an order is the module that its rules make
-module _ (rules : Rules) (base : Base) (into : State NodeId → UnorderedState) (nexts : (s : State NodeId) (c : Call) → unordered_next (into s) c ≡ into (relayed_next rules s c))
+module _ (rules : Rules) (base : BroadcastModule) (into : State NodeId → UnorderedState) (nexts : (s : State NodeId) (c : Call) → unordered_next (into s) c ≡ into (relayed_next rules s c))
     (alike : (s : State NodeId) (c : Call) → unordered_gives (into s) c ≡ relayed_gives rules s c) (is : IsModule rules base) (me : NodeId) (members : Nodes) (past : List Call) where
   relay_call : (c : Call) → unordered_gives (after unordered_next (into (at_start me members)) past) c ≡ relayed_gives rules (after (relayed_next rules) (at_start me members) past) c
   relay_call = gives_into (relayed_next rules) (relayed_gives rules) unordered_next unordered_gives into nexts alike (at_start me members) past
@@ -60,21 +60,21 @@ module _ (rules : Rules) (base : Base) (into : State NodeId → UnorderedState) 
 best_effort_call : (me : NodeId) (past : List Call) (c : Call) → unordered_gives (after unordered_next (best_effort me) past) c ≡ direct_beb me c
 best_effort_call me past c = gives_into stay direct_beb unordered_next unordered_gives best_effort (λ s c. refl) (λ s c. refl) me past c ∙ ap (λ k. direct_beb k c) (stays me past)
 
-unordered_up : (base : Base) (me : NodeId) (members : Nodes) (past : List Call) (c : Call) → IsLawful me.number (c ∷ past)
+unordered_up : (base : BroadcastModule) (me : NodeId) (members : Nodes) (past : List Call) (c : Call) → IsLawful me.number (c ∷ past)
     → messages (unordered_gives (after unordered_next (untold base me members) past) c).ups ≡ delivers base me.number (set.items members) c past
 unordered_up BestEffort me members past c l = ap (λ (g : Gives). messages g.ups) (best_effort_call me past c) ∙ best_effort_up me (set.items members) past c l
 unordered_up Lazy me members past c l = relay_up lazy_rules Lazy lazy (λ s c. refl) (λ s c. refl) lazy_is_module me members past c l
 unordered_up Eager me members past c l = relay_up eager_rules Eager eager (λ s c. refl) (λ s c. refl) eager_is_module me members past c l
 unordered_up AllAck me members past c l = relay_up all_ack_rules AllAck all_ack (λ s c. refl) (λ s c. refl) all_ack_is_module me members past c l
 
-unordered_out : (base : Base) (me : NodeId) (members : Nodes) (past : List Call) (c : Call) → IsLawful me.number (c ∷ past)
+unordered_out : (base : BroadcastModule) (me : NodeId) (members : Nodes) (past : List Call) (c : Call) → IsLawful me.number (c ∷ past)
     → (unordered_gives (after unordered_next (untold base me members) past) c).sends ≡ broadcasts base me.number c past
 unordered_out BestEffort me members past c l = ap (λ (g : Gives). g.sends) (best_effort_call me past c) ∙ best_effort_out me [] past c l
 unordered_out Lazy me members past c l = relay_out lazy_rules Lazy lazy (λ s c. refl) (λ s c. refl) lazy_is_module me members past c l
 unordered_out Eager me members past c l = relay_out eager_rules Eager eager (λ s c. refl) (λ s c. refl) eager_is_module me members past c l
 unordered_out AllAck me members past c l = relay_out all_ack_rules AllAck all_ack (λ s c. refl) (λ s c. refl) all_ack_is_module me members past c l
 
-unordered_log : (base : Base) (me : NodeId) (members : Nodes) (past : List Call) → IsLawful me.number past
+unordered_log : (base : BroadcastModule) (me : NodeId) (members : Nodes) (past : List Call) → IsLawful me.number past
     → messages (all_ups unordered_next unordered_gives (untold base me members) past) ≡ log base me.number (set.items members) past
 unordered_log BestEffort me members past l =
     ap messages (ups_into stay direct_beb unordered_next unordered_gives best_effort (λ s c. refl) (λ s c. refl) me past) ∙ best_effort_log me (set.items members) past l
@@ -82,7 +82,7 @@ unordered_log Lazy me members past l = relay_log lazy_rules Lazy lazy (λ s c. r
 unordered_log Eager me members past l = relay_log eager_rules Eager eager (λ s c. refl) (λ s c. refl) eager_is_module me members past l
 unordered_log AllAck me members past l = relay_log all_ack_rules AllAck all_ack (λ s c. refl) (λ s c. refl) all_ack_is_module me members past l
 
-module _ (base : Base) (me : NodeId) (members : Nodes) where
+module _ (base : BroadcastModule) (me : NodeId) (members : Nodes) where
   -- a fifo that was told nothing
   abbrev ordered : FifoState UnorderedState
   ordered = record { lower = untold base me members; entries = [] }
@@ -127,7 +127,7 @@ module _ (base : Base) (me : NodeId) (members : Nodes) where
 stack_up : (kind : Kind) (me : NodeId) (members : Nodes) (past : List Call) (c : Call) → IsLawful me.number (c ∷ past)
     → messages (stack_gives (after stack_next (untold_stack kind me members) past) c).ups ≡ kind_delivers kind me.number (set.items members) c past
 stack_up kind me members past c l =
-    let base = base_of kind in
+    let base = module_of kind in
     elim (is_fifo kind) as (λ b. messages (stack_gives (after stack_next (cond b (fifo (ordered base me members)) (unordered (untold base me members))) past) c).ups
     ≡ cond b (ordered_after (log base me.number (set.items members) past) (delivers base me.number (set.items members) c past)) (delivers base me.number (set.items members) c past)) [
       | true ↦ fifo_up base me members past c l
@@ -137,7 +137,7 @@ stack_up kind me members past c l =
 stack_out : (kind : Kind) (me : NodeId) (members : Nodes) (past : List Call) (c : Call) → IsLawful me.number (c ∷ past)
     → (stack_gives (after stack_next (untold_stack kind me members) past) c).sends ≡ kind_broadcasts kind me.number c past
 stack_out kind me members past c l =
-    let base = base_of kind in
+    let base = module_of kind in
     elim (is_fifo kind) as (λ b. (stack_gives (after stack_next (cond b (fifo (ordered base me members)) (unordered (untold base me members))) past) c).sends ≡ broadcasts base me.number c past) [
       | true ↦ fifo_out base me members past c l
       | false ↦ plain_out base me members past c l
@@ -145,7 +145,7 @@ stack_out kind me members past c l =
 
 pub hands_up_log : HandsUpTheLog
 hands_up_log kind me members past l =
-    let base = base_of kind in
+    let base = module_of kind in
     elim (is_fifo kind) as (λ b. messages (all_ups stack_next stack_gives (cond b (fifo (ordered base me members)) (unordered (untold base me members))) past)
     ≡ cond b (in_order (log base me.number (set.items members) past)) (log base me.number (set.items members) past)) [
       | true ↦ fifo_log base me members past l
@@ -154,17 +154,17 @@ hands_up_log kind me members past l =
 
 pub log_grows : LogGrows
 log_grows kind me members c past =
-    let earlier = log (base_of kind) me members past in
-    let new = delivers (base_of kind) me members c past in
+    let earlier = log (module_of kind) me members past in
+    let new = delivers (module_of kind) me members c past in
     elim (is_fifo kind) as (λ b. cond b (in_order (earlier ++ new)) (earlier ++ new) ≡ cond b (in_order earlier) earlier ++ cond b (ordered_after earlier new) new) [
       | true ↦ ordered_append [] earlier new
       | false ↦ refl
     ]
 
 -- where the module delivers nothing, nor does the kind
-pub none_logged : (kind : Kind) (me : ℕ) (members : List ℕ) (past : List Call) → [] ≡ log (base_of kind) me members past → [] ≡ kind_log kind me members past
+pub none_logged : (kind : Kind) (me : ℕ) (members : List ℕ) (past : List Call) → [] ≡ log (module_of kind) me members past → [] ≡ kind_log kind me members past
 none_logged kind me members past none =
-    let delivered = log (base_of kind) me members past in
+    let delivered = log (module_of kind) me members past in
     elim (is_fifo kind) as (λ b. [] ≡ cond b (in_order delivered) delivered) [ true ↦ ap in_order none | false ↦ none ]
 
 pub new_stands : NewStackStands

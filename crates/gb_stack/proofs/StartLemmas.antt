@@ -12,8 +12,8 @@ use Rattle.gb_types.specs.Rising.{AreNodes}
 use Rattle.gb_types.specs.declared.kind.Kind.{Kind}
 use Rattle.gb_types.specs.declared.limits.TheConstants.{NODES}
 use Rattle.gb_types.specs.declared.node.NodeId.{NodeId}
-use Rattle.gb_layer.specs.declared.base.Base.{Base}
-use Rattle.gb_layer.specs.declared.base.Base.TheVariants.{BestEffort, Lazy, Eager, AllAck}
+use Rattle.gb_layer.specs.declared.broadcast_module.BroadcastModule.{BroadcastModule}
+use Rattle.gb_layer.specs.declared.broadcast_module.BroadcastModule.TheVariants.{BestEffort, Lazy, Eager, AllAck}
 use Rattle.gb_layer.specs.declared.call.Call.{Call}
 use Rattle.gb_layer.specs.declared.call.Call.TheVariants.{Notice}
 use Rattle.gb_layer.specs.Machine.{nothing, after}
@@ -23,7 +23,7 @@ use Rattle.gb_layer.proofs.NodeSetLemmas.{again}
 use Rattle.gb_reliable.specs.Rules.{lazy_rules, eager_rules}
 use Rattle.gb_uniform.specs.Rules.{all_ack_rules}
 use Rattle.gb_fifo.specs.Entries.{taken}
-use Rattle.gb_stack.specs.Kinds.{base_of, is_fifo}
+use Rattle.gb_stack.specs.Kinds.{module_of, is_fifo}
 use Rattle.gb_stack.specs.StackState.{StackState, unordered, fifo, lazy, eager, all_ack, relayed_next, relayed_gives, unordered_next, unordered_gives, unordered_me, unordered_noticing, IsEmpty, IsEmptyStack, stack_next, stack_me, stack_noticing, untold_stack, others_in, new_stack}
 use Rattle.gb_stack.specs.Stands.{is_other_noticed, HasHeard}
 
@@ -44,13 +44,13 @@ module _ (rules : Rules) (me : NodeId) (members noticed : Nodes) (q : NodeId) wh
   relay_silent : relayed_gives rules (noticing me members noticed) (Notice q) ≡ nothing
   relay_silent = elim (set.contains noticed q.number) as (λ b. cond b nothing nothing ≡ nothing) [ true ↦ refl | false ↦ refl ]
 
-one_more : (base : Base) (me : NodeId) (members noticed : Nodes) (q : NodeId) → unordered_next (unordered_noticing base me members noticed) (Notice q) ≡ unordered_noticing base me members (set.insert noticed q.number)
+one_more : (base : BroadcastModule) (me : NodeId) (members noticed : Nodes) (q : NodeId) → unordered_next (unordered_noticing base me members noticed) (Notice q) ≡ unordered_noticing base me members (set.insert noticed q.number)
 one_more BestEffort me members noticed q = refl
 one_more Lazy me members noticed q = ap lazy (relay_more lazy_rules me members noticed q)
 one_more Eager me members noticed q = ap eager (relay_more eager_rules me members noticed q)
 one_more AllAck me members noticed q = ap all_ack (relay_more all_ack_rules me members noticed q)
 
-silent : (base : Base) (me : NodeId) (members noticed : Nodes) (q : NodeId) → unordered_gives (unordered_noticing base me members noticed) (Notice q) ≡ nothing
+silent : (base : BroadcastModule) (me : NodeId) (members noticed : Nodes) (q : NodeId) → unordered_gives (unordered_noticing base me members noticed) (Notice q) ≡ nothing
 silent BestEffort me members noticed q = refl
 silent Lazy me members noticed q = relay_silent lazy_rules me members noticed q
 silent Eager me members noticed q = relay_silent eager_rules me members noticed q
@@ -59,7 +59,7 @@ silent AllAck me members noticed q = relay_silent all_ack_rules me members notic
 -- one more node is noticed
 stack_more : (kind : Kind) (me : NodeId) (members noticed : Nodes) (q : NodeId) → stack_next (stack_noticing kind me members noticed) (Notice q) ≡ stack_noticing kind me members (set.insert noticed q.number)
 stack_more kind me members noticed q =
-    let base = base_of kind in
+    let base = module_of kind in
     let more = one_more base me members noticed q in
     let none = silent base me members noticed q in
     elim (is_fifo kind) as (λ b.
@@ -168,12 +168,12 @@ new_heard kind me members noticed old s nodes from heard =
 -- a stack that was told nothing is at its node
 pub untold_me : (kind : Kind) (me : NodeId) (members : Nodes) → stack_me (untold_stack kind me members) ≡ me
 untold_me kind me members =
-    elim (is_fifo kind) as (λ b. stack_me (cond b (fifo (record { lower = unordered_noticing (base_of kind) me members set.empty; entries = [] })) (unordered (unordered_noticing (base_of kind) me members set.empty))) ≡ me) [
-      | true ↦ at (base_of kind)
-      | false ↦ at (base_of kind)
+    elim (is_fifo kind) as (λ b. stack_me (cond b (fifo (record { lower = unordered_noticing (module_of kind) me members set.empty; entries = [] })) (unordered (unordered_noticing (module_of kind) me members set.empty))) ≡ me) [
+      | true ↦ at (module_of kind)
+      | false ↦ at (module_of kind)
     ]
   where
-    at : (base : Base) → unordered_me (unordered_noticing base me members set.empty) ≡ me
+    at : (base : BroadcastModule) → unordered_me (unordered_noticing base me members set.empty) ≡ me
     at BestEffort = refl
     at Lazy = refl
     at Eager = refl
@@ -183,12 +183,12 @@ untold_me kind me members =
 pub new_empty : (kind : Kind) (me : NodeId) (members noticed : Nodes) → IsEmptyStack (new_stack kind me members noticed)
 new_empty kind me members noticed =
     let nodes = others_in me members noticed in
-    elim (is_fifo kind) as (λ b. IsEmptyStack (cond b (fifo (record { lower = unordered_noticing (base_of kind) me members nodes; entries = [] })) (unordered (unordered_noticing (base_of kind) me members nodes)))) [
-      | true ↦ record { lower = none (base_of kind); entries = refl }
-      | false ↦ none (base_of kind)
+    elim (is_fifo kind) as (λ b. IsEmptyStack (cond b (fifo (record { lower = unordered_noticing (module_of kind) me members nodes; entries = [] })) (unordered (unordered_noticing (module_of kind) me members nodes)))) [
+      | true ↦ record { lower = none (module_of kind); entries = refl }
+      | false ↦ none (module_of kind)
     ]
   where
-    none : (base : Base) → IsEmpty (unordered_noticing base me members (others_in me members noticed))
+    none : (base : BroadcastModule) → IsEmpty (unordered_noticing base me members (others_in me members noticed))
     none BestEffort = tt
     none Lazy = record { lower = tt; entries = refl }
     none Eager = record { lower = tt; entries = refl }

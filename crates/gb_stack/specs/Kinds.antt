@@ -3,22 +3,22 @@ use Rattle.std.specs.Prelude.{ℕ, Bool, true, false, List, if◌then◌else◌}
 use Rattle.gb_types.specs.declared.kind.Kind.{Kind}
 use Rattle.gb_types.specs.declared.kind.Kind.TheVariants as kind
 use Rattle.gb_types.specs.declared.message.MsgId.{MsgId}
-use Rattle.gb_layer.specs.declared.base.Base.{Base}
-use Rattle.gb_layer.specs.declared.base.Base.TheVariants.{BestEffort, Lazy, Eager, AllAck}
+use Rattle.gb_layer.specs.declared.broadcast_module.BroadcastModule.{BroadcastModule}
+use Rattle.gb_layer.specs.declared.broadcast_module.BroadcastModule.TheVariants.{BestEffort, Lazy, Eager, AllAck}
 use Rattle.gb_layer.specs.declared.call.Call.{Call}
 use Rattle.gb_layer.specs.Modules.{delivers, broadcasts, log}
 use Rattle.gb_fifo.specs.Order.{ordered_after, in_order}
 
 -- the module of broadcast that a kind is, or keeps an order over (Cachin, Guerraoui, Rodrigues 2011, chapter 3)
-abbrev pub base_of : Kind → Base
-base_of kind.Beb = BestEffort
-base_of kind.Lazy = Lazy
-base_of kind.Eager = Eager
-base_of kind.AllAck = AllAck
-base_of kind.FifoBeb = BestEffort
-base_of kind.FifoLazy = Lazy
-base_of kind.FifoEager = Eager
-base_of kind.FifoAllAck = AllAck
+abbrev pub module_of : Kind → BroadcastModule
+module_of kind.Beb = BestEffort
+module_of kind.Lazy = Lazy
+module_of kind.Eager = Eager
+module_of kind.AllAck = AllAck
+module_of kind.FifoBeb = BestEffort
+module_of kind.FifoLazy = Lazy
+module_of kind.FifoEager = Eager
+module_of kind.FifoAllAck = AllAck
 
 -- the kind keeps the order of each origin: first in, first out (Cachin, Guerraoui, Rodrigues 2011, section 3.9; Hadzilacos, Toueg 1994)
 abbrev pub is_fifo : Kind → Bool
@@ -34,13 +34,13 @@ is_fifo kind.FifoAllAck = true
 -- what the call c delivers: what the module delivers, or what that sets free in the order of each origin
 abbrev pub kind_delivers : Kind → ℕ → List ℕ → Call → List Call → List MsgId
 kind_delivers kind me members c past =
-    if is_fifo kind then ordered_after (log (base_of kind) me members past) (delivers (base_of kind) me members c past)
-    else delivers (base_of kind) me members c past
+    if is_fifo kind then ordered_after (log (module_of kind) me members past) (delivers (module_of kind) me members c past)
+    else delivers (module_of kind) me members c past
 
 -- what the call c broadcasts from here: an order changes nothing of it
 abbrev pub kind_broadcasts : Kind → ℕ → Call → List Call → List MsgId
-kind_broadcasts kind me c past = broadcasts (base_of kind) me c past
+kind_broadcasts kind me c past = broadcasts (module_of kind) me c past
 
 -- the log: what the module delivered, the oldest first, or this in the order of each origin
 abbrev pub kind_log : Kind → ℕ → List ℕ → List Call → List MsgId
-kind_log kind me members past = if is_fifo kind then in_order (log (base_of kind) me members past) else log (base_of kind) me members past
+kind_log kind me members past = if is_fifo kind then in_order (log (module_of kind) me members past) else log (module_of kind) me members past

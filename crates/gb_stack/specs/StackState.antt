@@ -3,8 +3,8 @@ use Rattle.std.specs.Prelude.{[], if◌then◌else◌}
 use Rattle.std.specs.FinSet as set
 use Rattle.gb_types.specs.declared.kind.Kind.{Kind}
 use Rattle.gb_types.specs.declared.node.NodeId.{NodeId}
-use Rattle.gb_layer.specs.declared.base.Base.{Base}
-use Rattle.gb_layer.specs.declared.base.Base.TheVariants.{BestEffort, Lazy, Eager, AllAck}
+use Rattle.gb_layer.specs.declared.broadcast_module.BroadcastModule.{BroadcastModule}
+use Rattle.gb_layer.specs.declared.broadcast_module.BroadcastModule.TheVariants.{BestEffort, Lazy, Eager, AllAck}
 use Rattle.gb_layer.specs.declared.call.Call.{Call}
 use Rattle.gb_layer.specs.BebMachine.{beb_gives}
 use Rattle.gb_layer.specs.Machine.{Gives, own_gives}
@@ -15,7 +15,7 @@ use Rattle.gb_reliable.specs.Rules.{lazy_rules, eager_rules}
 use Rattle.gb_uniform.specs.Rules.{all_ack_rules}
 use Rattle.gb_fifo.specs.FifoMachine.{FifoState, fifo_next, fifo_gives}
 use Rattle.gb_fifo.specs.FifoRoom as fifo_room
-use Rattle.gb_stack.specs.Kinds.{base_of, is_fifo}
+use Rattle.gb_stack.specs.Kinds.{module_of, is_fifo}
 
 -- what a broadcast without an order remembers: best effort its node alone, the others as a relay
 pub data UnorderedState : Type 0 where
@@ -98,7 +98,7 @@ IsEmptyStack (unordered s) = IsEmpty s
 IsEmptyStack (fifo s) = fifo_room.IsNew IsEmpty s
 
 -- a broadcast at a node, in a group with these members, that was told the notices of these nodes, and nothing more
-abbrev pub unordered_noticing : Base → NodeId → Nodes → Nodes → UnorderedState
+abbrev pub unordered_noticing : BroadcastModule → NodeId → Nodes → Nodes → UnorderedState
 unordered_noticing BestEffort me members noticed = best_effort me
 unordered_noticing Lazy me members noticed = lazy (record { lower = me; members = members; noticed = noticed; entries = [] })
 unordered_noticing Eager me members noticed = eager (record { lower = me; members = members; noticed = noticed; entries = [] })
@@ -107,8 +107,8 @@ unordered_noticing AllAck me members noticed = all_ack (record { lower = me; mem
 -- and so a stack of a kind
 abbrev pub stack_noticing : Kind → NodeId → Nodes → Nodes → StackState
 stack_noticing kind me members noticed =
-    if is_fifo kind then fifo (record { lower = unordered_noticing (base_of kind) me members noticed; entries = [] })
-    else unordered (unordered_noticing (base_of kind) me members noticed)
+    if is_fifo kind then fifo (record { lower = unordered_noticing (module_of kind) me members noticed; entries = [] })
+    else unordered (unordered_noticing (module_of kind) me members noticed)
 
 -- a stack that was told nothing
 abbrev pub untold_stack : Kind → NodeId → Nodes → StackState

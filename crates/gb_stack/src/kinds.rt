@@ -2,22 +2,22 @@
 ghost use Rattle.std.specs.Prelude.{◌≡◌};
 ghost use Rattle.gb_stack.specs.Kinds as kinds;
 
-use gb_layer::base::Base;
+use gb_layer::broadcast_module::BroadcastModule;
 use gb_types::kind::Kind;
 
 /// The module of broadcast that a kind is, or keeps an order over.
-pub fn base(kind: Kind) -> Base
-    ensures { result ≡ kinds.base_of kind }
+pub fn broadcast_module(kind: Kind) -> BroadcastModule
+    ensures { result ≡ kinds.module_of kind }
 {
     match kind {
-        Kind::Beb => Base::BestEffort,
-        Kind::Lazy => Base::Lazy,
-        Kind::Eager => Base::Eager,
-        Kind::AllAck => Base::AllAck,
-        Kind::FifoBeb => Base::BestEffort,
-        Kind::FifoLazy => Base::Lazy,
-        Kind::FifoEager => Base::Eager,
-        Kind::FifoAllAck => Base::AllAck,
+        Kind::Beb => BroadcastModule::BestEffort,
+        Kind::Lazy => BroadcastModule::Lazy,
+        Kind::Eager => BroadcastModule::Eager,
+        Kind::AllAck => BroadcastModule::AllAck,
+        Kind::FifoBeb => BroadcastModule::BestEffort,
+        Kind::FifoLazy => BroadcastModule::Lazy,
+        Kind::FifoEager => BroadcastModule::Eager,
+        Kind::FifoAllAck => BroadcastModule::AllAck,
     }
 }
 

@@ -1,6 +1,6 @@
 //! The lowest layer, and the plain program on a history worked out by hand.
-use gb_layer::base::Base;
 use gb_layer::beb::Beb;
+use gb_layer::broadcast_module::BroadcastModule;
 use gb_layer::call::Call;
 use gb_layer::effects::{Effects, Up};
 use gb_layer::layer::Layer;
@@ -65,11 +65,11 @@ fn plain_answers_are_those_of_the_algorithms(rt: HostRuntime) -> Result<(), Fail
         Call::Notice(ORIGIN),
         Call::Came(ORIGIN, FIRST),
     ];
-    let told: [(Base, &[MsgId], &[MsgId]); 4] = [
-        (Base::BestEffort, &[FIRST], &[]),
-        (Base::Lazy, &[FIRST, SECOND], &[SECOND]),
-        (Base::Eager, &[FIRST, SECOND], &[SECOND]),
-        (Base::AllAck, &[SECOND], &[SECOND]),
+    let told: [(BroadcastModule, &[MsgId], &[MsgId]); 4] = [
+        (BroadcastModule::BestEffort, &[FIRST], &[]),
+        (BroadcastModule::Lazy, &[FIRST, SECOND], &[SECOND]),
+        (BroadcastModule::Eager, &[FIRST, SECOND], &[SECOND]),
+        (BroadcastModule::AllAck, &[SECOND], &[SECOND]),
     ];
     for (base, log, broadcasts) in told {
         let found = plain::log(rt.alloc(), base, ME, &MEMBERS, &history)?;

@@ -5,7 +5,7 @@ ghost use Rattle.gb_layer.specs.Machine.{numbers};
 ghost use Rattle.gb_layer.specs.Modules.{newest};
 ghost use Rattle.gb_stack.specs.Kinds.{kind_broadcasts, kind_log};
 
-use crate::kinds::{base, is_fifo};
+use crate::kinds::{broadcast_module, is_fifo};
 use gb_fifo::plain::in_order;
 use gb_layer::call::Call;
 use gb_layer::plain;
@@ -24,7 +24,7 @@ pub fn broadcasts(
 ) -> Result<Vec<MsgId>, OutOfMemory>
     ensures { IfOk result (λ found. found.items ≡ newest (kind_broadcasts kind me.number) history.now) }
 {
-    plain::broadcasts(alloc, base(kind), me, history)
+    plain::broadcasts(alloc, broadcast_module(kind), me, history)
 }
 
 /// The log of a history: what its calls delivered, the oldest first.
@@ -37,7 +37,7 @@ pub fn log(
 ) -> Result<Vec<MsgId>, OutOfMemory>
     ensures { IfOk result (λ found. found.items ≡ kind_log kind me.number (numbers members.now) history.now) }
 {
-    let delivered = plain::log(alloc, base(kind), me, members, history)?;
+    let delivered = plain::log(alloc, broadcast_module(kind), me, members, history)?;
     if is_fifo(kind) {
         in_order(alloc, &delivered)
     } else {

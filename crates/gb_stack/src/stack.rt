@@ -10,7 +10,7 @@ ghost use Rattle.gb_stack.specs.WholeLemmas.{stack_whole_room};
 ghost use Rattle.gb_stack.specs.StackLemmas.{stack_roomier, stack_me_stays, stack_own, stack_sends_handed_in, stack_ups_handed_in, stack_up_once, stack_sent_once, stack_noticed_once};
 ghost use Rattle.gb_stack.specs.declared.stack.Stack.TheVariants as variant;
 
-use crate::kinds::{base, is_fifo};
+use crate::kinds::{broadcast_module, is_fifo};
 use crate::unordered::Unordered;
 use gb_fifo::fifo::Fifo;
 use gb_layer::call::Call;
@@ -75,7 +75,7 @@ impl Stack {
         ensures meaning { ⟦<Stack as Layer>⟧.meaning result ≡ untold_stack kind me members }
         ensures fresh { ⟦<Stack as Layer>⟧.is_fresh (⟦<Stack as Layer>⟧.meaning result) }
     {
-        let lower = Unordered::new(alloc, base(kind), me, members);
+        let lower = Unordered::new(alloc, broadcast_module(kind), me, members);
         if is_fifo(kind) {
             Stack::Fifo(Fifo::new(alloc, lower))
         } else {

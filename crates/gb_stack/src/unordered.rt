@@ -8,8 +8,8 @@ ghost use Rattle.gb_stack.specs.WholeLemmas.{unordered_whole_room};
 ghost use Rattle.gb_stack.specs.UnorderedLemmas.{unordered_roomier, unordered_me_stays, unordered_own, unordered_sends_handed_in, unordered_ups_handed_in, unordered_up_once, unordered_sent_once, unordered_noticed_once};
 ghost use Rattle.gb_stack.specs.declared.unordered.Unordered.TheVariants as variant;
 
-use gb_layer::base::Base;
 use gb_layer::beb::Beb;
+use gb_layer::broadcast_module::BroadcastModule;
 use gb_layer::call::Call;
 use gb_layer::direct::Direct;
 use gb_layer::effects::Effects;
@@ -37,16 +37,18 @@ pub enum Unordered {
 
 impl Unordered {
     /// A module's broadcast at the node me, in a group with these members, that was told nothing yet.
-    pub fn new(alloc: Global, base: Base, me: NodeId, members: NodeSet) -> Unordered
+    pub fn new(alloc: Global, base: BroadcastModule, me: NodeId, members: NodeSet) -> Unordered
         ensures meaning { ⟦<Unordered as Layer>⟧.meaning result ≡ unordered_noticing base me members set.empty }
         ensures fresh { ⟦<Unordered as Layer>⟧.is_fresh (⟦<Unordered as Layer>⟧.meaning result) }
     {
         let lower = Beb::new(me);
         match base {
-            Base::BestEffort => Unordered::BestEffort(Direct::new(lower)),
-            Base::Lazy => Unordered::Lazy(Relay::new(alloc, lower, Lazily, members)),
-            Base::Eager => Unordered::Eager(Relay::new(alloc, lower, Eagerly, members)),
-            Base::AllAck => Unordered::AllAck(Relay::new(alloc, lower, AllAcked, members)),
+            BroadcastModule::BestEffort => Unordered::BestEffort(Direct::new(lower)),
+            BroadcastModule::Lazy => Unordered::Lazy(Relay::new(alloc, lower, Lazily, members)),
+            BroadcastModule::Eager => Unordered::Eager(Relay::new(alloc, lower, Eagerly, members)),
+            BroadcastModule::AllAck => Unordered::AllAck(Relay::new(
+                alloc, lower, AllAcked, members,
+            )),
         }
     }
 }

@@ -1,5 +1,5 @@
 -- Relays by these rules are the modules.
-use Rattle.gb_layer.specs.declared.base.Base.TheVariants.{AllAck}
+use Rattle.gb_layer.specs.declared.broadcast_module.BroadcastModule.TheVariants.{AllAck}
 use Rattle.gb_layer.proofs.RelayModuleLemmas.{IsModule, is_module}
 use Rattle.gb_uniform.specs.Rules.{all_ack_rules}
 use Rattle.gb_uniform.specs.AllAckLemmas.{all_ack_more, all_ack_delivers_more, all_ack_own, all_ack_broadcasts_as, all_ack_delivers_as}

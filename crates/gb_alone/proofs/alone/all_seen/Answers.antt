@@ -2,7 +2,7 @@ use Rattle.std.proofs.Common.{◌≡◌, ◌<◌, List, [], ◌∷◌, ◌++◌,
 use Rattle.std.specs.Prelude.{map}
 use Rattle.std.proofs.lemmas.List.{get_or_default}
 use Rattle.gb_types.specs.declared.limits.TheConstants.{NODES}
-use Rattle.gb_alone.specs.MemberLists.{MemberValue, new_member, IsListed}
+use Rattle.gb_alone.specs.MemberLists.{MemberValue, new_member, StandsForMember}
 use Rattle.gb_alone.specs.Observation.{SeenAt, numbers_below, seen_at}
 use Rattle.gb_alone.proofs.ObservationLemmas.{map_more, map_none}
 use Rattle.gb_alone.proofs.alone.all_seen.Goals as goal
@@ -15,7 +15,7 @@ loop-a-preserved c = λ g h.
     let a = c.loop-a.a in
     let lt : a < NODES = omega (arith, c.requires.few) in
     let within : a < length c.args.group.now = omega (arith, lt, h.size) in
-    let P : MemberValue → Type 0 = λ v. IsListed v (g a) in
+    let P : MemberValue → Type 0 = λ v. StandsForMember v (g a) in
     let here = subst P (sym (c.index-group-a.is ∙ get_or_default c.args.group.now a c.index-group-a.result new_member within)) (h.members a lt) in
     let more = map_more (seen_at c.args.nodes (λ x. (g x).replies) (λ x b. take ((g x).taken b) ((g x).put b))) a in
     let now = c.in_ok-seen_of.ensures (g a) here in

@@ -1,9 +1,9 @@
 use Rattle.std.proofs.Common.{◌≡◌, take}
 use Rattle.std.specs.Prelude.{map}
 use Rattle.gb_alone.specs.Alone.{Group}
-use Rattle.gb_alone.specs.MemberLists.{AreListed}
+use Rattle.gb_alone.specs.MemberLists.{StandForMembers}
 use Rattle.gb_alone.specs.Observation.{numbers_below, seen_at}
 use Rattle.gb_alone.proofs.alone.all_seen.Given as goal
 
 abbrev pub invariant-loop-a : goal.invariant-loop-a
-invariant-loop-a l = (g : Group) → AreListed l.group g → l.seen.items ≡ map (seen_at l.nodes (λ a. (g a).replies) (λ a b. take ((g a).taken b) ((g a).put b))) (numbers_below l.a)
+invariant-loop-a l = (g : Group) → StandForMembers l.group g → l.seen.items ≡ map (seen_at l.nodes (λ a. (g a).replies) (λ a b. take ((g a).taken b) ((g a).put b))) (numbers_below l.a)

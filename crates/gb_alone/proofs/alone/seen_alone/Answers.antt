@@ -2,7 +2,7 @@ use Rattle.std.proofs.Common.{length, ◌∙◌, ap, sym, subst, List}
 use Rattle.std.specs.Prelude.{fold, replicate}
 use Rattle.gb_types.specs.declared.limits.TheConstants.{NODES}
 use Rattle.gb_alone.specs.Alone as one_group
-use Rattle.gb_alone.specs.MemberLists.{MemberValue, new_member, values_after, AreListed}
+use Rattle.gb_alone.specs.MemberLists.{MemberValue, new_member, values_after, StandForMembers}
 use Rattle.gb_alone.proofs.ObservationLemmas.{take_short}
 use Rattle.gb_alone.proofs.MemberListLemmas.{alone_listed, more_values, length_after}
 use Rattle.gb_alone.proofs.alone.seen_alone.Goals as goal
@@ -22,5 +22,5 @@ pub returns : goal.returns
 returns c =
     let g = one_group.alone c.args.nodes c.args.number c.args.steps.now in
     let all = ap (fold (values_after c.args.nodes c.args.number) (replicate NODES new_member)) (take_short c.loop-step.step-index c.args.steps.now c.loop-step-test.false) in
-    let P : List MemberValue → Type 0 = λ vs. AreListed vs g in
+    let P : List MemberValue → Type 0 = λ vs. StandForMembers vs g in
     c.in_ok-seen.ensures g (subst P (sym (c.as_slice.ensures.value ∙ (c.loop-step.invariant.0 ∙ all))) (alone_listed c.args.nodes c.args.number c.args.steps.now))

@@ -1,9 +1,9 @@
 use Rattle.std.proofs.Common.{◌≡◌, take}
 use Rattle.std.specs.Prelude.{map}
 use Rattle.gb_alone.specs.Alone.{Member}
-use Rattle.gb_alone.specs.MemberLists.{IsListed}
+use Rattle.gb_alone.specs.MemberLists.{StandsForMember}
 use Rattle.gb_alone.specs.Observation.{numbers_below}
 use Rattle.gb_alone.proofs.alone.seen_of.Given as goal
 
 abbrev pub invariant-loop-b : goal.invariant-loop-b
-invariant-loop-b l = (m : Member) → IsListed l.member m → l.carried.items ≡ map (λ b. take (m.taken b) (m.put b)) (numbers_below l.b)
+invariant-loop-b l = (m : Member) → StandsForMember l.member m → l.carried.items ≡ map (λ b. take (m.taken b) (m.put b)) (numbers_below l.b)
