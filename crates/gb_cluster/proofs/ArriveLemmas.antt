@@ -16,7 +16,7 @@ use Rattle.gb_cluster.proofs.World.{World, node_of, world_after}
 use Rattle.gb_cluster.specs.NodeStep.{good_of, goal_of, found_part, only_answered, node_took, Part}
 use Rattle.gb_cluster.proofs.Invariant.{IsFramed, Invariant}
 use Rattle.gb_cluster.proofs.IdleLemmas.{idle_turn}
-use Rattle.gb_cluster.proofs.QuietLemmas.{quiet}
+use Rattle.gb_cluster.proofs.Told.{nothing}
 use Rattle.gb_cluster.proofs.MarkLemmas.{slice_get-within}
 use Rattle.gb_cluster.proofs.TakenLinks.{IsGood, good_step, good_acts, good_links}
 use Rattle.gb_cluster.proofs.TakenGroups.{good_turn}
@@ -31,11 +31,11 @@ good_arrive w k p is holds =
 
 -- there is no such packet
 no_packet : (w : World) (k : ℕ) → Invariant w → Invariant (turned w 0 (node_of w 0) (record { event = Arrive k; answer = NoPacket }) [])
-no_packet w k holds = idle_turn w 0 (Arrive k) NoPacket holds.links.some (quiet refl) holds
+no_packet w k holds = idle_turn w 0 (Arrive k) NoPacket holds.links.some (nothing refl (λ x. refl) (λ g. refl)) holds
 
 -- the node has stopped
 lost : (w : World) (k : ℕ) (p : Packet) → IsFramed (length w.nodes) w.packets w.steps p → Invariant w → Invariant (turned w p.to.number (node_of w p.to.number) (record { event = Arrive k; answer = AnswerTaken (TakenRefused Stopped) }) [])
-lost w k p framed holds = idle_turn w p.to.number (Arrive k) (AnswerTaken (TakenRefused Stopped)) framed.to (quiet refl) holds
+lost w k p framed holds = idle_turn w p.to.number (Arrive k) (AnswerTaken (TakenRefused Stopped)) framed.to (nothing refl (λ x. refl) (λ g. refl)) holds
 
 -- the cluster after the arrival at a node, whose part is this
 abbrev with_part : World → ℕ → ℕ → Part → World

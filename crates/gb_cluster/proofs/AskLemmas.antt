@@ -109,9 +109,9 @@ member_asked g a steps request reply m n was replies spec unmade noticed stopped
 
 module _ (nodes : ℕ) (g : Addr) (a : NodeId) (v : NodeValue) (group : Group) (carried : ℕ → List Entry) (steps : List Step) (request : Request) (reply : Reply) (given : List GroupStep) where
   -- nothing happens to the group
-  pub quiet : (u : NodeValue) → Before nodes g a v group carried steps → given ≡ [] → reply_in g a.number steps (At a request) (AnswerReply reply) ≡ [] → made_by g a.number (At a request) (AnswerReply reply) ≡ None → is_met_by g a.number steps (At a request) ≡ false
+  pub unconcerned : (u : NodeValue) → Before nodes g a v group carried steps → given ≡ [] → reply_in g a.number steps (At a request) (AnswerReply reply) ≡ [] → made_by g a.number (At a request) (AnswerReply reply) ≡ None → is_met_by g a.number steps (At a request) ≡ false
       → Stands nodes g a.number u (group a.number) carried → After nodes g a u group carried steps request reply given
-  quiet u before none silent unmade unmet st = record {
+  unconcerned u before none silent unmade unmet st = record {
     next = group a.number;
     there = ap (λ es. alone_from nodes g.group group es a.number) none;
     others = λ x other. ap (λ es. alone_from nodes g.group group es x) none;
@@ -180,7 +180,7 @@ at_command nodes g a v group carried steps request reply e running before named 
     go : (row : Option Reserve) → reserve_for g.tenant v.row ≡ row → AtNode nodes g a v group carried steps request reply
     go None none =
         let absent : has_row a.number g.tenant steps ≡ false = before.rows ∙ ap (λ (x : Option Reserve). is_some x) none in
-        quiet nodes g a v group carried steps request reply (requested g steps a request reply) (node_did a request reply v) before (form ∙ ap (λ b. if b then record { node = a; event = e } ∷ [] else []) absent) (silent_absent g a steps request reply absent) unmade (unmet_now g a steps request running)
+        unconcerned nodes g a v group carried steps request reply (requested g steps a request reply) (node_did a request reply v) before (form ∙ ap (λ b. if b then record { node = a; event = e } ∷ [] else []) absent) (silent_absent g a steps request reply absent) unmade (unmet_now g a steps request running)
         (subst (λ (u : NodeValue). Stands nodes g a.number u (group a.number) carried) (sym (unchanged none)) before.stands)
     go (Some row) some =
         let there : has_row a.number g.tenant steps ≡ true = before.rows ∙ ap (λ (x : Option Reserve). is_some x) some in
@@ -193,4 +193,4 @@ pub at_other : (nodes : ℕ) (g : Addr) (a : NodeId) (v : NodeValue) (group : Gr
     → is_named g request ≡ false → requested g steps a request reply ≡ [] → made_by g a.number (At a request) (AnswerReply reply) ≡ None
     → Stands nodes g a.number (node_did a request reply v) (group a.number) carried → AtNode nodes g a v group carried steps request reply
 at_other nodes g a v group carried steps request reply running before unnamed none unmade st =
-    quiet nodes g a v group carried steps request reply (requested g steps a request reply) (node_did a request reply v) before none (silent_unnamed g a steps request reply unnamed) unmade (unmet_now g a steps request running) st
+    unconcerned nodes g a v group carried steps request reply (requested g steps a request reply) (node_did a request reply v) before none (silent_unnamed g a steps request reply unnamed) unmade (unmet_now g a steps request running) st

@@ -29,7 +29,7 @@ use Rattle.gb_cluster.proofs.NodeLemmas.{same_carried}
 use Rattle.gb_cluster.proofs.NoticeLemmas.{noticed_below}
 use Rattle.gb_cluster.proofs.StoppedLemmas.{refused, node_unchanged, at_stopped}
 use Rattle.gb_cluster.proofs.TenantLemmas.{row_done, at_running}
-use Rattle.gb_cluster.proofs.Turns.{turned, ActsAt, GroupTurn, frames_turned, taken_turned, acked_turned, quiet_link, same_marks, links_turn, holds_turn}
+use Rattle.gb_cluster.proofs.Turns.{turned, ActsAt, GroupTurn, frames_turned, taken_turned, acked_turned, untouched_link, same_marks, links_turn, holds_turn}
 use Rattle.gb_cluster.proofs.WorldLemmas.{eqb_self, eqb_apart_back, row_elsewhere, silent_elsewhere}
 
 -- any request, for a group at the node
@@ -125,26 +125,25 @@ module _ (w : World) (a : NodeId) (request : Request) where
         receiver = λ b n in_b some. ap (λ rs. set.contains (get_or rs b set.empty) n) keeps.receivers ∙ was.receiver b n in_b some;
       })
 
+  unmet_elsewhere : (g : Addr) (x : ℕ) → x ≢ a.number → is_met_by g x w.steps (At a request) ≡ false
+  unmet_elsewhere g x other = rw (eqb_apart_back x a.number other) refl
+
   acts : ActsAt w a.number step []
   acts = record {
     number = omega arith;
-    frame = λ x y other. refl;
-    taken = λ x y n other. refl;
-    acked = λ x y n other. refl;
-    row = λ x tenant other. row_elsewhere a x tenant request reply other;
-    reply = λ g x other. silent_elsewhere g a x w.steps request reply other;
-    made = λ g x other. unmade_elsewhere g a x request reply other;
-    noticed = λ x b other. refl;
-    stopped = λ x other. refl;
-    met = λ g x other. rw (eqb_apart_back x a.number other) refl;
-    watched = λ x other. refl;
+    elsewhere = λ x other. λ i. record nothing_told {
+      row = λ tenant. row_elsewhere a x tenant request reply other i;
+      reply = λ g. silent_elsewhere g a x w.steps request reply other i;
+      made = λ g. unmade_elsewhere g a x request reply other i;
+      met = λ g. unmet_elsewhere g x other i;
+    };
     sent_taken = λ x y n in_x in_y is. absurd (cc);
     sent_acked = λ x y n in_x in_y some is. absurd (cc);
   }
 
   links_at : a.number < length w.nodes → Links w → Links (turned w a.number node step [])
   links_at within links = links_turn w a.number node step [] within links acts (node_at within links)
-      (λ x y in_x in_y. quiet_link w step [] x y links.numbered refl (λ n. refl) (λ n. refl) (links.link x y in_x in_y))
+      (λ x y in_x in_y. untouched_link w step [] x y links.numbered refl (λ n. refl) (λ n. refl) (links.link x y in_x in_y))
       (λ k p at. absurd (cc))
 
   before_request : (g : Addr) → a.number < length w.nodes → Links w → BehavesAlone g w

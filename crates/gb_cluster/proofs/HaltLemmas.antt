@@ -17,9 +17,9 @@ use Rattle.gb_cluster.proofs.World.{World, node_of, world_after}
 use Rattle.gb_cluster.specs.NodeStep.{Part, only_answered}
 use Rattle.gb_cluster.proofs.Invariant.{MemberIs, Fits, NodeIs, Links, Invariant, window_of}
 use Rattle.gb_cluster.proofs.IdleLemmas.{idle_turn}
-use Rattle.gb_cluster.proofs.QuietLemmas.{quiet}
+use Rattle.gb_cluster.proofs.Told.{nothing_told, nothing}
 use Rattle.gb_cluster.proofs.NodeLemmas.{same_stands, same_carried}
-use Rattle.gb_cluster.proofs.Turns.{turned, ActsAt, GroupTurn, frames_turned, taken_turned, acked_turned, quiet_link, links_turn, same_marks, holds_turn}
+use Rattle.gb_cluster.proofs.Turns.{turned, ActsAt, GroupTurn, frames_turned, taken_turned, acked_turned, untouched_link, links_turn, same_marks, holds_turn}
 use Rattle.gb_cluster.proofs.WorldLemmas.{eqb_self, eqb_apart_back}
 
 -- a node that stops tells so
@@ -33,16 +33,7 @@ halted v = record v { stopped = true }
 halt_acts : (w : World) (a : NodeId) → ActsAt w a.number (halt_step a) []
 halt_acts w a = record {
   number = omega arith;
-  frame = λ x y other. refl;
-  taken = λ x y n other. refl;
-  acked = λ x y n other. refl;
-  row = λ x tenant other. refl;
-  reply = λ g x other. refl;
-  made = λ g x other. refl;
-  noticed = λ x b other. refl;
-  stopped = λ x other. eqb_apart_back x a.number other;
-  met = λ g x other. refl;
-  watched = λ x other. refl;
+  elsewhere = λ x other. ap (λ (b : Bool). record nothing_told { stopped = b }) (eqb_apart_back x a.number other);
   sent_taken = λ x y n in_x in_y is. absurd (cc);
   sent_acked = λ x y n in_x in_y some is. absurd (cc);
 }
@@ -95,7 +86,7 @@ halt_holds : (w : World) (a : NodeId) → a.number < length w.nodes → Invarian
 halt_holds w a in_a holds =
     holds_turn w a.number (halted (node_of w a.number)) (halt_step a) [] in_a holds (halt_acts w a)
     (links_turn w a.number (halted (node_of w a.number)) (halt_step a) [] in_a holds.links (halt_acts w a) (halt_node w a (node_of w a.number) (holds.links.node a.number in_a))
-    (λ x y in_x in_y. quiet_link w (halt_step a) [] x y holds.links.numbered refl (λ n. refl) (λ n. refl) (holds.links.link x y in_x in_y))
+    (λ x y in_x in_y. untouched_link w (halt_step a) [] x y holds.links.numbered refl (λ n. refl) (λ n. refl) (holds.links.link x y in_x in_y))
     (λ k p at. absurd (cc)))
     (λ g room before. halt_group g w a (alone (length w.nodes) g.group (project g w.packets w.steps)) in_a holds.links before.fits)
 
@@ -107,5 +98,5 @@ any_stop w a in_a holds = go (node_of w a.number).stopped
     part b = if b then only_answered (node_of w a.number) (AnswerHalted (HaltRefused Stopped)) else only_answered (record (node_of w a.number) { stopped = true }) (AnswerHalted HaltDone)
 
     go : (b : Bool) → Invariant (turned w a.number (part b).value (record { event = Stop a; answer = (part b).answer }) (part b).sent)
-    go true = idle_turn w a.number (Stop a) (AnswerHalted (HaltRefused Stopped)) in_a (quiet refl) holds
+    go true = idle_turn w a.number (Stop a) (AnswerHalted (HaltRefused Stopped)) in_a (nothing refl (λ x. refl) (λ g. refl)) holds
     go false = halt_holds w a in_a holds

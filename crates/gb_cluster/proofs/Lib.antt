@@ -11,7 +11,7 @@ pub mod TenantLemmas
 pub mod StoppedLemmas
 pub mod AtLemmas
 pub mod IdleLemmas
-pub mod QuietLemmas
+pub mod Told
 pub mod Turns
 pub mod MarkLemmas
 pub mod AckLemmas

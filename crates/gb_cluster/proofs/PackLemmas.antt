@@ -25,7 +25,7 @@ use Rattle.gb_cluster.proofs.Invariant.{Stands, Fits, Links, BehavesAlone, Invar
 use Rattle.gb_cluster.proofs.WorldLemmas.{after_there, after_elsewhere}
 use Rattle.gb_record.proofs.LaterPackets.{items_of-append}
 use Rattle.gb_cluster.proofs.IdleLemmas.{idle_turn}
-use Rattle.gb_cluster.proofs.QuietLemmas.{quiet}
+use Rattle.gb_cluster.proofs.Told.{nothing}
 use Rattle.gb_cluster.proofs.StopLemmas.{unmet}
 use Rattle.gb_cluster.proofs.Turns.{turned}
 use Rattle.gb_cluster.proofs.SendTurns.{GroupSends, none_sent, sends_turn}
@@ -133,6 +133,6 @@ any_pack w a b in_a holds = go (node_of w a.number).stopped refl (node_packed (l
 
     go : (stopped : Bool) → (node_of w a.number).stopped ≡ stopped → (ps : List Packet) → node_packed (length w.nodes) a b (node_of w a.number) ≡ ps
         → Invariant (turned w a.number (part stopped ps).value (record { event = Pack a b; answer = (part stopped ps).answer }) (part stopped ps).sent)
-    go true is ps packed = idle_turn w a.number (Pack a b) (AnswerSent (SentRefused Stopped)) in_a (quiet refl) holds
-    go false is [] packed = idle_turn w a.number (Pack a b) (AnswerSent Nothing) in_a (quiet refl) holds
+    go true is ps packed = idle_turn w a.number (Pack a b) (AnswerSent (SentRefused Stopped)) in_a (nothing refl (λ x. refl) (λ g. refl)) holds
+    go false is [] packed = idle_turn w a.number (Pack a b) (AnswerSent Nothing) in_a (nothing refl (λ x. refl) (λ g. refl)) holds
     go false is (p ∷ ps) packed = pack_turn w a b p ps in_a holds is packed

@@ -21,7 +21,7 @@ use Rattle.gb_cluster.proofs.World.{World, node_of}
 use Rattle.gb_cluster.specs.NodeStep.{sender_to, pushed_item, node_sent}
 use Rattle.gb_cluster.proofs.Invariant.{IsFramed, IsLink, Links, window_of, undone_of}
 use Rattle.gb_cluster.proofs.WorldLemmas.{eqb_self, eqb_apart_back}
-use Rattle.gb_cluster.proofs.Turns.{frames_turned, taken_turned, acked_turned, quiet_link}
+use Rattle.gb_cluster.proofs.Turns.{frames_turned, taken_turned, acked_turned, untouched_link}
 use Rattle.gb_cluster.proofs.UndoneLemmas.{undone-last, undone_near}
 use Rattle.gb_cluster.proofs.SendTurns.{IsSending, Sends}
 use Rattle.gb_cluster.proofs.PacketLemmas.{Acknowledges, slice_get-last, packet_at-last, packet_acks, acks_framed, another_is}
@@ -45,7 +45,7 @@ abbrev pub pack_step : World → NodeId → NodeId → Step
 pack_step w a b = record { event = Pack a b; answer = AnswerSent (SentPacket (length w.packets + 1)) }
 
 pub packs_send : (a b : NodeId) (sent : Sent) → IsSending (record { event = Pack a b; answer = AnswerSent sent })
-packs_send a b sent = record { taken = λ ps x y n. refl; acked = λ ps x y n. refl; row = λ x tenant. refl; made = λ g x. refl; noticed = λ x y. refl; stopped = λ x. refl; watched = λ ps x. refl; reply = λ g x steps. refl; met = λ g x steps. refl }
+packs_send a b sent x packets steps = refl
 
 module _ (w : World) (a b : NodeId) (p : Packet) (links : Links w) where
   frame_there : frame_at a.number b.number (w.packets ++ p ∷ []) (Pack a b) (AnswerSent (SentPacket (length w.packets + 1))) ≡ p ∷ []
@@ -167,7 +167,7 @@ module _ (w : World) (a b : NodeId) (p : Packet) (hosted : GroupAt) (x : Entry) 
 
   link_at : (c : ℕ) → c < length w.nodes → ((c ≡ b.number) ⊎ (c ≡ b.number → ⊥)) → IsLink (w.packets ++ p ∷ []) (s ∷ w.steps) a.number c
   link_at c in_c (inl same) = subst (λ d. IsLink (w.packets ++ p ∷ []) (s ∷ w.steps) a.number d) (sym same) pack_link
-  link_at c in_c (inr other) = quiet_link w s (p ∷ []) a.number c links.numbered (frame_elsewhere w a b p links a.number c (inr other)) (λ n. refl) (λ n. refl) (links.link a.number c in_a in_c)
+  link_at c in_c (inr other) = untouched_link w s (p ∷ []) a.number c links.numbered (frame_elsewhere w a b p links a.number c (inr other)) (λ n. refl) (λ n. refl) (links.link a.number c in_a in_c)
 
   pub pack_sends : Sends w a.number u s (p ∷ [])
   pack_sends = record {

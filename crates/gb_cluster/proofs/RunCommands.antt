@@ -37,63 +37,63 @@ use Rattle.gb_record.specs.declared.step.Step.{Step}
 use Rattle.gb_alone.proofs.CommandLemmas.{command_in, commands_at, commands, commands-append, Pairs, pairs_append, no_pairs, one_pair}
 
 -- no command is among these
-abbrev IsQuiet : ℕ → List GroupStep → Type 0
-IsQuiet s steps = commands s steps ≡ []
+abbrev HasNoCommands : ℕ → List GroupStep → Type 0
+HasNoCommands s steps = commands s steps ≡ []
 
-quiet_step : (s : ℕ) (a : NodeId) (event : GroupEvent) → command_in event ≡ [] → commands_at s (record { node = a; event = event }) ≡ []
-quiet_step s a event h = elim (nat_eq s a.number) as (λ b. (if b then command_in event else []) ≡ []) [ true ↦ h | false ↦ refl ]
+no_commands_step : (s : ℕ) (a : NodeId) (event : GroupEvent) → command_in event ≡ [] → commands_at s (record { node = a; event = event }) ≡ []
+no_commands_step s a event h = elim (nat_eq s a.number) as (λ b. (if b then command_in event else []) ≡ []) [ true ↦ h | false ↦ refl ]
 
-quiet_took : (s : ℕ) (a b : NodeId) (count : ℕ) → IsQuiet s (took a b count)
+no_commands_took : (s : ℕ) (a b : NodeId) (count : ℕ) → HasNoCommands s (took a b count)
 unfolding commands
-quiet_took s a b zero = refl
-quiet_took s a b (suc k) = ap (λ es. es ++ []) (quiet_step s a (Took b (suc k)) refl)
+no_commands_took s a b zero = refl
+no_commands_took s a b (suc k) = ap (λ es. es ++ []) (no_commands_step s a (Took b (suc k)) refl)
 
-quiet_comes : (s : ℕ) (from to : NodeId) (place count : ℕ) → IsQuiet s (comes from to place count)
+no_commands_comes : (s : ℕ) (from to : NodeId) (place count : ℕ) → HasNoCommands s (comes from to place count)
 unfolding commands
-quiet_comes s from to place zero = refl
-quiet_comes s from to place (suc k) = ap (λ es. es ++ commands s (comes from to (place + 1) k)) (quiet_step s to (Came from (place + 1)) refl) ∙ quiet_comes s from to (place + 1) k
+no_commands_comes s from to place zero = refl
+no_commands_comes s from to place (suc k) = ap (λ es. es ++ commands s (comes from to (place + 1) k)) (no_commands_step s to (Came from (place + 1)) refl) ∙ no_commands_comes s from to (place + 1) k
 
-quiet_both : (s : ℕ) (xs ys : List GroupStep) → IsQuiet s xs → IsQuiet s ys → IsQuiet s (xs ++ ys)
-quiet_both s xs ys a b = commands-append s xs ys ∙ (ap (λ es. es ++ commands s ys) a ∙ b)
+no_commands_both : (s : ℕ) (xs ys : List GroupStep) → HasNoCommands s xs → HasNoCommands s ys → HasNoCommands s (xs ++ ys)
+no_commands_both s xs ys a b = commands-append s xs ys ∙ (ap (λ es. es ++ commands s ys) a ∙ b)
 
-quiet_one : (s : ℕ) (a b : NodeId) (place count : ℕ) → IsQuiet s (acknowledged a b place count)
+no_commands_one : (s : ℕ) (a b : NodeId) (place count : ℕ) → HasNoCommands s (acknowledged a b place count)
 unfolding commands
-quiet_one s a b place zero = refl
-quiet_one s a b place (suc k) = ap (λ es. es ++ []) (quiet_step s a (Acknowledged b place (suc k)) refl)
+no_commands_one s a b place zero = refl
+no_commands_one s a b place (suc k) = ap (λ es. es ++ []) (no_commands_step s a (Acknowledged b place (suc k)) refl)
 
-quiet_acknowledged : (g : Addr) (s : ℕ) (a b : NodeId) (test : ℕ → Bool) (n before : ℕ) (fs : List Packet) → IsQuiet s (all_acknowledged g a b test n before fs)
+no_commands_acknowledged : (g : Addr) (s : ℕ) (a b : NodeId) (test : ℕ → Bool) (n before : ℕ) (fs : List Packet) → HasNoCommands s (all_acknowledged g a b test n before fs)
 unfolding commands
-quiet_acknowledged g s a b test n before [] = refl
-quiet_acknowledged g s a b test n before (f ∷ fs) =
-    quiet_both s (if test n then acknowledged a b (before + 1) (length (items_in g f)) else []) (all_acknowledged g a b test (n + 1) (before + length (items_in g f)) fs)
-    (elim (test n) as (λ t. IsQuiet s (if t then acknowledged a b (before + 1) (length (items_in g f)) else [])) [ true ↦ quiet_one s a b (before + 1) (length (items_in g f)) | false ↦ refl ])
-    (quiet_acknowledged g s a b test (n + 1) (before + length (items_in g f)) fs)
+no_commands_acknowledged g s a b test n before [] = refl
+no_commands_acknowledged g s a b test n before (f ∷ fs) =
+    no_commands_both s (if test n then acknowledged a b (before + 1) (length (items_in g f)) else []) (all_acknowledged g a b test (n + 1) (before + length (items_in g f)) fs)
+    (elim (test n) as (λ t. HasNoCommands s (if t then acknowledged a b (before + 1) (length (items_in g f)) else [])) [ true ↦ no_commands_one s a b (before + 1) (length (items_in g f)) | false ↦ refl ])
+    (no_commands_acknowledged g s a b test (n + 1) (before + length (items_in g f)) fs)
 
 -- notices are no commands
-quiet_mapped : (s : ℕ) (a : NodeId) (bs : List ℕ) → IsQuiet s (map (λ b. record { node = a; event = Notice (node_numbered b) }) bs)
+no_commands_mapped : (s : ℕ) (a : NodeId) (bs : List ℕ) → HasNoCommands s (map (λ b. record { node = a; event = Notice (node_numbered b) }) bs)
 unfolding commands
-quiet_mapped s a [] = refl
-quiet_mapped s a (b ∷ bs) = ap (λ es. es ++ commands s (map (λ b. record { node = a; event = Notice (node_numbered b) }) bs)) (quiet_step s a (Notice (node_numbered b)) refl) ∙ quiet_mapped s a bs
+no_commands_mapped s a [] = refl
+no_commands_mapped s a (b ∷ bs) = ap (λ es. es ++ commands s (map (λ b. record { node = a; event = Notice (node_numbered b) }) bs)) (no_commands_step s a (Notice (node_numbered b)) refl) ∙ no_commands_mapped s a bs
 
-quiet_notices : (s : ℕ) (a : NodeId) (spec : Spec) (test : ℕ → Bool) → IsQuiet s (notices a spec test)
-quiet_notices s a spec test = quiet_mapped s a (filter (λ b. is_other spec a.number b && test b) (range_with_len 0 NODES))
+no_commands_notices : (s : ℕ) (a : NodeId) (spec : Spec) (test : ℕ → Bool) → HasNoCommands s (notices a spec test)
+no_commands_notices s a spec test = no_commands_mapped s a (filter (λ b. is_other spec a.number b && test b) (range_with_len 0 NODES))
 
-quiet_ticked : (s : ℕ) (a : NodeId) (found : set.FinSet nat_cmp) (o : Option Spec) → IsQuiet s (ticked a found o)
+no_commands_ticked : (s : ℕ) (a : NodeId) (found : set.FinSet nat_cmp) (o : Option Spec) → HasNoCommands s (ticked a found o)
 unfolding commands
-quiet_ticked s a found None = refl
-quiet_ticked s a found (Some spec) = quiet_notices s a spec (set.contains found)
+no_commands_ticked s a found None = refl
+no_commands_ticked s a found (Some spec) = no_commands_notices s a spec (set.contains found)
 
-quiet_made : (g : Addr) (steps : List Step) (s : ℕ) (a : NodeId) (request : Request) (reply : Reply) → IsQuiet s (made_notices g steps a request reply)
+no_commands_made : (g : Addr) (steps : List Step) (s : ℕ) (a : NodeId) (request : Request) (reply : Reply) → HasNoCommands s (made_notices g steps a request reply)
 unfolding commands
-quiet_made g steps s a (Make token addr spec) Done = elim (is_addr g addr) as (λ b. IsQuiet s (if b then notices a spec (λ c. is_noticed a.number c steps) else [])) [ true ↦ quiet_notices s a spec (λ c. is_noticed a.number c steps) | false ↦ refl ]
-quiet_made g steps s a request reply = refl
+no_commands_made g steps s a (Make token addr spec) Done = elim (is_addr g addr) as (λ b. HasNoCommands s (if b then notices a spec (λ c. is_noticed a.number c steps) else [])) [ true ↦ no_commands_notices s a spec (λ c. is_noticed a.number c steps) | false ↦ refl ]
+no_commands_made g steps s a request reply = refl
 
 -- a stop that is shown is no command
 commands_stopped : (s : ℕ) (a : NodeId) (met : Bool) (cs : List GroupStep) → commands s (with_stop a met cs) ≡ commands s cs
 unfolding commands
 commands_stopped s a met [] = refl
 commands_stopped s a true (c ∷ cs) = refl
-commands_stopped s a false (c ∷ cs) = ap (λ es. es ++ commands s (c ∷ cs)) (quiet_step s a Ends refl)
+commands_stopped s a false (c ∷ cs) = ap (λ es. es ++ commands s (c ∷ cs)) (no_commands_step s a Ends refl)
 
 -- what a request gives besides the command is no command
 commands_asked : (g : Addr) (steps : List Step) (s : ℕ) (a : NodeId) (request : Request) (reply : Reply) → (requested g steps a request reply ≡ (if has_row a.number g.tenant steps then command_for g a request ++ made_notices g steps a request reply else []))
@@ -106,28 +106,28 @@ commands_asked g steps s a request reply plain =
         | false ↦ refl
       ]
       | false ↦ ap (commands s) plain ∙ elim (has_row a.number g.tenant steps) as (λ h. commands s (if h then command_for g a request ++ made_notices g steps a request reply else []) ≡ commands s (if h then command_for g a request else [])) [
-        | true ↦ commands-append s (command_for g a request) (made_notices g steps a request reply) ∙ (ap (λ es. commands s (command_for g a request) ++ es) (quiet_made g steps s a request reply) ∙ append-nil (commands s (command_for g a request)))
+        | true ↦ commands-append s (command_for g a request) (made_notices g steps a request reply) ∙ (ap (λ es. commands s (command_for g a request) ++ es) (no_commands_made g steps s a request reply) ∙ append-nil (commands s (command_for g a request)))
         | false ↦ refl
       ]
     ]
 
-quiet_arrived : (g : Addr) (packets : List Packet) (steps : List Step) (s : ℕ) (ps : List Packet) → IsQuiet s (arrived g packets steps ps)
+no_commands_arrived : (g : Addr) (packets : List Packet) (steps : List Step) (s : ℕ) (ps : List Packet) → HasNoCommands s (arrived g packets steps ps)
 unfolding commands
-quiet_arrived g packets steps s [] = refl
-quiet_arrived g packets steps s (p ∷ others) =
-    quiet_both s (all_acknowledged g p.to p.from (is_new_ack packets steps p) 1 0 (frames p.to.number p.from.number packets steps)) _
-    (quiet_acknowledged g s p.to p.from (is_new_ack packets steps p) 1 0 (frames p.to.number p.from.number packets steps))
+no_commands_arrived g packets steps s [] = refl
+no_commands_arrived g packets steps s (p ∷ others) =
+    no_commands_both s (all_acknowledged g p.to p.from (is_new_ack packets steps p) 1 0 (frames p.to.number p.from.number packets steps)) _
+    (no_commands_acknowledged g s p.to p.from (is_new_ack packets steps p) 1 0 (frames p.to.number p.from.number packets steps))
     (go (is_taken p.from.number p.to.number p.frame packets steps))
   where
     before : ℕ
     before = length (items_of g (take (p.frame - 1) (frames p.from.number p.to.number packets steps)))
 
-    go : (b : Bool) → IsQuiet s (if b then [] else comes p.from p.to before (length (items_in g p)))
+    go : (b : Bool) → HasNoCommands s (if b then [] else comes p.from p.to before (length (items_in g p)))
     go true = refl
-    go false = quiet_comes s p.from p.to before (length (items_in g p))
+    go false = no_commands_comes s p.from p.to before (length (items_in g p))
 
-quiet_pairs : (s : ℕ) (steps : List GroupStep) → IsQuiet s steps → Pairs (commands s steps) [] []
-quiet_pairs s steps quiet = subst (λ es. Pairs es [] []) (sym quiet) no_pairs
+no_commands_pairs : (s : ℕ) (steps : List GroupStep) → HasNoCommands s steps → Pairs (commands s steps) [] []
+no_commands_pairs s steps none = subst (λ es. Pairs es [] []) (sym none) no_pairs
 
 -- a command at a node that may have the tenant, which names the group or not
 request_pairs : (s : ℕ) (a : NodeId) (e : GroupEvent) (r : Reply) (has : ℕ → Bool) (named : Bool) → command_in e ≡ e ∷ []
@@ -157,9 +157,9 @@ silent : (b : Bool) → ◌≡◌ {A = List Accepted} (if b then [] else []) []
 silent true = refl
 silent false = refl
 
-quiet_request : (g : Addr) (steps : List Step) (s : ℕ) (a : NodeId) (e : GroupEvent) (r : Reply) (named : Bool) → command_in e ≡ e ∷ [] → accepted_in e r ≡ []
+no_commands_request : (g : Addr) (steps : List Step) (s : ℕ) (a : NodeId) (e : GroupEvent) (r : Reply) (named : Bool) → command_in e ≡ e ∷ [] → accepted_in e r ≡ []
     → Pairs (commands s (if has_row a.number g.tenant steps then (if named then record { node = a; event = e } ∷ [] else []) else [])) (if nat_eq a.number s && (has_row s g.tenant steps && named) then r ∷ [] else []) []
-quiet_request g steps s a e r named is none =
+no_commands_request g steps s a e r named is none =
     subst (λ ps. Pairs (commands s (if has_row a.number g.tenant steps then (if named then record { node = a; event = e } ∷ [] else []) else [])) (if nat_eq a.number s && (has_row s g.tenant steps && named) then r ∷ [] else []) ps)
     (ap (λ (ps : List Accepted). if nat_eq a.number s && (has_row s g.tenant steps && named) then ps else []) none ∙ silent (nat_eq a.number s && (has_row s g.tenant steps && named)))
     (request_pairs s a e r (λ x. has_row x g.tenant steps) named is)
@@ -169,8 +169,8 @@ unnamed true true r = refl
 unnamed true false r = refl
 unnamed false b r = refl
 
-tenant_pairs : (s : ℕ) (steps : List GroupStep) (a b : Bool) (r : Reply) → IsQuiet s steps → Pairs (commands s steps) (if a && (b && false) then r ∷ [] else []) []
-tenant_pairs s steps a b r quiet = subst (λ rs. Pairs (commands s steps) rs []) (sym (unnamed a b r)) (quiet_pairs s steps quiet)
+tenant_pairs : (s : ℕ) (steps : List GroupStep) (a b : Bool) (r : Reply) → HasNoCommands s steps → Pairs (commands s steps) (if a && (b && false) then r ∷ [] else []) []
+tenant_pairs s steps a b r none = subst (λ rs. Pairs (commands s steps) rs []) (sym (unnamed a b r)) (no_commands_pairs s steps none)
 
 -- the commands of a request are those of what it asks
 asked_pairs : (g : Addr) (steps : List Step) (s : ℕ) (a : NodeId) (request : Request) (reply : Reply) (rs : List Reply) (ps : List Accepted) → (requested g steps a request reply ≡ (if has_row a.number g.tenant steps then command_for g a request ++ made_notices g steps a request reply else []))
@@ -182,30 +182,30 @@ reply_pairs : (g : Addr) (packets : List Packet) (steps : List Step) (s : ℕ) (
 unfolding commands
 reply_pairs g packets steps s a (AddTenant token row) Done =
     tenant_pairs s (asked g steps a (AddTenant token row) Done) (nat_eq a.number s) (has_row s g.tenant steps) Done
-    (elim (is_stopped a.number steps) as (λ t. IsQuiet s (if t then (if has_row a.number g.tenant steps then [] else []) else (if nat_eq row.tenant g.tenant then record { node = a; event = Tenant (reserve_of row) } ∷ [] else []))) [
-      | true ↦ elim (has_row a.number g.tenant steps) as (λ b. IsQuiet s (if b then [] else [])) [ true ↦ refl | false ↦ refl ]
-      | false ↦ elim (nat_eq row.tenant g.tenant) as (λ b. IsQuiet s (if b then record { node = a; event = Tenant (reserve_of row) } ∷ [] else [])) [
-        | true ↦ ap (λ es. es ++ []) (quiet_step s a (Tenant (reserve_of row)) refl)
+    (elim (is_stopped a.number steps) as (λ t. HasNoCommands s (if t then (if has_row a.number g.tenant steps then [] else []) else (if nat_eq row.tenant g.tenant then record { node = a; event = Tenant (reserve_of row) } ∷ [] else []))) [
+      | true ↦ elim (has_row a.number g.tenant steps) as (λ b. HasNoCommands s (if b then [] else [])) [ true ↦ refl | false ↦ refl ]
+      | false ↦ elim (nat_eq row.tenant g.tenant) as (λ b. HasNoCommands s (if b then record { node = a; event = Tenant (reserve_of row) } ∷ [] else [])) [
+        | true ↦ ap (λ es. es ++ []) (no_commands_step s a (Tenant (reserve_of row)) refl)
         | false ↦ refl
       ]
     ])
 reply_pairs g packets steps s a (AddTenant token row) reply =
     asked_pairs g steps s a (AddTenant token row) reply _ _ refl
     (tenant_pairs s (if has_row a.number g.tenant steps then [] else []) (nat_eq a.number s) (has_row s g.tenant steps) reply
-    (elim (has_row a.number g.tenant steps) as (λ b. IsQuiet s (if b then [] else [])) [ true ↦ refl | false ↦ refl ]))
-reply_pairs g packets steps s a (Make token addr spec) reply = asked_pairs g steps s a (Make token addr spec) reply _ _ refl (quiet_request g steps s a (AskMake spec) reply (is_addr g addr) refl refl)
-reply_pairs g packets steps s a (OpenGroup token addr) reply = asked_pairs g steps s a (OpenGroup token addr) reply _ _ refl (quiet_request g steps s a AskOpen reply (is_addr g addr) refl refl)
+    (elim (has_row a.number g.tenant steps) as (λ b. HasNoCommands s (if b then [] else [])) [ true ↦ refl | false ↦ refl ]))
+reply_pairs g packets steps s a (Make token addr spec) reply = asked_pairs g steps s a (Make token addr spec) reply _ _ refl (no_commands_request g steps s a (AskMake spec) reply (is_addr g addr) refl refl)
+reply_pairs g packets steps s a (OpenGroup token addr) reply = asked_pairs g steps s a (OpenGroup token addr) reply _ _ refl (no_commands_request g steps s a AskOpen reply (is_addr g addr) refl refl)
 reply_pairs g packets steps s a (Say token addr payload) (Said seq) = asked_pairs g steps s a (Say token addr payload) (Said seq) _ _ refl (request_pairs s a (AskSay payload) (Said seq) (λ x. has_row x g.tenant steps) (is_addr g addr) refl)
-reply_pairs g packets steps s a (Say token addr payload) reply = asked_pairs g steps s a (Say token addr payload) reply _ _ refl (quiet_request g steps s a (AskSay payload) reply (is_addr g addr) refl refl)
-reply_pairs g packets steps s a (Fetch token addr from most) reply = asked_pairs g steps s a (Fetch token addr from most) reply _ _ refl (quiet_request g steps s a (AskFetch from most) reply (is_addr g addr) refl refl)
+reply_pairs g packets steps s a (Say token addr payload) reply = asked_pairs g steps s a (Say token addr payload) reply _ _ refl (no_commands_request g steps s a (AskSay payload) reply (is_addr g addr) refl refl)
+reply_pairs g packets steps s a (Fetch token addr from most) reply = asked_pairs g steps s a (Fetch token addr from most) reply _ _ refl (no_commands_request g steps s a (AskFetch from most) reply (is_addr g addr) refl refl)
 
 given_pairs : (g : Addr) (packets : List Packet) (steps : List Step) (s : ℕ) (event : Event) (answer : Answer)
     → Pairs (commands s (gives g packets steps event answer)) (reply_in g s steps event answer) (accepted_by g steps event answer s)
 unfolding commands
 given_pairs g packets steps s (At a request) (AnswerReply reply) = reply_pairs g packets steps s a request reply
-given_pairs g packets steps s (Pack a b) (AnswerSent (SentPacket k)) = quiet_pairs s (took a b (length (items_of g (packet_at packets k)))) (quiet_took s a b (length (items_of g (packet_at packets k))))
-given_pairs g packets steps s (Arrive k) (AnswerTaken (TakenGood good)) = quiet_pairs s (arrived g packets steps (packet_at packets k)) (quiet_arrived g packets steps s (packet_at packets k))
-given_pairs g packets steps s (Tick a) (AnswerTicked (Noticed found)) = quiet_pairs s (ticked a found (made_at g a.number steps)) (quiet_ticked s a found (made_at g a.number steps))
+given_pairs g packets steps s (Pack a b) (AnswerSent (SentPacket k)) = no_commands_pairs s (took a b (length (items_of g (packet_at packets k)))) (no_commands_took s a b (length (items_of g (packet_at packets k))))
+given_pairs g packets steps s (Arrive k) (AnswerTaken (TakenGood good)) = no_commands_pairs s (arrived g packets steps (packet_at packets k)) (no_commands_arrived g packets steps s (packet_at packets k))
+given_pairs g packets steps s (Tick a) (AnswerTicked (Noticed found)) = no_commands_pairs s (ticked a found (made_at g a.number steps)) (no_commands_ticked s a found (made_at g a.number steps))
 given_pairs g packets steps s (At a (Say token addr payload)) answer = no_pairs
 given_pairs g packets steps s event answer = no_pairs
 

@@ -21,19 +21,12 @@ use Rattle.gb_record.proofs.Numbers.{number_of}
 use Rattle.gb_cluster.proofs.Invariant.{Stands, AreMarked, is_concerned, Fits, NodeIs, IsFramed, IsLink, Links, BehavesAlone, Invariant, window_of}
 use Rattle.gb_cluster.proofs.MarkLemmas.{or_off}
 use Rattle.gb_cluster.proofs.NodeLemmas.{same_carried}
-use Rattle.gb_cluster.proofs.Turns.{turned, ActsAt, GroupTurn, framed_stays, frames_turned, taken_turned, acked_turned, watched_turned, quiet_link, links_turn, same_marks, holds_turn}
+use Rattle.gb_cluster.proofs.Told.{Told, told_of, nothing_told}
+use Rattle.gb_cluster.proofs.Turns.{turned, ActsAt, GroupTurn, framed_stays, frames_turned, taken_turned, acked_turned, watched_turned, untouched_link, links_turn, same_marks, holds_turn}
 
 -- the step tells of nothing but frames that are sent
-pub record IsSending (s : Step) : Type 0 where
-  pub taken : (ps : List Packet) (x y n : ℕ) → is_taken_by x y n ps s.event s.answer ≡ false
-  pub acked : (ps : List Packet) (x y n : ℕ) → is_acked_by x y n ps s.event s.answer ≡ false
-  pub row : (x tenant : ℕ) → is_taken_in x tenant s.event s.answer ≡ false
-  pub made : (g : Addr) (x : ℕ) → made_by g x s.event s.answer ≡ None
-  pub noticed : (x b : ℕ) → is_noticed_by x b s.event s.answer ≡ false
-  pub stopped : (x : ℕ) → is_stopped_by x s.event s.answer ≡ false
-  pub watched : (ps : List Packet) (x : ℕ) → watched_by x ps s.event s.answer ≡ []
-  pub reply : (g : Addr) (x : ℕ) (steps : List Step) → reply_in g x steps s.event s.answer ≡ []
-  pub met : (g : Addr) (x : ℕ) (steps : List Step) → is_met_by g x steps s.event ≡ false
+abbrev pub IsSending : Step → Type 0
+IsSending s = (x : ℕ) (packets : List Packet) (steps : List Step) → told_of x packets steps s.event s.answer ≡ record nothing_told { frame = λ y. frame_at x y packets s.event s.answer }
 
 -- the node sends these packets in the step and goes on as v: only its group and its sending ends are others
 pub record Sends (w : World) (a : ℕ) (v : NodeValue) (s : Step) (more : List Packet) : Type 0 where
@@ -66,27 +59,21 @@ pub none_sent : (g : Addr) (w : World) (a : ℕ) (v : NodeValue) (s : Step) (mor
 none_sent g w a v s more group stands = record { legal = tt; others = λ x other. refl; stands = stands; replies = refl; spec = refl; noticed = refl; stopped = refl; come = refl; done = refl }
 
 module _ (w : World) (a : ℕ) (v : NodeValue) (s : Step) (more : List Packet) (in_a : a < length w.nodes) (sends : Sends w a v s more) (links : Links w) where
+  told : (x : ℕ) → told_of x (w.packets ++ more) w.steps s.event s.answer ≡ record nothing_told { frame = λ y. frame_at x y (w.packets ++ more) s.event s.answer }
+  told x = sends.step x (w.packets ++ more) w.steps
+
   taken_still : (x y n : ℕ) → is_taken x y n (w.packets ++ more) (s ∷ w.steps) ≡ is_taken x y n w.packets w.steps
-  taken_still x y n = taken_turned w s more links.numbered x y n ∙ or_off _ _ (sends.step.taken (w.packets ++ more) x y n)
+  taken_still x y n = taken_turned w s more links.numbered x y n ∙ or_off _ _ (ap (λ (t : Told). t.taken x n) (told y))
 
   acked_still : (x y n : ℕ) → is_acked x y n (w.packets ++ more) (s ∷ w.steps) ≡ is_acked x y n w.packets w.steps
-  acked_still x y n = acked_turned w s more links.numbered x y n ∙ or_off _ _ (sends.step.acked (w.packets ++ more) x y n)
+  acked_still x y n = acked_turned w s more links.numbered x y n ∙ or_off _ _ (ap (λ (t : Told). t.acked y n) (told x))
 
   sends_acts : ActsAt w a s more
   sends_acts = record {
     number = sends.number;
-    frame = sends.frame;
-    taken = λ x y n other. sends.step.taken (w.packets ++ more) x y n;
-    acked = λ x y n other. sends.step.acked (w.packets ++ more) x y n;
-    row = λ x tenant other. sends.step.row x tenant;
-    reply = λ g x other. sends.step.reply g x w.steps;
-    made = λ g x other. sends.step.made g x;
-    noticed = λ x b other. sends.step.noticed x b;
-    stopped = λ x other. sends.step.stopped x;
-    met = λ g x other. sends.step.met g x w.steps;
-    watched = λ x other. sends.step.watched (w.packets ++ more) x;
-    sent_taken = λ x y n in_x in_y is. absurd (true≢false (sym is ∙ sends.step.taken (w.packets ++ more) x y n));
-    sent_acked = λ x y n in_x in_y some is. absurd (true≢false (sym is ∙ sends.step.acked (w.packets ++ more) x y n));
+    elsewhere = λ x other. told x ∙ (λ i. record nothing_told { frame = λ y. sends.frame x y other i });
+    sent_taken = λ x y n in_x in_y is. absurd (true≢false (sym is ∙ ap (λ (t : Told). t.taken x n) (told y)));
+    sent_acked = λ x y n in_x in_y some is. absurd (true≢false (sym is ∙ ap (λ (t : Told). t.acked y n) (told x)));
   }
 
   sends_node : NodeIs (length w.nodes) w.silence (w.packets ++ more) (s ∷ w.steps) a v
@@ -94,10 +81,10 @@ module _ (w : World) (a : ℕ) (v : NodeValue) (s : Step) (more : List Packet) (
   sends_node =
       let was = links.node a in_a in
       record {
-        rows = λ tenant. or_off _ _ (sends.step.row a tenant) ∙ (was.rows tenant ∙ ap (λ row. is_some (reserve_for tenant row)) (sym sends.row));
-        stopped = sends.stopped ∙ (was.stopped ∙ sym (or_off _ _ (sends.step.stopped a)));
-        watch = sends.watch ∙ (was.watch ∙ ap (replay (start a (length w.nodes) w.silence)) (sym (watched_turned w s more links.numbered a ∙ ap (λ (cs : List Call). cs ++ watched a w.packets w.steps) (sends.step.watched (w.packets ++ more) a))));
-        noticed = λ b. ap (λ (d : Watch). fin.contains d.noticed b) sends.watch ∙ (was.noticed b ∙ sym (or_off _ _ (sends.step.noticed a b)));
+        rows = λ tenant. or_off _ _ (ap (λ (t : Told). t.row tenant) (told a)) ∙ (was.rows tenant ∙ ap (λ row. is_some (reserve_for tenant row)) (sym sends.row));
+        stopped = sends.stopped ∙ (was.stopped ∙ sym (or_off _ _ (ap (λ (t : Told). t.stopped) (told a))));
+        watch = sends.watch ∙ (was.watch ∙ ap (replay (start a (length w.nodes) w.silence)) (sym (watched_turned w s more links.numbered a ∙ ap (λ (cs : List Call). cs ++ watched a w.packets w.steps) (ap (λ (t : Told). t.watched) (told a)))));
+        noticed = λ b. ap (λ (d : Watch). fin.contains d.noticed b) sends.watch ∙ (was.noticed b ∙ sym (or_off _ _ (ap (λ (t : Told). t.noticed b) (told a))));
         senders = sends.senders ∙ was.senders;
         receivers = ap length sends.receivers ∙ was.receivers;
         sender = λ b in_b. sends.sender b in_b ∙ (λ i. window_of (λ n. sym (acked_still a b n) i) (frames a b (w.packets ++ more) (s ∷ w.steps)));
@@ -109,7 +96,7 @@ module _ (w : World) (a : ℕ) (v : NodeValue) (s : Step) (more : List Packet) (
     where
       link_at : (x y : ℕ) → x < length w.nodes → y < length w.nodes → ((x ≡ a) ⊎ (x ≡ a → ⊥)) → IsLink (w.packets ++ more) (s ∷ w.steps) x y
       link_at x y in_x in_y (inl is) = subst (λ z. IsLink (w.packets ++ more) (s ∷ w.steps) z y) (sym is) (sends.link y in_y)
-      link_at x y in_x in_y (inr other) = quiet_link w s more x y links.numbered (sends.frame x y other) (λ n. sends.step.taken (w.packets ++ more) x y n) (λ n. sends.step.acked (w.packets ++ more) x y n) (links.link x y in_x in_y)
+      link_at x y in_x in_y (inr other) = untouched_link w s more x y links.numbered (sends.frame x y other) (λ n. ap (λ (t : Told). t.taken x n) (told y)) (λ n. ap (λ (t : Told). t.acked y n) (told x)) (links.link x y in_x in_y)
 
   sends_group : (g : Addr) (group next : Group) (given : List GroupStep) → Fits g w group → GroupSends g w a v s more group next given → GroupTurn g w a v s more group next given
   unfolding replies_to made_at is_noticed is_met
@@ -120,10 +107,10 @@ module _ (w : World) (a : ℕ) (v : NodeValue) (s : Step) (more : List Packet) (
         others = turn.others;
         stands = turn.stands;
         member = record {
-          replies = turn.replies ∙ (was.replies ∙ (sym (append-nil (replies_to g a w.steps)) ∙ ap (λ rs. replies_to g a w.steps ++ rs) (sym (sends.step.reply g a w.steps))));
+          replies = turn.replies ∙ (was.replies ∙ (sym (append-nil (replies_to g a w.steps)) ∙ ap (λ rs. replies_to g a w.steps ++ rs) (sym (ap (λ (t : Told). t.reply g) (told a)))));
           spec = turn.spec ∙ (was.spec ∙ sym made);
-          noticed = λ b. ap (is_marked b) turn.noticed ∙ (was.noticed b ∙ (λ i. is_concerned a b (sym made i) && sym (or_off _ (is_noticed a b w.steps) (sends.step.noticed a b)) i));
-          stopped = turn.stopped ∙ (was.stopped ∙ sym (or_off _ _ (sends.step.met g a w.steps)));
+          noticed = λ b. ap (is_marked b) turn.noticed ∙ (was.noticed b ∙ (λ i. is_concerned a b (sym made i) && sym (or_off _ (is_noticed a b w.steps) (ap (λ (t : Told). t.noticed b) (told a))) i));
+          stopped = turn.stopped ∙ (was.stopped ∙ sym (or_off _ _ (ap (λ (t : Told). t.met g) (told a))));
         };
         come = λ x in_x. subst (λ (marks : ℕ → List ℕ). AreMarked g (frames x a w.packets w.steps) (λ n. is_taken x a n (w.packets ++ more) (s ∷ w.steps)) (marks x)) (sym turn.come)
             (same_marks g (frames x a w.packets w.steps) (λ n. is_taken x a n w.packets w.steps) (λ n. is_taken x a n (w.packets ++ more) (s ∷ w.steps)) ((group a).come x) (λ n. sym (taken_still x a n)) (fits.come x a in_x in_a));
@@ -132,7 +119,7 @@ module _ (w : World) (a : ℕ) (v : NodeValue) (s : Step) (more : List Packet) (
       }
     where
       made : or_else (made_by g a s.event s.answer) (made_at g a w.steps) ≡ made_at g a w.steps
-      made = ap (λ o. or_else o (made_at g a w.steps)) (sends.step.made g a)
+      made = ap (λ o. or_else o (made_at g a w.steps)) (ap (λ (t : Told). t.made g) (told a))
 
 -- the cluster keeps what it holds through such a step
 pub sends_turn : (w : World) (a : ℕ) (v : NodeValue) (s : Step) (more : List Packet) → a < length w.nodes → Invariant w → Sends w a v s more
@@ -164,7 +151,7 @@ only_sends w a e part in_a sends holds = subst (λ (v : NodeValue). Invariant (t
   stopped = refl;
   senders = refl;
   sender = λ b in_b. (holds.links.node a in_a).sender b in_b ∙ ap (λ (fs : List Packet). window_of (λ n. is_acked a b n w.packets w.steps) fs) (sym (same b));
-  link = λ b in_b. quiet_link w s part.sent a b holds.links.numbered (sends.frame a b (w.packets ++ part.sent)) (λ n. sends.step.taken (w.packets ++ part.sent) a b n) (λ n. sends.step.acked (w.packets ++ part.sent) a b n) (holds.links.link a b in_a in_b);
+  link = λ b in_b. untouched_link w s part.sent a b holds.links.numbered (sends.frame a b (w.packets ++ part.sent)) (λ n. sends.step.taken (w.packets ++ part.sent) a b n) (λ n. sends.step.acked (w.packets ++ part.sent) a b n) (holds.links.link a b in_a in_b);
   framed = λ k p at. framed_stays w a (node_of w a) s part.sent p holds.links.numbered (sends.framed k p at);
 }) (λ g before. subst (λ (given : List GroupStep). GroupSends g w a (node_of w a) s part.sent (alone (length w.nodes) g.group (project g w.packets w.steps)) (alone_from (length w.nodes) g.group (alone (length w.nodes) g.group (project g w.packets w.steps)) given) given)
     (sym (sends.given g (w.packets ++ part.sent))) (none_sent g w a (node_of w a) s part.sent (alone (length w.nodes) g.group (project g w.packets w.steps))

@@ -27,8 +27,8 @@ use Rattle.gb_cluster.proofs.World.{World, node_of, new_world, with_step}
 use Rattle.gb_cluster.specs.NodeStep.{new_node}
 use Rattle.gb_cluster.proofs.Invariant.{NodeIs, IsLink, Invariant, undone_of}
 use Rattle.gb_cluster.proofs.AskLemmas.{if_same, command_unnamed}
-use Rattle.gb_cluster.proofs.IdleLemmas.{IsQuiet, idle_holds}
-use Rattle.gb_cluster.proofs.QuietLemmas.{quiet}
+use Rattle.gb_cluster.proofs.IdleLemmas.{idle_holds}
+use Rattle.gb_cluster.proofs.Told.{told_of, nothing_told, but_for_groups, TellsNothing, nothing}
 use Rattle.gb_cluster.proofs.WorldLemmas.{eqb_apart_back}
 
 -- Events for which a node lacked memory.
@@ -78,35 +78,36 @@ silent g x steps a request foreign = rw foreign (rw (and_right (has_row x g.tena
 unmet_by : (g : Addr) (x : ℕ) (steps : List Step) (a : NodeId) (request : Request) → is_named g request ≡ false → is_met_by g x steps (At a request) ≡ false
 unmet_by g x steps a request foreign = rw foreign (and_right (nat_eq a.number x) false refl)
 
-starved_request : (w : World) (a : NodeId) (request : Request) → IsQuiet w a.number (At a request) (AnswerReply (Refused OutOfMemory))
+starved_request : (w : World) (a : NodeId) (request : Request) → TellsNothing w a.number (At a request) (AnswerReply (Refused OutOfMemory))
 starved_request w a request = record {
-  frame = λ x y. refl;
-  taken = λ x y n. refl;
-  acked = λ x y n. refl;
-  row = λ x tenant. starved_row x tenant a request;
-  made = λ g x. starved_made g x a request;
-  noticed = λ x b. refl;
-  stopped = λ x. refl;
-  watched = λ x. refl;
   number = omega arith;
-  reply = λ g x other. rw (eqb_apart_back x a.number other) refl;
-  met = λ g x other. rw (eqb_apart_back x a.number other) refl;
+  told = told;
+  elsewhere = λ x other. λ i. record (told x i) { reply = λ g. unanswered x other g i; met = λ g. unmet x other g i };
   free = λ g room. record {
     reply = λ x. silent g x w.steps a request (named_own g request room);
     met = λ x. unmet_by g x w.steps a request (named_own g request room);
     given = starved_given g w.steps a request (named_own g request room);
   };
 }
+  where
+    told : (x : ℕ) → but_for_groups (told_of x w.packets w.steps (At a request) (AnswerReply (Refused OutOfMemory))) ≡ nothing_told
+    told x = λ i. record nothing_told { row = λ tenant. starved_row x tenant a request i; made = λ g. starved_made g x a request i }
+
+    unanswered : (x : ℕ) → x ≢ a.number → (g : Addr) → reply_in g x w.steps (At a request) (AnswerReply (Refused OutOfMemory)) ≡ []
+    unanswered x other g = rw (eqb_apart_back x a.number other) refl
+
+    unmet : (x : ℕ) → x ≢ a.number → (g : Addr) → is_met_by g x w.steps (At a request) ≡ false
+    unmet x other g = rw (eqb_apart_back x a.number other) refl
 
 -- a cluster keeps what it holds through every event for which a node lacked memory
 pub starved_holds : (w : World) (e : Event) → IsPlaced (length w.nodes) e → Invariant w → Invariant (with_step e (starved_answer e) w)
 starved_holds w (At a request) placed holds = idle_holds w a.number (At a request) (starved_answer (At a request)) placed (starved_request w a request) holds
-starved_holds w (Pack a b) placed holds = idle_holds w a.number (Pack a b) (starved_answer (Pack a b)) placed (quiet refl) holds
-starved_holds w (Again a b n) placed holds = idle_holds w a.number (Again a b n) (starved_answer (Again a b n)) placed (quiet refl) holds
-starved_holds w (Ack a b) placed holds = idle_holds w a.number (Ack a b) (starved_answer (Ack a b)) placed (quiet refl) holds
-starved_holds w (Arrive k) placed holds = idle_holds w 0 (Arrive k) (starved_answer (Arrive k)) holds.links.some (quiet refl) holds
-starved_holds w (Tick a) placed holds = idle_holds w a.number (Tick a) (starved_answer (Tick a)) placed (quiet refl) holds
-starved_holds w (Stop a) placed holds = idle_holds w a.number (Stop a) (starved_answer (Stop a)) placed (quiet refl) holds
+starved_holds w (Pack a b) placed holds = idle_holds w a.number (Pack a b) (starved_answer (Pack a b)) placed (nothing refl (λ x. refl) (λ g. refl)) holds
+starved_holds w (Again a b n) placed holds = idle_holds w a.number (Again a b n) (starved_answer (Again a b n)) placed (nothing refl (λ x. refl) (λ g. refl)) holds
+starved_holds w (Ack a b) placed holds = idle_holds w a.number (Ack a b) (starved_answer (Ack a b)) placed (nothing refl (λ x. refl) (λ g. refl)) holds
+starved_holds w (Arrive k) placed holds = idle_holds w 0 (Arrive k) (starved_answer (Arrive k)) holds.links.some (nothing refl (λ x. refl) (λ g. refl)) holds
+starved_holds w (Tick a) placed holds = idle_holds w a.number (Tick a) (starved_answer (Tick a)) placed (nothing refl (λ x. refl) (λ g. refl)) holds
+starved_holds w (Stop a) placed holds = idle_holds w a.number (Stop a) (starved_answer (Stop a)) placed (nothing refl (λ x. refl) (λ g. refl)) holds
 
 -- At first.
 

@@ -20,7 +20,7 @@ use Rattle.gb_alone.specs.Alone.{Member, Group, after, alone_from, commanded, di
 use Rattle.gb_cluster.specs.NodeValue.{NodeValue}
 use Rattle.gb_record.specs.Project.{has_row, is_stopped, is_met, is_met_by, is_named, made_by, command_for, with_stop, asked}
 use Rattle.gb_cluster.specs.NodeStep.{node_did}
-use Rattle.gb_cluster.proofs.AskLemmas.{Before, After, quiet, command_unnamed, member_asked, silent_unnamed, silent_absent, told_one}
+use Rattle.gb_cluster.proofs.AskLemmas.{Before, After, unconcerned, command_unnamed, member_asked, silent_unnamed, silent_absent, told_one}
 use Rattle.gb_cluster.proofs.NodeLemmas.{same_stands}
 use Rattle.gb_cluster.proofs.WorldLemmas.{eqb_self, after_there, after_elsewhere}
 
@@ -143,7 +143,7 @@ at_stopped nodes g a v group carried steps request stopped before = go (cases_Bo
         by false q r s off = refl
 
     go : ((has_row a.number g.tenant steps ≡ true) ⊎ (has_row a.number g.tenant steps ≡ false)) → ((is_named g request ≡ true) ⊎ (is_named g request ≡ false)) → After nodes g a v group carried steps request refused given
-    go (inr absent) named = quiet nodes g a v group carried steps request refused given v before (form false absent) (silent_absent g a steps request refused absent) (unmade g a request) (none_met (ap (λ b. b && is_named g request) absent)) before.stands
-    go (inl row) (inr unnamed) = quiet nodes g a v group carried steps request refused given v before (form true row ∙ ap (with_stop a (is_met g a.number steps)) (command_unnamed g a request unnamed)) (silent_unnamed g a steps request refused unnamed) (unmade g a request)
+    go (inr absent) named = unconcerned nodes g a v group carried steps request refused given v before (form false absent) (silent_absent g a steps request refused absent) (unmade g a request) (none_met (ap (λ b. b && is_named g request) absent)) before.stands
+    go (inl row) (inr unnamed) = unconcerned nodes g a v group carried steps request refused given v before (form true row ∙ ap (with_stop a (is_met g a.number steps)) (command_unnamed g a request unnamed)) (silent_unnamed g a steps request refused unnamed) (unmade g a request)
         (none_met (ap (λ b. has_row a.number g.tenant steps && b) unnamed ∙ and_right (has_row a.number g.tenant steps) false refl)) before.stands
     go (inl row) (inl named) = refused_after nodes g a v group carried steps request given (command_named g a request named) before stopped row named (form true row) (is_met g a.number steps) refl

@@ -27,6 +27,7 @@ use Rattle.gb_cluster.proofs.Invariant.{NodeIs, IsOfFrame, IsFramed, IsLink, Lin
 use Rattle.gb_cluster.proofs.AckLemmas.{undone_without}
 use Rattle.gb_cluster.proofs.MarkLemmas.{slice_get-within, or_off}
 use Rattle.gb_cluster.proofs.TakenLemmas.{sent_frames_are_inside, received_now, IsTook, node_took-is}
+use Rattle.gb_cluster.proofs.Told.{nothing_told}
 use Rattle.gb_cluster.proofs.Turns.{turned, ActsAt, frames_turned, taken_turned, acked_turned, watched_turned, links_turn}
 use Rattle.gb_cluster.proofs.WorldLemmas.{eqb_self, eqb_apart_back}
 
@@ -89,19 +90,23 @@ module _ (w : World) (k : ℕ) (p : Packet) (good : Good) (is : IsGood w k p) (l
       let parts = three (nat_eq p.from.number y) (nat_eq p.to.number x) (covers p.base p.mask n) now in
       subst (λ z. is_taken z y n w.packets w.steps ≡ true) (eqb_same p.to.number x parts.1) (subst (λ z. is_taken p.to.number z n w.packets w.steps ≡ true) (eqb_same p.from.number y parts.0) (is.framed.acks n some parts.2))
 
+  untaken : (x : ℕ) → x ≢ p.to.number → (y n : ℕ) → is_frame y x n (packet_at (w.packets ++ []) k) ≡ false
+  untaken x other y n = ap (is_frame y x n) is.packet ∙ rw (eqb_apart_back x p.to.number other) (and_right (nat_eq p.from.number y) false refl)
+
+  unacked : (x : ℕ) → x ≢ p.to.number → (y n : ℕ) → is_ack x y n (packet_at (w.packets ++ []) k) ≡ false
+  unacked x other y n = ap (is_ack x y n) is.packet ∙ rw (eqb_apart_back x p.to.number other) (and_right (nat_eq p.from.number y) false refl)
+
+  unheard : (x : ℕ) → x ≢ p.to.number → heard_from x (packet_at (w.packets ++ []) k) ≡ []
+  unheard x other = ap (heard_from x) is.packet ∙ rw (eqb_apart_back x p.to.number other) refl
+
   pub good_acts : ActsAt w p.to.number (good_step k good) []
   good_acts = record {
     number = is.number;
-    frame = λ x y other. refl;
-    taken = λ x y n other. ap (is_frame x y n) is.packet ∙ rw (eqb_apart_back y p.to.number other) (and_right (nat_eq p.from.number x) false refl);
-    acked = λ x y n other. ap (is_ack x y n) is.packet ∙ rw (eqb_apart_back x p.to.number other) (and_right (nat_eq p.from.number y) false refl);
-    row = λ x tenant other. refl;
-    reply = λ g x other. refl;
-    made = λ g x other. refl;
-    noticed = λ x b other. refl;
-    stopped = λ x other. refl;
-    met = λ g x other. refl;
-    watched = λ x other. ap (heard_from x) is.packet ∙ rw (eqb_apart_back x p.to.number other) refl;
+    elsewhere = λ x other. λ i. record nothing_told {
+      taken = λ y n. untaken x other y n i;
+      acked = λ y n. unacked x other y n i;
+      watched = unheard x other i;
+    };
     sent_taken = λ x y n in_x in_y now. taken_sent x y n (sym (ap (is_frame x y n) is.packet) ∙ now);
     sent_acked = λ x y n in_x in_y some now. (links.link x y in_x in_y).taken n (acked_taken x y n some (sym (ap (is_ack x y n) is.packet) ∙ now));
   }

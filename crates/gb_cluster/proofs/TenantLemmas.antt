@@ -21,7 +21,7 @@ use Rattle.gb_cluster.specs.NodeValue.{NodeValue}
 use Rattle.gb_record.specs.Project.{has_row, is_stopped, is_turned_away, requested}
 use Rattle.gb_rules.specs.Tenant.{reserve_of, is_over_limits}
 use Rattle.gb_cluster.specs.NodeStep.{reserve_for, slot_for, row_answer, running_reply}
-use Rattle.gb_cluster.proofs.AskLemmas.{Before, AtNode, quiet, member_asked, silent_unnamed, unmet_now, if_same}
+use Rattle.gb_cluster.proofs.AskLemmas.{Before, AtNode, unconcerned, member_asked, silent_unnamed, unmet_now, if_same}
 use Rattle.gb_cluster.proofs.MakeLemmas.{at_make}
 use Rattle.gb_cluster.proofs.MemberLemmas.{same_slot}
 use Rattle.gb_cluster.proofs.NodeLemmas.{same_stands}
@@ -69,10 +69,10 @@ at_tenant nodes g a v group carried steps token row Done running before free = g
   where
     go : ((nat_eq row.tenant g.tenant ≡ true) ⊎ (nat_eq row.tenant g.tenant ≡ false)) → AtNode nodes g a v group carried steps (AddTenant token row) Done
     go (inl own) = tenant_taken nodes g a v group carried steps token row running before own
-    go (inr other) = quiet nodes g a v group carried steps (AddTenant token row) Done (requested g steps a (AddTenant token row) Done) (record v { row = Some row }) before (rw other refl) (silent_unnamed g a steps (AddTenant token row) Done refl) refl (unmet_now g a steps (AddTenant token row) running)
+    go (inr other) = unconcerned nodes g a v group carried steps (AddTenant token row) Done (requested g steps a (AddTenant token row) Done) (record v { row = Some row }) before (rw other refl) (silent_unnamed g a steps (AddTenant token row) Done refl) refl (unmet_now g a steps (AddTenant token row) running)
         (same_stands nodes g a.number v (record v { row = Some row }) (group a.number) (group a.number) carried (rw other (sym (ap (reserve_for g.tenant) (free refl)))) refl refl refl refl refl refl refl before.stands)
 at_tenant nodes g a v group carried steps token row r running before free =
-    quiet nodes g a v group carried steps (AddTenant token row) r (requested g steps a (AddTenant token row) r) v before (if_same (has_row a.number g.tenant steps) []) (silent_unnamed g a steps (AddTenant token row) r refl) refl (unmet_now g a steps (AddTenant token row) running) before.stands
+    unconcerned nodes g a v group carried steps (AddTenant token row) r (requested g steps a (AddTenant token row) r) v before (if_same (has_row a.number g.tenant steps) []) (silent_unnamed g a steps (AddTenant token row) r refl) refl (unmet_now g a steps (AddTenant token row) running) before.stands
 
 -- any request at a running node
 pub at_running : (nodes : ℕ) (g : Addr) (a : NodeId) (v : NodeValue) (group : Group) (carried : ℕ → List Entry) (steps : List Step) (request : Request)

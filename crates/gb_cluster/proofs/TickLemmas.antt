@@ -32,13 +32,13 @@ use Rattle.gb_cluster.proofs.World.{World, node_of, world_after}
 use Rattle.gb_cluster.specs.NodeStep.{Part, only_answered, slot_for, slot_noticed_all, node_ticked}
 use Rattle.gb_cluster.proofs.Invariant.{Stands, AreMarked, MemberIs, is_concerned, Fits, NodeIs, Links, Invariant, window_of}
 use Rattle.gb_cluster.proofs.IdleLemmas.{idle_turn}
-use Rattle.gb_cluster.proofs.QuietLemmas.{quiet}
+use Rattle.gb_cluster.proofs.Told.{nothing_told, nothing}
 use Rattle.gb_cluster.proofs.MemberLemmas.{KeepsRest}
 use Rattle.gb_cluster.proofs.NodeLemmas.{same_carried}
 use Rattle.gb_cluster.proofs.NoticeLemmas.{all_noticed, notices_of, notices_there, notices_elsewhere, notices_keep, notices_legal, notices_mark, passing_marked, passing_rising}
 use Rattle.gb_cluster.proofs.SlotNotices.{SlotFits, fits-all, slot_for-noticed}
 use Rattle.gb_cluster.proofs.StopLemmas.{unmet}
-use Rattle.gb_cluster.proofs.Turns.{turned, ActsAt, GroupTurn, frames_turned, taken_turned, acked_turned, quiet_link, links_turn, same_marks, holds_turn}
+use Rattle.gb_cluster.proofs.Turns.{turned, ActsAt, GroupTurn, frames_turned, taken_turned, acked_turned, untouched_link, links_turn, same_marks, holds_turn}
 use Rattle.gb_cluster.proofs.WorldLemmas.{eqb_self, eqb_apart_back}
 
 -- what a tick answers
@@ -63,16 +63,7 @@ nodes_stay d (Ticks ∷ calls) = nodes_stay d calls
 tick_acts : (w : World) (a : NodeId) (v : NodeValue) → ActsAt w a.number (tick_step a v) []
 tick_acts w a v = record {
   number = omega arith;
-  frame = λ x y other. refl;
-  taken = λ x y n other. refl;
-  acked = λ x y n other. refl;
-  row = λ x tenant other. refl;
-  reply = λ g x other. refl;
-  made = λ g x other. refl;
-  noticed = λ x b other. ap (λ (t : Bool). t && fin.contains (due v.watch) b) (eqb_apart_back x a.number other);
-  stopped = λ x other. refl;
-  met = λ g x other. refl;
-  watched = λ x other. ap (λ (t : Bool). if t then Ticks ∷ [] else []) (eqb_apart_back x a.number other);
+  elsewhere = λ x other. ap (λ (b : Bool). record nothing_told { noticed = λ c. b && fin.contains (due v.watch) c; watched = if b then Ticks ∷ [] else [] }) (eqb_apart_back x a.number other);
   sent_taken = λ x y n in_x in_y is. absurd (cc);
   sent_acked = λ x y n in_x in_y some is. absurd (cc);
 }
@@ -203,7 +194,7 @@ tick_holds : (w : World) (a : NodeId) → a.number < length w.nodes → (node_of
 tick_holds w a in_a running holds =
     holds_turn w a.number (node_ticked v) s [] in_a holds (tick_acts w a v)
     (links_turn w a.number (node_ticked v) s [] in_a holds.links (tick_acts w a v) (tick_node w a v (holds.links.node a.number in_a))
-    (λ x y in_x in_y. quiet_link w s [] x y holds.links.numbered refl (λ n. refl) (λ n. refl) (holds.links.link x y in_x in_y))
+    (λ x y in_x in_y. untouched_link w s [] x y holds.links.numbered refl (λ n. refl) (λ n. refl) (holds.links.link x y in_x in_y))
     (λ k p at. absurd (cc)))
     (λ g room before. subst (λ (given : List GroupStep). GroupTurn g w a.number (node_ticked v) s [] (group g) (alone_from (length w.nodes) g.group (group g) given) given) (sym (given_is a (made_at g a.number w.steps) v))
     (tick_group g w a v (group g) in_a refl running holds.links before.fits))
@@ -225,5 +216,5 @@ any_tick w a in_a holds = go (node_of w a.number).stopped refl
     part b = if b then only_answered (node_of w a.number) (AnswerTicked (TickRefused Stopped)) else only_answered (node_ticked (node_of w a.number)) (AnswerTicked (Noticed (due (node_of w a.number).watch)))
 
     go : (b : Bool) → (node_of w a.number).stopped ≡ b → Invariant (turned w a.number (part b).value (record { event = Tick a; answer = (part b).answer }) (part b).sent)
-    go true is = idle_turn w a.number (Tick a) (AnswerTicked (TickRefused Stopped)) in_a (quiet refl) holds
+    go true is = idle_turn w a.number (Tick a) (AnswerTicked (TickRefused Stopped)) in_a (nothing refl (λ x. refl) (λ g. refl)) holds
     go false is = tick_holds w a in_a is holds

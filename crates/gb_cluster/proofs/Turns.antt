@@ -18,6 +18,7 @@ use Rattle.gb_cluster.specs.NodeStep.{no_node}
 use Rattle.gb_cluster.proofs.Invariant.{Stands, AreMarked, MemberIs, is_concerned, Fits, NodeIs, IsOfFrame, IsFramed, IsLink, Links, BehavesAlone, Invariant, window_of}
 use Rattle.gb_record.proofs.Numbers.{IsNumbered, number_of, offset}
 use Rattle.gb_cluster.proofs.MarkLemmas.{or_off}
+use Rattle.gb_cluster.proofs.Told.{Told, told_of, nothing_told}
 use Rattle.gb_record.proofs.LaterPackets.{frames-more, is_taken-more, is_acked-more, watched-more, project-more, numbered-more, items_of-append, offset_past, offset_within}
 use Rattle.gb_cluster.proofs.NodeLemmas.{same_carried}
 use Rattle.gb_cluster.proofs.WorldLemmas.{goes_on, served_before, node_there, node_elsewhere}
@@ -29,16 +30,7 @@ turned w a v s more = record w { nodes = set w.nodes a v; steps = s ∷ w.steps;
 -- the step tells nothing of other nodes than the one that acts
 pub record ActsAt (w : World) (a : ℕ) (s : Step) (more : List Packet) : Type 0 where
   pub number : number_of s.event s.answer ≤ length (w.packets ++ more)
-  pub frame : (x y : ℕ) → x ≢ a → frame_at x y (w.packets ++ more) s.event s.answer ≡ []
-  pub taken : (x y n : ℕ) → y ≢ a → is_taken_by x y n (w.packets ++ more) s.event s.answer ≡ false
-  pub acked : (x y n : ℕ) → x ≢ a → is_acked_by x y n (w.packets ++ more) s.event s.answer ≡ false
-  pub row : (x tenant : ℕ) → x ≢ a → is_taken_in x tenant s.event s.answer ≡ false
-  pub reply : (g : Addr) (x : ℕ) → x ≢ a → reply_in g x w.steps s.event s.answer ≡ []
-  pub made : (g : Addr) (x : ℕ) → x ≢ a → made_by g x s.event s.answer ≡ None
-  pub noticed : (x b : ℕ) → x ≢ a → is_noticed_by x b s.event s.answer ≡ false
-  pub stopped : (x : ℕ) → x ≢ a → is_stopped_by x s.event s.answer ≡ false
-  pub met : (g : Addr) (x : ℕ) → x ≢ a → is_met_by g x w.steps s.event ≡ false
-  pub watched : (x : ℕ) → x ≢ a → watched_by x (w.packets ++ more) s.event s.answer ≡ []
+  pub elsewhere : (x : ℕ) → x ≢ a → told_of x (w.packets ++ more) w.steps s.event s.answer ≡ nothing_told
   -- what is taken or acknowledged in it was sent before
   pub sent_taken : (x y n : ℕ) → x < length w.nodes → y < length w.nodes → is_taken_by x y n (w.packets ++ more) s.event s.answer ≡ true → n ≤ length (frames x y w.packets w.steps)
   pub sent_acked : (x y n : ℕ) → x < length w.nodes → y < length w.nodes → 1 ≤ n → is_acked_by x y n (w.packets ++ more) s.event s.answer ≡ true → n ≤ length (frames x y w.packets w.steps)
@@ -98,9 +90,9 @@ framed_stays w a v s more p numbered was = record {
     go (inr some) = inr (some.0, some.1, rw (frames_turned w s more numbered p.from.number p.to.number) (slice_get-longer (frames p.from.number p.to.number w.packets w.steps) (frame_at p.from.number p.to.number (w.packets ++ more) s.event s.answer) (p.frame - 1) some.1 some.2), some.3)
 
 -- a link on which nothing happened
-pub quiet_link : (w : World) (s : Step) (more : List Packet) (x y : ℕ) → IsNumbered (length w.packets) w.steps → frame_at x y (w.packets ++ more) s.event s.answer ≡ [] → ((n : ℕ) → is_taken_by x y n (w.packets ++ more) s.event s.answer ≡ false) → ((n : ℕ) → is_acked_by x y n (w.packets ++ more) s.event s.answer ≡ false)
+pub untouched_link : (w : World) (s : Step) (more : List Packet) (x y : ℕ) → IsNumbered (length w.packets) w.steps → frame_at x y (w.packets ++ more) s.event s.answer ≡ [] → ((n : ℕ) → is_taken_by x y n (w.packets ++ more) s.event s.answer ≡ false) → ((n : ℕ) → is_acked_by x y n (w.packets ++ more) s.event s.answer ≡ false)
     → IsLink w.packets w.steps x y → IsLink (w.packets ++ more) (s ∷ w.steps) x y
-quiet_link w s more x y numbered none untaken unacked was =
+untouched_link w s more x y numbered none untaken unacked was =
     let fs : frames x y (w.packets ++ more) (s ∷ w.steps) ≡ frames x y w.packets w.steps = frames_turned w s more numbered x y ∙ (ap (λ zs. frames x y w.packets w.steps ++ zs) none ∙ append-nil (frames x y w.packets w.steps)) in
     record {
       items = λ i f at. was.items i f (sym (ap (λ zs. slice_get zs i) fs) ∙ at);
@@ -120,27 +112,30 @@ quiet_link w s more x y numbered none untaken unacked was =
 node_stays : (w : World) (a : ℕ) (s : Step) (more : List Packet) (x : ℕ) → IsNumbered (length w.packets) w.steps → ActsAt w a s more → x ≢ a → NodeIs (length w.nodes) w.silence w.packets w.steps x (node_of w x) → NodeIs (length w.nodes) w.silence (w.packets ++ more) (s ∷ w.steps) x (node_of w x)
 unfolding has_row is_stopped is_noticed
 node_stays w a s more x numbered acts other was = record {
-  rows = λ tenant. or_off _ _ (acts.row x tenant other) ∙ was.rows tenant;
-  stopped = was.stopped ∙ sym (or_off _ _ (acts.stopped x other));
-  watch = was.watch ∙ ap (replay (start x (length w.nodes) w.silence)) (sym (watched_turned w s more numbered x ∙ ap (λ (cs : List Call). cs ++ watched x w.packets w.steps) (acts.watched x other)));
-  noticed = λ b. was.noticed b ∙ sym (or_off _ _ (acts.noticed x b other));
+  rows = λ tenant. or_off _ _ (ap (λ (t : Told). t.row tenant) none) ∙ was.rows tenant;
+  stopped = was.stopped ∙ sym (or_off _ _ (ap (λ (t : Told). t.stopped) none));
+  watch = was.watch ∙ ap (replay (start x (length w.nodes) w.silence)) (sym (watched_turned w s more numbered x ∙ ap (λ (cs : List Call). cs ++ watched x w.packets w.steps) (ap (λ (t : Told). t.watched) none)));
+  noticed = λ b. was.noticed b ∙ sym (or_off _ _ (ap (λ (t : Told). t.noticed b) none));
   senders = was.senders;
   receivers = was.receivers;
   sender = λ b in_b. was.sender b in_b ∙ (ap (λ (fs : List Packet). window_of (λ n. is_acked x b n w.packets w.steps) fs) (sym (fs b)) ∙ acks b);
   receiver = λ b n in_b some. was.receiver b n in_b some ∙ (taken_before b n in_b);
 }
   where
+    none : told_of x (w.packets ++ more) w.steps s.event s.answer ≡ nothing_told
+    none = acts.elsewhere x other
+
     fs : (b : ℕ) → frames x b (w.packets ++ more) (s ∷ w.steps) ≡ frames x b w.packets w.steps
-    fs b = frames_turned w s more numbered x b ∙ (ap (λ zs. frames x b w.packets w.steps ++ zs) (acts.frame x b other) ∙ append-nil (frames x b w.packets w.steps))
+    fs b = frames_turned w s more numbered x b ∙ (ap (λ zs. frames x b w.packets w.steps ++ zs) (ap (λ (t : Told). t.frame b) none) ∙ append-nil (frames x b w.packets w.steps))
 
     ack_at : (b n : ℕ) → is_acked x b n w.packets w.steps ≡ is_acked x b n (w.packets ++ more) (s ∷ w.steps)
-    ack_at b n = sym (acked_turned w s more numbered x b n ∙ or_off _ _ (acts.acked x b n other))
+    ack_at b n = sym (acked_turned w s more numbered x b n ∙ or_off _ _ (ap (λ (t : Told). t.acked b n) none))
 
     acks : (b : ℕ) → window_of (λ n. is_acked x b n w.packets w.steps) (frames x b (w.packets ++ more) (s ∷ w.steps)) ≡ window_of (λ n. is_acked x b n (w.packets ++ more) (s ∷ w.steps)) (frames x b (w.packets ++ more) (s ∷ w.steps))
     acks b = λ i. window_of (λ n. ack_at b n i) (frames x b (w.packets ++ more) (s ∷ w.steps))
 
     taken_before : (b n : ℕ) → b < length w.nodes → is_taken b x n w.packets w.steps ≡ is_taken b x n (w.packets ++ more) (s ∷ w.steps)
-    taken_before b n in_b = sym (taken_turned w s more numbered b x n ∙ or_off _ _ (acts.taken b x n other))
+    taken_before b n in_b = sym (taken_turned w s more numbered b x n ∙ or_off _ _ (ap (λ (t : Told). t.taken b n) none))
 
 -- the links of a cluster after a step
 pub links_turn : (w : World) (a : ℕ) (v : NodeValue) (s : Step) (more : List Packet) → a < length w.nodes → Links w → ActsAt w a s more
@@ -195,14 +190,17 @@ more_marks g fs more test marks none was = record {
 member_stays : (g : Addr) (w : World) (a : ℕ) (s : Step) (more : List Packet) (x : ℕ) (m : Member) → ActsAt w a s more → x ≢ a → MemberIs g x w.steps m → MemberIs g x (s ∷ w.steps) m
 unfolding replies_to made_at is_noticed is_met
 member_stays g w a s more x m acts other was = record {
-  replies = was.replies ∙ (sym (append-nil (replies_to g x w.steps)) ∙ ap (λ rs. replies_to g x w.steps ++ rs) (sym (acts.reply g x other)));
+  replies = was.replies ∙ (sym (append-nil (replies_to g x w.steps)) ∙ ap (λ rs. replies_to g x w.steps ++ rs) (sym (ap (λ (t : Told). t.reply g) none)));
   spec = was.spec ∙ sym made;
-  noticed = λ b. was.noticed b ∙ (λ i. is_concerned x b (sym made i) && sym (or_off _ (is_noticed x b w.steps) (acts.noticed x b other)) i);
-  stopped = was.stopped ∙ sym (or_off _ _ (acts.met g x other));
+  noticed = λ b. was.noticed b ∙ (λ i. is_concerned x b (sym made i) && sym (or_off _ (is_noticed x b w.steps) (ap (λ (t : Told). t.noticed b) none)) i);
+  stopped = was.stopped ∙ sym (or_off _ _ (ap (λ (t : Told). t.met g) none));
 }
   where
+    none : told_of x (w.packets ++ more) w.steps s.event s.answer ≡ nothing_told
+    none = acts.elsewhere x other
+
     made : or_else (made_by g x s.event s.answer) (made_at g x w.steps) ≡ made_at g x w.steps
-    made = ap (λ o. or_else o (made_at g x w.steps)) (acts.made g x other)
+    made = ap (λ o. or_else o (made_at g x w.steps)) (ap (λ (t : Told). t.made g) none)
 
 -- the cluster stands for the group after the step
 pub fits_turn : (g : Addr) (w : World) (a : ℕ) (v : NodeValue) (s : Step) (more : List Packet) (group next : Group) (given : List GroupStep) → a < length w.nodes → Links w → ActsAt w a s more → Fits g w group → GroupTurn g w a v s more group next given → Fits g (turned w a v s more) next
@@ -227,7 +225,7 @@ fits_turn g w a v s more group next given in_a links acts fits turn = record {
         (rw (len, node_there w a v in_a) turn.stands)
     stands_at x in_x (inr other) = rw (len, node_elsewhere w a x v other, turn.others x other)
         (same_carried nodes g x (node_of w x) (group x) (λ b. items_of g (frames x b w.packets w.steps)) (λ b. items_of g (frames x b (w.packets ++ more) (s ∷ w.steps)))
-        (λ b. ap (items_of g) (sym (frames_turned w s more numbered x b ∙ (ap (λ zs. frames x b w.packets w.steps ++ zs) (acts.frame x b other) ∙ append-nil (frames x b w.packets w.steps))))) (fits.stands x in_x))
+        (λ b. ap (items_of g) (sym (frames_turned w s more numbered x b ∙ (ap (λ zs. frames x b w.packets w.steps ++ zs) (ap (λ (t : Told). t.frame b) (acts.elsewhere x other)) ∙ append-nil (frames x b w.packets w.steps))))) (fits.stands x in_x))
 
     member_at : (x : ℕ) → x < nodes → ((x ≡ a) ⊎ (x ≡ a → ⊥)) → MemberIs g x (s ∷ w.steps) (next x)
     member_at x in_x (inl is) = subst (λ y. MemberIs g y (s ∷ w.steps) (next y)) (sym is) turn.member
@@ -258,13 +256,13 @@ fits_turn g w a v s more group next given in_a links acts fits turn = record {
     come_at x y in_x in_y (inl is) = subst (λ z. AreMarked g (frames x z w.packets w.steps) (λ n. is_taken x z n (w.packets ++ more) (s ∷ w.steps)) ((next z).come x)) (sym is) (turn.come x in_x)
     come_at x y in_x in_y (inr other) = subst (λ (m : Member). AreMarked g (frames x y w.packets w.steps) (λ n. is_taken x y n (w.packets ++ more) (s ∷ w.steps)) (m.come x)) (sym (turn.others y other))
         (same_marks g (frames x y w.packets w.steps) (λ n. is_taken x y n w.packets w.steps) (λ n. is_taken x y n (w.packets ++ more) (s ∷ w.steps)) ((group y).come x)
-        (λ n. sym (taken_turned w s more numbered x y n ∙ or_off _ _ (acts.taken x y n other))) (fits.come x y in_x in_y))
+        (λ n. sym (taken_turned w s more numbered x y n ∙ or_off _ _ (ap (λ (t : Told). t.taken x n) (acts.elsewhere y other)))) (fits.come x y in_x in_y))
 
     done_at : (x y : ℕ) → x < nodes → y < nodes → ((x ≡ a) ⊎ (x ≡ a → ⊥)) → AreMarked g (frames x y w.packets w.steps) (λ n. is_acked x y n (w.packets ++ more) (s ∷ w.steps)) ((next x).done y)
     done_at x y in_x in_y (inl is) = subst (λ z. AreMarked g (frames z y w.packets w.steps) (λ n. is_acked z y n (w.packets ++ more) (s ∷ w.steps)) ((next z).done y)) (sym is) (turn.done y in_y)
     done_at x y in_x in_y (inr other) = subst (λ (m : Member). AreMarked g (frames x y w.packets w.steps) (λ n. is_acked x y n (w.packets ++ more) (s ∷ w.steps)) (m.done y)) (sym (turn.others x other))
         (same_marks g (frames x y w.packets w.steps) (λ n. is_acked x y n w.packets w.steps) (λ n. is_acked x y n (w.packets ++ more) (s ∷ w.steps)) ((group x).done y)
-        (λ n. sym (acked_turned w s more numbered x y n ∙ or_off _ _ (acts.acked x y n other))) (fits.done x y in_x in_y))
+        (λ n. sym (acked_turned w s more numbered x y n ∙ or_off _ _ (ap (λ (t : Told). t.acked y n) (acts.elsewhere x other)))) (fits.done x y in_x in_y))
 
     grown_done : (x y : ℕ) → x < nodes → y < nodes → AreMarked g (frames x y w.packets w.steps) (λ n. is_acked x y n (w.packets ++ more) (s ∷ w.steps)) ((next x).done y) → AreMarked g (frames x y (w.packets ++ more) (s ∷ w.steps)) (λ n. is_acked x y n (w.packets ++ more) (s ∷ w.steps)) ((next x).done y)
     grown_done x y in_x in_y was = grown x y (λ n. is_acked x y n (w.packets ++ more) (s ∷ w.steps)) ((next x).done y) (late_acked x y in_x in_y) was
