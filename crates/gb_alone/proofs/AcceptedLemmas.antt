@@ -64,6 +64,7 @@ did_said : (me : NodeId) (event : GroupEvent) (reply : Reply) (m : Member) → o
 unfolding own_said
 did_said me (AskMake spec) Done m = sym (append-nil (own_said m.told))
 did_said me AskOpen Done m = sym (append-nil (own_said m.told))
+did_said me AskShut Done m = sym (append-nil (own_said m.told))
 did_said me (AskSay payload) (Said seq) m = refl
 did_said me event reply m = sym (append-nil (own_said m.told))
 

@@ -60,6 +60,7 @@ IsInside nodes a m = (spec : Spec) → m.spec ≡ Some spec → a < nodes
 did_inside : (nodes number : ℕ) (me : NodeId) (event : GroupEvent) (reply : Reply) (m : Member) → reply_to nodes number me.number event m ≡ reply → IsInside nodes me.number m → IsInside nodes me.number (did me event reply m)
 did_inside nodes number me (AskMake spec) Done m e old = λ s is. make_inside nodes number me.number spec m e
 did_inside nodes number me AskOpen Done m e old = old
+did_inside nodes number me AskShut Done m e old = old
 did_inside nodes number me (AskSay payload) (Said seq) m e old = old
 did_inside nodes number me event reply m e old = old
 

@@ -107,6 +107,7 @@ said_now said me seq payload told next now =
 fits_did : (nodes number : ℕ) (said : ℕ → List Accepted) (me : NodeId) (event : GroupEvent) (reply : Reply) (m : Member) → reply_to nodes number me.number event m ≡ reply → said me.number ≡ own_said m.told ++ accepted_in event reply → Fits said m → Fits said (did me event reply m)
 fits_did nodes number said me (AskMake spec) Done m e now fits = record { known = fits.known; put = fits.put }
 fits_did nodes number said me AskOpen Done m e now fits = record { known = fits.known; put = fits.put }
+fits_did nodes number said me AskShut Done m e now fits = record { known = fits.known; put = fits.put }
 fits_did nodes number said me (AskSay payload) (Said seq) m e now fits =
     fits_called said me.number (Own (record { origin = me; seq = seq; payload = payload })) m (said_now said me seq payload m.told (next_said me.number m payload seq nodes number e) now) fits
 fits_did nodes number said me event reply m e now fits = fits

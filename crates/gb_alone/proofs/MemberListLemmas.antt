@@ -82,6 +82,7 @@ running_listed nodes number me (AskMake spec) v m h =
     ap (λ (r : Option Reserve). by_tenant (make_answer nodes me number (is_some v.spec) spec) r) h.reserve
     ∙ ap (λ (s : Option Spec). by_tenant (make_answer nodes me number (is_some s) spec) m.reserve) h.spec
 running_listed nodes number me AskOpen v m h = by_both open_answer v.reserve m.reserve (shown me (member_of v)) (shown me m) h.reserve (shown_listed me v m h)
+running_listed nodes number me AskShut v m h = by_both shut_answer v.reserve m.reserve (shown me (member_of v)) (shown me m) h.reserve (shown_listed me v m h)
 running_listed nodes number me (AskSay payload) v m h = by_both (λ s. say_answer s payload) v.reserve m.reserve (shown me (member_of v)) (shown me m) h.reserve (shown_listed me v m h)
 running_listed nodes number me (AskFetch from most) v m h = by_both (λ s. fetch_answer s from most) v.reserve m.reserve (shown me (member_of v)) (shown me m) h.reserve (shown_listed me v m h)
 running_listed nodes number me event v m h = refl
@@ -117,6 +118,7 @@ called_listed me c v m h = record {
 did_listed : (me : NodeId) (event : GroupEvent) (reply : Reply) (v : MemberValue) (m : Member) → StandsForMember v m → StandsForMember (value_did me event reply v) (did me event reply m)
 did_listed me (AskMake spec) Done v m h = record { reserve = h.reserve; spec = refl; phase = h.phase; told = h.told; replies = h.replies; put = h.put; taken = h.taken; size = h.size; stopped = h.stopped }
 did_listed me AskOpen Done v m h = record { reserve = h.reserve; spec = h.spec; phase = refl; told = h.told; replies = h.replies; put = h.put; taken = h.taken; size = h.size; stopped = h.stopped }
+did_listed me AskShut Done v m h = record { reserve = h.reserve; spec = h.spec; phase = refl; told = h.told; replies = h.replies; put = h.put; taken = h.taken; size = h.size; stopped = h.stopped }
 did_listed me (AskSay payload) (Said seq) v m h = called_listed me.number (Own (record { origin = me; seq = seq; payload = payload })) v m h
 did_listed me event reply v m h = h
 
@@ -235,6 +237,7 @@ member_listed nodes number me Stop vs group h =
     record { reserve = here.reserve; spec = here.spec; phase = here.phase; told = here.told; replies = here.replies; put = here.put; taken = here.taken; size = here.size; stopped = refl }
 member_listed nodes number me (AskMake spec) vs group h = command_listed nodes number me (AskMake spec) (value_at vs me.number) (group me.number) (h.members me.number me.below)
 member_listed nodes number me AskOpen vs group h = command_listed nodes number me AskOpen (value_at vs me.number) (group me.number) (h.members me.number me.below)
+member_listed nodes number me AskShut vs group h = command_listed nodes number me AskShut (value_at vs me.number) (group me.number) (h.members me.number me.below)
 member_listed nodes number me (AskSay payload) vs group h = command_listed nodes number me (AskSay payload) (value_at vs me.number) (group me.number) (h.members me.number me.below)
 member_listed nodes number me (AskFetch from most) vs group h = command_listed nodes number me (AskFetch from most) (value_at vs me.number) (group me.number) (h.members me.number me.below)
 

@@ -64,6 +64,7 @@ shown me m = shown_of me m.phase m.told m.spec
 abbrev pub running_reply : ℕ → ℕ → ℕ → GroupEvent → Member → Reply
 running_reply nodes number me (AskMake spec) m = by_tenant (make_answer nodes me number (is_some m.spec) spec) m.reserve
 running_reply nodes number me AskOpen m = by_tenant (λ _. on_made open_answer (shown me m)) m.reserve
+running_reply nodes number me AskShut m = by_tenant (λ _. on_made shut_answer (shown me m)) m.reserve
 running_reply nodes number me (AskSay payload) m = by_tenant (λ _. on_made (λ s. say_answer s payload) (shown me m)) m.reserve
 running_reply nodes number me (AskFetch from most) m = by_tenant (λ _. on_made (λ s. fetch_answer s from most) (shown me m)) m.reserve
 running_reply nodes number me event m = Done
@@ -85,6 +86,7 @@ called me c m = record m { told = c ∷ m.told; put = put_to me m.spec c m.told 
 abbrev pub did : NodeId → GroupEvent → Reply → Member → Member
 did me (AskMake spec) Done m = record m { spec = Some spec }
 did me AskOpen Done m = record m { phase = Opened }
+did me AskShut Done m = record m { phase = Shut }
 did me (AskSay payload) (Said seq) m = called me.number (Own (record { origin = me; seq = seq; payload = payload })) m
 did me event reply m = m
 

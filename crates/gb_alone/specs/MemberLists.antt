@@ -64,6 +64,7 @@ value_called me c v = record v { told = c ∷ v.told; put = rows_with me v.spec 
 abbrev pub value_did : NodeId → GroupEvent → Reply → MemberValue → MemberValue
 value_did me (AskMake spec) Done v = record v { spec = Some spec }
 value_did me AskOpen Done v = record v { phase = Opened }
+value_did me AskShut Done v = record v { phase = Shut }
 value_did me (AskSay payload) (Said seq) v = value_called me.number (Own (record { origin = me; seq = seq; payload = payload })) v
 value_did me event reply v = v
 

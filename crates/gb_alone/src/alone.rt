@@ -82,6 +82,7 @@ fn step_at(
         GroupEvent::Came(from, place) => item_at(alloc, group, me, *from, *place)?,
         GroupEvent::Make(_) => command_at(alloc, nodes, number, group, me, &step.event)?,
         GroupEvent::Open => command_at(alloc, nodes, number, group, me, &step.event)?,
+        GroupEvent::Shut => command_at(alloc, nodes, number, group, me, &step.event)?,
         GroupEvent::Say(_) => command_at(alloc, nodes, number, group, me, &step.event)?,
         GroupEvent::Fetch(_, _) => command_at(alloc, nodes, number, group, me, &step.event)?,
     }

@@ -13,6 +13,8 @@ pub enum GroupEvent {
     Make(Spec),
     /// A command to open it.
     Open,
+    /// A command to shut it.
+    Shut,
     /// A command to say something.
     Say(Payload),
     /// A command to read the log, from a place on, so many entries at most.

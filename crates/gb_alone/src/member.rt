@@ -9,7 +9,7 @@ use crate::event::GroupEvent;
 use crate::put::{first_of, row_of, rows_after};
 use gb_history::call::{GroupCall, said_in};
 use gb_history::log::{falls_after, log_of, puts_of};
-use gb_rules::group::{check_open, check_say, is_bad_place};
+use gb_rules::group::{check_open, check_say, check_shut, is_bad_place};
 use gb_rules::phase::Phase;
 use gb_rules::reserve::Reserve;
 use gb_rules::tenant::answer_make;
@@ -105,6 +105,22 @@ impl Member {
         }
     }
 
+    /// The reply to a command to shut the group.
+    fn shut_reply(&self) -> Reply
+        ensures { (nodes number me : ℕ) → result ≡ one_group.running_reply nodes number me GroupEvent.Shut (member_of self.now) }
+    {
+        if self.reserve.is_none() {
+            return Reply::Refused(Refusal::Denied);
+        }
+        if self.spec.is_none() {
+            return Reply::Refused(Refusal::NoGroup);
+        }
+        match check_shut(self.phase) {
+            Ok(()) => Reply::Done,
+            Err(why) => Reply::Refused(why),
+        }
+    }
+
     /// The reply to a command to say something. `Err` where there is no number for it.
     fn say_reply(&self, payload: &Payload) -> Result<Reply, OutOfMemory>
         ensures { IfOk result (λ r. (nodes number me : ℕ) → r ≡ one_group.running_reply nodes number me (GroupEvent.Say payload.now) (member_of self.now)) }
@@ -181,6 +197,7 @@ impl Member {
         match event {
             GroupEvent::Make(spec) => Ok(self.make_reply(nodes, number, me, spec)),
             GroupEvent::Open => Ok(self.open_reply()),
+            GroupEvent::Shut => Ok(self.shut_reply()),
             GroupEvent::Say(payload) => {
                 let said = self.say_reply(payload)?;
                 Ok(said)
@@ -241,6 +258,7 @@ impl Member {
         match (event, reply) {
             (GroupEvent::Make(spec), Reply::Done) => self.spec = Some(spec.duplicate()),
             (GroupEvent::Open, Reply::Done) => self.phase = Phase::Opened,
+            (GroupEvent::Shut, Reply::Done) => self.phase = Phase::Shut,
             (GroupEvent::Say(payload), Reply::Said(seq)) => {
                 let payload = payload.duplicate(alloc)?;
                 let x = Entry {

@@ -34,6 +34,7 @@ pub command_unnamed : (g : Addr) (a : NodeId) (request : Request) → is_named g
 command_unnamed g a (AddTenant token row) unnamed = refl
 command_unnamed g a (Make token addr spec) unnamed = rw unnamed refl
 command_unnamed g a (OpenGroup token addr) unnamed = rw unnamed refl
+command_unnamed g a (ShutGroup token addr) unnamed = rw unnamed refl
 command_unnamed g a (Say token addr payload) unnamed = rw unnamed refl
 command_unnamed g a (Fetch token addr from most) unnamed = rw unnamed refl
 
@@ -77,6 +78,7 @@ pub record KeepsLinks (m n : Member) : Type 0 where
 did_keeps : (a : NodeId) (e : GroupEvent) (r : Reply) (m : Member) → KeepsLinks m (did a e r m)
 did_keeps a (AskMake spec) Done m = record { replies = refl; come = refl; done = refl; noticed = refl; stopped = refl }
 did_keeps a AskOpen Done m = record { replies = refl; come = refl; done = refl; noticed = refl; stopped = refl }
+did_keeps a AskShut Done m = record { replies = refl; come = refl; done = refl; noticed = refl; stopped = refl }
 did_keeps a (AskSay payload) (Said seq) m = record { replies = refl; come = refl; done = refl; noticed = refl; stopped = refl }
 did_keeps a e r m = record { replies = refl; come = refl; done = refl; noticed = refl; stopped = refl }
 

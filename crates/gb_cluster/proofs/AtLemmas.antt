@@ -66,6 +66,7 @@ node_keeps : (a : NodeId) (request : Request) (reply : Reply) (v : NodeValue) â†
 node_keeps a (AddTenant token row) Done v = record { senders = refl; receivers = refl; watch = refl; stopped = refl }
 node_keeps a (Make token addr spec) Done v = record { senders = refl; receivers = refl; watch = refl; stopped = refl }
 node_keeps a (OpenGroup token addr) Done v = record { senders = refl; receivers = refl; watch = refl; stopped = refl }
+node_keeps a (ShutGroup token addr) Done v = record { senders = refl; receivers = refl; watch = refl; stopped = refl }
 node_keeps a (Say token addr payload) (Said seq) v = record { senders = refl; receivers = refl; watch = refl; stopped = refl }
 node_keeps a request reply v = record { senders = refl; receivers = refl; watch = refl; stopped = refl }
 
@@ -86,6 +87,7 @@ row_by a v (AddTenant token row) Done tenant free = here v.row (free token row r
     here held none = rw (none, eqb_self a.number) (test (nat_eq row.tenant tenant))
 row_by a v (Make token addr spec) Done tenant free = refl
 row_by a v (OpenGroup token addr) Done tenant free = refl
+row_by a v (ShutGroup token addr) Done tenant free = refl
 row_by a v (Say token addr payload) (Said seq) tenant free = refl
 row_by a v request reply tenant free = refl
 

@@ -59,6 +59,7 @@ stopped_takes_none : (v : NodeValue) (e : Event) (found : List Packet) → Takes
 stopped_takes_none v (At a (AddTenant token row)) found takes = takes
 stopped_takes_none v (At a (Make token addr spec)) found takes = cc
 stopped_takes_none v (At a (OpenGroup token addr)) found takes = takes
+stopped_takes_none v (At a (ShutGroup token addr)) found takes = takes
 stopped_takes_none v (At a (Say token addr payload)) found takes = cc
 stopped_takes_none v (At a (Fetch token addr from most)) found takes = cc
 stopped_takes_none v (Pack a b) found takes = takes

@@ -1,4 +1,4 @@
--- What opening, saying and fetching at a running node do to each group there.
+-- What opening, shutting, saying and fetching at a running node do to each group there.
 use Rattle.std.proofs.Common.{◌≡◌, ℕ, ◌+◌, List, [], ◌++◌, length, Option, Some, None, Bool, true, false, ◌⊎◌, inl, inr, refl, sym, ◌∙◌, ap, subst}
 use Rattle.std.specs.Prelude.{if◌then◌else◌, nat_lt, nat_le}
 use Rattle.std.specs.Option.{option_map}
@@ -34,15 +34,24 @@ use Rattle.gb_cluster.proofs.AskLemmas.{Before, AtNode, at_command, at_other, if
 use Rattle.gb_cluster.proofs.MemberLemmas.{shown-is, said_member, put-said}
 use Rattle.gb_cluster.proofs.NodeLemmas.{addr_same, is_addr-self, slot_for-on_same, slot_for-on_other, same_stands}
 
--- Opening.
+-- Opening and shutting.
 
-open_done : (row : Option Reserve) (o : Option SlotState) → by_tenant (λ _. on_made open_answer (shown_for o)) row ≡ Done → (s : SlotState) × (o ≡ Some s)
-open_done None o is = absurd (cc)
-open_done (Some row) None is = absurd (cc)
-open_done (Some row) (Some s) is = (s, refl)
+-- the group at the address moves to a phase, where the reply is that it does
+abbrev node_moved : Phase → Addr → Reply → NodeValue → NodeValue
+node_moved phase addr Done v = record v { group = on_slot addr (slot_moved phase Done) v.group }
+node_moved phase addr r v = v
 
-slot_member_opened : (me : ℕ) (s : SlotState) (m : Member) → SlotStands me s m → SlotStands me (slot_opened Done s) (record m { phase = Opened })
-slot_member_opened me s m st = record { spec = st.spec; phase = refl; here = st.here; history = opened_stands s m.told Done st.history }
+abbrev member_moved : Phase → Reply → Member → Member
+member_moved phase Done m = record m { phase = phase }
+member_moved phase r m = m
+
+moved_from : (answer : Shown → Reply) (row : Option Reserve) (o : Option SlotState) → by_tenant (λ _. on_made answer (shown_for o)) row ≡ Done → (s : SlotState) × (o ≡ Some s)
+moved_from answer None o is = absurd (cc)
+moved_from answer (Some row) None is = absurd (cc)
+moved_from answer (Some row) (Some s) is = (s, refl)
+
+slot_member_moved : (phase : Phase) (me : ℕ) (s : SlotState) (m : Member) → SlotStands me s m → SlotStands me (slot_moved phase Done s) (record m { phase = phase })
+slot_member_moved phase me s m st = record { spec = st.spec; phase = refl; here = st.here; history = moved_stands s m.told phase Done st.history }
 
 -- the slot of the group changes, and nothing that waits or is put out
 slot_changed : (nodes : ℕ) (g : Addr) (me : ℕ) (v : NodeValue) (f : SlotState → SlotState) (s : SlotState) (m n : Member) (carried : ℕ → List Entry) → slot_for g v.group ≡ Some s → n.reserve ≡ m.reserve → n.put ≡ m.put → n.taken ≡ m.taken → ((b : ℕ) → waiting (f s) b ≡ waiting s b) → (SlotStands me s m → SlotStands me (f s) n) → Stands nodes g me v m carried → Stands nodes g me (record v { group = on_slot g f v.group }) n carried
@@ -55,19 +64,35 @@ slot_changed nodes g me v f s m n carried there row put taken waits step st =
       taken = λ b in_cluster. ap (λ (h : ℕ → ℕ). h b) taken ∙ st.taken b in_cluster;
     }
 
-open_stands : (nodes : ℕ) (g : Addr) (a : NodeId) (token : List ℕ) (v : NodeValue) (m : Member) (carried : ℕ → List Entry) (r : Reply) → by_tenant (λ _. on_made open_answer (shown_for (slot_for g v.group))) (reserve_for g.tenant v.row) ≡ r → Stands nodes g a.number v m carried → Stands nodes g a.number (node_did a (OpenGroup token g) r v) (did a AskOpen r m) carried
-open_stands nodes g a token v m carried Done is st =
-    let made = open_done (reserve_for g.tenant v.row) (slot_for g v.group) is in
-    slot_changed nodes g a.number v (slot_opened Done) made.0 m (record m { phase = Opened }) carried made.1 refl refl refl (λ b. refl) (slot_member_opened a.number made.0 m) st
-open_stands nodes g a token v m carried r is st = st
+moved_here : (answer : Shown → Reply) (phase : Phase) (nodes : ℕ) (g : Addr) (me : ℕ) (v : NodeValue) (m : Member) (carried : ℕ → List Entry) (r : Reply) → by_tenant (λ _. on_made answer (shown_for (slot_for g v.group))) (reserve_for g.tenant v.row) ≡ r → Stands nodes g me v m carried → Stands nodes g me (node_moved phase g r v) (member_moved phase r m) carried
+moved_here answer phase nodes g me v m carried Done is st =
+    let made = moved_from answer (reserve_for g.tenant v.row) (slot_for g v.group) is in
+    slot_changed nodes g me v (slot_moved phase Done) made.0 m (record m { phase = phase }) carried made.1 refl refl refl (λ b. refl) (slot_member_moved phase me made.0 m) st
+moved_here answer phase nodes g me v m carried r is st = st
 
-open_elsewhere : (nodes : ℕ) (g addr : Addr) (a : NodeId) (token : List ℕ) (v : NodeValue) (m : Member) (carried : ℕ → List Entry) (r : Reply) → is_addr g addr ≡ false → Stands nodes g a.number v m carried → Stands nodes g a.number (node_did a (OpenGroup token addr) r v) m carried
-open_elsewhere nodes g addr a token v m carried Done other st = same_stands nodes g a.number v (record v { group = on_slot addr (slot_opened Done) v.group }) m m carried refl (slot_for-on_other g addr (slot_opened Done) v.group other) refl refl refl refl refl refl st
-open_elsewhere nodes g addr a token v m carried r other st = st
+moved_elsewhere : (phase : Phase) (nodes : ℕ) (g addr : Addr) (me : ℕ) (v : NodeValue) (m : Member) (carried : ℕ → List Entry) (r : Reply) → is_addr g addr ≡ false → Stands nodes g me v m carried → Stands nodes g me (node_moved phase addr r v) m carried
+moved_elsewhere phase nodes g addr me v m carried Done other st = same_stands nodes g me v (record v { group = on_slot addr (slot_moved phase Done) v.group }) m m carried refl (slot_for-on_other g addr (slot_moved phase Done) v.group other) refl refl refl refl refl refl st
+moved_elsewhere phase nodes g addr me v m carried r other st = st
 
-opened_spec : (a : NodeId) (r : Reply) (m : Member) → (did a AskOpen r m).spec ≡ m.spec
-opened_spec a Done m = refl
-opened_spec a r m = refl
+moved_spec : (phase : Phase) (r : Reply) (m : Member) → (member_moved phase r m).spec ≡ m.spec
+moved_spec phase Done m = refl
+moved_spec phase r m = refl
+
+did_opened : (a : NodeId) (r : Reply) (m : Member) → did a AskOpen r m ≡ member_moved Opened r m
+did_opened a Done m = refl
+did_opened a r m = refl
+
+did_shut : (a : NodeId) (r : Reply) (m : Member) → did a AskShut r m ≡ member_moved Shut r m
+did_shut a Done m = refl
+did_shut a r m = refl
+
+node_opened : (a : NodeId) (token : List ℕ) (addr : Addr) (r : Reply) (v : NodeValue) → node_did a (OpenGroup token addr) r v ≡ node_moved Opened addr r v
+node_opened a token addr Done v = refl
+node_opened a token addr r v = refl
+
+node_shut : (a : NodeId) (token : List ℕ) (addr : Addr) (r : Reply) (v : NodeValue) → node_did a (ShutGroup token addr) r v ≡ node_moved Shut addr r v
+node_shut a token addr Done v = refl
+node_shut a token addr r v = refl
 
 pub at_open : (nodes : ℕ) (g : Addr) (a : NodeId) (v : NodeValue) (group : Group) (carried : ℕ → List Entry) (steps : List Step) (token : List ℕ) (addr : Addr) → is_stopped a.number steps ≡ false → Before nodes g a v group carried steps → AtNode nodes g a v group carried steps (OpenGroup token addr) (running_reply nodes a.number v (OpenGroup token addr))
 at_open nodes g a v group carried steps token addr running before = go (cases_Bool (is_addr g addr))
@@ -78,16 +103,42 @@ at_open nodes g a v group carried steps token addr running before = go (cases_Bo
     r : Addr → Reply
     r addr = running_reply nodes a.number v (OpenGroup token addr)
 
+    moves : (reply : Reply) → by_tenant (λ _. on_made open_answer (shown_for (slot_for g v.group))) (reserve_for g.tenant v.row) ≡ reply → Stands nodes g a.number (node_did a (OpenGroup token g) reply v) (did a AskOpen reply (group a.number)) carried
+    moves reply is = subst (λ (u : NodeValue). Stands nodes g a.number u (did a AskOpen reply (group a.number)) carried) (sym (node_opened a token g reply v)) (subst (λ (m : Member). Stands nodes g a.number (node_moved Opened g reply v) m carried) (sym (did_opened a reply (group a.number))) (moved_here open_answer Opened nodes g a.number v (group a.number) carried reply is st))
+
     mine : AtNode nodes g a v group carried steps (OpenGroup token g) (r g)
     mine = at_command nodes g a v group carried steps (OpenGroup token g) (r g) AskOpen running before (is_addr-self g) (rw (is_addr-self g) refl) refl tt refl
         (ap (λ (x : Option Shown). by_tenant (λ _. on_made open_answer x) (group a.number).reserve) (shown-is a.number (slot_for g v.group) (group a.number) st.slot) ∙ ap (by_tenant (λ _. on_made open_answer (shown_for (slot_for g v.group)))) st.row)
-        (opened_spec a (r g) (group a.number))
+        (ap (λ (m : Member). m.spec) (did_opened a (r g) (group a.number)) ∙ moved_spec Opened (r g) (group a.number))
         (λ none. ap (λ (x : Option Reserve). node_did a (OpenGroup token g) (by_tenant (λ _. on_made open_answer (shown_for (slot_for g v.group))) x) v) none)
-        (open_stands nodes g a token v (group a.number) carried (r g) refl st)
+        (moves (r g) refl)
 
     go : ((is_addr g addr ≡ true) ⊎ (is_addr g addr ≡ false)) → AtNode nodes g a v group carried steps (OpenGroup token addr) (r addr)
     go (inl h) = subst (λ (x : Addr). AtNode nodes g a v group carried steps (OpenGroup token x) (r x)) (sym (addr_same g addr h)) mine
-    go (inr h) = at_other nodes g a v group carried steps (OpenGroup token addr) (r addr) running before h (rw h (if_same _ [])) refl (open_elsewhere nodes g addr a token v (group a.number) carried (r addr) h st)
+    go (inr h) = at_other nodes g a v group carried steps (OpenGroup token addr) (r addr) running before h (rw h (if_same _ [])) refl (subst (λ (u : NodeValue). Stands nodes g a.number u (group a.number) carried) (sym (node_opened a token addr (r addr) v)) (moved_elsewhere Opened nodes g addr a.number v (group a.number) carried (r addr) h st))
+
+pub at_shut : (nodes : ℕ) (g : Addr) (a : NodeId) (v : NodeValue) (group : Group) (carried : ℕ → List Entry) (steps : List Step) (token : List ℕ) (addr : Addr) → is_stopped a.number steps ≡ false → Before nodes g a v group carried steps → AtNode nodes g a v group carried steps (ShutGroup token addr) (running_reply nodes a.number v (ShutGroup token addr))
+at_shut nodes g a v group carried steps token addr running before = go (cases_Bool (is_addr g addr))
+  where
+    st : Stands nodes g a.number v (group a.number) carried
+    st = before.stands
+
+    r : Addr → Reply
+    r addr = running_reply nodes a.number v (ShutGroup token addr)
+
+    moves : (reply : Reply) → by_tenant (λ _. on_made shut_answer (shown_for (slot_for g v.group))) (reserve_for g.tenant v.row) ≡ reply → Stands nodes g a.number (node_did a (ShutGroup token g) reply v) (did a AskShut reply (group a.number)) carried
+    moves reply is = subst (λ (u : NodeValue). Stands nodes g a.number u (did a AskShut reply (group a.number)) carried) (sym (node_shut a token g reply v)) (subst (λ (m : Member). Stands nodes g a.number (node_moved Shut g reply v) m carried) (sym (did_shut a reply (group a.number))) (moved_here shut_answer Shut nodes g a.number v (group a.number) carried reply is st))
+
+    mine : AtNode nodes g a v group carried steps (ShutGroup token g) (r g)
+    mine = at_command nodes g a v group carried steps (ShutGroup token g) (r g) AskShut running before (is_addr-self g) (rw (is_addr-self g) refl) refl tt refl
+        (ap (λ (x : Option Shown). by_tenant (λ _. on_made shut_answer x) (group a.number).reserve) (shown-is a.number (slot_for g v.group) (group a.number) st.slot) ∙ ap (by_tenant (λ _. on_made shut_answer (shown_for (slot_for g v.group)))) st.row)
+        (ap (λ (m : Member). m.spec) (did_shut a (r g) (group a.number)) ∙ moved_spec Shut (r g) (group a.number))
+        (λ none. ap (λ (x : Option Reserve). node_did a (ShutGroup token g) (by_tenant (λ _. on_made shut_answer (shown_for (slot_for g v.group))) x) v) none)
+        (moves (r g) refl)
+
+    go : ((is_addr g addr ≡ true) ⊎ (is_addr g addr ≡ false)) → AtNode nodes g a v group carried steps (ShutGroup token addr) (r addr)
+    go (inl h) = subst (λ (x : Addr). AtNode nodes g a v group carried steps (ShutGroup token x) (r x)) (sym (addr_same g addr h)) mine
+    go (inr h) = at_other nodes g a v group carried steps (ShutGroup token addr) (r addr) running before h (rw h (if_same _ [])) refl (subst (λ (u : NodeValue). Stands nodes g a.number u (group a.number) carried) (sym (node_shut a token addr (r addr) v)) (moved_elsewhere Shut nodes g addr a.number v (group a.number) carried (r addr) h st))
 
 -- Saying.
 

@@ -195,6 +195,7 @@ reply_pairs g packets steps s a (AddTenant token row) reply =
     (elim (has_row a.number g.tenant steps) as (λ b. HasNoCommands s (if b then [] else [])) [ true ↦ refl | false ↦ refl ]))
 reply_pairs g packets steps s a (Make token addr spec) reply = asked_pairs g steps s a (Make token addr spec) reply _ _ refl (no_commands_request g steps s a (AskMake spec) reply (is_addr g addr) refl refl)
 reply_pairs g packets steps s a (OpenGroup token addr) reply = asked_pairs g steps s a (OpenGroup token addr) reply _ _ refl (no_commands_request g steps s a AskOpen reply (is_addr g addr) refl refl)
+reply_pairs g packets steps s a (ShutGroup token addr) reply = asked_pairs g steps s a (ShutGroup token addr) reply _ _ refl (no_commands_request g steps s a AskShut reply (is_addr g addr) refl refl)
 reply_pairs g packets steps s a (Say token addr payload) (Said seq) = asked_pairs g steps s a (Say token addr payload) (Said seq) _ _ refl (request_pairs s a (AskSay payload) (Said seq) (λ x. has_row x g.tenant steps) (is_addr g addr) refl)
 reply_pairs g packets steps s a (Say token addr payload) reply = asked_pairs g steps s a (Say token addr payload) reply _ _ refl (no_commands_request g steps s a (AskSay payload) reply (is_addr g addr) refl refl)
 reply_pairs g packets steps s a (Fetch token addr from most) reply = asked_pairs g steps s a (Fetch token addr from most) reply _ _ refl (no_commands_request g steps s a (AskFetch from most) reply (is_addr g addr) refl refl)

@@ -37,6 +37,7 @@ starved_row : (x tenant : ℕ) (a : NodeId) (request : Request) → is_taken_in 
 starved_row x tenant a (AddTenant token row) = refl
 starved_row x tenant a (Make token addr spec) = refl
 starved_row x tenant a (OpenGroup token addr) = refl
+starved_row x tenant a (ShutGroup token addr) = refl
 starved_row x tenant a (Say token addr payload) = refl
 starved_row x tenant a (Fetch token addr from most) = refl
 
@@ -44,6 +45,7 @@ starved_made : (g : Addr) (x : ℕ) (a : NodeId) (request : Request) → made_by
 starved_made g x a (AddTenant token row) = refl
 starved_made g x a (Make token addr spec) = refl
 starved_made g x a (OpenGroup token addr) = refl
+starved_made g x a (ShutGroup token addr) = refl
 starved_made g x a (Say token addr payload) = refl
 starved_made g x a (Fetch token addr from most) = refl
 
@@ -51,6 +53,7 @@ named_own : (g : Addr) (request : Request) → is_own g request ≡ false → is
 named_own g (AddTenant token row) foreign = refl
 named_own g (Make token addr spec) foreign = foreign
 named_own g (OpenGroup token addr) foreign = foreign
+named_own g (ShutGroup token addr) foreign = foreign
 named_own g (Say token addr payload) foreign = foreign
 named_own g (Fetch token addr from most) foreign = foreign
 
@@ -59,6 +62,7 @@ starved_requested : (g : Addr) (steps : List Step) (a : NodeId) (request : Reque
 starved_requested g steps a (AddTenant token row) foreign = if_same (has_row a.number g.tenant steps) []
 starved_requested g steps a (Make token addr spec) foreign = rw foreign (if_same (has_row a.number g.tenant steps) [])
 starved_requested g steps a (OpenGroup token addr) foreign = rw foreign (if_same (has_row a.number g.tenant steps) [])
+starved_requested g steps a (ShutGroup token addr) foreign = rw foreign (if_same (has_row a.number g.tenant steps) [])
 starved_requested g steps a (Say token addr payload) foreign = rw foreign (if_same (has_row a.number g.tenant steps) [])
 starved_requested g steps a (Fetch token addr from most) foreign = rw foreign (if_same (has_row a.number g.tenant steps) [])
 

@@ -33,6 +33,7 @@ pub node_unchanged : (a : NodeId) (request : Request) (v : NodeValue) → node_d
 node_unchanged a (AddTenant token row) v = refl
 node_unchanged a (Make token addr spec) v = refl
 node_unchanged a (OpenGroup token addr) v = refl
+node_unchanged a (ShutGroup token addr) v = refl
 node_unchanged a (Say token addr payload) v = refl
 node_unchanged a (Fetch token addr from most) v = refl
 
@@ -40,6 +41,7 @@ unmade : (g : Addr) (a : NodeId) (request : Request) → made_by g a.number (At 
 unmade g a (AddTenant token row) = refl
 unmade g a (Make token addr spec) = refl
 unmade g a (OpenGroup token addr) = refl
+unmade g a (ShutGroup token addr) = refl
 unmade g a (Say token addr payload) = refl
 unmade g a (Fetch token addr from most) = refl
 
@@ -55,6 +57,7 @@ command_named : (g : Addr) (a : NodeId) (request : Request) → is_named g reque
 command_named g a (AddTenant token row) named = absurd (cc)
 command_named g a (Make token addr spec) named = record { event = AskMake spec; one = rw named refl; may = λ group. tt; replied = λ nodes number group. refl; nothing = λ m. refl }
 command_named g a (OpenGroup token addr) named = record { event = AskOpen; one = rw named refl; may = λ group. tt; replied = λ nodes number group. refl; nothing = λ m. refl }
+command_named g a (ShutGroup token addr) named = record { event = AskShut; one = rw named refl; may = λ group. tt; replied = λ nodes number group. refl; nothing = λ m. refl }
 command_named g a (Say token addr payload) named = record { event = AskSay payload; one = rw named refl; may = λ group. tt; replied = λ nodes number group. refl; nothing = λ m. refl }
 command_named g a (Fetch token addr from most) named = record { event = AskFetch from most; one = rw named refl; may = λ group. tt; replied = λ nodes number group. refl; nothing = λ m. refl }
 

@@ -81,5 +81,6 @@ pub at_running : (nodes : ℕ) (g : Addr) (a : NodeId) (v : NodeValue) (group : 
 at_running nodes g a v group carried steps (AddTenant token row) running before free = at_tenant nodes g a v group carried steps token row (row_answer row v.row) running before (row_done row v.row)
 at_running nodes g a v group carried steps (Make token addr spec) running before free = at_make nodes g a v group carried steps token addr spec running before free
 at_running nodes g a v group carried steps (OpenGroup token addr) running before free = at_open nodes g a v group carried steps token addr running before
+at_running nodes g a v group carried steps (ShutGroup token addr) running before free = at_shut nodes g a v group carried steps token addr running before
 at_running nodes g a v group carried steps (Say token addr payload) running before free = at_say nodes g a v group carried steps token addr payload running before
 at_running nodes g a v group carried steps (Fetch token addr from most) running before free = at_fetch nodes g a v group carried steps token addr from most running before

@@ -38,6 +38,7 @@ abbrev pub RequestTakesMemory : Request → Reply → Type 0
 RequestTakesMemory (AddTenant token row) reply = ⊥
 RequestTakesMemory (Make token addr spec) reply = takes_memory reply ≡ true
 RequestTakesMemory (OpenGroup token addr) reply = ⊥
+RequestTakesMemory (ShutGroup token addr) reply = ⊥
 RequestTakesMemory (Say token addr payload) reply = takes_memory reply ≡ true
 RequestTakesMemory (Fetch token addr from most) reply = takes_memory reply ≡ true
 

@@ -99,6 +99,7 @@ abbrev pub running_reply : ℕ → ℕ → NodeValue → Request → Reply
 running_reply nodes me v (AddTenant token row) = row_answer row v.row
 running_reply nodes me v (Make token addr spec) = in_room v.group (by_tenant (make_answer nodes me addr.group (is_some (slot_for addr v.group)) spec) (reserve_for addr.tenant v.row))
 running_reply nodes me v (OpenGroup token addr) = by_tenant (λ _. on_made open_answer (shown_for (slot_for addr v.group))) (reserve_for addr.tenant v.row)
+running_reply nodes me v (ShutGroup token addr) = by_tenant (λ _. on_made shut_answer (shown_for (slot_for addr v.group))) (reserve_for addr.tenant v.row)
 running_reply nodes me v (Say token addr payload) = by_tenant (λ _. on_made (λ s. say_answer s payload) (shown_for (slot_for addr v.group))) (reserve_for addr.tenant v.row)
 running_reply nodes me v (Fetch token addr from most) = by_tenant (λ _. on_made (λ s. fetch_answer s from most) (shown_for (slot_for addr v.group))) (reserve_for addr.tenant v.row)
 
@@ -115,7 +116,8 @@ on_slot g f (Some here) = if is_addr g here.addr then Some (record { addr = here
 abbrev pub node_did : NodeId → Request → Reply → NodeValue → NodeValue
 node_did me (AddTenant token row) Done v = record v { row = Some row }
 node_did me (Make token addr spec) Done v = record v { group = Some (record { addr = addr; slot = new_slot spec me v.watch.noticed }) }
-node_did me (OpenGroup token addr) Done v = record v { group = on_slot addr (slot_opened Done) v.group }
+node_did me (OpenGroup token addr) Done v = record v { group = on_slot addr (slot_moved Opened Done) v.group }
+node_did me (ShutGroup token addr) Done v = record v { group = on_slot addr (slot_moved Shut Done) v.group }
 node_did me (Say token addr payload) (Said seq) v = record v { group = on_slot addr (slot_said payload (Said seq)) v.group }
 node_did me request reply v = v
 

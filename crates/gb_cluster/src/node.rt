@@ -52,12 +52,26 @@ impl AddressedSlot {
     /// Opens the group, where it is the one with this address.
     fn open_group(&mut self, addr: Addr) -> Reply
         ensures reply { result ≡ on_made open_answer (shown_for (slot_for addr (Some (group_at self.old)))) }
-        ensures state { Some (group_at self.new) ≡ on_slot addr (slot_opened result) (Some (group_at self.old)) }
+        ensures state { Some (group_at self.new) ≡ on_slot addr (slot_moved Opened result) (Some (group_at self.old)) }
     {
         if !is_same(addr, self.addr) {
             return Reply::Refused(Refusal::NoGroup);
         }
         match self.slot.open_group() {
+            Ok(()) => Reply::Done,
+            Err(why) => Reply::Refused(why),
+        }
+    }
+
+    /// Shuts the group, where it is the one with this address.
+    fn shut_group(&mut self, addr: Addr) -> Reply
+        ensures reply { result ≡ on_made shut_answer (shown_for (slot_for addr (Some (group_at self.old)))) }
+        ensures state { Some (group_at self.new) ≡ on_slot addr (slot_moved Shut result) (Some (group_at self.old)) }
+    {
+        if !is_same(addr, self.addr) {
+            return Reply::Refused(Refusal::NoGroup);
+        }
+        match self.slot.shut_group() {
             Ok(()) => Reply::Done,
             Err(why) => Reply::Refused(why),
         }
@@ -500,6 +514,21 @@ impl OneNode {
         reply
     }
 
+    fn shut_group(&mut self, addr: Addr) -> Reply
+        ensures reply { result ≡ by_tenant (λ _. on_made shut_answer (shown_for (slot_for addr self.old.group))) (reserve_for addr.tenant self.old.row) }
+        ensures state { (me : Id) (token : List ℕ) → self.new ≡ node_did me (Request.ShutGroup token addr) result self.old }
+    {
+        if reserve_of(&self.row, addr.tenant).is_none() {
+            return Reply::Refused(Refusal::Denied);
+        }
+        let Some(mut hosted) = self.group.take() else {
+            return Reply::Refused(Refusal::NoGroup);
+        };
+        let reply = hosted.shut_group(addr);
+        self.group = Some(hosted);
+        reply
+    }
+
     fn say(&mut self, addr: Addr, payload: &Payload) -> Reply
         ensures reply { IsReply (by_tenant (λ _. on_made (λ s. say_answer s payload.now) (shown_for (slot_for addr self.old.group))) (reserve_for addr.tenant self.old.row)) result }
         ensures state { (me : Id) (token : List ℕ) → self.new ≡ node_did me (Request.Say token addr payload.now) result self.old }
@@ -539,6 +568,7 @@ impl OneNode {
             Request::AddTenant(_, row) => self.add_tenant(row),
             Request::Make(_, addr, spec) => self.make(nodes, me, *addr, spec),
             Request::OpenGroup(_, addr) => self.open_group(*addr),
+            Request::ShutGroup(_, addr) => self.shut_group(*addr),
             Request::Say(_, addr, payload) => self.say(*addr, payload),
             Request::Fetch(_, addr, from, most) => self.fetch(*addr, *from, *most),
         }

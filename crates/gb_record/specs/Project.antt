@@ -158,6 +158,7 @@ abbrev pub command_for : Addr → NodeId → Request → List GroupStep
 command_for g a (AddTenant token row) = []
 command_for g a (Make token addr spec) = if is_addr g addr then record { node = a; event = AskMake spec } ∷ [] else []
 command_for g a (OpenGroup token addr) = if is_addr g addr then record { node = a; event = AskOpen } ∷ [] else []
+command_for g a (ShutGroup token addr) = if is_addr g addr then record { node = a; event = AskShut } ∷ [] else []
 command_for g a (Say token addr payload) = if is_addr g addr then record { node = a; event = AskSay payload } ∷ [] else []
 command_for g a (Fetch token addr from most) = if is_addr g addr then record { node = a; event = AskFetch from most } ∷ [] else []
 
@@ -175,6 +176,7 @@ abbrev pub is_named : Addr → Request → Bool
 is_named g (AddTenant token row) = false
 is_named g (Make token addr spec) = is_addr g addr
 is_named g (OpenGroup token addr) = is_addr g addr
+is_named g (ShutGroup token addr) = is_addr g addr
 is_named g (Say token addr payload) = is_addr g addr
 is_named g (Fetch token addr from most) = is_addr g addr
 

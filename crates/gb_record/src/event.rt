@@ -34,6 +34,7 @@ fn copied(alloc: Global, request: &Request) -> Result<Request, OutOfMemory>
         Request::AddTenant(token, row) => Request::AddTenant(*token, *row),
         Request::Make(token, addr, spec) => Request::Make(*token, *addr, spec.duplicate()),
         Request::OpenGroup(token, addr) => Request::OpenGroup(*token, *addr),
+        Request::ShutGroup(token, addr) => Request::ShutGroup(*token, *addr),
         Request::Say(token, addr, payload) => {
             Request::Say(*token, *addr, payload.duplicate(alloc)?)
         }

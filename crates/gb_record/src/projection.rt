@@ -69,6 +69,12 @@ fn command(
             }
             Ok(None)
         }
+        Request::ShutGroup(_, named) => {
+            if is_same(addr, *named) {
+                return Ok(Some(at(node, GroupEvent::Shut)));
+            }
+            Ok(None)
+        }
         Request::Say(_, named, payload) => {
             if is_same(addr, *named) {
                 let payload = payload.duplicate(alloc)?;

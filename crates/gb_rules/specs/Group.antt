@@ -28,24 +28,32 @@ is_member spec b = set.contains spec.members b
 abbrev pub is_other : Spec → ℕ → ℕ → Bool
 is_other spec me b = is_member spec b && not (nat_eq b me)
 
--- a made group is opened once
+-- a group is opened once, after it was made
 abbrev pub open_in : Phase → Reply
 open_in Made = Done
-open_in Opened = Refused WrongPhase
+open_in phase = Refused WrongPhase
 
 abbrev pub open_answer : Shown → Reply
 open_answer s = open_in s.phase
+
+-- and shut once, after it was opened
+abbrev pub shut_in : Phase → Reply
+shut_in Opened = Done
+shut_in phase = Refused WrongPhase
+
+abbrev pub shut_answer : Shown → Reply
+shut_answer s = shut_in s.phase
 
 -- a message is said in an open group, within the payload's limit and the budget of messages
 abbrev pub say_answer : Shown → List ℕ → Reply
 say_answer s payload = say_in s.phase
   where
     say_in : Phase → Reply
-    say_in Made = Refused WrongPhase
     say_in Opened =
         if nat_lt PAYLOAD (length payload) then Refused TooLong
         else (if nat_le s.spec.msgs s.said then Refused Budget
         else Said (s.said + 1))
+    say_in phase = Refused WrongPhase
 
 -- a log of this length has no such place, or too many entries are asked for; places count from 0
 abbrev pub is_bad_place : ℕ → ℕ → ℕ → Bool

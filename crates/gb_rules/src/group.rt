@@ -1,7 +1,7 @@
 //! What is answered to a group's commands where it was made.
 ghost use Rattle.std.specs.Prelude.{◌≡◌, ◌<◌, ◌≤◌, false, OnOk};
 ghost use Rattle.gb_types.specs.declared.limits.TheConstants.{FETCH as MOST};
-ghost use Rattle.gb_rules.specs.Group.{open_in, say_answer, is_bad_place, unlogged, said_next};
+ghost use Rattle.gb_rules.specs.Group.{open_in, shut_in, say_answer, is_bad_place, unlogged, said_next};
 ghost use Rattle.gb_rules.specs.Replied.{done_reply};
 
 use crate::phase::Phase;
@@ -16,6 +16,18 @@ pub fn check_open(phase: Phase) -> Result<(), Refusal>
     match phase {
         Phase::Made => Ok(()),
         Phase::Opened => Err(Refusal::WrongPhase),
+        Phase::Shut => Err(Refusal::WrongPhase),
+    }
+}
+
+/// Whether a group in the phase is shut: WrongPhase where it is not open.
+pub fn check_shut(phase: Phase) -> Result<(), Refusal>
+    ensures { done_reply result ≡ shut_in phase }
+{
+    match phase {
+        Phase::Made => Err(Refusal::WrongPhase),
+        Phase::Opened => Ok(()),
+        Phase::Shut => Err(Refusal::WrongPhase),
     }
 }
 
@@ -25,7 +37,7 @@ pub fn check_say(spec: &Spec, phase: Phase, said: u32, payload: &[u8]) -> Result
     ensures answer { said_next said result ≡ say_answer (unlogged spec.now phase said) payload.now }
     ensures room { OnOk result (said < spec.now.msgs) }
 {
-    if phase == Phase::Made {
+    if phase != Phase::Opened {
         return Err(Refusal::WrongPhase);
     }
     if payload.len() > PAYLOAD {

@@ -7,4 +7,6 @@ pub enum Phase {
     Made,
     /// Open for its member's messages.
     Opened,
+    /// Shut: its member says nothing more.
+    Shut,
 }

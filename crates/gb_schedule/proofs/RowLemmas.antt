@@ -6,11 +6,12 @@ use Rattle.gb_types.specs.declared.node.NodeId.{NodeId}
 use Rattle.gb_types.specs.declared.address.Addr.{Addr}
 use Rattle.gb_types.specs.declared.spec.Spec.{Spec}
 use Rattle.gb_types.specs.declared.spec.TenantRow.{TenantRow}
-use Rattle.gb_types.specs.declared.request.Request.TheVariants.{AddTenant, Make, OpenGroup, Say, Fetch}
+use Rattle.gb_types.specs.declared.request.Request.{Request as AnyRequest}
+use Rattle.gb_types.specs.declared.request.Request.TheVariants.{AddTenant, Make, Say, Fetch}
 use Rattle.gb_schedule.specs.declared.command.Command.TheVariants.{Cluster, Request, Pack, Again, Ack, Tick, Stop}
 use Rattle.gb_types.specs.RequestWords.{SpellsSpec}
 use Rattle.gb_types.proofs.RequestWordLemmas.{IsShortWord, IsLongWord, AreAddressWords}
-use Rattle.gb_schedule.specs.Grammar.{no_token, SpellsCluster, SpellsTenant, SpellsMake, SpellsOpen, SpellsSay, SpellsFetch, SpellsPack, SpellsAgain, SpellsAck, SpellsTick, SpellsStop}
+use Rattle.gb_schedule.specs.Grammar.{no_token, SpellsCluster, SpellsTenant, SpellsMake, SpellsNamed, SpellsSay, SpellsFetch, SpellsPack, SpellsAgain, SpellsAck, SpellsTick, SpellsStop}
 use Rattle.gb_types.proofs.ReadLemmas.{Reads, found, only, reads_one, some_same}
 
 -- what the readers of single words find
@@ -20,13 +21,13 @@ IsNodeWord nodes word node = (node.number < nodes) × (word ≡ decimal node.num
 abbrev pub IsFrameWord : List ℕ → ℕ → Type 0
 IsFrameWord word n = (n ≤ 18446744073709551615) × (word ≡ decimal n)
 
-pub open_reads : (nodes : ℕ) (words : List (List ℕ)) (a t g : List ℕ) (node : NodeId) (address : Addr) → words ≡ a ∷ t ∷ g ∷ []
+pub named_reads : (request : Addr → AnyRequest) (nodes : ℕ) (words : List (List ℕ)) (a t g : List ℕ) (node : NodeId) (address : Addr) → words ≡ a ∷ t ∷ g ∷ []
     → Reads (IsNodeWord nodes a) node → Reads (AreAddressWords t g) address
-    → Reads (λ command. SpellsOpen nodes command words) (Request node (OpenGroup no_token address))
-open_reads nodes words a t g node address are reads_node reads_address =
+    → Reads (λ command. SpellsNamed request nodes command words) (Request node (request address))
+named_reads request nodes words a t g node address are reads_node reads_address =
     let is_node = found (IsNodeWord nodes a) node reads_node in
     let is_address = found (AreAddressWords t g) address reads_address in
-    let here : SpellsOpen nodes (Request node (OpenGroup no_token address)) words = record {
+    let here : SpellsNamed request nodes (Request node (request address)) words = record {
       node = node;
       address = address;
       command_is = refl;
@@ -35,7 +36,7 @@ open_reads nodes words a t g node address are reads_node reads_address =
       tenant = is_address.0;
       group = is_address.2;
     } in
-    reads_one (λ command. SpellsOpen nodes command words) _ here (λ command spelt.
+    reads_one (λ command. SpellsNamed request nodes command words) _ here (λ command spelt.
     let same : a ∷ t ∷ g ∷ [] ≡ decimal spelt.node.number ∷ decimal spelt.address.tenant ∷ decimal spelt.address.group ∷ [] = sym are ∙ spelt.words_are in
     let same_node : node ≡ spelt.node = only (IsNodeWord nodes a) node spelt.node reads_node (spelt.in_cluster, cc) in
     let same_address : address ≡ spelt.address = only (AreAddressWords t g) address spelt.address reads_address (spelt.tenant, cc, spelt.group, cc) in

@@ -56,11 +56,11 @@ pub record SpellsMake (nodes : ℕ) (command : Command) (words : List (List ℕ)
   pub group : IsShort address.group
   pub spells_spec : SpellsSpec spec spec_words
 
--- `open A T G`
-pub record SpellsOpen (nodes : ℕ) (command : Command) (words : List (List ℕ)) : Type 0 where
+-- `A T G`, behind a head that makes this request of a group
+pub record SpellsNamed (request : Addr → AnyRequest) (nodes : ℕ) (command : Command) (words : List (List ℕ)) : Type 0 where
   pub node : NodeId
   pub address : Addr
-  pub command_is : command ≡ Request node (OpenGroup no_token address)
+  pub command_is : command ≡ Request node (request address)
   pub words_are : words ≡ decimal node.number ∷ decimal address.tenant ∷ decimal address.group ∷ []
   pub in_cluster : node.number < nodes
   pub tenant : IsShort address.tenant
@@ -150,7 +150,8 @@ Spells heads.Cluster None command words = SpellsCluster command words
 Spells heads.Cluster (Some nodes) command words = ⊥
 Spells heads.Tenant (Some nodes) command words = SpellsTenant nodes command words
 Spells heads.Make (Some nodes) command words = SpellsMake nodes command words
-Spells heads.Open (Some nodes) command words = SpellsOpen nodes command words
+Spells heads.Open (Some nodes) command words = SpellsNamed (OpenGroup no_token) nodes command words
+Spells heads.Shut (Some nodes) command words = SpellsNamed (ShutGroup no_token) nodes command words
 Spells heads.Say (Some nodes) command words = SpellsSay nodes command words
 Spells heads.Fetch (Some nodes) command words = SpellsFetch nodes command words
 Spells heads.Pack (Some nodes) command words = SpellsPack nodes command words

@@ -77,6 +77,7 @@ abbrev pub Spells : Head → List ℕ → Request → List (List ℕ) → Type 0
 Spells heads.Tenant token request words = SpellsTenant token request words
 Spells heads.Make token request words = SpellsMake token request words
 Spells heads.Open token request words = SpellsNamed (OpenGroup token) request words
+Spells heads.Shut token request words = SpellsNamed (ShutGroup token) request words
 Spells heads.Say token request words = SpellsSay token request words
 Spells heads.Fetch token request words = SpellsFetch token request words
 

@@ -8,5 +8,6 @@ abbrev pub head_word : Head → List ℕ
 head_word Tenant = codes "tenant"
 head_word Make = codes "make"
 head_word Open = codes "open"
+head_word Shut = codes "shut"
 head_word Say = codes "say"
 head_word Fetch = codes "fetch"

@@ -118,6 +118,10 @@ fn read_arguments(
             Some(address) => Ok(Some(Request::OpenGroup(token, address))),
             None => Ok(None),
         },
+        Head::Shut => match read_named(arguments) {
+            Some(address) => Ok(Some(Request::ShutGroup(token, address))),
+            None => Ok(None),
+        },
         Head::Say => read_say(alloc, token, arguments),
         Head::Fetch => Ok(read_fetch(token, arguments)),
     }

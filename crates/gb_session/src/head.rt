@@ -9,6 +9,7 @@ pub enum Head {
     Tenant,
     Make,
     Open,
+    Shut,
     Say,
     Fetch,
 }
@@ -21,6 +22,7 @@ pub fn read_head(word: &[u8]) -> Option<Head>
         b"tenant" => Some(Head::Tenant),
         b"make" => Some(Head::Make),
         b"open" => Some(Head::Open),
+        b"shut" => Some(Head::Shut),
         b"say" => Some(Head::Say),
         b"fetch" => Some(Head::Fetch),
         _ => None,

@@ -25,7 +25,7 @@ use Rattle.gb_stack.proofs.StandsLemmas as stack
 use Rattle.gb_history.specs.declared.call.GroupCall.{GroupCall}
 use Rattle.gb_history.specs.declared.call.GroupCall.TheVariants.{Own, Other, Crashed}
 use Rattle.gb_history.specs.History.{call_of, calls_of, known, said_in, puts_of}
-use Rattle.gb_slot.specs.HistoryLaws.{FreshStands, OpenedStands, SaidStands, CameStands, NoticedStands, DoneStands, TookStands, LogIs, FallsIs, WaitingSaid, WaitingCame, WaitingNoticed, WaitingTook, WaitingElsewhere}
+use Rattle.gb_slot.specs.HistoryLaws.{FreshStands, MovedStands, SaidStands, CameStands, NoticedStands, DoneStands, TookStands, LogIs, FallsIs, WaitingSaid, WaitingCame, WaitingNoticed, WaitingTook, WaitingElsewhere}
 use Rattle.gb_history.specs.Messages.{has, entry_in, with_new}
 use Rattle.gb_rules.specs.Group.{is_other}
 use Rattle.gb_rules.specs.LetFall.{is_let_fall}
@@ -56,8 +56,8 @@ fresh_stands spec me noticed qs others tell = record {
   acknowledged = refl;
 }
 
-pub opened_stands : OpenedStands
-opened_stands s told Done st = record {
+pub moved_stands : MovedStands
+moved_stands s told Done st = record {
   lawful = st.lawful;
   stack = st.stack;
   store = st.store;
@@ -71,7 +71,7 @@ opened_stands s told Done st = record {
   noticed = st.noticed;
   acknowledged = st.acknowledged;
 }
-opened_stands s told reply st = st
+moved_stands s told reply st = st
 
 -- what was not mentioned was not said
 not_said : (past : List Call) (m : MsgId) → mentions past m ≡ false → was_said past m ≡ false

@@ -23,9 +23,9 @@ abbrev pub FreshStands : Type 0
 FreshStands = (spec : Spec) (me : NodeId) (noticed : set.FinSet nat_cmp) (qs : List NodeId) → AllByRecursion (λ q. is_other spec me.number q.number ≡ true) qs
     → ((b : ℕ) → is_other spec me.number b ≡ true → set.contains noticed b ≡ list_any (λ q. nat_eq q.number b) qs) → StandsFor (new_slot spec me noticed) (map Crashed qs)
 
--- opening changes nothing of it
-abbrev pub OpenedStands : Type 0
-OpenedStands = (s : SlotState) (told : List GroupCall) (reply : Reply) → StandsFor s told → StandsFor (slot_opened reply s) told
+-- another phase changes nothing of it
+abbrev pub MovedStands : Type 0
+MovedStands = (s : SlotState) (told : List GroupCall) (phase : Phase) (reply : Reply) → StandsFor s told → StandsFor (slot_moved phase reply s) told
 
 -- after a message was said the slot stands for the history with it
 abbrev pub SaidStands : Type 0

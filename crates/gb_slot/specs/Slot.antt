@@ -45,10 +45,10 @@ taken_for s b = slice_index_or s.taken b 0
 abbrev pub waiting : SlotState → ℕ → List Entry
 waiting s b = if is_other s.spec s.me.number b && not (set.contains s.noticed b) then map (entry_in s.store) (drop (taken_for s b) s.outgoing) else []
 
--- after the answer to a request that opens it
-abbrev pub slot_opened : Reply → SlotState → SlotState
-slot_opened Done s = record s { phase = Opened }
-slot_opened reply s = s
+-- after the answer to a request that moves it to a phase
+abbrev pub slot_moved : Phase → Reply → SlotState → SlotState
+slot_moved phase Done s = record s { phase = phase }
+slot_moved phase reply s = s
 
 -- what was taken in from other nodes, with what a call brings
 abbrev pub with_arrival : Call → List Up → List Up

@@ -1,10 +1,10 @@
 //! What a slot stands for.
-ghost use Rattle.gb_slot.specs.HistoryLaws.{FreshStands, OpenedStands, SaidStands, CameStands, NoticedStands, DoneStands, TookStands, LogIs, FallsIs, WaitingSaid, WaitingCame, WaitingNoticed, WaitingTook, WaitingElsewhere};
+ghost use Rattle.gb_slot.specs.HistoryLaws.{FreshStands, MovedStands, SaidStands, CameStands, NoticedStands, DoneStands, TookStands, LogIs, FallsIs, WaitingSaid, WaitingCame, WaitingNoticed, WaitingTook, WaitingElsewhere};
 
 /// What a slot holds is, for every history that it stands for, what the group's broadcast makes of the history.
 pub fn stands()
     ensures fresh { FreshStands }
-    ensures opened { OpenedStands }
+    ensures opened { MovedStands }
     ensures said { SaidStands }
     ensures came { CameStands }
     ensures noticed { NoticedStands }

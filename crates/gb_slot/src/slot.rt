@@ -6,14 +6,14 @@ ghost use Rattle.std.specs.List.{list_any};
 ghost use Rattle.gb_layer.specs.Machine.{is_up, messages};
 ghost use Rattle.gb_history.specs.Messages.{entry_in};
 ghost use Rattle.gb_rules.specs.Replied.{done_reply, said_reply, log_reply, IsReply};
-ghost use Rattle.gb_rules.specs.Group.{is_member, is_other, open_answer, say_answer, fetch_answer};
+ghost use Rattle.gb_rules.specs.Group.{is_member, is_other, open_answer, shut_answer, say_answer, fetch_answer};
 ghost use Rattle.gb_rules.specs.LetFall.{is_let_fall};
 ghost use Rattle.gb_slot.specs.Slot.{came_before, with_acknowledgement};
 
 use crate::store::Store;
 use gb_layer::effects::{Effects, Up};
 use gb_layer::layer::Layer;
-use gb_rules::group::{check_open, check_say, is_bad_place};
+use gb_rules::group::{check_open, check_say, check_shut, is_bad_place};
 use gb_rules::let_fall::is_let_fall;
 use gb_rules::phase::Phase;
 use gb_stack::stack::Stack;
@@ -70,7 +70,7 @@ impl Model for Slot {
 }
 
 impl Slot {
-    ghost use Rattle.gb_slot.specs.Slot.{IsWithinLimits, new_slot, shown, waiting, slot_opened, slot_said, slot_came, slot_noticed, slot_done, slot_took};
+    ghost use Rattle.gb_slot.specs.Slot.{IsWithinLimits, new_slot, shown, waiting, slot_moved, slot_said, slot_came, slot_noticed, slot_done, slot_took};
 
     /// A group that was just made at the node `me`, one of its members, which has noticed these nodes. What is
     /// broadcast is put out to the other members.
@@ -104,11 +104,22 @@ impl Slot {
     /// Opens the group for its member's messages. WrongPhase where it was opened before.
     pub fn open_group(&mut self) -> Result<(), Refusal>
         ensures answer { done_reply result ≡ open_answer (shown self.old.state) }
-        ensures state { self.new.state ≡ slot_opened (done_reply result) self.old.state }
+        ensures state { self.new.state ≡ slot_moved Opened (done_reply result) self.old.state }
         ensures room { (self.new.calls ≡ self.old.calls) × (self.new.bytes ≡ self.old.bytes) }
     {
         check_open(self.phase)?;
         self.phase = Phase::Opened;
+        Ok(())
+    }
+
+    /// Shuts the group: its member says nothing more. WrongPhase where it is not open.
+    pub fn shut_group(&mut self) -> Result<(), Refusal>
+        ensures answer { done_reply result ≡ shut_answer (shown self.old.state) }
+        ensures state { self.new.state ≡ slot_moved Shut (done_reply result) self.old.state }
+        ensures room { (self.new.calls ≡ self.old.calls) × (self.new.bytes ≡ self.old.bytes) }
+    {
+        check_shut(self.phase)?;
+        self.phase = Phase::Shut;
         Ok(())
     }
 

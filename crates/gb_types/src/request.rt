@@ -12,6 +12,8 @@ pub enum Request {
     Make([u8; 32], Addr, Spec),
     /// Opens a group for its member's messages.
     OpenGroup([u8; 32], Addr),
+    /// Shuts an open group: nothing more is said in it here.
+    ShutGroup([u8; 32], Addr),
     /// Broadcasts a payload to the group.
     Say([u8; 32], Addr, Payload),
     /// Reads the group's log from a place on, so many entries at most.

@@ -1,11 +1,11 @@
-use Rattle.gb_slot.proofs.HistoryLemmas.{fresh_stands, opened_stands, said_stands, came_stands, noticed_stands, done_stands, took_stands, log_is, falls_is, waiting_said, waiting_came, waiting_noticed, waiting_took, waiting_elsewhere}
+use Rattle.gb_slot.proofs.HistoryLemmas.{fresh_stands, moved_stands, said_stands, came_stands, noticed_stands, done_stands, took_stands, log_is, falls_is, waiting_said, waiting_came, waiting_noticed, waiting_took, waiting_elsewhere}
 use Rattle.gb_slot.proofs.history.stands.Goals as goal
 
 pub returns-clause-fresh : goal.returns-clause-fresh
 returns-clause-fresh c = fresh_stands
 
 pub returns-clause-opened : goal.returns-clause-opened
-returns-clause-opened c = opened_stands
+returns-clause-opened c = moved_stands
 
 pub returns-clause-said : goal.returns-clause-said
 returns-clause-said c = said_stands

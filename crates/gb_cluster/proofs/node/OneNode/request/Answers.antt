@@ -20,6 +20,15 @@ returns-in-OpenGroup-clause-reply c =
     subst (λ (q : Request). IsReplyTo q (node_reply c.args.nodes c.args.me.number c.args.self.now q) c.open_group.result) (sym c.in-OpenGroup.is)
     (replied c.args.nodes c.args.me.number c.args.self.now (OpenGroup c.in-OpenGroup.field-0 c.in-OpenGroup.addr) c.open_group.result (sym (ap (λ (v : NodeValue). v.stopped) c.self.view_is) ∙ c.if-self.false) (inr c.open_group.ensures.reply))
 
+pub returns-in-ShutGroup-clause-state : goal.returns-in-ShutGroup-clause-state
+returns-in-ShutGroup-clause-state c =
+    c.shut_group.ensures.state c.args.me c.in-ShutGroup.field-0 ∙ ap (λ (r : Request). node_did c.args.me r c.shut_group.result c.args.self.now) (sym c.in-ShutGroup.is)
+
+pub returns-in-ShutGroup-clause-reply : goal.returns-in-ShutGroup-clause-reply
+returns-in-ShutGroup-clause-reply c =
+    subst (λ (q : Request). IsReplyTo q (node_reply c.args.nodes c.args.me.number c.args.self.now q) c.shut_group.result) (sym c.in-ShutGroup.is)
+    (replied c.args.nodes c.args.me.number c.args.self.now (ShutGroup c.in-ShutGroup.field-0 c.in-ShutGroup.addr) c.shut_group.result (sym (ap (λ (v : NodeValue). v.stopped) c.self.view_is) ∙ c.if-self.false) (inr c.shut_group.ensures.reply))
+
 pub returns-in-Say-clause-state : goal.returns-in-Say-clause-state
 returns-in-Say-clause-state c =
     c.say.ensures.state c.args.me c.in-Say.field-0 ∙ ap (λ (r : Request). node_did c.args.me r c.say.result c.args.self.now) (sym c.in-Say.is)
