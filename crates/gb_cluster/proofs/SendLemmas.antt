@@ -177,7 +177,7 @@ again_sent w a b n k p in_a links at =
 pub any_ack : (w : World) (a b : NodeId) → a.number < length w.nodes → Invariant w → Invariant (world_after w (Ack a b))
 any_ack w a b in_a holds = only_sends w a.number (Ack a b) (part_of w (Ack a b)) in_a (record {
   value = part_value _ (length w.packets) (node_of w a.number) (node_ack (length w.nodes) a b (node_of w a.number));
-  step = record { taken = λ ps x y n. refl; acked = λ ps x y n. refl; row = λ x tenant. refl; made = λ g x. refl; noticed = λ x y. refl; stopped = λ x. refl; watched = λ ps x. refl; reply = λ g x steps. refl; met = λ g x steps. refl };
+  step = λ x packets steps. refl;
   number = refl;
   frame = λ x y ps. refl;
   given = λ g ps. refl;
@@ -187,7 +187,7 @@ any_ack w a b in_a holds = only_sends w a.number (Ack a b) (part_of w (Ack a b))
 pub any_again : (w : World) (a b : NodeId) (n : ℕ) → a.number < length w.nodes → Invariant w → Invariant (world_after w (Again a b n))
 any_again w a b n in_a holds = only_sends w a.number (Again a b n) (part_of w (Again a b n)) in_a (record {
   value = part_value _ (length w.packets) (node_of w a.number) (node_again (length w.nodes) a b n (node_of w a.number));
-  step = record { taken = λ ps x y n. refl; acked = λ ps x y n. refl; row = λ x tenant. refl; made = λ g x. refl; noticed = λ x y. refl; stopped = λ x. refl; watched = λ ps x. refl; reply = λ g x steps. refl; met = λ g x steps. refl };
+  step = λ x packets steps. refl;
   number = refl;
   frame = λ x y ps. refl;
   given = λ g ps. refl;

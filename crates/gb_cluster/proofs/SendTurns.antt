@@ -151,7 +151,7 @@ only_sends w a e part in_a sends holds = subst (λ (v : NodeValue). Invariant (t
   stopped = refl;
   senders = refl;
   sender = λ b in_b. (holds.links.node a in_a).sender b in_b ∙ ap (λ (fs : List Packet). window_of (λ n. is_acked a b n w.packets w.steps) fs) (sym (same b));
-  link = λ b in_b. untouched_link w s part.sent a b holds.links.numbered (sends.frame a b (w.packets ++ part.sent)) (λ n. sends.step.taken (w.packets ++ part.sent) a b n) (λ n. sends.step.acked (w.packets ++ part.sent) a b n) (holds.links.link a b in_a in_b);
+  link = λ b in_b. untouched_link w s part.sent a b holds.links.numbered (sends.frame a b (w.packets ++ part.sent)) (λ n. ap (λ (t : Told). t.taken a n) (sends.step b (w.packets ++ part.sent) w.steps)) (λ n. ap (λ (t : Told). t.acked b n) (sends.step a (w.packets ++ part.sent) w.steps)) (holds.links.link a b in_a in_b);
   framed = λ k p at. framed_stays w a (node_of w a) s part.sent p holds.links.numbered (sends.framed k p at);
 }) (λ g before. subst (λ (given : List GroupStep). GroupSends g w a (node_of w a) s part.sent (alone (length w.nodes) g.group (project g w.packets w.steps)) (alone_from (length w.nodes) g.group (alone (length w.nodes) g.group (project g w.packets w.steps)) given) given)
     (sym (sends.given g (w.packets ++ part.sent))) (none_sent g w a (node_of w a) s part.sent (alone (length w.nodes) g.group (project g w.packets w.steps))
