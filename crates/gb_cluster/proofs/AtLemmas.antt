@@ -20,7 +20,7 @@ use Rattle.gb_record.specs.declared.step.Step.{Step}
 use Rattle.gb_alone.specs.Alone.{Member, Group, alone, alone_from}
 use Rattle.gb_cluster.proofs.Invariant.{Stands, MemberIs, AreMarked, NodeIs, Links, BehavesAlone, Invariant, window_of}
 use Rattle.gb_cluster.specs.NodeValue.{NodeValue}
-use Rattle.gb_record.specs.Project.{project, has_row, is_taken_in, frames, items_of, is_taken, is_acked, is_noticed, is_stopped, made_by, watched, asked, requested, is_turned_away}
+use Rattle.gb_record.specs.Project.{project, has_row, is_taken_in, frames, items_of, is_taken, is_acked, is_noticed, is_met_by, is_stopped, made_by, watched, asked, requested, is_turned_away}
 use Rattle.gb_rules.specs.Tenant.{reserve_of}
 use Rattle.gb_cluster.proofs.World.{World, node_of, world_after}
 use Rattle.gb_cluster.specs.NodeStep.{reserve_for, row_answer, running_reply, node_reply, node_did}
@@ -29,6 +29,7 @@ use Rattle.gb_cluster.proofs.NodeLemmas.{same_carried}
 use Rattle.gb_cluster.proofs.NoticeLemmas.{noticed_below}
 use Rattle.gb_cluster.proofs.StoppedLemmas.{refused, node_unchanged, at_stopped}
 use Rattle.gb_cluster.proofs.TenantLemmas.{row_done, at_running}
+use Rattle.gb_cluster.proofs.Told.{nothing_told}
 use Rattle.gb_cluster.proofs.Turns.{turned, ActsAt, GroupTurn, frames_turned, taken_turned, acked_turned, untouched_link, same_marks, links_turn, holds_turn}
 use Rattle.gb_cluster.proofs.WorldLemmas.{eqb_self, eqb_apart_back, row_elsewhere, silent_elsewhere}
 

@@ -11,10 +11,9 @@ use Rattle.gb_cluster.specs.LinkLaws.{IsLinkStep, MayStarve, stopped_answer, fou
 use Rattle.gb_cluster.specs.Memory.{TakesMemory, starved_answer}
 use Rattle.gb_cluster.specs.NodeStep.{new_node, found_part, goal_of, acting}
 use Rattle.gb_cluster.specs.NodeValue.{NodeValue}
-use Rattle.gb_cluster.specs.State.{State, state, bare, IsStep, IsPlan, ComesTo, part_in, state_after, new_state}
+use Rattle.gb_cluster.specs.State.{State, state, bare, IsStep, IsPlan, ComesTo, part_in, new_state}
 use Rattle.gb_cluster.specs.Runs.{IsRun}
 use Rattle.gb_record.specs.Placed.{IsPlaced, ArePlaced}
-use Rattle.gb_record.specs.Project.{packet_at}
 use Rattle.gb_record.specs.Steps.{paired, steps_of}
 use Rattle.gb_record.specs.declared.answer.Answer.{Answer}
 use Rattle.gb_record.specs.declared.event.Event.{Event}
@@ -25,7 +24,7 @@ use Rattle.gb_cluster.proofs.Invariant.{Invariant}
 use Rattle.gb_cluster.proofs.LinkStep.{link_step}
 use Rattle.gb_cluster.proofs.StartLemmas.{starved_holds, start_holds}
 use Rattle.gb_cluster.proofs.StepLemmas.{step_holds}
-use Rattle.gb_cluster.proofs.World.{World, told, state_of, node_of, answer_of, world_after, with_step, new_world}
+use Rattle.gb_cluster.proofs.World.{World, told, node_of, answer_of, new_world}
 
 -- the code's step does not read the silence
 pub stepped : (c : State) (nodes others : List NodeValue) (packets held more : List Packet) (silence : ℕ) (e : Event) (a : Answer) → state nodes packets silence ≡ c → held ≡ packets → IsStep (bare nodes held) e a (bare others more) → IsStep c e a (state others more silence)

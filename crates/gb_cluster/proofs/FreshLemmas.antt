@@ -17,7 +17,7 @@ use Rattle.gb_layer.specs.Machine.{was_noticed}
 use Rattle.gb_layer.specs.Modules.{first_mentions, now_broadcast}
 use Rattle.gb_layer.specs.declared.call.Call.{Call}
 use Rattle.gb_layer.specs.declared.call.Call.TheVariants.{Notice as Crash}
-use Rattle.gb_stack.specs.Kinds.{base_of}
+use Rattle.gb_stack.specs.Kinds.{module_of}
 use Rattle.gb_history.specs.History.{calls_of, known, puts_of}
 use Rattle.gb_history.specs.Messages.{entry_in}
 use Rattle.gb_rules.specs.Group.{is_other}
@@ -70,7 +70,7 @@ none_put : (spec : Spec) (me : ℕ) (q : NodeId) (qs : List NodeId) → puts_of 
 unfolding calls_of
 none_put spec me q qs =
     let past : List Call = calls_of (map Crashed qs) in
-    let test : MsgId → Bool = λ m. now_broadcast (base_of spec.kind) me (Crash q ∷ past) m && not (now_broadcast (base_of spec.kind) me past m) in
+    let test : MsgId → Bool = λ m. now_broadcast (module_of spec.kind) me (Crash q ∷ past) m && not (now_broadcast (module_of spec.kind) me past m) in
     ap (λ ms. map (entry_in (known (map Crashed (q ∷ qs)))) (filter test ms)) (none_first qs)
   where
     none_first : (qs : List NodeId) → first_mentions (calls_of (map Crashed qs)) ≡ []

@@ -1,5 +1,5 @@
 -- A step that changes nothing of nodes and packets.
-use Rattle.std.proofs.Common.{◌≡◌, ◌≢◌, ℕ, arith, ◌<◌, ◌≤◌, List, [], ◌∷◌, ◌++◌, length, None, Bool, true, false, ◌&&◌, refl, sym, ◌∙◌, ap, subst}
+use Rattle.std.proofs.Common.{◌≡◌, ℕ, arith, ◌<◌, List, [], ◌∷◌, ◌++◌, length, Bool, true, false, ◌&&◌, refl, sym, ◌∙◌, ap, subst}
 use Rattle.std.proofs.lemmas.List.{append-nil, set-get_or}
 use Rattle.gb_types.specs.declared.address.Addr.{Addr}
 use Rattle.gb_detect.specs.Silence.{Call}
@@ -11,10 +11,9 @@ use Rattle.gb_record.specs.declared.packet.Packet.{Packet}
 use Rattle.gb_record.specs.declared.step.Step.{Step}
 use Rattle.gb_alone.specs.Alone.{Group, alone, alone_from}
 use Rattle.gb_cluster.specs.NodeValue.{NodeValue}
-use Rattle.gb_record.specs.Project.{project, gives, has_row, is_taken_in, frames, frame_at, items_of, is_taken, is_taken_by, is_acked, is_acked_by, is_noticed, is_noticed_by, is_stopped, is_stopped_by, is_met, is_met_by, made_at, made_by, or_else, watched, watched_by, reply_in, replies_to, is_turned_away}
+use Rattle.gb_record.specs.Project.{project, gives, has_row, frames, frame_at, items_of, is_taken, is_taken_by, is_acked, is_acked_by, is_noticed, is_stopped, is_met, made_at, made_by, or_else, watched, replies_to}
 use Rattle.gb_cluster.proofs.World.{World, node_of, with_step}
 use Rattle.gb_cluster.specs.NodeStep.{no_node}
-use Rattle.gb_record.proofs.Numbers.{number_of}
 use Rattle.gb_cluster.proofs.Invariant.{MemberIs, is_concerned, Fits, NodeIs, Links, Invariant, window_of}
 use Rattle.gb_cluster.proofs.MarkLemmas.{or_off}
 use Rattle.gb_cluster.proofs.NodeLemmas.{same_carried}

@@ -1,5 +1,5 @@
 -- How a cluster stands for each of its groups alone.
-use Rattle.std.specs.Prelude.{ℕ, ◌+◌, ◌-◌, ◌≡◌, ◌≢◌, ◌≤◌, ◌<◌, ◌⊎◌, ◌&&◌, Bool, true, false, List, [], ◌∷◌, ◌++◌, length, take, Option, Some, None, is_some, slice_get, if◌then◌else◌}
+use Rattle.std.specs.Prelude.{ℕ, ◌+◌, ◌-◌, ◌≡◌, ◌≢◌, ◌≤◌, ◌<◌, ◌⊎◌, ◌&&◌, Bool, true, false, List, [], ◌∷◌, ◌++◌, length, Option, Some, None, is_some, slice_get, if◌then◌else◌}
 use Rattle.std.specs.FinSet as set
 use Rattle.gb_types.specs.declared.address.Addr.{Addr}
 use Rattle.gb_types.specs.declared.entry.Entry.{Entry}
@@ -15,16 +15,10 @@ use Rattle.gb_rules.specs.declared.phase.Phase.TheVariants.{Made}
 use Rattle.gb_alone.specs.Alone.{Member, Group, alone, is_marked, IsLegal}
 use Rattle.gb_cluster.specs.State.{waiting_in}
 use Rattle.gb_cluster.specs.NodeValue.{NodeValue}
-use Rattle.gb_record.proofs.Numbers.{offset, number_of, IsNumbered}
+use Rattle.gb_record.proofs.Numbers.{offset, IsNumbered}
 use Rattle.gb_record.specs.Project.{project, has_row, frames, items_of, is_taken, is_acked, is_noticed, is_stopped, is_met, made_at, watched, replies_to, is_served}
 use Rattle.gb_cluster.proofs.World.{World, node_of}
 use Rattle.gb_cluster.specs.NodeStep.{reserve_for, slot_for, sender_to, receiver_from}
-use Rattle.gb_record.specs.declared.answer.Answer.{Answer}
-use Rattle.gb_record.specs.declared.answer.Answer.TheVariants.{Sent as AnswerSent, Taken as AnswerTaken}
-use Rattle.gb_record.specs.declared.answer.Sent.TheVariants.{Packet as SentPacket}
-use Rattle.gb_record.specs.declared.answer.Taken.TheVariants.{Good as TakenGood}
-use Rattle.gb_record.specs.declared.event.Event.{Event}
-use Rattle.gb_record.specs.declared.event.Event.TheVariants.{Pack, Arrive}
 use Rattle.gb_record.specs.declared.packet.Item.{Item}
 use Rattle.gb_record.specs.declared.packet.Packet.{Packet}
 use Rattle.gb_record.specs.declared.step.Step.{Step}

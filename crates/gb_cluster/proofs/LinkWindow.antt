@@ -20,7 +20,7 @@ use Rattle.gb_cluster.specs.LinkLaws.{IsNoOther, IsCut, IsFull, NoneUndone}
 use Rattle.gb_cluster.specs.NodeValue.{GroupAt, NodeValue}
 use Rattle.gb_rules.specs.Address.{is_addr}
 use Rattle.gb_record.specs.Project.{frames, is_acked}
-use Rattle.gb_cluster.proofs.World.{World, transcript_of, held_by, node_of}
+use Rattle.gb_cluster.proofs.World.{World, transcript_of, node_of}
 use Rattle.gb_cluster.specs.NodeStep.{slot_for, sender_to, is_another, is_reached, packed, packed_of}
 use Rattle.gb_cluster.proofs.Invariant.{Links, under, undone_of, window_of}
 use Rattle.gb_cluster.proofs.UndoneLemmas.{HaveItems, undone_there}

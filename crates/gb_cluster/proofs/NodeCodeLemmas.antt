@@ -18,7 +18,6 @@ use Rattle.gb_layer.specs.declared.call.Call.TheVariants.{Notice}
 use Rattle.gb_rules.specs.Group.{is_other}
 use Rattle.gb_slot.specs.Slot.{waiting, slot_called}
 use Rattle.gb_slot.specs.SlotState.{SlotState}
-use Rattle.gb_types.proofs.SameLemmas.{same_number}
 use Rattle.gb_types.specs.Places.{below, common}
 use Rattle.gb_types.specs.Rising.{rising}
 use Rattle.gb_types.specs.declared.entry.Entry.{Entry}

@@ -1,5 +1,5 @@
 -- What holds of every cluster says what the plain programs see of each group.
-use Rattle.std.proofs.Common.{◌≡◌, ℕ, ◌<◌, List, ◌++◌, length, take, sym, ◌∙◌, ap, subst, arith}
+use Rattle.std.proofs.Common.{◌≡◌, ℕ, ◌<◌, List, ◌++◌, length, take, sym, ◌∙◌, ap, arith}
 use Rattle.std.proofs.lemmas.List.{take_all, take-append-le}
 use Rattle.gb_types.specs.declared.address.Addr.{Addr}
 use Rattle.gb_types.specs.declared.entry.Entry.{Entry}
@@ -11,8 +11,6 @@ use Rattle.gb_record.specs.Observed.{IsObserved, AreObserved}
 use Rattle.gb_record.specs.Project.{project, frames, items_of, replies_to}
 use Rattle.gb_cluster.proofs.World.{World, transcript_of, node_of}
 use Rattle.gb_cluster.specs.NodeStep.{slot_for}
-use Rattle.gb_record.specs.declared.packet.Packet.{Packet}
-use Rattle.gb_record.specs.declared.step.Step.{Step}
 use Rattle.gb_alone.proofs.ObservationLemmas.{seen_same}
 
 -- the first items of a list that is continued

@@ -1,13 +1,11 @@
 -- What holds of every run.
-use Rattle.std.proofs.Common.{◌≡◌, ℕ, ◌<◌, true, List, Some, [], ◌∷◌, length, ap, sym, subst, ◌∙◌}
+use Rattle.std.proofs.Common.{◌≡◌, ℕ, ◌<◌, List, Some, [], ◌∷◌, length, ap, sym, subst, ◌∙◌}
 use Rattle.std.specs.Prelude.{slice_get}
-use Rattle.gb_types.specs.declared.address.Addr.{Addr}
 use Rattle.gb_alone.specs.Alone.{alone}
 use Rattle.gb_cluster.specs.Runs.{IsLawful, IsAlwaysLawful, AreLawful}
 use Rattle.gb_cluster.specs.State.{State, ComesTo, transcript, held}
 use Rattle.gb_cluster.specs.TwoRuns.{AreAlike}
 use Rattle.gb_record.specs.Isolation.{Seen, seen_alone}
-use Rattle.gb_record.specs.Project.{is_served}
 use Rattle.gb_record.specs.declared.packet.Packet.{Packet}
 use Rattle.gb_record.specs.declared.step.Step.{Step}
 use Rattle.gb_cluster.proofs.CodeLemmas.{holds, links_kept}

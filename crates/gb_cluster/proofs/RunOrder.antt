@@ -1,19 +1,12 @@
 -- The order of each origin's messages in the logs of a run.
-use Rattle.std.proofs.Common.{ℕ, List, length, Option, Some, None, sym, subst}
-use Rattle.std.specs.FinSet as set
-use Rattle.gb_types.specs.declared.spec.Spec.{Spec}
-use Rattle.gb_fifo.specs.Order.{RunsFromOne}
-use Rattle.gb_stack.proofs.DeliveryLemmas.{kind_log_in_order}
-use Rattle.gb_history.specs.History.{calls_of}
-use Rattle.gb_history.specs.declared.call.GroupCall.{GroupCall}
-use Rattle.gb_alone.specs.Alone.{alone, log_at}
+use Rattle.std.proofs.Common.{ℕ, List, length, sym, subst}
+use Rattle.gb_alone.specs.Alone.{alone}
 use Rattle.gb_cluster.proofs.World.{transcript_of, held_by, seen_in, IsIsolated, World}
 use Rattle.gb_cluster.proofs.Invariant.{Invariant}
 use Rattle.gb_record.specs.Project.{project}
 use Rattle.gb_alone.specs.declared.event.GroupStep.{GroupStep}
-use Rattle.gb_alone.specs.Laws.{KeepsOrder, IsInOrder}
+use Rattle.gb_alone.specs.Laws.{KeepsOrder}
 use Rattle.gb_record.specs.RunLaws.{AreInOrder}
-use Rattle.gb_alone.proofs.KnownLemmas.{messages-log}
 use Rattle.gb_cluster.proofs.Theorem.{all_isolated}
 use Rattle.gb_alone.proofs.OrderLemmas.{in_order}
 

@@ -1,5 +1,5 @@
 -- What a node sends: the next frame, a frame again, or an acknowledgement alone.
-use Rattle.std.proofs.Common.{◌≡◌, ◌≢◌, ℕ, zero, suc, ◌+◌, ◌-◌, ◌<◌, ◌≤◌, List, [], ◌∷◌, ◌++◌, length, Option, Some, None, Bool, true, false, inl, inr, refl, sym, ◌∙◌, ap, subst, arith}
+use Rattle.std.proofs.Common.{◌≡◌, ◌≢◌, ℕ, zero, suc, ◌+◌, ◌-◌, ◌<◌, ◌≤◌, List, [], ◌∷◌, length, Option, Some, None, Bool, true, false, inl, inr, refl, sym, ◌∙◌, ap, subst, arith}
 use Rattle.std.specs.Prelude.{if◌then◌else◌, nat_eq, is_some, slice_get, ◌&&◌}
 use Rattle.std.specs.List.{find}
 use Rattle.std.proofs.lemmas.Bool.Decides.{nat_tests}
@@ -9,7 +9,7 @@ use Rattle.gb_types.specs.declared.node.NodeId.{NodeId}
 use Rattle.gb_types.specs.declared.refusal.Refusal.TheVariants.{Stopped}
 use Rattle.gb_link.specs.SendWindow.{SendWindow, has_room, frame_again}
 use Rattle.gb_record.specs.declared.answer.Answer.TheVariants.{Sent as AnswerSent}
-use Rattle.gb_record.specs.declared.answer.Sent.TheVariants.{Packet as SentPacket, Refused as SentRefused}
+use Rattle.gb_record.specs.declared.answer.Sent.TheVariants.{Refused as SentRefused}
 use Rattle.gb_record.specs.declared.event.Event.TheVariants.{Pack, Again, Ack}
 use Rattle.gb_record.specs.declared.packet.Item.{Item}
 use Rattle.gb_record.specs.declared.packet.Packet.{Packet}
@@ -17,13 +17,13 @@ use Rattle.gb_record.specs.declared.step.Step.{Step}
 use Rattle.gb_cluster.specs.NodeValue.{NodeValue, GroupAt}
 use Rattle.gb_types.specs.declared.entry.Entry.{Entry}
 use Rattle.gb_slot.specs.Slot.{waiting}
-use Rattle.gb_record.specs.Project.{packet_at, frames, is_acked}
-use Rattle.gb_cluster.proofs.World.{World, node_of, part_of, answer_of, world_after}
+use Rattle.gb_record.specs.Project.{frames, is_acked}
+use Rattle.gb_cluster.proofs.World.{World, node_of, part_of, world_after}
 use Rattle.gb_cluster.specs.NodeStep.{sender_to, packet_for, is_another, is_reached, packed, packed_of, node_packed, node_sent, again_of, node_again, node_ack, only_answered, sent_part}
 use Rattle.gb_cluster.proofs.Invariant.{Links, Invariant, window_of}
 use Rattle.gb_cluster.proofs.SendTurns.{only_sends}
 use Rattle.gb_cluster.proofs.UndoneLemmas.{HaveItems, undone_there, undone_lowest, found_there}
-use Rattle.gb_cluster.proofs.PacketLemmas.{Acknowledges, packet_at-last, packet_acks, acks_framed, another_is}
+use Rattle.gb_cluster.proofs.PacketLemmas.{Acknowledges, packet_acks, acks_framed, another_is}
 
 -- a node that runs sends the first of these packets, a stopped one none
 pub part_sent : (stopped : Bool) (count : ℕ) (v u : NodeValue) (ps : List Packet) (k : ℕ) (p : Packet) → slice_get (if stopped then only_answered v (AnswerSent (SentRefused Stopped)) else sent_part count u ps).sent k ≡ Some p → (stopped ≡ false) × (slice_get ps 0 ≡ Some p)
@@ -177,7 +177,7 @@ again_sent w a b n k p in_a links at =
 pub any_ack : (w : World) (a b : NodeId) → a.number < length w.nodes → Invariant w → Invariant (world_after w (Ack a b))
 any_ack w a b in_a holds = only_sends w a.number (Ack a b) (part_of w (Ack a b)) in_a (record {
   value = part_value _ (length w.packets) (node_of w a.number) (node_ack (length w.nodes) a b (node_of w a.number));
-  step = record { taken = λ ps x y n. refl; acked = λ ps x y n. refl; row = λ x tenant. refl; made = λ g x. refl; noticed = λ x y. refl; stopped = λ x. refl; watched = λ ps x. refl; reply = λ g x steps. refl; met = λ g x steps. refl };
+  step = λ x packets steps. refl;
   number = refl;
   frame = λ x y ps. refl;
   given = λ g ps. refl;
@@ -187,7 +187,7 @@ any_ack w a b in_a holds = only_sends w a.number (Ack a b) (part_of w (Ack a b))
 pub any_again : (w : World) (a b : NodeId) (n : ℕ) → a.number < length w.nodes → Invariant w → Invariant (world_after w (Again a b n))
 any_again w a b n in_a holds = only_sends w a.number (Again a b n) (part_of w (Again a b n)) in_a (record {
   value = part_value _ (length w.packets) (node_of w a.number) (node_again (length w.nodes) a b n (node_of w a.number));
-  step = record { taken = λ ps x y n. refl; acked = λ ps x y n. refl; row = λ x tenant. refl; made = λ g x. refl; noticed = λ x y. refl; stopped = λ x. refl; watched = λ ps x. refl; reply = λ g x steps. refl; met = λ g x steps. refl };
+  step = λ x packets steps. refl;
   number = refl;
   frame = λ x y ps. refl;
   given = λ g ps. refl;

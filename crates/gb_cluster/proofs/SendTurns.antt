@@ -1,5 +1,5 @@
 -- A step in which a node sends to another: nothing is taken, and no request is asked.
-use Rattle.std.proofs.Common.{◌≡◌, ◌≢◌, ℕ, arith, ◌<◌, ◌≤◌, List, [], ◌∷◌, ◌++◌, length, Some, None, false, ◌&&◌, ◌⊎◌, inl, inr, refl, sym, ◌∙◌, ap, subst, get_or}
+use Rattle.std.proofs.Common.{◌≡◌, ◌≢◌, ℕ, arith, ◌<◌, ◌≤◌, List, [], ◌∷◌, ◌++◌, length, Some, ◌&&◌, ◌⊎◌, inl, inr, refl, sym, ◌∙◌, ap, subst, get_or}
 use Rattle.std.specs.Prelude.{slice_get, is_some}
 use Rattle.std.specs.FinSet as fin
 use Rattle.std.proofs.lemmas.Bool.{cases_eq, true≢false}
@@ -14,7 +14,7 @@ use Rattle.gb_record.specs.declared.packet.Packet.{Packet}
 use Rattle.gb_record.specs.declared.step.Step.{Step}
 use Rattle.gb_alone.specs.Alone.{Group, alone, alone_from, is_marked, IsLegalFrom}
 use Rattle.gb_cluster.specs.NodeValue.{NodeValue}
-use Rattle.gb_record.specs.Project.{project, gives, has_row, is_taken_in, frames, frame_at, items_of, is_taken, is_taken_by, is_acked, is_acked_by, is_noticed, is_noticed_by, is_stopped, is_stopped_by, is_met, is_met_by, made_at, made_by, or_else, watched, watched_by, reply_in, replies_to}
+use Rattle.gb_record.specs.Project.{project, gives, has_row, frames, frame_at, items_of, is_taken, is_acked, is_noticed, is_stopped, is_met, made_at, made_by, or_else, watched, replies_to}
 use Rattle.gb_cluster.proofs.World.{World, node_of}
 use Rattle.gb_cluster.specs.NodeStep.{Part, reserve_for, sender_to}
 use Rattle.gb_record.proofs.Numbers.{number_of}
@@ -151,7 +151,7 @@ only_sends w a e part in_a sends holds = subst (λ (v : NodeValue). Invariant (t
   stopped = refl;
   senders = refl;
   sender = λ b in_b. (holds.links.node a in_a).sender b in_b ∙ ap (λ (fs : List Packet). window_of (λ n. is_acked a b n w.packets w.steps) fs) (sym (same b));
-  link = λ b in_b. untouched_link w s part.sent a b holds.links.numbered (sends.frame a b (w.packets ++ part.sent)) (λ n. sends.step.taken (w.packets ++ part.sent) a b n) (λ n. sends.step.acked (w.packets ++ part.sent) a b n) (holds.links.link a b in_a in_b);
+  link = λ b in_b. untouched_link w s part.sent a b holds.links.numbered (sends.frame a b (w.packets ++ part.sent)) (λ n. ap (λ (t : Told). t.taken a n) (sends.step b (w.packets ++ part.sent) w.steps)) (λ n. ap (λ (t : Told). t.acked b n) (sends.step a (w.packets ++ part.sent) w.steps)) (holds.links.link a b in_a in_b);
   framed = λ k p at. framed_stays w a (node_of w a) s part.sent p holds.links.numbered (sends.framed k p at);
 }) (λ g before. subst (λ (given : List GroupStep). GroupSends g w a (node_of w a) s part.sent (alone (length w.nodes) g.group (project g w.packets w.steps)) (alone_from (length w.nodes) g.group (alone (length w.nodes) g.group (project g w.packets w.steps)) given) given)
     (sym (sends.given g (w.packets ++ part.sent))) (none_sent g w a (node_of w a) s part.sent (alone (length w.nodes) g.group (project g w.packets w.steps))

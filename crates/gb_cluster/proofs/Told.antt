@@ -6,7 +6,6 @@ use Rattle.gb_types.specs.declared.spec.Spec.{Spec}
 use Rattle.gb_detect.specs.Silence.{Call}
 use Rattle.gb_record.specs.declared.answer.Answer.{Answer}
 use Rattle.gb_record.specs.declared.event.Event.{Event}
-use Rattle.gb_alone.specs.declared.event.GroupStep.{GroupStep}
 use Rattle.gb_record.specs.declared.packet.Packet.{Packet}
 use Rattle.gb_record.specs.declared.step.Step.{Step}
 use Rattle.gb_record.specs.Project.{gives, frame_at, is_taken_by, is_acked_by, is_taken_in, made_by, is_noticed_by, is_stopped_by, watched_by, reply_in, is_met_by, is_turned_away}

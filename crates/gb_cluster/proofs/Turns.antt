@@ -1,5 +1,5 @@
 -- One step of a cluster, in which one node acts: what has to be shown of it, and that then the cluster keeps what it holds.
-use Rattle.std.proofs.Common.{◌≡◌, ◌≢◌, ℕ, zero, suc, ◌+◌, ◌-◌, ◌<◌, ◌≤◌, List, [], ◌∷◌, ◌++◌, length, Some, None, Bool, true, false, ◌||◌, ◌&&◌, ◌⊎◌, inl, inr, refl, sym, ◌∙◌, ap, subst, arith, length-append, get_or}
+use Rattle.std.proofs.Common.{◌≡◌, ◌≢◌, ℕ, zero, suc, ◌+◌, ◌-◌, ◌<◌, ◌≤◌, List, [], ◌∷◌, ◌++◌, length, Some, Bool, true, false, ◌||◌, ◌&&◌, ◌⊎◌, inl, inr, refl, sym, ◌∙◌, ap, subst, arith, length-append, get_or}
 use Rattle.std.specs.Prelude.{slice_get}
 use Rattle.std.proofs.lemmas.Bool.{cases_eq, cases_lt, or_cases, or_right}
 use Rattle.std.proofs.lemmas.List.{append-nil}
@@ -12,7 +12,7 @@ use Rattle.gb_record.specs.declared.step.Step.{Step}
 use Rattle.gb_alone.specs.declared.event.GroupStep.{GroupStep}
 use Rattle.gb_alone.specs.Alone.{Member, Group, alone, alone_from, is_marked, IsLegalFrom}
 use Rattle.gb_cluster.specs.NodeValue.{NodeValue}
-use Rattle.gb_record.specs.Project.{project, gives, has_row, is_taken_in, frames, frame_at, items_of, is_taken, is_taken_by, is_acked, is_acked_by, is_noticed, is_noticed_by, is_stopped, is_stopped_by, is_met, is_met_by, made_at, made_by, or_else, watched, watched_by, reply_in, replies_to, is_served, is_turned_away}
+use Rattle.gb_record.specs.Project.{project, gives, has_row, frames, frame_at, items_of, is_taken, is_taken_by, is_acked, is_acked_by, is_noticed, is_stopped, is_met, made_at, made_by, or_else, watched, watched_by, replies_to, is_served, is_turned_away}
 use Rattle.gb_cluster.proofs.World.{World, node_of}
 use Rattle.gb_cluster.specs.NodeStep.{no_node}
 use Rattle.gb_cluster.proofs.Invariant.{Stands, AreMarked, MemberIs, is_concerned, Fits, NodeIs, IsOfFrame, IsFramed, IsLink, Links, BehavesAlone, Invariant, window_of}

@@ -2,7 +2,7 @@
 use Rattle.std.proofs.Common.{◌≡◌, ◌≢◌, ℕ, ◌<◌, List, [], ◌∷◌, ◌++◌, length, Bool, true, false, refl, sym, subst, arith, get_or}
 use Rattle.std.specs.Prelude.{if◌then◌else◌, nat_eq}
 use Rattle.std.proofs.lemmas.Bool.Decides.{nat_tests}
-use Rattle.std.proofs.lemmas.List.{append-nil, get_or-set_same, get_or-set_other}
+use Rattle.std.proofs.lemmas.List.{get_or-set_same, get_or-set_other}
 use Rattle.std.proofs.lemmas.List.Sums.{fold-append}
 use Rattle.std.proofs.Math.ListN.{set}
 use Rattle.gb_types.specs.declared.address.Addr.{Addr}
@@ -14,12 +14,11 @@ use Rattle.gb_types.specs.declared.reply.Reply.TheVariants.{Done}
 use Rattle.gb_record.specs.declared.event.Event.TheVariants.{At}
 use Rattle.gb_record.specs.declared.answer.Answer.TheVariants.{Reply as AnswerReply}
 use Rattle.gb_record.specs.declared.step.Step.{Step}
-use Rattle.gb_record.specs.declared.packet.Packet.{Packet}
 use Rattle.gb_alone.specs.declared.event.GroupEvent.{GroupEvent}
 use Rattle.gb_alone.specs.declared.event.GroupStep.{GroupStep}
 use Rattle.gb_alone.specs.Alone.{Group, nobody, after, alone, alone_from, member_after, IsLegalFrom}
 use Rattle.gb_cluster.specs.NodeValue.{NodeValue}
-use Rattle.gb_record.specs.Project.{project, is_taken_in, frames, frame_at, reply_in, is_served, is_turned_away}
+use Rattle.gb_record.specs.Project.{project, is_taken_in, reply_in, is_served, is_turned_away}
 use Rattle.gb_cluster.proofs.World.{World}
 use Rattle.gb_cluster.specs.NodeStep.{no_node}
 use Rattle.gb_cluster.proofs.Invariant.{Fits, BehavesAlone}

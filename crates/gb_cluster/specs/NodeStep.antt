@@ -1,7 +1,6 @@
 -- What each event makes of a node and of a cluster.
-use Rattle.std.specs.Prelude.{ℕ, ◌+◌, ◌&&◌, not, Bool, true, false, List, [], ◌∷◌, ◌++◌, length, replicate, map, filter, fold, Option, Some, None, is_some, slice_index_or, slice_set, nat_eq, nat_lt, if◌then◌else◌}
+use Rattle.std.specs.Prelude.{ℕ, ◌+◌, ◌&&◌, not, Bool, true, false, List, [], ◌∷◌, length, replicate, filter, fold, Option, Some, None, is_some, slice_index_or, slice_set, nat_eq, nat_lt, if◌then◌else◌}
 use Rattle.std.specs.FinSet as set
-use Rattle.std.specs.List.{range_with_len}
 use Rattle.std.specs.Option.{option_to_list}
 use Rattle.gb_types.specs.Entry.{message_of}
 use Rattle.gb_types.specs.Rising.{rising}
@@ -43,7 +42,6 @@ use Rattle.gb_record.specs.declared.event.Event.TheVariants.{At, Pack, Again, Ac
 use Rattle.gb_rules.specs.declared.reserve.Reserve.{Reserve}
 use Rattle.gb_record.specs.declared.packet.Item.{Item}
 use Rattle.gb_record.specs.declared.packet.Packet.{Packet}
-use Rattle.gb_record.specs.declared.step.Step.{Step}
 
 -- the first of a list, if there is one
 abbrev pub first_of : {X : Type 0} → List X → Option X

@@ -1,11 +1,10 @@
-use Rattle.std.proofs.Common.{List, ◌++◌, ◌∷◌, [], length, take, refl, sym, ◌∙◌, ap, subst, arith}
+use Rattle.std.proofs.Common.{List, ◌++◌, ◌∷◌, [], take, refl, sym, ◌∙◌, ap, subst, arith}
 use Rattle.std.proofs.lemmas.List.{take_all, take_more}
 use Rattle.gb_cluster.specs.Runs.{IsRun}
-use Rattle.gb_cluster.specs.State.{State, transcript}
+use Rattle.gb_cluster.specs.State.{State}
 use Rattle.gb_record.specs.Observed.{AreObserved}
 use Rattle.gb_record.specs.Placed.{IsPlaced}
 use Rattle.gb_record.specs.Steps.{steps_of}
-use Rattle.gb_record.specs.Transcript.{Transcript}
 use Rattle.gb_record.specs.declared.event.Event.{Event}
 use Rattle.gb_record.specs.declared.packet.Packet.{Packet}
 use Rattle.gb_cluster.proofs.CodeLemmas.{run_begins, run_goes, placed_at}

@@ -1,4 +1,4 @@
-use Rattle.std.proofs.Common.{List, ◌∷◌, length, sym, subst}
+use Rattle.std.proofs.Common.{◌∷◌, length, sym, subst}
 use Rattle.gb_cluster.specs.Acting.{AreForNodes}
 use Rattle.gb_cluster.specs.State.{IsReached}
 use Rattle.gb_cluster.proofs.CodeLemmas.{stepped, goes_on, links_kept, count_after, holds}
