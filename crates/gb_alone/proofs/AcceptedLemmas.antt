@@ -15,12 +15,12 @@ use Rattle.gb_rules.specs.Group.{is_other, say_answer, on_made}
 use Rattle.gb_history.specs.declared.call.GroupCall.{GroupCall}
 use Rattle.gb_history.specs.declared.call.GroupCall.TheVariants.{Own, Other, Crashed}
 use Rattle.gb_rules.specs.declared.phase.Phase.{Phase}
-use Rattle.gb_rules.specs.declared.phase.Phase.TheVariants.{Made, Opened}
+use Rattle.gb_rules.specs.declared.phase.Phase.TheVariants.{Made, Opened, Shut}
 use Rattle.gb_alone.specs.Alone.{Member, Group, reply_to, shown_of, called, did, falls, taken_in, cut, took_notice, member_after, after, nobody, alone_from, alone}
 use Rattle.gb_alone.specs.Laws.{Accepted, accepted_in, accepted_at, accepted_from, accepted}
 use Rattle.gb_rules.specs.Tenant.{by_tenant}
 use Rattle.gb_alone.specs.declared.event.GroupEvent.{GroupEvent}
-use Rattle.gb_alone.specs.declared.event.GroupEvent.TheVariants.{Tenant, Make as AskMake, Open as AskOpen, Say as AskSay, Took, Came, Done as Acknowledged, Notice, Stop}
+use Rattle.gb_alone.specs.declared.event.GroupEvent.TheVariants.{Tenant, Make as AskMake, Open as AskOpen, Shut as AskShut, Say as AskSay, Took, Came, Done as Acknowledged, Notice, Stop}
 use Rattle.gb_alone.specs.declared.event.GroupStep.{GroupStep}
 use Rattle.gb_rules.specs.declared.reserve.Reserve.{Reserve}
 
@@ -49,6 +49,7 @@ next_said me m payload seq nodes number = running m.stopped
 
     answered : (spec : Spec) (phase : Phase) (log : List Entry) → say_answer (record { spec = spec; phase = phase; said = said_in m.told; log = log }) payload ≡ Said seq → seq ≡ said_in m.told + 1
     answered spec Made log h = cc
+    answered spec Shut log h = cc
     answered spec Opened log h = admitted (nat_lt PAYLOAD (length payload)) (nat_le spec.msgs (said_in m.told)) h
 
     by : (reserve : Option Reserve) (spec : Option Spec) → by_tenant (λ _. on_made (λ s. say_answer s payload) (shown_of me m.phase m.told spec)) reserve ≡ Said seq → seq ≡ said_in m.told + 1

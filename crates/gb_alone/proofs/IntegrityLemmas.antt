@@ -18,7 +18,7 @@ use Rattle.gb_history.specs.declared.call.GroupCall.TheVariants.{Own, Other, Cra
 use Rattle.gb_alone.specs.Alone.{Member, Group, reply_to, put_to, called, did, falls, item_came, taken_in, cut, took_notice, member_after, after, nobody, alone_from, alone, log_at}
 use Rattle.gb_alone.specs.Laws.{Accepted, accepted_in, accepted_at, accepted, IsAccepted, copies, IsIntegral}
 use Rattle.gb_alone.specs.declared.event.GroupEvent.{GroupEvent}
-use Rattle.gb_alone.specs.declared.event.GroupEvent.TheVariants.{Tenant, Make as AskMake, Open as AskOpen, Say as AskSay, Took, Came, Done as Acknowledged, Notice, Stop}
+use Rattle.gb_alone.specs.declared.event.GroupEvent.TheVariants.{Tenant, Make as AskMake, Open as AskOpen, Shut as AskShut, Say as AskSay, Took, Came, Done as Acknowledged, Notice, Stop}
 use Rattle.gb_alone.specs.declared.event.GroupStep.{GroupStep}
 use Rattle.gb_alone.proofs.AcceptedLemmas.{own_said, length-own_said, next_said, step_said, alone_said}
 use Rattle.gb_alone.proofs.KnownLemmas.{HoldsOfTold, all_known, all_puts, all_at, all_log, copies-log}

@@ -20,7 +20,7 @@ use Rattle.gb_types.specs.Rising.{rising, AreNodes}
 use Rattle.gb_types.proofs.AllMemberLemmas.{all_rising}
 use Rattle.gb_history.specs.History.{puts_of, log_of, calls_of, known}
 use Rattle.gb_history.specs.Messages.{entry_in}
-use Rattle.gb_rules.specs.Group.{Shown, is_other, open_answer, say_answer, fetch_answer, on_made}
+use Rattle.gb_rules.specs.Group.{Shown, is_other, open_answer, shut_answer, say_answer, fetch_answer, on_made}
 use Rattle.gb_history.specs.declared.call.GroupCall.{GroupCall}
 use Rattle.gb_layer.specs.Machine.{was_noticed}
 use Rattle.gb_history.specs.declared.call.GroupCall.TheVariants.{Own, Other, Crashed}
@@ -30,7 +30,7 @@ use Rattle.gb_alone.specs.MemberLists.{MemberValue, new_member, member_of, row_w
 use Rattle.gb_alone.specs.Observation.{numbers_below}
 use Rattle.gb_rules.specs.Tenant.{make_answer, by_tenant}
 use Rattle.gb_alone.specs.declared.event.GroupEvent.{GroupEvent}
-use Rattle.gb_alone.specs.declared.event.GroupEvent.TheVariants.{Tenant, Make as AskMake, Open as AskOpen, Say as AskSay, Fetch as AskFetch, Took, Came, Done as Acknowledged, Notice, Stop}
+use Rattle.gb_alone.specs.declared.event.GroupEvent.TheVariants.{Tenant, Make as AskMake, Open as AskOpen, Shut as AskShut, Say as AskSay, Fetch as AskFetch, Took, Came, Done as Acknowledged, Notice, Stop}
 use Rattle.gb_alone.specs.declared.event.GroupStep.{GroupStep}
 use Rattle.gb_rules.specs.declared.reserve.Reserve.{Reserve}
 

@@ -11,11 +11,11 @@ use Rattle.gb_history.specs.History.{calls_of, puts_of}
 use Rattle.gb_rules.specs.Group.{is_other}
 use Rattle.gb_history.specs.declared.call.GroupCall.TheVariants.{Own, Other, Crashed}
 use Rattle.gb_history.specs.declared.call.GroupCall.{GroupCall}
-use Rattle.gb_rules.specs.declared.phase.Phase.TheVariants.{Made, Opened}
+use Rattle.gb_rules.specs.declared.phase.Phase.TheVariants.{Made, Opened, Shut}
 use Rattle.gb_rules.specs.declared.phase.Phase.{Phase}
 use Rattle.gb_alone.specs.Alone.{Group, Member, falls, reply_to}
 use Rattle.gb_alone.specs.Observation.{numbers_below}
-use Rattle.gb_alone.specs.declared.event.GroupEvent.TheVariants.{Tenant, Make as AskMake, Open as AskOpen, Say as AskSay, Took, Came, Done as Acknowledged, Notice, Stop}
+use Rattle.gb_alone.specs.declared.event.GroupEvent.TheVariants.{Tenant, Make as AskMake, Open as AskOpen, Shut as AskShut, Say as AskSay, Took, Came, Done as Acknowledged, Notice, Stop}
 use Rattle.gb_alone.specs.declared.event.GroupEvent.{GroupEvent}
 use Rattle.gb_alone.specs.declared.event.GroupStep.{GroupStep}
 use Rattle.gb_rules.specs.declared.reserve.Reserve.{Reserve}

@@ -12,11 +12,11 @@ use Rattle.gb_types.specs.declared.refusal.Refusal.TheVariants.{Stopped}
 use Rattle.gb_types.specs.declared.reply.Reply.{Reply}
 use Rattle.gb_types.specs.declared.reply.Reply.TheVariants.{Done, Said, Refused}
 use Rattle.gb_types.specs.declared.request.Request.{Request}
-use Rattle.gb_types.specs.declared.request.Request.TheVariants.{AddTenant, Make, OpenGroup, Say, Fetch}
+use Rattle.gb_types.specs.declared.request.Request.TheVariants.{AddTenant, Make, OpenGroup, ShutGroup, Say, Fetch}
 use Rattle.gb_record.specs.declared.answer.Answer.TheVariants.{Reply as AnswerReply}
 use Rattle.gb_record.specs.declared.event.Event.TheVariants.{At}
 use Rattle.gb_alone.specs.declared.event.GroupEvent.{GroupEvent}
-use Rattle.gb_alone.specs.declared.event.GroupEvent.TheVariants.{Make as AskMake, Open as AskOpen, Say as AskSay}
+use Rattle.gb_alone.specs.declared.event.GroupEvent.TheVariants.{Make as AskMake, Open as AskOpen, Shut as AskShut, Say as AskSay}
 use Rattle.gb_alone.specs.declared.event.GroupStep.{GroupStep}
 use Rattle.gb_rules.specs.declared.reserve.Reserve.{Reserve}
 use Rattle.gb_record.specs.declared.step.Step.{Step}

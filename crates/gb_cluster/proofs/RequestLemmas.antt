@@ -10,16 +10,16 @@ use Rattle.gb_types.specs.declared.node.NodeId.{NodeId}
 use Rattle.gb_types.specs.declared.refusal.Refusal.TheVariants.{TooLong, Budget}
 use Rattle.gb_types.specs.declared.reply.Reply.{Reply}
 use Rattle.gb_types.specs.declared.reply.Reply.TheVariants.{Done, Said, Refused}
-use Rattle.gb_types.specs.declared.request.Request.TheVariants.{OpenGroup, Say, Fetch}
+use Rattle.gb_types.specs.declared.request.Request.TheVariants.{OpenGroup, ShutGroup, Say, Fetch}
 use Rattle.gb_types.specs.declared.spec.Spec.{Spec}
-use Rattle.gb_rules.specs.Group.{Shown, open_answer, say_answer, fetch_answer, on_made}
-use Rattle.gb_slot.specs.Slot.{shown, waiting, slot_opened, slot_said}
+use Rattle.gb_rules.specs.Group.{Shown, open_answer, shut_answer, say_answer, fetch_answer, on_made}
+use Rattle.gb_slot.specs.Slot.{shown, waiting, slot_moved, slot_said}
 use Rattle.gb_slot.specs.SlotState.{SlotState}
 use Rattle.gb_history.specs.declared.call.GroupCall.TheVariants.{Own}
 use Rattle.gb_rules.specs.declared.phase.Phase.{Phase}
-use Rattle.gb_rules.specs.declared.phase.Phase.TheVariants.{Made, Opened}
-use Rattle.gb_slot.proofs.HistoryLemmas.{opened_stands}
-use Rattle.gb_alone.specs.declared.event.GroupEvent.TheVariants.{Open as AskOpen, Say as AskSay, Fetch as AskFetch}
+use Rattle.gb_rules.specs.declared.phase.Phase.TheVariants.{Made, Opened, Shut}
+use Rattle.gb_slot.proofs.HistoryLemmas.{moved_stands}
+use Rattle.gb_alone.specs.declared.event.GroupEvent.TheVariants.{Open as AskOpen, Shut as AskShut, Say as AskSay, Fetch as AskFetch}
 use Rattle.gb_rules.specs.declared.reserve.Reserve.{Reserve}
 use Rattle.gb_record.specs.declared.step.Step.{Step}
 use Rattle.gb_alone.specs.Alone.{Member, Group, called, did}
@@ -149,6 +149,7 @@ said_when false false n seq is = cc
 
 say_when : (phase : Phase) (spec : Spec) (said : ℕ) (log : List Entry) (payload : List ℕ) (seq : ℕ) → say_answer (record { spec = spec; phase = phase; said = said; log = log }) payload ≡ Said seq → seq ≡ said + 1
 say_when Made spec said log payload seq is = absurd (cc)
+say_when Shut spec said log payload seq is = absurd (cc)
 say_when Opened spec said log payload seq is = said_when (nat_lt PAYLOAD (length payload)) (nat_le spec.msgs said) (said + 1) seq is
 
 say_said : (row : Option Reserve) (o : Option SlotState) (payload : List ℕ) (seq : ℕ) → by_tenant (λ _. on_made (λ s. say_answer s payload) (shown_for o)) row ≡ Said seq → (s : SlotState) × (o ≡ Some s) × (seq ≡ s.said + 1)

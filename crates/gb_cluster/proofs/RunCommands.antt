@@ -15,7 +15,7 @@ use Rattle.gb_rules.specs.Group.{is_other}
 use Rattle.gb_types.specs.declared.reply.Reply.{Reply}
 use Rattle.gb_types.specs.declared.reply.Reply.TheVariants.{Done, Said}
 use Rattle.gb_types.specs.declared.request.Request.{Request}
-use Rattle.gb_types.specs.declared.request.Request.TheVariants.{AddTenant, Make, OpenGroup, Say, Fetch}
+use Rattle.gb_types.specs.declared.request.Request.TheVariants.{AddTenant, Make, OpenGroup, ShutGroup, Say, Fetch}
 use Rattle.gb_alone.specs.Laws.{Accepted, accepted_in}
 use Rattle.gb_record.specs.RunLaws.{accepted_by, accepted_there}
 use Rattle.gb_record.specs.Nodes.{node_numbered}
@@ -30,7 +30,7 @@ use Rattle.gb_record.specs.declared.answer.Ticked.TheVariants.{Noticed}
 use Rattle.gb_record.specs.declared.event.Event.{Event}
 use Rattle.gb_record.specs.declared.event.Event.TheVariants.{At, Pack, Arrive, Tick}
 use Rattle.gb_alone.specs.declared.event.GroupEvent.{GroupEvent}
-use Rattle.gb_alone.specs.declared.event.GroupEvent.TheVariants.{Tenant, Make as AskMake, Open as AskOpen, Say as AskSay, Fetch as AskFetch, Took, Came, Done as Acknowledged, Notice, Stop as Ends}
+use Rattle.gb_alone.specs.declared.event.GroupEvent.TheVariants.{Tenant, Make as AskMake, Open as AskOpen, Shut as AskShut, Say as AskSay, Fetch as AskFetch, Took, Came, Done as Acknowledged, Notice, Stop as Ends}
 use Rattle.gb_alone.specs.declared.event.GroupStep.{GroupStep}
 use Rattle.gb_record.specs.declared.packet.Packet.{Packet}
 use Rattle.gb_record.specs.declared.step.Step.{Step}

@@ -10,7 +10,7 @@ use Rattle.gb_types.specs.declared.refusal.Refusal.TheVariants.{OverReserve, NoR
 use Rattle.gb_types.specs.declared.reply.Reply.{Reply}
 use Rattle.gb_types.specs.declared.reply.Reply.TheVariants.{Done, Refused}
 use Rattle.gb_types.specs.declared.request.Request.{Request}
-use Rattle.gb_types.specs.declared.request.Request.TheVariants.{AddTenant, Make, OpenGroup, Say, Fetch}
+use Rattle.gb_types.specs.declared.request.Request.TheVariants.{AddTenant, Make, OpenGroup, ShutGroup, Say, Fetch}
 use Rattle.gb_types.specs.declared.spec.TenantRow.{TenantRow}
 use Rattle.gb_record.specs.declared.answer.Answer.TheVariants.{Reply as AnswerReply}
 use Rattle.gb_record.specs.declared.event.Event.TheVariants.{At}
@@ -25,7 +25,7 @@ use Rattle.gb_cluster.proofs.AskLemmas.{Before, AtNode, unconcerned, member_aske
 use Rattle.gb_cluster.proofs.MakeLemmas.{at_make}
 use Rattle.gb_cluster.proofs.MemberLemmas.{same_slot}
 use Rattle.gb_cluster.proofs.NodeLemmas.{same_stands}
-use Rattle.gb_cluster.proofs.RequestLemmas.{at_open, at_say, at_fetch}
+use Rattle.gb_cluster.proofs.RequestLemmas.{at_open, at_shut, at_say, at_fetch}
 use Rattle.gb_cluster.proofs.WorldLemmas.{after_there, after_elsewhere}
 
 pub row_done : (row : TenantRow) (o : Option TenantRow) → row_answer row o ≡ Done → o ≡ None

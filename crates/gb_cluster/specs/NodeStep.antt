@@ -12,7 +12,7 @@ use Rattle.gb_types.specs.declared.refusal.Refusal.TheVariants.{NoRoom, TenantTh
 use Rattle.gb_types.specs.declared.reply.Reply.{Reply}
 use Rattle.gb_types.specs.declared.reply.Reply.TheVariants.{Done, Said, Refused}
 use Rattle.gb_types.specs.declared.request.Request.{Request}
-use Rattle.gb_types.specs.declared.request.Request.TheVariants.{AddTenant, Make, OpenGroup, Say, Fetch}
+use Rattle.gb_types.specs.declared.request.Request.TheVariants.{AddTenant, Make, OpenGroup, ShutGroup, Say, Fetch}
 use Rattle.gb_types.specs.declared.spec.TenantRow.{TenantRow}
 use Rattle.gb_detect.specs.Watch.{start, due, after_heard, after_tick}
 use Rattle.gb_link.specs.Ack.{covers}
@@ -20,8 +20,9 @@ use Rattle.gb_link.specs.Received.{Received, base_of, mask_of, admission, taken}
 use Rattle.gb_link.specs.SendWindow.{SendWindow, new_window, has_room, pushed, frame_again}
 use Rattle.gb_link.specs.declared.receiver.Admission.{Admission}
 use Rattle.gb_link.specs.declared.receiver.Admission.TheVariants.{First, Seen, Outside}
-use Rattle.gb_rules.specs.Group.{Shown, open_answer, say_answer, fetch_answer, on_made}
-use Rattle.gb_slot.specs.Slot.{new_slot, shown, waiting, slot_opened, slot_said, slot_came, slot_took, slot_done, slot_noticed}
+use Rattle.gb_rules.specs.Group.{Shown, open_answer, shut_answer, say_answer, fetch_answer, on_made}
+use Rattle.gb_rules.specs.declared.phase.Phase.TheVariants.{Opened, Shut}
+use Rattle.gb_slot.specs.Slot.{new_slot, shown, waiting, slot_moved, slot_said, slot_came, slot_took, slot_done, slot_noticed}
 use Rattle.gb_slot.specs.SlotState.{SlotState}
 use Rattle.gb_cluster.specs.NodeValue.{GroupAt, NodeValue}
 use Rattle.gb_record.specs.Nodes.{node_numbered}

@@ -11,8 +11,9 @@ ghost use Rattle.gb_link.specs.Ack.{covers};
 ghost use Rattle.gb_link.specs.Received.{admission, taken};
 ghost use Rattle.gb_link.specs.SendWindow.{new_window};
 ghost use Rattle.gb_rules.specs.Replied.{IsReply};
-ghost use Rattle.gb_rules.specs.Group.{open_answer, say_answer, fetch_answer, is_member, on_made};
-ghost use Rattle.gb_slot.specs.Slot.{IsWithinLimits, new_slot, waiting, slot_opened, slot_said, slot_came, slot_done, slot_took};
+ghost use Rattle.gb_rules.specs.Group.{open_answer, shut_answer, say_answer, fetch_answer, is_member, on_made};
+ghost use Rattle.gb_rules.specs.declared.phase.Phase.TheVariants as phase;
+ghost use Rattle.gb_slot.specs.Slot.{IsWithinLimits, new_slot, waiting, slot_moved, slot_said, slot_came, slot_done, slot_took};
 ghost use Rattle.gb_cluster.specs.GroupRoom.{is_new_frame, group_at, group_of, HasRoom, KeepsRoom, first_waiting};
 ghost use Rattle.gb_cluster.specs.Memory.{IsReplyTo, has_other_of, is_concerned};
 ghost use Rattle.gb_rules.specs.Tenant.{is_over_limits, is_bad, is_over, make_answer, by_tenant};
@@ -52,7 +53,7 @@ impl AddressedSlot {
     /// Opens the group, where it is the one with this address.
     fn open_group(&mut self, addr: Addr) -> Reply
         ensures reply { result ≡ on_made open_answer (shown_for (slot_for addr (Some (group_at self.old)))) }
-        ensures state { Some (group_at self.new) ≡ on_slot addr (slot_moved Opened result) (Some (group_at self.old)) }
+        ensures state { Some (group_at self.new) ≡ on_slot addr (slot_moved phase.Opened result) (Some (group_at self.old)) }
     {
         if !is_same(addr, self.addr) {
             return Reply::Refused(Refusal::NoGroup);
@@ -66,7 +67,7 @@ impl AddressedSlot {
     /// Shuts the group, where it is the one with this address.
     fn shut_group(&mut self, addr: Addr) -> Reply
         ensures reply { result ≡ on_made shut_answer (shown_for (slot_for addr (Some (group_at self.old)))) }
-        ensures state { Some (group_at self.new) ≡ on_slot addr (slot_moved Shut result) (Some (group_at self.old)) }
+        ensures state { Some (group_at self.new) ≡ on_slot addr (slot_moved phase.Shut result) (Some (group_at self.old)) }
     {
         if !is_same(addr, self.addr) {
             return Reply::Refused(Refusal::NoGroup);

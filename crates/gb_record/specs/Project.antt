@@ -12,7 +12,7 @@ use Rattle.gb_types.specs.declared.refusal.Refusal.TheVariants.{NoRoom, OutOfMem
 use Rattle.gb_types.specs.declared.reply.Reply.{Reply}
 use Rattle.gb_types.specs.declared.reply.Reply.TheVariants.{Done, Refused}
 use Rattle.gb_types.specs.declared.request.Request.{Request}
-use Rattle.gb_types.specs.declared.request.Request.TheVariants.{AddTenant, Make, OpenGroup, Say, Fetch}
+use Rattle.gb_types.specs.declared.request.Request.TheVariants.{AddTenant, Make, OpenGroup, ShutGroup, Say, Fetch}
 use Rattle.gb_types.specs.declared.spec.Spec.{Spec}
 use Rattle.gb_detect.specs.Silence.{Call, Heard, Tick as Ticks}
 use Rattle.gb_link.specs.Ack.{covers}
@@ -28,7 +28,7 @@ use Rattle.gb_record.specs.declared.answer.Taken.TheVariants.{Good as TakenGood}
 use Rattle.gb_record.specs.declared.answer.Ticked.TheVariants.{Noticed}
 use Rattle.gb_record.specs.declared.event.Event.{Event}
 use Rattle.gb_record.specs.declared.event.Event.TheVariants.{At, Pack, Arrive, Tick, Stop}
-use Rattle.gb_alone.specs.declared.event.GroupEvent.TheVariants.{Tenant, Make as AskMake, Open as AskOpen, Say as AskSay, Fetch as AskFetch, Took, Came, Done as Acknowledged, Notice, Stop as Ends}
+use Rattle.gb_alone.specs.declared.event.GroupEvent.TheVariants.{Tenant, Make as AskMake, Open as AskOpen, Shut as AskShut, Say as AskSay, Fetch as AskFetch, Took, Came, Done as Acknowledged, Notice, Stop as Ends}
 use Rattle.gb_alone.specs.declared.event.GroupStep.{GroupStep}
 use Rattle.gb_record.specs.declared.packet.Item.{Item}
 use Rattle.gb_record.specs.declared.packet.Packet.{Packet}

@@ -9,7 +9,7 @@ use Rattle.gb_types.specs.declared.reply.Reply.{Reply}
 use Rattle.gb_types.specs.declared.reply.Reply.TheVariants.{Done, Said, Log, Refused}
 use Rattle.gb_types.specs.declared.spec.Spec.{Spec}
 use Rattle.gb_rules.specs.declared.phase.Phase.{Phase}
-use Rattle.gb_rules.specs.declared.phase.Phase.TheVariants.{Made, Opened}
+use Rattle.gb_rules.specs.declared.phase.Phase.TheVariants.{Made, Opened, Shut}
 
 -- what the rules read of a group that was made at a node
 pub record Shown : Type 0 where

@@ -4,7 +4,7 @@ use Rattle.std.specs.Result.{IfOk}
 use Rattle.std.specs.Option.{IfSome}
 use Rattle.gb_schedule.specs.declared.command.Command.{Command}
 use Rattle.gb_schedule.specs.declared.head.Head.{Head}
-use Rattle.gb_schedule.specs.declared.head.Head.TheVariants.{Cluster, Tenant, Make, Open, Say, Fetch, Pack, Again, Ack, Arrive, Tick, Stop}
+use Rattle.gb_schedule.specs.declared.head.Head.TheVariants.{Cluster, Tenant, Make, Open, Shut, Say, Fetch, Pack, Again, Ack, Arrive, Tick, Stop}
 use Rattle.gb_schedule.specs.Grammar.{Spells, IsCommandLine, IsInPlace}
 use Rattle.gb_schedule.proofs.CommandLemmas.{Finds}
 

@@ -1,7 +1,7 @@
 -- The words that lines of a schedule begin with.
 use Rattle.std.specs.Prelude.{ℕ, List, codes}
 use Rattle.gb_schedule.specs.declared.head.Head.{Head}
-use Rattle.gb_schedule.specs.declared.head.Head.TheVariants.{Cluster, Tenant, Make, Open, Say, Fetch, Pack, Again, Ack, Arrive, Tick, Stop}
+use Rattle.gb_schedule.specs.declared.head.Head.TheVariants.{Cluster, Tenant, Make, Open, Shut, Say, Fetch, Pack, Again, Ack, Arrive, Tick, Stop}
 
 -- the word for a head
 abbrev pub head_word : Head → List ℕ

@@ -9,7 +9,7 @@ use Rattle.gb_types.specs.declared.address.Addr.{Addr}
 use Rattle.gb_types.specs.declared.spec.Spec.{Spec}
 use Rattle.gb_types.specs.declared.spec.TenantRow.{TenantRow}
 use Rattle.gb_types.specs.declared.request.Request.{Request}
-use Rattle.gb_types.specs.declared.request.Request.TheVariants.{AddTenant, Make, OpenGroup, Say, Fetch}
+use Rattle.gb_types.specs.declared.request.Request.TheVariants.{AddTenant, Make, OpenGroup, ShutGroup, Say, Fetch}
 use Rattle.gb_session.specs.declared.grammar.TheConstants.{BODY}
 use Rattle.gb_session.specs.declared.head.Head.{Head}
 use Rattle.gb_session.specs.declared.head.Head.TheVariants as heads

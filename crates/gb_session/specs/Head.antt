@@ -1,7 +1,7 @@
 -- The words that requests begin with.
 use Rattle.std.specs.Prelude.{ℕ, List, codes}
 use Rattle.gb_session.specs.declared.head.Head.{Head}
-use Rattle.gb_session.specs.declared.head.Head.TheVariants.{Tenant, Make, Open, Say, Fetch}
+use Rattle.gb_session.specs.declared.head.Head.TheVariants.{Tenant, Make, Open, Shut, Say, Fetch}
 
 -- the word for a head
 abbrev pub head_word : Head → List ℕ

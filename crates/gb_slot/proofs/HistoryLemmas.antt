@@ -57,7 +57,7 @@ fresh_stands spec me noticed qs others tell = record {
 }
 
 pub moved_stands : MovedStands
-moved_stands s told Done st = record {
+moved_stands s told phase Done st = record {
   lawful = st.lawful;
   stack = st.stack;
   store = st.store;
@@ -71,7 +71,7 @@ moved_stands s told Done st = record {
   noticed = st.noticed;
   acknowledged = st.acknowledged;
 }
-moved_stands s told reply st = st
+moved_stands s told phase reply st = st
 
 -- what was not mentioned was not said
 not_said : (past : List Call) (m : MsgId) → mentions past m ≡ false → was_said past m ≡ false

@@ -1,4 +1,5 @@
 -- What holds of a slot for every history that it stands for.
+use Rattle.gb_rules.specs.declared.phase.Phase.{Phase}
 use Rattle.std.specs.Prelude.{ℕ, ◌≡◌, ◌≢◌, ◌≤◌, ◌<◌, ◌+◌, true, false, List, [], ◌∷◌, ◌++◌, length, map, drop, nat_eq, if◌then◌else◌}
 use Rattle.std.specs.Ordering.{nat_cmp}
 use Rattle.std.specs.FinSet as set
@@ -14,7 +15,7 @@ use Rattle.gb_history.specs.declared.call.GroupCall.{GroupCall}
 use Rattle.gb_history.specs.declared.call.GroupCall.TheVariants.{Own, Other, Crashed}
 use Rattle.gb_history.specs.History.{log_of, puts_of, falls_after}
 use Rattle.gb_rules.specs.Group.{is_other}
-use Rattle.gb_slot.specs.Slot.{new_slot, shown, waiting, own_entry, slot_opened, slot_said, falls, slot_came, slot_noticed, slot_done, slot_took}
+use Rattle.gb_slot.specs.Slot.{new_slot, shown, waiting, own_entry, slot_moved, slot_said, falls, slot_came, slot_noticed, slot_done, slot_took}
 use Rattle.gb_slot.specs.SlotState.{SlotState}
 use Rattle.gb_slot.specs.StandsFor.{StandsFor, reaches}
 

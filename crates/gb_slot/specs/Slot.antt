@@ -16,7 +16,8 @@ use Rattle.gb_layer.specs.declared.call.Call.{Call}
 use Rattle.gb_layer.specs.declared.call.Call.TheVariants.{Say, Came, Notice}
 use Rattle.gb_layer.specs.declared.effects.Up.{Up}
 use Rattle.gb_stack.specs.StackState.{new_stack, stack_next, stack_gives}
-use Rattle.gb_rules.specs.declared.phase.Phase.TheVariants.{Made, Opened}
+use Rattle.gb_rules.specs.declared.phase.Phase.{Phase}
+use Rattle.gb_rules.specs.declared.phase.Phase.TheVariants.{Made}
 use Rattle.gb_history.specs.Messages.{has, entry_in, with_new}
 use Rattle.gb_rules.specs.Group.{Shown, is_other}
 use Rattle.gb_rules.specs.LetFall.{is_let_fall}

@@ -104,7 +104,7 @@ impl Slot {
     /// Opens the group for its member's messages. WrongPhase where it was opened before.
     pub fn open_group(&mut self) -> Result<(), Refusal>
         ensures answer { done_reply result ≡ open_answer (shown self.old.state) }
-        ensures state { self.new.state ≡ slot_moved Opened (done_reply result) self.old.state }
+        ensures state { self.new.state ≡ slot_moved Phase.Opened (done_reply result) self.old.state }
         ensures room { (self.new.calls ≡ self.old.calls) × (self.new.bytes ≡ self.old.bytes) }
     {
         check_open(self.phase)?;
@@ -115,7 +115,7 @@ impl Slot {
     /// Shuts the group: its member says nothing more. WrongPhase where it is not open.
     pub fn shut_group(&mut self) -> Result<(), Refusal>
         ensures answer { done_reply result ≡ shut_answer (shown self.old.state) }
-        ensures state { self.new.state ≡ slot_moved Shut (done_reply result) self.old.state }
+        ensures state { self.new.state ≡ slot_moved Phase.Shut (done_reply result) self.old.state }
         ensures room { (self.new.calls ≡ self.old.calls) × (self.new.bytes ≡ self.old.bytes) }
     {
         check_shut(self.phase)?;
