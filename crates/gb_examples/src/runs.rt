@@ -72,6 +72,10 @@ fn open(addr: Addr) -> Request {
     Request::OpenGroup(TOKEN, addr)
 }
 
+fn shut(addr: Addr) -> Request {
+    Request::ShutGroup(TOKEN, addr)
+}
+
 fn say(alloc: Global, addr: Addr, payload: &[u8]) -> Result<Request, OutOfMemory> {
     Ok(Request::Say(TOKEN, addr, Payload::from_slice(alloc, payload)?))
 }
@@ -237,6 +241,42 @@ fn two_groups_with_unlike_addresses(rt: HostRuntime) -> Result<(), Fail> {
             (Event::At(a, fetch(g)), "log 1 0:1:78"),
             (Event::At(b, fetch(h)), "log 0"),
             (Event::At(b, fetch(g)), "refused 2 NoGroup"),
+        ],
+    )?;
+    Ok(())
+}
+
+#[test]
+fn in_a_shut_group_nothing_more_is_said(rt: HostRuntime) -> Result<(), Fail> {
+    let alloc = rt.alloc();
+    let (a, b) = (node(&rt, 0), node(&rt, 1));
+    let g = addr(7, 1);
+    run(
+        &rt,
+        alloc,
+        2,
+        g,
+        &[
+            (Event::At(a, shut(g)), "refused 1 Denied"),
+            (Event::At(a, tenant(7)), "ok"),
+            (Event::At(b, tenant(7)), "ok"),
+            (Event::At(a, shut(g)), "refused 2 NoGroup"),
+            (Event::At(a, make(g, &[a, b])), "ok"),
+            (Event::At(b, make(g, &[a, b])), "ok"),
+            (Event::At(a, shut(g)), "refused 6 WrongPhase"),
+            (Event::At(a, open(g)), "ok"),
+            (Event::At(b, open(g)), "ok"),
+            (Event::At(a, say(alloc, g, b"x")?), "said 1"),
+            (Event::At(b, shut(g)), "ok"),
+            (Event::At(b, shut(g)), "refused 6 WrongPhase"),
+            (Event::At(b, open(g)), "refused 6 WrongPhase"),
+            (Event::At(b, say(alloc, g, b"y")?), "refused 6 WrongPhase"),
+            (Event::Pack(a, b), "packet 1"),
+            (Event::Arrive(1), "first"),
+            (Event::At(b, fetch(g)), "log 1 0:1:78"),
+            (Event::At(a, say(alloc, g, b"z")?), "said 2"),
+            (Event::Stop(b), "stopped"),
+            (Event::At(b, shut(g)), "refused 15 Stopped"),
         ],
     )?;
     Ok(())

@@ -223,6 +223,7 @@ fn check_refusals_come_in_their_order(rt: &impl Abort, slot: &mut Slot) -> Resul
     assert_eq!(rt; slot.say(b"early"), Err(Refusal::WrongPhase));
     receive(slot, FRIEND, FRIEND, 1, b"early")?;
     assert_log(rt, slot, &[(FRIEND, 1, b"early")])?;
+    assert_eq!(rt; slot.shut_group(), Err(Refusal::WrongPhase), "not open");
     slot.open_group()?;
     assert_eq!(rt; slot.open_group(), Err(Refusal::WrongPhase));
     assert_eq!(rt; slot.say(&too_long), Err(Refusal::TooLong));
@@ -252,6 +253,16 @@ fn check_refusals_come_in_their_order(rt: &impl Abort, slot: &mut Slot) -> Resul
         "too many"
     );
     assert_eq!(rt; slot.fetch(4, 17).err(), Some(Refusal::BadPlace));
+    slot.shut_group()?;
+    assert_eq!(rt; slot.shut_group(), Err(Refusal::WrongPhase));
+    assert_eq!(rt; slot.open_group(), Err(Refusal::WrongPhase));
+    assert_eq!(rt;
+        slot.say(&too_long),
+        Err(Refusal::WrongPhase),
+        "shut, and too long"
+    );
+    receive(slot, FRIEND, FRIEND, 2, b"late")?;
+    assert_eq!(rt; slot.fetch(3, 16)?.len(), 1, "items still come");
     Ok(())
 }
 

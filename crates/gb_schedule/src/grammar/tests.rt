@@ -32,6 +32,9 @@ fn told_request(alloc: Global, request: &Request) -> Result<String, OutOfMemory>
         Request::OpenGroup(_, address) => {
             format!(in alloc; "open {}/{}", address.tenant, address.group)?
         }
+        Request::ShutGroup(_, address) => {
+            format!(in alloc; "shut {}/{}", address.tenant, address.group)?
+        }
         Request::Say(_, address, payload) => {
             format!(in alloc;
                 "say {}/{}: {:?}",
@@ -119,6 +122,7 @@ fn good_lines(rt: HostRuntime) -> Result<(), Fail> {
             "at 0: make 7/1: Beb, members 0 1 15, 8 messages, 64 bytes, window 4",
         ),
         ("open 1 0 65535", "at 1: open 0/65535"),
+        ("shut 2 7 1", "at 2: shut 7/1"),
         ("say 0 7 1 -", "at 0: say 7/1: []"),
         ("say 0 7 1 00fF6a", "at 0: say 7/1: [0, 255, 106]"),
         (
@@ -163,6 +167,8 @@ fn bad_lines(rt: HostRuntime) -> Result<(), Fail> {
     let lines = [
         "cluster 2 3",
         "open 3 7 1",
+        "shut 3 7 1",
+        "shut 0 7",
         "open 256 7 1",
         "open 0 65536 1",
         "open 0 7 65536",
