@@ -36,11 +36,13 @@ spelt_in_place Tick (Some nodes) command words s = rw s.command_is s.in_cluster
 spelt_in_place Stop None command words s = absurd s
 spelt_in_place Stop (Some nodes) command words s = rw s.command_is s.in_cluster
 
+pub line_in_place : (nodes : Option ℕ) (line : List ℕ) (command : Command) → IsCommandLine nodes line command → IsInPlace nodes command
+line_in_place nodes line command spelt = spelt_in_place spelt.head nodes command spelt.words spelt.spelt
+
 found_in_place : (nodes : Option ℕ) (line : List ℕ) (answer : Option Command) → Finds (IsCommandLine nodes line) answer → IfSome answer (IsInPlace nodes)
 found_in_place nodes line None finds = tt
 found_in_place nodes line (Some command) finds =
-    let spelt : IsCommandLine nodes line command = (finds command).0 refl in
-    spelt_in_place spelt.head nodes command spelt.words spelt.spelt
+    line_in_place nodes line command ((finds command).0 refl)
 
 pub command_in_place : {E : Type 0} (nodes : Option ℕ) (line : List ℕ) (result : Result (Option Command) E)
     → IfOk result (Finds (IsCommandLine nodes line)) → IfOk result (λ answer. IfSome answer (IsInPlace nodes))

@@ -1,12 +1,11 @@
 -- What stands at the front of some bytes, from what reading them found.
-use Rattle.std.proofs.Common.{◌≡◌, ℕ, ◌+◌, ◌-◌, ◌<◌, ◌≤◌, ◌^◌, List, ◌++◌, Option, Some, None, ◌↔◌, length, take, drop, get_or, refl, sym, ap, ◌∙◌, subst, inl, inr, arith}
+use Rattle.std.proofs.Common.{◌≡◌, ℕ, ◌+◌, ◌-◌, ◌<◌, ◌≤◌, List, ◌++◌, Option, Some, None, ◌↔◌, length, take, drop, get_or, sym, ap, ◌∙◌, subst, inl, inr, arith}
 use Rattle.std.specs.Int.{w32, to_be_bytes}
 use Rattle.std.proofs.lemmas.Bool.{cases_lt}
 use Rattle.std.proofs.lemmas.List.{take-append-drop, take-take, length-take, drop-take, length-take-le, length-drop, get_or-take, get_or_past}
 use Rattle.std.proofs.lemmas.Nat.{be_bytes_4}
 use Rattle.std.proofs.lemmas.Option.{none-some}
 use Rattle.gb_types.specs.declared.request.Request.{Request}
-use Rattle.gb_session.specs.declared.grammar.TheConstants.{BODY}
 use Rattle.gb_session.specs.Grammar.{IsRequestText}
 use Rattle.gb_session.specs.Streams.{framed, said_length, IsMalformed}
 use Rattle.gb_session.specs.Fronts.{IsMessage}

@@ -1,14 +1,14 @@
 -- How each request, each piece and the end move a session on.
-use Rattle.std.proofs.Common.{◌≡◌, ◌≢◌, ℕ, zero, suc, ◌+◌, ◌<◌, ◌≤◌, ◌==◌, Bool, true, false, List, [], ◌∷◌, ◌++◌, Option, Some, None, length, take, refl, sym, ap, ◌∙◌, subst, inl, inr, arith}
+use Rattle.std.proofs.Common.{◌≡◌, ◌≢◌, ℕ, zero, suc, ◌+◌, ◌<◌, ◌≤◌, ◌==◌, Bool, true, false, List, [], ◌∷◌, ◌++◌, Option, Some, length, refl, sym, ap, ◌∙◌, subst, inl, inr, arith}
 use Rattle.std.specs.List.{flat_map}
 use Rattle.std.specs.Io.KnownBytes.{Appends, Consumes, IsAtEnd}
 use Rattle.std.proofs.lemmas.Bool.{false≢true}
 use Rattle.std.proofs.lemmas.List.{append_assoc, append-nil, length-append}
 use Rattle.gb_types.specs.declared.reply.Reply.{Reply}
 use Rattle.gb_types.specs.declared.request.Request.{Request}
-use Rattle.gb_session.specs.Streams.{framed, SpellsRequests, IsBegun, IsMalformed}
+use Rattle.gb_session.specs.Streams.{SpellsRequests, IsBegun}
 use Rattle.gb_session.specs.Feeds.{FeedValue, HasGiven, StandsAt, Gives}
-use Rattle.gb_session.specs.Runs.{IsRun, HasAsked, reply_message}
+use Rattle.gb_session.specs.Runs.{HasAsked, reply_message}
 use Rattle.gb_session.specs.Sessions.{AnswersFirst, EndsPiece, IsSession, IsMetAtLast, malformed_message}
 use Rattle.gb_session.specs.Progress.{HasAnswered, HasServed}
 use Rattle.gb_session.specs.declared.serve.SessionEnd.{SessionEnd}

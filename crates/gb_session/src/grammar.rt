@@ -163,3 +163,6 @@ pub fn parse_request(alloc: Global, body: &[u8]) -> Result<Request, Refusal>
         Err(OutOfMemory) => Err(Refusal::OutOfMemory),
     }
 }
+
+#[cfg(test)]
+mod tests;

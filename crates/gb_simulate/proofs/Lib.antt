@@ -1,3 +1,4 @@
+pub mod RunTextLemmas
 pub mod ProgressLemmas
 pub mod AnswerLemmas
 pub mod OfClusterLemmas

@@ -11,22 +11,27 @@ use Rattle.gb_simulate.specs.declared.outcome.SimEnd.{SimEnd}
 use Rattle.gb_simulate.specs.declared.outcome.SimEnd.TheVariants.{All, BadLine}
 use Rattle.gb_simulate.specs.declared.outcome.SimFault.{SimFault}
 use Rattle.gb_simulate.specs.declared.outcome.SimFault.TheVariants.{Read, Write, OutOfMemory}
+use Rattle.gb_simulate.proofs.RunTextLemmas.{run_of}
 
 -- nothing is read
 reaches_start : (input : List ℕ) → Reaches input [] None 1 (lines_of input)
 unfolding AreAnswered
-reaches_start input = record { taken = []; lines = refl; answered = (refl, refl); count = refl }
+reaches_start input =
+    let answered : AreAnswered [] [] None = (refl, refl) in record { taken = []; lines = refl; answered = answered; run = run_of [] [] None answered; count = refl }
 
 -- one line more
 reaches_on : (input text xs ys line answer : List ℕ) (w after : Option State) (n : ℕ) → Reaches input text w n (lines_of xs) → lines_of xs ≡ line ∷ lines_of ys
     → n ≤ 1000000 → length line ≤ 32768 → GoesOn w line after answer → Reaches input (text ++ answer) after (n + 1) (lines_of ys)
 unfolding AreAnswered
-reaches_on input text xs ys line answer w after n r first few short goes = record {
-  taken = line ∷ r.taken;
-  lines = r.lines ∙ ap (λ q. reverse r.taken ++ q) first ∙ sym (ap (λ q. q ++ lines_of ys) (reverse-append (line ∷ []) r.taken) ∙ append_assoc (reverse r.taken) (line ∷ []) (lines_of ys));
-  answered = (w, text, answer, r.answered, omega (arith, r.count), short, goes, refl);
-  count = omega (arith, r.count);
-}
+reaches_on input text xs ys line answer w after n r first few short goes =
+    let answered : AreAnswered (line ∷ r.taken) (text ++ answer) after = (w, text, answer, r.answered, omega (arith, r.count), short, goes, refl) in
+    record {
+      taken = line ∷ r.taken;
+      lines = r.lines ∙ ap (λ q. reverse r.taken ++ q) first ∙ sym (ap (λ q. q ++ lines_of ys) (reverse-append (line ∷ []) r.taken) ∙ append_assoc (reverse r.taken) (line ∷ []) (lines_of ys));
+      answered = answered;
+      run = run_of (line ∷ r.taken) (text ++ answer) after answered;
+      count = omega (arith, r.count);
+    }
 
 -- the same, with other lines left, that are the same
 reaches_same : (input text : List ℕ) (w : Option State) (n : ℕ) (xs ys : List (List ℕ)) → xs ≡ ys → Reaches input text w n xs → Reaches input text w n ys

@@ -1,6 +1,9 @@
 pub mod OfCluster
 pub mod Schedule
 pub mod Status
+pub mod Complaint
 pub mod Writing
+pub mod RunTexts
 pub mod Text
+pub mod TextLaws
 pub mod Progress

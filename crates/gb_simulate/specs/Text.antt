@@ -3,6 +3,7 @@ use Rattle.std.specs.Prelude.{ℕ, ◌+◌, ◌≡◌, ◌≤◌, ◌<◌, ◌�
 use Rattle.gb_schedule.specs.Lines.{lines_of, IsLine}
 use Rattle.gb_schedule.specs.declared.lines.TheConstants.{LINE}
 use Rattle.gb_simulate.specs.OfCluster.{State}
+use Rattle.gb_simulate.specs.RunTexts.{TellsRun}
 use Rattle.gb_simulate.specs.Schedule.{GoesOn, IsBadLine, bad_line}
 use Rattle.gb_simulate.specs.declared.obey.TheConstants.{LINES}
 use Rattle.gb_simulate.specs.declared.outcome.BadLine.{BadLine as Reason}
@@ -18,11 +19,12 @@ AreAnswered (line ∷ lines) text w =
     (before : Option State) × (older : List ℕ) × (answer : List ℕ) × AreAnswered lines older before
     × (length lines < LINES) × (length line ≤ LINE) × GoesOn before line w answer × (text ≡ older ++ answer)
 
--- the lines before line n are answered by this text, the cluster is so, and these lines are left
+-- the lines before line n are answered by this text, which is that of a run; the cluster is so, and these lines are left
 pub record Reaches (input text : List ℕ) (w : Option State) (n : ℕ) (lines_left : List (List ℕ)) : Type 0 where
   pub taken : List (List ℕ)
   pub lines : lines_of input ≡ reverse taken ++ lines_left
   pub answered : AreAnswered taken text w
+  pub run : TellsRun taken text w
   pub count : n ≡ length taken + 1
 
 -- the whole text of a schedule: all lines are answered, or all before the first bad one, whose number is told

@@ -3,6 +3,8 @@
 #![tactic(auto)]
 
 pub mod answer_text;
+pub mod complaint;
+pub mod laws;
 pub mod obey;
 pub mod outcome;
 pub mod simulate;

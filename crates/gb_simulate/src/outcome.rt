@@ -8,19 +8,15 @@ use gb_types::memory::OutOfMemory;
 use thiserror::Error;
 
 /// Why a line is bad. Where it is too long, nothing else is asked; then whether there are too many.
-#[derive(Clone, Copy, Debug, PartialEq, Eq, Error)]
+#[derive(Clone, Copy, Debug, PartialEq, Eq)]
 pub enum BadLine {
     /// The line has more bytes than a line may have.
-    #[error("it is too long")]
     TooLong,
     /// There are more lines than a schedule may have.
-    #[error("there are too many lines")]
     TooMany,
     /// No cluster was started yet, and the line starts none.
-    #[error("it starts no cluster, and none was started before")]
     NoCluster,
     /// The line spells no command of the cluster that was started.
-    #[error("it spells no command of the cluster")]
     NoCommand,
 }
 

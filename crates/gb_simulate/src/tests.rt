@@ -1,5 +1,6 @@
 //! Whole schedules and their answers, over readers and writers in memory that give and take a text in pieces, and
 //! that fail.
+use crate::complaint::complain;
 use crate::outcome::{BadLine, SimEnd, SimFault};
 use crate::simulate::simulate;
 use gb_types::number::put_number;
@@ -260,6 +261,26 @@ const NOTICES_OF_ONE_TICK_COUNT_IN_TURN: Case = (
     SimEnd::All,
 );
 
+// The tenants: numbers 1 to 65,535, 1 to 256 groups, 1 to 1,024 messages, 0 to 65,536 bytes, a window of 1 to 1,024.
+const TENANTS_AT_THEIR_LIMITS: Case = (
+    "cluster 2 2\ntenant 0 0 4 8 4096 4\ntenant 0 7 0 8 4096 4\ntenant 0 7 257 8 4096 4\ntenant 0 7 4 0 4096 4\ntenant 0 7 4 1025 4096 4\ntenant 0 7 4 8 65537 4\ntenant 0 7 4 8 4096 0\ntenant 0 7 4 8 4096 1025\ntenant 0 65535 256 1024 65536 1024\ntenant 1 1 1 1 0 1\n",
+    "ok\nrefused 5 OverReserve\nrefused 5 OverReserve\nrefused 5 OverReserve\nrefused 5 OverReserve\nrefused 5 OverReserve\nrefused 5 OverReserve\nrefused 5 OverReserve\nrefused 5 OverReserve\nok\nok\n",
+    SimEnd::All,
+);
+
+// A group may have what its tenant may: of the tenants with the most and with the least.
+const GROUPS_AT_THEIR_LIMITS: Case = (
+    "cluster 2 2\ntenant 0 65535 256 1024 65536 1024\ntenant 1 1 1 1 0 1\nmake 0 65535 256 beb 0 8 4096 4\nmake 0 65535 255 beb 0,2 8 4096 4\nmake 0 65535 255 beb 0 0 4096 4\nmake 0 65535 255 beb 0 1025 4096 4\nmake 0 65535 255 beb 0 8 65537 4\nmake 0 65535 255 beb 0 8 4096 0\nmake 0 65535 255 beb 0 8 4096 1025\nmake 0 65535 255 beb 0,1 1024 65536 1024\nmake 1 1 1 beb 1 1 0 1\nmake 1 1 0 beb 1 2 0 1\nmake 1 1 0 beb 1 1 1 1\nmake 1 1 0 beb 1 1 0 2\nmake 1 1 0 beb 1 1 0 1\nopen 1 1 0\nsay 1 1 0 -\nsay 1 1 0 -\n",
+    "ok\nok\nok\nrefused 2 NoGroup\nrefused 4 BadMembers\nrefused 5 OverReserve\nrefused 5 OverReserve\nrefused 5 OverReserve\nrefused 5 OverReserve\nrefused 5 OverReserve\nok\nrefused 2 NoGroup\nrefused 5 OverReserve\nrefused 5 OverReserve\nrefused 5 OverReserve\nok\nok\nsaid 1\nrefused 8 Budget\n",
+    SimEnd::All,
+);
+
+const LAST_OF_SIXTEEN_NODES: Case = (
+    "cluster 16 2\ntenant 0 7 4 8 4096 4\nmake 0 7 1 beb 0,1,2,3,4,5,6,7,8,9,10,11,12,13,14,15 8 4096 4\nopen 0 7 1\ntenant 15 7 4 8 4096 4\nmake 15 7 1 beb 0,1,2,3,4,5,6,7,8,9,10,11,12,13,14,15 8 4096 4\nopen 15 7 1\nsay 15 7 1 68656c6c6f\npack 15 0\narrive 1\nfetch 0 7 1 0 16\ntick 0\ntick 0\n",
+    "ok\nok\nok\nok\nok\nok\nok\nsaid 1\npacket 1\ngood first 1 0\nlog 1 15:1:68656c6c6f\nnoticed -\nnoticed 1 2 3 4 5 6 7 8 9 10 11 12 13 14 15\n",
+    SimEnd::All,
+);
+
 /// Runs a schedule, by pieces of so many bytes.
 fn is_run(alloc: Global, case: &Case, piece: usize) -> Result<bool, SimFault> {
     let (schedule, answers, end) = *case;
@@ -310,6 +331,77 @@ fn worked_schedules_of_the_kinds(rt: HostRuntime) -> Result<(), Fail> {
     Ok(())
 }
 
+#[test]
+fn tenants_groups_and_nodes_at_their_limits(rt: HostRuntime) -> Result<(), Fail> {
+    for case in &[
+        TENANTS_AT_THEIR_LIMITS,
+        GROUPS_AT_THEIR_LIMITS,
+        LAST_OF_SIXTEEN_NODES,
+    ] {
+        assert!(rt; is_run(rt.alloc(), case, 100)?);
+    }
+    Ok(())
+}
+
+/// Whether a schedule is run to its end and has these answers.
+fn has_answers(alloc: Global, schedule: &[u8], answers: &[u8]) -> Result<bool, SimFault> {
+    let mut reader = Pieces {
+        text: schedule,
+        piece: 100,
+        fails: false,
+    };
+    let mut out = with_space(alloc, 1_000_000, 1_000);
+    let end = simulate(alloc, &mut reader, &mut out)?;
+    Ok(end == SimEnd::All && out.taken.as_slice() == answers)
+}
+
+// The last of 1,024 messages is said, and one more is refused.
+#[test]
+fn all_messages_of_a_member(rt: HostRuntime) -> Result<(), Fail> {
+    let alloc = rt.alloc();
+    let mut schedule = Vec::from_slice(
+        alloc,
+        b"cluster 1 2\ntenant 0 7 4 1024 65536 1024\nmake 0 7 1 beb 0 1024 65536 1024\nopen 0 7 1\n",
+    )?;
+    let mut answers = Vec::from_slice(alloc, b"ok\nok\nok\nok\n")?;
+    for number in 1..1_025u64 {
+        schedule.extend_from_slice(b"say 0 7 1 78\n")?;
+        answers.extend_from_slice(b"said ")?;
+        put_number(&mut answers, number)?;
+        answers.extend_from_slice(b"\n")?;
+    }
+    schedule.extend_from_slice(b"say 0 7 1 78\n")?;
+    answers.extend_from_slice(b"refused 8 Budget\n")?;
+    assert!(rt; has_answers(alloc, &schedule, &answers)?);
+    Ok(())
+}
+
+// A payload of 1,024 bytes is said and comes, and one of 1,025 is refused.
+#[test]
+fn the_longest_payload(rt: HostRuntime) -> Result<(), Fail> {
+    let alloc = rt.alloc();
+    let mut digits = Vec::new(alloc);
+    for _ in 0..1_024 {
+        digits.extend_from_slice(b"61")?;
+    }
+    let mut schedule = Vec::from_slice(
+        alloc,
+        b"cluster 2 2\ntenant 0 7 4 8 65536 4\nmake 0 7 1 beb 0,1 8 65536 4\nopen 0 7 1\ntenant 1 7 4 8 65536 4\nmake 1 7 1 beb 0,1 8 65536 4\nsay 0 7 1 ",
+    )?;
+    schedule.extend_from_slice(&digits)?;
+    schedule.extend_from_slice(b"61\nsay 0 7 1 ")?;
+    schedule.extend_from_slice(&digits)?;
+    schedule.extend_from_slice(b"\npack 0 1\narrive 1\nfetch 1 7 1 0 16\n")?;
+    let mut answers = Vec::from_slice(
+        alloc,
+        b"ok\nok\nok\nok\nok\nok\nrefused 7 TooLong\nsaid 1\npacket 1\ngood first 1 0\nlog 1 0:1:",
+    )?;
+    answers.extend_from_slice(&digits)?;
+    answers.extend_from_slice(b"\n")?;
+    assert!(rt; has_answers(alloc, &schedule, &answers)?);
+    Ok(())
+}
+
 // 64 frames that are not acknowledged fill a link; an acknowledgement of the first makes room for one more.
 #[test]
 fn a_window_of_64_frames(rt: HostRuntime) -> Result<(), Fail> {
@@ -333,21 +425,30 @@ fn a_window_of_64_frames(rt: HostRuntime) -> Result<(), Fail> {
     answers.extend_from_slice(
         b"said 65\nnothing\ngood first 1 0\npacket 65\ngood none 0 1\npacket 66\ngood first 1 0\n",
     )?;
-    let mut reader = Pieces {
-        text: schedule.as_slice(),
-        piece: 100,
-        fails: false,
-    };
-    let mut out = with_space(alloc, 1_000_000, 1_000);
-    assert!(rt; simulate(alloc, &mut reader, &mut out)? == SimEnd::All);
-    assert!(rt; out.taken.as_slice() == answers.as_slice());
+    assert!(rt; has_answers(alloc, &schedule, &answers)?);
     Ok(())
 }
 
 #[test]
 fn lines_at_their_edges(rt: HostRuntime) -> Result<(), Fail> {
-    let cases: [Case; 9] = [
+    let cases: [Case; 13] = [
         ("cluster 1 2", "ok\n", SimEnd::All),
+        ("cluster 16 1000", "ok\n", SimEnd::All),
+        (
+            "cluster 16 1001\n",
+            "bad line 1\n",
+            SimEnd::BadLine(1, BadLine::NoCluster),
+        ),
+        (
+            "cluster 1 1\n",
+            "bad line 1\n",
+            SimEnd::BadLine(1, BadLine::NoCluster),
+        ),
+        (
+            "cluster 0 2\n",
+            "bad line 1\n",
+            SimEnd::BadLine(1, BadLine::NoCluster),
+        ),
         ("\n# a comment\n\ncluster 1 2\n\n", "ok\n", SimEnd::All),
         (
             "\n# a comment\n\ncluster 1 2\ncluster 1 2\n",
@@ -497,5 +598,38 @@ fn the_line_after_the_last_that_is_allowed_is_bad(rt: HostRuntime) -> Result<(),
     let more = simulate(alloc, &mut LineFeeds { left: 1_000_001 }, &mut out)?;
     assert!(rt; more == SimEnd::BadLine(1_000_001, BadLine::TooMany));
     assert!(rt; out.taken.as_slice() == b"bad line 1000001\n".as_slice());
+    Ok(())
+}
+
+#[test]
+fn each_end_is_complained_of_in_its_line(rt: HostRuntime) -> Result<(), Fail> {
+    let alloc = rt.alloc();
+    let cases: [(Result<SimEnd, SimFault>, &str); 8] = [
+        (Ok(SimEnd::All), ""),
+        (
+            Ok(SimEnd::BadLine(18_446_744_073_709_551_615, BadLine::TooLong)),
+            "bad line 18446744073709551615: it is too long\n",
+        ),
+        (
+            Ok(SimEnd::BadLine(1_000_001, BadLine::TooMany)),
+            "bad line 1000001: there are too many lines\n",
+        ),
+        (
+            Ok(SimEnd::BadLine(1, BadLine::NoCluster)),
+            "bad line 1: it starts no cluster, and none was started before\n",
+        ),
+        (
+            Ok(SimEnd::BadLine(3, BadLine::NoCommand)),
+            "bad line 3: it spells no command of the cluster\n",
+        ),
+        (Err(SimFault::Read), "a read failed\n"),
+        (Err(SimFault::Write), "a write failed\n"),
+        (Err(SimFault::OutOfMemory), "out of memory\n"),
+    ];
+    for (outcome, line) in &cases {
+        let mut out = with_space(alloc, 1_000, 7);
+        complain(alloc, outcome, &mut out)?;
+        assert!(rt; out.taken.as_slice() == line.as_bytes());
+    }
     Ok(())
 }

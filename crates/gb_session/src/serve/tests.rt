@@ -164,3 +164,181 @@ fn a_failed_read_or_write_ends_the_session(rt: HostRuntime) -> Result<(), Fail> 
     assert!(rt; end == Err(SessionFault::Write));
     Ok(())
 }
+
+/// A request, as it stands in a stream.
+const OPEN: [u8; 77] =
+    *b"\x00\x00\x00\x49open 0000000000000000000000000000000000000000000000000000000000000000 7 1";
+
+/// The reply to it, as it stands in a stream.
+const DENIED: [u8; 20] = *b"\x00\x00\x00\x10refused 1 Denied";
+
+/// A message that spells no request.
+const HEY: &[u8] = b"\x00\x00\x00\x03hey";
+
+/// The same request, and a message behind it that spells no request.
+const OPEN_AND_HEY: &[u8] =
+    b"\x00\x00\x00\x49open 0000000000000000000000000000000000000000000000000000000000000000 7 1\x00\x00\x00\x03hey";
+
+/// What is told of a message that spells no request.
+const TOLD: &[u8] = b"\x00\x00\x00\x14refused 14 Malformed";
+
+/// Gives the request so many times, one a read, and then the last bytes in one read. Counts the reads.
+#[derive(Drop)]
+struct Requests<'a> {
+    left: u64,
+    last: &'a [u8],
+    reads: u64,
+}
+
+impl Read for Requests<'_> {
+    fn read(&mut self, buf: &mut [u8]) -> io::Result<usize> {
+        self.reads = self.reads.saturating_add(1);
+        let mut piece = OPEN.as_slice();
+        if self.left == 0 {
+            piece = self.last;
+            self.last = b"";
+        } else {
+            self.left -= 1;
+        }
+        let count = cmp::min(piece.len(), buf.len());
+        buf[..count].copy_from_slice(&piece[..count]);
+        Ok(count)
+    }
+}
+
+/// Gives so many bytes of the request, again and again, one a read. Counts the reads.
+#[derive(Drop)]
+struct Bytes {
+    left: u64,
+    reads: u64,
+}
+
+impl Read for Bytes {
+    fn read(&mut self, buf: &mut [u8]) -> io::Result<usize> {
+        let at = (self.reads % 77) as usize;
+        self.reads = self.reads.saturating_add(1);
+        if self.left == 0 || buf.is_empty() {
+            return Ok(0);
+        }
+        self.left -= 1;
+        buf[0] = OPEN[at];
+        Ok(1)
+    }
+}
+
+/// Is interrupted so many times, and then at its end.
+#[derive(Drop)]
+struct Interrupts {
+    left: u64,
+}
+
+impl Read for Interrupts {
+    fn read(&mut self, _buf: &mut [u8]) -> io::Result<usize> {
+        if self.left == 0 {
+            return Ok(0);
+        }
+        self.left -= 1;
+        Err(ErrorKind::Interrupted.into())
+    }
+}
+
+/// Counts the bytes that are as so many replies give them, and keeps the others.
+#[derive(Drop)]
+struct Replies {
+    left: u64,
+    bytes: u64,
+    others: Vec<u8>,
+}
+
+impl Write for Replies {
+    fn write(&mut self, buf: &[u8]) -> io::Result<usize> {
+        for byte in buf {
+            let at = (self.bytes % 20) as usize;
+            if self.left > 0 && DENIED[at] == *byte {
+                self.bytes = self.bytes.saturating_add(1);
+                self.left -= 1;
+            } else {
+                self.others.push(*byte)?;
+            }
+        }
+        Ok(buf.len())
+    }
+
+    fn flush(&mut self) -> io::Result<()> {
+        Ok(())
+    }
+}
+
+/// Where so many replies are expected.
+fn with_replies(alloc: Global, replies: u32) -> Replies {
+    Replies {
+        left: u64::from(replies) * 20,
+        bytes: 0,
+        others: Vec::new(alloc),
+    }
+}
+
+// The last of 1,000,000 requests is answered, and nothing behind it, also in the same read; no read is made then.
+#[test]
+fn a_session_answers_so_many_requests(rt: HostRuntime) -> Result<(), Fail> {
+    let alloc = rt.alloc();
+    let cases: [(&[u8], u32, &[u8], u64, SessionEnd); 3] = [
+        (b"", 999_999, b"", 1_000_000, SessionEnd::Finished),
+        (HEY, 999_999, TOLD, 1_000_000, SessionEnd::Malformed),
+        (OPEN_AND_HEY, 1_000_000, b"", 1_000_000, SessionEnd::Limit),
+    ];
+    for (last, replies, others, reads, end) in cases {
+        let mut reader = Requests {
+            left: 999_999,
+            last,
+            reads: 0,
+        };
+        let mut out = with_replies(alloc, replies);
+        let found = serve(alloc, &mut Denies, &mut reader, &mut out)?;
+        assert!(rt; found == end);
+        assert!(rt; out.left == 0);
+        assert!(rt; out.others.as_slice() == others);
+        assert_eq!(rt; reader.reads, reads);
+    }
+    Ok(())
+}
+
+// The 4,000,000th read may find the end; if it gives a byte, all before it is answered and no read is made.
+#[test]
+fn a_session_makes_so_many_reads(rt: HostRuntime) -> Result<(), Fail> {
+    let alloc = rt.alloc();
+    let cases: [(u64, u64, SessionEnd); 3] = [
+        (3_999_996, 3_999_997, SessionEnd::Finished),
+        (3_999_999, 4_000_000, SessionEnd::Cut),
+        (4_000_000, 4_000_000, SessionEnd::Limit),
+    ];
+    for (bytes, reads, end) in cases {
+        let mut reader = Bytes {
+            left: bytes,
+            reads: 0,
+        };
+        let mut out = with_replies(alloc, 51_948);
+        let found = serve(alloc, &mut Denies, &mut reader, &mut out)?;
+        assert!(rt; found == end);
+        assert!(rt; out.left == 0);
+        assert!(rt; out.others.is_empty());
+        assert_eq!(rt; reader.reads, reads);
+    }
+    Ok(())
+}
+
+#[test]
+fn a_read_is_made_again_so_many_times(rt: HostRuntime) -> Result<(), Fail> {
+    let alloc = rt.alloc();
+    let cases = [
+        (3_999_999, Ok(SessionEnd::Finished)),
+        (4_000_000, Err(SessionFault::Read)),
+    ];
+    for (left, end) in cases {
+        let mut out = with_replies(alloc, 0);
+        let found = serve(alloc, &mut Denies, &mut Interrupts { left }, &mut out);
+        assert!(rt; found == end);
+        assert!(rt; out.others.is_empty());
+    }
+    Ok(())
+}

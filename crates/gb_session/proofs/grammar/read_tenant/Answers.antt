@@ -1,4 +1,4 @@
-use Rattle.std.proofs.Common.{sym, ◌∙◌, arith}
+use Rattle.std.proofs.Common.{sym, arith}
 use Rattle.gb_types.proofs.ReadLemmas.{words_are}
 use Rattle.gb_session.proofs.RequestLemmas.{tenant_reads}
 use Rattle.gb_session.proofs.grammar.read_tenant.Goals as goal

@@ -1,0 +1,73 @@
+//! What is told of how a schedule ended.
+ghost use Rattle.std.specs.Prelude.{◌≡◌, ◌++◌, codes, decimal, ◌≢◌, OnOk};
+ghost use Rattle.std.specs.Io.KnownBytes.{Appends, Keeps};
+ghost use Rattle.gb_schedule.specs.Lines.{ended};
+ghost use Rattle.gb_simulate.specs.Complaint.{complaint, fault_words, reason_words};
+ghost use Rattle.gb_simulate.specs.Writing.{AppendsFront};
+ghost use Rattle.gb_simulate.specs.declared.outcome.SimFault.{SimFault as Fault};
+
+use crate::outcome::{BadLine, SimEnd, SimFault};
+use crate::writing::write_text;
+use gb_types::memory::OutOfMemory;
+use gb_types::number::put_number;
+use std::alloc::Global;
+use std::io::Write;
+
+/// Why a line is bad, in words.
+fn reason(why: BadLine) -> &'static [u8]
+    ensures { result.now ≡ reason_words why }
+{
+    match why {
+        BadLine::TooLong => b"it is too long",
+        BadLine::TooMany => b"there are too many lines",
+        BadLine::NoCluster => b"it starts no cluster, and none was started before",
+        BadLine::NoCommand => b"it spells no command of the cluster",
+    }
+}
+
+/// The line of a fault.
+fn fault_line(fault: SimFault) -> &'static [u8]
+    ensures { result.now ≡ ended (fault_words fault) }
+{
+    match fault {
+        SimFault::Read => b"a read failed\n",
+        SimFault::Write => b"a write failed\n",
+        SimFault::OutOfMemory => b"out of memory\n",
+    }
+}
+
+/// Appends the line that says which line is bad, and why.
+fn put_reason(text: &mut Vec<u8>, number: u64, why: BadLine) -> Result<(), OutOfMemory>
+    ensures { OnOk result (text.new.items ≡ text.old.items ++ complaint (Ok (SimEnd.BadLine number why))) }
+{
+    text.extend_from_slice(b"bad line ")?;
+    put_number(text, number)?;
+    text.extend_from_slice(b": ")?;
+    text.extend_from_slice(reason(why))?;
+    text.extend_from_slice(b"\n")?;
+    Ok(())
+}
+
+/// Writes the line that says what went wrong, and nothing where all lines were read. Only the line of a bad line takes
+/// memory.
+pub fn complain<W: Write>(
+    alloc: Global,
+    outcome: &Result<SimEnd, SimFault>,
+    writer: &mut W,
+) -> Result<(), SimFault>
+    ensures ok { OnOk result (Appends (W.contents writer.old) (W.contents writer.new) (complaint outcome.now)) }
+    ensures write { result ≡ Err SimFault.Write → AppendsFront (W.contents writer.old) (W.contents writer.new) (complaint outcome.now) }
+    ensures memory { result ≡ Err SimFault.OutOfMemory → Keeps (W.contents writer.old) (W.contents writer.new) }
+    ensures few { (fault : Fault) → outcome.now ≡ Err fault → result ≢ Err SimFault.OutOfMemory }
+    ensures no_read { result ≢ Err SimFault.Read }
+{
+    match outcome {
+        Ok(SimEnd::All) => Ok(()),
+        Ok(SimEnd::BadLine(number, why)) => {
+            let mut text = Vec::new(alloc);
+            put_reason(&mut text, *number, *why)?;
+            write_text(writer, &text)
+        }
+        Err(fault) => write_text(writer, fault_line(*fault)),
+    }
+}
