@@ -11,7 +11,9 @@ pub mod Examples
 pub mod Rule
 pub mod Limit
 pub mod Table
+pub mod Places
 pub mod Relay
+pub mod Pending
 pub mod RelayState
 pub mod RoomLemmas
 pub mod BebLemmas

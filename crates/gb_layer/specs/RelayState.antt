@@ -8,19 +8,19 @@ use Rattle.gb_layer.specs.declared.relay.Relay.{Relay}
 use Rattle.gb_layer.specs.Relay.{State, is_unsent, is_ungiven}
 
 -- what a relay remembers
-abbrev pub state_of : {S L R : Type 0} → (L → S) → Relay L R → State S
+abbrev pub state_of : {S L R : Type 0} {layer : _} {rule : _} → (L → S) → Relay L R layer rule → State S
 state_of meaning r = record { lower = meaning r.lower; members = r.members; noticed = r.noticed; entries = r.entries.list.items }
 
 -- how many messages were not sent from here yet
-abbrev pub unsent : {L R : Type 0} → Relay L R → ℕ
+abbrev pub unsent : {L R : Type 0} {layer : _} {rule : _} → Relay L R layer rule → ℕ
 unsent r = count_by is_unsent r.entries.list.items
 
 -- how many messages were not handed up yet
-abbrev pub ungiven : {L R : Type 0} → Relay L R → ℕ
+abbrev pub ungiven : {L R : Type 0} {layer : _} {rule : _} → Relay L R layer rule → ℕ
 ungiven r = count_by is_ungiven r.entries.list.items
 
 -- There is room for the next `calls` calls beside a free places for sends and b for pairs: each call may add an entry and make two calls below, and each message that is not sent yet one more.
-pub record HasRoom {L R : Type 0} (below : L → ℕ → ℕ → ℕ → Type 0) (r : Relay L R) (a b calls : ℕ) : Type 0 where
+pub record HasRoom {L R : Type 0} {layer : _} {rule : _} (below : L → ℕ → ℕ → ℕ → Type 0) (r : Relay L R layer rule) (a b calls : ℕ) : Type 0 where
   pub lower : below r.lower a (vec_capacity r.below) (calls + calls + unsent r)
   pub entries : vec_len r.entries.list + calls ≤ vec_capacity r.entries.list
   pub ups : ungiven r + calls ≤ b
@@ -34,7 +34,7 @@ abbrev pub relay_need : (Limit → Need) → Limit → Need
 relay_need need l = record { sends = (need (limit_below l)).sends; ups = message_count l + l.calls }
 
 -- A relay has the memory for all calls within the limit: so has the layer below, and what comes up there and all messages have their places. Its entries are of different messages within the limit.
-pub record IsWhole {L R : Type 0} (below_whole : L → Limit → Type 0) (below_need : Limit → Need) (r : Relay L R) (l : Limit) : Type 0 where
+pub record IsWhole {L R : Type 0} {layer : _} {rule : _} (below_whole : L → Limit → Type 0) (below_need : Limit → Need) (r : Relay L R layer rule) (l : Limit) : Type 0 where
   pub lower : below_whole r.lower (limit_below l)
   pub below : (below_need (limit_below l)).ups ≤ vec_capacity r.below
   pub capacity : message_count l + l.calls ≤ vec_capacity r.entries.list

@@ -25,6 +25,17 @@ module _ (width : ℕ) (table : List ℕ) (m : MsgId) (v : ℕ) (is : told width
       let n : nat_eq v (i + 1) ≡ true = ap (λ o. says o (i + 1)) (sym is) ∙ k in
       eqb-true v (i + 1) n
 
+  -- an entry of m stands where the table leads
+  pub stands_there : (es : List Entry) (i j : ℕ) (d : Entry) → slice_get es j ≡ Some d → is_for m d ≡ true → leads width table i (keys es) ≡ true → v ≡ i + j + 1
+  stands_there [] i j d at t h = cc
+  stands_there (x ∷ es) i zero d at t h =
+      let same : x ≡ d = cc in
+      let e : i + 1 ≡ i + 0 + 1 = omega arith in
+      here x i (ap (is_for m) same ∙ t) (and-first _ _ h) ∙ e
+  stands_there (x ∷ es) i (suc j) d at t h =
+      let e : i + 1 + j + 1 ≡ i + suc j + 1 = omega arith in
+      stands_there es (i + 1) j d at t (and-second _ _ h) ∙ e
+
   module _ (f : Entry → Entry) (leaves : (e : Entry) → is_for m e ≡ false → f e ≡ e) where
     -- where the table leads to no place, a change of m changes nothing
     pub map_nowhere : (es : List Entry) (i : ℕ) → (v ≤ i) ⊎ (i + length es < v) → leads width table i (keys es) ≡ true → map f es ≡ es

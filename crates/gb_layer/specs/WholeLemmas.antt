@@ -79,11 +79,11 @@ length-keys : (es : List Entry) → length (keys es) ≡ length es
 length-keys [] = refl
 length-keys (e ∷ es) = ap suc (length-keys es)
 
-module _ {L R : Type 0} (below : L → ℕ → ℕ → ℕ → Type 0) (roomier : (x : L) (a b n a' b' n' : ℕ) → a ≤ a' → b ≤ b' → n' ≤ n → below x a b n → below x a' b' n')
+module _ {L R : Type 0} {layer : _} {rule : _} (below : L → ℕ → ℕ → ℕ → Type 0) (roomier : (x : L) (a b n a' b' n' : ℕ) → a ≤ a' → b ≤ b' → n' ≤ n → below x a b n → below x a' b' n')
     (below_whole : L → Limit → Type 0) (below_need : Limit → Need)
     (law : (x : L) (l : Limit) (a b : ℕ) → below_whole x l → (below_need l).sends ≤ a → (below_need l).ups ≤ b → below x a b l.calls) where
   -- a relay that has its memory has room
-  pub relay_whole_room : (r : Relay L R) (l : Limit) (a b : ℕ) → IsWhole below_whole below_need r l → (relay_need below_need l).sends ≤ a → (relay_need below_need l).ups ≤ b → HasRoom below r a b l.calls
+  pub relay_whole_room : (r : Relay L R layer rule) (l : Limit) (a b : ℕ) → IsWhole below_whole below_need r l → (relay_need below_need l).sends ≤ a → (relay_need below_need l).ups ≤ b → HasRoom below r a b l.calls
   relay_whole_room r l a b w h k =
       let n = no_more_messages l (keys r.entries.list.items) w.counted w.once in
       let len = length-keys r.entries.list.items in
@@ -98,9 +98,9 @@ module _ {L R : Type 0} (below : L → ℕ → ℕ → ℕ → Type 0) (roomier 
         ups = omega (arith, n, len, g, k);
       }
 
-module _ {L R : Type 0} (below_whole : L → Limit → Type 0) (below_need : Limit → Need) where
+module _ {L R : Type 0} {layer : _} {rule : _} (below_whole : L → Limit → Type 0) (below_need : Limit → Need) where
   -- what keeps the messages and the memory keeps a relay so
-  pub whole_kept : (r r' : Relay L R) (l : Limit) → (below_whole r.lower (limit_below l) → below_whole r'.lower (limit_below l)) → vec_capacity r.below ≤ vec_capacity r'.below → vec_capacity r.entries.list ≤ vec_capacity r'.entries.list
+  pub whole_kept : (r r' : Relay L R layer rule) (l : Limit) → (below_whole r.lower (limit_below l) → below_whole r'.lower (limit_below l)) → vec_capacity r.below ≤ vec_capacity r'.below → vec_capacity r.entries.list ≤ vec_capacity r'.entries.list
       → keys r'.entries.list.items ≡ keys r.entries.list.items → IsWhole below_whole below_need r l → IsWhole below_whole below_need r' l
   whole_kept r r' l f b c k w =
       let wb = w.below in
@@ -114,7 +114,7 @@ module _ {L R : Type 0} (below_whole : L → Limit → Type 0) (below_need : Lim
       }
 
   -- one more message within the limit
-  pub whole_noted : (r r' : Relay L R) (l : Limit) (m : MsgId) → (below_whole r.lower (limit_below l) → below_whole r'.lower (limit_below l)) → vec_capacity r.below ≤ vec_capacity r'.below → vec_capacity r.entries.list ≤ vec_capacity r'.entries.list
+  pub whole_noted : (r r' : Relay L R layer rule) (l : Limit) (m : MsgId) → (below_whole r.lower (limit_below l) → below_whole r'.lower (limit_below l)) → vec_capacity r.below ≤ vec_capacity r'.below → vec_capacity r.entries.list ≤ vec_capacity r'.entries.list
       → keys r'.entries.list.items ≡ keys (noted r.entries.list.items m) → is_counted l m ≡ true → IsWhole below_whole below_need r l → IsWhole below_whole below_need r' l
   whole_noted r r' l m f b c k h w =
       let wb = w.below in
@@ -128,7 +128,7 @@ module _ {L R : Type 0} (below_whole : L → Limit → Type 0) (below_need : Lim
       }
 
   -- a relay that was told nothing, with its memory
-  whole_at_start : (r : Relay L R) (l : Limit) → below_whole r.lower (limit_below l) → (below_need (limit_below l)).ups ≤ vec_capacity r.below → message_count l + l.calls ≤ vec_capacity r.entries.list → r.entries.list.items ≡ [] → IsWhole below_whole below_need r l
+  whole_at_start : (r : Relay L R layer rule) (l : Limit) → below_whole r.lower (limit_below l) → (below_need (limit_below l)).ups ≤ vec_capacity r.below → message_count l + l.calls ≤ vec_capacity r.entries.list → r.entries.list.items ≡ [] → IsWhole below_whole below_need r l
   unfolding IsDistinct
   whole_at_start r l f b c e = record {
     lower = f;
@@ -139,7 +139,7 @@ module _ {L R : Type 0} (below_whole : L → Limit → Type 0) (below_need : Lim
   }
 
   -- what the layer below answered is what the relay answers
-  pub whole_made : {A E : Type 0} (made : Result A E) (r : Relay L R) (l : Limit) (n free : ℕ) → n ≡ (limit_below l).calls → free ≤ vec_capacity r.below → message_count l + l.calls ≤ vec_capacity r.entries.list → r.entries.list.items ≡ []
+  pub whole_made : {A E : Type 0} (made : Result A E) (r : Relay L R layer rule) (l : Limit) (n free : ℕ) → n ≡ (limit_below l).calls → free ≤ vec_capacity r.below → message_count l + l.calls ≤ vec_capacity r.entries.list → r.entries.list.items ≡ []
       → OnOk made (below_whole r.lower (in_calls l n)) → OnOk made ((below_need (in_calls l n)).ups ≤ free) → OnOk made (IsWhole below_whole below_need r l)
   whole_made (Ok x) r l n free e h c empty w b =
       let k : (below_need (limit_below l)).ups ≤ free = subst (λ (n : ℕ). (below_need (in_calls l n)).ups ≤ free) e b in

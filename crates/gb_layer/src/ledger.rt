@@ -3,11 +3,12 @@ ghost use Rattle.std.specs.Prelude.{◌≡◌, ◌+◌, ◌≤◌, ◌<◌, ◌&
 ghost use Rattle.std.specs.List.{list_any};
 ghost use Rattle.std.specs.declared.option.Option.TheVariants.{None};
 ghost use Rattle.gb_layer.specs.EntryLemmas.{keys};
-ghost use Rattle.gb_layer.specs.Relay.{is_for, is_sent, new_entry, held, taken_in, is_unsent, is_ungiven, marked_sent, noted};
+ghost use Rattle.gb_layer.specs.Places.{StandsAmong};
+ghost use Rattle.gb_layer.specs.Relay.{is_for, is_sent, new_entry, held, is_unsent, is_ungiven, marked_sent, noted};
 ghost use Rattle.gb_layer.specs.Table.{told, covers, spot, leads, IsNowhere, IsThere};
 
-use crate::effects::Up;
 use crate::entries::{Entry, has_entry, hold_in, hold_one, mark_one, mark_sent, was_sent};
+use crate::places::Places;
 use gb_types::limits::NODES;
 use gb_types::memory::OutOfMemory;
 use gb_types::message::MsgId;
@@ -87,6 +88,22 @@ impl Ledger {
         Some(v - 1)
     }
 
+    /// Where an entry of m may stand.
+    pub fn places(&self, m: MsgId) -> Places
+        ensures { StandsAmong (is_for m) result.from result.to self.now.list.items }
+    {
+        match self.told(m) {
+            Some(v) => match self.place(v) {
+                Some(k) => Places { from: k, to: k + 1 },
+                None => Places { from: 0, to: 0 },
+            },
+            None => Places {
+                from: 0,
+                to: self.list.len(),
+            },
+        }
+    }
+
     /// Whether there is an entry of m.
     pub fn has(&self, m: MsgId) -> bool
         ensures { result ≡ list_any (is_for m) self.now.list.items }
@@ -145,17 +162,6 @@ impl Ledger {
                 None => {}
             },
             None => hold_in(&mut self.list, me, via, m),
-        }
-    }
-
-    /// Writes down who holds what came up below.
-    pub fn take_in(&mut self, me: NodeId, ups: &[Up])
-        ensures items { self.new.list.items ≡ taken_in me ups.now self.old.list.items }
-        ensures len { vec_len self.new.list ≡ vec_len self.old.list }
-        ensures capacity { vec_capacity self.new.list ≡ vec_capacity self.old.list }
-    {
-        for up in ups {
-            self.hold(me, up.via, up.m);
         }
     }
 

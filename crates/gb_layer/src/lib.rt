@@ -22,6 +22,8 @@ pub mod examples;
 pub mod layer;
 pub mod ledger;
 pub mod modules;
+pub mod pending;
+pub mod places;
 pub mod plain;
 pub mod relay;
 pub mod relays;

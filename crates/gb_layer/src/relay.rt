@@ -2,19 +2,20 @@
 ghost use Rattle.std.specs.Prelude.{◌≡◌, ℕ, ◌+◌, ◌≤◌, ◌<◌, [], ◌∷◌, ◌++◌, slice_get, vec_len, vec_capacity, OnOk, IfSome, count_by, map, filter, true};
 ghost use Rattle.gb_layer.specs.declared.call.Call.TheVariants.{Say, Came};
 ghost use Rattle.gb_layer.specs.Room.{free_sends, free_ups};
+ghost use Rattle.gb_layer.specs.Pending.{is_pending};
+ghost use Rattle.gb_layer.specs.Places.{StandsAmong};
 ghost use Rattle.gb_layer.specs.Relay.{State, IsNew, IsEmpty, at_start, is_unsent, is_ungiven, marked_sent, call_below, due_to_relay, due_to_deliver, due_message, relay_if, relay_if_sends, relayed, relayed_sends, begun, begun_sends, given, given_ups, is_repeat, relay_next, relay_gives, handed, up_of};
 ghost use Rattle.gb_layer.specs.Limit.{Limit, is_counted, is_within, message_count};
-ghost use Rattle.gb_layer.specs.WholeLemmas.{relay_whole_room};
 ghost use Rattle.gb_layer.specs.RelayLemmas.{relay_me_stays, relay_noticed_once, relay_own};
 ghost use Rattle.gb_layer.specs.RelayOnceLemmas.{relay_sends_handed_in, relay_ups_handed_in, relay_up_once, relay_sent_once};
-ghost use Rattle.gb_layer.specs.RelayState.{state_of, HasRoom, IsWhole, limit_below, relay_need, unsent, ungiven};
-ghost use Rattle.gb_layer.specs.RoomLemmas.{relay_roomier};
 
 use crate::call::Call;
 use crate::effects::{Effects, Up};
 use crate::entries::Entry;
 use crate::layer::{Broadcast, Layer};
 use crate::ledger::Ledger;
+use crate::pending::{add_pending, is_due, is_ready, take_in};
+use crate::places::Places;
 use crate::rule::Rule;
 use gb_types::memory::OutOfMemory;
 use gb_types::message::MsgId;
@@ -28,7 +29,7 @@ use std::mem;
 ///
 /// Over `Beb` this is the module of broadcast whose tests the rule has: see `relays::relays`.
 #[derive(Drop)]
-pub struct Relay<L, R> {
+pub struct Relay<L: Layer, R: Rule> {
     lower: L,
     rule: R,
     members: NodeSet,
@@ -37,26 +38,9 @@ pub struct Relay<L, R> {
     entries: Ledger,
     /// What the last call of the layer below brought up.
     below: Vec<Up>,
-}
-
-/// Whether a message is here and is to be relayed.
-fn is_due<R: Rule>(entry: &Entry, rule: &R, me: NodeId, noticed: &NodeSet) -> bool
-    ensures { result ≡ due_to_relay R.rules me noticed.now entry.now }
-{
-    !entry.sent && (entry.holders.contains(me) && rule.broadcasts(me, noticed, entry.m))
-}
-
-/// Whether a message is here and is to be handed up.
-fn is_ready<R: Rule>(
-    entry: &Entry,
-    rule: &R,
-    me: NodeId,
-    members: &NodeSet,
-    noticed: &NodeSet,
-) -> bool
-    ensures { result ≡ due_to_deliver R.rules me members.now noticed.now entry.now }
-{
-    !entry.given && (entry.holders.contains(me) && rule.delivers(members, noticed, &entry.holders))
+    /// Where those of the entries stand that are due, if any are: each call but a notice looks at these alone.
+    pending: Places,
+    ghost pending_stands: { StandsAmong (is_pending R.rules (L.me (L.meaning lower)) members noticed) pending.from pending.to entries.list.items },
 }
 
 /// Hands up one message, where it is to be.
@@ -83,16 +67,18 @@ fn deliver_one<R: Rule>(
     }
 }
 
-/// Hands up everything that is to be.
+/// Hands up everything that is to be, which stands at these places.
 fn deliver_all<R: Rule>(
     entries: &mut Vec<Entry>,
+    places: Places,
     rule: &R,
     me: NodeId,
     members: &NodeSet,
     noticed: &NodeSet,
     out: &mut Effects,
 )
-    requires { count_by is_ungiven entries.old.items ≤ free_ups out.old }
+    requires places { StandsAmong (due_to_deliver R.rules me members.now noticed.now) places.from places.to entries.old.items }
+    requires room { count_by is_ungiven entries.old.items ≤ free_ups out.old }
     ensures items { entries.new.items ≡ map (handed (due_to_deliver R.rules me members.now noticed.now)) entries.old.items }
     ensures ups { out.new.ups.items ≡ out.old.ups.items ++ map up_of (filter (due_to_deliver R.rules me members.now noticed.now) entries.old.items) }
     ensures sends { out.new.sends ≡ out.old.sends }
@@ -102,21 +88,23 @@ fn deliver_all<R: Rule>(
     ensures sends_memory { vec_capacity out.new.sends ≡ vec_capacity out.old.sends }
     ensures ups_memory { vec_capacity out.old.ups ≤ vec_capacity out.new.ups }
 {
-    for i in 0..entries.len() {
+    for i in places.from..places.to.min(entries.len()) {
         deliver_one(&mut entries[i], rule, me, members, noticed, out);
     }
 }
 
-/// Hands up everything that is to be.
+/// Hands up everything that is to be, which stands at these places.
 fn deliver_in<R: Rule>(
     ledger: &mut Ledger,
+    places: Places,
     rule: &R,
     me: NodeId,
     members: &NodeSet,
     noticed: &NodeSet,
     out: &mut Effects,
 )
-    requires { count_by is_ungiven ledger.old.list.items ≤ free_ups out.old }
+    requires places { StandsAmong (due_to_deliver R.rules me members.now noticed.now) places.from places.to ledger.old.list.items }
+    requires room { count_by is_ungiven ledger.old.list.items ≤ free_ups out.old }
     ensures items { ledger.new.list.items ≡ map (handed (due_to_deliver R.rules me members.now noticed.now)) ledger.old.list.items }
     ensures ups { out.new.ups.items ≡ out.old.ups.items ++ map up_of (filter (due_to_deliver R.rules me members.now noticed.now) ledger.old.list.items) }
     ensures sends { out.new.sends ≡ out.old.sends }
@@ -126,10 +114,12 @@ fn deliver_in<R: Rule>(
     ensures sends_memory { vec_capacity out.new.sends ≡ vec_capacity out.old.sends }
     ensures ups_memory { vec_capacity out.old.ups ≤ vec_capacity out.new.ups }
 {
-    deliver_all(&mut ledger.list, rule, me, members, noticed, out);
+    deliver_all(&mut ledger.list, places, rule, me, members, noticed, out);
 }
 
 impl<L: Layer, R: Rule> Relay<L, R> {
+    ghost use Rattle.gb_layer.specs.RelayState.{state_of, IsWhole, limit_below, unsent, ungiven};
+
     /// A relay over a layer, by a rule, in a group with these members, that was told nothing yet.
     pub fn new(alloc: Global, lower: L, rule: R, members: NodeSet) -> Relay<L, R>
         ensures meaning { ⟦<Relay<L, R> as Layer>⟧.meaning result ≡ at_start (L.meaning lower) members }
@@ -142,6 +132,7 @@ impl<L: Layer, R: Rule> Relay<L, R> {
             noticed: NodeSet::new(),
             entries: Ledger::new(alloc),
             below: Vec::new(alloc),
+            pending: Places { from: 0, to: 0 },
         }
     }
 
@@ -164,7 +155,15 @@ impl<L: Layer, R: Rule> Relay<L, R> {
         let me = self.lower.me();
         self.lower.take(call, out);
         mem::swap(&mut out.ups, &mut self.below);
-        self.entries.take_in(me, &self.below);
+        take_in(
+            &mut self.entries,
+            &self.rule,
+            me,
+            &self.members,
+            &self.noticed,
+            &self.below,
+            &mut self.pending,
+        );
     }
 
     /// The message of the entry at i, where it is to be relayed.
@@ -216,7 +215,10 @@ impl<L: Layer, R: Rule> Relay<L, R> {
         ensures sends_memory { vec_capacity out.old.sends ≤ vec_capacity out.new.sends }
     {
         let count = self.entries.list.len();
-        for i in 0..count {
+        for i in self.pending.from..count {
+            if i >= self.pending.to {
+                return;
+            }
             self.relay_at(i, out);
         }
     }
@@ -278,6 +280,10 @@ impl<L: Layer, R: Rule> Relay<L, R> {
             Call::Say(m) => self.begin_say(m, out),
             Call::Came(from, m) => self.begin_came(from, m, out),
             Call::Notice(who) => {
+                self.pending = Places {
+                    from: 0,
+                    to: self.entries.list.len(),
+                };
                 self.noticed.insert(who);
                 self.call_lower(Call::Notice(who), out);
             }
@@ -301,13 +307,25 @@ impl<L: Layer, R: Rule> Relay<L, R> {
     {
         self.relay_all(out);
         let me = self.lower.me();
+        let places = self.pending;
         deliver_in(
             &mut self.entries,
+            places,
             &self.rule,
             me,
             &self.members,
             &self.noticed,
             out,
+        );
+        self.pending = Places { from: 0, to: 0 };
+        add_pending(
+            &self.entries.list,
+            places,
+            &self.rule,
+            me,
+            &self.members,
+            &self.noticed,
+            &mut self.pending,
         );
     }
 
@@ -365,6 +383,10 @@ impl<L: Layer, R: Rule> Relay<L, R> {
 }
 
 impl<L: Layer, R: Rule> Layer for Relay<L, R> {
+    ghost use Rattle.gb_layer.specs.RelayState.{state_of, HasRoom, IsWhole, relay_need};
+    ghost use Rattle.gb_layer.specs.RoomLemmas.{relay_roomier};
+    ghost use Rattle.gb_layer.specs.WholeLemmas.{relay_whole_room};
+
     ghost State = { State L.State };
 
     ghost meaning = { state_of L.meaning };

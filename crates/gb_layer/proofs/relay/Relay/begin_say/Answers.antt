@@ -6,6 +6,11 @@ use Rattle.gb_layer.proofs.CountedLemmas.{marked_no_more}
 use Rattle.std.proofs.Common.{rules}
 use Rattle.gb_layer.specs.EntryLemmas.{keys, keys_marked}
 use Rattle.gb_layer.specs.WholeLemmas.{whole_noted}
+use Rattle.std.proofs.Common.{List, sym, subst}
+use Rattle.gb_layer.specs.declared.entries.Entry.{Entry}
+use Rattle.gb_layer.specs.Places.{StandsAmong}
+use Rattle.gb_layer.specs.Pending.{is_pending}
+use Rattle.gb_layer.proofs.PendingLemmas.{pending_noted, pending_marked}
 use Rattle.gb_layer.proofs.relay.Relay.begin_say.Goals as goal
 
 pub returns-then-not-was_sent-clause-room : goal.returns-then-not-was_sent-clause-room
@@ -23,3 +28,14 @@ returns-then-not-was_sent-clause-whole g c = λ l w h.
     c.call_lower.ensures.whole l
     (whole_noted g.L.Layer.is_whole g.L.Layer.need c.args.self.now _ l c.args.m (λ k. k) (omega arith) (search rules)
     (ap keys c.mark_sent.ensures.items ∙ (keys_marked c.args.m c.note.new.self.list.items ∙ ap keys c.note.ensures.items)) h w) h
+
+pub invariant_of-self : goal.invariant_of-self
+invariant_of-self g c =
+    let r = c.args.self.now in
+    let me = g.L.Layer.me (g.L.Layer.meaning r.lower) in
+    let rules = g.R.Rule.rules in
+    let P = λ (xs : List Entry). StandsAmong (is_pending rules me r.members r.noticed) r.pending.from r.pending.to xs in
+    record {
+      pending_stands = subst P (sym c.mark_sent.ensures.items) (pending_marked rules me r.members r.noticed c.args.m r.pending.from r.pending.to c.note.new.self.list.items
+          (subst P (sym c.note.ensures.items) (pending_noted rules me r.members r.noticed c.args.m r.pending.from r.pending.to r.entries.list.items r.pending_stands)));
+    }

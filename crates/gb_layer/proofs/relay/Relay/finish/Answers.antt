@@ -6,6 +6,12 @@ use Rattle.gb_layer.proofs.CountedLemmas.{handed_unsent}
 use Rattle.std.proofs.Common.{rules}
 use Rattle.gb_layer.specs.EntryLemmas.{keys, keys_handed}
 use Rattle.gb_layer.specs.WholeLemmas.{whole_kept}
+use Rattle.std.proofs.Common.{List, sym, subst, slice_get}
+use Rattle.gb_types.specs.declared.node.NodeId.{NodeId}
+use Rattle.gb_layer.specs.declared.entries.Entry.{Entry}
+use Rattle.gb_layer.specs.Places.{StandsAmong}
+use Rattle.gb_layer.specs.Pending.{is_pending}
+use Rattle.gb_layer.proofs.PendingLemmas.{delivers_among, pending_handed}
 use Rattle.gb_layer.proofs.relay.Relay.finish.Goals as goal
 
 pub returns-clause-room : goal.returns-clause-room
@@ -22,3 +28,27 @@ returns-clause-whole g c = λ l w.
     let due = due_to_deliver g.R.Rule.rules c.me-me.result c.relay_all.new.self.members c.relay_all.new.self.noticed in
     whole_kept g.L.Layer.is_whole g.L.Layer.need c.relay_all.new.self _ l (λ k. k) (omega arith) (search rules)
     (ap keys c.deliver_in.ensures.items ∙ keys_handed due c.relay_all.new.self.entries.list.items) (c.relay_all.ensures.whole l w)
+
+pub deliver_in-requires-clause-places : goal.deliver_in-requires-clause-places
+deliver_in-requires-clause-places g c =
+    let s = c.relay_all.new.self in
+    let rules = g.R.Rule.rules in
+    let es = s.entries.list.items in
+    delivers_among rules c.me-me.result s.members s.noticed s.pending.from s.pending.to es
+    (subst (λ (me : NodeId). StandsAmong (is_pending rules me s.members s.noticed) s.pending.from s.pending.to es) (sym c.me-me.ensures) s.pending_stands)
+
+pub invariant_of-self : goal.invariant_of-self
+invariant_of-self g c =
+    let s = c.relay_all.new.self in
+    let rules = g.R.Rule.rules in
+    let es = s.entries.list.items in
+    let stands = subst (λ (me : NodeId). StandsAmong (is_pending rules me s.members s.noticed) s.pending.from s.pending.to es) (sym c.me-me.ensures) s.pending_stands in (
+      (c.deliver_in.new.ledger.leads, tt),
+      (
+        (λ k e at h.
+            let h' = ap (λ (me : NodeId). is_pending rules me s.members s.noticed e) c.me-me.ensures ∙ h in
+            let among = pending_handed rules c.me-me.result s.members s.noticed s.pending.from s.pending.to es stands k e (ap (λ (xs : List Entry). slice_get xs k) (sym c.deliver_in.ensures.items) ∙ at) h' in
+            c.add_pending.ensures.added k e (ap (λ (xs : List Entry). slice_get xs k) c.deref.ensures.value ∙ at) h' among),
+        tt,
+      ),
+    )

@@ -7,6 +7,11 @@ use Rattle.std.proofs.Common.{rules}
 use Rattle.gb_layer.specs.EntryLemmas.{keys, keys_marked}
 use Rattle.gb_layer.specs.RelayState.{state_of}
 use Rattle.gb_layer.specs.WholeLemmas.{whole_kept, due_counted}
+use Rattle.std.proofs.Common.{List, sym, subst}
+use Rattle.gb_layer.specs.declared.entries.Entry.{Entry}
+use Rattle.gb_layer.specs.Places.{StandsAmong}
+use Rattle.gb_layer.specs.Pending.{is_pending}
+use Rattle.gb_layer.proofs.PendingLemmas.{pending_marked}
 use Rattle.gb_layer.proofs.relay.Relay.relay_at.Goals as goal
 
 pub call_lower-requires : goal.call_lower-requires
@@ -35,3 +40,12 @@ returns-in-Some-clause-whole g c = λ l w.
     c.call_lower.ensures.whole l
     (whole_kept L.is_whole L.need c.args.self.now _ l (λ k. k) (omega arith) (search rules) (ap keys c.mark_sent.ensures.items ∙ keys_marked c.in-Some.m c.args.self.now.entries.list.items) w)
     (due_counted L.next L.gives L.me g.R.Rule.rules (state_of L.meaning c.args.self.now) l c.args.i c.in-Some.m c.in-Some.ensures.message w.counted)
+
+pub invariant_of-self : goal.invariant_of-self
+invariant_of-self g c =
+    let r = c.args.self.now in
+    let me = g.L.Layer.me (g.L.Layer.meaning r.lower) in
+    record {
+      pending_stands = subst (λ (xs : List Entry). StandsAmong (is_pending g.R.Rule.rules me r.members r.noticed) r.pending.from r.pending.to xs) (sym c.mark_sent.ensures.items)
+          (pending_marked g.R.Rule.rules me r.members r.noticed c.in-Some.m r.pending.from r.pending.to r.entries.list.items r.pending_stands);
+    }

@@ -1,0 +1,184 @@
+-- Where the entries that are due stand: what each change leaves of that, and what a pass over these places alone does.
+use Rattle.std.proofs.Common.{◌≡◌, ℕ, ◌+◌, ◌-◌, ◌≤◌, ◌<◌, Bool, true, false, cond, ◌&&◌, ◌||◌, nat_lt, nat_le, List, [], ◌∷◌, ◌++◌, length, map, slice_get, get_or, refl, ap, ◌∙◌, sym, arith, zero, suc}
+use Rattle.std.specs.declared.option.Option.{Option}
+use Rattle.std.specs.declared.option.Option.TheVariants.{None, Some}
+use Rattle.std.specs.List.{list_any}
+use Rattle.std.specs.Ordering.{nat_cmp}
+use Rattle.std.specs.FinSet as set
+use Rattle.std.proofs.lemmas.Bool.Decides.{nat_tests}
+use Rattle.std.proofs.lemmas.Option.{slice_get-get_or}
+use Rattle.gb_types.specs.declared.node.NodeId.{NodeId}
+use Rattle.gb_types.specs.declared.message.MsgId.{MsgId}
+use Rattle.gb_layer.specs.declared.call.Call.{Call}
+use Rattle.gb_layer.specs.declared.entries.Entry.{Entry}
+use Rattle.gb_layer.specs.Bools.{or_first, or_second}
+use Rattle.gb_layer.specs.Machine.{Gives}
+use Rattle.gb_layer.specs.Places.{IsAmong, StandsAmong}
+use Rattle.gb_layer.specs.Rule.{Nodes, Rules}
+use Rattle.gb_layer.specs.Relay.{State, is_for, new_entry, noted, held, sent_entry, given_entry, marked_sent, handed, due_to_relay, due_to_deliver, wants_relay, due_message, relay_any, relay_any_sends, relay_from, relay_from_sends}
+use Rattle.gb_layer.specs.Pending.{is_pending}
+use Rattle.gb_layer.specs.TableLemmas.{not_held}
+
+-- what stands at a place of a list that was changed throughout
+get_map : {X Y : Type 0} (f : X → Y) (xs : List X) (k : ℕ) (y : Y) → slice_get (map f xs) k ≡ Some y → (x : X) × (slice_get xs k ≡ Some x) × (y ≡ f x)
+get_map f [] k y h = cc
+get_map f (x ∷ xs) zero y h = (x, refl, cc)
+get_map f (x ∷ xs) (suc k) y h = get_map f xs k y h
+
+pub get_within : {X : Type 0} (xs : List X) (k : ℕ) (x : X) → slice_get xs k ≡ Some x → k < length xs
+get_within [] k x h = cc
+get_within (y ∷ xs) zero x h = omega arith
+get_within (y ∷ xs) (suc k) x h = let lt : k < length xs = get_within xs k x h in omega (arith, lt)
+
+-- what an index reads is what stands there
+pub at_place : {X : Type 0} (xs : List X) (i k : ℕ) (x y : X) → slice_get xs i ≡ Some x → i ≡ k → k < length xs → y ≡ get_or xs k y → x ≡ y
+at_place xs i k x y at same lt is =
+    let e : Some x ≡ Some (get_or xs k y) = sym at ∙ (ap (slice_get xs) same ∙ slice_get-get_or xs k y lt) in cc
+
+-- a stronger test, and a change that makes none pass
+pub among_weaker : {X : Type 0} (p q : X → Bool) → ((x : X) → q x ≡ true → p x ≡ true) → (from to : ℕ) (xs : List X) → StandsAmong p from to xs → StandsAmong q from to xs
+among_weaker p q f from to xs s k x at h = s k x at (f x h)
+
+pub among_map : {X : Type 0} (p : X → Bool) (f : X → X) → ((x : X) → p (f x) ≡ true → p x ≡ true) → (from to : ℕ) (xs : List X) → StandsAmong p from to xs → StandsAmong p from to (map f xs)
+among_map p f back from to xs s k y at h = let g = get_map f xs k y at in s k g.0 g.1 (back g.0 (ap p (sym g.2) ∙ h))
+
+-- elsewhere none passes
+pub fails_elsewhere : {X : Type 0} (p : X → Bool) (from to : ℕ) (xs : List X) → StandsAmong p from to xs → (k : ℕ) (x : X) → (IsAmong from to k → ⊥) → slice_get xs k ≡ Some x → p x ≡ false
+fails_elsewhere p from to xs s k x out at =
+    elim (p x) as (λ b. p x ≡ b → b ≡ false) [
+      | true ↦ λ h. absurd (out (s k x at h))
+      | false ↦ λ _. refl
+    ] refl
+
+pushed : {X : Type 0} (p : X → Bool) (x : X) → p x ≡ false → (xs : List X) (k : ℕ) (y : X) → slice_get (xs ++ x ∷ []) k ≡ Some y → p y ≡ true → slice_get xs k ≡ Some y
+pushed p x n [] zero y at h = let e : x ≡ y = cc in let f : p x ≡ p y = ap p e in cc
+pushed p x n [] (suc k) y at h = cc
+pushed p x n (z ∷ xs) zero y at h = at
+pushed p x n (z ∷ xs) (suc k) y at h = pushed p x n xs k y at h
+
+-- one entry more, which does not pass
+among_noted : (p : Entry → Bool) (m : MsgId) → p (new_entry m) ≡ false → (from to : ℕ) (es : List Entry) → StandsAmong p from to es → StandsAmong p from to (noted es m)
+among_noted p m n from to es s =
+    elim (list_any (is_for m) es) as (λ b. StandsAmong p from to (cond b es (es ++ new_entry m ∷ []))) [
+      | true ↦ s
+      | false ↦ λ k y at h. s k y (pushed p (new_entry m) n es k y at h) h
+    ]
+
+-- the entries of m are changed, and of these the ones that pass are added
+pub among_held : (p : Entry → Bool) (me via : NodeId) (m : MsgId) (es : List Entry) (a b from to from' to' : ℕ)
+    → StandsAmong (is_for m) a b es → ((k : ℕ) → IsAmong from to k → IsAmong from' to' k)
+    → ((k : ℕ) (e : Entry) → slice_get (map (held me via m) es) k ≡ Some e → p e ≡ true → IsAmong a b k → IsAmong from' to' k)
+    → StandsAmong p from to es → StandsAmong p from' to' (map (held me via m) es)
+among_held p me via m es a b from to from' to' places stay added s k y at h =
+    let g = get_map (held me via m) es k y at in
+    elim (is_for m g.0) as (λ v. is_for m g.0 ≡ v → IsAmong from' to' k) [
+      | true ↦ λ e. added k y at h (places k g.0 g.1 e)
+      | false ↦ λ e. stay k (s k g.0 g.1 (ap p (sym (g.2 ∙ not_held me via m g.0 e)) ∙ h))
+    ] refl
+
+module _ (rules : Rules) (me : NodeId) (members noticed : Nodes) where
+  abbrev pending : Entry → Bool
+  pending = is_pending rules me members noticed
+
+  abbrev relays : Entry → Bool
+  relays = due_to_relay rules me noticed
+
+  abbrev delivers : Entry → Bool
+  delivers = due_to_deliver rules me members noticed
+
+  -- a new entry is not due
+  pub pending_noted : (m : MsgId) (from to : ℕ) (es : List Entry) → StandsAmong pending from to es → StandsAmong pending from to (noted es m)
+  pending_noted m = among_noted pending m (ap (λ b. (b && rules.broadcasts me.number noticed m) || (b && rules.delivers members noticed set.empty)) (set.contains-empty nat_cmp me.number))
+
+  marked_back : (m : MsgId) (e : Entry) → pending (marked_sent m e) ≡ true → pending e ≡ true
+  marked_back m e =
+      elim (is_for m e) as (λ b. pending (cond b (sent_entry e) e) ≡ true → pending e ≡ true) [
+        | true ↦ λ h. or_second (relays e) (delivers e) h
+        | false ↦ λ h. h
+      ]
+
+  -- marking a message as sent makes none due
+  pub pending_marked : (m : MsgId) (from to : ℕ) (es : List Entry) → StandsAmong pending from to es → StandsAmong pending from to (map (marked_sent m) es)
+  pending_marked m = among_map pending (marked_sent m) (marked_back m)
+
+  handed_back : (e : Entry) → pending (handed delivers e) ≡ true → pending e ≡ true
+  handed_back e =
+      elim (delivers e) as (λ b. pending (cond b (given_entry e) e) ≡ true → pending e ≡ true) [
+        | true ↦ λ h. or_first (relays e) (delivers e) (given_due (relays e) h)
+        | false ↦ λ h. h
+      ]
+    where
+      given_due : (b : Bool) → (b || false) ≡ true → b ≡ true
+      given_due true h = refl
+      given_due false h = h
+
+  -- nor does handing up
+  pub pending_handed : (from to : ℕ) (es : List Entry) → StandsAmong pending from to es → StandsAmong pending from to (map (handed delivers) es)
+  pending_handed = among_map pending (handed delivers) handed_back
+
+  -- what is not to be handed up stays
+  pub handed_stays : (e : Entry) → delivers e ≡ false → handed delivers e ≡ e
+  handed_stays e h = ap (λ b. cond b (given_entry e) e) h
+
+  -- what is to be handed up stands there too
+  pub delivers_among : (from to : ℕ) (es : List Entry) → StandsAmong pending from to es → StandsAmong delivers from to es
+  delivers_among = among_weaker pending delivers (λ e h. or_second (relays e) (delivers e) h)
+
+  -- elsewhere nothing is to be relayed
+  pub none_elsewhere : (from to : ℕ) (es : List Entry) → StandsAmong pending from to es → (k : ℕ) (e : Entry) → (IsAmong from to k → ⊥) → slice_get es k ≡ Some e → relays e ≡ false
+  none_elsewhere from to es s = fails_elsewhere relays from to es (among_weaker pending relays (λ e h. or_first (relays e) (delivers e) h) from to es s)
+
+module _ {S : Type 0} (next : S → Call → S) (gives : S → Call → Gives) (me : S → NodeId) (rules : Rules) where
+  abbrev from : ℕ → ℕ → State S → State S
+  from = relay_from next gives me rules
+
+  abbrev from_sends : ℕ → ℕ → State S → List MsgId
+  from_sends = relay_from_sends next gives me rules
+
+  idle : (r : State S) (o : Option Entry) → ((e : Entry) → o ≡ Some e → wants_relay me rules r e ≡ false) → due_message next gives me rules r o ≡ None
+  idle r None f = refl
+  idle r (Some e) f = ap (λ b. cond b (Some e.m) None) (f e refl)
+
+  -- places where nothing is to be relayed may be passed over
+  skipped : (t i n j : ℕ) (r : State S) → i ≤ j → t + i ≡ n + j → ((k : ℕ) (e : Entry) → i ≤ k → k < j → slice_get r.entries k ≡ Some e → wants_relay me rules r e ≡ false)
+      → (from t i r ≡ from n j r) × (from_sends t i r ≡ from_sends n j r)
+  skipped zero i n j r le e f =
+      let z : 0 ≡ n = omega (arith, le, e) in (ap (λ k. from k j r) z, ap (λ k. from_sends k j r) z)
+  skipped (suc t) i n j r le e f =
+      elim (nat_lt i j) as (λ b. nat_lt i j ≡ b → (from (suc t) i r ≡ from n j r) × (from_sends (suc t) i r ≡ from_sends n j r)) [
+        | true ↦ λ h.
+            let lt : i < j = grind (arith, nat_tests) in
+            let le' : i + 1 ≤ j = omega (arith, lt) in
+            let e' : t + (i + 1) ≡ n + j = omega (arith, e) in
+            let o : due_message next gives me rules r (slice_get r.entries i) ≡ None = idle r (slice_get r.entries i) (λ x at. f i x (omega arith) lt at) in
+            let rest = skipped t (i + 1) n j r le' e' (λ k x a b at. f k x (omega (arith, a)) b at) in (
+              ap (λ v. from t (i + 1) (relay_any next gives me rules r v)) o ∙ rest.0,
+              ap (λ v. relay_any_sends next gives me rules r v ++ from_sends t (i + 1) (relay_any next gives me rules r v)) o ∙ rest.1,
+            )
+        | false ↦ λ h.
+            let ge : j ≤ i = grind (arith, nat_tests) in
+            let same : i ≡ j = omega (arith, le, ge) in
+            let n' : suc t ≡ n = omega (arith, e, same) in
+            ((λ x. from (n' x) (same x) r), (λ x. from_sends (n' x) (same x) r))
+      ] refl
+
+  -- a pass may begin where the first is due
+  pub begins_at : (count i : ℕ) (r : State S) → ((k : ℕ) (e : Entry) → k < i → slice_get r.entries k ≡ Some e → wants_relay me rules r e ≡ false)
+      → (from (count - i) i r ≡ from count 0 r) × (from_sends (count - i) i r ≡ from_sends count 0 r)
+  begins_at count i r f =
+      elim (nat_le i count) as (λ b. nat_le i count ≡ b → (from (count - i) i r ≡ from count 0 r) × (from_sends (count - i) i r ≡ from_sends count 0 r)) [
+        | true ↦ λ h.
+            let le : i ≤ count = grind (arith, nat_tests) in
+            let e : count + 0 ≡ count - i + i = omega (arith, le) in
+            let s = skipped count 0 (count - i) i r (omega arith) e (λ k x a b at. f k x b at) in (sym s.0, sym s.1)
+        | false ↦ λ h.
+            let lt : count < i = grind (arith, nat_tests) in
+            let z : count - i ≡ 0 = omega (arith, lt) in
+            let s = skipped count 0 0 count r (omega arith) (omega arith) (λ k x a b at. f k x (omega (arith, b, lt)) at) in
+            (ap (λ k. from k i r) z ∙ sym s.0, ap (λ k. from_sends k i r) z ∙ sym s.1)
+      ] refl
+
+  -- and end after the last
+  pub ends_at : (n i : ℕ) (r : State S) → ((k : ℕ) (e : Entry) → i ≤ k → slice_get r.entries k ≡ Some e → wants_relay me rules r e ≡ false)
+      → (from n i r ≡ r) × (from_sends n i r ≡ [])
+  ends_at n i r f = skipped n i 0 (n + i) r (omega arith) (omega arith) (λ k x a b at. f k x a at)

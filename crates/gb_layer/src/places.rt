@@ -1,0 +1,27 @@
+//! Places of entries in a list.
+ghost use Rattle.std.specs.Prelude.{ℕ, ◌≤◌, ◌<◌};
+ghost use Rattle.gb_layer.specs.Places.{IsAmong};
+
+/// The places from one on and before another.
+#[derive(Clone, Copy, Debug)]
+pub struct Places {
+    pub from: usize,
+    pub to: usize,
+}
+
+impl Places {
+    /// One place more, and what lies between it and the others.
+    pub fn widen(&mut self, k: usize)
+        requires { k < usize.MAX }
+        ensures stay { (i : ℕ) → IsAmong self.old.from self.old.to i → IsAmong self.new.from self.new.to i }
+        ensures here { IsAmong self.new.from self.new.to k }
+    {
+        if self.to <= self.from {
+            self.from = k;
+            self.to = k + 1;
+        } else {
+            self.from = self.from.min(k);
+            self.to = self.to.max(k + 1);
+        }
+    }
+}
