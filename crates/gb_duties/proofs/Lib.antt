@@ -1,0 +1,6 @@
+mod Words
+mod ReplyLemmas
+mod Fits
+mod StepLemmas
+mod LogLemmas
+mod DutyLemmas
