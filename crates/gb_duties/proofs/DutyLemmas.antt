@@ -1,5 +1,5 @@
 -- Each node does its duties.
-use Rattle.std.proofs.Common.{◌≡◌, ℕ, Bool, true, false, not, ◌&&◌, ◌||◌, ◌⊎◌, inl, inr, nat_eq, List, [], ◌∷◌, ◌++◌, Option, Some, refl, sym, ap, ◌∙◌, subst}
+use Rattle.std.proofs.Common.{◌≡◌, ℕ, Bool, true, false, ◌&&◌, ◌||◌, ◌⊎◌, inl, inr, nat_eq, List, [], Some, refl, sym, ap, ◌∙◌}
 use Rattle.std.specs.FinSet as set
 use Rattle.std.specs.List.{list_all}
 use Rattle.std.proofs.lemmas.Bool.{eqb-true, eq-eqb, cases_Bool}
@@ -10,19 +10,17 @@ use Rattle.gb_types.proofs.CoverLemmas.{not_all_members}
 use Rattle.gb_types.proofs.SameLemmas.{and-first, and-second}
 use Rattle.gb_layer.specs.Bools.{or_first, or_second, and_both}
 use Rattle.gb_layer.specs.Machine.{mentions, was_noticed, came_from}
-use Rattle.gb_layer.specs.Modules.{holds, now_delivered, now_broadcast, log}
+use Rattle.gb_layer.specs.Modules.{holds, now_delivered, now_broadcast}
 use Rattle.gb_layer.specs.declared.broadcast_module.BroadcastModule.{BroadcastModule}
 use Rattle.gb_layer.specs.declared.broadcast_module.BroadcastModule.TheVariants.{BestEffort, Lazy, Eager, AllAck}
 use Rattle.gb_layer.specs.declared.call.Call.{Call}
-use Rattle.gb_fifo.specs.Order.{is_in, in_order}
+use Rattle.gb_fifo.specs.Order.{in_order}
 use Rattle.gb_fifo.specs.OrderLaws.{AllIn}
 use Rattle.gb_stack.specs.Kinds.{module_of}
 use Rattle.gb_stack.specs.LogLaws.{ModuleLogHasDelivered}
 use Rattle.gb_rules.specs.Group.{is_member, is_other}
 use Rattle.gb_history.specs.History.{calls_of}
-use Rattle.gb_history.specs.Messages.{has}
 use Rattle.gb_alone.specs.Alone.{Member, alone}
-use Rattle.gb_alone.specs.declared.event.GroupStep.{GroupStep}
 use Rattle.gb_duties.specs.Duties.{IsPutOut, HasHad, Duty, IsDelivered, IsDutiful}
 use Rattle.gb_duties.proofs.Words.{or_cases}
 use Rattle.gb_duties.proofs.Fits.{FitsAt}

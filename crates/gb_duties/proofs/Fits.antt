@@ -1,7 +1,7 @@
 -- What holds of every node of a group alone, and of what the nodes were told together.
 use Rattle.std.proofs.Common.{◌≡◌, ℕ, ◌+◌, ◌<◌, ◌≤◌, Bool, true, false, not, ◌&&◌, ◌||◌, ◌⊎◌, inl, inr, nat_eq, List, [], ◌∷◌, ◌++◌, Option, Some, None, refl, sym, ap, ◌∙◌, subst, arith}
 use Rattle.std.specs.Prelude.{if◌then◌else◌}
-use Rattle.std.proofs.lemmas.Bool.{eqb-true, cases_Bool}
+use Rattle.std.proofs.lemmas.Bool.{eqb-true, eq-eqb, cases_Bool, cases_lt}
 use Rattle.gb_types.specs.Entry.{message_of}
 use Rattle.gb_types.specs.Message.{same}
 use Rattle.gb_types.specs.declared.entry.Entry.{Entry}
@@ -16,11 +16,11 @@ use Rattle.gb_layer.specs.declared.call.Call.{Call}
 use Rattle.gb_stack.specs.Kinds.{module_of}
 use Rattle.gb_rules.specs.Group.{is_member, is_other}
 use Rattle.gb_history.specs.History.{call_of, calls_of, known, said_in, puts_of}
-use Rattle.gb_history.specs.Messages.{has, entry_in}
+use Rattle.gb_history.specs.Messages.{has}
 use Rattle.gb_history.specs.declared.call.GroupCall.{GroupCall}
 use Rattle.gb_history.specs.declared.call.GroupCall.TheVariants.{Own, Other, Crashed}
 use Rattle.gb_alone.specs.Alone.{Member, put_to}
-use Rattle.gb_duties.proofs.Words.{or_cases, is_not, not_is, refuted, has-append, has-entries, in_newly, noticed_stays}
+use Rattle.gb_duties.proofs.Words.{or_cases, is_not, has-append, has-entries, in_newly}
 use Rattle.gb_duties.proofs.ReplyLemmas.{IsFair}
 
 -- what holds at the node a, where these are the calls of each node
@@ -32,6 +32,9 @@ pub record Fits (calls : ℕ → List Call) (a : ℕ) (o : Option Spec) (told : 
   pub fair : (spec : Spec) → o ≡ Some spec → (m : MsgId) → mentions (calls_of told) m ≡ true → IsFair spec m
   -- and its origin said it
   pub known : (m : MsgId) → mentions (calls_of told) m ≡ true → was_said (calls m.origin.number) m ≡ true
+  -- the messages said here are numbered from 1 on
+  pub said_all : (m : MsgId) → m.origin.number ≡ a → 0 < m.seq → m.seq ≤ said_in told → was_said (calls_of told) m ≡ true
+  pub said_few : (m : MsgId) → was_said (calls_of told) m ≡ true → m.seq ≤ said_in told
   -- a node from which a message came has it
   pub from_known : (p : ℕ) (m : MsgId) → came_from a (calls_of told) p m ≡ true → mentions (calls p) m ≡ true
   -- what is put out is known here
@@ -53,6 +56,8 @@ fits_later old new later a o told put fits = record {
   inside = fits.inside;
   fair = fits.fair;
   known = λ m h. later.said m.origin.number m (fits.known m h);
+  said_all = fits.said_all;
+  said_few = fits.said_few;
   from_known = λ p m h. later.mentioned p m (fits.from_known p m h);
   put_known = fits.put_known;
   owes = fits.owes;
@@ -120,6 +125,30 @@ module _ (calls : ℕ → List Call) (a : ℕ) (spec : Spec) (told : List GroupC
       go (inr old) = from p m old
   from_called (Crashed q) brings grown from p m h = from p m h
 
+  said_all_called : (c : GroupCall) → Brings calls a spec told c → ((m : MsgId) → m.origin.number ≡ a → 0 < m.seq → m.seq ≤ said_in told → was_said (calls_of told) m ≡ true)
+      → (m : MsgId) → m.origin.number ≡ a → 0 < m.seq → m.seq ≤ said_in (c ∷ told) → was_said (call_of c ∷ calls_of told) m ≡ true
+  unfolding said_in
+  said_all_called (Own x) brings all m own some few = go (cases_lt (said_in told) m.seq)
+    where
+      go : (said_in told < m.seq) ⊎ (m.seq ≤ said_in told) → (same (message_of x) m || was_said (calls_of told) m) ≡ true
+      go (inl new) =
+          let origin : nat_eq x.origin.number m.origin.number ≡ true = eq-eqb x.origin.number m.origin.number (brings.0 ∙ sym own) in
+          let number : x.seq ≡ m.seq = let e = brings.1 in omega (arith, e, new, few) in
+          or_first (same (message_of x) m) (was_said (calls_of told) m) (and_both origin (eq-eqb x.seq m.seq number))
+      go (inr old) = or_second (same (message_of x) m) (was_said (calls_of told) m) (all m own some old)
+  said_all_called (Other p x) brings all m own some few = all m own some few
+  said_all_called (Crashed q) brings all m own some few = all m own some few
+
+  said_few_called : (c : GroupCall) → Brings calls a spec told c → ((m : MsgId) → was_said (calls_of told) m ≡ true → m.seq ≤ said_in told) → (m : MsgId) → was_said (call_of c ∷ calls_of told) m ≡ true → m.seq ≤ said_in (c ∷ told)
+  unfolding said_in
+  said_few_called (Own x) brings few m h = go (or_cases (same (message_of x) m) (was_said (calls_of told) m) h)
+    where
+      go : ((same (message_of x) m ≡ true) ⊎ (was_said (calls_of told) m ≡ true)) → m.seq ≤ said_in told + 1
+      go (inl is) = let number = eqb-true x.seq m.seq (and-second (nat_eq x.origin.number m.origin.number) (nat_eq x.seq m.seq) is) in let e = brings.1 in omega (arith, number, e)
+      go (inr old) = let lt = few m old in omega (arith, lt)
+  said_few_called (Other p x) brings few m h = few m h
+  said_few_called (Crashed q) brings few m h = few m h
+
 -- what a call puts out
 has-puts : (spec : Spec) (a : ℕ) (c : GroupCall) (told : List GroupCall) (m : MsgId)
     → has (puts_of spec a c told) m ≡ ((now_broadcast (module_of spec.kind) a (call_of c ∷ calls_of told) m && not (now_broadcast (module_of spec.kind) a (calls_of told) m)) && mentions (call_of c ∷ calls_of told) m)
@@ -127,20 +156,19 @@ has-puts spec a c told m = has-entries (known (c ∷ told)) _ m ∙ in_newly (no
 
 -- the group is told something at a node; before, what was broadcast was put out to each that is not noticed now
 pub fits_called : (calls : ℕ → List Call) (a : ℕ) (c : GroupCall) (spec : Spec) (told : List GroupCall) (put : ℕ → List Entry) → Brings calls a spec told c → calls a ≡ calls_of (c ∷ told)
-    → is_member spec a ≡ true
-    → ((m : MsgId) → mentions (calls_of told) m ≡ true → IsFair spec m)
-    → ((m : MsgId) → mentions (calls_of told) m ≡ true → was_said (calls m.origin.number) m ≡ true)
-    → ((p : ℕ) (m : MsgId) → came_from a (calls_of told) p m ≡ true → mentions (calls p) m ≡ true)
+    → (before : ℕ → List Entry) → Fits calls a (Some spec) told before
     → ((b : ℕ) (m : MsgId) → has (put b) m ≡ true → mentions (calls_of told) m ≡ true)
     → ((b : ℕ) → is_other spec a b ≡ true → was_noticed (calls_of (c ∷ told)) b ≡ false → (m : MsgId) → now_broadcast (module_of spec.kind) a (calls_of told) m ≡ true → has (put b) m ≡ true)
     → Fits calls a (Some spec) (c ∷ told) (put_to a (Some spec) c told put)
 unfolding calls_of
-fits_called calls a c spec told put brings grown inside fair known from put_known owes = record {
+fits_called calls a c spec told put brings grown before old put_known owes = record {
   unmade = λ e. absurd (cc);
-  inside = λ s is. subst (λ (z : Spec). is_member z a ≡ true) (same_spec s is) inside;
-  fair = λ s is. subst (λ (z : Spec). (m : MsgId) → mentions (call_of c ∷ calls_of told) m ≡ true → IsFair z m) (same_spec s is) (fair_called calls a spec told c brings inside fair);
-  known = known_called calls a spec told c brings grown known;
-  from_known = from_called calls a spec told c brings grown from;
+  inside = λ s is. subst (λ (z : Spec). is_member z a ≡ true) (same_spec s is) (old.inside spec refl);
+  fair = λ s is. subst (λ (z : Spec). (m : MsgId) → mentions (call_of c ∷ calls_of told) m ≡ true → IsFair z m) (same_spec s is) (fair_called calls a spec told c brings (old.inside spec refl) (old.fair spec refl));
+  known = known_called calls a spec told c brings grown old.known;
+  said_all = said_all_called calls a spec told c brings old.said_all;
+  said_few = said_few_called calls a spec told c brings old.said_few;
+  from_known = from_called calls a spec told c brings grown old.from_known;
   put_known = λ b. put_sound b (is_other spec a b && not (was_noticed (call_of c ∷ calls_of told) b));
   owes = λ s is. subst (λ (z : Spec). (b : ℕ) → is_other z a b ≡ true → was_noticed (call_of c ∷ calls_of told) b ≡ false → (m : MsgId) → now_broadcast (module_of z.kind) a (call_of c ∷ calls_of told) m ≡ true → has (put_to a (Some spec) c told put b) m ≡ true) (same_spec s is) owed;
 }

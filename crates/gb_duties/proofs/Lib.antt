@@ -4,3 +4,8 @@ mod Fits
 mod StepLemmas
 mod LogLemmas
 mod DutyLemmas
+mod Moves
+mod Flow
+mod AcceptedLemmas
+mod OrderLemmas
+mod Agreed

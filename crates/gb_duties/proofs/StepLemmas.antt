@@ -1,5 +1,5 @@
 -- Every node keeps what holds of it through every event.
-use Rattle.std.proofs.Common.{◌≡◌, ℕ, ◌+◌, ◌-◌, Bool, true, false, not, ◌&&◌, ◌||◌, nat_eq, take, List, [], ◌∷◌, ◌++◌, Option, Some, None, refl, sym, ap, ◌∙◌, subst, arith}
+use Rattle.std.proofs.Common.{◌≡◌, ℕ, ◌-◌, Bool, true, false, ◌||◌, nat_eq, take, List, [], ◌∷◌, Option, Some, None, refl, sym, ap, ◌∙◌, subst, arith}
 use Rattle.std.specs.Prelude.{slice_get, if◌then◌else◌}
 use Rattle.std.proofs.lemmas.Bool.{eqb-true, eq-eqb}
 use Rattle.gb_types.specs.Entry.{message_of}
@@ -11,13 +11,13 @@ use Rattle.gb_types.specs.declared.reply.Reply.TheVariants.{Done, Said}
 use Rattle.gb_types.specs.declared.spec.Spec.{Spec}
 use Rattle.gb_layer.specs.Bools.{or_left, or_right}
 use Rattle.gb_layer.specs.Histories.{mentions_stays}
-use Rattle.gb_layer.specs.Machine.{mentions, was_said, was_noticed, came_from}
+use Rattle.gb_layer.specs.Machine.{mentions, was_said, was_noticed}
 use Rattle.gb_layer.specs.Modules.{now_broadcast}
 use Rattle.gb_layer.specs.declared.broadcast_module.BroadcastModule.{BroadcastModule}
 use Rattle.gb_layer.specs.declared.call.Call.{Call}
 use Rattle.gb_stack.specs.Kinds.{module_of}
 use Rattle.gb_rules.specs.Group.{is_member, is_other}
-use Rattle.gb_history.specs.History.{call_of, calls_of}
+use Rattle.gb_history.specs.History.{call_of, calls_of, said_in}
 use Rattle.gb_history.specs.Messages.{has}
 use Rattle.gb_history.specs.declared.call.GroupCall.{GroupCall}
 use Rattle.gb_history.specs.declared.call.GroupCall.TheVariants.{Own, Other, Crashed}
@@ -26,7 +26,7 @@ use Rattle.gb_alone.specs.declared.event.GroupEvent.{GroupEvent}
 use Rattle.gb_alone.specs.declared.event.GroupEvent.TheVariants.{Tenant, Make as AskMake, Open as AskOpen, Say as AskSay, Took, Came, Done as Acknowledged, Notice, Stop}
 use Rattle.gb_alone.specs.declared.event.GroupStep.{GroupStep}
 use Rattle.gb_duties.proofs.Words.{refuted, has-take, has-get, said_stays, noticed_stays}
-use Rattle.gb_duties.proofs.ReplyLemmas.{Accepts, say_accepts, Makes, make_accepts, IsFair, fair_item}
+use Rattle.gb_duties.proofs.ReplyLemmas.{say_accepts, Makes, make_accepts, fair_item}
 use Rattle.gb_duties.proofs.Fits.{Fits, FitsAt, Later, fits_later, Brings, fits_called}
 
 -- the calls of each node
@@ -59,7 +59,7 @@ call_fits : (group : Group) (a : ℕ) (c : GroupCall) (spec : Spec) (put : ℕ �
 call_fits group a c spec put made all put_known owes calls later grown brings =
     let old = fits_later (calls_in group) calls later a (group a).spec (group a).told (group a).put (all a) in
     subst (λ (o : Option Spec). Fits calls a o (c ∷ (group a).told) (put_to a o c (group a).told put)) (sym made)
-    (fits_called calls a c spec (group a).told put brings grown (old.inside spec made) (old.fair spec made) old.known old.from_known put_known owes)
+    (fits_called calls a c spec (group a).told put brings grown (group a).put (subst (λ (o : Option Spec). Fits calls a o (group a).told (group a).put) made old) put_known owes)
 
 called_result : (group : Group) (a : ℕ) (c : GroupCall) (spec : Spec) → (group a).spec ≡ Some spec → AllFit group
     → ((calls : ℕ → List Call) → Later (calls_in group) calls → Brings calls a spec (group a).told c) → Result group a (called a c (group a))
@@ -133,6 +133,8 @@ made_fits calls a spec m makes fits = record {
   inside = λ s is. subst (λ (z : Spec). is_member z a ≡ true) (same_spec s is) makes.inside;
   fair = λ s is x h. absurd (nothing x h);
   known = fits.known;
+  said_all = fits.said_all;
+  said_few = fits.said_few;
   from_known = fits.from_known;
   put_known = fits.put_known;
   owes = λ s is b other unnoticed x out. absurd (silent (module_of s.kind) x out);
@@ -200,12 +202,14 @@ step_fits nodes number group step all = (λ x. at x (nat_eq x step.node.number) 
     at x false is = fits_later (calls_in group) (calls_in (after nodes number group step)) later x (group x).spec (group x).told (group x).put (all x)
 
 pub nobody_fits : AllFit nobody
-unfolding calls_of
+unfolding calls_of said_in
 nobody_fits a = record {
   unmade = λ e. refl;
   inside = λ s is. absurd (cc);
   fair = λ s is m h. absurd (cc);
   known = λ m h. absurd (cc);
+  said_all = λ m own some few. absurd (omega (arith, some, few));
+  said_few = λ m h. absurd (cc);
   from_known = λ p m h. absurd (cc);
   put_known = λ b m h. absurd (cc);
   owes = λ s is b other unnoticed m out. absurd (cc);

@@ -1,8 +1,7 @@
 -- Tests, and messages in lists of entries and in histories.
-use Rattle.std.proofs.Common.{◌≡◌, ℕ, zero, suc, ◌+◌, ◌<◌, Bool, true, false, cond, not, ◌&&◌, ◌||◌, ◌⊎◌, inl, inr, nat_eq, take, List, [], ◌∷◌, ◌++◌, length, Option, Some, None, refl, sym, ap, ◌∙◌, subst, arith}
+use Rattle.std.proofs.Common.{◌≡◌, ℕ, zero, suc, ◌<◌, Bool, true, false, cond, not, ◌&&◌, ◌||◌, ◌⊎◌, inl, inr, nat_eq, take, List, [], ◌∷◌, ◌++◌, length, Some, refl, sym, ap, ◌∙◌, arith}
 use Rattle.std.specs.Prelude.{slice_get, map, filter}
-use Rattle.std.specs.List.{list_any}
-use Rattle.std.proofs.lemmas.Bool.{eqb-true, eq-eqb}
+use Rattle.std.proofs.lemmas.Bool.{eq-eqb}
 use Rattle.std.proofs.Math.Bool.{and-true, and-false}
 use Rattle.gb_types.specs.Entry.{message_of}
 use Rattle.gb_types.specs.Message.{same}
@@ -11,7 +10,6 @@ use Rattle.gb_types.specs.declared.message.MsgId.{MsgId}
 use Rattle.gb_types.proofs.SameLemmas.{same-true, same_itself}
 use Rattle.gb_layer.specs.Bools.{or_second}
 use Rattle.gb_layer.specs.FirstMentionLemmas.{first_mentions-any}
-use Rattle.gb_layer.specs.Lists.{or_swap}
 use Rattle.gb_layer.specs.Machine.{mentions, was_said, was_noticed, came_from}
 use Rattle.gb_layer.specs.Modules.{first_mentions, newly}
 use Rattle.gb_layer.specs.declared.call.Call.{Call}
