@@ -9,3 +9,5 @@ mod Flow
 mod AcceptedLemmas
 mod OrderLemmas
 mod Agreed
+mod ExampleLemmas
+mod CrashLemmas

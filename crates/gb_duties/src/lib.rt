@@ -5,4 +5,5 @@
 //! then specs/Agreement.antt.
 #![tactic(auto)]
 
+pub mod examples;
 pub mod laws;
