@@ -1,5 +1,5 @@
 //! What a stack stands for: laws, with no code.
-ghost use Rattle.gb_stack.specs.LogLaws.{FifoLogRuns, KindLogMentioned, KindLogOnce};
+ghost use Rattle.gb_stack.specs.LogLaws.{FifoLogRuns, KindLogMentioned, KindLogOnce, ModuleLogHasDelivered};
 ghost use Rattle.gb_stack.specs.Stands.{NewStackStands, CalledStackStands, HandsUpWhatIsDelivered, SendsWhatIsBroadcast, HandsUpTheLog, LogGrows, StartedHandsUpEachOnce};
 
 use crate::stack::Stack;
@@ -23,6 +23,12 @@ pub fn logs()
     ensures runs { FifoLogRuns }
     ensures once { KindLogOnce }
     ensures mentioned { KindLogMentioned }
+{}
+
+/// Whatever the history, the log of a module, whose order a fifo kind keeps or leaves, has the messages that are
+/// delivered, each once.
+pub fn module_logs()
+    ensures { ModuleLogHasDelivered }
 {}
 
 /// The laws of a broadcast hold of a stack as `Stack::new` makes it: no message comes up twice.

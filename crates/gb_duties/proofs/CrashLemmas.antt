@@ -1,0 +1,230 @@
+-- A group that settles after a crash.
+use Rattle.std.proofs.Common.{◌≡◌, ◌≢◌, ℕ, ◌<◌, ◌≤◌, ◌⊎◌, inl, inr, not, nat_eq, Bool, true, false, arith, List, [], ◌∷◌, ◌++◌, length, Some, refl, sym, ap, ◌∙◌, subst}
+use Rattle.std.specs.Prelude.{slice_get, if◌then◌else◌}
+use Rattle.std.specs.FinSet as set
+use Rattle.std.proofs.lemmas.Bool.{eqb-true}
+use Rattle.gb_types.specs.declared.kind.Kind.{Kind}
+use Rattle.gb_types.specs.declared.kind.Kind.TheVariants as kinds
+use Rattle.gb_types.specs.declared.reply.Reply.{Reply}
+use Rattle.gb_layer.specs.Machine.{was_noticed}
+use Rattle.gb_history.specs.History.{calls_of, known}
+use Rattle.gb_history.specs.declared.call.GroupCall.TheVariants.{Other}
+use Rattle.gb_alone.specs.Alone.{Member, Group, reply_to, called, after, nobody, alone, log_at, is_marked, IsLegal}
+use Rattle.gb_alone.specs.Laws.{accepted_in, accepted_from, accepted}
+use Rattle.gb_alone.specs.declared.event.GroupEvent.TheVariants.{Took, Came, Notice, Stop}
+use Rattle.gb_alone.specs.declared.event.GroupStep.{GroupStep}
+use Rattle.gb_duties.specs.Agreement.{IsRunning, IsSettled}
+use Rattle.gb_duties.specs.Examples.{first, second, third, message, members, spec_of, at, opened, to_one, loss, crash, runs, log_in}
+use Rattle.gb_duties.proofs.ExampleLemmas.{in_0, in_1, in_2, One, is_0, is_1, is_2, member, with_at, ready, group_open, all_open, zero_said, carries, has_come, one_took, group_one, comes, Leads, stop_here, and_then, join, open_all, length_one, lead_one, notices, noticed_is}
+
+-- Node 0 stops, and the others notice that.
+
+abbrev zero_stopped : Kind → Member
+zero_stopped kind = record (carries 1 (zero_said kind)) { stopped = true }
+
+abbrev loss_stopped : Kind → Group
+loss_stopped kind = with_at (group_one kind) 0 (zero_stopped kind)
+
+abbrev loss_one_noticed : Kind → Group
+loss_one_noticed kind = with_at (loss_stopped kind) 1 (notices 1 first (one_took kind))
+
+abbrev group_lost : Kind → Group
+group_lost kind = with_at (loss_one_noticed kind) 2 (notices 2 first (ready kind))
+
+lead_loss : (kind : Kind) → Leads (group_open kind) loss (group_lost kind)
+lead_loss kind =
+    join (group_open kind) (group_one kind) (group_lost kind) to_one (at first Stop ∷ at second (Notice first) ∷ at third (Notice first) ∷ []) (lead_one kind)
+    (and_then (group_one kind) (at first Stop) (zero_stopped kind) (at second (Notice first) ∷ at third (Notice first) ∷ []) (group_lost kind) tt refl
+    (and_then (loss_stopped kind) (at second (Notice first)) (notices 1 first (one_took kind)) (at third (Notice first) ∷ []) (group_lost kind) (refl, refl) (noticed_is kind 1 first (one_took kind) refl in_0 refl)
+    (and_then (loss_one_noticed kind) (at third (Notice first)) (notices 2 first (ready kind)) [] (group_lost kind) (refl, refl) (noticed_is kind 2 first (ready kind) refl in_0 refl) (stop_here (group_lost kind)))))
+
+-- With a lazy kind both relay the message.
+
+abbrev one_relayed : Member
+one_relayed = carries 2 (notices 1 first (one_took kinds.FifoLazy))
+
+abbrev crash_one_relayed : Group
+crash_one_relayed = with_at (group_lost kinds.FifoLazy) 1 one_relayed
+
+abbrev two_relayed : Member
+two_relayed = has_come 1 (called 2 (Other second message) (notices 2 first (ready kinds.FifoLazy)))
+
+abbrev crash_two_took : Group
+crash_two_took = with_at crash_one_relayed 2 two_relayed
+
+abbrev crash_two_relayed : Group
+crash_two_relayed = with_at crash_two_took 2 (carries 1 two_relayed)
+
+abbrev one_heard : Member
+one_heard = has_come 2 (called 1 (Other third message) one_relayed)
+
+abbrev group_crashed : Group
+group_crashed = with_at crash_two_relayed 1 one_heard
+
+one_relays : one_relayed.put 2 ≡ message ∷ []
+unfolding calls_of known
+one_relays = simp in_2 refl
+
+two_relays : two_relayed.put 1 ≡ message ∷ []
+unfolding calls_of known
+two_relays = simp in_1 refl
+
+lead_crash : Leads (group_open kinds.FifoLazy) crash group_crashed
+unfolding calls_of
+lead_crash =
+    join (group_open kinds.FifoLazy) (group_lost kinds.FifoLazy) group_crashed loss (at second (Took third 1) ∷ at third (Came second 1) ∷ at third (Took second 1) ∷ at second (Came third 1) ∷ []) (lead_loss kinds.FifoLazy)
+    (and_then (group_lost kinds.FifoLazy) (at second (Took third 1)) one_relayed (at third (Came second 1) ∷ at third (Took second 1) ∷ at second (Came third 1) ∷ []) group_crashed (refl, omega arith, length_one (one_relayed.put 2) message one_relays) refl
+    (and_then crash_one_relayed (at third (Came second 1)) two_relayed (at third (Took second 1) ∷ at second (Came third 1) ∷ []) group_crashed (refl, omega arith, omega arith, refl)
+    (comes kinds.FifoLazy third second 1 (notices 2 first (ready kinds.FifoLazy)) refl (simp (in_0, in_1) refl) (one_relayed.put 2) (ap (λ xs. slice_get xs 0) one_relays))
+    (and_then crash_two_took (at third (Took second 1)) (carries 1 two_relayed) (at second (Came third 1) ∷ []) group_crashed (refl, omega arith, length_one (two_relayed.put 1) message two_relays) refl
+    (and_then crash_two_relayed (at second (Came third 1)) one_heard [] group_crashed (refl, omega arith, omega arith, refl) (comes kinds.FifoLazy second third 1 one_relayed refl (simp (in_0, in_2) refl) (two_relayed.put 1) (ap (λ xs. slice_get xs 0) two_relays)) (stop_here group_crashed)))))
+
+run_loss : Leads nobody (opened kinds.Beb ++ loss) (group_lost kinds.Beb)
+run_loss = join nobody (group_open kinds.Beb) (group_lost kinds.Beb) (opened kinds.Beb) loss (open_all kinds.Beb) (lead_loss kinds.Beb)
+
+run_crash : Leads nobody (opened kinds.FifoLazy ++ crash) group_crashed
+run_crash = join nobody (group_open kinds.FifoLazy) group_crashed (opened kinds.FifoLazy) crash (open_all kinds.FifoLazy) lead_crash
+
+-- When such a group is settled.
+
+-- nothing is said while the group is opened
+quiet : (g : Group) (step : GroupStep) (s : ℕ) (rest : List GroupStep) → ((reply : Reply) → accepted_in step.event reply ≡ []) → accepted_from 3 0 (after 3 0 g step) rest s ≡ [] → accepted_from 3 0 g (step ∷ rest) s ≡ []
+unfolding accepted_from
+quiet g step s rest none later = ap (λ xs. xs ++ accepted_from 3 0 (after 3 0 g step) rest s) (go (nat_eq s step.node.number)) ∙ later
+  where
+    reply : Reply
+    reply = reply_to 3 0 s step.event (g s)
+
+    go : (t : Bool) → (if t then accepted_in step.event reply else []) ≡ []
+    go true = none reply
+    go false = refl
+
+nothing : (g : Group) (s : ℕ) → accepted_from 3 0 g [] s ≡ []
+unfolding accepted_from
+nothing g s = refl
+
+silent : (kind : Kind) (s : ℕ) → accepted 3 0 (opened kind) s ≡ []
+silent kind s =
+    quiet _ _ s _ (λ r. refl) (quiet _ _ s _ (λ r. refl) (quiet _ _ s _ (λ r. refl)
+    (quiet _ _ s _ (λ r. refl) (quiet _ _ s _ (λ r. refl) (quiet _ _ s _ (λ r. refl)
+    (quiet _ _ s _ (λ r. refl) (quiet _ _ s _ (λ r. refl) (quiet _ _ s _ (λ r. refl) (nothing _ s)))))))))
+
+made : (kind : Kind) (a : ℕ) → set.contains members a ≡ true → (alone 3 0 (opened kind) a).spec ≡ Some (spec_of kind)
+made kind a inside = ap (λ (g : Group). (g a).spec) (all_open kind) ∙ by (member a inside)
+  where
+    by : One a → (group_open kind a).spec ≡ Some (spec_of kind)
+    by (is_0 e) = ap (λ z. (group_open kind z).spec) e
+    by (is_1 e) = ap (λ z. (group_open kind z).spec) e
+    by (is_2 e) = ap (λ z. (group_open kind z).spec) e
+
+-- a running member is node 1 or node 2, a stopped one node 0
+running : (kind : Kind) (a : ℕ) → IsRunning runs (spec_of kind) a → (a ≡ 1) ⊎ (a ≡ 2)
+running kind a run = by (member a run.0)
+  where
+    by : One a → (a ≡ 1) ⊎ (a ≡ 2)
+    by (is_0 e) = let no : runs 0 ≡ true = ap runs (sym e) ∙ run.1 in absurd (cc)
+    by (is_1 e) = inl e
+    by (is_2 e) = inr e
+
+stopped : (a : ℕ) → runs a ≡ false → a ≡ 0
+stopped a h = go (nat_eq a 0) refl h
+  where
+    go : (t : Bool) → nat_eq a 0 ≡ t → not t ≡ false → a ≡ 0
+    go true e h = eqb-true a 0 e
+    go false e h = absurd (cc)
+
+for_pair : (kind : Kind) (p : ℕ → ℕ → Type 0) → p 1 2 → p 2 1 → (a b : ℕ) → IsRunning runs (spec_of kind) a → IsRunning runs (spec_of kind) b → a ≢ b → p a b
+for_pair kind p one two a b run_a run_b other = by (running kind a run_a) (running kind b run_b)
+  where
+    by : ((a ≡ 1) ⊎ (a ≡ 2)) → ((b ≡ 1) ⊎ (b ≡ 2)) → p a b
+    by (inl e) (inl f) = absurd (other (e ∙ sym f))
+    by (inl e) (inr f) = subst (λ z. p z b) (sym e) (subst (λ z. p 1 z) (sym f) one)
+    by (inr e) (inl f) = subst (λ z. p z b) (sym e) (subst (λ z. p 2 z) (sym f) two)
+    by (inr e) (inr f) = absurd (other (e ∙ sym f))
+
+-- these facts about the nodes are all that is asked
+settle : (kind : Kind) (steps : List GroupStep) (g : Group) → alone 3 0 (opened kind ++ steps) ≡ g
+    → (g 1).taken 2 ≡ length ((g 1).put 2) → (g 2).taken 1 ≡ length ((g 2).put 1)
+    → ((place : ℕ) → 0 < place → place ≤ (g 1).taken 2 → is_marked place ((g 2).come 1) ≡ true) → ((place : ℕ) → 0 < place → place ≤ (g 2).taken 1 → is_marked place ((g 1).come 2) ≡ true)
+    → was_noticed (calls_of (g 1).told) 0 ≡ true → was_noticed (calls_of (g 2).told) 0 ≡ true
+    → ((b : ℕ) → (b ≡ 1) ⊎ (b ≡ 2) → (was_noticed (calls_of (g 0).told) b ≡ false) × (was_noticed (calls_of (g 1).told) b ≡ false) × (was_noticed (calls_of (g 2).told) b ≡ false))
+    → IsSettled 3 0 (opened kind ++ steps) runs (spec_of kind)
+settle kind steps g is carried_one carried_two came_one came_two noticed_one noticed_two unnoticed = record {
+  earlier = opened kind;
+  later = steps;
+  moment = refl;
+  made = made kind;
+  silent = silent kind;
+  carried = for_pair kind (λ a b. (alone 3 0 (opened kind ++ steps) a).taken b ≡ length ((alone 3 0 (opened kind ++ steps) a).put b))
+      (subst (λ (h : Group). (h 1).taken 2 ≡ length ((h 1).put 2)) (sym is) carried_one) (subst (λ (h : Group). (h 2).taken 1 ≡ length ((h 2).put 1)) (sym is) carried_two);
+  came = for_pair kind (λ a b. (place : ℕ) → 0 < place → place ≤ (alone 3 0 (opened kind ++ steps) a).taken b → is_marked place ((alone 3 0 (opened kind ++ steps) b).come a) ≡ true)
+      (subst (λ (h : Group). (place : ℕ) → 0 < place → place ≤ (h 1).taken 2 → is_marked place ((h 2).come 1) ≡ true) (sym is) came_one)
+      (subst (λ (h : Group). (place : ℕ) → 0 < place → place ≤ (h 2).taken 1 → is_marked place ((h 1).come 2) ≡ true) (sym is) came_two);
+  noticed = λ a b run_a inside stop. subst (λ (h : Group). was_noticed (calls_of (h a).told) b ≡ true) (sym is) (ap (λ z. was_noticed (calls_of (g a).told) z) (stopped b stop) ∙ crashed a (running kind a run_a));
+  unnoticed = λ a b inside run_b. subst (λ (h : Group). was_noticed (calls_of (h a).told) b ≡ false) (sym is) (fine a b (member a inside) (unnoticed b (running kind b run_b)));
+}
+  where
+    crashed : (a : ℕ) → ((a ≡ 1) ⊎ (a ≡ 2)) → was_noticed (calls_of (g a).told) 0 ≡ true
+    crashed a (inl e) = ap (λ z. was_noticed (calls_of (g z).told) 0) e ∙ noticed_one
+    crashed a (inr e) = ap (λ z. was_noticed (calls_of (g z).told) 0) e ∙ noticed_two
+
+    fine : (a b : ℕ) → One a → (was_noticed (calls_of (g 0).told) b ≡ false) × (was_noticed (calls_of (g 1).told) b ≡ false) × (was_noticed (calls_of (g 2).told) b ≡ false) → was_noticed (calls_of (g a).told) b ≡ false
+    fine a b (is_0 e) h = ap (λ z. was_noticed (calls_of (g z).told) b) e ∙ h.0
+    fine a b (is_1 e) h = ap (λ z. was_noticed (calls_of (g z).told) b) e ∙ h.1
+    fine a b (is_2 e) h = ap (λ z. was_noticed (calls_of (g z).told) b) e ∙ h.2
+
+-- The examples.
+
+-- the first place is the only one
+only_one : (p : ℕ → Type 0) (count : ℕ) → count ≡ 1 → p 1 → (place : ℕ) → 0 < place → place ≤ count → p place
+only_one p count is h place low high = let e : 1 ≡ place = omega (arith, is, low, high) in subst p e h
+
+pub crash_legal : IsLegal 3 0 (opened kinds.FifoLazy ++ crash)
+crash_legal = run_crash.legal
+
+pub crash_settled : IsSettled 3 0 (opened kinds.FifoLazy ++ crash) runs (spec_of kinds.FifoLazy)
+unfolding calls_of known
+crash_settled =
+    settle kinds.FifoLazy crash group_crashed run_crash.end (sym (ap length all_one)) (sym (ap length two_relays))
+    (only_one (λ k. is_marked k (1 ∷ []) ≡ true) 1 refl refl) (only_one (λ k. is_marked k (1 ∷ []) ≡ true) 1 refl refl) refl refl unseen
+  where
+    all_one : one_heard.put 2 ≡ message ∷ []
+    all_one = simp in_2 refl
+
+    unseen : (b : ℕ) → (b ≡ 1) ⊎ (b ≡ 2) → (was_noticed (calls_of (group_crashed 0).told) b ≡ false) × (was_noticed (calls_of (group_crashed 1).told) b ≡ false) × (was_noticed (calls_of (group_crashed 2).told) b ≡ false)
+    unseen b (inl e) = (refl, ap (λ z. was_noticed (calls_of (group_crashed 1).told) z) e, ap (λ z. was_noticed (calls_of (group_crashed 2).told) z) e)
+    unseen b (inr e) = (refl, ap (λ z. was_noticed (calls_of (group_crashed 1).told) z) e, ap (λ z. was_noticed (calls_of (group_crashed 2).told) z) e)
+
+pub crash_one : log_in kinds.FifoLazy crash 1 ≡ message ∷ []
+unfolding calls_of known
+crash_one = ap (λ (g : Group). log_at 1 (g 1).spec (g 1).told) run_crash.end
+
+pub crash_two : log_in kinds.FifoLazy crash 2 ≡ message ∷ []
+unfolding calls_of known
+crash_two = ap (λ (g : Group). log_at 2 (g 2).spec (g 2).told) run_crash.end
+
+pub loss_legal : IsLegal 3 0 (opened kinds.Beb ++ loss)
+loss_legal = run_loss.legal
+
+pub loss_settled : IsSettled 3 0 (opened kinds.Beb ++ loss) runs (spec_of kinds.Beb)
+unfolding calls_of known
+loss_settled =
+    settle kinds.Beb loss (group_lost kinds.Beb) run_loss.end (sym (ap length none_one)) (sym (ap length none_two)) (λ place low high. absurd (omega (arith, low, high))) (λ place low high. absurd (omega (arith, low, high))) refl refl unseen
+  where
+    none_one : (notices 1 first (one_took kinds.Beb)).put 2 ≡ []
+    none_one = simp in_2 refl
+
+    none_two : (notices 2 first (ready kinds.Beb)).put 1 ≡ []
+    none_two = simp in_1 refl
+
+    unseen : (b : ℕ) → (b ≡ 1) ⊎ (b ≡ 2) → (was_noticed (calls_of (group_lost kinds.Beb 0).told) b ≡ false) × (was_noticed (calls_of (group_lost kinds.Beb 1).told) b ≡ false) × (was_noticed (calls_of (group_lost kinds.Beb 2).told) b ≡ false)
+    unseen b (inl e) = (refl, ap (λ z. was_noticed (calls_of (group_lost kinds.Beb 1).told) z) e, ap (λ z. was_noticed (calls_of (group_lost kinds.Beb 2).told) z) e)
+    unseen b (inr e) = (refl, ap (λ z. was_noticed (calls_of (group_lost kinds.Beb 1).told) z) e, ap (λ z. was_noticed (calls_of (group_lost kinds.Beb 2).told) z) e)
+
+pub loss_one : log_in kinds.Beb loss 1 ≡ message ∷ []
+unfolding calls_of known
+loss_one = ap (λ (g : Group). log_at 1 (g 1).spec (g 1).told) run_loss.end
+
+pub loss_two : log_in kinds.Beb loss 2 ≡ []
+unfolding calls_of known
+loss_two = ap (λ (g : Group). log_at 2 (g 2).spec (g 2).told) run_loss.end

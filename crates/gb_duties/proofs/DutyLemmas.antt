@@ -1,0 +1,80 @@
+-- Each node does its duties.
+use Rattle.std.proofs.Common.{◌≡◌, ℕ, Bool, true, false, ◌&&◌, ◌||◌, ◌⊎◌, inl, inr, nat_eq, List, [], Some, refl, sym, ap, ◌∙◌}
+use Rattle.std.specs.FinSet as set
+use Rattle.std.specs.List.{list_all}
+use Rattle.std.proofs.lemmas.Bool.{eqb-true, eq-eqb, cases_Bool}
+use Rattle.std.proofs.lemmas.List.{append-nil}
+use Rattle.gb_types.specs.declared.message.MsgId.{MsgId}
+use Rattle.gb_types.specs.declared.spec.Spec.{Spec}
+use Rattle.gb_types.proofs.CoverLemmas.{not_all_members}
+use Rattle.gb_types.proofs.SameLemmas.{and-first, and-second}
+use Rattle.gb_layer.specs.Bools.{or_first, or_second, and_both}
+use Rattle.gb_layer.specs.Machine.{mentions, was_noticed, came_from}
+use Rattle.gb_layer.specs.Modules.{holds, now_delivered, now_broadcast}
+use Rattle.gb_layer.specs.declared.broadcast_module.BroadcastModule.{BroadcastModule}
+use Rattle.gb_layer.specs.declared.broadcast_module.BroadcastModule.TheVariants.{BestEffort, Lazy, Eager, AllAck}
+use Rattle.gb_layer.specs.declared.call.Call.{Call}
+use Rattle.gb_fifo.specs.Order.{in_order}
+use Rattle.gb_fifo.specs.OrderLaws.{AllIn}
+use Rattle.gb_stack.specs.Kinds.{module_of}
+use Rattle.gb_stack.specs.LogLaws.{ModuleLogHasDelivered}
+use Rattle.gb_rules.specs.Group.{is_member, is_other}
+use Rattle.gb_history.specs.History.{calls_of}
+use Rattle.gb_alone.specs.Alone.{Member, alone}
+use Rattle.gb_duties.specs.Duties.{IsPutOut, HasHad, Duty, IsDelivered, IsDutiful}
+use Rattle.gb_duties.proofs.Words.{or_cases}
+use Rattle.gb_duties.proofs.Fits.{FitsAt}
+use Rattle.gb_duties.proofs.LogLemmas.{in_log, logged-is, kind_delivered}
+use Rattle.gb_duties.proofs.StepLemmas.{calls_in, alone_fits}
+
+-- a member passes what all members pass
+pub of_member : (p : ℕ → Bool) (spec : Spec) (b : ℕ) → list_all p (set.items spec.members) ≡ true → is_member spec b ≡ true → p b ≡ true
+of_member p spec b all is = go (p b) refl
+  where
+    go : (t : Bool) → p b ≡ t → p b ≡ true
+    go true e = e
+    go false e = let none = not_all_members p spec.members b is e in absurd (cc)
+
+module _ (calls : ℕ → List Call) (b : ℕ) (member : Member) (spec : Spec) (made : member.spec ≡ Some spec) (fits : FitsAt calls b member) (c : ℕ) (other : is_other spec b c ≡ true) (m : MsgId) where
+  put_out : (base : BroadcastModule) → module_of spec.kind ≡ base → now_broadcast base b (calls_of member.told) m ≡ true → IsPutOut member c m
+  put_out base kind out = go (cases_Bool (was_noticed (calls_of member.told) c))
+    where
+      go : ((was_noticed (calls_of member.told) c ≡ true) ⊎ (was_noticed (calls_of member.told) c ≡ false)) → IsPutOut member c m
+      go (inl noticed) = inl noticed
+      go (inr unnoticed) = inr (fits.owes spec made c other unnoticed m (ap (λ k. now_broadcast k b (calls_of member.told) m) kind ∙ out))
+
+  duty : (had : ℕ → MsgId → Type 0) → (mentions (calls c) m ≡ true → had c m) → (calls b ≡ calls_of member.told) → (base : BroadcastModule) → module_of spec.kind ≡ base
+      → now_delivered base b (set.items spec.members) (calls_of member.told) m ≡ true → Duty base had b member c m
+  duty had here is BestEffort kind up = λ own. put_out BestEffort kind (and_both (and-first (mentions (calls_of member.told) m) _ up) (eq-eqb m.origin.number b own))
+  duty had here is Lazy kind up = λ why. put_out Lazy kind (and_both (and-first (mentions (calls_of member.told) m) _ up) (relayed why))
+    where
+      relayed : ((m.origin.number ≡ b) ⊎ (was_noticed (calls_of member.told) m.origin.number ≡ true)) → (nat_eq m.origin.number b || was_noticed (calls_of member.told) m.origin.number) ≡ true
+      relayed (inl own) = or_first (nat_eq m.origin.number b) _ (eq-eqb m.origin.number b own)
+      relayed (inr noticed) = or_second (nat_eq m.origin.number b) _ noticed
+  duty had here is Eager kind up = put_out Eager kind (and_both (and-first (mentions (calls_of member.told) m) _ up) refl)
+  duty had here is AllAck kind up = told (or_cases (was_noticed (calls_of member.told) c) (holds b (calls_of member.told) c m) each)
+    where
+      each : (was_noticed (calls_of member.told) c || holds b (calls_of member.told) c m) ≡ true
+      each = of_member (λ p. was_noticed (calls_of member.told) p || holds b (calls_of member.told) p m) spec c (and-second (mentions (calls_of member.told) m) _ up) (and-first (is_member spec c) _ other)
+
+      held : ((came_from b (calls_of member.told) c m ≡ true) ⊎ ((nat_eq b c && mentions (calls_of member.told) m) ≡ true)) → mentions (calls c) m ≡ true
+      held (inl from) = fits.from_known c m from
+      held (inr own) = ap (λ n. mentions (calls n) m) (sym (eqb-true b c (and-first (nat_eq b c) _ own))) ∙ (ap (λ cs. mentions cs m) is ∙ and-second (nat_eq b c) _ own)
+
+      told : ((was_noticed (calls_of member.told) c ≡ true) ⊎ (holds b (calls_of member.told) c m ≡ true)) → (was_noticed (calls_of member.told) c ≡ true) ⊎ had c m
+      told (inl noticed) = inl noticed
+      told (inr h) = inr (here (held (or_cases (came_from b (calls_of member.told) c m) (nat_eq b c && mentions (calls_of member.told) m) h)))
+
+pub is_dutiful : ModuleLogHasDelivered → ((D : List MsgId) → AllIn D (in_order D)) → IsDutiful
+is_dutiful has_delivered within nodes number steps legal = record {
+  delivered = done;
+  logged = λ b spec made c other m h.
+      done b spec made c other m (kind_delivered within spec b (calls_of (alone nodes number steps b).told) m (sym (logged-is b (alone nodes number steps b).spec spec (alone nodes number steps b).told m made) ∙ h));
+}
+  where
+    done : (b : ℕ) (spec : Spec) → (alone nodes number steps b).spec ≡ Some spec → (c : ℕ) → is_other spec b c ≡ true → (m : MsgId) → IsDelivered spec b (alone nodes number steps b) m
+        → Duty (module_of spec.kind) (HasHad nodes number steps) b (alone nodes number steps b) c m
+    done b spec made c other m up =
+        duty (calls_in (alone nodes number steps)) b (alone nodes number steps b) spec made (alone_fits nodes number steps b) c other m (HasHad nodes number steps)
+        (λ had. record { earlier = steps; later = []; moment = sym (append-nil steps); had = had }) refl (module_of spec.kind) refl
+        (sym (in_log has_delivered (module_of spec.kind) b (set.items spec.members) (calls_of (alone nodes number steps b).told) m) ∙ up)

@@ -1,0 +1,349 @@
+-- What the worked examples compute.
+use Rattle.std.proofs.Common.{◌≡◌, ℕ, ◌+◌, ◌-◌, not, Option, Some, ◌⊎◌, inl, inr, Bool, true, false, nat_eq, arith, List, [], ◌∷◌, ◌++◌, ◌||◌, ◌&&◌, ◌≤◌, length, refl, sym, ap, ◌∙◌, subst}
+use Rattle.std.specs.Prelude.{slice_get, if◌then◌else◌}
+use Rattle.std.specs.FinSet as set
+use Rattle.std.specs.List.{list_all}
+use Rattle.std.proofs.lemmas.Bool.{eqb-true}
+use Rattle.std.proofs.lemmas.List.Sums.{fold-append}
+use Rattle.gb_types.specs.Entry.{message_of}
+use Rattle.gb_types.specs.declared.entry.Entry.{Entry}
+use Rattle.gb_types.specs.declared.kind.Kind.{Kind}
+use Rattle.gb_types.specs.declared.kind.Kind.TheVariants as kinds
+use Rattle.gb_types.specs.declared.node.NodeId.{NodeId}
+use Rattle.gb_types.specs.declared.reply.Reply.TheVariants.{Done, Said}
+use Rattle.gb_types.specs.declared.spec.Spec.{Spec}
+use Rattle.gb_types.proofs.CoverLemmas.{all_members, not_all_members}
+use Rattle.gb_types.proofs.SameLemmas.{and-first, and-second}
+use Rattle.gb_layer.specs.Bools.{and_both}
+use Rattle.gb_layer.specs.Machine.{mentions, was_noticed}
+use Rattle.gb_rules.specs.Group.{is_other}
+use Rattle.gb_rules.specs.declared.phase.Phase.TheVariants.{Opened}
+use Rattle.gb_rules.specs.declared.reserve.Reserve.{Reserve}
+use Rattle.gb_history.specs.History.{calls_of, known, said_in, puts_of, falls_after}
+use Rattle.gb_history.specs.declared.call.GroupCall.TheVariants.{Own, Other, Crashed}
+use Rattle.gb_alone.specs.Alone.{Member, Group, called, cut, falls, taken_in, took_notice, node_noticed, member_after, after, nobody, alone_from, alone, log_at, MayHappen, IsLegalFrom}
+use Rattle.gb_alone.specs.declared.event.GroupEvent.TheVariants.{Tenant, Make, Open, Say, Took, Came, Notice}
+use Rattle.gb_alone.specs.declared.event.GroupStep.{GroupStep}
+use Rattle.gb_duties.specs.Examples.{first, second, third, message, members, spec_of, at, opened_at, opened, to_one, to_all, log_in, put_in}
+use Rattle.gb_duties.proofs.Words.{or_cases, both_ways, eq_self}
+
+pub in_0 : set.contains members 0 ≡ true
+in_0 = set.contains-from_list_nat (0 ∷ 1 ∷ 2 ∷ []) 0
+
+pub in_1 : set.contains members 1 ≡ true
+in_1 = set.contains-from_list_nat (0 ∷ 1 ∷ 2 ∷ []) 1
+
+pub in_2 : set.contains members 2 ≡ true
+in_2 = set.contains-from_list_nat (0 ∷ 1 ∷ 2 ∷ []) 2
+
+-- the three members
+pub data One (a : ℕ) : Type 0 where
+  is_0 : a ≡ 0 → One a
+  is_1 : a ≡ 1 → One a
+  is_2 : a ≡ 2 → One a
+
+pub member : (a : ℕ) → set.contains members a ≡ true → One a
+member a h = go (or_cases (nat_eq 0 a) (nat_eq 1 a || (nat_eq 2 a || false)) (sym (set.contains-from_list_nat (0 ∷ 1 ∷ 2 ∷ []) a) ∙ h))
+  where
+    last : (nat_eq 2 a || false) ≡ true → One a
+    last e = is_2 (two (nat_eq 2 a) refl e)
+      where
+        two : (b : Bool) → nat_eq 2 a ≡ b → (b || false) ≡ true → a ≡ 2
+        two true is e = sym (eqb-true 2 a is)
+        two false is e = cc
+
+    next : ((nat_eq 1 a ≡ true) ⊎ ((nat_eq 2 a || false) ≡ true)) → One a
+    next (inl is) = is_1 (sym (eqb-true 1 a is))
+    next (inr e) = last e
+
+    go : ((nat_eq 0 a ≡ true) ⊎ ((nat_eq 1 a || (nat_eq 2 a || false)) ≡ true)) → One a
+    go (inl is) = is_0 (sym (eqb-true 0 a is))
+    go (inr e) = next (or_cases (nat_eq 1 a) (nat_eq 2 a || false) e)
+
+-- a test on all members
+pub all_of : (p : ℕ → Bool) → list_all p (set.items members) ≡ (p 0 && (p 1 && p 2))
+all_of p = both_ways (list_all p (set.items members)) (p 0 && (p 1 && p 2)) down up
+  where
+    each : (q : ℕ) → set.contains members q ≡ true → list_all p (set.items members) ≡ true → p q ≡ true
+    each q is all = go (p q) refl
+      where
+        go : (t : Bool) → p q ≡ t → p q ≡ true
+        go true e = e
+        go false e = let none = not_all_members p members q is e in absurd (cc)
+
+    down : list_all p (set.items members) ≡ true → (p 0 && (p 1 && p 2)) ≡ true
+    down all = and_both (each 0 in_0 all) (and_both (each 1 in_1 all) (each 2 in_2 all))
+
+    up : (p 0 && (p 1 && p 2)) ≡ true → list_all p (set.items members) ≡ true
+    up e = all_members p members (λ q is. by q (member q is))
+      where
+        by : (q : ℕ) → One q → p q ≡ true
+        by q (is_0 is) = ap p is ∙ and-first (p 0) (p 1 && p 2) e
+        by q (is_1 is) = ap p is ∙ and-first (p 1) (p 2) (and-second (p 0) (p 1 && p 2) e)
+        by q (is_2 is) = ap p is ∙ and-second (p 1) (p 2) (and-second (p 0) (p 1 && p 2) e)
+
+-- The group, event by event.
+
+abbrev pub with_at : Group → ℕ → Member → Group
+with_at g a m x = if nat_eq x a then m else g x
+
+pub step_is : (g : Group) (step : GroupStep) (m : Member) → member_after 3 0 step.node step.event g ≡ m → after 3 0 g step ≡ with_at g step.node.number m
+unfolding after
+step_is g step m is = λ i x. if nat_eq x step.node.number then is i else g x
+
+-- what was there before does not matter
+again : (g : Group) (a : ℕ) (m n : Member) → with_at (with_at g a m) a n ≡ with_at g a n
+again g a m n = λ i x. go x (nat_eq x a) i
+  where
+    go : (x : ℕ) (t : Bool) → (if t then n else (if t then m else g x)) ≡ (if t then n else g x)
+    go x true = refl
+    go x false = refl
+
+abbrev row : Reserve
+row = record { groups = 4; msgs = 8; bytes = 64; window = 4 }
+
+-- a node that has opened the group
+abbrev pub ready : Kind → Member
+ready kind = record { reserve = Some row; spec = Some (spec_of kind); phase = Opened; told = []; replies = Done ∷ Done ∷ []; put = λ b. []; taken = λ b. 0; come = λ b. []; done = λ b. []; noticed = []; stopped = false }
+
+node_opens : (kind : Kind) (g : Group) (a : NodeId) → set.contains members a.number ≡ true → g a.number ≡ nobody a.number → alone_from 3 0 g (opened_at kind a) ≡ with_at g a.number (ready kind)
+unfolding said_in calls_of known
+node_opens kind g a inside fresh =
+    let m1 : Member = record (nobody 0) { reserve = Some row } in
+    let m2 : Member = record m1 { spec = Some (spec_of kind); replies = Done ∷ [] } in
+    let one = step_is g (at a (Tenant row)) m1 (ap (λ (m : Member). record m { reserve = Some row }) fresh) in
+    let two = step_is (with_at g a.number m1) (at a (Make (spec_of kind))) m2 (simp (eq_self a.number, inside, all_of) refl) in
+    let three = step_is (with_at (with_at g a.number m1) a.number m2) (at a Open) (ready kind) (simp (eq_self a.number) refl) in
+    ap (λ (h : Group). alone_from 3 0 h (at a (Make (spec_of kind)) ∷ at a Open ∷ [])) one
+    ∙ (ap (λ (h : Group). alone_from 3 0 h (at a Open ∷ [])) two
+    ∙ (three ∙ (again (with_at g a.number m1) a.number m2 (ready kind) ∙ again g a.number m1 (ready kind))))
+
+abbrev pub group_open : Kind → Group
+group_open kind = with_at (with_at (with_at nobody 0 (ready kind)) 1 (ready kind)) 2 (ready kind)
+
+pub all_open : (kind : Kind) → alone 3 0 (opened kind) ≡ group_open kind
+all_open kind =
+    ap (λ (h : Group). alone_from 3 0 h (opened_at kind second ++ opened_at kind third)) (node_opens kind nobody first in_0 refl)
+    ∙ (ap (λ (h : Group). alone_from 3 0 h (opened_at kind third)) (node_opens kind (with_at nobody 0 (ready kind)) second in_1 refl)
+    ∙ node_opens kind (with_at (with_at nobody 0 (ready kind)) 1 (ready kind)) third in_2 refl)
+
+pub from_open : (kind : Kind) (steps : List GroupStep) → alone 3 0 (opened kind ++ steps) ≡ alone_from 3 0 (group_open kind) steps
+from_open kind steps = fold-append (after 3 0) nobody (opened kind) steps ∙ ap (λ (h : Group). alone_from 3 0 h steps) (all_open kind)
+
+-- node 0 says the message
+abbrev pub zero_said : Kind → Member
+zero_said kind = record (called 0 (Own message) (ready kind)) { replies = Done ∷ Done ∷ Said 1 ∷ [] }
+
+abbrev pub carries : ℕ → Member → Member
+carries b m = record m { taken = λ x. if nat_eq x b then m.taken x + 1 else m.taken x }
+
+abbrev pub has_come : ℕ → Member → Member
+has_come b m = record m { come = λ x. if nat_eq x b then 1 ∷ m.come x else m.come x }
+
+abbrev pub group_said : Kind → Group
+group_said kind = with_at (with_at (group_open kind) 0 (zero_said kind)) 0 (carries 1 (zero_said kind))
+
+-- it comes to node 1
+abbrev pub one_took : Kind → Member
+one_took kind = has_come 0 (called 1 (Other first message) (ready kind))
+
+abbrev pub group_one : Kind → Group
+group_one kind = with_at (group_said kind) 1 (one_took kind)
+
+-- it was put out to each other member
+pub put_out : (kind : Kind) (b : ℕ) → set.contains members b ≡ true → nat_eq b 0 ≡ false → (zero_said kind).put b ≡ message ∷ []
+unfolding calls_of known
+put_out kind b inside other = ap (λ (t : Bool). if t then [] ++ puts_of (spec_of kind) 0 (Own message) [] else []) (reached b inside other) ∙ by kind
+  where
+    reached : (b : ℕ) → set.contains members b ≡ true → nat_eq b 0 ≡ false → (is_other (spec_of kind) 0 b && not (was_noticed (calls_of (Own message ∷ [])) b)) ≡ true
+    reached b inside other = and_both (and_both inside (ap not other)) refl
+
+    by : (kind : Kind) → puts_of (spec_of kind) 0 (Own message) [] ≡ message ∷ []
+    by kinds.Beb = refl
+    by kinds.Lazy = refl
+    by kinds.Eager = refl
+    by kinds.AllAck = refl
+    by kinds.FifoBeb = refl
+    by kinds.FifoLazy = refl
+    by kinds.FifoEager = refl
+    by kinds.FifoAllAck = refl
+
+-- the item is taken in
+pub comes : (kind : Kind) (me from : NodeId) (place : ℕ) (m : Member) → m.spec ≡ Some (spec_of kind) → falls_after (spec_of kind) me.number m.told from.number message ≡ false → (xs : List Entry) → slice_get xs (place - 1) ≡ Some message
+    → taken_in me.number from place (slice_get xs (place - 1)) m ≡ record (called me.number (Other from message) m) { come = λ b. if nat_eq b from.number then place ∷ m.come b else m.come b }
+comes kind me from place m made stands xs there =
+    ap (λ (o : Option Entry). taken_in me.number from place o m) there
+    ∙ ap (λ (t : Bool). let next = (if t then m else called me.number (Other from message) m) in record next { come = λ b. if nat_eq b from.number then place ∷ m.come b else m.come b })
+    (ap (λ (o : Option Spec). falls me.number from.number message m.told o) made ∙ stands)
+
+-- a legal run from one group to another
+pub record Leads (g : Group) (steps : List GroupStep) (h : Group) : Type 0 where
+  pub legal : IsLegalFrom 3 0 g steps
+  pub end : alone_from 3 0 g steps ≡ h
+
+pub stop_here : (g : Group) → Leads g [] g
+stop_here g = record { legal = tt; end = refl }
+
+pub and_then : (g : Group) (step : GroupStep) (m : Member) (rest : List GroupStep) (h : Group) → MayHappen step.node step.event g → member_after 3 0 step.node step.event g ≡ m → Leads (with_at g step.node.number m) rest h → Leads g (step ∷ rest) h
+and_then g step m rest h may is run =
+    let e = step_is g step m is in
+    record { legal = (may, subst (λ (k : Group). IsLegalFrom 3 0 k rest) (sym e) run.legal); end = ap (λ (k : Group). alone_from 3 0 k rest) e ∙ run.end }
+
+legal_join : (g : Group) (xs ys : List GroupStep) → IsLegalFrom 3 0 g xs → IsLegalFrom 3 0 (alone_from 3 0 g xs) ys → IsLegalFrom 3 0 g (xs ++ ys)
+legal_join g [] ys l k = k
+legal_join g (x ∷ xs) ys l k = (l.0, legal_join (after 3 0 g x) xs ys l.1 k)
+
+pub join : (g h k : Group) (xs ys : List GroupStep) → Leads g xs h → Leads h ys k → Leads g (xs ++ ys) k
+join g h k xs ys a b = record {
+  legal = legal_join g xs ys a.legal (subst (λ (z : Group). IsLegalFrom 3 0 z ys) (sym a.end) b.legal);
+  end = fold-append (after 3 0) g xs ys ∙ (ap (λ (z : Group). alone_from 3 0 z ys) a.end ∙ b.end);
+}
+
+pub open_all : (kind : Kind) → Leads nobody (opened kind) (group_open kind)
+open_all kind = record { legal = (tt, (tt, (tt, (tt, (tt, (tt, (tt, (tt, (tt, tt))))))))); end = all_open kind }
+
+pub length_one : (xs : List Entry) (x : Entry) → xs ≡ x ∷ [] → 1 ≤ length xs
+length_one xs x e = let l : length xs ≡ 1 = ap length e in omega (arith, l)
+
+pub lead_one : (kind : Kind) → Leads (group_open kind) to_one (group_one kind)
+unfolding said_in calls_of known
+lead_one kind =
+    and_then (group_open kind) (at first (Say (97 ∷ []))) (zero_said kind) (at first (Took second 1) ∷ at second (Came first 1) ∷ []) (group_one kind) tt refl
+    (and_then (with_at (group_open kind) 0 (zero_said kind)) (at first (Took second 1)) (carries 1 (zero_said kind)) (at second (Came first 1) ∷ []) (group_one kind) (refl, omega arith, length_one ((zero_said kind).put 1) message (put_out kind 1 in_1 refl)) refl
+    (and_then (group_said kind) (at second (Came first 1)) (one_took kind) [] (group_one kind) (refl, omega arith, omega arith, refl)
+    (comes kind second first 1 (ready kind) refl (simp in_0 refl) ((zero_said kind).put 1) (ap (λ xs. slice_get xs 0) (put_out kind 1 in_1 refl))) (stop_here (group_one kind))))
+
+pub to_one_is : (kind : Kind) → alone 3 0 (opened kind ++ to_one) ≡ group_one kind
+to_one_is kind = (join nobody (group_open kind) (group_one kind) (opened kind) to_one (open_all kind) (lead_one kind)).end
+
+-- A node is noticed.
+
+abbrev pub notices : ℕ → NodeId → Member → Member
+notices me q m = record (called me (Crashed q) (cut q m)) { noticed = q.number ∷ m.noticed }
+
+pub noticed_is : (kind : Kind) (me : ℕ) (q : NodeId) (m : Member) → m.spec ≡ Some (spec_of kind) → set.contains members q.number ≡ true → nat_eq q.number me ≡ false → node_noticed me q m ≡ notices me q m
+noticed_is kind me q m made inside other =
+    ap (λ (o : Option Spec). let next = took_notice me q o m in record next { noticed = q.number ∷ m.noticed }) made
+    ∙ ap (λ (t : Bool). let next = (if t then called me (Crashed q) (cut q m) else m) in record next { noticed = q.number ∷ m.noticed }) (and_both inside (ap not other))
+
+abbrev pub noticed_one : Kind → Group
+noticed_one kind = with_at (group_one kind) 1 (notices 1 first (one_took kind))
+
+-- node 1 notices node 0
+pub notice_is : (kind : Kind) → alone 3 0 (opened kind ++ (to_one ++ at second (Notice first) ∷ [])) ≡ noticed_one kind
+notice_is kind =
+    (join nobody (group_open kind) (noticed_one kind) (opened kind) (to_one ++ at second (Notice first) ∷ []) (open_all kind)
+    (join (group_open kind) (group_one kind) (noticed_one kind) to_one (at second (Notice first) ∷ []) (lead_one kind)
+    (and_then (group_one kind) (at second (Notice first)) (notices 1 first (one_took kind)) [] (noticed_one kind) (refl, refl) (noticed_is kind 1 first (one_took kind) refl in_0 refl) (stop_here (noticed_one kind))))).end
+
+-- Best effort.
+
+pub beb_own : put_in kinds.Beb to_one 0 2 ≡ message ∷ []
+beb_own = ap (λ (g : Group). (g 0).put 2) (to_one_is kinds.Beb) ∙ put_out kinds.Beb 2 in_2 refl
+
+pub beb_delivered : log_in kinds.Beb to_one 1 ≡ message ∷ []
+unfolding calls_of known
+beb_delivered = ap (λ (g : Group). log_at 1 (g 1).spec (g 1).told) (to_one_is kinds.Beb)
+
+pub beb_silent : put_in kinds.Beb (to_one ++ at second (Notice first) ∷ []) 1 2 ≡ []
+unfolding calls_of known
+beb_silent = ap (λ (g : Group). (g 1).put 2) (notice_is kinds.Beb) ∙ simp in_2 refl
+
+-- Lazy.
+
+pub lazy_own : put_in kinds.Lazy to_one 0 2 ≡ message ∷ []
+lazy_own = ap (λ (g : Group). (g 0).put 2) (to_one_is kinds.Lazy) ∙ put_out kinds.Lazy 2 in_2 refl
+
+pub lazy_delivered : log_in kinds.Lazy to_one 1 ≡ message ∷ []
+unfolding calls_of known
+lazy_delivered = ap (λ (g : Group). log_at 1 (g 1).spec (g 1).told) (to_one_is kinds.Lazy)
+
+pub lazy_before : put_in kinds.Lazy to_one 1 2 ≡ []
+unfolding calls_of known
+lazy_before = ap (λ (g : Group). (g 1).put 2) (to_one_is kinds.Lazy) ∙ simp in_2 refl
+
+pub lazy_noticed : put_in kinds.Lazy (to_one ++ at second (Notice first) ∷ []) 1 2 ≡ message ∷ []
+unfolding calls_of known
+lazy_noticed = ap (λ (g : Group). (g 1).put 2) (notice_is kinds.Lazy) ∙ simp in_2 refl
+
+-- Eager.
+
+pub eager_delivered : log_in kinds.Eager to_one 1 ≡ message ∷ []
+unfolding calls_of known
+eager_delivered = ap (λ (g : Group). log_at 1 (g 1).spec (g 1).told) (to_one_is kinds.Eager)
+
+pub eager_relayed : put_in kinds.Eager to_one 1 2 ≡ message ∷ []
+unfolding calls_of known
+eager_relayed = ap (λ (g : Group). (g 1).put 2) (to_one_is kinds.Eager) ∙ simp in_2 refl
+
+pub eager_relayed_back : put_in kinds.Eager to_one 1 0 ≡ message ∷ []
+unfolding calls_of known
+eager_relayed_back = ap (λ (g : Group). (g 1).put 0) (to_one_is kinds.Eager) ∙ simp in_0 refl
+
+-- All-ack.
+
+-- node 0's message goes to node 2
+abbrev pub zero_carried : Member
+zero_carried = carries 2 (carries 1 (zero_said kinds.AllAck))
+
+abbrev pub two_took : Member
+two_took = has_come 0 (called 2 (Other first message) (ready kinds.AllAck))
+
+abbrev pub group_carried : Group
+group_carried = with_at (group_one kinds.AllAck) 0 zero_carried
+
+abbrev pub group_two : Group
+group_two = with_at group_carried 2 two_took
+
+abbrev pub group_back : Group
+group_back = with_at group_two 2 (carries 1 two_took)
+
+-- and from there to node 1
+abbrev pub one_took_again : Member
+one_took_again = has_come 2 (called 1 (Other third message) (one_took kinds.AllAck))
+
+abbrev pub group_all : Group
+group_all = with_at group_back 1 one_took_again
+
+back : two_took.put 1 ≡ message ∷ []
+unfolding calls_of known
+back = simp in_1 refl
+
+lead_back : Leads (group_one kinds.AllAck) (at first (Took third 1) ∷ at third (Came first 1) ∷ at third (Took second 1) ∷ at second (Came third 1) ∷ []) group_all
+unfolding calls_of known
+lead_back =
+    and_then (group_one kinds.AllAck) (at first (Took third 1)) zero_carried (at third (Came first 1) ∷ at third (Took second 1) ∷ at second (Came third 1) ∷ []) group_all (refl, omega arith, length_one ((zero_said kinds.AllAck).put 2) message (put_out kinds.AllAck 2 in_2 refl)) refl
+    (and_then group_carried (at third (Came first 1)) two_took (at third (Took second 1) ∷ at second (Came third 1) ∷ []) group_all (refl, omega arith, omega arith, refl)
+    (comes kinds.AllAck third first 1 (ready kinds.AllAck) refl (simp in_0 refl) ((zero_said kinds.AllAck).put 2) (ap (λ xs. slice_get xs 0) (put_out kinds.AllAck 2 in_2 refl)))
+    (and_then group_two (at third (Took second 1)) (carries 1 two_took) (at second (Came third 1) ∷ []) group_all (refl, omega arith, length_one (two_took.put 1) message back) refl
+    (and_then group_back (at second (Came third 1)) one_took_again [] group_all (refl, omega arith, omega arith, refl) (comes kinds.AllAck second third 1 (one_took kinds.AllAck) refl (simp (in_0, in_2) refl) (two_took.put 1) (ap (λ xs. slice_get xs 0) back)) (stop_here group_all))))
+
+to_all_is : alone 3 0 (opened kinds.AllAck ++ to_all) ≡ group_all
+to_all_is =
+    (join nobody (group_open kinds.AllAck) group_all (opened kinds.AllAck) to_all (open_all kinds.AllAck)
+    (join (group_open kinds.AllAck) (group_one kinds.AllAck) group_all to_one (at first (Took third 1) ∷ at third (Came first 1) ∷ at third (Took second 1) ∷ at second (Came third 1) ∷ []) (lead_one kinds.AllAck) lead_back)).end
+
+abbrev without_two : Group
+without_two = with_at (group_one kinds.AllAck) 1 (notices 1 third (one_took kinds.AllAck))
+
+without_two_is : alone 3 0 (opened kinds.AllAck ++ (to_one ++ at second (Notice third) ∷ [])) ≡ without_two
+without_two_is =
+    (join nobody (group_open kinds.AllAck) without_two (opened kinds.AllAck) (to_one ++ at second (Notice third) ∷ []) (open_all kinds.AllAck)
+    (join (group_open kinds.AllAck) (group_one kinds.AllAck) without_two to_one (at second (Notice third) ∷ []) (lead_one kinds.AllAck)
+    (and_then (group_one kinds.AllAck) (at second (Notice third)) (notices 1 third (one_took kinds.AllAck)) [] without_two (refl, refl) (noticed_is kinds.AllAck 1 third (one_took kinds.AllAck) refl in_2 refl) (stop_here without_two)))).end
+
+pub all_ack_not_yet : log_in kinds.AllAck to_one 1 ≡ []
+unfolding calls_of known
+all_ack_not_yet = ap (λ (g : Group). log_at 1 (g 1).spec (g 1).told) (to_one_is kinds.AllAck) ∙ simp all_of refl
+
+pub all_ack_delivered : log_in kinds.AllAck to_all 1 ≡ message ∷ []
+unfolding calls_of known
+all_ack_delivered = ap (λ (g : Group). log_at 1 (g 1).spec (g 1).told) to_all_is ∙ simp all_of refl
+
+pub all_ack_had : mentions (calls_of (alone 3 0 (opened kinds.AllAck ++ to_all) 2).told) (message_of message) ≡ true
+unfolding calls_of known
+all_ack_had = ap (λ (g : Group). mentions (calls_of (g 2).told) (message_of message)) to_all_is
+
+pub all_ack_noticed : log_in kinds.AllAck (to_one ++ at second (Notice third) ∷ []) 1 ≡ message ∷ []
+unfolding calls_of known
+all_ack_noticed = ap (λ (g : Group). log_at 1 (g 1).spec (g 1).told) without_two_is ∙ simp all_of refl

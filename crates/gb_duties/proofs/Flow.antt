@@ -1,0 +1,208 @@
+-- What holds of the whole group through every event that may happen: between members what came was taken in.
+use Rattle.std.proofs.Common.{◌≡◌, ℕ, ◌-◌, ◌<◌, ◌≤◌, Bool, true, false, ◌&&◌, ◌⊎◌, inl, inr, nat_eq, List, [], ◌∷◌, ◌++◌, Option, Some, None, refl, sym, ap, ◌∙◌, subst, arith}
+use Rattle.std.specs.Prelude.{slice_get, if◌then◌else◌}
+use Rattle.std.proofs.lemmas.Bool.{eqb-true, eq-eqb}
+use Rattle.gb_types.specs.Entry.{message_of}
+use Rattle.gb_types.specs.Message.{same}
+use Rattle.gb_types.specs.declared.entry.Entry.{Entry}
+use Rattle.gb_types.specs.declared.message.MsgId.{MsgId}
+use Rattle.gb_types.specs.declared.node.NodeId.{NodeId}
+use Rattle.gb_types.specs.declared.reply.Reply.{Reply}
+use Rattle.gb_types.specs.declared.reply.Reply.TheVariants.{Done, Said}
+use Rattle.gb_types.specs.declared.spec.Spec.{Spec}
+use Rattle.gb_types.proofs.SameLemmas.{same_itself}
+use Rattle.gb_layer.specs.Bools.{or_first, and_both}
+use Rattle.gb_layer.specs.Histories.{said_mentioned}
+use Rattle.gb_layer.specs.Machine.{mentions, was_said, came_from}
+use Rattle.gb_rules.specs.Group.{is_member, is_other}
+use Rattle.gb_history.specs.History.{calls_of, falls_after}
+use Rattle.gb_history.specs.declared.call.GroupCall.TheVariants.{Other, Crashed}
+use Rattle.gb_alone.specs.Alone.{Member, Group, reply_to, called, did, falls, taken_in, cut, took_notice, member_after, after, nobody, alone_from, is_marked, MayHappen, IsLegalFrom}
+use Rattle.gb_alone.specs.declared.event.GroupEvent.{GroupEvent}
+use Rattle.gb_alone.specs.declared.event.GroupEvent.TheVariants.{Tenant, Make as AskMake, Open as AskOpen, Say as AskSay, Took, Came, Done as Acknowledged, Notice, Stop}
+use Rattle.gb_alone.specs.declared.event.GroupStep.{GroupStep}
+use Rattle.gb_duties.proofs.Words.{or_cases, has-get}
+use Rattle.gb_duties.proofs.ReplyLemmas.{IsFair, fall_why}
+use Rattle.gb_duties.proofs.StepLemmas.{calls_in, AllFit, step_fits, nobody_fits}
+use Rattle.gb_duties.proofs.Moves.{Bounded, Goes, event_moves}
+
+pub record Flow (group : Group) : Type 0 where
+  pub fits : AllFit group
+  pub bounded : (a : ℕ) → Bounded (group a)
+  pub come : (a b place : ℕ) → is_marked place ((group b).come a) ≡ true → (0 < place) × (place ≤ (group a).taken b)
+
+-- every node goes on
+all_goes : (nodes number : ℕ) (group : Group) (step : GroupStep) → MayHappen step.node step.event group → ((a : ℕ) → Bounded (group a)) → (x : ℕ) → Goes x (group x) (after nodes number group step x)
+unfolding after
+all_goes nodes number group step may bounded x = go (nat_eq x step.node.number) refl
+  where
+    go : (t : Bool) → nat_eq x step.node.number ≡ t → Goes x (group x) (if t then member_after nodes number step.node step.event group else group x)
+    go true is = subst (λ y. Goes y (group y) (member_after nodes number step.node step.event group)) (sym (eqb-true x step.node.number is)) (event_moves nodes number group step.node step.event may (bounded step.node.number))
+    go false is = record { spec = λ s is. is; from = λ p y h. h; stable = λ b i lt. refl; taken = λ b. omega arith; bounded = bounded x }
+
+-- The places that have come.
+
+-- an item with a place comes from a node
+record IsArrival (event : GroupEvent) (y place : ℕ) : Type 0 where
+  pub from : NodeId
+  pub is : event ≡ Came from place
+  pub here : y ≡ from.number
+
+did_come : (me : NodeId) (event : GroupEvent) (reply : Reply) (m : Member) → (did me event reply m).come ≡ m.come
+did_come me (AskMake spec) Done m = refl
+did_come me AskOpen Done m = refl
+did_come me (AskSay payload) (Said seq) m = refl
+did_come me event reply m = refl
+
+notice_come : (a : ℕ) (q : NodeId) (o : Option Spec) (m : Member) → (took_notice a q o m).come ≡ m.come
+notice_come a q None m = refl
+notice_come a q (Some spec) m = elim (is_other spec a q.number) as (λ t. (if t then called a (Crashed q) (cut q m) else m).come ≡ m.come) [ true ↦ refl | false ↦ refl ]
+
+taken_come : (a : ℕ) (from : NodeId) (place : ℕ) (o : Option Entry) (m : Member) (y k : ℕ) → is_marked k ((taken_in a from place o m).come y) ≡ true → (is_marked k (m.come y) ≡ true) ⊎ IsArrival (Came from place) y k
+taken_come a from place None m y k h = inl h
+taken_come a from place (Some x) m y k h = go (nat_eq y from.number) refl h
+  where
+    go : (t : Bool) → nat_eq y from.number ≡ t → is_marked k (if t then place ∷ m.come y else m.come y) ≡ true → (is_marked k (m.come y) ≡ true) ⊎ IsArrival (Came from place) y k
+    go true is h = by (or_cases (nat_eq place k) (is_marked k (m.come y)) h)
+      where
+        by : ((nat_eq place k ≡ true) ⊎ (is_marked k (m.come y) ≡ true)) → (is_marked k (m.come y) ≡ true) ⊎ IsArrival (Came from place) y k
+        by (inl new) = inr (record { from = from; is = ap (Came from) (eqb-true place k new); here = eqb-true y from.number is })
+        by (inr old) = inl old
+    go false is h = inl h
+
+event_come : (nodes number : ℕ) (group : Group) (me : NodeId) (event : GroupEvent) (y k : ℕ) → is_marked k ((member_after nodes number me event group).come y) ≡ true → (is_marked k ((group me.number).come y) ≡ true) ⊎ IsArrival event y k
+event_come nodes number group me (Tenant reserve) y k h = inl h
+event_come nodes number group me (Took b count) y k h = inl h
+event_come nodes number group me (Came from place) y k h = taken_come me.number from place (slice_get ((group from.number).put me.number) (place - 1)) (group me.number) y k h
+event_come nodes number group me (Acknowledged b place count) y k h = inl h
+event_come nodes number group me (Notice q) y k h = inl (ap (λ (come : ℕ → List ℕ). is_marked k (come y)) (sym (notice_come me.number q (group me.number).spec (group me.number))) ∙ h)
+event_come nodes number group me Stop y k h = inl h
+event_come nodes number group me event y k h = inl (ap (λ (come : ℕ → List ℕ). is_marked k (come y)) (sym (did_come me event (reply_to nodes number me.number event (group me.number)) (group me.number))) ∙ h)
+
+step_come : (nodes number : ℕ) (group : Group) (step : GroupStep) (b y k : ℕ) → is_marked k ((after nodes number group step b).come y) ≡ true → (is_marked k ((group b).come y) ≡ true) ⊎ ((b ≡ step.node.number) × IsArrival step.event y k)
+unfolding after
+step_come nodes number group step b y k h = go (nat_eq b step.node.number) refl h
+  where
+    go : (t : Bool) → nat_eq b step.node.number ≡ t → is_marked k ((if t then member_after nodes number step.node step.event group else group b).come y) ≡ true → (is_marked k ((group b).come y) ≡ true) ⊎ ((b ≡ step.node.number) × IsArrival step.event y k)
+    go true is h = by (event_come nodes number group step.node step.event y k h)
+      where
+        by : ((is_marked k ((group step.node.number).come y) ≡ true) ⊎ IsArrival step.event y k) → (is_marked k ((group b).come y) ≡ true) ⊎ ((b ≡ step.node.number) × IsArrival step.event y k)
+        by (inl old) = inl (ap (λ z. is_marked k ((group z).come y)) (eqb-true b step.node.number is) ∙ old)
+        by (inr new) = inr (eqb-true b step.node.number is, new)
+    go false is h = inl h
+
+-- an item that may come has a carried place
+came_legal : (group : Group) (me : NodeId) (y place : ℕ) (event : GroupEvent) → IsArrival event y place → MayHappen me event group → (0 < place) × (place ≤ (group y).taken me.number)
+came_legal group me y place event new may =
+    let h = subst (λ (e : GroupEvent). MayHappen me e group) new.is may in
+    (h.1, subst (λ z. place ≤ (group z).taken me.number) (sym new.here) h.2)
+
+pub flow_after : (nodes number : ℕ) (group : Group) (step : GroupStep) → MayHappen step.node step.event group → Flow group → Flow (after nodes number group step)
+flow_after nodes number group step may flow = record {
+  fits = (step_fits nodes number group step flow.fits).0;
+  bounded = λ a. (goes a).bounded;
+  come = λ a b place h. by a b place (step_come nodes number group step b a place h);
+}
+  where
+    goes : (x : ℕ) → Goes x (group x) (after nodes number group step x)
+    goes = all_goes nodes number group step may flow.bounded
+
+    by : (a b place : ℕ) → ((is_marked place ((group b).come a) ≡ true) ⊎ ((b ≡ step.node.number) × IsArrival step.event a place)) → (0 < place) × (place ≤ (after nodes number group step a).taken b)
+    by a b place (inl old) = let was = flow.come a b place old in let some = was.0 in let few = was.1 in let more = (goes a).taken b in (some, omega (arith, few, more))
+    by a b place (inr new) =
+        let was = came_legal group step.node a place step.event new.1 may in
+        let few = subst (λ z. place ≤ (group a).taken z) (sym new.0) was.1 in
+        let more = (goes a).taken b in
+        (was.0, omega (arith, few, more))
+
+pub nobody_flows : Flow nobody
+nobody_flows = record { fits = nobody_fits; bounded = λ a b. omega arith; come = λ a b place h. absurd (cc) }
+
+pub run_flows : (nodes number : ℕ) (steps : List GroupStep) (group : Group) → IsLegalFrom nodes number group steps → Flow group → Flow (alone_from nodes number group steps)
+run_flows nodes number [] group legal flow = flow
+run_flows nodes number (step ∷ steps) group legal flow = run_flows nodes number steps (after nodes number group step) legal.1 (flow_after nodes number group step legal.0 flow)
+
+-- a list is legal in both its parts
+pub legal_parts : (nodes number : ℕ) (early late : List GroupStep) (group : Group) → IsLegalFrom nodes number group (early ++ late) → IsLegalFrom nodes number group early × IsLegalFrom nodes number (alone_from nodes number group early) late
+legal_parts nodes number [] late group legal = (tt, legal)
+legal_parts nodes number (step ∷ early) late group legal = let rest = legal_parts nodes number early late (after nodes number group step) legal.1 in ((legal.0, rest.0), rest.1)
+
+-- What came was taken in.
+
+pub record Taking (spec : Spec) (group : Group) : Type 0 where
+  pub made : (a : ℕ) → is_member spec a ≡ true → (group a).spec ≡ Some spec
+  pub taken : (a b : ℕ) → is_member spec a ≡ true → is_member spec b ≡ true → nat_eq a b ≡ false → (place : ℕ) (x : Entry) → is_marked place ((group b).come a) ≡ true → slice_get ((group a).put b) (place - 1) ≡ Some x
+      → came_from b (calls_of (group b).told) a (message_of x) ≡ true
+
+-- an item that comes is taken in, or was so before
+arrival : (spec : Spec) (group : Group) (from : NodeId) (b place : ℕ) (x : Entry) → AllFit group → Taking spec group → is_member spec from.number ≡ true → is_member spec b ≡ true → nat_eq from.number b ≡ false
+    → slice_get ((group from.number).put b) (place - 1) ≡ Some x → came_from b (calls_of (taken_in b from place (slice_get ((group from.number).put b) (place - 1)) (group b)).told) from.number (message_of x) ≡ true
+unfolding calls_of
+arrival spec group from b place x fits taking in_a in_b other item = subst (λ (o : Option Entry). came_from b (calls_of (taken_in b from place o (group b)).told) from.number (message_of x) ≡ true) (sym item) handed
+  where
+    known : mentions (calls_of (group from.number).told) (message_of x) ≡ true
+    known = (fits from.number).put_known b (message_of x) (has-get ((group from.number).put b) (place - 1) x item)
+
+    fair : IsFair spec (message_of x)
+    fair = (fits from.number).fair spec (taking.made from.number in_a) (message_of x) known
+
+    own : x.origin.number ≡ b → mentions (calls_of (group b).told) (message_of x) ≡ true
+    own is = said_mentioned (calls_of (group b).told) (message_of x) (subst (λ n. was_said (calls_of (group n).told) (message_of x) ≡ true) is ((fits from.number).known (message_of x) known))
+
+    by : (t : Bool) → falls_after spec b (group b).told from.number x ≡ t → came_from b (calls_of (if t then group b else called b (Other from x) (group b)).told) from.number (message_of x) ≡ true
+    by true e = fall_why spec b from.number x (came_from b (calls_of (group b).told) from.number (message_of x)) (mentions (calls_of (group b).told) (message_of x)) e in_a other fair own
+    by false e = or_first (nat_eq from.number from.number && same (message_of x) (message_of x)) (came_from b (calls_of (group b).told) from.number (message_of x)) (and_both (eq-eqb from.number from.number refl) (same_itself (message_of x)))
+
+    handed : came_from b (calls_of (if falls b from.number x (group b).told (group b).spec then group b else called b (Other from x) (group b)).told) from.number (message_of x) ≡ true
+    handed = subst (λ (o : Option Spec). came_from b (calls_of (if falls b from.number x (group b).told o then group b else called b (Other from x) (group b)).told) from.number (message_of x) ≡ true) (sym (taking.made b in_b)) (by (falls_after spec b (group b).told from.number x) refl)
+
+taking_after : (nodes number : ℕ) (spec : Spec) (group : Group) (step : GroupStep) → MayHappen step.node step.event group → Flow group → Taking spec group → Taking spec (after nodes number group step)
+unfolding after
+taking_after nodes number spec group step may flow taking = record {
+  made = λ a in_a. (goes a).spec spec (taking.made a in_a);
+  taken = λ a b in_a in_b other place x come item. by a b in_a in_b other place x item (step_come nodes number group step b a place come);
+}
+  where
+    goes : (x : ℕ) → Goes x (group x) (after nodes number group step x)
+    goes = all_goes nodes number group step may flow.bounded
+
+    -- a carried item stands where it stood
+    before : (a b place : ℕ) (x : Entry) → (0 < place) × (place ≤ (group a).taken b) → slice_get ((after nodes number group step a).put b) (place - 1) ≡ Some x → slice_get ((group a).put b) (place - 1) ≡ Some x
+    before a b place x at item = let some = at.0 in let few = at.1 in sym ((goes a).stable b (place - 1) (omega (arith, some, few))) ∙ item
+
+    new_one : (a b : ℕ) → is_member spec a ≡ true → is_member spec b ≡ true → nat_eq a b ≡ false → (place : ℕ) (x : Entry) → slice_get ((group a).put b) (place - 1) ≡ Some x → b ≡ step.node.number → IsArrival step.event a place
+        → came_from b (calls_of (after nodes number group step b).told) a (message_of x) ≡ true
+    new_one a b in_a in_b other place x item here new =
+        subst (λ z. slice_get ((group a).put z) (place - 1) ≡ Some x → is_member spec z ≡ true → nat_eq a z ≡ false → came_from z (calls_of (after nodes number group step z).told) a (message_of x) ≡ true) (sym here) at_node item in_b other
+      where
+        from_node : slice_get ((group new.from.number).put step.node.number) (place - 1) ≡ Some x → is_member spec new.from.number ≡ true → is_member spec step.node.number ≡ true → nat_eq new.from.number step.node.number ≡ false
+            → came_from step.node.number (calls_of (member_after nodes number step.node step.event group).told) new.from.number (message_of x) ≡ true
+        from_node item in_a in_b other =
+            subst (λ (e : GroupEvent). came_from step.node.number (calls_of (member_after nodes number step.node e group).told) new.from.number (message_of x) ≡ true) (sym new.is)
+            (arrival spec group new.from step.node.number place x flow.fits taking in_a in_b other item)
+
+        at_node : slice_get ((group a).put step.node.number) (place - 1) ≡ Some x → is_member spec step.node.number ≡ true → nat_eq a step.node.number ≡ false → came_from step.node.number (calls_of (after nodes number group step step.node.number).told) a (message_of x) ≡ true
+        at_node item in_b other =
+            let done : came_from step.node.number (calls_of (member_after nodes number step.node step.event group).told) a (message_of x) ≡ true =
+            subst (λ z. slice_get ((group z).put step.node.number) (place - 1) ≡ Some x → is_member spec z ≡ true → nat_eq z step.node.number ≡ false → came_from step.node.number (calls_of (member_after nodes number step.node step.event group).told) z (message_of x) ≡ true) (sym new.here)
+            (λ i ia o. from_node i ia in_b o) item in_a other in
+            ap (λ (t : Bool). came_from step.node.number (calls_of (if t then member_after nodes number step.node step.event group else group step.node.number).told) a (message_of x)) (eq-eqb step.node.number step.node.number refl) ∙ done
+
+    by : (a b : ℕ) → is_member spec a ≡ true → is_member spec b ≡ true → nat_eq a b ≡ false → (place : ℕ) (x : Entry) → slice_get ((after nodes number group step a).put b) (place - 1) ≡ Some x
+        → ((is_marked place ((group b).come a) ≡ true) ⊎ ((b ≡ step.node.number) × IsArrival step.event a place)) → came_from b (calls_of (after nodes number group step b).told) a (message_of x) ≡ true
+    by a b in_a in_b other place x item (inl old) = (goes b).from a (message_of x) (taking.taken a b in_a in_b other place x old (before a b place x (flow.come a b place old) item))
+    by a b in_a in_b other place x item (inr new) =
+        let at = came_legal group step.node a place step.event new.1 may in
+        let few = subst (λ z. place ≤ (group a).taken z) (sym new.0) at.1 in
+        new_one a b in_a in_b other place x (before a b place x (at.0, few) item) new.0 new.1
+
+pub run_takes : (nodes number : ℕ) (spec : Spec) (steps : List GroupStep) (group : Group) → IsLegalFrom nodes number group steps → Flow group → Taking spec group → Taking spec (alone_from nodes number group steps)
+run_takes nodes number spec [] group legal flow taking = taking
+run_takes nodes number spec (step ∷ steps) group legal flow taking = run_takes nodes number spec steps (after nodes number group step) legal.1 (flow_after nodes number group step legal.0 flow) (taking_after nodes number spec group step legal.0 flow taking)
+
+-- where nothing was said yet nothing was put out
+pub first_taking : (spec : Spec) (group : Group) → AllFit group → ((a : ℕ) → is_member spec a ≡ true → (group a).spec ≡ Some spec) → ((a : ℕ) (m : MsgId) → was_said (calls_in group a) m ≡ true → ⊥) → Taking spec group
+first_taking spec group fits made silent = record {
+  made = made;
+  taken = λ a b in_a in_b other place x come item. absurd (silent x.origin.number (message_of x) ((fits a).known (message_of x) ((fits a).put_known b (message_of x) (has-get ((group a).put b) (place - 1) x item))));
+}

@@ -1,0 +1,13 @@
+mod Words
+mod ReplyLemmas
+mod Fits
+mod StepLemmas
+mod LogLemmas
+mod DutyLemmas
+mod Moves
+mod Flow
+mod AcceptedLemmas
+mod OrderLemmas
+mod Agreed
+mod ExampleLemmas
+mod CrashLemmas

@@ -1,0 +1,62 @@
+-- Which messages stand in a log, by what is delivered.
+use Rattle.std.proofs.Common.{◌≡◌, ℕ, Bool, true, false, cond, ◌||◌, ◌⊎◌, inl, inr, List, [], ◌∷◌, Option, Some, refl, ap, ◌∙◌, subst}
+use Rattle.std.specs.Prelude.{filter, if◌then◌else◌}
+use Rattle.std.specs.FinSet as set
+use Rattle.std.specs.List.{list_any, AllByRecursion}
+use Rattle.gb_types.specs.Message.{same}
+use Rattle.gb_types.specs.declared.message.MsgId.{MsgId}
+use Rattle.gb_types.specs.declared.spec.Spec.{Spec}
+use Rattle.gb_types.proofs.SameLemmas.{same-true}
+use Rattle.gb_layer.specs.Modules.{now_delivered, log}
+use Rattle.gb_layer.specs.declared.broadcast_module.BroadcastModule.{BroadcastModule}
+use Rattle.gb_layer.specs.declared.call.Call.{Call}
+use Rattle.gb_fifo.specs.Order.{is_in, in_order}
+use Rattle.gb_fifo.specs.OrderLaws.{AllIn}
+use Rattle.gb_stack.specs.Kinds.{module_of, is_fifo, kind_log}
+use Rattle.gb_stack.specs.LogLaws.{ModuleLogHasDelivered}
+use Rattle.gb_history.specs.History.{calls_of, known, delivered}
+use Rattle.gb_history.specs.Messages.{has}
+use Rattle.gb_history.specs.declared.call.GroupCall.{GroupCall}
+use Rattle.gb_alone.specs.Alone.{log_at}
+use Rattle.gb_duties.proofs.Words.{or_cases, has-entries}
+
+-- what a filter leaves is what a test finds
+left_is : (p : MsgId → Bool) (xs : List MsgId) (m : MsgId) (b : Bool) → filter p xs ≡ (if b then m ∷ [] else []) → list_any p xs ≡ b
+left_is p [] m true h = absurd (cc)
+left_is p [] m false h = refl
+left_is p (x ∷ xs) m b h = go (p x) b (left_is p xs m b) h
+  where
+    go : (t b : Bool) → (filter p xs ≡ (if b then m ∷ [] else []) → list_any p xs ≡ b) → cond t (x ∷ filter p xs) (filter p xs) ≡ (if b then m ∷ [] else []) → (t || list_any p xs) ≡ b
+    go true true rest h = refl
+    go true false rest h = absurd (cc)
+    go false b rest h = rest h
+
+-- what holds of all messages of a list holds of one
+pub one_of : (P : MsgId → Type 0) (xs : List MsgId) → AllByRecursion P xs → (m : MsgId) → is_in xs m ≡ true → P m
+one_of P [] all m h = absurd (cc)
+one_of P (x ∷ xs) all m h = go (one_of P xs all.1 m) (or_cases (same x m) (is_in xs m) h)
+  where
+    go : (is_in xs m ≡ true → P m) → ((same x m ≡ true) ⊎ (is_in xs m ≡ true)) → P m
+    go rest (inl is) = subst P (same-true x m is) all.0
+    go rest (inr later) = rest later
+
+-- what stands in the log of a node is in the log of its kind
+pub logged-is : (me : ℕ) (o : Option Spec) (spec : Spec) (told : List GroupCall) (m : MsgId) → o ≡ Some spec → has (log_at me o told) m ≡ is_in (kind_log spec.kind me (set.items spec.members) (calls_of told)) m
+logged-is me o spec told m is = ap (λ (p : Option Spec). has (log_at me p told) m) is ∙ has-entries (known told) (delivered spec me told) m
+
+module _ (has_delivered : ModuleLogHasDelivered) where
+  -- a module's log has a message where it is delivered
+  pub in_log : (base : BroadcastModule) (me : ℕ) (members : List ℕ) (past : List Call) (m : MsgId) → is_in (log base me members past) m ≡ now_delivered base me members past m
+  in_log base me members past m = left_is (λ x. same x m) (log base me members past) m (now_delivered base me members past m) (has_delivered base me members past m)
+
+-- what stands in a kind's log is delivered, where the order gives up only what is delivered
+pub kind_delivered : ((D : List MsgId) → AllIn D (in_order D)) → (spec : Spec) (me : ℕ) (past : List Call) (m : MsgId) → is_in (kind_log spec.kind me (set.items spec.members) past) m ≡ true
+    → is_in (log (module_of spec.kind) me (set.items spec.members) past) m ≡ true
+kind_delivered within spec me past m = go (is_fifo spec.kind)
+  where
+    plain : List MsgId
+    plain = log (module_of spec.kind) me (set.items spec.members) past
+
+    go : (b : Bool) → is_in (if b then in_order plain else plain) m ≡ true → is_in plain m ≡ true
+    go true h = one_of (λ x. is_in plain x ≡ true) (in_order plain) (within plain) m h
+    go false h = h

@@ -1,0 +1,148 @@
+-- What an event that may happen leaves of its node.
+use Rattle.std.proofs.Common.{◌≡◌, ℕ, zero, suc, ◌+◌, ◌-◌, ◌<◌, ◌≤◌, Bool, true, false, not, ◌&&◌, nat_eq, take, List, [], ◌∷◌, ◌++◌, length, Option, Some, None, refl, sym, ◌∙◌, subst, arith, length-append}
+use Rattle.std.specs.Prelude.{slice_get, if◌then◌else◌}
+use Rattle.std.proofs.lemmas.Bool.{eqb-true}
+use Rattle.std.proofs.lemmas.List.{length-take-le}
+use Rattle.gb_types.specs.declared.entry.Entry.{Entry}
+use Rattle.gb_types.specs.declared.message.MsgId.{MsgId}
+use Rattle.gb_types.specs.declared.node.NodeId.{NodeId}
+use Rattle.gb_types.specs.declared.reply.Reply.{Reply}
+use Rattle.gb_types.specs.declared.reply.Reply.TheVariants.{Done, Said}
+use Rattle.gb_types.specs.declared.spec.Spec.{Spec}
+use Rattle.gb_layer.specs.Machine.{was_noticed, came_from}
+use Rattle.gb_rules.specs.Group.{is_other}
+use Rattle.gb_history.specs.History.{call_of, calls_of, puts_of}
+use Rattle.gb_history.specs.declared.call.GroupCall.{GroupCall}
+use Rattle.gb_history.specs.declared.call.GroupCall.TheVariants.{Own, Other, Crashed}
+use Rattle.gb_alone.specs.Alone.{Member, Group, reply_to, put_to, called, did, falls, item_came, taken_in, cut, took_notice, member_after, MayHappen}
+use Rattle.gb_alone.specs.declared.event.GroupEvent.{GroupEvent}
+use Rattle.gb_alone.specs.declared.event.GroupEvent.TheVariants.{Tenant, Make as AskMake, Open as AskOpen, Say as AskSay, Took, Came, Done as Acknowledged, Notice, Stop}
+use Rattle.gb_duties.proofs.Words.{came_stays}
+use Rattle.gb_duties.proofs.ReplyLemmas.{make_accepts}
+
+-- no more is carried than was put out
+abbrev pub Bounded : Member → Type 0
+Bounded m = (b : ℕ) → m.taken b ≤ length (m.put b)
+
+-- from m to n at the node a
+pub record Goes (a : ℕ) (m n : Member) : Type 0 where
+  pub spec : (s : Spec) → m.spec ≡ Some s → n.spec ≡ Some s
+  pub from : (p : ℕ) (x : MsgId) → came_from a (calls_of m.told) p x ≡ true → came_from a (calls_of n.told) p x ≡ true
+  -- carried items keep their places
+  pub stable : (b i : ℕ) → i < m.taken b → slice_get (n.put b) i ≡ slice_get (m.put b) i
+  pub taken : (b : ℕ) → m.taken b ≤ n.taken b
+  pub bounded : Bounded n
+
+stays : (a : ℕ) (m : Member) → Bounded m → Goes a m m
+stays a m bounded = record { spec = λ s is. is; from = λ p x h. h; stable = λ b i lt. refl; taken = λ b. omega arith; bounded = bounded }
+
+get-append : (xs ys : List Entry) (i : ℕ) → i < length xs → slice_get (xs ++ ys) i ≡ slice_get xs i
+get-append [] ys i lt = absurd (omega (arith, lt))
+get-append (x ∷ xs) ys zero lt = refl
+get-append (x ∷ xs) ys (suc i) lt = get-append xs ys i (omega (arith, lt))
+
+get-take : (n : ℕ) (xs : List Entry) (i : ℕ) → i < n → slice_get (take n xs) i ≡ slice_get xs i
+get-take zero xs i lt = absurd (omega (arith, lt))
+get-take (suc n) [] i lt = refl
+get-take (suc n) (x ∷ xs) zero lt = refl
+get-take (suc n) (x ∷ xs) (suc i) lt = get-take n xs i (omega (arith, lt))
+
+-- and then the group is told something
+called_moves : (a : ℕ) (c : GroupCall) (m n : Member) → Goes a m n → Goes a m (called a c n)
+unfolding calls_of
+called_moves a c m n goes = record {
+  spec = goes.spec;
+  from = λ p x h. came_stays a (call_of c) (calls_of n.told) p x (goes.from p x h);
+  stable = λ b i lt. grown b i n.spec (let h = goes.taken b in let k = goes.bounded b in omega (arith, h, k, lt)) ∙ goes.stable b i lt;
+  taken = goes.taken;
+  bounded = λ b. more b n.spec;
+}
+  where
+    grown : (b i : ℕ) (o : Option Spec) → i < length (n.put b) → slice_get (put_to a o c n.told n.put b) i ≡ slice_get (n.put b) i
+    grown b i None lt = refl
+    grown b i (Some spec) lt = by (is_other spec a b && not (was_noticed (call_of c ∷ calls_of n.told) b))
+      where
+        by : (t : Bool) → slice_get (if t then n.put b ++ puts_of spec a c n.told else n.put b) i ≡ slice_get (n.put b) i
+        by true = get-append (n.put b) (puts_of spec a c n.told) i lt
+        by false = refl
+
+    more : (b : ℕ) (o : Option Spec) → n.taken b ≤ length (put_to a o c n.told n.put b)
+    more b None = goes.bounded b
+    more b (Some spec) = by (is_other spec a b && not (was_noticed (call_of c ∷ calls_of n.told) b))
+      where
+        by : (t : Bool) → n.taken b ≤ length (if t then n.put b ++ puts_of spec a c n.told else n.put b)
+        by true = let h = goes.bounded b in let e = length-append (n.put b) (puts_of spec a c n.told) in omega (arith, h, e)
+        by false = goes.bounded b
+
+cut_moves : (a : ℕ) (q : NodeId) (m n : Member) → Goes a m n → Goes a m (cut q n)
+cut_moves a q m n goes = record {
+  spec = goes.spec;
+  from = goes.from;
+  stable = λ b i lt. kept b i lt (nat_eq b q.number);
+  taken = goes.taken;
+  bounded = λ b. few b (nat_eq b q.number);
+}
+  where
+    kept : (b i : ℕ) → i < m.taken b → (t : Bool) → slice_get (if t then take (n.taken b) (n.put b) else n.put b) i ≡ slice_get (m.put b) i
+    kept b i lt true = let h = goes.taken b in get-take (n.taken b) (n.put b) i (omega (arith, h, lt)) ∙ goes.stable b i lt
+    kept b i lt false = goes.stable b i lt
+
+    few : (b : ℕ) (t : Bool) → n.taken b ≤ length (if t then take (n.taken b) (n.put b) else n.put b)
+    few b true = let e = length-take-le (n.taken b) (n.put b) (goes.bounded b) in omega (arith, e)
+    few b false = goes.bounded b
+
+item_moves : (a : ℕ) (from : NodeId) (x : Entry) (m : Member) → Bounded m → Goes a m (item_came a from x m)
+item_moves a from x m bounded = by (falls a from.number x m.told m.spec)
+  where
+    by : (t : Bool) → Goes a m (if t then m else called a (Other from x) m)
+    by true = stays a m bounded
+    by false = called_moves a (Other from x) m m (stays a m bounded)
+
+taken_moves : (a : ℕ) (from : NodeId) (place : ℕ) (o : Option Entry) (m : Member) → Bounded m → Goes a m (taken_in a from place o m)
+taken_moves a from place None m bounded = stays a m bounded
+taken_moves a from place (Some x) m bounded =
+    let g = item_moves a from x m bounded in
+    record { spec = g.spec; from = g.from; stable = g.stable; taken = g.taken; bounded = g.bounded }
+
+notice_moves : (a : ℕ) (q : NodeId) (o : Option Spec) (m : Member) → Bounded m → Goes a m (took_notice a q o m)
+notice_moves a q None m bounded = stays a m bounded
+notice_moves a q (Some spec) m bounded = by (is_other spec a q.number)
+  where
+    by : (t : Bool) → Goes a m (if t then called a (Crashed q) (cut q m) else m)
+    by true = called_moves a (Crashed q) m (cut q m) (cut_moves a q m m (stays a m bounded))
+    by false = stays a m bounded
+
+did_moves : (nodes number : ℕ) (me : NodeId) (event : GroupEvent) (reply : Reply) (m : Member) → reply_to nodes number me.number event m ≡ reply → Bounded m → Goes me.number m (did me event reply m)
+did_moves nodes number me (AskMake spec) Done m e bounded =
+    let new = (make_accepts nodes number me.number spec m e).new in
+    record { spec = λ s is. absurd (other s (sym new ∙ is)); from = λ p x h. h; stable = λ b i lt. refl; taken = λ b. omega arith; bounded = bounded }
+  where
+    other : (s : Spec) → None ≡ Some s → ⊥
+    other s h = absurd (cc)
+did_moves nodes number me AskOpen Done m e bounded = record { spec = λ s is. is; from = λ p x h. h; stable = λ b i lt. refl; taken = λ b. omega arith; bounded = bounded }
+did_moves nodes number me (AskSay payload) (Said seq) m e bounded = called_moves me.number (Own (record { origin = me; seq = seq; payload = payload })) m m (stays me.number m bounded)
+did_moves nodes number me event reply m e bounded = stays me.number m bounded
+
+took_moves : (a : ℕ) (b : NodeId) (count : ℕ) (m : Member) → m.taken b.number + count ≤ length (m.put b.number) → Bounded m → Goes a m (record m { taken = λ x. if nat_eq x b.number then m.taken x + count else m.taken x })
+took_moves a b count m room bounded = record { spec = λ s is. is; from = λ p x h. h; stable = λ y i lt. refl; taken = λ y. more y (nat_eq y b.number); bounded = λ y. few y (nat_eq y b.number) refl }
+  where
+    more : (y : ℕ) (t : Bool) → m.taken y ≤ (if t then m.taken y + count else m.taken y)
+    more y true = omega arith
+    more y false = omega arith
+
+    few : (y : ℕ) (t : Bool) → nat_eq y b.number ≡ t → (if t then m.taken y + count else m.taken y) ≤ length (m.put y)
+    few y true is = subst (λ z. m.taken z + count ≤ length (m.put z)) (sym (eqb-true y b.number is)) room
+    few y false is = bounded y
+
+pub event_moves : (nodes number : ℕ) (group : Group) (me : NodeId) (event : GroupEvent) → MayHappen me event group → Bounded (group me.number) → Goes me.number (group me.number) (member_after nodes number me event group)
+event_moves nodes number group me (Tenant reserve) may bounded = record { spec = λ s is. is; from = λ p x h. h; stable = λ b i lt. refl; taken = λ b. omega arith; bounded = bounded }
+event_moves nodes number group me (Took b count) may bounded = took_moves me.number b count (group me.number) may.2 bounded
+event_moves nodes number group me (Came from place) may bounded = taken_moves me.number from place (slice_get ((group from.number).put me.number) (place - 1)) (group me.number) bounded
+event_moves nodes number group me (Acknowledged b place count) may bounded = record { spec = λ s is. is; from = λ p x h. h; stable = λ b i lt. refl; taken = λ b. omega arith; bounded = bounded }
+event_moves nodes number group me (Notice q) may bounded =
+    let g = notice_moves me.number q (group me.number).spec (group me.number) bounded in
+    record { spec = g.spec; from = g.from; stable = g.stable; taken = g.taken; bounded = g.bounded }
+event_moves nodes number group me Stop may bounded = record { spec = λ s is. is; from = λ p x h. h; stable = λ b i lt. refl; taken = λ b. omega arith; bounded = bounded }
+event_moves nodes number group me event may bounded =
+    let g = did_moves nodes number me event (reply_to nodes number me.number event (group me.number)) (group me.number) refl bounded in
+    record { spec = g.spec; from = g.from; stable = g.stable; taken = g.taken; bounded = g.bounded }

@@ -1,0 +1,55 @@
+-- Agreement: which messages the logs of a group share. Cachin, Guerraoui, Rodrigues, Introduction to Reliable and Secure Distributed Programming, 2011: Validity
+-- (Module 3.1), Agreement (Module 3.2, RB4) and Uniform Agreement (Module 3.3, URB4). There they say that a message is delivered eventually. Here they are
+-- safety: where a group is settled the logs are so; that it ever settles is not said.
+use Rattle.std.specs.Prelude.{ℕ, ◌≡◌, ◌≢◌, ◌≤◌, ◌<◌, Bool, true, false, List, [], ◌++◌, All, length, Some}
+use Rattle.gb_types.specs.declared.message.MsgId.{MsgId}
+use Rattle.gb_types.specs.declared.node.NodeId.{NodeId}
+use Rattle.gb_types.specs.declared.spec.Spec.{Spec}
+use Rattle.gb_layer.specs.Machine.{was_noticed}
+use Rattle.gb_layer.specs.declared.broadcast_module.BroadcastModule.TheVariants.{BestEffort, AllAck}
+use Rattle.gb_fifo.specs.Order.{numbered}
+use Rattle.gb_stack.specs.Kinds.{module_of}
+use Rattle.gb_rules.specs.Group.{is_member}
+use Rattle.gb_history.specs.History.{calls_of}
+use Rattle.gb_history.specs.Messages.{has}
+use Rattle.gb_alone.specs.Alone.{Group, alone, log_at, is_marked, IsLegal}
+use Rattle.gb_alone.specs.Laws.{Accepted, accepted}
+use Rattle.gb_alone.specs.declared.event.GroupStep.{GroupStep}
+
+-- a member that runs, where these nodes run and the others have stopped
+abbrev pub IsRunning : (ℕ → Bool) → Spec → ℕ → Type 0
+IsRunning runs spec a = (is_member spec a ≡ true) × (runs a ≡ true)
+
+-- The group is settled, with this spec, where these nodes run and the others have stopped.
+pub record IsSettled (nodes number : ℕ) (steps : List GroupStep) (runs : ℕ → Bool) (spec : Spec) : Type 0 where
+  -- at some moment all members had made it with this spec, and no message had been accepted anywhere
+  pub earlier : List GroupStep
+  pub later : List GroupStep
+  pub moment : steps ≡ earlier ++ later
+  pub made : (a : ℕ) → is_member spec a ≡ true → (alone nodes number earlier a).spec ≡ Some spec
+  pub silent : (s : ℕ) → accepted nodes number earlier s ≡ []
+  -- from one running member to another nothing waits, and each carried item has come
+  pub carried : (a b : ℕ) → IsRunning runs spec a → IsRunning runs spec b → a ≢ b → (alone nodes number steps a).taken b ≡ length ((alone nodes number steps a).put b)
+  pub came : (a b : ℕ) → IsRunning runs spec a → IsRunning runs spec b → a ≢ b → (place : ℕ) → 0 < place → place ≤ (alone nodes number steps a).taken b → is_marked place ((alone nodes number steps b).come a) ≡ true
+  -- each stopped member is noticed at each running one, and no running one at any member
+  pub noticed : (a b : ℕ) → IsRunning runs spec a → is_member spec b ≡ true → runs b ≡ false → was_noticed (calls_of (alone nodes number steps a).told) b ≡ true
+  pub unnoticed : (a b : ℕ) → is_member spec a ≡ true → IsRunning runs spec b → was_noticed (calls_of (alone nodes number steps a).told) b ≡ false
+
+-- the message stands in the log of the node
+abbrev pub is_logged : Group → ℕ → MsgId → Bool
+is_logged group b m = has (log_at b (group b).spec (group b).told) m
+
+-- These are the logs of a group after events, where these nodes run.
+pub record Agreement (nodes number : ℕ) (steps : List GroupStep) (runs : ℕ → Bool) (spec : Spec) : Type 0 where
+  -- Validity: the log of each running member holds each message that was accepted at a running member
+  pub validity : (s : NodeId) (b : ℕ) → IsRunning runs spec s.number → IsRunning runs spec b
+      → All (λ (x : Accepted). is_logged (alone nodes number steps) b (numbered s x.seq) ≡ true) (accepted nodes number steps s.number)
+  -- Agreement: but for best effort the logs of running members hold the same messages
+  pub agreement : module_of spec.kind ≢ BestEffort → (b c : ℕ) → IsRunning runs spec b → IsRunning runs spec c → (m : MsgId) → is_logged (alone nodes number steps) b m ≡ is_logged (alone nodes number steps) c m
+  -- Uniform Agreement: with all-ack they hold each message that stands in the log of any member, one that stopped too
+  pub uniform_agreement : module_of spec.kind ≡ AllAck → (b c : ℕ) → is_member spec b ≡ true → IsRunning runs spec c → (m : MsgId) → is_logged (alone nodes number steps) b m ≡ true
+      → is_logged (alone nodes number steps) c m ≡ true
+
+-- whichever nodes are taken as those that run
+abbrev pub IsAgreed : Type 0
+IsAgreed = (nodes number : ℕ) (steps : List GroupStep) → IsLegal nodes number steps → (runs : ℕ → Bool) (spec : Spec) → IsSettled nodes number steps runs spec → Agreement nodes number steps runs spec

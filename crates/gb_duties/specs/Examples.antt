@@ -1,0 +1,70 @@
+-- The group of the worked examples: the members 0, 1 and 2, of which node 0 says one message.
+use Rattle.std.specs.Prelude.{ℕ, Bool, not, nat_eq, List, [], ◌∷◌, ◌++◌}
+use Rattle.std.specs.Ordering.{nat_cmp}
+use Rattle.std.specs.FinSet as set
+use Rattle.std.proofs.Common.{lit<}
+use Rattle.gb_types.specs.declared.entry.Entry.{Entry}
+use Rattle.gb_types.specs.declared.kind.Kind.{Kind}
+use Rattle.gb_types.specs.declared.node.NodeId.{NodeId}
+use Rattle.gb_types.specs.declared.spec.Spec.{Spec}
+use Rattle.gb_alone.specs.Alone.{alone, log_at}
+use Rattle.gb_alone.specs.declared.event.GroupEvent.{GroupEvent}
+use Rattle.gb_alone.specs.declared.event.GroupEvent.TheVariants.{Tenant, Make, Open, Say, Took, Came, Notice, Stop}
+use Rattle.gb_alone.specs.declared.event.GroupStep.{GroupStep}
+
+abbrev pub first : NodeId
+first = record { number = 0; below = lit< tt }
+
+abbrev pub second : NodeId
+second = record { number = 1; below = lit< tt }
+
+abbrev pub third : NodeId
+third = record { number = 2; below = lit< tt }
+
+abbrev pub members : set.FinSet nat_cmp
+members = set.from_list (0 ∷ 1 ∷ 2 ∷ [])
+
+abbrev pub spec_of : Kind → Spec
+spec_of kind = record { kind = kind; members = members; msgs = 8; bytes = 64; window = 4 }
+
+-- the message that node 0 says
+abbrev pub message : Entry
+message = record { origin = first; seq = 1; payload = 97 ∷ [] }
+
+abbrev pub at : NodeId → GroupEvent → GroupStep
+at a event = record { node = a; event = event }
+
+-- a node opens the group
+abbrev pub opened_at : Kind → NodeId → List GroupStep
+opened_at kind a = at a (Tenant (record { groups = 4; msgs = 8; bytes = 64; window = 4 })) ∷ at a (Make (spec_of kind)) ∷ at a Open ∷ []
+
+-- all nodes do
+abbrev pub opened : Kind → List GroupStep
+opened kind = opened_at kind first ++ (opened_at kind second ++ opened_at kind third)
+
+-- node 0 says the message, and it comes to node 1 alone
+abbrev pub to_one : List GroupStep
+to_one = at first (Say (97 ∷ [])) ∷ at first (Took second 1) ∷ at second (Came first 1) ∷ []
+
+-- it comes to node 2 too, and from there to node 1 once more
+abbrev pub to_all : List GroupStep
+to_all = to_one ++ (at first (Took third 1) ∷ at third (Came first 1) ∷ at third (Took second 1) ∷ at second (Came third 1) ∷ [])
+
+-- node 0 stops before the message goes to node 2, and the other nodes notice that
+abbrev pub loss : List GroupStep
+loss = to_one ++ (at first Stop ∷ at second (Notice first) ∷ at third (Notice first) ∷ [])
+
+-- and what they relay comes
+abbrev pub crash : List GroupStep
+crash = loss ++ (at second (Took third 1) ∷ at third (Came second 1) ∷ at third (Took second 1) ∷ at second (Came third 1) ∷ [])
+
+-- the nodes that run after a crash
+abbrev pub runs : ℕ → Bool
+runs a = not (nat_eq a 0)
+
+-- of a group of the kind after these steps: what stands in the log of a node, and what it has put out to another
+abbrev pub log_in : Kind → List GroupStep → ℕ → List Entry
+log_in kind steps b = log_at b (alone 3 0 (opened kind ++ steps) b).spec (alone 3 0 (opened kind ++ steps) b).told
+
+abbrev pub put_in : Kind → List GroupStep → ℕ → ℕ → List Entry
+put_in kind steps b c = (alone 3 0 (opened kind ++ steps) b).put c

@@ -1,0 +1,3 @@
+pub mod Duties
+pub mod Agreement
+pub mod Examples

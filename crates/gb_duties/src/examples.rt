@@ -1,0 +1,58 @@
+//! Worked examples of duties and of agreement, in a group of the members 0, 1 and 2 where node 0 says one message:
+//! laws that compute, with no code.
+ghost use Rattle.std.specs.Prelude.{◌≡◌, true, ◌++◌, [], ◌∷◌};
+ghost use Rattle.gb_types.specs.Entry.{message_of};
+ghost use Rattle.gb_types.specs.declared.kind.Kind.TheVariants as kind;
+ghost use Rattle.gb_layer.specs.Machine.{mentions};
+ghost use Rattle.gb_history.specs.History.{calls_of};
+ghost use Rattle.gb_alone.specs.Alone.{alone, IsLegal};
+ghost use Rattle.gb_alone.specs.declared.event.GroupEvent.TheVariants.{Notice};
+ghost use Rattle.gb_duties.specs.Agreement.{IsSettled};
+ghost use Rattle.gb_duties.specs.Examples.{first, second, third, spec_of, message, at, opened, to_one, to_all, loss, crash, runs, log_in, put_in};
+
+/// A best-effort node has put out what it said, and does not relay what it delivered, whoever is noticed.
+pub fn a_best_effort_node_puts_out_its_own()
+    ensures own { put_in kind.Beb to_one 0 2 ≡ message ∷ [] }
+    ensures delivered { log_in kind.Beb to_one 1 ≡ message ∷ [] }
+    ensures not_relayed { put_in kind.Beb (to_one ++ at second (Notice first) ∷ []) 1 2 ≡ [] }
+{}
+
+/// A lazy node owes nothing of another's message before it notices the origin, and has relayed it from then on.
+pub fn a_lazy_node_relays_from_the_notice_on()
+    ensures own { put_in kind.Lazy to_one 0 2 ≡ message ∷ [] }
+    ensures delivered { log_in kind.Lazy to_one 1 ≡ message ∷ [] }
+    ensures before { put_in kind.Lazy to_one 1 2 ≡ [] }
+    ensures noticed { put_in kind.Lazy (to_one ++ at second (Notice first) ∷ []) 1 2 ≡ message ∷ [] }
+{}
+
+/// An eager node that delivered a message has put it out to each other member.
+pub fn an_eager_node_relays_at_once()
+    ensures delivered { log_in kind.Eager to_one 1 ≡ message ∷ [] }
+    ensures relayed { put_in kind.Eager to_one 1 2 ≡ message ∷ [] }
+    ensures relayed_back { put_in kind.Eager to_one 1 0 ≡ message ∷ [] }
+{}
+
+/// An all-ack node delivers a message once each other member had it or is noticed.
+pub fn an_all_ack_node_waits_for_each_member()
+    ensures not_yet { log_in kind.AllAck to_one 1 ≡ [] }
+    ensures delivered { log_in kind.AllAck to_all 1 ≡ message ∷ [] }
+    ensures had { mentions (calls_of (alone 3 0 (opened kind.AllAck ++ to_all) 2).told) (message_of message) ≡ true }
+    ensures noticed { log_in kind.AllAck (to_one ++ at second (Notice third) ∷ []) 1 ≡ message ∷ [] }
+{}
+
+/// A group settles after a crash: node 0 stopped before its message went to node 2, and both nodes that run have it in
+/// their logs, since each relayed it.
+pub fn a_group_settles_after_a_crash()
+    ensures legal { IsLegal 3 0 (opened kind.FifoLazy ++ crash) }
+    ensures settled { IsSettled 3 0 (opened kind.FifoLazy ++ crash) runs (spec_of kind.FifoLazy) }
+    ensures one { log_in kind.FifoLazy crash 1 ≡ message ∷ [] }
+    ensures two { log_in kind.FifoLazy crash 2 ≡ message ∷ [] }
+{}
+
+/// With best effort a group settles after the same crash, and the message of the node that stopped is in one log alone.
+pub fn best_effort_does_not_agree()
+    ensures legal { IsLegal 3 0 (opened kind.Beb ++ loss) }
+    ensures settled { IsSettled 3 0 (opened kind.Beb ++ loss) runs (spec_of kind.Beb) }
+    ensures one { log_in kind.Beb loss 1 ≡ message ∷ [] }
+    ensures two { log_in kind.Beb loss 2 ≡ [] }
+{}

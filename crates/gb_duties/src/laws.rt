@@ -1,0 +1,28 @@
+//! Laws of one group: what its nodes have done for each other, and what their logs share.
+ghost use Rattle.gb_duties.specs.Agreement.{IsAgreed};
+ghost use Rattle.gb_duties.specs.Duties.{IsDutiful};
+
+use gb_fifo::order::{gives_up_whole_runs, top_is_the_greatest};
+use gb_stack::stands::module_logs;
+
+/// Duties: after every event, at each node, for each message that was delivered there and each other member. An eager
+/// node has noticed the member or put the message out to it; a lazy one so where the message is its own or of an
+/// origin that it noticed; a best-effort one where it is its own. At an all-ack node the member is noticed, or has
+/// said the message or taken it in at some moment of the run.
+pub fn duties()
+    ensures { IsDutiful }
+{
+    module_logs();
+    gives_up_whole_runs();
+}
+
+/// Agreement: where a group is settled, whichever nodes are taken as those that run, the logs of the running members
+/// hold each message that was accepted at a running member and, but for best effort, the same messages; with all-ack
+/// also each message in the log of a member that stopped.
+pub fn agreement()
+    ensures { IsAgreed }
+{
+    module_logs();
+    gives_up_whole_runs();
+    top_is_the_greatest();
+}
