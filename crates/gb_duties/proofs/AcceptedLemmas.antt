@@ -22,7 +22,7 @@ use Rattle.gb_history.specs.declared.call.GroupCall.TheVariants.{Other, Crashed}
 use Rattle.gb_alone.specs.Alone.{Member, Group, reply_to, called, did, falls, taken_in, cut, took_notice, member_after, after, nobody, alone_from, alone}
 use Rattle.gb_alone.specs.Laws.{Accepted, accepted_in, accepted_at, accepted_from, accepted}
 use Rattle.gb_alone.specs.declared.event.GroupEvent.{GroupEvent}
-use Rattle.gb_alone.specs.declared.event.GroupEvent.TheVariants.{Tenant, Make as AskMake, Open as AskOpen, Say as AskSay, Took, Came, Done as Acknowledged, Notice, Stop}
+use Rattle.gb_alone.specs.declared.event.GroupEvent.TheVariants.{Tenant, Make as AskMake, Open as AskOpen, Shut as AskShut, Say as AskSay, Took, Came, Done as Acknowledged, Notice, Stop}
 use Rattle.gb_alone.specs.declared.event.GroupStep.{GroupStep}
 use Rattle.gb_duties.proofs.Fits.{Later}
 use Rattle.gb_duties.proofs.StepLemmas.{calls_in, AllFit, step_fits, nobody_fits}
@@ -37,6 +37,7 @@ did_said : (me : NodeId) (event : GroupEvent) (reply : Reply) (m : Member) → A
 unfolding calls_of
 did_said me (AskMake spec) Done m = tt
 did_said me AskOpen Done m = tt
+did_said me AskShut Done m = tt
 did_said me (AskSay payload) (Said seq) m = (or_first (same (numbered me seq) (numbered me seq)) (was_said (calls_of m.told) (numbered me seq)) (same_itself (numbered me seq)), tt)
 did_said me event reply m = tt
 
@@ -88,6 +89,7 @@ accepted_said nodes number s steps = run_said nodes number s steps nobody nobody
 did_silent : (me : NodeId) (event : GroupEvent) (reply : Reply) (m : Member) → accepted_in event reply ≡ [] → (x : MsgId) → was_said (calls_of (did me event reply m).told) x ≡ true → was_said (calls_of m.told) x ≡ true
 did_silent me (AskMake spec) Done m none x h = h
 did_silent me AskOpen Done m none x h = h
+did_silent me AskShut Done m none x h = h
 did_silent me (AskSay payload) (Said seq) m none x h = absurd (cc)
 did_silent me event reply m none x h = h
 

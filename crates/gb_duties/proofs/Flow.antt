@@ -19,7 +19,7 @@ use Rattle.gb_history.specs.History.{calls_of, falls_after}
 use Rattle.gb_history.specs.declared.call.GroupCall.TheVariants.{Other, Crashed}
 use Rattle.gb_alone.specs.Alone.{Member, Group, reply_to, called, did, falls, taken_in, cut, took_notice, member_after, after, nobody, alone_from, is_marked, MayHappen, IsLegalFrom}
 use Rattle.gb_alone.specs.declared.event.GroupEvent.{GroupEvent}
-use Rattle.gb_alone.specs.declared.event.GroupEvent.TheVariants.{Tenant, Make as AskMake, Open as AskOpen, Say as AskSay, Took, Came, Done as Acknowledged, Notice, Stop}
+use Rattle.gb_alone.specs.declared.event.GroupEvent.TheVariants.{Tenant, Make as AskMake, Open as AskOpen, Shut as AskShut, Say as AskSay, Took, Came, Done as Acknowledged, Notice, Stop}
 use Rattle.gb_alone.specs.declared.event.GroupStep.{GroupStep}
 use Rattle.gb_duties.proofs.Words.{or_cases, has-get}
 use Rattle.gb_duties.proofs.ReplyLemmas.{IsFair, fall_why}
@@ -51,6 +51,7 @@ record IsArrival (event : GroupEvent) (y place : ℕ) : Type 0 where
 did_come : (me : NodeId) (event : GroupEvent) (reply : Reply) (m : Member) → (did me event reply m).come ≡ m.come
 did_come me (AskMake spec) Done m = refl
 did_come me AskOpen Done m = refl
+did_come me AskShut Done m = refl
 did_come me (AskSay payload) (Said seq) m = refl
 did_come me event reply m = refl
 

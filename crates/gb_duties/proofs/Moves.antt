@@ -16,7 +16,7 @@ use Rattle.gb_history.specs.declared.call.GroupCall.{GroupCall}
 use Rattle.gb_history.specs.declared.call.GroupCall.TheVariants.{Own, Other, Crashed}
 use Rattle.gb_alone.specs.Alone.{Member, Group, reply_to, put_to, called, did, falls, item_came, taken_in, cut, took_notice, member_after, MayHappen}
 use Rattle.gb_alone.specs.declared.event.GroupEvent.{GroupEvent}
-use Rattle.gb_alone.specs.declared.event.GroupEvent.TheVariants.{Tenant, Make as AskMake, Open as AskOpen, Say as AskSay, Took, Came, Done as Acknowledged, Notice, Stop}
+use Rattle.gb_alone.specs.declared.event.GroupEvent.TheVariants.{Tenant, Make as AskMake, Open as AskOpen, Shut as AskShut, Say as AskSay, Took, Came, Done as Acknowledged, Notice, Stop}
 use Rattle.gb_duties.proofs.Words.{came_stays}
 use Rattle.gb_duties.proofs.ReplyLemmas.{make_accepts}
 
@@ -120,6 +120,7 @@ did_moves nodes number me (AskMake spec) Done m e bounded =
     other : (s : Spec) → None ≡ Some s → ⊥
     other s h = absurd (cc)
 did_moves nodes number me AskOpen Done m e bounded = record { spec = λ s is. is; from = λ p x h. h; stable = λ b i lt. refl; taken = λ b. omega arith; bounded = bounded }
+did_moves nodes number me AskShut Done m e bounded = record { spec = λ s is. is; from = λ p x h. h; stable = λ b i lt. refl; taken = λ b. omega arith; bounded = bounded }
 did_moves nodes number me (AskSay payload) (Said seq) m e bounded = called_moves me.number (Own (record { origin = me; seq = seq; payload = payload })) m m (stays me.number m bounded)
 did_moves nodes number me event reply m e bounded = stays me.number m bounded
 

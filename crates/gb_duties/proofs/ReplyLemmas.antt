@@ -16,7 +16,7 @@ use Rattle.gb_rules.specs.Group.{say_answer, is_member, on_made}
 use Rattle.gb_rules.specs.LetFall.{is_let_fall}
 use Rattle.gb_rules.specs.Tenant.{is_bad, is_over, make_answer, by_tenant}
 use Rattle.gb_rules.specs.declared.phase.Phase.{Phase}
-use Rattle.gb_rules.specs.declared.phase.Phase.TheVariants.{Made, Opened}
+use Rattle.gb_rules.specs.declared.phase.Phase.TheVariants.{Made, Opened, Shut}
 use Rattle.gb_rules.specs.declared.reserve.Reserve.{Reserve}
 use Rattle.gb_alone.specs.Alone.{Member, reply_to, shown_of}
 use Rattle.gb_alone.specs.declared.event.GroupEvent.TheVariants.{Make as AskMake, Say as AskSay}
@@ -42,6 +42,7 @@ say_accepts nodes number me payload seq m = running m.stopped
 
     answered : (spec : Spec) → m.spec ≡ Some spec → (phase : Phase) (log : List Entry) → say_answer (record { spec = spec; phase = phase; said = said_in m.told; log = log }) payload ≡ Said seq → Accepts m seq
     answered spec made Made log h = absurd (cc)
+    answered spec made Shut log h = absurd (cc)
     answered spec made Opened log h = admitted spec made (nat_lt PAYLOAD (length payload)) (nat_le spec.msgs (said_in m.told)) refl h
 
     by : (reserve : Option Reserve) (o : Option Spec) → m.spec ≡ o → by_tenant (λ _. on_made (λ s. say_answer s payload) (shown_of me m.phase m.told o)) reserve ≡ Said seq → Accepts m seq

@@ -23,7 +23,7 @@ use Rattle.gb_history.specs.declared.call.GroupCall.{GroupCall}
 use Rattle.gb_history.specs.declared.call.GroupCall.TheVariants.{Own, Other, Crashed}
 use Rattle.gb_alone.specs.Alone.{Member, Group, reply_to, put_to, called, did, falls, item_came, taken_in, cut, took_notice, node_noticed, commanded, member_after, after, nobody, alone_from, alone}
 use Rattle.gb_alone.specs.declared.event.GroupEvent.{GroupEvent}
-use Rattle.gb_alone.specs.declared.event.GroupEvent.TheVariants.{Tenant, Make as AskMake, Open as AskOpen, Say as AskSay, Took, Came, Done as Acknowledged, Notice, Stop}
+use Rattle.gb_alone.specs.declared.event.GroupEvent.TheVariants.{Tenant, Make as AskMake, Open as AskOpen, Shut as AskShut, Say as AskSay, Took, Came, Done as Acknowledged, Notice, Stop}
 use Rattle.gb_alone.specs.declared.event.GroupStep.{GroupStep}
 use Rattle.gb_duties.proofs.Words.{refuted, has-take, has-get, said_stays, noticed_stays}
 use Rattle.gb_duties.proofs.ReplyLemmas.{say_accepts, Makes, make_accepts, fair_item}
@@ -156,6 +156,7 @@ did_result : (nodes number : ℕ) (group : Group) (me : NodeId) (event : GroupEv
 did_result nodes number group me (AskMake spec) Done e all =
     kept group me.number (record (group me.number) { spec = Some spec }) all refl (λ calls fits. made_fits calls me.number spec (group me.number) (make_accepts nodes number me.number spec (group me.number) e) fits)
 did_result nodes number group me AskOpen Done e all = kept group me.number (did me AskOpen Done (group me.number)) all refl (λ calls fits. fits)
+did_result nodes number group me AskShut Done e all = kept group me.number (did me AskShut Done (group me.number)) all refl (λ calls fits. fits)
 did_result nodes number group me (AskSay payload) (Said seq) e all =
     let ok = say_accepts nodes number me.number payload seq (group me.number) e in
     called_result group me.number (Own (record { origin = me; seq = seq; payload = payload })) ok.spec ok.made all (λ calls later. (refl, ok.next, ok.within))
