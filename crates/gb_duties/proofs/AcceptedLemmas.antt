@@ -24,7 +24,7 @@ use Rattle.gb_alone.specs.Laws.{Accepted, accepted_in, accepted_at, accepted_fro
 use Rattle.gb_alone.specs.declared.event.GroupEvent.{GroupEvent}
 use Rattle.gb_alone.specs.declared.event.GroupEvent.TheVariants.{Tenant, Make as AskMake, Open as AskOpen, Shut as AskShut, Say as AskSay, Took, Came, Done as Acknowledged, Notice, Stop}
 use Rattle.gb_alone.specs.declared.event.GroupStep.{GroupStep}
-use Rattle.gb_duties.proofs.Fits.{Later}
+use Rattle.gb_duties.proofs.InvariantLemmas.{Later}
 use Rattle.gb_duties.proofs.StepLemmas.{calls_in, AllFit, step_fits, nobody_fits}
 
 -- What was accepted was said.

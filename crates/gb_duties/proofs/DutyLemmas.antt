@@ -22,8 +22,8 @@ use Rattle.gb_rules.specs.Group.{is_member, is_other}
 use Rattle.gb_history.specs.History.{calls_of}
 use Rattle.gb_alone.specs.Alone.{Member, alone}
 use Rattle.gb_duties.specs.Duties.{IsPutOut, HasHad, Duty, IsDelivered, IsDutiful}
-use Rattle.gb_duties.proofs.Words.{or_cases}
-use Rattle.gb_duties.proofs.Fits.{FitsAt}
+use Rattle.gb_duties.proofs.WordLemmas.{or_cases}
+use Rattle.gb_duties.proofs.InvariantLemmas.{FitsAt}
 use Rattle.gb_duties.proofs.LogLemmas.{in_log, logged-is, kind_delivered}
 use Rattle.gb_duties.proofs.StepLemmas.{calls_in, alone_fits}
 

@@ -25,7 +25,7 @@ use Rattle.gb_alone.specs.Alone.{Member, Group, called, cut, falls, taken_in, to
 use Rattle.gb_alone.specs.declared.event.GroupEvent.TheVariants.{Tenant, Make, Open, Say, Took, Came, Notice}
 use Rattle.gb_alone.specs.declared.event.GroupStep.{GroupStep}
 use Rattle.gb_duties.specs.Examples.{first, second, third, message, members, spec_of, at, opened_at, opened, to_one, to_all, log_in, put_in}
-use Rattle.gb_duties.proofs.Words.{or_cases, both_ways, eq_self}
+use Rattle.gb_duties.proofs.WordLemmas.{or_cases, both_ways, eq_self}
 
 pub in_0 : set.contains members 0 ≡ true
 in_0 = set.contains-from_list_nat (0 ∷ 1 ∷ 2 ∷ []) 0

@@ -18,7 +18,7 @@ use Rattle.gb_history.specs.History.{calls_of, known, delivered}
 use Rattle.gb_history.specs.Messages.{has}
 use Rattle.gb_history.specs.declared.call.GroupCall.{GroupCall}
 use Rattle.gb_alone.specs.Alone.{log_at}
-use Rattle.gb_duties.proofs.Words.{or_cases, has-entries}
+use Rattle.gb_duties.proofs.WordLemmas.{or_cases, has-entries}
 
 -- what a filter leaves is what a test finds
 left_is : (p : MsgId → Bool) (xs : List MsgId) (m : MsgId) (b : Bool) → filter p xs ≡ (if b then m ∷ [] else []) → list_any p xs ≡ b

@@ -13,7 +13,7 @@ use Rattle.gb_layer.specs.declared.call.Call.{Call}
 use Rattle.gb_fifo.specs.Order.{is_in, numbered, upto, top, numbers_of, in_order}
 use Rattle.gb_stack.specs.Kinds.{module_of, is_fifo, kind_log}
 use Rattle.gb_stack.specs.LogLaws.{ModuleLogHasDelivered}
-use Rattle.gb_duties.proofs.Words.{or_cases}
+use Rattle.gb_duties.proofs.WordLemmas.{or_cases}
 use Rattle.gb_duties.proofs.LogLemmas.{in_log}
 
 range_has : (j a n : ℕ) → a ≤ j → j < a + n → list_any (λ k. nat_eq k j) (range_with_len a n) ≡ true

@@ -25,9 +25,9 @@ use Rattle.gb_alone.specs.Alone.{Member, Group, reply_to, put_to, called, did, f
 use Rattle.gb_alone.specs.declared.event.GroupEvent.{GroupEvent}
 use Rattle.gb_alone.specs.declared.event.GroupEvent.TheVariants.{Tenant, Make as AskMake, Open as AskOpen, Shut as AskShut, Say as AskSay, Took, Came, Done as Acknowledged, Notice, Stop}
 use Rattle.gb_alone.specs.declared.event.GroupStep.{GroupStep}
-use Rattle.gb_duties.proofs.Words.{refuted, has-take, has-get, said_stays, noticed_stays}
+use Rattle.gb_duties.proofs.WordLemmas.{refuted, has-take, has-get, said_stays, noticed_stays}
 use Rattle.gb_duties.proofs.ReplyLemmas.{say_accepts, Makes, make_accepts, fair_item}
-use Rattle.gb_duties.proofs.Fits.{Fits, FitsAt, Later, fits_later, Brings, fits_called}
+use Rattle.gb_duties.proofs.InvariantLemmas.{Fits, FitsAt, Later, fits_later, Brings, fits_called}
 
 -- the calls of each node
 abbrev pub calls_in : Group → ℕ → List Call

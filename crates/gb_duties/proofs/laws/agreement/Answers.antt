@@ -1,4 +1,4 @@
-use Rattle.gb_duties.proofs.Agreed.{is_agreed}
+use Rattle.gb_duties.proofs.AgreementLemmas.{is_agreed}
 use Rattle.gb_duties.proofs.laws.agreement.Goals as goal
 
 pub returns : goal.returns

@@ -20,7 +20,7 @@ use Rattle.gb_history.specs.Messages.{has}
 use Rattle.gb_history.specs.declared.call.GroupCall.{GroupCall}
 use Rattle.gb_history.specs.declared.call.GroupCall.TheVariants.{Own, Other, Crashed}
 use Rattle.gb_alone.specs.Alone.{Member, put_to}
-use Rattle.gb_duties.proofs.Words.{or_cases, is_not, has-append, has-entries, in_newly}
+use Rattle.gb_duties.proofs.WordLemmas.{or_cases, is_not, has-append, has-entries, in_newly}
 use Rattle.gb_duties.proofs.ReplyLemmas.{IsFair}
 
 -- what holds at the node a, where these are the calls of each node

@@ -17,7 +17,7 @@ use Rattle.gb_history.specs.declared.call.GroupCall.TheVariants.{Own, Other, Cra
 use Rattle.gb_alone.specs.Alone.{Member, Group, reply_to, put_to, called, did, falls, item_came, taken_in, cut, took_notice, member_after, MayHappen}
 use Rattle.gb_alone.specs.declared.event.GroupEvent.{GroupEvent}
 use Rattle.gb_alone.specs.declared.event.GroupEvent.TheVariants.{Tenant, Make as AskMake, Open as AskOpen, Shut as AskShut, Say as AskSay, Took, Came, Done as Acknowledged, Notice, Stop}
-use Rattle.gb_duties.proofs.Words.{came_stays}
+use Rattle.gb_duties.proofs.WordLemmas.{came_stays}
 use Rattle.gb_duties.proofs.ReplyLemmas.{make_accepts}
 
 -- no more is carried than was put out

@@ -21,10 +21,10 @@ use Rattle.gb_alone.specs.Alone.{Member, Group, reply_to, called, did, falls, ta
 use Rattle.gb_alone.specs.declared.event.GroupEvent.{GroupEvent}
 use Rattle.gb_alone.specs.declared.event.GroupEvent.TheVariants.{Tenant, Make as AskMake, Open as AskOpen, Shut as AskShut, Say as AskSay, Took, Came, Done as Acknowledged, Notice, Stop}
 use Rattle.gb_alone.specs.declared.event.GroupStep.{GroupStep}
-use Rattle.gb_duties.proofs.Words.{or_cases, has-get}
+use Rattle.gb_duties.proofs.WordLemmas.{or_cases, has-get}
 use Rattle.gb_duties.proofs.ReplyLemmas.{IsFair, fall_why}
 use Rattle.gb_duties.proofs.StepLemmas.{calls_in, AllFit, step_fits, nobody_fits}
-use Rattle.gb_duties.proofs.Moves.{Bounded, Goes, event_moves}
+use Rattle.gb_duties.proofs.MoveLemmas.{Bounded, Goes, event_moves}
 
 pub record Flow (group : Group) : Type 0 where
   pub fits : AllFit group

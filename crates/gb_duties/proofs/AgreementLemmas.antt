@@ -27,10 +27,10 @@ use Rattle.gb_alone.specs.Alone.{Group, after, nobody, alone_from, alone, is_mar
 use Rattle.gb_alone.specs.Laws.{Accepted, accepted}
 use Rattle.gb_alone.specs.declared.event.GroupStep.{GroupStep}
 use Rattle.gb_duties.specs.Agreement.{IsRunning, is_logged, Agreement, IsAgreed}
-use Rattle.gb_duties.proofs.Words.{or_cases, is_not, refuted, both_ways, Found, found, find, said_came}
+use Rattle.gb_duties.proofs.WordLemmas.{or_cases, is_not, refuted, both_ways, Found, found, find, said_came}
 use Rattle.gb_duties.proofs.LogLemmas.{logged-is}
 use Rattle.gb_duties.proofs.DutyLemmas.{of_member}
-use Rattle.gb_duties.proofs.Flow.{Flow, Taking, nobody_flows, run_flows, legal_parts, run_takes, first_taking}
+use Rattle.gb_duties.proofs.FlowLemmas.{Flow, Taking, nobody_flows, run_flows, legal_parts, run_takes, first_taking}
 use Rattle.gb_duties.proofs.AcceptedLemmas.{accepted_said, none_said}
 use Rattle.gb_duties.proofs.OrderLemmas.{log_more, log_has}
 
