@@ -1,3 +1,3 @@
-pub mod Difference
-pub mod Texts
-pub mod Collisions
+pub mod DifferenceLemmas
+pub mod TextLemmas
+pub mod CollisionLemmas

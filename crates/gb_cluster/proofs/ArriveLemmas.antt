@@ -18,9 +18,9 @@ use Rattle.gb_cluster.proofs.Invariant.{IsFramed, Invariant}
 use Rattle.gb_cluster.proofs.IdleLemmas.{idle_turn}
 use Rattle.gb_cluster.proofs.Told.{nothing}
 use Rattle.gb_cluster.proofs.MarkLemmas.{slice_get-within}
-use Rattle.gb_cluster.proofs.TakenLinks.{IsGood, good_step, good_acts, good_links}
-use Rattle.gb_cluster.proofs.TakenGroups.{good_turn}
-use Rattle.gb_cluster.proofs.Turns.{turned, holds_turn}
+use Rattle.gb_cluster.proofs.TakenLinkLemmas.{IsGood, good_step, good_acts, good_links}
+use Rattle.gb_cluster.proofs.TakenGroupLemmas.{good_turn}
+use Rattle.gb_cluster.proofs.TurnLemmas.{turned, holds_turn}
 
 -- a packet is taken
 pub good_arrive : (w : World) (k : ℕ) (p : Packet) → IsGood w k p → Invariant w → Invariant (turned w p.to.number (node_took p (node_of w p.to.number)) (good_step k (good_of p (node_of w p.to.number))) [])

@@ -30,7 +30,7 @@ use Rattle.gb_cluster.proofs.NoticeLemmas.{noticed_below}
 use Rattle.gb_cluster.proofs.StoppedLemmas.{refused, node_unchanged, at_stopped}
 use Rattle.gb_cluster.proofs.TenantLemmas.{row_done, at_running}
 use Rattle.gb_cluster.proofs.Told.{nothing_told}
-use Rattle.gb_cluster.proofs.Turns.{turned, ActsAt, GroupTurn, frames_turned, taken_turned, acked_turned, untouched_link, same_marks, links_turn, holds_turn}
+use Rattle.gb_cluster.proofs.TurnLemmas.{turned, ActsAt, GroupTurn, frames_turned, taken_turned, acked_turned, untouched_link, same_marks, links_turn, holds_turn}
 use Rattle.gb_cluster.proofs.WorldLemmas.{eqb_self, eqb_apart_back, row_elsewhere, silent_elsewhere}
 
 -- any request, for a group at the node

@@ -21,7 +21,7 @@ use Rattle.gb_record.specs.declared.event.Event.TheVariants.{At, Pack, Again, Ac
 use Rattle.gb_record.specs.declared.packet.Packet.{Packet}
 use Rattle.gb_record.specs.declared.step.Step.{Step}
 use Rattle.gb_cluster.proofs.Invariant.{Invariant}
-use Rattle.gb_cluster.proofs.LinkStep.{link_step}
+use Rattle.gb_cluster.proofs.LinkStepLemmas.{link_step}
 use Rattle.gb_cluster.proofs.StartLemmas.{starved_holds, start_holds}
 use Rattle.gb_cluster.proofs.StepLemmas.{step_holds}
 use Rattle.gb_cluster.proofs.World.{World, told, node_of, answer_of, new_world}

@@ -17,10 +17,10 @@ use Rattle.gb_rules.specs.Address.{is_addr}
 use Rattle.gb_record.specs.Project.{items_of, items_at}
 use Rattle.gb_cluster.specs.NodeStep.{slot_for, on_slot, reserve_for}
 use Rattle.gb_cluster.proofs.Invariant.{Stands, AreMarked}
-use Rattle.gb_record.proofs.Numbers.{offset}
+use Rattle.gb_record.proofs.NumberLemmas.{offset}
 use Rattle.gb_cluster.proofs.MarkLemmas.{offset_next, offset_all, item_there, marks_added}
 use Rattle.gb_cluster.proofs.MemberLemmas.{KeepsRest, item_came-rest, item_came-noticed}
-use Rattle.gb_record.proofs.LaterPackets.{offset_rises}
+use Rattle.gb_record.proofs.LaterPacketLemmas.{offset_rises}
 use Rattle.gb_cluster.proofs.NodeLemmas.{addr_same, stands-came, same_stands}
 use Rattle.gb_cluster.proofs.WorldLemmas.{after_there, after_elsewhere, eqb_self, eqb_apart}
 

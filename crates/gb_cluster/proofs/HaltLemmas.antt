@@ -19,7 +19,7 @@ use Rattle.gb_cluster.proofs.Invariant.{MemberIs, Fits, NodeIs, Links, Invariant
 use Rattle.gb_cluster.proofs.IdleLemmas.{idle_turn}
 use Rattle.gb_cluster.proofs.Told.{nothing_told, nothing}
 use Rattle.gb_cluster.proofs.NodeLemmas.{same_stands, same_carried}
-use Rattle.gb_cluster.proofs.Turns.{turned, ActsAt, GroupTurn, frames_turned, taken_turned, acked_turned, untouched_link, links_turn, same_marks, holds_turn}
+use Rattle.gb_cluster.proofs.TurnLemmas.{turned, ActsAt, GroupTurn, frames_turned, taken_turned, acked_turned, untouched_link, links_turn, same_marks, holds_turn}
 use Rattle.gb_cluster.proofs.WorldLemmas.{eqb_self, eqb_apart_back}
 
 -- a node that stops tells so

@@ -18,7 +18,7 @@ use Rattle.gb_cluster.proofs.Invariant.{MemberIs, is_concerned, Fits, NodeIs, Li
 use Rattle.gb_cluster.proofs.MarkLemmas.{or_off}
 use Rattle.gb_cluster.proofs.NodeLemmas.{same_carried}
 use Rattle.gb_cluster.proofs.Told.{Told, told_of, TellsGroupNothing, TellsNothing}
-use Rattle.gb_cluster.proofs.Turns.{turned, ActsAt, GroupTurn, frames_turned, taken_turned, acked_turned, untouched_link, links_turn, same_marks, holds_turn}
+use Rattle.gb_cluster.proofs.TurnLemmas.{turned, ActsAt, GroupTurn, frames_turned, taken_turned, acked_turned, untouched_link, links_turn, same_marks, holds_turn}
 
 -- the node goes on as it was
 idle_node : (w : World) (a : ℕ) (e : Event) (answer : Answer) → a < length w.nodes → TellsNothing w a e answer → Links w → NodeIs (length w.nodes) w.silence (w.packets ++ []) (record { event = e; answer = answer } ∷ w.steps) a (node_of w a)

@@ -15,7 +15,7 @@ use Rattle.gb_rules.specs.declared.phase.Phase.TheVariants.{Made}
 use Rattle.gb_alone.specs.Alone.{Member, Group, alone, is_marked, IsLegal}
 use Rattle.gb_cluster.specs.State.{waiting_in}
 use Rattle.gb_cluster.specs.NodeValue.{NodeValue}
-use Rattle.gb_record.proofs.Numbers.{offset, IsNumbered}
+use Rattle.gb_record.proofs.NumberLemmas.{offset, IsNumbered}
 use Rattle.gb_record.specs.Project.{project, has_row, frames, items_of, is_taken, is_acked, is_noticed, is_stopped, is_met, made_at, watched, replies_to, is_served}
 use Rattle.gb_cluster.proofs.World.{World, node_of}
 use Rattle.gb_cluster.specs.NodeStep.{reserve_for, slot_for, sender_to, receiver_from}

@@ -12,7 +12,7 @@ use Rattle.gb_alone.specs.Alone.{is_marked}
 use Rattle.gb_rules.specs.Address.{is_addr}
 use Rattle.gb_record.specs.Project.{items_of, items_in}
 use Rattle.gb_cluster.proofs.Invariant.{AreMarked}
-use Rattle.gb_record.proofs.Numbers.{offset}
+use Rattle.gb_record.proofs.NumberLemmas.{offset}
 
 pub slice_get-within : {X : Type 0} (xs : List X) (x : X) (k : ℕ) → slice_get xs k ≡ Some x → k < length xs
 slice_get-within [] x k is = absurd (cc)

@@ -23,16 +23,16 @@ use Rattle.gb_cluster.proofs.World.{World, node_of, world_after}
 use Rattle.gb_cluster.specs.NodeStep.{Part, packed, node_packed, node_sent, only_answered, sent_part}
 use Rattle.gb_cluster.proofs.Invariant.{Stands, Fits, Links, BehavesAlone, Invariant}
 use Rattle.gb_cluster.proofs.WorldLemmas.{after_there, after_elsewhere}
-use Rattle.gb_record.proofs.LaterPackets.{items_of-append}
+use Rattle.gb_record.proofs.LaterPacketLemmas.{items_of-append}
 use Rattle.gb_cluster.proofs.IdleLemmas.{idle_turn}
 use Rattle.gb_cluster.proofs.Told.{nothing}
 use Rattle.gb_cluster.proofs.StopLemmas.{unmet}
-use Rattle.gb_cluster.proofs.Turns.{turned}
-use Rattle.gb_cluster.proofs.SendTurns.{GroupSends, none_sent, sends_turn}
+use Rattle.gb_cluster.proofs.TurnLemmas.{turned}
+use Rattle.gb_cluster.proofs.SendTurnLemmas.{GroupSends, none_sent, sends_turn}
 use Rattle.gb_cluster.proofs.PacketLemmas.{packet_at-last, another_is}
 use Rattle.gb_cluster.proofs.SendLemmas.{Packs, packs_of}
-use Rattle.gb_cluster.proofs.PackGroups.{pack_mine, pack_other}
-use Rattle.gb_cluster.proofs.PackLinks.{pack_step, frames_there, frames_elsewhere, pack_sends}
+use Rattle.gb_cluster.proofs.PackGroupLemmas.{pack_mine, pack_other}
+use Rattle.gb_cluster.proofs.PackLinkLemmas.{pack_step, frames_there, frames_elsewhere, pack_sends}
 
 -- the group
 module _ (g : Addr) (w : World) (a b : NodeId) (p : Packet) (hosted : GroupAt) (x : Entry) (rest : List Entry) (in_a : a.number < length w.nodes) (links : Links w) (packs : Packs w a b p hosted x rest) (group : Group) (fits : Fits g w group)

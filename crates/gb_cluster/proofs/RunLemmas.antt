@@ -11,9 +11,9 @@ use Rattle.gb_record.specs.declared.step.Step.{Step}
 use Rattle.gb_cluster.proofs.CodeLemmas.{holds, links_kept}
 use Rattle.gb_cluster.proofs.Invariant.{Invariant}
 use Rattle.gb_cluster.proofs.ObservedLemmas.{all_observed}
-use Rattle.gb_cluster.proofs.RunIntegrity.{all_integral}
-use Rattle.gb_cluster.proofs.RunOrder.{all_in_order}
-use Rattle.gb_cluster.proofs.Theorem.{all_isolated}
+use Rattle.gb_cluster.proofs.RunIntegrityLemmas.{all_integral}
+use Rattle.gb_cluster.proofs.RunOrderLemmas.{all_in_order}
+use Rattle.gb_cluster.proofs.TheoremLemmas.{all_isolated}
 use Rattle.gb_cluster.proofs.World.{World, told, transcript_of, held_by}
 
 lawful_world : (w : World) → Invariant w → IsLawful (transcript_of w) (held_by w)

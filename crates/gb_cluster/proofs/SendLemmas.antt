@@ -21,7 +21,7 @@ use Rattle.gb_record.specs.Project.{frames, is_acked}
 use Rattle.gb_cluster.proofs.World.{World, node_of, part_of, world_after}
 use Rattle.gb_cluster.specs.NodeStep.{sender_to, packet_for, is_another, is_reached, packed, packed_of, node_packed, node_sent, again_of, node_again, node_ack, only_answered, sent_part}
 use Rattle.gb_cluster.proofs.Invariant.{Links, Invariant, window_of}
-use Rattle.gb_cluster.proofs.SendTurns.{only_sends}
+use Rattle.gb_cluster.proofs.SendTurnLemmas.{only_sends}
 use Rattle.gb_cluster.proofs.UndoneLemmas.{HaveItems, undone_there, undone_lowest, found_there}
 use Rattle.gb_cluster.proofs.PacketLemmas.{Acknowledges, packet_acks, acks_framed, another_is}
 

@@ -36,9 +36,9 @@ use Rattle.gb_cluster.proofs.Told.{nothing_told, nothing}
 use Rattle.gb_cluster.proofs.MemberLemmas.{KeepsRest}
 use Rattle.gb_cluster.proofs.NodeLemmas.{same_carried}
 use Rattle.gb_cluster.proofs.NoticeLemmas.{all_noticed, notices_of, notices_there, notices_elsewhere, notices_keep, notices_legal, notices_mark, passing_marked, passing_rising}
-use Rattle.gb_cluster.proofs.SlotNotices.{SlotFits, fits-all, slot_for-noticed}
+use Rattle.gb_cluster.proofs.SlotNoticeLemmas.{SlotFits, fits-all, slot_for-noticed}
 use Rattle.gb_cluster.proofs.StopLemmas.{unmet}
-use Rattle.gb_cluster.proofs.Turns.{turned, ActsAt, GroupTurn, frames_turned, taken_turned, acked_turned, untouched_link, links_turn, same_marks, holds_turn}
+use Rattle.gb_cluster.proofs.TurnLemmas.{turned, ActsAt, GroupTurn, frames_turned, taken_turned, acked_turned, untouched_link, links_turn, same_marks, holds_turn}
 use Rattle.gb_cluster.proofs.WorldLemmas.{eqb_self, eqb_apart_back}
 
 -- what a tick answers

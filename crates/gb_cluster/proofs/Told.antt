@@ -10,7 +10,7 @@ use Rattle.gb_record.specs.declared.packet.Packet.{Packet}
 use Rattle.gb_record.specs.declared.step.Step.{Step}
 use Rattle.gb_record.specs.Project.{gives, frame_at, is_taken_by, is_acked_by, is_taken_in, made_by, is_noticed_by, is_stopped_by, watched_by, reply_in, is_met_by, is_turned_away}
 use Rattle.gb_cluster.proofs.World.{World}
-use Rattle.gb_record.proofs.Numbers.{number_of}
+use Rattle.gb_record.proofs.NumberLemmas.{number_of}
 
 -- all that can be told of a node
 pub record Told : Type 0 where

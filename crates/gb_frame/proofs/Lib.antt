@@ -1,8 +1,8 @@
-pub mod Room
-pub mod Walk
-pub mod Texts
-pub mod Numbers
-pub mod ItemLaws
-pub mod TextLaws
-pub mod FaultLaws
-pub mod ReadingLaws
+pub mod RoomLemmas
+pub mod WalkLemmas
+pub mod ItemTextLemmas
+pub mod NumberLemmas
+pub mod ItemLemmas
+pub mod TextLemmas
+pub mod FaultLemmas
+pub mod ReadingLemmas

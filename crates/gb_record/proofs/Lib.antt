@@ -1,3 +1,3 @@
-pub mod LaterPackets
-pub mod Numbers
+pub mod LaterPacketLemmas
+pub mod NumberLemmas
 pub mod StepsLemmas

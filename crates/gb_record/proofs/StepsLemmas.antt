@@ -23,7 +23,7 @@ use Rattle.gb_record.specs.declared.answer.Answer.TheVariants.{NoPacket}
 use Rattle.gb_record.specs.declared.event.Event.{Event}
 use Rattle.gb_record.specs.declared.packet.Packet.{Packet}
 use Rattle.gb_record.specs.declared.step.Step.{Step}
-use Rattle.gb_record.proofs.LaterPackets.{items_of-append}
+use Rattle.gb_record.proofs.LaterPacketLemmas.{items_of-append}
 
 paired_more : (i : ℕ) (events : List Event) (answers : List Answer) (e : Event) (a : Answer) → i < length events → i < length answers
     → paired (take (suc i) events) (take (suc i) answers) ≡ paired (take i events) (take i answers) ++ record { event = get_or events i e; answer = get_or answers i a } ∷ []

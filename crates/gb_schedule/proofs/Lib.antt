@@ -1,5 +1,5 @@
 pub mod LineLemmas
-pub mod LineLaws
+pub mod LineSplitLemmas
 pub mod LeftLemmas
 pub mod CutLemmas
 pub mod RowLemmas

@@ -1,5 +1,5 @@
 pub mod Lines
-pub mod LineLaws
+pub mod LineSplitLemmas
 pub mod Buffered
 pub mod LineBuffer
 pub mod Head

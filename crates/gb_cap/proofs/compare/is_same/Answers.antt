@@ -1,6 +1,6 @@
 use Rattle.std.proofs.Common.{arith, ◌≡◌, length}
 use Rattle.std.proofs.lemmas.Bool.{eqb-true, eq-eqb}
-use Rattle.gb_cap.proofs.Difference.{tells_none, tells_more, tells_all}
+use Rattle.gb_cap.proofs.DifferenceLemmas.{tells_none, tells_more, tells_all}
 use Rattle.gb_cap.proofs.compare.is_same.Goals as goal
 
 pub loop-i-init : goal.loop-i-init

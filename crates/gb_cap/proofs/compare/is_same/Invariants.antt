@@ -1,4 +1,4 @@
-use Rattle.gb_cap.proofs.Difference.{TellsBelow}
+use Rattle.gb_cap.proofs.DifferenceLemmas.{TellsBelow}
 use Rattle.gb_cap.proofs.compare.is_same.Given as goal
 
 abbrev pub invariant-loop-i : goal.invariant-loop-i

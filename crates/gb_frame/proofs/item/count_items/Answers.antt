@@ -1,6 +1,6 @@
 use Rattle.std.proofs.Common.{arith, length, ap}
-use Rattle.gb_frame.proofs.ItemLaws.{item_shrinks}
-use Rattle.gb_frame.proofs.Texts.{behind_first, none_again}
+use Rattle.gb_frame.proofs.ItemLemmas.{item_shrinks}
+use Rattle.gb_frame.proofs.ItemTextLemmas.{behind_first, none_again}
 use Rattle.gb_frame.proofs.item.count_items.Goals as goal
 
 pub loop-item-smaller : goal.loop-item-smaller

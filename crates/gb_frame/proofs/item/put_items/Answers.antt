@@ -2,7 +2,7 @@ use Rattle.std.proofs.Common.{◌≡◌, length, get_or, take, arith, ap, ◌∙
 use Rattle.std.proofs.lemmas.List.Elements.{All-more}
 use Rattle.gb_frame.specs.Packet.{item_of}
 use Rattle.gb_frame.specs.Spelling.{item_text, items_text, IsItem}
-use Rattle.gb_frame.proofs.Room.{one_fits, length_more, texts_more}
+use Rattle.gb_frame.proofs.RoomLemmas.{one_fits, length_more, texts_more}
 use Rattle.gb_frame.proofs.item.put_items.Goals as goal
 
 pub put_item-requires-clause-room : goal.put_item-requires-clause-room

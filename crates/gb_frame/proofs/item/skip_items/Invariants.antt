@@ -1,6 +1,6 @@
 use Rattle.std.proofs.Common.{◌≡◌, ◌-◌}
 use Rattle.gb_frame.specs.Reading.{items_at}
-use Rattle.gb_frame.proofs.Walk.{behind}
+use Rattle.gb_frame.proofs.WalkLemmas.{behind}
 use Rattle.gb_frame.proofs.item.skip_items.Given as goal
 
 abbrev pub invariant-loop : goal.invariant-loop

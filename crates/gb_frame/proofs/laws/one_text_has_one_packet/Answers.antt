@@ -1,4 +1,4 @@
-use Rattle.gb_frame.proofs.TextLaws.{one_packet}
+use Rattle.gb_frame.proofs.TextLemmas.{one_packet}
 use Rattle.gb_frame.proofs.laws.one_text_has_one_packet.Goals as goal
 
 pub returns : goal.returns

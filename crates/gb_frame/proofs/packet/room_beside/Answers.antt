@@ -1,7 +1,7 @@
 use Rattle.std.proofs.Common.{◌≡◌, ◌+◌, ◌≤◌, length, arith, sym}
 use Rattle.std.proofs.lemmas.List.Elements.{All-more}
 use Rattle.gb_types.specs.declared.limits.TheConstants.{PAYLOAD}
-use Rattle.gb_frame.proofs.Room.{too_long, no_room, room_more}
+use Rattle.gb_frame.proofs.RoomLemmas.{too_long, no_room, room_more}
 use Rattle.gb_frame.proofs.packet.room_beside.Goals as goal
 
 pub returns-then-payload-gt-PAYLOAD-clause-fits : goal.returns-then-payload-gt-PAYLOAD-clause-fits

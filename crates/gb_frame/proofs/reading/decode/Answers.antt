@@ -1,5 +1,5 @@
 use Rattle.std.proofs.Common.{sym, ap, ◌∙◌, Ok, arith}
-use Rattle.gb_frame.proofs.ReadingLaws.{good, is_there, is_text, is_first_fault, text_found, no_fault_found}
+use Rattle.gb_frame.proofs.ReadingLemmas.{good, is_there, is_text, is_first_fault, text_found, no_fault_found}
 use Rattle.gb_frame.proofs.reading.decode.Goals as goal
 
 pub of-requires-clause-long : goal.of-requires-clause-long

@@ -1,5 +1,5 @@
 use Rattle.std.proofs.Common.{arith}
-use Rattle.gb_frame.proofs.Room.{count_fits}
+use Rattle.gb_frame.proofs.RoomLemmas.{count_fits}
 use Rattle.gb_frame.proofs.writing.encode.Goals as goal
 
 pub overflow_cast-count : goal.overflow_cast-count

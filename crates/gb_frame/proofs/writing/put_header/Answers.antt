@@ -2,7 +2,7 @@ use Rattle.std.proofs.Common.{[], ◌∷◌}
 use Rattle.std.specs.Int.{w16, w64, to_be_bytes}
 use Rattle.gb_frame.specs.declared.limits.TheConstants.{VERSION}
 use Rattle.gb_frame.specs.Spelling.{header_text}
-use Rattle.gb_frame.proofs.Room.{appended}
+use Rattle.gb_frame.proofs.RoomLemmas.{appended}
 use Rattle.gb_frame.proofs.writing.put_header.Goals as goal
 
 pub returns-clause-written : goal.returns-clause-written

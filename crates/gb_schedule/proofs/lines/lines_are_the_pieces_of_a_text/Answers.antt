@@ -1,4 +1,4 @@
-use Rattle.gb_schedule.proofs.LineLaws.{written_lines_are_read, last_may_lack_its_line_feed, each_text_is_its_lines}
+use Rattle.gb_schedule.proofs.LineSplitLemmas.{written_lines_are_read, last_may_lack_its_line_feed, each_text_is_its_lines}
 use Rattle.gb_schedule.proofs.lines.lines_are_the_pieces_of_a_text.Goals as goal
 
 pub returns-clause-written : goal.returns-clause-written

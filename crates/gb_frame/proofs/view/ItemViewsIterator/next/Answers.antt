@@ -3,7 +3,7 @@ use Rattle.std.specs.Prelude.{IsSome, List}
 use Rattle.gb_frame.specs.declared.item.Item.{Item}
 use Rattle.gb_frame.specs.Packet.{item_of}
 use Rattle.gb_frame.specs.Reading.{items_at, items_of}
-use Rattle.gb_frame.proofs.Walk.{none_left, some_unless, no_item_left, one_item_less}
+use Rattle.gb_frame.proofs.WalkLemmas.{none_left, some_unless, no_item_left, one_item_less}
 use Rattle.gb_frame.proofs.view.ItemViewsIterator.next.Goals as goal
 
 pub returns-then-self-eq0-clause-steps : goal.returns-then-self-eq0-clause-steps

@@ -17,12 +17,12 @@ use Rattle.gb_cluster.specs.NodeValue.{NodeValue}
 use Rattle.gb_record.specs.Project.{project, gives, has_row, frames, frame_at, items_of, is_taken, is_acked, is_noticed, is_stopped, is_met, made_at, made_by, or_else, watched, replies_to}
 use Rattle.gb_cluster.proofs.World.{World, node_of}
 use Rattle.gb_cluster.specs.NodeStep.{Part, reserve_for, sender_to}
-use Rattle.gb_record.proofs.Numbers.{number_of}
+use Rattle.gb_record.proofs.NumberLemmas.{number_of}
 use Rattle.gb_cluster.proofs.Invariant.{Stands, AreMarked, is_concerned, Fits, NodeIs, IsFramed, IsLink, Links, BehavesAlone, Invariant, window_of}
 use Rattle.gb_cluster.proofs.MarkLemmas.{or_off}
 use Rattle.gb_cluster.proofs.NodeLemmas.{same_carried}
 use Rattle.gb_cluster.proofs.Told.{Told, told_of, nothing_told}
-use Rattle.gb_cluster.proofs.Turns.{turned, ActsAt, GroupTurn, framed_stays, frames_turned, taken_turned, acked_turned, watched_turned, untouched_link, links_turn, same_marks, holds_turn}
+use Rattle.gb_cluster.proofs.TurnLemmas.{turned, ActsAt, GroupTurn, framed_stays, frames_turned, taken_turned, acked_turned, watched_turned, untouched_link, links_turn, same_marks, holds_turn}
 
 -- the step tells of nothing but frames that are sent
 abbrev pub IsSending : Step → Type 0

@@ -16,10 +16,10 @@ use Rattle.gb_record.specs.Project.{project, gives, has_row, frames, frame_at, i
 use Rattle.gb_cluster.proofs.World.{World, node_of}
 use Rattle.gb_cluster.specs.NodeStep.{no_node}
 use Rattle.gb_cluster.proofs.Invariant.{Stands, AreMarked, MemberIs, is_concerned, Fits, NodeIs, IsOfFrame, IsFramed, IsLink, Links, BehavesAlone, Invariant, window_of}
-use Rattle.gb_record.proofs.Numbers.{IsNumbered, number_of, offset}
+use Rattle.gb_record.proofs.NumberLemmas.{IsNumbered, number_of, offset}
 use Rattle.gb_cluster.proofs.MarkLemmas.{or_off}
 use Rattle.gb_cluster.proofs.Told.{Told, told_of, nothing_told}
-use Rattle.gb_record.proofs.LaterPackets.{frames-more, is_taken-more, is_acked-more, watched-more, project-more, numbered-more, items_of-append, offset_past, offset_within}
+use Rattle.gb_record.proofs.LaterPacketLemmas.{frames-more, is_taken-more, is_acked-more, watched-more, project-more, numbered-more, items_of-append, offset_past, offset_within}
 use Rattle.gb_cluster.proofs.NodeLemmas.{same_carried}
 use Rattle.gb_cluster.proofs.WorldLemmas.{goes_on, served_before, node_there, node_elsewhere}
 

@@ -18,10 +18,10 @@ use Rattle.gb_frame.specs.Fields.{version_in, from_in, to_in, base_in, mask_in, 
 use Rattle.gb_frame.specs.Reading.{unless, faults, test, fault_in, content_in, parsed, left_over, items_of}
 use Rattle.gb_frame.specs.Faults.{Stand, HasFault, IsFirstFault}
 use Rattle.gb_frame.specs.Laws.{WhatIsWrittenIsRead}
-use Rattle.gb_frame.proofs.Numbers.{IsBytes-take, IsBytes-drop, wide16, wide64, cut, number_below}
-use Rattle.gb_frame.proofs.ItemLaws.{items_take, stand_again, some_is}
-use Rattle.gb_frame.proofs.TextLaws.{text_reads}
-use Rattle.gb_frame.proofs.FaultLaws.{found_first, found_none, faults_numbered, below_eleven, not-true, not-false, IsGood, magic_there, magic_told, counted_there, nodes_there, acknowledged_there, parsed_there}
+use Rattle.gb_frame.proofs.NumberLemmas.{IsBytes-take, IsBytes-drop, wide16, wide64, cut, number_below}
+use Rattle.gb_frame.proofs.ItemLemmas.{items_take, stand_again, some_is}
+use Rattle.gb_frame.proofs.TextLemmas.{text_reads}
+use Rattle.gb_frame.proofs.FaultLemmas.{found_first, found_none, faults_numbered, below_eleven, not-true, not-false, IsGood, magic_there, magic_told, counted_there, nodes_there, acknowledged_there, parsed_there}
 
 -- ---- a test that says so
 

@@ -9,9 +9,9 @@ use Rattle.gb_frame.specs.Spelling.{items_text, tagged_text, tag_of, header_text
 use Rattle.gb_frame.specs.Laws.{OneTextHasOnePacket, OnePacketHasOneText}
 use Rattle.gb_frame.specs.Fields.{version_in, from_in, to_in, base_in, mask_in, frame_in, count_in, items_in, tagged_in, tag_in}
 use Rattle.gb_frame.specs.Reading.{parsed, items_at}
-use Rattle.gb_frame.proofs.Room.{count_fits}
-use Rattle.gb_frame.proofs.Numbers.{wide16, wide64, number_again}
-use Rattle.gb_frame.proofs.ItemLaws.{items_again, some_is}
+use Rattle.gb_frame.proofs.RoomLemmas.{count_fits}
+use Rattle.gb_frame.proofs.NumberLemmas.{wide16, wide64, number_again}
+use Rattle.gb_frame.proofs.ItemLemmas.{items_again, some_is}
 
 pub length-tag_of : (key text : List ℕ) → length (tag_of key text) ≡ 8
 unfolding tag_of

@@ -7,7 +7,7 @@ use Rattle.gb_record.specs.Project.{project}
 use Rattle.gb_alone.specs.declared.event.GroupStep.{GroupStep}
 use Rattle.gb_alone.specs.Laws.{KeepsOrder}
 use Rattle.gb_record.specs.RunLaws.{AreInOrder}
-use Rattle.gb_cluster.proofs.Theorem.{all_isolated}
+use Rattle.gb_cluster.proofs.TheoremLemmas.{all_isolated}
 use Rattle.gb_alone.proofs.OrderLemmas.{in_order}
 
 pub all_in_order : (w : World) → Invariant w → AreInOrder (transcript_of w) (held_by w)

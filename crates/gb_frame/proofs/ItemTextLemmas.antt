@@ -5,7 +5,7 @@ use Rattle.std.proofs.lemmas.List.Concat.{flat_map-cons}
 use Rattle.gb_frame.specs.declared.item.Item.{Item}
 use Rattle.gb_frame.specs.Spelling.{item_text, items_text, IsItem, AreTexts}
 use Rattle.gb_frame.specs.Reading.{item_at}
-use Rattle.gb_frame.proofs.ItemLaws.{item_again, none_at_end, some_is}
+use Rattle.gb_frame.proofs.ItemLemmas.{item_again, none_at_end, some_is}
 
 -- the first item stands at the front, and the others behind it
 first_again : (bytes : List ℕ) (i : Item) (items : List Item) → AreTexts bytes (i ∷ items) → item_at bytes ≡ Some (i, items_text items)

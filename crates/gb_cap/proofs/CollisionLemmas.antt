@@ -5,7 +5,7 @@ use Rattle.std.proofs.lemmas.List.{append_cancel_left}
 use Rattle.sha2.specs.Sha256.{sha256}
 use Rattle.gb_cap.specs.Hmac.{padded, hmac_of, inner_text, outer_text}
 use Rattle.gb_cap.specs.Token.{text_of, Collide, SharedTokensCollide}
-use Rattle.gb_cap.proofs.Texts.{texts_differ}
+use Rattle.gb_cap.proofs.TextLemmas.{texts_differ}
 
 -- two lists are equal or not
 equal_or_not : (x y : List ℕ) → (x ≡ y) ⊎ (x ≢ y)

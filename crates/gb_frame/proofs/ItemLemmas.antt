@@ -13,7 +13,7 @@ use Rattle.gb_frame.specs.Spelling.{item_text, items_text, IsBytes, IsItem}
 use Rattle.gb_frame.specs.Fields.{number_at}
 use Rattle.gb_frame.specs.Reading.{item_at, items_at}
 use Rattle.gb_frame.specs.Faults.{Stand}
-use Rattle.gb_frame.proofs.Numbers.{IsBytes-drop, IsBytes-take, wide16, cut, number_below, number_again}
+use Rattle.gb_frame.proofs.NumberLemmas.{IsBytes-drop, IsBytes-take, wide16, cut, number_below, number_again}
 
 -- what was read at the front, and what is left
 pub record Takes (bytes text rest : List ℕ) : Type 0 where

@@ -22,15 +22,15 @@ use Rattle.gb_record.specs.Project.{packet_at, frames, items_of, items_in, items
 use Rattle.gb_cluster.proofs.World.{World, node_of}
 use Rattle.gb_cluster.specs.NodeStep.{slot_for, newly_done, item_done, item_came, group_came, node_took}
 use Rattle.gb_cluster.proofs.Invariant.{Stands, AreMarked, MemberIs, Fits, NodeIs, IsOfFrame, Links}
-use Rattle.gb_record.proofs.Numbers.{offset}
+use Rattle.gb_record.proofs.NumberLemmas.{offset}
 use Rattle.gb_cluster.proofs.AckLemmas.{Acked, all_acked, all_done-same, stands-done}
 use Rattle.gb_cluster.proofs.ComeLemmas.{Coming, nothing_comes, none_marked, one_comes}
 use Rattle.gb_cluster.proofs.MarkLemmas.{Found, is_in, in_frame, in_beyond, in_found, offset_next, marks_added, marks_same}
 use Rattle.gb_cluster.proofs.NodeLemmas.{slot_for-on_other, same_carried}
 use Rattle.gb_cluster.proofs.StopLemmas.{unmet}
 use Rattle.gb_cluster.proofs.TakenLemmas.{sent_frames_are_inside, IsTook, node_took-is}
-use Rattle.gb_cluster.proofs.TakenLinks.{IsGood, good_step, frame_sent, frames_now, taken_here, taken_other, acked_here, acked_other}
-use Rattle.gb_cluster.proofs.Turns.{GroupTurn}
+use Rattle.gb_cluster.proofs.TakenLinkLemmas.{IsGood, good_step, frame_sent, frames_now, taken_here, taken_other, acked_here, acked_other}
+use Rattle.gb_cluster.proofs.TurnLemmas.{GroupTurn}
 use Rattle.gb_cluster.proofs.WorldLemmas.{legal-append}
 
 not_before : (c a : Bool) → (c && not a) ≡ true → (c ≡ true) × (a ≡ false)

@@ -27,8 +27,8 @@ use Rattle.gb_cluster.specs.State.{state}
 use Rattle.gb_cluster.proofs.World.{World, transcript_of, held_by, state_of, node_of, part_of, answer_of, world_after}
 use Rattle.gb_cluster.specs.NodeStep.{Part, no_node, sender_to, packet_for, is_another, is_reached, packed_of, node_packed, node_sent, again_of, node_again, node_ack, node_did, running_reply, good_of, node_took, node_ticked, only_answered, sent_part, acting, goal_of, found_part}
 use Rattle.gb_cluster.proofs.Invariant.{Links, Invariant}
-use Rattle.gb_cluster.proofs.LinkTaken.{goal_there, takes_found, due_new}
-use Rattle.gb_cluster.proofs.LinkWindow.{not_another, not_reached, full_link, none_waits, none_undone}
+use Rattle.gb_cluster.proofs.LinkTakenLemmas.{goal_there, takes_found, due_new}
+use Rattle.gb_cluster.proofs.LinkWindowLemmas.{not_another, not_reached, full_link, none_waits, none_undone}
 use Rattle.gb_cluster.proofs.PacketLemmas.{Acknowledges, another_is}
 use Rattle.gb_cluster.proofs.SendLemmas.{pack_sent, ack_sent, IsAgain as IsSentAgain, again_sent}
 use Rattle.gb_cluster.proofs.StoppedLemmas.{node_unchanged}

@@ -28,7 +28,7 @@ use Rattle.gb_cluster.proofs.AckLemmas.{undone_without}
 use Rattle.gb_cluster.proofs.MarkLemmas.{slice_get-within, or_off}
 use Rattle.gb_cluster.proofs.TakenLemmas.{sent_frames_are_inside, received_now, IsTook, node_took-is}
 use Rattle.gb_cluster.proofs.Told.{nothing_told}
-use Rattle.gb_cluster.proofs.Turns.{turned, ActsAt, frames_turned, taken_turned, acked_turned, watched_turned, links_turn}
+use Rattle.gb_cluster.proofs.TurnLemmas.{turned, ActsAt, frames_turned, taken_turned, acked_turned, watched_turned, links_turn}
 use Rattle.gb_cluster.proofs.WorldLemmas.{eqb_self, eqb_apart_back}
 
 -- the packet has this number, is of its links, and the node to which it goes runs

@@ -20,9 +20,9 @@ use Rattle.gb_record.specs.Project.{packet_at, frames, is_taken, is_acked}
 use Rattle.gb_cluster.proofs.World.{World, transcript_of, node_of}
 use Rattle.gb_cluster.specs.NodeStep.{goal_of, newly_done, admission_of, kind_of, count_of, good_of, found_part}
 use Rattle.gb_cluster.proofs.Invariant.{IsOfFrame, IsFramed, Links}
-use Rattle.gb_cluster.proofs.LinkWindow.{count_done}
+use Rattle.gb_cluster.proofs.LinkWindowLemmas.{count_done}
 use Rattle.gb_cluster.proofs.TakenLemmas.{sent_frames_are_inside}
-use Rattle.gb_cluster.proofs.TakenLinks.{frame_sent}
+use Rattle.gb_cluster.proofs.TakenLinkLemmas.{frame_sent}
 
 -- A packet is taken.
 

@@ -15,7 +15,7 @@ use Rattle.gb_record.specs.declared.packet.Packet.{Packet}
 use Rattle.gb_types.specs.declared.node.NodeId.{NodeId}
 use Rattle.gb_link.specs.Ack.{covers}
 use Rattle.gb_record.specs.Project.{project, gives, frames, frame_at, packet_at, items_of, items_in, is_frame, is_taken, is_taken_by, is_ack, is_acked, is_acked_by, watched, watched_by, heard_from, is_new_ack, acknowledged, all_acknowledged, comes, arrived}
-use Rattle.gb_record.proofs.Numbers.{IsNumbered, number_of, offset}
+use Rattle.gb_record.proofs.NumberLemmas.{IsNumbered, number_of, offset}
 
 pub slice_get-append : {X : Type 0} (xs ys : List X) (k : ℕ) → k < length xs → slice_get (xs ++ ys) k ≡ slice_get xs k
 slice_get-append [] ys k lt = absurd (omega arith)

@@ -13,7 +13,7 @@ use Rattle.gb_record.specs.Project.{project}
 use Rattle.gb_alone.specs.declared.event.GroupStep.{GroupStep}
 use Rattle.gb_alone.proofs.IntegrityLemmas.{is_integral}
 use Rattle.gb_alone.proofs.CommandLemmas.{commands, paired, Pairs, replies_from, run_replies, alone_pairs}
-use Rattle.gb_cluster.proofs.RunCommands.{run_pairs}
+use Rattle.gb_cluster.proofs.RunCommandLemmas.{run_pairs}
 use Rattle.gb_alone.proofs.InsideLemmas.{none_beyond}
 
 accepted_same : (g : Addr) (w : World) → IsIsolated g w → (s : ℕ) → s < length w.nodes → accepted (length w.nodes) g.group (project g w.packets w.steps) s ≡ accepted_there g w.steps s

@@ -21,9 +21,9 @@ use Rattle.gb_cluster.proofs.World.{World, node_of}
 use Rattle.gb_cluster.specs.NodeStep.{sender_to, pushed_item, node_sent}
 use Rattle.gb_cluster.proofs.Invariant.{IsFramed, IsLink, Links, window_of, undone_of}
 use Rattle.gb_cluster.proofs.WorldLemmas.{eqb_self, eqb_apart_back}
-use Rattle.gb_cluster.proofs.Turns.{frames_turned, taken_turned, acked_turned, untouched_link}
+use Rattle.gb_cluster.proofs.TurnLemmas.{frames_turned, taken_turned, acked_turned, untouched_link}
 use Rattle.gb_cluster.proofs.UndoneLemmas.{undone-last, undone_near}
-use Rattle.gb_cluster.proofs.SendTurns.{IsSending, Sends}
+use Rattle.gb_cluster.proofs.SendTurnLemmas.{IsSending, Sends}
 use Rattle.gb_cluster.proofs.PacketLemmas.{Acknowledges, slice_get-last, packet_at-last, packet_acks, acks_framed, another_is}
 use Rattle.gb_cluster.proofs.SendLemmas.{Packs}
 
