@@ -1,15 +1,50 @@
 -- The first entry that passes a test is handed up, and the next message of an origin again and again.
-use Rattle.std.proofs.Common.{◌≡◌, ℕ, ◌+◌, ◌-◌, ◌<◌, Bool, true, false, cond, not, List, [], ◌∷◌, ◌++◌, take, set, get_or, length, count_by, refl, ap, sym, ◌∙◌, arith, zero, suc, append_assoc}
+use Rattle.std.proofs.Common.{◌≡◌, ℕ, ◌+◌, ◌-◌, ◌<◌, ◌≤◌, ◌&&◌, ◌||◌, nat_eq, slice_get, slice_index, ◌≢◌, Bool, true, false, cond, not, List, [], ◌∷◌, ◌++◌, take, set, get_or, length, count_by, refl, ap, sym, ◌∙◌, arith, zero, suc, append_assoc}
 use Rattle.std.specs.declared.option.Option.TheVariants.{Some}
 use Rattle.std.specs.List.{list_any}
+use Rattle.std.proofs.Math.Bool.{and-true, and-false}
+use Rattle.std.proofs.lemmas.Bool.{eqb-true, eq-eqb}
+use Rattle.std.proofs.lemmas.List.{get_or-set_other}
+use Rattle.std.proofs.lemmas.Grind.{get_or-set_at}
+use Rattle.gb_types.specs.declared.limits.TheConstants.{NODES}
 use Rattle.std.proofs.lemmas.List.Folds.{list_any_at}
 use Rattle.std.proofs.lemmas.Option.{slice_get-get_or}
+use Rattle.gb_types.specs.declared.message.MsgId.{MsgId}
+use Rattle.gb_types.specs.Message.{same}
+use Rattle.gb_types.proofs.SameLemmas.{and-first, and-second}
 use Rattle.gb_layer.specs.declared.effects.Up.{Up}
 use Rattle.gb_layer.specs.Bools.{or_left, or_right}
 use Rattle.gb_layer.specs.Counts.{count_by-cons, count_by-set}
 use Rattle.gb_fifo.specs.declared.entry.Entry.{Entry}
-use Rattle.gb_fifo.specs.Entries.{give, pick, given_entry, up_of, is_ungiven, is_next, IsPlace, released, released_ups, next_of}
+use Rattle.gb_fifo.specs.Entries.{is_given_of, given_of, give, pick, given_entry, up_of, is_ungiven, is_next, IsPlace, released, released_ups, next_of}
 use Rattle.gb_fifo.specs.EntryLemmas.{next_new}
+
+-- a test that fails at each place before one
+pub none_before : (p : Entry → Bool) (es : List Entry) (i : ℕ) → ((k : ℕ) (e : Entry) → k < i → slice_get es k ≡ Some e → p e ≡ false) → list_any p (take i es) ≡ false
+none_before p [] zero none = refl
+none_before p [] (suc i) none = refl
+none_before p (e ∷ es) zero none = refl
+none_before p (e ∷ es) (suc i) none = ap (λ b. b || list_any p (take i es)) (none zero e (omega arith) refl) ∙ none_before p es i (λ k x lt at. none (suc k) x (omega (arith, lt)) at)
+
+-- and from it on
+pub none_after : (p : Entry → Bool) (es : List Entry) (i : ℕ) → list_any p (take i es) ≡ false → ((k : ℕ) (e : Entry) → i ≤ k → slice_get es k ≡ Some e → p e ≡ false) → list_any p es ≡ false
+none_after p [] i h none = refl
+none_after p (e ∷ es) zero h none = ap (λ b. b || list_any p es) (none zero e (omega arith) refl) ∙ none_after p es zero (any_none es) (λ k x le at. none (suc k) x (omega arith) at)
+  where
+    any_none : (xs : List Entry) → list_any p (take 0 xs) ≡ false
+    any_none [] = refl
+    any_none (x ∷ xs) = refl
+none_after p (e ∷ es) (suc i) h none =
+    ap (λ b. b || list_any p es) (or_left (p e) _ h) ∙ none_after p es i (or_right (p e) _ h) (λ k x le at. none (suc k) x (omega (arith, le)) at)
+
+-- the next message of an origin has the next number
+pub next_is : (s k : ℕ) (m : MsgId) (e : Entry) → m.origin.number ≡ s → m.seq ≡ k + 1 → is_next s k e ≡ true → same e.m m ≡ true
+next_is s k m e o n h =
+    (λ j. nat_eq e.m.origin.number (o j) && nat_eq e.m.seq (n j)) ∙ and-second (e.here && not e.given) _ h
+
+-- its entry is of the origin
+pub next_of_origin : (s k : ℕ) (e : Entry) → is_next s k e ≡ true → nat_eq e.m.origin.number s ≡ true
+next_of_origin s k e h = and-first _ (nat_eq e.m.seq (k + 1)) (and-second (e.here && not e.given) _ h)
 
 -- where none passes, nothing is handed up
 pub none_given : (p : Entry → Bool) (es : List Entry) → list_any p es ≡ false → es ≡ give p es
@@ -58,6 +93,36 @@ fewer s k es i x h is =
     let d = count_by-cons is_ungiven (given_entry x) [] in
     let f : cond {A = ℕ} (is_ungiven x) 1 0 ≡ 1 = ap (λ v. cond {A = ℕ} (not v) 1 0) new in
     omega (arith, a, b, d, f)
+
+-- the count of its origin is one more, and those of others stay
+pub one_more : (s k o : ℕ) (es : List Entry) (i : ℕ) (x : Entry) → IsPlace (is_next s k) es (Some i) → x ≡ get_or es i x → given_of o (set es i (given_entry x)) ≡ cond (nat_eq s o) 1 0 + given_of o es
+one_more s k o es i x h is =
+    let p = passes (is_next s k) es i x h is in
+    let new : x.given ≡ false = next_new s k x p in
+    let lt : i < length es = h.0 in
+    let a = count_by-set (is_given_of o) es i x (given_entry x) lt is in
+    let b = count_by-cons (is_given_of o) x [] in
+    let d = count_by-cons (is_given_of o) (given_entry x) [] in
+    let own : x.m.origin.number ≡ s = eqb-true x.m.origin.number s (next_of_origin s k x p) in
+    let f : cond {A = ℕ} (nat_eq x.m.origin.number o && x.given) 1 0 ≡ 0 = ap (λ v. cond {A = ℕ} (nat_eq x.m.origin.number o && v) 1 0) new ∙ ap (λ v. cond {A = ℕ} v 1 0) (and-false (nat_eq x.m.origin.number o)) in
+    let g : cond {A = ℕ} (nat_eq x.m.origin.number o && true) 1 0 ≡ cond (nat_eq s o) 1 0 = ap (λ v. cond {A = ℕ} v 1 0) (and-true (nat_eq x.m.origin.number o)) ∙ ap (λ v. cond {A = ℕ} (nat_eq v o) 1 0) own in
+    omega (arith, a, b, d, f, g)
+
+-- a counter that is raised by one counts one more
+pub counted_more : (given : List ℕ) (at s o n n' : ℕ) → length given ≡ NODES → s < NODES → at ≡ s → slice_index given o ≡ n → n' ≡ cond (nat_eq s o) 1 0 + n → slice_index (set given at (slice_index given at + 1)) o ≡ n'
+counted_more given at s o n n' len lt e h more =
+    elim (nat_eq s o) as (λ b. nat_eq s o ≡ b → n' ≡ cond b 1 0 + n → slice_index (set given at (slice_index given at + 1)) o ≡ n') [
+      | true ↦ λ q k.
+          let there : o ≡ at = sym (eqb-true s o q) ∙ sym e in
+          let within : at < length given = omega (arith, len, lt, e) in
+          let old : slice_index given at ≡ n = ap (slice_index given) (sym there) ∙ h in
+          let new : slice_index (set given at (slice_index given at + 1)) o ≡ slice_index given at + 1 = get_or-set_at given at o (slice_index given at + 1) 0 there within in
+          omega (arith, old, new, k)
+      | false ↦ λ q k.
+          let other : o ≢ at = λ z. let t : nat_eq s o ≡ true = eq-eqb s o (sym e ∙ sym z) in cc in
+          let new : slice_index (set given at (slice_index given at + 1)) o ≡ slice_index given o = get_or-set_other given at o (slice_index given at + 1) 0 other in
+          omega (arith, new, h, k)
+    ] refl more
 
 released_step : (s a i : ℕ) (es : List Entry) → i < a → released s (a - i) es ≡ released s (a - (i + 1)) (give (next_of s es) es)
 released_step s a i es lt = let e : a - i ≡ suc (a - (i + 1)) = omega arith in ap (λ n. released s n es) e

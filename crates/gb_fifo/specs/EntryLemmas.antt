@@ -23,10 +23,10 @@ keys = map (λ e. e.m)
 pub brought_same : {A : Type 0} (p : Entry → A) (x : MsgId) → ((e : Entry) → p (brought_entry e) ≡ p e) → (e : Entry) → p (brought x e) ≡ p e
 brought_same p x k e = elim (is_for x e) as (λ b. p (cond b (brought_entry e) e) ≡ p e) [ true ↦ k e | false ↦ refl ]
 
-keys_brought : (x : MsgId) (es : List Entry) → keys (map (brought x) es) ≡ keys es
+pub keys_brought : (x : MsgId) (es : List Entry) → keys (map (brought x) es) ≡ keys es
 keys_brought x es = map_same (λ e. e.m) (brought x) (λ e. e.m) (brought_same (λ e. e.m) x (λ e. refl)) es
 
-keys_give : (p : Entry → Bool) (es : List Entry) → keys (give p es) ≡ keys es
+pub keys_give : (p : Entry → Bool) (es : List Entry) → keys (give p es) ≡ keys es
 keys_give p [] = refl
 keys_give p (e ∷ es) =
     elim (p e) as (λ b. keys (cond b (given_entry e ∷ es) (e ∷ give p es)) ≡ e.m ∷ keys es) [ true ↦ refl | false ↦ ap (λ xs. e.m ∷ xs) (keys_give p es) ]

@@ -10,7 +10,7 @@ use Rattle.gb_fifo.specs.FifoMachine.{FifoState}
 
 -- what a fifo remembers
 abbrev pub state_of : {S L : Type 0} → (L → S) → Fifo L → FifoState S
-state_of meaning f = record { lower = meaning f.lower; entries = f.entries.items }
+state_of meaning f = record { lower = meaning f.lower; entries = f.entries.list.items }
 
 -- nothing was handed in yet
 pub record IsNew {S : Type 0} (is_fresh : S → Type 0) (s : FifoState S) : Type 0 where
@@ -19,12 +19,12 @@ pub record IsNew {S : Type 0} (is_fresh : S → Type 0) (s : FifoState S) : Type
 
 -- how many messages were not handed up yet
 abbrev pub ungiven : {L : Type 0} → Fifo L → ℕ
-ungiven f = count_by is_ungiven f.entries.items
+ungiven f = count_by is_ungiven f.entries.list.items
 
 -- room for the next calls, so many: each may add an entry, and each message comes up once
 pub record HasRoom {L : Type 0} (below : L → ℕ → ℕ → ℕ → Type 0) (f : Fifo L) (a b calls : ℕ) : Type 0 where
   pub lower : below f.lower a (vec_capacity f.below) calls
-  pub entries : vec_len f.entries + calls ≤ vec_capacity f.entries
+  pub entries : vec_len f.entries.list + calls ≤ vec_capacity f.entries.list
   pub ups : ungiven f + calls ≤ b
 
 -- what so many calls of a fifo give at most: what the layer below sends, and each message comes up at most once
@@ -35,6 +35,6 @@ fifo_need need l = record { sends = (need l).sends; ups = message_count l + l.ca
 pub record IsWhole {L : Type 0} (below_whole : L → Limit → Type 0) (below_need : Limit → Need) (f : Fifo L) (l : Limit) : Type 0 where
   pub lower : below_whole f.lower l
   pub below : (below_need l).ups ≤ vec_capacity f.below
-  pub capacity : message_count l + l.calls ≤ vec_capacity f.entries
-  pub counted : list_all (is_counted l) (keys f.entries.items) ≡ true
-  pub once : IsDistinct same (keys f.entries.items)
+  pub capacity : message_count l + l.calls ≤ vec_capacity f.entries.list
+  pub counted : list_all (is_counted l) (keys f.entries.list.items) ≡ true
+  pub once : IsDistinct same (keys f.entries.list.items)

@@ -34,10 +34,10 @@ module _ {L : Type 0} (below : L → ℕ → ℕ → ℕ → Type 0) (below_whol
   -- a fifo that has its memory has room
   pub fifo_whole_room : (f : Fifo L) (l : Limit) (a b : ℕ) → IsWhole below_whole below_need f l → (fifo_need below_need l).sends ≤ a → (fifo_need below_need l).ups ≤ b → HasRoom below f a b l.calls
   fifo_whole_room f l a b w h k =
-      let n = no_more_messages l (keys f.entries.items) w.counted w.once in
-      let len : length (keys f.entries.items) ≡ length f.entries.items = length-map f.entries.items (λ e. e.m) in
-      let ok = f.entries.ok.0 in
-      let g = count_by-le-length is_ungiven f.entries.items in
+      let n = no_more_messages l (keys f.entries.list.items) w.counted w.once in
+      let len : length (keys f.entries.list.items) ≡ length f.entries.list.items = length-map f.entries.list.items (λ e. e.m) in
+      let ok = f.entries.list.ok.0 in
+      let g = count_by-le-length is_ungiven f.entries.list.items in
       let cap = w.capacity in
       record {
         lower = law f.lower l a (vec_capacity f.below) w.lower h w.below;
@@ -47,8 +47,8 @@ module _ {L : Type 0} (below : L → ℕ → ℕ → ℕ → Type 0) (below_whol
 
 module _ {L : Type 0} (below_whole : L → Limit → Type 0) (below_need : Limit → Need) where
   -- a call within the limit keeps a fifo so
-  pub whole_kept : (f f' : Fifo L) (l : Limit) (c : Call) → (below_whole f.lower l → below_whole f'.lower l) → vec_capacity f.below ≤ vec_capacity f'.below → vec_capacity f.entries ≤ vec_capacity f'.entries
-      → keys f'.entries.items ≡ keys (noted_by c f.entries.items) → is_within l c ≡ true → IsWhole below_whole below_need f l → IsWhole below_whole below_need f' l
+  pub whole_kept : (f f' : Fifo L) (l : Limit) (c : Call) → (below_whole f.lower l → below_whole f'.lower l) → vec_capacity f.below ≤ vec_capacity f'.below → vec_capacity f.entries.list ≤ vec_capacity f'.entries.list
+      → keys f'.entries.list.items ≡ keys (noted_by c f.entries.list.items) → is_within l c ≡ true → IsWhole below_whole below_need f l → IsWhole below_whole below_need f' l
   whole_kept f f' l c g b e k h w =
       let wb = w.below in
       let wc = w.capacity in
@@ -56,12 +56,12 @@ module _ {L : Type 0} (below_whole : L → Limit → Type 0) (below_need : Limit
         lower = g w.lower;
         below = omega (arith, b, wb);
         capacity = omega (arith, e, wc);
-        counted = ap (list_all (is_counted l)) k ∙ counted_noted l c f.entries.items h w.counted;
-        once = subst (IsDistinct same) (sym k) (once_noted c f.entries.items w.once);
+        counted = ap (list_all (is_counted l)) k ∙ counted_noted l c f.entries.list.items h w.counted;
+        once = subst (IsDistinct same) (sym k) (once_noted c f.entries.list.items w.once);
       }
 
   -- what the layer below answered is what the fifo answers
-  pub whole_made : {A E : Type 0} (made : Result A E) (f : Fifo L) (l : Limit) (free : ℕ) → free ≤ vec_capacity f.below → message_count l + l.calls ≤ vec_capacity f.entries → f.entries.items ≡ []
+  pub whole_made : {A E : Type 0} (made : Result A E) (f : Fifo L) (l : Limit) (free : ℕ) → free ≤ vec_capacity f.below → message_count l + l.calls ≤ vec_capacity f.entries.list → f.entries.list.items ≡ []
       → OnOk made (below_whole f.lower l) → OnOk made ((below_need l).ups ≤ free) → OnOk made (IsWhole below_whole below_need f l)
   unfolding IsDistinct
   whole_made (Ok x) f l free h c empty w b = record {

@@ -9,8 +9,7 @@ ghost use Rattle.gb_fifo.specs.WholeLemmas.{fifo_whole_room};
 ghost use Rattle.gb_fifo.specs.RoomLemmas.{fifo_roomier};
 ghost use Rattle.gb_fifo.specs.FifoLemmas.{fifo_me_stays, fifo_sends_handed_in, fifo_ups_handed_in, fifo_up_once, fifo_sent_once, fifo_noticed_once, fifo_own};
 
-use crate::entry::Entry;
-use crate::ledger::{count_ungiven, note, take_all};
+use crate::ledger::{Ledger, take_all};
 use gb_layer::call::Call;
 use gb_layer::effects::{Effects, Up};
 use gb_layer::layer::{Broadcast, Layer};
@@ -26,7 +25,7 @@ use std::mem;
 pub struct Fifo<L> {
     lower: L,
     /// The messages that were handed in, in the order of their first mention.
-    entries: Vec<Entry>,
+    entries: Ledger,
     /// What the newest call of the layer below brought up.
     below: Vec<Up>,
 }
@@ -40,23 +39,23 @@ impl<L: Broadcast> Fifo<L> {
     {
         Fifo {
             lower,
-            entries: Vec::new(alloc),
+            entries: Ledger::new(alloc),
             below: Vec::new(alloc),
         }
     }
 
     /// Notes what the call hands in.
     fn note_call(&mut self, call: Call)
-        requires { vec_len self.old.entries + 1 ≤ vec_capacity self.old.entries }
-        ensures items { self.new.entries.items ≡ noted_by call self.old.entries.items }
+        requires { vec_len self.old.entries.list + 1 ≤ vec_capacity self.old.entries.list }
+        ensures items { self.new.entries.list.items ≡ noted_by call self.old.entries.list.items }
         ensures lower { self.new.lower ≡ self.old.lower }
         ensures below { self.new.below ≡ self.old.below }
-        ensures len { vec_len self.new.entries ≤ vec_len self.old.entries + 1 }
-        ensures capacity { vec_capacity self.old.entries ≤ vec_capacity self.new.entries }
+        ensures len { vec_len self.new.entries.list ≤ vec_len self.old.entries.list + 1 }
+        ensures capacity { vec_capacity self.old.entries.list ≤ vec_capacity self.new.entries.list }
         ensures ungiven { ungiven self.new ≤ ungiven self.old + 1 }
     {
         match call {
-            Call::Say(m) | Call::Came(_, m) => note(&mut self.entries, m),
+            Call::Say(m) | Call::Came(_, m) => self.entries.note(m),
             Call::Notice(_) => {}
         }
     }
@@ -105,7 +104,7 @@ impl<L: Broadcast> Fifo<L> {
         out: &mut Effects,
     ) -> Result<(), OutOfMemory>
         requires empty { IsNew L.is_empty (state_of L.meaning self.old) }
-        requires memory { message_count (record { members = members.now; msgs = msgs; calls = calls }) + calls ≤ vec_capacity self.old.entries }
+        requires memory { message_count (record { members = members.now; msgs = msgs; calls = calls }) + calls ≤ vec_capacity self.old.entries.list }
         ensures state { state_of L.meaning self.new ≡ state_of L.meaning self.old }
         ensures sends { out.new.sends.items ≡ out.old.sends.items }
         ensures ups { out.new.ups ≡ out.old.ups }
@@ -146,10 +145,9 @@ impl<L: Broadcast> Layer for Fifo<L> {
     }
 
     fn ready(&mut self, calls: usize, out: &mut Effects) -> Result<(), OutOfMemory> {
-        let Some(ups) = count_ungiven(&self.entries).checked_add(calls) else {
-            return Err(OutOfMemory);
-        };
-        self.entries.reserve(calls)?;
+        let count = self.entries.list.len();
+        let ups = count.checked_add(calls).ok_or(OutOfMemory)?;
+        self.entries.list.reserve(calls)?;
         out.ups.reserve(ups)?;
         self.ready_below(calls, out)
     }
@@ -164,7 +162,8 @@ impl<L: Broadcast> Layer for Fifo<L> {
         let count = members.count_in(members);
         let messages = count.checked_mul(usize::from(msgs)).ok_or(OutOfMemory)?;
         let once = messages.checked_add(calls).ok_or(OutOfMemory)?;
-        self.entries.reserve(once)?;
+        self.entries.list.reserve(once)?;
+        self.entries.cover(msgs)?;
         out.ups.reserve(once)?;
         self.whole_below(members, msgs, calls, out)
     }

@@ -1,49 +1,52 @@
 //! The entries of a fifo, in the order of first mention.
-ghost use Rattle.std.specs.Prelude.{◌≡◌, ◌+◌, ◌≤◌, ◌∷◌, [], ◌++◌, map, length, vec_len, vec_capacity, count_by};
+ghost use Rattle.std.specs.Prelude.{◌≡◌, ℕ, ◌+◌, ◌≤◌, ◌<◌, ◌∷◌, [], ◌++◌, true, map, length, slice_index, vec_len, vec_capacity, count_by, OnOk};
 ghost use Rattle.std.specs.List.{list_any};
+ghost use Rattle.gb_types.specs.declared.limits.TheConstants.{NODES};
+ghost use Rattle.gb_layer.specs.Places.{StandsAmong};
 ghost use Rattle.gb_layer.specs.Room.{free_ups};
+ghost use Rattle.gb_layer.specs.Table.{leads};
 ghost use Rattle.gb_fifo.specs.Entries.{is_for, noted, brought, is_ungiven, given_of, is_next, next_of, give, pick, given_entry, up_of, released, released_ups, taken_one, taken_one_ups, taken, taken_ups, IsPlace};
+ghost use Rattle.gb_fifo.specs.EntryLemmas.{keys};
 
 use crate::entry::Entry;
 use gb_layer::effects::{Effects, Up};
+use gb_layer::places::Places;
+use gb_layer::table::Table;
+use gb_types::limits::NODES;
+use gb_types::memory::OutOfMemory;
 use gb_types::message::MsgId;
 use gb_types::node::NodeId;
+use std::alloc::Global;
 
-/// Whether there is an entry of m.
-fn is_noted(entries: &[Entry], m: MsgId) -> bool
+/// The entries in the order of first mention, with a table that leads to them.
+#[derive(Drop)]
+pub struct Ledger {
+    pub list: Vec<Entry>,
+    pub table: Table,
+    /// How many messages of each origin were handed up.
+    pub given: [usize; NODES],
+    ghost leads: { leads table.width table.told.items 0 (keys list.items) ≡ true },
+    ghost counted: { (origin : ℕ) → origin < NODES → slice_index given origin ≡ given_of origin list.items },
+}
+
+/// Whether the entry is of m.
+fn is_of(e: &Entry, m: MsgId) -> bool
+    ensures { result ≡ is_for m e.now }
+{
+    e.m == m
+}
+
+/// Whether there is an entry of m, which stands at these places.
+fn is_noted(entries: &[Entry], places: Places, m: MsgId) -> bool
+    requires { StandsAmong (is_for m) places.from places.to entries.now }
     ensures { result ≡ list_any (is_for m) entries.now }
 {
-    entries.iter().any(|e| e.m == m)
-}
-
-/// Adds an entry of m, where there is none.
-pub fn note(entries: &mut Vec<Entry>, m: MsgId)
-    requires { vec_len entries.old + 1 ≤ vec_capacity entries.old }
-    ensures items { entries.new.items ≡ noted entries.old.items m }
-    ensures len { vec_len entries.new ≤ vec_len entries.old + 1 }
-    ensures capacity { vec_capacity entries.old ≤ vec_capacity entries.new }
-    ensures ungiven { count_by is_ungiven entries.new.items ≤ count_by is_ungiven entries.old.items + 1 }
-{
-    if !is_noted(entries, m) {
-        entries.push_reserved(Entry {
-            m,
-            here: false,
-            given: false,
-        });
-    }
-}
-
-/// How many messages were not handed up yet.
-pub fn count_ungiven(entries: &[Entry]) -> usize
-    ensures { result ≡ count_by is_ungiven entries.now }
-{
-    let mut count: usize = 0;
-    for e in entries {
-        if !e.given {
-            count += 1;
+    for i in places.from..places.to.min(entries.len()) {
+        if is_of(&entries[i], m) {
+            return true;
         }
     }
-    count
+    false
 }
 
 /// Marks the entry, if it is of m: m came up.
@@ -55,35 +58,16 @@ fn bring_one(e: &mut Entry, m: MsgId)
     }
 }
 
-/// Marks the entry of m among these: m came up.
-fn bring_all(entries: &mut [Entry], m: MsgId)
-    ensures { entries.new ≡ map (brought m) entries.old }
-{
-    for e in entries.iter_mut() {
-        bring_one(e, m);
-    }
-}
-
-/// Marks the entry of m: m came up.
-fn bring(entries: &mut Vec<Entry>, m: MsgId)
+/// Marks the entry of m, which stands at these places: m came up.
+fn bring_all(entries: &mut Vec<Entry>, places: Places, m: MsgId)
+    requires { StandsAmong (is_for m) places.from places.to entries.old.items }
     ensures items { entries.new.items ≡ map (brought m) entries.old.items }
     ensures len { vec_len entries.new ≡ vec_len entries.old }
     ensures capacity { vec_capacity entries.new ≡ vec_capacity entries.old }
 {
-    bring_all(entries, m);
-}
-
-/// How many messages of an origin were handed up.
-fn count_given(entries: &[Entry], origin: NodeId) -> usize
-    ensures { result ≡ given_of origin.number entries.now }
-{
-    let mut count: usize = 0;
-    for e in entries {
-        if e.m.origin == origin && e.given {
-            count += 1;
-        }
+    for i in places.from..places.to.min(entries.len()) {
+        bring_one(&mut entries[i], m);
     }
-    count
 }
 
 /// Whether a message came up and was not handed up, and is the one of the origin after the first k.
@@ -94,17 +78,99 @@ fn is_after(e: &Entry, origin: NodeId, k: usize) -> bool
     (e.here && !e.given) && (e.m.origin == origin && (seq != 0 && usize::from(seq - 1) == k))
 }
 
-/// The place of the next message of an origin, if it came up.
-fn find_next(entries: &[Entry], origin: NodeId) -> Option<usize>
-    ensures { IsPlace (next_of origin.number entries.now) entries.now result }
+/// The place of the message of an origin after the first k, which stands at these places, if it came up and was not
+/// handed up.
+fn find_after(entries: &[Entry], places: Places, origin: NodeId, k: usize) -> Option<usize>
+    requires { StandsAmong (is_next origin.number k) places.from places.to entries.now }
+    ensures { IsPlace (is_next origin.number k) entries.now result }
 {
-    let k = count_given(entries, origin);
-    for i in 0..entries.len() {
+    for i in places.from..places.to.min(entries.len()) {
         if is_after(&entries[i], origin, k) {
             return Some(i);
         }
     }
     None
+}
+
+impl Ledger {
+    /// No entries.
+    pub fn new(alloc: Global) -> Ledger
+        ensures { result.list.items ≡ [] }
+    {
+        Ledger {
+            list: Vec::new(alloc),
+            table: Table::new(alloc),
+            given: [0; NODES],
+        }
+    }
+
+    /// Has the table cover messages numbered from 1 to this width, where there are no entries yet.
+    pub fn cover(&mut self, width: u16) -> Result<(), OutOfMemory>
+        requires { self.old.list.items ≡ [] }
+        ensures { self.new.list ≡ self.old.list }
+    {
+        self.table.cover(width)
+    }
+
+    /// Where an entry of m may stand.
+    fn places(&self, m: MsgId) -> Places
+        ensures { StandsAmong (is_for m) result.from result.to self.now.list.items }
+    {
+        self.table.places(m, self.list.len())
+    }
+
+    /// Where the message of an origin after the first k may stand.
+    fn places_after(&self, origin: NodeId, k: usize) -> Places
+        ensures { StandsAmong (is_next origin.number k) result.from result.to self.now.list.items }
+    {
+        if k < usize::from(u16::MAX) {
+            let seq = k as u16 + 1;
+            self.places(MsgId { origin, seq })
+        } else {
+            Places {
+                from: 0,
+                to: self.list.len(),
+            }
+        }
+    }
+
+    /// Adds an entry of m, where there is none.
+    pub fn note(&mut self, m: MsgId)
+        requires { vec_len self.old.list + 1 ≤ vec_capacity self.old.list }
+        ensures items { self.new.list.items ≡ noted self.old.list.items m }
+        ensures len { vec_len self.new.list ≤ vec_len self.old.list + 1 }
+        ensures capacity { vec_capacity self.old.list ≤ vec_capacity self.new.list }
+        ensures ungiven { count_by is_ungiven self.new.list.items ≤ count_by is_ungiven self.old.list.items + 1 }
+    {
+        let places = self.places(m);
+        if !is_noted(&self.list, places, m) {
+            self.table.note(m, self.list.len());
+            self.list.push_reserved(Entry {
+                m,
+                here: false,
+                given: false,
+            });
+        }
+    }
+
+    /// Marks the entry of m: m came up.
+    fn bring(&mut self, m: MsgId)
+        ensures items { self.new.list.items ≡ map (brought m) self.old.list.items }
+        ensures len { vec_len self.new.list ≡ vec_len self.old.list }
+        ensures capacity { vec_capacity self.new.list ≡ vec_capacity self.old.list }
+    {
+        let places = self.places(m);
+        bring_all(&mut self.list, places, m);
+    }
+
+    /// The place of the next message of an origin, if it came up.
+    fn find_next(&self, origin: NodeId) -> Option<usize>
+        ensures { IsPlace (next_of origin.number self.now.list.items) self.now.list.items result }
+    {
+        let k = self.given[origin.index()];
+        let places = self.places_after(origin, k);
+        find_after(&self.list, places, origin, k)
+    }
 }
 
 /// Hands up one message.
@@ -122,20 +188,21 @@ fn give_one(e: &mut Entry, out: &mut Effects)
 }
 
 /// Hands up the next message of an origin, if it came up, and says whether it did.
-fn give_next(entries: &mut Vec<Entry>, origin: NodeId, out: &mut Effects) -> bool
-    requires { count_by is_ungiven entries.old.items ≤ free_ups out.old }
-    ensures found { result ≡ list_any (next_of origin.number entries.old.items) entries.old.items }
-    ensures items { entries.new.items ≡ give (next_of origin.number entries.old.items) entries.old.items }
-    ensures ups { out.new.ups.items ≡ out.old.ups.items ++ pick (next_of origin.number entries.old.items) entries.old.items }
+fn give_next(ledger: &mut Ledger, origin: NodeId, out: &mut Effects) -> bool
+    requires { count_by is_ungiven ledger.old.list.items ≤ free_ups out.old }
+    ensures found { result ≡ list_any (next_of origin.number ledger.old.list.items) ledger.old.list.items }
+    ensures items { ledger.new.list.items ≡ give (next_of origin.number ledger.old.list.items) ledger.old.list.items }
+    ensures ups { out.new.ups.items ≡ out.old.ups.items ++ pick (next_of origin.number ledger.old.list.items) ledger.old.list.items }
     ensures sends { out.new.sends ≡ out.old.sends }
-    ensures room { free_ups out.old + count_by is_ungiven entries.new.items ≤ free_ups out.new + count_by is_ungiven entries.old.items }
-    ensures len { vec_len entries.new ≡ vec_len entries.old }
-    ensures capacity { vec_capacity entries.new ≡ vec_capacity entries.old }
+    ensures room { free_ups out.old + count_by is_ungiven ledger.new.list.items ≤ free_ups out.new + count_by is_ungiven ledger.old.list.items }
+    ensures len { vec_len ledger.new.list ≡ vec_len ledger.old.list }
+    ensures capacity { vec_capacity ledger.new.list ≡ vec_capacity ledger.old.list }
     ensures memory { vec_capacity out.old.ups ≤ vec_capacity out.new.ups }
 {
-    match find_next(entries, origin) {
+    match ledger.find_next(origin) {
         Some(i) => {
-            give_one(&mut entries[i], out);
+            give_one(&mut ledger.list[i], out);
+            ledger.given[origin.index()] += 1;
             true
         }
         None => false,
@@ -143,51 +210,51 @@ fn give_next(entries: &mut Vec<Entry>, origin: NodeId, out: &mut Effects) -> boo
 }
 
 /// Hands up the next messages of an origin, as long as the next one came up.
-fn release(entries: &mut Vec<Entry>, origin: NodeId, out: &mut Effects)
-    requires { count_by is_ungiven entries.old.items ≤ free_ups out.old }
-    ensures items { entries.new.items ≡ released origin.number (length entries.old.items) entries.old.items }
-    ensures ups { out.new.ups.items ≡ out.old.ups.items ++ released_ups origin.number (length entries.old.items) entries.old.items }
+fn release(ledger: &mut Ledger, origin: NodeId, out: &mut Effects)
+    requires { count_by is_ungiven ledger.old.list.items ≤ free_ups out.old }
+    ensures items { ledger.new.list.items ≡ released origin.number (length ledger.old.list.items) ledger.old.list.items }
+    ensures ups { out.new.ups.items ≡ out.old.ups.items ++ released_ups origin.number (length ledger.old.list.items) ledger.old.list.items }
     ensures sends { out.new.sends ≡ out.old.sends }
-    ensures room { free_ups out.old + count_by is_ungiven entries.new.items ≤ free_ups out.new + count_by is_ungiven entries.old.items }
-    ensures len { vec_len entries.new ≡ vec_len entries.old }
-    ensures capacity { vec_capacity entries.new ≡ vec_capacity entries.old }
+    ensures room { free_ups out.old + count_by is_ungiven ledger.new.list.items ≤ free_ups out.new + count_by is_ungiven ledger.old.list.items }
+    ensures len { vec_len ledger.new.list ≡ vec_len ledger.old.list }
+    ensures capacity { vec_capacity ledger.new.list ≡ vec_capacity ledger.old.list }
     ensures memory { vec_capacity out.old.ups ≤ vec_capacity out.new.ups }
 {
-    let count = entries.len();
+    let count = ledger.list.len();
     for i in 0..count {
-        if !give_next(entries, origin, out) {
+        if !give_next(ledger, origin, out) {
             return;
         }
     }
 }
 
 /// Takes a message that the layer below brought up.
-fn take_one(entries: &mut Vec<Entry>, m: MsgId, out: &mut Effects)
-    requires { count_by is_ungiven entries.old.items ≤ free_ups out.old }
-    ensures items { entries.new.items ≡ taken_one m entries.old.items }
-    ensures ups { out.new.ups.items ≡ out.old.ups.items ++ taken_one_ups m entries.old.items }
+fn take_one(ledger: &mut Ledger, m: MsgId, out: &mut Effects)
+    requires { count_by is_ungiven ledger.old.list.items ≤ free_ups out.old }
+    ensures items { ledger.new.list.items ≡ taken_one m ledger.old.list.items }
+    ensures ups { out.new.ups.items ≡ out.old.ups.items ++ taken_one_ups m ledger.old.list.items }
     ensures sends { out.new.sends ≡ out.old.sends }
-    ensures room { free_ups out.old + count_by is_ungiven entries.new.items ≤ free_ups out.new + count_by is_ungiven entries.old.items }
-    ensures len { vec_len entries.new ≡ vec_len entries.old }
-    ensures capacity { vec_capacity entries.new ≡ vec_capacity entries.old }
+    ensures room { free_ups out.old + count_by is_ungiven ledger.new.list.items ≤ free_ups out.new + count_by is_ungiven ledger.old.list.items }
+    ensures len { vec_len ledger.new.list ≡ vec_len ledger.old.list }
+    ensures capacity { vec_capacity ledger.new.list ≡ vec_capacity ledger.old.list }
     ensures memory { vec_capacity out.old.ups ≤ vec_capacity out.new.ups }
 {
-    bring(entries, m);
-    release(entries, m.origin, out);
+    ledger.bring(m);
+    release(ledger, m.origin, out);
 }
 
 /// Takes what the layer below brought up, one by one.
-pub fn take_all(entries: &mut Vec<Entry>, ups: &[Up], out: &mut Effects)
-    requires { count_by is_ungiven entries.old.items ≤ free_ups out.old }
-    ensures items { entries.new.items ≡ taken ups.now entries.old.items }
-    ensures ups { out.new.ups.items ≡ out.old.ups.items ++ taken_ups ups.now entries.old.items }
+pub fn take_all(ledger: &mut Ledger, ups: &[Up], out: &mut Effects)
+    requires { count_by is_ungiven ledger.old.list.items ≤ free_ups out.old }
+    ensures items { ledger.new.list.items ≡ taken ups.now ledger.old.list.items }
+    ensures ups { out.new.ups.items ≡ out.old.ups.items ++ taken_ups ups.now ledger.old.list.items }
     ensures sends { out.new.sends ≡ out.old.sends }
-    ensures room { free_ups out.old + count_by is_ungiven entries.new.items ≤ free_ups out.new + count_by is_ungiven entries.old.items }
-    ensures len { vec_len entries.new ≡ vec_len entries.old }
-    ensures capacity { vec_capacity entries.new ≡ vec_capacity entries.old }
+    ensures room { free_ups out.old + count_by is_ungiven ledger.new.list.items ≤ free_ups out.new + count_by is_ungiven ledger.old.list.items }
+    ensures len { vec_len ledger.new.list ≡ vec_len ledger.old.list }
+    ensures capacity { vec_capacity ledger.new.list ≡ vec_capacity ledger.old.list }
     ensures memory { vec_capacity out.old.ups ≤ vec_capacity out.new.ups }
 {
     for up in ups {
-        take_one(entries, up.m, out);
+        take_one(ledger, up.m, out);
     }
 }

@@ -1,12 +1,11 @@
 -- Where the entries that are due stand: what each change leaves of that, and what a pass over these places alone does.
-use Rattle.std.proofs.Common.{◌≡◌, ℕ, ◌+◌, ◌-◌, ◌≤◌, ◌<◌, Bool, true, false, cond, ◌&&◌, ◌||◌, nat_lt, nat_le, List, [], ◌∷◌, ◌++◌, length, map, slice_get, get_or, refl, ap, ◌∙◌, sym, arith, zero, suc}
+use Rattle.std.proofs.Common.{◌≡◌, ℕ, ◌+◌, ◌-◌, ◌≤◌, ◌<◌, Bool, true, false, cond, ◌&&◌, ◌||◌, nat_lt, nat_le, List, [], ◌∷◌, ◌++◌, map, slice_get, refl, ap, ◌∙◌, sym, arith, zero, suc}
 use Rattle.std.specs.declared.option.Option.{Option}
 use Rattle.std.specs.declared.option.Option.TheVariants.{None, Some}
 use Rattle.std.specs.List.{list_any}
 use Rattle.std.specs.Ordering.{nat_cmp}
 use Rattle.std.specs.FinSet as set
 use Rattle.std.proofs.lemmas.Bool.Decides.{nat_tests}
-use Rattle.std.proofs.lemmas.Option.{slice_get-get_or}
 use Rattle.gb_types.specs.declared.node.NodeId.{NodeId}
 use Rattle.gb_types.specs.declared.message.MsgId.{MsgId}
 use Rattle.gb_layer.specs.declared.call.Call.{Call}
@@ -18,43 +17,7 @@ use Rattle.gb_layer.specs.Rule.{Nodes, Rules}
 use Rattle.gb_layer.specs.Relay.{State, is_for, new_entry, noted, held, sent_entry, given_entry, marked_sent, handed, due_to_relay, due_to_deliver, wants_relay, due_message, relay_any, relay_any_sends, relay_from, relay_from_sends}
 use Rattle.gb_layer.specs.Pending.{is_pending}
 use Rattle.gb_layer.specs.TableLemmas.{not_held}
-
--- what stands at a place of a list that was changed throughout
-get_map : {X Y : Type 0} (f : X → Y) (xs : List X) (k : ℕ) (y : Y) → slice_get (map f xs) k ≡ Some y → (x : X) × (slice_get xs k ≡ Some x) × (y ≡ f x)
-get_map f [] k y h = cc
-get_map f (x ∷ xs) zero y h = (x, refl, cc)
-get_map f (x ∷ xs) (suc k) y h = get_map f xs k y h
-
-pub get_within : {X : Type 0} (xs : List X) (k : ℕ) (x : X) → slice_get xs k ≡ Some x → k < length xs
-get_within [] k x h = cc
-get_within (y ∷ xs) zero x h = omega arith
-get_within (y ∷ xs) (suc k) x h = let lt : k < length xs = get_within xs k x h in omega (arith, lt)
-
--- what an index reads is what stands there
-pub at_place : {X : Type 0} (xs : List X) (i k : ℕ) (x y : X) → slice_get xs i ≡ Some x → i ≡ k → k < length xs → y ≡ get_or xs k y → x ≡ y
-at_place xs i k x y at same lt is =
-    let e : Some x ≡ Some (get_or xs k y) = sym at ∙ (ap (slice_get xs) same ∙ slice_get-get_or xs k y lt) in cc
-
--- a stronger test, and a change that makes none pass
-pub among_weaker : {X : Type 0} (p q : X → Bool) → ((x : X) → q x ≡ true → p x ≡ true) → (from to : ℕ) (xs : List X) → StandsAmong p from to xs → StandsAmong q from to xs
-among_weaker p q f from to xs s k x at h = s k x at (f x h)
-
-pub among_map : {X : Type 0} (p : X → Bool) (f : X → X) → ((x : X) → p (f x) ≡ true → p x ≡ true) → (from to : ℕ) (xs : List X) → StandsAmong p from to xs → StandsAmong p from to (map f xs)
-among_map p f back from to xs s k y at h = let g = get_map f xs k y at in s k g.0 g.1 (back g.0 (ap p (sym g.2) ∙ h))
-
--- elsewhere none passes
-pub fails_elsewhere : {X : Type 0} (p : X → Bool) (from to : ℕ) (xs : List X) → StandsAmong p from to xs → (k : ℕ) (x : X) → (IsAmong from to k → ⊥) → slice_get xs k ≡ Some x → p x ≡ false
-fails_elsewhere p from to xs s k x out at =
-    elim (p x) as (λ b. p x ≡ b → b ≡ false) [
-      | true ↦ λ h. absurd (out (s k x at h))
-      | false ↦ λ _. refl
-    ] refl
-
-pushed : {X : Type 0} (p : X → Bool) (x : X) → p x ≡ false → (xs : List X) (k : ℕ) (y : X) → slice_get (xs ++ x ∷ []) k ≡ Some y → p y ≡ true → slice_get xs k ≡ Some y
-pushed p x n [] zero y at h = let e : x ≡ y = cc in let f : p x ≡ p y = ap p e in cc
-pushed p x n [] (suc k) y at h = cc
-pushed p x n (z ∷ xs) zero y at h = at
-pushed p x n (z ∷ xs) (suc k) y at h = pushed p x n xs k y at h
+use Rattle.gb_layer.proofs.PlacesLemmas.{get_map, pushed, among_weaker, among_map, fails_elsewhere}
 
 -- one entry more, which does not pass
 among_noted : (p : Entry → Bool) (m : MsgId) → p (new_entry m) ≡ false → (from to : ℕ) (es : List Entry) → StandsAmong p from to es → StandsAmong p from to (noted es m)

@@ -13,28 +13,28 @@ use Rattle.gb_layer.specs.declared.entries.Entry.{Entry}
 use Rattle.gb_types.specs.declared.node.NodeId.{NodeId}
 use Rattle.gb_layer.specs.Bools.{or_left, or_right, and_more}
 use Rattle.gb_layer.specs.Lists.{map_same}
-use Rattle.gb_layer.specs.Relay.{is_for, new_entry, held, held_entry, marked_sent, sent_entry}
+use Rattle.gb_layer.specs.Relay.{is_for, held, held_entry, marked_sent, sent_entry}
 use Rattle.gb_layer.specs.EntryLemmas.{keys, held_same}
 use Rattle.gb_layer.specs.Table.{covers, spot, told, says, leads, IsNowhere, IsThere}
 
 module _ (width : ℕ) (table : List ℕ) (m : MsgId) (v : ℕ) (is : told width table m ≡ Some v) where
-  -- an entry of m at a place is where the table says
-  here : (e : Entry) (i : ℕ) → is_for m e ≡ true → says (told width table e.m) (i + 1) ≡ true → v ≡ i + 1
-  here e i f h =
-      let k : says (told width table m) (i + 1) ≡ true = ap (λ y. says (told width table y) (i + 1)) (sym (same-true e.m m f)) ∙ h in
+  -- m at a place is where the table says
+  here : (x : MsgId) (i : ℕ) → same x m ≡ true → says (told width table x) (i + 1) ≡ true → v ≡ i + 1
+  here x i f h =
+      let k : says (told width table m) (i + 1) ≡ true = ap (λ y. says (told width table y) (i + 1)) (sym (same-true x m f)) ∙ h in
       let n : nat_eq v (i + 1) ≡ true = ap (λ o. says o (i + 1)) (sym is) ∙ k in
       eqb-true v (i + 1) n
 
-  -- an entry of m stands where the table leads
-  pub stands_there : (es : List Entry) (i j : ℕ) (d : Entry) → slice_get es j ≡ Some d → is_for m d ≡ true → leads width table i (keys es) ≡ true → v ≡ i + j + 1
-  stands_there [] i j d at t h = cc
-  stands_there (x ∷ es) i zero d at t h =
-      let same : x ≡ d = cc in
+  -- m stands where the table leads
+  pub stands_there : (ms : List MsgId) (i j : ℕ) (x : MsgId) → slice_get ms j ≡ Some x → same x m ≡ true → leads width table i ms ≡ true → v ≡ i + j + 1
+  stands_there [] i j x at t h = cc
+  stands_there (y ∷ ms) i zero x at t h =
+      let equal : y ≡ x = cc in
       let e : i + 1 ≡ i + 0 + 1 = omega arith in
-      here x i (ap (is_for m) same ∙ t) (and-first _ _ h) ∙ e
-  stands_there (x ∷ es) i (suc j) d at t h =
+      here y i (ap (λ z. same z m) equal ∙ t) (and-first _ _ h) ∙ e
+  stands_there (y ∷ ms) i (suc j) x at t h =
       let e : i + 1 + j + 1 ≡ i + suc j + 1 = omega arith in
-      stands_there es (i + 1) j d at t (and-second _ _ h) ∙ e
+      stands_there ms (i + 1) j x at t (and-second _ _ h) ∙ e
 
   module _ (f : Entry → Entry) (leaves : (e : Entry) → is_for m e ≡ false → f e ≡ e) where
     -- where the table leads to no place, a change of m changes nothing
@@ -42,7 +42,7 @@ module _ (width : ℕ) (table : List ℕ) (m : MsgId) (v : ℕ) (is : told width
     map_nowhere [] i out h = refl
     map_nowhere (e ∷ es) i out h =
         elim (is_for m e) as (λ b. is_for m e ≡ b → map f (e ∷ es) ≡ e ∷ es) [
-          | true ↦ λ k. let n = here e i k (and-first _ _ h) in absurd (grind (arith, n, out))
+          | true ↦ λ k. let n = here e.m i k (and-first _ _ h) in absurd (grind (arith, n, out))
           | false ↦ λ k.
               let rest : (v ≤ i + 1) ⊎ (i + 1 + length es < v) = grind (arith, out) in
               λ j. leaves e k j ∷ map_nowhere es (i + 1) rest (and-second _ _ h) j
@@ -56,7 +56,7 @@ module _ (width : ℕ) (table : List ℕ) (m : MsgId) (v : ℕ) (is : told width
         let e' : v ≡ i + 1 + k + 1 = omega (arith, e) in
         let lt' : k < length es = omega (arith, lt) in
         elim (is_for m x) as (λ b. is_for m x ≡ b → f x ∷ map f es ≡ x ∷ set es k (f (get_or es k d))) [
-          | true ↦ λ t. let n = here x i t (and-first _ _ h) in absurd (omega (arith, n, e))
+          | true ↦ λ t. let n = here x.m i t (and-first _ _ h) in absurd (omega (arith, n, e))
           | false ↦ λ t. λ j. leaves x t j ∷ map_there es (i + 1) k d e' lt' (and-second _ _ h) j
         ] refl
 
@@ -66,7 +66,7 @@ module _ (width : ℕ) (table : List ℕ) (m : MsgId) (v : ℕ) (is : told width
     any_nowhere [] i out h = refl
     any_nowhere (e ∷ es) i out h =
         elim (is_for m e) as (λ b. is_for m e ≡ b → list_any p (e ∷ es) ≡ false) [
-          | true ↦ λ k. let n = here e i k (and-first _ _ h) in absurd (grind (arith, n, out))
+          | true ↦ λ k. let n = here e.m i k (and-first _ _ h) in absurd (grind (arith, n, out))
           | false ↦ λ k.
               let rest : (v ≤ i + 1) ⊎ (i + 1 + length es < v) = grind (arith, out) in
               ap (λ b. b || list_any p es) (only e k) ∙ any_nowhere es (i + 1) rest (and-second _ _ h)
@@ -81,7 +81,7 @@ module _ (width : ℕ) (table : List ℕ) (m : MsgId) (v : ℕ) (is : told width
         let e' : v ≡ i + 1 + k + 1 = omega (arith, e) in
         let lt' : k < length es = omega (arith, lt) in
         elim (is_for m x) as (λ b. is_for m x ≡ b → (p x || list_any p es) ≡ p (get_or es k d)) [
-          | true ↦ λ t. let n = here x i t (and-first _ _ h) in absurd (omega (arith, n, e))
+          | true ↦ λ t. let n = here x.m i t (and-first _ _ h) in absurd (omega (arith, n, e))
           | false ↦ λ t. ap (λ b. b || list_any p es) (only x t) ∙ any_there es (i + 1) k d e' lt' (and-second _ _ h)
         ] refl
 
@@ -151,29 +151,29 @@ told_other width table x m u k n =
       | false ↦ λ _. refl
     ] refl
 
-leads_other : (width : ℕ) (table : List ℕ) (m : MsgId) (u i : ℕ) (es : List Entry) → covers width m ≡ true → list_any (is_for m) es ≡ false → leads width table i (keys es) ≡ true → leads width (set table (spot width m) u) i (keys es) ≡ true
+leads_other : (width : ℕ) (table : List ℕ) (m : MsgId) (u i : ℕ) (ms : List MsgId) → covers width m ≡ true → list_any (λ x. same x m) ms ≡ false → leads width table i ms ≡ true → leads width (set table (spot width m) u) i ms ≡ true
 leads_other width table m u i [] k n h = refl
-leads_other width table m u i (e ∷ es) k n h =
-    and_more (says (told width table e.m) (i + 1)) _ (says (told width (set table (spot width m) u) e.m) (i + 1)) _
-    (λ w. ap (λ o. says o (i + 1)) (told_other width table e.m m u k (or_left _ _ n)) ∙ w)
-    (λ w. leads_other width table m u (i + 1) es k (or_right (is_for m e) _ n) w) h
+leads_other width table m u i (x ∷ ms) k n h =
+    and_more (says (told width table x) (i + 1)) _ (says (told width (set table (spot width m) u) x) (i + 1)) _
+    (λ w. ap (λ o. says o (i + 1)) (told_other width table x m u k (or_left _ _ n)) ∙ w)
+    (λ w. leads_other width table m u (i + 1) ms k (or_right (same x m) _ n) w) h
 
-leads_pushed : (width : ℕ) (table : List ℕ) (m : MsgId) (i : ℕ) (es : List Entry) → says (told width table m) (i + length es + 1) ≡ true → leads width table i (keys es) ≡ true → leads width table i (keys (es ++ new_entry m ∷ [])) ≡ true
+leads_pushed : (width : ℕ) (table : List ℕ) (m : MsgId) (i : ℕ) (ms : List MsgId) → says (told width table m) (i + length ms + 1) ≡ true → leads width table i ms ≡ true → leads width table i (ms ++ m ∷ []) ≡ true
 leads_pushed width table m i [] s h = let e : i + 0 + 1 ≡ i + 1 = omega arith in ap (λ b. b && true) (ap (λ n. says (told width table m) n) (sym e) ∙ s)
-leads_pushed width table m i (e ∷ es) s h =
-    let n : i + suc (length es) + 1 ≡ i + 1 + length es + 1 = omega arith in
-    and_more (says (told width table e.m) (i + 1)) _ (says (told width table e.m) (i + 1)) _ (λ w. w)
-    (λ w. leads_pushed width table m (i + 1) es (ap (λ v. says (told width table m) v) (sym n) ∙ s) w) h
+leads_pushed width table m i (x ∷ ms) s h =
+    let n : i + suc (length ms) + 1 ≡ i + 1 + length ms + 1 = omega arith in
+    and_more (says (told width table x) (i + 1)) _ (says (told width table x) (i + 1)) _ (λ w. w)
+    (λ w. leads_pushed width table m (i + 1) ms (ap (λ v. says (told width table m) v) (sym n) ∙ s) w) h
 
 -- a message of which the table does not speak is added
-pub leads_unsaid : (width : ℕ) (table : List ℕ) (m : MsgId) (es : List Entry) → told width table m ≡ None → leads width table 0 (keys es) ≡ true → leads width table 0 (keys (es ++ new_entry m ∷ [])) ≡ true
-leads_unsaid width table m es n h = leads_pushed width table m 0 es (ap (λ o. says o (0 + length es + 1)) n) h
+pub leads_unsaid : (width : ℕ) (table : List ℕ) (m : MsgId) (ms : List MsgId) → told width table m ≡ None → leads width table 0 ms ≡ true → leads width table 0 (ms ++ m ∷ []) ≡ true
+leads_unsaid width table m ms n h = leads_pushed width table m 0 ms (ap (λ o. says o (0 + length ms + 1)) n) h
 
 -- a new message is added, and the table says its place
-pub leads_said : (width : ℕ) (table : List ℕ) (m : MsgId) (es : List Entry) (at v : ℕ) → covers width m ≡ true → at ≡ spot width m → at < length table → v ≡ length es + 1 → list_any (is_for m) es ≡ false
-    → leads width table 0 (keys es) ≡ true → leads width (set table at v) 0 (keys (es ++ new_entry m ∷ [])) ≡ true
-leads_said width table m es at v k e lt new n h =
+pub leads_said : (width : ℕ) (table : List ℕ) (m : MsgId) (ms : List MsgId) (at v : ℕ) → covers width m ≡ true → at ≡ spot width m → at < length table → v ≡ length ms + 1 → list_any (λ x. same x m) ms ≡ false
+    → leads width table 0 ms ≡ true → leads width (set table at v) 0 (ms ++ m ∷ []) ≡ true
+leads_said width table m ms at v k e lt new n h =
     let lt' : spot width m < length table = omega (arith, e, lt) in
     let t : told width (set table (spot width m) v) m ≡ Some v = ap (λ b. cond b (slice_get (set table (spot width m) v) (spot width m)) None) k ∙ slice_get_set_same table (spot width m) v lt' in
-    let s : says (told width (set table (spot width m) v) m) (0 + length es + 1) ≡ true = ap (λ o. says o (0 + length es + 1)) t ∙ grind (arith, nat_tests, new) in
-    ap (λ a. leads width (set table a v) 0 (keys (es ++ new_entry m ∷ []))) e ∙ leads_pushed width (set table (spot width m) v) m 0 es s (leads_other width table m v 0 es k n h)
+    let s : says (told width (set table (spot width m) v) m) (0 + length ms + 1) ≡ true = ap (λ o. says o (0 + length ms + 1)) t ∙ grind (arith, nat_tests, new) in
+    ap (λ a. leads width (set table a v) 0 (ms ++ m ∷ [])) e ∙ leads_pushed width (set table (spot width m) v) m 0 ms s (leads_other width table m v 0 ms k n h)

@@ -1,15 +1,14 @@
 //! What a relay remembers of each message, with a table that leads to it.
-ghost use Rattle.std.specs.Prelude.{◌≡◌, ◌+◌, ◌≤◌, ◌<◌, ◌&&◌, true, [], count_by, OnOk, map, length, MatchOption, vec_len, vec_capacity};
+ghost use Rattle.std.specs.Prelude.{◌≡◌, ◌+◌, ◌≤◌, ◌&&◌, true, [], count_by, OnOk, map, length, MatchOption, vec_len, vec_capacity};
 ghost use Rattle.std.specs.List.{list_any};
-ghost use Rattle.std.specs.declared.option.Option.TheVariants.{None};
 ghost use Rattle.gb_layer.specs.EntryLemmas.{keys};
 ghost use Rattle.gb_layer.specs.Places.{StandsAmong};
 ghost use Rattle.gb_layer.specs.Relay.{is_for, is_sent, new_entry, held, is_unsent, is_ungiven, marked_sent, noted};
-ghost use Rattle.gb_layer.specs.Table.{told, covers, spot, leads, IsNowhere, IsThere};
+ghost use Rattle.gb_layer.specs.Table.{leads, IsNowhere, IsThere};
 
 use crate::entries::{Entry, has_entry, hold_in, hold_one, mark_one, mark_sent, was_sent};
 use crate::places::Places;
-use gb_types::limits::NODES;
+use crate::table::{Table, place};
 use gb_types::memory::OutOfMemory;
 use gb_types::message::MsgId;
 use gb_types::node::{NodeId, NodeSet};
@@ -19,9 +18,8 @@ use std::alloc::Global;
 #[derive(Drop)]
 pub struct Ledger {
     pub list: Vec<Entry>,
-    pub table: Vec<usize>,
-    pub width: u16,
-    ghost leads: { leads width table.items 0 (keys list.items) ≡ true },
+    pub table: Table,
+    ghost leads: { leads table.width table.told.items 0 (keys list.items) ≡ true },
 }
 
 impl Ledger {
@@ -31,8 +29,7 @@ impl Ledger {
     {
         Ledger {
             list: Vec::new(alloc),
-            table: Vec::new(alloc),
-            width: 0,
+            table: Table::new(alloc),
         }
     }
 
@@ -40,75 +37,30 @@ impl Ledger {
     pub fn cover(&mut self, width: u16) -> Result<(), OutOfMemory>
         requires { self.old.list.items ≡ [] }
         ensures list { self.new.list ≡ self.old.list }
-        ensures width { OnOk result (self.new.width ≡ width) }
+        ensures width { OnOk result (self.new.table.width ≡ width) }
     {
-        let places = NODES * usize::from(width);
-        self.table.resize(places, 0)?;
-        self.width = width;
-        Ok(())
-    }
-
-    /// What the table says of m: 0, or one more than the place of its entry; nothing where it does not cover m.
-    fn told(&self, m: MsgId) -> Option<usize>
-        ensures { result ≡ told self.now.width self.now.table.items m }
-    {
-        if m.seq == 0 || m.seq > self.width {
-            return None;
-        }
-        let at = m.origin.index() * usize::from(self.width) + usize::from(m.seq - 1);
-        self.table.get(at).copied()
-    }
-
-    /// Where the table speaks of m, if it does.
-    fn spot(&self, m: MsgId) -> Option<usize>
-        ensures { MatchOption result (told self.now.width self.now.table.items m ≡ None)
-            (λ at. (covers self.now.width m ≡ true) × (at ≡ spot self.now.width m) × (at < length self.now.table.items)) }
-    {
-        if m.seq == 0 || m.seq > self.width {
-            return None;
-        }
-        let at = m.origin.index() * usize::from(self.width) + usize::from(m.seq - 1);
-        if at < self.table.len() {
-            Some(at)
-        } else {
-            None
-        }
+        self.table.cover(width)
     }
 
     /// The place that the table means by v, if there is one.
     fn place(&self, v: usize) -> Option<usize>
         ensures { MatchOption result (IsNowhere (length self.now.list.items) v) (IsThere (length self.now.list.items) v) }
     {
-        if v == 0 {
-            return None;
-        }
-        if v > self.list.len() {
-            return None;
-        }
-        Some(v - 1)
+        place(self.list.len(), v)
     }
 
     /// Where an entry of m may stand.
     pub fn places(&self, m: MsgId) -> Places
         ensures { StandsAmong (is_for m) result.from result.to self.now.list.items }
     {
-        match self.told(m) {
-            Some(v) => match self.place(v) {
-                Some(k) => Places { from: k, to: k + 1 },
-                None => Places { from: 0, to: 0 },
-            },
-            None => Places {
-                from: 0,
-                to: self.list.len(),
-            },
-        }
+        self.table.places(m, self.list.len())
     }
 
     /// Whether there is an entry of m.
     pub fn has(&self, m: MsgId) -> bool
         ensures { result ≡ list_any (is_for m) self.now.list.items }
     {
-        match self.told(m) {
+        match self.table.told(m) {
             Some(v) => match self.place(v) {
                 Some(k) => is_of(&self.list[k], m),
                 None => false,
@@ -121,7 +73,7 @@ impl Ledger {
     pub fn was_sent(&self, m: MsgId) -> bool
         ensures { result ≡ is_sent self.now.list.items m }
     {
-        match self.told(m) {
+        match self.table.told(m) {
             Some(v) => match self.place(v) {
                 Some(k) => is_sent_of(&self.list[k], m),
                 None => false,
@@ -140,13 +92,8 @@ impl Ledger {
         ensures ungiven { count_by is_ungiven self.new.list.items ≤ count_by is_ungiven self.old.list.items + 1 }
     {
         if !self.has(m) {
-            match self.spot(m) {
-                Some(at) => {
-                    self.table[at] = self.list.len() + 1;
-                    self.list.push_reserved(new_entry(m));
-                }
-                None => self.list.push_reserved(new_entry(m)),
-            }
+            self.table.note(m, self.list.len());
+            self.list.push_reserved(new_entry(m));
         }
     }
 
@@ -156,7 +103,7 @@ impl Ledger {
         ensures len { vec_len self.new.list ≡ vec_len self.old.list }
         ensures capacity { vec_capacity self.new.list ≡ vec_capacity self.old.list }
     {
-        match self.told(m) {
+        match self.table.told(m) {
             Some(v) => match self.place(v) {
                 Some(k) => hold_one(&mut self.list[k], me, via, m),
                 None => {}
@@ -171,7 +118,7 @@ impl Ledger {
         ensures len { vec_len self.new.list ≡ vec_len self.old.list }
         ensures capacity { vec_capacity self.new.list ≡ vec_capacity self.old.list }
     {
-        match self.told(m) {
+        match self.table.told(m) {
             Some(v) => match self.place(v) {
                 Some(k) => mark_one(&mut self.list[k], m),
                 None => {}

@@ -6,12 +6,12 @@ use Rattle.gb_fifo.proofs.ledger.release.Given as goal
 abbrev pub invariant-loop-i : goal.invariant-loop-i
 invariant-loop-i l =
     record {
-      count : l.count ≡ vec_len l.fn.entries;
-      items : released l.origin.number (l.count - l.i) l.entries.items ≡ released l.origin.number l.count l.fn.entries.items;
-      ups : l.out.ups.items ++ released_ups l.origin.number (l.count - l.i) l.entries.items ≡ l.fn.out.ups.items ++ released_ups l.origin.number l.count l.fn.entries.items;
+      count : l.count ≡ vec_len l.fn.ledger.list;
+      items : released l.origin.number (l.count - l.i) l.ledger.list.items ≡ released l.origin.number l.count l.fn.ledger.list.items;
+      ups : l.out.ups.items ++ released_ups l.origin.number (l.count - l.i) l.ledger.list.items ≡ l.fn.out.ups.items ++ released_ups l.origin.number l.count l.fn.ledger.list.items;
       sends : l.out.sends ≡ l.fn.out.sends;
-      room : free_ups l.fn.out + count_by is_ungiven l.entries.items ≤ free_ups l.out + count_by is_ungiven l.fn.entries.items;
-      capacity : vec_capacity l.entries ≡ vec_capacity l.fn.entries;
-      len : vec_len l.entries ≡ vec_len l.fn.entries;
+      room : free_ups l.fn.out + count_by is_ungiven l.ledger.list.items ≤ free_ups l.out + count_by is_ungiven l.fn.ledger.list.items;
+      capacity : vec_capacity l.ledger.list ≡ vec_capacity l.fn.ledger.list;
+      len : vec_len l.ledger.list ≡ vec_len l.fn.ledger.list;
       memory : vec_capacity l.fn.out.ups ≤ vec_capacity l.out.ups;
     }

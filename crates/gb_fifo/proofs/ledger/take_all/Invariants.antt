@@ -6,11 +6,11 @@ use Rattle.gb_fifo.proofs.ledger.take_all.Given as goal
 abbrev pub invariant-loop-up : goal.invariant-loop-up
 invariant-loop-up l =
     record {
-      items : taken (drop l.up-index l.ups) l.entries.items ≡ taken l.ups l.fn.entries.items;
-      ups : l.out.ups.items ++ taken_ups (drop l.up-index l.ups) l.entries.items ≡ l.fn.out.ups.items ++ taken_ups l.ups l.fn.entries.items;
+      items : taken (drop l.up-index l.ups) l.ledger.list.items ≡ taken l.ups l.fn.ledger.list.items;
+      ups : l.out.ups.items ++ taken_ups (drop l.up-index l.ups) l.ledger.list.items ≡ l.fn.out.ups.items ++ taken_ups l.ups l.fn.ledger.list.items;
       sends : l.out.sends ≡ l.fn.out.sends;
-      room : free_ups l.fn.out + count_by is_ungiven l.entries.items ≤ free_ups l.out + count_by is_ungiven l.fn.entries.items;
-      capacity : vec_capacity l.entries ≡ vec_capacity l.fn.entries;
-      len : vec_len l.entries ≡ vec_len l.fn.entries;
+      room : free_ups l.fn.out + count_by is_ungiven l.ledger.list.items ≤ free_ups l.out + count_by is_ungiven l.fn.ledger.list.items;
+      capacity : vec_capacity l.ledger.list ≡ vec_capacity l.fn.ledger.list;
+      len : vec_len l.ledger.list ≡ vec_len l.fn.ledger.list;
       memory : vec_capacity l.fn.out.ups ≤ vec_capacity l.out.ups;
     }

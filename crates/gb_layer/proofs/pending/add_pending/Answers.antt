@@ -3,7 +3,7 @@ use Rattle.std.proofs.lemmas.Bool.{eqb-true}
 use Rattle.std.proofs.lemmas.Bool.Decides.{nat_tests}
 use Rattle.gb_layer.specs.Places.{IsAmong}
 use Rattle.gb_layer.specs.Pending.{is_pending}
-use Rattle.gb_layer.proofs.PendingLemmas.{at_place, get_within}
+use Rattle.gb_layer.proofs.PlacesLemmas.{at_place, get_within}
 use Rattle.gb_layer.proofs.pending.add_pending.Goals as goal
 
 pub loop-k-preserved : goal.loop-k-preserved

@@ -6,7 +6,8 @@ use Rattle.std.proofs.Common.{◌++◌, refl, ap, sym, map, List}
 use Rattle.std.proofs.lemmas.List.{append-nil}
 use Rattle.gb_layer.specs.declared.entries.Entry.{Entry}
 use Rattle.gb_layer.proofs.MappedLemmas.{mapped_below, mapped_from, picked_below, picked_from}
-use Rattle.gb_layer.proofs.PendingLemmas.{fails_elsewhere, handed_stays, get_within}
+use Rattle.gb_layer.proofs.PendingLemmas.{handed_stays}
+use Rattle.gb_layer.proofs.PlacesLemmas.{fails_elsewhere, get_within}
 use Rattle.gb_layer.proofs.relay.deliver_all.Goals as goal
 
 pub loop-i-preserved : goal.loop-i-preserved

@@ -8,4 +8,4 @@ pub invariant_of-ledger : goal.invariant_of-ledger
 invariant_of-ledger g c =
     let l = c.args.ledger.now in
     let due = due_to_deliver g.R.Rule.rules c.args.me c.args.members.now c.args.noticed.now in
-    record { leads = ap (λ es. leads l.width l.table.items 0 (keys es)) c.deliver_all.ensures.items ∙ (ap (leads l.width l.table.items 0) (keys_handed due l.list.items) ∙ l.leads) }
+    record { leads = ap (λ es. leads l.table.width l.table.told.items 0 (keys es)) c.deliver_all.ensures.items ∙ (ap (leads l.table.width l.table.told.items 0) (keys_handed due l.list.items) ∙ l.leads) }

@@ -6,9 +6,9 @@ use Rattle.gb_layer.proofs.ledger.Ledger.was_sent.Goals as goal
 pub returns-in-Some-place : goal.returns-in-Some-place
 returns-in-Some-place c =
     let l = c.args.self.now in
-    c.is_sent_of.ensures ∙ any_at l.width l.table.items c.args.m c.in-Some.v l.list.items c.in-Some.ensures l.leads (λ e. is_for c.args.m e && e.sent) (not_sent c.args.m) c.in-Some-place.k c.index.result.now c.in-Some-place.ensures c.index.ensures
+    c.is_sent_of.ensures ∙ any_at l.table.width l.table.told.items c.args.m c.in-Some.v l.list.items c.in-Some.ensures l.leads (λ e. is_for c.args.m e && e.sent) (not_sent c.args.m) c.in-Some-place.k c.index.result.now c.in-Some-place.ensures c.index.ensures
 
 pub returns-in-None-place : goal.returns-in-None-place
 returns-in-None-place c =
     let l = c.args.self.now in
-    any_none l.width l.table.items c.args.m c.in-Some.v l.list.items c.in-Some.ensures l.leads (λ e. is_for c.args.m e && e.sent) (not_sent c.args.m) c.in-None-place.ensures
+    any_none l.table.width l.table.told.items c.args.m c.in-Some.v l.list.items c.in-Some.ensures l.leads (λ e. is_for c.args.m e && e.sent) (not_sent c.args.m) c.in-None-place.ensures

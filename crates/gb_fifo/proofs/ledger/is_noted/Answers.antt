@@ -1,0 +1,21 @@
+use Rattle.std.proofs.Common.{sym, arith}
+use Rattle.gb_layer.proofs.PlacesLemmas.{fails_elsewhere, get_within}
+use Rattle.gb_fifo.specs.Entries.{is_for}
+use Rattle.gb_fifo.proofs.PlacedLemmas.{none_before, none_after}
+use Rattle.gb_fifo.proofs.ledger.is_noted.Goals as goal
+
+pub loop-i-init : goal.loop-i-init
+loop-i-init c =
+    let p = is_for c.args.m in
+    let at = c.args.places in
+    none_before p c.args.entries.now at.from (λ k e lt here. fails_elsewhere p at.from at.to c.args.entries.now c.requires k e (λ a. let from = a.0 in omega (arith, from, lt)) here)
+
+pub returns : goal.returns
+returns c =
+    let p = is_for c.args.m in
+    let at = c.args.places in
+    let es = c.args.entries.now in
+    let end = c.min-i-end.ensures in
+    let test = c.loop-i-test.false in
+    sym (none_after p es c.loop-i.i c.loop-i.invariant
+    (λ k e le here. fails_elsewhere p at.from at.to es c.requires k e (λ a. let to = a.1 in let within = get_within es k e here in omega (arith, to, le, within, end, test)) here))

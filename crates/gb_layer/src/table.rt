@@ -1,0 +1,108 @@
+//! A table that leads from a message to its place in a list.
+ghost use Rattle.std.specs.Prelude.{◌≡◌, ◌+◌, ◌≤◌, ◌<◌, ◌++◌, ◌∷◌, [], true, false, List, length, OnOk, MatchOption};
+ghost use Rattle.std.specs.List.{list_any};
+ghost use Rattle.std.specs.declared.option.Option.TheVariants.{None};
+ghost use Rattle.gb_types.specs.declared.message.MsgId.{MsgId};
+ghost use Rattle.gb_types.specs.Message.{same};
+ghost use Rattle.gb_layer.specs.Places.{StandsAmong};
+ghost use Rattle.gb_layer.specs.Table.{told, covers, spot, leads, IsNowhere, IsThere};
+
+use crate::places::Places;
+use gb_types::limits::NODES;
+use gb_types::memory::OutOfMemory;
+use gb_types::message::MsgId;
+use std::alloc::Global;
+
+/// Where each message of a list stands, by origin and number, of the messages numbered from 1 to a width.
+#[derive(Drop)]
+pub struct Table {
+    /// 0, or one more than the place.
+    pub told: Vec<usize>,
+    pub width: u16,
+}
+
+/// The place among so many that a table means by v, if there is one.
+pub fn place(count: usize, v: usize) -> Option<usize>
+    ensures { MatchOption result (IsNowhere count v) (IsThere count v) }
+{
+    if v == 0 {
+        return None;
+    }
+    if v > count {
+        return None;
+    }
+    Some(v - 1)
+}
+
+impl Table {
+    /// A table that covers no message.
+    pub fn new(alloc: Global) -> Table
+        ensures told { result.told.items ≡ [] }
+        ensures width { result.width ≡ 0 }
+    {
+        Table {
+            told: Vec::new(alloc),
+            width: 0,
+        }
+    }
+
+    /// Has the table cover messages numbered from 1 to this width, where there are none yet.
+    pub fn cover(&mut self, width: u16) -> Result<(), OutOfMemory>
+        ensures { OnOk result (self.new.width ≡ width) }
+    {
+        let places = NODES * usize::from(width);
+        self.told.resize(places, 0)?;
+        self.width = width;
+        Ok(())
+    }
+
+    /// What the table says of m: 0, or one more than its place; nothing where it does not cover m.
+    pub fn told(&self, m: MsgId) -> Option<usize>
+        ensures { result ≡ told self.now.width self.now.told.items m }
+    {
+        if m.seq == 0 || m.seq > self.width {
+            return None;
+        }
+        let at = m.origin.index() * usize::from(self.width) + usize::from(m.seq - 1);
+        self.told.get(at).copied()
+    }
+
+    /// Where the table speaks of m, if it does.
+    fn spot(&self, m: MsgId) -> Option<usize>
+        ensures { MatchOption result (told self.now.width self.now.told.items m ≡ None)
+            (λ at. (covers self.now.width m ≡ true) × (at ≡ spot self.now.width m) × (at < length self.now.told.items)) }
+    {
+        if m.seq == 0 || m.seq > self.width {
+            return None;
+        }
+        let at = m.origin.index() * usize::from(self.width) + usize::from(m.seq - 1);
+        if at < self.told.len() { Some(at) } else { None }
+    }
+
+    /// Takes m down, which comes after so many messages, none of which is m.
+    pub fn note(&mut self, m: MsgId, count: usize)
+        requires { count < usize.MAX }
+        ensures { (ms : List MsgId) → length ms ≡ count → list_any (λ x. same x m) ms ≡ false
+            → leads self.old.width self.old.told.items 0 ms ≡ true → leads self.new.width self.new.told.items 0 (ms ++ m ∷ []) ≡ true }
+    {
+        match self.spot(m) {
+            Some(at) => self.told[at] = count + 1,
+            None => {}
+        }
+    }
+
+    /// Where m may stand among so many messages.
+    pub fn places(&self, m: MsgId, count: usize) -> Places
+        ensures stands { (ms : List MsgId) → length ms ≡ count → leads self.now.width self.now.told.items 0 ms ≡ true
+            → StandsAmong (λ x. same x m) result.from result.to ms }
+        ensures within { result.to ≤ count }
+    {
+        match self.told(m) {
+            Some(v) => match place(count, v) {
+                Some(k) => Places { from: k, to: k + 1 },
+                None => Places { from: 0, to: 0 },
+            },
+            None => Places { from: 0, to: count },
+        }
+    }
+}
