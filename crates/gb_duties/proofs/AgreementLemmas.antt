@@ -26,7 +26,7 @@ use Rattle.gb_history.specs.Messages.{has}
 use Rattle.gb_alone.specs.Alone.{Group, after, nobody, alone_from, alone, is_marked, IsLegal, IsLegalFrom}
 use Rattle.gb_alone.specs.Laws.{Accepted, accepted}
 use Rattle.gb_alone.specs.declared.event.GroupStep.{GroupStep}
-use Rattle.gb_duties.specs.Agreement.{IsRunning, is_logged, Agreement, IsAgreed}
+use Rattle.gb_duties.specs.Agreement.{IsRunning, KeepsAgreement, logs_of, IsAgreed}
 use Rattle.gb_duties.proofs.WordLemmas.{or_cases, is_not, refuted, both_ways, Found, found, find, said_came}
 use Rattle.gb_duties.proofs.LogLemmas.{logged-is}
 use Rattle.gb_duties.proofs.DutyLemmas.{of_member}
@@ -170,11 +170,11 @@ module _ (runs : ℕ → Bool) (spec : Spec) (group : Group) (calm : Calm runs s
 
 module _ (has_delivered : ModuleLogHasDelivered) (numbers : (origin : NodeId) (delivered : List MsgId) → numbers_of origin.number (in_order delivered) ≡ upto (top origin delivered))
     (stand : (origin : NodeId) (delivered : List MsgId) (seq : ℕ) → 1 ≤ seq → seq ≤ top origin delivered → is_in delivered (numbered origin seq) ≡ true) (ends : (origin : NodeId) (delivered : List MsgId) → is_in delivered (numbered origin (top origin delivered + 1)) ≡ false) where
-  agreed : (nodes number : ℕ) (steps : List GroupStep) (runs : ℕ → Bool) (spec : Spec) → Calm runs spec (alone nodes number steps) → Agreement nodes number steps runs spec
+  agreed : (nodes number : ℕ) (steps : List GroupStep) (runs : ℕ → Bool) (spec : Spec) → Calm runs spec (alone nodes number steps) → KeepsAgreement (accepted nodes number steps) (logs_of (alone nodes number steps)) runs spec
   agreed nodes number steps runs spec calm = record {
-    validity = λ s b run_s run_b. All-from_recursion (λ (x : Accepted). is_logged group b (numbered s x.seq) ≡ true) (accepted nodes number steps s.number)
-        (all_weaker (λ (x : Accepted). was_said (calls_of (group s.number).told) (numbered s x.seq) ≡ true) (λ (x : Accepted). is_logged group b (numbered s x.seq) ≡ true) (λ x said. valid s b run_s run_b x.seq said) (accepted nodes number steps s.number) (accepted_said nodes number s steps));
-    agreement = λ reliable b c run_b run_c m. both_ways (is_logged group b m) (is_logged group c m)
+    validity = λ s b run_s run_b. All-from_recursion (λ (x : Accepted). has (logs_of group b) (numbered s x.seq) ≡ true) (accepted nodes number steps s.number)
+        (all_weaker (λ (x : Accepted). was_said (calls_of (group s.number).told) (numbered s x.seq) ≡ true) (λ (x : Accepted). has (logs_of group b) (numbered s x.seq) ≡ true) (λ x said. valid s b run_s run_b x.seq said) (accepted nodes number steps s.number) (accepted_said nodes number s steps));
+    agreement = λ reliable b c run_b run_c m. both_ways (has (logs_of group b) m) (has (logs_of group c) m)
         (more b c run_b.0 run_c.0 (λ k up. up_more runs spec group calm b c k run_b run_c up (module_of spec.kind) refl reliable) m)
         (more c b run_c.0 run_b.0 (λ k up. up_more runs spec group calm c b k run_c run_b up (module_of spec.kind) refl reliable) m);
     uniform_agreement = λ kind b c in_b run_c m. more b c in_b run_c.0 (λ k up. uniform_up runs spec group calm b c k kind in_b run_c up) m;
@@ -183,15 +183,15 @@ module _ (has_delivered : ModuleLogHasDelivered) (numbers : (origin : NodeId) (d
       group : Group
       group = alone nodes number steps
 
-      is_log : (b : ℕ) → is_member spec b ≡ true → (m : MsgId) → is_logged group b m ≡ is_in (kind_log spec.kind b (set.items spec.members) (calls_of (group b).told)) m
+      is_log : (b : ℕ) → is_member spec b ≡ true → (m : MsgId) → has (logs_of group b) m ≡ is_in (kind_log spec.kind b (set.items spec.members) (calls_of (group b).told)) m
       is_log b in_b m = logged-is b (group b).spec spec (group b).told m (calm.taking.made b in_b)
 
       more : (b c : ℕ) → is_member spec b ≡ true → is_member spec c ≡ true
           → ((m : MsgId) → now_delivered (module_of spec.kind) b (set.items spec.members) (calls_of (group b).told) m ≡ true → now_delivered (module_of spec.kind) c (set.items spec.members) (calls_of (group c).told) m ≡ true)
-          → (m : MsgId) → is_logged group b m ≡ true → is_logged group c m ≡ true
+          → (m : MsgId) → has (logs_of group b) m ≡ true → has (logs_of group c) m ≡ true
       more b c in_b in_c up m h = is_log c in_c m ∙ log_more numbers stand ends has_delivered spec b c (calls_of (group b).told) (calls_of (group c).told) up m (sym (is_log b in_b m) ∙ h)
 
-      valid : (s : NodeId) (b : ℕ) → IsRunning runs spec s.number → IsRunning runs spec b → (seq : ℕ) → was_said (calls_of (group s.number).told) (numbered s seq) ≡ true → is_logged group b (numbered s seq) ≡ true
+      valid : (s : NodeId) (b : ℕ) → IsRunning runs spec s.number → IsRunning runs spec b → (seq : ℕ) → was_said (calls_of (group s.number).told) (numbered s seq) ≡ true → has (logs_of group b) (numbered s seq) ≡ true
       valid s b run_s run_b seq said =
           let fits = calm.flow.fits s.number in
           let few = fits.said_few (numbered s seq) said in

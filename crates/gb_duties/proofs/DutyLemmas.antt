@@ -21,7 +21,7 @@ use Rattle.gb_stack.specs.LogLaws.{ModuleLogHasDelivered}
 use Rattle.gb_rules.specs.Group.{is_member, is_other}
 use Rattle.gb_history.specs.History.{calls_of}
 use Rattle.gb_alone.specs.Alone.{Member, alone}
-use Rattle.gb_duties.specs.Duties.{IsPutOut, HasHad, Duty, IsDelivered, IsDutiful}
+use Rattle.gb_duties.specs.Duties.{IsPutOut, HasHad, Duty, KeepsDuties, noticed_at, delivered_at, IsDutiful}
 use Rattle.gb_duties.proofs.WordLemmas.{or_cases}
 use Rattle.gb_duties.proofs.InvariantLemmas.{FitsAt}
 use Rattle.gb_duties.proofs.LogLemmas.{in_log, logged-is, kind_delivered}
@@ -36,15 +36,15 @@ of_member p spec b all is = go (p b) refl
     go false e = let none = not_all_members p spec.members b is e in absurd (cc)
 
 module _ (calls : ℕ → List Call) (b : ℕ) (member : Member) (spec : Spec) (made : member.spec ≡ Some spec) (fits : FitsAt calls b member) (c : ℕ) (other : is_other spec b c ≡ true) (m : MsgId) where
-  put_out : (base : BroadcastModule) → module_of spec.kind ≡ base → now_broadcast base b (calls_of member.told) m ≡ true → IsPutOut member c m
+  put_out : (base : BroadcastModule) → module_of spec.kind ≡ base → now_broadcast base b (calls_of member.told) m ≡ true → IsPutOut (noticed_at member) member.put c m
   put_out base kind out = go (cases_Bool (was_noticed (calls_of member.told) c))
     where
-      go : ((was_noticed (calls_of member.told) c ≡ true) ⊎ (was_noticed (calls_of member.told) c ≡ false)) → IsPutOut member c m
+      go : ((was_noticed (calls_of member.told) c ≡ true) ⊎ (was_noticed (calls_of member.told) c ≡ false)) → IsPutOut (noticed_at member) member.put c m
       go (inl noticed) = inl noticed
       go (inr unnoticed) = inr (fits.owes spec made c other unnoticed m (ap (λ k. now_broadcast k b (calls_of member.told) m) kind ∙ out))
 
   duty : (had : ℕ → MsgId → Type 0) → (mentions (calls c) m ≡ true → had c m) → (calls b ≡ calls_of member.told) → (base : BroadcastModule) → module_of spec.kind ≡ base
-      → now_delivered base b (set.items spec.members) (calls_of member.told) m ≡ true → Duty base had b member c m
+      → now_delivered base b (set.items spec.members) (calls_of member.told) m ≡ true → Duty base (noticed_at member) member.put had b c m
   duty had here is BestEffort kind up = λ own. put_out BestEffort kind (and_both (and-first (mentions (calls_of member.told) m) _ up) (eq-eqb m.origin.number b own))
   duty had here is Lazy kind up = λ why. put_out Lazy kind (and_both (and-first (mentions (calls_of member.told) m) _ up) (relayed why))
     where
@@ -72,8 +72,8 @@ is_dutiful has_delivered within nodes number steps legal = record {
       done b spec made c other m (kind_delivered within spec b (calls_of (alone nodes number steps b).told) m (sym (logged-is b (alone nodes number steps b).spec spec (alone nodes number steps b).told m made) ∙ h));
 }
   where
-    done : (b : ℕ) (spec : Spec) → (alone nodes number steps b).spec ≡ Some spec → (c : ℕ) → is_other spec b c ≡ true → (m : MsgId) → IsDelivered spec b (alone nodes number steps b) m
-        → Duty (module_of spec.kind) (HasHad nodes number steps) b (alone nodes number steps b) c m
+    done : (b : ℕ) (spec : Spec) → (alone nodes number steps b).spec ≡ Some spec
+        → KeepsDuties spec b (noticed_at (alone nodes number steps b)) (alone nodes number steps b).put (HasHad nodes number steps) (delivered_at spec b (alone nodes number steps b))
     done b spec made c other m up =
         duty (calls_in (alone nodes number steps)) b (alone nodes number steps b) spec made (alone_fits nodes number steps b) c other m (HasHad nodes number steps)
         (λ had. record { earlier = steps; later = []; moment = sym (append-nil steps); had = had }) refl (module_of spec.kind) refl

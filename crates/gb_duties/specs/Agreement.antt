@@ -2,6 +2,7 @@
 -- (Module 3.1), Agreement (Module 3.2, RB4) and Uniform Agreement (Module 3.3, URB4). There they say that a message is delivered eventually. Here they are
 -- safety: where a group is settled the logs are so; that it ever settles is not said.
 use Rattle.std.specs.Prelude.{ℕ, ◌≡◌, ◌≢◌, ◌≤◌, ◌<◌, Bool, true, false, List, [], ◌++◌, All, length, Some}
+use Rattle.gb_types.specs.declared.entry.Entry.{Entry}
 use Rattle.gb_types.specs.declared.message.MsgId.{MsgId}
 use Rattle.gb_types.specs.declared.node.NodeId.{NodeId}
 use Rattle.gb_types.specs.declared.spec.Spec.{Spec}
@@ -35,21 +36,21 @@ pub record IsSettled (nodes number : ℕ) (steps : List GroupStep) (runs : ℕ �
   pub noticed : (a b : ℕ) → IsRunning runs spec a → is_member spec b ≡ true → runs b ≡ false → was_noticed (calls_of (alone nodes number steps a).told) b ≡ true
   pub unnoticed : (a b : ℕ) → is_member spec a ≡ true → IsRunning runs spec b → was_noticed (calls_of (alone nodes number steps a).told) b ≡ false
 
--- the message stands in the log of the node
-abbrev pub is_logged : Group → ℕ → MsgId → Bool
-is_logged group b m = has (log_at b (group b).spec (group b).told) m
+-- What these logs have of the messages that were accepted at each node, where these nodes run.
+pub record KeepsAgreement (accepted : ℕ → List Accepted) (log : ℕ → List Entry) (runs : ℕ → Bool) (spec : Spec) : Type 0 where
+  -- Validity: the log of each running member has each message that was accepted at a running member
+  pub validity : (s : NodeId) (b : ℕ) → IsRunning runs spec s.number → IsRunning runs spec b → All (λ (x : Accepted). has (log b) (numbered s x.seq) ≡ true) (accepted s.number)
+  -- Agreement: but for best effort the logs of running members have the same messages
+  pub agreement : module_of spec.kind ≢ BestEffort → (b c : ℕ) → IsRunning runs spec b → IsRunning runs spec c → (m : MsgId) → has (log b) m ≡ has (log c) m
+  -- Uniform Agreement: with all-ack they have each message that stands in the log of any member, one that stopped too
+  pub uniform_agreement : module_of spec.kind ≡ AllAck → (b c : ℕ) → is_member spec b ≡ true → IsRunning runs spec c → (m : MsgId) → has (log b) m ≡ true → has (log c) m ≡ true
 
--- These are the logs of a group after events, where these nodes run.
-pub record Agreement (nodes number : ℕ) (steps : List GroupStep) (runs : ℕ → Bool) (spec : Spec) : Type 0 where
-  -- Validity: the log of each running member holds each message that was accepted at a running member
-  pub validity : (s : NodeId) (b : ℕ) → IsRunning runs spec s.number → IsRunning runs spec b
-      → All (λ (x : Accepted). is_logged (alone nodes number steps) b (numbered s x.seq) ≡ true) (accepted nodes number steps s.number)
-  -- Agreement: but for best effort the logs of running members hold the same messages
-  pub agreement : module_of spec.kind ≢ BestEffort → (b c : ℕ) → IsRunning runs spec b → IsRunning runs spec c → (m : MsgId) → is_logged (alone nodes number steps) b m ≡ is_logged (alone nodes number steps) c m
-  -- Uniform Agreement: with all-ack they hold each message that stands in the log of any member, one that stopped too
-  pub uniform_agreement : module_of spec.kind ≡ AllAck → (b c : ℕ) → is_member spec b ≡ true → IsRunning runs spec c → (m : MsgId) → is_logged (alone nodes number steps) b m ≡ true
-      → is_logged (alone nodes number steps) c m ≡ true
+-- the log of each node
+abbrev pub logs_of : Group → ℕ → List Entry
+logs_of group b = log_at b (group b).spec (group b).told
 
--- whichever nodes are taken as those that run
+-- so it is where a group is settled, whichever nodes are taken as those that run
 abbrev pub IsAgreed : Type 0
-IsAgreed = (nodes number : ℕ) (steps : List GroupStep) → IsLegal nodes number steps → (runs : ℕ → Bool) (spec : Spec) → IsSettled nodes number steps runs spec → Agreement nodes number steps runs spec
+IsAgreed =
+    (nodes number : ℕ) (steps : List GroupStep) → IsLegal nodes number steps → (runs : ℕ → Bool) (spec : Spec) → IsSettled nodes number steps runs spec
+    → KeepsAgreement (accepted nodes number steps) (logs_of (alone nodes number steps)) runs spec
