@@ -5,6 +5,4 @@
 #[cfg(test)]
 mod comparison;
 #[cfg(test)]
-mod limits;
-#[cfg(test)]
 mod runs;

@@ -180,6 +180,7 @@ fn three_nodes_and_an_empty_payload(rt: HostRuntime) -> Result<(), Fail> {
     let alloc = rt.alloc();
     let (a, b, c) = (node(&rt, 0), node(&rt, 1), node(&rt, 2));
     let g = addr(7, 1);
+    let first = say(alloc, g, b"")?;
     let trace = run(
         &rt,
         alloc,
@@ -195,7 +196,7 @@ fn three_nodes_and_an_empty_payload(rt: HostRuntime) -> Result<(), Fail> {
             (Event::At(a, open(g)), "ok"),
             (Event::At(b, open(g)), "ok"),
             (Event::At(c, open(g)), "ok"),
-            (Event::At(a, say(alloc, g, b"")?), "said 1"),
+            (Event::At(a, first), "said 1"),
             (Event::Pack(a, b), "packet 1"),
             (Event::Pack(a, c), "packet 2"),
             (Event::Arrive(1), "first"),
@@ -215,6 +216,7 @@ fn two_groups_with_unlike_addresses(rt: HostRuntime) -> Result<(), Fail> {
     let alloc = rt.alloc();
     let (a, b) = (node(&rt, 0), node(&rt, 1));
     let (g, h) = (addr(7, 1), addr(7, 0));
+    let first = say(alloc, g, b"x")?;
     run(
         &rt,
         alloc,
@@ -235,7 +237,7 @@ fn two_groups_with_unlike_addresses(rt: HostRuntime) -> Result<(), Fail> {
             (Event::At(a, open(g)), "ok"),
             (Event::At(a, open(h)), "refused 2 NoGroup"),
             (Event::At(b, open(h)), "ok"),
-            (Event::At(a, say(alloc, g, b"x")?), "said 1"),
+            (Event::At(a, first), "said 1"),
             (Event::Pack(a, b), "packet 1"),
             (Event::Arrive(1), "first"),
             (Event::At(a, fetch(g)), "log 1 0:1:78"),
@@ -287,6 +289,7 @@ fn nothing_is_sent_and_nothing_comes(rt: HostRuntime) -> Result<(), Fail> {
     let alloc = rt.alloc();
     let (a, b, beyond) = (node(&rt, 0), node(&rt, 1), node(&rt, 2));
     let g = addr(7, 1);
+    let first = say(alloc, g, b"x")?;
     run(
         &rt,
         alloc,
@@ -298,7 +301,7 @@ fn nothing_is_sent_and_nothing_comes(rt: HostRuntime) -> Result<(), Fail> {
             (Event::At(a, make(g, &[a, b])), "ok"),
             (Event::At(a, open(g)), "ok"),
             (Event::Pack(a, b), "nothing"),
-            (Event::At(a, say(alloc, g, b"x")?), "said 1"),
+            (Event::At(a, first), "said 1"),
             (Event::Pack(a, a), "nothing"),
             (Event::Pack(a, beyond), "nothing"),
             (Event::Arrive(0), "no packet"),
@@ -317,6 +320,8 @@ fn frames_are_acknowledged_and_sent_again(rt: HostRuntime) -> Result<(), Fail> {
     let alloc = rt.alloc();
     let (a, b) = (node(&rt, 0), node(&rt, 1));
     let g = addr(7, 1);
+    let first = say(alloc, g, b"x")?;
+    let second = say(alloc, g, b"y")?;
     let trace = run(
         &rt,
         alloc,
@@ -328,8 +333,8 @@ fn frames_are_acknowledged_and_sent_again(rt: HostRuntime) -> Result<(), Fail> {
             (Event::At(a, make(g, &[a, b])), "ok"),
             (Event::At(b, make(g, &[a, b])), "ok"),
             (Event::At(a, open(g)), "ok"),
-            (Event::At(a, say(alloc, g, b"x")?), "said 1"),
-            (Event::At(a, say(alloc, g, b"y")?), "said 2"),
+            (Event::At(a, first), "said 1"),
+            (Event::At(a, second), "said 2"),
             (Event::Pack(a, b), "packet 1"),
             (Event::Pack(a, b), "packet 2"),
             (Event::Arrive(2), "first"),
@@ -359,6 +364,9 @@ fn a_silent_node_is_noticed(rt: HostRuntime) -> Result<(), Fail> {
     let alloc = rt.alloc();
     let (a, b, c) = (node(&rt, 0), node(&rt, 1), node(&rt, 2));
     let (g, h) = (addr(7, 1), addr(7, 0));
+    let first = say(alloc, g, b"x")?;
+    let second = say(alloc, g, b"y")?;
+    let third = say(alloc, g, b"z")?;
     run(
         &rt,
         alloc,
@@ -369,7 +377,7 @@ fn a_silent_node_is_noticed(rt: HostRuntime) -> Result<(), Fail> {
             (Event::At(c, tenant(7)), "ok"),
             (Event::At(a, make(g, &[a, b, c])), "ok"),
             (Event::At(a, open(g)), "ok"),
-            (Event::At(a, say(alloc, g, b"x")?), "said 1"),
+            (Event::At(a, first), "said 1"),
             (Event::Pack(a, c), "packet 1"),
             (Event::Ack(c, a), "packet 2"),
             (Event::Tick(a), "nobody"),
@@ -380,14 +388,14 @@ fn a_silent_node_is_noticed(rt: HostRuntime) -> Result<(), Fail> {
             (Event::Pack(a, b), "nothing"),
             (Event::Again(a, c, 1), "nothing"),
             (Event::Ack(a, c), "packet 3"),
-            (Event::At(a, say(alloc, g, b"y")?), "said 2"),
+            (Event::At(a, second), "said 2"),
             (Event::Pack(a, c), "nothing"),
             (Event::At(a, fetch(g)), "log 2 0:1:78 0:2:79"),
             (Event::Tick(c), "nobody"),
             (Event::Tick(c), "noticed others"),
             (Event::At(c, make(g, &[a, c])), "ok"),
             (Event::At(c, open(g)), "ok"),
-            (Event::At(c, say(alloc, g, b"z")?), "said 1"),
+            (Event::At(c, third), "said 1"),
             (Event::Pack(c, a), "nothing"),
             (Event::Arrive(1), "first"),
             (Event::At(c, fetch(g)), "log 2 2:1:7a 0:1:78"),
@@ -402,6 +410,7 @@ fn a_stopped_node_refuses_all(rt: HostRuntime) -> Result<(), Fail> {
     let alloc = rt.alloc();
     let (a, b) = (node(&rt, 0), node(&rt, 1));
     let g = addr(7, 1);
+    let first = say(alloc, g, b"x")?;
     run(
         &rt,
         alloc,
@@ -413,7 +422,7 @@ fn a_stopped_node_refuses_all(rt: HostRuntime) -> Result<(), Fail> {
             (Event::At(a, make(g, &[a, b])), "ok"),
             (Event::At(b, make(g, &[a, b])), "ok"),
             (Event::At(a, open(g)), "ok"),
-            (Event::At(a, say(alloc, g, b"x")?), "said 1"),
+            (Event::At(a, first), "said 1"),
             (Event::Pack(a, b), "packet 1"),
             (Event::Stop(b), "stopped"),
             (Event::Stop(b), "stopped before"),

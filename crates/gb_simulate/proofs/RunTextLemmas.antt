@@ -3,7 +3,7 @@ use Rattle.std.proofs.Common.{ℕ, ◌≡◌, List, [], ◌∷◌, ◌++◌, Opt
 use Rattle.std.proofs.lemmas.List.{append_assoc, append-nil}
 use Rattle.std.proofs.lemmas.List.Elements.{All-cons, All-nil}
 use Rattle.std.specs.Option.{IfSome}
-use Rattle.std.specs.Prelude.{All, codes}
+use Rattle.std.specs.Prelude.{codes}
 use Rattle.gb_cluster.specs.State.{IsStep}
 use Rattle.gb_cluster.proofs.CodeLemmas.{new_count, started_comes, goes_on, count_after}
 use Rattle.gb_cluster.proofs.RunLemmas.{always_lawful}

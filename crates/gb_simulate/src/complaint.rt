@@ -1,5 +1,5 @@
 //! What is told of how a schedule ended.
-ghost use Rattle.std.specs.Prelude.{◌≡◌, ◌++◌, codes, decimal, ◌≢◌, OnOk};
+ghost use Rattle.std.specs.Prelude.{◌≡◌, ◌++◌, codes, decimal, ◌≢◌, IsOk, OnOk};
 ghost use Rattle.std.specs.Io.KnownBytes.{Appends, Keeps};
 ghost use Rattle.gb_schedule.specs.Lines.{ended};
 ghost use Rattle.gb_simulate.specs.Complaint.{complaint, fault_words, reason_words};
@@ -60,6 +60,7 @@ pub fn complain<W: Write>(
     ensures memory { result ≡ Err SimFault.OutOfMemory → Keeps (W.contents writer.old) (W.contents writer.new) }
     ensures few { (fault : Fault) → outcome.now ≡ Err fault → result ≢ Err SimFault.OutOfMemory }
     ensures no_read { result ≢ Err SimFault.Read }
+    ensures nothing { outcome.now ≡ Ok SimEnd.All → IsOk result }
 {
     match outcome {
         Ok(SimEnd::All) => Ok(()),
