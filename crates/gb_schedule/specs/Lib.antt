@@ -1,5 +1,5 @@
 pub mod Lines
-pub mod LineSplitLemmas
+pub mod LineLaws
 pub mod Buffered
 pub mod LineBuffer
 pub mod Head
