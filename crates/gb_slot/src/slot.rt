@@ -80,10 +80,14 @@ impl Slot {
         ensures ok { IfOk result (λ s. s.state ≡ new_slot spec me noticed.now) }
         ensures err { IsOkUnless result Refusal.OutOfMemory }
     {
-        let stack = match Stack::new(alloc, &spec, me, noticed) {
-            Ok(stack) => stack,
-            Err(_) => return Err(Refusal::OutOfMemory),
+        let Ok(mut stack) = Stack::new(alloc, &spec, me, noticed) else {
+            return Err(Refusal::OutOfMemory);
         };
+        let mut effects = Effects::new(alloc);
+        let whole = stack.whole(&spec.members, spec.msgs as u16, 1, &mut effects);
+        if whole.is_err() {
+            return Err(Refusal::OutOfMemory);
+        }
         Ok(Slot {
             alloc,
             spec,
@@ -91,7 +95,7 @@ impl Slot {
             phase: Phase::Made,
             noticed: noticed.duplicate(),
             stack,
-            effects: Effects::new(alloc),
+            effects,
             store: Store::new(alloc),
             arrivals: Vec::new(alloc),
             said: 0,
