@@ -7,6 +7,7 @@ ghost use Rattle.gb_types.specs.declared.request.Request.{Request as TheRequest}
 ghost use Rattle.gb_session.specs.Feeds.{Gives};
 ghost use Rattle.gb_session.specs.Runs.{reply_message, HasAsked};
 ghost use Rattle.gb_session.specs.Sessions.{AnswersFirst, EndsPiece, IsSession};
+ghost use Rattle.gb_session.specs.declared.serve.SessionFault.TheVariants.{OutOfMemory as NoMemory};
 
 use crate::answers::Answers;
 use crate::feed::Feed;
@@ -59,12 +60,16 @@ pub enum SessionFault {
 }
 
 impl From<OutOfMemory> for SessionFault {
+    ghost from_gives = { λ _ fault. fault ≡ NoMemory };
+
     fn from(_: OutOfMemory) -> SessionFault {
         SessionFault::OutOfMemory
     }
 }
 
 impl From<AllocError> for SessionFault {
+    ghost from_gives = { λ _ fault. fault ≡ NoMemory };
+
     fn from(_: AllocError) -> SessionFault {
         SessionFault::OutOfMemory
     }
