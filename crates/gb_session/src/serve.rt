@@ -1,5 +1,5 @@
 //! A session: the requests of a stream are answered, one after the other.
-ghost use Rattle.std.specs.Prelude.{◌≡◌, ◌<◌, ◌≤◌, [], None, true, false, length, vec_len, IfOk, OnOk, OnErr};
+ghost use Rattle.std.specs.Prelude.{◌≡◌, ◌<◌, ◌≤◌, ◌⊎◌, [], None, true, false, length, vec_len, IfOk, IfErr, OnOk, OnErr};
 ghost use Rattle.std.specs.Io.KnownBytes.{Appends, Keeps, Consumes, IsAtEnd};
 ghost use Rattle.std.specs.Prelude.{take, ℕ, List};
 ghost use Rattle.gb_types.specs.declared.reply.Reply.{Reply as TheReply};
@@ -7,6 +7,7 @@ ghost use Rattle.gb_types.specs.declared.request.Request.{Request as TheRequest}
 ghost use Rattle.gb_session.specs.Feeds.{Gives};
 ghost use Rattle.gb_session.specs.Runs.{reply_message, HasAsked};
 ghost use Rattle.gb_session.specs.Sessions.{AnswersFirst, EndsPiece, IsSession};
+ghost use Rattle.gb_session.specs.declared.serve.SessionFault.TheVariants.{OutOfMemory as NoMemory};
 
 use crate::answers::Answers;
 use crate::feed::Feed;
@@ -59,12 +60,16 @@ pub enum SessionFault {
 }
 
 impl From<OutOfMemory> for SessionFault {
+    ghost from_gives = { λ _ fault. fault ≡ NoMemory };
+
     fn from(_: OutOfMemory) -> SessionFault {
         SessionFault::OutOfMemory
     }
 }
 
 impl From<AllocError> for SessionFault {
+    ghost from_gives = { λ _ fault. fault ≡ NoMemory };
+
     fn from(_: AllocError) -> SessionFault {
         SessionFault::OutOfMemory
     }
@@ -84,6 +89,7 @@ fn read_piece<'a, R: Read>(reader: &mut R, space: &'a mut [u8]) -> Result<&'a [u
     ensures short { IfOk result (λ piece. length piece.now ≤ PIECE) }
     ensures bytes { IfOk result (λ piece. Consumes (R.remaining reader.old) (R.remaining reader.new) piece.now) }
     ensures end { IfOk result (λ piece. length piece.now ≡ 0 → IsAtEnd (R.remaining reader.new)) }
+    ensures fault { IfErr result (λ why. why ≡ SessionFault.Read) }
 {
     let count = read_once(reader, space)?;
     Ok(&space[..count])
@@ -95,6 +101,7 @@ fn read_once<R: Read>(reader: &mut R, space: &mut [u8]) -> Result<usize, Session
     ensures within { IfOk result (λ count. count ≤ length space.new) }
     ensures bytes { IfOk result (λ count. Consumes (R.remaining reader.old) (R.remaining reader.new) (take count space.new)) }
     ensures end { result ≡ Ok 0 → IsAtEnd (R.remaining reader.new) }
+    ensures fault { IfErr result (λ why. why ≡ SessionFault.Read) }
 {
     'tries: for _ in 0..READS {
         match reader.read(space) {
@@ -110,7 +117,8 @@ fn read_once<R: Read>(reader: &mut R, space: &mut [u8]) -> Result<usize, Session
 
 // Writes a reply with its length.
 fn write_reply<W: Write>(alloc: Global, writer: &mut W, reply: &Reply) -> Result<(), SessionFault>
-    ensures { OnOk result (Appends (W.contents writer.old) (W.contents writer.new) (reply_message reply.now)) }
+    ensures ok { OnOk result (Appends (W.contents writer.old) (W.contents writer.new) (reply_message reply.now)) }
+    ensures fault { IfErr result (λ why. (why ≡ SessionFault.Write) ⊎ (why ≡ SessionFault.OutOfMemory)) }
 {
     let text = reply_text(alloc, reply)?;
     if text.len() > REPLY {
