@@ -253,6 +253,9 @@ fn in_a_shut_group_nothing_more_is_said(rt: HostRuntime) -> Result<(), Fail> {
     let alloc = rt.alloc();
     let (a, b) = (node(&rt, 0), node(&rt, 1));
     let g = addr(7, 1);
+    let first = say(alloc, g, b"x")?;
+    let refused = say(alloc, g, b"y")?;
+    let second = say(alloc, g, b"z")?;
     run(
         &rt,
         alloc,
@@ -268,15 +271,15 @@ fn in_a_shut_group_nothing_more_is_said(rt: HostRuntime) -> Result<(), Fail> {
             (Event::At(a, shut(g)), "refused 6 WrongPhase"),
             (Event::At(a, open(g)), "ok"),
             (Event::At(b, open(g)), "ok"),
-            (Event::At(a, say(alloc, g, b"x")?), "said 1"),
+            (Event::At(a, first), "said 1"),
             (Event::At(b, shut(g)), "ok"),
             (Event::At(b, shut(g)), "refused 6 WrongPhase"),
             (Event::At(b, open(g)), "refused 6 WrongPhase"),
-            (Event::At(b, say(alloc, g, b"y")?), "refused 6 WrongPhase"),
+            (Event::At(b, refused), "refused 6 WrongPhase"),
             (Event::Pack(a, b), "packet 1"),
             (Event::Arrive(1), "first"),
             (Event::At(b, fetch(g)), "log 1 0:1:78"),
-            (Event::At(a, say(alloc, g, b"z")?), "said 2"),
+            (Event::At(a, second), "said 2"),
             (Event::Stop(b), "stopped"),
             (Event::At(b, shut(g)), "refused 15 Stopped"),
         ],

@@ -21,6 +21,8 @@ const MAKE: &[u8] =
 
 const OPEN: &[u8] = b"open 0123456789abcdefABCDEF0123456789abcdefABCDEF0123456789abcdefABCD 7 1";
 
+const SHUT: &[u8] = b"shut 0123456789abcdefABCDEF0123456789abcdefABCDEF0123456789abcdefABCD 7 1";
+
 const SAY: &[u8] =
     b"say 0123456789abcdefABCDEF0123456789abcdefABCDEF0123456789abcdefABCD 7 1 C0fFEe";
 
@@ -84,6 +86,10 @@ fn each_head_spells_its_request(rt: HostRuntime) -> Result<(), Fail> {
     assert_eq!(rt; (spec.msgs, spec.bytes, spec.window), (8, 4_294_967_295, 3));
     let Request::OpenGroup(token, address) = parse_request(alloc, OPEN)? else {
         panic!(rt; "open");
+    };
+    assert_eq!(rt; (token, address), (BYTES, GROUP));
+    let Request::ShutGroup(token, address) = parse_request(alloc, SHUT)? else {
+        panic!(rt; "shut");
     };
     assert_eq!(rt; (token, address), (BYTES, GROUP));
     let Request::Say(token, address, payload) = parse_request(alloc, SAY)? else {
