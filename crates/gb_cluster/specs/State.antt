@@ -90,3 +90,7 @@ IsReached c = (steps : List Step) × ComesTo steps c
 -- this holds of each run that leads here: of its record, and of what the nodes hold
 abbrev pub OfEachRun : (Transcript → Held → Type 0) → State → Type 0
 OfEachRun P c = (steps : List Step) → ComesTo steps c → P (transcript steps c) (held c.nodes)
+
+-- this holds of each run that led to the cluster before and goes on with this event and this answer
+abbrev pub OfEachRunOn : (Transcript → Held → Type 0) → State → Event → Answer → State → Type 0
+OfEachRunOn P old event answer new = (steps : List Step) → ComesTo steps old → P (transcript (record { event = event; answer = answer } ∷ steps) new) (held new.nodes)

@@ -7,7 +7,8 @@ ghost use Rattle.gb_cluster.specs.NodeStep.{sent_part, arrive_part, tick_part, s
 ghost use Rattle.gb_cluster.specs.NodeValue.{NodeValue};
 ghost use Rattle.gb_cluster.specs.Acting.{Goes, Acts, AreForNodes};
 ghost use Rattle.gb_cluster.specs.LinkLaws.{IsLinkStep};
-ghost use Rattle.gb_cluster.specs.State.{bare, IsStep, new_state, ComesTo, OfEachRun};
+ghost use Rattle.gb_cluster.specs.Runs.{IsLawful};
+ghost use Rattle.gb_cluster.specs.State.{bare, IsStep, new_state, ComesTo, OfEachRun, OfEachRunOn};
 ghost use Rattle.gb_record.specs.Isolation.{AreLegal, HaveOwnReplies, HaveOwnLogs, HaveOwnItems};
 ghost use Rattle.gb_record.specs.Placed.{IsPlaced};
 ghost use Rattle.gb_record.specs.RunLaws.{AreIntegral, AreInOrder};
@@ -251,20 +252,21 @@ impl Cluster {
 
     /// One event. `Err` says that the cluster itself had no memory for one more packet, and nothing has changed; a
     /// node's want of memory is an answer. After it, as at every moment, what holds of each run that leads to what the
-    /// cluster is: each group of which no request was refused for want of room or of memory is what it would be alone,
-    /// and keeps integrity and order.
+    /// cluster is, and so of each that goes on with this event and this answer: each group of which no request was refused
+    /// for want of room or of memory is what it would be alone, and keeps integrity and order.
     pub fn step(&mut self, event: &Event) -> Result<Answer, OutOfMemory>
         requires { IsPlaced (length self.old.nodes) event.now }
         ensures step { IfOk result (λ a. IsStep self.old event.now a self.new) }
         ensures run { IfOk result (λ a. (steps : List StepValue) → ComesTo steps self.old → ComesTo (record { event = event.now; answer = a } ∷ steps) self.new) }
         ensures links { IfOk result (λ a. (steps : List StepValue) → ComesTo steps self.old → IsLinkStep steps self.old event.now a self.new) }
         ensures nodes { length self.new.nodes ≡ length self.old.nodes }
-        ensures legal { OfEachRun AreLegal self.new }
-        ensures replies { OfEachRun HaveOwnReplies self.new }
-        ensures log { OfEachRun HaveOwnLogs self.new }
-        ensures put { OfEachRun HaveOwnItems self.new }
-        ensures integrity { OfEachRun AreIntegral self.new }
-        ensures order { OfEachRun AreInOrder self.new }
+        ensures lawful { OfEachRun IsLawful self.new }
+        ensures legal { IfOk result (λ a. OfEachRunOn AreLegal self.old event.now a self.new) }
+        ensures replies { IfOk result (λ a. OfEachRunOn HaveOwnReplies self.old event.now a self.new) }
+        ensures log { IfOk result (λ a. OfEachRunOn HaveOwnLogs self.old event.now a self.new) }
+        ensures put { IfOk result (λ a. OfEachRunOn HaveOwnItems self.old event.now a self.new) }
+        ensures integrity { IfOk result (λ a. OfEachRunOn AreIntegral self.old event.now a self.new) }
+        ensures order { IfOk result (λ a. OfEachRunOn AreInOrder self.old event.now a self.new) }
         ensures err { OnErr result (self.new ≡ self.old) }
     {
         self.packets.reserve(1)?;

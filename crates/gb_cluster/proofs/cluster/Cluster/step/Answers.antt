@@ -23,43 +23,31 @@ returns-clause-links c = λ steps comes. links_kept c.args.self.now _ steps c.ar
 pub returns-clause-nodes : goal.returns-clause-nodes
 returns-clause-nodes c = count_after _ _ _ _ (returns-clause-step c)
 
+pub returns-clause-lawful : goal.returns-clause-lawful
+returns-clause-lawful c = λ steps comes. lawful steps _ comes
+
 pub returns-clause-legal : goal.returns-clause-legal
-returns-clause-legal c = λ steps comes. (lawful steps _ comes).legal
+returns-clause-legal c = λ steps comes. (lawful _ _ (returns-clause-run c steps comes)).legal
 
 pub returns-clause-replies : goal.returns-clause-replies
-returns-clause-replies c = λ steps comes. (lawful steps _ comes).replies
+returns-clause-replies c = λ steps comes. (lawful _ _ (returns-clause-run c steps comes)).replies
 
 pub returns-clause-log : goal.returns-clause-log
-returns-clause-log c = λ steps comes. (lawful steps _ comes).log
+returns-clause-log c = λ steps comes. (lawful _ _ (returns-clause-run c steps comes)).log
 
 pub returns-clause-put : goal.returns-clause-put
-returns-clause-put c = λ steps comes. (lawful steps _ comes).put
+returns-clause-put c = λ steps comes. (lawful _ _ (returns-clause-run c steps comes)).put
 
 pub returns-clause-integrity : goal.returns-clause-integrity
-returns-clause-integrity c = λ steps comes. (lawful steps _ comes).integrity
+returns-clause-integrity c = λ steps comes. (lawful _ _ (returns-clause-run c steps comes)).integrity
 
 pub returns-clause-order : goal.returns-clause-order
-returns-clause-order c = λ steps comes. (lawful steps _ comes).order
+returns-clause-order c = λ steps comes. (lawful _ _ (returns-clause-run c steps comes)).order
 
 pub invariant_of-self-2 : goal.invariant_of-self-2
 invariant_of-self-2 c =
     let before = subst IsReached c.self.view_is c.self.invariant in
     (record { event = c.args.event.now; answer = c.take.result } ∷ before.0, returns-clause-run c before.0 before.1)
 
-pub returns-in_err-reserve-clause-legal : goal.returns-in_err-reserve-clause-legal
-returns-in_err-reserve-clause-legal c = λ steps comes. (lawful steps _ comes).legal
-
-pub returns-in_err-reserve-clause-replies : goal.returns-in_err-reserve-clause-replies
-returns-in_err-reserve-clause-replies c = λ steps comes. (lawful steps _ comes).replies
-
-pub returns-in_err-reserve-clause-log : goal.returns-in_err-reserve-clause-log
-returns-in_err-reserve-clause-log c = λ steps comes. (lawful steps _ comes).log
-
-pub returns-in_err-reserve-clause-put : goal.returns-in_err-reserve-clause-put
-returns-in_err-reserve-clause-put c = λ steps comes. (lawful steps _ comes).put
-
-pub returns-in_err-reserve-clause-integrity : goal.returns-in_err-reserve-clause-integrity
-returns-in_err-reserve-clause-integrity c = λ steps comes. (lawful steps _ comes).integrity
-
-pub returns-in_err-reserve-clause-order : goal.returns-in_err-reserve-clause-order
-returns-in_err-reserve-clause-order c = λ steps comes. (lawful steps _ comes).order
+pub returns-in_err-reserve-clause-lawful : goal.returns-in_err-reserve-clause-lawful
+returns-in_err-reserve-clause-lawful c = λ steps comes. lawful steps _ comes
