@@ -1,22 +1,23 @@
 -- The rules of a group at a node: what is answered to its commands, in which order refusals come.
-use Rattle.std.specs.Prelude.{ℕ, ◌+◌, ◌&&◌, ◌||◌, not, Bool, List, [], length, take, drop, nat_lt, nat_le, nat_eq, Option, Some, None, Result, Ok, Err, if◌then◌else◌}
+use Rattle.std.specs.Prelude.{ℕ, ◌+◌, ◌&&◌, ◌||◌, not, Bool, true, false, List, [], length, take, drop, nat_lt, nat_le, nat_eq, Option, Some, None, Result, Ok, Err, if◌then◌else◌}
 use Rattle.std.specs.FinSet as set
 use Rattle.gb_types.specs.declared.entry.Entry.{Entry}
 use Rattle.gb_types.specs.declared.limits.TheConstants.{PAYLOAD, FETCH}
 use Rattle.gb_types.specs.declared.refusal.Refusal.{Refusal}
-use Rattle.gb_types.specs.declared.refusal.Refusal.TheVariants.{NoGroup, WrongPhase, TooLong, Budget, BadPlace}
+use Rattle.gb_types.specs.declared.refusal.Refusal.TheVariants.{NoGroup, Spent, WrongPhase, TooLong, Budget, Bytes, Window, BadPlace}
 use Rattle.gb_types.specs.declared.reply.Reply.{Reply}
 use Rattle.gb_types.specs.declared.reply.Reply.TheVariants.{Done, Said, Log, Refused}
 use Rattle.gb_types.specs.declared.spec.Spec.{Spec}
 use Rattle.gb_rules.specs.declared.phase.Phase.{Phase}
-use Rattle.gb_rules.specs.declared.phase.Phase.TheVariants.{Made, Opened, Shut}
+use Rattle.gb_rules.specs.declared.phase.Phase.TheVariants.{Made, Opened, Shut, Gone}
+use Rattle.gb_rules.specs.declared.usage.Usage.{Usage}
 
 -- what the rules read of a group that was made at a node
 pub record Shown : Type 0 where
   pub spec : Spec
   pub phase : Phase
-  -- how many messages were said here
-  pub said : ℕ
+  -- what its member has used here of what the spec lets it have
+  pub usage : Usage
   -- what was delivered here
   pub log : List Entry
 
@@ -27,6 +28,11 @@ is_member spec b = set.contains spec.members b
 -- the node is a member other than this one
 abbrev pub is_other : Spec → ℕ → ℕ → Bool
 is_other spec me b = is_member spec b && not (nat_eq b me)
+
+-- the group was dropped
+abbrev pub is_gone : Phase → Bool
+is_gone Gone = true
+is_gone phase = false
 
 -- a group is opened once, after it was made
 abbrev pub open_in : Phase → Reply
@@ -44,15 +50,21 @@ shut_in phase = Refused WrongPhase
 abbrev pub shut_answer : Shown → Reply
 shut_answer s = shut_in s.phase
 
--- a message is said in an open group, within the payload's limit and the budget of messages
+-- and dropped whenever it is there
+abbrev pub drop_answer : Shown → Reply
+drop_answer s = Done
+
+-- a message is said in an open group, within the payload's limit, the budgets of messages and of bytes, and the window
 abbrev pub say_answer : Shown → List ℕ → Reply
 say_answer s payload = say_in s.phase
   where
     say_in : Phase → Reply
     say_in Opened =
         if nat_lt PAYLOAD (length payload) then Refused TooLong
-        else (if nat_le s.spec.msgs s.said then Refused Budget
-        else Said (s.said + 1))
+        else (if nat_le s.spec.msgs s.usage.said then Refused Budget
+        else (if nat_lt s.spec.bytes (s.usage.bytes + length payload) then Refused Bytes
+        else (if nat_le s.spec.window s.usage.unfinished then Refused Window
+        else Said (s.usage.said + 1))))
     say_in phase = Refused WrongPhase
 
 -- a log of this length has no such place, or too many entries are asked for; places count from 0
@@ -63,14 +75,14 @@ is_bad_place count from most = nat_lt count from || nat_lt FETCH most
 abbrev pub fetch_answer : Shown → ℕ → ℕ → Reply
 fetch_answer s from most = if is_bad_place (length s.log) from most then Refused BadPlace else Log (take most (drop from s.log))
 
--- a command on a group that may have been made here
+-- a command on a group that may have been made here, and dropped since
 abbrev pub on_made : (Shown → Reply) → Option Shown → Reply
 on_made answer None = Refused NoGroup
-on_made answer (Some s) = answer s
+on_made answer (Some s) = if is_gone s.phase then Refused Spent else answer s
 
 -- what the rules on saying read of a group
-abbrev pub unlogged : Spec → Phase → ℕ → Shown
-unlogged spec phase said = record { spec = spec; phase = phase; said = said; log = [] }
+abbrev pub unlogged : Spec → Phase → Usage → Shown
+unlogged spec phase usage = record { spec = spec; phase = phase; usage = usage; log = [] }
 
 -- a message may be said next, with the number after so many, or not
 abbrev pub said_next : ℕ → Result Unit Refusal → Reply

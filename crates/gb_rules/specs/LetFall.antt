@@ -1,12 +1,12 @@
 -- Which items that come from other nodes are let fall.
-use Rattle.std.specs.Prelude.{ℕ, ◌&&◌, ◌||◌, not, Bool, nat_lt, nat_eq}
+use Rattle.std.specs.Prelude.{ℕ, ◌+◌, ◌&&◌, ◌||◌, not, Bool, length, nat_lt, nat_eq}
 use Rattle.gb_types.specs.declared.entry.Entry.{Entry}
 use Rattle.gb_types.specs.declared.spec.Spec.{Spec}
 use Rattle.gb_rules.specs.Group.{is_member}
 
--- An item that came from a node is let fall: `before` says that the same came from that node before, and `known` that the message is known
--- here. A copy that another member relayed is taken in.
-abbrev pub is_let_fall : Spec → ℕ → ℕ → Entry → Bool → Bool → Bool
-is_let_fall spec me from x before known =
+-- An item that came from a node is let fall: `before` says that the same came from that node before, `known` that the message is known
+-- here, and so many payload bytes of its origin were `seen` here. A copy that another member relayed is taken in.
+abbrev pub is_let_fall : Spec → ℕ → ℕ → Entry → Bool → Bool → ℕ → Bool
+is_let_fall spec me from x before known seen =
     not (is_member spec from) || (not (is_member spec x.origin.number) || (nat_eq from me || (before
-    || (nat_eq x.seq 0 || (nat_lt spec.msgs x.seq || (nat_eq x.origin.number me && not known))))))
+    || (nat_eq x.seq 0 || (nat_lt spec.msgs x.seq || (not known && (nat_eq x.origin.number me || nat_lt spec.bytes (seen + length x.payload))))))))

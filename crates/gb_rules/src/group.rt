@@ -1,10 +1,11 @@
 //! What is answered to a group's commands where it was made.
-ghost use Rattle.std.specs.Prelude.{◌≡◌, ◌<◌, ◌≤◌, false, OnOk};
+ghost use Rattle.std.specs.Prelude.{◌≡◌, ◌+◌, ◌<◌, ◌≤◌, false, length, OnOk};
 ghost use Rattle.gb_types.specs.declared.limits.TheConstants.{FETCH as MOST};
 ghost use Rattle.gb_rules.specs.Group.{open_in, shut_in, say_answer, is_bad_place, unlogged, said_next};
 ghost use Rattle.gb_rules.specs.Replied.{done_reply};
 
 use crate::phase::Phase;
+use crate::usage::Usage;
 use gb_types::limits::{FETCH, PAYLOAD};
 use gb_types::refusal::Refusal;
 use gb_types::spec::Spec;
@@ -17,6 +18,7 @@ pub fn check_open(phase: Phase) -> Result<(), Refusal>
         Phase::Made => Ok(()),
         Phase::Opened => Err(Refusal::WrongPhase),
         Phase::Shut => Err(Refusal::WrongPhase),
+        Phase::Gone => Err(Refusal::WrongPhase),
     }
 }
 
@@ -28,14 +30,17 @@ pub fn check_shut(phase: Phase) -> Result<(), Refusal>
         Phase::Made => Err(Refusal::WrongPhase),
         Phase::Opened => Ok(()),
         Phase::Shut => Err(Refusal::WrongPhase),
+        Phase::Gone => Err(Refusal::WrongPhase),
     }
 }
 
-/// Whether the next message may be said in a group, of whose messages so many were said here. WrongPhase where
-/// the group is not open, TooLong above 1,024 bytes, Budget where all messages are said, in this order.
-pub fn check_say(spec: &Spec, phase: Phase, said: u32, payload: &[u8]) -> Result<(), Refusal>
-    ensures answer { said_next said result ≡ say_answer (unlogged spec.now phase said) payload.now }
-    ensures room { OnOk result (said < spec.now.msgs) }
+/// Whether the next message may be said in a group by a member that has used so much. WrongPhase where the group is
+/// not open, TooLong above 1,024 bytes, Budget where all messages are said, Bytes where the
+/// payload's bytes would be too many in all, Window where too many messages are unfinished, in this order.
+pub fn check_say(spec: &Spec, phase: Phase, usage: Usage, payload: &[u8]) -> Result<(), Refusal>
+    ensures answer { said_next usage.said result ≡ say_answer (unlogged spec.now phase usage) payload.now }
+    ensures said { OnOk result (usage.said < spec.now.msgs) }
+    ensures bytes { OnOk result (usage.bytes + length payload.now ≤ spec.now.bytes) }
 {
     if phase != Phase::Opened {
         return Err(Refusal::WrongPhase);
@@ -43,8 +48,14 @@ pub fn check_say(spec: &Spec, phase: Phase, said: u32, payload: &[u8]) -> Result
     if payload.len() > PAYLOAD {
         return Err(Refusal::TooLong);
     }
-    if said >= spec.msgs {
+    if usage.said >= spec.msgs {
         return Err(Refusal::Budget);
+    }
+    if usage.bytes as usize + payload.len() > spec.bytes as usize {
+        return Err(Refusal::Bytes);
+    }
+    if usage.unfinished >= spec.window {
+        return Err(Refusal::Window);
     }
     Ok(())
 }

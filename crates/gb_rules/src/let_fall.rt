@@ -6,17 +6,19 @@ use gb_types::message::MsgId;
 use gb_types::node::NodeId;
 use gb_types::spec::Spec;
 
-/// Whether an item that came from a node is let fall: the same came from it `before`, and `known` says that the
-/// message is known here.
+/// Whether an item that came from a node is let fall: the same came from it `before`, `known` says that the
+/// message is known here, and so many payload bytes of its origin were `seen` here.
 pub fn is_let_fall(
     spec: &Spec,
     me: NodeId,
     from: NodeId,
     m: MsgId,
+    payload: &[u8],
     before: bool,
     known: bool,
+    seen: u32,
 ) -> bool
-    ensures { result ≡ is_let_fall spec.now me.number from.number (record { origin = m.origin; seq = m.seq; payload = [] }) before known }
+    ensures test { result ≡ is_let_fall spec.now me.number from.number (record { origin = m.origin; seq = m.seq; payload = payload.now }) before known seen }
 {
     if !spec.members.contains(from) || !spec.members.contains(m.origin) {
         return true;
@@ -24,5 +26,8 @@ pub fn is_let_fall(
     if from == me || before || m.seq == 0 {
         return true;
     }
-    u32::from(m.seq) > spec.msgs || (m.origin == me && !known)
+    if u32::from(m.seq) > spec.msgs {
+        return true;
+    }
+    !known && (m.origin == me || seen as usize + payload.len() > spec.bytes as usize)
 }

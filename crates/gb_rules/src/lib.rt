@@ -11,3 +11,4 @@ pub mod let_fall;
 pub mod phase;
 pub mod reserve;
 pub mod tenant;
+pub mod usage;

@@ -1,6 +1,6 @@
 //! The phases of a group at a node.
 
-/// The phase of a group at a node. It takes items in and delivers in each of them.
+/// The phase of a group at a node. It takes items in and delivers until it is gone.
 #[derive(Clone, Copy, PartialEq, Eq, Debug)]
 pub enum Phase {
     /// Made, and not yet open for its member's messages.
@@ -9,4 +9,6 @@ pub enum Phase {
     Opened,
     /// Shut: its member says nothing more.
     Shut,
+    /// Dropped: nothing is left of it here.
+    Gone,
 }
