@@ -12,7 +12,7 @@ use Rattle.gb_stack.specs.Kinds.{kind_broadcasts, kind_log}
 use Rattle.gb_history.specs.declared.call.GroupCall.{GroupCall}
 use Rattle.gb_history.specs.declared.call.GroupCall.TheVariants.{Own, Other, Crashed}
 use Rattle.gb_rules.specs.LetFall.{is_let_fall}
-use Rattle.gb_history.specs.Messages.{entry_in, with_new}
+use Rattle.gb_history.specs.Messages.{entry_in, with_new, bytes_of}
 
 -- the messages, with the one that the group is told of
 abbrev pub with_told : List Entry → GroupCall → List Entry
@@ -35,6 +35,10 @@ unfoldable pub known : List GroupCall → List Entry
 known [] = []
 known (c ∷ told) = with_told (known told) c
 
+-- the payload bytes of an origin's messages that are known
+abbrev pub bytes_in : List GroupCall → ℕ → ℕ
+bytes_in told origin = bytes_of origin (known told)
+
 -- how many messages were said here
 unfoldable pub said_in : List GroupCall → ℕ
 said_in [] = 0
@@ -56,7 +60,7 @@ puts_of spec me c told = map (entry_in (known (c ∷ told))) (kind_broadcasts sp
 
 -- an item that comes from a node is let fall, read from the history
 abbrev pub falls_after : Spec → ℕ → List GroupCall → ℕ → Entry → Bool
-falls_after spec me told from x = is_let_fall spec me from x (came_from me (calls_of told) from (message_of x)) (mentions (calls_of told) (message_of x))
+falls_after spec me told from x = is_let_fall spec me from x (came_from me (calls_of told) from (message_of x)) (mentions (calls_of told) (message_of x)) (bytes_in told x.origin.number)
 
 -- what the newest call makes the group broadcast
 abbrev pub newest_puts : Spec → ℕ → List GroupCall → List Entry

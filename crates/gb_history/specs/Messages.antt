@@ -1,5 +1,5 @@
 -- Lists of messages with their payloads.
-use Rattle.std.specs.Prelude.{ℕ, Bool, false, ◌||◌, List, [], ◌∷◌, ◌++◌, if◌then◌else◌}
+use Rattle.std.specs.Prelude.{ℕ, ◌+◌, Bool, false, ◌||◌, List, [], ◌∷◌, ◌++◌, length, nat_eq, if◌then◌else◌}
 use Rattle.gb_types.specs.declared.entry.Entry.{Entry}
 use Rattle.gb_types.specs.declared.message.MsgId.{MsgId}
 use Rattle.gb_types.specs.Entry.{message_of}
@@ -22,3 +22,8 @@ entry_in xs m = record { origin = m.origin; seq = m.seq; payload = payload_in xs
 -- the list, with the message at its end where it was not there
 abbrev pub with_new : List Entry → Entry → List Entry
 with_new xs x = if has xs (message_of x) then xs else xs ++ x ∷ []
+
+-- the payload bytes of an origin's messages
+abbrev pub bytes_of : ℕ → List Entry → ℕ
+bytes_of origin [] = 0
+bytes_of origin (x ∷ xs) = (if nat_eq x.origin.number origin then length x.payload else 0) + bytes_of origin xs

@@ -5,13 +5,12 @@ ghost use Rattle.gb_layer.specs.Machine as machine;
 ghost use Rattle.gb_history.specs.History as history;
 
 use crate::call::{GroupCall, calls_of};
-use crate::messages::{entries_in, known};
+use crate::messages::{bytes_of, entries_in, known};
 use gb_layer::plain::{came_from, is_mentioned};
 use gb_rules::let_fall::is_let_fall;
 use gb_stack::plain;
-use gb_types::entry::Entries;
+use gb_types::entry::{Entries, Entry};
 use gb_types::memory::OutOfMemory;
-use gb_types::message::MsgId;
 use gb_types::node::NodeId;
 use gb_types::spec::Spec;
 use std::alloc::Global;
@@ -66,6 +65,14 @@ pub fn puts_of(
     }
 }
 
+/// How many payload bytes the known messages of an origin have. `Err` where no number is so great.
+pub fn bytes_in(alloc: Global, told: &[GroupCall], origin: NodeId) -> Result<u32, OutOfMemory>
+    ensures { IfOk result (λ n. n ≡ history.bytes_in told.now origin.number) }
+{
+    let known = known(alloc, told)?;
+    bytes_of(known.as_slice(), origin)
+}
+
 /// Whether an item that comes from a node is let fall, after all that the group was told.
 pub fn falls_after(
     alloc: Global,
@@ -73,12 +80,15 @@ pub fn falls_after(
     me: NodeId,
     told: &[GroupCall],
     from: NodeId,
-    m: MsgId,
+    x: &Entry,
 ) -> Result<bool, OutOfMemory>
-    ensures { IfOk result (λ b. b ≡ history.falls_after spec.now me.number told.now from.number (record { origin = m.origin; seq = m.seq; payload = [] })) }
+    ensures { IfOk result (λ b. b ≡ history.falls_after spec.now me.number told.now from.number x.now) }
 {
     let calls = calls_of(alloc, told)?;
+    let m = x.message();
     let before = came_from(me, &calls, from, m);
     let known = is_mentioned(&calls, m);
-    Ok(is_let_fall(spec, me, from, m, before, known))
+    let seen = bytes_in(alloc, told, x.origin)?;
+    let payload = x.payload.as_slice();
+    Ok(is_let_fall(spec, me, from, m, payload, before, known, seen))
 }

@@ -1,5 +1,5 @@
 //! Messages with what they say, as a history has them.
-ghost use Rattle.std.specs.Prelude.{◌≡◌, ◌++◌, ◌∷◌, map, IfOk, OnOk};
+ghost use Rattle.std.specs.Prelude.{◌≡◌, ◌+◌, ◌++◌, ◌∷◌, map, length, IfOk, OnOk};
 ghost use Rattle.gb_history.specs.History as history;
 ghost use Rattle.gb_history.specs.Messages as words;
 
@@ -7,6 +7,7 @@ use crate::call::GroupCall;
 use gb_types::entry::{Entries, Entry};
 use gb_types::memory::OutOfMemory;
 use gb_types::message::MsgId;
+use gb_types::node::NodeId;
 use gb_types::payload::Payload;
 use std::alloc::Global;
 
@@ -31,6 +32,36 @@ fn payload_in(entries: &[Entry], m: MsgId) -> &[u8]
                 x.payload.as_slice()
             } else {
                 payload_in(others, m)
+            }
+        }
+    }
+}
+
+/// So many bytes, and those of a payload. `Err` where no number is so great.
+fn add_bytes(count: u32, payload: &[u8]) -> Result<u32, OutOfMemory>
+    ensures { IfOk result (λ n. n ≡ length payload.now + count) }
+{
+    let Ok(more) = u32::try_from(payload.len()) else {
+        return Err(OutOfMemory);
+    };
+    match more.checked_add(count) {
+        Some(sum) => Ok(sum),
+        None => Err(OutOfMemory),
+    }
+}
+
+/// How many payload bytes an origin's messages have. `Err` where no number is so great.
+pub(crate) fn bytes_of(entries: &[Entry], origin: NodeId) -> Result<u32, OutOfMemory>
+    ensures { IfOk result (λ n. n ≡ words.bytes_of origin.number entries.now) }
+{
+    match entries {
+        [] => Ok(0),
+        [x, others @ ..] => {
+            let rest = bytes_of(others, origin)?;
+            if x.origin == origin {
+                add_bytes(rest, x.payload.as_slice())
+            } else {
+                Ok(rest)
             }
         }
     }

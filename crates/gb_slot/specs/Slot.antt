@@ -1,5 +1,5 @@
 -- What each call makes of a slot.
-use Rattle.std.specs.Prelude.{ℕ, ◌≤◌, ◌<◌, ◌+◌, ◌-◌, ◌&&◌, not, Bool, List, [], ◌∷◌, ◌++◌, length, map, drop, replicate, nat_eq, nat_le, slice_index_or, slice_set, if◌then◌else◌}
+use Rattle.std.specs.Prelude.{ℕ, ◌≤◌, ◌<◌, ◌+◌, ◌-◌, ◌&&◌, ◌||◌, not, Bool, List, [], ◌∷◌, ◌++◌, length, map, drop, replicate, nat_eq, nat_le, slice_index_or, slice_set, if◌then◌else◌}
 use Rattle.std.specs.Ordering.{nat_cmp}
 use Rattle.std.specs.FinSet as set
 use Rattle.gb_types.specs.Entry.{message_of}
@@ -10,7 +10,7 @@ use Rattle.gb_types.specs.declared.node.NodeId.{NodeId}
 use Rattle.gb_types.specs.declared.reply.Reply.{Reply}
 use Rattle.gb_types.specs.declared.reply.Reply.TheVariants.{Done, Said}
 use Rattle.gb_types.specs.declared.spec.Spec.{Spec}
-use Rattle.std.specs.List.{list_any}
+use Rattle.std.specs.List.{list_all, list_any}
 use Rattle.gb_layer.specs.Machine.{is_up, messages}
 use Rattle.gb_layer.specs.declared.call.Call.{Call}
 use Rattle.gb_layer.specs.declared.call.Call.TheVariants.{Say, Came, Notice}
@@ -18,7 +18,8 @@ use Rattle.gb_layer.specs.declared.effects.Up.{Up}
 use Rattle.gb_stack.specs.StackState.{new_stack, stack_next, stack_gives}
 use Rattle.gb_rules.specs.declared.phase.Phase.{Phase}
 use Rattle.gb_rules.specs.declared.phase.Phase.TheVariants.{Made}
-use Rattle.gb_history.specs.Messages.{has, entry_in, with_new}
+use Rattle.gb_rules.specs.declared.usage.Usage.{Usage}
+use Rattle.gb_history.specs.Messages.{has, entry_in, with_new, bytes_of}
 use Rattle.gb_rules.specs.Group.{Shown, is_other}
 use Rattle.gb_rules.specs.LetFall.{is_let_fall}
 use Rattle.gb_slot.specs.SlotState.{SlotState}
@@ -34,9 +35,22 @@ pub record IsWithinLimits (spec : Spec) : Type 0 where
 abbrev pub new_slot : Spec → NodeId → set.FinSet nat_cmp → SlotState
 new_slot spec me noticed = record { spec = spec; me = me; phase = Made; noticed = noticed; stack = new_stack spec.kind me spec.members noticed; arrivals = []; said = 0; store = []; log = []; outgoing = []; taken = replicate NODES 0; acknowledged = [] }
 
+-- each member is noticed, or has the message for good
+abbrev pub is_finished : Spec → set.FinSet nat_cmp → set.FinSet nat_cmp → Bool
+is_finished spec noticed by = list_all (λ b. set.contains noticed b || set.contains by b) (set.items spec.members)
+
+-- how many messages are unfinished, of which these nodes each have one for good
+abbrev pub unfinished_of : Spec → set.FinSet nat_cmp → List (set.FinSet nat_cmp) → ℕ
+unfinished_of spec noticed [] = 0
+unfinished_of spec noticed (by ∷ bys) = (if is_finished spec noticed by then 0 else 1) + unfinished_of spec noticed bys
+
+-- what its member has used here
+abbrev pub usage_of : SlotState → Usage
+usage_of s = record { said = s.said; bytes = bytes_of s.me.number s.store; unfinished = unfinished_of s.spec s.noticed s.acknowledged }
+
 -- what the rules read of it
 abbrev pub shown : SlotState → Shown
-shown s = record { spec = s.spec; phase = s.phase; said = s.said; log = map (entry_in s.store) s.log }
+shown s = record { spec = s.spec; phase = s.phase; usage = usage_of s; log = map (entry_in s.store) s.log }
 
 -- how many items were taken to be sent to the node
 abbrev pub taken_for : SlotState → ℕ → ℕ
@@ -75,7 +89,7 @@ own_entry s payload = record { origin = s.me; seq = s.said + 1; payload = payloa
 abbrev pub slot_said : List ℕ → Reply → SlotState → SlotState
 slot_said payload (Said seq) s =
     let next = slot_called (Say (message_of (own_entry s payload))) (s.store ++ own_entry s payload ∷ []) s in
-    record next { said = s.said + 1; acknowledged = s.acknowledged ++ set.empty ∷ [] }
+    record next { said = s.said + 1; acknowledged = s.acknowledged ++ set.insert set.empty s.me.number ∷ [] }
 slot_said payload reply s = s
 
 -- the same message was taken in from the node before
@@ -84,7 +98,7 @@ came_before s from m = list_any (is_up from m) s.arrivals
 
 -- whether an item is let fall
 abbrev pub falls : NodeId → Entry → SlotState → Bool
-falls from x s = is_let_fall s.spec s.me.number from.number x (came_before s from.number (message_of x)) (has s.store (message_of x))
+falls from x s = is_let_fall s.spec s.me.number from.number x (came_before s from.number (message_of x)) (has s.store (message_of x)) (bytes_of x.origin.number s.store)
 
 -- an item came from a node
 abbrev pub slot_came : NodeId → Entry → SlotState → SlotState
@@ -103,7 +117,7 @@ abbrev pub with_acknowledgement : ℕ → NodeId → List (set.FinSet nat_cmp) �
 with_acknowledgement seq b acknowledged =
     if nat_le 1 seq && nat_le seq (length acknowledged) then slice_set acknowledged (seq - 1) (set.insert (slice_index_or acknowledged (seq - 1) set.empty) b.number) else acknowledged
 
--- the nodes that acknowledged each message that was said here, after a node acknowledged a message
+-- the nodes that have each message that was said here for good, after a node acknowledged a message
 abbrev pub acknowledged_by : NodeId → MsgId → SlotState → List (set.FinSet nat_cmp)
 acknowledged_by b m s = if nat_eq m.origin.number s.me.number then with_acknowledgement m.seq b s.acknowledged else s.acknowledged
 

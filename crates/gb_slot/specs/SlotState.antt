@@ -31,7 +31,7 @@ pub record SlotState : Type 0 where
   pub outgoing : List MsgId
   -- for each node, how many of these were taken to be sent to it
   pub taken : List ℕ
-  -- for each message that was said here, in order, the nodes that acknowledged it
+  -- for each message that was said here, in order, the nodes that have it for good: this one, and those that acknowledged it
   pub acknowledged : List (set.FinSet nat_cmp)
 
 -- a slot, with the room that it has: so many more items can come, with so many bytes in all
