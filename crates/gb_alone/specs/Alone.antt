@@ -1,6 +1,7 @@
 -- One group, by itself: no links, frames, packets or other groups. Histories have the newest first.
-use Rattle.std.specs.Prelude.{ℕ, zero, suc, ◌+◌, ◌-◌, ◌≡◌, ◌≤◌, ◌<◌, ◌&&◌, not, Bool, true, false, List, [], ◌∷◌, ◌++◌, length, fold, take, Option, Some, None, is_some, slice_get, nat_eq, if◌then◌else◌}
-use Rattle.std.specs.List.{list_any}
+use Rattle.std.specs.Prelude.{ℕ, zero, suc, ◌+◌, ◌-◌, ◌≡◌, ◌≤◌, ◌<◌, ◌&&◌, ◌||◌, not, Bool, true, false, List, [], ◌∷◌, ◌++◌, length, fold, take, Option, Some, None, is_some, slice_get, nat_eq, if◌then◌else◌}
+use Rattle.std.specs.List.{list_all, list_any}
+use Rattle.std.specs.FinSet as set
 use Rattle.gb_types.specs.declared.entry.Entry.{Entry}
 use Rattle.gb_types.specs.declared.node.NodeId.{NodeId}
 use Rattle.gb_types.specs.declared.refusal.Refusal.TheVariants.{Stopped}
@@ -8,15 +9,16 @@ use Rattle.gb_types.specs.declared.reply.Reply.{Reply}
 use Rattle.gb_types.specs.declared.reply.Reply.TheVariants.{Done, Said, Refused}
 use Rattle.gb_types.specs.declared.spec.Spec.{Spec}
 use Rattle.gb_layer.specs.Machine.{was_noticed}
-use Rattle.gb_history.specs.History.{calls_of, said_in, log_of, puts_of, falls_after}
-use Rattle.gb_rules.specs.Group.{Shown, is_other, open_answer, shut_answer, say_answer, fetch_answer, on_made}
+use Rattle.gb_history.specs.History.{calls_of, said_in, bytes_in, log_of, puts_of, falls_after}
+use Rattle.gb_rules.specs.Group.{Shown, is_gone, is_other, open_answer, shut_answer, drop_answer, say_answer, fetch_answer, on_made}
 use Rattle.gb_history.specs.declared.call.GroupCall.{GroupCall}
 use Rattle.gb_history.specs.declared.call.GroupCall.TheVariants.{Own, Other, Crashed}
 use Rattle.gb_rules.specs.declared.phase.Phase.{Phase}
-use Rattle.gb_rules.specs.declared.phase.Phase.TheVariants.{Made, Opened, Shut}
+use Rattle.gb_rules.specs.declared.phase.Phase.TheVariants.{Made, Opened, Shut, Gone}
+use Rattle.gb_rules.specs.declared.usage.Usage.{Usage}
 use Rattle.gb_rules.specs.Tenant.{make_answer, by_tenant}
 use Rattle.gb_alone.specs.declared.event.GroupEvent.{GroupEvent}
-use Rattle.gb_alone.specs.declared.event.GroupEvent.TheVariants.{Tenant, Make as AskMake, Open as AskOpen, Shut as AskShut, Say as AskSay, Fetch as AskFetch, Took, Came, Done as Acknowledged, Notice, Stop}
+use Rattle.gb_alone.specs.declared.event.GroupEvent.TheVariants.{Tenant, Make as AskMake, Open as AskOpen, Shut as AskShut, Drop as AskDrop, Say as AskSay, Fetch as AskFetch, Took, Came, Done as Acknowledged, Notice, Stop}
 use Rattle.gb_alone.specs.declared.event.GroupStep.{GroupStep}
 use Rattle.gb_rules.specs.declared.reserve.Reserve.{Reserve}
 
@@ -27,7 +29,7 @@ pub record Member : Type 0 where
   -- None until the group is made
   pub spec : Option Spec
   pub phase : Phase
-  -- all that the group was told here
+  -- all that the group was told here, until it was dropped
   pub told : List GroupCall
   -- the replies to its commands, in order
   pub replies : List Reply
@@ -52,21 +54,55 @@ abbrev pub log_at : ℕ → Option Spec → List GroupCall → List Entry
 log_at me None told = []
 log_at me (Some spec) told = log_of spec me told
 
-abbrev pub shown_of : ℕ → Phase → List GroupCall → Option Spec → Option Shown
-shown_of me phase told None = None
-shown_of me phase told (Some spec) = Some (record { spec = spec; phase = phase; said = said_in told; log = log_of spec me told })
+-- the spec of a group that was made and not dropped
+abbrev pub held_spec : Phase → Option Spec → Option Spec
+held_spec phase o = if is_gone phase then None else o
 
--- what the rules read
+-- the item is the message of the node me with this number
+abbrev pub is_own : ℕ → ℕ → Option Entry → Bool
+is_own me k None = false
+is_own me k (Some x) = nat_eq x.origin.number me && nat_eq x.seq k
+
+-- the node to which these items were put out, of which these places are done, acknowledged the message of the node me with this number
+abbrev pub is_acknowledged : ℕ → ℕ → List Entry → List ℕ → Bool
+is_acknowledged me k put done = list_any (λ place. is_own me k (slice_get put (place - 1))) done
+
+-- each other member is noticed, or acknowledged the message
+abbrev pub is_finished : Spec → ℕ → List GroupCall → (ℕ → List Entry) → (ℕ → List ℕ) → ℕ → Bool
+is_finished spec me told put done k = list_all (λ b. nat_eq b me || (was_noticed (calls_of told) b || is_acknowledged me k (put b) (done b))) (set.items spec.members)
+
+-- how many of these numbers, from k on, do not pass the test
+unfoldable pub count_unfinished : (ℕ → Bool) → ℕ → ℕ → ℕ
+count_unfinished finished k zero = 0
+count_unfinished finished k (suc n) = (if finished k then 0 else 1) + count_unfinished finished (k + 1) n
+
+-- how much of its spec the node's member has used
+abbrev pub usage_of : Spec → ℕ → List GroupCall → (ℕ → List Entry) → (ℕ → List ℕ) → Usage
+usage_of spec me told put done = record { said = said_in told; bytes = bytes_in told me; unfinished = count_unfinished (is_finished spec me told put done) 1 (said_in told) }
+
+-- what the rules read of a group with this spec
+abbrev pub shown_in : ℕ → Phase → List GroupCall → (ℕ → List Entry) → (ℕ → List ℕ) → Spec → Shown
+shown_in me phase told put done spec = record { spec = spec; phase = phase; usage = usage_of spec me told put done; log = log_of spec me told }
+
+abbrev pub shown_of : ℕ → Phase → List GroupCall → (ℕ → List Entry) → (ℕ → List ℕ) → Option Spec → Option Shown
+shown_of me phase told put done None = None
+shown_of me phase told put done (Some spec) = Some (shown_in me phase told put done spec)
+
 abbrev pub shown : ℕ → Member → Option Shown
-shown me m = shown_of me m.phase m.told m.spec
+shown me m = shown_of me m.phase m.told m.put m.done m.spec
+
+-- the reply to a command on a group that may have been made
+abbrev pub on_group : (Shown → Reply) → ℕ → Member → Reply
+on_group answer me m = by_tenant (λ _. on_made answer (shown me m)) m.reserve
 
 -- the reply to a command at a running node of a cluster of so many, to the group with this number
 abbrev pub running_reply : ℕ → ℕ → ℕ → GroupEvent → Member → Reply
 running_reply nodes number me (AskMake spec) m = by_tenant (make_answer nodes me number (is_some m.spec) spec) m.reserve
-running_reply nodes number me AskOpen m = by_tenant (λ _. on_made open_answer (shown me m)) m.reserve
-running_reply nodes number me AskShut m = by_tenant (λ _. on_made shut_answer (shown me m)) m.reserve
-running_reply nodes number me (AskSay payload) m = by_tenant (λ _. on_made (λ s. say_answer s payload) (shown me m)) m.reserve
-running_reply nodes number me (AskFetch from most) m = by_tenant (λ _. on_made (λ s. fetch_answer s from most) (shown me m)) m.reserve
+running_reply nodes number me AskOpen m = on_group open_answer me m
+running_reply nodes number me AskShut m = on_group shut_answer me m
+running_reply nodes number me AskDrop m = on_group drop_answer me m
+running_reply nodes number me (AskSay payload) m = on_group (λ s. say_answer s payload) me m
+running_reply nodes number me (AskFetch from most) m = on_group (λ s. fetch_answer s from most) me m
 running_reply nodes number me event m = Done
 
 -- the reply to a command
@@ -82,11 +118,16 @@ put_to me (Some spec) c told put b = if is_other spec me b && not (was_noticed (
 abbrev pub called : ℕ → GroupCall → Member → Member
 called me c m = record m { told = c ∷ m.told; put = put_to me m.spec c m.told m.put }
 
+-- what waits is given up
+abbrev pub dropped : Member → Member
+dropped m = record m { phase = Gone; put = λ b. take (m.taken b) (m.put b) }
+
 -- what a command does besides its reply
 abbrev pub did : NodeId → GroupEvent → Reply → Member → Member
 did me (AskMake spec) Done m = record m { spec = Some spec }
 did me AskOpen Done m = record m { phase = Opened }
 did me AskShut Done m = record m { phase = Shut }
+did me AskDrop Done m = dropped m
 did me (AskSay payload) (Said seq) m = called me.number (Own (record { origin = me; seq = seq; payload = payload })) m
 did me event reply m = m
 
@@ -100,7 +141,7 @@ falls me from x told (Some spec) = falls_after spec me told from x
 
 -- an item is let fall, or the group is told of it
 abbrev pub item_came : ℕ → NodeId → Entry → Member → Member
-item_came me from x m = if falls me from.number x m.told m.spec then m else called me (Other from x) m
+item_came me from x m = if falls me from.number x m.told (held_spec m.phase m.spec) then m else called me (Other from x) m
 
 -- the item with a place comes from a node
 abbrev pub taken_in : ℕ → NodeId → ℕ → Option Entry → Member → Member
@@ -129,7 +170,7 @@ took_notice me q (Some spec) m = if is_other spec me q.number then called me (Cr
 
 -- a node is noticed
 abbrev pub node_noticed : ℕ → NodeId → Member → Member
-node_noticed me q m = let next = took_notice me q m.spec m in record next { noticed = q.number ∷ m.noticed }
+node_noticed me q m = let next = took_notice me q (held_spec m.phase m.spec) m in record next { noticed = q.number ∷ m.noticed }
 
 -- the group's part at a node after an event there
 abbrev pub member_after : ℕ → ℕ → NodeId → GroupEvent → Group → Member

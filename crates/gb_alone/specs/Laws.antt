@@ -12,7 +12,7 @@ use Rattle.gb_types.specs.declared.request.Request.TheVariants.{Say}
 use Rattle.gb_types.specs.declared.spec.Spec.{Spec}
 use Rattle.gb_fifo.specs.Order.{RunsFromOne}
 use Rattle.gb_stack.specs.Kinds.{is_fifo}
-use Rattle.gb_alone.specs.Alone.{Group, reply_to, after, nobody, alone, log_at, IsLegal}
+use Rattle.gb_alone.specs.Alone.{Group, Member, reply_to, after, nobody, alone, log_at, held_spec, IsLegal}
 use Rattle.gb_rules.specs.Address.{is_addr}
 use Rattle.gb_alone.specs.declared.event.GroupEvent.{GroupEvent}
 use Rattle.gb_alone.specs.declared.event.GroupEvent.TheVariants.{Say as AskSay}
@@ -55,9 +55,13 @@ pub record KeepsIntegrity (accepted : ℕ → List Accepted) (log : List Entry) 
   -- each entry was accepted at its origin
   pub no_creation : All (IsAccepted accepted) log
 
+-- what the log of a node holds: nothing where the group was not made, or was dropped
+abbrev pub log_of_member : ℕ → Member → List Entry
+log_of_member b m = log_at b (held_spec m.phase m.spec) m.told
+
 -- the log of each node keeps integrity, and each item that a node puts out was accepted at its origin
 pub record Integrity (nodes number : ℕ) (steps : List GroupStep) : Type 0 where
-  pub logs : (b : ℕ) → KeepsIntegrity (accepted nodes number steps) (log_at b (alone nodes number steps b).spec (alone nodes number steps b).told)
+  pub logs : (b : ℕ) → KeepsIntegrity (accepted nodes number steps) (log_of_member b (alone nodes number steps b))
   pub items : (b c : ℕ) → All (IsAccepted (accepted nodes number steps)) ((alone nodes number steps b).put c)
 
 abbrev pub IsIntegral : Type 0
@@ -72,4 +76,4 @@ KeepsOrder (Some spec) log = is_fifo spec.kind ≡ true → RunsFromOne (map mes
 
 -- so in the log of each node, for the kind that was chosen there
 abbrev pub IsInOrder : Type 0
-IsInOrder = (nodes number : ℕ) (steps : List GroupStep) → IsLegal nodes number steps → (b : ℕ) → KeepsOrder (alone nodes number steps b).spec (log_at b (alone nodes number steps b).spec (alone nodes number steps b).told)
+IsInOrder = (nodes number : ℕ) (steps : List GroupStep) → IsLegal nodes number steps → (b : ℕ) → KeepsOrder (alone nodes number steps b).spec (log_of_member b (alone nodes number steps b))

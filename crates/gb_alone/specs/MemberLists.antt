@@ -11,11 +11,11 @@ use Rattle.gb_history.specs.History.{calls_of, puts_of}
 use Rattle.gb_rules.specs.Group.{is_other}
 use Rattle.gb_history.specs.declared.call.GroupCall.TheVariants.{Own, Other, Crashed}
 use Rattle.gb_history.specs.declared.call.GroupCall.{GroupCall}
-use Rattle.gb_rules.specs.declared.phase.Phase.TheVariants.{Made, Opened, Shut}
+use Rattle.gb_rules.specs.declared.phase.Phase.TheVariants.{Made, Opened, Shut, Gone}
 use Rattle.gb_rules.specs.declared.phase.Phase.{Phase}
-use Rattle.gb_alone.specs.Alone.{Group, Member, falls, reply_to}
+use Rattle.gb_alone.specs.Alone.{Group, Member, held_spec, falls, places, reply_to}
 use Rattle.gb_alone.specs.Observation.{numbers_below}
-use Rattle.gb_alone.specs.declared.event.GroupEvent.TheVariants.{Tenant, Make as AskMake, Open as AskOpen, Shut as AskShut, Say as AskSay, Took, Came, Done as Acknowledged, Notice, Stop}
+use Rattle.gb_alone.specs.declared.event.GroupEvent.TheVariants.{Tenant, Make as AskMake, Open as AskOpen, Shut as AskShut, Drop as AskDrop, Say as AskSay, Took, Came, Done as Acknowledged, Notice, Stop}
 use Rattle.gb_alone.specs.declared.event.GroupEvent.{GroupEvent}
 use Rattle.gb_alone.specs.declared.event.GroupStep.{GroupStep}
 use Rattle.gb_rules.specs.declared.reserve.Reserve.{Reserve}
@@ -29,10 +29,12 @@ pub record MemberValue : Type 0 where
   pub replies : List Reply
   pub put : List (List Entry)
   pub taken : List ℕ
+  -- for each node the places that are done
+  pub done : List (List ℕ)
   pub stopped : Bool
 
 abbrev pub new_member : MemberValue
-new_member = record { reserve = None; spec = None; phase = Made; told = []; replies = []; put = []; taken = replicate NODES 0; stopped = false }
+new_member = record { reserve = None; spec = None; phase = Made; told = []; replies = []; put = []; taken = replicate NODES 0; done = replicate NODES []; stopped = false }
 
 -- the member that the lists are
 abbrev pub member_of : MemberValue → Member
@@ -45,7 +47,7 @@ member_of v = record {
   put = λ b. slice_index_or v.put b [];
   taken = λ b. slice_index_or v.taken b 0;
   come = λ b. [];
-  done = λ b. [];
+  done = λ b. slice_index_or v.done b [];
   noticed = [];
   stopped = v.stopped;
 }
@@ -61,10 +63,19 @@ rows_with me (Some spec) c told put = map (row_with spec me (c ∷ told) put (pu
 abbrev pub value_called : ℕ → GroupCall → MemberValue → MemberValue
 value_called me c v = record v { told = c ∷ v.told; put = rows_with me v.spec c v.told v.put }
 
+-- the items put out to a node that are carried
+abbrev pub carried_row : List ℕ → List (List Entry) → ℕ → List Entry
+carried_row taken put b = take (slice_index_or taken b 0) (slice_index_or put b [])
+
+-- what waits is given up
+abbrev pub value_dropped : MemberValue → MemberValue
+value_dropped v = record v { phase = Gone; put = map (carried_row v.taken v.put) (numbers_below NODES) }
+
 abbrev pub value_did : NodeId → GroupEvent → Reply → MemberValue → MemberValue
 value_did me (AskMake spec) Done v = record v { spec = Some spec }
 value_did me AskOpen Done v = record v { phase = Opened }
 value_did me AskShut Done v = record v { phase = Shut }
+value_did me AskDrop Done v = value_dropped v
 value_did me (AskSay payload) (Said seq) v = value_called me.number (Own (record { origin = me; seq = seq; payload = payload })) v
 value_did me event reply v = v
 
@@ -72,7 +83,7 @@ abbrev pub value_commanded : NodeId → GroupEvent → Reply → MemberValue →
 value_commanded me event reply v = let next = value_did me event reply v in record next { replies = v.replies ++ reply ∷ [] }
 
 abbrev pub value_came : ℕ → NodeId → Entry → MemberValue → MemberValue
-value_came me from x v = if falls me from.number x v.told v.spec then v else value_called me (Other from x) v
+value_came me from x v = if falls me from.number x v.told (held_spec v.phase v.spec) then v else value_called me (Other from x) v
 
 abbrev pub value_taken_in : ℕ → NodeId → Option Entry → MemberValue → MemberValue
 value_taken_in me from None v = v
@@ -80,6 +91,9 @@ value_taken_in me from (Some x) v = value_came me from x v
 
 abbrev pub value_took : ℕ → ℕ → MemberValue → MemberValue
 value_took b count v = record v { taken = slice_set v.taken b (slice_index_or v.taken b 0 + count) }
+
+abbrev pub value_done : ℕ → ℕ → ℕ → MemberValue → MemberValue
+value_done b place count v = record v { done = slice_set v.done b (places place count ++ slice_index_or v.done b []) }
 
 -- what waits for a node is given up
 abbrev pub value_cut : NodeId → MemberValue → MemberValue
@@ -97,8 +111,8 @@ value_after nodes number me (Tenant reserve) vs = let v = value_at vs me.number 
 value_after nodes number me (Took b count) vs = value_took b.number count (value_at vs me.number)
 value_after nodes number me (Came from place) vs =
     value_taken_in me.number from (slice_get (slice_index_or (value_at vs from.number).put me.number []) (place - 1)) (value_at vs me.number)
-value_after nodes number me (Acknowledged b place count) vs = value_at vs me.number
-value_after nodes number me (Notice q) vs = let v = value_at vs me.number in value_noticed me.number q v.spec v
+value_after nodes number me (Acknowledged b place count) vs = value_done b.number place count (value_at vs me.number)
+value_after nodes number me (Notice q) vs = let v = value_at vs me.number in value_noticed me.number q (held_spec v.phase v.spec) v
 value_after nodes number me Stop vs = let v = value_at vs me.number in record v { stopped = true }
 value_after nodes number me event vs = value_commanded me event (reply_to nodes number me.number event (member_of (value_at vs me.number))) (value_at vs me.number)
 
@@ -115,6 +129,8 @@ pub record StandsForMember (v : MemberValue) (m : Member) : Type 0 where
   pub put : (b : ℕ) → b < NODES → slice_index_or v.put b [] ≡ m.put b
   pub taken : (b : ℕ) → b < NODES → slice_index_or v.taken b 0 ≡ m.taken b
   pub size : length v.taken ≡ NODES
+  pub done : (b : ℕ) → b < NODES → slice_index_or v.done b [] ≡ m.done b
+  pub rows : length v.done ≡ NODES
   pub stopped : v.stopped ≡ m.stopped
 
 -- the lists are the group

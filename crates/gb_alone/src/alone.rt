@@ -76,13 +76,16 @@ fn step_at(
     match &step.event {
         GroupEvent::Tenant(reserve) => group[me.index()].take_tenant(*reserve),
         GroupEvent::Took(b, count) => group[me.index()].took(*b, *count)?,
-        GroupEvent::Done(_, _, _) => {}
+        GroupEvent::Done(b, place, count) => {
+            group[me.index()].mark_done(*b, *place, *count)?;
+        }
         GroupEvent::Notice(q) => group[me.index()].notice(alloc, me, *q)?,
         GroupEvent::Stop => group[me.index()].stop(),
         GroupEvent::Came(from, place) => item_at(alloc, group, me, *from, *place)?,
         GroupEvent::Make(_) => command_at(alloc, nodes, number, group, me, &step.event)?,
         GroupEvent::Open => command_at(alloc, nodes, number, group, me, &step.event)?,
         GroupEvent::Shut => command_at(alloc, nodes, number, group, me, &step.event)?,
+        GroupEvent::Drop => command_at(alloc, nodes, number, group, me, &step.event)?,
         GroupEvent::Say(_) => command_at(alloc, nodes, number, group, me, &step.event)?,
         GroupEvent::Fetch(_, _) => command_at(alloc, nodes, number, group, me, &step.event)?,
     }

@@ -15,6 +15,8 @@ pub enum GroupEvent {
     Open,
     /// A command to shut it.
     Shut,
+    /// A command to drop it.
+    Drop,
     /// A command to say something.
     Say(Payload),
     /// A command to read the log, from a place on, so many entries at most.

@@ -8,6 +8,7 @@
 pub mod alone;
 pub mod event;
 pub mod laws;
+mod marks;
 mod member;
 pub mod observation;
 mod put;

@@ -1,18 +1,25 @@
 //! A group at one node, as the plain program keeps it.
-ghost use Rattle.std.specs.Prelude.{ℕ, ◌≡◌, ◌-◌, ◌<◌, ◌≤◌, [], IfOk, OnOk, true, Some, length, take, drop, slice_get, slice_index_or};
+ghost use Rattle.std.specs.Prelude.{ℕ, ◌≡◌, ◌+◌, ◌-◌, ◌<◌, ◌≤◌, [], IfOk, OnOk, true, None, Some, MatchOption, MatchResult, length, replicate, take, drop, slice_get, slice_index_or};
 ghost use Rattle.gb_types.specs.declared.limits.TheConstants.{NODES as MOST};
 ghost use Rattle.gb_alone.specs.Alone as one_group;
-ghost use Rattle.gb_alone.specs.Alone.{Member as Prior};
+ghost use Rattle.gb_alone.specs.Alone.{Member as Prior, held_spec, is_finished, count_unfinished, usage_of, shown_in};
 ghost use Rattle.gb_alone.specs.MemberLists.{member_of, StandsForMember};
+ghost use Rattle.gb_history.specs.History.{calls_of};
+ghost use Rattle.gb_rules.specs.Group.{Shown};
+ghost use Rattle.gb_types.specs.declared.reply.Reply.{Reply as Answer};
 
 use crate::event::GroupEvent;
-use crate::put::{first_of, row_of, rows_after};
-use gb_history::call::{GroupCall, said_in};
-use gb_history::log::{falls_after, log_of, puts_of};
+use crate::marks::Marks;
+use crate::put::{carried_rows, first_of, row_of, rows_after};
+use gb_history::call::{GroupCall, calls_of, said_in};
+use gb_history::log::{bytes_in, falls_after, log_of, puts_of};
+use gb_layer::call::Call;
+use gb_layer::plain::is_noticed;
 use gb_rules::group::{check_open, check_say, check_shut, is_bad_place};
 use gb_rules::phase::Phase;
 use gb_rules::reserve::Reserve;
 use gb_rules::tenant::answer_make;
+use gb_rules::usage::Usage;
 use gb_types::entry::{Entries, Entry};
 use gb_types::limits::NODES;
 use gb_types::memory::OutOfMemory;
@@ -34,6 +41,30 @@ fn page(entries: &[Entry], from: usize, most: usize) -> &[Entry]
     &rest[..count]
 }
 
+/// For each node no places.
+fn no_marks(alloc: Global) -> [Marks; NODES]
+    ensures { result ≡ replicate MOST [] }
+{
+    [
+        Marks::new(alloc),
+        Marks::new(alloc),
+        Marks::new(alloc),
+        Marks::new(alloc),
+        Marks::new(alloc),
+        Marks::new(alloc),
+        Marks::new(alloc),
+        Marks::new(alloc),
+        Marks::new(alloc),
+        Marks::new(alloc),
+        Marks::new(alloc),
+        Marks::new(alloc),
+        Marks::new(alloc),
+        Marks::new(alloc),
+        Marks::new(alloc),
+        Marks::new(alloc),
+    ]
+}
+
 /// The group at one node. Contracts see its parts as lists.
 #[derive(Drop)]
 pub(crate) struct Member {
@@ -47,6 +78,8 @@ pub(crate) struct Member {
     put: Vec<Entries>,
     /// For each node how many of these items are carried.
     taken: [u64; NODES],
+    /// For each node the places of these items that are acknowledged.
+    done: [Marks; NODES],
     stopped: bool,
 }
 
@@ -60,11 +93,11 @@ impl Model for Member {
 
     ghost coded = { Prim.hlevel (codes, set.code {R = nat_cmp} coded_ℕ) };
 
-    ghost view = { λ m. record { reserve = m.reserve; spec = m.spec; phase = m.phase; told = m.told.items; replies = m.replies.items; put = m.put.items; taken = m.taken; stopped = m.stopped } };
+    ghost view = { λ m. record { reserve = m.reserve; spec = m.spec; phase = m.phase; told = m.told.items; replies = m.replies.items; put = m.put.items; taken = m.taken; done = m.done; stopped = m.stopped } };
 }
 
 impl Member {
-    ghost use Rattle.gb_alone.specs.MemberLists.{MemberValue, member_of, new_member, value_called, value_did, value_commanded, value_came, value_taken_in, value_took, value_cut, value_noticed};
+    ghost use Rattle.gb_alone.specs.MemberLists.{MemberValue, member_of, new_member, value_called, value_dropped, value_did, value_commanded, value_came, value_taken_in, value_took, value_done, value_cut, value_noticed};
 
     /// Nothing has happened.
     pub(crate) fn new(alloc: Global) -> Member
@@ -78,6 +111,7 @@ impl Member {
             replies: Vec::new(alloc),
             put: Vec::new(alloc),
             taken: [0; NODES],
+            done: no_marks(alloc),
             stopped: false,
         }
     }
@@ -89,15 +123,44 @@ impl Member {
         self.reserve = Some(reserve);
     }
 
+    /// The spec of the group, where it was made and not dropped.
+    fn held_spec(&self) -> Option<&Spec>
+        ensures { MatchOption result (held_spec self.entry.now.phase self.entry.now.spec ≡ None) (λ spec. held_spec self.entry.now.phase self.entry.now.spec ≡ Some spec.now) }
+    {
+        if self.phase == Phase::Gone {
+            return None;
+        }
+        match &self.spec {
+            None => None,
+            Some(spec) => Some(spec),
+        }
+    }
+
+    /// The spec of the group, or why a command on it is refused: Denied where its tenant was not taken in, NoGroup
+    /// where it was not made, Spent where it was dropped.
+    fn made_spec(&self) -> Result<&Spec, Refusal>
+        ensures { MatchResult result
+            (λ spec. (answer : Shown → Answer) (me : ℕ) → one_group.on_group answer me (member_of self.entry.now) ≡ answer (shown_in me self.entry.now.phase self.entry.now.told (member_of self.entry.now).put (member_of self.entry.now).done spec.now))
+            (λ why. (answer : Shown → Answer) (me : ℕ) → one_group.on_group answer me (member_of self.entry.now) ≡ Answer.Refused why) }
+    {
+        if self.reserve.is_none() {
+            return Err(Refusal::Denied);
+        }
+        let Some(spec) = &self.spec else {
+            return Err(Refusal::NoGroup);
+        };
+        if self.phase == Phase::Gone {
+            return Err(Refusal::Spent);
+        }
+        Ok(spec)
+    }
+
     /// The reply to a command to open the group.
     fn open_reply(&self) -> Reply
         ensures { (nodes number me : ℕ) → result ≡ one_group.running_reply nodes number me GroupEvent.Open (member_of self.now) }
     {
-        if self.reserve.is_none() {
-            return Reply::Refused(Refusal::Denied);
-        }
-        if self.spec.is_none() {
-            return Reply::Refused(Refusal::NoGroup);
+        if let Err(why) = self.made_spec() {
+            return Reply::Refused(why);
         }
         match check_open(self.phase) {
             Ok(()) => Reply::Done,
@@ -109,11 +172,8 @@ impl Member {
     fn shut_reply(&self) -> Reply
         ensures { (nodes number me : ℕ) → result ≡ one_group.running_reply nodes number me GroupEvent.Shut (member_of self.now) }
     {
-        if self.reserve.is_none() {
-            return Reply::Refused(Refusal::Denied);
-        }
-        if self.spec.is_none() {
-            return Reply::Refused(Refusal::NoGroup);
+        if let Err(why) = self.made_spec() {
+            return Reply::Refused(why);
         }
         match check_shut(self.phase) {
             Ok(()) => Reply::Done,
@@ -121,23 +181,81 @@ impl Member {
         }
     }
 
-    /// The reply to a command to say something. `Err` where there is no number for it.
-    fn say_reply(&self, payload: &Payload) -> Result<Reply, OutOfMemory>
-        ensures { IfOk result (λ r. (nodes number me : ℕ) → r ≡ one_group.running_reply nodes number me (GroupEvent.Say payload.now) (member_of self.now)) }
+    /// The reply to a command to drop the group.
+    fn drop_reply(&self) -> Reply
+        ensures { (nodes number me : ℕ) → result ≡ one_group.running_reply nodes number me GroupEvent.Drop (member_of self.now) }
     {
-        if self.reserve.is_none() {
-            return Ok(Reply::Refused(Refusal::Denied));
+        match self.made_spec() {
+            Ok(_) => Reply::Done,
+            Err(why) => Reply::Refused(why),
         }
-        let Some(spec) = &self.spec else {
-            return Ok(Reply::Refused(Refusal::NoGroup));
-        };
+    }
+
+    /// Whether each other member is noticed, or acknowledged the own message with a number.
+    fn is_finished(&self, spec: &Spec, me: NodeId, calls: &[Call], seq: u32) -> bool
+        requires { calls.now ≡ calls_of self.now.told }
+        ensures { result ≡ is_finished spec.now me.number self.now.told (member_of self.now).put (member_of self.now).done seq }
+    {
+        for b in spec.members.nodes() {
+            if b != me && !is_noticed(calls, b) && !self.done[b.index()].has_own(row_of(&self.put, b.index()), me, seq) {
+                return false;
+            }
+        }
+        true
+    }
+
+    /// How many own messages from a number on, so many, are unfinished.
+    fn unfinished(&self, spec: &Spec, me: NodeId, calls: &[Call], seq: u32, count: u32) -> u32
+        requires calls { calls.now ≡ calls_of self.now.told }
+        requires last { seq + count ≤ 65_536 }
+        ensures unfinished { result ≡ count_unfinished (is_finished spec.now me.number self.now.told (member_of self.now).put (member_of self.now).done) seq count }
+        ensures few { result ≤ count }
+    {
+        if count == 0 {
+            return 0;
+        }
+        let rest = self.unfinished(spec, me, calls, seq + 1, count - 1);
+        if self.is_finished(spec, me, calls, seq) {
+            rest
+        } else {
+            rest + 1
+        }
+    }
+
+    /// How much of its spec the node's member has used. `Err` where there is no number for it.
+    fn usage(&self, alloc: Global, spec: &Spec, me: NodeId) -> Result<Usage, OutOfMemory>
+        ensures usage { IfOk result (λ u. u ≡ usage_of spec.now me.number self.now.told (member_of self.now).put (member_of self.now).done) }
+        ensures few { IfOk result (λ u. u.said < 65_535) }
+    {
         let said = said_in(&self.told);
         if said >= 65_535 {
             return Err(OutOfMemory);
         }
         let said = said as u32;
-        match check_say(spec, self.phase, said, payload.as_slice()) {
-            Ok(()) => Ok(Reply::Said((said + 1) as u16)),
+        let calls = calls_of(alloc, &self.told)?;
+        Ok(Usage {
+            said,
+            bytes: bytes_in(alloc, &self.told, me)?,
+            unfinished: self.unfinished(spec, me, &calls, 1, said),
+        })
+    }
+
+    /// The reply to a command to say something. `Err` where there is no number for it.
+    fn say_reply(
+        &self,
+        alloc: Global,
+        me: NodeId,
+        payload: &Payload,
+    ) -> Result<Reply, OutOfMemory>
+        ensures { IfOk result (λ r. (nodes number : ℕ) → r ≡ one_group.running_reply nodes number me.number (GroupEvent.Say payload.now) (member_of self.now)) }
+    {
+        let spec = match self.made_spec() {
+            Ok(spec) => spec,
+            Err(why) => return Ok(Reply::Refused(why)),
+        };
+        let usage = self.usage(alloc, spec, me)?;
+        match check_say(spec, self.phase, usage, payload.as_slice()) {
+            Ok(()) => Ok(Reply::Said((usage.said + 1) as u16)),
             Err(why) => Ok(Reply::Refused(why)),
         }
     }
@@ -152,11 +270,9 @@ impl Member {
     ) -> Result<Reply, OutOfMemory>
         ensures { IfOk result (λ r. (nodes number : ℕ) → r ≡ one_group.running_reply nodes number me.number (GroupEvent.Fetch from max) (member_of self.now)) }
     {
-        if self.reserve.is_none() {
-            return Ok(Reply::Refused(Refusal::Denied));
-        }
-        let Some(spec) = &self.spec else {
-            return Ok(Reply::Refused(Refusal::NoGroup));
+        let spec = match self.made_spec() {
+            Ok(spec) => spec,
+            Err(why) => return Ok(Reply::Refused(why)),
         };
         let log = log_of(alloc, spec, me, &self.told)?;
         if is_bad_place(log.len(), from, max) {
@@ -198,8 +314,9 @@ impl Member {
             GroupEvent::Make(spec) => Ok(self.make_reply(nodes, number, me, spec)),
             GroupEvent::Open => Ok(self.open_reply()),
             GroupEvent::Shut => Ok(self.shut_reply()),
+            GroupEvent::Drop => Ok(self.drop_reply()),
             GroupEvent::Say(payload) => {
-                let said = self.say_reply(payload)?;
+                let said = self.say_reply(alloc, me, payload)?;
                 Ok(said)
             }
             GroupEvent::Fetch(from, max) => {
@@ -245,6 +362,15 @@ impl Member {
         Ok(())
     }
 
+    /// The group is dropped: what waits is given up.
+    fn drop_group(&mut self, alloc: Global) -> Result<(), OutOfMemory>
+        ensures { OnOk result (self.new ≡ value_dropped self.old) }
+    {
+        self.put = carried_rows(alloc, &self.put, &self.taken)?;
+        self.phase = Phase::Gone;
+        Ok(())
+    }
+
     /// What a command does besides its reply.
     fn did(
         &mut self,
@@ -259,6 +385,7 @@ impl Member {
             (GroupEvent::Make(spec), Reply::Done) => self.spec = Some(spec.duplicate()),
             (GroupEvent::Open, Reply::Done) => self.phase = Phase::Opened,
             (GroupEvent::Shut, Reply::Done) => self.phase = Phase::Shut,
+            (GroupEvent::Drop, Reply::Done) => self.drop_group(alloc)?,
             (GroupEvent::Say(payload), Reply::Said(seq)) => {
                 let payload = payload.duplicate(alloc)?;
                 let x = Entry {
@@ -298,9 +425,9 @@ impl Member {
     ) -> Result<(), OutOfMemory>
         ensures { OnOk result (self.new ≡ value_came me.number from x self.old) }
     {
-        let falls = match &self.spec {
+        let falls = match self.held_spec() {
             None => true,
-            Some(spec) => falls_after(alloc, spec, me, &self.told, from, x.message())?,
+            Some(spec) => falls_after(alloc, spec, me, &self.told, from, &x)?,
         };
         if !falls {
             self.call(alloc, me, GroupCall::Other(from, x))?;
@@ -336,6 +463,19 @@ impl Member {
         Ok(())
     }
 
+    /// Of the items put out to a node, those from a place on, so many, are acknowledged. `Err` where no number is so
+    /// great.
+    pub(crate) fn mark_done(
+        &mut self,
+        b: NodeId,
+        place: u64,
+        count: u64,
+    ) -> Result<(), OutOfMemory>
+        ensures { OnOk result (self.new ≡ value_done b.number place count self.old) }
+    {
+        self.done[b.index()].add(place, count)
+    }
+
     /// What waits for a node is given up.
     fn cut(&mut self, alloc: Global, q: NodeId) -> Result<(), OutOfMemory>
         ensures { OnOk result (self.new ≡ value_cut q self.old) }
@@ -351,9 +491,9 @@ impl Member {
 
     /// A node is noticed.
     pub(crate) fn notice(&mut self, alloc: Global, me: NodeId, q: NodeId) -> Result<(), OutOfMemory>
-        ensures { OnOk result (self.new ≡ value_noticed me.number q self.old.spec self.old) }
+        ensures { OnOk result (self.new ≡ value_noticed me.number q (held_spec self.old.phase self.old.spec) self.old) }
     {
-        let concerned = match &self.spec {
+        let concerned = match self.held_spec() {
             None => false,
             Some(spec) => spec.members.contains(q) && q != me,
         };

@@ -1,9 +1,9 @@
 //! What a group puts out to other nodes.
-ghost use Rattle.std.specs.Prelude.{◌≡◌, ◌++◌, [], ◌&&◌, not, IfOk, OnOk, map, take, slice_index_or, if◌then◌else◌};
+ghost use Rattle.std.specs.Prelude.{◌≡◌, ◌++◌, [], ◌&&◌, not, IfOk, OnOk, length, map, take, slice_index_or, if◌then◌else◌};
 ghost use Rattle.gb_types.specs.declared.limits.TheConstants.{NODES as MOST};
 ghost use Rattle.gb_layer.specs.Machine as machine;
 ghost use Rattle.gb_rules.specs.Group as rules;
-ghost use Rattle.gb_alone.specs.MemberLists.{row_with};
+ghost use Rattle.gb_alone.specs.MemberLists.{row_with, carried_row};
 ghost use Rattle.gb_alone.specs.Observation.{numbers_below};
 
 use gb_history::call::{GroupCall, calls_of};
@@ -84,6 +84,23 @@ pub(crate) fn rows_after(
     for b in 0..NODES {
         let reached = is_reached(spec, me, NodeId::new(b as u8), &calls);
         rows.push(row_after(alloc, reached, row_of(put, b), more)?)?;
+    }
+    Ok(rows)
+}
+
+/// The items put out to each node that are carried.
+#[tactic(auto, using(crate::proofs::ObservationLemmas::map_more, crate::proofs::ObservationLemmas::map_none))]
+pub(crate) fn carried_rows(
+    alloc: Global,
+    put: &[Entries],
+    taken: &[u64],
+) -> Result<Vec<Entries>, OutOfMemory>
+    requires { length taken.now ≡ MOST }
+    ensures { IfOk result (λ v. v.items ≡ map (carried_row taken.now put.now) (numbers_below MOST)) }
+{
+    let mut rows = Vec::new(alloc);
+    for b in 0..NODES {
+        rows.push(Entries::from_slice(alloc, first_of(row_of(put, b), taken[b]))?)?;
     }
     Ok(rows)
 }
