@@ -6,21 +6,22 @@ use Rattle.std.proofs.lemmas.List.{append-nil, append_assoc}
 use Rattle.gb_types.specs.declared.entry.Entry.{Entry}
 use Rattle.gb_types.specs.declared.node.NodeId.{NodeId}
 use Rattle.gb_types.specs.declared.limits.TheConstants.{PAYLOAD}
-use Rattle.gb_types.specs.declared.refusal.Refusal.TheVariants.{TooLong, Budget, Stopped}
+use Rattle.gb_types.specs.declared.refusal.Refusal.TheVariants.{Spent, TooLong, Budget, Bytes, Window, Stopped}
 use Rattle.gb_types.specs.declared.reply.Reply.{Reply}
 use Rattle.gb_types.specs.declared.reply.Reply.TheVariants.{Done, Said, Refused}
 use Rattle.gb_types.specs.declared.spec.Spec.{Spec}
-use Rattle.gb_history.specs.History.{said_in, log_of}
-use Rattle.gb_rules.specs.Group.{is_other, say_answer, on_made}
+use Rattle.gb_history.specs.History.{said_in}
+use Rattle.gb_rules.specs.Group.{Shown, is_gone, is_other, say_answer, on_made}
 use Rattle.gb_history.specs.declared.call.GroupCall.{GroupCall}
 use Rattle.gb_history.specs.declared.call.GroupCall.TheVariants.{Own, Other, Crashed}
 use Rattle.gb_rules.specs.declared.phase.Phase.{Phase}
-use Rattle.gb_rules.specs.declared.phase.Phase.TheVariants.{Made, Opened, Shut}
-use Rattle.gb_alone.specs.Alone.{Member, Group, reply_to, shown_of, called, did, falls, taken_in, cut, took_notice, member_after, after, nobody, alone_from, alone}
+use Rattle.gb_rules.specs.declared.usage.Usage.{Usage}
+use Rattle.gb_rules.specs.declared.phase.Phase.TheVariants.{Made, Opened, Shut, Gone}
+use Rattle.gb_alone.specs.Alone.{Member, Group, reply_to, held_spec, shown_in, shown_of, called, did, falls, taken_in, cut, took_notice, member_after, after, nobody, alone_from, alone}
 use Rattle.gb_alone.specs.Laws.{Accepted, accepted_in, accepted_at, accepted_from, accepted}
 use Rattle.gb_rules.specs.Tenant.{by_tenant}
 use Rattle.gb_alone.specs.declared.event.GroupEvent.{GroupEvent}
-use Rattle.gb_alone.specs.declared.event.GroupEvent.TheVariants.{Tenant, Make as AskMake, Open as AskOpen, Shut as AskShut, Say as AskSay, Took, Came, Done as Acknowledged, Notice, Stop}
+use Rattle.gb_alone.specs.declared.event.GroupEvent.TheVariants.{Tenant, Make as AskMake, Open as AskOpen, Shut as AskShut, Drop as AskDrop, Say as AskSay, Took, Came, Done as Acknowledged, Notice, Stop}
 use Rattle.gb_alone.specs.declared.event.GroupStep.{GroupStep}
 use Rattle.gb_rules.specs.declared.reserve.Reserve.{Reserve}
 
@@ -42,22 +43,31 @@ length-own_said (Crashed q ∷ told) = length-own_said told
 pub next_said : (me : ℕ) (m : Member) (payload : List ℕ) (seq : ℕ) (nodes number : ℕ) → reply_to nodes number me (AskSay payload) m ≡ Said seq → seq ≡ said_in m.told + 1
 next_said me m payload seq nodes number = running m.stopped
   where
-    admitted : (long many : Bool) → (if long then Refused TooLong else (if many then Refused Budget else Said (said_in m.told + 1))) ≡ Said seq → seq ≡ said_in m.told + 1
-    admitted true many h = cc
-    admitted false true h = cc
-    admitted false false h = cc
+    admitted : (long many heavy full : Bool) → (if long then Refused TooLong else (if many then Refused Budget else (if heavy then Refused Bytes else (if full then Refused Window else Said (said_in m.told + 1))))) ≡ Said seq → seq ≡ said_in m.told + 1
+    admitted true many heavy full h = cc
+    admitted false true heavy full h = cc
+    admitted false false true full h = cc
+    admitted false false false true h = cc
+    admitted false false false false h = cc
 
-    answered : (spec : Spec) (phase : Phase) (log : List Entry) → say_answer (record { spec = spec; phase = phase; said = said_in m.told; log = log }) payload ≡ Said seq → seq ≡ said_in m.told + 1
-    answered spec Made log h = cc
-    answered spec Shut log h = cc
-    answered spec Opened log h = admitted (nat_lt PAYLOAD (length payload)) (nat_le spec.msgs (said_in m.told)) h
+    answered : (spec : Spec) (phase : Phase) (usage : Usage) (log : List Entry) → usage.said ≡ said_in m.told → say_answer (record { spec = spec; phase = phase; usage = usage; log = log }) payload ≡ Said seq → seq ≡ said_in m.told + 1
+    answered spec Made usage log is h = cc
+    answered spec Shut usage log is h = cc
+    answered spec Gone usage log is h = cc
+    answered spec Opened usage log is h =
+        admitted (nat_lt PAYLOAD (length payload)) (nat_le spec.msgs usage.said) (nat_lt spec.bytes (usage.bytes + length payload)) (nat_le spec.window usage.unfinished)
+        (ap (λ n. if nat_lt PAYLOAD (length payload) then Refused TooLong else (if nat_le spec.msgs usage.said then Refused Budget else (if nat_lt spec.bytes (usage.bytes + length payload) then Refused Bytes else (if nat_le spec.window usage.unfinished then Refused Window else Said (n + 1))))) (sym is) ∙ h)
 
-    by : (reserve : Option Reserve) (spec : Option Spec) → by_tenant (λ _. on_made (λ s. say_answer s payload) (shown_of me m.phase m.told spec)) reserve ≡ Said seq → seq ≡ said_in m.told + 1
+    present : (s : Shown) → s.usage.said ≡ said_in m.told → (gone : Bool) → (if gone then Refused Spent else say_answer s payload) ≡ Said seq → seq ≡ said_in m.told + 1
+    present s is true h = cc
+    present s is false h = answered s.spec s.phase s.usage s.log is h
+
+    by : (reserve : Option Reserve) (spec : Option Spec) → by_tenant (λ _. on_made (λ s. say_answer s payload) (shown_of me m.phase m.told m.put m.done spec)) reserve ≡ Said seq → seq ≡ said_in m.told + 1
     by None spec h = cc
     by (Some reserve) None h = cc
-    by (Some reserve) (Some spec) h = answered spec m.phase (log_of spec me m.told) h
+    by (Some reserve) (Some spec) h = present (shown_in me m.phase m.told m.put m.done spec) refl (is_gone m.phase) h
 
-    running : (stopped : Bool) → (if stopped then Refused Stopped else by_tenant (λ _. on_made (λ s. say_answer s payload) (shown_of me m.phase m.told m.spec)) m.reserve) ≡ Said seq → seq ≡ said_in m.told + 1
+    running : (stopped : Bool) → (if stopped then Refused Stopped else by_tenant (λ _. on_made (λ s. say_answer s payload) (shown_of me m.phase m.told m.put m.done m.spec)) m.reserve) ≡ Said seq → seq ≡ said_in m.told + 1
     running true h = cc
     running false h = by m.reserve m.spec h
 
@@ -66,13 +76,14 @@ unfolding own_said
 did_said me (AskMake spec) Done m = sym (append-nil (own_said m.told))
 did_said me AskOpen Done m = sym (append-nil (own_said m.told))
 did_said me AskShut Done m = sym (append-nil (own_said m.told))
+did_said me AskDrop Done m = sym (append-nil (own_said m.told))
 did_said me (AskSay payload) (Said seq) m = refl
 did_said me event reply m = sym (append-nil (own_said m.told))
 
 taken_said : (me : ℕ) (from : NodeId) (place : ℕ) (o : Option Entry) (m : Member) → own_said (taken_in me from place o m).told ≡ own_said m.told
 unfolding own_said
 taken_said me from place None m = refl
-taken_said me from place (Some x) m = elim (falls me from.number x m.told m.spec) as (λ b. own_said (if b then m else called me (Other from x) m).told ≡ own_said m.told) [ true ↦ refl | false ↦ refl ]
+taken_said me from place (Some x) m = elim (falls me from.number x m.told (held_spec m.phase m.spec)) as (λ b. own_said (if b then m else called me (Other from x) m).told ≡ own_said m.told) [ true ↦ refl | false ↦ refl ]
 
 noticed_said : (me : ℕ) (q : NodeId) (o : Option Spec) (m : Member) → own_said (took_notice me q o m).told ≡ own_said m.told
 unfolding own_said
@@ -85,7 +96,7 @@ event_said nodes number me (Tenant reserve) group = sym (append-nil (own_said (g
 event_said nodes number me (Took b count) group = sym (append-nil (own_said (group me.number).told))
 event_said nodes number me (Came from place) group = taken_said me.number from place (slice_get ((group from.number).put me.number) (place - 1)) (group me.number) ∙ sym (append-nil (own_said (group me.number).told))
 event_said nodes number me (Acknowledged b place count) group = sym (append-nil (own_said (group me.number).told))
-event_said nodes number me (Notice q) group = noticed_said me.number q (group me.number).spec (group me.number) ∙ sym (append-nil (own_said (group me.number).told))
+event_said nodes number me (Notice q) group = noticed_said me.number q (held_spec (group me.number).phase (group me.number).spec) (group me.number) ∙ sym (append-nil (own_said (group me.number).told))
 event_said nodes number me Stop group = sym (append-nil (own_said (group me.number).told))
 event_said nodes number me event group = did_said me event (reply_to nodes number me.number event (group me.number)) (group me.number)
 

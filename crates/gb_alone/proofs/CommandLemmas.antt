@@ -9,7 +9,7 @@ use Rattle.gb_types.specs.declared.reply.Reply.{Reply}
 use Rattle.gb_types.specs.declared.spec.Spec.{Spec}
 use Rattle.gb_rules.specs.Group.{is_other}
 use Rattle.gb_history.specs.declared.call.GroupCall.TheVariants.{Other, Crashed}
-use Rattle.gb_alone.specs.Alone.{Member, Group, reply_to, called, falls, taken_in, cut, took_notice, member_after, after, alone_from}
+use Rattle.gb_alone.specs.Alone.{Member, Group, reply_to, held_spec, called, falls, taken_in, cut, took_notice, member_after, after, alone_from}
 use Rattle.gb_alone.specs.Laws.{Accepted, accepted_in, accepted_at, accepted_from}
 use Rattle.gb_alone.specs.declared.event.GroupEvent.{GroupEvent}
 use Rattle.gb_alone.specs.declared.event.GroupEvent.TheVariants.{Tenant, Took, Came, Done as Acknowledged, Notice, Stop}
@@ -85,7 +85,7 @@ replies_from nodes number group (step ∷ steps) s = replies_at nodes number gro
 
 taken_replies : (me : ℕ) (from : NodeId) (place : ℕ) (o : Option Entry) (m : Member) → (taken_in me from place o m).replies ≡ m.replies
 taken_replies me from place None m = refl
-taken_replies me from place (Some x) m = elim (falls me from.number x m.told m.spec) as (λ b. (if b then m else called me (Other from x) m).replies ≡ m.replies) [ true ↦ refl | false ↦ refl ]
+taken_replies me from place (Some x) m = elim (falls me from.number x m.told (held_spec m.phase m.spec)) as (λ b. (if b then m else called me (Other from x) m).replies ≡ m.replies) [ true ↦ refl | false ↦ refl ]
 
 noticed_replies : (me : ℕ) (q : NodeId) (o : Option Spec) (m : Member) → (took_notice me q o m).replies ≡ m.replies
 noticed_replies me q None m = refl
@@ -96,7 +96,7 @@ event_replies nodes number me (Tenant reserve) group = sym (append-nil (group me
 event_replies nodes number me (Took b count) group = sym (append-nil (group me.number).replies)
 event_replies nodes number me (Came from place) group = taken_replies me.number from place (slice_get ((group from.number).put me.number) (place - 1)) (group me.number) ∙ sym (append-nil (group me.number).replies)
 event_replies nodes number me (Acknowledged b place count) group = sym (append-nil (group me.number).replies)
-event_replies nodes number me (Notice q) group = noticed_replies me.number q (group me.number).spec (group me.number) ∙ sym (append-nil (group me.number).replies)
+event_replies nodes number me (Notice q) group = noticed_replies me.number q (held_spec (group me.number).phase (group me.number).spec) (group me.number) ∙ sym (append-nil (group me.number).replies)
 event_replies nodes number me Stop group = sym (append-nil (group me.number).replies)
 event_replies nodes number me event group = refl
 

@@ -14,11 +14,11 @@ use Rattle.gb_types.specs.declared.spec.Spec.{Spec}
 use Rattle.gb_types.proofs.CoverLemmas.{not_all_members}
 use Rattle.gb_rules.specs.Group.{say_answer, is_member, is_other, on_made}
 use Rattle.gb_history.specs.declared.call.GroupCall.TheVariants.{Other, Crashed}
-use Rattle.gb_alone.specs.Alone.{Member, Group, reply_to, shown_of, called, did, falls, taken_in, cut, took_notice, member_after, after}
-use Rattle.gb_alone.specs.Laws.{Accepted, accepted_in, accepted_at, accepted_from}
+use Rattle.gb_alone.specs.Alone.{held_spec, Member, Group, reply_to, shown_of, called, did, falls, taken_in, cut, took_notice, member_after, after}
+use Rattle.gb_alone.specs.Laws.{accepted_in, accepted_at, accepted_from}
 use Rattle.gb_rules.specs.Tenant.{is_bad, is_over, make_answer, by_tenant}
 use Rattle.gb_alone.specs.declared.event.GroupEvent.{GroupEvent}
-use Rattle.gb_alone.specs.declared.event.GroupEvent.TheVariants.{Tenant, Make as AskMake, Open as AskOpen, Shut as AskShut, Say as AskSay, Took, Came, Done as Acknowledged, Notice, Stop}
+use Rattle.gb_alone.specs.declared.event.GroupEvent.TheVariants.{Tenant, Make as AskMake, Open as AskOpen, Shut as AskShut, Drop as AskDrop, Say as AskSay, Took, Came, Done as Acknowledged, Notice, Stop}
 use Rattle.gb_alone.specs.declared.event.GroupStep.{GroupStep}
 use Rattle.gb_rules.specs.declared.reserve.Reserve.{Reserve}
 
@@ -61,12 +61,13 @@ did_inside : (nodes number : ℕ) (me : NodeId) (event : GroupEvent) (reply : Re
 did_inside nodes number me (AskMake spec) Done m e old = λ s is. make_inside nodes number me.number spec m e
 did_inside nodes number me AskOpen Done m e old = old
 did_inside nodes number me AskShut Done m e old = old
+did_inside nodes number me AskDrop Done m e old = old
 did_inside nodes number me (AskSay payload) (Said seq) m e old = old
 did_inside nodes number me event reply m e old = old
 
 taken_inside : (nodes me : ℕ) (from : NodeId) (place : ℕ) (o : Option Entry) (m : Member) → IsInside nodes me m → IsInside nodes me (taken_in me from place o m)
 taken_inside nodes me from place None m old = old
-taken_inside nodes me from place (Some x) m old = elim (falls me from.number x m.told m.spec) as (λ b. (spec : Spec) → (if b then m else called me (Other from x) m).spec ≡ Some spec → me < nodes) [ true ↦ old | false ↦ old ]
+taken_inside nodes me from place (Some x) m old = elim (falls me from.number x m.told (held_spec m.phase m.spec)) as (λ b. (spec : Spec) → (if b then m else called me (Other from x) m).spec ≡ Some spec → me < nodes) [ true ↦ old | false ↦ old ]
 
 noticed_inside : (nodes me : ℕ) (q : NodeId) (o : Option Spec) (m : Member) → IsInside nodes me m → IsInside nodes me (took_notice me q o m)
 noticed_inside nodes me q None m old = old
@@ -77,7 +78,7 @@ event_inside nodes number me (Tenant reserve) group old = old
 event_inside nodes number me (Took b count) group old = old
 event_inside nodes number me (Came from place) group old = taken_inside nodes me.number from place (slice_get ((group from.number).put me.number) (place - 1)) (group me.number) old
 event_inside nodes number me (Acknowledged b place count) group old = old
-event_inside nodes number me (Notice q) group old = noticed_inside nodes me.number q (group me.number).spec (group me.number) old
+event_inside nodes number me (Notice q) group old = noticed_inside nodes me.number q (held_spec (group me.number).phase (group me.number).spec) (group me.number) old
 event_inside nodes number me Stop group old = old
 event_inside nodes number me event group old = did_inside nodes number me event (reply_to nodes number me.number event (group me.number)) (group me.number) refl old
 
@@ -96,12 +97,12 @@ step_inside nodes number group step all x = go (nat_eq x step.node.number) refl
 refused_beyond : (nodes number s : ℕ) (event : GroupEvent) (m : Member) → nodes ≤ s → IsInside nodes s m → accepted_in event (reply_to nodes number s event m) ≡ []
 refused_beyond nodes number s (AskSay payload) m beyond inside = running m.stopped
   where
-    by : (reserve : Option Reserve) (o : Option Spec) → m.spec ≡ o → accepted_in (AskSay payload) (by_tenant (λ _. on_made (λ x. say_answer x payload) (shown_of s m.phase m.told o)) reserve) ≡ []
+    by : (reserve : Option Reserve) (o : Option Spec) → m.spec ≡ o → accepted_in (AskSay payload) (by_tenant (λ _. on_made (λ x. say_answer x payload) (shown_of s m.phase m.told m.put m.done o)) reserve) ≡ []
     by None o is = refl
     by (Some reserve) None is = refl
     by (Some reserve) (Some spec) is = let low : s < nodes = inside spec is in absurd (omega arith)
 
-    running : (stopped : Bool) → accepted_in (AskSay payload) (if stopped then Refused Stopped else by_tenant (λ _. on_made (λ x. say_answer x payload) (shown_of s m.phase m.told m.spec)) m.reserve) ≡ []
+    running : (stopped : Bool) → accepted_in (AskSay payload) (if stopped then Refused Stopped else by_tenant (λ _. on_made (λ x. say_answer x payload) (shown_of s m.phase m.told m.put m.done m.spec)) m.reserve) ≡ []
     running true = refl
     running false = by m.reserve m.spec refl
 refused_beyond nodes number s event m beyond inside = refl

@@ -15,10 +15,10 @@ use Rattle.gb_layer.specs.Machine.{was_noticed}
 use Rattle.gb_rules.specs.Group.{is_other}
 use Rattle.gb_history.specs.declared.call.GroupCall.{GroupCall}
 use Rattle.gb_history.specs.declared.call.GroupCall.TheVariants.{Own, Other, Crashed}
-use Rattle.gb_alone.specs.Alone.{Member, Group, reply_to, put_to, called, did, falls, item_came, taken_in, cut, took_notice, member_after, after, nobody, alone_from, alone, log_at}
+use Rattle.gb_alone.specs.Alone.{held_spec, Member, Group, reply_to, put_to, called, did, falls, item_came, taken_in, cut, took_notice, member_after, after, nobody, alone_from, alone, log_at}
 use Rattle.gb_alone.specs.Laws.{Accepted, accepted_in, accepted_at, accepted, IsAccepted, copies, IsIntegral}
 use Rattle.gb_alone.specs.declared.event.GroupEvent.{GroupEvent}
-use Rattle.gb_alone.specs.declared.event.GroupEvent.TheVariants.{Tenant, Make as AskMake, Open as AskOpen, Shut as AskShut, Say as AskSay, Took, Came, Done as Acknowledged, Notice, Stop}
+use Rattle.gb_alone.specs.declared.event.GroupEvent.TheVariants.{Tenant, Make as AskMake, Open as AskOpen, Shut as AskShut, Drop as AskDrop, Say as AskSay, Took, Came, Done as Acknowledged, Notice, Stop}
 use Rattle.gb_alone.specs.declared.event.GroupStep.{GroupStep}
 use Rattle.gb_alone.proofs.AcceptedLemmas.{own_said, length-own_said, next_said, step_said, alone_said}
 use Rattle.gb_alone.proofs.KnownLemmas.{HoldsOfTold, all_known, all_puts, all_at, all_log, copies-log}
@@ -70,7 +70,7 @@ fits_called said me c m is fits = record {
 fits_taken : (said : ℕ → List Accepted) (me : ℕ) (from : NodeId) (place : ℕ) (o : Option Entry) (m : Member) → ((x : Entry) → o ≡ Some x → IsAccepted said x) → Fits said m → Fits said (taken_in me from place o m)
 fits_taken said me from place None m is fits = fits
 fits_taken said me from place (Some x) m is fits =
-    let next : Fits said (item_came me from x m) = elim (falls me from.number x m.told m.spec) as (λ b. Fits said (if b then m else called me (Other from x) m)) [
+    let next : Fits said (item_came me from x m) = elim (falls me from.number x m.told (held_spec m.phase m.spec)) as (λ b. Fits said (if b then m else called me (Other from x) m)) [
       | true ↦ fits
       | false ↦ fits_called said me (Other from x) m (is x refl) fits
     ] in
@@ -108,6 +108,7 @@ fits_did : (nodes number : ℕ) (said : ℕ → List Accepted) (me : NodeId) (ev
 fits_did nodes number said me (AskMake spec) Done m e now fits = record { known = fits.known; put = fits.put }
 fits_did nodes number said me AskOpen Done m e now fits = record { known = fits.known; put = fits.put }
 fits_did nodes number said me AskShut Done m e now fits = record { known = fits.known; put = fits.put }
+fits_did nodes number said me AskDrop Done m e now fits = record { known = fits.known; put = λ b. all_taken (IsAccepted said) (m.taken b) (m.put b) (fits.put b) }
 fits_did nodes number said me (AskSay payload) (Said seq) m e now fits =
     fits_called said me.number (Own (record { origin = me; seq = seq; payload = payload })) m (said_now said me seq payload m.told (next_said me.number m payload seq nodes number e) now) fits
 fits_did nodes number said me event reply m e now fits = fits
@@ -129,7 +130,7 @@ event_fits nodes number said me (Came from place) group now all =
     fits_taken said me.number from place (slice_get ((group from.number).put me.number) (place - 1)) (group me.number)
     (λ x e. all_at (IsAccepted said) ((group from.number).put me.number) (place - 1) x ((all from.number).put me.number) e) (all me.number)
 event_fits nodes number said me (Acknowledged b place count) group now all = record { known = (all me.number).known; put = (all me.number).put }
-event_fits nodes number said me (Notice q) group now all = let next = fits_noticed said me.number q (group me.number).spec (group me.number) (all me.number) in record { known = next.known; put = next.put }
+event_fits nodes number said me (Notice q) group now all = let next = fits_noticed said me.number q (held_spec (group me.number).phase (group me.number).spec) (group me.number) (all me.number) in record { known = next.known; put = next.put }
 event_fits nodes number said me Stop group now all = record { known = (all me.number).known; put = (all me.number).put }
 event_fits nodes number said me event group now all =
     let next = commanded_fits nodes number said me event (group me.number) now (all me.number) in
@@ -182,8 +183,8 @@ copies-log_at me (Some spec) told m = copies-log spec me told m
 pub is_integral : IsIntegral
 is_integral nodes number steps legal = record {
   logs = λ b. record {
-    no_duplication = λ m. copies-log_at b (group b).spec (group b).told m;
-    no_creation = all_log_at (IsAccepted (accepted nodes number steps)) b (group b).spec (group b).told (accepts (known (group b).told) (alone_fits nodes number steps b).known);
+    no_duplication = λ m. copies-log_at b (held_spec (group b).phase (group b).spec) (group b).told m;
+    no_creation = all_log_at (IsAccepted (accepted nodes number steps)) b (held_spec (group b).phase (group b).spec) (group b).told (accepts (known (group b).told) (alone_fits nodes number steps b).known);
   };
   items = λ b c. accepts ((group b).put c) ((alone_fits nodes number steps b).put c);
 }

@@ -3,6 +3,7 @@ pub mod CommandLemmas
 pub mod InsideLemmas
 pub mod IntegrityLemmas
 pub mod KnownLemmas
+pub mod UsageLemmas
 pub mod MemberListLemmas
 pub mod ObservationLemmas
 pub mod OrderLemmas

@@ -1,7 +1,6 @@
 -- The plain program's lists stand for the group alone.
 use Rattle.std.proofs.Common.{◌≡◌, ℕ, zero, suc, ◌+◌, ◌-◌, ◌<◌, ◌≤◌, ◌⊎◌, inl, inr, List, [], ◌∷◌, ◌++◌, length, take, get_or, nat_eq, Bool, true, false, not, ◌&&◌, ◌∙◌, ap, sym, subst, refl, arith, length-append}
 use Rattle.std.specs.Prelude.{map, fold, replicate, slice_get, slice_index_or, slice_set, Option, Some, None, is_some, if◌then◌else◌}
-use Rattle.std.specs.FinSet as set
 use Rattle.std.proofs.lemmas.List.{get_or-replicate, get_or-set_same, get_or-set_other, get_or_append_left, length-set, length-map, map-append, take_more}
 use Rattle.std.proofs.lemmas.List.Sums.{fold-append}
 use Rattle.std.proofs.Math.Seq.{get_or-append_seam, take-nil}
@@ -14,23 +13,19 @@ use Rattle.gb_types.specs.declared.reply.Reply.{Reply}
 use Rattle.gb_types.specs.declared.refusal.Refusal.TheVariants.{Stopped}
 use Rattle.gb_types.specs.declared.reply.Reply.TheVariants.{Done, Said, Refused}
 use Rattle.gb_types.specs.declared.spec.Spec.{Spec}
-use Rattle.gb_stack.specs.Kinds.{kind_log}
-use Rattle.gb_stack.proofs.DeliveryLemmas.{same_members}
-use Rattle.gb_types.specs.Rising.{rising, AreNodes}
-use Rattle.gb_types.proofs.AllMemberLemmas.{all_rising}
-use Rattle.gb_history.specs.History.{puts_of, log_of, calls_of, known}
-use Rattle.gb_history.specs.Messages.{entry_in}
-use Rattle.gb_rules.specs.Group.{Shown, is_other, open_answer, shut_answer, say_answer, fetch_answer, on_made}
+use Rattle.gb_history.specs.History.{puts_of, calls_of}
+use Rattle.gb_rules.specs.Group.{Shown, is_other, open_answer, shut_answer, drop_answer, say_answer, fetch_answer, on_made}
 use Rattle.gb_history.specs.declared.call.GroupCall.{GroupCall}
 use Rattle.gb_layer.specs.Machine.{was_noticed}
 use Rattle.gb_history.specs.declared.call.GroupCall.TheVariants.{Own, Other, Crashed}
 use Rattle.gb_rules.specs.declared.phase.Phase.{Phase}
-use Rattle.gb_alone.specs.Alone.{Member, Group, shown, shown_of, running_reply, reply_to, cut, took_notice, put_to, called, did, commanded, falls, item_came, taken_in, member_after, after, nobody, alone, alone_from}
-use Rattle.gb_alone.specs.MemberLists.{MemberValue, new_member, member_of, row_with, rows_with, value_called, value_did, value_commanded, value_came, value_taken_in, value_took, value_cut, value_noticed, value_at, value_after, values_after, StandsForMember, StandForMembers}
+use Rattle.gb_alone.specs.Alone.{Member, Group, held_spec, places, shown, shown_of, running_reply, reply_to, cut, dropped, item_done, took_notice, put_to, called, did, commanded, falls, item_came, taken_in, member_after, after, nobody, alone, alone_from}
+use Rattle.gb_alone.specs.MemberLists.{MemberValue, new_member, member_of, row_with, rows_with, value_called, value_dropped, carried_row, value_did, value_commanded, value_came, value_taken_in, value_took, value_done, value_cut, value_noticed, value_at, value_after, values_after, StandsForMember, StandForMembers}
 use Rattle.gb_alone.specs.Observation.{numbers_below}
+use Rattle.gb_alone.proofs.UsageLemmas.{shown_alike}
 use Rattle.gb_rules.specs.Tenant.{make_answer, by_tenant}
 use Rattle.gb_alone.specs.declared.event.GroupEvent.{GroupEvent}
-use Rattle.gb_alone.specs.declared.event.GroupEvent.TheVariants.{Tenant, Make as AskMake, Open as AskOpen, Shut as AskShut, Say as AskSay, Fetch as AskFetch, Took, Came, Done as Acknowledged, Notice, Stop}
+use Rattle.gb_alone.specs.declared.event.GroupEvent.TheVariants.{Tenant, Make as AskMake, Open as AskOpen, Shut as AskShut, Drop as AskDrop, Say as AskSay, Fetch as AskFetch, Took, Came, Done as Acknowledged, Notice, Stop}
 use Rattle.gb_alone.specs.declared.event.GroupStep.{GroupStep}
 use Rattle.gb_rules.specs.declared.reserve.Reserve.{Reserve}
 
@@ -71,8 +66,10 @@ took_at x b count t taken lt here there = elim (eqb_tells x b) [
 
 shown_listed : (me : ℕ) (v : MemberValue) (m : Member) → StandsForMember v m → shown me (member_of v) ≡ shown me m
 shown_listed me v m h =
-    ap (λ (p : Phase). shown_of me p v.told v.spec) h.phase
-    ∙ (ap (λ (t : List GroupCall). shown_of me m.phase t v.spec) h.told ∙ ap (λ (s : Option Spec). shown_of me m.phase m.told s) h.spec)
+    ap (λ (p : Phase). shown_of me p v.told (member_of v).put (member_of v).done v.spec) h.phase
+    ∙ (ap (λ (t : List GroupCall). shown_of me m.phase t (member_of v).put (member_of v).done v.spec) h.told
+    ∙ (ap (λ (s : Option Spec). shown_of me m.phase m.told (member_of v).put (member_of v).done s) h.spec
+    ∙ shown_alike me m.phase m.told (member_of v).put m.put (member_of v).done m.done m.spec h.put h.done))
 
 by_both : (answer : Shown → Reply) (r r' : Option Reserve) (s s' : Option Shown) → r ≡ r' → s ≡ s' → by_tenant (λ _. on_made answer s) r ≡ by_tenant (λ _. on_made answer s') r'
 by_both answer r r' s s' e f = ap (λ (x : Option Reserve). by_tenant (λ _. on_made answer s) x) e ∙ ap (λ (x : Option Shown). by_tenant (λ _. on_made answer x) r') f
@@ -83,6 +80,7 @@ running_listed nodes number me (AskMake spec) v m h =
     ∙ ap (λ (s : Option Spec). by_tenant (make_answer nodes me number (is_some s) spec) m.reserve) h.spec
 running_listed nodes number me AskOpen v m h = by_both open_answer v.reserve m.reserve (shown me (member_of v)) (shown me m) h.reserve (shown_listed me v m h)
 running_listed nodes number me AskShut v m h = by_both shut_answer v.reserve m.reserve (shown me (member_of v)) (shown me m) h.reserve (shown_listed me v m h)
+running_listed nodes number me AskDrop v m h = by_both drop_answer v.reserve m.reserve (shown me (member_of v)) (shown me m) h.reserve (shown_listed me v m h)
 running_listed nodes number me (AskSay payload) v m h = by_both (λ s. say_answer s payload) v.reserve m.reserve (shown me (member_of v)) (shown me m) h.reserve (shown_listed me v m h)
 running_listed nodes number me (AskFetch from most) v m h = by_both (λ s. fetch_answer s from most) v.reserve m.reserve (shown me (member_of v)) (shown me m) h.reserve (shown_listed me v m h)
 running_listed nodes number me event v m h = refl
@@ -112,13 +110,31 @@ called_listed me c v m h = record {
       ∙ rows_listed me m.spec c m.told v.put m.put h.put b lt);
   taken = h.taken;
   size = h.size;
+  done = h.done;
+  rows = h.rows;
+  stopped = h.stopped;
+}
+
+dropped_listed : (v : MemberValue) (m : Member) → StandsForMember v m → StandsForMember (value_dropped v) (dropped m)
+dropped_listed v m h = record {
+  reserve = h.reserve;
+  spec = h.spec;
+  phase = refl;
+  told = h.told;
+  replies = h.replies;
+  put = λ b lt. get_numbers_below (carried_row v.taken v.put) NODES b [] lt ∙ (λ i. take (h.taken b lt i) (h.put b lt i));
+  taken = h.taken;
+  size = h.size;
+  done = h.done;
+  rows = h.rows;
   stopped = h.stopped;
 }
 
 did_listed : (me : NodeId) (event : GroupEvent) (reply : Reply) (v : MemberValue) (m : Member) → StandsForMember v m → StandsForMember (value_did me event reply v) (did me event reply m)
-did_listed me (AskMake spec) Done v m h = record { reserve = h.reserve; spec = refl; phase = h.phase; told = h.told; replies = h.replies; put = h.put; taken = h.taken; size = h.size; stopped = h.stopped }
-did_listed me AskOpen Done v m h = record { reserve = h.reserve; spec = h.spec; phase = refl; told = h.told; replies = h.replies; put = h.put; taken = h.taken; size = h.size; stopped = h.stopped }
-did_listed me AskShut Done v m h = record { reserve = h.reserve; spec = h.spec; phase = refl; told = h.told; replies = h.replies; put = h.put; taken = h.taken; size = h.size; stopped = h.stopped }
+did_listed me (AskMake spec) Done v m h = record { reserve = h.reserve; spec = refl; phase = h.phase; told = h.told; replies = h.replies; put = h.put; taken = h.taken; size = h.size; done = h.done; rows = h.rows; stopped = h.stopped }
+did_listed me AskOpen Done v m h = record { reserve = h.reserve; spec = h.spec; phase = refl; told = h.told; replies = h.replies; put = h.put; taken = h.taken; size = h.size; done = h.done; rows = h.rows; stopped = h.stopped }
+did_listed me AskShut Done v m h = record { reserve = h.reserve; spec = h.spec; phase = refl; told = h.told; replies = h.replies; put = h.put; taken = h.taken; size = h.size; done = h.done; rows = h.rows; stopped = h.stopped }
+did_listed me AskDrop Done v m h = dropped_listed v m h
 did_listed me (AskSay payload) (Said seq) v m h = called_listed me.number (Own (record { origin = me; seq = seq; payload = payload })) v m h
 did_listed me event reply v m h = h
 
@@ -134,6 +150,8 @@ commanded_listed me event reply v m h =
       put = next.put;
       taken = next.taken;
       size = next.size;
+      done = next.done;
+      rows = next.rows;
       stopped = next.stopped;
     }
 
@@ -141,14 +159,17 @@ either_listed : (b : Bool) (v w : MemberValue) (m n : Member) → StandsForMembe
 either_listed true v w m n h k = h
 either_listed false v w m n h k = k
 
+held_listed : (v : MemberValue) (m : Member) → StandsForMember v m → held_spec v.phase v.spec ≡ held_spec m.phase m.spec
+held_listed v m h = λ i. held_spec (h.phase i) (h.spec i)
+
 came_listed : (me : ℕ) (from : NodeId) (x : Entry) (v : MemberValue) (m : Member) → StandsForMember v m → StandsForMember (value_came me from x v) (item_came me from x m)
 came_listed me from x v m h =
-    let same = ap (λ (t : List GroupCall). falls me from.number x t v.spec) h.told ∙ ap (λ (s : Option Spec). falls me from.number x m.told s) h.spec in
+    let same = ap (λ (t : List GroupCall). falls me from.number x t (held_spec v.phase v.spec)) h.told ∙ ap (λ (s : Option Spec). falls me from.number x m.told s) (held_listed v m h) in
     let P : Bool → Type 0 = λ b. StandsForMember (if b then v else value_called me (Other from x) v) (item_came me from x m) in
-    subst P (sym same) (either_listed (falls me from.number x m.told m.spec) v (value_called me (Other from x) v) m (called me (Other from x) m) h (called_listed me (Other from x) v m h))
+    subst P (sym same) (either_listed (falls me from.number x m.told (held_spec m.phase m.spec)) v (value_called me (Other from x) v) m (called me (Other from x) m) h (called_listed me (Other from x) v m h))
 
 with_place : (v : MemberValue) (m : Member) (come : ℕ → List ℕ) → StandsForMember v m → StandsForMember v (record m { come = come })
-with_place v m come h = record { reserve = h.reserve; spec = h.spec; phase = h.phase; told = h.told; replies = h.replies; put = h.put; taken = h.taken; size = h.size; stopped = h.stopped }
+with_place v m come h = record { reserve = h.reserve; spec = h.spec; phase = h.phase; told = h.told; replies = h.replies; put = h.put; taken = h.taken; size = h.size; done = h.done; rows = h.rows; stopped = h.stopped }
 
 taken_in_listed : (me : ℕ) (from : NodeId) (place : ℕ) (item : Option Entry) (v : MemberValue) (m : Member) → StandsForMember v m → StandsForMember (value_taken_in me from item v) (taken_in me from place item m)
 taken_in_listed me from place None v m h = h
@@ -166,6 +187,36 @@ took_listed b count v m lt h = record {
   put = h.put;
   taken = λ x below. took_at x b count m.taken v.taken (omega (arith, h.size)) (h.taken b lt) (h.taken x below);
   size = length-set v.taken b (slice_index_or v.taken b 0 + count) ∙ h.size;
+  done = h.done;
+  rows = h.rows;
+  stopped = h.stopped;
+}
+
+done_at : (x b : ℕ) (more : List ℕ) (d : ℕ → List ℕ) (rows : List (List ℕ)) → b < length rows → get_or rows b [] ≡ d b → get_or rows x [] ≡ d x → get_or (slice_set rows b (more ++ get_or rows b [])) x [] ≡ (if nat_eq x b then more ++ d x else d x)
+done_at x b more d rows lt here there = elim (eqb_tells x b) [
+  | inl p ↦
+      ap (λ k. get_or (slice_set rows b (more ++ get_or rows b [])) k []) p.1
+      ∙ (get_or-set_same rows b (more ++ get_or rows b []) [] lt
+      ∙ (ap (λ ks. more ++ ks) here
+      ∙ (ap (λ k. more ++ d k) (sym p.1)
+      ∙ ap (λ (e : Bool). if e then more ++ d x else d x) (sym p.0))))
+  | inr p ↦
+      get_or-set_other rows b x (more ++ get_or rows b []) [] p.1
+      ∙ (there ∙ ap (λ (e : Bool). if e then more ++ d x else d x) (sym p.0))
+]
+
+done_listed : (b : NodeId) (place count : ℕ) (v : MemberValue) (m : Member) → StandsForMember v m → StandsForMember (value_done b.number place count v) (item_done b place count m)
+done_listed b place count v m h = record {
+  reserve = h.reserve;
+  spec = h.spec;
+  phase = h.phase;
+  told = h.told;
+  replies = h.replies;
+  put = h.put;
+  taken = h.taken;
+  size = h.size;
+  done = λ x below. done_at x b.number (places place count) m.done v.done (omega (arith, h.rows, b.below)) (h.done b.number b.below) (h.done x below);
+  rows = length-set v.done b.number (places place count ++ slice_index_or v.done b.number []) ∙ h.rows;
   stopped = h.stopped;
 }
 
@@ -202,6 +253,8 @@ cut_listed q v m h = record {
   put = λ b lt. cut_at b q.number v.taken m.taken v.put m.put (h.taken q.number q.below) (h.put q.number q.below) (h.put b lt);
   taken = h.taken;
   size = h.size;
+  done = h.done;
+  rows = h.rows;
   stopped = h.stopped;
 }
 
@@ -218,26 +271,26 @@ command_listed nodes number me event v m h =
 member_listed : (nodes number : ℕ) (me : NodeId) (event : GroupEvent) (vs : List MemberValue) (group : Group) → StandForMembers vs group → StandsForMember (value_after nodes number me event vs) (member_after nodes number me event group)
 member_listed nodes number me (Tenant reserve) vs group h =
     let here = h.members me.number me.below in
-    record { reserve = refl; spec = here.spec; phase = here.phase; told = here.told; replies = here.replies; put = here.put; taken = here.taken; size = here.size; stopped = here.stopped }
+    record { reserve = refl; spec = here.spec; phase = here.phase; told = here.told; replies = here.replies; put = here.put; taken = here.taken; size = here.size; done = here.done; rows = here.rows; stopped = here.stopped }
 member_listed nodes number me (Took b count) vs group h = took_listed b.number count (value_at vs me.number) (group me.number) b.below (h.members me.number me.below)
 member_listed nodes number me (Came from place) vs group h =
     let P : List Entry → Type 0 = λ row. StandsForMember (value_taken_in me.number from (slice_get row (place - 1)) (value_at vs me.number)) (member_after nodes number me (Came from place) group) in
     subst P (sym ((h.members from.number from.below).put me.number me.below))
     (taken_in_listed me.number from place (slice_get ((group from.number).put me.number) (place - 1)) (value_at vs me.number) (group me.number) (h.members me.number me.below))
-member_listed nodes number me (Acknowledged b place count) vs group h =
-    let here = h.members me.number me.below in
-    record { reserve = here.reserve; spec = here.spec; phase = here.phase; told = here.told; replies = here.replies; put = here.put; taken = here.taken; size = here.size; stopped = here.stopped }
+member_listed nodes number me (Acknowledged b place count) vs group h = done_listed b place count (value_at vs me.number) (group me.number) (h.members me.number me.below)
 member_listed nodes number me (Notice q) vs group h =
     let v : MemberValue = value_at vs me.number in
-    let next = subst (λ (o : Option Spec). StandsForMember (value_noticed me.number q o v) (took_notice me.number q (group me.number).spec (group me.number))) (sym (h.members me.number me.below).spec)
-    (notice_listed me.number q (group me.number).spec v (group me.number) (h.members me.number me.below)) in
-    record { reserve = next.reserve; spec = next.spec; phase = next.phase; told = next.told; replies = next.replies; put = next.put; taken = next.taken; size = next.size; stopped = next.stopped }
+    let m : Member = group me.number in
+    let next = subst (λ (o : Option Spec). StandsForMember (value_noticed me.number q o v) (took_notice me.number q (held_spec m.phase m.spec) m)) (sym (held_listed v m (h.members me.number me.below)))
+    (notice_listed me.number q (held_spec m.phase m.spec) v m (h.members me.number me.below)) in
+    record { reserve = next.reserve; spec = next.spec; phase = next.phase; told = next.told; replies = next.replies; put = next.put; taken = next.taken; size = next.size; done = next.done; rows = next.rows; stopped = next.stopped }
 member_listed nodes number me Stop vs group h =
     let here = h.members me.number me.below in
-    record { reserve = here.reserve; spec = here.spec; phase = here.phase; told = here.told; replies = here.replies; put = here.put; taken = here.taken; size = here.size; stopped = refl }
+    record { reserve = here.reserve; spec = here.spec; phase = here.phase; told = here.told; replies = here.replies; put = here.put; taken = here.taken; size = here.size; done = here.done; rows = here.rows; stopped = refl }
 member_listed nodes number me (AskMake spec) vs group h = command_listed nodes number me (AskMake spec) (value_at vs me.number) (group me.number) (h.members me.number me.below)
 member_listed nodes number me AskOpen vs group h = command_listed nodes number me AskOpen (value_at vs me.number) (group me.number) (h.members me.number me.below)
 member_listed nodes number me AskShut vs group h = command_listed nodes number me AskShut (value_at vs me.number) (group me.number) (h.members me.number me.below)
+member_listed nodes number me AskDrop vs group h = command_listed nodes number me AskDrop (value_at vs me.number) (group me.number) (h.members me.number me.below)
 member_listed nodes number me (AskSay payload) vs group h = command_listed nodes number me (AskSay payload) (value_at vs me.number) (group me.number) (h.members me.number me.below)
 member_listed nodes number me (AskFetch from most) vs group h = command_listed nodes number me (AskFetch from most) (value_at vs me.number) (group me.number) (h.members me.number me.below)
 
@@ -275,6 +328,8 @@ new_listed x = record {
   put = λ b lt. refl;
   taken = λ b lt. get_or-replicate NODES b 0 0 lt;
   size = refl;
+  done = λ b lt. get_or-replicate NODES b [] [] lt;
+  rows = refl;
   stopped = refl;
 }
 

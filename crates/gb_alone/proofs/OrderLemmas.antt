@@ -1,13 +1,14 @@
 -- The order of each origin's messages in the logs of a group.
-use Rattle.std.proofs.Common.{ℕ, List, length, Option, Some, None, sym, subst}
+use Rattle.std.proofs.Common.{ℕ, Bool, true, false, List, [], Option, Some, None, refl, sym, subst}
 use Rattle.std.specs.FinSet as set
+use Rattle.std.specs.Prelude.{if◌then◌else◌}
 use Rattle.gb_types.specs.declared.spec.Spec.{Spec}
 use Rattle.gb_fifo.specs.Order.{RunsFromOne}
 use Rattle.gb_stack.proofs.DeliveryLemmas.{kind_log_in_order}
 use Rattle.gb_history.specs.History.{calls_of}
 use Rattle.gb_history.specs.declared.call.GroupCall.{GroupCall}
+use Rattle.gb_rules.specs.Group.{is_gone}
 use Rattle.gb_alone.specs.Alone.{alone, log_at}
-use Rattle.gb_alone.specs.declared.event.GroupStep.{GroupStep}
 use Rattle.gb_alone.specs.Laws.{KeepsOrder, IsInOrder}
 use Rattle.gb_alone.proofs.KnownLemmas.{messages-log}
 
@@ -15,5 +16,13 @@ log_in_order : (me : ℕ) (o : Option Spec) (told : List GroupCall) → KeepsOrd
 log_in_order me None told = tt
 log_in_order me (Some spec) told = λ fifo. subst RunsFromOne (sym (messages-log spec me told)) (kind_log_in_order spec.kind me (set.items spec.members) (calls_of told) fifo)
 
+empty_in_order : (o : Option Spec) → KeepsOrder o []
+empty_in_order None = tt
+empty_in_order (Some spec) = λ fifo s. refl
+
+held_in_order : (me : ℕ) (gone : Bool) (o : Option Spec) (told : List GroupCall) → KeepsOrder o (log_at me (if gone then None else o) told)
+held_in_order me true o told = empty_in_order o
+held_in_order me false o told = log_in_order me o told
+
 pub in_order : IsInOrder
-in_order nodes number steps legal b = log_in_order b (alone nodes number steps b).spec (alone nodes number steps b).told
+in_order nodes number steps legal b = held_in_order b (is_gone (alone nodes number steps b).phase) (alone nodes number steps b).spec (alone nodes number steps b).told

@@ -1,7 +1,7 @@
 -- One group, by itself: no links, frames, packets or other groups. Histories have the newest first.
 use Rattle.std.specs.Prelude.{ℕ, zero, suc, ◌+◌, ◌-◌, ◌≡◌, ◌≤◌, ◌<◌, ◌&&◌, ◌||◌, not, Bool, true, false, List, [], ◌∷◌, ◌++◌, length, fold, take, Option, Some, None, is_some, slice_get, nat_eq, if◌then◌else◌}
 use Rattle.std.specs.List.{list_all, list_any}
-use Rattle.std.specs.FinSet as set
+use Rattle.gb_types.specs.Rising.{rising}
 use Rattle.gb_types.specs.declared.entry.Entry.{Entry}
 use Rattle.gb_types.specs.declared.node.NodeId.{NodeId}
 use Rattle.gb_types.specs.declared.refusal.Refusal.TheVariants.{Stopped}
@@ -69,7 +69,7 @@ is_acknowledged me k put done = list_any (λ place. is_own me k (slice_get put (
 
 -- each other member is noticed, or acknowledged the message
 abbrev pub is_finished : Spec → ℕ → List GroupCall → (ℕ → List Entry) → (ℕ → List ℕ) → ℕ → Bool
-is_finished spec me told put done k = list_all (λ b. nat_eq b me || (was_noticed (calls_of told) b || is_acknowledged me k (put b) (done b))) (set.items spec.members)
+is_finished spec me told put done k = list_all (λ b. nat_eq b me || (was_noticed (calls_of told) b || is_acknowledged me k (put b) (done b))) (rising spec.members)
 
 -- how many of these numbers, from k on, do not pass the test
 unfoldable pub count_unfinished : (ℕ → Bool) → ℕ → ℕ → ℕ

@@ -1,6 +1,5 @@
 -- What is seen of a group at its nodes: the replies to its commands, and its items that are carried.
-use Rattle.std.specs.Prelude.{ℕ, zero, suc, List, [], ◌∷◌, ◌++◌, map, reverse, take}
-use Rattle.gb_types.specs.declared.address.Addr.{Addr}
+use Rattle.std.specs.Prelude.{ℕ, zero, suc, List, [], ◌∷◌, ◌++◌, map, take}
 use Rattle.gb_types.specs.declared.entry.Entry.{Entry}
 use Rattle.gb_types.specs.declared.reply.Reply.{Reply}
 use Rattle.gb_alone.specs.Alone.{Group}

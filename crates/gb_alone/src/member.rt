@@ -205,6 +205,7 @@ impl Member {
     }
 
     /// How many own messages from a number on, so many, are unfinished.
+    #[tactic(auto, unfolding(crate::specs::Alone::count_unfinished))]
     fn unfinished(&self, spec: &Spec, me: NodeId, calls: &[Call], seq: u32, count: u32) -> u32
         requires calls { calls.now ≡ calls_of self.now.told }
         requires last { seq + count ≤ 65_536 }

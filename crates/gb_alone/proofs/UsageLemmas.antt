@@ -1,0 +1,47 @@
+-- How much of its spec a member has used, read at the nodes of a cluster alone.
+use Rattle.std.proofs.Common.{◌≡◌, ℕ, zero, suc, ◌+◌, ◌<◌, Bool, true, false, ◌&&◌, ◌||◌, nat_eq, List, ◌∷◌, Option, Some, None, refl, sym, ap, ◌∙◌, cond, arith}
+use Rattle.std.specs.Prelude.{if◌then◌else◌}
+use Rattle.std.specs.List.{list_all}
+use Rattle.std.specs.Ordering.{nat_cmp}
+use Rattle.std.specs.FinSet as set
+use Rattle.gb_types.specs.declared.entry.Entry.{Entry}
+use Rattle.gb_types.specs.declared.limits.TheConstants.{NODES}
+use Rattle.gb_types.specs.declared.spec.Spec.{Spec}
+use Rattle.gb_types.specs.Rising.{rising, rising_from}
+use Rattle.gb_types.proofs.RisingLemmas.{rising_from-step, rising_from-end, rising_from-start}
+use Rattle.gb_history.specs.History.{calls_of, said_in, bytes_in, log_of}
+use Rattle.gb_history.specs.declared.call.GroupCall.{GroupCall}
+use Rattle.gb_layer.specs.Machine.{was_noticed}
+use Rattle.gb_rules.specs.declared.phase.Phase.{Phase}
+use Rattle.gb_alone.specs.Alone.{is_acknowledged, is_finished, count_unfinished, shown_of}
+
+-- tests that agree on the nodes agree on the nodes of a set
+all_from : (s : set.FinSet nat_cmp) (p q : ℕ → Bool) → ((b : ℕ) → b < NODES → p b ≡ q b) → (n i : ℕ) → n + i ≡ NODES → list_all p (rising_from s i) ≡ list_all q (rising_from s i)
+all_from s p q same zero i end = ap (list_all p) (rising_from-end s i (omega (arith, end))) ∙ sym (ap (list_all q) (rising_from-end s i (omega (arith, end))))
+all_from s p q same (suc n) i end =
+    let within : i < NODES = omega (arith, end) in
+    ap (list_all p) (rising_from-step s i within)
+    ∙ (go (set.contains s i) (same i within) (all_from s p q same n (i + 1) (omega (arith, end)))
+    ∙ sym (ap (list_all q) (rising_from-step s i within)))
+  where
+    go : (c : Bool) → p i ≡ q i → list_all p (rising_from s (i + 1)) ≡ list_all q (rising_from s (i + 1)) → list_all p (cond c (i ∷ rising_from s (i + 1)) (rising_from s (i + 1))) ≡ list_all q (cond c (i ∷ rising_from s (i + 1)) (rising_from s (i + 1)))
+    go true here rest = λ k. here k && rest k
+    go false here rest = rest
+
+pub all_alike : (s : set.FinSet nat_cmp) (p q : ℕ → Bool) → ((b : ℕ) → b < NODES → p b ≡ q b) → list_all p (rising s) ≡ list_all q (rising s)
+all_alike s p q same = ap (list_all p) (sym (rising_from-start s)) ∙ (all_from s p q same NODES 0 refl ∙ ap (list_all q) (rising_from-start s))
+
+-- tests that agree on numbers from k on count the same there
+pub count_alike : (p q : ℕ → Bool) → ((k : ℕ) → p k ≡ q k) → (k n : ℕ) → count_unfinished p k n ≡ count_unfinished q k n
+unfolding count_unfinished
+count_alike p q same k zero = refl
+count_alike p q same k (suc n) = λ i. (if same k i then 0 else 1) + count_alike p q same (k + 1) n i
+
+-- items and marks that agree at the nodes show the same
+pub shown_alike : (me : ℕ) (phase : Phase) (told : List GroupCall) (put row : ℕ → List Entry) (done marks : ℕ → List ℕ) (o : Option Spec) → ((b : ℕ) → b < NODES → put b ≡ row b) → ((b : ℕ) → b < NODES → done b ≡ marks b) → shown_of me phase told put done o ≡ shown_of me phase told row marks o
+shown_alike me phase told put row done marks None same alike = refl
+shown_alike me phase told put row done marks (Some spec) same alike =
+    let counts = count_alike (is_finished spec me told put done) (is_finished spec me told row marks)
+    (λ k. all_alike spec.members (λ b. nat_eq b me || (was_noticed (calls_of told) b || is_acknowledged me k (put b) (done b))) (λ b. nat_eq b me || (was_noticed (calls_of told) b || is_acknowledged me k (row b) (marks b)))
+    (λ b lt i. nat_eq b me || (was_noticed (calls_of told) b || is_acknowledged me k (same b lt i) (alike b lt i)))) 1 (said_in told) in
+    λ i. Some (record { spec = spec; phase = phase; usage = record { said = said_in told; bytes = bytes_in told me; unfinished = counts i }; log = log_of spec me told })

@@ -1,0 +1,14 @@
+use Rattle.std.proofs.Common.{◌≡◌, ◌||◌, nat_eq, [], ℕ, Bool}
+use Rattle.std.specs.Prelude.{slice_index_or}
+use Rattle.std.specs.List.{list_all}
+use Rattle.gb_types.specs.Rising.{rising}
+use Rattle.gb_history.specs.History.{calls_of}
+use Rattle.gb_layer.specs.Machine.{was_noticed}
+use Rattle.gb_alone.specs.Alone.{is_acknowledged}
+use Rattle.gb_alone.proofs.member.Member.is_finished.Given as goal
+
+-- what is left decides
+abbrev pub invariant-loop-b : goal.invariant-loop-b
+invariant-loop-b l =
+    let test : ℕ → Bool = λ b. nat_eq b l.me.number || (was_noticed (calls_of l.self.told) b || is_acknowledged l.me.number l.seq (slice_index_or l.self.put b []) (slice_index_or l.self.done b [])) in
+    list_all test l.b-iterator ≡ list_all test (rising l.spec.members)
