@@ -9,7 +9,6 @@ ghost use Rattle.gb_rules.specs.Replied.{done_reply, said_reply, log_reply, IsRe
 ghost use Rattle.gb_rules.specs.Group.{is_member, is_other, open_answer, shut_answer, say_answer, fetch_answer};
 ghost use Rattle.gb_rules.specs.LetFall.{is_let_fall};
 
-
 use crate::store::Store;
 use crate::window::{acknowledge, add_said, count_unfinished};
 use gb_layer::effects::{Effects, Up};
