@@ -6,7 +6,7 @@ ghost use Rattle.std.specs.List.{list_any};
 ghost use Rattle.gb_layer.specs.Machine.{is_up, messages};
 ghost use Rattle.gb_history.specs.Messages.{entry_in};
 ghost use Rattle.gb_rules.specs.Replied.{done_reply, said_reply, log_reply, IsReply};
-ghost use Rattle.gb_rules.specs.Group.{is_member, is_other, open_answer, shut_answer, say_answer, fetch_answer};
+ghost use Rattle.gb_rules.specs.Group.{is_gone, is_member, is_other, open_answer, shut_answer, say_answer, fetch_answer};
 ghost use Rattle.gb_rules.specs.LetFall.{is_let_fall};
 
 use crate::store::Store;
@@ -56,6 +56,7 @@ impl Model for Slot {
     ghost use Rattle.std.specs.Prelude.{◌≡◌, ◌≤◌, ◌+◌, vec_len, vec_capacity};
     ghost use Rattle.gb_types.specs.declared.limits.TheConstants.{MESSAGES, BYTES};
     ghost use Rattle.gb_slot.specs.Slot.{unfinished_of};
+    ghost use Rattle.gb_rules.specs.Group.{is_gone};
     ghost use Rattle.gb_stack.specs.StackRoom.{stack_room};
     ghost use Rattle.gb_layer.specs.Machine.{messages};
     ghost use Rattle.gb_layer.specs.Room.{free_sends, free_ups};
@@ -70,7 +71,7 @@ impl Model for Slot {
 
     ghost view = { λ s. record { state = record { spec = s.spec; me = s.me; phase = s.phase; noticed = s.noticed; stack = ⟦<Stack as Layer>⟧.meaning s.stack; arrivals = s.arrivals.items; said = s.said; store = s.store.entries; log = messages s.effects.ups.items; outgoing = s.effects.sends.items; taken = s.taken; acknowledged = s.acknowledged.items }; calls = s.calls; bytes = s.store.bytes } };
 
-    ghost invariant = { λ s. (s.said ≤ s.spec.msgs) × (s.spec.msgs ≤ MESSAGES) × (s.spec.bytes ≤ BYTES) × (vec_len s.acknowledged ≡ s.said) × (s.unfinished ≡ unfinished_of s.spec s.noticed s.acknowledged.items) × (s.calls ≤ s.store.places) × (s.calls + vec_len s.arrivals ≤ vec_capacity s.arrivals) × (1 ≤ s.calls → stack_room s.stack (free_sends s.effects) (free_ups s.effects) s.calls) };
+    ghost invariant = { λ s. (is_gone s.phase ≡ false) × (s.said ≤ s.spec.msgs) × (s.spec.msgs ≤ MESSAGES) × (s.spec.bytes ≤ BYTES) × (vec_len s.acknowledged ≡ s.said) × (s.unfinished ≡ unfinished_of s.spec s.noticed s.acknowledged.items) × (s.calls ≤ s.store.places) × (s.calls + vec_len s.arrivals ≤ vec_capacity s.arrivals) × (1 ≤ s.calls → stack_room s.stack (free_sends s.effects) (free_ups s.effects) s.calls) };
 }
 
 impl Slot {
@@ -113,6 +114,7 @@ impl Slot {
     /// Opens the group for its member's messages. WrongPhase where it was opened before.
     pub fn open_group(&mut self) -> Result<(), Refusal>
         ensures answer { done_reply result ≡ open_answer (shown self.old.state) }
+        ensures present { is_gone self.old.state.phase ≡ false }
         ensures state { self.new.state ≡ slot_moved Phase.Opened (done_reply result) self.old.state }
         ensures room { (self.new.calls ≡ self.old.calls) × (self.new.bytes ≡ self.old.bytes) }
     {
@@ -124,6 +126,7 @@ impl Slot {
     /// Shuts the group: its member says nothing more. WrongPhase where it is not open.
     pub fn shut_group(&mut self) -> Result<(), Refusal>
         ensures answer { done_reply result ≡ shut_answer (shown self.old.state) }
+        ensures present { is_gone self.old.state.phase ≡ false }
         ensures state { self.new.state ≡ slot_moved Phase.Shut (done_reply result) self.old.state }
         ensures room { (self.new.calls ≡ self.old.calls) × (self.new.bytes ≡ self.old.bytes) }
     {
@@ -162,6 +165,7 @@ impl Slot {
     /// all, Window where too many messages are unfinished, in this order; OutOfMemory last.
     pub fn say(&mut self, payload: &[u8]) -> Result<u16, Refusal>
         ensures answer { IsReply (say_answer (shown self.old.state) payload.now) (said_reply result) }
+        ensures present { is_gone self.old.state.phase ≡ false }
         ensures state { self.new.state ≡ slot_said payload.now (said_reply result) self.old.state }
     {
         if let Err(why) = check_say(&self.spec, self.phase, self.usage(), payload) {
@@ -264,7 +268,8 @@ impl Slot {
     /// The log from a place on, `max` entries at most; places count from 0. BadPlace where the place is above
     /// the log's length, or more than 16 entries are asked for.
     pub fn fetch(&self, from: u32, max: u32) -> Result<Vec<Entry>, Refusal>
-        ensures { IsReply (fetch_answer (shown self.now.state) from max) (log_reply result) }
+        ensures answer { IsReply (fetch_answer (shown self.now.state) from max) (log_reply result) }
+        ensures present { is_gone self.now.state.phase ≡ false }
     {
         if is_bad_place(self.effects.ups.len(), from, max) {
             return Err(Refusal::BadPlace);
