@@ -85,12 +85,22 @@ fn stack(alloc: Global, kind: Kind, noticed: &NodeSet) -> Result<Stack, OutOfMem
     Stack::new(alloc, &spec, ME, noticed)
 }
 
+/// Whether the call was made.
+fn was_made(past: &[Call], call: Call) -> bool {
+    for made in past {
+        if *made == call {
+            return true;
+        }
+    }
+    false
+}
+
 /// Whether the caller may make the call after these, the newest first.
 fn may_come(past: &[Call], call: Call) -> bool {
-    let own_is_said = past.contains(&Call::Say(OWN));
+    let own_is_said = was_made(past, Call::Say(OWN));
     match call {
         Call::Say(_) => !own_is_said,
-        Call::Came(_, m) => !past.contains(&call) && (m != OWN || own_is_said),
+        Call::Came(_, m) => !was_made(past, call) && (m != OWN || own_is_said),
         Call::Notice(_) => true,
     }
 }
@@ -269,8 +279,25 @@ fn fifo_lazy_waits_and_relays(rt: HostRuntime) -> Result<(), Fail> {
     compare_turned(&rt, rt.alloc(), Kind::Lazy, &seen, &[SECOND, FIRST])
 }
 
-/// Compares what two copies of a message have a stack send and hand up that took its memory once. The last number
-/// that the limit allows is allowed.
+/// What the second of two calls gives, of a stack that started after these notices and took its memory once, for one
+/// message a member; none where that limit does not allow both.
+fn two(
+    alloc: Global,
+    kind: Kind,
+    noticed: &NodeSet,
+    first: Call,
+    second: Call,
+) -> Result<Option<Effects>, OutOfMemory> {
+    let mut layer = stack(alloc, kind, noticed)?;
+    let mut out = Effects::new(alloc);
+    if take_two(&mut layer, &members(), 1, first, second, &mut out)? {
+        Ok(Some(out))
+    } else {
+        Ok(None)
+    }
+}
+
+/// Compares what two copies of a message send and bring up with the plain program's answers.
 fn compare_two(
     rt: &impl Abort,
     alloc: Global,
@@ -278,10 +305,7 @@ fn compare_two(
     first: Call,
     second: Call,
 ) -> Result<(), Fail> {
-    let mut layer = stack(alloc, kind, &NodeSet::new())?;
-    let mut out = Effects::new(alloc);
-    let both = take_two(&mut layer, &members(), 1, first, second, &mut out)?;
-    assert!(rt; both);
+    let out = two(alloc, kind, &NodeSet::new(), first, second)?.ok_or("within the limit")?;
     let mut log = plain::log(alloc, kind, ME, &MEMBERS, &[first])?;
     for up in &out.ups {
         log.push(up.m)?;
@@ -294,25 +318,23 @@ fn compare_two(
     Ok(())
 }
 
-/// Whether a stack that starts after another node's notice, and took memory for one message a member, takes this call
-/// after the first.
-fn takes_beyond(alloc: Global, kind: Kind, first: Call, beyond: Call) -> Result<bool, OutOfMemory> {
-    let mut noticed = NodeSet::new();
-    noticed.insert(OTHER);
-    let mut layer = stack(alloc, kind, &noticed)?;
-    let mut out = Effects::new(alloc);
-    take_two(&mut layer, &members(), 1, first, beyond, &mut out)
-}
-
 /// Each stack, of a new node and of one that noticed another, takes its memory once: two copies of a message then
 /// send and bring up what the plain program says. The number after the last that the limit allows is not allowed.
 #[test]
 fn each_stack_takes_its_memory_once(rt: HostRuntime) -> Result<(), Fail> {
     let first = Call::Came(ORIGIN, FIRST);
+    let mut noticed = NodeSet::new();
+    noticed.insert(OTHER);
     for kind in KINDS {
         compare_two(&rt, rt.alloc(), kind, first, Call::Came(OTHER, FIRST))?;
-        let taken = takes_beyond(rt.alloc(), kind, first, Call::Came(ORIGIN, SECOND))?;
-        assert!(rt; !taken);
+        let beyond = two(
+            rt.alloc(),
+            kind,
+            &noticed,
+            first,
+            Call::Came(ORIGIN, SECOND),
+        )?;
+        assert!(rt; beyond.is_none());
     }
     Ok(())
 }
