@@ -4,7 +4,7 @@ use Rattle.std.specs.Result.{IfOk}
 use Rattle.std.specs.Option.{IfSome}
 use Rattle.gb_schedule.specs.declared.command.Command.{Command}
 use Rattle.gb_schedule.specs.declared.head.Head.{Head}
-use Rattle.gb_schedule.specs.declared.head.Head.TheVariants.{Cluster, Tenant, Make, Open, Shut, Say, Fetch, Pack, Again, Ack, Arrive, Tick, Stop}
+use Rattle.gb_schedule.specs.declared.head.Head.TheVariants.{Cluster, Tenant, Make, Open, Shut, Drop, Say, Fetch, Pack, Again, Ack, Arrive, Tick, Stop}
 use Rattle.gb_schedule.specs.Grammar.{Spells, IsCommandLine, IsInPlace}
 use Rattle.gb_schedule.proofs.CommandLemmas.{Finds}
 
@@ -16,9 +16,11 @@ spelt_in_place Tenant (Some nodes) command words s = rw s.command_is s.in_cluste
 spelt_in_place Make None command words s = absurd s
 spelt_in_place Make (Some nodes) command words s = rw s.command_is s.in_cluster
 spelt_in_place Open None command words s = absurd s
-spelt_in_place Shut None command words s = absurd s
 spelt_in_place Open (Some nodes) command words s = rw s.command_is s.in_cluster
+spelt_in_place Shut None command words s = absurd s
 spelt_in_place Shut (Some nodes) command words s = rw s.command_is s.in_cluster
+spelt_in_place Drop None command words s = absurd s
+spelt_in_place Drop (Some nodes) command words s = rw s.command_is s.in_cluster
 spelt_in_place Say None command words s = absurd s
 spelt_in_place Say (Some nodes) command words s = rw s.command_is s.in_cluster
 spelt_in_place Fetch None command words s = absurd s

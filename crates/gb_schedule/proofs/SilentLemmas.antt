@@ -2,7 +2,7 @@
 use Rattle.std.proofs.Common.{◌≡◌, ℕ, List, [], ◌∷◌, get_or, refl, sym, ap, ◌∙◌, arith}
 use Rattle.std.specs.List.{onto_first}
 use Rattle.gb_schedule.specs.declared.head.Head.{Head}
-use Rattle.gb_schedule.specs.declared.head.Head.TheVariants.{Cluster, Tenant, Make, Open, Shut, Say, Fetch, Pack, Again, Ack, Arrive, Tick, Stop}
+use Rattle.gb_schedule.specs.declared.head.Head.TheVariants.{Cluster, Tenant, Make, Open, Shut, Drop, Say, Fetch, Pack, Again, Ack, Arrive, Tick, Stop}
 use Rattle.gb_schedule.specs.Head.{head_word}
 use Rattle.gb_types.specs.Words.{words_of}
 use Rattle.gb_schedule.specs.Grammar.{SilentLinesSpellNothing}
@@ -14,6 +14,7 @@ head_word-letter Tenant = (λ is. omega (arith, is), λ is. omega (arith, is))
 head_word-letter Make = (λ is. omega (arith, is), λ is. omega (arith, is))
 head_word-letter Open = (λ is. omega (arith, is), λ is. omega (arith, is))
 head_word-letter Shut = (λ is. omega (arith, is), λ is. omega (arith, is))
+head_word-letter Drop = (λ is. omega (arith, is), λ is. omega (arith, is))
 head_word-letter Say = (λ is. omega (arith, is), λ is. omega (arith, is))
 head_word-letter Fetch = (λ is. omega (arith, is), λ is. omega (arith, is))
 head_word-letter Pack = (λ is. omega (arith, is), λ is. omega (arith, is))

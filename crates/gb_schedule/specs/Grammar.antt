@@ -9,7 +9,7 @@ use Rattle.gb_types.specs.declared.address.Addr.{Addr}
 use Rattle.gb_types.specs.declared.spec.Spec.{Spec}
 use Rattle.gb_types.specs.declared.spec.TenantRow.{TenantRow}
 use Rattle.gb_types.specs.declared.request.Request.{Request as AnyRequest}
-use Rattle.gb_types.specs.declared.request.Request.TheVariants.{AddTenant, Make, OpenGroup, ShutGroup, Say, Fetch}
+use Rattle.gb_types.specs.declared.request.Request.TheVariants.{AddTenant, Make, OpenGroup, ShutGroup, DropGroup, Say, Fetch}
 use Rattle.gb_schedule.specs.declared.command.Command.{Command}
 use Rattle.gb_schedule.specs.declared.command.Command.TheVariants.{Cluster, Request, Pack, Again, Ack, Arrive, Tick, Stop}
 use Rattle.gb_schedule.specs.declared.head.Head.{Head}
@@ -153,6 +153,7 @@ Spells heads.Tenant (Some nodes) command words = SpellsTenant nodes command word
 Spells heads.Make (Some nodes) command words = SpellsMake nodes command words
 Spells heads.Open (Some nodes) command words = SpellsNamed (OpenGroup no_token) nodes command words
 Spells heads.Shut (Some nodes) command words = SpellsNamed (ShutGroup no_token) nodes command words
+Spells heads.Drop (Some nodes) command words = SpellsNamed (DropGroup no_token) nodes command words
 Spells heads.Say (Some nodes) command words = SpellsSay nodes command words
 Spells heads.Fetch (Some nodes) command words = SpellsFetch nodes command words
 Spells heads.Pack (Some nodes) command words = SpellsPack nodes command words

@@ -1,7 +1,7 @@
 -- The words that lines of a schedule begin with.
 use Rattle.std.specs.Prelude.{ℕ, List, codes}
 use Rattle.gb_schedule.specs.declared.head.Head.{Head}
-use Rattle.gb_schedule.specs.declared.head.Head.TheVariants.{Cluster, Tenant, Make, Open, Shut, Say, Fetch, Pack, Again, Ack, Arrive, Tick, Stop}
+use Rattle.gb_schedule.specs.declared.head.Head.TheVariants.{Cluster, Tenant, Make, Open, Shut, Drop, Say, Fetch, Pack, Again, Ack, Arrive, Tick, Stop}
 
 -- the word for a head
 abbrev pub head_word : Head → List ℕ
@@ -10,6 +10,7 @@ head_word Tenant = codes "tenant"
 head_word Make = codes "make"
 head_word Open = codes "open"
 head_word Shut = codes "shut"
+head_word Drop = codes "drop"
 head_word Say = codes "say"
 head_word Fetch = codes "fetch"
 head_word Pack = codes "pack"

@@ -3,7 +3,7 @@ ghost use Rattle.std.specs.Prelude.{◌≡◌, ◌≤◌, ◌<◌, ◌↔◌, �
 ghost use Rattle.std.specs.Option.{ForSome};
 ghost use Rattle.gb_types.specs.declared.node.NodeId.{NodeId as TheNode};
 ghost use Rattle.gb_schedule.specs.declared.command.Command.{Command as TheCommand};
-ghost use Rattle.gb_types.specs.declared.request.Request.TheVariants.{OpenGroup, ShutGroup};
+ghost use Rattle.gb_types.specs.declared.request.Request.TheVariants.{OpenGroup, ShutGroup, DropGroup};
 ghost use Rattle.gb_schedule.specs.Grammar.{no_token, SpellsCluster, SpellsTenant, SpellsMake, SpellsNamed, SpellsSay, SpellsFetch, SpellsPack, SpellsAgain, SpellsAck, SpellsArrive, SpellsTick, SpellsStop, Spells, IsCommandLine, IsInPlace, IsSilent, SilentLinesSpellNothing};
 
 use crate::command::Command;
@@ -128,6 +128,20 @@ fn read_shut(nodes: u8, words: &[&[u8]]) -> Option<Command>
     let node = read_node(node, nodes)?;
     let address = read_address(tenant, group)?;
     Some(Command::Request(node, Request::ShutGroup(NO_TOKEN, address)))
+}
+
+// drop A T G
+fn read_drop(nodes: u8, words: &[&[u8]]) -> Option<Command>
+    requires { (1 ≤ nodes) × (nodes ≤ NODES) }
+    ensures { (command : TheCommand) → (result ≡ Some command)
+        ↔ SpellsNamed (DropGroup no_token) nodes command (map (λ word. word.now) words.now) }
+{
+    let [node, tenant, group] = words else {
+        return None;
+    };
+    let node = read_node(node, nodes)?;
+    let address = read_address(tenant, group)?;
+    Some(Command::Request(node, Request::DropGroup(NO_TOKEN, address)))
 }
 
 // say A T G PAYLOAD
@@ -271,6 +285,7 @@ fn read_arguments(
         Head::Make => Ok(read_make(nodes, arguments)),
         Head::Open => Ok(read_open(nodes, arguments)),
         Head::Shut => Ok(read_shut(nodes, arguments)),
+        Head::Drop => Ok(read_drop(nodes, arguments)),
         Head::Say => read_say(alloc, nodes, arguments),
         Head::Fetch => Ok(read_fetch(nodes, arguments)),
         Head::Pack => Ok(read_pack(nodes, arguments)),

@@ -122,6 +122,10 @@ fn read_arguments(
             Some(address) => Ok(Some(Request::ShutGroup(token, address))),
             None => Ok(None),
         },
+        Head::Drop => match read_named(arguments) {
+            Some(address) => Ok(Some(Request::DropGroup(token, address))),
+            None => Ok(None),
+        },
         Head::Say => read_say(alloc, token, arguments),
         Head::Fetch => Ok(read_fetch(token, arguments)),
     }

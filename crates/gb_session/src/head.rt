@@ -10,6 +10,7 @@ pub enum Head {
     Make,
     Open,
     Shut,
+    Drop,
     Say,
     Fetch,
 }
@@ -23,6 +24,7 @@ pub fn read_head(word: &[u8]) -> Option<Head>
         b"make" => Some(Head::Make),
         b"open" => Some(Head::Open),
         b"shut" => Some(Head::Shut),
+        b"drop" => Some(Head::Drop),
         b"say" => Some(Head::Say),
         b"fetch" => Some(Head::Fetch),
         _ => None,

@@ -14,6 +14,8 @@ pub enum Request {
     OpenGroup([u8; 32], Addr),
     /// Shuts an open group: nothing more is said in it here.
     ShutGroup([u8; 32], Addr),
+    /// Drops a group for good: its log and what waits are given up here.
+    DropGroup([u8; 32], Addr),
     /// Broadcasts a payload to the group.
     Say([u8; 32], Addr, Payload),
     /// Reads the group's log from a place on, so many entries at most.

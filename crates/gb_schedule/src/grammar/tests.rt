@@ -35,6 +35,9 @@ fn told_request(alloc: Global, request: &Request) -> Result<String, OutOfMemory>
         Request::ShutGroup(_, address) => {
             format!(in alloc; "shut {}/{}", address.tenant, address.group)?
         }
+        Request::DropGroup(_, address) => {
+            format!(in alloc; "drop {}/{}", address.tenant, address.group)?
+        }
         Request::Say(_, address, payload) => {
             format!(in alloc;
                 "say {}/{}: {:?}",
@@ -123,6 +126,7 @@ fn good_lines(rt: HostRuntime) -> Result<(), Fail> {
         ),
         ("open 1 0 65535", "at 1: open 0/65535"),
         ("shut 2 7 1", "at 2: shut 7/1"),
+        ("drop 0 65535 0", "at 0: drop 65535/0"),
         ("say 0 7 1 -", "at 0: say 7/1: []"),
         ("say 0 7 1 00fF6a", "at 0: say 7/1: [0, 255, 106]"),
         (
@@ -169,6 +173,10 @@ fn bad_lines(rt: HostRuntime) -> Result<(), Fail> {
         "open 3 7 1",
         "shut 3 7 1",
         "shut 0 7",
+        "drop 3 7 1",
+        "drop 0 7",
+        "drop 0 7 1 1",
+        "drops 0 7 1",
         "open 256 7 1",
         "open 0 65536 1",
         "open 0 7 65536",

@@ -23,6 +23,8 @@ const OPEN: &[u8] = b"open 0123456789abcdefABCDEF0123456789abcdefABCDEF012345678
 
 const SHUT: &[u8] = b"shut 0123456789abcdefABCDEF0123456789abcdefABCDEF0123456789abcdefABCD 7 1";
 
+const DROP: &[u8] = b"drop 0123456789abcdefABCDEF0123456789abcdefABCDEF0123456789abcdefABCD 7 1";
+
 const SAY: &[u8] =
     b"say 0123456789abcdefABCDEF0123456789abcdefABCDEF0123456789abcdefABCD 7 1 C0fFEe";
 
@@ -90,6 +92,10 @@ fn each_head_spells_its_request(rt: HostRuntime) -> Result<(), Fail> {
     assert_eq!(rt; (token, address), (BYTES, GROUP));
     let Request::ShutGroup(token, address) = parse_request(alloc, SHUT)? else {
         panic!(rt; "shut");
+    };
+    assert_eq!(rt; (token, address), (BYTES, GROUP));
+    let Request::DropGroup(token, address) = parse_request(alloc, DROP)? else {
+        panic!(rt; "drop");
     };
     assert_eq!(rt; (token, address), (BYTES, GROUP));
     let Request::Say(token, address, payload) = parse_request(alloc, SAY)? else {
