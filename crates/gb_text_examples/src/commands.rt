@@ -2,7 +2,13 @@
 ghost use Rattle.std.specs.Prelude.{◌≤◌};
 ghost use Rattle.std.specs.Option.{ForSome};
 
-use super::*;
+use gb_schedule::command::Command;
+use gb_schedule::grammar::{is_silent, read_command};
+use gb_types::limits::NODES;
+use gb_types::memory::OutOfMemory;
+use gb_types::node::NodeId;
+use gb_types::request::Request;
+use std::alloc::Global;
 use std::test::Fail;
 
 /// What a request asks for.
@@ -104,11 +110,8 @@ fn the_first_line(rt: HostRuntime) -> Result<(), Fail> {
         ("stop 0", "bad"),
     ];
     for (line, asked) in lines {
-        assert_eq!(rt;
-            told(rt.alloc(), None, line.as_bytes())?.as_str(),
-            asked,
-            "{line:?}"
-        );
+        let found = told(rt.alloc(), None, line.as_bytes())?;
+        assert!(rt; found.as_str() == asked);
     }
     Ok(())
 }
@@ -156,11 +159,8 @@ fn good_lines(rt: HostRuntime) -> Result<(), Fail> {
         ),
     ];
     for (line, asked) in lines {
-        assert_eq!(rt;
-            told(rt.alloc(), Some(3), line.as_bytes())?.as_str(),
-            asked,
-            "{line:?}"
-        );
+        let found = told(rt.alloc(), Some(3), line.as_bytes())?;
+        assert!(rt; found.as_str() == asked);
         assert!(rt; !is_silent(line.as_bytes()));
     }
     Ok(())
@@ -238,11 +238,8 @@ fn bad_lines(rt: HostRuntime) -> Result<(), Fail> {
         " ",
     ];
     for line in lines {
-        assert_eq!(rt;
-            told(rt.alloc(), Some(3), line.as_bytes())?.as_str(),
-            "bad",
-            "{line:?}"
-        );
+        let found = told(rt.alloc(), Some(3), line.as_bytes())?;
+        assert!(rt; found.as_str() == "bad");
     }
     Ok(())
 }
@@ -250,9 +247,9 @@ fn bad_lines(rt: HostRuntime) -> Result<(), Fail> {
 #[test]
 fn silent_lines(rt: HostRuntime) {
     for line in ["", "#", "# open 0 7 1", "#\r"] {
-        assert!(rt; is_silent(line.as_bytes()), "{line:?}");
+        assert!(rt; is_silent(line.as_bytes()));
     }
     for line in [" ", " #", "open 0 7 1", "\r"] {
-        assert!(rt; !is_silent(line.as_bytes()), "{line:?}");
+        assert!(rt; !is_silent(line.as_bytes()));
     }
 }
