@@ -1,5 +1,5 @@
-//! Worked uses of the crates that a cluster is made of, and of those that stand ready for the servers, as tests:
-//! published values, limits, and what the plain programs compute. There is nothing here but tests.
+//! Worked uses of capabilities, packets and the crash detector, as tests: published values, and each limit at its last
+//! allowed and first refused value. There is nothing here but tests.
 #![tactic(auto)]
 
 #[cfg(test)]
@@ -7,10 +7,4 @@ mod capabilities;
 #[cfg(test)]
 mod detector;
 #[cfg(test)]
-mod layers;
-#[cfg(test)]
-mod order;
-#[cfg(test)]
 mod packets;
-#[cfg(test)]
-mod stacks;
