@@ -1,6 +1,9 @@
 //! Readers over memory that give a text in pieces, and the lines that come of it.
-use super::*;
-use std::alloc::AllocError;
+use gb_schedule::lines::{LineBuffer, LinesFault, NextLine};
+use gb_types::memory::OutOfMemory;
+use std::alloc::{AllocError, Global};
+use std::io::{ErrorKind, Read};
+use std::process::Abort;
 use std::test::Fail;
 use std::{cmp, io};
 
@@ -91,13 +94,10 @@ fn lines_in_any_pieces(rt: HostRuntime) -> Result<(), Fail> {
     for (text, lines) in texts {
         for piece in [1, 2, 3, 7, 65_536] {
             let given = shown(rt.alloc(), &mut in_pieces(text.as_bytes(), piece))?;
-            assert_eq!(rt; given.as_str(), lines, "{text:?} in pieces of {piece}");
+            assert!(rt; given.as_str() == lines);
         }
-        assert_eq!(rt;
-            shown(rt.alloc(), &mut text.as_bytes())?.as_str(),
-            lines,
-            "{text:?} from a slice"
-        );
+        let given = shown(rt.alloc(), &mut text.as_bytes())?;
+        assert!(rt; given.as_str() == lines);
     }
     Ok(())
 }
@@ -114,9 +114,22 @@ fn a_failed_read_is_a_fault_and_an_interrupted_one_is_made_again(
         reader.failing = 2;
         reader.kind = kind;
         let given = shown(rt.alloc(), &mut reader)?;
-        assert_eq!(rt; given.as_str(), lines);
+        assert!(rt; given.as_str() == lines);
     }
     Ok(())
+}
+
+/// The next line is told so, and then this line stands.
+fn gives<R: Read>(
+    rt: &impl Abort,
+    lines: &mut LineBuffer,
+    reader: &mut R,
+    told: Result<NextLine, LinesFault>,
+    line: &[u8],
+) {
+    let found = lines.next(reader);
+    assert!(rt; found == told);
+    assert!(rt; lines.line() == line);
 }
 
 #[test]
@@ -124,14 +137,16 @@ fn nothing_is_lost_at_a_failed_read(rt: HostRuntime) -> Result<(), Fail> {
     let mut reader = in_pieces(b"ab\nc", 1);
     reader.failing = 1;
     let mut lines = LineBuffer::new(rt.alloc())?;
-    assert_eq!(rt; lines.next(&mut reader), Err(LinesFault::Read));
-    assert_eq!(rt; lines.next(&mut reader), Ok(NextLine::Given));
-    assert_eq!(rt; lines.line(), b"ab".as_slice());
-    assert_eq!(rt; lines.next(&mut reader), Ok(NextLine::Given));
-    assert_eq!(rt; lines.line(), b"c".as_slice());
-    assert_eq!(rt; lines.next(&mut reader), Ok(NextLine::End));
-    assert_eq!(rt; lines.next(&mut reader), Ok(NextLine::End));
-    assert_eq!(rt; reader.reads, 6);
+    for (told, line) in [
+        (Err(LinesFault::Read), b"".as_slice()),
+        (Ok(NextLine::Given), b"ab"),
+        (Ok(NextLine::Given), b"c"),
+        (Ok(NextLine::End), b""),
+        (Ok(NextLine::End), b""),
+    ] {
+        gives(&rt, &mut lines, &mut reader, told, line);
+    }
+    assert!(rt; reader.reads == 6);
     Ok(())
 }
 
@@ -148,10 +163,7 @@ fn the_longest_line(rt: HostRuntime) -> Result<(), Fail> {
         let text = long_line(rt.alloc(), count)?;
         for piece in [7, 32_768, 65_536] {
             let given = shown(rt.alloc(), &mut in_pieces(&text, piece))?;
-            assert!(rt;
-                given.as_str().ends_with(ends),
-                "{count} in pieces of {piece}"
-            );
+            assert!(rt; given.as_str().ends_with(ends));
         }
     }
     Ok(())
@@ -162,21 +174,45 @@ fn the_longest_line_without_its_line_feed(rt: HostRuntime) -> Result<(), Fail> {
     for (count, ends) in [(32_768, "#|end"), (32_769, "too long")] {
         let text = vec![in rt.alloc(); b'#'; count]?;
         let given = shown(rt.alloc(), &mut in_pieces(&text, 1_000))?;
-        assert!(rt; given.as_str().ends_with(ends), "{count}");
+        assert!(rt; given.as_str().ends_with(ends));
     }
     Ok(())
 }
 
-// The count of reads is set, since as many reads take long.
+/// Is interrupted so many times, and then gives a text byte by byte.
+#[derive(Drop)]
+struct Interrupted<'a> {
+    left: u64,
+    text: &'a [u8],
+}
+
+impl Read for Interrupted<'_> {
+    fn read(&mut self, buf: &mut [u8]) -> io::Result<usize> {
+        if self.left > 0 {
+            self.left -= 1;
+            return Err(ErrorKind::Interrupted.into());
+        }
+        let text = self.text;
+        let count = cmp::min(cmp::min(1, text.len()), buf.len());
+        buf[..count].copy_from_slice(&text[..count]);
+        self.text = &text[count..];
+        Ok(count)
+    }
+}
+
+/// A read that was interrupted counts; the line takes three reads more.
 #[test]
 fn as_many_reads_as_are_allowed(rt: HostRuntime) -> Result<(), Fail> {
-    for (made, shown) in [
-        (63_999_997, Ok(NextLine::Given)),
-        (63_999_998, Err(LinesFault::TooManyReads)),
+    for (left, told, line) in [
+        (63_999_997, Ok(NextLine::Given), b"ab".as_slice()),
+        (63_999_998, Err(LinesFault::TooManyReads), b""),
     ] {
         let mut lines = LineBuffer::new(rt.alloc())?;
-        lines.reads = made;
-        assert_eq!(rt; lines.next(&mut in_pieces(b"ab\n", 1)), shown);
+        let mut reader = Interrupted {
+            left,
+            text: b"ab\n",
+        };
+        gives(&rt, &mut lines, &mut reader, told, line);
     }
     Ok(())
 }

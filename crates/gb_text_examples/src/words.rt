@@ -1,19 +1,19 @@
 //! Words and texts as they stand in requests, schedules and replies.
-use crate::entry::{Entries, Entry};
-use crate::kind::Kind;
-use crate::kind_word::read_kind;
-use crate::laws;
-use crate::limits::NODES;
-use crate::members_word::read_members;
-use crate::memory::OutOfMemory;
-use crate::node::{NodeId, NodeSet};
-use crate::number::{put_number, read_number};
-use crate::payload::Payload;
-use crate::payload_word::{put_payload, read_payload};
-use crate::refusal::Refusal;
-use crate::reply::Reply;
-use crate::reply_text::reply_text;
-use crate::spec::Spec;
+use gb_types::entry::{Entries, Entry};
+use gb_types::kind::Kind;
+use gb_types::kind_word::read_kind;
+use gb_types::laws;
+use gb_types::limits::NODES;
+use gb_types::members_word::read_members;
+use gb_types::memory::OutOfMemory;
+use gb_types::node::{NodeId, NodeSet};
+use gb_types::number::{put_number, read_number};
+use gb_types::payload::Payload;
+use gb_types::payload_word::{put_payload, read_payload};
+use gb_types::refusal::Refusal;
+use gb_types::reply::Reply;
+use gb_types::reply_text::reply_text;
+use gb_types::spec::Spec;
 use std::alloc::Global;
 use std::process::Abort;
 use std::test::Fail;
@@ -36,7 +36,8 @@ fn numbers(alloc: Global, set: &NodeSet) -> Result<Vec<u8>, OutOfMemory> {
 
 // The text is that of the reply.
 fn is_written(rt: &impl Abort, alloc: Global, reply: Reply, text: &str) -> Result<(), OutOfMemory> {
-    assert_eq!(rt; reply_text(alloc, &reply)?.as_slice(), text.as_bytes());
+    let found = reply_text(alloc, &reply)?;
+    assert!(rt; found.as_slice() == text.as_bytes());
     Ok(())
 }
 
@@ -47,11 +48,14 @@ fn replies(rt: HostRuntime) -> Result<(), Fail> {
     is_written(&rt, alloc, Reply::Said(1), "said 1")?;
     is_written(&rt, alloc, Reply::Said(65_535), "said 65535")?;
     is_written(&rt, alloc, Reply::Log(Entries::new(alloc)), "log 0")?;
+    let first = entry(alloc, node(&rt, 0), 1, b"a")?;
+    let second = entry(alloc, node(&rt, 15), 1024, b"")?;
+    let third = entry(alloc, node(&rt, 2), 3, &[0, 10, 255])?;
     let mut entries = Entries::new(alloc);
-    entries.push(entry(alloc, node(&rt, 0), 1, b"a")?)?;
-    entries.push(entry(alloc, node(&rt, 15), 1024, b"")?)?;
-    entries.push(entry(alloc, node(&rt, 2), 3, &[0, 10, 255])?)?;
-    assert_eq!(rt; entries.len(), 3);
+    entries.push(first)?;
+    entries.push(second)?;
+    entries.push(third)?;
+    assert!(rt; entries.len() == 3);
     assert!(rt; !entries.is_empty());
     is_written(
         &rt,
@@ -96,32 +100,27 @@ fn refusals(rt: HostRuntime) -> Result<(), Fail> {
 
 #[test]
 fn numbers_are_read(rt: HostRuntime) {
-    assert_eq!(rt; read_number(b"0", 0), Some(0));
-    assert_eq!(rt; read_number(b"1", 0), None);
-    assert_eq!(rt; read_number(b"65535", 65_535), Some(65_535));
-    assert_eq!(rt; read_number(b"65536", 65_535), None);
-    assert_eq!(rt;
-        read_number(b"18446744073709551615", u64::MAX),
-        Some(u64::MAX)
-    );
-    assert_eq!(rt; read_number(b"18446744073709551616", u64::MAX), None);
-    assert_eq!(rt;
-        read_number(b"100000000000000000000000000001", u64::MAX),
-        None
-    );
-    for word in [
-        b"".as_slice(),
-        b"00",
-        b"01",
-        b"+1",
-        b"-1",
-        b" 1",
-        b"1 ",
-        b"1a",
-        b"\xd9\xa1",
-        b"\xff",
+    for (word, max, number) in [
+        (b"0".as_slice(), 0, Some(0)),
+        (b"1", 0, None),
+        (b"65535", 65_535, Some(65_535)),
+        (b"65536", 65_535, None),
+        (b"18446744073709551615", u64::MAX, Some(u64::MAX)),
+        (b"18446744073709551616", u64::MAX, None),
+        (b"100000000000000000000000000001", u64::MAX, None),
+        (b"", u64::MAX, None),
+        (b"00", u64::MAX, None),
+        (b"01", u64::MAX, None),
+        (b"+1", u64::MAX, None),
+        (b"-1", u64::MAX, None),
+        (b" 1", u64::MAX, None),
+        (b"1 ", u64::MAX, None),
+        (b"1a", u64::MAX, None),
+        (b"\xd9\xa1", u64::MAX, None),
+        (b"\xff", u64::MAX, None),
     ] {
-        assert_eq!(rt; read_number(word, u64::MAX), None);
+        let found = read_number(word, max);
+        assert!(rt; found == number);
     }
 }
 
@@ -130,45 +129,43 @@ fn numbers_are_written(rt: HostRuntime) -> Result<(), Fail> {
     let mut text = Vec::from_slice(rt.alloc(), b"said ")?;
     put_number(&mut text, 0)?;
     put_number(&mut text, u64::MAX)?;
-    assert_eq!(rt; text.as_slice(), b"said 018446744073709551615".as_slice());
+    assert!(rt; text.as_slice() == b"said 018446744073709551615".as_slice());
     Ok(())
 }
 
 #[test]
 fn kinds(rt: HostRuntime) {
     for (word, kind) in [
-        (b"beb".as_slice(), Kind::Beb),
-        (b"lazy", Kind::Lazy),
-        (b"eager", Kind::Eager),
-        (b"allack", Kind::AllAck),
-        (b"fbeb", Kind::FifoBeb),
-        (b"flazy", Kind::FifoLazy),
-        (b"feager", Kind::FifoEager),
-        (b"fallack", Kind::FifoAllAck),
+        (b"beb".as_slice(), Some(Kind::Beb)),
+        (b"lazy", Some(Kind::Lazy)),
+        (b"eager", Some(Kind::Eager)),
+        (b"allack", Some(Kind::AllAck)),
+        (b"fbeb", Some(Kind::FifoBeb)),
+        (b"flazy", Some(Kind::FifoLazy)),
+        (b"feager", Some(Kind::FifoEager)),
+        (b"fallack", Some(Kind::FifoAllAck)),
+        (b"", None),
+        (b"f", None),
+        (b"be", None),
+        (b"bebb", None),
+        (b"Beb", None),
+        (b"beb ", None),
+        (b"fifo", None),
+        (b"ffbeb", None),
+        (b"lazyf", None),
+        (b"all-ack", None),
+        (b"fLazy", None),
     ] {
-        assert_eq!(rt; read_kind(word), Some(kind));
-    }
-    for word in [
-        b"".as_slice(),
-        b"f",
-        b"be",
-        b"bebb",
-        b"Beb",
-        b"beb ",
-        b"fifo",
-        b"ffbeb",
-        b"lazyf",
-        b"all-ack",
-        b"fLazy",
-    ] {
-        assert_eq!(rt; read_kind(word), None);
+        let found = read_kind(word);
+        assert!(rt; found == kind);
     }
 }
 
 // The word spells the members with these numbers.
 fn spells(rt: &impl Abort, alloc: Global, word: &[u8], members: &[u8]) -> Result<(), OutOfMemory> {
     let set = read_members(word).expect(rt, "members");
-    assert_eq!(rt; numbers(alloc, &set)?.as_slice(), members);
+    let found = numbers(alloc, &set)?;
+    assert!(rt; found.as_slice() == members);
     Ok(())
 }
 
@@ -199,7 +196,8 @@ fn members(rt: HostRuntime) -> Result<(), Fail> {
         b"+1",
         b"-",
     ] {
-        assert!(rt; read_members(word).is_none());
+        let found = read_members(word);
+        assert!(rt; found.is_none());
     }
     Ok(())
 }
@@ -212,7 +210,10 @@ fn carries(
     bytes: Option<&[u8]>,
 ) -> Result<(), OutOfMemory> {
     let found = read_payload(alloc, word)?;
-    assert_eq!(rt; found.as_ref().map(|bytes| bytes.as_slice()), bytes);
+    match (found, bytes) {
+        (Some(found), Some(bytes)) => assert!(rt; found.as_slice() == bytes),
+        (found, bytes) => assert!(rt; found.is_none() && bytes.is_none()),
+    }
     Ok(())
 }
 
@@ -238,61 +239,74 @@ fn payloads(rt: HostRuntime) -> Result<(), Fail> {
     let mut text = Vec::new(alloc);
     put_payload(&mut text, &[])?;
     put_payload(&mut text, &[0x0a, 0xff])?;
-    assert_eq!(rt; text.as_slice(), b"-0aff".as_slice());
+    assert!(rt; text.as_slice() == b"-0aff".as_slice());
     Ok(())
+}
+
+/// The nodes with these numbers.
+fn set(rt: &impl Abort, numbers: &[u8]) -> NodeSet {
+    let mut found = NodeSet::new();
+    for number in numbers {
+        found.insert(node(rt, *number));
+    }
+    found
+}
+
+/// The number of the first node of the set from this place on; 16 where there is none.
+fn next_number(set: &NodeSet, from: usize) -> u8 {
+    match set.next_from(from) {
+        Some(node) => node.number,
+        None => 16,
+    }
 }
 
 #[test]
 fn sets(rt: HostRuntime) -> Result<(), Fail> {
-    let alloc = rt.alloc();
-    let mut odd = NodeSet::new();
-    assert!(rt; odd.is_empty());
-    odd.insert(node(&rt, 3));
-    odd.insert(node(&rt, 1));
-    let mut low = NodeSet::new();
-    low.insert(node(&rt, 1));
-    low.insert(node(&rt, 0));
+    let none = NodeSet::new();
+    assert!(rt; none.is_empty());
+    let odd = set(&rt, &[3, 1]);
+    let low = set(&rt, &[1, 0]);
     assert!(rt; !odd.is_empty());
     assert!(rt; !low.is_subset(&odd));
     assert!(rt; odd.is_subset(&odd));
-    assert_eq!(rt; odd.count_in(&low), 1);
+    assert!(rt; odd.count_in(&low) == 1);
     let both = odd.union(&low);
-    assert_eq!(rt; numbers(alloc, &both)?.as_slice(), [0, 1, 3].as_slice());
+    let found = numbers(rt.alloc(), &both)?;
+    assert!(rt; found.as_slice() == [0, 1, 3].as_slice());
     assert!(rt; low.is_subset(&both));
-    assert!(rt; both.duplicate().is_covered(&odd, &low));
-    assert_eq!(rt; both.next_from(2).map(|node| node.number), Some(3));
-    assert_eq!(rt; both.next_from(4).map(|node| node.number), None);
-    assert_eq!(rt; both.next_from(NODES).map(|node| node.number), None);
+    let copy = both.duplicate();
+    assert!(rt; copy.is_covered(&odd, &low));
+    for (from, number) in [(2, 3), (4, 16), (NODES, 16)] {
+        assert!(rt; next_number(&both, from) == number);
+    }
     Ok(())
 }
 
 #[test]
-fn entries_and_specs(rt: HostRuntime) -> Result<(), Fail> {
+fn entries(rt: HostRuntime) -> Result<(), Fail> {
     let alloc = rt.alloc();
     let said = entry(alloc, node(&rt, 4), 7, b"hey")?;
     let copy = said.duplicate(alloc)?;
-    assert_eq!(rt; copy.message(), said.message());
-    assert_eq!(rt; copy.payload.as_slice(), b"hey".as_slice());
-    assert_eq!(rt;
-        said.payload.duplicate(alloc)?.into_vec().as_slice(),
-        b"hey".as_slice()
-    );
-    let mut members = NodeSet::new();
-    members.insert(node(&rt, 4));
+    assert!(rt; copy.message() == said.message());
+    assert!(rt; copy.payload.as_slice() == b"hey".as_slice());
+    let bytes = said.payload.duplicate(alloc)?.into_vec();
+    assert!(rt; bytes.as_slice() == b"hey".as_slice());
+    Ok(())
+}
+
+#[test]
+fn specs(rt: HostRuntime) {
     let spec = Spec {
         kind: Kind::Beb,
-        members,
+        members: set(&rt, &[4]),
         msgs: 8,
         bytes: 4096,
         window: 4,
     };
     let copy = spec.duplicate();
-    assert_eq!(rt;
-        (copy.kind, copy.msgs, copy.bytes, copy.window),
-        (Kind::Beb, 8, 4096, 4)
-    );
+    assert!(rt; copy.kind == Kind::Beb);
+    assert!(rt; copy.msgs == 8 && copy.bytes == 4096 && copy.window == 4);
     assert!(rt; copy.members.contains(node(&rt, 4)));
-    Ok(())
 }
 
 #[test]
@@ -304,9 +318,7 @@ fn what_is_written_reads_back(rt: HostRuntime) -> Result<(), Fail> {
     laws::payload_reads_back();
     let mut word = Vec::new(rt.alloc());
     put_number(&mut word, 4_294_967_295)?;
-    assert_eq!(rt;
-        laws::number_reads_back(word.as_slice(), 4_294_967_295, u64::MAX),
-        Some(4_294_967_295)
-    );
+    let found = laws::number_reads_back(word.as_slice(), 4_294_967_295, u64::MAX);
+    assert!(rt; found == Some(4_294_967_295));
     Ok(())
 }

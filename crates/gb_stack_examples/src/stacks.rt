@@ -1,11 +1,12 @@
+//! Each stack beside the plain program of its kind.
 ghost use Rattle.std.specs.Prelude.{IfOk};
 
-use crate::stack::Stack;
-use crate::{plain, stands};
 use gb_layer::call::Call;
-use gb_layer::effects::{Effects, Up};
+use gb_layer::effects::Effects;
 use gb_layer::layer::{Broadcast, Layer};
 use gb_layer::whole::take_two;
+use gb_stack::stack::Stack;
+use gb_stack::{plain, stands};
 use gb_types::kind::Kind;
 use gb_types::memory::OutOfMemory;
 use gb_types::message::MsgId;
@@ -84,12 +85,22 @@ fn stack(alloc: Global, kind: Kind, noticed: &NodeSet) -> Result<Stack, OutOfMem
     Stack::new(alloc, &spec, ME, noticed)
 }
 
+/// Whether the call was made.
+fn was_made(past: &[Call], call: Call) -> bool {
+    for made in past {
+        if *made == call {
+            return true;
+        }
+    }
+    false
+}
+
 /// Whether the caller may make the call after these, the newest first.
 fn may_come(past: &[Call], call: Call) -> bool {
-    let own_is_said = past.contains(&Call::Say(OWN));
+    let own_is_said = was_made(past, Call::Say(OWN));
     match call {
         Call::Say(_) => !own_is_said,
-        Call::Came(_, m) => !past.contains(&call) && (m != OWN || own_is_said),
+        Call::Came(_, m) => !was_made(past, call) && (m != OWN || own_is_said),
         Call::Notice(_) => true,
     }
 }
@@ -108,13 +119,13 @@ fn take_and_compare<L: Broadcast>(
     layer.ready(1, &mut out)?;
     layer.take(call, &mut out);
     let broadcasts = plain::broadcasts(alloc, kind, ME, history)?;
-    assert_eq!(rt; out.sends.as_slice(), broadcasts.as_slice());
+    assert!(rt; out.sends.as_slice() == broadcasts.as_slice());
     for up in &out.ups {
-        assert_eq!(rt; up.via, up.m.origin);
+        assert!(rt; up.via == up.m.origin);
         log.push(up.m)?;
     }
     let told = plain::log(alloc, kind, ME, &MEMBERS, history)?;
-    assert_eq!(rt; log.as_slice(), told.as_slice());
+    assert!(rt; log.as_slice() == told.as_slice());
     Ok(())
 }
 
@@ -135,7 +146,7 @@ fn compare(
         }
     }
     let mut layer = stack(alloc, kind, &seen)?;
-    assert_eq!(rt; layer.me(), ME);
+    assert!(rt; layer.me() == ME);
     let mut log = Vec::new(alloc);
     for call in calls {
         if !may_come(&history, *call) {
@@ -162,7 +173,7 @@ fn compare_kind(
             whole += 1;
         }
     }
-    assert_eq!(rt; whole, 286);
+    assert!(rt; whole == 286);
     Ok(())
 }
 
@@ -199,31 +210,62 @@ fn run(alloc: Global, kind: Kind, noticed: &NodeSet, calls: &[Call]) -> Result<E
     Ok(out)
 }
 
-/// A relayed copy is delivered by lazy and by eager broadcast, and relayed by eager; best effort does neither.
+/// Compares how many messages a copy of another node's message has a kind send and hand up, after this notice.
+fn compare_copy(
+    rt: &impl Abort,
+    alloc: Global,
+    kind: Kind,
+    noticed: &NodeSet,
+    sends: usize,
+    ups: usize,
+) -> Result<(), Fail> {
+    let out = run(alloc, kind, noticed, &[Call::Came(OTHER, FIRST)])?;
+    assert!(rt; out.sends.len() == sends);
+    assert!(rt; out.ups.len() == ups);
+    Ok(())
+}
+
+/// A relayed copy is delivered by lazy and by eager broadcast, and relayed by eager; best effort does neither. All-ack
+/// relays it, and delivers it where the origin, which is not known to hold it, was noticed.
 #[test]
 fn a_relayed_copy_tells_the_kinds_apart(rt: HostRuntime) -> Result<(), Fail> {
-    let copy = [Call::Came(OTHER, FIRST)];
     let nobody = NodeSet::new();
-    for (kind, sends, ups) in [
-        (Kind::Beb, 0, 0),
-        (Kind::Lazy, 0, 1),
-        (Kind::Eager, 1, 1),
-        (Kind::AllAck, 1, 1),
-        (Kind::FifoBeb, 0, 0),
-        (Kind::FifoLazy, 0, 1),
-        (Kind::FifoEager, 1, 1),
-        (Kind::FifoAllAck, 1, 1),
+    let mut origin = NodeSet::new();
+    origin.insert(ORIGIN);
+    for (kind, noticed, sends, ups) in [
+        (Kind::Beb, &nobody, 0, 0),
+        (Kind::Lazy, &nobody, 0, 1),
+        (Kind::Eager, &nobody, 1, 1),
+        (Kind::AllAck, &nobody, 1, 0),
+        (Kind::AllAck, &origin, 1, 1),
+        (Kind::FifoBeb, &nobody, 0, 0),
+        (Kind::FifoLazy, &nobody, 0, 1),
+        (Kind::FifoEager, &nobody, 1, 1),
+        (Kind::FifoAllAck, &nobody, 1, 0),
+        (Kind::FifoAllAck, &origin, 1, 1),
     ] {
-        let mut seen = NodeSet::new();
-        if kind == Kind::AllAck || kind == Kind::FifoAllAck {
-            let before = run(rt.alloc(), kind, &nobody, &copy)?;
-            assert_eq!(rt; before.ups.len(), 0, "the origin is not known to hold it");
-            seen.insert(ORIGIN);
-        }
-        let out = run(rt.alloc(), kind, &seen, &copy)?;
-        assert_eq!(rt; out.sends.len(), sends);
-        assert_eq!(rt; out.ups.len(), ups);
+        compare_copy(&rt, rt.alloc(), kind, noticed, sends, ups)?;
     }
+    Ok(())
+}
+
+/// Compares what two messages that come in the other order have a kind send and hand up, after this notice.
+fn compare_turned(
+    rt: &impl Abort,
+    alloc: Global,
+    kind: Kind,
+    noticed: &NodeSet,
+    told: &[MsgId],
+) -> Result<(), Fail> {
+    let calls = [Call::Came(OTHER, SECOND), Call::Came(OTHER, FIRST)];
+    let out = run(alloc, kind, noticed, &calls)?;
+    assert!(rt; out.sends.as_slice() == [SECOND, FIRST].as_slice());
+    let mut found = Vec::new(alloc);
+    for up in &out.ups {
+        assert!(rt; up.via == ORIGIN);
+        found.push(up.m)?;
+    }
+    assert!(rt; found.as_slice() == told);
     Ok(())
 }
 
@@ -231,67 +273,68 @@ fn a_relayed_copy_tells_the_kinds_apart(rt: HostRuntime) -> Result<(), Fail> {
 /// notice also relays.
 #[test]
 fn fifo_lazy_waits_and_relays(rt: HostRuntime) -> Result<(), Fail> {
-    let calls = [Call::Came(OTHER, SECOND), Call::Came(OTHER, FIRST)];
     let mut seen = NodeSet::new();
     seen.insert(ORIGIN);
-    let out = run(rt.alloc(), Kind::FifoLazy, &seen, &calls)?;
-    assert_eq!(rt; out.sends.as_slice(), [SECOND, FIRST].as_slice());
-    assert_eq!(rt;
-        out.ups.as_slice(),
-        [
-            Up {
-                via: ORIGIN,
-                m: FIRST
-            },
-            Up {
-                via: ORIGIN,
-                m: SECOND
-            }
-        ]
-        .as_slice()
-    );
-    let plain = run(rt.alloc(), Kind::Lazy, &seen, &calls)?;
-    assert_eq!(rt; plain.sends.as_slice(), [SECOND, FIRST].as_slice());
-    assert_eq!(rt;
-        plain.ups.as_slice(),
-        [
-            Up {
-                via: ORIGIN,
-                m: SECOND
-            },
-            Up {
-                via: ORIGIN,
-                m: FIRST
-            }
-        ]
-        .as_slice()
-    );
+    compare_turned(&rt, rt.alloc(), Kind::FifoLazy, &seen, &[FIRST, SECOND])?;
+    compare_turned(&rt, rt.alloc(), Kind::Lazy, &seen, &[SECOND, FIRST])
+}
+
+/// What the second of two calls gives, of a stack that started after these notices and took its memory once, for one
+/// message a member; none where that limit does not allow both.
+fn two(
+    alloc: Global,
+    kind: Kind,
+    noticed: &NodeSet,
+    first: Call,
+    second: Call,
+) -> Result<Option<Effects>, OutOfMemory> {
+    let mut layer = stack(alloc, kind, noticed)?;
+    let mut out = Effects::new(alloc);
+    if take_two(&mut layer, &members(), 1, first, second, &mut out)? {
+        Ok(Some(out))
+    } else {
+        Ok(None)
+    }
+}
+
+/// Compares what two copies of a message send and bring up with the plain program's answers.
+fn compare_two(
+    rt: &impl Abort,
+    alloc: Global,
+    kind: Kind,
+    first: Call,
+    second: Call,
+) -> Result<(), Fail> {
+    let out = two(alloc, kind, &NodeSet::new(), first, second)?.ok_or("within the limit")?;
+    let mut log = plain::log(alloc, kind, ME, &MEMBERS, &[first])?;
+    for up in &out.ups {
+        log.push(up.m)?;
+    }
+    let calls = [second, first];
+    let told = plain::log(alloc, kind, ME, &MEMBERS, &calls)?;
+    assert!(rt; log.as_slice() == told.as_slice());
+    let broadcasts = plain::broadcasts(alloc, kind, ME, &calls)?;
+    assert!(rt; out.sends.as_slice() == broadcasts.as_slice());
     Ok(())
 }
 
 /// Each stack, of a new node and of one that noticed another, takes its memory once: two copies of a message then
-/// send and bring up what the plain program says. The last number that the limit allows is allowed, the next is not.
+/// send and bring up what the plain program says. The number after the last that the limit allows is not allowed.
 #[test]
 fn each_stack_takes_its_memory_once(rt: HostRuntime) -> Result<(), Fail> {
     let first = Call::Came(ORIGIN, FIRST);
-    let second = Call::Came(OTHER, FIRST);
+    let mut noticed = NodeSet::new();
+    noticed.insert(OTHER);
     for kind in KINDS {
-        let mut layer = stack(rt.alloc(), kind, &NodeSet::new())?;
-        let mut out = Effects::new(rt.alloc());
-        assert!(rt; take_two(&mut layer, &members(), 1, first, second, &mut out)?);
-        let mut log = plain::log(rt.alloc(), kind, ME, &MEMBERS, &[first])?;
-        for up in &out.ups {
-            log.push(up.m)?;
-        }
-        let told = plain::log(rt.alloc(), kind, ME, &MEMBERS, &[second, first])?;
-        assert_eq!(rt; log.as_slice(), told.as_slice());
-        let broadcasts = plain::broadcasts(rt.alloc(), kind, ME, &[second, first])?;
-        assert_eq!(rt; out.sends.as_slice(), broadcasts.as_slice());
-        let mut noticed = NodeSet::new();
-        noticed.insert(OTHER);
-        let mut layer = stack(rt.alloc(), kind, &noticed)?;
-        let beyond = Call::Came(ORIGIN, SECOND);
-        assert!(rt; !take_two(&mut layer, &members(), 1, first, beyond, &mut out)?);
+        compare_two(&rt, rt.alloc(), kind, first, Call::Came(OTHER, FIRST))?;
+        let beyond = two(
+            rt.alloc(),
+            kind,
+            &noticed,
+            first,
+            Call::Came(ORIGIN, SECOND),
+        )?;
+        assert!(rt; beyond.is_none());
     }
     Ok(())
 }

@@ -1,15 +1,16 @@
-use super::*;
-use fault::PacketFault;
+//! Packets: what is written and read, each fault, and each limit at its last allowed and first refused value.
 use gb_cap::hmac::HmacKey;
+use gb_frame::fault::PacketFault;
+use gb_frame::item::{Item, ItemView, first_item, put_item};
+use gb_frame::packet::{Head, Packet};
+use gb_frame::reading::decode;
+use gb_frame::writing::{encode, wrap};
 use gb_types::memory::OutOfMemory;
 use gb_types::node::NodeId;
 use gb_types::payload::Payload;
-use item::{Item, ItemView, first_item, put_item};
-use packet::{Head, Packet};
-use reading::decode;
 use std::alloc::Global;
+use std::process::Abort;
 use std::test::Fail;
-use writing::{encode, wrap};
 
 /// A packet of node 0 to node 1: frame 1 with one item, before its tag.
 const BODY: &str =
@@ -104,11 +105,18 @@ fn fault_of(text: &[u8]) -> Option<PacketFault> {
     decode(text, &key()).err()
 }
 
+/// Compares a packet's text with its digits.
+fn compare(rt: &impl Abort, alloc: Global, packet: &Packet, digits: &str) -> Result<(), Fail> {
+    let text = written(alloc, packet)?.ok_or("within limits")?;
+    let told = bytes(alloc, digits)?;
+    assert!(rt; text.as_slice() == told.as_slice());
+    Ok(())
+}
+
 #[test]
 fn one_item(rt: HostRuntime) -> Result<(), Fail> {
-    let text = written(rt.alloc(), &packet(rt.alloc(), &[1])?)?.ok_or("within limits")?;
-    assert_eq!(rt; text, bytes(rt.alloc(), TEXT)?);
-    Ok(())
+    let packet = packet(rt.alloc(), &[1])?;
+    compare(&rt, rt.alloc(), &packet, TEXT)
 }
 
 #[test]
@@ -121,9 +129,7 @@ fn acknowledgement(rt: HostRuntime) -> Result<(), Fail> {
         frame: 0,
         items: Vec::new(rt.alloc()),
     };
-    let text = written(rt.alloc(), &packet)?.ok_or("within limits")?;
-    assert_eq!(rt; text, bytes(rt.alloc(), ACKNOWLEDGEMENT)?);
-    Ok(())
+    compare(&rt, rt.alloc(), &packet, ACKNOWLEDGEMENT)
 }
 
 /// An item is written into a frame, and the frame is wrapped.
@@ -148,11 +154,12 @@ fn a_frame_is_wrapped(rt: HostRuntime) -> Result<(), Fail> {
     };
     let mut text = Vec::with_capacity(alloc, 49)?;
     wrap(head, &frame, &key(), &mut text);
-    assert_eq!(rt; text, bytes(alloc, TEXT)?);
+    let told = bytes(alloc, TEXT)?;
+    assert!(rt; text.as_slice() == told.as_slice());
     let Some((first, rest)) = first_item(&frame) else {
         return Err(Fail::from("an item stands there"));
     };
-    assert_eq!(rt; first.payload, b"a".as_slice());
+    assert!(rt; first.payload == b"a".as_slice());
     assert!(rt; rest.is_empty());
     Ok(())
 }
@@ -163,39 +170,52 @@ fn what_was_written_is_read(rt: HostRuntime) -> Result<(), Fail> {
     let Ok(read) = decode(&text, &key()) else {
         return Err(Fail::from("the text is a packet's"));
     };
+    let told = Head {
+        from: NodeId { number: 0 },
+        to: NodeId { number: 1 },
+        base: 1,
+        mask: 0,
+        frame: 1,
+    };
     let head = read.head();
-    assert_eq!(rt; (head.from.number, head.to.number), (0, 1));
-    assert_eq!(rt; (head.base, head.mask, head.frame), (1, 0, 1));
+    assert!(rt; head == told);
     let mut items = 0;
     for item in read.items() {
-        assert_eq!(rt;
-            (item.tenant, item.group, item.origin, item.seq),
-            (7, 1, 0, 1)
-        );
-        assert_eq!(rt; item.payload, b"a".as_slice());
+        let numbers = (item.tenant, item.group, item.origin, item.seq);
+        assert!(rt; numbers == (7, 1, 0, 1));
+        assert!(rt; item.payload == b"a".as_slice());
         assert!(rt; items == 0);
         items += 1;
     }
-    assert_eq!(rt; items, 1);
+    assert!(rt; items == 1);
+    Ok(())
+}
+
+#[test]
+fn what_has_no_items_is_read(rt: HostRuntime) -> Result<(), Fail> {
     let text = bytes(rt.alloc(), ACKNOWLEDGEMENT)?;
     let Ok(bare) = decode(&text, &key()) else {
         return Err(Fail::from("the text is a packet's"));
     };
-    assert_eq!(rt; (bare.head().mask, bare.head().frame), (2, 0));
+    let head = bare.head();
+    assert!(rt; head.mask == 2 && head.frame == 0);
     assert!(rt; bare.items().next().is_none());
     Ok(())
 }
 
 #[test]
 fn cut_short(rt: HostRuntime) -> Result<(), Fail> {
-    assert_eq!(rt; fault_of(&[]), Some(PacketFault::Short));
+    let found = fault_of(&[]);
+    assert!(rt; found == Some(PacketFault::Short));
     let text = shaped(rt.alloc(), &[1])?;
-    assert_eq!(rt; text.len(), 49);
+    assert!(rt; text.len() == 49);
     for len in 1..39 {
-        assert_eq!(rt; fault_of(&text[..len]), Some(PacketFault::Short));
+        let found = fault_of(&text[..len]);
+        assert!(rt; found == Some(PacketFault::Short));
     }
     for len in 39..49 {
-        assert_eq!(rt; fault_of(&text[..len]), Some(PacketFault::Length));
+        let found = fault_of(&text[..len]);
+        assert!(rt; found == Some(PacketFault::Length));
     }
     Ok(())
 }
@@ -203,7 +223,6 @@ fn cut_short(rt: HostRuntime) -> Result<(), Fail> {
 /// Each fault, and the bytes of a header at their last good value and one beyond it.
 #[test]
 fn each_fault(rt: HostRuntime) -> Result<(), Fail> {
-    let alloc = rt.alloc();
     for (at, byte, fault) in [
         (0, 0x00, PacketFault::Magic),
         (2, 0x02, PacketFault::Version),
@@ -220,26 +239,33 @@ fn each_fault(rt: HostRuntime) -> Result<(), Fail> {
         (29, 0xff, PacketFault::Length),
         (38, 0x04, PacketFault::Length),
     ] {
-        assert_eq!(rt; fault_of(&changed(alloc, at, byte)?), Some(fault));
+        let text = changed(rt.alloc(), at, byte)?;
+        let found = fault_of(&text);
+        assert!(rt; found == Some(fault));
     }
-    let mut longer = shaped(alloc, &[1])?;
+    let mut longer = shaped(rt.alloc(), &[1])?;
+    let found = fault_of(&longer);
+    assert!(rt; found == Some(PacketFault::Tag));
     longer.push(0)?;
-    assert_eq!(rt; fault_of(&longer), Some(PacketFault::Trailing));
-    let long = shaped(alloc, &[1_024; 8])?;
-    assert_eq!(rt; long.len(), 8_303);
-    assert_eq!(rt; fault_of(&long), Some(PacketFault::TooLong));
-    assert_eq!(rt; fault_of(&shaped(alloc, &[1])?), Some(PacketFault::Tag));
+    let found = fault_of(&longer);
+    assert!(rt; found == Some(PacketFault::Trailing));
+    let long = shaped(rt.alloc(), &[1_024; 8])?;
+    assert!(rt; long.len() == 8_303);
+    let found = fault_of(&long);
+    assert!(rt; found == Some(PacketFault::TooLong));
     Ok(())
 }
 
 #[test]
 fn last_byte_of_the_tag(rt: HostRuntime) -> Result<(), Fail> {
     let mut text = bytes(rt.alloc(), TEXT)?;
-    assert_eq!(rt; fault_of(&text), None);
+    let found = fault_of(&text);
+    assert!(rt; found.is_none());
     if let Some(last) = text.last_mut() {
         *last ^= 1;
     }
-    assert_eq!(rt; fault_of(&text), Some(PacketFault::Tag));
+    let found = fault_of(&text);
+    assert!(rt; found == Some(PacketFault::Tag));
     Ok(())
 }
 
@@ -252,8 +278,10 @@ fn longest_payload(rt: HostRuntime) -> Result<(), Fail> {
         (1_025, false, PacketFault::Length),
     ] {
         let text = written(alloc, &packet(alloc, &[len])?)?;
-        assert_eq!(rt; text.is_some(), within);
-        assert_eq!(rt; fault_of(&shaped(alloc, &[len])?), Some(fault));
+        assert!(rt; text.is_some() == within);
+        let text = shaped(alloc, &[len])?;
+        let found = fault_of(&text);
+        assert!(rt; found == Some(fault));
     }
     Ok(())
 }
@@ -263,13 +291,16 @@ fn longest_payload(rt: HostRuntime) -> Result<(), Fail> {
 fn longest_packet(rt: HostRuntime) -> Result<(), Fail> {
     let alloc = rt.alloc();
     let text = written(alloc, &packet(alloc, &LONGEST)?)?.ok_or("within limits")?;
-    assert_eq!(rt; text.len(), 8_192);
-    assert_eq!(rt; fault_of(&text), None);
+    assert!(rt; text.len() == 8_192);
+    let found = fault_of(&text);
+    assert!(rt; found.is_none());
     let mut payloads = LONGEST;
     payloads[7] = 914;
-    assert!(rt; written(alloc, &packet(alloc, &payloads)?)?.is_none());
+    let text = written(alloc, &packet(alloc, &payloads)?)?;
+    assert!(rt; text.is_none());
     let text = shaped(alloc, &payloads)?;
-    assert_eq!(rt; text.len(), 8_193);
-    assert_eq!(rt; fault_of(&text), Some(PacketFault::TooLong));
+    assert!(rt; text.len() == 8_193);
+    let found = fault_of(&text);
+    assert!(rt; found == Some(PacketFault::TooLong));
     Ok(())
 }
