@@ -19,10 +19,10 @@ use Rattle.gb_rules.specs.Group.{is_other}
 use Rattle.gb_history.specs.History.{calls_of}
 use Rattle.gb_history.specs.declared.call.GroupCall.{GroupCall}
 use Rattle.gb_history.specs.declared.call.GroupCall.TheVariants.{Other, Crashed}
-use Rattle.gb_alone.specs.Alone.{Member, Group, reply_to, called, did, falls, taken_in, cut, took_notice, member_after, after, nobody, alone_from, alone}
+use Rattle.gb_alone.specs.Alone.{Member, Group, held_spec, reply_to, called, did, falls, taken_in, cut, took_notice, member_after, after, nobody, alone_from, alone}
 use Rattle.gb_alone.specs.Laws.{Accepted, accepted_in, accepted_at, accepted_from, accepted}
 use Rattle.gb_alone.specs.declared.event.GroupEvent.{GroupEvent}
-use Rattle.gb_alone.specs.declared.event.GroupEvent.TheVariants.{Tenant, Make as AskMake, Open as AskOpen, Shut as AskShut, Say as AskSay, Took, Came, Done as Acknowledged, Notice, Stop}
+use Rattle.gb_alone.specs.declared.event.GroupEvent.TheVariants.{Tenant, Make as AskMake, Open as AskOpen, Shut as AskShut, Drop as AskDrop, Say as AskSay, Took, Came, Done as Acknowledged, Notice, Stop}
 use Rattle.gb_alone.specs.declared.event.GroupStep.{GroupStep}
 use Rattle.gb_duties.proofs.InvariantLemmas.{Later}
 use Rattle.gb_duties.proofs.StepLemmas.{calls_in, AllFit, step_fits, nobody_fits}
@@ -38,6 +38,7 @@ unfolding calls_of
 did_said me (AskMake spec) Done m = tt
 did_said me AskOpen Done m = tt
 did_said me AskShut Done m = tt
+did_said me AskDrop Done m = tt
 did_said me (AskSay payload) (Said seq) m = (or_first (same (numbered me seq) (numbered me seq)) (was_said (calls_of m.told) (numbered me seq)) (same_itself (numbered me seq)), tt)
 did_said me event reply m = tt
 
@@ -90,13 +91,14 @@ did_silent : (me : NodeId) (event : GroupEvent) (reply : Reply) (m : Member) →
 did_silent me (AskMake spec) Done m none x h = h
 did_silent me AskOpen Done m none x h = h
 did_silent me AskShut Done m none x h = h
+did_silent me AskDrop Done m none x h = h
 did_silent me (AskSay payload) (Said seq) m none x h = absurd (cc)
 did_silent me event reply m none x h = h
 
 taken_silent : (a : ℕ) (from : NodeId) (place : ℕ) (o : Option Entry) (m : Member) (x : MsgId) → was_said (calls_of (taken_in a from place o m).told) x ≡ true → was_said (calls_of m.told) x ≡ true
 unfolding calls_of
 taken_silent a from place None m x h = h
-taken_silent a from place (Some y) m x h = go (falls a from.number y m.told m.spec) h
+taken_silent a from place (Some y) m x h = go (falls a from.number y m.told (held_spec m.phase m.spec)) h
   where
     go : (t : Bool) → was_said (calls_of (if t then m else called a (Other from y) m).told) x ≡ true → was_said (calls_of m.told) x ≡ true
     go true h = h
@@ -117,7 +119,7 @@ event_silent nodes number me (Tenant reserve) group none x h = h
 event_silent nodes number me (Took b count) group none x h = h
 event_silent nodes number me (Came from place) group none x h = taken_silent me.number from place (slice_get ((group from.number).put me.number) (place - 1)) (group me.number) x h
 event_silent nodes number me (Acknowledged b place count) group none x h = h
-event_silent nodes number me (Notice q) group none x h = notice_silent me.number q (group me.number).spec (group me.number) x h
+event_silent nodes number me (Notice q) group none x h = notice_silent me.number q (held_spec (group me.number).phase (group me.number).spec) (group me.number) x h
 event_silent nodes number me Stop group none x h = h
 event_silent nodes number me event group none x h = did_silent me event (reply_to nodes number me.number event (group me.number)) (group me.number) none x h
 

@@ -1,6 +1,6 @@
 -- Where a group is settled the logs of its running members agree.
-use Rattle.std.proofs.Common.{◌≡◌, ◌≢◌, ℕ, ◌+◌, ◌-◌, ◌<◌, ◌≤◌, Bool, true, false, ◌&&◌, ◌||◌, ◌⊎◌, inl, inr, nat_eq, List, length, refl, sym, ap, ◌∙◌, subst, arith}
-use Rattle.std.specs.Prelude.{slice_get}
+use Rattle.std.proofs.Common.{◌≡◌, ◌≢◌, ℕ, ◌+◌, ◌-◌, ◌<◌, ◌≤◌, Bool, true, false, ◌&&◌, ◌||◌, ◌⊎◌, inl, inr, nat_eq, List, ◌++◌, length, None, refl, sym, ap, ◌∙◌, subst, arith}
+use Rattle.std.specs.Prelude.{slice_get, if◌then◌else◌}
 use Rattle.std.specs.FinSet as set
 use Rattle.std.proofs.lemmas.Bool.{eqb-true, eq-eqb}
 use Rattle.std.proofs.lemmas.List.Elements.{All-from_recursion}
@@ -20,17 +20,18 @@ use Rattle.gb_layer.specs.declared.broadcast_module.BroadcastModule.TheVariants.
 use Rattle.gb_fifo.specs.Order.{is_in, numbered, upto, top, numbers_of, in_order}
 use Rattle.gb_stack.specs.Kinds.{module_of, kind_log}
 use Rattle.gb_stack.specs.LogLaws.{ModuleLogHasDelivered}
-use Rattle.gb_rules.specs.Group.{is_member}
+use Rattle.gb_rules.specs.Group.{is_gone, is_member}
 use Rattle.gb_history.specs.History.{calls_of}
 use Rattle.gb_history.specs.Messages.{has}
-use Rattle.gb_alone.specs.Alone.{Group, after, nobody, alone_from, alone, is_marked, IsLegal, IsLegalFrom}
+use Rattle.gb_alone.specs.Alone.{Group, held_spec, log_at, after, nobody, alone_from, alone, is_marked, IsLegal, IsLegalFrom}
 use Rattle.gb_alone.specs.Laws.{Accepted, accepted}
 use Rattle.gb_alone.specs.declared.event.GroupStep.{GroupStep}
+use Rattle.gb_alone.proofs.IntegrityLemmas.{alone_fits}
 use Rattle.gb_duties.specs.Agreement.{IsRunning, KeepsAgreement, logs_of, IsAgreed}
 use Rattle.gb_duties.proofs.WordLemmas.{or_cases, is_not, refuted, both_ways, Found, found, find, said_came}
 use Rattle.gb_duties.proofs.LogLemmas.{logged-is}
 use Rattle.gb_duties.proofs.DutyLemmas.{of_member}
-use Rattle.gb_duties.proofs.FlowLemmas.{Flow, Taking, nobody_flows, run_flows, legal_parts, run_takes, first_taking}
+use Rattle.gb_duties.proofs.FlowLemmas.{Flow, IsSound, Taking, nobody_flows, run_flows, legal_parts, run_takes, first_taking}
 use Rattle.gb_duties.proofs.AcceptedLemmas.{accepted_said, none_said}
 use Rattle.gb_duties.proofs.OrderLemmas.{log_more, log_has}
 
@@ -38,6 +39,7 @@ use Rattle.gb_duties.proofs.OrderLemmas.{log_more, log_has}
 record Calm (runs : ℕ → Bool) (spec : Spec) (group : Group) : Type 0 where
   pub flow : Flow group
   pub taking : Taking spec group
+  pub kept : (a : ℕ) → IsRunning runs spec a → is_gone (group a).phase ≡ false
   pub carried : (a b : ℕ) → IsRunning runs spec a → IsRunning runs spec b → nat_eq a b ≡ false → (group a).taken b ≡ length ((group a).put b)
   pub came : (a b : ℕ) → IsRunning runs spec a → IsRunning runs spec b → nat_eq a b ≡ false → (place : ℕ) → 0 < place → place ≤ (group a).taken b → is_marked place ((group b).come a) ≡ true
   pub noticed : (a b : ℕ) → IsRunning runs spec a → is_member spec b ≡ true → runs b ≡ false → was_noticed (calls_of (group a).told) b ≡ true
@@ -55,14 +57,14 @@ module _ (runs : ℕ → Bool) (spec : Spec) (group : Group) (calm : Calm runs s
   sends a b m run_a run_b other out = go (find ((group a).put b) m put)
     where
       put : has ((group a).put b) m ≡ true
-      put = (calm.flow.fits a).owes spec (calm.taking.made a run_a.0) b (and_both run_b.0 (is_not (nat_eq b a) (eq_comm a b other))) (calm.unnoticed a b run_a.0 run_b) m out
+      put = (calm.flow.fits a).owes (calm.kept a run_a) spec (calm.taking.made a run_a.0) b (and_both run_b.0 (is_not (nat_eq b a) (eq_comm a b other))) (calm.unnoticed a b run_a.0 run_b) m out
 
       go : Found ((group a).put b) m → came_from b (calls_of (group b).told) a m ≡ true
       go (found i y at lt is) =
           let all = calm.carried a b run_a run_b other in
           let place : is_marked (i + 1) ((group b).come a) ≡ true = calm.came a b run_a run_b other (i + 1) (omega arith) (omega (arith, all, lt)) in
           let e : (i + 1) - 1 ≡ i = omega arith in
-          subst (λ (k : MsgId). came_from b (calls_of (group b).told) a k ≡ true) is (calm.taking.taken a b run_a.0 run_b.0 other (i + 1) y place (ap (slice_get ((group a).put b)) e ∙ at))
+          subst (λ (k : MsgId). came_from b (calls_of (group b).told) a k ≡ true) is (calm.taking.taken a b run_a.0 run_b.0 other (calm.kept b run_b) (i + 1) y place (ap (slice_get ((group a).put b)) e ∙ at))
 
   -- and so each running member knows that the other holds it
   reaches : (a b : ℕ) (m : MsgId) → IsRunning runs spec a → IsRunning runs spec b → now_broadcast (module_of spec.kind) a (calls_of (group a).told) m ≡ true → holds b (calls_of (group b).told) a m ≡ true
@@ -175,35 +177,42 @@ module _ (has_delivered : ModuleLogHasDelivered) (numbers : (origin : NodeId) (d
     validity = λ s b run_s run_b. All-from_recursion (λ (x : Accepted). has (logs_of group b) (numbered s x.seq) ≡ true) (accepted nodes number steps s.number)
         (all_weaker (λ (x : Accepted). was_said (calls_of (group s.number).told) (numbered s x.seq) ≡ true) (λ (x : Accepted). has (logs_of group b) (numbered s x.seq) ≡ true) (λ x said. valid s b run_s run_b x.seq said) (accepted nodes number steps s.number) (accepted_said nodes number s steps));
     agreement = λ reliable b c run_b run_c m. both_ways (has (logs_of group b) m) (has (logs_of group c) m)
-        (more b c run_b.0 run_c.0 (λ k up. up_more runs spec group calm b c k run_b run_c up (module_of spec.kind) refl reliable) m)
-        (more c b run_c.0 run_b.0 (λ k up. up_more runs spec group calm c b k run_c run_b up (module_of spec.kind) refl reliable) m);
-    uniform_agreement = λ kind b c in_b run_c m. more b c in_b run_c.0 (λ k up. uniform_up runs spec group calm b c k kind in_b run_c up) m;
+        (more b c run_b.0 (calm.kept b run_b) run_c (λ k up. up_more runs spec group calm b c k run_b run_c up (module_of spec.kind) refl reliable) m)
+        (more c b run_c.0 (calm.kept c run_c) run_b (λ k up. up_more runs spec group calm c b k run_c run_b up (module_of spec.kind) refl reliable) m);
+    uniform_agreement = λ kind b c in_b run_c m h. more b c in_b (logged_here b m (is_gone (group b).phase) h) run_c (λ k up. uniform_up runs spec group calm b c k kind in_b run_c up) m h;
   }
     where
       group : Group
       group = alone nodes number steps
 
-      is_log : (b : ℕ) → is_member spec b ≡ true → (m : MsgId) → has (logs_of group b) m ≡ is_in (kind_log spec.kind b (set.items spec.members) (calls_of (group b).told)) m
-      is_log b in_b m = logged-is b (group b).spec spec (group b).told m (calm.taking.made b in_b)
+      is_log : (b : ℕ) → is_member spec b ≡ true → is_gone (group b).phase ≡ false → (m : MsgId) → has (logs_of group b) m ≡ is_in (kind_log spec.kind b (set.items spec.members) (calls_of (group b).told)) m
+      is_log b in_b here m = logged-is b (held_spec (group b).phase (group b).spec) spec (group b).told m (ap (λ (gone : Bool). if gone then None else (group b).spec) here ∙ calm.taking.made b in_b)
 
-      more : (b c : ℕ) → is_member spec b ≡ true → is_member spec c ≡ true
+      -- nothing stands in the log of a dropped group
+      logged_here : (b : ℕ) (m : MsgId) (gone : Bool) → has (log_at b (if gone then None else (group b).spec) (group b).told) m ≡ true → gone ≡ false
+      logged_here b m true h = absurd (cc)
+      logged_here b m false h = refl
+
+      more : (b c : ℕ) → is_member spec b ≡ true → is_gone (group b).phase ≡ false → IsRunning runs spec c
           → ((m : MsgId) → now_delivered (module_of spec.kind) b (set.items spec.members) (calls_of (group b).told) m ≡ true → now_delivered (module_of spec.kind) c (set.items spec.members) (calls_of (group c).told) m ≡ true)
           → (m : MsgId) → has (logs_of group b) m ≡ true → has (logs_of group c) m ≡ true
-      more b c in_b in_c up m h = is_log c in_c m ∙ log_more numbers stand ends has_delivered spec b c (calls_of (group b).told) (calls_of (group c).told) up m (sym (is_log b in_b m) ∙ h)
+      more b c in_b here run_c up m h =
+          is_log c run_c.0 (calm.kept c run_c) m ∙ log_more numbers stand ends has_delivered spec b c (calls_of (group b).told) (calls_of (group c).told) up m (sym (is_log b in_b here m) ∙ h)
 
       valid : (s : NodeId) (b : ℕ) → IsRunning runs spec s.number → IsRunning runs spec b → (seq : ℕ) → was_said (calls_of (group s.number).told) (numbered s seq) ≡ true → has (logs_of group b) (numbered s seq) ≡ true
       valid s b run_s run_b seq said =
           let fits = calm.flow.fits s.number in
           let few = fits.said_few (numbered s seq) said in
           let fair = fits.fair spec (calm.taking.made s.number run_s.0) (numbered s seq) (said_mentioned (calls_of (group s.number).told) (numbered s seq) said) in
-          is_log b run_b.0 (numbered s seq)
+          is_log b run_b.0 (calm.kept b run_b) (numbered s seq)
           ∙ log_has numbers stand ends has_delivered spec b (calls_of (group b).told) s seq
           (λ k some le. said_up runs spec group calm s.number b (numbered s k) refl run_s run_b (fits.said_all (numbered s k) refl some (omega (arith, le, few)))) seq fair.counted (omega arith)
 
   pub is_agreed : IsAgreed
   is_agreed nodes number steps legal runs spec settled = agreed nodes number steps runs spec (record {
     flow = run_flows nodes number steps nobody legal nobody_flows;
-    taking = subst (λ (g : Group). Taking spec g) (sym split) (run_takes nodes number spec settled.later (alone nodes number settled.earlier) parts.1 before (first_taking spec (alone nodes number settled.earlier) before.fits settled.made (none_said nodes number settled.earlier settled.silent)));
+    taking = subst (λ (g : Group). Taking spec g) (sym split) (run_takes nodes number spec settled.later (alone nodes number settled.earlier) (λ earlier later is. sound earlier) parts.1 before (first_taking spec (alone nodes number settled.earlier) before.fits settled.made (none_said nodes number settled.earlier settled.silent)));
+    kept = settled.kept;
     carried = λ a b run_a run_b other. settled.carried a b run_a run_b (differ a b other);
     came = λ a b run_a run_b other. settled.came a b run_a run_b (differ a b other);
     noticed = settled.noticed;
@@ -218,6 +227,9 @@ module _ (has_delivered : ModuleLogHasDelivered) (numbers : (origin : NodeId) (d
 
       before : Flow (alone nodes number settled.earlier)
       before = run_flows nodes number settled.earlier nobody parts.0 nobody_flows
+
+      sound : (late : List GroupStep) → IsSound (alone_from nodes number (alone nodes number settled.earlier) late)
+      sound late = subst IsSound (fold-append (after nodes number) nobody settled.earlier late) (alone_fits nodes number (settled.earlier ++ late))
 
       split : alone nodes number steps ≡ alone_from nodes number (alone nodes number settled.earlier) settled.later
       split = ap (λ (ss : List GroupStep). alone nodes number ss) settled.moment ∙ fold-append (after nodes number) nobody settled.earlier settled.later

@@ -9,8 +9,9 @@ use Rattle.gb_types.specs.declared.reply.Reply.{Reply}
 use Rattle.gb_layer.specs.Machine.{was_noticed}
 use Rattle.gb_history.specs.History.{calls_of, known}
 use Rattle.gb_history.specs.declared.call.GroupCall.TheVariants.{Other}
-use Rattle.gb_alone.specs.Alone.{Member, Group, reply_to, called, after, nobody, alone, log_at, is_marked, IsLegal}
-use Rattle.gb_alone.specs.Laws.{accepted_in, accepted_from, accepted}
+use Rattle.gb_alone.specs.Alone.{Member, Group, reply_to, called, after, nobody, alone, is_marked, IsLegal}
+use Rattle.gb_rules.specs.Group.{is_gone}
+use Rattle.gb_alone.specs.Laws.{accepted_in, accepted_from, accepted, log_of_member}
 use Rattle.gb_alone.specs.declared.event.GroupEvent.TheVariants.{Took, Came, Notice, Stop}
 use Rattle.gb_alone.specs.declared.event.GroupStep.{GroupStep}
 use Rattle.gb_duties.specs.Agreement.{IsRunning, IsSettled}
@@ -70,7 +71,7 @@ unfolding calls_of known
 two_relays = simp in_1 refl
 
 lead_crash : Leads (group_open kinds.FifoLazy) crash group_crashed
-unfolding calls_of
+unfolding calls_of known
 lead_crash =
     join (group_open kinds.FifoLazy) (group_lost kinds.FifoLazy) group_crashed loss (at second (Took third 1) ∷ at third (Came second 1) ∷ at third (Took second 1) ∷ at second (Came third 1) ∷ []) (lead_loss kinds.FifoLazy)
     (and_then (group_lost kinds.FifoLazy) (at second (Took third 1)) one_relayed (at third (Came second 1) ∷ at third (Took second 1) ∷ at second (Came third 1) ∷ []) group_crashed (refl, omega arith, length_one (one_relayed.put 2) message one_relays) refl
@@ -144,17 +145,19 @@ for_pair kind p one two a b run_a run_b other = by (running kind a run_a) (runni
 
 -- these facts about the nodes are all that is asked
 settle : (kind : Kind) (steps : List GroupStep) (g : Group) → alone 3 0 (opened kind ++ steps) ≡ g
+    → is_gone (g 1).phase ≡ false → is_gone (g 2).phase ≡ false
     → (g 1).taken 2 ≡ length ((g 1).put 2) → (g 2).taken 1 ≡ length ((g 2).put 1)
     → ((place : ℕ) → 0 < place → place ≤ (g 1).taken 2 → is_marked place ((g 2).come 1) ≡ true) → ((place : ℕ) → 0 < place → place ≤ (g 2).taken 1 → is_marked place ((g 1).come 2) ≡ true)
     → was_noticed (calls_of (g 1).told) 0 ≡ true → was_noticed (calls_of (g 2).told) 0 ≡ true
     → ((b : ℕ) → (b ≡ 1) ⊎ (b ≡ 2) → (was_noticed (calls_of (g 0).told) b ≡ false) × (was_noticed (calls_of (g 1).told) b ≡ false) × (was_noticed (calls_of (g 2).told) b ≡ false))
     → IsSettled 3 0 (opened kind ++ steps) runs (spec_of kind)
-settle kind steps g is carried_one carried_two came_one came_two noticed_one noticed_two unnoticed = record {
+settle kind steps g is here_one here_two carried_one carried_two came_one came_two noticed_one noticed_two unnoticed = record {
   earlier = opened kind;
   later = steps;
   moment = refl;
   made = made kind;
   silent = silent kind;
+  kept = λ a run_a. subst (λ (h : Group). is_gone (h a).phase ≡ false) (sym is) (kept a (running kind a run_a));
   carried = for_pair kind (λ a b. (alone 3 0 (opened kind ++ steps) a).taken b ≡ length ((alone 3 0 (opened kind ++ steps) a).put b))
       (subst (λ (h : Group). (h 1).taken 2 ≡ length ((h 1).put 2)) (sym is) carried_one) (subst (λ (h : Group). (h 2).taken 1 ≡ length ((h 2).put 1)) (sym is) carried_two);
   came = for_pair kind (λ a b. (place : ℕ) → 0 < place → place ≤ (alone 3 0 (opened kind ++ steps) a).taken b → is_marked place ((alone 3 0 (opened kind ++ steps) b).come a) ≡ true)
@@ -164,6 +167,10 @@ settle kind steps g is carried_one carried_two came_one came_two noticed_one not
   unnoticed = λ a b inside run_b. subst (λ (h : Group). was_noticed (calls_of (h a).told) b ≡ false) (sym is) (fine a b (member a inside) (unnoticed b (running kind b run_b)));
 }
   where
+    kept : (a : ℕ) → ((a ≡ 1) ⊎ (a ≡ 2)) → is_gone (g a).phase ≡ false
+    kept a (inl e) = ap (λ z. is_gone (g z).phase) e ∙ here_one
+    kept a (inr e) = ap (λ z. is_gone (g z).phase) e ∙ here_two
+
     crashed : (a : ℕ) → ((a ≡ 1) ⊎ (a ≡ 2)) → was_noticed (calls_of (g a).told) 0 ≡ true
     crashed a (inl e) = ap (λ z. was_noticed (calls_of (g z).told) 0) e ∙ noticed_one
     crashed a (inr e) = ap (λ z. was_noticed (calls_of (g z).told) 0) e ∙ noticed_two
@@ -185,7 +192,7 @@ crash_legal = run_crash.legal
 pub crash_settled : IsSettled 3 0 (opened kinds.FifoLazy ++ crash) runs (spec_of kinds.FifoLazy)
 unfolding calls_of known
 crash_settled =
-    settle kinds.FifoLazy crash group_crashed run_crash.end (sym (ap length all_one)) (sym (ap length two_relays))
+    settle kinds.FifoLazy crash group_crashed run_crash.end refl refl (sym (ap length all_one)) (sym (ap length two_relays))
     (only_one (λ k. is_marked k (1 ∷ []) ≡ true) 1 refl refl) (only_one (λ k. is_marked k (1 ∷ []) ≡ true) 1 refl refl) refl refl unseen
   where
     all_one : one_heard.put 2 ≡ message ∷ []
@@ -197,11 +204,11 @@ crash_settled =
 
 pub crash_one : log_in kinds.FifoLazy crash 1 ≡ message ∷ []
 unfolding calls_of known
-crash_one = ap (λ (g : Group). log_at 1 (g 1).spec (g 1).told) run_crash.end
+crash_one = ap (λ (g : Group). log_of_member 1 (g 1)) run_crash.end
 
 pub crash_two : log_in kinds.FifoLazy crash 2 ≡ message ∷ []
 unfolding calls_of known
-crash_two = ap (λ (g : Group). log_at 2 (g 2).spec (g 2).told) run_crash.end
+crash_two = ap (λ (g : Group). log_of_member 2 (g 2)) run_crash.end
 
 pub loss_legal : IsLegal 3 0 (opened kinds.Beb ++ loss)
 loss_legal = run_loss.legal
@@ -209,7 +216,7 @@ loss_legal = run_loss.legal
 pub loss_settled : IsSettled 3 0 (opened kinds.Beb ++ loss) runs (spec_of kinds.Beb)
 unfolding calls_of known
 loss_settled =
-    settle kinds.Beb loss (group_lost kinds.Beb) run_loss.end (sym (ap length none_one)) (sym (ap length none_two)) (λ place low high. absurd (omega (arith, low, high))) (λ place low high. absurd (omega (arith, low, high))) refl refl unseen
+    settle kinds.Beb loss (group_lost kinds.Beb) run_loss.end refl refl (sym (ap length none_one)) (sym (ap length none_two)) (λ place low high. absurd (omega (arith, low, high))) (λ place low high. absurd (omega (arith, low, high))) refl refl unseen
   where
     none_one : (notices 1 first (one_took kinds.Beb)).put 2 ≡ []
     none_one = simp in_2 refl
@@ -223,8 +230,8 @@ loss_settled =
 
 pub loss_one : log_in kinds.Beb loss 1 ≡ message ∷ []
 unfolding calls_of known
-loss_one = ap (λ (g : Group). log_at 1 (g 1).spec (g 1).told) run_loss.end
+loss_one = ap (λ (g : Group). log_of_member 1 (g 1)) run_loss.end
 
 pub loss_two : log_in kinds.Beb loss 2 ≡ []
 unfolding calls_of known
-loss_two = ap (λ (g : Group). log_at 2 (g 2).spec (g 2).told) run_loss.end
+loss_two = ap (λ (g : Group). log_of_member 2 (g 2)) run_loss.end

@@ -1,9 +1,8 @@
 -- Each node does its duties.
-use Rattle.std.proofs.Common.{◌≡◌, ℕ, Bool, true, false, ◌&&◌, ◌||◌, ◌⊎◌, inl, inr, nat_eq, List, [], Some, refl, sym, ap, ◌∙◌}
+use Rattle.std.proofs.Common.{◌≡◌, ℕ, Bool, true, false, ◌&&◌, ◌||◌, ◌⊎◌, inl, inr, nat_eq, List, Some, refl, sym, ap, ◌∙◌}
 use Rattle.std.specs.FinSet as set
 use Rattle.std.specs.List.{list_all}
 use Rattle.std.proofs.lemmas.Bool.{eqb-true, eq-eqb, cases_Bool}
-use Rattle.std.proofs.lemmas.List.{append-nil}
 use Rattle.gb_types.specs.declared.message.MsgId.{MsgId}
 use Rattle.gb_types.specs.declared.spec.Spec.{Spec}
 use Rattle.gb_types.proofs.CoverLemmas.{not_all_members}
@@ -20,9 +19,10 @@ use Rattle.gb_stack.specs.Kinds.{module_of}
 use Rattle.gb_stack.specs.LogLaws.{ModuleLogHasDelivered}
 use Rattle.gb_rules.specs.Group.{is_member, is_other}
 use Rattle.gb_history.specs.History.{calls_of}
-use Rattle.gb_alone.specs.Alone.{Member, alone}
+use Rattle.gb_alone.specs.Alone.{Member, Group, alone, held_spec}
 use Rattle.gb_duties.specs.Duties.{IsPutOut, HasHad, Duty, KeepsDuties, noticed_at, delivered_at, IsDutiful}
 use Rattle.gb_duties.proofs.WordLemmas.{or_cases}
+use Rattle.gb_duties.proofs.ReplyLemmas.{held_made}
 use Rattle.gb_duties.proofs.InvariantLemmas.{FitsAt}
 use Rattle.gb_duties.proofs.LogLemmas.{in_log, logged-is, kind_delivered}
 use Rattle.gb_duties.proofs.StepLemmas.{calls_in, alone_fits}
@@ -35,13 +35,13 @@ of_member p spec b all is = go (p b) refl
     go true e = e
     go false e = let none = not_all_members p spec.members b is e in absurd (cc)
 
-module _ (calls : ℕ → List Call) (b : ℕ) (member : Member) (spec : Spec) (made : member.spec ≡ Some spec) (fits : FitsAt calls b member) (c : ℕ) (other : is_other spec b c ≡ true) (m : MsgId) where
+module _ (calls : ℕ → List Call) (b : ℕ) (member : Member) (spec : Spec) (held : held_spec member.phase member.spec ≡ Some spec) (fits : FitsAt calls b member) (c : ℕ) (other : is_other spec b c ≡ true) (m : MsgId) where
   put_out : (base : BroadcastModule) → module_of spec.kind ≡ base → now_broadcast base b (calls_of member.told) m ≡ true → IsPutOut (noticed_at member) member.put c m
   put_out base kind out = go (cases_Bool (was_noticed (calls_of member.told) c))
     where
       go : ((was_noticed (calls_of member.told) c ≡ true) ⊎ (was_noticed (calls_of member.told) c ≡ false)) → IsPutOut (noticed_at member) member.put c m
       go (inl noticed) = inl noticed
-      go (inr unnoticed) = inr (fits.owes spec made c other unnoticed m (ap (λ k. now_broadcast k b (calls_of member.told) m) kind ∙ out))
+      go (inr unnoticed) = let made = held_made member.phase member.spec spec held in inr (fits.owes made.0 spec made.1 c other unnoticed m (ap (λ k. now_broadcast k b (calls_of member.told) m) kind ∙ out))
 
   duty : (had : ℕ → MsgId → Type 0) → (mentions (calls c) m ≡ true → had c m) → (calls b ≡ calls_of member.told) → (base : BroadcastModule) → module_of spec.kind ≡ base
       → now_delivered base b (set.items spec.members) (calls_of member.told) m ≡ true → Duty base (noticed_at member) member.put had b c m
@@ -57,24 +57,25 @@ module _ (calls : ℕ → List Call) (b : ℕ) (member : Member) (spec : Spec) (
       each : (was_noticed (calls_of member.told) c || holds b (calls_of member.told) c m) ≡ true
       each = of_member (λ p. was_noticed (calls_of member.told) p || holds b (calls_of member.told) p m) spec c (and-second (mentions (calls_of member.told) m) _ up) (and-first (is_member spec c) _ other)
 
-      held : ((came_from b (calls_of member.told) c m ≡ true) ⊎ ((nat_eq b c && mentions (calls_of member.told) m) ≡ true)) → mentions (calls c) m ≡ true
-      held (inl from) = fits.from_known c m from
-      held (inr own) = ap (λ n. mentions (calls n) m) (sym (eqb-true b c (and-first (nat_eq b c) _ own))) ∙ (ap (λ cs. mentions cs m) is ∙ and-second (nat_eq b c) _ own)
+      known : ((came_from b (calls_of member.told) c m ≡ true) ⊎ ((nat_eq b c && mentions (calls_of member.told) m) ≡ true)) → mentions (calls c) m ≡ true
+      known (inl from) = fits.from_known c m from
+      known (inr own) = ap (λ n. mentions (calls n) m) (sym (eqb-true b c (and-first (nat_eq b c) _ own))) ∙ (ap (λ cs. mentions cs m) is ∙ and-second (nat_eq b c) _ own)
 
       told : ((was_noticed (calls_of member.told) c ≡ true) ⊎ (holds b (calls_of member.told) c m ≡ true)) → (was_noticed (calls_of member.told) c ≡ true) ⊎ had c m
       told (inl noticed) = inl noticed
-      told (inr h) = inr (here (held (or_cases (came_from b (calls_of member.told) c m) (nat_eq b c && mentions (calls_of member.told) m) h)))
+      told (inr h) = inr (here (known (or_cases (came_from b (calls_of member.told) c m) (nat_eq b c && mentions (calls_of member.told) m) h)))
 
 pub is_dutiful : ModuleLogHasDelivered → ((D : List MsgId) → AllIn D (in_order D)) → IsDutiful
 is_dutiful has_delivered within nodes number steps legal = record {
   delivered = done;
-  logged = λ b spec made c other m h.
-      done b spec made c other m (kind_delivered within spec b (calls_of (alone nodes number steps b).told) m (sym (logged-is b (alone nodes number steps b).spec spec (alone nodes number steps b).told m made) ∙ h));
+  logged = λ b spec held c other m h.
+      done b spec held c other m (kind_delivered within spec b (calls_of (group b).told) m (sym (logged-is b (held_spec (group b).phase (group b).spec) spec (group b).told m held) ∙ h));
 }
   where
-    done : (b : ℕ) (spec : Spec) → (alone nodes number steps b).spec ≡ Some spec
-        → KeepsDuties spec b (noticed_at (alone nodes number steps b)) (alone nodes number steps b).put (HasHad nodes number steps) (delivered_at spec b (alone nodes number steps b))
-    done b spec made c other m up =
-        duty (calls_in (alone nodes number steps)) b (alone nodes number steps b) spec made (alone_fits nodes number steps b) c other m (HasHad nodes number steps)
-        (λ had. record { earlier = steps; later = []; moment = sym (append-nil steps); had = had }) refl (module_of spec.kind) refl
-        (sym (in_log has_delivered (module_of spec.kind) b (set.items spec.members) (calls_of (alone nodes number steps b).told) m) ∙ up)
+    group : Group
+    group = alone nodes number steps
+
+    done : (b : ℕ) (spec : Spec) → held_spec (group b).phase (group b).spec ≡ Some spec → KeepsDuties spec b (noticed_at (group b)) (group b).put (HasHad group) (delivered_at spec b (group b))
+    done b spec held c other m up =
+        duty (calls_in group) b (group b) spec held (alone_fits nodes number steps b) c other m (HasHad group) (λ had. had) refl (module_of spec.kind) refl
+        (sym (in_log has_delivered (module_of spec.kind) b (set.items spec.members) (calls_of (group b).told) m) ∙ up)

@@ -1,5 +1,5 @@
 -- What the worked examples compute.
-use Rattle.std.proofs.Common.{◌≡◌, ℕ, ◌+◌, ◌-◌, not, Option, Some, ◌⊎◌, inl, inr, Bool, true, false, nat_eq, arith, List, [], ◌∷◌, ◌++◌, ◌||◌, ◌&&◌, ◌≤◌, length, refl, sym, ap, ◌∙◌, subst}
+use Rattle.std.proofs.Common.{◌≡◌, ℕ, ◌+◌, ◌-◌, not, Option, Some, ◌⊎◌, inl, inr, Bool, true, false, nat_eq, arith, List, [], ◌∷◌, ◌++◌, ◌||◌, ◌&&◌, ◌≤◌, length, take, refl, sym, ap, ◌∙◌, subst}
 use Rattle.std.specs.Prelude.{slice_get, if◌then◌else◌}
 use Rattle.std.specs.FinSet as set
 use Rattle.std.specs.List.{list_all}
@@ -21,10 +21,12 @@ use Rattle.gb_rules.specs.declared.phase.Phase.TheVariants.{Opened}
 use Rattle.gb_rules.specs.declared.reserve.Reserve.{Reserve}
 use Rattle.gb_history.specs.History.{calls_of, known, said_in, puts_of, falls_after}
 use Rattle.gb_history.specs.declared.call.GroupCall.TheVariants.{Own, Other, Crashed}
-use Rattle.gb_alone.specs.Alone.{Member, Group, called, cut, falls, taken_in, took_notice, node_noticed, member_after, after, nobody, alone_from, alone, log_at, MayHappen, IsLegalFrom}
-use Rattle.gb_alone.specs.declared.event.GroupEvent.TheVariants.{Tenant, Make, Open, Say, Took, Came, Notice}
+use Rattle.gb_alone.specs.Alone.{Member, Group, called, cut, falls, taken_in, took_notice, node_noticed, member_after, after, nobody, alone_from, alone, is_marked, held_spec, dropped as drops, count_unfinished, MayHappen, IsLegalFrom}
+use Rattle.gb_alone.specs.Laws.{log_of_member}
+use Rattle.gb_alone.specs.declared.event.GroupEvent.TheVariants.{Tenant, Make, Open, Drop, Say, Took, Came, Notice}
 use Rattle.gb_alone.specs.declared.event.GroupStep.{GroupStep}
-use Rattle.gb_duties.specs.Examples.{first, second, third, message, members, spec_of, at, opened_at, opened, to_one, to_all, log_in, put_in}
+use Rattle.gb_duties.specs.Duties.{HasHad, noticed_at}
+use Rattle.gb_duties.specs.Examples.{first, second, third, message, members, spec_of, at, opened_at, opened, to_one, to_all, dropped, log_in, put_in}
 use Rattle.gb_duties.proofs.WordLemmas.{or_cases, both_ways, eq_self}
 
 pub in_0 : set.contains members 0 ≡ true
@@ -169,12 +171,12 @@ put_out kind b inside other = ap (λ (t : Bool). if t then [] ++ puts_of (spec_o
     by kinds.FifoAllAck = refl
 
 -- the item is taken in
-pub comes : (kind : Kind) (me from : NodeId) (place : ℕ) (m : Member) → m.spec ≡ Some (spec_of kind) → falls_after (spec_of kind) me.number m.told from.number message ≡ false → (xs : List Entry) → slice_get xs (place - 1) ≡ Some message
+pub comes : (kind : Kind) (me from : NodeId) (place : ℕ) (m : Member) → held_spec m.phase m.spec ≡ Some (spec_of kind) → falls_after (spec_of kind) me.number m.told from.number message ≡ false → (xs : List Entry) → slice_get xs (place - 1) ≡ Some message
     → taken_in me.number from place (slice_get xs (place - 1)) m ≡ record (called me.number (Other from message) m) { come = λ b. if nat_eq b from.number then place ∷ m.come b else m.come b }
-comes kind me from place m made stands xs there =
+comes kind me from place m held stands xs there =
     ap (λ (o : Option Entry). taken_in me.number from place o m) there
     ∙ ap (λ (t : Bool). let next = (if t then m else called me.number (Other from message) m) in record next { come = λ b. if nat_eq b from.number then place ∷ m.come b else m.come b })
-    (ap (λ (o : Option Spec). falls me.number from.number message m.told o) made ∙ stands)
+    (ap (λ (o : Option Spec). falls me.number from.number message m.told o) held ∙ stands)
 
 -- a legal run from one group to another
 pub record Leads (g : Group) (steps : List GroupStep) (h : Group) : Type 0 where
@@ -206,7 +208,7 @@ pub length_one : (xs : List Entry) (x : Entry) → xs ≡ x ∷ [] → 1 ≤ len
 length_one xs x e = let l : length xs ≡ 1 = ap length e in omega (arith, l)
 
 pub lead_one : (kind : Kind) → Leads (group_open kind) to_one (group_one kind)
-unfolding said_in calls_of known
+unfolding said_in calls_of known count_unfinished
 lead_one kind =
     and_then (group_open kind) (at first (Say (97 ∷ []))) (zero_said kind) (at first (Took second 1) ∷ at second (Came first 1) ∷ []) (group_one kind) tt refl
     (and_then (with_at (group_open kind) 0 (zero_said kind)) (at first (Took second 1)) (carries 1 (zero_said kind)) (at second (Came first 1) ∷ []) (group_one kind) (refl, omega arith, length_one ((zero_said kind).put 1) message (put_out kind 1 in_1 refl)) refl
@@ -221,9 +223,9 @@ to_one_is kind = (join nobody (group_open kind) (group_one kind) (opened kind) t
 abbrev pub notices : ℕ → NodeId → Member → Member
 notices me q m = record (called me (Crashed q) (cut q m)) { noticed = q.number ∷ m.noticed }
 
-pub noticed_is : (kind : Kind) (me : ℕ) (q : NodeId) (m : Member) → m.spec ≡ Some (spec_of kind) → set.contains members q.number ≡ true → nat_eq q.number me ≡ false → node_noticed me q m ≡ notices me q m
-noticed_is kind me q m made inside other =
-    ap (λ (o : Option Spec). let next = took_notice me q o m in record next { noticed = q.number ∷ m.noticed }) made
+pub noticed_is : (kind : Kind) (me : ℕ) (q : NodeId) (m : Member) → held_spec m.phase m.spec ≡ Some (spec_of kind) → set.contains members q.number ≡ true → nat_eq q.number me ≡ false → node_noticed me q m ≡ notices me q m
+noticed_is kind me q m held inside other =
+    ap (λ (o : Option Spec). let next = took_notice me q o m in record next { noticed = q.number ∷ m.noticed }) held
     ∙ ap (λ (t : Bool). let next = (if t then called me (Crashed q) (cut q m) else m) in record next { noticed = q.number ∷ m.noticed }) (and_both inside (ap not other))
 
 abbrev pub noticed_one : Kind → Group
@@ -243,7 +245,7 @@ beb_own = ap (λ (g : Group). (g 0).put 2) (to_one_is kinds.Beb) ∙ put_out kin
 
 pub beb_delivered : log_in kinds.Beb to_one 1 ≡ message ∷ []
 unfolding calls_of known
-beb_delivered = ap (λ (g : Group). log_at 1 (g 1).spec (g 1).told) (to_one_is kinds.Beb)
+beb_delivered = ap (λ (g : Group). log_of_member 1 (g 1)) (to_one_is kinds.Beb)
 
 pub beb_silent : put_in kinds.Beb (to_one ++ at second (Notice first) ∷ []) 1 2 ≡ []
 unfolding calls_of known
@@ -256,7 +258,7 @@ lazy_own = ap (λ (g : Group). (g 0).put 2) (to_one_is kinds.Lazy) ∙ put_out k
 
 pub lazy_delivered : log_in kinds.Lazy to_one 1 ≡ message ∷ []
 unfolding calls_of known
-lazy_delivered = ap (λ (g : Group). log_at 1 (g 1).spec (g 1).told) (to_one_is kinds.Lazy)
+lazy_delivered = ap (λ (g : Group). log_of_member 1 (g 1)) (to_one_is kinds.Lazy)
 
 pub lazy_before : put_in kinds.Lazy to_one 1 2 ≡ []
 unfolding calls_of known
@@ -270,7 +272,7 @@ lazy_noticed = ap (λ (g : Group). (g 1).put 2) (notice_is kinds.Lazy) ∙ simp 
 
 pub eager_delivered : log_in kinds.Eager to_one 1 ≡ message ∷ []
 unfolding calls_of known
-eager_delivered = ap (λ (g : Group). log_at 1 (g 1).spec (g 1).told) (to_one_is kinds.Eager)
+eager_delivered = ap (λ (g : Group). log_of_member 1 (g 1)) (to_one_is kinds.Eager)
 
 pub eager_relayed : put_in kinds.Eager to_one 1 2 ≡ message ∷ []
 unfolding calls_of known
@@ -309,19 +311,44 @@ back : two_took.put 1 ≡ message ∷ []
 unfolding calls_of known
 back = simp in_1 refl
 
-lead_back : Leads (group_one kinds.AllAck) (at first (Took third 1) ∷ at third (Came first 1) ∷ at third (Took second 1) ∷ at second (Came third 1) ∷ []) group_all
+lead_sent : Leads (group_one kinds.AllAck) (at first (Took third 1) ∷ at third (Came first 1) ∷ at third (Took second 1) ∷ []) group_back
 unfolding calls_of known
-lead_back =
-    and_then (group_one kinds.AllAck) (at first (Took third 1)) zero_carried (at third (Came first 1) ∷ at third (Took second 1) ∷ at second (Came third 1) ∷ []) group_all (refl, omega arith, length_one ((zero_said kinds.AllAck).put 2) message (put_out kinds.AllAck 2 in_2 refl)) refl
-    (and_then group_carried (at third (Came first 1)) two_took (at third (Took second 1) ∷ at second (Came third 1) ∷ []) group_all (refl, omega arith, omega arith, refl)
+lead_sent =
+    and_then (group_one kinds.AllAck) (at first (Took third 1)) zero_carried (at third (Came first 1) ∷ at third (Took second 1) ∷ []) group_back (refl, omega arith, length_one ((zero_said kinds.AllAck).put 2) message (put_out kinds.AllAck 2 in_2 refl)) refl
+    (and_then group_carried (at third (Came first 1)) two_took (at third (Took second 1) ∷ []) group_back (refl, omega arith, omega arith, refl)
     (comes kinds.AllAck third first 1 (ready kinds.AllAck) refl (simp in_0 refl) ((zero_said kinds.AllAck).put 2) (ap (λ xs. slice_get xs 0) (put_out kinds.AllAck 2 in_2 refl)))
-    (and_then group_two (at third (Took second 1)) (carries 1 two_took) (at second (Came third 1) ∷ []) group_all (refl, omega arith, length_one (two_took.put 1) message back) refl
-    (and_then group_back (at second (Came third 1)) one_took_again [] group_all (refl, omega arith, omega arith, refl) (comes kinds.AllAck second third 1 (one_took kinds.AllAck) refl (simp (in_0, in_2) refl) (two_took.put 1) (ap (λ xs. slice_get xs 0) back)) (stop_here group_all))))
+    (and_then group_two (at third (Took second 1)) (carries 1 two_took) [] group_back (refl, omega arith, length_one (two_took.put 1) message back) refl (stop_here group_back)))
+
+-- what comes to node 1 from node 2 there
+lead_back : (g : Group) → g 1 ≡ one_took kinds.AllAck → slice_get ((g 2).put 1) 0 ≡ Some message → 1 ≤ (g 2).taken 1 → Leads g (at second (Came third 1) ∷ []) (with_at g 1 one_took_again)
+unfolding calls_of known
+lead_back g here there carried =
+    and_then g (at second (Came third 1)) one_took_again [] (with_at g 1 one_took_again) (ap (λ (m : Member). m.stopped) here, omega arith, carried, ap (λ (m : Member). is_marked 1 (m.come 2)) here)
+    (ap (λ (m : Member). taken_in 1 third 1 (slice_get ((g 2).put 1) 0) m) here ∙ comes kinds.AllAck second third 1 (one_took kinds.AllAck) refl (simp (in_0, in_2) refl) ((g 2).put 1) there) (stop_here (with_at g 1 one_took_again))
 
 to_all_is : alone 3 0 (opened kinds.AllAck ++ to_all) ≡ group_all
 to_all_is =
     (join nobody (group_open kinds.AllAck) group_all (opened kinds.AllAck) to_all (open_all kinds.AllAck)
-    (join (group_open kinds.AllAck) (group_one kinds.AllAck) group_all to_one (at first (Took third 1) ∷ at third (Came first 1) ∷ at third (Took second 1) ∷ at second (Came third 1) ∷ []) (lead_one kinds.AllAck) lead_back)).end
+    (join (group_open kinds.AllAck) (group_one kinds.AllAck) group_all to_one (at first (Took third 1) ∷ at third (Came first 1) ∷ at third (Took second 1) ∷ at second (Came third 1) ∷ []) (lead_one kinds.AllAck)
+    (join (group_one kinds.AllAck) group_back group_all (at first (Took third 1) ∷ at third (Came first 1) ∷ at third (Took second 1) ∷ []) (at second (Came third 1) ∷ []) lead_sent (lead_back group_back refl (ap (λ xs. slice_get xs 0) back) (omega arith))))).end
+
+-- node 2 drops the group before what it sent comes
+abbrev two_dropped : Member
+two_dropped = let next = drops (carries 1 two_took) in record next { replies = next.replies ++ Done ∷ [] }
+
+abbrev group_dropping : Group
+group_dropping = with_at group_back 2 two_dropped
+
+abbrev group_dropped : Group
+group_dropped = with_at group_dropping 1 one_took_again
+
+dropped_is : alone 3 0 (opened kinds.AllAck ++ dropped) ≡ group_dropped
+dropped_is =
+    (join nobody (group_open kinds.AllAck) group_dropped (opened kinds.AllAck) dropped (open_all kinds.AllAck)
+    (join (group_open kinds.AllAck) (group_one kinds.AllAck) group_dropped to_one (at first (Took third 1) ∷ at third (Came first 1) ∷ at third (Took second 1) ∷ at third Drop ∷ at second (Came third 1) ∷ []) (lead_one kinds.AllAck)
+    (join (group_one kinds.AllAck) group_back group_dropped (at first (Took third 1) ∷ at third (Came first 1) ∷ at third (Took second 1) ∷ []) (at third Drop ∷ at second (Came third 1) ∷ []) lead_sent
+    (and_then group_back (at third Drop) two_dropped (at second (Came third 1) ∷ []) group_dropped tt refl
+    (lead_back group_dropping refl (ap (λ xs. slice_get (take 1 xs) 0) back) (omega arith)))))).end
 
 abbrev without_two : Group
 without_two = with_at (group_one kinds.AllAck) 1 (notices 1 third (one_took kinds.AllAck))
@@ -334,16 +361,33 @@ without_two_is =
 
 pub all_ack_not_yet : log_in kinds.AllAck to_one 1 ≡ []
 unfolding calls_of known
-all_ack_not_yet = ap (λ (g : Group). log_at 1 (g 1).spec (g 1).told) (to_one_is kinds.AllAck) ∙ simp all_of refl
+all_ack_not_yet = ap (λ (g : Group). log_of_member 1 (g 1)) (to_one_is kinds.AllAck) ∙ simp all_of refl
 
 pub all_ack_delivered : log_in kinds.AllAck to_all 1 ≡ message ∷ []
 unfolding calls_of known
-all_ack_delivered = ap (λ (g : Group). log_at 1 (g 1).spec (g 1).told) to_all_is ∙ simp all_of refl
+all_ack_delivered = ap (λ (g : Group). log_of_member 1 (g 1)) to_all_is ∙ simp all_of refl
 
-pub all_ack_had : mentions (calls_of (alone 3 0 (opened kinds.AllAck ++ to_all) 2).told) (message_of message) ≡ true
+pub all_ack_had : HasHad (alone 3 0 (opened kinds.AllAck ++ to_all)) 2 (message_of message)
 unfolding calls_of known
 all_ack_had = ap (λ (g : Group). mentions (calls_of (g 2).told) (message_of message)) to_all_is
 
 pub all_ack_noticed : log_in kinds.AllAck (to_one ++ at second (Notice third) ∷ []) 1 ≡ message ∷ []
 unfolding calls_of known
-all_ack_noticed = ap (λ (g : Group). log_at 1 (g 1).spec (g 1).told) without_two_is ∙ simp all_of refl
+all_ack_noticed = ap (λ (g : Group). log_of_member 1 (g 1)) without_two_is ∙ simp all_of refl
+
+-- A member drops the group.
+
+pub dropped_gone : log_in kinds.AllAck dropped 2 ≡ []
+dropped_gone = ap (λ (g : Group). log_of_member 2 (g 2)) dropped_is
+
+pub dropped_delivered : log_in kinds.AllAck dropped 1 ≡ message ∷ []
+unfolding calls_of known
+dropped_delivered = ap (λ (g : Group). log_of_member 1 (g 1)) dropped_is ∙ simp all_of refl
+
+pub dropped_unnoticed : noticed_at (alone 3 0 (opened kinds.AllAck ++ dropped) 1) 2 ≡ false
+unfolding calls_of
+dropped_unnoticed = ap (λ (g : Group). noticed_at (g 1) 2) dropped_is
+
+pub dropped_had : HasHad (alone 3 0 (opened kinds.AllAck ++ dropped)) 2 (message_of message)
+unfolding calls_of known
+dropped_had = ap (λ (g : Group). mentions (calls_of (g 2).told) (message_of message)) dropped_is

@@ -1,5 +1,5 @@
 -- What holds of the whole group through every event that may happen: between members what came was taken in.
-use Rattle.std.proofs.Common.{◌≡◌, ℕ, ◌-◌, ◌<◌, ◌≤◌, Bool, true, false, ◌&&◌, ◌⊎◌, inl, inr, nat_eq, List, [], ◌∷◌, ◌++◌, Option, Some, None, refl, sym, ap, ◌∙◌, subst, arith}
+use Rattle.std.proofs.Common.{◌≡◌, ℕ, ◌+◌, ◌-◌, ◌<◌, ◌≤◌, Bool, true, false, ◌&&◌, ◌⊎◌, inl, inr, nat_eq, List, [], ◌∷◌, ◌++◌, length, Option, Some, None, refl, sym, ap, ◌∙◌, subst, arith}
 use Rattle.std.specs.Prelude.{slice_get, if◌then◌else◌}
 use Rattle.std.proofs.lemmas.Bool.{eqb-true, eq-eqb}
 use Rattle.gb_types.specs.Entry.{message_of}
@@ -14,12 +14,19 @@ use Rattle.gb_types.proofs.SameLemmas.{same_itself}
 use Rattle.gb_layer.specs.Bools.{or_first, and_both}
 use Rattle.gb_layer.specs.Histories.{said_mentioned}
 use Rattle.gb_layer.specs.Machine.{mentions, was_said, came_from}
-use Rattle.gb_rules.specs.Group.{is_member, is_other}
-use Rattle.gb_history.specs.History.{calls_of, falls_after}
+use Rattle.gb_rules.specs.Group.{is_gone, is_member, is_other}
+use Rattle.gb_history.specs.History.{calls_of, known, bytes_in, falls_after}
+use Rattle.gb_history.specs.Messages.{bytes_of}
+use Rattle.gb_history.proofs.MentionLemmas.{has-known}
+use Rattle.gb_alone.specs.Laws.{Accepted, IsAccepted}
+use Rattle.gb_alone.proofs.AcceptedLemmas.{own_said}
+use Rattle.gb_alone.proofs.IntegrityLemmas.{Fits}
+use Rattle.gb_alone.proofs.KnownLemmas.{all_at}
+use Rattle.gb_duties.proofs.BytesLemmas.{In, in_has, of_in, bytes_most, once_known, stands}
 use Rattle.gb_history.specs.declared.call.GroupCall.TheVariants.{Other, Crashed}
-use Rattle.gb_alone.specs.Alone.{Member, Group, reply_to, called, did, falls, taken_in, cut, took_notice, member_after, after, nobody, alone_from, is_marked, MayHappen, IsLegalFrom}
+use Rattle.gb_alone.specs.Alone.{Member, Group, held_spec, reply_to, called, did, falls, item_came, taken_in, cut, took_notice, member_after, after, nobody, alone_from, is_marked, MayHappen, IsLegalFrom}
 use Rattle.gb_alone.specs.declared.event.GroupEvent.{GroupEvent}
-use Rattle.gb_alone.specs.declared.event.GroupEvent.TheVariants.{Tenant, Make as AskMake, Open as AskOpen, Shut as AskShut, Say as AskSay, Took, Came, Done as Acknowledged, Notice, Stop}
+use Rattle.gb_alone.specs.declared.event.GroupEvent.TheVariants.{Tenant, Make as AskMake, Open as AskOpen, Shut as AskShut, Drop as AskDrop, Say as AskSay, Took, Came, Done as Acknowledged, Notice, Stop}
 use Rattle.gb_alone.specs.declared.event.GroupStep.{GroupStep}
 use Rattle.gb_duties.proofs.WordLemmas.{or_cases, has-get}
 use Rattle.gb_duties.proofs.ReplyLemmas.{IsFair, fall_why}
@@ -38,7 +45,7 @@ all_goes nodes number group step may bounded x = go (nat_eq x step.node.number) 
   where
     go : (t : Bool) → nat_eq x step.node.number ≡ t → Goes x (group x) (if t then member_after nodes number step.node step.event group else group x)
     go true is = subst (λ y. Goes y (group y) (member_after nodes number step.node step.event group)) (sym (eqb-true x step.node.number is)) (event_moves nodes number group step.node step.event may (bounded step.node.number))
-    go false is = record { spec = λ s is. is; from = λ p y h. h; stable = λ b i lt. refl; taken = λ b. omega arith; bounded = bounded x }
+    go false is = record { spec = λ s is. is; here = λ h. h; from = λ p y h. h; stable = λ b i lt. refl; taken = λ b. omega arith; bounded = bounded x }
 
 -- The places that have come.
 
@@ -52,6 +59,7 @@ did_come : (me : NodeId) (event : GroupEvent) (reply : Reply) (m : Member) → (
 did_come me (AskMake spec) Done m = refl
 did_come me AskOpen Done m = refl
 did_come me AskShut Done m = refl
+did_come me AskDrop Done m = refl
 did_come me (AskSay payload) (Said seq) m = refl
 did_come me event reply m = refl
 
@@ -76,7 +84,7 @@ event_come nodes number group me (Tenant reserve) y k h = inl h
 event_come nodes number group me (Took b count) y k h = inl h
 event_come nodes number group me (Came from place) y k h = taken_come me.number from place (slice_get ((group from.number).put me.number) (place - 1)) (group me.number) y k h
 event_come nodes number group me (Acknowledged b place count) y k h = inl h
-event_come nodes number group me (Notice q) y k h = inl (ap (λ (come : ℕ → List ℕ). is_marked k (come y)) (sym (notice_come me.number q (group me.number).spec (group me.number))) ∙ h)
+event_come nodes number group me (Notice q) y k h = inl (ap (λ (come : ℕ → List ℕ). is_marked k (come y)) (sym (notice_come me.number q (held_spec (group me.number).phase (group me.number).spec) (group me.number))) ∙ h)
 event_come nodes number group me Stop y k h = inl h
 event_come nodes number group me event y k h = inl (ap (λ (come : ℕ → List ℕ). is_marked k (come y)) (sym (did_come me event (reply_to nodes number me.number event (group me.number)) (group me.number))) ∙ h)
 
@@ -130,38 +138,75 @@ legal_parts nodes number (step ∷ early) late group legal = let rest = legal_pa
 
 -- What came was taken in.
 
+-- each entry that is known or put out is what its origin said
+abbrev pub IsSound : Group → Type 0
+IsSound group = (a : ℕ) → Fits (λ s. own_said (group s).told) (group a)
+
 pub record Taking (spec : Spec) (group : Group) : Type 0 where
   pub made : (a : ℕ) → is_member spec a ≡ true → (group a).spec ≡ Some spec
-  pub taken : (a b : ℕ) → is_member spec a ≡ true → is_member spec b ≡ true → nat_eq a b ≡ false → (place : ℕ) (x : Entry) → is_marked place ((group b).come a) ≡ true → slice_get ((group a).put b) (place - 1) ≡ Some x
+  pub taken : (a b : ℕ) → is_member spec a ≡ true → is_member spec b ≡ true → nat_eq a b ≡ false → is_gone (group b).phase ≡ false → (place : ℕ) (x : Entry) → is_marked place ((group b).come a) ≡ true → slice_get ((group a).put b) (place - 1) ≡ Some x
       → came_from b (calls_of (group b).told) a (message_of x) ≡ true
 
+-- the bytes of what is known of an origin and of a new message are at most what its spec lets it have
+new_bytes : (spec : Spec) (group : Group) (b : ℕ) (x : Entry) → AllFit group → IsSound group → (group x.origin.number).spec ≡ Some spec → IsAccepted (λ s. own_said (group s).told) x → was_said (calls_in group x.origin.number) (message_of x) ≡ true
+    → mentions (calls_of (group b).told) (message_of x) ≡ false → bytes_in (group b).told x.origin.number + length x.payload ≤ spec.bytes
+new_bytes spec group b x fits sound made is said new =
+    let most : bytes_of x.origin.number (x ∷ known (group b).told) ≤ bytes_in (group x.origin.number).told x.origin.number = bytes_most x.origin.number (x ∷ known (group b).told) (known (group x.origin.number).told) (has-known (group b).told (message_of x) ∙ new, once_known (group b).told) all in
+    let head : bytes_of x.origin.number (x ∷ known (group b).told) ≡ length x.payload + bytes_in (group b).told x.origin.number = ap (λ (t : Bool). (if t then length x.payload else 0) + bytes_in (group b).told x.origin.number) (eq-eqb x.origin.number x.origin.number refl) in
+    let light = (fits x.origin.number).light spec made in
+    omega (arith, most, head, light)
+  where
+    said_by : ℕ → List Accepted
+    said_by s = own_said (group s).told
+
+    there : (y : Entry) → IsAccepted said_by y → was_said (calls_in group y.origin.number) (message_of y) ≡ true → In y (known (group y.origin.number).told)
+    there y ok was =
+        stands said_by (known (group y.origin.number).told) y (sound y.origin.number).known ok
+        (has-known (group y.origin.number).told (message_of y) ∙ said_mentioned (calls_of (group y.origin.number).told) (message_of y) was)
+
+    all : (y : Entry) → In y (x ∷ known (group b).told) → y.origin.number ≡ x.origin.number → In y (known (group x.origin.number).told)
+    all y (inl e) own = subst (λ (z : Entry). In z (known (group x.origin.number).told)) e (there x is said)
+    all y (inr i) own =
+        subst (λ s. In y (known (group s).told)) own
+        (there y (of_in (IsAccepted said_by) (known (group b).told) y (sound b).known i) ((fits b).known (message_of y) (sym (has-known (group b).told (message_of y)) ∙ in_has (known (group b).told) y i)))
+
 -- an item that comes is taken in, or was so before
-arrival : (spec : Spec) (group : Group) (from : NodeId) (b place : ℕ) (x : Entry) → AllFit group → Taking spec group → is_member spec from.number ≡ true → is_member spec b ≡ true → nat_eq from.number b ≡ false
+arrival : (spec : Spec) (group : Group) (from : NodeId) (b place : ℕ) (x : Entry) → AllFit group → IsSound group → Taking spec group → is_member spec from.number ≡ true → is_member spec b ≡ true → nat_eq from.number b ≡ false → is_gone (group b).phase ≡ false
     → slice_get ((group from.number).put b) (place - 1) ≡ Some x → came_from b (calls_of (taken_in b from place (slice_get ((group from.number).put b) (place - 1)) (group b)).told) from.number (message_of x) ≡ true
 unfolding calls_of
-arrival spec group from b place x fits taking in_a in_b other item = subst (λ (o : Option Entry). came_from b (calls_of (taken_in b from place o (group b)).told) from.number (message_of x) ≡ true) (sym item) handed
+arrival spec group from b place x fits sound taking in_a in_b other here item = subst (λ (o : Option Entry). came_from b (calls_of (taken_in b from place o (group b)).told) from.number (message_of x) ≡ true) (sym item) handed
   where
-    known : mentions (calls_of (group from.number).told) (message_of x) ≡ true
-    known = (fits from.number).put_known b (message_of x) (has-get ((group from.number).put b) (place - 1) x item)
+    mentioned : mentions (calls_of (group from.number).told) (message_of x) ≡ true
+    mentioned = (fits from.number).put_known b (message_of x) (has-get ((group from.number).put b) (place - 1) x item)
+
+    said : was_said (calls_of (group x.origin.number).told) (message_of x) ≡ true
+    said = (fits from.number).known (message_of x) mentioned
 
     fair : IsFair spec (message_of x)
-    fair = (fits from.number).fair spec (taking.made from.number in_a) (message_of x) known
+    fair = (fits from.number).fair spec (taking.made from.number in_a) (message_of x) mentioned
 
     own : x.origin.number ≡ b → mentions (calls_of (group b).told) (message_of x) ≡ true
-    own is = said_mentioned (calls_of (group b).told) (message_of x) (subst (λ n. was_said (calls_of (group n).told) (message_of x) ≡ true) is ((fits from.number).known (message_of x) known))
+    own is = said_mentioned (calls_of (group b).told) (message_of x) (subst (λ n. was_said (calls_of (group n).told) (message_of x) ≡ true) is said)
+
+    light : mentions (calls_of (group b).told) (message_of x) ≡ false → bytes_in (group b).told x.origin.number + length x.payload ≤ spec.bytes
+    light = new_bytes spec group b x fits sound (taking.made x.origin.number fair.member) (all_at (IsAccepted (λ s. own_said (group s).told)) ((group from.number).put b) (place - 1) x ((sound from.number).put b) item) said
 
     by : (t : Bool) → falls_after spec b (group b).told from.number x ≡ t → came_from b (calls_of (if t then group b else called b (Other from x) (group b)).told) from.number (message_of x) ≡ true
-    by true e = fall_why spec b from.number x (came_from b (calls_of (group b).told) from.number (message_of x)) (mentions (calls_of (group b).told) (message_of x)) e in_a other fair own
+    by true e =
+        fall_why spec b from.number x (came_from b (calls_of (group b).told) from.number (message_of x)) (mentions (calls_of (group b).told) (message_of x)) (bytes_in (group b).told x.origin.number) e in_a other fair own light
     by false e = or_first (nat_eq from.number from.number && same (message_of x) (message_of x)) (came_from b (calls_of (group b).told) from.number (message_of x)) (and_both (eq-eqb from.number from.number refl) (same_itself (message_of x)))
 
-    handed : came_from b (calls_of (if falls b from.number x (group b).told (group b).spec then group b else called b (Other from x) (group b)).told) from.number (message_of x) ≡ true
-    handed = subst (λ (o : Option Spec). came_from b (calls_of (if falls b from.number x (group b).told o then group b else called b (Other from x) (group b)).told) from.number (message_of x) ≡ true) (sym (taking.made b in_b)) (by (falls_after spec b (group b).told from.number x) refl)
+    held : held_spec (group b).phase (group b).spec ≡ Some spec
+    held = ap (λ (gone : Bool). if gone then None else (group b).spec) here ∙ taking.made b in_b
 
-taking_after : (nodes number : ℕ) (spec : Spec) (group : Group) (step : GroupStep) → MayHappen step.node step.event group → Flow group → Taking spec group → Taking spec (after nodes number group step)
+    handed : came_from b (calls_of (item_came b from x (group b)).told) from.number (message_of x) ≡ true
+    handed = subst (λ (o : Option Spec). came_from b (calls_of (if falls b from.number x (group b).told o then group b else called b (Other from x) (group b)).told) from.number (message_of x) ≡ true) (sym held) (by (falls_after spec b (group b).told from.number x) refl)
+
+taking_after : (nodes number : ℕ) (spec : Spec) (group : Group) (step : GroupStep) → MayHappen step.node step.event group → Flow group → IsSound group → Taking spec group → Taking spec (after nodes number group step)
 unfolding after
-taking_after nodes number spec group step may flow taking = record {
+taking_after nodes number spec group step may flow sound taking = record {
   made = λ a in_a. (goes a).spec spec (taking.made a in_a);
-  taken = λ a b in_a in_b other place x come item. by a b in_a in_b other place x item (step_come nodes number group step b a place come);
+  taken = λ a b in_a in_b other here place x come item. by a b in_a in_b other here place x item (step_come nodes number group step b a place come);
 }
   where
     goes : (x : ℕ) → Goes x (group x) (after nodes number group step x)
@@ -171,39 +216,43 @@ taking_after nodes number spec group step may flow taking = record {
     before : (a b place : ℕ) (x : Entry) → (0 < place) × (place ≤ (group a).taken b) → slice_get ((after nodes number group step a).put b) (place - 1) ≡ Some x → slice_get ((group a).put b) (place - 1) ≡ Some x
     before a b place x at item = let some = at.0 in let few = at.1 in sym ((goes a).stable b (place - 1) (omega (arith, some, few))) ∙ item
 
-    new_one : (a b : ℕ) → is_member spec a ≡ true → is_member spec b ≡ true → nat_eq a b ≡ false → (place : ℕ) (x : Entry) → slice_get ((group a).put b) (place - 1) ≡ Some x → b ≡ step.node.number → IsArrival step.event a place
+    new_one : (a b : ℕ) → is_member spec a ≡ true → is_member spec b ≡ true → nat_eq a b ≡ false → is_gone (group b).phase ≡ false → (place : ℕ) (x : Entry) → slice_get ((group a).put b) (place - 1) ≡ Some x → b ≡ step.node.number → IsArrival step.event a place
         → came_from b (calls_of (after nodes number group step b).told) a (message_of x) ≡ true
-    new_one a b in_a in_b other place x item here new =
-        subst (λ z. slice_get ((group a).put z) (place - 1) ≡ Some x → is_member spec z ≡ true → nat_eq a z ≡ false → came_from z (calls_of (after nodes number group step z).told) a (message_of x) ≡ true) (sym here) at_node item in_b other
+    new_one a b in_a in_b other here place x item there new =
+        subst (λ z. slice_get ((group a).put z) (place - 1) ≡ Some x → is_member spec z ≡ true → nat_eq a z ≡ false → is_gone (group z).phase ≡ false → came_from z (calls_of (after nodes number group step z).told) a (message_of x) ≡ true) (sym there) at_node item in_b other here
       where
-        from_node : slice_get ((group new.from.number).put step.node.number) (place - 1) ≡ Some x → is_member spec new.from.number ≡ true → is_member spec step.node.number ≡ true → nat_eq new.from.number step.node.number ≡ false
+        from_node : slice_get ((group new.from.number).put step.node.number) (place - 1) ≡ Some x → is_member spec new.from.number ≡ true → is_member spec step.node.number ≡ true → nat_eq new.from.number step.node.number ≡ false → is_gone (group step.node.number).phase ≡ false
             → came_from step.node.number (calls_of (member_after nodes number step.node step.event group).told) new.from.number (message_of x) ≡ true
-        from_node item in_a in_b other =
+        from_node item in_a in_b other here =
             subst (λ (e : GroupEvent). came_from step.node.number (calls_of (member_after nodes number step.node e group).told) new.from.number (message_of x) ≡ true) (sym new.is)
-            (arrival spec group new.from step.node.number place x flow.fits taking in_a in_b other item)
+            (arrival spec group new.from step.node.number place x flow.fits sound taking in_a in_b other here item)
 
-        at_node : slice_get ((group a).put step.node.number) (place - 1) ≡ Some x → is_member spec step.node.number ≡ true → nat_eq a step.node.number ≡ false → came_from step.node.number (calls_of (after nodes number group step step.node.number).told) a (message_of x) ≡ true
-        at_node item in_b other =
+        at_node : slice_get ((group a).put step.node.number) (place - 1) ≡ Some x → is_member spec step.node.number ≡ true → nat_eq a step.node.number ≡ false → is_gone (group step.node.number).phase ≡ false → came_from step.node.number (calls_of (after nodes number group step step.node.number).told) a (message_of x) ≡ true
+        at_node item in_b other here =
             let done : came_from step.node.number (calls_of (member_after nodes number step.node step.event group).told) a (message_of x) ≡ true =
             subst (λ z. slice_get ((group z).put step.node.number) (place - 1) ≡ Some x → is_member spec z ≡ true → nat_eq z step.node.number ≡ false → came_from step.node.number (calls_of (member_after nodes number step.node step.event group).told) z (message_of x) ≡ true) (sym new.here)
-            (λ i ia o. from_node i ia in_b o) item in_a other in
+            (λ i ia o. from_node i ia in_b o here) item in_a other in
             ap (λ (t : Bool). came_from step.node.number (calls_of (if t then member_after nodes number step.node step.event group else group step.node.number).told) a (message_of x)) (eq-eqb step.node.number step.node.number refl) ∙ done
 
-    by : (a b : ℕ) → is_member spec a ≡ true → is_member spec b ≡ true → nat_eq a b ≡ false → (place : ℕ) (x : Entry) → slice_get ((after nodes number group step a).put b) (place - 1) ≡ Some x
+    by : (a b : ℕ) → is_member spec a ≡ true → is_member spec b ≡ true → nat_eq a b ≡ false → is_gone (after nodes number group step b).phase ≡ false → (place : ℕ) (x : Entry) → slice_get ((after nodes number group step a).put b) (place - 1) ≡ Some x
         → ((is_marked place ((group b).come a) ≡ true) ⊎ ((b ≡ step.node.number) × IsArrival step.event a place)) → came_from b (calls_of (after nodes number group step b).told) a (message_of x) ≡ true
-    by a b in_a in_b other place x item (inl old) = (goes b).from a (message_of x) (taking.taken a b in_a in_b other place x old (before a b place x (flow.come a b place old) item))
-    by a b in_a in_b other place x item (inr new) =
+    by a b in_a in_b other here place x item (inl old) = (goes b).from a (message_of x) (taking.taken a b in_a in_b other ((goes b).here here) place x old (before a b place x (flow.come a b place old) item))
+    by a b in_a in_b other here place x item (inr new) =
         let at = came_legal group step.node a place step.event new.1 may in
         let few = subst (λ z. place ≤ (group a).taken z) (sym new.0) at.1 in
-        new_one a b in_a in_b other place x (before a b place x (at.0, few) item) new.0 new.1
+        new_one a b in_a in_b other ((goes b).here here) place x (before a b place x (at.0, few) item) new.0 new.1
 
-pub run_takes : (nodes number : ℕ) (spec : Spec) (steps : List GroupStep) (group : Group) → IsLegalFrom nodes number group steps → Flow group → Taking spec group → Taking spec (alone_from nodes number group steps)
-run_takes nodes number spec [] group legal flow taking = taking
-run_takes nodes number spec (step ∷ steps) group legal flow taking = run_takes nodes number spec steps (after nodes number group step) legal.1 (flow_after nodes number group step legal.0 flow) (taking_after nodes number spec group step legal.0 flow taking)
+-- so it stays, where the group is sound at every moment
+pub run_takes : (nodes number : ℕ) (spec : Spec) (steps : List GroupStep) (group : Group) → ((earlier later : List GroupStep) → steps ≡ earlier ++ later → IsSound (alone_from nodes number group earlier)) → IsLegalFrom nodes number group steps → Flow group → Taking spec group
+    → Taking spec (alone_from nodes number group steps)
+run_takes nodes number spec [] group sound legal flow taking = taking
+run_takes nodes number spec (step ∷ steps) group sound legal flow taking =
+    run_takes nodes number spec steps (after nodes number group step) (λ earlier later is. sound (step ∷ earlier) later (ap (λ rest. step ∷ rest) is)) legal.1 (flow_after nodes number group step legal.0 flow)
+    (taking_after nodes number spec group step legal.0 flow (sound [] (step ∷ steps) refl) taking)
 
 -- where nothing was said yet nothing was put out
 pub first_taking : (spec : Spec) (group : Group) → AllFit group → ((a : ℕ) → is_member spec a ≡ true → (group a).spec ≡ Some spec) → ((a : ℕ) (m : MsgId) → was_said (calls_in group a) m ≡ true → ⊥) → Taking spec group
 first_taking spec group fits made silent = record {
   made = made;
-  taken = λ a b in_a in_b other place x come item. absurd (silent x.origin.number (message_of x) ((fits a).known (message_of x) ((fits a).put_known b (message_of x) (has-get ((group a).put b) (place - 1) x item))));
+  taken = λ a b in_a in_b other here place x come item. absurd (silent x.origin.number (message_of x) ((fits a).known (message_of x) ((fits a).put_known b (message_of x) (has-get ((group a).put b) (place - 1) x item))));
 }

@@ -1,5 +1,5 @@
 -- What holds of every node of a group alone, and of what the nodes were told together.
-use Rattle.std.proofs.Common.{◌≡◌, ℕ, ◌+◌, ◌<◌, ◌≤◌, Bool, true, false, not, ◌&&◌, ◌||◌, ◌⊎◌, inl, inr, nat_eq, List, [], ◌∷◌, ◌++◌, Option, Some, None, refl, sym, ap, ◌∙◌, subst, arith}
+use Rattle.std.proofs.Common.{◌≡◌, ℕ, ◌+◌, ◌<◌, ◌≤◌, Bool, true, false, not, ◌&&◌, ◌||◌, ◌⊎◌, inl, inr, nat_eq, List, [], ◌∷◌, ◌++◌, length, Option, Some, None, refl, sym, ap, ◌∙◌, subst, arith}
 use Rattle.std.specs.Prelude.{if◌then◌else◌}
 use Rattle.std.proofs.lemmas.Bool.{eqb-true, eq-eqb, cases_Bool, cases_lt}
 use Rattle.gb_types.specs.Entry.{message_of}
@@ -14,17 +14,19 @@ use Rattle.gb_layer.specs.Machine.{mentions, was_said, was_noticed, came_from}
 use Rattle.gb_layer.specs.Modules.{now_broadcast}
 use Rattle.gb_layer.specs.declared.call.Call.{Call}
 use Rattle.gb_stack.specs.Kinds.{module_of}
-use Rattle.gb_rules.specs.Group.{is_member, is_other}
-use Rattle.gb_history.specs.History.{call_of, calls_of, known, said_in, puts_of}
-use Rattle.gb_history.specs.Messages.{has}
+use Rattle.gb_rules.specs.Group.{is_gone, is_member, is_other}
+use Rattle.gb_history.specs.History.{call_of, calls_of, known, bytes_in, said_in, puts_of}
+use Rattle.gb_history.specs.Messages.{has, bytes_of}
 use Rattle.gb_history.specs.declared.call.GroupCall.{GroupCall}
 use Rattle.gb_history.specs.declared.call.GroupCall.TheVariants.{Own, Other, Crashed}
+use Rattle.gb_history.proofs.MentionLemmas.{has-known}
 use Rattle.gb_alone.specs.Alone.{Member, put_to}
 use Rattle.gb_duties.proofs.WordLemmas.{or_cases, is_not, has-append, has-entries, in_newly}
 use Rattle.gb_duties.proofs.ReplyLemmas.{IsFair}
+use Rattle.gb_duties.proofs.BytesLemmas.{bytes_of-append}
 
 -- what holds at the node a, where these are the calls of each node
-pub record Fits (calls : ℕ → List Call) (a : ℕ) (o : Option Spec) (told : List GroupCall) (put : ℕ → List Entry) : Type 0 where
+pub record Fits (calls : ℕ → List Call) (a : ℕ) (gone : Bool) (o : Option Spec) (told : List GroupCall) (put : ℕ → List Entry) : Type 0 where
   pub unmade : o ≡ None → told ≡ []
   -- the node is a member
   pub inside : (spec : Spec) → o ≡ Some spec → is_member spec a ≡ true
@@ -35,29 +37,32 @@ pub record Fits (calls : ℕ → List Call) (a : ℕ) (o : Option Spec) (told : 
   -- the messages said here are numbered from 1 on
   pub said_all : (m : MsgId) → m.origin.number ≡ a → 0 < m.seq → m.seq ≤ said_in told → was_said (calls_of told) m ≡ true
   pub said_few : (m : MsgId) → was_said (calls_of told) m ≡ true → m.seq ≤ said_in told
+  -- and have no more bytes than the spec lets them have
+  pub light : (spec : Spec) → o ≡ Some spec → bytes_in told a ≤ spec.bytes
   -- a node from which a message came has it
   pub from_known : (p : ℕ) (m : MsgId) → came_from a (calls_of told) p m ≡ true → mentions (calls p) m ≡ true
   -- what is put out is known here
   pub put_known : (b : ℕ) (m : MsgId) → has (put b) m ≡ true → mentions (calls_of told) m ≡ true
-  -- what is broadcast is put out to each other member that was not noticed
-  pub owes : (spec : Spec) → o ≡ Some spec → (b : ℕ) → is_other spec a b ≡ true → was_noticed (calls_of told) b ≡ false → (m : MsgId) → now_broadcast (module_of spec.kind) a (calls_of told) m ≡ true → has (put b) m ≡ true
+  -- where the group was not dropped, what is broadcast is put out to each other member that was not noticed
+  pub owes : gone ≡ false → (spec : Spec) → o ≡ Some spec → (b : ℕ) → is_other spec a b ≡ true → was_noticed (calls_of told) b ≡ false → (m : MsgId) → now_broadcast (module_of spec.kind) a (calls_of told) m ≡ true → has (put b) m ≡ true
 
 abbrev pub FitsAt : (ℕ → List Call) → ℕ → Member → Type 0
-FitsAt calls a m = Fits calls a m.spec m.told m.put
+FitsAt calls a m = Fits calls a (is_gone m.phase) m.spec m.told m.put
 
 -- each node was told the same and more
 pub record Later (old new : ℕ → List Call) : Type 0 where
   pub mentioned : (a : ℕ) (m : MsgId) → mentions (old a) m ≡ true → mentions (new a) m ≡ true
   pub said : (a : ℕ) (m : MsgId) → was_said (old a) m ≡ true → was_said (new a) m ≡ true
 
-pub fits_later : (old new : ℕ → List Call) → Later old new → (a : ℕ) (o : Option Spec) (told : List GroupCall) (put : ℕ → List Entry) → Fits old a o told put → Fits new a o told put
-fits_later old new later a o told put fits = record {
+pub fits_later : (old new : ℕ → List Call) → Later old new → (a : ℕ) (gone : Bool) (o : Option Spec) (told : List GroupCall) (put : ℕ → List Entry) → Fits old a gone o told put → Fits new a gone o told put
+fits_later old new later a gone o told put fits = record {
   unmade = fits.unmade;
   inside = fits.inside;
   fair = fits.fair;
   known = λ m h. later.said m.origin.number m (fits.known m h);
   said_all = fits.said_all;
   said_few = fits.said_few;
+  light = fits.light;
   from_known = λ p m h. later.mentioned p m (fits.from_known p m h);
   put_known = fits.put_known;
   owes = fits.owes;
@@ -65,8 +70,8 @@ fits_later old new later a o told put fits = record {
 
 -- what the group may be told of at a node
 abbrev pub Brings : (ℕ → List Call) → ℕ → Spec → List GroupCall → GroupCall → Type 0
-Brings calls a spec told (Own x) = (x.origin.number ≡ a) × (x.seq ≡ said_in told + 1) × (said_in told < spec.msgs)
-Brings calls a spec told (Other p x) = IsFair spec (message_of x) × (was_said (calls x.origin.number) (message_of x) ≡ true) × (mentions (calls p.number) (message_of x) ≡ true)
+Brings calls a spec told (Own x) = (x.origin.number ≡ a) × (x.seq ≡ said_in told + 1) × (said_in told < spec.msgs) × (bytes_in told a + length x.payload ≤ spec.bytes)
+Brings calls a spec told (Other p x) = IsFair spec (message_of x) × (was_said (calls x.origin.number) (message_of x) ≡ true) × (mentions (calls p.number) (message_of x) ≡ true) × (x.origin.number ≡ a → mentions (calls_of told) (message_of x) ≡ true)
 Brings calls a spec told (Crashed q) = Unit {0}
 
 module _ (calls : ℕ → List Call) (a : ℕ) (spec : Spec) (told : List GroupCall) where
@@ -149,28 +154,51 @@ module _ (calls : ℕ → List Call) (a : ℕ) (spec : Spec) (told : List GroupC
   said_few_called (Other p x) brings few m h = few m h
   said_few_called (Crashed q) brings few m h = few m h
 
+  light_called : (c : GroupCall) → Brings calls a spec told c → bytes_in told a ≤ spec.bytes → bytes_in (c ∷ told) a ≤ spec.bytes
+  unfolding known
+  light_called (Own x) brings light = go (has (known told) (message_of x))
+    where
+      heavier : (t : Bool) → bytes_of a (known told) + (if t then length x.payload else 0) ≤ spec.bytes
+      heavier true = let few = brings.3 in omega (arith, few)
+      heavier false = omega (arith, light)
+
+      go : (t : Bool) → bytes_of a (if t then known told else known told ++ x ∷ []) ≤ spec.bytes
+      go true = light
+      go false = let e = bytes_of-append a (known told) x in let few = heavier (nat_eq x.origin.number a) in omega (arith, e, few)
+  light_called (Other p x) brings light = go (has (known told) (message_of x)) refl
+    where
+      same_bytes : (t : Bool) → nat_eq x.origin.number a ≡ t → has (known told) (message_of x) ≡ false → bytes_of a (known told) + (if t then length x.payload else 0) ≤ spec.bytes
+      same_bytes true own new = let old : has (known told) (message_of x) ≡ true = has-known told (message_of x) ∙ brings.3 (eqb-true x.origin.number a own) in absurd (cc)
+      same_bytes false other new = omega (arith, light)
+
+      go : (t : Bool) → has (known told) (message_of x) ≡ t → bytes_of a (if t then known told else known told ++ x ∷ []) ≤ spec.bytes
+      go true old = light
+      go false new = let e = bytes_of-append a (known told) x in let few = same_bytes (nat_eq x.origin.number a) refl new in omega (arith, e, few)
+  light_called (Crashed q) brings light = light
+
 -- what a call puts out
 has-puts : (spec : Spec) (a : ℕ) (c : GroupCall) (told : List GroupCall) (m : MsgId)
     → has (puts_of spec a c told) m ≡ ((now_broadcast (module_of spec.kind) a (call_of c ∷ calls_of told) m && not (now_broadcast (module_of spec.kind) a (calls_of told) m)) && mentions (call_of c ∷ calls_of told) m)
 has-puts spec a c told m = has-entries (known (c ∷ told)) _ m ∙ in_newly (now_broadcast (module_of spec.kind) a) (call_of c) (calls_of told) m
 
 -- the group is told something at a node; before, what was broadcast was put out to each that is not noticed now
-pub fits_called : (calls : ℕ → List Call) (a : ℕ) (c : GroupCall) (spec : Spec) (told : List GroupCall) (put : ℕ → List Entry) → Brings calls a spec told c → calls a ≡ calls_of (c ∷ told)
-    → (before : ℕ → List Entry) → Fits calls a (Some spec) told before
+pub fits_called : (calls : ℕ → List Call) (a : ℕ) (gone : Bool) (c : GroupCall) (spec : Spec) (told : List GroupCall) (put : ℕ → List Entry) → Brings calls a spec told c → calls a ≡ calls_of (c ∷ told)
+    → (before : ℕ → List Entry) → Fits calls a gone (Some spec) told before
     → ((b : ℕ) (m : MsgId) → has (put b) m ≡ true → mentions (calls_of told) m ≡ true)
-    → ((b : ℕ) → is_other spec a b ≡ true → was_noticed (calls_of (c ∷ told)) b ≡ false → (m : MsgId) → now_broadcast (module_of spec.kind) a (calls_of told) m ≡ true → has (put b) m ≡ true)
-    → Fits calls a (Some spec) (c ∷ told) (put_to a (Some spec) c told put)
+    → (gone ≡ false → (b : ℕ) → is_other spec a b ≡ true → was_noticed (calls_of (c ∷ told)) b ≡ false → (m : MsgId) → now_broadcast (module_of spec.kind) a (calls_of told) m ≡ true → has (put b) m ≡ true)
+    → Fits calls a gone (Some spec) (c ∷ told) (put_to a (Some spec) c told put)
 unfolding calls_of
-fits_called calls a c spec told put brings grown before old put_known owes = record {
+fits_called calls a gone c spec told put brings grown before old put_known owes = record {
   unmade = λ e. absurd (cc);
   inside = λ s is. subst (λ (z : Spec). is_member z a ≡ true) (same_spec s is) (old.inside spec refl);
   fair = λ s is. subst (λ (z : Spec). (m : MsgId) → mentions (call_of c ∷ calls_of told) m ≡ true → IsFair z m) (same_spec s is) (fair_called calls a spec told c brings (old.inside spec refl) (old.fair spec refl));
   known = known_called calls a spec told c brings grown old.known;
   said_all = said_all_called calls a spec told c brings old.said_all;
   said_few = said_few_called calls a spec told c brings old.said_few;
+  light = λ s is. subst (λ (z : Spec). bytes_in (c ∷ told) a ≤ z.bytes) (same_spec s is) (light_called calls a spec told c brings (old.light spec refl));
   from_known = from_called calls a spec told c brings grown old.from_known;
   put_known = λ b. put_sound b (is_other spec a b && not (was_noticed (call_of c ∷ calls_of told) b));
-  owes = λ s is. subst (λ (z : Spec). (b : ℕ) → is_other z a b ≡ true → was_noticed (call_of c ∷ calls_of told) b ≡ false → (m : MsgId) → now_broadcast (module_of z.kind) a (call_of c ∷ calls_of told) m ≡ true → has (put_to a (Some spec) c told put b) m ≡ true) (same_spec s is) owed;
+  owes = λ here s is. subst (λ (z : Spec). (b : ℕ) → is_other z a b ≡ true → was_noticed (call_of c ∷ calls_of told) b ≡ false → (m : MsgId) → now_broadcast (module_of z.kind) a (call_of c ∷ calls_of told) m ≡ true → has (put_to a (Some spec) c told put b) m ≡ true) (same_spec s is) (owed here);
 }
   where
     same_spec : (s : Spec) → Some spec ≡ Some s → spec ≡ s
@@ -184,15 +212,15 @@ fits_called calls a c spec told put brings grown before old put_known owes = rec
         go (inr new) = and-second _ (mentions (call_of c ∷ calls_of told) m) (sym (has-puts spec a c told m) ∙ new)
     put_sound b false m h = mentions_stays (call_of c) (calls_of told) m (put_known b m h)
 
-    joined : (b : ℕ) (m : MsgId) → is_other spec a b ≡ true → was_noticed (call_of c ∷ calls_of told) b ≡ false → now_broadcast (module_of spec.kind) a (call_of c ∷ calls_of told) m ≡ true → has (put b ++ puts_of spec a c told) m ≡ true
-    joined b m other unnoticed out = has-append (put b) (puts_of spec a c told) m ∙ go (cases_Bool (now_broadcast (module_of spec.kind) a (calls_of told) m))
+    joined : gone ≡ false → (b : ℕ) (m : MsgId) → is_other spec a b ≡ true → was_noticed (call_of c ∷ calls_of told) b ≡ false → now_broadcast (module_of spec.kind) a (call_of c ∷ calls_of told) m ≡ true → has (put b ++ puts_of spec a c told) m ≡ true
+    joined here b m other unnoticed out = has-append (put b) (puts_of spec a c told) m ∙ go (cases_Bool (now_broadcast (module_of spec.kind) a (calls_of told) m))
       where
         go : ((now_broadcast (module_of spec.kind) a (calls_of told) m ≡ true) ⊎ (now_broadcast (module_of spec.kind) a (calls_of told) m ≡ false)) → (has (put b) m || has (puts_of spec a c told) m) ≡ true
-        go (inl old) = or_first (has (put b) m) (has (puts_of spec a c told) m) (owes b other unnoticed m old)
+        go (inl old) = or_first (has (put b) m) (has (puts_of spec a c told) m) (owes here b other unnoticed m old)
         go (inr new) = or_second (has (put b) m) (has (puts_of spec a c told) m)
             (has-puts spec a c told m ∙ and_both (and_both out (is_not (now_broadcast (module_of spec.kind) a (calls_of told) m) new)) (and-first (mentions (call_of c ∷ calls_of told) m) _ out))
 
-    owed : (b : ℕ) → is_other spec a b ≡ true → was_noticed (call_of c ∷ calls_of told) b ≡ false → (m : MsgId) → now_broadcast (module_of spec.kind) a (call_of c ∷ calls_of told) m ≡ true → has (put_to a (Some spec) c told put b) m ≡ true
-    owed b other unnoticed m out =
+    owed : gone ≡ false → (b : ℕ) → is_other spec a b ≡ true → was_noticed (call_of c ∷ calls_of told) b ≡ false → (m : MsgId) → now_broadcast (module_of spec.kind) a (call_of c ∷ calls_of told) m ≡ true → has (put_to a (Some spec) c told put b) m ≡ true
+    owed here b other unnoticed m out =
         let t : (is_other spec a b && not (was_noticed (call_of c ∷ calls_of told) b)) ≡ true = and_both other (is_not (was_noticed (call_of c ∷ calls_of told) b) unnoticed) in
-        ap (λ (t : Bool). has (if t then put b ++ puts_of spec a c told else put b) m) t ∙ joined b m other unnoticed out
+        ap (λ (t : Bool). has (if t then put b ++ puts_of spec a c told else put b) m) t ∙ joined here b m other unnoticed out

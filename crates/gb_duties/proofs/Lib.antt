@@ -1,5 +1,6 @@
 mod WordLemmas
 mod ReplyLemmas
+mod BytesLemmas
 mod InvariantLemmas
 mod StepLemmas
 mod LogLemmas

@@ -10,15 +10,15 @@ use Rattle.gb_types.specs.declared.reply.Reply.{Reply}
 use Rattle.gb_types.specs.declared.reply.Reply.TheVariants.{Done, Said}
 use Rattle.gb_types.specs.declared.spec.Spec.{Spec}
 use Rattle.gb_layer.specs.Machine.{was_noticed, came_from}
-use Rattle.gb_rules.specs.Group.{is_other}
+use Rattle.gb_rules.specs.Group.{is_gone, is_other}
 use Rattle.gb_history.specs.History.{call_of, calls_of, puts_of}
 use Rattle.gb_history.specs.declared.call.GroupCall.{GroupCall}
 use Rattle.gb_history.specs.declared.call.GroupCall.TheVariants.{Own, Other, Crashed}
-use Rattle.gb_alone.specs.Alone.{Member, Group, reply_to, put_to, called, did, falls, item_came, taken_in, cut, took_notice, member_after, MayHappen}
+use Rattle.gb_alone.specs.Alone.{Member, Group, held_spec, reply_to, put_to, called, did, falls, item_came, taken_in, cut, took_notice, member_after, MayHappen}
 use Rattle.gb_alone.specs.declared.event.GroupEvent.{GroupEvent}
-use Rattle.gb_alone.specs.declared.event.GroupEvent.TheVariants.{Tenant, Make as AskMake, Open as AskOpen, Shut as AskShut, Say as AskSay, Took, Came, Done as Acknowledged, Notice, Stop}
+use Rattle.gb_alone.specs.declared.event.GroupEvent.TheVariants.{Tenant, Make as AskMake, Open as AskOpen, Shut as AskShut, Drop as AskDrop, Say as AskSay, Took, Came, Done as Acknowledged, Notice, Stop}
 use Rattle.gb_duties.proofs.WordLemmas.{came_stays}
-use Rattle.gb_duties.proofs.ReplyLemmas.{make_accepts}
+use Rattle.gb_duties.proofs.ReplyLemmas.{open_accepts, shut_accepts, make_accepts}
 
 -- no more is carried than was put out
 abbrev pub Bounded : Member → Type 0
@@ -27,6 +27,8 @@ Bounded m = (b : ℕ) → m.taken b ≤ length (m.put b)
 -- from m to n at the node a
 pub record Goes (a : ℕ) (m n : Member) : Type 0 where
   pub spec : (s : Spec) → m.spec ≡ Some s → n.spec ≡ Some s
+  -- a group that was dropped stays so
+  pub here : is_gone n.phase ≡ false → is_gone m.phase ≡ false
   pub from : (p : ℕ) (x : MsgId) → came_from a (calls_of m.told) p x ≡ true → came_from a (calls_of n.told) p x ≡ true
   -- carried items keep their places
   pub stable : (b i : ℕ) → i < m.taken b → slice_get (n.put b) i ≡ slice_get (m.put b) i
@@ -34,7 +36,7 @@ pub record Goes (a : ℕ) (m n : Member) : Type 0 where
   pub bounded : Bounded n
 
 stays : (a : ℕ) (m : Member) → Bounded m → Goes a m m
-stays a m bounded = record { spec = λ s is. is; from = λ p x h. h; stable = λ b i lt. refl; taken = λ b. omega arith; bounded = bounded }
+stays a m bounded = record { spec = λ s is. is; here = λ h. h; from = λ p x h. h; stable = λ b i lt. refl; taken = λ b. omega arith; bounded = bounded }
 
 get-append : (xs ys : List Entry) (i : ℕ) → i < length xs → slice_get (xs ++ ys) i ≡ slice_get xs i
 get-append [] ys i lt = absurd (omega (arith, lt))
@@ -52,6 +54,7 @@ called_moves : (a : ℕ) (c : GroupCall) (m n : Member) → Goes a m n → Goes 
 unfolding calls_of
 called_moves a c m n goes = record {
   spec = goes.spec;
+  here = goes.here;
   from = λ p x h. came_stays a (call_of c) (calls_of n.told) p x (goes.from p x h);
   stable = λ b i lt. grown b i n.spec (let h = goes.taken b in let k = goes.bounded b in omega (arith, h, k, lt)) ∙ goes.stable b i lt;
   taken = goes.taken;
@@ -77,6 +80,7 @@ called_moves a c m n goes = record {
 cut_moves : (a : ℕ) (q : NodeId) (m n : Member) → Goes a m n → Goes a m (cut q n)
 cut_moves a q m n goes = record {
   spec = goes.spec;
+  here = goes.here;
   from = goes.from;
   stable = λ b i lt. kept b i lt (nat_eq b q.number);
   taken = goes.taken;
@@ -92,7 +96,7 @@ cut_moves a q m n goes = record {
     few b false = goes.bounded b
 
 item_moves : (a : ℕ) (from : NodeId) (x : Entry) (m : Member) → Bounded m → Goes a m (item_came a from x m)
-item_moves a from x m bounded = by (falls a from.number x m.told m.spec)
+item_moves a from x m bounded = by (falls a from.number x m.told (held_spec m.phase m.spec))
   where
     by : (t : Bool) → Goes a m (if t then m else called a (Other from x) m)
     by true = stays a m bounded
@@ -102,7 +106,7 @@ taken_moves : (a : ℕ) (from : NodeId) (place : ℕ) (o : Option Entry) (m : Me
 taken_moves a from place None m bounded = stays a m bounded
 taken_moves a from place (Some x) m bounded =
     let g = item_moves a from x m bounded in
-    record { spec = g.spec; from = g.from; stable = g.stable; taken = g.taken; bounded = g.bounded }
+    record { spec = g.spec; here = g.here; from = g.from; stable = g.stable; taken = g.taken; bounded = g.bounded }
 
 notice_moves : (a : ℕ) (q : NodeId) (o : Option Spec) (m : Member) → Bounded m → Goes a m (took_notice a q o m)
 notice_moves a q None m bounded = stays a m bounded
@@ -115,17 +119,25 @@ notice_moves a q (Some spec) m bounded = by (is_other spec a q.number)
 did_moves : (nodes number : ℕ) (me : NodeId) (event : GroupEvent) (reply : Reply) (m : Member) → reply_to nodes number me.number event m ≡ reply → Bounded m → Goes me.number m (did me event reply m)
 did_moves nodes number me (AskMake spec) Done m e bounded =
     let new = (make_accepts nodes number me.number spec m e).new in
-    record { spec = λ s is. absurd (other s (sym new ∙ is)); from = λ p x h. h; stable = λ b i lt. refl; taken = λ b. omega arith; bounded = bounded }
+    record { spec = λ s is. absurd (other s (sym new ∙ is)); here = λ h. h; from = λ p x h. h; stable = λ b i lt. refl; taken = λ b. omega arith; bounded = bounded }
   where
     other : (s : Spec) → None ≡ Some s → ⊥
     other s h = absurd (cc)
-did_moves nodes number me AskOpen Done m e bounded = record { spec = λ s is. is; from = λ p x h. h; stable = λ b i lt. refl; taken = λ b. omega arith; bounded = bounded }
-did_moves nodes number me AskShut Done m e bounded = record { spec = λ s is. is; from = λ p x h. h; stable = λ b i lt. refl; taken = λ b. omega arith; bounded = bounded }
+did_moves nodes number me AskOpen Done m e bounded = record { spec = λ s is. is; here = λ h. open_accepts nodes number me.number m e; from = λ p x h. h; stable = λ b i lt. refl; taken = λ b. omega arith; bounded = bounded }
+did_moves nodes number me AskShut Done m e bounded = record { spec = λ s is. is; here = λ h. shut_accepts nodes number me.number m e; from = λ p x h. h; stable = λ b i lt. refl; taken = λ b. omega arith; bounded = bounded }
+did_moves nodes number me AskDrop Done m e bounded = record {
+  spec = λ s is. is;
+  here = λ h. absurd (cc);
+  from = λ p x h. h;
+  stable = λ b i lt. get-take (m.taken b) (m.put b) i lt;
+  taken = λ b. omega arith;
+  bounded = λ b. let few = length-take-le (m.taken b) (m.put b) (bounded b) in omega (arith, few);
+}
 did_moves nodes number me (AskSay payload) (Said seq) m e bounded = called_moves me.number (Own (record { origin = me; seq = seq; payload = payload })) m m (stays me.number m bounded)
 did_moves nodes number me event reply m e bounded = stays me.number m bounded
 
 took_moves : (a : ℕ) (b : NodeId) (count : ℕ) (m : Member) → m.taken b.number + count ≤ length (m.put b.number) → Bounded m → Goes a m (record m { taken = λ x. if nat_eq x b.number then m.taken x + count else m.taken x })
-took_moves a b count m room bounded = record { spec = λ s is. is; from = λ p x h. h; stable = λ y i lt. refl; taken = λ y. more y (nat_eq y b.number); bounded = λ y. few y (nat_eq y b.number) refl }
+took_moves a b count m room bounded = record { spec = λ s is. is; here = λ h. h; from = λ p x h. h; stable = λ y i lt. refl; taken = λ y. more y (nat_eq y b.number); bounded = λ y. few y (nat_eq y b.number) refl }
   where
     more : (y : ℕ) (t : Bool) → m.taken y ≤ (if t then m.taken y + count else m.taken y)
     more y true = omega arith
@@ -136,14 +148,14 @@ took_moves a b count m room bounded = record { spec = λ s is. is; from = λ p x
     few y false is = bounded y
 
 pub event_moves : (nodes number : ℕ) (group : Group) (me : NodeId) (event : GroupEvent) → MayHappen me event group → Bounded (group me.number) → Goes me.number (group me.number) (member_after nodes number me event group)
-event_moves nodes number group me (Tenant reserve) may bounded = record { spec = λ s is. is; from = λ p x h. h; stable = λ b i lt. refl; taken = λ b. omega arith; bounded = bounded }
+event_moves nodes number group me (Tenant reserve) may bounded = record { spec = λ s is. is; here = λ h. h; from = λ p x h. h; stable = λ b i lt. refl; taken = λ b. omega arith; bounded = bounded }
 event_moves nodes number group me (Took b count) may bounded = took_moves me.number b count (group me.number) may.2 bounded
 event_moves nodes number group me (Came from place) may bounded = taken_moves me.number from place (slice_get ((group from.number).put me.number) (place - 1)) (group me.number) bounded
-event_moves nodes number group me (Acknowledged b place count) may bounded = record { spec = λ s is. is; from = λ p x h. h; stable = λ b i lt. refl; taken = λ b. omega arith; bounded = bounded }
+event_moves nodes number group me (Acknowledged b place count) may bounded = record { spec = λ s is. is; here = λ h. h; from = λ p x h. h; stable = λ b i lt. refl; taken = λ b. omega arith; bounded = bounded }
 event_moves nodes number group me (Notice q) may bounded =
-    let g = notice_moves me.number q (group me.number).spec (group me.number) bounded in
-    record { spec = g.spec; from = g.from; stable = g.stable; taken = g.taken; bounded = g.bounded }
-event_moves nodes number group me Stop may bounded = record { spec = λ s is. is; from = λ p x h. h; stable = λ b i lt. refl; taken = λ b. omega arith; bounded = bounded }
+    let g = notice_moves me.number q (held_spec (group me.number).phase (group me.number).spec) (group me.number) bounded in
+    record { spec = g.spec; here = g.here; from = g.from; stable = g.stable; taken = g.taken; bounded = g.bounded }
+event_moves nodes number group me Stop may bounded = record { spec = λ s is. is; here = λ h. h; from = λ p x h. h; stable = λ b i lt. refl; taken = λ b. omega arith; bounded = bounded }
 event_moves nodes number group me event may bounded =
     let g = did_moves nodes number me event (reply_to nodes number me.number event (group me.number)) (group me.number) refl bounded in
-    record { spec = g.spec; from = g.from; stable = g.stable; taken = g.taken; bounded = g.bounded }
+    record { spec = g.spec; here = g.here; from = g.from; stable = g.stable; taken = g.taken; bounded = g.bounded }

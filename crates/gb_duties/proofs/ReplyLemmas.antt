@@ -7,50 +7,97 @@ use Rattle.gb_types.specs.Entry.{message_of}
 use Rattle.gb_types.specs.declared.entry.Entry.{Entry}
 use Rattle.gb_types.specs.declared.limits.TheConstants.{PAYLOAD}
 use Rattle.gb_types.specs.declared.message.MsgId.{MsgId}
-use Rattle.gb_types.specs.declared.refusal.Refusal.TheVariants.{NoGroup, Spent, BadMembers, OverReserve, TooLong, Budget, Stopped}
+use Rattle.gb_types.specs.declared.refusal.Refusal.TheVariants.{NoGroup, Spent, BadMembers, OverReserve, TooLong, Budget, Bytes, Window, Stopped}
+use Rattle.gb_types.specs.declared.reply.Reply.{Reply}
 use Rattle.gb_types.specs.declared.reply.Reply.TheVariants.{Done, Said, Refused}
 use Rattle.gb_types.specs.declared.spec.Spec.{Spec}
 use Rattle.gb_layer.specs.Bools.{or_left, or_right}
-use Rattle.gb_history.specs.History.{said_in, log_of}
-use Rattle.gb_rules.specs.Group.{say_answer, is_member, on_made}
+use Rattle.gb_history.specs.History.{said_in, bytes_in, log_of}
+use Rattle.gb_rules.specs.Group.{Shown, is_gone, open_answer, shut_answer, say_answer, is_member, on_made}
 use Rattle.gb_rules.specs.LetFall.{is_let_fall}
 use Rattle.gb_rules.specs.Tenant.{is_bad, is_over, make_answer, by_tenant}
 use Rattle.gb_rules.specs.declared.phase.Phase.{Phase}
-use Rattle.gb_rules.specs.declared.phase.Phase.TheVariants.{Made, Opened, Shut}
+use Rattle.gb_rules.specs.declared.phase.Phase.TheVariants.{Made, Opened, Shut, Gone}
 use Rattle.gb_rules.specs.declared.reserve.Reserve.{Reserve}
-use Rattle.gb_alone.specs.Alone.{Member, reply_to, shown_of}
-use Rattle.gb_alone.specs.declared.event.GroupEvent.TheVariants.{Make as AskMake, Say as AskSay}
+use Rattle.gb_alone.specs.Alone.{Member, held_spec, reply_to, on_group, usage_of, shown_in, shown_of}
+use Rattle.gb_alone.specs.declared.event.GroupEvent.TheVariants.{Make as AskMake, Open as AskOpen, Shut as AskShut, Say as AskSay}
 
 no_true : (b : Bool) → not b ≡ false → b ≡ true
 no_true true h = refl
 no_true false h = cc
 
+-- a group that is held was made and not dropped
+pub held_made : (phase : Phase) (o : Option Spec) (spec : Spec) → held_spec phase o ≡ Some spec → (is_gone phase ≡ false) × (o ≡ Some spec)
+held_made phase o spec h = go (is_gone phase) h
+  where
+    go : (gone : Bool) → (if gone then None else o) ≡ Some spec → (gone ≡ false) × (o ≡ Some spec)
+    go true h = absurd (cc)
+    go false h = (refl, h)
+
+-- only a group that was not dropped does what it is told
+pub awake : (answer : Shown → Reply) (me : ℕ) (m : Member) → on_group answer me m ≡ Done → is_gone m.phase ≡ false
+awake answer me m = by m.reserve m.spec
+  where
+    present : (s : Shown) (gone : Bool) → (if gone then Refused Spent else answer s) ≡ Done → gone ≡ false
+    present s true h = absurd (cc)
+    present s false h = refl
+
+    by : (reserve : Option Reserve) (o : Option Spec) → by_tenant (λ _. on_made answer (shown_of me m.phase m.told m.put m.done o)) reserve ≡ Done → is_gone m.phase ≡ false
+    by None o h = absurd (cc)
+    by (Some reserve) None h = absurd (cc)
+    by (Some reserve) (Some spec) h = present (shown_in me m.phase m.told m.put m.done spec) (is_gone m.phase) h
+
+pub open_accepts : (nodes number me : ℕ) (m : Member) → reply_to nodes number me AskOpen m ≡ Done → is_gone m.phase ≡ false
+open_accepts nodes number me m = running m.stopped
+  where
+    running : (stopped : Bool) → (if stopped then Refused Stopped else on_group open_answer me m) ≡ Done → is_gone m.phase ≡ false
+    running true h = absurd (cc)
+    running false h = awake open_answer me m h
+
+pub shut_accepts : (nodes number me : ℕ) (m : Member) → reply_to nodes number me AskShut m ≡ Done → is_gone m.phase ≡ false
+shut_accepts nodes number me m = running m.stopped
+  where
+    running : (stopped : Bool) → (if stopped then Refused Stopped else on_group shut_answer me m) ≡ Done → is_gone m.phase ≡ false
+    running true h = absurd (cc)
+    running false h = awake shut_answer me m h
+
 -- a say is accepted
-pub record Accepts (m : Member) (seq : ℕ) : Type 0 where
+pub record Accepts (me : ℕ) (payload : List ℕ) (m : Member) (seq : ℕ) : Type 0 where
   pub spec : Spec
   pub made : m.spec ≡ Some spec
   pub next : seq ≡ said_in m.told + 1
   pub within : said_in m.told < spec.msgs
+  pub light : bytes_in m.told me + length payload ≤ spec.bytes
 
-pub say_accepts : (nodes number me : ℕ) (payload : List ℕ) (seq : ℕ) (m : Member) → reply_to nodes number me (AskSay payload) m ≡ Said seq → Accepts m seq
+pub say_accepts : (nodes number me : ℕ) (payload : List ℕ) (seq : ℕ) (m : Member) → reply_to nodes number me (AskSay payload) m ≡ Said seq → Accepts me payload m seq
 say_accepts nodes number me payload seq m = running m.stopped
   where
-    admitted : (spec : Spec) → m.spec ≡ Some spec → (long many : Bool) → nat_le spec.msgs (said_in m.told) ≡ many → (if long then Refused TooLong else (if many then Refused Budget else Said (said_in m.told + 1))) ≡ Said seq → Accepts m seq
-    admitted spec made true many e h = absurd (cc)
-    admitted spec made false true e h = absurd (cc)
-    admitted spec made false false e h = record { spec = spec; made = made; next = cc; within = grind (arith, nat_tests, e) }
+    admitted : (spec : Spec) → m.spec ≡ Some spec → (long many heavy full : Bool) → nat_le spec.msgs (said_in m.told) ≡ many → nat_lt spec.bytes (bytes_in m.told me + length payload) ≡ heavy
+        → (if long then Refused TooLong else (if many then Refused Budget else (if heavy then Refused Bytes else (if full then Refused Window else Said (said_in m.told + 1))))) ≡ Said seq → Accepts me payload m seq
+    admitted spec made true many heavy full e f h = absurd (cc)
+    admitted spec made false true heavy full e f h = absurd (cc)
+    admitted spec made false false true full e f h = absurd (cc)
+    admitted spec made false false false true e f h = absurd (cc)
+    admitted spec made false false false false e f h = record { spec = spec; made = made; next = cc; within = grind (arith, nat_tests, e); light = grind (arith, nat_tests, f) }
 
-    answered : (spec : Spec) → m.spec ≡ Some spec → (phase : Phase) (log : List Entry) → say_answer (record { spec = spec; phase = phase; said = said_in m.told; log = log }) payload ≡ Said seq → Accepts m seq
-    answered spec made Made log h = absurd (cc)
-    answered spec made Shut log h = absurd (cc)
-    answered spec made Opened log h = admitted spec made (nat_lt PAYLOAD (length payload)) (nat_le spec.msgs (said_in m.told)) refl h
+    answered : (spec : Spec) → m.spec ≡ Some spec → (phase : Phase) → say_answer (record { spec = spec; phase = phase; usage = usage_of spec me m.told m.put m.done; log = log_of spec me m.told }) payload ≡ Said seq → Accepts me payload m seq
+    answered spec made Made h = absurd (cc)
+    answered spec made Shut h = absurd (cc)
+    answered spec made Gone h = absurd (cc)
+    answered spec made Opened h =
+        admitted spec made (nat_lt PAYLOAD (length payload)) (nat_le spec.msgs (said_in m.told)) (nat_lt spec.bytes (bytes_in m.told me + length payload))
+        (nat_le spec.window (usage_of spec me m.told m.put m.done).unfinished) refl refl h
 
-    by : (reserve : Option Reserve) (o : Option Spec) → m.spec ≡ o → by_tenant (λ _. on_made (λ s. say_answer s payload) (shown_of me m.phase m.told o)) reserve ≡ Said seq → Accepts m seq
+    present : (spec : Spec) → m.spec ≡ Some spec → (gone : Bool) → (if gone then Refused Spent else say_answer (shown_in me m.phase m.told m.put m.done spec) payload) ≡ Said seq → Accepts me payload m seq
+    present spec made true h = absurd (cc)
+    present spec made false h = answered spec made m.phase h
+
+    by : (reserve : Option Reserve) (o : Option Spec) → m.spec ≡ o → by_tenant (λ _. on_made (λ s. say_answer s payload) (shown_of me m.phase m.told m.put m.done o)) reserve ≡ Said seq → Accepts me payload m seq
     by None o is h = absurd (cc)
     by (Some reserve) None is h = absurd (cc)
-    by (Some reserve) (Some spec) is h = answered spec is m.phase (log_of spec me m.told) h
+    by (Some reserve) (Some spec) is h = present spec is (is_gone m.phase) h
 
-    running : (stopped : Bool) → (if stopped then Refused Stopped else by_tenant (λ _. on_made (λ s. say_answer s payload) (shown_of me m.phase m.told m.spec)) m.reserve) ≡ Said seq → Accepts m seq
+    running : (stopped : Bool) → (if stopped then Refused Stopped else by_tenant (λ _. on_made (λ s. say_answer s payload) (shown_of me m.phase m.told m.put m.done m.spec)) m.reserve) ≡ Said seq → Accepts me payload m seq
     running true h = absurd (cc)
     running false h = by m.reserve m.spec refl h
 
@@ -88,8 +135,8 @@ pub record IsFair (spec : Spec) (m : MsgId) : Type 0 where
   pub within : m.seq ≤ spec.msgs
 
 -- an item that is not let fall may be the group's
-pub fair_item : (spec : Spec) (me from : ℕ) (x : Entry) (before known : Bool) → is_let_fall spec me from x before known ≡ false → IsFair spec (message_of x)
-fair_item spec me from x before known h =
+pub fair_item : (spec : Spec) (me from : ℕ) (x : Entry) (before known : Bool) (seen : ℕ) → is_let_fall spec me from x before known seen ≡ false → IsFair spec (message_of x)
+fair_item spec me from x before known seen h =
     let second = or_right (not (is_member spec from)) _ h in
     let third = or_right (not (is_member spec x.origin.number)) _ second in
     let fifth = or_right before _ (or_right (nat_eq from me) _ third) in
@@ -106,10 +153,10 @@ fair_item spec me from x before known h =
     below e = grind (arith, nat_tests, e)
 
 -- such an item is let fall between members only where it came from there before
-pub fall_why : (spec : Spec) (me from : ℕ) (x : Entry) (before known : Bool) → is_let_fall spec me from x before known ≡ true → is_member spec from ≡ true → nat_eq from me ≡ false → IsFair spec (message_of x)
-    → (x.origin.number ≡ me → known ≡ true) → before ≡ true
-fall_why spec me from x before known h member other fair own =
-    go (is_member spec from) member (is_member spec x.origin.number) fair.member (nat_eq from me) other before (nat_eq x.seq 0) zero (nat_lt spec.msgs x.seq) over (nat_eq x.origin.number me) refl known refl h
+pub fall_why : (spec : Spec) (me from : ℕ) (x : Entry) (before known : Bool) (seen : ℕ) → is_let_fall spec me from x before known seen ≡ true → is_member spec from ≡ true → nat_eq from me ≡ false → IsFair spec (message_of x)
+    → (x.origin.number ≡ me → known ≡ true) → (known ≡ false → seen + length x.payload ≤ spec.bytes) → before ≡ true
+fall_why spec me from x before known seen h member other fair own light =
+    go (is_member spec from) member (is_member spec x.origin.number) fair.member (nat_eq from me) other before (nat_eq x.seq 0) zero (nat_lt spec.msgs x.seq) over known refl (nat_eq x.origin.number me) refl (nat_lt spec.bytes (seen + length x.payload)) refl h
   where
     zero : nat_eq x.seq 0 ≡ false
     zero = let some = fair.counted in grind (arith, nat_tests, some)
@@ -120,14 +167,18 @@ fall_why spec me from x before known h member other fair own =
     mine : nat_eq x.origin.number me ≡ true → known ≡ true
     mine e = own (eqb-true x.origin.number me e)
 
-    go : (i : Bool) → i ≡ true → (o : Bool) → o ≡ true → (q : Bool) → q ≡ false → (f z : Bool) → z ≡ false → (w : Bool) → w ≡ false → (u : Bool) → nat_eq x.origin.number me ≡ u → (k : Bool) → known ≡ k
-        → (not i || (not o || (q || (f || (z || (w || (u && not k))))))) ≡ true → f ≡ true
-    go i ei o eo q eq true z ez w ew u eu k ek h = refl
-    go false ei o eo q eq false z ez w ew u eu k ek h = absurd (cc)
-    go true ei false eo q eq false z ez w ew u eu k ek h = absurd (cc)
-    go true ei true eo true eq false z ez w ew u eu k ek h = absurd (cc)
-    go true ei true eo false eq false true ez w ew u eu k ek h = absurd (cc)
-    go true ei true eo false eq false false ez true ew u eu k ek h = absurd (cc)
-    go true ei true eo false eq false false ez false ew true eu true ek h = absurd (cc)
-    go true ei true eo false eq false false ez false ew false eu k ek h = absurd (cc)
-    go true ei true eo false eq false false ez false ew true eu false ek h = let e = mine eu in absurd (cc)
+    heavy : nat_lt spec.bytes (seen + length x.payload) ≡ true → seen + length x.payload ≤ spec.bytes → ⊥
+    heavy e le = grind (arith, nat_tests, e, le)
+
+    go : (i : Bool) → i ≡ true → (o : Bool) → o ≡ true → (q : Bool) → q ≡ false → (f z : Bool) → z ≡ false → (w : Bool) → w ≡ false → (k : Bool) → known ≡ k → (u : Bool) → nat_eq x.origin.number me ≡ u → (v : Bool) → nat_lt spec.bytes (seen + length x.payload) ≡ v
+        → (not i || (not o || (q || (f || (z || (w || (not k && (u || v)))))))) ≡ true → f ≡ true
+    go i ei o eo q eq true z ez w ew k ek u eu v ev h = refl
+    go false ei o eo q eq false z ez w ew k ek u eu v ev h = absurd (cc)
+    go true ei false eo q eq false z ez w ew k ek u eu v ev h = absurd (cc)
+    go true ei true eo true eq false z ez w ew k ek u eu v ev h = absurd (cc)
+    go true ei true eo false eq false true ez w ew k ek u eu v ev h = absurd (cc)
+    go true ei true eo false eq false false ez true ew k ek u eu v ev h = absurd (cc)
+    go true ei true eo false eq false false ez false ew true ek u eu v ev h = absurd (cc)
+    go true ei true eo false eq false false ez false ew false ek true eu v ev h = let e = mine eu in absurd (cc)
+    go true ei true eo false eq false false ez false ew false ek false eu true ev h = absurd (heavy ev (light ek))
+    go true ei true eo false eq false false ez false ew false ek false eu false ev h = absurd (cc)

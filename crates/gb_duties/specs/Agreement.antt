@@ -10,11 +10,11 @@ use Rattle.gb_layer.specs.Machine.{was_noticed}
 use Rattle.gb_layer.specs.declared.broadcast_module.BroadcastModule.TheVariants.{BestEffort, AllAck}
 use Rattle.gb_fifo.specs.Order.{numbered}
 use Rattle.gb_stack.specs.Kinds.{module_of}
-use Rattle.gb_rules.specs.Group.{is_member}
+use Rattle.gb_rules.specs.Group.{is_gone, is_member}
 use Rattle.gb_history.specs.History.{calls_of}
 use Rattle.gb_history.specs.Messages.{has}
-use Rattle.gb_alone.specs.Alone.{Group, alone, log_at, is_marked, IsLegal}
-use Rattle.gb_alone.specs.Laws.{Accepted, accepted}
+use Rattle.gb_alone.specs.Alone.{Group, alone, is_marked, IsLegal}
+use Rattle.gb_alone.specs.Laws.{Accepted, accepted, log_of_member}
 use Rattle.gb_alone.specs.declared.event.GroupStep.{GroupStep}
 
 -- a member that runs, where these nodes run and the others have stopped
@@ -29,6 +29,8 @@ pub record IsSettled (nodes number : ℕ) (steps : List GroupStep) (runs : ℕ �
   pub moment : steps ≡ earlier ++ later
   pub made : (a : ℕ) → is_member spec a ≡ true → (alone nodes number earlier a).spec ≡ Some spec
   pub silent : (s : ℕ) → accepted nodes number earlier s ≡ []
+  -- no running member has dropped it
+  pub kept : (a : ℕ) → IsRunning runs spec a → is_gone (alone nodes number steps a).phase ≡ false
   -- from one running member to another nothing waits, and each carried item has come
   pub carried : (a b : ℕ) → IsRunning runs spec a → IsRunning runs spec b → a ≢ b → (alone nodes number steps a).taken b ≡ length ((alone nodes number steps a).put b)
   pub came : (a b : ℕ) → IsRunning runs spec a → IsRunning runs spec b → a ≢ b → (place : ℕ) → 0 < place → place ≤ (alone nodes number steps a).taken b → is_marked place ((alone nodes number steps b).come a) ≡ true
@@ -47,7 +49,7 @@ pub record KeepsAgreement (accepted : ℕ → List Accepted) (log : ℕ → List
 
 -- the log of each node
 abbrev pub logs_of : Group → ℕ → List Entry
-logs_of group b = log_at b (group b).spec (group b).told
+logs_of group b = log_of_member b (group b)
 
 -- so it is where a group is settled, whichever nodes are taken as those that run
 abbrev pub IsAgreed : Type 0

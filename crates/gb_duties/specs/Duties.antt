@@ -1,7 +1,7 @@
 -- Duties: what a node that delivered a message has done for each other member. By them Algorithms 3.1 to 3.4 of Cachin, Guerraoui, Rodrigues, Introduction to
 -- Reliable and Secure Distributed Programming, 2011, bring about Validity (Module 3.1), Agreement (Module 3.2) and Uniform Agreement (Module 3.3). They are safety:
 -- each holds after every event, and none says that something will happen.
-use Rattle.std.specs.Prelude.{ℕ, ◌≡◌, ◌⊎◌, Bool, true, List, ◌++◌, Some}
+use Rattle.std.specs.Prelude.{ℕ, ◌≡◌, ◌⊎◌, Bool, true, List, Some}
 use Rattle.std.specs.FinSet as set
 use Rattle.gb_types.specs.declared.entry.Entry.{Entry}
 use Rattle.gb_types.specs.declared.message.MsgId.{MsgId}
@@ -15,7 +15,8 @@ use Rattle.gb_stack.specs.Kinds.{module_of}
 use Rattle.gb_rules.specs.Group.{is_other}
 use Rattle.gb_history.specs.History.{calls_of}
 use Rattle.gb_history.specs.Messages.{has}
-use Rattle.gb_alone.specs.Alone.{Member, alone, IsLegal, log_at}
+use Rattle.gb_alone.specs.Alone.{Member, Group, alone, held_spec, IsLegal}
+use Rattle.gb_alone.specs.Laws.{log_of_member}
 use Rattle.gb_alone.specs.declared.event.GroupStep.{GroupStep}
 
 -- the node c is noticed, or the message stands among the items put out to it
@@ -46,22 +47,17 @@ delivered_at spec b member = is_in (log (module_of spec.kind) b (set.items spec.
 
 -- and those that stand in its log
 abbrev pub logged_at : ℕ → Member → MsgId → Bool
-logged_at b member = has (log_at b member.spec member.told)
+logged_at b member = has (log_of_member b member)
 
--- at some moment of these events the node c had said the message or taken it in
-pub record HasHad (nodes number : ℕ) (steps : List GroupStep) (c : ℕ) (m : MsgId) : Type 0 where
-  pub earlier : List GroupStep
-  pub later : List GroupStep
-  pub moment : steps ≡ earlier ++ later
-  pub had : mentions (calls_of (alone nodes number earlier c).told) m ≡ true
+-- the node c has said the message or taken it in; that it dropped the group since does not undo it
+abbrev pub HasHad : Group → ℕ → MsgId → Type 0
+HasHad group c m = mentions (calls_of (group c).told) m ≡ true
 
--- each node has done its duties for each message that it delivered, and so for each that stands in its log
-pub record Duties (nodes number : ℕ) (steps : List GroupStep) : Type 0 where
-  pub delivered : (b : ℕ) (spec : Spec) → (alone nodes number steps b).spec ≡ Some spec
-      → KeepsDuties spec b (noticed_at (alone nodes number steps b)) (alone nodes number steps b).put (HasHad nodes number steps) (delivered_at spec b (alone nodes number steps b))
-  pub logged : (b : ℕ) (spec : Spec) → (alone nodes number steps b).spec ≡ Some spec
-      → KeepsDuties spec b (noticed_at (alone nodes number steps b)) (alone nodes number steps b).put (HasHad nodes number steps) (logged_at b (alone nodes number steps b))
+-- each node where the group was made, and not dropped, has done its duties for each message that it delivered, and so for each that stands in its log
+pub record Duties (group : Group) : Type 0 where
+  pub delivered : (b : ℕ) (spec : Spec) → held_spec (group b).phase (group b).spec ≡ Some spec → KeepsDuties spec b (noticed_at (group b)) (group b).put (HasHad group) (delivered_at spec b (group b))
+  pub logged : (b : ℕ) (spec : Spec) → held_spec (group b).phase (group b).spec ≡ Some spec → KeepsDuties spec b (noticed_at (group b)) (group b).put (HasHad group) (logged_at b (group b))
 
 -- so it is after every event
 abbrev pub IsDutiful : Type 0
-IsDutiful = (nodes number : ℕ) (steps : List GroupStep) → IsLegal nodes number steps → Duties nodes number steps
+IsDutiful = (nodes number : ℕ) (steps : List GroupStep) → IsLegal nodes number steps → Duties (alone nodes number steps)

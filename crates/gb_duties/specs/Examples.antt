@@ -7,9 +7,10 @@ use Rattle.gb_types.specs.declared.entry.Entry.{Entry}
 use Rattle.gb_types.specs.declared.kind.Kind.{Kind}
 use Rattle.gb_types.specs.declared.node.NodeId.{NodeId}
 use Rattle.gb_types.specs.declared.spec.Spec.{Spec}
-use Rattle.gb_alone.specs.Alone.{alone, log_at}
+use Rattle.gb_alone.specs.Alone.{alone}
+use Rattle.gb_alone.specs.Laws.{log_of_member}
 use Rattle.gb_alone.specs.declared.event.GroupEvent.{GroupEvent}
-use Rattle.gb_alone.specs.declared.event.GroupEvent.TheVariants.{Tenant, Make, Open, Say, Took, Came, Notice, Stop}
+use Rattle.gb_alone.specs.declared.event.GroupEvent.TheVariants.{Tenant, Make, Open, Drop, Say, Took, Came, Notice, Stop}
 use Rattle.gb_alone.specs.declared.event.GroupStep.{GroupStep}
 
 abbrev pub first : NodeId
@@ -50,6 +51,10 @@ to_one = at first (Say (97 ∷ [])) ∷ at first (Took second 1) ∷ at second (
 abbrev pub to_all : List GroupStep
 to_all = to_one ++ (at first (Took third 1) ∷ at third (Came first 1) ∷ at third (Took second 1) ∷ at second (Came third 1) ∷ [])
 
+-- it comes to node 2, which relays it and drops the group; what it relayed still comes to node 1
+abbrev pub dropped : List GroupStep
+dropped = to_one ++ (at first (Took third 1) ∷ at third (Came first 1) ∷ at third (Took second 1) ∷ at third Drop ∷ at second (Came third 1) ∷ [])
+
 -- node 0 stops before the message goes to node 2, and the other nodes notice that
 abbrev pub loss : List GroupStep
 loss = to_one ++ (at first Stop ∷ at second (Notice first) ∷ at third (Notice first) ∷ [])
@@ -64,7 +69,7 @@ runs a = not (nat_eq a 0)
 
 -- of a group of the kind after these steps: what stands in the log of a node, and what it has put out to another
 abbrev pub log_in : Kind → List GroupStep → ℕ → List Entry
-log_in kind steps b = log_at b (alone 3 0 (opened kind ++ steps) b).spec (alone 3 0 (opened kind ++ steps) b).told
+log_in kind steps b = log_of_member b (alone 3 0 (opened kind ++ steps) b)
 
 abbrev pub put_in : Kind → List GroupStep → ℕ → ℕ → List Entry
 put_in kind steps b c = (alone 3 0 (opened kind ++ steps) b).put c

@@ -1,14 +1,13 @@
 //! Worked examples of duties and of agreement, in a group of the members 0, 1 and 2 where node 0 says one message:
 //! laws that compute, with no code.
-ghost use Rattle.std.specs.Prelude.{◌≡◌, true, ◌++◌, [], ◌∷◌};
+ghost use Rattle.std.specs.Prelude.{◌≡◌, false, ◌++◌, [], ◌∷◌};
 ghost use Rattle.gb_types.specs.Entry.{message_of};
 ghost use Rattle.gb_types.specs.declared.kind.Kind.TheVariants as kind;
-ghost use Rattle.gb_layer.specs.Machine.{mentions};
-ghost use Rattle.gb_history.specs.History.{calls_of};
 ghost use Rattle.gb_alone.specs.Alone.{alone, IsLegal};
 ghost use Rattle.gb_alone.specs.declared.event.GroupEvent.TheVariants.{Notice};
 ghost use Rattle.gb_duties.specs.Agreement.{IsSettled};
-ghost use Rattle.gb_duties.specs.Examples.{first, second, third, spec_of, message, at, opened, to_one, to_all, loss, crash, runs, log_in, put_in};
+ghost use Rattle.gb_duties.specs.Duties.{HasHad, noticed_at};
+ghost use Rattle.gb_duties.specs.Examples.{first, second, third, spec_of, message, at, opened, to_one, to_all, dropped, loss, crash, runs, log_in, put_in};
 
 /// A best-effort node has put out what it said, and does not relay what it delivered, whoever is noticed.
 pub fn a_best_effort_node_puts_out_its_own()
@@ -36,8 +35,17 @@ pub fn an_eager_node_relays_at_once()
 pub fn an_all_ack_node_waits_for_each_member()
     ensures not_yet { log_in kind.AllAck to_one 1 ≡ [] }
     ensures delivered { log_in kind.AllAck to_all 1 ≡ message ∷ [] }
-    ensures had { mentions (calls_of (alone 3 0 (opened kind.AllAck ++ to_all) 2).told) (message_of message) ≡ true }
+    ensures had { HasHad (alone 3 0 (opened kind.AllAck ++ to_all)) 2 (message_of message) }
     ensures noticed { log_in kind.AllAck (to_one ++ at second (Notice third) ∷ []) 1 ≡ message ∷ [] }
+{}
+
+/// A member that had the message drops the group, which empties its log: what it relayed still comes, and the all-ack
+/// node delivers by it, with nobody noticed.
+pub fn a_member_that_dropped_the_group_had_the_message()
+    ensures gone { log_in kind.AllAck dropped 2 ≡ [] }
+    ensures delivered { log_in kind.AllAck dropped 1 ≡ message ∷ [] }
+    ensures unnoticed { noticed_at (alone 3 0 (opened kind.AllAck ++ dropped) 1) 2 ≡ false }
+    ensures had { HasHad (alone 3 0 (opened kind.AllAck ++ dropped)) 2 (message_of message) }
 {}
 
 /// A group settles after a crash: node 0 stopped before its message went to node 2, and both nodes that run have it in
