@@ -15,8 +15,7 @@ use Rattle.gb_types.specs.declared.limits.TheConstants.{NODES}
 use Rattle.gb_types.specs.declared.message.MsgId.{MsgId}
 use Rattle.gb_types.specs.declared.node.NodeId.{NodeId}
 use Rattle.gb_types.specs.declared.reply.Reply.TheVariants.{Done}
-use Rattle.gb_layer.specs.Lists.{any_push}
-use Rattle.gb_layer.specs.Machine.{mentions, was_said, came_from, is_up}
+use Rattle.gb_layer.specs.Machine.{mentions, was_said, came_from}
 use Rattle.gb_layer.specs.Modules.{IsLawful}
 use Rattle.gb_layer.specs.Histories.{said_mentioned, own_said}
 use Rattle.gb_layer.specs.declared.call.Call.{Call}
@@ -34,6 +33,7 @@ use Rattle.gb_slot.specs.Slot.{waiting, taken_for, came_before, own_entry, slot_
 use Rattle.gb_slot.specs.SlotState.{SlotState}
 use Rattle.gb_slot.specs.StandsFor.{StandsFor, reaches}
 use Rattle.gb_history.proofs.MentionLemmas.{has-known}
+use Rattle.gb_slot.proofs.ArrivalLemmas.{nodes_with_message, nodes_after_came}
 use Rattle.gb_slot.proofs.NoticeLemmas.{contains-inserted, other_differs, notices_lawful, none_mentioned, none_came, none_known, none_said, none_logged, notice_calls, others_differ, notices_tell, noticed_are}
 use Rattle.gb_slot.proofs.TakenLemmas.{none_taken, drop-drop, taken_more, taken_elsewhere, waiting_few}
 use Rattle.gb_slot.proofs.CalledLemmas.{called_stands, waiting-called}
@@ -49,7 +49,7 @@ fresh_stands spec me noticed qs others tell = record {
   log = none_logged spec.kind me.number (set.items spec.members) qs;
   said = none_said qs;
   own = λ x here above. none_mentioned qs x;
-  arrivals = λ p x _. sym (none_came me.number qs p x);
+  arrivals = λ p x _. set.contains-empty nat_cmp p ∙ sym (none_came me.number qs p x);
   outgoing = tt;
   taken = λ b. none_taken NODES b;
   size = length-replicate {A = ℕ} NODES 0;
@@ -109,7 +109,7 @@ said_stands s told payload st =
     subst (λ store. StandsFor (said_with s payload store) (Own (own_entry s payload) ∷ told)) (own_store s told payload st)
     (called_stands s told (Own (own_entry s payload)) (s.said + 1) s.noticed (s.acknowledged ++ own_set s ∷ []) st (own_lawful s told payload st) (ap (λ n. n + 1) st.said)
     (λ x here above. let old : mentions (calls_of told) x ≡ false = st.own x here (omega arith) in later m x (mentions (calls_of told) x) above old)
-    (λ p x other. st.arrivals p x other ∙ elsewhere p (same m x) (came_from s.me.number (calls_of told) p x) other)
+    (λ p x other. ap (λ nodes. set.contains nodes p) (nodes_with_message s.arrivals m x) ∙ st.arrivals p x other ∙ elsewhere p (same m x) (came_from s.me.number (calls_of told) p x) other)
     st.noticed (length-append s.acknowledged (own_set s ∷ []) ∙ ap (λ n. n + 1) st.acknowledged))
   where
     elsewhere : (p : ℕ) (a b : Bool) → p ≢ s.me.number → b ≡ ((nat_eq s.me.number p && a) || b)
@@ -142,7 +142,7 @@ came_stands s told from x st stays =
     subst (λ b. StandsFor (if b then s else slot_called (call_of (Other from x)) (with_new s.store x) s) (Other from x ∷ told)) (sym stays)
     (called_stands s told (Other from x) s.said s.noticed s.acknowledged st (came_lawful s told from x st stays) st.said
     (λ y here above. let old = st.own y here above in apart m y (mentions (calls_of told) y) (λ e. let there : mentions (calls_of told) m ≡ true = facts.2 (ap (λ k. k.origin.number) (same-true m y e) ∙ here) in ap (mentions (calls_of told)) (sym (same-true m y e)) ∙ there) old)
-    (λ p y other. any_push (is_up p y) s.arrivals (record { via = from; m = m }) ∙ ap (λ b. (nat_eq from.number p && same m y) || b) (st.arrivals p y other))
+    (λ p y other. nodes_after_came s.arrivals from m y p ∙ ap (λ b. (nat_eq from.number p && same m y) || b) (st.arrivals p y other))
     st.noticed st.acknowledged)
   where
     apart : (m y : MsgId) (old : Bool) → (same m y ≡ true → old ≡ true) → old ≡ false → (same m y || old) ≡ false

@@ -1,44 +1,12 @@
 -- What a store keeps as bytes grow.
-use Rattle.std.proofs.Common.{◌≡◌, ℕ, ◌+◌, ◌-◌, ◌≤◌, ◌||◌, Bool, true, false, List, [], ◌∷◌, ◌++◌, length, take, drop, Some, None, refl, sym, ◌∙◌, ap, subst, arith, length-append, length-drop}
-use Rattle.std.specs.Prelude.{slice_range, is_some, if◌then◌else◌}
+use Rattle.std.proofs.Common.{◌≡◌, ℕ, ◌+◌, ◌-◌, ◌≤◌, List, [], ◌∷◌, ◌++◌, length, take, drop, refl, sym, ◌∙◌, ap, subst, arith, length-append, length-drop}
+use Rattle.std.specs.Prelude.{slice_range}
+use Rattle.std.specs.Ordering.{nat_cmp}
+use Rattle.std.specs.FinSet.{FinSet}
 use Rattle.std.proofs.lemmas.List.{take-append-le, drop-append-le, map-append}
 use Rattle.gb_types.specs.declared.message.MsgId.{MsgId}
-use Rattle.gb_types.specs.Message.{same}
 use Rattle.gb_slot.specs.declared.store.Kept.{Kept}
-use Rattle.gb_history.specs.Messages.{has, payload_in}
-use Rattle.gb_slot.specs.Kept.{entry_of, entries_of, AreInside, found}
-
-pub has-entries_of : (bytes : List ℕ) (kept : List Kept) (m : MsgId) → has (entries_of bytes kept) m ≡ is_some (found kept m)
-has-entries_of bytes [] m = refl
-has-entries_of bytes (k ∷ kept) m = go (same k.m m) (has-entries_of bytes kept m)
-  where
-    go : (b : Bool) → has (entries_of bytes kept) m ≡ is_some (found kept m) → (b || has (entries_of bytes kept) m) ≡ is_some (if b then Some k else found kept m)
-    go true rest = refl
-    go false rest = rest
-
-pub payload-found : (bytes : List ℕ) (kept : List Kept) (m : MsgId) (k : Kept) → found kept m ≡ Some k → payload_in (entries_of bytes kept) m ≡ slice_range bytes k.start k.end
-payload-found bytes [] m k is = cc
-payload-found bytes (x ∷ kept) m k is = go (same x.m m) is (payload-found bytes kept m k)
-  where
-    go : (b : Bool) → (if b then Some x else found kept m) ≡ Some k → (found kept m ≡ Some k → payload_in (entries_of bytes kept) m ≡ slice_range bytes k.start k.end) → (if b then slice_range bytes x.start x.end else payload_in (entries_of bytes kept) m) ≡ slice_range bytes k.start k.end
-    go true is rest = let e : x ≡ k = cc in ap (λ (y : Kept). slice_range bytes y.start y.end) e
-    go false is rest = rest is
-
-pub payload-missing : (bytes : List ℕ) (kept : List Kept) (m : MsgId) → found kept m ≡ None → payload_in (entries_of bytes kept) m ≡ []
-payload-missing bytes [] m is = refl
-payload-missing bytes (x ∷ kept) m is = go (same x.m m) is (payload-missing bytes kept m)
-  where
-    go : (b : Bool) → (if b then Some x else found kept m) ≡ None → (found kept m ≡ None → payload_in (entries_of bytes kept) m ≡ []) → (if b then slice_range bytes x.start x.end else payload_in (entries_of bytes kept) m) ≡ []
-    go true is rest = cc
-    go false is rest = rest is
-
-pub inside_found : (bytes : List ℕ) (kept : List Kept) (m : MsgId) (k : Kept) → AreInside bytes kept → found kept m ≡ Some k → (k.start ≤ k.end) × (k.end ≤ length bytes)
-inside_found bytes [] m k inside is = cc
-inside_found bytes (x ∷ kept) m k inside is = go (same x.m m) is (inside_found bytes kept m k inside.2)
-  where
-    go : (b : Bool) → (if b then Some x else found kept m) ≡ Some k → (found kept m ≡ Some k → (k.start ≤ k.end) × (k.end ≤ length bytes)) → (k.start ≤ k.end) × (k.end ≤ length bytes)
-    go true is rest = let e : x ≡ k = cc in subst (λ (y : Kept). (y.start ≤ y.end) × (y.end ≤ length bytes)) e (inside.0, inside.1)
-    go false is rest = rest is
+use Rattle.gb_slot.specs.Kept.{entry_of, entries_of, AreInside}
 
 -- a part of the bytes stays as bytes are added
 slice_range-append : (bytes more : List ℕ) (i j : ℕ) → i ≤ j → j ≤ length bytes → slice_range (bytes ++ more) i j ≡ slice_range bytes i j
@@ -73,22 +41,22 @@ AreInside-append bytes more [] k inside le within = (le, omega (arith, length-ap
 AreInside-append bytes more (x ∷ kept) k inside le within = (inside.0, omega (arith, inside.1, length-append bytes more), AreInside-append bytes more kept k inside.2 le within)
 
 -- the entries with one more
-pub entries_of-added : (bytes payload : List ℕ) (kept : List Kept) (m : MsgId) (j : ℕ) → AreInside bytes kept → j ≡ length bytes + length payload
-    → entries_of (bytes ++ payload) (kept ++ record { m = m; start = length bytes; end = j } ∷ []) ≡ entries_of bytes kept ++ record { origin = m.origin; seq = m.seq; payload = payload } ∷ []
-entries_of-added bytes payload kept m j inside is =
-    let k : Kept = record { m = m; start = length bytes; end = j } in
+pub entries_of-added : (bytes payload : List ℕ) (kept : List Kept) (m : MsgId) (nodes : FinSet nat_cmp) (j : ℕ) → AreInside bytes kept → j ≡ length bytes + length payload
+    → entries_of (bytes ++ payload) (kept ++ record { m = m; start = length bytes; end = j; from = nodes } ∷ []) ≡ entries_of bytes kept ++ record { origin = m.origin; seq = m.seq; payload = payload } ∷ []
+entries_of-added bytes payload kept m nodes j inside is =
+    let k : Kept = record { m = m; start = length bytes; end = j; from = nodes } in
     let last = slice_range-added bytes payload j is in
     map-append (entry_of (bytes ++ payload)) kept (k ∷ [])
     ∙ (ap (λ xs. xs ++ entry_of (bytes ++ payload) k ∷ []) (entries_of-append bytes payload kept inside)
     ∙ (λ i. entries_of bytes kept ++ record { origin = m.origin; seq = m.seq; payload = last i } ∷ []))
 
 -- what adding a message leaves
-pub added : (bytes later payload : List ℕ) (kept more : List Kept) (m : MsgId) (i j : ℕ) → later ≡ bytes ++ payload → i ≡ length bytes → j ≡ length later → more ≡ kept ++ record { m = m; start = i; end = j } ∷ [] → AreInside bytes kept
+pub added : (bytes later payload : List ℕ) (kept more : List Kept) (m : MsgId) (nodes : FinSet nat_cmp) (i j : ℕ) → later ≡ bytes ++ payload → i ≡ length bytes → j ≡ length later → more ≡ kept ++ record { m = m; start = i; end = j; from = nodes } ∷ [] → AreInside bytes kept
     → (entries_of later more ≡ entries_of bytes kept ++ record { origin = m.origin; seq = m.seq; payload = payload } ∷ []) × AreInside later more
-added bytes later payload kept more m i j longer start end grown inside =
+added bytes later payload kept more m nodes i j longer start end grown inside =
     let sum : j ≡ length bytes + length payload = end ∙ (ap length longer ∙ length-append bytes payload) in
-    let k : Kept = record { m = m; start = length bytes; end = j } in
-    let grown_so : more ≡ kept ++ k ∷ [] = grown ∙ ap (λ n. kept ++ record { m = m; start = n; end = j } ∷ []) start in (
-      ap (λ bs. entries_of bs more) longer ∙ (ap (entries_of (bytes ++ payload)) grown_so ∙ entries_of-added bytes payload kept m j inside sum),
+    let k : Kept = record { m = m; start = length bytes; end = j; from = nodes } in
+    let grown_so : more ≡ kept ++ k ∷ [] = grown ∙ ap (λ n. kept ++ record { m = m; start = n; end = j; from = nodes } ∷ []) start in (
+      ap (λ bs. entries_of bs more) longer ∙ (ap (entries_of (bytes ++ payload)) grown_so ∙ entries_of-added bytes payload kept m nodes j inside sum),
       subst (λ bs. AreInside bs more) (sym longer) (subst (AreInside (bytes ++ payload)) (sym grown_so) (AreInside-append bytes payload kept k inside (omega arith) (omega arith))),
     )

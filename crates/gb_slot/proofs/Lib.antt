@@ -1,9 +1,12 @@
+pub mod ArrivalLemmas
 pub mod CalledLemmas
 pub mod CountedLemmas
 pub mod HistoryLemmas
 pub mod KeptLemmas
 pub mod NoticeLemmas
+pub mod OwnLemmas
 pub mod PageLemmas
+pub mod PlaceLemmas
 pub mod RoomLemmas
 pub mod SlotLemmas
 pub mod TakenLemmas

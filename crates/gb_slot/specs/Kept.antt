@@ -1,9 +1,11 @@
--- Where the payloads of a store stand.
-use Rattle.std.specs.Prelude.{ℕ, ◌≡◌, ◌≤◌, ◌<◌, List, [], ◌∷◌, length, map, slice_index, slice_range, Option, Some, None, if◌then◌else◌}
+-- Where the messages of a store and their payloads stand.
+use Rattle.std.specs.Prelude.{ℕ, ◌≡◌, ◌≤◌, ◌<◌, List, [], ◌∷◌, length, map, take, slice_get, slice_index, slice_range, Bool, true, false, Option, Some, None}
+use Rattle.std.specs.List.{list_any}
 use Rattle.gb_types.specs.declared.entry.Entry.{Entry}
 use Rattle.gb_types.specs.declared.limits.TheConstants.{NODES}
 use Rattle.gb_types.specs.declared.message.MsgId.{MsgId}
 use Rattle.gb_types.specs.Message.{same}
+use Rattle.gb_slot.specs.Arrivals.{Arrival}
 use Rattle.gb_history.specs.Messages.{bytes_of}
 use Rattle.gb_slot.specs.declared.store.Kept.{Kept}
 
@@ -19,10 +21,21 @@ abbrev pub AreInside : List ℕ → List Kept → Type 0
 AreInside bytes [] = Unit {0}
 AreInside bytes (k ∷ kept) = (k.start ≤ k.end) × (k.end ≤ length bytes) × AreInside bytes kept
 
--- the first with the message
-abbrev pub found : List Kept → MsgId → Option Kept
-found [] m = None
-found (k ∷ kept) m = if same k.m m then Some k else found kept m
+-- what is kept is of the message
+abbrev pub is_of : MsgId → Kept → Bool
+is_of m k = same k.m m
+
+abbrev pub messages_of : List Kept → List MsgId
+messages_of kept = map (λ k. k.m) kept
+
+-- from which nodes each was taken in
+abbrev pub arrivals_of : List Kept → List Arrival
+arrivals_of kept = map (λ k. record { m = k.m; from = k.from }) kept
+
+-- the place of the first that is of the message, if there is one
+abbrev pub IsPlaceOf : MsgId → List Kept → Option ℕ → Type 0
+IsPlaceOf m kept None = list_any (is_of m) kept ≡ false
+IsPlaceOf m kept (Some i) = (i < length kept) × ((k : Kept) → slice_get kept i ≡ Some k → is_of m k ≡ true) × (list_any (is_of m) (take i kept) ≡ false)
 
 -- of each origin, so many are the payload bytes of its messages
 abbrev pub AreCounted : List ℕ → List Entry → Type 0

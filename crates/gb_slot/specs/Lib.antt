@@ -1,3 +1,4 @@
+pub mod Arrivals
 pub mod StoreValue
 pub mod Kept
 pub mod SlotState

@@ -1,5 +1,5 @@
 -- What each call makes of a slot.
-use Rattle.std.specs.Prelude.{ℕ, ◌≤◌, ◌<◌, ◌+◌, ◌-◌, ◌&&◌, ◌||◌, not, Bool, List, [], ◌∷◌, ◌++◌, length, map, drop, replicate, nat_eq, nat_le, slice_index_or, slice_set, if◌then◌else◌}
+use Rattle.std.specs.Prelude.{ℕ, ◌≡◌, ◌≤◌, ◌<◌, ◌+◌, ◌-◌, ◌&&◌, ◌||◌, not, Bool, false, List, [], ◌∷◌, ◌++◌, length, map, drop, replicate, nat_eq, nat_le, slice_index_or, slice_set, if◌then◌else◌}
 use Rattle.std.specs.Ordering.{nat_cmp}
 use Rattle.std.specs.FinSet as set
 use Rattle.gb_types.specs.Entry.{message_of}
@@ -10,11 +10,10 @@ use Rattle.gb_types.specs.declared.node.NodeId.{NodeId}
 use Rattle.gb_types.specs.declared.reply.Reply.{Reply}
 use Rattle.gb_types.specs.declared.reply.Reply.TheVariants.{Done, Said}
 use Rattle.gb_types.specs.declared.spec.Spec.{Spec}
-use Rattle.std.specs.List.{list_all, list_any}
-use Rattle.gb_layer.specs.Machine.{is_up, messages}
+use Rattle.std.specs.List.{list_all}
+use Rattle.gb_layer.specs.Machine.{messages}
 use Rattle.gb_layer.specs.declared.call.Call.{Call}
 use Rattle.gb_layer.specs.declared.call.Call.TheVariants.{Say, Came, Notice}
-use Rattle.gb_layer.specs.declared.effects.Up.{Up}
 use Rattle.gb_stack.specs.StackState.{new_stack, stack_next, stack_gives}
 use Rattle.gb_rules.specs.declared.phase.Phase.{Phase}
 use Rattle.gb_rules.specs.declared.phase.Phase.TheVariants.{Made}
@@ -22,6 +21,7 @@ use Rattle.gb_rules.specs.declared.usage.Usage.{Usage}
 use Rattle.gb_history.specs.Messages.{has, entry_in, with_new, bytes_of}
 use Rattle.gb_rules.specs.Group.{Shown, is_other}
 use Rattle.gb_rules.specs.LetFall.{is_let_fall}
+use Rattle.gb_slot.specs.Arrivals.{Arrival, with_message, nodes_of, with_arrived}
 use Rattle.gb_slot.specs.SlotState.{SlotState}
 
 -- the numbers of a spec are within the service's limits
@@ -66,10 +66,10 @@ slot_moved phase Done s = record s { phase = phase }
 slot_moved phase reply s = s
 
 -- what was taken in from other nodes, with what a call brings
-abbrev pub with_arrival : Call → List Up → List Up
-with_arrival (Say m) ups = ups
-with_arrival (Came p m) ups = ups ++ record { via = p; m = m } ∷ []
-with_arrival (Notice q) ups = ups
+abbrev pub with_arrival : Call → List Arrival → List Arrival
+with_arrival (Say m) arrivals = with_message arrivals m
+with_arrival (Came p m) arrivals = with_arrived p m arrivals
+with_arrival (Notice q) arrivals = arrivals
 
 -- the broadcast takes a call, after which these messages are known
 abbrev pub slot_called : Call → List Entry → SlotState → SlotState
@@ -94,7 +94,11 @@ slot_said payload reply s = s
 
 -- the same message was taken in from the node before
 abbrev pub came_before : SlotState → ℕ → MsgId → Bool
-came_before s from m = list_any (is_up from m) s.arrivals
+came_before s from m = set.contains (nodes_of s.arrivals m) from
+
+-- no own message beyond so many is known
+abbrev pub AreOwnSaid : ℕ → ℕ → List Entry → Type 0
+AreOwnSaid me said store = (x : MsgId) → x.origin.number ≡ me → said < x.seq → has store x ≡ false
 
 -- whether an item is let fall
 abbrev pub falls : NodeId → Entry → SlotState → Bool

@@ -6,9 +6,9 @@ use Rattle.gb_types.specs.declared.entry.Entry.{Entry}
 use Rattle.gb_types.specs.declared.message.MsgId.{MsgId}
 use Rattle.gb_types.specs.declared.node.NodeId.{NodeId}
 use Rattle.gb_types.specs.declared.spec.Spec.{Spec}
-use Rattle.gb_layer.specs.declared.effects.Up.{Up}
 use Rattle.gb_stack.specs.StackState.{StackState}
 use Rattle.gb_rules.specs.declared.phase.Phase.{Phase}
+use Rattle.gb_slot.specs.Arrivals.{Arrival}
 
 -- one group at one node
 pub record SlotState : Type 0 where
@@ -19,8 +19,8 @@ pub record SlotState : Type 0 where
   pub noticed : set.FinSet nat_cmp
   -- what the broadcast remembers
   pub stack : StackState
-  -- what was taken in from other nodes, in order
-  pub arrivals : List Up
+  -- for each message that is known, in order, the nodes from which it was taken in
+  pub arrivals : List Arrival
   -- how many messages were said here
   pub said : ℕ
   -- the messages that are known, in the order in which they became known

@@ -40,8 +40,6 @@ pub struct Slot {
     /// All that was broadcast and delivered, in order.
     effects: Effects,
     store: Store,
-    /// What was taken in from other nodes, in order.
-    arrivals: Vec<Up>,
     said: u32,
     taken: [usize; NODES],
     /// For each message that was said here, in order, the nodes that have it for good.
@@ -55,7 +53,7 @@ pub struct Slot {
 impl Model for Slot {
     ghost use Rattle.std.specs.Prelude.{◌≡◌, false, ◌≤◌, ◌+◌, vec_len, vec_capacity};
     ghost use Rattle.gb_types.specs.declared.limits.TheConstants.{MESSAGES, BYTES};
-    ghost use Rattle.gb_slot.specs.Slot.{unfinished_of};
+    ghost use Rattle.gb_slot.specs.Slot.{unfinished_of, AreOwnSaid};
     ghost use Rattle.gb_rules.specs.Group.{is_gone};
     ghost use Rattle.gb_stack.specs.StackRoom.{stack_room};
     ghost use Rattle.gb_layer.specs.Machine.{messages};
@@ -69,9 +67,9 @@ impl Model for Slot {
 
     ghost coded = { Prim.hlevel (codes, set.code {R = nat_cmp} coded_ℕ) };
 
-    ghost view = { λ s. record { state = record { spec = s.spec; me = s.me; phase = s.phase; noticed = s.noticed; stack = ⟦<Stack as Layer>⟧.meaning s.stack; arrivals = s.arrivals.items; said = s.said; store = s.store.entries; log = messages s.effects.ups.items; outgoing = s.effects.sends.items; taken = s.taken; acknowledged = s.acknowledged.items }; calls = s.calls; bytes = s.store.bytes } };
+    ghost view = { λ s. record { state = record { spec = s.spec; me = s.me; phase = s.phase; noticed = s.noticed; stack = ⟦<Stack as Layer>⟧.meaning s.stack; arrivals = s.store.arrivals; said = s.said; store = s.store.entries; log = messages s.effects.ups.items; outgoing = s.effects.sends.items; taken = s.taken; acknowledged = s.acknowledged.items }; calls = s.calls; bytes = s.store.bytes } };
 
-    ghost invariant = { λ s. ((is_gone s.phase ≡ false) × (s.said ≤ s.spec.msgs)) × (s.spec.msgs ≤ MESSAGES) × (s.spec.bytes ≤ BYTES) × (vec_len s.acknowledged ≡ s.said) × (s.unfinished ≡ unfinished_of s.spec s.noticed s.acknowledged.items) × (s.calls ≤ s.store.places) × (s.calls + vec_len s.arrivals ≤ vec_capacity s.arrivals) × (1 ≤ s.calls → stack_room s.stack (free_sends s.effects) (free_ups s.effects) s.calls) };
+    ghost invariant = { λ s. ((is_gone s.phase ≡ false) × (s.said ≤ s.spec.msgs)) × (s.spec.msgs ≤ MESSAGES) × (s.spec.bytes ≤ BYTES) × (vec_len s.acknowledged ≡ s.said) × (s.unfinished ≡ unfinished_of s.spec s.noticed s.acknowledged.items) × (s.calls ≤ s.store.places) × AreOwnSaid s.me.number s.said s.store.entries × (1 ≤ s.calls → stack_room s.stack (free_sends s.effects) (free_ups s.effects) s.calls) };
 }
 
 impl Slot {
@@ -93,6 +91,9 @@ impl Slot {
         if whole.is_err() {
             return Err(Refusal::OutOfMemory);
         }
+        let Ok(store) = Store::new(alloc, spec.msgs as u16) else {
+            return Err(Refusal::OutOfMemory);
+        };
         Ok(Slot {
             alloc,
             spec,
@@ -101,8 +102,7 @@ impl Slot {
             noticed: noticed.duplicate(),
             stack,
             effects,
-            store: Store::new(alloc),
-            arrivals: Vec::new(alloc),
+            store,
             said: 0,
             taken: [0; NODES],
             acknowledged: Vec::new(alloc),
@@ -144,7 +144,6 @@ impl Slot {
         self.calls = 0;
         self.stack.ready(calls, &mut self.effects)?;
         self.store.reserve(calls, bytes)?;
-        self.arrivals.reserve(calls)?;
         self.calls = calls;
         Ok(())
     }
@@ -210,17 +209,14 @@ impl Slot {
     {
         let m = MsgId { origin, seq };
         let known = self.store.contains(m);
-        let before = has_arrived(&self.arrivals, from, m);
+        let before = self.store.was_taken_in(m, from);
         let seen = self.store.bytes_of(origin);
         if is_let_fall(&self.spec, self.me, from, m, payload, before, known, seen) {
             return;
         }
         self.calls -= 1;
         self.stack.came(from, m, &mut self.effects);
-        self.arrivals.push_reserved(Up { via: from, m });
-        if !known {
-            self.store.push(m, payload);
-        }
+        self.store.take_in(m, payload, from);
     }
 
     /// Takes note that a node is noticed to have crashed. Nothing waits for it from then on. A node that is no
@@ -330,13 +326,6 @@ impl Slot {
     {
         self.taken[dest.index()] += count;
     }
-}
-
-/// Whether the message was taken in from the node.
-fn has_arrived(arrivals: &[Up], from: NodeId, m: MsgId) -> bool
-    ensures { result ≡ list_any (is_up from.number m) arrivals.now }
-{
-    arrivals.iter().any(|up| up.via == from && up.m == m)
 }
 
 /// The item at a place.

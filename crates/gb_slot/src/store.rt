@@ -1,25 +1,30 @@
 //! The messages that a slot knows, with their payloads. Each payload stands here once.
-ghost use Rattle.std.specs.Prelude.{◌≡◌, ◌+◌, ◌≤◌, ◌<◌, ◌-◌, ◌∷◌, ◌++◌, [], List, length, slice_index, slice_range, vec_len, vec_capacity, IfOk, OnOk};
-ghost use Rattle.gb_history.specs.Messages.{has, payload_in, entry_in, bytes_of};
-ghost use Rattle.gb_slot.specs.Kept.{found, entries_of, AreInside, AreCounted};
+ghost use Rattle.std.specs.Prelude.{◌≡◌, ℕ, true, false, ◌+◌, ◌≤◌, ◌<◌, ◌-◌, ◌∷◌, ◌++◌, [], List, length, slice_index, slice_range, vec_len, vec_capacity, IfOk, OnOk};
+ghost use Rattle.gb_history.specs.Messages.{has, payload_in, entry_in, with_new, bytes_of};
+ghost use Rattle.std.specs.FinSet as set;
+ghost use Rattle.gb_layer.specs.Table.{leads};
+ghost use Rattle.gb_slot.specs.Arrivals.{has_arrival, with_message, nodes_of, with_node, with_arrived};
+ghost use Rattle.gb_slot.specs.Kept.{entries_of, arrivals_of, messages_of, is_of, IsPlaceOf, AreInside, AreCounted};
 ghost use Rattle.gb_types.specs.declared.entry.Entry.{Entry as EntryValue};
 ghost use Rattle.gb_types.specs.declared.limits.TheConstants.{BYTES};
 
+use gb_layer::table::Table;
 use gb_types::entry::Entry;
 use gb_types::limits::NODES;
 use gb_types::memory::OutOfMemory;
 use gb_types::message::MsgId;
-use gb_types::node::NodeId;
+use gb_types::node::{NodeId, NodeSet};
 use gb_types::payload::Payload;
 use std::alloc::Global;
 use std::marker::Model;
 
-/// A message, and where its payload stands among the bytes.
-#[derive(Clone, Copy)]
+/// A message, where its payload stands among the bytes, and the nodes from which it was taken in.
+#[derive(Drop)]
 pub struct Kept {
     m: MsgId,
     start: usize,
     end: usize,
+    from: NodeSet,
 }
 
 /// Messages in the order in which they were put in, with their payloads, and room for more.
@@ -27,6 +32,8 @@ pub struct Kept {
 pub struct Store {
     kept: Vec<Kept>,
     bytes: Vec<u8>,
+    /// Where each message is kept.
+    table: Table,
     /// How many of the bytes are of each origin's messages.
     seen: [u32; NODES],
 }
@@ -34,23 +41,39 @@ pub struct Store {
 impl Model for Store {
     ghost use Rattle.std.specs.Prelude.{◌-◌, vec_len, vec_capacity};
     ghost use Rattle.gb_slot.specs.StoreValue.{StoreValue};
+    ghost use Rattle.std.specs.Coded.{codes, coded_ℕ};
+    ghost use Rattle.std.specs.Ordering.{nat_cmp};
+    ghost use Rattle.std.specs.FinSet as set;
 
     ghost Value = { StoreValue };
 
-    ghost use Rattle.gb_slot.specs.Kept.{entries_of, AreInside, AreCounted};
+    ghost coded = { Prim.hlevel (codes, set.code {R = nat_cmp} coded_ℕ) };
 
-    ghost view = { λ s. record { entries = entries_of s.bytes.items s.kept.items; places = vec_capacity s.kept - vec_len s.kept; bytes = vec_capacity s.bytes - vec_len s.bytes } };
+    ghost use Rattle.std.specs.Prelude.{◌≡◌, true};
+    ghost use Rattle.gb_layer.specs.Table.{leads};
+    ghost use Rattle.gb_slot.specs.Kept.{entries_of, arrivals_of, messages_of, AreInside, AreCounted};
 
-    ghost invariant = { λ s. AreInside s.bytes.items s.kept.items × AreCounted s.seen (entries_of s.bytes.items s.kept.items) };
+    ghost view = { λ s. record { entries = entries_of s.bytes.items s.kept.items; arrivals = arrivals_of s.kept.items; places = vec_capacity s.kept - vec_len s.kept; bytes = vec_capacity s.bytes - vec_len s.bytes } };
+
+    ghost invariant = { λ s. AreInside s.bytes.items s.kept.items × AreCounted s.seen (entries_of s.bytes.items s.kept.items) × (leads s.table.width s.table.told.items 0 (messages_of s.kept.items) ≡ true) };
 }
 
-/// Where the message is kept.
-fn find(kept: &[Kept], m: MsgId) -> Option<Kept>
-    ensures { result ≡ found kept.now m }
+/// Whether what is kept is of the message.
+fn is_of(kept: &Kept, m: MsgId) -> bool
+    ensures { result ≡ is_of m kept.now }
 {
-    for other in kept {
-        if other.m == m {
-            return Some(*other);
+    kept.m == m
+}
+
+/// Where the message is kept, found by a table.
+fn find(kept: &[Kept], table: &Table, m: MsgId) -> Option<usize>
+    requires { leads table.now.width table.now.told.items 0 (messages_of kept.now) ≡ true }
+    ensures { IsPlaceOf m kept.now result }
+{
+    let places = table.places(m, kept.len());
+    for i in places.from..places.to.min(kept.len()) {
+        if is_of(&kept[i], m) {
+            return Some(i);
         }
     }
     None
@@ -66,13 +89,40 @@ fn part(bytes: &[u8], start: usize, end: usize) -> &[u8]
 }
 
 /// The payload of a message, none where it is not there.
-fn payload_of<'a>(kept: &[Kept], bytes: &'a [u8], m: MsgId) -> &'a [u8]
-    requires { AreInside bytes.now kept.now }
+fn payload_of<'a>(kept: &[Kept], table: &Table, bytes: &'a [u8], m: MsgId) -> &'a [u8]
+    requires inside { AreInside bytes.now kept.now }
+    requires leads { leads table.now.width table.now.told.items 0 (messages_of kept.now) ≡ true }
     ensures { result.now ≡ payload_in (entries_of bytes.entry.now kept.now) m }
 {
-    match find(kept, m) {
-        Some(place) => part(bytes, place.start, place.end),
+    match find(kept, table, m) {
+        Some(i) => part(bytes, kept[i].start, kept[i].end),
         None => &[],
+    }
+}
+
+/// Whether a message was taken in from a node.
+fn was_taken_in(kept: &[Kept], table: &Table, m: MsgId, from: NodeId) -> bool
+    requires { leads table.now.width table.now.told.items 0 (messages_of kept.now) ≡ true }
+    ensures { result ≡ set.contains (nodes_of (arrivals_of kept.now) m) from.number }
+{
+    match find(kept, table, m) {
+        Some(i) => kept[i].from.contains(from),
+        None => false,
+    }
+}
+
+/// A message was taken in from a node.
+fn mark(kept: &mut Vec<Kept>, table: &Table, m: MsgId, from: NodeId)
+    requires { leads table.now.width table.now.told.items 0 (messages_of kept.old.items) ≡ true }
+    ensures arrivals { arrivals_of kept.new.items ≡ with_node from m (arrivals_of kept.old.items) }
+    ensures messages { messages_of kept.new.items ≡ messages_of kept.old.items }
+    ensures entries { (bytes : List ℕ) → entries_of bytes kept.new.items ≡ entries_of bytes kept.old.items }
+    ensures inside { (bytes : List ℕ) → AreInside bytes kept.old.items → AreInside bytes kept.new.items }
+    ensures kept { (vec_len kept.new ≡ vec_len kept.old) × (vec_capacity kept.new ≡ vec_capacity kept.old) }
+{
+    match find(kept, table, m) {
+        Some(i) => kept[i].from.insert(from),
+        None => {}
     }
 }
 
@@ -82,6 +132,8 @@ fn append(kept: &mut Vec<Kept>, bytes: &mut Vec<u8>, m: MsgId, payload: &[u8])
     requires room { vec_len bytes.old + length payload.now ≤ vec_capacity bytes.old }
     requires inside { AreInside bytes.old.items kept.old.items }
     ensures entries { entries_of bytes.new.items kept.new.items ≡ entries_of bytes.old.items kept.old.items ++ record { origin = m.origin; seq = m.seq; payload = payload.now } ∷ [] }
+    ensures arrivals { arrivals_of kept.new.items ≡ with_message (arrivals_of kept.old.items) m }
+    ensures messages { messages_of kept.new.items ≡ messages_of kept.old.items ++ m ∷ [] }
     ensures inside { AreInside bytes.new.items kept.new.items }
     ensures kept { (vec_len kept.new ≡ vec_len kept.old + 1) × (vec_capacity kept.new ≡ vec_capacity kept.old) }
     ensures bytes { (vec_len bytes.new ≡ vec_len bytes.old + length payload.now) × (vec_capacity bytes.old ≤ vec_capacity bytes.new) }
@@ -89,7 +141,12 @@ fn append(kept: &mut Vec<Kept>, bytes: &mut Vec<u8>, m: MsgId, payload: &[u8])
     let start = bytes.len();
     bytes.extend_from_slice(payload).unwrap();
     let end = bytes.len();
-    kept.push_reserved(Kept { m, start, end });
+    kept.push_reserved(Kept {
+        m,
+        start,
+        end,
+        from: NodeSet::new(),
+    });
 }
 
 /// Counts a payload's bytes as its origin's.
@@ -101,20 +158,24 @@ fn count_bytes(seen: &mut [u32; NODES], m: MsgId, payload: &[u8])
 }
 
 impl Store {
-    /// Nothing, and no room.
-    pub fn new(alloc: Global) -> Store
-        ensures { result.entries ≡ [] }
+    /// Nothing, and no room. Messages numbered up to this width are found at once, others by a search.
+    pub fn new(alloc: Global, width: u16) -> Result<Store, OutOfMemory>
+        ensures { IfOk result (λ s. (s.entries ≡ []) × (s.arrivals ≡ [])) }
     {
-        Store {
+        let mut table = Table::new(alloc);
+        table.cover(width)?;
+        Ok(Store {
             kept: Vec::new(alloc),
             bytes: Vec::new(alloc),
+            table,
             seen: [0; NODES],
-        }
+        })
     }
 
     /// Makes room for so many messages, with so many bytes of payload in all.
     pub fn reserve(&mut self, messages: usize, bytes: usize) -> Result<(), OutOfMemory>
         ensures entries { self.new.entries ≡ self.old.entries }
+        ensures arrivals { self.new.arrivals ≡ self.old.arrivals }
         ensures room { OnOk result ((messages ≤ self.new.places) × (bytes ≤ self.new.bytes)) }
         ensures kept { (self.old.places ≤ self.new.places) × (self.old.bytes ≤ self.new.bytes) }
     {
@@ -125,13 +186,16 @@ impl Store {
 
     /// Puts a message in at the end, and copies its payload.
     pub fn push(&mut self, m: MsgId, payload: &[u8])
+        requires new { has self.old.entries m ≡ false }
         requires place { 1 ≤ self.old.places }
         requires bytes { length payload.now ≤ self.old.bytes }
         requires limit { bytes_of m.origin.number self.old.entries + length payload.now ≤ BYTES }
         ensures entries { self.new.entries ≡ self.old.entries ++ record { origin = m.origin; seq = m.seq; payload = payload.now } ∷ [] }
+        ensures arrivals { self.new.arrivals ≡ with_message self.old.arrivals m }
         ensures places { self.old.places ≤ self.new.places + 1 }
         ensures bytes { self.old.bytes ≤ self.new.bytes + length payload.now }
     {
+        self.table.note(m, self.kept.len());
         append(&mut self.kept, &mut self.bytes, m, payload);
         count_bytes(&mut self.seen, m, payload);
     }
@@ -145,16 +209,51 @@ impl Store {
 
     /// Whether the message is there.
     pub fn contains(&self, m: MsgId) -> bool
-        ensures { result ≡ has self.now.entries m }
+        ensures entries { result ≡ has self.now.entries m }
+        ensures arrivals { result ≡ has_arrival self.now.arrivals m }
     {
-        find(&self.kept, m).is_some()
+        find(&self.kept, &self.table, m).is_some()
+    }
+
+    /// Whether the message was taken in from the node.
+    pub fn was_taken_in(&self, m: MsgId, from: NodeId) -> bool
+        ensures { result ≡ set.contains (nodes_of self.now.arrivals m) from.number }
+    {
+        was_taken_in(&self.kept, &self.table, m, from)
+    }
+
+    /// The message, where it is there, was taken in from the node.
+    fn mark(&mut self, m: MsgId, from: NodeId)
+        ensures arrivals { self.new.arrivals ≡ with_node from m self.old.arrivals }
+        ensures entries { self.new.entries ≡ self.old.entries }
+        ensures room { (self.new.places ≡ self.old.places) × (self.new.bytes ≡ self.old.bytes) }
+    {
+        mark(&mut self.kept, &self.table, m, from);
+    }
+
+    /// Takes a message in from a node. Where it is not there it is put in, and its payload copied.
+    pub fn take_in(&mut self, m: MsgId, payload: &[u8], from: NodeId)
+        requires place { 1 ≤ self.old.places }
+        requires bytes { length payload.now ≤ self.old.bytes }
+        requires limit { has self.old.entries m ≡ false → bytes_of m.origin.number self.old.entries + length payload.now ≤ BYTES }
+        ensures entries { self.new.entries ≡ with_new self.old.entries (record { origin = m.origin; seq = m.seq; payload = payload.now }) }
+        ensures arrivals { self.new.arrivals ≡ with_arrived from m self.old.arrivals }
+        ensures places { self.old.places ≤ self.new.places + 1 }
+        ensures bytes { self.old.bytes ≤ self.new.bytes + length payload.now }
+    {
+        if self.contains(m) {
+            self.mark(m, from);
+            return;
+        }
+        self.push(m, payload);
+        self.mark(m, from);
     }
 
     /// The payload of a message, none where it is not there.
     pub fn payload(&self, m: MsgId) -> &[u8]
         ensures { result.now ≡ payload_in self.now.entries m }
     {
-        payload_of(&self.kept, &self.bytes, m)
+        payload_of(&self.kept, &self.table, &self.bytes, m)
     }
 
     /// The message with its payload, copied.

@@ -1,9 +1,19 @@
 use Rattle.std.proofs.Common.{sym, ◌∙◌, ap}
-use Rattle.std.specs.Prelude.{is_some}
-use Rattle.gb_slot.specs.Kept.{found}
-use Rattle.gb_slot.proofs.KeptLemmas.{has-entries_of}
+use Rattle.std.specs.List.{list_any}
+use Rattle.gb_slot.specs.Kept.{is_of}
+use Rattle.gb_slot.proofs.PlaceLemmas.{any_entries, any_arrivals, any_found}
 use Rattle.gb_slot.proofs.store.Store.contains.Goals as goal
 
-pub returns : goal.returns
-returns c =
-    rw (← c.self.view_is) (c.is_some.ensures ∙ (ap (λ o. is_some o) (c.find.ensures ∙ ap (λ ks. found ks c.args.m) c.deref.ensures.value) ∙ sym (has-entries_of c.self.inside.bytes.items c.self.inside.kept.items c.args.m)))
+pub returns-clause-entries : goal.returns-clause-entries
+returns-clause-entries c =
+    let m = c.args.m in
+    let s = c.self.inside in
+    let found = any_found m c.deref.result.now c.find.result c.find.ensures ∙ ap (λ ks. list_any (is_of m) ks) c.deref.ensures.value in
+    rw (← c.self.view_is) (c.is_some.ensures ∙ (found ∙ sym (any_entries m s.bytes.items s.kept.items)))
+
+pub returns-clause-arrivals : goal.returns-clause-arrivals
+returns-clause-arrivals c =
+    let m = c.args.m in
+    let s = c.self.inside in
+    let found = any_found m c.deref.result.now c.find.result c.find.ensures ∙ ap (λ ks. list_any (is_of m) ks) c.deref.ensures.value in
+    rw (← c.self.view_is) (c.is_some.ensures ∙ (found ∙ sym (any_arrivals m s.kept.items)))

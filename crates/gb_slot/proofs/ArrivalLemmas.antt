@@ -1,0 +1,64 @@
+-- From which nodes messages were taken in, after each call.
+use Rattle.std.proofs.Common.{◌≡◌, ℕ, ◌||◌, ◌&&◌, Bool, true, false, List, [], ◌∷◌, refl, sym, ◌∙◌, ap}
+use Rattle.std.specs.Prelude.{nat_eq, if◌then◌else◌}
+use Rattle.std.specs.Ordering.{nat_cmp}
+use Rattle.std.specs.FinSet as set
+use Rattle.std.proofs.Math.Bool.{and-true, and-false}
+use Rattle.gb_types.specs.declared.message.MsgId.{MsgId}
+use Rattle.gb_types.specs.declared.node.NodeId.{NodeId}
+use Rattle.gb_types.specs.Message.{same}
+use Rattle.gb_types.proofs.SameLemmas.{same-true, same_itself}
+use Rattle.gb_layer.specs.Lists.{any_push}
+use Rattle.gb_layer.specs.declared.call.Call.TheVariants.{Came}
+use Rattle.gb_slot.specs.Arrivals.{Arrival, has_arrival, with_message, nodes_of, with_node}
+use Rattle.gb_slot.specs.Slot.{with_arrival}
+use Rattle.gb_slot.proofs.NoticeLemmas.{contains-inserted}
+
+-- a message that was not taken in from a node changes nothing
+pub nodes_with_message : (arrivals : List Arrival) (m x : MsgId) → nodes_of (with_message arrivals m) x ≡ nodes_of arrivals x
+nodes_with_message [] m x =
+    elim (same m x) as (λ (b : Bool). (if b then set.empty {R = nat_cmp} else set.empty) ≡ set.empty) [
+      | true ↦ refl
+      | false ↦ refl
+    ]
+nodes_with_message (a ∷ arrivals) m x = ap (λ rest. if same a.m x then a.from else rest) (nodes_with_message arrivals m x)
+
+-- a node more from which a message was taken in that is among them
+nodes_with_node : (arrivals : List Arrival) (q : NodeId) (m x : MsgId) (p : ℕ) → has_arrival arrivals m ≡ true → set.contains (nodes_of (with_node q m arrivals) x) p ≡ ((nat_eq q.number p && same m x) || set.contains (nodes_of arrivals x) p)
+nodes_with_node [] q m x p there = cc
+nodes_with_node (a ∷ arrivals) q m x p there = at (same a.m m) (same a.m x) refl refl there (nodes_with_node arrivals q m x p)
+  where
+    split : (t : Bool) → set.contains (if t then set.insert a.from q.number else nodes_of arrivals x) p ≡ ((nat_eq q.number p && t) || set.contains (if t then a.from else nodes_of arrivals x) p)
+    split true = contains-inserted a.from q.number p ∙ ap (λ b. b || set.contains a.from p) (sym (and-true (nat_eq q.number p)))
+    split false = ap (λ b. b || set.contains (nodes_of arrivals x) p) (sym (and-false (nat_eq q.number p)))
+
+    -- what is not m and is x shows that m is not x
+    differs : same a.m m ≡ false → same a.m x ≡ true → same m x ≡ false
+    differs other is =
+        elim (same m x) as (λ b. same m x ≡ b → b ≡ false) [
+          | true ↦ λ e. let here : same a.m m ≡ true = ap (same a.m) (same-true m x e ∙ sym (same-true a.m x is)) ∙ same_itself a.m in cc
+          | false ↦ λ e. refl
+        ] refl
+
+    at : (s t : Bool) → same a.m m ≡ s → same a.m x ≡ t → (s || has_arrival arrivals m) ≡ true
+        → (has_arrival arrivals m ≡ true → set.contains (nodes_of (with_node q m arrivals) x) p ≡ ((nat_eq q.number p && same m x) || set.contains (nodes_of arrivals x) p))
+        → set.contains (nodes_of (if s then record { m = a.m; from = set.insert a.from q.number } ∷ arrivals else a ∷ with_node q m arrivals) x) p ≡ ((nat_eq q.number p && same m x) || set.contains (if t then a.from else nodes_of arrivals x) p)
+    at true t here is rest further =
+        let equal : same m x ≡ t = ap (λ y. same y x) (sym (same-true a.m m here)) ∙ is in
+        ap (λ (b : Bool). set.contains (if b then set.insert a.from q.number else nodes_of arrivals x) p) is
+        ∙ (split t ∙ ap (λ b. (nat_eq q.number p && b) || set.contains (if t then a.from else nodes_of arrivals x) p) (sym equal))
+    at false true here is rest further =
+        ap (λ (b : Bool). set.contains (if b then a.from else nodes_of (with_node q m arrivals) x) p) is
+        ∙ sym (ap (λ b. (nat_eq q.number p && b) || set.contains a.from p) (differs here is) ∙ ap (λ b. b || set.contains a.from p) (and-false (nat_eq q.number p)))
+    at false false here is rest further =
+        ap (λ (b : Bool). set.contains (if b then a.from else nodes_of (with_node q m arrivals) x) p) is ∙ further rest
+
+-- after a message came from a node
+pub nodes_after_came : (arrivals : List Arrival) (q : NodeId) (m x : MsgId) (p : ℕ) → set.contains (nodes_of (with_arrival (Came q m) arrivals) x) p ≡ ((nat_eq q.number p && same m x) || set.contains (nodes_of arrivals x) p)
+nodes_after_came arrivals q m x p =
+    elim (has_arrival arrivals m) as (λ b. has_arrival arrivals m ≡ b → set.contains (nodes_of (with_node q m (if b then arrivals else with_message arrivals m)) x) p ≡ ((nat_eq q.number p && same m x) || set.contains (nodes_of arrivals x) p)) [
+      | true ↦ λ there. nodes_with_node arrivals q m x p there
+      | false ↦ λ _.
+          nodes_with_node (with_message arrivals m) q m x p (any_push (λ a. same a.m m) arrivals (record { m = m; from = set.empty }) ∙ ap (λ b. b || has_arrival arrivals m) (same_itself m))
+          ∙ ap (λ s. (nat_eq q.number p && same m x) || set.contains s p) (nodes_with_message arrivals m x)
+    ] refl

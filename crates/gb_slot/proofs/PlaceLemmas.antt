@@ -1,0 +1,130 @@
+-- What stands at the place of a message.
+use Rattle.std.proofs.Common.{◌≡◌, ℕ, zero, suc, ◌≤◌, ◌<◌, ◌||◌, Bool, true, false, List, [], ◌∷◌, length, take, set, get_or, slice_get, Some, None, refl, sym, ◌∙◌, ap, arith}
+use Rattle.std.specs.Prelude.{Option, slice_range, is_some, if◌then◌else◌}
+use Rattle.std.specs.Ordering.{nat_cmp}
+use Rattle.std.specs.FinSet as nodes
+use Rattle.std.specs.List.{list_any}
+use Rattle.std.proofs.Math.Bool.{or-true}
+use Rattle.gb_types.specs.declared.message.MsgId.{MsgId}
+use Rattle.gb_types.specs.declared.node.NodeId.{NodeId}
+use Rattle.gb_types.specs.Message.{same}
+use Rattle.gb_layer.specs.Bools.{or_left, or_right}
+use Rattle.gb_history.specs.Messages.{has, payload_in}
+use Rattle.gb_slot.specs.Arrivals.{Arrival, has_arrival, nodes_of, with_node}
+use Rattle.gb_slot.specs.declared.store.Kept.{Kept}
+use Rattle.gb_slot.specs.Kept.{entry_of, entries_of, is_of, messages_of, arrivals_of, IsPlaceOf, AreInside}
+
+-- a test that fails at each place before one
+pub none_before : {X : Type 0} (p : X → Bool) (xs : List X) (i : ℕ) → ((k : ℕ) (x : X) → k < i → slice_get xs k ≡ Some x → p x ≡ false) → list_any p (take i xs) ≡ false
+none_before p [] zero none = refl
+none_before p [] (suc i) none = refl
+none_before p (x ∷ xs) zero none = refl
+none_before p (x ∷ xs) (suc i) none = ap (λ b. b || list_any p (take i xs)) (none zero x (omega arith) refl) ∙ none_before p xs i (λ k y lt at. none (suc k) y (omega (arith, lt)) at)
+
+-- and from it on
+pub none_after : {X : Type 0} (p : X → Bool) (xs : List X) (i : ℕ) → list_any p (take i xs) ≡ false → ((k : ℕ) (x : X) → i ≤ k → slice_get xs k ≡ Some x → p x ≡ false) → list_any p xs ≡ false
+none_after p [] i h none = refl
+none_after {X} p (x ∷ xs) zero h none = ap (λ b. b || list_any p xs) (none zero x (omega arith) refl) ∙ none_after p xs zero (any_none xs) (λ k y le at. none (suc k) y (omega arith) at)
+  where
+    any_none : (ys : List X) → list_any p (take 0 ys) ≡ false
+    any_none [] = refl
+    any_none (y ∷ ys) = refl
+none_after p (x ∷ xs) (suc i) h none =
+    ap (λ b. b || list_any p xs) (or_left (p x) _ h) ∙ none_after p xs i (or_right (p x) _ h) (λ k y le at. none (suc k) y (omega (arith, le)) at)
+
+-- what is kept, with other nodes
+abbrev pub marked : nodes.FinSet nat_cmp → Kept → Kept
+marked from k = record { m = k.m; start = k.start; end = k.end; from = from }
+
+-- these change neither messages nor payloads
+pub messages_marked : (from : nodes.FinSet nat_cmp) (kept : List Kept) (i : ℕ) (d : Kept) → messages_of (set kept i (marked from (get_or kept i d))) ≡ messages_of kept
+messages_marked from [] i d = refl
+messages_marked from (k ∷ kept) zero d = refl
+messages_marked from (k ∷ kept) (suc i) d = ap (λ rest. k.m ∷ rest) (messages_marked from kept i d)
+
+pub entries_marked : (from : nodes.FinSet nat_cmp) (kept : List Kept) (i : ℕ) (d : Kept) (bytes : List ℕ) → entries_of bytes (set kept i (marked from (get_or kept i d))) ≡ entries_of bytes kept
+entries_marked from [] i d bytes = refl
+entries_marked from (k ∷ kept) zero d bytes = refl
+entries_marked from (k ∷ kept) (suc i) d bytes = ap (λ rest. entry_of bytes k ∷ rest) (entries_marked from kept i d bytes)
+
+pub inside_marked : (from : nodes.FinSet nat_cmp) (kept : List Kept) (i : ℕ) (d : Kept) (bytes : List ℕ) → AreInside bytes kept → AreInside bytes (set kept i (marked from (get_or kept i d)))
+inside_marked from [] i d bytes inside = inside
+inside_marked from (k ∷ kept) zero d bytes inside = inside
+inside_marked from (k ∷ kept) (suc i) d bytes inside = (inside.0, inside.1, inside_marked from kept i d bytes inside.2)
+
+module _ (m : MsgId) where
+  -- whether the message is there
+  pub any_entries : (bytes : List ℕ) (kept : List Kept) → has (entries_of bytes kept) m ≡ list_any (is_of m) kept
+  any_entries bytes [] = refl
+  any_entries bytes (k ∷ kept) = ap (λ b. is_of m k || b) (any_entries bytes kept)
+
+  pub any_arrivals : (kept : List Kept) → has_arrival (arrivals_of kept) m ≡ list_any (is_of m) kept
+  any_arrivals [] = refl
+  any_arrivals (k ∷ kept) = ap (λ b. is_of m k || b) (any_arrivals kept)
+
+  pub any_messages : (kept : List Kept) → list_any (λ x. same x m) (messages_of kept) ≡ list_any (is_of m) kept
+  any_messages [] = refl
+  any_messages (k ∷ kept) = ap (λ b. is_of m k || b) (any_messages kept)
+
+  -- the place among the rest
+  rest_placed : (k : Kept) (kept : List Kept) (i : ℕ) → IsPlaceOf m (k ∷ kept) (Some (suc i)) → IsPlaceOf m kept (Some i)
+  rest_placed k kept i at = (omega (arith, at.0), at.1, or_right (is_of m k) _ at.2)
+
+  any_placed : (kept : List Kept) (i : ℕ) → IsPlaceOf m kept (Some i) → list_any (is_of m) kept ≡ true
+  any_placed [] i at = absurd (omega (arith, at.0))
+  any_placed (k ∷ kept) zero at = ap (λ b. b || list_any (is_of m) kept) (at.1 k refl)
+  any_placed (k ∷ kept) (suc i) at = ap (λ b. is_of m k || b) (any_placed kept i (rest_placed k kept i at)) ∙ or-true (is_of m k)
+
+  -- a message is there where its place is found
+  pub any_found : (kept : List Kept) (place : Option ℕ) → IsPlaceOf m kept place → is_some place ≡ list_any (is_of m) kept
+  any_found kept None at = sym at
+  any_found kept (Some i) at = sym (any_placed kept i at)
+
+  -- the payload of what is kept there
+  pub payload_placed : (bytes : List ℕ) (kept : List Kept) (i : ℕ) (d e : Kept) → IsPlaceOf m kept (Some i) → payload_in (entries_of bytes kept) m ≡ slice_range bytes (get_or kept i d).start (get_or kept i e).end
+  payload_placed bytes [] i d e at = absurd (omega (arith, at.0))
+  payload_placed bytes (k ∷ kept) zero d e at = ap (λ (b : Bool). if b then slice_range bytes k.start k.end else payload_in (entries_of bytes kept) m) (at.1 k refl)
+  payload_placed bytes (k ∷ kept) (suc i) d e at =
+      ap (λ (b : Bool). if b then slice_range bytes k.start k.end else payload_in (entries_of bytes kept) m) (or_left (is_of m k) _ at.2)
+      ∙ payload_placed bytes kept i d e (rest_placed k kept i at)
+
+  pub payload_missing : (bytes : List ℕ) (kept : List Kept) → list_any (is_of m) kept ≡ false → payload_in (entries_of bytes kept) m ≡ []
+  payload_missing bytes [] none = refl
+  payload_missing bytes (k ∷ kept) none =
+      ap (λ (b : Bool). if b then slice_range bytes k.start k.end else payload_in (entries_of bytes kept) m) (or_left (is_of m k) _ none)
+      ∙ payload_missing bytes kept (or_right (is_of m k) _ none)
+
+  -- the nodes from which it was taken in
+  pub nodes_placed : (kept : List Kept) (i : ℕ) (d : Kept) → IsPlaceOf m kept (Some i) → nodes_of (arrivals_of kept) m ≡ (get_or kept i d).from
+  nodes_placed [] i d at = absurd (omega (arith, at.0))
+  nodes_placed (k ∷ kept) zero d at = ap (λ (b : Bool). if b then k.from else nodes_of (arrivals_of kept) m) (at.1 k refl)
+  nodes_placed (k ∷ kept) (suc i) d at =
+      ap (λ (b : Bool). if b then k.from else nodes_of (arrivals_of kept) m) (or_left (is_of m k) _ at.2) ∙ nodes_placed kept i d (rest_placed k kept i at)
+
+  pub nodes_missing : (kept : List Kept) → list_any (is_of m) kept ≡ false → nodes_of (arrivals_of kept) m ≡ nodes.empty
+  nodes_missing [] none = refl
+  nodes_missing (k ∷ kept) none =
+      ap (λ (b : Bool). if b then k.from else nodes_of (arrivals_of kept) m) (or_left (is_of m k) _ none) ∙ nodes_missing kept (or_right (is_of m k) _ none)
+
+  -- it was taken in from a node more
+  abbrev arrival : Kept → Arrival
+  arrival k = record { m = k.m; from = k.from }
+
+  abbrev either : NodeId → Kept → List Kept → Bool → List Arrival
+  either p k kept b = if b then record { m = k.m; from = nodes.insert k.from p.number } ∷ arrivals_of kept else arrival k ∷ with_node p m (arrivals_of kept)
+
+  pub node_placed : (p : NodeId) (kept : List Kept) (i : ℕ) (d : Kept) → IsPlaceOf m kept (Some i) → arrivals_of (set kept i (marked (nodes.insert (get_or kept i d).from p.number) (get_or kept i d))) ≡ with_node p m (arrivals_of kept)
+  node_placed p [] i d at = absurd (omega (arith, at.0))
+  node_placed p (k ∷ kept) zero d at = sym (ap (either p k kept) (at.1 k refl))
+  node_placed p (k ∷ kept) (suc i) d at =
+      ap (λ rest. arrival k ∷ rest) (node_placed p kept i d (rest_placed k kept i at)) ∙ sym (ap (either p k kept) (or_left (is_of m k) _ at.2))
+
+  pub node_missing : (p : NodeId) (kept : List Kept) → list_any (is_of m) kept ≡ false → arrivals_of kept ≡ with_node p m (arrivals_of kept)
+  node_missing p [] none = refl
+  node_missing p (k ∷ kept) none = ap (λ rest. arrival k ∷ rest) (node_missing p kept (or_right (is_of m k) _ none)) ∙ sym (ap (either p k kept) (or_left (is_of m k) _ none))
+
+-- each payload stands among the bytes
+pub inside_at : (bytes : List ℕ) (kept : List Kept) (i : ℕ) (d e : Kept) → AreInside bytes kept → i < length kept → ((get_or kept i d).start ≤ (get_or kept i e).end) × ((get_or kept i e).end ≤ length bytes)
+inside_at bytes [] i d e inside lt = absurd (omega arith)
+inside_at bytes (k ∷ kept) zero d e inside lt = (inside.0, inside.1)
+inside_at bytes (k ∷ kept) (suc i) d e inside lt = let less : i < length kept = omega (arith, lt) in inside_at bytes kept i d e inside.2 less

@@ -1,0 +1,26 @@
+use Rattle.std.proofs.Common.{◌≡◌, ◌∙◌, ap, sym, subst, length, arith}
+use Rattle.std.proofs.lemmas.List.{length-map}
+use Rattle.gb_layer.specs.Table.{leads}
+use Rattle.gb_history.specs.Messages.{has}
+use Rattle.gb_slot.specs.Kept.{entries_of, messages_of, AreCounted}
+use Rattle.gb_slot.specs.StoreValue.{StoreValue}
+use Rattle.gb_slot.proofs.PlaceLemmas.{any_entries, any_messages}
+use Rattle.gb_slot.proofs.store.Store.push.Goals as goal
+
+pub invariant_of-self : goal.invariant_of-self
+invariant_of-self c =
+    let s = c.self.inside in
+    let m = c.args.m in
+    let kept = s.kept.items in
+    let bytes = s.bytes.items in
+    let ok = s.kept.ok.0 in
+    let len = c.len.ensures in
+    let count : length (messages_of kept) ≡ c.len.result = omega (arith, ok, len, length-map kept (λ k. k.m)) in
+    let unknown = ap (λ (v : StoreValue). has v.entries m) c.self.view_is ∙ c.requires.new in
+    let new = any_messages m kept ∙ (sym (any_entries m bytes kept) ∙ unknown) in
+    let noted = c.note.ensures (messages_of kept) count new c.self.invariant.2 in
+    let table = c.note.new.self in (
+      c.append.ensures.inside,
+      subst (AreCounted c.count_bytes.new.seen) (sym c.append.ensures.entries) (c.count_bytes.ensures (entries_of bytes kept) c.self.invariant.1),
+      ap (leads table.width table.told.items 0) c.append.ensures.messages ∙ noted,
+    )
