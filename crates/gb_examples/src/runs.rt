@@ -76,6 +76,10 @@ fn shut(addr: Addr) -> Request {
     Request::ShutGroup(TOKEN, addr)
 }
 
+fn drop_group(addr: Addr) -> Request {
+    Request::DropGroup(TOKEN, addr)
+}
+
 fn say(alloc: Global, addr: Addr, payload: &[u8]) -> Result<Request, OutOfMemory> {
     Ok(Request::Say(TOKEN, addr, Payload::from_slice(alloc, payload)?))
 }
@@ -282,6 +286,83 @@ fn in_a_shut_group_nothing_more_is_said(rt: HostRuntime) -> Result<(), Fail> {
             (Event::At(a, second), "said 2"),
             (Event::Stop(b), "stopped"),
             (Event::At(b, shut(g)), "refused 15 Stopped"),
+        ],
+    )?;
+    Ok(())
+}
+
+#[test]
+fn of_a_dropped_group_only_carried_items_still_come(rt: HostRuntime) -> Result<(), Fail> {
+    let alloc = rt.alloc();
+    let (a, b) = (node(&rt, 0), node(&rt, 1));
+    let g = addr(7, 1);
+    let first = say(alloc, g, b"x")?;
+    let second = say(alloc, g, b"y")?;
+    let refused = say(alloc, g, b"z")?;
+    let other = say(alloc, g, b"w")?;
+    run(
+        &rt,
+        alloc,
+        2,
+        g,
+        &[
+            (Event::At(a, tenant(7)), "ok"),
+            (Event::At(b, tenant(7)), "ok"),
+            (Event::At(a, drop_group(g)), "refused 2 NoGroup"),
+            (Event::At(a, make(g, &[a, b])), "ok"),
+            (Event::At(b, make(g, &[a, b])), "ok"),
+            (Event::At(a, open(g)), "ok"),
+            (Event::At(b, open(g)), "ok"),
+            (Event::At(a, first), "said 1"),
+            (Event::At(b, other), "said 1"),
+            (Event::Pack(a, b), "packet 1"),
+            (Event::Pack(b, a), "packet 2"),
+            (Event::At(a, second), "said 2"),
+            (Event::At(a, drop_group(g)), "ok"),
+            (Event::At(a, drop_group(g)), "refused 3 Spent"),
+            (Event::At(a, open(g)), "refused 3 Spent"),
+            (Event::At(a, shut(g)), "refused 3 Spent"),
+            (Event::At(a, refused), "refused 3 Spent"),
+            (Event::At(a, fetch(g)), "refused 3 Spent"),
+            (Event::At(a, make(g, &[a, b])), "refused 3 Spent"),
+            (Event::Pack(a, b), "nothing"),
+            (Event::Arrive(2), "first"),
+            (Event::Arrive(1), "first"),
+            (Event::At(b, fetch(g)), "log 2 1:1:77 0:1:78"),
+            (Event::Tick(a), "nobody"),
+            (Event::Tick(a), "noticed 1"),
+            (Event::Stop(a), "stopped"),
+            (Event::At(a, drop_group(g)), "refused 15 Stopped"),
+        ],
+    )?;
+    Ok(())
+}
+
+// A group of two messages, 50 bytes and a window of two; an item that passes the bytes is let fall.
+#[test]
+fn bytes_and_a_window_bound_what_is_said(rt: HostRuntime) -> Result<(), Fail> {
+    let alloc = rt.alloc();
+    let (a, b) = (node(&rt, 0), node(&rt, 1));
+    let g = addr(7, 1);
+    let long = say(alloc, g, &[120; 51])?;
+    let all = say(alloc, g, &[120; 50])?;
+    let more = say(alloc, g, b"x")?;
+    let empty = say(alloc, g, b"")?;
+    let last = say(alloc, g, b"")?;
+    run(
+        &rt,
+        alloc,
+        2,
+        g,
+        &[
+            (Event::At(a, tenant(7)), "ok"),
+            (Event::At(a, make(g, &[a, b])), "ok"),
+            (Event::At(a, open(g)), "ok"),
+            (Event::At(a, long), "refused 9 Bytes"),
+            (Event::At(a, all), "said 1"),
+            (Event::At(a, more), "refused 9 Bytes"),
+            (Event::At(a, empty), "said 2"),
+            (Event::At(a, last), "refused 8 Budget"),
         ],
     )?;
     Ok(())

@@ -261,6 +261,37 @@ const NOTICES_OF_ONE_TICK_COUNT_IN_TURN: Case = (
     SimEnd::All,
 );
 
+const BUDGET_IS_JUDGED_BEFORE_THE_WINDOW: Case = (
+    "cluster 2 3\ntenant 0 7 4 8 4096 4\nmake 0 7 1 beb 0,1 2 4096 2\nopen 0 7 1\nsay 0 7 1 61\nsay 0 7 1 62\nsay 0 7 1 63\n",
+    "ok\nok\nok\nok\nsaid 1\nsaid 2\nrefused 8 Budget\n",
+    SimEnd::All,
+);
+
+const WINDOW_OF_ONE: Case = (
+    "cluster 2 3\ntenant 0 7 4 8 4096 4\nmake 0 7 1 beb 0,1 8 4096 1\nopen 0 7 1\ntenant 1 7 4 8 4096 4\nmake 1 7 1 beb 0,1 8 4096 1\nopen 1 7 1\nsay 0 7 1 61\nsay 0 7 1 62\npack 0 1\narrive 1\nsay 0 7 1 62\nack 1 0\narrive 2\nsay 0 7 1 62\nsay 0 7 1 63\ntick 0\ntick 0\ntick 0\nsay 0 7 1 63\n",
+    "ok\nok\nok\nok\nok\nok\nok\nsaid 1\nrefused 10 Window\npacket 1\ngood first 1 0\nrefused 10 Window\npacket 2\ngood none 0 1\nsaid 2\nrefused 10 Window\nnoticed -\nnoticed -\nnoticed 1\nsaid 3\n",
+    SimEnd::All,
+);
+
+const DROPPED_GROUP_LETS_ITEMS_FALL: Case = (
+    "cluster 2 3\ntenant 0 7 4 8 4096 4\nmake 0 7 1 beb 0,1 8 4096 4\nopen 0 7 1\ntenant 1 7 4 8 4096 4\nmake 1 7 1 beb 0,1 8 4096 4\nopen 1 7 1\nsay 0 7 1 61\npack 0 1\ndrop 1 7 1\narrive 1\nmake 1 7 1 beb 0,1 8 4096 4\nfetch 1 7 1 0 16\n",
+    "ok\nok\nok\nok\nok\nok\nok\nsaid 1\npacket 1\nok\ngood first 1 0\nrefused 3 Spent\nrefused 3 Spent\n",
+    SimEnd::All,
+);
+
+const CARRIED_ITEMS_COME_AFTER_A_DROP: Case = (
+    "cluster 2 3\ntenant 0 7 4 8 4096 4\nmake 0 7 1 beb 0,1 8 4096 4\nopen 0 7 1\ntenant 1 7 4 8 4096 4\nmake 1 7 1 beb 0,1 8 4096 4\nopen 1 7 1\nsay 0 7 1 61\npack 0 1\nsay 0 7 1 62\ndrop 0 7 1\npack 0 1\nagain 0 1 0\narrive 2\nack 1 0\narrive 1\narrive 3\narrive 3\nagain 0 1 0\nfetch 1 7 1 0 16\nstop 1\narrive 1\narrive 4\n",
+    "ok\nok\nok\nok\nok\nok\nok\nsaid 1\npacket 1\nsaid 2\nok\nnothing\npacket 2\ngood first 1 0\npacket 3\ngood seen 0 0\ngood none 0 1\ngood none 0 0\nnothing\nlog 1 0:1:61\nok\nrefused 15 Stopped\nno packet\n",
+    SimEnd::All,
+);
+
+// Each refusal where the next one in the order holds as well.
+const ORDER_OF_REFUSALS: Case = (
+    "cluster 2 3\ntenant 0 7 0 8 64 4\nmake 0 7 9 beb 1 0 65 5\nopen 0 7 1\nshut 0 7 1\ndrop 0 7 1\nsay 0 7 1 61\nfetch 0 7 1 9 99\ntenant 0 7 4 8 64 4\ntenant 0 7 0 8 64 4\ntenant 0 7 4 8 64 4\ntenant 0 8 4 8 64 4\nmake 0 7 4 beb 1 9 64 4\nmake 0 7 1 beb 1 9 64 4\nmake 0 7 1 beb 0 9 64 4\nmake 0 7 1 beb 0,1 2 3 1\nmake 0 7 1 beb 1 9 64 4\nopen 0 7 2\nshut 0 7 2\ndrop 0 7 2\nsay 0 7 2 61\nfetch 0 7 2 9 99\nsay 0 7 1 61616161\nshut 0 7 1\nopen 0 7 1\nopen 0 7 1\nsay 0 7 1 61616161\nsay 0 7 1 61\nsay 0 7 1 616161\nsay 0 7 1 61\ntick 0\ntick 0\ntick 0\nsay 0 7 1 61\nsay 0 7 1 6161\nfetch 0 7 1 3 16\nfetch 0 7 1 2 17\nshut 0 7 1\nsay 0 7 1 61\ndrop 0 7 1\nopen 0 7 1\nshut 0 7 1\ndrop 0 7 1\nsay 0 7 1 61\nfetch 0 7 1 9 99\nmake 0 7 1 beb 1 9 64 4\nstop 0\ndrop 0 7 1\n",
+    "ok\nrefused 5 OverReserve\nrefused 1 Denied\nrefused 1 Denied\nrefused 1 Denied\nrefused 1 Denied\nrefused 1 Denied\nrefused 1 Denied\nok\nrefused 5 OverReserve\nrefused 13 TenantThere\nrefused 12 NoRoom\nrefused 2 NoGroup\nrefused 4 BadMembers\nrefused 5 OverReserve\nok\nrefused 3 Spent\nrefused 2 NoGroup\nrefused 2 NoGroup\nrefused 2 NoGroup\nrefused 2 NoGroup\nrefused 2 NoGroup\nrefused 6 WrongPhase\nrefused 6 WrongPhase\nok\nrefused 6 WrongPhase\nrefused 9 Bytes\nsaid 1\nrefused 9 Bytes\nrefused 10 Window\nnoticed -\nnoticed -\nnoticed 1\nsaid 2\nrefused 8 Budget\nrefused 11 BadPlace\nrefused 11 BadPlace\nok\nrefused 6 WrongPhase\nok\nrefused 3 Spent\nrefused 3 Spent\nrefused 3 Spent\nrefused 3 Spent\nrefused 3 Spent\nrefused 3 Spent\nok\nrefused 15 Stopped\n",
+    SimEnd::All,
+);
+
 // The tenants: numbers 1 to 65,535, 1 to 256 groups, 1 to 1,024 messages, 0 to 65,536 bytes, a window of 1 to 1,024.
 const TENANTS_AT_THEIR_LIMITS: Case = (
     "cluster 2 2\ntenant 0 0 4 8 4096 4\ntenant 0 7 0 8 4096 4\ntenant 0 7 257 8 4096 4\ntenant 0 7 4 0 4096 4\ntenant 0 7 4 1025 4096 4\ntenant 0 7 4 8 65537 4\ntenant 0 7 4 8 4096 0\ntenant 0 7 4 8 4096 1025\ntenant 0 65535 256 1024 65536 1024\ntenant 1 1 1 1 0 1\n",
@@ -332,6 +363,20 @@ fn worked_schedules_of_the_kinds(rt: HostRuntime) -> Result<(), Fail> {
 }
 
 #[test]
+fn worked_schedules_of_bytes_windows_and_drops(rt: HostRuntime) -> Result<(), Fail> {
+    for case in &[
+        BUDGET_IS_JUDGED_BEFORE_THE_WINDOW,
+        WINDOW_OF_ONE,
+        DROPPED_GROUP_LETS_ITEMS_FALL,
+        CARRIED_ITEMS_COME_AFTER_A_DROP,
+        ORDER_OF_REFUSALS,
+    ] {
+        assert!(rt; is_run(rt.alloc(), case, 100)?);
+    }
+    Ok(())
+}
+
+#[test]
 fn tenants_groups_and_nodes_at_their_limits(rt: HostRuntime) -> Result<(), Fail> {
     for case in &[
         TENANTS_AT_THEIR_LIMITS,
@@ -376,7 +421,7 @@ fn all_messages_of_a_member(rt: HostRuntime) -> Result<(), Fail> {
     Ok(())
 }
 
-// A payload of 1,024 bytes is said and comes, and one of 1,025 is refused.
+// A payload of 1,024 bytes is said and comes, and one of 1,025 is refused; so all bytes of the group are said.
 #[test]
 fn the_longest_payload(rt: HostRuntime) -> Result<(), Fail> {
     let alloc = rt.alloc();
@@ -386,15 +431,15 @@ fn the_longest_payload(rt: HostRuntime) -> Result<(), Fail> {
     }
     let mut schedule = Vec::from_slice(
         alloc,
-        b"cluster 2 2\ntenant 0 7 4 8 65536 4\nmake 0 7 1 beb 0,1 8 65536 4\nopen 0 7 1\ntenant 1 7 4 8 65536 4\nmake 1 7 1 beb 0,1 8 65536 4\nsay 0 7 1 ",
+        b"cluster 2 2\ntenant 0 7 4 8 65536 4\nmake 0 7 1 beb 0,1 8 1024 4\nopen 0 7 1\ntenant 1 7 4 8 65536 4\nmake 1 7 1 beb 0,1 8 1024 4\nsay 0 7 1 ",
     )?;
     schedule.extend_from_slice(&digits)?;
     schedule.extend_from_slice(b"61\nsay 0 7 1 ")?;
     schedule.extend_from_slice(&digits)?;
-    schedule.extend_from_slice(b"\npack 0 1\narrive 1\nfetch 1 7 1 0 16\n")?;
+    schedule.extend_from_slice(b"\nsay 0 7 1 61\nsay 0 7 1 -\npack 0 1\narrive 1\nfetch 1 7 1 0 16\n")?;
     let mut answers = Vec::from_slice(
         alloc,
-        b"ok\nok\nok\nok\nok\nok\nrefused 7 TooLong\nsaid 1\npacket 1\ngood first 1 0\nlog 1 0:1:",
+        b"ok\nok\nok\nok\nok\nok\nrefused 7 TooLong\nsaid 1\nrefused 9 Bytes\nsaid 2\npacket 1\ngood first 1 0\nlog 1 0:1:",
     )?;
     answers.extend_from_slice(&digits)?;
     answers.extend_from_slice(b"\n")?;
