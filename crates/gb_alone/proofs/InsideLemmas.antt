@@ -14,7 +14,7 @@ use Rattle.gb_types.specs.declared.spec.Spec.{Spec}
 use Rattle.gb_types.proofs.CoverLemmas.{not_all_members}
 use Rattle.gb_rules.specs.Group.{say_answer, is_member, is_other, on_made}
 use Rattle.gb_history.specs.declared.call.GroupCall.TheVariants.{Other, Crashed}
-use Rattle.gb_alone.specs.Alone.{held_spec, Member, Group, reply_to, shown_of, called, did, falls, taken_in, cut, took_notice, member_after, after}
+use Rattle.gb_alone.specs.Alone.{held_spec, Member, Group, reply_to, shown_of, called, did, falls, taken_in, cut, took_notice, member_after, after, alone_from}
 use Rattle.gb_alone.specs.Laws.{accepted_in, accepted_at, accepted_from}
 use Rattle.gb_rules.specs.Tenant.{is_bad, is_over, make_answer, by_tenant}
 use Rattle.gb_alone.specs.declared.event.GroupEvent.{GroupEvent}
@@ -22,7 +22,14 @@ use Rattle.gb_alone.specs.declared.event.GroupEvent.TheVariants.{Tenant, Make as
 use Rattle.gb_alone.specs.declared.event.GroupStep.{GroupStep}
 use Rattle.gb_rules.specs.declared.reserve.Reserve.{Reserve}
 
-make_inside : (nodes number me : ℕ) (spec : Spec) (m : Member) → reply_to nodes number me (AskMake spec) m ≡ Done → me < nodes
+-- the node and the members are nodes of a cluster of so many
+abbrev pub IsWithin : ℕ → ℕ → Spec → Type 0
+IsWithin nodes me spec = (me < nodes) × ((b : ℕ) → is_member spec b ≡ true → b < nodes)
+
+some_same : (x y : Spec) → Some x ≡ Some y → x ≡ y
+some_same x y e = cc
+
+make_inside : (nodes number me : ℕ) (spec : Spec) (m : Member) → reply_to nodes number me (AskMake spec) m ≡ Done → IsWithin nodes me spec
 make_inside nodes number me spec m = running m.stopped
   where
     fine : (x y : Bool) → (not x || not y) ≡ false → (x ≡ true) × (y ≡ true)
@@ -30,35 +37,38 @@ make_inside nodes number me spec m = running m.stopped
     fine true false h = absurd (cc)
     fine false y h = absurd (cc)
 
-    inside : (b : Bool) → nat_lt me nodes ≡ b → is_bad nodes me spec ≡ false → me < nodes
-    inside true e good = grind (arith, nat_tests)
-    inside false e good =
-        let parts = fine (is_member spec me) (list_all (λ b. nat_lt b nodes) (set.items spec.members)) good in
-        let none : list_all (λ b. nat_lt b nodes) (set.items spec.members) ≡ false = not_all_members (λ b. nat_lt b nodes) spec.members me parts.0 e in
-        let yes : list_all (λ b. nat_lt b nodes) (set.items spec.members) ≡ true = parts.1 in
+    below : list_all (λ b. nat_lt b nodes) (set.items spec.members) ≡ true → (b : ℕ) → is_member spec b ≡ true → (t : Bool) → nat_lt b nodes ≡ t → b < nodes
+    below all b there true e = grind (arith, nat_tests)
+    below all b there false e =
+        let none : list_all (λ b. nat_lt b nodes) (set.items spec.members) ≡ false = not_all_members (λ b. nat_lt b nodes) spec.members b there e in
         absurd (cc)
 
-    admitted : (a b c d : Bool) → is_bad nodes me spec ≡ c → (if a then Refused NoGroup else (if b then Refused Spent else (if c then Refused BadMembers else (if d then Refused OverReserve else Done)))) ≡ Done → me < nodes
+    inside : is_bad nodes me spec ≡ false → IsWithin nodes me spec
+    inside good =
+        let parts = fine (is_member spec me) (list_all (λ b. nat_lt b nodes) (set.items spec.members)) good in
+        (below parts.1 me parts.0 (nat_lt me nodes) refl, λ b there. below parts.1 b there (nat_lt b nodes) refl)
+
+    admitted : (a b c d : Bool) → is_bad nodes me spec ≡ c → (if a then Refused NoGroup else (if b then Refused Spent else (if c then Refused BadMembers else (if d then Refused OverReserve else Done)))) ≡ Done → IsWithin nodes me spec
     admitted true b c d good h = cc
     admitted false true c d good h = cc
     admitted false false true d good h = cc
     admitted false false false true good h = cc
-    admitted false false false false good h = inside (nat_lt me nodes) refl good
+    admitted false false false false good h = inside good
 
-    by : (reserve : Option Reserve) → by_tenant (make_answer nodes me number (is_some m.spec) spec) reserve ≡ Done → me < nodes
+    by : (reserve : Option Reserve) → by_tenant (make_answer nodes me number (is_some m.spec) spec) reserve ≡ Done → IsWithin nodes me spec
     by None h = cc
     by (Some reserve) h = admitted (nat_le reserve.groups number) (is_some m.spec) (is_bad nodes me spec) (is_over reserve spec) refl h
 
-    running : (stopped : Bool) → (if stopped then Refused Stopped else by_tenant (make_answer nodes me number (is_some m.spec) spec) m.reserve) ≡ Done → me < nodes
+    running : (stopped : Bool) → (if stopped then Refused Stopped else by_tenant (make_answer nodes me number (is_some m.spec) spec) m.reserve) ≡ Done → IsWithin nodes me spec
     running true h = cc
     running false h = by m.reserve h
 
 -- a group that was made there is at a node of the cluster
 abbrev pub IsInside : ℕ → ℕ → Member → Type 0
-IsInside nodes a m = (spec : Spec) → m.spec ≡ Some spec → a < nodes
+IsInside nodes a m = (spec : Spec) → m.spec ≡ Some spec → IsWithin nodes a spec
 
 did_inside : (nodes number : ℕ) (me : NodeId) (event : GroupEvent) (reply : Reply) (m : Member) → reply_to nodes number me.number event m ≡ reply → IsInside nodes me.number m → IsInside nodes me.number (did me event reply m)
-did_inside nodes number me (AskMake spec) Done m e old = λ s is. make_inside nodes number me.number spec m e
+did_inside nodes number me (AskMake spec) Done m e old = λ s is. subst (IsWithin nodes me.number) (some_same spec s is) (make_inside nodes number me.number spec m e)
 did_inside nodes number me AskOpen Done m e old = old
 did_inside nodes number me AskShut Done m e old = old
 did_inside nodes number me AskDrop Done m e old = old
@@ -67,11 +77,11 @@ did_inside nodes number me event reply m e old = old
 
 taken_inside : (nodes me : ℕ) (from : NodeId) (place : ℕ) (o : Option Entry) (m : Member) → IsInside nodes me m → IsInside nodes me (taken_in me from place o m)
 taken_inside nodes me from place None m old = old
-taken_inside nodes me from place (Some x) m old = elim (falls me from.number x m.told (held_spec m.phase m.spec)) as (λ b. (spec : Spec) → (if b then m else called me (Other from x) m).spec ≡ Some spec → me < nodes) [ true ↦ old | false ↦ old ]
+taken_inside nodes me from place (Some x) m old = elim (falls me from.number x m.told (held_spec m.phase m.spec)) as (λ b. (spec : Spec) → (if b then m else called me (Other from x) m).spec ≡ Some spec → IsWithin nodes me spec) [ true ↦ old | false ↦ old ]
 
 noticed_inside : (nodes me : ℕ) (q : NodeId) (o : Option Spec) (m : Member) → IsInside nodes me m → IsInside nodes me (took_notice me q o m)
 noticed_inside nodes me q None m old = old
-noticed_inside nodes me q (Some made) m old = elim (is_other made me q.number) as (λ b. (spec : Spec) → (if b then called me (Crashed q) (cut q m) else m).spec ≡ Some spec → me < nodes) [ true ↦ old | false ↦ old ]
+noticed_inside nodes me q (Some made) m old = elim (is_other made me q.number) as (λ b. (spec : Spec) → (if b then called me (Crashed q) (cut q m) else m).spec ≡ Some spec → IsWithin nodes me spec) [ true ↦ old | false ↦ old ]
 
 event_inside : (nodes number : ℕ) (me : NodeId) (event : GroupEvent) (group : Group) → IsInside nodes me.number (group me.number) → IsInside nodes me.number (member_after nodes number me event group)
 event_inside nodes number me (Tenant reserve) group old = old
@@ -85,7 +95,7 @@ event_inside nodes number me event group old = did_inside nodes number me event 
 abbrev pub AllInside : ℕ → Group → Type 0
 AllInside nodes group = (a : ℕ) → IsInside nodes a (group a)
 
-step_inside : (nodes number : ℕ) (group : Group) (step : GroupStep) → AllInside nodes group → AllInside nodes (after nodes number group step)
+pub step_inside : (nodes number : ℕ) (group : Group) (step : GroupStep) → AllInside nodes group → AllInside nodes (after nodes number group step)
 unfolding after
 step_inside nodes number group step all x = go (nat_eq x step.node.number) refl
   where
@@ -100,7 +110,7 @@ refused_beyond nodes number s (AskSay payload) m beyond inside = running m.stopp
     by : (reserve : Option Reserve) (o : Option Spec) → m.spec ≡ o → accepted_in (AskSay payload) (by_tenant (λ _. on_made (λ x. say_answer x payload) (shown_of s m.phase m.told m.put m.done o)) reserve) ≡ []
     by None o is = refl
     by (Some reserve) None is = refl
-    by (Some reserve) (Some spec) is = let low : s < nodes = inside spec is in absurd (omega arith)
+    by (Some reserve) (Some spec) is = let low : s < nodes = (inside spec is).0 in absurd (omega arith)
 
     running : (stopped : Bool) → accepted_in (AskSay payload) (if stopped then Refused Stopped else by_tenant (λ _. on_made (λ x. say_answer x payload) (shown_of s m.phase m.told m.put m.done m.spec)) m.reserve) ≡ []
     running true = refl
@@ -116,3 +126,8 @@ none_beyond nodes number s beyond (step ∷ steps) group all =
       | false ↦ refl
     ] in
     ap (λ ps. ps ++ accepted_from nodes number (after nodes number group step) steps s) first ∙ none_beyond nodes number s beyond steps (after nodes number group step) (step_inside nodes number group step all)
+
+-- so it is after all events
+pub run_inside : (nodes number : ℕ) (steps : List GroupStep) (group : Group) → AllInside nodes group → AllInside nodes (alone_from nodes number group steps)
+run_inside nodes number [] group all = all
+run_inside nodes number (step ∷ steps) group all = run_inside nodes number steps (after nodes number group step) (step_inside nodes number group step all)

@@ -16,19 +16,19 @@ use Rattle.gb_rules.specs.declared.phase.Phase.{Phase}
 use Rattle.gb_alone.specs.Alone.{is_acknowledged, is_finished, count_unfinished, shown_of}
 
 -- tests that agree on the nodes agree on the nodes of a set
-all_from : (s : set.FinSet nat_cmp) (p q : ℕ → Bool) → ((b : ℕ) → b < NODES → p b ≡ q b) → (n i : ℕ) → n + i ≡ NODES → list_all p (rising_from s i) ≡ list_all q (rising_from s i)
+all_from : (s : set.FinSet nat_cmp) (p q : ℕ → Bool) → ((b : ℕ) → set.contains s b ≡ true → b < NODES → p b ≡ q b) → (n i : ℕ) → n + i ≡ NODES → list_all p (rising_from s i) ≡ list_all q (rising_from s i)
 all_from s p q same zero i end = ap (list_all p) (rising_from-end s i (omega (arith, end))) ∙ sym (ap (list_all q) (rising_from-end s i (omega (arith, end))))
 all_from s p q same (suc n) i end =
     let within : i < NODES = omega (arith, end) in
     ap (list_all p) (rising_from-step s i within)
-    ∙ (go (set.contains s i) (same i within) (all_from s p q same n (i + 1) (omega (arith, end)))
+    ∙ (go (set.contains s i) (λ has. same i has within) (all_from s p q same n (i + 1) (omega (arith, end)))
     ∙ sym (ap (list_all q) (rising_from-step s i within)))
   where
-    go : (c : Bool) → p i ≡ q i → list_all p (rising_from s (i + 1)) ≡ list_all q (rising_from s (i + 1)) → list_all p (cond c (i ∷ rising_from s (i + 1)) (rising_from s (i + 1))) ≡ list_all q (cond c (i ∷ rising_from s (i + 1)) (rising_from s (i + 1)))
-    go true here rest = λ k. here k && rest k
+    go : (c : Bool) → (c ≡ true → p i ≡ q i) → list_all p (rising_from s (i + 1)) ≡ list_all q (rising_from s (i + 1)) → list_all p (cond c (i ∷ rising_from s (i + 1)) (rising_from s (i + 1))) ≡ list_all q (cond c (i ∷ rising_from s (i + 1)) (rising_from s (i + 1)))
+    go true here rest = λ k. here refl k && rest k
     go false here rest = rest
 
-pub all_alike : (s : set.FinSet nat_cmp) (p q : ℕ → Bool) → ((b : ℕ) → b < NODES → p b ≡ q b) → list_all p (rising s) ≡ list_all q (rising s)
+pub all_alike : (s : set.FinSet nat_cmp) (p q : ℕ → Bool) → ((b : ℕ) → set.contains s b ≡ true → b < NODES → p b ≡ q b) → list_all p (rising s) ≡ list_all q (rising s)
 all_alike s p q same = ap (list_all p) (sym (rising_from-start s)) ∙ (all_from s p q same NODES 0 refl ∙ ap (list_all q) (rising_from-start s))
 
 -- tests that agree on numbers from k on count the same there
@@ -42,6 +42,6 @@ pub shown_alike : (me : ℕ) (phase : Phase) (told : List GroupCall) (put row : 
 shown_alike me phase told put row done marks None same alike = refl
 shown_alike me phase told put row done marks (Some spec) same alike =
     let counts = count_alike (is_finished spec me told put done) (is_finished spec me told row marks)
-    (λ k. all_alike spec.members (λ b. nat_eq b me || (was_noticed (calls_of told) b || is_acknowledged me k (put b) (done b))) (λ b. nat_eq b me || (was_noticed (calls_of told) b || is_acknowledged me k (row b) (marks b)))
-    (λ b lt i. nat_eq b me || (was_noticed (calls_of told) b || is_acknowledged me k (same b lt i) (alike b lt i)))) 1 (said_in told) in
+    (λ k. all_alike spec.members (λ b. nat_eq b me || (was_noticed (calls_of told) b || is_acknowledged me k (done b) 1 (put b))) (λ b. nat_eq b me || (was_noticed (calls_of told) b || is_acknowledged me k (marks b) 1 (row b)))
+    (λ b has lt i. nat_eq b me || (was_noticed (calls_of told) b || is_acknowledged me k (alike b lt i) 1 (same b lt i)))) 1 (said_in told) in
     λ i. Some (record { spec = spec; phase = phase; usage = record { said = said_in told; bytes = bytes_in told me; unfinished = counts i }; log = log_of spec me told })

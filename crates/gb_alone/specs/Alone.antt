@@ -59,17 +59,21 @@ abbrev pub held_spec : Phase → Option Spec → Option Spec
 held_spec phase o = if is_gone phase then None else o
 
 -- the item is the message of the node me with this number
-abbrev pub is_own : ℕ → ℕ → Option Entry → Bool
-is_own me k None = false
-is_own me k (Some x) = nat_eq x.origin.number me && nat_eq x.seq k
+abbrev pub is_own : ℕ → ℕ → Entry → Bool
+is_own me k x = nat_eq x.origin.number me && nat_eq x.seq k
 
--- the node to which these items were put out, of which these places are done, acknowledged the message of the node me with this number
-abbrev pub is_acknowledged : ℕ → ℕ → List Entry → List ℕ → Bool
-is_acknowledged me k put done = list_any (λ place. is_own me k (slice_get put (place - 1))) done
+-- the place is marked
+abbrev pub is_marked : ℕ → List ℕ → Bool
+is_marked place marks = list_any (λ p. nat_eq p place) marks
+
+-- of these items put out to a node, with the places from this one on, the message of the node me with this number stands at a place that is done
+abbrev pub is_acknowledged : ℕ → ℕ → List ℕ → ℕ → List Entry → Bool
+is_acknowledged me k done place [] = false
+is_acknowledged me k done place (x ∷ xs) = (is_own me k x && is_marked place done) || is_acknowledged me k done (place + 1) xs
 
 -- each other member is noticed, or acknowledged the message
 abbrev pub is_finished : Spec → ℕ → List GroupCall → (ℕ → List Entry) → (ℕ → List ℕ) → ℕ → Bool
-is_finished spec me told put done k = list_all (λ b. nat_eq b me || (was_noticed (calls_of told) b || is_acknowledged me k (put b) (done b))) (rising spec.members)
+is_finished spec me told put done k = list_all (λ b. nat_eq b me || (was_noticed (calls_of told) b || is_acknowledged me k (done b) 1 (put b))) (rising spec.members)
 
 -- how many of these numbers, from k on, do not pass the test
 unfoldable pub count_unfinished : (ℕ → Bool) → ℕ → ℕ → ℕ
@@ -196,10 +200,6 @@ alone_from nodes number group steps = fold (after nodes number) group steps
 -- the group with this number among its tenant's, in a cluster of so many nodes, after these events
 abbrev pub alone : ℕ → ℕ → List GroupStep → Group
 alone nodes number steps = alone_from nodes number nobody steps
-
--- the place is marked
-abbrev pub is_marked : ℕ → List ℕ → Bool
-is_marked place marks = list_any (λ p. nat_eq p place) marks
 
 -- What may happen next: what waits is taken, what is carried comes once, what came is acknowledged once, a node is noticed once at another, and none of these
 -- happens at a stopped node.

@@ -1,7 +1,6 @@
 //! The places of items put out to a node that are acknowledged.
-ghost use Rattle.std.specs.Prelude.{◌≡◌, ◌-◌, ◌++◌, [], OnOk, slice_get};
-ghost use Rattle.std.specs.List.{list_any};
-ghost use Rattle.gb_alone.specs.Alone.{is_own, is_acknowledged, places};
+ghost use Rattle.std.specs.Prelude.{◌≡◌, ◌+◌, ◌≤◌, ◌++◌, [], OnOk, length};
+ghost use Rattle.gb_alone.specs.Alone.{is_own, is_marked, is_acknowledged, places};
 
 use gb_types::entry::Entry;
 use gb_types::memory::OutOfMemory;
@@ -23,13 +22,32 @@ impl Model for Marks {
     ghost view = { λ m. m.places.items };
 }
 
-/// Whether the item with a place is the message of the node `me` with this number.
-fn is_own(put: &[Entry], place: u64, me: NodeId, seq: u32) -> bool
-    ensures { result ≡ is_own me.number seq (slice_get put.now (place - 1)) }
+/// Whether the item is the message of the node `me` with this number.
+fn is_own(me: NodeId, seq: u32, x: &Entry) -> bool
+    ensures { result ≡ is_own me.number seq x.now }
 {
-    match put.get(place.saturating_sub(1) as usize) {
-        None => false,
-        Some(x) => x.origin == me && u32::from(x.seq) == seq,
+    x.origin == me && u32::from(x.seq) == seq
+}
+
+/// Whether the place is marked.
+fn is_marked(place: u64, marks: &[u64]) -> bool
+    ensures { result ≡ is_marked place marks.now }
+{
+    marks.iter().any(|p| *p == place)
+}
+
+/// Whether, of these items put out to a node, with the places from one on, the message of the node `me` with this
+/// number stands at one of these places.
+fn is_acknowledged(me: NodeId, seq: u32, marks: &[u64], place: u64, put: &[Entry]) -> bool
+    requires { place + length put.now ≤ 18446744073709551615 }
+    ensures { result ≡ is_acknowledged me.number seq marks.now place put.now }
+{
+    match put {
+        [] => false,
+        [x, others @ ..] => {
+            (is_own(me, seq, x) && is_marked(place, marks))
+                || is_acknowledged(me, seq, marks, place + 1, others)
+        }
     }
 }
 
@@ -58,12 +76,11 @@ impl Marks {
         Ok(())
     }
 
-    /// Whether one of these places is that of the message of the node `me` with this number.
-    pub(crate) fn has_own(&self, put: &[Entry], me: NodeId, seq: u32) -> bool
-        ensures { result ≡ is_acknowledged me.number seq put.now self.now }
+    /// Whether, of these items put out to a node, the message of the node `me` with this number stands at one of these
+    /// places.
+    pub(crate) fn has_own(&self, me: NodeId, seq: u32, put: &[Entry]) -> bool
+        ensures { result ≡ is_acknowledged me.number seq self.now 1 put.now }
     {
-        self.places
-            .iter()
-            .any(|place| is_own(put, *place, me, seq))
+        is_acknowledged(me, seq, &self.places, 1, put)
     }
 }

@@ -197,7 +197,7 @@ impl Member {
         ensures { result ≡ is_finished spec.now me.number self.now.told (member_of self.now).put (member_of self.now).done seq }
     {
         for b in spec.members.nodes() {
-            if b != me && !is_noticed(calls, b) && !self.done[b.index()].has_own(row_of(&self.put, b.index()), me, seq) {
+            if b != me && !is_noticed(calls, b) && !self.done[b.index()].has_own(me, seq, row_of(&self.put, b.index())) {
                 return false;
             }
         }

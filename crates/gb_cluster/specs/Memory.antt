@@ -7,7 +7,7 @@ use Rattle.gb_types.specs.declared.refusal.Refusal.TheVariants.{OutOfMemory}
 use Rattle.gb_types.specs.declared.reply.Reply.{Reply}
 use Rattle.gb_types.specs.declared.reply.Reply.TheVariants.{Refused}
 use Rattle.gb_types.specs.declared.request.Request.{Request}
-use Rattle.gb_types.specs.declared.request.Request.TheVariants.{AddTenant, Make, OpenGroup, ShutGroup, Say, Fetch}
+use Rattle.gb_types.specs.declared.request.Request.TheVariants.{AddTenant, Make, OpenGroup, ShutGroup, DropGroup, Say, Fetch}
 use Rattle.gb_types.specs.Rising.{rising}
 use Rattle.gb_cluster.specs.NodeValue.{NodeValue, GroupAt}
 use Rattle.gb_record.specs.Nodes.{node_numbered}
@@ -39,6 +39,7 @@ RequestTakesMemory (AddTenant token row) reply = ⊥
 RequestTakesMemory (Make token addr spec) reply = takes_memory reply ≡ true
 RequestTakesMemory (OpenGroup token addr) reply = ⊥
 RequestTakesMemory (ShutGroup token addr) reply = ⊥
+RequestTakesMemory (DropGroup token addr) reply = ⊥
 RequestTakesMemory (Say token addr payload) reply = takes_memory reply ≡ true
 RequestTakesMemory (Fetch token addr from most) reply = takes_memory reply ≡ true
 

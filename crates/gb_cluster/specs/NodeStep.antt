@@ -12,7 +12,7 @@ use Rattle.gb_types.specs.declared.refusal.Refusal.TheVariants.{NoRoom, TenantTh
 use Rattle.gb_types.specs.declared.reply.Reply.{Reply}
 use Rattle.gb_types.specs.declared.reply.Reply.TheVariants.{Done, Said, Refused}
 use Rattle.gb_types.specs.declared.request.Request.{Request}
-use Rattle.gb_types.specs.declared.request.Request.TheVariants.{AddTenant, Make, OpenGroup, ShutGroup, Say, Fetch}
+use Rattle.gb_types.specs.declared.request.Request.TheVariants.{AddTenant, Make, OpenGroup, ShutGroup, DropGroup, Say, Fetch}
 use Rattle.gb_types.specs.declared.spec.TenantRow.{TenantRow}
 use Rattle.gb_detect.specs.Watch.{start, due, after_heard, after_tick}
 use Rattle.gb_link.specs.Ack.{covers}
@@ -20,8 +20,9 @@ use Rattle.gb_link.specs.Received.{Received, base_of, mask_of, admission, taken}
 use Rattle.gb_link.specs.SendWindow.{SendWindow, new_window, has_room, pushed, frame_again}
 use Rattle.gb_link.specs.declared.receiver.Admission.{Admission}
 use Rattle.gb_link.specs.declared.receiver.Admission.TheVariants.{First, Seen, Outside}
-use Rattle.gb_rules.specs.Group.{Shown, open_answer, shut_answer, say_answer, fetch_answer, on_made}
-use Rattle.gb_rules.specs.declared.phase.Phase.TheVariants.{Opened, Shut}
+use Rattle.gb_rules.specs.Group.{Shown, open_answer, shut_answer, drop_answer, say_answer, fetch_answer, on_made}
+use Rattle.gb_types.specs.declared.kind.Kind.TheVariants.{Beb}
+use Rattle.gb_rules.specs.declared.phase.Phase.TheVariants.{Opened, Shut, Gone}
 use Rattle.gb_slot.specs.Slot.{new_slot, shown, waiting, slot_moved, slot_said, slot_came, slot_took, slot_done, slot_noticed}
 use Rattle.gb_slot.specs.SlotState.{SlotState}
 use Rattle.gb_cluster.specs.NodeValue.{GroupAt, NodeValue}
@@ -99,6 +100,7 @@ running_reply nodes me v (AddTenant token row) = row_answer row v.row
 running_reply nodes me v (Make token addr spec) = in_room v.group (by_tenant (make_answer nodes me addr.group (is_some (slot_for addr v.group)) spec) (reserve_for addr.tenant v.row))
 running_reply nodes me v (OpenGroup token addr) = by_tenant (λ _. on_made open_answer (shown_for (slot_for addr v.group))) (reserve_for addr.tenant v.row)
 running_reply nodes me v (ShutGroup token addr) = by_tenant (λ _. on_made shut_answer (shown_for (slot_for addr v.group))) (reserve_for addr.tenant v.row)
+running_reply nodes me v (DropGroup token addr) = by_tenant (λ _. on_made drop_answer (shown_for (slot_for addr v.group))) (reserve_for addr.tenant v.row)
 running_reply nodes me v (Say token addr payload) = by_tenant (λ _. on_made (λ s. say_answer s payload) (shown_for (slot_for addr v.group))) (reserve_for addr.tenant v.row)
 running_reply nodes me v (Fetch token addr from most) = by_tenant (λ _. on_made (λ s. fetch_answer s from most) (shown_for (slot_for addr v.group))) (reserve_for addr.tenant v.row)
 
@@ -111,12 +113,22 @@ abbrev pub on_slot : Addr → (SlotState → SlotState) → Option GroupAt → O
 on_slot g f None = None
 on_slot g f (Some here) = if is_addr g here.addr then Some (record { addr = here.addr; slot = f here.slot }) else Some here
 
+-- What is left of a group that was dropped. It has no members: every item falls, nobody is noticed, and nothing waits.
+abbrev pub gone_slot : SlotState
+gone_slot = let new = new_slot (record { kind = Beb; members = set.empty; msgs = 0; bytes = 0; window = 0 }) (node_numbered 0) set.empty in record new { phase = Gone }
+
+-- after the answer to a request that drops it
+abbrev pub dropped_slot : Reply → SlotState → SlotState
+dropped_slot Done s = gone_slot
+dropped_slot reply s = s
+
 -- what a request does besides its reply
 abbrev pub node_did : NodeId → Request → Reply → NodeValue → NodeValue
 node_did me (AddTenant token row) Done v = record v { row = Some row }
 node_did me (Make token addr spec) Done v = record v { group = Some (record { addr = addr; slot = new_slot spec me v.watch.noticed }) }
 node_did me (OpenGroup token addr) Done v = record v { group = on_slot addr (slot_moved Opened Done) v.group }
 node_did me (ShutGroup token addr) Done v = record v { group = on_slot addr (slot_moved Shut Done) v.group }
+node_did me (DropGroup token addr) Done v = record v { group = on_slot addr (dropped_slot Done) v.group }
 node_did me (Say token addr payload) (Said seq) v = record v { group = on_slot addr (slot_said payload (Said seq)) v.group }
 node_did me request reply v = v
 

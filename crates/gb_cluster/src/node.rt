@@ -11,13 +11,13 @@ ghost use Rattle.gb_link.specs.Ack.{covers};
 ghost use Rattle.gb_link.specs.Received.{admission, taken};
 ghost use Rattle.gb_link.specs.SendWindow.{new_window};
 ghost use Rattle.gb_rules.specs.Replied.{IsReply};
-ghost use Rattle.gb_rules.specs.Group.{open_answer, shut_answer, say_answer, fetch_answer, is_member, on_made};
+ghost use Rattle.gb_rules.specs.Group.{open_answer, shut_answer, drop_answer, say_answer, fetch_answer, is_member, on_made};
 ghost use Rattle.gb_rules.specs.declared.phase.Phase.TheVariants as phase;
 ghost use Rattle.gb_slot.specs.Slot.{IsWithinLimits, new_slot, waiting, slot_moved, slot_said, slot_came, slot_done, slot_took};
-ghost use Rattle.gb_cluster.specs.GroupRoom.{is_new_frame, group_at, group_of, HasRoom, KeepsRoom, first_waiting};
+ghost use Rattle.gb_cluster.specs.GroupRoom.{is_new_frame, slot_in, group_at, group_of, HasRoom, KeepsRoom, first_waiting};
 ghost use Rattle.gb_cluster.specs.Memory.{IsReplyTo, has_other_of, is_concerned};
 ghost use Rattle.gb_rules.specs.Tenant.{is_over_limits, is_bad, is_over, make_answer, by_tenant};
-ghost use Rattle.gb_cluster.specs.NodeStep.{first_of, new_node, reserve_for, slot_for, shown_for, row_answer, in_room, running_reply, node_reply, on_slot, group_took, node_did, packet_for, is_reached, is_another, node_packed, node_sent, node_again, node_ack, without_done, item_done, item_came, group_came, kind_of, count_of, node_took, good_of, slot_noticed_all, group_noticed, node_ticked};
+ghost use Rattle.gb_cluster.specs.NodeStep.{first_of, new_node, reserve_for, slot_for, shown_for, row_answer, in_room, running_reply, node_reply, on_slot, gone_slot, dropped_slot, group_took, node_did, packet_for, is_reached, is_another, node_packed, node_sent, node_again, node_ack, without_done, item_done, item_came, group_came, kind_of, count_of, node_took, good_of, slot_noticed_all, group_noticed, node_ticked};
 
 use gb_detect::detector::Detector;
 use gb_link::ack::covers;
@@ -46,7 +46,8 @@ use std::marker::Model;
 #[derive(Drop)]
 struct AddressedSlot {
     addr: Addr,
-    slot: Slot,
+    /// None once the group was dropped.
+    slot: Option<Slot>,
 }
 
 impl AddressedSlot {
@@ -58,7 +59,10 @@ impl AddressedSlot {
         if !is_same(addr, self.addr) {
             return Reply::Refused(Refusal::NoGroup);
         }
-        match self.slot.open_group() {
+        let Some(slot) = &mut self.slot else {
+            return Reply::Refused(Refusal::Spent);
+        };
+        match slot.open_group() {
             Ok(()) => Reply::Done,
             Err(why) => Reply::Refused(why),
         }
@@ -72,10 +76,28 @@ impl AddressedSlot {
         if !is_same(addr, self.addr) {
             return Reply::Refused(Refusal::NoGroup);
         }
-        match self.slot.shut_group() {
+        let Some(slot) = &mut self.slot else {
+            return Reply::Refused(Refusal::Spent);
+        };
+        match slot.shut_group() {
             Ok(()) => Reply::Done,
             Err(why) => Reply::Refused(why),
         }
+    }
+
+    /// Drops the group, where it is the one with this address: nothing of it is kept.
+    fn drop_group(&mut self, addr: Addr) -> Reply
+        ensures reply { result ≡ on_made drop_answer (shown_for (slot_for addr (Some (group_at self.old)))) }
+        ensures state { Some (group_at self.new) ≡ on_slot addr (dropped_slot result) (Some (group_at self.old)) }
+    {
+        if !is_same(addr, self.addr) {
+            return Reply::Refused(Refusal::NoGroup);
+        }
+        if self.slot.is_none() {
+            return Reply::Refused(Refusal::Spent);
+        }
+        self.slot = None;
+        Reply::Done
     }
 
     /// Says something in the group, where it is the one with this address.
@@ -86,7 +108,10 @@ impl AddressedSlot {
         if !is_same(addr, self.addr) {
             return Reply::Refused(Refusal::NoGroup);
         }
-        match self.slot.say(payload.as_slice()) {
+        let Some(slot) = &mut self.slot else {
+            return Reply::Refused(Refusal::Spent);
+        };
+        match slot.say(payload.as_slice()) {
             Ok(seq) => Reply::Said(seq),
             Err(why) => Reply::Refused(why),
         }
@@ -99,7 +124,10 @@ impl AddressedSlot {
         if !is_same(addr, self.addr) {
             return Reply::Refused(Refusal::NoGroup);
         }
-        match self.slot.fetch(from, most) {
+        let Some(slot) = &self.slot else {
+            return Reply::Refused(Refusal::Spent);
+        };
+        match slot.fetch(from, most) {
             Ok(entries) => Reply::Log(Entries::from(entries)),
             Err(why) => Reply::Refused(why),
         }
@@ -107,10 +135,13 @@ impl AddressedSlot {
 
     /// The first item that waits for the node, copied.
     fn first_for(&self, alloc: Global, to: NodeId) -> Result<Option<Entry>, OutOfMemory>
-        ensures first { IfOk result (λ e. e ≡ first_of (waiting self.now.slot.state to.number)) }
-        ensures lack { OnErr result (IsSome (first_of (waiting self.now.slot.state to.number))) }
+        ensures first { IfOk result (λ e. e ≡ first_of (waiting (slot_in self.now.slot) to.number)) }
+        ensures lack { OnErr result (IsSome (first_of (waiting (slot_in self.now.slot) to.number))) }
     {
-        match self.slot.peek(to) {
+        let Some(slot) = &self.slot else {
+            return Ok(None);
+        };
+        match slot.peek(to) {
             None => Ok(None),
             Some((m, payload)) => Ok(Some(Entry {
                 origin: m.origin,
@@ -233,7 +264,9 @@ fn take_first(group: &mut Option<AddressedSlot>, to: NodeId)
     ensures { group_of group.new ≡ group_took to.number (group_of group.old) }
 {
     if let Some(hosted) = group {
-        hosted.slot.took(to, 1);
+        if let Some(slot) = &mut hosted.slot {
+            slot.took(to, 1);
+        }
     }
 }
 
@@ -275,7 +308,9 @@ fn make_room(
     };
     if let Some(hosted) = group {
         if is_same(item.addr, hosted.addr) {
-            hosted.slot.ready(1, item.entry.payload.len())?;
+            if let Some(slot) = &mut hosted.slot {
+                slot.ready(1, item.entry.payload.len())?;
+            }
         }
     }
     Ok(())
@@ -288,7 +323,9 @@ fn finish(group: &mut Option<AddressedSlot>, by: NodeId, item: &Item)
 {
     if let Some(hosted) = group {
         if is_same(item.addr, hosted.addr) {
-            hosted.slot.done(by, item.entry.message());
+            if let Some(slot) = &mut hosted.slot {
+                slot.done(by, item.entry.message());
+            }
         }
     }
 }
@@ -300,10 +337,10 @@ fn bring(group: &mut Option<AddressedSlot>, from: NodeId, item: &Item)
 {
     if let Some(hosted) = group {
         if is_same(item.addr, hosted.addr) {
-            let entry = &item.entry;
-            hosted
-                .slot
-                .came(from, entry.origin, entry.seq, entry.payload.as_slice());
+            if let Some(slot) = &mut hosted.slot {
+                let entry = &item.entry;
+                slot.came(from, entry.origin, entry.seq, entry.payload.as_slice());
+            }
         }
     }
 }
@@ -388,11 +425,14 @@ fn notice_all(group: &mut Option<AddressedSlot>, found: &NodeSet) -> Result<(), 
     let Some(hosted) = group else {
         return Ok(());
     };
-    if !has_other_of(&hosted.slot, found) {
+    let Some(slot) = &mut hosted.slot else {
+        return Ok(());
+    };
+    if !has_other_of(slot, found) {
         return Ok(());
     }
-    hosted.slot.ready(found.count_in(found), 0)?;
-    notice_each(&mut hosted.slot, found);
+    slot.ready(found.count_in(found), 0)?;
+    notice_each(slot, found);
     Ok(())
 }
 
@@ -493,7 +533,10 @@ impl OneNode {
         }
         match Slot::new(self.alloc, spec.duplicate(), me, &self.detector.noticed()) {
             Ok(slot) => {
-                self.group = Some(AddressedSlot { addr, slot });
+                self.group = Some(AddressedSlot {
+                    addr,
+                    slot: Some(slot),
+                });
                 Reply::Done
             }
             Err(why) => Reply::Refused(why),
@@ -526,6 +569,21 @@ impl OneNode {
             return Reply::Refused(Refusal::NoGroup);
         };
         let reply = hosted.shut_group(addr);
+        self.group = Some(hosted);
+        reply
+    }
+
+    fn drop_group(&mut self, addr: Addr) -> Reply
+        ensures reply { result ≡ by_tenant (λ _. on_made drop_answer (shown_for (slot_for addr self.old.group))) (reserve_for addr.tenant self.old.row) }
+        ensures state { (me : Id) (token : List ℕ) → self.new ≡ node_did me (Request.DropGroup token addr) result self.old }
+    {
+        if reserve_of(&self.row, addr.tenant).is_none() {
+            return Reply::Refused(Refusal::Denied);
+        }
+        let Some(mut hosted) = self.group.take() else {
+            return Reply::Refused(Refusal::NoGroup);
+        };
+        let reply = hosted.drop_group(addr);
         self.group = Some(hosted);
         reply
     }
@@ -570,6 +628,7 @@ impl OneNode {
             Request::Make(_, addr, spec) => self.make(nodes, me, *addr, spec),
             Request::OpenGroup(_, addr) => self.open_group(*addr),
             Request::ShutGroup(_, addr) => self.shut_group(*addr),
+            Request::DropGroup(_, addr) => self.drop_group(*addr),
             Request::Say(_, addr, payload) => self.say(*addr, payload),
             Request::Fetch(_, addr, from, most) => self.fetch(*addr, *from, *most),
         }

@@ -14,9 +14,7 @@ use Rattle.gb_alone.proofs.ObservationLemmas.{take_short}
 use Rattle.gb_record.specs.Nodes.{node_numbered}
 use Rattle.gb_alone.specs.declared.event.GroupEvent.TheVariants.{Notice}
 use Rattle.gb_alone.specs.declared.event.GroupStep.{GroupStep}
-use Rattle.gb_types.specs.declared.reply.Reply.{Reply}
 use Rattle.gb_record.specs.Steps.{paired, steps_of}
-use Rattle.gb_alone.specs.Observation.{numbers_below, seen_at, seen_by}
 use Rattle.gb_record.specs.Project.{items_in, items_of, frames, frame_at, acknowledged, all_acknowledged, is_met_by, is_met, project, gives, replies_to, reply_in}
 use Rattle.gb_record.specs.declared.answer.Answer.{Answer}
 use Rattle.gb_record.specs.declared.answer.Answer.TheVariants.{NoPacket}

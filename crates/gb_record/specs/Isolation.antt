@@ -3,7 +3,8 @@ use Rattle.std.specs.Prelude.{ℕ, ◌≡◌, ◌<◌, ◌++◌, true, List}
 use Rattle.gb_types.specs.declared.address.Addr.{Addr}
 use Rattle.gb_types.specs.declared.entry.Entry.{Entry}
 use Rattle.gb_types.specs.declared.reply.Reply.{Reply}
-use Rattle.gb_alone.specs.Alone.{Group, alone, log_at, IsLegal}
+use Rattle.gb_alone.specs.Alone.{Group, alone, IsLegal}
+use Rattle.gb_alone.specs.Laws.{log_of_member}
 use Rattle.gb_record.specs.Project.{project, frames, items_of, replies_to, is_served}
 use Rattle.gb_record.specs.Transcript.{Transcript, Held}
 
@@ -22,7 +23,7 @@ seen_in t h g a b = record { replies = replies_to g a t.steps; log = h.log g a; 
 
 -- what is seen of a group alone
 abbrev pub seen_alone : Group → ℕ → ℕ → Seen
-seen_alone group a b = record { replies = (group a).replies; log = log_at a (group a).spec (group a).told; put = (group a).put b }
+seen_alone group a b = record { replies = (group a).replies; log = log_of_member a (group a); put = (group a).put b }
 
 -- the group alone, of what concerns it in the run
 abbrev pub alone_in : Transcript → Addr → Group
@@ -38,7 +39,7 @@ HasOwnReplies t g = (a : ℕ) → a < t.nodes → replies_to g a t.steps ≡ (al
 
 -- so is its log at each node
 abbrev pub HasOwnLogs : Transcript → Held → Addr → Type 0
-HasOwnLogs t h g = (a : ℕ) → a < t.nodes → h.log g a ≡ log_at a (alone_in t g a).spec (alone_in t g a).told
+HasOwnLogs t h g = (a : ℕ) → a < t.nodes → h.log g a ≡ log_of_member a (alone_in t g a)
 
 -- and the items put out from each node to each other
 abbrev pub HasOwnItems : Transcript → Held → Addr → Type 0

@@ -12,7 +12,7 @@ use Rattle.gb_types.specs.declared.refusal.Refusal.TheVariants.{NoRoom, OutOfMem
 use Rattle.gb_types.specs.declared.reply.Reply.{Reply}
 use Rattle.gb_types.specs.declared.reply.Reply.TheVariants.{Done, Refused}
 use Rattle.gb_types.specs.declared.request.Request.{Request}
-use Rattle.gb_types.specs.declared.request.Request.TheVariants.{AddTenant, Make, OpenGroup, ShutGroup, Say, Fetch}
+use Rattle.gb_types.specs.declared.request.Request.TheVariants.{AddTenant, Make, OpenGroup, ShutGroup, DropGroup, Say, Fetch}
 use Rattle.gb_types.specs.declared.spec.Spec.{Spec}
 use Rattle.gb_detect.specs.Silence.{Call, Heard, Tick as Ticks}
 use Rattle.gb_link.specs.Ack.{covers}
@@ -28,7 +28,7 @@ use Rattle.gb_record.specs.declared.answer.Taken.TheVariants.{Good as TakenGood}
 use Rattle.gb_record.specs.declared.answer.Ticked.TheVariants.{Noticed}
 use Rattle.gb_record.specs.declared.event.Event.{Event}
 use Rattle.gb_record.specs.declared.event.Event.TheVariants.{At, Pack, Arrive, Tick, Stop}
-use Rattle.gb_alone.specs.declared.event.GroupEvent.TheVariants.{Tenant, Make as AskMake, Open as AskOpen, Shut as AskShut, Say as AskSay, Fetch as AskFetch, Took, Came, Done as Acknowledged, Notice, Stop as Ends}
+use Rattle.gb_alone.specs.declared.event.GroupEvent.TheVariants.{Tenant, Make as AskMake, Open as AskOpen, Shut as AskShut, Drop as AskDrop, Say as AskSay, Fetch as AskFetch, Took, Came, Done as Acknowledged, Notice, Stop as Ends}
 use Rattle.gb_alone.specs.declared.event.GroupStep.{GroupStep}
 use Rattle.gb_record.specs.declared.packet.Item.{Item}
 use Rattle.gb_record.specs.declared.packet.Packet.{Packet}
@@ -159,6 +159,7 @@ command_for g a (AddTenant token row) = []
 command_for g a (Make token addr spec) = if is_addr g addr then record { node = a; event = AskMake spec } ∷ [] else []
 command_for g a (OpenGroup token addr) = if is_addr g addr then record { node = a; event = AskOpen } ∷ [] else []
 command_for g a (ShutGroup token addr) = if is_addr g addr then record { node = a; event = AskShut } ∷ [] else []
+command_for g a (DropGroup token addr) = if is_addr g addr then record { node = a; event = AskDrop } ∷ [] else []
 command_for g a (Say token addr payload) = if is_addr g addr then record { node = a; event = AskSay payload } ∷ [] else []
 command_for g a (Fetch token addr from most) = if is_addr g addr then record { node = a; event = AskFetch from most } ∷ [] else []
 
@@ -177,6 +178,7 @@ is_named g (AddTenant token row) = false
 is_named g (Make token addr spec) = is_addr g addr
 is_named g (OpenGroup token addr) = is_addr g addr
 is_named g (ShutGroup token addr) = is_addr g addr
+is_named g (DropGroup token addr) = is_addr g addr
 is_named g (Say token addr payload) = is_addr g addr
 is_named g (Fetch token addr from most) = is_addr g addr
 

@@ -35,6 +35,7 @@ fn copied(alloc: Global, request: &Request) -> Result<Request, OutOfMemory>
         Request::Make(token, addr, spec) => Request::Make(*token, *addr, spec.duplicate()),
         Request::OpenGroup(token, addr) => Request::OpenGroup(*token, *addr),
         Request::ShutGroup(token, addr) => Request::ShutGroup(*token, *addr),
+        Request::DropGroup(token, addr) => Request::DropGroup(*token, *addr),
         Request::Say(token, addr, payload) => {
             Request::Say(*token, *addr, payload.duplicate(alloc)?)
         }

@@ -25,6 +25,7 @@ pub(crate) fn is_named(addr: Addr, request: &Request) -> bool
         Request::Make(_, named, _) => is_same(addr, *named),
         Request::OpenGroup(_, named) => is_same(addr, *named),
         Request::ShutGroup(_, named) => is_same(addr, *named),
+        Request::DropGroup(_, named) => is_same(addr, *named),
         Request::Say(_, named, _) => is_same(addr, *named),
         Request::Fetch(_, named, _, _) => is_same(addr, *named),
     }

@@ -75,6 +75,12 @@ fn command(
             }
             Ok(None)
         }
+        Request::DropGroup(_, named) => {
+            if is_same(addr, *named) {
+                return Ok(Some(at(node, GroupEvent::Drop)));
+            }
+            Ok(None)
+        }
         Request::Say(_, named, payload) => {
             if is_same(addr, *named) {
                 let payload = payload.duplicate(alloc)?;

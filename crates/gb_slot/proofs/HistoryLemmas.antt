@@ -1,6 +1,7 @@
 -- A slot stands for what its group was told.
 use Rattle.std.proofs.Common.{◌≡◌, ◌≢◌, ℕ, ◌+◌, ◌-◌, ◌≤◌, ◌<◌, ◌||◌, ◌&&◌, not, Bool, true, false, List, [], ◌∷◌, ◌++◌, length, drop, refl, sym, ◌∙◌, ap, subst, arith, length-append}
 use Rattle.std.specs.Prelude.{if◌then◌else◌, map, nat_eq, nat_le, slice_index_or, slice_set}
+use Rattle.std.specs.Ordering.{nat_cmp}
 use Rattle.std.specs.FinSet as set
 use Rattle.std.proofs.Math.Seq.{drop-nil}
 use Rattle.std.proofs.lemmas.Bool.{eqb-true}
@@ -24,9 +25,9 @@ use Rattle.gb_stack.specs.Stands.{IsStackAfter}
 use Rattle.gb_stack.proofs.StandsLemmas as stack
 use Rattle.gb_history.specs.declared.call.GroupCall.{GroupCall}
 use Rattle.gb_history.specs.declared.call.GroupCall.TheVariants.{Own, Other, Crashed}
-use Rattle.gb_history.specs.History.{call_of, calls_of, known, said_in, puts_of}
+use Rattle.gb_history.specs.History.{call_of, calls_of, known, said_in, puts_of, bytes_in}
 use Rattle.gb_slot.specs.HistoryLaws.{FreshStands, MovedStands, SaidStands, CameStands, NoticedStands, DoneStands, TookStands, LogIs, FallsIs, WaitingSaid, WaitingCame, WaitingNoticed, WaitingTook, WaitingElsewhere}
-use Rattle.gb_history.specs.Messages.{has, entry_in, with_new}
+use Rattle.gb_history.specs.Messages.{has, entry_in, with_new, bytes_of}
 use Rattle.gb_rules.specs.Group.{is_other}
 use Rattle.gb_rules.specs.LetFall.{is_let_fall}
 use Rattle.gb_slot.specs.Slot.{waiting, taken_for, came_before, own_entry, slot_called, falls, with_acknowledgement, acknowledged_by, slot_took}
@@ -93,20 +94,23 @@ own_store s told payload st =
 own_lawful : (s : SlotState) (told : List GroupCall) (payload : List ℕ) → StandsFor s told → IsLawful s.me.number (call_of (Own (own_entry s payload)) ∷ calls_of told)
 own_lawful s told payload st = ((refl, not_said (calls_of told) (message_of (own_entry s payload)) (own_new s told payload st)), st.lawful)
 
+abbrev own_set : SlotState → set.FinSet nat_cmp
+own_set s = set.insert set.empty s.me.number
+
 abbrev said_with : SlotState → List ℕ → List Entry → SlotState
 said_with s payload store =
     let next = slot_called (call_of (Own (own_entry s payload))) store s in
-    record next { said = s.said + 1; acknowledged = s.acknowledged ++ set.empty ∷ [] }
+    record next { said = s.said + 1; acknowledged = s.acknowledged ++ own_set s ∷ [] }
 
 pub said_stands : SaidStands
 unfolding said_in
 said_stands s told payload st =
     let m : MsgId = message_of (own_entry s payload) in
     subst (λ store. StandsFor (said_with s payload store) (Own (own_entry s payload) ∷ told)) (own_store s told payload st)
-    (called_stands s told (Own (own_entry s payload)) (s.said + 1) s.noticed (s.acknowledged ++ set.empty ∷ []) st (own_lawful s told payload st) (ap (λ n. n + 1) st.said)
+    (called_stands s told (Own (own_entry s payload)) (s.said + 1) s.noticed (s.acknowledged ++ own_set s ∷ []) st (own_lawful s told payload st) (ap (λ n. n + 1) st.said)
     (λ x here above. let old : mentions (calls_of told) x ≡ false = st.own x here (omega arith) in later m x (mentions (calls_of told) x) above old)
     (λ p x other. st.arrivals p x other ∙ elsewhere p (same m x) (came_from s.me.number (calls_of told) p x) other)
-    st.noticed (length-append s.acknowledged (set.empty ∷ []) ∙ ap (λ n. n + 1) st.acknowledged))
+    st.noticed (length-append s.acknowledged (own_set s ∷ []) ∙ ap (λ n. n + 1) st.acknowledged))
   where
     elsewhere : (p : ℕ) (a b : Bool) → p ≢ s.me.number → b ≡ ((nat_eq s.me.number p && a) || b)
     elsewhere p a b other = let out : nat_eq s.me.number p ≡ false = grind (arith, nat_tests) in sym (ap (λ v. (v && a) || b) out)
@@ -122,7 +126,7 @@ waiting_said s told payload b st =
 came_new : (s : SlotState) (told : List GroupCall) (from : NodeId) (x : Entry) → StandsFor s told → falls from x s ≡ false
     → (from.number ≢ s.me.number) × (came_from s.me.number (calls_of told) from.number (message_of x) ≡ false) × (x.origin.number ≡ s.me.number → mentions (calls_of told) (message_of x) ≡ true)
 came_new s told from x st stays =
-    let facts = not_fallen s.spec s.me.number from.number x (came_before s from.number (message_of x)) (has s.store (message_of x)) stays in
+    let facts = not_fallen s.spec s.me.number from.number x (came_before s from.number (message_of x)) (has s.store (message_of x)) (bytes_of x.origin.number s.store) stays in
     (facts.0, sym (st.arrivals from.number (message_of x) facts.0) ∙ facts.1, λ own. sym (ap (λ es. has es (message_of x)) st.store ∙ has-known told (message_of x)) ∙ facts.2 own)
 
 came_lawful : (s : SlotState) (told : List GroupCall) (from : NodeId) (x : Entry) → StandsFor s told → falls from x s ≡ false → IsLawful s.me.number (call_of (Other from x) ∷ calls_of told)
@@ -222,9 +226,11 @@ log_is s told st = ap (λ es. map (entry_in es) s.log) st.store ∙ ap (map (ent
 pub falls_is : FallsIs
 falls_is s told from x st =
     let m : MsgId = message_of x in
+    let before = came_before s from.number m in
     let there : has s.store m ≡ mentions (calls_of told) m = ap (λ es. has es m) st.store ∙ has-known told m in
-    ap (is_let_fall s.spec s.me.number from.number x (came_before s from.number m)) there
-    ∙ falls-alike s.spec s.me.number from.number x (came_before s from.number m) (came_from s.me.number (calls_of told) from.number m) (mentions (calls_of told) m)
+    let seen : bytes_of x.origin.number s.store ≡ bytes_in told x.origin.number = ap (bytes_of x.origin.number) st.store in
+    (λ i. is_let_fall s.spec s.me.number from.number x before (there i) (seen i))
+    ∙ falls-alike s.spec s.me.number from.number x before (came_from s.me.number (calls_of told) from.number m) (mentions (calls_of told) m) (bytes_in told x.origin.number)
     (λ other. st.arrivals from.number m other)
 
 pub took_stands : TookStands

@@ -1,4 +1,5 @@
 pub mod CalledLemmas
+pub mod CountedLemmas
 pub mod HistoryLemmas
 pub mod KeptLemmas
 pub mod NoticeLemmas
@@ -6,3 +7,4 @@ pub mod PageLemmas
 pub mod RoomLemmas
 pub mod SlotLemmas
 pub mod TakenLemmas
+pub mod WindowLemmas

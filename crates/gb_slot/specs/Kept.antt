@@ -1,8 +1,10 @@
 -- Where the payloads of a store stand.
-use Rattle.std.specs.Prelude.{ℕ, ◌≤◌, List, [], ◌∷◌, length, map, slice_range, Option, Some, None, if◌then◌else◌}
+use Rattle.std.specs.Prelude.{ℕ, ◌≡◌, ◌≤◌, ◌<◌, List, [], ◌∷◌, length, map, slice_index, slice_range, Option, Some, None, if◌then◌else◌}
 use Rattle.gb_types.specs.declared.entry.Entry.{Entry}
+use Rattle.gb_types.specs.declared.limits.TheConstants.{NODES}
 use Rattle.gb_types.specs.declared.message.MsgId.{MsgId}
 use Rattle.gb_types.specs.Message.{same}
+use Rattle.gb_history.specs.Messages.{bytes_of}
 use Rattle.gb_slot.specs.declared.store.Kept.{Kept}
 
 -- a message with its payload among the bytes
@@ -21,3 +23,7 @@ AreInside bytes (k ∷ kept) = (k.start ≤ k.end) × (k.end ≤ length bytes) �
 abbrev pub found : List Kept → MsgId → Option Kept
 found [] m = None
 found (k ∷ kept) m = if same k.m m then Some k else found kept m
+
+-- of each origin, so many are the payload bytes of its messages
+abbrev pub AreCounted : List ℕ → List Entry → Type 0
+AreCounted seen entries = (origin : ℕ) → origin < NODES → slice_index seen origin ≡ bytes_of origin entries

@@ -2,19 +2,15 @@
 use Rattle.std.specs.Prelude.{ℕ, ◌≡◌, ◌≢◌, ◌≤◌, ◌<◌, ◌&&◌, not, Bool, true, false, List, length}
 use Rattle.std.specs.List.{AllByRecursion}
 use Rattle.std.specs.FinSet as set
-use Rattle.gb_types.specs.Entry.{message_of}
-use Rattle.gb_types.specs.declared.entry.Entry.{Entry}
 use Rattle.gb_types.specs.declared.limits.TheConstants.{NODES}
 use Rattle.gb_types.specs.declared.message.MsgId.{MsgId}
 use Rattle.gb_layer.specs.Machine.{mentions, was_noticed, came_from}
 use Rattle.gb_layer.specs.Modules.{IsLawful}
-use Rattle.gb_types.specs.declared.spec.Spec.{Spec}
 use Rattle.gb_stack.specs.Stands.{IsStackAfter}
 use Rattle.gb_history.specs.declared.call.GroupCall.{GroupCall}
 use Rattle.gb_history.specs.History.{calls_of, known, said_in, delivered}
 use Rattle.gb_history.specs.Messages.{has}
 use Rattle.gb_rules.specs.Group.{is_other}
-use Rattle.gb_rules.specs.LetFall.{is_let_fall}
 use Rattle.gb_slot.specs.Slot.{taken_for, came_before}
 use Rattle.gb_slot.specs.SlotState.{SlotState}
 

@@ -10,3 +10,4 @@ pub mod slot;
 pub mod store;
 #[cfg(test)]
 mod tests;
+mod window;

@@ -6,16 +6,17 @@ ghost use Rattle.std.specs.List.{list_any};
 ghost use Rattle.gb_layer.specs.Machine.{is_up, messages};
 ghost use Rattle.gb_history.specs.Messages.{entry_in};
 ghost use Rattle.gb_rules.specs.Replied.{done_reply, said_reply, log_reply, IsReply};
-ghost use Rattle.gb_rules.specs.Group.{is_member, is_other, open_answer, shut_answer, say_answer, fetch_answer};
+ghost use Rattle.gb_rules.specs.Group.{is_gone, is_member, is_other, open_answer, shut_answer, say_answer, fetch_answer};
 ghost use Rattle.gb_rules.specs.LetFall.{is_let_fall};
-ghost use Rattle.gb_slot.specs.Slot.{came_before, with_acknowledgement};
 
 use crate::store::Store;
+use crate::window::{acknowledge, add_said, count_unfinished};
 use gb_layer::effects::{Effects, Up};
 use gb_layer::layer::Layer;
 use gb_rules::group::{check_open, check_say, check_shut, is_bad_place};
 use gb_rules::let_fall::is_let_fall;
 use gb_rules::phase::Phase;
+use gb_rules::usage::Usage;
 use gb_stack::stack::Stack;
 use gb_types::entry::Entry;
 use gb_types::limits::NODES;
@@ -43,15 +44,19 @@ pub struct Slot {
     arrivals: Vec<Up>,
     said: u32,
     taken: [usize; NODES],
-    /// For each message that was said here, in order, the nodes that acknowledged it.
+    /// For each message that was said here, in order, the nodes that have it for good.
     acknowledged: Vec<NodeSet>,
+    /// How many of these messages are unfinished.
+    unfinished: u32,
     /// So many more calls of the stack take no memory.
     calls: usize,
 }
 
 impl Model for Slot {
-    ghost use Rattle.std.specs.Prelude.{◌≤◌, ◌+◌, vec_len, vec_capacity};
-    ghost use Rattle.gb_types.specs.declared.limits.TheConstants.{MESSAGES};
+    ghost use Rattle.std.specs.Prelude.{◌≡◌, ◌≤◌, ◌+◌, vec_len, vec_capacity};
+    ghost use Rattle.gb_types.specs.declared.limits.TheConstants.{MESSAGES, BYTES};
+    ghost use Rattle.gb_slot.specs.Slot.{unfinished_of};
+    ghost use Rattle.gb_rules.specs.Group.{is_gone};
     ghost use Rattle.gb_stack.specs.StackRoom.{stack_room};
     ghost use Rattle.gb_layer.specs.Machine.{messages};
     ghost use Rattle.gb_layer.specs.Room.{free_sends, free_ups};
@@ -66,11 +71,11 @@ impl Model for Slot {
 
     ghost view = { λ s. record { state = record { spec = s.spec; me = s.me; phase = s.phase; noticed = s.noticed; stack = ⟦<Stack as Layer>⟧.meaning s.stack; arrivals = s.arrivals.items; said = s.said; store = s.store.entries; log = messages s.effects.ups.items; outgoing = s.effects.sends.items; taken = s.taken; acknowledged = s.acknowledged.items }; calls = s.calls; bytes = s.store.bytes } };
 
-    ghost invariant = { λ s. (s.said ≤ s.spec.msgs) × (s.spec.msgs ≤ MESSAGES) × (s.calls ≤ s.store.places) × (s.calls + vec_len s.arrivals ≤ vec_capacity s.arrivals) × (1 ≤ s.calls → stack_room s.stack (free_sends s.effects) (free_ups s.effects) s.calls) };
+    ghost invariant = { λ s. (is_gone s.phase ≡ false) × (s.said ≤ s.spec.msgs) × (s.spec.msgs ≤ MESSAGES) × (s.spec.bytes ≤ BYTES) × (vec_len s.acknowledged ≡ s.said) × (s.unfinished ≡ unfinished_of s.spec s.noticed s.acknowledged.items) × (s.calls ≤ s.store.places) × (s.calls + vec_len s.arrivals ≤ vec_capacity s.arrivals) × (1 ≤ s.calls → stack_room s.stack (free_sends s.effects) (free_ups s.effects) s.calls) };
 }
 
 impl Slot {
-    ghost use Rattle.gb_slot.specs.Slot.{IsWithinLimits, new_slot, shown, waiting, slot_moved, slot_said, slot_came, slot_noticed, slot_done, slot_took};
+    ghost use Rattle.gb_slot.specs.Slot.{IsWithinLimits, new_slot, usage_of, shown, waiting, slot_moved, slot_said, slot_came, slot_noticed, slot_done, slot_took};
 
     /// A group that was just made at the node `me`, one of its members, which has noticed these nodes. What is
     /// broadcast is put out to the other members.
@@ -101,6 +106,7 @@ impl Slot {
             said: 0,
             taken: [0; NODES],
             acknowledged: Vec::new(alloc),
+            unfinished: 0,
             calls: 0,
         })
     }
@@ -108,6 +114,7 @@ impl Slot {
     /// Opens the group for its member's messages. WrongPhase where it was opened before.
     pub fn open_group(&mut self) -> Result<(), Refusal>
         ensures answer { done_reply result ≡ open_answer (shown self.old.state) }
+        ensures present { is_gone self.old.state.phase ≡ false }
         ensures state { self.new.state ≡ slot_moved Phase.Opened (done_reply result) self.old.state }
         ensures room { (self.new.calls ≡ self.old.calls) × (self.new.bytes ≡ self.old.bytes) }
     {
@@ -119,6 +126,7 @@ impl Slot {
     /// Shuts the group: its member says nothing more. WrongPhase where it is not open.
     pub fn shut_group(&mut self) -> Result<(), Refusal>
         ensures answer { done_reply result ≡ shut_answer (shown self.old.state) }
+        ensures present { is_gone self.old.state.phase ≡ false }
         ensures state { self.new.state ≡ slot_moved Phase.Shut (done_reply result) self.old.state }
         ensures room { (self.new.calls ≡ self.old.calls) × (self.new.bytes ≡ self.old.bytes) }
     {
@@ -141,13 +149,26 @@ impl Slot {
         Ok(())
     }
 
+    /// What the member here has used of what the spec lets it have.
+    fn usage(&self) -> Usage
+        ensures { result ≡ usage_of self.now.state }
+    {
+        Usage {
+            said: self.said,
+            bytes: self.store.bytes_of(self.me),
+            unfinished: self.unfinished,
+        }
+    }
+
     /// Broadcasts a payload, and gives its number here. WrongPhase where the group is not open, TooLong above
-    /// 1,024 bytes, Budget where all messages are said, in this order; OutOfMemory last.
+    /// 1,024 bytes, Budget where all messages are said, Bytes where the payload's bytes would be too many in
+    /// all, Window where too many messages are unfinished, in this order; OutOfMemory last.
     pub fn say(&mut self, payload: &[u8]) -> Result<u16, Refusal>
         ensures answer { IsReply (say_answer (shown self.old.state) payload.now) (said_reply result) }
+        ensures present { is_gone self.old.state.phase ≡ false }
         ensures state { self.new.state ≡ slot_said payload.now (said_reply result) self.old.state }
     {
-        if let Err(why) = check_say(&self.spec, self.phase, self.said, payload) {
+        if let Err(why) = check_say(&self.spec, self.phase, self.usage(), payload) {
             return Err(why);
         }
         let room = self.ready(1, payload.len());
@@ -166,7 +187,15 @@ impl Slot {
         self.calls -= 1;
         self.stack.say(m, &mut self.effects);
         self.store.push(m, payload);
-        self.acknowledged.push_reserved(NodeSet::new());
+        let mut by = NodeSet::new();
+        by.insert(self.me);
+        self.unfinished = add_said(
+            &self.spec,
+            &self.noticed,
+            &mut self.acknowledged,
+            self.unfinished,
+            by,
+        );
         self.said += 1;
         Ok(seq)
     }
@@ -182,7 +211,8 @@ impl Slot {
         let m = MsgId { origin, seq };
         let known = self.store.contains(m);
         let before = has_arrived(&self.arrivals, from, m);
-        if is_let_fall(&self.spec, self.me, from, m, before, known) {
+        let seen = self.store.bytes_of(origin);
+        if is_let_fall(&self.spec, self.me, from, m, payload, before, known, seen) {
             return;
         }
         self.calls -= 1;
@@ -205,6 +235,7 @@ impl Slot {
             return;
         }
         self.noticed.insert(who);
+        self.unfinished = count_unfinished(&self.spec, &self.noticed, &self.acknowledged);
         self.calls -= 1;
         self.stack.notice(who, &mut self.effects);
     }
@@ -216,11 +247,18 @@ impl Slot {
         ensures room { (self.new.calls ≡ self.old.calls) × (self.new.bytes ≡ self.old.bytes) }
     {
         if m.origin == self.me {
-            acknowledge(&mut self.acknowledged, m.seq, dest);
+            self.unfinished = acknowledge(
+                &self.spec,
+                &self.noticed,
+                &mut self.acknowledged,
+                self.unfinished,
+                m.seq,
+                dest,
+            );
         }
     }
 
-    /// For each message that was said here, in order, the nodes that acknowledged it.
+    /// For each message that was said here, in order, the nodes that have it for good.
     pub fn acknowledged(&self) -> &[NodeSet]
         ensures { result.now ≡ self.now.state.acknowledged }
     {
@@ -230,7 +268,8 @@ impl Slot {
     /// The log from a place on, `max` entries at most; places count from 0. BadPlace where the place is above
     /// the log's length, or more than 16 entries are asked for.
     pub fn fetch(&self, from: u32, max: u32) -> Result<Vec<Entry>, Refusal>
-        ensures { IsReply (fetch_answer (shown self.now.state) from max) (log_reply result) }
+        ensures answer { IsReply (fetch_answer (shown self.now.state) from max) (log_reply result) }
+        ensures present { is_gone self.now.state.phase ≡ false }
     {
         if is_bad_place(self.effects.ups.len(), from, max) {
             return Err(Refusal::BadPlace);
@@ -298,19 +337,6 @@ fn has_arrived(arrivals: &[Up], from: NodeId, m: MsgId) -> bool
     ensures { result ≡ list_any (is_up from.number m) arrivals.now }
 {
     arrivals.iter().any(|up| up.via == from && up.m == m)
-}
-
-/// The message with the number from 1 is acknowledged by a node, too.
-fn acknowledge(acknowledged: &mut [NodeSet], seq: u16, by: NodeId)
-    ensures { acknowledged.new ≡ with_acknowledgement seq by acknowledged.old }
-{
-    if seq == 0 {
-        return;
-    }
-    let place = usize::from(seq) - 1;
-    if place < acknowledged.len() {
-        acknowledged[place].insert(by);
-    }
 }
 
 /// The item at a place.

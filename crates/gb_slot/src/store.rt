@@ -1,11 +1,15 @@
 //! The messages that a slot knows, with their payloads. Each payload stands here once.
-ghost use Rattle.std.specs.Prelude.{◌≡◌, ◌+◌, ◌≤◌, ◌<◌, ◌-◌, ◌∷◌, ◌++◌, [], length, slice_range, vec_len, vec_capacity, IfOk, OnOk};
-ghost use Rattle.gb_history.specs.Messages.{has, payload_in, entry_in};
-ghost use Rattle.gb_slot.specs.Kept.{found, entries_of, AreInside};
+ghost use Rattle.std.specs.Prelude.{◌≡◌, ◌+◌, ◌≤◌, ◌<◌, ◌-◌, ◌∷◌, ◌++◌, [], List, length, slice_index, slice_range, vec_len, vec_capacity, IfOk, OnOk};
+ghost use Rattle.gb_history.specs.Messages.{has, payload_in, entry_in, bytes_of};
+ghost use Rattle.gb_slot.specs.Kept.{found, entries_of, AreInside, AreCounted};
+ghost use Rattle.gb_types.specs.declared.entry.Entry.{Entry as EntryValue};
+ghost use Rattle.gb_types.specs.declared.limits.TheConstants.{BYTES};
 
 use gb_types::entry::Entry;
+use gb_types::limits::NODES;
 use gb_types::memory::OutOfMemory;
 use gb_types::message::MsgId;
+use gb_types::node::NodeId;
 use gb_types::payload::Payload;
 use std::alloc::Global;
 use std::marker::Model;
@@ -23,6 +27,8 @@ pub struct Kept {
 pub struct Store {
     kept: Vec<Kept>,
     bytes: Vec<u8>,
+    /// How many of the bytes are of each origin's messages.
+    seen: [u32; NODES],
 }
 
 impl Model for Store {
@@ -31,11 +37,11 @@ impl Model for Store {
 
     ghost Value = { StoreValue };
 
-    ghost use Rattle.gb_slot.specs.Kept.{entries_of, AreInside};
+    ghost use Rattle.gb_slot.specs.Kept.{entries_of, AreInside, AreCounted};
 
     ghost view = { λ s. record { entries = entries_of s.bytes.items s.kept.items; places = vec_capacity s.kept - vec_len s.kept; bytes = vec_capacity s.bytes - vec_len s.bytes } };
 
-    ghost invariant = { λ s. AreInside s.bytes.items s.kept.items };
+    ghost invariant = { λ s. AreInside s.bytes.items s.kept.items × AreCounted s.seen (entries_of s.bytes.items s.kept.items) };
 }
 
 /// Where the message is kept.
@@ -86,6 +92,14 @@ fn append(kept: &mut Vec<Kept>, bytes: &mut Vec<u8>, m: MsgId, payload: &[u8])
     kept.push_reserved(Kept { m, start, end });
 }
 
+/// Counts a payload's bytes as its origin's.
+fn count_bytes(seen: &mut [u32; NODES], m: MsgId, payload: &[u8])
+    requires { slice_index seen.old m.origin.number + length payload.now ≤ BYTES }
+    ensures { (entries : List EntryValue) → AreCounted seen.old entries → AreCounted seen.new (entries ++ record { origin = m.origin; seq = m.seq; payload = payload.now } ∷ []) }
+{
+    seen[m.origin.index()] += payload.len() as u32;
+}
+
 impl Store {
     /// Nothing, and no room.
     pub fn new(alloc: Global) -> Store
@@ -94,6 +108,7 @@ impl Store {
         Store {
             kept: Vec::new(alloc),
             bytes: Vec::new(alloc),
+            seen: [0; NODES],
         }
     }
 
@@ -112,11 +127,20 @@ impl Store {
     pub fn push(&mut self, m: MsgId, payload: &[u8])
         requires place { 1 ≤ self.old.places }
         requires bytes { length payload.now ≤ self.old.bytes }
+        requires limit { bytes_of m.origin.number self.old.entries + length payload.now ≤ BYTES }
         ensures entries { self.new.entries ≡ self.old.entries ++ record { origin = m.origin; seq = m.seq; payload = payload.now } ∷ [] }
         ensures places { self.old.places ≤ self.new.places + 1 }
         ensures bytes { self.old.bytes ≤ self.new.bytes + length payload.now }
     {
         append(&mut self.kept, &mut self.bytes, m, payload);
+        count_bytes(&mut self.seen, m, payload);
+    }
+
+    /// How many payload bytes an origin's messages have.
+    pub fn bytes_of(&self, origin: NodeId) -> u32
+        ensures { result ≡ bytes_of origin.number self.now.entries }
+    {
+        self.seen[origin.index()]
     }
 
     /// Whether the message is there.

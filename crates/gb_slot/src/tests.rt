@@ -44,21 +44,43 @@ fn group_noticing(alloc: Global, kind: Kind, msgs: u32, noticed: &NodeSet) -> Re
     requires some { 1 ≤ msgs }
     requires most { msgs ≤ MESSAGES }
 {
-    let mut members = NodeSet::new();
-    members.insert(FRIEND);
-    members.insert(OTHER);
-    members.insert(ME);
-    if !members.contains(ME) {
-        return Err(Refusal::BadMembers);
-    }
     let spec = Spec {
         kind,
-        members,
+        members: members(),
         msgs,
         bytes: 65_536,
         window: 1_024,
     };
+    if !spec.members.contains(ME) {
+        return Err(Refusal::BadMembers);
+    }
     Slot::new(alloc, spec, ME, noticed)
+}
+
+/// The members of each group here.
+fn members() -> NodeSet {
+    let mut members = NodeSet::new();
+    members.insert(FRIEND);
+    members.insert(OTHER);
+    members.insert(ME);
+    members
+}
+
+/// An open best-effort group, each of whose members says 4 messages of 10 bytes in all, 2 of them unfinished at once.
+fn narrow_group(alloc: Global) -> Result<Slot, Refusal> {
+    let spec = Spec {
+        kind: Kind::Beb,
+        members: members(),
+        msgs: 4,
+        bytes: 10,
+        window: 2,
+    };
+    if !spec.members.contains(ME) {
+        return Err(Refusal::BadMembers);
+    }
+    let mut slot = Slot::new(alloc, spec, ME, &NodeSet::new())?;
+    slot.open_group()?;
+    Ok(slot)
 }
 
 /// An item comes, after room was made for it.
@@ -416,7 +438,7 @@ fn room_that_was_made_serves_notices(rt: HostRuntime) -> Result<(), Fail> {
     check_room_that_was_made_serves_notices(&rt, &mut slot)
 }
 
-/// Of each message that was said, in order, these nodes acknowledged it, and no others.
+/// Of each message that was said, in order, these nodes have it for good, and no others.
 fn assert_acknowledged(rt: &impl Abort, slot: &Slot, want: &[&[NodeId]]) {
     let found = slot.acknowledged();
     assert_eq!(rt; found.len(), want.len());
@@ -605,12 +627,12 @@ fn check_acknowledgements_are_kept(rt: &impl Abort, slot: &mut Slot) -> Result<(
     slot.open_group()?;
     slot.say(b"one")?;
     slot.say(b"two")?;
-    assert_acknowledged(rt, slot, &[&[], &[]]);
+    assert_acknowledged(rt, slot, &[&[ME], &[ME]]);
     slot.done(FRIEND, MsgId { origin: ME, seq: 2 });
-    assert_acknowledged(rt, slot, &[&[], &[FRIEND]]);
+    assert_acknowledged(rt, slot, &[&[ME], &[ME, FRIEND]]);
     slot.done(OTHER, MsgId { origin: ME, seq: 1 });
     slot.done(FRIEND, MsgId { origin: ME, seq: 1 });
-    let want: [&[NodeId]; 2] = [&[FRIEND, OTHER], &[FRIEND]];
+    let want: [&[NodeId]; 2] = [&[ME, FRIEND, OTHER], &[ME, FRIEND]];
     assert_acknowledged(rt, slot, &want);
     for (origin, seq) in [
         // Acknowledged before.
@@ -630,10 +652,14 @@ fn check_acknowledgements_are_kept(rt: &impl Abort, slot: &mut Slot) -> Result<(
         assert_waiting(rt, slot, FRIEND, 2, 1, b"one");
     }
     slot.say(b"three")?;
-    assert_acknowledged(rt, slot, &[&[FRIEND, OTHER], &[FRIEND], &[]]);
+    assert_acknowledged(rt, slot, &[&[ME, FRIEND, OTHER], &[ME, FRIEND], &[ME]]);
     notice_crash(slot, FRIEND)?;
     slot.done(OTHER, MsgId { origin: ME, seq: 3 });
-    assert_acknowledged(rt, slot, &[&[FRIEND, OTHER], &[FRIEND], &[OTHER]]);
+    assert_acknowledged(
+        rt,
+        slot,
+        &[&[ME, FRIEND, OTHER], &[ME, FRIEND], &[ME, OTHER]],
+    );
     Ok(())
 }
 
@@ -641,4 +667,88 @@ fn check_acknowledgements_are_kept(rt: &impl Abort, slot: &mut Slot) -> Result<(
 fn acknowledgements_are_kept(rt: HostRuntime) -> Result<(), Fail> {
     let mut slot = group(rt.alloc(), 3)?;
     check_acknowledgements_are_kept(&rt, &mut slot)
+}
+
+fn check_usage_is_bounded(rt: &impl Abort, slot: &mut Slot) -> Result<(), Fail> {
+    let too_long = [7u8; 1_025];
+    assert_eq!(rt; slot.say(b"sevenly")?, 1);
+    assert_eq!(rt; slot.say(b"four"), Err(Refusal::Bytes), "one too many");
+    assert_eq!(rt; slot.say(b"ten")?, 2, "no more bytes are left");
+    assert_eq!(rt;
+        slot.say(b"x"),
+        Err(Refusal::Bytes),
+        "the window is closed too"
+    );
+    assert_eq!(rt; slot.say(b""), Err(Refusal::Window));
+    slot.done(FRIEND, MsgId { origin: ME, seq: 1 });
+    slot.done(FRIEND, MsgId { origin: ME, seq: 1 });
+    assert_eq!(rt; slot.say(b""), Err(Refusal::Window), "one has it");
+    slot.done(OTHER, MsgId { origin: ME, seq: 1 });
+    assert_eq!(rt; slot.say(b"")?, 3, "all have it");
+    assert_eq!(rt; slot.say(b""), Err(Refusal::Window));
+    notice_crash(slot, OTHER)?;
+    assert_eq!(rt; slot.say(b""), Err(Refusal::Window), "one is to have it");
+    slot.done(FRIEND, MsgId { origin: ME, seq: 3 });
+    assert_eq!(rt; slot.say(b"")?, 4, "no other is to have it");
+    assert_eq!(rt;
+        slot.say(b"x"),
+        Err(Refusal::Budget),
+        "no bytes are left either"
+    );
+    assert_eq!(rt; slot.say(&too_long), Err(Refusal::TooLong));
+    Ok(())
+}
+
+#[test]
+fn usage_is_bounded(rt: HostRuntime) -> Result<(), Fail> {
+    let mut slot = narrow_group(rt.alloc())?;
+    check_usage_is_bounded(&rt, &mut slot)
+}
+
+fn check_notices_open_the_window(rt: &impl Abort, slot: &mut Slot) -> Result<(), Fail> {
+    slot.say(b"one")?;
+    slot.say(b"two")?;
+    notice_crash(slot, FRIEND)?;
+    slot.done(FRIEND, MsgId { origin: ME, seq: 1 });
+    assert_eq!(rt; slot.say(b""), Err(Refusal::Window));
+    notice_crash(slot, OTHER)?;
+    assert_eq!(rt; slot.say(b"")?, 3);
+    assert_eq!(rt; slot.say(b"")?, 4, "finished at once");
+    Ok(())
+}
+
+#[test]
+fn notices_open_the_window(rt: HostRuntime) -> Result<(), Fail> {
+    let mut slot = narrow_group(rt.alloc())?;
+    check_notices_open_the_window(&rt, &mut slot)
+}
+
+/// Each origin's bytes are bounded by themselves. What is let fall, or known, counts nothing.
+fn check_bytes_of_an_origin_are_bounded(rt: &impl Abort, slot: &mut Slot) -> Result<(), Fail> {
+    receive(slot, FRIEND, FRIEND, 1, b"sevenly")?;
+    receive(slot, OTHER, FRIEND, 1, b"known before")?;
+    receive(slot, FRIEND, FRIEND, 2, b"four")?;
+    receive(slot, FRIEND, FRIEND, 2, b"ten")?;
+    receive(slot, FRIEND, FRIEND, 3, b"x")?;
+    receive(slot, FRIEND, FRIEND, 4, b"")?;
+    receive(slot, OTHER, OTHER, 1, b"ten of them")?;
+    receive(slot, OTHER, OTHER, 1, b"ten of its")?;
+    assert_eq!(rt; slot.say(b"ten of own")?, 1);
+    assert_log(
+        rt,
+        slot,
+        &[
+            (FRIEND, 1, b"sevenly"),
+            (FRIEND, 2, b"ten"),
+            (FRIEND, 4, b""),
+            (OTHER, 1, b"ten of its"),
+            (ME, 1, b"ten of own"),
+        ],
+    )
+}
+
+#[test]
+fn bytes_of_an_origin_are_bounded(rt: HostRuntime) -> Result<(), Fail> {
+    let mut slot = narrow_group(rt.alloc())?;
+    check_bytes_of_an_origin_are_bounded(&rt, &mut slot)
 }

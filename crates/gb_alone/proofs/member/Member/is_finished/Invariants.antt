@@ -10,5 +10,5 @@ use Rattle.gb_alone.proofs.member.Member.is_finished.Given as goal
 -- what is left decides
 abbrev pub invariant-loop-b : goal.invariant-loop-b
 invariant-loop-b l =
-    let test : ℕ → Bool = λ b. nat_eq b l.me.number || (was_noticed (calls_of l.self.told) b || is_acknowledged l.me.number l.seq (slice_index_or l.self.put b []) (slice_index_or l.self.done b [])) in
+    let test : ℕ → Bool = λ b. nat_eq b l.me.number || (was_noticed (calls_of l.self.told) b || is_acknowledged l.me.number l.seq (slice_index_or l.self.done b []) 1 (slice_index_or l.self.put b [])) in
     list_all test l.b-iterator ≡ list_all test (rising l.spec.members)

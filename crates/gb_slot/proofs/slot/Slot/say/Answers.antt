@@ -6,4 +6,4 @@ pub say-requires : goal.say-requires
 say-requires c =
     let s = c.self-2.inside in
     let some : 1 ≤ s.calls = search rules in
-    room_for_one s.stack _ _ s.calls some (c.self-2.invariant.4 some)
+    room_for_one s.stack _ _ s.calls some (c.self-2.invariant.7 some)
