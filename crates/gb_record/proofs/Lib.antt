@@ -1,3 +1,4 @@
 pub mod LaterPacketLemmas
 pub mod NumberLemmas
 pub mod StepsLemmas
+pub mod GivenLemmas
