@@ -6,7 +6,7 @@ mod StepLemmas
 mod LogLemmas
 pub mod DutyLemmas
 mod MoveLemmas
-mod FlowLemmas
+pub mod FlowLemmas
 mod AcceptedLemmas
 mod OrderLemmas
 pub mod NoticeLemmas
