@@ -9,7 +9,10 @@ use Rattle.gb_types.specs.declared.entry.Entry.{Entry}
 use Rattle.gb_types.specs.declared.node.NodeId.{NodeId}
 use Rattle.gb_types.specs.declared.message.MsgId.{MsgId}
 use Rattle.gb_types.specs.Entry.{message_of}
+use Rattle.std.specs.Ordering.{nat_cmp}
+use Rattle.std.specs.FinSet as fin
 use Rattle.gb_slot.specs.Slot.{slot_done}
+use Rattle.gb_slot.specs.SlotState.{SlotState}
 use Rattle.gb_slot.proofs.HistoryLemmas.{done_stands}
 use Rattle.gb_alone.specs.declared.event.GroupEvent.TheVariants.{Done as Acknowledged}
 use Rattle.gb_alone.specs.declared.event.GroupStep.{GroupStep}
@@ -20,7 +23,8 @@ use Rattle.gb_cluster.specs.State.{waiting_in}
 use Rattle.gb_cluster.specs.NodeValue.{GroupAt, NodeValue}
 use Rattle.gb_rules.specs.Address.{is_addr}
 use Rattle.gb_record.specs.Project.{items_in, acknowledged, all_acknowledged}
-use Rattle.gb_cluster.specs.NodeStep.{reserve_for, slot_for, on_slot, item_done}
+use Rattle.gb_cluster.specs.NodeStep.{reserve_for, slot_for, gone_slot, on_slot, item_done}
+use Rattle.gb_cluster.proofs.KeptAckLemmas.{length-done}
 use Rattle.gb_cluster.proofs.Invariant.{SlotIs, Stands, under, undone_of}
 use Rattle.gb_cluster.proofs.MarkLemmas.{is_between, is_in, in_above, or_off}
 use Rattle.gb_cluster.proofs.MemberLemmas.{same_slot}
@@ -53,6 +57,14 @@ pub record SameSlot (g : Addr) (h k : Option GroupAt) : Type 0 where
   pub stands : (me : ℕ) (m : Member) → SlotIs me (slot_for g h) m → SlotIs me (slot_for g k) m
   pub waiting : (b : ℕ) → waiting_in (slot_for g k) b ≡ waiting_in (slot_for g h) b
 
+-- an acknowledgement changes nothing of a dropped group
+gone_done : (from : NodeId) (message : MsgId) → slot_done from message gone_slot ≡ gone_slot
+gone_done from message = ap (λ (acks : List (fin.FinSet nat_cmp)). let s : SlotState = gone_slot in record s { acknowledged = acks }) (empty (slot_done from message gone_slot).acknowledged (length-done from message gone_slot))
+  where
+    empty : (xs : List (fin.FinSet nat_cmp)) → length xs ≡ 0 → xs ≡ []
+    empty [] none = refl
+    empty (x ∷ xs) none = absurd (omega arith)
+
 slot_done-same : (g : Addr) (from : NodeId) (addr : Addr) (message : MsgId) (h : Option GroupAt) → SameSlot g h (on_slot addr (slot_done from message) h)
 slot_done-same g from addr message None = record { stands = λ me m st. st; waiting = λ b. refl }
 slot_done-same g from addr message (Some here) = by (is_addr addr here.addr) (is_addr g here.addr)
@@ -62,7 +74,8 @@ slot_done-same g from addr message (Some here) = by (is_addr addr here.addr) (is
     by true mine = record { stands = λ me m. stands me m (is_addr g here.addr); waiting = λ b. waiting b (is_addr g here.addr) }
       where
         stands : (me : ℕ) (m : Member) (mine : Bool) → SlotIs me (if mine then Some here.slot else None) m → SlotIs me (if mine then Some (slot_done from message here.slot) else None) m
-        stands me m true st = record { spec = st.spec; phase = st.phase; here = st.here; history = done_stands here.slot m.told from message st.history }
+        stands me m true (inl st) = inl (record { spec = st.spec; phase = st.phase; present = st.present; here = st.here; history = done_stands here.slot m.told from message st.history })
+        stands me m true (inr st) = inr (record { nothing = ap (slot_done from message) st.nothing ∙ gone_done from message; gone = st.gone; made = st.made })
         stands me m false st = st
 
         waiting : (b : ℕ) (mine : Bool) → waiting_in (if mine then Some (slot_done from message here.slot) else None) b ≡ waiting_in (if mine then Some here.slot else None) b

@@ -12,11 +12,11 @@ use Rattle.gb_types.specs.declared.refusal.Refusal.TheVariants.{Stopped}
 use Rattle.gb_types.specs.declared.reply.Reply.{Reply}
 use Rattle.gb_types.specs.declared.reply.Reply.TheVariants.{Done, Said, Refused}
 use Rattle.gb_types.specs.declared.request.Request.{Request}
-use Rattle.gb_types.specs.declared.request.Request.TheVariants.{AddTenant, Make, OpenGroup, ShutGroup, Say, Fetch}
+use Rattle.gb_types.specs.declared.request.Request.TheVariants.{AddTenant, Make, OpenGroup, ShutGroup, DropGroup, Say, Fetch}
 use Rattle.gb_record.specs.declared.answer.Answer.TheVariants.{Reply as AnswerReply}
 use Rattle.gb_record.specs.declared.event.Event.TheVariants.{At}
 use Rattle.gb_alone.specs.declared.event.GroupEvent.{GroupEvent}
-use Rattle.gb_alone.specs.declared.event.GroupEvent.TheVariants.{Make as AskMake, Open as AskOpen, Shut as AskShut, Say as AskSay}
+use Rattle.gb_alone.specs.declared.event.GroupEvent.TheVariants.{Make as AskMake, Open as AskOpen, Shut as AskShut, Drop as AskDrop, Say as AskSay}
 use Rattle.gb_alone.specs.declared.event.GroupStep.{GroupStep}
 use Rattle.gb_rules.specs.declared.reserve.Reserve.{Reserve}
 use Rattle.gb_record.specs.declared.step.Step.{Step}
@@ -24,7 +24,8 @@ use Rattle.gb_alone.specs.Alone.{Member, Group, did, commanded, member_after, al
 use Rattle.gb_cluster.proofs.Invariant.{Stands, MemberIs, is_concerned}
 use Rattle.gb_cluster.specs.NodeValue.{NodeValue}
 use Rattle.gb_record.specs.Project.{command_for, has_row, is_noticed, is_stopped, is_met, is_met_by, is_named, made_at, made_by, or_else, replies_to, reply_in, requested}
-use Rattle.gb_cluster.specs.NodeStep.{reserve_for, node_did}
+use Rattle.gb_cluster.specs.NodeStep.{reserve_for, slot_for, node_did}
+use Rattle.gb_cluster.proofs.MemberLemmas.{CountsAlike}
 use Rattle.gb_cluster.proofs.NodeLemmas.{same_stands}
 use Rattle.gb_cluster.proofs.StopLemmas.{unmet}
 use Rattle.gb_cluster.proofs.WorldLemmas.{eqb_self, after_there, after_elsewhere}
@@ -35,6 +36,7 @@ command_unnamed g a (AddTenant token row) unnamed = refl
 command_unnamed g a (Make token addr spec) unnamed = rw unnamed refl
 command_unnamed g a (OpenGroup token addr) unnamed = rw unnamed refl
 command_unnamed g a (ShutGroup token addr) unnamed = rw unnamed refl
+command_unnamed g a (DropGroup token addr) unnamed = rw unnamed refl
 command_unnamed g a (Say token addr payload) unnamed = rw unnamed refl
 command_unnamed g a (Fetch token addr from most) unnamed = rw unnamed refl
 
@@ -45,6 +47,7 @@ pub record Before (nodes : ℕ) (g : Addr) (a : NodeId) (v : NodeValue) (group :
   pub below : (b : ℕ) → is_noticed a.number b steps ≡ true → b < NODES
   pub stands : Stands nodes g a.number v (group a.number) carried
   pub member : MemberIs g a.number steps (group a.number)
+  pub counts : CountsAlike a.number (slot_for g v.group) (group a.number)
 
 -- the step that a request with its reply is
 abbrev pub asking : NodeId → Request → Reply → Step
@@ -79,6 +82,7 @@ did_keeps : (a : NodeId) (e : GroupEvent) (r : Reply) (m : Member) → KeepsLink
 did_keeps a (AskMake spec) Done m = record { replies = refl; come = refl; done = refl; noticed = refl; stopped = refl }
 did_keeps a AskOpen Done m = record { replies = refl; come = refl; done = refl; noticed = refl; stopped = refl }
 did_keeps a AskShut Done m = record { replies = refl; come = refl; done = refl; noticed = refl; stopped = refl }
+did_keeps a AskDrop Done m = record { replies = refl; come = refl; done = refl; noticed = refl; stopped = refl }
 did_keeps a (AskSay payload) (Said seq) m = record { replies = refl; come = refl; done = refl; noticed = refl; stopped = refl }
 did_keeps a e r m = record { replies = refl; come = refl; done = refl; noticed = refl; stopped = refl }
 

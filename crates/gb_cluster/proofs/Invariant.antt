@@ -1,6 +1,8 @@
 -- How a cluster stands for each of its groups alone.
-use Rattle.std.specs.Prelude.{ℕ, ◌+◌, ◌-◌, ◌≡◌, ◌≢◌, ◌≤◌, ◌<◌, ◌⊎◌, ◌&&◌, Bool, true, false, List, [], ◌∷◌, ◌++◌, length, Option, Some, None, is_some, slice_get, if◌then◌else◌}
+use Rattle.std.specs.Prelude.{ℕ, ◌+◌, ◌-◌, ◌≡◌, ◌≢◌, ◌≤◌, ◌<◌, ◌⊎◌, ◌&&◌, ◌||◌, nat_eq, get_or, Bool, true, false, List, [], ◌∷◌, ◌++◌, length, Option, Some, None, is_some, slice_get, if◌then◌else◌}
 use Rattle.std.specs.FinSet as set
+use Rattle.std.specs.List.{list_any}
+use Rattle.std.specs.Ordering.{nat_cmp}
 use Rattle.gb_types.specs.declared.address.Addr.{Addr}
 use Rattle.gb_types.specs.declared.entry.Entry.{Entry}
 use Rattle.gb_types.specs.declared.limits.TheConstants.{NODES, LAST_FRAME, SILENCE_MIN}
@@ -8,17 +10,17 @@ use Rattle.gb_types.specs.declared.spec.Spec.{Spec}
 use Rattle.gb_detect.specs.Watch.{start, replay}
 use Rattle.gb_link.specs.Ack.{covers}
 use Rattle.gb_link.specs.SendWindow.{SendWindow}
-use Rattle.gb_rules.specs.Group.{is_other}
+use Rattle.gb_rules.specs.Group.{is_gone, is_other}
 use Rattle.gb_slot.specs.SlotState.{SlotState}
 use Rattle.gb_slot.specs.StandsFor.{StandsFor}
-use Rattle.gb_rules.specs.declared.phase.Phase.TheVariants.{Made}
-use Rattle.gb_alone.specs.Alone.{Member, Group, alone, is_marked, IsLegal}
+use Rattle.gb_rules.specs.declared.phase.Phase.TheVariants.{Made, Gone}
+use Rattle.gb_alone.specs.Alone.{Member, Group, alone, is_marked, is_own, IsLegal}
 use Rattle.gb_cluster.specs.State.{waiting_in}
 use Rattle.gb_cluster.specs.NodeValue.{NodeValue}
 use Rattle.gb_record.proofs.NumberLemmas.{offset, IsNumbered}
-use Rattle.gb_record.specs.Project.{project, has_row, frames, items_of, is_taken, is_acked, is_noticed, is_stopped, is_met, made_at, watched, replies_to, is_served}
+use Rattle.gb_record.specs.Project.{project, has_row, frames, items_in, items_of, is_taken, is_acked, is_noticed, is_stopped, is_met, made_at, watched, replies_to, is_served}
 use Rattle.gb_cluster.proofs.World.{World, node_of}
-use Rattle.gb_cluster.specs.NodeStep.{reserve_for, slot_for, sender_to, receiver_from}
+use Rattle.gb_cluster.specs.NodeStep.{reserve_for, slot_for, gone_slot, sender_to, receiver_from}
 use Rattle.gb_record.specs.declared.packet.Item.{Item}
 use Rattle.gb_record.specs.declared.packet.Packet.{Packet}
 use Rattle.gb_record.specs.declared.step.Step.{Step}
@@ -35,12 +37,33 @@ pub record NotMade (m : Member) : Type 0 where
 pub record SlotStands (me : ℕ) (s : SlotState) (m : Member) : Type 0 where
   pub spec : m.spec ≡ Some s.spec
   pub phase : m.phase ≡ s.phase
+  pub present : is_gone s.phase ≡ false
   pub here : s.me.number ≡ me
   pub history : StandsFor s m.told
 
+-- the group was dropped at the node
+pub record WasDropped (s : SlotState) (m : Member) : Type 0 where
+  pub nothing : s ≡ gone_slot
+  pub gone : m.phase ≡ Gone
+  pub made : is_some m.spec ≡ true
+
 abbrev pub SlotIs : ℕ → Option SlotState → Member → Type 0
 SlotIs me None m = NotMade m
-SlotIs me (Some s) m = SlotStands me s m
+SlotIs me (Some s) m = SlotStands me s m ⊎ WasDropped s m
+
+-- for each own message of a slot the nodes that have it for good
+abbrev pub acks_in : Option SlotState → List (set.FinSet nat_cmp)
+acks_in None = []
+acks_in (Some s) = s.acknowledged
+
+-- of these frames, of which the first has the number n, one whose number passes the test has the message of the node me with the number k
+abbrev pub is_in_acked : Addr → ℕ → ℕ → (ℕ → Bool) → ℕ → List Packet → Bool
+is_in_acked g me k acked n [] = false
+is_in_acked g me k acked n (f ∷ fs) = (acked n && list_any (is_own me k) (items_in g f)) || is_in_acked g me k acked (n + 1) fs
+
+-- of each own message it is kept whether the node b has it for good: those of the frames to it whose numbers pass the test
+abbrev pub KeepsAcks : Addr → ℕ → ℕ → List Packet → (ℕ → Bool) → List (set.FinSet nat_cmp) → Type 0
+KeepsAcks g me b fs acked acks = (k : ℕ) → k < length acks → set.contains (get_or acks k set.empty) b ≡ (nat_eq b me || is_in_acked g me (k + 1) acked 1 fs)
 
 -- the node stands for the group there, of whose items these are carried
 pub record Stands (nodes : ℕ) (g : Addr) (me : ℕ) (v : NodeValue) (m : Member) (carried : ℕ → List Entry) : Type 0 where
@@ -74,6 +97,7 @@ pub record Fits (g : Addr) (w : World) (group : Group) : Type 0 where
   -- the items of the frames that were taken have come, and those of the frames that were acknowledged are done
   pub come : (a b : ℕ) → a < length w.nodes → b < length w.nodes → AreMarked g (frames a b w.packets w.steps) (λ n. is_taken a b n w.packets w.steps) ((group b).come a)
   pub done : (a b : ℕ) → a < length w.nodes → b < length w.nodes → AreMarked g (frames a b w.packets w.steps) (λ n. is_acked a b n w.packets w.steps) ((group a).done b)
+  pub acks : (a b : ℕ) → a < length w.nodes → b < length w.nodes → KeepsAcks g a b (frames a b w.packets w.steps) (λ n. is_acked a b n w.packets w.steps) (acks_in (slot_for g (node_of w a).group))
 
 -- Links, whatever the groups.
 

@@ -47,5 +47,7 @@ pub mod RunCommandLemmas
 pub mod RunIntegrityLemmas
 pub mod ObservedLemmas
 pub mod Invariant
+pub mod FinishedLemmas
+pub mod KeptAckLemmas
 pub mod RunLemmas
 pub mod World

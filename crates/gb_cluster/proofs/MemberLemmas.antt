@@ -9,48 +9,98 @@ use Rattle.std.proofs.lemmas.Bool.{cases_Bool, and_right}
 use Rattle.std.proofs.lemmas.List.{append-nil, append_assoc, take-append-le}
 use Rattle.gb_types.specs.declared.entry.Entry.{Entry}
 use Rattle.gb_types.specs.declared.node.NodeId.{NodeId}
-use Rattle.gb_types.specs.declared.reply.Reply.TheVariants.{Said}
+use Rattle.gb_types.specs.declared.refusal.Refusal.TheVariants.{Spent}
+use Rattle.gb_types.specs.declared.reply.Reply.{Reply}
+use Rattle.gb_types.specs.declared.reply.Reply.TheVariants.{Said, Refused}
 use Rattle.gb_types.specs.declared.spec.Spec.{Spec}
 use Rattle.gb_types.proofs.SameLemmas.{same_number}
 use Rattle.gb_types.specs.Entry.{message_of}
 use Rattle.gb_layer.specs.declared.call.Call.TheVariants.{Came, Notice as Crash}
-use Rattle.gb_history.specs.Messages.{with_new}
+use Rattle.gb_history.specs.Messages.{with_new, bytes_of}
 use Rattle.gb_layer.specs.Machine.{was_noticed}
-use Rattle.gb_history.specs.History.{calls_of, log_of, puts_of, falls_after}
-use Rattle.gb_rules.specs.Group.{is_other}
-use Rattle.gb_slot.specs.Slot.{shown, waiting, own_entry, slot_called, slot_said, slot_came, slot_noticed, falls}
+use Rattle.gb_history.specs.History.{calls_of, said_in, log_of, puts_of, falls_after}
+use Rattle.gb_rules.specs.declared.phase.Phase.{Phase}
+use Rattle.gb_rules.specs.Group.{Shown, is_gone, is_other, on_made}
+use Rattle.gb_slot.specs.Slot.{shown, waiting, own_entry, slot_called, slot_said, slot_came, slot_noticed, falls, unfinished_of}
 use Rattle.gb_slot.specs.SlotState.{SlotState}
 use Rattle.gb_slot.specs.StandsFor.{StandsFor, reaches}
 use Rattle.gb_history.specs.declared.call.GroupCall.{GroupCall}
 use Rattle.gb_history.specs.declared.call.GroupCall.TheVariants.{Own, Other, Crashed}
 use Rattle.gb_slot.proofs.HistoryLemmas.{said_stands, came_stands, noticed_stands, log_is, falls_is, waiting_said, waiting_came, waiting_noticed}
-use Rattle.gb_alone.specs.Alone.{Member, shown_of, called, item_came, put_to, cut, took_notice, node_noticed}
+use Rattle.gb_alone.specs.Alone.{Member, held_spec, is_finished, count_unfinished, shown_of, called, item_came, put_to, cut, took_notice, node_noticed}
 use Rattle.gb_alone.specs.Alone as alone
 use Rattle.gb_cluster.specs.State.{waiting_in}
-use Rattle.gb_cluster.proofs.Invariant.{SlotIs, SlotStands, NotMade}
-use Rattle.gb_cluster.specs.NodeStep.{shown_for}
+use Rattle.gb_cluster.proofs.Invariant.{SlotIs, SlotStands, NotMade, WasDropped}
+use Rattle.gb_cluster.specs.NodeStep.{shown_for, gone_slot}
 
--- the rules read the same of the slot and of the group alone
-pub shown-is : (me : ℕ) (o : Option SlotState) (m : Member) → SlotIs me o m → alone.shown me m ≡ shown_for o
-shown-is me None m st = ap (shown_of me m.phase m.told) st.spec
-shown-is me (Some s) m st =
+-- Where the group is not there.
+
+-- a group that was not made, or was dropped, has no spec any more
+pub unmade_held : (m : Member) → NotMade m → held_spec m.phase m.spec ≡ None
+unmade_held m st = ap (held_spec m.phase) st.spec ∙ by (is_gone m.phase)
+  where
+    by : (b : Bool) → (if b then None else None) ≡ None
+    by true = refl
+    by false = refl
+
+pub dropped_held : (s : SlotState) (m : Member) → WasDropped s m → held_spec m.phase m.spec ≡ None
+dropped_held s m st = ap (λ (p : Phase). held_spec p m.spec) st.gone
+
+pub stands_held : (me : ℕ) (s : SlotState) (m : Member) → SlotStands me s m → held_spec m.phase m.spec ≡ Some s.spec
+stands_held me s m st = ap (λ (p : Phase). held_spec p m.spec) st.phase ∙ (ap (λ (b : Bool). if b then None else m.spec) st.present ∙ st.spec)
+
+-- what is left of a dropped group takes nothing in, notices nobody and has nothing waiting
+pub gone_came : (from : NodeId) (e : Entry) → slot_came from e gone_slot ≡ gone_slot
+gone_came from e = refl
+
+pub gone_noticed : (q : NodeId) → slot_noticed q gone_slot ≡ gone_slot
+gone_noticed q = refl
+
+-- Replies.
+
+-- the slot counts as many unfinished messages as the group alone
+abbrev pub CountsAlike : ℕ → Option SlotState → Member → Type 0
+CountsAlike me o m = (s : SlotState) → o ≡ Some s → SlotStands me s m → count_unfinished (is_finished s.spec me m.told m.put m.done) 1 (said_in m.told) ≡ unfinished_of s.spec s.noticed s.acknowledged
+
+-- the rules answer the same for the slot and for the group alone
+pub answered-is : (answer : Shown → Reply) (me : ℕ) (o : Option SlotState) (m : Member) → SlotIs me o m → CountsAlike me o m → on_made answer (alone.shown me m) ≡ on_made answer (shown_for o)
+answered-is answer me None m st counts = ap (λ (x : Option Spec). on_made answer (shown_of me m.phase m.told m.put m.done x)) st.spec
+answered-is answer me (Some s) m (inl st) counts =
     let log : (shown s).log ≡ log_of s.spec me m.told = log_is s m.told st.history ∙ ap (λ k. log_of s.spec k m.told) st.here in
-    ap (shown_of me m.phase m.told) st.spec
-    ∙ (λ i. Some (record { spec = s.spec; phase = st.phase i; said = sym st.history.said i; log = sym log i }))
+    let same = counts s refl st in
+    ap (λ (x : Option Spec). on_made answer (shown_of me m.phase m.told m.put m.done x)) st.spec
+    ∙ (λ i. on_made answer (Some (record { spec = s.spec; phase = st.phase i; usage = record { said = sym st.history.said i; bytes = bytes_of (sym st.here i) (sym st.history.store i); unfinished = same i }; log = sym log i })))
+answered-is answer me (Some s) m (inr st) counts = by m.spec refl
+  where
+    spent : (x : Spec) → on_made answer (shown_of me m.phase m.told m.put m.done (Some x)) ≡ Refused Spent
+    spent x = ap (λ (p : Phase). on_made answer (shown_of me p m.told m.put m.done (Some x))) st.gone
+
+    by : (o : Option Spec) → m.spec ≡ o → on_made answer (shown_of me m.phase m.told m.put m.done m.spec) ≡ on_made answer (Some (shown s))
+    by None is = absurd (clash (sym (ap (λ (x : Option Spec). is_some x) is) ∙ st.made))
+      where
+        clash : false ≡ true → ⊥
+        clash e = cc
+    by (Some x) is = ap (λ (y : Option Spec). on_made answer (shown_of me m.phase m.told m.put m.done y)) is ∙ (spent x ∙ sym (ap (λ (u : SlotState). on_made answer (Some (shown u))) st.nothing))
 
 pub made-is : (me : ℕ) (o : Option SlotState) (m : Member) → SlotIs me o m → is_some m.spec ≡ is_some o
 made-is me None m st = ap (λ (x : Option Spec). is_some x) st.spec
-made-is me (Some s) m st = ap (λ (x : Option Spec). is_some x) st.spec
+made-is me (Some s) m (inl st) = ap (λ (x : Option Spec). is_some x) st.spec
+made-is me (Some s) m (inr st) = st.made
 
 -- nothing else of the group matters
-pub same_slot : (me : ℕ) (o : Option SlotState) (m n : Member) → n.spec ≡ m.spec → n.phase ≡ m.phase → n.told ≡ m.told → SlotIs me o m → SlotIs me o n
-same_slot me None m n spec phase told st = record { spec = spec ∙ st.spec; phase = phase ∙ st.phase; told = told ∙ st.told }
-same_slot me (Some s) m n spec phase told st = record {
+pub same_stand : (me : ℕ) (s : SlotState) (m n : Member) → n.spec ≡ m.spec → n.phase ≡ m.phase → n.told ≡ m.told → SlotStands me s m → SlotStands me s n
+same_stand me s m n spec phase told st = record {
   spec = spec ∙ st.spec;
   phase = phase ∙ st.phase;
+  present = st.present;
   here = st.here;
   history = subst (StandsFor s) (sym told) st.history;
 }
+
+pub same_slot : (me : ℕ) (o : Option SlotState) (m n : Member) → n.spec ≡ m.spec → n.phase ≡ m.phase → n.told ≡ m.told → SlotIs me o m → SlotIs me o n
+same_slot me None m n spec phase told st = record { spec = spec ∙ st.spec; phase = phase ∙ st.phase; told = told ∙ st.told }
+same_slot me (Some s) m n spec phase told (inl st) = inl (same_stand me s m n spec phase told st)
+same_slot me (Some s) m n spec phase told (inr st) = inr (record { nothing = st.nothing; gone = phase ∙ st.gone; made = ap (λ (x : Option Spec). is_some x) spec ∙ st.made })
 
 -- items reach each other member that was not noticed
 pub reaches-other : (me : ℕ) (s : SlotState) (m : Member) (b : ℕ) → SlotStands me s m → reaches s b ≡ (is_other s.spec me b && not (was_noticed (calls_of m.told) b))
@@ -70,6 +120,7 @@ said_member node seq payload s m is_next st =
     record {
       spec = st.spec;
       phase = st.phase;
+      present = st.present;
       here = st.here;
       history = subst (λ (x : Entry). StandsFor (slot_said payload (Said seq) s) (Own x ∷ m.told)) entry (said_stands s m.told payload st.history);
     }
@@ -105,15 +156,19 @@ put-said node seq payload s m b carried is_next st was =
     own_quiet : was_noticed (calls_of (Own (record { origin = node; seq = seq; payload = payload }) ∷ m.told)) b ≡ was_noticed (calls_of m.told) b
     own_quiet = refl
 
-pub falls-is : (me : ℕ) (from : NodeId) (e : Entry) (s : SlotState) (m : Member) → SlotStands me s m → alone.falls me from.number e m.told m.spec ≡ falls from e s
+pub falls-is : (me : ℕ) (from : NodeId) (e : Entry) (s : SlotState) (m : Member) → SlotStands me s m → alone.falls me from.number e m.told (held_spec m.phase m.spec) ≡ falls from e s
 falls-is me from e s m st =
-    ap (alone.falls me from.number e m.told) st.spec ∙ (ap (λ k. falls_after s.spec k m.told from.number e) (sym st.here) ∙ sym (falls_is s m.told from e st.history))
+    ap (alone.falls me from.number e m.told) (stands_held me s m st) ∙ (ap (λ k. falls_after s.spec k m.told from.number e) (sym st.here) ∙ sym (falls_is s m.told from e st.history))
 
-pub fallen : (me : ℕ) (from : NodeId) (e : Entry) (m : Member) → alone.falls me from.number e m.told m.spec ≡ true → item_came me from e m ≡ m
+pub fallen : (me : ℕ) (from : NodeId) (e : Entry) (m : Member) → alone.falls me from.number e m.told (held_spec m.phase m.spec) ≡ true → item_came me from e m ≡ m
 fallen me from e m h = ap (λ (b : Bool). if b then m else called me (Other from e) m) h
 
-pub handed_in : (me : ℕ) (from : NodeId) (e : Entry) (m : Member) → alone.falls me from.number e m.told m.spec ≡ false → item_came me from e m ≡ called me (Other from e) m
+pub handed_in : (me : ℕ) (from : NodeId) (e : Entry) (m : Member) → alone.falls me from.number e m.told (held_spec m.phase m.spec) ≡ false → item_came me from e m ≡ called me (Other from e) m
 handed_in me from e m h = ap (λ (b : Bool). if b then m else called me (Other from e) m) h
+
+-- every item falls where the group is not there
+absent_falls : (me : ℕ) (from : NodeId) (e : Entry) (m : Member) → held_spec m.phase m.spec ≡ None → item_came me from e m ≡ m
+absent_falls me from e m none = fallen me from e m (ap (alone.falls me from.number e m.told) none)
 
 -- the slot after an item that is not let fall
 abbrev told_slot : NodeId → Entry → SlotState → SlotState
@@ -125,13 +180,16 @@ came_is from e s stays = ap (λ (b : Bool). if b then s else told_slot from e s)
 came_member : (me : ℕ) (from : NodeId) (e : Entry) (s : SlotState) (m : Member) → SlotStands me s m → falls from e s ≡ false → SlotStands me (slot_came from e s) (called me (Other from e) m)
 came_member me from e s m st stays =
     subst (λ (u : SlotState). StandsFor u (Other from e ∷ m.told) → SlotStands me u (called me (Other from e) m)) (sym (came_is from e s stays))
-    (λ history. record { spec = st.spec; phase = st.phase; here = st.here; history = history })
+    (λ history. record { spec = st.spec; phase = st.phase; present = st.present; here = st.here; history = history })
     (came_stands s m.told from e st.history stays)
 
 -- the slot after an item
 pub slot-came : (me : ℕ) (from : NodeId) (e : Entry) (o : Option SlotState) (m : Member) → SlotIs me o m → SlotIs me (option_map (slot_came from e) o) (item_came me from e m)
-slot-came me from e None m st = subst NotMade (sym (fallen me from e m (ap (alone.falls me from.number e m.told) st.spec))) st
-slot-came me from e (Some s) m st = go (cases_Bool (falls from e s))
+slot-came me from e None m st = subst NotMade (sym (absent_falls me from e m (unmade_held m st))) st
+slot-came me from e (Some s) m (inr st) =
+    subst (SlotIs me (Some (slot_came from e s))) (sym (absent_falls me from e m (dropped_held s m st)))
+    (inr (record { nothing = ap (slot_came from e) st.nothing ∙ gone_came from e; gone = st.gone; made = st.made }))
+slot-came me from e (Some s) m (inl st) = inl (go (cases_Bool (falls from e s)))
   where
     go : ((falls from e s ≡ true) ⊎ (falls from e s ≡ false)) → SlotStands me (slot_came from e s) (item_came me from e m)
     go (inl h) =
@@ -142,8 +200,11 @@ slot-came me from e (Some s) m st = go (cases_Bool (falls from e s))
 -- and what is put out then
 pub put-item_came : (me : ℕ) (from : NodeId) (e : Entry) (o : Option SlotState) (m : Member) (b : ℕ) (carried : List Entry) → SlotIs me o m → m.put b ≡ carried ++ waiting_in o b → (item_came me from e m).put b ≡ carried ++ waiting_in (option_map (slot_came from e) o) b
 unfolding calls_of
-put-item_came me from e None m b carried st was = ap (λ (x : Member). x.put b) (fallen me from e m (ap (alone.falls me from.number e m.told) st.spec)) ∙ was
-put-item_came me from e (Some s) m b carried st was = go (cases_Bool (falls from e s))
+put-item_came me from e None m b carried st was = ap (λ (x : Member). x.put b) (absent_falls me from e m (unmade_held m st)) ∙ was
+put-item_came me from e (Some s) m b carried (inr st) was =
+    ap (λ (x : Member). x.put b) (absent_falls me from e m (dropped_held s m st))
+    ∙ (was ∙ ap (λ (u : SlotState). carried ++ waiting u b) (st.nothing ∙ (sym (gone_came from e) ∙ ap (slot_came from e) (sym st.nothing))))
+put-item_came me from e (Some s) m b carried (inl st) was = go (cases_Bool (falls from e s))
   where
     other_quiet : was_noticed (calls_of (Other from e ∷ m.told)) b ≡ was_noticed (calls_of m.told) b
     other_quiet = refl
@@ -168,7 +229,7 @@ pub record KeepsRest (m n : Member) : Type 0 where
   pub stopped : n.stopped ≡ m.stopped
 
 pub item_came-rest : (me : ℕ) (from : NodeId) (e : Entry) (m : Member) → KeepsRest m (item_came me from e m)
-item_came-rest me from e m = go (alone.falls me from.number e m.told m.spec)
+item_came-rest me from e m = go (alone.falls me from.number e m.told (held_spec m.phase m.spec))
   where
     go : (b : Bool) → KeepsRest m (if b then m else called me (Other from e) m)
     go true = record { reserve = refl; spec = refl; phase = refl; replies = refl; taken = refl; come = refl; done = refl; stopped = refl }
@@ -176,20 +237,30 @@ item_came-rest me from e m = go (alone.falls me from.number e m.told m.spec)
 
 -- an item leaves the notices too
 pub item_came-noticed : (me : ℕ) (from : NodeId) (e : Entry) (m : Member) → (item_came me from e m).noticed ≡ m.noticed
-item_came-noticed me from e m = elim (alone.falls me from.number e m.told m.spec) as (λ b. (if b then m else called me (Other from e) m).noticed ≡ m.noticed) [ true ↦ refl | false ↦ refl ]
+item_came-noticed me from e m = elim (alone.falls me from.number e m.told (held_spec m.phase m.spec)) as (λ b. (if b then m else called me (Other from e) m).noticed ≡ m.noticed) [ true ↦ refl | false ↦ refl ]
 
 -- A node is noticed.
 
 noticed_is : (q : NodeId) (s : SlotState) → is_other s.spec s.me.number q.number ≡ false → slot_noticed q s ≡ s
 noticed_is q s foreign = ap (λ (b : Bool). if b then (let next = slot_called (Crash q) s.store s in record next { noticed = set.insert s.noticed q.number }) else s) foreign
 
+-- a notice tells nothing where the group is not there
+absent_noticed : (me : ℕ) (q : NodeId) (m : Member) → held_spec m.phase m.spec ≡ None → took_notice me q (held_spec m.phase m.spec) m ≡ m
+absent_noticed me q m none = ap (λ (x : Option Spec). took_notice me q x m) none
+
 -- the slot after a notice
 pub slot-noticed : (me : ℕ) (q : NodeId) (o : Option SlotState) (m : Member) → SlotIs me o m → SlotIs me (option_map (slot_noticed q) o) (node_noticed me q m)
-slot-noticed me q None m st = same_slot me None m (node_noticed me q m) (ap (λ (x : Option Spec). (took_notice me q x m).spec) st.spec) (ap (λ (x : Option Spec). (took_notice me q x m).phase) st.spec) (ap (λ (x : Option Spec). (took_notice me q x m).told) st.spec) st
-slot-noticed me q (Some s) m st = go (cases_Bool (is_other s.spec me q.number))
+slot-noticed me q None m st =
+    let same = absent_noticed me q m (unmade_held m st) in
+    same_slot me None m (node_noticed me q m) (ap (λ (x : Member). x.spec) same) (ap (λ (x : Member). x.phase) same) (ap (λ (x : Member). x.told) same) st
+slot-noticed me q (Some s) m (inr st) =
+    let same = absent_noticed me q m (dropped_held s m st) in
+    same_slot me (Some (slot_noticed q s)) m (node_noticed me q m) (ap (λ (x : Member). x.spec) same) (ap (λ (x : Member). x.phase) same) (ap (λ (x : Member). x.told) same)
+    (inr (record { nothing = ap (slot_noticed q) st.nothing ∙ gone_noticed q; gone = st.gone; made = st.made }))
+slot-noticed me q (Some s) m (inl st) = inl (go (cases_Bool (is_other s.spec me q.number)))
   where
-    there : (b : Bool) → is_other s.spec me q.number ≡ b → took_notice me q m.spec m ≡ (if b then called me (Crashed q) (cut q m) else m)
-    there b is = ap (λ (x : Option Spec). took_notice me q x m) st.spec ∙ ap (λ (c : Bool). if c then called me (Crashed q) (cut q m) else m) is
+    there : (b : Bool) → is_other s.spec me q.number ≡ b → took_notice me q (held_spec m.phase m.spec) m ≡ (if b then called me (Crashed q) (cut q m) else m)
+    there b is = ap (λ (x : Option Spec). took_notice me q x m) (stands_held me s m st) ∙ ap (λ (c : Bool). if c then called me (Crashed q) (cut q m) else m) is
 
     me_too : is_other s.spec s.me.number q.number ≡ is_other s.spec me q.number
     me_too = ap (λ (k : ℕ). is_other s.spec k q.number) st.here
@@ -209,25 +280,29 @@ slot-noticed me q (Some s) m st = go (cases_Bool (is_other s.spec me q.number))
         record {
           spec = ap (λ (x : Member). x.spec) n ∙ (st.spec ∙ ap (λ (u : SlotState). Some u.spec) (sym is));
           phase = ap (λ (x : Member). x.phase) n ∙ (st.phase ∙ ap (λ (u : SlotState). u.phase) (sym is));
+          present = ap (λ (u : SlotState). is_gone u.phase) is ∙ st.present;
           here = told_slot_me true own;
           history = subst (λ (t : List GroupCall). StandsFor (slot_noticed q s) t) (sym (ap (λ (x : Member). x.told) n)) (noticed_stands s m.told q st.history own);
         }
     go (inr h) =
         let same : slot_noticed q s ≡ s = noticed_is q s (me_too ∙ h) in
         let n = there false h in
-        subst (λ (u : SlotState). SlotStands me u (node_noticed me q m)) (sym same) (same_slot me (Some s) m (node_noticed me q m) (ap (λ (x : Member). x.spec) n) (ap (λ (x : Member). x.phase) n) (ap (λ (x : Member). x.told) n) st)
+        subst (λ (u : SlotState). SlotStands me u (node_noticed me q m)) (sym same) (same_stand me s m (node_noticed me q m) (ap (λ (x : Member). x.spec) n) (ap (λ (x : Member). x.phase) n) (ap (λ (x : Member). x.told) n) st)
 
 -- what is put out then: to the node only what is carried
 pub put-noticed : (me : ℕ) (q : NodeId) (o : Option SlotState) (m : Member) (b : ℕ) (carried : List Entry) → SlotIs me o m → m.put b ≡ carried ++ waiting_in o b → m.taken b ≡ length carried → (node_noticed me q m).put b ≡ carried ++ waiting_in (option_map (slot_noticed q) o) b
 unfolding calls_of
-put-noticed me q None m b carried st was count = ap (λ (x : Option Spec). (took_notice me q x m).put b) st.spec ∙ was
-put-noticed me q (Some s) m b carried st was count = go (cases_Bool (is_other s.spec me q.number))
+put-noticed me q None m b carried st was count = ap (λ (x : Member). x.put b) (absent_noticed me q m (unmade_held m st)) ∙ was
+put-noticed me q (Some s) m b carried (inr st) was count =
+    ap (λ (x : Member). x.put b) (absent_noticed me q m (dropped_held s m st))
+    ∙ (was ∙ ap (λ (u : SlotState). carried ++ waiting u b) (st.nothing ∙ (sym (gone_noticed q) ∙ ap (slot_noticed q) (sym st.nothing))))
+put-noticed me q (Some s) m b carried (inl st) was count = go (cases_Bool (is_other s.spec me q.number))
   where
     me_too : is_other s.spec s.me.number q.number ≡ is_other s.spec me q.number
     me_too = ap (λ (k : ℕ). is_other s.spec k q.number) st.here
 
     puts : (b : Bool) → is_other s.spec me q.number ≡ b → (node_noticed me q m).put ≡ (if b then called me (Crashed q) (cut q m) else m).put
-    puts b is = ap (λ (x : Member). x.put) (ap (λ (x : Option Spec). took_notice me q x m) st.spec ∙ ap (λ (c : Bool). if c then called me (Crashed q) (cut q m) else m) is)
+    puts b is = ap (λ (x : Member). x.put) (ap (λ (x : Option Spec). took_notice me q x m) (stands_held me s m st) ∙ ap (λ (c : Bool). if c then called me (Crashed q) (cut q m) else m) is)
 
     outs : List Entry
     outs = puts_of s.spec me (Crashed q) m.told

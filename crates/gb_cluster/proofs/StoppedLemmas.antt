@@ -9,11 +9,11 @@ use Rattle.gb_types.specs.declared.refusal.Refusal.TheVariants.{Stopped}
 use Rattle.gb_types.specs.declared.reply.Reply.{Reply}
 use Rattle.gb_types.specs.declared.reply.Reply.TheVariants.{Refused}
 use Rattle.gb_types.specs.declared.request.Request.{Request}
-use Rattle.gb_types.specs.declared.request.Request.TheVariants.{AddTenant, Make, OpenGroup, ShutGroup, Say, Fetch}
+use Rattle.gb_types.specs.declared.request.Request.TheVariants.{AddTenant, Make, OpenGroup, ShutGroup, DropGroup, Say, Fetch}
 use Rattle.gb_record.specs.declared.answer.Answer.TheVariants.{Reply as AnswerReply}
 use Rattle.gb_record.specs.declared.event.Event.TheVariants.{At}
 use Rattle.gb_alone.specs.declared.event.GroupEvent.{GroupEvent}
-use Rattle.gb_alone.specs.declared.event.GroupEvent.TheVariants.{Make as AskMake, Open as AskOpen, Shut as AskShut, Say as AskSay, Fetch as AskFetch, Stop}
+use Rattle.gb_alone.specs.declared.event.GroupEvent.TheVariants.{Make as AskMake, Open as AskOpen, Shut as AskShut, Drop as AskDrop, Say as AskSay, Fetch as AskFetch, Stop}
 use Rattle.gb_alone.specs.declared.event.GroupStep.{GroupStep}
 use Rattle.gb_record.specs.declared.step.Step.{Step}
 use Rattle.gb_alone.specs.Alone.{Member, Group, after, alone_from, commanded, did, member_after, reply_to, running_reply, MayHappen, IsLegalFrom}
@@ -42,6 +42,7 @@ unmade g a (AddTenant token row) = refl
 unmade g a (Make token addr spec) = refl
 unmade g a (OpenGroup token addr) = refl
 unmade g a (ShutGroup token addr) = refl
+unmade g a (DropGroup token addr) = refl
 unmade g a (Say token addr payload) = refl
 unmade g a (Fetch token addr from most) = refl
 
@@ -58,6 +59,7 @@ command_named g a (AddTenant token row) named = absurd (cc)
 command_named g a (Make token addr spec) named = record { event = AskMake spec; one = rw named refl; may = λ group. tt; replied = λ nodes number group. refl; nothing = λ m. refl }
 command_named g a (OpenGroup token addr) named = record { event = AskOpen; one = rw named refl; may = λ group. tt; replied = λ nodes number group. refl; nothing = λ m. refl }
 command_named g a (ShutGroup token addr) named = record { event = AskShut; one = rw named refl; may = λ group. tt; replied = λ nodes number group. refl; nothing = λ m. refl }
+command_named g a (DropGroup token addr) named = record { event = AskDrop; one = rw named refl; may = λ group. tt; replied = λ nodes number group. refl; nothing = λ m. refl }
 command_named g a (Say token addr payload) named = record { event = AskSay payload; one = rw named refl; may = λ group. tt; replied = λ nodes number group. refl; nothing = λ m. refl }
 command_named g a (Fetch token addr from most) named = record { event = AskFetch from most; one = rw named refl; may = λ group. tt; replied = λ nodes number group. refl; nothing = λ m. refl }
 

@@ -12,11 +12,14 @@ use Rattle.gb_cluster.specs.State.{log_in}
 use Rattle.gb_cluster.proofs.World.{IsIsolated, AreIsolated, World, node_of, part_of, world_after}
 use Rattle.gb_record.specs.Project.{project}
 use Rattle.gb_cluster.specs.NodeStep.{slot_for, acting}
+use Rattle.gb_alone.specs.Laws.{log_of_member}
+use Rattle.gb_cluster.proofs.MemberLemmas.{unmade_held, dropped_held, stands_held}
 use Rattle.gb_cluster.proofs.Invariant.{SlotIs, Invariant, BehavesAlone}
 
-log_same : (a : ℕ) (o : Option SlotState) (m : Member) → SlotIs a o m → log_in o ≡ log_at a m.spec m.told
-log_same a None m st = sym (ap (λ (x : Option Spec). log_at a x m.told) st.spec)
-log_same a (Some s) m st = log_is s m.told st.history ∙ (ap (λ k. log_of s.spec k m.told) st.here ∙ sym (ap (λ (x : Option Spec). log_at a x m.told) st.spec))
+log_same : (a : ℕ) (o : Option SlotState) (m : Member) → SlotIs a o m → log_in o ≡ log_of_member a m
+log_same a None m st = sym (ap (λ (x : Option Spec). log_at a x m.told) (unmade_held m st))
+log_same a (Some s) m (inl st) = log_is s m.told st.history ∙ (ap (λ k. log_of s.spec k m.told) st.here ∙ sym (ap (λ (x : Option Spec). log_at a x m.told) (stands_held a s m st)))
+log_same a (Some s) m (inr st) = ap (λ (u : SlotState). log_in (Some u)) st.nothing ∙ sym (ap (λ (x : Option Spec). log_at a x m.told) (dropped_held s m st))
 
 isolated : (g : Addr) (w : World) → BehavesAlone g w → IsIsolated g w
 isolated g w alone_too = record {

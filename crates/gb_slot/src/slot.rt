@@ -1,5 +1,5 @@
 //! One group at one node.
-ghost use Rattle.std.specs.Prelude.{◌≡◌, ◌≢◌, OnErr, ◌+◌, ◌≤◌, ◌<◌, ◌&&◌, not, List, [], ◌∷◌, take, drop, map, slice_get, length, vec_len, Ok, Err, IfOk, OnOk, MatchOption, true, IsOkUnless};
+ghost use Rattle.std.specs.Prelude.{◌≡◌, false, ◌≢◌, OnErr, ◌+◌, ◌≤◌, ◌<◌, ◌&&◌, not, List, [], ◌∷◌, take, drop, map, slice_get, length, vec_len, Ok, Err, IfOk, OnOk, MatchOption, true, IsOkUnless};
 ghost use Rattle.std.specs.FinSet as set;
 ghost use Rattle.gb_types.specs.declared.entry.Entry.{Entry as EntryValue};
 ghost use Rattle.std.specs.List.{list_any};
@@ -53,7 +53,7 @@ pub struct Slot {
 }
 
 impl Model for Slot {
-    ghost use Rattle.std.specs.Prelude.{◌≡◌, ◌≤◌, ◌+◌, vec_len, vec_capacity};
+    ghost use Rattle.std.specs.Prelude.{◌≡◌, false, ◌≤◌, ◌+◌, vec_len, vec_capacity};
     ghost use Rattle.gb_types.specs.declared.limits.TheConstants.{MESSAGES, BYTES};
     ghost use Rattle.gb_slot.specs.Slot.{unfinished_of};
     ghost use Rattle.gb_rules.specs.Group.{is_gone};
@@ -71,7 +71,7 @@ impl Model for Slot {
 
     ghost view = { λ s. record { state = record { spec = s.spec; me = s.me; phase = s.phase; noticed = s.noticed; stack = ⟦<Stack as Layer>⟧.meaning s.stack; arrivals = s.arrivals.items; said = s.said; store = s.store.entries; log = messages s.effects.ups.items; outgoing = s.effects.sends.items; taken = s.taken; acknowledged = s.acknowledged.items }; calls = s.calls; bytes = s.store.bytes } };
 
-    ghost invariant = { λ s. (is_gone s.phase ≡ false) × (s.said ≤ s.spec.msgs) × (s.spec.msgs ≤ MESSAGES) × (s.spec.bytes ≤ BYTES) × (vec_len s.acknowledged ≡ s.said) × (s.unfinished ≡ unfinished_of s.spec s.noticed s.acknowledged.items) × (s.calls ≤ s.store.places) × (s.calls + vec_len s.arrivals ≤ vec_capacity s.arrivals) × (1 ≤ s.calls → stack_room s.stack (free_sends s.effects) (free_ups s.effects) s.calls) };
+    ghost invariant = { λ s. ((is_gone s.phase ≡ false) × (s.said ≤ s.spec.msgs)) × (s.spec.msgs ≤ MESSAGES) × (s.spec.bytes ≤ BYTES) × (vec_len s.acknowledged ≡ s.said) × (s.unfinished ≡ unfinished_of s.spec s.noticed s.acknowledged.items) × (s.calls ≤ s.store.places) × (s.calls + vec_len s.arrivals ≤ vec_capacity s.arrivals) × (1 ≤ s.calls → stack_room s.stack (free_sends s.effects) (free_ups s.effects) s.calls) };
 }
 
 impl Slot {

@@ -6,8 +6,8 @@ use Rattle.gb_slot.specs.SlotState.{SlotValue}
 use Rattle.gb_slot.proofs.SlotLemmas.{fetched_ups, fetched_some}
 use Rattle.gb_slot.proofs.slot.Slot.fetch.Goals as goal
 
-pub returns-in-Ok : goal.returns-in-Ok
-returns-in-Ok c =
+pub returns-in-Ok-clause-answer : goal.returns-in-Ok-clause-answer
+returns-in-Ok-clause-answer c =
     let ups = c.self.inside.effects.ups in
     let within : c.args.from ≤ length ups.items = omega (arith, c.is_bad_place.ensures.place c.if-is_bad_place.false, c.len.ensures, ups.ok.0) in
     let found = c.page-found.ensures ∙ ap (λ us. take c.args.max (drop c.args.from us)) c.deref.ensures.value in
@@ -15,8 +15,8 @@ returns-in-Ok c =
     let store = ap (λ (v : SlotValue). v.state.store) c.self.view_is in
     inr (fetched_ups c.args.self.now.state ups.items c.args.from c.args.max c.in-Ok.entries.items log within (c.is_bad_place.ensures.few c.if-is_bad_place.false) (c.in-Ok.ensures.ok ∙ (ap (λ us. map (entry_in c.self.inside.store.entries) (messages us)) found ∙ ap (λ es. map (entry_in es) (messages (take c.args.max (drop c.args.from ups.items)))) store)))
 
-pub returns-in-Err : goal.returns-in-Err
-returns-in-Err c =
+pub returns-in-Err-clause-answer : goal.returns-in-Err-clause-answer
+returns-in-Err-clause-answer c =
     let ups = c.self.inside.effects.ups in
     let within : c.args.from ≤ length ups.items = omega (arith, c.is_bad_place.ensures.place c.if-is_bad_place.false, c.len.ensures, ups.ok.0) in
     let found = c.page-found.ensures ∙ ap (λ us. take c.args.max (drop c.args.from us)) c.deref.ensures.value in
