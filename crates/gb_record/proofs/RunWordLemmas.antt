@@ -19,25 +19,25 @@ use Rattle.gb_record.specs.declared.step.Step.{Step}
 use Rattle.gb_record.proofs.GivenLemmas.{given_due, given_keep}
 use Rattle.gb_record.proofs.NumberLemmas.{offset}
 
--- the group's notices are marked as it is told of them, and where no drop was answered it is not dropped
-pub record Words (g : Addr) (nodes : ℕ) (packets : List Packet) (steps : List Step) : Type 0 where
-  pub marked : AllMarked (alone nodes g.group (project g packets steps))
-  pub kept : (a : ℕ) → a < nodes → is_dropped g a steps ≡ false → is_gone (alone nodes g.group (project g packets steps) a).phase ≡ false
+-- the group after these events has its notices marked as it is told of them, and where no drop was answered in the run it is not dropped
+pub record Words (g : Addr) (nodes : ℕ) (events : List GroupStep) (steps : List Step) : Type 0 where
+  pub marked : AllMarked (alone nodes g.group events)
+  pub kept : (a : ℕ) → a < nodes → is_dropped g a steps ≡ false → is_gone (alone nodes g.group events a).phase ≡ false
 
--- the group alone is made as the run has it, with its replies
-pub record Tells (g : Addr) (nodes : ℕ) (packets : List Packet) (steps : List Step) : Type 0 where
-  pub made : (a : ℕ) → a < nodes → (alone nodes g.group (project g packets steps) a).spec ≡ made_at g a steps
-  pub replies : (a : ℕ) → a < nodes → (alone nodes g.group (project g packets steps) a).replies ≡ replies_to g a steps
+-- it is made as the run has it, with its replies
+pub record Tells (g : Addr) (nodes : ℕ) (events : List GroupStep) (steps : List Step) : Type 0 where
+  pub made : (a : ℕ) → a < nodes → (alone nodes g.group events a).spec ≡ made_at g a steps
+  pub replies : (a : ℕ) → a < nodes → (alone nodes g.group events a).replies ≡ replies_to g a steps
 
 neither : (a b : Bool) → (a || b) ≡ false → (a ≡ false) × (b ≡ false)
 neither true b h = absurd (cc)
 neither false b h = (refl, h)
 
-pub words_begin : (g : Addr) (nodes : ℕ) (packets : List Packet) → Words g nodes packets []
+pub words_begin : (g : Addr) (nodes : ℕ) (packets : List Packet) → Words g nodes (project g packets []) []
 unfolding project
 words_begin g nodes packets = record { marked = nobody_marked; kept = λ a inside kept. refl }
 
-pub words_step : (g : Addr) (nodes : ℕ) (packets : List Packet) (s : Step) (steps : List Step) → IsPlaced nodes s.event → Tells g nodes packets steps → Tells g nodes packets (s ∷ steps) → Words g nodes packets steps → Words g nodes packets (s ∷ steps)
+pub words_step : (g : Addr) (nodes : ℕ) (packets : List Packet) (s : Step) (steps : List Step) → IsPlaced nodes s.event → Tells g nodes (project g packets steps) steps → Tells g nodes (project g packets (s ∷ steps)) (s ∷ steps) → Words g nodes (project g packets steps) steps → Words g nodes (project g packets (s ∷ steps)) (s ∷ steps)
 unfolding project is_dropped replies_to
 words_step g nodes packets s steps placed before now words = record {
   marked = subst AllMarked (sym split) (run_marked nodes g.group given group (given_due g nodes packets steps group s.event s.answer placed before.made (λ a inside. ap (λ (h : Group). (h a).spec) (sym split) ∙ now.made a inside)) words.marked);
