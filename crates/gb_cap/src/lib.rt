@@ -5,6 +5,4 @@
 
 pub mod compare;
 pub mod hmac;
-#[cfg(test)]
-mod tests;
 pub mod token;

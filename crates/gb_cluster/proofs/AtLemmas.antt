@@ -1,5 +1,18 @@
 -- A request at a node of the cluster.
-use Rattle.std.proofs.Common.{◌≡◌, ◌≢◌, ℕ, ◌<◌, List, [], ◌∷◌, ◌++◌, length, Option, Some, None, Bool, true, false, ◌&&◌, ◌||◌, ◌⊎◌, inl, inr, refl, sym, ◌∙◌, ap, subst, arith, get_or}
+use Rattle.gb_alone.specs.declared.event.GroupStep.{GroupStep}
+use Rattle.std.specs.List.{list_any}
+use Rattle.gb_cluster.specs.State.{waiting_in}
+use Rattle.gb_slot.specs.SlotState.{SlotState}
+use Rattle.gb_rules.specs.Group.{is_member, is_gone}
+use Rattle.gb_alone.specs.Laws.{accepted}
+use Rattle.gb_alone.proofs.AcceptedLemmas.{alone_said, length-own_said}
+use Rattle.gb_alone.proofs.IntegrityLemmas.{is_integral}
+use Rattle.gb_alone.proofs.InsideLemmas.{run_inside}
+use Rattle.gb_cluster.proofs.RequestLemmas.{present_stands}
+use Rattle.gb_cluster.proofs.MemberLemmas.{CountsAlike}
+use Rattle.gb_cluster.proofs.FinishedLemmas.{acked_alike, acks_same, counts_alike, marked_acknowledged, none_beyond_accepted, none_in_acked, none_of_front}
+use Rattle.gb_cluster.proofs.AskedAckLemmas.{AcksChange, did_acks, said_more}
+use Rattle.std.proofs.Common.{◌≡◌, ◌≢◌, ℕ, ◌<◌, List, [], ◌∷◌, ◌++◌, length, Option, Some, None, Bool, true, false, ◌&&◌, ◌||◌, ◌⊎◌, inl, inr, refl, sym, ◌∙◌, ap, subst, arith, get_or, ◌+◌}
 use Rattle.std.specs.Prelude.{if◌then◌else◌, is_some, nat_eq}
 use Rattle.std.specs.FinSet as set
 use Rattle.std.proofs.lemmas.Bool.{cases_Bool}
@@ -11,19 +24,19 @@ use Rattle.gb_types.specs.declared.refusal.Refusal.TheVariants.{Stopped}
 use Rattle.gb_types.specs.declared.reply.Reply.{Reply}
 use Rattle.gb_types.specs.declared.reply.Reply.TheVariants.{Done, Said, Refused}
 use Rattle.gb_types.specs.declared.request.Request.{Request}
-use Rattle.gb_types.specs.declared.request.Request.TheVariants.{AddTenant, Make, OpenGroup, ShutGroup, Say}
+use Rattle.gb_types.specs.declared.request.Request.TheVariants.{AddTenant, Make, OpenGroup, ShutGroup, DropGroup, Say}
 use Rattle.gb_types.specs.declared.spec.TenantRow.{TenantRow}
 use Rattle.gb_link.specs.SendWindow.{new_window}
 use Rattle.gb_record.specs.declared.answer.Answer.TheVariants.{Reply as AnswerReply}
 use Rattle.gb_record.specs.declared.event.Event.TheVariants.{At}
 use Rattle.gb_record.specs.declared.step.Step.{Step}
-use Rattle.gb_alone.specs.Alone.{Member, Group, alone, alone_from}
-use Rattle.gb_cluster.proofs.Invariant.{Stands, MemberIs, AreMarked, NodeIs, Links, BehavesAlone, Invariant, window_of}
+use Rattle.gb_alone.specs.Alone.{Member, Group, alone, alone_from, nobody, is_own, is_acknowledged}
+use Rattle.gb_cluster.proofs.Invariant.{Stands, MemberIs, AreMarked, NodeIs, Links, BehavesAlone, Invariant, window_of, SlotIs, SlotStands, KeepsAcks, acks_in, is_in_acked}
 use Rattle.gb_cluster.specs.NodeValue.{NodeValue}
 use Rattle.gb_record.specs.Project.{project, has_row, is_taken_in, frames, items_of, is_taken, is_acked, is_noticed, is_met_by, is_stopped, made_by, watched, asked, requested, is_turned_away}
 use Rattle.gb_rules.specs.Tenant.{reserve_of}
 use Rattle.gb_cluster.proofs.World.{World, node_of, world_after}
-use Rattle.gb_cluster.specs.NodeStep.{reserve_for, row_answer, running_reply, node_reply, node_did}
+use Rattle.gb_cluster.specs.NodeStep.{reserve_for, row_answer, running_reply, node_reply, node_did, slot_for}
 use Rattle.gb_cluster.proofs.AskLemmas.{Before, After, asking}
 use Rattle.gb_cluster.proofs.NodeLemmas.{same_carried}
 use Rattle.gb_cluster.proofs.NoticeLemmas.{noticed_below}
@@ -68,6 +81,7 @@ node_keeps a (AddTenant token row) Done v = record { senders = refl; receivers =
 node_keeps a (Make token addr spec) Done v = record { senders = refl; receivers = refl; watch = refl; stopped = refl }
 node_keeps a (OpenGroup token addr) Done v = record { senders = refl; receivers = refl; watch = refl; stopped = refl }
 node_keeps a (ShutGroup token addr) Done v = record { senders = refl; receivers = refl; watch = refl; stopped = refl }
+node_keeps a (DropGroup token addr) Done v = record { senders = refl; receivers = refl; watch = refl; stopped = refl }
 node_keeps a (Say token addr payload) (Said seq) v = record { senders = refl; receivers = refl; watch = refl; stopped = refl }
 node_keeps a request reply v = record { senders = refl; receivers = refl; watch = refl; stopped = refl }
 
@@ -89,6 +103,7 @@ row_by a v (AddTenant token row) Done tenant free = here v.row (free token row r
 row_by a v (Make token addr spec) Done tenant free = refl
 row_by a v (OpenGroup token addr) Done tenant free = refl
 row_by a v (ShutGroup token addr) Done tenant free = refl
+row_by a v (DropGroup token addr) Done tenant free = refl
 row_by a v (Say token addr payload) (Said seq) tenant free = refl
 row_by a v request reply tenant free = refl
 
@@ -149,6 +164,65 @@ module _ (w : World) (a : NodeId) (request : Request) where
       (λ x y in_x in_y. untouched_link w step [] x y links.numbered refl (λ n. refl) (λ n. refl) (links.link x y in_x in_y))
       (λ k p at. absurd (cc))
 
+  -- the slot counts the unfinished messages that the group alone has
+  counts_at : (g : Addr) → a.number < length w.nodes → Links w → BehavesAlone g w → CountsAlike a.number (slot_for g before_node.group) (alone (length w.nodes) g.group (project g w.packets w.steps) a.number)
+  counts_at g within links alike s there st = counts_alike (length w.nodes) a.number s m links.few st inside (λ b k in_b low. kept b in_b k low ∙ ap (λ t. nat_eq b a.number || t) (sym (marks b k in_b)))
+    where
+      m : Member
+      m = alone (length w.nodes) g.group (project g w.packets w.steps) a.number
+
+      inside : (b : ℕ) → is_member s.spec b ≡ true → b < length w.nodes
+      inside = (run_inside (length w.nodes) g.group (project g w.packets w.steps) nobody (λ x spec e. cc) a.number s.spec st.spec).1
+
+      kept : (b : ℕ) → b < length w.nodes → KeepsAcks g a.number b (frames a.number b w.packets w.steps) (λ n. is_acked a.number b n w.packets w.steps) s.acknowledged
+      kept b in_b = subst (λ o. KeepsAcks g a.number b (frames a.number b w.packets w.steps) (λ n. is_acked a.number b n w.packets w.steps) (acks_in o)) there (alike.fits.acks a.number b within in_b)
+
+      marks : (b k : ℕ) → b < length w.nodes → is_acknowledged a.number (k + 1) (m.done b) 1 (m.put b) ≡ is_in_acked g a.number (k + 1) (λ n. is_acked a.number b n w.packets w.steps) 1 (frames a.number b w.packets w.steps)
+      marks b k in_b = marked_acknowledged g a.number (k + 1) (λ n. is_acked a.number b n w.packets w.steps) (m.done b) (m.put b) (waiting_in (slot_for g before_node.group) b) (frames a.number b w.packets w.steps) (alike.fits.done a.number b within in_b) ((alike.fits.stands a.number within).put b in_b)
+
+  -- the message that is said next is in no frame
+  fresh_at : (g : Addr) → a.number < length w.nodes → BehavesAlone g w → (s : SlotState) → slot_for g before_node.group ≡ Some s → is_gone s.phase ≡ false → (b : ℕ) → b < length w.nodes
+      → is_in_acked g a.number (length s.acknowledged + 1) (λ n. is_acked a.number b n w.packets w.steps) 1 (frames a.number b w.packets w.steps) ≡ false
+  fresh_at g within alike s there present b in_b =
+      none_in_acked g a.number (length s.acknowledged + 1) (λ n. is_acked a.number b n w.packets w.steps) 1 (frames a.number b w.packets w.steps)
+      (none_of_front (is_own a.number (length s.acknowledged + 1)) (items_of g (frames a.number b w.packets w.steps)) (waiting_in (slot_for g before_node.group) b)
+      (sym (ap (list_any (is_own a.number (length s.acknowledged + 1))) ((alike.fits.stands a.number within).put b in_b)) ∙ none_beyond_accepted (accepted (length w.nodes) g.group steps) a.number (length s.acknowledged + 1) (m.put b) low ((is_integral (length w.nodes) g.group steps alike.legal).items a.number b)))
+    where
+      steps : List GroupStep
+      steps = project g w.packets w.steps
+
+      m : Member
+      m = alone (length w.nodes) g.group steps a.number
+
+      st : SlotStands a.number s m
+      st = present_stands a.number s m present (subst (λ o. SlotIs a.number o m) there (alike.fits.stands a.number within).slot)
+
+      low : length (accepted (length w.nodes) g.group steps a.number) < length s.acknowledged + 1
+      low = omega (arith, st.history.acknowledged, st.history.said, ap length (alone_said (length w.nodes) g.group a.number steps), length-own_said m.told)
+
+  acks_at : (g : Addr) → a.number < length w.nodes → Links w → BehavesAlone g w → (b : ℕ) → b < length w.nodes → KeepsAcks g a.number b (frames a.number b w.packets w.steps) (λ n. is_acked a.number b n (w.packets ++ []) (step ∷ w.steps)) (acks_in (slot_for g node.group))
+  acks_at g within links alike b in_b = go (did_acks (length w.nodes) g a request reply before_node refl)
+    where
+      after : ℕ → Bool
+      after n = is_acked a.number b n (w.packets ++ []) (step ∷ w.steps)
+
+      old : KeepsAcks g a.number b (frames a.number b w.packets w.steps) after (acks_in (slot_for g before_node.group))
+      old = acks_same g a.number b (frames a.number b w.packets w.steps) (λ n. is_acked a.number b n w.packets w.steps) after (acks_in (slot_for g before_node.group)) (λ n some. sym (acked_now b n)) (alike.fits.acks a.number b within in_b)
+        where
+          acked_now : (b n : ℕ) → is_acked a.number b n (w.packets ++ []) (step ∷ w.steps) ≡ is_acked a.number b n w.packets w.steps
+          acked_now b n = acked_turned w step [] links.numbered a.number b n
+
+      go : AcksChange (slot_for g before_node.group) (acks_in (slot_for g node.group)) → KeepsAcks g a.number b (frames a.number b w.packets w.steps) after (acks_in (slot_for g node.group))
+      go (inl same) = subst (KeepsAcks g a.number b (frames a.number b w.packets w.steps) after) (sym same) old
+      go (inr (inl none)) = subst (KeepsAcks g a.number b (frames a.number b w.packets w.steps) after) (sym none) (λ k low. absurd (omega (arith, low)))
+      go (inr (inr says)) =
+          let s : SlotState = says.slot in
+          let here : s.me.number ≡ a.number = (present_stands a.number s (alone (length w.nodes) g.group (project g w.packets w.steps) a.number) says.present (subst (λ o. SlotIs a.number o (alone (length w.nodes) g.group (project g w.packets w.steps) a.number)) says.there (alike.fits.stands a.number within).slot)).here in
+          subst (KeepsAcks g a.number b (frames a.number b w.packets w.steps) after) (sym (says.more ∙ ap (λ (k : ℕ). s.acknowledged ++ set.insert set.empty k ∷ []) here))
+          (said_more g a.number b (frames a.number b w.packets w.steps) after s.acknowledged
+          (acked_alike g a.number (length s.acknowledged + 1) after (λ n. is_acked a.number b n w.packets w.steps) 1 (frames a.number b w.packets w.steps) (λ n some. acked_turned w step [] links.numbered a.number b n) ∙ fresh_at g within alike s says.there says.present b in_b)
+          (subst (λ o. KeepsAcks g a.number b (frames a.number b w.packets w.steps) after (acks_in o)) says.there old))
+
   before_request : (g : Addr) → a.number < length w.nodes → Links w → BehavesAlone g w
       → Before (length w.nodes) g a before_node (alone (length w.nodes) g.group (project g w.packets w.steps)) (λ b. items_of g (frames a.number b w.packets w.steps)) w.steps
   before_request g within links alike =
@@ -159,6 +233,7 @@ module _ (w : World) (a : NodeId) (request : Request) where
         below = noticed_below (length w.nodes) w.silence w.packets w.steps a.number before_node links.few links.silence was;
         stands = alike.fits.stands a.number within;
         member = alike.fits.member a.number within;
+        counts = counts_at g within links alike;
       }
 
   group_at : (g : Addr) → a.number < length w.nodes → Links w → is_turned_away g (At a request) (AnswerReply reply) ≡ false → BehavesAlone g w
@@ -178,6 +253,7 @@ module _ (w : World) (a : NodeId) (request : Request) where
     done = λ b in_b. subst (λ (f : ℕ → List ℕ). AreMarked g (frames a.number b w.packets w.steps) (λ n. is_acked a.number b n (w.packets ++ []) (step ∷ w.steps)) (f b)) (sym (ap (λ (m : Member). m.done) happens.there ∙ happens.done))
         (same_marks g (frames a.number b w.packets w.steps) (λ n. is_acked a.number b n w.packets w.steps) (λ n. is_acked a.number b n (w.packets ++ []) (step ∷ w.steps)) ((group a.number).done b)
         (λ n. sym (acked_turned w step [] links.numbered a.number b n)) (alike.fits.done a.number b within in_b));
+    acks = acks_at g within links alike;
   }
     where
       group : Group

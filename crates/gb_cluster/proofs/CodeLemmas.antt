@@ -6,7 +6,7 @@ use Rattle.std.proofs.Math.ListN.{length-set}
 use Rattle.std.proofs.lemmas.List.{reverse-append, length_push}
 use Rattle.std.proofs.lemmas.List.FromFn.{length-map-range_with_len}
 use Rattle.gb_types.specs.declared.limits.TheConstants.{NODES, SILENCE_MIN}
-use Rattle.gb_types.specs.declared.request.Request.TheVariants.{AddTenant, Make, OpenGroup, ShutGroup, Say, Fetch}
+use Rattle.gb_types.specs.declared.request.Request.TheVariants.{AddTenant, Make, OpenGroup, ShutGroup, DropGroup, Say, Fetch}
 use Rattle.gb_cluster.specs.LinkLaws.{IsLinkStep, MayStarve, stopped_answer, found_by}
 use Rattle.gb_cluster.specs.Memory.{TakesMemory, starved_answer}
 use Rattle.gb_cluster.specs.NodeStep.{new_node, found_part, goal_of, acting}
@@ -59,6 +59,7 @@ stopped_takes_none v (At a (AddTenant token row)) found takes = takes
 stopped_takes_none v (At a (Make token addr spec)) found takes = cc
 stopped_takes_none v (At a (OpenGroup token addr)) found takes = takes
 stopped_takes_none v (At a (ShutGroup token addr)) found takes = takes
+stopped_takes_none v (At a (DropGroup token addr)) found takes = takes
 stopped_takes_none v (At a (Say token addr payload)) found takes = cc
 stopped_takes_none v (At a (Fetch token addr from most)) found takes = cc
 stopped_takes_none v (Pack a b) found takes = takes

@@ -1,10 +1,10 @@
 -- Which own messages of a group are finished: what a slot keeps of acknowledgements is what the group alone reads from its places.
-use Rattle.std.proofs.Common.{◌≡◌, ℕ, zero, suc, ◌+◌, ◌<◌, ◌≤◌, List, [], ◌∷◌, ◌++◌, length, get_or, Bool, true, false, not, ◌&&◌, ◌||◌, ◌⊎◌, inl, inr, Option, Some, None, nat_eq, refl, sym, ◌∙◌, ap, subst, arith, length-append, take}
+use Rattle.std.proofs.Common.{◌≡◌, ℕ, zero, suc, ◌+◌, ◌<◌, ◌≤◌, List, [], ◌∷◌, ◌++◌, length, get_or, Bool, true, false, not, ◌&&◌, ◌||◌, Some, nat_eq, refl, sym, ◌∙◌, ap, arith, length-append, take, add-one, ◌-◌}
 use Rattle.std.specs.Prelude.{All, if◌then◌else◌, slice_get}
-use Rattle.std.specs.List.{list_all, list_any}
+use Rattle.std.specs.List.{list_any}
 use Rattle.std.specs.Ordering.{nat_cmp}
 use Rattle.std.specs.FinSet as set
-use Rattle.std.proofs.lemmas.Bool.{cases_Bool, or_right}
+use Rattle.std.proofs.lemmas.Bool.{or_right}
 use Rattle.std.proofs.lemmas.List.{append-nil, append_assoc}
 use Rattle.std.proofs.lemmas.Bool.Decides.{nat_tests}
 use Rattle.std.proofs.lemmas.List.Elements.{All-head, All-tail}
@@ -12,7 +12,7 @@ use Rattle.gb_types.specs.declared.address.Addr.{Addr}
 use Rattle.gb_types.specs.declared.entry.Entry.{Entry}
 use Rattle.gb_types.specs.declared.limits.TheConstants.{NODES}
 use Rattle.gb_types.specs.declared.spec.Spec.{Spec}
-use Rattle.gb_types.specs.Rising.{rising, AreNodes}
+use Rattle.gb_types.specs.Rising.{AreNodes}
 use Rattle.gb_types.proofs.AllMemberLemmas.{all_rising}
 use Rattle.gb_history.specs.History.{calls_of, said_in}
 use Rattle.gb_layer.specs.Machine.{was_noticed}
@@ -77,7 +77,10 @@ frames_acknowledged g me k acked done rest n before [] each beyond = none_acknow
 frames_acknowledged g me k acked done rest n before (f ∷ fs) each beyond =
     ap (is_acknowledged me k done (before + 1)) (append_assoc (items_in g f) (items_of g fs) rest)
     ∙ (acknowledged-append me k done (before + 1) (items_in g f) (items_of g fs ++ rest)
-    ∙ (λ i. first i || later i))
+    ∙ (λ i. first i || (ap (λ p. is_acknowledged me k done p (items_of g fs ++ rest)) (plus before count)
+    ∙ frames_acknowledged g me k acked done rest (n + 1) (before + count) fs
+    (λ m place low high. each (suc m) place (omega (arith, low, length-append (items_in g f) (items_of g (take m fs)))) (omega (arith, high, next m)) ∙ ap acked (omega arith))
+    (λ place above. beyond place (omega (arith, above, length-append (items_in g f) (items_of g fs))))) i))
   where
     count : ℕ
     count = length (items_in g f)
@@ -85,18 +88,11 @@ frames_acknowledged g me k acked done rest n before (f ∷ fs) each beyond =
     first : is_acknowledged me k done (before + 1) (items_in g f) ≡ (acked n && list_any (is_own me k) (items_in g f))
     first = same_acknowledged me k done (acked n) (before + 1) (items_in g f) (λ p low high. each 0 p (omega (arith, low)) (omega (arith, high, ap length (append-nil (items_in g f)))) ∙ ap acked (omega arith))
 
-    later : is_acknowledged me k done (before + 1 + count) (items_of g fs ++ rest) ≡ is_in_acked g me k acked (n + 1) fs
-    later =
-        ap (λ p. is_acknowledged me k done p (items_of g fs ++ rest)) (plus before count)
-        ∙ frames_acknowledged g me k acked done rest (n + 1) (before + count) fs
-        (λ m place low high. each (suc m) place (omega (arith, low, length-append (items_in g f) (items_of g (take m fs)))) (omega (arith, high, next m)) ∙ ap acked (omega arith))
-        (λ place above. beyond place (omega (arith, above, length-append (items_in g f) (items_of g fs))))
-      where
-        plus : (a b : ℕ) → a + 1 + b ≡ a + b + 1
-        plus a b = omega arith
+    plus : (a b : ℕ) → a + 1 + b ≡ a + b + 1
+    plus a b = omega arith
 
-        next : (i : ℕ) → offset g (f ∷ fs) (suc i + 1) ≡ length (items_in g f) + offset g fs (i + 1)
-        next i = rw add-one (rw add-one (length-append (items_in g f) (items_of g (take (suc i) fs))))
+    next : (i : ℕ) → offset g (f ∷ fs) (suc i + 1) ≡ length (items_in g f) + offset g fs (i + 1)
+    next i = rw add-one (rw add-one (length-append (items_in g f) (items_of g (take (suc i) fs))))
 
 pub marked_acknowledged : (g : Addr) (me k : ℕ) (acked : ℕ → Bool) (done : List ℕ) (put rest : List Entry) (fs : List Packet) → AreMarked g fs acked done → put ≡ items_of g fs ++ rest → is_acknowledged me k done 1 put ≡ is_in_acked g me k acked 1 fs
 marked_acknowledged g me k acked done put rest fs marks is =
@@ -166,6 +162,14 @@ none_beyond_accepted accepted me k (x ∷ xs) low all =
         let low2 = within (accepted x.origin.number) (x.seq - 1) (record { seq = x.seq; payload = x.payload }) here.1 in
         let same : length (accepted x.origin.number) ≡ length (accepted me) = ap (λ (a : ℕ). length (accepted a)) origin in
         absurd (omega (arith, low, low2, same, number, here.0))
+
+pub none_of_front : (p : Entry → Bool) (xs ys : List Entry) → list_any p (xs ++ ys) ≡ false → list_any p xs ≡ false
+none_of_front p [] ys none = refl
+none_of_front p (x ∷ xs) ys none = by (p x) none (none_of_front p xs ys)
+  where
+    by : (b : Bool) → (b || list_any p (xs ++ ys)) ≡ false → (list_any p (xs ++ ys) ≡ false → list_any p xs ≡ false) → (b || list_any p xs) ≡ false
+    by true none rest = absurd (cc)
+    by false none rest = rest none
 
 -- so none of them is acknowledged
 pub none_in_acked : (g : Addr) (me k : ℕ) (acked : ℕ → Bool) (n : ℕ) (fs : List Packet) → list_any (is_own me k) (items_of g fs) ≡ false → is_in_acked g me k acked n fs ≡ false

@@ -1,5 +1,5 @@
 -- The notices of a group that was just made.
-use Rattle.std.proofs.Common.{◌≡◌, ℕ, zero, suc, ◌+◌, ◌<◌, ◌≤◌, List, [], ◌∷◌, ◌++◌, length, take, drop, Option, Some, Bool, true, false, not, ◌||◌, ◌&&◌, refl, sym, ◌∙◌, ap, subst, arith}
+use Rattle.std.proofs.Common.{◌≡◌, ℕ, zero, suc, ◌+◌, ◌<◌, ◌≤◌, List, [], ◌∷◌, ◌++◌, length, take, drop, Option, Some, Bool, true, false, not, ◌||◌, ◌&&◌, refl, sym, ◌∙◌, ap, subst, arith, None}
 use Rattle.std.specs.Prelude.{nat_eq, map, filter, if◌then◌else◌}
 use Rattle.std.specs.List.{AllByRecursion, list_any, range_with_len}
 use Rattle.std.proofs.Math.Seq.{take-length}
@@ -20,12 +20,12 @@ use Rattle.gb_layer.specs.declared.call.Call.TheVariants.{Notice as Crash}
 use Rattle.gb_stack.specs.Kinds.{module_of}
 use Rattle.gb_history.specs.History.{calls_of, known, puts_of}
 use Rattle.gb_history.specs.Messages.{entry_in}
-use Rattle.gb_rules.specs.Group.{is_other}
+use Rattle.gb_rules.specs.Group.{is_other, is_gone}
 use Rattle.gb_slot.specs.Slot.{new_slot, waiting, taken_for}
 use Rattle.gb_slot.specs.StandsFor.{StandsFor, reaches}
 use Rattle.gb_history.specs.declared.call.GroupCall.TheVariants.{Crashed}
 use Rattle.gb_slot.proofs.HistoryLemmas.{fresh_stands}
-use Rattle.gb_alone.specs.Alone.{Member, called, cut, took_notice, node_noticed, put_to, is_marked}
+use Rattle.gb_alone.specs.Alone.{Member, called, cut, took_notice, node_noticed, put_to, is_marked, held_spec}
 use Rattle.gb_record.specs.Nodes.{node_numbered}
 use Rattle.gb_cluster.proofs.Invariant.{SlotStands}
 use Rattle.gb_cluster.proofs.NoticeLemmas.{or_turned, AreRising, numbered_is, all_noticed, notices_keep, passing_rising, passing_marked}
@@ -78,26 +78,26 @@ none_put spec me q qs =
     none_first (q ∷ qs) = none_first qs
 
 -- another member is noticed in a made group
-noticed_is : (me b : ℕ) (spec : Spec) (m : Member) → m.spec ≡ Some spec → b < NODES → is_other spec me b ≡ true → took_notice me (node_numbered b) m.spec m ≡ called me (Crashed (node_numbered b)) (cut (node_numbered b) m)
-noticed_is me b spec m made below other =
+noticed_is : (me b : ℕ) (spec : Spec) (m : Member) → m.spec ≡ Some spec → is_gone m.phase ≡ false → b < NODES → is_other spec me b ≡ true → took_notice me (node_numbered b) (held_spec m.phase m.spec) m ≡ called me (Crashed (node_numbered b)) (cut (node_numbered b) m)
+noticed_is me b spec m made present below other =
     let there : is_other spec me (node_numbered b).number ≡ true = ap (is_other spec me) (numbered_is b below) ∙ other in
-    ap (λ (o : Option Spec). took_notice me (node_numbered b) o m) made ∙ ap (λ (c : Bool). if c then called me (Crashed (node_numbered b)) (cut (node_numbered b) m) else m) there
+    ap (λ (c : Bool). took_notice me (node_numbered b) (if c then None else m.spec) m) present ∙ (ap (λ (o : Option Spec). took_notice me (node_numbered b) o m) made ∙ ap (λ (c : Bool). if c then called me (Crashed (node_numbered b)) (cut (node_numbered b) m) else m) there)
 
 -- what the group was told then
-told_onto : (me : ℕ) (spec : Spec) (bs : List ℕ) (qs : List NodeId) (m : Member) → m.spec ≡ Some spec → m.told ≡ map Crashed qs → AreOthers spec me bs → (all_noticed me bs m).told ≡ map Crashed (numbered_onto bs qs)
-told_onto me spec [] qs m made told others = told
-told_onto me spec (b ∷ bs) qs m made told others =
-    let is = noticed_is me b spec m made others.0.0 others.0.1 in
-    told_onto me spec bs (node_numbered b ∷ qs) (node_noticed me (node_numbered b) m) (ap (λ (n : Member). n.spec) is ∙ made) (ap (λ (n : Member). n.told) is ∙ ap (λ cs. Crashed (node_numbered b) ∷ cs) told) others.1
+told_onto : (me : ℕ) (spec : Spec) (bs : List ℕ) (qs : List NodeId) (m : Member) → m.spec ≡ Some spec → is_gone m.phase ≡ false → m.told ≡ map Crashed qs → AreOthers spec me bs → (all_noticed me bs m).told ≡ map Crashed (numbered_onto bs qs)
+told_onto me spec [] qs m made present told others = told
+told_onto me spec (b ∷ bs) qs m made present told others =
+    let is = noticed_is me b spec m made present others.0.0 others.0.1 in
+    told_onto me spec bs (node_numbered b ∷ qs) (node_noticed me (node_numbered b) m) (ap (λ (n : Member). n.spec) is ∙ made) (ap (λ (n : Member). is_gone n.phase) is ∙ present) (ap (λ (n : Member). n.told) is ∙ ap (λ cs. Crashed (node_numbered b) ∷ cs) told) others.1
 
 -- and what is put out: what was, all of which is carried
-put_stays : (me : ℕ) (spec : Spec) (bs : List ℕ) (qs : List NodeId) (m : Member) (x : ℕ) → m.spec ≡ Some spec → m.told ≡ map Crashed qs → m.taken x ≡ length (m.put x) → AreOthers spec me bs → (all_noticed me bs m).put x ≡ m.put x
-put_stays me spec [] qs m x made told carried others = refl
-put_stays me spec (b ∷ bs) qs m x made told carried others =
+put_stays : (me : ℕ) (spec : Spec) (bs : List ℕ) (qs : List NodeId) (m : Member) (x : ℕ) → m.spec ≡ Some spec → is_gone m.phase ≡ false → m.told ≡ map Crashed qs → m.taken x ≡ length (m.put x) → AreOthers spec me bs → (all_noticed me bs m).put x ≡ m.put x
+put_stays me spec [] qs m x made present told carried others = refl
+put_stays me spec (b ∷ bs) qs m x made present told carried others =
     let q : NodeId = node_numbered b in
-    let is = noticed_is me b spec m made others.0.0 others.0.1 in
+    let is = noticed_is me b spec m made present others.0.0 others.0.1 in
     let one : (node_noticed me q m).put x ≡ m.put x = ap (λ (n : Member). n.put x) is ∙ (ap (λ (o : Option Spec). put_to me o (Crashed q) m.told (cut q m).put x) made ∙ (ap (λ cs. put_to me (Some spec) (Crashed q) cs (cut q m).put x) told ∙ same (is_other spec me x && not (was_noticed (calls_of (Crashed q ∷ map Crashed qs)) x)) (nat_eq x q.number))) in
-    put_stays me spec bs (q ∷ qs) (node_noticed me q m) x (ap (λ (n : Member). n.spec) is ∙ made) (ap (λ (n : Member). n.told) is ∙ ap (λ cs. Crashed q ∷ cs) told) (ap (λ (n : Member). n.taken x) is ∙ (carried ∙ ap length (sym one))) others.1 ∙ one
+    put_stays me spec bs (q ∷ qs) (node_noticed me q m) x (ap (λ (n : Member). n.spec) is ∙ made) (ap (λ (n : Member). is_gone n.phase) is ∙ present) (ap (λ (n : Member). n.told) is ∙ ap (λ cs. Crashed q ∷ cs) told) (ap (λ (n : Member). n.taken x) is ∙ (carried ∙ ap length (sym one))) others.1 ∙ one
   where
     all_taken : take (m.taken x) (m.put x) ≡ m.put x
     all_taken = ap (λ n. take n (m.put x)) carried ∙ take-length (m.put x)
@@ -148,8 +148,9 @@ fresh_slot a spec new noticed m nodes is made phase told =
     record {
       spec = keeps.spec ∙ made;
       phase = keeps.phase ∙ phase;
+      present = refl;
       here = refl;
-      history = subst (StandsFor (new_slot spec a noticed)) (sym (told_onto a.number spec (noticed_before spec a.number new) [] m made told others)) (fresh_stands spec a noticed qs (onto_others spec a.number (noticed_before spec a.number new) [] others tt) tell);
+      history = subst (StandsFor (new_slot spec a noticed)) (sym (told_onto a.number spec (noticed_before spec a.number new) [] m made (ap is_gone phase) told others)) (fresh_stands spec a noticed qs (onto_others spec a.number (noticed_before spec a.number new) [] others tt) tell);
     }
   where
     others : AreOthers spec a.number (noticed_before spec a.number new)
@@ -164,5 +165,5 @@ fresh_slot a spec new noticed m nodes is made phase told =
         ∙ (sym (or-false (is_marked b (noticed_before spec a.number new))) ∙ sym (onto_any spec a.number (noticed_before spec a.number new) [] b others))))
 
 -- and what is put out stays
-pub fresh_put : (me : ℕ) (spec : Spec) (new : ℕ → Bool) (m : Member) (x : ℕ) → m.spec ≡ Some spec → m.told ≡ [] → m.taken x ≡ length (m.put x) → (all_noticed me (noticed_before spec me new) m).put x ≡ m.put x
-fresh_put me spec new m x made told carried = put_stays me spec (noticed_before spec me new) [] m x made told carried (passing_others spec me new 0 NODES (omega arith))
+pub fresh_put : (me : ℕ) (spec : Spec) (new : ℕ → Bool) (m : Member) (x : ℕ) → m.spec ≡ Some spec → is_gone m.phase ≡ false → m.told ≡ [] → m.taken x ≡ length (m.put x) → (all_noticed me (noticed_before spec me new) m).put x ≡ m.put x
+fresh_put me spec new m x made present told carried = put_stays me spec (noticed_before spec me new) [] m x made present told carried (passing_others spec me new 0 NODES (omega arith))

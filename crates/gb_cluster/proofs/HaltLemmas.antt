@@ -19,7 +19,7 @@ use Rattle.gb_cluster.proofs.Invariant.{MemberIs, Fits, NodeIs, Links, Invariant
 use Rattle.gb_cluster.proofs.IdleLemmas.{idle_turn}
 use Rattle.gb_cluster.proofs.Told.{nothing_told, nothing}
 use Rattle.gb_cluster.proofs.NodeLemmas.{same_stands, same_carried}
-use Rattle.gb_cluster.proofs.TurnLemmas.{turned, ActsAt, GroupTurn, frames_turned, taken_turned, acked_turned, untouched_link, links_turn, same_marks, holds_turn}
+use Rattle.gb_cluster.proofs.TurnLemmas.{turned, ActsAt, GroupTurn, frames_turned, taken_turned, acked_turned, untouched_link, links_turn, same_marks, acks_stay, holds_turn}
 use Rattle.gb_cluster.proofs.WorldLemmas.{eqb_self, eqb_apart_back}
 
 -- a node that stops tells so
@@ -71,6 +71,7 @@ halt_group g w a group in_a links fits = record {
       (λ n. sym (taken_turned w s [] links.numbered x a.number n)) (fits.come x a.number in_x in_a);
   done = λ b in_b. same_marks g (frames a.number b w.packets w.steps) (λ n. is_acked a.number b n w.packets w.steps) (λ n. is_acked a.number b n (w.packets ++ []) (s ∷ w.steps)) ((group a.number).done b)
       (λ n. sym (acked_turned w s [] links.numbered a.number b n)) (fits.done a.number b in_a in_b);
+  acks = acks_stay g w a.number (halted v) s [] group in_a fits refl (λ b n. acked_turned w s [] links.numbered a.number b n);
 }
   where
     s : Step

@@ -18,7 +18,7 @@ use Rattle.gb_cluster.proofs.Invariant.{MemberIs, is_concerned, Fits, NodeIs, Li
 use Rattle.gb_cluster.proofs.MarkLemmas.{or_off}
 use Rattle.gb_cluster.proofs.NodeLemmas.{same_carried}
 use Rattle.gb_cluster.proofs.Told.{Told, told_of, TellsGroupNothing, TellsNothing}
-use Rattle.gb_cluster.proofs.TurnLemmas.{turned, ActsAt, GroupTurn, frames_turned, taken_turned, acked_turned, untouched_link, links_turn, same_marks, holds_turn}
+use Rattle.gb_cluster.proofs.TurnLemmas.{turned, ActsAt, GroupTurn, frames_turned, taken_turned, acked_turned, untouched_link, links_turn, same_marks, acks_stay, holds_turn}
 
 -- the node goes on as it was
 idle_node : (w : World) (a : ℕ) (e : Event) (answer : Answer) → a < length w.nodes → TellsNothing w a e answer → Links w → NodeIs (length w.nodes) w.silence (w.packets ++ []) (record { event = e; answer = answer } ∷ w.steps) a (node_of w a)
@@ -75,6 +75,7 @@ idle_group g w a e answer group in_a tells free links fits = subst (λ (given : 
       (λ n. sym (taken_turned w s [] links.numbered x a n ∙ or_off _ _ (acts_taken x n))) (fits.come x a in_x in_a);
   done = λ b in_b. same_marks g (frames a b w.packets w.steps) (λ n. is_acked a b n w.packets w.steps) (λ n. is_acked a b n (w.packets ++ []) (s ∷ w.steps)) ((group a).done b)
       (λ n. sym (acked_turned w s [] links.numbered a b n ∙ or_off _ _ (acts_acked b n))) (fits.done a b in_a in_b);
+  acks = acks_stay g w a (node_of w a) s [] group in_a fits refl (λ b n. acked_turned w s [] links.numbered a b n ∙ or_off _ _ (acts_acked b n));
 })
   where
     s : Step

@@ -6,6 +6,7 @@ pub mod StopLemmas
 pub mod FreshLemmas
 pub mod AskLemmas
 pub mod RequestLemmas
+pub mod AskedAckLemmas
 pub mod MakeLemmas
 pub mod TenantLemmas
 pub mod StoppedLemmas

@@ -1,4 +1,5 @@
 -- What making a group at a running node does to each group there: the group learns of the nodes that were noticed before.
+use Rattle.gb_rules.specs.Group.{is_gone}
 use Rattle.std.proofs.Common.{◌≡◌, ℕ, ◌<◌, List, [], ◌∷◌, ◌++◌, length, Option, Some, None, Bool, true, false, ◌&&◌, ◌||◌, ◌⊎◌, inl, inr, refl, sym, ◌∙◌, ap, subst}
 use Rattle.std.specs.Prelude.{if◌then◌else◌, is_some, nat_eq}
 use Rattle.std.proofs.Math.Bool.{or-false}
@@ -86,8 +87,8 @@ module _ (nodes : ℕ) (g : Addr) (a : NodeId) (v : NodeValue) (group : Group) (
   made_stands : Before nodes g a v group carried steps → v.group ≡ None → NotMade (group a.number) → Stands nodes g a.number (record v { group = Some (record { addr = g; slot = new_slot spec a v.watch.noticed }) }) next carried
   made_stands before free absent = record {
     row = keeps.reserve ∙ st.row;
-    slot = subst (λ o. SlotIs a.number o next) (sym slots) (fresh_slot a spec new v.watch.noticed made before.below before.noticed refl absent.phase absent.told);
-    put = λ b in_cluster. fresh_put a.number spec new made b refl absent.told (count b in_cluster) ∙ (st.put b in_cluster ∙ ap (λ xs. carried b ++ xs) (ap (λ o. waiting_in o b) none ∙ (sym (waiting-new a spec v.watch.noticed b) ∙ sym (ap (λ o. waiting_in o b) slots))));
+    slot = subst (λ o. SlotIs a.number o next) (sym slots) (inl (fresh_slot a spec new v.watch.noticed made before.below before.noticed refl absent.phase absent.told));
+    put = λ b in_cluster. fresh_put a.number spec new made b refl (ap is_gone absent.phase) absent.told (count b in_cluster) ∙ (st.put b in_cluster ∙ ap (λ xs. carried b ++ xs) (ap (λ o. waiting_in o b) none ∙ (sym (waiting-new a spec v.watch.noticed b) ∙ sym (ap (λ o. waiting_in o b) slots))));
     taken = λ b in_cluster. ap (λ (f : ℕ → ℕ). f b) keeps.taken ∙ st.taken b in_cluster;
   }
     where

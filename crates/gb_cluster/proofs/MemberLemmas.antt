@@ -1,6 +1,8 @@
 -- A slot stands for its group at a node through each call.
-use Rattle.std.proofs.Common.{◌≡◌, ℕ, ◌+◌, List, [], ◌∷◌, ◌++◌, length, Option, Some, None, Bool, true, false, not, ◌&&◌, ◌⊎◌, inl, inr, refl, sym, ◌∙◌, ap, subst, arith, take}
-use Rattle.std.specs.Prelude.{if◌then◌else◌, is_some, nat_eq}
+use Rattle.gb_record.specs.Nodes.{node_numbered}
+use Rattle.std.specs.Ordering.{nat_cmp}
+use Rattle.std.proofs.Common.{◌≡◌, ℕ, ◌+◌, List, [], ◌∷◌, ◌++◌, length, Option, Some, None, Bool, true, false, not, ◌&&◌, ◌⊎◌, inl, inr, refl, sym, ◌∙◌, ap, subst, arith, take, drop}
+use Rattle.std.specs.Prelude.{if◌then◌else◌, is_some, nat_eq, map}
 use Rattle.std.proofs.lemmas.Bool.Decides.{nat_tests}
 use Rattle.std.proofs.Math.Seq.{take-length}
 use Rattle.std.specs.Option.{option_map}
@@ -16,12 +18,12 @@ use Rattle.gb_types.specs.declared.spec.Spec.{Spec}
 use Rattle.gb_types.proofs.SameLemmas.{same_number}
 use Rattle.gb_types.specs.Entry.{message_of}
 use Rattle.gb_layer.specs.declared.call.Call.TheVariants.{Came, Notice as Crash}
-use Rattle.gb_history.specs.Messages.{with_new, bytes_of}
+use Rattle.gb_history.specs.Messages.{with_new, bytes_of, entry_in}
 use Rattle.gb_layer.specs.Machine.{was_noticed}
 use Rattle.gb_history.specs.History.{calls_of, said_in, log_of, puts_of, falls_after}
 use Rattle.gb_rules.specs.declared.phase.Phase.{Phase}
-use Rattle.gb_rules.specs.Group.{Shown, is_gone, is_other, on_made}
-use Rattle.gb_slot.specs.Slot.{shown, waiting, own_entry, slot_called, slot_said, slot_came, slot_noticed, falls, unfinished_of}
+use Rattle.gb_rules.specs.Group.{Shown, is_gone, is_other, on_made, is_member}
+use Rattle.gb_slot.specs.Slot.{shown, waiting, own_entry, slot_called, slot_said, slot_came, slot_noticed, falls, unfinished_of, taken_for}
 use Rattle.gb_slot.specs.SlotState.{SlotState}
 use Rattle.gb_slot.specs.StandsFor.{StandsFor, reaches}
 use Rattle.gb_history.specs.declared.call.GroupCall.{GroupCall}
@@ -31,7 +33,11 @@ use Rattle.gb_alone.specs.Alone.{Member, held_spec, is_finished, count_unfinishe
 use Rattle.gb_alone.specs.Alone as alone
 use Rattle.gb_cluster.specs.State.{waiting_in}
 use Rattle.gb_cluster.proofs.Invariant.{SlotIs, SlotStands, NotMade, WasDropped}
-use Rattle.gb_cluster.specs.NodeStep.{shown_for, gone_slot}
+use Rattle.gb_cluster.specs.NodeStep.{shown_for, gone_slot, slot_noticed_all}
+
+-- the slot after an item that is not let fall
+abbrev told_slot : NodeId → Entry → SlotState → SlotState
+told_slot from e s = slot_called (Came from (message_of e)) (with_new s.store e) s
 
 -- Where the group is not there.
 
@@ -39,7 +45,10 @@ use Rattle.gb_cluster.specs.NodeStep.{shown_for, gone_slot}
 pub unmade_held : (m : Member) → NotMade m → held_spec m.phase m.spec ≡ None
 unmade_held m st = ap (held_spec m.phase) st.spec ∙ by (is_gone m.phase)
   where
-    by : (b : Bool) → (if b then None else None) ≡ None
+    none : Option Spec
+    none = None
+
+    by : (b : Bool) → (if b then none else none) ≡ none
     by true = refl
     by false = refl
 
@@ -50,11 +59,29 @@ pub stands_held : (me : ℕ) (s : SlotState) (m : Member) → SlotStands me s m 
 stands_held me s m st = ap (λ (p : Phase). held_spec p m.spec) st.phase ∙ (ap (λ (b : Bool). if b then None else m.spec) st.present ∙ st.spec)
 
 -- what is left of a dropped group takes nothing in, notices nobody and has nothing waiting
+no_member : (b : ℕ) → is_member gone_slot.spec b ≡ false
+no_member b = set.contains-empty nat_cmp b
+
 pub gone_came : (from : NodeId) (e : Entry) → slot_came from e gone_slot ≡ gone_slot
-gone_came from e = refl
+gone_came from e = ap (λ (b : Bool). if b then gone_slot else told_slot from e gone_slot) falls_there
+  where
+    falls_there : falls from e gone_slot ≡ true
+    falls_there = rw (no_member from.number) refl
 
 pub gone_noticed : (q : NodeId) → slot_noticed q gone_slot ≡ gone_slot
-gone_noticed q = refl
+gone_noticed q = ap (λ (b : Bool). if b then noticed_gone else gone_slot) (ap (λ (b : Bool). b && not (nat_eq q.number gone_slot.me.number)) (no_member q.number))
+  where
+    noticed_gone : SlotState
+    noticed_gone =
+        let next = slot_called (Crash q) gone_slot.store gone_slot in
+        record next { noticed = set.insert gone_slot.noticed q.number }
+
+pub gone_waits : (b : ℕ) → waiting gone_slot b ≡ []
+gone_waits b = ap (λ (c : Bool). if (c && not (nat_eq b gone_slot.me.number)) && not (set.contains gone_slot.noticed b) then map (entry_in gone_slot.store) (drop (taken_for gone_slot b) gone_slot.outgoing) else []) (no_member b)
+
+pub gone_noticed_all : (bs : List ℕ) → slot_noticed_all gone_slot bs ≡ gone_slot
+gone_noticed_all [] = refl
+gone_noticed_all (b ∷ bs) = ap (λ (s : SlotState). slot_noticed_all s bs) (gone_noticed (node_numbered b)) ∙ gone_noticed_all bs
 
 -- Replies.
 
@@ -169,10 +196,6 @@ handed_in me from e m h = ap (λ (b : Bool). if b then m else called me (Other f
 -- every item falls where the group is not there
 absent_falls : (me : ℕ) (from : NodeId) (e : Entry) (m : Member) → held_spec m.phase m.spec ≡ None → item_came me from e m ≡ m
 absent_falls me from e m none = fallen me from e m (ap (alone.falls me from.number e m.told) none)
-
--- the slot after an item that is not let fall
-abbrev told_slot : NodeId → Entry → SlotState → SlotState
-told_slot from e s = slot_called (Came from (message_of e)) (with_new s.store e) s
 
 came_is : (from : NodeId) (e : Entry) (s : SlotState) → falls from e s ≡ false → slot_came from e s ≡ told_slot from e s
 came_is from e s stays = ap (λ (b : Bool). if b then s else told_slot from e s) stays

@@ -29,11 +29,10 @@ use Rattle.gb_types.specs.declared.reply.Reply.TheVariants.{Refused}
 use Rattle.gb_types.specs.declared.request.Request.{Request}
 use Rattle.gb_types.specs.declared.spec.TenantRow.{TenantRow}
 use Rattle.gb_cluster.specs.Memory.{IsReplyTo, has_other_of}
-use Rattle.gb_cluster.specs.GroupRoom.{first_waiting, group_of}
-use Rattle.gb_cluster.specs.declared.node.AddressedSlot.{AddressedSlot}
+use Rattle.gb_cluster.specs.GroupRoom.{first_waiting}
 use Rattle.gb_cluster.specs.NodeValue.{GroupAt, NodeValue}
 use Rattle.gb_record.specs.Nodes.{node_numbered}
-use Rattle.gb_cluster.specs.NodeStep.{first_of, is_reached, packed, packed_of, packet_for, node_packed, sender_to, receiver_from, item_done, newly_done, without_done, admission_of, group_came, node_took, group_noticed, slot_noticed_all, running_reply, node_reply}
+use Rattle.gb_cluster.specs.NodeStep.{first_of, is_reached, packed, packed_of, packet_for, node_packed, sender_to, receiver_from, item_done, newly_done, without_done, admission_of, group_came, node_took, slot_noticed_all, running_reply, node_reply}
 use Rattle.gb_record.specs.declared.packet.Item.{Item}
 use Rattle.gb_record.specs.declared.packet.Packet.{Packet}
 
@@ -148,7 +147,7 @@ unfolding rising
 rising_none = none_of (range_with_len 0 NODES)
 
 -- nodes of which none is another member change nothing of a slot
-slot_stays : (s : SlotState) (bs : List ℕ) → has_other_of s bs ≡ false → slot_noticed_all s bs ≡ s
+pub slot_stays : (s : SlotState) (bs : List ℕ) → has_other_of s bs ≡ false → slot_noticed_all s bs ≡ s
 slot_stays s [] none = refl
 slot_stays s (b ∷ bs) none =
     let parts = or_false (is_other s.spec s.me.number (node_numbered b).number) (has_other_of s bs) none in
@@ -162,6 +161,3 @@ slot_stays s (b ∷ bs) none =
     or_false : (x y : Bool) → (x || y) ≡ false → (x ≡ false) × (y ≡ false)
     or_false true y h = absurd (cc)
     or_false false y h = (refl, h)
-
-pub none_concerned : (h : AddressedSlot) (found : set.FinSet nat_cmp) → has_other_of h.slot.state (rising found) ≡ false → group_noticed (rising found) (group_of (Some h)) ≡ group_of (Some h)
-none_concerned h found none = ap (λ (s : SlotState). Some (record { addr = h.addr; slot = s })) (slot_stays h.slot.state (rising found) none)

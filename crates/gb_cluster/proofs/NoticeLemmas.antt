@@ -14,7 +14,7 @@ use Rattle.gb_detect.specs.Watch.{Watch}
 use Rattle.gb_detect.proofs.ReplayLemmas.{noticed-replay}
 use Rattle.gb_rules.specs.Group.{is_other}
 use Rattle.gb_history.specs.declared.call.GroupCall.TheVariants.{Crashed}
-use Rattle.gb_alone.specs.Alone.{Member, Group, after, alone_from, called, cut, took_notice, node_noticed, is_marked, IsLegalFrom}
+use Rattle.gb_alone.specs.Alone.{Member, Group, after, alone_from, called, cut, took_notice, node_noticed, is_marked, IsLegalFrom, held_spec}
 use Rattle.gb_cluster.proofs.Invariant.{NodeIs}
 use Rattle.gb_record.specs.Nodes.{node_numbered}
 use Rattle.gb_cluster.specs.NodeValue.{NodeValue}
@@ -123,7 +123,7 @@ notices_elsewhere nodes number a (b ∷ bs) group x other = notices_elsewhere no
 
 -- a notice leaves the rest of the group at the node
 pub notice_keeps : (me : ℕ) (q : NodeId) (m : Member) → KeepsRest m (node_noticed me q m)
-notice_keeps me q m = go m.spec
+notice_keeps me q m = go (held_spec m.phase m.spec)
   where
     by : (spec : Spec) (b : Bool) → KeepsRest m (let next = (if b then called me (Crashed q) (cut q m) else m) in record next { noticed = q.number ∷ m.noticed })
     by spec true = record { reserve = refl; spec = refl; phase = refl; replies = refl; taken = refl; come = refl; done = refl; stopped = refl }

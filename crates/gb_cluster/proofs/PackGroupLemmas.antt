@@ -15,7 +15,7 @@ use Rattle.gb_cluster.specs.NodeValue.{GroupAt, NodeValue}
 use Rattle.gb_rules.specs.Address.{is_addr}
 use Rattle.gb_cluster.specs.NodeStep.{reserve_for, slot_for, group_took}
 use Rattle.gb_cluster.proofs.Invariant.{SlotIs, SlotStands, Stands}
-use Rattle.gb_cluster.proofs.MemberLemmas.{same_slot}
+use Rattle.gb_cluster.proofs.MemberLemmas.{same_stand, gone_waits}
 use Rattle.gb_cluster.proofs.NodeLemmas.{same_stands, same_carried}
 use Rattle.gb_cluster.proofs.WorldLemmas.{eqb_self, eqb_apart}
 
@@ -25,6 +25,7 @@ took_member : (a b : ℕ) (e : Entry) (rest : List Entry) (s : SlotState) (m : M
 took_member a b e rest s m small is st = record {
   spec = st.spec;
   phase = st.phase;
+  present = st.present;
   here = st.here;
   history = took_stands s m.told b 1 st.history small (let n : length (waiting s b) ≡ length (e ∷ rest) = ap length is in omega arith);
 }
@@ -43,7 +44,7 @@ pub pack_mine : (nodes : ℕ) (g : Addr) (a b : ℕ) (v u : NodeValue) (hosted :
 pack_mine nodes g a b v u hosted e rest m carried next rows groups small in_cluster group is mine at_b elsewhere st = (
   record {
     row = st.row ∙ ap (reserve_for g.tenant) (sym rows);
-    slot = subst (λ o. SlotIs a o (taken_more b m)) (sym after_slot) (same_slot a (Some (slot_took b 1 hosted.slot)) m (taken_more b m) refl refl refl (took_member a b e rest hosted.slot m small is slot));
+    slot = subst (λ o. SlotIs a o (taken_more b m)) (sym after_slot) (inl (same_stand a (slot_took b 1 hosted.slot) m (taken_more b m) refl refl refl (took_member a b e rest hosted.slot m small is slot)));
     put = λ c in_c. st.put c in_c ∙ put_at c (cases_eq c b);
     taken = λ c in_c. taken_at c (st.taken c in_c) (cases_eq c b);
   },
@@ -57,7 +58,11 @@ pack_mine nodes g a b v u hosted e rest m carried next rows groups small in_clus
     after_slot = rw (groups, group, mine) refl
 
     slot : SlotStands a hosted.slot m
-    slot = subst (λ o. SlotIs a o m) before_slot st.slot
+    slot = waits (subst (λ o. SlotIs a o m) before_slot st.slot)
+      where
+        waits : SlotIs a (Some hosted.slot) m → SlotStands a hosted.slot m
+        waits (inl here) = here
+        waits (inr gone) = let none : e ∷ rest ≡ [] = sym is ∙ (ap (λ (s : SlotState). waiting s b) gone.nothing ∙ gone_waits b) in absurd (cc)
 
     waiting_before : (c : ℕ) → waiting_in (slot_for g v.group) c ≡ waiting hosted.slot c
     waiting_before c = ap (λ o. waiting_in o c) before_slot

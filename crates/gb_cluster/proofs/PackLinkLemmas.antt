@@ -1,4 +1,5 @@
 -- The links where a frame is packed.
+use Rattle.gb_cluster.proofs.KeptAckLemmas.{acks-group_took}
 use Rattle.std.proofs.Common.{◌≡◌, ◌≢◌, ℕ, zero, suc, ◌+◌, ◌-◌, ◌<◌, ◌≤◌, List, [], ◌∷◌, ◌++◌, length, Option, Some, Bool, true, false, ◌&&◌, ◌⊎◌, inl, inr, refl, sym, ◌∙◌, ap, subst, arith, length-append}
 use Rattle.std.specs.Prelude.{if◌then◌else◌, nat_eq, nat_le, is_some, slice_get}
 use Rattle.std.proofs.lemmas.Bool.{and_parts, leb-true, cases_eq, cases_lt}
@@ -178,6 +179,7 @@ module _ (w : World) (a b : NodeId) (p : Packet) (hosted : GroupAt) (x : Entry) 
     receivers = refl;
     watch = refl;
     stopped = refl;
+    acks = λ g. acks-group_took g b.number v.group;
     senders = length-set v.senders b.number (pushed_item p.item (sender_to v b.number));
     sender = λ c in_c. sender_at c in_c (cases_eq c b.number);
     link = λ c in_c. link_at c in_c (cases_eq c b.number);

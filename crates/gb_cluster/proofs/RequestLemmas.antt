@@ -35,7 +35,7 @@ use Rattle.gb_record.specs.Project.{is_stopped}
 use Rattle.gb_rules.specs.Tenant.{by_tenant}
 use Rattle.gb_cluster.specs.NodeStep.{reserve_for, slot_for, shown_for, on_slot, gone_slot, dropped_slot, running_reply, node_did}
 use Rattle.gb_cluster.proofs.AskLemmas.{Before, AtNode, at_command, at_other, if_same}
-use Rattle.gb_cluster.proofs.MemberLemmas.{answered-is, said_member, put-said}
+use Rattle.gb_cluster.proofs.MemberLemmas.{answered-is, said_member, put-said, gone_waits}
 use Rattle.gb_cluster.proofs.NodeLemmas.{addr_same, is_addr-self, slot_for-on_same, slot_for-on_other, same_stands}
 
 -- Opening and shutting.
@@ -66,7 +66,7 @@ said_accepted : (seq : ℕ) (why : Refusal) → Said seq ≢ Refused why
 said_accepted seq why e = cc
 
 -- a slot that is not gone was not dropped
-present_stands : (me : ℕ) (s : SlotState) (m : Member) → is_gone s.phase ≡ false → SlotIs me (Some s) m → SlotStands me s m
+pub present_stands : (me : ℕ) (s : SlotState) (m : Member) → is_gone s.phase ≡ false → SlotIs me (Some s) m → SlotStands me s m
 present_stands me s m present (inl st) = st
 present_stands me s m present (inr st) = absurd (clash (sym (ap (λ (u : SlotState). is_gone u.phase) st.nothing) ∙ present))
   where
@@ -185,7 +185,7 @@ dropped_here nodes g me v m carried Done is st =
       put = λ b in_cluster.
           ap (λ n. take n (m.put b)) (st.taken b in_cluster)
           ∙ (ap (take (length (carried b))) (st.put b in_cluster)
-          ∙ (take-append-le (length (carried b)) (carried b) (waiting_in (slot_for g v.group) b) (omega arith) ∙ (take-length (carried b) ∙ (sym (append-nil (carried b)) ∙ ap (λ o. carried b ++ waiting_in o b) (sym slots)))));
+          ∙ (take-append-le (length (carried b)) (carried b) (waiting_in (slot_for g v.group) b) (omega arith) ∙ (take-length (carried b) ∙ (sym (append-nil (carried b)) ∙ (ap (λ xs. carried b ++ xs) (sym (gone_waits b)) ∙ ap (λ o. carried b ++ waiting_in o b) (sym slots))))));
       taken = st.taken;
     }
 dropped_here nodes g me v m carried r is st = st

@@ -15,7 +15,7 @@ use Rattle.gb_rules.specs.Group.{is_other}
 use Rattle.gb_types.specs.declared.reply.Reply.{Reply}
 use Rattle.gb_types.specs.declared.reply.Reply.TheVariants.{Done, Said}
 use Rattle.gb_types.specs.declared.request.Request.{Request}
-use Rattle.gb_types.specs.declared.request.Request.TheVariants.{AddTenant, Make, OpenGroup, ShutGroup, Say, Fetch}
+use Rattle.gb_types.specs.declared.request.Request.TheVariants.{AddTenant, Make, OpenGroup, ShutGroup, DropGroup, Say, Fetch}
 use Rattle.gb_alone.specs.Laws.{Accepted, accepted_in}
 use Rattle.gb_record.specs.RunLaws.{accepted_by, accepted_there}
 use Rattle.gb_record.specs.Nodes.{node_numbered}
@@ -30,7 +30,7 @@ use Rattle.gb_record.specs.declared.answer.Ticked.TheVariants.{Noticed}
 use Rattle.gb_record.specs.declared.event.Event.{Event}
 use Rattle.gb_record.specs.declared.event.Event.TheVariants.{At, Pack, Arrive, Tick}
 use Rattle.gb_alone.specs.declared.event.GroupEvent.{GroupEvent}
-use Rattle.gb_alone.specs.declared.event.GroupEvent.TheVariants.{Tenant, Make as AskMake, Open as AskOpen, Shut as AskShut, Say as AskSay, Fetch as AskFetch, Took, Came, Done as Acknowledged, Notice, Stop as Ends}
+use Rattle.gb_alone.specs.declared.event.GroupEvent.TheVariants.{Tenant, Make as AskMake, Open as AskOpen, Shut as AskShut, Drop as AskDrop, Say as AskSay, Fetch as AskFetch, Took, Came, Done as Acknowledged, Notice, Stop as Ends}
 use Rattle.gb_alone.specs.declared.event.GroupStep.{GroupStep}
 use Rattle.gb_record.specs.declared.packet.Packet.{Packet}
 use Rattle.gb_record.specs.declared.step.Step.{Step}
@@ -196,6 +196,7 @@ reply_pairs g packets steps s a (AddTenant token row) reply =
 reply_pairs g packets steps s a (Make token addr spec) reply = asked_pairs g steps s a (Make token addr spec) reply _ _ refl (no_commands_request g steps s a (AskMake spec) reply (is_addr g addr) refl refl)
 reply_pairs g packets steps s a (OpenGroup token addr) reply = asked_pairs g steps s a (OpenGroup token addr) reply _ _ refl (no_commands_request g steps s a AskOpen reply (is_addr g addr) refl refl)
 reply_pairs g packets steps s a (ShutGroup token addr) reply = asked_pairs g steps s a (ShutGroup token addr) reply _ _ refl (no_commands_request g steps s a AskShut reply (is_addr g addr) refl refl)
+reply_pairs g packets steps s a (DropGroup token addr) reply = asked_pairs g steps s a (DropGroup token addr) reply _ _ refl (no_commands_request g steps s a AskDrop reply (is_addr g addr) refl refl)
 reply_pairs g packets steps s a (Say token addr payload) (Said seq) = asked_pairs g steps s a (Say token addr payload) (Said seq) _ _ refl (request_pairs s a (AskSay payload) (Said seq) (λ x. has_row x g.tenant steps) (is_addr g addr) refl)
 reply_pairs g packets steps s a (Say token addr payload) reply = asked_pairs g steps s a (Say token addr payload) reply _ _ refl (no_commands_request g steps s a (AskSay payload) reply (is_addr g addr) refl refl)
 reply_pairs g packets steps s a (Fetch token addr from most) reply = asked_pairs g steps s a (Fetch token addr from most) reply _ _ refl (no_commands_request g steps s a (AskFetch from most) reply (is_addr g addr) refl refl)

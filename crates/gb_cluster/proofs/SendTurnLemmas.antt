@@ -16,13 +16,13 @@ use Rattle.gb_alone.specs.Alone.{Group, alone, alone_from, is_marked, IsLegalFro
 use Rattle.gb_cluster.specs.NodeValue.{NodeValue}
 use Rattle.gb_record.specs.Project.{project, gives, has_row, frames, frame_at, items_of, is_taken, is_acked, is_noticed, is_stopped, is_met, made_at, made_by, or_else, watched, replies_to}
 use Rattle.gb_cluster.proofs.World.{World, node_of}
-use Rattle.gb_cluster.specs.NodeStep.{Part, reserve_for, sender_to}
+use Rattle.gb_cluster.specs.NodeStep.{Part, reserve_for, sender_to, slot_for}
 use Rattle.gb_record.proofs.NumberLemmas.{number_of}
-use Rattle.gb_cluster.proofs.Invariant.{Stands, AreMarked, is_concerned, Fits, NodeIs, IsFramed, IsLink, Links, BehavesAlone, Invariant, window_of}
+use Rattle.gb_cluster.proofs.Invariant.{Stands, AreMarked, is_concerned, Fits, NodeIs, IsFramed, IsLink, Links, BehavesAlone, Invariant, window_of, acks_in}
 use Rattle.gb_cluster.proofs.MarkLemmas.{or_off}
 use Rattle.gb_cluster.proofs.NodeLemmas.{same_carried}
 use Rattle.gb_cluster.proofs.Told.{Told, told_of, nothing_told}
-use Rattle.gb_cluster.proofs.TurnLemmas.{turned, ActsAt, GroupTurn, framed_stays, frames_turned, taken_turned, acked_turned, watched_turned, untouched_link, links_turn, same_marks, holds_turn}
+use Rattle.gb_cluster.proofs.TurnLemmas.{turned, ActsAt, GroupTurn, framed_stays, frames_turned, taken_turned, acked_turned, watched_turned, untouched_link, links_turn, same_marks, acks_stay, holds_turn}
 
 -- the step tells of nothing but frames that are sent
 abbrev pub IsSending : Step → Type 0
@@ -37,6 +37,7 @@ pub record Sends (w : World) (a : ℕ) (v : NodeValue) (s : Step) (more : List P
   pub receivers : v.receivers ≡ (node_of w a).receivers
   pub watch : v.watch ≡ (node_of w a).watch
   pub stopped : v.stopped ≡ (node_of w a).stopped
+  pub acks : (g : Addr) → acks_in (slot_for g v.group) ≡ acks_in (slot_for g (node_of w a).group)
   pub senders : length v.senders ≡ length (node_of w a).senders
   pub sender : (b : ℕ) → b < length w.nodes → sender_to v b ≡ window_of (λ n. is_acked a b n w.packets w.steps) (frames a b (w.packets ++ more) (s ∷ w.steps))
   pub link : (b : ℕ) → b < length w.nodes → IsLink (w.packets ++ more) (s ∷ w.steps) a b
@@ -116,6 +117,7 @@ module _ (w : World) (a : ℕ) (v : NodeValue) (s : Step) (more : List Packet) (
             (same_marks g (frames x a w.packets w.steps) (λ n. is_taken x a n w.packets w.steps) (λ n. is_taken x a n (w.packets ++ more) (s ∷ w.steps)) ((group a).come x) (λ n. sym (taken_still x a n)) (fits.come x a in_x in_a));
         done = λ b in_b. subst (λ (marks : ℕ → List ℕ). AreMarked g (frames a b w.packets w.steps) (λ n. is_acked a b n (w.packets ++ more) (s ∷ w.steps)) (marks b)) (sym turn.done)
             (same_marks g (frames a b w.packets w.steps) (λ n. is_acked a b n w.packets w.steps) (λ n. is_acked a b n (w.packets ++ more) (s ∷ w.steps)) ((group a).done b) (λ n. sym (acked_still a b n)) (fits.done a b in_a in_b));
+        acks = acks_stay g w a v s more group in_a fits (sends.acks g) (acked_still a);
       }
     where
       made : or_else (made_by g a s.event s.answer) (made_at g a w.steps) ≡ made_at g a w.steps
@@ -149,6 +151,7 @@ only_sends w a e part in_a sends holds = subst (λ (v : NodeValue). Invariant (t
   receivers = refl;
   watch = refl;
   stopped = refl;
+  acks = λ g. refl;
   senders = refl;
   sender = λ b in_b. (holds.links.node a in_a).sender b in_b ∙ ap (λ (fs : List Packet). window_of (λ n. is_acked a b n w.packets w.steps) fs) (sym (same b));
   link = λ b in_b. untouched_link w s part.sent a b holds.links.numbered (sends.frame a b (w.packets ++ part.sent)) (λ n. ap (λ (t : Told). t.taken a n) (sends.step b (w.packets ++ part.sent) w.steps)) (λ n. ap (λ (t : Told). t.acked b n) (sends.step a (w.packets ++ part.sent) w.steps)) (holds.links.link a b in_a in_b);

@@ -1,5 +1,5 @@
 -- Nodes are noticed in a slot and in its group alone.
-use Rattle.std.proofs.Common.{◌≡◌, ℕ, zero, suc, ◌+◌, ◌<◌, ◌≤◌, List, ◌∷◌, ◌++◌, length, Option, Some, None, Bool, true, false, cond, ◌&&◌, refl, sym, ◌∙◌, ap, subst, arith}
+use Rattle.std.proofs.Common.{◌≡◌, ℕ, zero, suc, ◌+◌, ◌<◌, ◌≤◌, List, ◌∷◌, ◌++◌, length, Option, Some, None, Bool, true, false, cond, ◌&&◌, refl, sym, ◌∙◌, ap, subst, arith, inl, inr, []}
 use Rattle.std.specs.Prelude.{if◌then◌else◌, filter}
 use Rattle.std.specs.List.{range_with_len}
 use Rattle.std.specs.Option.{option_map}
@@ -15,12 +15,12 @@ use Rattle.gb_slot.specs.SlotState.{SlotState}
 use Rattle.gb_layer.specs.declared.call.Call.TheVariants.{Notice as Crash}
 use Rattle.gb_alone.specs.Alone.{Member, node_noticed}
 use Rattle.gb_cluster.specs.State.{waiting_in}
-use Rattle.gb_cluster.proofs.Invariant.{SlotIs, SlotStands}
+use Rattle.gb_cluster.proofs.Invariant.{SlotIs}
 use Rattle.gb_cluster.specs.NodeValue.{GroupAt}
 use Rattle.gb_record.specs.Nodes.{node_numbered}
 use Rattle.gb_rules.specs.Address.{is_addr}
-use Rattle.gb_cluster.specs.NodeStep.{slot_for, slot_noticed_all, group_noticed}
-use Rattle.gb_cluster.proofs.MemberLemmas.{slot-noticed, put-noticed}
+use Rattle.gb_cluster.specs.NodeStep.{slot_for, slot_noticed_all, group_noticed, gone_slot}
+use Rattle.gb_cluster.proofs.MemberLemmas.{slot-noticed, put-noticed, gone_noticed}
 use Rattle.gb_cluster.proofs.NoticeLemmas.{numbered_is, all_noticed, notice_keeps}
 
 -- The slot.
@@ -46,8 +46,9 @@ spec-noticed q s = go (is_other s.spec s.me.number q.number)
     go false = refl
 
 -- a node that is no other member changes nothing
-foreign-noticed : (me : ℕ) (b : ℕ) (s : SlotState) (m : Member) → b < NODES → SlotStands me s m → is_other s.spec me b ≡ false → slot_noticed (node_numbered b) s ≡ s
-foreign-noticed me b s m below st foreign = ap (λ (t : Bool). if t then (let next = slot_called (Crash (node_numbered b)) s.store s in record next { noticed = fin.insert s.noticed (node_numbered b).number }) else s)
+foreign-noticed : (me : ℕ) (b : ℕ) (s : SlotState) (m : Member) → b < NODES → SlotIs me (Some s) m → is_other s.spec me b ≡ false → slot_noticed (node_numbered b) s ≡ s
+foreign-noticed me b s m below (inr st) foreign = ap (slot_noticed (node_numbered b)) st.nothing ∙ (gone_noticed (node_numbered b) ∙ sym st.nothing)
+foreign-noticed me b s m below (inl st) foreign = ap (λ (t : Bool). if t then (let next = slot_called (Crash (node_numbered b)) s.store s in record next { noticed = fin.insert s.noticed (node_numbered b).number }) else s)
     (ap (λ (k : ℕ). is_other s.spec k (node_numbered b).number) st.here ∙ (ap (is_other s.spec me) (numbered_is b below) ∙ foreign))
 
 -- nodes are noticed in the slot, and those of them that are other members in the group alone
@@ -74,6 +75,14 @@ fits-all nodes me new low (suc count) spec s m carried few same was =
         (sym (foreign-noticed me low s m (omega arith) was.slot (ap (λ (x : Spec). is_other x me low) same ∙ is))) skipped
     by false true is noticed skipped = skipped
     by false false is noticed skipped = skipped
+
+-- where the group was dropped no notice changes anything
+pub fits-gone : (nodes me : ℕ) (bs : List ℕ) (s : SlotState) (m : Member) (carried : ℕ → List Entry) → s ≡ gone_slot → SlotFits nodes me (Some s) m carried → SlotFits nodes me (Some s) (all_noticed me bs m) carried
+fits-gone nodes me [] s m carried gone was = was
+fits-gone nodes me (b ∷ bs) s m carried gone was =
+    let q : NodeId = node_numbered b in
+    let same : slot_noticed q s ≡ s = ap (slot_noticed q) gone ∙ (gone_noticed q ∙ sym gone) in
+    fits-gone nodes me bs s (node_noticed me q m) carried gone (subst (λ (t : SlotState). SlotFits nodes me (Some t) (node_noticed me q m) carried) same (fits-noticed nodes me q (Some s) m carried was))
 
 pub slot_for-noticed : (g : Addr) (found : List ℕ) (h : Option GroupAt) → slot_for g (group_noticed found h) ≡ option_map (λ s. slot_noticed_all s found) (slot_for g h)
 slot_for-noticed g found None = refl

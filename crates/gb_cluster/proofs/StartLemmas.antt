@@ -12,7 +12,7 @@ use Rattle.gb_types.specs.declared.node.NodeId.{NodeId}
 use Rattle.gb_types.specs.declared.refusal.Refusal.TheVariants.{OutOfMemory}
 use Rattle.gb_types.specs.declared.reply.Reply.TheVariants.{Refused}
 use Rattle.gb_types.specs.declared.request.Request.{Request}
-use Rattle.gb_types.specs.declared.request.Request.TheVariants.{AddTenant, Make, OpenGroup, ShutGroup, Say, Fetch}
+use Rattle.gb_types.specs.declared.request.Request.TheVariants.{AddTenant, Make, OpenGroup, ShutGroup, DropGroup, Say, Fetch}
 use Rattle.gb_link.specs.Received.{Received}
 use Rattle.gb_link.specs.SendWindow.{SendWindow, new_window}
 use Rattle.gb_record.specs.declared.answer.Answer.TheVariants.{Reply as AnswerReply}
@@ -38,6 +38,7 @@ starved_row x tenant a (AddTenant token row) = refl
 starved_row x tenant a (Make token addr spec) = refl
 starved_row x tenant a (OpenGroup token addr) = refl
 starved_row x tenant a (ShutGroup token addr) = refl
+starved_row x tenant a (DropGroup token addr) = refl
 starved_row x tenant a (Say token addr payload) = refl
 starved_row x tenant a (Fetch token addr from most) = refl
 
@@ -46,6 +47,7 @@ starved_made g x a (AddTenant token row) = refl
 starved_made g x a (Make token addr spec) = refl
 starved_made g x a (OpenGroup token addr) = refl
 starved_made g x a (ShutGroup token addr) = refl
+starved_made g x a (DropGroup token addr) = refl
 starved_made g x a (Say token addr payload) = refl
 starved_made g x a (Fetch token addr from most) = refl
 
@@ -54,6 +56,7 @@ named_own g (AddTenant token row) foreign = refl
 named_own g (Make token addr spec) foreign = foreign
 named_own g (OpenGroup token addr) foreign = foreign
 named_own g (ShutGroup token addr) foreign = foreign
+named_own g (DropGroup token addr) foreign = foreign
 named_own g (Say token addr payload) foreign = foreign
 named_own g (Fetch token addr from most) foreign = foreign
 
@@ -63,6 +66,7 @@ starved_requested g steps a (AddTenant token row) foreign = if_same (has_row a.n
 starved_requested g steps a (Make token addr spec) foreign = rw foreign (if_same (has_row a.number g.tenant steps) [])
 starved_requested g steps a (OpenGroup token addr) foreign = rw foreign (if_same (has_row a.number g.tenant steps) [])
 starved_requested g steps a (ShutGroup token addr) foreign = rw foreign (if_same (has_row a.number g.tenant steps) [])
+starved_requested g steps a (DropGroup token addr) foreign = rw foreign (if_same (has_row a.number g.tenant steps) [])
 starved_requested g steps a (Say token addr payload) foreign = rw foreign (if_same (has_row a.number g.tenant steps) [])
 starved_requested g steps a (Fetch token addr from most) foreign = rw foreign (if_same (has_row a.number g.tenant steps) [])
 
@@ -164,6 +168,7 @@ start_holds n silence some few least = record {
       member = λ a in_a. record { replies = refl; spec = refl; noticed = λ b. refl; stopped = refl };
       come = λ a b in_a in_b. record { each = λ k place low high. refl; beyond = λ place above. refl };
       done = λ a b in_a in_b. record { each = λ k place low high. refl; beyond = λ place above. refl };
+      acks = λ a b in_a in_b. rw (node_new n silence a (rw (← len) in_a)) (λ k low. absurd (omega (arith, low)));
     };
   };
 }

@@ -34,6 +34,7 @@ node_unchanged a (AddTenant token row) v = refl
 node_unchanged a (Make token addr spec) v = refl
 node_unchanged a (OpenGroup token addr) v = refl
 node_unchanged a (ShutGroup token addr) v = refl
+node_unchanged a (DropGroup token addr) v = refl
 node_unchanged a (Say token addr payload) v = refl
 node_unchanged a (Fetch token addr from most) v = refl
 

@@ -1,5 +1,8 @@
 -- A packet is taken: what it does to a group.
-use Rattle.std.proofs.Common.{◌≡◌, ℕ, ◌+◌, ◌-◌, ◌<◌, ◌≤◌, List, [], ◌∷◌, ◌++◌, length, fold, Option, Some, None, Bool, true, false, not, ◌&&◌, ◌||◌, ◌⊎◌, inl, inr, refl, sym, ◌∙◌, ap, subst, arith}
+use Rattle.gb_link.specs.SendWindow.{SendWindow}
+use Rattle.gb_cluster.proofs.FinishedLemmas.{acks_same}
+use Rattle.gb_cluster.proofs.KeptAckLemmas.{acks_taken, acks-group_came}
+use Rattle.std.proofs.Common.{◌≡◌, ℕ, ◌+◌, ◌-◌, ◌<◌, ◌≤◌, List, [], ◌∷◌, ◌++◌, length, fold, Option, Some, None, Bool, true, false, not, ◌&&◌, ◌||◌, ◌⊎◌, inl, inr, refl, sym, ◌∙◌, ap, subst, arith, filter}
 use Rattle.std.specs.Prelude.{nat_eq, slice_get, if◌then◌else◌}
 use Rattle.std.proofs.lemmas.Bool.{cases_Bool, cases_eq, or_right}
 use Rattle.std.proofs.lemmas.Bool.Decides.{nat_tests}
@@ -20,8 +23,8 @@ use Rattle.gb_cluster.specs.NodeValue.{NodeValue}
 use Rattle.gb_rules.specs.Address.{is_addr}
 use Rattle.gb_record.specs.Project.{packet_at, frames, items_of, items_in, items_at, is_taken, is_acked, is_noticed, is_met, made_at, replies_to, is_new_ack, all_acknowledged, comes, arrived}
 use Rattle.gb_cluster.proofs.World.{World, node_of}
-use Rattle.gb_cluster.specs.NodeStep.{slot_for, newly_done, item_done, item_came, group_came, node_took}
-use Rattle.gb_cluster.proofs.Invariant.{Stands, AreMarked, MemberIs, Fits, NodeIs, IsOfFrame, Links}
+use Rattle.gb_cluster.specs.NodeStep.{slot_for, newly_done, item_done, item_came, group_came, node_took, admission_of}
+use Rattle.gb_cluster.proofs.Invariant.{Stands, AreMarked, MemberIs, Fits, NodeIs, IsOfFrame, Links, KeepsAcks, acks_in}
 use Rattle.gb_record.proofs.NumberLemmas.{offset}
 use Rattle.gb_cluster.proofs.AckLemmas.{Acked, all_acked, all_done-same, stands-done}
 use Rattle.gb_cluster.proofs.ComeLemmas.{Coming, nothing_comes, none_marked, one_comes}
@@ -234,6 +237,31 @@ module _ (w : World) (k : ℕ) (p : Packet) (good : Good) (is : IsGood w k p) (l
   turn_done b in_b (inr other) = marks_same g (frames p.to.number b w.packets w.steps) (λ n. is_acked p.to.number b n w.packets w.steps) (λ n. is_acked p.to.number b n (w.packets ++ []) (good_step k good ∷ w.steps)) ((group p.to.number).done b) ((next p.to.number).done b)
       (ap (λ (d : ℕ → List ℕ). d b) coming.done ∙ acked.elsewhere b other) (λ n some. acked_other w k p good is links p.to.number b n other) (fits.done p.to.number b is.framed.to in_b)
 
+  -- the acknowledgements that the slots keep
+  turn_acks : (b : ℕ) → b < length w.nodes → KeepsAcks g p.to.number b (frames p.to.number b w.packets w.steps) (λ n. is_acked p.to.number b n (w.packets ++ []) (good_step k good ∷ w.steps)) (acks_in (slot_for g after_node.group))
+  turn_acks b in_b = subst (KeepsAcks g p.to.number b (frames p.to.number b w.packets w.steps) after) (sym slots_kept)
+      (acks_taken g p.to.number p.from b (frames p.to.number b w.packets w.steps) back (λ n. covers p.base p.mask n) acked_before after (newly_done p (node_of w p.to.number)) (node_of w p.to.number).group (group p.to.number) (fits.stands p.to.number is.framed.to).slot
+      (ap (λ (ws : SendWindow Item). filter (λ u. covers p.base p.mask u.0) ws.undone) (node.sender p.from.number is.framed.from))
+      (λ same. (ap (λ c. frames p.to.number c w.packets w.steps) same, λ n some. ap (λ c. is_acked p.to.number c n (w.packets ++ []) (good_step k good ∷ w.steps)) same ∙ (acked_here w k p good is links n ∙ or_new (covers p.base p.mask n) (acked_before n))))
+      (acks_same g p.to.number b (frames p.to.number b w.packets w.steps) (λ n. is_acked p.to.number b n w.packets w.steps) (λ n. if nat_eq b p.from.number then acked_before n else after n) (acks_in (slot_for g (node_of w p.to.number).group)) (λ n some. by n some (cases_eq b p.from.number)) (fits.acks p.to.number b is.framed.to in_b)))
+    where
+      after : ℕ → Bool
+      after n = is_acked p.to.number b n (w.packets ++ []) (good_step k good ∷ w.steps)
+
+      acked_before : ℕ → Bool
+      acked_before n = is_acked p.to.number p.from.number n w.packets w.steps
+
+      by : (n : ℕ) → 1 ≤ n → ((b ≡ p.from.number) ⊎ (b ≡ p.from.number → ⊥)) → is_acked p.to.number b n w.packets w.steps ≡ (if nat_eq b p.from.number then acked_before n else after n)
+      by n some (inl same) = let on : nat_eq b p.from.number ≡ true = grind (arith, nat_tests, same) in ap (λ c. is_acked p.to.number c n w.packets w.steps) same ∙ sym (ap (λ t. if t then acked_before n else after n) on)
+      by n some (inr other) = let off : nat_eq b p.from.number ≡ false = grind (arith, nat_tests, other) in sym (acked_other w k p good is links p.to.number b n other) ∙ sym (ap (λ t. if t then acked_before n else after n) off)
+
+      slots_kept : acks_in (slot_for g after_node.group) ≡ acks_in (slot_for g mid_node.group)
+      slots_kept = ap (λ h. acks_in (slot_for g h)) (node_took-is p (node_of w p.to.number)).group ∙ framed_kept (nat_eq p.frame 0)
+        where
+          framed_kept : (bare : Bool) → acks_in (slot_for g (if bare then mid_node.group else group_came p (admission_of p (node_of w p.to.number)) mid_node.group)) ≡ acks_in (slot_for g mid_node.group)
+          framed_kept true = refl
+          framed_kept false = acks-group_came g p (admission_of p (node_of w p.to.number)) mid_node.group
+
   abbrev Turn : Group → List GroupStep → Type 0
   Turn later given = GroupTurn g w p.to.number after_node (good_step k good) [] group later given
 
@@ -245,6 +273,7 @@ module _ (w : World) (k : ℕ) (p : Packet) (good : Good) (is : IsGood w k p) (l
     member = turn_member;
     come = λ x in_x. turn_come x in_x (cases_eq x p.from.number);
     done = λ b in_b. turn_done b in_b (cases_eq b p.from.number);
+    acks = turn_acks;
   }
 
   given_is : arrived g (w.packets ++ []) w.steps (packet_at (w.packets ++ []) k) ≡ acks ++ items

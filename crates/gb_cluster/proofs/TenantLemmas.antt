@@ -10,7 +10,7 @@ use Rattle.gb_types.specs.declared.refusal.Refusal.TheVariants.{OverReserve, NoR
 use Rattle.gb_types.specs.declared.reply.Reply.{Reply}
 use Rattle.gb_types.specs.declared.reply.Reply.TheVariants.{Done, Refused}
 use Rattle.gb_types.specs.declared.request.Request.{Request}
-use Rattle.gb_types.specs.declared.request.Request.TheVariants.{AddTenant, Make, OpenGroup, ShutGroup, Say, Fetch}
+use Rattle.gb_types.specs.declared.request.Request.TheVariants.{AddTenant, Make, OpenGroup, ShutGroup, DropGroup, Say, Fetch}
 use Rattle.gb_types.specs.declared.spec.TenantRow.{TenantRow}
 use Rattle.gb_record.specs.declared.answer.Answer.TheVariants.{Reply as AnswerReply}
 use Rattle.gb_record.specs.declared.event.Event.TheVariants.{At}
@@ -25,7 +25,7 @@ use Rattle.gb_cluster.proofs.AskLemmas.{Before, AtNode, unconcerned, member_aske
 use Rattle.gb_cluster.proofs.MakeLemmas.{at_make}
 use Rattle.gb_cluster.proofs.MemberLemmas.{same_slot}
 use Rattle.gb_cluster.proofs.NodeLemmas.{same_stands}
-use Rattle.gb_cluster.proofs.RequestLemmas.{at_open, at_shut, at_say, at_fetch}
+use Rattle.gb_cluster.proofs.RequestLemmas.{at_open, at_shut, at_drop, at_say, at_fetch}
 use Rattle.gb_cluster.proofs.WorldLemmas.{after_there, after_elsewhere}
 
 pub row_done : (row : TenantRow) (o : Option TenantRow) → row_answer row o ≡ Done → o ≡ None
@@ -82,5 +82,6 @@ at_running nodes g a v group carried steps (AddTenant token row) running before 
 at_running nodes g a v group carried steps (Make token addr spec) running before free = at_make nodes g a v group carried steps token addr spec running before free
 at_running nodes g a v group carried steps (OpenGroup token addr) running before free = at_open nodes g a v group carried steps token addr running before
 at_running nodes g a v group carried steps (ShutGroup token addr) running before free = at_shut nodes g a v group carried steps token addr running before
+at_running nodes g a v group carried steps (DropGroup token addr) running before free = at_drop nodes g a v group carried steps token addr running before
 at_running nodes g a v group carried steps (Say token addr payload) running before free = at_say nodes g a v group carried steps token addr payload running before
 at_running nodes g a v group carried steps (Fetch token addr from most) running before free = at_fetch nodes g a v group carried steps token addr from most running before

@@ -1,5 +1,5 @@
 -- What holds of every cluster says that each group is isolated.
-use Rattle.std.proofs.Common.{◌≡◌, ℕ, length, Option, Some, None, sym, ◌∙◌, ap}
+use Rattle.std.proofs.Common.{◌≡◌, ℕ, length, Option, Some, None, sym, ◌∙◌, ap, inl, inr}
 use Rattle.std.proofs.Math.ListN.{length-set}
 use Rattle.gb_types.specs.declared.address.Addr.{Addr}
 use Rattle.gb_types.specs.declared.spec.Spec.{Spec}

@@ -1,5 +1,6 @@
 -- A tick: nodes that were silent for too long are noticed.
-use Rattle.std.proofs.Common.{◌≡◌, ℕ, ◌+◌, ◌<◌, ◌≤◌, List, [], ◌∷◌, ◌++◌, length, Option, Some, None, Bool, true, false, not, ◌&&◌, ◌||◌, refl, sym, ◌∙◌, ap, subst, arith}
+use Rattle.gb_cluster.proofs.KeptAckLemmas.{acks-group_noticed}
+use Rattle.std.proofs.Common.{◌≡◌, ℕ, ◌+◌, ◌<◌, ◌≤◌, List, [], ◌∷◌, ◌++◌, length, Option, Some, None, Bool, true, false, not, ◌&&◌, ◌||◌, refl, sym, ◌∙◌, ap, subst, arith, inl, inr, filter}
 use Rattle.std.specs.Prelude.{if◌then◌else◌, nat_eq, nat_lt, nat_le, filter, slice_index}
 use Rattle.std.specs.List.{range_with_len}
 use Rattle.std.specs.Option.{option_map}
@@ -30,15 +31,15 @@ use Rattle.gb_cluster.specs.NodeValue.{NodeValue}
 use Rattle.gb_record.specs.Project.{project, ticked, has_row, frames, items_of, is_taken, is_acked, is_noticed, is_stopped, is_met, made_at, watched, replies_to}
 use Rattle.gb_cluster.proofs.World.{World, node_of, world_after}
 use Rattle.gb_cluster.specs.NodeStep.{Part, only_answered, slot_for, slot_noticed_all, node_ticked}
-use Rattle.gb_cluster.proofs.Invariant.{Stands, AreMarked, MemberIs, is_concerned, Fits, NodeIs, Links, Invariant, window_of}
+use Rattle.gb_cluster.proofs.Invariant.{Stands, AreMarked, MemberIs, is_concerned, Fits, NodeIs, Links, Invariant, window_of, acks_in, SlotIs}
 use Rattle.gb_cluster.proofs.IdleLemmas.{idle_turn}
 use Rattle.gb_cluster.proofs.Told.{nothing_told, nothing}
-use Rattle.gb_cluster.proofs.MemberLemmas.{KeepsRest}
+use Rattle.gb_cluster.proofs.MemberLemmas.{KeepsRest, gone_noticed_all}
 use Rattle.gb_cluster.proofs.NodeLemmas.{same_carried}
 use Rattle.gb_cluster.proofs.NoticeLemmas.{all_noticed, notices_of, notices_there, notices_elsewhere, notices_keep, notices_legal, notices_mark, passing_marked, passing_rising}
-use Rattle.gb_cluster.proofs.SlotNoticeLemmas.{SlotFits, fits-all, slot_for-noticed}
+use Rattle.gb_cluster.proofs.SlotNoticeLemmas.{SlotFits, fits-all, slot_for-noticed, fits-gone}
 use Rattle.gb_cluster.proofs.StopLemmas.{unmet}
-use Rattle.gb_cluster.proofs.TurnLemmas.{turned, ActsAt, GroupTurn, frames_turned, taken_turned, acked_turned, untouched_link, links_turn, same_marks, holds_turn}
+use Rattle.gb_cluster.proofs.TurnLemmas.{turned, ActsAt, GroupTurn, frames_turned, taken_turned, acked_turned, untouched_link, links_turn, same_marks, acks_stay, holds_turn}
 use Rattle.gb_cluster.proofs.WorldLemmas.{eqb_self, eqb_apart_back}
 
 -- what a tick answers
@@ -107,8 +108,16 @@ fits_ticked : (nodes : ℕ) (a : NodeId) (v : NodeValue) (o : Option SlotState) 
     → SlotFits nodes a.number (option_map (λ s. slot_noticed_all s (rising (due v.watch))) o) (all_noticed a.number (newly a m.spec v) m) carried
 unfolding rising
 fits_ticked nodes a v None m carried was = subst (λ (bs : List ℕ). SlotFits nodes a.number None (all_noticed a.number bs m) carried) (sym (ap (λ (made : Option Spec). newly a made v) was.slot.spec ∙ none_passing (λ b. false) 0 NODES (λ q le. refl))) was
-fits_ticked nodes a v (Some s) m carried was = subst (λ (made : Option Spec). SlotFits nodes a.number (Some (slot_noticed_all s (rising (due v.watch)))) (all_noticed a.number (newly a made v) m) carried) (sym was.slot.spec)
-    (fits-all nodes a.number (fin.contains (due v.watch)) 0 NODES s.spec s m carried (omega arith) refl was)
+fits_ticked nodes a v (Some s) m carried was = by was.slot
+  where
+    found : List ℕ
+    found = filter (fin.contains (due v.watch)) (range_with_len 0 NODES)
+
+    by : SlotIs a.number (Some s) m → SlotFits nodes a.number (Some (slot_noticed_all s found)) (all_noticed a.number (newly a m.spec v) m) carried
+    by (inl st) = subst (λ (made : Option Spec). SlotFits nodes a.number (Some (slot_noticed_all s found)) (all_noticed a.number (newly a made v) m) carried) (sym st.spec)
+        (fits-all nodes a.number (fin.contains (due v.watch)) 0 NODES s.spec s m carried (omega arith) refl was)
+    by (inr st) = subst (λ (t : SlotState). SlotFits nodes a.number (Some t) (all_noticed a.number (newly a m.spec v) m) carried) (sym (ap (λ (t : SlotState). slot_noticed_all t found) st.nothing ∙ (gone_noticed_all found ∙ sym st.nothing)))
+        (fits-gone nodes a.number (newly a m.spec v) s m carried st.nothing was)
 
 stands_ticked : (nodes : ℕ) (g : Addr) (a : NodeId) (v : NodeValue) (m : Member) (made : Option Spec) (carried : ℕ → List Entry) → m.spec ≡ made → Stands nodes g a.number v m carried → Stands nodes g a.number (node_ticked v) (all_noticed a.number (newly a made v) m) carried
 stands_ticked nodes g a v m made carried is st =
@@ -140,6 +149,7 @@ tick_group g w a v group in_a here running links fits = record {
       (same_marks g (frames x a.number w.packets w.steps) (λ n. is_taken x a.number n w.packets w.steps) (λ n. is_taken x a.number n (w.packets ++ []) (s ∷ w.steps)) ((group a.number).come x) (λ n. sym (taken_turned w s [] links.numbered x a.number n)) (fits.come x a.number in_x in_a));
   done = λ b in_b. subst (AreMarked g (frames a.number b w.packets w.steps) (λ n. is_acked a.number b n (w.packets ++ []) (s ∷ w.steps))) (sym (ap (λ (m : Member). m.done b) there ∙ ap (λ (f : ℕ → List ℕ). f b) keeps.done))
       (same_marks g (frames a.number b w.packets w.steps) (λ n. is_acked a.number b n w.packets w.steps) (λ n. is_acked a.number b n (w.packets ++ []) (s ∷ w.steps)) ((group a.number).done b) (λ n. sym (acked_turned w s [] links.numbered a.number b n)) (fits.done a.number b in_a in_b));
+  acks = acks_stay g w a.number (node_ticked v) s [] group in_a fits (acks-group_noticed g (rising (due v.watch)) v.group ∙ ap (λ (u : NodeValue). acks_in (slot_for g u.group)) here) (λ b n. acked_turned w s [] links.numbered a.number b n);
 }
   where
     s : Step

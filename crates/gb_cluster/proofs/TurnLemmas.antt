@@ -14,8 +14,9 @@ use Rattle.gb_alone.specs.Alone.{Member, Group, alone, alone_from, is_marked, Is
 use Rattle.gb_cluster.specs.NodeValue.{NodeValue}
 use Rattle.gb_record.specs.Project.{project, gives, has_row, frames, frame_at, items_of, is_taken, is_taken_by, is_acked, is_acked_by, is_noticed, is_stopped, is_met, made_at, made_by, or_else, watched, watched_by, replies_to, is_served, is_turned_away}
 use Rattle.gb_cluster.proofs.World.{World, node_of}
-use Rattle.gb_cluster.specs.NodeStep.{no_node}
-use Rattle.gb_cluster.proofs.Invariant.{Stands, AreMarked, MemberIs, is_concerned, Fits, NodeIs, IsOfFrame, IsFramed, IsLink, Links, BehavesAlone, Invariant, window_of}
+use Rattle.gb_cluster.specs.NodeStep.{no_node, slot_for}
+use Rattle.gb_cluster.proofs.FinishedLemmas.{acks_same, acks_more}
+use Rattle.gb_cluster.proofs.Invariant.{Stands, AreMarked, KeepsAcks, acks_in, MemberIs, is_concerned, Fits, NodeIs, IsOfFrame, IsFramed, IsLink, Links, BehavesAlone, Invariant, window_of}
 use Rattle.gb_record.proofs.NumberLemmas.{IsNumbered, number_of, offset}
 use Rattle.gb_cluster.proofs.MarkLemmas.{or_off}
 use Rattle.gb_cluster.proofs.Told.{Told, told_of, nothing_told}
@@ -44,6 +45,7 @@ pub record GroupTurn (g : Addr) (w : World) (a : ℕ) (v : NodeValue) (s : Step)
   -- over the frames of before
   pub come : (x : ℕ) → x < length w.nodes → AreMarked g (frames x a w.packets w.steps) (λ n. is_taken x a n (w.packets ++ more) (s ∷ w.steps)) ((next a).come x)
   pub done : (b : ℕ) → b < length w.nodes → AreMarked g (frames a b w.packets w.steps) (λ n. is_acked a b n (w.packets ++ more) (s ∷ w.steps)) ((next a).done b)
+  pub acks : (b : ℕ) → b < length w.nodes → KeepsAcks g a b (frames a b w.packets w.steps) (λ n. is_acked a b n (w.packets ++ more) (s ∷ w.steps)) (acks_in (slot_for g v.group))
 
 -- Lists of what happened, after the step.
 
@@ -209,6 +211,7 @@ fits_turn g w a v s more group next given in_a links acts fits turn = record {
   member = λ x in_x. member_at x (rw (← len) in_x) (cases_eq x a);
   come = λ x y in_x in_y. grown x y (λ n. is_taken x y n (w.packets ++ more) (s ∷ w.steps)) ((next y).come x) (late_taken x y (rw (← len) in_x) (rw (← len) in_y)) (come_at x y (rw (← len) in_x) (rw (← len) in_y) (cases_eq y a));
   done = λ x y in_x in_y. grown_done x y (rw (← len) in_x) (rw (← len) in_y) (done_at x y (rw (← len) in_x) (rw (← len) in_y) (cases_eq x a));
+  acks = λ x y in_x in_y. grown_acks x y (rw (← len) in_x) (rw (← len) in_y) (cases_eq x a);
 }
   where
     nodes : ℕ
@@ -266,6 +269,25 @@ fits_turn g w a v s more group next given in_a links acts fits turn = record {
 
     grown_done : (x y : ℕ) → x < nodes → y < nodes → AreMarked g (frames x y w.packets w.steps) (λ n. is_acked x y n (w.packets ++ more) (s ∷ w.steps)) ((next x).done y) → AreMarked g (frames x y (w.packets ++ more) (s ∷ w.steps)) (λ n. is_acked x y n (w.packets ++ more) (s ∷ w.steps)) ((next x).done y)
     grown_done x y in_x in_y was = grown x y (λ n. is_acked x y n (w.packets ++ more) (s ∷ w.steps)) ((next x).done y) (late_acked x y in_x in_y) was
+
+    acks_at : (x y : ℕ) → x < nodes → y < nodes → ((x ≡ a) ⊎ (x ≡ a → ⊥)) → KeepsAcks g x y (frames x y w.packets w.steps) (λ n. is_acked x y n (w.packets ++ more) (s ∷ w.steps)) (acks_in (slot_for g (get_or (set w.nodes a v) x no_node).group))
+    acks_at x y in_x in_y (inl is) = subst (λ z. KeepsAcks g z y (frames z y w.packets w.steps) (λ n. is_acked z y n (w.packets ++ more) (s ∷ w.steps)) (acks_in (slot_for g (get_or (set w.nodes a v) z no_node).group))) (sym is)
+        (subst (λ (u : NodeValue). KeepsAcks g a y (frames a y w.packets w.steps) (λ n. is_acked a y n (w.packets ++ more) (s ∷ w.steps)) (acks_in (slot_for g u.group))) (sym (node_there w a v in_a)) (turn.acks y in_y))
+    acks_at x y in_x in_y (inr other) = subst (λ (u : NodeValue). KeepsAcks g x y (frames x y w.packets w.steps) (λ n. is_acked x y n (w.packets ++ more) (s ∷ w.steps)) (acks_in (slot_for g u.group))) (sym (node_elsewhere w a x v other))
+        (acks_same g x y (frames x y w.packets w.steps) (λ n. is_acked x y n w.packets w.steps) (λ n. is_acked x y n (w.packets ++ more) (s ∷ w.steps)) (acks_in (slot_for g (node_of w x).group))
+        (λ n some. sym (acked_turned w s more numbered x y n ∙ or_off _ _ (ap (λ (t : Told). t.acked y n) (acts.elsewhere x other)))) (fits.acks x y in_x in_y))
+
+    grown_acks : (x y : ℕ) → x < nodes → y < nodes → ((x ≡ a) ⊎ (x ≡ a → ⊥)) → KeepsAcks g x y (frames x y (w.packets ++ more) (s ∷ w.steps)) (λ n. is_acked x y n (w.packets ++ more) (s ∷ w.steps)) (acks_in (slot_for g (get_or (set w.nodes a v) x no_node).group))
+    grown_acks x y in_x in_y where_at =
+        subst (λ fs. KeepsAcks g x y fs (λ n. is_acked x y n (w.packets ++ more) (s ∷ w.steps)) (acks_in (slot_for g (get_or (set w.nodes a v) x no_node).group))) (sym (frames_turned w s more numbered x y))
+        (acks_more g x y (frames x y w.packets w.steps) (frame_at x y (w.packets ++ more) s.event s.answer) (λ n. is_acked x y n (w.packets ++ more) (s ∷ w.steps)) (acks_in (slot_for g (get_or (set w.nodes a v) x no_node).group)) (late_acked x y in_x in_y) (acks_at x y in_x in_y where_at))
+
+-- the slots of a node keep the acknowledgements that they kept, where the step leaves the slots' own and acknowledges nothing there
+pub acks_stay : (g : Addr) (w : World) (a : ℕ) (v : NodeValue) (s : Step) (more : List Packet) (group : Group) → a < length w.nodes → Fits g w group → acks_in (slot_for g v.group) ≡ acks_in (slot_for g (node_of w a).group)
+    → ((b n : ℕ) → is_acked a b n (w.packets ++ more) (s ∷ w.steps) ≡ is_acked a b n w.packets w.steps)
+    → (b : ℕ) → b < length w.nodes → KeepsAcks g a b (frames a b w.packets w.steps) (λ n. is_acked a b n (w.packets ++ more) (s ∷ w.steps)) (acks_in (slot_for g v.group))
+acks_stay g w a v s more group in_a fits slots still b in_b = subst (KeepsAcks g a b (frames a b w.packets w.steps) (λ n. is_acked a b n (w.packets ++ more) (s ∷ w.steps))) (sym slots)
+    (acks_same g a b (frames a b w.packets w.steps) (λ n. is_acked a b n w.packets w.steps) (λ n. is_acked a b n (w.packets ++ more) (s ∷ w.steps)) (acks_in (slot_for g (node_of w a).group)) (λ n some. sym (still b n)) (fits.acks a b in_a in_b))
 
 -- the cluster keeps what it holds through the step
 pub holds_turn : (w : World) (a : ℕ) (v : NodeValue) (s : Step) (more : List Packet) → a < length w.nodes → Invariant w → ActsAt w a s more → Links (turned w a v s more)

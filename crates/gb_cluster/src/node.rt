@@ -415,8 +415,40 @@ fn has_other_of(slot: &Slot, found: &NodeSet) -> bool
     false
 }
 
-/// Notices these nodes in the group, rising. Takes no memory where none of them is another member of it; without
+/// Notices these nodes in a slot, rising. Takes no memory where none of them is another member of its group; without
 /// memory nothing has changed.
+fn notice_in(slot: &mut Slot, found: &NodeSet) -> Result<(), OutOfMemory>
+    ensures ok { OnOk result (slot.new.state ≡ slot_noticed_all slot.old.state (rising found.now)) }
+    ensures err { OnErr result (slot.new.state ≡ slot.old.state) }
+    ensures lack { OnErr result (has_other_of slot.old.state (rising found.now) ≡ true) }
+{
+    if !has_other_of(slot, found) {
+        return Ok(());
+    }
+    slot.ready(found.count_in(found), 0)?;
+    notice_each(slot, found);
+    Ok(())
+}
+
+impl AddressedSlot {
+    /// Notices these nodes in the group, rising. Takes no memory where none of them is another member of it; without
+    /// memory nothing has changed.
+    #[tactic(auto, using(crate::proofs::MemberLemmas::gone_noticed_all))]
+    fn notice(&mut self, found: &NodeSet) -> Result<(), OutOfMemory>
+        ensures ok { OnOk result (Some (group_at self.new) ≡ group_noticed (rising found.now) (Some (group_at self.old))) }
+        ensures err { OnErr result (group_at self.new ≡ group_at self.old) }
+        ensures lack { OnErr result (is_concerned (Some (group_at self.old)) found.now ≡ true) }
+    {
+        let Some(slot) = &mut self.slot else {
+            return Ok(());
+        };
+        notice_in(slot, found)?;
+        Ok(())
+    }
+}
+
+/// Notices these nodes in the group, if there is one, rising. Takes no memory where none of them is another member of
+/// it; without memory nothing has changed.
 fn notice_all(group: &mut Option<AddressedSlot>, found: &NodeSet) -> Result<(), OutOfMemory>
     ensures ok { OnOk result (group_of group.new ≡ group_noticed (rising found.now) (group_of group.old)) }
     ensures err { OnErr result (group_of group.new ≡ group_of group.old) }
@@ -425,14 +457,7 @@ fn notice_all(group: &mut Option<AddressedSlot>, found: &NodeSet) -> Result<(), 
     let Some(hosted) = group else {
         return Ok(());
     };
-    let Some(slot) = &mut hosted.slot else {
-        return Ok(());
-    };
-    if !has_other_of(slot, found) {
-        return Ok(());
-    }
-    slot.ready(found.count_in(found), 0)?;
-    notice_each(slot, found);
+    hosted.notice(found)?;
     Ok(())
 }
 

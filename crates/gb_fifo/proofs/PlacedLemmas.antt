@@ -9,8 +9,6 @@ use Rattle.std.proofs.lemmas.Grind.{get_or-set_at}
 use Rattle.gb_types.specs.declared.limits.TheConstants.{NODES}
 use Rattle.std.proofs.lemmas.List.Folds.{list_any_at}
 use Rattle.std.proofs.lemmas.Option.{slice_get-get_or}
-use Rattle.gb_types.specs.declared.message.MsgId.{MsgId}
-use Rattle.gb_types.specs.Message.{same}
 use Rattle.gb_types.proofs.SameLemmas.{and-first, and-second}
 use Rattle.gb_layer.specs.declared.effects.Up.{Up}
 use Rattle.gb_layer.specs.Bools.{or_left, or_right}
@@ -37,12 +35,7 @@ none_after p (e ∷ es) zero h none = ap (λ b. b || list_any p es) (none zero e
 none_after p (e ∷ es) (suc i) h none =
     ap (λ b. b || list_any p es) (or_left (p e) _ h) ∙ none_after p es i (or_right (p e) _ h) (λ k x le at. none (suc k) x (omega (arith, le)) at)
 
--- the next message of an origin has the next number
-pub next_is : (s k : ℕ) (m : MsgId) (e : Entry) → m.origin.number ≡ s → m.seq ≡ k + 1 → is_next s k e ≡ true → same e.m m ≡ true
-next_is s k m e o n h =
-    (λ j. nat_eq e.m.origin.number (o j) && nat_eq e.m.seq (n j)) ∙ and-second (e.here && not e.given) _ h
-
--- its entry is of the origin
+-- the next entry of an origin is of that origin
 pub next_of_origin : (s k : ℕ) (e : Entry) → is_next s k e ≡ true → nat_eq e.m.origin.number s ≡ true
 next_of_origin s k e h = and-first _ (nat_eq e.m.seq (k + 1)) (and-second (e.here && not e.given) _ h)
 

@@ -14,7 +14,5 @@ mod number;
 pub mod packet;
 pub mod reading;
 mod tag;
-#[cfg(test)]
-mod tests;
 pub mod view;
 pub mod writing;

@@ -25,28 +25,34 @@ mod tests {
         let mut receiver = Receiver::new();
         for frame in 1..65u64 {
             assert!(rt; sender.room());
-            assert_eq!(rt; sender.push(frame)?, frame);
+            let number = sender.push(frame)?;
+            assert!(rt; number == frame);
             if frame % 2 == 0 {
-                assert_eq!(rt; receiver.admit(frame), Admission::First);
+                let answer = receiver.admit(frame);
+                assert!(rt; answer == Admission::First);
             }
         }
         let (base, mask) = receiver.ack();
         for even in 1..33u64 {
-            assert_eq!(rt; sender.acked(base, mask), Some((2 * even, 2 * even)));
+            let done = sender.acked(base, mask);
+            assert!(rt; done == Some((2 * even, 2 * even)));
         }
-        assert_eq!(rt; sender.acked(base, mask), None);
+        assert!(rt; sender.acked(base, mask).is_none());
         for odd in 0..32u64 {
             let number = 2 * odd + 1;
-            assert_eq!(rt;
-                sender.again(0).map(|found| (found.0, *found.1)),
-                Some((number, number))
-            );
-            assert_eq!(rt; receiver.admit(number), Admission::First);
+            let Some((again, frame)) = sender.again(0) else {
+                return Err(Fail::from("a frame is undone"));
+            };
+            assert!(rt; again == number && *frame == number);
+            let answer = receiver.admit(number);
+            assert!(rt; answer == Admission::First);
             let (base, mask) = receiver.ack();
-            assert_eq!(rt; sender.acked(base, mask), Some((number, number)));
+            let done = sender.acked(base, mask);
+            assert!(rt; done == Some((number, number)));
         }
         assert!(rt; sender.again(0).is_none());
-        assert_eq!(rt; receiver.ack(), (65, 0));
+        let acknowledgement = receiver.ack();
+        assert!(rt; acknowledgement == (65, 0));
         Ok(())
     }
 }

@@ -330,6 +330,3 @@ pub fn is_silent(line: &[u8]) -> bool
 pub fn silent_lines_spell_nothing()
     ensures { SilentLinesSpellNothing }
 {}
-
-#[cfg(test)]
-mod tests;

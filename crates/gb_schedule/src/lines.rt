@@ -261,6 +261,3 @@ impl LineBuffer {
         }
     }
 }
-
-#[cfg(test)]
-mod tests;

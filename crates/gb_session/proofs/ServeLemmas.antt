@@ -1,7 +1,7 @@
 -- How each request, each piece and the end move a session on.
-use Rattle.std.proofs.Common.{◌≡◌, ◌≢◌, ℕ, zero, suc, ◌+◌, ◌<◌, ◌≤◌, ◌==◌, Bool, true, false, List, [], ◌∷◌, ◌++◌, Option, Some, length, refl, sym, ap, ◌∙◌, subst, inl, inr, arith}
+use Rattle.std.proofs.Common.{◌≡◌, ◌≢◌, ℕ, zero, suc, ◌+◌, ◌<◌, ◌≤◌, ◌==◌, Bool, true, false, List, [], ◌∷◌, ◌++◌, Option, Some, length, refl, sym, ap, ◌∙◌, subst, inl, arith}
 use Rattle.std.specs.List.{flat_map}
-use Rattle.std.specs.Io.KnownBytes.{Appends, Consumes, IsAtEnd}
+use Rattle.std.specs.Io.KnownBytes.{Appends, Consumes}
 use Rattle.std.proofs.lemmas.Bool.{false≢true}
 use Rattle.std.proofs.lemmas.List.{append_assoc, append-nil, length-append}
 use Rattle.gb_types.specs.declared.reply.Reply.{Reply}
@@ -40,10 +40,6 @@ pub answered_limit : {S : Type 0} (answers : S → Request → Reply → S → T
     → HasAnswered answers s t requests left before after n m → m ≡ 1000000 → AnswersFirst answers s t requests before after n m true
 answered_limit answers s t requests left before after n m half last = (half.0, left, half.1, half.2, half.3, half.4, half.5, last)
 
-pub answered_all : {S : Type 0} (answers : S → Request → Reply → S → Type 0) (s t : S) (requests left : List Request) (before after : Option (List ℕ)) (n m : ℕ)
-    → HasAnswered answers s t requests left before after n m → m < 1000000 → left ≡ [] → AnswersFirst answers s t requests before after n m false
-answered_all answers s t requests left before after n m half few none = (half.0, left, half.1, half.2, half.3, half.4, half.5, (few, none))
-
 -- an answer whose reply was not written
 pub asked_one : {S : Type 0} (answers : S → Request → Reply → S → Type 0) (s t u : S) (requests left : List Request) (before now : Option (List ℕ)) (n m : ℕ) (request : Request) (reply : Reply)
     → HasAnswered answers s t requests left before now n m → answers t request reply u → HasAsked answers s u
@@ -53,20 +49,12 @@ asked_one answers s t u requests left before now n m request reply half step =
 pub asked_none : {S : Type 0} (answers : S → Request → Reply → S → Type 0) (s : S) → HasAsked answers s s
 asked_none answers s = ([], [], refl)
 
-pub asked_first : {S : Type 0} (answers : S → Request → Reply → S → Type 0) (s t : S) (requests : List Request) (before after : Option (List ℕ)) (n m : ℕ) (is_over : Bool)
-    → AnswersFirst answers s t requests before after n m is_over → HasAsked answers s t
-asked_first answers s t requests before after n m is_over first = (first.0, first.2, first.4)
-
 -- nothing was read yet
 pub served_none : {S : Type 0} (answers : S → Request → Reply → S → Type 0) (s : S) (input before : Option (List ℕ)) (feed : FeedValue) (count reads : ℕ) → feed ≡ record { begun = []; is_malformed = false } → count ≡ 0 → reads ≡ 0
     → HasServed answers s s input input before before feed count reads
 served_none answers s input before feed count reads is none none_yet =
     let fresh : HasGiven [] [] (record { begun = []; is_malformed = false }) = record { rest = []; holds = refl; stands = (refl, inl (omega arith)) } in
     ([], Consumes-none input, [], [], subst (HasGiven [] []) (sym is) fresh, ap (λ f. f.is_malformed) is, refl, Appends-none before, none, omega arith, omega arith)
-
-pub asked_served : {S : Type 0} (answers : S → Request → Reply → S → Type 0) (s t : S) (input unread before after : Option (List ℕ)) (feed : FeedValue) (count reads : ℕ)
-    → HasServed answers s t input unread before after feed count reads → HasAsked answers s t
-asked_served answers s t input unread before after feed count reads served = (served.2, served.3, served.6)
 
 pub asked_more : {S : Type 0} (answers : S → Request → Reply → S → Type 0) (s t u : S) (input unread before after : Option (List ℕ)) (feed : FeedValue) (count reads : ℕ)
     → HasServed answers s t input unread before after feed count reads → HasAsked answers t u → HasAsked answers s u
@@ -167,64 +155,6 @@ ends_in_piece answers s t u input unread unread' before now after feed feed' pie
     ends_malformed answers s t u input unread unread' before now ends.0 after feed feed' piece requests n m reads served read short gives ends.1 ends.2 ends.3
 ends_in_piece answers s t u input unread unread' before now after feed feed' piece requests n m reads Limit served read short gives ends =
     ends_limit answers s t u input unread unread' before now after feed feed' piece requests n m reads served read short gives ends
-
-no_bytes : (input unread unread' : Option (List ℕ)) (stream read : List ℕ) → Consumes input unread stream → Consumes unread unread' read → length read ≡ 0 → Consumes input unread' stream
-no_bytes input unread unread' stream [] here next none = subst (λ w. Consumes input unread' w) (append-nil stream) (Consumes-join input unread unread' stream [] here next)
-no_bytes input unread unread' stream (b ∷ read) here next none = absurd (omega arith)
-
-empty : (xs : List ℕ) → length xs ≡ 0 → xs ≡ []
-empty [] none = refl
-empty (x ∷ xs) none = absurd (omega arith)
-
--- the input ended between two messages
-pub ends_finished : {S : Type 0} (answers : S → Request → Reply → S → Type 0) (s t : S) (input unread unread' before after : Option (List ℕ)) (feed : FeedValue) (read : List ℕ) (n reads : ℕ)
-    → HasServed answers s t input unread before after feed n reads → Consumes unread unread' read → length read ≡ 0 → IsAtEnd unread' → length feed.begun ≡ 0
-    → IsSession answers s t input unread' before after Finished
-ends_finished answers s t input unread unread' before after feed read n reads served next none at_end between =
-    let rest = begun_rest feed served.0 served.2 served.5 served.4 in (
-      served.0,
-      no_bytes input unread unread' served.0 read served.1 next none,
-      served.2,
-      served.3,
-      served.4.rest,
-      served.4.holds,
-      served.6,
-      subst (λ w. Appends before after w) (sym (append-nil (flat_map reply_message served.3))) served.7,
-      (omega (arith, served.8, served.9), rest.0 ∙ empty feed.begun between, at_end),
-    )
-
--- the input ended inside a message
-pub ends_cut : {S : Type 0} (answers : S → Request → Reply → S → Type 0) (s t : S) (input unread unread' before after : Option (List ℕ)) (feed : FeedValue) (read : List ℕ) (n reads : ℕ)
-    → HasServed answers s t input unread before after feed n reads → Consumes unread unread' read → length read ≡ 0 → IsAtEnd unread' → length feed.begun ≢ 0
-    → IsSession answers s t input unread' before after Cut
-ends_cut answers s t input unread unread' before after feed read n reads served next none at_end inside =
-    let rest = begun_rest feed served.0 served.2 served.5 served.4 in (
-      served.0,
-      no_bytes input unread unread' served.0 read served.1 next none,
-      served.2,
-      served.3,
-      served.4.rest,
-      served.4.holds,
-      served.6,
-      subst (λ w. Appends before after w) (sym (append-nil (flat_map reply_message served.3))) served.7,
-      (omega (arith, served.8, served.9), λ is. inside (ap length (sym rest.0 ∙ is)), rest.1, at_end),
-    )
-
--- so many reads were made as may be
-pub ends_reads : {S : Type 0} (answers : S → Request → Reply → S → Type 0) (s t : S) (input unread before after : Option (List ℕ)) (feed : FeedValue) (n reads : ℕ)
-    → HasServed answers s t input unread before after feed n reads → 4000000 ≤ reads → IsSession answers s t input unread before after Limit
-ends_reads answers s t input unread before after feed n reads served many =
-    let rest = begun_rest feed served.0 served.2 served.5 served.4 in (
-      served.0,
-      served.1,
-      served.2,
-      served.3,
-      served.4.rest,
-      served.4.holds,
-      served.6,
-      subst (λ w. Appends before after w) (sym (append-nil (flat_map reply_message served.3))) served.7,
-      inr (omega (arith, served.8, served.9), rest.1, omega (arith, served.10)),
-    )
 
 -- a read that gave something
 pub some_bytes : (n : ℕ) (empty : Bool) → empty ≡ (n == 0) → empty ≡ false → 0 < n

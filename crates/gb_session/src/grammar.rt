@@ -167,6 +167,3 @@ pub fn parse_request(alloc: Global, body: &[u8]) -> Result<Request, Refusal>
         Err(OutOfMemory) => Err(Refusal::OutOfMemory),
     }
 }
-
-#[cfg(test)]
-mod tests;

@@ -232,6 +232,3 @@ pub fn serve<A: Answers, R: Read, W: Write>(
     }
     Ok(SessionEnd::Limit)
 }
-
-#[cfg(test)]
-mod tests;

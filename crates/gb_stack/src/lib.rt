@@ -3,14 +3,8 @@
 //! says that each stack keeps it, and `plain` computes it slowly, straight from its meaning.
 #![tactic(auto)]
 
-#[cfg(test)]
-mod fifo_tests;
 pub mod kinds;
-#[cfg(test)]
-mod layer_tests;
 pub mod plain;
 pub mod stack;
 pub mod stands;
-#[cfg(test)]
-mod tests;
 pub mod unordered;

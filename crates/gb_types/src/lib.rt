@@ -24,7 +24,5 @@ pub mod reply_text;
 pub mod request;
 pub mod request_words;
 pub mod spec;
-#[cfg(test)]
-mod tests;
 pub mod token_word;
 pub mod words;

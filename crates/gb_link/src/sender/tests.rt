@@ -2,104 +2,130 @@ use super::*;
 use std::process::Abort;
 use std::test::Fail;
 
-/// A sender that pushed frames 1, 2, 3, .., each of which holds ten times its number.
-fn with_frames(rt: &impl Abort, alloc: Global, count: u64) -> Result<Sender<u64>, OutOfMemory> {
-    let mut sender = Sender::new(alloc);
-    for number in 0..count {
-        let frame = number.wrapping_add(1).wrapping_mul(10);
-        assert!(rt; sender.room());
-        sender.push(frame)?;
-    }
-    Ok(sender)
+/// A call of a sender, and what it answers. `Pushed` is a number and its frame, `Again` a number, `Acked` base and mask.
+#[derive(Clone, Copy)]
+enum Told {
+    Room(bool),
+    Pushed(u64, u64),
+    Again(u64, Option<(u64, u64)>),
+    Acked(u64, u64, Option<(u64, u64)>),
 }
 
+/// Makes one call, and compares its answer.
+fn call(rt: &impl Abort, sender: &mut Sender<u64>, told: Told) -> Result<(), Fail> {
+    match told {
+        Told::Room(open) => {
+            let found = sender.room();
+            assert!(rt; found == open);
+        }
+        Told::Pushed(number, frame) => {
+            assert!(rt; sender.room());
+            let found = sender.push(frame)?;
+            assert!(rt; found == number);
+        }
+        Told::Again(number, frame) => {
+            let found = sender.again(number).map(|found| (found.0, *found.1));
+            assert!(rt; found == frame);
+        }
+        Told::Acked(base, mask, frame) => {
+            let found = sender.acked(base, mask);
+            assert!(rt; found == frame);
+        }
+    }
+    Ok(())
+}
+
+/// Pushes so many frames, 10, 20, 30, .., and then makes these calls.
+fn follow(
+    rt: &impl Abort,
+    sender: &mut Sender<u64>,
+    frames: u64,
+    calls: &[Told],
+) -> Result<(), Fail> {
+    for number in 1..=frames {
+        call(rt, sender, Told::Pushed(number, number.wrapping_mul(10)))?;
+    }
+    for told in calls {
+        call(rt, sender, *told)?;
+    }
+    Ok(())
+}
+
+/// Frame 65 is 64 above frame 1, and 66 above frame 2; frame 3 is done out of order.
 #[test]
 fn room_ends_with_the_window(rt: HostRuntime) -> Result<(), Fail> {
-    let mut sender = with_frames(&rt, rt.alloc(), 64)?;
-    assert!(rt; !sender.room(), "64 frames are undone");
-    assert_eq!(rt; sender.acked(1, 1 << 2), Some((3, 30)), "out of order");
-    assert!(rt; !sender.room(), "frame 65 is 64 above frame 1");
-    assert_eq!(rt; sender.acked(2, 0), Some((1, 10)));
-    assert!(rt; sender.room());
-    assert_eq!(rt; sender.push(650)?, 65);
-    assert!(rt; !sender.room(), "frame 66 is 64 above frame 2");
-    Ok(())
+    let calls = [
+        Told::Room(false),
+        Told::Acked(1, 1 << 2, Some((3, 30))),
+        Told::Room(false),
+        Told::Acked(2, 0, Some((1, 10))),
+        Told::Room(true),
+        Told::Pushed(65, 650),
+        Told::Room(false),
+    ];
+    follow(&rt, &mut Sender::new(rt.alloc()), 64, &calls)
 }
 
+/// Number 0 stands for the lowest one; frame 4 was never pushed, and what is done is not given again.
 #[test]
 fn a_frame_is_given_again(rt: HostRuntime) -> Result<(), Fail> {
-    let mut sender = with_frames(&rt, rt.alloc(), 3)?;
-    assert_eq!(rt;
-        sender.again(0).map(|found| (found.0, *found.1)),
-        Some((1, 10)),
-        "the lowest one"
-    );
-    assert_eq!(rt;
-        sender.again(3).map(|found| (found.0, *found.1)),
-        Some((3, 30))
-    );
-    assert!(rt; sender.again(4).is_none(), "never pushed");
-    assert_eq!(rt; sender.acked(2, 0), Some((1, 10)));
-    assert!(rt; sender.again(1).is_none(), "done");
-    assert_eq!(rt;
-        sender.again(0).map(|found| (found.0, *found.1)),
-        Some((2, 20))
-    );
-    assert_eq!(rt; sender.acked(4, 0), Some((2, 20)));
-    assert_eq!(rt; sender.acked(4, 0), Some((3, 30)));
-    assert!(rt; sender.again(0).is_none(), "all are done");
-    Ok(())
+    let calls = [
+        Told::Again(0, Some((1, 10))),
+        Told::Again(3, Some((3, 30))),
+        Told::Again(4, None),
+        Told::Acked(2, 0, Some((1, 10))),
+        Told::Again(1, None),
+        Told::Again(0, Some((2, 20))),
+        Told::Acked(4, 0, Some((2, 20))),
+        Told::Acked(4, 0, Some((3, 30))),
+        Told::Again(0, None),
+    ];
+    follow(&rt, &mut Sender::new(rt.alloc()), 3, &calls)
 }
 
 #[test]
 fn a_mask_of_all_ones_covers_its_base(rt: HostRuntime) -> Result<(), Fail> {
-    let mut sender = with_frames(&rt, rt.alloc(), 64)?;
+    let mut sender = Sender::new(rt.alloc());
+    follow(&rt, &mut sender, 64, &[])?;
     for number in 1..65u64 {
-        assert_eq!(rt; sender.acked(1, u64::MAX), Some((number, number * 10)));
+        let frame = Some((number, number * 10));
+        call(&rt, &mut sender, Told::Acked(1, u64::MAX, frame))?;
     }
-    assert_eq!(rt; sender.acked(1, u64::MAX), None);
-    Ok(())
+    call(&rt, &mut sender, Told::Acked(1, u64::MAX, None))
 }
 
+/// Bit 1 stands for base + 1; then come a repeated acknowledgement, a stale one, and one of a frame never pushed.
 #[test]
 fn stale_and_repeated_acknowledgements_cover_nothing_more(rt: HostRuntime) -> Result<(), Fail> {
-    let mut sender = with_frames(&rt, rt.alloc(), 5)?;
-    assert_eq!(rt; sender.acked(3, 2), Some((1, 10)));
-    assert_eq!(rt; sender.acked(3, 2), Some((2, 20)));
-    assert_eq!(rt;
-        sender.acked(3, 2),
-        Some((4, 40)),
-        "bit 1 stands for base + 1"
-    );
-    assert_eq!(rt; sender.acked(3, 2), None, "repeated");
-    assert_eq!(rt; sender.acked(2, 0), None, "stale");
-    assert_eq!(rt; sender.acked(1, 1 << 9), None, "10 was never pushed");
-    assert_eq!(rt; sender.again(0).map(|found| found.0), Some(3));
-    Ok(())
+    let calls = [
+        Told::Acked(3, 2, Some((1, 10))),
+        Told::Acked(3, 2, Some((2, 20))),
+        Told::Acked(3, 2, Some((4, 40))),
+        Told::Acked(3, 2, None),
+        Told::Acked(2, 0, None),
+        Told::Acked(1, 1 << 9, None),
+        Told::Again(0, Some((3, 30))),
+    ];
+    follow(&rt, &mut Sender::new(rt.alloc()), 5, &calls)
 }
 
+/// After the last frame there is no room, whatever is done; base + 1 passes 2^64.
 #[test]
 fn numbers_end_at_the_last_frame(rt: HostRuntime) -> Result<(), Fail> {
     let mut sender = Sender {
         next: LAST_FRAME - 1,
         undone: VecDeque::new(rt.alloc()),
     };
-    assert!(rt; sender.room());
-    assert_eq!(rt; sender.push('a')?, 18_446_744_073_709_551_613);
-    assert!(rt; sender.room());
-    assert_eq!(rt; sender.push('b')?, 18_446_744_073_709_551_614);
-    assert!(rt; !sender.room(), "the last frame was pushed");
-    assert_eq!(rt; sender.acked(1, u64::MAX), None, "far below");
-    assert_eq!(rt;
-        sender.acked(u64::MAX - 2, 2),
-        Some((LAST_FRAME, 'b')),
-        "base + 1"
-    );
-    assert_eq!(rt;
-        sender.acked(u64::MAX, u64::MAX),
-        Some((LAST_FRAME - 1, 'a')),
-        "base + 1 passes 2^64"
-    );
-    assert!(rt; !sender.room(), "and stays so");
-    Ok(())
+    let calls = [
+        Told::Room(true),
+        Told::Pushed(18_446_744_073_709_551_613, 1),
+        Told::Room(true),
+        Told::Pushed(18_446_744_073_709_551_614, 2),
+        Told::Room(false),
+        Told::Acked(1, u64::MAX, None),
+        Told::Acked(u64::MAX - 2, 2, Some((LAST_FRAME, 2))),
+        Told::Acked(u64::MAX, u64::MAX, Some((LAST_FRAME - 1, 1))),
+        Told::Room(false),
+    ];
+    follow(&rt, &mut sender, 0, &calls)
 }

@@ -1,6 +1,6 @@
 use Rattle.std.proofs.Common.{◌∙◌, ap, subst, sym, inr}
 use Rattle.gb_types.specs.declared.request.Request.{Request}
-use Rattle.gb_types.specs.declared.request.Request.TheVariants.{OpenGroup, ShutGroup, Say, Fetch}
+use Rattle.gb_types.specs.declared.request.Request.TheVariants.{OpenGroup, ShutGroup, DropGroup, Say, Fetch}
 use Rattle.gb_cluster.specs.Memory.{IsReplyTo}
 use Rattle.gb_cluster.specs.NodeValue.{NodeValue}
 use Rattle.gb_cluster.specs.NodeStep.{node_did, node_reply}
@@ -28,6 +28,15 @@ pub returns-in-ShutGroup-clause-reply : goal.returns-in-ShutGroup-clause-reply
 returns-in-ShutGroup-clause-reply c =
     subst (λ (q : Request). IsReplyTo q (node_reply c.args.nodes c.args.me.number c.args.self.now q) c.shut_group.result) (sym c.in-ShutGroup.is)
     (replied c.args.nodes c.args.me.number c.args.self.now (ShutGroup c.in-ShutGroup.field-0 c.in-ShutGroup.addr) c.shut_group.result (sym (ap (λ (v : NodeValue). v.stopped) c.self.view_is) ∙ c.if-self.false) (inr c.shut_group.ensures.reply))
+
+pub returns-in-DropGroup-clause-state : goal.returns-in-DropGroup-clause-state
+returns-in-DropGroup-clause-state c =
+    c.drop_group.ensures.state c.args.me c.in-DropGroup.field-0 ∙ ap (λ (r : Request). node_did c.args.me r c.drop_group.result c.args.self.now) (sym c.in-DropGroup.is)
+
+pub returns-in-DropGroup-clause-reply : goal.returns-in-DropGroup-clause-reply
+returns-in-DropGroup-clause-reply c =
+    subst (λ (q : Request). IsReplyTo q (node_reply c.args.nodes c.args.me.number c.args.self.now q) c.drop_group.result) (sym c.in-DropGroup.is)
+    (replied c.args.nodes c.args.me.number c.args.self.now (DropGroup c.in-DropGroup.field-0 c.in-DropGroup.addr) c.drop_group.result (sym (ap (λ (v : NodeValue). v.stopped) c.self.view_is) ∙ c.if-self.false) (inr c.drop_group.ensures.reply))
 
 pub returns-in-Say-clause-state : goal.returns-in-Say-clause-state
 returns-in-Say-clause-state c =

@@ -1,0 +1,21 @@
+use Rattle.std.proofs.Common.{◌≤◌, [], ◌∷◌, length, refl, arith, ◌∙◌}
+use Rattle.std.proofs.lemmas.List.Elements.{All-nil, All-cons}
+use Rattle.gb_types.specs.declared.limits.TheConstants.{PAYLOAD}
+use Rattle.gb_frame.specs.declared.item.Item.{Item}
+use Rattle.gb_frame.specs.Spelling.{IsItem}
+use Rattle.gb_part_examples.proofs.packets.a_frame_is_wrapped.Goals as goal
+
+pub wrap-requires-clause-packet : goal.wrap-requires-clause-packet
+wrap-requires-clause-packet g c =
+    let item : Item = record { tenant = 7; group = 1; origin = 0; seq = 1; payload = 97 ∷ [] } in (
+      item ∷ [],
+      record { parts = c.deref.ensures.value ∙ c.put_item.ensures.written ∙ (rw c.in_ok-frame.ensures.items refl); fit = All-cons IsItem item [] c.put_item.ensures.fits (All-nil IsItem) },
+      record {
+        apart = λ e. absurd (omega (arith, e));
+        base = omega arith;
+        mask = refl;
+        frame = (λ e. absurd (omega (arith, e)), λ e. absurd (omega (arith, e)));
+        payloads = All-cons (λ (i : Item). length i.payload ≤ PAYLOAD) item [] (omega arith) (All-nil (λ (i : Item). length i.payload ≤ PAYLOAD));
+        room = omega arith;
+      },
+    )

@@ -1,0 +1,133 @@
+//! Keyed hashes and tokens beside published values and those of another implementation.
+use gb_cap::hmac::{HmacKey, Key, Mac, hmac};
+use gb_cap::token::{Need, admits, token};
+use gb_types::node::NodeId;
+use hex::FromHex;
+use std::process::Abort;
+use std::test::Fail;
+
+fn bytes(digits: &str) -> Result<[u8; 32], Fail> {
+    Ok(<[u8; 32] as FromHex>::from_hex(digits)?)
+}
+
+/// The key of tenant 7 in the examples.
+fn key_of_seven() -> Key {
+    let mut key = [0x33; 32];
+    key[30] = 0;
+    key[31] = 7;
+    key
+}
+
+/// Compares a keyed hash with its digits.
+fn compare(rt: &impl Abort, key: &[u8], text: &[u8], digits: &str) -> Result<(), Fail> {
+    let told: Mac = bytes(digits)?;
+    assert!(rt; key.len() <= 64);
+    let found = hmac(key, text);
+    assert!(rt; found == told);
+    Ok(())
+}
+
+/// The first four test cases of RFC 4231.
+#[test]
+fn published_values(rt: HostRuntime) -> Result<(), Fail> {
+    compare(
+        &rt,
+        &[0x0b; 20],
+        b"Hi There",
+        "b0344c61d8db38535ca8afceaf0bf12b881dc200c9833da726e9376c2e32cff7",
+    )?;
+    compare(
+        &rt,
+        b"Jefe",
+        b"what do ya want for nothing?",
+        "5bdcc146bf60754e6a042426089575c75a003f089d2739839dec58b964ec3843",
+    )?;
+    compare(
+        &rt,
+        &[0xaa; 20],
+        &[0xdd; 50],
+        "773ea91e36800e46854db8ebd09181a72959098b3ef8c122d9635514ced565fe",
+    )?;
+    let mut counted = [0; 25];
+    for i in 0..25 {
+        counted[i] = i as u8 + 1;
+    }
+    compare(
+        &rt,
+        &counted,
+        &[0xcd; 50],
+        "82558a389a443c0ea4cc819899f2083a85f0faa3e578f8077a2e3ff46729665b",
+    )
+}
+
+/// A key that is used again gives what `hmac` gives.
+#[test]
+fn one_key_for_two_texts(rt: HostRuntime) {
+    let key = HmacKey::new(&key_of_seven());
+    for text in [b"one".as_slice(), &[7; 200]] {
+        let kept = key.hmac(text);
+        let found = hmac(&key_of_seven(), text);
+        assert!(rt; kept == found);
+    }
+}
+
+/// Compares a token with its digits.
+fn compare_token(rt: &impl Abort, key: &Key, need: Need, digits: &str) -> Result<(), Fail> {
+    let told: Mac = bytes(digits)?;
+    let found = token(key, need);
+    assert!(rt; found == told);
+    Ok(())
+}
+
+/// Compares the token of a member of tenant 7 with its digits. It is admitted, and the tenant's own is not.
+fn compare_member(rt: &impl Abort, node: NodeId, digits: &str) -> Result<(), Fail> {
+    let key = key_of_seven();
+    let need = Need::Member(7, 1, node);
+    compare_token(rt, &key, need, digits)?;
+    let told: Mac = bytes(digits)?;
+    let admitted = admits(&key, need, &told);
+    assert!(rt; admitted);
+    let tenant = token(&key, Need::Tenant(7));
+    let admitted = admits(&key, need, &tenant);
+    assert!(rt; !admitted);
+    Ok(())
+}
+
+/// Tokens that another implementation made.
+#[test]
+fn tokens(rt: HostRuntime) -> Result<(), Fail> {
+    let admin = "674e623760cac750ae766b788c59c762f116bab90bcfb901f9c20ac06448c55d";
+    compare_token(&rt, &[0x22; 32], Need::Admin, admin)?;
+    let tenant = "86f04bb42771f115055ad668878e557e4ed8f7c54b3ec303508c086e4fccdbd2";
+    compare_token(&rt, &key_of_seven(), Need::Tenant(7), tenant)?;
+    for (number, digits) in [
+        (
+            0,
+            "58135baf6b1807d1f390b8426f3aab76b4c50950084d39f8f60e3219822699be",
+        ),
+        (
+            1,
+            "86bbf702100fb0f083bc373f03aa65d0602cf69962b3468624521c9eb4d0989c",
+        ),
+        (
+            2,
+            "0f10d656f23c1eeb9826a3c21cd1d0dbe9e472f3d99e83a9d89115b620c20008",
+        ),
+    ] {
+        let node = NodeId::from_number(number).ok_or("a node")?;
+        compare_member(&rt, node, digits)?;
+    }
+    Ok(())
+}
+
+/// A token with any one byte changed is refused.
+#[test]
+fn each_byte_counts(rt: HostRuntime) {
+    let good = token(&key_of_seven(), Need::Tenant(7));
+    for i in 0..32 {
+        let mut bad = good;
+        bad[i] ^= 1;
+        let admitted = admits(&key_of_seven(), Need::Tenant(7), &bad);
+        assert!(rt; !admitted);
+    }
+}

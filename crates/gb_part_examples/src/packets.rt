@@ -1,0 +1,306 @@
+//! Packets: what is written and read, each fault, and each limit at its last allowed and first refused value.
+use gb_cap::hmac::HmacKey;
+use gb_frame::fault::PacketFault;
+use gb_frame::item::{Item, ItemView, first_item, put_item};
+use gb_frame::packet::{Head, Packet};
+use gb_frame::reading::decode;
+use gb_frame::writing::{encode, wrap};
+use gb_types::memory::OutOfMemory;
+use gb_types::node::NodeId;
+use gb_types::payload::Payload;
+use std::alloc::Global;
+use std::process::Abort;
+use std::test::Fail;
+
+/// A packet of node 0 to node 1: frame 1 with one item, before its tag.
+const BODY: &str =
+    "4742010001000000000000000100000000000000000000000000000001000100070001000001000161";
+
+/// The same with its tag under `key`.
+const TEXT: &str =
+    "4742010001000000000000000100000000000000000000000000000001000100070001000001000161185b249b24f186ab";
+
+/// An acknowledgement of node 1 to node 0 after frame 2 came and frame 1 did not, with its tag.
+const ACKNOWLEDGEMENT: &str =
+    "474201010000000000000000010000000000000002000000000000000000007b6df7ba3c0f6a12";
+
+/// The payloads of a packet of 8,192 bytes.
+const LONGEST: [u16; 8] = [1_024, 1_024, 1_024, 1_024, 1_024, 1_024, 1_024, 913];
+
+fn key() -> HmacKey {
+    HmacKey::new(&[0x11; 32])
+}
+
+fn bytes(alloc: Global, digits: &str) -> Result<Vec<u8>, Fail> {
+    Ok(hex::decode(alloc, digits)?)
+}
+
+/// A message of group 1 of tenant 7, of so many bytes `a`.
+fn item(alloc: Global, len: u16) -> Result<Item, OutOfMemory> {
+    let mut payload = Vec::new(alloc);
+    for _ in 0..len {
+        payload.push(b'a')?;
+    }
+    Ok(Item {
+        tenant: 7,
+        group: 1,
+        origin: 0,
+        seq: 1,
+        payload: Payload::from(payload),
+    })
+}
+
+/// A packet of node 0 to node 1 with items of these payloads, in frame 1.
+fn packet(alloc: Global, payloads: &[u16]) -> Result<Packet, OutOfMemory> {
+    let mut items = Vec::new(alloc);
+    for len in payloads {
+        items.push(item(alloc, *len)?)?;
+    }
+    Ok(Packet {
+        from: NodeId { number: 0 },
+        to: NodeId { number: 1 },
+        base: 1,
+        mask: 0,
+        frame: 1,
+        items,
+    })
+}
+
+/// The packet's text, if it can be written.
+fn written(alloc: Global, packet: &Packet) -> Result<Option<Vec<u8>>, OutOfMemory> {
+    if !packet.is_within_limits() {
+        return Ok(None);
+    }
+    Ok(Some(encode(alloc, packet, &key())?))
+}
+
+/// A text like `BODY`, with items of these payloads, and eight zero bytes in place of the tag.
+fn shaped(alloc: Global, payloads: &[u16]) -> Result<Vec<u8>, Fail> {
+    let mut text = bytes(alloc, BODY)?;
+    text.truncate(31);
+    if let Some(count) = text.last_mut() {
+        *count = payloads.len().min(255) as u8;
+    }
+    for payload in payloads {
+        let len = payload.to_be_bytes();
+        text.extend_from_slice(&[0, 7, 0, 1, 0, 0, 1, len[0], len[1]])?;
+        for _ in 0..*payload {
+            text.push(0x61)?;
+        }
+    }
+    text.extend_from_slice(&[0; 8])?;
+    Ok(text)
+}
+
+/// The same with the one item of `BODY`, and one byte changed.
+fn changed(alloc: Global, at: usize, byte: u8) -> Result<Vec<u8>, Fail> {
+    let mut text = shaped(alloc, &[1])?;
+    if let Some(place) = text.get_mut(at) {
+        *place = byte;
+    }
+    Ok(text)
+}
+
+fn fault_of(text: &[u8]) -> Option<PacketFault> {
+    decode(text, &key()).err()
+}
+
+/// Compares a packet's text with its digits.
+fn compare(rt: &impl Abort, alloc: Global, packet: &Packet, digits: &str) -> Result<(), Fail> {
+    let text = written(alloc, packet)?.ok_or("within limits")?;
+    let told = bytes(alloc, digits)?;
+    assert!(rt; text.as_slice() == told.as_slice());
+    Ok(())
+}
+
+#[test]
+fn one_item(rt: HostRuntime) -> Result<(), Fail> {
+    let packet = packet(rt.alloc(), &[1])?;
+    compare(&rt, rt.alloc(), &packet, TEXT)
+}
+
+#[test]
+fn acknowledgement(rt: HostRuntime) -> Result<(), Fail> {
+    let packet = Packet {
+        from: NodeId { number: 1 },
+        to: NodeId { number: 0 },
+        base: 1,
+        mask: 2,
+        frame: 0,
+        items: Vec::new(rt.alloc()),
+    };
+    compare(&rt, rt.alloc(), &packet, ACKNOWLEDGEMENT)
+}
+
+/// An item is written into a frame, and the frame is wrapped.
+#[test]
+fn a_frame_is_wrapped(rt: HostRuntime) -> Result<(), Fail> {
+    let alloc = rt.alloc();
+    let item = ItemView {
+        tenant: 7,
+        group: 1,
+        origin: 0,
+        seq: 1,
+        payload: b"a",
+    };
+    let mut frame = Vec::with_capacity(alloc, 10)?;
+    put_item(item, &mut frame);
+    let head = Head {
+        from: NodeId { number: 0 },
+        to: NodeId { number: 1 },
+        base: 1,
+        mask: 0,
+        frame: 1,
+    };
+    let mut text = Vec::with_capacity(alloc, 49)?;
+    wrap(head, &frame, &key(), &mut text);
+    let told = bytes(alloc, TEXT)?;
+    assert!(rt; text.as_slice() == told.as_slice());
+    let Some((first, rest)) = first_item(&frame) else {
+        return Err(Fail::from("an item stands there"));
+    };
+    assert!(rt; first.payload == b"a".as_slice());
+    assert!(rt; rest.is_empty());
+    Ok(())
+}
+
+#[test]
+fn what_was_written_is_read(rt: HostRuntime) -> Result<(), Fail> {
+    let text = bytes(rt.alloc(), TEXT)?;
+    let Ok(read) = decode(&text, &key()) else {
+        return Err(Fail::from("the text is a packet's"));
+    };
+    let told = Head {
+        from: NodeId { number: 0 },
+        to: NodeId { number: 1 },
+        base: 1,
+        mask: 0,
+        frame: 1,
+    };
+    let head = read.head();
+    assert!(rt; head == told);
+    let mut items = 0;
+    for item in read.items() {
+        let numbers = (item.tenant, item.group, item.origin, item.seq);
+        assert!(rt; numbers == (7, 1, 0, 1));
+        assert!(rt; item.payload == b"a".as_slice());
+        assert!(rt; items == 0);
+        items += 1;
+    }
+    assert!(rt; items == 1);
+    Ok(())
+}
+
+#[test]
+fn what_has_no_items_is_read(rt: HostRuntime) -> Result<(), Fail> {
+    let text = bytes(rt.alloc(), ACKNOWLEDGEMENT)?;
+    let Ok(bare) = decode(&text, &key()) else {
+        return Err(Fail::from("the text is a packet's"));
+    };
+    let head = bare.head();
+    assert!(rt; head.mask == 2 && head.frame == 0);
+    assert!(rt; bare.items().next().is_none());
+    Ok(())
+}
+
+#[test]
+fn cut_short(rt: HostRuntime) -> Result<(), Fail> {
+    let found = fault_of(&[]);
+    assert!(rt; found == Some(PacketFault::Short));
+    let text = shaped(rt.alloc(), &[1])?;
+    assert!(rt; text.len() == 49);
+    for len in 1..39 {
+        let found = fault_of(&text[..len]);
+        assert!(rt; found == Some(PacketFault::Short));
+    }
+    for len in 39..49 {
+        let found = fault_of(&text[..len]);
+        assert!(rt; found == Some(PacketFault::Length));
+    }
+    Ok(())
+}
+
+/// Each fault, and the bytes of a header at their last good value and one beyond it.
+#[test]
+fn each_fault(rt: HostRuntime) -> Result<(), Fail> {
+    for (at, byte, fault) in [
+        (0, 0x00, PacketFault::Magic),
+        (2, 0x02, PacketFault::Version),
+        (4, 0x00, PacketFault::Node),
+        (4, 15, PacketFault::Tag),
+        (4, 16, PacketFault::Node),
+        (3, 15, PacketFault::Tag),
+        (3, 16, PacketFault::Node),
+        (20, 0x01, PacketFault::Mask),
+        (20, 0xfe, PacketFault::Tag),
+        (12, 0x00, PacketFault::Mask),
+        (28, 0x00, PacketFault::Count),
+        (30, 0x00, PacketFault::Count),
+        (29, 0xff, PacketFault::Length),
+        (38, 0x04, PacketFault::Length),
+    ] {
+        let text = changed(rt.alloc(), at, byte)?;
+        let found = fault_of(&text);
+        assert!(rt; found == Some(fault));
+    }
+    let mut longer = shaped(rt.alloc(), &[1])?;
+    let found = fault_of(&longer);
+    assert!(rt; found == Some(PacketFault::Tag));
+    longer.push(0)?;
+    let found = fault_of(&longer);
+    assert!(rt; found == Some(PacketFault::Trailing));
+    let long = shaped(rt.alloc(), &[1_024; 8])?;
+    assert!(rt; long.len() == 8_303);
+    let found = fault_of(&long);
+    assert!(rt; found == Some(PacketFault::TooLong));
+    Ok(())
+}
+
+#[test]
+fn last_byte_of_the_tag(rt: HostRuntime) -> Result<(), Fail> {
+    let mut text = bytes(rt.alloc(), TEXT)?;
+    let found = fault_of(&text);
+    assert!(rt; found.is_none());
+    if let Some(last) = text.last_mut() {
+        *last ^= 1;
+    }
+    let found = fault_of(&text);
+    assert!(rt; found == Some(PacketFault::Tag));
+    Ok(())
+}
+
+/// The longest payload is 1,024 bytes, when it is written and when it is read.
+#[test]
+fn longest_payload(rt: HostRuntime) -> Result<(), Fail> {
+    let alloc = rt.alloc();
+    for (len, within, fault) in [
+        (1_024, true, PacketFault::Tag),
+        (1_025, false, PacketFault::Length),
+    ] {
+        let text = written(alloc, &packet(alloc, &[len])?)?;
+        assert!(rt; text.is_some() == within);
+        let text = shaped(alloc, &[len])?;
+        let found = fault_of(&text);
+        assert!(rt; found == Some(fault));
+    }
+    Ok(())
+}
+
+/// The longest packet is 8,192 bytes, when it is written and when it is read.
+#[test]
+fn longest_packet(rt: HostRuntime) -> Result<(), Fail> {
+    let alloc = rt.alloc();
+    let text = written(alloc, &packet(alloc, &LONGEST)?)?.ok_or("within limits")?;
+    assert!(rt; text.len() == 8_192);
+    let found = fault_of(&text);
+    assert!(rt; found.is_none());
+    let mut payloads = LONGEST;
+    payloads[7] = 914;
+    let text = written(alloc, &packet(alloc, &payloads)?)?;
+    assert!(rt; text.is_none());
+    let text = shaped(alloc, &payloads)?;
+    assert!(rt; text.len() == 8_193);
+    let found = fault_of(&text);
+    assert!(rt; found == Some(PacketFault::TooLong));
+    Ok(())
+}

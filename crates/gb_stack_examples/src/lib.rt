@@ -1,0 +1,10 @@
+//! Worked uses of the broadcasts and their layers, as tests: each stack beside the plain program of its kind, and lists
+//! worked out by hand. There is nothing here but tests.
+#![tactic(auto)]
+
+#[cfg(test)]
+mod layers;
+#[cfg(test)]
+mod order;
+#[cfg(test)]
+mod stacks;

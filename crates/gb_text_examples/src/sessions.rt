@@ -1,0 +1,351 @@
+//! Whole sessions, over readers and writers in memory that give and take bytes in pieces, and that fail.
+ghost use Rattle.std.specs.Prelude.{◌≡◌};
+ghost use Rattle.gb_types.specs.declared.refusal.Refusal.TheVariants as refusals;
+ghost use Rattle.gb_types.specs.declared.reply.Reply.TheVariants.{Refused};
+
+use gb_session::answers::Answers;
+use gb_session::serve::{SessionEnd, SessionFault, serve};
+use gb_types::refusal::Refusal;
+use gb_types::reply::Reply;
+use gb_types::request::Request;
+use std::alloc::Global;
+use std::io::{ErrorKind, Read, Write};
+use std::test::Fail;
+use std::{cmp, io};
+
+/// Answers as a node without tenants does.
+#[derive(Drop)]
+struct Denies;
+
+impl Answers for Denies {
+    ghost answers = { λ s request reply t. reply ≡ Refused refusals.Denied };
+
+    fn answer(&mut self, _request: Request) -> Reply {
+        Reply::Refused(Refusal::Denied)
+    }
+}
+
+/// Gives bytes by pieces of at most so many, and fails where `fails` is set and they are at their end. Each other
+/// read is interrupted.
+#[derive(Drop)]
+struct Pieces<'a> {
+    bytes: &'a [u8],
+    piece: usize,
+    fails: bool,
+    is_interrupted: bool,
+}
+
+impl Read for Pieces<'_> {
+    fn read(&mut self, buf: &mut [u8]) -> io::Result<usize> {
+        self.is_interrupted = !self.is_interrupted;
+        if self.is_interrupted {
+            return Err(ErrorKind::Interrupted.into());
+        }
+        let bytes = self.bytes;
+        if bytes.is_empty() && self.fails {
+            return Err(ErrorKind::Other.into());
+        }
+        let count = cmp::min(cmp::min(self.piece, bytes.len()), buf.len());
+        buf[..count].copy_from_slice(&bytes[..count]);
+        self.bytes = &bytes[count..];
+        Ok(count)
+    }
+}
+
+/// Takes so many bytes, and then fails.
+#[derive(Drop)]
+struct Space {
+    taken: Vec<u8>,
+    left: usize,
+}
+
+impl Write for Space {
+    fn write(&mut self, buf: &[u8]) -> io::Result<usize> {
+        let count = cmp::min(self.left, buf.len());
+        if count == 0 && !buf.is_empty() {
+            return Err(ErrorKind::Other.into());
+        }
+        self.taken.extend_from_slice(&buf[..count])?;
+        self.left -= count;
+        Ok(count)
+    }
+
+    fn flush(&mut self) -> io::Result<()> {
+        Ok(())
+    }
+}
+
+/// What is read, what is written, and how the session ends.
+type Case = (&'static [u8], &'static [u8], SessionEnd);
+
+const NOTHING: Case = (b"", b"", SessionEnd::Finished);
+
+const NO_REQUEST: Case = (
+    b"\x00\x00\x00\x03hey",
+    b"\x00\x00\x00\x14refused 14 Malformed",
+    SessionEnd::Malformed,
+);
+
+const ONE_REQUEST: Case = (
+    b"\x00\x00\x00\x49open 0000000000000000000000000000000000000000000000000000000000000000 7 1",
+    b"\x00\x00\x00\x10refused 1 Denied",
+    SessionEnd::Finished,
+);
+
+const CUT_IN_A_LENGTH: Case = (
+    b"\x00\x00\x00\x49open 0000000000000000000000000000000000000000000000000000000000000000 7 1\x00\x00\x00",
+    b"\x00\x00\x00\x10refused 1 Denied",
+    SessionEnd::Cut,
+);
+
+const TOO_LONG: Case = (
+    b"\x00\x00\x10\x01",
+    b"\x00\x00\x00\x14refused 14 Malformed",
+    SessionEnd::Malformed,
+);
+
+const REQUEST_BEFORE_A_MALFORMED_ONE: Case = (
+    b"\x00\x00\x00\x49open 0000000000000000000000000000000000000000000000000000000000000000 7 1\x00\x00\x00\x00more",
+    b"\x00\x00\x00\x10refused 1 Denied\x00\x00\x00\x14refused 14 Malformed",
+    SessionEnd::Malformed,
+);
+
+fn in_pieces(bytes: &[u8], piece: usize, fails: bool) -> Pieces<'_> {
+    Pieces {
+        bytes,
+        piece,
+        fails,
+        is_interrupted: false,
+    }
+}
+
+fn with_space(alloc: Global, left: usize) -> Space {
+    Space {
+        taken: Vec::new(alloc),
+        left,
+    }
+}
+
+/// Holds a session, by pieces of so many bytes.
+fn is_held(alloc: Global, case: &Case, piece: usize) -> Result<bool, SessionFault> {
+    let (read, written, end) = *case;
+    let mut out = with_space(alloc, 1_000);
+    let found = serve(
+        alloc,
+        &mut Denies,
+        &mut in_pieces(read, piece, false),
+        &mut out,
+    )?;
+    Ok(found == end && out.taken.as_slice() == written)
+}
+
+#[test]
+fn sessions_in_any_pieces(rt: HostRuntime) -> Result<(), Fail> {
+    let alloc = rt.alloc();
+    for case in [
+        NOTHING,
+        NO_REQUEST,
+        ONE_REQUEST,
+        CUT_IN_A_LENGTH,
+        TOO_LONG,
+        REQUEST_BEFORE_A_MALFORMED_ONE,
+    ] {
+        for piece in [1, 2, 3, 7, 100] {
+            let held = is_held(alloc, &case, piece)?;
+            assert!(rt; held);
+        }
+    }
+    Ok(())
+}
+
+#[test]
+fn a_failed_read_or_write_ends_the_session(rt: HostRuntime) -> Result<(), Fail> {
+    let alloc = rt.alloc();
+    let (read, written, _) = ONE_REQUEST;
+    let mut out = with_space(alloc, 1_000);
+    let end = serve(alloc, &mut Denies, &mut in_pieces(read, 7, true), &mut out);
+    assert!(rt; end == Err(SessionFault::Read));
+    assert!(rt; out.taken.as_slice() == written);
+    let mut out = with_space(alloc, 10);
+    let end = serve(alloc, &mut Denies, &mut in_pieces(read, 7, false), &mut out);
+    assert!(rt; end == Err(SessionFault::Write));
+    Ok(())
+}
+
+/// A request, as it stands in a stream.
+const OPEN: [u8; 77] =
+    *b"\x00\x00\x00\x49open 0000000000000000000000000000000000000000000000000000000000000000 7 1";
+
+/// The reply to it, as it stands in a stream.
+const DENIED: [u8; 20] = *b"\x00\x00\x00\x10refused 1 Denied";
+
+/// A message that spells no request.
+const HEY: &[u8] = b"\x00\x00\x00\x03hey";
+
+/// The same request, and a message behind it that spells no request.
+const OPEN_AND_HEY: &[u8] =
+    b"\x00\x00\x00\x49open 0000000000000000000000000000000000000000000000000000000000000000 7 1\x00\x00\x00\x03hey";
+
+/// What is told of a message that spells no request.
+const TOLD: &[u8] = b"\x00\x00\x00\x14refused 14 Malformed";
+
+/// Gives the request so many times, one a read, and then the last bytes in one read. Counts the reads.
+#[derive(Drop)]
+struct Requests<'a> {
+    left: u64,
+    last: &'a [u8],
+    reads: u64,
+}
+
+impl Read for Requests<'_> {
+    fn read(&mut self, buf: &mut [u8]) -> io::Result<usize> {
+        self.reads = self.reads.saturating_add(1);
+        let mut piece = OPEN.as_slice();
+        if self.left == 0 {
+            piece = self.last;
+            self.last = b"";
+        } else {
+            self.left -= 1;
+        }
+        let count = cmp::min(piece.len(), buf.len());
+        buf[..count].copy_from_slice(&piece[..count]);
+        Ok(count)
+    }
+}
+
+/// Gives so many bytes of the request, again and again, one a read. Counts the reads.
+#[derive(Drop)]
+struct Bytes {
+    left: u64,
+    reads: u64,
+}
+
+impl Read for Bytes {
+    fn read(&mut self, buf: &mut [u8]) -> io::Result<usize> {
+        let at = (self.reads % 77) as usize;
+        self.reads = self.reads.saturating_add(1);
+        if self.left == 0 || buf.is_empty() {
+            return Ok(0);
+        }
+        self.left -= 1;
+        buf[0] = OPEN[at];
+        Ok(1)
+    }
+}
+
+/// Is interrupted so many times, and then at its end.
+#[derive(Drop)]
+struct Interrupts {
+    left: u64,
+}
+
+impl Read for Interrupts {
+    fn read(&mut self, _buf: &mut [u8]) -> io::Result<usize> {
+        if self.left == 0 {
+            return Ok(0);
+        }
+        self.left -= 1;
+        Err(ErrorKind::Interrupted.into())
+    }
+}
+
+/// Counts the bytes that are as so many replies give them, and keeps the others.
+#[derive(Drop)]
+struct Replies {
+    left: u64,
+    bytes: u64,
+    others: Vec<u8>,
+}
+
+impl Write for Replies {
+    fn write(&mut self, buf: &[u8]) -> io::Result<usize> {
+        for byte in buf {
+            let at = (self.bytes % 20) as usize;
+            if self.left > 0 && DENIED[at] == *byte {
+                self.bytes = self.bytes.saturating_add(1);
+                self.left -= 1;
+            } else {
+                self.others.push(*byte)?;
+            }
+        }
+        Ok(buf.len())
+    }
+
+    fn flush(&mut self) -> io::Result<()> {
+        Ok(())
+    }
+}
+
+/// Where so many replies are expected.
+fn with_replies(alloc: Global, replies: u32) -> Replies {
+    Replies {
+        left: u64::from(replies) * 20,
+        bytes: 0,
+        others: Vec::new(alloc),
+    }
+}
+
+// The last of 1,000,000 requests is answered, and nothing behind it, also in the same read; no read is made then.
+#[test]
+fn a_session_answers_so_many_requests(rt: HostRuntime) -> Result<(), Fail> {
+    let alloc = rt.alloc();
+    let cases: [(&[u8], u32, &[u8], u64, SessionEnd); 3] = [
+        (b"", 999_999, b"", 1_000_000, SessionEnd::Finished),
+        (HEY, 999_999, TOLD, 1_000_000, SessionEnd::Malformed),
+        (OPEN_AND_HEY, 1_000_000, b"", 1_000_000, SessionEnd::Limit),
+    ];
+    for (last, replies, others, reads, end) in cases {
+        let mut reader = Requests {
+            left: 999_999,
+            last,
+            reads: 0,
+        };
+        let mut out = with_replies(alloc, replies);
+        let found = serve(alloc, &mut Denies, &mut reader, &mut out)?;
+        assert!(rt; found == end);
+        assert!(rt; out.left == 0);
+        assert!(rt; out.others.as_slice() == others);
+        assert!(rt; reader.reads == reads);
+    }
+    Ok(())
+}
+
+// The 4,000,000th read may find the end; if it gives a byte, all before it is answered and no read is made.
+#[test]
+fn a_session_makes_so_many_reads(rt: HostRuntime) -> Result<(), Fail> {
+    let alloc = rt.alloc();
+    let cases: [(u64, u64, SessionEnd); 3] = [
+        (3_999_996, 3_999_997, SessionEnd::Finished),
+        (3_999_999, 4_000_000, SessionEnd::Cut),
+        (4_000_000, 4_000_000, SessionEnd::Limit),
+    ];
+    for (bytes, reads, end) in cases {
+        let mut reader = Bytes {
+            left: bytes,
+            reads: 0,
+        };
+        let mut out = with_replies(alloc, 51_948);
+        let found = serve(alloc, &mut Denies, &mut reader, &mut out)?;
+        assert!(rt; found == end);
+        assert!(rt; out.left == 0);
+        assert!(rt; out.others.is_empty());
+        assert!(rt; reader.reads == reads);
+    }
+    Ok(())
+}
+
+#[test]
+fn a_read_is_made_again_so_many_times(rt: HostRuntime) -> Result<(), Fail> {
+    let alloc = rt.alloc();
+    let cases = [
+        (3_999_999, Ok(SessionEnd::Finished)),
+        (4_000_000, Err(SessionFault::Read)),
+    ];
+    for (left, end) in cases {
+        let mut out = with_replies(alloc, 0);
+        let found = serve(alloc, &mut Denies, &mut Interrupts { left }, &mut out);
+        assert!(rt; found == end);
+        assert!(rt; out.others.is_empty());
+    }
+    Ok(())
+}

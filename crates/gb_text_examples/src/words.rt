@@ -1,0 +1,324 @@
+//! Words and texts as they stand in requests, schedules and replies.
+use gb_types::entry::{Entries, Entry};
+use gb_types::kind::Kind;
+use gb_types::kind_word::read_kind;
+use gb_types::laws;
+use gb_types::limits::NODES;
+use gb_types::members_word::read_members;
+use gb_types::memory::OutOfMemory;
+use gb_types::node::{NodeId, NodeSet};
+use gb_types::number::{put_number, read_number};
+use gb_types::payload::Payload;
+use gb_types::payload_word::{put_payload, read_payload};
+use gb_types::refusal::Refusal;
+use gb_types::reply::Reply;
+use gb_types::reply_text::reply_text;
+use gb_types::spec::Spec;
+use std::alloc::Global;
+use std::process::Abort;
+use std::test::Fail;
+
+fn entry(alloc: Global, origin: NodeId, seq: u16, payload: &[u8]) -> Result<Entry, OutOfMemory> {
+    Ok(Entry {
+        origin,
+        seq,
+        payload: Payload::from_slice(alloc, payload)?,
+    })
+}
+
+fn node(rt: &impl Abort, number: u8) -> NodeId {
+    NodeId::from_number(number).expect(rt, "a node")
+}
+
+fn numbers(alloc: Global, set: &NodeSet) -> Result<Vec<u8>, OutOfMemory> {
+    Ok(set.nodes().map(|node| node.number).collect(alloc)?)
+}
+
+// The text is that of the reply.
+fn is_written(rt: &impl Abort, alloc: Global, reply: Reply, text: &str) -> Result<(), OutOfMemory> {
+    let found = reply_text(alloc, &reply)?;
+    assert!(rt; found.as_slice() == text.as_bytes());
+    Ok(())
+}
+
+#[test]
+fn replies(rt: HostRuntime) -> Result<(), Fail> {
+    let alloc = rt.alloc();
+    is_written(&rt, alloc, Reply::Done, "ok")?;
+    is_written(&rt, alloc, Reply::Said(1), "said 1")?;
+    is_written(&rt, alloc, Reply::Said(65_535), "said 65535")?;
+    is_written(&rt, alloc, Reply::Log(Entries::new(alloc)), "log 0")?;
+    let first = entry(alloc, node(&rt, 0), 1, b"a")?;
+    let second = entry(alloc, node(&rt, 15), 1024, b"")?;
+    let third = entry(alloc, node(&rt, 2), 3, &[0, 10, 255])?;
+    let mut entries = Entries::new(alloc);
+    entries.push(first)?;
+    entries.push(second)?;
+    entries.push(third)?;
+    assert!(rt; entries.len() == 3);
+    assert!(rt; !entries.is_empty());
+    is_written(
+        &rt,
+        alloc,
+        Reply::Log(entries),
+        "log 3 0:1:61 15:1024:- 2:3:000aff",
+    )?;
+    is_written(
+        &rt,
+        alloc,
+        Reply::Refused(Refusal::OverReserve),
+        "refused 5 OverReserve",
+    )?;
+    Ok(())
+}
+
+#[test]
+fn refusals(rt: HostRuntime) -> Result<(), Fail> {
+    let all = [
+        (Refusal::Denied, "refused 1 Denied"),
+        (Refusal::NoGroup, "refused 2 NoGroup"),
+        (Refusal::Spent, "refused 3 Spent"),
+        (Refusal::BadMembers, "refused 4 BadMembers"),
+        (Refusal::OverReserve, "refused 5 OverReserve"),
+        (Refusal::WrongPhase, "refused 6 WrongPhase"),
+        (Refusal::TooLong, "refused 7 TooLong"),
+        (Refusal::Budget, "refused 8 Budget"),
+        (Refusal::Bytes, "refused 9 Bytes"),
+        (Refusal::Window, "refused 10 Window"),
+        (Refusal::BadPlace, "refused 11 BadPlace"),
+        (Refusal::NoRoom, "refused 12 NoRoom"),
+        (Refusal::TenantThere, "refused 13 TenantThere"),
+        (Refusal::Malformed, "refused 14 Malformed"),
+        (Refusal::Stopped, "refused 15 Stopped"),
+        (Refusal::OutOfMemory, "refused 16 OutOfMemory"),
+    ];
+    for (refusal, text) in all {
+        is_written(&rt, rt.alloc(), Reply::Refused(refusal), text)?;
+    }
+    Ok(())
+}
+
+#[test]
+fn numbers_are_read(rt: HostRuntime) {
+    for (word, max, number) in [
+        (b"0".as_slice(), 0, Some(0)),
+        (b"1", 0, None),
+        (b"65535", 65_535, Some(65_535)),
+        (b"65536", 65_535, None),
+        (b"18446744073709551615", u64::MAX, Some(u64::MAX)),
+        (b"18446744073709551616", u64::MAX, None),
+        (b"100000000000000000000000000001", u64::MAX, None),
+        (b"", u64::MAX, None),
+        (b"00", u64::MAX, None),
+        (b"01", u64::MAX, None),
+        (b"+1", u64::MAX, None),
+        (b"-1", u64::MAX, None),
+        (b" 1", u64::MAX, None),
+        (b"1 ", u64::MAX, None),
+        (b"1a", u64::MAX, None),
+        (b"\xd9\xa1", u64::MAX, None),
+        (b"\xff", u64::MAX, None),
+    ] {
+        let found = read_number(word, max);
+        assert!(rt; found == number);
+    }
+}
+
+#[test]
+fn numbers_are_written(rt: HostRuntime) -> Result<(), Fail> {
+    let mut text = Vec::from_slice(rt.alloc(), b"said ")?;
+    put_number(&mut text, 0)?;
+    put_number(&mut text, u64::MAX)?;
+    assert!(rt; text.as_slice() == b"said 018446744073709551615".as_slice());
+    Ok(())
+}
+
+#[test]
+fn kinds(rt: HostRuntime) {
+    for (word, kind) in [
+        (b"beb".as_slice(), Some(Kind::Beb)),
+        (b"lazy", Some(Kind::Lazy)),
+        (b"eager", Some(Kind::Eager)),
+        (b"allack", Some(Kind::AllAck)),
+        (b"fbeb", Some(Kind::FifoBeb)),
+        (b"flazy", Some(Kind::FifoLazy)),
+        (b"feager", Some(Kind::FifoEager)),
+        (b"fallack", Some(Kind::FifoAllAck)),
+        (b"", None),
+        (b"f", None),
+        (b"be", None),
+        (b"bebb", None),
+        (b"Beb", None),
+        (b"beb ", None),
+        (b"fifo", None),
+        (b"ffbeb", None),
+        (b"lazyf", None),
+        (b"all-ack", None),
+        (b"fLazy", None),
+    ] {
+        let found = read_kind(word);
+        assert!(rt; found == kind);
+    }
+}
+
+// The word spells the members with these numbers.
+fn spells(rt: &impl Abort, alloc: Global, word: &[u8], members: &[u8]) -> Result<(), OutOfMemory> {
+    let set = read_members(word).expect(rt, "members");
+    let found = numbers(alloc, &set)?;
+    assert!(rt; found.as_slice() == members);
+    Ok(())
+}
+
+#[test]
+fn members(rt: HostRuntime) -> Result<(), Fail> {
+    let alloc = rt.alloc();
+    spells(&rt, alloc, b"0", &[0])?;
+    spells(&rt, alloc, b"0,1", &[0, 1])?;
+    spells(&rt, alloc, b"2,9,15", &[2, 9, 15])?;
+    spells(&rt, alloc, b"15", &[15])?;
+    spells(
+        &rt,
+        alloc,
+        b"0,1,2,3,4,5,6,7,8,9,10,11,12,13,14,15",
+        &[0, 1, 2, 3, 4, 5, 6, 7, 8, 9, 10, 11, 12, 13, 14, 15],
+    )?;
+    for word in [
+        b"".as_slice(),
+        b"1,0",
+        b"0,0",
+        b"16",
+        b"0,16",
+        b"0,",
+        b",0",
+        b"0,,1",
+        b"0 1",
+        b"00",
+        b"+1",
+        b"-",
+    ] {
+        let found = read_members(word);
+        assert!(rt; found.is_none());
+    }
+    Ok(())
+}
+
+// The word spells these bytes, or nothing.
+fn carries(
+    rt: &impl Abort,
+    alloc: Global,
+    word: &[u8],
+    bytes: Option<&[u8]>,
+) -> Result<(), OutOfMemory> {
+    let found = read_payload(alloc, word)?;
+    match (found, bytes) {
+        (Some(found), Some(bytes)) => assert!(rt; found.as_slice() == bytes),
+        (found, bytes) => assert!(rt; found.is_none() && bytes.is_none()),
+    }
+    Ok(())
+}
+
+#[test]
+fn payloads(rt: HostRuntime) -> Result<(), Fail> {
+    let alloc = rt.alloc();
+    carries(&rt, alloc, b"-", Some(&[]))?;
+    carries(&rt, alloc, b"61", Some(b"a"))?;
+    carries(&rt, alloc, b"6A", Some(&[0x6a]))?;
+    carries(&rt, alloc, b"00fFFf", Some(&[0, 255, 255]))?;
+    for word in [
+        b"".as_slice(),
+        b"6",
+        b"616",
+        b"6g",
+        b"--",
+        b"-61",
+        b"61 ",
+        b"0x61",
+    ] {
+        carries(&rt, alloc, word, None)?;
+    }
+    let mut text = Vec::new(alloc);
+    put_payload(&mut text, &[])?;
+    put_payload(&mut text, &[0x0a, 0xff])?;
+    assert!(rt; text.as_slice() == b"-0aff".as_slice());
+    Ok(())
+}
+
+/// The nodes with these numbers.
+fn set(rt: &impl Abort, numbers: &[u8]) -> NodeSet {
+    let mut found = NodeSet::new();
+    for number in numbers {
+        found.insert(node(rt, *number));
+    }
+    found
+}
+
+/// The number of the first node of the set from this place on; 16 where there is none.
+fn next_number(set: &NodeSet, from: usize) -> u8 {
+    match set.next_from(from) {
+        Some(node) => node.number,
+        None => 16,
+    }
+}
+
+#[test]
+fn sets(rt: HostRuntime) -> Result<(), Fail> {
+    let none = NodeSet::new();
+    assert!(rt; none.is_empty());
+    let odd = set(&rt, &[3, 1]);
+    let low = set(&rt, &[1, 0]);
+    assert!(rt; !odd.is_empty());
+    assert!(rt; !low.is_subset(&odd));
+    assert!(rt; odd.is_subset(&odd));
+    assert!(rt; odd.count_in(&low) == 1);
+    let both = odd.union(&low);
+    let found = numbers(rt.alloc(), &both)?;
+    assert!(rt; found.as_slice() == [0, 1, 3].as_slice());
+    assert!(rt; low.is_subset(&both));
+    let copy = both.duplicate();
+    assert!(rt; copy.is_covered(&odd, &low));
+    for (from, number) in [(2, 3), (4, 16), (NODES, 16)] {
+        assert!(rt; next_number(&both, from) == number);
+    }
+    Ok(())
+}
+
+#[test]
+fn entries(rt: HostRuntime) -> Result<(), Fail> {
+    let alloc = rt.alloc();
+    let said = entry(alloc, node(&rt, 4), 7, b"hey")?;
+    let copy = said.duplicate(alloc)?;
+    assert!(rt; copy.message() == said.message());
+    assert!(rt; copy.payload.as_slice() == b"hey".as_slice());
+    let bytes = said.payload.duplicate(alloc)?.into_vec();
+    assert!(rt; bytes.as_slice() == b"hey".as_slice());
+    Ok(())
+}
+
+#[test]
+fn specs(rt: HostRuntime) {
+    let spec = Spec {
+        kind: Kind::Beb,
+        members: set(&rt, &[4]),
+        msgs: 8,
+        bytes: 4096,
+        window: 4,
+    };
+    let copy = spec.duplicate();
+    assert!(rt; copy.kind == Kind::Beb);
+    assert!(rt; copy.msgs == 8 && copy.bytes == 4096 && copy.window == 4);
+    assert!(rt; copy.members.contains(node(&rt, 4)));
+}
+
+#[test]
+fn what_is_written_reads_back(rt: HostRuntime) -> Result<(), Fail> {
+    laws::one_text_one_reply();
+    laws::one_word_one_number();
+    laws::one_word_one_kind();
+    laws::one_word_one_group();
+    laws::payload_reads_back();
+    let mut word = Vec::new(rt.alloc());
+    put_number(&mut word, 4_294_967_295)?;
+    let found = laws::number_reads_back(word.as_slice(), 4_294_967_295, u64::MAX);
+    assert!(rt; found == Some(4_294_967_295));
+    Ok(())
+}
