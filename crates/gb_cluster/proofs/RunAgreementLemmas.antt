@@ -1,5 +1,5 @@
 -- Where a group is settled in a run the logs seen at its members agree.
-use Rattle.std.proofs.Common.{◌≡◌, ◌≢◌, ℕ, ◌+◌, ◌<◌, ◌≤◌, Bool, true, false, not, ◌&&◌, nat_eq, List, [], ◌∷◌, ◌++◌, length, Some, refl, sym, ap, ◌∙◌, subst, arith}
+use Rattle.std.proofs.Common.{◌≡◌, ◌≢◌, ℕ, ◌<◌, ◌≤◌, Bool, true, false, not, ◌&&◌, nat_eq, List, [], ◌++◌, length, Some, refl, sym, ap, ◌∙◌, subst, arith}
 use Rattle.std.specs.Prelude.{nat_lt}
 use Rattle.std.proofs.lemmas.Bool.{eqb-true}
 use Rattle.std.proofs.lemmas.Bool.Decides.{nat_tests}
@@ -15,28 +15,27 @@ use Rattle.gb_layer.specs.Bools.{and_both}
 use Rattle.gb_layer.specs.Machine.{was_noticed}
 use Rattle.gb_rules.specs.Group.{is_gone, is_member, is_other}
 use Rattle.gb_history.specs.History.{calls_of}
-use Rattle.gb_alone.specs.Alone.{Group, after, nobody, alone, alone_from, is_marked, IsLegal, IsLegalFrom}
+use Rattle.gb_alone.specs.Alone.{Group, after, nobody, alone, is_marked, IsLegal, IsLegalFrom}
 use Rattle.gb_alone.specs.Laws.{accepted}
 use Rattle.gb_alone.specs.declared.event.GroupStep.{GroupStep}
 use Rattle.gb_alone.proofs.InsideLemmas.{none_beyond}
 use Rattle.gb_duties.specs.Agreement.{IsRunning, IsSettled, KeepsAgreement, logs_of}
 use Rattle.gb_duties.proofs.AgreementLemmas.{is_agreed}
-use Rattle.gb_duties.proofs.FlowLemmas.{Flow, nobody_flows, run_flows, legal_parts, made_stays}
+use Rattle.gb_duties.proofs.FlowLemmas.{nobody_flows, run_flows, legal_parts, made_stays}
 use Rattle.gb_duties.proofs.SeenLemmas.{noticed_seen, seen_noticed, agreement_seen}
 use Rattle.gb_record.specs.Isolation.{Seen}
-use Rattle.gb_record.specs.Project.{project, frames, items_of, is_taken, is_noticed, made_at, is_served}
+use Rattle.gb_record.specs.Project.{project, frames, items_of, is_noticed, made_at, is_served}
 use Rattle.gb_record.specs.RunLaws.{accepted_there, IsSettledIn}
 use Rattle.gb_record.specs.declared.step.Step.{Step}
 use Rattle.gb_record.proofs.RunWordLemmas.{Words, Continues, project_continues, stands_in}
-use Rattle.gb_cluster.specs.State.{State, ComesTo, transcript, held, waiting_in}
-use Rattle.gb_cluster.specs.NodeStep.{slot_for}
+use Rattle.gb_cluster.specs.State.{State, ComesTo, transcript, held}
 use Rattle.gb_cluster.proofs.CodeLemmas.{holds}
 use Rattle.gb_cluster.proofs.Invariant.{BehavesAlone}
 use Rattle.gb_cluster.proofs.RunDutyLemmas.{noticed_is}
 use Rattle.gb_cluster.proofs.RunIntegrityLemmas.{accepted_same}
 use Rattle.gb_cluster.proofs.RunMomentLemmas.{words, served_back, Earlier, back, made_inside}
 use Rattle.gb_cluster.proofs.TheoremLemmas.{isolated}
-use Rattle.gb_cluster.proofs.World.{World, told, node_of, seen_in}
+use Rattle.gb_cluster.proofs.World.{told, seen_in}
 
 module _ (g : Addr) (steps : List Step) (c : State) (comes : ComesTo steps c) (served : is_served g steps ≡ true) (runs : ℕ → Bool) (spec : Spec) (settled : IsSettledIn g (transcript steps c) (held c.nodes) runs spec) where
   abbrev group : Group

@@ -1,23 +1,21 @@
 -- The duties of a group's nodes in a run.
-use Rattle.std.proofs.Common.{◌≡◌, ℕ, ◌<◌, Bool, true, false, ◌&&◌, List, length, Option, Some, None, sym, ap, ◌∙◌, subst}
+use Rattle.std.proofs.Common.{◌≡◌, ℕ, ◌<◌, Bool, true, false, ◌&&◌, length, Option, Some, None, sym, ap, ◌∙◌}
 use Rattle.std.specs.Prelude.{if◌then◌else◌}
 use Rattle.gb_types.specs.declared.address.Addr.{Addr}
-use Rattle.gb_types.specs.declared.entry.Entry.{Entry}
 use Rattle.gb_types.specs.declared.message.MsgId.{MsgId}
 use Rattle.gb_types.specs.declared.spec.Spec.{Spec}
 use Rattle.gb_fifo.proofs.InOrderLemmas.{order_delivered}
 use Rattle.gb_stack.proofs.DeliveryLemmas.{log_once}
 use Rattle.gb_rules.specs.Group.{is_gone, is_member, is_other}
 use Rattle.gb_history.specs.Messages.{has}
-use Rattle.gb_alone.specs.Alone.{Group, nobody, alone, held_spec, is_marked}
-use Rattle.gb_alone.specs.declared.event.GroupStep.{GroupStep}
-use Rattle.gb_alone.proofs.InsideLemmas.{AllInside, run_inside}
+use Rattle.gb_alone.specs.Alone.{Group, nobody, alone, is_marked}
+use Rattle.gb_alone.proofs.InsideLemmas.{run_inside}
 use Rattle.gb_duties.specs.Duties.{HasHad, Duties, KeepsDuties, noticed_at, delivered_at}
 use Rattle.gb_duties.proofs.DutyLemmas.{is_dutiful, delivered_origin, logged_here}
 use Rattle.gb_duties.proofs.SeenLemmas.{duties_seen}
 use Rattle.gb_record.specs.Isolation.{Seen}
 use Rattle.gb_record.specs.Project.{project, is_noticed, made_at}
-use Rattle.gb_record.specs.RunLaws.{is_dropped, RunDuties}
+use Rattle.gb_record.specs.RunLaws.{RunDuties}
 use Rattle.gb_record.proofs.RunWordLemmas.{Words}
 use Rattle.gb_cluster.proofs.Invariant.{BehavesAlone, is_concerned}
 use Rattle.gb_cluster.proofs.TheoremLemmas.{isolated}

@@ -1,14 +1,12 @@
 -- The moments of a run: what its words say of each group alone, and how an earlier moment stands in a later one.
-use Rattle.std.proofs.Common.{◌≡◌, ℕ, ◌<◌, ◌≤◌, ◌⊎◌, inl, inr, nat_eq, Bool, true, false, ◌&&◌, List, [], ◌∷◌, ◌++◌, length, Option, Some, None, refl, sym, ap, ◌∙◌, subst}
+use Rattle.std.proofs.Common.{◌≡◌, ℕ, ◌<◌, inl, inr, nat_eq, Bool, true, false, ◌&&◌, List, [], ◌∷◌, ◌++◌, length, Option, Some, None, refl, sym, ap, ◌∙◌, subst}
 use Rattle.std.specs.Prelude.{if◌then◌else◌}
 use Rattle.std.proofs.lemmas.Bool.{eqb-true}
 use Rattle.std.proofs.lemmas.List.{append-nil}
 use Rattle.gb_types.specs.declared.address.Addr.{Addr}
-use Rattle.gb_types.specs.declared.node.NodeId.{NodeId}
 use Rattle.gb_types.specs.declared.reply.Reply.TheVariants.{Done}
 use Rattle.gb_types.specs.declared.request.Request.TheVariants.{Make}
 use Rattle.gb_types.specs.declared.spec.Spec.{Spec}
-use Rattle.gb_types.proofs.SameLemmas.{and-first}
 use Rattle.gb_rules.specs.Address.{is_addr}
 use Rattle.gb_record.specs.Placed.{IsPlaced}
 use Rattle.gb_record.specs.Project.{project, made_by, made_at, or_else, is_turned_away, is_served}
@@ -23,7 +21,7 @@ use Rattle.gb_record.proofs.NumberLemmas.{IsNumbered}
 use Rattle.gb_record.proofs.RunWordLemmas.{Words, Tells, words_begin, words_step}
 use Rattle.gb_cluster.specs.State.{State, IsStep, ComesTo, part_in}
 use Rattle.gb_cluster.proofs.CodeLemmas.{holds, count_after}
-use Rattle.gb_cluster.proofs.Invariant.{Invariant, BehavesAlone}
+use Rattle.gb_cluster.proofs.Invariant.{BehavesAlone}
 use Rattle.gb_cluster.proofs.World.{World, told}
 
 -- packets are added at the end
