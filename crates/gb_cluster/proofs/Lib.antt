@@ -47,6 +47,9 @@ pub mod RunOrderLemmas
 pub mod RunCommandLemmas
 pub mod RunIntegrityLemmas
 pub mod ObservedLemmas
+pub mod RunMomentLemmas
+pub mod RunDutyLemmas
+pub mod RunAgreementLemmas
 pub mod Invariant
 pub mod FinishedLemmas
 pub mod KeptAckLemmas

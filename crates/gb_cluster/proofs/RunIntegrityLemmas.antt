@@ -16,7 +16,7 @@ use Rattle.gb_alone.proofs.CommandLemmas.{commands, paired, Pairs, replies_from,
 use Rattle.gb_cluster.proofs.RunCommandLemmas.{run_pairs}
 use Rattle.gb_alone.proofs.InsideLemmas.{none_beyond}
 
-accepted_same : (g : Addr) (w : World) → IsIsolated g w → (s : ℕ) → s < length w.nodes → accepted (length w.nodes) g.group (project g w.packets w.steps) s ≡ accepted_there g w.steps s
+pub accepted_same : (g : Addr) (w : World) → IsIsolated g w → (s : ℕ) → s < length w.nodes → accepted (length w.nodes) g.group (project g w.packets w.steps) s ≡ accepted_there g w.steps s
 accepted_same g w isolated s inside =
     sym told_alone.payloads
     ∙ (ap (λ rs. paired (commands s steps) rs) (sym (run_replies (length w.nodes) g.group s steps nobody) ∙ sym (ap (λ x. x.replies) (isolated.same s s inside inside)))

@@ -11,24 +11,32 @@ use Rattle.gb_record.specs.declared.step.Step.{Step}
 use Rattle.gb_cluster.proofs.CodeLemmas.{holds, links_kept}
 use Rattle.gb_cluster.proofs.Invariant.{Invariant}
 use Rattle.gb_cluster.proofs.ObservedLemmas.{all_observed}
+use Rattle.gb_cluster.proofs.RunAgreementLemmas.{run_agrees}
+use Rattle.gb_cluster.proofs.RunDutyLemmas.{run_duties}
 use Rattle.gb_cluster.proofs.RunIntegrityLemmas.{all_integral}
+use Rattle.gb_cluster.proofs.RunMomentLemmas.{words}
 use Rattle.gb_cluster.proofs.RunOrderLemmas.{all_in_order}
 use Rattle.gb_cluster.proofs.TheoremLemmas.{all_isolated}
-use Rattle.gb_cluster.proofs.World.{World, told, transcript_of, held_by}
-
-lawful_world : (w : World) → Invariant w → IsLawful (transcript_of w) (held_by w)
-lawful_world w held_so = record {
-  legal = λ g served. (all_isolated w held_so g served).legal;
-  replies = λ g served a in_a. ap (λ (s : Seen). s.replies) ((all_isolated w held_so g served).same a a in_a in_a);
-  log = λ g served a in_a. ap (λ (s : Seen). s.log) ((all_isolated w held_so g served).same a a in_a in_a);
-  put = λ g served a b in_a in_b. ap (λ (s : Seen). s.put) ((all_isolated w held_so g served).same a b in_a in_b);
-  observed = all_observed w held_so;
-  integrity = all_integral w (all_isolated w held_so);
-  order = all_in_order w held_so;
-}
+use Rattle.gb_cluster.proofs.World.{AreIsolated, told}
 
 pub lawful : (steps : List Step) (c : State) → ComesTo steps c → IsLawful (transcript steps c) (held c.nodes)
-lawful steps c comes = lawful_world (told steps c) (holds steps c comes)
+lawful steps c comes = record {
+  legal = λ g served. (isolated_so g served).legal;
+  replies = λ g served a in_a. ap (λ (s : Seen). s.replies) ((isolated_so g served).same a a in_a in_a);
+  log = λ g served a in_a. ap (λ (s : Seen). s.log) ((isolated_so g served).same a a in_a in_a);
+  put = λ g served a b in_a in_b. ap (λ (s : Seen). s.put) ((isolated_so g served).same a b in_a in_b);
+  observed = all_observed (told steps c) held_so;
+  integrity = all_integral (told steps c) isolated_so;
+  order = all_in_order (told steps c) held_so;
+  duties = λ g served. run_duties g (told steps c) (held_so.groups g served) (words steps c comes g served);
+  agreement = λ g served runs spec settled. run_agrees g steps c comes served runs spec settled;
+}
+  where
+    held_so : Invariant (told steps c)
+    held_so = holds steps c comes
+
+    isolated_so : AreIsolated (told steps c)
+    isolated_so = all_isolated (told steps c) held_so
 
 -- at every moment
 pub always_lawful : AreLawful

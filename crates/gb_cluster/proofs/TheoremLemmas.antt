@@ -21,7 +21,7 @@ log_same a None m st = sym (ap (λ (x : Option Spec). log_at a x m.told) (unmade
 log_same a (Some s) m (inl st) = log_is s m.told st.history ∙ (ap (λ k. log_of s.spec k m.told) st.here ∙ sym (ap (λ (x : Option Spec). log_at a x m.told) (stands_held a s m st)))
 log_same a (Some s) m (inr st) = ap (λ (u : SlotState). log_in (Some u)) st.nothing ∙ sym (ap (λ (x : Option Spec). log_at a x m.told) (dropped_held s m st))
 
-isolated : (g : Addr) (w : World) → BehavesAlone g w → IsIsolated g w
+pub isolated : (g : Addr) (w : World) → BehavesAlone g w → IsIsolated g w
 isolated g w alone_too = record {
   legal = alone_too.legal;
   same = λ a b in_a in_b.

@@ -6,7 +6,7 @@ use Rattle.gb_cluster.specs.LinkLaws.{IsLinkStep}
 use Rattle.gb_cluster.specs.State.{State, IsStep, ComesTo, transcript, held}
 use Rattle.gb_record.specs.Isolation.{AreLegal, HaveOwnReplies, HaveOwnLogs, HaveOwnItems}
 use Rattle.gb_record.specs.Observed.{AreObserved}
-use Rattle.gb_record.specs.RunLaws.{AreIntegral, AreInOrder}
+use Rattle.gb_record.specs.RunLaws.{AreIntegral, AreInOrder, AreDutiful, AreAgreed}
 use Rattle.gb_record.specs.Steps.{steps_of}
 use Rattle.gb_record.specs.Transcript.{Transcript, Held}
 use Rattle.gb_record.specs.declared.answer.Answer.{Answer}
@@ -19,7 +19,8 @@ use Rattle.gb_record.specs.declared.event.Event.{Event}
 use Rattle.gb_record.specs.declared.packet.Packet.{Packet}
 use Rattle.gb_record.specs.declared.step.Step.{Step}
 
--- What holds of a run: each group of which no request was refused for want of room or of memory is what it is alone, and keeps integrity and order.
+-- What holds of a run: each group of which no request was refused for want of room or of memory is what it is alone, keeps integrity and order, its nodes have
+-- done their duties, and where it is settled its logs agree.
 pub record IsLawful (t : Transcript) (h : Held) : Type 0 where
   pub legal : AreLegal t h
   pub replies : HaveOwnReplies t h
@@ -28,6 +29,8 @@ pub record IsLawful (t : Transcript) (h : Held) : Type 0 where
   pub observed : AreObserved t
   pub integrity : AreIntegral t h
   pub order : AreInOrder t h
+  pub duties : AreDutiful t h
+  pub agreement : AreAgreed t h
 
 -- so at the end of these steps and at every moment before, and each step did what links owe
 unfoldable pub IsAlwaysLawful : List Step → State → Type 0

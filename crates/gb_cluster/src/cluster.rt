@@ -11,7 +11,7 @@ ghost use Rattle.gb_cluster.specs.Runs.{IsLawful};
 ghost use Rattle.gb_cluster.specs.State.{bare, IsStep, new_state, ComesTo, OfEachRun, OfEachRunOn};
 ghost use Rattle.gb_record.specs.Isolation.{AreLegal, HaveOwnReplies, HaveOwnLogs, HaveOwnItems};
 ghost use Rattle.gb_record.specs.Placed.{IsPlaced};
-ghost use Rattle.gb_record.specs.RunLaws.{AreIntegral, AreInOrder};
+ghost use Rattle.gb_record.specs.RunLaws.{AreIntegral, AreInOrder, AreDutiful, AreAgreed};
 ghost use Rattle.gb_record.specs.declared.packet.Packet.{Packet as PacketValue};
 ghost use Rattle.gb_record.specs.declared.step.Step.{Step as StepValue};
 
@@ -253,7 +253,8 @@ impl Cluster {
     /// One event. `Err` says that the cluster itself had no memory for one more packet, and nothing has changed; a
     /// node's want of memory is an answer. After it, as at every moment, what holds of each run that leads to what the
     /// cluster is, and so of each that goes on with this event and this answer: each group of which no request was refused
-    /// for want of room or of memory is what it would be alone, and keeps integrity and order.
+    /// for want of room or of memory is what it would be alone, keeps integrity and order, its nodes have done their
+    /// duties, and where it is settled its logs agree.
     pub fn step(&mut self, event: &Event) -> Result<Answer, OutOfMemory>
         requires { IsPlaced (length self.old.nodes) event.now }
         ensures step { IfOk result (λ a. IsStep self.old event.now a self.new) }
@@ -267,6 +268,8 @@ impl Cluster {
         ensures put { IfOk result (λ a. OfEachRunOn HaveOwnItems self.old event.now a self.new) }
         ensures integrity { IfOk result (λ a. OfEachRunOn AreIntegral self.old event.now a self.new) }
         ensures order { IfOk result (λ a. OfEachRunOn AreInOrder self.old event.now a self.new) }
+        ensures duties { IfOk result (λ a. OfEachRunOn AreDutiful self.old event.now a self.new) }
+        ensures agreement { IfOk result (λ a. OfEachRunOn AreAgreed self.old event.now a self.new) }
         ensures err { OnErr result (self.new ≡ self.old) }
     {
         self.packets.reserve(1)?;

@@ -2,7 +2,7 @@
 ghost use Rattle.gb_cluster.specs.Runs.{AreLawful};
 ghost use Rattle.gb_cluster.specs.TwoRuns.{AreAlike};
 
-/// Isolation, integrity and order, and what links owe, at every moment of every run.
+/// Isolation, integrity, order, duties and agreement, and what links owe, at every moment of every run.
 pub fn isolation()
     ensures { AreLawful }
 {}

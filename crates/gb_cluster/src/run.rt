@@ -54,8 +54,8 @@ pub fn are_placed(nodes: usize, events: &[Event]) -> bool
 
 impl Cluster {
     /// A whole run. For each group of which no request was refused for want of room or of memory it is what the
-    /// group is alone, and its logs keep integrity and order. `Err` says that there was no memory to keep the run; a
-    /// node's want of memory is an answer.
+    /// group is alone, its logs keep integrity and order, its nodes have done their duties, and where it is settled its
+    /// logs agree. `Err` says that there was no memory to keep the run; a node's want of memory is an answer.
     pub fn run(alloc: Global, plan: Plan, events: &[Event]) -> Result<Trace, OutOfMemory>
         requires some { 1 ≤ plan.nodes }
         requires few { plan.nodes ≤ MOST }

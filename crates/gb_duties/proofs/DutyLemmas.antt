@@ -1,5 +1,6 @@
 -- Each node does its duties.
-use Rattle.std.proofs.Common.{◌≡◌, ℕ, Bool, true, false, ◌&&◌, ◌||◌, ◌⊎◌, inl, inr, nat_eq, List, Some, refl, sym, ap, ◌∙◌}
+use Rattle.std.proofs.Common.{◌≡◌, ℕ, Bool, true, false, ◌&&◌, ◌||◌, ◌⊎◌, inl, inr, nat_eq, List, Some, None, refl, sym, ap, ◌∙◌}
+use Rattle.std.specs.Prelude.{if◌then◌else◌}
 use Rattle.std.specs.FinSet as set
 use Rattle.std.specs.List.{list_all}
 use Rattle.std.proofs.lemmas.Bool.{eqb-true, eq-eqb, cases_Bool}
@@ -17,10 +18,12 @@ use Rattle.gb_fifo.specs.Order.{in_order}
 use Rattle.gb_fifo.specs.OrderLaws.{AllIn}
 use Rattle.gb_stack.specs.Kinds.{module_of}
 use Rattle.gb_stack.specs.LogLaws.{ModuleLogHasDelivered}
-use Rattle.gb_rules.specs.Group.{is_member, is_other}
+use Rattle.gb_rules.specs.Group.{is_gone, is_member, is_other}
 use Rattle.gb_history.specs.History.{calls_of}
-use Rattle.gb_alone.specs.Alone.{Member, Group, alone, held_spec}
-use Rattle.gb_duties.specs.Duties.{IsPutOut, HasHad, Duty, KeepsDuties, noticed_at, delivered_at, IsDutiful}
+use Rattle.gb_alone.specs.Alone.{Member, Group, alone, held_spec, log_at}
+use Rattle.gb_alone.specs.declared.event.GroupStep.{GroupStep}
+use Rattle.gb_history.specs.Messages.{has}
+use Rattle.gb_duties.specs.Duties.{IsPutOut, HasHad, Duty, KeepsDuties, noticed_at, delivered_at, logged_at, IsDutiful}
 use Rattle.gb_duties.proofs.WordLemmas.{or_cases}
 use Rattle.gb_duties.proofs.ReplyLemmas.{held_made}
 use Rattle.gb_duties.proofs.InvariantLemmas.{FitsAt}
@@ -79,3 +82,23 @@ is_dutiful has_delivered within nodes number steps legal = record {
     done b spec held c other m up =
         duty (calls_in group) b (group b) spec held (alone_fits nodes number steps b) c other m (HasHad group) (λ had. had) refl (module_of spec.kind) refl
         (sym (in_log has_delivered (module_of spec.kind) b (set.items spec.members) (calls_of (group b).told) m) ∙ up)
+
+-- What is delivered is of a member.
+
+module _ (has_delivered : ModuleLogHasDelivered) (nodes number : ℕ) (steps : List GroupStep) (b : ℕ) (spec : Spec) where
+  pub delivered_origin : (alone nodes number steps b).spec ≡ Some spec → (m : MsgId) → delivered_at spec b (alone nodes number steps b) m ≡ true → is_member spec m.origin.number ≡ true
+  delivered_origin made m h =
+      let up = sym (in_log has_delivered (module_of spec.kind) b (set.items spec.members) (calls_of (alone nodes number steps b).told) m) ∙ h in
+      ((alone_fits nodes number steps b).fair spec made m (and-first (mentions (calls_of (alone nodes number steps b).told) m) _ up)).member
+
+  -- what stands in a log is delivered, and the group was not dropped there
+  pub logged_here : ((D : List MsgId) → AllIn D (in_order D)) → (alone nodes number steps b).spec ≡ Some spec → (m : MsgId) → logged_at b (alone nodes number steps b) m ≡ true
+      → (is_gone (alone nodes number steps b).phase ≡ false) × (delivered_at spec b (alone nodes number steps b) m ≡ true)
+  logged_here within made m = go (is_gone (alone nodes number steps b).phase) refl
+    where
+      member : Member
+      member = alone nodes number steps b
+
+      go : (gone : Bool) → is_gone member.phase ≡ gone → has (log_at b (if gone then None else member.spec) member.told) m ≡ true → (gone ≡ false) × (delivered_at spec b member m ≡ true)
+      go true is h = absurd (cc)
+      go false is h = (refl, kind_delivered within spec b (calls_of member.told) m (sym (logged-is b member.spec spec member.told m made) ∙ h))

@@ -131,6 +131,12 @@ pub run_flows : (nodes number : ℕ) (steps : List GroupStep) (group : Group) �
 run_flows nodes number [] group legal flow = flow
 run_flows nodes number (step ∷ steps) group legal flow = run_flows nodes number steps (after nodes number group step) legal.1 (flow_after nodes number group step legal.0 flow)
 
+-- a group that was made stays so
+pub made_stays : (nodes number : ℕ) (steps : List GroupStep) (group : Group) → IsLegalFrom nodes number group steps → Flow group → (a : ℕ) (spec : Spec) → (group a).spec ≡ Some spec → (alone_from nodes number group steps a).spec ≡ Some spec
+made_stays nodes number [] group legal flow a spec made = made
+made_stays nodes number (step ∷ steps) group legal flow a spec made =
+    made_stays nodes number steps (after nodes number group step) legal.1 (flow_after nodes number group step legal.0 flow) a spec ((all_goes nodes number group step legal.0 flow.bounded a).spec spec made)
+
 -- a list is legal in both its parts
 pub legal_parts : (nodes number : ℕ) (early late : List GroupStep) (group : Group) → IsLegalFrom nodes number group (early ++ late) → IsLegalFrom nodes number group early × IsLegalFrom nodes number (alone_from nodes number group early) late
 legal_parts nodes number [] late group legal = (tt, legal)

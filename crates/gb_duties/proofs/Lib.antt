@@ -4,11 +4,14 @@ mod BytesLemmas
 mod InvariantLemmas
 mod StepLemmas
 mod LogLemmas
-mod DutyLemmas
+pub mod DutyLemmas
 mod MoveLemmas
-mod FlowLemmas
+pub mod FlowLemmas
 mod AcceptedLemmas
 mod OrderLemmas
-mod AgreementLemmas
+pub mod NoticeLemmas
+pub mod DropLemmas
+pub mod SeenLemmas
+pub mod AgreementLemmas
 mod ExampleLemmas
 mod CrashLemmas

@@ -1,3 +1,5 @@
 pub mod LaterPacketLemmas
 pub mod NumberLemmas
 pub mod StepsLemmas
+pub mod GivenLemmas
+pub mod RunWordLemmas

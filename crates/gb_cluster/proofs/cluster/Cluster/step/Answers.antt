@@ -44,6 +44,12 @@ returns-clause-integrity c = λ steps comes. (lawful _ _ (returns-clause-run c s
 pub returns-clause-order : goal.returns-clause-order
 returns-clause-order c = λ steps comes. (lawful _ _ (returns-clause-run c steps comes)).order
 
+pub returns-clause-duties : goal.returns-clause-duties
+returns-clause-duties c = λ steps comes. (lawful _ _ (returns-clause-run c steps comes)).duties
+
+pub returns-clause-agreement : goal.returns-clause-agreement
+returns-clause-agreement c = λ steps comes. (lawful _ _ (returns-clause-run c steps comes)).agreement
+
 pub invariant_of-self-2 : goal.invariant_of-self-2
 invariant_of-self-2 c =
     let before = subst IsReached c.self.view_is c.self.invariant in

@@ -1,0 +1,138 @@
+-- The notices of a group: as a node marks them, and as the group is told of them.
+use Rattle.std.proofs.Common.{◌≡◌, ℕ, ◌-◌, Bool, true, false, ◌||◌, ◌⊎◌, inl, inr, nat_eq, List, [], ◌∷◌, Option, Some, None, refl, sym, ap, ◌∙◌, subst}
+use Rattle.std.specs.Prelude.{slice_get, is_some, if◌then◌else◌}
+use Rattle.std.proofs.lemmas.Bool.{eqb-true}
+use Rattle.gb_types.specs.declared.entry.Entry.{Entry}
+use Rattle.gb_types.specs.declared.node.NodeId.{NodeId}
+use Rattle.gb_types.specs.declared.reply.Reply.{Reply}
+use Rattle.gb_types.specs.declared.reply.Reply.TheVariants.{Done, Said}
+use Rattle.gb_types.specs.declared.spec.Spec.{Spec}
+use Rattle.gb_layer.specs.Bools.{or_first, or_second}
+use Rattle.gb_layer.specs.Machine.{was_noticed}
+use Rattle.gb_rules.specs.Group.{is_gone, is_other}
+use Rattle.gb_history.specs.History.{calls_of}
+use Rattle.gb_history.specs.declared.call.GroupCall.TheVariants.{Other, Crashed}
+use Rattle.gb_alone.specs.Alone.{Member, Group, held_spec, reply_to, called, did, falls, taken_in, cut, took_notice, node_noticed, member_after, after, nobody, alone_from, is_marked}
+use Rattle.gb_alone.specs.declared.event.GroupEvent.{GroupEvent}
+use Rattle.gb_alone.specs.declared.event.GroupEvent.TheVariants.{Tenant, Make as AskMake, Open as AskOpen, Shut as AskShut, Drop as AskDrop, Say as AskSay, Took, Came, Done as Acknowledged, Notice, Stop}
+use Rattle.gb_alone.specs.declared.event.GroupStep.{GroupStep}
+use Rattle.gb_duties.proofs.WordLemmas.{or_cases}
+use Rattle.gb_duties.proofs.ReplyLemmas.{open_accepts, shut_accepts, make_accepts}
+
+pub record Marked (a : ℕ) (m : Member) : Type 0 where
+  -- the group is told only of what is marked
+  pub told : (q : ℕ) → was_noticed (calls_of m.told) q ≡ true → is_marked q m.noticed ≡ true
+  -- nothing is marked before the group is made
+  pub unmade : m.spec ≡ None → m.noticed ≡ []
+  -- and until it is dropped the group is told of each other member that is marked
+  pub here : is_gone m.phase ≡ false → (spec : Spec) → m.spec ≡ Some spec → (q : ℕ) → is_other spec a q ≡ true → is_marked q m.noticed ≡ true → was_noticed (calls_of m.told) q ≡ true
+
+-- a notice comes where the group was made
+abbrev pub IsDue : GroupEvent → Member → Type 0
+IsDue (Notice q) m = is_some m.spec ≡ true
+IsDue event m = Unit {0}
+
+did_marked : (nodes number : ℕ) (me : NodeId) (event : GroupEvent) (reply : Reply) (m : Member) → reply_to nodes number me.number event m ≡ reply → Marked me.number m → Marked me.number (did me event reply m)
+unfolding calls_of
+did_marked nodes number me (AskMake spec) Done m e old = record {
+  told = old.told;
+  unmade = λ is. absurd (cc);
+  here = λ still s is q other marked.
+      let none = ap (is_marked q) (old.unmade (make_accepts nodes number me.number spec m e).new) in
+      absurd (cc);
+}
+did_marked nodes number me AskOpen Done m e old = record { told = old.told; unmade = old.unmade; here = λ still. old.here (open_accepts nodes number me.number m e) }
+did_marked nodes number me AskShut Done m e old = record { told = old.told; unmade = old.unmade; here = λ still. old.here (shut_accepts nodes number me.number m e) }
+did_marked nodes number me AskDrop Done m e old = record { told = old.told; unmade = old.unmade; here = λ still. absurd (cc) }
+did_marked nodes number me (AskSay payload) (Said seq) m e old = record { told = old.told; unmade = old.unmade; here = old.here }
+did_marked nodes number me event reply m e old = old
+
+taken_marked : (a : ℕ) (from : NodeId) (place : ℕ) (o : Option Entry) (m : Member) → Marked a m → Marked a (taken_in a from place o m)
+unfolding calls_of
+taken_marked a from place None m old = old
+taken_marked a from place (Some x) m old = by (falls a from.number x m.told (held_spec m.phase m.spec))
+  where
+    by : (t : Bool) → Marked a (let next = (if t then m else called a (Other from x) m) in record next { come = λ b. if nat_eq b from.number then place ∷ m.come b else m.come b })
+    by true = record { told = old.told; unmade = old.unmade; here = old.here }
+    by false = record { told = old.told; unmade = old.unmade; here = old.here }
+
+notice_marked : (a : ℕ) (q : NodeId) (m : Member) → is_some m.spec ≡ true → Marked a m → Marked a (node_noticed a q m)
+unfolding calls_of
+notice_marked a q m due old = by (is_gone m.phase) refl m.spec refl
+  where
+    more : (x : ℕ) → is_marked x m.noticed ≡ true → (nat_eq q.number x || is_marked x m.noticed) ≡ true
+    more x h = or_second (nat_eq q.number x) (is_marked x m.noticed) h
+
+    made : m.spec ≡ None → ⊥
+    made none = let e = ap is_some none in absurd (cc)
+
+    some_same : (x y : Spec) → Some x ≡ Some y → x ≡ y
+    some_same x y e = cc
+
+    noticed : (x : ℕ) → ((nat_eq q.number x ≡ true) ⊎ (was_noticed (calls_of m.told) x ≡ true)) → (nat_eq q.number x || is_marked x m.noticed) ≡ true
+    noticed x (inl new) = or_first (nat_eq q.number x) (is_marked x m.noticed) new
+    noticed x (inr was) = more x (old.told x was)
+
+    -- it is another member, or not
+    joined : (spec : Spec) → m.spec ≡ Some spec → is_gone m.phase ≡ false → (t : Bool) → is_other spec a q.number ≡ t → Marked a (let next = (if t then called a (Crashed q) (cut q m) else m) in record next { noticed = q.number ∷ m.noticed })
+    joined spec is here true other = record {
+      told = λ x h. noticed x (or_cases (nat_eq q.number x) (was_noticed (calls_of m.told) x) h);
+      unmade = λ none. absurd (made none);
+      here = λ still s sure x among h. both s sure x among (or_cases (nat_eq q.number x) (is_marked x m.noticed) h);
+    }
+      where
+        both : (s : Spec) → m.spec ≡ Some s → (x : ℕ) → is_other s a x ≡ true → ((nat_eq q.number x ≡ true) ⊎ (is_marked x m.noticed ≡ true)) → (nat_eq q.number x || was_noticed (calls_of m.told) x) ≡ true
+        both s sure x among (inl new) = or_first (nat_eq q.number x) (was_noticed (calls_of m.told) x) new
+        both s sure x among (inr marked) = or_second (nat_eq q.number x) (was_noticed (calls_of m.told) x) (old.here here s sure x among marked)
+    joined spec is here false other = record {
+      told = λ x h. more x (old.told x h);
+      unmade = λ none. absurd (made none);
+      here = λ still s sure x among h. both s sure x among (or_cases (nat_eq q.number x) (is_marked x m.noticed) h);
+    }
+      where
+        both : (s : Spec) → m.spec ≡ Some s → (x : ℕ) → is_other s a x ≡ true → ((nat_eq q.number x ≡ true) ⊎ (is_marked x m.noticed ≡ true)) → was_noticed (calls_of m.told) x ≡ true
+        both s sure x among (inl new) =
+            let same_spec = some_same s spec (sym sure ∙ is) in
+            let e : is_other spec a q.number ≡ true = (λ i. is_other (sym same_spec i) a (eqb-true q.number x new i)) ∙ among in
+            absurd (cc)
+        both s sure x among (inr marked) = old.here here s sure x among marked
+
+    by : (gone : Bool) → is_gone m.phase ≡ gone → (o : Option Spec) → m.spec ≡ o → Marked a (let next = took_notice a q (if gone then None else o) m in record next { noticed = q.number ∷ m.noticed })
+    by true here o is = record { told = λ x h. more x (old.told x h); unmade = λ none. absurd (made none); here = λ still. absurd (cc) }
+    by false here None is = absurd (made is)
+    by false here (Some spec) is = joined spec is here (is_other spec a q.number) refl
+
+event_marked : (nodes number : ℕ) (me : NodeId) (event : GroupEvent) (group : Group) → IsDue event (group me.number) → Marked me.number (group me.number) → Marked me.number (member_after nodes number me event group)
+event_marked nodes number me (Tenant reserve) group due old = record { told = old.told; unmade = old.unmade; here = old.here }
+event_marked nodes number me (Took b count) group due old = record { told = old.told; unmade = old.unmade; here = old.here }
+event_marked nodes number me (Came from place) group due old = taken_marked me.number from place (slice_get ((group from.number).put me.number) (place - 1)) (group me.number) old
+event_marked nodes number me (Acknowledged b place count) group due old = record { told = old.told; unmade = old.unmade; here = old.here }
+event_marked nodes number me (Notice q) group due old = notice_marked me.number q (group me.number) due old
+event_marked nodes number me Stop group due old = record { told = old.told; unmade = old.unmade; here = old.here }
+event_marked nodes number me event group due old =
+    let next = did_marked nodes number me event (reply_to nodes number me.number event (group me.number)) (group me.number) refl old in
+    record { told = next.told; unmade = next.unmade; here = next.here }
+
+abbrev pub AllMarked : Group → Type 0
+AllMarked group = (a : ℕ) → Marked a (group a)
+
+step_marked : (nodes number : ℕ) (group : Group) (step : GroupStep) → IsDue step.event (group step.node.number) → AllMarked group → AllMarked (after nodes number group step)
+unfolding after
+step_marked nodes number group step due all a = go (nat_eq a step.node.number) refl
+  where
+    go : (t : Bool) → nat_eq a step.node.number ≡ t → Marked a (if t then member_after nodes number step.node step.event group else group a)
+    go true is = subst (λ y. Marked y (member_after nodes number step.node step.event group)) (sym (eqb-true a step.node.number is)) (event_marked nodes number step.node step.event group due (all step.node.number))
+    go false is = all a
+
+-- so each notice of these events
+abbrev pub AreDue : ℕ → ℕ → Group → List GroupStep → Type 0
+AreDue nodes number group [] = Unit {0}
+AreDue nodes number group (step ∷ steps) = IsDue step.event (group step.node.number) × AreDue nodes number (after nodes number group step) steps
+
+pub run_marked : (nodes number : ℕ) (steps : List GroupStep) (group : Group) → AreDue nodes number group steps → AllMarked group → AllMarked (alone_from nodes number group steps)
+run_marked nodes number [] group due all = all
+run_marked nodes number (step ∷ steps) group due all = run_marked nodes number steps (after nodes number group step) due.1 (step_marked nodes number group step due.0 all)
+
+pub nobody_marked : AllMarked nobody
+unfolding calls_of
+nobody_marked a = record { told = λ q h. absurd (cc); unmade = λ is. refl; here = λ still spec is. absurd (cc) }
