@@ -1,0 +1,6 @@
+pub mod TurnLemmas
+pub mod PlaceSetLemmas
+pub mod WalkLemmas
+pub mod TakingLemmas
+pub mod AheadLemmas
+pub mod BusyLemmas

@@ -1,0 +1,56 @@
+-- A table of groups as contracts see it.
+use Rattle.std.proofs.Common.{arith}
+use Rattle.std.specs.Prelude.{ℕ, ◌≡◌, ◌<◌, ◌≤◌, List, [], length, replicate, Option, Some, None, slice_index_or}
+use Rattle.gb_types.specs.declared.address.Addr.{Addr}
+use Rattle.gb_types.specs.declared.entry.Entry.{Entry}
+use Rattle.gb_types.specs.declared.limits.TheConstants.{NODES}
+use Rattle.gb_types.specs.declared.node.NodeId.{NodeId}
+use Rattle.gb_slot.specs.SlotState.{SlotState}
+
+-- a group at its place: its address, and its slot unless it was dropped
+pub record Row : Type 0 where
+  pub addr : Addr
+  pub slot : Option SlotState
+
+-- so many more items can come to a group, with so many bytes in all
+pub record Room : Type 0 where
+  pub calls : ℕ
+  pub bytes : ℕ
+
+-- the groups in the order in which they were made, and the room that each has
+pub record GroupsValue : Type 0 where
+  pub rows : List Row
+  pub rooms : List Room
+
+pub zero_is_node : 0 < NODES
+zero_is_node = omega arith
+
+-- what stands past the end of a list of entries, of groups or of rooms
+abbrev pub no_entry : Entry
+no_entry = record { origin = record { number = 0; below = zero_is_node }; seq = 0; payload = [] }
+
+abbrev pub no_row : Row
+no_row = record { addr = record { tenant = 0; group = 0 }; slot = None }
+
+abbrev pub no_room : Room
+no_room = record { calls = 0; bytes = 0 }
+
+-- the group at a place
+abbrev pub row_at : List Row → ℕ → Row
+row_at rows p = slice_index_or rows p no_row
+
+-- how many nodes a slot counts taken items for
+abbrev pub counters_of : Option SlotState → ℕ
+counters_of None = NODES
+counters_of (Some s) = length s.taken
+
+abbrev pub counters : Row → ℕ
+counters row = counters_of row.slot
+
+-- each slot counts the items that were taken for each node
+pub record HaveCounters (rows : List Row) : Type 0 where
+  pub each : (p : ℕ) → counters (row_at rows p) ≡ NODES
+
+-- no two groups have one address
+pub record AreApart (rows : List Row) : Type 0 where
+  pub apart : (p q : ℕ) → p < length rows → q < length rows → (row_at rows p).addr ≡ (row_at rows q).addr → p ≡ q

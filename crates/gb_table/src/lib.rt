@@ -1,0 +1,4 @@
+//! All groups at one node: many tenants, many groups, and packing what waits in them into packets.
+#![tactic(auto)]
+
+pub mod place_set;
