@@ -4,3 +4,5 @@ pub mod WalkLemmas
 pub mod TakingLemmas
 pub mod AheadLemmas
 pub mod BusyLemmas
+pub mod GroupsLemmas
+pub mod StepLemmas

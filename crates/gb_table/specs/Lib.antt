@@ -4,3 +4,4 @@ pub mod TableState
 pub mod Packing
 pub mod Busy
 pub mod Ahead
+pub mod Groups

@@ -1,6 +1,6 @@
 -- A table of groups as contracts see it.
 use Rattle.std.proofs.Common.{arith}
-use Rattle.std.specs.Prelude.{ℕ, ◌≡◌, ◌<◌, ◌≤◌, List, [], length, replicate, Option, Some, None, slice_index_or}
+use Rattle.std.specs.Prelude.{ℕ, ◌≡◌, ◌≢◌, ◌<◌, ◌≤◌, ◌+◌, IsSome, List, [], length, replicate, Option, Some, None, option_map, slice_index_or}
 use Rattle.gb_types.specs.declared.address.Addr.{Addr}
 use Rattle.gb_types.specs.declared.entry.Entry.{Entry}
 use Rattle.gb_types.specs.declared.limits.TheConstants.{NODES}
@@ -39,6 +39,14 @@ no_room = record { calls = 0; bytes = 0 }
 abbrev pub row_at : List Row → ℕ → Row
 row_at rows p = slice_index_or rows p no_row
 
+-- the room of the group at a place
+abbrev pub room_at : List Room → ℕ → Room
+room_at rooms p = slice_index_or rooms p no_room
+
+-- the group after a step of its slot; a dropped one takes none
+abbrev pub on_slot : (SlotState → SlotState) → Row → Row
+on_slot step row = record row { slot = option_map step row.slot }
+
 -- how many nodes a slot counts taken items for
 abbrev pub counters_of : Option SlotState → ℕ
 counters_of None = NODES
@@ -54,3 +62,14 @@ pub record HaveCounters (rows : List Row) : Type 0 where
 -- no two groups have one address
 pub record AreApart (rows : List Row) : Type 0 where
   pub apart : (p q : ℕ) → p < length rows → q < length rows → (row_at rows p).addr ≡ (row_at rows q).addr → p ≡ q
+
+-- a call at a place took so much of the room there at most, and nothing of the others'
+pub record Spends (old new : List Room) (p calls bytes : ℕ) : Type 0 where
+  pub calls : (room_at old p).calls ≤ (room_at new p).calls + calls
+  pub bytes : (room_at old p).bytes ≤ (room_at new p).bytes + bytes
+  pub others : (q : ℕ) → q ≢ p → room_at new q ≡ room_at old q
+
+-- so many items can come to a group with its slot, with so many bytes in all
+pub record HasRoom (slot : Option SlotState) (room : Room) (calls bytes : ℕ) : Type 0 where
+  pub calls : IsSome slot → calls ≤ room.calls
+  pub bytes : IsSome slot → bytes ≤ room.bytes
