@@ -59,8 +59,8 @@ pub none_next : (dest from : ℕ) (words : List ℕ) (rows : List Row) → IsBus
 none_next dest from words rows b f = sym (ap first_place (walk_none from (queues dest rows) (λ p. idle_at dest words rows p b (f p (omega arith)))))
 
 -- the index after one item was given
-pub index_cleared : (dest p : ℕ) (words new : List ℕ) (rows : List Row) (row : Row) → dest < counters row → IsBusy dest words rows → length new ≡ length words → p < length rows → has new p ≡ 0 → ((q : ℕ) → q ≢ p → has new q ≡ has words q) → length (queue dest (took dest 1 row)) ≡ 0 → IsBusy dest new (set rows p (took dest 1 row))
-index_cleared dest p words new rows row d b l h here others z =
+pub index_cleared : (dest p : ℕ) (words new : List ℕ) (rows : List Row) (row : Row) → dest < counters row → IsBusy dest words rows → p < length rows → has new p ≡ 0 → ((q : ℕ) → q ≢ p → has new q ≡ has words q) → length (queue dest (took dest 1 row)) ≡ 0 → IsBusy dest new (set rows p (took dest 1 row))
+index_cleared dest p words new rows row d b h here others z =
     let m = length-set rows p (took dest 1 row) in
     let n = length-queues dest rows in
     let w = queues-set dest p rows row d in
@@ -203,8 +203,8 @@ turn_gives dest from lap at to q nth rows row t v e =
     sym t.walk_is ∙ look_gives dest from to q nth rows row t.within t.begun v e (turn_item dest from lap at to q nth rows row t v e).0
 
 -- the set after the visit
-pub active_next : (dest from lap at to q nth : ℕ) (words new : List ℕ) (rows : List Row) (row : Row) → IsTurn dest from lap at rows to q → nth ≡ visits from to q q → row ≡ get_or rows q row → IsActive words (ahead from lap at 0 (queues dest rows)) → length new ≡ length words → has new q ≡ min 1 (length (queue dest row) - (nth + 1)) → ((p : ℕ) → p ≢ q → has new p ≡ has words p) → IsActive new (ahead from to (q + 1) 0 (queues dest rows))
-active_next dest from lap at to q nth words new rows row t v e b l here others =
+pub active_next : (dest from lap at to q nth : ℕ) (words new : List ℕ) (rows : List Row) (row : Row) → IsTurn dest from lap at rows to q → nth ≡ visits from to q q → row ≡ get_or rows q row → IsActive words (ahead from lap at 0 (queues dest rows)) → has new q ≡ min 1 (length (queue dest row) - (nth + 1)) → ((p : ℕ) → p ≢ q → has new p ≡ has words p) → IsActive new (ahead from to (q + 1) 0 (queues dest rows))
+active_next dest from lap at to q nth words new rows row t v e b here others =
     let W = queues dest rows in
     let A = ahead from to q 0 W in
     let m = length-queues dest rows in

@@ -158,7 +158,7 @@ entry_within slots es p k here =
     ]
 
 -- the room after a write, where the call took so much of it at most
-pub rooms_spent : (es : List (Addr × Place)) (slots : Slab SlotValue) (p k calls bytes : ℕ) (v new : SlotValue) → place_at es p ≡ Key k → Some v ≡ get slots k → v.calls ≤ new.calls + calls → v.bytes ≤ new.bytes + bytes → Spends (map (room_of slots) es) (set (map (room_of slots) es) p (room_in (Some new))) p calls bytes
+rooms_spent : (es : List (Addr × Place)) (slots : Slab SlotValue) (p k calls bytes : ℕ) (v new : SlotValue) → place_at es p ≡ Key k → Some v ≡ get slots k → v.calls ≤ new.calls + calls → v.bytes ≤ new.bytes + bytes → Spends (map (room_of slots) es) (set (map (room_of slots) es) p (room_in (Some new))) p calls bytes
 rooms_spent es slots p k calls bytes v new here at c b =
     let rooms = map (room_of slots) es in
     let old : room_at rooms p ≡ room_in (Some v) = room_there es slots p k v here at in
@@ -166,6 +166,11 @@ rooms_spent es slots p k calls bytes v new here at c b =
     let now : room_at (set rooms p (room_in (Some new))) p ≡ room_in (Some new) = get_or-set_same rooms p (room_in (Some new)) no_room l in
     let oc = ap (λ (r : Room). r.calls) old in let ob = ap (λ (r : Room). r.bytes) old in let nc = ap (λ (r : Room). r.calls) now in let nb = ap (λ (r : Room). r.bytes) now in
     record { calls = omega arith; bytes = omega arith; others = λ q ne. get_or-set_other rooms p q (room_in (Some new)) no_room ne }
+
+pub rooms_after : (old now : List Room) (es : List (Addr × Place)) (slots : Slab SlotValue) (p k items size : ℕ) (v new : SlotValue) → map (room_of slots) es ≡ old → now ≡ set (map (room_of slots) es) p (room_in (Some new)) → place_at es p ≡ Key k → Some v ≡ get slots k → v.calls ≤ new.calls + items → v.bytes ≤ new.bytes + size → Spends old now p items size
+rooms_after old now es slots p k items size v new e f here at c b =
+    subst (λ (rs : List Room). Spends rs now p items size) e
+    (subst (λ (rs : List Room). Spends (map (room_of slots) es) rs p items size) (sym f) (rooms_spent es slots p k items size v new here at c b))
 
 -- a call that takes nothing
 pub rooms_unspent : (rooms : List Room) (p calls bytes : ℕ) → Spends rooms rooms p calls bytes

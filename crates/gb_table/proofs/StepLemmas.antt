@@ -1,5 +1,6 @@
 -- What steps leave of the counters of a slot.
 use Rattle.std.proofs.Common.{◌≡◌, ℕ, List, true, false, refl, ap}
+use Rattle.std.specs.FinSet as nodes
 use Rattle.std.specs.Prelude.{if◌then◌else◌}
 use Rattle.gb_types.specs.Entry.{message_of}
 use Rattle.gb_types.specs.declared.entry.Entry.{Entry}
@@ -30,7 +31,7 @@ pub taken-came : (from : NodeId) (x : Entry) (s : SlotState) → (slot_came from
 taken-came from x s = elim (falls from x s) as (λ b. (if b then s else slot_called (Came from (message_of x)) (with_new s.store x) s).taken ≡ s.taken) [ true ↦ refl | false ↦ refl ]
 
 pub taken-noticed : (q : NodeId) (s : SlotState) → (slot_noticed q s).taken ≡ s.taken
-taken-noticed q s = elim (is_other s.spec s.me.number q.number) as (λ b. (if b then record (slot_called (Notice q) s.store s) { noticed = _ } else s).taken ≡ s.taken) [ true ↦ refl | false ↦ refl ]
+taken-noticed q s = elim (is_other s.spec s.me.number q.number) as (λ b. (if b then record (slot_called (Notice q) s.store s) { noticed = nodes.insert s.noticed q.number } else s).taken ≡ s.taken) [ true ↦ refl | false ↦ refl ]
 
 pub taken-done : (b : NodeId) (m : MsgId) (s : SlotState) → (slot_done b m s).taken ≡ s.taken
 taken-done b m s = refl

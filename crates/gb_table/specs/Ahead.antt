@@ -3,6 +3,7 @@ use Rattle.std.specs.Prelude.{ℕ, suc, ◌+◌, ◌-◌, ◌*◌, ◌≡◌, �
 use Rattle.gb_types.specs.declared.entry.Entry.{Entry}
 use Rattle.gb_table.specs.TableState.{Row}
 use Rattle.gb_table.specs.Packing.{walk, queues}
+use Rattle.gb_types.specs.declared.limits.TheConstants.{PLACES}
 use Rattle.gb_table.specs.PlaceSet.{has}
 
 -- how often a place was visited: so many times the walk came to place 0, and it is up to a place since
@@ -16,7 +17,7 @@ ahead from lap at b (q ∷ qs) = drop (visits from lap at b) q ∷ ahead from la
 
 -- a place is in the set exactly where something is left to visit
 pub record IsActive (words : List ℕ) (left : List (List Entry)) : Type 0 where
-  pub few : length left ≤ 64 * length words
+  pub few : length left ≤ PLACES
   pub each : (p : ℕ) → has words p ≡ min 1 (length (slice_index_or left p []))
 
 -- the next visit of the walk: at a place, after so many rounds

@@ -5,6 +5,11 @@ use Rattle.gb_types.specs.declared.address.Addr.{Addr}
 use Rattle.gb_types.specs.declared.entry.Entry.{Entry}
 use Rattle.gb_types.specs.declared.limits.TheConstants.{NODES}
 use Rattle.gb_types.specs.declared.node.NodeId.{NodeId}
+use Rattle.gb_types.specs.declared.refusal.Refusal.TheVariants.{Spent}
+use Rattle.gb_types.specs.declared.reply.Reply.{Reply}
+use Rattle.gb_types.specs.declared.reply.Reply.TheVariants.{Refused}
+use Rattle.gb_rules.specs.Group.{Shown}
+use Rattle.gb_slot.specs.Slot.{shown}
 use Rattle.gb_slot.specs.SlotState.{SlotState}
 
 -- a group at its place: its address, and its slot unless it was dropped
@@ -64,12 +69,17 @@ pub record AreApart (rows : List Row) : Type 0 where
   pub apart : (p q : ℕ) → p < length rows → q < length rows → (row_at rows p).addr ≡ (row_at rows q).addr → p ≡ q
 
 -- a call at a place took so much of the room there at most, and nothing of the others'
-pub record Spends (old new : List Room) (p calls bytes : ℕ) : Type 0 where
-  pub calls : (room_at old p).calls ≤ (room_at new p).calls + calls
-  pub bytes : (room_at old p).bytes ≤ (room_at new p).bytes + bytes
+pub record Spends (old new : List Room) (p items size : ℕ) : Type 0 where
+  pub calls : (room_at old p).calls ≤ (room_at new p).calls + items
+  pub bytes : (room_at old p).bytes ≤ (room_at new p).bytes + size
   pub others : (q : ℕ) → q ≢ p → room_at new q ≡ room_at old q
 
 -- so many items can come to a group with its slot, with so many bytes in all
-pub record HasRoom (slot : Option SlotState) (room : Room) (calls bytes : ℕ) : Type 0 where
-  pub calls : IsSome slot → calls ≤ room.calls
-  pub bytes : IsSome slot → bytes ≤ room.bytes
+pub record HasRoom (slot : Option SlotState) (room : Room) (items size : ℕ) : Type 0 where
+  pub calls : IsSome slot → items ≤ room.calls
+  pub bytes : IsSome slot → size ≤ room.bytes
+
+-- a command on a group that may have been dropped
+abbrev pub unless_gone : (Shown → Reply) → Option SlotState → Reply
+unless_gone answer None = Refused Spent
+unless_gone answer (Some s) = answer (shown s)

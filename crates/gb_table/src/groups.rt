@@ -1,11 +1,13 @@
 //! The groups of a node, in the order in which they were made.
-ghost use Rattle.std.specs.Prelude.{◌≡◌, ◌<◌, ◌≤◌, ◌+◌, ◌&&◌, [], ℕ, List, Option, Some, None, length, slice_get, slice_set, position, IfSome, MatchOption, option_map};
+ghost use Rattle.std.specs.Prelude.{◌≡◌, ◌<◌, ◌≤◌, ◌+◌, ◌&&◌, [], ℕ, List, Option, Some, None, length, slice_get, slice_index_or, slice_set, position, IfSome, MatchOption, option_map};
 ghost use Rattle.gb_rules.specs.Address.{is_addr};
-ghost use Rattle.gb_slot.specs.Slot.{waiting};
-ghost use Rattle.gb_table.specs.TableState.{row_at, no_row, HaveCounters, AreApart};
-ghost use Rattle.gb_table.specs.Packing.{queue, queues, took};
+ghost use Rattle.gb_slot.specs.Slot.{waiting, slot_came, slot_done, slot_noticed};
+ghost use Rattle.gb_table.specs.TableState.{no_entry, row_at, room_at, on_slot, HaveCounters, AreApart, HasRoom, Spends};
+ghost use Rattle.gb_frame.specs.Packet.{item_of as view_item};
+ghost use Rattle.gb_table.specs.Packing.{queue, queues, took, item_of};
 ghost use Rattle.gb_table.specs.Groups.{place_at};
 
+use gb_frame::item::ItemView;
 use gb_slot::slot::Slot;
 use gb_types::address::Addr;
 use gb_types::message::MsgId;
@@ -93,6 +95,45 @@ impl Groups {
         self.slots.get(key)
     }
 
+    /// The address of the group at a place.
+    pub fn addr(&self, place: usize) -> Addr
+        requires { place < length self.now.rows }
+        ensures { result ≡ (row_at self.now.rows place).addr }
+    {
+        let (addr, _) = self.places.get_index(place).unwrap();
+        *addr
+    }
+
+    /// How many items wait for a node in the group at a place.
+    pub fn waiting_for(&self, place: usize, dest: NodeId) -> usize
+        ensures { result ≡ length (queue dest.number (row_at self.now.rows place)) }
+    {
+        match self.slot(place) {
+            Some(slot) => slot.waiting_for(dest),
+            None => 0,
+        }
+    }
+
+    /// One of the items that wait for a node in the group at a place; they count from 0.
+    pub fn peek(&self, place: usize, dest: NodeId, nth: usize) -> ItemView<'_>
+        requires place { place < length self.now.rows }
+        requires item { nth < length (queue dest.number (row_at self.now.rows place)) }
+        ensures { view_item result ≡ item_of (row_at self.now.rows place) (slice_index_or (queue dest.number (row_at self.now.rows place)) nth no_entry) }
+    {
+        let addr = self.addr(place);
+        let Some(slot) = self.slot(place) else {
+            unreachable!()
+        };
+        let (m, payload) = slot.peek_at(dest, nth);
+        ItemView {
+            tenant: addr.tenant,
+            group: addr.group,
+            origin: m.origin.number,
+            seq: m.seq,
+            payload,
+        }
+    }
+
     /// The first items that wait for a node in the group at a place, so many, are taken to be sent to it.
     pub fn took(&mut self, place: usize, dest: NodeId, count: usize)
         requires { count ≤ length (queue dest.number (row_at self.old.rows place)) }
@@ -102,6 +143,51 @@ impl Groups {
         if let Some(key) = key_at(&self.places, place) {
             if let Some(slot) = self.slots.get_mut(key) {
                 slot.took(dest, count);
+            }
+        }
+    }
+
+    /// Takes an item that came from a node into the group at a place, which has room for it.
+    pub fn came(
+        &mut self,
+        place: usize,
+        from: NodeId,
+        origin: NodeId,
+        seq: u16,
+        payload: &[u8],
+    )
+        requires { HasRoom (row_at self.old.rows place).slot (room_at self.old.rooms place) 1 (length payload.now) }
+        ensures rows { self.new.rows ≡ slice_set self.old.rows place (on_slot (slot_came from (record { origin = origin; seq = seq; payload = payload.now })) (row_at self.old.rows place)) }
+        ensures rooms { Spends self.old.rooms self.new.rooms place 1 (length payload.now) }
+    {
+        if let Some(key) = key_at(&self.places, place) {
+            if let Some(slot) = self.slots.get_mut(key) {
+                slot.came(from, origin, seq, payload);
+            }
+        }
+    }
+
+    /// Takes an acknowledgement of a message of the group at a place from a node.
+    pub fn done(&mut self, place: usize, dest: NodeId, m: MsgId)
+        ensures rows { self.new.rows ≡ slice_set self.old.rows place (on_slot (slot_done dest m) (row_at self.old.rows place)) }
+        ensures rooms { self.new.rooms ≡ self.old.rooms }
+    {
+        if let Some(key) = key_at(&self.places, place) {
+            if let Some(slot) = self.slots.get_mut(key) {
+                slot.done(dest, m);
+            }
+        }
+    }
+
+    /// Notices a node in the group at a place, which has room for it.
+    pub fn notice(&mut self, place: usize, who: NodeId)
+        requires { HasRoom (row_at self.old.rows place).slot (room_at self.old.rooms place) 1 0 }
+        ensures rows { self.new.rows ≡ slice_set self.old.rows place (on_slot (slot_noticed who) (row_at self.old.rows place)) }
+        ensures rooms { Spends self.old.rooms self.new.rooms place 1 0 }
+    {
+        if let Some(key) = key_at(&self.places, place) {
+            if let Some(slot) = self.slots.get_mut(key) {
+                slot.notice(who);
             }
         }
     }

@@ -2,4 +2,5 @@
 #![tactic(auto)]
 
 pub mod groups;
+pub mod packing;
 pub mod place_set;

@@ -24,16 +24,14 @@ impl Model for PlaceSet {
 impl PlaceSet {
     /// No place.
     pub fn new() -> PlaceSet
-        ensures none { (p : ℕ) → has result p ≡ 0 }
-        ensures len { length result ≡ 64 }
+        ensures { (p : ℕ) → has result p ≡ 0 }
     {
         PlaceSet { words: [0; 64] }
     }
 
     /// The same set.
     pub fn duplicate(&self) -> PlaceSet
-        ensures same { result ≡ self.now }
-        ensures len { length result ≡ 64 }
+        ensures { result ≡ self.now }
     {
         PlaceSet { words: self.words }
     }
@@ -50,7 +48,6 @@ impl PlaceSet {
         requires { place < PLACES }
         ensures here { has self.new place ≡ 0 }
         ensures others { (p : ℕ) → p ≢ place → has self.new p ≡ has self.old p }
-        ensures len { length self.new ≡ 64 }
     {
         self.words[place / 64] &= !(1 << (place % 64));
     }
@@ -60,7 +57,6 @@ impl PlaceSet {
         requires { place < PLACES }
         ensures here { has self.new place ≡ 1 }
         ensures others { (p : ℕ) → p ≢ place → has self.new p ≡ has self.old p }
-        ensures len { length self.new ≡ 64 }
     {
         self.words[place / 64] |= 1 << (place % 64);
     }
