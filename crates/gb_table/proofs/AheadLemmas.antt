@@ -1,15 +1,15 @@
 -- The walk without taking: how often each place was visited, from how many rounds were made.
 use Rattle.std.proofs.Common.{◌≡◌, ℕ, suc, zero, ◌+◌, ◌-◌, ◌≤◌, ◌<◌, min, List, [], ◌∷◌, ◌++◌, length, map, take, drop, get_or, refl, ap, sym, ◌∙◌, append_assoc, arith, drop-cons, inl, inr}
 use Rattle.std.proofs.Math.ListN.{set}
-use Rattle.std.proofs.lemmas.List.{drop_all, append-nil, get_or_default}
+use Rattle.std.proofs.lemmas.List.{drop_all, append-nil}
 use Rattle.std.proofs.lemmas.Bool.{cases_lt, lt-ltb, le-ltb}
 use Rattle.std.specs.Prelude.{if◌then◌else◌}
 use Rattle.gb_types.specs.declared.entry.Entry.{Entry}
 use Rattle.gb_frame.specs.declared.item.Item.{Item}
-use Rattle.gb_table.specs.TableState.{Row, no_entry, no_row}
-use Rattle.gb_table.specs.Packing.{Visit, visit, walk, queue, queues, fit, size, items, item_at, item_of}
+use Rattle.gb_table.specs.TableState.{Row, no_entry}
+use Rattle.gb_table.specs.Packing.{Visit, visit, walk, queue, queues, fit, size, items, item_at}
 use Rattle.gb_table.specs.Ahead.{visits, ahead}
-use Rattle.gb_table.proofs.WalkLemmas.{walk_step, walk_wrap, walk_none, length-queues, queues_at}
+use Rattle.gb_table.proofs.WalkLemmas.{walk_step, length-queues, queues_at}
 use Rattle.gb_table.proofs.TakingLemmas.{drop-more}
 
 pub length-ahead : (from lap at b : ℕ) (qs : List (List Entry)) → length (ahead from lap at b qs) ≡ length qs
@@ -92,9 +92,6 @@ unfolding fit
 fit-none room = refl
 
 -- what is taken so far and what still fits
-pub look_pass : (rows : List Row) (left : ℕ) (taken whole : List Item) (here there : List Visit) → taken ++ items rows (fit left here) ≡ whole → here ≡ there → taken ++ items rows (fit left there) ≡ whole
-look_pass rows left taken whole here there h e = ap (λ vs. taken ++ items rows (fit left vs)) (sym e) ∙ h
-
 pub look_stop : (rows : List Row) (left : ℕ) (taken whole : List Item) (here there : List Visit) (v : Visit) → taken ++ items rows (fit left here) ≡ whole → here ≡ v ∷ there → left < size v → taken ≡ whole
 look_stop rows left taken whole here there v h e s =
     sym (append-nil taken) ∙ ap (λ vs. taken ++ items rows vs) (sym (fit-full left v there s)) ∙ ap (λ vs. taken ++ items rows (fit left vs)) (sym e) ∙ h
@@ -111,13 +108,3 @@ visits-first from lap at nth h e = omega arith
 pub visits-later : (from lap at nth : ℕ) → from ≤ at → nth ≡ lap → nth ≡ visits from lap at at
 unfolding visits
 visits-later from lap at nth h e = omega arith
-
--- the step where an item fits, all in one
-pub look_taken : (dest from lap at nth left : ℕ) (rows : List Row) (row : Row) (taken whole : List Item) → at < length rows → (at < from → 0 < lap) → nth ≡ visits from lap at at → row ≡ get_or rows at row → nth < length (queue dest row) →
-    taken ++ items rows (fit left (walk at (ahead from lap at 0 (queues dest rows)))) ≡ whole → 9 + length (get_or (queue dest row) nth no_entry).payload ≤ left →
-    (taken ++ item_of row (get_or (queue dest row) nth no_entry) ∷ []) ++ items rows (fit (left - (9 + length (get_or (queue dest row) nth no_entry).payload)) (walk (at + 1) (ahead from lap (at + 1) 0 (queues dest rows)))) ≡ whole
-look_taken dest from lap at nth left rows row taken whole h l v e z same s =
-    let w = get_or (queue dest row) nth no_entry in
-    let here : get_or rows at no_row ≡ row = get_or_default rows at no_row row h ∙ sym e in
-    ap (λ r. (taken ++ item_of r w ∷ []) ++ items rows (fit (left - (9 + length w.payload)) (walk (at + 1) (ahead from lap (at + 1) 0 (queues dest rows))))) (sym here)
-    ∙ look_push rows left taken whole (walk at (ahead from lap at 0 (queues dest rows))) (walk (at + 1) (ahead from lap (at + 1) 0 (queues dest rows))) (visit at w) same (look_gives dest from lap at nth rows row h l v e z) s

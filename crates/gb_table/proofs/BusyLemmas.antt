@@ -1,18 +1,18 @@
 -- The walk by the index of busy places.
-use Rattle.std.proofs.Common.{◌≡◌, ℕ, suc, zero, ◌+◌, ◌-◌, ◌≤◌, ◌<◌, ◌≢◌, min, List, [], length, get_or, drop, refl, ap, sym, ◌∙◌, arith, inl, inr, Some, None, subst, ◌∷◌, sum_by}
+use Rattle.std.proofs.Common.{◌≡◌, ℕ, suc, zero, ◌+◌, ◌-◌, ◌≤◌, ◌<◌, ◌≢◌, min, List, [], length, get_or, drop, refl, ap, sym, ◌∙◌, arith, inl, inr, Some, None, subst, ◌∷◌, ◌++◌}
 use Rattle.std.proofs.Math.ListN.{set}
 use Rattle.std.proofs.lemmas.Bool.{cases_lt, cases_eq}
-use Rattle.std.proofs.lemmas.List.{get_or_past, get_or-set_same, get_or-set_other, length-set, set-get_or, length-drop}
-use Rattle.std.proofs.lemmas.List.Sums.{sum_by-cons}
+use Rattle.std.proofs.lemmas.List.{get_or_past, get_or-set_same, get_or-set_other, length-set, set-get_or, length-drop, get_or_default}
 use Rattle.gb_types.specs.declared.entry.Entry.{Entry}
-use Rattle.gb_table.specs.TableState.{Row, counters, no_entry}
-use Rattle.gb_table.specs.Packing.{walk, queue, queues, took, first_place, Visit, visit, fit, size}
+use Rattle.gb_table.specs.TableState.{Row, row_at, counters, no_entry, no_row}
+use Rattle.gb_frame.specs.declared.item.Item.{Item}
+use Rattle.gb_table.specs.Packing.{walk, queue, queues, took, first_place, visit, fit, items, item_of}
 use Rattle.gb_table.specs.PlaceSet.{has, IsNext}
 use Rattle.gb_table.specs.Busy.{IsBusy}
 use Rattle.gb_table.proofs.WalkLemmas.{walk_idle, walk_wrap, walk_none, first_of_gives, length-queues, nothing_past, empty, queues_at}
 use Rattle.gb_table.proofs.TakingLemmas.{queues-set, queue-took}
 use Rattle.gb_table.specs.Ahead.{visits, ahead, IsActive, IsTurn}
-use Rattle.gb_table.proofs.AheadLemmas.{length-ahead, ahead-step, ahead-wrap, ahead-start, get_or-ahead, look_gives, fit-full, fit-more}
+use Rattle.gb_table.proofs.AheadLemmas.{length-ahead, ahead-step, ahead-wrap, ahead-start, get_or-ahead, look_gives, look_stop, look_push}
 
 pub idle_at : (dest : ℕ) (words : List ℕ) (rows : List Row) (p : ℕ) → IsBusy dest words rows → has words p ≡ 0 → get_or (queues dest rows) p [] ≡ []
 idle_at dest words rows p b e = let h = b.each p in empty (get_or (queues dest rows) p []) (omega arith)
@@ -230,15 +230,19 @@ active_next dest from lap at to q nth words new rows row t v e b here others =
       ];
     }
 
--- the sums of what fits
-pub count_stop : (left : ℕ) (here there : List Visit) (v : Visit) → here ≡ v ∷ there → left < size v → fit left here ≡ []
-count_stop left here there v e s = ap (fit left) e ∙ fit-full left v there s
+pub row_here : (rows : List Row) (p : ℕ) → p < length rows → row_at rows p ≡ get_or rows p (row_at rows p)
+row_here rows p h = get_or_default rows p no_row (row_at rows p) h
 
-pub count_more : (left : ℕ) (here there : List Visit) (v : Visit) → here ≡ v ∷ there → size v ≤ left → (length (fit left here) ≡ 1 + length (fit (left - size v) there)) × (sum_by size (fit left here) ≡ size v + sum_by size (fit (left - size v) there))
-count_more left here there v e s =
-    let f = ap (fit left) e ∙ fit-more left v there s in
-    let n = ap length f in
-    (omega arith, ap (sum_by size) f ∙ sum_by-cons size v (fit (left - size v) there))
+-- the visit's item does not fit: the batch is whole
+pub turn_stop : (dest from lap at to q nth left : ℕ) (rows : List Row) (taken whole : List Item) → IsTurn dest from lap at rows to q → nth ≡ visits from to q q → taken ++ items rows (fit left (walk at (ahead from lap at 0 (queues dest rows)))) ≡ whole → left < 9 + length (get_or (queue dest (row_at rows q)) nth no_entry).payload → taken ≡ whole
+turn_stop dest from lap at to q nth left rows taken whole t v same s =
+    look_stop rows left taken whole (walk at (ahead from lap at 0 (queues dest rows))) _ (visit q (get_or (queue dest (row_at rows q)) nth no_entry)) same (turn_gives dest from lap at to q nth rows (row_at rows q) t v (row_here rows q t.within)) s
+
+-- the visit's item fits
+pub turn_taken : (dest from lap at to q nth left : ℕ) (rows : List Row) (taken whole : List Item) → IsTurn dest from lap at rows to q → nth ≡ visits from to q q → taken ++ items rows (fit left (walk at (ahead from lap at 0 (queues dest rows)))) ≡ whole → 9 + length (get_or (queue dest (row_at rows q)) nth no_entry).payload ≤ left →
+    (taken ++ item_of (row_at rows q) (get_or (queue dest (row_at rows q)) nth no_entry) ∷ []) ++ items rows (fit (left - (9 + length (get_or (queue dest (row_at rows q)) nth no_entry).payload)) (walk (q + 1) (ahead from to (q + 1) 0 (queues dest rows)))) ≡ whole
+turn_taken dest from lap at to q nth left rows taken whole t v same s =
+    look_push rows left taken whole (walk at (ahead from lap at 0 (queues dest rows))) (walk (q + 1) (ahead from to (q + 1) 0 (queues dest rows))) (visit q (get_or (queue dest (row_at rows q)) nth no_entry)) same (turn_gives dest from lap at to q nth rows (row_at rows q) t v (row_here rows q t.within)) s
 
 -- at the beginning the busy places are those with something left
 pub active_start : (dest from : ℕ) (words : List ℕ) (rows : List Row) → IsBusy dest words rows → IsActive words (ahead from 0 from 0 (queues dest rows))

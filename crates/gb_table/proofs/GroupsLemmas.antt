@@ -1,7 +1,7 @@
 -- A write under one key changes one group.
-use Rattle.std.proofs.Common.{◌≡◌, ◌≢◌, ℕ, zero, suc, ◌≤◌, ◌<◌, List, [], ◌∷◌, length, map, get_or, refl, ap, sym, ◌∙◌, subst, arith, inl, inr}
+use Rattle.std.proofs.Common.{◌≡◌, ℕ, zero, suc, ◌≤◌, ◌<◌, List, [], ◌∷◌, length, map, get_or, refl, ap, sym, ◌∙◌, subst, arith, inl, inr}
 use Rattle.std.specs.List.{position_or_len}
-use Rattle.std.specs.Prelude.{Bool, cond, not, nat_lt, ◌+◌, Option, Some, None, IsSome, option_map, position, slice_index_or, if◌then◌else◌}
+use Rattle.std.specs.Prelude.{Bool, cond, not, nat_lt, ◌+◌, Option, Some, None, IsSome, option_map, position}
 use Rattle.std.proofs.Math.ListN.{set, get_or-map}
 use Rattle.std.proofs.lemmas.Bool.{cases_lt, cases_eq}
 use Rattle.std.proofs.lemmas.List.{get_or-set_same, get_or-set_other, get_or_past, length-map, length-set, set-get_or}
@@ -13,7 +13,7 @@ use Rattle.gb_types.specs.declared.limits.TheConstants.{NODES}
 use Rattle.gb_slot.specs.SlotState.{SlotState, SlotValue}
 use Rattle.gb_table.specs.declared.groups.Place.{Place}
 use Rattle.gb_table.specs.declared.groups.Place.TheVariants.{Key, Gone}
-use Rattle.gb_table.specs.TableState.{Row, Room, row_at, room_at, on_slot, counters, counters_of, HaveCounters, AreApart, Spends, no_row, no_room}
+use Rattle.gb_table.specs.TableState.{Row, Room, row_at, room_at, on_slot, counters, counters_of, HaveCounters, Spends, no_row, no_room}
 use Rattle.gb_table.specs.Groups.{slot_under, row_of, room_in, room_of, place_at, AreKept}
 
 -- what stands past the end of the entries

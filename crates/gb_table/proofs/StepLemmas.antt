@@ -1,5 +1,5 @@
 -- What steps leave of the counters of a slot.
-use Rattle.std.proofs.Common.{◌≡◌, ℕ, List, true, false, refl, ap}
+use Rattle.std.proofs.Common.{◌≡◌, ℕ, List, true, false, refl}
 use Rattle.std.specs.FinSet as nodes
 use Rattle.std.specs.Prelude.{if◌then◌else◌}
 use Rattle.gb_types.specs.Entry.{message_of}

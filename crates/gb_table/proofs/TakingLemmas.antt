@@ -7,7 +7,7 @@ use Rattle.gb_history.specs.Messages.{entry_in}
 use Rattle.gb_slot.specs.Slot.{waiting, taken_for, slot_took}
 use Rattle.gb_slot.specs.SlotState.{SlotState}
 use Rattle.std.proofs.Math.ListN.{set}
-use Rattle.std.proofs.lemmas.List.{map-set, length-set, drop-drop, drop-map, take_more, drop_all, set-get_or, set-set, get_or-set_same, set_past, get_or_past}
+use Rattle.std.proofs.lemmas.List.{map-set, length-set, drop-drop, drop-map, take_more, drop_all, set-get_or, set-set, get_or-set_same, set_past}
 use Rattle.std.proofs.lemmas.List.Sums.{sum_by-append}
 use Rattle.std.proofs.lemmas.Option.{slice_get-get_or, slice_get_past}
 use Rattle.std.proofs.lemmas.Bool.{cases_lt, ne_eqb}

@@ -1,5 +1,5 @@
 -- A walk without taking: what is left after so many visits.
-use Rattle.std.specs.Prelude.{ℕ, suc, ◌+◌, ◌-◌, ◌*◌, ◌≡◌, ◌<◌, ◌≤◌, min, List, [], ◌∷◌, length, drop, slice_index_or}
+use Rattle.std.specs.Prelude.{ℕ, suc, ◌+◌, ◌-◌, ◌≡◌, ◌<◌, ◌≤◌, min, List, [], ◌∷◌, length, drop, slice_index_or}
 use Rattle.gb_types.specs.declared.entry.Entry.{Entry}
 use Rattle.gb_table.specs.TableState.{Row}
 use Rattle.gb_table.specs.Packing.{walk, queues}

@@ -1,5 +1,5 @@
 -- What one packing takes: the walk round the groups, the batch, and where the next walk begins.
-use Rattle.std.specs.Prelude.{ℕ, suc, ◌+◌, ◌-◌, ◌==◌, Bool, if◌then◌else◌, List, [], ◌∷◌, ◌++◌, length, take, drop, map, Option, Some, None, option_map, slice_get, slice_index_or, slice_set, count_by, ltb}
+use Rattle.std.specs.Prelude.{ℕ, suc, ◌+◌, ◌-◌, ◌==◌, Bool, if◌then◌else◌, List, [], ◌∷◌, ◌++◌, length, take, drop, map, Option, Some, None, option_map, slice_get, count_by, ltb}
 use Rattle.gb_types.specs.declared.entry.Entry.{Entry}
 use Rattle.gb_frame.specs.declared.item.Item.{Item}
 use Rattle.gb_slot.specs.Slot.{waiting, slot_took}

@@ -13,7 +13,7 @@ use Rattle.gb_table.proofs.packing.advance.Goals as goal
 use Rattle.gb_table.proofs.packing.advance.Goals.{then-waiting_for-eq0, else-waiting_for-eq0}
 
 pub loop-step-init : goal.loop-step-init
-loop-step-init c = record { index = c.requires.index; rooms = refl; within = c.requires.from; rows = sym (gave-none c.args.dest.number 0 c.args.groups.now.rows); rest = refl; last = λ h. absurd (omega arith) }
+loop-step-init c = record { index = c.requires.index; rooms = refl; size = refl; within = c.requires.from; rows = sym (gave-none c.args.dest.number 0 c.args.groups.now.rows); rest = refl; last = λ h. absurd (omega arith) }
 
 -- the first place of the walk is that of the next visit
 next_is : (r : Option ℕ) (here vs : List Visit) (k : ℕ) → r ≡ first_place here → here ≡ drop k vs → r ≡ first_place (drop k vs)
@@ -56,6 +56,7 @@ loop-step-preserved c =
     rw (c.took.ensures.rows, e) (record {
       index = index;
       rooms = c.took.ensures.rooms ∙ c.loop-step.invariant.rooms;
+      size = length-set rows p (took dest 1 row) ∙ c.loop-step.invariant.size;
       within = rw length-set (omega arith);
       rows = gave_step dest p k rows c.args.groups.now.rows row vs c.loop-step.invariant.rows within here l one.place;
       rest = one.rest;
@@ -70,8 +71,8 @@ returns-in-Some-clause-cursor c = λ z.
     cursor_next n c.args.from c.loop-step._step c.in-Some.place vs (sym c.in-Some.is ∙ next_is c.next_place-2.result (walk c.loop-step.at (queues c.args.dest.number c.loop-step.groups.rows)) vs c.loop-step._step c.next_place-2.ensures.place c.loop-step.invariant.rest)
     ∙ ap (λ k. new_cursor n c.args.from k vs) e
 
-pub returns-then-at-groups-clause-cursor : goal.returns-then-at-groups-clause-cursor
-returns-then-at-groups-clause-cursor c = λ z.
+pub returns-then-at-len-clause-cursor : goal.returns-then-at-len-clause-cursor
+returns-then-at-len-clause-cursor c = λ z.
     let vs = walk c.args.from (queues c.args.dest.number c.args.groups.now.rows) in
     let n = length c.args.groups.now.rows in
     let e : c.loop-step._step ≡ c.args.count = omega arith in
@@ -80,8 +81,8 @@ returns-then-at-groups-clause-cursor c = λ z.
     ∙ cursor_last n c.args.from c.loop-step._step c.loop-step.at vs (sym c.in-None.is ∙ next_is c.next_place-2.result (walk c.loop-step.at (queues c.args.dest.number c.loop-step.groups.rows)) vs c.loop-step._step c.next_place-2.ensures.place c.loop-step.invariant.rest) (omega (arith, c.requires.there)) z c.loop-step.invariant.last
     ∙ ap (λ b. if b then 0 else c.loop-step.at) t)
 
-pub returns-else-at-groups-clause-cursor : goal.returns-else-at-groups-clause-cursor
-returns-else-at-groups-clause-cursor c = λ z.
+pub returns-else-at-len-clause-cursor : goal.returns-else-at-len-clause-cursor
+returns-else-at-len-clause-cursor c = λ z.
     let vs = walk c.args.from (queues c.args.dest.number c.args.groups.now.rows) in
     let n = length c.args.groups.now.rows in
     let e : c.loop-step._step ≡ c.args.count = omega arith in

@@ -10,6 +10,7 @@ invariant-loop-step l =
     record {
       index : IsBusy l.dest.number l.busy l.groups.rows;
       rooms : l.groups.rooms ≡ l.fn.groups.rooms;
+      size : length l.groups.rows ≡ length l.fn.groups.rows;
       within : l.at ≤ length l.groups.rows;
       rows : l.groups.rows ≡ gave l.dest.number 0 (take l._step vs) l.fn.groups.rows;
       rest : walk l.at (queues l.dest.number l.groups.rows) ≡ drop l._step vs;

@@ -1,8 +1,8 @@
 use Rattle.gb_slot.specs.Slot.{slot_done}
 use Rattle.gb_table.proofs.StepLemmas.{taken-done}
-use Rattle.std.proofs.Common.{ap, sym, subst, ◌∙◌, length, List, ℕ}
+use Rattle.std.proofs.Common.{ap, ◌∙◌, length}
 use Rattle.std.proofs.Math.ListN.{set}
-use Rattle.gb_table.specs.TableState.{GroupsValue, Room, Spends, row_at, on_slot}
+use Rattle.gb_table.specs.TableState.{GroupsValue, row_at, on_slot}
 use Rattle.gb_table.proofs.GroupsLemmas.{changed, rooms_kept}
 use Rattle.gb_table.proofs.groups.Groups.done.Goals as goal
 

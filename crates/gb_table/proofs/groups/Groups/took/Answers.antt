@@ -1,8 +1,8 @@
 use Rattle.std.proofs.lemmas.List.{length-set}
 use Rattle.gb_slot.specs.Slot.{slot_took}
-use Rattle.std.proofs.Common.{ap, sym, subst, ◌∙◌, length, List, ℕ}
+use Rattle.std.proofs.Common.{ap, ◌∙◌}
 use Rattle.std.proofs.Math.ListN.{set}
-use Rattle.gb_table.specs.TableState.{GroupsValue, Room, Spends, row_at, on_slot}
+use Rattle.gb_table.specs.TableState.{GroupsValue, row_at, on_slot}
 use Rattle.gb_table.proofs.GroupsLemmas.{changed, rooms_kept}
 use Rattle.gb_table.proofs.groups.Groups.took.Goals as goal
 
