@@ -6,3 +6,5 @@ pub mod AheadLemmas
 pub mod BusyLemmas
 pub mod GroupsLemmas
 pub mod StepLemmas
+pub mod BatchLemmas
+pub mod FrontLemmas

@@ -1,5 +1,5 @@
 -- One item is taken.
-use Rattle.std.proofs.Common.{◌≡◌, ℕ, suc, zero, ◌+◌, ◌-◌, ◌≤◌, ◌<◌, List, [], ◌∷◌, ◌++◌, length, take, drop, get_or, refl, ap, sym, ◌∙◌, zero-add, add-zero, eq-eqb, arith, drop-cons, inl, inr}
+use Rattle.std.proofs.Common.{◌≡◌, ℕ, suc, zero, ◌+◌, ◌-◌, ◌≤◌, ◌<◌, ◌≢◌, List, [], ◌∷◌, ◌++◌, length, take, drop, get_or, refl, ap, sym, ◌∙◌, zero-add, add-zero, eq-eqb, arith, drop-cons, inl, inr}
 use Rattle.std.specs.Prelude.{◌==◌, ◌&&◌, not, true, false, cond, Option, Some, None, option_map, map, if◌then◌else◌}
 use Rattle.std.specs.FinSet as nodes
 use Rattle.gb_rules.specs.Group.{is_other}
@@ -7,7 +7,7 @@ use Rattle.gb_history.specs.Messages.{entry_in}
 use Rattle.gb_slot.specs.Slot.{waiting, taken_for, slot_took}
 use Rattle.gb_slot.specs.SlotState.{SlotState}
 use Rattle.std.proofs.Math.ListN.{set}
-use Rattle.std.proofs.lemmas.List.{map-set, length-set, drop-drop, drop-map, take_more, drop_all, set-get_or, set-set, get_or-set_same, set_past}
+use Rattle.std.proofs.lemmas.List.{map-set, length-set, drop-drop, drop-map, take_more, drop_all, set-get_or, set-set, get_or-set_same, get_or-set_other, set_past}
 use Rattle.std.proofs.lemmas.List.Sums.{sum_by-append}
 use Rattle.std.proofs.lemmas.Option.{slice_get-get_or, slice_get_past}
 use Rattle.std.proofs.lemmas.Bool.{cases_lt, ne_eqb}
@@ -37,6 +37,15 @@ queue_of-took dest k (Some s) h = waiting-took dest k s h
 
 pub queue-took : (dest k : ℕ) (row : Row) → dest < counters row → queue dest (took dest k row) ≡ drop k (queue dest row)
 queue-took dest k row h = queue_of-took dest k row.slot h
+
+-- what waits for other nodes is as it was
+queue_of-other : (dest e k : ℕ) (slot : Option SlotState) → e ≢ dest → queue_of e (option_map (slot_took dest k) slot) ≡ queue_of e slot
+queue_of-other dest e k None ne = refl
+queue_of-other dest e k (Some s) ne =
+    ap (λ n. if is_other s.spec s.me.number e && not (nodes.contains s.noticed e) then map (entry_in s.store) (drop n s.outgoing) else []) (get_or-set_other s.taken dest e (taken_for s dest + k) 0 ne)
+
+pub queue-other : (dest e k : ℕ) (row : Row) → e ≢ dest → queue e (took dest k row) ≡ queue e row
+queue-other dest e k row ne = queue_of-other dest e k row.slot ne
 
 pub queues-set : (dest p : ℕ) (rows : List Row) (row : Row) → dest < counters row → queues dest (set rows p (took dest 1 row)) ≡ set (queues dest rows) p (drop 1 (queue dest row))
 queues-set dest p rows row h = map-set (queue dest) rows p (took dest 1 row) ∙ ap (λ q. set (queues dest rows) p q) (queue-took dest 1 row h)
@@ -178,3 +187,9 @@ cursor_last n from k at vs e l z h =
     ap (next_place n from vs) (slice_get_past vs k past)
     ∙ ap (after_last n from) (slice_get-get_or vs (length vs - 1) nowhere inside)
     ∙ ap (λ m. if m == n then 0 else m) at_is
+
+-- nor does a batch change what waits for other nodes
+pub queues-gave : (dest e b : ℕ) (vs : List Visit) (rows : List Row) → e ≢ dest → queues e (gave dest b vs rows) ≡ queues e rows
+unfolding gave
+queues-gave dest e b vs [] ne = refl
+queues-gave dest e b vs (row ∷ rows) ne = rw (queue-other dest e (share b vs) row ne, queues-gave dest e (suc b) vs rows ne) refl

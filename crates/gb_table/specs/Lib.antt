@@ -5,3 +5,5 @@ pub mod Packing
 pub mod Busy
 pub mod Ahead
 pub mod Groups
+pub mod HostedValue
+pub mod Fair

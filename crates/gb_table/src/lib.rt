@@ -2,5 +2,6 @@
 #![tactic(auto)]
 
 pub mod groups;
+pub mod hosted;
 pub mod packing;
 pub mod place_set;
