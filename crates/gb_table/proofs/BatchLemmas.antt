@@ -6,11 +6,11 @@ use Rattle.std.proofs.lemmas.List.{set-get_or, length-map, length-set, get_or-se
 use Rattle.std.proofs.lemmas.Bool.{cases_lt, cases_eq, ltb-true, ltb-false}
 use Rattle.std.proofs.lemmas.List.Sums.{sum_by-cons}
 use Rattle.gb_frame.specs.declared.item.Item.{Item}
-use Rattle.gb_table.specs.TableState.{Row, no_row}
+use Rattle.gb_table.specs.TableState.{Row}
 use Rattle.gb_table.specs.HostedValue.{HostedValue, ArePlaces, walk_to, packed}
-use Rattle.gb_table.specs.Packing.{Visit, fit, size, gave, took, share, new_cursor, first_place, items, item_at}
+use Rattle.gb_table.specs.Packing.{Visit, walk, queues, fit, size, gave, took, share, new_cursor, first_place, items, item_at}
 use Rattle.gb_table.specs.Fair.{IsLongest}
-use Rattle.gb_table.proofs.TakingLemmas.{gave-none, length-gave}
+use Rattle.gb_table.proofs.TakingLemmas.{gave-none}
 
 -- the batch is a front of the walk
 fit-step : (b : Bool) (room : ℕ) (v : Visit) (vs : List Visit) → length (fit (room - size v) vs) ≤ length vs → take (length (fit (room - size v) vs)) vs ≡ fit (room - size v) vs →
@@ -50,6 +50,16 @@ packed_is dest room k cursor t new e r c =
     let P : List Row → ℕ → HostedValue = λ rs n. record t { rows = rs; cursors = set t.cursors dest n } in
     ap (λ rs. P rs cursor) (r ∙ ap (λ us. gave dest 0 us t.rows) front)
     ∙ ap (λ n. P (gave dest 0 (fit room vs) t.rows) n) (c ∙ ap (λ n. new_cursor (length t.rows) (get_or t.cursors dest 0) n vs) e)
+
+-- the same, where the cursor stands under another name of the node's number
+pub packed_at : (dest to room k cursor : ℕ) (t : HostedValue) (new : List Row) → to ≡ dest → k ≡ length (fit room (walk (get_or t.cursors to 0) (queues dest t.rows))) → new ≡ gave dest 0 (take k (walk (get_or t.cursors to 0) (queues dest t.rows))) t.rows → cursor ≡ new_cursor (length t.rows) (get_or t.cursors to 0) k (walk (get_or t.cursors to 0) (queues dest t.rows)) →
+    record t { rows = new; cursors = set t.cursors to cursor } ≡ packed dest room t
+packed_at dest to room k cursor t new e a b c =
+    ap (λ n. record t { rows = new; cursors = set t.cursors n cursor }) e
+    ∙ packed_is dest room k cursor t new
+    (a ∙ ap (λ n. length (fit room (walk (get_or t.cursors n 0) (queues dest t.rows)))) e)
+    (b ∙ ap (λ n. gave dest 0 (take k (walk (get_or t.cursors n 0) (queues dest t.rows))) t.rows) e)
+    (c ∙ ap (λ n. new_cursor (length t.rows) (get_or t.cursors n 0) k (walk (get_or t.cursors n 0) (queues dest t.rows))) e)
 
 -- a group after its share is that group
 pub get_or-gave : (dest b i : ℕ) (vs : List Visit) (rows : List Row) (d : Row) → i < length rows → get_or (gave dest b vs rows) i d ≡ took dest (share (b + i) vs) (get_or rows i d)

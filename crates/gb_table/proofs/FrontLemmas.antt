@@ -1,7 +1,7 @@
 -- The items of one place in a walk are what waits there.
 use Rattle.std.proofs.Common.{◌≡◌, ℕ, suc, zero, ◌+◌, ◌≤◌, ◌<◌, List, [], ◌∷◌, ◌++◌, length, map, take, drop, get_or, refl, ap, sym, ◌∙◌, arith, zero-add, inl, inr, eq-eqb}
 use Rattle.std.specs.Prelude.{Bool, true, false, cond, ltb, ◌==◌, ◌&&◌, ◌⊎◌, filter, count_by}
-use Rattle.std.proofs.lemmas.List.{take-append-drop, take_at, take-map, get_or-set_other, append-nil, take_all, get_or_default}
+use Rattle.std.proofs.lemmas.List.{take-append-drop, take_at, take-map, append-nil, take_all, get_or_default}
 use Rattle.std.proofs.lemmas.List.Elements.{filter-append}
 use Rattle.std.proofs.lemmas.List.Sums.{length-filter}
 use Rattle.std.proofs.lemmas.Bool.{cases_lt, cases_eq, ne_eqb, ltb-true, lt-ltb}
@@ -9,7 +9,7 @@ use Rattle.gb_table.specs.Turns.{heads, rounds, longest, in_turns, tails}
 use Rattle.gb_types.specs.declared.address.Addr.{Addr}
 use Rattle.gb_types.specs.declared.entry.Entry.{Entry}
 use Rattle.gb_types.specs.declared.limits.TheConstants.{NODES}
-use Rattle.gb_table.specs.TableState.{Row, row_at, HaveCounters, AreApart, no_row}
+use Rattle.gb_table.specs.TableState.{row_at, HaveCounters, AreApart, no_row}
 use Rattle.gb_table.specs.HostedValue.{HostedValue, walk_to, batch, packed}
 use Rattle.gb_table.specs.Packing.{Visit, visit, placed, from_place, walk, fit, is_at, share, queue, queues, items, item_at, item_of, took}
 use Rattle.gb_table.specs.Fair.{is_of, IsFront}

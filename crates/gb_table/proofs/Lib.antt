@@ -8,3 +8,4 @@ pub mod GroupsLemmas
 pub mod StepLemmas
 pub mod BatchLemmas
 pub mod FrontLemmas
+pub mod IndexLemmas

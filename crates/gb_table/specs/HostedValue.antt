@@ -2,7 +2,7 @@
 use Rattle.std.specs.Prelude.{ℕ, ◌≡◌, ◌≤◌, ◌<◌, List, [], length, replicate, Option, slice_index_or, slice_set}
 use Rattle.gb_types.specs.declared.limits.TheConstants.{NODES}
 use Rattle.gb_frame.specs.declared.item.Item.{Item}
-use Rattle.gb_table.specs.TableState.{Row, Room, row_at}
+use Rattle.gb_table.specs.TableState.{Row, Room}
 use Rattle.gb_table.specs.Packing.{Visit, queues, walk, fit, gave, new_cursor, items, given_by}
 use Rattle.gb_table.specs.Busy.{IsBusy}
 

@@ -3,7 +3,7 @@ ghost use Rattle.std.specs.Prelude.{◌≡◌, ◌<◌, ◌≤◌, ◌+◌, [], 
 ghost use Rattle.gb_frame.specs.Packet.{item_of as view_item};
 ghost use Rattle.gb_table.specs.Ahead.{ahead, IsActive, IsTurn};
 ghost use Rattle.gb_table.specs.Busy.{IsBusy};
-ghost use Rattle.gb_table.specs.TableState.{HaveCounters};
+ghost use Rattle.gb_table.specs.TableState.{HaveCounters, AreApart};
 ghost use Rattle.gb_table.specs.Packing.{queues, walk, fit, gave, new_cursor, items, first_place};
 
 use crate::groups::Groups;
@@ -23,6 +23,7 @@ pub fn next_place(groups: &Groups, busy: &PlaceSet, dest: NodeId, from: usize) -
     ensures within { IfSome result (λ p. p < length groups.now.rows) }
     ensures busy { IfSome result (λ p. 0 < length (slice_index_or (queues dest.number groups.now.rows) p [])) }
     ensures counters { HaveCounters groups.now.rows }
+    ensures apart { AreApart groups.now.rows }
     ensures same { IfSome result (λ p. walk p (queues dest.number groups.now.rows) ≡ walk from (queues dest.number groups.now.rows)) }
 {
     let _places = groups.len();
