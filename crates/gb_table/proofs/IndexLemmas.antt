@@ -1,14 +1,17 @@
 -- The index of what waits, over all nodes.
-use Rattle.std.proofs.Common.{◌≡◌, ◌≢◌, ℕ, ◌<◌, List, [], length, get_or, ap, sym, subst, ◌∙◌, arith, inl, inr}
+use Rattle.std.proofs.Common.{◌≡◌, ◌≢◌, ℕ, ◌<◌, ◌+◌, min, List, [], length, get_or, ap, sym, subst, ◌∙◌, arith, inl, inr}
 use Rattle.std.proofs.Math.ListN.{set}
 use Rattle.std.proofs.lemmas.Bool.{cases_eq}
-use Rattle.std.proofs.lemmas.List.{get_or_default, get_or-set_same, get_or-set_other, length-set}
+use Rattle.std.proofs.lemmas.List.{get_or_default, get_or-set_same, get_or-set_other, length-set, map-set}
+use Rattle.std.proofs.Math.Seq.{map-set_same}
 use Rattle.gb_types.specs.declared.limits.TheConstants.{NODES}
 use Rattle.gb_types.specs.declared.entry.Entry.{Entry}
-use Rattle.gb_table.specs.TableState.{Row}
-use Rattle.gb_table.specs.Packing.{queues}
+use Rattle.gb_table.specs.TableState.{Row, row_at, no_row}
+use Rattle.gb_table.specs.Packing.{queue, queues}
 use Rattle.gb_table.specs.Busy.{IsBusy}
-use Rattle.gb_table.specs.HostedValue.{IsIndex}
+use Rattle.gb_table.specs.HostedValue.{ArePlaces, IsIndex, IsIndexBut}
+use Rattle.gb_table.specs.PlaceSet.{has}
+use Rattle.gb_table.proofs.WalkLemmas.{queues_at}
 
 -- the set of a node
 pub index_at : (rows : List Row) (busy : List (List ℕ)) (to d : ℕ) (words other : List ℕ) → IsIndex rows busy → to ≡ d → d < NODES → words ≡ get_or busy to other → IsBusy d words rows
@@ -38,3 +41,68 @@ index_changed rows new busy to d words ok s here n others h = record {
         subst (λ (ws : List ℕ). IsBusy e ws new) (sym (get_or-set_other busy to e words [] ne)) (busy_same e (get_or busy e []) rows new (ok.each e l) n (others e ne2))
   ];
 }
+
+-- a group changes and nothing that waits in it
+pub index_quiet : (rows : List Row) (busy : List (List ℕ)) (p : ℕ) (row : Row) → IsIndex rows busy → ((d : ℕ) → queue d row ≡ queue d (row_at rows p)) → IsIndex (set rows p row) busy
+index_quiet rows busy p row ok same = record {
+  size = ok.size;
+  each = λ d h. busy_same d (get_or busy d []) rows (set rows p row) (ok.each d h) (length-set rows p row) (map-set_same (queue d) rows p row no_row (same d));
+}
+
+pub places_quiet : (rows : List Row) (cursors : List ℕ) (p : ℕ) (row : Row) → ArePlaces rows cursors → ArePlaces (set rows p row) cursors
+places_quiet rows cursors p row ok = record { size = ok.size; within = λ d. let n = length-set rows p row in let h = ok.within d in omega arith }
+
+-- a group changes: the index is right but for its place
+pub index_but : (rows : List Row) (busy : List (List ℕ)) (p : ℕ) (row : Row) → IsIndex rows busy → IsIndexBut p (set rows p row) busy
+index_but rows busy p row ok = record {
+  size = ok.size;
+  few = let n = length-set rows p row in let f = (ok.each 0 (omega arith)).few in omega arith;
+  each = λ d q h ne.
+      (ok.each d h).each q
+      ∙ sym (ap (λ (qs : List (List Entry)). min 1 (length (get_or qs q []))) (map-set (queue d) rows p row) ∙ ap (λ (x : List Entry). min 1 (length x)) (get_or-set_other (queues d rows) p q (queue d row) [] ne));
+}
+
+-- a node's set says rightly whether something waits at a place
+abbrev pub IsRight : List Row → List (List ℕ) → ℕ → ℕ → Type 0
+IsRight rows busy p d = has (get_or busy d []) p ≡ min 1 (length (get_or (queues d rows) p []))
+
+-- the index is whole once each node's set is right at the place
+pub index_whole : (rows : List Row) (busy : List (List ℕ)) (p : ℕ) → IsIndexBut p rows busy → ((d : ℕ) → d < NODES → IsRight rows busy p d) → IsIndex rows busy
+index_whole rows busy p ok all = record {
+  size = ok.size;
+  each = λ d h. record {
+    few = ok.few;
+    each = λ q. elim (cases_eq q p) [
+      | inl e ↦ ap (has (get_or busy d [])) e ∙ all d h ∙ sym (ap (λ k. min 1 (length (get_or (queues d rows) k []))) e)
+      | inr ne ↦ ok.each d q h ne
+    ];
+  };
+}
+
+-- one node's set was made right
+pub record Refreshed (p to : ℕ) (rows : List Row) (busy : List (List ℕ)) : Type 0 where
+  pub but : IsIndexBut p rows busy
+  pub right : (d : ℕ) → d < to → IsRight rows busy p d
+
+pub refreshed : (p to : ℕ) (rows : List Row) (busy : List (List ℕ)) (words other : List ℕ) → p < length rows → to < NODES → Refreshed p to rows busy → ((q : ℕ) → q ≢ p → has words q ≡ has (get_or busy to other) q) → has words p ≡ min 1 (length (queue to (row_at rows p))) → Refreshed p (to + 1) rows (set busy to words)
+refreshed p to rows busy words other h l ok others here =
+    let n = ok.but.size in
+    let m : to < length busy = omega arith in
+    let at : get_or (set busy to words) to [] ≡ words = get_or-set_same busy to words [] m in
+    let old = get_or_default busy to [] other m in
+    record {
+      but = record {
+        size = length-set busy to words ∙ n;
+        few = ok.but.few;
+        each = λ d q k ne. elim (cases_eq d to) [
+          | inl e ↦ ap (λ i. has (get_or (set busy to words) i []) q) e ∙ ap (λ (ws : List ℕ). has ws q) at ∙ others q ne ∙ sym (ap (λ (ws : List ℕ). has ws q) old) ∙ sym (ap (λ i. has (get_or busy i []) q) e) ∙ ok.but.each d q k ne
+          | inr off ↦ ap (λ (ws : List ℕ). has ws q) (get_or-set_other busy to d words [] off) ∙ ok.but.each d q k ne
+        ];
+      };
+      right = λ d k. elim (cases_eq d to) [
+        | inl e ↦
+            ap (λ i. has (get_or (set busy to words) i []) p) e ∙ ap (λ (ws : List ℕ). has ws p) at ∙ here
+            ∙ sym (ap (λ (x : List Entry). min 1 (length x)) (queues_at to rows p (row_at rows p) h (get_or_default rows p no_row (row_at rows p) h))) ∙ sym (ap (λ i. min 1 (length (get_or (queues i rows) p []))) e)
+        | inr off ↦ ap (λ (ws : List ℕ). has ws p) (get_or-set_other busy to d words [] off) ∙ ok.right d (omega arith)
+      ];
+    }

@@ -9,3 +9,5 @@ pub mod StepLemmas
 pub mod BatchLemmas
 pub mod FrontLemmas
 pub mod IndexLemmas
+pub mod AddressLemmas
+pub mod QuietLemmas

@@ -1,9 +1,10 @@
 -- All groups of a node, with where packing goes on, as contracts see them.
-use Rattle.std.specs.Prelude.{ℕ, ◌≡◌, ◌≤◌, ◌<◌, List, [], length, replicate, Option, slice_index_or, slice_set}
-use Rattle.gb_types.specs.declared.limits.TheConstants.{NODES}
+use Rattle.std.specs.Prelude.{ℕ, ◌≡◌, ◌≢◌, ◌≤◌, ◌<◌, min, List, [], length, replicate, Option, slice_index_or, slice_set}
+use Rattle.gb_types.specs.declared.limits.TheConstants.{NODES, PLACES}
 use Rattle.gb_frame.specs.declared.item.Item.{Item}
 use Rattle.gb_table.specs.TableState.{Row, Room}
 use Rattle.gb_table.specs.Packing.{Visit, queues, walk, fit, gave, new_cursor, items, given_by}
+use Rattle.gb_table.specs.PlaceSet.{has}
 use Rattle.gb_table.specs.Busy.{IsBusy}
 
 -- the groups in the order in which they were made, the room that each has, and for each node the place where packing goes on
@@ -50,3 +51,9 @@ pub record ArePlaces (rows : List Row) (cursors : List ℕ) : Type 0 where
 pub record IsIndex (rows : List Row) (busy : List (List ℕ)) : Type 0 where
   pub size : length busy ≡ NODES
   pub each : (d : ℕ) → d < NODES → IsBusy d (slice_index_or busy d []) rows
+
+-- the same but for one place
+pub record IsIndexBut (p : ℕ) (rows : List Row) (busy : List (List ℕ)) : Type 0 where
+  pub size : length busy ≡ NODES
+  pub few : length rows ≤ PLACES
+  pub each : (d q : ℕ) → d < NODES → q ≢ p → has (slice_index_or busy d []) q ≡ min 1 (length (slice_index_or (queues d rows) q []))

@@ -7,3 +7,4 @@ pub mod Ahead
 pub mod Groups
 pub mod HostedValue
 pub mod Fair
+pub mod AtAddress

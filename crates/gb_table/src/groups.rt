@@ -61,7 +61,8 @@ fn key_at(places: &IndexMap<Addr, Place>, place: usize) -> Option<usize>
 impl Groups {
     /// No groups.
     pub fn new(alloc: Global) -> Groups
-        ensures { result.rows ≡ [] }
+        ensures rows { result.rows ≡ [] }
+        ensures rooms { result.rooms ≡ [] }
     {
         Groups {
             places: IndexMap::new(alloc),
