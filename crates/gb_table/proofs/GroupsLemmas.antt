@@ -1,5 +1,5 @@
 -- A write under one key changes one group.
-use Rattle.std.proofs.Common.{◌≡◌, ℕ, zero, suc, ◌≤◌, ◌<◌, List, [], ◌∷◌, length, map, get_or, refl, ap, sym, ◌∙◌, subst, arith, inl, inr}
+use Rattle.std.proofs.Common.{◌≡◌, ◌≢◌, ℕ, zero, suc, ◌≤◌, ◌<◌, List, [], ◌∷◌, length, map, get_or, refl, ap, sym, ◌∙◌, subst, arith, inl, inr}
 use Rattle.std.specs.List.{position_or_len}
 use Rattle.std.specs.Prelude.{Bool, cond, not, nat_lt, ◌+◌, Option, Some, None, IsSome, option_map, position}
 use Rattle.std.proofs.Math.ListN.{set, get_or-map}
@@ -32,7 +32,7 @@ under-other slots k new Gone h = refl
 under-other slots k new (Key j) h = get_or-set_other slots.slots k j (Some new) None (λ e. h (ap Key e))
 
 -- what is made of a group by its address and its slot
-abbrev made_of : {X : Type 0} → (Addr → Option SlotValue → X) → Slab SlotValue → Addr × Place → X
+abbrev pub made_of : {X : Type 0} → (Addr → Option SlotValue → X) → Slab SlotValue → Addr × Place → X
 made_of f slots e = f e.0 (slot_under slots e.1)
 
 map-other : {X : Type 0} (f : Addr → Option SlotValue → X) (slots : Slab SlotValue) (k : ℕ) (new : SlotValue) (es : List (Addr × Place)) → ((q : ℕ) → place_at es q ≡ Key k → ⊥) → map (made_of f (with_value slots k new)) es ≡ map (made_of f slots) es
@@ -77,10 +77,10 @@ pub record Changed (f : SlotState → SlotState) (es : List (Addr × Place)) (sl
   pub rooms : map (room_of (with_value slots k new)) es ≡ set (map (room_of slots) es) p (room_in (Some new))
 
 -- a group, and its room, by its address and its slot
-abbrev row_made : Addr → Option SlotValue → Row
+abbrev pub row_made : Addr → Option SlotValue → Row
 row_made a o = record { addr = a; slot = option_map (λ v. v.state) o }
 
-abbrev room_made : Addr → Option SlotValue → Room
+abbrev pub room_made : Addr → Option SlotValue → Room
 room_made a o = room_in o
 
 changed_rows : (f : SlotState → SlotState) (es : List (Addr × Place)) (slots : Slab SlotValue) (p k : ℕ) (v new : SlotValue) → AreKept es slots → place_at es p ≡ Key k → Some v ≡ get slots k → new.state ≡ f v.state → map (row_of (with_value slots k new)) es ≡ set (map (row_of slots) es) p (on_slot f (row_at (map (row_of slots) es) p))
@@ -175,3 +175,7 @@ rooms_after old now es slots p k items size v new e f here at c b =
 -- a call that takes nothing
 pub rooms_unspent : (rooms : List Room) (p calls bytes : ℕ) → Spends rooms rooms p calls bytes
 rooms_unspent rooms p calls bytes = record { calls = omega arith; bytes = omega arith; others = λ q ne. refl }
+
+-- the room of the other groups after a write
+pub rooms_others : (old now : List Room) (es : List (Addr × Place)) (slots : Slab SlotValue) (p : ℕ) (r : Room) → map (room_of slots) es ≡ old → now ≡ set (map (room_of slots) es) p r → (q : ℕ) → q ≢ p → room_at now q ≡ room_at old q
+rooms_others old now es slots p r e f q ne = ap (λ (rs : List Room). room_at rs q) f ∙ get_or-set_other (map (room_of slots) es) p q r no_room ne ∙ ap (λ (rs : List Room). room_at rs q) e

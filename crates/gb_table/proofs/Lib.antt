@@ -11,3 +11,4 @@ pub mod FrontLemmas
 pub mod IndexLemmas
 pub mod AddressLemmas
 pub mod QuietLemmas
+pub mod AddLemmas

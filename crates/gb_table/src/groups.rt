@@ -1,8 +1,11 @@
 //! The groups of a node, in the order in which they were made.
-ghost use Rattle.std.specs.Prelude.{◌≡◌, ◌<◌, ◌≤◌, ◌+◌, ◌&&◌, [], ℕ, List, Option, Some, None, length, slice_get, slice_index_or, slice_set, position, IfSome, MatchOption, option_map};
+ghost use Rattle.std.specs.Prelude.{◌≡◌, ◌≢◌, ◌<◌, ◌≤◌, ◌+◌, ◌&&◌, [], ℕ, List, Option, Some, None, length, slice_get, slice_index_or, slice_set, position, ◌++◌, ◌∷◌, OnOk, OnErr, true, IfSome, MatchOption, option_map};
 ghost use Rattle.gb_rules.specs.Address.{is_addr};
-ghost use Rattle.gb_slot.specs.Slot.{waiting, slot_came, slot_done, slot_noticed};
-ghost use Rattle.gb_table.specs.TableState.{no_entry, row_at, room_at, on_slot, HaveCounters, AreApart, HasRoom, Spends};
+ghost use Rattle.gb_rules.specs.Group.{is_member, open_answer, shut_answer, say_answer, fetch_answer};
+ghost use Rattle.gb_rules.specs.Replied.{done_reply, said_reply, IsReply};
+ghost use Rattle.gb_rules.specs.declared.phase.Phase.TheVariants as Phase;
+ghost use Rattle.gb_slot.specs.Slot.{IsWithinLimits, new_slot, waiting, slot_came, slot_done, slot_noticed, slot_moved, slot_said};
+ghost use Rattle.gb_table.specs.TableState.{no_entry, row_at, room_at, on_slot, HaveCounters, AreApart, HasRoom, Spends, unless_gone};
 ghost use Rattle.gb_frame.specs.Packet.{item_of as view_item};
 ghost use Rattle.gb_table.specs.Packing.{queue, queues, took, item_of};
 ghost use Rattle.gb_table.specs.Groups.{place_at};
@@ -10,8 +13,13 @@ ghost use Rattle.gb_table.specs.Groups.{place_at};
 use gb_frame::item::ItemView;
 use gb_slot::slot::Slot;
 use gb_types::address::Addr;
+use gb_types::entry::Entries;
+use gb_types::memory::OutOfMemory;
 use gb_types::message::MsgId;
-use gb_types::node::NodeId;
+use gb_types::node::{NodeId, NodeSet};
+use gb_types::refusal::Refusal;
+use gb_types::reply::Reply;
+use gb_types::spec::Spec;
 use indexmap::IndexMap;
 use slab::Slab;
 use std::alloc::Global;
@@ -191,5 +199,120 @@ impl Groups {
                 slot.notice(who);
             }
         }
+    }
+
+    /// Makes room in the group at a place for so many items that come, with so many bytes in all.
+    pub fn ready(&mut self, place: usize, calls: usize, bytes: usize) -> Result<(), OutOfMemory>
+        ensures rows { self.new.rows ≡ self.old.rows }
+        ensures room { OnOk result (HasRoom (row_at self.new.rows place).slot (room_at self.new.rooms place) calls bytes) }
+        ensures others { (q : ℕ) → q ≢ place → room_at self.new.rooms q ≡ room_at self.old.rooms q }
+    {
+        if let Some(key) = key_at(&self.places, place) {
+            if let Some(slot) = self.slots.get_mut(key) {
+                slot.ready(calls, bytes)?;
+            }
+        }
+        Ok(())
+    }
+
+    /// Opens the group at a place. Spent where it was dropped.
+    pub fn open_group(&mut self, place: usize) -> Reply
+        ensures reply { result ≡ unless_gone open_answer (row_at self.old.rows place).slot }
+        ensures rows { self.new.rows ≡ slice_set self.old.rows place (on_slot (slot_moved Phase.Opened result) (row_at self.old.rows place)) }
+        ensures rooms { self.new.rooms ≡ self.old.rooms }
+    {
+        if let Some(key) = key_at(&self.places, place) {
+            if let Some(slot) = self.slots.get_mut(key) {
+                return replied(slot.open_group());
+            }
+        }
+        Reply::Refused(Refusal::Spent)
+    }
+
+    /// Shuts the group at a place. Spent where it was dropped.
+    pub fn shut_group(&mut self, place: usize) -> Reply
+        ensures reply { result ≡ unless_gone shut_answer (row_at self.old.rows place).slot }
+        ensures rows { self.new.rows ≡ slice_set self.old.rows place (on_slot (slot_moved Phase.Shut result) (row_at self.old.rows place)) }
+        ensures rooms { self.new.rooms ≡ self.old.rooms }
+    {
+        if let Some(key) = key_at(&self.places, place) {
+            if let Some(slot) = self.slots.get_mut(key) {
+                return replied(slot.shut_group());
+            }
+        }
+        Reply::Refused(Refusal::Spent)
+    }
+
+    /// Says something in the group at a place. Spent where it was dropped.
+    pub fn say(&mut self, place: usize, payload: &[u8]) -> Reply
+        ensures reply { IsReply (unless_gone (λ s. say_answer s payload.now) (row_at self.old.rows place).slot) result }
+        ensures rows { self.new.rows ≡ slice_set self.old.rows place (on_slot (slot_said payload.now result) (row_at self.old.rows place)) }
+        ensures others { (q : ℕ) → q ≢ place → room_at self.new.rooms q ≡ room_at self.old.rooms q }
+    {
+        if let Some(key) = key_at(&self.places, place) {
+            if let Some(slot) = self.slots.get_mut(key) {
+                return said(slot.say(payload));
+            }
+        }
+        Reply::Refused(Refusal::Spent)
+    }
+
+    /// Reads the log of the group at a place. Spent where it was dropped.
+    pub fn fetch(&self, place: usize, from: u32, most: u32) -> Reply
+        ensures { IsReply (unless_gone (λ s. fetch_answer s from most) (row_at self.now.rows place).slot) result }
+    {
+        let Some(slot) = self.slot(place) else {
+            return Reply::Refused(Refusal::Spent);
+        };
+        match slot.fetch(from, most) {
+            Ok(entries) => Reply::Log(Entries::from(entries)),
+            Err(why) => Reply::Refused(why),
+        }
+    }
+
+    /// Makes a group behind the others, at the node `me`, which has noticed these nodes.
+    pub fn add(
+        &mut self,
+        alloc: Global,
+        addr: Addr,
+        spec: &Spec,
+        me: NodeId,
+        noticed: &NodeSet,
+    ) -> Result<(), OutOfMemory>
+        requires limits { IsWithinLimits spec.now }
+        requires member { is_member spec.now me.number ≡ true }
+        requires fresh { position (λ row. is_addr addr row.addr) self.old.rows ≡ None }
+        ensures rows { OnOk result (self.new.rows ≡ self.old.rows ++ record { addr = addr; slot = Some (new_slot spec.now me noticed.now) } ∷ []) }
+        ensures rooms { OnOk result ((q : ℕ) → q < length self.old.rows → room_at self.new.rooms q ≡ room_at self.old.rooms q) }
+        ensures err { OnErr result (self.new ≡ self.old) }
+    {
+        self.places.reserve(1)?;
+        self.slots.reserve(1)?;
+        let Ok(slot) = Slot::new(alloc, spec.duplicate(), me, noticed) else {
+            return Err(OutOfMemory);
+        };
+        let key = self.slots.insert_reserved(slot);
+        self.places.insert(addr, Place::Key(key)).unwrap();
+        Ok(())
+    }
+}
+
+/// The reply that a call's result is.
+fn replied(done: Result<(), Refusal>) -> Reply
+    ensures { result ≡ done_reply done }
+{
+    match done {
+        Ok(()) => Reply::Done,
+        Err(why) => Reply::Refused(why),
+    }
+}
+
+/// The reply that the result of a say is.
+fn said(seq: Result<u16, Refusal>) -> Reply
+    ensures { result ≡ said_reply seq }
+{
+    match seq {
+        Ok(seq) => Reply::Said(seq),
+        Err(why) => Reply::Refused(why),
     }
 }
