@@ -1,6 +1,6 @@
 -- A group is made behind the others.
 use Rattle.std.proofs.Common.{◌≡◌, ◌≢◌, ℕ, zero, suc, ◌<◌, ◌≤◌, ◌+◌, List, [], ◌∷◌, ◌++◌, length, map, get_or, refl, ap, sym, ◌∙◌, subst, true, false, arith, inl, inr, length-append, eq-eqb}
-use Rattle.std.specs.Prelude.{◌⊎◌, ◌&&◌, Bool, cond, not, nat_lt, nat_eq, Option, Some, None, IsSome, option_map, position}
+use Rattle.std.specs.Prelude.{◌⊎◌, ◌&&◌, Bool, cond, not, nat_lt, nat_eq, Option, Some, None, IsSome, position}
 use Rattle.std.proofs.lemmas.List.{length-map, map-append}
 use Rattle.std.specs.List.{position_or_len}
 use Rattle.std.proofs.lemmas.Bool.{cases_lt, lt-ltb}
@@ -9,11 +9,11 @@ use Rattle.slab.specs.Slab.{Slab, get}
 use Rattle.gb_types.specs.declared.address.Addr.{Addr}
 use Rattle.gb_types.specs.declared.limits.TheConstants.{NODES}
 use Rattle.gb_rules.specs.Address.{is_addr}
-use Rattle.gb_slot.specs.SlotState.{SlotState, SlotValue}
+use Rattle.gb_slot.specs.SlotState.{SlotValue}
 use Rattle.gb_table.specs.declared.groups.Place.{Place}
 use Rattle.gb_table.specs.declared.groups.Place.TheVariants.{Key, Gone}
 use Rattle.gb_table.specs.TableState.{Row, Room, row_at, room_at, counters, HaveCounters, AreApart, no_row, no_room}
-use Rattle.gb_table.specs.Groups.{slot_under, row_of, room_in, room_of, place_at, AreKept}
+use Rattle.gb_table.specs.Groups.{slot_under, row_of, room_of, place_at, AreKept}
 use Rattle.gb_table.proofs.GroupsLemmas.{no_entry_at, row_is, made_of, row_made, room_made}
 
 -- where a place stands in a list that has one more

@@ -11,7 +11,7 @@ use Rattle.gb_types.specs.declared.address.Addr.{Addr}
 use Rattle.gb_rules.specs.Address.{is_addr}
 use Rattle.gb_slot.specs.SlotState.{SlotState}
 use Rattle.gb_table.specs.TableState.{Row, row_at, on_slot, no_row}
-use Rattle.gb_table.specs.AtAddress.{place_of, row_for, step_at, on_address, address_of, entry_of, item_came, OthersKept}
+use Rattle.gb_table.specs.AtAddress.{place_of, step_at, on_address, address_of, entry_of, item_came, OthersKept}
 use Rattle.std.proofs.lemmas.Bool.{lt-ltb}
 use Rattle.gb_types.proofs.SameLemmas.{same_number}
 use Rattle.gb_types.specs.declared.limits.TheConstants.{NODES}

@@ -1,10 +1,10 @@
 -- The index of what waits, over all nodes.
-use Rattle.std.proofs.Common.{◌≡◌, ◌≢◌, ℕ, ◌<◌, ◌+◌, min, List, [], length, get_or, ap, sym, subst, ◌∙◌, arith, inl, inr}
+use Rattle.std.proofs.Common.{zero, suc, ◌∷◌, ◌++◌, refl, length-append, ◌≡◌, ◌≢◌, ℕ, ◌<◌, ◌+◌, min, List, [], length, get_or, ap, sym, subst, ◌∙◌, arith, inl, inr}
 use Rattle.std.proofs.Math.ListN.{set}
 use Rattle.std.proofs.lemmas.Bool.{cases_eq}
-use Rattle.std.proofs.lemmas.List.{get_or_default, get_or-set_same, get_or-set_other, length-set, map-set}
+use Rattle.std.proofs.lemmas.List.{get_or_default, get_or-set_same, get_or-set_other, length-set, map-set, map-append}
 use Rattle.std.proofs.Math.Seq.{map-set_same}
-use Rattle.gb_types.specs.declared.limits.TheConstants.{NODES}
+use Rattle.gb_types.specs.declared.limits.TheConstants.{NODES, PLACES}
 use Rattle.gb_types.specs.declared.entry.Entry.{Entry}
 use Rattle.gb_table.specs.TableState.{Row, row_at, no_row}
 use Rattle.gb_table.specs.Packing.{queue, queues}
@@ -106,3 +106,22 @@ refreshed p to rows busy words other h l ok others here =
         | inr off ↦ ap (λ (ws : List ℕ). has ws p) (get_or-set_other busy to d words [] off) ∙ ok.right d (omega arith)
       ];
     }
+
+get_or-none : (qs : List (List Entry)) (p : ℕ) → get_or (qs ++ [] ∷ []) p [] ≡ get_or qs p []
+get_or-none [] zero = refl
+get_or-none [] (suc p) = refl
+get_or-none (q ∷ qs) zero = refl
+get_or-none (q ∷ qs) (suc p) = get_or-none qs p
+
+-- a group is added in which nothing waits
+pub index_grown : (rows : List Row) (busy : List (List ℕ)) (row : Row) → IsIndex rows busy → length rows < PLACES → ((d : ℕ) → queue d row ≡ []) → IsIndex (rows ++ row ∷ []) busy
+index_grown rows busy row ok few none = record {
+  size = ok.size;
+  each = λ d h. record {
+    few = let n = length-append rows (row ∷ []) in omega arith;
+    each = λ p. (ok.each d h).each p ∙ sym (ap (λ (qs : List (List Entry)). min 1 (length (get_or qs p []))) (map-append (queue d) rows (row ∷ [])) ∙ ap (λ (q : List Entry). min 1 (length (get_or (queues d rows ++ q ∷ []) p []))) (none d) ∙ ap (λ (q : List Entry). min 1 (length q)) (get_or-none (queues d rows) p));
+  };
+}
+
+pub places_grown : (rows : List Row) (cursors : List ℕ) (row : Row) → ArePlaces rows cursors → ArePlaces (rows ++ row ∷ []) cursors
+places_grown rows cursors row ok = record { size = ok.size; within = λ d. let n = length-append rows (row ∷ []) in let h = ok.within d in omega arith }

@@ -12,3 +12,4 @@ pub mod IndexLemmas
 pub mod AddressLemmas
 pub mod QuietLemmas
 pub mod AddLemmas
+pub mod NoticeLemmas

@@ -1,15 +1,19 @@
 -- A step at one address.
 use Rattle.std.proofs.Common.{arith}
-use Rattle.std.specs.Prelude.{ℕ, ◌≡◌, ◌≢◌, ◌<◌, ◌≤◌, ◌+◌, ◌%◌, false, List, length, min, Option, Some, None, option_map, position, nat_lt, slice_index_or, slice_set, if◌then◌else◌}
+use Rattle.std.specs.Prelude.{ℕ, ◌≡◌, ◌<◌, ◌%◌, false, List, Option, Some, None, option_map, position, nat_lt, slice_set, if◌then◌else◌}
 use Rattle.gb_types.specs.declared.address.Addr.{Addr}
 use Rattle.gb_types.specs.declared.entry.Entry.{Entry}
 use Rattle.gb_types.specs.declared.limits.TheConstants.{NODES}
 use Rattle.gb_types.specs.declared.node.NodeId.{NodeId}
 use Rattle.gb_frame.specs.declared.item.Item.{Item}
+use Rattle.gb_types.specs.declared.refusal.Refusal.TheVariants.{NoGroup}
+use Rattle.gb_types.specs.declared.reply.Reply.{Reply}
+use Rattle.gb_types.specs.declared.reply.Reply.TheVariants.{Refused}
+use Rattle.gb_rules.specs.Group.{Shown}
 use Rattle.gb_rules.specs.Address.{is_addr}
 use Rattle.gb_slot.specs.Slot.{slot_came}
 use Rattle.gb_slot.specs.SlotState.{SlotState}
-use Rattle.gb_table.specs.TableState.{Row, Room, row_at, room_at, on_slot, Spends, HasRoom}
+use Rattle.gb_table.specs.TableState.{Row, Room, row_at, room_at, on_slot, unless_gone, Spends, HasRoom}
 
 -- the place of an address among the groups
 abbrev pub place_of : Addr → List Row → Option ℕ
@@ -55,3 +59,11 @@ entry_of i = record { origin = record { number = i.origin % NODES; below = rest_
 -- after an item came from a node; one whose origin is no node is let fall
 abbrev pub item_came : NodeId → Item → List Row → List Row
 item_came from i rows = if nat_lt i.origin NODES then on_address (address_of i) (slot_came from (entry_of i)) rows else rows
+
+-- the reply to a command on the group with an address
+abbrev pub reply_at : (Shown → Reply) → List Row → Option ℕ → Reply
+reply_at answer rows None = Refused NoGroup
+reply_at answer rows (Some p) = unless_gone answer (row_at rows p).slot
+
+abbrev pub group_reply : (Shown → Reply) → Addr → List Row → Reply
+group_reply answer addr rows = reply_at answer rows (place_of addr rows)

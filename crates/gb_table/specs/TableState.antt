@@ -73,10 +73,19 @@ pub record Spends (old new : List Room) (p items size : ℕ) : Type 0 where
   pub bytes : (room_at old p).bytes ≤ (room_at new p).bytes + size
   pub others : (q : ℕ) → q ≢ p → room_at new q ≡ room_at old q
 
+-- each group took room for so many notices at most
+pub record AllSpend (old new : List Room) (count : ℕ) : Type 0 where
+  pub calls : (p : ℕ) → (room_at old p).calls ≤ (room_at new p).calls + count
+  pub bytes : (p : ℕ) → (room_at old p).bytes ≤ (room_at new p).bytes
+
 -- so many items can come to a group with its slot, with so many bytes in all
 pub record HasRoom (slot : Option SlotState) (room : Room) (items size : ℕ) : Type 0 where
   pub calls : IsSome slot → items ≤ room.calls
   pub bytes : IsSome slot → size ≤ room.bytes
+
+-- so many notices can come to each group
+pub record HaveRoom (rows : List Row) (rooms : List Room) (count : ℕ) : Type 0 where
+  pub each : (p : ℕ) → p < length rows → HasRoom (row_at rows p).slot (room_at rooms p) count 0
 
 -- a command on a group that may have been dropped
 abbrev pub unless_gone : (Shown → Reply) → Option SlotState → Reply

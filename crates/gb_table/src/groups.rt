@@ -157,14 +157,7 @@ impl Groups {
     }
 
     /// Takes an item that came from a node into the group at a place, which has room for it.
-    pub fn came(
-        &mut self,
-        place: usize,
-        from: NodeId,
-        origin: NodeId,
-        seq: u16,
-        payload: &[u8],
-    )
+    pub fn came(&mut self, place: usize, from: NodeId, origin: NodeId, seq: u16, payload: &[u8])
         requires { HasRoom (row_at self.old.rows place).slot (room_at self.old.rooms place) 1 (length payload.now) }
         ensures rows { self.new.rows ≡ slice_set self.old.rows place (on_slot (slot_came from (record { origin = origin; seq = seq; payload = payload.now })) (row_at self.old.rows place)) }
         ensures rooms { Spends self.old.rooms self.new.rooms place 1 (length payload.now) }

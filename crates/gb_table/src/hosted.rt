@@ -1,9 +1,14 @@
 //! All groups of a node, with an index of what waits in them.
-ghost use Rattle.std.specs.Prelude.{◌≡◌, ◌≤◌, ◌<◌, ℕ, Some, None, length, IfOk, OnOk, OnErr, MatchOption};
+ghost use Rattle.std.specs.Prelude.{◌≡◌, ◌≤◌, ◌<◌, ◌+◌, ◌++◌, ◌∷◌, [], true, map, slice_set, ℕ, Some, None, length, IfOk, OnOk, OnErr, MatchOption};
 ghost use Rattle.gb_table.specs.Fair.{IsFront, IsLongest};
 ghost use Rattle.gb_frame.specs.Packet.{item_of as view_item};
-ghost use Rattle.gb_slot.specs.Slot.{slot_done};
-ghost use Rattle.gb_table.specs.AtAddress.{place_of, on_address, address_of, item_came, OthersKept, SpendsAt, HasRoomAt};
+ghost use Rattle.gb_types.specs.declared.limits.TheConstants.{PLACES};
+ghost use Rattle.gb_rules.specs.Group.{is_member, open_answer, shut_answer, say_answer, fetch_answer};
+ghost use Rattle.gb_rules.specs.Replied.{IsReply};
+ghost use Rattle.gb_rules.specs.declared.phase.Phase.TheVariants as Phase;
+ghost use Rattle.gb_slot.specs.Slot.{IsWithinLimits, new_slot, slot_done, slot_moved, slot_noticed, slot_said};
+ghost use Rattle.gb_table.specs.TableState.{row_at, room_at, on_slot, HasRoom, HaveRoom, Spends, AllSpend};
+ghost use Rattle.gb_table.specs.AtAddress.{group_reply, place_of, on_address, address_of, item_came, OthersKept, SpendsAt, HasRoomAt};
 ghost use Rattle.gb_table.specs.HostedValue.{no_groups, walk_to, batch, packed, given, IsIndex, IsIndexBut};
 
 use crate::groups::Groups;
@@ -14,7 +19,10 @@ use gb_types::address::Addr;
 use gb_types::limits::NODES;
 use gb_types::memory::OutOfMemory;
 use gb_types::message::MsgId;
-use gb_types::node::NodeId;
+use gb_types::node::{NodeId, NodeSet};
+use gb_types::refusal::Refusal;
+use gb_types::reply::Reply;
+use gb_types::spec::Spec;
 use std::alloc::Global;
 use std::marker::Model;
 
@@ -57,6 +65,17 @@ fn refresh(busy: &mut [PlaceSet], groups: &Groups, place: usize)
             busy[index].insert(place);
         }
     }
+}
+
+/// Makes room in each group for so many notices.
+fn ready_all(groups: &mut Groups, count: usize) -> Result<(), OutOfMemory>
+    ensures rows { groups.new.rows ≡ groups.old.rows }
+    ensures room { OnOk result (HaveRoom groups.new.rows groups.new.rooms count) }
+{
+    for place in 0..groups.len() {
+        groups.ready(place, count, 0)?;
+    }
+    Ok(())
 }
 
 impl Hosted {
@@ -103,6 +122,127 @@ impl Hosted {
     {
         if let Some(place) = self.groups.find(addr) {
             self.groups.done(place, dest, m);
+        }
+    }
+
+    /// Makes a group, last in the order, at the node `me`, which has noticed these nodes.
+    pub fn make(
+        &mut self,
+        addr: Addr,
+        spec: &Spec,
+        me: NodeId,
+        noticed: &NodeSet,
+    ) -> Result<(), OutOfMemory>
+        requires limits { IsWithinLimits spec.now }
+        requires member { is_member spec.now me.number ≡ true }
+        requires fresh { place_of addr self.old.rows ≡ None }
+        requires few { length self.old.rows < PLACES }
+        ensures rows { OnOk result (self.new.rows ≡ self.old.rows ++ record { addr = addr; slot = Some (new_slot spec.now me noticed.now) } ∷ []) }
+        ensures rooms { OnOk result ((q : ℕ) → q < length self.old.rows → room_at self.new.rooms q ≡ room_at self.old.rooms q) }
+        ensures cursors { self.new.cursors ≡ self.old.cursors }
+        ensures err { OnErr result (self.new ≡ self.old) }
+    {
+        self.groups.add(self.alloc, addr, spec, me, noticed)?;
+        Ok(())
+    }
+
+    /// Opens the group with this address.
+    pub fn open_group(&mut self, addr: Addr) -> Reply
+        ensures reply { result ≡ group_reply open_answer addr self.old.rows }
+        ensures rows { self.new.rows ≡ on_address addr (slot_moved Phase.Opened result) self.old.rows }
+        ensures rooms { self.new.rooms ≡ self.old.rooms }
+        ensures cursors { self.new.cursors ≡ self.old.cursors }
+        ensures others { OthersKept addr self.old.rows self.new.rows }
+    {
+        match self.groups.find(addr) {
+            Some(place) => self.groups.open_group(place),
+            None => Reply::Refused(Refusal::NoGroup),
+        }
+    }
+
+    /// Shuts the group with this address.
+    pub fn shut_group(&mut self, addr: Addr) -> Reply
+        ensures reply { result ≡ group_reply shut_answer addr self.old.rows }
+        ensures rows { self.new.rows ≡ on_address addr (slot_moved Phase.Shut result) self.old.rows }
+        ensures rooms { self.new.rooms ≡ self.old.rooms }
+        ensures cursors { self.new.cursors ≡ self.old.cursors }
+        ensures others { OthersKept addr self.old.rows self.new.rows }
+    {
+        match self.groups.find(addr) {
+            Some(place) => self.groups.shut_group(place),
+            None => Reply::Refused(Refusal::NoGroup),
+        }
+    }
+
+    /// Says something in the group with this address.
+    pub fn say(&mut self, addr: Addr, payload: &[u8]) -> Reply
+        ensures reply { IsReply (group_reply (λ s. say_answer s payload.now) addr self.old.rows) result }
+        ensures rows { self.new.rows ≡ on_address addr (slot_said payload.now result) self.old.rows }
+        ensures cursors { self.new.cursors ≡ self.old.cursors }
+        ensures others { OthersKept addr self.old.rows self.new.rows }
+    {
+        match self.groups.find(addr) {
+            Some(place) => {
+                let reply = self.groups.say(place, payload);
+                refresh(&mut self.busy, &self.groups, place);
+                reply
+            }
+            None => Reply::Refused(Refusal::NoGroup),
+        }
+    }
+
+    /// Reads the log of the group with this address.
+    pub fn fetch(&self, addr: Addr, from: u32, most: u32) -> Reply
+        ensures { IsReply (group_reply (λ s. fetch_answer s from most) addr self.now.rows) result }
+    {
+        match self.groups.find(addr) {
+            Some(place) => self.groups.fetch(place, from, most),
+            None => Reply::Refused(Refusal::NoGroup),
+        }
+    }
+
+    /// Makes room for so many items, with so many bytes in all, in the group with this address.
+    pub fn ready(&mut self, addr: Addr, calls: usize, bytes: usize) -> Result<(), OutOfMemory>
+        ensures rows { self.new.rows ≡ self.old.rows }
+        ensures room { OnOk result (HasRoomAt (place_of addr self.new.rows) self.new.rows self.new.rooms calls bytes) }
+        ensures cursors { self.new.cursors ≡ self.old.cursors }
+    {
+        if let Some(place) = self.groups.find(addr) {
+            self.groups.ready(place, calls, bytes)?;
+        }
+        Ok(())
+    }
+
+    /// Makes room in each group for so many notices.
+    pub fn ready_notices(&mut self, count: usize) -> Result<(), OutOfMemory>
+        ensures rows { self.new.rows ≡ self.old.rows }
+        ensures room { OnOk result (HaveRoom self.new.rows self.new.rooms count) }
+        ensures cursors { self.new.cursors ≡ self.old.cursors }
+    {
+        ready_all(&mut self.groups, count)
+    }
+
+    /// Notices a node in the group at a place, which has room for it.
+    fn notice_at(&mut self, place: usize, who: NodeId)
+        requires place { place < length self.old.rows }
+        requires room { HasRoom (row_at self.old.rows place).slot (room_at self.old.rooms place) 1 0 }
+        ensures rows { self.new.rows ≡ slice_set self.old.rows place (on_slot (slot_noticed who) (row_at self.old.rows place)) }
+        ensures rooms { Spends self.old.rooms self.new.rooms place 1 0 }
+        ensures cursors { self.new.cursors ≡ self.old.cursors }
+    {
+        self.groups.notice(place, who);
+        refresh(&mut self.busy, &self.groups, place);
+    }
+
+    /// Notices a node in each group. They have room for it.
+    pub fn notice(&mut self, who: NodeId)
+        requires { HaveRoom self.old.rows self.old.rooms 1 }
+        ensures rows { self.new.rows ≡ map (on_slot (slot_noticed who)) self.old.rows }
+        ensures rooms { AllSpend self.old.rooms self.new.rooms 1 }
+        ensures cursors { self.new.cursors ≡ self.old.cursors }
+    {
+        for place in 0..self.groups.len() {
+            self.notice_at(place, who);
         }
     }
 

@@ -1,5 +1,4 @@
-use Rattle.std.proofs.Common.{◌≡◌, ap, sym, ◌∙◌, length, min, arith}
-use Rattle.gb_table.specs.PlaceSet.{has}
+use Rattle.std.proofs.Common.{◌≡◌, ap, ◌∙◌, length, arith}
 use Rattle.gb_table.specs.Packing.{queue}
 use Rattle.gb_table.specs.TableState.{row_at}
 use Rattle.gb_table.proofs.IndexLemmas.{index_whole, refreshed}

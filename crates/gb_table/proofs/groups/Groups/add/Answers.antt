@@ -11,7 +11,7 @@ use Rattle.gb_slot.specs.Slot.{new_slot}
 use Rattle.gb_slot.specs.SlotState.{SlotState, SlotValue}
 use Rattle.gb_table.specs.declared.groups.Place.{Place}
 use Rattle.gb_table.specs.declared.groups.Place.TheVariants.{Key}
-use Rattle.gb_table.specs.TableState.{Row, Room, GroupsValue, room_at}
+use Rattle.gb_table.specs.TableState.{Row, GroupsValue, room_at}
 use Rattle.gb_table.specs.Groups.{row_of, room_of, AreKept}
 use Rattle.gb_table.proofs.GroupsLemmas.{row_made}
 use Rattle.gb_table.proofs.AddLemmas.{Grows, insert-new, kept_grown, map-grown, rooms_grown, kept_same}

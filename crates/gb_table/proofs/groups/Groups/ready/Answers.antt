@@ -1,9 +1,6 @@
-
-use Rattle.std.proofs.Common.{ap, sym, subst, ◌∙◌, refl, length, List, ℕ}
-use Rattle.std.proofs.Math.ListN.{set}
+use Rattle.std.proofs.Common.{ap, refl}
 use Rattle.gb_slot.specs.SlotState.{SlotState}
-use Rattle.gb_table.specs.TableState.{GroupsValue, row_at, on_slot}
-use Rattle.gb_table.specs.Groups.{room_in}
+use Rattle.gb_table.specs.TableState.{GroupsValue}
 use Rattle.gb_table.proofs.GroupsLemmas.{changed, rooms_others}
 use Rattle.gb_table.proofs.groups.Groups.ready.Goals as goal
 

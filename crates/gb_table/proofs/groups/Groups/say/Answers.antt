@@ -2,11 +2,9 @@ use Rattle.gb_rules.specs.Replied.{said_reply}
 use Rattle.gb_slot.specs.Slot.{slot_said}
 use Rattle.gb_types.specs.declared.reply.Reply.{Reply}
 use Rattle.gb_table.proofs.StepLemmas.{taken-said}
-use Rattle.std.proofs.Common.{ap, sym, subst, ◌∙◌, refl, length, List, ℕ}
+use Rattle.std.proofs.Common.{ap, sym, ◌∙◌, length}
 use Rattle.std.proofs.Math.ListN.{set}
-use Rattle.gb_slot.specs.SlotState.{SlotState}
 use Rattle.gb_table.specs.TableState.{GroupsValue, row_at, on_slot}
-use Rattle.gb_table.specs.Groups.{room_in}
 use Rattle.gb_table.proofs.GroupsLemmas.{changed, rooms_others}
 use Rattle.gb_table.proofs.groups.Groups.say.Goals as goal
 

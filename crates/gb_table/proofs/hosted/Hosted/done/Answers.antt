@@ -1,8 +1,8 @@
-use Rattle.std.proofs.Common.{List, ap, sym, subst, ◌∙◌, refl}
+use Rattle.std.proofs.Common.{subst}
 use Rattle.gb_slot.specs.Slot.{slot_done}
-use Rattle.gb_table.specs.TableState.{Row, row_at, on_slot}
-use Rattle.gb_table.specs.AtAddress.{place_of, OthersKept}
-use Rattle.gb_table.specs.HostedValue.{HostedValue, ArePlaces, IsIndex}
+use Rattle.gb_table.specs.TableState.{row_at, on_slot}
+use Rattle.gb_table.specs.AtAddress.{OthersKept}
+use Rattle.gb_table.specs.HostedValue.{HostedValue}
 use Rattle.gb_table.proofs.AddressLemmas.{others_kept}
 use Rattle.gb_table.proofs.IndexLemmas.{index_quiet, places_quiet}
 use Rattle.gb_table.proofs.QuietLemmas.{queue-done}

@@ -1,7 +1,7 @@
-use Rattle.std.proofs.Common.{List, ap, sym, subst, ◌∙◌}
+use Rattle.std.proofs.Common.{ap, subst, ◌∙◌}
 use Rattle.gb_frame.specs.Packet.{item_of as view_item}
 use Rattle.gb_slot.specs.Slot.{slot_came}
-use Rattle.gb_table.specs.TableState.{Row, row_at, on_slot}
+use Rattle.gb_table.specs.TableState.{row_at, on_slot}
 use Rattle.gb_table.specs.AtAddress.{address_of, item_came, OthersKept}
 use Rattle.gb_table.specs.HostedValue.{HostedValue}
 use Rattle.gb_table.proofs.AddressLemmas.{others_kept, item_is}

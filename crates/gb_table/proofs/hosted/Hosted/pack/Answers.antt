@@ -42,9 +42,10 @@ invariant_of-self c =
     let new : List Row = c.advance-cursor.new.groups.rows in
     let vs = take c.len.result (walk (get_or c.self.inside.cursors c.index-to.result 0) (queues dest rows)) in
     let size : length new ≡ length rows = ap length c.advance-cursor.ensures.rows ∙ length-gave dest 0 vs rows in
-    let others = λ (e : _) (ne : _). ap (queues e) c.advance-cursor.ensures.rows ∙ queues-gave dest e 0 vs rows ne in
-    (places-kept c.index-to.result c.advance-cursor.result c.self.inside.cursors rows new c.self.invariant.0 c.advance-cursor.ensures.within size,
-    index_changed rows new c.self.inside.busy c.index-to.result dest c.advance-cursor.new.busy c.self.invariant.1 c.index-to.ensures.value c.advance-cursor.ensures.index size others c.args.dest.below)
+    let others = λ (e : _) (ne : _). ap (queues e) c.advance-cursor.ensures.rows ∙ queues-gave dest e 0 vs rows ne in (
+      places-kept c.index-to.result c.advance-cursor.result c.self.inside.cursors rows new c.self.invariant.0 c.advance-cursor.ensures.within size,
+      index_changed rows new c.self.inside.busy c.index-to.result dest c.advance-cursor.new.busy c.self.invariant.1 c.index-to.ensures.value c.advance-cursor.ensures.index size others c.args.dest.below,
+    )
 
 pub returns-clause-state : goal.returns-clause-state
 returns-clause-state c =
