@@ -47,11 +47,11 @@ not_free (Some v) h e = absurd (cc)
 kept_under : (old new : Slab SlotValue) (key : ℕ) (v : SlotValue) (es : List (Addr × Place)) → Grows old new key v → AreKept es old → (q k : ℕ) → place_at es q ≡ Key k → get new k ≡ get old k
 kept_under old new key v es g kept q k m = g.others k (λ e. not_free (get old k) (kept.there q k m) (ap (get old) e ∙ g.free))
 
-same_under : (old new : Slab SlotValue) (place : Place) → ((k : ℕ) → place ≡ Key k → get new k ≡ get old k) → slot_under new place ≡ slot_under old place
+pub same_under : (old new : Slab SlotValue) (place : Place) → ((k : ℕ) → place ≡ Key k → get new k ≡ get old k) → slot_under new place ≡ slot_under old place
 same_under old new Gone h = refl
 same_under old new (Key k) h = h k refl
 
-map-same : {X : Type 0} (f : Addr → Option SlotValue → X) (old new : Slab SlotValue) (es : List (Addr × Place)) → ((q k : ℕ) → place_at es q ≡ Key k → get new k ≡ get old k) → map (made_of f new) es ≡ map (made_of f old) es
+pub map-same : {X : Type 0} (f : Addr → Option SlotValue → X) (old new : Slab SlotValue) (es : List (Addr × Place)) → ((q k : ℕ) → place_at es q ≡ Key k → get new k ≡ get old k) → map (made_of f new) es ≡ map (made_of f old) es
 map-same f old new [] h = refl
 map-same f old new (e ∷ es) h = rw (same_under old new e.1 (h zero), map-same f old new es (λ q. h (suc q))) refl
 

@@ -48,13 +48,16 @@ row_kept g addr rows p row (Some q) e h off =
     let ne : q ≢ p = λ s. let t : true ≡ false = sym (addr_through g addr (row_at rows p).addr (sym (ap (λ n. is_addr g (row_at rows n).addr) s) ∙ there.1) h) ∙ off in absurd (cc) in
     ap Some (get_or-set_other rows p q row no_row ne)
 
--- a step at the place of an address
-pub others_kept : (addr : Addr) (rows : List Row) (p : ℕ) (f : SlotState → SlotState) → Some p ≡ place_of addr rows → OthersKept addr rows (set rows p (on_slot f (row_at rows p)))
-others_kept addr rows p f e = record {
+-- the group at the place of an address changes and keeps its address
+pub others_kept_row : (addr : Addr) (rows : List Row) (p : ℕ) (row : Row) → row.addr ≡ (row_at rows p).addr → Some p ≡ place_of addr rows → OthersKept addr rows (set rows p row)
+others_kept_row addr rows p row same e = record {
   others = λ g off.
-      ap (option_map (row_at (set rows p (on_slot f (row_at rows p))))) (position-set (λ (row : Row). is_addr g row.addr) rows p (on_slot f (row_at rows p)) refl)
-      ∙ row_kept g addr rows p (on_slot f (row_at rows p)) (place_of g rows) refl (place_is addr rows p e).1 off;
+      ap (option_map (row_at (set rows p row))) (position-set (λ (r : Row). is_addr g r.addr) rows p row (ap (is_addr g) same))
+      ∙ row_kept g addr rows p row (place_of g rows) refl (place_is addr rows p e).1 off;
 }
+
+pub others_kept : (addr : Addr) (rows : List Row) (p : ℕ) (f : SlotState → SlotState) → Some p ≡ place_of addr rows → OthersKept addr rows (set rows p (on_slot f (row_at rows p)))
+others_kept addr rows p f e = others_kept_row addr rows p (on_slot f (row_at rows p)) refl e
 
 pub none_changed : (addr : Addr) (rows : List Row) → OthersKept addr rows rows
 none_changed addr rows = record { others = λ g off. refl }

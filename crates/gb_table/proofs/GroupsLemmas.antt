@@ -103,7 +103,7 @@ rooms_kept es slots p k v new here at calls bytes =
     let same : room_in (Some new) ≡ room_in (Some v) = cc in
     ap (set (map (room_of slots) es) p) (same ∙ sym old) ∙ set-get_or (map (room_of slots) es) p no_room
 
-counters_changed : (rows : List Row) (p : ℕ) (row : Row) → HaveCounters rows → counters row ≡ NODES → HaveCounters (set rows p row)
+pub counters_changed : (rows : List Row) (p : ℕ) (row : Row) → HaveCounters rows → counters row ≡ NODES → HaveCounters (set rows p row)
 counters_changed rows p row all h = record {
   each = λ q. elim (cases_eq q p) [
     | inl e ↦ elim (cases_lt p (length rows)) [

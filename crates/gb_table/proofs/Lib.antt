@@ -13,3 +13,4 @@ pub mod AddressLemmas
 pub mod QuietLemmas
 pub mod AddLemmas
 pub mod NoticeLemmas
+pub mod DropLemmas

@@ -13,7 +13,7 @@ use Rattle.gb_rules.specs.Group.{Shown}
 use Rattle.gb_rules.specs.Address.{is_addr}
 use Rattle.gb_slot.specs.Slot.{slot_came}
 use Rattle.gb_slot.specs.SlotState.{SlotState}
-use Rattle.gb_table.specs.TableState.{Row, Room, row_at, room_at, on_slot, unless_gone, Spends, HasRoom}
+use Rattle.gb_table.specs.TableState.{Row, Room, row_at, room_at, on_slot, gone, unless_gone, Spends, HasRoom}
 
 -- the place of an address among the groups
 abbrev pub place_of : Addr → List Row → Option ℕ
@@ -31,6 +31,14 @@ step_at step rows (Some p) = slice_set rows p (on_slot step (row_at rows p))
 -- after a step of the slot of the group with an address; nothing changes where it was never made or was dropped
 abbrev pub on_address : Addr → (SlotState → SlotState) → List Row → List Row
 on_address addr step rows = step_at step rows (place_of addr rows)
+
+-- after the group with an address was dropped
+abbrev pub gone_at : List Row → Option ℕ → List Row
+gone_at rows None = rows
+gone_at rows (Some p) = slice_set rows p (gone (row_at rows p))
+
+abbrev pub drop_at : Addr → List Row → List Row
+drop_at addr rows = gone_at rows (place_of addr rows)
 
 -- every other group is as it was
 pub record OthersKept (addr : Addr) (old new : List Row) : Type 0 where

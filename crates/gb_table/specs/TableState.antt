@@ -51,6 +51,10 @@ room_at rooms p = slice_index_or rooms p no_room
 abbrev pub on_slot : (SlotState → SlotState) → Row → Row
 on_slot step row = record row { slot = option_map step row.slot }
 
+-- the group after it was dropped
+abbrev pub gone : Row → Row
+gone row = record row { slot = None }
+
 -- how many nodes a slot counts taken items for
 abbrev pub counters_of : Option SlotState → ℕ
 counters_of None = NODES

@@ -5,7 +5,7 @@ ghost use Rattle.gb_rules.specs.Group.{is_member, open_answer, shut_answer, say_
 ghost use Rattle.gb_rules.specs.Replied.{done_reply, said_reply, IsReply};
 ghost use Rattle.gb_rules.specs.declared.phase.Phase.TheVariants as Phase;
 ghost use Rattle.gb_slot.specs.Slot.{IsWithinLimits, new_slot, waiting, slot_came, slot_done, slot_noticed, slot_moved, slot_said};
-ghost use Rattle.gb_table.specs.TableState.{no_entry, row_at, room_at, on_slot, HaveCounters, AreApart, HasRoom, Spends, unless_gone};
+ghost use Rattle.gb_table.specs.TableState.{no_entry, row_at, room_at, on_slot, HaveCounters, AreApart, HasRoom, Spends, unless_gone, gone};
 ghost use Rattle.gb_frame.specs.Packet.{item_of as view_item};
 ghost use Rattle.gb_table.specs.Packing.{queue, queues, took, item_of};
 ghost use Rattle.gb_table.specs.Groups.{place_at};
@@ -263,6 +263,22 @@ impl Groups {
         }
     }
 
+    /// Gives up the group at a place, which it keeps. Spent where it was dropped before.
+    pub fn remove(&mut self, place: usize) -> Reply
+        ensures reply { result ≡ unless_gone (λ _. Reply.Done) (row_at self.old.rows place).slot }
+        ensures rows { self.new.rows ≡ slice_set self.old.rows place (gone (row_at self.old.rows place)) }
+        ensures others { (q : ℕ) → q ≢ place → room_at self.new.rooms q ≡ room_at self.old.rooms q }
+    {
+        let Some(key) = key_at(&self.places, place) else {
+            return Reply::Refused(Refusal::Spent);
+        };
+        if let Some(stands) = self.places.get_index_mut(place) {
+            *stands = Place::Gone;
+        }
+        give_up(self.slots.try_remove(key));
+        Reply::Done
+    }
+
     /// Makes a group behind the others, at the node `me`, which has noticed these nodes.
     pub fn add(
         &mut self,
@@ -289,6 +305,9 @@ impl Groups {
         Ok(())
     }
 }
+
+/// Drops a slot.
+fn give_up(_slot: Option<Slot>) {}
 
 /// The reply that a call's result is.
 fn replied(done: Result<(), Refusal>) -> Reply

@@ -8,7 +8,7 @@ ghost use Rattle.gb_rules.specs.Replied.{IsReply};
 ghost use Rattle.gb_rules.specs.declared.phase.Phase.TheVariants as Phase;
 ghost use Rattle.gb_slot.specs.Slot.{IsWithinLimits, new_slot, slot_done, slot_moved, slot_noticed, slot_said};
 ghost use Rattle.gb_table.specs.TableState.{row_at, room_at, on_slot, HasRoom, HaveRoom, Spends, AllSpend};
-ghost use Rattle.gb_table.specs.AtAddress.{group_reply, place_of, on_address, address_of, item_came, OthersKept, SpendsAt, HasRoomAt};
+ghost use Rattle.gb_table.specs.AtAddress.{group_reply, drop_at, place_of, on_address, address_of, item_came, OthersKept, SpendsAt, HasRoomAt};
 ghost use Rattle.gb_table.specs.HostedValue.{no_groups, walk_to, batch, packed, given, IsIndex, IsIndexBut};
 
 use crate::groups::Groups;
@@ -170,6 +170,23 @@ impl Hosted {
     {
         match self.groups.find(addr) {
             Some(place) => self.groups.shut_group(place),
+            None => Reply::Refused(Refusal::NoGroup),
+        }
+    }
+
+    /// Drops the group with this address: what waits in it is given up, and it keeps its place.
+    pub fn drop_group(&mut self, addr: Addr) -> Reply
+        ensures reply { result ≡ group_reply (λ _. Reply.Done) addr self.old.rows }
+        ensures rows { self.new.rows ≡ drop_at addr self.old.rows }
+        ensures cursors { self.new.cursors ≡ self.old.cursors }
+        ensures others { OthersKept addr self.old.rows self.new.rows }
+    {
+        match self.groups.find(addr) {
+            Some(place) => {
+                let reply = self.groups.remove(place);
+                refresh(&mut self.busy, &self.groups, place);
+                reply
+            }
             None => Reply::Refused(Refusal::NoGroup),
         }
     }
