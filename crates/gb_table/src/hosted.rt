@@ -1,5 +1,5 @@
 //! All groups of a node, with an index of what waits in them.
-ghost use Rattle.std.specs.Prelude.{◌≡◌, ◌≤◌, ◌<◌, ◌+◌, ◌++◌, ◌∷◌, [], true, map, slice_set, ℕ, Some, None, length, IfOk, OnOk, OnErr, MatchOption};
+ghost use Rattle.std.specs.Prelude.{◌≡◌, ◌==◌, ◌≤◌, ◌<◌, ◌+◌, is_some, ◌++◌, ◌∷◌, [], true, map, slice_set, ℕ, Some, None, length, IfOk, OnOk, OnErr, MatchOption};
 ghost use Rattle.gb_table.specs.Fair.{IsFront, IsLongest};
 ghost use Rattle.gb_frame.specs.Packet.{item_of as view_item};
 ghost use Rattle.gb_types.specs.declared.limits.TheConstants.{PLACES};
@@ -89,6 +89,27 @@ impl Hosted {
             busy: std::array::from_fn(|_| PlaceSet::new()),
             cursors: [0; NODES],
         }
+    }
+
+    /// How many groups were made, dropped ones among them.
+    pub fn len(&self) -> usize
+        ensures { result ≡ length self.now.rows }
+    {
+        self.groups.len()
+    }
+
+    /// Whether no group was made.
+    pub fn is_empty(&self) -> bool
+        ensures { result ≡ (length self.now.rows == 0) }
+    {
+        self.groups.len() == 0
+    }
+
+    /// Whether a group was ever made with this address.
+    pub fn contains(&self, addr: Addr) -> bool
+        ensures { result ≡ is_some (place_of addr self.now.rows) }
+    {
+        self.groups.find(addr).is_some()
     }
 
     /// Takes an item in that came from a node. It is let fall where its group is not here, or by the group's rules.
