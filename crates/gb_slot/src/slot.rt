@@ -1,5 +1,5 @@
 //! One group at one node.
-ghost use Rattle.std.specs.Prelude.{◌≡◌, false, ◌≢◌, OnErr, ◌+◌, ◌≤◌, ◌<◌, ◌&&◌, not, List, [], ◌∷◌, take, drop, map, slice_get, length, vec_len, Ok, Err, IfOk, OnOk, MatchOption, true, IsOkUnless};
+ghost use Rattle.std.specs.Prelude.{◌≡◌, false, ◌≢◌, OnErr, ◌+◌, ◌≤◌, ◌<◌, ◌&&◌, not, List, [], ◌∷◌, Some, take, drop, map, slice_get, length, vec_len, Ok, Err, IfOk, OnOk, MatchOption, true, IsOkUnless};
 ghost use Rattle.std.specs.FinSet as set;
 ghost use Rattle.gb_types.specs.declared.entry.Entry.{Entry as EntryValue};
 ghost use Rattle.std.specs.List.{list_any};
@@ -303,6 +303,16 @@ impl Slot {
             Some(m) => Some((m, self.store.payload(m))),
             None => None,
         }
+    }
+
+    /// The item at a place among those that wait for the node, with its payload; places count from 0.
+    pub fn peek_at(&self, dest: NodeId, place: usize) -> (MsgId, &[u8])
+        requires { place < length (waiting self.now.state dest.number) }
+        ensures { slice_get (waiting self.now.state dest.number) place ≡ Some (record { origin = result.0.origin; seq = result.0.seq; payload = result.1.now }) }
+    {
+        let sends = self.effects.sends.as_slice();
+        let m = sends[self.taken[dest.index()] + place];
+        (m, self.store.payload(m))
     }
 
     /// How many items wait for the node.

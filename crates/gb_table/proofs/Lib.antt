@@ -1,0 +1,16 @@
+pub mod TurnLemmas
+pub mod PlaceSetLemmas
+pub mod WalkLemmas
+pub mod TakingLemmas
+pub mod AheadLemmas
+pub mod BusyLemmas
+pub mod GroupsLemmas
+pub mod StepLemmas
+pub mod BatchLemmas
+pub mod FrontLemmas
+pub mod IndexLemmas
+pub mod AddressLemmas
+pub mod QuietLemmas
+pub mod AddLemmas
+pub mod NoticeLemmas
+pub mod DropLemmas

@@ -1,0 +1,37 @@
+-- How the groups of a node are kept: a map from addresses to keys, in order, and slots under keys.
+use Rattle.std.specs.Prelude.{ℕ, ◌≡◌, List, map, Option, Some, None, IsSome, option_map, slice_index_or}
+use Rattle.slab.specs.Slab.{Slab, get}
+use Rattle.gb_types.specs.declared.address.Addr.{Addr}
+use Rattle.gb_slot.specs.SlotState.{SlotValue}
+use Rattle.gb_table.specs.declared.groups.Place.{Place}
+use Rattle.gb_table.specs.declared.groups.Place.TheVariants.{Key, Gone}
+use Rattle.gb_table.specs.TableState.{Row, Room, GroupsValue, HaveCounters, AreApart, no_room}
+
+-- the slot where a group's place leads
+abbrev pub slot_under : Slab SlotValue → Place → Option SlotValue
+slot_under slots (Key key) = get slots key
+slot_under slots Gone = None
+
+abbrev pub row_of : Slab SlotValue → Addr × Place → Row
+row_of slots e = record { addr = e.0; slot = option_map (λ v. v.state) (slot_under slots e.1) }
+
+abbrev pub room_in : Option SlotValue → Room
+room_in None = no_room
+room_in (Some v) = record { calls = v.calls; bytes = v.bytes }
+
+abbrev pub room_of : Slab SlotValue → Addr × Place → Room
+room_of slots e = room_in (slot_under slots e.1)
+
+abbrev pub groups_of : List (Addr × Place) → Slab SlotValue → GroupsValue
+groups_of entries slots = record { rows = map (row_of slots) entries; rooms = map (room_of slots) entries }
+
+-- where the group at a place leads
+abbrev pub place_at : List (Addr × Place) → ℕ → Place
+place_at entries p = (slice_index_or entries p (record { 0 = record { tenant = 0; group = 0 }; 1 = Gone })).1
+
+-- each key has a slot, and no two places have one key
+pub record AreKept (entries : List (Addr × Place)) (slots : Slab SlotValue) : Type 0 where
+  pub there : (p k : ℕ) → place_at entries p ≡ Key k → IsSome (get slots k)
+  pub alone : (p q k : ℕ) → place_at entries p ≡ Key k → place_at entries q ≡ Key k → p ≡ q
+  pub counters : HaveCounters (map (row_of slots) entries)
+  pub apart : AreApart (map (row_of slots) entries)

@@ -1,0 +1,10 @@
+pub mod Turns
+pub mod PlaceSet
+pub mod TableState
+pub mod Packing
+pub mod Busy
+pub mod Ahead
+pub mod Groups
+pub mod HostedValue
+pub mod Fair
+pub mod AtAddress

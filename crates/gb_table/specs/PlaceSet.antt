@@ -1,0 +1,13 @@
+-- A set of places in words of 64 bits.
+use Rattle.std.specs.Prelude.{ℕ, ◌/◌, ◌%◌, ◌≡◌, ◌≤◌, ◌<◌, List, slice_index_or}
+use Rattle.std.specs.Int.{bit_at}
+
+-- 1 where the place is in the set, else 0
+unfoldable pub has : List ℕ → ℕ → ℕ
+has words p = bit_at (slice_index_or words (p / 64) 0) (p % 64)
+
+-- the least place of the set at or after one
+pub record IsNext (words : List ℕ) (from q : ℕ) : Type 0 where
+  pub after : from ≤ q
+  pub here : has words q ≡ 1
+  pub none : (p : ℕ) → from ≤ p → p < q → has words p ≡ 0

@@ -1,0 +1,11 @@
+//! All groups at one node: groups under their addresses, in the order in which they were made, and packing what waits
+//! in them into batches. There is no token, no tenant's row and no link here. Read `hosted::Hosted` first; `packing` has
+//! the walk, and `groups` how slots are kept.
+#![tactic(auto)]
+
+pub mod groups;
+pub mod hosted;
+pub mod packing;
+pub mod place_set;
+#[cfg(test)]
+mod tests;
