@@ -197,7 +197,10 @@ impl Member {
         ensures { result ≡ is_finished spec.now me.number self.now.told (member_of self.now).put (member_of self.now).done seq }
     {
         for b in spec.members.nodes() {
-            if b != me && !is_noticed(calls, b) && !self.done[b.index()].has_own(me, seq, row_of(&self.put, b.index())) {
+            if b != me
+                && !is_noticed(calls, b)
+                && !self.done[b.index()].has_own(me, seq, row_of(&self.put, b.index()))
+            {
                 return false;
             }
         }
@@ -242,12 +245,7 @@ impl Member {
     }
 
     /// The reply to a command to say something. `Err` where there is no number for it.
-    fn say_reply(
-        &self,
-        alloc: Global,
-        me: NodeId,
-        payload: &Payload,
-    ) -> Result<Reply, OutOfMemory>
+    fn say_reply(&self, alloc: Global, me: NodeId, payload: &Payload) -> Result<Reply, OutOfMemory>
         ensures { IfOk result (λ r. (nodes number : ℕ) → r ≡ one_group.running_reply nodes number me.number (GroupEvent.Say payload.now) (member_of self.now)) }
     {
         let spec = match self.made_spec() {
@@ -466,12 +464,7 @@ impl Member {
 
     /// Of the items put out to a node, those from a place on, so many, are acknowledged. `Err` where no number is so
     /// great.
-    pub(crate) fn mark_done(
-        &mut self,
-        b: NodeId,
-        place: u64,
-        count: u64,
-    ) -> Result<(), OutOfMemory>
+    pub(crate) fn mark_done(&mut self, b: NodeId, place: u64, count: u64) -> Result<(), OutOfMemory>
         ensures { OnOk result (self.new ≡ value_done b.number place count self.old) }
     {
         self.done[b.index()].add(place, count)

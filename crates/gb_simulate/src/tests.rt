@@ -436,7 +436,9 @@ fn the_longest_payload(rt: HostRuntime) -> Result<(), Fail> {
     schedule.extend_from_slice(&digits)?;
     schedule.extend_from_slice(b"61\nsay 0 7 1 ")?;
     schedule.extend_from_slice(&digits)?;
-    schedule.extend_from_slice(b"\nsay 0 7 1 61\nsay 0 7 1 -\npack 0 1\narrive 1\nfetch 1 7 1 0 16\n")?;
+    schedule.extend_from_slice(
+        b"\nsay 0 7 1 61\nsay 0 7 1 -\npack 0 1\narrive 1\nfetch 1 7 1 0 16\n",
+    )?;
     let mut answers = Vec::from_slice(
         alloc,
         b"ok\nok\nok\nok\nok\nok\nrefused 7 TooLong\nsaid 1\nrefused 9 Bytes\nsaid 2\npacket 1\ngood first 1 0\nlog 1 0:1:",

@@ -30,10 +30,10 @@ pub enum Refusal {
     /// All messages that the group allows this member are said.
     #[error("the budget of messages is spent")]
     Budget,
-    /// The payload would pass the bytes that the group allows this member. Not answered yet.
+    /// The payload would pass the bytes that the group allows this member.
     #[error("the budget of bytes is spent")]
     Bytes,
-    /// As many own messages are unfinished as the group allows. Not answered yet.
+    /// As many own messages are unfinished as the group allows.
     #[error("the window is full")]
     Window,
     /// The place is beyond the log, or too many entries are asked for.
