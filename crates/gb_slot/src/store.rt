@@ -39,19 +39,17 @@ pub struct Store {
 }
 
 impl Model for Store {
-    ghost use Rattle.std.specs.Prelude.{◌-◌, vec_len, vec_capacity};
-    ghost use Rattle.gb_slot.specs.StoreValue.{StoreValue};
+    ghost use Rattle.std.specs.Prelude.{◌≡◌, ◌-◌, true, vec_len, vec_capacity};
     ghost use Rattle.std.specs.Coded.{codes, coded_ℕ};
     ghost use Rattle.std.specs.Ordering.{nat_cmp};
     ghost use Rattle.std.specs.FinSet as set;
+    ghost use Rattle.gb_layer.specs.Table.{leads};
+    ghost use Rattle.gb_slot.specs.Kept.{entries_of, arrivals_of, messages_of, AreInside, AreCounted};
+    ghost use Rattle.gb_slot.specs.StoreValue.{StoreValue};
 
     ghost Value = { StoreValue };
 
     ghost coded = { Prim.hlevel (codes, set.code {R = nat_cmp} coded_ℕ) };
-
-    ghost use Rattle.std.specs.Prelude.{◌≡◌, true};
-    ghost use Rattle.gb_layer.specs.Table.{leads};
-    ghost use Rattle.gb_slot.specs.Kept.{entries_of, arrivals_of, messages_of, AreInside, AreCounted};
 
     ghost view = { λ s. record { entries = entries_of s.bytes.items s.kept.items; arrivals = arrivals_of s.kept.items; places = vec_capacity s.kept - vec_len s.kept; bytes = vec_capacity s.bytes - vec_len s.bytes } };
 
