@@ -12,9 +12,9 @@ pub struct Spec {
     pub members: NodeSet,
     /// How many messages each member may say, for life.
     pub msgs: u32,
-    /// How many payload bytes each member may say, for life. No say reads it yet.
+    /// How many payload bytes each member may say, for life.
     pub bytes: u32,
-    /// How many of its own messages may be unfinished at once. No say reads it yet.
+    /// How many of its own messages may be unfinished at once.
     pub window: u32,
 }
 
