@@ -68,6 +68,7 @@ called_stands s told c said noticed acknowledged st lawful count own arrivals ot
           (λ i. st.log i ++ called_ups s told c st lawful i)
           ∙ sym (stack.log_grows s.spec.kind s.me.number (set.items s.spec.members) (call_of c) (calls_of told));
       said = count;
+      sent = λ i. st.sent i ++ (stack_gives (st.stack.is i) (call_of c)).sends;
       own = own;
       arrivals = arrivals;
       outgoing = all_append P s.outgoing sends (all_weaker (λ m. has s.store m ≡ true) P (λ m there. still_told s.store c m there) s.outgoing st.outgoing) (subst (AllByRecursion P) (sym (called_sends s told c st lawful)) new);

@@ -10,7 +10,7 @@ use Rattle.gb_history.specs.Messages.{bytes_of}
 use Rattle.gb_slot.specs.Kept.{AreCounted}
 
 -- a message more
-bytes_pushed : (origin : ℕ) (xs : List Entry) (x : Entry) → bytes_of origin (xs ++ x ∷ []) ≡ bytes_of origin xs + (if nat_eq x.origin.number origin then length x.payload else 0)
+pub bytes_pushed : (origin : ℕ) (xs : List Entry) (x : Entry) → bytes_of origin (xs ++ x ∷ []) ≡ bytes_of origin xs + (if nat_eq x.origin.number origin then length x.payload else 0)
 bytes_pushed origin [] x = omega arith
 bytes_pushed origin (y ∷ xs) x = let rest = bytes_pushed origin xs x in omega (arith, rest)
 

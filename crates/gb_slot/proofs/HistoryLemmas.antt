@@ -34,7 +34,7 @@ use Rattle.gb_slot.specs.SlotState.{SlotState}
 use Rattle.gb_slot.specs.StandsFor.{StandsFor, reaches}
 use Rattle.gb_history.proofs.MentionLemmas.{has-known}
 use Rattle.gb_slot.proofs.ArrivalLemmas.{nodes_with_message, nodes_after_came}
-use Rattle.gb_slot.proofs.NoticeLemmas.{contains-inserted, other_differs, notices_lawful, none_mentioned, none_came, none_known, none_said, none_logged, notice_calls, others_differ, notices_tell, noticed_are}
+use Rattle.gb_slot.proofs.NoticeLemmas.{contains-inserted, other_differs, notices_lawful, none_mentioned, none_came, none_known, none_said, none_sent, none_logged, notice_calls, others_differ, notices_tell, noticed_are}
 use Rattle.gb_slot.proofs.TakenLemmas.{none_taken, drop-drop, taken_more, taken_elsewhere, waiting_few}
 use Rattle.gb_slot.proofs.CalledLemmas.{called_stands, waiting-called}
 use Rattle.gb_rules.proofs.LetFallLemmas.{not_fallen, falls-alike}
@@ -48,6 +48,7 @@ fresh_stands spec me noticed qs others tell = record {
   store = none_known qs;
   log = none_logged spec.kind me.number (set.items spec.members) qs;
   said = none_said qs;
+  sent = none_sent spec.kind me spec.members qs;
   own = λ x here above. none_mentioned qs x;
   arrivals = λ p x _. set.contains-empty nat_cmp p ∙ sym (none_came me.number qs p x);
   outgoing = tt;
@@ -64,6 +65,7 @@ moved_stands s told phase Done st = record {
   store = st.store;
   log = st.log;
   said = st.said;
+  sent = st.sent;
   own = st.own;
   arrivals = st.arrivals;
   outgoing = st.outgoing;
@@ -86,7 +88,7 @@ not_said past m new =
 own_new : (s : SlotState) (told : List GroupCall) (payload : List ℕ) → StandsFor s told → mentions (calls_of told) (message_of (own_entry s payload)) ≡ false
 own_new s told payload st = st.own (message_of (own_entry s payload)) refl (omega arith)
 
-own_store : (s : SlotState) (told : List GroupCall) (payload : List ℕ) → StandsFor s told → with_new s.store (own_entry s payload) ≡ s.store ++ own_entry s payload ∷ []
+pub own_store : (s : SlotState) (told : List GroupCall) (payload : List ℕ) → StandsFor s told → with_new s.store (own_entry s payload) ≡ s.store ++ own_entry s payload ∷ []
 own_store s told payload st =
     let new : has s.store (message_of (own_entry s payload)) ≡ false = ap (λ es. has es (message_of (own_entry s payload))) st.store ∙ (has-known told (message_of (own_entry s payload)) ∙ own_new s told payload st) in
     ap (λ (b : Bool). if b then s.store else s.store ++ own_entry s payload ∷ []) new
@@ -211,6 +213,7 @@ done_stands s told b m st = record {
   store = st.store;
   log = st.log;
   said = st.said;
+  sent = st.sent;
   own = st.own;
   arrivals = st.arrivals;
   outgoing = st.outgoing;
@@ -240,6 +243,7 @@ took_stands s told b count st within enough = record {
   store = st.store;
   log = st.log;
   said = st.said;
+  sent = st.sent;
   own = st.own;
   arrivals = st.arrivals;
   outgoing = st.outgoing;

@@ -1,13 +1,14 @@
 pub mod ArrivalLemmas
 pub mod CalledLemmas
 pub mod CountedLemmas
+pub mod FewLemmas
 pub mod HistoryLemmas
 pub mod KeptLemmas
+pub mod MemoryLemmas
 pub mod NoticeLemmas
-pub mod OwnLemmas
 pub mod PageLemmas
 pub mod PlaceLemmas
-pub mod RoomLemmas
+pub mod ReachedLemmas
 pub mod SlotLemmas
 pub mod TakenLemmas
 pub mod WindowLemmas

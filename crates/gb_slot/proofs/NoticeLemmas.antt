@@ -1,6 +1,6 @@
 -- Histories of notices alone, and the nodes that are noticed.
-use Rattle.std.proofs.Common.{◌≡◌, ◌≢◌, ℕ, Bool, true, false, ◌&&◌, ◌||◌, not, List, [], ◌∷◌, ◌++◌, refl, sym, ◌∙◌, ap, arith}
-use Rattle.std.specs.Prelude.{map, filter, nat_eq}
+use Rattle.std.proofs.Common.{◌≡◌, ◌≢◌, ℕ, Bool, true, false, cond, ◌&&◌, ◌||◌, not, List, [], ◌∷◌, ◌++◌, refl, sym, ◌∙◌, ap, arith}
+use Rattle.std.specs.Prelude.{map, filter, nat_eq, if◌then◌else◌}
 use Rattle.std.specs.Cmp.{nat_cmp_total, unsigned_tied}
 use Rattle.std.specs.Ordering.{nat_cmp}
 use Rattle.std.specs.FinSet as set
@@ -11,12 +11,19 @@ use Rattle.gb_types.specs.declared.kind.Kind.{Kind}
 use Rattle.gb_types.specs.declared.message.MsgId.{MsgId}
 use Rattle.gb_types.specs.declared.node.NodeId.{NodeId}
 use Rattle.gb_types.specs.declared.spec.Spec.{Spec}
-use Rattle.gb_layer.specs.Machine.{mentions, was_noticed, came_from}
+use Rattle.gb_types.specs.Message.{same}
+use Rattle.gb_types.proofs.SameLemmas.{same_itself}
+use Rattle.gb_layer.specs.Counts.{count_by-cons}
+use Rattle.gb_layer.specs.Machine.{mentions, was_noticed, came_from, all_sends, count_sends}
 use Rattle.gb_layer.specs.Modules.{IsLawful, first_mentions, log, now_delivered}
+use Rattle.gb_layer.specs.Rule.{Nodes}
 use Rattle.gb_layer.specs.declared.broadcast_module.BroadcastModule.{BroadcastModule}
+use Rattle.gb_layer.specs.declared.broadcast_module.BroadcastModule.TheVariants.{BestEffort, Lazy, Eager, AllAck}
 use Rattle.gb_layer.specs.declared.call.Call.{Call}
 use Rattle.gb_layer.specs.declared.call.Call.TheVariants.{Notice}
-use Rattle.gb_stack.specs.Kinds.{module_of, kind_log}
+use Rattle.gb_stack.specs.Kinds.{module_of, is_fifo, kind_log}
+use Rattle.gb_stack.specs.StackLemmas.{stack_sends_handed_in}
+use Rattle.gb_stack.specs.StackState.{unordered, fifo, unordered_noticing, IsUntold, IsUntoldStack, stack_next, stack_gives, untold_stack}
 use Rattle.gb_stack.specs.Stands.{is_other_noticed}
 use Rattle.gb_stack.proofs.StandsLemmas as stack
 use Rattle.gb_history.specs.declared.call.GroupCall.TheVariants.{Crashed}
@@ -38,6 +45,21 @@ unfolding calls_of
 notices_lawful me [] others = tt
 notices_lawful me (q ∷ qs) others = (others.0, notices_lawful me qs others.1)
 
+-- a stack that was told nothing is so
+pub was_untold : (kind : Kind) (me : NodeId) (members : Nodes) → IsUntoldStack (untold_stack kind me members)
+was_untold kind me members =
+    let base = module_of kind in
+    elim (is_fifo kind) as (λ b. IsUntoldStack (if b then fifo (record { lower = unordered_noticing base me members set.empty; entries = [] }) else unordered (unordered_noticing base me members set.empty))) [
+      | true ↦ record { lower = lower base; entries = refl }
+      | false ↦ lower base
+    ]
+  where
+    lower : (base : BroadcastModule) → IsUntold (unordered_noticing base me members set.empty)
+    lower BestEffort = tt
+    lower Lazy = record { lower = tt; noticed = refl; entries = refl }
+    lower Eager = record { lower = tt; noticed = refl; entries = refl }
+    lower AllAck = record { lower = tt; noticed = refl; entries = refl }
+
 -- Notices alone mention nothing.
 pub none_mentioned : (qs : List NodeId) (m : MsgId) → mentions (calls_of (map Crashed qs)) m ≡ false
 unfolding calls_of
@@ -58,6 +80,17 @@ pub none_said : (qs : List NodeId) → 0 ≡ said_in (map Crashed qs)
 unfolding said_in
 none_said [] = refl
 none_said (q ∷ qs) = none_said qs
+
+-- a list in which nothing stands
+none_there : (ms : List MsgId) → ((m : MsgId) → count_sends m ms ≡ 0) → [] ≡ ms
+none_there [] none = refl
+none_there (m ∷ ms) none =
+    let here : cond {A = ℕ} (same m m) 1 0 ≡ 1 = ap (λ b. cond {A = ℕ} b 1 0) (same_itself m) in
+    let grown = count_by-cons (λ x. same x m) m ms in
+    absurd (omega (arith, here, grown, none m))
+
+pub none_sent : (kind : Kind) (me : NodeId) (members : Nodes) (qs : List NodeId) → [] ≡ all_sends stack_next stack_gives (untold_stack kind me members) (calls_of (map Crashed qs))
+none_sent kind me members qs = none_there _ (λ m. stack_sends_handed_in (untold_stack kind me members) (calls_of (map Crashed qs)) m (was_untold kind me members) (none_mentioned qs m))
 
 none_first : (qs : List NodeId) → [] ≡ first_mentions (calls_of (map Crashed qs))
 unfolding calls_of

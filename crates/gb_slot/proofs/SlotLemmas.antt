@@ -1,6 +1,7 @@
 -- What a slot answers and shows.
-use Rattle.std.proofs.Common.{◌≡◌, ℕ, ◌+◌, ◌≤◌, ◌||◌, ◌&&◌, not, true, false, List, [], ◌∷◌, length, take, drop, Some, None, refl, sym, ◌∙◌, ap, arith}
-use Rattle.std.specs.Prelude.{map, slice_get, nat_lt, if◌then◌else◌}
+use Rattle.std.proofs.Common.{◌≡◌, ℕ, zero, suc, ◌+◌, ◌≤◌, ◌<◌, ◌||◌, ◌&&◌, not, true, false, List, [], ◌∷◌, length, take, drop, Some, None, refl, sym, ◌∙◌, ap, arith}
+use Rattle.std.specs.Prelude.{map, slice_get, option_map, nat_lt, if◌then◌else◌}
+use Rattle.std.proofs.lemmas.Option.{slice_get-map}
 use Rattle.std.specs.FinSet as set
 use Rattle.std.proofs.lemmas.Bool.Decides.{nat_tests}
 use Rattle.std.proofs.lemmas.List.{length-map}
@@ -9,8 +10,6 @@ use Rattle.gb_types.specs.declared.limits.TheConstants.{FETCH}
 use Rattle.gb_types.specs.declared.message.MsgId.{MsgId}
 use Rattle.gb_types.specs.declared.refusal.Refusal.TheVariants.{BadPlace}
 use Rattle.gb_types.specs.declared.reply.Reply.TheVariants.{Log, Refused}
-use Rattle.gb_layer.specs.declared.effects.Up.{Up}
-use Rattle.gb_layer.specs.Machine.{messages}
 use Rattle.gb_history.specs.Messages.{entry_in, payload_in}
 use Rattle.gb_rules.specs.Replied.{takes_memory}
 use Rattle.gb_rules.specs.Group.{Shown, is_other, fetch_answer}
@@ -19,30 +18,29 @@ use Rattle.gb_slot.specs.SlotState.{SlotState}
 use Rattle.gb_slot.proofs.PageLemmas.{page-map, drop-at, drop-none}
 
 -- the entries from a place on are what a fetch gives
-pub fetched : (s : Shown) (from most : ℕ) (entries : List Entry) → from ≤ length s.log → most ≤ FETCH → entries ≡ take most (drop from s.log) → Log entries ≡ fetch_answer s from most
-fetched s from most entries within few are =
+page_fetched : (s : Shown) (from most : ℕ) (entries : List Entry) → from ≤ length s.log → most ≤ FETCH → entries ≡ take most (drop from s.log) → Log entries ≡ fetch_answer s from most
+page_fetched s from most entries within few are =
     let t1 : nat_lt (length s.log) from ≡ false = grind (arith, nat_tests) in
     let t2 : nat_lt FETCH most ≡ false = grind (arith, nat_tests) in
     ap (λ es. Log es) are ∙ sym (λ i. if t1 i || t2 i then Refused BadPlace else Log (take most (drop from s.log)))
 
--- and so from what came up
-pub fetched_ups : (s : SlotState) (ups : List Up) (from most : ℕ) (entries : List Entry) → s.log ≡ messages ups → from ≤ length ups → most ≤ FETCH → entries ≡ map (entry_in s.store) (messages (take most (drop from ups))) → Log entries ≡ fetch_answer (shown s) from most
-fetched_ups s ups from most entries log within few are =
+-- and so from the messages that were delivered
+pub fetched : (s : SlotState) (log : List MsgId) (from most : ℕ) (entries : List Entry) → s.log ≡ log → from ≤ length log → most ≤ FETCH → entries ≡ map (entry_in s.store) (take most (drop from log)) → Log entries ≡ fetch_answer (shown s) from most
+fetched s log from most entries is within few are =
     let f : MsgId → Entry = entry_in s.store in
-    let m : Up → MsgId = λ u. u.m in
-    let count : length (map f s.log) ≡ length ups = ap (λ ms. length (map f ms)) log ∙ (length-map (messages ups) f ∙ length-map ups m) in
-    fetched (shown s) from most entries (omega arith) few (are ∙ (page-map f ups from most ∙ ap (λ ms. take most (drop from (map f ms))) (sym log)))
+    let count : length (map f s.log) ≡ length log = ap (λ ms. length (map f ms)) is ∙ length-map log f in
+    page_fetched (shown s) from most entries (omega arith) few (are ∙ (page-map f log from most ∙ ap (λ ms. take most (drop from (map f ms))) (sym is)))
 
 -- a log with an entry takes memory
-log_some : (s : SlotState) (us : List Up) → (us ≡ [] → ⊥) → takes_memory (Log (map (entry_in s.store) (messages us))) ≡ true
+log_some : (s : SlotState) (ms : List MsgId) → (ms ≡ [] → ⊥) → takes_memory (Log (map (entry_in s.store) ms)) ≡ true
 log_some s [] some = absurd (some refl)
-log_some s (u ∷ us) some = refl
+log_some s (m ∷ ms) some = refl
 
 -- where entries are found a fetch takes memory
-pub fetched_some : (s : SlotState) (ups : List Up) (from most : ℕ) → s.log ≡ messages ups → from ≤ length ups → most ≤ FETCH → (take most (drop from ups) ≡ [] → ⊥) → takes_memory (fetch_answer (shown s) from most) ≡ true
-fetched_some s ups from most log within few some =
-    let found : List Up = take most (drop from ups) in
-    ap takes_memory (sym (fetched_ups s ups from most (map (entry_in s.store) (messages found)) log within few refl)) ∙ log_some s found some
+pub fetched_some : (s : SlotState) (log : List MsgId) (from most : ℕ) → s.log ≡ log → from ≤ length log → most ≤ FETCH → (take most (drop from log) ≡ [] → ⊥) → takes_memory (fetch_answer (shown s) from most) ≡ true
+fetched_some s log from most is within few some =
+    let found : List MsgId = take most (drop from log) in
+    ap takes_memory (sym (fetched s log from most (map (entry_in s.store) found) is within few refl)) ∙ log_some s found some
 
 -- the item that waits first
 pub waiting-at : (s : SlotState) (b i : ℕ) (m : MsgId) (payload : List ℕ) → (is_other s.spec s.me.number b && not (set.contains s.noticed b)) ≡ true → taken_for s b ≡ i → slice_get s.outgoing i ≡ Some m → payload ≡ payload_in s.store m
@@ -58,3 +56,24 @@ pub waiting-none : (s : SlotState) (b i : ℕ) → (is_other s.spec s.me.number 
 waiting-none s b i reached place there =
     (λ j. if reached j then map (entry_in s.store) (drop (taken_for s b) s.outgoing) else [])
     ∙ (ap (λ k. map (entry_in s.store) (drop k s.outgoing)) place ∙ ap (map (entry_in s.store)) (drop-none s.outgoing i there))
+
+get-drop : {X : Type 0} (xs : List X) (n k : ℕ) → slice_get (drop n xs) k ≡ slice_get xs (n + k)
+get-drop [] zero k = refl
+get-drop [] (suc n) k = refl
+get-drop (x ∷ xs) zero k = let e : k ≡ 0 + k = omega arith in ap (slice_get (x ∷ xs)) e
+get-drop (x ∷ xs) (suc n) k = let e : suc (n + k) ≡ suc n + k = omega arith in get-drop xs n k ∙ ap (slice_get (x ∷ xs)) e
+
+-- the item that waits at a place
+pub waiting-placed : (s : SlotState) (b i k : ℕ) (m : MsgId) (payload : List ℕ) → k < length (waiting s b) → i ≡ taken_for s b + k → slice_get s.outgoing i ≡ Some m → payload ≡ payload_in s.store m
+    → slice_get (waiting s b) k ≡ Some (record { origin = m.origin; seq = m.seq; payload = payload })
+waiting-placed s b i k m payload within place there is =
+    elim (is_other s.spec s.me.number b && not (set.contains s.noticed b)) as (λ r. k < length (if r then left else []) → slice_get (if r then left else []) k ≡ Some (record { origin = m.origin; seq = m.seq; payload = payload })) [
+      | true ↦ λ _.
+          slice_get-map (entry_in s.store) (drop (taken_for s b) s.outgoing) k
+          ∙ (ap (option_map (entry_in s.store)) (get-drop s.outgoing (taken_for s b) k ∙ (ap (slice_get s.outgoing) (sym place) ∙ there))
+          ∙ (λ j. Some (record { origin = m.origin; seq = m.seq; payload = sym is j })))
+      | false ↦ λ none. absurd (omega (arith, none))
+    ] within
+  where
+    left : List Entry
+    left = map (entry_in s.store) (drop (taken_for s b) s.outgoing)

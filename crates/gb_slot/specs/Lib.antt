@@ -5,3 +5,6 @@ pub mod SlotState
 pub mod Slot
 pub mod StandsFor
 pub mod HistoryLaws
+pub mod Reached
+pub mod Effects
+pub mod Representation

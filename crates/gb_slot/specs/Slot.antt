@@ -1,5 +1,5 @@
 -- What each call makes of a slot.
-use Rattle.std.specs.Prelude.{ℕ, ◌≡◌, ◌≤◌, ◌<◌, ◌+◌, ◌-◌, ◌&&◌, ◌||◌, not, Bool, false, List, [], ◌∷◌, ◌++◌, length, map, drop, replicate, nat_eq, nat_le, slice_index_or, slice_set, if◌then◌else◌}
+use Rattle.std.specs.Prelude.{ℕ, ◌≤◌, ◌<◌, ◌+◌, ◌-◌, ◌&&◌, ◌||◌, not, Bool, List, [], ◌∷◌, ◌++◌, length, map, drop, replicate, nat_eq, nat_le, slice_index_or, slice_set, if◌then◌else◌}
 use Rattle.std.specs.Ordering.{nat_cmp}
 use Rattle.std.specs.FinSet as set
 use Rattle.gb_types.specs.Entry.{message_of}
@@ -95,10 +95,6 @@ slot_said payload reply s = s
 -- the same message was taken in from the node before
 abbrev pub came_before : SlotState → ℕ → MsgId → Bool
 came_before s from m = set.contains (nodes_of s.arrivals m) from
-
--- no own message beyond so many is known
-abbrev pub AreOwnSaid : ℕ → ℕ → List Entry → Type 0
-AreOwnSaid me said store = (x : MsgId) → x.origin.number ≡ me → said < x.seq → has store x ≡ false
 
 -- whether an item is let fall
 abbrev pub falls : NodeId → Entry → SlotState → Bool

@@ -33,9 +33,3 @@ pub record SlotState : Type 0 where
   pub taken : List ℕ
   -- for each message that was said here, in order, the nodes that have it for good: this one, and those that acknowledged it
   pub acknowledged : List (set.FinSet nat_cmp)
-
--- a slot, with the room that it has: so many more items can come, with so many bytes in all
-pub record SlotValue : Type 0 where
-  pub state : SlotState
-  pub calls : ℕ
-  pub bytes : ℕ

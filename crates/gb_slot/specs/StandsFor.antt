@@ -4,8 +4,9 @@ use Rattle.std.specs.List.{AllByRecursion}
 use Rattle.std.specs.FinSet as set
 use Rattle.gb_types.specs.declared.limits.TheConstants.{NODES}
 use Rattle.gb_types.specs.declared.message.MsgId.{MsgId}
-use Rattle.gb_layer.specs.Machine.{mentions, was_noticed, came_from}
+use Rattle.gb_layer.specs.Machine.{mentions, was_noticed, came_from, all_sends}
 use Rattle.gb_layer.specs.Modules.{IsLawful}
+use Rattle.gb_stack.specs.StackState.{stack_next, stack_gives, untold_stack}
 use Rattle.gb_stack.specs.Stands.{IsStackAfter}
 use Rattle.gb_history.specs.declared.call.GroupCall.{GroupCall}
 use Rattle.gb_history.specs.History.{calls_of, known, said_in, delivered}
@@ -30,7 +31,9 @@ pub record StandsFor (s : SlotState) (told : List GroupCall) : Type 0 where
   pub own : (x : MsgId) → x.origin.number ≡ s.me.number → s.said < x.seq → mentions (calls_of told) x ≡ false
   -- what was taken in from another node is what came from it
   pub arrivals : (p : ℕ) (x : MsgId) → p ≢ s.me.number → came_before s p x ≡ came_from s.me.number (calls_of told) p x
-  -- what was broadcast is known, and no more of it was taken than there is
+  -- what was broadcast is all that the broadcast sent
+  pub sent : s.outgoing ≡ all_sends stack_next stack_gives (untold_stack s.spec.kind s.me s.spec.members) (calls_of told)
+  -- it is known, and no more of it was taken than there is
   pub outgoing : AllByRecursion (λ m. has s.store m ≡ true) s.outgoing
   pub taken : (b : ℕ) → taken_for s b ≤ length s.outgoing
   pub size : length s.taken ≡ NODES

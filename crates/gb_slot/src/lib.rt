@@ -5,6 +5,7 @@
 //! nodes. Read `slot::Slot` first; `history` has what a slot stands for.
 #![tactic(auto)]
 
+mod broadcast;
 pub mod history;
 pub mod slot;
 pub mod store;

@@ -9,9 +9,11 @@ ghost use Rattle.gb_rules.specs.Replied.{done_reply, said_reply, log_reply, IsRe
 ghost use Rattle.gb_rules.specs.Group.{is_gone, is_member, is_other, open_answer, shut_answer, say_answer, fetch_answer};
 ghost use Rattle.gb_rules.specs.LetFall.{is_let_fall};
 
+use crate::broadcast::take_call;
 use crate::store::Store;
 use crate::window::{acknowledge, add_said, count_unfinished};
-use gb_layer::effects::{Effects, Up};
+use gb_layer::call::Call;
+use gb_layer::effects::Effects;
 use gb_layer::layer::Layer;
 use gb_rules::group::{check_open, check_say, check_shut, is_bad_place};
 use gb_rules::let_fall::is_let_fall;
@@ -28,7 +30,8 @@ use gb_types::spec::Spec;
 use std::alloc::Global;
 use std::marker::Model;
 
-/// One group at one node. Contracts see its state, and beside it the room that it has.
+/// One group at one node. Contracts see its state. All its memory is taken when it is made: no call but `new` and
+/// `fetch`, whose answer is built anew, takes memory.
 #[derive(Drop)]
 pub struct Slot {
     alloc: Global,
@@ -37,8 +40,12 @@ pub struct Slot {
     phase: Phase,
     noticed: NodeSet,
     stack: Stack,
-    /// All that was broadcast and delivered, in order.
+    /// What one call of the broadcast gives. It is emptied after each.
     effects: Effects,
+    /// All that was delivered, in order.
+    log: Vec<MsgId>,
+    /// All that was broadcast, in order.
+    outgoing: Vec<MsgId>,
     store: Store,
     said: u32,
     taken: [usize; NODES],
@@ -46,30 +53,28 @@ pub struct Slot {
     acknowledged: Vec<NodeSet>,
     /// How many of these messages are unfinished.
     unfinished: u32,
-    /// So many more calls of the stack take no memory.
-    calls: usize,
 }
 
 impl Model for Slot {
-    ghost use Rattle.std.specs.Prelude.{◌≡◌, false, ◌≤◌, ◌+◌, vec_len, vec_capacity};
+    ghost use Rattle.std.specs.Prelude.{◌≡◌, false, ◌≤◌, vec_len};
     ghost use Rattle.gb_types.specs.declared.limits.TheConstants.{MESSAGES, BYTES};
-    ghost use Rattle.gb_slot.specs.Slot.{unfinished_of, AreOwnSaid};
+    ghost use Rattle.gb_slot.specs.Slot.{unfinished_of};
+    ghost use Rattle.gb_slot.specs.SlotState.{SlotState};
+    ghost use Rattle.gb_slot.specs.Reached.{IsReached};
     ghost use Rattle.gb_rules.specs.Group.{is_gone};
-    ghost use Rattle.gb_stack.specs.StackRoom.{stack_room};
-    ghost use Rattle.gb_layer.specs.Machine.{messages};
-    ghost use Rattle.gb_layer.specs.Room.{free_sends, free_ups};
-    ghost use Rattle.gb_slot.specs.SlotState.{SlotValue};
     ghost use Rattle.std.specs.Coded.{codes, coded_ℕ};
     ghost use Rattle.std.specs.Ordering.{nat_cmp};
     ghost use Rattle.std.specs.FinSet as set;
 
-    ghost Value = { SlotValue };
+    ghost Value = { SlotState };
 
     ghost coded = { Prim.hlevel (codes, set.code {R = nat_cmp} coded_ℕ) };
 
-    ghost view = { λ s. record { state = record { spec = s.spec; me = s.me; phase = s.phase; noticed = s.noticed; stack = ⟦<Stack as Layer>⟧.meaning s.stack; arrivals = s.store.arrivals; said = s.said; store = s.store.entries; log = messages s.effects.ups.items; outgoing = s.effects.sends.items; taken = s.taken; acknowledged = s.acknowledged.items }; calls = s.calls; bytes = s.store.bytes } };
+    ghost use Rattle.gb_slot.specs.Representation.{state_of, HasMemory};
 
-    ghost invariant = { λ s. ((is_gone s.phase ≡ false) × (s.said ≤ s.spec.msgs)) × (s.spec.msgs ≤ MESSAGES) × (s.spec.bytes ≤ BYTES) × (vec_len s.acknowledged ≡ s.said) × (s.unfinished ≡ unfinished_of s.spec s.noticed s.acknowledged.items) × (s.calls ≤ s.store.places) × AreOwnSaid s.me.number s.said s.store.entries × (1 ≤ s.calls → stack_room s.stack (free_sends s.effects) (free_ups s.effects) s.calls) };
+    ghost view = { λ s. state_of (⟦<Stack as Layer>⟧.meaning s.stack) s };
+
+    ghost invariant = { λ s. ((is_gone s.phase ≡ false) × (s.said ≤ s.spec.msgs)) × (s.spec.msgs ≤ MESSAGES) × (s.spec.bytes ≤ BYTES) × (vec_len s.acknowledged ≡ s.said) × (s.unfinished ≡ unfinished_of s.spec s.noticed s.acknowledged.items) × IsReached (state_of (⟦<Stack as Layer>⟧.meaning s.stack) s) × HasMemory s };
 }
 
 impl Slot {
@@ -77,23 +82,42 @@ impl Slot {
 
     /// A group that was just made at the node `me`, one of its members, which has noticed these nodes. What is
     /// broadcast is put out to the other members.
+    ///
+    /// All memory that the group ever needs is taken here. With n members, each of whom says `msgs` messages with
+    /// `bytes` payload bytes in all at most, this is n * `msgs` places and n * `bytes` payload bytes in the store,
+    /// n * `msgs` message numbers in the log and as many in what is put out, `msgs` sets of the nodes that have a message
+    /// for good, and what the broadcast takes for n * `msgs` messages, with the tables by which messages are found.
+    /// OutOfMemory where it is not there.
     pub fn new(alloc: Global, spec: Spec, me: NodeId, noticed: &NodeSet) -> Result<Slot, Refusal>
         requires limits { IsWithinLimits spec }
         requires member { is_member spec me.number ≡ true }
-        ensures ok { IfOk result (λ s. s.state ≡ new_slot spec me noticed.now) }
+        ensures ok { IfOk result (λ s. s ≡ new_slot spec me noticed.now) }
         ensures err { IsOkUnless result Refusal.OutOfMemory }
     {
-        let Ok(mut stack) = Stack::new(alloc, &spec, me, noticed) else {
-            return Err(Refusal::OutOfMemory);
-        };
-        let mut effects = Effects::new(alloc);
-        let whole = stack.whole(&spec.members, spec.msgs as u16, 1, &mut effects);
-        if whole.is_err() {
-            return Err(Refusal::OutOfMemory);
+        match Slot::make(alloc, spec, me, noticed) {
+            Ok(slot) => Ok(slot),
+            Err(_) => Err(Refusal::OutOfMemory),
         }
-        let Ok(store) = Store::new(alloc, spec.msgs as u16) else {
-            return Err(Refusal::OutOfMemory);
-        };
+    }
+
+    /// The group, with all its memory.
+    fn make(alloc: Global, spec: Spec, me: NodeId, noticed: &NodeSet) -> Result<Slot, OutOfMemory>
+        requires limits { IsWithinLimits spec }
+        requires member { is_member spec me.number ≡ true }
+        ensures { IfOk result (λ s. s ≡ new_slot spec me noticed.now) }
+    {
+        let mut stack = Stack::new(alloc, &spec, me, noticed)?;
+        let mut effects = Effects::new(alloc);
+        stack.whole(&spec.members, spec.msgs as u16, 1, &mut effects)?;
+        // The proof reads that only nodes were noticed.
+        let _ = noticed.nodes();
+        let members = spec.members.count_in(&spec.members);
+        let messages = members * spec.msgs as usize;
+        let bytes = members * spec.bytes as usize;
+        let store = Store::new(alloc, spec.msgs as u16, messages, bytes)?;
+        let log = Vec::with_capacity(alloc, messages)?;
+        let outgoing = Vec::with_capacity(alloc, messages)?;
+        let acknowledged = Vec::with_capacity(alloc, spec.msgs as usize)?;
         Ok(Slot {
             alloc,
             spec,
@@ -102,21 +126,21 @@ impl Slot {
             noticed: noticed.duplicate(),
             stack,
             effects,
+            log,
+            outgoing,
             store,
             said: 0,
             taken: [0; NODES],
-            acknowledged: Vec::new(alloc),
+            acknowledged,
             unfinished: 0,
-            calls: 0,
         })
     }
 
     /// Opens the group for its member's messages. WrongPhase where it was opened before.
     pub fn open_group(&mut self) -> Result<(), Refusal>
-        ensures answer { done_reply result ≡ open_answer (shown self.old.state) }
-        ensures present { is_gone self.old.state.phase ≡ false }
-        ensures state { self.new.state ≡ slot_moved Phase.Opened (done_reply result) self.old.state }
-        ensures room { (self.new.calls ≡ self.old.calls) × (self.new.bytes ≡ self.old.bytes) }
+        ensures answer { done_reply result ≡ open_answer (shown self.old) }
+        ensures present { is_gone self.old.phase ≡ false }
+        ensures state { self.new ≡ slot_moved Phase.Opened (done_reply result) self.old }
     {
         check_open(self.phase)?;
         self.phase = Phase::Opened;
@@ -125,32 +149,18 @@ impl Slot {
 
     /// Shuts the group: its member says nothing more. WrongPhase where it is not open.
     pub fn shut_group(&mut self) -> Result<(), Refusal>
-        ensures answer { done_reply result ≡ shut_answer (shown self.old.state) }
-        ensures present { is_gone self.old.state.phase ≡ false }
-        ensures state { self.new.state ≡ slot_moved Phase.Shut (done_reply result) self.old.state }
-        ensures room { (self.new.calls ≡ self.old.calls) × (self.new.bytes ≡ self.old.bytes) }
+        ensures answer { done_reply result ≡ shut_answer (shown self.old) }
+        ensures present { is_gone self.old.phase ≡ false }
+        ensures state { self.new ≡ slot_moved Phase.Shut (done_reply result) self.old }
     {
         check_shut(self.phase)?;
         self.phase = Phase::Shut;
         Ok(())
     }
 
-    /// Makes room, so that the next calls of `came` and `notice`, so many, with so many payload bytes in all,
-    /// take no memory. A `say` in between may use the room up; no other call does.
-    pub fn ready(&mut self, calls: usize, bytes: usize) -> Result<(), OutOfMemory>
-        ensures state { self.new.state ≡ self.old.state }
-        ensures room { OnOk result ((calls ≤ self.new.calls) × (bytes ≤ self.new.bytes)) }
-    {
-        self.calls = 0;
-        self.stack.ready(calls, &mut self.effects)?;
-        self.store.reserve(calls, bytes)?;
-        self.calls = calls;
-        Ok(())
-    }
-
     /// What the member here has used of what the spec lets it have.
     fn usage(&self) -> Usage
-        ensures { result ≡ usage_of self.now.state }
+        ensures { result ≡ usage_of self.now }
     {
         Usage {
             said: self.said,
@@ -161,30 +171,27 @@ impl Slot {
 
     /// Broadcasts a payload, and gives its number here. WrongPhase where the group is not open, TooLong above
     /// 1,024 bytes, Budget where all messages are said, Bytes where the payload's bytes would be too many in
-    /// all, Window where too many messages are unfinished, in this order; OutOfMemory last.
+    /// all, Window where too many messages are unfinished, in this order. Takes no memory.
     pub fn say(&mut self, payload: &[u8]) -> Result<u16, Refusal>
-        ensures answer { IsReply (say_answer (shown self.old.state) payload.now) (said_reply result) }
-        ensures present { is_gone self.old.state.phase ≡ false }
-        ensures state { self.new.state ≡ slot_said payload.now (said_reply result) self.old.state }
+        ensures answer { said_reply result ≡ say_answer (shown self.old) payload.now }
+        ensures present { is_gone self.old.phase ≡ false }
+        ensures state { self.new ≡ slot_said payload.now (said_reply result) self.old }
     {
         if let Err(why) = check_say(&self.spec, self.phase, self.usage(), payload) {
             return Err(why);
-        }
-        let room = self.ready(1, payload.len());
-        if room.is_err() {
-            return Err(Refusal::OutOfMemory);
-        }
-        let place = self.acknowledged.reserve(1);
-        if place.is_err() {
-            return Err(Refusal::OutOfMemory);
         }
         let seq = (self.said + 1) as u16;
         let m = MsgId {
             origin: self.me,
             seq,
         };
-        self.calls -= 1;
-        self.stack.say(m, &mut self.effects);
+        take_call(
+            &mut self.stack,
+            Call::Say(m),
+            &mut self.effects,
+            &mut self.log,
+            &mut self.outgoing,
+        );
         self.store.push(m, payload);
         let mut by = NodeSet::new();
         by.insert(self.me);
@@ -201,11 +208,7 @@ impl Slot {
 
     /// Takes an item that came from a node: it is let fall, or the broadcast takes it. Takes no memory.
     pub fn came(&mut self, from: NodeId, origin: NodeId, seq: u16, payload: &[u8])
-        requires call { 1 ≤ self.old.calls }
-        requires bytes { length payload.now ≤ self.old.bytes }
-        ensures state { self.new.state ≡ slot_came from (record { origin = origin; seq = seq; payload = payload.now }) self.old.state }
-        ensures calls { self.old.calls ≤ self.new.calls + 1 }
-        ensures bytes { self.old.bytes ≤ self.new.bytes + length payload.now }
+        ensures state { self.new ≡ slot_came from (record { origin = origin; seq = seq; payload = payload.now }) self.old }
     {
         let m = MsgId { origin, seq };
         let known = self.store.contains(m);
@@ -214,33 +217,39 @@ impl Slot {
         if is_let_fall(&self.spec, self.me, from, m, payload, before, known, seen) {
             return;
         }
-        self.calls -= 1;
-        self.stack.came(from, m, &mut self.effects);
+        take_call(
+            &mut self.stack,
+            Call::Came(from, m),
+            &mut self.effects,
+            &mut self.log,
+            &mut self.outgoing,
+        );
         self.store.take_in(m, payload, from);
     }
 
     /// Takes note that a node is noticed to have crashed. Nothing waits for it from then on. A node that is no
     /// other member changes nothing. Takes no memory.
     pub fn notice(&mut self, who: NodeId)
-        requires call { 1 ≤ self.old.calls }
-        ensures state { self.new.state ≡ slot_noticed who self.old.state }
-        ensures calls { self.old.calls ≤ self.new.calls + 1 }
-        ensures bytes { self.old.bytes ≤ self.new.bytes }
+        ensures state { self.new ≡ slot_noticed who self.old }
     {
         if !self.spec.members.contains(who) || who == self.me {
             return;
         }
         self.noticed.insert(who);
         self.unfinished = count_unfinished(&self.spec, &self.noticed, &self.acknowledged);
-        self.calls -= 1;
-        self.stack.notice(who, &mut self.effects);
+        take_call(
+            &mut self.stack,
+            Call::Notice(who),
+            &mut self.effects,
+            &mut self.log,
+            &mut self.outgoing,
+        );
     }
 
     /// Takes an acknowledgement of a message from a node: it is kept where the message was said here. Takes no
     /// memory.
     pub fn done(&mut self, dest: NodeId, m: MsgId)
-        ensures state { self.new.state ≡ slot_done dest m self.old.state }
-        ensures room { (self.new.calls ≡ self.old.calls) × (self.new.bytes ≡ self.old.bytes) }
+        ensures state { self.new ≡ slot_done dest m self.old }
     {
         if m.origin == self.me {
             self.unfinished = acknowledge(
@@ -256,7 +265,7 @@ impl Slot {
 
     /// For each message that was said here, in order, the nodes that have it for good.
     pub fn acknowledged(&self) -> &[NodeSet]
-        ensures { result.now ≡ self.now.state.acknowledged }
+        ensures { result.now ≡ self.now.acknowledged }
     {
         &self.acknowledged
     }
@@ -264,13 +273,13 @@ impl Slot {
     /// The log from a place on, `max` entries at most; places count from 0. BadPlace where the place is above
     /// the log's length, or more than 16 entries are asked for.
     pub fn fetch(&self, from: u32, max: u32) -> Result<Vec<Entry>, Refusal>
-        ensures answer { IsReply (fetch_answer (shown self.now.state) from max) (log_reply result) }
-        ensures present { is_gone self.now.state.phase ≡ false }
+        ensures answer { IsReply (fetch_answer (shown self.now) from max) (log_reply result) }
+        ensures present { is_gone self.now.phase ≡ false }
     {
-        if is_bad_place(self.effects.ups.len(), from, max) {
+        if is_bad_place(self.log.len(), from, max) {
             return Err(Refusal::BadPlace);
         }
-        let found = page(&self.effects.ups, from as usize, max as usize);
+        let found = page(&self.log, from as usize, max as usize);
         match copies(self.alloc, &self.store, found) {
             Ok(entries) => Ok(entries),
             Err(_) => Err(Refusal::OutOfMemory),
@@ -279,26 +288,26 @@ impl Slot {
 
     /// Whether the node is a member other than this one.
     pub fn has_other(&self, node: NodeId) -> bool
-        ensures { result ≡ is_other self.now.state.spec self.now.state.me.number node.number }
+        ensures { result ≡ is_other self.now.spec self.now.me.number node.number }
     {
         self.spec.members.contains(node) && node != self.me
     }
 
     /// Whether items are put out to the node: it is another member, and was not noticed.
     fn is_reached(&self, dest: NodeId) -> bool
-        ensures { result ≡ (is_other self.now.state.spec self.now.state.me.number dest.number && not (set.contains self.now.state.noticed dest.number)) }
+        ensures { result ≡ (is_other self.now.spec self.now.me.number dest.number && not (set.contains self.now.noticed dest.number)) }
     {
         self.spec.members.contains(dest) && dest != self.me && !self.noticed.contains(dest)
     }
 
     /// The first item that waits for the node, with its payload.
     pub fn peek(&self, dest: NodeId) -> Option<(MsgId, &[u8])>
-        ensures { MatchOption result (waiting self.now.state dest.number ≡ []) (λ r. (rest : List EntryValue) × (waiting self.now.state dest.number ≡ record { origin = r.0.origin; seq = r.0.seq; payload = r.1.now } ∷ rest)) }
+        ensures { MatchOption result (waiting self.now dest.number ≡ []) (λ r. (rest : List EntryValue) × (waiting self.now dest.number ≡ record { origin = r.0.origin; seq = r.0.seq; payload = r.1.now } ∷ rest)) }
     {
         if !self.is_reached(dest) {
             return None;
         }
-        let next = item_at(&self.effects.sends, self.taken[dest.index()]);
+        let next = item_at(&self.outgoing, self.taken[dest.index()]);
         match next {
             Some(m) => Some((m, self.store.payload(m))),
             None => None,
@@ -307,32 +316,28 @@ impl Slot {
 
     /// The item at a place among those that wait for the node, with its payload; places count from 0.
     pub fn peek_at(&self, dest: NodeId, place: usize) -> (MsgId, &[u8])
-        requires { place < length (waiting self.now.state dest.number) }
-        ensures { slice_get (waiting self.now.state dest.number) place ≡ Some (record { origin = result.0.origin; seq = result.0.seq; payload = result.1.now }) }
+        requires { place < length (waiting self.now dest.number) }
+        ensures { slice_get (waiting self.now dest.number) place ≡ Some (record { origin = result.0.origin; seq = result.0.seq; payload = result.1.now }) }
     {
-        let sends = self.effects.sends.as_slice();
-        let m = sends[self.taken[dest.index()] + place];
+        let outgoing = self.outgoing.as_slice();
+        let m = outgoing[self.taken[dest.index()] + place];
         (m, self.store.payload(m))
     }
 
     /// How many items wait for the node.
     pub fn waiting_for(&self, dest: NodeId) -> usize
-        ensures { result ≡ length (waiting self.now.state dest.number) }
+        ensures { result ≡ length (waiting self.now dest.number) }
     {
         if !self.is_reached(dest) {
             return 0;
         }
-        self.effects
-            .sends
-            .len()
-            .saturating_sub(self.taken[dest.index()])
+        self.outgoing.len().saturating_sub(self.taken[dest.index()])
     }
 
     /// The first items that wait for the node, so many, are taken to be sent to it.
     pub fn took(&mut self, dest: NodeId, count: usize)
-        requires { count ≤ length (waiting self.old.state dest.number) }
-        ensures state { self.new.state ≡ slot_took dest.number count self.old.state }
-        ensures room { (self.new.calls ≡ self.old.calls) × (self.new.bytes ≡ self.old.bytes) }
+        requires { count ≤ length (waiting self.old dest.number) }
+        ensures state { self.new ≡ slot_took dest.number count self.old }
     {
         self.taken[dest.index()] += count;
     }
@@ -345,27 +350,27 @@ fn item_at(items: &[MsgId], at: usize) -> Option<MsgId>
     items.get(at).copied()
 }
 
-/// What came up from a place on, so many pairs at most.
-fn page(ups: &[Up], from: usize, most: usize) -> &[Up]
-    requires { from ≤ length ups.now }
-    ensures { result.now ≡ take most (drop from ups.entry.now) }
+/// The messages from a place on, so many at most.
+fn page(messages: &[MsgId], from: usize, most: usize) -> &[MsgId]
+    requires { from ≤ length messages.now }
+    ensures { result.now ≡ take most (drop from messages.entry.now) }
 {
-    let rest = &ups[from..];
+    let rest = &messages[from..];
     let count = most.min(rest.len());
     &rest[..count]
 }
 
-/// The messages that came up, with their payloads.
-fn copies(alloc: Global, store: &Store, ups: &[Up]) -> Result<Vec<Entry>, OutOfMemory>
-    ensures ok { IfOk result (λ v. v.items ≡ map (entry_in store.now.entries) (messages ups.now)) }
-    ensures lack { OnErr result (ups.now ≢ []) }
+/// The messages, with their payloads.
+fn copies(alloc: Global, store: &Store, messages: &[MsgId]) -> Result<Vec<Entry>, OutOfMemory>
+    ensures ok { IfOk result (λ v. v.items ≡ map (entry_in store.now.entries) messages.now) }
+    ensures lack { OnErr result (messages.now ≢ []) }
 {
-    if ups.is_empty() {
+    if messages.is_empty() {
         return Ok(Vec::new(alloc));
     }
-    let mut entries = Vec::with_capacity(alloc, ups.len())?;
-    for up in ups {
-        entries.push(store.entry(alloc, up.m)?)?;
+    let mut entries = Vec::with_capacity(alloc, messages.len())?;
+    for m in messages {
+        entries.push(store.entry(alloc, *m)?)?;
     }
     Ok(entries)
 }

@@ -1,9 +1,10 @@
 //! The messages that a slot knows, with their payloads. Each payload stands here once.
-ghost use Rattle.std.specs.Prelude.{◌≡◌, ℕ, true, false, ◌+◌, ◌≤◌, ◌<◌, ◌-◌, ◌∷◌, ◌++◌, [], List, length, slice_index, slice_range, vec_len, vec_capacity, IfOk, OnOk};
+ghost use Rattle.std.specs.Prelude.{◌≡◌, ℕ, true, false, ◌+◌, ◌≤◌, ◌<◌, ◌∷◌, ◌++◌, [], List, length, slice_index, slice_range, vec_len, vec_capacity, IfOk};
 ghost use Rattle.gb_history.specs.Messages.{has, payload_in, entry_in, with_new, bytes_of};
 ghost use Rattle.std.specs.FinSet as set;
 ghost use Rattle.gb_layer.specs.Table.{leads};
 ghost use Rattle.gb_slot.specs.Arrivals.{has_arrival, with_message, nodes_of, with_node, with_arrived};
+ghost use Rattle.gb_slot.specs.StoreValue.{total_bytes};
 ghost use Rattle.gb_slot.specs.Kept.{entries_of, arrivals_of, messages_of, is_of, IsPlaceOf, AreInside, AreCounted};
 ghost use Rattle.gb_types.specs.declared.entry.Entry.{Entry as EntryValue};
 ghost use Rattle.gb_types.specs.declared.limits.TheConstants.{BYTES};
@@ -27,7 +28,7 @@ pub struct Kept {
     from: NodeSet,
 }
 
-/// Messages in the order in which they were put in, with their payloads, and room for more.
+/// Messages in the order in which they were put in, with their payloads. All memory is taken when it is made.
 #[derive(Drop)]
 pub struct Store {
     kept: Vec<Kept>,
@@ -39,21 +40,21 @@ pub struct Store {
 }
 
 impl Model for Store {
-    ghost use Rattle.std.specs.Prelude.{◌≡◌, ◌-◌, true, vec_len, vec_capacity};
+    ghost use Rattle.std.specs.Prelude.{◌≡◌, true, vec_len, vec_capacity};
     ghost use Rattle.std.specs.Coded.{codes, coded_ℕ};
     ghost use Rattle.std.specs.Ordering.{nat_cmp};
     ghost use Rattle.std.specs.FinSet as set;
     ghost use Rattle.gb_layer.specs.Table.{leads};
     ghost use Rattle.gb_slot.specs.Kept.{entries_of, arrivals_of, messages_of, AreInside, AreCounted};
-    ghost use Rattle.gb_slot.specs.StoreValue.{StoreValue};
+    ghost use Rattle.gb_slot.specs.StoreValue.{StoreValue, total_bytes};
 
     ghost Value = { StoreValue };
 
     ghost coded = { Prim.hlevel (codes, set.code {R = nat_cmp} coded_ℕ) };
 
-    ghost view = { λ s. record { entries = entries_of s.bytes.items s.kept.items; arrivals = arrivals_of s.kept.items; places = vec_capacity s.kept - vec_len s.kept; bytes = vec_capacity s.bytes - vec_len s.bytes } };
+    ghost view = { λ s. record { entries = entries_of s.bytes.items s.kept.items; arrivals = arrivals_of s.kept.items; places = vec_capacity s.kept; bytes = vec_capacity s.bytes } };
 
-    ghost invariant = { λ s. AreInside s.bytes.items s.kept.items × AreCounted s.seen (entries_of s.bytes.items s.kept.items) × (leads s.table.width s.table.told.items 0 (messages_of s.kept.items) ≡ true) };
+    ghost invariant = { λ s. AreInside s.bytes.items s.kept.items × AreCounted s.seen (entries_of s.bytes.items s.kept.items) × (leads s.table.width s.table.told.items 0 (messages_of s.kept.items) ≡ true) × (vec_len s.bytes ≡ total_bytes (entries_of s.bytes.items s.kept.items)) };
 }
 
 /// Whether what is kept is of the message.
@@ -156,42 +157,36 @@ fn count_bytes(seen: &mut [u32; NODES], m: MsgId, payload: &[u8])
 }
 
 impl Store {
-    /// Nothing, and no room. Messages numbered up to this width are found at once, others by a search.
-    pub fn new(alloc: Global, width: u16) -> Result<Store, OutOfMemory>
-        ensures { IfOk result (λ s. (s.entries ≡ []) × (s.arrivals ≡ [])) }
+    /// Nothing, with memory for so many messages, with so many bytes of payload in all. Messages numbered up to this
+    /// width are found at once, others by a search.
+    pub fn new(
+        alloc: Global,
+        width: u16,
+        messages: usize,
+        bytes: usize,
+    ) -> Result<Store, OutOfMemory>
+        ensures empty { IfOk result (λ s. (s.entries ≡ []) × (s.arrivals ≡ [])) }
+        ensures memory { IfOk result (λ s. (messages ≤ s.places) × (bytes ≤ s.bytes)) }
     {
         let mut table = Table::new(alloc);
         table.cover(width)?;
         Ok(Store {
-            kept: Vec::new(alloc),
-            bytes: Vec::new(alloc),
+            kept: Vec::with_capacity(alloc, messages)?,
+            bytes: Vec::with_capacity(alloc, bytes)?,
             table,
             seen: [0; NODES],
         })
     }
 
-    /// Makes room for so many messages, with so many bytes of payload in all.
-    pub fn reserve(&mut self, messages: usize, bytes: usize) -> Result<(), OutOfMemory>
-        ensures entries { self.new.entries ≡ self.old.entries }
-        ensures arrivals { self.new.arrivals ≡ self.old.arrivals }
-        ensures room { OnOk result ((messages ≤ self.new.places) × (bytes ≤ self.new.bytes)) }
-        ensures kept { (self.old.places ≤ self.new.places) × (self.old.bytes ≤ self.new.bytes) }
-    {
-        self.kept.reserve(messages)?;
-        self.bytes.reserve(bytes)?;
-        Ok(())
-    }
-
-    /// Puts a message in at the end, and copies its payload.
+    /// Puts a message in at the end, and copies its payload. Takes no memory.
     pub fn push(&mut self, m: MsgId, payload: &[u8])
         requires new { has self.old.entries m ≡ false }
-        requires place { 1 ≤ self.old.places }
-        requires bytes { length payload.now ≤ self.old.bytes }
+        requires place { length self.old.entries < self.old.places }
+        requires bytes { total_bytes self.old.entries + length payload.now ≤ self.old.bytes }
         requires limit { bytes_of m.origin.number self.old.entries + length payload.now ≤ BYTES }
         ensures entries { self.new.entries ≡ self.old.entries ++ record { origin = m.origin; seq = m.seq; payload = payload.now } ∷ [] }
         ensures arrivals { self.new.arrivals ≡ with_message self.old.arrivals m }
-        ensures places { self.old.places ≤ self.new.places + 1 }
-        ensures bytes { self.old.bytes ≤ self.new.bytes + length payload.now }
+        ensures memory { (self.old.places ≤ self.new.places) × (self.old.bytes ≤ self.new.bytes) }
     {
         self.table.note(m, self.kept.len());
         append(&mut self.kept, &mut self.bytes, m, payload);
@@ -224,20 +219,19 @@ impl Store {
     fn mark(&mut self, m: MsgId, from: NodeId)
         ensures arrivals { self.new.arrivals ≡ with_node from m self.old.arrivals }
         ensures entries { self.new.entries ≡ self.old.entries }
-        ensures room { (self.new.places ≡ self.old.places) × (self.new.bytes ≡ self.old.bytes) }
+        ensures memory { (self.new.places ≡ self.old.places) × (self.new.bytes ≡ self.old.bytes) }
     {
         mark(&mut self.kept, &self.table, m, from);
     }
 
-    /// Takes a message in from a node. Where it is not there it is put in, and its payload copied.
+    /// Takes a message in from a node. Where it is not there it is put in, and its payload copied. Takes no memory.
     pub fn take_in(&mut self, m: MsgId, payload: &[u8], from: NodeId)
-        requires place { 1 ≤ self.old.places }
-        requires bytes { length payload.now ≤ self.old.bytes }
+        requires place { has self.old.entries m ≡ false → length self.old.entries < self.old.places }
+        requires bytes { has self.old.entries m ≡ false → total_bytes self.old.entries + length payload.now ≤ self.old.bytes }
         requires limit { has self.old.entries m ≡ false → bytes_of m.origin.number self.old.entries + length payload.now ≤ BYTES }
         ensures entries { self.new.entries ≡ with_new self.old.entries (record { origin = m.origin; seq = m.seq; payload = payload.now }) }
         ensures arrivals { self.new.arrivals ≡ with_arrived from m self.old.arrivals }
-        ensures places { self.old.places ≤ self.new.places + 1 }
-        ensures bytes { self.old.bytes ≤ self.new.bytes + length payload.now }
+        ensures memory { (self.old.places ≤ self.new.places) × (self.old.bytes ≤ self.new.bytes) }
     {
         if self.contains(m) {
             self.mark(m, from);

@@ -3,7 +3,6 @@ ghost use Rattle.gb_types.specs.declared.limits.TheConstants.{MESSAGES};
 
 use crate::slot::Slot;
 use gb_types::kind::Kind;
-use gb_types::memory::OutOfMemory;
 use gb_types::message::MsgId;
 use gb_types::node::{NodeId, NodeSet};
 use gb_types::refusal::Refusal;
@@ -83,17 +82,21 @@ fn narrow_group(alloc: Global) -> Result<Slot, Refusal> {
     Ok(slot)
 }
 
-/// An item comes, after room was made for it.
-fn receive(
-    slot: &mut Slot,
-    from: NodeId,
-    origin: NodeId,
-    seq: u16,
-    payload: &[u8],
-) -> Result<(), OutOfMemory> {
-    slot.ready(1, payload.len())?;
-    slot.came(from, origin, seq, payload);
-    Ok(())
+/// An open eager group, each of whose members says 2 messages of 4 bytes in all.
+fn small_group(alloc: Global) -> Result<Slot, Refusal> {
+    let spec = Spec {
+        kind: Kind::Eager,
+        members: members(),
+        msgs: 2,
+        bytes: 4,
+        window: 2,
+    };
+    if !spec.members.contains(ME) {
+        return Err(Refusal::BadMembers);
+    }
+    let mut slot = Slot::new(alloc, spec, ME, &NodeSet::new())?;
+    slot.open_group()?;
+    Ok(slot)
 }
 
 /// The log has these messages with these payloads, and no more.
@@ -111,9 +114,8 @@ fn assert_log(rt: &impl Abort, slot: &Slot, want: &[(NodeId, u16, &[u8])]) -> Re
 fn check_members_say_and_hear(rt: &impl Abort, slot: &mut Slot) -> Result<(), Fail> {
     slot.open_group()?;
     assert_eq!(rt; slot.say(b"one")?, 1);
-    receive(slot, FRIEND, FRIEND, 2, b"hello")?;
+    slot.came(FRIEND, FRIEND, 2, b"hello");
     assert_eq!(rt; slot.say(b"")?, 2);
-    slot.ready(2, 7)?;
     slot.came(OTHER, OTHER, 1, b"");
     slot.came(FRIEND, FRIEND, 1, b"earlier");
     assert_log(
@@ -191,7 +193,7 @@ fn check_what_is_said_waits_for_each_other_member(
     slot.open_group()?;
     assert_idle(rt, slot, FRIEND);
     slot.say(b"one")?;
-    receive(slot, FRIEND, FRIEND, 1, b"not sent on")?;
+    slot.came(FRIEND, FRIEND, 1, b"not sent on");
     slot.say(b"two")?;
     assert_waiting(rt, slot, FRIEND, 2, 1, b"one");
     assert_waiting(rt, slot, OTHER, 2, 1, b"one");
@@ -222,7 +224,7 @@ fn check_nothing_waits_for_a_node_that_was_noticed(
     slot.say(b"one")?;
     assert_idle(rt, slot, OTHER);
     assert_waiting(rt, slot, FRIEND, 1, 1, b"one");
-    receive(slot, OTHER, OTHER, 1, b"sent before")?;
+    slot.came(OTHER, OTHER, 1, b"sent before");
     assert_log(rt, slot, &[(ME, 1, b"one"), (OTHER, 1, b"sent before")])
 }
 
@@ -243,7 +245,7 @@ fn check_refusals_come_in_their_order(rt: &impl Abort, slot: &mut Slot) -> Resul
         "not open, and too long"
     );
     assert_eq!(rt; slot.say(b"early"), Err(Refusal::WrongPhase));
-    receive(slot, FRIEND, FRIEND, 1, b"early")?;
+    slot.came(FRIEND, FRIEND, 1, b"early");
     assert_log(rt, slot, &[(FRIEND, 1, b"early")])?;
     assert_eq!(rt; slot.shut_group(), Err(Refusal::WrongPhase), "not open");
     slot.open_group()?;
@@ -283,7 +285,7 @@ fn check_refusals_come_in_their_order(rt: &impl Abort, slot: &mut Slot) -> Resul
         Err(Refusal::WrongPhase),
         "shut, and too long"
     );
-    receive(slot, FRIEND, FRIEND, 2, b"late")?;
+    slot.came(FRIEND, FRIEND, 2, b"late");
     assert_eq!(rt; slot.fetch(3, 16)?.len(), 1, "items still come");
     Ok(())
 }
@@ -297,7 +299,7 @@ fn refusals_come_in_their_order(rt: HostRuntime) -> Result<(), Fail> {
 fn check_items_are_let_fall(rt: &impl Abort, slot: &mut Slot) -> Result<(), Fail> {
     slot.open_group()?;
     slot.say(b"own")?;
-    receive(slot, FRIEND, FRIEND, 1, b"first")?;
+    slot.came(FRIEND, FRIEND, 1, b"first");
     for (from, origin, seq) in [
         // From no member, or made by none.
         (STRANGER, STRANGER, 1),
@@ -316,12 +318,12 @@ fn check_items_are_let_fall(rt: &impl Abort, slot: &mut Slot) -> Result<(), Fail
         // An own message from another node that was not said.
         (FRIEND, ME, 2),
     ] {
-        receive(slot, from, origin, seq, b"fallen")?;
+        slot.came(from, origin, seq, b"fallen");
         assert_log(rt, slot, &[(ME, 1, b"own"), (FRIEND, 1, b"first")])?;
         assert_waiting(rt, slot, OTHER, 1, 1, b"own");
     }
-    receive(slot, FRIEND, FRIEND, 3, b"third")?;
-    receive(slot, FRIEND, FRIEND, 2, b"second")?;
+    slot.came(FRIEND, FRIEND, 3, b"third");
+    slot.came(FRIEND, FRIEND, 2, b"second");
     slot.say(b"own again")?;
     assert_log(
         rt,
@@ -342,13 +344,6 @@ fn items_are_let_fall(rt: HostRuntime) -> Result<(), Fail> {
     check_items_are_let_fall(&rt, &mut slot)
 }
 
-/// A node is noticed to have crashed, after room was made for the notice.
-fn notice_crash(slot: &mut Slot, who: NodeId) -> Result<(), OutOfMemory> {
-    slot.ready(1, 0)?;
-    slot.notice(who);
-    Ok(())
-}
-
 fn check_nothing_waits_for_a_node_that_crashes(
     rt: &impl Abort,
     slot: &mut Slot,
@@ -357,16 +352,16 @@ fn check_nothing_waits_for_a_node_that_crashes(
     slot.say(b"one")?;
     slot.say(b"two")?;
     take(rt, slot, OTHER, 1);
-    notice_crash(slot, FRIEND)?;
+    slot.notice(FRIEND);
     assert_idle(rt, slot, FRIEND);
     assert_waiting(rt, slot, OTHER, 1, 2, b"two");
     slot.say(b"three")?;
     assert_idle(rt, slot, FRIEND);
     assert_waiting(rt, slot, OTHER, 2, 2, b"two");
-    notice_crash(slot, FRIEND)?;
+    slot.notice(FRIEND);
     assert_idle(rt, slot, FRIEND);
     assert_waiting(rt, slot, OTHER, 2, 2, b"two");
-    receive(slot, FRIEND, FRIEND, 1, b"sent before")?;
+    slot.came(FRIEND, FRIEND, 1, b"sent before");
     assert_log(
         rt,
         slot,
@@ -377,7 +372,7 @@ fn check_nothing_waits_for_a_node_that_crashes(
             (FRIEND, 1, b"sent before"),
         ],
     )?;
-    notice_crash(slot, OTHER)?;
+    slot.notice(OTHER);
     slot.say(b"four")?;
     assert_idle(rt, slot, FRIEND);
     assert_idle(rt, slot, OTHER);
@@ -397,7 +392,7 @@ fn check_notices_of_no_other_member_change_nothing(
     slot.open_group()?;
     slot.say(b"one")?;
     for who in [STRANGER, ME] {
-        notice_crash(slot, who)?;
+        slot.notice(who);
         assert_waiting(rt, slot, FRIEND, 1, 1, b"one");
         assert_waiting(rt, slot, OTHER, 1, 1, b"one");
         assert_log(rt, slot, &[(ME, 1, b"one")])?;
@@ -415,10 +410,12 @@ fn notices_of_no_other_member_change_nothing(rt: HostRuntime) -> Result<(), Fail
     check_notices_of_no_other_member_change_nothing(&rt, &mut slot)
 }
 
-fn check_room_that_was_made_serves_notices(rt: &impl Abort, slot: &mut Slot) -> Result<(), Fail> {
+fn check_items_come_before_and_after_a_notice(
+    rt: &impl Abort,
+    slot: &mut Slot,
+) -> Result<(), Fail> {
     slot.open_group()?;
     slot.say(b"one")?;
-    slot.ready(4, 7)?;
     slot.came(FRIEND, FRIEND, 1, b"");
     slot.notice(FRIEND);
     slot.notice(STRANGER);
@@ -433,9 +430,9 @@ fn check_room_that_was_made_serves_notices(rt: &impl Abort, slot: &mut Slot) -> 
 }
 
 #[test]
-fn room_that_was_made_serves_notices(rt: HostRuntime) -> Result<(), Fail> {
+fn items_come_before_and_after_a_notice(rt: HostRuntime) -> Result<(), Fail> {
     let mut slot = group(rt.alloc(), 3)?;
-    check_room_that_was_made_serves_notices(&rt, &mut slot)
+    check_items_come_before_and_after_a_notice(&rt, &mut slot)
 }
 
 /// Of each message that was said, in order, these nodes have it for good, and no others.
@@ -452,14 +449,14 @@ fn assert_acknowledged(rt: &impl Abort, slot: &Slot, want: &[&[NodeId]]) {
 /// A copy that another member relayed is taken in and not delivered; the origin's own then is, with the bytes that came
 /// first.
 fn check_best_effort_takes_relayed_copies_in(rt: &impl Abort, slot: &mut Slot) -> Result<(), Fail> {
-    receive(slot, OTHER, FRIEND, 1, b"first")?;
-    receive(slot, OTHER, FRIEND, 1, b"again")?;
+    slot.came(OTHER, FRIEND, 1, b"first");
+    slot.came(OTHER, FRIEND, 1, b"again");
     assert_log(rt, slot, &[])?;
-    receive(slot, FRIEND, FRIEND, 1, b"later")?;
+    slot.came(FRIEND, FRIEND, 1, b"later");
     assert_log(rt, slot, &[(FRIEND, 1, b"first")])?;
-    receive(slot, OTHER, FRIEND, 1, b"again")?;
+    slot.came(OTHER, FRIEND, 1, b"again");
     slot.say(b"own")?;
-    receive(slot, FRIEND, ME, 1, b"back")?;
+    slot.came(FRIEND, ME, 1, b"back");
     assert_log(rt, slot, &[(FRIEND, 1, b"first"), (ME, 1, b"own")])?;
     assert_waiting(rt, slot, FRIEND, 1, 1, b"own");
     assert_waiting(rt, slot, OTHER, 1, 1, b"own");
@@ -482,11 +479,11 @@ fn check_lazy_groups_relay_after_a_crash(rt: &impl Abort, slot: &mut Slot) -> Re
         origin: FRIEND,
         seq: 2,
     };
-    receive(slot, FRIEND, FRIEND, 1, b"one")?;
+    slot.came(FRIEND, FRIEND, 1, b"one");
     assert_idle(rt, slot, OTHER);
-    notice_crash(slot, FRIEND)?;
+    slot.notice(FRIEND);
     assert_first(rt, slot, OTHER, 1, one, b"one");
-    receive(slot, OTHER, FRIEND, 2, b"two")?;
+    slot.came(OTHER, FRIEND, 2, b"two");
     assert_first(rt, slot, OTHER, 2, one, b"one");
     take(rt, slot, OTHER, 1);
     assert_first(rt, slot, OTHER, 1, two, b"two");
@@ -508,7 +505,7 @@ fn check_lazy_groups_relay_after_a_crash_before_them(
         origin: FRIEND,
         seq: 1,
     };
-    receive(slot, OTHER, FRIEND, 1, b"one")?;
+    slot.came(OTHER, FRIEND, 1, b"one");
     assert_first(rt, slot, OTHER, 1, one, b"one");
     assert_log(rt, slot, &[(FRIEND, 1, b"one")])
 }
@@ -525,8 +522,8 @@ fn check_eager_groups_relay_at_once(rt: &impl Abort, slot: &mut Slot) -> Result<
         origin: FRIEND,
         seq: 1,
     };
-    receive(slot, OTHER, FRIEND, 1, b"one")?;
-    receive(slot, FRIEND, FRIEND, 1, b"one")?;
+    slot.came(OTHER, FRIEND, 1, b"one");
+    slot.came(FRIEND, FRIEND, 1, b"one");
     assert_first(rt, slot, FRIEND, 1, one, b"one");
     assert_first(rt, slot, OTHER, 1, one, b"one");
     assert_log(rt, slot, &[(FRIEND, 1, b"one")])
@@ -541,18 +538,18 @@ fn eager_groups_relay_at_once(rt: HostRuntime) -> Result<(), Fail> {
 /// An all-ack group delivers once every member that was not noticed holds the message.
 fn check_all_ack_groups_wait_for_each_member(rt: &impl Abort, slot: &mut Slot) -> Result<(), Fail> {
     slot.say(b"one")?;
-    receive(slot, FRIEND, ME, 1, b"one")?;
-    receive(slot, FRIEND, ME, 1, b"one")?;
+    slot.came(FRIEND, ME, 1, b"one");
+    slot.came(FRIEND, ME, 1, b"one");
     assert_log(rt, slot, &[])?;
-    receive(slot, OTHER, ME, 1, b"one")?;
+    slot.came(OTHER, ME, 1, b"one");
     assert_log(rt, slot, &[(ME, 1, b"one")])?;
     slot.say(b"two")?;
-    receive(slot, FRIEND, FRIEND, 1, b"three")?;
+    slot.came(FRIEND, FRIEND, 1, b"three");
     assert_log(rt, slot, &[(ME, 1, b"one")])?;
     assert_waiting(rt, slot, OTHER, 3, 1, b"one");
-    notice_crash(slot, OTHER)?;
+    slot.notice(OTHER);
     assert_log(rt, slot, &[(ME, 1, b"one"), (FRIEND, 1, b"three")])?;
-    receive(slot, FRIEND, ME, 2, b"two")?;
+    slot.came(FRIEND, ME, 2, b"two");
     assert_log(
         rt,
         slot,
@@ -568,11 +565,11 @@ fn all_ack_groups_wait_for_each_member(rt: HostRuntime) -> Result<(), Fail> {
 
 /// In a group of this kind a message waits for those before it of its origin, and for no other origin's.
 fn check_order(rt: &impl Abort, slot: &mut Slot) -> Result<(), Fail> {
-    receive(slot, FRIEND, FRIEND, 3, b"three")?;
-    receive(slot, FRIEND, FRIEND, 2, b"two")?;
-    receive(slot, OTHER, OTHER, 1, b"other")?;
+    slot.came(FRIEND, FRIEND, 3, b"three");
+    slot.came(FRIEND, FRIEND, 2, b"two");
+    slot.came(OTHER, OTHER, 1, b"other");
     assert_log(rt, slot, &[(OTHER, 1, b"other")])?;
-    receive(slot, FRIEND, FRIEND, 1, b"one")?;
+    slot.came(FRIEND, FRIEND, 1, b"one");
     slot.say(b"own")?;
     assert_log(
         rt,
@@ -599,15 +596,13 @@ fn fifo_groups_keep_each_origins_order(rt: HostRuntime) -> Result<(), Fail> {
     assert_order_kept(&rt, rt.alloc(), Kind::FifoEager)
 }
 
-/// A fifo all-ack group delivers a message once those before it of its origin are held by all, in room that was made
-/// before.
+/// A fifo all-ack group delivers a message once those before it of its origin are held by all.
 fn check_fifo_all_ack_groups_wait_and_keep_order(
     rt: &impl Abort,
     slot: &mut Slot,
 ) -> Result<(), Fail> {
     slot.say(b"one")?;
     slot.say(b"two")?;
-    slot.ready(4, 0)?;
     slot.came(FRIEND, ME, 2, b"");
     slot.came(OTHER, ME, 2, b"");
     assert_log(rt, slot, &[])?;
@@ -653,7 +648,7 @@ fn check_acknowledgements_are_kept(rt: &impl Abort, slot: &mut Slot) -> Result<(
     }
     slot.say(b"three")?;
     assert_acknowledged(rt, slot, &[&[ME, FRIEND, OTHER], &[ME, FRIEND], &[ME]]);
-    notice_crash(slot, FRIEND)?;
+    slot.notice(FRIEND);
     slot.done(OTHER, MsgId { origin: ME, seq: 3 });
     assert_acknowledged(
         rt,
@@ -686,7 +681,7 @@ fn check_usage_is_bounded(rt: &impl Abort, slot: &mut Slot) -> Result<(), Fail> 
     slot.done(OTHER, MsgId { origin: ME, seq: 1 });
     assert_eq!(rt; slot.say(b"")?, 3, "all have it");
     assert_eq!(rt; slot.say(b""), Err(Refusal::Window));
-    notice_crash(slot, OTHER)?;
+    slot.notice(OTHER);
     assert_eq!(rt; slot.say(b""), Err(Refusal::Window), "one is to have it");
     slot.done(FRIEND, MsgId { origin: ME, seq: 3 });
     assert_eq!(rt; slot.say(b"")?, 4, "no other is to have it");
@@ -708,10 +703,10 @@ fn usage_is_bounded(rt: HostRuntime) -> Result<(), Fail> {
 fn check_notices_open_the_window(rt: &impl Abort, slot: &mut Slot) -> Result<(), Fail> {
     slot.say(b"one")?;
     slot.say(b"two")?;
-    notice_crash(slot, FRIEND)?;
+    slot.notice(FRIEND);
     slot.done(FRIEND, MsgId { origin: ME, seq: 1 });
     assert_eq!(rt; slot.say(b""), Err(Refusal::Window));
-    notice_crash(slot, OTHER)?;
+    slot.notice(OTHER);
     assert_eq!(rt; slot.say(b"")?, 3);
     assert_eq!(rt; slot.say(b"")?, 4, "finished at once");
     Ok(())
@@ -725,14 +720,14 @@ fn notices_open_the_window(rt: HostRuntime) -> Result<(), Fail> {
 
 /// Each origin's bytes are bounded by themselves. What is let fall, or known, counts nothing.
 fn check_bytes_of_an_origin_are_bounded(rt: &impl Abort, slot: &mut Slot) -> Result<(), Fail> {
-    receive(slot, FRIEND, FRIEND, 1, b"sevenly")?;
-    receive(slot, OTHER, FRIEND, 1, b"known before")?;
-    receive(slot, FRIEND, FRIEND, 2, b"four")?;
-    receive(slot, FRIEND, FRIEND, 2, b"ten")?;
-    receive(slot, FRIEND, FRIEND, 3, b"x")?;
-    receive(slot, FRIEND, FRIEND, 4, b"")?;
-    receive(slot, OTHER, OTHER, 1, b"ten of them")?;
-    receive(slot, OTHER, OTHER, 1, b"ten of its")?;
+    slot.came(FRIEND, FRIEND, 1, b"sevenly");
+    slot.came(OTHER, FRIEND, 1, b"known before");
+    slot.came(FRIEND, FRIEND, 2, b"four");
+    slot.came(FRIEND, FRIEND, 2, b"ten");
+    slot.came(FRIEND, FRIEND, 3, b"x");
+    slot.came(FRIEND, FRIEND, 4, b"");
+    slot.came(OTHER, OTHER, 1, b"ten of them");
+    slot.came(OTHER, OTHER, 1, b"ten of its");
     assert_eq!(rt; slot.say(b"ten of own")?, 1);
     assert_log(
         rt,
@@ -751,4 +746,40 @@ fn check_bytes_of_an_origin_are_bounded(rt: &impl Abort, slot: &mut Slot) -> Res
 fn bytes_of_an_origin_are_bounded(rt: HostRuntime) -> Result<(), Fail> {
     let mut slot = narrow_group(rt.alloc())?;
     check_bytes_of_an_origin_are_bounded(&rt, &mut slot)
+}
+
+/// Each member says all its messages with all their bytes: nothing is refused or let fall, and each is put out once.
+/// Then there is nothing more to say.
+fn check_all_that_may_be_said_is_taken(rt: &impl Abort, slot: &mut Slot) -> Result<(), Fail> {
+    slot.say(b"me")?;
+    slot.came(FRIEND, FRIEND, 2, b"four");
+    slot.came(OTHER, FRIEND, 1, b"");
+    slot.came(FRIEND, FRIEND, 1, b"");
+    slot.came(OTHER, OTHER, 1, b"a");
+    slot.came(FRIEND, OTHER, 2, b"few");
+    slot.say(b"us")?;
+    slot.came(OTHER, OTHER, 3, b"");
+    let more = slot.say(b"");
+    assert!(rt; more == Err(Refusal::Budget));
+    let first = MsgId { origin: ME, seq: 1 };
+    assert_first(rt, slot, FRIEND, 6, first, b"me");
+    assert_first(rt, slot, OTHER, 6, first, b"me");
+    assert_log(
+        rt,
+        slot,
+        &[
+            (ME, 1, b"me"),
+            (FRIEND, 2, b"four"),
+            (FRIEND, 1, b""),
+            (OTHER, 1, b"a"),
+            (OTHER, 2, b"few"),
+            (ME, 2, b"us"),
+        ],
+    )
+}
+
+#[test]
+fn all_that_may_be_said_is_taken(rt: HostRuntime) -> Result<(), Fail> {
+    let mut slot = small_group(rt.alloc())?;
+    check_all_that_may_be_said_is_taken(&rt, &mut slot)
 }

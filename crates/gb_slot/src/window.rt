@@ -43,6 +43,7 @@ pub(crate) fn add_said(
     requires count { unfinished ≡ unfinished_of spec.now noticed.now acknowledged.old.items }
     ensures items { acknowledged.new.items ≡ acknowledged.old.items ++ by ∷ [] }
     ensures len { vec_len acknowledged.new ≡ vec_len acknowledged.old + 1 }
+    ensures memory { vec_capacity acknowledged.new ≡ vec_capacity acknowledged.old }
     ensures count { result ≡ unfinished_of spec.now noticed.now acknowledged.new.items }
 {
     let more = count_one(spec, noticed, &by);

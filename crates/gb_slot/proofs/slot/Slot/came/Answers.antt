@@ -1,25 +1,88 @@
-use Rattle.std.proofs.Common.{◌≡◌, ◌≢◌, ◌≤◌, ◌∙◌, rules, subst, sym, true, false}
-use Rattle.gb_types.specs.declared.entry.Entry.{Entry}
+use Rattle.std.proofs.Common.{◌≡◌, ◌&&◌, rules, refl, sym, ◌∙◌, subst, arith}
 use Rattle.gb_types.specs.Entry.{message_of}
-use Rattle.gb_history.specs.Messages.{has}
-use Rattle.gb_rules.proofs.LetFallLemmas.{not_fallen}
-use Rattle.gb_slot.specs.Slot.{AreOwnSaid}
-use Rattle.gb_slot.specs.SlotState.{SlotValue}
-use Rattle.gb_slot.proofs.OwnLemmas.{own_came}
-use Rattle.gb_slot.proofs.RoomLemmas.{room_for_one}
+use Rattle.gb_types.specs.declared.entry.Entry.{Entry}
+use Rattle.gb_layer.specs.declared.call.Call.TheVariants.{Came}
+use Rattle.gb_stack.specs.contracts.stack.StackLayer.TheImpl.{meaning-value}
+use Rattle.gb_history.specs.Messages.{with_new}
+use Rattle.gb_slot.specs.Reached.{IsReached, limit_of}
+use Rattle.gb_slot.specs.Slot.{slot_called}
+use Rattle.gb_slot.proofs.MemoryLemmas.{held, room_for_call, places_in_log, places_put_out, place_in_store, bytes_in_store, item_stays, new_known}
+use Rattle.gb_slot.proofs.ReachedLemmas.{reached_came, kept_item}
 use Rattle.gb_slot.proofs.slot.Slot.came.Goals as goal
 
-pub came-requires : goal.came-requires
-came-requires c =
+pub take_call-requires-clause-room : goal.take_call-requires-clause-room
+take_call-requires-clause-room c = room_for_call c.self.inside c.self.invariant.6
+
+pub take_call-requires-clause-log : goal.take_call-requires-clause-log
+take_call-requires-clause-log c =
     let s = c.self.inside in
-    let some : 1 ≤ s.calls = subst (λ (v : SlotValue). 1 ≤ v.calls) (sym c.self.view_is) c.requires.call in
-    room_for_one s.stack _ _ s.calls some (c.self.invariant.7 some)
+    let x : Entry = record { origin = c.args.origin; seq = c.args.seq; payload = c.args.payload.now } in
+    let stays = item_stays s c.args.from x c.is_let_fall.result c.was_taken_in-before.result c.contains-known.result c.bytes_of-seen.result c.is_let_fall.ensures.test c.if-is_let_fall.false c.was_taken_in-before.ensures c.contains-known.ensures.entries c.bytes_of-seen.ensures in
+    let next = reached_came (held s) c.args.from x stays c.self.invariant.5 in
+    places_in_log s (slot_called (Came c.args.from (message_of x)) (with_new s.store.entries x) (held s)) _ c.self.invariant.6 next refl refl
+
+pub take_call-requires-clause-outgoing : goal.take_call-requires-clause-outgoing
+take_call-requires-clause-outgoing c =
+    let s = c.self.inside in
+    let x : Entry = record { origin = c.args.origin; seq = c.args.seq; payload = c.args.payload.now } in
+    let stays = item_stays s c.args.from x c.is_let_fall.result c.was_taken_in-before.result c.contains-known.result c.bytes_of-seen.result c.is_let_fall.ensures.test c.if-is_let_fall.false c.was_taken_in-before.ensures c.contains-known.ensures.entries c.bytes_of-seen.ensures in
+    let next = reached_came (held s) c.args.from x stays c.self.invariant.5 in
+    places_put_out s (slot_called (Came c.args.from (message_of x)) (with_new s.store.entries x) (held s)) _ c.self.invariant.6 next refl refl
+
+pub take_in-requires-clause-place : goal.take_in-requires-clause-place
+take_in-requires-clause-place c = λ new.
+    let s = c.self.inside in
+    let x : Entry = record { origin = c.args.origin; seq = c.args.seq; payload = c.args.payload.now } in
+    let stays = item_stays s c.args.from x c.is_let_fall.result c.was_taken_in-before.result c.contains-known.result c.bytes_of-seen.result c.is_let_fall.ensures.test c.if-is_let_fall.false c.was_taken_in-before.ensures c.contains-known.ensures.entries c.bytes_of-seen.ensures in
+    let next = reached_came (held s) c.args.from x stays c.self.invariant.5 in
+    place_in_store s (slot_called (Came c.args.from (message_of x)) (with_new s.store.entries x) (held s)) x c.self.invariant.6 next refl (new_known s.store.entries x new)
+
+pub take_in-requires-clause-bytes : goal.take_in-requires-clause-bytes
+take_in-requires-clause-bytes c = λ new.
+    let s = c.self.inside in
+    let x : Entry = record { origin = c.args.origin; seq = c.args.seq; payload = c.args.payload.now } in
+    let stays = item_stays s c.args.from x c.is_let_fall.result c.was_taken_in-before.result c.contains-known.result c.bytes_of-seen.result c.is_let_fall.ensures.test c.if-is_let_fall.false c.was_taken_in-before.ensures c.contains-known.ensures.entries c.bytes_of-seen.ensures in
+    let next = reached_came (held s) c.args.from x stays c.self.invariant.5 in
+    bytes_in_store s (slot_called (Came c.args.from (message_of x)) (with_new s.store.entries x) (held s)) x c.self.invariant.6 next refl (new_known s.store.entries x new)
+
+pub take_in-requires-clause-limit : goal.take_in-requires-clause-limit
+take_in-requires-clause-limit c = λ new.
+    let s = c.self.inside in
+    let x : Entry = record { origin = c.args.origin; seq = c.args.seq; payload = c.args.payload.now } in
+    let test = sym c.is_let_fall.ensures.test in
+    let facts = kept_item s.spec s.me.number c.args.from.number x c.was_taken_in-before.result c.contains-known.result c.bytes_of-seen.result (test ∙ c.if-is_let_fall.false) in
+    let enough = facts.2 (c.contains-known.ensures.entries ∙ new) in
+    let most = c.self.invariant.2 in
+    let seen = c.bytes_of-seen.ensures in
+    omega (arith, enough, most, seen)
 
 pub invariant_of-self : goal.invariant_of-self
 invariant_of-self c =
     let s = c.self.inside in
     let x : Entry = record { origin = c.args.origin; seq = c.args.seq; payload = c.args.payload.now } in
-    let facts = not_fallen s.spec s.me.number c.args.from.number x c.was_taken_in-before.result c.contains-known.result c.bytes_of-seen.result (sym c.is_let_fall.ensures.test ∙ c.if-is_let_fall.false) in
-    let foreign : has s.store.entries (message_of x) ≡ false → x.origin.number ≢ s.me.number = λ none here. let e : true ≡ false = sym (facts.2 here) ∙ (c.contains-known.ensures.entries ∙ none) in cc in
-    let own = own_came s.me.number s.said s.store.entries x foreign c.self.invariant.6 in
-    (search rules, search rules, search rules, search rules, search rules, search rules, subst (AreOwnSaid s.me.number s.said) (sym c.take_in.ensures.entries) own, search rules)
+    let stays = item_stays s c.args.from x c.is_let_fall.result c.was_taken_in-before.result c.contains-known.result c.bytes_of-seen.result c.is_let_fall.ensures.test c.if-is_let_fall.false c.was_taken_in-before.ensures c.contains-known.ensures.entries c.bytes_of-seen.ensures in
+    let next = reached_came (held s) c.args.from x stays c.self.invariant.5 in
+    let m = c.self.invariant.6 in
+    let facts = kept_item s.spec s.me.number c.args.from.number x c.was_taken_in-before.result c.contains-known.result c.bytes_of-seen.result (sym c.is_let_fall.ensures.test ∙ c.if-is_let_fall.false) in
+    let called = c.take_call.ensures in
+    let kept = c.take_in.ensures in
+    let is : (slot_called (Came c.args.from (message_of x)) (with_new s.store.entries x) (held s)) ≡ record (held s) { stack = meaning-value.it c.take_call.new.stack; arrivals = c.take_in.new.self.arrivals; store = c.take_in.new.self.entries; log = c.take_call.new.log.items; outgoing = c.take_call.new.outgoing.items } =
+    sym (λ i. record (held s) { stack = called.meaning i; arrivals = kept.arrivals i; store = kept.entries i; log = called.log i; outgoing = called.outgoing i }) in (
+      search rules,
+      search rules,
+      search rules,
+      search rules,
+      search rules,
+      subst IsReached is next,
+      record {
+        stack = called.whole (limit_of s.spec) m.stack (λ i. facts.0 i && facts.1 i);
+        empty = called.empty;
+        sends = (let a = m.sends in let b = called.free_sends in omega (arith, a, b));
+        ups = (let a = m.ups in let b = called.free_ups in omega (arith, a, b));
+        log = (let a = m.log in let b = called.log_memory in omega (arith, a, b));
+        outgoing = (let a = m.outgoing in let b = called.outgoing_memory in omega (arith, a, b));
+        places = (let a = m.places in let b = kept.memory.0 in omega (arith, a, b));
+        bytes = (let a = m.bytes in let b = kept.memory.1 in omega (arith, a, b));
+        acknowledged = m.acknowledged;
+      },
+    )

@@ -1,10 +1,52 @@
-use Rattle.std.proofs.Common.{◌≤◌, subst, sym}
-use Rattle.gb_slot.specs.SlotState.{SlotValue}
-use Rattle.gb_slot.proofs.RoomLemmas.{room_for_one}
+use Rattle.std.proofs.Common.{◌≡◌, true, rules, refl, sym, subst, arith}
+use Rattle.gb_stack.specs.contracts.stack.StackLayer.TheImpl.{meaning-value}
+use Rattle.gb_rules.specs.Group.{is_other}
+use Rattle.gb_slot.specs.Reached.{IsReached, limit_of}
+use Rattle.gb_slot.proofs.MemoryLemmas.{held, room_for_call, places_in_log, places_put_out}
+use Rattle.gb_slot.proofs.ReachedLemmas.{noticed_by, reached_noticed}
 use Rattle.gb_slot.proofs.slot.Slot.notice.Goals as goal
 
-pub notice-requires : goal.notice-requires
-notice-requires c =
+pub take_call-requires-clause-room : goal.take_call-requires-clause-room
+take_call-requires-clause-room c = room_for_call c.self.inside c.self.invariant.6
+
+pub take_call-requires-clause-log : goal.take_call-requires-clause-log
+take_call-requires-clause-log c =
     let s = c.self.inside in
-    let some : 1 ≤ s.calls = subst (λ (v : SlotValue). 1 ≤ v.calls) (sym c.self.view_is) c.requires.call in
-    room_for_one s.stack _ _ s.calls some (c.self.invariant.7 some)
+    let other : is_other s.spec s.me.number c.args.who.number ≡ true = search rules in
+    let next = reached_noticed (held s) c.args.who other c.self.invariant.5 in
+    places_in_log s (noticed_by c.args.who (held s)) _ c.self.invariant.6 next refl refl
+
+pub take_call-requires-clause-outgoing : goal.take_call-requires-clause-outgoing
+take_call-requires-clause-outgoing c =
+    let s = c.self.inside in
+    let other : is_other s.spec s.me.number c.args.who.number ≡ true = search rules in
+    let next = reached_noticed (held s) c.args.who other c.self.invariant.5 in
+    places_put_out s (noticed_by c.args.who (held s)) _ c.self.invariant.6 next refl refl
+
+pub invariant_of-self : goal.invariant_of-self
+invariant_of-self c =
+    let s = c.self.inside in
+    let other : is_other s.spec s.me.number c.args.who.number ≡ true = search rules in
+    let next = reached_noticed (held s) c.args.who other c.self.invariant.5 in
+    let m = c.self.invariant.6 in
+    let called = c.take_call.ensures in
+    let is : noticed_by c.args.who (held s) ≡ record (held s) { noticed = c.insert.new.self; stack = meaning-value.it c.take_call.new.stack; log = c.take_call.new.log.items; outgoing = c.take_call.new.outgoing.items } =
+    sym (λ i. record (held s) { noticed = c.insert.ensures i; stack = called.meaning i; log = called.log i; outgoing = called.outgoing i }) in (
+      search rules,
+      search rules,
+      search rules,
+      search rules,
+      search rules,
+      subst IsReached is next,
+      record {
+        stack = called.whole (limit_of s.spec) m.stack refl;
+        empty = called.empty;
+        sends = (let a = m.sends in let b = called.free_sends in omega (arith, a, b));
+        ups = (let a = m.ups in let b = called.free_ups in omega (arith, a, b));
+        log = (let a = m.log in let b = called.log_memory in omega (arith, a, b));
+        outgoing = (let a = m.outgoing in let b = called.outgoing_memory in omega (arith, a, b));
+        places = m.places;
+        bytes = m.bytes;
+        acknowledged = m.acknowledged;
+      },
+    )

@@ -2,27 +2,27 @@ use Rattle.std.proofs.Common.{sym, ◌∙◌, ap, List}
 use Rattle.std.specs.Prelude.{slice_get, slice_index_or}
 use Rattle.gb_types.specs.declared.message.MsgId.{MsgId}
 use Rattle.gb_history.specs.Messages.{payload_in}
-use Rattle.gb_slot.specs.SlotState.{SlotValue}
+use Rattle.gb_slot.specs.SlotState.{SlotState}
 use Rattle.gb_slot.specs.Slot.{taken_for}
 use Rattle.gb_slot.proofs.SlotLemmas.{waiting-at, waiting-none}
 use Rattle.gb_slot.proofs.slot.Slot.peek.Goals as goal
 
 pub returns-in-Some : goal.returns-in-Some
 returns-in-Some c =
-    let s = c.args.self.now.state in
+    let s = c.args.self.now in
     let m = c.in-Some.m in
     let i = slice_index_or c.self.inside.taken c.index.result 0 in
-    let store = ap (λ (v : SlotValue). payload_in v.state.store m) c.self.view_is in
-    let outgoing = ap (λ (v : SlotValue). slice_get v.state.outgoing i) (sym c.self.view_is) in
-    let place = ap (λ (v : SlotValue). taken_for v.state c.args.dest.number) (sym c.self.view_is) ∙ ap (λ k. slice_index_or c.self.inside.taken k 0) (sym c.index.ensures.value) in
+    let store = ap (λ (v : SlotState). payload_in v.store m) c.self.view_is in
+    let outgoing = ap (λ (v : SlotState). slice_get v.outgoing i) (sym c.self.view_is) in
+    let place = ap (λ (v : SlotState). taken_for v c.args.dest.number) (sym c.self.view_is) ∙ ap (λ k. slice_index_or c.self.inside.taken k 0) (sym c.index.ensures.value) in
     let there = outgoing ∙ (ap (λ (xs : List MsgId). slice_get xs i) (sym c.deref.ensures.value) ∙ (sym c.item_at-next.ensures ∙ c.in-Some.is)) in
     (_, waiting-at s c.args.dest.number i m c.payload.result.now (sym c.is_reached.ensures ∙ c.if-not-is_reached.false) place there (c.payload.ensures ∙ store))
 
 pub returns-in-None : goal.returns-in-None
 returns-in-None c =
-    let s = c.args.self.now.state in
+    let s = c.args.self.now in
     let i = slice_index_or c.self.inside.taken c.index.result 0 in
-    let outgoing = ap (λ (v : SlotValue). slice_get v.state.outgoing i) (sym c.self.view_is) in
-    let place = ap (λ (v : SlotValue). taken_for v.state c.args.dest.number) (sym c.self.view_is) ∙ ap (λ k. slice_index_or c.self.inside.taken k 0) (sym c.index.ensures.value) in
+    let outgoing = ap (λ (v : SlotState). slice_get v.outgoing i) (sym c.self.view_is) in
+    let place = ap (λ (v : SlotState). taken_for v c.args.dest.number) (sym c.self.view_is) ∙ ap (λ k. slice_index_or c.self.inside.taken k 0) (sym c.index.ensures.value) in
     let there = outgoing ∙ (ap (λ (xs : List MsgId). slice_get xs i) (sym c.deref.ensures.value) ∙ (sym c.item_at-next.ensures ∙ c.in-None.is)) in
     waiting-none s c.args.dest.number i (sym c.is_reached.ensures ∙ c.if-not-is_reached.false) place there

@@ -1,17 +1,69 @@
-use Rattle.std.proofs.Common.{◌≤◌, ◌+◌, rules, refl, subst, sym}
-use Rattle.gb_slot.specs.Slot.{AreOwnSaid}
-use Rattle.gb_slot.proofs.OwnLemmas.{own_said}
-use Rattle.gb_slot.proofs.RoomLemmas.{room_for_one}
+use Rattle.std.proofs.Common.{◌≡◌, ◌+◌, ◌∷◌, ◌++◌, [], rules, refl, sym, ◌∙◌, ap, subst, arith}
+use Rattle.std.specs.FinSet as set
+use Rattle.gb_stack.specs.contracts.stack.StackLayer.TheImpl.{meaning-value}
+use Rattle.gb_slot.specs.Reached.{IsReached, limit_of}
+use Rattle.gb_slot.specs.Slot.{own_entry, slot_said}
+use Rattle.gb_types.specs.declared.reply.Reply.TheVariants.{Said}
+use Rattle.gb_slot.proofs.MemoryLemmas.{held, room_for_call, places_in_log, places_put_out, place_in_store, bytes_in_store, said_leads}
+use Rattle.gb_slot.proofs.ReachedLemmas.{own_unknown, own_counted}
 use Rattle.gb_slot.proofs.slot.Slot.say.Goals as goal
 
-pub say-requires : goal.say-requires
-say-requires c =
-    let s = c.self-2.inside in
-    let some : 1 ≤ s.calls = search rules in
-    room_for_one s.stack _ _ s.calls some (c.self-2.invariant.7 some)
+pub take_call-requires-clause-room : goal.take_call-requires-clause-room
+take_call-requires-clause-room c = room_for_call c.self.inside c.self.invariant.6
 
-pub invariant_of-self-2 : goal.invariant_of-self-2
-invariant_of-self-2 c =
-    let s = c.self-2.inside in
-    let own = own_said s.me.number s.said s.store.entries _ refl c.self-2.invariant.6 in
-    (search rules, search rules, search rules, search rules, search rules, search rules, subst (AreOwnSaid s.me.number (s.said + 1)) (sym c.push.ensures.entries) own, search rules)
+pub take_call-requires-clause-log : goal.take_call-requires-clause-log
+take_call-requires-clause-log c =
+    let s = c.self.inside in
+    let next = said_leads s c.args.self.now c.usage.result c.args.payload.now c.self.view_is c.usage.ensures c.in_default.ensures.said c.in_default.ensures.bytes c.self.invariant.5 in
+    places_in_log s (slot_said c.args.payload.now (Said (s.said + 1)) (held s)) _ c.self.invariant.6 next refl refl
+
+pub take_call-requires-clause-outgoing : goal.take_call-requires-clause-outgoing
+take_call-requires-clause-outgoing c =
+    let s = c.self.inside in
+    let next = said_leads s c.args.self.now c.usage.result c.args.payload.now c.self.view_is c.usage.ensures c.in_default.ensures.said c.in_default.ensures.bytes c.self.invariant.5 in
+    places_put_out s (slot_said c.args.payload.now (Said (s.said + 1)) (held s)) _ c.self.invariant.6 next refl refl
+
+pub push-requires-clause-new : goal.push-requires-clause-new
+push-requires-clause-new c = own_unknown (held c.self.inside) c.args.payload.now c.self.invariant.5
+
+pub push-requires-clause-place : goal.push-requires-clause-place
+push-requires-clause-place c =
+    let s = c.self.inside in
+    let next = said_leads s c.args.self.now c.usage.result c.args.payload.now c.self.view_is c.usage.ensures c.in_default.ensures.said c.in_default.ensures.bytes c.self.invariant.5 in
+    place_in_store s (slot_said c.args.payload.now (Said (s.said + 1)) (held s)) (own_entry (held s) c.args.payload.now) c.self.invariant.6 next refl refl
+
+pub push-requires-clause-bytes : goal.push-requires-clause-bytes
+push-requires-clause-bytes c =
+    let s = c.self.inside in
+    let next = said_leads s c.args.self.now c.usage.result c.args.payload.now c.self.view_is c.usage.ensures c.in_default.ensures.said c.in_default.ensures.bytes c.self.invariant.5 in
+    bytes_in_store s (slot_said c.args.payload.now (Said (s.said + 1)) (held s)) (own_entry (held s) c.args.payload.now) c.self.invariant.6 next refl refl
+
+pub invariant_of-self : goal.invariant_of-self
+invariant_of-self c =
+    let s = c.self.inside in
+    let m = c.self.invariant.6 in
+    let next = said_leads s c.args.self.now c.usage.result c.args.payload.now c.self.view_is c.usage.ensures c.in_default.ensures.said c.in_default.ensures.bytes c.self.invariant.5 in
+    let called = c.take_call.ensures in
+    let kept = c.push.ensures in
+    let added = c.add_said-self-inside.ensures in
+    let acknowledged = added.items ∙ ap (λ by. s.acknowledged.items ++ by ∷ []) (c.insert.ensures ∙ ap (λ by. set.insert by s.me.number) c.new-by.ensures) in
+    let is : slot_said c.args.payload.now (Said (s.said + 1)) (held s) ≡ record (held s) { stack = meaning-value.it c.take_call.new.stack; arrivals = c.push.new.self.arrivals; said = s.said + 1; store = c.push.new.self.entries; log = c.take_call.new.log.items; outgoing = c.take_call.new.outgoing.items; acknowledged = c.add_said-self-inside.new.acknowledged.items } =
+    sym (λ i. record (held s) { stack = called.meaning i; arrivals = kept.arrivals i; said = s.said + 1; store = kept.entries i; log = called.log i; outgoing = called.outgoing i; acknowledged = acknowledged i }) in (
+      search rules,
+      search rules,
+      search rules,
+      search rules,
+      search rules,
+      subst IsReached is next,
+      record {
+        stack = called.whole (limit_of s.spec) m.stack (own_counted (held s) c.args.payload.now c.self.invariant.5.member (search rules));
+        empty = called.empty;
+        sends = (let a = m.sends in let b = called.free_sends in omega (arith, a, b));
+        ups = (let a = m.ups in let b = called.free_ups in omega (arith, a, b));
+        log = (let a = m.log in let b = called.log_memory in omega (arith, a, b));
+        outgoing = (let a = m.outgoing in let b = called.outgoing_memory in omega (arith, a, b));
+        places = (let a = m.places in let b = kept.memory.0 in omega (arith, a, b));
+        bytes = (let a = m.bytes in let b = kept.memory.1 in omega (arith, a, b));
+        acknowledged = (let a = m.acknowledged in let b = added.memory in omega (arith, a, b));
+      },
+    )

@@ -1,9 +1,10 @@
-use Rattle.std.proofs.Common.{◌≡◌, ◌∙◌, ap, sym, subst, length, arith}
+use Rattle.std.proofs.Common.{◌≡◌, ◌+◌, ◌∙◌, ap, sym, subst, length, arith}
 use Rattle.std.proofs.lemmas.List.{length-map}
 use Rattle.gb_layer.specs.Table.{leads}
 use Rattle.gb_history.specs.Messages.{has}
 use Rattle.gb_slot.specs.Kept.{entries_of, messages_of, AreCounted}
-use Rattle.gb_slot.specs.StoreValue.{StoreValue}
+use Rattle.gb_slot.specs.StoreValue.{StoreValue, total_bytes}
+use Rattle.gb_slot.proofs.FewLemmas.{total_pushed}
 use Rattle.gb_slot.proofs.PlaceLemmas.{any_entries, any_messages}
 use Rattle.gb_slot.proofs.store.Store.push.Goals as goal
 
@@ -23,4 +24,5 @@ invariant_of-self c =
       c.append.ensures.inside,
       subst (AreCounted c.count_bytes.new.seen) (sym c.append.ensures.entries) (c.count_bytes.ensures (entries_of bytes kept) c.self.invariant.1),
       ap (leads table.width table.told.items 0) c.append.ensures.messages ∙ noted,
+      c.append.ensures.bytes.0 ∙ (ap (λ n. n + length c.args.payload.now) c.self.invariant.3 ∙ sym (ap total_bytes c.append.ensures.entries ∙ total_pushed (entries_of bytes kept) _)),
     )

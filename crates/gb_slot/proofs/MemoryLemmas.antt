@@ -1,0 +1,109 @@
+-- What a slot took when it was made is enough for each call.
+use Rattle.std.proofs.Common.{◌≡◌, ℕ, Bool, false, ◌&&◌, ◌*◌, ◌+◌, ◌≤◌, ◌<◌, List, [], ◌∷◌, ◌++◌, length, sym, ◌∙◌, ap, arith, length-append, vec_len, vec_capacity}
+use Rattle.std.specs.Prelude.{slice_index_or, if◌then◌else◌}
+use Rattle.std.specs.FinSet as set
+use Rattle.std.proofs.lemmas.List.{length-map}
+use Rattle.std.proofs.lemmas.List.Sums.{count_by-le-length}
+use Rattle.std.proofs.lemmas.Nat.{mul-le}
+use Rattle.gb_types.specs.Entry.{message_of}
+use Rattle.gb_types.specs.Places.{below, common}
+use Rattle.gb_types.specs.declared.entry.Entry.{Entry}
+use Rattle.gb_types.specs.declared.limits.TheConstants.{NODES, BYTES}
+use Rattle.gb_layer.specs.Rule.{Nodes}
+use Rattle.gb_types.specs.declared.message.MsgId.{MsgId}
+use Rattle.gb_types.specs.declared.node.NodeId.{NodeId}
+use Rattle.gb_types.specs.declared.reply.Reply.TheVariants.{Said}
+use Rattle.gb_layer.specs.Machine.{messages}
+use Rattle.gb_layer.specs.Room.{free_sends, free_ups}
+use Rattle.gb_layer.specs.declared.effects.Up.{Up}
+use Rattle.gb_stack.specs.StackRoom.{stack_room}
+use Rattle.gb_stack.specs.WholeLemmas.{stack_whole_room}
+use Rattle.gb_stack.specs.contracts.stack.StackLayer.TheImpl.{meaning-value}
+use Rattle.gb_history.specs.Messages.{has, with_new, bytes_of}
+use Rattle.gb_rules.specs.LetFall.{is_let_fall}
+use Rattle.gb_rules.specs.declared.usage.Usage.{Usage}
+use Rattle.gb_slot.specs.Arrivals.{nodes_of}
+use Rattle.gb_slot.specs.Reached.{IsReached, limit_of, most_messages, most_bytes}
+use Rattle.gb_slot.specs.Representation.{state_of, HasMemory}
+use Rattle.gb_slot.specs.Slot.{usage_of, waiting, taken_for, slot_said, falls}
+use Rattle.gb_slot.specs.SlotState.{SlotState}
+use Rattle.gb_slot.specs.StoreValue.{total_bytes}
+use Rattle.gb_slot.specs.declared.slot.Slot.TheInside.{Inside}
+use Rattle.gb_slot.proofs.FewLemmas.{few_bytes, few_known, total_pushed}
+use Rattle.gb_slot.proofs.ReachedLemmas.{few_outgoing, few_logged, reached_said}
+use Rattle.gb_slot.proofs.TakenLemmas.{waiting_few}
+
+-- the state of a slot
+abbrev pub held : Inside → SlotState
+held s = state_of (meaning-value.it s.stack) s
+
+-- the broadcast has room for a call
+pub room_for_call : (s : Inside) → HasMemory s → stack_room s.stack (free_sends s.effects) (free_ups s.effects) 1
+room_for_call s m = stack_whole_room s.stack (limit_of s.spec) (free_sends s.effects) (free_ups s.effects) m.stack m.sends m.ups
+
+-- what comes up has its places in the log
+pub places_in_log : (s : Inside) (next : SlotState) (ups : List Up) → HasMemory s → IsReached next → most_messages next.spec ≡ most_messages s.spec → next.log ≡ s.log.items ++ messages ups → vec_len s.log + length ups ≤ vec_capacity s.log
+places_in_log s next ups m r same is =
+    let few = few_logged next r in
+    let count : length next.log ≡ length s.log.items + length (messages ups) = ap length is ∙ length-append s.log.items (messages ups) in
+    let all : length (messages ups) ≡ length ups = length-map ups (λ u. u.m) in
+    let len = s.log.ok.0 in
+    let there = m.log in
+    omega (arith, few, count, all, len, there, same)
+
+-- and what is sent among those that are put out
+pub places_put_out : (s : Inside) (next : SlotState) (sends : List MsgId) → HasMemory s → IsReached next → most_messages next.spec ≡ most_messages s.spec → next.outgoing ≡ s.outgoing.items ++ sends → vec_len s.outgoing + length sends ≤ vec_capacity s.outgoing
+places_put_out s next sends m r same is =
+    let few = few_outgoing next r in
+    let count : length next.outgoing ≡ length s.outgoing.items + length sends = ap length is ∙ length-append s.outgoing.items sends in
+    let len = s.outgoing.ok.0 in
+    let there = m.outgoing in
+    omega (arith, few, count, len, there, same)
+
+-- a message that becomes known has its place in the store
+pub place_in_store : (s : Inside) (next : SlotState) (x : Entry) → HasMemory s → IsReached next → most_messages next.spec ≡ most_messages s.spec → next.store ≡ s.store.entries ++ x ∷ [] → length s.store.entries < s.store.places
+place_in_store s next x m r same is =
+    let few = few_known (limit_of next.spec) next.store r.counted r.once in
+    let grown : length next.store ≡ length s.store.entries + 1 = ap length is ∙ length-append s.store.entries (x ∷ []) in
+    let there = m.places in
+    omega (arith, few, grown, there, same)
+
+-- and so have its bytes
+pub bytes_in_store : (s : Inside) (next : SlotState) (x : Entry) → HasMemory s → IsReached next → most_bytes next.spec ≡ most_bytes s.spec → next.store ≡ s.store.entries ++ x ∷ [] → total_bytes s.store.entries + length x.payload ≤ s.store.bytes
+bytes_in_store s next x m r same is =
+    let few = few_bytes next.spec next.store r.counted r.bytes in
+    let grown : total_bytes next.store ≡ total_bytes s.store.entries + length x.payload = ap total_bytes is ∙ total_pushed s.store.entries x in
+    let there = m.bytes in
+    omega (arith, few, grown, there, same)
+
+-- what the rules let be said leads on
+pub said_leads : (s : Inside) (now : SlotState) (usage : Usage) (payload : List ℕ) → held s ≡ now → usage ≡ usage_of now → usage.said < s.spec.msgs → usage.bytes + length payload ≤ s.spec.bytes → IsReached (held s) → IsReached (slot_said payload (Said (s.said + 1)) (held s))
+said_leads s now usage payload view is more enough r =
+    let said : usage.said ≡ s.said = ap (λ (u : Usage). u.said) is ∙ ap (λ (v : SlotState). v.said) (sym view) in
+    let bytes : usage.bytes ≡ bytes_of s.me.number s.store.entries = ap (λ (u : Usage). u.bytes) is ∙ ap (λ (v : SlotState). bytes_of v.me.number v.store) (sym view) in
+    reached_said (held s) payload (omega (arith, said, more)) (omega (arith, bytes, enough)) r
+
+-- whether an item is let fall, from what is asked of the store
+pub item_stays : (s : Inside) (from : NodeId) (x : Entry) (result before known : Bool) (seen : ℕ) → result ≡ is_let_fall s.spec s.me.number from.number x before known seen → result ≡ false
+    → before ≡ set.contains (nodes_of s.store.arrivals (message_of x)) from.number → known ≡ has s.store.entries (message_of x) → seen ≡ bytes_of x.origin.number s.store.entries → falls from x (held s) ≡ false
+item_stays s from x result before known seen test stays is_before is_known is_seen = sym (test ∙ (λ i. is_let_fall s.spec s.me.number from.number x (is_before i) (is_known i) (is_seen i))) ∙ stays
+
+-- the messages that are known after an item whose message was not
+pub new_known : (es : List Entry) (x : Entry) → has es (message_of x) ≡ false → with_new es x ≡ es ++ x ∷ []
+new_known es x new = ap (λ (b : Bool). if b then es else es ++ x ∷ []) new
+
+-- there are no more members than nodes
+few_members : (some other : Nodes) → common some other ≤ NODES
+few_members some other = let few = count_by-le-length (λ p. set.contains some p && set.contains other p) (below NODES) in omega (arith, few)
+
+-- a number of bytes for each of them
+pub bytes_fit : (members : Nodes) (count bytes : ℕ) → count ≡ common members members → bytes ≤ BYTES → count * bytes ≤ NODES * BYTES
+bytes_fit members count bytes is few = let most = few_members members members in mul-le count bytes NODES BYTES (omega (arith, is, most)) few
+
+-- so many that wait were put out, and not taken
+pub few_wait : (s : Inside) (now : SlotState) (b at : ℕ) → held s ≡ now → at ≡ b → IsReached (held s) → slice_index_or s.taken at 0 + length (waiting now b) ≤ length s.outgoing.items
+few_wait s now b at view is r =
+    let few = waiting_few (held s) b (r.stands.taken b) in
+    let same : length (waiting now b) ≡ length (waiting (held s) b) = ap (λ (v : SlotState). length (waiting v b)) (sym view) in
+    let place : slice_index_or s.taken at 0 ≡ taken_for (held s) b = ap (λ k. slice_index_or s.taken k 0) is in
+    omega (arith, few, same, place)

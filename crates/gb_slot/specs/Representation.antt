@@ -1,0 +1,38 @@
+-- How a slot keeps its state, in memory that was taken when it was made.
+use Rattle.std.specs.Prelude.{◌≤◌, vec_capacity}
+use Rattle.gb_layer.specs.Room.{free_sends, free_ups}
+use Rattle.gb_stack.specs.StackRoom.{stack_need, stack_whole}
+use Rattle.gb_stack.specs.StackState.{StackState}
+use Rattle.gb_slot.specs.Effects.{IsEmpty}
+use Rattle.gb_slot.specs.Reached.{limit_of, most_messages, most_bytes}
+use Rattle.gb_slot.specs.SlotState.{SlotState}
+use Rattle.gb_slot.specs.declared.slot.Slot.TheInside.{Inside}
+
+-- the state, where the broadcast remembers this
+abbrev pub state_of : StackState → Inside → SlotState
+state_of stack s = record {
+  spec = s.spec;
+  me = s.me;
+  phase = s.phase;
+  noticed = s.noticed;
+  stack = stack;
+  arrivals = s.store.arrivals;
+  said = s.said;
+  store = s.store.entries;
+  log = s.log.items;
+  outgoing = s.outgoing.items;
+  taken = s.taken;
+  acknowledged = s.acknowledged.items;
+}
+
+-- all calls that are to come find their memory
+pub record HasMemory (s : Inside) : Type 0 where
+  pub stack : stack_whole s.stack (limit_of s.spec)
+  pub empty : IsEmpty s.effects
+  pub sends : (stack_need (limit_of s.spec)).sends ≤ free_sends s.effects
+  pub ups : (stack_need (limit_of s.spec)).ups ≤ free_ups s.effects
+  pub log : most_messages s.spec ≤ vec_capacity s.log
+  pub outgoing : most_messages s.spec ≤ vec_capacity s.outgoing
+  pub places : most_messages s.spec ≤ s.store.places
+  pub bytes : most_bytes s.spec ≤ s.store.bytes
+  pub acknowledged : s.spec.msgs ≤ vec_capacity s.acknowledged
