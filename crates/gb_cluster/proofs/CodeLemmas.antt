@@ -54,36 +54,36 @@ started_holds : (n silence : ℕ) (w : World) → 0 < n → n ≤ NODES → SILE
 started_holds n silence w some few least is = subst Invariant (sym is) (start_holds n silence some few least)
 
 -- a node that has stopped takes no memory
-stopped_takes_none : (v : NodeValue) (e : Event) (found : List Packet) → TakesMemory v e (stopped_answer e found) → ⊥
-stopped_takes_none v (At a (AddTenant token row)) found takes = takes
-stopped_takes_none v (At a (Make token addr spec)) found takes = cc
-stopped_takes_none v (At a (OpenGroup token addr)) found takes = takes
-stopped_takes_none v (At a (ShutGroup token addr)) found takes = takes
-stopped_takes_none v (At a (DropGroup token addr)) found takes = takes
-stopped_takes_none v (At a (Say token addr payload)) found takes = cc
-stopped_takes_none v (At a (Fetch token addr from most)) found takes = cc
-stopped_takes_none v (Pack a b) found takes = takes
-stopped_takes_none v (Again a b n) found takes = takes
-stopped_takes_none v (Ack a b) found takes = takes
-stopped_takes_none v (Arrive k) [] takes = takes
-stopped_takes_none v (Arrive k) (p ∷ found) takes = takes
-stopped_takes_none v (Tick a) found takes = takes
-stopped_takes_none v (Stop a) found takes = takes
+stopped_takes_none : (e : Event) (found : List Packet) → TakesMemory e (stopped_answer e found) → ⊥
+stopped_takes_none (At a (AddTenant token row)) found takes = takes
+stopped_takes_none (At a (Make token addr spec)) found takes = cc
+stopped_takes_none (At a (OpenGroup token addr)) found takes = takes
+stopped_takes_none (At a (ShutGroup token addr)) found takes = takes
+stopped_takes_none (At a (DropGroup token addr)) found takes = takes
+stopped_takes_none (At a (Say token addr payload)) found takes = takes
+stopped_takes_none (At a (Fetch token addr from most)) found takes = cc
+stopped_takes_none (Pack a b) found takes = takes
+stopped_takes_none (Again a b n) found takes = takes
+stopped_takes_none (Ack a b) found takes = takes
+stopped_takes_none (Arrive k) [] takes = takes
+stopped_takes_none (Arrive k) (p ∷ found) takes = takes
+stopped_takes_none (Tick a) found takes = takes
+stopped_takes_none (Stop a) found takes = takes
 
-may_starve : (w : World) (e : Event) → TakesMemory (node_of w (acting w.packets e)) e (answer_of w e) → MayStarve w.packets e
-may_starve w (At a request) takes = tt
-may_starve w (Pack a b) takes = tt
-may_starve w (Again a b n) takes = tt
-may_starve w (Ack a b) takes = takes
-may_starve w (Arrive k) takes = λ none. subst (λ (ps : List Packet). TakesMemory (node_of w (goal_of ps)) (Arrive k) (found_part ps (node_of w (goal_of ps))).answer) none takes
-may_starve w (Tick a) takes = tt
-may_starve w (Stop a) takes = takes
+may_starve : (e : Event) (a : Answer) → TakesMemory e a → MayStarve e
+may_starve (At a request) answer takes = tt
+may_starve (Pack a b) answer takes = tt
+may_starve (Again a b n) answer takes = tt
+may_starve (Ack a b) answer takes = takes
+may_starve (Arrive k) answer takes = takes
+may_starve (Tick a) answer takes = takes
+may_starve (Stop a) answer takes = takes
 
 -- every step does what links owe
 pub links_kept : (c d : State) (steps : List Step) (e : Event) (a : Answer) → IsPlaced (length c.nodes) e → Invariant (told steps c) → IsStep c e a d → IsLinkStep steps c e a d
 links_kept c d steps e a placed holds (inl starved) = record {
-  stopped = λ is. absurd (stopped_takes_none (node_of (told steps c) (acting c.packets e)) e (found_by c.packets e) (subst (TakesMemory (node_of (told steps c) (acting c.packets e)) e) ((link_step (told steps c) e placed holds).stopped is).answer_is starved.0.1));
-  running = λ _. inl (may_starve (told steps c) e starved.0.1, record { answer_is = starved.0.0; same = starved.1 });
+  stopped = λ is. absurd (stopped_takes_none e (found_by c.packets e) (subst (TakesMemory e) ((link_step (told steps c) e placed holds).stopped is).answer_is starved.0.1));
+  running = λ _. inl (may_starve e (answer_of (told steps c) e) starved.0.1, record { answer_is = starved.0.0; same = starved.1 });
 }
 links_kept c d steps e a placed holds (inr goes) =
     subst (λ (x : Answer). IsLinkStep steps c e x d) (sym goes.0) (subst (λ (y : State). IsLinkStep steps c e (answer_of (told steps c) e) y) (sym goes.1) (link_step (told steps c) e placed holds))

@@ -28,8 +28,8 @@ use Rattle.gb_types.specs.declared.reply.Reply.{Reply}
 use Rattle.gb_types.specs.declared.reply.Reply.TheVariants.{Refused}
 use Rattle.gb_types.specs.declared.request.Request.{Request}
 use Rattle.gb_types.specs.declared.spec.TenantRow.{TenantRow}
-use Rattle.gb_cluster.specs.Memory.{IsReplyTo, has_other_of}
-use Rattle.gb_cluster.specs.GroupRoom.{first_waiting}
+use Rattle.gb_cluster.specs.Memory.{IsReplyTo}
+use Rattle.gb_cluster.specs.NodeGroup.{first_waiting}
 use Rattle.gb_cluster.specs.NodeValue.{GroupAt, NodeValue}
 use Rattle.gb_record.specs.Nodes.{node_numbered}
 use Rattle.gb_cluster.specs.NodeStep.{first_of, is_reached, packed, packed_of, packet_for, node_packed, sender_to, receiver_from, item_done, newly_done, without_done, admission_of, group_came, node_took, slot_noticed_all, running_reply, node_reply}
@@ -40,33 +40,6 @@ use Rattle.gb_record.specs.declared.packet.Packet.{Packet}
 pub on_err : {T E : Type 0} (r : Result T E) (P : Type 0) → P → OnErr r P
 on_err (Ok x) P p = tt
 on_err (Err e) P p = p
-
-range_push : (a n : ℕ) → range_with_len a (suc n) ≡ range_with_len a n ++ (a + n) ∷ []
-range_push a zero = let e : a ≡ a + 0 = omega arith in ap (λ k. k ∷ []) e
-range_push a (suc n) =
-    let e : a + 1 + n ≡ a + suc n = omega arith in
-    ap (λ (xs : List ℕ). a ∷ xs) (range_push (a + 1) n ∙ ap (λ k. range_with_len (a + 1) n ++ k ∷ []) e)
-
-passing_few : (p : ℕ → Bool) (n : ℕ) → length (filter p (range_with_len 0 n)) ≤ count_by (λ q. p q && p q) (below n)
-passing_few p zero = omega arith
-passing_few p (suc n) =
-    let ih = passing_few p n in
-    let push = range_push 0 n in
-    let grown : length (filter p (range_with_len 0 (suc n))) ≡ length (filter p (range_with_len 0 n)) + length (filter p ((0 + n) ∷ [])) =
-    ap (λ xs. length (filter p xs)) push ∙ (ap length (filter-append p (range_with_len 0 n) ((0 + n) ∷ [])) ∙ length-append (filter p (range_with_len 0 n)) (filter p ((0 + n) ∷ []))) in
-    let counted = count_by-cons (λ q. p q && p q) n (below n) in
-    let e : 0 + n ≡ n = omega arith in
-    let last : length (filter p ((0 + n) ∷ [])) ≡ cond (p n && p n) 1 0 = ap (λ k. length (filter p (k ∷ []))) e ∙ one (p n) n in
-    omega (arith, ih, grown, counted, last)
-  where
-    one : (b : Bool) (k : ℕ) → length (cond b (k ∷ []) []) ≡ cond (b && b) 1 0
-    one true k = refl
-    one false k = refl
-
--- a set of nodes has as many as it has in common with itself
-pub rising_few : (s : set.FinSet nat_cmp) → length (rising s) ≤ common s s
-unfolding rising
-rising_few s = passing_few (set.contains s) NODES
 
 packed_in : (me b : NodeId) (v : NodeValue) (item : Item) (g : Option GroupAt) → first_waiting b.number g ≡ Some item → packed_of me b v g ≡ packet_for me b v (sender_to v b.number).next (Some item) ∷ []
 packed_in me b v item None found = cc
@@ -136,28 +109,3 @@ took_parts p v i j S sender R receiver ready acked group watch place place_too S
 -- a running node's reply is the node's
 pub replied : (nodes me : ℕ) (v : NodeValue) (request : Request) (r : Reply) → v.stopped ≡ false → IsReplyTo request (running_reply nodes me v request) r → IsReplyTo request (node_reply nodes me v request) r
 replied nodes me v request r running is = subst (λ (should : Reply). IsReplyTo request should r) (sym (ap (λ (b : Bool). if b then Refused Stopped else running_reply nodes me v request) running)) is
-
--- there is no node in no set
-none_of : (ns : List ℕ) → filter (set.contains {R = nat_cmp} set.empty) ns ≡ []
-none_of [] = refl
-none_of (n ∷ ns) = rw (set.contains-empty nat_cmp n) (none_of ns)
-
-pub rising_none : rising set.empty ≡ []
-unfolding rising
-rising_none = none_of (range_with_len 0 NODES)
-
--- nodes of which none is another member change nothing of a slot
-pub slot_stays : (s : SlotState) (bs : List ℕ) → has_other_of s bs ≡ false → slot_noticed_all s bs ≡ s
-slot_stays s [] none = refl
-slot_stays s (b ∷ bs) none =
-    let parts = or_false (is_other s.spec s.me.number (node_numbered b).number) (has_other_of s bs) none in
-    ap (λ (t : Bool). slot_noticed_all (if t then noticed b else s) bs) parts.0 ∙ slot_stays s bs parts.1
-  where
-    noticed : ℕ → SlotState
-    noticed b =
-        let next = slot_called (Notice (node_numbered b)) s.store s in
-        record next { noticed = set.insert s.noticed (node_numbered b).number }
-
-    or_false : (x y : Bool) → (x || y) ≡ false → (x ≡ false) × (y ≡ false)
-    or_false true y h = absurd (cc)
-    or_false false y h = (refl, h)

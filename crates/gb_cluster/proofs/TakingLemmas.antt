@@ -5,7 +5,7 @@ use Rattle.gb_link.specs.Ack.{covers}
 use Rattle.gb_link.specs.SendWindow.{SendWindow, IsWindow, lowest_covered, acknowledged, without_first}
 use Rattle.gb_slot.specs.Slot.{slot_done}
 use Rattle.gb_types.specs.Entry.{message_of}
-use Rattle.gb_cluster.specs.GroupRoom.{group_of, KeepsRoom}
+use Rattle.gb_cluster.specs.NodeGroup.{group_of}
 use Rattle.gb_cluster.specs.NodeValue.{GroupAt}
 use Rattle.gb_cluster.specs.NodeStep.{on_slot, item_done, without_done}
 use Rattle.gb_cluster.specs.declared.node.AddressedSlot.{AddressedSlot}
@@ -19,16 +19,15 @@ pub record IsTaking (p : Packet) (whole : SendWindow Item) (before : Option Addr
   pub undone : filter (λ u. not (covers p.base p.mask u.0)) left.undone ≡ filter (λ u. not (covers p.base p.mask u.0)) whole.undone
   pub count : done + length (filter (λ u. covers p.base p.mask u.0) left.undone) ≡ length (filter (λ u. covers p.base p.mask u.0) whole.undone)
   pub group : fold (item_done p.from) (group_of after) (filter (λ u. covers p.base p.mask u.0) left.undone) ≡ fold (item_done p.from) (group_of before) (filter (λ u. covers p.base p.mask u.0) whole.undone)
-  pub room : KeepsRoom before after
 
 pub taking_begins : (p : Packet) (whole : SendWindow Item) (before : Option AddressedSlot) → IsTaking p whole before whole before 0
-taking_begins p whole before = record { next = refl; undone = refl; count = omega arith; group = refl; room = λ item h. h }
+taking_begins p whole before = record { next = refl; undone = refl; count = omega arith; group = refl }
 
 module _ (p : Packet) (whole left next : SendWindow Item) (before after : Option AddressedSlot) (done : ℕ) where
   -- one more frame is done
   pub taking_goes : (later : Option AddressedSlot) (u : ℕ × Item) → IsTaking p whole before left after done → Some u ≡ lowest_covered left p.base p.mask → next ≡ acknowledged left p.base p.mask
-      → group_of later ≡ on_slot u.1.addr (slot_done p.from (message_of u.1.entry)) (group_of after) → KeepsRoom after later → IsTaking p whole before next later (done + 1)
-  taking_goes later u so found window group room =
+      → group_of later ≡ on_slot u.1.addr (slot_done p.from (message_of u.1.entry)) (group_of after) → IsTaking p whole before next later (done + 1)
+  taking_goes later u so found window group =
       let test : ℕ × Item → Bool = λ x. covers p.base p.mask x.0 in
       let frames = filter-find test left.undone u (sym found) in
       let rest : next.undone ≡ without_first test left.undone = ap (λ (w : SendWindow Item). w.undone) window in
@@ -40,7 +39,6 @@ module _ (p : Packet) (whole left next : SendWindow Item) (before after : Option
         group = ap (λ (us : List (ℕ × Item)). fold (item_done p.from) (group_of later) us) left_frames
             ∙ (ap (λ (g : Option GroupAt). fold (item_done p.from) g (filter test (without_first test left.undone))) group
             ∙ (ap (λ (us : List (ℕ × Item)). fold (item_done p.from) (group_of after) us) (sym frames) ∙ so.group));
-        room = λ item h. room item (so.room item h);
       }
 
   -- no frame is left that the acknowledgement covers

@@ -10,7 +10,7 @@ use Rattle.gb_record.specs.declared.packet.Packet.{Packet}
 -- the node lacked memory and nothing has changed, or the part went as it should
 abbrev pub Goes : Event → Part → List Packet → NodeValue → Answer → List Packet → NodeValue → Type 0
 Goes event part packets old answer more new =
-    (IsStarved old event part.answer answer × (more ≡ packets) × (new ≡ old)) ⊎ ((answer ≡ part.answer) × (more ≡ packets ++ part.sent) × (new ≡ part.value))
+    (IsStarved event part.answer answer × (more ≡ packets) × (new ≡ old)) ⊎ ((answer ≡ part.answer) × (more ≡ packets ++ part.sent) × (new ≡ part.value))
 
 -- so the acting one of so many nodes, where these packets were sent before, and these are sent after it
 abbrev pub Acts : ℕ → Event → List Packet → NodeValue → Answer → List Packet → NodeValue → Type 0

@@ -1,6 +1,6 @@
 pub mod NodeValue
 pub mod NodeStep
-pub mod GroupRoom
+pub mod NodeGroup
 pub mod Memory
 pub mod Acting
 pub mod State

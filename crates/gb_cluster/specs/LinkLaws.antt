@@ -147,15 +147,12 @@ RunsSo t h (Arrive k) answer later = (later ≡ t.packets) × TakesFound t answe
 RunsSo t h (Tick a) answer later = (later ≡ t.packets) × (found : set.FinSet nat_cmp) × (answer ≡ AnswerTicked (Noticed found)) × AreNew (start a.number t.nodes t.silence) (watched a.number t.packets t.steps) found
 RunsSo t h (Stop a) answer later = (later ≡ t.packets) × (answer ≡ AnswerHalted HaltDone)
 
--- Where a running node may lack memory: not for an acknowledgement alone, a stop, or a packet that is not there.
-abbrev pub MayStarve : List Packet → Event → Type 0
-MayStarve packets (At a request) = Unit {0}
-MayStarve packets (Pack a b) = Unit {0}
-MayStarve packets (Again a b n) = Unit {0}
-MayStarve packets (Ack a b) = ⊥
-MayStarve packets (Arrive k) = packet_at packets k ≢ []
-MayStarve packets (Tick a) = Unit {0}
-MayStarve packets (Stop a) = ⊥
+-- Where a running node may lack memory: only for a request, and where a frame is sent.
+abbrev pub MayStarve : Event → Type 0
+MayStarve (At a request) = Unit {0}
+MayStarve (Pack a b) = Unit {0}
+MayStarve (Again a b n) = Unit {0}
+MayStarve event = ⊥
 
 -- only this was answered, and nothing else has changed
 pub record OnlyAnswered (old : State) (should answer : Answer) (new : State) : Type 0 where
@@ -166,4 +163,4 @@ pub record OnlyAnswered (old : State) (should answer : Answer) (new : State) : T
 -- or answers so.
 pub record IsLinkStep (steps : List Step) (old : State) (event : Event) (answer : Answer) (new : State) : Type 0 where
   pub stopped : is_stopped (acting old.packets event) steps ≡ true → OnlyAnswered old (stopped_answer event (found_by old.packets event)) answer new
-  pub running : is_stopped (acting old.packets event) steps ≡ false → (MayStarve old.packets event × OnlyAnswered old (starved_answer event) answer new) ⊎ RunsSo (transcript steps old) (held old.nodes) event answer new.packets
+  pub running : is_stopped (acting old.packets event) steps ≡ false → (MayStarve event × OnlyAnswered old (starved_answer event) answer new) ⊎ RunsSo (transcript steps old) (held old.nodes) event answer new.packets

@@ -33,38 +33,28 @@ starved_answer (Arrive k) = AnswerTaken (TakenRefused OutOfMemory)
 starved_answer (Tick a) = AnswerTicked (TickRefused OutOfMemory)
 starved_answer (Stop a) = AnswerHalted (HaltRefused OutOfMemory)
 
--- a request takes memory where it makes a group, says a message or reads a log
+-- a request takes memory where it makes a group or reads a log
 abbrev pub RequestTakesMemory : Request → Reply → Type 0
 RequestTakesMemory (AddTenant token row) reply = ⊥
 RequestTakesMemory (Make token addr spec) reply = takes_memory reply ≡ true
 RequestTakesMemory (OpenGroup token addr) reply = ⊥
 RequestTakesMemory (ShutGroup token addr) reply = ⊥
 RequestTakesMemory (DropGroup token addr) reply = ⊥
-RequestTakesMemory (Say token addr payload) reply = takes_memory reply ≡ true
+RequestTakesMemory (Say token addr payload) reply = ⊥
 RequestTakesMemory (Fetch token addr from most) reply = takes_memory reply ≡ true
 
 -- the reply is this one, or want of memory, where this one takes memory
 abbrev pub IsReplyTo : Request → Reply → Reply → Type 0
 IsReplyTo request should reply = ((reply ≡ Refused OutOfMemory) × RequestTakesMemory request should) ⊎ (reply ≡ should)
 
--- the group here has another member among these nodes
-abbrev pub has_other_of : SlotState → List ℕ → Bool
-has_other_of s found = list_any (λ b. is_other s.spec s.me.number (node_numbered b).number) found
-
-abbrev pub is_concerned : Option GroupAt → set.FinSet nat_cmp → Bool
-is_concerned None found = false
-is_concerned (Some here) found = has_other_of here.slot (rising found)
-
--- An event at a node takes memory where it is answered so: a frame goes out, items go up that had not come before, members of the group here are noticed. What is
--- refused or gives nothing takes none, nor does an acknowledgement alone, a packet without new items, or a stop.
-abbrev pub TakesMemory : NodeValue → Event → Answer → Type 0
-TakesMemory v (At a request) (AnswerReply reply) = RequestTakesMemory request reply
-TakesMemory v (Pack a b) (AnswerSent (SentPacket k)) = Unit {0}
-TakesMemory v (Again a b n) (AnswerSent (SentPacket k)) = Unit {0}
-TakesMemory v (Arrive k) (AnswerTaken (TakenGood good)) = good.items ≢ 0
-TakesMemory v (Tick a) (AnswerTicked (Noticed found)) = is_concerned v.group found ≡ true
-TakesMemory v event answer = ⊥
+-- An event at a node takes memory where it is answered so: a frame goes out, a group is made, entries are read. What is refused or gives nothing takes none, nor does a say, an
+-- acknowledgement alone, a packet that comes, a tick or a stop.
+abbrev pub TakesMemory : Event → Answer → Type 0
+TakesMemory (At a request) (AnswerReply reply) = RequestTakesMemory request reply
+TakesMemory (Pack a b) (AnswerSent (SentPacket k)) = Unit {0}
+TakesMemory (Again a b n) (AnswerSent (SentPacket k)) = Unit {0}
+TakesMemory event answer = ⊥
 
 -- the answer of the node is want of memory, where what it should be takes memory
-abbrev pub IsStarved : NodeValue → Event → Answer → Answer → Type 0
-IsStarved v event should answer = (answer ≡ starved_answer event) × TakesMemory v event should
+abbrev pub IsStarved : Event → Answer → Answer → Type 0
+IsStarved event should answer = (answer ≡ starved_answer event) × TakesMemory event should

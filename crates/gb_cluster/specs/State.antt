@@ -65,7 +65,7 @@ state_after c event = state (slice_set c.nodes (acting c.packets event) (part_in
 
 -- a step of the cluster: it goes on, or the acting node lacked memory and nothing has changed
 abbrev pub IsStep : State → Event → Answer → State → Type 0
-IsStep old event answer new = (IsStarved (node_at old.nodes (acting old.packets event)) event (part_in old event).answer answer × (new ≡ old)) ⊎ ((answer ≡ (part_in old event).answer) × (new ≡ state_after old event))
+IsStep old event answer new = (IsStarved event (part_in old event).answer answer × (new ≡ old)) ⊎ ((answer ≡ (part_in old event).answer) × (new ≡ state_after old event))
 
 -- a cluster of so many nodes in which nothing has happened
 abbrev pub new_state : ℕ → ℕ → State

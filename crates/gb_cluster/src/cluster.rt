@@ -149,10 +149,7 @@ fn hand_in(node: &mut OneNode, packet: &Packet) -> Taken
     if node.is_stopped() {
         return Taken::Refused(Refusal::Stopped);
     }
-    match node.came(packet) {
-        Ok(good) => Taken::Good(good),
-        Err(_) => Taken::Refused(Refusal::OutOfMemory),
-    }
+    Taken::Good(node.came(packet))
 }
 
 /// The packet with the number, handed in at the node that it was sent to.
@@ -177,10 +174,7 @@ fn tick(node: &mut OneNode) -> Ticked
     if node.is_stopped() {
         return Ticked::Refused(Refusal::Stopped);
     }
-    match node.tick() {
-        Ok(found) => Ticked::Noticed(found),
-        Err(_) => Ticked::Refused(Refusal::OutOfMemory),
-    }
+    Ticked::Noticed(node.tick())
 }
 
 /// Whether a node stops: it does unless it had stopped before.

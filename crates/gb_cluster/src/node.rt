@@ -14,13 +14,12 @@ ghost use Rattle.gb_rules.specs.Replied.{IsReply};
 ghost use Rattle.gb_rules.specs.Group.{open_answer, shut_answer, drop_answer, say_answer, fetch_answer, is_member, on_made};
 ghost use Rattle.gb_rules.specs.declared.phase.Phase.TheVariants as phase;
 ghost use Rattle.gb_slot.specs.Slot.{IsWithinLimits, new_slot, waiting, slot_moved, slot_said, slot_came, slot_done, slot_took};
-ghost use Rattle.gb_cluster.specs.GroupRoom.{is_new_frame, slot_in, group_at, group_of, HasRoom, KeepsRoom, first_waiting};
-ghost use Rattle.gb_cluster.specs.Memory.{IsReplyTo, has_other_of, is_concerned};
+ghost use Rattle.gb_cluster.specs.NodeGroup.{slot_in, group_at, group_of, first_waiting};
+ghost use Rattle.gb_cluster.specs.Memory.{IsReplyTo};
 ghost use Rattle.gb_rules.specs.Tenant.{is_over_limits, is_bad, is_over, make_answer, by_tenant};
 ghost use Rattle.gb_cluster.specs.NodeStep.{first_of, new_node, reserve_for, slot_for, shown_for, row_answer, in_room, running_reply, node_reply, on_slot, gone_slot, dropped_slot, group_took, node_did, packet_for, is_reached, is_another, node_packed, node_sent, node_again, node_ack, without_done, item_done, item_came, group_came, kind_of, count_of, node_took, good_of, slot_noticed_all, group_noticed, node_ticked};
 
 use gb_detect::detector::Detector;
-use gb_link::ack::covers;
 use gb_link::receiver::{Admission, Receiver};
 use gb_link::sender::Sender;
 use gb_record::answer::{Frame, Good};
@@ -31,7 +30,7 @@ use gb_rules::tenant::{answer_make, is_over_limits};
 use gb_slot::slot::Slot;
 use gb_types::address::{Addr, TenantId};
 use gb_types::entry::{Entries, Entry};
-use gb_types::limits::{LAST_FRAME, LINK_WINDOW, NODES, SILENCE_MAX, SILENCE_MIN};
+use gb_types::limits::{NODES, SILENCE_MAX, SILENCE_MIN};
 use gb_types::memory::OutOfMemory;
 use gb_types::node::{NodeId, NodeSet};
 use gb_types::payload::Payload;
@@ -102,7 +101,7 @@ impl AddressedSlot {
 
     /// Says something in the group, where it is the one with this address.
     fn say(&mut self, addr: Addr, payload: &Payload) -> Reply
-        ensures reply { IsReply (on_made (λ s. say_answer s payload.now) (shown_for (slot_for addr (Some (group_at self.old))))) result }
+        ensures reply { result ≡ on_made (λ s. say_answer s payload.now) (shown_for (slot_for addr (Some (group_at self.old)))) }
         ensures state { Some (group_at self.new) ≡ on_slot addr (slot_said payload.now result) (Some (group_at self.old)) }
     {
         if !is_same(addr, self.addr) {
@@ -171,7 +170,7 @@ impl Model for OneNode {
     ghost use Rattle.std.specs.Coded.{codes, coded_ℕ};
     ghost use Rattle.std.specs.Ordering.{nat_cmp};
     ghost use Rattle.std.specs.FinSet as set;
-    ghost use Rattle.gb_cluster.specs.GroupRoom.{group_of};
+    ghost use Rattle.gb_cluster.specs.NodeGroup.{group_of};
     ghost use Rattle.gb_cluster.specs.NodeValue.{NodeValue};
 
     ghost Value = { NodeValue };
@@ -270,56 +269,9 @@ fn take_first(group: &mut Option<AddressedSlot>, to: NodeId)
     }
 }
 
-/// Whether a frame with the number would come for the first time; 0 stands for no frame.
-fn is_new_frame(receiver: &Receiver, number: u64) -> bool
-    ensures { result ≡ is_new_frame receiver.now number }
-{
-    if number == 0 {
-        return false;
-    }
-    let (base, mask) = receiver.ack();
-    if covers(base, mask, number) {
-        return false;
-    }
-    if number > LAST_FRAME || number < base {
-        return false;
-    }
-    if number - base >= LINK_WINDOW {
-        return false;
-    }
-    true
-}
-
-/// Makes room for the item, where it is new and one of the group.
-fn make_room(
-    group: &mut Option<AddressedSlot>,
-    item: &Option<Item>,
-    is_new: bool,
-) -> Result<(), OutOfMemory>
-    ensures group { group_of group.new ≡ group_of group.old }
-    ensures room { OnOk result (is_new ≡ true → HasRoom item.now group.new) }
-    ensures lack { OnErr result ((is_new ≡ true) × (is_some item.now ≡ true)) }
-{
-    if !is_new {
-        return Ok(());
-    }
-    let Some(item) = item else {
-        return Ok(());
-    };
-    if let Some(hosted) = group {
-        if is_same(item.addr, hosted.addr) {
-            if let Some(slot) = &mut hosted.slot {
-                slot.ready(1, item.entry.payload.len())?;
-            }
-        }
-    }
-    Ok(())
-}
-
 /// Keeps that a node acknowledged the item, where it is one of the group.
 fn finish(group: &mut Option<AddressedSlot>, by: NodeId, item: &Item)
-    ensures group { group_of group.new ≡ on_slot item.now.addr (slot_done by (message_of item.now.entry)) (group_of group.old) }
-    ensures room { KeepsRoom group.old group.new }
+    ensures { group_of group.new ≡ on_slot item.now.addr (slot_done by (message_of item.now.entry)) (group_of group.old) }
 {
     if let Some(hosted) = group {
         if is_same(item.addr, hosted.addr) {
@@ -332,7 +284,6 @@ fn finish(group: &mut Option<AddressedSlot>, by: NodeId, item: &Item)
 
 /// Takes an item in that came from a node, where it is one of the group.
 fn bring(group: &mut Option<AddressedSlot>, from: NodeId, item: &Item)
-    requires { HasRoom (Some item.now) group.old }
     ensures { group_of group.new ≡ on_slot item.now.addr (slot_came from item.now.entry) (group_of group.old) }
 {
     if let Some(hosted) = group {
@@ -351,7 +302,6 @@ fn take_ack(group: &mut Option<AddressedSlot>, sender: &mut Sender<Item>, packet
     ensures count { result ≡ length (filter (λ u. covers packet.now.base packet.now.mask u.0) sender.old.undone) }
     ensures sender { sender.new ≡ without_done packet.now sender.old }
     ensures group { group_of group.new ≡ fold (item_done packet.now.from) (group_of group.old) (filter (λ u. covers packet.now.base packet.now.mask u.0) sender.old.undone) }
-    ensures room { KeepsRoom group.old group.new }
 {
     // The proof reads how many frames may be undone.
     let _ = sender.room();
@@ -370,7 +320,6 @@ fn take_frame(
     receiver: &mut Receiver,
     packet: &Packet,
 ) -> (Frame, u32)
-    requires { is_new_frame receiver.old packet.now.frame ≡ true → HasRoom packet.now.item group.old }
     ensures frame { result.0 ≡ (if nat_eq packet.now.frame 0 then Frame.Nothing else kind_of (admission receiver.old packet.now.frame)) }
     ensures items { result.1 ≡ (if nat_eq packet.now.frame 0 then 0 else count_of (admission receiver.old packet.now.frame) packet.now.item) }
     ensures receiver { receiver.new ≡ (if nat_eq packet.now.frame 0 then receiver.old else taken receiver.old packet.now.frame (admission receiver.old packet.now.frame)) }
@@ -393,72 +342,35 @@ fn take_frame(
     }
 }
 
-/// Notices these nodes in a slot that has room for it, rising.
+/// Notices these nodes in a slot, rising.
 fn notice_each(slot: &mut Slot, found: &NodeSet)
-    requires { length (rising found.now) ≤ slot.old.calls }
-    ensures { slot.new.state ≡ slot_noticed_all slot.old.state (rising found.now) }
+    ensures { slot.new ≡ slot_noticed_all slot.old (rising found.now) }
 {
     for node in found.nodes() {
         slot.notice(node);
     }
 }
 
-/// Whether some of these nodes is another member of the slot's group.
-fn has_other_of(slot: &Slot, found: &NodeSet) -> bool
-    ensures { result ≡ has_other_of slot.now.state (rising found.now) }
-{
-    for node in found.nodes() {
-        if slot.has_other(node) {
-            return true;
-        }
-    }
-    false
-}
-
-/// Notices these nodes in a slot, rising. Takes no memory where none of them is another member of its group; without
-/// memory nothing has changed.
-fn notice_in(slot: &mut Slot, found: &NodeSet) -> Result<(), OutOfMemory>
-    ensures ok { OnOk result (slot.new.state ≡ slot_noticed_all slot.old.state (rising found.now)) }
-    ensures err { OnErr result (slot.new.state ≡ slot.old.state) }
-    ensures lack { OnErr result (has_other_of slot.old.state (rising found.now) ≡ true) }
-{
-    if !has_other_of(slot, found) {
-        return Ok(());
-    }
-    slot.ready(found.count_in(found), 0)?;
-    notice_each(slot, found);
-    Ok(())
-}
-
 impl AddressedSlot {
-    /// Notices these nodes in the group, rising. Takes no memory where none of them is another member of it; without
-    /// memory nothing has changed.
+    /// Notices these nodes in the group, rising, unless it was dropped.
     #[tactic(auto, using(crate::proofs::MemberLemmas::gone_noticed_all))]
-    fn notice(&mut self, found: &NodeSet) -> Result<(), OutOfMemory>
-        ensures ok { OnOk result (Some (group_at self.new) ≡ group_noticed (rising found.now) (Some (group_at self.old))) }
-        ensures err { OnErr result (group_at self.new ≡ group_at self.old) }
-        ensures lack { OnErr result (is_concerned (Some (group_at self.old)) found.now ≡ true) }
+    fn notice(&mut self, found: &NodeSet)
+        ensures { Some (group_at self.new) ≡ group_noticed (rising found.now) (Some (group_at self.old)) }
     {
         let Some(slot) = &mut self.slot else {
-            return Ok(());
+            return;
         };
-        notice_in(slot, found)?;
-        Ok(())
+        notice_each(slot, found);
     }
 }
 
-/// Notices these nodes in the group, if there is one, rising. Takes no memory where none of them is another member of
-/// it; without memory nothing has changed.
-fn notice_all(group: &mut Option<AddressedSlot>, found: &NodeSet) -> Result<(), OutOfMemory>
-    ensures ok { OnOk result (group_of group.new ≡ group_noticed (rising found.now) (group_of group.old)) }
-    ensures err { OnErr result (group_of group.new ≡ group_of group.old) }
-    ensures lack { OnErr result (is_concerned (group_of group.old) found.now ≡ true) }
+/// Notices these nodes in the group, if there is one, rising.
+fn notice_all(group: &mut Option<AddressedSlot>, found: &NodeSet)
+    ensures { group_of group.new ≡ group_noticed (rising found.now) (group_of group.old) }
 {
-    let Some(hosted) = group else {
-        return Ok(());
-    };
-    hosted.notice(found)?;
-    Ok(())
+    if let Some(hosted) = group {
+        hosted.notice(found);
+    }
 }
 
 /// For each node, the sending end of a link on which nothing was sent.
@@ -614,7 +526,7 @@ impl OneNode {
     }
 
     fn say(&mut self, addr: Addr, payload: &Payload) -> Reply
-        ensures reply { IsReply (by_tenant (λ _. on_made (λ s. say_answer s payload.now) (shown_for (slot_for addr self.old.group))) (reserve_for addr.tenant self.old.row)) result }
+        ensures reply { result ≡ by_tenant (λ _. on_made (λ s. say_answer s payload.now) (shown_for (slot_for addr self.old.group))) (reserve_for addr.tenant self.old.row) }
         ensures state { (me : Id) (token : List ℕ) → self.new ≡ node_did me (Request.Say token addr payload.now) result self.old }
     {
         if reserve_of(&self.row, addr.tenant).is_none() {
@@ -738,40 +650,33 @@ impl OneNode {
         }
     }
 
-    /// Takes a packet in: its sender is heard, then its acknowledgement counts, then its frame. All growths come
-    /// first: without memory nothing has changed.
-    pub fn came(&mut self, packet: &Packet) -> Result<Good, OutOfMemory>
-        ensures good { IfOk result (λ g. g ≡ good_of packet.now self.old) }
-        ensures state { OnOk result (self.new ≡ node_took packet.now self.old) }
-        ensures err { OnErr result (self.new ≡ self.old) }
-        ensures lack { OnErr result ((good_of packet.now self.old).items ≢ 0) }
+    /// Takes a packet in: its sender is heard, then its acknowledgement counts, then its frame. Takes no memory.
+    pub fn came(&mut self, packet: &Packet) -> Good
+        ensures good { result ≡ good_of packet.now self.old }
+        ensures state { self.new ≡ node_took packet.now self.old }
     {
         let from = packet.from;
-        let is_new = is_new_frame(&self.receivers[from.index()], packet.frame);
-        make_room(&mut self.group, &packet.item, is_new)?;
         self.detector.heard(from);
         let sender = &mut self.senders[from.index()];
         let done = take_ack(&mut self.group, sender, packet);
         let receiver = &mut self.receivers[from.index()];
         let (frame, items) = take_frame(&mut self.group, receiver, packet);
-        Ok(Good {
+        Good {
             from,
             frame,
             items,
             done,
-        })
+        }
     }
 
-    /// The time ticks. The nodes that are noticed now. All growths come first: without memory nothing has
-    /// changed.
-    pub fn tick(&mut self) -> Result<NodeSet, OutOfMemory>
-        ensures found { IfOk result (λ f. f ≡ due self.old.watch) }
-        ensures state { OnOk result (self.new ≡ node_ticked self.old) }
-        ensures err { OnErr result (self.new ≡ self.old) }
-        ensures lack { OnErr result (is_concerned self.old.group (due self.old.watch) ≡ true) }
+    /// The time ticks. The nodes that are noticed now. Takes no memory.
+    pub fn tick(&mut self) -> NodeSet
+        ensures found { result ≡ due self.old.watch }
+        ensures state { self.new ≡ node_ticked self.old }
     {
-        notice_all(&mut self.group, &self.detector.due())?;
-        Ok(self.detector.tick())
+        let found = self.detector.tick();
+        notice_all(&mut self.group, &found);
+        found
     }
 
     /// Whether the node stopped.

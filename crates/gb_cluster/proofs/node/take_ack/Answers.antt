@@ -16,7 +16,7 @@ loop-item-smaller c = taking_smaller c.args.packet.now c.args.sender.now c.loop-
 pub loop-item-preserved : goal.loop-item-preserved
 loop-item-preserved c =
     taking_goes c.args.packet.now c.args.sender.now c.loop-item.sender c.acked.new.self c.args.group.now c.loop-item.group c.loop-item.done c.finish.new.group (c.in-Some.field-0-0, c.in-Some.item)
-    c.loop-item.invariant c.in-Some.ensures.handed_out c.acked.ensures.done c.finish.ensures.group c.finish.ensures.room
+    c.loop-item.invariant c.in-Some.ensures.handed_out c.acked.ensures.done c.finish.ensures
 
 pub returns-clause-count : goal.returns-clause-count
 returns-clause-count c =
@@ -29,6 +29,3 @@ returns-clause-sender c =
 pub returns-clause-group : goal.returns-clause-group
 returns-clause-group c =
     taken_group c.args.packet.now c.args.sender.now c.loop-item.sender c.acked.new.self c.args.group.now c.loop-item.group c.loop-item.done c.loop-item.invariant c.in_default.ensures.handed_out
-
-pub returns-clause-room : goal.returns-clause-room
-returns-clause-room c = c.loop-item.invariant.room

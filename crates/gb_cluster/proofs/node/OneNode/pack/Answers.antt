@@ -1,7 +1,7 @@
 use Rattle.std.proofs.Common.{rules, [], ◌∷◌, ◌∙◌, ◌≡◌, ◌<◌, sym, ap, true, length, Some, get_or}
 use Rattle.std.proofs.lemmas.List.{get_or_default}
 use Rattle.gb_link.specs.SendWindow.{SendWindow, new_window, has_room}
-use Rattle.gb_cluster.specs.GroupRoom.{group_of, first_waiting}
+use Rattle.gb_cluster.specs.NodeGroup.{group_of, first_waiting}
 use Rattle.gb_cluster.specs.NodeValue.{NodeValue}
 use Rattle.gb_cluster.specs.NodeStep.{is_reached, sender_to, packet_for}
 use Rattle.gb_record.specs.declared.packet.Item.{Item}

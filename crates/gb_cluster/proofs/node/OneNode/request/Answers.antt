@@ -45,7 +45,7 @@ returns-in-Say-clause-state c =
 pub returns-in-Say-clause-reply : goal.returns-in-Say-clause-reply
 returns-in-Say-clause-reply c =
     subst (λ (q : Request). IsReplyTo q (node_reply c.args.nodes c.args.me.number c.args.self.now q) c.say.result) (sym c.in-Say.is)
-    (replied c.args.nodes c.args.me.number c.args.self.now (Say c.in-Say.field-0 c.in-Say.addr c.in-Say.payload) c.say.result (sym (ap (λ (v : NodeValue). v.stopped) c.self.view_is) ∙ c.if-self.false) c.say.ensures.reply)
+    (replied c.args.nodes c.args.me.number c.args.self.now (Say c.in-Say.field-0 c.in-Say.addr c.in-Say.payload) c.say.result (sym (ap (λ (v : NodeValue). v.stopped) c.self.view_is) ∙ c.if-self.false) (inr c.say.ensures.reply))
 
 pub returns-in-Fetch-clause-reply : goal.returns-in-Fetch-clause-reply
 returns-in-Fetch-clause-reply c =
