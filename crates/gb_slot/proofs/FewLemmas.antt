@@ -61,7 +61,7 @@ none_in m (x ∷ ms) h =
     no false z = refl
 
 -- messages of which none stands there twice
-pub distinct_once : (ms : List MsgId) → ((m : MsgId) → count_by (λ x. same x m) ms ≤ 1) → IsDistinct same ms
+distinct_once : (ms : List MsgId) → ((m : MsgId) → count_by (λ x. same x m) ms ≤ 1) → IsDistinct same ms
 unfolding IsDistinct
 distinct_once [] f = tt
 distinct_once (m ∷ ms) f =

@@ -15,7 +15,7 @@ use Rattle.gb_types.specs.declared.entry.Entry.{Entry}
 use Rattle.gb_types.specs.declared.limits.TheConstants.{NODES}
 use Rattle.gb_types.specs.declared.message.MsgId.{MsgId}
 use Rattle.gb_types.specs.declared.node.NodeId.{NodeId}
-use Rattle.gb_types.specs.declared.reply.Reply.TheVariants.{Done, Said}
+use Rattle.gb_types.specs.declared.reply.Reply.TheVariants.{Said}
 use Rattle.gb_types.specs.declared.spec.Spec.{Spec}
 use Rattle.gb_layer.specs.Limit.{is_counted}
 use Rattle.gb_layer.specs.Lists.{all_weaker}
@@ -35,14 +35,13 @@ use Rattle.gb_history.specs.History.{calls_of, delivered}
 use Rattle.gb_history.specs.Messages.{has, with_new, bytes_of}
 use Rattle.gb_rules.specs.Group.{is_member, is_other}
 use Rattle.gb_rules.specs.LetFall.{is_let_fall}
-use Rattle.gb_rules.specs.declared.phase.Phase.{Phase}
 use Rattle.gb_slot.specs.Reached.{IsReached, limit_of, most_messages}
-use Rattle.gb_slot.specs.Slot.{new_slot, waiting, own_entry, came_before, falls, slot_called, slot_said, slot_done, slot_took}
+use Rattle.gb_slot.specs.Slot.{new_slot, waiting, own_entry, came_before, falls, slot_called, slot_said, slot_took}
 use Rattle.gb_slot.specs.SlotState.{SlotState}
 use Rattle.gb_slot.specs.StandsFor.{StandsFor}
 use Rattle.gb_slot.proofs.CountedLemmas.{bytes_pushed}
 use Rattle.gb_slot.proofs.FewLemmas.{ids, counted_new, once_new, few_among}
-use Rattle.gb_slot.proofs.HistoryLemmas.{fresh_stands, moved_stands, said_stands, came_stands, noticed_stands, done_stands, took_stands, own_store}
+use Rattle.gb_slot.proofs.HistoryLemmas.{fresh_stands, said_stands, came_stands, noticed_stands, took_stands, own_store}
 use Rattle.gb_slot.proofs.NoticeLemmas.{was_untold}
 
 -- a lawful history keeps what the laws of a layer ask for
@@ -159,29 +158,7 @@ reached_noticed s q other r = record {
   bytes = r.bytes;
 }
 
--- in another phase
-pub reached_moved : (s : SlotState) (phase : Phase) → IsReached s → IsReached (record s { phase = phase })
-reached_moved s phase r = record {
-  told = r.told;
-  stands = moved_stands s r.told phase Done r.stands;
-  member = r.member;
-  counted = r.counted;
-  once = r.once;
-  bytes = r.bytes;
-}
-
--- after an acknowledgement
-pub reached_done : (s : SlotState) (b : NodeId) (m : MsgId) → IsReached s → IsReached (slot_done b m s)
-reached_done s b m r = record {
-  told = r.told;
-  stands = done_stands s r.told b m r.stands;
-  member = r.member;
-  counted = r.counted;
-  once = r.once;
-  bytes = r.bytes;
-}
-
--- and after items were taken
+-- after items were taken
 pub reached_took : (s : SlotState) (b count : ℕ) → b < NODES → count ≤ length (waiting s b) → IsReached s → IsReached (slot_took b count s)
 reached_took s b count within enough r = record {
   told = r.told;

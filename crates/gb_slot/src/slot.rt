@@ -1,13 +1,10 @@
 //! One group at one node.
-ghost use Rattle.std.specs.Prelude.{◌≡◌, false, ◌≢◌, OnErr, ◌+◌, ◌≤◌, ◌<◌, ◌&&◌, not, List, [], ◌∷◌, Some, take, drop, map, slice_get, length, vec_len, Ok, Err, IfOk, OnOk, MatchOption, true, IsOkUnless};
+ghost use Rattle.std.specs.Prelude.{◌≡◌, false, ◌≢◌, OnErr, ◌≤◌, ◌<◌, ◌&&◌, not, List, [], ◌∷◌, Some, take, drop, map, slice_get, length, IfOk, MatchOption, true, IsOkUnless};
 ghost use Rattle.std.specs.FinSet as set;
 ghost use Rattle.gb_types.specs.declared.entry.Entry.{Entry as EntryValue};
-ghost use Rattle.std.specs.List.{list_any};
-ghost use Rattle.gb_layer.specs.Machine.{is_up, messages};
 ghost use Rattle.gb_history.specs.Messages.{entry_in};
 ghost use Rattle.gb_rules.specs.Replied.{done_reply, said_reply, log_reply, IsReply};
 ghost use Rattle.gb_rules.specs.Group.{is_gone, is_member, is_other, open_answer, shut_answer, say_answer, fetch_answer};
-ghost use Rattle.gb_rules.specs.LetFall.{is_let_fall};
 
 use crate::broadcast::take_call;
 use crate::store::Store;
