@@ -8,7 +8,7 @@ use Rattle.gb_frame.specs.Reading.{item_at}
 use Rattle.gb_frame.proofs.ItemLemmas.{item_again, none_at_end, some_is}
 
 -- the first item stands at the front, and the others behind it
-first_again : (bytes : List ℕ) (i : Item) (items : List Item) → AreTexts bytes (i ∷ items) → item_at bytes ≡ Some (i, items_text items)
+pub first_again : (bytes : List ℕ) (i : Item) (items : List Item) → AreTexts bytes (i ∷ items) → item_at bytes ≡ Some (i, items_text items)
 first_again bytes i items t =
     let parts : bytes ≡ item_text i ++ items_text items = t.parts ∙ flat_map-cons item_text i items in
     ap item_at parts ∙ item_again i (items_text items) (All-head IsItem i items t.fit)

@@ -6,3 +6,4 @@ pub mod ItemLemmas
 pub mod TextLemmas
 pub mod FaultLemmas
 pub mod ReadingLemmas
+pub mod BatchLemmas

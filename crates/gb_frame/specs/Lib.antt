@@ -4,3 +4,4 @@ pub mod Fields
 pub mod Reading
 pub mod Faults
 pub mod Laws
+pub mod Batch

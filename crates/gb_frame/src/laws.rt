@@ -1,4 +1,5 @@
 //! Laws of the packet text: calls with nothing to run, whose contracts are the laws.
+ghost use Rattle.gb_frame.specs.Batch.{TextsTellItems};
 ghost use Rattle.gb_frame.specs.Laws.{OneTextHasOnePacket, OnePacketHasOneText, WhatIsWrittenIsRead};
 
 /// Bytes are the text of one packet at most, under a key.
@@ -14,4 +15,9 @@ pub fn one_packet_has_one_text()
 /// A packet's text is read as that packet.
 pub fn what_is_written_is_read()
     ensures { WhatIsWrittenIsRead }
+{}
+
+/// Texts of items tell which items they are of.
+pub fn texts_tell_items()
+    ensures { TextsTellItems }
 {}

@@ -6,9 +6,10 @@ ghost use Rattle.gb_frame.specs.declared.limits.TheConstants.{SHORTEST};
 ghost use Rattle.gb_frame.specs.Packet.{item_of, packet_of};
 ghost use Rattle.gb_frame.specs.Fields.{from_in, to_in};
 ghost use Rattle.gb_frame.specs.Reading.{parsed, content_in};
+ghost use Rattle.gb_frame.specs.Batch.{batch_in, IsBatch};
 
 use crate::header::{base_of, count_of, frame_of, mask_of, texts_of};
-use crate::item::{ItemView, first_item};
+use crate::item::{ItemView, count_items, first_item};
 use crate::packet::Head;
 use gb_types::node::NodeId;
 use std::marker::Model;
@@ -63,6 +64,13 @@ impl<'a> PacketView<'a> {
         self.head
     }
 
+    /// How many items it has.
+    pub fn len(&self) -> u16
+        ensures { result ≡ length self.now.items }
+    {
+        self.count
+    }
+
     /// The items in turn. Takes no memory, nor does the walk.
     pub fn items(&self) -> ItemViews<'a>
         ensures { result ≡ self.now.items }
@@ -91,6 +99,19 @@ impl<'a> Model for ItemViews<'a> {
     ghost view = { λ v. items_of (items_at v.count v.texts.now) };
 
     ghost invariant = { λ v. IsSome (items_at v.count v.texts.now) };
+}
+
+impl<'a> ItemViews<'a> {
+    /// The items with these texts, which have no packet round them, in turn. Takes no memory.
+    pub fn of_texts(texts: &'a [u8]) -> ItemViews<'a>
+        requires { IsBatch texts.now }
+        ensures { result ≡ batch_in texts.now }
+    {
+        ItemViews {
+            count: count_items(texts),
+            texts,
+        }
+    }
 }
 
 impl<'a> Iterator for ItemViews<'a> {
