@@ -1,0 +1,17 @@
+pub mod TurnLemmas
+pub mod PlaceSetLemmas
+pub mod WalkLemmas
+pub mod TakingLemmas
+pub mod AheadLemmas
+pub mod BusyLemmas
+pub mod SlotsLemmas
+pub mod StepLemmas
+pub mod BatchLemmas
+pub mod WriteLemmas
+pub mod FrontLemmas
+pub mod IndexLemmas
+pub mod AddressLemmas
+pub mod QuietLemmas
+pub mod AddLemmas
+pub mod NoticeLemmas
+pub mod DropLemmas

@@ -1,0 +1,117 @@
+-- What steps leave of the counters of a slot, and of the payloads that it knows.
+use Rattle.std.proofs.Common.{◌≡◌, ℕ, zero, suc, ◌≤◌, ◌+◌, map, drop, subst, List, [], ◌∷◌, ◌++◌, length, true, false, refl, ap, ◌∙◌, arith, inl, inr}
+use Rattle.std.proofs.lemmas.Bool.{cases_lt, lt-ltb}
+use Rattle.std.specs.FinSet as nodes
+use Rattle.std.specs.Prelude.{if◌then◌else◌, ◌&&◌, not, nat_lt, nat_le, Some, None, slice_get}
+use Rattle.gb_types.specs.Entry.{message_of}
+use Rattle.gb_types.specs.declared.entry.Entry.{Entry}
+use Rattle.gb_types.specs.Message.{same}
+use Rattle.gb_types.specs.declared.limits.TheConstants.{PAYLOAD}
+use Rattle.gb_types.specs.declared.message.MsgId.{MsgId}
+use Rattle.gb_types.specs.declared.node.NodeId.{NodeId}
+use Rattle.gb_types.specs.declared.refusal.Refusal.TheVariants.{TooLong, Budget, Bytes, Window}
+use Rattle.gb_types.specs.declared.reply.Reply.{Reply}
+use Rattle.gb_types.specs.declared.reply.Reply.TheVariants.{Done, Said, Log, Refused}
+use Rattle.gb_types.specs.declared.spec.Spec.{Spec}
+use Rattle.gb_layer.specs.declared.call.Call.TheVariants.{Came, Notice}
+use Rattle.gb_history.specs.Messages.{has, payload_in, entry_in, with_new}
+use Rattle.gb_rules.specs.Group.{is_other, say_answer}
+use Rattle.gb_rules.specs.declared.phase.Phase.{Phase}
+use Rattle.gb_rules.specs.declared.phase.Phase.TheVariants.{Made, Opened, Shut, Gone}
+use Rattle.gb_rules.specs.declared.usage.Usage.{Usage}
+use Rattle.gb_slot.specs.Slot.{falls, own_entry, usage_of, shown, waiting, taken_for, slot_called, slot_moved, slot_said, slot_came, slot_noticed, slot_done, slot_took}
+use Rattle.gb_slot.specs.SlotState.{SlotState}
+use Rattle.gb_groups.specs.SlotsValue.{IsShort}
+
+pub taken-moved : (phase : Phase) (reply : Reply) (s : SlotState) → (slot_moved phase reply s).taken ≡ s.taken
+taken-moved phase Done s = refl
+taken-moved phase (Said seq) s = refl
+taken-moved phase (Log entries) s = refl
+taken-moved phase (Refused why) s = refl
+
+pub taken-said : (payload : List ℕ) (reply : Reply) (s : SlotState) → (slot_said payload reply s).taken ≡ s.taken
+taken-said payload Done s = refl
+taken-said payload (Said seq) s = refl
+taken-said payload (Log entries) s = refl
+taken-said payload (Refused why) s = refl
+
+pub taken-came : (from : NodeId) (x : Entry) (s : SlotState) → (slot_came from x s).taken ≡ s.taken
+taken-came from x s = elim (falls from x s) as (λ b. (if b then s else slot_called (Came from (message_of x)) (with_new s.store x) s).taken ≡ s.taken) [ true ↦ refl | false ↦ refl ]
+
+pub taken-noticed : (q : NodeId) (s : SlotState) → (slot_noticed q s).taken ≡ s.taken
+taken-noticed q s = elim (is_other s.spec s.me.number q.number) as (λ b. (if b then record (slot_called (Notice q) s.store s) { noticed = nodes.insert s.noticed q.number } else s).taken ≡ s.taken) [ true ↦ refl | false ↦ refl ]
+
+pub taken-done : (b : NodeId) (m : MsgId) (s : SlotState) → (slot_done b m s).taken ≡ s.taken
+taken-done b m s = refl
+
+-- What steps leave of the payloads that are known.
+
+payload-more : (store : List Entry) (x : Entry) (m : MsgId) → length (payload_in store m) ≤ PAYLOAD → length x.payload ≤ PAYLOAD → length (payload_in (store ++ x ∷ []) m) ≤ PAYLOAD
+payload-more [] x m h l = elim (same (message_of x) m) as (λ b. length (if b then x.payload else []) ≤ PAYLOAD) [ true ↦ l | false ↦ omega arith ]
+payload-more (y ∷ ys) x m h l =
+    let step : length (if same (message_of y) m then y.payload else payload_in ys m) ≤ PAYLOAD → length (if same (message_of y) m then y.payload else payload_in (ys ++ x ∷ []) m) ≤ PAYLOAD =
+    elim (same (message_of y) m) as (λ b. length (if b then y.payload else payload_in ys m) ≤ PAYLOAD → length (if b then y.payload else payload_in (ys ++ x ∷ []) m) ≤ PAYLOAD) [
+      | true ↦ λ k. k
+      | false ↦ λ k. payload-more ys x m k l
+    ] in
+    step h
+
+payload-new : (store : List Entry) (x : Entry) (m : MsgId) → length (payload_in store m) ≤ PAYLOAD → length x.payload ≤ PAYLOAD → length (payload_in (with_new store x) m) ≤ PAYLOAD
+payload-new store x m h l = elim (has store (message_of x)) as (λ b. length (payload_in (if b then store else store ++ x ∷ []) m) ≤ PAYLOAD) [ true ↦ h | false ↦ payload-more store x m h l ]
+
+pub short-took : (dest count : ℕ) (s : SlotState) → IsShort (Some s) → IsShort (Some (slot_took dest count s))
+short-took dest count s h = h
+
+pub short-done : (b : NodeId) (m : MsgId) (s : SlotState) → IsShort (Some s) → IsShort (Some (slot_done b m s))
+short-done b m s h = h
+
+pub short-moved : (phase : Phase) (reply : Reply) (s : SlotState) → IsShort (Some s) → IsShort (Some (slot_moved phase reply s))
+short-moved phase Done s h = h
+short-moved phase (Said seq) s h = h
+short-moved phase (Log entries) s h = h
+short-moved phase (Refused why) s h = h
+
+pub short-noticed : (q : NodeId) (s : SlotState) → IsShort (Some s) → IsShort (Some (slot_noticed q s))
+short-noticed q s h = elim (is_other s.spec s.me.number q.number) as (λ b. IsShort (Some (if b then record (slot_called (Notice q) s.store s) { noticed = nodes.insert s.noticed q.number } else s))) [ true ↦ h | false ↦ h ]
+
+pub short-came : (from : NodeId) (x : Entry) (s : SlotState) → length x.payload ≤ PAYLOAD → IsShort (Some s) → IsShort (Some (slot_came from x s))
+short-came from x s l h = elim (falls from x s) as (λ b. IsShort (Some (if b then s else slot_called (Came from (message_of x)) (with_new s.store x) s))) [ true ↦ h | false ↦ λ m. payload-new s.store x m (h m) l ]
+
+-- what is said is within the limit
+pub said_fits : (spec : Spec) (phase : Phase) (usage : Usage) (log : List Entry) (payload : List ℕ) (seq : ℕ) → Said seq ≡ say_answer (record { spec = spec; phase = phase; usage = usage; log = log }) payload → length payload ≤ PAYLOAD
+said_fits spec Opened usage log payload seq e = elim (cases_lt PAYLOAD (length payload)) [
+  | inl h ↦ absurd (clash (e ∙ ap (λ b. if b then Refused TooLong else rest) (lt-ltb PAYLOAD (length payload) h)))
+  | inr h ↦ h
+]
+  where
+    rest : Reply
+    rest = if nat_le spec.msgs usage.said then Refused Budget
+        else (if nat_lt spec.bytes (usage.bytes + length payload) then Refused Bytes
+        else (if nat_le spec.window usage.unfinished then Refused Window
+        else Said (usage.said + 1)))
+
+    clash : Said seq ≡ Refused TooLong → ⊥
+    clash h = cc
+said_fits spec Made usage log payload seq e = absurd (cc)
+said_fits spec Shut usage log payload seq e = absurd (cc)
+said_fits spec Gone usage log payload seq e = absurd (cc)
+
+pub short-said : (payload : List ℕ) (reply : Reply) (s : SlotState) → reply ≡ say_answer (shown s) payload → IsShort (Some s) → IsShort (Some (slot_said payload reply s))
+short-said payload Done s e h = h
+short-said payload (Said seq) s e h = λ m. payload-more s.store (own_entry s payload) m (h m) (said_fits s.spec s.phase (usage_of s) (shown s).log payload seq e)
+short-said payload (Log entries) s e h = h
+short-said payload (Refused why) s e h = h
+
+known_fits : (store : List Entry) (ms : List MsgId) (nth : ℕ) (e : Entry) → ((m : MsgId) → length (payload_in store m) ≤ PAYLOAD) → slice_get (map (entry_in store) ms) nth ≡ Some e → length e.payload ≤ PAYLOAD
+known_fits store [] nth e h f = absurd (cc)
+known_fits store (m ∷ ms) zero e h f = let same_entry : entry_in store m ≡ e = cc in subst (λ (x : Entry). length x.payload ≤ PAYLOAD) same_entry (h m)
+known_fits store (m ∷ ms) (suc nth) e h f = known_fits store ms nth e h f
+
+-- what waits is within the limit
+pub waiting_fits : (s : SlotState) (d nth : ℕ) (e : Entry) → IsShort (Some s) → slice_get (waiting s d) nth ≡ Some e → length e.payload ≤ PAYLOAD
+waiting_fits s d nth e h =
+    elim (is_other s.spec s.me.number d && not (nodes.contains s.noticed d)) as
+    (λ b. slice_get (if b then map (entry_in s.store) (drop (taken_for s d) s.outgoing) else []) nth ≡ Some e → length e.payload ≤ PAYLOAD) [
+      | true ↦ λ f. known_fits s.store (drop (taken_for s d) s.outgoing) nth e h f
+      | false ↦ λ f. let none : None ≡ Some e = f in absurd (cc)
+    ]

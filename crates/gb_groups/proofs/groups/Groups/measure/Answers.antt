@@ -1,0 +1,15 @@
+use Rattle.gb_groups.proofs.BatchLemmas.{count_is, bytes_is}
+use Rattle.gb_groups.proofs.IndexLemmas.{index_at}
+use Rattle.gb_groups.proofs.groups.Groups.measure.Goals as goal
+
+pub measure-requires-clause-index : goal.measure-requires-clause-index
+measure-requires-clause-index c =
+    index_at c.self.inside.slots.rows c.self.inside.busy c.index-to.result c.args.dest.number c.duplicate-active.result c.index-self-to.result c.self.invariant.1 c.index-to.ensures.value c.args.dest.below c.duplicate-active.ensures
+
+pub returns-clause-count : goal.returns-clause-count
+returns-clause-count c =
+    count_is c.args.dest.number c.index-to.result c.args.room _ (record { rows = c.self.inside.slots.rows; cursors = c.self.inside.cursors }) c.args.self.now c.index-to.ensures.value c.measure.ensures.count c.self.view_is
+
+pub returns-clause-bytes : goal.returns-clause-bytes
+returns-clause-bytes c =
+    bytes_is c.args.dest.number c.index-to.result c.args.room _ (record { rows = c.self.inside.slots.rows; cursors = c.self.inside.cursors }) c.args.self.now c.index-to.ensures.value c.measure.ensures.bytes c.self.view_is

@@ -1,0 +1,9 @@
+use Rattle.gb_slot.specs.Slot.{slot_noticed}
+use Rattle.gb_groups.specs.SlotsValue.{row_at, on_slot}
+use Rattle.gb_groups.proofs.IndexLemmas.{index_but}
+use Rattle.gb_groups.proofs.groups.Groups.notice_at.Goals as goal
+
+pub refresh-requires-clause-others : goal.refresh-requires-clause-others
+refresh-requires-clause-others c =
+    let rows = c.self.inside.slots.rows in
+    rw c.notice.ensures (index_but rows c.self.inside.busy c.args.place (on_slot (slot_noticed c.args.who) (row_at rows c.args.place)) c.self.invariant.1)

@@ -1,0 +1,25 @@
+use Rattle.std.proofs.Common.{ap, subst, ◌∙◌}
+use Rattle.gb_rules.specs.Group.{Shown, say_answer}
+use Rattle.gb_slot.specs.Slot.{slot_said}
+use Rattle.gb_groups.specs.SlotsValue.{row_at, on_slot}
+use Rattle.gb_groups.specs.AtAddress.{reply_at, group_reply, OthersKept}
+use Rattle.gb_groups.specs.GroupsValue.{GroupsValue}
+use Rattle.gb_groups.proofs.AddressLemmas.{others_kept}
+use Rattle.gb_groups.proofs.IndexLemmas.{index_but}
+use Rattle.gb_groups.proofs.groups.Groups.say.Goals as goal
+
+pub refresh-requires-clause-others : goal.refresh-requires-clause-others
+refresh-requires-clause-others c =
+    let rows = c.self.inside.slots.rows in
+    rw c.say-reply.ensures.rows (index_but rows c.self.inside.busy c.in-Some.place (on_slot (slot_said c.args.payload.now c.say-reply.result) (row_at rows c.in-Some.place)) c.self.invariant.1)
+
+pub returns-in-Some-clause-others : goal.returns-in-Some-clause-others
+returns-in-Some-clause-others c =
+    let rows = c.self.inside.slots.rows in
+    subst (λ (v : GroupsValue). OthersKept c.args.addr v.rows c.say-reply.new.self.rows) c.self.view_is
+    (rw c.say-reply.ensures.rows (others_kept c.args.addr rows c.in-Some.place (slot_said c.args.payload.now c.say-reply.result) c.in-Some.ensures.place))
+
+pub returns-in-Some-clause-reply : goal.returns-in-Some-clause-reply
+returns-in-Some-clause-reply c =
+    let answer = λ (s : Shown). say_answer s c.args.payload.now in
+    c.say-reply.ensures.reply ∙ ap (reply_at answer c.self.inside.slots.rows) c.in-Some.ensures.place ∙ ap (λ (v : GroupsValue). group_reply answer c.args.addr v.rows) c.self.view_is

@@ -1,0 +1,21 @@
+use Rattle.std.proofs.Common.{◌≡◌, suc, ◌-◌, ◌<◌, ◌≤◌, length, get_or, take, drop, vec_len}
+use Rattle.std.specs.Prelude.{vec_capacity}
+use Rattle.gb_groups.specs.Packing.{queues, walk, gave}
+use Rattle.gb_groups.specs.Busy.{IsBusy}
+use Rattle.gb_groups.proofs.WalkLemmas.{nowhere}
+use Rattle.gb_groups.proofs.WriteLemmas.{Wrote}
+use Rattle.gb_groups.proofs.packing.advance.Given as goal
+
+abbrev pub invariant-loop-step : goal.invariant-loop-step
+invariant-loop-step l =
+    let vs = walk l.from (queues l.dest.number l.fn.slots.rows) in
+    record {
+      index : IsBusy l.dest.number l.busy l.slots.rows;
+      size : length l.slots.rows ≡ length l.fn.slots.rows;
+      within : l.at ≤ length l.slots.rows;
+      rows : l.slots.rows ≡ gave l.dest.number 0 (take l._step vs) l.fn.slots.rows;
+      rest : walk l.at (queues l.dest.number l.slots.rows) ≡ drop l._step vs;
+      wrote : Wrote l.fn.slots.rows vs (vec_len l.fn.out) l.fn.out.items l._step (vec_len l.out) l.out.items;
+      capacity : vec_capacity l.fn.out ≤ vec_capacity l.out;
+      last : 0 < l._step → l.at ≡ suc (get_or vs (l._step - 1) nowhere).place;
+    }

@@ -1,0 +1,20 @@
+use Rattle.std.proofs.Common.{◌≤◌, ◌<◌, ◌+◌, ◌*◌, length}
+use Rattle.gb_groups.specs.Packing.{queues, walk, fit}
+use Rattle.gb_groups.specs.Ahead.{ahead, IsActive}
+use Rattle.gb_groups.proofs.AheadLemmas.{Measured}
+use Rattle.gb_groups.proofs.packing.measure.Given as goal
+
+abbrev pub invariant-loop-round : goal.invariant-loop-round
+invariant-loop-round l =
+    let waiting = queues l.dest.number l.slots.rows in
+    record {
+      within : l.at ≤ length l.slots.rows;
+      begun : l.at < l.from → 0 < l.lap;
+      laps : l.lap + l.left ≤ l.room;
+      few : 9 * l.count + l.left ≤ l.room;
+      index : IsActive l.active (ahead l.from l.lap l.at 0 waiting);
+      same : Measured l.room l.left l.count (walk l.at (ahead l.from l.lap l.at 0 waiting)) (fit l.room (walk l.from waiting));
+    }
+
+abbrev pub decreases-loop-round : goal.decreases-loop-round
+decreases-loop-round l = l.left

@@ -1,0 +1,30 @@
+use Rattle.gb_rules.specs.Group.{Shown, say_answer}
+use Rattle.gb_rules.specs.Replied.{said_reply}
+use Rattle.gb_slot.specs.Slot.{slot_said}
+use Rattle.gb_types.specs.declared.reply.Reply.{Reply}
+use Rattle.gb_groups.proofs.StepLemmas.{taken-said, short-said}
+use Rattle.std.proofs.Common.{◌≡◌, Some, ap, sym, ◌∙◌, length}
+use Rattle.std.proofs.Math.ListN.{set}
+use Rattle.gb_groups.specs.SlotsValue.{SlotsValue, row_at, on_slot, unless_gone}
+use Rattle.gb_groups.proofs.SlotsLemmas.{changed, slot_is}
+use Rattle.gb_groups.proofs.slots.Slots.say.Goals as goal
+
+pub invariant_of-self : goal.invariant_of-self
+invariant_of-self c =
+    let v = c.in-Some-get_mut.slot.now in
+    (changed (slot_said c.args.payload.now (said_reply c.say.result)) c.self.inside.places.entries c.self.inside.slots c.args.place c.in-Some.key v c.say.new.self c.self.invariant c.in-Some.ensures c.in-Some-get_mut.ensures.value c.say.ensures.state (ap length (taken-said c.args.payload.now (said_reply c.say.result) v)) (short-said c.args.payload.now (said_reply c.say.result) v c.say.ensures.answer)).kept
+
+pub returns-in-Some-get_mut-clause-rows : goal.returns-in-Some-get_mut-clause-rows
+returns-in-Some-get_mut-clause-rows c =
+    let v = c.in-Some-get_mut.slot.now in
+    (changed (slot_said c.args.payload.now (said_reply c.say.result)) c.self.inside.places.entries c.self.inside.slots c.args.place c.in-Some.key v c.say.new.self c.self.invariant c.in-Some.ensures c.in-Some-get_mut.ensures.value c.say.ensures.state (ap length (taken-said c.args.payload.now (said_reply c.say.result) v)) (short-said c.args.payload.now (said_reply c.say.result) v c.say.ensures.answer)).rows
+    ∙ ap (λ (w : SlotsValue). set w.rows c.args.place (on_slot (slot_said c.args.payload.now (said_reply c.say.result)) (row_at w.rows c.args.place))) c.self.view_is
+    ∙ ap (λ (r : Reply). set c.args.self.now.rows c.args.place (on_slot (slot_said c.args.payload.now r) (row_at c.args.self.now.rows c.args.place))) (sym c.said.ensures)
+
+pub returns-in-Some-get_mut-clause-reply : goal.returns-in-Some-get_mut-clause-reply
+returns-in-Some-get_mut-clause-reply c =
+    let v = c.in-Some-get_mut.slot.now in
+    let answer : Shown → Reply = λ s. say_answer s c.args.payload.now in
+    let there : (row_at c.args.self.now.rows c.args.place).slot ≡ Some v =
+    ap (λ (w : SlotsValue). (row_at w.rows c.args.place).slot) (sym c.self.view_is) ∙ slot_is c.self.inside.slots c.self.inside.places.entries c.args.place c.in-Some.key v c.in-Some.ensures c.in-Some-get_mut.ensures.value in
+    c.said.ensures ∙ c.say.ensures.answer ∙ sym (ap (unless_gone answer) there)

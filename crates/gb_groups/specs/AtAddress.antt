@@ -1,0 +1,67 @@
+-- A step at one address.
+use Rattle.std.proofs.Common.{arith}
+use Rattle.std.specs.Prelude.{ℕ, ◌≡◌, ◌<◌, ◌%◌, ◌&&◌, false, List, length, Option, Some, None, option_map, position, nat_lt, nat_le, slice_set, if◌then◌else◌}
+use Rattle.gb_types.specs.declared.address.Addr.{Addr}
+use Rattle.gb_types.specs.declared.entry.Entry.{Entry}
+use Rattle.gb_types.specs.declared.limits.TheConstants.{NODES, PAYLOAD}
+use Rattle.gb_types.specs.declared.node.NodeId.{NodeId}
+use Rattle.gb_frame.specs.declared.item.Item.{Item}
+use Rattle.gb_types.specs.declared.refusal.Refusal.TheVariants.{NoGroup}
+use Rattle.gb_types.specs.declared.reply.Reply.{Reply}
+use Rattle.gb_types.specs.declared.reply.Reply.TheVariants.{Refused}
+use Rattle.gb_rules.specs.Group.{Shown}
+use Rattle.gb_rules.specs.Address.{is_addr}
+use Rattle.gb_slot.specs.Slot.{slot_came}
+use Rattle.gb_slot.specs.SlotState.{SlotState}
+use Rattle.gb_groups.specs.SlotsValue.{Row, row_at, on_slot, gone, unless_gone}
+
+-- the place of an address among the groups
+abbrev pub place_of : Addr → List Row → Option ℕ
+place_of addr rows = position (λ row. is_addr addr row.addr) rows
+
+-- the group with an address
+abbrev pub row_for : Addr → List Row → Option Row
+row_for addr rows = option_map (row_at rows) (place_of addr rows)
+
+-- after a step of the slot at a place, if there is one
+abbrev pub step_at : (SlotState → SlotState) → List Row → Option ℕ → List Row
+step_at step rows None = rows
+step_at step rows (Some p) = slice_set rows p (on_slot step (row_at rows p))
+
+-- after a step of the slot of the group with an address; nothing changes where it was never made or was dropped
+abbrev pub on_address : Addr → (SlotState → SlotState) → List Row → List Row
+on_address addr step rows = step_at step rows (place_of addr rows)
+
+-- after the group with an address was dropped
+abbrev pub gone_at : List Row → Option ℕ → List Row
+gone_at rows None = rows
+gone_at rows (Some p) = slice_set rows p (gone (row_at rows p))
+
+abbrev pub drop_at : Addr → List Row → List Row
+drop_at addr rows = gone_at rows (place_of addr rows)
+
+-- every other group is as it was
+pub record OthersKept (addr : Addr) (old new : List Row) : Type 0 where
+  pub others : (g : Addr) → is_addr g addr ≡ false → row_for g new ≡ row_for g old
+
+pub rest_is_node : (n : ℕ) → n % NODES < NODES
+rest_is_node n = omega arith
+
+-- the address of an item, and what it says; its origin's number is below the number of nodes that there may be
+abbrev pub address_of : Item → Addr
+address_of i = record { tenant = i.tenant; group = i.group }
+
+abbrev pub entry_of : Item → Entry
+entry_of i = record { origin = record { number = i.origin % NODES; below = rest_is_node i.origin }; seq = i.seq; payload = i.payload }
+
+-- after an item came from a node; one whose origin is no node, or that is longer than a message may be, is let fall
+abbrev pub item_came : NodeId → Item → List Row → List Row
+item_came from i rows = if nat_lt i.origin NODES && nat_le (length i.payload) PAYLOAD then on_address (address_of i) (slot_came from (entry_of i)) rows else rows
+
+-- the reply to a command on the group with an address
+abbrev pub reply_at : (Shown → Reply) → List Row → Option ℕ → Reply
+reply_at answer rows None = Refused NoGroup
+reply_at answer rows (Some p) = unless_gone answer (row_at rows p).slot
+
+abbrev pub group_reply : (Shown → Reply) → Addr → List Row → Reply
+group_reply answer addr rows = reply_at answer rows (place_of addr rows)

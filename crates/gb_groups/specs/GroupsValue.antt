@@ -1,0 +1,53 @@
+-- All groups of a node, with where packing goes on, as contracts see them.
+use Rattle.std.specs.Prelude.{ℕ, ◌≡◌, ◌≢◌, ◌≤◌, ◌<◌, min, List, [], length, replicate, slice_index_or, slice_set}
+use Rattle.gb_types.specs.declared.limits.TheConstants.{NODES, PLACES}
+use Rattle.gb_groups.specs.SlotsValue.{Row}
+use Rattle.gb_groups.specs.Packing.{Visit, queues, walk, fit, gave, new_cursor}
+use Rattle.gb_groups.specs.PlaceSet.{has}
+use Rattle.gb_groups.specs.Busy.{IsBusy}
+
+-- the groups in the order in which they were made, and for each node the place where packing goes on
+pub record GroupsValue : Type 0 where
+  pub rows : List Row
+  pub cursors : List ℕ
+
+-- no group
+abbrev pub no_groups : GroupsValue
+no_groups = record { rows = []; cursors = replicate NODES 0 }
+
+-- where packing for a node goes on
+abbrev pub cursor_for : ℕ → GroupsValue → ℕ
+cursor_for dest t = slice_index_or t.cursors dest 0
+
+-- the walk to a node
+abbrev pub walk_to : ℕ → GroupsValue → List Visit
+walk_to dest t = walk (cursor_for dest t) (queues dest t.rows)
+
+-- what a packing for a node takes
+abbrev pub batch : ℕ → ℕ → GroupsValue → List Visit
+batch dest room t = fit room (walk_to dest t)
+
+-- after a packing
+abbrev pub packed : ℕ → ℕ → GroupsValue → GroupsValue
+packed dest room t =
+    let vs = batch dest room t in
+    record t {
+      rows = gave dest 0 vs t.rows;
+      cursors = slice_set t.cursors dest (new_cursor (length t.rows) (cursor_for dest t) (length vs) (walk_to dest t));
+    }
+
+-- there is a cursor for each node, and each is at a place or behind the last
+pub record ArePlaces (rows : List Row) (cursors : List ℕ) : Type 0 where
+  pub size : length cursors ≡ NODES
+  pub within : (d : ℕ) → slice_index_or cursors d 0 ≤ length rows
+
+-- for each node, the places where something waits for it
+pub record IsIndex (rows : List Row) (busy : List (List ℕ)) : Type 0 where
+  pub size : length busy ≡ NODES
+  pub each : (d : ℕ) → d < NODES → IsBusy d (slice_index_or busy d []) rows
+
+-- the same but for one place
+pub record IsIndexBut (p : ℕ) (rows : List Row) (busy : List (List ℕ)) : Type 0 where
+  pub size : length busy ≡ NODES
+  pub few : length rows ≤ PLACES
+  pub each : (d q : ℕ) → d < NODES → q ≢ p → has (slice_index_or busy d []) q ≡ min 1 (length (slice_index_or (queues d rows) q []))

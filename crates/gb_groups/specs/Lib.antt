@@ -1,0 +1,10 @@
+pub mod Turns
+pub mod PlaceSet
+pub mod SlotsValue
+pub mod Packing
+pub mod Busy
+pub mod Ahead
+pub mod Slots
+pub mod GroupsValue
+pub mod Fair
+pub mod AtAddress

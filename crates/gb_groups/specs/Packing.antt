@@ -1,0 +1,98 @@
+-- What one packing takes: the walk round the groups, the batch, and where the next walk begins.
+use Rattle.std.specs.Prelude.{ℕ, suc, ◌+◌, ◌-◌, ◌==◌, Bool, if◌then◌else◌, List, [], ◌∷◌, ◌++◌, length, take, drop, map, Option, Some, None, option_map, slice_get, count_by, ltb}
+use Rattle.gb_types.specs.declared.entry.Entry.{Entry}
+use Rattle.gb_frame.specs.declared.item.Item.{Item}
+use Rattle.gb_slot.specs.Slot.{waiting, slot_took}
+use Rattle.gb_slot.specs.SlotState.{SlotState}
+use Rattle.gb_groups.specs.SlotsValue.{Row, row_at}
+use Rattle.gb_groups.specs.Turns.{in_turns}
+
+-- an item that a group at a place gives
+pub record Visit : Type 0 where
+  pub place : ℕ
+  pub item : Entry
+
+abbrev pub visit : ℕ → Entry → Visit
+visit place item = record { place = place; item = item }
+
+-- the queues from a place on, each item with its place
+unfoldable pub placed : ℕ → List (List Entry) → List (List Visit)
+placed p [] = []
+placed p (q ∷ qs) = map (visit p) q ∷ placed (suc p) qs
+
+-- a list from a place on, and from its beginning up to there
+abbrev pub from_place : {A : Type 0} → ℕ → List A → List A
+from_place c xs = drop c xs ++ take c xs
+
+-- The walk: round the places from the cursor, one waiting item a visit, until none is left.
+unfoldable pub walk : ℕ → List (List Entry) → List Visit
+walk cursor qs = in_turns (from_place cursor (placed 0 qs))
+
+-- the bytes that an item takes in a packet
+abbrev pub size : Visit → ℕ
+size v = 9 + length v.item.payload
+
+-- the longest front of a walk whose items have at most so many bytes
+unfoldable pub fit : ℕ → List Visit → List Visit
+fit room [] = []
+fit room (v ∷ vs) = if ltb room (size v) then [] else v ∷ fit (room - size v) vs
+
+-- the place after one, of so many; place 0 comes after the last
+abbrev pub place_after : ℕ → ℕ → ℕ
+place_after places p = if p + 1 == places then 0 else p + 1
+
+-- the place of the next item of the walk, after so many; where there is none, the place after the last that gave
+abbrev pub after_last : ℕ → ℕ → Option Visit → ℕ
+after_last places cursor None = cursor
+after_last places cursor (Some v) = place_after places v.place
+
+abbrev pub next_place : ℕ → ℕ → List Visit → Option Visit → ℕ
+next_place places cursor vs (Some v) = v.place
+next_place places cursor vs None = after_last places cursor (slice_get vs (length vs - 1))
+
+unfoldable pub new_cursor : ℕ → ℕ → ℕ → List Visit → ℕ
+new_cursor places cursor taken vs = next_place places cursor vs (slice_get vs taken)
+
+abbrev pub is_at : ℕ → Visit → Bool
+is_at p v = v.place == p
+
+-- how many of the items are of the group at a place
+abbrev pub share : ℕ → List Visit → ℕ
+share p vs = count_by (is_at p) vs
+
+-- what waits for a node in a group; nothing where it was dropped
+abbrev pub queue_of : ℕ → Option SlotState → List Entry
+queue_of dest None = []
+queue_of dest (Some s) = waiting s dest
+
+abbrev pub queue : ℕ → Row → List Entry
+queue dest row = queue_of dest row.slot
+
+-- what waits for a node, group by group
+abbrev pub queues : ℕ → List Row → List (List Entry)
+queues dest rows = map (queue dest) rows
+
+-- the group after it gave its first k items to a node
+abbrev pub took : ℕ → ℕ → Row → Row
+took dest k row = record row { slot = option_map (slot_took dest k) row.slot }
+
+-- each group, from a place on, after it gave its share
+unfoldable pub gave : ℕ → ℕ → List Visit → List Row → List Row
+gave dest p vs [] = []
+gave dest p vs (row ∷ rows) = took dest (share p vs) row ∷ gave dest (suc p) vs rows
+
+-- an entry of a group as an item of a packet
+abbrev pub item_of : Row → Entry → Item
+item_of row e = record { tenant = row.addr.tenant; group = row.addr.group; origin = e.origin.number; seq = e.seq; payload = e.payload }
+
+-- the items of visits
+abbrev pub item_at : List Row → Visit → Item
+item_at rows v = item_of (row_at rows v.place) v.item
+
+abbrev pub items : List Row → List Visit → List Item
+items rows vs = map (item_at rows) vs
+
+-- the place of a walk's first item
+abbrev pub first_place : List Visit → Option ℕ
+first_place [] = None
+first_place (v ∷ vs) = Some v.place

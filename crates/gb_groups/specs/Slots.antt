@@ -1,0 +1,31 @@
+-- How the groups of a node are kept: a map from addresses to keys, in order, and slots under keys.
+use Rattle.std.specs.Prelude.{ℕ, ◌≡◌, List, map, Option, None, IsSome, slice_index_or}
+use Rattle.slab.specs.Slab.{Slab, get}
+use Rattle.gb_types.specs.declared.address.Addr.{Addr}
+use Rattle.gb_slot.specs.SlotState.{SlotState}
+use Rattle.gb_groups.specs.declared.slots.Place.{Place}
+use Rattle.gb_groups.specs.declared.slots.Place.TheVariants.{Key, Gone}
+use Rattle.gb_groups.specs.SlotsValue.{Row, SlotsValue, HaveCounters, AreShort, AreApart}
+
+-- the slot where a group's place leads
+abbrev pub slot_under : Slab SlotState → Place → Option SlotState
+slot_under slots (Key key) = get slots key
+slot_under slots Gone = None
+
+abbrev pub row_of : Slab SlotState → Addr × Place → Row
+row_of slots e = record { addr = e.0; slot = slot_under slots e.1 }
+
+abbrev pub slots_of : List (Addr × Place) → Slab SlotState → SlotsValue
+slots_of entries slots = record { rows = map (row_of slots) entries }
+
+-- where the group at a place leads
+abbrev pub place_at : List (Addr × Place) → ℕ → Place
+place_at entries p = (slice_index_or entries p (record { 0 = record { tenant = 0; group = 0 }; 1 = Gone })).1
+
+-- each key has a slot, and no two places have one key; what slots know is within the limits
+pub record AreKept (entries : List (Addr × Place)) (slots : Slab SlotState) : Type 0 where
+  pub there : (p k : ℕ) → place_at entries p ≡ Key k → IsSome (get slots k)
+  pub alone : (p q k : ℕ) → place_at entries p ≡ Key k → place_at entries q ≡ Key k → p ≡ q
+  pub counters : HaveCounters (map (row_of slots) entries)
+  pub short : AreShort (map (row_of slots) entries)
+  pub apart : AreApart (map (row_of slots) entries)

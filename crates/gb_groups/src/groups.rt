@@ -1,0 +1,289 @@
+//! All groups of a node, with an index of what waits in them.
+ghost use Rattle.std.specs.Prelude.{◌≡◌, ◌==◌, ◌≤◌, ◌<◌, ◌+◌, is_some, ◌++◌, ◌∷◌, [], true, map, slice_set, ℕ, Some, None, length, sum_by, All, OnOk, OnErr, vec_len, vec_capacity};
+ghost use Rattle.gb_groups.specs.Fair.{IsFront, IsLongest};
+ghost use Rattle.gb_frame.specs.Packet.{item_of as view_item};
+ghost use Rattle.gb_types.specs.declared.limits.TheConstants.{PLACES};
+ghost use Rattle.gb_rules.specs.Group.{is_member, open_answer, shut_answer, drop_answer, say_answer, fetch_answer};
+ghost use Rattle.gb_rules.specs.Replied.{IsReply};
+ghost use Rattle.gb_rules.specs.declared.phase.Phase.TheVariants as Phase;
+ghost use Rattle.gb_slot.specs.Slot.{IsWithinLimits, new_slot, slot_done, slot_moved, slot_noticed, slot_said};
+ghost use Rattle.gb_groups.specs.SlotsValue.{row_at, on_slot, AreApart};
+ghost use Rattle.gb_groups.specs.AtAddress.{group_reply, drop_at, place_of, on_address, address_of, item_came, OthersKept};
+ghost use Rattle.gb_groups.specs.GroupsValue.{no_groups, walk_to, batch, packed, IsIndex, IsIndexBut};
+ghost use Rattle.gb_groups.specs.Packing.{items, size};
+ghost use Rattle.gb_frame.specs.Spelling.{items_text, IsItem};
+
+use crate::packing::{advance, measure};
+use crate::place_set::PlaceSet;
+use crate::slots::Slots;
+use gb_frame::item::ItemView;
+use gb_types::address::Addr;
+use gb_types::limits::{NODES, PAYLOAD};
+use gb_types::memory::OutOfMemory;
+use gb_types::message::MsgId;
+use gb_types::node::{NodeId, NodeSet};
+use gb_types::refusal::Refusal;
+use gb_types::reply::Reply;
+use gb_types::spec::Spec;
+use std::alloc::Global;
+use std::marker::Model;
+
+/// All groups of a node.
+#[derive(Drop)]
+pub struct Groups {
+    alloc: Global,
+    slots: Slots,
+    /// For each node, the places of the groups where something waits for it.
+    busy: [PlaceSet; NODES],
+    /// For each node, the place where packing for it goes on.
+    cursors: [usize; NODES],
+}
+
+impl Model for Groups {
+    ghost use Rattle.gb_groups.specs.GroupsValue.{GroupsValue, ArePlaces, IsIndex};
+    ghost use Rattle.std.specs.Coded.{codes, coded_ℕ};
+    ghost use Rattle.std.specs.Ordering.{nat_cmp};
+    ghost use Rattle.std.specs.FinSet as set;
+
+    ghost Value = { GroupsValue };
+
+    ghost coded = { Prim.hlevel (codes, set.code {R = nat_cmp} coded_ℕ) };
+
+    ghost view = { λ h. record { rows = h.slots.rows; cursors = h.cursors } };
+
+    ghost invariant = { λ h. ArePlaces h.slots.rows h.cursors × IsIndex h.slots.rows h.busy };
+}
+
+/// Notes in the index what waits in the group at a place.
+fn refresh(busy: &mut [PlaceSet], slots: &Slots, place: usize)
+    requires place { place < length slots.now.rows }
+    requires others { IsIndexBut place slots.now.rows busy.old }
+    ensures { IsIndex slots.now.rows busy.new }
+{
+    for index in 0..NODES {
+        if slots.waiting_for(place, NodeId::new(index as u8)) == 0 {
+            busy[index].remove(place);
+        } else {
+            busy[index].insert(place);
+        }
+    }
+}
+
+impl Groups {
+    /// No group.
+    pub fn new(alloc: Global) -> Groups
+        ensures { result ≡ no_groups }
+    {
+        Groups {
+            alloc,
+            slots: Slots::new(alloc),
+            busy: std::array::from_fn(|_| PlaceSet::new()),
+            cursors: [0; NODES],
+        }
+    }
+
+    /// How many groups were made, dropped ones among them.
+    pub fn len(&self) -> usize
+        ensures { result ≡ length self.now.rows }
+    {
+        self.slots.len()
+    }
+
+    /// Whether no group was made.
+    pub fn is_empty(&self) -> bool
+        ensures { result ≡ (length self.now.rows == 0) }
+    {
+        self.slots.len() == 0
+    }
+
+    /// Whether a group was ever made with this address.
+    pub fn contains(&self, addr: Addr) -> bool
+        ensures there { result ≡ is_some (place_of addr self.now.rows) }
+        ensures apart { AreApart self.now.rows }
+    {
+        self.slots.find(addr).is_some()
+    }
+
+    /// Takes an item in that came from a node. It is let fall where it is longer than a message may be,
+    /// where its group is not here, or by the group's rules.
+    pub fn item(&mut self, from: NodeId, item: ItemView<'_>)
+        ensures rows { self.new.rows ≡ item_came from (view_item item.entry) self.old.rows }
+        ensures cursors { self.new.cursors ≡ self.old.cursors }
+        ensures others { OthersKept (address_of (view_item item.entry)) self.old.rows self.new.rows }
+    {
+        let Some(origin) = NodeId::from_number(item.origin) else {
+            return;
+        };
+        if item.payload.len() > PAYLOAD {
+            return;
+        }
+        let addr = Addr {
+            tenant: item.tenant,
+            group: item.group,
+        };
+        if let Some(place) = self.slots.find(addr) {
+            self.slots.came(place, from, origin, item.seq, item.payload);
+            refresh(&mut self.busy, &self.slots, place);
+        }
+    }
+
+    /// Takes an acknowledgement of a message of a group from a node.
+    pub fn done(&mut self, dest: NodeId, addr: Addr, m: MsgId)
+        ensures rows { self.new.rows ≡ on_address addr (slot_done dest m) self.old.rows }
+        ensures cursors { self.new.cursors ≡ self.old.cursors }
+        ensures others { OthersKept addr self.old.rows self.new.rows }
+    {
+        if let Some(place) = self.slots.find(addr) {
+            self.slots.done(place, dest, m);
+        }
+    }
+
+    /// Makes a group, last in the order, at the node `me`, which has noticed these nodes.
+    pub fn make(
+        &mut self,
+        addr: Addr,
+        spec: &Spec,
+        me: NodeId,
+        noticed: &NodeSet,
+    ) -> Result<(), OutOfMemory>
+        requires limits { IsWithinLimits spec.now }
+        requires member { is_member spec.now me.number ≡ true }
+        requires fresh { place_of addr self.old.rows ≡ None }
+        requires few { length self.old.rows < PLACES }
+        ensures rows { OnOk result (self.new.rows ≡ self.old.rows ++ record { addr = addr; slot = Some (new_slot spec.now me noticed.now) } ∷ []) }
+        ensures cursors { self.new.cursors ≡ self.old.cursors }
+        ensures err { OnErr result (self.new ≡ self.old) }
+    {
+        self.slots.add(self.alloc, addr, spec, me, noticed)?;
+        Ok(())
+    }
+
+    /// Opens the group with this address.
+    pub fn open_group(&mut self, addr: Addr) -> Reply
+        ensures reply { result ≡ group_reply open_answer addr self.old.rows }
+        ensures rows { self.new.rows ≡ on_address addr (slot_moved Phase.Opened result) self.old.rows }
+        ensures cursors { self.new.cursors ≡ self.old.cursors }
+        ensures others { OthersKept addr self.old.rows self.new.rows }
+    {
+        match self.slots.find(addr) {
+            Some(place) => self.slots.open_group(place),
+            None => Reply::Refused(Refusal::NoGroup),
+        }
+    }
+
+    /// Shuts the group with this address.
+    pub fn shut_group(&mut self, addr: Addr) -> Reply
+        ensures reply { result ≡ group_reply shut_answer addr self.old.rows }
+        ensures rows { self.new.rows ≡ on_address addr (slot_moved Phase.Shut result) self.old.rows }
+        ensures cursors { self.new.cursors ≡ self.old.cursors }
+        ensures others { OthersKept addr self.old.rows self.new.rows }
+    {
+        match self.slots.find(addr) {
+            Some(place) => self.slots.shut_group(place),
+            None => Reply::Refused(Refusal::NoGroup),
+        }
+    }
+
+    /// Drops the group with this address: what waits in it is given up, and it keeps its place.
+    pub fn drop_group(&mut self, addr: Addr) -> Reply
+        ensures reply { result ≡ group_reply drop_answer addr self.old.rows }
+        ensures rows { self.new.rows ≡ drop_at addr self.old.rows }
+        ensures cursors { self.new.cursors ≡ self.old.cursors }
+        ensures others { OthersKept addr self.old.rows self.new.rows }
+    {
+        match self.slots.find(addr) {
+            Some(place) => {
+                let reply = self.slots.remove(place);
+                refresh(&mut self.busy, &self.slots, place);
+                reply
+            }
+            None => Reply::Refused(Refusal::NoGroup),
+        }
+    }
+
+    /// Says something in the group with this address.
+    pub fn say(&mut self, addr: Addr, payload: &[u8]) -> Reply
+        ensures reply { result ≡ group_reply (λ s. say_answer s payload.now) addr self.old.rows }
+        ensures rows { self.new.rows ≡ on_address addr (slot_said payload.now result) self.old.rows }
+        ensures cursors { self.new.cursors ≡ self.old.cursors }
+        ensures others { OthersKept addr self.old.rows self.new.rows }
+    {
+        match self.slots.find(addr) {
+            Some(place) => {
+                let reply = self.slots.say(place, payload);
+                refresh(&mut self.busy, &self.slots, place);
+                reply
+            }
+            None => Reply::Refused(Refusal::NoGroup),
+        }
+    }
+
+    /// Reads the log of the group with this address.
+    pub fn fetch(&self, addr: Addr, from: u32, most: u32) -> Reply
+        ensures { IsReply (group_reply (λ s. fetch_answer s from most) addr self.now.rows) result }
+    {
+        match self.slots.find(addr) {
+            Some(place) => self.slots.fetch(place, from, most),
+            None => Reply::Refused(Refusal::NoGroup),
+        }
+    }
+
+    /// Notices a node in the group at a place.
+    fn notice_at(&mut self, place: usize, who: NodeId)
+        requires { place < length self.old.rows }
+        ensures rows { self.new.rows ≡ slice_set self.old.rows place (on_slot (slot_noticed who) (row_at self.old.rows place)) }
+        ensures cursors { self.new.cursors ≡ self.old.cursors }
+    {
+        self.slots.notice(place, who);
+        refresh(&mut self.busy, &self.slots, place);
+    }
+
+    /// Notices a node in each group.
+    pub fn notice(&mut self, who: NodeId)
+        ensures rows { self.new.rows ≡ map (on_slot (slot_noticed who)) self.old.rows }
+        ensures cursors { self.new.cursors ≡ self.old.cursors }
+    {
+        for place in 0..self.slots.len() {
+            self.notice_at(place, who);
+        }
+    }
+
+    /// How many items the next batch for a node has where it may have so many bytes, 65,535 at most, and how many
+    /// bytes they take.
+    pub fn measure(&self, dest: NodeId, room: usize) -> (u16, usize)
+        requires { room ≤ 65535 }
+        ensures count { result.0 ≡ length (batch dest.number room self.now) }
+        ensures bytes { result.1 ≡ sum_by size (batch dest.number room self.now) }
+    {
+        let to = dest.index();
+        let active = self.busy[to].duplicate();
+        measure(&self.slots, active, dest, self.cursors[to], room)
+    }
+
+    /// Appends the texts of the items of the next batch for a node, the longest front of the walk that has so many
+    /// bytes, 65,535 at most, and gives how many they are. Takes no memory: `out` has capacity for as many bytes as
+    /// `measure` says.
+    pub fn pack_into(&mut self, dest: NodeId, room: usize, out: &mut Vec<u8>) -> u16
+        requires room { room ≤ 65535 }
+        requires capacity { vec_len out.old + sum_by size (batch dest.number room self.old) ≤ vec_capacity out.old }
+        ensures count { result ≡ length (batch dest.number room self.old) }
+        ensures written { out.new.items ≡ out.old.items ++ items_text (items self.old.rows (batch dest.number room self.old)) }
+        ensures fit { All IsItem (items self.old.rows (batch dest.number room self.old)) }
+        ensures len { vec_len out.new ≡ vec_len out.old + sum_by size (batch dest.number room self.old) }
+        ensures capacity { vec_capacity out.old ≤ vec_capacity out.new }
+        ensures state { self.new ≡ packed dest.number room self.old }
+        ensures longest { IsLongest room (walk_to dest.number self.old) (batch dest.number room self.old) }
+        ensures own { (p : ℕ) → p < length self.old.rows → IsFront dest.number room self.old p }
+    {
+        // The proof reads that no two groups have one address.
+        let _places = self.slots.len();
+        let to = dest.index();
+        let from = self.cursors[to];
+        let mut busy = self.busy[to].duplicate();
+        let (count, _bytes) = measure(&self.slots, busy.duplicate(), dest, from, room);
+        let cursor = advance(&mut self.slots, &mut busy, dest, from, count, out);
+        self.busy[to] = busy;
+        self.cursors[to] = cursor;
+        count
+    }
+}

@@ -1,0 +1,138 @@
+//! The walk round the groups, with no work for groups where nothing waits.
+ghost use Rattle.std.specs.Prelude.{◌≡◌, ◌<◌, ◌≤◌, ◌+◌, ◌++◌, [], ℕ, length, take, sum_by, slice_index_or, All, IfSome, MatchOption, vec_len, vec_capacity};
+ghost use Rattle.gb_frame.specs.Spelling.{items_text, IsItem};
+ghost use Rattle.gb_groups.specs.Ahead.{ahead, IsActive, IsTurn};
+ghost use Rattle.gb_groups.specs.Busy.{IsBusy};
+ghost use Rattle.gb_groups.specs.SlotsValue.{HaveCounters, AreApart};
+ghost use Rattle.gb_groups.specs.Packing.{queues, walk, size, fit, gave, new_cursor, items, first_place};
+
+use crate::place_set::PlaceSet;
+use crate::slots::Slots;
+use gb_frame::item::put_item;
+use gb_frame::limits::ITEM_HEADER;
+use gb_types::node::NodeId;
+
+/// The first place from one on, going round, where something waits for a node.
+pub fn next_place(slots: &Slots, busy: &PlaceSet, dest: NodeId, from: usize) -> Option<usize>
+    requires from { from ≤ length slots.now.rows }
+    requires index { IsBusy dest.number busy.now slots.now.rows }
+    ensures place { result ≡ first_place (walk from (queues dest.number slots.now.rows)) }
+    ensures within { IfSome result (λ p. p < length slots.now.rows) }
+    ensures busy { IfSome result (λ p. 0 < length (slice_index_or (queues dest.number slots.now.rows) p [])) }
+    ensures counters { HaveCounters slots.now.rows }
+    ensures apart { AreApart slots.now.rows }
+    ensures same { IfSome result (λ p. walk p (queues dest.number slots.now.rows) ≡ walk from (queues dest.number slots.now.rows)) }
+{
+    let _places = slots.len();
+    match busy.next(from) {
+        Some(place) => Some(place),
+        None => match busy.next(0) {
+            Some(early) => Some(early),
+            None => None,
+        },
+    }
+}
+
+/// Lets the groups give so many items to a node, appends the items' texts, and gives the new cursor. Takes no memory.
+pub fn advance(
+    slots: &mut Slots,
+    busy: &mut PlaceSet,
+    dest: NodeId,
+    from: usize,
+    count: u16,
+    out: &mut Vec<u8>,
+) -> usize
+    requires from { from ≤ length slots.old.rows }
+    requires index { IsBusy dest.number busy.old slots.old.rows }
+    requires there { count ≤ length (walk from (queues dest.number slots.old.rows)) }
+    requires capacity { vec_len out.old + sum_by size (take count (walk from (queues dest.number slots.old.rows))) ≤ vec_capacity out.old }
+    ensures within { result ≤ length slots.old.rows }
+    ensures rows { slots.new.rows ≡ gave dest.number 0 (take count (walk from (queues dest.number slots.old.rows))) slots.old.rows }
+    ensures index { IsBusy dest.number busy.new slots.new.rows }
+    ensures cursor { result ≡ new_cursor (length slots.old.rows) from count (walk from (queues dest.number slots.old.rows)) }
+    ensures written { out.new.items ≡ out.old.items ++ items_text (items slots.old.rows (take count (walk from (queues dest.number slots.old.rows)))) }
+    ensures fit { All IsItem (items slots.old.rows (take count (walk from (queues dest.number slots.old.rows)))) }
+    ensures len { vec_len out.new ≡ vec_len out.old + sum_by size (take count (walk from (queues dest.number slots.old.rows))) }
+    ensures capacity { vec_capacity out.old ≤ vec_capacity out.new }
+{
+    let mut at = from;
+    for _step in 0..count {
+        let place = next_place(slots, busy, dest, at).unwrap();
+        put_item(slots.peek(place, dest, 0), out);
+        slots.took(place, dest, 1);
+        if slots.waiting_for(place, dest) == 0 {
+            busy.remove(place);
+        }
+        at = place + 1;
+    }
+    match next_place(slots, busy, dest, at) {
+        Some(place) => place,
+        None => {
+            if count == 0 {
+                return from;
+            }
+            if at == slots.len() { 0 } else { at }
+        }
+    }
+}
+
+/// The next visit of the walk, where `lap` rounds were made and it stands at a place: its round and place.
+fn next_turn(
+    slots: &Slots,
+    active: &PlaceSet,
+    dest: NodeId,
+    from: usize,
+    lap: usize,
+    at: usize,
+) -> Option<(usize, usize)>
+    requires at { at ≤ length slots.now.rows }
+    requires begun { at < from → 0 < lap }
+    requires lap { lap ≤ 65535 }
+    requires index { IsActive active.now (ahead from lap at 0 (queues dest.number slots.now.rows)) }
+    ensures { MatchOption result (walk at (ahead from lap at 0 (queues dest.number slots.now.rows)) ≡ []) (λ r. IsTurn dest.number from lap at slots.now.rows r.0 r.1) }
+{
+    let _places = slots.len();
+    match active.next(at) {
+        Some(place) => Some((lap, place)),
+        None => match active.next(0) {
+            Some(early) => Some((lap + 1, early)),
+            None => None,
+        },
+    }
+}
+
+/// How many items fit of the walk to a node, and how many bytes they take. `active` is the node's set of busy places.
+pub fn measure(
+    slots: &Slots,
+    mut active: PlaceSet,
+    dest: NodeId,
+    from: usize,
+    room: usize,
+) -> (u16, usize)
+    requires from { from ≤ length slots.now.rows }
+    requires room { room ≤ 65535 }
+    requires index { IsBusy dest.number active slots.now.rows }
+    ensures count { result.0 ≡ length (fit room (walk from (queues dest.number slots.now.rows))) }
+    ensures bytes { result.1 ≡ sum_by size (fit room (walk from (queues dest.number slots.now.rows))) }
+{
+    let mut count: u16 = 0;
+    let mut at = from;
+    let mut lap = 0;
+    let mut left = room;
+    while let Some((round, place)) = next_turn(slots, &active, dest, from, lap, at) {
+        let nth = if place < from { round - 1 } else { round };
+        let item = slots.peek(place, dest, nth);
+        let bytes = ITEM_HEADER + item.payload.len();
+        if left < bytes {
+            return (count, room - left);
+        }
+        count += 1;
+        left -= bytes;
+        if slots.waiting_for(place, dest) == nth + 1 {
+            active.remove(place);
+        }
+        lap = round;
+        at = place + 1;
+    }
+    (count, room - left)
+}

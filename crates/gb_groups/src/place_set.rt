@@ -1,0 +1,85 @@
+//! Sets of places, 64 in a word.
+ghost use Rattle.std.specs.Prelude.{◌≡◌, ◌≢◌, ◌<◌, ◌≤◌, ◌+◌, ◌*◌, ℕ, List, replicate, length, MatchOption};
+ghost use Rattle.gb_types.specs.declared.limits.TheConstants.{PLACES};
+ghost use Rattle.gb_groups.specs.PlaceSet.{has, IsNext};
+
+use std::marker::Model;
+
+/// A set of places below `PLACES`. Contracts see its words.
+#[derive(Drop)]
+pub struct PlaceSet {
+    words: [u64; 64],
+}
+
+impl Model for PlaceSet {
+    ghost use Rattle.std.specs.Prelude.{ℕ, List, length, ◌≡◌};
+
+    ghost Value = { List ℕ };
+
+    ghost view = { λ s. s.words };
+
+    ghost invariant = { λ s. length s.words ≡ 64 };
+}
+
+impl PlaceSet {
+    /// No place.
+    pub fn new() -> PlaceSet
+        ensures { (p : ℕ) → has result p ≡ 0 }
+    {
+        PlaceSet { words: [0; 64] }
+    }
+
+    /// The same set.
+    pub fn duplicate(&self) -> PlaceSet
+        ensures { result ≡ self.now }
+    {
+        PlaceSet { words: self.words }
+    }
+
+    /// The least place of the set at or after one.
+    pub fn next(&self, from: usize) -> Option<usize>
+        ensures { MatchOption result ((p : ℕ) → from ≤ p → has self.now p ≡ 0) (λ q. IsNext self.now from q) }
+    {
+        next_set(&self.words, from)
+    }
+
+    /// Takes a place out of the set.
+    pub fn remove(&mut self, place: usize)
+        requires { place < PLACES }
+        ensures here { has self.new place ≡ 0 }
+        ensures others { (p : ℕ) → p ≢ place → has self.new p ≡ has self.old p }
+    {
+        self.words[place / 64] &= !(1 << (place % 64));
+    }
+
+    /// Puts a place into the set.
+    pub fn insert(&mut self, place: usize)
+        requires { place < PLACES }
+        ensures here { has self.new place ≡ 1 }
+        ensures others { (p : ℕ) → p ≢ place → has self.new p ≡ has self.old p }
+    {
+        self.words[place / 64] |= 1 << (place % 64);
+    }
+}
+
+/// The least place of the set at or after one.
+fn next_set(words: &[u64], from: usize) -> Option<usize>
+    requires { length words.now ≤ 64 }
+    ensures { MatchOption result ((p : ℕ) → from ≤ p → has words.now p ≡ 0) (λ q. IsNext words.now from q) }
+{
+    let first = from / 64;
+    if words.len() <= first {
+        return None;
+    }
+    let begun = words[first] & (u64::MAX << (from % 64));
+    if begun != 0 {
+        return Some(first * 64 + begun.trailing_zeros() as usize);
+    }
+    for index in first + 1..words.len() {
+        let word = words[index];
+        if word != 0 {
+            return Some(index * 64 + word.trailing_zeros() as usize);
+        }
+    }
+    None
+}

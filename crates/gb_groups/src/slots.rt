@@ -1,0 +1,309 @@
+//! The slots of a node's groups, in the order in which they were made.
+ghost use Rattle.std.specs.Prelude.{◌≡◌, ◌≢◌, ◌<◌, ◌≤◌, ◌+◌, ◌&&◌, [], ℕ, List, Option, Some, None, length, slice_get, slice_index_or, slice_set, position, ◌++◌, ◌∷◌, OnOk, OnErr, true, IfSome, MatchOption, option_map};
+ghost use Rattle.gb_types.specs.declared.limits.TheConstants.{PAYLOAD};
+ghost use Rattle.gb_rules.specs.Address.{is_addr};
+ghost use Rattle.gb_rules.specs.Group.{is_member, open_answer, shut_answer, drop_answer, say_answer, fetch_answer};
+ghost use Rattle.gb_rules.specs.Replied.{done_reply, said_reply, IsReply};
+ghost use Rattle.gb_rules.specs.declared.phase.Phase.TheVariants as Phase;
+ghost use Rattle.gb_slot.specs.Slot.{IsWithinLimits, new_slot, waiting, slot_came, slot_done, slot_noticed, slot_moved, slot_said};
+ghost use Rattle.gb_groups.specs.SlotsValue.{no_entry, row_at, on_slot, HaveCounters, IsShort, AreApart, unless_gone, gone};
+ghost use Rattle.gb_frame.specs.Packet.{item_of as view_item};
+ghost use Rattle.gb_groups.specs.Packing.{queue, queues, took, item_of};
+ghost use Rattle.gb_groups.specs.Slots.{place_at};
+
+use gb_frame::item::ItemView;
+use gb_slot::slot::Slot;
+use gb_types::address::Addr;
+use gb_types::entry::Entries;
+use gb_types::memory::OutOfMemory;
+use gb_types::message::MsgId;
+use gb_types::node::{NodeId, NodeSet};
+use gb_types::refusal::Refusal;
+use gb_types::reply::Reply;
+use gb_types::spec::Spec;
+use indexmap::IndexMap;
+use slab::Slab;
+use std::alloc::Global;
+use std::marker::Model;
+
+/// Where a group's slot stands: under a key, or nowhere after the group was dropped.
+#[derive(Clone, Copy, Drop)]
+enum Place {
+    Key(usize),
+    Gone,
+}
+
+/// The slots of a node's groups, in the order in which they were made. A dropped group keeps its place.
+#[derive(Drop)]
+pub struct Slots {
+    places: IndexMap<Addr, Place>,
+    slots: Slab<Slot>,
+}
+
+impl Model for Slots {
+    ghost use Rattle.gb_groups.specs.SlotsValue.{SlotsValue};
+    ghost use Rattle.std.specs.Coded.{codes, coded_ℕ};
+    ghost use Rattle.std.specs.Ordering.{nat_cmp};
+    ghost use Rattle.std.specs.FinSet as set;
+
+    ghost Value = { SlotsValue };
+
+    ghost coded = { Prim.hlevel (codes, set.code {R = nat_cmp} coded_ℕ) };
+
+    ghost use Rattle.gb_groups.specs.Slots.{slots_of, AreKept};
+
+    ghost view = { λ g. slots_of g.places.entries g.slots };
+
+    ghost invariant = { λ g. AreKept g.places.entries g.slots };
+}
+
+/// The key of the slot of the group at a place, unless it was dropped.
+fn key_at(places: &IndexMap<Addr, Place>, place: usize) -> Option<usize>
+    ensures { MatchOption result (place_at places.now.entries place ≡ Place.Gone) (λ k. place_at places.now.entries place ≡ Place.Key k) }
+{
+    match places.get_index(place) {
+        Some((_, Place::Key(key))) => Some(*key),
+        _ => None,
+    }
+}
+
+impl Slots {
+    /// No groups.
+    pub fn new(alloc: Global) -> Slots
+        ensures { result.rows ≡ [] }
+    {
+        Slots {
+            places: IndexMap::new(alloc),
+            slots: Slab::new(alloc),
+        }
+    }
+
+    /// How many groups there are, dropped ones among them.
+    pub fn len(&self) -> usize
+        ensures len { result ≡ length self.now.rows }
+        ensures counters { HaveCounters self.now.rows }
+        ensures apart { AreApart self.now.rows }
+    {
+        self.places.len()
+    }
+
+    /// The place of the group with this address.
+    pub fn find(&self, addr: Addr) -> Option<usize>
+        ensures place { result ≡ position (λ row. is_addr addr row.addr) self.now.rows }
+        ensures apart { AreApart self.now.rows }
+    {
+        self.places.get_index_of(&addr)
+    }
+
+    /// The slot of the group at a place, unless it was dropped.
+    pub fn slot(&self, place: usize) -> Option<&Slot>
+        ensures slot { MatchOption result ((row_at self.now.rows place).slot ≡ None) (λ s. (row_at self.now.rows place).slot ≡ Some s.now) }
+        ensures short { IfSome result (λ s. IsShort (Some s.now)) }
+    {
+        let Some(key) = key_at(&self.places, place) else {
+            return None;
+        };
+        self.slots.get(key)
+    }
+
+    /// The address of the group at a place.
+    pub fn addr(&self, place: usize) -> Addr
+        requires { place < length self.now.rows }
+        ensures { result ≡ (row_at self.now.rows place).addr }
+    {
+        let (addr, _) = self.places.get_index(place).unwrap();
+        *addr
+    }
+
+    /// How many items wait for a node in the group at a place.
+    pub fn waiting_for(&self, place: usize, dest: NodeId) -> usize
+        ensures { result ≡ length (queue dest.number (row_at self.now.rows place)) }
+    {
+        match self.slot(place) {
+            Some(slot) => slot.waiting_for(dest),
+            None => 0,
+        }
+    }
+
+    /// One of the items that wait for a node in the group at a place; they count from 0.
+    pub fn peek(&self, place: usize, dest: NodeId, nth: usize) -> ItemView<'_>
+        requires place { place < length self.now.rows }
+        requires item { nth < length (queue dest.number (row_at self.now.rows place)) }
+        ensures item { view_item result ≡ item_of (row_at self.now.rows place) (slice_index_or (queue dest.number (row_at self.now.rows place)) nth no_entry) }
+        ensures short { length result.payload.now ≤ PAYLOAD }
+    {
+        let addr = self.addr(place);
+        let Some(slot) = self.slot(place) else {
+            unreachable!()
+        };
+        let (m, payload) = slot.peek_at(dest, nth);
+        ItemView {
+            tenant: addr.tenant,
+            group: addr.group,
+            origin: m.origin.number,
+            seq: m.seq,
+            payload,
+        }
+    }
+
+    /// The first items that wait for a node in the group at a place, so many, are taken to be sent to it.
+    pub fn took(&mut self, place: usize, dest: NodeId, count: usize)
+        requires { count ≤ length (queue dest.number (row_at self.old.rows place)) }
+        ensures { self.new.rows ≡ slice_set self.old.rows place (took dest.number count (row_at self.old.rows place)) }
+    {
+        if let Some(key) = key_at(&self.places, place) {
+            if let Some(slot) = self.slots.get_mut(key) {
+                slot.took(dest, count);
+            }
+        }
+    }
+
+    /// Takes an item that came from a node into the group at a place.
+    pub fn came(&mut self, place: usize, from: NodeId, origin: NodeId, seq: u16, payload: &[u8])
+        requires { length payload.now ≤ PAYLOAD }
+        ensures { self.new.rows ≡ slice_set self.old.rows place (on_slot (slot_came from (record { origin = origin; seq = seq; payload = payload.now })) (row_at self.old.rows place)) }
+    {
+        if let Some(key) = key_at(&self.places, place) {
+            if let Some(slot) = self.slots.get_mut(key) {
+                slot.came(from, origin, seq, payload);
+            }
+        }
+    }
+
+    /// Takes an acknowledgement of a message of the group at a place from a node.
+    pub fn done(&mut self, place: usize, dest: NodeId, m: MsgId)
+        ensures { self.new.rows ≡ slice_set self.old.rows place (on_slot (slot_done dest m) (row_at self.old.rows place)) }
+    {
+        if let Some(key) = key_at(&self.places, place) {
+            if let Some(slot) = self.slots.get_mut(key) {
+                slot.done(dest, m);
+            }
+        }
+    }
+
+    /// Notices a node in the group at a place.
+    pub fn notice(&mut self, place: usize, who: NodeId)
+        ensures { self.new.rows ≡ slice_set self.old.rows place (on_slot (slot_noticed who) (row_at self.old.rows place)) }
+    {
+        if let Some(key) = key_at(&self.places, place) {
+            if let Some(slot) = self.slots.get_mut(key) {
+                slot.notice(who);
+            }
+        }
+    }
+
+    /// Opens the group at a place. Spent where it was dropped.
+    pub fn open_group(&mut self, place: usize) -> Reply
+        ensures reply { result ≡ unless_gone open_answer (row_at self.old.rows place).slot }
+        ensures rows { self.new.rows ≡ slice_set self.old.rows place (on_slot (slot_moved Phase.Opened result) (row_at self.old.rows place)) }
+    {
+        if let Some(key) = key_at(&self.places, place) {
+            if let Some(slot) = self.slots.get_mut(key) {
+                return replied(slot.open_group());
+            }
+        }
+        Reply::Refused(Refusal::Spent)
+    }
+
+    /// Shuts the group at a place. Spent where it was dropped.
+    pub fn shut_group(&mut self, place: usize) -> Reply
+        ensures reply { result ≡ unless_gone shut_answer (row_at self.old.rows place).slot }
+        ensures rows { self.new.rows ≡ slice_set self.old.rows place (on_slot (slot_moved Phase.Shut result) (row_at self.old.rows place)) }
+    {
+        if let Some(key) = key_at(&self.places, place) {
+            if let Some(slot) = self.slots.get_mut(key) {
+                return replied(slot.shut_group());
+            }
+        }
+        Reply::Refused(Refusal::Spent)
+    }
+
+    /// Says something in the group at a place. Spent where it was dropped.
+    pub fn say(&mut self, place: usize, payload: &[u8]) -> Reply
+        ensures reply { result ≡ unless_gone (λ s. say_answer s payload.now) (row_at self.old.rows place).slot }
+        ensures rows { self.new.rows ≡ slice_set self.old.rows place (on_slot (slot_said payload.now result) (row_at self.old.rows place)) }
+    {
+        if let Some(key) = key_at(&self.places, place) {
+            if let Some(slot) = self.slots.get_mut(key) {
+                return said(slot.say(payload));
+            }
+        }
+        Reply::Refused(Refusal::Spent)
+    }
+
+    /// Reads the log of the group at a place. Spent where it was dropped.
+    pub fn fetch(&self, place: usize, from: u32, most: u32) -> Reply
+        ensures { IsReply (unless_gone (λ s. fetch_answer s from most) (row_at self.now.rows place).slot) result }
+    {
+        let Some(slot) = self.slot(place) else {
+            return Reply::Refused(Refusal::Spent);
+        };
+        match slot.fetch(from, most) {
+            Ok(entries) => Reply::Log(Entries::from(entries)),
+            Err(why) => Reply::Refused(why),
+        }
+    }
+
+    /// Gives up the group at a place, which it keeps. Spent where it was dropped before.
+    pub fn remove(&mut self, place: usize) -> Reply
+        ensures reply { result ≡ unless_gone drop_answer (row_at self.old.rows place).slot }
+        ensures rows { self.new.rows ≡ slice_set self.old.rows place (gone (row_at self.old.rows place)) }
+    {
+        let Some(key) = key_at(&self.places, place) else {
+            return Reply::Refused(Refusal::Spent);
+        };
+        if let Some(stands) = self.places.get_index_mut(place) {
+            *stands = Place::Gone;
+        }
+        give_up(self.slots.try_remove(key));
+        Reply::Done
+    }
+
+    /// Makes a group behind the others, at the node `me`, which has noticed these nodes.
+    pub fn add(
+        &mut self,
+        alloc: Global,
+        addr: Addr,
+        spec: &Spec,
+        me: NodeId,
+        noticed: &NodeSet,
+    ) -> Result<(), OutOfMemory>
+        requires limits { IsWithinLimits spec.now }
+        requires member { is_member spec.now me.number ≡ true }
+        requires fresh { position (λ row. is_addr addr row.addr) self.old.rows ≡ None }
+        ensures rows { OnOk result (self.new.rows ≡ self.old.rows ++ record { addr = addr; slot = Some (new_slot spec.now me noticed.now) } ∷ []) }
+        ensures err { OnErr result (self.new ≡ self.old) }
+    {
+        self.places.reserve(1)?;
+        self.slots.reserve(1)?;
+        let Ok(slot) = Slot::new(alloc, spec.duplicate(), me, noticed) else {
+            return Err(OutOfMemory);
+        };
+        let key = self.slots.insert_reserved(slot);
+        self.places.insert(addr, Place::Key(key)).unwrap();
+        Ok(())
+    }
+}
+
+/// Drops a slot.
+fn give_up(_slot: Option<Slot>) {}
+
+/// The reply that a call's result is.
+fn replied(done: Result<(), Refusal>) -> Reply
+    ensures { result ≡ done_reply done }
+{
+    match done {
+        Ok(()) => Reply::Done,
+        Err(why) => Reply::Refused(why),
+    }
+}
+
+/// The reply that the result of a say is.
+fn said(seq: Result<u16, Refusal>) -> Reply
+    ensures { result ≡ said_reply seq }
+{
+    match seq {
+        Ok(seq) => Reply::Said(seq),
+        Err(why) => Reply::Refused(why),
+    }
+}

@@ -1,5 +1,0 @@
-use Rattle.gb_table.proofs.PlaceSetLemmas.{has-none}
-use Rattle.gb_table.proofs.place_set.PlaceSet.new.Goals as goal
-
-pub returns : goal.returns
-returns c = λ p. has-none 64 p
