@@ -83,7 +83,7 @@ fits-step : (b : Bool) (room : ℕ) (v : Visit) (vs : List Visit) → ltb room (
 fits-step true room v vs e h = omega arith
 fits-step false room v vs e h = let l = ltb-false room (size v) e in let t = h l in let u = sum_by-cons size v (fit (room - size v) vs) in omega arith
 
-fit-fits : (room : ℕ) (vs : List Visit) → total (fit room vs) ≤ room
+pub fit-fits : (room : ℕ) (vs : List Visit) → total (fit room vs) ≤ room
 unfolding fit
 fit-fits room [] = omega arith
 fit-fits room (v ∷ vs) = fits-step (ltb room (size v)) room v vs refl (λ _. fit-fits (room - size v) vs)

@@ -254,6 +254,7 @@ impl Groups {
         requires { room ≤ 65535 }
         ensures count { result.0 ≡ length (batch dest.number room self.now) }
         ensures bytes { result.1 ≡ sum_by size (batch dest.number room self.now) }
+        ensures most { result.1 ≤ room }
     {
         let to = dest.index();
         let active = self.busy[to].duplicate();

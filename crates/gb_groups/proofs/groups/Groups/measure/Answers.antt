@@ -1,4 +1,6 @@
-use Rattle.gb_groups.proofs.BatchLemmas.{count_is, bytes_is}
+use Rattle.std.proofs.Common.{arith, get_or}
+use Rattle.gb_groups.specs.Packing.{walk, queues}
+use Rattle.gb_groups.proofs.BatchLemmas.{count_is, bytes_is, fit-fits}
 use Rattle.gb_groups.proofs.IndexLemmas.{index_at}
 use Rattle.gb_groups.proofs.groups.Groups.measure.Goals as goal
 
@@ -13,3 +15,8 @@ returns-clause-count c =
 pub returns-clause-bytes : goal.returns-clause-bytes
 returns-clause-bytes c =
     bytes_is c.args.dest.number c.index-to.result c.args.room _ (record { rows = c.self.inside.slots.rows; cursors = c.self.inside.cursors }) c.args.self.now c.index-to.ensures.value c.measure.ensures.bytes c.self.view_is
+
+pub returns-clause-most : goal.returns-clause-most
+returns-clause-most c =
+    let fits = fit-fits c.args.room (walk (get_or c.self.inside.cursors c.index-to.result 0) (queues c.args.dest.number c.self.inside.slots.rows)) in
+    omega (arith, fits, c.measure.ensures.bytes)
