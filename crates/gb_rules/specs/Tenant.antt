@@ -1,9 +1,9 @@
 -- The rules of tenants and of making groups, in the order of their refusals.
-use Rattle.std.specs.Prelude.{ℕ, ◌||◌, not, Bool, Option, Some, None, nat_lt, nat_le, nat_eq, if◌then◌else◌}
+use Rattle.std.specs.Prelude.{ℕ, ◌+◌, ◌||◌, not, Bool, List, find, sum_by, Option, Some, None, nat_lt, nat_le, nat_eq, if◌then◌else◌}
 use Rattle.std.specs.List.{list_all}
 use Rattle.std.specs.FinSet as set
 use Rattle.gb_types.specs.declared.limits.TheConstants.{GROUPS, MESSAGES, BYTES, WINDOW}
-use Rattle.gb_types.specs.declared.refusal.Refusal.TheVariants.{Denied, NoGroup, Spent, BadMembers, OverReserve}
+use Rattle.gb_types.specs.declared.refusal.Refusal.TheVariants.{Denied, NoGroup, Spent, BadMembers, OverReserve, NoRoom, TenantThere}
 use Rattle.gb_types.specs.declared.reply.Reply.{Reply}
 use Rattle.gb_types.specs.declared.reply.Reply.TheVariants.{Done, Refused}
 use Rattle.gb_types.specs.declared.spec.Spec.{Spec}
@@ -20,6 +20,22 @@ abbrev pub is_over_limits : TenantRow → Bool
 is_over_limits row =
     nat_eq row.tenant 0 || (nat_eq row.groups 0 || (nat_lt GROUPS row.groups || (nat_eq row.msgs 0 || (nat_lt MESSAGES row.msgs || (nat_lt BYTES row.bytes
     || (nat_eq row.window 0 || nat_lt WINDOW row.window))))))
+
+-- the row of a tenant
+abbrev pub row_of : ℕ → List TenantRow → Option TenantRow
+row_of tenant rows = find (λ row. nat_eq row.tenant tenant) rows
+
+-- how many groups these tenants may make in all
+abbrev pub reserved : List TenantRow → ℕ
+reserved rows = sum_by (λ row. row.groups) rows
+
+-- a tenant is taken in once, where the groups of all tenants, which were so many before, are no more than so many places
+abbrev pub tenant_answer : ℕ → ℕ → Bool → TenantRow → Reply
+tenant_answer places before there row =
+    if is_over_limits row then Refused OverReserve
+    else (if there then Refused TenantThere
+    else (if nat_lt places (before + row.groups) then Refused NoRoom
+    else Done))
 
 -- members are none, without this node, or beyond the cluster
 abbrev pub is_bad : ℕ → ℕ → Spec → Bool

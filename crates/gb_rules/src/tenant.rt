@@ -1,6 +1,6 @@
 //! What is answered where a tenant is taken in, and where it makes a group.
 ghost use Rattle.std.specs.Prelude.{◌≡◌};
-ghost use Rattle.gb_rules.specs.Tenant.{is_over_limits, is_bad, is_over, make_answer};
+ghost use Rattle.gb_rules.specs.Tenant.{is_over_limits, tenant_answer, is_bad, is_over, make_answer};
 
 use crate::reserve::Reserve;
 use gb_types::limits::{BYTES, GROUPS, MESSAGES, WINDOW};
@@ -20,6 +20,24 @@ pub fn is_over_limits(row: &TenantRow) -> bool
         return true;
     }
     row.window == 0 || row.window > WINDOW
+}
+
+/// The answer to the row of a tenant, which may be `there` already, at a node with so many places, of which other
+/// tenants had reserved so many `before`: OverReserve, TenantThere, NoRoom where the tenant's groups would pass the
+/// places, in this order.
+pub fn answer_tenant(places: u32, before: u32, there: bool, row: &TenantRow) -> Reply
+    ensures { result ≡ tenant_answer places before there row.now }
+{
+    if is_over_limits(row) {
+        return Reply::Refused(Refusal::OverReserve);
+    }
+    if there {
+        return Reply::Refused(Refusal::TenantThere);
+    }
+    if before as usize + row.groups as usize > places as usize {
+        return Reply::Refused(Refusal::NoRoom);
+    }
+    Reply::Done
 }
 
 /// Whether members are none, without this node, or beyond a cluster of so many nodes.

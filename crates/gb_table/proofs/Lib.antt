@@ -1,0 +1,4 @@
+pub mod CountLemmas
+pub mod AddrLemmas
+pub mod TenantLemmas
+pub mod RequestLemmas

@@ -1,0 +1,151 @@
+-- The rows of tenants, in their map and in the rules.
+use Rattle.std.proofs.Common.{◌≡◌, ℕ, zero, suc, ◌+◌, ◌≤◌, ◌<◌, List, [], ◌∷◌, ◌++◌, get_or, refl, ap, sym, ◌∙◌, subst, true, false, arith, inl, inr, eq-eqb}
+use Rattle.std.specs.Prelude.{Bool, cond, ◌||◌, nat_lt, nat_le, nat_eq, Option, Some, None, All, if◌then◌else◌}
+use Rattle.std.specs.Map.{lookup}
+use Rattle.std.proofs.lemmas.Bool.{cases_eq, ltb-false, leb-false, ne_eqb}
+use Rattle.std.proofs.lemmas.List.{map-append}
+use Rattle.std.proofs.lemmas.List.Elements.{All-push}
+use Rattle.std.proofs.lemmas.List.Sums.{sum_by-append}
+use Rattle.indexmap.specs.IndexMap.{insert_entry}
+use Rattle.gb_types.specs.declared.address.Addr.{Addr}
+use Rattle.gb_types.specs.declared.limits.TheConstants.{GROUPS, MESSAGES, BYTES, WINDOW}
+use Rattle.gb_types.specs.declared.refusal.Refusal.TheVariants.{OverReserve, TenantThere, NoRoom, NoGroup, Spent, BadMembers}
+use Rattle.gb_types.specs.declared.reply.Reply.TheVariants.{Done, Refused}
+use Rattle.gb_types.specs.declared.spec.Spec.{Spec}
+use Rattle.gb_types.specs.declared.spec.TenantRow.{TenantRow}
+use Rattle.gb_rules.specs.Tenant.{is_over_limits, is_bad, is_over, row_of, reserve_of, reserved, tenant_answer, make_answer}
+use Rattle.gb_rules.specs.declared.reserve.Reserve.{Reserve}
+use Rattle.gb_slot.specs.Slot.{IsWithinLimits}
+use Rattle.gb_table.specs.Kept.{rows_of, AreKeyed}
+use Rattle.gb_table.specs.Within.{IsWithin}
+
+eq-sym : (a b : ℕ) → nat_eq a b ≡ nat_eq b a
+eq-sym a b = elim (cases_eq a b) [
+  | inl e ↦ eq-eqb a b e ∙ sym (eq-eqb b a (sym e))
+  | inr ne ↦ ne_eqb a b ne ∙ sym (ne_eqb b a (λ e. ne (sym e)))
+]
+
+-- a look-up by the tenant finds its row
+pub rows-lookup : (test : ℕ → Bool) (tenant : ℕ) (es : List (ℕ × TenantRow)) → ((k : ℕ) → test k ≡ nat_eq tenant k) → AreKeyed es → lookup test es ≡ row_of tenant (rows_of es)
+rows-lookup test tenant [] h keyed = refl
+rows-lookup test tenant (e ∷ es) h keyed =
+    let k : e.0 ≡ e.1.tenant = keyed zero e (omega arith) in
+    let t : test e.0 ≡ nat_eq e.1.tenant tenant = h e.0 ∙ eq-sym tenant e.0 ∙ ap (λ n. nat_eq n tenant) k in
+    ap (λ b. cond b (Some e.1) (lookup test es)) t ∙ ap (λ o. cond (nat_eq e.1.tenant tenant) (Some e.1) o) (rows-lookup test tenant es h (λ k d l. keyed (suc k) d (omega arith)))
+
+-- nobody is found: the first is another, and nobody is found among the rest
+first_other : (b : Bool) (row : TenantRow) (rest : Option TenantRow) → cond b (Some row) rest ≡ None → (b ≡ false) × (rest ≡ None)
+first_other true row rest h = absurd (cc)
+first_other false row rest h = (refl, h)
+
+pub insert-last : (eq : ℕ → ℕ → Bool) (tenant : ℕ) (row : TenantRow) (es : List (ℕ × TenantRow)) → ((k : ℕ) → eq tenant k ≡ nat_eq tenant k) → AreKeyed es → row_of tenant (rows_of es) ≡ None → insert_entry eq es tenant row ≡ es ++ (tenant, row) ∷ []
+insert-last eq tenant row [] h keyed none = refl
+insert-last eq tenant row (e ∷ es) h keyed none =
+    let k : e.0 ≡ e.1.tenant = keyed zero e (omega arith) in
+    let other = first_other (nat_eq e.1.tenant tenant) e.1 (row_of tenant (rows_of es)) none in
+    let off : eq tenant e.0 ≡ false = h e.0 ∙ eq-sym tenant e.0 ∙ ap (λ n. nat_eq n tenant) k ∙ other.0 in
+    rw off (ap (λ xs. e ∷ xs) (insert-last eq tenant row es h (λ k d l. keyed (suc k) d (omega arith)) other.1))
+
+pub keyed-more : (row : TenantRow) (es : List (ℕ × TenantRow)) → AreKeyed es → AreKeyed (es ++ (row.tenant, row) ∷ [])
+keyed-more row es h = All-push (λ e. e.0 ≡ e.1.tenant) es (row.tenant, row) h refl
+
+pub rows-more : (row : TenantRow) (es : List (ℕ × TenantRow)) → rows_of (es ++ (row.tenant, row) ∷ []) ≡ rows_of es ++ row ∷ []
+rows-more row es = map-append (λ e. e.1) es ((row.tenant, row) ∷ [])
+
+pub reserved-more : (rows : List TenantRow) (row : TenantRow) → reserved (rows ++ row ∷ []) ≡ reserved rows + row.groups
+reserved-more rows row = sum_by-append (λ (r : TenantRow). r.groups) rows (row ∷ []) ∙ omega arith
+
+-- who is found is found among more
+found-more : (tenant : ℕ) (rows : List TenantRow) (more row : TenantRow) → row_of tenant rows ≡ Some row → row_of tenant (rows ++ more ∷ []) ≡ Some row
+found-more tenant [] more row e = absurd (cc)
+found-more tenant (r ∷ rs) more row e =
+    let step : cond (nat_eq r.tenant tenant) (Some r) (row_of tenant rs) ≡ Some row → cond (nat_eq r.tenant tenant) (Some r) (row_of tenant (rs ++ more ∷ [])) ≡ Some row =
+    elim (nat_eq r.tenant tenant) as (λ b. cond b (Some r) (row_of tenant rs) ≡ Some row → cond b (Some r) (row_of tenant (rs ++ more ∷ [])) ≡ Some row) [
+      | true ↦ λ f. f
+      | false ↦ λ f. found-more tenant rs more row f
+    ] in
+    step e
+
+pub found_within : (P : TenantRow → Type 0) (tenant : ℕ) (rows : List TenantRow) (row : TenantRow) → All P rows → row_of tenant rows ≡ Some row → P row
+found_within P tenant [] row all e = absurd (cc)
+found_within P tenant (r ∷ rs) row all e =
+    let step : cond (nat_eq r.tenant tenant) (Some r) (row_of tenant rs) ≡ Some row → P row =
+    elim (nat_eq r.tenant tenant) as (λ b. cond b (Some r) (row_of tenant rs) ≡ Some row → P row) [
+      | true ↦ λ f. let g : r ≡ row = cc in subst P g (all zero r (omega arith))
+      | false ↦ λ f. found_within P tenant rs row (λ k d l. all (suc k) d (omega arith)) f
+    ] in
+    step e
+
+-- what a row that is taken in is like
+tenant_by : (over there full : Bool) → Done ≡ (if over then Refused OverReserve else (if there then Refused TenantThere else (if full then Refused NoRoom else Done))) → (over ≡ false) × ((there ≡ false) × (full ≡ false))
+tenant_by false false false e = (refl, (refl, refl))
+tenant_by true there full e = absurd (cc)
+tenant_by false true full e = absurd (cc)
+tenant_by false false true e = absurd (cc)
+
+pub tenant_done : (places before : ℕ) (there : Bool) (row : TenantRow) → Done ≡ tenant_answer places before there row → (is_over_limits row ≡ false) × ((there ≡ false) × (before + row.groups ≤ places))
+tenant_done places before there row e =
+    let h = tenant_by (is_over_limits row) there (nat_lt places (before + row.groups)) e in
+    (h.0, (h.1.0, ltb-false places (before + row.groups) h.1.1))
+
+pub within_added : (places : ℕ) (tenants : List TenantRow) (addrs : List Addr) (row : TenantRow) → IsWithin places tenants addrs → is_over_limits row ≡ false → reserved tenants + row.groups ≤ places → IsWithin places (tenants ++ row ∷ []) addrs
+within_added places tenants addrs row w over room = record {
+  limits = All-push (λ r. is_over_limits r ≡ false) tenants row w.limits over;
+  sum = let n = reserved-more tenants row in omega arith;
+  most = w.most;
+  groups = λ k d l. let h = w.groups k d l in (h.0, found-more (get_or addrs k d).tenant tenants row h.0 h.1, h.2);
+}
+
+-- what a group that is made is like
+make_by : (past made bad over : Bool) → Done ≡ (if past then Refused NoGroup else (if made then Refused Spent else (if bad then Refused BadMembers else (if over then Refused OverReserve else Done)))) → (past ≡ false) × ((made ≡ false) × ((bad ≡ false) × (over ≡ false)))
+make_by false false false false e = (refl, (refl, (refl, refl)))
+make_by true made bad over e = absurd (cc)
+make_by false true bad over e = absurd (cc)
+make_by false false true over e = absurd (cc)
+make_by false false false true e = absurd (cc)
+
+pub make_done : (nodes me number : ℕ) (made : Bool) (spec : Spec) (reserve : Reserve) → Done ≡ make_answer nodes me number made spec reserve → (number < reserve.groups) × ((made ≡ false) × ((is_bad nodes me spec ≡ false) × (is_over reserve spec ≡ false)))
+make_done nodes me number made spec reserve e =
+    let h = make_by (nat_le reserve.groups number) made (is_bad nodes me spec) (is_over reserve spec) e in
+    (leb-false reserve.groups number h.0, (h.1.0, (h.1.1.0, h.1.1.1)))
+
+neither : (a b : Bool) → (a || b) ≡ false → (a ≡ false) × (b ≡ false)
+neither false b h = (refl, h)
+neither true b h = absurd (cc)
+
+over_limits_by : (a b c d f g h i : Bool) → (a || (b || (c || (d || (f || (g || (h || i))))))) ≡ false → (f ≡ false) × ((g ≡ false) × (i ≡ false))
+over_limits_by a b c d f g h i e =
+    let e1 = (neither a (b || (c || (d || (f || (g || (h || i)))))) e).1 in
+    let e2 = (neither b (c || (d || (f || (g || (h || i))))) e1).1 in
+    let e3 = (neither c (d || (f || (g || (h || i)))) e2).1 in
+    let e4 = (neither d (f || (g || (h || i))) e3).1 in
+    let e5 = neither f (g || (h || i)) e4 in
+    let e6 = neither g (h || i) e5.1 in
+    (e5.0, (e6.0, (neither h i e6.1).1))
+
+over_by : (a b c d f : Bool) → (a || (b || (c || (d || f)))) ≡ false → (a ≡ false) × ((b ≡ false) × ((c ≡ false) × (f ≡ false)))
+over_by a b c d f e =
+    let e1 = neither a (b || (c || (d || f))) e in
+    let e2 = neither b (c || (d || f)) e1.1 in
+    let e3 = neither c (d || f) e2.1 in
+    (e1.0, (e2.0, (e3.0, (neither d f e3.1).1)))
+
+pub within_limits : (row : TenantRow) (spec : Spec) → is_over_limits row ≡ false → is_over (reserve_of row) spec ≡ false → IsWithinLimits spec
+within_limits row spec h e =
+    let own = over_limits_by (nat_eq row.tenant 0) (nat_eq row.groups 0) (nat_lt GROUPS row.groups) (nat_eq row.msgs 0) (nat_lt MESSAGES row.msgs) (nat_lt BYTES row.bytes) (nat_eq row.window 0) (nat_lt WINDOW row.window) h in
+    let its = over_by (nat_eq spec.msgs 0) (nat_lt row.msgs spec.msgs) (nat_lt row.bytes spec.bytes) (nat_eq spec.window 0) (nat_lt row.window spec.window) e in
+    let msgs = ltb-false MESSAGES row.msgs own.0 in
+    let bytes = ltb-false BYTES row.bytes own.1.0 in
+    let window = ltb-false WINDOW row.window own.1.1 in
+    let own_msgs = ltb-false row.msgs spec.msgs its.1.0 in
+    let own_bytes = ltb-false row.bytes spec.bytes its.1.1.0 in
+    let own_window = ltb-false row.window spec.window its.1.1.1 in
+    record {
+      some = elim (cases_eq spec.msgs 0) [
+        | inl z ↦ let t : true ≡ false = sym (eq-eqb spec.msgs 0 z) ∙ its.0 in absurd (cc)
+        | inr ne ↦ omega arith
+      ];
+      msgs = omega arith;
+      bytes = omega arith;
+      window = omega arith;
+    }

@@ -1,0 +1,19 @@
+use Rattle.std.proofs.Common.{List, sym, subst, arith}
+use Rattle.gb_types.specs.declared.spec.TenantRow.{TenantRow}
+use Rattle.gb_table.specs.Within.{addrs_of, IsWithin}
+use Rattle.gb_table.proofs.TenantLemmas.{tenant_done, within_added}
+use Rattle.gb_table.proofs.table.Table.add_tenant.Goals as goal
+use Rattle.gb_table.proofs.table.Table.add_tenant.Goals.{in-Ok, in-Err}
+
+pub invariant_of-self : goal.invariant_of-self
+invariant_of-self c =
+    let addrs = addrs_of c.self.inside.groups.rows in
+    let row = c.args.row.now in
+    let d = tenant_done c.from-places.result c.reserved.result c.is_some-there.result row c.in-Done.ensures in
+    let p = c.from-places.ensures in
+    let r = c.reserved.ensures in
+    let room = d.1.1 in
+    elim c.match-add.branch [
+      | in-Ok w ↦ subst (λ (ts : List TenantRow). IsWithin c.self.inside.places ts addrs) (sym w.in-Ok.ensures.ok) (within_added c.self.inside.places c.self.inside.tenants addrs row c.self.invariant d.0 (omega arith))
+      | in-Err w ↦ subst (λ (ts : List TenantRow). IsWithin c.self.inside.places ts addrs) (sym w.in-Err.ensures.err) c.self.invariant
+    ]

@@ -1,0 +1,10 @@
+use Rattle.std.proofs.Common.{ap, ◌∙◌}
+use Rattle.gb_rules.specs.declared.phase.Phase.TheVariants.{Opened}
+use Rattle.gb_slot.specs.Slot.{slot_moved}
+use Rattle.gb_table.specs.Within.{addrs_of}
+use Rattle.gb_table.proofs.AddrLemmas.{addrs-address}
+use Rattle.gb_table.proofs.RequestLemmas.{within_step}
+use Rattle.gb_table.proofs.table.Table.open_group.Goals as goal
+
+pub invariant_of-self : goal.invariant_of-self
+invariant_of-self c = within_step c.self.inside.places c.self.inside.tenants c.self.inside.groups.rows _ (ap addrs_of c.open_group.ensures.rows ∙ addrs-address c.args.addr (slot_moved Opened c.open_group.result) c.self.inside.groups.rows) c.self.invariant

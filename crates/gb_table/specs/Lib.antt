@@ -1,0 +1,4 @@
+pub mod TableValue
+pub mod Requests
+pub mod Kept
+pub mod Within

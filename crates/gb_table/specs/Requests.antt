@@ -1,0 +1,75 @@
+-- What a node's table answers to requests, and what they do.
+use Rattle.std.specs.Prelude.{◌≡◌, ℕ, Bool, false, List, [], ◌∷◌, ◌++◌, bytes_eq, Option, Some, None, is_some, if◌then◌else◌}
+use Rattle.std.specs.Ordering.{nat_cmp}
+use Rattle.std.specs.FinSet as set
+use Rattle.gb_types.specs.declared.refusal.Refusal.TheVariants.{Denied}
+use Rattle.gb_types.specs.declared.reply.Reply.{Reply}
+use Rattle.gb_types.specs.declared.reply.Reply.TheVariants.{Done, Said, Refused}
+use Rattle.gb_types.specs.declared.request.Request.{Request}
+use Rattle.gb_types.specs.declared.request.Request.TheVariants.{AddTenant, Make, OpenGroup, ShutGroup, DropGroup, Say, Fetch}
+use Rattle.gb_types.specs.declared.spec.TenantRow.{TenantRow}
+use Rattle.gb_cap.specs.Token.{token_of}
+use Rattle.gb_cap.specs.declared.token.Need.{Need}
+use Rattle.gb_cap.specs.declared.token.Need.TheVariants.{Admin, Tenant, Member}
+use Rattle.gb_rules.specs.Group.{open_answer, shut_answer, drop_answer, say_answer, fetch_answer}
+use Rattle.gb_rules.specs.Replied.{IsReply}
+use Rattle.gb_rules.specs.Tenant.{row_of, reserved, tenant_answer, make_answer, by_tenant}
+use Rattle.gb_rules.specs.declared.phase.Phase.TheVariants.{Opened, Shut}
+use Rattle.gb_slot.specs.Slot.{new_slot, slot_moved, slot_said}
+use Rattle.gb_groups.specs.AtAddress.{place_of, on_address, drop_at, group_reply}
+use Rattle.gb_table.specs.TableValue.{TableValue, with_rows, reserve_for}
+
+-- the token is the one for the need under the key
+abbrev pub is_token : List ℕ → Need → List ℕ → Bool
+is_token key need token = bytes_eq token (token_of key need)
+
+-- the same under the key of a tenant that may be here
+abbrev pub is_by_row : Need → List ℕ → Option TenantRow → Bool
+is_by_row need token None = false
+is_by_row need token (Some row) = is_token row.key need token
+
+abbrev pub is_by_tenant : ℕ → Need → List ℕ → TableValue → Bool
+is_by_tenant tenant need token t = is_by_row need token (row_of tenant t.tenants)
+
+-- Tenants are added with the administrator's token, groups are made, opened, shut and dropped with their tenant's, and a member says and
+-- fetches with its own at this node.
+abbrev pub is_admitted : Request → TableValue → Bool
+is_admitted (AddTenant token row) t = is_token t.admin_key Admin token
+is_admitted (Make token addr spec) t = is_by_tenant addr.tenant (Tenant addr.tenant) token t
+is_admitted (OpenGroup token addr) t = is_by_tenant addr.tenant (Tenant addr.tenant) token t
+is_admitted (ShutGroup token addr) t = is_by_tenant addr.tenant (Tenant addr.tenant) token t
+is_admitted (DropGroup token addr) t = is_by_tenant addr.tenant (Tenant addr.tenant) token t
+is_admitted (Say token addr payload) t = is_by_tenant addr.tenant (Member addr.tenant addr.group t.me) token t
+is_admitted (Fetch token addr from most) t = is_by_tenant addr.tenant (Member addr.tenant addr.group t.me) token t
+
+-- the reply to a request with the right token
+abbrev pub admitted_reply : Request → TableValue → Reply
+admitted_reply (AddTenant token row) t = tenant_answer t.places (reserved t.tenants) (is_some (row_of row.tenant t.tenants)) row
+admitted_reply (Make token addr spec) t =
+    by_tenant (make_answer t.nodes t.me.number addr.group (is_some (place_of addr t.groups.rows)) spec) (reserve_for addr.tenant t)
+admitted_reply (OpenGroup token addr) t = group_reply open_answer addr t.groups.rows
+admitted_reply (ShutGroup token addr) t = group_reply shut_answer addr t.groups.rows
+admitted_reply (DropGroup token addr) t = group_reply drop_answer addr t.groups.rows
+admitted_reply (Say token addr payload) t = group_reply (λ s. say_answer s payload) addr t.groups.rows
+admitted_reply (Fetch token addr from most) t = group_reply (λ s. fetch_answer s from most) addr t.groups.rows
+
+-- The reply to a request. With a wrong token it says nothing of tenants and groups.
+abbrev pub table_reply : Request → TableValue → Reply
+table_reply request t = if is_admitted request t then admitted_reply request t else Refused Denied
+
+-- the reply is what it should be; where a tenant is added, a group made or a log read, memory may be wanting in its place
+abbrev pub IsReplyTo : Request → Reply → Reply → Type 0
+IsReplyTo (AddTenant token row) should reply = IsReply should reply
+IsReplyTo (Make token addr spec) should reply = IsReply should reply
+IsReplyTo (Fetch token addr from most) should reply = IsReply should reply
+IsReplyTo request should reply = reply ≡ should
+
+-- what a request does besides its reply, at a node that has noticed these
+abbrev pub table_did : set.FinSet nat_cmp → Request → Reply → TableValue → TableValue
+table_did noticed (AddTenant token row) Done t = record t { tenants = t.tenants ++ row ∷ [] }
+table_did noticed (Make token addr spec) Done t = with_rows (t.groups.rows ++ record { addr = addr; slot = Some (new_slot spec t.me noticed) } ∷ []) t
+table_did noticed (OpenGroup token addr) Done t = with_rows (on_address addr (slot_moved Opened Done) t.groups.rows) t
+table_did noticed (ShutGroup token addr) Done t = with_rows (on_address addr (slot_moved Shut Done) t.groups.rows) t
+table_did noticed (DropGroup token addr) Done t = with_rows (drop_at addr t.groups.rows) t
+table_did noticed (Say token addr payload) (Said seq) t = with_rows (on_address addr (slot_said payload (Said seq)) t.groups.rows) t
+table_did noticed request reply t = t

@@ -1,0 +1,51 @@
+-- A node's table of tenants and groups, as contracts see it.
+use Rattle.std.specs.Prelude.{ℕ, List, [], map, Option, option_map}
+use Rattle.gb_types.specs.declared.address.Addr.{Addr}
+use Rattle.gb_types.specs.declared.message.MsgId.{MsgId}
+use Rattle.gb_types.specs.declared.node.NodeId.{NodeId}
+use Rattle.gb_types.specs.declared.spec.TenantRow.{TenantRow}
+use Rattle.gb_frame.specs.declared.item.Item.{Item}
+use Rattle.gb_rules.specs.Tenant.{reserve_of, row_of}
+use Rattle.gb_rules.specs.declared.reserve.Reserve.{Reserve}
+use Rattle.gb_slot.specs.Slot.{slot_done, slot_noticed}
+use Rattle.gb_groups.specs.SlotsValue.{Row, on_slot}
+use Rattle.gb_groups.specs.AtAddress.{on_address, item_came}
+use Rattle.gb_groups.specs.GroupsValue.{GroupsValue, no_groups, packed}
+
+-- the table of a node in a cluster of so many: its administrator's key, its tenants in the order in which they were added, which may make so many
+-- groups in all, and its groups
+pub record TableValue : Type 0 where
+  pub me : NodeId
+  pub nodes : ℕ
+  pub places : ℕ
+  pub admin_key : List ℕ
+  pub tenants : List TenantRow
+  pub groups : GroupsValue
+
+-- no tenant and no group
+abbrev pub new_table : NodeId → ℕ → ℕ → List ℕ → TableValue
+new_table me nodes places admin_key = record { me = me; nodes = nodes; places = places; admin_key = admin_key; tenants = []; groups = no_groups }
+
+-- the table with other groups
+abbrev pub with_rows : List Row → TableValue → TableValue
+with_rows rows t = record t { groups = record t.groups { rows = rows } }
+
+-- what a tenant may have, where it is here
+abbrev pub reserve_for : ℕ → TableValue → Option Reserve
+reserve_for tenant t = option_map reserve_of (row_of tenant t.tenants)
+
+-- after an item came from a node
+abbrev pub table_came : NodeId → Item → TableValue → TableValue
+table_came from item t = with_rows (item_came from item t.groups.rows) t
+
+-- after a node acknowledged a message of the group with an address
+abbrev pub table_done : NodeId → Addr → MsgId → TableValue → TableValue
+table_done dest addr m t = with_rows (on_address addr (slot_done dest m) t.groups.rows) t
+
+-- after a node was noticed to have crashed
+abbrev pub table_noticed : NodeId → TableValue → TableValue
+table_noticed who t = with_rows (map (on_slot (slot_noticed who)) t.groups.rows) t
+
+-- after what waited for a node was packed
+abbrev pub table_packed : ℕ → ℕ → TableValue → TableValue
+table_packed dest room t = record t { groups = packed dest room t.groups }

@@ -1,0 +1,8 @@
+//! What a node answers to requests: its tenants, and its groups under their addresses. A request comes with a token,
+//! and what the token allows is decided here. There is no link and no clock. Read `table::Table` first.
+#![tactic(auto)]
+
+pub mod table;
+pub mod tenants;
+#[cfg(test)]
+mod tests;

@@ -1,0 +1,261 @@
+//! The tenants and groups of a node.
+ghost use Rattle.std.specs.Prelude.{◌≡◌, ◌+◌, ◌≤◌, ◌<◌, ◌++◌, ℕ, List, map, false, length, sum_by, All, is_some, vec_len, vec_capacity};
+ghost use Rattle.std.specs.Ordering.{nat_cmp};
+ghost use Rattle.std.specs.FinSet as set;
+ghost use Rattle.gb_types.specs.declared.limits.TheConstants.{NODES, PLACES};
+ghost use Rattle.gb_frame.specs.Packet.{item_of as view_item};
+ghost use Rattle.gb_frame.specs.Spelling.{items_text, IsItem};
+ghost use Rattle.gb_rules.specs.Group.{open_answer, shut_answer, drop_answer, say_answer, fetch_answer};
+ghost use Rattle.gb_rules.specs.Replied.{IsReply};
+ghost use Rattle.gb_rules.specs.Tenant.{row_of, reserved, tenant_answer, make_answer, by_tenant};
+ghost use Rattle.gb_groups.specs.AtAddress.{place_of, group_reply, address_of, OthersKept};
+ghost use Rattle.gb_groups.specs.Fair.{IsFront, IsLongest};
+ghost use Rattle.gb_groups.specs.GroupsValue.{walk_to, batch};
+ghost use Rattle.gb_groups.specs.Packing.{items, size};
+ghost use Rattle.gb_table.specs.TableValue.{new_table, reserve_for, table_came, table_done, table_noticed, table_packed};
+ghost use Rattle.gb_table.specs.Requests.{is_admitted, is_by_tenant, table_reply, IsReplyTo, table_did};
+
+use crate::tenants::Tenants;
+use gb_cap::hmac::Key;
+use gb_cap::token::{Need, Token, admits};
+use gb_frame::item::ItemView;
+use gb_groups::groups::Groups;
+use gb_rules::reserve::Reserve;
+use gb_rules::tenant::{answer_make, answer_tenant};
+use gb_types::address::Addr;
+use gb_types::message::MsgId;
+use gb_types::node::{NodeId, NodeSet};
+use gb_types::payload::Payload;
+use gb_types::refusal::Refusal;
+use gb_types::reply::Reply;
+use gb_types::request::Request;
+use gb_types::spec::{Spec, TenantRow};
+use std::alloc::Global;
+use std::marker::Model;
+
+/// The tenants and groups of a node.
+#[derive(Drop)]
+pub struct Table {
+    me: NodeId,
+    nodes: u8,
+    /// So many groups may its tenants make in all.
+    places: u16,
+    admin_key: Key,
+    tenants: Tenants,
+    groups: Groups,
+}
+
+impl Model for Table {
+    ghost use Rattle.std.specs.Coded.{codes, coded_ℕ};
+    ghost use Rattle.std.specs.Ordering.{nat_cmp};
+    ghost use Rattle.std.specs.FinSet as set;
+    ghost use Rattle.gb_table.specs.TableValue.{TableValue};
+    ghost use Rattle.gb_table.specs.Within.{IsWithin, addrs_of};
+
+    ghost Value = { TableValue };
+
+    ghost coded = { Prim.hlevel (codes, set.code {R = nat_cmp} coded_ℕ) };
+
+    ghost view = { λ t. record { me = t.me; nodes = t.nodes; places = t.places; admin_key = t.admin_key; tenants = t.tenants; groups = t.groups } };
+
+    ghost invariant = { λ t. IsWithin t.places t.tenants (addrs_of t.groups.rows) };
+}
+
+impl Table {
+    /// No tenant and no group, at the node `me` of so many. Its tenants may make so many groups in all, as `places`
+    /// says; who holds the administrator's key may add them.
+    pub fn new(alloc: Global, me: NodeId, nodes: u8, places: u16, admin_key: &Key) -> Table
+        requires cluster { nodes ≤ NODES }
+        requires member { me.number < nodes }
+        requires places { places ≤ PLACES }
+        ensures { result ≡ new_table me nodes places admin_key.now }
+    {
+        Table {
+            me,
+            nodes,
+            places,
+            admin_key: *admin_key,
+            tenants: Tenants::new(alloc),
+            groups: Groups::new(alloc),
+        }
+    }
+
+    /// Whether a request comes with the token that it needs.
+    fn is_admitted(&self, request: &Request) -> bool
+        ensures { result ≡ is_admitted request.now self.now }
+    {
+        match request {
+            Request::AddTenant(token, _) => admits(&self.admin_key, Need::Admin, token),
+            Request::Make(token, addr, _) => self.is_tenant(token, *addr),
+            Request::OpenGroup(token, addr) => self.is_tenant(token, *addr),
+            Request::ShutGroup(token, addr) => self.is_tenant(token, *addr),
+            Request::DropGroup(token, addr) => self.is_tenant(token, *addr),
+            Request::Say(token, addr, _) => self.is_member(token, *addr),
+            Request::Fetch(token, addr, _, _) => self.is_member(token, *addr),
+        }
+    }
+
+    /// Whether this is the token of the address's tenant.
+    fn is_tenant(&self, token: &Token, addr: Addr) -> bool
+        ensures { result ≡ is_by_tenant addr.tenant (Need.Tenant addr.tenant) token.now self.now }
+    {
+        self.tenants
+            .admits(addr.tenant, Need::Tenant(addr.tenant), token)
+    }
+
+    /// Whether this is the token of the address's member at this node.
+    fn is_member(&self, token: &Token, addr: Addr) -> bool
+        ensures { result ≡ is_by_tenant addr.tenant (Need.Member addr.tenant addr.group self.now.me) token.now self.now }
+    {
+        let need = Need::Member(addr.tenant, addr.group, self.me);
+        self.tenants.admits(addr.tenant, need, token)
+    }
+
+    fn add_tenant(&mut self, row: &TenantRow) -> Reply
+        ensures reply { IsReply (tenant_answer self.old.places (reserved self.old.tenants) (is_some (row_of row.now.tenant self.old.tenants)) row.now) result }
+        ensures state { (noticed : set.FinSet nat_cmp) (token : List ℕ) → self.new ≡ table_did noticed (Request.AddTenant token row.now) result self.old }
+    {
+        let there = self.tenants.row(row.tenant).is_some();
+        let places = u32::from(self.places);
+        match answer_tenant(places, self.tenants.reserved(), there, row) {
+            Reply::Done => {}
+            refused => return refused,
+        }
+        match self.tenants.add(row) {
+            Ok(()) => Reply::Done,
+            Err(_) => Reply::Refused(Refusal::OutOfMemory),
+        }
+    }
+
+    fn make(&mut self, addr: Addr, spec: &Spec, noticed: &NodeSet) -> Reply
+        ensures reply { IsReply (by_tenant (make_answer self.old.nodes self.old.me.number addr.group (is_some (place_of addr self.old.groups.rows)) spec.now) (reserve_for addr.tenant self.old)) result }
+        ensures state { (token : List ℕ) → self.new ≡ table_did noticed.now (Request.Make token addr spec.now) result self.old }
+    {
+        let Some(row) = self.tenants.row(addr.tenant) else {
+            return Reply::Refused(Refusal::Denied);
+        };
+        let reserve = Reserve::of(row);
+        let made = self.groups.contains(addr);
+        match answer_make(
+            usize::from(self.nodes),
+            self.me,
+            addr.group,
+            made,
+            spec,
+            &reserve,
+        ) {
+            Reply::Done => {}
+            refused => return refused,
+        }
+        match self.groups.make(addr, spec, self.me, noticed) {
+            Ok(()) => Reply::Done,
+            Err(_) => Reply::Refused(Refusal::OutOfMemory),
+        }
+    }
+
+    fn open_group(&mut self, addr: Addr) -> Reply
+        ensures reply { result ≡ group_reply open_answer addr self.old.groups.rows }
+        ensures state { (noticed : set.FinSet nat_cmp) (token : List ℕ) → self.new ≡ table_did noticed (Request.OpenGroup token addr) result self.old }
+    {
+        self.groups.open_group(addr)
+    }
+
+    fn shut_group(&mut self, addr: Addr) -> Reply
+        ensures reply { result ≡ group_reply shut_answer addr self.old.groups.rows }
+        ensures state { (noticed : set.FinSet nat_cmp) (token : List ℕ) → self.new ≡ table_did noticed (Request.ShutGroup token addr) result self.old }
+    {
+        self.groups.shut_group(addr)
+    }
+
+    fn drop_group(&mut self, addr: Addr) -> Reply
+        ensures reply { result ≡ group_reply drop_answer addr self.old.groups.rows }
+        ensures state { (noticed : set.FinSet nat_cmp) (token : List ℕ) → self.new ≡ table_did noticed (Request.DropGroup token addr) result self.old }
+    {
+        self.groups.drop_group(addr)
+    }
+
+    fn say(&mut self, addr: Addr, payload: &Payload) -> Reply
+        ensures reply { result ≡ group_reply (λ s. say_answer s payload.now) addr self.old.groups.rows }
+        ensures state { (noticed : set.FinSet nat_cmp) (token : List ℕ) → self.new ≡ table_did noticed (Request.Say token addr payload.now) result self.old }
+    {
+        self.groups.say(addr, payload.as_slice())
+    }
+
+    fn fetch(&self, addr: Addr, from: u32, most: u32) -> Reply
+        ensures { IsReply (group_reply (λ s. fetch_answer s from most) addr self.now.groups.rows) result }
+    {
+        self.groups.fetch(addr, from, most)
+    }
+
+    /// Answers a request at a node that has noticed these. Denied comes first, with a token that is not the one that
+    /// the request needs, where the tenant is not here, and for a group that is not the token's, all alike. Then the
+    /// refusals of the rules in their order, and OutOfMemory last. After a refusal nothing has changed.
+    pub fn request(&mut self, request: &Request, noticed: &NodeSet) -> Reply
+        ensures reply { IsReplyTo request.now (table_reply request.now self.old) result }
+        ensures state { self.new ≡ table_did noticed.now request.now result self.old }
+        ensures denied { is_admitted request.now self.old ≡ false → (result ≡ Reply.Refused Refusal.Denied) × (self.new ≡ self.old) }
+    {
+        if !self.is_admitted(request) {
+            return Reply::Refused(Refusal::Denied);
+        }
+        match request {
+            Request::AddTenant(_, row) => self.add_tenant(row),
+            Request::Make(_, addr, spec) => self.make(*addr, spec, noticed),
+            Request::OpenGroup(_, addr) => self.open_group(*addr),
+            Request::ShutGroup(_, addr) => self.shut_group(*addr),
+            Request::DropGroup(_, addr) => self.drop_group(*addr),
+            Request::Say(_, addr, payload) => self.say(*addr, payload),
+            Request::Fetch(_, addr, from, most) => self.fetch(*addr, *from, *most),
+        }
+    }
+
+    /// Takes an item in that came from a node. It is let fall where its group is not here, or by the group's rules.
+    pub fn item(&mut self, from: NodeId, item: ItemView<'_>)
+        ensures state { self.new ≡ table_came from (view_item item.entry) self.old }
+        ensures others { OthersKept (address_of (view_item item.entry)) self.old.groups.rows self.new.groups.rows }
+    {
+        self.groups.item(from, item);
+    }
+
+    /// Takes an acknowledgement of a message of a group from a node.
+    pub fn done(&mut self, dest: NodeId, addr: Addr, m: MsgId)
+        ensures state { self.new ≡ table_done dest addr m self.old }
+        ensures others { OthersKept addr self.old.groups.rows self.new.groups.rows }
+    {
+        self.groups.done(dest, addr, m);
+    }
+
+    /// Notices a node in each group.
+    pub fn notice(&mut self, who: NodeId)
+        ensures { self.new ≡ table_noticed who self.old }
+    {
+        self.groups.notice(who);
+    }
+
+    /// How many items the next batch for a node has where it may have so many bytes, 65,535 at most, and how many
+    /// bytes they take.
+    pub fn measure(&self, dest: NodeId, room: usize) -> (u16, usize)
+        requires { room ≤ 65535 }
+        ensures count { result.0 ≡ length (batch dest.number room self.now.groups) }
+        ensures bytes { result.1 ≡ sum_by size (batch dest.number room self.now.groups) }
+    {
+        self.groups.measure(dest, room)
+    }
+
+    /// Appends the texts of the items of the next batch for a node, which may have so many bytes, 65,535 at most, and
+    /// gives how many they are. Takes no memory: `out` has capacity for as many bytes as `measure` says.
+    pub fn pack_into(&mut self, dest: NodeId, room: usize, out: &mut Vec<u8>) -> u16
+        requires room { room ≤ 65535 }
+        requires capacity { vec_len out.old + sum_by size (batch dest.number room self.old.groups) ≤ vec_capacity out.old }
+        ensures count { result ≡ length (batch dest.number room self.old.groups) }
+        ensures written { out.new.items ≡ out.old.items ++ items_text (items self.old.groups.rows (batch dest.number room self.old.groups)) }
+        ensures fit { All IsItem (items self.old.groups.rows (batch dest.number room self.old.groups)) }
+        ensures len { vec_len out.new ≡ vec_len out.old + sum_by size (batch dest.number room self.old.groups) }
+        ensures capacity { vec_capacity out.old ≤ vec_capacity out.new }
+        ensures state { self.new ≡ table_packed dest.number room self.old }
+        ensures longest { IsLongest room (walk_to dest.number self.old.groups) (batch dest.number room self.old.groups) }
+        ensures own { (p : ℕ) → p < length self.old.groups.rows → IsFront dest.number room self.old.groups p }
+    {
+        self.groups.pack_into(dest, room, out)
+    }
+}
