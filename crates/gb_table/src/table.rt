@@ -80,6 +80,20 @@ impl Table {
         }
     }
 
+    /// The node where it is.
+    pub fn me(&self) -> NodeId
+        ensures { result ≡ self.now.me }
+    {
+        self.me
+    }
+
+    /// How many nodes the cluster has.
+    pub fn nodes(&self) -> u8
+        ensures { result ≡ self.now.nodes }
+    {
+        self.nodes
+    }
+
     /// Whether a request comes with the token that it needs.
     fn is_admitted(&self, request: &Request) -> bool
         ensures { result ≡ is_admitted request.now self.now }
@@ -238,6 +252,7 @@ impl Table {
         requires { room ≤ 65535 }
         ensures count { result.0 ≡ length (batch dest.number room self.now.groups) }
         ensures bytes { result.1 ≡ sum_by size (batch dest.number room self.now.groups) }
+        ensures most { result.1 ≤ room }
     {
         self.groups.measure(dest, room)
     }

@@ -1,0 +1,122 @@
+-- Frames as batches of items.
+use Rattle.std.proofs.Common.{◌≡◌, ℕ, Bool, true, false, cond, List, [], ◌∷◌, ◌++◌, map, Option, None, Some, ◌+◌, ◌<◌, ◌≤◌, refl, sym, ap, subst, nat_eq, ◌∙◌, arith}
+use Rattle.std.proofs.lemmas.Option.{same_Some}
+use Rattle.std.specs.Prelude.{MatchOption, option_map}
+use Rattle.std.specs.List.{find, filter, slice_get}
+use Rattle.std.specs.declared.vec.Vec.{Vec}
+use Rattle.std.specs.declared.alloc.Global.{Global}
+use Rattle.gb_frame.specs.Batch.{batch_in, IsBatch}
+use Rattle.gb_link.specs.SendWindow.{SendWindow, IsWindow, AreAscending, frame_again, without_first, acknowledged, freed}
+use Rattle.gb_link.specs.Ack.{covers}
+use Rattle.gb_node.specs.Frames.{frame_of, window_of, AreBatches}
+
+abbrev pub Text : Type 0
+Text = ℕ × Vec ℕ Global
+
+pub find_frame : (test : ℕ → Bool) (us : List Text) → find (λ u. test u.0) (map frame_of us) ≡ option_map frame_of (find (λ u. test u.0) us)
+find_frame test [] = refl
+find_frame test (u ∷ us) = elim (test u.0) as (λ b. cond b (Some (frame_of u)) (find (λ u. test u.0) (map frame_of us)) ≡ option_map frame_of (cond b (Some u) (find (λ u. test u.0) us))) [
+  | true ↦ refl
+  | false ↦ find_frame test us
+]
+
+pub filter_frame : (test : ℕ → Bool) (us : List Text) → filter (λ u. test u.0) (map frame_of us) ≡ map frame_of (filter (λ u. test u.0) us)
+filter_frame test [] = refl
+filter_frame test (u ∷ us) = elim (test u.0) as (λ b. cond b (frame_of u ∷ filter (λ u. test u.0) (map frame_of us)) (filter (λ u. test u.0) (map frame_of us)) ≡ map frame_of (cond b (u ∷ filter (λ u. test u.0) us) (filter (λ u. test u.0) us))) [
+  | true ↦ ap (λ xs. frame_of u ∷ xs) (filter_frame test us)
+  | false ↦ filter_frame test us
+]
+
+pub without_frame : (test : ℕ → Bool) (us : List Text) → without_first (λ u. test u.0) (map frame_of us) ≡ map frame_of (without_first (λ u. test u.0) us)
+without_frame test [] = refl
+without_frame test (u ∷ us) = elim (test u.0) as (λ b. cond b (map frame_of us) (frame_of u ∷ without_first (λ u. test u.0) (map frame_of us)) ≡ map frame_of (cond b us (u ∷ without_first (λ u. test u.0) us))) [
+  | true ↦ refl
+  | false ↦ ap (λ xs. frame_of u ∷ xs) (without_frame test us)
+]
+
+-- the first one
+first_frame : (us : List Text) → slice_get (map frame_of us) 0 ≡ option_map frame_of (slice_get us 0)
+first_frame [] = refl
+first_frame (u ∷ us) = refl
+
+pub again_frame : (w : SendWindow (Vec ℕ Global)) (n : ℕ) → frame_again (window_of w) n ≡ option_map frame_of (frame_again w n)
+again_frame w n = elim (nat_eq n 0) as (λ b. cond b (slice_get (map frame_of w.undone) 0) (find (λ u. nat_eq u.0 n) (map frame_of w.undone)) ≡ option_map frame_of (cond b (slice_get w.undone 0) (find (λ u. nat_eq u.0 n) w.undone))) [
+  | true ↦ first_frame w.undone
+  | false ↦ find_frame (λ k. nat_eq k n) w.undone
+]
+
+-- a frame that is found is a batch
+pub found_batch : (test : Text → Bool) (us : List Text) (u : Text) → AreBatches us → find test us ≡ Some u → IsBatch u.1.items
+found_batch test [] u all found = absurd cc
+found_batch test (v ∷ us) u all found = elim (test v) as (λ b. cond b (Some v) (find test us) ≡ Some u → IsBatch u.1.items) [
+  | true ↦ λ e. (let same : v ≡ u = cc in subst (λ (x : Text). IsBatch x.1.items) same all.0)
+  | false ↦ λ e. found_batch test us u all.1 e
+] found
+
+pub without_batch : (test : Text → Bool) (us : List Text) → AreBatches us → AreBatches (without_first test us)
+without_batch test [] all = tt
+without_batch test (u ∷ us) all = elim (test u) as (λ b. AreBatches (cond b us (u ∷ without_first test us))) [
+  | true ↦ all.1
+  | false ↦ (all.0, without_batch test us all.1)
+]
+
+pub more_batches : (us : List Text) (u : Text) → AreBatches us → IsBatch u.1.items → AreBatches (us ++ u ∷ [])
+more_batches [] u all one = (one, tt)
+more_batches (v ∷ us) u all one = (all.0, more_batches us u all.1 one)
+
+first_batch : (us : List Text) (u : Text) → AreBatches us → slice_get us 0 ≡ Some u → IsBatch u.1.items
+first_batch [] u all found = absurd cc
+first_batch (v ∷ us) u all found = (let same : v ≡ u = cc in subst (λ (x : Text). IsBatch x.1.items) same all.0)
+
+again_batch : (w : SendWindow (Vec ℕ Global)) (n : ℕ) (u : Text) → AreBatches w.undone → frame_again w n ≡ Some u → IsBatch u.1.items
+again_batch w n u all found = elim (nat_eq n 0) as (λ b. cond b (slice_get w.undone 0) (find (λ u. nat_eq u.0 n) w.undone) ≡ Some u → IsBatch u.1.items) [
+  | true ↦ first_batch w.undone u all
+  | false ↦ found_batch (λ u. nat_eq u.0 n) w.undone u all
+] found
+
+-- frames are numbered from 1
+found_numbered : (test : Text → Bool) (low : ℕ) (us : List Text) (u : Text) → AreAscending low us → find test us ≡ Some u → low ≤ u.0
+found_numbered test low [] u h found = absurd cc
+found_numbered test low (v ∷ us) u h found = elim (test v) as (λ b. cond b (Some v) (find test us) ≡ Some u → low ≤ u.0) [
+  | true ↦ λ e. (let same : v.0 ≡ u.0 = ap (λ (x : Text). x.0) (same_Some v u e) in omega (arith, same, h.0))
+  | false ↦ λ e. (let rest = found_numbered test (v.0 + 1) us u h.1 e in omega (arith, rest, h.0))
+] found
+
+first_numbered : (us : List Text) (u : Text) → AreAscending 1 us → slice_get us 0 ≡ Some u → 1 ≤ u.0
+first_numbered [] u h found = absurd cc
+first_numbered (v ∷ us) u h found = let same : v.0 ≡ u.0 = ap (λ (x : Text). x.0) (same_Some v u found) in omega (arith, same, h.0)
+
+again_numbered : (w : SendWindow (Vec ℕ Global)) (n : ℕ) (u : Text) → IsWindow w → frame_again w n ≡ Some u → 1 ≤ u.0
+again_numbered w n u h found = elim (nat_eq n 0) as (λ b. cond b (slice_get w.undone 0) (find (λ u. nat_eq u.0 n) w.undone) ≡ Some u → 1 ≤ u.0) [
+  | true ↦ first_numbered w.undone u h.ascending
+  | false ↦ found_numbered (λ u. nat_eq u.0 n) 1 w.undone u h.ascending
+] found
+
+pub again_some : (w : SendWindow (Vec ℕ Global)) (n k : ℕ) (texts : Vec ℕ Global) → AreBatches w.undone → IsWindow w → Some (k, texts) ≡ frame_again w n
+    → (frame_again (window_of w) n ≡ Some (k, batch_in texts.items)) × IsBatch texts.items × (0 < k)
+again_some w n k texts all kept found = (again_frame w n ∙ ap (option_map frame_of) (sym found), again_batch w n (k, texts) all (sym found), again_numbered w n (k, texts) kept (sym found))
+
+pub again_none : (w : SendWindow (Vec ℕ Global)) (n : ℕ) → None ≡ frame_again w n → frame_again (window_of w) n ≡ None
+again_none w n none = again_frame w n ∙ ap (option_map frame_of) (sym none)
+
+-- an acknowledgement
+pub acked_frame : (w : SendWindow (Vec ℕ Global)) (base mask : ℕ) → window_of (acknowledged w base mask) ≡ acknowledged (window_of w) base mask
+acked_frame w base mask = ap (λ us. record { next = w.next; undone = us }) (sym (without_frame (covers base mask) w.undone))
+
+freed_frame : (w : SendWindow (Vec ℕ Global)) (base mask : ℕ) → freed (window_of w) base mask ≡ map frame_of (freed w base mask)
+freed_frame w base mask = filter_frame (covers base mask) w.undone
+
+none_freed : (w : SendWindow (Vec ℕ Global)) (base mask : ℕ) → freed w base mask ≡ [] → freed (window_of w) base mask ≡ []
+none_freed w base mask none = freed_frame w base mask ∙ ap (map frame_of) none
+
+one_freed : (w x : SendWindow (Vec ℕ Global)) (base mask : ℕ) (u : Text) → AreBatches w.undone → find (λ u. covers base mask u.0) w.undone ≡ Some u → freed w base mask ≡ u ∷ freed x base mask
+    → (freed (window_of w) base mask ≡ (u.0, batch_in u.1.items) ∷ freed (window_of x) base mask) × IsBatch u.1.items
+one_freed w x base mask u all found first =
+    (freed_frame w base mask ∙ ap (map frame_of) first ∙ ap (λ us. frame_of u ∷ us) (sym (freed_frame x base mask)), found_batch (λ u. covers base mask u.0) w.undone u all found)
+
+-- the first one that is freed, if there is one
+pub acked_first : (w x : SendWindow (Vec ℕ Global)) (base mask : ℕ) (o : Option Text) → AreBatches w.undone → o ≡ find (λ u. covers base mask u.0) w.undone
+    → MatchOption o (freed w base mask ≡ []) (λ u. freed w base mask ≡ u ∷ freed x base mask)
+    → MatchOption o (freed (window_of w) base mask ≡ []) (λ u. (freed (window_of w) base mask ≡ (u.0, batch_in u.1.items) ∷ freed (window_of x) base mask) × IsBatch u.1.items)
+acked_first w x base mask None all found first = none_freed w base mask first
+acked_first w x base mask (Some u) all found first = one_freed w x base mask u all (sym found) first

@@ -1,0 +1,5 @@
+pub mod FrameLemmas
+pub mod AckLemmas
+pub mod PackLemmas
+pub mod NodeLemmas
+pub mod TookLemmas

@@ -1,0 +1,49 @@
+-- A batch that is written is a frame.
+use Rattle.std.proofs.lemmas.Bool.Decides.{nat_tests}
+use Rattle.std.specs.Prelude.{find, option_map}
+use Rattle.std.specs.declared.vec.Vec.{Vec}
+use Rattle.std.specs.declared.alloc.Global.{Global}
+use Rattle.gb_node.specs.Frames.{frame_of, window_of}
+use Rattle.gb_node.proofs.FrameLemmas.{again_frame}
+use Rattle.gb_link.specs.SendWindow.{SendWindow, IsWindow, AreRecent, pushed, frame_again}
+use Rattle.std.proofs.Common.{◌≡◌, true, false, Some, nat_eq, ℕ, ◌<◌, ◌≤◌, List, [], ◌∷◌, ◌++◌, length, refl, sym, ap, subst, ◌∙◌, arith, All}
+use Rattle.std.specs.Prelude.{sum_by}
+use Rattle.std.proofs.lemmas.List.Sums.{sum_by-cons}
+use Rattle.gb_frame.specs.declared.item.Item.{Item}
+use Rattle.gb_frame.specs.declared.limits.TheConstants.{ROOM}
+use Rattle.gb_frame.specs.Batch.{batch_in, IsBatch, TextsTellItems}
+use Rattle.gb_frame.specs.Spelling.{items_text, IsItem, AreTexts}
+use Rattle.gb_groups.specs.Packing.{Visit, size}
+
+-- some items have some bytes
+pub some_bytes : (vs : List Visit) → 0 < length vs → 0 < sum_by size vs
+some_bytes [] some = absurd (omega (arith, some))
+some_bytes (v ∷ vs) some = let whole = sum_by-cons size v vs in omega (arith, whole)
+
+pub batch_written : TextsTellItems → (bytes before : List ℕ) (items : List Item) → before ≡ [] → bytes ≡ before ++ items_text items → All IsItem items → 0 < length bytes → length bytes ≤ ROOM → IsBatch bytes
+batch_written tell bytes before items empty written fit some room =
+    let texts : AreTexts bytes items = record { parts = written ∙ ap (λ b. b ++ items_text items) empty; fit = fit } in
+    record {
+      texts = subst (λ is. AreTexts bytes is) (sym (tell bytes items texts)) texts;
+      some = some;
+      room = room;
+    }
+
+-- the frame that is pushed is found under its number
+find_pushed : {F : Type 0} (n : ℕ) (f : F) (us : List (ℕ × F)) → AreRecent n us → find (λ u. nat_eq u.0 n) (us ++ (n, f) ∷ []) ≡ Some (n, f)
+find_pushed n f [] h = let here : nat_eq n n ≡ true = grind (arith, nat_tests) in rw here refl
+find_pushed n f (u ∷ us) h = let apart : nat_eq u.0 n ≡ false = grind (arith, nat_tests, h.0) in rw apart (find_pushed n f us h.2)
+
+pub again_pushed : {F : Type 0} (w : SendWindow F) (f : F) → IsWindow w → frame_again (pushed w f) w.next ≡ Some (w.next, f)
+again_pushed w f h = let some : nat_eq w.next 0 ≡ false = grind (arith, nat_tests, h.started) in rw some (find_pushed w.next f w.undone h.recent)
+
+-- the texts that were pushed are found under their number
+pub pushed_frame : (w x : SendWindow (Vec ℕ Global)) (out : Vec ℕ Global) (n : ℕ) (items : List Item) → IsWindow w → x ≡ pushed w out → n ≡ w.next → batch_in out.items ≡ items
+    → (0 < n) × (n ≡ w.next) × (frame_again (window_of x) n ≡ Some (n, items))
+pushed_frame w x out n items h is number batch =
+    let found : frame_again x n ≡ Some (n, out) = rw (is, number) (again_pushed w out h) in
+    (omega (arith, h.started, number), number, again_frame x n ∙ (ap (option_map frame_of) found ∙ ap (λ is. Some (n, is)) batch))
+
+-- what was written are the texts of these items
+pub batch_is : TextsTellItems → (bytes before : List ℕ) (items : List Item) → before ≡ [] → bytes ≡ before ++ items_text items → All IsItem items → batch_in bytes ≡ items
+batch_is tell bytes before items empty written fit = tell bytes items (record { parts = written ∙ ap (λ b. b ++ items_text items) empty; fit = fit })

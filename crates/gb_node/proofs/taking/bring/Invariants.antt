@@ -1,0 +1,7 @@
+use Rattle.std.proofs.Common.{◌≡◌}
+use Rattle.std.specs.Prelude.{fold}
+use Rattle.gb_node.specs.NodeStep.{item_comes}
+use Rattle.gb_node.proofs.taking.bring.Given as goal
+
+abbrev pub invariant-loop-item : goal.invariant-loop-item
+invariant-loop-item l = fold (item_comes l.from) l.table l.item-iterator ≡ fold (item_comes l.from) l.initial.table l.packet.items

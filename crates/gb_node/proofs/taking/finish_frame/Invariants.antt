@@ -1,0 +1,8 @@
+use Rattle.std.proofs.Common.{◌≡◌}
+use Rattle.std.specs.Prelude.{fold}
+use Rattle.gb_frame.specs.Batch.{batch_in}
+use Rattle.gb_node.specs.NodeStep.{item_done}
+use Rattle.gb_node.proofs.taking.finish_frame.Given as goal
+
+abbrev pub invariant-loop-item : goal.invariant-loop-item
+invariant-loop-item l = fold (item_done l.by) l.table l.item-iterator ≡ fold (item_done l.by) l.initial.table (batch_in l.texts)

@@ -1,0 +1,262 @@
+-- What each event makes of a node, and its answer.
+use Rattle.std.specs.Prelude.{ℕ, ◌≡◌, ◌%◌, ◌⊎◌, ◌&&◌, not, Bool, true, List, [], ◌∷◌, length, filter, fold, Option, Some, None, option_map, Result, Ok, Err, slice_index_or, slice_set, nat_eq, nat_lt, if◌then◌else◌}
+use Rattle.std.specs.FinSet as set
+use Rattle.gb_types.specs.Entry.{message_of}
+use Rattle.gb_types.specs.Rising.{rising}
+use Rattle.gb_types.specs.declared.limits.TheConstants.{NODES}
+use Rattle.gb_types.specs.declared.node.NodeId.{NodeId}
+use Rattle.gb_types.specs.declared.refusal.Refusal.TheVariants.{Stopped, OutOfMemory}
+use Rattle.gb_types.specs.declared.reply.Reply.{Reply}
+use Rattle.gb_types.specs.declared.reply.Reply.TheVariants.{Refused}
+use Rattle.gb_types.specs.declared.request.Request.{Request}
+use Rattle.gb_types.specs.declared.request.Request.TheVariants.{AddTenant, Make, Fetch}
+use Rattle.gb_frame.specs.declared.fault.PacketFault.{PacketFault}
+use Rattle.gb_frame.specs.declared.fault.PacketFault.TheVariants.{Node}
+use Rattle.gb_frame.specs.declared.item.Item.{Item}
+use Rattle.gb_frame.specs.declared.limits.TheConstants.{ROOM}
+use Rattle.gb_frame.specs.Packet.{Content}
+use Rattle.gb_frame.specs.Reading.{reading}
+use Rattle.gb_frame.specs.Spelling.{packet_text}
+use Rattle.gb_link.specs.Received.{Received, base_of, mask_of, admission, taken}
+use Rattle.gb_link.specs.SendWindow.{SendWindow, new_window, has_room, pushed, frame_again, freed}
+use Rattle.gb_link.specs.Ack.{covers}
+use Rattle.gb_link.specs.declared.receiver.Admission.{Admission}
+use Rattle.gb_link.specs.declared.receiver.Admission.TheVariants.{First, Seen, Outside}
+use Rattle.gb_detect.specs.Watch.{due, after_heard, after_tick}
+use Rattle.gb_rules.specs.Replied.{takes_memory}
+use Rattle.gb_groups.specs.AtAddress.{address_of, entry_of, rest_is_node}
+use Rattle.gb_groups.specs.GroupsValue.{batch}
+use Rattle.gb_groups.specs.Packing.{items}
+use Rattle.gb_table.specs.TableValue.{TableValue, table_came, table_done, table_noticed, table_packed}
+use Rattle.gb_table.specs.Requests.{table_reply, table_did}
+use Rattle.gb_node.specs.NodeValue.{NodeValue}
+use Rattle.gb_node.specs.declared.answer.NodeAnswer.{NodeAnswer}
+use Rattle.gb_node.specs.declared.answer.NodeAnswer.TheVariants.{Reply as Replied, Taken, Sent, Ticked, Halted}
+use Rattle.gb_node.specs.declared.answer.PacketAnswer.{PacketAnswer}
+use Rattle.gb_node.specs.declared.answer.PacketAnswer.TheVariants.{Good as TakenGood, Fault, Refused as TakenRefused}
+use Rattle.gb_node.specs.declared.answer.Good.{Good}
+use Rattle.gb_node.specs.declared.answer.Frame.{Frame}
+use Rattle.gb_node.specs.declared.answer.Frame.TheVariants.{Nothing as NoFrame, First as CameFirst, Seen as CameBefore, Outside as Beyond}
+use Rattle.gb_node.specs.declared.answer.Sent.{Sent as SentValue}
+use Rattle.gb_node.specs.declared.answer.Sent.TheVariants.{Packet as SentPacket, Nothing, Refused as SentRefused}
+use Rattle.gb_node.specs.declared.answer.Ticked.TheVariants.{Noticed, Refused as TickRefused}
+use Rattle.gb_node.specs.declared.answer.Halted.TheVariants.{Done as HaltDone, Refused as HaltRefused}
+use Rattle.gb_node.specs.declared.event.NodeEvent.{NodeEvent}
+use Rattle.gb_node.specs.declared.event.NodeEvent.TheVariants.{Request as Asked, Packet as Came, Pack, Again, Ack, Tick, Stop}
+
+-- the node with this number, which is below the number of nodes that there may be
+abbrev pub node_numbered : ℕ → NodeId
+node_numbered n = record { number = n % NODES; below = rest_is_node n }
+
+-- the sending end of the link to a node, and the receiving end of the link from it
+abbrev pub window_to : NodeValue → ℕ → SendWindow (List Item)
+window_to v b = slice_index_or v.windows b new_window
+
+abbrev pub receiver_from : NodeValue → ℕ → Received
+receiver_from v b = slice_index_or v.receivers b set.empty
+
+-- another node of the cluster
+abbrev pub is_another : NodeValue → NodeId → Bool
+is_another v b = nat_lt b.number v.table.nodes && not (nat_eq b.number v.table.me.number)
+
+-- frames are sent to other nodes that were not noticed
+abbrev pub is_reached : NodeValue → NodeId → Bool
+is_reached v b = is_another v b && not (set.contains v.watch.noticed b.number)
+
+-- Sending.
+
+-- what a packet to a node says that has this frame: it acknowledges what came from the node so far
+abbrev pub content_to : NodeValue → NodeId → ℕ → List Item → Content
+content_to v b frame items = record { from = v.table.me.number; to = b.number; base = base_of (receiver_from v b.number); mask = mask_of (receiver_from v b.number); frame = frame; items = items }
+
+-- what a batch for a node has now
+abbrev pub batch_to : TableValue → NodeId → List Item
+batch_to t b = items t.groups.rows (batch b.number ROOM t.groups)
+
+abbrev pub unless_empty : List Item → Option (List Item)
+unless_empty [] = None
+unless_empty (i ∷ is) = Some (i ∷ is)
+
+-- the batch that is packed next for a node, if there is one
+abbrev pub next_batch : NodeValue → NodeId → Option (List Item)
+next_batch v b = if is_reached v b && has_room (window_to v b.number) then unless_empty (batch_to v.table b) else None
+
+abbrev pub pack_content : NodeValue → NodeId → Option Content
+pack_content v b = option_map (content_to v b (window_to v b.number).next) (next_batch v b)
+
+-- after it
+abbrev pub sent_batch : NodeId → Option (List Item) → NodeValue → NodeValue
+sent_batch b None v = v
+sent_batch b (Some items) v = record v { table = table_packed b.number ROOM v.table; windows = slice_set v.windows b.number (pushed (window_to v b.number) items) }
+
+abbrev pub node_packed : NodeId → NodeValue → NodeValue
+node_packed b v = sent_batch b (next_batch v b) v
+
+-- the packet with a frame that was not acknowledged, if there is one
+abbrev pub again_content : NodeValue → NodeId → ℕ → Option Content
+again_content v b n = if is_reached v b then option_map (λ u. content_to v b u.0 u.1) (frame_again (window_to v b.number) n) else None
+
+-- the packet with an acknowledgement alone
+abbrev pub ack_content : NodeValue → NodeId → Option Content
+ack_content v b = if is_another v b then Some (content_to v b 0 []) else None
+
+-- its bytes are sent, where there is one
+abbrev pub sent : NodeValue → Option Content → SentValue
+sent v None = Nothing
+sent v (Some c) = SentPacket (packet_text v.key c)
+
+-- Taking a packet in.
+
+-- the packet is for this node, from a node of the cluster
+abbrev pub is_here : NodeValue → Content → Bool
+is_here v c = nat_eq c.to v.table.me.number && nat_lt c.from v.table.nodes
+
+abbrev pub if_here : NodeValue → Result Content PacketFault → Result Content PacketFault
+if_here v (Err fault) = Err fault
+if_here v (Ok c) = if is_here v c then Ok c else Err Node
+
+-- the packet for this node that bytes are, or what is wrong with them
+abbrev pub read_at : NodeValue → List ℕ → Result Content PacketFault
+read_at v bytes = if_here v (reading v.key bytes)
+
+-- the window after an acknowledgement: the frames that it covers are done
+abbrev pub without_done : ℕ → ℕ → SendWindow (List Item) → SendWindow (List Item)
+without_done base mask w = record w { undone = filter (λ u. not (covers base mask u.0)) w.undone }
+
+-- an item is acknowledged, and a frame; an item whose origin is no node is nobody's
+abbrev pub item_done : NodeId → TableValue → Item → TableValue
+item_done from t i = if nat_lt i.origin NODES then table_done from (address_of i) (message_of (entry_of i)) t else t
+
+abbrev pub frame_done : NodeId → TableValue → ℕ × List Item → TableValue
+frame_done from t u = fold (item_done from) t u.1
+
+-- the frames for the packet's sender that its acknowledgement newly covers
+abbrev pub newly_done : Content → NodeValue → List (ℕ × List Item)
+newly_done c v = freed (window_to v c.from) c.base c.mask
+
+-- the acknowledgement is taken
+abbrev pub took_ack : Content → NodeValue → NodeValue
+took_ack c v = record v {
+  table = fold (frame_done (node_numbered c.from)) v.table (newly_done c v);
+  windows = slice_set v.windows c.from (without_done c.base c.mask (window_to v c.from));
+}
+
+abbrev pub kind_of : Admission → Frame
+kind_of First = CameFirst
+kind_of Seen = CameBefore
+kind_of Outside = Beyond
+
+abbrev pub count_of : Admission → List Item → ℕ
+count_of First items = length items
+count_of other items = 0
+
+abbrev pub item_comes : NodeId → TableValue → Item → TableValue
+item_comes from t i = table_came from i t
+
+abbrev pub items_come : NodeId → List Item → Admission → TableValue → TableValue
+items_come from items First t = fold (item_comes from) t items
+items_come from items other t = t
+
+-- What becomes of a packet's frame at a link that received these, of its items, and what is received then; number 0 is no frame.
+abbrev pub fate : ℕ → Received → Frame
+fate n received = if nat_eq n 0 then NoFrame else kind_of (admission received n)
+
+abbrev pub new_items : ℕ → List Item → Received → ℕ
+new_items n items received = if nat_eq n 0 then 0 else count_of (admission received n) items
+
+abbrev pub frame_comes : NodeId → ℕ → List Item → Received → TableValue → TableValue
+frame_comes from n items received t = if nat_eq n 0 then t else items_come from items (admission received n) t
+
+abbrev pub receives : ℕ → Received → Received
+receives n received = if nat_eq n 0 then received else taken received n (admission received n)
+
+-- the frame is taken
+abbrev pub took_frame : Content → NodeValue → NodeValue
+took_frame c v = record v {
+  table = frame_comes (node_numbered c.from) c.frame c.items (receiver_from v c.from) v.table;
+  receivers = slice_set v.receivers c.from (receives c.frame (receiver_from v c.from));
+}
+
+-- a packet is taken: its sender is heard, then the acknowledgement counts, then the frame
+abbrev pub heard : Content → NodeValue → NodeValue
+heard c v = record v { watch = after_heard v.watch c.from }
+
+abbrev pub node_took : Content → NodeValue → NodeValue
+node_took c v = took_frame c (took_ack c (heard c v))
+
+-- what is told of it
+abbrev pub good_of : Content → NodeValue → Good
+good_of c v = record {
+  from = node_numbered c.from;
+  frame = fate c.frame (receiver_from v c.from);
+  items = new_items c.frame c.items (receiver_from v c.from);
+  done = length (newly_done c v);
+}
+
+abbrev pub taken_answer : NodeValue → Result Content PacketFault → PacketAnswer
+taken_answer v (Err fault) = Fault fault
+taken_answer v (Ok c) = TakenGood (good_of c v)
+
+abbrev pub node_read : Result Content PacketFault → NodeValue → NodeValue
+node_read (Err fault) v = v
+node_read (Ok c) v = node_took c v
+
+-- Noticing.
+
+abbrev pub notice_each : TableValue → List ℕ → TableValue
+notice_each t found = fold (λ t b. table_noticed (node_numbered b) t) t found
+
+-- after a tick: the nodes that are noticed now are noticed in each group, rising
+abbrev pub node_ticked : NodeValue → NodeValue
+node_ticked v = record v { table = notice_each v.table (rising (due v.watch)); watch = after_tick v.watch }
+
+-- What an event makes of a node, and the answer.
+pub record Turn : Type 0 where
+  pub value : NodeValue
+  pub answer : NodeAnswer
+
+-- after a reply
+abbrev pub node_did : Request → Reply → NodeValue → NodeValue
+node_did request reply v = record v { table = table_did v.watch.noticed request reply v.table }
+
+-- what a running node does
+abbrev pub running_turn : NodeValue → NodeEvent → Turn
+running_turn v (Asked request) = let reply = table_reply request v.table in record { value = node_did request reply v; answer = Replied reply }
+running_turn v (Came bytes) = let read = read_at v bytes in record { value = node_read read v; answer = Taken (taken_answer v read) }
+running_turn v (Pack b) = record { value = node_packed b v; answer = Sent (sent v (pack_content v b)) }
+running_turn v (Again b n) = record { value = v; answer = Sent (sent v (again_content v b n)) }
+running_turn v (Ack b) = record { value = v; answer = Sent (sent v (ack_content v b)) }
+running_turn v Tick = record { value = node_ticked v; answer = Ticked (Noticed (due v.watch)) }
+running_turn v Stop = record { value = record v { stopped = true }; answer = Halted HaltDone }
+
+-- a stopped node answers so to every event, and nothing changes
+abbrev pub stopped_answer : NodeEvent → NodeAnswer
+stopped_answer (Asked request) = Replied (Refused Stopped)
+stopped_answer (Came bytes) = Taken (TakenRefused Stopped)
+stopped_answer (Pack b) = Sent (SentRefused Stopped)
+stopped_answer (Again b n) = Sent (SentRefused Stopped)
+stopped_answer (Ack b) = Sent (SentRefused Stopped)
+stopped_answer Tick = Ticked (TickRefused Stopped)
+stopped_answer Stop = Halted (HaltRefused Stopped)
+
+abbrev pub turn : NodeValue → NodeEvent → Turn
+turn v event = if v.stopped then record { value = v; answer = stopped_answer event } else running_turn v event
+
+-- Want of memory.
+
+-- a request takes memory where it adds a tenant, makes a group or reads entries
+abbrev pub RequestTakesMemory : Request → Reply → Type 0
+RequestTakesMemory (AddTenant token row) reply = takes_memory reply ≡ true
+RequestTakesMemory (Make token addr spec) reply = takes_memory reply ≡ true
+RequestTakesMemory (Fetch token addr from most) reply = takes_memory reply ≡ true
+RequestTakesMemory request reply = ⊥
+
+-- the answer is want of memory, where the event takes memory: a packet is built, a tenant added, a group made, entries read
+abbrev pub IsStarved : NodeEvent → NodeAnswer → NodeAnswer → Type 0
+IsStarved (Asked request) (Replied should) answer = (answer ≡ Replied (Refused OutOfMemory)) × RequestTakesMemory request should
+IsStarved event (Sent (SentPacket text)) answer = answer ≡ Sent (SentRefused OutOfMemory)
+IsStarved event should answer = ⊥
+
+-- an event with its answer makes this of a node: what it should, or the node lacked memory and nothing has changed
+abbrev pub IsTurn : NodeValue → NodeEvent → NodeAnswer → NodeValue → Type 0
+IsTurn old event answer new = (IsStarved event (turn old event).answer answer × (new ≡ old)) ⊎ ((answer ≡ (turn old event).answer) × (new ≡ (turn old event).value))

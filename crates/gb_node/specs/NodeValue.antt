@@ -1,0 +1,34 @@
+-- A node as contracts see it.
+use Rattle.std.specs.Prelude.{ℕ, Bool, false, List, replicate}
+use Rattle.std.specs.FinSet as set
+use Rattle.gb_types.specs.declared.limits.TheConstants.{NODES}
+use Rattle.gb_frame.specs.declared.item.Item.{Item}
+use Rattle.gb_link.specs.Received.{Received}
+use Rattle.gb_link.specs.SendWindow.{SendWindow, new_window}
+use Rattle.gb_detect.specs.Watch.{Watch, start}
+use Rattle.gb_table.specs.TableValue.{TableValue, new_table}
+use Rattle.gb_node.specs.declared.plan.NodePlan.{NodePlan}
+
+pub record NodeValue : Type 0 where
+  -- the key of the cluster's packets
+  pub key : List ℕ
+  -- tenants and groups
+  pub table : TableValue
+  -- for each node, the frames for it that are not acknowledged, each a batch of items
+  pub windows : List (SendWindow (List Item))
+  -- for each node, the numbers of its frames that were received
+  pub receivers : List Received
+  -- the other nodes as the detector sees them
+  pub watch : Watch
+  pub stopped : Bool
+
+-- a node at which nothing has happened
+abbrev pub new_node : NodePlan → NodeValue
+new_node p = record {
+  key = p.cluster_key;
+  table = new_table p.me p.nodes p.places p.admin_key;
+  windows = replicate NODES new_window;
+  receivers = replicate NODES set.empty;
+  watch = start p.me.number p.nodes p.silence;
+  stopped = false;
+}

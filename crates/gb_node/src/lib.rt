@@ -1,0 +1,13 @@
+//! One event at a node: a request, bytes from the network, a packing, a tick or a stop. A node is a table of groups, a link
+//! to and from each other node, a crash detector and two keys; nothing here waits, sends or receives. Read
+//! `node::Node::take` first, then `event` and `answer`; specs/NodeStep.antt says what each event makes of a node.
+#![tactic(auto)]
+
+pub mod answer;
+pub mod event;
+pub mod node;
+pub mod packet;
+pub mod packet_text;
+pub mod plan;
+pub mod taking;
+pub mod window;

@@ -1,0 +1,395 @@
+//! The node.
+ghost use Rattle.std.specs.Prelude.{◌≡◌, ◌≤◌, ◌<◌, ◌+◌, [], IsSome, vec_capacity, List, true, false, length, replicate, sum_by, None, Some, MatchOption, IfOk, OnOk, OnErr};
+ghost use Rattle.std.specs.FinSet as set;
+ghost use Rattle.gb_types.specs.declared.limits.TheConstants.{NODES as MOST, PLACES, SILENCE_MIN, SILENCE_MAX};
+ghost use Rattle.gb_frame.specs.Batch.{batch_in, IsBatch};
+ghost use Rattle.gb_frame.specs.Packet.{packet_of};
+ghost use Rattle.gb_frame.specs.Spelling.{items_text, packet_text};
+ghost use Rattle.gb_frame.specs.declared.item.Item.{Item as ItemValue};
+ghost use Rattle.gb_frame.specs.declared.limits.TheConstants.{ROOM, SHORTEST};
+ghost use Rattle.gb_link.specs.SendWindow.{new_window, has_room, frame_again};
+ghost use Rattle.gb_groups.specs.GroupsValue.{batch};
+ghost use Rattle.gb_groups.specs.Packing.{size};
+ghost use Rattle.gb_table.specs.Requests.{is_admitted};
+ghost use Rattle.gb_node.specs.Frames.{items_in, IsHead};
+ghost use Rattle.gb_node.specs.NodeValue.{new_node};
+ghost use Rattle.gb_node.specs.NodeStep.{window_to, is_another, is_reached, content_to, batch_to, sent_batch, good_of, node_took, IsTurn};
+
+use crate::answer::{Good, Halted, NodeAnswer, PacketAnswer, Sent, Ticked};
+use crate::event::NodeEvent;
+use crate::packet::{bare_packet, frame_packet};
+use crate::packet_text::PacketText;
+use crate::plan::NodePlan;
+use gb_table::table::Table;
+use crate::taking::{notice_each, take_ack, take_frame};
+use crate::window::Window;
+use gb_cap::hmac::HmacKey;
+use gb_detect::detector::Detector;
+use gb_frame::fault::PacketFault;
+use gb_frame::limits::{ROOM, SHORTEST};
+use gb_frame::packet::Head;
+use gb_frame::reading::decode;
+use gb_frame::view::PacketView;
+use gb_link::receiver::Receiver;
+use gb_types::limits::{NODES, PLACES, SILENCE_MAX, SILENCE_MIN};
+use gb_types::memory::OutOfMemory;
+use gb_types::node::NodeId;
+use gb_types::refusal::Refusal;
+use gb_types::reply::Reply;
+use gb_types::request::Request;
+use std::alloc::Global;
+use std::marker::Model;
+
+/// A node of a cluster. Contracts see all that it holds.
+#[derive(Drop)]
+pub struct Node {
+    alloc: Global,
+    /// The key of the cluster's packets.
+    key: HmacKey,
+    table: Table,
+    /// For each node, the sending end of the link to it.
+    windows: [Window; NODES],
+    /// For each node, the receiving end of the link from it.
+    receivers: [Receiver; NODES],
+    detector: Detector,
+    stopped: bool,
+}
+
+impl Model for Node {
+    ghost use Rattle.std.specs.Coded.{codes, coded_ℕ};
+    ghost use Rattle.std.specs.Ordering.{nat_cmp};
+    ghost use Rattle.std.specs.FinSet as set;
+    ghost use Rattle.gb_node.specs.NodeValue.{NodeValue};
+
+    ghost Value = { NodeValue };
+
+    ghost coded = { Prim.hlevel (codes, set.code {R = nat_cmp} coded_ℕ) };
+
+    ghost view = { λ n. record { key = n.key; table = n.table; windows = n.windows; receivers = n.receivers; watch = n.detector; stopped = n.stopped } };
+}
+
+/// For each node, the sending end of a link on which nothing was sent.
+fn new_windows(alloc: Global) -> [Window; NODES]
+    ensures { result ≡ replicate MOST new_window }
+{
+    [
+        Window::new(alloc),
+        Window::new(alloc),
+        Window::new(alloc),
+        Window::new(alloc),
+        Window::new(alloc),
+        Window::new(alloc),
+        Window::new(alloc),
+        Window::new(alloc),
+        Window::new(alloc),
+        Window::new(alloc),
+        Window::new(alloc),
+        Window::new(alloc),
+        Window::new(alloc),
+        Window::new(alloc),
+        Window::new(alloc),
+        Window::new(alloc),
+    ]
+}
+
+/// For each node, the receiving end of a link on which nothing came.
+fn new_receivers() -> [Receiver; NODES]
+    ensures { result ≡ replicate MOST set.empty }
+{
+    [
+        Receiver::new(),
+        Receiver::new(),
+        Receiver::new(),
+        Receiver::new(),
+        Receiver::new(),
+        Receiver::new(),
+        Receiver::new(),
+        Receiver::new(),
+        Receiver::new(),
+        Receiver::new(),
+        Receiver::new(),
+        Receiver::new(),
+        Receiver::new(),
+        Receiver::new(),
+        Receiver::new(),
+        Receiver::new(),
+    ]
+}
+
+impl Node {
+    /// A node at which nothing has happened.
+    pub fn start(alloc: Global, plan: &NodePlan) -> Node
+        requires cluster { plan.now.nodes ≤ MOST }
+        requires member { plan.now.me.number < plan.now.nodes }
+        requires places { plan.now.places ≤ PLACES }
+        requires least { SILENCE_MIN ≤ plan.now.silence }
+        requires most { plan.now.silence ≤ SILENCE_MAX }
+        ensures { result ≡ new_node plan.now }
+    {
+        Node {
+            alloc,
+            key: HmacKey::new(&plan.cluster_key),
+            table: Table::new(alloc, plan.me, plan.nodes, plan.places, &plan.admin_key),
+            windows: new_windows(alloc),
+            receivers: new_receivers(),
+            detector: Detector::new(plan.me, plan.nodes, plan.silence),
+            stopped: false,
+        }
+    }
+
+    /// Answers a request. Without the token that it needs a running node answers Denied, whatever it holds; after a
+    /// refusal nothing has changed.
+    pub fn request(&mut self, request: &Request) -> Reply
+        ensures turn { IsTurn self.old (NodeEvent.Request request.now) (NodeAnswer.Reply result) self.new }
+        ensures denied { self.old.stopped ≡ false → is_admitted request.now self.old.table ≡ false → (result ≡ Reply.Refused Refusal.Denied) × (self.new ≡ self.old) }
+        ensures stopped { self.old.stopped ≡ true → (result ≡ Reply.Refused Refusal.Stopped) × (self.new ≡ self.old) }
+    {
+        if self.stopped {
+            return Reply::Refused(Refusal::Stopped);
+        }
+        let noticed = self.detector.noticed();
+        self.table.request(request, &noticed)
+    }
+
+    /// Whether this is another node of the cluster.
+    fn is_another(&self, to: NodeId) -> bool
+        ensures { result ≡ is_another self.now to }
+    {
+        to.number < self.table.nodes() && to != self.table.me()
+    }
+
+    /// Whether frames are sent to the node: it is another one of the cluster, and was not noticed.
+    fn is_reached(&self, to: NodeId) -> bool
+        ensures { result ≡ is_reached self.now to }
+    {
+        self.is_another(to) && !self.detector.noticed().contains(to)
+    }
+
+    /// The head of a packet to another node, with this frame's number: it acknowledges what came from there so far.
+    fn head(&self, to: NodeId, frame: u64) -> Head
+        requires { is_another self.now to ≡ true }
+        ensures head { IsHead result }
+        ensures frame { result.frame ≡ frame }
+        ensures content { (items : List ItemValue) → packet_of result items ≡ content_to self.now to frame items }
+    {
+        let (base, mask) = self.receivers[to.index()].ack();
+        Head {
+            from: self.table.me(),
+            to,
+            base,
+            mask,
+            frame,
+        }
+    }
+
+    /// The next batch for a node, which has some items, with so many bytes, becomes the next frame, whose number this
+    /// gives. Without memory nothing has changed.
+    fn push_batch(&mut self, to: NodeId, bytes: usize) -> Result<u64, OutOfMemory>
+        requires room { has_room (window_to self.old to.number) ≡ true }
+        requires some { 0 < length (batch to.number ROOM self.old.table.groups) }
+        requires bytes { bytes ≡ sum_by size (batch to.number ROOM self.old.table.groups) }
+        ensures state { OnOk result (self.new ≡ sent_batch to (Some (batch_to self.old.table to)) self.old) }
+        ensures frame { IfOk result (λ number. (0 < number) × (number ≡ (window_to self.old to.number).next) × (frame_again (window_to self.new to.number) number ≡ Some (number, batch_to self.old.table to))) }
+        ensures texts { OnOk result (length (items_text (batch_to self.old.table to)) ≡ bytes) }
+        ensures err { OnErr result (self.new ≡ self.old) }
+    {
+        let window = &mut self.windows[to.index()];
+        window.pack(&mut self.table, to, bytes)
+    }
+
+    /// The texts of the frame for a node with this number that was not acknowledged, and the number; for 0 the lowest
+    /// such frame.
+    fn undone(&self, to: NodeId, number: u64) -> Option<(u64, &[u8])>
+        ensures { MatchOption result (frame_again (window_to self.now to.number) number ≡ None) (λ r. (frame_again (window_to self.now to.number) number ≡ Some (r.0, batch_in r.1.now)) × IsBatch r.1.now × (0 < r.0)) }
+    {
+        self.windows[to.index()].again(number)
+    }
+
+    /// The packet to another node with the frame that has this number and was not acknowledged, written into an empty
+    /// vector with room for it.
+    fn write_frame(&self, to: NodeId, number: u64, packet: Vec<u8>) -> PacketText
+        requires another { is_another self.now to ≡ true }
+        requires number { 0 < number }
+        requires frame { IsSome (frame_again (window_to self.now to.number) number) }
+        requires empty { packet.items ≡ [] }
+        requires room { SHORTEST + length (items_text (items_in (frame_again (window_to self.now to.number) number))) ≤ vec_capacity packet }
+        ensures { result ≡ packet_text self.now.key (content_to self.now to number (items_in (frame_again (window_to self.now to.number) number))) }
+    {
+        let Some((_, texts)) = self.undone(to, number) else {
+            unreachable!()
+        };
+        frame_packet(self.head(to, number), texts, &self.key, packet)
+    }
+
+    /// Sends the next batch for a node, which has some items, with so many bytes. Without memory nothing has changed.
+    fn send_batch(&mut self, to: NodeId, bytes: usize) -> Result<PacketText, OutOfMemory>
+        requires another { is_another self.old to ≡ true }
+        requires room { has_room (window_to self.old to.number) ≡ true }
+        requires some { 0 < length (batch to.number ROOM self.old.table.groups) }
+        requires bytes { bytes ≡ sum_by size (batch to.number ROOM self.old.table.groups) }
+        requires most { bytes ≤ ROOM }
+        ensures packet { IfOk result (λ p. p ≡ packet_text self.old.key (content_to self.old to (window_to self.old to.number).next (batch_to self.old.table to))) }
+        ensures state { OnOk result (self.new ≡ sent_batch to (Some (batch_to self.old.table to)) self.old) }
+        ensures err { OnErr result (self.new ≡ self.old) }
+    {
+        let packet = Vec::with_capacity(self.alloc, SHORTEST + bytes)?;
+        let number = self.push_batch(to, bytes)?;
+        Ok(self.write_frame(to, number, packet))
+    }
+
+    /// Packs what waits for a node as the next frame of the link to it. Nothing, with nothing changed, where the node is
+    /// no other one of the cluster or was noticed, where the link has no room, or where nothing waits; after a refusal
+    /// nothing has changed either.
+    pub fn pack(&mut self, to: NodeId) -> Sent
+        ensures { IsTurn self.old (NodeEvent.Pack to) (NodeAnswer.Sent result) self.new }
+    {
+        if self.stopped {
+            return Sent::Refused(Refusal::Stopped);
+        }
+        if !self.is_reached(to) || !self.windows[to.index()].room() {
+            return Sent::Nothing;
+        }
+        let (count, bytes) = self.table.measure(to, ROOM);
+        if count == 0 {
+            return Sent::Nothing;
+        }
+        match self.send_batch(to, bytes) {
+            Ok(packet) => Sent::Packet(packet),
+            Err(_) => Sent::Refused(Refusal::OutOfMemory),
+        }
+    }
+
+    /// The packet to another node with the frame that has these texts.
+    fn frame(&self, to: NodeId, number: u64, texts: &[u8]) -> Result<PacketText, OutOfMemory>
+        requires another { is_another self.now to ≡ true }
+        requires number { 0 < number }
+        requires batch { IsBatch texts.now }
+        ensures { IfOk result (λ p. p ≡ packet_text self.now.key (content_to self.now to number (batch_in texts.now))) }
+    {
+        let packet = Vec::with_capacity(self.alloc, SHORTEST + texts.len())?;
+        Ok(frame_packet(self.head(to, number), texts, &self.key, packet))
+    }
+
+    /// Sends a frame that was not acknowledged once more, by its number; 0 stands for the lowest such number. Changes
+    /// nothing.
+    pub fn again(&self, to: NodeId, number: u64) -> Sent
+        ensures { IsTurn self.now (NodeEvent.Again to number) (NodeAnswer.Sent result) self.now }
+    {
+        if self.stopped {
+            return Sent::Refused(Refusal::Stopped);
+        }
+        if !self.is_reached(to) {
+            return Sent::Nothing;
+        }
+        let Some((found, texts)) = self.undone(to, number) else {
+            return Sent::Nothing;
+        };
+        match self.frame(to, found, texts) {
+            Ok(packet) => Sent::Packet(packet),
+            Err(_) => Sent::Refused(Refusal::OutOfMemory),
+        }
+    }
+
+    /// The packet to another node that acknowledges what came from there so far, alone.
+    fn acknowledgement(&self, to: NodeId) -> Result<PacketText, OutOfMemory>
+        requires { is_another self.now to ≡ true }
+        ensures { IfOk result (λ p. p ≡ packet_text self.now.key (content_to self.now to 0 [])) }
+    {
+        bare_packet(self.alloc, self.head(to, 0), &self.key)
+    }
+
+    /// Sends an acknowledgement alone. Changes nothing.
+    pub fn ack(&self, to: NodeId) -> Sent
+        ensures { IsTurn self.now (NodeEvent.Ack to) (NodeAnswer.Sent result) self.now }
+    {
+        if self.stopped {
+            return Sent::Refused(Refusal::Stopped);
+        }
+        if !self.is_another(to) {
+            return Sent::Nothing;
+        }
+        match self.acknowledgement(to) {
+            Ok(packet) => Sent::Packet(packet),
+            Err(_) => Sent::Refused(Refusal::OutOfMemory),
+        }
+    }
+
+    /// Takes a packet from a node of the cluster: its sender is heard, then the acknowledgement counts, then the frame.
+    fn take_packet(&mut self, packet: &PacketView<'_>) -> Good
+        ensures good { result ≡ good_of packet.now self.old }
+        ensures state { self.new ≡ node_took packet.now self.old }
+    {
+        let head = packet.head();
+        let from = head.from;
+        let at = from.index();
+        self.detector.heard(from);
+        let window = &mut self.windows[at];
+        let done = take_ack(&mut self.table, window, from, head.base, head.mask);
+        let receiver = &mut self.receivers[at];
+        let (frame, items) = take_frame(&mut self.table, receiver, from, packet);
+        Good {
+            from,
+            frame,
+            items,
+            done,
+        }
+    }
+
+    /// Takes bytes that came. They are read where they lie; after a fault nothing has changed, the detector included.
+    /// Takes no memory.
+    pub fn packet(&mut self, bytes: &[u8]) -> PacketAnswer
+        ensures { IsTurn self.old (NodeEvent.Packet bytes.now) (NodeAnswer.Taken result) self.new }
+    {
+        if self.stopped {
+            return PacketAnswer::Refused(Refusal::Stopped);
+        }
+        match decode(bytes, &self.key) {
+            Err(fault) => PacketAnswer::Fault(fault),
+            Ok(packet) => {
+                let head = packet.head();
+                if head.to != self.table.me() || head.from.number >= self.table.nodes() {
+                    return PacketAnswer::Fault(PacketFault::Node);
+                }
+                PacketAnswer::Good(self.take_packet(&packet))
+            }
+        }
+    }
+
+    /// The time ticks. The nodes that are noticed now are noticed in each group, rising. Takes no memory.
+    pub fn tick(&mut self) -> Ticked
+        ensures { IsTurn self.old NodeEvent.Tick (NodeAnswer.Ticked result) self.new }
+    {
+        if self.stopped {
+            return Ticked::Refused(Refusal::Stopped);
+        }
+        let found = self.detector.tick();
+        notice_each(&mut self.table, &found);
+        Ticked::Noticed(found)
+    }
+
+    /// Stops the node, for good: it answers Stopped to every event from then on.
+    pub fn stop(&mut self) -> Halted
+        ensures { IsTurn self.old NodeEvent.Stop (NodeAnswer.Halted result) self.new }
+    {
+        if self.stopped {
+            return Halted::Refused(Refusal::Stopped);
+        }
+        self.stopped = true;
+        Halted::Done
+    }
+
+    /// One event.
+    pub fn take(&mut self, event: &NodeEvent) -> NodeAnswer
+        ensures turn { IsTurn self.old event.now result self.new }
+    {
+        match event {
+            NodeEvent::Request(request) => NodeAnswer::Reply(self.request(request)),
+            NodeEvent::Packet(bytes) => NodeAnswer::Taken(self.packet(bytes.as_slice())),
+            NodeEvent::Pack(to) => NodeAnswer::Sent(self.pack(*to)),
+            NodeEvent::Again(to, number) => NodeAnswer::Sent(self.again(*to, *number)),
+            NodeEvent::Ack(to) => NodeAnswer::Sent(self.ack(*to)),
+            NodeEvent::Tick => NodeAnswer::Ticked(self.tick()),
+            NodeEvent::Stop => NodeAnswer::Halted(self.stop()),
+        }
+    }
+}

@@ -1,0 +1,39 @@
+//! Packets of a node, as their bytes.
+ghost use Rattle.std.specs.Prelude.{◌≡◌, ◌+◌, ◌<◌, ◌≤◌, [], length, IfOk, vec_capacity};
+ghost use Rattle.gb_frame.specs.Batch.{batch_in, IsBatch};
+ghost use Rattle.gb_frame.specs.Packet.{packet_of};
+ghost use Rattle.gb_frame.specs.Spelling.{packet_text};
+ghost use Rattle.gb_frame.specs.declared.limits.TheConstants.{SHORTEST};
+ghost use Rattle.gb_node.specs.Frames.{IsHead};
+
+use crate::packet_text::PacketText;
+use gb_cap::hmac::HmacKey;
+use gb_frame::limits::SHORTEST;
+use gb_frame::packet::Head;
+use gb_frame::writing::wrap;
+use gb_types::memory::OutOfMemory;
+use std::alloc::Global;
+
+/// The packet with this head and the frame with these texts, written into an empty vector with room for it.
+pub fn frame_packet(head: Head, texts: &[u8], key: &HmacKey, mut packet: Vec<u8>) -> PacketText
+    requires head { IsHead head }
+    requires frame { 0 < head.frame }
+    requires batch { IsBatch texts.now }
+    requires empty { packet.items ≡ [] }
+    requires room { SHORTEST + length texts.now ≤ vec_capacity packet }
+    ensures { result ≡ packet_text key.now (packet_of head (batch_in texts.now)) }
+{
+    wrap(head, texts, key, &mut packet);
+    PacketText::from(packet)
+}
+
+/// The packet with this head alone, which has no frame.
+pub fn bare_packet(alloc: Global, head: Head, key: &HmacKey) -> Result<PacketText, OutOfMemory>
+    requires head { IsHead head }
+    requires frame { head.frame ≡ 0 }
+    ensures { IfOk result (λ p. p ≡ packet_text key.now (packet_of head [])) }
+{
+    let mut packet = Vec::with_capacity(alloc, SHORTEST)?;
+    wrap(head, &[], key, &mut packet);
+    Ok(PacketText::from(packet))
+}

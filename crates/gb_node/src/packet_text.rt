@@ -1,0 +1,39 @@
+//! The bytes of packets.
+ghost use Rattle.std.specs.Prelude.{◌≡◌, ℕ, List};
+
+use std::marker::Model;
+
+/// The bytes of a packet, or those that came in the place of one. Contracts see their list.
+#[derive(Debug, Drop)]
+pub struct PacketText {
+    bytes: Vec<u8>,
+}
+
+impl Model for PacketText {
+    ghost Value = { List ℕ };
+
+    ghost view = { λ p. p.bytes.items };
+}
+
+impl PacketText {
+    pub fn as_slice(&self) -> &[u8]
+        ensures { result.now ≡ self.now }
+    {
+        self.bytes.as_slice()
+    }
+
+    /// The bytes, with no copy.
+    pub fn into_vec(self) -> Vec<u8>
+        ensures { result.items ≡ self }
+    {
+        self.bytes
+    }
+}
+
+impl From<Vec<u8>> for PacketText {
+    ghost from_gives = { λ v p. p ≡ v.items };
+
+    fn from(bytes: Vec<u8>) -> PacketText {
+        PacketText { bytes }
+    }
+}

@@ -1,0 +1,107 @@
+//! What a packet and a tick do to the groups of a node, item by item.
+ghost use Rattle.std.specs.Prelude.{◌≡◌, fold, length};
+ghost use Rattle.gb_types.specs.Rising.{rising};
+ghost use Rattle.gb_frame.specs.Batch.{batch_in, IsBatch};
+ghost use Rattle.gb_frame.specs.Packet.{item_of};
+ghost use Rattle.gb_link.specs.SendWindow.{freed};
+ghost use Rattle.gb_node.specs.NodeStep.{item_done, frame_done, without_done, item_comes, fate, new_items, frame_comes, receives, notice_each};
+
+use crate::answer::Frame;
+use crate::window::Window;
+use gb_frame::item::ItemView;
+use gb_frame::view::{ItemViews, PacketView};
+use gb_link::receiver::{Admission, Receiver};
+use gb_table::table::Table;
+use gb_types::address::Addr;
+use gb_types::message::MsgId;
+use gb_types::node::{NodeId, NodeSet};
+
+/// An item is acknowledged by a node.
+fn finish_item(table: &mut Table, by: NodeId, item: ItemView<'_>)
+    ensures { table.new ≡ item_done by table.old (item_of item.entry) }
+{
+    let Some(origin) = NodeId::from_number(item.origin) else {
+        return;
+    };
+    let addr = Addr {
+        tenant: item.tenant,
+        group: item.group,
+    };
+    let m = MsgId {
+        origin,
+        seq: item.seq,
+    };
+    table.done(by, addr, m);
+}
+
+/// A frame with these texts is acknowledged by a node: each of its items is, in order.
+fn finish_frame(table: &mut Table, by: NodeId, texts: &[u8])
+    requires { IsBatch texts.now }
+    ensures { table.new ≡ fold (item_done by) table.old (batch_in texts.now) }
+{
+    for item in ItemViews::of_texts(texts) {
+        finish_item(table, by, item);
+    }
+}
+
+/// Takes an acknowledgement from a node: the frames that it newly covers are done, by rising number. How many these
+/// are, at most 64.
+pub fn take_ack(table: &mut Table, window: &mut Window, by: NodeId, base: u64, mask: u64) -> u32
+    ensures count { result ≡ length (freed window.old base mask) }
+    ensures window { window.new ≡ without_done base mask window.old }
+    ensures table { table.new ≡ fold (frame_done by) table.old (freed window.old base mask) }
+{
+    // The proof reads how many frames may be undone.
+    let _ = window.room();
+    let mut done = 0;
+    while let Some((_, texts)) = window.acked(base, mask) {
+        finish_frame(table, by, &texts);
+        done += 1;
+    }
+    done
+}
+
+/// A packet's items come from a node, in order.
+fn bring(table: &mut Table, from: NodeId, packet: &PacketView<'_>)
+    ensures { table.new ≡ fold (item_comes from) table.old packet.now.items }
+{
+    for item in packet.items() {
+        table.item(from, item);
+    }
+}
+
+/// Takes a packet's frame, if it has one: its items come where its number does for the first time. What became of it,
+/// and how many items came.
+pub fn take_frame(
+    table: &mut Table,
+    receiver: &mut Receiver,
+    from: NodeId,
+    packet: &PacketView<'_>,
+) -> (Frame, u32)
+    ensures frame { result.0 ≡ fate packet.now.frame receiver.old }
+    ensures items { result.1 ≡ new_items packet.now.frame packet.now.items receiver.old }
+    ensures table { table.new ≡ frame_comes from packet.now.frame packet.now.items receiver.old table.old }
+    ensures receiver { receiver.new ≡ receives packet.now.frame receiver.old }
+{
+    let number = packet.head().frame;
+    if number == 0 {
+        return (Frame::Nothing, 0);
+    }
+    match receiver.admit(number) {
+        Admission::First => {
+            bring(table, from, packet);
+            (Frame::First, u32::from(packet.len()))
+        }
+        Admission::Seen => (Frame::Seen, 0),
+        Admission::Outside => (Frame::Outside, 0),
+    }
+}
+
+/// Notices these nodes in each group, rising.
+pub fn notice_each(table: &mut Table, found: &NodeSet)
+    ensures { table.new ≡ notice_each table.old (rising found.now) }
+{
+    for node in found.nodes() {
+        table.notice(node);
+    }
+}

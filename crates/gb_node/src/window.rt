@@ -1,0 +1,104 @@
+//! The sending end of a link whose frames are batches of items, kept as their texts.
+ghost use Rattle.std.specs.Prelude.{◌≡◌, ◌<◌, ◌∷◌, [], true, length, sum_by, None, Some, MatchOption, IfOk, OnOk, OnErr};
+ghost use Rattle.gb_frame.specs.declared.limits.TheConstants.{ROOM};
+ghost use Rattle.gb_frame.specs.Batch.{batch_in, IsBatch};
+ghost use Rattle.gb_frame.specs.Spelling.{items_text};
+ghost use Rattle.gb_link.specs.SendWindow.{IsWindow, new_window, has_room, pushed, frame_again, freed, acknowledged};
+ghost use Rattle.gb_groups.specs.GroupsValue.{batch};
+ghost use Rattle.gb_groups.specs.Packing.{size};
+ghost use Rattle.gb_table.specs.TableValue.{table_packed};
+ghost use Rattle.gb_node.specs.NodeStep.{batch_to};
+
+use gb_table::table::Table;
+use gb_frame::laws::texts_tell_items;
+use gb_frame::limits::ROOM;
+use gb_link::spaced::SpacedSender;
+use gb_types::memory::OutOfMemory;
+use gb_types::node::NodeId;
+use std::alloc::Global;
+use std::marker::Model;
+
+/// The frames to a node that are not acknowledged, each a batch of items. Contracts see the items; kept are their texts,
+/// each payload once.
+#[derive(Drop)]
+pub struct Window {
+    sender: SpacedSender<Vec<u8>>,
+}
+
+impl Model for Window {
+    ghost use Rattle.std.specs.Prelude.{List};
+    ghost use Rattle.gb_frame.specs.declared.item.Item.{Item};
+    ghost use Rattle.gb_link.specs.SendWindow.{SendWindow};
+    ghost use Rattle.gb_node.specs.Frames.{window_of, AreBatches};
+
+    ghost Value = { SendWindow (List Item) };
+
+    ghost view = { λ w. window_of w.sender.window };
+
+    ghost invariant = { λ w. AreBatches w.sender.window.undone };
+}
+
+impl Window {
+    /// Nothing was sent.
+    pub fn new(alloc: Global) -> Window
+        ensures { result ≡ new_window }
+    {
+        Window {
+            sender: SpacedSender::new(alloc),
+        }
+    }
+
+    /// Whether one more frame may be sent.
+    pub fn room(&self) -> bool
+        ensures room { result ≡ has_room self.now }
+        ensures window { IsWindow self.now }
+    {
+        self.sender.room()
+    }
+
+    /// The texts of the frame with this number that is not acknowledged, and the number; for 0 the lowest such frame.
+    pub fn again(&self, number: u64) -> Option<(u64, &[u8])>
+        ensures { MatchOption result (frame_again self.now number ≡ None) (λ r. (frame_again self.now number ≡ Some (r.0, batch_in r.1.now)) × IsBatch r.1.now × (0 < r.0)) }
+    {
+        // The proof reads that frames are numbered from 1.
+        let _ = self.sender.room();
+        match self.sender.again(number) {
+            Some((found, texts)) => Some((found, texts.as_slice())),
+            None => None,
+        }
+    }
+
+    /// Hands out the texts of the lowest frame that the acknowledgement covers, with its number; it is done then. To take
+    /// an acknowledgement whole, call until there is none.
+    pub fn acked(&mut self, base: u64, mask: u64) -> Option<(u64, Vec<u8>)>
+        ensures first { MatchOption result (freed self.old base mask ≡ []) (λ u. (freed self.old base mask ≡ (u.0, batch_in u.1.items) ∷ freed self.new base mask) × IsBatch u.1.items) }
+        ensures done { self.new ≡ acknowledged self.old base mask }
+    {
+        self.sender.acked(base, mask)
+    }
+
+    /// Packs the next batch of a table for a node, some items with so many bytes, where it stays, as the next frame,
+    /// and gives its number. Without memory nothing has changed.
+    pub fn pack(
+        &mut self,
+        table: &mut Table,
+        to: NodeId,
+        bytes: usize,
+    ) -> Result<u64, OutOfMemory>
+        requires room { has_room self.old ≡ true }
+        requires some { 0 < length (batch to.number ROOM table.old.groups) }
+        requires bytes { bytes ≡ sum_by size (batch to.number ROOM table.old.groups) }
+        ensures frame { IfOk result (λ number. (0 < number) × (number ≡ self.old.next) × (frame_again self.new number ≡ Some (number, batch_to table.old to))) }
+        ensures texts { OnOk result (length (items_text (batch_to table.old to)) ≡ bytes) }
+        ensures window { OnOk result (self.new ≡ pushed self.old (batch_to table.old to)) }
+        ensures table { OnOk result (table.new ≡ table_packed to.number ROOM table.old) }
+        ensures err { OnErr result ((self.new ≡ self.old) × (table.new ≡ table.old)) }
+    {
+        texts_tell_items();
+        // The proof reads how frames are numbered.
+        let _ = self.sender.room();
+        self.sender.space(bytes)?;
+        table.pack_into(to, ROOM, self.sender.spare());
+        Ok(self.sender.commit())
+    }
+}
