@@ -42,6 +42,7 @@ impl From<AllocError> for BindFault {
 pub struct UdpPort {
     socket: UdpSocket,
     space: Vec<u8>,
+    me: NodeId,
     nodes: u8,
     base: u16,
     failures: u64,
@@ -55,7 +56,7 @@ impl Model for UdpPort {
 
     ghost Value = { UdpValue };
 
-    ghost view = { λ port. record { nodes = port.nodes; base = port.base; failures = port.failures } };
+    ghost view = { λ port. record { me = port.me.number; nodes = port.nodes; base = port.base; failures = port.failures } };
 
     ghost invariant = { λ port. (vec_len port.space ≡ SPACE) × (port.nodes ≤ NODES) × (port.base + NODES ≤ 2 ^ 16) };
 }
@@ -83,7 +84,7 @@ impl UdpPort {
     ) -> Result<UdpPort, BindFault>
         requires nodes { (me.number < nodes) × (nodes ≤ NODES) }
         requires ports { (0 < base) × (base + NODES ≤ 2 ^ 16) }
-        ensures { IfOk result (λ port. port ≡ record { nodes = nodes; base = base; failures = 0 }) }
+        ensures { IfOk result (λ port. port ≡ record { me = me.number; nodes = nodes; base = base; failures = 0 }) }
     {
         let space = vec![in alloc; 0u8; SPACE]?;
         let Ok(socket) = bound(rt, base + u16::from(me.number)) else {
@@ -92,6 +93,7 @@ impl UdpPort {
         Ok(UdpPort {
             socket,
             space,
+            me,
             nodes,
             base,
             failures: 0,
@@ -106,7 +108,7 @@ impl Port for UdpPort {
     fn send(&mut self, to: NodeId, bytes: &[u8]) -> Result<bool, PortFault>
         ensures fault { OnErr result (self.new.failures ≡ self.old.failures + 1) }
         ensures well { OnOk result (self.new.failures ≡ self.old.failures) }
-        ensures same { (self.new.nodes ≡ self.old.nodes) × (self.new.base ≡ self.old.base) }
+        ensures same { self.new ≡ record self.old { failures = self.new.failures } }
     {
         if to.number >= self.nodes {
             return failed(&mut self.failures, PortFault::Device, false);
@@ -128,7 +130,7 @@ impl Port for UdpPort {
     fn recv(&mut self) -> Result<Option<Vec<u8>>, PortFault>
         ensures fault { OnErr result (self.new.failures ≡ self.old.failures + 1) }
         ensures well { OnOk result (self.new.failures ≡ self.old.failures) }
-        ensures same { (self.new.nodes ≡ self.old.nodes) × (self.new.base ≡ self.old.base) }
+        ensures same { self.new ≡ record self.old { failures = self.new.failures } }
         ensures short { IfOk result (λ answer. IfSome answer (λ packet. vec_len packet ≤ PACKET + 1)) }
     {
         let count = match self.socket.recv_from(&mut self.space) {
