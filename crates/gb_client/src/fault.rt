@@ -12,8 +12,8 @@ pub enum ClientFault {
     /// The words behind the subcommand spell no request, or no token can be made of them.
     #[error("the words after the subcommand spell no request")]
     Words,
-    /// A line of the secrets is not `admin KEY`, `tenant KEY` or `token TOKEN`.
-    #[error("a line of the secrets is not admin KEY, tenant KEY or token TOKEN, with 64 hexadecimal digits")]
+    /// The secrets cannot be read, or a line of them is not `admin KEY`, `tenant KEY` or `token TOKEN`.
+    #[error("the secrets cannot be read, or a line of them is not admin KEY, tenant KEY or token TOKEN with 64 hexadecimal digits")]
     Secrets,
     /// A key or token that is needed is not among the secrets.
     #[error("a key that is needed is not among the secrets")]
