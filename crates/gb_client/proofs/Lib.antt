@@ -1,0 +1,3 @@
+pub mod NeedLemmas
+pub mod SecretLemmas
+pub mod RequestLemmas

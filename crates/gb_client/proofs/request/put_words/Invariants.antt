@@ -1,0 +1,6 @@
+use Rattle.std.proofs.Common.{◌≡◌, ◌++◌, drop, codes}
+use Rattle.std.specs.List.{flat_map}
+use Rattle.gb_client.proofs.request.put_words.Given as goal
+
+abbrev pub invariant-loop-word : goal.invariant-loop-word
+invariant-loop-word l = l.out.items ++ flat_map (λ word. codes " " ++ word.now) (drop l.word-index l.words) ≡ l.initial.out.items ++ flat_map (λ word. codes " " ++ word.now) l.words

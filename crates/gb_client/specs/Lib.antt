@@ -1,0 +1,4 @@
+pub mod Requests
+pub mod Answers
+pub mod Secrets
+pub mod Asking

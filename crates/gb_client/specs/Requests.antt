@@ -1,0 +1,34 @@
+-- What a client asks.
+use Rattle.std.specs.Prelude.{◌≡◌, ℕ, List, ◌∷◌, ◌++◌, codes, decimal}
+use Rattle.std.specs.List.{flat_map}
+use Rattle.hex.specs.Hex.{encode_lower}
+use Rattle.gb_types.specs.RequestWords.{IsShort}
+use Rattle.gb_types.specs.declared.node.NodeId.{NodeId}
+use Rattle.gb_cap.specs.declared.token.Need.{Need}
+use Rattle.gb_cap.specs.declared.token.Need.TheVariants.{Admin, Tenant, Member}
+use Rattle.gb_session.specs.declared.head.Head.{Head}
+use Rattle.gb_session.specs.declared.head.Head.TheVariants as heads
+use Rattle.gb_session.specs.Head.{head_word}
+
+-- a head, a token and the words behind them, with single spaces between them
+abbrev pub body_of : Head → List ℕ → List (List ℕ) → List ℕ
+body_of head token words = head_word head ++ codes " " ++ encode_lower token ++ flat_map (λ word. codes " " ++ word) words
+
+-- words that begin with a tenant ask for what the tenant may do
+abbrev pub NeedsTenant : Need → List (List ℕ) → Type 0
+NeedsTenant need words = (tenant : ℕ) × (rest : List (List ℕ)) × (need ≡ Tenant tenant) × IsShort tenant × (words ≡ decimal tenant ∷ rest)
+
+-- words that begin with a tenant and a group ask for what the group's member at the node may do
+abbrev pub NeedsMember : NodeId → Need → List (List ℕ) → Type 0
+NeedsMember node need words =
+    (tenant : ℕ) × (group : ℕ) × (rest : List (List ℕ)) × (need ≡ Member tenant group node) × IsShort tenant × IsShort group × (words ≡ decimal tenant ∷ decimal group ∷ rest)
+
+-- what the token of a request with this head and these words at a node is asked for
+abbrev pub Needs : Head → NodeId → Need → List (List ℕ) → Type 0
+Needs heads.Tenant node need words = need ≡ Admin
+Needs heads.Make node need words = NeedsTenant need words
+Needs heads.Open node need words = NeedsTenant need words
+Needs heads.Shut node need words = NeedsTenant need words
+Needs heads.Drop node need words = NeedsTenant need words
+Needs heads.Say node need words = NeedsMember node need words
+Needs heads.Fetch node need words = NeedsMember node need words

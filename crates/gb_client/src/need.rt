@@ -1,0 +1,48 @@
+//! What the token of a request is asked for.
+ghost use Rattle.std.specs.Prelude.{◌≡◌, ◌↔◌, Some, map};
+ghost use Rattle.gb_cap.specs.declared.token.Need.{Need as TheNeed};
+ghost use Rattle.gb_client.specs.Requests.{NeedsTenant, NeedsMember, Needs};
+
+use gb_cap::token::Need;
+use gb_session::head::Head;
+use gb_types::node::NodeId;
+use gb_types::request_words::read_u16;
+
+// Words that begin with a tenant.
+fn tenant_need(words: &[&[u8]]) -> Option<Need>
+    ensures { (need : TheNeed) → (result ≡ Some need) ↔ NeedsTenant need (map (λ word. word.now) words.now) }
+{
+    let [tenant, ..] = words else {
+        return None;
+    };
+    let tenant = read_u16(tenant)?;
+    Some(Need::Tenant(tenant))
+}
+
+// Words that begin with a tenant and a group.
+fn member_need(node: NodeId, words: &[&[u8]]) -> Option<Need>
+    ensures { (need : TheNeed) → (result ≡ Some need) ↔ NeedsMember node need (map (λ word. word.now) words.now) }
+{
+    let [tenant, group, ..] = words else {
+        return None;
+    };
+    let tenant = read_u16(tenant)?;
+    let group = read_u16(group)?;
+    Some(Need::Member(tenant, group, node))
+}
+
+/// What the token of a request with this head and these words behind the token is asked for, at this node. None where the
+/// words do not begin with the numbers that it takes.
+pub fn need_of(head: Head, node: NodeId, words: &[&[u8]]) -> Option<Need>
+    ensures { (need : TheNeed) → (result ≡ Some need) ↔ Needs head node need (map (λ word. word.now) words.now) }
+{
+    match head {
+        Head::Tenant => Some(Need::Admin),
+        Head::Make => tenant_need(words),
+        Head::Open => tenant_need(words),
+        Head::Shut => tenant_need(words),
+        Head::Drop => tenant_need(words),
+        Head::Say => member_need(node, words),
+        Head::Fetch => member_need(node, words),
+    }
+}

@@ -1,0 +1,90 @@
+//! The text of a request.
+ghost use Rattle.std.specs.Prelude.{◌≡◌, ◌⊎◌, ◌++◌, codes, map, IfOk, IfErr, OnOk, Err, ◌≤◌, vec_len};
+ghost use Rattle.gb_session.specs.declared.grammar.TheConstants.{BODY};
+ghost use Rattle.std.specs.List.{flat_map};
+ghost use Rattle.gb_types.specs.declared.request.Request.{Request as TheRequest};
+ghost use Rattle.gb_session.specs.Grammar.{IsRequestText};
+ghost use Rattle.gb_session.specs.Head.{head_word};
+ghost use Rattle.gb_client.specs.Requests.{body_of};
+
+use crate::fault::ClientFault;
+use gb_session::grammar::parse_request;
+use gb_session::head::Head;
+use gb_types::memory::OutOfMemory;
+use gb_types::refusal::Refusal;
+use std::alloc::Global;
+
+/// The word for a head.
+pub fn head_word(head: Head) -> &'static [u8]
+    ensures { result.now ≡ head_word head }
+{
+    match head {
+        Head::Tenant => b"tenant",
+        Head::Make => b"make",
+        Head::Open => b"open",
+        Head::Shut => b"shut",
+        Head::Drop => b"drop",
+        Head::Say => b"say",
+        Head::Fetch => b"fetch",
+    }
+}
+
+// Appends a word after a space.
+fn put_word(out: &mut Vec<u8>, word: &[u8]) -> Result<(), OutOfMemory>
+    ensures { OnOk result (out.new.items ≡ out.old.items ++ (codes " " ++ word.now)) }
+{
+    out.extend_from_slice(b" ")?;
+    out.extend_from_slice(word)?;
+    Ok(())
+}
+
+// Appends each word after a space.
+#[tactic(auto, using(crate::proofs::RequestLemmas::next_word))]
+fn put_words(out: &mut Vec<u8>, words: &[&[u8]]) -> Result<(), OutOfMemory>
+    ensures { OnOk result (out.new.items ≡ out.old.items ++ flat_map (λ word. codes " " ++ word.now) words.now) }
+{
+    for word in words {
+        put_word(out, word)?;
+    }
+    Ok(())
+}
+
+// A head, a token and the words behind them, with single spaces between them.
+#[tactic(auto, using(crate::proofs::RequestLemmas::words_behind))]
+fn body(
+    alloc: Global,
+    head: Head,
+    token: &[u8; 32],
+    words: &[&[u8]],
+) -> Result<Vec<u8>, OutOfMemory>
+    ensures { IfOk result (λ body. body.items ≡ body_of head token.now (map (λ word. word.now) words.now)) }
+{
+    let digits = hex::encode(alloc, token.as_slice())?;
+    let mut body = Vec::from_slice(alloc, head_word(head))?;
+    body.extend_from_slice(b" ")?;
+    body.extend_from_slice(digits.as_bytes())?;
+    put_words(&mut body, words)?;
+    Ok(body)
+}
+
+/// The body of the request that these words spell behind a head and a token. `Words` where they spell none.
+pub fn request_text(
+    alloc: Global,
+    head: Head,
+    token: &[u8; 32],
+    words: &[&[u8]],
+) -> Result<Vec<u8>, ClientFault>
+    ensures body { IfOk result (λ body. body.items ≡ body_of head token.now (map (λ word. word.now) words.now)) }
+    ensures spelt { IfOk result (λ body. (request : TheRequest) × IsRequestText body.items request) }
+    ensures words { result ≡ Err ClientFault.Words
+        → (request : TheRequest) → IsRequestText (body_of head token.now (map (λ word. word.now) words.now)) request → ⊥ }
+    ensures short { IfOk result (λ body. vec_len body ≤ BODY) }
+    ensures fault { IfErr result (λ why. (why ≡ ClientFault.Words) ⊎ (why ≡ ClientFault.OutOfMemory)) }
+{
+    let body = body(alloc, head, token, words)?;
+    match parse_request(alloc, &body) {
+        Ok(_) => Ok(body),
+        Err(Refusal::Malformed) => Err(ClientFault::Words),
+        Err(_) => Err(ClientFault::OutOfMemory),
+    }
+}

@@ -1,0 +1,188 @@
+//! Worked words, requests and replies.
+use crate::answer::{count_of, status_of};
+use crate::exchange::{receive, send};
+use crate::fault::{ClientFault, fault_status};
+use crate::secrets::{Secrets, read_secrets};
+use crate::show::{entry_lines, reply_lines, token_line};
+use crate::task::{Task, fetch_of, request_of};
+use crate::words::{command, plan_of};
+use gb_types::words::split_words;
+use std::alloc::Global;
+use std::test::Fail;
+
+// The administrator's key is 32 bytes 22, the tenant's 32 bytes 33.
+static KEYS: &[u8] =
+    b"admin 2222222222222222222222222222222222222222222222222222222222222222\n\ntenant 3333333333333333333333333333333333333333333333333333333333333333";
+
+static GIVEN: &[u8] = b"token 000000000000000000000000000000000000000000000000000000000000000A\n";
+
+// The secrets of a text that has no bad line.
+fn secrets(alloc: Global, text: &[u8]) -> Result<Secrets, ClientFault> {
+    match read_secrets(alloc, text)? {
+        Some(secrets) => Ok(secrets),
+        None => Err(ClientFault::Secrets),
+    }
+}
+
+// The body of what the words ask first, or the line of the token that they ask for.
+fn told(alloc: Global, secrets: &Secrets, words: &[&str]) -> Result<Vec<u8>, ClientFault> {
+    let Ok(matches) = command(alloc)?.try_get_matches_from(words) else {
+        return Err(ClientFault::Words);
+    };
+    let Some(plan) = plan_of(alloc, &matches)? else {
+        return Err(ClientFault::Words);
+    };
+    match &plan.task {
+        Task::Token(need) => Ok(token_line(alloc, &secrets.token_for(*need)?)?),
+        Task::Ask(asked) => request_of(alloc, secrets, plan.node, asked),
+        Task::Follow(asked, from, _) => fetch_of(alloc, secrets, plan.node, asked, *from),
+    }
+}
+
+// What is told at node 2 for the words of a line; `!` and the exit status where that is a fault.
+fn line(alloc: Global, secrets: &Secrets, line: &str) -> Result<Vec<u8>, ClientFault> {
+    let mut words: Vec<&str> = Vec::new(alloc);
+    for word in ["gb_ctl", "--port", "42000", "--node", "2"] {
+        words.push(word)?;
+    }
+    for word in line.split(' ') {
+        words.push(word)?;
+    }
+    match told(alloc, secrets, &words) {
+        Ok(text) => Ok(text),
+        Err(fault) => Ok(Vec::from_slice(alloc, &[b'!', b'0' + fault_status(fault)])?),
+    }
+}
+
+// A request's text without its token.
+fn without_token(alloc: Global, text: &[u8]) -> Result<Vec<u8>, ClientFault> {
+    let mut out = Vec::new(alloc);
+    for (place, word) in split_words(alloc, text)?.as_slice().iter().enumerate() {
+        if place == 1 {
+            continue;
+        }
+        if place > 1 {
+            out.push(b' ')?;
+        }
+        out.extend_from_slice(word)?;
+    }
+    Ok(out)
+}
+
+#[test]
+fn words_become_requests(rt: HostRuntime) -> Result<(), Fail> {
+    let alloc = rt.alloc();
+    let secrets = secrets(alloc, GIVEN)?;
+    let table = [
+        ("open 7 1", "open 7 1"),
+        ("shut 7 1", "shut 7 1"),
+        ("drop 7 1", "drop 7 1"),
+        ("make 7 1 fbeb 0,1 8 4096 4", "make 7 1 fbeb 0,1 8 4096 4"),
+        ("say 7 1 6A", "say 7 1 6A"),
+        ("say 7 1 -", "say 7 1 -"),
+        ("say 7 1 ja --text", "say 7 1 6a61"),
+        ("fetch 7 1 0 16 --text", "fetch 7 1 0 16"),
+        ("follow 7 1", "fetch 7 1 0 16"),
+        ("follow 7 1 --from 12 --times 3", "fetch 7 1 12 16"),
+        ("say 7 1 ja", "!2"),
+        ("make 7 1 fbeb 1,0 8 4096 4", "!2"),
+        ("open 65536 1", "!2"),
+        ("open 7", "!2"),
+        ("open 7 1 2", "!2"),
+        ("hello 7 1", "!2"),
+        ("tenant 7 4 8 4096 4", "!2"),
+        ("follow 7 1 --times many", "!2"),
+    ];
+    for (words, want) in table {
+        let found = without_token(alloc, &line(alloc, &secrets, words)?)?;
+        assert!(rt; found.as_slice() == want.as_bytes());
+    }
+    Ok(())
+}
+
+#[test]
+fn keys_become_tokens(rt: HostRuntime) -> Result<(), Fail> {
+    let alloc = rt.alloc();
+    let (keys, given) = (secrets(alloc, KEYS)?, secrets(alloc, GIVEN)?);
+    // Computed by another implementation of HMAC-SHA-256.
+    let table = [
+        (
+            "token admin",
+            "674e623760cac750ae766b788c59c762f116bab90bcfb901f9c20ac06448c55d\n",
+        ),
+        (
+            "token tenant 7",
+            "6fa65151b298bbe9d8f0c89d09b943a1a3c2590a903d769710ef30b35d76f0dd\n",
+        ),
+        (
+            "token member 7 1",
+            "bc1566d7d0d1eac75f18142c0d02dc6edee5f1a9fdbf393d345228c3af3e29a9\n",
+        ),
+        (
+            "open 7 1",
+            "open 6fa65151b298bbe9d8f0c89d09b943a1a3c2590a903d769710ef30b35d76f0dd 7 1",
+        ),
+        (
+            "say 7 1 61",
+            "say bc1566d7d0d1eac75f18142c0d02dc6edee5f1a9fdbf393d345228c3af3e29a9 7 1 61",
+        ),
+        (
+            "tenant 7 4 8 4096 4",
+            "tenant 674e623760cac750ae766b788c59c762f116bab90bcfb901f9c20ac06448c55d 7 3333333333333333333333333333333333333333333333333333333333333333 4 8 4096 4",
+        ),
+        ("token", "!2"),
+        ("token tenant", "!2"),
+        ("token admin 7", "!2"),
+        ("token member 7 65536", "!2"),
+    ];
+    for (words, want) in table {
+        let found = line(alloc, &keys, words)?;
+        assert!(rt; found.as_slice() == want.as_bytes());
+    }
+    let found = line(alloc, &given, "open 7 1")?;
+    assert!(rt;
+        found.as_slice()
+            == b"open 000000000000000000000000000000000000000000000000000000000000000a 7 1".as_slice()
+    );
+    assert!(rt;
+        read_secrets(alloc, b"admin 22")?.is_none() && read_secrets(alloc, b"key")?.is_none()
+    );
+    Ok(())
+}
+
+#[test]
+fn replies_are_shown(rt: HostRuntime) -> Result<(), Fail> {
+    let alloc = rt.alloc();
+    let log = b"log 3 0:1:68692031 1:2:00ff 1:3:-";
+    let shown = reply_lines(alloc, log, true)?;
+    assert!(rt; shown.as_slice() == b"log 3\n0:1:\"hi 1\"\n1:2:00ff\n1:3:\"\"\n".as_slice());
+    let plain = reply_lines(alloc, b"log 1 0:1:61", false)?;
+    assert!(rt; plain.as_slice() == b"log 1 0:1:61\n".as_slice());
+    let entries = entry_lines(alloc, b"log 2 0:1:61 0:2:-", false)?;
+    assert!(rt; entries.as_slice() == b"0:1:61\n0:2:-\n".as_slice());
+    assert!(rt; count_of(alloc, log)? == Some(3) && count_of(alloc, b"ok")? == None);
+    let status = [
+        status_of(b"ok"),
+        status_of(b"said 1"),
+        status_of(log),
+        status_of(b"refused 1 Denied"),
+        status_of(b"hello"),
+        status_of(b""),
+    ];
+    assert!(rt; status == [0, 0, 0, 1, 3, 3]);
+    Ok(())
+}
+
+#[test]
+fn messages_have_their_length_in_front(rt: HostRuntime) -> Result<(), Fail> {
+    let alloc = rt.alloc();
+    let mut out = Vec::new(alloc);
+    send(&mut out, b"open 7 1")?;
+    assert!(rt; out.as_slice() == b"\x00\x00\x00\x08open 7 1".as_slice());
+    let reply = receive(alloc, &mut b"\x00\x00\x00\x02okay".as_slice())?;
+    assert!(rt; reply.as_slice() == b"ok".as_slice());
+    let cut = receive(alloc, &mut b"\x00\x00\x00\x05okay".as_slice());
+    let long = receive(alloc, &mut b"\x00\x01\x00\x01okay".as_slice());
+    assert!(rt; cut.is_err() && long.is_err());
+    Ok(())
+}

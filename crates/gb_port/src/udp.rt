@@ -1,0 +1,156 @@
+//! A port over UDP, on the loopback address.
+ghost use Rattle.std.specs.Prelude.{◌≡◌, ◌+◌, ◌<◌, ◌≤◌, ◌^◌, IfOk, IfSome, OnOk, OnErr, vec_len};
+ghost use Rattle.gb_types.specs.declared.limits.TheConstants.{NODES, PACKET};
+
+use crate::port::{Port, PortFault, failed};
+use gb_types::limits::{NODES, PACKET};
+use gb_types::node::NodeId;
+use std::alloc::{AllocError, Global};
+use std::io;
+use std::io::ErrorKind;
+use std::marker::Model;
+use std::net::{Ipv4Addr, Net, SocketAddr, SocketAddrV4, UdpSocket};
+use thiserror::Error;
+
+/// Into how many bytes a packet is received: the longest packet and one byte more, so that a longer datagram is cut
+/// and is then too long for a packet.
+pub const SPACE: usize = PACKET + 1;
+
+/// Why a port could not be bound.
+#[derive(Clone, Copy, Debug, PartialEq, Eq, Error)]
+pub enum BindFault {
+    /// There is no such socket, or it is bound already.
+    #[error("the port could not be bound")]
+    Port,
+    /// A request for memory was refused. No socket is left.
+    #[error("out of memory")]
+    OutOfMemory,
+}
+
+impl From<AllocError> for BindFault {
+    ghost use Rattle.gb_port.specs.declared.udp.BindFault.TheVariants.{OutOfMemory as NoMemory};
+
+    ghost from_gives = { λ _ fault. fault ≡ NoMemory };
+
+    fn from(_error: AllocError) -> BindFault {
+        BindFault::OutOfMemory
+    }
+}
+
+/// A node's socket. The socket of node i is on port base + i of the address 127.0.0.1.
+#[derive(Drop)]
+pub struct UdpPort {
+    socket: UdpSocket,
+    space: Vec<u8>,
+    me: NodeId,
+    nodes: u8,
+    base: u16,
+    failures: u64,
+}
+
+impl Model for UdpPort {
+    ghost use Rattle.std.specs.Prelude.{◌≡◌, ◌+◌, ◌≤◌, ◌^◌, vec_len};
+    ghost use Rattle.gb_types.specs.declared.limits.TheConstants.{NODES};
+    ghost use Rattle.gb_port.specs.declared.udp.TheConstants.{SPACE};
+    ghost use Rattle.gb_port.specs.UdpPorts.{UdpValue};
+
+    ghost Value = { UdpValue };
+
+    ghost view = { λ port. record { me = port.me.number; nodes = port.nodes; base = port.base; failures = port.failures } };
+
+    ghost invariant = { λ port. (vec_len port.space ≡ SPACE) × (port.nodes ≤ NODES) × (port.base + NODES ≤ 2 ^ 16) };
+}
+
+// A port of the address 127.0.0.1.
+fn address(port: u16) -> SocketAddr {
+    SocketAddr::V4(SocketAddrV4::new(Ipv4Addr::LOCALHOST, port))
+}
+
+// The socket on a port. It does not wait.
+fn bound<R: Net>(rt: &R, port: u16) -> io::Result<UdpSocket> {
+    let socket = UdpSocket::bind(rt, address(port))?;
+    socket.set_nonblocking(true)?;
+    Ok(socket)
+}
+
+impl UdpPort {
+    /// Binds the socket of node `me` of so many nodes.
+    pub fn bind<R: Net>(
+        rt: &R,
+        alloc: Global,
+        me: NodeId,
+        nodes: u8,
+        base: u16,
+    ) -> Result<UdpPort, BindFault>
+        requires nodes { (me.number < nodes) × (nodes ≤ NODES) }
+        requires ports { (0 < base) × (base + NODES ≤ 2 ^ 16) }
+        ensures { IfOk result (λ port. port ≡ record { me = me.number; nodes = nodes; base = base; failures = 0 }) }
+    {
+        let space = vec![in alloc; 0u8; SPACE]?;
+        let Ok(socket) = bound(rt, base + u16::from(me.number)) else {
+            return Err(BindFault::Port);
+        };
+        Ok(UdpPort {
+            socket,
+            space,
+            me,
+            nodes,
+            base,
+            failures: 0,
+        })
+    }
+}
+
+impl Port for UdpPort {
+    ghost count = { λ port. port.failures };
+
+    /// Hands the packet to the system. False where it has no room. `Device`: the system failed, or there is no such node.
+    fn send(&mut self, to: NodeId, bytes: &[u8]) -> Result<bool, PortFault>
+        ensures fault { OnErr result (self.new.failures ≡ self.old.failures + 1) }
+        ensures well { OnOk result (self.new.failures ≡ self.old.failures) }
+        ensures same { self.new ≡ record self.old { failures = self.new.failures } }
+    {
+        if to.number >= self.nodes {
+            return failed(&mut self.failures, PortFault::Device, false);
+        }
+        match self
+            .socket
+            .send_to(bytes, address(self.base + u16::from(to.number)))
+        {
+            Ok(count) if count == bytes.len() => Ok(true),
+            Ok(_) => failed(&mut self.failures, PortFault::Device, false),
+            Err(error) => match error.kind() {
+                ErrorKind::WouldBlock => Ok(false),
+                _ => failed(&mut self.failures, PortFault::Device, false),
+            },
+        }
+    }
+
+    /// The next datagram that came, of which the first `SPACE` bytes are kept.
+    fn recv(&mut self) -> Result<Option<Vec<u8>>, PortFault>
+        ensures fault { OnErr result (self.new.failures ≡ self.old.failures + 1) }
+        ensures well { OnOk result (self.new.failures ≡ self.old.failures) }
+        ensures same { self.new ≡ record self.old { failures = self.new.failures } }
+        ensures short { IfOk result (λ answer. IfSome answer (λ packet. vec_len packet ≤ PACKET + 1)) }
+    {
+        let count = match self.socket.recv_from(&mut self.space) {
+            Ok((count, _)) => count,
+            Err(error) => {
+                return match error.kind() {
+                    ErrorKind::WouldBlock => Ok(None),
+                    _ => failed(&mut self.failures, PortFault::Device, None),
+                };
+            }
+        };
+        match Vec::from_slice(*self.space.allocator(), &self.space[..count]) {
+            Ok(packet) => Ok(Some(packet)),
+            Err(_) => failed(&mut self.failures, PortFault::OutOfMemory, None),
+        }
+    }
+
+    fn failures(&self) -> u64
+        ensures { result ≡ self.now.failures }
+    {
+        self.failures
+    }
+}
