@@ -40,14 +40,14 @@ module _ (v : NodeValue) (p : Content) (h : Head) (is : packet_of h p.items ≡ 
       let number : h.from.number ≡ p.from = ap (λ (c : Content). c.from) is in
       let e0 = heard ∙ ap (after_heard v.watch) number in
       let e1 : table ≡ fold (frame_done (node_numbered p.from)) v.table (freed (window_to v p.from) p.base p.mask) =
-          acked ∙ (ap (λ a. fold (frame_done a) v.table (freed (window_to v h.from.number) h.base h.mask)) (sym from_is) ∙ ap (λ (c : Content). fold (frame_done (node_numbered p.from)) v.table (freed (window_to v c.from) c.base c.mask)) is) in
+      acked ∙ (ap (λ a. fold (frame_done a) v.table (freed (window_to v h.from.number) h.base h.mask)) (sym from_is) ∙ ap (λ (c : Content). fold (frame_done (node_numbered p.from)) v.table (freed (window_to v c.from) c.base c.mask)) is) in
       let e2 : slice_set v.windows h.from.number window ≡ slice_set v.windows p.from (without_done p.base p.mask (window_to v p.from)) =
-          ap (slice_set v.windows h.from.number) left ∙ ap (λ (c : Content). slice_set v.windows c.from (without_done c.base c.mask (window_to v c.from))) is in
+      ap (slice_set v.windows h.from.number) left ∙ ap (λ (c : Content). slice_set v.windows c.from (without_done c.base c.mask (window_to v c.from))) is in
       let e3 : later ≡ frame_comes (node_numbered p.from) p.frame p.items (receiver_from v p.from) (fold (frame_done (node_numbered p.from)) v.table (freed (window_to v p.from) p.base p.mask)) =
-          came ∙ (ap (λ a. frame_comes a p.frame p.items (receiver_from v h.from.number) table) (sym from_is)
-          ∙ (ap (λ n. frame_comes (node_numbered p.from) p.frame p.items (receiver_from v n) table) number ∙ ap (frame_comes (node_numbered p.from) p.frame p.items (receiver_from v p.from)) e1)) in
+      came ∙ (ap (λ a. frame_comes a p.frame p.items (receiver_from v h.from.number) table) (sym from_is)
+      ∙ (ap (λ n. frame_comes (node_numbered p.from) p.frame p.items (receiver_from v n) table) number ∙ ap (frame_comes (node_numbered p.from) p.frame p.items (receiver_from v p.from)) e1)) in
       let e4 : slice_set v.receivers h.from.number receiver ≡ slice_set v.receivers p.from (receives p.frame (receiver_from v p.from)) =
-          ap (slice_set v.receivers h.from.number) received ∙ ap (λ n. slice_set v.receivers n (receives p.frame (receiver_from v n))) number in
+      ap (slice_set v.receivers h.from.number) received ∙ ap (λ n. slice_set v.receivers n (receives p.frame (receiver_from v n))) number in
       λ j. record { key = v.key; table = e3 j; windows = e2 j; receivers = e4 j; watch = e0 j; stopped = v.stopped }
 
 -- the place of a window and of a receiver is the node's number

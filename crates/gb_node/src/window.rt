@@ -9,10 +9,10 @@ ghost use Rattle.gb_groups.specs.Packing.{size};
 ghost use Rattle.gb_table.specs.TableValue.{table_packed};
 ghost use Rattle.gb_node.specs.NodeStep.{batch_to};
 
-use gb_table::table::Table;
 use gb_frame::laws::texts_tell_items;
 use gb_frame::limits::ROOM;
 use gb_link::spaced::SpacedSender;
+use gb_table::table::Table;
 use gb_types::memory::OutOfMemory;
 use gb_types::node::NodeId;
 use std::alloc::Global;
@@ -79,12 +79,7 @@ impl Window {
 
     /// Packs the next batch of a table for a node, some items with so many bytes, where it stays, as the next frame,
     /// and gives its number. Without memory nothing has changed.
-    pub fn pack(
-        &mut self,
-        table: &mut Table,
-        to: NodeId,
-        bytes: usize,
-    ) -> Result<u64, OutOfMemory>
+    pub fn pack(&mut self, table: &mut Table, to: NodeId, bytes: usize) -> Result<u64, OutOfMemory>
         requires room { has_room self.old ≡ true }
         requires some { 0 < length (batch to.number ROOM table.old.groups) }
         requires bytes { bytes ≡ sum_by size (batch to.number ROOM table.old.groups) }
