@@ -1,5 +1,5 @@
 -- What each event makes of a node, and its answer.
-use Rattle.std.specs.Prelude.{ℕ, ◌≡◌, ◌%◌, ◌⊎◌, ◌&&◌, not, Bool, true, List, [], ◌∷◌, length, filter, fold, Option, Some, None, option_map, Result, Ok, Err, slice_index_or, slice_set, nat_eq, nat_lt, if◌then◌else◌}
+use Rattle.std.specs.Prelude.{ℕ, ◌≡◌, ◌%◌, ◌⊎◌, ◌&&◌, not, Bool, true, List, [], ◌∷◌, length, filter, fold, Option, Some, None, IfSome, option_map, Result, Ok, Err, slice_index_or, slice_set, nat_eq, nat_lt, if◌then◌else◌}
 use Rattle.std.specs.FinSet as set
 use Rattle.gb_types.specs.Entry.{message_of}
 use Rattle.gb_types.specs.Rising.{rising}
@@ -16,7 +16,7 @@ use Rattle.gb_frame.specs.declared.item.Item.{Item}
 use Rattle.gb_frame.specs.declared.limits.TheConstants.{ROOM}
 use Rattle.gb_frame.specs.Packet.{Content}
 use Rattle.gb_frame.specs.Reading.{reading}
-use Rattle.gb_frame.specs.Spelling.{packet_text}
+use Rattle.gb_frame.specs.Spelling.{packet_text, IsPacket}
 use Rattle.gb_link.specs.Received.{Received, base_of, mask_of, admission, taken}
 use Rattle.gb_link.specs.SendWindow.{SendWindow, new_window, has_room, pushed, frame_again, freed}
 use Rattle.gb_link.specs.Ack.{covers}
@@ -260,3 +260,15 @@ IsStarved event should answer = ⊥
 -- an event with its answer makes this of a node: what it should, or the node lacked memory and nothing has changed
 abbrev pub IsTurn : NodeValue → NodeEvent → NodeAnswer → NodeValue → Type 0
 IsTurn old event answer new = (IsStarved event (turn old event).answer answer × (new ≡ old)) ⊎ ((answer ≡ (turn old event).answer) × (new ≡ (turn old event).value))
+
+-- What a packet says that an event sends.
+abbrev pub sent_content : NodeValue → NodeEvent → Option Content
+sent_content v (Pack b) = pack_content v b
+sent_content v (Again b n) = again_content v b n
+sent_content v (Ack b) = ack_content v b
+sent_content v event = None
+
+-- what is sent can be read: it is a packet that has a text
+abbrev pub IsSpelt : NodeValue → NodeEvent → NodeAnswer → Type 0
+IsSpelt v event (Sent (SentPacket text)) = IfSome (sent_content v event) IsPacket
+IsSpelt v event answer = Unit {0}

@@ -4,7 +4,7 @@ ghost use Rattle.std.specs.FinSet as set;
 ghost use Rattle.gb_types.specs.declared.limits.TheConstants.{NODES as MOST, PLACES, SILENCE_MIN, SILENCE_MAX};
 ghost use Rattle.gb_frame.specs.Batch.{batch_in, IsBatch};
 ghost use Rattle.gb_frame.specs.Packet.{packet_of};
-ghost use Rattle.gb_frame.specs.Spelling.{items_text, packet_text};
+ghost use Rattle.gb_frame.specs.Spelling.{items_text, packet_text, IsPacket};
 ghost use Rattle.gb_frame.specs.declared.item.Item.{Item as ItemValue};
 ghost use Rattle.gb_frame.specs.declared.limits.TheConstants.{ROOM, SHORTEST};
 ghost use Rattle.gb_link.specs.SendWindow.{new_window, has_room, frame_again};
@@ -13,7 +13,7 @@ ghost use Rattle.gb_groups.specs.Packing.{size};
 ghost use Rattle.gb_table.specs.Requests.{is_admitted};
 ghost use Rattle.gb_node.specs.Frames.{items_in, IsHead};
 ghost use Rattle.gb_node.specs.NodeValue.{new_node};
-ghost use Rattle.gb_node.specs.NodeStep.{window_to, is_another, is_reached, content_to, batch_to, sent_batch, good_of, node_took, IsTurn};
+ghost use Rattle.gb_node.specs.NodeStep.{window_to, is_another, is_reached, content_to, batch_to, sent_batch, good_of, node_took, IsTurn, IsSpelt};
 
 use crate::answer::{Good, Halted, NodeAnswer, PacketAnswer, Sent, Ticked};
 use crate::event::NodeEvent;
@@ -213,7 +213,8 @@ impl Node {
         requires frame { IsSome (frame_again (window_to self.now to.number) number) }
         requires empty { packet.items ≡ [] }
         requires room { SHORTEST + length (items_text (items_in (frame_again (window_to self.now to.number) number))) ≤ vec_capacity packet }
-        ensures { result ≡ packet_text self.now.key (content_to self.now to number (items_in (frame_again (window_to self.now to.number) number))) }
+        ensures text { result ≡ packet_text self.now.key (content_to self.now to number (items_in (frame_again (window_to self.now to.number) number))) }
+        ensures packet { IsPacket (content_to self.now to number (items_in (frame_again (window_to self.now to.number) number))) }
     {
         let Some((_, texts)) = self.undone(to, number) else {
             unreachable!()
@@ -229,6 +230,7 @@ impl Node {
         requires bytes { bytes ≡ sum_by size (batch to.number ROOM self.old.table.groups) }
         requires most { bytes ≤ ROOM }
         ensures packet { IfOk result (λ p. p ≡ packet_text self.old.key (content_to self.old to (window_to self.old to.number).next (batch_to self.old.table to))) }
+        ensures spelt { OnOk result (IsPacket (content_to self.old to (window_to self.old to.number).next (batch_to self.old.table to))) }
         ensures state { OnOk result (self.new ≡ sent_batch to (Some (batch_to self.old.table to)) self.old) }
         ensures err { OnErr result (self.new ≡ self.old) }
     {
@@ -241,7 +243,8 @@ impl Node {
     /// no other one of the cluster or was noticed, where the link has no room, or where nothing waits; after a refusal
     /// nothing has changed either.
     pub fn pack(&mut self, to: NodeId) -> Sent
-        ensures { IsTurn self.old (NodeEvent.Pack to) (NodeAnswer.Sent result) self.new }
+        ensures turn { IsTurn self.old (NodeEvent.Pack to) (NodeAnswer.Sent result) self.new }
+        ensures spelt { IsSpelt self.old (NodeEvent.Pack to) (NodeAnswer.Sent result) }
     {
         if self.stopped {
             return Sent::Refused(Refusal::Stopped);
@@ -264,7 +267,8 @@ impl Node {
         requires another { is_another self.now to ≡ true }
         requires number { 0 < number }
         requires batch { IsBatch texts.now }
-        ensures { IfOk result (λ p. p ≡ packet_text self.now.key (content_to self.now to number (batch_in texts.now))) }
+        ensures text { IfOk result (λ p. p ≡ packet_text self.now.key (content_to self.now to number (batch_in texts.now))) }
+        ensures packet { OnOk result (IsPacket (content_to self.now to number (batch_in texts.now))) }
     {
         let packet = Vec::with_capacity(self.alloc, SHORTEST + texts.len())?;
         Ok(frame_packet(self.head(to, number), texts, &self.key, packet))
@@ -273,7 +277,8 @@ impl Node {
     /// Sends a frame that was not acknowledged once more, by its number; 0 stands for the lowest such number. Changes
     /// nothing.
     pub fn again(&self, to: NodeId, number: u64) -> Sent
-        ensures { IsTurn self.now (NodeEvent.Again to number) (NodeAnswer.Sent result) self.now }
+        ensures turn { IsTurn self.now (NodeEvent.Again to number) (NodeAnswer.Sent result) self.now }
+        ensures spelt { IsSpelt self.now (NodeEvent.Again to number) (NodeAnswer.Sent result) }
     {
         if self.stopped {
             return Sent::Refused(Refusal::Stopped);
@@ -293,14 +298,16 @@ impl Node {
     /// The packet to another node that acknowledges what came from there so far, alone.
     fn acknowledgement(&self, to: NodeId) -> Result<PacketText, OutOfMemory>
         requires { is_another self.now to ≡ true }
-        ensures { IfOk result (λ p. p ≡ packet_text self.now.key (content_to self.now to 0 [])) }
+        ensures text { IfOk result (λ p. p ≡ packet_text self.now.key (content_to self.now to 0 [])) }
+        ensures packet { OnOk result (IsPacket (content_to self.now to 0 [])) }
     {
         bare_packet(self.alloc, self.head(to, 0), &self.key)
     }
 
     /// Sends an acknowledgement alone. Changes nothing.
     pub fn ack(&self, to: NodeId) -> Sent
-        ensures { IsTurn self.now (NodeEvent.Ack to) (NodeAnswer.Sent result) self.now }
+        ensures turn { IsTurn self.now (NodeEvent.Ack to) (NodeAnswer.Sent result) self.now }
+        ensures spelt { IsSpelt self.now (NodeEvent.Ack to) (NodeAnswer.Sent result) }
     {
         if self.stopped {
             return Sent::Refused(Refusal::Stopped);
@@ -381,6 +388,7 @@ impl Node {
     /// One event.
     pub fn take(&mut self, event: &NodeEvent) -> NodeAnswer
         ensures turn { IsTurn self.old event.now result self.new }
+        ensures spelt { IsSpelt self.old event.now result }
     {
         match event {
             NodeEvent::Request(request) => NodeAnswer::Reply(self.request(request)),

@@ -1,8 +1,8 @@
 //! Packets of a node, as their bytes.
-ghost use Rattle.std.specs.Prelude.{◌≡◌, ◌+◌, ◌<◌, ◌≤◌, [], length, IfOk, vec_capacity};
+ghost use Rattle.std.specs.Prelude.{◌≡◌, ◌+◌, ◌<◌, ◌≤◌, [], length, IfOk, OnOk, vec_capacity};
 ghost use Rattle.gb_frame.specs.Batch.{batch_in, IsBatch};
 ghost use Rattle.gb_frame.specs.Packet.{packet_of};
-ghost use Rattle.gb_frame.specs.Spelling.{packet_text};
+ghost use Rattle.gb_frame.specs.Spelling.{packet_text, IsPacket};
 ghost use Rattle.gb_frame.specs.declared.limits.TheConstants.{SHORTEST};
 ghost use Rattle.gb_node.specs.Frames.{IsHead};
 
@@ -21,7 +21,8 @@ pub fn frame_packet(head: Head, texts: &[u8], key: &HmacKey, mut packet: Vec<u8>
     requires batch { IsBatch texts.now }
     requires empty { packet.items ≡ [] }
     requires room { SHORTEST + length texts.now ≤ vec_capacity packet }
-    ensures { result ≡ packet_text key.now (packet_of head (batch_in texts.now)) }
+    ensures text { result ≡ packet_text key.now (packet_of head (batch_in texts.now)) }
+    ensures packet { IsPacket (packet_of head (batch_in texts.now)) }
 {
     wrap(head, texts, key, &mut packet);
     PacketText::from(packet)
@@ -31,7 +32,8 @@ pub fn frame_packet(head: Head, texts: &[u8], key: &HmacKey, mut packet: Vec<u8>
 pub fn bare_packet(alloc: Global, head: Head, key: &HmacKey) -> Result<PacketText, OutOfMemory>
     requires head { IsHead head }
     requires frame { head.frame ≡ 0 }
-    ensures { IfOk result (λ p. p ≡ packet_text key.now (packet_of head [])) }
+    ensures text { IfOk result (λ p. p ≡ packet_text key.now (packet_of head [])) }
+    ensures packet { OnOk result (IsPacket (packet_of head [])) }
 {
     let mut packet = Vec::with_capacity(alloc, SHORTEST)?;
     wrap(head, &[], key, &mut packet);
