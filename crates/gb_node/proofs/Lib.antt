@@ -3,3 +3,7 @@ pub mod AckLemmas
 pub mod PackLemmas
 pub mod NodeLemmas
 pub mod TookLemmas
+pub mod PastLemmas
+pub mod EventLemmas
+pub mod LinkLemmas
+pub mod InductionLemmas

@@ -1,3 +1,4 @@
 pub mod Frames
 pub mod NodeValue
 pub mod NodeStep
+pub mod Past

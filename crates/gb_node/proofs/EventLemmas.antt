@@ -1,0 +1,226 @@
+-- What each event makes of a node, as its past will tell.
+use Rattle.std.proofs.Common.{◌≡◌, ℕ, false, ◌||◌, List, [], ◌++◌, length, map, refl, sym, ap, subst, ◌∙◌, arith}
+use Rattle.std.specs.Prelude.{filter, not}
+use Rattle.std.specs.FinSet as set
+use Rattle.std.specs.Ordering.{nat_cmp}
+use Rattle.std.specs.List.{list_any}
+use Rattle.std.proofs.lemmas.List.{append-nil}
+use Rattle.gb_types.specs.declared.refusal.Refusal.{Refusal}
+use Rattle.gb_types.specs.declared.refusal.Refusal.TheVariants.{Stopped, OutOfMemory}
+use Rattle.gb_types.specs.declared.reply.Reply.{Reply}
+use Rattle.gb_types.specs.declared.reply.Reply.TheVariants.{Done, Said, Log, Refused}
+use Rattle.gb_types.specs.declared.request.Request.{Request}
+use Rattle.gb_types.specs.declared.request.Request.TheVariants.{AddTenant, Make, OpenGroup, ShutGroup, DropGroup, Say, Fetch}
+use Rattle.gb_detect.specs.Silence.{Heard}
+use Rattle.gb_detect.specs.Watch.{replay}
+use Rattle.gb_frame.specs.Packet.{Content}
+use Rattle.std.specs.Prelude.{slice_index_or}
+use Rattle.gb_link.specs.SendWindow.{new_window}
+use Rattle.gb_table.specs.TableValue.{TableValue}
+use Rattle.gb_table.specs.Requests.{table_did}
+use Rattle.gb_node.specs.NodeValue.{NodeValue}
+use Rattle.gb_node.specs.NodeStep.{window_to, receiver_from, node_did, stopped_answer, IsStarved}
+use Rattle.gb_node.specs.Past.{came, packed_for, numbered, is_ack, is_taken_by, ticks, added, stops}
+use Rattle.gb_node.specs.declared.answer.NodeAnswer.{NodeAnswer}
+use Rattle.gb_node.specs.declared.answer.NodeAnswer.TheVariants.{Reply as Replied, Taken, Sent, Ticked, Halted}
+use Rattle.gb_node.specs.declared.answer.Sent.TheVariants.{Packet as SentPacket, Nothing, Refused as SentRefused}
+use Rattle.gb_node.specs.declared.event.NodeEvent.{NodeEvent}
+use Rattle.gb_node.specs.declared.event.NodeEvent.TheVariants.{Request as Asked, Packet as Came, Pack, Again, Ack, Tick, Stop}
+use Rattle.gb_node.proofs.PastLemmas.{Moved, filter_all}
+
+-- A step at which no packet is taken or packed.
+pub record IsStill (key : List ℕ) (e : NodeEvent) (a : NodeAnswer) : Type 0 where
+  pub none_came : came key e a ≡ []
+  pub none_packed : (b : ℕ) → packed_for key b e a ≡ []
+  pub none_taken : (b n : ℕ) → is_taken_by key b n e a ≡ false
+
+-- and nothing else happens either
+pub record IsQuiet (key : List ℕ) (e : NodeEvent) (a : NodeAnswer) : Type 0 where
+  pub still : IsStill key e a
+  pub no_tick : ticks e a ≡ []
+  pub none_added : added e a ≡ []
+  pub no_stop : stops e a ≡ false
+
+-- then the links stay
+pub still_moved : (key : List ℕ) (e : NodeEvent) (a : NodeAnswer) (v w : NodeValue) → IsStill key e a → w.key ≡ v.key → w.table.me ≡ v.table.me → w.table.nodes ≡ v.table.nodes
+    → w.stopped ≡ (stops e a || v.stopped) → w.watch ≡ replay v.watch (ticks e a) → w.table.tenants ≡ v.table.tenants ++ added e a → w.windows ≡ v.windows → w.receivers ≡ v.receivers → Moved key e a v w
+unfolding numbered
+still_moved key e a v w still key_is me nodes stopped watch tenants windows receivers = record {
+  key_is = key_is;
+  me = me;
+  nodes = nodes;
+  stopped = stopped;
+  watch = watch ∙ ap (replay v.watch) (sym (append-nil (ticks e a)) ∙ ap (λ cs. ticks e a ++ map (λ (c : Content). Heard c.from) cs) (sym still.none_came));
+  tenants = tenants;
+  next = λ b. let e0 = ap length (still.none_packed b.number) in let same = ap (λ ws. (slice_index_or ws b.number new_window).next) windows in omega (arith, e0, same);
+  undone = λ b.
+      ap (λ ws. (slice_index_or ws b.number new_window).undone) windows
+      ∙ (sym (append-nil ((window_to v b.number).undone)) ∙ (ap (λ us. us ++ []) (sym (filter_all ((window_to v b.number).undone)))
+      ∙ (λ i. filter (λ u. not (list_any (is_ack b.number u.0) (sym still.none_came i))) ((window_to v b.number).undone) ++ numbered ((window_to v b.number).next) (sym (still.none_packed b.number) i))));
+  received = λ b n. ap (λ rs. set.contains (slice_index_or rs b.number set.empty) n) receivers ∙ ap (λ t. t || set.contains (receiver_from v b.number) n) (sym (still.none_taken b.number n));
+}
+
+pub quiet_moved : (key : List ℕ) (e : NodeEvent) (a : NodeAnswer) (v : NodeValue) → IsQuiet key e a → Moved key e a v v
+quiet_moved key e a v quiet =
+    still_moved key e a v v quiet.still refl refl refl (ap (λ t. t || v.stopped) (sym quiet.no_stop)) (ap (replay v.watch) (sym quiet.no_tick)) (sym (append-nil v.table.tenants) ∙ ap (λ rows. v.table.tenants ++ rows) (sym quiet.none_added)) refl refl
+
+-- a refused request adds no tenant
+added_refused : (r : Request) (why : Refusal) → added (Asked r) (Replied (Refused why)) ≡ []
+added_refused (AddTenant token row) why = refl
+added_refused (Make token addr spec) why = refl
+added_refused (OpenGroup token addr) why = refl
+added_refused (ShutGroup token addr) why = refl
+added_refused (DropGroup token addr) why = refl
+added_refused (Say token addr payload) why = refl
+added_refused (Fetch token addr from most) why = refl
+
+stopped_quiet : (key : List ℕ) (e : NodeEvent) → IsQuiet key e (stopped_answer e)
+stopped_quiet key (Asked r) = record { still = record { none_came = refl; none_packed = λ b. refl; none_taken = λ b n. refl }; no_tick = refl; none_added = added_refused r Stopped; no_stop = refl }
+stopped_quiet key (Came bytes) = record { still = record { none_came = refl; none_packed = λ b. refl; none_taken = λ b n. refl }; no_tick = refl; none_added = refl; no_stop = refl }
+stopped_quiet key (Pack x) = record { still = record { none_came = refl; none_packed = λ b. refl; none_taken = λ b n. refl }; no_tick = refl; none_added = refl; no_stop = refl }
+stopped_quiet key (Again x n) = record { still = record { none_came = refl; none_packed = λ b. refl; none_taken = λ b n. refl }; no_tick = refl; none_added = refl; no_stop = refl }
+stopped_quiet key (Ack x) = record { still = record { none_came = refl; none_packed = λ b. refl; none_taken = λ b n. refl }; no_tick = refl; none_added = refl; no_stop = refl }
+stopped_quiet key Tick = record { still = record { none_came = refl; none_packed = λ b. refl; none_taken = λ b n. refl }; no_tick = refl; none_added = refl; no_stop = refl }
+stopped_quiet key Stop = record { still = record { none_came = refl; none_packed = λ b. refl; none_taken = λ b n. refl }; no_tick = refl; none_added = refl; no_stop = refl }
+
+pub stopped_moved : (key : List ℕ) (e : NodeEvent) (v : NodeValue) → Moved key e (stopped_answer e) v v
+stopped_moved key e v = quiet_moved key e (stopped_answer e) v (stopped_quiet key e)
+
+added_unsent : (r : Request) → added (Asked r) (Sent (SentRefused OutOfMemory)) ≡ []
+added_unsent (AddTenant token row) = refl
+added_unsent (Make token addr spec) = refl
+added_unsent (OpenGroup token addr) = refl
+added_unsent (ShutGroup token addr) = refl
+added_unsent (DropGroup token addr) = refl
+added_unsent (Say token addr payload) = refl
+added_unsent (Fetch token addr from most) = refl
+
+unsent_quiet : (key : List ℕ) (e : NodeEvent) → IsQuiet key e (Sent (SentRefused OutOfMemory))
+unsent_quiet key (Asked r) = record { still = record { none_came = refl; none_packed = λ b. refl; none_taken = λ b n. refl }; no_tick = refl; none_added = added_unsent r; no_stop = refl }
+unsent_quiet key (Came bytes) = record { still = record { none_came = refl; none_packed = λ b. refl; none_taken = λ b n. refl }; no_tick = refl; none_added = refl; no_stop = refl }
+unsent_quiet key (Pack x) = record { still = record { none_came = refl; none_packed = λ b. refl; none_taken = λ b n. refl }; no_tick = refl; none_added = refl; no_stop = refl }
+unsent_quiet key (Again x n) = record { still = record { none_came = refl; none_packed = λ b. refl; none_taken = λ b n. refl }; no_tick = refl; none_added = refl; no_stop = refl }
+unsent_quiet key (Ack x) = record { still = record { none_came = refl; none_packed = λ b. refl; none_taken = λ b n. refl }; no_tick = refl; none_added = refl; no_stop = refl }
+unsent_quiet key Tick = record { still = record { none_came = refl; none_packed = λ b. refl; none_taken = λ b n. refl }; no_tick = refl; none_added = refl; no_stop = refl }
+unsent_quiet key Stop = record { still = record { none_came = refl; none_packed = λ b. refl; none_taken = λ b n. refl }; no_tick = refl; none_added = refl; no_stop = refl }
+
+starved_quiet : (key : List ℕ) (e : NodeEvent) (should answer : NodeAnswer) → IsStarved e should answer → IsQuiet key e answer
+starved_quiet key (Asked r) (Replied should) answer starved = subst (IsQuiet key (Asked r)) (sym starved.0) (record { still = record { none_came = refl; none_packed = λ b. refl; none_taken = λ b n. refl }; no_tick = refl; none_added = added_refused r OutOfMemory; no_stop = refl })
+starved_quiet key (Asked r) (Taken should) answer starved = absurd starved
+starved_quiet key (Asked r) (Sent (SentPacket text)) answer starved = subst (IsQuiet key (Asked r)) (sym starved) (unsent_quiet key (Asked r))
+starved_quiet key (Asked r) (Sent Nothing) answer starved = absurd starved
+starved_quiet key (Asked r) (Sent (SentRefused why)) answer starved = absurd starved
+starved_quiet key (Asked r) (Ticked should) answer starved = absurd starved
+starved_quiet key (Asked r) (Halted should) answer starved = absurd starved
+starved_quiet key (Came bytes) (Replied should) answer starved = absurd starved
+starved_quiet key (Came bytes) (Taken should) answer starved = absurd starved
+starved_quiet key (Came bytes) (Sent (SentPacket text)) answer starved = subst (IsQuiet key (Came bytes)) (sym starved) (unsent_quiet key (Came bytes))
+starved_quiet key (Came bytes) (Sent Nothing) answer starved = absurd starved
+starved_quiet key (Came bytes) (Sent (SentRefused why)) answer starved = absurd starved
+starved_quiet key (Came bytes) (Ticked should) answer starved = absurd starved
+starved_quiet key (Came bytes) (Halted should) answer starved = absurd starved
+starved_quiet key (Pack x) (Replied should) answer starved = absurd starved
+starved_quiet key (Pack x) (Taken should) answer starved = absurd starved
+starved_quiet key (Pack x) (Sent (SentPacket text)) answer starved = subst (IsQuiet key (Pack x)) (sym starved) (unsent_quiet key (Pack x))
+starved_quiet key (Pack x) (Sent Nothing) answer starved = absurd starved
+starved_quiet key (Pack x) (Sent (SentRefused why)) answer starved = absurd starved
+starved_quiet key (Pack x) (Ticked should) answer starved = absurd starved
+starved_quiet key (Pack x) (Halted should) answer starved = absurd starved
+starved_quiet key (Again x n) (Replied should) answer starved = absurd starved
+starved_quiet key (Again x n) (Taken should) answer starved = absurd starved
+starved_quiet key (Again x n) (Sent (SentPacket text)) answer starved = subst (IsQuiet key (Again x n)) (sym starved) (unsent_quiet key (Again x n))
+starved_quiet key (Again x n) (Sent Nothing) answer starved = absurd starved
+starved_quiet key (Again x n) (Sent (SentRefused why)) answer starved = absurd starved
+starved_quiet key (Again x n) (Ticked should) answer starved = absurd starved
+starved_quiet key (Again x n) (Halted should) answer starved = absurd starved
+starved_quiet key (Ack x) (Replied should) answer starved = absurd starved
+starved_quiet key (Ack x) (Taken should) answer starved = absurd starved
+starved_quiet key (Ack x) (Sent (SentPacket text)) answer starved = subst (IsQuiet key (Ack x)) (sym starved) (unsent_quiet key (Ack x))
+starved_quiet key (Ack x) (Sent Nothing) answer starved = absurd starved
+starved_quiet key (Ack x) (Sent (SentRefused why)) answer starved = absurd starved
+starved_quiet key (Ack x) (Ticked should) answer starved = absurd starved
+starved_quiet key (Ack x) (Halted should) answer starved = absurd starved
+starved_quiet key Tick (Replied should) answer starved = absurd starved
+starved_quiet key Tick (Taken should) answer starved = absurd starved
+starved_quiet key Tick (Sent (SentPacket text)) answer starved = subst (IsQuiet key Tick) (sym starved) (unsent_quiet key Tick)
+starved_quiet key Tick (Sent Nothing) answer starved = absurd starved
+starved_quiet key Tick (Sent (SentRefused why)) answer starved = absurd starved
+starved_quiet key Tick (Ticked should) answer starved = absurd starved
+starved_quiet key Tick (Halted should) answer starved = absurd starved
+starved_quiet key Stop (Replied should) answer starved = absurd starved
+starved_quiet key Stop (Taken should) answer starved = absurd starved
+starved_quiet key Stop (Sent (SentPacket text)) answer starved = subst (IsQuiet key Stop) (sym starved) (unsent_quiet key Stop)
+starved_quiet key Stop (Sent Nothing) answer starved = absurd starved
+starved_quiet key Stop (Sent (SentRefused why)) answer starved = absurd starved
+starved_quiet key Stop (Ticked should) answer starved = absurd starved
+starved_quiet key Stop (Halted should) answer starved = absurd starved
+
+pub starved_moved : (key : List ℕ) (e : NodeEvent) (should answer : NodeAnswer) (v : NodeValue) → IsStarved e should answer → Moved key e answer v v
+starved_moved key e should answer v starved = quiet_moved key e answer v (starved_quiet key e should answer starved)
+
+-- Requests.
+
+did_tenants : (noticed : set.FinSet nat_cmp) (r : Request) (reply : Reply) (t : TableValue) → (table_did noticed r reply t).tenants ≡ t.tenants ++ added (Asked r) (Replied reply)
+did_tenants noticed (AddTenant token row) Done t = refl
+did_tenants noticed (AddTenant token row) (Said seq) t = sym (append-nil t.tenants)
+did_tenants noticed (AddTenant token row) (Log entries) t = sym (append-nil t.tenants)
+did_tenants noticed (AddTenant token row) (Refused why) t = sym (append-nil t.tenants)
+did_tenants noticed (Make token addr spec) Done t = sym (append-nil t.tenants)
+did_tenants noticed (Make token addr spec) (Said seq) t = sym (append-nil t.tenants)
+did_tenants noticed (Make token addr spec) (Log entries) t = sym (append-nil t.tenants)
+did_tenants noticed (Make token addr spec) (Refused why) t = sym (append-nil t.tenants)
+did_tenants noticed (OpenGroup token addr) Done t = sym (append-nil t.tenants)
+did_tenants noticed (OpenGroup token addr) (Said seq) t = sym (append-nil t.tenants)
+did_tenants noticed (OpenGroup token addr) (Log entries) t = sym (append-nil t.tenants)
+did_tenants noticed (OpenGroup token addr) (Refused why) t = sym (append-nil t.tenants)
+did_tenants noticed (ShutGroup token addr) Done t = sym (append-nil t.tenants)
+did_tenants noticed (ShutGroup token addr) (Said seq) t = sym (append-nil t.tenants)
+did_tenants noticed (ShutGroup token addr) (Log entries) t = sym (append-nil t.tenants)
+did_tenants noticed (ShutGroup token addr) (Refused why) t = sym (append-nil t.tenants)
+did_tenants noticed (DropGroup token addr) Done t = sym (append-nil t.tenants)
+did_tenants noticed (DropGroup token addr) (Said seq) t = sym (append-nil t.tenants)
+did_tenants noticed (DropGroup token addr) (Log entries) t = sym (append-nil t.tenants)
+did_tenants noticed (DropGroup token addr) (Refused why) t = sym (append-nil t.tenants)
+did_tenants noticed (Say token addr payload) Done t = sym (append-nil t.tenants)
+did_tenants noticed (Say token addr payload) (Said seq) t = sym (append-nil t.tenants)
+did_tenants noticed (Say token addr payload) (Log entries) t = sym (append-nil t.tenants)
+did_tenants noticed (Say token addr payload) (Refused why) t = sym (append-nil t.tenants)
+did_tenants noticed (Fetch token addr from most) Done t = sym (append-nil t.tenants)
+did_tenants noticed (Fetch token addr from most) (Said seq) t = sym (append-nil t.tenants)
+did_tenants noticed (Fetch token addr from most) (Log entries) t = sym (append-nil t.tenants)
+did_tenants noticed (Fetch token addr from most) (Refused why) t = sym (append-nil t.tenants)
+
+did_me : (noticed : set.FinSet nat_cmp) (r : Request) (reply : Reply) (t : TableValue) → ((table_did noticed r reply t).me ≡ t.me) × ((table_did noticed r reply t).nodes ≡ t.nodes)
+did_me noticed (AddTenant token row) Done t = (refl, refl)
+did_me noticed (AddTenant token row) (Said seq) t = (refl, refl)
+did_me noticed (AddTenant token row) (Log entries) t = (refl, refl)
+did_me noticed (AddTenant token row) (Refused why) t = (refl, refl)
+did_me noticed (Make token addr spec) Done t = (refl, refl)
+did_me noticed (Make token addr spec) (Said seq) t = (refl, refl)
+did_me noticed (Make token addr spec) (Log entries) t = (refl, refl)
+did_me noticed (Make token addr spec) (Refused why) t = (refl, refl)
+did_me noticed (OpenGroup token addr) Done t = (refl, refl)
+did_me noticed (OpenGroup token addr) (Said seq) t = (refl, refl)
+did_me noticed (OpenGroup token addr) (Log entries) t = (refl, refl)
+did_me noticed (OpenGroup token addr) (Refused why) t = (refl, refl)
+did_me noticed (ShutGroup token addr) Done t = (refl, refl)
+did_me noticed (ShutGroup token addr) (Said seq) t = (refl, refl)
+did_me noticed (ShutGroup token addr) (Log entries) t = (refl, refl)
+did_me noticed (ShutGroup token addr) (Refused why) t = (refl, refl)
+did_me noticed (DropGroup token addr) Done t = (refl, refl)
+did_me noticed (DropGroup token addr) (Said seq) t = (refl, refl)
+did_me noticed (DropGroup token addr) (Log entries) t = (refl, refl)
+did_me noticed (DropGroup token addr) (Refused why) t = (refl, refl)
+did_me noticed (Say token addr payload) Done t = (refl, refl)
+did_me noticed (Say token addr payload) (Said seq) t = (refl, refl)
+did_me noticed (Say token addr payload) (Log entries) t = (refl, refl)
+did_me noticed (Say token addr payload) (Refused why) t = (refl, refl)
+did_me noticed (Fetch token addr from most) Done t = (refl, refl)
+did_me noticed (Fetch token addr from most) (Said seq) t = (refl, refl)
+did_me noticed (Fetch token addr from most) (Log entries) t = (refl, refl)
+did_me noticed (Fetch token addr from most) (Refused why) t = (refl, refl)
+
+pub asked_moved : (key : List ℕ) (r : Request) (reply : Reply) (v : NodeValue) → Moved key (Asked r) (Replied reply) v (node_did r reply v)
+asked_moved key r reply v =
+    let kept = did_me v.watch.noticed r reply v.table in
+    still_moved key (Asked r) (Replied reply) v (node_did r reply v) (record { none_came = refl; none_packed = λ b. refl; none_taken = λ b n. refl }) refl kept.0 kept.1 refl refl (did_tenants v.watch.noticed r reply v.table) refl refl

@@ -1,0 +1,140 @@
+-- What happened at a node and what came of it: all that follows from that alone. A past has the newest first.
+use Rattle.std.specs.Prelude.{ℕ, ◌≡◌, ◌+◌, ◌&&◌, ◌||◌, not, Bool, true, false, List, [], ◌∷◌, ◌++◌, length, map, filter, Result, Ok, Err, nat_eq, nat_le, if◌then◌else◌}
+use Rattle.std.specs.FinSet as set
+use Rattle.std.specs.List.{list_any}
+use Rattle.gb_types.specs.declared.node.NodeId.{NodeId}
+use Rattle.gb_types.specs.declared.reply.Reply.TheVariants.{Done}
+use Rattle.gb_types.specs.declared.request.Request.TheVariants.{AddTenant}
+use Rattle.gb_types.specs.declared.spec.TenantRow.{TenantRow}
+use Rattle.gb_frame.specs.declared.fault.PacketFault.{PacketFault}
+use Rattle.gb_frame.specs.declared.item.Item.{Item}
+use Rattle.gb_frame.specs.Packet.{Content}
+use Rattle.gb_frame.specs.Reading.{reading}
+use Rattle.gb_link.specs.Ack.{covers}
+use Rattle.gb_detect.specs.Silence.{Call, Heard, Tick as Ticks}
+use Rattle.gb_detect.specs.Watch.{start, replay}
+use Rattle.gb_node.specs.NodeValue.{NodeValue, new_node}
+use Rattle.gb_node.specs.NodeStep.{window_to, receiver_from, IsTurn, IsSpelt}
+use Rattle.gb_node.specs.declared.plan.NodePlan.{NodePlan}
+use Rattle.gb_node.specs.declared.answer.NodeAnswer.{NodeAnswer}
+use Rattle.gb_node.specs.declared.answer.NodeAnswer.TheVariants.{Reply as Replied, Taken, Sent, Ticked, Halted}
+use Rattle.gb_node.specs.declared.answer.PacketAnswer.TheVariants.{Good as TakenGood}
+use Rattle.gb_node.specs.declared.answer.Frame.{Frame}
+use Rattle.gb_node.specs.declared.answer.Frame.TheVariants.{Nothing as NoFrame, First as CameFirst, Seen as CameBefore, Outside as Beyond}
+use Rattle.gb_node.specs.declared.answer.Sent.TheVariants.{Packet as SentPacket}
+use Rattle.gb_node.specs.declared.answer.Ticked.TheVariants.{Noticed}
+use Rattle.gb_node.specs.declared.answer.Halted.TheVariants.{Done as HaltDone}
+use Rattle.gb_node.specs.declared.event.NodeEvent.{NodeEvent}
+use Rattle.gb_node.specs.declared.event.NodeEvent.TheVariants.{Request as Asked, Packet as Came, Pack, Tick, Stop}
+
+-- an event with its answer
+pub record Happened : Type 0 where
+  pub event : NodeEvent
+  pub answer : NodeAnswer
+
+-- a node that was started with the plan comes by this past to this
+unfoldable pub ComesTo : NodePlan → List Happened → NodeValue → Type 0
+ComesTo plan [] v = v ≡ new_node plan
+ComesTo plan (h ∷ past) v = (before : NodeValue) × ComesTo plan past before × IsTurn before h.event h.answer v × IsSpelt before h.event h.answer
+
+-- Packets under the cluster's key.
+
+abbrev pub packet_in : Result Content PacketFault → List Content
+packet_in (Ok c) = c ∷ []
+packet_in (Err fault) = []
+
+-- the packet that bytes are, if they are one
+abbrev pub read : List ℕ → List ℕ → List Content
+read key bytes = packet_in (reading key bytes)
+
+-- the packet that was taken
+abbrev pub came : List ℕ → NodeEvent → NodeAnswer → List Content
+came key (Came bytes) (Taken (TakenGood good)) = read key bytes
+came key event answer = []
+
+-- the batch that was packed for a node
+abbrev pub packed_for : List ℕ → ℕ → NodeEvent → NodeAnswer → List (List Item)
+packed_for key b (Pack x) (Sent (SentPacket text)) = if nat_eq x.number b then map (λ (c : Content). c.items) (read key text) else []
+packed_for key b event answer = []
+
+-- the frames that were packed for a node: frame n is the n-th of them
+unfoldable pub frames_to : List ℕ → ℕ → List Happened → List (List Item)
+frames_to key b [] = []
+frames_to key b (h ∷ past) = frames_to key b past ++ packed_for key b h.event h.answer
+
+-- frames under their numbers, from a number on
+unfoldable pub numbered : ℕ → List (List Item) → List (ℕ × List Item)
+numbered n [] = []
+numbered n (f ∷ fs) = (n, f) ∷ numbered (n + 1) fs
+
+abbrev pub is_ack : ℕ → ℕ → Content → Bool
+is_ack b n c = nat_eq c.from b && covers c.base c.mask n
+
+-- an acknowledgement of the frame for a node with this number came after the frame was packed
+unfoldable pub is_acked : List ℕ → ℕ → ℕ → List Happened → Bool
+is_acked key b n [] = false
+is_acked key b n (h ∷ past) = is_acked key b n past || (nat_le n (length (frames_to key b past)) && list_any (is_ack b n) (came key h.event h.answer))
+
+abbrev pub is_first : Frame → Bool
+is_first CameFirst = true
+is_first NoFrame = false
+is_first CameBefore = false
+is_first Beyond = false
+
+abbrev pub is_frame : ℕ → ℕ → Content → Bool
+is_frame b n c = nat_eq c.from b && nat_eq c.frame n
+
+abbrev pub is_taken_by : List ℕ → ℕ → ℕ → NodeEvent → NodeAnswer → Bool
+is_taken_by key b n (Came bytes) (Taken (TakenGood good)) = is_first good.frame && list_any (is_frame b n) (read key bytes)
+is_taken_by key b n event answer = false
+
+-- the frame from a node with this number came for the first time
+unfoldable pub is_taken : List ℕ → ℕ → ℕ → List Happened → Bool
+is_taken key b n [] = false
+is_taken key b n (h ∷ past) = is_taken_by key b n h.event h.answer || is_taken key b n past
+
+-- Time, tenants and the stop.
+
+abbrev pub ticks : NodeEvent → NodeAnswer → List Call
+ticks Tick (Ticked (Noticed found)) = Ticks ∷ []
+ticks event answer = []
+
+-- what the detector was called for, the newest first
+unfoldable pub watched : List ℕ → List Happened → List Call
+watched key [] = []
+watched key (h ∷ past) = ticks h.event h.answer ++ map (λ (c : Content). Heard c.from) (came key h.event h.answer) ++ watched key past
+
+abbrev pub added : NodeEvent → NodeAnswer → List TenantRow
+added (Asked (AddTenant token row)) (Replied Done) = row ∷ []
+added event answer = []
+
+-- the tenants that were added, in order
+unfoldable pub tenants_in : List Happened → List TenantRow
+tenants_in [] = []
+tenants_in (h ∷ past) = tenants_in past ++ added h.event h.answer
+
+abbrev pub stops : NodeEvent → NodeAnswer → Bool
+stops Stop (Halted HaltDone) = true
+stops event answer = false
+
+unfoldable pub is_stopped : List Happened → Bool
+is_stopped [] = false
+is_stopped (h ∷ past) = stops h.event h.answer || is_stopped past
+
+-- What a node is, its groups aside, its past says.
+pub record IsOfPast (plan : NodePlan) (past : List Happened) (v : NodeValue) : Type 0 where
+  pub key : v.key ≡ plan.cluster_key
+  pub me : v.table.me ≡ plan.me
+  pub nodes : v.table.nodes ≡ plan.nodes
+  pub stopped : v.stopped ≡ is_stopped past
+  pub watch : v.watch ≡ replay (start plan.me.number plan.nodes plan.silence) (watched plan.cluster_key past)
+  pub tenants : v.table.tenants ≡ tenants_in past
+  -- the link to each node: the next number, and the frames that were packed and not acknowledged since
+  pub next : (b : NodeId) → (window_to v b.number).next ≡ length (frames_to plan.cluster_key b.number past) + 1
+  pub undone : (b : NodeId) → (window_to v b.number).undone ≡ filter (λ u. not (is_acked plan.cluster_key b.number u.0 past)) (numbered 1 (frames_to plan.cluster_key b.number past))
+  -- the link from each node: the numbers received
+  pub received : (b : NodeId) (n : ℕ) → set.contains (receiver_from v b.number) n ≡ is_taken plan.cluster_key b.number n past
+
+-- every node is what its past says
+abbrev pub PastsSay : Type 0
+PastsSay = (plan : NodePlan) (past : List Happened) (v : NodeValue) → ComesTo plan past v → IsOfPast plan past v

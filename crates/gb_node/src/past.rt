@@ -1,0 +1,12 @@
+//! What a node's past says of it.
+ghost use Rattle.gb_node.specs.Past.{PastsSay};
+
+use gb_frame::laws::what_is_written_is_read;
+
+/// A law of every node, whatever happens at it: its links, its detector, its tenants and whether it stopped are what the
+/// events and answers of its past say. The function does nothing when it runs; its contract is the law.
+pub fn pasts_say()
+    ensures { PastsSay }
+{
+    what_is_written_is_read();
+}
