@@ -1,15 +1,7 @@
-use crate::pair::{CLUSTER_KEY, FIRST, SECOND, addr, counts, furnished, logged, node, packet_of};
-use gb_cap::hmac::HmacKey;
+use crate::pair::{FIRST, SECOND, node, packet_of};
 use gb_frame::fault::PacketFault;
-use gb_frame::item::Item;
-use gb_frame::packet::Packet;
-use gb_frame::writing::encode;
-use gb_node::answer::{Frame, PacketAnswer, Ticked};
-use gb_node::packet_text::PacketText;
-use gb_types::memory::OutOfMemory;
+use gb_node::answer::{PacketAnswer, Ticked};
 use gb_types::node::NodeId;
-use gb_types::payload::Payload;
-use std::alloc::Global;
 use std::rt::HostRuntime;
 use std::test::Fail;
 

@@ -1,8 +1,5 @@
-use crate::pair::{
-    FIRST, SECOND, add, addr, counts, furnished, is_done, logged, make, node, packet_of, say,
-};
+use crate::pair::{FIRST, SECOND, add, addr, counts, furnished, logged, node, packet_of, say};
 use gb_node::answer::Sent;
-use gb_node::event::NodeEvent;
 use gb_node::node::Node;
 use gb_types::memory::OutOfMemory;
 use gb_types::node::NodeId;

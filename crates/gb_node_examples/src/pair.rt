@@ -1,5 +1,6 @@
+// Nodes with the same tenants and groups.
 ghost use Rattle.std.specs.Prelude.{◌<◌};
-// Two nodes with the same tenants and groups.
+
 use gb_cap::hmac::Key;
 use gb_cap::token::{Need, token};
 use gb_node::answer::{PacketAnswer, Sent};
@@ -20,7 +21,7 @@ pub const FIRST: NodeId = NodeId { number: 0 };
 
 pub const SECOND: NodeId = NodeId { number: 1 };
 
-pub const CLUSTER_KEY: Key = [3; 32];
+const CLUSTER_KEY: Key = [3; 32];
 
 const ADMIN_KEY: Key = [1; 32];
 
@@ -59,7 +60,7 @@ pub fn add(node: &mut Node, tenant: u16) -> Reply {
 }
 
 /// Makes a best-effort group of both nodes, and opens it.
-pub fn make(node: &mut Node, addr: Addr) -> Reply {
+fn make(node: &mut Node, addr: Addr) -> Reply {
     let owner = token(&TENANT_KEY, Need::Tenant(addr.tenant));
     let mut members = NodeSet::new();
     members.insert(FIRST);
@@ -77,7 +78,7 @@ pub fn make(node: &mut Node, addr: Addr) -> Reply {
     }
 }
 
-pub fn is_done(reply: Reply) -> bool {
+fn is_done(reply: Reply) -> bool {
     matches!(reply, Reply::Done)
 }
 
