@@ -112,7 +112,7 @@ no_such addr rows p none h e =
     let off : is_addr addr (row_at rows p).addr ≡ false = none_has addr rows p none h in
     let t : true ≡ false = sym (same_test addr (row_at rows p).addr e) ∙ off in absurd (cc)
 
-end_apart : (rows : List Row) (row : Row) → AreApart rows → position (λ (r : Row). is_addr row.addr r.addr) rows ≡ None → AreApart (rows ++ row ∷ [])
+pub end_apart : (rows : List Row) (row : Row) → AreApart rows → position (λ (r : Row). is_addr row.addr r.addr) rows ≡ None → AreApart (rows ++ row ∷ [])
 unfolding AtEnd
 end_apart rows row ok none = record {
   apart = λ p q hp hq same. elim (at_end rows row no_row p) [

@@ -23,11 +23,11 @@ use Rattle.gb_slot.specs.Slot.{slot_came}
 pub place_is : (addr : Addr) (rows : List Row) (p : ℕ) → Some p ≡ place_of addr rows → (p < length rows) × (is_addr addr (row_at rows p).addr ≡ true)
 place_is addr rows p e = let h = position-Some (λ (row : Row). is_addr addr row.addr) rows p no_row (sym e) in (h.0, h.1)
 
-both_true : (a b : Bool) → (a && b) ≡ true → (a ≡ true) × (b ≡ true)
+pub both_true : (a b : Bool) → (a && b) ≡ true → (a ≡ true) × (b ≡ true)
 both_true true b e = (refl, e)
 both_true false b e = absurd (cc)
 
-addr_through : (g addr a : Addr) → is_addr g a ≡ true → is_addr addr a ≡ true → is_addr g addr ≡ true
+pub addr_through : (g addr a : Addr) → is_addr g a ≡ true → is_addr addr a ≡ true → is_addr g addr ≡ true
 addr_through g addr a e f =
     let x = both_true (nat_eq g.tenant a.tenant) (nat_eq g.group a.group) e in
     let y = both_true (nat_eq addr.tenant a.tenant) (nat_eq addr.group a.group) f in

@@ -246,7 +246,7 @@ walk_below c qs =
     let ok = placed-below (length qs) 0 qs (omega arith) in
     pass-rounds f (longest (from_place c (placed 0 qs))) (from_place c (placed 0 qs)) (pass-append f (drop c (placed 0 qs)) (take c (placed 0 qs)) (pass-drop f c (placed 0 qs) ok) (pass-take f c (placed 0 qs) ok))
 
-agree : {A : Type 0} (g f h : A → Bool) → ((x : A) → g x ≡ true → f x ≡ h x) → (xs : List A) → Const g true xs → filter f xs ≡ filter h xs
+pub agree : {A : Type 0} (g f h : A → Bool) → ((x : A) → g x ≡ true → f x ≡ h x) → (xs : List A) → Const g true xs → filter f xs ≡ filter h xs
 agree g f h e [] c = refl
 agree g f h e (x ∷ xs) c = ap (λ b. cond b (x ∷ filter f xs) (filter f xs)) (e x c.0) ∙ ap (λ ys. cond (h x) (x ∷ ys) ys) (agree g f h e xs c.1)
 
@@ -254,7 +254,7 @@ map-cond : {A B : Type 0} (g : A → B) (b : Bool) (x : A) (xs : List A) → con
 map-cond g true x xs = refl
 map-cond g false x xs = refl
 
-filter-map : {A B : Type 0} (f : B → Bool) (g : A → B) (xs : List A) → filter f (map g xs) ≡ map g (filter (λ x. f (g x)) xs)
+pub filter-map : {A B : Type 0} (f : B → Bool) (g : A → B) (xs : List A) → filter f (map g xs) ≡ map g (filter (λ x. f (g x)) xs)
 filter-map f g [] = refl
 filter-map f g (x ∷ xs) = ap (λ ys. cond (f (g x)) (g x ∷ ys) ys) (filter-map f g xs) ∙ map-cond g (f (g x)) x (filter (λ y. f (g y)) xs)
 
@@ -287,16 +287,18 @@ map-item : (t : GroupsValue) (p : ℕ) (q : List Entry) → map (item_at t.rows)
 map-item t p [] = refl
 map-item t p (w ∷ q) = ap (λ r. item_of (row_at t.rows p) w ∷ r) (map-item t p q)
 
+-- a batch is from groups that are here
+pub batch_below : (dest room : ℕ) (t : GroupsValue) → Const (is_below (length t.rows)) true (batch dest room t)
+batch_below dest room t =
+    let vs = walk_to dest t in
+    let front : take (length (fit room vs)) vs ≡ fit room vs = (fit-front room vs).1 in
+    let below : Const (is_below (length t.rows)) true vs = (rw (length-queues dest t.rows) at (walk_below (get_or t.cursors dest 0) (queues dest t.rows))) in
+    (rw front at (Const-take (is_below (length t.rows)) true (length (fit room vs)) vs below))
+
 pub items_front : (dest room : ℕ) (t : GroupsValue) (p : ℕ) → AreApart t.rows → p < length t.rows → filter (is_of (row_at t.rows p)) (items t.rows (batch dest room t)) ≡ map (item_of (row_at t.rows p)) (take (share p (batch dest room t)) (queue dest (row_at t.rows p)))
 items_front dest room t p ok h =
-    let vs = walk_to dest t in
-    let n = length (fit room vs) in
-    let l = length-queues dest t.rows in
-    let front : take n vs ≡ fit room vs = (fit-front room vs).1 in
-    let below : Const (is_below (length t.rows)) true vs = (rw l at (walk_below (get_or t.cursors dest 0) (queues dest t.rows))) in
-    let below' : Const (is_below (length t.rows)) true (fit room vs) = (rw front at (Const-take (is_below (length t.rows)) true n vs below)) in
     filter-map (is_of (row_at t.rows p)) (item_at t.rows) (batch dest room t)
-    ∙ ap (map (item_at t.rows)) (agree (is_below (length t.rows)) (λ v. is_of (row_at t.rows p) (item_at t.rows v)) (is_at p) (same_test t p ok h) (batch dest room t) below' ∙ batch_of dest room p t h)
+    ∙ ap (map (item_at t.rows)) (agree (is_below (length t.rows)) (λ v. is_of (row_at t.rows p) (item_at t.rows v)) (is_at p) (same_test t p ok h) (batch dest room t) (batch_below dest room t) ∙ batch_of dest room p t h)
     ∙ map-item t p (take (share p (batch dest room t)) (queue dest (row_at t.rows p)))
 
 -- what a packing does to each group

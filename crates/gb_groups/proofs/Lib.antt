@@ -15,3 +15,4 @@ pub mod QuietLemmas
 pub mod AddLemmas
 pub mod NoticeLemmas
 pub mod DropLemmas
+pub mod OneGroupLemmas

@@ -8,3 +8,4 @@ pub mod Slots
 pub mod GroupsValue
 pub mod Fair
 pub mod AtAddress
+pub mod OneGroup

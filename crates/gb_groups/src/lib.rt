@@ -3,6 +3,7 @@
 //! the walk, and `slots` how slots are kept.
 #![tactic(auto)]
 
+pub mod each;
 pub mod groups;
 pub mod packing;
 pub mod place_set;

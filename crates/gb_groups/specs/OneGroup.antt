@@ -1,0 +1,80 @@
+-- What becomes of one group among the groups of a node.
+use Rattle.std.specs.Prelude.{ℕ, ◌≡◌, ◌<◌, ◌&&◌, Bool, List, ◌++◌, ◌∷◌, [], length, map, take, filter, fold, Option, Some, None, option_map, nat_lt, nat_le, if◌then◌else◌}
+use Rattle.gb_types.specs.declared.address.Addr.{Addr}
+use Rattle.gb_types.specs.declared.entry.Entry.{Entry}
+use Rattle.gb_types.specs.declared.limits.TheConstants.{NODES, PAYLOAD}
+use Rattle.gb_types.specs.declared.node.NodeId.{NodeId}
+use Rattle.gb_frame.specs.declared.item.Item.{Item}
+use Rattle.gb_rules.specs.Address.{is_addr}
+use Rattle.gb_slot.specs.SlotState.{SlotState}
+use Rattle.gb_slot.specs.Slot.{slot_came, slot_took, waiting}
+use Rattle.gb_groups.specs.SlotsValue.{Row, on_slot, AreApart}
+use Rattle.gb_groups.specs.GroupsValue.{GroupsValue, batch, packed}
+use Rattle.gb_groups.specs.Packing.{items, queue_of}
+use Rattle.gb_groups.specs.AtAddress.{place_of, row_for, on_address, drop_at, address_of, entry_of, item_came}
+
+-- the group with an address: None where it was never made, no slot where it was dropped
+abbrev pub group_in : Addr → List Row → Option (Option SlotState)
+group_in g rows = option_map (λ row. row.slot) (row_for g rows)
+
+-- after a step of its slot
+abbrev pub stepped : (SlotState → SlotState) → Option (Option SlotState) → Option (Option SlotState)
+stepped step o = option_map (option_map step) o
+
+-- after it was dropped
+abbrev pub dropped : Option (Option SlotState) → Option (Option SlotState)
+dropped o = option_map (λ s. None) o
+
+-- where it is not there, it is the one that is added
+abbrev pub or_added : Option (Option SlotState) → Option (Option SlotState) → Option (Option SlotState)
+or_added None new = new
+or_added (Some s) new = Some s
+
+-- only where a test holds
+abbrev pub where_so : Bool → (Option (Option SlotState) → Option (Option SlotState)) → Option (Option SlotState) → Option (Option SlotState)
+where_so b step o = if b then step o else o
+
+-- the items that name a group, among these
+abbrev pub names : Addr → Item → Bool
+names g i = is_addr g (address_of i)
+
+abbrev pub items_for : Addr → List Item → List Item
+items_for g items = filter (names g) items
+
+-- after an item came for it from a node; one whose origin is no node, or that is longer than a message may be, is let fall
+abbrev pub came_for : NodeId → Option (Option SlotState) → Item → Option (Option SlotState)
+came_for from o i = where_so (nat_lt i.origin NODES && nat_le (length i.payload) PAYLOAD) (stepped (slot_came from (entry_of i))) o
+
+-- the items that wait in it for a node
+abbrev pub waiting_in : Option (Option SlotState) → ℕ → List Entry
+waiting_in None dest = []
+waiting_in (Some slot) dest = queue_of dest slot
+
+-- an entry of a group as an item of a packet
+abbrev pub item_for : Addr → Entry → Item
+item_for g e = record { tenant = g.tenant; group = g.group; origin = e.origin.number; seq = e.seq; payload = e.payload }
+
+-- What each call makes of each group by itself.
+pub record EachGroup : Type 0 where
+  -- a step at an address is a step of the group with that address, and of no other
+  pub addressed : (g addr : Addr) (step : SlotState → SlotState) (rows : List Row) → group_in g (on_address addr step rows) ≡ where_so (is_addr g addr) (stepped step) (group_in g rows)
+  pub erased : (g addr : Addr) (rows : List Row) → group_in g (drop_at addr rows) ≡ where_so (is_addr g addr) dropped (group_in g rows)
+  -- a group that is added is there with its slot
+  pub appended : (g : Addr) (rows : List Row) (row : Row) → group_in g (rows ++ row ∷ []) ≡ or_added (group_in g rows) (if is_addr g row.addr then Some row.slot else None)
+  -- a step of all slots is a step of each
+  pub every : (g : Addr) (step : SlotState → SlotState) (rows : List Row) → group_in g (map (on_slot step) rows) ≡ stepped step (group_in g rows)
+  -- of the items of a frame each group takes those that name it, in order
+  pub arrived : (g : Addr) (from : NodeId) (items : List Item) (rows : List Row) → group_in g (fold (λ rows i. item_came from i rows) rows items) ≡ fold (came_for from) (group_in g rows) (items_for g items)
+  -- a batch has of each group a front of what waits there, in order, and takes that
+  pub front : (g : Addr) (dest room : ℕ) (t : GroupsValue) → AreApart t.rows
+      → items_for g (items t.rows (batch dest room t)) ≡ map (item_for g) (take (length (items_for g (items t.rows (batch dest room t)))) (waiting_in (group_in g t.rows) dest))
+  pub taken : (g : Addr) (dest room : ℕ) (t : GroupsValue) → AreApart t.rows
+      → group_in g (packed dest room t).rows ≡ stepped (slot_took dest (length (items_for g (items t.rows (batch dest room t))))) (group_in g t.rows)
+
+-- No two groups ever have one address.
+pub record StayApart : Type 0 where
+  pub addressed : (addr : Addr) (step : SlotState → SlotState) (rows : List Row) → AreApart rows → AreApart (on_address addr step rows)
+  pub erased : (addr : Addr) (rows : List Row) → AreApart rows → AreApart (drop_at addr rows)
+  pub appended : (rows : List Row) (row : Row) → AreApart rows → place_of row.addr rows ≡ None → AreApart (rows ++ row ∷ [])
+  pub every : (step : SlotState → SlotState) (rows : List Row) → AreApart rows → AreApart (map (on_slot step) rows)
+  pub taken : (dest room : ℕ) (t : GroupsValue) → AreApart t.rows → AreApart (packed dest room t).rows
