@@ -1,10 +1,12 @@
 -- What each event makes of a node, as its past will tell.
 use Rattle.std.proofs.Common.{◌≡◌, ℕ, false, ◌||◌, List, [], ◌++◌, length, map, refl, sym, ap, subst, ◌∙◌, arith}
-use Rattle.std.specs.Prelude.{filter, not}
+use Rattle.std.specs.Prelude.{filter, not, Option}
 use Rattle.std.specs.FinSet as set
 use Rattle.std.specs.Ordering.{nat_cmp}
 use Rattle.std.specs.List.{list_any}
 use Rattle.std.proofs.lemmas.List.{append-nil}
+use Rattle.gb_types.specs.declared.address.Addr.{Addr}
+use Rattle.gb_types.specs.declared.node.NodeId.{NodeId}
 use Rattle.gb_types.specs.declared.refusal.Refusal.{Refusal}
 use Rattle.gb_types.specs.declared.refusal.Refusal.TheVariants.{Stopped, OutOfMemory}
 use Rattle.gb_types.specs.declared.reply.Reply.{Reply}
@@ -16,11 +18,13 @@ use Rattle.gb_detect.specs.Watch.{replay}
 use Rattle.gb_frame.specs.Packet.{Content}
 use Rattle.std.specs.Prelude.{slice_index_or}
 use Rattle.gb_link.specs.SendWindow.{new_window}
+use Rattle.gb_slot.specs.SlotState.{SlotState}
 use Rattle.gb_table.specs.TableValue.{TableValue}
 use Rattle.gb_table.specs.Requests.{table_did}
 use Rattle.gb_node.specs.NodeValue.{NodeValue}
 use Rattle.gb_node.specs.NodeStep.{window_to, receiver_from, node_did, stopped_answer, IsStarved}
-use Rattle.gb_node.specs.Past.{came, packed_for, numbered, is_ack, is_taken_by, ticks, added, stops}
+use Rattle.gb_node.specs.Past.{Happened, came, packed_for, numbered, is_ack, is_taken_by, ticks, added, stops, noticed_in, asked_for, group_after}
+use Rattle.gb_node.specs.declared.plan.NodePlan.{NodePlan}
 use Rattle.gb_node.specs.declared.answer.NodeAnswer.{NodeAnswer}
 use Rattle.gb_node.specs.declared.answer.NodeAnswer.TheVariants.{Reply as Replied, Taken, Sent, Ticked, Halted}
 use Rattle.gb_node.specs.declared.answer.Sent.TheVariants.{Packet as SentPacket, Nothing, Refused as SentRefused}
@@ -224,3 +228,86 @@ pub asked_moved : (key : List ℕ) (r : Request) (reply : Reply) (v : NodeValue)
 asked_moved key r reply v =
     let kept = did_me v.watch.noticed r reply v.table in
     still_moved key (Asked r) (Replied reply) v (node_did r reply v) (record { none_came = refl; none_packed = λ b. refl; none_taken = λ b n. refl }) refl kept.0 kept.1 refl refl (did_tenants v.watch.noticed r reply v.table) refl refl
+
+-- Groups.
+
+-- a refused request makes nothing of a group
+asked_refused : (g : Addr) (me : NodeId) (noticed : set.FinSet nat_cmp) (r : Request) (why : Refusal) (o : Option (Option SlotState)) → asked_for g me noticed r (Refused why) o ≡ o
+asked_refused g me noticed (AddTenant token row) why o = refl
+asked_refused g me noticed (Make token addr spec) why o = refl
+asked_refused g me noticed (OpenGroup token addr) why o = refl
+asked_refused g me noticed (ShutGroup token addr) why o = refl
+asked_refused g me noticed (DropGroup token addr) why o = refl
+asked_refused g me noticed (Say token addr payload) why o = refl
+asked_refused g me noticed (Fetch token addr from most) why o = refl
+
+-- nor does a stopped node
+pub stopped_group : (plan : NodePlan) (g : Addr) (past : List Happened) (e : NodeEvent) (o : Option (Option SlotState)) → o ≡ group_after plan g past e (stopped_answer e) o
+stopped_group plan g past (Asked r) o = sym (asked_refused g plan.me (noticed_in plan past) r Stopped o)
+stopped_group plan g past (Came bytes) o = refl
+stopped_group plan g past (Pack x) o = refl
+stopped_group plan g past (Again x n) o = refl
+stopped_group plan g past (Ack x) o = refl
+stopped_group plan g past Tick o = refl
+stopped_group plan g past Stop o = refl
+
+unsent_group : (plan : NodePlan) (g : Addr) (past : List Happened) (e : NodeEvent) (o : Option (Option SlotState)) → o ≡ group_after plan g past e (Sent (SentRefused OutOfMemory)) o
+unsent_group plan g past (Asked r) o = refl
+unsent_group plan g past (Came bytes) o = refl
+unsent_group plan g past (Pack x) o = refl
+unsent_group plan g past (Again x n) o = refl
+unsent_group plan g past (Ack x) o = refl
+unsent_group plan g past Tick o = refl
+unsent_group plan g past Stop o = refl
+
+-- nor does want of memory
+pub starved_group : (plan : NodePlan) (g : Addr) (past : List Happened) (e : NodeEvent) (should answer : NodeAnswer) (o : Option (Option SlotState)) → IsStarved e should answer → o ≡ group_after plan g past e answer o
+starved_group plan g past (Asked r) (Replied should) answer o starved = sym (asked_refused g plan.me (noticed_in plan past) r OutOfMemory o) ∙ ap (λ (told : NodeAnswer). group_after plan g past (Asked r) told o) (sym starved.0)
+starved_group plan g past (Asked r) (Taken should) answer o starved = absurd starved
+starved_group plan g past (Asked r) (Sent (SentPacket text)) answer o starved = unsent_group plan g past (Asked r) o ∙ ap (λ (told : NodeAnswer). group_after plan g past (Asked r) told o) (sym starved)
+starved_group plan g past (Asked r) (Sent Nothing) answer o starved = absurd starved
+starved_group plan g past (Asked r) (Sent (SentRefused why)) answer o starved = absurd starved
+starved_group plan g past (Asked r) (Ticked should) answer o starved = absurd starved
+starved_group plan g past (Asked r) (Halted should) answer o starved = absurd starved
+starved_group plan g past (Came bytes) (Replied should) answer o starved = absurd starved
+starved_group plan g past (Came bytes) (Taken should) answer o starved = absurd starved
+starved_group plan g past (Came bytes) (Sent (SentPacket text)) answer o starved = unsent_group plan g past (Came bytes) o ∙ ap (λ (told : NodeAnswer). group_after plan g past (Came bytes) told o) (sym starved)
+starved_group plan g past (Came bytes) (Sent Nothing) answer o starved = absurd starved
+starved_group plan g past (Came bytes) (Sent (SentRefused why)) answer o starved = absurd starved
+starved_group plan g past (Came bytes) (Ticked should) answer o starved = absurd starved
+starved_group plan g past (Came bytes) (Halted should) answer o starved = absurd starved
+starved_group plan g past (Pack x) (Replied should) answer o starved = absurd starved
+starved_group plan g past (Pack x) (Taken should) answer o starved = absurd starved
+starved_group plan g past (Pack x) (Sent (SentPacket text)) answer o starved = unsent_group plan g past (Pack x) o ∙ ap (λ (told : NodeAnswer). group_after plan g past (Pack x) told o) (sym starved)
+starved_group plan g past (Pack x) (Sent Nothing) answer o starved = absurd starved
+starved_group plan g past (Pack x) (Sent (SentRefused why)) answer o starved = absurd starved
+starved_group plan g past (Pack x) (Ticked should) answer o starved = absurd starved
+starved_group plan g past (Pack x) (Halted should) answer o starved = absurd starved
+starved_group plan g past (Again x n) (Replied should) answer o starved = absurd starved
+starved_group plan g past (Again x n) (Taken should) answer o starved = absurd starved
+starved_group plan g past (Again x n) (Sent (SentPacket text)) answer o starved = unsent_group plan g past (Again x n) o ∙ ap (λ (told : NodeAnswer). group_after plan g past (Again x n) told o) (sym starved)
+starved_group plan g past (Again x n) (Sent Nothing) answer o starved = absurd starved
+starved_group plan g past (Again x n) (Sent (SentRefused why)) answer o starved = absurd starved
+starved_group plan g past (Again x n) (Ticked should) answer o starved = absurd starved
+starved_group plan g past (Again x n) (Halted should) answer o starved = absurd starved
+starved_group plan g past (Ack x) (Replied should) answer o starved = absurd starved
+starved_group plan g past (Ack x) (Taken should) answer o starved = absurd starved
+starved_group plan g past (Ack x) (Sent (SentPacket text)) answer o starved = unsent_group plan g past (Ack x) o ∙ ap (λ (told : NodeAnswer). group_after plan g past (Ack x) told o) (sym starved)
+starved_group plan g past (Ack x) (Sent Nothing) answer o starved = absurd starved
+starved_group plan g past (Ack x) (Sent (SentRefused why)) answer o starved = absurd starved
+starved_group plan g past (Ack x) (Ticked should) answer o starved = absurd starved
+starved_group plan g past (Ack x) (Halted should) answer o starved = absurd starved
+starved_group plan g past Tick (Replied should) answer o starved = absurd starved
+starved_group plan g past Tick (Taken should) answer o starved = absurd starved
+starved_group plan g past Tick (Sent (SentPacket text)) answer o starved = unsent_group plan g past Tick o ∙ ap (λ (told : NodeAnswer). group_after plan g past Tick told o) (sym starved)
+starved_group plan g past Tick (Sent Nothing) answer o starved = absurd starved
+starved_group plan g past Tick (Sent (SentRefused why)) answer o starved = absurd starved
+starved_group plan g past Tick (Ticked should) answer o starved = absurd starved
+starved_group plan g past Tick (Halted should) answer o starved = absurd starved
+starved_group plan g past Stop (Replied should) answer o starved = absurd starved
+starved_group plan g past Stop (Taken should) answer o starved = absurd starved
+starved_group plan g past Stop (Sent (SentPacket text)) answer o starved = unsent_group plan g past Stop o ∙ ap (λ (told : NodeAnswer). group_after plan g past Stop told o) (sym starved)
+starved_group plan g past Stop (Sent Nothing) answer o starved = absurd starved
+starved_group plan g past Stop (Sent (SentRefused why)) answer o starved = absurd starved
+starved_group plan g past Stop (Ticked should) answer o starved = absurd starved
+starved_group plan g past Stop (Halted should) answer o starved = absurd starved

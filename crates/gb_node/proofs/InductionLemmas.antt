@@ -1,24 +1,30 @@
 -- Every node is what its past says: the induction over pasts.
-use Rattle.std.proofs.Common.{◌≡◌, ℕ, inl, inr, List, [], ◌∷◌, length, Option, Some, None, Result, Ok, Err, refl, sym, ap, subst, ◌∙◌}
+use Rattle.std.proofs.Common.{◌≡◌, ℕ, inl, inr, List, [], ◌∷◌, length, arith, Option, Some, None, Result, Ok, Err, refl, sym, ap, subst, ◌∙◌}
 use Rattle.std.specs.Prelude.{IfSome, option_map, if◌then◌else◌}
 use Rattle.std.specs.FinSet as set
 use Rattle.std.specs.Ordering.{nat_cmp}
 use Rattle.std.proofs.lemmas.Bool.{cases_Bool}
 use Rattle.std.proofs.lemmas.List.{length-set, get_or-replicate}
+use Rattle.gb_types.specs.Rising.{rising}
+use Rattle.gb_types.specs.declared.address.Addr.{Addr}
 use Rattle.gb_types.specs.declared.limits.TheConstants.{NODES}
 use Rattle.gb_types.specs.declared.node.NodeId.{NodeId}
 use Rattle.gb_frame.specs.declared.fault.PacketFault.{PacketFault}
 use Rattle.gb_frame.specs.declared.fault.PacketFault.TheVariants.{Node}
 use Rattle.gb_frame.specs.declared.item.Item.{Item}
+use Rattle.gb_frame.specs.declared.limits.TheConstants.{ROOM}
 use Rattle.gb_frame.specs.Packet.{Content}
 use Rattle.gb_frame.specs.Reading.{reading}
 use Rattle.gb_frame.specs.Spelling.{IsPacket}
 use Rattle.gb_frame.specs.Laws.{WhatIsWrittenIsRead}
 use Rattle.gb_link.specs.SendWindow.{SendWindow, new_window, pushed}
+use Rattle.gb_detect.specs.Watch.{due}
+use Rattle.gb_groups.specs.SlotsValue.{AreApart}
+use Rattle.gb_groups.specs.OneGroup.{group_in, EachGroup, StayApart}
 use Rattle.gb_table.specs.Requests.{table_reply}
 use Rattle.gb_node.specs.NodeValue.{NodeValue, new_node}
-use Rattle.gb_node.specs.NodeStep.{Turn, turn, running_turn, stopped_answer, IsTurn, IsSpelt, is_here, if_here, taken_answer, node_read, next_batch, sent, sent_batch, content_to, window_to, receiver_from, without_done, receives, again_content, ack_content}
-use Rattle.gb_node.specs.Past.{Happened, ComesTo, IsOfPast, PastsSay, frames_to, numbered, is_acked, is_taken, watched, tenants_in, is_stopped}
+use Rattle.gb_node.specs.NodeStep.{Turn, turn, running_turn, stopped_answer, IsTurn, IsSpelt, is_here, if_here, taken_answer, node_read, next_batch, sent, sent_batch, content_to, window_to, receiver_from, node_numbered, newly_done, heard, took_ack, without_done, receives, again_content, ack_content}
+use Rattle.gb_node.specs.Past.{Happened, ComesTo, IsOfPast, PastsSay, frames_to, numbered, is_acked, is_taken, watched, tenants_in, is_stopped, group_after, group_of}
 use Rattle.gb_node.specs.declared.plan.NodePlan.{NodePlan}
 use Rattle.gb_node.specs.declared.answer.NodeAnswer.{NodeAnswer}
 use Rattle.gb_node.specs.declared.answer.NodeAnswer.TheVariants.{Taken, Sent}
@@ -26,7 +32,8 @@ use Rattle.gb_node.specs.declared.answer.PacketAnswer.TheVariants.{Fault}
 use Rattle.gb_node.specs.declared.event.NodeEvent.{NodeEvent}
 use Rattle.gb_node.specs.declared.event.NodeEvent.TheVariants.{Request as Asked, Packet as Came, Pack, Again, Ack, Tick, Stop}
 use Rattle.gb_node.proofs.PastLemmas.{Moved, moved_says}
-use Rattle.gb_node.proofs.EventLemmas.{quiet_moved, stopped_moved, starved_moved, asked_moved}
+use Rattle.gb_node.proofs.EventLemmas.{quiet_moved, stopped_moved, starved_moved, asked_moved, stopped_group, starved_group}
+use Rattle.gb_node.proofs.GroupLemmas.{asked_groups, took_groups, packed_groups, ticked_groups, next_items, did_apart, frames_done_apart, frame_comes_apart, notices_apart}
 use Rattle.gb_node.proofs.LinkLemmas.{took_moved, packed_moved, ticked_moved, halted_moved}
 
 -- there is a place for each node
@@ -35,67 +42,91 @@ record HasTables (v : NodeValue) : Type 0 where
   receivers : length v.receivers ≡ NODES
 
 -- what a step has to show
-record Goes (v : NodeValue) (e : NodeEvent) (a : NodeAnswer) (w : NodeValue) : Type 0 where
+record Goes (plan : NodePlan) (past : List Happened) (v : NodeValue) (e : NodeEvent) (a : NodeAnswer) (w : NodeValue) : Type 0 where
   moved : Moved v.key e a v w
   tables : HasTables w
+  groups : (g : Addr) → group_in g w.table.groups.rows ≡ group_after plan g past e a (group_in g v.table.groups.rows)
+  apart : AreApart w.table.groups.rows
 
-module _ (law : WhatIsWrittenIsRead) (v : NodeValue) (has : HasTables v) where
-  faulty : (bytes : List ℕ) (fault : PacketFault) → Goes v (Came bytes) (Taken (Fault fault)) v
+module _ (law : WhatIsWrittenIsRead) (each : EachGroup) (stay : StayApart) (plan : NodePlan) (past : List Happened) (v : NodeValue) (was : IsOfPast plan past v) (has : HasTables v) (ok : AreApart v.table.groups.rows) where
+  faulty : (bytes : List ℕ) (fault : PacketFault) → Goes plan past v (Came bytes) (Taken (Fault fault)) v
   faulty bytes fault = record {
     moved = quiet_moved v.key (Came bytes) (Taken (Fault fault)) v (record { still = record { none_came = refl; none_packed = λ b. refl; none_taken = λ b n. refl }; no_tick = refl; none_added = refl; no_stop = refl });
     tables = has;
+    groups = λ g. refl;
+    apart = ok;
   }
 
-  came_goes : (bytes : List ℕ) (r : Result Content PacketFault) → reading v.key bytes ≡ r → Goes v (Came bytes) (Taken (taken_answer v (if_here v r))) (node_read (if_here v r) v)
+  came_goes : (bytes : List ℕ) (r : Result Content PacketFault) → reading v.key bytes ≡ r → Goes plan past v (Came bytes) (Taken (taken_answer v (if_here v r))) (node_read (if_here v r) v)
   came_goes bytes (Err fault) is = faulty bytes fault
   came_goes bytes (Ok c) is = elim (cases_Bool (is_here v c)) [
     | inl h ↦ rw h (record {
       moved = took_moved v bytes c is has.windows has.receivers;
       tables = record { windows = length-set v.windows c.from (without_done c.base c.mask (window_to v c.from)) ∙ has.windows; receivers = length-set v.receivers c.from (receives c.frame (receiver_from v c.from)) ∙ has.receivers };
+      groups = λ g. took_groups each plan past v was g bytes c is has.windows;
+      apart = frame_comes_apart stay (node_numbered c.from) c.frame c.items (receiver_from v c.from) (took_ack c (heard c v)).table (frames_done_apart stay (node_numbered c.from) v.table (newly_done c v) ok);
     })
     | inr h ↦ rw h (faulty bytes Node)
   ]
 
   pack_goes : (b : NodeId) (o : Option (List Item)) → next_batch v b ≡ o → IsSpelt v (Pack b) (Sent (sent v (option_map (content_to v b (window_to v b.number).next) o)))
-      → Goes v (Pack b) (Sent (sent v (option_map (content_to v b (window_to v b.number).next) o))) (sent_batch b o v)
+      → Goes plan past v (Pack b) (Sent (sent v (option_map (content_to v b (window_to v b.number).next) o))) (sent_batch b o v)
   pack_goes b None is spelt = record {
     moved = quiet_moved v.key (Pack b) (Sent (sent v None)) v (record { still = record { none_came = refl; none_packed = λ b. refl; none_taken = λ b n. refl }; no_tick = refl; none_added = refl; no_stop = refl });
     tables = has;
+    groups = λ g. refl;
+    apart = ok;
   }
   pack_goes b (Some items) is spelt =
       let fit : IsPacket (content_to v b (window_to v b.number).next items) = subst (λ o. IfSome (option_map (content_to v b (window_to v b.number).next) o) IsPacket) is spelt in
       record {
         moved = packed_moved v b items law fit has.windows;
         tables = record { windows = length-set v.windows b.number (pushed (window_to v b.number) items) ∙ has.windows; receivers = has.receivers };
+        groups = λ g. packed_groups each plan past v was g b items law fit has.windows ok (next_items v b items is);
+        apart = stay.taken b.number ROOM v.table.groups ok;
       }
 
-  running_goes : (e : NodeEvent) → IsSpelt v e (running_turn v e).answer → Goes v e (running_turn v e).answer (running_turn v e).value
-  running_goes (Asked r) spelt = record { moved = asked_moved v.key r (table_reply r v.table) v; tables = record { windows = has.windows; receivers = has.receivers } }
+  running_goes : (e : NodeEvent) → IsSpelt v e (running_turn v e).answer → Goes plan past v e (running_turn v e).answer (running_turn v e).value
+  running_goes (Asked r) spelt = record {
+    moved = asked_moved v.key r (table_reply r v.table) v;
+    tables = record { windows = has.windows; receivers = has.receivers };
+    groups = λ g. asked_groups each plan past v was g r (table_reply r v.table);
+    apart = did_apart stay v.watch.noticed r (table_reply r v.table) v.table refl ok;
+  }
   running_goes (Came bytes) spelt = came_goes bytes (reading v.key bytes) refl
   running_goes (Pack b) spelt = pack_goes b (next_batch v b) refl spelt
   running_goes (Again b n) spelt = record {
     moved = quiet_moved v.key (Again b n) (Sent (sent v (again_content v b n))) v (record { still = record { none_came = refl; none_packed = λ b. refl; none_taken = λ b n. refl }; no_tick = refl; none_added = refl; no_stop = refl });
     tables = has;
+    groups = λ g. refl;
+    apart = ok;
   }
   running_goes (Ack b) spelt = record {
     moved = quiet_moved v.key (Ack b) (Sent (sent v (ack_content v b))) v (record { still = record { none_came = refl; none_packed = λ b. refl; none_taken = λ b n. refl }; no_tick = refl; none_added = refl; no_stop = refl });
     tables = has;
+    groups = λ g. refl;
+    apart = ok;
   }
-  running_goes Tick spelt = record { moved = ticked_moved v.key v; tables = record { windows = has.windows; receivers = has.receivers } }
-  running_goes Stop spelt = record { moved = halted_moved v.key v; tables = record { windows = has.windows; receivers = has.receivers } }
+  running_goes Tick spelt = record {
+    moved = ticked_moved v.key v;
+    tables = record { windows = has.windows; receivers = has.receivers };
+    groups = ticked_groups each plan past v was;
+    apart = notices_apart stay v.table (rising (due v.watch)) ok;
+  }
+  running_goes Stop spelt = record { moved = halted_moved v.key v; tables = record { windows = has.windows; receivers = has.receivers }; groups = λ g. refl; apart = ok }
 
-  turn_goes : (e : NodeEvent) → IsSpelt v e (turn v e).answer → Goes v e (turn v e).answer (turn v e).value
+  turn_goes : (e : NodeEvent) → IsSpelt v e (turn v e).answer → Goes plan past v e (turn v e).answer (turn v e).value
   turn_goes e = elim (cases_Bool v.stopped) [
-    | inl h ↦ subst (λ (t : Turn). IsSpelt v e t.answer → Goes v e t.answer t.value) (sym (ap (λ b. if b then record { value = v; answer = stopped_answer e } else running_turn v e) h)) (λ spelt. record { moved = stopped_moved v.key e v; tables = has })
-    | inr h ↦ subst (λ (t : Turn). IsSpelt v e t.answer → Goes v e t.answer t.value) (sym (ap (λ b. if b then record { value = v; answer = stopped_answer e } else running_turn v e) h)) (running_goes e)
+    | inl h ↦ subst (λ (t : Turn). IsSpelt v e t.answer → Goes plan past v e t.answer t.value) (sym (ap (λ b. if b then record { value = v; answer = stopped_answer e } else running_turn v e) h)) (λ spelt. record { moved = stopped_moved v.key e v; tables = has; groups = λ g. stopped_group plan g past e (group_in g v.table.groups.rows); apart = ok })
+    | inr h ↦ subst (λ (t : Turn). IsSpelt v e t.answer → Goes plan past v e t.answer t.value) (sym (ap (λ b. if b then record { value = v; answer = stopped_answer e } else running_turn v e) h)) (running_goes e)
   ]
 
-  goes : (e : NodeEvent) (a : NodeAnswer) (w : NodeValue) → IsTurn v e a w → IsSpelt v e a → Goes v e a w
-  goes e a w (inl starved) spelt = subst (Goes v e a) (sym starved.1) (record { moved = starved_moved v.key e (turn v e).answer a v starved.0; tables = has })
-  goes e a w (inr went) spelt = subst (Goes v e a) (sym went.1) (subst (λ x. IsSpelt v e x → Goes v e x (turn v e).value) (sym went.0) (turn_goes e) spelt)
+  goes : (e : NodeEvent) (a : NodeAnswer) (w : NodeValue) → IsTurn v e a w → IsSpelt v e a → Goes plan past v e a w
+  goes e a w (inl starved) spelt = subst (Goes plan past v e a) (sym starved.1) (record { moved = starved_moved v.key e (turn v e).answer a v starved.0; tables = has; groups = λ g. starved_group plan g past e (turn v e).answer a (group_in g v.table.groups.rows) starved.0; apart = ok })
+  goes e a w (inr went) spelt = subst (Goes plan past v e a) (sym went.1) (subst (λ x. IsSpelt v e x → Goes plan past v e x (turn v e).value) (sym went.0) (turn_goes e) spelt)
 
 new_says : (plan : NodePlan) → IsOfPast plan [] (new_node plan)
-unfolding frames_to numbered is_acked is_taken watched tenants_in is_stopped
+unfolding frames_to numbered is_acked is_taken watched tenants_in is_stopped group_of
 new_says plan = record {
   key = refl;
   me = refl;
@@ -106,22 +137,29 @@ new_says plan = record {
   next = λ b. ap (λ (w : SendWindow (List Item)). w.next) (get_or-replicate NODES b.number new_window new_window b.below);
   undone = λ b. ap (λ (w : SendWindow (List Item)). w.undone) (get_or-replicate NODES b.number new_window new_window b.below);
   received = λ b n. ap (λ r. set.contains r n) (get_or-replicate NODES b.number set.empty set.empty b.below) ∙ set.contains-empty nat_cmp n;
+  groups = λ g. refl;
 }
 
 record Standing (plan : NodePlan) (past : List Happened) (v : NodeValue) : Type 0 where
   says : IsOfPast plan past v
   tables : HasTables v
+  apart : AreApart v.table.groups.rows
 
-stands : WhatIsWrittenIsRead → (plan : NodePlan) (past : List Happened) (v : NodeValue) → ComesTo plan past v → Standing plan past v
-unfolding ComesTo
-stands law plan [] v comes = subst (Standing plan []) (sym comes) (record { says = new_says plan; tables = record { windows = refl; receivers = refl } })
-stands law plan (h ∷ past) v comes =
-    let before = stands law plan past comes.0 comes.1 in
-    let step = goes law comes.0 before.tables h.event h.answer v comes.2 comes.3 in
-    record {
-      says = moved_says plan past h.event h.answer comes.0 v before.says (subst (λ k. Moved k h.event h.answer comes.0 v) before.says.key step.moved);
-      tables = step.tables;
-    }
+no_groups_apart : AreApart []
+no_groups_apart = record { apart = λ p q l m e. absurd (omega (arith, l)) }
 
-pub pasts_say : WhatIsWrittenIsRead → PastsSay
-pasts_say law plan past v comes = (stands law plan past v comes).says
+module _ (law : WhatIsWrittenIsRead) (each : EachGroup) (stay : StayApart) (plan : NodePlan) where
+  stands : (past : List Happened) (v : NodeValue) → ComesTo plan past v → Standing plan past v
+  unfolding ComesTo
+  stands [] v comes = subst (Standing plan []) (sym comes) (record { says = new_says plan; tables = record { windows = refl; receivers = refl }; apart = no_groups_apart })
+  stands (h ∷ past) v comes =
+      let before = stands past comes.0 comes.1 in
+      let step = goes law each stay plan past comes.0 before.says before.tables before.apart h.event h.answer v comes.2 comes.3 in
+      record {
+        says = moved_says plan past h.event h.answer comes.0 v before.says (subst (λ k. Moved k h.event h.answer comes.0 v) before.says.key step.moved) step.groups;
+        tables = step.tables;
+        apart = step.apart;
+      }
+
+pub pasts_say : WhatIsWrittenIsRead → EachGroup → StayApart → PastsSay
+pasts_say law each stay plan past v comes = (stands law each stay plan past v comes).says

@@ -7,3 +7,4 @@ pub mod PastLemmas
 pub mod EventLemmas
 pub mod LinkLemmas
 pub mod InductionLemmas
+pub mod GroupLemmas

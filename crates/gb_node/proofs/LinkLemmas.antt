@@ -183,7 +183,7 @@ module _ (v : NodeValue) (b : NodeId) (items : List Item) (law : WhatIsWrittenIs
   said : Content
   said = content_to v b (window_to v b.number).next items
 
-  told : read v.key (packet_text v.key said) ≡ said ∷ []
+  pub told : read v.key (packet_text v.key (content_to v b (window_to v b.number).next items)) ≡ content_to v b (window_to v b.number).next items ∷ []
   unfolding said
   told = ap packet_in (law v.key said fit)
 

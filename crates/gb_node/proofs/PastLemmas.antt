@@ -6,14 +6,16 @@ use Rattle.std.specs.List.{list_any}
 use Rattle.std.proofs.lemmas.Bool.{cases_Bool}
 use Rattle.std.proofs.lemmas.Bool.Decides.{nat_tests}
 use Rattle.std.proofs.lemmas.List.Elements.{filter-append}
+use Rattle.gb_types.specs.declared.address.Addr.{Addr}
 use Rattle.gb_types.specs.declared.node.NodeId.{NodeId}
 use Rattle.gb_detect.specs.Silence.{Call, Heard}
 use Rattle.gb_detect.specs.Watch.{Watch, start, replay, after}
 use Rattle.gb_frame.specs.declared.item.Item.{Item}
 use Rattle.gb_frame.specs.Packet.{Content}
+use Rattle.gb_groups.specs.OneGroup.{group_in}
 use Rattle.gb_node.specs.NodeValue.{NodeValue}
 use Rattle.gb_node.specs.NodeStep.{window_to, receiver_from}
-use Rattle.gb_node.specs.Past.{Happened, came, packed_for, frames_to, numbered, is_ack, is_acked, is_taken_by, is_taken, ticks, watched, added, tenants_in, stops, is_stopped, IsOfPast}
+use Rattle.gb_node.specs.Past.{Happened, came, packed_for, frames_to, numbered, is_ack, is_acked, is_taken_by, is_taken, ticks, watched, added, tenants_in, stops, is_stopped, group_after, group_of, IsOfPast}
 use Rattle.gb_node.specs.declared.plan.NodePlan.{NodePlan}
 use Rattle.gb_node.specs.declared.answer.NodeAnswer.{NodeAnswer}
 use Rattle.gb_node.specs.declared.event.NodeEvent.{NodeEvent}
@@ -104,9 +106,10 @@ pub record Moved (key : List ℕ) (e : NodeEvent) (a : NodeAnswer) (v w : NodeVa
   pub received : (b : NodeId) (n : ℕ) → set.contains (receiver_from w b.number) n ≡ (is_taken_by key b.number n e a || set.contains (receiver_from v b.number) n)
 
 -- so the past says what the node is then
-pub moved_says : (plan : NodePlan) (past : List Happened) (e : NodeEvent) (a : NodeAnswer) (v w : NodeValue) → IsOfPast plan past v → Moved plan.cluster_key e a v w → IsOfPast plan (record { event = e; answer = a } ∷ past) w
-unfolding frames_to is_taken watched tenants_in is_stopped
-moved_says plan past e a v w was step =
+pub moved_says : (plan : NodePlan) (past : List Happened) (e : NodeEvent) (a : NodeAnswer) (v w : NodeValue) → IsOfPast plan past v → Moved plan.cluster_key e a v w
+    → ((g : Addr) → group_in g w.table.groups.rows ≡ group_after plan g past e a (group_in g v.table.groups.rows)) → IsOfPast plan (record { event = e; answer = a } ∷ past) w
+unfolding frames_to is_taken watched tenants_in is_stopped group_of
+moved_says plan past e a v w was step groups =
     let key = plan.cluster_key in
     let h : Happened = record { event = e; answer = a } in
     record {
@@ -123,4 +126,5 @@ moved_says plan past e a v w was step =
           ∙ (ap (λ n. filter (λ u. not (list_any (is_ack b.number u.0) (came key e a))) (filter (λ u. not (is_acked key b.number u.0 past)) (numbered 1 (frames_to key b.number past))) ++ numbered n (packed_for key b.number e a)) (was.next b)
           ∙ sym (left_after key b.number h past)));
       received = λ b n. step.received b n ∙ ap (λ t. is_taken_by key b.number n e a || t) (was.received b n);
+      groups = λ g. groups g ∙ ap (group_after plan g past e a) (was.groups g);
     }

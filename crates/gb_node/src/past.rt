@@ -2,11 +2,13 @@
 ghost use Rattle.gb_node.specs.Past.{PastsSay};
 
 use gb_frame::laws::what_is_written_is_read;
+use gb_groups::each::each_group;
 
-/// A law of every node, whatever happens at it: its links, its detector, its tenants and whether it stopped are what the
-/// events and answers of its past say. The function does nothing when it runs; its contract is the law.
+/// A law of every node, whatever happens at it: its links, its detector, its tenants, whether it stopped and each of its groups
+/// are what the events and answers of its past say. The function does nothing when it runs; its contract is the law.
 pub fn pasts_say()
     ensures { PastsSay }
 {
     what_is_written_is_read();
+    each_group();
 }
