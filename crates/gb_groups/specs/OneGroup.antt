@@ -17,21 +17,21 @@ use Rattle.gb_groups.specs.AtAddress.{place_of, row_for, on_address, drop_at, ad
 abbrev pub group_in : Addr → List Row → Option (Option SlotState)
 group_in g rows = option_map (λ row. row.slot) (row_for g rows)
 
--- after a step of its slot
-abbrev pub stepped : (SlotState → SlotState) → Option (Option SlotState) → Option (Option SlotState)
+-- after a step of what is kept of it
+abbrev pub stepped : {X : Type 0} → (X → X) → Option (Option X) → Option (Option X)
 stepped step o = option_map (option_map step) o
 
 -- after it was dropped
-abbrev pub dropped : Option (Option SlotState) → Option (Option SlotState)
+abbrev pub dropped : {X : Type 0} → Option (Option X) → Option (Option X)
 dropped o = option_map (λ s. None) o
 
 -- where it is not there, it is the one that is added
-abbrev pub or_added : Option (Option SlotState) → Option (Option SlotState) → Option (Option SlotState)
+abbrev pub or_added : {X : Type 0} → Option (Option X) → Option (Option X) → Option (Option X)
 or_added None new = new
 or_added (Some s) new = Some s
 
 -- only where a test holds
-abbrev pub where_so : Bool → (Option (Option SlotState) → Option (Option SlotState)) → Option (Option SlotState) → Option (Option SlotState)
+abbrev pub where_so : {X : Type 0} → Bool → (X → X) → X → X
 where_so b step o = if b then step o else o
 
 -- the items that name a group, among these

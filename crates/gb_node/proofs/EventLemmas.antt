@@ -23,7 +23,8 @@ use Rattle.gb_table.specs.TableValue.{TableValue}
 use Rattle.gb_table.specs.Requests.{table_did}
 use Rattle.gb_node.specs.NodeValue.{NodeValue}
 use Rattle.gb_node.specs.NodeStep.{window_to, receiver_from, node_did, stopped_answer, IsStarved}
-use Rattle.gb_node.specs.Past.{Happened, came, packed_for, numbered, is_ack, is_taken_by, ticks, added, stops, noticed_in, asked_for, group_after}
+use Rattle.gb_node.specs.Past.{Happened, came, packed_for, numbered, is_ack, is_taken_by, ticks, added, stops}
+use Rattle.gb_node.specs.PastGroups.{Told, noticed_in, asked_for, asked_told, group_after, told_after}
 use Rattle.gb_node.specs.declared.plan.NodePlan.{NodePlan}
 use Rattle.gb_node.specs.declared.answer.NodeAnswer.{NodeAnswer}
 use Rattle.gb_node.specs.declared.answer.NodeAnswer.TheVariants.{Reply as Replied, Taken, Sent, Ticked, Halted}
@@ -241,73 +242,87 @@ asked_refused g me noticed (DropGroup token addr) why o = refl
 asked_refused g me noticed (Say token addr payload) why o = refl
 asked_refused g me noticed (Fetch token addr from most) why o = refl
 
--- nor does a stopped node
-pub stopped_group : (plan : NodePlan) (g : Addr) (past : List Happened) (e : NodeEvent) (o : Option (Option SlotState)) → o ≡ group_after plan g past e (stopped_answer e) o
-stopped_group plan g past (Asked r) o = sym (asked_refused g plan.me (noticed_in plan past) r Stopped o)
-stopped_group plan g past (Came bytes) o = refl
-stopped_group plan g past (Pack x) o = refl
-stopped_group plan g past (Again x n) o = refl
-stopped_group plan g past (Ack x) o = refl
-stopped_group plan g past Tick o = refl
-stopped_group plan g past Stop o = refl
+-- and tells it nothing
+asked_untold : (g : Addr) (me : NodeId) (noticed : set.FinSet nat_cmp) (r : Request) (why : Refusal) (t : Option (Option Told)) → asked_told g me noticed r (Refused why) t ≡ t
+asked_untold g me noticed (AddTenant token row) why t = refl
+asked_untold g me noticed (Make token addr spec) why t = refl
+asked_untold g me noticed (OpenGroup token addr) why t = refl
+asked_untold g me noticed (ShutGroup token addr) why t = refl
+asked_untold g me noticed (DropGroup token addr) why t = refl
+asked_untold g me noticed (Say token addr payload) why t = refl
+asked_untold g me noticed (Fetch token addr from most) why t = refl
 
-unsent_group : (plan : NodePlan) (g : Addr) (past : List Happened) (e : NodeEvent) (o : Option (Option SlotState)) → o ≡ group_after plan g past e (Sent (SentRefused OutOfMemory)) o
-unsent_group plan g past (Asked r) o = refl
-unsent_group plan g past (Came bytes) o = refl
-unsent_group plan g past (Pack x) o = refl
-unsent_group plan g past (Again x n) o = refl
-unsent_group plan g past (Ack x) o = refl
-unsent_group plan g past Tick o = refl
-unsent_group plan g past Stop o = refl
+-- nothing is made of a group, and nothing is told to it
+abbrev pub LeavesGroup : NodePlan → Addr → List Happened → NodeEvent → NodeAnswer → Type 0
+LeavesGroup plan g past e a = ((o : Option (Option SlotState)) → o ≡ group_after plan g past e a o) × ((t : Option (Option Told)) → t ≡ told_after plan g past e a t)
 
--- nor does want of memory
-pub starved_group : (plan : NodePlan) (g : Addr) (past : List Happened) (e : NodeEvent) (should answer : NodeAnswer) (o : Option (Option SlotState)) → IsStarved e should answer → o ≡ group_after plan g past e answer o
-starved_group plan g past (Asked r) (Replied should) answer o starved = sym (asked_refused g plan.me (noticed_in plan past) r OutOfMemory o) ∙ ap (λ (told : NodeAnswer). group_after plan g past (Asked r) told o) (sym starved.0)
-starved_group plan g past (Asked r) (Taken should) answer o starved = absurd starved
-starved_group plan g past (Asked r) (Sent (SentPacket text)) answer o starved = unsent_group plan g past (Asked r) o ∙ ap (λ (told : NodeAnswer). group_after plan g past (Asked r) told o) (sym starved)
-starved_group plan g past (Asked r) (Sent Nothing) answer o starved = absurd starved
-starved_group plan g past (Asked r) (Sent (SentRefused why)) answer o starved = absurd starved
-starved_group plan g past (Asked r) (Ticked should) answer o starved = absurd starved
-starved_group plan g past (Asked r) (Halted should) answer o starved = absurd starved
-starved_group plan g past (Came bytes) (Replied should) answer o starved = absurd starved
-starved_group plan g past (Came bytes) (Taken should) answer o starved = absurd starved
-starved_group plan g past (Came bytes) (Sent (SentPacket text)) answer o starved = unsent_group plan g past (Came bytes) o ∙ ap (λ (told : NodeAnswer). group_after plan g past (Came bytes) told o) (sym starved)
-starved_group plan g past (Came bytes) (Sent Nothing) answer o starved = absurd starved
-starved_group plan g past (Came bytes) (Sent (SentRefused why)) answer o starved = absurd starved
-starved_group plan g past (Came bytes) (Ticked should) answer o starved = absurd starved
-starved_group plan g past (Came bytes) (Halted should) answer o starved = absurd starved
-starved_group plan g past (Pack x) (Replied should) answer o starved = absurd starved
-starved_group plan g past (Pack x) (Taken should) answer o starved = absurd starved
-starved_group plan g past (Pack x) (Sent (SentPacket text)) answer o starved = unsent_group plan g past (Pack x) o ∙ ap (λ (told : NodeAnswer). group_after plan g past (Pack x) told o) (sym starved)
-starved_group plan g past (Pack x) (Sent Nothing) answer o starved = absurd starved
-starved_group plan g past (Pack x) (Sent (SentRefused why)) answer o starved = absurd starved
-starved_group plan g past (Pack x) (Ticked should) answer o starved = absurd starved
-starved_group plan g past (Pack x) (Halted should) answer o starved = absurd starved
-starved_group plan g past (Again x n) (Replied should) answer o starved = absurd starved
-starved_group plan g past (Again x n) (Taken should) answer o starved = absurd starved
-starved_group plan g past (Again x n) (Sent (SentPacket text)) answer o starved = unsent_group plan g past (Again x n) o ∙ ap (λ (told : NodeAnswer). group_after plan g past (Again x n) told o) (sym starved)
-starved_group plan g past (Again x n) (Sent Nothing) answer o starved = absurd starved
-starved_group plan g past (Again x n) (Sent (SentRefused why)) answer o starved = absurd starved
-starved_group plan g past (Again x n) (Ticked should) answer o starved = absurd starved
-starved_group plan g past (Again x n) (Halted should) answer o starved = absurd starved
-starved_group plan g past (Ack x) (Replied should) answer o starved = absurd starved
-starved_group plan g past (Ack x) (Taken should) answer o starved = absurd starved
-starved_group plan g past (Ack x) (Sent (SentPacket text)) answer o starved = unsent_group plan g past (Ack x) o ∙ ap (λ (told : NodeAnswer). group_after plan g past (Ack x) told o) (sym starved)
-starved_group plan g past (Ack x) (Sent Nothing) answer o starved = absurd starved
-starved_group plan g past (Ack x) (Sent (SentRefused why)) answer o starved = absurd starved
-starved_group plan g past (Ack x) (Ticked should) answer o starved = absurd starved
-starved_group plan g past (Ack x) (Halted should) answer o starved = absurd starved
-starved_group plan g past Tick (Replied should) answer o starved = absurd starved
-starved_group plan g past Tick (Taken should) answer o starved = absurd starved
-starved_group plan g past Tick (Sent (SentPacket text)) answer o starved = unsent_group plan g past Tick o ∙ ap (λ (told : NodeAnswer). group_after plan g past Tick told o) (sym starved)
-starved_group plan g past Tick (Sent Nothing) answer o starved = absurd starved
-starved_group plan g past Tick (Sent (SentRefused why)) answer o starved = absurd starved
-starved_group plan g past Tick (Ticked should) answer o starved = absurd starved
-starved_group plan g past Tick (Halted should) answer o starved = absurd starved
-starved_group plan g past Stop (Replied should) answer o starved = absurd starved
-starved_group plan g past Stop (Taken should) answer o starved = absurd starved
-starved_group plan g past Stop (Sent (SentPacket text)) answer o starved = unsent_group plan g past Stop o ∙ ap (λ (told : NodeAnswer). group_after plan g past Stop told o) (sym starved)
-starved_group plan g past Stop (Sent Nothing) answer o starved = absurd starved
-starved_group plan g past Stop (Sent (SentRefused why)) answer o starved = absurd starved
-starved_group plan g past Stop (Ticked should) answer o starved = absurd starved
-starved_group plan g past Stop (Halted should) answer o starved = absurd starved
+-- so by a stopped node
+pub stopped_group : (plan : NodePlan) (g : Addr) (past : List Happened) (e : NodeEvent) → LeavesGroup plan g past e (stopped_answer e)
+stopped_group plan g past (Asked r) = (λ o. sym (asked_refused g plan.me (noticed_in plan past) r Stopped o), λ t. sym (asked_untold g plan.me (noticed_in plan past) r Stopped t))
+stopped_group plan g past (Came bytes) = (λ o. refl, λ t. refl)
+stopped_group plan g past (Pack x) = (λ o. refl, λ t. refl)
+stopped_group plan g past (Again x n) = (λ o. refl, λ t. refl)
+stopped_group plan g past (Ack x) = (λ o. refl, λ t. refl)
+stopped_group plan g past Tick = (λ o. refl, λ t. refl)
+stopped_group plan g past Stop = (λ o. refl, λ t. refl)
+
+unsent_group : (plan : NodePlan) (g : Addr) (past : List Happened) (e : NodeEvent) → LeavesGroup plan g past e (Sent (SentRefused OutOfMemory))
+unsent_group plan g past (Asked r) = (λ o. refl, λ t. refl)
+unsent_group plan g past (Came bytes) = (λ o. refl, λ t. refl)
+unsent_group plan g past (Pack x) = (λ o. refl, λ t. refl)
+unsent_group plan g past (Again x n) = (λ o. refl, λ t. refl)
+unsent_group plan g past (Ack x) = (λ o. refl, λ t. refl)
+unsent_group plan g past Tick = (λ o. refl, λ t. refl)
+unsent_group plan g past Stop = (λ o. refl, λ t. refl)
+
+-- and for want of memory
+pub starved_group : (plan : NodePlan) (g : Addr) (past : List Happened) (e : NodeEvent) (should answer : NodeAnswer) → IsStarved e should answer → LeavesGroup plan g past e answer
+starved_group plan g past (Asked r) (Replied should) answer starved = subst (LeavesGroup plan g past (Asked r)) (sym starved.0) (λ o. sym (asked_refused g plan.me (noticed_in plan past) r OutOfMemory o), λ t. sym (asked_untold g plan.me (noticed_in plan past) r OutOfMemory t))
+starved_group plan g past (Asked r) (Taken should) answer starved = absurd starved
+starved_group plan g past (Asked r) (Sent (SentPacket text)) answer starved = subst (LeavesGroup plan g past (Asked r)) (sym starved) (unsent_group plan g past (Asked r))
+starved_group plan g past (Asked r) (Sent Nothing) answer starved = absurd starved
+starved_group plan g past (Asked r) (Sent (SentRefused why)) answer starved = absurd starved
+starved_group plan g past (Asked r) (Ticked should) answer starved = absurd starved
+starved_group plan g past (Asked r) (Halted should) answer starved = absurd starved
+starved_group plan g past (Came bytes) (Replied should) answer starved = absurd starved
+starved_group plan g past (Came bytes) (Taken should) answer starved = absurd starved
+starved_group plan g past (Came bytes) (Sent (SentPacket text)) answer starved = subst (LeavesGroup plan g past (Came bytes)) (sym starved) (unsent_group plan g past (Came bytes))
+starved_group plan g past (Came bytes) (Sent Nothing) answer starved = absurd starved
+starved_group plan g past (Came bytes) (Sent (SentRefused why)) answer starved = absurd starved
+starved_group plan g past (Came bytes) (Ticked should) answer starved = absurd starved
+starved_group plan g past (Came bytes) (Halted should) answer starved = absurd starved
+starved_group plan g past (Pack x) (Replied should) answer starved = absurd starved
+starved_group plan g past (Pack x) (Taken should) answer starved = absurd starved
+starved_group plan g past (Pack x) (Sent (SentPacket text)) answer starved = subst (LeavesGroup plan g past (Pack x)) (sym starved) (unsent_group plan g past (Pack x))
+starved_group plan g past (Pack x) (Sent Nothing) answer starved = absurd starved
+starved_group plan g past (Pack x) (Sent (SentRefused why)) answer starved = absurd starved
+starved_group plan g past (Pack x) (Ticked should) answer starved = absurd starved
+starved_group plan g past (Pack x) (Halted should) answer starved = absurd starved
+starved_group plan g past (Again x n) (Replied should) answer starved = absurd starved
+starved_group plan g past (Again x n) (Taken should) answer starved = absurd starved
+starved_group plan g past (Again x n) (Sent (SentPacket text)) answer starved = subst (LeavesGroup plan g past (Again x n)) (sym starved) (unsent_group plan g past (Again x n))
+starved_group plan g past (Again x n) (Sent Nothing) answer starved = absurd starved
+starved_group plan g past (Again x n) (Sent (SentRefused why)) answer starved = absurd starved
+starved_group plan g past (Again x n) (Ticked should) answer starved = absurd starved
+starved_group plan g past (Again x n) (Halted should) answer starved = absurd starved
+starved_group plan g past (Ack x) (Replied should) answer starved = absurd starved
+starved_group plan g past (Ack x) (Taken should) answer starved = absurd starved
+starved_group plan g past (Ack x) (Sent (SentPacket text)) answer starved = subst (LeavesGroup plan g past (Ack x)) (sym starved) (unsent_group plan g past (Ack x))
+starved_group plan g past (Ack x) (Sent Nothing) answer starved = absurd starved
+starved_group plan g past (Ack x) (Sent (SentRefused why)) answer starved = absurd starved
+starved_group plan g past (Ack x) (Ticked should) answer starved = absurd starved
+starved_group plan g past (Ack x) (Halted should) answer starved = absurd starved
+starved_group plan g past Tick (Replied should) answer starved = absurd starved
+starved_group plan g past Tick (Taken should) answer starved = absurd starved
+starved_group plan g past Tick (Sent (SentPacket text)) answer starved = subst (LeavesGroup plan g past Tick) (sym starved) (unsent_group plan g past Tick)
+starved_group plan g past Tick (Sent Nothing) answer starved = absurd starved
+starved_group plan g past Tick (Sent (SentRefused why)) answer starved = absurd starved
+starved_group plan g past Tick (Ticked should) answer starved = absurd starved
+starved_group plan g past Tick (Halted should) answer starved = absurd starved
+starved_group plan g past Stop (Replied should) answer starved = absurd starved
+starved_group plan g past Stop (Taken should) answer starved = absurd starved
+starved_group plan g past Stop (Sent (SentPacket text)) answer starved = subst (LeavesGroup plan g past Stop) (sym starved) (unsent_group plan g past Stop)
+starved_group plan g past Stop (Sent Nothing) answer starved = absurd starved
+starved_group plan g past Stop (Sent (SentRefused why)) answer starved = absurd starved
+starved_group plan g past Stop (Ticked should) answer starved = absurd starved
+starved_group plan g past Stop (Halted should) answer starved = absurd starved

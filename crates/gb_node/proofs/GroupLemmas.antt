@@ -1,11 +1,11 @@
 -- What each event makes of each group of a node.
-use Rattle.std.proofs.Common.{◌≡◌, ◌≢◌, ℕ, suc, ◌<◌, inl, inr, List, [], ◌∷◌, ◌++◌, length, map, Option, Some, None, Ok, refl, sym, ap, subst, ◌∙◌, ◌≤◌, arith}
+use Rattle.std.proofs.Common.{◌≡◌, ◌≢◌, ℕ, suc, ◌<◌, inl, inr, List, [], ◌∷◌, ◌++◌, length, map, take, Option, Some, None, Ok, refl, sym, ap, subst, ◌∙◌, ◌≤◌, arith}
 use Rattle.std.specs.Prelude.{Bool, true, false, not, cond, ◌&&◌, ◌⊎◌, filter, flat_map, fold, is_some, option_map, nat_eq, nat_le, nat_lt, slice_index_or, if◌then◌else◌}
 use Rattle.std.specs.FinSet as set
 use Rattle.std.specs.Ordering.{nat_cmp}
 use Rattle.std.proofs.lemmas.Bool.{cases_Bool, cases_lt}
 use Rattle.std.proofs.lemmas.Bool.Decides.{nat_tests}
-use Rattle.std.proofs.lemmas.List.{get_or_past}
+use Rattle.std.proofs.lemmas.List.{get_or_past, length-take}
 use Rattle.std.proofs.lemmas.List.Elements.{filter-append}
 use Rattle.std.proofs.lemmas.List.Sums.{fold-append}
 use Rattle.gb_types.specs.Entry.{message_of}
@@ -34,17 +34,19 @@ use Rattle.gb_link.specs.Received.{Received, admission}
 use Rattle.gb_link.specs.declared.receiver.Admission.{Admission}
 use Rattle.gb_link.specs.declared.receiver.Admission.TheVariants.{First, Seen, Outside}
 use Rattle.gb_slot.specs.SlotState.{SlotState}
-use Rattle.gb_slot.specs.Slot.{new_slot, slot_moved, slot_said, slot_noticed, slot_came, slot_done, slot_took}
+use Rattle.gb_slot.specs.Slot.{new_slot, slot_moved, slot_said, slot_noticed, slot_came, slot_done, slot_took, waiting}
 use Rattle.gb_groups.specs.SlotsValue.{Row, AreApart}
 use Rattle.gb_groups.specs.AtAddress.{address_of, entry_of, item_came, place_of}
-use Rattle.gb_groups.specs.OneGroup.{group_in, stepped, dropped, or_added, where_so, names, items_for, came_for, EachGroup, StayApart}
+use Rattle.gb_groups.specs.OneGroup.{group_in, stepped, dropped, or_added, where_so, names, items_for, item_for, waiting_in, came_for, EachGroup, StayApart}
 use Rattle.gb_rules.specs.Tenant.{make_answer, by_tenant}
 use Rattle.gb_rules.specs.declared.reserve.Reserve.{Reserve}
 use Rattle.gb_table.specs.TableValue.{TableValue, reserve_for, table_done, table_came, table_noticed, table_packed}
 use Rattle.gb_table.specs.Requests.{is_admitted, table_did, table_reply}
 use Rattle.gb_node.specs.NodeValue.{NodeValue}
 use Rattle.gb_node.specs.NodeStep.{node_numbered, window_to, receiver_from, is_reached, content_to, batch_to, unless_empty, next_batch, sent_batch, newly_done, took_ack, heard, good_of, node_took, node_ticked, node_did, item_done, frame_done, item_comes, items_come, fate, kind_of, frame_comes, notice_each}
-use Rattle.gb_node.specs.Past.{Happened, packet_in, read, packed_for, frames_to, numbered, is_acked, is_first, noticed_in, freed_by, items_freed, asked_for, done_for, taken_for, packed_from, noticed_for, group_after, IsOfPast}
+use Rattle.gb_node.specs.Past.{Happened, packet_in, read, packed_for, frames_to, numbered, is_acked, is_first}
+use Rattle.gb_node.specs.PastGroups.{noticed_in, freed_by, items_freed, asked_for, done_for, taken_for, packed_from, noticed_for, group_after}
+use Rattle.gb_node.specs.PastLaw.{IsOfPast}
 use Rattle.gb_node.specs.declared.plan.NodePlan.{NodePlan}
 use Rattle.gb_node.specs.declared.answer.NodeAnswer.{NodeAnswer}
 use Rattle.gb_node.specs.declared.answer.NodeAnswer.TheVariants.{Reply as Replied, Taken, Sent, Ticked, Halted}
@@ -322,3 +324,18 @@ next_items v b items e = by (is_reached v b && has_room (window_to v b.number)) 
       by : (t : Bool) → (if t then unless_empty (batch_to v.table b) else None) ≡ Some items → items ≡ batch_to v.table b
       by true e = sent_items (batch_to v.table b) items e
       by false e = absurd (cc)
+
+-- a batch takes no more of a group than waits there
+pub waiting_enough : EachGroup → (v : NodeValue) (b : NodeId) (g : Addr) (items : List Item) (s : SlotState) → AreApart v.table.groups.rows → items ≡ batch_to v.table b → group_in g v.table.groups.rows ≡ Some (Some s) → length (items_for g items) ≤ length (waiting s b.number)
+waiting_enough law v b g items s apart is here =
+    let n = length (items_for g items) in
+    let front = law.front g b.number ROOM v.table.groups apart in
+    let all : n ≡ length (take n (waiting s b.number)) =
+        ap length (ap (items_for g) is ∙ (front ∙ ap (λ o. map (item_for g) (take (length (items_for g (batch_to v.table b))) (waiting_in o b.number))) here))
+        ∙ (map-length (item_for g) (take (length (items_for g (batch_to v.table b))) (waiting s b.number)) ∙ ap (λ xs. length (take (length (items_for g xs)) (waiting s b.number))) (sym is)) in
+    let most = length-take n (waiting s b.number) in
+    omega (arith, all, most)
+    where
+      map-length : {X Y : Type 0} (f : X → Y) (xs : List X) → length (map f xs) ≡ length xs
+      map-length f [] = refl
+      map-length f (x ∷ xs) = ap suc (map-length f xs)

@@ -1,6 +1,7 @@
 -- Every node is what its past says: the induction over pasts.
 use Rattle.std.proofs.Common.{◌≡◌, ℕ, inl, inr, List, [], ◌∷◌, length, arith, Option, Some, None, Result, Ok, Err, refl, sym, ap, subst, ◌∙◌}
-use Rattle.std.specs.Prelude.{IfSome, option_map, if◌then◌else◌}
+use Rattle.std.specs.Prelude.{◌≤◌, Bool, false, not, ◌&&◌, nat_eq, nat_lt, fold, IfSome, option_map, if◌then◌else◌}
+use Rattle.std.proofs.lemmas.Bool.Decides.{nat_tests}
 use Rattle.std.specs.FinSet as set
 use Rattle.std.specs.Ordering.{nat_cmp}
 use Rattle.std.proofs.lemmas.Bool.{cases_Bool}
@@ -15,16 +16,20 @@ use Rattle.gb_frame.specs.declared.item.Item.{Item}
 use Rattle.gb_frame.specs.declared.limits.TheConstants.{ROOM}
 use Rattle.gb_frame.specs.Packet.{Content}
 use Rattle.gb_frame.specs.Reading.{reading}
-use Rattle.gb_frame.specs.Spelling.{IsPacket}
+use Rattle.gb_frame.specs.Spelling.{packet_text, IsPacket}
 use Rattle.gb_frame.specs.Laws.{WhatIsWrittenIsRead}
 use Rattle.gb_link.specs.SendWindow.{SendWindow, new_window, pushed}
 use Rattle.gb_detect.specs.Watch.{due}
 use Rattle.gb_groups.specs.SlotsValue.{AreApart}
-use Rattle.gb_groups.specs.OneGroup.{group_in, EachGroup, StayApart}
+use Rattle.gb_groups.specs.OneGroup.{group_in, items_for, EachGroup, StayApart}
 use Rattle.gb_table.specs.Requests.{table_reply}
-use Rattle.gb_node.specs.NodeValue.{NodeValue, new_node}
-use Rattle.gb_node.specs.NodeStep.{Turn, turn, running_turn, stopped_answer, IsTurn, IsSpelt, is_here, if_here, taken_answer, node_read, next_batch, sent, sent_batch, content_to, window_to, receiver_from, node_numbered, newly_done, heard, took_ack, without_done, receives, again_content, ack_content}
-use Rattle.gb_node.specs.Past.{Happened, ComesTo, IsOfPast, PastsSay, frames_to, numbered, is_acked, is_taken, watched, tenants_in, is_stopped, group_after, group_of}
+use Rattle.gb_detect.specs.Silence.{is_noticed}
+use Rattle.gb_detect.specs.Laws.{NoticedByCalls}
+use Rattle.gb_node.specs.NodeValue.{NodeValue, new_node, IsNodePlan}
+use Rattle.gb_node.specs.NodeStep.{fate, Turn, turn, running_turn, stopped_answer, IsTurn, IsSpelt, is_here, if_here, taken_answer, node_read, next_batch, sent, sent_batch, content_to, window_to, receiver_from, node_numbered, newly_done, heard, took_ack, without_done, receives, again_content, ack_content}
+use Rattle.gb_node.specs.Past.{Happened, ComesTo, read, packet_in, frames_to, numbered, is_acked, is_taken, watched, tenants_in, is_stopped}
+use Rattle.gb_node.specs.PastGroups.{noticed_in, taken_for, taken_told, packed_from, group_after, group_of, told_after, told_of, IsTold}
+use Rattle.gb_node.specs.PastLaw.{IsOfPast, PastsSay}
 use Rattle.gb_node.specs.declared.plan.NodePlan.{NodePlan}
 use Rattle.gb_node.specs.declared.answer.NodeAnswer.{NodeAnswer}
 use Rattle.gb_node.specs.declared.answer.NodeAnswer.TheVariants.{Taken, Sent}
@@ -32,9 +37,10 @@ use Rattle.gb_node.specs.declared.answer.PacketAnswer.TheVariants.{Fault}
 use Rattle.gb_node.specs.declared.event.NodeEvent.{NodeEvent}
 use Rattle.gb_node.specs.declared.event.NodeEvent.TheVariants.{Request as Asked, Packet as Came, Pack, Again, Ack, Tick, Stop}
 use Rattle.gb_node.proofs.PastLemmas.{Moved, moved_says}
-use Rattle.gb_node.proofs.EventLemmas.{quiet_moved, stopped_moved, starved_moved, asked_moved, stopped_group, starved_group}
-use Rattle.gb_node.proofs.GroupLemmas.{asked_groups, took_groups, packed_groups, ticked_groups, next_items, did_apart, frames_done_apart, frame_comes_apart, notices_apart}
-use Rattle.gb_node.proofs.LinkLemmas.{took_moved, packed_moved, ticked_moved, halted_moved}
+use Rattle.gb_node.proofs.EventLemmas.{quiet_moved, stopped_moved, starved_moved, asked_moved, stopped_group, starved_group, LeavesGroup}
+use Rattle.gb_node.proofs.ToldLemmas.{SlotLaws, asked_stands, taken_stands, packed_stands, noticed_stands}
+use Rattle.gb_node.proofs.GroupLemmas.{waiting_enough, asked_groups, took_groups, packed_groups, ticked_groups, next_items, did_apart, frames_done_apart, frame_comes_apart, notices_apart}
+use Rattle.gb_node.proofs.LinkLemmas.{took_moved, packed_moved, ticked_moved, halted_moved, told as packet_told}
 
 -- there is a place for each node
 record HasTables (v : NodeValue) : Type 0 where
@@ -47,14 +53,26 @@ record Goes (plan : NodePlan) (past : List Happened) (v : NodeValue) (e : NodeEv
   tables : HasTables w
   groups : (g : Addr) → group_in g w.table.groups.rows ≡ group_after plan g past e a (group_in g v.table.groups.rows)
   apart : AreApart w.table.groups.rows
+  told : (g : Addr) → IsTold plan.me (group_after plan g past e a (group_of plan g past)) (told_after plan g past e a (told_of plan g past))
 
-module _ (law : WhatIsWrittenIsRead) (each : EachGroup) (stay : StayApart) (plan : NodePlan) (past : List Happened) (v : NodeValue) (was : IsOfPast plan past v) (has : HasTables v) (ok : AreApart v.table.groups.rows) where
+module _ (law : WhatIsWrittenIsRead) (each : EachGroup) (stay : StayApart) (slots : SlotLaws) (few : NoticedByCalls) (plan : NodePlan) (right : IsNodePlan plan) (past : List Happened) (v : NodeValue) (was : IsOfPast plan past v) (has : HasTables v) (ok : AreApart v.table.groups.rows) where
+  -- a group that an event leaves is told nothing
+  left : (g : Addr) (e : NodeEvent) (a : NodeAnswer) → LeavesGroup plan g past e a → IsTold plan.me (group_after plan g past e a (group_of plan g past)) (told_after plan g past e a (told_of plan g past))
+  left g e a leaves = subst (λ o. IsTold plan.me o (told_after plan g past e a (told_of plan g past))) (leaves.0 (group_of plan g past)) (subst (IsTold plan.me (group_of plan g past)) (leaves.1 (told_of plan g past)) (was.told g))
+
+  -- only nodes of the cluster are noticed
+  none_far : (b : ℕ) → NODES ≤ b → set.contains (noticed_in plan past) b ≡ false
+  none_far b far =
+      let off : nat_lt b plan.nodes ≡ false = let most = right.cluster in grind (arith, nat_tests, far, most) in
+      few plan.me.number plan.nodes plan.silence right.cluster right.least (watched plan.cluster_key past) b ∙ ap (λ t. (t && not (nat_eq b plan.me.number)) && is_noticed plan.silence b (watched plan.cluster_key past)) off
+
   faulty : (bytes : List ℕ) (fault : PacketFault) → Goes plan past v (Came bytes) (Taken (Fault fault)) v
   faulty bytes fault = record {
     moved = quiet_moved v.key (Came bytes) (Taken (Fault fault)) v (record { still = record { none_came = refl; none_packed = λ b. refl; none_taken = λ b n. refl }; no_tick = refl; none_added = refl; no_stop = refl });
     tables = has;
     groups = λ g. refl;
     apart = ok;
+    told = was.told;
   }
 
   came_goes : (bytes : List ℕ) (r : Result Content PacketFault) → reading v.key bytes ≡ r → Goes plan past v (Came bytes) (Taken (taken_answer v (if_here v r))) (node_read (if_here v r) v)
@@ -65,6 +83,11 @@ module _ (law : WhatIsWrittenIsRead) (each : EachGroup) (stay : StayApart) (plan
       tables = record { windows = length-set v.windows c.from (without_done c.base c.mask (window_to v c.from)) ∙ has.windows; receivers = length-set v.receivers c.from (receives c.frame (receiver_from v c.from)) ∙ has.receivers };
       groups = λ g. took_groups each plan past v was g bytes c is has.windows;
       apart = frame_comes_apart stay (node_numbered c.from) c.frame c.items (receiver_from v c.from) (took_ack c (heard c v)).table (frames_done_apart stay (node_numbered c.from) v.table (newly_done c v) ok);
+      told = λ g.
+          let one : read plan.cluster_key bytes ≡ c ∷ [] = ap (λ k. read k bytes) (sym was.key) ∙ ap packet_in is in
+          let frame = fate c.frame (receiver_from v c.from) in
+          subst (λ cs. IsTold plan.me (fold (taken_for plan.cluster_key g past frame) (group_of plan g past) cs) (fold (taken_told plan.me g frame) (told_of plan g past) cs)) (sym one)
+              (taken_stands slots plan.me plan.cluster_key g past frame (group_of plan g past) (told_of plan g past) c (was.told g));
     })
     | inr h ↦ rw h (faulty bytes Node)
   ]
@@ -76,6 +99,7 @@ module _ (law : WhatIsWrittenIsRead) (each : EachGroup) (stay : StayApart) (plan
     tables = has;
     groups = λ g. refl;
     apart = ok;
+    told = was.told;
   }
   pack_goes b (Some items) is spelt =
       let fit : IsPacket (content_to v b (window_to v b.number).next items) = subst (λ o. IfSome (option_map (content_to v b (window_to v b.number).next) o) IsPacket) is spelt in
@@ -84,6 +108,11 @@ module _ (law : WhatIsWrittenIsRead) (each : EachGroup) (stay : StayApart) (plan
         tables = record { windows = length-set v.windows b.number (pushed (window_to v b.number) items) ∙ has.windows; receivers = has.receivers };
         groups = λ g. packed_groups each plan past v was g b items law fit has.windows ok (next_items v b items is);
         apart = stay.taken b.number ROOM v.table.groups ok;
+        told = λ g.
+            let c = content_to v b (window_to v b.number).next items in
+            let one : read plan.cluster_key (packet_text v.key c) ≡ c ∷ [] = ap (λ k. read k (packet_text v.key c)) (sym was.key) ∙ packet_told v b items law fit has.windows in
+            subst (λ cs. IsTold plan.me (fold (packed_from g b) (group_of plan g past) cs) (told_of plan g past)) (sym one)
+                (packed_stands slots plan.me b (items_for g items) (group_of plan g past) (told_of plan g past) (λ s there. waiting_enough each v b g items s ok (next_items v b items is) (was.groups g ∙ there)) (was.told g));
       }
 
   running_goes : (e : NodeEvent) → IsSpelt v e (running_turn v e).answer → Goes plan past v e (running_turn v e).answer (running_turn v e).value
@@ -92,6 +121,7 @@ module _ (law : WhatIsWrittenIsRead) (each : EachGroup) (stay : StayApart) (plan
     tables = record { windows = has.windows; receivers = has.receivers };
     groups = λ g. asked_groups each plan past v was g r (table_reply r v.table);
     apart = did_apart stay v.watch.noticed r (table_reply r v.table) v.table refl ok;
+    told = λ g. asked_stands slots plan.me (noticed_in plan past) none_far v.table g (group_of plan g past) (sym (was.groups g)) (told_of plan g past) (was.told g) r (table_reply r v.table) refl;
   }
   running_goes (Came bytes) spelt = came_goes bytes (reading v.key bytes) refl
   running_goes (Pack b) spelt = pack_goes b (next_batch v b) refl spelt
@@ -100,33 +130,36 @@ module _ (law : WhatIsWrittenIsRead) (each : EachGroup) (stay : StayApart) (plan
     tables = has;
     groups = λ g. refl;
     apart = ok;
+    told = was.told;
   }
   running_goes (Ack b) spelt = record {
     moved = quiet_moved v.key (Ack b) (Sent (sent v (ack_content v b))) v (record { still = record { none_came = refl; none_packed = λ b. refl; none_taken = λ b n. refl }; no_tick = refl; none_added = refl; no_stop = refl });
     tables = has;
     groups = λ g. refl;
     apart = ok;
+    told = was.told;
   }
   running_goes Tick spelt = record {
     moved = ticked_moved v.key v;
     tables = record { windows = has.windows; receivers = has.receivers };
     groups = ticked_groups each plan past v was;
     apart = notices_apart stay v.table (rising (due v.watch)) ok;
+    told = λ g. noticed_stands slots plan.me (group_of plan g past) (told_of plan g past) (rising (due v.watch)) (was.told g);
   }
-  running_goes Stop spelt = record { moved = halted_moved v.key v; tables = record { windows = has.windows; receivers = has.receivers }; groups = λ g. refl; apart = ok }
+  running_goes Stop spelt = record { moved = halted_moved v.key v; tables = record { windows = has.windows; receivers = has.receivers }; groups = λ g. refl; apart = ok; told = was.told }
 
   turn_goes : (e : NodeEvent) → IsSpelt v e (turn v e).answer → Goes plan past v e (turn v e).answer (turn v e).value
   turn_goes e = elim (cases_Bool v.stopped) [
-    | inl h ↦ subst (λ (t : Turn). IsSpelt v e t.answer → Goes plan past v e t.answer t.value) (sym (ap (λ b. if b then record { value = v; answer = stopped_answer e } else running_turn v e) h)) (λ spelt. record { moved = stopped_moved v.key e v; tables = has; groups = λ g. stopped_group plan g past e (group_in g v.table.groups.rows); apart = ok })
+    | inl h ↦ subst (λ (t : Turn). IsSpelt v e t.answer → Goes plan past v e t.answer t.value) (sym (ap (λ b. if b then record { value = v; answer = stopped_answer e } else running_turn v e) h)) (λ spelt. record { moved = stopped_moved v.key e v; tables = has; groups = λ g. (stopped_group plan g past e).0 (group_in g v.table.groups.rows); apart = ok; told = λ g. left g e (stopped_answer e) (stopped_group plan g past e) })
     | inr h ↦ subst (λ (t : Turn). IsSpelt v e t.answer → Goes plan past v e t.answer t.value) (sym (ap (λ b. if b then record { value = v; answer = stopped_answer e } else running_turn v e) h)) (running_goes e)
   ]
 
   goes : (e : NodeEvent) (a : NodeAnswer) (w : NodeValue) → IsTurn v e a w → IsSpelt v e a → Goes plan past v e a w
-  goes e a w (inl starved) spelt = subst (Goes plan past v e a) (sym starved.1) (record { moved = starved_moved v.key e (turn v e).answer a v starved.0; tables = has; groups = λ g. starved_group plan g past e (turn v e).answer a (group_in g v.table.groups.rows) starved.0; apart = ok })
+  goes e a w (inl starved) spelt = subst (Goes plan past v e a) (sym starved.1) (record { moved = starved_moved v.key e (turn v e).answer a v starved.0; tables = has; groups = λ g. (starved_group plan g past e (turn v e).answer a starved.0).0 (group_in g v.table.groups.rows); apart = ok; told = λ g. left g e a (starved_group plan g past e (turn v e).answer a starved.0) })
   goes e a w (inr went) spelt = subst (Goes plan past v e a) (sym went.1) (subst (λ x. IsSpelt v e x → Goes plan past v e x (turn v e).value) (sym went.0) (turn_goes e) spelt)
 
 new_says : (plan : NodePlan) → IsOfPast plan [] (new_node plan)
-unfolding frames_to numbered is_acked is_taken watched tenants_in is_stopped group_of
+unfolding frames_to numbered is_acked is_taken watched tenants_in is_stopped group_of told_of
 new_says plan = record {
   key = refl;
   me = refl;
@@ -138,6 +171,7 @@ new_says plan = record {
   undone = λ b. ap (λ (w : SendWindow (List Item)). w.undone) (get_or-replicate NODES b.number new_window new_window b.below);
   received = λ b n. ap (λ r. set.contains r n) (get_or-replicate NODES b.number set.empty set.empty b.below) ∙ set.contains-empty nat_cmp n;
   groups = λ g. refl;
+  told = λ g. tt;
 }
 
 record Standing (plan : NodePlan) (past : List Happened) (v : NodeValue) : Type 0 where
@@ -148,18 +182,24 @@ record Standing (plan : NodePlan) (past : List Happened) (v : NodeValue) : Type 
 no_groups_apart : AreApart []
 no_groups_apart = record { apart = λ p q l m e. absurd (omega (arith, l)) }
 
-module _ (law : WhatIsWrittenIsRead) (each : EachGroup) (stay : StayApart) (plan : NodePlan) where
+-- a node comes from one that was started rightly
+started : (plan : NodePlan) (past : List Happened) (v : NodeValue) → ComesTo plan past v → IsNodePlan plan
+unfolding ComesTo
+started plan [] v comes = comes.0
+started plan (h ∷ past) v comes = started plan past comes.0 comes.1
+
+module _ (law : WhatIsWrittenIsRead) (each : EachGroup) (stay : StayApart) (slots : SlotLaws) (few : NoticedByCalls) (plan : NodePlan) where
   stands : (past : List Happened) (v : NodeValue) → ComesTo plan past v → Standing plan past v
   unfolding ComesTo
-  stands [] v comes = subst (Standing plan []) (sym comes) (record { says = new_says plan; tables = record { windows = refl; receivers = refl }; apart = no_groups_apart })
+  stands [] v comes = subst (Standing plan []) (sym comes.1) (record { says = new_says plan; tables = record { windows = refl; receivers = refl }; apart = no_groups_apart })
   stands (h ∷ past) v comes =
       let before = stands past comes.0 comes.1 in
-      let step = goes law each stay plan past comes.0 before.says before.tables before.apart h.event h.answer v comes.2 comes.3 in
+      let step = goes law each stay slots few plan (started plan past comes.0 comes.1) past comes.0 before.says before.tables before.apart h.event h.answer v comes.2 comes.3 in
       record {
-        says = moved_says plan past h.event h.answer comes.0 v before.says (subst (λ k. Moved k h.event h.answer comes.0 v) before.says.key step.moved) step.groups;
+        says = moved_says plan past h.event h.answer comes.0 v before.says (subst (λ k. Moved k h.event h.answer comes.0 v) before.says.key step.moved) step.groups step.told;
         tables = step.tables;
         apart = step.apart;
       }
 
-pub pasts_say : WhatIsWrittenIsRead → EachGroup → StayApart → PastsSay
-pasts_say law each stay plan past v comes = (stands law each stay plan past v comes).says
+pub pasts_say : WhatIsWrittenIsRead → EachGroup → StayApart → SlotLaws → NoticedByCalls → PastsSay
+pasts_say law each stay slots few plan past v comes = (stands law each stay slots few plan past v comes).says

@@ -8,3 +8,4 @@ pub mod EventLemmas
 pub mod LinkLemmas
 pub mod InductionLemmas
 pub mod GroupLemmas
+pub mod ToldLemmas

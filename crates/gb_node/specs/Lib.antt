@@ -2,3 +2,5 @@ pub mod Frames
 pub mod NodeValue
 pub mod NodeStep
 pub mod Past
+pub mod PastGroups
+pub mod PastLaw

@@ -1,7 +1,7 @@
 -- A node as contracts see it.
-use Rattle.std.specs.Prelude.{ℕ, Bool, false, List, replicate}
+use Rattle.std.specs.Prelude.{ℕ, ◌<◌, ◌≤◌, Bool, false, List, replicate}
 use Rattle.std.specs.FinSet as set
-use Rattle.gb_types.specs.declared.limits.TheConstants.{NODES}
+use Rattle.gb_types.specs.declared.limits.TheConstants.{NODES, PLACES, SILENCE_MIN, SILENCE_MAX}
 use Rattle.gb_frame.specs.declared.item.Item.{Item}
 use Rattle.gb_link.specs.Received.{Received}
 use Rattle.gb_link.specs.SendWindow.{SendWindow, new_window}
@@ -32,3 +32,11 @@ new_node p = record {
   watch = start p.me.number p.nodes p.silence;
   stopped = false;
 }
+
+-- a node may be started so
+pub record IsNodePlan (p : NodePlan) : Type 0 where
+  pub cluster : p.nodes ≤ NODES
+  pub member : p.me.number < p.nodes
+  pub places : p.places ≤ PLACES
+  pub least : SILENCE_MIN ≤ p.silence
+  pub most : p.silence ≤ SILENCE_MAX

@@ -1,0 +1,34 @@
+-- A node is what its past says.
+use Rattle.std.specs.Prelude.{ℕ, ◌≡◌, ◌+◌, ◌&&◌, ◌||◌, not, List, [], ◌∷◌, ◌++◌, length, filter, if◌then◌else◌}
+use Rattle.std.specs.FinSet as set
+use Rattle.gb_types.specs.declared.address.Addr.{Addr}
+use Rattle.gb_types.specs.declared.node.NodeId.{NodeId}
+use Rattle.gb_detect.specs.Watch.{start, replay}
+use Rattle.gb_groups.specs.OneGroup.{group_in}
+use Rattle.gb_node.specs.NodeValue.{NodeValue}
+use Rattle.gb_node.specs.NodeStep.{window_to, receiver_from}
+use Rattle.gb_node.specs.declared.plan.NodePlan.{NodePlan}
+use Rattle.gb_node.specs.Past.{Happened, ComesTo, frames_to, numbered, is_acked, is_taken, watched, tenants_in, is_stopped}
+use Rattle.gb_node.specs.PastGroups.{group_of, told_of, IsTold}
+
+-- What a node is its past says.
+pub record IsOfPast (plan : NodePlan) (past : List Happened) (v : NodeValue) : Type 0 where
+  pub key : v.key ≡ plan.cluster_key
+  pub me : v.table.me ≡ plan.me
+  pub nodes : v.table.nodes ≡ plan.nodes
+  pub stopped : v.stopped ≡ is_stopped past
+  pub watch : v.watch ≡ replay (start plan.me.number plan.nodes plan.silence) (watched plan.cluster_key past)
+  pub tenants : v.table.tenants ≡ tenants_in past
+  -- the link to each node: the next number, and the frames that were packed and not acknowledged since
+  pub next : (b : NodeId) → (window_to v b.number).next ≡ length (frames_to plan.cluster_key b.number past) + 1
+  pub undone : (b : NodeId) → (window_to v b.number).undone ≡ filter (λ u. not (is_acked plan.cluster_key b.number u.0 past)) (numbered 1 (frames_to plan.cluster_key b.number past))
+  -- the link from each node: the numbers received
+  pub received : (b : NodeId) (n : ℕ) → set.contains (receiver_from v b.number) n ≡ is_taken plan.cluster_key b.number n past
+  -- each group
+  pub groups : (g : Addr) → group_in g v.table.groups.rows ≡ group_of plan g past
+  -- and each slot stands for what its group was told
+  pub told : (g : Addr) → IsTold plan.me (group_of plan g past) (told_of plan g past)
+
+-- every node is what its past says
+abbrev pub PastsSay : Type 0
+PastsSay = (plan : NodePlan) (past : List Happened) (v : NodeValue) → ComesTo plan past v → IsOfPast plan past v
