@@ -16,3 +16,4 @@ pub mod AddLemmas
 pub mod NoticeLemmas
 pub mod DropLemmas
 pub mod OneGroupLemmas
+pub mod ShortLemmas

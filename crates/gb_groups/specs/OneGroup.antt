@@ -1,5 +1,5 @@
 -- What becomes of one group among the groups of a node.
-use Rattle.std.specs.Prelude.{ℕ, ◌≡◌, ◌<◌, ◌&&◌, Bool, List, ◌++◌, ◌∷◌, [], length, map, take, filter, fold, Option, Some, None, option_map, nat_lt, nat_le, if◌then◌else◌}
+use Rattle.std.specs.Prelude.{ℕ, ◌≡◌, ◌<◌, ◌+◌, ◌&&◌, Bool, List, ◌++◌, ◌∷◌, [], length, map, take, filter, fold, Option, Some, None, option_map, nat_lt, nat_le, if◌then◌else◌}
 use Rattle.gb_types.specs.declared.address.Addr.{Addr}
 use Rattle.gb_types.specs.declared.entry.Entry.{Entry}
 use Rattle.gb_types.specs.declared.limits.TheConstants.{NODES, PAYLOAD}
@@ -49,6 +49,14 @@ came_for from o i = where_so (nat_lt i.origin NODES && nat_le (length i.payload)
 abbrev pub waiting_in : Option (Option SlotState) → ℕ → List Entry
 waiting_in None dest = []
 waiting_in (Some slot) dest = queue_of dest slot
+
+-- the bytes that the longest message takes in a packet
+abbrev pub LONGEST : ℕ
+LONGEST = 9 + PAYLOAD
+
+-- nothing waits for a node in any group
+abbrev pub NothingWaits : ℕ → List Row → Type 0
+NothingWaits dest rows = (g : Addr) → waiting_in (group_in g rows) dest ≡ []
 
 -- an entry of a group as an item of a packet
 abbrev pub item_for : Addr → Entry → Item

@@ -11,6 +11,7 @@ ghost use Rattle.gb_groups.specs.SlotsValue.{row_at, on_slot, AreApart};
 ghost use Rattle.gb_groups.specs.AtAddress.{group_reply, drop_at, place_of, on_address, address_of, item_came, OthersKept};
 ghost use Rattle.gb_groups.specs.GroupsValue.{no_groups, walk_to, batch, packed, IsIndex, IsIndexBut};
 ghost use Rattle.gb_groups.specs.Packing.{items, size};
+ghost use Rattle.gb_groups.specs.OneGroup.{LONGEST, NothingWaits};
 ghost use Rattle.gb_frame.specs.Spelling.{items_text, IsItem};
 
 use crate::packing::{advance, measure};
@@ -249,13 +250,16 @@ impl Groups {
     }
 
     /// How many items the next batch for a node has where it may have so many bytes, 65,535 at most, and how many
-    /// bytes they take.
+    /// bytes they take. Where there is room for the longest message, a batch without items says that nothing waits.
     pub fn measure(&self, dest: NodeId, room: usize) -> (u16, usize)
         requires { room ≤ 65535 }
         ensures count { result.0 ≡ length (batch dest.number room self.now) }
         ensures bytes { result.1 ≡ sum_by size (batch dest.number room self.now) }
         ensures most { result.1 ≤ room }
+        ensures none { result.0 ≡ 0 → LONGEST ≤ room → NothingWaits dest.number self.now.rows }
     {
+        // The proof reads that no message is longer than one may be.
+        let _places = self.slots.len();
         let to = dest.index();
         let active = self.busy[to].duplicate();
         measure(&self.slots, active, dest, self.cursors[to], room)

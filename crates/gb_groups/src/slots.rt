@@ -6,7 +6,7 @@ ghost use Rattle.gb_rules.specs.Group.{is_member, open_answer, shut_answer, drop
 ghost use Rattle.gb_rules.specs.Replied.{done_reply, said_reply, IsReply};
 ghost use Rattle.gb_rules.specs.declared.phase.Phase.TheVariants as Phase;
 ghost use Rattle.gb_slot.specs.Slot.{IsWithinLimits, new_slot, waiting, slot_came, slot_done, slot_noticed, slot_moved, slot_said};
-ghost use Rattle.gb_groups.specs.SlotsValue.{no_entry, row_at, on_slot, HaveCounters, IsShort, AreApart, unless_gone, gone};
+ghost use Rattle.gb_groups.specs.SlotsValue.{no_entry, row_at, on_slot, HaveCounters, IsShort, AreShort, AreApart, unless_gone, gone};
 ghost use Rattle.gb_frame.specs.Packet.{item_of as view_item};
 ghost use Rattle.gb_groups.specs.Packing.{queue, queues, took, item_of};
 ghost use Rattle.gb_groups.specs.Slots.{place_at};
@@ -83,6 +83,7 @@ impl Slots {
         ensures len { result ≡ length self.now.rows }
         ensures counters { HaveCounters self.now.rows }
         ensures apart { AreApart self.now.rows }
+        ensures short { AreShort self.now.rows }
     {
         self.places.len()
     }

@@ -26,6 +26,7 @@ use Rattle.gb_detect.specs.Watch.{due, after_heard, after_tick}
 use Rattle.gb_rules.specs.Replied.{takes_memory}
 use Rattle.gb_groups.specs.AtAddress.{address_of, entry_of, rest_is_node}
 use Rattle.gb_groups.specs.GroupsValue.{batch}
+use Rattle.gb_groups.specs.OneGroup.{NothingWaits}
 use Rattle.gb_groups.specs.Packing.{items}
 use Rattle.gb_table.specs.TableValue.{TableValue, table_came, table_done, table_noticed, table_packed}
 use Rattle.gb_table.specs.Requests.{table_reply, table_did}
@@ -272,3 +273,8 @@ sent_content v event = None
 abbrev pub IsSpelt : NodeValue → NodeEvent → NodeAnswer → Type 0
 IsSpelt v event (Sent (SentPacket text)) = IfSome (sent_content v event) IsPacket
 IsSpelt v event answer = Unit {0}
+
+-- A pack gives nothing only for a reason: the node is not reached, the link has no room, or nothing waits.
+abbrev pub IsForReason : NodeValue → NodeEvent → NodeAnswer → Type 0
+IsForReason v (Pack b) (Sent Nothing) = (is_reached v b && has_room (window_to v b.number)) ≡ true → NothingWaits b.number v.table.groups.rows
+IsForReason v event answer = Unit {0}

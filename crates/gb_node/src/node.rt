@@ -13,7 +13,7 @@ ghost use Rattle.gb_groups.specs.Packing.{size};
 ghost use Rattle.gb_table.specs.Requests.{is_admitted};
 ghost use Rattle.gb_node.specs.Frames.{items_in, IsHead};
 ghost use Rattle.gb_node.specs.NodeValue.{new_node};
-ghost use Rattle.gb_node.specs.NodeStep.{window_to, is_another, is_reached, content_to, batch_to, sent_batch, good_of, node_took, IsTurn, IsSpelt};
+ghost use Rattle.gb_node.specs.NodeStep.{window_to, is_another, is_reached, content_to, batch_to, sent_batch, good_of, node_took, IsTurn, IsSpelt, IsForReason};
 
 use crate::answer::{Good, Halted, NodeAnswer, PacketAnswer, Sent, Ticked};
 use crate::event::NodeEvent;
@@ -245,6 +245,7 @@ impl Node {
     pub fn pack(&mut self, to: NodeId) -> Sent
         ensures turn { IsTurn self.old (NodeEvent.Pack to) (NodeAnswer.Sent result) self.new }
         ensures spelt { IsSpelt self.old (NodeEvent.Pack to) (NodeAnswer.Sent result) }
+        ensures reason { IsForReason self.old (NodeEvent.Pack to) (NodeAnswer.Sent result) }
     {
         if self.stopped {
             return Sent::Refused(Refusal::Stopped);
@@ -389,6 +390,7 @@ impl Node {
     pub fn take(&mut self, event: &NodeEvent) -> NodeAnswer
         ensures turn { IsTurn self.old event.now result self.new }
         ensures spelt { IsSpelt self.old event.now result }
+        ensures reason { IsForReason self.old event.now result }
     {
         match event {
             NodeEvent::Request(request) => NodeAnswer::Reply(self.request(request)),

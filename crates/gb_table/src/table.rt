@@ -10,6 +10,7 @@ ghost use Rattle.gb_rules.specs.Replied.{IsReply};
 ghost use Rattle.gb_rules.specs.Tenant.{row_of, reserved, tenant_answer, make_answer, by_tenant};
 ghost use Rattle.gb_groups.specs.AtAddress.{place_of, group_reply, address_of, OthersKept};
 ghost use Rattle.gb_groups.specs.Fair.{IsFront, IsLongest};
+ghost use Rattle.gb_groups.specs.OneGroup.{LONGEST, NothingWaits};
 ghost use Rattle.gb_groups.specs.GroupsValue.{walk_to, batch};
 ghost use Rattle.gb_groups.specs.Packing.{items, size};
 ghost use Rattle.gb_table.specs.TableValue.{new_table, reserve_for, table_came, table_done, table_noticed, table_packed};
@@ -247,12 +248,13 @@ impl Table {
     }
 
     /// How many items the next batch for a node has where it may have so many bytes, 65,535 at most, and how many
-    /// bytes they take.
+    /// bytes they take. Where there is room for the longest message, a batch without items says that nothing waits.
     pub fn measure(&self, dest: NodeId, room: usize) -> (u16, usize)
         requires { room ≤ 65535 }
         ensures count { result.0 ≡ length (batch dest.number room self.now.groups) }
         ensures bytes { result.1 ≡ sum_by size (batch dest.number room self.now.groups) }
         ensures most { result.1 ≤ room }
+        ensures none { result.0 ≡ 0 → LONGEST ≤ room → NothingWaits dest.number self.now.groups.rows }
     {
         self.groups.measure(dest, room)
     }

@@ -1,7 +1,10 @@
-use Rattle.std.proofs.Common.{arith, get_or}
+use Rattle.std.proofs.Common.{arith, get_or, subst, sym, ◌∙◌}
 use Rattle.gb_groups.specs.Packing.{walk, queues}
 use Rattle.gb_groups.proofs.BatchLemmas.{count_is, bytes_is, fit-fits}
+use Rattle.gb_groups.specs.SlotsValue.{AreShort}
+use Rattle.gb_groups.specs.GroupsValue.{GroupsValue}
 use Rattle.gb_groups.proofs.IndexLemmas.{index_at}
+use Rattle.gb_groups.proofs.ShortLemmas.{nothing_waits}
 use Rattle.gb_groups.proofs.groups.Groups.measure.Goals as goal
 
 pub measure-requires-clause-index : goal.measure-requires-clause-index
@@ -20,3 +23,7 @@ pub returns-clause-most : goal.returns-clause-most
 returns-clause-most c =
     let fits = fit-fits c.args.room (walk (get_or c.self.inside.cursors c.index-to.result 0) (queues c.args.dest.number c.self.inside.slots.rows)) in
     omega (arith, fits, c.measure.ensures.bytes)
+
+pub returns-clause-none : goal.returns-clause-none
+returns-clause-none c none enough =
+    nothing_waits c.args.dest.number c.args.room c.args.self.now (subst (λ (t : GroupsValue). AreShort t.rows) c.self.view_is c.len-places.ensures.short) enough (sym (returns-clause-count c) ∙ none)

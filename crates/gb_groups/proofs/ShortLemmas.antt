@@ -1,0 +1,73 @@
+-- Where there is room for the longest message, a batch without items says that nothing waits.
+use Rattle.std.proofs.Common.{◌≡◌, ℕ, ◌<◌, ◌≤◌, List, [], ◌∷◌, length, map, Option, Some, None, inl, inr, refl, sym, ap, ◌∙◌, arith}
+use Rattle.std.specs.Prelude.{Bool, true, false, ◌-◌, cond, ltb, filter, option_map, slice_get, if◌then◌else◌}
+use Rattle.std.proofs.Common.{get_or, eq-eqb}
+use Rattle.std.proofs.lemmas.Bool.{cases_lt, ltb-true, le-ltb}
+use Rattle.std.proofs.lemmas.List.{get_or_default}
+use Rattle.gb_types.specs.declared.address.Addr.{Addr}
+use Rattle.gb_types.specs.declared.entry.Entry.{Entry}
+use Rattle.gb_types.specs.declared.limits.TheConstants.{PAYLOAD}
+use Rattle.gb_slot.specs.SlotState.{SlotState}
+use Rattle.gb_groups.specs.SlotsValue.{Row, row_at, no_row, IsShort, AreShort}
+use Rattle.gb_groups.specs.GroupsValue.{GroupsValue, cursor_for, walk_to, batch}
+use Rattle.gb_groups.specs.Packing.{Visit, visit, walk, fit, size, is_at, queue, queue_of, queues}
+use Rattle.gb_groups.specs.AtAddress.{place_of}
+use Rattle.gb_groups.specs.OneGroup.{LONGEST, NothingWaits, waiting_in}
+use Rattle.gb_groups.proofs.AddressLemmas.{place_is}
+use Rattle.gb_groups.proofs.StepLemmas.{waiting_fits}
+use Rattle.gb_groups.proofs.WalkLemmas.{length-queues, queues_at}
+use Rattle.gb_groups.proofs.FrontLemmas.{Const, is_below, walk_below, walk_of}
+
+-- what waits in a group whose messages are short is short
+first_short : (dest : ℕ) (o : Option SlotState) → IsShort o → (x : Entry) (xs : List Entry) → queue_of dest o ≡ x ∷ xs → length x.payload ≤ PAYLOAD
+first_short dest None short x xs e = absurd (cc)
+first_short dest (Some s) short x xs e = waiting_fits s dest 0 x short (ap (λ ys. slice_get ys 0) e)
+
+module _ (dest room : ℕ) (t : GroupsValue) (short : AreShort t.rows) (enough : LONGEST ≤ room) where
+  at_place : (p : ℕ) → p < length t.rows → filter (is_at p) (walk_to dest t) ≡ map (visit p) (queue dest (row_at t.rows p))
+  at_place p within =
+      let l = length-queues dest t.rows in
+      walk_of p (cursor_for dest t) (queues dest t.rows) (omega (arith, l, within))
+      ∙ ap (map (visit p)) (queues_at dest t.rows p (row_at t.rows p) within (get_or_default t.rows p no_row (row_at t.rows p) within))
+
+  -- the first of the walk has room
+  fits : (v : Visit) (vs : List Visit) → walk_to dest t ≡ v ∷ vs → size v ≤ room
+  fits v vs e =
+      let below : Const (is_below (length (queues dest t.rows))) true (v ∷ vs) = (rw e at (walk_below (cursor_for dest t) (queues dest t.rows))) in
+      let l = length-queues dest t.rows in
+      let within : v.place < length t.rows = let b = ltb-true v.place (length (queues dest t.rows)) below.0 in omega (arith, b, l) in
+      by (queue dest (row_at t.rows v.place)) refl (sym (ap (λ b. cond b (v ∷ filter (is_at v.place) vs) (filter (is_at v.place) vs)) (eq-eqb v.place v.place refl)) ∙ (ap (filter (is_at v.place)) (sym e) ∙ at_place v.place within))
+    where
+      by : (q : List Entry) → queue dest (row_at t.rows v.place) ≡ q → v ∷ filter (is_at v.place) vs ≡ map (visit v.place) (queue dest (row_at t.rows v.place)) → size v ≤ room
+      by [] is same = let none : v ∷ filter (is_at v.place) vs ≡ [] = same ∙ ap (map (visit v.place)) is in absurd (cc)
+      by (x ∷ xs) is same =
+          let some : v ∷ filter (is_at v.place) vs ≡ visit v.place x ∷ map (visit v.place) xs = same ∙ ap (map (visit v.place)) is in
+          let first : v ≡ visit v.place x = cc in
+          let l = ap (λ (w : Visit). length w.item.payload) first in
+          let s = first_short dest (row_at t.rows v.place).slot (short.each v.place) x xs is in
+          omega (arith, l, s, enough)
+
+  some_fit : (v : Visit) (vs : List Visit) → walk_to dest t ≡ v ∷ vs → length (batch dest room t) ≡ 0 → ⊥
+  unfolding fit
+  some_fit v vs e none =
+      let room_for : ltb room (size v) ≡ false = le-ltb room (size v) (fits v vs e) in
+      let long = ap (λ ws. length (fit room ws)) e ∙ ap (λ b. length (if b then [] else v ∷ fit (room - size v) vs)) room_for in
+      omega (arith, long, none)
+
+  walk_empty : length (batch dest room t) ≡ 0 → walk_to dest t ≡ []
+  walk_empty none = by (walk_to dest t) refl
+    where
+      by : (vs : List Visit) → walk_to dest t ≡ vs → walk_to dest t ≡ []
+      by [] e = e
+      by (v ∷ vs) e = absurd (some_fit v vs e none)
+
+  pub nothing_waits : length (batch dest room t) ≡ 0 → NothingWaits dest t.rows
+  nothing_waits none g = by (place_of g t.rows) refl
+    where
+      by : (o : Option ℕ) → o ≡ place_of g t.rows → waiting_in (option_map (λ (row : Row). row.slot) (option_map (row_at t.rows) o)) dest ≡ []
+      by None e = refl
+      by (Some p) e = empty (queue dest (row_at t.rows p)) (sym (at_place p (place_is g t.rows p e).0) ∙ ap (filter (is_at p)) (walk_empty none))
+        where
+          empty : (q : List Entry) → map (visit p) q ≡ [] → q ≡ []
+          empty [] e = refl
+          empty (x ∷ q) e = absurd (cc)
