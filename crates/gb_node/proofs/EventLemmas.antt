@@ -1,6 +1,6 @@
 -- What each event makes of a node, as its past will tell.
-use Rattle.std.proofs.Common.{◌≡◌, ℕ, false, ◌||◌, List, [], ◌++◌, length, map, refl, sym, ap, subst, ◌∙◌, arith}
-use Rattle.std.specs.Prelude.{filter, not, Option}
+use Rattle.std.proofs.Common.{◌≡◌, ℕ, false, ◌||◌, List, [], ◌++◌, inl, inr, length, map, refl, sym, ap, subst, ◌∙◌, arith}
+use Rattle.std.specs.Prelude.{◌⊎◌, filter, not, Option}
 use Rattle.std.specs.FinSet as set
 use Rattle.std.specs.Ordering.{nat_cmp}
 use Rattle.std.specs.List.{list_any}
@@ -109,56 +109,66 @@ unsent_quiet key (Ack x) = record { still = record { none_came = refl; none_pack
 unsent_quiet key Tick = record { still = record { none_came = refl; none_packed = λ b. refl; none_taken = λ b n. refl }; no_tick = refl; none_added = refl; no_stop = refl }
 unsent_quiet key Stop = record { still = record { none_came = refl; none_packed = λ b. refl; none_taken = λ b n. refl }; no_tick = refl; none_added = refl; no_stop = refl }
 
+-- want of memory is told as that
+pub starved_says : (e : NodeEvent) (should answer : NodeAnswer) → IsStarved e should answer → (answer ≡ Sent (SentRefused OutOfMemory)) ⊎ ((r : Request) × (e ≡ Asked r) × (answer ≡ Replied (Refused OutOfMemory)))
+starved_says (Asked r) (Replied should) answer starved = inr (r, refl, starved.0)
+starved_says (Asked r) (Taken should) answer starved = absurd starved
+starved_says (Asked r) (Sent (SentPacket text)) answer starved = inl starved
+starved_says (Asked r) (Sent Nothing) answer starved = absurd starved
+starved_says (Asked r) (Sent (SentRefused why)) answer starved = absurd starved
+starved_says (Asked r) (Ticked should) answer starved = absurd starved
+starved_says (Asked r) (Halted should) answer starved = absurd starved
+starved_says (Came bytes) (Replied should) answer starved = absurd starved
+starved_says (Came bytes) (Taken should) answer starved = absurd starved
+starved_says (Came bytes) (Sent (SentPacket text)) answer starved = inl starved
+starved_says (Came bytes) (Sent Nothing) answer starved = absurd starved
+starved_says (Came bytes) (Sent (SentRefused why)) answer starved = absurd starved
+starved_says (Came bytes) (Ticked should) answer starved = absurd starved
+starved_says (Came bytes) (Halted should) answer starved = absurd starved
+starved_says (Pack x) (Replied should) answer starved = absurd starved
+starved_says (Pack x) (Taken should) answer starved = absurd starved
+starved_says (Pack x) (Sent (SentPacket text)) answer starved = inl starved
+starved_says (Pack x) (Sent Nothing) answer starved = absurd starved
+starved_says (Pack x) (Sent (SentRefused why)) answer starved = absurd starved
+starved_says (Pack x) (Ticked should) answer starved = absurd starved
+starved_says (Pack x) (Halted should) answer starved = absurd starved
+starved_says (Again x n) (Replied should) answer starved = absurd starved
+starved_says (Again x n) (Taken should) answer starved = absurd starved
+starved_says (Again x n) (Sent (SentPacket text)) answer starved = inl starved
+starved_says (Again x n) (Sent Nothing) answer starved = absurd starved
+starved_says (Again x n) (Sent (SentRefused why)) answer starved = absurd starved
+starved_says (Again x n) (Ticked should) answer starved = absurd starved
+starved_says (Again x n) (Halted should) answer starved = absurd starved
+starved_says (Ack x) (Replied should) answer starved = absurd starved
+starved_says (Ack x) (Taken should) answer starved = absurd starved
+starved_says (Ack x) (Sent (SentPacket text)) answer starved = inl starved
+starved_says (Ack x) (Sent Nothing) answer starved = absurd starved
+starved_says (Ack x) (Sent (SentRefused why)) answer starved = absurd starved
+starved_says (Ack x) (Ticked should) answer starved = absurd starved
+starved_says (Ack x) (Halted should) answer starved = absurd starved
+starved_says Tick (Replied should) answer starved = absurd starved
+starved_says Tick (Taken should) answer starved = absurd starved
+starved_says Tick (Sent (SentPacket text)) answer starved = inl starved
+starved_says Tick (Sent Nothing) answer starved = absurd starved
+starved_says Tick (Sent (SentRefused why)) answer starved = absurd starved
+starved_says Tick (Ticked should) answer starved = absurd starved
+starved_says Tick (Halted should) answer starved = absurd starved
+starved_says Stop (Replied should) answer starved = absurd starved
+starved_says Stop (Taken should) answer starved = absurd starved
+starved_says Stop (Sent (SentPacket text)) answer starved = inl starved
+starved_says Stop (Sent Nothing) answer starved = absurd starved
+starved_says Stop (Sent (SentRefused why)) answer starved = absurd starved
+starved_says Stop (Ticked should) answer starved = absurd starved
+starved_says Stop (Halted should) answer starved = absurd starved
+
 starved_quiet : (key : List ℕ) (e : NodeEvent) (should answer : NodeAnswer) → IsStarved e should answer → IsQuiet key e answer
-starved_quiet key (Asked r) (Replied should) answer starved = subst (IsQuiet key (Asked r)) (sym starved.0) (record { still = record { none_came = refl; none_packed = λ b. refl; none_taken = λ b n. refl }; no_tick = refl; none_added = added_refused r OutOfMemory; no_stop = refl })
-starved_quiet key (Asked r) (Taken should) answer starved = absurd starved
-starved_quiet key (Asked r) (Sent (SentPacket text)) answer starved = subst (IsQuiet key (Asked r)) (sym starved) (unsent_quiet key (Asked r))
-starved_quiet key (Asked r) (Sent Nothing) answer starved = absurd starved
-starved_quiet key (Asked r) (Sent (SentRefused why)) answer starved = absurd starved
-starved_quiet key (Asked r) (Ticked should) answer starved = absurd starved
-starved_quiet key (Asked r) (Halted should) answer starved = absurd starved
-starved_quiet key (Came bytes) (Replied should) answer starved = absurd starved
-starved_quiet key (Came bytes) (Taken should) answer starved = absurd starved
-starved_quiet key (Came bytes) (Sent (SentPacket text)) answer starved = subst (IsQuiet key (Came bytes)) (sym starved) (unsent_quiet key (Came bytes))
-starved_quiet key (Came bytes) (Sent Nothing) answer starved = absurd starved
-starved_quiet key (Came bytes) (Sent (SentRefused why)) answer starved = absurd starved
-starved_quiet key (Came bytes) (Ticked should) answer starved = absurd starved
-starved_quiet key (Came bytes) (Halted should) answer starved = absurd starved
-starved_quiet key (Pack x) (Replied should) answer starved = absurd starved
-starved_quiet key (Pack x) (Taken should) answer starved = absurd starved
-starved_quiet key (Pack x) (Sent (SentPacket text)) answer starved = subst (IsQuiet key (Pack x)) (sym starved) (unsent_quiet key (Pack x))
-starved_quiet key (Pack x) (Sent Nothing) answer starved = absurd starved
-starved_quiet key (Pack x) (Sent (SentRefused why)) answer starved = absurd starved
-starved_quiet key (Pack x) (Ticked should) answer starved = absurd starved
-starved_quiet key (Pack x) (Halted should) answer starved = absurd starved
-starved_quiet key (Again x n) (Replied should) answer starved = absurd starved
-starved_quiet key (Again x n) (Taken should) answer starved = absurd starved
-starved_quiet key (Again x n) (Sent (SentPacket text)) answer starved = subst (IsQuiet key (Again x n)) (sym starved) (unsent_quiet key (Again x n))
-starved_quiet key (Again x n) (Sent Nothing) answer starved = absurd starved
-starved_quiet key (Again x n) (Sent (SentRefused why)) answer starved = absurd starved
-starved_quiet key (Again x n) (Ticked should) answer starved = absurd starved
-starved_quiet key (Again x n) (Halted should) answer starved = absurd starved
-starved_quiet key (Ack x) (Replied should) answer starved = absurd starved
-starved_quiet key (Ack x) (Taken should) answer starved = absurd starved
-starved_quiet key (Ack x) (Sent (SentPacket text)) answer starved = subst (IsQuiet key (Ack x)) (sym starved) (unsent_quiet key (Ack x))
-starved_quiet key (Ack x) (Sent Nothing) answer starved = absurd starved
-starved_quiet key (Ack x) (Sent (SentRefused why)) answer starved = absurd starved
-starved_quiet key (Ack x) (Ticked should) answer starved = absurd starved
-starved_quiet key (Ack x) (Halted should) answer starved = absurd starved
-starved_quiet key Tick (Replied should) answer starved = absurd starved
-starved_quiet key Tick (Taken should) answer starved = absurd starved
-starved_quiet key Tick (Sent (SentPacket text)) answer starved = subst (IsQuiet key Tick) (sym starved) (unsent_quiet key Tick)
-starved_quiet key Tick (Sent Nothing) answer starved = absurd starved
-starved_quiet key Tick (Sent (SentRefused why)) answer starved = absurd starved
-starved_quiet key Tick (Ticked should) answer starved = absurd starved
-starved_quiet key Tick (Halted should) answer starved = absurd starved
-starved_quiet key Stop (Replied should) answer starved = absurd starved
-starved_quiet key Stop (Taken should) answer starved = absurd starved
-starved_quiet key Stop (Sent (SentPacket text)) answer starved = subst (IsQuiet key Stop) (sym starved) (unsent_quiet key Stop)
-starved_quiet key Stop (Sent Nothing) answer starved = absurd starved
-starved_quiet key Stop (Sent (SentRefused why)) answer starved = absurd starved
-starved_quiet key Stop (Ticked should) answer starved = absurd starved
-starved_quiet key Stop (Halted should) answer starved = absurd starved
+starved_quiet key e should answer starved = by (starved_says e should answer starved)
+    where
+      by : (answer ≡ Sent (SentRefused OutOfMemory)) ⊎ ((r : Request) × (e ≡ Asked r) × (answer ≡ Replied (Refused OutOfMemory))) → IsQuiet key e answer
+      by (inl is) = subst (IsQuiet key e) (sym is) (unsent_quiet key e)
+      by (inr is) =
+          subst (λ x. IsQuiet key x answer) (sym is.1) (subst (IsQuiet key (Asked is.0)) (sym is.2)
+              (record { still = record { none_came = refl; none_packed = λ b. refl; none_taken = λ b n. refl }; no_tick = refl; none_added = added_refused is.0 OutOfMemory; no_stop = refl }))
 
 pub starved_moved : (key : List ℕ) (e : NodeEvent) (should answer : NodeAnswer) (v : NodeValue) → IsStarved e should answer → Moved key e answer v v
 starved_moved key e should answer v starved = quiet_moved key e answer v (starved_quiet key e should answer starved)
@@ -277,52 +287,10 @@ unsent_group plan g past Stop = (λ o. refl, λ t. refl)
 
 -- and for want of memory
 pub starved_group : (plan : NodePlan) (g : Addr) (past : List Happened) (e : NodeEvent) (should answer : NodeAnswer) → IsStarved e should answer → LeavesGroup plan g past e answer
-starved_group plan g past (Asked r) (Replied should) answer starved = subst (LeavesGroup plan g past (Asked r)) (sym starved.0) (λ o. sym (asked_refused g plan.me (noticed_in plan past) r OutOfMemory o), λ t. sym (asked_untold g plan.me (noticed_in plan past) r OutOfMemory t))
-starved_group plan g past (Asked r) (Taken should) answer starved = absurd starved
-starved_group plan g past (Asked r) (Sent (SentPacket text)) answer starved = subst (LeavesGroup plan g past (Asked r)) (sym starved) (unsent_group plan g past (Asked r))
-starved_group plan g past (Asked r) (Sent Nothing) answer starved = absurd starved
-starved_group plan g past (Asked r) (Sent (SentRefused why)) answer starved = absurd starved
-starved_group plan g past (Asked r) (Ticked should) answer starved = absurd starved
-starved_group plan g past (Asked r) (Halted should) answer starved = absurd starved
-starved_group plan g past (Came bytes) (Replied should) answer starved = absurd starved
-starved_group plan g past (Came bytes) (Taken should) answer starved = absurd starved
-starved_group plan g past (Came bytes) (Sent (SentPacket text)) answer starved = subst (LeavesGroup plan g past (Came bytes)) (sym starved) (unsent_group plan g past (Came bytes))
-starved_group plan g past (Came bytes) (Sent Nothing) answer starved = absurd starved
-starved_group plan g past (Came bytes) (Sent (SentRefused why)) answer starved = absurd starved
-starved_group plan g past (Came bytes) (Ticked should) answer starved = absurd starved
-starved_group plan g past (Came bytes) (Halted should) answer starved = absurd starved
-starved_group plan g past (Pack x) (Replied should) answer starved = absurd starved
-starved_group plan g past (Pack x) (Taken should) answer starved = absurd starved
-starved_group plan g past (Pack x) (Sent (SentPacket text)) answer starved = subst (LeavesGroup plan g past (Pack x)) (sym starved) (unsent_group plan g past (Pack x))
-starved_group plan g past (Pack x) (Sent Nothing) answer starved = absurd starved
-starved_group plan g past (Pack x) (Sent (SentRefused why)) answer starved = absurd starved
-starved_group plan g past (Pack x) (Ticked should) answer starved = absurd starved
-starved_group plan g past (Pack x) (Halted should) answer starved = absurd starved
-starved_group plan g past (Again x n) (Replied should) answer starved = absurd starved
-starved_group plan g past (Again x n) (Taken should) answer starved = absurd starved
-starved_group plan g past (Again x n) (Sent (SentPacket text)) answer starved = subst (LeavesGroup plan g past (Again x n)) (sym starved) (unsent_group plan g past (Again x n))
-starved_group plan g past (Again x n) (Sent Nothing) answer starved = absurd starved
-starved_group plan g past (Again x n) (Sent (SentRefused why)) answer starved = absurd starved
-starved_group plan g past (Again x n) (Ticked should) answer starved = absurd starved
-starved_group plan g past (Again x n) (Halted should) answer starved = absurd starved
-starved_group plan g past (Ack x) (Replied should) answer starved = absurd starved
-starved_group plan g past (Ack x) (Taken should) answer starved = absurd starved
-starved_group plan g past (Ack x) (Sent (SentPacket text)) answer starved = subst (LeavesGroup plan g past (Ack x)) (sym starved) (unsent_group plan g past (Ack x))
-starved_group plan g past (Ack x) (Sent Nothing) answer starved = absurd starved
-starved_group plan g past (Ack x) (Sent (SentRefused why)) answer starved = absurd starved
-starved_group plan g past (Ack x) (Ticked should) answer starved = absurd starved
-starved_group plan g past (Ack x) (Halted should) answer starved = absurd starved
-starved_group plan g past Tick (Replied should) answer starved = absurd starved
-starved_group plan g past Tick (Taken should) answer starved = absurd starved
-starved_group plan g past Tick (Sent (SentPacket text)) answer starved = subst (LeavesGroup plan g past Tick) (sym starved) (unsent_group plan g past Tick)
-starved_group plan g past Tick (Sent Nothing) answer starved = absurd starved
-starved_group plan g past Tick (Sent (SentRefused why)) answer starved = absurd starved
-starved_group plan g past Tick (Ticked should) answer starved = absurd starved
-starved_group plan g past Tick (Halted should) answer starved = absurd starved
-starved_group plan g past Stop (Replied should) answer starved = absurd starved
-starved_group plan g past Stop (Taken should) answer starved = absurd starved
-starved_group plan g past Stop (Sent (SentPacket text)) answer starved = subst (LeavesGroup plan g past Stop) (sym starved) (unsent_group plan g past Stop)
-starved_group plan g past Stop (Sent Nothing) answer starved = absurd starved
-starved_group plan g past Stop (Sent (SentRefused why)) answer starved = absurd starved
-starved_group plan g past Stop (Ticked should) answer starved = absurd starved
-starved_group plan g past Stop (Halted should) answer starved = absurd starved
+starved_group plan g past e should answer starved = by (starved_says e should answer starved)
+    where
+      by : (answer ≡ Sent (SentRefused OutOfMemory)) ⊎ ((r : Request) × (e ≡ Asked r) × (answer ≡ Replied (Refused OutOfMemory))) → LeavesGroup plan g past e answer
+      by (inl is) = subst (LeavesGroup plan g past e) (sym is) (unsent_group plan g past e)
+      by (inr is) =
+          subst (λ x. LeavesGroup plan g past x answer) (sym is.1) (subst (LeavesGroup plan g past (Asked is.0)) (sym is.2)
+              (λ o. sym (asked_refused g plan.me (noticed_in plan past) is.0 OutOfMemory o), λ t. sym (asked_untold g plan.me (noticed_in plan past) is.0 OutOfMemory t)))

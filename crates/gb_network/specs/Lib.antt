@@ -1,0 +1,4 @@
+pub mod NetworkValue
+pub mod NetworkStep
+pub mod Run
+pub mod Links

@@ -1,0 +1,39 @@
+-- A network as contracts see it.
+use Rattle.std.specs.Prelude.{ℕ, ◌≤◌, List, [], false, map, slice_index_or}
+use Rattle.std.specs.List.{range_with_len}
+use Rattle.gb_types.specs.declared.limits.TheConstants.{NODES, PLACES, SILENCE_MIN, SILENCE_MAX}
+use Rattle.gb_types.specs.declared.node.NodeId.{NodeId}
+use Rattle.gb_node.specs.NodeStep.{node_numbered}
+use Rattle.gb_node.specs.NodeValue.{NodeValue, new_node}
+use Rattle.gb_node.specs.declared.plan.NodePlan.{NodePlan}
+use Rattle.gb_network.specs.declared.plan.NetworkPlan.{NetworkPlan}
+use Rattle.gb_network.specs.declared.posted.Posted.{Posted}
+
+-- the nodes by their numbers, and every packet that was sent, in order
+pub record NetworkValue : Type 0 where
+  pub plan : NetworkPlan
+  pub nodes : List NodeValue
+  pub packets : List Posted
+
+abbrev pub network : NetworkPlan → List NodeValue → List Posted → NetworkValue
+network plan nodes packets = record { plan = plan; nodes = nodes; packets = packets }
+
+-- what a node is started with
+abbrev pub node_plan : NetworkPlan → NodeId → NodePlan
+node_plan plan me = record { me = me; nodes = plan.nodes; silence = plan.silence; places = plan.places; cluster_key = plan.cluster_key; admin_key = plan.admin_key; tape = false }
+
+-- a node of the network
+abbrev pub node_at : NetworkValue → NodeId → NodeValue
+node_at v a = slice_index_or v.nodes a.number (new_node (node_plan v.plan a))
+
+-- a network in which nothing has happened
+abbrev pub new_network : NetworkPlan → NetworkValue
+new_network plan = network plan (map (λ a. new_node (node_plan plan (node_numbered a))) (range_with_len 0 plan.nodes)) []
+
+-- a network may be started so
+pub record IsNetworkPlan (plan : NetworkPlan) : Type 0 where
+  pub some : 1 ≤ plan.nodes
+  pub few : plan.nodes ≤ NODES
+  pub places : plan.places ≤ PLACES
+  pub least : SILENCE_MIN ≤ plan.silence
+  pub most : plan.silence ≤ SILENCE_MAX

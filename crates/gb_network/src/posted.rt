@@ -1,0 +1,11 @@
+//! Packets that were sent.
+use gb_node::packet_text::PacketText;
+use gb_types::node::NodeId;
+
+/// A packet that was sent.
+#[derive(Drop)]
+pub struct Posted {
+    /// The node that it was sent to.
+    pub to: NodeId,
+    pub text: PacketText,
+}
