@@ -57,4 +57,4 @@ pub record IsLink (plan : NetworkPlan) (run : List Did) (a b : NodeId) : Type 0 
 -- the links of every run: whatever arrives, frames are taken once and whole, and only those that were packed
 pub record LinksHold : Type 0 where
   pub whole : (plan : NetworkPlan) (run : List Did) (v : NetworkValue) → ComesTo plan run v → IsAlwaysWhole plan run
-  pub each : (plan : NetworkPlan) (run : List Did) (v : NetworkValue) → ComesTo plan run v → (a b : NodeId) → a.number < plan.nodes → b.number < plan.nodes → IsLink plan run a b
+  pub each : (plan : NetworkPlan) (run : List Did) (v : NetworkValue) → ComesTo plan run v → (a b : NodeId) → IsLink plan run a b
