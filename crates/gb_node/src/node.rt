@@ -1,5 +1,5 @@
 //! The node.
-ghost use Rattle.std.specs.Prelude.{◌≡◌, ◌≤◌, ◌<◌, ◌+◌, [], IsSome, vec_capacity, List, true, false, length, replicate, sum_by, None, Some, MatchOption, IfOk, OnOk, OnErr};
+ghost use Rattle.std.specs.Prelude.{◌≡◌, ◌≤◌, ◌<◌, ◌+◌, [], IsSome, vec_capacity, List, true, false, length, replicate, sum_by, None, Some, MatchOption, IfOk, OnOk, OnErr, is_ok};
 ghost use Rattle.std.specs.FinSet as set;
 ghost use Rattle.gb_types.specs.declared.limits.TheConstants.{NODES as MOST, PLACES, SILENCE_MIN, SILENCE_MAX};
 ghost use Rattle.gb_frame.specs.Batch.{batch_in, IsBatch};
@@ -13,7 +13,7 @@ ghost use Rattle.gb_groups.specs.Packing.{size};
 ghost use Rattle.gb_table.specs.Requests.{is_admitted};
 ghost use Rattle.gb_node.specs.Frames.{items_in, IsHead};
 ghost use Rattle.gb_node.specs.NodeValue.{new_node};
-ghost use Rattle.gb_node.specs.NodeStep.{window_to, is_another, is_reached, content_to, batch_to, sent_batch, good_of, node_took, IsTurn, IsSpelt, IsForReason};
+ghost use Rattle.gb_node.specs.NodeStep.{window_to, is_another, is_reached, content_to, batch_to, sent_batch, read_at, good_of, node_took, IsTurn, IsSpelt, IsForReason};
 
 use crate::answer::{Good, Halted, NodeAnswer, PacketAnswer, Sent, Ticked};
 use crate::event::NodeEvent;
@@ -343,6 +343,28 @@ impl Node {
         }
     }
 
+    /// The packet for this node that bytes are, read where they lie, or what is wrong with them.
+    fn read<'a>(&self, bytes: &'a [u8]) -> Result<PacketView<'a>, PacketFault>
+        ensures { result ≡ read_at self.now bytes.now }
+    {
+        let packet = match decode(bytes, &self.key) {
+            Ok(packet) => packet,
+            Err(fault) => return Err(fault),
+        };
+        let head = packet.head();
+        if head.to != self.table.me() || head.from.number >= self.table.nodes() {
+            return Err(PacketFault::Node);
+        }
+        Ok(packet)
+    }
+
+    /// Whether bytes are a packet of the cluster for this node, stopped or not.
+    pub fn is_packet(&self, bytes: &[u8]) -> bool
+        ensures { result ≡ is_ok (read_at self.now bytes.now) }
+    {
+        self.read(bytes).is_ok()
+    }
+
     /// Takes bytes that came. They are read where they lie; after a fault nothing has changed, the detector included.
     /// Takes no memory.
     pub fn packet(&mut self, bytes: &[u8]) -> PacketAnswer
@@ -351,15 +373,9 @@ impl Node {
         if self.stopped {
             return PacketAnswer::Refused(Refusal::Stopped);
         }
-        match decode(bytes, &self.key) {
+        match self.read(bytes) {
             Err(fault) => PacketAnswer::Fault(fault),
-            Ok(packet) => {
-                let head = packet.head();
-                if head.to != self.table.me() || head.from.number >= self.table.nodes() {
-                    return PacketAnswer::Fault(PacketFault::Node);
-                }
-                PacketAnswer::Good(self.take_packet(&packet))
-            }
+            Ok(packet) => PacketAnswer::Good(self.take_packet(&packet)),
         }
     }
 
