@@ -1,6 +1,6 @@
 -- Packets say what their senders did.
 use Rattle.std.proofs.Common.{◌≡◌, ◌≢◌, ℕ, zero, suc, ◌+◌, ◌-◌, ◌<◌, ◌≤◌, inl, inr, true, false, Bool, List, [], ◌∷◌, ◌++◌, length, map, Option, Some, None, Result, Ok, Err, refl, sym, ap, subst, ◌∙◌, arith}
-use Rattle.std.specs.Prelude.{◌⊎◌, ◌&&◌, ◌||◌, not, cond, filter, find, fold, is_ok, nat_eq, nat_le, option_map, slice_get, slice_index_or, IfSome, Contains, if◌then◌else◌}
+use Rattle.std.specs.Prelude.{◌⊎◌, ◌&&◌, ◌||◌, not, cond, filter, find, fold, is_ok, nat_eq, nat_le, nat_lt, option_map, slice_get, slice_index_or, IfSome, Contains, if◌then◌else◌}
 use Rattle.std.specs.FinSet as set
 use Rattle.std.specs.List.{list_any, AllByRecursion}
 use Rattle.std.proofs.lemmas.Bool.{cases_Bool, cases_eq, eqb-true, eq-eqb}
@@ -19,12 +19,12 @@ use Rattle.gb_frame.specs.Reading.{reading}
 use Rattle.gb_frame.specs.Spelling.{packet_text, IsPacket}
 use Rattle.gb_frame.specs.Laws.{WhatIsWrittenIsRead}
 use Rattle.gb_link.specs.Received.{Received, admission}
-use Rattle.gb_link.specs.SendWindow.{SendWindow, frame_again}
+use Rattle.gb_link.specs.SendWindow.{SendWindow, has_room, frame_again}
 use Rattle.gb_link.specs.Ack.{covers}
 use Rattle.gb_link.proofs.LinkLemmas.{covered_received}
 use Rattle.gb_node.specs.NodeValue.{NodeValue}
 use Rattle.gb_node.proofs.EventLemmas.{starved_says}
-use Rattle.gb_node.specs.NodeStep.{Turn, turn, running_turn, stopped_answer, node_numbered, window_to, receiver_from, is_reached, is_another, is_here, if_here, read_at, taken_answer, good_of, next_batch, content_to, pack_content, again_content, ack_content, sent, sent_content, IsStarved, IsTurn, IsSpelt}
+use Rattle.gb_node.specs.NodeStep.{Turn, turn, running_turn, stopped_answer, node_numbered, window_to, receiver_from, is_reached, is_another, is_here, if_here, read_at, taken_answer, good_of, batch_to, unless_empty, next_batch, content_to, pack_content, again_content, ack_content, sent, sent_content, IsStarved, IsTurn, IsSpelt}
 use Rattle.gb_node.specs.Past.{Happened, read, packet_in, packed_for, frames_to, numbered, is_taken, is_taken_by, is_acked}
 use Rattle.gb_node.specs.PastLaw.{IsOfPast, PastsSay}
 use Rattle.gb_node.specs.declared.answer.NodeAnswer.{NodeAnswer}
@@ -99,6 +99,7 @@ honest_more plan run d p h = record {
   sender = h.sender;
   inside = h.inside;
   goal = h.goal;
+  reaches = h.reaches;
   frame = λ some. frames_more plan.cluster_key p.to.number (h.content.frame - 1) h.content.items h.from d run (h.frame some);
   acks = λ n from is. taken_more plan.cluster_key p.to.number n h.from d run (h.acks n from is);
 }
@@ -201,17 +202,39 @@ module _ (law : WhatIsWrittenIsRead) (plan : NetworkPlan) (a : NodeId) (inside :
   acks_are : (b : NodeId) (frame : ℕ) (items : List Item) (n : ℕ) → 1 ≤ n → covers (content_to v b frame items).base (content_to v b frame items).mask n ≡ true → is_taken plan.cluster_key b.number n past ≡ true
   acks_are b frame items n from is = sym (was.received b n) ∙ covered_received (receiver_from v b.number) n from is
 
+  another_in : (b : NodeId) → is_another v b ≡ true → b.number < plan.nodes
+  another_in b other = by (nat_lt b.number v.table.nodes) refl other
+    where
+      by : (t : Bool) → nat_lt b.number v.table.nodes ≡ t → (t && not (nat_eq b.number v.table.me.number)) ≡ true → b.number < plan.nodes
+      by true is e = let n = was.nodes in let l : b.number < v.table.nodes = grind (arith, nat_tests, is) in omega (arith, n, l)
+      by false is e = absurd (cc)
+
+  and_left : (t u : Bool) → (t && u) ≡ true → t ≡ true
+  and_left true u e = refl
+  and_left false u e = absurd (cc)
+
+  reached_another : (b : NodeId) → is_reached v b ≡ true → is_another v b ≡ true
+  reached_another b e = and_left (is_another v b) (not (set.contains v.watch.noticed b.number)) e
+
+  batch_reached : (b : NodeId) (items : List Item) → next_batch v b ≡ Some items → is_another v b ≡ true
+  batch_reached b items e = by (is_reached v b) (has_room (window_to v b.number)) refl e
+    where
+      by : (t u : Bool) → is_reached v b ≡ t → (if t && u then unless_empty (batch_to v.table b) else None) ≡ Some items → is_another v b ≡ true
+      by true u is e = reached_another b is
+      by false u is e = absurd (cc)
+
   -- with a frame of the node's past with what happens now
   module _ (run : List Did) (past_is : past_at a run ≡ past) (d : Did) (here : d.node ≡ a) where
-    honest : (b : NodeId) (text : List ℕ) (frame : ℕ) (items : List Item) → text ≡ packet_text v.key (content_to v b frame items) → IsPacket (content_to v b frame items)
+    honest : (b : NodeId) (text : List ℕ) (frame : ℕ) (items : List Item) → is_another v b ≡ true → text ≡ packet_text v.key (content_to v b frame items) → IsPacket (content_to v b frame items)
         → (frame ≢ 0 → slice_get (frames_to plan.cluster_key b.number (past_at a (d ∷ run))) (frame - 1) ≡ Some items) → IsHonest plan (d ∷ run) (record { to = b; text = text })
-    honest b text frame items is fit framed = record {
+    honest b text frame items other is fit framed = record {
       content = content_to v b frame items;
       from = a;
       text = read_is text (content_to v b frame items) is fit;
       sender = ap (λ (x : NodeId). x.number) was.me;
       inside = inside;
       goal = refl;
+      reaches = another_in b other;
       frame = framed;
       acks = λ n from covered. taken_more plan.cluster_key b.number n a d run (ap (is_taken plan.cluster_key b.number n) past_is ∙ acks_are b frame items n from covered);
     }
@@ -234,26 +257,26 @@ module _ (law : WhatIsWrittenIsRead) (plan : NetworkPlan) (a : NodeId) (inside :
         let longer : frames_to plan.cluster_key b.number (past_at a (d ∷ run)) ≡ fs ++ items ∷ [] =
             ap (frames_to plan.cluster_key b.number) (past_same a d run (ap (λ (x : NodeId). x.number) here) ∙ ap (λ hs. h ∷ hs) past_is) ∙ ap (λ gs. fs ++ gs) one in
         let number = was.next b in
-        honest b text next items text_is fit (λ some. ap (λ gs. slice_get gs (next - 1)) longer ∙ get_last fs items (next - 1) (omega (arith, number)))
+        honest b text next items (batch_reached b items batch) text_is fit (λ some. ap (λ gs. slice_get gs (next - 1)) longer ∙ get_last fs items (next - 1) (omega (arith, number)))
 
-    again_honest : (b : NodeId) (n : ℕ) (text : List ℕ) (o : Option (ℕ × List Item)) → frame_again (window_to v b.number) n ≡ o
+    again_honest : (b : NodeId) (n : ℕ) (text : List ℕ) (o : Option (ℕ × List Item)) → is_another v b ≡ true → frame_again (window_to v b.number) n ≡ o
         → Says v (option_map (λ u. content_to v b u.0 u.1) o) text → IsHonest plan (d ∷ run) (record { to = b; text = text })
-    again_honest b n text None frame said = absurd (let x = said.is in cc)
-    again_honest b n text (Some u) frame said =
+    again_honest b n text None other frame said = absurd (let x = said.is in cc)
+    again_honest b n text (Some u) other frame said =
         let c = content_to v b u.0 u.1 in
         let same : c ≡ said.content = let x = said.is in cc in
         let text_is : text ≡ packet_text v.key c = said.text_is ∙ ap (packet_text v.key) (sym same) in
         let fs = frames_to plan.cluster_key b.number past in
         let was_packed = again_frame (window_to v b.number) n u fs (λ w. not (is_acked plan.cluster_key b.number w.0 past)) (was.undone b) frame in
-        honest b text u.0 u.1 text_is (subst IsPacket (sym same) said.fit)
+        honest b text u.0 u.1 other text_is (subst IsPacket (sym same) said.fit)
             (λ some. frames_more plan.cluster_key b.number (u.0 - 1) u.1 a d run (ap (λ hs. slice_get (frames_to plan.cluster_key b.number hs) (u.0 - 1)) past_is ∙ was_packed.1))
 
-    ack_honest : (b : NodeId) (text : List ℕ) (another : Bool) → Says v (if another then Some (content_to v b 0 []) else None) text → IsHonest plan (d ∷ run) (record { to = b; text = text })
-    ack_honest b text false said = absurd (let x = said.is in cc)
-    ack_honest b text true said =
+    ack_honest : (b : NodeId) (text : List ℕ) (another : Bool) → is_another v b ≡ another → Says v (if another then Some (content_to v b 0 []) else None) text → IsHonest plan (d ∷ run) (record { to = b; text = text })
+    ack_honest b text false other said = absurd (let x = said.is in cc)
+    ack_honest b text true other said =
         let c = content_to v b 0 [] in
         let same : c ≡ said.content = let x = said.is in cc in
-        honest b text 0 [] (said.text_is ∙ ap (packet_text v.key) (sym same)) (subst IsPacket (sym same) said.fit) (λ some. absurd (some refl))
+        honest b text 0 [] other (said.text_is ∙ ap (packet_text v.key) (sym same)) (subst IsPacket (sym same) said.fit) (λ some. absurd (some refl))
 
     sent_honest : (e : NodeEvent) (text : List ℕ) (w : NodeValue) → d.event ≡ e → d.answer ≡ Sent (SentPacket text) → IsTurn v e (Sent (SentPacket text)) w → IsSpelt v e (Sent (SentPacket text))
         → (p : Posted) (j : ℕ) → slice_get (posted e (Sent (SentPacket text))) j ≡ Some p → IsHonest plan (d ∷ run) p
@@ -261,14 +284,14 @@ module _ (law : WhatIsWrittenIsRead) (plan : NetworkPlan) (a : NodeId) (inside :
         subst (IsHonest plan (d ∷ run)) (one b text p j e)
             (pack_honest b text (next_batch v b) refl event answer (says v (pack_content v b) text spelt (sends v (Pack b) text w (λ x. cc) turned)))
     sent_honest (Again b n) text w event answer turned spelt p j e =
-        subst (IsHonest plan (d ∷ run)) (one b text p j e) (by (is_reached v b) spelt (sends v (Again b n) text w (λ x. cc) turned))
+        subst (IsHonest plan (d ∷ run)) (one b text p j e) (by (is_reached v b) refl spelt (sends v (Again b n) text w (λ x. cc) turned))
       where
-        by : (reached : Bool) → IfSome (if reached then option_map (λ u. content_to v b u.0 u.1) (frame_again (window_to v b.number) n) else None) IsPacket
+        by : (reached : Bool) → is_reached v b ≡ reached → IfSome (if reached then option_map (λ u. content_to v b u.0 u.1) (frame_again (window_to v b.number) n) else None) IsPacket
             → Sent (SentPacket text) ≡ Sent (sent v (if reached then option_map (λ u. content_to v b u.0 u.1) (frame_again (window_to v b.number) n) else None)) → IsHonest plan (d ∷ run) (record { to = b; text = text })
-        by true fit same = again_honest b n text (frame_again (window_to v b.number) n) refl (says v (option_map (λ u. content_to v b u.0 u.1) (frame_again (window_to v b.number) n)) text fit same)
-        by false fit same = absurd (cc)
+        by true is fit same = again_honest b n text (frame_again (window_to v b.number) n) (reached_another b is) refl (says v (option_map (λ u. content_to v b u.0 u.1) (frame_again (window_to v b.number) n)) text fit same)
+        by false is fit same = absurd (cc)
     sent_honest (Ack b) text w event answer turned spelt p j e =
-        subst (IsHonest plan (d ∷ run)) (one b text p j e) (ack_honest b text (is_another v b) (says v (ack_content v b) text spelt (sends v (Ack b) text w (λ x. cc) turned)))
+        subst (IsHonest plan (d ∷ run)) (one b text p j e) (ack_honest b text (is_another v b) refl (says v (ack_content v b) text spelt (sends v (Ack b) text w (λ x. cc) turned)))
     sent_honest (Asked r) text w event answer turned spelt p j e = absurd (cc)
     sent_honest (Came bytes) text w event answer turned spelt p j e = absurd (cc)
     sent_honest Tick text w event answer turned spelt p j e = absurd (cc)

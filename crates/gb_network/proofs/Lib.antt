@@ -1,3 +1,4 @@
 pub mod NodesLemmas
 pub mod HonestLemmas
 pub mod LinkLemmas
+pub mod CodeLemmas

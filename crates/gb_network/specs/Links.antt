@@ -15,7 +15,7 @@ use Rattle.gb_network.specs.Run.{Did, ComesTo, past_at}
 use Rattle.gb_network.specs.declared.plan.NetworkPlan.{NetworkPlan}
 use Rattle.gb_network.specs.declared.posted.Posted.{Posted}
 
--- A packet that was sent says what its sender did: its frame is the one that was packed under the number, and it acknowledges
+-- A packet that was sent goes from one node of the network to another, and says what its sender did: its frame is the one that was packed under the number, and it acknowledges
 -- only frames that were taken.
 pub record IsHonest (plan : NetworkPlan) (run : List Did) (p : Posted) : Type 0 where
   pub content : Content
@@ -24,6 +24,7 @@ pub record IsHonest (plan : NetworkPlan) (run : List Did) (p : Posted) : Type 0 
   pub sender : content.from ≡ from.number
   pub inside : from.number < plan.nodes
   pub goal : content.to ≡ p.to.number
+  pub reaches : p.to.number < plan.nodes
   pub frame : content.frame ≢ 0 → slice_get (frames_to plan.cluster_key p.to.number (past_at from run)) (content.frame - 1) ≡ Some content.items
   pub acks : (n : ℕ) → 1 ≤ n → covers content.base content.mask n ≡ true → is_taken plan.cluster_key p.to.number n (past_at from run) ≡ true
 

@@ -53,6 +53,15 @@ answer_of count (Sent s) = AnswerSent (sending count s)
 answer_of count (Ticked ticked) = AnswerTicked ticked
 answer_of count (Halted halted) = AnswerHalted halted
 
+-- a node takes an event, where these packets were sent before it and those after it
+pub record IsNodeTurn (old : NodeValue) (event : NodeEvent) (before : List Posted) (answer : Answer) (new : NodeValue) (after : List Posted) : Type 0 where
+  pub own : NodeAnswer
+  pub turn : IsTurn old event own new
+  pub spelt : IsSpelt old event own
+  pub reason : IsForReason old event own
+  pub answered : answer ≡ answer_of (length before) own
+  pub sent : after ≡ before ++ posted event own
+
 -- an event at a node
 abbrev pub IsAt : NetworkValue → NodeId → NodeEvent → Answer → NetworkValue → Type 0
 IsAt old a event answer new = (own : NodeAnswer) × NodeActs old a event own new × (answer ≡ answer_of (length old.packets) own)
@@ -80,3 +89,7 @@ IsStep old (Arrive k) answer new = IsArrival old (packet_numbered old.packets k)
 abbrev pub IsPlaced : ℕ → Event → Type 0
 IsPlaced nodes (At a event) = a.number < nodes
 IsPlaced nodes (Arrive k) = Unit {0}
+
+-- each packet goes to one of so many nodes
+abbrev pub AreForNodes : ℕ → List Posted → Type 0
+AreForNodes nodes packets = (k : ℕ) (p : Posted) → slice_get packets k ≡ Some p → p.to.number < nodes

@@ -1,5 +1,5 @@
 -- Runs of a network: what happened at its nodes, the newest first.
-use Rattle.std.specs.Prelude.{ℕ, ◌≡◌, ◌<◌, List, [], ◌∷◌, true, nat_eq, Contains, if◌then◌else◌}
+use Rattle.std.specs.Prelude.{ℕ, ◌≡◌, ◌⊎◌, ◌<◌, List, [], ◌∷◌, true, nat_eq, Contains, if◌then◌else◌}
 use Rattle.gb_types.specs.declared.node.NodeId.{NodeId}
 use Rattle.gb_node.specs.Past.{Happened, ComesTo as NodeComesTo}
 use Rattle.gb_node.specs.declared.answer.NodeAnswer.{NodeAnswer}
@@ -28,6 +28,10 @@ ComesTo plan (d ∷ run) v = (before : NetworkValue) × ComesTo plan run before 
 -- a network that was started comes to this by some run
 abbrev pub IsReached : NetworkValue → Type 0
 IsReached v = (run : List Did) × ComesTo v.plan run v
+
+-- what was a run goes on: nothing happened at any node, or something did
+abbrev pub GoesOn : NetworkValue → NetworkValue → Type 0
+GoesOn old new = (run : List Did) → ComesTo old.plan run old → ComesTo old.plan run new ⊎ ((d : Did) × ComesTo old.plan (d ∷ run) new)
 
 -- what happened at one node
 unfoldable pub past_at : NodeId → List Did → List Happened

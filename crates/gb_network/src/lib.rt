@@ -6,6 +6,6 @@
 pub mod answer;
 pub mod event;
 pub mod laws;
-
+pub mod network;
 pub mod plan;
 pub mod posted;
