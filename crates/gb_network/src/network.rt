@@ -1,5 +1,5 @@
 //! The nodes of a cluster and every packet that they sent.
-ghost use Rattle.std.specs.Prelude.{◌≡◌, ◌<◌, ◌++◌, [], List, length, vec_len, vec_capacity, IfOk, OnErr};
+ghost use Rattle.std.specs.Prelude.{◌≡◌, ◌<◌, ◌↔◌, ◌++◌, [], List, IsTrue, length, vec_len, vec_capacity, IfOk, OnErr};
 ghost use Rattle.gb_network.specs.NetworkStep.{posted_to, sending, is_packet_for, AreForNodes, IsNodeTurn, IsPlaced, IsStep};
 ghost use Rattle.gb_network.specs.NetworkValue.{network, new_network, IsNetworkPlan};
 ghost use Rattle.gb_network.specs.Run.{ComesTo, GoesOn};
@@ -164,6 +164,23 @@ impl Network {
         ensures { result ≡ length self.now.nodes }
     {
         self.nodes.len()
+    }
+
+    /// Whether the node that acts is one of the network's.
+    pub fn is_placed(&self, event: &Event) -> bool
+        ensures { IsTrue result ↔ IsPlaced (length self.now.nodes) event.now }
+    {
+        match event {
+            Event::At(at, _) => at.index() < self.nodes.len(),
+            Event::Arrive(_) => true,
+        }
+    }
+
+    /// Every packet that was sent, in order.
+    pub fn packets(&self) -> &[Posted]
+        ensures { result.now ≡ self.now.packets }
+    {
+        self.packets.as_slice()
     }
 
     /// One event. `Err` says that the network itself had no memory for one more packet, and nothing has changed; a
