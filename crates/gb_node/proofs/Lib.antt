@@ -7,3 +7,5 @@ pub mod PastLemmas
 pub mod EventLemmas
 pub mod LinkLemmas
 pub mod InductionLemmas
+pub mod ReadLemmas
+pub mod SetLemmas
