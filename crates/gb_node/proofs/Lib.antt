@@ -9,3 +9,5 @@ pub mod LinkLemmas
 pub mod InductionLemmas
 pub mod GroupLemmas
 pub mod ToldLemmas
+pub mod ReadLemmas
+pub mod SetLemmas

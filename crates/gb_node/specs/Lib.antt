@@ -4,3 +4,4 @@ pub mod NodeStep
 pub mod Past
 pub mod PastGroups
 pub mod PastLaw
+pub mod Reads

@@ -1,9 +1,16 @@
 //! What comes of an event at a node.
+ghost use Rattle.std.specs.Prelude.{◌≡◌, ◌↔◌, [], IfOk, IsTrue, vec_capacity};
+ghost use Rattle.gb_node.specs.Reads.{IsWithin};
+
+use crate::copies::{copy_sent, copy_ticked, reply_copied, sent_in_room};
 use crate::packet_text::PacketText;
+use crate::same::{same_reply, same_sent, same_taken, same_ticked};
 use gb_frame::fault::PacketFault;
+use gb_types::memory::OutOfMemory;
 use gb_types::node::{NodeId, NodeSet};
 use gb_types::refusal::Refusal;
 use gb_types::reply::Reply;
+use std::alloc::Global;
 
 /// What comes of an event at a node, one variant for each kind of event; the three kinds of sending have one.
 #[derive(Drop)]
@@ -77,4 +84,48 @@ pub enum Halted {
     Done,
     /// Stopped: it had stopped before.
     Refused(Refusal),
+}
+
+impl NodeAnswer {
+    /// The same answer, copied.
+    pub fn duplicate(&self, alloc: Global) -> Result<NodeAnswer, OutOfMemory>
+        ensures { IfOk result (λ a. a ≡ self.now) }
+    {
+        Ok(match self {
+            NodeAnswer::Reply(reply) => NodeAnswer::Reply(reply.duplicate(alloc)?),
+            NodeAnswer::Taken(taken) => NodeAnswer::Taken(*taken),
+            NodeAnswer::Sent(sent) => NodeAnswer::Sent(copy_sent(alloc, sent)?),
+            NodeAnswer::Ticked(ticked) => NodeAnswer::Ticked(copy_ticked(ticked)),
+            NodeAnswer::Halted(halted) => NodeAnswer::Halted(*halted),
+        })
+    }
+
+    /// The same answer, which is no log; its packet, if it has one, is copied into an empty vector with room for it.
+    pub fn in_room(&self, room: Vec<u8>) -> NodeAnswer
+        requires empty { room.items ≡ [] }
+        requires room { IsWithin (vec_capacity room) self.now }
+        ensures { result ≡ self.now }
+    {
+        match self {
+            NodeAnswer::Reply(reply) => NodeAnswer::Reply(reply_copied(reply)),
+            NodeAnswer::Taken(taken) => NodeAnswer::Taken(*taken),
+            NodeAnswer::Sent(sent) => NodeAnswer::Sent(sent_in_room(sent, room)),
+            NodeAnswer::Ticked(ticked) => NodeAnswer::Ticked(copy_ticked(ticked)),
+            NodeAnswer::Halted(halted) => NodeAnswer::Halted(*halted),
+        }
+    }
+
+    /// Whether it is the other answer.
+    pub fn is(&self, other: &NodeAnswer) -> bool
+        ensures { IsTrue result ↔ (self.now ≡ other.now) }
+    {
+        match (self, other) {
+            (NodeAnswer::Reply(a), NodeAnswer::Reply(b)) => same_reply(a, b),
+            (NodeAnswer::Taken(a), NodeAnswer::Taken(b)) => same_taken(a, b),
+            (NodeAnswer::Sent(a), NodeAnswer::Sent(b)) => same_sent(a, b),
+            (NodeAnswer::Ticked(a), NodeAnswer::Ticked(b)) => same_ticked(a, b),
+            (NodeAnswer::Halted(a), NodeAnswer::Halted(b)) => *a == *b,
+            _ => false,
+        }
+    }
 }

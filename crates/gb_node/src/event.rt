@@ -1,7 +1,14 @@
 //! What happens at a node.
+ghost use Rattle.std.specs.Prelude.{◌≡◌, ◌↔◌, IfOk, IsTrue};
+ghost use Rattle.gb_node.specs.Reads.{is_read};
+
+use crate::copies::{copy_request, copy_text};
 use crate::packet_text::PacketText;
+use crate::same::{same_node, same_request, same_text};
+use gb_types::memory::OutOfMemory;
 use gb_types::node::NodeId;
 use gb_types::request::Request;
+use std::alloc::Global;
 
 /// What happens at a node.
 #[derive(Drop)]
@@ -21,4 +28,49 @@ pub enum NodeEvent {
     Tick,
     /// The node stops, for good.
     Stop,
+}
+
+impl NodeEvent {
+    /// The same event, copied.
+    pub fn duplicate(&self, alloc: Global) -> Result<NodeEvent, OutOfMemory>
+        ensures { IfOk result (λ e. e ≡ self.now) }
+    {
+        Ok(match self {
+            NodeEvent::Request(request) => NodeEvent::Request(copy_request(alloc, request)?),
+            NodeEvent::Packet(bytes) => NodeEvent::Packet(copy_text(alloc, bytes)?),
+            NodeEvent::Pack(to) => NodeEvent::Pack(*to),
+            NodeEvent::Again(to, number) => NodeEvent::Again(*to, *number),
+            NodeEvent::Ack(to) => NodeEvent::Ack(*to),
+            NodeEvent::Tick => NodeEvent::Tick,
+            NodeEvent::Stop => NodeEvent::Stop,
+        })
+    }
+
+    /// Whether it only reads: whatever the answer is, the node stays as it was.
+    pub fn only_reads(&self) -> bool
+        ensures { result ≡ is_read self.now }
+    {
+        match self {
+            NodeEvent::Request(Request::Fetch(_, _, _, _)) => true,
+            NodeEvent::Again(_, _) => true,
+            NodeEvent::Ack(_) => true,
+            _ => false,
+        }
+    }
+
+    /// Whether it is the other event.
+    pub fn is(&self, other: &NodeEvent) -> bool
+        ensures { IsTrue result ↔ (self.now ≡ other.now) }
+    {
+        match (self, other) {
+            (NodeEvent::Request(a), NodeEvent::Request(b)) => same_request(a, b),
+            (NodeEvent::Packet(a), NodeEvent::Packet(b)) => same_text(a, b),
+            (NodeEvent::Pack(a), NodeEvent::Pack(b)) => same_node(*a, *b),
+            (NodeEvent::Again(a, m), NodeEvent::Again(b, n)) => same_node(*a, *b) && *m == *n,
+            (NodeEvent::Ack(a), NodeEvent::Ack(b)) => same_node(*a, *b),
+            (NodeEvent::Tick, NodeEvent::Tick) => true,
+            (NodeEvent::Stop, NodeEvent::Stop) => true,
+            _ => false,
+        }
+    }
 }

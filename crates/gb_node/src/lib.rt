@@ -4,11 +4,14 @@
 #![tactic(auto)]
 
 pub mod answer;
+pub mod copies;
 pub mod event;
 pub mod node;
 pub mod packet;
 pub mod packet_text;
 pub mod past;
 pub mod plan;
+pub mod same;
 pub mod taking;
+pub mod tape;
 pub mod window;

@@ -13,6 +13,7 @@ ghost use Rattle.gb_groups.specs.Packing.{size};
 ghost use Rattle.gb_table.specs.Requests.{is_admitted};
 ghost use Rattle.gb_node.specs.Frames.{items_in, IsHead};
 ghost use Rattle.gb_node.specs.NodeValue.{new_node};
+ghost use Rattle.gb_node.specs.Reads.{is_read, room_of, IsWithin};
 ghost use Rattle.gb_node.specs.NodeStep.{window_to, is_another, is_reached, content_to, batch_to, sent_batch, read_at, good_of, node_took, IsTurn, IsSpelt, IsForReason};
 
 use crate::answer::{Good, Halted, NodeAnswer, PacketAnswer, Sent, Ticked};
@@ -403,7 +404,19 @@ impl Node {
     }
 
     /// One event.
+    #[tactic(auto, using(crate::proofs::ReadLemmas::reads))]
     pub fn take(&mut self, event: &NodeEvent) -> NodeAnswer
+        ensures turn { IsTurn self.old event.now result self.new }
+        ensures spelt { IsSpelt self.old event.now result }
+        ensures reason { IsForReason self.old event.now result }
+        ensures read { is_read event.now ≡ true → self.new ≡ self.old }
+        ensures room { is_read event.now ≡ false → IsWithin (room_of event.now) result }
+    {
+        self.happen(event)
+    }
+
+    /// One event, by its kind.
+    fn happen(&mut self, event: &NodeEvent) -> NodeAnswer
         ensures turn { IsTurn self.old event.now result self.new }
         ensures spelt { IsSpelt self.old event.now result }
         ensures reason { IsForReason self.old event.now result }

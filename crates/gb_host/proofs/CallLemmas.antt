@@ -1,0 +1,78 @@
+-- The calls in a tape and in a list, an entry further.
+use Rattle.std.proofs.Common.{◌≡◌, ◌≢◌, ℕ, zero, suc, ◌+◌, ◌<◌, ◌≤◌, ◌==◌, ◌↔◌, Bool, true, false, List, [], ◌∷◌, ◌++◌, length, refl, sym, ap, ap₂, subst, ◌∙◌, arith, cond, eqb, Option, Some, None, IfNone, get_or, set, drop, inl, inr}
+use Rattle.std.proofs.lemmas.Bool.{ne_eqb, eq-eqb}
+use Rattle.std.proofs.lemmas.Bool.Decides.{eqb_tells}
+use Rattle.std.proofs.lemmas.List.{get_or-set_same, get_or-set_other}
+use Rattle.gb_node.specs.declared.event.NodeEvent.{NodeEvent}
+use Rattle.gb_node.specs.declared.answer.NodeAnswer.{NodeAnswer}
+use Rattle.gb_node.specs.declared.tape.TapeEntry.{TapeEntry}
+use Rattle.gb_host.specs.Calls.{Call, calls_of, calls_at, numbered}
+use Rattle.gb_host.specs.Closing.{tape_at, list_at, IsOther}
+use Rattle.gb_host.specs.Walk.{cursor_at, left_at, left_of, AreBounded, HasMoved, IsWalked}
+use Rattle.gb_host.specs.declared.compare.Cursor.{Cursor}
+use Rattle.gb_host.specs.declared.entry.SeatEntry.{SeatEntry}
+
+pub at_hit : (node : ℕ) (e : SeatEntry) (es : List SeatEntry) → e.node.number ≡ node → calls_at node (e ∷ es) ≡ (e.event, e.answer) ∷ calls_at node es
+at_hit node e es h = ap (λ b. cond b ((e.event, e.answer) ∷ calls_at node es) (calls_at node es)) (eq-eqb e.node.number node h)
+
+pub at_miss : (node : ℕ) (e : SeatEntry) (es : List SeatEntry) → e.node.number ≢ node → calls_at node (e ∷ es) ≡ calls_at node es
+at_miss node e es h = ap (λ b. cond b ((e.event, e.answer) ∷ calls_at node es) (calls_at node es)) (ne_eqb e.node.number node h)
+
+-- an entry with its count, as a call
+abbrev pub call_of : TapeEntry → ℕ × Call
+call_of e = (e.count, (e.event, e.answer))
+
+pub of_hit : (seat : ℕ) (e : TapeEntry) (es : List TapeEntry) → e.seat ≡ seat → calls_of seat (e ∷ es) ≡ call_of e ∷ calls_of seat es
+of_hit seat e es h = ap (λ b. cond b (call_of e ∷ calls_of seat es) (calls_of seat es)) (eq-eqb e.seat seat h)
+
+pub of_miss : (seat : ℕ) (e : TapeEntry) (es : List TapeEntry) → e.seat ≢ seat → calls_of seat (e ∷ es) ≡ calls_of seat es
+of_miss seat e es h = ap (λ b. cond b (call_of e ∷ calls_of seat es) (calls_of seat es)) (ne_eqb e.seat seat h)
+
+-- A walk.
+
+first_of : (b : Bool) (x : ℕ × Call) (xs : List (ℕ × Call)) → cond b (x ∷ xs) xs ≡ cond b (x ∷ []) [] ++ xs
+first_of true x xs = refl
+first_of false x xs = refl
+
+of_cons : (s : ℕ) (e : TapeEntry) (es : List TapeEntry) → calls_of s (e ∷ es) ≡ calls_of s (e ∷ []) ++ calls_of s es
+of_cons s e es = first_of (e.seat == s) (call_of e) (calls_of s es)
+
+cancel : {X : Type 0} (xs ys zs : List X) → xs ++ ys ≡ xs ++ zs → ys ≡ zs
+cancel [] ys zs h = h
+cancel (x ∷ xs) ys zs h = cancel xs ys zs cc
+
+pub walked_more : (node : ℕ) (tape : List TapeEntry) (lists : List (List SeatEntry)) (e : TapeEntry) (left : List TapeEntry) (old new : List Cursor) → IsWalked node tape lists (e ∷ left) old → HasMoved node e lists old new → IsWalked node tape lists left new
+walked_more node tape lists e left old new walked step s =
+    let now = walked s in (
+      λ h. cancel (calls_of s (e ∷ [])) (calls_of s left) (left_of node lists new s) (sym (of_cons s e left) ∙ (now.0 h ∙ step s)),
+      λ h. now.1 (of_cons s e left ∙ (ap (λ cs. calls_of s (e ∷ []) ++ cs) h ∙ sym (step s))),
+    )
+
+-- a walk that has not begun
+pub walked_new : (node : ℕ) (tape : List TapeEntry) (lists : List (List SeatEntry)) (cursors : List Cursor) → ((s : ℕ) → left_of node lists cursors s ≡ numbered 0 (calls_at node (list_at lists s))) → IsWalked node tape lists tape cursors
+walked_new node tape lists cursors new s = (λ h. h ∙ sym (new s), λ h. h ∙ new s)
+
+-- and one that has ended
+pub walked_all : (node : ℕ) (tape : List TapeEntry) (lists : List (List SeatEntry)) (left : List TapeEntry) (cursors : List Cursor) → IsWalked node tape lists left cursors → left ≡ [] → ((s : ℕ) → left_of node lists cursors s ≡ [])
+    → (s : ℕ) → calls_of s tape ≡ numbered 0 (calls_at node (list_at lists s))
+walked_all node tape lists left cursors walked ended none s = (walked s).1 (ap (calls_of s) ended ∙ sym (none s))
+
+-- Past the end.
+
+pub past_end : {X : Type 0} (xs : List (List X)) (k : ℕ) → length xs ≤ k → get_or xs k [] ≡ []
+past_end [] k h = refl
+past_end (x ∷ xs) zero h = absurd (omega arith)
+past_end (x ∷ xs) (suc k) h = past_end xs k (omega arith)
+
+numbered_none : (n : ℕ) (cs : List Call) → numbered n cs ≡ [] → cs ≡ []
+numbered_none n [] h = refl
+numbered_none n (c ∷ cs) h = absurd cc
+
+-- a call at a node without a tape
+pub misplaced_differs : (tapes : List (List TapeEntry)) (s k : ℕ) (list : List SeatEntry) → length tapes ≤ k → calls_at k list ≢ [] → IsOther tapes s list
+misplaced_differs tapes s k list past some =
+    (k, λ same. some (numbered_none 0 (calls_at k list) (sym same ∙ ap (calls_of s) (past_end tapes k past))))
+
+pub none_map : {X : Type 0} (o : Option X) (P Q : Type 0) → (P → Q) → IfNone o P → IfNone o Q
+none_map None P Q f h = f h
+none_map (Some x) P Q f h = h

@@ -1,0 +1,74 @@
+-- Gathering lists by number.
+use Rattle.std.proofs.Common.{◌≡◌, ◌≢◌, ℕ, ◌+◌, ◌<◌, ◌≤◌, ◌==◌, Bool, true, false, List, [], ◌∷◌, ◌++◌, length, refl, sym, ap, ◌∙◌, arith, cond, eqb, get_or, set, append_assoc, rules, sum_by, inl, inr, ⊎_elim, ◌⊎◌, subst}
+use Rattle.std.proofs.lemmas.Bool.{false≢true}
+use Rattle.std.proofs.lemmas.Bool.Decides.{eqb_tells}
+use Rattle.std.proofs.lemmas.List.{length-set, get_or-set_same, get_or-set_other}
+use Rattle.std.proofs.lemmas.List.Sums.{sum_by-set, sum_by-append}
+use Rattle.std.proofs.lemmas.Grind.{common_steps}
+use Rattle.gb_host.specs.declared.entry.SeatEntry.{SeatEntry}
+use Rattle.gb_host.specs.SeatValue.{SeatValue}
+use Rattle.gb_host.specs.Closing.{list_at, list_of, seat_entries, Gathered}
+
+append_nil : {X : Type 0} (xs : List X) → xs ≡ xs ++ []
+append_nil [] = refl
+append_nil (x ∷ xs) = ap (λ ys. x ∷ ys) (append_nil xs)
+
+pub blank_more : (xs : List (List SeatEntry)) → ((s : ℕ) → list_at xs s ≡ []) → (s : ℕ) → list_at (xs ++ [] ∷ []) s ≡ []
+blank_more xs h s = let k = h s in grind (arith, common_steps, k)
+
+pub gathered_start : (all : List SeatValue) (lists : List (List SeatEntry)) (given : List Bool) → ((s : ℕ) → list_at lists s ≡ []) → length given ≡ length lists → sum_by length lists ≡ 0 → Gathered all all lists given
+gathered_start all lists given blank as_many sum = record {
+  late = [];
+  split = append_nil all;
+  kept = blank;
+  free = λ s _. blank s;
+  as_many = as_many;
+  sum = sum;
+}
+
+list_kept : (x : SeatValue) (late : List SeatValue) (lists : List (List SeatEntry)) (s : ℕ) → ((s : ℕ) → list_at lists s ≡ list_of late s) → x.number < length lists
+    → ((eqb x.number s ≡ true) × (x.number ≡ s)) ⊎ ((eqb x.number s ≡ false) × (x.number ≢ s)) → list_at (set lists x.number x.list) s ≡ list_of (x ∷ late) s
+list_kept x late lists s kept under (inl h) =
+    let e : list_of (x ∷ late) s ≡ x.list = ap (λ b. cond b x.list (list_of late s)) h.0 in
+    let f : list_at (set lists x.number x.list) x.number ≡ x.list = get_or-set_same lists x.number x.list [] under in
+    ap (λ n. list_at (set lists x.number x.list) n) (sym h.1) ∙ (f ∙ sym e)
+list_kept x late lists s kept under (inr h) =
+    let e : list_of (x ∷ late) s ≡ list_of late s = ap (λ b. cond b x.list (list_of late s)) h.0 in
+    let f : list_at (set lists x.number x.list) s ≡ list_at lists s = get_or-set_other lists x.number s x.list [] (λ p. h.1 (sym p)) in
+    f ∙ (kept s ∙ sym e)
+
+still_free : (n s : ℕ) (list : List SeatEntry) (lists : List (List SeatEntry)) (given : List Bool) → ((s : ℕ) → get_or given s true ≡ false → list_at lists s ≡ []) → length given ≡ length lists
+    → ((eqb n s ≡ true) × (n ≡ s)) ⊎ ((eqb n s ≡ false) × (n ≢ s)) → n < length lists → get_or (set given n true) s true ≡ false → list_at (set lists n list) s ≡ []
+still_free n s list lists given free as_many (inl h) under not =
+    let f : get_or (set given n true) n true ≡ true = get_or-set_same given n true true (omega arith) in
+    let g : get_or (set given n true) n true ≡ false = ap (λ m. get_or (set given n true) m true) h.1 ∙ not in
+    absurd (false≢true (sym g ∙ f))
+still_free n s list lists given free as_many (inr h) under not =
+    get_or-set_other lists n s list [] (λ p. h.1 (sym p)) ∙ free s (sym (get_or-set_other given n s true true (λ p. h.1 (sym p))) ∙ not)
+
+pub gathered_more : (all rest less : List SeatValue) (x : SeatValue) (lists : List (List SeatEntry)) (given : List Bool) → Gathered all rest lists given → rest ≡ less ++ x ∷ []
+    → x.number < length lists → get_or given x.number true ≡ false → Gathered all less (set lists x.number x.list) (set given x.number true)
+gathered_more all rest less x lists given g pop under free = record {
+  late = x ∷ g.late;
+  split = g.split ∙ (ap (λ xs. xs ++ g.late) pop ∙ append_assoc less (x ∷ []) g.late);
+  kept = λ s. list_kept x g.late lists s g.kept under (eqb_tells x.number s);
+  free = λ s. still_free x.number s x.list lists given g.free g.as_many (eqb_tells x.number s) under;
+  as_many = length-set given x.number true ∙ (g.as_many ∙ sym (length-set lists x.number x.list));
+  sum =
+      let h : sum_by length (set lists x.number x.list) + length (list_at lists x.number) ≡ sum_by length lists + length x.list = sum_by-set length lists x.number x.list [] under in
+      let e : length (list_at lists x.number) ≡ 0 = ap length (g.free x.number free) in
+      let o = g.sum in
+      let t : seat_entries (x ∷ g.late) ≡ (0 + length x.list) + seat_entries g.late = sum_by-append (λ (y : SeatValue). length y.list) (x ∷ []) g.late in
+      let f : sum_by length (set lists x.number x.list) ≡ (0 + length x.list) + seat_entries g.late = omega arith in f ∙ sym t;
+}
+
+pub gathered_lists : (all : List SeatValue) (lists : List (List SeatEntry)) (given : List Bool) → Gathered all [] lists given → (s : ℕ) → list_at lists s ≡ list_of all s
+gathered_lists all lists given g s = g.kept s ∙ ap (λ xs. list_of xs s) (sym g.split)
+
+pub gathered_entries : (all : List SeatValue) (lists : List (List SeatEntry)) (given : List Bool) → Gathered all [] lists given → sum_by length lists ≡ seat_entries all
+gathered_entries all lists given g = g.sum ∙ ap seat_entries (sym g.split)
+
+pub gathered_step : (all rest less : List SeatValue) (x : SeatValue) (lists : List (List SeatEntry)) (given : List Bool) (n : ℕ) (list : List SeatEntry) → Gathered all rest lists given → rest ≡ less ++ x ∷ []
+    → n ≡ x.number → list ≡ x.list → n < length lists → get_or given n true ≡ false → Gathered all less (set lists n list) (set given n true)
+gathered_step all rest less x lists given n list g pop number same under free =
+    rw (number, same) (gathered_more all rest less x lists given g pop (rw number at under) (rw number at free))

@@ -1,0 +1,4 @@
+pub mod Replays
+pub mod CallLemmas
+pub mod Gathering
+pub mod Closings

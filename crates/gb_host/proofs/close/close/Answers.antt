@@ -1,0 +1,10 @@
+use Rattle.std.proofs.Common.{rules, ◌≡◌, ◌∙◌, ap, sym, ℕ, List}
+use Rattle.gb_host.specs.Closing.{AreReplays, AreSame, AreFresh, list_at, list_of}
+use Rattle.gb_host.proofs.Closings.{closed_fresh}
+use Rattle.gb_host.proofs.close.close.Goals as goal
+
+pub returns-in-Ok-None-clause-fresh : goal.returns-in-Ok-None-clause-fresh
+returns-in-Ok-None-clause-fresh g c = λ on.
+    let replays : AreReplays c.args.host.plan c.args.host.plan.cluster.nodes c.in-Ok-take_apart.closed.nodes.items c.in-Ok-take_apart.closed.tapes.items = rw c.into_parts-count.ensures.plan.0 at c.in-Ok-take_apart.ensures.replays in
+    let same : AreSame c.in-Ok-take_apart.closed.tapes.items (list_at c.in-Ok.lists.items) = search rules in
+    closed_fresh c.args.host.plan c.in-Ok-take_apart.closed.nodes.items c.in-Ok-take_apart.closed.tapes.items c.in-Ok.lists.items c.args.seats.items on replays c.in-Ok.ensures.lists same

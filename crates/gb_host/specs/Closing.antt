@@ -1,0 +1,78 @@
+-- What stands after a host was closed.
+use Rattle.std.specs.Prelude.{ℕ, ◌≡◌, ◌≢◌, ◌<◌, ◌==◌, Bool, true, false, List, [], ◌∷◌, ◌++◌, length, slice_index_or, cond, sum_by}
+use Rattle.gb_types.specs.declared.node.NodeId.{NodeId}
+use Rattle.gb_node.specs.NodeStep.{IsTurn}
+use Rattle.gb_node.specs.NodeValue.{NodeValue}
+use Rattle.gb_node.specs.Past.{ComesTo}
+use Rattle.gb_node.specs.declared.tape.TapeEntry.{TapeEntry}
+use Rattle.gb_host.specs.Calls.{calls_of, calls_at, numbered}
+use Rattle.gb_host.specs.Plans.{plan_of}
+use Rattle.gb_host.specs.Replay.{past_of, IsReplay}
+use Rattle.gb_host.specs.SeatValue.{SeatValue}
+use Rattle.gb_host.specs.declared.entry.SeatEntry.{SeatEntry}
+use Rattle.gb_host.specs.declared.plan.HostPlan.{HostPlan}
+
+-- the tape of a node, empty where there is no such node
+abbrev pub tape_at : List (List TapeEntry) → ℕ → List TapeEntry
+tape_at tapes k = slice_index_or tapes k []
+
+-- the list with a number, empty where there is none
+abbrev pub list_at : List (List SeatEntry) → ℕ → List SeatEntry
+list_at lists s = slice_index_or lists s []
+
+-- the calls of the seat with a number, none where there is no such seat
+abbrev pub list_of : List SeatValue → ℕ → List SeatEntry
+list_of [] s = []
+list_of (x ∷ xs) s = cond (x.number == s) x.list (list_of xs s)
+
+-- the nodes with numbers below this are the replays of their tapes
+abbrev pub AreReplays : HostPlan → ℕ → List NodeValue → List (List TapeEntry) → Type 0
+AreReplays p n nodes tapes = (b : NodeId) (d : NodeValue) → b.number < n → IsReplay p b (slice_index_or nodes b.number d) (tape_at tapes b.number)
+
+-- At each node the seat's entries in the tape are its calls there, in its order, each once and with its number among them.
+abbrev pub IsSame : List (List TapeEntry) → ℕ → List SeatEntry → Type 0
+IsSame tapes s list = (k : ℕ) → calls_of s (tape_at tapes k) ≡ numbered 0 (calls_at k list)
+
+-- so it is for each seat; a number without a seat stands in no tape
+abbrev pub AreSame : List (List TapeEntry) → (ℕ → List SeatEntry) → Type 0
+AreSame tapes lists = (s : ℕ) → IsSame tapes s (lists s)
+
+-- at some node the seat's entries in the tape are not its calls there
+abbrev pub IsOther : List (List TapeEntry) → ℕ → List SeatEntry → Type 0
+IsOther tapes s list = (k : ℕ) × (calls_of s (tape_at tapes k) ≢ numbered 0 (calls_at k list))
+
+-- A call x of a seat, made after the calls xs, as the tape of its node has it: the state from which its answer came is the
+-- replay of the entries before it, and these hold all earlier calls of the seat at the node.
+pub record IsFresh (p : HostPlan) (s : ℕ) (tape : List TapeEntry) (xs : List SeatEntry) (x : SeatEntry) : Type 0 where
+  pub before : List TapeEntry
+  pub entry : TapeEntry
+  pub rest : List TapeEntry
+  pub place : tape ≡ before ++ entry ∷ rest
+  pub seat : entry.seat ≡ s
+  pub event : entry.event ≡ x.event
+  pub answer : entry.answer ≡ x.answer
+  pub earlier : calls_of s before ≡ numbered 0 (calls_at x.node.number xs)
+  pub state : NodeValue
+  pub next : NodeValue
+  pub replayed : ComesTo (plan_of p x.node) (past_of before) state
+  pub answered : IsTurn state entry.event entry.answer next
+
+-- each call of each seat is fresh
+abbrev pub AreFresh : HostPlan → List (List TapeEntry) → (ℕ → List SeatEntry) → Type 0
+AreFresh p tapes lists = (s : ℕ) (xs ys : List SeatEntry) (x : SeatEntry) → lists s ≡ xs ++ x ∷ ys → x.node.number < p.cluster.nodes → IsFresh p s (tape_at tapes x.node.number) xs x
+
+-- how many entries all tapes have, and how many calls all seats
+abbrev pub tape_entries : List (List TapeEntry) → ℕ
+tape_entries tapes = sum_by length tapes
+
+abbrev pub seat_entries : List SeatValue → ℕ
+seat_entries seats = sum_by (λ x. length x.list) seats
+
+-- the seats in front of those that were looked at, and what was kept of these
+pub record Gathered (all rest : List SeatValue) (lists : List (List SeatEntry)) (given : List Bool) : Type 0 where
+  pub late : List SeatValue
+  pub split : all ≡ rest ++ late
+  pub kept : (s : ℕ) → list_at lists s ≡ list_of late s
+  pub free : (s : ℕ) → slice_index_or given s true ≡ false → list_at lists s ≡ []
+  pub as_many : length given ≡ length lists
+  pub sum : sum_by length lists ≡ seat_entries late

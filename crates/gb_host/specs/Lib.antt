@@ -1,0 +1,9 @@
+pub mod Plans
+pub mod HostedValue
+pub mod SeatValue
+pub mod HostValue
+pub mod Replay
+pub mod Calls
+pub mod Fits
+pub mod Closing
+pub mod Walk

@@ -1,0 +1,21 @@
+//! What is left of a host.
+use crate::entry::CallList;
+use gb_node::node::Node;
+use gb_node::tape::Tape;
+
+/// The nodes and their tapes, by number.
+#[derive(Drop)]
+pub struct Closed {
+    pub nodes: Vec<Node>,
+    pub tapes: Vec<Tape>,
+}
+
+/// A seat's calls that are not its entries in the tapes.
+#[derive(Drop)]
+pub struct Difference {
+    pub closed: Closed,
+    /// The seat's number.
+    pub seat: u32,
+    /// Its calls; none where no seat has the number.
+    pub list: CallList,
+}

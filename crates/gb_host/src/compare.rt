@@ -1,0 +1,164 @@
+//! Seats' calls against their entries in the tapes. Each tape is walked once, whatever the number of seats.
+ghost use Rattle.std.specs.Prelude.{◌≡◌, ◌≢◌, ◌↔◌, ◌<◌, ◌≤◌, ◌^◌, ◌∷◌, ◌++◌, ℕ, List, true, false, [], drop, length, IsTrue, IfOk, IfSome, IfNone, vec_len};
+ghost use Rattle.std.specs.Bool.{MatchBool};
+ghost use Rattle.gb_node.specs.declared.tape.TapeEntry.{TapeEntry as Noted};
+ghost use Rattle.gb_host.specs.Calls.{calls_of, calls_at, numbered};
+ghost use Rattle.gb_host.specs.Closing.{list_at, AreSame, IsOther};
+ghost use Rattle.gb_host.specs.Walk.{left_of, AreBounded, HasMoved};
+
+use crate::entry::{CallList, SeatEntry};
+use gb_node::tape::{Tape, TapeEntry};
+use gb_types::memory::OutOfMemory;
+use std::alloc::Global;
+
+/// How far a list was walked for a node: the place where it goes on, and how many of its calls are behind.
+#[derive(Clone, Copy)]
+pub struct Cursor {
+    pub place: usize,
+    pub count: u64,
+}
+
+// Whether both have one event and one answer.
+fn is_call(noted: &TapeEntry, made: &SeatEntry) -> bool
+    ensures { IsTrue result ↔ ((noted.now.event ≡ made.now.event) × (noted.now.answer ≡ made.now.answer)) }
+{
+    noted.event.is(&made.event) && noted.answer.is(&made.answer)
+}
+
+// The first call at the node from a place on, and the place after it.
+fn next_at(list: &[SeatEntry], node: u8, place: usize) -> Option<(&SeatEntry, usize)>
+    ensures some { IfSome result (λ r. calls_at node (drop place list.now) ≡ (r.0.now.event, r.0.now.answer) ∷ calls_at node (drop r.1 list.now)) }
+    ensures within { IfSome result (λ r. (place < r.1) × (r.1 ≤ length list.now)) }
+    ensures none { IfNone result (calls_at node (drop place list.now) ≡ []) }
+{
+    for i in place..list.len() {
+        if list[i].node.number == node {
+            return Some((&list[i], i + 1));
+        }
+    }
+    None
+}
+
+// Whether an entry is its seat's next call at the node; then the seat's cursor goes on.
+fn take_call(noted: &TapeEntry, lists: &[CallList], node: u8, cursors: &mut [Cursor]) -> bool
+    requires as_many { length cursors.old ≡ length lists.now }
+    requires bounded { AreBounded cursors.old lists.now }
+    ensures as_many { length cursors.new ≡ length cursors.old }
+    ensures bounded { AreBounded cursors.new lists.now }
+    ensures moved { result ≡ true → HasMoved node noted.now lists.now cursors.old cursors.new }
+    ensures stuck { result ≡ false → (es : List Noted) → calls_of noted.now.seat (noted.now ∷ es) ≢ left_of node lists.now cursors.old noted.now.seat }
+{
+    let seat = noted.seat as usize;
+    if seat >= lists.len() {
+        return false;
+    }
+    let cursor = cursors[seat];
+    let Some((made, next)) = next_at(lists[seat].as_slice(), node, cursor.place) else {
+        return false;
+    };
+    if noted.count != cursor.count || !is_call(noted, made) {
+        return false;
+    }
+    cursors[seat] = Cursor {
+        place: next,
+        count: cursor.count + 1,
+    };
+    true
+}
+
+// A seat that has calls at the node which no entry was.
+fn left_over(lists: &[CallList], node: u8, cursors: &[Cursor]) -> Option<u32>
+    requires as_many { length cursors.now ≡ length lists.now }
+    requires few { length lists.now < 2 ^ 32 }
+    ensures some { IfSome result (λ s. left_of node lists.now cursors.now s ≢ []) }
+    ensures none { IfNone result ((s : ℕ) → left_of node lists.now cursors.now s ≡ []) }
+{
+    for s in 0..lists.len() {
+        if next_at(lists[s].as_slice(), node, cursors[s].place).is_some() {
+            return Some(s as u32);
+        }
+    }
+    None
+}
+
+// The cursors at the beginning of so many lists.
+fn beginnings(alloc: Global, lists: &[CallList]) -> Result<Vec<Cursor>, OutOfMemory>
+    ensures as_many { IfOk result (λ c. vec_len c ≡ length lists.now) }
+    ensures bounded { IfOk result (λ c. AreBounded c.items lists.now) }
+    ensures left { IfOk result (λ c. (node s : ℕ) → left_of node lists.now c.items s ≡ numbered 0 (calls_at node (list_at lists.now s))) }
+{
+    let mut cursors = Vec::new(alloc);
+    for _s in 0..lists.len() {
+        cursors.reserve(1)?;
+        cursors.push_reserved(Cursor { place: 0, count: 0 });
+    }
+    Ok(cursors)
+}
+
+// The number of a seat whose entries in a tape are not its calls at the tape's node.
+fn differing_in(
+    alloc: Global,
+    tape: &[TapeEntry],
+    lists: &[CallList],
+    node: u8,
+) -> Result<Option<u32>, OutOfMemory>
+    requires few { length lists.now < 2 ^ 32 }
+    ensures some { IfOk result (λ o. IfSome o (λ s. calls_of s tape.now ≢ numbered 0 (calls_at node (list_at lists.now s)))) }
+    ensures none { IfOk result (λ o. IfNone o ((s : ℕ) → calls_of s tape.now ≡ numbered 0 (calls_at node (list_at lists.now s)))) }
+{
+    let mut cursors = beginnings(alloc, lists)?;
+    for noted in tape {
+        if !take_call(noted, lists, node, cursors.as_mut_slice()) {
+            return Ok(Some(noted.seat));
+        }
+    }
+    Ok(left_over(lists, node, cursors.as_slice()))
+}
+
+// Whether a call's node is past so many nodes.
+fn is_misplaced(list: &[SeatEntry], nodes: usize) -> bool
+    ensures { MatchBool result ((k : ℕ) × (nodes ≤ k) × (calls_at k list.now ≢ [])) ((k : ℕ) → nodes ≤ k → calls_at k list.now ≡ []) }
+{
+    for made in list {
+        if usize::from(made.node.number) >= nodes {
+            return true;
+        }
+    }
+    false
+}
+
+// The number of a list with a call at a node past so many nodes.
+fn misplaced(lists: &[CallList], nodes: usize) -> Option<u32>
+    requires few { length lists.now < 2 ^ 32 }
+    ensures some { IfSome result (λ s. (k : ℕ) × (nodes ≤ k) × (calls_at k (list_at lists.now s) ≢ [])) }
+    ensures none { IfNone result ((s k : ℕ) → nodes ≤ k → calls_at k (list_at lists.now s) ≡ []) }
+{
+    for s in 0..lists.len() {
+        if is_misplaced(lists[s].as_slice(), nodes) {
+            return Some(s as u32);
+        }
+    }
+    None
+}
+
+/// The number of a seat whose calls are not its entries in the tapes, if there is one.
+pub fn differing(
+    alloc: Global,
+    tapes: &[Tape],
+    lists: &[CallList],
+) -> Result<Option<u32>, OutOfMemory>
+    requires nodes { length tapes.now ≤ 16 }
+    requires few { length lists.now < 2 ^ 32 }
+    ensures some { IfOk result (λ o. IfSome o (λ s. IsOther tapes.now s (list_at lists.now s))) }
+    ensures none { IfOk result (λ o. IfNone o (AreSame tapes.now (list_at lists.now))) }
+{
+    if let Some(s) = misplaced(lists, tapes.len()) {
+        return Ok(Some(s));
+    }
+    for k in 0..tapes.len() {
+        if let Some(s) = differing_in(alloc, tapes[k].as_slice(), lists, k as u8)? {
+            return Ok(Some(s));
+        }
+    }
+    Ok(None)
+}

@@ -1,0 +1,146 @@
+//! The host.
+ghost use Rattle.std.specs.Prelude.{◌≡◌, ◌+◌, ◌<◌, ◌≤◌, ◌++◌, [], IfOk, OnErr, vec_len};
+ghost use Rattle.gb_types.specs.declared.limits.TheConstants.{NODES};
+ghost use Rattle.gb_host.specs.Plans.{kept, IsPlan};
+ghost use Rattle.gb_host.specs.HostValue.{AreNew};
+
+use crate::books::Books;
+use crate::fault::HostFault;
+use crate::gate::{Gate, Open};
+use crate::hosted::Hosted;
+use crate::names::Tapes;
+use crate::plan::HostPlan;
+use crate::seat::Seat;
+use gb_node::answer::NodeAnswer;
+use gb_node::event::NodeEvent;
+use gb_types::node::NodeId;
+use std::alloc::Global;
+use std::marker::Model;
+use std::sync::ledger::{Blank, Ledger};
+use std::sync::{Mutex, Wait};
+
+/// Nodes, each under a lock of its own, and the books under theirs. Contracts see the plan and the number of seats.
+#[derive(Drop)]
+pub struct Host<L: Tapes, M: Ledger> {
+    alloc: Global,
+    plan: HostPlan,
+    seats: u32,
+    nodes: Vec<Mutex<Hosted<L>>>,
+    books: Mutex<Books<L, M>>,
+}
+
+impl<L: Tapes, M: Ledger> Model for Host<L, M> {
+    ghost use Rattle.std.specs.Prelude.{◌≡◌, vec_len};
+    ghost use Rattle.gb_host.specs.HostValue.{HostValue};
+    ghost use Rattle.gb_host.specs.Plans.{IsPlan};
+
+    ghost Value = { HostValue };
+
+    ghost view = { λ h. record { plan = h.plan; seats = h.seats } };
+
+    ghost invariant = { λ h. (h.plan ≡ L.plan) × IsPlan h.plan × (vec_len h.nodes ≡ h.plan.cluster.nodes) };
+}
+
+impl<L: Tapes, M: Ledger> Host<L, M> {
+    /// A host by the plan, and so many seats, numbered from 0. The blanks are those of the ledgers of the tapes and of the
+    /// seats, each in one part more than there are of these.
+    pub fn open(
+        alloc: Global,
+        plan: HostPlan,
+        seats: u32,
+        tape_blank: Blank,
+        seat_blank: Blank,
+    ) -> Result<(Host<L, M>, Vec<Seat<M>>), HostFault>
+        requires plan { plan ≡ L.plan }
+        requires limits { IsPlan plan }
+        requires tape_blank { (tape_blank.name ≡ L.name) × (tape_blank.parts ≡ L.parts) × (tape_blank.parts ≡ plan.cluster.nodes + 1) }
+        requires seat_blank { (seat_blank.name ≡ M.name) × (seat_blank.parts ≡ M.parts) × (seat_blank.parts ≡ seats + 1) }
+        ensures host { IfOk result (λ r. (r.0.plan ≡ plan) × (r.0.seats ≡ seats)) }
+        ensures seats { IfOk result (λ r. (vec_len r.1 ≡ seats) × AreNew seats r.1.items) }
+    {
+        let (tapes, mut tape_rest) = tape_blank.open::<L>();
+        let (lists, mut seat_rest) = seat_blank.open::<M>();
+        let mut nodes = Vec::new(alloc);
+        for number in 0..plan.cluster.nodes {
+            let share = tape_rest.split_off(1, 0);
+            nodes.reserve(1)?;
+            nodes.push_reserved(Mutex::new(Hosted::new(alloc, plan, NodeId::new(number), share)));
+        }
+        let mut given = Vec::new(alloc);
+        for number in 0..seats {
+            let share = seat_rest.split_off(1, 0);
+            given.reserve(1)?;
+            given.push_reserved(Seat::new(alloc, number, share));
+        }
+        let host = Host {
+            alloc,
+            plan,
+            seats,
+            nodes,
+            books: Mutex::new(Books::new(tapes, lists)),
+        };
+        Ok((host, given))
+    }
+
+    /// The plan.
+    pub fn plan(&self) -> HostPlan
+        ensures { (result ≡ self.now.plan) × (result ≡ L.plan) }
+    {
+        self.plan
+    }
+
+    /// One event at a node.
+    pub fn call<R: Wait>(
+        &self,
+        rt: &R,
+        seat: &mut Seat<M>,
+        node: NodeId,
+        event: NodeEvent,
+    ) -> Result<NodeAnswer, HostFault>
+        ensures list { IfOk result (λ a. seat.new.list ≡ seat.old.list ++ kept L.plan (record { node = node; event = event; answer = a })) }
+        ensures number { seat.new.number ≡ seat.old.number }
+        ensures err { OnErr result (seat.new ≡ seat.old) }
+    {
+        self.call_at(rt, seat, node, event, &mut Open)
+    }
+
+    /// One event at a node, the gate being passed while the node's lock is held, whatever it answers.
+    pub fn call_at<R: Wait, G: Gate>(
+        &self,
+        rt: &R,
+        seat: &mut Seat<M>,
+        node: NodeId,
+        event: NodeEvent,
+        gate: &mut G,
+    ) -> Result<NodeAnswer, HostFault>
+        ensures list { IfOk result (λ a. seat.new.list ≡ seat.old.list ++ kept L.plan (record { node = node; event = event; answer = a })) }
+        ensures number { seat.new.number ≡ seat.old.number }
+        ensures err { OnErr result (seat.new ≡ seat.old) }
+    {
+        if node.index() >= self.nodes.len() {
+            return Err(HostFault::NoNode);
+        }
+        let mut hosted = self.nodes[node.index()].lock(rt);
+        if hosted.me().number != node.number {
+            return Err(HostFault::NoNode);
+        }
+        let _ = gate.pass();
+        hosted.step(rt, seat, &self.books, event)
+    }
+
+    /// Gives up the host for its parts.
+    pub(crate) fn into_parts(self) -> (Global, HostPlan, u32, Vec<Mutex<Hosted<L>>>)
+        ensures plan { (result.1 ≡ self.plan) × (result.1 ≡ L.plan) }
+        ensures nodes { result.1.cluster.nodes ≤ NODES }
+        ensures seats { result.2 ≡ self.seats }
+    {
+        let Host {
+            alloc,
+            plan,
+            seats,
+            nodes,
+            books: _,
+        } = self;
+        (alloc, plan, seats, nodes)
+    }
+}

@@ -1,0 +1,214 @@
+//! A node under its lock.
+ghost use Rattle.std.specs.Prelude.{◌≡◌, ◌+◌, ◌<◌, ◌≤◌, ◌++◌, [], IfOk, IfErr, OnOk, OnErr, cond, slice_index, slice_set, vec_capacity};
+ghost use Rattle.gb_node.specs.NodeStep.{IsTurn, IsSpelt};
+ghost use Rattle.gb_node.specs.NodeValue.{new_node};
+ghost use Rattle.gb_node.specs.Reads.{room_of};
+ghost use Rattle.gb_host.specs.Plans.{plan_of, kept, IsPlan};
+ghost use Rattle.gb_host.specs.Replay.{IsReplay};
+
+use crate::books::Books;
+use crate::entry::SeatEntry;
+use crate::fault::HostFault;
+use crate::names::Tapes;
+use crate::plan::HostPlan;
+use crate::seat::Seat;
+use gb_node::answer::NodeAnswer;
+use gb_node::event::NodeEvent;
+use gb_node::node::Node;
+use gb_node::plan::NodePlan;
+use gb_node::tape::{Tape, TapeEntry};
+use gb_types::limits::PACKET;
+use gb_types::node::NodeId;
+use std::alloc::Global;
+use std::marker::Model;
+use std::sync::ledger::{Ledger, Share};
+use std::sync::{Mutex, Wait};
+
+/// A node that is the replay of its tape, and a share whose amount is the tape's length.
+#[derive(Drop)]
+pub struct Hosted<L: Tapes> {
+    alloc: Global,
+    plan: HostPlan,
+    me: NodeId,
+    node: Node,
+    tape: Vec<TapeEntry>,
+    share: Share<L>,
+}
+
+impl<L: Tapes> Model for Hosted<L> {
+    ghost use Rattle.std.specs.Coded.{codes, coded_ℕ};
+    ghost use Rattle.std.specs.Ordering.{nat_cmp};
+    ghost use Rattle.std.specs.FinSet as set;
+    ghost use Rattle.std.specs.Prelude.{◌≡◌};
+    ghost use Rattle.gb_host.specs.HostedValue.{HostedValue};
+
+    ghost Value = { HostedValue };
+
+    ghost coded = { Prim.hlevel (codes, set.code {R = nat_cmp} coded_ℕ) };
+
+    ghost use Rattle.gb_host.specs.Fits.{HostedFits};
+
+    ghost view = { λ h. record { me = h.me; node = h.node; tape = h.tape.items; amount = h.share.amount; parts = h.share.parts } };
+
+    ghost invariant = { λ h. (h.plan ≡ L.plan) × HostedFits L.plan (record { me = h.me; node = h.node; tape = h.tape.items; amount = h.share.amount; parts = h.share.parts }) };
+}
+
+impl<L: Tapes> Hosted<L> {
+    /// A node at which nothing has happened.
+    pub fn new(alloc: Global, plan: HostPlan, me: NodeId, share: Share<L>) -> Hosted<L>
+        requires plan { plan ≡ L.plan }
+        requires limits { IsPlan plan }
+        requires member { me.number < plan.cluster.nodes }
+        requires share { (0 < share.parts) × (share.amount ≡ 0) }
+        ensures { (result.me ≡ me) × (result.node ≡ new_node (plan_of L.plan me)) × (result.tape ≡ []) }
+    {
+        let cluster_key = plan.cluster.cluster_key;
+        let admin_key = plan.cluster.admin_key;
+        let node_plan = NodePlan {
+            me,
+            nodes: plan.cluster.nodes,
+            silence: plan.cluster.silence,
+            places: plan.cluster.places,
+            cluster_key,
+            admin_key,
+            tape: plan.tape,
+        };
+        let node = Node::start(alloc, &node_plan);
+        Hosted {
+            alloc,
+            plan,
+            me,
+            node,
+            tape: Vec::new(alloc),
+            share,
+        }
+    }
+
+    /// Gives up the lock's content for the node and its tape.
+    pub fn into_parts(self) -> (Node, Tape)
+        ensures parts { (result.0 ≡ self.node) × (result.1 ≡ self.tape) }
+        ensures replay { IsReplay L.plan self.me self.node self.tape }
+    {
+        let Hosted {
+            alloc: _,
+            plan: _,
+            me: _,
+            node,
+            tape,
+            share: _,
+        } = self;
+        (node, Tape::from(tape))
+    }
+
+    /// Which node it is.
+    pub fn me(&self) -> NodeId
+        ensures { result ≡ self.now.me }
+    {
+        self.me
+    }
+}
+
+impl<L: Tapes> Hosted<L> {
+    /// One event, atomic under the node's lock: the node's next state and answer; and, with tapes, an entry in the
+    /// tape and in the seat's list, and one in each share. After a refusal nothing has changed.
+    pub fn step<M: Ledger, R: Wait>(
+        &mut self,
+        rt: &R,
+        seat: &mut Seat<M>,
+        books: &Mutex<Books<L, M>>,
+        event: NodeEvent,
+    ) -> Result<NodeAnswer, HostFault>
+        ensures turn { IfOk result (λ a. IsTurn self.old.node event a self.new.node) }
+        ensures spelt { IfOk result (λ a. IsSpelt self.old.node event a) }
+        ensures tape { IfOk result (λ a. self.new.tape ≡ self.old.tape ++ kept L.plan (record { seat = seat.old.number; count = slice_index seat.old.counts self.old.me.number; event = event; answer = a })) }
+        ensures list { IfOk result (λ a. seat.new.list ≡ seat.old.list ++ kept L.plan (record { node = self.old.me; event = event; answer = a })) }
+        ensures counts { OnOk result (seat.new.counts ≡ cond L.plan.tape (slice_set seat.old.counts self.old.me.number (slice_index seat.old.counts self.old.me.number + 1)) seat.old.counts) }
+        ensures shares { OnOk result ((self.new.amount ≡ self.old.amount + cond L.plan.tape 1 0) × (seat.new.amount ≡ seat.old.amount + cond L.plan.tape 1 0)) }
+        ensures numbers { (self.new.me ≡ self.old.me) × (seat.new.number ≡ seat.old.number) }
+        ensures parts { (self.new.parts ≡ self.old.parts) × (seat.new.parts ≡ seat.old.parts) }
+        ensures err { OnErr result ((self.new ≡ self.old) × (seat.new ≡ seat.old)) }
+    {
+        let Hosted {
+            alloc,
+            plan,
+            me,
+            node,
+            tape,
+            share,
+        } = self;
+        if !plan.tape {
+            return Ok(node.take(&event));
+        }
+        let Seat {
+            number,
+            counts,
+            list,
+            share: mine,
+        } = seat;
+        let at = me.index();
+        let copy = event.duplicate(*alloc)?;
+        tape.reserve(1)?;
+        list.reserve(1)?;
+        if event.only_reads() {
+            let answer = node.take(&event);
+            let for_tape = answer.duplicate(*alloc)?;
+            let for_list = answer.duplicate(*alloc)?;
+            if !books.lock(rt).add(share, mine) {
+                return Err(HostFault::Full);
+            }
+            let count = counts[at];
+            // The proof reads how long the list may be.
+            let _most = list.capacity();
+            counts[at] = count + 1;
+            tape.push_reserved(TapeEntry {
+                seat: *number,
+                count,
+                event,
+                answer: for_tape,
+            });
+            list.push_reserved(SeatEntry {
+                node: *me,
+                event: copy,
+                answer: for_list,
+            });
+            return Ok(answer);
+        }
+        let (room, other_room) = rooms(*alloc, &event)?;
+        if !books.lock(rt).add(share, mine) {
+            return Err(HostFault::Full);
+        }
+        let answer = node.take(&event);
+        let count = counts[at];
+        // The proof reads how long the list may be.
+        let _most = list.capacity();
+        counts[at] = count + 1;
+        tape.push_reserved(TapeEntry {
+            seat: *number,
+            count,
+            event,
+            answer: answer.in_room(room),
+        });
+        list.push_reserved(SeatEntry {
+            node: *me,
+            event: copy,
+            answer: answer.in_room(other_room),
+        });
+        Ok(answer)
+    }
+}
+
+// Room for two copies of the answer to an event that may change the node.
+fn rooms(alloc: Global, event: &NodeEvent) -> Result<(Vec<u8>, Vec<u8>), HostFault>
+    ensures empty { IfOk result (λ r. (r.0.items ≡ []) × (r.1.items ≡ [])) }
+    ensures room { IfOk result (λ r. (room_of event.now ≤ vec_capacity r.0) × (room_of event.now ≤ vec_capacity r.1)) }
+    ensures err { IfErr result (λ e. e ≡ HostFault.OutOfMemory) }
+{
+    let most = match event {
+        NodeEvent::Pack(_) => PACKET,
+        _ => 0,
+    };
+    Ok((
+        Vec::with_capacity(alloc, most)?,
+        Vec::with_capacity(alloc, most)?,
+    ))
+}

@@ -1,0 +1,8 @@
+//! Worked hosts as tests: callers in threads of their own, each at a node of its own, and the end. There is nothing here
+//! but tests.
+#![tactic(auto)]
+
+#[cfg(test)]
+mod callers;
+#[cfg(test)]
+mod day;

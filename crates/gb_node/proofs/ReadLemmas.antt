@@ -1,0 +1,211 @@
+-- Events that only read, and what the answers to the others hold.
+use Rattle.std.proofs.Common.{◌≡◌, ℕ, ◌≤◌, ◌⊎◌, inl, inr, Bool, true, false, List, length, Option, Some, None, refl, sym, ap, subst, ◌∙◌, arith}
+use Rattle.std.specs.Prelude.{◌+◌, nat_lt, nat_le, if◌then◌else◌, IfSome}
+use Rattle.std.specs.FinSet as set
+use Rattle.std.specs.Ordering.{nat_cmp}
+use Rattle.std.proofs.lemmas.Bool.{true≢false, false≢true}
+use Rattle.std.proofs.lemmas.List.{length-append, length-take}
+use Rattle.gb_types.specs.declared.address.Addr.{Addr}
+use Rattle.gb_types.specs.declared.entry.Entry.{Entry}
+use Rattle.gb_types.specs.declared.limits.TheConstants.{PACKET, PAYLOAD}
+use Rattle.gb_types.specs.declared.node.NodeId.{NodeId}
+use Rattle.gb_types.specs.declared.refusal.Refusal.{Refusal}
+use Rattle.gb_types.specs.declared.refusal.Refusal.TheVariants.{Denied, NoGroup, Spent, BadMembers, OverReserve, TooLong, Budget, Bytes, Window, NoRoom, TenantThere, OutOfMemory}
+use Rattle.gb_types.specs.declared.reply.Reply.{Reply}
+use Rattle.gb_types.specs.declared.reply.Reply.TheVariants.{Done, Said, Log, Refused}
+use Rattle.gb_types.specs.declared.request.Request.{Request}
+use Rattle.gb_types.specs.declared.request.Request.TheVariants.{AddTenant, Make, OpenGroup, ShutGroup, DropGroup, Say, Fetch}
+use Rattle.gb_types.specs.declared.spec.Spec.{Spec}
+use Rattle.gb_types.specs.declared.spec.TenantRow.{TenantRow}
+use Rattle.gb_cap.specs.Hmac.{hmac_of, length-hmac_of}
+use Rattle.gb_frame.specs.declared.limits.TheConstants.{TAG}
+use Rattle.gb_frame.specs.Packet.{Content}
+use Rattle.gb_frame.specs.Spelling.{tagged_text, header_text, tag_of, packet_text, IsPacket}
+use Rattle.gb_rules.specs.Group.{Shown, open_in, open_answer, shut_in, shut_answer, drop_answer, say_answer}
+use Rattle.gb_rules.specs.Tenant.{is_over_limits, is_bad, is_over, tenant_answer, make_answer, by_tenant}
+use Rattle.gb_rules.specs.declared.phase.Phase.{Phase}
+use Rattle.gb_rules.specs.declared.phase.Phase.TheVariants.{Made, Opened, Shut, Gone}
+use Rattle.gb_rules.specs.declared.reserve.Reserve.{Reserve}
+use Rattle.gb_rules.specs.declared.usage.Usage.{Usage}
+use Rattle.gb_slot.specs.SlotState.{SlotState}
+use Rattle.gb_groups.specs.AtAddress.{place_of, reply_at, group_reply}
+use Rattle.gb_groups.specs.SlotsValue.{Row, row_at, unless_gone}
+use Rattle.gb_table.specs.TableValue.{TableValue, reserve_for}
+use Rattle.gb_table.specs.Requests.{is_admitted, admitted_reply, table_reply, table_did}
+use Rattle.gb_node.specs.NodeValue.{NodeValue}
+use Rattle.gb_node.specs.NodeStep.{Turn, turn, running_turn, stopped_answer, node_did, sent, pack_content, IsStarved, IsTurn, IsSpelt}
+use Rattle.gb_node.specs.Reads.{is_read, room_of, IsReplyWithin, IsSentWithin, IsWithin}
+use Rattle.gb_node.specs.declared.answer.NodeAnswer.{NodeAnswer}
+use Rattle.gb_node.specs.declared.answer.NodeAnswer.TheVariants.{Reply as Replied, Taken, Sent, Ticked, Halted}
+use Rattle.gb_node.specs.declared.answer.Sent.{Sent as SentValue}
+use Rattle.gb_node.specs.declared.answer.Sent.TheVariants.{Packet as SentPacket, Nothing, Refused as SentRefused}
+use Rattle.gb_node.specs.declared.event.NodeEvent.{NodeEvent}
+use Rattle.gb_node.specs.declared.event.NodeEvent.TheVariants.{Request as Asked, Packet as Came, Pack, Again, Ack, Tick, Stop}
+
+-- Reads.
+
+fetch_did : (noticed : set.FinSet nat_cmp) (token : List ℕ) (addr : Addr) (from most : ℕ) (reply : Reply) (t : TableValue) → table_did noticed (Fetch token addr from most) reply t ≡ t
+fetch_did noticed token addr from most Done t = refl
+fetch_did noticed token addr from most (Said seq) t = refl
+fetch_did noticed token addr from most (Log entries) t = refl
+fetch_did noticed token addr from most (Refused why) t = refl
+
+-- what a running node becomes by an event that only reads
+read_running : (v : NodeValue) (e : NodeEvent) → is_read e ≡ true → (running_turn v e).value ≡ v
+read_running v (Asked (Fetch token addr from most)) h = ap (λ t. record v { table = t }) (fetch_did v.watch.noticed token addr from most (table_reply (Fetch token addr from most) v.table) v.table)
+read_running v (Asked (AddTenant token row)) h = absurd (false≢true h)
+read_running v (Asked (Make token addr spec)) h = absurd (false≢true h)
+read_running v (Asked (OpenGroup token addr)) h = absurd (false≢true h)
+read_running v (Asked (ShutGroup token addr)) h = absurd (false≢true h)
+read_running v (Asked (DropGroup token addr)) h = absurd (false≢true h)
+read_running v (Asked (Say token addr payload)) h = absurd (false≢true h)
+read_running v (Came bytes) h = absurd (false≢true h)
+read_running v (Pack b) h = absurd (false≢true h)
+read_running v (Again b n) h = refl
+read_running v (Ack b) h = refl
+read_running v Tick h = absurd (false≢true h)
+read_running v Stop h = absurd (false≢true h)
+
+read_if : (b : Bool) (v : NodeValue) (s t : Turn) → s.value ≡ v → t.value ≡ v → (if b then s else t).value ≡ v
+read_if true v s t hs ht = hs
+read_if false v s t hs ht = ht
+
+pub reads : (old new : NodeValue) (e : NodeEvent) (a : NodeAnswer) → IsTurn old e a new → is_read e ≡ true → new ≡ old
+reads old new e a (inl h) read = h.1
+reads old new e a (inr h) read = h.1 ∙ read_if old.stopped old (record { value = old; answer = stopped_answer e }) (running_turn old e) refl (read_running old e read)
+
+-- Replies but logs hold no memory.
+
+within_if : (b : Bool) (x y : Reply) → IsReplyWithin x → IsReplyWithin y → IsReplyWithin (if b then x else y)
+within_if true x y hx hy = hx
+within_if false x y hx hy = hy
+
+tenant_within : (places before : ℕ) (there : Bool) (row : TenantRow) → IsReplyWithin (tenant_answer places before there row)
+tenant_within places before there row =
+    let room : Reply = if nat_lt places (before + row.groups) then Refused NoRoom else Done in
+    let fresh : Reply = if there then Refused TenantThere else room in
+    within_if (is_over_limits row) (Refused OverReserve) fresh tt (within_if there (Refused TenantThere) room tt (within_if (nat_lt places (before + row.groups)) (Refused NoRoom) Done tt tt))
+
+make_within : (nodes me number : ℕ) (made : Bool) (spec : Spec) (reserve : Reserve) → IsReplyWithin (make_answer nodes me number made spec reserve)
+make_within nodes me number made spec reserve =
+    let enough : Reply = if is_over reserve spec then Refused OverReserve else Done in
+    let good : Reply = if is_bad nodes me spec then Refused BadMembers else enough in
+    let fresh : Reply = if made then Refused Spent else good in
+    within_if (nat_le reserve.groups number) (Refused NoGroup) fresh tt (within_if made (Refused Spent) good tt (within_if (is_bad nodes me spec) (Refused BadMembers) enough tt (within_if (is_over reserve spec) (Refused OverReserve) Done tt tt)))
+
+by_within : (answer : Reserve → Reply) (o : Option Reserve) → ((r : Reserve) → IsReplyWithin (answer r)) → IsReplyWithin (by_tenant answer o)
+by_within answer None h = tt
+by_within answer (Some r) h = h r
+
+gone_within : (answer : Shown → Reply) (s : Option SlotState) → ((s : Shown) → IsReplyWithin (answer s)) → IsReplyWithin (unless_gone answer s)
+gone_within answer None h = tt
+gone_within answer (Some s) h = h _
+
+at_within : (answer : Shown → Reply) (rows : List Row) (p : Option ℕ) → ((s : Shown) → IsReplyWithin (answer s)) → IsReplyWithin (reply_at answer rows p)
+at_within answer rows None h = tt
+at_within answer rows (Some p) h = gone_within answer (row_at rows p).slot h
+
+open_within : (phase : Phase) → IsReplyWithin (open_in phase)
+open_within Made = tt
+open_within Opened = tt
+open_within Shut = tt
+open_within Gone = tt
+
+shut_within : (phase : Phase) → IsReplyWithin (shut_in phase)
+shut_within Made = tt
+shut_within Opened = tt
+shut_within Shut = tt
+shut_within Gone = tt
+
+say_within : (spec : Spec) (phase : Phase) (usage : Usage) (log : List Entry) (payload : List ℕ) → IsReplyWithin (say_answer (record { spec = spec; phase = phase; usage = usage; log = log }) payload)
+say_within spec Made usage log payload = tt
+say_within spec Opened usage log payload =
+    let open_window : Reply = if nat_le spec.window usage.unfinished then Refused Window else Said (usage.said + 1) in
+    let few_bytes : Reply = if nat_lt spec.bytes (usage.bytes + length payload) then Refused Bytes else open_window in
+    let few : Reply = if nat_le spec.msgs usage.said then Refused Budget else few_bytes in
+    within_if (nat_lt PAYLOAD (length payload)) (Refused TooLong) few tt (within_if (nat_le spec.msgs usage.said) (Refused Budget) few_bytes tt
+    (within_if (nat_lt spec.bytes (usage.bytes + length payload)) (Refused Bytes) open_window tt (within_if (nat_le spec.window usage.unfinished) (Refused Window) (Said (usage.said + 1)) tt tt)))
+say_within spec Shut usage log payload = tt
+say_within spec Gone usage log payload = tt
+
+admitted_within : (r : Request) (t : TableValue) → is_read (Asked r) ≡ false → IsReplyWithin (admitted_reply r t)
+admitted_within (AddTenant token row) t h = tenant_within _ _ _ row
+admitted_within (Make token addr spec) t h = by_within _ (reserve_for addr.tenant t) (λ r. make_within _ _ _ _ spec r)
+admitted_within (OpenGroup token addr) t h = at_within open_answer t.groups.rows (place_of addr t.groups.rows) (λ s. open_within s.phase)
+admitted_within (ShutGroup token addr) t h = at_within shut_answer t.groups.rows (place_of addr t.groups.rows) (λ s. shut_within s.phase)
+admitted_within (DropGroup token addr) t h = at_within drop_answer t.groups.rows (place_of addr t.groups.rows) (λ s. tt)
+admitted_within (Say token addr payload) t h = at_within (λ s. say_answer s payload) t.groups.rows (place_of addr t.groups.rows) (λ s. say_within s.spec s.phase s.usage s.log payload)
+admitted_within (Fetch token addr from most) t h = absurd (true≢false h)
+
+asked_within : (r : Request) (t : TableValue) → is_read (Asked r) ≡ false → IsReplyWithin (table_reply r t)
+asked_within r t h = within_if (is_admitted r t) (admitted_reply r t) (Refused Denied) (admitted_within r t h) tt
+
+-- Packets.
+
+tag_fits : (key text : List ℕ) → length (tag_of key text) ≡ 8
+unfolding tag_of
+tag_fits key text = omega (arith, length-take TAG (hmac_of key text), length-hmac_of key text)
+
+packet_fits : (key : List ℕ) (c : Content) → IsPacket c → length (packet_text key c) ≤ PACKET
+unfolding header_text
+packet_fits key c p =
+    let tag : List ℕ = tag_of key (tagged_text c) in
+    let tag_len = tag_fits key (tagged_text c) in
+    let room = p.limits.room in
+    omega (arith, length-append (tagged_text c) tag, tag_len, room)
+
+packed_starved : (v : NodeValue) (b : NodeId) (c : Option Content) (a : NodeAnswer) → IsStarved (Pack b) (Sent (sent v c)) a → IsWithin PACKET a
+packed_starved v b None a h = absurd h
+packed_starved v b (Some c) a h = subst (IsWithin PACKET) (sym h) tt
+
+packed_within : (v : NodeValue) (c : Option Content) → IfSome c IsPacket → IsSentWithin PACKET (sent v c)
+packed_within v None h = tt
+packed_within v (Some c) h = packet_fits v.key c h
+
+-- what is spelt where something may be sent
+spelt_if : (v : NodeValue) (b : NodeId) (c : Option Content) → pack_content v b ≡ c → IsSpelt v (Pack b) (Sent (sent v c)) → IfSome c IsPacket
+spelt_if v b None is h = tt
+spelt_if v b (Some c) is h = subst (λ (o : Option Content). IfSome o IsPacket) is h
+
+-- Answers.
+
+running_within : (v : NodeValue) (e : NodeEvent) (a : NodeAnswer) → is_read e ≡ false → IsStarved e (running_turn v e).answer a ⊎ (a ≡ (running_turn v e).answer) → IsSpelt v e a → IsWithin (room_of e) a
+running_within v (Asked r) a read (inl h) spelt = subst (IsWithin 0) (sym h.0) tt
+running_within v (Asked r) a read (inr h) spelt = subst (IsWithin 0) (sym h) (asked_within r v.table read)
+running_within v (Came bytes) a read (inl h) spelt = absurd h
+running_within v (Came bytes) a read (inr h) spelt = subst (IsWithin 0) (sym h) tt
+running_within v (Pack b) a read (inl h) spelt = packed_starved v b (pack_content v b) a h
+running_within v (Pack b) a read (inr h) spelt = subst (IsWithin PACKET) (sym h) (packed_within v (pack_content v b) (spelt_if v b (pack_content v b) refl (subst (IsSpelt v (Pack b)) h spelt)))
+running_within v (Again b n) a read h spelt = absurd (true≢false read)
+running_within v (Ack b) a read h spelt = absurd (true≢false read)
+running_within v Tick a read (inl h) spelt = absurd h
+running_within v Tick a read (inr h) spelt = subst (IsWithin 0) (sym h) tt
+running_within v Stop a read (inl h) spelt = absurd h
+running_within v Stop a read (inr h) spelt = subst (IsWithin 0) (sym h) tt
+
+stopped_within : (e : NodeEvent) (a : NodeAnswer) → is_read e ≡ false → IsStarved e (stopped_answer e) a ⊎ (a ≡ stopped_answer e) → IsWithin (room_of e) a
+stopped_within (Asked r) a read (inl h) = subst (IsWithin 0) (sym h.0) tt
+stopped_within (Asked r) a read (inr h) = subst (IsWithin 0) (sym h) tt
+stopped_within (Came bytes) a read (inl h) = absurd h
+stopped_within (Came bytes) a read (inr h) = subst (IsWithin 0) (sym h) tt
+stopped_within (Pack b) a read (inl h) = absurd h
+stopped_within (Pack b) a read (inr h) = subst (IsWithin PACKET) (sym h) tt
+stopped_within (Again b n) a read h = absurd (true≢false read)
+stopped_within (Ack b) a read h = absurd (true≢false read)
+stopped_within Tick a read (inl h) = absurd h
+stopped_within Tick a read (inr h) = subst (IsWithin 0) (sym h) tt
+stopped_within Stop a read (inl h) = absurd h
+stopped_within Stop a read (inr h) = subst (IsWithin 0) (sym h) tt
+
+answer_within : (b : Bool) (v : NodeValue) (e : NodeEvent) (a : NodeAnswer) → is_read e ≡ false
+    → IsStarved e (if b then record { value = v; answer = stopped_answer e } else running_turn v e).answer a ⊎ (a ≡ (if b then record { value = v; answer = stopped_answer e } else running_turn v e).answer)
+    → IsSpelt v e a → IsWithin (room_of e) a
+answer_within true v e a read h spelt = stopped_within e a read h
+answer_within false v e a read h spelt = running_within v e a read h spelt
+
+answer_of : (old new : NodeValue) (e : NodeEvent) (a : NodeAnswer) → IsTurn old e a new → IsStarved e (turn old e).answer a ⊎ (a ≡ (turn old e).answer)
+answer_of old new e a (inl h) = inl h.0
+answer_of old new e a (inr h) = inr h.0
+
+pub within : (old new : NodeValue) (e : NodeEvent) (a : NodeAnswer) → IsTurn old e a new → IsSpelt old e a → is_read e ≡ false → IsWithin (room_of e) a
+within old new e a is spelt read = answer_within old.stopped old e a read (answer_of old new e a is) spelt

@@ -1,0 +1,94 @@
+//! Copies of what events and answers are made of: some can lack memory, others are made in room that is there.
+ghost use Rattle.std.specs.Prelude.{◌≡◌, ◌≤◌, List, [], length, IfOk, vec_capacity};
+ghost use Rattle.gb_types.specs.declared.entry.Entry.{Entry as EntryValue};
+ghost use Rattle.gb_node.specs.Reads.{IsReplyWithin, IsSentWithin};
+
+use crate::answer::{Sent, Ticked};
+use crate::packet_text::PacketText;
+use gb_types::memory::OutOfMemory;
+use gb_types::reply::Reply;
+use gb_types::request::Request;
+use std::alloc::Global;
+
+/// The same request, copied. Only what is said takes memory.
+pub(crate) fn copy_request(alloc: Global, request: &Request) -> Result<Request, OutOfMemory>
+    ensures { IfOk result (λ r. r ≡ request.now) }
+{
+    Ok(match request {
+        Request::AddTenant(token, row) => Request::AddTenant(*token, *row),
+        Request::Make(token, addr, spec) => Request::Make(*token, *addr, spec.duplicate()),
+        Request::OpenGroup(token, addr) => Request::OpenGroup(*token, *addr),
+        Request::ShutGroup(token, addr) => Request::ShutGroup(*token, *addr),
+        Request::DropGroup(token, addr) => Request::DropGroup(*token, *addr),
+        Request::Say(token, addr, payload) => {
+            Request::Say(*token, *addr, payload.duplicate(alloc)?)
+        }
+        Request::Fetch(token, addr, from, most) => Request::Fetch(*token, *addr, *from, *most),
+    })
+}
+
+/// The same bytes, copied.
+pub(crate) fn copy_text(alloc: Global, text: &PacketText) -> Result<PacketText, OutOfMemory>
+    ensures { IfOk result (λ t. t ≡ text.now) }
+{
+    let bytes = Vec::from_slice(alloc, text.as_slice())?;
+    Ok(PacketText::from(bytes))
+}
+
+/// The same bytes, copied into an empty vector with room for them.
+fn text_in_room(text: &PacketText, room: Vec<u8>) -> PacketText
+    requires empty { room.items ≡ [] }
+    requires room { length text.now ≤ vec_capacity room }
+    ensures { result ≡ text.now }
+{
+    let mut room = room;
+    room.extend_from_slice(text.as_slice()).unwrap();
+    PacketText::from(room)
+}
+
+/// What was sent, copied.
+pub(crate) fn copy_sent(alloc: Global, sent: &Sent) -> Result<Sent, OutOfMemory>
+    ensures { IfOk result (λ s. s ≡ sent.now) }
+{
+    Ok(match sent {
+        Sent::Packet(text) => Sent::Packet(copy_text(alloc, text)?),
+        Sent::Nothing => Sent::Nothing,
+        Sent::Refused(refusal) => Sent::Refused(*refusal),
+    })
+}
+
+/// What was sent, its packet copied into an empty vector with room for it.
+pub(crate) fn sent_in_room(sent: &Sent, room: Vec<u8>) -> Sent
+    requires empty { room.items ≡ [] }
+    requires room { IsSentWithin (vec_capacity room) sent.now }
+    ensures { result ≡ sent.now }
+{
+    match sent {
+        Sent::Packet(text) => Sent::Packet(text_in_room(text, room)),
+        Sent::Nothing => Sent::Nothing,
+        Sent::Refused(refusal) => Sent::Refused(*refusal),
+    }
+}
+
+/// The same reply, which is no log.
+pub(crate) fn reply_copied(reply: &Reply) -> Reply
+    requires { IsReplyWithin reply.now }
+    ensures { result ≡ reply.now }
+{
+    match reply {
+        Reply::Done => Reply::Done,
+        Reply::Said(seq) => Reply::Said(*seq),
+        Reply::Log(_) => unreachable!(),
+        Reply::Refused(refusal) => Reply::Refused(*refusal),
+    }
+}
+
+/// What a tick brought to light, copied.
+pub(crate) fn copy_ticked(ticked: &Ticked) -> Ticked
+    ensures { result ≡ ticked.now }
+{
+    match ticked {
+        Ticked::Noticed(found) => Ticked::Noticed(found.duplicate()),
+        Ticked::Refused(refusal) => Ticked::Refused(*refusal),
+    }
+}

@@ -1,0 +1,142 @@
+//! Whether two values that events and answers are made of are the same.
+ghost use Rattle.std.specs.Prelude.{◌≡◌, ◌↔◌, IsTrue};
+
+use crate::answer::{Good, PacketAnswer, Sent, Ticked};
+use crate::packet_text::PacketText;
+use gb_types::entry::Entry;
+use gb_types::node::{NodeId, NodeSet};
+use gb_types::reply::Reply;
+use gb_types::request::Request;
+use gb_types::spec::Spec;
+
+/// Whether the bytes are the same.
+pub(crate) fn same_text(first: &PacketText, second: &PacketText) -> bool
+    ensures { IsTrue result ↔ (first.now ≡ second.now) }
+{
+    first.as_slice() == second.as_slice()
+}
+
+/// Whether the nodes have one number.
+pub(crate) fn same_node(first: NodeId, second: NodeId) -> bool
+    ensures { IsTrue result ↔ (first ≡ second) }
+{
+    first.number == second.number
+}
+
+/// Whether the sets have the same nodes.
+fn same_set(first: &NodeSet, second: &NodeSet) -> bool
+    ensures { IsTrue result ↔ (first.now ≡ second.now) }
+{
+    first.is_subset(second) && second.is_subset(first)
+}
+
+fn same_spec(first: &Spec, second: &Spec) -> bool
+    ensures { IsTrue result ↔ (first.now ≡ second.now) }
+{
+    first.kind == second.kind
+        && same_set(&first.members, &second.members)
+        && first.msgs == second.msgs
+        && first.bytes == second.bytes
+        && first.window == second.window
+}
+
+/// Whether the requests are the same, and under the same token.
+pub(crate) fn same_request(first: &Request, second: &Request) -> bool
+    ensures { IsTrue result ↔ (first.now ≡ second.now) }
+{
+    match (first, second) {
+        (Request::AddTenant(t, row), Request::AddTenant(u, other)) => *t == *u && *row == *other,
+        (Request::Make(t, a, spec), Request::Make(u, b, other)) => {
+            *t == *u && *a == *b && same_spec(spec, other)
+        }
+        (Request::OpenGroup(t, a), Request::OpenGroup(u, b)) => *t == *u && *a == *b,
+        (Request::ShutGroup(t, a), Request::ShutGroup(u, b)) => *t == *u && *a == *b,
+        (Request::DropGroup(t, a), Request::DropGroup(u, b)) => *t == *u && *a == *b,
+        (Request::Say(t, a, said), Request::Say(u, b, other)) => {
+            *t == *u && *a == *b && said.as_slice() == other.as_slice()
+        }
+        (Request::Fetch(t, a, from, most), Request::Fetch(u, b, start, count)) => {
+            *t == *u && *a == *b && *from == *start && *most == *count
+        }
+        _ => false,
+    }
+}
+
+fn same_entry(first: &Entry, second: &Entry) -> bool
+    ensures { IsTrue result ↔ (first.now ≡ second.now) }
+{
+    same_node(first.origin, second.origin)
+        && first.seq == second.seq
+        && first.payload.as_slice() == second.payload.as_slice()
+}
+
+fn same_entries(first: &[Entry], second: &[Entry]) -> bool
+    ensures { IsTrue result ↔ (first.now ≡ second.now) }
+{
+    if first.len() != second.len() {
+        return false;
+    }
+    for i in 0..first.len() {
+        if !same_entry(&first[i], &second[i]) {
+            return false;
+        }
+    }
+    true
+}
+
+/// Whether the replies are the same.
+pub(crate) fn same_reply(first: &Reply, second: &Reply) -> bool
+    ensures { IsTrue result ↔ (first.now ≡ second.now) }
+{
+    match (first, second) {
+        (Reply::Done, Reply::Done) => true,
+        (Reply::Said(a), Reply::Said(b)) => *a == *b,
+        (Reply::Log(a), Reply::Log(b)) => same_entries(a.as_slice(), b.as_slice()),
+        (Reply::Refused(a), Reply::Refused(b)) => *a == *b,
+        _ => false,
+    }
+}
+
+fn same_good(first: &Good, second: &Good) -> bool
+    ensures { IsTrue result ↔ (first.now ≡ second.now) }
+{
+    same_node(first.from, second.from)
+        && first.frame == second.frame
+        && first.items == second.items
+        && first.done == second.done
+}
+
+/// Whether the same became of bytes that came.
+pub(crate) fn same_taken(first: &PacketAnswer, second: &PacketAnswer) -> bool
+    ensures { IsTrue result ↔ (first.now ≡ second.now) }
+{
+    match (first, second) {
+        (PacketAnswer::Good(a), PacketAnswer::Good(b)) => same_good(a, b),
+        (PacketAnswer::Fault(a), PacketAnswer::Fault(b)) => *a == *b,
+        (PacketAnswer::Refused(a), PacketAnswer::Refused(b)) => *a == *b,
+        _ => false,
+    }
+}
+
+/// Whether the same was sent.
+pub(crate) fn same_sent(first: &Sent, second: &Sent) -> bool
+    ensures { IsTrue result ↔ (first.now ≡ second.now) }
+{
+    match (first, second) {
+        (Sent::Packet(a), Sent::Packet(b)) => same_text(a, b),
+        (Sent::Nothing, Sent::Nothing) => true,
+        (Sent::Refused(a), Sent::Refused(b)) => *a == *b,
+        _ => false,
+    }
+}
+
+/// Whether the same came to light.
+pub(crate) fn same_ticked(first: &Ticked, second: &Ticked) -> bool
+    ensures { IsTrue result ↔ (first.now ≡ second.now) }
+{
+    match (first, second) {
+        (Ticked::Noticed(a), Ticked::Noticed(b)) => same_set(a, b),
+        (Ticked::Refused(a), Ticked::Refused(b)) => *a == *b,
+        _ => false,
+    }
+}

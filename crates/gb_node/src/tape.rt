@@ -1,0 +1,53 @@
+//! Tapes: what happened at a node, as a host notes it.
+ghost use Rattle.std.specs.Prelude.{◌≡◌};
+
+use crate::answer::NodeAnswer;
+use crate::event::NodeEvent;
+use std::marker::Model;
+
+/// An event at a node with its answer, and who asked for it.
+#[derive(Drop)]
+pub struct TapeEntry {
+    /// The number of the seat from which it was asked.
+    pub seat: u32,
+    /// How many events of this seat happened at the node before.
+    pub count: u64,
+    pub event: NodeEvent,
+    pub answer: NodeAnswer,
+}
+
+/// A node's tape. Contracts see its entries, the oldest first.
+#[derive(Drop)]
+pub struct Tape {
+    entries: Vec<TapeEntry>,
+}
+
+impl Model for Tape {
+    ghost use Rattle.std.specs.Coded.{codes, coded_ℕ};
+    ghost use Rattle.std.specs.Ordering.{nat_cmp};
+    ghost use Rattle.std.specs.FinSet as set;
+    ghost use Rattle.std.specs.Prelude.{List};
+    ghost use Rattle.gb_node.specs.declared.tape.TapeEntry.{TapeEntry};
+
+    ghost Value = { List TapeEntry };
+
+    ghost coded = { Prim.hlevel (codes, set.code {R = nat_cmp} coded_ℕ) };
+
+    ghost view = { λ t. t.entries.items };
+}
+
+impl Tape {
+    pub fn as_slice(&self) -> &[TapeEntry]
+        ensures { result.now ≡ self.now }
+    {
+        self.entries.as_slice()
+    }
+}
+
+impl From<Vec<TapeEntry>> for Tape {
+    ghost from_gives = { λ v t. t ≡ v.items };
+
+    fn from(entries: Vec<TapeEntry>) -> Tape {
+        Tape { entries }
+    }
+}
