@@ -13,5 +13,5 @@ pub mod IndexLemmas
 pub mod AddressLemmas
 pub mod QuietLemmas
 pub mod AddLemmas
-pub mod NoticeLemmas
+pub mod MemberLemmas
 pub mod DropLemmas
