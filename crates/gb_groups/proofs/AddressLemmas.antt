@@ -59,9 +59,6 @@ others_kept_row addr rows p row same e = record {
 pub others_kept : (addr : Addr) (rows : List Row) (p : ℕ) (f : SlotState → SlotState) → Some p ≡ place_of addr rows → OthersKept addr rows (set rows p (on_slot f (row_at rows p)))
 others_kept addr rows p f e = others_kept_row addr rows p (on_slot f (row_at rows p)) refl e
 
-pub none_changed : (addr : Addr) (rows : List Row) → OthersKept addr rows rows
-none_changed addr rows = record { others = λ g off. refl }
-
 -- an item of a group that is here
 pub item_is : (from origin : NodeId) (i : Item) (rows : List Row) (p : ℕ) → origin.number ≡ i.origin → length i.payload ≤ PAYLOAD → Some p ≡ place_of (address_of i) rows → set rows p (on_slot (slot_came from (record { origin = origin; seq = i.seq; payload = i.payload })) (row_at rows p)) ≡ item_came from i rows
 item_is from origin i rows p e l at =

@@ -4,7 +4,7 @@ use Rattle.std.specs.Prelude.{Option, Some, None, IsSome}
 use Rattle.indexmap.specs.IndexMap.{set_value_at}
 use Rattle.std.proofs.Math.ListN.{set}
 use Rattle.std.proofs.lemmas.Bool.{cases_eq, cases_lt}
-use Rattle.std.proofs.lemmas.List.{get_or_past, get_or-set_same, get_or-set_other, length-set, set-get_or}
+use Rattle.std.proofs.lemmas.List.{get_or_past, get_or-set_same, get_or-set_other, length-set}
 use Rattle.slab.specs.Slab.{Slab, get}
 use Rattle.gb_types.specs.declared.address.Addr.{Addr}
 use Rattle.gb_types.specs.declared.reply.Reply.TheVariants.{Done}
@@ -80,10 +80,6 @@ dropped es old new p key w kept here =
       };
       rows = rows;
     }
-
--- dropping what was dropped changes nothing
-pub gone_same : (rows : List Row) (p : ℕ) → (row_at rows p).slot ≡ None → rows ≡ set rows p (gone (row_at rows p))
-gone_same rows p h = sym (ap (λ o. set rows p (record (row_at rows p) { slot = o })) (sym h) ∙ set-get_or rows p no_row)
 
 past_gone : (es : List (Addr × Place)) (p : ℕ) → length es ≤ p → place_at es p ≡ Gone
 past_gone es p h = ap (λ (e : Addr × Place). e.1) (get_or_past es p no_entry_at h)

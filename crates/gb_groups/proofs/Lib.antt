@@ -13,7 +13,7 @@ pub mod IndexLemmas
 pub mod AddressLemmas
 pub mod QuietLemmas
 pub mod AddLemmas
-pub mod NoticeLemmas
+pub mod MemberLemmas
 pub mod DropLemmas
 pub mod OneGroupLemmas
 pub mod ShortLemmas

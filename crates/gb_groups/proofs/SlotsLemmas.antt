@@ -5,7 +5,7 @@ use Rattle.std.specs.Prelude.{Bool, cond, not, nat_lt, ◌+◌, Option, Some, No
 use Rattle.std.specs.Borrow.{Bor}
 use Rattle.std.proofs.Math.ListN.{set, get_or-map}
 use Rattle.std.proofs.lemmas.Bool.{cases_lt, cases_eq}
-use Rattle.std.proofs.lemmas.List.{get_or-set_same, get_or-set_other, get_or_past, length-map, length-set, set-get_or}
+use Rattle.std.proofs.lemmas.List.{get_or-set_same, get_or-set_other, get_or_past, length-map, length-set}
 use Rattle.std.specs.Map.{keys_of}
 use Rattle.slab.specs.Slab.{Slab, get, with_value}
 use Rattle.gb_rules.specs.Address.{is_addr}
@@ -57,15 +57,6 @@ row_is slots es p = get_or-map (row_of slots) es p no_entry_at
 -- the slot at a place, by its key
 pub slot_is : (slots : Slab SlotState) (es : List (Addr × Place)) (p k : ℕ) (v : SlotState) → place_at es p ≡ Key k → Some v ≡ get slots k → (row_at (map (row_of slots) es) p).slot ≡ Some v
 slot_is slots es p k v here at = ap (λ (r : Row). r.slot) (row_is slots es p) ∙ ap (slot_under slots) here ∙ sym at
-
--- none there
-pub gone_is : (slots : Slab SlotState) (es : List (Addr × Place)) (p : ℕ) → place_at es p ≡ Gone → (row_at (map (row_of slots) es) p).slot ≡ None
-gone_is slots es p here = ap (λ (r : Row). r.slot) (row_is slots es p) ∙ ap (slot_under slots) here
-
-pub none_changes : (f : SlotState → SlotState) (rows : List Row) (p : ℕ) → (row_at rows p).slot ≡ None → rows ≡ set rows p (on_slot f (row_at rows p))
-none_changes f rows p h =
-    let same : on_slot f (row_at rows p) ≡ row_at rows p = ap (λ o. record (row_at rows p) { slot = option_map f o }) h ∙ sym (ap (λ o. record (row_at rows p) { slot = o }) h) in
-    sym (ap (set rows p) same ∙ set-get_or rows p no_row)
 
 -- what a write of a slot's value makes of the groups
 pub record Changed (f : SlotState → SlotState) (es : List (Addr × Place)) (slots : Slab SlotState) (p k : ℕ) (new : SlotState) : Type 0 where

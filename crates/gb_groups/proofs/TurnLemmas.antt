@@ -75,7 +75,3 @@ turn q ts =
     sym (in_turns-rounds (suc k) (q ∷ ts) (omega arith))
     ∙ turn_rounds k q ts (omega arith)
     ∙ ap (λ t. take 1 q ++ t) (in_turns-rounds k (ts ++ drop 1 q ∷ []) (omega arith))
-
--- a queue with nothing goes to the end
-pub turn_idle : {A : Type 0} (ts : List (List A)) → in_turns ([] ∷ ts) ≡ in_turns (ts ++ [] ∷ [])
-turn_idle ts = turn [] ts

@@ -122,10 +122,6 @@ pub empty : {A : Type 0} (q : List A) → length q ≡ 0 → q ≡ []
 empty [] h = refl
 empty (x ∷ q) h = absurd (omega arith)
 
--- a group where nothing waits
-pub nothing_at : (dest : ℕ) (rows : List Row) (p : ℕ) (row : Row) → p < length rows → row ≡ get_or rows p row → length (queue dest row) ≡ 0 → get_or (queues dest rows) p [] ≡ []
-nothing_at dest rows p row h e z = queues_at dest rows p row h e ∙ empty (queue dest row) z
-
 pub nothing_past : (dest : ℕ) (rows : List Row) (p : ℕ) → length rows ≤ p → get_or (queues dest rows) p [] ≡ []
 nothing_past dest rows p h = let l = length-queues dest rows in get_or_past (queues dest rows) p [] (omega arith)
 
@@ -144,8 +140,3 @@ pub found : (dest : ℕ) (rows : List Row) (p : ℕ) (row : Row) (from : ℕ) �
 found dest rows p row from h e z w =
     let l = length-queues dest rows in
     sym (ap first_place (sym w) ∙ first_of_gives p (queue dest row) (queues dest rows) (omega arith) (queues_at dest rows p row h e) z)
-
-pub wrapped : (dest : ℕ) (rows : List Row) (p from : ℕ) → p ≡ length rows → walk p (queues dest rows) ≡ walk from (queues dest rows) → walk 0 (queues dest rows) ≡ walk from (queues dest rows)
-wrapped dest rows p from h w =
-    let l : length (queues dest rows) ≡ p = length-queues dest rows ∙ sym h in
-    sym (walk_wrap (queues dest rows)) ∙ ap (λ n. walk n (queues dest rows)) l ∙ w

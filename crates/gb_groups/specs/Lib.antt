@@ -3,6 +3,7 @@ pub mod PlaceSet
 pub mod SlotsValue
 pub mod Packing
 pub mod Busy
+pub mod Members
 pub mod Ahead
 pub mod Slots
 pub mod GroupsValue

@@ -1,8 +1,8 @@
 //! All groups of a node, with an index of what waits in them.
-ghost use Rattle.std.specs.Prelude.{◌≡◌, ◌==◌, ◌≤◌, ◌<◌, ◌+◌, is_some, ◌++◌, ◌∷◌, [], true, map, slice_set, ℕ, Some, None, length, sum_by, All, OnOk, OnErr, vec_len, vec_capacity};
+ghost use Rattle.std.specs.Prelude.{◌≡◌, ◌==◌, ◌≤◌, ◌<◌, ◌+◌, is_some, ◌++◌, ◌∷◌, [], true, map, slice_set, ℕ, Some, None, length, sum_by, All, OnOk, OnErr, MatchOption, vec_len, vec_capacity};
 ghost use Rattle.gb_groups.specs.Fair.{IsFront, IsLongest};
 ghost use Rattle.gb_frame.specs.Packet.{item_of as view_item};
-ghost use Rattle.gb_types.specs.declared.limits.TheConstants.{PLACES};
+ghost use Rattle.gb_types.specs.declared.limits.TheConstants.{NODES, PLACES};
 ghost use Rattle.gb_rules.specs.Group.{is_member, open_answer, shut_answer, drop_answer, say_answer, fetch_answer};
 ghost use Rattle.gb_rules.specs.Replied.{IsReply};
 ghost use Rattle.gb_rules.specs.declared.phase.Phase.TheVariants as Phase;
@@ -10,6 +10,7 @@ ghost use Rattle.gb_slot.specs.Slot.{IsWithinLimits, new_slot, slot_done, slot_m
 ghost use Rattle.gb_groups.specs.SlotsValue.{row_at, on_slot, AreApart};
 ghost use Rattle.gb_groups.specs.AtAddress.{group_reply, drop_at, place_of, on_address, address_of, item_came, OthersKept};
 ghost use Rattle.gb_groups.specs.GroupsValue.{no_groups, walk_to, batch, packed, IsIndex, IsIndexBut};
+ghost use Rattle.gb_groups.specs.Members.{has_member, IsEnrolled, IsNextMember};
 ghost use Rattle.gb_groups.specs.Packing.{items, size};
 ghost use Rattle.gb_groups.specs.OneGroup.{LONGEST, NothingWaits};
 ghost use Rattle.gb_frame.specs.Spelling.{items_text, IsItem};
@@ -38,10 +39,13 @@ pub struct Groups {
     busy: [PlaceSet; NODES],
     /// For each node, the place where packing for it goes on.
     cursors: [usize; NODES],
+    /// For each node, the places of the groups that have it among their members.
+    memberships: [PlaceSet; NODES],
 }
 
 impl Model for Groups {
     ghost use Rattle.gb_groups.specs.GroupsValue.{GroupsValue, ArePlaces, IsIndex};
+    ghost use Rattle.gb_groups.specs.Members.{AreMemberships};
     ghost use Rattle.std.specs.Coded.{codes, coded_ℕ};
     ghost use Rattle.std.specs.Ordering.{nat_cmp};
     ghost use Rattle.std.specs.FinSet as set;
@@ -52,7 +56,7 @@ impl Model for Groups {
 
     ghost view = { λ h. record { rows = h.slots.rows; cursors = h.cursors } };
 
-    ghost invariant = { λ h. ArePlaces h.slots.rows h.cursors × IsIndex h.slots.rows h.busy };
+    ghost invariant = { λ h. ArePlaces h.slots.rows h.cursors × IsIndex h.slots.rows h.busy × AreMemberships h.slots.rows h.memberships };
 }
 
 /// Notes in the index what waits in the group at a place.
@@ -70,6 +74,21 @@ fn refresh(busy: &mut [PlaceSet], slots: &Slots, place: usize)
     }
 }
 
+/// Puts a place into the sets of these nodes, and takes it out of the others' sets.
+fn enrol(memberships: &mut [PlaceSet], place: usize, members: &NodeSet)
+    requires place { place < PLACES }
+    requires size { length memberships.old ≡ NODES }
+    ensures { IsEnrolled NODES place members.now memberships.old memberships.new }
+{
+    for index in 0..NODES {
+        if members.contains(NodeId::new(index as u8)) {
+            memberships[index].insert(place);
+        } else {
+            memberships[index].remove(place);
+        }
+    }
+}
+
 impl Groups {
     /// No group.
     pub fn new(alloc: Global) -> Groups
@@ -80,6 +99,7 @@ impl Groups {
             slots: Slots::new(alloc),
             busy: std::array::from_fn(|_| PlaceSet::new()),
             cursors: [0; NODES],
+            memberships: std::array::from_fn(|_| PlaceSet::new()),
         }
     }
 
@@ -155,7 +175,9 @@ impl Groups {
         ensures cursors { self.new.cursors ≡ self.old.cursors }
         ensures err { OnErr result (self.new ≡ self.old) }
     {
+        let place = self.slots.len();
         self.slots.add(self.alloc, addr, spec, me, noticed)?;
+        enrol(&mut self.memberships, place, &spec.members);
         Ok(())
     }
 
@@ -196,6 +218,7 @@ impl Groups {
             Some(place) => {
                 let reply = self.slots.remove(place);
                 refresh(&mut self.busy, &self.slots, place);
+                enrol(&mut self.memberships, place, &NodeSet::new());
                 reply
             }
             None => Reply::Refused(Refusal::NoGroup),
@@ -239,13 +262,22 @@ impl Groups {
         refresh(&mut self.busy, &self.slots, place);
     }
 
-    /// Notices a node in each group.
+    /// The first place from one on of a group that has a node among its members.
+    fn next_with(&self, who: NodeId, from: usize) -> Option<usize>
+        ensures { MatchOption result ((p : ℕ) → from ≤ p → has_member who.number (row_at self.now.rows p).slot ≡ 0) (λ q. IsNextMember who.number from self.now.rows q) }
+    {
+        self.memberships[who.index()].next(from)
+    }
+
+    /// Notices a node in each group. Groups that do not have it among their members cost nothing.
     pub fn notice(&mut self, who: NodeId)
         ensures rows { self.new.rows ≡ map (on_slot (slot_noticed who)) self.old.rows }
         ensures cursors { self.new.cursors ≡ self.old.cursors }
     {
-        for place in 0..self.slots.len() {
+        let mut from = 0;
+        while let Some(place) = self.next_with(who, from) {
             self.notice_at(place, who);
+            from = place + 1;
         }
     }
 

@@ -8,5 +8,3 @@ pub mod groups;
 pub mod packing;
 pub mod place_set;
 pub mod slots;
-#[cfg(test)]
-mod tests;

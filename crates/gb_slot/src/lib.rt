@@ -9,6 +9,4 @@ mod broadcast;
 pub mod history;
 pub mod slot;
 pub mod store;
-#[cfg(test)]
-mod tests;
 mod window;

@@ -4,5 +4,3 @@
 
 pub mod table;
 pub mod tenants;
-#[cfg(test)]
-mod tests;

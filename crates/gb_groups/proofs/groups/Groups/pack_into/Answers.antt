@@ -1,13 +1,15 @@
-use Rattle.std.proofs.Common.{◌≡◌, List, ◌++◌, length, take, get_or, ap, subst, ◌∙◌, arith}
+use Rattle.std.proofs.Common.{◌≡◌, List, ◌++◌, length, take, get_or, ap, sym, subst, ◌∙◌, arith}
 use Rattle.std.specs.Prelude.{sum_by, All}
 use Rattle.gb_groups.specs.SlotsValue.{Row, HaveCounters, AreApart}
 use Rattle.gb_groups.specs.GroupsValue.{GroupsValue, walk_to, batch, packed}
+use Rattle.gb_groups.specs.Members.{AreMemberships}
 use Rattle.gb_groups.specs.Packing.{Visit, queues, walk, size, items}
 use Rattle.gb_frame.specs.Spelling.{items_text, IsItem}
 use Rattle.gb_groups.proofs.TakingLemmas.{length-gave, queues-gave}
 use Rattle.gb_groups.proofs.BatchLemmas.{is_longest, packed_at, taken_is, count_is, places-kept, fit-front}
 use Rattle.gb_groups.proofs.FrontLemmas.{is_front}
 use Rattle.gb_groups.proofs.IndexLemmas.{index_at, index_changed}
+use Rattle.gb_groups.proofs.MemberLemmas.{memberships_gave}
 use Rattle.gb_groups.proofs.groups.Groups.pack_into.Goals as goal
 
 pub measure-count-requires-clause-index : goal.measure-count-requires-clause-index
@@ -42,6 +44,7 @@ invariant_of-self c =
     let others = λ (e : _) (ne : _). ap (queues e) c.advance-cursor.ensures.rows ∙ queues-gave dest e 0 vs rows ne in (
       places-kept c.index-to.result c.advance-cursor.result c.self.inside.cursors rows new c.self.invariant.0 c.advance-cursor.ensures.within size,
       index_changed rows new c.self.inside.busy c.index-to.result dest c.advance-cursor.new.busy c.self.invariant.1 c.index-to.ensures.value c.advance-cursor.ensures.index size others c.args.dest.below,
+      subst (λ (rs : List Row). AreMemberships rs c.self.inside.memberships) (sym c.advance-cursor.ensures.rows) (memberships_gave dest vs rows c.self.inside.memberships c.self.invariant.2),
     )
 
 pub returns-clause-count : goal.returns-clause-count

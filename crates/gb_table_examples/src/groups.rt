@@ -1,0 +1,210 @@
+//! All groups at one node.
+use crate::told::{Told, in_short};
+use gb_frame::item::{ItemView, first_item};
+use gb_groups::groups::Groups;
+use gb_types::address::Addr;
+use gb_types::kind::Kind;
+use gb_types::limits::PLACES;
+use gb_types::memory::OutOfMemory;
+use gb_types::message::MsgId;
+use gb_types::node::{NodeId, NodeSet};
+use gb_types::refusal::Refusal;
+use gb_types::reply::Reply;
+use gb_types::spec::Spec;
+use std::alloc::Global;
+use std::process::Abort;
+use std::rt::HostRuntime;
+use std::test::Fail;
+
+const ME: NodeId = NodeId { number: 0 };
+
+const FRIEND: NodeId = NodeId { number: 1 };
+
+const ROOM: u16 = 8_153;
+
+#[derive(Clone, Copy)]
+enum Step {
+    /// Makes and opens a best-effort group of two members at the first.
+    Open,
+    /// Says a message of one byte.
+    Say,
+    /// An item comes from the friend.
+    Item,
+    Done,
+    Shut,
+    Drop,
+    Fetch,
+}
+
+fn open(groups: &mut Groups, addr: Addr) -> Reply {
+    let mut members = NodeSet::new();
+    members.insert(FRIEND);
+    members.insert(ME);
+    if !members.contains(ME) {
+        return Reply::Refused(Refusal::BadMembers);
+    }
+    let spec = Spec {
+        kind: Kind::Beb,
+        members,
+        msgs: 8,
+        bytes: 65_536,
+        window: 1_024,
+    };
+    if groups.contains(addr) {
+        return Reply::Refused(Refusal::Spent);
+    }
+    if groups.len() >= usize::from(PLACES) {
+        return Reply::Refused(Refusal::NoRoom);
+    }
+    let made = groups.make(addr, &spec, ME, &NodeSet::new());
+    if made.is_err() {
+        return Reply::Refused(Refusal::OutOfMemory);
+    }
+    groups.open_group(addr)
+}
+
+fn take(groups: &mut Groups, step: Step, group: u16) -> Reply {
+    let addr = Addr { tenant: 7, group };
+    match step {
+        Step::Open => open(groups, addr),
+        Step::Say => groups.say(addr, b"a"),
+        Step::Item => {
+            let item = ItemView {
+                tenant: 7,
+                group,
+                origin: 1,
+                seq: 1,
+                payload: b"x",
+            };
+            groups.item(FRIEND, item);
+            Reply::Done
+        }
+        Step::Done => {
+            groups.done(FRIEND, addr, MsgId { origin: ME, seq: 1 });
+            Reply::Done
+        }
+        Step::Shut => groups.shut_group(addr),
+        Step::Drop => groups.drop_group(addr),
+        Step::Fetch => groups.fetch(addr, 0, 16),
+    }
+}
+
+/// These steps of groups are answered so.
+fn compare(rt: &impl Abort, groups: &mut Groups, steps: &[(Step, u16, Told)]) {
+    for (step, group, want) in steps {
+        let reply = take(groups, *step, *group);
+        let found = in_short(&reply);
+        assert!(rt; found == *want);
+    }
+}
+
+/// The next batch for a node has items of these groups, with these numbers, in this order.
+fn packs(
+    groups: &mut Groups,
+    alloc: Global,
+    dest: NodeId,
+    room: u16,
+    want: &[(u16, u16)],
+) -> Result<bool, OutOfMemory> {
+    let room = usize::from(room);
+    let (count, bytes) = groups.measure(dest, room);
+    let mut out = Vec::with_capacity(alloc, bytes)?;
+    let packed = groups.pack_into(dest, room, &mut out);
+    if packed != count || out.len() != bytes || want.len() != usize::from(count) {
+        return Ok(false);
+    }
+    let mut texts = out.as_slice();
+    for (group, seq) in want {
+        let Some((item, rest)) = first_item(texts) else {
+            return Ok(false);
+        };
+        if item.tenant != 7 || item.origin != 0 || item.group != *group || item.seq != *seq {
+            return Ok(false);
+        }
+        texts = rest;
+    }
+    Ok(texts.is_empty())
+}
+
+#[test]
+fn groups_give_one_item_each_in_turn(rt: HostRuntime) -> Result<(), Fail> {
+    let mut groups = Groups::new(rt.alloc());
+    compare(
+        &rt,
+        &mut groups,
+        &[
+            (Step::Open, 1, Told::Done),
+            (Step::Open, 2, Told::Done),
+            (Step::Open, 3, Told::Done),
+            (Step::Say, 1, Told::Done),
+            (Step::Say, 1, Told::Done),
+            (Step::Say, 1, Told::Done),
+            (Step::Say, 2, Told::Done),
+            (Step::Say, 3, Told::Done),
+            (Step::Say, 3, Told::Done),
+            (Step::Drop, 2, Told::Done),
+        ],
+    );
+    // Each item takes ten bytes.
+    let batches: [(NodeId, u16, &[(u16, u16)]); 5] = [
+        (ME, ROOM, &[]),
+        (FRIEND, 39, &[(1, 1), (3, 1), (1, 2)]),
+        (FRIEND, 9, &[]),
+        (FRIEND, ROOM, &[(3, 2), (1, 3)]),
+        (FRIEND, ROOM, &[]),
+    ];
+    for (dest, room, want) in batches {
+        let packed = packs(&mut groups, rt.alloc(), dest, room, want)?;
+        assert!(&rt; packed);
+    }
+    Ok(())
+}
+
+#[test]
+fn a_dropped_group_keeps_its_place_and_shows_nothing(rt: HostRuntime) -> Result<(), Fail> {
+    let mut groups = Groups::new(rt.alloc());
+    compare(
+        &rt,
+        &mut groups,
+        &[
+            (Step::Open, 1, Told::Done),
+            (Step::Say, 1, Told::Done),
+            (Step::Drop, 1, Told::Done),
+            (Step::Drop, 1, Told::Refused(Refusal::Spent)),
+            (Step::Fetch, 1, Told::Refused(Refusal::Spent)),
+            (Step::Fetch, 2, Told::Refused(Refusal::NoGroup)),
+            // The next group stands under the same key.
+            (Step::Open, 2, Told::Done),
+            (Step::Fetch, 2, Told::Log(0)),
+            // An item of a group that is not here is let fall.
+            (Step::Item, 9, Told::Done),
+            (Step::Item, 2, Told::Done),
+            (Step::Done, 2, Told::Done),
+            (Step::Fetch, 2, Told::Log(1)),
+            (Step::Fetch, 1, Told::Refused(Refusal::Spent)),
+        ],
+    );
+    let packed = packs(&mut groups, rt.alloc(), FRIEND, ROOM, &[])?;
+    assert!(&rt; packed);
+    Ok(())
+}
+
+#[test]
+fn nothing_waits_for_a_noticed_node(rt: HostRuntime) -> Result<(), Fail> {
+    let mut groups = Groups::new(rt.alloc());
+    compare(
+        &rt,
+        &mut groups,
+        &[
+            (Step::Open, 1, Told::Done),
+            (Step::Open, 2, Told::Done),
+            (Step::Say, 1, Told::Done),
+            (Step::Say, 2, Told::Done),
+            (Step::Shut, 2, Told::Done),
+        ],
+    );
+    groups.notice(FRIEND);
+    let packed = packs(&mut groups, rt.alloc(), FRIEND, ROOM, &[])?;
+    assert!(&rt; packed);
+    Ok(())
+}

@@ -1,0 +1,263 @@
+//! The tenants and groups of a node, by requests with tokens.
+use crate::told::{Told, in_short};
+use gb_cap::hmac::Key;
+use gb_cap::token::{Need, Token, token};
+use gb_table::table::Table;
+use gb_types::address::Addr;
+use gb_types::kind::Kind;
+use gb_types::memory::OutOfMemory;
+use gb_types::node::{NodeId, NodeSet};
+use gb_types::payload::Payload;
+use gb_types::refusal::Refusal;
+use gb_types::request::Request;
+use gb_types::spec::{Spec, TenantRow};
+use std::alloc::Global;
+use std::process::Abort;
+use std::rt::HostRuntime;
+use std::test::Fail;
+
+const ME: NodeId = NodeId { number: 0 };
+
+const FRIEND: NodeId = NodeId { number: 1 };
+
+const ADMIN_KEY: Key = [1; 32];
+
+const TENANT_KEY: Key = [2; 32];
+
+/// What is asked of the group 0 or 1 of the tenant 7.
+#[derive(Clone, Copy)]
+enum Ask {
+    /// Adds a tenant that may make so many groups.
+    Tenant(u16, u32),
+    /// Makes a group of one member and the friend, where so many messages may be said.
+    Make(u16, NodeId, u32),
+    Open(u16),
+    Shut(u16),
+    Drop(u16),
+    /// Says so many zeros.
+    Say(u16, usize),
+    /// Reads the log from a place on.
+    Fetch(u16, u32),
+}
+
+/// Whose token comes with a request.
+#[derive(Clone, Copy)]
+enum Holder {
+    Nobody,
+    Admin,
+    Owner,
+    Member(u16),
+}
+
+fn token_of(holder: Holder) -> Token {
+    match holder {
+        Holder::Nobody => [0; 32],
+        Holder::Admin => token(&ADMIN_KEY, Need::Admin),
+        Holder::Owner => token(&TENANT_KEY, Need::Tenant(7)),
+        Holder::Member(group) => token(&TENANT_KEY, Need::Member(7, group, ME)),
+    }
+}
+
+fn row(tenant: u16, groups: u32) -> TenantRow {
+    TenantRow {
+        tenant,
+        key: TENANT_KEY,
+        groups,
+        msgs: 2,
+        bytes: 64,
+        window: 1,
+    }
+}
+
+fn spec(member: NodeId, msgs: u32) -> Spec {
+    let mut members = NodeSet::new();
+    members.insert(member);
+    members.insert(FRIEND);
+    Spec {
+        kind: Kind::Beb,
+        members,
+        msgs,
+        bytes: 64,
+        window: 1,
+    }
+}
+
+fn addr(group: u16) -> Addr {
+    Addr { tenant: 7, group }
+}
+
+fn request(alloc: Global, ask: Ask, token: Token) -> Result<Request, OutOfMemory> {
+    let request = match ask {
+        Ask::Tenant(tenant, groups) => Request::AddTenant(token, row(tenant, groups)),
+        Ask::Make(group, member, msgs) => Request::Make(token, addr(group), spec(member, msgs)),
+        Ask::Open(group) => Request::OpenGroup(token, addr(group)),
+        Ask::Shut(group) => Request::ShutGroup(token, addr(group)),
+        Ask::Drop(group) => Request::DropGroup(token, addr(group)),
+        Ask::Say(group, zeros) => {
+            let payload = Payload::from_slice(alloc, [0; 1_025].get(..zeros).unwrap_or(&[]))?;
+            Request::Say(token, addr(group), payload)
+        }
+        Ask::Fetch(group, from) => Request::Fetch(token, addr(group), from, 16),
+    };
+    Ok(request)
+}
+
+/// A table with four places answers so, where the tenant 7 may make two groups.
+fn compare(rt: &impl Abort, alloc: Global, steps: &[(Ask, Holder, Told)]) -> Result<(), Fail> {
+    let mut table = Table::new(alloc, ME, 3, 4, &ADMIN_KEY);
+    let tenant = request(alloc, Ask::Tenant(7, 2), token_of(Holder::Admin))?;
+    let _ = table.request(&tenant, &NodeSet::new());
+    for (ask, holder, want) in steps {
+        let request = request(alloc, *ask, token_of(*holder))?;
+        let reply = table.request(&request, &NodeSet::new());
+        let found = in_short(&reply);
+        assert!(rt; found == *want);
+    }
+    Ok(())
+}
+
+#[test]
+fn tenants_are_refused_in_order(rt: HostRuntime) -> Result<(), Fail> {
+    compare(
+        &rt,
+        rt.alloc(),
+        &[
+            (
+                Ask::Tenant(7, 0),
+                Holder::Nobody,
+                Told::Refused(Refusal::Denied),
+            ),
+            (
+                Ask::Tenant(7, 0),
+                Holder::Admin,
+                Told::Refused(Refusal::OverReserve),
+            ),
+            (
+                Ask::Tenant(7, 3),
+                Holder::Admin,
+                Told::Refused(Refusal::TenantThere),
+            ),
+            (
+                Ask::Tenant(8, 3),
+                Holder::Admin,
+                Told::Refused(Refusal::NoRoom),
+            ),
+            (Ask::Tenant(8, 2), Holder::Admin, Told::Done),
+        ],
+    )
+}
+
+#[test]
+fn groups_are_refused_in_order(rt: HostRuntime) -> Result<(), Fail> {
+    compare(
+        &rt,
+        rt.alloc(),
+        &[
+            (
+                Ask::Make(2, ME, 1),
+                Holder::Nobody,
+                Told::Refused(Refusal::Denied),
+            ),
+            (
+                Ask::Make(2, FRIEND, 1),
+                Holder::Owner,
+                Told::Refused(Refusal::NoGroup),
+            ),
+            (
+                Ask::Make(1, FRIEND, 3),
+                Holder::Owner,
+                Told::Refused(Refusal::BadMembers),
+            ),
+            (
+                Ask::Make(1, ME, 3),
+                Holder::Owner,
+                Told::Refused(Refusal::OverReserve),
+            ),
+            (Ask::Make(1, ME, 1), Holder::Owner, Told::Done),
+            (
+                Ask::Make(1, FRIEND, 1),
+                Holder::Owner,
+                Told::Refused(Refusal::Spent),
+            ),
+        ],
+    )
+}
+
+#[test]
+fn a_group_is_refused_in_order(rt: HostRuntime) -> Result<(), Fail> {
+    compare(
+        &rt,
+        rt.alloc(),
+        &[
+            (Ask::Open(0), Holder::Nobody, Told::Refused(Refusal::Denied)),
+            (Ask::Open(0), Holder::Owner, Told::Refused(Refusal::NoGroup)),
+            (Ask::Make(0, ME, 1), Holder::Owner, Told::Done),
+            (
+                Ask::Say(0, 1_025),
+                Holder::Member(1),
+                Told::Refused(Refusal::Denied),
+            ),
+            (
+                Ask::Say(0, 1_025),
+                Holder::Member(0),
+                Told::Refused(Refusal::WrongPhase),
+            ),
+            (Ask::Open(0), Holder::Owner, Told::Done),
+            (Ask::Say(0, 1), Holder::Member(0), Told::Done),
+            (Ask::Fetch(0, 0), Holder::Member(0), Told::Log(1)),
+            (
+                Ask::Fetch(0, 2),
+                Holder::Member(0),
+                Told::Refused(Refusal::BadPlace),
+            ),
+            (Ask::Drop(0), Holder::Owner, Told::Done),
+            (Ask::Shut(0), Holder::Owner, Told::Refused(Refusal::Spent)),
+            (
+                Ask::Fetch(0, 2),
+                Holder::Member(0),
+                Told::Refused(Refusal::Spent),
+            ),
+            // The next group stands under the same key.
+            (Ask::Make(1, ME, 1), Holder::Owner, Told::Done),
+            (Ask::Open(1), Holder::Owner, Told::Done),
+            (Ask::Fetch(1, 0), Holder::Member(1), Told::Log(0)),
+        ],
+    )
+}
+
+#[test]
+fn says_are_refused_in_order(rt: HostRuntime) -> Result<(), Fail> {
+    compare(
+        &rt,
+        rt.alloc(),
+        &[
+            (Ask::Make(0, ME, 1), Holder::Owner, Told::Done),
+            (Ask::Open(0), Holder::Owner, Told::Done),
+            (Ask::Say(0, 1), Holder::Member(0), Told::Done),
+            // Too long, all messages are said, too many bytes, and the window is closed.
+            (
+                Ask::Say(0, 1_025),
+                Holder::Member(0),
+                Told::Refused(Refusal::TooLong),
+            ),
+            (
+                Ask::Say(0, 64),
+                Holder::Member(0),
+                Told::Refused(Refusal::Budget),
+            ),
+            (Ask::Make(1, ME, 2), Holder::Owner, Told::Done),
+            (Ask::Open(1), Holder::Owner, Told::Done),
+            (Ask::Say(1, 1), Holder::Member(1), Told::Done),
+            (
+                Ask::Say(1, 64),
+                Holder::Member(1),
+                Told::Refused(Refusal::Bytes),
+            ),
+            (
+                Ask::Say(1, 1),
+                Holder::Member(1),
+                Told::Refused(Refusal::Window),
+            ),
+        ],
+    )
+}
