@@ -1,6 +1,7 @@
-//! A client of the service, for people and scripts: from words to a request, from a request to its reply, from a reply to
-//! what is printed and to an exit status. It holds no state, and opens no socket: the program `gb_ctl` does. Read
-//! `request::request_text` first, then `task::Task`.
+//! A client of the service, for people and scripts: from what it is told to do to a request, from a request to its reply,
+//! from a reply to what is printed and to an exit status. It holds no state, opens no socket and reads no command line:
+//! gb_client_words does the last, and the program `gb_ctl` the rest. Read `request::request_text` first, then
+//! `task::Task`.
 #![tactic(auto)]
 
 pub mod answer;
@@ -11,6 +12,3 @@ pub mod request;
 pub mod secrets;
 pub mod show;
 pub mod task;
-#[cfg(test)]
-mod tests;
-pub mod words;

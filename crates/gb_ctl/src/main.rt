@@ -11,7 +11,7 @@ use gb_client::fault::{ClientFault, fault_status};
 use gb_client::secrets::{Secrets, read_secrets};
 use gb_client::show::{entry_lines, reply_lines, token_line};
 use gb_client::task::{Asked, Task, fetch_of, request_of};
-use gb_client::words::{Plan, command, plan_of};
+use gb_client_words::words::{Plan, command, plan_of};
 use std::alloc::Global;
 use std::fs::File;
 use std::io::{Read, Write};

@@ -24,7 +24,7 @@ pub enum Answer {
 #[derive(Clone, Copy, PartialEq, Eq, Debug)]
 pub enum Taken {
     Good(Good),
-    /// Stopped, or OutOfMemory: the packet is lost, and nothing has changed.
+    /// Stopped: the packet is lost, and nothing has changed.
     Refused(Refusal),
 }
 
@@ -68,7 +68,7 @@ pub enum Sent {
 pub enum Ticked {
     /// The nodes that are noticed from now on.
     Noticed(NodeSet),
-    /// Stopped, or OutOfMemory: nothing has changed.
+    /// Stopped: nothing has changed.
     Refused(Refusal),
 }
 

@@ -5,7 +5,7 @@ use Rattle.std.proofs.lemmas.Bool.{cases_lt, eqb-true, eq-eqb}
 use Rattle.std.proofs.lemmas.List.{take-append-drop, take-take, drop-take, drop-drop, drop_more, take_at, take-append-le, length-append, length-drop, length-take-le}
 use Rattle.std.proofs.lemmas.List.Edits.{length-between, get_or-between}
 use Rattle.std.proofs.lemmas.Slice.{between_from_start}
-use Rattle.std.proofs.lemmas.List.Elements.{All-from_get_or}
+use Rattle.std.proofs.lemmas.List.Elements.{All-from_get_or, All-get_or}
 use Rattle.std.specs.List.{copy_within}
 use borrow.Rule.Slice.PartMut.{put_mid, post_of}
 use Rattle.memchr.specs.Find.{IsFirst, Passes, is_byte}
@@ -36,6 +36,14 @@ pub IsLine-between : (xs : List ℕ) (i j : ℕ) → j ≤ length xs → NoLineF
 IsLine-between xs i j high none =
     let count : length (between i j xs) ≡ j - i = length-between xs i j high in
     All-from_get_or (λ b. b ≢ 10) (between i j xs) 0 (λ k low. rw (get_or-between xs i j k 0 (omega arith)) (none (i + k) (omega arith) (omega arith)))
+
+-- a line has no line feed, so none stands at a place in it
+pub no_place_within : (xs : List ℕ) (i place j : ℕ) → i ≤ place → place < j → j ≤ length xs → get_or xs place 0 ≡ 10 → IsLine (between i j xs) → ⊥
+no_place_within xs i place j low high within feed line =
+    let count : length (between i j xs) ≡ j - i = length-between xs i j within in
+    let at : get_or (between i j xs) (place - i) 0 ≡ get_or xs (i + (place - i)) 0 = get_or-between xs i j (place - i) 0 (omega arith) in
+    let here : i + (place - i) ≡ place = omega arith in
+    All-get_or (λ b. b ≢ 10) (between i j xs) (place - i) 0 (omega arith) line (at ∙ ap (λ q. get_or xs q 0) here ∙ feed)
 
 -- the line before a line feed
 pub cuts_here : (xs : List ℕ) (i place j : ℕ) (has_ended : Bool) → i ≤ place → place < j → j ≤ length xs → get_or xs place 0 ≡ 10 → NoLineFeed xs i place → place ≤ i + 32768 → CutsLine (between i place xs) (between i j xs) (between (place + 1) j xs) has_ended

@@ -1,6 +1,7 @@
 //! The grammar of a schedule: the words behind each head, and the command that they spell.
 ghost use Rattle.std.specs.Prelude.{◌≡◌, ◌≤◌, ◌<◌, ◌↔◌, ℕ, [], ◌∷◌, Some, IfOk, IfSome, IsTrue, decimal, map};
 ghost use Rattle.std.specs.Option.{ForSome};
+ghost use Rattle.gb_types.specs.Words.{words_of};
 ghost use Rattle.gb_types.specs.declared.node.NodeId.{NodeId as TheNode};
 ghost use Rattle.gb_schedule.specs.declared.command.Command.{Command as TheCommand};
 ghost use Rattle.gb_types.specs.declared.request.Request.TheVariants.{OpenGroup, ShutGroup, DropGroup};
@@ -17,7 +18,7 @@ use gb_types::payload_word::read_payload;
 use gb_types::request::Request;
 use gb_types::request_words::{read_address, read_spec, read_u16, read_u32};
 use gb_types::spec::TenantRow;
-use gb_types::words::split_words;
+use smallvec::SmallVec;
 use std::alloc::Global;
 
 /// The token of each request and the key of each tenant, until there are tokens.
@@ -297,6 +298,15 @@ fn read_arguments(
     }
 }
 
+// The words of a line. No line that spells a command has more than fit with no memory.
+fn words_in(alloc: Global, line: &[u8]) -> Result<SmallVec<&[u8], 10>, OutOfMemory>
+    ensures { IfOk result (λ words. map (λ word. word.now) words.items ≡ words_of line.now) }
+{
+    let mut words = SmallVec::new(alloc);
+    words.extend(line.split(|byte| *byte == b' '))?;
+    Ok(words)
+}
+
 /// The command that a line spells, or None where it spells none. `nodes` is how many nodes the
 /// cluster has, once there is one.
 pub fn read_command(
@@ -309,7 +319,7 @@ pub fn read_command(
         ↔ IsCommandLine nodes line.now command) }
     ensures in_place { IfOk result (λ found. IfSome found (IsInPlace nodes)) }
 {
-    let words = split_words(alloc, line)?;
+    let words = words_in(alloc, line)?;
     let [head, arguments @ ..] = words.as_slice() else {
         return Ok(None);
     };

@@ -154,6 +154,19 @@ impl LineBuffer {
         &self.bytes[self.line_start..self.line_end]
     }
 
+    /// Whether the next line cannot be told without a read.
+    pub fn wants_read(&self) -> bool
+        ensures { IsTrue result ↔ WantsRead self.now }
+    {
+        if self.has_ended || self.end - self.start > LINE {
+            return false;
+        }
+        match line_feed_within(&self.bytes, self.searched, self.end) {
+            Some(_) => false,
+            None => true,
+        }
+    }
+
     // The next line, as far as the unread bytes tell.
     fn cut(&mut self) -> Option<NextLine>
         ensures given { result ≡ Some NextLine.Given

@@ -3,4 +3,3 @@ pub mod ProgressLemmas
 pub mod AnswerLemmas
 pub mod OfClusterLemmas
 pub mod WritingLemmas
-pub mod FaultLemmas

@@ -11,23 +11,13 @@ use gb_types::node::NodeSet;
 use gb_types::number::put_number;
 use gb_types::refusal::Refusal;
 use gb_types::reply::Reply;
-use gb_types::reply_text::reply_text;
-use std::alloc::Global;
-
-/// Appends the text of a reply.
-fn put_reply(alloc: Global, out: &mut Vec<u8>, reply: &Reply) -> Result<(), OutOfMemory>
-    ensures { OnOk result (out.new.items ≡ out.old.items ++ reply_spelling reply.now) }
-{
-    let text = reply_text(alloc, reply)?;
-    out.extend_from_slice(&text)?;
-    Ok(())
-}
+use gb_types::reply_text::put_reply;
 
 /// Appends the text of a refusal.
-fn put_refusal(alloc: Global, out: &mut Vec<u8>, why: Refusal) -> Result<(), OutOfMemory>
+fn put_refusal(out: &mut Vec<u8>, why: Refusal) -> Result<(), OutOfMemory>
     ensures { OnOk result (out.new.items ≡ out.old.items ++ reply_spelling (Reply.Refused why)) }
 {
-    put_reply(alloc, out, &Reply::Refused(why))
+    put_reply(out, &Reply::Refused(why))
 }
 
 /// Appends what a node made of a frame, in a word.
@@ -56,7 +46,7 @@ fn put_good(out: &mut Vec<u8>, good: &Good) -> Result<(), OutOfMemory>
 }
 
 /// Appends `packet K`, `nothing` or a refusal.
-fn put_sent(alloc: Global, out: &mut Vec<u8>, sent: Sent) -> Result<(), OutOfMemory>
+fn put_sent(out: &mut Vec<u8>, sent: Sent) -> Result<(), OutOfMemory>
     ensures { OnOk result (out.new.items ≡ out.old.items ++ answer_spelling (Answer.Sent sent)) }
 {
     match sent {
@@ -68,7 +58,7 @@ fn put_sent(alloc: Global, out: &mut Vec<u8>, sent: Sent) -> Result<(), OutOfMem
             out.extend_from_slice(b"nothing")?;
             Ok(())
         }
-        Sent::Refused(why) => put_refusal(alloc, out, why),
+        Sent::Refused(why) => put_refusal(out, why),
     }
 }
 
@@ -102,18 +92,18 @@ fn put_noticed(out: &mut Vec<u8>, found: &NodeSet) -> Result<(), OutOfMemory>
 }
 
 /// Appends the text of an answer.
-fn put_text(alloc: Global, out: &mut Vec<u8>, answer: &Answer) -> Result<(), OutOfMemory>
+fn put_text(out: &mut Vec<u8>, answer: &Answer) -> Result<(), OutOfMemory>
     ensures { OnOk result (out.new.items ≡ out.old.items ++ answer_spelling answer.now) }
 {
     match answer {
-        Answer::Reply(reply) => put_reply(alloc, out, reply),
-        Answer::Sent(sent) => put_sent(alloc, out, *sent),
+        Answer::Reply(reply) => put_reply(out, reply),
+        Answer::Sent(sent) => put_sent(out, *sent),
         Answer::Taken(Taken::Good(good)) => put_good(out, good),
-        Answer::Taken(Taken::Refused(why)) => put_refusal(alloc, out, *why),
+        Answer::Taken(Taken::Refused(why)) => put_refusal(out, *why),
         Answer::Ticked(Ticked::Noticed(found)) => put_noticed(out, found),
-        Answer::Ticked(Ticked::Refused(why)) => put_refusal(alloc, out, *why),
-        Answer::Halted(Halted::Done) => put_reply(alloc, out, &Reply::Done),
-        Answer::Halted(Halted::Refused(why)) => put_refusal(alloc, out, *why),
+        Answer::Ticked(Ticked::Refused(why)) => put_refusal(out, *why),
+        Answer::Halted(Halted::Done) => put_reply(out, &Reply::Done),
+        Answer::Halted(Halted::Refused(why)) => put_refusal(out, *why),
         Answer::NoPacket => {
             out.extend_from_slice(b"no packet")?;
             Ok(())
@@ -122,10 +112,10 @@ fn put_text(alloc: Global, out: &mut Vec<u8>, answer: &Answer) -> Result<(), Out
 }
 
 /// Appends the line of an answer.
-pub fn put_answer(alloc: Global, out: &mut Vec<u8>, answer: &Answer) -> Result<(), OutOfMemory>
+pub fn put_answer(out: &mut Vec<u8>, answer: &Answer) -> Result<(), OutOfMemory>
     ensures { OnOk result (out.new.items ≡ out.old.items ++ ended (answer_spelling answer.now)) }
 {
-    put_text(alloc, out, answer)?;
+    put_text(out, answer)?;
     out.extend_from_slice(b"\n")?;
     Ok(())
 }

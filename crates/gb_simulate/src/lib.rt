@@ -8,6 +8,4 @@ pub mod laws;
 pub mod obey;
 pub mod outcome;
 pub mod simulate;
-#[cfg(test)]
-mod tests;
 pub mod writing;

@@ -57,24 +57,18 @@ fn begin(
 }
 
 /// An event in the cluster.
-fn act(
-    alloc: Global,
-    cluster: &mut Cluster,
-    event: &Event,
-    text: &mut Vec<u8>,
-) -> Result<(), OutOfMemory>
+fn act(cluster: &mut Cluster, event: &Event, text: &mut Vec<u8>) -> Result<(), OutOfMemory>
     requires placed { IsPlacedIn (size cluster.old) event.now }
     requires fresh { text.old.items ≡ [] }
     ensures size { size cluster.new ≡ size cluster.old }
     ensures answers { OnOk result (Answers cluster.old event.now (Some cluster.new) text.new.items) }
 {
     let answer = cluster.step(event)?;
-    put_answer(alloc, text, &answer)
+    put_answer(text, &answer)
 }
 
 /// An event, where the cluster was started.
 fn obey_event(
-    alloc: Global,
     cluster: &mut Option<Cluster>,
     event: &Event,
     text: &mut Vec<u8>,
@@ -86,7 +80,7 @@ fn obey_event(
     ensures answers { OnOk result (IfSome cluster.old (λ w. Answers w event.now cluster.new text.new.items)) }
 {
     match cluster {
-        Some(cluster) => act(alloc, cluster, event, text),
+        Some(cluster) => act(cluster, event, text),
         None => Ok(()),
     }
 }
@@ -108,17 +102,15 @@ fn obey(
         Command::Cluster { nodes, silence } => {
             begin(alloc, cluster, plan_of(nodes, silence), text)
         }
-        Command::Request(node, request) => {
-            obey_event(alloc, cluster, &Event::At(node, request), text)
-        }
-        Command::Pack(node, to) => obey_event(alloc, cluster, &Event::Pack(node, to), text),
+        Command::Request(node, request) => { obey_event(cluster, &Event::At(node, request), text) }
+        Command::Pack(node, to) => obey_event(cluster, &Event::Pack(node, to), text),
         Command::Again(node, to, frame) => {
-            obey_event(alloc, cluster, &Event::Again(node, to, frame), text)
+            obey_event(cluster, &Event::Again(node, to, frame), text)
         }
-        Command::Ack(node, to) => obey_event(alloc, cluster, &Event::Ack(node, to), text),
-        Command::Arrive(packet) => obey_event(alloc, cluster, &Event::Arrive(packet), text),
-        Command::Tick(node) => obey_event(alloc, cluster, &Event::Tick(node), text),
-        Command::Stop(node) => obey_event(alloc, cluster, &Event::Stop(node), text),
+        Command::Ack(node, to) => obey_event(cluster, &Event::Ack(node, to), text),
+        Command::Arrive(packet) => obey_event(cluster, &Event::Arrive(packet), text),
+        Command::Tick(node) => obey_event(cluster, &Event::Tick(node), text),
+        Command::Stop(node) => obey_event(cluster, &Event::Stop(node), text),
     }
 }
 

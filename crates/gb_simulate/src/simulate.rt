@@ -1,11 +1,9 @@
 //! Runs a schedule, line by line.
-ghost use Rattle.std.specs.Prelude.{◌≡◌, ◌⊎◌, [], Ok, Some, None, IfOk, IfErr, OnOk, IfSome};
-ghost use Rattle.std.specs.Io.KnownBytes.{Appends, Keeps};
-ghost use Rattle.gb_schedule.specs.Buffered.{left};
+ghost use Rattle.std.specs.Prelude.{◌≡◌, ◌≢◌, ◌++◌, [], Ok, Some, None, IfOk, IfErr, OnOk, IfSome};
+ghost use Rattle.gb_schedule.specs.Buffered.{left, WantsRead};
 ghost use Rattle.gb_simulate.specs.Schedule.{HasNodes, bad_line};
 ghost use Rattle.gb_simulate.specs.Text.{IsWritten, IsWrittenUpTo};
-ghost use Rattle.gb_simulate.specs.Progress.{TakesLine, Ends, Fails, IsHalfway};
-ghost use Rattle.gb_simulate.specs.Writing.{AppendsFront};
+ghost use Rattle.gb_simulate.specs.Progress.{TakesLine, Ends, Fails, HandsOver, IsCutShort, IsGathered, IsGatheredUpTo};
 
 use crate::answer_text::put_bad_line;
 use crate::obey::answer_line;
@@ -17,70 +15,122 @@ use gb_types::memory::OutOfMemory;
 use std::alloc::Global;
 use std::io::{Read, Write};
 
-/// Writes that line `number` is bad.
-fn end_badly<W: Write>(
+/// The bytes of answers that are gathered before they are written, where no read comes first.
+const GATHERED: usize = 65_536;
+
+/// Adds a line to the answers that were gathered.
+fn gather(gathered: &mut Vec<u8>, text: &[u8]) -> Result<(), OutOfMemory>
+    ensures ok { OnOk result (gathered.new.items ≡ gathered.old.items ++ text.now) }
+    ensures err { IfErr result (λ _. gathered.new.items ≡ gathered.old.items) }
+{
+    gathered.extend_from_slice(text)?;
+    Ok(())
+}
+
+/// Ends a schedule: line `number` is bad.
+fn end_badly(
     number: u64,
     why: BadLine,
-    writer: &mut W,
     text: &mut Vec<u8>,
-) -> Result<SimEnd, SimFault>
+    gathered: &mut Vec<u8>,
+) -> Result<SimEnd, OutOfMemory>
     requires { text.old.items ≡ [] }
-    ensures ok { IfOk result (λ end. (end ≡ SimEnd.BadLine number why) × Appends (W.contents writer.old) (W.contents writer.new) (bad_line number)) }
-    ensures fault { IfErr result (λ fault. ((fault ≡ SimFault.OutOfMemory) × Keeps (W.contents writer.old) (W.contents writer.new))
-        ⊎ ((fault ≡ SimFault.Write) × AppendsFront (W.contents writer.old) (W.contents writer.new) (bad_line number))) }
+    ensures ok { IfOk result (λ end. (end ≡ SimEnd.BadLine number why) × (gathered.new.items ≡ gathered.old.items ++ bad_line number)) }
+    ensures err { IfErr result (λ _. gathered.new.items ≡ gathered.old.items) }
 {
     put_bad_line(text, number)?;
-    write_text(writer, text)?;
+    gather(gathered, text)?;
     Ok(SimEnd::BadLine(number, why))
 }
 
-/// Answers the next line, or finds the end of the schedule. A line's answer is made in memory first,
-/// and then written and flushed.
-fn answer_next<R: Read, W: Write>(
+/// Answers the next line, or finds the end of the schedule. A line's answer is made whole, and then gathered.
+fn answer_next<R: Read>(
     alloc: Global,
     number: u64,
     reader: &mut R,
-    writer: &mut W,
     lines: &mut LineBuffer,
     cluster: &mut Option<Cluster>,
     text: &mut Vec<u8>,
+    gathered: &mut Vec<u8>,
 ) -> Result<Option<SimEnd>, SimFault>
     requires { HasNodes cluster.old }
     ensures few { OnOk result (HasNodes cluster.new) }
-    ensures goes_on { result ≡ Ok None → TakesLine number cluster.old cluster.new (left lines.old (R.remaining reader.old)) (left lines.new (R.remaining reader.new)) (W.contents writer.old) (W.contents writer.new) }
-    ensures ends { IfOk result (λ found. IfSome found (λ end. Ends end number cluster.old (left lines.old (R.remaining reader.old)) (W.contents writer.old) (W.contents writer.new))) }
-    ensures fails { IfErr result (λ why. Fails why number cluster.old (left lines.old (R.remaining reader.old)) (R.remaining reader.new) (W.contents writer.old) (W.contents writer.new)) }
+    ensures goes_on { result ≡ Ok None → TakesLine number cluster.old cluster.new (left lines.old (R.remaining reader.old)) (left lines.new (R.remaining reader.new)) gathered.old.items gathered.new.items }
+    ensures ends { IfOk result (λ found. IfSome found (λ end. Ends end number cluster.old (left lines.old (R.remaining reader.old)) gathered.old.items gathered.new.items)) }
+    ensures fails { IfErr result (λ why. Fails why (left lines.old (R.remaining reader.old)) (R.remaining reader.new) gathered.old.items gathered.new.items) }
 {
     text.clear();
     match lines.next(reader)? {
         NextLine::End => Ok(Some(SimEnd::All)),
-        NextLine::TooLong => Ok(Some(end_badly(number, BadLine::TooLong, writer, text)?)),
+        NextLine::TooLong => Ok(Some(end_badly(number, BadLine::TooLong, text, gathered)?)),
         NextLine::Given => match answer_line(alloc, number, cluster, lines.line(), text)? {
-            Some(why) => Ok(Some(end_badly(number, why, writer, text)?)),
+            Some(why) => Ok(Some(end_badly(number, why, text, gathered)?)),
             None => {
-                write_text(writer, text)?;
+                gather(gathered, text)?;
                 Ok(None)
             }
         },
     }
 }
 
-/// Answers the lines of a schedule, each before the next one is read.
+/// Writes the answers that were gathered, where there are any, and flushes them.
+fn hand_over<W: Write>(writer: &mut W, gathered: &mut Vec<u8>) -> Result<(), SimFault>
+    ensures ok { OnOk result (HandsOver (W.contents writer.old) (W.contents writer.new) gathered.old.items gathered.new.items) }
+    ensures all { OnOk result (gathered.new.items ≡ []) }
+    ensures fault { IfErr result (λ why. (why ≡ SimFault.Write) × IsCutShort (W.contents writer.old) (W.contents writer.new) gathered.old.items) }
+{
+    if gathered.is_empty() {
+        return Ok(());
+    }
+    write_text(writer, gathered)?;
+    gathered.clear();
+    Ok(())
+}
+
+/// Writes the answers that were gathered, where they are many, or where the next line cannot be told without a read:
+/// none waits while a reader does.
+fn hand_over_in_time<W: Write>(
+    writer: &mut W,
+    lines: &LineBuffer,
+    gathered: &mut Vec<u8>,
+) -> Result<(), SimFault>
+    ensures ok { OnOk result (HandsOver (W.contents writer.old) (W.contents writer.new) gathered.old.items gathered.new.items) }
+    ensures none_waits { WantsRead lines.now → OnOk result (gathered.new.items ≡ []) }
+    ensures fault { IfErr result (λ why. (why ≡ SimFault.Write) × IsCutShort (W.contents writer.old) (W.contents writer.new) gathered.old.items) }
+{
+    if gathered.len() >= GATHERED || lines.wants_read() {
+        return hand_over(writer, gathered);
+    }
+    Ok(())
+}
+
+/// Answers the lines of a schedule. What is gathered at the end, or where a read or memory fails, is not written yet.
 fn answer_lines<R: Read, W: Write>(
     alloc: Global,
     reader: &mut R,
     writer: &mut W,
     lines: &mut LineBuffer,
     text: &mut Vec<u8>,
+    gathered: &mut Vec<u8>,
 ) -> Result<SimEnd, SimFault>
-    ensures text { IfOk result (λ end. IfSome (left lines.old (R.remaining reader.old)) (λ input. IfSome (W.contents writer.old) (λ before. IsWritten end input before (W.contents writer.new)))) }
-    ensures fault { IfErr result (λ why. IfSome (left lines.old (R.remaining reader.old)) (λ input. IfSome (W.contents writer.old) (λ before. IsWrittenUpTo why input before (R.remaining reader.new) (W.contents writer.new)))) }
+    requires { gathered.old.items ≡ [] }
+    ensures text { IfOk result (λ end. IfSome (left lines.old (R.remaining reader.old)) (λ input. IfSome (W.contents writer.old) (λ before. IsGathered end input before (W.contents writer.new) gathered.new.items))) }
+    ensures fault { IfErr result (λ why. IfSome (left lines.old (R.remaining reader.old)) (λ input. IfSome (W.contents writer.old) (λ before. IsGatheredUpTo why input before (R.remaining reader.new) (W.contents writer.new) gathered.new.items))) }
 {
     let mut cluster = None;
     let mut number = 0;
     loop {
         number += 1;
-        if let Some(end) = answer_next(alloc, number, reader, writer, lines, &mut cluster, text)? {
+        hand_over_in_time(writer, lines, gathered)?;
+        if let Some(end) = answer_next(
+            alloc,
+            number,
+            reader,
+            lines,
+            &mut cluster,
+            text,
+            gathered,
+        )? {
             return Ok(end);
         }
     }
@@ -88,7 +138,7 @@ fn answer_lines<R: Read, W: Write>(
 
 /// Runs the schedule that the reader gives and writes its answers: a line for each event, up to the
 /// end, the first bad line or a fault. Each answer is written whole, but where the writer itself
-/// fails, and flushed before the next read.
+/// fails. Answers are gathered, and written and flushed before each read and at the end.
 pub fn simulate<R: Read, W: Write>(
     alloc: Global,
     reader: &mut R,
@@ -99,5 +149,10 @@ pub fn simulate<R: Read, W: Write>(
 {
     let mut lines = LineBuffer::new(alloc)?;
     let mut text = Vec::new(alloc);
-    answer_lines(alloc, reader, writer, &mut lines, &mut text)
+    let mut gathered = Vec::new(alloc);
+    let outcome = answer_lines(alloc, reader, writer, &mut lines, &mut text, &mut gathered);
+    if outcome != Err(SimFault::Write) {
+        hand_over(writer, &mut gathered)?;
+    }
+    outcome
 }

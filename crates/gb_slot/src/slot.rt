@@ -81,10 +81,11 @@ impl Slot {
     /// broadcast is put out to the other members.
     ///
     /// All memory that the group ever needs is taken here. With n members, each of whom says `msgs` messages with
-    /// `bytes` payload bytes in all at most, this is n * `msgs` places and n * `bytes` payload bytes in the store,
-    /// n * `msgs` message numbers in the log and as many in what is put out, `msgs` sets of the nodes that have a message
-    /// for good, and what the broadcast takes for n * `msgs` messages, with the tables by which messages are found.
-    /// OutOfMemory where it is not there.
+    /// `bytes` payload bytes in all at most, this is n * `bytes` payload bytes; 58 bytes for each of the n * `msgs`
+    /// messages (40 in the store, 4 in the log, 4 in what is put out, 10 in what a call of the broadcast gives), 28 more
+    /// where the broadcast relays, and 12 more in first-in first-out order; 16 bytes for each of `msgs` own messages,
+    /// for the nodes that have it for good; and tables by which messages are found, of 128 * `msgs` bytes each: one, one
+    /// more where the broadcast relays, and one more in first-in first-out order. OutOfMemory where it is not there.
     pub fn new(alloc: Global, spec: Spec, me: NodeId, noticed: &NodeSet) -> Result<Slot, Refusal>
         requires limits { IsWithinLimits spec }
         requires member { is_member spec me.number ≡ true }

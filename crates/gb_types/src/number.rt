@@ -2,6 +2,7 @@
 ghost use Rattle.std.specs.Prelude.{◌≡◌, ℕ, ◌<◌, ◌≤◌, ◌↔◌, ◌⊎◌, ◌++◌, Some, IsTrue, OnOk, OnErr, slice_index, length, decimal};
 
 use crate::memory::OutOfMemory;
+use itoa::Buffer;
 
 /// Whether a word begins as no number does: with a sign, or with a zero before more digits.
 fn begins_badly(word: &[u8]) -> bool
@@ -28,7 +29,7 @@ pub fn put_number(out: &mut Vec<u8>, number: u64) -> Result<(), OutOfMemory>
     ensures ok { OnOk result (out.new.items ≡ out.old.items ++ decimal number) }
     ensures err { OnErr result (out.new.items ≡ out.old.items) }
 {
-    let digits = number.to_string(*out.allocator())?;
-    out.extend_from_slice(digits.as_bytes())?;
+    let mut digits = Buffer::new();
+    out.extend_from_slice(digits.format(number).as_bytes())?;
     Ok(())
 }

@@ -7,6 +7,7 @@ use crate::entry::Entry;
 use crate::memory::OutOfMemory;
 use crate::number::put_number;
 use crate::payload_word::put_payload;
+use crate::refusal::Refusal;
 use crate::reply::Reply;
 use std::alloc::Global;
 
@@ -33,29 +34,43 @@ fn put_entries(out: &mut Vec<u8>, entries: &[Entry]) -> Result<(), OutOfMemory>
     Ok(())
 }
 
-/// The text of a reply, without a line end: `ok`, `said SEQ`, `log COUNT` and then for each entry a space
+/// Appends `refused NUMBER NAME`.
+fn put_refusal(out: &mut Vec<u8>, why: Refusal) -> Result<(), OutOfMemory>
+    ensures { OnOk result (out.new.items ≡ out.old.items ++ reply_spelling (Reply.Refused why)) }
+{
+    out.extend_from_slice(b"refused ")?;
+    put_number(out, u64::from(why.number()))?;
+    out.extend_from_slice(b" ")?;
+    out.extend_from_slice(why.name().as_bytes())?;
+    Ok(())
+}
+
+/// Appends the text of a reply, without a line end: `ok`, `said SEQ`, `log COUNT` and then for each entry a space
 /// and `ORIGIN:SEQ:PAYLOAD`, or `refused NUMBER NAME`. Payloads are in lower case, or `-`.
+pub fn put_reply(out: &mut Vec<u8>, reply: &Reply) -> Result<(), OutOfMemory>
+    ensures { OnOk result (out.new.items ≡ out.old.items ++ reply_spelling reply.now) }
+{
+    match reply {
+        Reply::Done => out.extend_from_slice(b"ok")?,
+        Reply::Said(seq) => {
+            out.extend_from_slice(b"said ")?;
+            put_number(out, u64::from(*seq))?;
+        }
+        Reply::Log(entries) => {
+            out.extend_from_slice(b"log ")?;
+            put_number(out, entries.len() as u64)?;
+            put_entries(out, entries.as_slice())?;
+        }
+        Reply::Refused(why) => put_refusal(out, *why)?,
+    }
+    Ok(())
+}
+
+/// The text of a reply, as `put_reply` appends it.
 pub fn reply_text(alloc: Global, reply: &Reply) -> Result<Vec<u8>, OutOfMemory>
     ensures { IfOk result (λ text. text.items ≡ reply_spelling reply.now) }
 {
     let mut text = Vec::new(alloc);
-    match reply {
-        Reply::Done => text.extend_from_slice(b"ok")?,
-        Reply::Said(seq) => {
-            text.extend_from_slice(b"said ")?;
-            put_number(&mut text, u64::from(*seq))?;
-        }
-        Reply::Log(entries) => {
-            text.extend_from_slice(b"log ")?;
-            put_number(&mut text, entries.len() as u64)?;
-            put_entries(&mut text, entries.as_slice())?;
-        }
-        Reply::Refused(why) => {
-            text.extend_from_slice(b"refused ")?;
-            put_number(&mut text, u64::from(why.number()))?;
-            text.extend_from_slice(b" ")?;
-            text.extend_from_slice(why.name().as_bytes())?;
-        }
-    }
+    put_reply(&mut text, reply)?;
     Ok(text)
 }

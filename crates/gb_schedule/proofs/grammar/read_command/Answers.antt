@@ -10,6 +10,6 @@ pub returns : goal.returns
 returns c =
     let finds : IfOk c.read_arguments.result (Finds (IsCommandLine c.args.nodes c.args.line.now)) =
     command_found c.args.nodes c.args.line.now c.in-Some.head _ _ c.read_arguments.result
-    (sym c.in_ok-words.ensures ∙ ap (map (λ word. word.now)) (sym c.as_slice.ensures.value) ∙ words_and_rest c.as_slice.result.now _ 1 (omega arith))
+    (sym c.in_ok-words.ensures ∙ ap (map (λ word. word.now)) (sym c.as_slice.ensures) ∙ words_and_rest c.as_slice.result.now _ 1 (omega arith))
     c.in-Some.ensures c.read_arguments.ensures in
     record { spelt = finds; in_place = command_in_place c.args.nodes c.args.line.now c.read_arguments.result finds }

@@ -1,9 +1,9 @@
 //! The words of the command line.
 ghost use Rattle.std.specs.Prelude.{◌≡◌, ◌+◌, ◌≤◌};
 
-use crate::task::{Asked, Task};
 use clap::{Arg, ArgAction, ArgMatches, Command};
 use gb_cap::token::Need;
+use gb_client::task::{Asked, Task};
 use gb_session::head::Head;
 use gb_types::node::NodeId;
 use gb_types::request_words::{read_u16, read_u32};

@@ -1,11 +1,9 @@
-//! Worked words, requests and replies.
-use crate::answer::{count_of, status_of};
-use crate::exchange::{receive, send};
-use crate::fault::{ClientFault, fault_status};
-use crate::secrets::{Secrets, read_secrets};
-use crate::show::{entry_lines, reply_lines, token_line};
-use crate::task::{Task, fetch_of, request_of};
-use crate::words::{command, plan_of};
+//! Worked words, and the requests and tokens that they ask for.
+use gb_client::fault::{ClientFault, fault_status};
+use gb_client::secrets::{Secrets, read_secrets};
+use gb_client::show::token_line;
+use gb_client::task::{Task, fetch_of, request_of};
+use gb_client_words::words::{command, plan_of};
 use gb_types::words::split_words;
 use std::alloc::Global;
 use std::test::Fail;
@@ -147,42 +145,5 @@ fn keys_become_tokens(rt: HostRuntime) -> Result<(), Fail> {
     assert!(rt;
         read_secrets(alloc, b"admin 22")?.is_none() && read_secrets(alloc, b"key")?.is_none()
     );
-    Ok(())
-}
-
-#[test]
-fn replies_are_shown(rt: HostRuntime) -> Result<(), Fail> {
-    let alloc = rt.alloc();
-    let log = b"log 3 0:1:68692031 1:2:00ff 1:3:-";
-    let shown = reply_lines(alloc, log, true)?;
-    assert!(rt; shown.as_slice() == b"log 3\n0:1:\"hi 1\"\n1:2:00ff\n1:3:\"\"\n".as_slice());
-    let plain = reply_lines(alloc, b"log 1 0:1:61", false)?;
-    assert!(rt; plain.as_slice() == b"log 1 0:1:61\n".as_slice());
-    let entries = entry_lines(alloc, b"log 2 0:1:61 0:2:-", false)?;
-    assert!(rt; entries.as_slice() == b"0:1:61\n0:2:-\n".as_slice());
-    assert!(rt; count_of(alloc, log)? == Some(3) && count_of(alloc, b"ok")? == None);
-    let status = [
-        status_of(b"ok"),
-        status_of(b"said 1"),
-        status_of(log),
-        status_of(b"refused 1 Denied"),
-        status_of(b"hello"),
-        status_of(b""),
-    ];
-    assert!(rt; status == [0, 0, 0, 1, 3, 3]);
-    Ok(())
-}
-
-#[test]
-fn messages_have_their_length_in_front(rt: HostRuntime) -> Result<(), Fail> {
-    let alloc = rt.alloc();
-    let mut out = Vec::new(alloc);
-    send(&mut out, b"open 7 1")?;
-    assert!(rt; out.as_slice() == b"\x00\x00\x00\x08open 7 1".as_slice());
-    let reply = receive(alloc, &mut b"\x00\x00\x00\x02okay".as_slice())?;
-    assert!(rt; reply.as_slice() == b"ok".as_slice());
-    let cut = receive(alloc, &mut b"\x00\x00\x00\x05okay".as_slice());
-    let long = receive(alloc, &mut b"\x00\x01\x00\x01okay".as_slice());
-    assert!(rt; cut.is_err() && long.is_err());
     Ok(())
 }

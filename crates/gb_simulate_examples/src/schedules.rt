@@ -1,8 +1,8 @@
 //! Whole schedules and their answers, over readers and writers in memory that give and take a text in pieces, and
 //! that fail.
-use crate::complaint::complain;
-use crate::outcome::{BadLine, SimEnd, SimFault};
-use crate::simulate::simulate;
+use gb_simulate::complaint::complain;
+use gb_simulate::outcome::{BadLine, SimEnd, SimFault};
+use gb_simulate::simulate::simulate;
 use gb_types::number::put_number;
 use std::alloc::Global;
 use std::cell::Cell;
@@ -580,7 +580,7 @@ fn a_failed_write_ends_the_run(rt: HostRuntime) -> Result<(), Fail> {
     assert!(rt;
         simulate(rt.alloc(), &mut in_pieces(schedule, 100), &mut out) == Err(SimFault::Write)
     );
-    assert!(rt; out.taken.as_slice() == b"ok\n".as_slice());
+    assert!(rt; out.taken.as_slice() == b"ok\nno packet\n".as_slice());
     Ok(())
 }
 

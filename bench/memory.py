@@ -1,0 +1,76 @@
+#!/usr/bin/env python3
+"""Measures the memory of a group: memory.py PROGRAM.
+
+In a cluster of n nodes each node makes the group. What the program's data and heap grow by meanwhile, whether it was
+touched or not, is divided by n. The allocator is told to take no more from the system than it is asked for, up to a page.
+"""
+import os
+import subprocess
+import sys
+
+# The bytes for each of the n * m messages: a place in the store, a number in the log, one in what is put out, and one
+# and a pair with its sender in what a call of the broadcast gives.
+MESSAGE = 40 + 4 + 4 + 4 + 6
+# What a relay adds: an entry, and a pair that came up below it.
+RELAY = 22 + 6
+# What first-in first-out order adds: an entry, and a pair that came up below it.
+FIFO = 6 + 6
+# A table has a place of 8 bytes for each of the 16 nodes' m numbers.
+TABLE = 16 * 8
+# The set of the nodes that have an own message for good.
+ACKNOWLEDGED = 16
+
+
+def reserved(kind, members, msgs, size):
+    """The bytes that the spec reserves, and those of the fixed tables."""
+    is_fifo = kind.startswith('f')
+    is_relay = kind.removeprefix('f') != 'beb'
+    message = MESSAGE + RELAY * is_relay + FIFO * is_fifo
+    tables = 1 + is_relay + is_fifo
+    return members * msgs * message + members * size + msgs * ACKNOWLEDGED, tables * TABLE * msgs
+
+
+def data_bytes(process):
+    with open(f'/proc/{process.pid}/status') as status:
+        for line in status:
+            if line.startswith('VmData:'):
+                return int(line.split()[1]) * 1024
+    raise ValueError('no VmData')
+
+
+def tell(process, lines):
+    process.stdin.write('\n'.join(lines) + '\n')
+    process.stdin.flush()
+    for line in lines:
+        answer = process.stdout.readline()
+        if answer != 'ok\n':
+            raise ValueError(f'{line}: {answer}')
+
+
+def measured(program, kind, members, msgs, size):
+    environment = dict(os.environ, MALLOC_TOP_PAD_='0')
+    process = subprocess.Popen([program], stdin=subprocess.PIPE, stdout=subprocess.PIPE, text=True, env=environment)
+    names = ','.join(str(node) for node in range(members))
+    tell(process, [f'cluster {members} 3'] + [f'tenant {node} 7 2 {msgs} {size} 1' for node in range(members)])
+    before = data_bytes(process)
+    tell(process, [f'make {node} 7 1 {kind} {names} {msgs} {size} 1' for node in range(members)])
+    taken = data_bytes(process) - before
+    process.stdin.close()
+    process.wait()
+    return taken / members
+
+
+def main():
+    worst = 0.0
+    print('kind    members  messages   bytes    reserved    tables     taken  ratio')
+    for kind in ('beb', 'fbeb', 'lazy', 'eager', 'allack', 'fallack'):
+        for members, msgs, size in ((2, 64, 4096), (16, 64, 65536), (16, 256, 4096), (16, 1024, 65536), (2, 1024, 65536)):
+            spec, tables = reserved(kind, members, msgs, size)
+            taken = measured(sys.argv[1], kind, members, msgs, size)
+            ratio = taken / (spec + tables)
+            worst = max(worst, ratio)
+            print(f'{kind:7} {members:7} {msgs:9} {size:7} {spec:11} {tables:9} {taken:9.0f} {ratio:6.2f}')
+    print(f'at most {worst:.2f} times what is reserved')
+
+
+main()

@@ -1,0 +1,5 @@
+//! Whole schedules and their answers, as tests. There is nothing here but tests.
+#![tactic(auto)]
+
+#[cfg(test)]
+mod schedules;
