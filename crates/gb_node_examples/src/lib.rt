@@ -3,8 +3,12 @@
 #![tactic(auto)]
 
 #[cfg(test)]
-mod faults;
+mod calls;
 #[cfg(test)]
 mod nodes;
 #[cfg(test)]
 mod pair;
+#[cfg(test)]
+mod row;
+#[cfg(test)]
+mod texts;

@@ -9,6 +9,9 @@ use std::alloc::Global;
 use std::rt::HostRuntime;
 use std::test::Fail;
 
+/// What was told of a frame twice, as `counts` says, and how many entries there are.
+type Outcome = ((u32, u32), (u32, u32), usize);
+
 /// Says something in each of three groups of two tenants.
 fn say_in_each(alloc: Global, first: &mut Node) -> Result<(), OutOfMemory> {
     let _ = say(alloc, first, FIRST, addr(7, 0), b"one")?;
@@ -33,24 +36,36 @@ fn carry(first: &mut Node, second: &mut Node) -> Option<((u32, u32), (u32, u32))
     Some((once, twice))
 }
 
+/// What was told of a frame of each group's message, when it came and when it came again, and how many entries the logs
+/// have then.
+fn outcome(alloc: Global, nodes: &mut [Node]) -> Result<Option<Outcome>, OutOfMemory> {
+    let [first, second] = nodes else {
+        return Ok(None);
+    };
+    say_in_each(alloc, first)?;
+    let Some((once, twice)) = carry(first, second) else {
+        return Ok(None);
+    };
+    let entries = logged_in_all(second, SECOND);
+    Ok(Some((once, twice, entries)))
+}
+
+/// Two nodes with the same groups.
+fn two(alloc: Global) -> Result<Vec<Node>, Fail> {
+    let mut nodes = Vec::new(alloc);
+    for me in [FIRST, SECOND] {
+        nodes.push(furnished(alloc, me).ok_or("no group")?)?;
+    }
+    Ok(nodes)
+}
+
 // One frame carries an item of each of three groups of two tenants, and each group gets its own, once.
 #[test]
 fn a_frame_of_many_groups(rt: HostRuntime) -> Result<(), Fail> {
     let alloc = rt.alloc();
-    let Some(mut first) = furnished(alloc, FIRST) else {
-        return Err(Fail::from("no memory"));
-    };
-    let Some(mut second) = furnished(alloc, SECOND) else {
-        return Err(Fail::from("no memory"));
-    };
-    say_in_each(alloc, &mut first)?;
-    let Some((once, twice)) = carry(&mut first, &mut second) else {
-        return Err(Fail::from("nothing was packed"));
-    };
-    assert!(rt; once == (3, 0));
-    assert!(rt; twice == (0, 0));
-    let all = logged_in_all(&mut second, SECOND);
-    assert!(rt; all == 3);
+    let mut nodes = two(alloc)?;
+    let found = outcome(alloc, &mut nodes)?;
+    assert!(rt; found == Some(((3, 0), (0, 0), 3)));
     Ok(())
 }
 

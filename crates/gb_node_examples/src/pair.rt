@@ -1,8 +1,8 @@
 // Nodes with the same tenants and groups.
 ghost use Rattle.std.specs.Prelude.{◌<◌};
 
-use gb_cap::hmac::Key;
-use gb_cap::token::{Need, token};
+use gb_cap::hmac::{Key, hmac};
+use gb_cap::token::{Need, Token, token};
 use gb_node::answer::{PacketAnswer, Sent};
 use gb_node::node::Node;
 use gb_node::packet_text::PacketText;
@@ -21,7 +21,9 @@ pub const FIRST: NodeId = NodeId { number: 0 };
 
 pub const SECOND: NodeId = NodeId { number: 1 };
 
-const CLUSTER_KEY: Key = [3; 32];
+pub const THIRD: NodeId = NodeId { number: 2 };
+
+pub const CLUSTER_KEY: Key = [0x11; 32];
 
 const ADMIN_KEY: Key = [1; 32];
 
@@ -33,7 +35,7 @@ pub fn node(alloc: Global, me: NodeId) -> Node
     let plan = NodePlan {
         me,
         nodes: 3,
-        silence: 2,
+        silence: 3,
         places: 8,
         cluster_key: CLUSTER_KEY,
         admin_key: ADMIN_KEY,
@@ -59,14 +61,15 @@ pub fn add(node: &mut Node, tenant: u16) -> Reply {
     node.request(&Request::AddTenant(token(&ADMIN_KEY, Need::Admin), row))
 }
 
-/// Makes a best-effort group of both nodes, and opens it.
-fn make(node: &mut Node, addr: Addr) -> Reply {
+/// Makes a group of all nodes, and opens it.
+fn make(node: &mut Node, addr: Addr, kind: Kind) -> Reply {
     let owner = token(&TENANT_KEY, Need::Tenant(addr.tenant));
     let mut members = NodeSet::new();
     members.insert(FIRST);
     members.insert(SECOND);
+    members.insert(THIRD);
     let spec = Spec {
-        kind: Kind::Beb,
+        kind,
         members,
         msgs: 4,
         bytes: 64,
@@ -87,15 +90,41 @@ pub fn furnished(alloc: Global, me: NodeId) -> Option<Node>
     requires { me.number < 3 }
 {
     let mut node = node(alloc, me);
-    let tenants = is_done(add(&mut node, 7)) && is_done(add(&mut node, 9));
-    let groups = tenants
-        && is_done(make(&mut node, addr(7, 0)))
-        && is_done(make(&mut node, addr(7, 1)));
-    if groups && is_done(make(&mut node, addr(9, 0))) {
+    for tenant in [7, 9] {
+        if !is_done(add(&mut node, tenant)) {
+            return None;
+        }
+    }
+    for addr in [addr(7, 0), addr(7, 1), addr(9, 0)] {
+        if !is_done(make(&mut node, addr, Kind::Beb)) {
+            return None;
+        }
+    }
+    Some(node)
+}
+
+/// A node with one tenant and one group, of this kind.
+pub fn with_group(alloc: Global, me: NodeId, kind: Kind) -> Option<Node>
+    requires { me.number < 3 }
+{
+    let mut node = node(alloc, me);
+    if is_done(add(&mut node, 7)) && is_done(make(&mut node, addr(7, 1), kind)) {
         Some(node)
     } else {
         None
     }
+}
+
+/// The token of a group's member at a node.
+pub fn member(addr: Addr, me: NodeId) -> Token {
+    token(&TENANT_KEY, Need::Member(addr.tenant, addr.group, me))
+}
+
+/// The text with its tag under a key after it.
+pub fn sealed(mut text: Vec<u8>, key: &Key) -> Result<Vec<u8>, OutOfMemory> {
+    let tag = hmac(key, &text);
+    text.extend_from_slice(&tag[..8])?;
+    Ok(text)
 }
 
 /// Says something in a group at a node.
@@ -106,15 +135,13 @@ pub fn say(
     addr: Addr,
     payload: &[u8],
 ) -> Result<Reply, OutOfMemory> {
-    let need = Need::Member(addr.tenant, addr.group, me);
     let payload = Payload::from_slice(alloc, payload)?;
-    Ok(node.request(&Request::Say(token(&TENANT_KEY, need), addr, payload)))
+    Ok(node.request(&Request::Say(member(addr, me), addr, payload)))
 }
 
 /// How many entries the log of a group has at a node.
 pub fn logged(node: &mut Node, me: NodeId, addr: Addr) -> usize {
-    let need = Need::Member(addr.tenant, addr.group, me);
-    match node.request(&Request::Fetch(token(&TENANT_KEY, need), addr, 0, 16)) {
+    match node.request(&Request::Fetch(member(addr, me), addr, 0, 16)) {
         Reply::Log(entries) => entries.len(),
         _ => 99,
     }
