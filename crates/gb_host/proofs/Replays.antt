@@ -3,7 +3,8 @@ use Rattle.std.proofs.Common.{◌≡◌, ℕ, suc, ◌+◌, ◌<◌, ◌≤◌, 
 use Rattle.std.proofs.lemmas.Grind.{common_steps}
 use Rattle.std.proofs.lemmas.List.{length-set, length_push}
 use Rattle.gb_types.specs.declared.limits.TheConstants.{NODES}
-use Rattle.gb_node.specs.NodeValue.{NodeValue, new_node}
+use Rattle.gb_types.specs.declared.node.NodeId.{NodeId}
+use Rattle.gb_node.specs.NodeValue.{NodeValue, new_node, IsNodePlan}
 use Rattle.gb_node.specs.NodeStep.{IsTurn, IsSpelt}
 use Rattle.gb_node.specs.Past.{Happened, ComesTo}
 use Rattle.gb_node.specs.declared.plan.NodePlan.{NodePlan}
@@ -11,7 +12,7 @@ use Rattle.gb_node.specs.declared.tape.TapeEntry.{TapeEntry}
 use Rattle.gb_host.specs.Calls.{Call, calls_at}
 use Rattle.gb_host.specs.Fits.{HostedFits, SeatFits}
 use Rattle.gb_host.specs.HostedValue.{HostedValue}
-use Rattle.gb_host.specs.Plans.{plan_of}
+use Rattle.gb_host.specs.Plans.{plan_of, IsPlan}
 use Rattle.gb_host.specs.Replay.{happened, past_of}
 use Rattle.gb_host.specs.SeatValue.{SeatValue}
 use Rattle.gb_host.specs.declared.entry.SeatEntry.{SeatEntry}
@@ -30,13 +31,16 @@ comes_more plan past h v w comes turn spelt = (v, comes, turn, spelt)
 pub replay_more : (plan : NodePlan) (es : List TapeEntry) (e : TapeEntry) (v w : NodeValue) → ComesTo plan (past_of es) v → IsTurn v e.event e.answer w → IsSpelt v e.event e.answer → ComesTo plan (past_of (es ++ e ∷ [])) w
 replay_more plan es e v w comes turn spelt = subst (λ past. ComesTo plan past w) (sym (past_more es e)) (comes_more plan (past_of es) (happened e) v w comes turn spelt)
 
-comes_new : (plan : NodePlan) (v : NodeValue) → v ≡ new_node plan → ComesTo plan [] v
+comes_new : (plan : NodePlan) (v : NodeValue) → IsNodePlan plan → v ≡ new_node plan → ComesTo plan [] v
 unfolding ComesTo
-comes_new plan v is = is
+comes_new plan v right is = (right, is)
 
-pub hosted_fits_new : (p : HostPlan) (h : HostedValue) → h.node ≡ new_node (plan_of p h.me) → h.tape ≡ [] → h.amount ≡ 0 → 0 < h.parts → HostedFits p h
-hosted_fits_new p h node tape amount parts = record {
-  replayed = λ on. subst (λ es. ComesTo (plan_of p h.me) (past_of es) h.node) (sym tape) (comes_new (plan_of p h.me) h.node node);
+node_plan_right : (p : HostPlan) (me : NodeId) → IsPlan p → me.number < p.cluster.nodes → IsNodePlan (plan_of p me)
+node_plan_right p me right member = record { cluster = right.nodes; member = member; places = right.places; least = right.least; most = right.most }
+
+pub hosted_fits_new : (p : HostPlan) (h : HostedValue) → IsPlan p → h.me.number < p.cluster.nodes → h.node ≡ new_node (plan_of p h.me) → h.tape ≡ [] → h.amount ≡ 0 → 0 < h.parts → HostedFits p h
+hosted_fits_new p h right member node tape amount parts = record {
+  replayed = λ on. subst (λ es. ComesTo (plan_of p h.me) (past_of es) h.node) (sym tape) (comes_new (plan_of p h.me) h.node (node_plan_right p h.me right member) node);
   empty = λ off. tape;
   counted = amount ∙ ap length (sym tape);
   backed = parts;

@@ -50,6 +50,21 @@ fn told(network: &mut Network, event: &Event) -> Result<&'static str, OutOfMemor
     Ok(word(&answer))
 }
 
+/// The packet with a number arrives.
+fn arrives(network: &mut Network, number: u64) -> Result<&'static str, OutOfMemory> {
+    told(network, &Event::Arrive(number))
+}
+
+/// The first node acknowledges what came from the second.
+fn acknowledges(network: &mut Network) -> Result<&'static str, OutOfMemory> {
+    told(network, &Event::At(FIRST, NodeEvent::Ack(SECOND)))
+}
+
+/// The second node stops.
+fn stops(network: &mut Network) -> Result<&'static str, OutOfMemory> {
+    told(network, &Event::At(SECOND, NodeEvent::Stop))
+}
+
 /// Bytes that come as noise to the second node.
 fn noise(alloc: Global, bytes: &[u8]) -> Result<Event, OutOfMemory> {
     let mut copy = Vec::with_capacity(alloc, bytes.len())?;
@@ -57,12 +72,54 @@ fn noise(alloc: Global, bytes: &[u8]) -> Result<Event, OutOfMemory> {
     Ok(Event::At(SECOND, NodeEvent::Packet(PacketText::from(copy))))
 }
 
-/// The first packet that was sent, as noise.
-fn echo(alloc: Global, network: &Network) -> Result<Event, OutOfMemory> {
-    match network.packets().first() {
-        Some(packet) => noise(alloc, packet.text.as_slice()),
-        None => noise(alloc, b""),
+/// Two bytes come to the second node, which are no packet.
+fn garbles(alloc: Global, network: &mut Network) -> Result<&'static str, OutOfMemory> {
+    let event = noise(alloc, b"GB")?;
+    told(network, &event)
+}
+
+/// The first packet that was sent comes to the second node as noise.
+fn echoes(alloc: Global, network: &mut Network) -> Result<&'static str, OutOfMemory> {
+    let event = match network.packets().first() {
+        Some(packet) => noise(alloc, packet.text.as_slice())?,
+        None => noise(alloc, b"")?,
+    };
+    told(network, &event)
+}
+
+/// What comes of one event after the other.
+fn outcomes(alloc: Global, network: &mut Network) -> Result<[&'static str; 8], OutOfMemory> {
+    Ok([
+        arrives(network, 1)?,
+        acknowledges(network)?,
+        arrives(network, 1)?,
+        garbles(alloc, network)?,
+        echoes(alloc, network)?,
+        stops(network)?,
+        echoes(alloc, network)?,
+        arrives(network, 1)?,
+    ])
+}
+
+const WANTED: [&str; 8] = [
+    "no packet",
+    "packet 1",
+    "good",
+    "short",
+    "not noise",
+    "halted",
+    "not noise",
+    "stopped",
+];
+
+/// The place of the first outcome that is another one.
+fn differs(outcomes: &[&'static str; 8]) -> Option<usize> {
+    for place in 0..8 {
+        if outcomes[place] != WANTED[place] {
+            return Some(place);
+        }
     }
+    None
 }
 
 // A packet arrives once it was sent, as often as one likes; its bytes are no noise, running or stopped; a stopped node
@@ -71,14 +128,8 @@ fn echo(alloc: Global, network: &Network) -> Result<Event, OutOfMemory> {
 fn packets_and_noise(rt: HostRuntime) -> Result<(), Fail> {
     let alloc = rt.alloc();
     let mut network = Network::start(alloc, &PLAN)?;
-    assert!(rt; told(&mut network, &Event::Arrive(1))? == "no packet");
-    assert!(rt; told(&mut network, &Event::At(FIRST, NodeEvent::Ack(SECOND)))? == "packet 1");
-    assert!(rt; told(&mut network, &Event::Arrive(1))? == "good");
-    assert!(rt; told(&mut network, &noise(alloc, b"GB")?)? == "short");
-    let copy = echo(alloc, &network)?;
-    assert!(rt; told(&mut network, &copy)? == "not noise");
-    assert!(rt; told(&mut network, &Event::At(SECOND, NodeEvent::Stop))? == "halted");
-    assert!(rt; told(&mut network, &copy)? == "not noise");
-    assert!(rt; told(&mut network, &Event::Arrive(1))? == "stopped");
+    let answers = outcomes(alloc, &mut network)?;
+    let place = differs(&answers);
+    assert!(rt; place.is_none());
     Ok(())
 }

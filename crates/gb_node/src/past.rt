@@ -6,8 +6,9 @@ use gb_frame::laws::what_is_written_is_read;
 use gb_groups::each::each_group;
 use gb_slot::history::stands;
 
-/// A law of every node, whatever happens at it: its links, its detector, its tenants, whether it stopped and each of its groups
-/// are what the events and answers of its past say; each group's slot stands for what the past told that group. The function does nothing when it runs; its contract is the law.
+/// A law of every node, whatever happens at it: its links, its detector, its tenants, whether it stopped and each of its
+/// groups are what the events and answers of its past say, and each group's slot stands for what the past told that
+/// group. The function does nothing when it runs; its contract is the law.
 pub fn pasts_say()
     ensures { PastsSay }
 {
