@@ -38,8 +38,8 @@ comes_new plan v right is = (right, is)
 node_plan_right : (p : HostPlan) (me : NodeId) → IsPlan p → me.number < p.cluster.nodes → IsNodePlan (plan_of p me)
 node_plan_right p me right member = record { cluster = right.nodes; member = member; places = right.places; least = right.least; most = right.most }
 
-pub hosted_fits_new : (p : HostPlan) (h : HostedValue) → IsPlan p → h.me.number < p.cluster.nodes → h.node ≡ new_node (plan_of p h.me) → h.tape ≡ [] → h.amount ≡ 0 → 0 < h.parts → HostedFits p h
-hosted_fits_new p h right member node tape amount parts = record {
+pub hosted_fits_new : (p : HostPlan) (h : HostedValue) → h.node ≡ new_node (plan_of p h.me) → h.tape ≡ [] → h.amount ≡ 0 → 0 < h.parts → IsPlan p → h.me.number < p.cluster.nodes → HostedFits p h
+hosted_fits_new p h node tape amount parts right member = record {
   replayed = λ on. subst (λ es. ComesTo (plan_of p h.me) (past_of es) h.node) (sym tape) (comes_new (plan_of p h.me) h.node (node_plan_right p h.me right member) node);
   empty = λ off. tape;
   counted = amount ∙ ap length (sym tape);
