@@ -1,12 +1,11 @@
 -- What each call makes of each group by itself.
-use Rattle.std.proofs.Common.{◌≡◌, ℕ, suc, zero, ◌+◌, ◌<◌, inl, inr, List, [], ◌∷◌, ◌++◌, length, map, take, get_or, refl, sym, ap, subst, ◌∙◌, arith, zero-add}
-use Rattle.std.specs.Prelude.{Bool, true, false, not, cond, ltb, ◌==◌, ◌&&◌, nat_eq, nat_lt, nat_le, filter, fold, count_by, is_some, Option, Some, None, option_map, position, slice_set, if◌then◌else◌}
+use Rattle.std.proofs.Common.{◌≡◌, ℕ, suc, zero, ◌+◌, ◌<◌, inl, inr, List, [], ◌∷◌, ◌++◌, length, map, take, get_or, refl, sym, ap, ◌∙◌, arith, zero-add}
+use Rattle.std.specs.Prelude.{Bool, true, false, not, cond, ltb, ◌==◌, ◌&&◌, nat_eq, nat_lt, nat_le, filter, fold, is_some, Option, Some, None, option_map, slice_set, if◌then◌else◌}
 use Rattle.std.specs.List.{position_or_len}
-use Rattle.std.proofs.Common.{eqb-true, eq-eqb}
+use Rattle.std.proofs.Common.{eqb-true}
 use Rattle.std.proofs.lemmas.Bool.{cases_Bool, cases_lt, lt-ltb, le-ltb, ltb-true}
 use Rattle.std.proofs.lemmas.List.Sums.{length-filter}
 use Rattle.gb_types.specs.declared.address.Addr.{Addr}
-use Rattle.gb_types.specs.declared.entry.Entry.{Entry}
 use Rattle.gb_types.specs.declared.limits.TheConstants.{NODES, PAYLOAD}
 use Rattle.gb_types.specs.declared.node.NodeId.{NodeId}
 use Rattle.gb_frame.specs.declared.item.Item.{Item}
@@ -15,9 +14,9 @@ use Rattle.gb_slot.specs.SlotState.{SlotState}
 use Rattle.gb_slot.specs.Slot.{slot_came, slot_took}
 use Rattle.gb_groups.specs.SlotsValue.{Row, row_at, no_row, on_slot, gone, AreApart}
 use Rattle.gb_groups.specs.GroupsValue.{GroupsValue, batch, packed}
-use Rattle.gb_groups.specs.Packing.{Visit, visit, share, is_at, items, item_at, item_of, queue, gave, took}
+use Rattle.gb_groups.specs.Packing.{Visit, visit, share, is_at, items, item_at, queue, gave}
 use Rattle.gb_groups.specs.Fair.{is_of}
-use Rattle.gb_groups.specs.AtAddress.{place_of, row_for, step_at, on_address, gone_at, drop_at, address_of, entry_of, item_came}
+use Rattle.gb_groups.specs.AtAddress.{place_of, step_at, on_address, gone_at, drop_at, address_of, entry_of, item_came}
 use Rattle.gb_groups.specs.OneGroup.{group_in, stepped, dropped, or_added, where_so, names, items_for, came_for, waiting_in, item_for, EachGroup, StayApart}
 use Rattle.gb_groups.proofs.AddLemmas.{end_apart}
 use Rattle.gb_groups.proofs.AddressLemmas.{place_is, addr_through, both_true}

@@ -1,16 +1,15 @@
 -- Where there is room for the longest message, a batch without items says that nothing waits.
-use Rattle.std.proofs.Common.{◌≡◌, ℕ, ◌<◌, ◌≤◌, List, [], ◌∷◌, length, map, Option, Some, None, inl, inr, refl, sym, ap, ◌∙◌, arith}
-use Rattle.std.specs.Prelude.{Bool, true, false, ◌-◌, cond, ltb, filter, option_map, slice_get, if◌then◌else◌}
-use Rattle.std.proofs.Common.{get_or, eq-eqb}
-use Rattle.std.proofs.lemmas.Bool.{cases_lt, ltb-true, le-ltb}
+use Rattle.std.proofs.Common.{◌≡◌, ℕ, ◌<◌, ◌≤◌, List, [], ◌∷◌, length, map, Option, Some, None, refl, sym, ap, ◌∙◌, arith}
+use Rattle.std.specs.Prelude.{true, false, ◌-◌, cond, ltb, filter, option_map, slice_get, if◌then◌else◌}
+use Rattle.std.proofs.Common.{eq-eqb}
+use Rattle.std.proofs.lemmas.Bool.{ltb-true, le-ltb}
 use Rattle.std.proofs.lemmas.List.{get_or_default}
-use Rattle.gb_types.specs.declared.address.Addr.{Addr}
 use Rattle.gb_types.specs.declared.entry.Entry.{Entry}
 use Rattle.gb_types.specs.declared.limits.TheConstants.{PAYLOAD}
 use Rattle.gb_slot.specs.SlotState.{SlotState}
 use Rattle.gb_groups.specs.SlotsValue.{Row, row_at, no_row, IsShort, AreShort}
 use Rattle.gb_groups.specs.GroupsValue.{GroupsValue, cursor_for, walk_to, batch}
-use Rattle.gb_groups.specs.Packing.{Visit, visit, walk, fit, size, is_at, queue, queue_of, queues}
+use Rattle.gb_groups.specs.Packing.{Visit, visit, fit, size, is_at, queue, queue_of, queues}
 use Rattle.gb_groups.specs.AtAddress.{place_of}
 use Rattle.gb_groups.specs.OneGroup.{LONGEST, NothingWaits, waiting_in}
 use Rattle.gb_groups.proofs.AddressLemmas.{place_is}

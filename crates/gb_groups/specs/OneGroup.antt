@@ -1,5 +1,5 @@
 -- What becomes of one group among the groups of a node.
-use Rattle.std.specs.Prelude.{ℕ, ◌≡◌, ◌<◌, ◌+◌, ◌&&◌, Bool, List, ◌++◌, ◌∷◌, [], length, map, take, filter, fold, Option, Some, None, option_map, nat_lt, nat_le, if◌then◌else◌}
+use Rattle.std.specs.Prelude.{ℕ, ◌≡◌, ◌+◌, ◌&&◌, Bool, List, ◌++◌, ◌∷◌, [], length, map, take, filter, fold, Option, Some, None, option_map, nat_lt, nat_le, if◌then◌else◌}
 use Rattle.gb_types.specs.declared.address.Addr.{Addr}
 use Rattle.gb_types.specs.declared.entry.Entry.{Entry}
 use Rattle.gb_types.specs.declared.limits.TheConstants.{NODES, PAYLOAD}
@@ -7,7 +7,7 @@ use Rattle.gb_types.specs.declared.node.NodeId.{NodeId}
 use Rattle.gb_frame.specs.declared.item.Item.{Item}
 use Rattle.gb_rules.specs.Address.{is_addr}
 use Rattle.gb_slot.specs.SlotState.{SlotState}
-use Rattle.gb_slot.specs.Slot.{slot_came, slot_took, waiting}
+use Rattle.gb_slot.specs.Slot.{slot_came, slot_took}
 use Rattle.gb_groups.specs.SlotsValue.{Row, on_slot, AreApart}
 use Rattle.gb_groups.specs.GroupsValue.{GroupsValue, batch, packed}
 use Rattle.gb_groups.specs.Packing.{items, queue_of}

@@ -1,14 +1,10 @@
 -- The calls in a tape and in a list, an entry further.
-use Rattle.std.proofs.Common.{◌≡◌, ◌≢◌, ℕ, zero, suc, ◌+◌, ◌<◌, ◌≤◌, ◌==◌, ◌↔◌, Bool, true, false, List, [], ◌∷◌, ◌++◌, length, refl, sym, ap, ap₂, subst, ◌∙◌, arith, cond, eqb, Option, Some, None, IfNone, get_or, set, drop, inl, inr}
+use Rattle.std.proofs.Common.{◌≡◌, ◌≢◌, ℕ, zero, suc, ◌≤◌, ◌==◌, Bool, true, false, List, [], ◌∷◌, ◌++◌, length, refl, sym, ap, ◌∙◌, arith, cond, Option, Some, None, IfNone, get_or}
 use Rattle.std.proofs.lemmas.Bool.{ne_eqb, eq-eqb}
-use Rattle.std.proofs.lemmas.Bool.Decides.{eqb_tells}
-use Rattle.std.proofs.lemmas.List.{get_or-set_same, get_or-set_other}
-use Rattle.gb_node.specs.declared.event.NodeEvent.{NodeEvent}
-use Rattle.gb_node.specs.declared.answer.NodeAnswer.{NodeAnswer}
 use Rattle.gb_node.specs.declared.tape.TapeEntry.{TapeEntry}
 use Rattle.gb_host.specs.Calls.{Call, calls_of, calls_at, numbered}
-use Rattle.gb_host.specs.Closing.{tape_at, list_at, IsOther}
-use Rattle.gb_host.specs.Walk.{cursor_at, left_at, left_of, AreBounded, HasMoved, IsWalked}
+use Rattle.gb_host.specs.Closing.{list_at, IsOther}
+use Rattle.gb_host.specs.Walk.{left_of, HasMoved, IsWalked}
 use Rattle.gb_host.specs.declared.compare.Cursor.{Cursor}
 use Rattle.gb_host.specs.declared.entry.SeatEntry.{SeatEntry}
 

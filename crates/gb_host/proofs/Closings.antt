@@ -1,11 +1,10 @@
 -- What follows where each list is its entries in the tapes.
-use Rattle.std.proofs.Common.{◌≡◌, ◌≢◌, ℕ, zero, suc, ◌+◌, ◌<◌, ◌≤◌, ◌==◌, Bool, true, false, List, [], ◌∷◌, ◌++◌, length, refl, sym, ap, ap₂, ◌∙◌, arith, cond, eqb, get_or, append_assoc, rules, sum_by, inl, inr, ◌⊎◌, subst, add_assoc, add_comm, zero-add}
+use Rattle.std.proofs.Common.{◌≡◌, ◌≢◌, ℕ, zero, suc, ◌+◌, ◌<◌, ◌≤◌, ◌==◌, Bool, true, false, List, [], ◌∷◌, ◌++◌, length, refl, sym, ap, ap₂, ◌∙◌, arith, cond, eqb, get_or, append_assoc, sum_by, inl, inr, ◌⊎◌, subst, add_assoc, add_comm, zero-add}
 use Rattle.std.proofs.lemmas.Bool.{eq-eqb, ne_eqb}
 use Rattle.std.proofs.lemmas.Bool.Decides.{eqb_tells}
 use Rattle.std.proofs.lemmas.List.Sums.{sum_by-append}
 use Rattle.std.proofs.lemmas.List.{get_or_append_left, append-nil}
 use Rattle.std.proofs.Math.Seq.{get_or-append_seam}
-use Rattle.std.proofs.Math.Nat.{eq-or-lt_of_le}
 use Rattle.gb_types.proofs.SameLemmas.{same_number}
 use Rattle.gb_types.specs.declared.node.NodeId.{NodeId}
 use Rattle.gb_node.specs.NodeStep.{IsTurn}
@@ -19,7 +18,7 @@ use Rattle.gb_host.specs.SeatValue.{SeatValue}
 use Rattle.gb_host.specs.Plans.{plan_of}
 use Rattle.gb_host.specs.Calls.{Call, calls_of, calls_at, numbered}
 use Rattle.gb_host.specs.Replay.{happened, past_of, IsReplay}
-use Rattle.gb_host.specs.Closing.{tape_at, list_at, list_of, AreReplays, AreSame, IsSame, IsOther, IsFresh, AreFresh, tape_entries, seat_entries}
+use Rattle.gb_host.specs.Closing.{tape_at, list_at, list_of, AreReplays, AreSame, IsOther, AreFresh, tape_entries, seat_entries}
 use Rattle.gb_host.proofs.CallLemmas.{call_of, past_end, at_hit, at_miss, of_hit, of_miss}
 
 -- a sum over the numbers below n

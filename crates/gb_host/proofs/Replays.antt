@@ -1,5 +1,5 @@
 -- An entry more in a tape, and a call more in a seat's list.
-use Rattle.std.proofs.Common.{◌≡◌, ℕ, suc, ◌+◌, ◌<◌, ◌≤◌, ◌==◌, Bool, true, false, List, [], ◌∷◌, ◌++◌, length, refl, sym, ap, subst, ◌∙◌, arith, cond, get_or, set, add_assoc, add_comm, append_assoc, true≢false}
+use Rattle.std.proofs.Common.{◌≡◌, ℕ, suc, ◌+◌, ◌<◌, ◌≤◌, ◌==◌, Bool, true, false, List, [], ◌∷◌, ◌++◌, length, refl, sym, ap, subst, ◌∙◌, arith, cond, get_or, set, add_assoc, add_comm, true≢false}
 use Rattle.std.proofs.lemmas.Grind.{common_steps}
 use Rattle.std.proofs.lemmas.List.{length-set, length_push}
 use Rattle.gb_types.specs.declared.limits.TheConstants.{NODES}
@@ -9,7 +9,7 @@ use Rattle.gb_node.specs.NodeStep.{IsTurn, IsSpelt}
 use Rattle.gb_node.specs.Past.{Happened, ComesTo}
 use Rattle.gb_node.specs.declared.plan.NodePlan.{NodePlan}
 use Rattle.gb_node.specs.declared.tape.TapeEntry.{TapeEntry}
-use Rattle.gb_host.specs.Calls.{Call, calls_at}
+use Rattle.gb_host.specs.Calls.{calls_at}
 use Rattle.gb_host.specs.Fits.{HostedFits, SeatFits}
 use Rattle.gb_host.specs.HostedValue.{HostedValue}
 use Rattle.gb_host.specs.Plans.{plan_of, IsPlan}

@@ -1,8 +1,7 @@
 -- What the code's parts give together.
-use Rattle.std.proofs.Common.{◌≡◌, ℕ, zero, suc, ◌-◌, ◌<◌, ◌≤◌, inl, inr, true, false, Bool, List, [], ◌∷◌, ◌++◌, length, map, get_or, Option, Some, None, refl, sym, ap, subst, ◌∙◌, arith}
-use Rattle.std.specs.Prelude.{◌⊎◌, is_ok, slice_get, slice_set, Contains, MatchBool}
+use Rattle.std.proofs.Common.{◌≡◌, ℕ, zero, suc, ◌-◌, ◌<◌, ◌≤◌, inl, inr, true, false, Bool, List, [], ◌∷◌, length, map, get_or, Option, Some, None, refl, sym, ap, subst, ◌∙◌, arith}
+use Rattle.std.specs.Prelude.{◌⊎◌, slice_get, slice_set, Contains, MatchBool}
 use Rattle.std.specs.List.{range_with_len}
-use Rattle.std.proofs.lemmas.Bool.{cases_Bool}
 use Rattle.std.proofs.lemmas.List.{get_or_default}
 use Rattle.std.proofs.lemmas.Option.{slice_get_past}
 use Rattle.gb_types.specs.declared.node.NodeId.{NodeId}
@@ -11,8 +10,8 @@ use Rattle.gb_node.specs.NodeValue.{NodeValue, new_node}
 use Rattle.gb_node.specs.declared.event.NodeEvent.{NodeEvent}
 use Rattle.gb_node.specs.declared.event.NodeEvent.TheVariants.{Packet as Came}
 use Rattle.gb_network.specs.NetworkValue.{NetworkValue, network, node_plan, node_at, new_network, IsNetworkPlan}
-use Rattle.gb_network.specs.NetworkStep.{NodeActs, IsNodeTurn, IsAt, IsArrival, IsStep, IsPlaced, is_packet_for, packet_numbered, AreForNodes}
-use Rattle.gb_network.specs.Run.{Did, ComesTo, GoesOn, IsSent, IsReached}
+use Rattle.gb_network.specs.NetworkStep.{IsNodeTurn, IsAt, IsArrival, IsStep, is_packet_for, packet_numbered, AreForNodes}
+use Rattle.gb_network.specs.Run.{Did, ComesTo, GoesOn, IsReached}
 use Rattle.gb_network.specs.declared.answer.Answer.{Answer}
 use Rattle.gb_network.specs.declared.answer.Answer.TheVariants.{NoPacket, NotNoise}
 use Rattle.gb_network.specs.declared.event.Event.{Event}

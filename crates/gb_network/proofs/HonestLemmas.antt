@@ -1,47 +1,40 @@
 -- Packets say what their senders did.
-use Rattle.std.proofs.Common.{◌≡◌, ◌≢◌, ℕ, zero, suc, ◌+◌, ◌-◌, ◌<◌, ◌≤◌, inl, inr, true, false, Bool, List, [], ◌∷◌, ◌++◌, length, map, Option, Some, None, Result, Ok, Err, refl, sym, ap, subst, ◌∙◌, arith}
-use Rattle.std.specs.Prelude.{◌⊎◌, ◌&&◌, ◌||◌, not, cond, filter, find, fold, is_ok, nat_eq, nat_le, nat_lt, option_map, slice_get, slice_index_or, IfSome, Contains, if◌then◌else◌}
+use Rattle.std.proofs.Common.{◌≡◌, ◌≢◌, ℕ, zero, suc, ◌+◌, ◌-◌, ◌<◌, ◌≤◌, inl, inr, true, false, Bool, List, [], ◌∷◌, ◌++◌, length, map, Option, Some, None, refl, sym, ap, subst, ◌∙◌, arith}
+use Rattle.std.specs.Prelude.{◌⊎◌, ◌&&◌, ◌||◌, not, cond, filter, find, nat_eq, nat_lt, option_map, slice_get, slice_index_or, IfSome, if◌then◌else◌}
 use Rattle.std.specs.FinSet as set
-use Rattle.std.specs.List.{list_any, AllByRecursion}
-use Rattle.std.proofs.lemmas.Bool.{cases_Bool, cases_eq, eqb-true, eq-eqb}
+use Rattle.std.specs.List.{AllByRecursion}
+use Rattle.std.proofs.lemmas.Bool.{cases_Bool, cases_eq, eq-eqb}
 use Rattle.std.proofs.lemmas.List.{append_assoc, length-append}
 use Rattle.std.proofs.lemmas.Bool.Decides.{nat_tests}
 use Rattle.gb_types.specs.declared.node.NodeId.{NodeId}
-use Rattle.gb_types.proofs.SameLemmas.{same_number}
-use Rattle.gb_types.specs.declared.refusal.Refusal.TheVariants.{Stopped, OutOfMemory}
+use Rattle.gb_types.specs.declared.refusal.Refusal.TheVariants.{OutOfMemory}
 use Rattle.gb_types.specs.declared.reply.Reply.TheVariants.{Refused}
 use Rattle.gb_types.specs.declared.request.Request.{Request}
-use Rattle.gb_frame.specs.declared.fault.PacketFault.{PacketFault}
-use Rattle.gb_frame.specs.declared.fault.PacketFault.TheVariants.{Node as NodeFault}
 use Rattle.gb_frame.specs.declared.item.Item.{Item}
 use Rattle.gb_frame.specs.Packet.{Content}
-use Rattle.gb_frame.specs.Reading.{reading}
 use Rattle.gb_frame.specs.Spelling.{packet_text, IsPacket}
 use Rattle.gb_frame.specs.Laws.{WhatIsWrittenIsRead}
-use Rattle.gb_link.specs.Received.{Received, admission}
 use Rattle.gb_link.specs.SendWindow.{SendWindow, has_room, frame_again}
 use Rattle.gb_link.specs.Ack.{covers}
 use Rattle.gb_link.proofs.LinkLemmas.{covered_received}
 use Rattle.gb_node.specs.NodeValue.{NodeValue}
 use Rattle.gb_node.proofs.EventLemmas.{starved_says}
-use Rattle.gb_node.specs.NodeStep.{Turn, turn, running_turn, stopped_answer, node_numbered, window_to, receiver_from, is_reached, is_another, is_here, if_here, read_at, taken_answer, good_of, batch_to, unless_empty, next_batch, content_to, pack_content, again_content, ack_content, sent, sent_content, IsStarved, IsTurn, IsSpelt}
+use Rattle.gb_node.specs.NodeStep.{turn, running_turn, stopped_answer, window_to, receiver_from, is_reached, is_another, batch_to, unless_empty, next_batch, content_to, pack_content, ack_content, sent, IsTurn, IsSpelt}
 use Rattle.gb_node.specs.Past.{Happened, read, packet_in, packed_for, frames_to, numbered, is_taken, is_taken_by, is_acked}
 use Rattle.gb_node.specs.PastLaw.{IsOfPast, PastsSay}
 use Rattle.gb_node.specs.declared.answer.NodeAnswer.{NodeAnswer}
 use Rattle.gb_node.specs.declared.answer.NodeAnswer.TheVariants.{Reply as Replied, Taken, Sent, Ticked, Halted}
-use Rattle.gb_node.specs.declared.answer.PacketAnswer.TheVariants.{Good as TakenGood, Fault, Refused as TakenRefused}
-use Rattle.gb_node.specs.declared.answer.Good.{Good}
 use Rattle.gb_node.specs.declared.answer.Sent.{Sent as SentValue}
 use Rattle.gb_node.specs.declared.answer.Sent.TheVariants.{Packet as SentPacket, Nothing, Refused as SentRefused}
 use Rattle.gb_node.specs.declared.event.NodeEvent.{NodeEvent}
 use Rattle.gb_node.specs.declared.event.NodeEvent.TheVariants.{Request as Asked, Packet as Came, Pack, Again, Ack, Tick, Stop}
-use Rattle.gb_network.specs.NetworkValue.{NetworkValue, network, node_plan, node_at}
-use Rattle.gb_network.specs.NetworkStep.{NodeActs, posted, posted_to, is_packet_for}
-use Rattle.gb_network.specs.Run.{Did, ComesTo, past_at, IsSent}
+use Rattle.gb_network.specs.NetworkValue.{NetworkValue, node_plan, node_at}
+use Rattle.gb_network.specs.NetworkStep.{posted, posted_to}
+use Rattle.gb_network.specs.Run.{Did, ComesTo, past_at}
 use Rattle.gb_network.specs.Links.{IsHonest, PacketsAreHonest}
 use Rattle.gb_network.specs.declared.plan.NetworkPlan.{NetworkPlan}
 use Rattle.gb_network.specs.declared.posted.Posted.{Posted}
-use Rattle.gb_network.proofs.NodesLemmas.{numbered_is, stays, past_same, past_other, have_pasts}
+use Rattle.gb_network.proofs.NodesLemmas.{stays, past_same, past_other, have_pasts}
 
 -- Places in lists.
 

@@ -1,9 +1,9 @@
 -- Frames are taken once and whole, and only those that were packed.
-use Rattle.std.proofs.Common.{◌≡◌, ◌≢◌, ℕ, zero, suc, ◌+◌, ◌-◌, ◌<◌, ◌≤◌, inl, inr, true, false, Bool, List, [], ◌∷◌, length, Option, Some, None, Result, Ok, Err, refl, sym, ap, subst, ◌∙◌, arith}
-use Rattle.std.specs.Prelude.{◌⊎◌, ◌&&◌, ◌||◌, is_ok, nat_eq, nat_le, nat_lt, slice_get, Contains, if◌then◌else◌}
+use Rattle.std.proofs.Common.{◌≡◌, ◌≢◌, ℕ, ◌-◌, ◌<◌, ◌≤◌, inl, inr, true, false, Bool, List, [], ◌∷◌, length, Some, Result, Ok, Err, refl, sym, ap, subst, ◌∙◌, arith}
+use Rattle.std.specs.Prelude.{◌⊎◌, ◌&&◌, ◌||◌, is_ok, nat_eq, nat_le, slice_get, if◌then◌else◌}
 use Rattle.std.specs.FinSet as set
 use Rattle.std.specs.List.{list_any}
-use Rattle.std.proofs.lemmas.Bool.{cases_Bool, cases_eq, eqb-true}
+use Rattle.std.proofs.lemmas.Bool.{cases_eq, eqb-true}
 use Rattle.std.proofs.lemmas.Bool.Decides.{nat_tests}
 use Rattle.gb_types.specs.declared.node.NodeId.{NodeId}
 use Rattle.gb_types.proofs.SameLemmas.{same_number}
@@ -13,27 +13,23 @@ use Rattle.gb_frame.specs.Packet.{Content}
 use Rattle.gb_frame.specs.Reading.{reading}
 use Rattle.gb_frame.specs.Laws.{WhatIsWrittenIsRead}
 use Rattle.gb_link.specs.Received.{Received, admission, is_awaited}
-use Rattle.gb_link.specs.declared.receiver.Admission.{Admission}
 use Rattle.gb_link.specs.declared.receiver.Admission.TheVariants.{First, Seen, Outside}
 use Rattle.gb_link.specs.Ack.{covers}
 use Rattle.gb_node.specs.NodeValue.{NodeValue}
-use Rattle.gb_node.specs.NodeStep.{Turn, turn, running_turn, stopped_answer, node_numbered, receiver_from, is_here, if_here, read_at, taken_answer, good_of, fate, kind_of, IsStarved, IsTurn}
-use Rattle.gb_node.specs.Past.{Happened, read, packet_in, came, frames_to, is_first, is_taken, is_taken_by, is_frame, is_acked, is_ack}
-use Rattle.gb_node.specs.PastLaw.{IsOfPast, PastsSay}
+use Rattle.gb_node.specs.NodeStep.{running_turn, stopped_answer, node_numbered, receiver_from, is_here, if_here, read_at, taken_answer, good_of, fate, kind_of, IsStarved, IsTurn}
+use Rattle.gb_node.specs.Past.{read, packet_in, came, frames_to, is_first, is_taken, is_taken_by, is_frame, is_acked, is_ack}
+use Rattle.gb_node.specs.PastLaw.{PastsSay}
 use Rattle.gb_node.specs.declared.answer.NodeAnswer.{NodeAnswer}
 use Rattle.gb_node.specs.declared.answer.NodeAnswer.TheVariants.{Reply as Replied, Taken, Sent, Ticked, Halted}
 use Rattle.gb_node.specs.declared.answer.PacketAnswer.TheVariants.{Good as TakenGood, Fault, Refused as TakenRefused}
 use Rattle.gb_node.specs.declared.answer.Good.{Good}
-use Rattle.gb_node.specs.declared.answer.Frame.{Frame}
-use Rattle.gb_node.specs.declared.answer.Frame.TheVariants.{Nothing as NoFrame, First as CameFirst, Seen as CameBefore, Outside as Beyond}
+use Rattle.gb_node.specs.declared.answer.Frame.TheVariants.{Nothing as NoFrame}
 use Rattle.gb_node.specs.declared.event.NodeEvent.{NodeEvent}
 use Rattle.gb_node.specs.declared.event.NodeEvent.TheVariants.{Request as Asked, Packet as Came, Pack, Again, Ack, Tick, Stop}
 use Rattle.gb_network.specs.NetworkValue.{NetworkValue, node_plan, node_at}
-use Rattle.gb_network.specs.NetworkStep.{is_packet_for}
 use Rattle.gb_network.specs.Run.{Did, ComesTo, past_at, IsSent}
-use Rattle.gb_network.specs.Links.{IsHonest, PacketsAreHonest, first_taken, IsWhole, IsAlwaysWhole, IsLink, LinksHold}
+use Rattle.gb_network.specs.Links.{IsHonest, PacketsAreHonest, first_taken, IsWhole, IsAlwaysWhole, LinksHold}
 use Rattle.gb_network.specs.declared.plan.NetworkPlan.{NetworkPlan}
-use Rattle.gb_network.specs.declared.posted.Posted.{Posted}
 use Rattle.gb_network.proofs.NodesLemmas.{numbered_is, stays, past_same, past_other, have_pasts}
 use Rattle.gb_network.proofs.HonestLemmas.{get_within, contains_get, frames_more, taken_more}
 use Rattle.gb_node.specs.Past.{packed_for}

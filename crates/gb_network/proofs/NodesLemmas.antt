@@ -1,17 +1,16 @@
 -- Each node of a network came by its own past to what it is.
-use Rattle.std.proofs.Common.{◌≡◌, ◌≢◌, ℕ, ◌<◌, inl, inr, true, false, List, [], ◌∷◌, length, map, get_or, refl, sym, ap, subst, ◌∙◌, arith}
-use Rattle.std.specs.Prelude.{nat_eq, slice_set, if◌then◌else◌}
-use Rattle.std.specs.List.{range_with_len}
+use Rattle.std.proofs.Common.{◌≡◌, ◌≢◌, ℕ, inl, inr, List, [], ◌∷◌, length, get_or, sym, ap, subst, ◌∙◌, arith}
+use Rattle.std.specs.Prelude.{slice_set, if◌then◌else◌}
 use Rattle.std.proofs.lemmas.Bool.{cases_eq, eq-eqb, ne_eqb}
 use Rattle.std.proofs.lemmas.List.{length-set, get_or-set_same, get_or-set_other}
 use Rattle.std.proofs.lemmas.List.FromFn.{get_or-map-range_with_len, length-map-range_with_len}
 use Rattle.gb_types.specs.declared.node.NodeId.{NodeId}
 use Rattle.gb_types.proofs.SameLemmas.{same_number}
 use Rattle.gb_node.specs.NodeStep.{node_numbered, IsTurn, IsSpelt}
-use Rattle.gb_node.specs.NodeValue.{NodeValue, new_node, IsNodePlan}
-use Rattle.gb_node.specs.Past.{Happened, ComesTo as NodeComesTo}
-use Rattle.gb_network.specs.NetworkValue.{NetworkValue, network, node_plan, node_at, new_network, IsNetworkPlan}
-use Rattle.gb_network.specs.NetworkStep.{NodeActs, posted}
+use Rattle.gb_node.specs.NodeValue.{NodeValue, new_node}
+use Rattle.gb_node.specs.Past.{ComesTo as NodeComesTo}
+use Rattle.gb_network.specs.NetworkValue.{NetworkValue, node_plan, node_at, IsNetworkPlan}
+use Rattle.gb_network.specs.NetworkStep.{NodeActs}
 use Rattle.gb_network.specs.Run.{Did, ComesTo, past_at, NodesHavePasts}
 use Rattle.gb_network.specs.declared.plan.NetworkPlan.{NetworkPlan}
 

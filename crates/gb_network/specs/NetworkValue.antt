@@ -1,5 +1,5 @@
 -- A network as contracts see it.
-use Rattle.std.specs.Prelude.{ℕ, ◌≤◌, List, [], false, map, slice_index_or}
+use Rattle.std.specs.Prelude.{◌≤◌, List, [], false, map, slice_index_or}
 use Rattle.std.specs.List.{range_with_len}
 use Rattle.gb_types.specs.declared.limits.TheConstants.{NODES, PLACES, SILENCE_MIN, SILENCE_MAX}
 use Rattle.gb_types.specs.declared.node.NodeId.{NodeId}

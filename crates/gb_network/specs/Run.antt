@@ -8,7 +8,6 @@ use Rattle.gb_node.specs.declared.event.NodeEvent.TheVariants.{Packet as Came}
 use Rattle.gb_network.specs.NetworkValue.{NetworkValue, new_network, node_plan, node_at, IsNetworkPlan}
 use Rattle.gb_network.specs.NetworkStep.{NodeActs, is_packet_for}
 use Rattle.gb_network.specs.declared.plan.NetworkPlan.{NetworkPlan}
-use Rattle.gb_network.specs.declared.posted.Posted.{Posted}
 
 -- something that happened at a node
 pub record Did : Type 0 where

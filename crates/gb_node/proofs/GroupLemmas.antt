@@ -1,6 +1,6 @@
 -- What each event makes of each group of a node.
-use Rattle.std.proofs.Common.{◌≡◌, ◌≢◌, ℕ, suc, ◌<◌, inl, inr, List, [], ◌∷◌, ◌++◌, length, map, take, Option, Some, None, Ok, refl, sym, ap, subst, ◌∙◌, ◌≤◌, arith}
-use Rattle.std.specs.Prelude.{Bool, true, false, not, cond, ◌&&◌, ◌⊎◌, filter, flat_map, fold, is_some, option_map, nat_eq, nat_le, nat_lt, slice_index_or, if◌then◌else◌}
+use Rattle.std.proofs.Common.{◌≡◌, ℕ, suc, inl, inr, List, [], ◌∷◌, ◌++◌, length, map, take, Option, Some, None, Ok, refl, sym, ap, ◌∙◌, ◌≤◌, arith}
+use Rattle.std.specs.Prelude.{Bool, true, false, not, cond, ◌&&◌, filter, fold, is_some, nat_eq, nat_le, nat_lt, if◌then◌else◌}
 use Rattle.std.specs.FinSet as set
 use Rattle.std.specs.Ordering.{nat_cmp}
 use Rattle.std.proofs.lemmas.Bool.{cases_Bool, cases_lt}
@@ -19,7 +19,6 @@ use Rattle.gb_types.specs.declared.reply.Reply.TheVariants.{Done, Said, Log, Ref
 use Rattle.gb_types.specs.declared.request.Request.{Request}
 use Rattle.gb_types.specs.declared.request.Request.TheVariants.{AddTenant, Make, OpenGroup, ShutGroup, DropGroup, Say, Fetch}
 use Rattle.gb_types.specs.declared.spec.Spec.{Spec}
-use Rattle.gb_rules.specs.Address.{is_addr}
 use Rattle.gb_rules.specs.declared.phase.Phase.TheVariants.{Opened, Shut}
 use Rattle.gb_frame.specs.declared.item.Item.{Item}
 use Rattle.gb_frame.specs.declared.limits.TheConstants.{ROOM}
@@ -35,17 +34,17 @@ use Rattle.gb_link.specs.declared.receiver.Admission.{Admission}
 use Rattle.gb_link.specs.declared.receiver.Admission.TheVariants.{First, Seen, Outside}
 use Rattle.gb_slot.specs.SlotState.{SlotState}
 use Rattle.gb_slot.specs.Slot.{new_slot, slot_moved, slot_said, slot_noticed, slot_came, slot_done, slot_took, waiting}
-use Rattle.gb_groups.specs.SlotsValue.{Row, AreApart}
+use Rattle.gb_groups.specs.SlotsValue.{AreApart}
 use Rattle.gb_groups.specs.AtAddress.{address_of, entry_of, item_came, place_of}
-use Rattle.gb_groups.specs.OneGroup.{group_in, stepped, dropped, or_added, where_so, names, items_for, item_for, waiting_in, came_for, EachGroup, StayApart}
+use Rattle.gb_groups.specs.OneGroup.{group_in, stepped, where_so, names, items_for, item_for, waiting_in, came_for, EachGroup, StayApart}
 use Rattle.gb_rules.specs.Tenant.{make_answer, by_tenant}
 use Rattle.gb_rules.specs.declared.reserve.Reserve.{Reserve}
-use Rattle.gb_table.specs.TableValue.{TableValue, reserve_for, table_done, table_came, table_noticed, table_packed}
+use Rattle.gb_table.specs.TableValue.{TableValue, reserve_for, table_noticed, table_packed}
 use Rattle.gb_table.specs.Requests.{is_admitted, table_did, table_reply}
 use Rattle.gb_node.specs.NodeValue.{NodeValue}
 use Rattle.gb_node.specs.NodeStep.{node_numbered, window_to, receiver_from, is_reached, content_to, batch_to, unless_empty, next_batch, sent_batch, newly_done, took_ack, heard, good_of, node_took, node_ticked, node_did, item_done, frame_done, item_comes, items_come, fate, kind_of, frame_comes, notice_each}
 use Rattle.gb_node.specs.Past.{Happened, packet_in, read, packed_for, frames_to, numbered, is_acked, is_first}
-use Rattle.gb_node.specs.PastGroups.{noticed_in, freed_by, items_freed, asked_for, done_for, taken_for, packed_from, noticed_for, group_after}
+use Rattle.gb_node.specs.PastGroups.{freed_by, items_freed, asked_for, done_for, taken_for, packed_from, noticed_for, group_after}
 use Rattle.gb_node.specs.PastLaw.{IsOfPast}
 use Rattle.gb_node.specs.declared.plan.NodePlan.{NodePlan}
 use Rattle.gb_node.specs.declared.answer.NodeAnswer.{NodeAnswer}

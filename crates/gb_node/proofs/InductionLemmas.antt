@@ -1,6 +1,6 @@
 -- Every node is what its past says: the induction over pasts.
 use Rattle.std.proofs.Common.{◌≡◌, ℕ, inl, inr, List, [], ◌∷◌, length, arith, Option, Some, None, Result, Ok, Err, refl, sym, ap, subst, ◌∙◌}
-use Rattle.std.specs.Prelude.{◌≤◌, Bool, false, not, ◌&&◌, nat_eq, nat_lt, fold, IfSome, option_map, if◌then◌else◌}
+use Rattle.std.specs.Prelude.{◌≤◌, false, not, ◌&&◌, nat_eq, nat_lt, fold, IfSome, option_map, if◌then◌else◌}
 use Rattle.std.proofs.lemmas.Bool.Decides.{nat_tests}
 use Rattle.std.specs.FinSet as set
 use Rattle.std.specs.Ordering.{nat_cmp}

@@ -9,8 +9,7 @@ use Rattle.gb_types.specs.declared.address.Addr.{Addr}
 use Rattle.gb_types.specs.declared.entry.Entry.{Entry}
 use Rattle.gb_types.specs.declared.limits.TheConstants.{PACKET, PAYLOAD}
 use Rattle.gb_types.specs.declared.node.NodeId.{NodeId}
-use Rattle.gb_types.specs.declared.refusal.Refusal.{Refusal}
-use Rattle.gb_types.specs.declared.refusal.Refusal.TheVariants.{Denied, NoGroup, Spent, BadMembers, OverReserve, TooLong, Budget, Bytes, Window, NoRoom, TenantThere, OutOfMemory}
+use Rattle.gb_types.specs.declared.refusal.Refusal.TheVariants.{Denied, NoGroup, Spent, BadMembers, OverReserve, TooLong, Budget, Bytes, Window, NoRoom, TenantThere}
 use Rattle.gb_types.specs.declared.reply.Reply.{Reply}
 use Rattle.gb_types.specs.declared.reply.Reply.TheVariants.{Done, Said, Log, Refused}
 use Rattle.gb_types.specs.declared.request.Request.{Request}
@@ -28,17 +27,15 @@ use Rattle.gb_rules.specs.declared.phase.Phase.TheVariants.{Made, Opened, Shut, 
 use Rattle.gb_rules.specs.declared.reserve.Reserve.{Reserve}
 use Rattle.gb_rules.specs.declared.usage.Usage.{Usage}
 use Rattle.gb_slot.specs.SlotState.{SlotState}
-use Rattle.gb_groups.specs.AtAddress.{place_of, reply_at, group_reply}
+use Rattle.gb_groups.specs.AtAddress.{place_of, reply_at}
 use Rattle.gb_groups.specs.SlotsValue.{Row, row_at, unless_gone}
 use Rattle.gb_table.specs.TableValue.{TableValue, reserve_for}
 use Rattle.gb_table.specs.Requests.{is_admitted, admitted_reply, table_reply, table_did}
 use Rattle.gb_node.specs.NodeValue.{NodeValue}
-use Rattle.gb_node.specs.NodeStep.{Turn, turn, running_turn, stopped_answer, node_did, sent, pack_content, IsStarved, IsTurn, IsSpelt}
+use Rattle.gb_node.specs.NodeStep.{Turn, turn, running_turn, stopped_answer, sent, pack_content, IsStarved, IsTurn, IsSpelt}
 use Rattle.gb_node.specs.Reads.{is_read, room_of, IsReplyWithin, IsSentWithin, IsWithin}
 use Rattle.gb_node.specs.declared.answer.NodeAnswer.{NodeAnswer}
-use Rattle.gb_node.specs.declared.answer.NodeAnswer.TheVariants.{Reply as Replied, Taken, Sent, Ticked, Halted}
-use Rattle.gb_node.specs.declared.answer.Sent.{Sent as SentValue}
-use Rattle.gb_node.specs.declared.answer.Sent.TheVariants.{Packet as SentPacket, Nothing, Refused as SentRefused}
+use Rattle.gb_node.specs.declared.answer.NodeAnswer.TheVariants.{Sent}
 use Rattle.gb_node.specs.declared.event.NodeEvent.{NodeEvent}
 use Rattle.gb_node.specs.declared.event.NodeEvent.TheVariants.{Request as Asked, Packet as Came, Pack, Again, Ack, Tick, Stop}
 

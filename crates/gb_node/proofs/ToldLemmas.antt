@@ -1,18 +1,17 @@
 -- Each slot stands for what the past tells its group.
-use Rattle.std.proofs.Common.{◌≡◌, ◌≢◌, ℕ, zero, suc, ◌+◌, ◌<◌, ◌≤◌, inl, inr, List, [], ◌∷◌, length, map, take, Option, Some, None, refl, sym, ap, subst, ◌∙◌, arith}
-use Rattle.std.specs.Prelude.{◌%◌, Bool, true, false, not, cond, ◌&&◌, ◌||◌, ◌⊎◌, filter, fold, option_map, nat_eq, nat_le, nat_lt, if◌then◌else◌}
+use Rattle.std.proofs.Common.{◌≡◌, ◌≢◌, ℕ, zero, suc, ◌+◌, ◌<◌, ◌≤◌, inl, inr, List, [], ◌∷◌, length, map, Option, Some, None, refl, sym, ap, subst, ◌∙◌, arith}
+use Rattle.std.specs.Prelude.{◌%◌, Bool, true, false, ◌&&◌, ◌⊎◌, filter, fold, option_map, nat_eq, nat_le, nat_lt, if◌then◌else◌}
 use Rattle.std.specs.FinSet as set
 use Rattle.std.specs.Ordering.{nat_cmp}
 use Rattle.std.specs.List.{list_any, range_with_len, AllByRecursion}
 use Rattle.std.proofs.lemmas.Bool.{cases_Bool, cases_lt, cases_eq}
 use Rattle.std.proofs.lemmas.Bool.Decides.{nat_tests}
-use Rattle.std.proofs.lemmas.List.{length-take}
 use Rattle.gb_types.specs.Entry.{message_of}
 use Rattle.gb_types.specs.declared.address.Addr.{Addr}
 use Rattle.gb_types.specs.declared.entry.Entry.{Entry}
 use Rattle.gb_types.specs.declared.limits.TheConstants.{NODES, PAYLOAD}
 use Rattle.gb_types.specs.declared.node.NodeId.{NodeId}
-use Rattle.gb_types.specs.declared.refusal.Refusal.TheVariants.{Denied, NoGroup, Spent, WrongPhase, TooLong, Budget, Bytes, Window}
+use Rattle.gb_types.specs.declared.refusal.Refusal.TheVariants.{Denied, NoGroup, TooLong, Budget, Bytes, Window}
 use Rattle.gb_types.specs.declared.reply.Reply.{Reply}
 use Rattle.gb_types.specs.declared.reply.Reply.TheVariants.{Done, Said, Log, Refused}
 use Rattle.gb_types.specs.declared.request.Request.{Request}
@@ -26,15 +25,15 @@ use Rattle.gb_rules.specs.Group.{Shown}
 use Rattle.gb_frame.specs.declared.item.Item.{Item}
 use Rattle.gb_frame.specs.Packet.{Content}
 use Rattle.gb_history.specs.declared.call.GroupCall.{GroupCall}
-use Rattle.gb_history.specs.declared.call.GroupCall.TheVariants.{Own, Other, Crashed}
+use Rattle.gb_history.specs.declared.call.GroupCall.TheVariants.{Own}
 use Rattle.gb_history.specs.History.{falls_after}
 use Rattle.gb_slot.specs.SlotState.{SlotState}
-use Rattle.gb_slot.specs.Slot.{new_slot, slot_moved, slot_said, slot_came, slot_noticed, slot_done, slot_took, slot_called, shown, own_entry, falls, waiting}
+use Rattle.gb_slot.specs.Slot.{new_slot, slot_moved, slot_said, slot_came, slot_noticed, slot_done, slot_took, shown, falls, waiting}
 use Rattle.gb_slot.specs.StandsFor.{StandsFor}
 use Rattle.gb_slot.specs.HistoryLaws.{FreshStands, MovedStands, SaidStands, CameStands, NoticedStands, DoneStands, TookStands, FallsIs}
 use Rattle.gb_groups.specs.SlotsValue.{Row, row_at, unless_gone}
-use Rattle.gb_groups.specs.AtAddress.{address_of, entry_of, place_of, reply_at, group_reply}
-use Rattle.gb_groups.specs.OneGroup.{group_in, stepped, dropped, or_added, where_so, items_for, item_for, came_for}
+use Rattle.gb_groups.specs.AtAddress.{entry_of, place_of, reply_at, group_reply}
+use Rattle.gb_groups.specs.OneGroup.{group_in, stepped, dropped, or_added, where_so, items_for, came_for}
 use Rattle.gb_table.specs.TableValue.{TableValue}
 use Rattle.gb_table.specs.Requests.{is_admitted, table_reply}
 use Rattle.gb_node.specs.NodeStep.{node_numbered}

@@ -1,5 +1,5 @@
-use Rattle.std.proofs.Common.{rules, ◌≡◌, ◌∙◌, ap, sym, ℕ, List}
-use Rattle.gb_host.specs.Closing.{AreReplays, AreSame, AreFresh, list_at, list_of}
+use Rattle.std.proofs.Common.{rules}
+use Rattle.gb_host.specs.Closing.{AreReplays, AreSame, list_at}
 use Rattle.gb_host.proofs.Closings.{closed_fresh}
 use Rattle.gb_host.proofs.close.close.Goals as goal
 

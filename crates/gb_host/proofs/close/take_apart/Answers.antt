@@ -1,7 +1,5 @@
-use Rattle.std.proofs.Common.{rules, arith, ◌≡◌, ◌+◌, ◌++◌, [], ◌∷◌, ◌∙◌, ap, sym, length, vec_len}
+use Rattle.std.proofs.Common.{arith, ◌≡◌, ◌+◌, ◌++◌, [], ◌∷◌, ◌∙◌, ap, vec_len}
 use Rattle.gb_types.specs.declared.node.NodeId.{NodeId}
-use Rattle.gb_host.specs.Replay.{IsReplay}
-use Rattle.gb_host.specs.Closing.{AreReplays}
 use Rattle.gb_host.proofs.Closings.{replays_step}
 use Rattle.gb_host.proofs.close.take_apart.Goals as goal
 

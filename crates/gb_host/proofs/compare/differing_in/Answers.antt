@@ -1,4 +1,4 @@
-use Rattle.std.proofs.Common.{arith, ◌≡◌, ℕ, List, [], Option, Some, None, IfNone, drop, length, sym, ap, subst}
+use Rattle.std.proofs.Common.{arith, ◌≡◌, ℕ, List, [], drop, sym, subst}
 use Rattle.std.proofs.lemmas.List.{drop_all}
 use Rattle.gb_host.specs.Calls.{calls_of, calls_at, numbered}
 use Rattle.gb_host.specs.Closing.{list_at}

@@ -1,4 +1,4 @@
-use Rattle.std.proofs.Common.{◌≡◌, sym, subst}
+use Rattle.std.proofs.Common.{sym, subst}
 use Rattle.gb_network.specs.NetworkValue.{network}
 use Rattle.gb_network.specs.NetworkStep.{IsStep}
 use Rattle.gb_network.proofs.network.take.Goals as goal

@@ -1,4 +1,4 @@
-use Rattle.std.proofs.Common.{◌≡◌, ◌∙◌, List, sym, ap, subst, refl}
+use Rattle.std.proofs.Common.{sym, subst, refl}
 use Rattle.std.proofs.lemmas.List.{append-nil}
 use Rattle.gb_node.specs.NodeStep.{IsTurn}
 use Rattle.gb_node.specs.declared.answer.NodeAnswer.TheVariants.{Taken}

@@ -1,4 +1,4 @@
-use Rattle.std.proofs.Common.{rules, ◌≡◌, ◌<◌, subst}
+use Rattle.std.proofs.Common.{rules, ◌<◌, subst}
 use Rattle.gb_host.specs.Plans.{IsPlan}
 use Rattle.gb_host.specs.declared.plan.HostPlan.{HostPlan}
 use Rattle.gb_host.proofs.Replays.{hosted_fits_new}

@@ -1,4 +1,4 @@
-use Rattle.std.proofs.Common.{rules, arith, ◌≡◌, ◌+◌, ◌<◌, ◌≤◌, ◌++◌, [], ◌∷◌, ◌∙◌, ap, refl, sym, subst, length, vec_len, vec_capacity, get_or}
+use Rattle.std.proofs.Common.{rules, arith, ◌++◌, [], ◌∷◌, ◌∙◌, ap, refl, sym, subst, get_or}
 use Rattle.gb_node.specs.NodeStep.{IsTurn, IsSpelt}
 use Rattle.gb_node.specs.declared.answer.NodeAnswer.{NodeAnswer}
 use Rattle.gb_node.specs.declared.tape.TapeEntry.{TapeEntry}

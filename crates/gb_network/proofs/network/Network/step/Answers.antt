@@ -1,7 +1,7 @@
-use Rattle.std.proofs.Common.{◌≡◌, ◌∙◌, List, length, sym, ap, subst, refl, inl}
+use Rattle.std.proofs.Common.{List, length, sym, subst}
 use Rattle.gb_network.specs.NetworkValue.{NetworkValue, network}
 use Rattle.gb_network.specs.NetworkStep.{AreForNodes, IsStep}
-use Rattle.gb_network.specs.Run.{ComesTo, IsReached}
+use Rattle.gb_network.specs.Run.{IsReached}
 use Rattle.gb_network.specs.declared.posted.Posted.{Posted}
 use Rattle.gb_network.proofs.CodeLemmas.{for_nodes, goes_on, kept_after}
 use Rattle.gb_network.proofs.network.Network.step.Goals as goal
