@@ -202,10 +202,10 @@ item_in g from i rows =
           ∙ (sym (same_either (names g i) (group_in g rows))
           ∙ sym (ap (λ c. where_so (names g i) (where_so c (stepped (slot_came from (entry_of i)))) (group_in g rows)) e))
     ]
-    where
-      same_either : (b : Bool) (o : Option (Option SlotState)) → where_so b (λ o. o) o ≡ o
-      same_either true o = refl
-      same_either false o = refl
+  where
+    same_either : (b : Bool) (o : Option (Option SlotState)) → where_so b (λ o. o) o ≡ o
+    same_either true o = refl
+    same_either false o = refl
 
 came_in : (g : Addr) (from : NodeId) (is : List Item) (rows : List Row) → group_in g (fold (λ rows i. item_came from i rows) rows is) ≡ fold (came_for from) (group_in g rows) (items_for g is)
 came_in g from [] rows = refl
@@ -287,10 +287,10 @@ module _ (g : Addr) (dest room : ℕ) (t : GroupsValue) (apart : AreApart t.rows
   missing none =
       let absent : first_with g t.rows ≡ None = sym (group_first g t.rows) ∙ ap (λ o. option_map (λ (row : Row). row.slot) (option_map (row_at t.rows) o)) none in
       let off : (v : Visit) → is_below (length t.rows) v ≡ true → names g (item_at t.rows v) ≡ false = λ v b.
-          elim (cases_Bool (is_addr g (row_at t.rows v.place).addr)) [
-            | inl h ↦ let n : true ≡ false = sym (first_at g t.rows v.place (ltb-true v.place (length t.rows) b) h) ∙ ap is_some absent in absurd (cc)
-            | inr h ↦ h
-          ] in
+      elim (cases_Bool (is_addr g (row_at t.rows v.place).addr)) [
+        | inl h ↦ let n : true ≡ false = sym (first_at g t.rows v.place (ltb-true v.place (length t.rows) b) h) ∙ ap is_some absent in absurd (cc)
+        | inr h ↦ h
+      ] in
       filter-map (names g) (item_at t.rows) vs
       ∙ (ap (map (item_at t.rows)) (agree (is_below (length t.rows)) (λ v. names g (item_at t.rows v)) (λ v. false) off vs (batch_below dest room t)) ∙ ap (map (item_at t.rows)) (filter_none vs))
 

@@ -26,17 +26,18 @@ pub acted : (plan : NetworkPlan) (nodes : List NodeValue) (before after : List P
     → IsNodeTurn old event before answer new after → IsAt (network plan nodes before) a event answer (network plan (slice_set nodes i new) after)
 acted plan nodes before after a i event answer old new place within read turned =
     let there : old ≡ node_at (network plan nodes before) a = read ∙ (get_or_default nodes i old (new_node (node_plan plan a)) within ∙ ap (λ k. get_or nodes k (new_node (node_plan plan a))) place) in
-    let t = subst (λ v. IsNodeTurn v event before answer new after) there turned in
-    (t.own,
-    record {
-      placed = omega (arith, place, within);
-      node = new;
-      turn = t.turn;
-      spelt = t.spelt;
-      reason = t.reason;
-      after = λ j. network plan (slice_set nodes (place j) new) (t.sent j);
-    },
-    t.answered)
+    let t = subst (λ v. IsNodeTurn v event before answer new after) there turned in (
+      t.own,
+      record {
+        placed = omega (arith, place, within);
+        node = new;
+        turn = t.turn;
+        spelt = t.spelt;
+        reason = t.reason;
+        after = λ j. network plan (slice_set nodes (place j) new) (t.sent j);
+      },
+      t.answered,
+    )
 
 numbered_at : (packets : List Posted) (k : ℕ) → (k ≡ 0 → ⊥) → packet_numbered packets k ≡ slice_get packets (k - 1)
 numbered_at packets zero some = absurd (some refl)
@@ -79,34 +80,36 @@ get_contains (q ∷ packets) (suc k) p e = let rest = get_contains packets k p e
 pub goes_on : (old new : NetworkValue) (event : Event) (answer : Answer) → IsStep old event answer new → GoesOn old new
 unfolding ComesTo
 goes_on old new (At a event) answer step run comes = by (is_packet_for (node_at old a) event) refl step
-    where
-      by : (b : Bool) → is_packet_for (node_at old a) event ≡ b → MatchBool b ((answer ≡ NotNoise) × (new ≡ old)) (IsAt old a event answer new) → ComesTo old.plan run new ⊎ ((d : Did) × ComesTo old.plan (d ∷ run) new)
-      by true is step = inl (subst (ComesTo old.plan run) (sym step.1) comes)
-      by false is step = inr (record { node = a; event = event; answer = step.0 }, (old, comes, λ bytes same yes. absurd (let n : true ≡ false = sym yes ∙ is in cc), step.1))
+  where
+    by : (b : Bool) → is_packet_for (node_at old a) event ≡ b → MatchBool b ((answer ≡ NotNoise) × (new ≡ old)) (IsAt old a event answer new) → ComesTo old.plan run new ⊎ ((d : Did) × ComesTo old.plan (d ∷ run) new)
+    by true is step = inl (subst (ComesTo old.plan run) (sym step.1) comes)
+    by false is step = inr (record { node = a; event = event; answer = step.0 }, (old, comes, λ bytes same yes. absurd (let n : true ≡ false = sym yes ∙ is in cc), step.1))
 goes_on old new (Arrive k) answer step run comes = by (packet_numbered old.packets k) refl step
-    where
-      there : (k : ℕ) (p : Posted) → packet_numbered old.packets k ≡ Some p → Contains old.packets p
-      there zero p e = absurd (cc)
-      there (suc k) p e = get_contains old.packets k p e
+  where
+    there : (k : ℕ) (p : Posted) → packet_numbered old.packets k ≡ Some p → Contains old.packets p
+    there zero p e = absurd (cc)
+    there (suc k) p e = get_contains old.packets k p e
 
-      bytes_in : (b c : List ℕ) → Came b ≡ Came c → b ≡ c
-      bytes_in b c e = cc
+    bytes_in : (b c : List ℕ) → Came b ≡ Came c → b ≡ c
+    bytes_in b c e = cc
 
-      by : (o : Option Posted) → packet_numbered old.packets k ≡ o → IsArrival old o answer new → ComesTo old.plan run new ⊎ ((d : Did) × ComesTo old.plan (d ∷ run) new)
-      by None is step = inl (subst (ComesTo old.plan run) (sym step.1) comes)
-      by (Some p) is step =
-          inr (record { node = p.to; event = Came p.text; answer = step.0 },
-              (old, comes, λ bytes same yes. subst (λ t. Contains old.packets (record { to = p.to; text = t })) (bytes_in p.text bytes same) (there k p is), step.1))
+    by : (o : Option Posted) → packet_numbered old.packets k ≡ o → IsArrival old o answer new → ComesTo old.plan run new ⊎ ((d : Did) × ComesTo old.plan (d ∷ run) new)
+    by None is step = inl (subst (ComesTo old.plan run) (sym step.1) comes)
+    by (Some p) is step =
+        inr (
+          record { node = p.to; event = Came p.text; answer = step.0 },
+          (old, comes, λ bytes same yes. subst (λ t. Contains old.packets (record { to = p.to; text = t })) (bytes_in p.text bytes same) (there k p is), step.1),
+        )
 
 -- the plan and the number of nodes stay
 pub kept_after : (old new : NetworkValue) (event : Event) (answer : Answer) → IsReached old → IsStep old event answer new → IsReached new × (new.plan ≡ old.plan) × (length new.nodes ≡ length old.nodes)
 kept_after old new event answer reached step =
     let before = stays old.plan reached.0 old reached.1 in
     by before.count (goes_on old new event answer step reached.0 reached.1)
-    where
-      by : length old.nodes ≡ old.plan.nodes → ComesTo old.plan reached.0 new ⊎ ((d : Did) × ComesTo old.plan (d ∷ reached.0) new) → IsReached new × (new.plan ≡ old.plan) × (length new.nodes ≡ length old.nodes)
-      by count (inl comes) = let s = stays old.plan reached.0 new comes in ((reached.0, subst (λ p. ComesTo p reached.0 new) (sym s.plan_is) comes), s.plan_is, s.count ∙ sym count)
-      by count (inr comes) = let s = stays old.plan (comes.0 ∷ reached.0) new comes.1 in ((comes.0 ∷ reached.0, subst (λ p. ComesTo p (comes.0 ∷ reached.0) new) (sym s.plan_is) comes.1), s.plan_is, s.count ∙ sym count)
+  where
+    by : length old.nodes ≡ old.plan.nodes → ComesTo old.plan reached.0 new ⊎ ((d : Did) × ComesTo old.plan (d ∷ reached.0) new) → IsReached new × (new.plan ≡ old.plan) × (length new.nodes ≡ length old.nodes)
+    by count (inl comes) = let s = stays old.plan reached.0 new comes in ((reached.0, subst (λ p. ComesTo p reached.0 new) (sym s.plan_is) comes), s.plan_is, s.count ∙ sym count)
+    by count (inr comes) = let s = stays old.plan (comes.0 ∷ reached.0) new comes.1 in ((comes.0 ∷ reached.0, subst (λ p. ComesTo p (comes.0 ∷ reached.0) new) (sym s.plan_is) comes.1), s.plan_is, s.count ∙ sym count)
 
 -- every packet goes to one of the nodes
 pub for_nodes : PacketsAreHonest → (v : NetworkValue) → IsReached v → AreForNodes (length v.nodes) v.packets

@@ -102,10 +102,10 @@ honest_more plan run d p h = record {
 -- a node that sends a packet runs, and sends what it should
 sends : (v : NodeValue) (e : NodeEvent) (text : List ℕ) (w : NodeValue) → (stopped_answer e ≡ Sent (SentPacket text) → ⊥) → IsTurn v e (Sent (SentPacket text)) w → Sent (SentPacket text) ≡ (running_turn v e).answer
 sends v e text w never (inl starved) = absurd (by (starved_says e (turn v e).answer (Sent (SentPacket text)) starved.0))
-    where
-      by : (Sent (SentPacket text) ≡ Sent (SentRefused OutOfMemory)) ⊎ ((r : Request) × (e ≡ Asked r) × (Sent (SentPacket text) ≡ Replied (Refused OutOfMemory))) → ⊥
-      by (inl is) = cc
-      by (inr is) = let x = is.2 in cc
+  where
+    by : (Sent (SentPacket text) ≡ Sent (SentRefused OutOfMemory)) ⊎ ((r : Request) × (e ≡ Asked r) × (Sent (SentPacket text) ≡ Replied (Refused OutOfMemory))) → ⊥
+    by (inl is) = cc
+    by (inr is) = let x = is.2 in cc
 sends v e text w never (inr went) = elim (cases_Bool v.stopped) [
   | inl h ↦ absurd (never (sym (went.0 ∙ ap (λ b. (if b then record { value = v; answer = stopped_answer e } else running_turn v e).answer) h)))
   | inr h ↦ went.0 ∙ ap (λ b. (if b then record { value = v; answer = stopped_answer e } else running_turn v e).answer) h
@@ -121,15 +121,15 @@ record Says (v : NodeValue) (o : Option Content) (text : List ℕ) : Type 0 wher
 says : (v : NodeValue) (o : Option Content) (text : List ℕ) → IfSome o IsPacket → Sent (SentPacket text) ≡ Sent (sent v o) → Says v o text
 says v None text fit e = absurd (cc)
 says v (Some c) text fit e = record { content = c; is = refl; text_is = ap text_in e; fit = fit }
-    where
-      text_in : NodeAnswer → List ℕ
-      text_in (Sent (SentPacket t)) = t
-      text_in (Sent Nothing) = text
-      text_in (Sent (SentRefused why)) = text
-      text_in (Replied reply) = text
-      text_in (Taken answer) = text
-      text_in (Ticked answer) = text
-      text_in (Halted answer) = text
+  where
+    text_in : NodeAnswer → List ℕ
+    text_in (Sent (SentPacket t)) = t
+    text_in (Sent Nothing) = text
+    text_in (Sent (SentRefused why)) = text
+    text_in (Replied reply) = text
+    text_in (Taken answer) = text
+    text_in (Ticked answer) = text
+    text_in (Halted answer) = text
 
 -- A frame that is not done is one that was packed.
 
@@ -143,9 +143,10 @@ numbered_all before (f ∷ fs) =
     let whole : (before ++ f ∷ []) ++ fs ≡ before ++ f ∷ fs = append_assoc before (f ∷ []) fs in
     let long = length-append before (f ∷ []) in
     let rest = numbered_all (before ++ f ∷ []) fs in
-    let next : length (before ++ f ∷ []) + 1 ≡ length before + 1 + 1 = omega (arith, long) in
-    ((omega arith, ap (λ gs. slice_get gs (length before + 1 - 1)) (sym whole) ∙ get_left (before ++ f ∷ []) fs (length before + 1 - 1) f (get_last before f (length before + 1 - 1) (omega arith))),
-    subst (λ gs. AllByRecursion (IsFrameOf gs) (numbered (length before + 1 + 1) fs)) whole (subst (λ n. AllByRecursion (IsFrameOf ((before ++ f ∷ []) ++ fs)) (numbered n fs)) next rest))
+    let next : length (before ++ f ∷ []) + 1 ≡ length before + 1 + 1 = omega (arith, long) in (
+      (omega arith, ap (λ gs. slice_get gs (length before + 1 - 1)) (sym whole) ∙ get_left (before ++ f ∷ []) fs (length before + 1 - 1) f (get_last before f (length before + 1 - 1) (omega arith))),
+      subst (λ gs. AllByRecursion (IsFrameOf gs) (numbered (length before + 1 + 1) fs)) whole (subst (λ n. AllByRecursion (IsFrameOf ((before ++ f ∷ []) ++ fs)) (numbered n fs)) next rest),
+    )
 
 filter_all : {X : Type 0} (P : X → Type 0) (test : X → Bool) (xs : List X) → AllByRecursion P xs → AllByRecursion P (filter test xs)
 filter_all P test [] h = tt
@@ -160,9 +161,9 @@ find_all P test (y ∷ xs) x h e = elim (cases_Bool (test y)) [
   | inl t ↦ let same : y ≡ x = some_in (sym (ap (λ b. cond b (Some y) (find test xs)) t) ∙ e) in subst P same h.0
   | inr t ↦ find_all P test xs x h.1 (sym (ap (λ b. cond b (Some y) (find test xs)) t) ∙ e)
 ]
-    where
-      some_in : Some y ≡ Some x → y ≡ x
-      some_in e = cc
+  where
+    some_in : Some y ≡ Some x → y ≡ x
+    some_in e = cc
 
 first_all : {X : Type 0} (P : X → Type 0) (xs : List X) (x : X) → AllByRecursion P xs → slice_get xs 0 ≡ Some x → P x
 first_all P [] x h e = absurd (cc)
@@ -172,10 +173,10 @@ again_frame : (w : SendWindow (List Item)) (n : ℕ) (u : ℕ × List Item) (fs 
 again_frame w n u fs test undone e =
     let all : AllByRecursion (IsFrameOf fs) w.undone = subst (AllByRecursion (IsFrameOf fs)) (sym undone) (filter_all (IsFrameOf fs) test (numbered 1 fs) (numbered_all [] fs)) in
     by (nat_eq n 0) e all
-    where
-      by : (b : Bool) → (if b then slice_get w.undone 0 else find (λ u. nat_eq u.0 n) w.undone) ≡ Some u → AllByRecursion (IsFrameOf fs) w.undone → IsFrameOf fs u
-      by true e all = first_all (IsFrameOf fs) w.undone u all e
-      by false e all = find_all (IsFrameOf fs) (λ u. nat_eq u.0 n) w.undone u all e
+  where
+    by : (b : Bool) → (if b then slice_get w.undone 0 else find (λ u. nat_eq u.0 n) w.undone) ≡ Some u → AllByRecursion (IsFrameOf fs) w.undone → IsFrameOf fs u
+    by true e all = first_all (IsFrameOf fs) w.undone u all e
+    by false e all = find_all (IsFrameOf fs) (λ u. nat_eq u.0 n) w.undone u all e
 
 -- what is sent at once is one packet
 one : (b : NodeId) (text : List ℕ) (p : Posted) (j : ℕ) → slice_get (posted_to b (SentPacket text)) j ≡ Some p → record { to = b; text = text } ≡ p
@@ -244,11 +245,11 @@ module _ (law : WhatIsWrittenIsRead) (plan : NetworkPlan) (a : NodeId) (inside :
         let fit : IsPacket c = subst IsPacket (sym same) said.fit in
         let fs = frames_to plan.cluster_key b.number past in
         let one : packed_for plan.cluster_key b.number d.event d.answer ≡ items ∷ [] =
-            (λ i. packed_for plan.cluster_key b.number (event i) (answer i))
-            ∙ (ap (λ t. if t then map (λ (c : Content). c.items) (read plan.cluster_key text) else []) (eq-eqb b.number b.number refl) ∙ ap (map (λ (c : Content). c.items)) (read_is text c text_is fit)) in
+        (λ i. packed_for plan.cluster_key b.number (event i) (answer i))
+        ∙ (ap (λ t. if t then map (λ (c : Content). c.items) (read plan.cluster_key text) else []) (eq-eqb b.number b.number refl) ∙ ap (map (λ (c : Content). c.items)) (read_is text c text_is fit)) in
         let h : Happened = record { event = d.event; answer = d.answer } in
         let longer : frames_to plan.cluster_key b.number (past_at a (d ∷ run)) ≡ fs ++ items ∷ [] =
-            ap (frames_to plan.cluster_key b.number) (past_same a d run (ap (λ (x : NodeId). x.number) here) ∙ ap (λ hs. h ∷ hs) past_is) ∙ ap (λ gs. fs ++ gs) one in
+        ap (frames_to plan.cluster_key b.number) (past_same a d run (ap (λ (x : NodeId). x.number) here) ∙ ap (λ hs. h ∷ hs) past_is) ∙ ap (λ gs. fs ++ gs) one in
         let number = was.next b in
         honest b text next items (batch_reached b items batch) text_is fit (λ some. ap (λ gs. slice_get gs (next - 1)) longer ∙ get_last fs items (next - 1) (omega (arith, number)))
 
@@ -262,7 +263,7 @@ module _ (law : WhatIsWrittenIsRead) (plan : NetworkPlan) (a : NodeId) (inside :
         let fs = frames_to plan.cluster_key b.number past in
         let was_packed = again_frame (window_to v b.number) n u fs (λ w. not (is_acked plan.cluster_key b.number w.0 past)) (was.undone b) frame in
         honest b text u.0 u.1 other text_is (subst IsPacket (sym same) said.fit)
-            (λ some. frames_more plan.cluster_key b.number (u.0 - 1) u.1 a d run (ap (λ hs. slice_get (frames_to plan.cluster_key b.number hs) (u.0 - 1)) past_is ∙ was_packed.1))
+        (λ some. frames_more plan.cluster_key b.number (u.0 - 1) u.1 a d run (ap (λ hs. slice_get (frames_to plan.cluster_key b.number hs) (u.0 - 1)) past_is ∙ was_packed.1))
 
     ack_honest : (b : NodeId) (text : List ℕ) (another : Bool) → is_another v b ≡ another → Says v (if another then Some (content_to v b 0 []) else None) text → IsHonest plan (d ∷ run) (record { to = b; text = text })
     ack_honest b text false other said = absurd (let x = said.is in cc)
@@ -275,7 +276,7 @@ module _ (law : WhatIsWrittenIsRead) (plan : NetworkPlan) (a : NodeId) (inside :
         → (p : Posted) (j : ℕ) → slice_get (posted e (Sent (SentPacket text))) j ≡ Some p → IsHonest plan (d ∷ run) p
     sent_honest (Pack b) text w event answer turned spelt p j e =
         subst (IsHonest plan (d ∷ run)) (one b text p j e)
-            (pack_honest b text (next_batch v b) refl event answer (says v (pack_content v b) text spelt (sends v (Pack b) text w (λ x. cc) turned)))
+        (pack_honest b text (next_batch v b) refl event answer (says v (pack_content v b) text spelt (sends v (Pack b) text w (λ x. cc) turned)))
     sent_honest (Again b n) text w event answer turned spelt p j e =
         subst (IsHonest plan (d ∷ run)) (one b text p j e) (by (is_reached v b) refl spelt (sends v (Again b n) text w (λ x. cc) turned))
       where
@@ -336,17 +337,17 @@ all_honest law pasts plan (d ∷ run) v comes k p e =
     let before = comes.0 in
     let acts = comes.3 in
     by (all_honest law pasts plan run comes.0 comes.1 k p) (get_either before.packets (posted d.event d.answer) k p (ap (λ (w : NetworkValue). slice_get w.packets k) (sym acts.after) ∙ e))
-    where
-      by : (slice_get comes.0.packets k ≡ Some p → IsHonest plan run p) → (slice_get comes.0.packets k ≡ Some p) ⊎ ((j : ℕ) × (slice_get (posted d.event d.answer) j ≡ Some p)) → IsHonest plan (d ∷ run) p
-      by earlier (inl old) = honest_more plan run d p (earlier old)
-      by earlier (inr new) =
-          let acts = comes.3 in
-          let kept = stays plan run comes.0 comes.1 in
-          let count = kept.count in
-          let placed = acts.placed in
-          let inside : d.node.number < plan.nodes = omega (arith, count, placed) in
-          let answer = posted_by d.event d.answer p new.0 new.1 in
-          let was = pasts (node_plan plan d.node) (past_at d.node run) (node_at comes.0 d.node) (have_pasts plan run comes.0 d.node comes.1 inside) in
-          sent_honest law plan d.node inside (past_at d.node run) (node_at comes.0 d.node) was run refl d refl d.event p.text acts.node refl answer
-              (subst (λ x. IsTurn (node_at comes.0 d.node) d.event x acts.node) answer acts.turn) (subst (IsSpelt (node_at comes.0 d.node) d.event) answer acts.spelt)
-              p new.0 (ap (λ x. slice_get (posted d.event x) new.0) (sym answer) ∙ new.1)
+  where
+    by : (slice_get comes.0.packets k ≡ Some p → IsHonest plan run p) → (slice_get comes.0.packets k ≡ Some p) ⊎ ((j : ℕ) × (slice_get (posted d.event d.answer) j ≡ Some p)) → IsHonest plan (d ∷ run) p
+    by earlier (inl old) = honest_more plan run d p (earlier old)
+    by earlier (inr new) =
+        let acts = comes.3 in
+        let kept = stays plan run comes.0 comes.1 in
+        let count = kept.count in
+        let placed = acts.placed in
+        let inside : d.node.number < plan.nodes = omega (arith, count, placed) in
+        let answer = posted_by d.event d.answer p new.0 new.1 in
+        let was = pasts (node_plan plan d.node) (past_at d.node run) (node_at comes.0 d.node) (have_pasts plan run comes.0 d.node comes.1 inside) in
+        sent_honest law plan d.node inside (past_at d.node run) (node_at comes.0 d.node) was run refl d refl d.event p.text acts.node refl answer
+        (subst (λ x. IsTurn (node_at comes.0 d.node) d.event x acts.node) answer acts.turn) (subst (IsSpelt (node_at comes.0 d.node) d.event) answer acts.spelt)
+        p new.0 (ap (λ x. slice_get (posted d.event x) new.0) (sym answer) ∙ new.1)

@@ -45,41 +45,41 @@ record Takes (v : NodeValue) (bytes : List ℕ) (good : Good) : Type 0 where
 
 takes : (v : NodeValue) (bytes : List ℕ) (good : Good) (w : NodeValue) → IsTurn v (Came bytes) (Taken (TakenGood good)) w → Takes v bytes good
 takes v bytes good w turned = by v.stopped refl turned
-    where
-      good_in : NodeAnswer → Good
-      good_in (Taken (TakenGood g)) = g
-      good_in (Taken (Fault fault)) = good
-      good_in (Taken (TakenRefused why)) = good
-      good_in (Replied reply) = good
-      good_in (Sent s) = good
-      good_in (Ticked t) = good
-      good_in (Halted h) = good
+  where
+    good_in : NodeAnswer → Good
+    good_in (Taken (TakenGood g)) = g
+    good_in (Taken (Fault fault)) = good
+    good_in (Taken (TakenRefused why)) = good
+    good_in (Replied reply) = good
+    good_in (Sent s) = good
+    good_in (Ticked t) = good
+    good_in (Halted h) = good
 
-      reads : (r : Result Content PacketFault) → reading v.key bytes ≡ r → Taken (TakenGood good) ≡ Taken (taken_answer v (if_here v r)) → Takes v bytes good
-      reads (Err fault) is e = absurd (cc)
-      reads (Ok c) is e = at_node (is_here v c) refl e
-        where
-          at_node : (b : Bool) → is_here v c ≡ b → Taken (TakenGood good) ≡ Taken (taken_answer v (if b then Ok c else Err NodeFault)) → Takes v bytes good
-          at_node true there e = record { content = c; text = is; here = ap (if_here v) is ∙ ap (λ b. if b then Ok c else Err NodeFault) there; good_is = ap good_in e }
-          at_node false there e = absurd (cc)
+    reads : (r : Result Content PacketFault) → reading v.key bytes ≡ r → Taken (TakenGood good) ≡ Taken (taken_answer v (if_here v r)) → Takes v bytes good
+    reads (Err fault) is e = absurd (cc)
+    reads (Ok c) is e = at_node (is_here v c) refl e
+      where
+        at_node : (b : Bool) → is_here v c ≡ b → Taken (TakenGood good) ≡ Taken (taken_answer v (if b then Ok c else Err NodeFault)) → Takes v bytes good
+        at_node true there e = record { content = c; text = is; here = ap (if_here v) is ∙ ap (λ b. if b then Ok c else Err NodeFault) there; good_is = ap good_in e }
+        at_node false there e = absurd (cc)
 
-      by : (b : Bool) → v.stopped ≡ b → IsTurn v (Came bytes) (Taken (TakenGood good)) w → Takes v bytes good
-      by true is (inl starved) = absurd (subst (λ b. IsStarved (Came bytes) (if b then record { value = v; answer = stopped_answer (Came bytes) } else running_turn v (Came bytes)).answer (Taken (TakenGood good))) is starved.0)
-      by false is (inl starved) = absurd (subst (λ b. IsStarved (Came bytes) (if b then record { value = v; answer = stopped_answer (Came bytes) } else running_turn v (Came bytes)).answer (Taken (TakenGood good))) is starved.0)
-      by true is (inr went) = let e : Taken (TakenGood good) ≡ stopped_answer (Came bytes) = went.0 ∙ ap (λ b. (if b then record { value = v; answer = stopped_answer (Came bytes) } else running_turn v (Came bytes)).answer) is in absurd (cc)
-      by false is (inr went) = reads (reading v.key bytes) refl (went.0 ∙ ap (λ b. (if b then record { value = v; answer = stopped_answer (Came bytes) } else running_turn v (Came bytes)).answer) is)
+    by : (b : Bool) → v.stopped ≡ b → IsTurn v (Came bytes) (Taken (TakenGood good)) w → Takes v bytes good
+    by true is (inl starved) = absurd (subst (λ b. IsStarved (Came bytes) (if b then record { value = v; answer = stopped_answer (Came bytes) } else running_turn v (Came bytes)).answer (Taken (TakenGood good))) is starved.0)
+    by false is (inl starved) = absurd (subst (λ b. IsStarved (Came bytes) (if b then record { value = v; answer = stopped_answer (Came bytes) } else running_turn v (Came bytes)).answer (Taken (TakenGood good))) is starved.0)
+    by true is (inr went) = let e : Taken (TakenGood good) ≡ stopped_answer (Came bytes) = went.0 ∙ ap (λ b. (if b then record { value = v; answer = stopped_answer (Came bytes) } else running_turn v (Came bytes)).answer) is in absurd (cc)
+    by false is (inr went) = reads (reading v.key bytes) refl (went.0 ∙ ap (λ b. (if b then record { value = v; answer = stopped_answer (Came bytes) } else running_turn v (Came bytes)).answer) is)
 
 -- a frame that comes for the first time was not received, and has a number
 first_new : (r : Received) (n : ℕ) → is_first (fate n r) ≡ true → (1 ≤ n) × (set.contains r n ≡ false)
 first_new r n e = by (nat_eq n 0) refl e
-    where
-      admitted : (c a : Bool) → is_first (kind_of (if c then Seen else if a then First else Outside)) ≡ true → c ≡ false
-      admitted true a e = absurd (cc)
-      admitted false a e = refl
+  where
+    admitted : (c a : Bool) → is_first (kind_of (if c then Seen else if a then First else Outside)) ≡ true → c ≡ false
+    admitted true a e = absurd (cc)
+    admitted false a e = refl
 
-      by : (b : Bool) → nat_eq n 0 ≡ b → is_first (if b then NoFrame else kind_of (admission r n)) ≡ true → (1 ≤ n) × (set.contains r n ≡ false)
-      by true is e = absurd (cc)
-      by false is e = (grind (arith, nat_tests, is), admitted (set.contains r n) (is_awaited r n) e)
+    by : (b : Bool) → nat_eq n 0 ≡ b → is_first (if b then NoFrame else kind_of (admission r n)) ≡ true → (1 ≤ n) × (set.contains r n ≡ false)
+    by true is e = absurd (cc)
+    by false is e = (grind (arith, nat_tests, is), admitted (set.contains r n) (is_awaited r n) e)
 
 -- A packet that a node of a network takes is honest.
 record Came_so (plan : NetworkPlan) (run : List Did) (a : NodeId) (bytes : List ℕ) (good : Good) (v : NodeValue) : Type 0 where
@@ -104,32 +104,33 @@ module _ (law : WhatIsWrittenIsRead) (pasts : PastsSay) (packets : PacketsAreHon
 
   one_content : {c e : Content} → c ∷ [] ≡ e ∷ [] → c ≡ e
   one_content {c} {e} same = ap first same
-      where
-        first : List Content → Content
-        first [] = c
-        first (x ∷ xs) = x
+    where
+      first : List Content → Content
+      first [] = c
+      first (x ∷ xs) = x
 
   whole_at : (run : List Did) (before : NetworkValue) (a : NodeId) (event : NodeEvent) (answer : NodeAnswer) (w : NodeValue) → ComesTo plan run before → a.number < plan.nodes → IsSent before a event
       → IsTurn (node_at before a) event answer w → IsWhole plan run (record { node = a; event = event; answer = answer })
   whole_at run before a (Came bytes) (Taken (TakenGood good)) w comes inside sent turned c e = by (is_first good.frame) refl e
-      where
-        by : (b : Bool) → is_first good.frame ≡ b → (if b then read plan.cluster_key bytes else []) ≡ c ∷ []
-            → (1 ≤ c.frame) × (is_taken plan.cluster_key c.from c.frame (past_at a run) ≡ false) × (slice_get (frames_to plan.cluster_key a.number (past_at (node_numbered c.from) run)) (c.frame - 1) ≡ Some c.items)
-        by false first e = absurd (cc)
-        by true first e =
-            let so = came_so run before a bytes good w comes inside sent turned in
-            let was = pasts (node_plan plan a) (past_at a run) (node_at before a) (have_pasts plan run before a comes inside) in
-            let same : so.content ≡ c = one_content (sym so.text ∙ e) in
-            let said : so.honest.content ≡ c = one_content (sym so.honest.text ∙ e) in
-            let from_is : so.honest.from.number ≡ c.from = sym so.honest.sender ∙ ap (λ (x : Content). x.from) said in
-            let sender : node_numbered c.from ≡ so.honest.from = ap node_numbered (sym from_is) ∙ numbered_is so.honest.from in
-            let new = first_new (receiver_from (node_at before a) c.from) c.frame (sym (ap (λ (g : Good). is_first g.frame) (so.good_is ∙ ap (λ x. good_of x (node_at before a)) same)) ∙ first) in
-            let number = new.0 in
-            let not_zero : so.honest.content.frame ≢ 0 = λ z. let f = ap (λ (x : Content). x.frame) said in absurd (omega (arith, number, z, f)) in
-            (new.0,
+    where
+      by : (b : Bool) → is_first good.frame ≡ b → (if b then read plan.cluster_key bytes else []) ≡ c ∷ []
+          → (1 ≤ c.frame) × (is_taken plan.cluster_key c.from c.frame (past_at a run) ≡ false) × (slice_get (frames_to plan.cluster_key a.number (past_at (node_numbered c.from) run)) (c.frame - 1) ≡ Some c.items)
+      by false first e = absurd (cc)
+      by true first e =
+          let so = came_so run before a bytes good w comes inside sent turned in
+          let was = pasts (node_plan plan a) (past_at a run) (node_at before a) (have_pasts plan run before a comes inside) in
+          let same : so.content ≡ c = one_content (sym so.text ∙ e) in
+          let said : so.honest.content ≡ c = one_content (sym so.honest.text ∙ e) in
+          let from_is : so.honest.from.number ≡ c.from = sym so.honest.sender ∙ ap (λ (x : Content). x.from) said in
+          let sender : node_numbered c.from ≡ so.honest.from = ap node_numbered (sym from_is) ∙ numbered_is so.honest.from in
+          let new = first_new (receiver_from (node_at before a) c.from) c.frame (sym (ap (λ (g : Good). is_first g.frame) (so.good_is ∙ ap (λ x. good_of x (node_at before a)) same)) ∙ first) in
+          let number = new.0 in
+          let not_zero : so.honest.content.frame ≢ 0 = λ z. let f = ap (λ (x : Content). x.frame) said in absurd (omega (arith, number, z, f)) in (
+            new.0,
             ap (λ k. is_taken plan.cluster_key k c.frame (past_at a run)) (sym from_is) ∙ (sym (was.received so.honest.from c.frame) ∙ (ap (λ k. set.contains (receiver_from (node_at before a) k) c.frame) from_is ∙ new.1)),
             ap (λ x. slice_get (frames_to plan.cluster_key a.number (past_at x run)) (c.frame - 1)) sender
-            ∙ (ap (λ (x : Content). slice_get (frames_to plan.cluster_key a.number (past_at so.honest.from run)) (x.frame - 1)) (sym said) ∙ (so.honest.frame not_zero ∙ ap (λ (x : Content). Some x.items) said)))
+                ∙ (ap (λ (x : Content). slice_get (frames_to plan.cluster_key a.number (past_at so.honest.from run)) (x.frame - 1)) (sym said) ∙ (so.honest.frame not_zero ∙ ap (λ (x : Content). Some x.items) said)),
+          )
   whole_at run before a (Came bytes) (Taken (Fault fault)) w comes inside sent turned c e = absurd (cc)
   whole_at run before a (Came bytes) (Taken (TakenRefused why)) w comes inside sent turned c e = absurd (cc)
   whole_at run before a (Came bytes) (Replied x) w comes inside sent turned c e = absurd (cc)
@@ -176,14 +177,14 @@ module _ (law : WhatIsWrittenIsRead) (pasts : PastsSay) (packets : PacketsAreHon
   -- the one packet of bytes that are read
   only : (test : Content → Bool) (bytes : List ℕ) → list_any test (read plan.cluster_key bytes) ≡ true → (c : Content) × (read plan.cluster_key bytes ≡ c ∷ []) × (test c ≡ true)
   only test bytes e = by (reading plan.cluster_key bytes) refl e
-      where
-        by : (r : Result Content PacketFault) → reading plan.cluster_key bytes ≡ r → list_any test (packet_in r) ≡ true → (c : Content) × (read plan.cluster_key bytes ≡ c ∷ []) × (test c ≡ true)
-        by (Err fault) is e = absurd (cc)
-        by (Ok c) is e = (c, ap packet_in is, tested (or_either (test c) false e))
-          where
-            tested : (test c ≡ true) ⊎ (false ≡ true) → test c ≡ true
-            tested (inl t) = t
-            tested (inr f) = absurd (cc)
+    where
+      by : (r : Result Content PacketFault) → reading plan.cluster_key bytes ≡ r → list_any test (packet_in r) ≡ true → (c : Content) × (read plan.cluster_key bytes ≡ c ∷ []) × (test c ≡ true)
+      by (Err fault) is e = absurd (cc)
+      by (Ok c) is e = (c, ap packet_in is, tested (or_either (test c) false e))
+        where
+          tested : (test c ≡ true) ⊎ (false ≡ true) → test c ≡ true
+          tested (inl t) = t
+          tested (inr f) = absurd (cc)
 
   first_of : (b n : ℕ) (e : NodeEvent) (answer : NodeAnswer) → is_taken_by plan.cluster_key b n e answer ≡ true → (c : Content) × (first_taken plan.cluster_key e answer ≡ c ∷ []) × (c.from ≡ b) × (c.frame ≡ n)
   first_of b n (Came bytes) (Taken (TakenGood good)) e =
@@ -219,9 +220,9 @@ module _ (law : WhatIsWrittenIsRead) (pasts : PastsSay) (packets : PacketsAreHon
           let w = whole.0 c.0 c.1 in
           let sender : node_numbered c.0.from ≡ a = ap node_numbered c.2 ∙ numbered_is a in
           let there = frames_more plan.cluster_key b.number (n - 1) c.0.items a d run
-              (ap (λ x. slice_get (frames_to plan.cluster_key b.number (past_at x run)) (n - 1)) (sym sender)
-              ∙ (ap (λ k. slice_get (frames_to plan.cluster_key k (past_at (node_numbered c.0.from) run)) (n - 1)) (sym same)
-              ∙ (ap (λ k. slice_get (frames_to plan.cluster_key d.node.number (past_at (node_numbered c.0.from) run)) (k - 1)) (sym c.3) ∙ w.2))) in
+          (ap (λ x. slice_get (frames_to plan.cluster_key b.number (past_at x run)) (n - 1)) (sym sender)
+          ∙ (ap (λ k. slice_get (frames_to plan.cluster_key k (past_at (node_numbered c.0.from) run)) (n - 1)) (sym same)
+          ∙ (ap (λ k. slice_get (frames_to plan.cluster_key d.node.number (past_at (node_numbered c.0.from) run)) (k - 1)) (sym c.3) ∙ w.2))) in
           let l = get_within (frames_to plan.cluster_key b.number (past_at a (d ∷ run))) (n - 1) c.0.items there in
           let number = w.0 in
           let same_number = c.3 in

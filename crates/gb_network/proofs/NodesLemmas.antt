@@ -72,8 +72,8 @@ have_pasts plan [] v a comes within =
     let right = comes.0 in
     let fresh : ℕ → NodeValue = λ k. new_node (node_plan plan (node_numbered k)) in
     let is : node_at v a ≡ new_node (node_plan plan a) =
-        ap (λ (w : NetworkValue). node_at w a) comes.1
-        ∙ (get_or-map-range_with_len fresh 0 plan.nodes a.number a.number (new_node (node_plan plan a)) within (omega arith) ∙ ap (λ b. new_node (node_plan plan b)) (numbered_is a)) in
+    ap (λ (w : NetworkValue). node_at w a) comes.1
+    ∙ (get_or-map-range_with_len fresh 0 plan.nodes a.number a.number (new_node (node_plan plan a)) within (omega arith) ∙ ap (λ b. new_node (node_plan plan b)) (numbered_is a)) in
     (record { cluster = right.few; member = within; places = right.places; least = right.least; most = right.most }, is)
 have_pasts plan (d ∷ run) v a comes within =
     let before = have_pasts plan run comes.0 a comes.1 within in
@@ -83,7 +83,7 @@ have_pasts plan (d ∷ run) v a comes within =
           let here : d.node ≡ a = same_number d.node a same in
           let turn = subst (λ b. NodeTurn comes.0 b d acts.node) here (acts.turn, acts.spelt) in
           subst (λ hs. NodeComesTo (node_plan plan a) hs (node_at v a)) (sym (past_same a d run same))
-              (node_at comes.0 a, before, subst (Turns (node_at comes.0 a) d) (sym (acting_is comes.0 d v acts a same)) turn.0, turn.1)
+          (node_at comes.0 a, before, subst (Turns (node_at comes.0 a) d) (sym (acting_is comes.0 d v acts a same)) turn.0, turn.1)
       | inr other ↦
           subst (λ hs. NodeComesTo (node_plan plan a) hs (node_at v a)) (sym (past_other a d run other)) (subst (NodeComesTo (node_plan plan a) (past_at a run)) (sym (other_is comes.0 d v acts a other)) before)
     ]

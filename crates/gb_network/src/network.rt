@@ -110,12 +110,7 @@ fn arrive(nodes: &mut Vec<Node>, packets: &[Posted], number: u64) -> Answer
 }
 
 /// An event at one of the nodes; noise that is a packet for the node is not handed in.
-fn happen(
-    nodes: &mut Vec<Node>,
-    packets: &mut Vec<Posted>,
-    at: NodeId,
-    event: &NodeEvent,
-) -> Answer
+fn happen(nodes: &mut Vec<Node>, packets: &mut Vec<Posted>, at: NodeId, event: &NodeEvent) -> Answer
     requires placed { at.number < length nodes.old.items }
     requires room { vec_len packets.old < vec_capacity packets.old }
     ensures { (plan : Plan) → IsStep (network plan nodes.old.items packets.old.items) (Events.At at event.now) result (network plan nodes.new.items packets.new.items) }

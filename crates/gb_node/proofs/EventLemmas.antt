@@ -163,12 +163,12 @@ starved_says Stop (Halted should) answer starved = absurd starved
 
 starved_quiet : (key : List ℕ) (e : NodeEvent) (should answer : NodeAnswer) → IsStarved e should answer → IsQuiet key e answer
 starved_quiet key e should answer starved = by (starved_says e should answer starved)
-    where
-      by : (answer ≡ Sent (SentRefused OutOfMemory)) ⊎ ((r : Request) × (e ≡ Asked r) × (answer ≡ Replied (Refused OutOfMemory))) → IsQuiet key e answer
-      by (inl is) = subst (IsQuiet key e) (sym is) (unsent_quiet key e)
-      by (inr is) =
-          subst (λ x. IsQuiet key x answer) (sym is.1) (subst (IsQuiet key (Asked is.0)) (sym is.2)
-              (record { still = record { none_came = refl; none_packed = λ b. refl; none_taken = λ b n. refl }; no_tick = refl; none_added = added_refused is.0 OutOfMemory; no_stop = refl }))
+  where
+    by : (answer ≡ Sent (SentRefused OutOfMemory)) ⊎ ((r : Request) × (e ≡ Asked r) × (answer ≡ Replied (Refused OutOfMemory))) → IsQuiet key e answer
+    by (inl is) = subst (IsQuiet key e) (sym is) (unsent_quiet key e)
+    by (inr is) =
+        subst (λ x. IsQuiet key x answer) (sym is.1) (subst (IsQuiet key (Asked is.0)) (sym is.2)
+        (record { still = record { none_came = refl; none_packed = λ b. refl; none_taken = λ b n. refl }; no_tick = refl; none_added = added_refused is.0 OutOfMemory; no_stop = refl }))
 
 pub starved_moved : (key : List ℕ) (e : NodeEvent) (should answer : NodeAnswer) (v : NodeValue) → IsStarved e should answer → Moved key e answer v v
 starved_moved key e should answer v starved = quiet_moved key e answer v (starved_quiet key e should answer starved)
@@ -288,9 +288,9 @@ unsent_group plan g past Stop = (λ o. refl, λ t. refl)
 -- and for want of memory
 pub starved_group : (plan : NodePlan) (g : Addr) (past : List Happened) (e : NodeEvent) (should answer : NodeAnswer) → IsStarved e should answer → LeavesGroup plan g past e answer
 starved_group plan g past e should answer starved = by (starved_says e should answer starved)
-    where
-      by : (answer ≡ Sent (SentRefused OutOfMemory)) ⊎ ((r : Request) × (e ≡ Asked r) × (answer ≡ Replied (Refused OutOfMemory))) → LeavesGroup plan g past e answer
-      by (inl is) = subst (LeavesGroup plan g past e) (sym is) (unsent_group plan g past e)
-      by (inr is) =
-          subst (λ x. LeavesGroup plan g past x answer) (sym is.1) (subst (LeavesGroup plan g past (Asked is.0)) (sym is.2)
-              (λ o. sym (asked_refused g plan.me (noticed_in plan past) is.0 OutOfMemory o), λ t. sym (asked_untold g plan.me (noticed_in plan past) is.0 OutOfMemory t)))
+  where
+    by : (answer ≡ Sent (SentRefused OutOfMemory)) ⊎ ((r : Request) × (e ≡ Asked r) × (answer ≡ Replied (Refused OutOfMemory))) → LeavesGroup plan g past e answer
+    by (inl is) = subst (LeavesGroup plan g past e) (sym is) (unsent_group plan g past e)
+    by (inr is) =
+        subst (λ x. LeavesGroup plan g past x answer) (sym is.1) (subst (LeavesGroup plan g past (Asked is.0)) (sym is.2)
+        (λ o. sym (asked_refused g plan.me (noticed_in plan past) is.0 OutOfMemory o), λ t. sym (asked_untold g plan.me (noticed_in plan past) is.0 OutOfMemory t)))

@@ -95,10 +95,10 @@ free nodes me number spec place false reserve e = absurd (cc)
 free nodes me number spec place true None e = absurd (cc)
 free nodes me number spec None true (Some reserve) e = refl
 free nodes me number spec (Some p) true (Some reserve) e = absurd (by (nat_le reserve.groups number) e)
-    where
-      by : (a : Bool) → Done ≡ (if a then Refused NoGroup else Refused Spent) → ⊥
-      by true e = cc
-      by false e = cc
+  where
+    by : (a : Bool) → Done ≡ (if a then Refused NoGroup else Refused Spent) → ⊥
+    by true e = cc
+    by false e = cc
 
 pub did_apart : StayApart → (noticed : set.FinSet nat_cmp) (r : Request) (reply : Reply) (t : TableValue) → reply ≡ table_reply r t → AreApart t.groups.rows → AreApart (table_did noticed r reply t).groups.rows
 did_apart law noticed (AddTenant token row) Done t is ok = ok
@@ -138,10 +138,10 @@ item_done_in law g from t i =
       | inl h ↦ rw h (law.addressed g (address_of i) (slot_done from (message_of (entry_of i))) t.groups.rows)
       | inr h ↦ rw h (sym (either (names g i) (group_in g t.groups.rows)))
     ]
-    where
-      either : (b : Bool) (o : Option (Option SlotState)) → where_so b (λ o. o) o ≡ o
-      either true o = refl
-      either false o = refl
+  where
+    either : (b : Bool) (o : Option (Option SlotState)) → where_so b (λ o. o) o ≡ o
+    either true o = refl
+    either false o = refl
 
 -- a fold over all items, of which each item changes a group that it names
 module _ (g : Addr) (step : TableValue → Item → TableValue) (own : Option (Option SlotState) → Item → Option (Option SlotState))
@@ -172,10 +172,10 @@ frames_done_in law g from t (u ∷ us) =
 
 item_comes_in : EachGroup → (g : Addr) (from : NodeId) (t : TableValue) (is : List Item) → group_in g (fold (item_comes from) t is).groups.rows ≡ fold (came_for from) (group_in g t.groups.rows) (items_for g is)
 item_comes_in law g from t is = ap (group_in g) (rows_of t is) ∙ law.arrived g from is t.groups.rows
-    where
-      rows_of : (t : TableValue) (is : List Item) → (fold (item_comes from) t is).groups.rows ≡ fold (λ rows i. item_came from i rows) t.groups.rows is
-      rows_of t [] = refl
-      rows_of t (i ∷ is) = rows_of (item_comes from t i) is
+  where
+    rows_of : (t : TableValue) (is : List Item) → (fold (item_comes from) t is).groups.rows ≡ fold (λ rows i. item_came from i rows) t.groups.rows is
+    rows_of t [] = refl
+    rows_of t (i ∷ is) = rows_of (item_comes from t i) is
 
 pub frame_comes_in : EachGroup → (g : Addr) (from : NodeId) (n : ℕ) (is : List Item) (r : Received) (t : TableValue)
     → group_in g (frame_comes from n is r t).groups.rows ≡ (if is_first (fate n r) then fold (came_for from) (group_in g t.groups.rows) (items_for g is) else group_in g t.groups.rows)
@@ -184,11 +184,11 @@ frame_comes_in law g from n is r t =
       | inl h ↦ rw h refl
       | inr h ↦ rw h (by (admission r n))
     ]
-    where
-      by : (a : Admission) → group_in g (items_come from is a t).groups.rows ≡ (if is_first (kind_of a) then fold (came_for from) (group_in g t.groups.rows) (items_for g is) else group_in g t.groups.rows)
-      by First = item_comes_in law g from t is
-      by Seen = refl
-      by Outside = refl
+  where
+    by : (a : Admission) → group_in g (items_come from is a t).groups.rows ≡ (if is_first (kind_of a) then fold (came_for from) (group_in g t.groups.rows) (items_for g is) else group_in g t.groups.rows)
+    by First = item_comes_in law g from t is
+    by Seen = refl
+    by Outside = refl
 
 -- Notices.
 
@@ -232,11 +232,11 @@ module _ (law : StayApart) where
     | inl h ↦ rw h ok
     | inr h ↦ rw h (by (admission r n))
   ]
-      where
-        by : (a : Admission) → AreApart (items_come from is a t).groups.rows
-        by First = apart_all (item_comes from) (item_comes_apart from) t is ok
-        by Seen = ok
-        by Outside = ok
+    where
+      by : (a : Admission) → AreApart (items_come from is a t).groups.rows
+      by First = apart_all (item_comes from) (item_comes_apart from) t is ok
+      by Seen = ok
+      by Outside = ok
 
   pub notices_apart : (t : TableValue) (found : List ℕ) → AreApart t.groups.rows → AreApart (notice_each t found).groups.rows
   notices_apart t found ok = apart_all (λ t b. table_noticed (node_numbered b) t) (λ t b ok. law.every (slot_noticed (node_numbered b)) t.groups.rows ok) t found ok
@@ -254,24 +254,24 @@ module _ (each : EachGroup) (plan : NodePlan) (past : List Happened) (v : NodeVa
   unfolding frames_to
   no_frames key n [] far = refl
   no_frames key n (h ∷ hs) far = ap (λ fs. fs ++ packed_for key n h.event h.answer) (no_frames key n hs far) ∙ none h.event h.answer
-      where
-        by : (x : NodeId) (text : List ℕ) → packed_for key n (Pack x) (Sent (SentPacket text)) ≡ []
-        by x text = let off : nat_eq x.number n ≡ false = let b = x.below in grind (arith, nat_tests, far, b) in rw off refl
+    where
+      by : (x : NodeId) (text : List ℕ) → packed_for key n (Pack x) (Sent (SentPacket text)) ≡ []
+      by x text = let off : nat_eq x.number n ≡ false = let b = x.below in grind (arith, nat_tests, far, b) in rw off refl
 
-        none : (e : NodeEvent) (a : NodeAnswer) → packed_for key n e a ≡ []
-        none (Pack x) (Sent (SentPacket text)) = by x text
-        none (Pack x) (Sent Nothing) = refl
-        none (Pack x) (Sent (SentRefused why)) = refl
-        none (Pack x) (Replied reply) = refl
-        none (Pack x) (Taken answer) = refl
-        none (Pack x) (Ticked answer) = refl
-        none (Pack x) (Halted answer) = refl
-        none (Asked r) a = refl
-        none (Came bytes) a = refl
-        none (Again x k) a = refl
-        none (Ack x) a = refl
-        none Tick a = refl
-        none Stop a = refl
+      none : (e : NodeEvent) (a : NodeAnswer) → packed_for key n e a ≡ []
+      none (Pack x) (Sent (SentPacket text)) = by x text
+      none (Pack x) (Sent Nothing) = refl
+      none (Pack x) (Sent (SentRefused why)) = refl
+      none (Pack x) (Replied reply) = refl
+      none (Pack x) (Taken answer) = refl
+      none (Pack x) (Ticked answer) = refl
+      none (Pack x) (Halted answer) = refl
+      none (Asked r) a = refl
+      none (Came bytes) a = refl
+      none (Again x k) a = refl
+      none (Ack x) a = refl
+      none Tick a = refl
+      none Stop a = refl
 
   undone_is : length v.windows ≡ NODES → (n : ℕ) → (window_to v n).undone ≡ filter (λ u. not (is_acked plan.cluster_key n u.0 past)) (numbered 1 (frames_to plan.cluster_key n past))
   unfolding numbered
@@ -312,17 +312,17 @@ module _ (each : EachGroup) (plan : NodePlan) (past : List Happened) (v : NodeVa
 sent_items : (xs : List Item) (items : List Item) → unless_empty xs ≡ Some items → items ≡ xs
 sent_items [] items e = absurd (cc)
 sent_items (x ∷ xs) items e = sym (ap (unwrap_list) e)
-    where
-      unwrap_list : Option (List Item) → List Item
-      unwrap_list None = x ∷ xs
-      unwrap_list (Some ys) = ys
+  where
+    unwrap_list : Option (List Item) → List Item
+    unwrap_list None = x ∷ xs
+    unwrap_list (Some ys) = ys
 
 pub next_items : (v : NodeValue) (b : NodeId) (items : List Item) → next_batch v b ≡ Some items → items ≡ batch_to v.table b
 next_items v b items e = by (is_reached v b && has_room (window_to v b.number)) e
-    where
-      by : (t : Bool) → (if t then unless_empty (batch_to v.table b) else None) ≡ Some items → items ≡ batch_to v.table b
-      by true e = sent_items (batch_to v.table b) items e
-      by false e = absurd (cc)
+  where
+    by : (t : Bool) → (if t then unless_empty (batch_to v.table b) else None) ≡ Some items → items ≡ batch_to v.table b
+    by true e = sent_items (batch_to v.table b) items e
+    by false e = absurd (cc)
 
 -- a batch takes no more of a group than waits there
 pub waiting_enough : EachGroup → (v : NodeValue) (b : NodeId) (g : Addr) (items : List Item) (s : SlotState) → AreApart v.table.groups.rows → items ≡ batch_to v.table b → group_in g v.table.groups.rows ≡ Some (Some s) → length (items_for g items) ≤ length (waiting s b.number)
@@ -330,11 +330,11 @@ waiting_enough law v b g items s apart is here =
     let n = length (items_for g items) in
     let front = law.front g b.number ROOM v.table.groups apart in
     let all : n ≡ length (take n (waiting s b.number)) =
-        ap length (ap (items_for g) is ∙ (front ∙ ap (λ o. map (item_for g) (take (length (items_for g (batch_to v.table b))) (waiting_in o b.number))) here))
-        ∙ (map-length (item_for g) (take (length (items_for g (batch_to v.table b))) (waiting s b.number)) ∙ ap (λ xs. length (take (length (items_for g xs)) (waiting s b.number))) (sym is)) in
+    ap length (ap (items_for g) is ∙ (front ∙ ap (λ o. map (item_for g) (take (length (items_for g (batch_to v.table b))) (waiting_in o b.number))) here))
+    ∙ (map-length (item_for g) (take (length (items_for g (batch_to v.table b))) (waiting s b.number)) ∙ ap (λ xs. length (take (length (items_for g xs)) (waiting s b.number))) (sym is)) in
     let most = length-take n (waiting s b.number) in
     omega (arith, all, most)
-    where
-      map-length : {X Y : Type 0} (f : X → Y) (xs : List X) → length (map f xs) ≡ length xs
-      map-length f [] = refl
-      map-length f (x ∷ xs) = ap suc (map-length f xs)
+  where
+    map-length : {X Y : Type 0} (f : X → Y) (xs : List X) → length (map f xs) ≡ length xs
+    map-length f [] = refl
+    map-length f (x ∷ xs) = ap suc (map-length f xs)

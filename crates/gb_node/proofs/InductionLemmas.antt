@@ -87,7 +87,7 @@ module _ (law : WhatIsWrittenIsRead) (each : EachGroup) (stay : StayApart) (slot
           let one : read plan.cluster_key bytes ≡ c ∷ [] = ap (λ k. read k bytes) (sym was.key) ∙ ap packet_in is in
           let frame = fate c.frame (receiver_from v c.from) in
           subst (λ cs. IsTold plan.me (fold (taken_for plan.cluster_key g past frame) (group_of plan g past) cs) (fold (taken_told plan.me g frame) (told_of plan g past) cs)) (sym one)
-              (taken_stands slots plan.me plan.cluster_key g past frame (group_of plan g past) (told_of plan g past) c (was.told g));
+          (taken_stands slots plan.me plan.cluster_key g past frame (group_of plan g past) (told_of plan g past) c (was.told g));
     })
     | inr h ↦ rw h (faulty bytes Node)
   ]
@@ -112,7 +112,7 @@ module _ (law : WhatIsWrittenIsRead) (each : EachGroup) (stay : StayApart) (slot
             let c = content_to v b (window_to v b.number).next items in
             let one : read plan.cluster_key (packet_text v.key c) ≡ c ∷ [] = ap (λ k. read k (packet_text v.key c)) (sym was.key) ∙ packet_told v b items law fit has.windows in
             subst (λ cs. IsTold plan.me (fold (packed_from g b) (group_of plan g past) cs) (told_of plan g past)) (sym one)
-                (packed_stands slots plan.me b (items_for g items) (group_of plan g past) (told_of plan g past) (λ s there. waiting_enough each v b g items s ok (next_items v b items is) (was.groups g ∙ there)) (was.told g));
+            (packed_stands slots plan.me b (items_for g items) (group_of plan g past) (told_of plan g past) (λ s there. waiting_enough each v b g items s ok (next_items v b items is) (was.groups g ∙ there)) (was.told g));
       }
 
   running_goes : (e : NodeEvent) → IsSpelt v e (running_turn v e).answer → Goes plan past v e (running_turn v e).answer (running_turn v e).value

@@ -152,38 +152,38 @@ made_told : SlotLaws → (spec : Spec) (me : NodeId) (noticed : set.FinSet nat_c
 made_told law spec me noticed few =
     let test : ℕ → Bool = λ b. is_other spec me.number b && set.contains noticed b in
     (refl, refl, law.fresh spec me noticed (noticed_members spec me noticed) (all_others spec me.number (set.contains noticed) 0 NODES (omega arith)) (λ b other. tell b other (cases_lt b NODES)))
-    where
-      tell : (b : ℕ) → is_other spec me.number b ≡ true → (b < NODES) ⊎ (NODES ≤ b) → set.contains noticed b ≡ list_any (λ (q : NodeId). nat_eq q.number b) (noticed_members spec me noticed)
-      tell b other (inl less) =
-          sym (any_in (λ b. is_other spec me.number b && set.contains noticed b) 0 NODES b (omega arith) (omega arith) less ∙ ap (λ c. c && set.contains noticed b) other)
-      tell b other (inr far) = few b far ∙ sym (any_beyond b far NODES 0 (omega arith))
-        where
-          any_beyond : (x : ℕ) → NODES ≤ x → (count low : ℕ) → low + count ≤ NODES → list_any (λ (q : NodeId). nat_eq q.number x) (map node_numbered (filter (λ b. is_other spec me.number b && set.contains noticed b) (range_with_len low count))) ≡ false
-          any_beyond x far zero low within = refl
-          any_beyond x far (suc count) low within =
-              let rest = any_beyond x far count (low + 1) (omega (arith, within)) in
-              elim (cases_Bool (is_other spec me.number low && set.contains noticed low)) [
-                | inl e ↦ let off : nat_eq (low % NODES) x ≡ false = let here : low % NODES ≡ low = omega (arith, within) in grind (arith, nat_tests, here, far, within) in rw (e, off) rest
-                | inr e ↦ rw e rest
-              ]
+  where
+    tell : (b : ℕ) → is_other spec me.number b ≡ true → (b < NODES) ⊎ (NODES ≤ b) → set.contains noticed b ≡ list_any (λ (q : NodeId). nat_eq q.number b) (noticed_members spec me noticed)
+    tell b other (inl less) =
+        sym (any_in (λ b. is_other spec me.number b && set.contains noticed b) 0 NODES b (omega arith) (omega arith) less ∙ ap (λ c. c && set.contains noticed b) other)
+    tell b other (inr far) = few b far ∙ sym (any_beyond b far NODES 0 (omega arith))
+      where
+        any_beyond : (x : ℕ) → NODES ≤ x → (count low : ℕ) → low + count ≤ NODES → list_any (λ (q : NodeId). nat_eq q.number x) (map node_numbered (filter (λ b. is_other spec me.number b && set.contains noticed b) (range_with_len low count))) ≡ false
+        any_beyond x far zero low within = refl
+        any_beyond x far (suc count) low within =
+            let rest = any_beyond x far count (low + 1) (omega (arith, within)) in
+            elim (cases_Bool (is_other spec me.number low && set.contains noticed low)) [
+              | inl e ↦ let off : nat_eq (low % NODES) x ≡ false = let here : low % NODES ≡ low = omega (arith, within) in grind (arith, nat_tests, here, far, within) in rw (e, off) rest
+              | inr e ↦ rw e rest
+            ]
 
 -- A message that is said.
 
 say_in : (x : Shown) (payload : List ℕ) (seq : ℕ) → Said seq ≡ say_answer x payload → seq ≡ x.usage.said + 1
 say_in x payload seq = by x.phase
-    where
-      chain : (a b c d : Bool) → Said seq ≡ (if a then Refused TooLong else (if b then Refused Budget else (if c then Refused Bytes else (if d then Refused Window else Said (x.usage.said + 1))))) → seq ≡ x.usage.said + 1
-      chain true b c d e = absurd (cc)
-      chain false true c d e = absurd (cc)
-      chain false false true d e = absurd (cc)
-      chain false false false true e = absurd (cc)
-      chain false false false false e = cc
+  where
+    chain : (a b c d : Bool) → Said seq ≡ (if a then Refused TooLong else (if b then Refused Budget else (if c then Refused Bytes else (if d then Refused Window else Said (x.usage.said + 1))))) → seq ≡ x.usage.said + 1
+    chain true b c d e = absurd (cc)
+    chain false true c d e = absurd (cc)
+    chain false false true d e = absurd (cc)
+    chain false false false true e = absurd (cc)
+    chain false false false false e = cc
 
-      by : (phase : Phase) → Said seq ≡ say_answer (record x { phase = phase }) payload → seq ≡ x.usage.said + 1
-      by Made e = absurd (cc)
-      by Opened e = chain (nat_lt PAYLOAD (length payload)) (nat_le x.spec.msgs x.usage.said) (nat_lt x.spec.bytes (x.usage.bytes + length payload)) (nat_le x.spec.window x.usage.unfinished) e
-      by Shut e = absurd (cc)
-      by Gone e = absurd (cc)
+    by : (phase : Phase) → Said seq ≡ say_answer (record x { phase = phase }) payload → seq ≡ x.usage.said + 1
+    by Made e = absurd (cc)
+    by Opened e = chain (nat_lt PAYLOAD (length payload)) (nat_le x.spec.msgs x.usage.said) (nat_lt x.spec.bytes (x.usage.bytes + length payload)) (nat_le x.spec.window x.usage.unfinished) e
+    by Shut e = absurd (cc)
+    by Gone e = absurd (cc)
 
 -- the reply to a command is read of the group
 abbrev reply_in : (Shown → Reply) → Option (Option SlotState) → Reply
@@ -196,13 +196,13 @@ reply_is answer rows (Some p) = refl
 
 said_seq : (t : TableValue) (token payload : List ℕ) (addr : Addr) (seq : ℕ) (s : SlotState) → Said seq ≡ table_reply (Say token addr payload) t → group_in addr t.groups.rows ≡ Some (Some s) → seq ≡ s.said + 1
 said_seq t token payload addr seq s e here = by (is_admitted (Say token addr payload) t) e
-    where
-      reply : group_reply (λ x. say_answer x payload) addr t.groups.rows ≡ say_answer (shown s) payload
-      reply = reply_is (λ x. say_answer x payload) t.groups.rows (place_of addr t.groups.rows) ∙ ap (reply_in (λ x. say_answer x payload)) here
+  where
+    reply : group_reply (λ x. say_answer x payload) addr t.groups.rows ≡ say_answer (shown s) payload
+    reply = reply_is (λ x. say_answer x payload) t.groups.rows (place_of addr t.groups.rows) ∙ ap (reply_in (λ x. say_answer x payload)) here
 
-      by : (admitted : Bool) → Said seq ≡ (if admitted then group_reply (λ x. say_answer x payload) addr t.groups.rows else Refused Denied) → seq ≡ s.said + 1
-      by true e = say_in (shown s) payload seq (e ∙ reply)
-      by false e = absurd (cc)
+    by : (admitted : Bool) → Said seq ≡ (if admitted then group_reply (λ x. say_answer x payload) addr t.groups.rows else Refused Denied) → seq ≡ s.said + 1
+    by true e = say_in (shown s) payload seq (e ∙ reply)
+    by false e = absurd (cc)
 
 said_told : SlotLaws → (me : NodeId) (s : SlotState) (t : Told) (payload : List ℕ) (seq : ℕ) → seq ≡ s.said + 1 → IsTold me (Some (Some s)) (Some (Some t))
     → IsTold me (Some (Some (slot_said payload (Said seq) s))) (Some (Some (with_call (Own (record { origin = me; seq = seq; payload = payload })) t)))
@@ -213,11 +213,11 @@ said_told law me s t payload seq is h =
 
 addr_is : (g a : Addr) → is_addr g a ≡ true → g ≡ a
 addr_is g a e = by (cases_eq g.tenant a.tenant) (cases_eq g.group a.group)
-    where
-      by : ((g.tenant ≡ a.tenant) ⊎ (g.tenant ≢ a.tenant)) → ((g.group ≡ a.group) ⊎ (g.group ≢ a.group)) → g ≡ a
-      by (inl x) (inl y) = λ i. record { tenant = x i; group = y i }
-      by (inl x) (inr y) = absurd (grind (arith, nat_tests, e, y))
-      by (inr x) y = absurd (grind (arith, nat_tests, e, x))
+  where
+    by : ((g.tenant ≡ a.tenant) ⊎ (g.tenant ≢ a.tenant)) → ((g.group ≡ a.group) ⊎ (g.group ≢ a.group)) → g ≡ a
+    by (inl x) (inl y) = λ i. record { tenant = x i; group = y i }
+    by (inl x) (inr y) = absurd (grind (arith, nat_tests, e, y))
+    by (inr x) y = absurd (grind (arith, nat_tests, e, x))
 
 module _ (law : SlotLaws) (me : NodeId) (noticed : set.FinSet nat_cmp) (few : (b : ℕ) → NODES ≤ b → set.contains noticed b ≡ false) (t : TableValue) (g : Addr) (o : Option (Option SlotState)) (is : o ≡ group_in g t.groups.rows) (x : Option (Option Told)) (h : IsTold me o x) where
   made_where : (b : Bool) (spec : Spec) → IsTold me (if b then Some (Some (new_slot spec me noticed)) else None) (if b then Some (Some (told_first spec me noticed)) else None)
@@ -246,11 +246,11 @@ module _ (law : SlotLaws) (me : NodeId) (noticed : set.FinSet nat_cmp) (few : (b
   asked_stands (DropGroup token addr) (Log entries) e = h
   asked_stands (DropGroup token addr) (Refused why) e = h
   asked_stands (Say token addr payload) Done e = h
-  asked_stands (Say token addr payload) (Said seq) e = 
+  asked_stands (Say token addr payload) (Said seq) e =
       let call = with_call (Own (record { origin = me; seq = seq; payload = payload })) in
       both_where me (is_addr g addr) (stepped (slot_said payload (Said seq))) (stepped call) o x
-          (λ own. told_step me (slot_said payload (Said seq)) call o x (λ s y there st. said_told law me s y payload seq (said_seq t token payload addr seq s e (ap (λ a. group_in a t.groups.rows) (sym (addr_is g addr own)) ∙ (sym is ∙ there))) st) h)
-          h
+      (λ own. told_step me (slot_said payload (Said seq)) call o x (λ s y there st. said_told law me s y payload seq (said_seq t token payload addr seq s e (ap (λ a. group_in a t.groups.rows) (sym (addr_is g addr own)) ∙ (sym is ∙ there))) st) h)
+      h
   asked_stands (Say token addr payload) (Log entries) e = h
   asked_stands (Say token addr payload) (Refused why) e = h
   asked_stands (Fetch token addr from most) Done e = h
@@ -279,6 +279,7 @@ module _ (law : SlotLaws) (me from : NodeId) where
         where
           kept_spec : falls from x s ≡ false → (slot_came from x s).spec ≡ t.spec
           kept_spec e = rw e h.0
+
           kept_me : falls from x s ≡ false → (slot_came from x s).me ≡ me
           kept_me e = rw e h.1
 
@@ -310,15 +311,16 @@ noticed_stands law me o x [] h = h
 noticed_stands law me o x (b ∷ found) h =
     let q = node_numbered b in
     noticed_stands law me (noticed_for o b) (noticed_told me x b) found (told_step me (slot_noticed q) (if_other me q) o x (λ s t there st. one q s t st) h)
-    where
-      one : (q : NodeId) (s : SlotState) (t : Told) → IsTold me (Some (Some s)) (Some (Some t)) → IsTold me (Some (Some (slot_noticed q s))) (Some (Some (if_other me q t)))
-      one q s t h = by (is_other s.spec s.me.number q.number) refl (λ i. is_other (sym h.0 i) (sym h.1 i).number q.number)
-        where
-          by : (b : Bool) → is_other s.spec s.me.number q.number ≡ b → is_other t.spec me.number q.number ≡ is_other s.spec s.me.number q.number → IsTold me (Some (Some (slot_noticed q s))) (Some (Some (if_other me q t)))
-          by true e f = let stands = law.noticed s t.calls q h.2 e in rw (f ∙ e) (kept_spec e, kept_me e, stands)
-            where
-              kept_spec : is_other s.spec s.me.number q.number ≡ true → (slot_noticed q s).spec ≡ t.spec
-              kept_spec e = rw e h.0
-              kept_me : is_other s.spec s.me.number q.number ≡ true → (slot_noticed q s).me ≡ me
-              kept_me e = rw e h.1
-          by false e f = rw (e, f ∙ e) h
+  where
+    one : (q : NodeId) (s : SlotState) (t : Told) → IsTold me (Some (Some s)) (Some (Some t)) → IsTold me (Some (Some (slot_noticed q s))) (Some (Some (if_other me q t)))
+    one q s t h = by (is_other s.spec s.me.number q.number) refl (λ i. is_other (sym h.0 i) (sym h.1 i).number q.number)
+      where
+        by : (b : Bool) → is_other s.spec s.me.number q.number ≡ b → is_other t.spec me.number q.number ≡ is_other s.spec s.me.number q.number → IsTold me (Some (Some (slot_noticed q s))) (Some (Some (if_other me q t)))
+        by true e f = let stands = law.noticed s t.calls q h.2 e in rw (f ∙ e) (kept_spec e, kept_me e, stands)
+          where
+            kept_spec : is_other s.spec s.me.number q.number ≡ true → (slot_noticed q s).spec ≡ t.spec
+            kept_spec e = rw e h.0
+
+            kept_me : is_other s.spec s.me.number q.number ≡ true → (slot_noticed q s).me ≡ me
+            kept_me e = rw e h.1
+        by false e f = rw (e, f ∙ e) h

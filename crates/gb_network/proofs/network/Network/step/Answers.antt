@@ -15,7 +15,7 @@ pub returns-clause-step : goal.returns-clause-step
 returns-clause-step c =
     let i = c.self.inside in
     subst (λ (v : NetworkValue). IsStep v c.args.event.now c.take.result (network i.plan c.take.new.nodes.items c.take.new.packets.items)) c.self.view_is
-        (subst (λ (ps : List Posted). IsStep (network i.plan i.nodes.items ps) c.args.event.now c.take.result (network i.plan c.take.new.nodes.items c.take.new.packets.items)) c.in_ok-reserve.ensures.items (c.take.ensures i.plan))
+    (subst (λ (ps : List Posted). IsStep (network i.plan i.nodes.items ps) c.args.event.now c.take.result (network i.plan c.take.new.nodes.items c.take.new.packets.items)) c.in_ok-reserve.ensures.items (c.take.ensures i.plan))
 
 pub returns-clause-run : goal.returns-clause-run
 returns-clause-run c = goes_on c.args.self.now _ c.args.event.now c.take.result (returns-clause-step c)
