@@ -87,39 +87,17 @@ fn echoes(alloc: Global, network: &mut Network) -> Result<&'static str, OutOfMem
     told(network, &event)
 }
 
-/// What comes of one event after the other.
-fn outcomes(alloc: Global, network: &mut Network) -> Result<[&'static str; 8], OutOfMemory> {
-    Ok([
-        arrives(network, 1)?,
-        acknowledges(network)?,
-        arrives(network, 1)?,
-        garbles(alloc, network)?,
-        echoes(alloc, network)?,
-        stops(network)?,
-        echoes(alloc, network)?,
-        arrives(network, 1)?,
-    ])
-}
-
-const WANTED: [&str; 8] = [
-    "no packet",
-    "packet 1",
-    "good",
-    "short",
-    "not noise",
-    "halted",
-    "not noise",
-    "stopped",
-];
-
-/// The place of the first outcome that is another one.
-fn differs(outcomes: &[&'static str; 8]) -> Option<usize> {
-    for place in 0..8 {
-        if outcomes[place] != WANTED[place] {
-            return Some(place);
-        }
-    }
-    None
+/// Whether each event is answered as it should be, one after the other.
+fn is_answered(alloc: Global, network: &mut Network) -> Result<bool, OutOfMemory> {
+    let before = arrives(network, 1)? == "no packet";
+    let sent = acknowledges(network)? == "packet 1";
+    let came = arrives(network, 1)? == "good";
+    let garbled = garbles(alloc, network)? == "short";
+    let echoed = echoes(alloc, network)? == "not noise";
+    let stopped = stops(network)? == "halted";
+    let echoed_again = echoes(alloc, network)? == "not noise";
+    let refused = arrives(network, 1)? == "stopped";
+    Ok(before && sent && came && garbled && echoed && stopped && echoed_again && refused)
 }
 
 // A packet arrives once it was sent, as often as one likes; its bytes are no noise, running or stopped; a stopped node
@@ -128,8 +106,7 @@ fn differs(outcomes: &[&'static str; 8]) -> Option<usize> {
 fn packets_and_noise(rt: HostRuntime) -> Result<(), Fail> {
     let alloc = rt.alloc();
     let mut network = Network::start(alloc, &PLAN)?;
-    let answers = outcomes(alloc, &mut network)?;
-    let place = differs(&answers);
-    assert!(rt; place.is_none());
+    let right = is_answered(alloc, &mut network)?;
+    assert!(rt; right);
     Ok(())
 }
