@@ -82,16 +82,16 @@ first_new r n e = by (nat_eq n 0) refl e
     by false is e = (grind (arith, nat_tests, is), admitted (set.contains r n) (is_awaited r n) e)
 
 -- A packet that a node of a network takes is honest.
-record Came_so (plan : NetworkPlan) (run : List Did) (a : NodeId) (bytes : List ℕ) (good : Good) (v : NodeValue) : Type 0 where
+record HonestArrival (plan : NetworkPlan) (run : List Did) (a : NodeId) (bytes : List ℕ) (good : Good) (v : NodeValue) : Type 0 where
   content : Content
   text : read plan.cluster_key bytes ≡ content ∷ []
   good_is : good ≡ good_of content v
   honest : IsHonest plan run (record { to = a; text = bytes })
 
 module _ (law : WhatIsWrittenIsRead) (pasts : PastsSay) (packets : PacketsAreHonest) (plan : NetworkPlan) where
-  came_so : (run : List Did) (v : NetworkValue) (a : NodeId) (bytes : List ℕ) (good : Good) (w : NodeValue) → ComesTo plan run v → a.number < plan.nodes → IsSent v a (Came bytes)
-      → IsTurn (node_at v a) (Came bytes) (Taken (TakenGood good)) w → Came_so plan run a bytes good (node_at v a)
-  came_so run v a bytes good w comes inside sent turned =
+  arrives_honestly : (run : List Did) (v : NetworkValue) (a : NodeId) (bytes : List ℕ) (good : Good) (w : NodeValue) → ComesTo plan run v → a.number < plan.nodes → IsSent v a (Came bytes)
+      → IsTurn (node_at v a) (Came bytes) (Taken (TakenGood good)) w → HonestArrival plan run a bytes good (node_at v a)
+  arrives_honestly run v a bytes good w comes inside sent turned =
       let took = takes (node_at v a) bytes good w turned in
       let was = pasts (node_plan plan a) (past_at a run) (node_at v a) (have_pasts plan run v a comes inside) in
       let place = sent bytes refl (ap is_ok took.here) in
@@ -117,7 +117,7 @@ module _ (law : WhatIsWrittenIsRead) (pasts : PastsSay) (packets : PacketsAreHon
           → (1 ≤ c.frame) × (is_taken plan.cluster_key c.from c.frame (past_at a run) ≡ false) × (slice_get (frames_to plan.cluster_key a.number (past_at (node_numbered c.from) run)) (c.frame - 1) ≡ Some c.items)
       by false first e = absurd (cc)
       by true first e =
-          let so = came_so run before a bytes good w comes inside sent turned in
+          let so = arrives_honestly run before a bytes good w comes inside sent turned in
           let was = pasts (node_plan plan a) (past_at a run) (node_at before a) (have_pasts plan run before a comes inside) in
           let same : so.content ≡ c = one_content (sym so.text ∙ e) in
           let said : so.honest.content ≡ c = one_content (sym so.honest.text ∙ e) in
@@ -241,7 +241,7 @@ module _ (law : WhatIsWrittenIsRead) (pasts : PastsSay) (packets : PacketsAreHon
       → 1 ≤ n → list_any (is_ack b.number n) (came plan.cluster_key event answer) ≡ true → is_taken plan.cluster_key a.number n (past_at b run) ≡ true
   ack_came run v a b n (Came bytes) (Taken (TakenGood good)) w comes inside sent turned from e =
       let one = only (is_ack b.number n) bytes e in
-      let so = came_so run v a bytes good w comes inside sent turned in
+      let so = arrives_honestly run v a bytes good w comes inside sent turned in
       let same : so.honest.content ≡ one.0 = one_content (sym so.honest.text ∙ one.1) in
       let parts = and_both (nat_eq one.0.from b.number) (covers one.0.base one.0.mask n) one.2 in
       let sender : so.honest.from ≡ b = same_number so.honest.from b (sym so.honest.sender ∙ (ap (λ (x : Content). x.from) same ∙ eqb-true one.0.from b.number parts.0)) in
