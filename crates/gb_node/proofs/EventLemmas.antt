@@ -47,13 +47,15 @@ pub record IsQuiet (key : List ℕ) (e : NodeEvent) (a : NodeAnswer) : Type 0 wh
   pub no_stop : stops e a ≡ false
 
 -- then the links stay
-pub still_moved : (key : List ℕ) (e : NodeEvent) (a : NodeAnswer) (v w : NodeValue) → IsStill key e a → w.key ≡ v.key → w.table.me ≡ v.table.me → w.table.nodes ≡ v.table.nodes
+pub still_moved : (key : List ℕ) (e : NodeEvent) (a : NodeAnswer) (v w : NodeValue) → IsStill key e a → w.key ≡ v.key → w.table.me ≡ v.table.me → w.table.nodes ≡ v.table.nodes → w.table.places ≡ v.table.places → w.table.admin_key ≡ v.table.admin_key
     → w.stopped ≡ (stops e a || v.stopped) → w.watch ≡ replay v.watch (ticks e a) → w.table.tenants ≡ v.table.tenants ++ added e a → w.windows ≡ v.windows → w.receivers ≡ v.receivers → Moved key e a v w
 unfolding numbered
-still_moved key e a v w still key_is me nodes stopped watch tenants windows receivers = record {
+still_moved key e a v w still key_is me nodes places admin_key stopped watch tenants windows receivers = record {
   key_is = key_is;
   me = me;
   nodes = nodes;
+  places = places;
+  admin_key = admin_key;
   stopped = stopped;
   watch = watch ∙ ap (replay v.watch) (sym (append-nil (ticks e a)) ∙ ap (λ cs. ticks e a ++ map (λ (c : Content). Heard c.from) cs) (sym still.none_came));
   tenants = tenants;
@@ -67,7 +69,7 @@ still_moved key e a v w still key_is me nodes stopped watch tenants windows rece
 
 pub quiet_moved : (key : List ℕ) (e : NodeEvent) (a : NodeAnswer) (v : NodeValue) → IsQuiet key e a → Moved key e a v v
 quiet_moved key e a v quiet =
-    still_moved key e a v v quiet.still refl refl refl (ap (λ t. t || v.stopped) (sym quiet.no_stop)) (ap (replay v.watch) (sym quiet.no_tick)) (sym (append-nil v.table.tenants) ∙ ap (λ rows. v.table.tenants ++ rows) (sym quiet.none_added)) refl refl
+    still_moved key e a v v quiet.still refl refl refl refl refl (ap (λ t. t || v.stopped) (sym quiet.no_stop)) (ap (replay v.watch) (sym quiet.no_tick)) (sym (append-nil v.table.tenants) ∙ ap (λ rows. v.table.tenants ++ rows) (sym quiet.none_added)) refl refl
 
 -- a refused request adds no tenant
 added_refused : (r : Request) (why : Refusal) → added (Asked r) (Replied (Refused why)) ≡ []
@@ -205,40 +207,47 @@ did_tenants noticed (Fetch token addr from most) (Said seq) t = sym (append-nil 
 did_tenants noticed (Fetch token addr from most) (Log entries) t = sym (append-nil t.tenants)
 did_tenants noticed (Fetch token addr from most) (Refused why) t = sym (append-nil t.tenants)
 
-did_me : (noticed : set.FinSet nat_cmp) (r : Request) (reply : Reply) (t : TableValue) → ((table_did noticed r reply t).me ≡ t.me) × ((table_did noticed r reply t).nodes ≡ t.nodes)
-did_me noticed (AddTenant token row) Done t = (refl, refl)
-did_me noticed (AddTenant token row) (Said seq) t = (refl, refl)
-did_me noticed (AddTenant token row) (Log entries) t = (refl, refl)
-did_me noticed (AddTenant token row) (Refused why) t = (refl, refl)
-did_me noticed (Make token addr spec) Done t = (refl, refl)
-did_me noticed (Make token addr spec) (Said seq) t = (refl, refl)
-did_me noticed (Make token addr spec) (Log entries) t = (refl, refl)
-did_me noticed (Make token addr spec) (Refused why) t = (refl, refl)
-did_me noticed (OpenGroup token addr) Done t = (refl, refl)
-did_me noticed (OpenGroup token addr) (Said seq) t = (refl, refl)
-did_me noticed (OpenGroup token addr) (Log entries) t = (refl, refl)
-did_me noticed (OpenGroup token addr) (Refused why) t = (refl, refl)
-did_me noticed (ShutGroup token addr) Done t = (refl, refl)
-did_me noticed (ShutGroup token addr) (Said seq) t = (refl, refl)
-did_me noticed (ShutGroup token addr) (Log entries) t = (refl, refl)
-did_me noticed (ShutGroup token addr) (Refused why) t = (refl, refl)
-did_me noticed (DropGroup token addr) Done t = (refl, refl)
-did_me noticed (DropGroup token addr) (Said seq) t = (refl, refl)
-did_me noticed (DropGroup token addr) (Log entries) t = (refl, refl)
-did_me noticed (DropGroup token addr) (Refused why) t = (refl, refl)
-did_me noticed (Say token addr payload) Done t = (refl, refl)
-did_me noticed (Say token addr payload) (Said seq) t = (refl, refl)
-did_me noticed (Say token addr payload) (Log entries) t = (refl, refl)
-did_me noticed (Say token addr payload) (Refused why) t = (refl, refl)
-did_me noticed (Fetch token addr from most) Done t = (refl, refl)
-did_me noticed (Fetch token addr from most) (Said seq) t = (refl, refl)
-did_me noticed (Fetch token addr from most) (Log entries) t = (refl, refl)
-did_me noticed (Fetch token addr from most) (Refused why) t = (refl, refl)
+-- tables of the same node, with the same cluster, places and administrator
+record SameTable (t u : TableValue) : Type 0 where
+  me : u.me ≡ t.me
+  nodes : u.nodes ≡ t.nodes
+  places : u.places ≡ t.places
+  admin_key : u.admin_key ≡ t.admin_key
+
+did_same : (noticed : set.FinSet nat_cmp) (r : Request) (reply : Reply) (t : TableValue) → SameTable t (table_did noticed r reply t)
+did_same noticed (AddTenant token row) Done t = record { me = refl; nodes = refl; places = refl; admin_key = refl }
+did_same noticed (AddTenant token row) (Said seq) t = record { me = refl; nodes = refl; places = refl; admin_key = refl }
+did_same noticed (AddTenant token row) (Log entries) t = record { me = refl; nodes = refl; places = refl; admin_key = refl }
+did_same noticed (AddTenant token row) (Refused why) t = record { me = refl; nodes = refl; places = refl; admin_key = refl }
+did_same noticed (Make token addr spec) Done t = record { me = refl; nodes = refl; places = refl; admin_key = refl }
+did_same noticed (Make token addr spec) (Said seq) t = record { me = refl; nodes = refl; places = refl; admin_key = refl }
+did_same noticed (Make token addr spec) (Log entries) t = record { me = refl; nodes = refl; places = refl; admin_key = refl }
+did_same noticed (Make token addr spec) (Refused why) t = record { me = refl; nodes = refl; places = refl; admin_key = refl }
+did_same noticed (OpenGroup token addr) Done t = record { me = refl; nodes = refl; places = refl; admin_key = refl }
+did_same noticed (OpenGroup token addr) (Said seq) t = record { me = refl; nodes = refl; places = refl; admin_key = refl }
+did_same noticed (OpenGroup token addr) (Log entries) t = record { me = refl; nodes = refl; places = refl; admin_key = refl }
+did_same noticed (OpenGroup token addr) (Refused why) t = record { me = refl; nodes = refl; places = refl; admin_key = refl }
+did_same noticed (ShutGroup token addr) Done t = record { me = refl; nodes = refl; places = refl; admin_key = refl }
+did_same noticed (ShutGroup token addr) (Said seq) t = record { me = refl; nodes = refl; places = refl; admin_key = refl }
+did_same noticed (ShutGroup token addr) (Log entries) t = record { me = refl; nodes = refl; places = refl; admin_key = refl }
+did_same noticed (ShutGroup token addr) (Refused why) t = record { me = refl; nodes = refl; places = refl; admin_key = refl }
+did_same noticed (DropGroup token addr) Done t = record { me = refl; nodes = refl; places = refl; admin_key = refl }
+did_same noticed (DropGroup token addr) (Said seq) t = record { me = refl; nodes = refl; places = refl; admin_key = refl }
+did_same noticed (DropGroup token addr) (Log entries) t = record { me = refl; nodes = refl; places = refl; admin_key = refl }
+did_same noticed (DropGroup token addr) (Refused why) t = record { me = refl; nodes = refl; places = refl; admin_key = refl }
+did_same noticed (Say token addr payload) Done t = record { me = refl; nodes = refl; places = refl; admin_key = refl }
+did_same noticed (Say token addr payload) (Said seq) t = record { me = refl; nodes = refl; places = refl; admin_key = refl }
+did_same noticed (Say token addr payload) (Log entries) t = record { me = refl; nodes = refl; places = refl; admin_key = refl }
+did_same noticed (Say token addr payload) (Refused why) t = record { me = refl; nodes = refl; places = refl; admin_key = refl }
+did_same noticed (Fetch token addr from most) Done t = record { me = refl; nodes = refl; places = refl; admin_key = refl }
+did_same noticed (Fetch token addr from most) (Said seq) t = record { me = refl; nodes = refl; places = refl; admin_key = refl }
+did_same noticed (Fetch token addr from most) (Log entries) t = record { me = refl; nodes = refl; places = refl; admin_key = refl }
+did_same noticed (Fetch token addr from most) (Refused why) t = record { me = refl; nodes = refl; places = refl; admin_key = refl }
 
 pub asked_moved : (key : List ℕ) (r : Request) (reply : Reply) (v : NodeValue) → Moved key (Asked r) (Replied reply) v (node_did r reply v)
 asked_moved key r reply v =
-    let kept = did_me v.watch.noticed r reply v.table in
-    still_moved key (Asked r) (Replied reply) v (node_did r reply v) (record { none_came = refl; none_packed = λ b. refl; none_taken = λ b n. refl }) refl kept.0 kept.1 refl refl (did_tenants v.watch.noticed r reply v.table) refl refl
+    let kept = did_same v.watch.noticed r reply v.table in
+    still_moved key (Asked r) (Replied reply) v (node_did r reply v) (record { none_came = refl; none_packed = λ b. refl; none_taken = λ b n. refl }) refl kept.me kept.nodes kept.places kept.admin_key refl refl (did_tenants v.watch.noticed r reply v.table) refl refl
 
 -- Groups.
 

@@ -1,11 +1,11 @@
 -- What each event makes of each group of a node.
-use Rattle.std.proofs.Common.{◌≡◌, ℕ, suc, inl, inr, List, [], ◌∷◌, ◌++◌, length, map, take, Option, Some, None, Ok, refl, sym, ap, ◌∙◌, ◌≤◌, arith}
+use Rattle.std.proofs.Common.{◌≡◌, ℕ, inl, inr, List, [], ◌∷◌, ◌++◌, length, map, take, Option, Some, None, Ok, refl, sym, ap, subst, ◌∙◌, ◌≤◌, arith}
 use Rattle.std.specs.Prelude.{Bool, true, false, not, cond, ◌&&◌, filter, fold, is_some, nat_eq, nat_le, nat_lt, if◌then◌else◌}
 use Rattle.std.specs.FinSet as set
 use Rattle.std.specs.Ordering.{nat_cmp}
 use Rattle.std.proofs.lemmas.Bool.{cases_Bool, cases_lt}
 use Rattle.std.proofs.lemmas.Bool.Decides.{nat_tests}
-use Rattle.std.proofs.lemmas.List.{get_or_past, length-take}
+use Rattle.std.proofs.lemmas.List.{get_or_past, length-map, length-take}
 use Rattle.std.proofs.lemmas.List.Elements.{filter-append}
 use Rattle.std.proofs.lemmas.List.Sums.{fold-append}
 use Rattle.gb_types.specs.Entry.{message_of}
@@ -33,7 +33,7 @@ use Rattle.gb_link.specs.Received.{Received, admission}
 use Rattle.gb_link.specs.declared.receiver.Admission.{Admission}
 use Rattle.gb_link.specs.declared.receiver.Admission.TheVariants.{First, Seen, Outside}
 use Rattle.gb_slot.specs.SlotState.{SlotState}
-use Rattle.gb_slot.specs.Slot.{new_slot, slot_moved, slot_said, slot_noticed, slot_came, slot_done, slot_took, waiting}
+use Rattle.gb_slot.specs.Slot.{new_slot, slot_moved, slot_said, slot_noticed, slot_came, slot_done, slot_took}
 use Rattle.gb_groups.specs.SlotsValue.{AreApart}
 use Rattle.gb_groups.specs.AtAddress.{address_of, entry_of, item_came, place_of}
 use Rattle.gb_groups.specs.OneGroup.{group_in, stepped, where_so, names, items_for, item_for, waiting_in, came_for, EachGroup, StayApart}
@@ -324,17 +324,17 @@ next_items v b items e = by (is_reached v b && has_room (window_to v b.number)) 
     by true e = sent_items (batch_to v.table b) items e
     by false e = absurd (cc)
 
+-- a batch has of each group a front of what waits there
+pub front_taken : EachGroup → (v : NodeValue) (b : NodeId) (g : Addr) (items : List Item) → AreApart v.table.groups.rows → items ≡ batch_to v.table b
+    → items_for g items ≡ map (item_for g) (take (length (items_for g items)) (waiting_in (group_in g v.table.groups.rows) b.number))
+front_taken law v b g items apart is =
+    subst (λ xs. items_for g xs ≡ map (item_for g) (take (length (items_for g xs)) (waiting_in (group_in g v.table.groups.rows) b.number))) (sym is) (law.front g b.number ROOM v.table.groups apart)
+
 -- a batch takes no more of a group than waits there
-pub waiting_enough : EachGroup → (v : NodeValue) (b : NodeId) (g : Addr) (items : List Item) (s : SlotState) → AreApart v.table.groups.rows → items ≡ batch_to v.table b → group_in g v.table.groups.rows ≡ Some (Some s) → length (items_for g items) ≤ length (waiting s b.number)
-waiting_enough law v b g items s apart is here =
+pub waiting_enough : EachGroup → (v : NodeValue) (b : NodeId) (g : Addr) (items : List Item) → AreApart v.table.groups.rows → items ≡ batch_to v.table b → length (items_for g items) ≤ length (waiting_in (group_in g v.table.groups.rows) b.number)
+waiting_enough law v b g items apart is =
     let n = length (items_for g items) in
-    let front = law.front g b.number ROOM v.table.groups apart in
-    let all : n ≡ length (take n (waiting s b.number)) =
-    ap length (ap (items_for g) is ∙ (front ∙ ap (λ o. map (item_for g) (take (length (items_for g (batch_to v.table b))) (waiting_in o b.number))) here))
-    ∙ (map-length (item_for g) (take (length (items_for g (batch_to v.table b))) (waiting s b.number)) ∙ ap (λ xs. length (take (length (items_for g xs)) (waiting s b.number))) (sym is)) in
-    let most = length-take n (waiting s b.number) in
+    let there = waiting_in (group_in g v.table.groups.rows) b.number in
+    let all : n ≡ length (take n there) = ap length (front_taken law v b g items apart is) ∙ length-map (take n there) (item_for g) in
+    let most = length-take n there in
     omega (arith, all, most)
-  where
-    map-length : {X Y : Type 0} (f : X → Y) (xs : List X) → length (map f xs) ≡ length xs
-    map-length f [] = refl
-    map-length f (x ∷ xs) = ap suc (map-length f xs)

@@ -21,7 +21,7 @@ use Rattle.gb_frame.specs.Laws.{WhatIsWrittenIsRead}
 use Rattle.gb_link.specs.SendWindow.{SendWindow, new_window, pushed}
 use Rattle.gb_detect.specs.Watch.{due}
 use Rattle.gb_groups.specs.SlotsValue.{AreApart}
-use Rattle.gb_groups.specs.OneGroup.{group_in, items_for, EachGroup, StayApart}
+use Rattle.gb_groups.specs.OneGroup.{group_in, items_for, waiting_in, EachGroup, StayApart}
 use Rattle.gb_table.specs.Requests.{table_reply}
 use Rattle.gb_detect.specs.Silence.{is_noticed}
 use Rattle.gb_detect.specs.Laws.{NoticedByCalls}
@@ -43,9 +43,9 @@ use Rattle.gb_node.proofs.GroupLemmas.{waiting_enough, asked_groups, took_groups
 use Rattle.gb_node.proofs.LinkLemmas.{took_moved, packed_moved, ticked_moved, halted_moved, told as packet_told}
 
 -- there is a place for each node
-record HasTables (v : NodeValue) : Type 0 where
-  windows : length v.windows ≡ NODES
-  receivers : length v.receivers ≡ NODES
+pub record HasTables (v : NodeValue) : Type 0 where
+  pub windows : length v.windows ≡ NODES
+  pub receivers : length v.receivers ≡ NODES
 
 -- what a step has to show
 record Goes (plan : NodePlan) (past : List Happened) (v : NodeValue) (e : NodeEvent) (a : NodeAnswer) (w : NodeValue) : Type 0 where
@@ -112,7 +112,7 @@ module _ (law : WhatIsWrittenIsRead) (each : EachGroup) (stay : StayApart) (slot
             let c = content_to v b (window_to v b.number).next items in
             let one : read plan.cluster_key (packet_text v.key c) ≡ c ∷ [] = ap (λ k. read k (packet_text v.key c)) (sym was.key) ∙ packet_told v b items law fit has.windows in
             subst (λ cs. IsTold plan.me (fold (packed_from g b) (group_of plan g past) cs) (told_of plan g past)) (sym one)
-            (packed_stands slots plan.me b (items_for g items) (group_of plan g past) (told_of plan g past) (λ s there. waiting_enough each v b g items s ok (next_items v b items is) (was.groups g ∙ there)) (was.told g));
+            (packed_stands slots plan.me b (items_for g items) (group_of plan g past) (told_of plan g past) (λ s there. subst (λ o. length (items_for g items) ≤ length (waiting_in o b.number)) (was.groups g ∙ there) (waiting_enough each v b g items ok (next_items v b items is))) (was.told g));
       }
 
   running_goes : (e : NodeEvent) → IsSpelt v e (running_turn v e).answer → Goes plan past v e (running_turn v e).answer (running_turn v e).value
@@ -164,6 +164,8 @@ new_says plan = record {
   key = refl;
   me = refl;
   nodes = refl;
+  places = refl;
+  admin_key = refl;
   stopped = refl;
   watch = refl;
   tenants = refl;
@@ -174,22 +176,22 @@ new_says plan = record {
   told = λ g. tt;
 }
 
-record Standing (plan : NodePlan) (past : List Happened) (v : NodeValue) : Type 0 where
-  says : IsOfPast plan past v
-  tables : HasTables v
-  apart : AreApart v.table.groups.rows
+pub record Standing (plan : NodePlan) (past : List Happened) (v : NodeValue) : Type 0 where
+  pub says : IsOfPast plan past v
+  pub tables : HasTables v
+  pub apart : AreApart v.table.groups.rows
 
 no_groups_apart : AreApart []
 no_groups_apart = record { apart = λ p q l m e. absurd (omega (arith, l)) }
 
 -- a node comes from one that was started rightly
-started : (plan : NodePlan) (past : List Happened) (v : NodeValue) → ComesTo plan past v → IsNodePlan plan
+pub started : (plan : NodePlan) (past : List Happened) (v : NodeValue) → ComesTo plan past v → IsNodePlan plan
 unfolding ComesTo
 started plan [] v comes = comes.0
 started plan (h ∷ past) v comes = started plan past comes.0 comes.1
 
 module _ (law : WhatIsWrittenIsRead) (each : EachGroup) (stay : StayApart) (slots : SlotLaws) (few : NoticedByCalls) (plan : NodePlan) where
-  stands : (past : List Happened) (v : NodeValue) → ComesTo plan past v → Standing plan past v
+  pub stands : (past : List Happened) (v : NodeValue) → ComesTo plan past v → Standing plan past v
   unfolding ComesTo
   stands [] v comes = subst (Standing plan []) (sym comes.1) (record { says = new_says plan; tables = record { windows = refl; receivers = refl }; apart = no_groups_apart })
   stands (h ∷ past) v comes =

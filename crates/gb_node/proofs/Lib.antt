@@ -11,3 +11,5 @@ pub mod GroupLemmas
 pub mod ToldLemmas
 pub mod ReadLemmas
 pub mod SetLemmas
+pub mod SentLemmas
+pub mod StepLemmas

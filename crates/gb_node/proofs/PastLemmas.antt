@@ -100,6 +100,8 @@ pub record Moved (key : List ℕ) (e : NodeEvent) (a : NodeAnswer) (v w : NodeVa
   pub key_is : w.key ≡ v.key
   pub me : w.table.me ≡ v.table.me
   pub nodes : w.table.nodes ≡ v.table.nodes
+  pub places : w.table.places ≡ v.table.places
+  pub admin_key : w.table.admin_key ≡ v.table.admin_key
   pub stopped : w.stopped ≡ (stops e a || v.stopped)
   pub watch : w.watch ≡ replay v.watch (ticks e a ++ map (λ (c : Content). Heard c.from) (came key e a))
   pub tenants : w.table.tenants ≡ v.table.tenants ++ added e a
@@ -119,6 +121,8 @@ moved_says plan past e a v w was step groups told =
       key = step.key_is ∙ was.key;
       me = step.me ∙ was.me;
       nodes = step.nodes ∙ was.nodes;
+      places = step.places ∙ was.places;
+      admin_key = step.admin_key ∙ was.admin_key;
       stopped = step.stopped ∙ ap (λ t. stops e a || t) was.stopped;
       watch = step.watch ∙ (ap (λ d. replay d (ticks e a ++ map (λ (c : Content). Heard c.from) (came key e a))) was.watch
           ∙ sym (replay-append (start plan.me.number plan.nodes plan.silence) (ticks e a ++ map (λ (c : Content). Heard c.from) (came key e a)) (watched key past)));

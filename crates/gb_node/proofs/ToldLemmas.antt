@@ -11,7 +11,7 @@ use Rattle.gb_types.specs.declared.address.Addr.{Addr}
 use Rattle.gb_types.specs.declared.entry.Entry.{Entry}
 use Rattle.gb_types.specs.declared.limits.TheConstants.{NODES, PAYLOAD}
 use Rattle.gb_types.specs.declared.node.NodeId.{NodeId}
-use Rattle.gb_types.specs.declared.refusal.Refusal.TheVariants.{Denied, NoGroup, TooLong, Budget, Bytes, Window}
+use Rattle.gb_types.specs.declared.refusal.Refusal.TheVariants.{Denied, TooLong, Budget, Bytes, Window}
 use Rattle.gb_types.specs.declared.reply.Reply.{Reply}
 use Rattle.gb_types.specs.declared.reply.Reply.TheVariants.{Done, Said, Log, Refused}
 use Rattle.gb_types.specs.declared.request.Request.{Request}
@@ -31,7 +31,7 @@ use Rattle.gb_slot.specs.SlotState.{SlotState}
 use Rattle.gb_slot.specs.Slot.{new_slot, slot_moved, slot_said, slot_came, slot_noticed, slot_done, slot_took, shown, falls, waiting}
 use Rattle.gb_slot.specs.StandsFor.{StandsFor}
 use Rattle.gb_slot.specs.HistoryLaws.{FreshStands, MovedStands, SaidStands, CameStands, NoticedStands, DoneStands, TookStands, FallsIs}
-use Rattle.gb_groups.specs.SlotsValue.{Row, row_at, unless_gone}
+use Rattle.gb_groups.specs.SlotsValue.{Row, row_at}
 use Rattle.gb_groups.specs.AtAddress.{entry_of, place_of, reply_at, group_reply}
 use Rattle.gb_groups.specs.OneGroup.{group_in, stepped, dropped, or_added, where_so, items_for, came_for}
 use Rattle.gb_table.specs.TableValue.{TableValue}
@@ -39,6 +39,7 @@ use Rattle.gb_table.specs.Requests.{is_admitted, table_reply}
 use Rattle.gb_node.specs.NodeStep.{node_numbered}
 use Rattle.gb_node.specs.Past.{Happened, is_first}
 use Rattle.gb_node.specs.PastGroups.{Told, with_call, noticed_members, told_first, asked_for, asked_told, unless_falls, came_told, taken_told, if_other, noticed_told, done_for, taken_for, freed_by, items_freed, noticed_for, IsTold}
+use Rattle.gb_node.specs.StepLaw.{group_answer}
 use Rattle.gb_node.specs.declared.answer.Frame.{Frame}
 
 -- What holds of a slot for every history that it stands for.
@@ -186,11 +187,7 @@ say_in x payload seq = by x.phase
     by Gone e = absurd (cc)
 
 -- the reply to a command is read of the group
-abbrev reply_in : (Shown → Reply) → Option (Option SlotState) → Reply
-reply_in answer None = Refused NoGroup
-reply_in answer (Some slot) = unless_gone answer slot
-
-reply_is : (answer : Shown → Reply) (rows : List Row) (place : Option ℕ) → reply_at answer rows place ≡ reply_in answer (option_map (λ (row : Row). row.slot) (option_map (row_at rows) place))
+pub reply_is : (answer : Shown → Reply) (rows : List Row) (place : Option ℕ) → reply_at answer rows place ≡ group_answer answer (option_map (λ (row : Row). row.slot) (option_map (row_at rows) place))
 reply_is answer rows None = refl
 reply_is answer rows (Some p) = refl
 
@@ -198,7 +195,7 @@ said_seq : (t : TableValue) (token payload : List ℕ) (addr : Addr) (seq : ℕ)
 said_seq t token payload addr seq s e here = by (is_admitted (Say token addr payload) t) e
   where
     reply : group_reply (λ x. say_answer x payload) addr t.groups.rows ≡ say_answer (shown s) payload
-    reply = reply_is (λ x. say_answer x payload) t.groups.rows (place_of addr t.groups.rows) ∙ ap (reply_in (λ x. say_answer x payload)) here
+    reply = reply_is (λ x. say_answer x payload) t.groups.rows (place_of addr t.groups.rows) ∙ ap (group_answer (λ x. say_answer x payload)) here
 
     by : (admitted : Bool) → Said seq ≡ (if admitted then group_reply (λ x. say_answer x payload) addr t.groups.rows else Refused Denied) → seq ≡ s.said + 1
     by true e = say_in (shown s) payload seq (e ∙ reply)

@@ -5,3 +5,4 @@ pub mod Past
 pub mod PastGroups
 pub mod PastLaw
 pub mod Reads
+pub mod StepLaw

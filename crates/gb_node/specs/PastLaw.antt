@@ -16,6 +16,8 @@ pub record IsOfPast (plan : NodePlan) (past : List Happened) (v : NodeValue) : T
   pub key : v.key ≡ plan.cluster_key
   pub me : v.table.me ≡ plan.me
   pub nodes : v.table.nodes ≡ plan.nodes
+  pub places : v.table.places ≡ plan.places
+  pub admin_key : v.table.admin_key ≡ plan.admin_key
   pub stopped : v.stopped ≡ is_stopped past
   pub watch : v.watch ≡ replay (start plan.me.number plan.nodes plan.silence) (watched plan.cluster_key past)
   pub tenants : v.table.tenants ≡ tenants_in past

@@ -1,5 +1,6 @@
 //! What a node's past says of it.
 ghost use Rattle.gb_node.specs.PastLaw.{PastsSay};
+ghost use Rattle.gb_node.specs.StepLaw.{AnswersSay};
 
 use gb_detect::laws::noticed_by_calls;
 use gb_frame::laws::what_is_written_is_read;
@@ -11,6 +12,19 @@ use gb_slot::history::stands;
 /// group. The function does nothing when it runs; its contract is the law.
 pub fn pasts_say()
     ensures { PastsSay }
+{
+    what_is_written_is_read();
+    each_group();
+    stands();
+    noticed_by_calls();
+}
+
+/// A law of every node, whatever happens at it: each of its answers is what the events and answers before it say. A request is
+/// answered by the rules of tenants and groups; a packet that is packed is one for another node, with a front of what waits
+/// there in each group; a packet that is taken is one for this node from another one, and its frame comes first once; a tick
+/// notices other nodes of the cluster that were not noticed. The function does nothing when it runs; its contract is the law.
+pub fn answers_say()
+    ensures { AnswersSay }
 {
     what_is_written_is_read();
     each_group();

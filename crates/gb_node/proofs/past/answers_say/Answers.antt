@@ -1,0 +1,9 @@
+use Rattle.gb_node.proofs.StepLemmas.{answers_say}
+use Rattle.gb_node.proofs.past.answers_say.Goals as goal
+
+pub returns : goal.returns
+returns c =
+    let slots = c.stands.ensures in
+    answers_say c.what_is_written_is_read.ensures c.each_group.ensures.each c.each_group.ensures.apart
+    (record { fresh = slots.fresh; moved = slots.opened; said = slots.said; came = slots.came; noticed = slots.noticed; done = slots.done; took = slots.took; falls = slots.falls })
+    c.noticed_by_calls.ensures

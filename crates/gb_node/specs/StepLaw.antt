@@ -1,0 +1,107 @@
+-- What each answer of a node says, by its past alone.
+use Rattle.std.specs.Prelude.{ℕ, ◌≡◌, ◌≢◌, ◌<◌, ◌≤◌, ◌⊎◌, ◌||◌, Bool, true, false, List, [], ◌∷◌, length, map, take, Option, Some, None, is_some, option_map, if◌then◌else◌}
+use Rattle.std.specs.FinSet as set
+use Rattle.std.specs.Ordering.{nat_cmp}
+use Rattle.gb_types.specs.declared.address.Addr.{Addr}
+use Rattle.gb_types.specs.declared.node.NodeId.{NodeId}
+use Rattle.gb_types.specs.declared.refusal.Refusal.TheVariants.{Stopped, OutOfMemory, Denied, NoGroup}
+use Rattle.gb_types.specs.declared.reply.Reply.{Reply}
+use Rattle.gb_types.specs.declared.reply.Reply.TheVariants.{Refused}
+use Rattle.gb_types.specs.declared.request.Request.{Request}
+use Rattle.gb_types.specs.declared.request.Request.TheVariants.{AddTenant, Make, OpenGroup, ShutGroup, DropGroup, Say, Fetch}
+use Rattle.gb_frame.specs.Packet.{Content}
+use Rattle.gb_rules.specs.Group.{Shown, open_answer, shut_answer, drop_answer, say_answer, fetch_answer}
+use Rattle.gb_rules.specs.Tenant.{reserve_of, row_of, reserved, tenant_answer, make_answer, by_tenant}
+use Rattle.gb_slot.specs.SlotState.{SlotState}
+use Rattle.gb_groups.specs.SlotsValue.{unless_gone}
+use Rattle.gb_groups.specs.OneGroup.{items_for, item_for, waiting_in}
+use Rattle.gb_table.specs.TableValue.{TableValue, new_table}
+use Rattle.gb_table.specs.Requests.{is_admitted}
+use Rattle.gb_node.specs.NodeValue.{NodeValue}
+use Rattle.gb_node.specs.NodeStep.{RequestTakesMemory}
+use Rattle.gb_node.specs.Past.{Happened, ComesTo, read, is_first, is_taken, tenants_in, is_stopped}
+use Rattle.gb_node.specs.PastGroups.{noticed_in, group_of}
+use Rattle.gb_node.specs.declared.answer.Good.{Good}
+use Rattle.gb_node.specs.declared.answer.NodeAnswer.{NodeAnswer}
+use Rattle.gb_node.specs.declared.answer.NodeAnswer.TheVariants.{Reply as Replied, Taken, Sent, Ticked}
+use Rattle.gb_node.specs.declared.answer.PacketAnswer.TheVariants.{Good as TakenGood}
+use Rattle.gb_node.specs.declared.answer.Sent.TheVariants.{Packet as SentPacket}
+use Rattle.gb_node.specs.declared.answer.Ticked.TheVariants.{Noticed}
+use Rattle.gb_node.specs.declared.event.NodeEvent.{NodeEvent}
+use Rattle.gb_node.specs.declared.event.NodeEvent.TheVariants.{Request as Asked, Packet as Came, Pack, Tick}
+use Rattle.gb_node.specs.declared.plan.NodePlan.{NodePlan}
+
+-- Requests.
+
+-- the table that a past makes, but for its groups
+abbrev pub past_table : NodePlan → List Happened → TableValue
+past_table plan past = record (new_table plan.me plan.nodes plan.places plan.admin_key) { tenants = tenants_in past }
+
+-- the request has the token that it needs after this past
+abbrev pub is_admitted_by : NodePlan → List Happened → Request → Bool
+is_admitted_by plan past request = is_admitted request (past_table plan past)
+
+-- the reply to a command on a group that may have been made, and dropped since
+abbrev pub group_answer : (Shown → Reply) → Option (Option SlotState) → Reply
+group_answer answer None = Refused NoGroup
+group_answer answer (Some slot) = unless_gone answer slot
+
+-- the reply to a request with the right token
+abbrev pub admitted_answer : NodePlan → List Happened → Request → Reply
+admitted_answer plan past (AddTenant token row) = tenant_answer plan.places (reserved (tenants_in past)) (is_some (row_of row.tenant (tenants_in past))) row
+admitted_answer plan past (Make token addr spec) =
+    by_tenant (make_answer plan.nodes plan.me.number addr.group (is_some (group_of plan addr past)) spec) (option_map reserve_of (row_of addr.tenant (tenants_in past)))
+admitted_answer plan past (OpenGroup token addr) = group_answer open_answer (group_of plan addr past)
+admitted_answer plan past (ShutGroup token addr) = group_answer shut_answer (group_of plan addr past)
+admitted_answer plan past (DropGroup token addr) = group_answer drop_answer (group_of plan addr past)
+admitted_answer plan past (Say token addr payload) = group_answer (λ s. say_answer s payload) (group_of plan addr past)
+admitted_answer plan past (Fetch token addr from most) = group_answer (λ s. fetch_answer s from most) (group_of plan addr past)
+
+-- the reply to any request
+abbrev pub past_answer : NodePlan → List Happened → Request → Reply
+past_answer plan past request = if is_stopped past then Refused Stopped else (if is_admitted_by plan past request then admitted_answer plan past request else Refused Denied)
+
+-- The answers.
+
+-- a request is answered by the past, or memory was wanting in its place
+abbrev pub IsAsked : NodePlan → List Happened → Request → Reply → Type 0
+IsAsked plan past request reply = ((reply ≡ Refused OutOfMemory) × RequestTakesMemory request (past_answer plan past request)) ⊎ (reply ≡ past_answer plan past request)
+
+-- a packet is packed by a running node for another one, and has of each group a front of what waits there
+pub record IsPacked (plan : NodePlan) (past : List Happened) (b : NodeId) (text : List ℕ) : Type 0 where
+  pub running : is_stopped past ≡ false
+  pub content : Content
+  pub text_is : read plan.cluster_key text ≡ content ∷ []
+  pub inside : b.number < plan.nodes
+  pub apart : b.number ≢ plan.me.number
+  pub enough : (g : Addr) → length (items_for g content.items) ≤ length (waiting_in (group_of plan g past) b.number)
+  pub front : (g : Addr) → items_for g content.items ≡ map (item_for g) (take (length (items_for g content.items)) (waiting_in (group_of plan g past) b.number))
+
+-- a packet is taken by a running node: it is one for this node from another one, and its frame is taken once
+pub record IsTakenIn (plan : NodePlan) (past : List Happened) (bytes : List ℕ) (good : Good) : Type 0 where
+  pub running : is_stopped past ≡ false
+  pub content : Content
+  pub text_is : read plan.cluster_key bytes ≡ content ∷ []
+  pub goal : content.to ≡ plan.me.number
+  pub inside : content.from < plan.nodes
+  pub apart : content.from ≢ plan.me.number
+  pub first : is_first good.frame ≡ true → (0 < content.frame) × (is_taken plan.cluster_key content.from content.frame past ≡ false)
+
+-- a tick at a running node notices other nodes of the cluster that were not noticed
+pub record IsTicked (plan : NodePlan) (past : List Happened) (found : set.FinSet nat_cmp) : Type 0 where
+  pub running : is_stopped past ≡ false
+  pub inside : (b : ℕ) → set.contains found b ≡ true → (b < plan.nodes) × (b ≢ plan.me.number)
+  pub fresh : (b : ℕ) → set.contains found b ≡ true → set.contains (noticed_in plan past) b ≡ false
+  pub later : (b : ℕ) → set.contains (noticed_in plan (record { event = Tick; answer = Ticked (Noticed found) } ∷ past)) b ≡ (set.contains found b || set.contains (noticed_in plan past) b)
+
+abbrev pub IsAnswered : NodePlan → List Happened → NodeEvent → NodeAnswer → Type 0
+IsAnswered plan past (Asked request) (Replied reply) = IsAsked plan past request reply
+IsAnswered plan past (Pack b) (Sent (SentPacket text)) = IsPacked plan past b text
+IsAnswered plan past (Came bytes) (Taken (TakenGood good)) = IsTakenIn plan past bytes good
+IsAnswered plan past Tick (Ticked (Noticed found)) = IsTicked plan past found
+IsAnswered plan past event answer = Unit {0}
+
+-- every answer of every node is what its past says, and only other nodes of the cluster are noticed
+pub record AnswersSay : Type 0 where
+  pub each : (plan : NodePlan) (past : List Happened) (event : NodeEvent) (answer : NodeAnswer) (v : NodeValue) → ComesTo plan (record { event = event; answer = answer } ∷ past) v → IsAnswered plan past event answer
+  pub noticed : (plan : NodePlan) (past : List Happened) (v : NodeValue) (b : ℕ) → ComesTo plan past v → set.contains (noticed_in plan past) b ≡ true → (b < plan.nodes) × (b ≢ plan.me.number)
