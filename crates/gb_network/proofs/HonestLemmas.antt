@@ -1,26 +1,21 @@
 -- Packets say what their senders did.
 use Rattle.std.proofs.Common.{◌≡◌, ◌≢◌, ℕ, zero, suc, ◌+◌, ◌-◌, ◌<◌, ◌≤◌, inl, inr, true, false, Bool, List, [], ◌∷◌, ◌++◌, length, map, Option, Some, None, refl, sym, ap, subst, ◌∙◌, arith}
-use Rattle.std.specs.Prelude.{◌⊎◌, ◌&&◌, ◌||◌, not, cond, filter, find, nat_eq, nat_lt, option_map, slice_get, slice_index_or, IfSome, if◌then◌else◌}
-use Rattle.std.specs.FinSet as set
+use Rattle.std.specs.Prelude.{◌⊎◌, ◌||◌, not, cond, filter, find, nat_eq, option_map, slice_get, slice_index_or, IfSome, if◌then◌else◌}
 use Rattle.std.specs.List.{AllByRecursion}
 use Rattle.std.proofs.lemmas.Bool.{cases_Bool, cases_eq, eq-eqb}
 use Rattle.std.proofs.lemmas.List.{append_assoc, length-append}
-use Rattle.std.proofs.lemmas.Bool.Decides.{nat_tests}
 use Rattle.gb_types.specs.declared.node.NodeId.{NodeId}
-use Rattle.gb_types.specs.declared.refusal.Refusal.TheVariants.{OutOfMemory}
-use Rattle.gb_types.specs.declared.reply.Reply.TheVariants.{Refused}
-use Rattle.gb_types.specs.declared.request.Request.{Request}
 use Rattle.gb_frame.specs.declared.item.Item.{Item}
 use Rattle.gb_frame.specs.Packet.{Content}
 use Rattle.gb_frame.specs.Spelling.{packet_text, IsPacket}
 use Rattle.gb_frame.specs.Laws.{WhatIsWrittenIsRead}
-use Rattle.gb_link.specs.SendWindow.{SendWindow, has_room, frame_again}
+use Rattle.gb_link.specs.SendWindow.{SendWindow, frame_again}
 use Rattle.gb_link.specs.Ack.{covers}
 use Rattle.gb_link.proofs.LinkLemmas.{covered_received}
 use Rattle.gb_node.specs.NodeValue.{NodeValue}
-use Rattle.gb_node.proofs.EventLemmas.{starved_says}
-use Rattle.gb_node.specs.NodeStep.{turn, running_turn, stopped_answer, window_to, receiver_from, is_reached, is_another, batch_to, unless_empty, next_batch, content_to, pack_content, ack_content, sent, IsTurn, IsSpelt}
-use Rattle.gb_node.specs.Past.{Happened, read, packet_in, packed_for, frames_to, numbered, is_taken, is_taken_by, is_acked}
+use Rattle.gb_node.proofs.SentLemmas.{sends, Says, says, reached_another, batch_another, another_in, read_is}
+use Rattle.gb_node.specs.NodeStep.{window_to, receiver_from, is_reached, is_another, next_batch, content_to, pack_content, ack_content, sent, IsTurn, IsSpelt}
+use Rattle.gb_node.specs.Past.{Happened, read, packed_for, frames_to, numbered, is_taken, is_taken_by, is_acked}
 use Rattle.gb_node.specs.PastLaw.{IsOfPast, PastsSay}
 use Rattle.gb_node.specs.declared.answer.NodeAnswer.{NodeAnswer}
 use Rattle.gb_node.specs.declared.answer.NodeAnswer.TheVariants.{Reply as Replied, Taken, Sent, Ticked, Halted}
@@ -43,7 +38,7 @@ get_left [] ys k x e = absurd (cc)
 get_left (y ∷ xs) ys zero x e = e
 get_left (y ∷ xs) ys (suc k) x e = get_left xs ys k x e
 
-get_either : {X : Type 0} (xs ys : List X) (k : ℕ) (x : X) → slice_get (xs ++ ys) k ≡ Some x → (slice_get xs k ≡ Some x) ⊎ ((j : ℕ) × (slice_get ys j ≡ Some x))
+pub get_either : {X : Type 0} (xs ys : List X) (k : ℕ) (x : X) → slice_get (xs ++ ys) k ≡ Some x → (slice_get xs k ≡ Some x) ⊎ ((j : ℕ) × (slice_get ys j ≡ Some x))
 get_either [] ys k x e = inr (k, e)
 get_either (y ∷ xs) ys zero x e = inl e
 get_either (y ∷ xs) ys (suc k) x e = get_either xs ys k x e
@@ -96,40 +91,6 @@ honest_more plan run d p h = record {
   frame = λ some. frames_more plan.cluster_key p.to.number (h.content.frame - 1) h.content.items h.from d run (h.frame some);
   acks = λ n from is. taken_more plan.cluster_key p.to.number n h.from d run (h.acks n from is);
 }
-
--- What a node says in a packet.
-
--- a node that sends a packet runs, and sends what it should
-sends : (v : NodeValue) (e : NodeEvent) (text : List ℕ) (w : NodeValue) → (stopped_answer e ≡ Sent (SentPacket text) → ⊥) → IsTurn v e (Sent (SentPacket text)) w → Sent (SentPacket text) ≡ (running_turn v e).answer
-sends v e text w never (inl starved) = absurd (by (starved_says e (turn v e).answer (Sent (SentPacket text)) starved.0))
-  where
-    by : (Sent (SentPacket text) ≡ Sent (SentRefused OutOfMemory)) ⊎ ((r : Request) × (e ≡ Asked r) × (Sent (SentPacket text) ≡ Replied (Refused OutOfMemory))) → ⊥
-    by (inl is) = cc
-    by (inr is) = let x = is.2 in cc
-sends v e text w never (inr went) = elim (cases_Bool v.stopped) [
-  | inl h ↦ absurd (never (sym (went.0 ∙ ap (λ b. (if b then record { value = v; answer = stopped_answer e } else running_turn v e).answer) h)))
-  | inr h ↦ went.0 ∙ ap (λ b. (if b then record { value = v; answer = stopped_answer e } else running_turn v e).answer) h
-]
-
--- the packet that is sent
-record Says (v : NodeValue) (o : Option Content) (text : List ℕ) : Type 0 where
-  content : Content
-  is : o ≡ Some content
-  text_is : text ≡ packet_text v.key content
-  fit : IsPacket content
-
-says : (v : NodeValue) (o : Option Content) (text : List ℕ) → IfSome o IsPacket → Sent (SentPacket text) ≡ Sent (sent v o) → Says v o text
-says v None text fit e = absurd (cc)
-says v (Some c) text fit e = record { content = c; is = refl; text_is = ap text_in e; fit = fit }
-  where
-    text_in : NodeAnswer → List ℕ
-    text_in (Sent (SentPacket t)) = t
-    text_in (Sent Nothing) = text
-    text_in (Sent (SentRefused why)) = text
-    text_in (Replied reply) = text
-    text_in (Taken answer) = text
-    text_in (Ticked answer) = text
-    text_in (Halted answer) = text
 
 -- A frame that is not done is one that was packed.
 
@@ -190,32 +151,8 @@ sent_by b (SentRefused why) p j e = absurd (cc)
 
 -- A packet that a node sends.
 module _ (law : WhatIsWrittenIsRead) (plan : NetworkPlan) (a : NodeId) (inside : a.number < plan.nodes) (past : List Happened) (v : NodeValue) (was : IsOfPast (node_plan plan a) past v) where
-  read_is : (text : List ℕ) (c : Content) → text ≡ packet_text v.key c → IsPacket c → read plan.cluster_key text ≡ c ∷ []
-  read_is text c is fit = ap (λ k. read k text) (sym was.key) ∙ (ap (read v.key) is ∙ ap packet_in (law v.key c fit))
-
   acks_are : (b : NodeId) (frame : ℕ) (items : List Item) (n : ℕ) → 1 ≤ n → covers (content_to v b frame items).base (content_to v b frame items).mask n ≡ true → is_taken plan.cluster_key b.number n past ≡ true
   acks_are b frame items n from is = sym (was.received b n) ∙ covered_received (receiver_from v b.number) n from is
-
-  another_in : (b : NodeId) → is_another v b ≡ true → b.number < plan.nodes
-  another_in b other = by (nat_lt b.number v.table.nodes) refl other
-    where
-      by : (t : Bool) → nat_lt b.number v.table.nodes ≡ t → (t && not (nat_eq b.number v.table.me.number)) ≡ true → b.number < plan.nodes
-      by true is e = let n = was.nodes in let l : b.number < v.table.nodes = grind (arith, nat_tests, is) in omega (arith, n, l)
-      by false is e = absurd (cc)
-
-  and_left : (t u : Bool) → (t && u) ≡ true → t ≡ true
-  and_left true u e = refl
-  and_left false u e = absurd (cc)
-
-  reached_another : (b : NodeId) → is_reached v b ≡ true → is_another v b ≡ true
-  reached_another b e = and_left (is_another v b) (not (set.contains v.watch.noticed b.number)) e
-
-  batch_reached : (b : NodeId) (items : List Item) → next_batch v b ≡ Some items → is_another v b ≡ true
-  batch_reached b items e = by (is_reached v b) (has_room (window_to v b.number)) refl e
-    where
-      by : (t u : Bool) → is_reached v b ≡ t → (if t && u then unless_empty (batch_to v.table b) else None) ≡ Some items → is_another v b ≡ true
-      by true u is e = reached_another b is
-      by false u is e = absurd (cc)
 
   -- with a frame of the node's past with what happens now
   module _ (run : List Did) (past_is : past_at a run ≡ past) (d : Did) (here : d.node ≡ a) where
@@ -224,11 +161,11 @@ module _ (law : WhatIsWrittenIsRead) (plan : NetworkPlan) (a : NodeId) (inside :
     honest b text frame items other is fit framed = record {
       content = content_to v b frame items;
       from = a;
-      text = read_is text (content_to v b frame items) is fit;
+      text = read_is (node_plan plan a) past v was law text (content_to v b frame items) is fit;
       sender = ap (λ (x : NodeId). x.number) was.me;
       inside = inside;
       goal = refl;
-      reaches = another_in b other;
+      reaches = (another_in (node_plan plan a) past v was b other).0;
       frame = framed;
       acks = λ n from covered. taken_more plan.cluster_key b.number n a d run (ap (is_taken plan.cluster_key b.number n) past_is ∙ acks_are b frame items n from covered);
     }
@@ -246,12 +183,12 @@ module _ (law : WhatIsWrittenIsRead) (plan : NetworkPlan) (a : NodeId) (inside :
         let fs = frames_to plan.cluster_key b.number past in
         let one : packed_for plan.cluster_key b.number d.event d.answer ≡ items ∷ [] =
         (λ i. packed_for plan.cluster_key b.number (event i) (answer i))
-        ∙ (ap (λ t. if t then map (λ (c : Content). c.items) (read plan.cluster_key text) else []) (eq-eqb b.number b.number refl) ∙ ap (map (λ (c : Content). c.items)) (read_is text c text_is fit)) in
+        ∙ (ap (λ t. if t then map (λ (c : Content). c.items) (read plan.cluster_key text) else []) (eq-eqb b.number b.number refl) ∙ ap (map (λ (c : Content). c.items)) (read_is (node_plan plan a) past v was law text c text_is fit)) in
         let h : Happened = record { event = d.event; answer = d.answer } in
         let longer : frames_to plan.cluster_key b.number (past_at a (d ∷ run)) ≡ fs ++ items ∷ [] =
         ap (frames_to plan.cluster_key b.number) (past_same a d run (ap (λ (x : NodeId). x.number) here) ∙ ap (λ hs. h ∷ hs) past_is) ∙ ap (λ gs. fs ++ gs) one in
         let number = was.next b in
-        honest b text next items (batch_reached b items batch) text_is fit (λ some. ap (λ gs. slice_get gs (next - 1)) longer ∙ get_last fs items (next - 1) (omega (arith, number)))
+        honest b text next items (batch_another v b items batch) text_is fit (λ some. ap (λ gs. slice_get gs (next - 1)) longer ∙ get_last fs items (next - 1) (omega (arith, number)))
 
     again_honest : (b : NodeId) (n : ℕ) (text : List ℕ) (o : Option (ℕ × List Item)) → is_another v b ≡ true → frame_again (window_to v b.number) n ≡ o
         → Says v (option_map (λ u. content_to v b u.0 u.1) o) text → IsHonest plan (d ∷ run) (record { to = b; text = text })
@@ -276,16 +213,16 @@ module _ (law : WhatIsWrittenIsRead) (plan : NetworkPlan) (a : NodeId) (inside :
         → (p : Posted) (j : ℕ) → slice_get (posted e (Sent (SentPacket text))) j ≡ Some p → IsHonest plan (d ∷ run) p
     sent_honest (Pack b) text w event answer turned spelt p j e =
         subst (IsHonest plan (d ∷ run)) (one b text p j e)
-        (pack_honest b text (next_batch v b) refl event answer (says v (pack_content v b) text spelt (sends v (Pack b) text w (λ x. cc) turned)))
+        (pack_honest b text (next_batch v b) refl event answer (says v (pack_content v b) text spelt (sends v (Pack b) text w (λ x. cc) turned).is))
     sent_honest (Again b n) text w event answer turned spelt p j e =
-        subst (IsHonest plan (d ∷ run)) (one b text p j e) (by (is_reached v b) refl spelt (sends v (Again b n) text w (λ x. cc) turned))
+        subst (IsHonest plan (d ∷ run)) (one b text p j e) (by (is_reached v b) refl spelt (sends v (Again b n) text w (λ x. cc) turned).is)
       where
         by : (reached : Bool) → is_reached v b ≡ reached → IfSome (if reached then option_map (λ u. content_to v b u.0 u.1) (frame_again (window_to v b.number) n) else None) IsPacket
             → Sent (SentPacket text) ≡ Sent (sent v (if reached then option_map (λ u. content_to v b u.0 u.1) (frame_again (window_to v b.number) n) else None)) → IsHonest plan (d ∷ run) (record { to = b; text = text })
-        by true is fit same = again_honest b n text (frame_again (window_to v b.number) n) (reached_another b is) refl (says v (option_map (λ u. content_to v b u.0 u.1) (frame_again (window_to v b.number) n)) text fit same)
+        by true is fit same = again_honest b n text (frame_again (window_to v b.number) n) (reached_another v b is) refl (says v (option_map (λ u. content_to v b u.0 u.1) (frame_again (window_to v b.number) n)) text fit same)
         by false is fit same = absurd (cc)
     sent_honest (Ack b) text w event answer turned spelt p j e =
-        subst (IsHonest plan (d ∷ run)) (one b text p j e) (ack_honest b text (is_another v b) refl (says v (ack_content v b) text spelt (sends v (Ack b) text w (λ x. cc) turned)))
+        subst (IsHonest plan (d ∷ run)) (one b text p j e) (ack_honest b text (is_another v b) refl (says v (ack_content v b) text spelt (sends v (Ack b) text w (λ x. cc) turned).is))
     sent_honest (Asked r) text w event answer turned spelt p j e = absurd (cc)
     sent_honest (Came bytes) text w event answer turned spelt p j e = absurd (cc)
     sent_honest Tick text w event answer turned spelt p j e = absurd (cc)

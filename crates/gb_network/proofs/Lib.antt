@@ -1,4 +1,5 @@
 pub mod NodesLemmas
 pub mod HonestLemmas
 pub mod LinkLemmas
+pub mod OutsideLemmas
 pub mod CodeLemmas

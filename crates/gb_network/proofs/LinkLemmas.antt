@@ -5,6 +5,7 @@ use Rattle.std.specs.FinSet as set
 use Rattle.std.specs.List.{list_any}
 use Rattle.std.proofs.lemmas.Bool.{cases_eq, eqb-true}
 use Rattle.std.proofs.lemmas.Bool.Decides.{nat_tests}
+use Rattle.gb_types.specs.declared.limits.TheConstants.{NODES}
 use Rattle.gb_types.specs.declared.node.NodeId.{NodeId}
 use Rattle.gb_types.proofs.SameLemmas.{same_number}
 use Rattle.gb_frame.specs.declared.fault.PacketFault.{PacketFault}
@@ -37,13 +38,14 @@ use Rattle.std.proofs.lemmas.List.{length-append}
 
 -- What a node takes.
 
-record Takes (v : NodeValue) (bytes : List ℕ) (good : Good) : Type 0 where
-  content : Content
-  text : reading v.key bytes ≡ Ok content
-  here : read_at v bytes ≡ Ok content
-  good_is : good ≡ good_of content v
+pub record Takes (v : NodeValue) (bytes : List ℕ) (good : Good) : Type 0 where
+  pub content : Content
+  pub text : reading v.key bytes ≡ Ok content
+  pub here : read_at v bytes ≡ Ok content
+  pub placed : is_here v content ≡ true
+  pub good_is : good ≡ good_of content v
 
-takes : (v : NodeValue) (bytes : List ℕ) (good : Good) (w : NodeValue) → IsTurn v (Came bytes) (Taken (TakenGood good)) w → Takes v bytes good
+pub takes : (v : NodeValue) (bytes : List ℕ) (good : Good) (w : NodeValue) → IsTurn v (Came bytes) (Taken (TakenGood good)) w → Takes v bytes good
 takes v bytes good w turned = by v.stopped refl turned
   where
     good_in : NodeAnswer → Good
@@ -60,7 +62,7 @@ takes v bytes good w turned = by v.stopped refl turned
     reads (Ok c) is e = at_node (is_here v c) refl e
       where
         at_node : (b : Bool) → is_here v c ≡ b → Taken (TakenGood good) ≡ Taken (taken_answer v (if b then Ok c else Err NodeFault)) → Takes v bytes good
-        at_node true there e = record { content = c; text = is; here = ap (if_here v) is ∙ ap (λ b. if b then Ok c else Err NodeFault) there; good_is = ap good_in e }
+        at_node true there e = record { content = c; text = is; here = ap (if_here v) is ∙ ap (λ b. if b then Ok c else Err NodeFault) there; placed = there; good_is = ap good_in e }
         at_node false there e = absurd (cc)
 
     by : (b : Bool) → v.stopped ≡ b → IsTurn v (Came bytes) (Taken (TakenGood good)) w → Takes v bytes good
@@ -82,14 +84,21 @@ first_new r n e = by (nat_eq n 0) refl e
     by false is e = (grind (arith, nat_tests, is), admitted (set.contains r n) (is_awaited r n) e)
 
 -- A packet that a node of a network takes is honest.
-record HonestArrival (plan : NetworkPlan) (run : List Did) (a : NodeId) (bytes : List ℕ) (good : Good) (v : NodeValue) : Type 0 where
-  content : Content
-  text : read plan.cluster_key bytes ≡ content ∷ []
-  good_is : good ≡ good_of content v
-  honest : IsHonest plan run (record { to = a; text = bytes })
+pub record HonestArrival (plan : NetworkPlan) (run : List Did) (a : NodeId) (bytes : List ℕ) (good : Good) (v : NodeValue) : Type 0 where
+  pub content : Content
+  pub text : read plan.cluster_key bytes ≡ content ∷ []
+  pub good_is : good ≡ good_of content v
+  pub honest : IsHonest plan run (record { to = a; text = bytes })
+
+pub one_content : {c e : Content} → c ∷ [] ≡ e ∷ [] → c ≡ e
+one_content {c} {e} same = ap first same
+  where
+    first : List Content → Content
+    first [] = c
+    first (x ∷ xs) = x
 
 module _ (law : WhatIsWrittenIsRead) (pasts : PastsSay) (packets : PacketsAreHonest) (plan : NetworkPlan) where
-  arrives_honestly : (run : List Did) (v : NetworkValue) (a : NodeId) (bytes : List ℕ) (good : Good) (w : NodeValue) → ComesTo plan run v → a.number < plan.nodes → IsSent v a (Came bytes)
+  pub arrives_honestly : (run : List Did) (v : NetworkValue) (a : NodeId) (bytes : List ℕ) (good : Good) (w : NodeValue) → ComesTo plan run v → a.number < plan.nodes → IsSent v a (Came bytes)
       → IsTurn (node_at v a) (Came bytes) (Taken (TakenGood good)) w → HonestArrival plan run a bytes good (node_at v a)
   arrives_honestly run v a bytes good w comes inside sent turned =
       let took = takes (node_at v a) bytes good w turned in
@@ -101,13 +110,6 @@ module _ (law : WhatIsWrittenIsRead) (pasts : PastsSay) (packets : PacketsAreHon
         good_is = took.good_is;
         honest = packets plan run v comes place.0 (record { to = a; text = bytes }) (contains_get v.packets place.0 (record { to = a; text = bytes }) place.1 place.2);
       }
-
-  one_content : {c e : Content} → c ∷ [] ≡ e ∷ [] → c ≡ e
-  one_content {c} {e} same = ap first same
-    where
-      first : List Content → Content
-      first [] = c
-      first (x ∷ xs) = x
 
   whole_at : (run : List Did) (before : NetworkValue) (a : NodeId) (event : NodeEvent) (answer : NodeAnswer) (w : NodeValue) → ComesTo plan run before → a.number < plan.nodes → IsSent before a event
       → IsTurn (node_at before a) event answer w → IsWhole plan run (record { node = a; event = event; answer = answer })
@@ -259,6 +261,18 @@ module _ (law : WhatIsWrittenIsRead) (pasts : PastsSay) (packets : PacketsAreHon
   ack_came run v a b n Tick answer w comes inside sent turned from e = absurd (cc)
   ack_came run v a b n Stop answer w comes inside sent turned from e = absurd (cc)
 
+  covered_taken : (run : List Did) (d : Did) (v : NetworkValue) → ComesTo plan (d ∷ run) v → (c : Content) → came plan.cluster_key d.event d.answer ≡ c ∷ [] → c.from < NODES → (n : ℕ) → 1 ≤ n → covers c.base c.mask n ≡ true
+      → is_taken plan.cluster_key d.node.number n (past_at (node_numbered c.from) run) ≡ true
+  unfolding ComesTo
+  covered_taken run d v comes c one below n from e =
+      let kept = stays plan run comes.0 comes.1 in
+      let count = kept.count in
+      let acts = comes.3 in
+      let placed = acts.placed in
+      let sender : (node_numbered c.from).number ≡ c.from = omega (arith, below) in
+      let here : nat_eq c.from (node_numbered c.from).number ≡ true = grind (arith, nat_tests, sender) in
+      ack_came run comes.0 d.node (node_numbered c.from) n d.event d.answer acts.node comes.1 (omega (arith, count, placed)) comes.2 acts.turn from (ap (list_any (is_ack (node_numbered c.from).number n)) one ∙ rw (here, e) refl)
+
   acked_taken : (run : List Did) (v : NetworkValue) → ComesTo plan run v → (a b : NodeId) (n : ℕ) → 1 ≤ n → is_acked plan.cluster_key b.number n (past_at a run) ≡ true → is_taken plan.cluster_key a.number n (past_at b run) ≡ true
   unfolding ComesTo is_acked past_at
   acked_taken [] v comes a b n from e = absurd (cc)
@@ -288,4 +302,5 @@ links_hold law pasts packets = record {
     taken = taken_packed law pasts packets plan run v (always_whole law pasts packets plan run v comes) a b;
     acknowledged = acked_taken law pasts packets plan run v comes a b;
   };
+  covered = λ plan run d v comes. covered_taken law pasts packets plan run d v comes;
 }

@@ -1,10 +1,13 @@
 -- What holds of the links between the nodes in every run, whichever packets arrive, whenever and however often.
 use Rattle.std.specs.Prelude.{ℕ, ◌≡◌, ◌≢◌, ◌<◌, ◌≤◌, ◌-◌, true, false, List, [], ◌∷◌, length, Some, slice_get, if◌then◌else◌}
+use Rattle.gb_types.specs.declared.limits.TheConstants.{NODES}
 use Rattle.gb_types.specs.declared.node.NodeId.{NodeId}
 use Rattle.gb_frame.specs.Packet.{Content}
 use Rattle.gb_link.specs.Ack.{covers}
 use Rattle.gb_node.specs.NodeStep.{node_numbered}
-use Rattle.gb_node.specs.Past.{read, frames_to, is_first, is_taken, is_acked}
+use Rattle.gb_node.specs.Past.{read, came, frames_to, is_first, is_taken, is_acked}
+use Rattle.gb_node.specs.declared.answer.Frame.TheVariants.{Outside as Beyond}
+use Rattle.gb_node.specs.declared.answer.Good.{Good}
 use Rattle.gb_node.specs.declared.answer.NodeAnswer.{NodeAnswer}
 use Rattle.gb_node.specs.declared.answer.NodeAnswer.TheVariants.{Taken}
 use Rattle.gb_node.specs.declared.answer.PacketAnswer.TheVariants.{Good as TakenGood}
@@ -59,3 +62,10 @@ pub record IsLink (plan : NetworkPlan) (run : List Did) (a b : NodeId) : Type 0 
 pub record LinksHold : Type 0 where
   pub whole : (plan : NetworkPlan) (run : List Did) (v : NetworkValue) → ComesTo plan run v → IsAlwaysWhole plan run
   pub each : (plan : NetworkPlan) (run : List Did) (v : NetworkValue) → ComesTo plan run v → (a b : NodeId) → IsLink plan run a b
+  -- what a packet acknowledges that is taken was taken by its sender
+  pub covered : (plan : NetworkPlan) (run : List Did) (d : Did) (v : NetworkValue) → ComesTo plan (d ∷ run) v → (c : Content) → came plan.cluster_key d.event d.answer ≡ c ∷ [] → c.from < NODES
+      → (n : ℕ) → 1 ≤ n → covers c.base c.mask n ≡ true → is_taken plan.cluster_key d.node.number n (past_at (node_numbered c.from) run) ≡ true
+
+-- No packet that is taken has a frame outside its receiver's window, whichever packets arrive, whenever and however often.
+abbrev pub NothingIsOutside : Type 0
+NothingIsOutside = (plan : NetworkPlan) (run : List Did) (d : Did) (v : NetworkValue) (bytes : List ℕ) (good : Good) → ComesTo plan (d ∷ run) v → d.event ≡ Came bytes → d.answer ≡ Taken (TakenGood good) → good.frame ≢ Beyond

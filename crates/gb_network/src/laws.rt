@@ -1,5 +1,5 @@
 //! What holds of every run of a network.
-ghost use Rattle.gb_network.specs.Links.{LinksHold, PacketsAreHonest};
+ghost use Rattle.gb_network.specs.Links.{LinksHold, NothingIsOutside, PacketsAreHonest};
 ghost use Rattle.gb_network.specs.Run.{NodesHavePasts};
 
 use gb_frame::laws::what_is_written_is_read;
@@ -30,4 +30,16 @@ pub fn links_hold()
     what_is_written_is_read();
     pasts_say();
     packets_are_honest();
+}
+
+/// A law of every packet that a node of a network takes: its frame is not outside the window in which the node awaits
+/// frames of its sender. For a sender packs a frame only where those that were not acknowledged are among the last 64, and
+/// only a frame that was taken is acknowledged. The function does nothing when it runs; its contract is the law.
+pub fn nothing_is_outside()
+    ensures { NothingIsOutside }
+{
+    what_is_written_is_read();
+    pasts_say();
+    packets_are_honest();
+    links_hold();
 }
