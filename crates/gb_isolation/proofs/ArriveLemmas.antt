@@ -1,0 +1,175 @@
+-- A packet is taken: what it gives a group.
+use Rattle.std.proofs.Common.{◌≡◌, ◌≢◌, ℕ, ◌+◌, ◌-◌, ◌%◌, ◌<◌, ◌≤◌, List, [], ◌∷◌, ◌++◌, length, map, fold, option_map, Some, Bool, true, false, not, ◌&&◌, ◌||◌, refl, sym, ◌∙◌, ap, subst, arith, nat_eq, nat_le, slice_get}
+use Rattle.std.specs.Prelude.{All, if◌then◌else◌}
+use Rattle.std.specs.List.{list_any, flat_map}
+use Rattle.std.specs.FinSet as set
+use Rattle.std.proofs.Math.Bool.{or-false}
+use Rattle.std.proofs.lemmas.Bool.{false_from_ne_true}
+use Rattle.std.proofs.lemmas.List.{append-nil}
+use Rattle.gb_types.specs.declared.address.Addr.{Addr}
+use Rattle.gb_types.specs.declared.limits.TheConstants.{NODES}
+use Rattle.gb_types.specs.declared.node.NodeId.{NodeId}
+use Rattle.gb_types.proofs.SameLemmas.{same_number}
+use Rattle.gb_frame.specs.declared.item.Item.{Item}
+use Rattle.gb_frame.specs.Packet.{Content}
+use Rattle.gb_link.specs.Ack.{covers}
+use Rattle.gb_detect.specs.Silence.{Heard}
+use Rattle.gb_detect.specs.Watch.{start, replay}
+use Rattle.gb_rules.specs.Tenant.{reserve_of, row_of}
+use Rattle.gb_alone.specs.Alone.{Member, Group, alone_from}
+use Rattle.gb_groups.specs.OneGroup.{items_for, came_for, waiting_in}
+use Rattle.gb_node.specs.NodeStep.{node_numbered}
+use Rattle.gb_node.specs.Past.{Happened, read, frames_to, is_ack, is_acked, is_frame, is_first, is_taken, is_stopped, tenants_in, watched}
+use Rattle.gb_node.specs.PastGroups.{group_of, taken_for}
+use Rattle.gb_node.specs.StepLaw.{IsTakenIn}
+use Rattle.gb_node.specs.declared.answer.Good.{Good}
+use Rattle.gb_node.specs.declared.answer.NodeAnswer.TheVariants.{Taken}
+use Rattle.gb_node.specs.declared.answer.PacketAnswer.TheVariants.{Good as TakenGood}
+use Rattle.gb_node.specs.declared.event.NodeEvent.TheVariants.{Packet as Brought}
+use Rattle.gb_node.specs.declared.plan.NodePlan.{NodePlan}
+use Rattle.gb_network.specs.NetworkValue.{node_plan}
+use Rattle.gb_network.specs.Run.{Did, past_at}
+use Rattle.gb_network.specs.declared.plan.NetworkPlan.{NetworkPlan}
+use Rattle.gb_isolation.specs.Project.{items_of, items_in, offset, made_with, replies_in, is_met, comes, all_acknowledged, acknowledges, brings, arrived, is_new_frame}
+use Rattle.gb_isolation.proofs.View.{View, view_of, Fits, Goes, AreMarked, frames_for, view_at, AllFit}
+use Rattle.gb_isolation.proofs.GoesLemmas.{goes_on}
+use Rattle.gb_isolation.proofs.DoneLemmas.{IsFit, with_acks, acks_goes}
+use Rattle.gb_isolation.proofs.ComeLemmas.{with_frame, frame_goes}
+
+-- The view.
+
+-- the view after a packet from a node is taken, whose frame comes for the first time or does not
+abbrev with_packet : Addr → Content → Bool → View → View
+with_packet g c first v =
+    let u : View = with_acks g (node_numbered c.from) c.from (covers c.base c.mask) v in
+    record u {
+      slot = if first then fold (came_for (node_numbered c.from)) u.slot (items_for g c.items) else u.slot;
+      taken = λ b n. (first && (nat_eq c.from b && nat_eq c.frame n)) || v.taken b n;
+    }
+
+packet_view : (plan : NodePlan) (g : Addr) (past : List Happened) (bytes : List ℕ) (good : Good) (c : Content) → read plan.cluster_key bytes ≡ c ∷ []
+    → view_of plan g (record { event = Brought bytes; answer = Taken (TakenGood good) } ∷ past) ≡ with_packet g c (is_first good.frame) (view_of plan g past)
+unfolding frames_to is_acked is_taken watched tenants_in group_of made_with replies_in is_met
+packet_view plan g past bytes good c is = λ i. record {
+  reserve = option_map reserve_of (row_of g.tenant (append-nil (tenants_in past) i));
+  slot = fold (taken_for plan.cluster_key g past good.frame) (group_of plan g past) (is i);
+  made = made_with g past;
+  noticed = set.contains (replay (start plan.me.number plan.nodes plan.silence) (map (λ (x : Content). Heard x.from) (is i) ++ watched plan.cluster_key past)).noticed;
+  replies = append-nil (replies_in plan g past) i;
+  met = is_met plan g past;
+  frames = λ b. append-nil (frames_to plan.cluster_key b past) i;
+  acked = λ b n. (ap (λ (cs : List Content). is_acked plan.cluster_key b n past || (nat_le n (length (frames_to plan.cluster_key b past)) && list_any (is_ack b n) cs)) is
+      ∙ ap (λ t. is_acked plan.cluster_key b n past || (nat_le n (length (frames_to plan.cluster_key b past)) && t)) (or-false (nat_eq c.from b && covers c.base c.mask n))) i;
+  taken = λ b n. (ap (λ (cs : List Content). (is_first good.frame && list_any (is_frame b n) cs) || is_taken plan.cluster_key b n past) is
+      ∙ ap (λ t. (is_first good.frame && t) || is_taken plan.cluster_key b n past) (or-false (nat_eq c.from b && nat_eq c.frame n))) i;
+}
+
+-- Nodes by their numbers.
+
+number_same : (n : ℕ) → n < NODES → n % NODES ≡ n
+number_same n low = omega (arith, low)
+
+pub node_same : (x : NodeId) → node_numbered x.number ≡ x
+node_same x = same_number (node_numbered x.number) x (number_same x.number x.below)
+
+-- A packet.
+
+module _ (plan : NetworkPlan) (g : Addr) (run : List Did) (a : NodeId) (bytes : List ℕ) (good : Good) (group : Group) (few : plan.nodes ≤ NODES) (inside : a.number < plan.nodes)
+    (right : IsTakenIn (node_plan plan a) (past_at a run) bytes good)
+    (fresh : is_first good.frame ≡ is_new_frame plan.cluster_key (past_at a run) right.content)
+    (framed : is_first good.frame ≡ true → slice_get (frames_to plan.cluster_key a.number (past_at (node_numbered right.content.from) run)) (right.content.frame - 1) ≡ Some right.content.items)
+    (got : (n : ℕ) → 1 ≤ n → covers right.content.base right.content.mask n ≡ true → is_taken plan.cluster_key a.number n (past_at (node_numbered right.content.from) run) ≡ true)
+    (fit : (x : NodeId) → x.number < plan.nodes → (b k : ℕ) (f : List Item) → slice_get (frames_to plan.cluster_key b (past_at x run)) k ≡ Some f → All IsFit (items_for g f))
+    (fits : AllFit plan g run group)
+    (stops : (b : NodeId) → b.number < plan.nodes → (group b.number).stopped ≡ true → is_stopped (past_at b run) ≡ true) where
+  abbrev key : List ℕ
+  key = plan.cluster_key
+
+  abbrev c : Content
+  c = right.content
+
+  -- the packet's sender
+  abbrev s : NodeId
+  s = node_numbered c.from
+
+  abbrev past : List Happened
+  past = past_at a run
+
+  abbrev v : View
+  v = view_at plan g run a
+
+  abbrev frames_from : ℕ → List (List Item)
+  frames_from = frames_for plan run a
+
+  abbrev covered : ℕ → Bool
+  covered = covers c.base c.mask
+
+  number : s.number ≡ c.from
+  number = number_same c.from (let low = right.inside in omega (arith, low, few))
+
+  sender_inside : s.number < plan.nodes
+  sender_inside = let low = right.inside in omega (arith, low, number)
+
+  apart : s.number ≢ a.number
+  apart same = right.apart (sym number ∙ same)
+
+  running : (group a.number).stopped ≡ false
+  running = false_from_ne_true (group a.number).stopped (λ stopped. let is = stops a inside stopped in let not_so = right.running in cc)
+
+  here : Fits plan.nodes g a.number frames_from v (group a.number)
+  here = fits a inside
+
+  sender : Fits plan.nodes g s.number (frames_for plan run s) (view_at plan g run s) (group s.number)
+  sender = fits s sender_inside
+
+  -- the frames that the sender packed for the node
+  forth : frames_from s.number ≡ frames_to key a.number (past_at s run)
+  forth = ap (λ (x : NodeId). frames_to key a.number (past_at x run)) (node_same s)
+
+  -- what is acknowledged has come to the sender
+  come : AreMarked g (v.frames s.number) (λ n. is_taken key a.number n (past_at s run)) ((group s.number).come a.number)
+  come = subst (λ (x : NodeId). AreMarked g (frames_to key s.number (past_at x run)) (λ n. is_taken key a.number n (past_at s run)) ((group s.number).come a.number)) (node_same a) (sender.come a.number inside)
+
+  abbrev u : View
+  u = with_acks g s c.from covered v
+
+  acks_part : Goes plan.nodes g a frames_from u group (acknowledges plan g past a c)
+  acks_part = subst (λ d. Goes plan.nodes g a frames_from (with_acks g s d covered v) group (all_acknowledged g a s (λ n. covered n && not (is_acked key d n past)) 1 0 (frames_to key d past))) number
+      (acks_goes plan.nodes g a s frames_from v group covered sender_inside (λ same. apart (sym same)) running (λ k f at. fit a inside s.number k f at)
+      (λ n place covers_it low high. come.each n place low high ∙ got (n + 1) (omega arith) covers_it) here)
+
+  abbrev mid : Group
+  mid = alone_from plan.nodes g.group group (acknowledges plan g past a c)
+
+  frame_part : is_first good.frame ≡ true → Goes plan.nodes g a frames_from (with_packet g c true v) mid (brings plan g run a c)
+  frame_part first =
+      subst (λ fs. Goes plan.nodes g a frames_from (with_packet g c true v) mid (comes s a (offset g fs (c.frame - 1)) (length (items_in g c.items)))) forth
+      (subst (λ d. Goes plan.nodes g a frames_from (with_frame s d c.frame (items_for g c.items) u) mid (comes s a (offset g (frames_from s.number) (c.frame - 1)) (length (items_in g c.items)))) number
+      (subst (λ n. Goes plan.nodes g a frames_from (with_frame s s.number n (items_for g c.items) u) mid (comes s a (offset g (frames_from s.number) (c.frame - 1)) (length (items_in g c.items)))) counted
+      (frame_goes plan.nodes g a s frames_from u mid (c.frame - 1) c.items (waiting_in (view_at plan g run s).slot a.number) sender_inside apart (acks_part.there.stopped ∙ (sym here.stopped ∙ running))
+      (ap (λ fs. slice_get fs (c.frame - 1)) forth ∙ framed first) (fit s sender_inside a.number (c.frame - 1) c.items (framed first))
+      (ap (λ (m : Member). m.put a.number) same_sender ∙ (sender.put a.number inside ∙ ap (λ fs. items_of g fs ++ waiting_in (view_at plan g run s).slot a.number) (sym forth)))
+      (ap (λ (m : Member). m.taken a.number) same_sender ∙ (sender.taken a.number inside ∙ ap (λ fs. length (items_of g fs)) (sym forth)))
+      ((λ i. is_taken key (number i) (counted i) past) ∙ (right.first first).1) acks_part.there)))
+    where
+      some : 0 < c.frame
+      some = (right.first first).0
+
+      counted : c.frame - 1 + 1 ≡ c.frame
+      counted = omega (arith, some)
+
+      same_sender : mid s.number ≡ group s.number
+      same_sender = acks_part.elsewhere s.number apart
+
+  packet_part : (first : Bool) → is_first good.frame ≡ first → Goes plan.nodes g a frames_from (with_packet g c first v) group (acknowledges plan g past a c ++ (if first then brings plan g run a c else []))
+  packet_part true is = goes_on plan.nodes g a frames_from u (with_packet g c true v) group (acknowledges plan g past a c) (brings plan g run a c) acks_part (frame_part is)
+  packet_part false is = subst (λ given. Goes plan.nodes g a frames_from u group given) (sym (append-nil (acknowledges plan g past a c))) acks_part
+
+  given : flat_map (arrived plan g run a) (read key bytes) ≡ acknowledges plan g past a c ++ (if is_first good.frame then brings plan g run a c else [])
+  given = ap (flat_map (arrived plan g run a)) right.text_is ∙ (append-nil (arrived plan g run a c) ∙ ap (λ b. acknowledges plan g past a c ++ (if b then brings plan g run a c else [])) (sym fresh))
+
+  -- what a packet that is taken gives a group
+  pub arrived_goes : Goes plan.nodes g a frames_from (view_of (node_plan plan a) g (record { event = Brought bytes; answer = Taken (TakenGood good) } ∷ past)) group (flat_map (arrived plan g run a) (read key bytes))
+  arrived_goes = subst (λ xs. Goes plan.nodes g a frames_from (view_of (node_plan plan a) g (record { event = Brought bytes; answer = Taken (TakenGood good) } ∷ past)) group xs) (sym given)
+      (subst (λ w. Goes plan.nodes g a frames_from w group (acknowledges plan g past a c ++ (if is_first good.frame then brings plan g run a c else []))) (sym (packet_view (node_plan plan a) g past bytes good c right.text_is))
+      (packet_part (is_first good.frame) refl))

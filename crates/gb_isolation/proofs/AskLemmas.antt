@@ -1,0 +1,202 @@
+-- The view of a group after a request, and what one command makes of the group alone.
+use Rattle.std.proofs.Common.{◌≡◌, ℕ, ◌<◌, List, [], ◌∷◌, ◌++◌, length, Option, None, Bool, true, false, ◌&&◌, ◌||◌, refl, sym, ◌∙◌, ap, subst}
+use Rattle.std.specs.Prelude.{if◌then◌else◌, nat_le, option_map}
+use Rattle.std.specs.FinSet as set
+use Rattle.std.specs.Ordering.{nat_cmp}
+use Rattle.std.proofs.lemmas.Bool.{and_right}
+use Rattle.std.proofs.lemmas.List.{append-nil}
+use Rattle.gb_types.specs.declared.address.Addr.{Addr}
+use Rattle.gb_types.specs.declared.entry.Entry.{Entry}
+use Rattle.gb_types.specs.declared.node.NodeId.{NodeId}
+use Rattle.gb_types.specs.declared.refusal.Refusal.{Refusal}
+use Rattle.gb_types.specs.declared.reply.Reply.{Reply}
+use Rattle.gb_types.specs.declared.reply.Reply.TheVariants.{Done, Said, Refused}
+use Rattle.gb_types.specs.declared.request.Request.{Request}
+use Rattle.gb_types.specs.declared.request.Request.TheVariants.{AddTenant, Make, OpenGroup, ShutGroup, DropGroup, Say, Fetch}
+use Rattle.gb_types.specs.declared.spec.Spec.{Spec}
+use Rattle.gb_frame.specs.declared.item.Item.{Item}
+use Rattle.gb_rules.specs.Tenant.{reserve_of, row_of}
+use Rattle.gb_rules.specs.declared.reserve.Reserve.{Reserve}
+use Rattle.gb_slot.specs.SlotState.{SlotState}
+use Rattle.gb_alone.specs.declared.event.GroupEvent.{GroupEvent}
+use Rattle.gb_alone.specs.declared.event.GroupEvent.TheVariants.{Make as AskMake, Open as AskOpen, Shut as AskShut, Drop as AskDrop, Say as AskSay}
+use Rattle.gb_alone.specs.Alone.{Member, Group, did, commanded, member_after, is_marked, MayHappen}
+use Rattle.gb_groups.specs.OneGroup.{waiting_in}
+use Rattle.gb_node.specs.Past.{Happened, frames_to, is_acked, is_taken, watched, added, tenants_in, is_stopped}
+use Rattle.gb_node.specs.PastGroups.{noticed_in, group_of, asked_for}
+use Rattle.gb_node.specs.declared.answer.NodeAnswer.TheVariants.{Reply as Replied}
+use Rattle.gb_node.specs.declared.event.NodeEvent.TheVariants.{Request as Asked}
+use Rattle.gb_node.specs.declared.plan.NodePlan.{NodePlan}
+use Rattle.gb_isolation.specs.Project.{items_of, is_own, made_by, or_else, made_with, is_met_by, is_met, reply_in, replies_in}
+use Rattle.gb_isolation.proofs.GoesLemmas.{goes_one}
+use Rattle.gb_isolation.proofs.MemberLemmas.{same_slot}
+use Rattle.gb_isolation.proofs.QuietLemmas.{quiet_goes}
+use Rattle.gb_isolation.proofs.View.{View, view_of, SlotIs, KeepsAcks, IsInside, AreMarked, Fits, Goes}
+
+-- The view.
+
+-- a request with its reply, as it happened
+abbrev pub asking : Request → Reply → Happened
+asking request reply = record { event = Asked request; answer = Replied reply }
+
+none_acked : (was test : Bool) → (was || (test && false)) ≡ was
+none_acked true test = refl
+none_acked false true = refl
+none_acked false false = refl
+
+-- the view after a request has other links nowhere, and notices nobody
+pub view_asked : (plan : NodePlan) (g : Addr) (past : List Happened) (request : Request) (reply : Reply) (reserve : Option Reserve) (slot : Option (Option SlotState)) (made : Option Spec) (replies : List Reply) (met : Bool)
+    → option_map reserve_of (row_of g.tenant (tenants_in past ++ added (Asked request) (Replied reply))) ≡ reserve
+    → asked_for g plan.me (noticed_in plan past) request reply (group_of plan g past) ≡ slot
+    → or_else (made_by g (Asked request) (Replied reply)) (made_with g past) ≡ made
+    → replies_in plan g past ++ reply_in plan g past (Asked request) (Replied reply) ≡ replies
+    → (is_met_by plan g past (Asked request) (Replied reply) || is_met plan g past) ≡ met
+    → view_of plan g (asking request reply ∷ past) ≡ record (view_of plan g past) { reserve = reserve; slot = slot; made = made; replies = replies; met = met }
+unfolding tenants_in group_of made_with replies_in is_met frames_to is_acked is_taken watched
+view_asked plan g past request reply reserve slot made replies met reserves slots mades says meets = λ i. record {
+  reserve = reserves i;
+  slot = slots i;
+  made = mades i;
+  noticed = set.contains (noticed_in plan past);
+  replies = says i;
+  met = meets i;
+  frames = λ b. append-nil (frames_to plan.cluster_key b past) i;
+  acked = λ b n. none_acked (is_acked plan.cluster_key b n past) (nat_le n (length (frames_to plan.cluster_key b past))) i;
+  taken = λ b n. is_taken plan.cluster_key b n past;
+}
+
+-- only an added tenant is a row more
+pub rows_kept : (plan : NodePlan) (g : Addr) (past : List Happened) (request : Request) (reply : Reply) → added (Asked request) (Replied reply) ≡ [] → option_map reserve_of (row_of g.tenant (tenants_in past ++ added (Asked request) (Replied reply))) ≡ (view_of plan g past).reserve
+rows_kept plan g past request reply none = ap (λ rows. option_map reserve_of (row_of g.tenant (tenants_in past ++ rows))) none ∙ ap (λ rows. option_map reserve_of (row_of g.tenant rows)) (append-nil (tenants_in past))
+
+-- the group's own request at a running node
+pub view_own : (plan : NodePlan) (g : Addr) (past : List Happened) (request : Request) (reply : Reply) (slot : Option (Option SlotState)) (made : Option Spec)
+    → is_stopped past ≡ false
+    → is_own plan g past request ≡ true
+    → added (Asked request) (Replied reply) ≡ []
+    → asked_for g plan.me (noticed_in plan past) request reply (group_of plan g past) ≡ slot
+    → or_else (made_by g (Asked request) (Replied reply)) (made_with g past) ≡ made
+    → view_of plan g (asking request reply ∷ past) ≡ record (view_of plan g past) { slot = slot; made = made; replies = replies_in plan g past ++ reply ∷ [] }
+view_own plan g past request reply slot made running own rows slots mades =
+    view_asked plan g past request reply (view_of plan g past).reserve slot made (replies_in plan g past ++ reply ∷ []) (is_met plan g past)
+    (rows_kept plan g past request reply rows) slots mades
+    (ap (λ b. replies_in plan g past ++ (if b then reply ∷ [] else [])) own)
+    (ap (λ b. (b && is_own plan g past request) || is_met plan g past) running)
+
+-- A refusal makes nothing of the node.
+
+pub refused_adds : (request : Request) (why : Refusal) → added (Asked request) (Replied (Refused why)) ≡ []
+refused_adds (AddTenant token row) why = refl
+refused_adds (Make token addr spec) why = refl
+refused_adds (OpenGroup token addr) why = refl
+refused_adds (ShutGroup token addr) why = refl
+refused_adds (DropGroup token addr) why = refl
+refused_adds (Say token addr payload) why = refl
+refused_adds (Fetch token addr from most) why = refl
+
+pub refused_makes : (g : Addr) (request : Request) (why : Refusal) → made_by g (Asked request) (Replied (Refused why)) ≡ None
+refused_makes g (AddTenant token row) why = refl
+refused_makes g (Make token addr spec) why = refl
+refused_makes g (OpenGroup token addr) why = refl
+refused_makes g (ShutGroup token addr) why = refl
+refused_makes g (DropGroup token addr) why = refl
+refused_makes g (Say token addr payload) why = refl
+refused_makes g (Fetch token addr from most) why = refl
+
+pub refused_for : (g : Addr) (me : NodeId) (noticed : set.FinSet nat_cmp) (request : Request) (why : Refusal) (o : Option (Option SlotState)) → asked_for g me noticed request (Refused why) o ≡ o
+refused_for g me noticed (AddTenant token row) why o = refl
+refused_for g me noticed (Make token addr spec) why o = refl
+refused_for g me noticed (OpenGroup token addr) why o = refl
+refused_for g me noticed (ShutGroup token addr) why o = refl
+refused_for g me noticed (DropGroup token addr) why o = refl
+refused_for g me noticed (Say token addr payload) why o = refl
+refused_for g me noticed (Fetch token addr from most) why o = refl
+
+-- a request that is not the group's own, and makes nothing of it
+pub quiet_request : (plan : NodePlan) (g : Addr) (past : List Happened) (request : Request) (reply : Reply) (frames_from : ℕ → List (List Item)) (group : Group)
+    → is_own plan g past request ≡ false
+    → added (Asked request) (Replied reply) ≡ []
+    → asked_for g plan.me (noticed_in plan past) request reply (group_of plan g past) ≡ group_of plan g past
+    → made_by g (Asked request) (Replied reply) ≡ None
+    → Fits plan.nodes g plan.me.number frames_from (view_of plan g past) (group plan.me.number)
+    → Goes plan.nodes g plan.me frames_from (view_of plan g (asking request reply ∷ past)) group []
+quiet_request plan g past request reply frames_from group other rows slot unmade fits = quiet_goes plan g past (Asked request) (Replied reply) frames_from group (record {
+  packed = λ b. refl;
+  none_came = refl;
+  none_taken = λ b n. refl;
+  no_tick = refl;
+  none_added = rows;
+  same_group = slot;
+  not_made = unmade;
+  no_reply = ap (λ b. if b then reply ∷ [] else []) other;
+  unmet = ap (λ b. is_stopped past && b) other ∙ and_right (is_stopped past) false refl;
+}) fits
+
+-- and so one that is refused
+pub refused_quiet : (plan : NodePlan) (g : Addr) (past : List Happened) (request : Request) (why : Refusal) (frames_from : ℕ → List (List Item)) (group : Group)
+    → is_own plan g past request ≡ false
+    → Fits plan.nodes g plan.me.number frames_from (view_of plan g past) (group plan.me.number)
+    → Goes plan.nodes g plan.me frames_from (view_of plan g (asking request (Refused why) ∷ past)) group []
+refused_quiet plan g past request why frames_from group other fits =
+    quiet_request plan g past request (Refused why) frames_from group other (refused_adds request why) (refused_for g plan.me (noticed_in plan past) request why (group_of plan g past)) (refused_makes g request why) fits
+
+-- A command.
+
+-- what a command leaves of the group
+pub record KeepsLinks (m n : Member) : Type 0 where
+  pub reserve : n.reserve ≡ m.reserve
+  pub taken : n.taken ≡ m.taken
+  pub come : n.come ≡ m.come
+  pub done : n.done ≡ m.done
+  pub noticed : n.noticed ≡ m.noticed
+  pub stopped : n.stopped ≡ m.stopped
+
+did_keeps : (a : NodeId) (e : GroupEvent) (r : Reply) (m : Member) → KeepsLinks m (did a e r m)
+did_keeps a (AskMake spec) Done m = record { reserve = refl; taken = refl; come = refl; done = refl; noticed = refl; stopped = refl }
+did_keeps a AskOpen Done m = record { reserve = refl; taken = refl; come = refl; done = refl; noticed = refl; stopped = refl }
+did_keeps a AskShut Done m = record { reserve = refl; taken = refl; come = refl; done = refl; noticed = refl; stopped = refl }
+did_keeps a AskDrop Done m = record { reserve = refl; taken = refl; come = refl; done = refl; noticed = refl; stopped = refl }
+did_keeps a (AskSay payload) (Said seq) m = record { reserve = refl; taken = refl; come = refl; done = refl; noticed = refl; stopped = refl }
+did_keeps a e r m = record { reserve = refl; taken = refl; come = refl; done = refl; noticed = refl; stopped = refl }
+
+-- a slot fits the group at a node, of whose items these are carried to each node
+pub record SlotFits (nodes : ℕ) (me : ℕ) (carried : ℕ → List Entry) (o : Option (Option SlotState)) (m : Member) : Type 0 where
+  pub slot : SlotIs me o m
+  pub inside : IsInside nodes o
+  pub put : (b : ℕ) → b < nodes → m.put b ≡ carried b ++ waiting_in o b
+  pub taken : (b : ℕ) → b < nodes → m.taken b ≡ length (carried b)
+  pub acks : KeepsAcks nodes me o carried m.done
+
+-- the items that the view has carried
+abbrev pub carried_in : Addr → View → ℕ → List Entry
+carried_in g v b = items_of g (v.frames b)
+
+pub slot_fits : (nodes : ℕ) (g : Addr) (me : ℕ) (frames_from : ℕ → List (List Item)) (v : View) (m : Member) → Fits nodes g me frames_from v m → SlotFits nodes me (carried_in g v) v.slot m
+slot_fits nodes g me frames_from v m fits = record { slot = fits.slot; inside = fits.inside; put = fits.put; taken = fits.taken; acks = fits.acks }
+
+-- a command of the group that does not make it
+pub commands : (nodes : ℕ) (g : Addr) (a : NodeId) (frames_from : ℕ → List (List Item)) (v : View) (group : Group) (e : GroupEvent) (reply : Reply) (o : Option (Option SlotState))
+    → Fits nodes g a.number frames_from v (group a.number)
+    → MayHappen a e group
+    → member_after nodes g.group a e group ≡ commanded a e reply (group a.number)
+    → (did a e reply (group a.number)).spec ≡ (group a.number).spec
+    → SlotFits nodes a.number (carried_in g v) o (did a e reply (group a.number))
+    → Goes nodes g a frames_from (record v { slot = o; replies = v.replies ++ reply ∷ [] }) group (record { node = a; event = e } ∷ [])
+commands nodes g a frames_from v group e reply o fits may is spec slots =
+    goes_one nodes g a frames_from (record v { slot = o; replies = v.replies ++ reply ∷ [] }) group e may (subst (Fits nodes g a.number frames_from (record v { slot = o; replies = v.replies ++ reply ∷ [] })) (sym is) (record {
+      reserve = keeps.reserve ∙ fits.reserve;
+      slot = same_slot a.number o (did a e reply (group a.number)) (commanded a e reply (group a.number)) refl refl refl slots.slot;
+      inside = slots.inside;
+      put = slots.put;
+      taken = slots.taken;
+      replies = ap (λ rs. rs ++ reply ∷ []) fits.replies;
+      spec = spec ∙ fits.spec;
+      noticed = λ b. ap (is_marked b) keeps.noticed ∙ fits.noticed b;
+      stopped = keeps.stopped ∙ fits.stopped;
+      come = λ b low. subst (λ (f : ℕ → List ℕ). AreMarked g (frames_from b) (v.taken b) (f b)) (sym keeps.come) (fits.come b low);
+      done = λ b low. subst (λ (f : ℕ → List ℕ). AreMarked g (v.frames b) (v.acked b) (f b)) (sym keeps.done) (fits.done b low);
+      acks = slots.acks;
+    }))
+  where
+    keeps : KeepsLinks (group a.number) (did a e reply (group a.number))
+    keeps = did_keeps a e reply (group a.number)

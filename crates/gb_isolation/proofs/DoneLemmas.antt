@@ -1,0 +1,653 @@
+-- An acknowledgement is taken: by the slot, and by the group alone.
+use Rattle.std.proofs.Common.{◌≡◌, ◌≢◌, ℕ, zero, suc, ◌+◌, ◌-◌, ◌<◌, ◌≤◌, List, [], ◌∷◌, ◌++◌, length, map, get_or, fold, cond, Option, Some, None, Bool, true, false, not, ◌&&◌, ◌||◌, ◌⊎◌, inl, inr, refl, sym, ◌∙◌, ap, subst, arith, nat_eq, nat_lt, nat_le, slice_get, slice_set, slice_index_or, take, add-one, length-append}
+use Rattle.std.specs.Prelude.{All, filter, if◌then◌else◌}
+use Rattle.std.specs.List.{list_any}
+use Rattle.std.specs.Ordering.{nat_cmp}
+use Rattle.std.specs.FinSet as fin
+use Rattle.std.proofs.lemmas.Bool.{cases_Bool, cases_eq, cases_lt, or_right, or_from}
+use Rattle.std.proofs.lemmas.Bool.Decides.{nat_tests}
+use Rattle.std.proofs.lemmas.Option.{same_Some}
+use Rattle.std.proofs.lemmas.List.{append-nil, get_or-set_same, get_or-set_other, length-set, take_all}
+use Rattle.std.proofs.lemmas.List.Elements.{All-nil, All-cons, All-head, All-tail}
+use Rattle.std.proofs.lemmas.List.Sums.{fold-append}
+use Rattle.gb_types.specs.Entry.{message_of}
+use Rattle.gb_types.specs.declared.address.Addr.{Addr}
+use Rattle.gb_types.specs.declared.entry.Entry.{Entry}
+use Rattle.gb_types.specs.declared.limits.TheConstants.{NODES, PAYLOAD}
+use Rattle.gb_types.specs.declared.message.MsgId.{MsgId}
+use Rattle.gb_types.specs.declared.node.NodeId.{NodeId}
+use Rattle.gb_types.specs.declared.spec.Spec.{Spec}
+use Rattle.gb_frame.specs.declared.item.Item.{Item}
+use Rattle.gb_rules.specs.Group.{is_member}
+use Rattle.gb_slot.specs.Slot.{slot_done, with_acknowledgement}
+use Rattle.gb_slot.specs.SlotState.{SlotState}
+use Rattle.gb_slot.proofs.HistoryLemmas.{done_stands}
+use Rattle.gb_slot.proofs.NoticeLemmas.{contains-inserted}
+use Rattle.gb_alone.specs.declared.event.GroupEvent.TheVariants.{Done as Acknowledged}
+use Rattle.gb_alone.specs.declared.event.GroupStep.{GroupStep}
+use Rattle.gb_alone.specs.Alone.{Member, Group, after, alone_from, places, is_marked, is_own, is_acknowledged, IsLegalFrom}
+use Rattle.gb_groups.specs.AtAddress.{entry_of}
+use Rattle.gb_groups.specs.OneGroup.{stepped, where_so, names, items_for, waiting_in}
+use Rattle.gb_node.specs.Past.{numbered}
+use Rattle.gb_node.specs.PastGroups.{items_freed, done_for}
+use Rattle.gb_isolation.specs.Project.{items_in, items_of, offset, acknowledged, all_acknowledged}
+use Rattle.gb_isolation.proofs.View.{View, SlotIs, AreMarked, KeepsAcks, IsInside, Fits, Goes}
+use Rattle.gb_isolation.proofs.GoesLemmas.{legal-append, after_there, after_elsewhere, eqb_self, eqb_apart, eqb_apart_back}
+use Rattle.gb_isolation.proofs.MemberLemmas.{same_slot}
+use Rattle.gb_isolation.proofs.MarkLemmas.{Found, is_between, is_in, in_above, in_frame, in_beyond, in_found, or_off, offset_all, marks_same}
+
+-- Items that groups put out.
+
+-- the item's origin is a node, and it is no longer than a message may be
+abbrev pub IsFit : Item → Type 0
+IsFit i = (i.origin < NODES) × (length i.payload ≤ PAYLOAD)
+
+-- the group's items of frames that come to these
+abbrev pub freed_of : Addr → (ℕ → Bool) → (ℕ → Bool) → ℕ → List (List Item) → List Item
+freed_of g covered acked n fs = items_for g (items_freed (filter (λ u. covered u.0) (filter (λ u. not (acked u.0)) (numbered n fs))))
+
+fit_joined : (g : Addr) (f xs : List Item) → All IsFit (items_for g f) → All IsFit (items_for g xs) → All IsFit (items_for g (f ++ xs))
+fit_joined g [] xs here there = there
+fit_joined g (i ∷ f) xs here there = by (names g i) here (λ rest. fit_joined g f xs rest there)
+  where
+    by : (t : Bool) → All IsFit (cond t (i ∷ items_for g f) (items_for g f)) → (All IsFit (items_for g f) → All IsFit (items_for g (f ++ xs))) → All IsFit (cond t (i ∷ items_for g (f ++ xs)) (items_for g (f ++ xs)))
+    by true all later = All-cons IsFit i (items_for g (f ++ xs)) (All-head IsFit i (items_for g f) all) (later (All-tail IsFit i (items_for g f) all))
+    by false all later = later all
+
+pub freed_fit : (g : Addr) (covered acked : ℕ → Bool) (n : ℕ) (fs : List (List Item)) → ((k : ℕ) (f : List Item) → slice_get fs k ≡ Some f → All IsFit (items_for g f)) → All IsFit (freed_of g covered acked n fs)
+unfolding numbered
+freed_fit g covered acked n [] fit = All-nil IsFit
+freed_fit g covered acked n (f ∷ fs) fit = by (acked n) (freed_fit g covered acked (n + 1) fs (λ k h at. fit (suc k) h at))
+  where
+    rest : List (ℕ × List Item)
+    rest = filter (λ u. not (acked u.0)) (numbered (n + 1) fs)
+
+    go : (c : Bool) → All IsFit (items_for g (items_freed (filter (λ u. covered u.0) rest))) → All IsFit (items_for g (items_freed (cond c ((n, f) ∷ filter (λ u. covered u.0) rest) (filter (λ u. covered u.0) rest))))
+    go false all = all
+    go true all = fit_joined g f (items_freed (filter (λ u. covered u.0) rest)) (fit 0 f refl) all
+
+    by : (a : Bool) → All IsFit (items_for g (items_freed (filter (λ u. covered u.0) rest))) → All IsFit (items_for g (items_freed (filter (λ u. covered u.0) (cond (not a) ((n, f) ∷ rest) rest))))
+    by true all = all
+    by false all = go (covered n) all
+
+-- The slot.
+
+-- the spec of a slot, and for each own message the nodes that have it for good
+abbrev pub spec_in : Option (Option SlotState) → Option Spec
+spec_in None = None
+spec_in (Some None) = None
+spec_in (Some (Some s)) = Some s.spec
+
+abbrev pub acks_in : Option (Option SlotState) → List (fin.FinSet nat_cmp)
+acks_in None = []
+acks_in (Some None) = []
+acks_in (Some (Some s)) = s.acknowledged
+
+none_some : {X : Type 0} (x : X) → Some x ≡ None → ⊥
+none_some x same = cc
+
+-- with the same spec the members are inside as well
+pub inside_too : (nodes : ℕ) (o k : Option (Option SlotState)) → spec_in k ≡ spec_in o → IsInside nodes o → IsInside nodes k
+inside_too nodes None k same inside s is b member = absurd (none_some s.spec (sym (ap spec_in is) ∙ same))
+inside_too nodes (Some None) k same inside s is b member = absurd (none_some s.spec (sym (ap spec_in is) ∙ same))
+inside_too nodes (Some (Some t)) k same inside s is b member =
+    let specs : s.spec ≡ t.spec = same_Some s.spec t.spec (sym (ap spec_in is) ∙ same) in
+    inside t refl b (ap (λ (x : Spec). is_member x b) (sym specs) ∙ member)
+
+-- these sets keep of each own message which nodes have it for good
+abbrev pub KeepsIn : ℕ → ℕ → List (fin.FinSet nat_cmp) → (ℕ → List Entry) → (ℕ → List ℕ) → Type 0
+KeepsIn nodes me acks carried done = (b k : ℕ) → b < nodes → k < length acks → fin.contains (get_or acks k fin.empty) b ≡ (nat_eq b me || is_acknowledged me (k + 1) (done b) 1 (carried b))
+
+pub keeps_in : (nodes me : ℕ) (o : Option (Option SlotState)) (carried : ℕ → List Entry) (done : ℕ → List ℕ) → KeepsAcks nodes me o carried done → KeepsIn nodes me (acks_in o) carried done
+keeps_in nodes me None carried done kept b k inside low = absurd (omega (arith, low))
+keeps_in nodes me (Some None) carried done kept b k inside low = absurd (omega (arith, low))
+keeps_in nodes me (Some (Some s)) carried done kept b k inside low = kept s refl b k inside low
+
+pub keeps_of : (nodes me : ℕ) (o : Option (Option SlotState)) (carried : ℕ → List Entry) (done : ℕ → List ℕ) → KeepsIn nodes me (acks_in o) carried done → KeepsAcks nodes me o carried done
+keeps_of nodes me o carried done kept s is = subst (λ (acks : List (fin.FinSet nat_cmp)). KeepsIn nodes me acks carried done) (ap acks_in is) kept
+
+-- acknowledged items change nothing of what a group shows and has waiting
+pub record SameSlot (o k : Option (Option SlotState)) : Type 0 where
+  pub stands : (me : ℕ) (m : Member) → SlotIs me o m → SlotIs me k m
+  pub waiting : (b : ℕ) → waiting_in k b ≡ waiting_in o b
+  pub spec : spec_in k ≡ spec_in o
+  pub size : length (acks_in k) ≡ length (acks_in o)
+
+length-with : (seq : ℕ) (b : NodeId) (acks : List (fin.FinSet nat_cmp)) → length (with_acknowledgement seq b acks) ≡ length acks
+length-with seq b acks =
+    elim (nat_le 1 seq && nat_le seq (length acks)) as (λ t. length (if t then slice_set acks (seq - 1) (fin.insert (slice_index_or acks (seq - 1) fin.empty) b.number) else acks) ≡ length acks) [
+      | true ↦ length-set acks (seq - 1) (fin.insert (slice_index_or acks (seq - 1) fin.empty) b.number)
+      | false ↦ refl
+    ]
+
+length-done : (b : NodeId) (m : MsgId) (s : SlotState) → length (slot_done b m s).acknowledged ≡ length s.acknowledged
+length-done b m s = elim (nat_eq m.origin.number s.me.number) as (λ t. length (if t then with_acknowledgement m.seq b s.acknowledged else s.acknowledged) ≡ length s.acknowledged) [
+  | true ↦ length-with m.seq b s.acknowledged
+  | false ↦ refl
+]
+
+same_itself : (o : Option (Option SlotState)) → SameSlot o o
+same_itself o = record { stands = λ me m st. st; waiting = λ b. refl; spec = refl; size = refl }
+
+stepped_done-same : (from : NodeId) (message : MsgId) (o : Option (Option SlotState)) → SameSlot o (stepped (slot_done from message) o)
+stepped_done-same from message None = same_itself None
+stepped_done-same from message (Some None) = same_itself (Some None)
+stepped_done-same from message (Some (Some s)) = record {
+  stands = λ me m st. record { spec = st.spec; phase = st.phase; present = st.present; here = st.here; history = done_stands s m.told from message st.history };
+  waiting = λ b. refl;
+  spec = refl;
+  size = length-done from message s;
+}
+
+done_for-same : (from : NodeId) (o : Option (Option SlotState)) (i : Item) → SameSlot o (done_for from o i)
+done_for-same from o i = by (nat_lt i.origin NODES)
+  where
+    by : (b : Bool) → SameSlot o (where_so b (stepped (slot_done from (message_of (entry_of i)))) o)
+    by true = stepped_done-same from (message_of (entry_of i)) o
+    by false = same_itself o
+
+pub all_done-same : (from : NodeId) (xs : List Item) (o : Option (Option SlotState)) → SameSlot o (fold (done_for from) o xs)
+all_done-same from [] o = same_itself o
+all_done-same from (i ∷ xs) o =
+    let first = done_for-same from o i in
+    let later = all_done-same from xs (done_for from o i) in
+    record {
+      stands = λ me m st. later.stands me m (first.stands me m st);
+      waiting = λ b. later.waiting b ∙ first.waiting b;
+      spec = later.spec ∙ first.spec;
+      size = later.size ∙ first.size;
+    }
+
+-- Which acknowledgements it keeps.
+
+last_false : (t : Bool) → t ≡ (t || false)
+last_false true = refl
+last_false false = refl
+
+and_false : (t : Bool) → (t && false) ≡ false
+and_false true = refl
+and_false false = refl
+
+-- one message is acknowledged by a node
+with_one : (seq : ℕ) (b : NodeId) (acks : List (fin.FinSet nat_cmp)) (k c : ℕ) → k < length acks
+    → fin.contains (get_or (with_acknowledgement seq b acks) k fin.empty) c ≡ (fin.contains (get_or acks k fin.empty) c || (nat_eq c b.number && nat_eq seq (k + 1)))
+with_one seq b acks k c low = go (cases_eq seq (k + 1))
+  where
+    old : fin.FinSet nat_cmp
+    old = get_or acks (seq - 1) fin.empty
+
+    swap : nat_eq b.number c ≡ nat_eq c b.number
+    swap = grind (arith, nat_tests)
+
+    or_swap : (x y : Bool) → (x || y) ≡ (y || (x && true))
+    or_swap true true = refl
+    or_swap true false = refl
+    or_swap false true = refl
+    or_swap false false = refl
+
+    go : ((seq ≡ k + 1) ⊎ (seq ≡ k + 1 → ⊥)) → fin.contains (get_or (with_acknowledgement seq b acks) k fin.empty) c ≡ (fin.contains (get_or acks k fin.empty) c || (nat_eq c b.number && nat_eq seq (k + 1)))
+    go (inl same) =
+        let inside : (nat_le 1 seq && nat_le seq (length acks)) ≡ true = grind (arith, nat_tests, same, low) in
+        let place : seq - 1 ≡ k = omega (arith, same) in
+        let equal : nat_eq seq (k + 1) ≡ true = grind (arith, nat_tests, same) in
+        ap (λ t. fin.contains (get_or (if t then slice_set acks (seq - 1) (fin.insert old b.number) else acks) k fin.empty) c) inside
+        ∙ (ap (λ n. fin.contains (get_or (slice_set acks n (fin.insert (get_or acks n fin.empty) b.number)) k fin.empty) c) place
+        ∙ (ap (λ (x : fin.FinSet nat_cmp). fin.contains x c) (get_or-set_same acks k (fin.insert (get_or acks k fin.empty) b.number) fin.empty low)
+        ∙ (contains-inserted (get_or acks k fin.empty) b.number c
+        ∙ (ap (λ t. t || fin.contains (get_or acks k fin.empty) c) swap
+        ∙ (or_swap (nat_eq c b.number) (fin.contains (get_or acks k fin.empty) c)
+        ∙ ap (λ t. fin.contains (get_or acks k fin.empty) c || (nat_eq c b.number && t)) (sym equal))))))
+    go (inr other) =
+        let apart : nat_eq seq (k + 1) ≡ false = grind (arith, nat_tests, other) in
+        kept (cases_Bool (nat_le 1 seq && nat_le seq (length acks)))
+        ∙ (last_false (fin.contains (get_or acks k fin.empty) c) ∙ ap (λ t. fin.contains (get_or acks k fin.empty) c || t) (sym (ap (λ t. nat_eq c b.number && t) apart ∙ and_false (nat_eq c b.number))))
+      where
+        kept : (((nat_le 1 seq && nat_le seq (length acks)) ≡ true) ⊎ ((nat_le 1 seq && nat_le seq (length acks)) ≡ false)) → fin.contains (get_or (with_acknowledgement seq b acks) k fin.empty) c ≡ fin.contains (get_or acks k fin.empty) c
+        kept (inl inside) =
+            let some : 1 ≤ seq = grind (arith, nat_tests, inside) in
+            let away : k ≢ seq - 1 = λ e. other (omega (arith, e, some)) in
+            ap (λ t. fin.contains (get_or (if t then slice_set acks (seq - 1) (fin.insert old b.number) else acks) k fin.empty) c) inside
+            ∙ ap (λ (x : fin.FinSet nat_cmp). fin.contains x c) (get_or-set_other acks (seq - 1) k (fin.insert old b.number) fin.empty away)
+        kept (inr outside) = ap (λ t. fin.contains (get_or (if t then slice_set acks (seq - 1) (fin.insert old b.number) else acks) k fin.empty) c) outside
+
+done_one : (b : NodeId) (x : Entry) (s : SlotState) (me k c : ℕ) → s.me.number ≡ me → k < length s.acknowledged
+    → fin.contains (get_or (slot_done b (message_of x) s).acknowledged k fin.empty) c ≡ (fin.contains (get_or s.acknowledged k fin.empty) c || (nat_eq c b.number && is_own me (k + 1) x))
+done_one b x s me k c here low = go (nat_eq x.origin.number s.me.number) refl
+  where
+    go : (t : Bool) → nat_eq x.origin.number s.me.number ≡ t → fin.contains (get_or (if t then with_acknowledgement x.seq b s.acknowledged else s.acknowledged) k fin.empty) c ≡ (fin.contains (get_or s.acknowledged k fin.empty) c || (nat_eq c b.number && is_own me (k + 1) x))
+    go true is = with_one x.seq b s.acknowledged k c low ∙ ap (λ t. fin.contains (get_or s.acknowledged k fin.empty) c || (nat_eq c b.number && (t && nat_eq x.seq (k + 1)))) (sym (ap (nat_eq x.origin.number) (sym here) ∙ is))
+    go false is =
+        last_false (fin.contains (get_or s.acknowledged k fin.empty) c)
+        ∙ ap (λ t. fin.contains (get_or s.acknowledged k fin.empty) c || t) (sym (ap (λ t. nat_eq c b.number && (t && nat_eq x.seq (k + 1))) (ap (nat_eq x.origin.number) (sym here) ∙ is) ∙ and_false (nat_eq c b.number)))
+
+-- the slot, if there is one, is at the node me
+abbrev IsHere : ℕ → Option (Option SlotState) → Type 0
+IsHere me None = Unit {0}
+IsHere me (Some None) = Unit {0}
+IsHere me (Some (Some s)) = s.me.number ≡ me
+
+is_here : (me : ℕ) (o : Option (Option SlotState)) (m : Member) → SlotIs me o m → IsHere me o
+is_here me None m st = tt
+is_here me (Some None) m st = tt
+is_here me (Some (Some s)) m st = st.here
+
+-- one item is acknowledged
+done_for-one : (from : NodeId) (i : Item) (me k c : ℕ) (o : Option (Option SlotState)) → IsFit i → IsHere me o → k < length (acks_in o)
+    → (fin.contains (get_or (acks_in (done_for from o i)) k fin.empty) c ≡ (fin.contains (get_or (acks_in o) k fin.empty) c || (nat_eq c from.number && is_own me (k + 1) (entry_of i)))) × IsHere me (done_for from o i)
+done_for-one from i me k c None fit here low = absurd (omega (arith, low))
+done_for-one from i me k c (Some None) fit here low = absurd (omega (arith, low))
+done_for-one from i me k c (Some (Some s)) fit here low = subst Goal (sym node) (done_one from (entry_of i) s me k c here low, here)
+  where
+    Goal : Bool → Type 0
+    Goal b =
+        (fin.contains (get_or (acks_in (where_so b (stepped (slot_done from (message_of (entry_of i)))) (Some (Some s)))) k fin.empty) c ≡ (fin.contains (get_or s.acknowledged k fin.empty) c || (nat_eq c from.number && is_own me (k + 1) (entry_of i))))
+        × IsHere me (where_so b (stepped (slot_done from (message_of (entry_of i)))) (Some (Some s)))
+
+    node : nat_lt i.origin NODES ≡ true
+    node = let low : i.origin < NODES = fit.0 in grind (arith, nat_tests, low)
+
+-- these items are acknowledged
+items_done : (from : NodeId) (me k c : ℕ) (xs : List Item) (o : Option (Option SlotState)) → All IsFit xs → IsHere me o → k < length (acks_in o)
+    → fin.contains (get_or (acks_in (fold (done_for from) o xs)) k fin.empty) c ≡ (fin.contains (get_or (acks_in o) k fin.empty) c || (nat_eq c from.number && list_any (is_own me (k + 1)) (map entry_of xs)))
+items_done from me k c [] o fits here low =
+    last_false (fin.contains (get_or (acks_in o) k fin.empty) c) ∙ ap (λ t. fin.contains (get_or (acks_in o) k fin.empty) c || t) (sym (and_false (nat_eq c from.number)))
+items_done from me k c (i ∷ xs) o fits here low =
+    let one = done_for-one from i me k c o (All-head IsFit i xs fits) here low in
+    let size = (done_for-same from o i).size in
+    let rest = items_done from me k c xs (done_for from o i) (All-tail IsFit i xs fits) one.1 (omega (arith, low, size)) in
+    rest ∙ (ap (λ t. t || (nat_eq c from.number && list_any (is_own me (k + 1)) (map entry_of xs))) one.0 ∙ by (fin.contains (get_or (acks_in o) k fin.empty) c) (nat_eq c from.number) (is_own me (k + 1) (entry_of i)) (list_any (is_own me (k + 1)) (map entry_of xs)))
+  where
+    by : (x y a b : Bool) → ((x || (y && a)) || (y && b)) ≡ (x || (y && (a || b)))
+    by true y a b = refl
+    by false true a b = refl
+    by false false a b = refl
+
+-- what a slot keeps after an acknowledgement of a node
+pub acks_taken : (nodes me : ℕ) (from : NodeId) (xs : List Item) (o : Option (Option SlotState)) (m : Member) (carried : ℕ → List Entry) (done next : ℕ → List ℕ) → SlotIs me o m → All IsFit xs
+    → ((k : ℕ) → is_acknowledged me k (next from.number) 1 (carried from.number) ≡ (is_acknowledged me k (done from.number) 1 (carried from.number) || list_any (is_own me k) (map entry_of xs)))
+    → ((b : ℕ) → b ≢ from.number → next b ≡ done b)
+    → KeepsIn nodes me (acks_in o) carried done → KeepsIn nodes me (acks_in (fold (done_for from) o xs)) carried next
+acks_taken nodes me from xs o m carried done next st fits more others kept b k inside low =
+    let size = (all_done-same from xs o).size in
+    let before : k < length (acks_in o) = omega (arith, low, size) in
+    items_done from me k b xs o fits (is_here me o m st) before
+    ∙ (ap (λ t. t || (nat_eq b from.number && list_any (is_own me (k + 1)) (map entry_of xs))) (kept b k inside before)
+    ∙ by (cases_eq b from.number))
+  where
+    by : ((b ≡ from.number) ⊎ (b ≡ from.number → ⊥))
+        → ((nat_eq b me || is_acknowledged me (k + 1) (done b) 1 (carried b)) || (nat_eq b from.number && list_any (is_own me (k + 1)) (map entry_of xs))) ≡ (nat_eq b me || is_acknowledged me (k + 1) (next b) 1 (carried b))
+    by (inl same) =
+        let on : nat_eq b from.number ≡ true = grind (arith, nat_tests, same) in
+        let here : is_acknowledged me (k + 1) (next b) 1 (carried b) ≡ (is_acknowledged me (k + 1) (done b) 1 (carried b) || list_any (is_own me (k + 1)) (map entry_of xs)) =
+        subst (λ c. is_acknowledged me (k + 1) (next c) 1 (carried c) ≡ (is_acknowledged me (k + 1) (done c) 1 (carried c) || list_any (is_own me (k + 1)) (map entry_of xs))) (sym same) (more (k + 1)) in
+        ap (λ t. (nat_eq b me || is_acknowledged me (k + 1) (done b) 1 (carried b)) || (t && list_any (is_own me (k + 1)) (map entry_of xs))) on
+        ∙ (assoc (nat_eq b me) (is_acknowledged me (k + 1) (done b) 1 (carried b)) (list_any (is_own me (k + 1)) (map entry_of xs)) ∙ ap (λ t. nat_eq b me || t) (sym here))
+      where
+        assoc : (x y z : Bool) → ((x || y) || z) ≡ (x || (y || z))
+        assoc true y z = refl
+        assoc false y z = refl
+    by (inr other) =
+        let off : nat_eq b from.number ≡ false = grind (arith, nat_tests, other) in
+        ap (λ t. (nat_eq b me || is_acknowledged me (k + 1) (done b) 1 (carried b)) || (t && list_any (is_own me (k + 1)) (map entry_of xs))) off
+        ∙ (sym (last_false (nat_eq b me || is_acknowledged me (k + 1) (done b) 1 (carried b))) ∙ ap (λ d. nat_eq b me || is_acknowledged me (k + 1) d 1 (carried b)) (sym (others b other)))
+
+-- Places and items.
+
+-- of these items, with the places from this one on, the message stands at a place that passes the test
+abbrev is_own_at : ℕ → ℕ → (ℕ → Bool) → ℕ → List Entry → Bool
+is_own_at me k test place [] = false
+is_own_at me k test place (x ∷ xs) = (is_own me k x && test place) || is_own_at me k test (place + 1) xs
+
+-- of these frames, of which the first has the number n, one whose number passes the test has the message
+abbrev is_in_acked : Addr → ℕ → ℕ → (ℕ → Bool) → ℕ → List (List Item) → Bool
+is_in_acked g me k acked n [] = false
+is_in_acked g me k acked n (f ∷ fs) = (acked n && list_any (is_own me k) (items_in g f)) || is_in_acked g me k acked (n + 1) fs
+
+-- more places are marked
+acknowledged_more : (me k : ℕ) (marks next : List ℕ) (added : ℕ → Bool) (place : ℕ) (xs : List Entry) → ((p : ℕ) → is_marked p next ≡ (added p || is_marked p marks))
+    → is_acknowledged me k next place xs ≡ (is_acknowledged me k marks place xs || is_own_at me k added place xs)
+acknowledged_more me k marks next added place [] more = refl
+acknowledged_more me k marks next added place (x ∷ xs) more =
+    (λ i. (is_own me k x && more place i) || acknowledged_more me k marks next added (place + 1) xs more i)
+    ∙ by (is_own me k x) (added place) (is_marked place marks) (is_acknowledged me k marks (place + 1) xs) (is_own_at me k added (place + 1) xs)
+  where
+    by : (o a m x y : Bool) → ((o && (a || m)) || (x || y)) ≡ (((o && m) || x) || ((o && a) || y))
+    by true true true x y = refl
+    by true true false true y = refl
+    by true true false false y = refl
+    by true false true x y = refl
+    by true false false x y = refl
+    by false a m x y = refl
+
+own_at-append : (me k : ℕ) (test : ℕ → Bool) (place : ℕ) (xs ys : List Entry) → is_own_at me k test place (xs ++ ys) ≡ (is_own_at me k test place xs || is_own_at me k test (place + length xs) ys)
+own_at-append me k test place [] ys = ap (λ p. is_own_at me k test p ys) (omega arith)
+own_at-append me k test place (x ∷ xs) ys =
+    ap (λ b. (is_own me k x && test place) || b) (own_at-append me k test (place + 1) xs ys)
+    ∙ (assoc (is_own me k x && test place) (is_own_at me k test (place + 1) xs) (is_own_at me k test (place + 1 + length xs) ys)
+    ∙ ap (λ p. ((is_own me k x && test place) || is_own_at me k test (place + 1) xs) || is_own_at me k test p ys) (plus place (length xs)))
+  where
+    assoc : (a b c : Bool) → (a || (b || c)) ≡ ((a || b) || c)
+    assoc true b c = refl
+    assoc false b c = refl
+
+    plus : (a b : ℕ) → a + 1 + b ≡ a + suc b
+    plus a b = omega arith
+
+-- items whose places all pass, or none of them
+own_at-same : (me k : ℕ) (test : ℕ → Bool) (t : Bool) (place : ℕ) (xs : List Entry) → ((p : ℕ) → place ≤ p → p < place + length xs → test p ≡ t) → is_own_at me k test place xs ≡ (t && list_any (is_own me k) xs)
+own_at-same me k test true place [] marked = refl
+own_at-same me k test false place [] marked = refl
+own_at-same me k test t place (x ∷ xs) marked =
+    (λ i. (is_own me k x && marked place (omega arith) (omega arith) i) || own_at-same me k test t (place + 1) xs (λ p low high. marked p (omega (arith, low)) (omega (arith, high))) i)
+    ∙ by t (is_own me k x) (list_any (is_own me k) xs)
+  where
+    by : (t a b : Bool) → ((a && t) || (t && b)) ≡ (t && (a || b))
+    by true true b = refl
+    by true false b = refl
+    by false true b = refl
+    by false false b = refl
+
+-- the places of some of the frames
+own_at-frames : (g : Addr) (me k : ℕ) (passes test : ℕ → Bool) (n before : ℕ) (fs : List (List Item))
+    → ((m place : ℕ) → before + offset g fs m < place → place ≤ before + offset g fs (m + 1) → test place ≡ passes (n + m))
+    → is_own_at me k test (before + 1) (items_of g fs) ≡ is_in_acked g me k passes n fs
+unfolding items_of
+own_at-frames g me k passes test n before [] each = refl
+own_at-frames g me k passes test n before (f ∷ fs) each =
+    own_at-append me k test (before + 1) (items_in g f) (items_of g fs)
+    ∙ (λ i. first i || (ap (λ p. is_own_at me k test p (items_of g fs)) (plus before count)
+    ∙ own_at-frames g me k passes test (n + 1) (before + count) fs
+    (λ m place low high. each (suc m) place (omega (arith, low, length-append (items_in g f) (items_of g (take m fs)))) (omega (arith, high, next m)) ∙ ap passes (omega arith))) i)
+  where
+    count : ℕ
+    count = length (items_in g f)
+
+    first : is_own_at me k test (before + 1) (items_in g f) ≡ (passes n && list_any (is_own me k) (items_in g f))
+    first = own_at-same me k test (passes n) (before + 1) (items_in g f) (λ p low high. each 0 p (omega (arith, low)) (omega (arith, high, ap length (append-nil (items_in g f)))) ∙ ap passes (omega arith))
+
+    plus : (a b : ℕ) → a + 1 + b ≡ a + b + 1
+    plus a b = omega arith
+
+    next : (i : ℕ) → offset g (f ∷ fs) (suc i + 1) ≡ length (items_in g f) + offset g fs (i + 1)
+    next i = rw add-one (rw add-one (length-append (items_in g f) (items_of g (take (suc i) fs))))
+
+any_joined : (g : Addr) (me k : ℕ) (f xs : List Item) → list_any (is_own me k) (items_in g (f ++ xs)) ≡ (list_any (is_own me k) (items_in g f) || list_any (is_own me k) (items_in g xs))
+any_joined g me k [] xs = refl
+any_joined g me k (i ∷ f) xs = by (names g i) (any_joined g me k f xs)
+  where
+    assoc : (a b c : Bool) → (a || (b || c)) ≡ ((a || b) || c)
+    assoc true b c = refl
+    assoc false b c = refl
+
+    by : (t : Bool) → list_any (is_own me k) (items_in g (f ++ xs)) ≡ (list_any (is_own me k) (items_in g f) || list_any (is_own me k) (items_in g xs))
+        → list_any (is_own me k) (map entry_of (cond t (i ∷ items_for g (f ++ xs)) (items_for g (f ++ xs)))) ≡ (list_any (is_own me k) (map entry_of (cond t (i ∷ items_for g f) (items_for g f))) || list_any (is_own me k) (items_in g xs))
+    by true same = ap (λ b. is_own me k (entry_of i) || b) same ∙ assoc (is_own me k (entry_of i)) (list_any (is_own me k) (items_in g f)) (list_any (is_own me k) (items_in g xs))
+    by false same = same
+
+-- of these frames that did not pass before those that pass now
+freed_own : (g : Addr) (me k : ℕ) (covered acked : ℕ → Bool) (n : ℕ) (fs : List (List Item)) → list_any (is_own me k) (map entry_of (freed_of g covered acked n fs)) ≡ is_in_acked g me k (λ m. covered m && not (acked m)) n fs
+unfolding numbered
+freed_own g me k covered acked n [] = refl
+freed_own g me k covered acked n (f ∷ fs) = by (acked n) (covered n) refl (freed_own g me k covered acked (n + 1) fs)
+  where
+    rest : List (ℕ × List Item)
+    rest = filter (λ u. not (acked u.0)) (numbered (n + 1) fs)
+
+    later : Bool
+    later = is_in_acked g me k (λ m. covered m && not (acked m)) (n + 1) fs
+
+    go : (c : Bool) → list_any (is_own me k) (items_in g (items_freed (filter (λ u. covered u.0) rest))) ≡ later
+        → list_any (is_own me k) (items_in g (items_freed (cond c ((n, f) ∷ filter (λ u. covered u.0) rest) (filter (λ u. covered u.0) rest)))) ≡ ((c && list_any (is_own me k) (items_in g f)) || later)
+    go true same = any_joined g me k f (items_freed (filter (λ u. covered u.0) rest)) ∙ ap (λ b. list_any (is_own me k) (items_in g f) || b) same
+    go false same = same
+
+    by : (a c : Bool) → covered n ≡ c → list_any (is_own me k) (items_in g (items_freed (filter (λ u. covered u.0) rest))) ≡ later
+        → list_any (is_own me k) (items_in g (items_freed (filter (λ u. covered u.0) (cond (not a) ((n, f) ∷ rest) rest)))) ≡ (((c && not a) && list_any (is_own me k) (items_in g f)) || later)
+    by true true is same = same
+    by true false is same = same
+    by false c is same = go (covered n) same ∙ ap (λ t. (t && list_any (is_own me k) (items_in g f)) || later) (is ∙ last c)
+      where
+        last : (c : Bool) → c ≡ (c && true)
+        last true = refl
+        last false = refl
+
+-- where the places of newly covered frames are marked, too
+freed_acknowledged : (g : Addr) (me k : ℕ) (covered acked : ℕ → Bool) (marks next : List ℕ) (fs : List (List Item)) → ((place : ℕ) → is_marked place next ≡ (is_in g (λ m. covered m && not (acked m)) 1 0 fs place || is_marked place marks))
+    → is_acknowledged me k next 1 (items_of g fs) ≡ (is_acknowledged me k marks 1 (items_of g fs) || list_any (is_own me k) (map entry_of (freed_of g covered acked 1 fs)))
+freed_acknowledged g me k covered acked marks next fs more =
+    acknowledged_more me k marks next (is_in g (λ m. covered m && not (acked m)) 1 0 fs) 1 (items_of g fs) more
+    ∙ ap (λ t. is_acknowledged me k marks 1 (items_of g fs) || t) (own_at-frames g me k (λ m. covered m && not (acked m)) (is_in g (λ m. covered m && not (acked m)) 1 0 fs) 1 0 fs (λ m place low high. in_frame g (λ m. covered m && not (acked m)) 1 0 fs m place low high) ∙ sym (freed_own g me k covered acked 1 fs))
+
+-- The group alone.
+
+-- what acknowledged items do to the group: nothing but that these places are marked
+pub record Acked (nodes : ℕ) (g : Addr) (me from : NodeId) (group next : Group) (given : List GroupStep) (added : ℕ → Bool) : Type 0 where
+  pub legal : IsLegalFrom nodes g.group group given
+  pub others : (x : ℕ) → x ≢ me.number → next x ≡ group x
+  pub member : next me.number ≡ record (group me.number) { done = (next me.number).done }
+  pub elsewhere : (b : ℕ) → b ≢ from.number → (next me.number).done b ≡ (group me.number).done b
+  pub marks : (place : ℕ) → is_marked place ((next me.number).done from.number) ≡ (added place || is_marked place ((group me.number).done from.number))
+
+marked_places : (place before count : ℕ) (marks : List ℕ) → is_marked place (places (before + 1) count ++ marks) ≡ (is_between before (before + count) place || is_marked place marks)
+marked_places place before zero marks = sym (or_off (is_between before (before + 0) place) (is_marked place marks) (grind (arith, nat_tests)))
+marked_places place before (suc count) marks =
+    ap (λ b. nat_eq (before + 1) place || b) (marked_places place (before + 1) count marks) ∙ by (nat_eq (before + 1) place) (is_between (before + 1) (before + 1 + count) place) (is_between before (before + suc count) place) (is_marked place marks) one
+  where
+    one : (nat_eq (before + 1) place || is_between (before + 1) (before + 1 + count) place) ≡ is_between before (before + suc count) place
+    one = grind (arith, nat_tests)
+
+    by : (a b c d : Bool) → (a || b) ≡ c → (a || (b || d)) ≡ (c || d)
+    by true b c d is = ap (λ x. x || d) is
+    by false b c d is = ap (λ x. x || d) is
+
+none_acked : (nodes : ℕ) (g : Addr) (me from : NodeId) (group : Group) (added : ℕ → Bool) → ((place : ℕ) → added place ≡ false) → Acked nodes g me from group group [] added
+none_acked nodes g me from group added none = record {
+  legal = tt;
+  others = λ x other. refl;
+  member = refl;
+  elsewhere = λ b other. refl;
+  marks = λ place. sym (or_off (added place) (is_marked place ((group me.number).done from.number)) (none place));
+}
+
+same_acked : (nodes : ℕ) (g : Addr) (me from : NodeId) (group next : Group) (given : List GroupStep) (added other : ℕ → Bool) → ((place : ℕ) → other place ≡ added place) → Acked nodes g me from group next given added → Acked nodes g me from group next given other
+same_acked nodes g me from group next given added other same was = record {
+  legal = was.legal;
+  others = was.others;
+  member = was.member;
+  elsewhere = was.elsewhere;
+  marks = λ place. was.marks place ∙ ap (λ b. b || is_marked place ((group me.number).done from.number)) (sym (same place));
+}
+
+-- one frame's items are acknowledged
+frame_acked : (nodes : ℕ) (g : Addr) (me from : NodeId) (before count : ℕ) (group : Group) → (group me.number).stopped ≡ false
+    → ((place : ℕ) → is_between before (before + count) place ≡ true → (is_marked place ((group from.number).come me.number) ≡ true) × (is_marked place ((group me.number).done from.number) ≡ false))
+    → Acked nodes g me from group (alone_from nodes g.group group (acknowledged me from (before + 1) count)) (acknowledged me from (before + 1) count) (is_between before (before + count))
+frame_acked nodes g me from before zero group running may = none_acked nodes g me from group (is_between before (before + 0)) (λ place. grind (arith, nat_tests))
+frame_acked nodes g me from before (suc k) group running may = record {
+  legal = ((running, omega arith, λ place low high. may place (grind (arith, nat_tests, low, high))), tt);
+  others = λ x other. after_elsewhere nodes g.group group me x (Acknowledged from (before + 1) (suc k)) other;
+  member = there ∙ ap (λ d. record (group me.number) { done = d }) (sym (ap (λ (m : Member). m.done) there));
+  elsewhere = λ b other. ap (λ (m : Member). m.done b) there ∙ rw (eqb_apart b from.number other) refl;
+  marks = λ place. ap (λ (m : Member). is_marked place (m.done from.number)) there ∙ (rw (eqb_self from.number) (marked_places place before (suc k) ((group me.number).done from.number)));
+}
+  where
+    there : after nodes g.group group (record { node = me; event = Acknowledged from (before + 1) (suc k) }) me.number
+        ≡ record (group me.number) { done = λ x. if nat_eq x from.number then places (before + 1) (suc k) ++ (group me.number).done x else (group me.number).done x }
+    there = after_there nodes g.group group me (Acknowledged from (before + 1) (suc k))
+
+-- first these events, then those
+acked-append : (nodes : ℕ) (g : Addr) (me from : NodeId) (group mid : Group) (xs ys : List GroupStep) (first later both : ℕ → Bool)
+    → mid ≡ alone_from nodes g.group group xs
+    → ((place : ℕ) → both place ≡ (first place || later place))
+    → Acked nodes g me from group mid xs first
+    → Acked nodes g me from mid (alone_from nodes g.group mid ys) ys later
+    → Acked nodes g me from group (alone_from nodes g.group group (xs ++ ys)) (xs ++ ys) both
+acked-append nodes g me from group mid xs ys first later both is parts a b =
+    subst (λ next. Acked nodes g me from group next (xs ++ ys) both) (ap (λ x. alone_from nodes g.group x ys) is ∙ sym (fold-append (after nodes g.group) group xs ys)) (record {
+      legal = legal-append nodes g.group group xs ys a.legal (subst (λ x. IsLegalFrom nodes g.group x ys) is b.legal);
+      others = λ x other. b.others x other ∙ a.others x other;
+      member = b.member ∙ ap (λ (m : Member). record m { done = ((alone_from nodes g.group mid ys) me.number).done }) a.member;
+      elsewhere = λ x other. b.elsewhere x other ∙ a.elsewhere x other;
+      marks = λ place. b.marks place ∙ (ap (λ c. later place || c) (a.marks place) ∙ (swap (first place) (later place) (is_marked place ((group me.number).done from.number)) ∙ ap (λ c. c || is_marked place ((group me.number).done from.number)) (sym (parts place))));
+    })
+  where
+    swap : (f l c : Bool) → (l || (f || c)) ≡ ((f || l) || c)
+    swap true true c = refl
+    swap true false c = refl
+    swap false true c = refl
+    swap false false c = refl
+
+-- all that a packet newly acknowledges, where it has come and is not acknowledged
+pub all_acked : (nodes : ℕ) (g : Addr) (me from : NodeId) (new : ℕ → Bool) (n before : ℕ) (fs : List (List Item)) (group : Group) → me.number ≢ from.number → (group me.number).stopped ≡ false
+    → ((place : ℕ) → is_in g new n before fs place ≡ true → (is_marked place ((group from.number).come me.number) ≡ true) × (is_marked place ((group me.number).done from.number) ≡ false))
+    → Acked nodes g me from group (alone_from nodes g.group group (all_acknowledged g me from new n before fs)) (all_acknowledged g me from new n before fs) (is_in g new n before fs)
+all_acked nodes g me from new n before [] group apart running may = none_acked nodes g me from group (is_in g new n before []) (λ place. refl)
+all_acked nodes g me from new n before (f ∷ fs) group apart running may = go (cases_Bool (new n)) (all_acked nodes g me from new (n + 1) (before + length (items_in g f)) fs)
+  where
+    count : ℕ
+    count = length (items_in g f)
+
+    later : List GroupStep
+    later = all_acknowledged g me from new (n + 1) (before + count) fs
+
+    Later : Type 0
+    Later = (mid : Group) → me.number ≢ from.number → (mid me.number).stopped ≡ false
+        → ((place : ℕ) → is_in g new (n + 1) (before + count) fs place ≡ true → (is_marked place ((mid from.number).come me.number) ≡ true) × (is_marked place ((mid me.number).done from.number) ≡ false))
+        → Acked nodes g me from mid (alone_from nodes g.group mid later) later (is_in g new (n + 1) (before + count) fs)
+
+    go : ((new n ≡ true) ⊎ (new n ≡ false)) → Later → Acked nodes g me from group (alone_from nodes g.group group (all_acknowledged g me from new n before (f ∷ fs))) (all_acknowledged g me from new n before (f ∷ fs)) (is_in g new n before (f ∷ fs))
+    go (inr old) rest = rw old (same_acked nodes g me from group (alone_from nodes g.group group later) later (is_in g new (n + 1) (before + count) fs) (is_in g new n before (f ∷ fs)) (λ place. ap (λ b. (b && is_between before (before + count) place) || is_in g new (n + 1) (before + count) fs place) old) (rest group apart running (λ place is. may place (or_right (new n && is_between before (before + count) place) (is_in g new (n + 1) (before + count) fs place) is))))
+    go (inl now) rest =
+        let one = frame_acked nodes g me from before count group running (λ place is. may place (rw (now, is) refl)) in
+        let mid : Group = alone_from nodes g.group group (acknowledged me from (before + 1) count) in
+        rw now (acked-append nodes g me from group mid (acknowledged me from (before + 1) count) later (is_between before (before + count)) (is_in g new (n + 1) (before + count) fs) (is_in g new n before (f ∷ fs)) refl (λ place. ap (λ b. (b && is_between before (before + count) place) || is_in g new (n + 1) (before + count) fs place) now) one
+        (rest mid apart (ap (λ (m : Member). m.stopped) one.member ∙ running) (λ place is.
+        let was = may place (or_right (new n && is_between before (before + count) place) (is_in g new (n + 1) (before + count) fs place) is) in
+        let above = in_above g new (n + 1) (before + count) fs place is in (
+          ap (λ (m : Member). is_marked place (m.come me.number)) (one.others from.number (λ same. apart (sym same))) ∙ was.0,
+          one.marks place ∙ (or_off (is_between before (before + count) place) (is_marked place ((group me.number).done from.number)) (grind (arith, nat_tests, above)) ∙ was.1),
+        ))))
+
+-- The node's view.
+
+-- the view after an acknowledgement of the frames that pass came from a node, which has the number d
+abbrev pub with_acks : Addr → NodeId → ℕ → (ℕ → Bool) → View → View
+with_acks g from d covered v = record v {
+  slot = fold (done_for from) v.slot (freed_of g covered (v.acked d) 1 (v.frames d));
+  acked = λ b n. v.acked b n || (nat_le n (length (v.frames b)) && (nat_eq d b && covered n));
+}
+
+-- a place of a frame's items is one of a frame
+offset_inside : (g : Addr) (fs : List (List Item)) (n place : ℕ) → offset g fs n < place → place ≤ offset g fs (n + 1) → n < length fs
+offset_inside g fs n place low high = by (cases_lt n (length fs))
+  where
+    by : ((n < length fs) ⊎ (length fs ≤ n)) → n < length fs
+    by (inl inside) = inside
+    by (inr beyond) =
+        let whole : offset g fs n ≡ length (items_of g fs) = ap (λ xs. length (items_of g xs)) (take_all n fs beyond) in
+        let most : offset g fs (n + 1) ≤ length (items_of g fs) = offset_all g fs (n + 1) in
+        absurd (omega (arith, low, high, whole, most))
+
+not_before : (c a : Bool) → (c && not a) ≡ true → (c ≡ true) × (a ≡ false)
+not_before true true is = absurd (cc)
+not_before true false is = (refl, refl)
+not_before false a is = absurd (cc)
+
+or_new : (c a : Bool) → ((c && not a) || a) ≡ (a || c)
+or_new true true = refl
+or_new true false = refl
+or_new false true = refl
+or_new false false = refl
+
+or_and_off : (x y : Bool) → (x || (y && false)) ≡ x
+or_and_off true y = refl
+or_and_off false true = refl
+or_and_off false false = refl
+
+module _ (nodes : ℕ) (g : Addr) (a s : NodeId) (frames_from : ℕ → List (List Item)) (v : View) (group : Group) (covered : ℕ → Bool) (inside : s.number < nodes) (apart : a.number ≢ s.number) (running : (group a.number).stopped ≡ false)
+    (fit : (k : ℕ) (f : List Item) → slice_get (v.frames s.number) k ≡ Some f → All IsFit (items_for g f))
+    (got : (n place : ℕ) → covered (n + 1) ≡ true → offset g (v.frames s.number) n < place → place ≤ offset g (v.frames s.number) (n + 1) → is_marked place ((group s.number).come a.number) ≡ true)
+    (fits : Fits nodes g a.number frames_from v (group a.number)) where
+  abbrev back : List (List Item)
+  back = v.frames s.number
+
+  abbrev new : ℕ → Bool
+  new n = covered n && not (v.acked s.number n)
+
+  abbrev acks : List GroupStep
+  acks = all_acknowledged g a s new 1 0 back
+
+  abbrev mid : Group
+  mid = alone_from nodes g.group group acks
+
+  abbrev later : View
+  later = with_acks g s s.number covered v
+
+  abbrev freed : List Item
+  freed = freed_of g covered (v.acked s.number) 1 back
+
+  acked : Acked nodes g a s group mid acks (is_in g new 1 0 back)
+  acked = all_acked nodes g a s new 1 0 back group apart running (λ place here. may place (in_found g new 1 0 back place here))
+    where
+      may : (place : ℕ) → Found g new 1 0 back place → (is_marked place ((group s.number).come a.number) ≡ true) × (is_marked place ((group a.number).done s.number) ≡ false)
+      may place found =
+          let low : offset g back found.frame < place = omega (arith, found.low) in
+          let high : place ≤ offset g back (found.frame + 1) = omega (arith, found.high) in
+          let first : new (found.frame + 1) ≡ true = ap new (omega arith) ∙ found.passes in
+          let parts = not_before (covered (found.frame + 1)) (v.acked s.number (found.frame + 1)) first in
+          (got found.frame place parts.0 low high, (fits.done s.number inside).each found.frame place low high ∙ parts.1)
+
+  same : SameSlot v.slot later.slot
+  same = all_done-same s freed v.slot
+
+  done_here : AreMarked g back (later.acked s.number) ((mid a.number).done s.number)
+  done_here = record {
+    each = λ n place low high. acked.marks place ∙ ((λ i. within n place low high i || (fits.done s.number inside).each n place low high i) ∙ (or_new (covered (n + 1)) (v.acked s.number (n + 1)) ∙ at n place low high));
+    beyond = λ place above. acked.marks place ∙ or_from (is_in g new 1 0 back place) (is_marked place ((group a.number).done s.number)) (in_beyond g new 1 0 back place (omega (arith, above))) ((fits.done s.number inside).beyond place above);
+  }
+    where
+      within : (n place : ℕ) → offset g back n < place → place ≤ offset g back (n + 1) → is_in g new 1 0 back place ≡ new (n + 1)
+      within n place low high = in_frame g new 1 0 back n place (omega (arith, low)) (omega (arith, high)) ∙ ap new (omega arith)
+
+      at : (n place : ℕ) → offset g back n < place → place ≤ offset g back (n + 1) → (v.acked s.number (n + 1) || covered (n + 1)) ≡ later.acked s.number (n + 1)
+      at n place low high =
+          let there = offset_inside g back n place low high in
+          let known : nat_le (n + 1) (length back) ≡ true = grind (arith, nat_tests, there) in
+          λ i. v.acked s.number (n + 1) || (sym known i && (sym (eqb_self s.number) i && covered (n + 1)))
+
+  done_there : (b : ℕ) → b < nodes → ((b ≡ s.number) ⊎ (b ≡ s.number → ⊥)) → AreMarked g (v.frames b) (later.acked b) ((mid a.number).done b)
+  done_there b in_b (inl is) = subst (λ z. AreMarked g (v.frames z) (later.acked z) ((mid a.number).done z)) (sym is) done_here
+  done_there b in_b (inr other) =
+      let off : nat_eq s.number b ≡ false = eqb_apart_back b s.number other in
+      marks_same g (v.frames b) (v.acked b) (later.acked b) ((group a.number).done b) ((mid a.number).done b) (acked.elsewhere b other)
+      (λ n some. ap (λ t. v.acked b n || (nat_le n (length (v.frames b)) && (t && covered n))) off ∙ or_and_off (v.acked b n) (nat_le n (length (v.frames b)))) (fits.done b in_b)
+
+  abbrev carried : ℕ → List Entry
+  carried b = items_of g (v.frames b)
+
+  kept : KeepsAcks nodes a.number later.slot carried (mid a.number).done
+  kept = keeps_of nodes a.number later.slot carried (mid a.number).done
+      (acks_taken nodes a.number s freed v.slot (group a.number) carried (group a.number).done (mid a.number).done fits.slot (freed_fit g covered (v.acked s.number) 1 back fit)
+      (λ k. freed_acknowledged g a.number k covered (v.acked s.number) ((group a.number).done s.number) ((mid a.number).done s.number) back acked.marks) acked.elsewhere
+      (keeps_in nodes a.number v.slot carried (group a.number).done fits.acks))
+
+  -- what an acknowledgement gives a group
+  pub acks_goes : Goes nodes g a frames_from later group acks
+  acks_goes = record {
+    legal = acked.legal;
+    elsewhere = acked.others;
+    there = record {
+      reserve = ap (λ (m : Member). m.reserve) acked.member ∙ fits.reserve;
+      slot = same_slot a.number later.slot (group a.number) (mid a.number) (ap (λ (m : Member). m.spec) acked.member) (ap (λ (m : Member). m.phase) acked.member) (ap (λ (m : Member). m.told) acked.member) (same.stands a.number (group a.number) fits.slot);
+      inside = inside_too nodes v.slot later.slot same.spec fits.inside;
+      put = λ b in_b. ap (λ (m : Member). m.put b) acked.member ∙ (fits.put b in_b ∙ ap (λ xs. carried b ++ xs) (sym (same.waiting b)));
+      taken = λ b in_b. ap (λ (m : Member). m.taken b) acked.member ∙ fits.taken b in_b;
+      replies = ap (λ (m : Member). m.replies) acked.member ∙ fits.replies;
+      spec = ap (λ (m : Member). m.spec) acked.member ∙ fits.spec;
+      noticed = λ b. ap (λ (m : Member). is_marked b m.noticed) acked.member ∙ fits.noticed b;
+      stopped = ap (λ (m : Member). m.stopped) acked.member ∙ fits.stopped;
+      come = λ b in_b. subst (λ marks. AreMarked g (frames_from b) (v.taken b) marks) (sym (ap (λ (m : Member). m.come b) acked.member)) (fits.come b in_b);
+      done = λ b in_b. done_there b in_b (cases_eq b s.number);
+      acks = kept;
+    };
+  }

@@ -1,0 +1,105 @@
+-- The items of the frames of a run are those of slots: their origins are nodes, and none is longer than a message may be.
+use Rattle.std.proofs.Common.{◌≡◌, ◌≢◌, ℕ, zero, suc, ◌<◌, List, [], ◌∷◌, length, take, Option, Some, None, Result, Ok, Err, Bool, true, false, ◌⊎◌, inl, inr, sym, ◌∙◌, ap, subst}
+use Rattle.std.specs.Prelude.{All, map, nat_eq, slice_get, if◌then◌else◌}
+use Rattle.std.specs.List.{AllByRecursion}
+use Rattle.std.proofs.lemmas.Bool.{cases_eq}
+use Rattle.std.proofs.lemmas.List.Elements.{All-filter, All-from_recursion}
+use Rattle.gb_types.specs.declared.address.Addr.{Addr}
+use Rattle.gb_types.specs.declared.entry.Entry.{Entry}
+use Rattle.gb_types.specs.declared.limits.TheConstants.{NODES}
+use Rattle.gb_types.specs.declared.node.NodeId.{NodeId}
+use Rattle.gb_frame.specs.declared.fault.PacketFault.{PacketFault}
+use Rattle.gb_frame.specs.declared.item.Item.{Item}
+use Rattle.gb_frame.specs.Packet.{Content}
+use Rattle.gb_frame.specs.Reading.{reading}
+use Rattle.gb_groups.specs.OneGroup.{items_for, item_for, names, waiting_in}
+use Rattle.gb_node.specs.Past.{Happened, ComesTo as NodeComesTo, packet_in, read, frames_to, packed_for}
+use Rattle.gb_node.specs.PastGroups.{group_of}
+use Rattle.gb_node.specs.StepLaw.{IsAnswered, IsPacked, AnswersSay}
+use Rattle.gb_node.specs.declared.answer.NodeAnswer.{NodeAnswer}
+use Rattle.gb_node.specs.declared.answer.NodeAnswer.TheVariants.{Sent}
+use Rattle.gb_node.specs.declared.answer.Sent.TheVariants.{Packet as SentPacket}
+use Rattle.gb_node.specs.declared.event.NodeEvent.{NodeEvent}
+use Rattle.gb_node.specs.declared.event.NodeEvent.TheVariants.{Pack}
+use Rattle.gb_node.specs.declared.plan.NodePlan.{NodePlan}
+use Rattle.gb_network.specs.NetworkValue.{NetworkValue, node_plan, node_at}
+use Rattle.gb_network.specs.Run.{Did, ComesTo, past_at}
+use Rattle.gb_network.specs.declared.plan.NetworkPlan.{NetworkPlan}
+use Rattle.gb_network.proofs.HonestLemmas.{get_either}
+use Rattle.gb_network.proofs.NodesLemmas.{have_pasts, past_same, past_other}
+use Rattle.gb_isolation.proofs.DoneLemmas.{IsFit}
+use Rattle.gb_isolation.proofs.ShortLemmas.{IsShortItem, read_short}
+
+-- the one packet that is read
+read_one : (key bytes : List ℕ) (c : Content) → read key bytes ≡ c ∷ [] → reading key bytes ≡ Ok c
+read_one key bytes c one = by (reading key bytes) one
+  where
+    first : List Content → Content
+    first [] = c
+    first (x ∷ xs) = x
+
+    by : (r : Result Content PacketFault) → packet_in r ≡ c ∷ [] → r ≡ Ok c
+    by (Ok x) e = ap (λ (y : Content). Ok y) (ap first e)
+    by (Err fault) e = absurd (cc)
+
+abbrev IsOfNode : Item → Type 0
+IsOfNode i = i.origin < NODES
+
+of_nodes : (g : Addr) (es : List Entry) → AllByRecursion IsOfNode (map (item_for g) es)
+of_nodes g [] = tt
+of_nodes g (e ∷ es) = (e.origin.below, of_nodes g es)
+
+-- the items of a packet that is packed
+content_fit : (plan : NodePlan) (g : Addr) (past : List Happened) (b : NodeId) (text : List ℕ) (right : IsPacked plan past b text) → All IsFit (items_for g right.content.items)
+content_fit plan g past b text right = λ k d low. (nodes k d low, short k d low)
+  where
+    waits : List Entry
+    waits = take (length (items_for g right.content.items)) (waiting_in (group_of plan g past) b.number)
+
+    nodes : All IsOfNode (items_for g right.content.items)
+    nodes = subst (All IsOfNode) (sym (right.front g)) (All-from_recursion IsOfNode (map (item_for g) waits) (of_nodes g waits))
+
+    short : All IsShortItem (items_for g right.content.items)
+    short = All-filter (names g) IsShortItem right.content.items (read_short plan.cluster_key text right.content (read_one plan.cluster_key text right.content right.text_is))
+
+packed_fit : (plan : NodePlan) (g : Addr) (past : List Happened) (e : NodeEvent) (x : NodeAnswer) → IsAnswered plan past e x → (b j : ℕ) (f : List Item) → slice_get (packed_for plan.cluster_key b e x) j ≡ Some f → All IsFit (items_for g f)
+packed_fit plan g past (Pack y) (Sent (SentPacket text)) right b j f is = by (nat_eq y.number b) j is
+  where
+    contents : map (λ (c : Content). c.items) (read plan.cluster_key text) ≡ right.content.items ∷ []
+    contents = ap (map (λ (c : Content). c.items)) right.text_is
+
+    by : (t : Bool) (j : ℕ) → slice_get (if t then map (λ (c : Content). c.items) (read plan.cluster_key text) else []) j ≡ Some f → All IsFit (items_for g f)
+    by false j e = absurd (cc)
+    by true zero e =
+        let same : Some right.content.items ≡ Some f = sym (ap (λ fs. slice_get fs 0) contents) ∙ e in
+        subst (λ (i : List Item). All IsFit (items_for g i)) (ap item_or same) (content_fit plan g past y text right)
+      where
+        item_or : Option (List Item) → List Item
+        item_or None = f
+        item_or (Some i) = i
+    by true (suc j) e = absurd (clash (sym (ap (λ fs. slice_get fs (suc j)) contents) ∙ e))
+      where
+        clash : slice_get (right.content.items ∷ []) (suc j) ≡ Some f → ⊥
+        clash h = cc
+packed_fit plan g past e x right b j f is = absurd (cc)
+
+-- so the items of every frame of a run
+pub frames_fit : AnswersSay → (plan : NetworkPlan) (g : Addr) (run : List Did) (v : NetworkValue) → ComesTo plan run v → (x : NodeId) → x.number < plan.nodes → (b k : ℕ) (f : List Item)
+    → slice_get (frames_to plan.cluster_key b (past_at x run)) k ≡ Some f → All IsFit (items_for g f)
+unfolding ComesTo past_at frames_to
+frames_fit answers plan g [] v comes x inside b k f is = absurd (cc)
+frames_fit answers plan g (d ∷ run) v comes x inside b k f is = go (frames_fit answers plan g run comes.0 comes.1 x inside b k f) (cases_eq d.node.number x.number)
+  where
+    h : Happened
+    h = record { event = d.event; answer = d.answer }
+
+    go : (slice_get (frames_to plan.cluster_key b (past_at x run)) k ≡ Some f → All IsFit (items_for g f)) → (d.node.number ≡ x.number) ⊎ (d.node.number ≢ x.number) → All IsFit (items_for g f)
+    go earlier (inr other) = earlier (ap (λ hs. slice_get (frames_to plan.cluster_key b hs) k) (sym (past_other x d run other)) ∙ is)
+    go earlier (inl same) = split (get_either (frames_to plan.cluster_key b (past_at x run)) (packed_for plan.cluster_key b d.event d.answer) k f (ap (λ hs. slice_get (frames_to plan.cluster_key b hs) k) (sym (past_same x d run same)) ∙ is))
+      where
+        answered : IsAnswered (node_plan plan x) (past_at x run) d.event d.answer
+        answered = answers.each (node_plan plan x) (past_at x run) d.event d.answer (node_at v x) (subst (λ hs. NodeComesTo (node_plan plan x) hs (node_at v x)) (past_same x d run same) (have_pasts plan (d ∷ run) v x comes inside))
+
+        split : (slice_get (frames_to plan.cluster_key b (past_at x run)) k ≡ Some f) ⊎ ((j : ℕ) × (slice_get (packed_for plan.cluster_key b d.event d.answer) j ≡ Some f)) → All IsFit (items_for g f)
+        split (inl before) = earlier before
+        split (inr now) = packed_fit (node_plan plan x) g (past_at x run) d.event d.answer answered b now.0 f now.1

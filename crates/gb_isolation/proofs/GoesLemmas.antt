@@ -1,0 +1,58 @@
+-- How a group goes on alone.
+use Rattle.std.proofs.Common.{◌≡◌, ◌≢◌, ℕ, List, [], ◌∷◌, ◌++◌, true, false, refl, sym, ap, ◌∙◌, subst, arith}
+use Rattle.std.specs.Prelude.{nat_eq}
+use Rattle.std.proofs.lemmas.Bool.Decides.{nat_tests}
+use Rattle.std.proofs.lemmas.List.Sums.{fold-append}
+use Rattle.gb_types.specs.declared.address.Addr.{Addr}
+use Rattle.gb_types.specs.declared.node.NodeId.{NodeId}
+use Rattle.gb_frame.specs.declared.item.Item.{Item}
+use Rattle.gb_alone.specs.declared.event.GroupEvent.{GroupEvent}
+use Rattle.gb_alone.specs.declared.event.GroupStep.{GroupStep}
+use Rattle.gb_alone.specs.Alone.{Group, after, alone_from, member_after, IsLegalFrom, MayHappen}
+use Rattle.gb_isolation.proofs.View.{View, Fits, Goes}
+
+pub legal-append : (nodes number : ℕ) (group : Group) (xs ys : List GroupStep) → IsLegalFrom nodes number group xs → IsLegalFrom nodes number (alone_from nodes number group xs) ys → IsLegalFrom nodes number group (xs ++ ys)
+legal-append nodes number group [] ys first later = later
+legal-append nodes number group (x ∷ xs) ys first later = (first.0, legal-append nodes number (after nodes number group x) xs ys first.1 later)
+
+pub eqb_self : (a : ℕ) → nat_eq a a ≡ true
+eqb_self a = grind (arith, nat_tests)
+
+pub eqb_apart : (x a : ℕ) → x ≢ a → nat_eq x a ≡ false
+eqb_apart x a other = grind (arith, nat_tests)
+
+pub eqb_apart_back : (x a : ℕ) → x ≢ a → nat_eq a x ≡ false
+eqb_apart_back x a other = grind (arith, nat_tests)
+
+pub after_there : (nodes number : ℕ) (group : Group) (a : NodeId) (e : GroupEvent) → after nodes number group (record { node = a; event = e }) a.number ≡ member_after nodes number a e group
+unfolding after
+after_there nodes number group a e = rw (eqb_self a.number) refl
+
+pub after_elsewhere : (nodes number : ℕ) (group : Group) (a : NodeId) (x : ℕ) (e : GroupEvent) → x ≢ a.number → after nodes number group (record { node = a; event = e }) x ≡ group x
+unfolding after
+after_elsewhere nodes number group a x e other = rw (eqb_apart x a.number other) refl
+
+-- nothing is given
+pub goes_none : (nodes : ℕ) (g : Addr) (a : NodeId) (frames_from : ℕ → List (List Item)) (v : View) (group : Group) → Fits nodes g a.number frames_from v (group a.number) → Goes nodes g a frames_from v group []
+goes_none nodes g a frames_from v group fits = record { legal = tt; elsewhere = λ x other. refl; there = fits }
+
+-- one event is given
+pub goes_one : (nodes : ℕ) (g : Addr) (a : NodeId) (frames_from : ℕ → List (List Item)) (v : View) (group : Group) (e : GroupEvent)
+    → MayHappen a e group → Fits nodes g a.number frames_from v (member_after nodes g.group a e group) → Goes nodes g a frames_from v group (record { node = a; event = e } ∷ [])
+goes_one nodes g a frames_from v group e may fits = record {
+  legal = (may, tt);
+  elsewhere = λ x other. after_elsewhere nodes g.group group a x e other;
+  there = subst (Fits nodes g a.number frames_from v) (sym (after_there nodes g.group group a e)) fits;
+}
+
+-- first these events, then those
+pub goes_on : (nodes : ℕ) (g : Addr) (a : NodeId) (frames_from : ℕ → List (List Item)) (v w : View) (group : Group) (first later : List GroupStep)
+    → Goes nodes g a frames_from v group first → Goes nodes g a frames_from w (alone_from nodes g.group group first) later → Goes nodes g a frames_from w group (first ++ later)
+goes_on nodes g a frames_from v w group first later one two = record {
+  legal = legal-append nodes g.group group first later one.legal two.legal;
+  elsewhere = λ x other. ap (λ (q : Group). q x) (both) ∙ (two.elsewhere x other ∙ one.elsewhere x other);
+  there = subst (λ (q : Group). Fits nodes g a.number frames_from w (q a.number)) (sym both) two.there;
+}
+  where
+    both : alone_from nodes g.group group (first ++ later) ≡ alone_from nodes g.group (alone_from nodes g.group group first) later
+    both = fold-append (after nodes g.group) group first later

@@ -1,0 +1,38 @@
+-- What is said next has a number that no item has.
+use Rattle.std.proofs.Common.{◌≡◌, ℕ, zero, suc, ◌-◌, ◌<◌, List, [], ◌∷◌, ◌++◌, length, Bool, true, false, ◌||◌, Some, refl, ap, arith}
+use Rattle.std.specs.Prelude.{All, slice_get}
+use Rattle.std.specs.List.{list_any}
+use Rattle.std.proofs.lemmas.Bool.Decides.{nat_tests}
+use Rattle.std.proofs.lemmas.List.Elements.{All-head, All-tail}
+use Rattle.gb_types.specs.declared.entry.Entry.{Entry}
+use Rattle.gb_alone.specs.Alone.{is_own}
+use Rattle.gb_alone.specs.Laws.{Accepted, IsAccepted}
+
+-- no item has a number beyond those that were accepted
+pub none_beyond_accepted : (accepted : ℕ → List Accepted) (me k : ℕ) (xs : List Entry) → length (accepted me) < k → All (IsAccepted accepted) xs → list_any (is_own me k) xs ≡ false
+none_beyond_accepted accepted me k [] low all = refl
+none_beyond_accepted accepted me k (x ∷ xs) low all =
+    λ i. other (is_own me k x) refl i || none_beyond_accepted accepted me k xs low (All-tail (IsAccepted accepted) x xs all) i
+  where
+    within : {X : Type 0} (ys : List X) (j : ℕ) (y : X) → slice_get ys j ≡ Some y → j < length ys
+    within [] j y is = absurd (cc)
+    within (z ∷ ys) zero y is = omega arith
+    within (z ∷ ys) (suc j) y is = let rest = within ys j y is in omega arith
+
+    other : (t : Bool) → is_own me k x ≡ t → is_own me k x ≡ false
+    other false is = is
+    other true is =
+        let here = All-head (IsAccepted accepted) x xs all in
+        let origin : x.origin.number ≡ me = grind (arith, nat_tests, is) in
+        let number : x.seq ≡ k = grind (arith, nat_tests, is) in
+        let low2 = within (accepted x.origin.number) (x.seq - 1) (record { seq = x.seq; payload = x.payload }) here.1 in
+        let same : length (accepted x.origin.number) ≡ length (accepted me) = ap (λ (a : ℕ). length (accepted a)) origin in
+        absurd (omega (arith, low, low2, same, number, here.0))
+
+pub none_of_front : (p : Entry → Bool) (xs ys : List Entry) → list_any p (xs ++ ys) ≡ false → list_any p xs ≡ false
+none_of_front p [] ys none = refl
+none_of_front p (x ∷ xs) ys none = by (p x) none (none_of_front p xs ys)
+  where
+    by : (b : Bool) → (b || list_any p (xs ++ ys)) ≡ false → (list_any p (xs ++ ys) ≡ false → list_any p xs ≡ false) → (b || list_any p xs) ≡ false
+    by true none rest = absurd (cc)
+    by false none rest = rest none

@@ -1,0 +1,55 @@
+-- What follows from a node's past alone.
+use Rattle.std.proofs.Common.{◌≡◌, ℕ, ◌≤◌, List, [], ◌∷◌, ◌++◌, length, Bool, true, false, ◌&&◌, ◌||◌, ◌⊎◌, inl, inr, refl, ap, arith, length-append}
+use Rattle.std.specs.Prelude.{nat_le, map}
+use Rattle.std.specs.List.{list_any}
+use Rattle.std.proofs.lemmas.Bool.{or_cases, and_parts}
+use Rattle.std.proofs.lemmas.Bool.Decides.{nat_tests}
+use Rattle.gb_types.specs.declared.address.Addr.{Addr}
+use Rattle.gb_types.specs.declared.entry.Entry.{Entry}
+use Rattle.gb_groups.specs.AtAddress.{entry_of}
+use Rattle.gb_groups.specs.OneGroup.{item_for}
+use Rattle.gb_node.specs.Past.{Happened, came, frames_to, is_ack, is_acked, is_stopped, packed_for, stops}
+use Rattle.gb_node.specs.declared.answer.NodeAnswer.{NodeAnswer}
+use Rattle.gb_node.specs.declared.answer.NodeAnswer.TheVariants.{Reply as Replied}
+use Rattle.gb_node.specs.declared.event.NodeEvent.{NodeEvent}
+use Rattle.gb_node.specs.declared.event.NodeEvent.TheVariants.{Request as Asked}
+use Rattle.gb_node.specs.declared.plan.NodePlan.{NodePlan}
+use Rattle.gb_node.proofs.TookLemmas.{numbered}
+use Rattle.gb_isolation.specs.Project.{is_met, is_met_by, is_own}
+
+both_off : (a b : Bool) → (a || b) ≡ false → (a ≡ false) × (b ≡ false)
+both_off true b e = absurd (cc)
+both_off false b e = (refl, e)
+
+-- a running node's stop was met by no request
+pub running_unmet : (plan : NodePlan) (g : Addr) (past : List Happened) → is_stopped past ≡ false → is_met plan g past ≡ false
+unfolding is_met is_stopped
+running_unmet plan g [] running = refl
+running_unmet plan g (h ∷ past) running =
+    let before = both_off (stops h.event h.answer) (is_stopped past) running in
+    λ i. by h.event h.answer before.1 i || running_unmet plan g past before.1 i
+  where
+    by : (e : NodeEvent) (x : NodeAnswer) → is_stopped past ≡ false → is_met_by plan g past e x ≡ false
+    by (Asked request) (Replied reply) runs = ap (λ b. b && is_own plan g past request) runs
+    by e x runs = refl
+
+-- only frames that were packed are acknowledged
+pub acked_within : (key : List ℕ) (b n : ℕ) (past : List Happened) → is_acked key b n past ≡ true → n ≤ length (frames_to key b past)
+unfolding is_acked frames_to
+acked_within key b n [] is = absurd (cc)
+acked_within key b n (h ∷ past) is = by (acked_within key b n past) (or_cases (is_acked key b n past) (nat_le n (length (frames_to key b past)) && list_any (is_ack b n) (came key h.event h.answer)) is)
+  where
+    by : (is_acked key b n past ≡ true → n ≤ length (frames_to key b past)) → (is_acked key b n past ≡ true) ⊎ ((nat_le n (length (frames_to key b past)) && list_any (is_ack b n) (came key h.event h.answer)) ≡ true) → n ≤ length (frames_to key b past ++ packed_for key b h.event h.answer)
+    by earlier (inl before) = let low = earlier before in omega (arith, low, length-append (frames_to key b past) (packed_for key b h.event h.answer))
+    by earlier (inr now) =
+        let test = (and_parts (nat_le n (length (frames_to key b past))) (list_any (is_ack b n) (came key h.event h.answer)) now).0 in
+        let low : n ≤ length (frames_to key b past) = grind (arith, nat_tests) in
+        omega (arith, low, length-append (frames_to key b past) (packed_for key b h.event h.answer))
+
+-- an entry is what its item says
+pub entry_back : (g : Addr) (e : Entry) → entry_of (item_for g e) ≡ e
+entry_back g e = λ i. record { origin = numbered e.origin i; seq = e.seq; payload = e.payload }
+
+pub entries_back : (g : Addr) (es : List Entry) → map entry_of (map (item_for g) es) ≡ es
+entries_back g [] = refl
+entries_back g (e ∷ es) = λ i. entry_back g e i ∷ entries_back g es i

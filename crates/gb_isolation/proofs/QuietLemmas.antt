@@ -1,0 +1,57 @@
+-- Events that make nothing of a group.
+use Rattle.std.proofs.Common.{◌≡◌, ℕ, List, [], ◌∷◌, ◌++◌, length, None, false, ◌&&◌, ◌||◌, refl, sym, ◌∙◌, ap, subst}
+use Rattle.std.specs.Prelude.{nat_le, map, option_map}
+use Rattle.std.specs.FinSet as set
+use Rattle.std.specs.List.{list_any}
+use Rattle.std.proofs.lemmas.Bool.{and_right}
+use Rattle.std.proofs.Math.Bool.{or-false}
+use Rattle.std.proofs.lemmas.List.{append-nil}
+use Rattle.gb_types.specs.declared.address.Addr.{Addr}
+use Rattle.gb_types.specs.declared.spec.TenantRow.{TenantRow}
+use Rattle.gb_types.specs.declared.reply.Reply.{Reply}
+use Rattle.gb_frame.specs.declared.item.Item.{Item}
+use Rattle.gb_frame.specs.Packet.{Content}
+use Rattle.gb_detect.specs.Silence.{Heard}
+use Rattle.gb_detect.specs.Watch.{start, replay}
+use Rattle.gb_rules.specs.Tenant.{reserve_of, row_of}
+use Rattle.gb_alone.specs.Alone.{Group}
+use Rattle.gb_node.specs.Past.{Happened, added, came, frames_to, is_ack, is_acked, is_taken, is_taken_by, packed_for, tenants_in, ticks, watched}
+use Rattle.gb_node.specs.PastGroups.{group_after, group_of}
+use Rattle.gb_node.specs.declared.answer.NodeAnswer.{NodeAnswer}
+use Rattle.gb_node.specs.declared.event.NodeEvent.{NodeEvent}
+use Rattle.gb_node.specs.declared.plan.NodePlan.{NodePlan}
+use Rattle.gb_isolation.specs.Project.{made_with, made_by, or_else, replies_in, reply_in, is_met, is_met_by}
+use Rattle.gb_isolation.proofs.View.{view_of, Fits, Goes}
+use Rattle.gb_isolation.proofs.GoesLemmas.{goes_none}
+
+-- An event with its answer that makes nothing of a group.
+pub record IsQuiet (plan : NodePlan) (g : Addr) (past : List Happened) (e : NodeEvent) (x : NodeAnswer) : Type 0 where
+  pub packed : (b : ℕ) → packed_for plan.cluster_key b e x ≡ []
+  pub none_came : came plan.cluster_key e x ≡ []
+  pub none_taken : (b n : ℕ) → is_taken_by plan.cluster_key b n e x ≡ false
+  pub no_tick : ticks e x ≡ []
+  pub none_added : added e x ≡ []
+  pub same_group : group_after plan g past e x (group_of plan g past) ≡ group_of plan g past
+  pub not_made : made_by g e x ≡ None
+  pub no_reply : reply_in plan g past e x ≡ []
+  pub unmet : is_met_by plan g past e x ≡ false
+
+quiet_view : (plan : NodePlan) (g : Addr) (past : List Happened) (e : NodeEvent) (x : NodeAnswer) → IsQuiet plan g past e x → view_of plan g (record { event = e; answer = x } ∷ past) ≡ view_of plan g past
+unfolding frames_to is_acked is_taken watched tenants_in group_of made_with replies_in is_met
+quiet_view plan g past e x q = λ i. record {
+  reserve = option_map reserve_of (row_of g.tenant ((ap (λ (rows : List TenantRow). tenants_in past ++ rows) q.none_added ∙ append-nil (tenants_in past)) i));
+  slot = q.same_group i;
+  made = or_else (q.not_made i) (made_with g past);
+  noticed = set.contains (replay (start plan.me.number plan.nodes plan.silence) (q.no_tick i ++ map (λ (c : Content). Heard c.from) (q.none_came i) ++ watched plan.cluster_key past)).noticed;
+  replies = (ap (λ (rs : List Reply). replies_in plan g past ++ rs) q.no_reply ∙ append-nil (replies_in plan g past)) i;
+  met = q.unmet i || is_met plan g past;
+  frames = λ b. (ap (λ (fs : List (List Item)). frames_to plan.cluster_key b past ++ fs) (q.packed b) ∙ append-nil (frames_to plan.cluster_key b past)) i;
+  acked = λ b n. (ap (λ (cs : List Content). is_acked plan.cluster_key b n past || (nat_le n (length (frames_to plan.cluster_key b past)) && list_any (is_ack b n) cs)) q.none_came
+      ∙ (ap (λ t. is_acked plan.cluster_key b n past || t) (and_right (nat_le n (length (frames_to plan.cluster_key b past))) false refl) ∙ or-false (is_acked plan.cluster_key b n past))) i;
+  taken = λ b n. q.none_taken b n i || is_taken plan.cluster_key b n past;
+}
+
+pub quiet_goes : (plan : NodePlan) (g : Addr) (past : List Happened) (e : NodeEvent) (x : NodeAnswer) (frames_from : ℕ → List (List Item)) (group : Group) → IsQuiet plan g past e x
+    → Fits plan.nodes g plan.me.number frames_from (view_of plan g past) (group plan.me.number) → Goes plan.nodes g plan.me frames_from (view_of plan g (record { event = e; answer = x } ∷ past)) group []
+quiet_goes plan g past e x frames_from group q was =
+    goes_none plan.nodes g plan.me frames_from (view_of plan g (record { event = e; answer = x } ∷ past)) group (subst (λ w. Fits plan.nodes g plan.me.number frames_from w (group plan.me.number)) (sym (quiet_view plan g past e x q)) was)

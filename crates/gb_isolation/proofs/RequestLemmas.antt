@@ -1,0 +1,307 @@
+-- A request at a node goes on for each group as it does for the group alone.
+use Rattle.std.proofs.Common.{◌≡◌, ◌≢◌, ℕ, ◌+◌, ◌<◌, ◌≤◌, List, [], ◌∷◌, ◌++◌, Option, Some, None, Bool, true, false, ◌&&◌, ◌||◌, ◌⊎◌, inl, inr, refl, sym, ◌∙◌, ap, subst, arith}
+use Rattle.std.specs.Prelude.{if◌then◌else◌, is_some, nat_eq, nat_lt, option_map}
+use Rattle.std.specs.FinSet as set
+use Rattle.std.specs.List.{list_any}
+use Rattle.std.proofs.lemmas.Bool.{cases_Bool, and_parts}
+use Rattle.std.proofs.lemmas.Bool.Decides.{nat_tests}
+use Rattle.std.proofs.lemmas.List.{append-nil}
+use Rattle.gb_types.specs.declared.address.Addr.{Addr}
+use Rattle.gb_types.specs.declared.limits.TheConstants.{NODES}
+use Rattle.gb_types.specs.declared.refusal.Refusal.{Refusal}
+use Rattle.gb_types.specs.declared.refusal.Refusal.TheVariants.{Denied, OverReserve, NoRoom, TenantThere, Stopped, OutOfMemory}
+use Rattle.gb_types.specs.declared.reply.Reply.{Reply}
+use Rattle.gb_types.specs.declared.reply.Reply.TheVariants.{Done, Said, Refused}
+use Rattle.gb_types.specs.declared.request.Request.{Request}
+use Rattle.gb_types.specs.declared.request.Request.TheVariants.{AddTenant, Make, OpenGroup, ShutGroup, DropGroup, Say, Fetch}
+use Rattle.gb_types.specs.declared.spec.TenantRow.{TenantRow}
+use Rattle.gb_frame.specs.declared.item.Item.{Item}
+use Rattle.gb_rules.specs.Tenant.{is_over_limits, reserve_of, reserved, row_of, tenant_answer}
+use Rattle.gb_slot.specs.Slot.{new_slot}
+use Rattle.gb_slot.specs.SlotState.{SlotState}
+use Rattle.gb_alone.specs.Alone.{Group, member_after}
+use Rattle.gb_alone.specs.Alone as alone
+use Rattle.gb_alone.specs.declared.event.GroupEvent.TheVariants.{Tenant}
+use Rattle.gb_groups.specs.OneGroup.{or_added}
+use Rattle.gb_node.specs.NodeStep.{RequestTakesMemory}
+use Rattle.gb_node.specs.Past.{Happened, added, frames_to, is_stopped, tenants_in}
+use Rattle.gb_node.specs.PastGroups.{noticed_in, group_of, asked_for}
+use Rattle.gb_node.specs.StepLaw.{IsAsked, admitted_answer, is_admitted_by, past_answer}
+use Rattle.gb_node.specs.declared.answer.NodeAnswer.TheVariants.{Reply as Replied}
+use Rattle.gb_node.specs.declared.event.NodeEvent.TheVariants.{Request as Asked}
+use Rattle.gb_node.specs.declared.plan.NodePlan.{NodePlan}
+use Rattle.gb_isolation.specs.Project.{asked, is_met, is_named, is_own, is_starved_by, items_of, made_by, made_with, own_requested, replies_in, requested, tenant_given}
+use Rattle.gb_isolation.proofs.AskLemmas.{asking, quiet_request, refused_quiet, view_asked}
+use Rattle.gb_isolation.proofs.CommandLemmas.{AskedGoes, at_open, at_shut, at_drop, at_say, at_fetch}
+use Rattle.gb_isolation.proofs.GoesLemmas.{goes_none, goes_one}
+use Rattle.gb_isolation.proofs.MakeLemmas.{at_make}
+use Rattle.gb_isolation.proofs.MemberLemmas.{same_slot}
+use Rattle.gb_isolation.proofs.StoppedLemmas.{stopped_goes}
+use Rattle.gb_isolation.proofs.View.{View, view_of, Fits, Goes}
+
+-- Tenants.
+
+-- the first row of a tenant stays
+row-append : (tenant : ℕ) (rows : List TenantRow) (row : TenantRow) → row_of tenant rows ≡ None → row_of tenant (rows ++ row ∷ []) ≡ (if nat_eq row.tenant tenant then Some row else None)
+row-append tenant [] row none = refl
+row-append tenant (r ∷ rows) row none = by (nat_eq r.tenant tenant) none (row-append tenant rows row)
+  where
+    by : (b : Bool) → (if b then Some r else row_of tenant rows) ≡ None → (row_of tenant rows ≡ None → row_of tenant (rows ++ row ∷ []) ≡ (if nat_eq row.tenant tenant then Some row else None))
+        → (if b then Some r else row_of tenant (rows ++ row ∷ [])) ≡ (if nat_eq row.tenant tenant then Some row else None)
+    by true none rest = absurd (cc)
+    by false none rest = rest none
+
+-- a row of another tenant is not looked at
+row-other : (tenant : ℕ) (rows : List TenantRow) (row : TenantRow) → nat_eq row.tenant tenant ≡ false → row_of tenant (rows ++ row ∷ []) ≡ row_of tenant rows
+row-other tenant [] row other = ap (λ b. if b then Some row else None) other
+row-other tenant (r ∷ rows) row other = ap (λ o. if nat_eq r.tenant tenant then Some r else o) (row-other tenant rows row other)
+
+-- a tenant that is taken in was not there
+tenant_new : (places before : ℕ) (there : Bool) (row : TenantRow) → tenant_answer places before there row ≡ Done → there ≡ false
+tenant_new places before there row is = go (is_over_limits row) there (nat_lt places (before + row.groups)) is
+  where
+    go : (b c d : Bool) → (if b then Refused OverReserve else (if c then Refused TenantThere else (if d then Refused NoRoom else Done))) ≡ Done → c ≡ false
+    go true c d is = absurd (cc)
+    go false true d is = absurd (cc)
+    go false false d is = refl
+
+none_of : (o : Option TenantRow) → is_some o ≡ false → o ≡ None
+none_of None is = refl
+none_of (Some row) is = absurd (cc)
+
+module _ (plan : NodePlan) (g : Addr) (past : List Happened) (frames_from : ℕ → List (List Item)) (group : Group) where
+  abbrev before : View
+  before = view_of plan g past
+
+  abbrev FitsBefore : Type 0
+  FitsBefore = Fits plan.nodes g plan.me.number frames_from before (group plan.me.number)
+
+  -- Requests that make nothing of the group.
+
+  -- what is given then
+  given_quiet : (request : Request) (reply : Reply) → is_stopped past ≡ false → is_own plan g past request ≡ false → tenant_given g plan.me request reply ≡ [] → asked plan g past request reply ≡ []
+  given_quiet request reply running other none = by ∙ (ap (λ b. tenant_given g plan.me request reply ++ (if b then own_requested plan g past request reply else [])) other ∙ ap (λ es. es ++ []) none)
+    where
+      by : asked plan g past request reply ≡ requested plan g past request reply
+      by = rw running refl
+
+  passes : (request : Request) (reply : Reply) → is_stopped past ≡ false → is_own plan g past request ≡ false
+      → added (Asked request) (Replied reply) ≡ []
+      → asked_for g plan.me (noticed_in plan past) request reply (group_of plan g past) ≡ group_of plan g past
+      → made_by g (Asked request) (Replied reply) ≡ None
+      → tenant_given g plan.me request reply ≡ []
+      → FitsBefore → AskedGoes plan g past request reply frames_from group
+  passes request reply running other rows slot unmade none fits =
+      subst (λ es. Goes plan.nodes g plan.me frames_from (view_of plan g (asking request reply ∷ past)) group es) (sym (given_quiet request reply running other none))
+      (quiet_request plan g past request reply frames_from group other rows slot unmade fits)
+
+  refusal_passes : (request : Request) (why : Refusal) → is_stopped past ≡ false → is_own plan g past request ≡ false → FitsBefore → AskedGoes plan g past request (Refused why) frames_from group
+  refusal_passes request why running other fits =
+      subst (λ es. Goes plan.nodes g plan.me frames_from (view_of plan g (asking request (Refused why) ∷ past)) group es) (sym (given_quiet request (Refused why) running other (none request)))
+      (refused_quiet plan g past request why frames_from group other fits)
+    where
+      none : (request : Request) → tenant_given g plan.me request (Refused why) ≡ []
+      none (AddTenant token row) = refl
+      none request = refl
+
+  -- A tenant is taken in.
+
+  tenant_taken : (token : List ℕ) (row : TenantRow) → is_stopped past ≡ false → row_of row.tenant (tenants_in past) ≡ None → nat_eq row.tenant g.tenant ≡ true → FitsBefore → AskedGoes plan g past (AddTenant token row) Done frames_from group
+  tenant_taken token row running new own fits =
+      subst (λ es. Goes plan.nodes g plan.me frames_from (view_of plan g (asking (AddTenant token row) Done ∷ past)) group es) (sym given)
+      (subst (λ (v : View). Goes plan.nodes g plan.me frames_from v group (record { node = plan.me; event = Tenant (reserve_of row) } ∷ [])) (sym later)
+      (goes_one plan.nodes g plan.me frames_from (record before { reserve = Some (reserve_of row) }) group (Tenant (reserve_of row)) tt (record {
+        reserve = refl;
+        slot = same_slot plan.me.number before.slot (group plan.me.number) (member_after plan.nodes g.group plan.me (Tenant (reserve_of row)) group) refl refl refl fits.slot;
+        inside = fits.inside;
+        put = fits.put;
+        taken = fits.taken;
+        replies = fits.replies;
+        spec = fits.spec;
+        noticed = fits.noticed;
+        stopped = fits.stopped;
+        come = fits.come;
+        done = fits.done;
+        acks = fits.acks;
+      })))
+    where
+      same : row.tenant ≡ g.tenant
+      same = grind (arith, nat_tests)
+
+      there : row_of g.tenant (tenants_in past ++ row ∷ []) ≡ Some row
+      there = row-append g.tenant (tenants_in past) row (ap (λ t. row_of t (tenants_in past)) (sym same) ∙ new) ∙ ap (λ b. if b then Some row else None) own
+
+      given : asked plan g past (AddTenant token row) Done ≡ record { node = plan.me; event = Tenant (reserve_of row) } ∷ []
+      given = by ∙ ap (λ b. (if b then record { node = plan.me; event = Tenant (reserve_of row) } ∷ [] else []) ++ []) own
+        where
+          by : asked plan g past (AddTenant token row) Done ≡ requested plan g past (AddTenant token row) Done
+          by = rw running refl
+
+      later : view_of plan g (asking (AddTenant token row) Done ∷ past) ≡ record before { reserve = Some (reserve_of row) }
+      later = view_asked plan g past (AddTenant token row) Done (Some (reserve_of row)) (group_of plan g past) (made_with g past) (replies_in plan g past) (is_met plan g past)
+          (ap (option_map reserve_of) there) refl refl (append-nil (replies_in plan g past)) (ap (λ b. (b && false) || is_met plan g past) running)
+
+  tenant_other : (token : List ℕ) (row : TenantRow) → is_stopped past ≡ false → nat_eq row.tenant g.tenant ≡ false → FitsBefore → AskedGoes plan g past (AddTenant token row) Done frames_from group
+  tenant_other token row running other fits =
+      subst (λ es. Goes plan.nodes g plan.me frames_from (view_of plan g (asking (AddTenant token row) Done ∷ past)) group es) (sym given)
+      (subst (λ (v : View). Goes plan.nodes g plan.me frames_from v group []) (sym later) (goes_none plan.nodes g plan.me frames_from before group fits))
+    where
+      given : asked plan g past (AddTenant token row) Done ≡ []
+      given = by ∙ ap (λ b. (if b then record { node = plan.me; event = Tenant (reserve_of row) } ∷ [] else []) ++ []) other
+        where
+          by : asked plan g past (AddTenant token row) Done ≡ requested plan g past (AddTenant token row) Done
+          by = rw running refl
+
+      later : view_of plan g (asking (AddTenant token row) Done ∷ past) ≡ before
+      later = view_asked plan g past (AddTenant token row) Done before.reserve (group_of plan g past) (made_with g past) (replies_in plan g past) (is_met plan g past)
+          (ap (option_map reserve_of) (row-other g.tenant (tenants_in past) row other)) refl refl (append-nil (replies_in plan g past)) (ap (λ b. (b && false) || is_met plan g past) running)
+
+  -- by the reply
+  at_tenant : (token : List ℕ) (row : TenantRow) (r : Reply) → is_stopped past ≡ false → (r ≡ Done → row_of row.tenant (tenants_in past) ≡ None) → FitsBefore → AskedGoes plan g past (AddTenant token row) r frames_from group
+  at_tenant token row Done running new fits = go (cases_Bool (nat_eq row.tenant g.tenant))
+    where
+      go : ((nat_eq row.tenant g.tenant ≡ true) ⊎ (nat_eq row.tenant g.tenant ≡ false)) → AskedGoes plan g past (AddTenant token row) Done frames_from group
+      go (inl own) = tenant_taken token row running (new refl) own fits
+      go (inr other) = tenant_other token row running other fits
+  at_tenant token row r running new fits = passes (AddTenant token row) r running refl refl refl refl refl fits
+
+  -- Another group's request.
+
+  added_none : (o : Option (Option SlotState)) → or_added o None ≡ o
+  added_none None = refl
+  added_none (Some s) = refl
+
+  other_for : (request : Request) (r : Reply) → is_named g request ≡ false → asked_for g plan.me (noticed_in plan past) request r (group_of plan g past) ≡ group_of plan g past
+  other_for (Make token addr spec) Done other = ap (λ b. or_added (group_of plan g past) (if b then Some (Some (new_slot spec plan.me (noticed_in plan past))) else None)) other ∙ added_none (group_of plan g past)
+  other_for (OpenGroup token addr) Done other = rw other refl
+  other_for (ShutGroup token addr) Done other = rw other refl
+  other_for (DropGroup token addr) Done other = rw other refl
+  other_for (Say token addr payload) (Said seq) other = rw other refl
+  other_for request r other = refl
+
+  other_made : (request : Request) (r : Reply) → is_named g request ≡ false → made_by g (Asked request) (Replied r) ≡ None
+  other_made (Make token addr spec) Done other = rw other refl
+  other_made request r other = refl
+
+  other_goes : (request : Request) (r : Reply) → is_stopped past ≡ false → is_own plan g past request ≡ false → is_named g request ≡ false → ((token : List ℕ) (row : TenantRow) → request ≡ AddTenant token row → r ≡ Done → row_of row.tenant (tenants_in past) ≡ None)
+      → FitsBefore → AskedGoes plan g past request r frames_from group
+  other_goes (AddTenant token row) r running own named new fits = at_tenant token row r running (new token row refl) fits
+  other_goes (Make token addr spec) r running own named new fits = passes (Make token addr spec) r running own refl (other_for (Make token addr spec) r named) (other_made (Make token addr spec) r named) refl fits
+  other_goes (OpenGroup token addr) r running own named new fits = passes (OpenGroup token addr) r running own refl (other_for (OpenGroup token addr) r named) refl refl fits
+  other_goes (ShutGroup token addr) r running own named new fits = passes (ShutGroup token addr) r running own refl (other_for (ShutGroup token addr) r named) refl refl fits
+  other_goes (DropGroup token addr) r running own named new fits = passes (DropGroup token addr) r running own refl (other_for (DropGroup token addr) r named) refl refl fits
+  other_goes (Say token addr payload) r running own named new fits = passes (Say token addr payload) r running own refl (other_for (Say token addr payload) r named) refl refl fits
+  other_goes (Fetch token addr from most) r running own named new fits = passes (Fetch token addr from most) r running own refl refl refl refl fits
+
+  -- The group's own request.
+
+  own_goes : (request : Request) (reply : Reply) → plan.nodes ≤ NODES
+      → ((b : ℕ) → set.contains (noticed_in plan past) b ≡ true → b < NODES)
+      → ((s : SlotState) → group_of plan g past ≡ Some (Some s) → (b : ℕ) → b < plan.nodes → list_any (alone.is_own plan.me.number (s.said + 1)) (items_of g (frames_to plan.cluster_key b past)) ≡ false)
+      → is_stopped past ≡ false → is_own plan g past request ≡ true → reply ≡ admitted_answer plan past request → FitsBefore → AskedGoes plan g past request reply frames_from group
+  own_goes (AddTenant token row) reply few below fresh running own is fits = absurd (clash own)
+    where
+      clash : false ≡ true → ⊥
+      clash e = cc
+  own_goes (Make token addr spec) reply few below fresh running own is fits = at_make plan g past frames_from group token addr spec reply running own is below fits
+  own_goes (OpenGroup token addr) reply few below fresh running own is fits = at_open plan g past frames_from group reply token addr few running own is fits
+  own_goes (ShutGroup token addr) reply few below fresh running own is fits = at_shut plan g past frames_from group reply token addr few running own is fits
+  own_goes (DropGroup token addr) reply few below fresh running own is fits = at_drop plan g past frames_from group reply token addr few running own is fits
+  own_goes (Say token addr payload) reply few below fresh running own is fits = at_say plan g past frames_from group reply token addr payload few running own is fresh fits
+  own_goes (Fetch token addr from most) reply few below fresh running own is fits = at_fetch plan g past frames_from group reply token addr from most few running own is fits
+
+-- Replies.
+
+no_memory : (request : Request) (why : Refusal) → RequestTakesMemory request (Refused why) → ⊥
+no_memory (AddTenant token row) why takes = clash takes
+  where
+    clash : false ≡ true → ⊥
+    clash e = cc
+no_memory (Make token addr spec) why takes = clash takes
+  where
+    clash : false ≡ true → ⊥
+    clash e = cc
+no_memory (OpenGroup token addr) why takes = takes
+no_memory (ShutGroup token addr) why takes = takes
+no_memory (DropGroup token addr) why takes = takes
+no_memory (Say token addr payload) why takes = takes
+no_memory (Fetch token addr from most) why takes = clash takes
+  where
+    clash : false ≡ true → ⊥
+    clash e = cc
+
+-- want of memory for the group's own request starves it
+starved_own : (plan : NodePlan) (g : Addr) (past : List Happened) (request : Request) → is_own plan g past request ≡ true → is_starved_by plan g past (Asked request) (Replied (Refused OutOfMemory)) ≡ true
+starved_own plan g past (AddTenant token row) own = absurd (clash own)
+  where
+    clash : false ≡ true → ⊥
+    clash e = cc
+starved_own plan g past (Make token addr spec) own = own
+starved_own plan g past (OpenGroup token addr) own = own
+starved_own plan g past (ShutGroup token addr) own = own
+starved_own plan g past (DropGroup token addr) own = own
+starved_own plan g past (Say token addr payload) own = own
+starved_own plan g past (Fetch token addr from most) own = own
+
+module _ (plan : NodePlan) (past : List Happened) (request : Request) (reply : Reply) where
+  stopped_reply : is_stopped past ≡ true → IsAsked plan past request reply → reply ≡ Refused Stopped
+  stopped_reply stopped (inl wants) = absurd (no_memory request Stopped (subst (RequestTakesMemory request) (answer stopped) wants.1))
+    where
+      answer : is_stopped past ≡ true → past_answer plan past request ≡ Refused Stopped
+      answer stopped = rw stopped refl
+  stopped_reply stopped (inr is) = is ∙ answer stopped
+    where
+      answer : is_stopped past ≡ true → past_answer plan past request ≡ Refused Stopped
+      answer stopped = rw stopped refl
+
+  running_answer : is_stopped past ≡ false → (b : Bool) → is_admitted_by plan past request ≡ b → past_answer plan past request ≡ (if b then admitted_answer plan past request else Refused Denied)
+  running_answer running b is = rw (running, is) refl
+
+-- A request.
+
+pub asked_goes : (plan : NodePlan) (g : Addr) (past : List Happened) (request : Request) (reply : Reply) (frames_from : ℕ → List (List Item)) (group : Group)
+    → plan.nodes ≤ NODES
+    → ((b : ℕ) → set.contains (noticed_in plan past) b ≡ true → (b < plan.nodes) × (b ≢ plan.me.number))
+    → ((s : SlotState) → group_of plan g past ≡ Some (Some s) → (b : ℕ) → b < plan.nodes → list_any (alone.is_own plan.me.number (s.said + 1)) (items_of g (frames_to plan.cluster_key b past)) ≡ false)
+    → IsAsked plan past request reply
+    → is_starved_by plan g past (Asked request) (Replied reply) ≡ false
+    → Fits plan.nodes g plan.me.number frames_from (view_of plan g past) (group plan.me.number)
+    → Goes plan.nodes g plan.me frames_from (view_of plan g (record { event = Asked request; answer = Replied reply } ∷ past)) group (asked plan g past request reply)
+asked_goes plan g past request reply frames_from group few noticed fresh answered fed fits = go (cases_Bool (is_stopped past)) (cases_Bool (is_own plan g past request)) answered
+  where
+    Wanted : Reply → Type 0
+    Wanted r = AskedGoes plan g past request r frames_from group
+
+    below : (b : ℕ) → set.contains (noticed_in plan past) b ≡ true → b < NODES
+    below b is = let low = (noticed b is).0 in omega (arith, low, few)
+
+    starved : is_own plan g past request ≡ true → reply ≡ Refused OutOfMemory → ⊥
+    starved own is = clash (sym (ap (λ r. is_starved_by plan g past (Asked request) (Replied r)) is ∙ starved_own plan g past request own) ∙ fed)
+      where
+        clash : true ≡ false → ⊥
+        clash e = cc
+
+    new_tenant : is_stopped past ≡ false → is_admitted_by plan past request ≡ true → reply ≡ past_answer plan past request → (token : List ℕ) (row : TenantRow) → request ≡ AddTenant token row → reply ≡ Done → row_of row.tenant (tenants_in past) ≡ None
+    new_tenant running admitted is token row same done =
+        none_of (row_of row.tenant (tenants_in past)) (tenant_new plan.places (reserved (tenants_in past)) (is_some (row_of row.tenant (tenants_in past))) row
+        (sym (ap (admitted_answer plan past) same) ∙ (sym (running_answer plan past request reply running true admitted) ∙ (sym is ∙ done))))
+
+    unnamed : is_own plan g past request ≡ false → is_admitted_by plan past request ≡ true → is_named g request ≡ false
+    unnamed other admitted = first (is_named g request) (is_admitted_by plan past request) other admitted
+      where
+        first : (p q : Bool) → (p && q) ≡ false → q ≡ true → p ≡ false
+        first true true off on = off
+        first true false off on = absurd (cc)
+        first false q off on = refl
+
+    foreign : is_stopped past ≡ false → is_own plan g past request ≡ false → reply ≡ past_answer plan past request → ((is_admitted_by plan past request ≡ true) ⊎ (is_admitted_by plan past request ≡ false)) → Wanted reply
+    foreign running other is (inl admitted) = other_goes plan g past frames_from group request reply running other (unnamed other admitted) (new_tenant running admitted is) fits
+    foreign running other is (inr denied) = subst Wanted (sym (is ∙ running_answer plan past request reply running false denied)) (refusal_passes plan g past frames_from group request Denied running other fits)
+
+    go : ((is_stopped past ≡ true) ⊎ (is_stopped past ≡ false)) → ((is_own plan g past request ≡ true) ⊎ (is_own plan g past request ≡ false)) → IsAsked plan past request reply → Wanted reply
+    go (inl stopped) own answer = subst Wanted (sym (stopped_reply plan past request reply stopped answer)) (stopped_goes plan g past request frames_from group stopped fits)
+    go (inr running) (inl own) (inl wants) = absurd (starved own wants.0)
+    go (inr running) (inl own) (inr is) =
+        own_goes plan g past frames_from group request reply few below fresh running own (is ∙ running_answer plan past request reply running true (and_parts (is_named g request) (is_admitted_by plan past request) own).1) fits
+    go (inr running) (inr other) (inl wants) = subst Wanted (sym wants.0) (refusal_passes plan g past frames_from group request OutOfMemory running other fits)
+    go (inr running) (inr other) (inr is) = foreign running other is (cases_Bool (is_admitted_by plan past request))

@@ -1,0 +1,287 @@
+-- A group behaves in every run as it would alone.
+use Rattle.std.proofs.Common.{◌≡◌, ◌≢◌, ℕ, ◌+◌, ◌-◌, ◌<◌, ◌≤◌, List, [], ◌∷◌, ◌++◌, length, Some, None, Bool, true, false, not, ◌⊎◌, inl, inr, refl, sym, ◌∙◌, ap, subst, arith}
+use Rattle.std.specs.Prelude.{map, nat_eq, slice_get, if◌then◌else◌}
+use Rattle.std.specs.List.{list_any}
+use Rattle.std.proofs.lemmas.Bool.{and_parts, cases_eq, ne_eqb}
+use Rattle.std.proofs.lemmas.Bool.Decides.{nat_tests}
+use Rattle.std.proofs.lemmas.List.{append-nil}
+use Rattle.std.proofs.lemmas.List.Sums.{fold-append}
+use Rattle.gb_types.specs.declared.address.Addr.{Addr}
+use Rattle.gb_types.specs.declared.limits.TheConstants.{NODES}
+use Rattle.gb_types.specs.declared.node.NodeId.{NodeId}
+use Rattle.gb_types.proofs.SameLemmas.{same_number}
+use Rattle.gb_frame.specs.declared.item.Item.{Item}
+use Rattle.gb_frame.specs.Packet.{Content}
+use Rattle.gb_slot.specs.SlotState.{SlotState}
+use Rattle.gb_alone.specs.Alone.{Group, Member, nobody, after, alone, alone_from, is_own}
+use Rattle.gb_alone.specs.Laws.{accepted}
+use Rattle.gb_alone.proofs.AcceptedLemmas.{alone_said, length-own_said}
+use Rattle.gb_alone.proofs.IntegrityLemmas.{is_integral}
+use Rattle.gb_groups.specs.OneGroup.{waiting_in}
+use Rattle.gb_node.specs.NodeStep.{node_numbered}
+use Rattle.gb_node.specs.Past.{Happened, ComesTo as NodeComesTo, read, frames_to, is_acked, is_first, is_taken, is_stopped, packed_for}
+use Rattle.gb_node.specs.PastGroups.{group_of}
+use Rattle.gb_node.specs.StepLaw.{IsAnswered, AnswersSay}
+use Rattle.gb_node.specs.declared.answer.Good.{Good}
+use Rattle.gb_node.specs.declared.answer.NodeAnswer.{NodeAnswer}
+use Rattle.gb_node.specs.declared.answer.NodeAnswer.TheVariants.{Reply as Replied, Taken, Sent, Ticked}
+use Rattle.gb_node.specs.declared.answer.PacketAnswer.TheVariants.{Good as TakenGood}
+use Rattle.gb_node.specs.declared.answer.Sent.TheVariants.{Packet as SentPacket}
+use Rattle.gb_node.specs.declared.answer.Ticked.TheVariants.{Noticed}
+use Rattle.gb_node.specs.declared.event.NodeEvent.{NodeEvent}
+use Rattle.gb_node.specs.declared.event.NodeEvent.TheVariants.{Request as Asked, Packet as Brought, Pack, Tick}
+use Rattle.gb_network.specs.NetworkValue.{NetworkValue, node_plan, node_at}
+use Rattle.gb_network.specs.Links.{IsAlwaysWhole, LinksHold}
+use Rattle.gb_network.specs.Run.{Did, ComesTo, past_at}
+use Rattle.gb_network.specs.declared.plan.NetworkPlan.{NetworkPlan}
+use Rattle.gb_network.proofs.NodesLemmas.{Stays, stays, have_pasts, past_same, past_other}
+use Rattle.gb_node.specs.declared.plan.NodePlan.{NodePlan}
+use Rattle.gb_node.specs.Past.{added, tenants_in}
+use Rattle.gb_isolation.specs.Project.{made_by, gives, project, items_of, is_fed, is_starved_by, is_new_frame, made_with, replies_in, is_met}
+use Rattle.gb_isolation.proofs.View.{View, view_of, view_at, frames_for, AreMarked, SlotIs, SlotStands, Fits, Goes, AllFit, BehavesAlone}
+use Rattle.gb_isolation.proofs.NextLemmas.{none_beyond_accepted, none_of_front}
+use Rattle.gb_isolation.proofs.ArriveLemmas.{arrived_goes}
+use Rattle.gb_isolation.proofs.FitLemmas.{frames_fit}
+use Rattle.gb_isolation.proofs.RequestLemmas.{asked_goes}
+use Rattle.gb_isolation.proofs.GoesLemmas.{legal-append}
+use Rattle.gb_isolation.proofs.MarkLemmas.{marks_more, offset_none}
+use Rattle.gb_isolation.proofs.PackLemmas.{packed_goes}
+use Rattle.gb_isolation.proofs.PastLemmas.{running_unmet}
+use Rattle.gb_types.specs.declared.request.Request.{Request}
+use Rattle.gb_types.specs.declared.request.Request.TheVariants.{AddTenant, Make}
+use Rattle.gb_isolation.proofs.QuietLemmas.{quiet_goes}
+use Rattle.gb_isolation.proofs.TickLemmas.{ticked_goes}
+
+-- more frames from other nodes, where the marks of those before are the marks of all
+fits_frames : (nodes : ℕ) (g : Addr) (me : ℕ) (from later : ℕ → List (List Item)) (v : View) (m : Member) → ((b : ℕ) → b < nodes → AreMarked g (from b) (v.taken b) (m.come b) → AreMarked g (later b) (v.taken b) (m.come b))
+    → Fits nodes g me from v m → Fits nodes g me later v m
+fits_frames nodes g me from later v m more was = record {
+  reserve = was.reserve;
+  slot = was.slot;
+  inside = was.inside;
+  put = was.put;
+  taken = was.taken;
+  replies = was.replies;
+  spec = was.spec;
+  noticed = was.noticed;
+  stopped = was.stopped;
+  come = λ b inside. more b inside (was.come b inside);
+  done = was.done;
+  acks = was.acks;
+}
+
+-- A new network.
+
+none_marked : (g : Addr) (test : ℕ → Bool) → AreMarked g [] test []
+unfolding items_of
+none_marked g test = record {
+  each = λ n place low high. absurd (omega (arith, low, high, offset_none g (n + 1), offset_none g n));
+  beyond = λ place above. refl;
+}
+
+new_fits : (plan : NetworkPlan) (g : Addr) → AllFit plan g [] nobody
+unfolding past_at frames_to items_of is_acked is_taken tenants_in group_of made_with replies_in is_met
+new_fits plan g a inside = record {
+  reserve = refl;
+  slot = record { spec = refl; phase = refl; told = refl };
+  inside = λ s is. absurd (cc);
+  put = λ b in_b. refl;
+  taken = λ b in_b. refl;
+  replies = refl;
+  spec = refl;
+  noticed = λ b. refl;
+  stopped = refl;
+  come = λ b in_b. none_marked g (λ n. false);
+  done = λ b in_b. none_marked g (λ n. false);
+  acks = λ s is. absurd (cc);
+}
+
+-- A step.
+
+-- a node packs nothing for itself
+not_to_self : (plan : NodePlan) (past : List Happened) (e : NodeEvent) (x : NodeAnswer) → IsAnswered plan past e x → packed_for plan.cluster_key plan.me.number e x ≡ []
+not_to_self plan past (Pack b) (Sent (SentPacket text)) answered = ap (λ t. if t then map (λ (c : Content). c.items) (read plan.cluster_key text) else []) (ne_eqb b.number plan.me.number answered.apart)
+not_to_self plan past e x answered = refl
+
+abbrev is_reply : NodeAnswer → Bool
+is_reply (Replied reply) = true
+is_reply x = false
+
+-- a request that is answered by no reply adds no tenant and makes no group
+not_replied : (g : Addr) (request : Request) (x : NodeAnswer) → is_reply x ≡ false → (added (Asked request) x ≡ []) × (made_by g (Asked request) x ≡ None)
+not_replied g request (Replied reply) no_reply = absurd (cc)
+not_replied g (AddTenant token row) x no_reply = (refl, refl)
+not_replied g (Make token addr spec) x no_reply = (refl, refl)
+not_replied g request x no_reply = (refl, refl)
+
+-- The laws of nodes and links that the theorem stands on.
+pub record Laws : Type 0 where
+  pub answers : AnswersSay
+  pub links : LinksHold
+  pub new : (plan : NetworkPlan) (run : List Did) (a : NodeId) (bytes : List ℕ) (good : Good) (v : NetworkValue) (c : Content) → ComesTo plan (record { node = a; event = Brought bytes; answer = Taken (TakenGood good) } ∷ run) v → read plan.cluster_key bytes ≡ c ∷ []
+      → is_first good.frame ≡ is_new_frame plan.cluster_key (past_at a run) c
+
+module _ (laws : Laws) (plan : NetworkPlan) (g : Addr) (run : List Did) (before : NetworkValue) (comes : ComesTo plan run before) (was : BehavesAlone plan g run) where
+  abbrev group : Group
+  group = alone plan.nodes g.group (project plan g run)
+
+  few : plan.nodes ≤ NODES
+  few = (stays plan run before comes).right.few
+
+  -- no item that is carried has the number that is said next
+  unsaid : (a : NodeId) → a.number < plan.nodes → (s : SlotState) → group_of (node_plan plan a) g (past_at a run) ≡ Some (Some s) → (b : ℕ) → b < plan.nodes
+      → list_any (is_own a.number (s.said + 1)) (items_of g (frames_to plan.cluster_key b (past_at a run))) ≡ false
+  unsaid a within s there b in_b =
+      none_of_front (is_own a.number (s.said + 1)) (items_of g (frames_to plan.cluster_key b (past_at a run))) (waiting_in (group_of (node_plan plan a) g (past_at a run)) b)
+      (ap (list_any (is_own a.number (s.said + 1))) (sym ((was.fits a within).put b in_b))
+      ∙ none_beyond_accepted (accepted plan.nodes g.group (project plan g run)) a.number (s.said + 1) ((group a.number).put b) low ((is_integral plan.nodes g.group (project plan g run) was.legal).items a.number b))
+    where
+      st : SlotStands a.number s (group a.number)
+      st = subst (λ o. SlotIs a.number o (group a.number)) there (was.fits a within).slot
+
+      low : length (accepted plan.nodes g.group (project plan g run) a.number) < s.said + 1
+      low = omega (arith, st.history.said, ap length (alone_said plan.nodes g.group a.number (project plan g run)), length-own_said (group a.number).told)
+
+  -- what an event gives the group
+  step_goes : (a : NodeId) (e : NodeEvent) (x : NodeAnswer) (v : NetworkValue) → a.number < plan.nodes → ComesTo plan (record { node = a; event = e; answer = x } ∷ run) v → IsAnswered (node_plan plan a) (past_at a run) e x
+      → is_starved_by (node_plan plan a) g (past_at a run) e x ≡ false
+      → Goes plan.nodes g a (frames_for plan run a) (view_of (node_plan plan a) g (record { event = e; answer = x } ∷ past_at a run)) group (gives plan g run a e x)
+  unfolding IsAlwaysWhole
+  step_goes a (Asked request) (Replied reply) v within goes answered fed =
+      asked_goes (node_plan plan a) g (past_at a run) request reply (frames_for plan run a) group few
+      (λ b is. laws.answers.noticed (node_plan plan a) (past_at a run) (node_at before a) b (have_pasts plan run before a comes within) is) (unsaid a within) answered fed (was.fits a within)
+  step_goes a (Pack b) (Sent (SentPacket text)) v within goes answered fed = packed_goes (node_plan plan a) g (past_at a run) b text (frames_for plan run a) group few answered (was.fits a within)
+  step_goes a Tick (Ticked (Noticed found)) v within goes answered fed = ticked_goes (node_plan plan a) g (past_at a run) found (frames_for plan run a) group few answered (was.fits a within)
+  step_goes a (Brought bytes) (Taken (TakenGood good)) v within goes answered fed =
+      arrived_goes plan g run a bytes good group few within answered (laws.new plan run a bytes good v answered.content goes answered.text_is) whole (laws.links.covered plan run (record { node = a; event = Brought bytes; answer = Taken (TakenGood good) }) v goes answered.content answered.text_is below) (frames_fit laws.answers plan g run before comes) was.fits stops
+    where
+      below : answered.content.from < NODES
+      below = let inside = answered.inside in let most = few in omega (arith, inside, most)
+
+      stops : (b : NodeId) → b.number < plan.nodes → (group b.number).stopped ≡ true → is_stopped (past_at b run) ≡ true
+      stops b inside is = go (is_stopped (past_at b run)) refl
+        where
+          go : (t : Bool) → is_stopped (past_at b run) ≡ t → is_stopped (past_at b run) ≡ true
+          go true at = at
+          go false at = absurd (clash (sym is ∙ ((was.fits b inside).stopped ∙ running_unmet (node_plan plan b) g (past_at b run) at)))
+            where
+              clash : true ≡ false → ⊥
+              clash e = cc
+
+      whole : is_first good.frame ≡ true → slice_get (frames_to plan.cluster_key a.number (past_at (node_numbered answered.content.from) run)) (answered.content.frame - 1) ≡ Some answered.content.items
+      whole first = ((laws.links.whole plan (record { node = a; event = Brought bytes; answer = Taken (TakenGood good) } ∷ run) v goes).0 answered.content (ap (λ t. if t then read plan.cluster_key bytes else []) first ∙ answered.text_is)).2
+  step_goes a (Asked request) x v within goes answered fed = quiet_goes (node_plan plan a) g (past_at a run) (Asked request) x (frames_for plan run a) group (record {
+    packed = λ b. refl;
+    none_came = refl;
+    none_taken = λ b n. refl;
+    no_tick = refl;
+    none_added = (not_replied g request x refl).0;
+    same_group = refl;
+    not_made = (not_replied g request x refl).1;
+    no_reply = refl;
+    unmet = refl;
+  }) (was.fits a within)
+  step_goes a e x v within goes answered fed = quiet_goes (node_plan plan a) g (past_at a run) e x (frames_for plan run a) group (record {
+    packed = λ b. refl;
+    none_came = refl;
+    none_taken = λ b n. refl;
+    no_tick = refl;
+    none_added = refl;
+    same_group = refl;
+    not_made = refl;
+    no_reply = refl;
+    unmet = refl;
+  }) (was.fits a within)
+
+  -- the group behaves so after the step
+  pub goes_further : (a : NodeId) (e : NodeEvent) (x : NodeAnswer) (v : NetworkValue) → ComesTo plan (record { node = a; event = e; answer = x } ∷ run) v → is_starved_by (node_plan plan a) g (past_at a run) e x ≡ false
+      → BehavesAlone plan g (record { node = a; event = e; answer = x } ∷ run)
+  unfolding project ComesTo frames_to
+  goes_further a e x v goes fed = record {
+    legal = legal-append plan.nodes g.group nobody (project plan g run) (gives plan g run a e x) was.legal happens.legal;
+    fits = λ b inside. subst (λ (q : Group). Fits plan.nodes g b.number (frames_for plan (d ∷ run) b) (view_at plan g (d ∷ run) b) (q b.number)) (sym on) (by b inside (cases_eq a.number b.number));
+  }
+    where
+      d : Did
+      d = record { node = a; event = e; answer = x }
+
+      later : Group
+      later = alone_from plan.nodes g.group group (gives plan g run a e x)
+
+      on : alone plan.nodes g.group (project plan g run ++ gives plan g run a e x) ≡ later
+      on = fold-append (after plan.nodes g.group) nobody (project plan g run) (gives plan g run a e x)
+
+      kept : Stays plan goes.0
+      kept = stays plan run goes.0 goes.1
+
+      within : a.number < plan.nodes
+      within = let placed = goes.3.placed in let count = kept.count in omega (arith, placed, count)
+
+      answered : IsAnswered (node_plan plan a) (past_at a run) e x
+      answered = laws.answers.each (node_plan plan a) (past_at a run) e x (node_at v a) (subst (λ hs. NodeComesTo (node_plan plan a) hs (node_at v a)) (past_same a d run refl) (have_pasts plan (d ∷ run) v a goes within))
+
+      happens : Goes plan.nodes g a (frames_for plan run a) (view_of (node_plan plan a) g (record { event = e; answer = x } ∷ past_at a run)) group (gives plan g run a e x)
+      happens = step_goes a e x v within goes answered fed
+
+      -- the frames that a node packed for another, after the step
+      frames_later : (b : NodeId) (y : ℕ) → frames_for plan (d ∷ run) b y ≡ frames_for plan run b y ++ (if nat_eq a.number (node_numbered y).number then packed_for plan.cluster_key b.number e x else [])
+      frames_later b y = go (cases_eq a.number (node_numbered y).number)
+        where
+          go : (a.number ≡ (node_numbered y).number) ⊎ (a.number ≢ (node_numbered y).number) → frames_for plan (d ∷ run) b y ≡ frames_for plan run b y ++ (if nat_eq a.number (node_numbered y).number then packed_for plan.cluster_key b.number e x else [])
+          go (inl same) = ap (frames_to plan.cluster_key b.number) (past_same (node_numbered y) d run same) ∙ ap (λ t. frames_for plan run b y ++ (if t then packed_for plan.cluster_key b.number e x else [])) (sym (eq_test same))
+            where
+              eq_test : a.number ≡ (node_numbered y).number → nat_eq a.number (node_numbered y).number ≡ true
+              eq_test s = grind (arith, nat_tests, s)
+          go (inr other) = ap (frames_to plan.cluster_key b.number) (past_other (node_numbered y) d run other) ∙ (sym (append-nil (frames_for plan run b y)) ∙ ap (λ t. frames_for plan run b y ++ (if t then packed_for plan.cluster_key b.number e x else [])) (sym (ne_eqb a.number (node_numbered y).number other)))
+
+      here : Fits plan.nodes g a.number (frames_for plan (d ∷ run) a) (view_at plan g (d ∷ run) a) (later a.number)
+      here = subst (λ hs. Fits plan.nodes g a.number (frames_for plan (d ∷ run) a) (view_of (node_plan plan a) g hs) (later a.number)) (sym (past_same a d run refl))
+          (fits_frames plan.nodes g a.number (frames_for plan run a) (frames_for plan (d ∷ run) a) (view_of (node_plan plan a) g (record { event = e; answer = x } ∷ past_at a run)) (later a.number)
+          (λ y in_y marked. subst (λ fs. AreMarked g fs ((view_of (node_plan plan a) g (record { event = e; answer = x } ∷ past_at a run)).taken y) ((later a.number).come y)) (sym (frames_later a y ∙ (ap (λ fs. frames_for plan run a y ++ fs) (none y) ∙ append-nil (frames_for plan run a y)))) marked)
+          happens.there)
+        where
+          none : (y : ℕ) → (if nat_eq a.number (node_numbered y).number then packed_for plan.cluster_key a.number e x else []) ≡ []
+          none y = ap (λ fs. if nat_eq a.number (node_numbered y).number then fs else []) (not_to_self (node_plan plan a) (past_at a run) e x answered) ∙ either (nat_eq a.number (node_numbered y).number)
+            where
+              nothing : List (List Item)
+              nothing = []
+
+              either : (t : Bool) → (if t then nothing else nothing) ≡ nothing
+              either true = refl
+              either false = refl
+
+      elsewhere : (b : NodeId) → b.number < plan.nodes → a.number ≢ b.number → Fits plan.nodes g b.number (frames_for plan (d ∷ run) b) (view_at plan g (d ∷ run) b) (later b.number)
+      elsewhere b inside other =
+          subst (λ hs. Fits plan.nodes g b.number (frames_for plan (d ∷ run) b) (view_of (node_plan plan b) g hs) (later b.number)) (sym (past_other b d run other))
+          (subst (Fits plan.nodes g b.number (frames_for plan (d ∷ run) b) (view_at plan g run b)) (sym (happens.elsewhere b.number (λ same. other (sym same))))
+          (fits_frames plan.nodes g b.number (frames_for plan run b) (frames_for plan (d ∷ run) b) (view_at plan g run b) (group b.number)
+          (λ y in_y marked. subst (λ fs. AreMarked g fs ((view_at plan g run b).taken y) ((group b.number).come y)) (sym (frames_later b y))
+          (marks_more g (frames_for plan run b y) (if nat_eq a.number (node_numbered y).number then packed_for plan.cluster_key b.number e x else []) ((view_at plan g run b).taken y) ((group b.number).come y) (untaken y in_y) marked))
+          (was.fits b inside)))
+        where
+          untaken : (y : ℕ) → y < plan.nodes → (n : ℕ) → length (frames_for plan run b y) < n → is_taken plan.cluster_key y n (past_at b run) ≡ false
+          untaken y in_y n far = go (is_taken plan.cluster_key y n (past_at b run)) refl
+            where
+              go : (t : Bool) → is_taken plan.cluster_key y n (past_at b run) ≡ t → is_taken plan.cluster_key y n (past_at b run) ≡ false
+              go true is =
+                  let most = few in
+                  let number : (node_numbered y).number ≡ y = omega (arith, in_y, most) in
+                  let low = ((laws.links.each plan run before comes (node_numbered y) b).taken n (ap (λ k. is_taken plan.cluster_key k n (past_at b run)) number ∙ is)).1 in
+                  absurd (omega (arith, low, far))
+              go false is = is
+
+      by : (b : NodeId) → b.number < plan.nodes → (a.number ≡ b.number) ⊎ (a.number ≢ b.number) → Fits plan.nodes g b.number (frames_for plan (d ∷ run) b) (view_at plan g (d ∷ run) b) (later b.number)
+      by b inside (inl same) = subst (λ (c : NodeId). Fits plan.nodes g c.number (frames_for plan (d ∷ run) c) (view_at plan g (d ∷ run) c) (later c.number)) (same_number a b same) here
+      by b inside (inr other) = elsewhere b inside other
+
+-- every group of which no request was refused for want of memory behaves so in every run
+pub behaves : Laws → (plan : NetworkPlan) (g : Addr) (run : List Did) (v : NetworkValue) → ComesTo plan run v → is_fed plan g run ≡ true → BehavesAlone plan g run
+unfolding ComesTo is_fed project
+behaves laws plan g [] v comes fed = record { legal = tt; fits = new_fits plan g }
+behaves laws plan g (d ∷ run) v comes fed =
+    let parts = and_parts (not (is_starved_by (node_plan plan d.node) g (past_at d.node run) d.event d.answer)) (is_fed plan g run) fed in
+    goes_further laws plan g run comes.0 comes.1 (behaves laws plan g run comes.0 comes.1 parts.1) d.node d.event d.answer v comes (off (is_starved_by (node_plan plan d.node) g (past_at d.node run) d.event d.answer) parts.0)
+  where
+    off : (b : Bool) → not b ≡ true → b ≡ false
+    off true is = absurd (cc)
+    off false is = refl

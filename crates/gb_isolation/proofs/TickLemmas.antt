@@ -1,0 +1,276 @@
+-- What a tick that notices nodes makes of a group.
+use Rattle.std.proofs.Common.{◌≡◌, ℕ, zero, suc, ◌+◌, ◌<◌, ◌≤◌, List, [], ◌∷◌, ◌++◌, length, get_or, Option, Some, None, Bool, true, false, cond, ◌&&◌, ◌||◌, refl, sym, ◌∙◌, ap, subst, arith}
+use Rattle.std.specs.Prelude.{nat_eq, nat_le, fold, filter, option_map, if◌then◌else◌}
+use Rattle.std.specs.FinSet as set
+use Rattle.std.specs.List.{range_with_len}
+use Rattle.std.specs.Ordering.{nat_cmp}
+use Rattle.std.proofs.lemmas.Bool.{and_right, and_parts}
+use Rattle.std.proofs.Math.Bool.{or-false}
+use Rattle.std.proofs.lemmas.List.{append-nil}
+use Rattle.gb_types.specs.Rising.{rising}
+use Rattle.gb_types.specs.declared.address.Addr.{Addr}
+use Rattle.gb_types.specs.declared.entry.Entry.{Entry}
+use Rattle.gb_types.specs.declared.limits.TheConstants.{NODES}
+use Rattle.gb_types.specs.declared.node.NodeId.{NodeId}
+use Rattle.gb_types.specs.declared.spec.Spec.{Spec}
+use Rattle.gb_frame.specs.declared.item.Item.{Item}
+use Rattle.gb_layer.specs.declared.call.Call.TheVariants.{Notice as Crash}
+use Rattle.gb_rules.specs.Group.{is_other}
+use Rattle.gb_rules.specs.Tenant.{reserve_of, row_of}
+use Rattle.gb_slot.specs.Slot.{slot_called, slot_noticed}
+use Rattle.gb_slot.specs.SlotState.{SlotState}
+use Rattle.gb_alone.specs.Alone.{Member, Group, node_noticed, is_marked, is_acknowledged}
+use Rattle.gb_groups.specs.OneGroup.{stepped, waiting_in}
+use Rattle.gb_node.specs.NodeStep.{node_numbered}
+use Rattle.gb_node.specs.Past.{Happened, frames_to, is_acked, is_taken, tenants_in}
+use Rattle.gb_node.specs.PastGroups.{noticed_for, group_of}
+use Rattle.gb_node.specs.StepLaw.{IsTicked}
+use Rattle.gb_node.specs.declared.answer.NodeAnswer.TheVariants.{Ticked}
+use Rattle.gb_node.specs.declared.answer.Ticked.TheVariants.{Noticed}
+use Rattle.gb_node.specs.declared.event.NodeEvent.TheVariants.{Tick}
+use Rattle.gb_node.specs.declared.plan.NodePlan.{NodePlan}
+use Rattle.gb_isolation.specs.Project.{items_of, made_with, replies_in, is_met, ticked}
+use Rattle.gb_isolation.proofs.View.{View, view_of, Fits, Goes, SlotIs, AreMarked, KeepsAcks, IsInside, is_concerned}
+use Rattle.gb_isolation.proofs.GoesLemmas.{goes_none}
+use Rattle.gb_isolation.proofs.MemberLemmas.{KeepsRest, slot-noticed, put-noticed}
+use Rattle.gb_isolation.proofs.NoticeLemmas.{numbered_is, all_noticed, notice_keeps, notices_of, notices_there, notices_elsewhere, notices_keep, notices_mark, notices_legal, passing_rising, passing_marked}
+use Rattle.gb_isolation.proofs.PackLemmas.{inside_stepped}
+use Rattle.gb_isolation.proofs.PastLemmas.{running_unmet}
+
+-- The view.
+
+abbrev pub ticking : set.FinSet nat_cmp → Happened
+ticking found = record { event = Tick; answer = Ticked (Noticed found) }
+
+abbrev view_ticked : set.FinSet nat_cmp → View → View
+view_ticked found v = record v { slot = fold noticed_for v.slot (rising found); noticed = λ b. set.contains found b || v.noticed b }
+
+ticked_view : (plan : NodePlan) (g : Addr) (past : List Happened) (found : set.FinSet nat_cmp) → IsTicked plan past found → view_of plan g (ticking found ∷ past) ≡ view_ticked found (view_of plan g past)
+unfolding frames_to is_acked is_taken tenants_in group_of made_with replies_in is_met
+ticked_view plan g past found right = λ i. record {
+  reserve = option_map reserve_of (row_of g.tenant (append-nil (tenants_in past) i));
+  slot = fold noticed_for (group_of plan g past) (rising found);
+  made = made_with g past;
+  noticed = λ b. right.later b i;
+  replies = append-nil (replies_in plan g past) i;
+  met = is_met plan g past;
+  frames = λ x. append-nil (frames_to plan.cluster_key x past) i;
+  acked = λ x n. (ap (λ t. is_acked plan.cluster_key x n past || t) (and_right (nat_le n (length (frames_to plan.cluster_key x past))) false refl) ∙ or-false (is_acked plan.cluster_key x n past)) i;
+  taken = λ x n. is_taken plan.cluster_key x n past;
+}
+
+-- The slot.
+
+-- the slot stands for the group, of whose items these are carried
+record SlotFits (nodes me : ℕ) (o : Option (Option SlotState)) (m : Member) (carried : ℕ → List Entry) : Type 0 where
+  slot : SlotIs me o m
+  inside : IsInside nodes o
+  put : (b : ℕ) → b < nodes → m.put b ≡ carried b ++ waiting_in o b
+  taken : (b : ℕ) → b < nodes → m.taken b ≡ length (carried b)
+  acks : KeepsAcks nodes me o carried m.done
+
+spec-noticed : (q : NodeId) (s : SlotState) → (slot_noticed q s).spec ≡ s.spec
+spec-noticed q s = go (is_other s.spec s.me.number q.number)
+  where
+    go : (b : Bool) → (if b then (let next = slot_called (Crash q) s.store s in record next { noticed = set.insert s.noticed q.number }) else s).spec ≡ s.spec
+    go true = refl
+    go false = refl
+
+acks-noticed : (q : NodeId) (s : SlotState) → (slot_noticed q s).acknowledged ≡ s.acknowledged
+acks-noticed q s = go (is_other s.spec s.me.number q.number)
+  where
+    go : (b : Bool) → (if b then (let next = slot_called (Crash q) s.store s in record next { noticed = set.insert s.noticed q.number }) else s).acknowledged ≡ s.acknowledged
+    go true = refl
+    go false = refl
+
+-- a step of a slot that leaves its acknowledgements keeps them
+pub acks_stepped : (nodes me : ℕ) (step : SlotState → SlotState) (o : Option (Option SlotState)) (carried : ℕ → List Entry) (done next : ℕ → List ℕ) → ((s : SlotState) → (step s).acknowledged ≡ s.acknowledged) → next ≡ done
+    → KeepsAcks nodes me o carried done → KeepsAcks nodes me (stepped step o) carried next
+acks_stepped nodes me step None carried done next same is was s eq = absurd (cc)
+acks_stepped nodes me step (Some None) carried done next same is was s eq = absurd (cc)
+acks_stepped nodes me step (Some (Some s)) carried done next same is was u eq = λ b k inside low.
+    let acks : u.acknowledged ≡ s.acknowledged = ap acks_in (sym eq) ∙ same s in
+    ap (λ xs. set.contains (get_or xs k set.empty) b) acks
+    ∙ (was s refl b k inside (subst (λ xs. k < length xs) acks low) ∙ ap (λ (d : ℕ → List ℕ). nat_eq b me || is_acknowledged me (k + 1) (d b) 1 (carried b)) (sym is))
+  where
+    acks_in : Option (Option SlotState) → List (set.FinSet nat_cmp)
+    acks_in None = u.acknowledged
+    acks_in (Some None) = u.acknowledged
+    acks_in (Some (Some x)) = x.acknowledged
+
+fits-noticed : (nodes me : ℕ) (q : NodeId) (o : Option (Option SlotState)) (m : Member) (carried : ℕ → List Entry) → SlotFits nodes me o m carried → SlotFits nodes me (stepped (slot_noticed q) o) (node_noticed me q m) carried
+fits-noticed nodes me q o m carried was = record {
+  slot = slot-noticed me q o m was.slot;
+  inside = inside_stepped nodes (slot_noticed q) o (spec-noticed q) was.inside;
+  put = λ b in_b. put-noticed me q o m b (carried b) was.slot (was.put b in_b) (was.taken b in_b);
+  taken = λ b in_b. ap (λ (f : ℕ → ℕ). f b) (notice_keeps me q m).taken ∙ was.taken b in_b;
+  acks = acks_stepped nodes me (slot_noticed q) o carried m.done (node_noticed me q m).done (acks-noticed q) (notice_keeps me q m).done was.acks;
+}
+
+-- a node that is no other member changes nothing
+foreign-noticed : (me b : ℕ) (s : SlotState) (m : Member) → b < NODES → SlotIs me (Some (Some s)) m → is_other s.spec me b ≡ false → slot_noticed (node_numbered b) s ≡ s
+foreign-noticed me b s m below st foreign = ap (λ (t : Bool). if t then (let next = slot_called (Crash (node_numbered b)) s.store s in record next { noticed = set.insert s.noticed (node_numbered b).number }) else s)
+    (ap (λ (k : ℕ). is_other s.spec k (node_numbered b).number) st.here ∙ (ap (is_other s.spec me) (numbered_is b below) ∙ foreign))
+
+-- nodes are noticed in the slot, and those of them that are other members in the group alone
+fits-all : (nodes me : ℕ) (new : ℕ → Bool) (low count : ℕ) (spec : Spec) (s : SlotState) (m : Member) (carried : ℕ → List Entry) → low + count ≤ NODES → s.spec ≡ spec → SlotFits nodes me (Some (Some s)) m carried
+    → SlotFits nodes me (fold noticed_for (Some (Some s)) (filter new (range_with_len low count))) (all_noticed me (filter (λ b. is_other spec me b && new b) (range_with_len low count)) m) carried
+fits-all nodes me new low zero spec s m carried few same was = was
+fits-all nodes me new low (suc count) spec s m carried few same was =
+    by (new low) (is_other spec me low) refl
+    (fits-all nodes me new (low + 1) count spec (slot_noticed (node_numbered low) s) (node_noticed me (node_numbered low) m) carried (omega arith) (spec-noticed (node_numbered low) s ∙ same) (fits-noticed nodes me (node_numbered low) (Some (Some s)) m carried was))
+    (fits-all nodes me new (low + 1) count spec s m carried (omega arith) same was)
+  where
+    slots : List ℕ
+    slots = filter new (range_with_len (low + 1) count)
+
+    members : List ℕ
+    members = filter (λ b. is_other spec me b && new b) (range_with_len (low + 1) count)
+
+    by : (is_new other : Bool) → is_other spec me low ≡ other
+        → SlotFits nodes me (fold noticed_for (Some (Some (slot_noticed (node_numbered low) s))) slots) (all_noticed me members (node_noticed me (node_numbered low) m)) carried
+        → SlotFits nodes me (fold noticed_for (Some (Some s)) slots) (all_noticed me members m) carried
+        → SlotFits nodes me (fold noticed_for (Some (Some s)) (cond is_new (low ∷ slots) slots)) (all_noticed me (cond (other && is_new) (low ∷ members) members) m) carried
+    by true true is noticed skipped = noticed
+    by true false is noticed skipped = subst (λ (t : SlotState). SlotFits nodes me (fold noticed_for (Some (Some t)) slots) (all_noticed me members m) carried)
+        (sym (foreign-noticed me low s m (omega arith) was.slot (ap (λ (x : Spec). is_other x me low) same ∙ is))) skipped
+    by false true is noticed skipped = skipped
+    by false false is noticed skipped = skipped
+
+-- where the group was dropped no notice changes anything but what is noticed
+fits-gone : (nodes me : ℕ) (found bs : List ℕ) (m : Member) (carried : ℕ → List Entry) → SlotFits nodes me (Some None) m carried → SlotFits nodes me (fold noticed_for (Some None) found) (all_noticed me bs m) carried
+fits-gone nodes me [] [] m carried was = was
+fits-gone nodes me [] (b ∷ bs) m carried was = fits-gone nodes me [] bs (node_noticed me (node_numbered b) m) carried (fits-noticed nodes me (node_numbered b) (Some None) m carried was)
+fits-gone nodes me (x ∷ found) bs m carried was = fits-gone nodes me found bs m carried was
+
+none_noticed : (found : List ℕ) → fold noticed_for None found ≡ None
+none_noticed [] = refl
+none_noticed (b ∷ found) = none_noticed found
+
+-- The group.
+
+module _ (plan : NodePlan) (g : Addr) (past : List Happened) (found : set.FinSet nat_cmp) (frames_from : ℕ → List (List Item)) (group : Group) (few : plan.nodes ≤ NODES) (right : IsTicked plan past found)
+    (was : Fits plan.nodes g plan.me.number frames_from (view_of plan g past) (group plan.me.number)) where
+  abbrev v : View
+  v = view_of plan g past
+
+  abbrev m : Member
+  m = group plan.me.number
+
+  abbrev carried : ℕ → List Entry
+  carried b = items_of g (v.frames b)
+
+  abbrev test : Spec → ℕ → Bool
+  test spec b = is_other spec plan.me.number b && set.contains found b
+
+  abbrev bs : Spec → List ℕ
+  bs spec = filter (test spec) (range_with_len 0 NODES)
+
+  slot_was : SlotFits plan.nodes plan.me.number v.slot m carried
+  slot_was = record { slot = was.slot; inside = was.inside; put = was.put; taken = was.taken; acks = was.acks }
+
+  slot_now : (o : Option (Option SlotState)) (spec : Spec) → m.spec ≡ Some spec → SlotFits plan.nodes plan.me.number o m carried → SlotFits plan.nodes plan.me.number (fold noticed_for o (rising found)) (all_noticed plan.me.number (bs spec) m) carried
+  unfolding rising
+  slot_now None spec is fits = absurd (clash (sym is ∙ fits.slot.spec))
+    where
+      clash : Some spec ≡ None → ⊥
+      clash e = cc
+  slot_now (Some None) spec is fits = fits-gone plan.nodes plan.me.number (filter (set.contains found) (range_with_len 0 NODES)) (bs spec) m carried fits
+  slot_now (Some (Some s)) spec is fits = fits-all plan.nodes plan.me.number (set.contains found) 0 NODES spec s m carried (omega arith) (some_same (sym fits.slot.spec ∙ is)) fits
+    where
+      some_same : Some s.spec ≡ Some spec → s.spec ≡ spec
+      some_same e = ap (λ (x : Option Spec). spec_or x) e
+        where
+          spec_or : Option Spec → Spec
+          spec_or None = spec
+          spec_or (Some x) = x
+
+  -- a node that is found is a node's number
+  node_found : (b : ℕ) → set.contains found b ≡ true → b < NODES
+  node_found b is = let low = (right.inside b is).0 in omega (arith, low, few)
+
+  goes_made : (spec : Spec) → v.made ≡ Some spec → Goes plan.nodes g plan.me frames_from (view_ticked found v) group (notices_of plan.me (bs spec))
+  goes_made spec is = record {
+    legal = notices_legal plan.nodes g.group plan.me 0 (bs spec) group (passing_rising (test spec) 0 NODES (omega arith)) (was.stopped ∙ running_unmet plan g past right.running) fresh;
+    elsewhere = λ x other. notices_elsewhere plan.nodes g.group plan.me (bs spec) group x other;
+    there = subst (Fits plan.nodes g plan.me.number frames_from (view_ticked found v)) (sym (notices_there plan.nodes g.group plan.me (bs spec) group)) (record {
+      reserve = keeps.reserve ∙ was.reserve;
+      slot = now.slot;
+      inside = now.inside;
+      put = now.put;
+      taken = now.taken;
+      replies = keeps.replies ∙ was.replies;
+      spec = keeps.spec ∙ was.spec;
+      noticed = noticed_now;
+      stopped = keeps.stopped ∙ was.stopped;
+      come = λ b inside. subst (λ (c : ℕ → List ℕ). AreMarked g (frames_from b) (v.taken b) (c b)) (sym keeps.come) (was.come b inside);
+      done = λ b inside. subst (λ (c : ℕ → List ℕ). AreMarked g (v.frames b) (v.acked b) (c b)) (sym keeps.done) (was.done b inside);
+      acks = now.acks;
+    });
+  }
+    where
+      keeps : KeepsRest m (all_noticed plan.me.number (bs spec) m)
+      keeps = notices_keep plan.me.number (bs spec) m
+
+      now : SlotFits plan.nodes plan.me.number (fold noticed_for v.slot (rising found)) (all_noticed plan.me.number (bs spec) m) carried
+      now = slot_now v.slot spec (was.spec ∙ is) slot_was
+
+      marked : (x : ℕ) → is_marked x (bs spec) ≡ test spec x
+      marked x = passing_marked (test spec) (λ y t. node_found y (and_parts (is_other spec plan.me.number y) (set.contains found y) t).1) x
+
+      fresh : (x : ℕ) → is_marked x (bs spec) ≡ true → is_marked x m.noticed ≡ false
+      fresh x there =
+          let new = (and_parts (is_other spec plan.me.number x) (set.contains found x) (sym (marked x) ∙ there)).1 in
+          was.noticed x ∙ and_right (is_concerned plan.me.number x v.made) (v.noticed x) (right.fresh x new)
+
+      noticed_now : (b : ℕ) → is_marked b (all_noticed plan.me.number (bs spec) m).noticed ≡ (is_concerned plan.me.number b v.made && (set.contains found b || v.noticed b))
+      noticed_now b =
+          notices_mark plan.me.number 0 (bs spec) m b (passing_rising (test spec) 0 NODES (omega arith))
+          ∙ ((λ i. marked b i || was.noticed b i)
+          ∙ (ap (λ o. test spec b || (is_concerned plan.me.number b o && v.noticed b)) is ∙ (by (is_other spec plan.me.number b) (set.contains found b) (v.noticed b) ∙ ap (λ o. is_concerned plan.me.number b o && (set.contains found b || v.noticed b)) (sym is))))
+        where
+          by : (o n w : Bool) → ((o && n) || (o && w)) ≡ (o && (n || w))
+          by true n w = refl
+          by false n w = refl
+
+  goes_unmade : v.made ≡ None → Goes plan.nodes g plan.me frames_from (view_ticked found v) group []
+  goes_unmade none = goes_none plan.nodes g plan.me frames_from (view_ticked found v) group (record {
+    reserve = was.reserve;
+    slot = subst (λ o. SlotIs plan.me.number o m) (sym later) was.slot;
+    inside = subst (IsInside plan.nodes) (sym later) was.inside;
+    put = λ b inside. was.put b inside ∙ ap (λ o. carried b ++ waiting_in o b) (sym later);
+    taken = was.taken;
+    replies = was.replies;
+    spec = was.spec;
+    noticed = λ b. was.noticed b ∙ ((λ i. is_concerned plan.me.number b (none i) && v.noticed b) ∙ ap (λ o. is_concerned plan.me.number b o && (set.contains found b || v.noticed b)) (sym none));
+    stopped = was.stopped;
+    come = was.come;
+    done = was.done;
+    acks = subst (λ o. KeepsAcks plan.nodes plan.me.number o carried m.done) (sym later) was.acks;
+  })
+    where
+      absent : (o : Option (Option SlotState)) → SlotIs plan.me.number o m → o ≡ None
+      absent None st = refl
+      absent (Some None) st = absurd (clash (sym st.made ∙ ap is_there (was.spec ∙ none)))
+        where
+          is_there : Option Spec → Bool
+          is_there None = false
+          is_there (Some s) = true
+
+          clash : true ≡ false → ⊥
+          clash e = cc
+      absent (Some (Some s)) st = absurd (clash (sym st.spec ∙ (was.spec ∙ none)))
+        where
+          clash : Some s.spec ≡ None → ⊥
+          clash e = cc
+
+      later : fold noticed_for v.slot (rising found) ≡ v.slot
+      later = ap (λ o. fold noticed_for o (rising found)) (absent v.slot was.slot) ∙ (none_noticed (rising found) ∙ sym (absent v.slot was.slot))
+
+  -- time passes, and nodes are noticed
+  pub ticked_goes : Goes plan.nodes g plan.me frames_from (view_of plan g (ticking found ∷ past)) group (ticked plan.me (set.contains found) (made_with g past))
+  ticked_goes = subst (λ w. Goes plan.nodes g plan.me frames_from w group (ticked plan.me (set.contains found) (made_with g past))) (sym (ticked_view plan g past found right)) (by v.made refl)
+    where
+      by : (o : Option Spec) → v.made ≡ o → Goes plan.nodes g plan.me frames_from (view_ticked found v) group (ticked plan.me (set.contains found) o)
+      by None is = goes_unmade is
+      by (Some spec) is = goes_made spec is

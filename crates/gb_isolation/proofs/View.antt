@@ -1,0 +1,142 @@
+-- What a group has at a node, read from the node's past, and how it stands for the group alone.
+use Rattle.std.specs.Prelude.{ℕ, ◌+◌, ◌≡◌, ◌≢◌, ◌≤◌, ◌<◌, ◌&&◌, ◌||◌, nat_eq, get_or, Bool, true, false, List, [], ◌++◌, length, Option, Some, None, is_some, option_map}
+use Rattle.std.specs.FinSet as set
+use Rattle.gb_types.specs.declared.address.Addr.{Addr}
+use Rattle.gb_types.specs.declared.entry.Entry.{Entry}
+use Rattle.gb_types.specs.declared.node.NodeId.{NodeId}
+use Rattle.gb_types.specs.declared.reply.Reply.{Reply}
+use Rattle.gb_types.specs.declared.spec.Spec.{Spec}
+use Rattle.gb_frame.specs.declared.item.Item.{Item}
+use Rattle.gb_rules.specs.Group.{is_gone, is_other, is_member}
+use Rattle.gb_rules.specs.Tenant.{reserve_of, row_of}
+use Rattle.gb_rules.specs.declared.phase.Phase.TheVariants.{Made, Gone}
+use Rattle.gb_rules.specs.declared.reserve.Reserve.{Reserve}
+use Rattle.gb_slot.specs.SlotState.{SlotState}
+use Rattle.gb_slot.specs.StandsFor.{StandsFor}
+use Rattle.gb_alone.specs.Alone.{Member, Group, alone, alone_from, is_marked, is_acknowledged, IsLegal, IsLegalFrom}
+use Rattle.gb_alone.specs.declared.event.GroupStep.{GroupStep}
+use Rattle.gb_groups.specs.OneGroup.{waiting_in}
+use Rattle.gb_node.specs.NodeStep.{node_numbered}
+use Rattle.gb_node.specs.Past.{Happened, frames_to, is_acked, is_taken, tenants_in}
+use Rattle.gb_node.specs.PastGroups.{noticed_in, group_of}
+use Rattle.gb_node.specs.declared.plan.NodePlan.{NodePlan}
+use Rattle.gb_network.specs.NetworkValue.{node_plan}
+use Rattle.gb_network.specs.Run.{Did, past_at}
+use Rattle.gb_network.specs.declared.plan.NetworkPlan.{NetworkPlan}
+use Rattle.gb_isolation.specs.Project.{project, items_of, offset, made_with, replies_in, is_met}
+
+-- What a group has at a node.
+pub record View : Type 0 where
+  -- what its tenant may have
+  pub reserve : Option Reserve
+  -- what is kept of it
+  pub slot : Option (Option SlotState)
+  -- what it was made with
+  pub made : Option Spec
+  -- whether a node is noticed there
+  pub noticed : ℕ → Bool
+  pub replies : List Reply
+  -- a request of it met the node's stop
+  pub met : Bool
+  -- the frames that were packed for each node, and which of them are acknowledged
+  pub frames : ℕ → List (List Item)
+  pub acked : ℕ → ℕ → Bool
+  -- which frames of each node were taken
+  pub taken : ℕ → ℕ → Bool
+
+abbrev pub view_of : NodePlan → Addr → List Happened → View
+view_of plan g past = record {
+  reserve = option_map reserve_of (row_of g.tenant (tenants_in past));
+  slot = group_of plan g past;
+  made = made_with g past;
+  noticed = set.contains (noticed_in plan past);
+  replies = replies_in plan g past;
+  met = is_met plan g past;
+  frames = λ b. frames_to plan.cluster_key b past;
+  acked = λ b n. is_acked plan.cluster_key b n past;
+  taken = λ b n. is_taken plan.cluster_key b n past;
+}
+
+-- The group alone at a node.
+
+-- the group was not made there
+pub record NotMade (m : Member) : Type 0 where
+  pub spec : m.spec ≡ None
+  pub phase : m.phase ≡ Made
+  pub told : m.told ≡ []
+
+-- the group was dropped there
+pub record WasDropped (m : Member) : Type 0 where
+  pub gone : m.phase ≡ Gone
+  pub made : is_some m.spec ≡ true
+
+-- the slot stands for the group there
+pub record SlotStands (me : ℕ) (s : SlotState) (m : Member) : Type 0 where
+  pub spec : m.spec ≡ Some s.spec
+  pub phase : m.phase ≡ s.phase
+  pub present : is_gone s.phase ≡ false
+  pub here : s.me.number ≡ me
+  pub history : StandsFor s m.told
+
+abbrev pub SlotIs : ℕ → Option (Option SlotState) → Member → Type 0
+SlotIs me None m = NotMade m
+SlotIs me (Some None) m = WasDropped m
+SlotIs me (Some (Some s)) m = SlotStands me s m
+
+-- of these frames' items those of the frames whose numbers pass the test are marked
+pub record AreMarked (g : Addr) (fs : List (List Item)) (test : ℕ → Bool) (marks : List ℕ) : Type 0 where
+  pub each : (n place : ℕ) → offset g fs n < place → place ≤ offset g fs (n + 1) → is_marked place marks ≡ test (n + 1)
+  -- and no place beyond
+  pub beyond : (place : ℕ) → length (items_of g fs) < place → is_marked place marks ≡ false
+
+-- a slot keeps of each of its own messages which nodes have it for good: this one, and those at whose places it is acknowledged
+abbrev pub KeepsAcks : ℕ → ℕ → Option (Option SlotState) → (ℕ → List Entry) → (ℕ → List ℕ) → Type 0
+KeepsAcks nodes me o carried done = (s : SlotState) → o ≡ Some (Some s) → (b k : ℕ) → b < nodes → k < length s.acknowledged → set.contains (get_or s.acknowledged k set.empty) b ≡ (nat_eq b me || is_acknowledged me (k + 1) (done b) 1 (carried b))
+
+-- the members of a slot's group are nodes of the cluster
+abbrev pub IsInside : ℕ → Option (Option SlotState) → Type 0
+IsInside nodes o = (s : SlotState) → o ≡ Some (Some s) → (b : ℕ) → is_member s.spec b ≡ true → b < nodes
+
+-- a node that was noticed is so in a group where it is another member
+abbrev pub is_concerned : ℕ → ℕ → Option Spec → Bool
+is_concerned me b None = false
+is_concerned me b (Some spec) = is_other spec me b
+
+-- The view is that of the group alone at the node me of so many, to which the other nodes packed these frames.
+pub record Fits (nodes : ℕ) (g : Addr) (me : ℕ) (frames_from : ℕ → List (List Item)) (v : View) (m : Member) : Type 0 where
+  pub reserve : m.reserve ≡ v.reserve
+  pub slot : SlotIs me v.slot m
+  pub inside : IsInside nodes v.slot
+  pub put : (b : ℕ) → b < nodes → m.put b ≡ items_of g (v.frames b) ++ waiting_in v.slot b
+  pub taken : (b : ℕ) → b < nodes → m.taken b ≡ length (items_of g (v.frames b))
+  pub replies : m.replies ≡ v.replies
+  pub spec : m.spec ≡ v.made
+  pub noticed : (b : ℕ) → is_marked b m.noticed ≡ (is_concerned me b v.made && v.noticed b)
+  pub stopped : m.stopped ≡ v.met
+  -- the items of the frames that were taken have come, and those of the frames that were acknowledged are done
+  pub come : (b : ℕ) → b < nodes → AreMarked g (frames_from b) (v.taken b) (m.come b)
+  pub done : (b : ℕ) → b < nodes → AreMarked g (v.frames b) (v.acked b) (m.done b)
+  pub acks : KeepsAcks nodes me v.slot (λ b. items_of g (v.frames b)) m.done
+
+-- What events give a group at a node: they may happen, after them the view is the group's there, and nothing else has changed.
+pub record Goes (nodes : ℕ) (g : Addr) (a : NodeId) (frames_from : ℕ → List (List Item)) (v : View) (group : Group) (given : List GroupStep) : Type 0 where
+  pub legal : IsLegalFrom nodes g.group group given
+  pub elsewhere : (x : ℕ) → x ≢ a.number → alone_from nodes g.group group given x ≡ group x
+  pub there : Fits nodes g a.number frames_from v (alone_from nodes g.group group given a.number)
+
+-- The whole network.
+
+-- the frames that each node packed for a node
+abbrev pub frames_for : NetworkPlan → List Did → NodeId → ℕ → List (List Item)
+frames_for plan run a b = frames_to plan.cluster_key a.number (past_at (node_numbered b) run)
+
+abbrev pub view_at : NetworkPlan → Addr → List Did → NodeId → View
+view_at plan g run a = view_of (node_plan plan a) g (past_at a run)
+
+-- each node's view is that of the group alone
+abbrev pub AllFit : NetworkPlan → Addr → List Did → Group → Type 0
+AllFit plan g run group = (a : NodeId) → a.number < plan.nodes → Fits plan.nodes g a.number (frames_for plan run a) (view_at plan g run a) (group a.number)
+
+pub record BehavesAlone (plan : NetworkPlan) (g : Addr) (run : List Did) : Type 0 where
+  pub legal : IsLegal plan.nodes g.group (project plan g run)
+  pub fits : AllFit plan g run (alone plan.nodes g.group (project plan g run))

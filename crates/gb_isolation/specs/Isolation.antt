@@ -1,0 +1,60 @@
+-- That a group in a run is what it is alone.
+use Rattle.std.specs.Prelude.{ℕ, ◌≡◌, ◌<◌, ◌++◌, true, List, [], Option, Some, None}
+use Rattle.gb_types.specs.declared.address.Addr.{Addr}
+use Rattle.gb_types.specs.declared.entry.Entry.{Entry}
+use Rattle.gb_types.specs.declared.node.NodeId.{NodeId}
+use Rattle.gb_types.specs.declared.reply.Reply.{Reply}
+use Rattle.gb_slot.specs.Slot.{shown}
+use Rattle.gb_slot.specs.SlotState.{SlotState}
+use Rattle.gb_groups.specs.OneGroup.{group_in, waiting_in}
+use Rattle.gb_node.specs.Past.{frames_to}
+use Rattle.gb_alone.specs.Alone.{Group, alone, IsLegal}
+use Rattle.gb_alone.specs.Laws.{log_of_member}
+use Rattle.gb_network.specs.NetworkValue.{NetworkValue, node_plan, node_at}
+use Rattle.gb_network.specs.Run.{Did, ComesTo, past_at}
+use Rattle.gb_network.specs.declared.plan.NetworkPlan.{NetworkPlan}
+use Rattle.gb_isolation.specs.Project.{project, items_of, replies_in, is_fed}
+
+-- what was delivered in a group; nothing where it was not made, or was dropped
+abbrev pub log_in : Option (Option SlotState) → List Entry
+log_in None = []
+log_in (Some None) = []
+log_in (Some (Some s)) = (shown s).log
+
+-- what is seen of a group at a node, and towards another node
+pub record Seen : Type 0 where
+  -- the replies to its commands
+  pub replies : List Reply
+  -- what was delivered
+  pub log : List Entry
+  -- the items put out to the other node: those that are carried, then those that wait
+  pub put : List Entry
+
+-- the group as a node keeps it
+abbrev pub group_at : NetworkValue → Addr → NodeId → Option (Option SlotState)
+group_at v g a = group_in g (node_at v a).table.groups.rows
+
+-- what is seen in a run: replies and carried items stand in what happened, log and waiting items in the nodes
+abbrev pub seen_in : NetworkPlan → List Did → NetworkValue → Addr → NodeId → NodeId → Seen
+seen_in plan run v g a b = record {
+  replies = replies_in (node_plan plan a) g (past_at a run);
+  log = log_in (group_at v g a);
+  put = items_of g (frames_to plan.cluster_key b.number (past_at a run)) ++ waiting_in (group_at v g a) b.number;
+}
+
+-- what is seen of a group alone
+abbrev pub seen_alone : Group → ℕ → ℕ → Seen
+seen_alone group a b = record { replies = (group a).replies; log = log_of_member a (group a); put = (group a).put b }
+
+-- the group alone, of what concerns it in the run
+abbrev pub alone_in : NetworkPlan → Addr → List Did → Group
+alone_in plan g run = alone plan.nodes g.group (project plan g run)
+
+-- the projection of the run is legal, and what is seen of the group is what the projection makes of it alone
+pub record IsIsolated (plan : NetworkPlan) (run : List Did) (v : NetworkValue) (g : Addr) : Type 0 where
+  pub legal : IsLegal plan.nodes g.group (project plan g run)
+  pub same : (a b : NodeId) → a.number < plan.nodes → b.number < plan.nodes → seen_in plan run v g a b ≡ seen_alone (alone_in plan g run) a.number b.number
+
+-- so is each group of every run, of which no request was refused for want of memory
+abbrev pub GroupsAreIsolated : Type 0
+GroupsAreIsolated = (plan : NetworkPlan) (run : List Did) (v : NetworkValue) → ComesTo plan run v → (g : Addr) → is_fed plan g run ≡ true → IsIsolated plan run v g

@@ -1,0 +1,2 @@
+pub mod Project
+pub mod Isolation

@@ -1,0 +1,224 @@
+-- What of a run concerns one group: from events and answers, never from what the nodes keep. Runs and pasts have the newest first.
+use Rattle.std.specs.Prelude.{ℕ, zero, suc, ◌+◌, ◌-◌, ◌&&◌, ◌||◌, not, Bool, true, false, List, [], ◌∷◌, ◌++◌, length, take, map, filter, Option, Some, None, nat_eq, if◌then◌else◌}
+use Rattle.std.specs.FinSet as set
+use Rattle.std.specs.List.{range_with_len, list_any, flat_map}
+use Rattle.gb_types.specs.declared.address.Addr.{Addr}
+use Rattle.gb_types.specs.declared.entry.Entry.{Entry}
+use Rattle.gb_types.specs.declared.limits.TheConstants.{NODES}
+use Rattle.gb_types.specs.declared.node.NodeId.{NodeId}
+use Rattle.gb_types.specs.declared.refusal.Refusal.TheVariants.{OutOfMemory}
+use Rattle.gb_types.specs.declared.reply.Reply.{Reply}
+use Rattle.gb_types.specs.declared.reply.Reply.TheVariants.{Done, Refused}
+use Rattle.gb_types.specs.declared.request.Request.{Request}
+use Rattle.gb_types.specs.declared.request.Request.TheVariants.{AddTenant, Make, OpenGroup, ShutGroup, DropGroup, Say, Fetch}
+use Rattle.gb_types.specs.declared.spec.Spec.{Spec}
+use Rattle.gb_frame.specs.declared.item.Item.{Item}
+use Rattle.gb_frame.specs.Packet.{Content}
+use Rattle.gb_link.specs.Ack.{covers}
+use Rattle.gb_rules.specs.Address.{is_addr}
+use Rattle.gb_rules.specs.Group.{is_other}
+use Rattle.gb_rules.specs.Tenant.{reserve_of}
+use Rattle.gb_alone.specs.declared.event.GroupEvent.TheVariants.{Tenant, Make as AskMake, Open as AskOpen, Shut as AskShut, Drop as AskDrop, Say as AskSay, Fetch as AskFetch, Took, Came, Done as Acknowledged, Notice, Stop as Ends}
+use Rattle.gb_alone.specs.declared.event.GroupStep.{GroupStep}
+use Rattle.gb_groups.specs.AtAddress.{entry_of}
+use Rattle.gb_groups.specs.OneGroup.{items_for}
+use Rattle.gb_node.specs.NodeStep.{node_numbered}
+use Rattle.gb_node.specs.Past.{Happened, read, frames_to, is_acked, is_frame, came, is_stopped}
+use Rattle.gb_node.specs.PastGroups.{noticed_in}
+use Rattle.gb_node.specs.StepLaw.{is_admitted_by}
+use Rattle.gb_node.specs.declared.answer.NodeAnswer.{NodeAnswer}
+use Rattle.gb_node.specs.declared.answer.NodeAnswer.TheVariants.{Reply as Replied, Taken, Sent, Ticked}
+use Rattle.gb_node.specs.declared.answer.PacketAnswer.TheVariants.{Good as TakenGood}
+use Rattle.gb_node.specs.declared.answer.Sent.TheVariants.{Packet as SentPacket}
+use Rattle.gb_node.specs.declared.answer.Ticked.TheVariants.{Noticed}
+use Rattle.gb_node.specs.declared.event.NodeEvent.{NodeEvent}
+use Rattle.gb_node.specs.declared.event.NodeEvent.TheVariants.{Request as Asked, Packet as Brought, Pack, Tick}
+use Rattle.gb_node.specs.declared.plan.NodePlan.{NodePlan}
+use Rattle.gb_network.specs.NetworkValue.{node_plan}
+use Rattle.gb_network.specs.Run.{Did, past_at}
+use Rattle.gb_network.specs.declared.plan.NetworkPlan.{NetworkPlan}
+
+-- Items.
+
+-- the group's items of a frame, and of many, in order
+abbrev pub items_in : Addr → List Item → List Entry
+items_in g frame = map entry_of (items_for g frame)
+
+unfoldable pub items_of : Addr → List (List Item) → List Entry
+items_of g [] = []
+items_of g (f ∷ fs) = items_in g f ++ items_of g fs
+
+-- how many items of the group there are in the first n of these frames
+abbrev pub offset : Addr → List (List Item) → ℕ → ℕ
+offset g fs n = length (items_of g (take n fs))
+
+-- the frames that a text has: one where it is a packet
+abbrev pub frames_in : List ℕ → List ℕ → List (List Item)
+frames_in key text = map (λ (c : Content). c.items) (read key text)
+
+-- Packets.
+
+-- a good packet of the node b with this frame number came before
+unfoldable pub has_come : List ℕ → ℕ → ℕ → List Happened → Bool
+has_come key b n [] = false
+has_come key b n (h ∷ past) = list_any (is_frame b n) (came key h.event h.answer) || has_come key b n past
+
+-- Requests.
+
+-- the request names the group
+abbrev pub is_named : Addr → Request → Bool
+is_named g (AddTenant token row) = false
+is_named g (Make token addr spec) = is_addr g addr
+is_named g (OpenGroup token addr) = is_addr g addr
+is_named g (ShutGroup token addr) = is_addr g addr
+is_named g (DropGroup token addr) = is_addr g addr
+is_named g (Say token addr payload) = is_addr g addr
+is_named g (Fetch token addr from most) = is_addr g addr
+
+-- a request of the group: it names it, with the token that it needs
+abbrev pub is_own : NodePlan → Addr → List Happened → Request → Bool
+is_own plan g past request = is_named g request && is_admitted_by plan past request
+
+-- the group's command that a request is
+abbrev pub command_for : Addr → NodeId → Request → List GroupStep
+command_for g a (AddTenant token row) = []
+command_for g a (Make token addr spec) = record { node = a; event = AskMake spec } ∷ []
+command_for g a (OpenGroup token addr) = record { node = a; event = AskOpen } ∷ []
+command_for g a (ShutGroup token addr) = record { node = a; event = AskShut } ∷ []
+command_for g a (DropGroup token addr) = record { node = a; event = AskDrop } ∷ []
+command_for g a (Say token addr payload) = record { node = a; event = AskSay payload } ∷ []
+command_for g a (Fetch token addr from most) = record { node = a; event = AskFetch from most } ∷ []
+
+-- what the group was made with, if it was
+abbrev pub made_by : Addr → NodeEvent → NodeAnswer → Option Spec
+made_by g (Asked (Make token addr spec)) (Replied Done) = if is_addr g addr then Some spec else None
+made_by g event answer = None
+
+abbrev pub or_else : Option Spec → Option Spec → Option Spec
+or_else None later = later
+or_else (Some spec) later = Some spec
+
+unfoldable pub made_with : Addr → List Happened → Option Spec
+made_with g [] = None
+made_with g (h ∷ past) = or_else (made_by g h.event h.answer) (made_with g past)
+
+-- the group's notices of other members for which the test holds, rising
+abbrev pub notices : NodeId → Spec → (ℕ → Bool) → List GroupStep
+notices a spec new = map (λ b. record { node = a; event = Notice (node_numbered b) }) (filter (λ b. is_other spec a.number b && new b) (range_with_len 0 NODES))
+
+-- what a request of the group gives it at a running node; made, it learns of the members that are noticed there
+abbrev pub own_requested : NodePlan → Addr → List Happened → Request → Reply → List GroupStep
+own_requested plan g past (Make token addr spec) Done = record { node = plan.me; event = AskMake spec } ∷ notices plan.me spec (set.contains (noticed_in plan past))
+own_requested plan g past request reply = command_for g plan.me request
+
+abbrev pub tenant_given : Addr → NodeId → Request → Reply → List GroupStep
+tenant_given g a (AddTenant token row) Done = if nat_eq row.tenant g.tenant then record { node = a; event = Tenant (reserve_of row) } ∷ [] else []
+tenant_given g a request reply = []
+
+-- what any request with its reply gives the group at a running node
+abbrev pub requested : NodePlan → Addr → List Happened → Request → Reply → List GroupStep
+requested plan g past request reply = tenant_given g plan.me request reply ++ (if is_own plan g past request then own_requested plan g past request reply else [])
+
+-- a request of the group is asked at a node that has stopped
+abbrev pub is_met_by : NodePlan → Addr → List Happened → NodeEvent → NodeAnswer → Bool
+is_met_by plan g past (Asked request) (Replied reply) = is_stopped past && is_own plan g past request
+is_met_by plan g past event answer = false
+
+-- one met the node's stop
+unfoldable pub is_met : NodePlan → Addr → List Happened → Bool
+is_met plan g [] = false
+is_met plan g (h ∷ past) = is_met_by plan g past h.event h.answer || is_met plan g past
+
+-- the first command that meets the stop shows it
+abbrev pub with_stop : NodeId → Bool → List GroupStep → List GroupStep
+with_stop a met [] = []
+with_stop a met (c ∷ commands) = if met then c ∷ commands else record { node = a; event = Ends } ∷ c ∷ commands
+
+-- what a request with its reply gives the group: a node that has stopped gives its commands alone
+abbrev pub asked : NodePlan → Addr → List Happened → Request → Reply → List GroupStep
+asked plan g past request reply =
+    if is_stopped past then (if is_own plan g past request then with_stop plan.me (is_met plan g past) (command_for g plan.me request) else [])
+    else requested plan g past request reply
+
+-- Links.
+
+-- so many items of the group are carried, where there are any
+abbrev pub took : NodeId → NodeId → ℕ → List GroupStep
+took a b zero = []
+took a b (suc k) = record { node = a; event = Took b (suc k) } ∷ []
+
+-- so many items come, with the places after this one
+abbrev pub comes : NodeId → NodeId → ℕ → ℕ → List GroupStep
+comes from to place zero = []
+comes from to place (suc k) = record { node = to; event = Came from (place + 1) } ∷ comes from to (place + 1) k
+
+-- so many items are acknowledged, from a place on, where there are any
+abbrev pub acknowledged : NodeId → NodeId → ℕ → ℕ → List GroupStep
+acknowledged a b place zero = []
+acknowledged a b place (suc k) = record { node = a; event = Acknowledged b place (suc k) } ∷ []
+
+-- of these frames from a to b, of which the first has the number n and stands behind so many items of the group, those are acknowledged whose numbers pass the test
+abbrev pub all_acknowledged : Addr → NodeId → NodeId → (ℕ → Bool) → ℕ → ℕ → List (List Item) → List GroupStep
+all_acknowledged g a b new n before [] = []
+all_acknowledged g a b new n before (f ∷ fs) =
+    (if new n then acknowledged a b (before + 1) (length (items_in g f)) else []) ++ all_acknowledged g a b new (n + 1) (before + length (items_in g f)) fs
+
+-- the packet acknowledges the frame with this number for the first time
+abbrev pub is_new_ack : List ℕ → List Happened → Content → ℕ → Bool
+is_new_ack key past c n = covers c.base c.mask n && not (is_acked key c.from n past)
+
+-- the packet has a frame, and none with its number came from its sender before
+abbrev pub is_new_frame : List ℕ → List Happened → Content → Bool
+is_new_frame key past c = not (nat_eq c.frame 0) && not (has_come key c.from c.frame past)
+
+-- A packet's acknowledgement counts first; then a frame's items come, where it did not come before: their places are those after the items of the frames before it.
+abbrev pub acknowledges : NetworkPlan → Addr → List Happened → NodeId → Content → List GroupStep
+acknowledges plan g past a c = all_acknowledged g a (node_numbered c.from) (is_new_ack plan.cluster_key past c) 1 0 (frames_to plan.cluster_key c.from past)
+
+abbrev pub brings : NetworkPlan → Addr → List Did → NodeId → Content → List GroupStep
+brings plan g run a c = comes (node_numbered c.from) a (offset g (frames_to plan.cluster_key a.number (past_at (node_numbered c.from) run)) (c.frame - 1)) (length (items_in g c.items))
+
+abbrev pub arrived : NetworkPlan → Addr → List Did → NodeId → Content → List GroupStep
+arrived plan g run a c = acknowledges plan g (past_at a run) a c ++ (if is_new_frame plan.cluster_key (past_at a run) c then brings plan g run a c else [])
+
+-- a tick gives a made group its notices
+abbrev pub ticked : NodeId → (ℕ → Bool) → Option Spec → List GroupStep
+ticked a found None = []
+ticked a found (Some spec) = notices a spec found
+
+-- The projection.
+
+-- what an event at a node with its answer gives the group, after this run
+abbrev pub gives : NetworkPlan → Addr → List Did → NodeId → NodeEvent → NodeAnswer → List GroupStep
+gives plan g run a (Asked request) (Replied reply) = asked (node_plan plan a) g (past_at a run) request reply
+gives plan g run a (Pack b) (Sent (SentPacket text)) = took a b (length (items_of g (frames_in plan.cluster_key text)))
+gives plan g run a (Brought bytes) (Taken (TakenGood good)) = flat_map (arrived plan g run a) (read plan.cluster_key bytes)
+gives plan g run a Tick (Ticked (Noticed found)) = ticked a (set.contains found) (made_with g (past_at a run))
+gives plan g run a event answer = []
+
+-- the projection of a run on the group, in order
+unfoldable pub project : NetworkPlan → Addr → List Did → List GroupStep
+project plan g [] = []
+project plan g (d ∷ run) = project plan g run ++ gives plan g run d.node d.event d.answer
+
+abbrev pub reply_in : NodePlan → Addr → List Happened → NodeEvent → NodeAnswer → List Reply
+reply_in plan g past (Asked request) (Replied reply) = if is_own plan g past request then reply ∷ [] else []
+reply_in plan g past event answer = []
+
+-- the replies to the group's commands at a node, in order
+unfoldable pub replies_in : NodePlan → Addr → List Happened → List Reply
+replies_in plan g [] = []
+replies_in plan g (h ∷ past) = replies_in plan g past ++ reply_in plan g past h.event h.answer
+
+-- Memory.
+
+-- a request of the group, or one that takes its tenant in, was refused for want of memory
+abbrev pub is_starved_by : NodePlan → Addr → List Happened → NodeEvent → NodeAnswer → Bool
+is_starved_by plan g past (Asked (AddTenant token row)) (Replied (Refused OutOfMemory)) = nat_eq row.tenant g.tenant
+is_starved_by plan g past (Asked request) (Replied (Refused OutOfMemory)) = is_own plan g past request
+is_starved_by plan g past event answer = false
+
+-- none was in the run
+unfoldable pub is_fed : NetworkPlan → Addr → List Did → Bool
+is_fed plan g [] = true
+is_fed plan g (d ∷ run) = not (is_starved_by (node_plan plan d.node) g (past_at d.node run) d.event d.answer) && is_fed plan g run
