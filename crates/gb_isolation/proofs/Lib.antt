@@ -24,3 +24,13 @@ pub mod FitLemmas
 pub mod RunLemmas
 pub mod TheoremLemmas
 pub mod FirstLemmas
+pub mod AmpleLemmas
+pub mod GivenLemmas
+pub mod RunCommandLemmas
+pub mod DroppedLemmas
+pub mod MomentLemmas
+pub mod RunIntegrityLemmas
+pub mod TwoRunLemmas
+pub mod RunDutyLemmas
+pub mod RunAgreementLemmas
+pub mod LawLemmas

@@ -1,13 +1,21 @@
 -- That a group in a run is what it is alone.
-use Rattle.std.specs.Prelude.{ℕ, ◌≡◌, ◌<◌, ◌++◌, true, List, [], Option, Some, None}
+use Rattle.std.specs.Prelude.{ℕ, ◌≡◌, ◌<◌, ◌++◌, ◌&&◌, not, Bool, true, false, List, [], ◌∷◌, Option, Some, None}
 use Rattle.gb_types.specs.declared.address.Addr.{Addr}
 use Rattle.gb_types.specs.declared.entry.Entry.{Entry}
 use Rattle.gb_types.specs.declared.node.NodeId.{NodeId}
+use Rattle.gb_types.specs.declared.refusal.Refusal.TheVariants.{OutOfMemory}
 use Rattle.gb_types.specs.declared.reply.Reply.{Reply}
+use Rattle.gb_types.specs.declared.reply.Reply.TheVariants.{Refused}
 use Rattle.gb_slot.specs.Slot.{shown}
 use Rattle.gb_slot.specs.SlotState.{SlotState}
 use Rattle.gb_groups.specs.OneGroup.{group_in, waiting_in}
 use Rattle.gb_node.specs.Past.{frames_to}
+use Rattle.gb_node.specs.declared.answer.Halted.TheVariants.{Refused as HaltRefused}
+use Rattle.gb_node.specs.declared.answer.NodeAnswer.{NodeAnswer}
+use Rattle.gb_node.specs.declared.answer.NodeAnswer.TheVariants.{Reply as Replied, Taken, Sent, Ticked, Halted}
+use Rattle.gb_node.specs.declared.answer.PacketAnswer.TheVariants.{Refused as TakenRefused}
+use Rattle.gb_node.specs.declared.answer.Sent.TheVariants.{Refused as SentRefused}
+use Rattle.gb_node.specs.declared.answer.Ticked.TheVariants.{Refused as TickRefused}
 use Rattle.gb_alone.specs.Alone.{Group, alone, IsLegal}
 use Rattle.gb_alone.specs.Laws.{log_of_member}
 use Rattle.gb_network.specs.NetworkValue.{NetworkValue, node_plan, node_at}
@@ -58,3 +66,21 @@ pub record IsIsolated (plan : NetworkPlan) (run : List Did) (v : NetworkValue) (
 -- so is each group of every run, of which no request was refused for want of memory
 abbrev pub GroupsAreIsolated : Type 0
 GroupsAreIsolated = (plan : NetworkPlan) (run : List Did) (v : NetworkValue) → ComesTo plan run v → (g : Addr) → is_fed plan g run ≡ true → IsIsolated plan run v g
+
+-- the answer is want of memory
+abbrev pub wants_memory : NodeAnswer → Bool
+wants_memory (Replied (Refused OutOfMemory)) = true
+wants_memory (Taken (TakenRefused OutOfMemory)) = true
+wants_memory (Sent (SentRefused OutOfMemory)) = true
+wants_memory (Ticked (TickRefused OutOfMemory)) = true
+wants_memory (Halted (HaltRefused OutOfMemory)) = true
+wants_memory answer = false
+
+-- no answer of the run is
+unfoldable pub is_ample : List Did → Bool
+is_ample [] = true
+is_ample (d ∷ run) = not (wants_memory d.answer) && is_ample run
+
+-- where no memory was refused in a run, no group's request was
+abbrev pub AmpleRunsFeedAll : Type 0
+AmpleRunsFeedAll = (plan : NetworkPlan) (run : List Did) → is_ample run ≡ true → (g : Addr) → is_fed plan g run ≡ true

@@ -1,2 +1,3 @@
 pub mod Project
 pub mod Isolation
+pub mod RunLaws

@@ -1,8 +1,13 @@
 //! What holds of each group in every run of a network.
-ghost use Rattle.gb_isolation.specs.Isolation.{GroupsAreIsolated};
+ghost use Rattle.gb_isolation.specs.Isolation.{AmpleRunsFeedAll, GroupsAreIsolated};
+ghost use Rattle.gb_isolation.specs.RunLaws.{GroupsDoTheirDuties, GroupsKeepIntegrity, GroupsKeepOrder, RunsAgree, SettledGroupsAgree};
 
+use gb_alone::laws::{integrity, order};
+use gb_duties::laws::{agreement, duties};
+use gb_fifo::order::gives_up_whole_runs;
 use gb_network::laws::{links_hold, nothing_is_outside};
 use gb_node::past::{answers_say, pasts_say};
+use gb_stack::stands::module_logs;
 
 /// The main law: for every plan, every run of a network and every group of which no request was refused for want of
 /// memory, what concerns the group in the run is a legal list of events of the group by itself, and its replies, its logs,
@@ -15,4 +20,74 @@ pub fn groups_are_isolated()
     answers_say();
     links_hold();
     nothing_is_outside();
+}
+
+/// A law of every run in which no memory was refused: no request of any group was refused for want of it, so that every
+/// group in it is what it is alone. The function does nothing when it runs; its contract is the law.
+pub fn ample_runs_feed_all()
+    ensures { AmpleRunsFeedAll }
+{}
+
+/// Two runs: in networks of one size, where the same happened to a group in both, its replies, its logs and the items that
+/// it put out are the same, whatever else happened in either and however its items were packed among others. The function
+/// does nothing when it runs; its contract is the law.
+pub fn runs_agree()
+    ensures { RunsAgree }
+{
+    groups_are_isolated();
+}
+
+/// Integrity in every run: each entry of a group's log at a node, and each item of it between two nodes, is the message
+/// that its origin was told is accepted under that number, with that payload, and no message stands twice in a log. The
+/// function does nothing when it runs; its contract is the law.
+pub fn groups_keep_integrity()
+    ensures { GroupsKeepIntegrity }
+{
+    groups_are_isolated();
+    integrity();
+}
+
+/// Order in every run: where a node made a group first-in first-out, its log there has each origin's messages as
+/// 1, 2, 3, .. without a gap. The function does nothing when it runs; its contract is the law.
+pub fn groups_keep_order()
+    ensures { GroupsKeepOrder }
+{
+    groups_are_isolated();
+    pasts_say();
+    answers_say();
+    links_hold();
+    nothing_is_outside();
+    order();
+}
+
+/// Duties in every run: at each node that made a group and did not drop it, for each message that was delivered there and
+/// each other member. An eager node has noticed the member or put the message out to it; a lazy one so where the message
+/// is its own or of an origin that it noticed; a best-effort one where it is its own. At an all-ack node the member is
+/// noticed, or has said the message or taken it in. The function does nothing when it runs; its contract is the law.
+pub fn groups_do_their_duties()
+    ensures { GroupsDoTheirDuties }
+{
+    groups_are_isolated();
+    pasts_say();
+    answers_say();
+    links_hold();
+    nothing_is_outside();
+    module_logs();
+    gives_up_whole_runs();
+    duties();
+}
+
+/// Agreement in every run: where a group is settled, whichever nodes are taken as those that run, the logs of the running
+/// members hold each message that was accepted at a running member and, but for best effort, the same messages; with
+/// all-ack also each message in the log of a member that stopped. The function does nothing when it runs; its contract is
+/// the law.
+pub fn settled_groups_agree()
+    ensures { SettledGroupsAgree }
+{
+    groups_are_isolated();
+    pasts_say();
+    answers_say();
+    links_hold();
+    nothing_is_outside();
+    agreement();
 }

@@ -1,0 +1,314 @@
+-- What an event of a run gives a group: where it happens, its commands, and its notices.
+use Rattle.std.proofs.Common.{◌≡◌, ◌≢◌, ℕ, zero, suc, ◌+◌, ◌-◌, Bool, true, false, ◌&&◌, nat_eq, List, [], ◌∷◌, ◌++◌, length, Option, Some, None, refl, sym, ap, ◌∙◌}
+use Rattle.std.specs.Prelude.{is_some, filter, if◌then◌else◌}
+use Rattle.std.specs.FinSet as set
+use Rattle.std.specs.List.{range_with_len, flat_map}
+use Rattle.std.proofs.lemmas.Bool.{and_parts, ne_eqb}
+use Rattle.gb_types.specs.declared.address.Addr.{Addr}
+use Rattle.gb_types.specs.declared.limits.TheConstants.{NODES}
+use Rattle.gb_types.specs.declared.node.NodeId.{NodeId}
+use Rattle.gb_types.specs.declared.reply.Reply.{Reply}
+use Rattle.gb_types.specs.declared.reply.Reply.TheVariants.{Done}
+use Rattle.gb_types.specs.declared.request.Request.{Request}
+use Rattle.gb_types.specs.declared.request.Request.TheVariants.{AddTenant, Make, OpenGroup, ShutGroup, DropGroup, Say, Fetch}
+use Rattle.gb_types.specs.declared.spec.Spec.{Spec}
+use Rattle.gb_frame.specs.declared.item.Item.{Item}
+use Rattle.gb_frame.specs.Packet.{Content}
+use Rattle.gb_rules.specs.Group.{is_other}
+use Rattle.gb_rules.specs.Tenant.{reserve_of}
+use Rattle.gb_alone.specs.Alone.{Group, after, alone_from}
+use Rattle.gb_alone.specs.declared.event.GroupEvent.{GroupEvent}
+use Rattle.gb_alone.specs.declared.event.GroupEvent.TheVariants.{Tenant, Make as AskMake, Took, Came, Done as Acknowledged, Notice, Stop as Ends}
+use Rattle.gb_alone.specs.declared.event.GroupStep.{GroupStep}
+use Rattle.gb_alone.proofs.CommandLemmas.{command_in, commands_at, commands}
+use Rattle.gb_duties.proofs.NoticeLemmas.{IsDue, AreDue}
+use Rattle.gb_node.specs.NodeStep.{node_numbered}
+use Rattle.gb_node.specs.Past.{Happened, frames_to, read, is_stopped}
+use Rattle.gb_node.specs.PastGroups.{noticed_in}
+use Rattle.gb_node.specs.StepLaw.{is_admitted_by}
+use Rattle.gb_node.specs.declared.answer.NodeAnswer.{NodeAnswer}
+use Rattle.gb_node.specs.declared.answer.NodeAnswer.TheVariants.{Reply as Replied, Taken, Sent, Ticked}
+use Rattle.gb_node.specs.declared.answer.PacketAnswer.TheVariants.{Good as TakenGood}
+use Rattle.gb_node.specs.declared.answer.Sent.TheVariants.{Packet as SentPacket}
+use Rattle.gb_node.specs.declared.answer.Ticked.TheVariants.{Noticed}
+use Rattle.gb_node.specs.declared.event.NodeEvent.{NodeEvent}
+use Rattle.gb_node.specs.declared.event.NodeEvent.TheVariants.{Request as Asked, Packet as Brought, Pack, Tick}
+use Rattle.gb_node.specs.declared.plan.NodePlan.{NodePlan}
+use Rattle.gb_network.specs.NetworkValue.{node_plan}
+use Rattle.gb_network.specs.Run.{Did, past_at}
+use Rattle.gb_network.specs.declared.plan.NetworkPlan.{NetworkPlan}
+use Rattle.gb_isolation.specs.Project.{items_in, items_of, offset, frames_in, is_named, is_own, command_for, made_with, or_else, notices, own_requested, tenant_given, is_met, with_stop, asked, took, comes, acknowledged, all_acknowledged, is_new_ack, is_new_frame, acknowledges, brings, arrived, ticked, gives}
+use Rattle.gb_isolation.proofs.NoticeLemmas.{notices_of, notices_there, notices_keep}
+use Rattle.gb_isolation.proofs.GoesLemmas.{after_there}
+
+-- each of these events is so
+abbrev pub AllAre : (GroupStep → Type 0) → List GroupStep → Type 0
+AllAre Is [] = Unit {0}
+AllAre Is (step ∷ steps) = Is step × AllAre Is steps
+
+pub all_both : (Is : GroupStep → Type 0) (xs ys : List GroupStep) → AllAre Is xs → AllAre Is ys → AllAre Is (xs ++ ys)
+all_both Is [] ys a b = b
+all_both Is (x ∷ xs) ys a b = (a.0, all_both Is xs ys a.1 b)
+
+all_weaker : (Is Was : GroupStep → Type 0) → ((x : GroupStep) → Is x → Was x) → (xs : List GroupStep) → AllAre Is xs → AllAre Was xs
+all_weaker Is Was less [] all = tt
+all_weaker Is Was less (x ∷ xs) all = (less x all.0, all_weaker Is Was less xs all.1)
+
+all_flat : (Is : GroupStep → Type 0) (f : Content → List GroupStep) → ((c : Content) → AllAre Is (f c)) → (cs : List Content) → AllAre Is (flat_map f cs)
+all_flat Is f each [] = tt
+all_flat Is f each (c ∷ cs) = all_both Is (f c) (flat_map f cs) (each c) (all_flat Is f each cs)
+
+-- Links.
+
+abbrev is_carrying : GroupEvent → Bool
+is_carrying (Took b count) = true
+is_carrying (Came from place) = true
+is_carrying (Acknowledged b place count) = true
+is_carrying event = false
+
+-- it is carried at the node, or comes or is acknowledged there
+abbrev pub IsCarried : NodeId → GroupStep → Type 0
+IsCarried a step = (step.node ≡ a) × (is_carrying step.event ≡ true)
+
+pub carried_took : (a b : NodeId) (k : ℕ) → AllAre (IsCarried a) (took a b k)
+carried_took a b zero = tt
+carried_took a b (suc k) = ((refl, refl), tt)
+
+carried_comes : (from to : NodeId) (place k : ℕ) → AllAre (IsCarried to) (comes from to place k)
+carried_comes from to place zero = tt
+carried_comes from to place (suc k) = ((refl, refl), carried_comes from to (place + 1) k)
+
+carried_acknowledged : (a b : NodeId) (place k : ℕ) → AllAre (IsCarried a) (acknowledged a b place k)
+carried_acknowledged a b place zero = tt
+carried_acknowledged a b place (suc k) = ((refl, refl), tt)
+
+carried_all : (g : Addr) (a b : NodeId) (test : ℕ → Bool) (n before : ℕ) (fs : List (List Item)) → AllAre (IsCarried a) (all_acknowledged g a b test n before fs)
+carried_all g a b test n before [] = tt
+carried_all g a b test n before (f ∷ fs) =
+    all_both (IsCarried a) (if test n then acknowledged a b (before + 1) (length (items_in g f)) else []) (all_acknowledged g a b test (n + 1) (before + length (items_in g f)) fs)
+    (elim (test n) as (λ t. AllAre (IsCarried a) (if t then acknowledged a b (before + 1) (length (items_in g f)) else [])) [ true ↦ carried_acknowledged a b (before + 1) (length (items_in g f)) | false ↦ tt ])
+    (carried_all g a b test (n + 1) (before + length (items_in g f)) fs)
+
+carried_arrived : (plan : NetworkPlan) (g : Addr) (run : List Did) (a : NodeId) (c : Content) → AllAre (IsCarried a) (arrived plan g run a c)
+carried_arrived plan g run a c =
+    all_both (IsCarried a) (acknowledges plan g (past_at a run) a c) (if is_new_frame plan.cluster_key (past_at a run) c then brings plan g run a c else [])
+    (carried_all g a (node_numbered c.from) (is_new_ack plan.cluster_key (past_at a run) c) 1 0 (frames_to plan.cluster_key c.from (past_at a run)))
+    (elim (is_new_frame plan.cluster_key (past_at a run) c) as (λ t. AllAre (IsCarried a) (if t then brings plan g run a c else [])) [
+      | true ↦ carried_comes (node_numbered c.from) a (offset g (frames_to plan.cluster_key a.number (past_at (node_numbered c.from) run)) (c.frame - 1)) (length (items_in g c.items))
+      | false ↦ tt
+    ])
+
+pub carried_packets : (plan : NetworkPlan) (g : Addr) (run : List Did) (a : NodeId) (cs : List Content) → AllAre (IsCarried a) (flat_map (arrived plan g run a) cs)
+carried_packets plan g run a cs = all_flat (IsCarried a) (arrived plan g run a) (carried_arrived plan g run a) cs
+
+-- Where.
+
+-- it happens at the node
+abbrev pub IsAt : NodeId → GroupStep → Type 0
+IsAt a step = step.node ≡ a
+
+at_carried : (a : NodeId) (xs : List GroupStep) → AllAre (IsCarried a) xs → AllAre (IsAt a) xs
+at_carried a xs all = all_weaker (IsCarried a) (IsAt a) (λ x is. is.0) xs all
+
+at_notices_of : (a : NodeId) (bs : List ℕ) → AllAre (IsAt a) (notices_of a bs)
+at_notices_of a [] = tt
+at_notices_of a (b ∷ bs) = (refl, at_notices_of a bs)
+
+at_notices : (a : NodeId) (spec : Spec) (test : ℕ → Bool) → AllAre (IsAt a) (notices a spec test)
+at_notices a spec test = at_notices_of a (filter (λ b. is_other spec a.number b && test b) (range_with_len 0 NODES))
+
+at_command : (g : Addr) (a : NodeId) (request : Request) → AllAre (IsAt a) (command_for g a request)
+at_command g a (AddTenant token row) = tt
+at_command g a (Make token addr spec) = (refl, tt)
+at_command g a (OpenGroup token addr) = (refl, tt)
+at_command g a (ShutGroup token addr) = (refl, tt)
+at_command g a (DropGroup token addr) = (refl, tt)
+at_command g a (Say token addr payload) = (refl, tt)
+at_command g a (Fetch token addr from most) = (refl, tt)
+
+at_stop : (a : NodeId) (met : Bool) (xs : List GroupStep) → AllAre (IsAt a) xs → AllAre (IsAt a) (with_stop a met xs)
+at_stop a met [] at = tt
+at_stop a true (c ∷ xs) at = at
+at_stop a false (c ∷ xs) at = (refl, at)
+
+at_tenant : (g : Addr) (a : NodeId) (request : Request) (reply : Reply) → AllAre (IsAt a) (tenant_given g a request reply)
+at_tenant g a (AddTenant token row) Done = elim (nat_eq row.tenant g.tenant) as (λ t. AllAre (IsAt a) (if t then record { node = a; event = Tenant (reserve_of row) } ∷ [] else [])) [ true ↦ (refl, tt) | false ↦ tt ]
+at_tenant g a request reply = tt
+
+at_requested : (plan : NodePlan) (g : Addr) (past : List Happened) (request : Request) (reply : Reply) → AllAre (IsAt plan.me) (own_requested plan g past request reply)
+at_requested plan g past (Make token addr spec) Done = (refl, at_notices plan.me spec (set.contains (noticed_in plan past)))
+at_requested plan g past request reply = at_command g plan.me request
+
+at_asked : (plan : NodePlan) (g : Addr) (past : List Happened) (request : Request) (reply : Reply) → AllAre (IsAt plan.me) (asked plan g past request reply)
+at_asked plan g past request reply = by (is_stopped past) (is_own plan g past request)
+  where
+    by : (stopped own : Bool)
+        → AllAre (IsAt plan.me) (if stopped then (if own then with_stop plan.me (is_met plan g past) (command_for g plan.me request) else []) else tenant_given g plan.me request reply ++ (if own then own_requested plan g past request reply else []))
+    by true true = at_stop plan.me (is_met plan g past) (command_for g plan.me request) (at_command g plan.me request)
+    by true false = tt
+    by false true = all_both (IsAt plan.me) (tenant_given g plan.me request reply) (own_requested plan g past request reply) (at_tenant g plan.me request reply) (at_requested plan g past request reply)
+    by false false = all_both (IsAt plan.me) (tenant_given g plan.me request reply) [] (at_tenant g plan.me request reply) tt
+
+at_ticked : (a : NodeId) (found : ℕ → Bool) (o : Option Spec) → AllAre (IsAt a) (ticked a found o)
+at_ticked a found None = tt
+at_ticked a found (Some spec) = at_notices a spec found
+
+-- what an event gives happens where the event does
+pub given_at : (plan : NetworkPlan) (g : Addr) (run : List Did) (a : NodeId) (e : NodeEvent) (x : NodeAnswer) → AllAre (IsAt a) (gives plan g run a e x)
+given_at plan g run a (Asked request) (Replied reply) = at_asked (node_plan plan a) g (past_at a run) request reply
+given_at plan g run a (Pack b) (Sent (SentPacket text)) = at_carried a (took a b (length (items_of g (frames_in plan.cluster_key text)))) (carried_took a b (length (items_of g (frames_in plan.cluster_key text))))
+given_at plan g run a (Brought bytes) (Taken (TakenGood good)) = at_carried a (flat_map (arrived plan g run a) (read plan.cluster_key bytes)) (carried_packets plan g run a (read plan.cluster_key bytes))
+given_at plan g run a Tick (Ticked (Noticed found)) = at_ticked a (set.contains found) (made_with g (past_at a run))
+given_at plan g run a e x = tt
+
+-- Notices.
+
+abbrev is_notice : GroupEvent → Bool
+is_notice (Notice q) = true
+is_notice event = false
+
+-- it is no notice
+abbrev IsPlain : GroupStep → Type 0
+IsPlain step = is_notice step.event ≡ false
+
+plain_due : (event : GroupEvent) → is_notice event ≡ false → (nodes number : ℕ) (group : Group) (a : NodeId) → IsDue event (group a.number)
+plain_due (Notice q) plain nodes number group a = absurd (cc)
+plain_due event plain nodes number group a = tt
+
+all_due : (nodes number : ℕ) (steps : List GroupStep) (group : Group) → AllAre IsPlain steps → AreDue nodes number group steps
+all_due nodes number [] group plain = tt
+all_due nodes number (step ∷ steps) group plain = (plain_due step.event plain.0 nodes number group step.node, all_due nodes number steps (after nodes number group step) plain.1)
+
+carried_plain : (event : GroupEvent) → is_carrying event ≡ true → is_notice event ≡ false
+carried_plain (Notice q) is = absurd (cc)
+carried_plain event is = refl
+
+plain_carried : (a : NodeId) (xs : List GroupStep) → AllAre (IsCarried a) xs → AllAre IsPlain xs
+plain_carried a xs all = all_weaker (IsCarried a) IsPlain (λ x is. carried_plain x.event is.1) xs all
+
+plain_command : (g : Addr) (a : NodeId) (request : Request) → AllAre IsPlain (command_for g a request)
+plain_command g a (AddTenant token row) = tt
+plain_command g a (Make token addr spec) = (refl, tt)
+plain_command g a (OpenGroup token addr) = (refl, tt)
+plain_command g a (ShutGroup token addr) = (refl, tt)
+plain_command g a (DropGroup token addr) = (refl, tt)
+plain_command g a (Say token addr payload) = (refl, tt)
+plain_command g a (Fetch token addr from most) = (refl, tt)
+
+plain_stop : (a : NodeId) (met : Bool) (xs : List GroupStep) → AllAre IsPlain xs → AllAre IsPlain (with_stop a met xs)
+plain_stop a met [] plain = tt
+plain_stop a true (c ∷ xs) plain = plain
+plain_stop a false (c ∷ xs) plain = (refl, plain)
+
+plain_tenant : (g : Addr) (a : NodeId) (request : Request) (reply : Reply) → AllAre IsPlain (tenant_given g a request reply)
+plain_tenant g a (AddTenant token row) Done = elim (nat_eq row.tenant g.tenant) as (λ t. AllAre IsPlain (if t then record { node = a; event = Tenant (reserve_of row) } ∷ [] else [])) [ true ↦ (refl, tt) | false ↦ tt ]
+plain_tenant g a request reply = tt
+
+notices_due : (nodes number : ℕ) (a : NodeId) (bs : List ℕ) (group : Group) → is_some (group a.number).spec ≡ true → AreDue nodes number group (notices_of a bs)
+notices_due nodes number a [] group made = tt
+notices_due nodes number a (b ∷ bs) group made =
+    (made, notices_due nodes number a bs next (ap (λ m. is_some m.spec) (after_there nodes number group a (Notice (node_numbered b))) ∙ (ap is_some (notices_keep a.number (b ∷ []) (group a.number)).spec ∙ made)))
+  where
+    next : Group
+    next = after nodes number group (record { node = a; event = Notice (node_numbered b) })
+
+-- the group is made, and then told of the nodes that were noticed before
+making_due : (nodes number : ℕ) (a : NodeId) (spec : Spec) (bs : List ℕ) (group : Group) → is_some (alone_from nodes number group (record { node = a; event = AskMake spec } ∷ notices_of a bs) a.number).spec ≡ true
+    → AreDue nodes number group (record { node = a; event = AskMake spec } ∷ notices_of a bs)
+making_due nodes number a spec bs group made =
+    (tt, notices_due nodes number a bs next (ap is_some (sym (ap (λ m. m.spec) (notices_there nodes number a bs next) ∙ (notices_keep a.number bs (next a.number)).spec)) ∙ made))
+  where
+    next : Group
+    next = after nodes number group (record { node = a; event = AskMake spec })
+
+module _ (plan : NodePlan) (g : Addr) (past : List Happened) (group : Group) where
+  -- where the request is the group's own and the node runs
+  own_due : (request : Request) (reply : Reply) → is_named g request ≡ true
+      → (alone_from plan.nodes g.group group (tenant_given g plan.me request reply ++ own_requested plan g past request reply) plan.me.number).spec ≡ made_with g (record { event = Asked request; answer = Replied reply } ∷ past)
+      → AreDue plan.nodes g.group group (tenant_given g plan.me request reply ++ own_requested plan g past request reply)
+  unfolding made_with
+  own_due (Make token addr spec) Done named made =
+      making_due plan.nodes g.group plan.me spec (filter (λ b. is_other spec plan.me.number b && set.contains (noticed_in plan past) b) (range_with_len 0 NODES)) group
+      (ap is_some made ∙ ap (λ (t : Bool). is_some (or_else (if t then Some spec else None) (made_with g past))) named)
+  own_due request reply named made = all_due plan.nodes g.group (tenant_given g plan.me request reply ++ command_for g plan.me request) group (all_both IsPlain (tenant_given g plan.me request reply) (command_for g plan.me request) (plain_tenant g plan.me request reply) (plain_command g plan.me request))
+
+  asked_due : (request : Request) (reply : Reply) → (alone_from plan.nodes g.group group (asked plan g past request reply) plan.me.number).spec ≡ made_with g (record { event = Asked request; answer = Replied reply } ∷ past)
+      → AreDue plan.nodes g.group group (asked plan g past request reply)
+  asked_due request reply = by (is_stopped past) (is_own plan g past request) refl
+    where
+      by : (stopped own : Bool) → is_own plan g past request ≡ own
+          → (alone_from plan.nodes g.group group (if stopped then (if own then with_stop plan.me (is_met plan g past) (command_for g plan.me request) else []) else tenant_given g plan.me request reply ++ (if own then own_requested plan g past request reply else [])) plan.me.number).spec ≡ made_with g (record { event = Asked request; answer = Replied reply } ∷ past)
+          → AreDue plan.nodes g.group group (if stopped then (if own then with_stop plan.me (is_met plan g past) (command_for g plan.me request) else []) else tenant_given g plan.me request reply ++ (if own then own_requested plan g past request reply else []))
+      by true true is made = all_due plan.nodes g.group (with_stop plan.me (is_met plan g past) (command_for g plan.me request)) group (plain_stop plan.me (is_met plan g past) (command_for g plan.me request) (plain_command g plan.me request))
+      by true false is made = tt
+      by false true is made = own_due request reply (and_parts (is_named g request) (is_admitted_by plan past request) is).0 made
+      by false false is made = all_due plan.nodes g.group (tenant_given g plan.me request reply ++ []) group (all_both IsPlain (tenant_given g plan.me request reply) [] (plain_tenant g plan.me request reply) tt)
+
+ticked_due : (nodes number : ℕ) (a : NodeId) (found : ℕ → Bool) (o : Option Spec) (group : Group) → (group a.number).spec ≡ o → AreDue nodes number group (ticked a found o)
+ticked_due nodes number a found None group made = tt
+ticked_due nodes number a found (Some spec) group made = notices_due nodes number a (filter (λ b. is_other spec a.number b && found b) (range_with_len 0 NODES)) group (ap is_some made)
+
+-- the notices that an event gives come where the group was made
+pub given_due : (plan : NetworkPlan) (g : Addr) (run : List Did) (group : Group) (a : NodeId) (e : NodeEvent) (x : NodeAnswer) → (group a.number).spec ≡ made_with g (past_at a run)
+    → (alone_from plan.nodes g.group group (gives plan g run a e x) a.number).spec ≡ made_with g (record { event = e; answer = x } ∷ past_at a run) → AreDue plan.nodes g.group group (gives plan g run a e x)
+given_due plan g run group a (Asked request) (Replied reply) before now = asked_due (node_plan plan a) g (past_at a run) group request reply now
+given_due plan g run group a (Pack b) (Sent (SentPacket text)) before now =
+    let k : ℕ = length (items_of g (frames_in plan.cluster_key text)) in
+    all_due plan.nodes g.group (took a b k) group (plain_carried a (took a b k) (carried_took a b k))
+given_due plan g run group a (Brought bytes) (Taken (TakenGood good)) before now =
+    let given : List GroupStep = flat_map (arrived plan g run a) (read plan.cluster_key bytes) in
+    all_due plan.nodes g.group given group (plain_carried a given (carried_packets plan g run a (read plan.cluster_key bytes)))
+given_due plan g run group a Tick (Ticked (Noticed found)) before now = ticked_due plan.nodes g.group a (set.contains found) (made_with g (past_at a run)) group before
+given_due plan g run group a e x before now = tt
+
+-- Commands.
+
+-- nothing is commanded at a node by what happens at another
+pub no_commands_elsewhere : (s : ℕ) (a : NodeId) (steps : List GroupStep) → s ≢ a.number → AllAre (IsAt a) steps → commands s steps ≡ []
+unfolding commands
+no_commands_elsewhere s a [] other at = refl
+no_commands_elsewhere s a (step ∷ steps) other at =
+    let off : nat_eq s step.node.number ≡ false = ne_eqb s step.node.number (λ same. other (same ∙ ap (λ (y : NodeId). y.number) at.0)) in
+    ap (λ (t : Bool). (if t then command_in step.event else []) ++ commands s steps) off ∙ no_commands_elsewhere s a steps other at.1
+
+command_of_carried : (event : GroupEvent) → is_carrying event ≡ true → command_in event ≡ []
+command_of_carried (Took b count) is = refl
+command_of_carried (Came from place) is = refl
+command_of_carried (Acknowledged b place count) is = refl
+command_of_carried event is = absurd (cc)
+
+pub no_commands_step : (s : ℕ) (step : GroupStep) → command_in step.event ≡ [] → commands_at s step ≡ []
+no_commands_step s step none = elim (nat_eq s step.node.number) as (λ (t : Bool). (if t then command_in step.event else []) ≡ []) [ true ↦ none | false ↦ refl ]
+
+pub no_commands_carried : (s : ℕ) (a : NodeId) (steps : List GroupStep) → AllAre (IsCarried a) steps → commands s steps ≡ []
+unfolding commands
+no_commands_carried s a [] all = refl
+no_commands_carried s a (step ∷ steps) all = ap (λ es. es ++ commands s steps) (no_commands_step s step (command_of_carried step.event all.0.1)) ∙ no_commands_carried s a steps all.1
+
+pub no_commands_notices : (s : ℕ) (a : NodeId) (spec : Spec) (test : ℕ → Bool) → commands s (notices a spec test) ≡ []
+unfolding commands
+no_commands_notices s a spec test = each (filter (λ b. is_other spec a.number b && test b) (range_with_len 0 NODES))
+  where
+    each : (bs : List ℕ) → commands s (notices_of a bs) ≡ []
+    each [] = refl
+    each (b ∷ bs) = ap (λ es. es ++ commands s (notices_of a bs)) (no_commands_step s (record { node = a; event = Notice (node_numbered b) }) refl) ∙ each bs
+
+pub no_commands_ticked : (s : ℕ) (a : NodeId) (found : ℕ → Bool) (o : Option Spec) → commands s (ticked a found o) ≡ []
+unfolding commands
+no_commands_ticked s a found None = refl
+no_commands_ticked s a found (Some spec) = no_commands_notices s a spec found
+
+pub no_commands_tenant : (s : ℕ) (g : Addr) (a : NodeId) (request : Request) (reply : Reply) → commands s (tenant_given g a request reply) ≡ []
+unfolding commands
+no_commands_tenant s g a (AddTenant token row) Done = elim (nat_eq row.tenant g.tenant) as (λ (t : Bool). commands s (if t then record { node = a; event = Tenant (reserve_of row) } ∷ [] else []) ≡ []) [
+  | true ↦ ap (λ es. es ++ []) (no_commands_step s (record { node = a; event = Tenant (reserve_of row) }) refl)
+  | false ↦ refl
+]
+no_commands_tenant s g a request reply = refl
+
+-- a stop that is shown is no command
+pub commands_stopped : (s : ℕ) (a : NodeId) (met : Bool) (cs : List GroupStep) → commands s (with_stop a met cs) ≡ commands s cs
+unfolding commands
+commands_stopped s a met [] = refl
+commands_stopped s a true (c ∷ cs) = refl
+commands_stopped s a false (c ∷ cs) = ap (λ es. es ++ commands s (c ∷ cs)) (no_commands_step s (record { node = a; event = Ends }) refl)

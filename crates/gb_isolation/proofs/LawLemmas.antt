@@ -1,0 +1,17 @@
+-- The laws of nodes and links, of which all laws of groups follow.
+use Rattle.std.proofs.Common.{refl}
+use Rattle.gb_node.specs.PastLaw.{PastsSay}
+use Rattle.gb_node.specs.StepLaw.{AnswersSay}
+use Rattle.gb_node.specs.declared.answer.NodeAnswer.TheVariants.{Taken}
+use Rattle.gb_node.specs.declared.answer.PacketAnswer.TheVariants.{Good as TakenGood}
+use Rattle.gb_node.specs.declared.event.NodeEvent.TheVariants.{Packet as Brought}
+use Rattle.gb_network.specs.Links.{LinksHold, NothingIsOutside}
+use Rattle.gb_isolation.proofs.FirstLemmas.{first_is_new}
+use Rattle.gb_isolation.proofs.RunLemmas.{Laws}
+
+pub laws_hold : PastsSay → AnswersSay → LinksHold → NothingIsOutside → Laws
+laws_hold pasts answers links outside = record {
+  answers = answers;
+  links = links;
+  new = λ plan run a bytes good v content comes one. first_is_new outside links pasts plan run (record { node = a; event = Brought bytes; answer = Taken (TakenGood good) }) v bytes good content comes refl refl one;
+}

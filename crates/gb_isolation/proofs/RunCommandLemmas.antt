@@ -1,0 +1,126 @@
+-- The group's commands in a run, with their replies.
+use Rattle.std.proofs.Common.{◌≡◌, ◌≢◌, ℕ, ◌⊎◌, inl, inr, Bool, true, false, List, [], ◌∷◌, ◌++◌, length, refl, sym, ap, ◌∙◌, subst}
+use Rattle.std.specs.Prelude.{if◌then◌else◌}
+use Rattle.std.specs.FinSet as set
+use Rattle.std.specs.List.{flat_map}
+use Rattle.std.proofs.lemmas.Bool.{and_parts, cases_eq}
+use Rattle.std.proofs.lemmas.List.{append-nil}
+use Rattle.gb_types.specs.declared.address.Addr.{Addr}
+use Rattle.gb_types.specs.declared.node.NodeId.{NodeId}
+use Rattle.gb_types.specs.declared.reply.Reply.{Reply}
+use Rattle.gb_types.specs.declared.reply.Reply.TheVariants.{Done, Said}
+use Rattle.gb_types.specs.declared.request.Request.{Request}
+use Rattle.gb_types.specs.declared.request.Request.TheVariants.{AddTenant, Make, OpenGroup, ShutGroup, DropGroup, Say, Fetch}
+use Rattle.gb_types.proofs.SameLemmas.{same_number}
+use Rattle.gb_alone.specs.Laws.{accepted_in}
+use Rattle.gb_alone.specs.declared.event.GroupEvent.{GroupEvent}
+use Rattle.gb_alone.specs.declared.event.GroupEvent.TheVariants.{Make as AskMake, Open as AskOpen, Shut as AskShut, Drop as AskDrop, Say as AskSay, Fetch as AskFetch}
+use Rattle.gb_alone.specs.declared.event.GroupStep.{GroupStep}
+use Rattle.gb_alone.proofs.CommandLemmas.{command_in, commands_at, commands, commands-append, Pairs, pairs_append, no_pairs, one_pair}
+use Rattle.gb_node.specs.Past.{Happened, read, is_stopped}
+use Rattle.gb_node.specs.PastGroups.{noticed_in}
+use Rattle.gb_node.specs.StepLaw.{is_admitted_by}
+use Rattle.gb_node.specs.declared.answer.NodeAnswer.{NodeAnswer}
+use Rattle.gb_node.specs.declared.answer.NodeAnswer.TheVariants.{Reply as Replied, Taken, Sent, Ticked}
+use Rattle.gb_node.specs.declared.answer.PacketAnswer.TheVariants.{Good as TakenGood}
+use Rattle.gb_node.specs.declared.answer.Sent.TheVariants.{Packet as SentPacket}
+use Rattle.gb_node.specs.declared.answer.Ticked.TheVariants.{Noticed}
+use Rattle.gb_node.specs.declared.event.NodeEvent.{NodeEvent}
+use Rattle.gb_node.specs.declared.event.NodeEvent.TheVariants.{Request as Asked, Packet as Brought, Pack, Tick}
+use Rattle.gb_node.specs.declared.plan.NodePlan.{NodePlan}
+use Rattle.gb_network.specs.NetworkValue.{node_plan}
+use Rattle.gb_network.specs.Run.{Did, past_at}
+use Rattle.gb_network.specs.declared.plan.NetworkPlan.{NetworkPlan}
+use Rattle.gb_network.proofs.NodesLemmas.{past_same, past_other}
+use Rattle.gb_isolation.specs.Project.{items_of, frames_in, is_named, is_own, command_for, made_with, own_requested, tenant_given, is_met, with_stop, asked, took, arrived, ticked, gives, project, reply_in, replies_in}
+use Rattle.gb_isolation.specs.RunLaws.{said_by, accepted_by, accepted_in_past}
+use Rattle.gb_isolation.proofs.GivenLemmas.{carried_took, carried_packets, given_at, no_commands_elsewhere, no_commands_carried, no_commands_notices, no_commands_ticked, no_commands_tenant, commands_stopped}
+use Rattle.gb_isolation.proofs.GoesLemmas.{eqb_self}
+
+-- what a request gives besides the command is no command
+commands_own : (plan : NodePlan) (g : Addr) (past : List Happened) (s : ℕ) (request : Request) (reply : Reply) → commands s (own_requested plan g past request reply) ≡ commands s (command_for g plan.me request)
+unfolding commands
+commands_own plan g past s (Make token addr spec) Done = ap (λ es. commands_at s (record { node = plan.me; event = AskMake spec }) ++ es) (no_commands_notices s plan.me spec (set.contains (noticed_in plan past)))
+commands_own plan g past s request reply = refl
+
+commands_asked : (plan : NodePlan) (g : Addr) (past : List Happened) (s : ℕ) (request : Request) (reply : Reply) → commands s (asked plan g past request reply) ≡ commands s (if is_own plan g past request then command_for g plan.me request else [])
+commands_asked plan g past s request reply = by (is_stopped past) (is_own plan g past request)
+  where
+    tenant : (xs : List GroupStep) → commands s (tenant_given g plan.me request reply ++ xs) ≡ commands s xs
+    tenant xs = commands-append s (tenant_given g plan.me request reply) xs ∙ ap (λ es. es ++ commands s xs) (no_commands_tenant s g plan.me request reply)
+
+    by : (stopped own : Bool)
+        → commands s (if stopped then (if own then with_stop plan.me (is_met plan g past) (command_for g plan.me request) else []) else tenant_given g plan.me request reply ++ (if own then own_requested plan g past request reply else []))
+        ≡ commands s (if own then command_for g plan.me request else [])
+    by true true = commands_stopped s plan.me (is_met plan g past) (command_for g plan.me request)
+    by true false = refl
+    by false true = tenant (own_requested plan g past request reply) ∙ commands_own plan g past s request reply
+    by false false = tenant []
+
+-- a command at its node
+command_pairs : (a : NodeId) (e : GroupEvent) (r : Reply) → command_in e ≡ e ∷ [] → Pairs (commands a.number (record { node = a; event = e } ∷ [])) (r ∷ []) (accepted_in e r)
+unfolding commands
+command_pairs a e r is = subst (λ es. Pairs (es ++ []) (r ∷ []) (accepted_in e r)) (sym (ap (λ (t : Bool). if t then command_in e else []) (eqb_self a.number) ∙ is)) (one_pair e r)
+
+named_pairs : (g : Addr) (a : NodeId) (request : Request) (reply : Reply) → is_named g request ≡ true → Pairs (commands a.number (command_for g a request)) (reply ∷ []) (said_by request reply)
+named_pairs g a (AddTenant token row) reply named = absurd (cc)
+named_pairs g a (Make token addr spec) reply named = command_pairs a (AskMake spec) reply refl
+named_pairs g a (OpenGroup token addr) reply named = command_pairs a AskOpen reply refl
+named_pairs g a (ShutGroup token addr) reply named = command_pairs a AskShut reply refl
+named_pairs g a (DropGroup token addr) reply named = command_pairs a AskDrop reply refl
+named_pairs g a (Say token addr payload) (Said seq) named = command_pairs a (AskSay payload) (Said seq) refl
+named_pairs g a (Say token addr payload) reply named = command_pairs a (AskSay payload) reply refl
+named_pairs g a (Fetch token addr from most) reply named = command_pairs a (AskFetch from most) reply refl
+
+reply_pairs : (plan : NodePlan) (g : Addr) (past : List Happened) (request : Request) (reply : Reply)
+    → Pairs (commands plan.me.number (asked plan g past request reply)) (reply_in plan g past (Asked request) (Replied reply)) (accepted_by plan g past (Asked request) (Replied reply))
+unfolding commands
+reply_pairs plan g past request reply =
+    subst (λ es. Pairs es (reply_in plan g past (Asked request) (Replied reply)) (accepted_by plan g past (Asked request) (Replied reply))) (sym (commands_asked plan g past plan.me.number request reply))
+    (by (is_own plan g past request) refl)
+  where
+    by : (own : Bool) → is_own plan g past request ≡ own → Pairs (commands plan.me.number (if own then command_for g plan.me request else [])) (if own then reply ∷ [] else []) (if own then said_by request reply else [])
+    by true is = named_pairs g plan.me request reply (and_parts (is_named g request) (is_admitted_by plan past request) is).0
+    by false is = no_pairs
+
+none_paired : (es : List GroupEvent) → es ≡ [] → Pairs es [] []
+none_paired es none = subst (λ xs. Pairs xs [] []) (sym none) no_pairs
+
+given_pairs : (plan : NetworkPlan) (g : Addr) (run : List Did) (a : NodeId) (e : NodeEvent) (x : NodeAnswer)
+    → Pairs (commands a.number (gives plan g run a e x)) (reply_in (node_plan plan a) g (past_at a run) e x) (accepted_by (node_plan plan a) g (past_at a run) e x)
+unfolding commands
+given_pairs plan g run a (Asked request) (Replied reply) = reply_pairs (node_plan plan a) g (past_at a run) request reply
+given_pairs plan g run a (Pack b) (Sent (SentPacket text)) =
+    let k : ℕ = length (items_of g (frames_in plan.cluster_key text)) in
+    none_paired (commands a.number (took a b k)) (no_commands_carried a.number a (took a b k) (carried_took a b k))
+given_pairs plan g run a (Brought bytes) (Taken (TakenGood good)) =
+    let given : List GroupStep = flat_map (arrived plan g run a) (read plan.cluster_key bytes) in
+    none_paired (commands a.number given) (no_commands_carried a.number a given (carried_packets plan g run a (read plan.cluster_key bytes)))
+given_pairs plan g run a Tick (Ticked (Noticed found)) =
+    let given : List GroupStep = ticked a (set.contains found) (made_with g (past_at a run)) in
+    none_paired (commands a.number given) (no_commands_ticked a.number a (set.contains found) (made_with g (past_at a run)))
+given_pairs plan g run a e x = no_pairs
+
+-- the commands of the projection at a node are those that have the replies there, and so it says what was accepted
+pub run_pairs : (plan : NetworkPlan) (g : Addr) (a : NodeId) (run : List Did) → Pairs (commands a.number (project plan g run)) (replies_in (node_plan plan a) g (past_at a run)) (accepted_in_past (node_plan plan a) g (past_at a run))
+unfolding commands project replies_in accepted_in_past past_at
+run_pairs plan g a [] = no_pairs
+run_pairs plan g a (d ∷ run) = by (cases_eq d.node.number a.number) (run_pairs plan g a run)
+  where
+    given : List GroupStep
+    given = gives plan g run d.node d.event d.answer
+
+    by : (d.node.number ≡ a.number) ⊎ (d.node.number ≢ a.number) → Pairs (commands a.number (project plan g run)) (replies_in (node_plan plan a) g (past_at a run)) (accepted_in_past (node_plan plan a) g (past_at a run))
+        → Pairs (commands a.number (project plan g run ++ given)) (replies_in (node_plan plan a) g (past_at a (d ∷ run))) (accepted_in_past (node_plan plan a) g (past_at a (d ∷ run)))
+    by (inl same) rest =
+        let now : Pairs (commands a.number given) (reply_in (node_plan plan a) g (past_at a run) d.event d.answer) (accepted_by (node_plan plan a) g (past_at a run) d.event d.answer) =
+        subst (λ (x : NodeId). Pairs (commands a.number (gives plan g run x d.event d.answer)) (reply_in (node_plan plan a) g (past_at a run) d.event d.answer) (accepted_by (node_plan plan a) g (past_at a run) d.event d.answer)) (sym (same_number d.node a same))
+        (given_pairs plan g run a d.event d.answer) in
+        subst (λ past. Pairs (commands a.number (project plan g run ++ given)) (replies_in (node_plan plan a) g past) (accepted_in_past (node_plan plan a) g past)) (sym (past_same a d run same))
+        (subst (λ es. Pairs es (replies_in (node_plan plan a) g (past_at a run) ++ reply_in (node_plan plan a) g (past_at a run) d.event d.answer) (accepted_in_past (node_plan plan a) g (past_at a run) ++ accepted_by (node_plan plan a) g (past_at a run) d.event d.answer)) (sym (commands-append a.number (project plan g run) given))
+        (pairs_append (commands a.number (project plan g run)) (commands a.number given) (replies_in (node_plan plan a) g (past_at a run)) (reply_in (node_plan plan a) g (past_at a run) d.event d.answer) (accepted_in_past (node_plan plan a) g (past_at a run)) (accepted_by (node_plan plan a) g (past_at a run) d.event d.answer) rest now))
+    by (inr other) rest =
+        let none : commands a.number given ≡ [] = no_commands_elsewhere a.number d.node given (λ e. other (sym e)) (given_at plan g run d.node d.event d.answer) in
+        subst (λ past. Pairs (commands a.number (project plan g run ++ given)) (replies_in (node_plan plan a) g past) (accepted_in_past (node_plan plan a) g past)) (sym (past_other a d run other))
+        (subst (λ es. Pairs es (replies_in (node_plan plan a) g (past_at a run)) (accepted_in_past (node_plan plan a) g (past_at a run)))
+        (sym (commands-append a.number (project plan g run) given ∙ (ap (λ es. commands a.number (project plan g run) ++ es) none ∙ append-nil (commands a.number (project plan g run))))) rest)

@@ -1,0 +1,82 @@
+-- The duties of a group's nodes in a run.
+use Rattle.std.proofs.Common.{◌≡◌, ℕ, ◌<◌, ◌≤◌, Bool, true, false, ◌&&◌, List, Option, Some, None, sym, ap, ◌∙◌, subst, arith}
+use Rattle.std.specs.Prelude.{if◌then◌else◌}
+use Rattle.gb_types.specs.declared.address.Addr.{Addr}
+use Rattle.gb_types.specs.declared.limits.TheConstants.{NODES}
+use Rattle.gb_types.specs.declared.message.MsgId.{MsgId}
+use Rattle.gb_types.specs.declared.node.NodeId.{NodeId}
+use Rattle.gb_types.specs.declared.spec.Spec.{Spec}
+use Rattle.gb_fifo.specs.Order.{in_order}
+use Rattle.gb_fifo.specs.OrderLaws.{AllIn}
+use Rattle.gb_stack.specs.LogLaws.{ModuleLogHasDelivered}
+use Rattle.gb_rules.specs.Group.{is_gone, is_member, is_other}
+use Rattle.gb_history.specs.Messages.{has}
+use Rattle.gb_alone.specs.Alone.{Group, nobody, alone, is_marked}
+use Rattle.gb_alone.proofs.InsideLemmas.{run_inside}
+use Rattle.gb_duties.specs.Duties.{HasHad, KeepsDuties, IsDutiful, noticed_at, delivered_at}
+use Rattle.gb_duties.proofs.DutyLemmas.{delivered_origin, logged_here}
+use Rattle.gb_duties.proofs.NoticeLemmas.{AllMarked}
+use Rattle.gb_duties.proofs.SeenLemmas.{duties_seen}
+use Rattle.gb_node.specs.NodeStep.{node_numbered}
+use Rattle.gb_network.specs.NetworkValue.{NetworkValue, node_plan}
+use Rattle.gb_network.specs.Run.{Did, past_at}
+use Rattle.gb_network.specs.declared.plan.NetworkPlan.{NetworkPlan}
+use Rattle.gb_network.proofs.NodesLemmas.{stays}
+use Rattle.gb_isolation.specs.Isolation.{Seen, seen_in, IsIsolated, GroupsAreIsolated}
+use Rattle.gb_isolation.specs.Project.{project, made_with}
+use Rattle.gb_isolation.specs.RunLaws.{is_noticed, KeepsRunDuties, RunDuties, GroupsDoTheirDuties}
+use Rattle.gb_isolation.proofs.View.{BehavesAlone, is_concerned}
+use Rattle.gb_isolation.proofs.DroppedLemmas.{kept_there}
+use Rattle.gb_isolation.proofs.MomentLemmas.{AllBehave, marked}
+use Rattle.gb_isolation.proofs.NoticeLemmas.{numbered_is}
+
+-- what the lower crates say of logs: a module's log has what is delivered, and the order gives up nothing else
+pub record LogLaws : Type 0 where
+  pub has_delivered : ModuleLogHasDelivered
+  pub within : (delivered : List MsgId) → AllIn delivered (in_order delivered)
+
+module _ (plan : NetworkPlan) (run : List Did) (v : NetworkValue) (g : Addr) (few : plan.nodes ≤ NODES) (alike : IsIsolated plan run v g) (behaves : BehavesAlone plan g run) (told : AllMarked (alone plan.nodes g.group (project plan g run))) where
+  abbrev group : Group
+  group = alone plan.nodes g.group (project plan g run)
+
+  -- members are nodes of the network
+  pub inside : (b : ℕ) (spec : Spec) → (alone plan.nodes g.group (project plan g run) b).spec ≡ Some spec → (c : ℕ) → is_member spec c ≡ true → c < plan.nodes
+  inside b spec made c in_c = (run_inside plan.nodes g.group (project plan g run) nobody (λ a s is. absurd (cc)) b spec made).1 c in_c
+
+  module _ (b : NodeId) (in_b : b.number < plan.nodes) (spec : Spec) (made_there : made_with g (past_at b run) ≡ Some spec) where
+    pub made : (alone plan.nodes g.group (project plan g run) b.number).spec ≡ Some spec
+    made = (behaves.fits b in_b).spec ∙ made_there
+
+    pub noticed_is : (c : ℕ) → is_marked c (alone plan.nodes g.group (project plan g run) b.number).noticed ≡ (is_other spec b.number c && is_noticed plan run b c)
+    noticed_is c = (behaves.fits b in_b).noticed c ∙ ap (λ (o : Option Spec). is_concerned b.number c o && is_noticed plan run b c) made_there
+
+    put_there : (c : ℕ) → is_member spec c ≡ true → (group b.number).put c ≡ (seen_in plan run v g b (node_numbered c)).put
+    put_there c in_c =
+        let within : c < plan.nodes = inside b.number spec made c in_c in
+        let is : (node_numbered c).number ≡ c = numbered_is c (omega (arith, within, few)) in
+        sym (ap (λ (s : Seen). s.put) (alike.same b (node_numbered c) in_b (subst (λ k. k < plan.nodes) (sym is) within)) ∙ ap (λ k. (group b.number).put k) is)
+
+    seen : is_gone (group b.number).phase ≡ false → (messages : MsgId → Bool) → ((m : MsgId) → messages m ≡ true → is_member spec m.origin.number ≡ true) → KeepsDuties spec b.number (noticed_at (group b.number)) (group b.number).put (HasHad group) messages
+        → KeepsRunDuties plan run v g b spec messages
+    seen here messages origins done =
+        duties_seen spec b.number (group b.number) made here (told b.number) (is_noticed plan run b) noticed_is (λ c. (seen_in plan run v g b (node_numbered c)).put) put_there (HasHad group) messages origins done
+
+    delivered : LogLaws → IsDutiful → is_gone (group b.number).phase ≡ false → KeepsRunDuties plan run v g b spec (delivered_at spec b.number (group b.number))
+    delivered logs law here =
+        seen here (delivered_at spec b.number (group b.number)) (delivered_origin logs.has_delivered plan.nodes g.group (project plan g run) b.number spec made)
+        ((law plan.nodes g.group (project plan g run) alike.legal).delivered b.number spec (ap (λ (gone : Bool). if gone then None else (group b.number).spec) here ∙ made))
+
+    logged : LogLaws → IsDutiful → KeepsRunDuties plan run v g b spec (has (seen_in plan run v g b b).log)
+    logged logs law c other m h =
+        let there = logged_here logs.has_delivered plan.nodes g.group (project plan g run) b.number spec logs.within made m (ap (λ (s : Seen). has s.log m) (sym (alike.same b b in_b in_b)) ∙ h) in
+        delivered logs law there.0 c other m there.1
+
+  run_duties : LogLaws → IsDutiful → RunDuties plan run v g
+  run_duties logs law = record {
+    delivered = λ b spec in_b made_there kept. delivered b in_b spec made_there logs law (kept_there (node_plan plan b) g (past_at b run) b.number (group b.number) (behaves.fits b in_b).slot kept);
+    logged = λ b spec in_b made_there. logged b in_b spec made_there logs law;
+  }
+
+pub all_dutiful : LogLaws → IsDutiful → GroupsAreIsolated → AllBehave → GroupsDoTheirDuties
+all_dutiful logs law isolated behave plan run v comes g fed =
+    run_duties plan run v g (stays plan run v comes).right.few (isolated plan run v comes g fed) (behave plan g run v comes fed) (marked behave plan g run v comes fed) logs law

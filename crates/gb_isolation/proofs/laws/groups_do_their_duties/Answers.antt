@@ -1,0 +1,8 @@
+use Rattle.gb_isolation.proofs.LawLemmas.{laws_hold}
+use Rattle.gb_isolation.proofs.RunDutyLemmas.{all_dutiful}
+use Rattle.gb_isolation.proofs.RunLemmas.{behaves}
+use Rattle.gb_isolation.proofs.laws.groups_do_their_duties.Goals as goal
+
+pub returns : goal.returns
+returns c = all_dutiful (record { has_delivered = c.module_logs.ensures; within = c.gives_up_whole_runs.ensures.delivered }) c.duties.ensures c.groups_are_isolated.ensures
+    (behaves (laws_hold c.pasts_say.ensures c.answers_say.ensures c.links_hold.ensures c.nothing_is_outside.ensures))

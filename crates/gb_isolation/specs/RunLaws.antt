@@ -1,0 +1,145 @@
+-- Integrity, order, duties and agreement of each group in every run, and what two runs of a group share.
+use Rattle.std.specs.Prelude.{ℕ, ◌+◌, ◌≡◌, ◌≢◌, ◌<◌, ◌||◌, Bool, true, false, All, List, [], ◌∷◌, ◌++◌, Option, Some, slice_get, if◌then◌else◌}
+use Rattle.std.specs.FinSet as set
+use Rattle.gb_types.specs.declared.address.Addr.{Addr}
+use Rattle.gb_types.specs.declared.entry.Entry.{Entry}
+use Rattle.gb_types.specs.declared.message.MsgId.{MsgId}
+use Rattle.gb_types.specs.declared.node.NodeId.{NodeId}
+use Rattle.gb_types.specs.declared.reply.Reply.{Reply}
+use Rattle.gb_types.specs.declared.reply.Reply.TheVariants.{Done, Said}
+use Rattle.gb_types.specs.declared.request.Request.{Request}
+use Rattle.gb_types.specs.declared.request.Request.TheVariants.{DropGroup, Say}
+use Rattle.gb_types.specs.declared.spec.Spec.{Spec}
+use Rattle.gb_frame.specs.declared.item.Item.{Item}
+use Rattle.gb_rules.specs.Address.{is_addr}
+use Rattle.gb_rules.specs.Group.{is_member}
+use Rattle.gb_history.specs.Messages.{has}
+use Rattle.gb_alone.specs.Laws.{Accepted, IsAccepted, KeepsIntegrity, KeepsOrder}
+use Rattle.gb_duties.specs.Agreement.{IsRunning, KeepsAgreement}
+use Rattle.gb_duties.specs.Duties.{HasHad, KeepsDuties, delivered_at}
+use Rattle.gb_groups.specs.OneGroup.{waiting_in}
+use Rattle.gb_node.specs.NodeStep.{node_numbered}
+use Rattle.gb_node.specs.Past.{Happened, frames_to, is_taken}
+use Rattle.gb_node.specs.PastGroups.{noticed_in}
+use Rattle.gb_node.specs.declared.answer.NodeAnswer.{NodeAnswer}
+use Rattle.gb_node.specs.declared.answer.NodeAnswer.TheVariants.{Reply as Replied}
+use Rattle.gb_node.specs.declared.event.NodeEvent.{NodeEvent}
+use Rattle.gb_node.specs.declared.event.NodeEvent.TheVariants.{Request as Asked}
+use Rattle.gb_node.specs.declared.plan.NodePlan.{NodePlan}
+use Rattle.gb_network.specs.NetworkValue.{NetworkValue, node_plan}
+use Rattle.gb_network.specs.Run.{Did, ComesTo, past_at}
+use Rattle.gb_network.specs.declared.plan.NetworkPlan.{NetworkPlan}
+use Rattle.gb_isolation.specs.Isolation.{seen_in, group_at, alone_in}
+use Rattle.gb_isolation.specs.Project.{project, items_in, is_own, made_with, is_fed}
+
+-- What was accepted.
+
+-- the message that a request with its reply is
+abbrev pub said_by : Request → Reply → List Accepted
+said_by (Say token addr payload) (Said seq) = record { seq = seq; payload = payload } ∷ []
+said_by request reply = []
+
+abbrev pub accepted_by : NodePlan → Addr → List Happened → NodeEvent → NodeAnswer → List Accepted
+accepted_by plan g past (Asked request) (Replied reply) = if is_own plan g past request then said_by request reply else []
+accepted_by plan g past event answer = []
+
+-- the group's messages that were accepted at a node, in order
+unfoldable pub accepted_in_past : NodePlan → Addr → List Happened → List Accepted
+accepted_in_past plan g [] = []
+accepted_in_past plan g (h ∷ past) = accepted_in_past plan g past ++ accepted_by plan g past h.event h.answer
+
+-- so at the node with this number
+abbrev pub accepted_there : NetworkPlan → Addr → List Did → ℕ → List Accepted
+accepted_there plan g run s = accepted_in_past (node_plan plan (node_numbered s)) g (past_at (node_numbered s) run)
+
+-- what a law of groups says of each group of which no request was refused for want of memory, in every run of every network
+abbrev pub OfGroupsInRuns : (NetworkPlan → List Did → NetworkValue → Addr → Type 0) → Type 0
+OfGroupsInRuns Holds = (plan : NetworkPlan) (run : List Did) (v : NetworkValue) → ComesTo plan run v → (g : Addr) → is_fed plan g run ≡ true → Holds plan run v g
+
+-- Integrity: the log seen at each node keeps it, and each item seen between two nodes was accepted at its origin.
+pub record RunIntegrity (plan : NetworkPlan) (run : List Did) (v : NetworkValue) (g : Addr) : Type 0 where
+  pub logs : (a b : NodeId) → a.number < plan.nodes → b.number < plan.nodes → KeepsIntegrity (accepted_there plan g run) (seen_in plan run v g a b).log
+  pub items : (a b : NodeId) → a.number < plan.nodes → b.number < plan.nodes → All (IsAccepted (accepted_there plan g run)) (seen_in plan run v g a b).put
+
+abbrev pub GroupsKeepIntegrity : Type 0
+GroupsKeepIntegrity = OfGroupsInRuns RunIntegrity
+
+-- Order: the log seen at each node keeps the order of the kind that the group was made with there.
+abbrev pub RunOrder : NetworkPlan → List Did → NetworkValue → Addr → Type 0
+RunOrder plan run v g = (a b : NodeId) → a.number < plan.nodes → b.number < plan.nodes → KeepsOrder (made_with g (past_at a run)) (seen_in plan run v g a b).log
+
+abbrev pub GroupsKeepOrder : Type 0
+GroupsKeepOrder = OfGroupsInRuns RunOrder
+
+-- Duties.
+
+-- the group was dropped at the node
+abbrev pub is_dropped_by : Addr → NodeEvent → NodeAnswer → Bool
+is_dropped_by g (Asked (DropGroup token addr)) (Replied Done) = is_addr g addr
+is_dropped_by g event answer = false
+
+unfoldable pub is_dropped : Addr → List Happened → Bool
+is_dropped g [] = false
+is_dropped g (h ∷ past) = is_dropped_by g h.event h.answer || is_dropped g past
+
+-- a node is noticed at the node a
+abbrev pub is_noticed : NetworkPlan → List Did → NodeId → ℕ → Bool
+is_noticed plan run a = set.contains (noticed_in (node_plan plan a) (past_at a run))
+
+-- the duties of the node b in the run, for each of these messages: what is noticed and put out is read there, what another node has had in the projection
+abbrev pub KeepsRunDuties : NetworkPlan → List Did → NetworkValue → Addr → NodeId → Spec → (MsgId → Bool) → Type 0
+KeepsRunDuties plan run v g b spec messages = KeepsDuties spec b.number (is_noticed plan run b) (λ c. (seen_in plan run v g b (node_numbered c)).put) (HasHad (alone_in plan g run)) messages
+
+-- each node where the group was made, and not dropped, has done its duties for each message that its module delivered, and so for each that stands in the log seen there
+pub record RunDuties (plan : NetworkPlan) (run : List Did) (v : NetworkValue) (g : Addr) : Type 0 where
+  pub delivered : (b : NodeId) (spec : Spec) → b.number < plan.nodes → made_with g (past_at b run) ≡ Some spec → is_dropped g (past_at b run) ≡ false
+      → KeepsRunDuties plan run v g b spec (delivered_at spec b.number (alone_in plan g run b.number))
+  pub logged : (b : NodeId) (spec : Spec) → b.number < plan.nodes → made_with g (past_at b run) ≡ Some spec → KeepsRunDuties plan run v g b spec (has (seen_in plan run v g b b).log)
+
+abbrev pub GroupsDoTheirDuties : Type 0
+GroupsDoTheirDuties = OfGroupsInRuns RunDuties
+
+-- Agreement.
+
+-- the log that is seen at the node with this number
+abbrev pub log_seen : NetworkPlan → List Did → NetworkValue → Addr → ℕ → List Entry
+log_seen plan run v g b = (seen_in plan run v g (node_numbered b) (node_numbered b)).log
+
+-- what the group was made with at the node with this number
+abbrev pub made_there : Addr → List Did → ℕ → Option Spec
+made_there g run a = made_with g (past_at (node_numbered a) run)
+
+-- The group is settled in the run, with this spec, where these nodes run and the others have stopped.
+pub record IsSettledIn (plan : NetworkPlan) (run : List Did) (v : NetworkValue) (g : Addr) (runs : ℕ → Bool) (spec : Spec) : Type 0 where
+  -- at some moment all members had made it with this spec, and no message had been accepted anywhere
+  pub earlier : List Did
+  pub later : List Did
+  pub moment : run ≡ later ++ earlier
+  pub made : (a : ℕ) → is_member spec a ≡ true → made_there g earlier a ≡ Some spec
+  pub silent : (a : ℕ) → a < plan.nodes → accepted_there plan g earlier a ≡ []
+  -- no running member has dropped it
+  pub kept : (a : ℕ) → IsRunning runs spec a → is_dropped g (past_at (node_numbered a) run) ≡ false
+  -- from one running member to another nothing waits, and each frame with an item of the group was taken
+  pub carried : (a b : ℕ) → IsRunning runs spec a → IsRunning runs spec b → a ≢ b → waiting_in (group_at v g (node_numbered a)) b ≡ []
+  pub came : (a b : ℕ) → IsRunning runs spec a → IsRunning runs spec b → a ≢ b → (n : ℕ) (frame : List Item) → slice_get (frames_to plan.cluster_key b (past_at (node_numbered a) run)) n ≡ Some frame → items_in g frame ≢ []
+      → is_taken plan.cluster_key a (n + 1) (past_at (node_numbered b) run) ≡ true
+  -- each stopped member is noticed at each running one, and no running one at any member
+  pub noticed : (a b : ℕ) → IsRunning runs spec a → is_member spec b ≡ true → runs b ≡ false → is_noticed plan run (node_numbered a) b ≡ true
+  pub unnoticed : (a b : ℕ) → is_member spec a ≡ true → IsRunning runs spec b → is_noticed plan run (node_numbered a) b ≡ false
+
+-- where the group is settled the logs seen at its members agree, whichever nodes are taken as those that run
+abbrev pub RunAgreement : NetworkPlan → List Did → NetworkValue → Addr → Type 0
+RunAgreement plan run v g = (runs : ℕ → Bool) (spec : Spec) → IsSettledIn plan run v g runs spec → KeepsAgreement (accepted_there plan g run) (log_seen plan run v g) runs spec
+
+abbrev pub SettledGroupsAgree : Type 0
+SettledGroupsAgree = OfGroupsInRuns RunAgreement
+
+-- Two runs.
+
+-- Two runs of networks of one size, in which the same happened to a group, show the same of it, whatever else happened and whatever else the packets held: its replies, its logs and
+-- the items that it put out. What happened to it are its own requests, the fates of its items, and the notices of its members.
+abbrev pub RunsAgree : Type 0
+RunsAgree =
+    (plan other : NetworkPlan) (run that : List Did) (v w : NetworkValue) → ComesTo plan run v → ComesTo other that w
+    → (g : Addr) → is_fed plan g run ≡ true → is_fed other g that ≡ true → plan.nodes ≡ other.nodes → project plan g run ≡ project other g that
+    → (a b : NodeId) → a.number < plan.nodes → b.number < plan.nodes → seen_in plan run v g a b ≡ seen_in other that w g a b
