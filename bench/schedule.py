@@ -1,39 +1,59 @@
 #!/usr/bin/env python3
-"""Writes a schedule of so many lines: says, packs, arrives and fetches on a cluster of 4 nodes.
+"""Writes a schedule of so many lines: says, packs, arrives, acknowledgements and fetches of 16 groups of 4 tenants, two of each
+kind of broadcast, on a cluster of 4 nodes.
 
-Each group may have 1,024 messages at a node; what is said beyond that is refused, and nothing waits then.
+A node says in four groups, of a tenant each, and packs what waits for each other node into one frame. Each group may have 1,024
+messages at a node; what is said beyond that is refused, and nothing waits then.
 """
 import sys
 
 NODES = 4
+TENANTS = range(7, 11)
+GROUPS = range(4)
+KINDS = ['beb', 'lazy', 'eager', 'allack', 'fbeb', 'flazy', 'feager', 'fallack']
 
 
-def schedule(lines):
-    yield f'cluster {NODES} 3'
+def setup():
+    yield f'cluster {NODES} 1000'
     members = ','.join(str(node) for node in range(NODES))
     for node in range(NODES):
-        yield f'tenant {node} 7 2 1024 65536 1024'
-        yield f'make {node} 7 1 beb {members} 1024 65536 1024'
-        yield f'open {node} 7 1'
+        for tenant in TENANTS:
+            yield f'tenant {node} {tenant} 4 1024 65536 1024'
+            for group in GROUPS:
+                kind = KINDS[(4 * tenant + group) % len(KINDS)]
+                yield f'make {node} {tenant} {group} {kind} {members} 1024 65536 1024'
+                yield f'open {node} {tenant} {group}'
+
+
+def schedule():
+    yield from setup()
     sent = 0
     turn = 0
-    written = 1 + 3 * NODES
-    while written < lines:
+    while True:
         origin = turn % NODES
-        yield f'say {origin} 7 1 {turn % 65536:04x}'
-        for step in range(1, NODES):
-            to = (origin + step) % NODES
-            yield f'pack {origin} {to}'
-            sent += 1
-            yield f'arrive {sent}'
-        yield f'fetch {(origin + 1) % NODES} 7 1 {turn} 1'
-        written += 2 + 2 * (NODES - 1)
+        for tenant in TENANTS:
+            yield f'say {origin} {tenant} {(turn // NODES + tenant) % len(GROUPS)} {turn % 65536:04x}'
+        for node in (origin, (origin + 1) % NODES):
+            for to in range(NODES):
+                if to != node:
+                    yield f'pack {node} {to}'
+                    sent += 1
+                    yield f'arrive {sent}'
+        if turn % 8 == 7:
+            for node in range(NODES):
+                for to in range(NODES):
+                    if to != node:
+                        yield f'ack {node} {to}'
+                        sent += 1
+                        yield f'arrive {sent}'
+        tenant = TENANTS[turn % len(TENANTS)]
+        yield f'fetch {(origin + 1) % NODES} {tenant} {turn % len(GROUPS)} {turn // 8} 4'
         turn += 1
 
 
 def main():
     lines = int(sys.argv[1])
-    for number, line in enumerate(schedule(lines)):
+    for number, line in enumerate(schedule()):
         if number == lines:
             break
         print(line)

@@ -6,3 +6,4 @@ pub mod RowLemmas
 pub mod CommandLemmas
 pub mod SilentLemmas
 pub mod PlaceLemmas
+pub mod KeyLemmas

@@ -4,7 +4,7 @@ use Rattle.std.specs.Result.{IfOk}
 use Rattle.std.specs.Option.{IfSome}
 use Rattle.gb_schedule.specs.declared.command.Command.{Command}
 use Rattle.gb_schedule.specs.declared.head.Head.{Head}
-use Rattle.gb_schedule.specs.declared.head.Head.TheVariants.{Cluster, Tenant, Make, Open, Shut, Drop, Say, Fetch, Pack, Again, Ack, Arrive, Tick, Stop}
+use Rattle.gb_schedule.specs.declared.head.Head.TheVariants.{Cluster, Tenant, Make, Open, Shut, Drop, Say, Fetch, Forge, Pack, Again, Ack, Arrive, Noise, Tick, Stop}
 use Rattle.gb_schedule.specs.Grammar.{Spells, IsCommandLine, IsInPlace}
 use Rattle.gb_schedule.proofs.CommandLemmas.{Finds}
 
@@ -25,6 +25,8 @@ spelt_in_place Say None command words s = absurd s
 spelt_in_place Say (Some nodes) command words s = rw s.command_is s.in_cluster
 spelt_in_place Fetch None command words s = absurd s
 spelt_in_place Fetch (Some nodes) command words s = rw s.command_is s.in_cluster
+spelt_in_place Forge None command words s = absurd s
+spelt_in_place Forge (Some nodes) command words s = rw s.command_is s.in_cluster
 spelt_in_place Pack None command words s = absurd s
 spelt_in_place Pack (Some nodes) command words s = rw s.command_is (s.in_cluster, s.to_in_cluster)
 spelt_in_place Again None command words s = absurd s
@@ -33,6 +35,8 @@ spelt_in_place Ack None command words s = absurd s
 spelt_in_place Ack (Some nodes) command words s = rw s.command_is (s.in_cluster, s.to_in_cluster)
 spelt_in_place Arrive None command words s = absurd s
 spelt_in_place Arrive (Some nodes) command words s = rw s.command_is s.packet_in
+spelt_in_place Noise None command words s = absurd s
+spelt_in_place Noise (Some nodes) command words s = rw s.command_is s.in_cluster
 spelt_in_place Tick None command words s = absurd s
 spelt_in_place Tick (Some nodes) command words s = rw s.command_is s.in_cluster
 spelt_in_place Stop None command words s = absurd s

@@ -1,5 +1,5 @@
 -- For each head: the command that its words spell, from what the readers of its words found.
-use Rattle.std.proofs.Common.{◌≡◌, ℕ, ◌<◌, ◌≤◌, List, [], ◌∷◌, Some, refl, sym, ◌∙◌, decimal, arith}
+use Rattle.std.proofs.Common.{◌≡◌, ℕ, ◌<◌, ◌≤◌, List, [], ◌∷◌, Some, refl, sym, ap, ◌∙◌, decimal, arith}
 use Rattle.gb_types.specs.declared.limits.TheConstants.{NODES, SILENCE_MIN, SILENCE_MAX}
 use Rattle.gb_types.specs.PayloadWord.{payload_of}
 use Rattle.gb_types.specs.declared.node.NodeId.{NodeId}
@@ -8,10 +8,11 @@ use Rattle.gb_types.specs.declared.spec.Spec.{Spec}
 use Rattle.gb_types.specs.declared.spec.TenantRow.{TenantRow}
 use Rattle.gb_types.specs.declared.request.Request.{Request as AnyRequest}
 use Rattle.gb_types.specs.declared.request.Request.TheVariants.{AddTenant, Make, Say, Fetch}
-use Rattle.gb_schedule.specs.declared.command.Command.TheVariants.{Cluster, Request, Pack, Again, Ack, Tick, Stop}
+use Rattle.gb_schedule.specs.declared.command.Command.TheVariants.{Cluster, Request, Pack, Again, Ack, Noise, Tick, Stop}
 use Rattle.gb_types.specs.RequestWords.{SpellsSpec}
 use Rattle.gb_types.proofs.RequestWordLemmas.{IsShortWord, IsLongWord, AreAddressWords}
-use Rattle.gb_schedule.specs.Grammar.{no_token, SpellsCluster, SpellsTenant, SpellsMake, SpellsNamed, SpellsSay, SpellsFetch, SpellsPack, SpellsAgain, SpellsAck, SpellsTick, SpellsStop}
+use Rattle.gb_schedule.specs.Grammar.{SpellsCluster, SpellsTenant, SpellsMake, SpellsNamed, SpellsSay, SpellsFetch, SpellsForge, SpellsPack, SpellsAgain, SpellsAck, SpellsNoise, SpellsTick, SpellsStop}
+use Rattle.gb_schedule.specs.Keys.{tenant_key, no_token, admin_token, tenant_token, member_token}
 use Rattle.gb_types.proofs.ReadLemmas.{Reads, found, only, reads_one, some_same}
 
 -- what the readers of single words find
@@ -21,16 +22,16 @@ IsNodeWord nodes word node = (node.number < nodes) × (word ≡ decimal node.num
 abbrev pub IsFrameWord : List ℕ → ℕ → Type 0
 IsFrameWord word n = (n ≤ 18446744073709551615) × (word ≡ decimal n)
 
-pub named_reads : (request : Addr → AnyRequest) (nodes : ℕ) (words : List (List ℕ)) (a t g : List ℕ) (node : NodeId) (address : Addr) → words ≡ a ∷ t ∷ g ∷ []
-    → Reads (IsNodeWord nodes a) node → Reads (AreAddressWords t g) address
-    → Reads (λ command. SpellsNamed request nodes command words) (Request node (request address))
-named_reads request nodes words a t g node address are reads_node reads_address =
+pub named_reads : (request : List ℕ → Addr → AnyRequest) (nodes : ℕ) (words : List (List ℕ)) (a t g : List ℕ) (node : NodeId) (address : Addr) (token : List ℕ) → words ≡ a ∷ t ∷ g ∷ []
+    → Reads (IsNodeWord nodes a) node → Reads (AreAddressWords t g) address → token ≡ tenant_token address.tenant
+    → Reads (λ command. SpellsNamed request nodes command words) (Request node (request token address))
+named_reads request nodes words a t g node address token are reads_node reads_address is_token =
     let is_node = found (IsNodeWord nodes a) node reads_node in
     let is_address = found (AreAddressWords t g) address reads_address in
-    let here : SpellsNamed request nodes (Request node (request address)) words = record {
+    let here : SpellsNamed request nodes (Request node (request token address)) words = record {
       node = node;
       address = address;
-      command_is = refl;
+      command_is = ap (λ q. Request node (request q address)) is_token;
       words_are = cc (are, is_node.1, is_address.1, is_address.3);
       in_cluster = is_node.0;
       tenant = is_address.0;
@@ -40,7 +41,7 @@ named_reads request nodes words a t g node address are reads_node reads_address 
     let same : a ∷ t ∷ g ∷ [] ≡ decimal spelt.node.number ∷ decimal spelt.address.tenant ∷ decimal spelt.address.group ∷ [] = sym are ∙ spelt.words_are in
     let same_node : node ≡ spelt.node = only (IsNodeWord nodes a) node spelt.node reads_node (spelt.in_cluster, cc) in
     let same_address : address ≡ spelt.address = only (AreAddressWords t g) address spelt.address reads_address (spelt.tenant, cc, spelt.group, cc) in
-    cc spelt.command_is)
+    ap (λ q. Request node (request q address)) is_token ∙ (λ i. Request (same_node i) (request (tenant_token (same_address i).tenant) (same_address i))) ∙ sym spelt.command_is)
 
 pub cluster_reads : (words : List (List ℕ)) (n s : List ℕ) (nodes silence : ℕ) (least most : ℕ) → words ≡ n ∷ s ∷ []
     → Reads (λ k. (1 ≤ k) × (k ≤ NODES) × (n ≡ decimal k)) nodes → least ≡ SILENCE_MIN → most ≡ SILENCE_MAX → Reads (λ k. (least ≤ k) × (k ≤ most) × (s ≡ decimal k)) silence
@@ -62,26 +63,27 @@ cluster_reads words n s nodes silence least most are reads_nodes low high reads_
     let same_silence : silence ≡ spelt.silence = only (λ k. (least ≤ k) × (k ≤ most) × (s ≡ decimal k)) silence spelt.silence reads_silence (omega arith, omega arith, cc) in
     cc spelt.command_is)
 
-pub tenant_reads : (nodes : ℕ) (words : List (List ℕ)) (a t gs m b w : List ℕ) (node : NodeId) (tenant groups msgs bytes window : ℕ) → words ≡ a ∷ t ∷ gs ∷ m ∷ b ∷ w ∷ []
+pub tenant_reads : (nodes : ℕ) (words : List (List ℕ)) (a t gs m b w : List ℕ) (node : NodeId) (tenant groups msgs bytes window : ℕ) (token key : List ℕ) → words ≡ a ∷ t ∷ gs ∷ m ∷ b ∷ w ∷ []
     → Reads (IsNodeWord nodes a) node → Reads (IsShortWord t) tenant → Reads (IsLongWord gs) groups → Reads (IsLongWord m) msgs → Reads (IsLongWord b) bytes → Reads (IsLongWord w) window
+    → token ≡ admin_token → key ≡ tenant_key tenant
     → Reads (λ command. SpellsTenant nodes command words)
-    (Request node (AddTenant no_token (record { tenant = tenant; key = no_token; groups = groups; msgs = msgs; bytes = bytes; window = window })))
-tenant_reads nodes words a t gs m b w node tenant groups msgs bytes window are reads_node reads_tenant reads_groups reads_msgs reads_bytes reads_window =
+    (Request node (AddTenant token (record { tenant = tenant; key = key; groups = groups; msgs = msgs; bytes = bytes; window = window })))
+tenant_reads nodes words a t gs m b w node tenant groups msgs bytes window token key are reads_node reads_tenant reads_groups reads_msgs reads_bytes reads_window is_token is_key =
     let is_node = found (IsNodeWord nodes a) node reads_node in
     let is_tenant = found (IsShortWord t) tenant reads_tenant in
     let is_groups = found (IsLongWord gs) groups reads_groups in
     let is_msgs = found (IsLongWord m) msgs reads_msgs in
     let is_bytes = found (IsLongWord b) bytes reads_bytes in
     let is_window = found (IsLongWord w) window reads_window in
-    let row : TenantRow = record { tenant = tenant; key = no_token; groups = groups; msgs = msgs; bytes = bytes; window = window } in
-    let here : SpellsTenant nodes (Request node (AddTenant no_token row)) words = record {
+    let row : TenantRow = record { tenant = tenant; key = key; groups = groups; msgs = msgs; bytes = bytes; window = window } in
+    let here : SpellsTenant nodes (Request node (AddTenant token row)) words = record {
       node = node;
       row = row;
-      command_is = refl;
+      command_is = ap (λ q. Request node (AddTenant q row)) is_token;
       words_are = cc (are, is_node.1, is_tenant.1, is_groups.1, is_msgs.1, is_bytes.1, is_window.1);
       in_cluster = is_node.0;
       tenant = is_tenant.0;
-      key = refl;
+      key = is_key;
       groups = is_groups.0;
       msgs = is_msgs.0;
       bytes = is_bytes.0;
@@ -96,23 +98,23 @@ tenant_reads nodes words a t gs m b w node tenant groups msgs bytes window are r
     let same_msgs : msgs ≡ other.msgs = only (IsLongWord m) msgs other.msgs reads_msgs (spelt.msgs, cc) in
     let same_bytes : bytes ≡ other.bytes = only (IsLongWord b) bytes other.bytes reads_bytes (spelt.bytes, cc) in
     let same_window : window ≡ other.window = only (IsLongWord w) window other.window reads_window (spelt.window, cc) in
-    let same_key : no_token ≡ other.key = sym spelt.key in
+    let same_key : key ≡ other.key = is_key ∙ ap tenant_key same_tenant ∙ sym spelt.key in
     let same_row : row ≡ other = λ i. record { tenant = same_tenant i; key = same_key i; groups = same_groups i; msgs = same_msgs i; bytes = same_bytes i; window = same_window i } in
-    cc spelt.command_is)
+    ap (λ q. Request node (AddTenant q row)) is_token ∙ (λ i. Request (same_node i) (AddTenant admin_token (same_row i))) ∙ sym spelt.command_is)
 
-pub make_reads : (nodes : ℕ) (words : List (List ℕ)) (a t g : List ℕ) (rest : List (List ℕ)) (node : NodeId) (address : Addr) (spec : Spec) → words ≡ a ∷ t ∷ g ∷ rest
-    → Reads (IsNodeWord nodes a) node → Reads (AreAddressWords t g) address → Reads (λ x. SpellsSpec x rest) spec
-    → Reads (λ command. SpellsMake nodes command words) (Request node (Make no_token address spec))
-make_reads nodes words a t g rest node address spec are reads_node reads_address reads_spec =
+pub make_reads : (nodes : ℕ) (words : List (List ℕ)) (a t g : List ℕ) (rest : List (List ℕ)) (node : NodeId) (address : Addr) (spec : Spec) (token : List ℕ) → words ≡ a ∷ t ∷ g ∷ rest
+    → Reads (IsNodeWord nodes a) node → Reads (AreAddressWords t g) address → Reads (λ x. SpellsSpec x rest) spec → token ≡ tenant_token address.tenant
+    → Reads (λ command. SpellsMake nodes command words) (Request node (Make token address spec))
+make_reads nodes words a t g rest node address spec token are reads_node reads_address reads_spec is_token =
     let is_node = found (IsNodeWord nodes a) node reads_node in
     let is_address = found (AreAddressWords t g) address reads_address in
     let is_spec = found (λ x. SpellsSpec x rest) spec reads_spec in
-    let here : SpellsMake nodes (Request node (Make no_token address spec)) words = record {
+    let here : SpellsMake nodes (Request node (Make token address spec)) words = record {
       node = node;
       address = address;
       spec = spec;
       spec_words = rest;
-      command_is = refl;
+      command_is = ap (λ q. Request node (Make q address spec)) is_token;
       words_are = cc (are, is_node.1, is_address.1, is_address.3);
       in_cluster = is_node.0;
       tenant = is_address.0;
@@ -125,20 +127,20 @@ make_reads nodes words a t g rest node address spec are reads_node reads_address
     let same_address : address ≡ spelt.address = only (AreAddressWords t g) address spelt.address reads_address (spelt.tenant, cc, spelt.group, cc) in
     let same_words : spelt.spec_words ≡ rest = cc in
     let same_spec : spec ≡ spelt.spec = only (λ x. SpellsSpec x rest) spec spelt.spec reads_spec (rw same_words at spelt.spells_spec) in
-    cc spelt.command_is)
+    ap (λ q. Request node (Make q address spec)) is_token ∙ (λ i. Request (same_node i) (Make (tenant_token (same_address i).tenant) (same_address i) (same_spec i))) ∙ sym spelt.command_is)
 
-pub say_reads : (nodes : ℕ) (words : List (List ℕ)) (a t g p : List ℕ) (node : NodeId) (address : Addr) (payload : List ℕ) → words ≡ a ∷ t ∷ g ∷ p ∷ []
-    → Reads (IsNodeWord nodes a) node → Reads (AreAddressWords t g) address → payload_of p ≡ Some payload
-    → Reads (λ command. SpellsSay nodes command words) (Request node (Say no_token address payload))
-say_reads nodes words a t g p node address payload are reads_node reads_address is_payload =
+pub say_reads : (nodes : ℕ) (words : List (List ℕ)) (a t g p : List ℕ) (node : NodeId) (address : Addr) (payload token : List ℕ) → words ≡ a ∷ t ∷ g ∷ p ∷ []
+    → Reads (IsNodeWord nodes a) node → Reads (AreAddressWords t g) address → payload_of p ≡ Some payload → token ≡ member_token address node
+    → Reads (λ command. SpellsSay nodes command words) (Request node (Say token address payload))
+say_reads nodes words a t g p node address payload token are reads_node reads_address is_payload is_token =
     let is_node = found (IsNodeWord nodes a) node reads_node in
     let is_address = found (AreAddressWords t g) address reads_address in
-    let here : SpellsSay nodes (Request node (Say no_token address payload)) words = record {
+    let here : SpellsSay nodes (Request node (Say token address payload)) words = record {
       node = node;
       address = address;
       payload = payload;
       payload_word = p;
-      command_is = refl;
+      command_is = ap (λ q. Request node (Say q address payload)) is_token;
       words_are = cc (are, is_node.1, is_address.1, is_address.3);
       in_cluster = is_node.0;
       tenant = is_address.0;
@@ -152,22 +154,22 @@ say_reads nodes words a t g p node address payload are reads_node reads_address 
     let same_word : spelt.payload_word ≡ p = cc in
     let spelt_payload : payload_of p ≡ Some spelt.payload = rw same_word at spelt.payload_is in
     let same_payload : payload ≡ spelt.payload = some_same payload spelt.payload (sym is_payload ∙ spelt_payload) in
-    cc spelt.command_is)
+    ap (λ q. Request node (Say q address payload)) is_token ∙ (λ i. Request (same_node i) (Say (member_token (same_address i) (same_node i)) (same_address i) (same_payload i))) ∙ sym spelt.command_is)
 
-pub fetch_reads : (nodes : ℕ) (words : List (List ℕ)) (a t g f m : List ℕ) (node : NodeId) (address : Addr) (from most : ℕ) → words ≡ a ∷ t ∷ g ∷ f ∷ m ∷ []
-    → Reads (IsNodeWord nodes a) node → Reads (AreAddressWords t g) address → Reads (IsLongWord f) from → Reads (IsLongWord m) most
-    → Reads (λ command. SpellsFetch nodes command words) (Request node (Fetch no_token address from most))
-fetch_reads nodes words a t g f m node address from most are reads_node reads_address reads_from reads_most =
+pub fetch_reads : (nodes : ℕ) (words : List (List ℕ)) (a t g f m : List ℕ) (node : NodeId) (address : Addr) (from most : ℕ) (token : List ℕ) → words ≡ a ∷ t ∷ g ∷ f ∷ m ∷ []
+    → Reads (IsNodeWord nodes a) node → Reads (AreAddressWords t g) address → Reads (IsLongWord f) from → Reads (IsLongWord m) most → token ≡ member_token address node
+    → Reads (λ command. SpellsFetch nodes command words) (Request node (Fetch token address from most))
+fetch_reads nodes words a t g f m node address from most token are reads_node reads_address reads_from reads_most is_token =
     let is_node = found (IsNodeWord nodes a) node reads_node in
     let is_address = found (AreAddressWords t g) address reads_address in
     let is_from = found (IsLongWord f) from reads_from in
     let is_most = found (IsLongWord m) most reads_most in
-    let here : SpellsFetch nodes (Request node (Fetch no_token address from most)) words = record {
+    let here : SpellsFetch nodes (Request node (Fetch token address from most)) words = record {
       node = node;
       address = address;
       from = from;
       most = most;
-      command_is = refl;
+      command_is = ap (λ q. Request node (Fetch q address from most)) is_token;
       words_are = cc (are, is_node.1, is_address.1, is_address.3, is_from.1, is_most.1);
       in_cluster = is_node.0;
       tenant = is_address.0;
@@ -181,7 +183,28 @@ fetch_reads nodes words a t g f m node address from most are reads_node reads_ad
     let same_address : address ≡ spelt.address = only (AreAddressWords t g) address spelt.address reads_address (spelt.tenant, cc, spelt.group, cc) in
     let same_from : from ≡ spelt.from = only (IsLongWord f) from spelt.from reads_from (spelt.from_in, cc) in
     let same_most : most ≡ spelt.most = only (IsLongWord m) most spelt.most reads_most (spelt.most_in, cc) in
-    cc spelt.command_is)
+    ap (λ q. Request node (Fetch q address from most)) is_token ∙ (λ i. Request (same_node i) (Fetch (member_token (same_address i) (same_node i)) (same_address i) (same_from i) (same_most i))) ∙ sym spelt.command_is)
+
+pub forge_reads : (nodes : ℕ) (words : List (List ℕ)) (a t g : List ℕ) (node : NodeId) (address : Addr) (payload : List ℕ) → words ≡ a ∷ t ∷ g ∷ []
+    → Reads (IsNodeWord nodes a) node → Reads (AreAddressWords t g) address → payload ≡ []
+    → Reads (λ command. SpellsForge nodes command words) (Request node (Say no_token address payload))
+forge_reads nodes words a t g node address payload are reads_node reads_address none =
+    let is_node = found (IsNodeWord nodes a) node reads_node in
+    let is_address = found (AreAddressWords t g) address reads_address in
+    let here : SpellsForge nodes (Request node (Say no_token address payload)) words = record {
+      node = node;
+      address = address;
+      command_is = ap (λ q. Request node (Say no_token address q)) none;
+      words_are = cc (are, is_node.1, is_address.1, is_address.3);
+      in_cluster = is_node.0;
+      tenant = is_address.0;
+      group = is_address.2;
+    } in
+    reads_one (λ command. SpellsForge nodes command words) _ here (λ command spelt.
+    let same : a ∷ t ∷ g ∷ [] ≡ decimal spelt.node.number ∷ decimal spelt.address.tenant ∷ decimal spelt.address.group ∷ [] = sym are ∙ spelt.words_are in
+    let same_node : node ≡ spelt.node = only (IsNodeWord nodes a) node spelt.node reads_node (spelt.in_cluster, cc) in
+    let same_address : address ≡ spelt.address = only (AreAddressWords t g) address spelt.address reads_address (spelt.tenant, cc, spelt.group, cc) in
+    ap (λ q. Request node (Say no_token address q)) none ∙ (λ i. Request (same_node i) (Say no_token (same_address i) [])) ∙ sym spelt.command_is)
 
 pub pack_reads : (nodes : ℕ) (words : List (List ℕ)) (a b : List ℕ) (node to : NodeId) → words ≡ a ∷ b ∷ []
     → Reads (IsNodeWord nodes a) node → Reads (IsNodeWord nodes b) to
@@ -245,6 +268,28 @@ ack_reads nodes words a b node to are reads_node reads_to =
     let same : a ∷ b ∷ [] ≡ decimal spelt.node.number ∷ decimal spelt.to.number ∷ [] = sym are ∙ spelt.words_are in
     let same_node : node ≡ spelt.node = only (IsNodeWord nodes a) node spelt.node reads_node (spelt.in_cluster, cc) in
     let same_to : to ≡ spelt.to = only (IsNodeWord nodes b) to spelt.to reads_to (spelt.to_in_cluster, cc) in
+    cc spelt.command_is)
+
+pub noise_reads : (nodes : ℕ) (words : List (List ℕ)) (a h : List ℕ) (node : NodeId) (bytes : List ℕ) → words ≡ a ∷ h ∷ []
+    → Reads (IsNodeWord nodes a) node → payload_of h ≡ Some bytes
+    → Reads (λ command. SpellsNoise nodes command words) (Noise node bytes)
+noise_reads nodes words a h node bytes are reads_node are_bytes =
+    let is_node = found (IsNodeWord nodes a) node reads_node in
+    let here : SpellsNoise nodes (Noise node bytes) words = record {
+      node = node;
+      bytes = bytes;
+      bytes_word = h;
+      command_is = refl;
+      words_are = cc (are, is_node.1);
+      in_cluster = is_node.0;
+      bytes_are = are_bytes;
+    } in
+    reads_one (λ command. SpellsNoise nodes command words) _ here (λ command spelt.
+    let same : a ∷ h ∷ [] ≡ decimal spelt.node.number ∷ spelt.bytes_word ∷ [] = sym are ∙ spelt.words_are in
+    let same_node : node ≡ spelt.node = only (IsNodeWord nodes a) node spelt.node reads_node (spelt.in_cluster, cc) in
+    let same_word : spelt.bytes_word ≡ h = cc in
+    let spelt_bytes : payload_of h ≡ Some spelt.bytes = rw same_word at spelt.bytes_are in
+    let same_bytes : bytes ≡ spelt.bytes = some_same bytes spelt.bytes (sym are_bytes ∙ spelt_bytes) in
     cc spelt.command_is)
 
 pub tick_reads : (nodes : ℕ) (words : List (List ℕ)) (a : List ℕ) (node : NodeId) → words ≡ a ∷ []

@@ -2,7 +2,7 @@
 use Rattle.std.proofs.Common.{◌≡◌, ℕ, List, [], ◌∷◌, get_or, refl, sym, ap, ◌∙◌, arith}
 use Rattle.std.specs.List.{onto_first}
 use Rattle.gb_schedule.specs.declared.head.Head.{Head}
-use Rattle.gb_schedule.specs.declared.head.Head.TheVariants.{Cluster, Tenant, Make, Open, Shut, Drop, Say, Fetch, Pack, Again, Ack, Arrive, Tick, Stop}
+use Rattle.gb_schedule.specs.declared.head.Head.TheVariants.{Cluster, Tenant, Make, Open, Shut, Drop, Say, Fetch, Forge, Pack, Again, Ack, Arrive, Noise, Tick, Stop}
 use Rattle.gb_schedule.specs.Head.{head_word}
 use Rattle.gb_types.specs.Words.{words_of}
 use Rattle.gb_schedule.specs.Grammar.{SilentLinesSpellNothing}
@@ -17,10 +17,12 @@ head_word-letter Shut = (λ is. omega (arith, is), λ is. omega (arith, is))
 head_word-letter Drop = (λ is. omega (arith, is), λ is. omega (arith, is))
 head_word-letter Say = (λ is. omega (arith, is), λ is. omega (arith, is))
 head_word-letter Fetch = (λ is. omega (arith, is), λ is. omega (arith, is))
+head_word-letter Forge = (λ is. omega (arith, is), λ is. omega (arith, is))
 head_word-letter Pack = (λ is. omega (arith, is), λ is. omega (arith, is))
 head_word-letter Again = (λ is. omega (arith, is), λ is. omega (arith, is))
 head_word-letter Ack = (λ is. omega (arith, is), λ is. omega (arith, is))
 head_word-letter Arrive = (λ is. omega (arith, is), λ is. omega (arith, is))
+head_word-letter Noise = (λ is. omega (arith, is), λ is. omega (arith, is))
 head_word-letter Tick = (λ is. omega (arith, is), λ is. omega (arith, is))
 head_word-letter Stop = (λ is. omega (arith, is), λ is. omega (arith, is))
 

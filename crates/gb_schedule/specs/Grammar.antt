@@ -1,6 +1,6 @@
 -- The grammar of a schedule: for each head, the words behind it and the command that they spell. Numbers are decimal,
 -- without a leading zero.
-use Rattle.std.specs.Prelude.{◌≡◌, ℕ, ◌<◌, ◌≤◌, List, [], ◌∷◌, Option, None, Some, decimal, replicate}
+use Rattle.std.specs.Prelude.{◌≡◌, ℕ, ◌<◌, ◌≤◌, List, [], ◌∷◌, Option, None, Some, decimal}
 use Rattle.gb_types.specs.declared.limits.TheConstants.{NODES, SILENCE_MIN, SILENCE_MAX}
 use Rattle.gb_types.specs.PayloadWord.{payload_of}
 use Rattle.gb_types.specs.RequestWords.{IsShort, IsLong, SpellsSpec}
@@ -11,15 +11,12 @@ use Rattle.gb_types.specs.declared.spec.TenantRow.{TenantRow}
 use Rattle.gb_types.specs.declared.request.Request.{Request as AnyRequest}
 use Rattle.gb_types.specs.declared.request.Request.TheVariants.{AddTenant, Make, OpenGroup, ShutGroup, DropGroup, Say, Fetch}
 use Rattle.gb_schedule.specs.declared.command.Command.{Command}
-use Rattle.gb_schedule.specs.declared.command.Command.TheVariants.{Cluster, Request, Pack, Again, Ack, Arrive, Tick, Stop}
+use Rattle.gb_schedule.specs.declared.command.Command.TheVariants.{Cluster, Request, Pack, Again, Ack, Arrive, Noise, Tick, Stop}
 use Rattle.gb_schedule.specs.declared.head.Head.{Head}
 use Rattle.gb_schedule.specs.declared.head.Head.TheVariants as heads
 use Rattle.gb_schedule.specs.Head.{head_word}
+use Rattle.gb_schedule.specs.Keys.{tenant_key, no_token, admin_token, tenant_token, member_token}
 use Rattle.gb_types.specs.Words.{words_of}
-
--- the token of each request and the key of each tenant, until there are tokens
-abbrev pub no_token : List ℕ
-no_token = replicate 32 0
 
 -- `cluster N S`
 pub record SpellsCluster (command : Command) (words : List (List ℕ)) : Type 0 where
@@ -34,11 +31,11 @@ pub record SpellsCluster (command : Command) (words : List (List ℕ)) : Type 0 
 pub record SpellsTenant (nodes : ℕ) (command : Command) (words : List (List ℕ)) : Type 0 where
   pub node : NodeId
   pub row : TenantRow
-  pub command_is : command ≡ Request node (AddTenant no_token row)
+  pub command_is : command ≡ Request node (AddTenant admin_token row)
   pub words_are : words ≡ decimal node.number ∷ decimal row.tenant ∷ decimal row.groups ∷ decimal row.msgs ∷ decimal row.bytes ∷ decimal row.window ∷ []
   pub in_cluster : node.number < nodes
   pub tenant : IsShort row.tenant
-  pub key : row.key ≡ no_token
+  pub key : row.key ≡ tenant_key row.tenant
   pub groups : IsLong row.groups
   pub msgs : IsLong row.msgs
   pub bytes : IsLong row.bytes
@@ -50,18 +47,18 @@ pub record SpellsMake (nodes : ℕ) (command : Command) (words : List (List ℕ)
   pub address : Addr
   pub spec : Spec
   pub spec_words : List (List ℕ)
-  pub command_is : command ≡ Request node (Make no_token address spec)
+  pub command_is : command ≡ Request node (Make (tenant_token address.tenant) address spec)
   pub words_are : words ≡ decimal node.number ∷ decimal address.tenant ∷ decimal address.group ∷ spec_words
   pub in_cluster : node.number < nodes
   pub tenant : IsShort address.tenant
   pub group : IsShort address.group
   pub spells_spec : SpellsSpec spec spec_words
 
--- `A T G`, behind a head that makes this request of a group
-pub record SpellsNamed (request : Addr → AnyRequest) (nodes : ℕ) (command : Command) (words : List (List ℕ)) : Type 0 where
+-- `A T G`, behind a head that makes this request of a group, with the tenant's token
+pub record SpellsNamed (request : List ℕ → Addr → AnyRequest) (nodes : ℕ) (command : Command) (words : List (List ℕ)) : Type 0 where
   pub node : NodeId
   pub address : Addr
-  pub command_is : command ≡ Request node (request address)
+  pub command_is : command ≡ Request node (request (tenant_token address.tenant) address)
   pub words_are : words ≡ decimal node.number ∷ decimal address.tenant ∷ decimal address.group ∷ []
   pub in_cluster : node.number < nodes
   pub tenant : IsShort address.tenant
@@ -73,7 +70,7 @@ pub record SpellsSay (nodes : ℕ) (command : Command) (words : List (List ℕ))
   pub address : Addr
   pub payload : List ℕ
   pub payload_word : List ℕ
-  pub command_is : command ≡ Request node (Say no_token address payload)
+  pub command_is : command ≡ Request node (Say (member_token address node) address payload)
   pub words_are : words ≡ decimal node.number ∷ decimal address.tenant ∷ decimal address.group ∷ payload_word ∷ []
   pub in_cluster : node.number < nodes
   pub tenant : IsShort address.tenant
@@ -86,13 +83,23 @@ pub record SpellsFetch (nodes : ℕ) (command : Command) (words : List (List ℕ
   pub address : Addr
   pub from : ℕ
   pub most : ℕ
-  pub command_is : command ≡ Request node (Fetch no_token address from most)
+  pub command_is : command ≡ Request node (Fetch (member_token address node) address from most)
   pub words_are : words ≡ decimal node.number ∷ decimal address.tenant ∷ decimal address.group ∷ decimal from ∷ decimal most ∷ []
   pub in_cluster : node.number < nodes
   pub tenant : IsShort address.tenant
   pub group : IsShort address.group
   pub from_in : IsLong from
   pub most_in : IsLong most
+
+-- `forge A T G`: it is said with no good token
+pub record SpellsForge (nodes : ℕ) (command : Command) (words : List (List ℕ)) : Type 0 where
+  pub node : NodeId
+  pub address : Addr
+  pub command_is : command ≡ Request node (Say no_token address [])
+  pub words_are : words ≡ decimal node.number ∷ decimal address.tenant ∷ decimal address.group ∷ []
+  pub in_cluster : node.number < nodes
+  pub tenant : IsShort address.tenant
+  pub group : IsShort address.group
 
 -- `pack A B`
 pub record SpellsPack (nodes : ℕ) (command : Command) (words : List (List ℕ)) : Type 0 where
@@ -130,6 +137,16 @@ pub record SpellsArrive (command : Command) (words : List (List ℕ)) : Type 0 w
   pub words_are : words ≡ decimal packet ∷ []
   pub packet_in : packet ≤ 18446744073709551615
 
+-- `noise B HEX`; the bytes may be spelt in digits of both cases
+pub record SpellsNoise (nodes : ℕ) (command : Command) (words : List (List ℕ)) : Type 0 where
+  pub node : NodeId
+  pub bytes : List ℕ
+  pub bytes_word : List ℕ
+  pub command_is : command ≡ Noise node bytes
+  pub words_are : words ≡ decimal node.number ∷ bytes_word ∷ []
+  pub in_cluster : node.number < nodes
+  pub bytes_are : payload_of bytes_word ≡ Some bytes
+
 -- `tick A`
 pub record SpellsTick (nodes : ℕ) (command : Command) (words : List (List ℕ)) : Type 0 where
   pub node : NodeId
@@ -151,15 +168,17 @@ Spells heads.Cluster None command words = SpellsCluster command words
 Spells heads.Cluster (Some nodes) command words = ⊥
 Spells heads.Tenant (Some nodes) command words = SpellsTenant nodes command words
 Spells heads.Make (Some nodes) command words = SpellsMake nodes command words
-Spells heads.Open (Some nodes) command words = SpellsNamed (OpenGroup no_token) nodes command words
-Spells heads.Shut (Some nodes) command words = SpellsNamed (ShutGroup no_token) nodes command words
-Spells heads.Drop (Some nodes) command words = SpellsNamed (DropGroup no_token) nodes command words
+Spells heads.Open (Some nodes) command words = SpellsNamed OpenGroup nodes command words
+Spells heads.Shut (Some nodes) command words = SpellsNamed ShutGroup nodes command words
+Spells heads.Drop (Some nodes) command words = SpellsNamed DropGroup nodes command words
 Spells heads.Say (Some nodes) command words = SpellsSay nodes command words
 Spells heads.Fetch (Some nodes) command words = SpellsFetch nodes command words
+Spells heads.Forge (Some nodes) command words = SpellsForge nodes command words
 Spells heads.Pack (Some nodes) command words = SpellsPack nodes command words
 Spells heads.Again (Some nodes) command words = SpellsAgain nodes command words
 Spells heads.Ack (Some nodes) command words = SpellsAck nodes command words
 Spells heads.Arrive (Some nodes) command words = SpellsArrive command words
+Spells heads.Noise (Some nodes) command words = SpellsNoise nodes command words
 Spells heads.Tick (Some nodes) command words = SpellsTick nodes command words
 Spells heads.Stop (Some nodes) command words = SpellsStop nodes command words
 Spells other None command words = ⊥
@@ -180,6 +199,7 @@ IsInPlace (Some nodes) (Pack node to) = (node.number < nodes) × (to.number < no
 IsInPlace (Some nodes) (Again node to frame) = (node.number < nodes) × (to.number < nodes) × (frame ≤ 18446744073709551615)
 IsInPlace (Some nodes) (Ack node to) = (node.number < nodes) × (to.number < nodes)
 IsInPlace (Some nodes) (Arrive packet) = packet ≤ 18446744073709551615
+IsInPlace (Some nodes) (Noise node bytes) = node.number < nodes
 IsInPlace (Some nodes) (Tick node) = node.number < nodes
 IsInPlace (Some nodes) (Stop node) = node.number < nodes
 IsInPlace other command = ⊥

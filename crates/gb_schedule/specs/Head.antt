@@ -1,7 +1,7 @@
 -- The words that lines of a schedule begin with.
 use Rattle.std.specs.Prelude.{ℕ, List, codes}
 use Rattle.gb_schedule.specs.declared.head.Head.{Head}
-use Rattle.gb_schedule.specs.declared.head.Head.TheVariants.{Cluster, Tenant, Make, Open, Shut, Drop, Say, Fetch, Pack, Again, Ack, Arrive, Tick, Stop}
+use Rattle.gb_schedule.specs.declared.head.Head.TheVariants.{Cluster, Tenant, Make, Open, Shut, Drop, Say, Fetch, Forge, Pack, Again, Ack, Arrive, Noise, Tick, Stop}
 
 -- the word for a head
 abbrev pub head_word : Head → List ℕ
@@ -13,9 +13,11 @@ head_word Shut = codes "shut"
 head_word Drop = codes "drop"
 head_word Say = codes "say"
 head_word Fetch = codes "fetch"
+head_word Forge = codes "forge"
 head_word Pack = codes "pack"
 head_word Again = codes "again"
 head_word Ack = codes "ack"
 head_word Arrive = codes "arrive"
+head_word Noise = codes "noise"
 head_word Tick = codes "tick"
 head_word Stop = codes "stop"

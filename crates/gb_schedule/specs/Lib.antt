@@ -3,4 +3,5 @@ pub mod LineLaws
 pub mod Buffered
 pub mod LineBuffer
 pub mod Head
+pub mod Keys
 pub mod Grammar

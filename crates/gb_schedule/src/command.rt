@@ -1,5 +1,6 @@
 //! What a line of a schedule asks for.
 use gb_types::node::NodeId;
+use gb_types::payload::Payload;
 use gb_types::request::Request;
 
 /// What a line of a schedule asks for.
@@ -19,6 +20,8 @@ pub enum Command {
     Ack(NodeId, NodeId),
     /// Lets a packet arrive where it was sent to. Packets are numbered from 1 as they are sent.
     Arrive(u64),
+    /// Hands bytes in at a node, which may be anything but a packet of the cluster.
+    Noise(NodeId, Payload),
     /// Lets time pass at a node.
     Tick(NodeId),
     /// Stops a node for good.

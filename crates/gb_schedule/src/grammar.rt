@@ -5,10 +5,11 @@ ghost use Rattle.gb_types.specs.Words.{words_of};
 ghost use Rattle.gb_types.specs.declared.node.NodeId.{NodeId as TheNode};
 ghost use Rattle.gb_schedule.specs.declared.command.Command.{Command as TheCommand};
 ghost use Rattle.gb_types.specs.declared.request.Request.TheVariants.{OpenGroup, ShutGroup, DropGroup};
-ghost use Rattle.gb_schedule.specs.Grammar.{no_token, SpellsCluster, SpellsTenant, SpellsMake, SpellsNamed, SpellsSay, SpellsFetch, SpellsPack, SpellsAgain, SpellsAck, SpellsArrive, SpellsTick, SpellsStop, Spells, IsCommandLine, IsInPlace, IsSilent, SilentLinesSpellNothing};
+ghost use Rattle.gb_schedule.specs.Grammar.{SpellsCluster, SpellsTenant, SpellsMake, SpellsNamed, SpellsSay, SpellsFetch, SpellsForge, SpellsPack, SpellsAgain, SpellsAck, SpellsArrive, SpellsNoise, SpellsTick, SpellsStop, Spells, IsCommandLine, IsInPlace, IsSilent, SilentLinesSpellNothing};
 
 use crate::command::Command;
 use crate::head::{Head, read_head};
+use crate::keys::{Keys, NO_TOKEN, tenant_key};
 use gb_types::limits::{NODES, SILENCE_MAX, SILENCE_MIN};
 use gb_types::memory::OutOfMemory;
 use gb_types::node::NodeId;
@@ -20,9 +21,6 @@ use gb_types::request_words::{read_address, read_spec, read_u16, read_u32};
 use gb_types::spec::TenantRow;
 use smallvec::SmallVec;
 use std::alloc::Global;
-
-/// The token of each request and the key of each tenant, until there are tokens.
-const NO_TOKEN: [u8; 32] = [0; 32];
 
 // A number from the least to the most.
 fn read_between(word: &[u8], least: u64, most: u64) -> Option<u64>
@@ -63,7 +61,7 @@ fn read_cluster(words: &[&[u8]]) -> Option<Command>
 }
 
 // tenant A T GROUPS MSGS BYTES WINDOW
-fn read_tenant(nodes: u8, words: &[&[u8]]) -> Option<Command>
+fn read_tenant(keys: &Keys, nodes: u8, words: &[&[u8]]) -> Option<Command>
     requires { (1 ≤ nodes) × (nodes ≤ NODES) }
     ensures { (command : TheCommand) → (result ≡ Some command)
         ↔ SpellsTenant nodes command (map (λ word. word.now) words.now) }
@@ -79,17 +77,18 @@ fn read_tenant(nodes: u8, words: &[&[u8]]) -> Option<Command>
     let window = read_u32(window)?;
     let row = TenantRow {
         tenant,
-        key: NO_TOKEN,
+        key: tenant_key(tenant),
         groups,
         msgs,
         bytes,
         window,
     };
-    Some(Command::Request(node, Request::AddTenant(NO_TOKEN, row)))
+    let request = Request::AddTenant(keys.admin(), row);
+    Some(Command::Request(node, request))
 }
 
 // make A T G KIND MEMBERS MSGS BYTES WINDOW
-fn read_make(nodes: u8, words: &[&[u8]]) -> Option<Command>
+fn read_make(keys: &mut Keys, nodes: u8, words: &[&[u8]]) -> Option<Command>
     requires { (1 ≤ nodes) × (nodes ≤ NODES) }
     ensures { (command : TheCommand) → (result ≡ Some command)
         ↔ SpellsMake nodes command (map (λ word. word.now) words.now) }
@@ -100,53 +99,62 @@ fn read_make(nodes: u8, words: &[&[u8]]) -> Option<Command>
     let node = read_node(node, nodes)?;
     let address = read_address(tenant, group)?;
     let spec = read_spec(spec)?;
-    Some(Command::Request(node, Request::Make(NO_TOKEN, address, spec)))
+    let token = keys.tenant(address.tenant);
+    Some(Command::Request(node, Request::Make(token, address, spec)))
 }
 
 // open A T G
-fn read_open(nodes: u8, words: &[&[u8]]) -> Option<Command>
+fn read_open(keys: &mut Keys, nodes: u8, words: &[&[u8]]) -> Option<Command>
     requires { (1 ≤ nodes) × (nodes ≤ NODES) }
     ensures { (command : TheCommand) → (result ≡ Some command)
-        ↔ SpellsNamed (OpenGroup no_token) nodes command (map (λ word. word.now) words.now) }
+        ↔ SpellsNamed OpenGroup nodes command (map (λ word. word.now) words.now) }
 {
     let [node, tenant, group] = words else {
         return None;
     };
     let node = read_node(node, nodes)?;
     let address = read_address(tenant, group)?;
-    Some(Command::Request(node, Request::OpenGroup(NO_TOKEN, address)))
+    let token = keys.tenant(address.tenant);
+    Some(Command::Request(node, Request::OpenGroup(token, address)))
 }
 
 // shut A T G
-fn read_shut(nodes: u8, words: &[&[u8]]) -> Option<Command>
+fn read_shut(keys: &mut Keys, nodes: u8, words: &[&[u8]]) -> Option<Command>
     requires { (1 ≤ nodes) × (nodes ≤ NODES) }
     ensures { (command : TheCommand) → (result ≡ Some command)
-        ↔ SpellsNamed (ShutGroup no_token) nodes command (map (λ word. word.now) words.now) }
+        ↔ SpellsNamed ShutGroup nodes command (map (λ word. word.now) words.now) }
 {
     let [node, tenant, group] = words else {
         return None;
     };
     let node = read_node(node, nodes)?;
     let address = read_address(tenant, group)?;
-    Some(Command::Request(node, Request::ShutGroup(NO_TOKEN, address)))
+    let token = keys.tenant(address.tenant);
+    Some(Command::Request(node, Request::ShutGroup(token, address)))
 }
 
 // drop A T G
-fn read_drop(nodes: u8, words: &[&[u8]]) -> Option<Command>
+fn read_drop(keys: &mut Keys, nodes: u8, words: &[&[u8]]) -> Option<Command>
     requires { (1 ≤ nodes) × (nodes ≤ NODES) }
     ensures { (command : TheCommand) → (result ≡ Some command)
-        ↔ SpellsNamed (DropGroup no_token) nodes command (map (λ word. word.now) words.now) }
+        ↔ SpellsNamed DropGroup nodes command (map (λ word. word.now) words.now) }
 {
     let [node, tenant, group] = words else {
         return None;
     };
     let node = read_node(node, nodes)?;
     let address = read_address(tenant, group)?;
-    Some(Command::Request(node, Request::DropGroup(NO_TOKEN, address)))
+    let token = keys.tenant(address.tenant);
+    Some(Command::Request(node, Request::DropGroup(token, address)))
 }
 
 // say A T G PAYLOAD
-fn read_say(alloc: Global, nodes: u8, words: &[&[u8]]) -> Result<Option<Command>, OutOfMemory>
+fn read_say(
+    alloc: Global,
+    keys: &mut Keys,
+    nodes: u8,
+    words: &[&[u8]],
+) -> Result<Option<Command>, OutOfMemory>
     requires { (1 ≤ nodes) × (nodes ≤ NODES) }
     ensures { IfOk result (λ found. (command : TheCommand) → (found ≡ Some command)
         ↔ SpellsSay nodes command (map (λ word. word.now) words.now)) }
@@ -163,12 +171,13 @@ fn read_say(alloc: Global, nodes: u8, words: &[&[u8]]) -> Result<Option<Command>
     let Some(payload) = read_payload(alloc, payload)? else {
         return Ok(None);
     };
-    let request = Request::Say(NO_TOKEN, address, Payload::from(payload));
+    let token = keys.member(address, node);
+    let request = Request::Say(token, address, Payload::from(payload));
     Ok(Some(Command::Request(node, request)))
 }
 
 // fetch A T G FROM MAX
-fn read_fetch(nodes: u8, words: &[&[u8]]) -> Option<Command>
+fn read_fetch(keys: &mut Keys, nodes: u8, words: &[&[u8]]) -> Option<Command>
     requires { (1 ≤ nodes) × (nodes ≤ NODES) }
     ensures { (command : TheCommand) → (result ≡ Some command)
         ↔ SpellsFetch nodes command (map (λ word. word.now) words.now) }
@@ -180,7 +189,23 @@ fn read_fetch(nodes: u8, words: &[&[u8]]) -> Option<Command>
     let address = read_address(tenant, group)?;
     let from = read_u32(from)?;
     let most = read_u32(most)?;
-    Some(Command::Request(node, Request::Fetch(NO_TOKEN, address, from, most)))
+    let token = keys.member(address, node);
+    Some(Command::Request(node, Request::Fetch(token, address, from, most)))
+}
+
+// forge A T G
+fn read_forge(alloc: Global, nodes: u8, words: &[&[u8]]) -> Option<Command>
+    requires { (1 ≤ nodes) × (nodes ≤ NODES) }
+    ensures { (command : TheCommand) → (result ≡ Some command)
+        ↔ SpellsForge nodes command (map (λ word. word.now) words.now) }
+{
+    let [node, tenant, group] = words else {
+        return None;
+    };
+    let node = read_node(node, nodes)?;
+    let address = read_address(tenant, group)?;
+    let request = Request::Say(NO_TOKEN, address, Payload::new(alloc));
+    Some(Command::Request(node, request))
 }
 
 // pack A B
@@ -237,6 +262,24 @@ fn read_arrive(words: &[&[u8]]) -> Option<Command>
     Some(Command::Arrive(read_number(packet, u64::MAX)?))
 }
 
+// noise B HEX
+fn read_noise(alloc: Global, nodes: u8, words: &[&[u8]]) -> Result<Option<Command>, OutOfMemory>
+    requires { (1 ≤ nodes) × (nodes ≤ NODES) }
+    ensures { IfOk result (λ found. (command : TheCommand) → (found ≡ Some command)
+        ↔ SpellsNoise nodes command (map (λ word. word.now) words.now)) }
+{
+    let [node, bytes] = words else {
+        return Ok(None);
+    };
+    let Some(node) = read_node(node, nodes) else {
+        return Ok(None);
+    };
+    let Some(bytes) = read_payload(alloc, bytes)? else {
+        return Ok(None);
+    };
+    Ok(Some(Command::Noise(node, Payload::from(bytes))))
+}
+
 // tick A
 fn read_tick(nodes: u8, words: &[&[u8]]) -> Option<Command>
     requires { (1 ≤ nodes) × (nodes ≤ NODES) }
@@ -266,6 +309,7 @@ fn read_stop(nodes: u8, words: &[&[u8]]) -> Option<Command>
 // The command that a head and the words behind it, its arguments, spell.
 fn read_arguments(
     alloc: Global,
+    keys: &mut Keys,
     nodes: Option<u8>,
     head: Head,
     arguments: &[&[u8]],
@@ -282,17 +326,19 @@ fn read_arguments(
     };
     match head {
         Head::Cluster => Ok(None),
-        Head::Tenant => Ok(read_tenant(nodes, arguments)),
-        Head::Make => Ok(read_make(nodes, arguments)),
-        Head::Open => Ok(read_open(nodes, arguments)),
-        Head::Shut => Ok(read_shut(nodes, arguments)),
-        Head::Drop => Ok(read_drop(nodes, arguments)),
-        Head::Say => read_say(alloc, nodes, arguments),
-        Head::Fetch => Ok(read_fetch(nodes, arguments)),
+        Head::Tenant => Ok(read_tenant(keys, nodes, arguments)),
+        Head::Make => Ok(read_make(keys, nodes, arguments)),
+        Head::Open => Ok(read_open(keys, nodes, arguments)),
+        Head::Shut => Ok(read_shut(keys, nodes, arguments)),
+        Head::Drop => Ok(read_drop(keys, nodes, arguments)),
+        Head::Say => read_say(alloc, keys, nodes, arguments),
+        Head::Fetch => Ok(read_fetch(keys, nodes, arguments)),
+        Head::Forge => Ok(read_forge(alloc, nodes, arguments)),
         Head::Pack => Ok(read_pack(nodes, arguments)),
         Head::Again => Ok(read_again(nodes, arguments)),
         Head::Ack => Ok(read_ack(nodes, arguments)),
         Head::Arrive => Ok(read_arrive(arguments)),
+        Head::Noise => read_noise(alloc, nodes, arguments),
         Head::Tick => Ok(read_tick(nodes, arguments)),
         Head::Stop => Ok(read_stop(nodes, arguments)),
     }
@@ -308,9 +354,10 @@ fn words_in(alloc: Global, line: &[u8]) -> Result<SmallVec<&[u8], 10>, OutOfMemo
 }
 
 /// The command that a line spells, or None where it spells none. `nodes` is how many nodes the
-/// cluster has, once there is one.
+/// cluster has, once there is one. Each request comes with its token, but a forged one.
 pub fn read_command(
     alloc: Global,
+    keys: &mut Keys,
     nodes: Option<u8>,
     line: &[u8],
 ) -> Result<Option<Command>, OutOfMemory>
@@ -326,7 +373,7 @@ pub fn read_command(
     let Some(head) = read_head(head) else {
         return Ok(None);
     };
-    read_arguments(alloc, nodes, head, arguments)
+    read_arguments(alloc, keys, nodes, head, arguments)
 }
 
 /// Whether a line asks for nothing: it is empty, or a comment, which begins with `#`.

@@ -6,7 +6,7 @@ use Rattle.std.specs.Ordering.{nat_cmp}
 use Rattle.std.specs.Prelude.{codes, Result, Ok, Err, OnOk, IfErr}
 use Rattle.std.specs.Result.{IsErrAnd}
 use Rattle.gb_types.specs.Rising.{rising, rising_from}
-use Rattle.gb_simulate.specs.Schedule.{each_after_space, noticed_words}
+use Rattle.gb_simulate.specs.AnswerText.{each_after_space, noticed_words}
 
 rising_all : (s : set.FinSet nat_cmp) → rising s ≡ rising_from s 0
 unfolding rising rising_from

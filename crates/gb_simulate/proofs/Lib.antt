@@ -1,5 +1,6 @@
 pub mod RunTextLemmas
 pub mod ProgressLemmas
 pub mod AnswerLemmas
-pub mod OfClusterLemmas
+pub mod OfNetworkLemmas
+pub mod HappensLemmas
 pub mod WritingLemmas

@@ -1,4 +1,5 @@
-pub mod OfCluster
+pub mod OfNetwork
+pub mod AnswerText
 pub mod Schedule
 pub mod Status
 pub mod Complaint

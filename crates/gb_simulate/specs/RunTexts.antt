@@ -1,23 +1,53 @@
--- The lines of a schedule and their answers, as the steps of a run of a cluster.
+-- The lines of a schedule and their answers, as the steps of a run of a network.
 use Rattle.std.specs.Prelude.{ℕ, ◌≡◌, ◌⊎◌, List, [], ◌∷◌, ◌++◌, length, Option, Some, None, codes, All}
-use Rattle.gb_cluster.specs.State.{ComesTo}
-use Rattle.gb_record.specs.declared.step.Step.{Step}
+use Rattle.gb_node.specs.declared.event.NodeEvent.TheVariants.{Packet as Came}
+use Rattle.gb_network.specs.NetworkStep.{IsStep, answer_of, packet_numbered}
+use Rattle.gb_network.specs.NetworkValue.{NetworkValue, new_network}
+use Rattle.gb_network.specs.Run.{Did, ComesTo}
+use Rattle.gb_network.specs.declared.answer.Answer.{Answer}
+use Rattle.gb_network.specs.declared.event.Event.{Event}
+use Rattle.gb_network.specs.declared.event.Event.TheVariants.{At, Arrive}
+use Rattle.gb_network.specs.declared.plan.NetworkPlan.{NetworkPlan}
+use Rattle.gb_network.specs.declared.posted.Posted.{Posted}
 use Rattle.gb_schedule.specs.Grammar.{IsCommandLine, IsSilent}
 use Rattle.gb_schedule.specs.Lines.{ended}
 use Rattle.gb_schedule.specs.declared.command.Command.{Command}
 use Rattle.gb_schedule.specs.declared.command.Command.TheVariants.{Cluster}
-use Rattle.gb_simulate.specs.OfCluster.{State}
-use Rattle.gb_simulate.specs.Schedule.{answer_spelling, event_of}
+use Rattle.gb_simulate.specs.AnswerText.{answer_spelling}
+use Rattle.gb_simulate.specs.OfNetwork.{plan_of}
+use Rattle.gb_simulate.specs.Schedule.{event_of}
 
--- in a cluster of so many nodes a line spells the event of a step, and its answer is the step's
+-- an event in a network and its answer
+pub record Step : Type 0 where
+  pub event : Event
+  pub answer : Answer
+
+-- what happened at a node is what the event says: it happened there, or a packet that was sent there arrived
+abbrev pub IsOf : List Posted → Event → Did → Type 0
+IsOf packets (At a event) d = (d.node ≡ a) × (d.event ≡ event)
+IsOf packets (Arrive k) d = (p : Posted) × (packet_numbered packets k ≡ Some p) × (d.node ≡ p.to) × (d.event ≡ Came p.text)
+
+-- by a step nothing happens at any node, or this, with the step's answer
+abbrev pub Happens : NetworkValue → Step → List Did → NetworkValue → List Did → Type 0
+Happens before step earlier after run =
+    ((run ≡ earlier) × (after ≡ before))
+    ⊎ ((d : Did) × (run ≡ d ∷ earlier) × IsOf before.packets step.event d × (step.answer ≡ answer_of (length before.packets) d.answer))
+
+-- steps of a network, and what happened at its nodes by them, both with the newest first
+unfoldable pub AreSteps : NetworkPlan → List Step → List Did → NetworkValue → Type 0
+AreSteps plan [] run v = (run ≡ []) × (v ≡ new_network plan)
+AreSteps plan (step ∷ steps) run v =
+    (before : NetworkValue) × (earlier : List Did) × AreSteps plan steps earlier before × IsStep before step.event step.answer v × Happens before step earlier v run
+
+-- in a network of so many nodes a line spells the event of a step, and its answer is the step's
 pub record TellsStep (nodes : ℕ) (line answer : List ℕ) (step : Step) : Type 0 where
   pub command : Command
   pub spelt : IsCommandLine (Some nodes) line command
   pub event_is : event_of command ≡ Some step.event
   pub answer_is : answer ≡ ended (answer_spelling step.answer)
 
--- Lines tell the steps of a run, both with the newest first: each line asks for nothing, or tells the next step; the text
--- is the answers, one after another.
+-- Lines tell steps, both with the newest first: each line asks for nothing, or tells the next step; the text is the answers,
+-- one after another.
 abbrev pub TellSteps : ℕ → List (List ℕ) → List ℕ → List Step → Type 0
 TellSteps nodes [] text steps = (text ≡ []) × (steps ≡ [])
 TellSteps nodes (line ∷ lines) text steps =
@@ -25,9 +55,9 @@ TellSteps nodes (line ∷ lines) text steps =
     ⊎ ((step : Step) × (earlier : List Step) × (answer : List ℕ) × (answers : List ℕ) × (steps ≡ step ∷ earlier) × (text ≡ answers ++ answer)
     × TellsStep nodes line answer step × TellSteps nodes lines answers earlier)
 
--- Lines, the newest first, are those of a run that leads here: one starts a cluster; those before it ask for nothing; those
--- behind it tell the steps. The text is the answers of all.
-pub record IsRunOf (lines : List (List ℕ)) (text : List ℕ) (steps : List Step) (c : State) : Type 0 where
+-- Lines, the newest first, are those of a run that leads here: one starts the network; those before it ask for nothing; those
+-- behind it tell the steps. The text is the answers of all. The run is what happened at the nodes by the steps.
+pub record IsRunOf (lines : List (List ℕ)) (text : List ℕ) (run : List Did) (v : NetworkValue) : Type 0 where
   pub nodes : ℕ
   pub silence : ℕ
   pub behind : List (List ℕ)
@@ -38,12 +68,12 @@ pub record IsRunOf (lines : List (List ℕ)) (text : List ℕ) (steps : List Ste
   pub starts : IsCommandLine None first (Cluster nodes silence)
   pub answers : List ℕ
   pub text_is : text ≡ ended (codes "ok") ++ answers
+  pub steps : List Step
   pub told : TellSteps nodes behind answers steps
-  pub comes : ComesTo steps c
-  pub nodes_are : length c.nodes ≡ nodes
-  pub silence_is : c.silence ≡ silence
+  pub made : AreSteps (plan_of nodes silence) steps run v
+  pub comes : ComesTo (plan_of nodes silence) run v
 
 -- these lines are those of a run, or ask for nothing
-abbrev pub TellsRun : List (List ℕ) → List ℕ → Option State → Type 0
+abbrev pub TellsRun : List (List ℕ) → List ℕ → Option NetworkValue → Type 0
 TellsRun lines text None = All IsSilent lines × (text ≡ [])
-TellsRun lines text (Some c) = (steps : List Step) × IsRunOf lines text steps c
+TellsRun lines text (Some v) = (run : List Did) × IsRunOf lines text run v

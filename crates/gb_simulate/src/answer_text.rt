@@ -3,9 +3,11 @@ ghost use Rattle.std.specs.Prelude.{◌≡◌, ◌++◌, ◌∷◌, [], codes, O
 ghost use Rattle.gb_types.specs.Rising.{rising, rising_from};
 ghost use Rattle.gb_types.specs.ReplyText.{reply_spelling};
 ghost use Rattle.gb_schedule.specs.Lines.{ended};
-ghost use Rattle.gb_simulate.specs.Schedule.{answer_spelling, bad_line, each_after_space, frame_word, noticed_words};
+ghost use Rattle.gb_simulate.specs.AnswerText.{answer_spelling, bad_line, each_after_space, fault_name, fault_spelling, frame_word, good_spelling, halted_spelling, noticed_words, packet_spelling, sending_spelling, ticked_spelling};
 
-use gb_record::answer::{Answer, Frame, Good, Halted, Sent, Taken, Ticked};
+use gb_frame::fault::PacketFault;
+use gb_network::answer::{Answer, Sending};
+use gb_node::answer::{Frame, Good, Halted, PacketAnswer, Ticked};
 use gb_types::memory::OutOfMemory;
 use gb_types::node::NodeSet;
 use gb_types::number::put_number;
@@ -35,7 +37,7 @@ fn put_frame(out: &mut Vec<u8>, frame: Frame) -> Result<(), OutOfMemory>
 
 /// Appends `good FRAME ITEMS DONE`.
 fn put_good(out: &mut Vec<u8>, good: &Good) -> Result<(), OutOfMemory>
-    ensures { OnOk result (out.new.items ≡ out.old.items ++ answer_spelling (Answer.Taken (Taken.Good good.now))) }
+    ensures { OnOk result (out.new.items ≡ out.old.items ++ good_spelling good.now) }
 {
     out.extend_from_slice(b"good ")?;
     put_frame(out, good.frame)?;
@@ -45,20 +47,60 @@ fn put_good(out: &mut Vec<u8>, good: &Good) -> Result<(), OutOfMemory>
     put_number(out, u64::from(good.done))
 }
 
-/// Appends `packet K`, `nothing` or a refusal.
-fn put_sent(out: &mut Vec<u8>, sent: Sent) -> Result<(), OutOfMemory>
-    ensures { OnOk result (out.new.items ≡ out.old.items ++ answer_spelling (Answer.Sent sent)) }
+/// What is wrong with bytes, in a word.
+fn name_of(fault: PacketFault) -> &'static [u8]
+    ensures { result.now ≡ fault_name fault }
 {
-    match sent {
-        Sent::Packet(number) => {
+    match fault {
+        PacketFault::Short => b"Short",
+        PacketFault::Magic => b"Magic",
+        PacketFault::Version => b"Version",
+        PacketFault::Node => b"Node",
+        PacketFault::Mask => b"Mask",
+        PacketFault::Count => b"Count",
+        PacketFault::Length => b"Length",
+        PacketFault::Trailing => b"Trailing",
+        PacketFault::TooLong => b"TooLong",
+        PacketFault::Tag => b"Tag",
+    }
+}
+
+/// Appends `fault NUMBER NAME`.
+fn put_fault(out: &mut Vec<u8>, fault: PacketFault) -> Result<(), OutOfMemory>
+    ensures { OnOk result (out.new.items ≡ out.old.items ++ fault_spelling fault) }
+{
+    out.extend_from_slice(b"fault ")?;
+    put_number(out, u64::from(fault.number()))?;
+    out.extend_from_slice(b" ")?;
+    out.extend_from_slice(name_of(fault))?;
+    Ok(())
+}
+
+/// Appends what became of bytes that came.
+fn put_packet(out: &mut Vec<u8>, taken: &PacketAnswer) -> Result<(), OutOfMemory>
+    ensures { OnOk result (out.new.items ≡ out.old.items ++ packet_spelling taken.now) }
+{
+    match taken {
+        PacketAnswer::Good(good) => put_good(out, good),
+        PacketAnswer::Fault(fault) => put_fault(out, *fault),
+        PacketAnswer::Refused(why) => put_refusal(out, *why),
+    }
+}
+
+/// Appends `packet K`, `nothing` or a refusal.
+fn put_sending(out: &mut Vec<u8>, sending: Sending) -> Result<(), OutOfMemory>
+    ensures { OnOk result (out.new.items ≡ out.old.items ++ sending_spelling sending) }
+{
+    match sending {
+        Sending::Packet(number) => {
             out.extend_from_slice(b"packet ")?;
             put_number(out, number)
         }
-        Sent::Nothing => {
+        Sending::Nothing => {
             out.extend_from_slice(b"nothing")?;
             Ok(())
         }
-        Sent::Refused(why) => put_refusal(out, why),
+        Sending::Refused(why) => put_refusal(out, why),
     }
 }
 
@@ -91,23 +133,46 @@ fn put_noticed(out: &mut Vec<u8>, found: &NodeSet) -> Result<(), OutOfMemory>
     }
 }
 
+/// Appends what a tick brought to light.
+fn put_ticked(out: &mut Vec<u8>, ticked: &Ticked) -> Result<(), OutOfMemory>
+    ensures { OnOk result (out.new.items ≡ out.old.items ++ ticked_spelling ticked.now) }
+{
+    match ticked {
+        Ticked::Noticed(found) => put_noticed(out, found),
+        Ticked::Refused(why) => put_refusal(out, *why),
+    }
+}
+
+/// Appends whether a node stopped.
+fn put_halted(out: &mut Vec<u8>, halted: Halted) -> Result<(), OutOfMemory>
+    ensures { OnOk result (out.new.items ≡ out.old.items ++ halted_spelling halted) }
+{
+    match halted {
+        Halted::Done => put_reply(out, &Reply::Done),
+        Halted::Refused(why) => put_refusal(out, why),
+    }
+}
+
+/// Appends words.
+fn put_words(out: &mut Vec<u8>, words: &[u8]) -> Result<(), OutOfMemory>
+    ensures { OnOk result (out.new.items ≡ out.old.items ++ words.now) }
+{
+    out.extend_from_slice(words)?;
+    Ok(())
+}
+
 /// Appends the text of an answer.
 fn put_text(out: &mut Vec<u8>, answer: &Answer) -> Result<(), OutOfMemory>
     ensures { OnOk result (out.new.items ≡ out.old.items ++ answer_spelling answer.now) }
 {
     match answer {
         Answer::Reply(reply) => put_reply(out, reply),
-        Answer::Sent(sent) => put_sent(out, *sent),
-        Answer::Taken(Taken::Good(good)) => put_good(out, good),
-        Answer::Taken(Taken::Refused(why)) => put_refusal(out, *why),
-        Answer::Ticked(Ticked::Noticed(found)) => put_noticed(out, found),
-        Answer::Ticked(Ticked::Refused(why)) => put_refusal(out, *why),
-        Answer::Halted(Halted::Done) => put_reply(out, &Reply::Done),
-        Answer::Halted(Halted::Refused(why)) => put_refusal(out, *why),
-        Answer::NoPacket => {
-            out.extend_from_slice(b"no packet")?;
-            Ok(())
-        }
+        Answer::Taken(taken) => put_packet(out, taken),
+        Answer::Sent(sending) => put_sending(out, *sending),
+        Answer::Ticked(ticked) => put_ticked(out, ticked),
+        Answer::Halted(halted) => put_halted(out, *halted),
+        Answer::NoPacket => put_words(out, b"no packet"),
+        Answer::NotNoise => put_words(out, b"not noise"),
     }
 }
 

@@ -1,7 +1,8 @@
 //! Runs a schedule, line by line.
 ghost use Rattle.std.specs.Prelude.{◌≡◌, ◌≢◌, ◌++◌, [], Ok, Some, None, IfOk, IfErr, OnOk, IfSome};
 ghost use Rattle.gb_schedule.specs.Buffered.{left, WantsRead};
-ghost use Rattle.gb_simulate.specs.Schedule.{HasNodes, bad_line};
+ghost use Rattle.gb_simulate.specs.AnswerText.{bad_line};
+ghost use Rattle.gb_simulate.specs.Schedule.{HasNodes};
 ghost use Rattle.gb_simulate.specs.Text.{IsWritten, IsWrittenUpTo};
 ghost use Rattle.gb_simulate.specs.Progress.{TakesLine, Ends, Fails, HandsOver, IsCutShort, IsGathered, IsGatheredUpTo};
 
@@ -9,7 +10,8 @@ use crate::answer_text::put_bad_line;
 use crate::obey::answer_line;
 use crate::outcome::{BadLine, SimEnd, SimFault};
 use crate::writing::write_text;
-use gb_cluster::cluster::Cluster;
+use gb_network::network::Network;
+use gb_schedule::keys::Keys;
 use gb_schedule::lines::{LineBuffer, NextLine};
 use gb_types::memory::OutOfMemory;
 use std::alloc::Global;
@@ -49,21 +51,22 @@ fn answer_next<R: Read>(
     number: u64,
     reader: &mut R,
     lines: &mut LineBuffer,
-    cluster: &mut Option<Cluster>,
+    keys: &mut Keys,
+    network: &mut Option<Network>,
     text: &mut Vec<u8>,
     gathered: &mut Vec<u8>,
 ) -> Result<Option<SimEnd>, SimFault>
-    requires { HasNodes cluster.old }
-    ensures few { OnOk result (HasNodes cluster.new) }
-    ensures goes_on { result ≡ Ok None → TakesLine number cluster.old cluster.new (left lines.old (R.remaining reader.old)) (left lines.new (R.remaining reader.new)) gathered.old.items gathered.new.items }
-    ensures ends { IfOk result (λ found. IfSome found (λ end. Ends end number cluster.old (left lines.old (R.remaining reader.old)) gathered.old.items gathered.new.items)) }
+    requires { HasNodes network.old }
+    ensures few { OnOk result (HasNodes network.new) }
+    ensures goes_on { result ≡ Ok None → TakesLine number network.old network.new (left lines.old (R.remaining reader.old)) (left lines.new (R.remaining reader.new)) gathered.old.items gathered.new.items }
+    ensures ends { IfOk result (λ found. IfSome found (λ end. Ends end number network.old (left lines.old (R.remaining reader.old)) gathered.old.items gathered.new.items)) }
     ensures fails { IfErr result (λ why. Fails why (left lines.old (R.remaining reader.old)) (R.remaining reader.new) gathered.old.items gathered.new.items) }
 {
     text.clear();
     match lines.next(reader)? {
         NextLine::End => Ok(Some(SimEnd::All)),
         NextLine::TooLong => Ok(Some(end_badly(number, BadLine::TooLong, text, gathered)?)),
-        NextLine::Given => match answer_line(alloc, number, cluster, lines.line(), text)? {
+        NextLine::Given => match answer_line(alloc, number, keys, network, lines.line(), text)? {
             Some(why) => Ok(Some(end_badly(number, why, text, gathered)?)),
             None => {
                 gather(gathered, text)?;
@@ -110,30 +113,53 @@ fn answer_lines<R: Read, W: Write>(
     reader: &mut R,
     writer: &mut W,
     lines: &mut LineBuffer,
+    keys: &mut Keys,
+    network: &mut Option<Network>,
     text: &mut Vec<u8>,
+    gathered: &mut Vec<u8>,
+) -> Result<SimEnd, SimFault>
+    requires first { network.old ≡ None }
+    requires none { gathered.old.items ≡ [] }
+    ensures text { IfOk result (λ end. IfSome (left lines.old (R.remaining reader.old)) (λ input. IfSome (W.contents writer.old) (λ before. IsGathered end input before (W.contents writer.new) gathered.new.items))) }
+    ensures fault { IfErr result (λ why. IfSome (left lines.old (R.remaining reader.old)) (λ input. IfSome (W.contents writer.old) (λ before. IsGatheredUpTo why input before (R.remaining reader.new) (W.contents writer.new) gathered.new.items))) }
+{
+    let mut number = 0;
+    loop {
+        number += 1;
+        hand_over_in_time(writer, lines, gathered)?;
+        if let Some(end) = answer_next(
+            alloc, number, reader, lines, keys, network, text, gathered,
+        )? {
+            return Ok(end);
+        }
+    }
+}
+
+/// Answers the lines of a schedule in a network of its own.
+fn answer_all<R: Read, W: Write>(
+    alloc: Global,
+    reader: &mut R,
+    writer: &mut W,
+    lines: &mut LineBuffer,
     gathered: &mut Vec<u8>,
 ) -> Result<SimEnd, SimFault>
     requires { gathered.old.items ≡ [] }
     ensures text { IfOk result (λ end. IfSome (left lines.old (R.remaining reader.old)) (λ input. IfSome (W.contents writer.old) (λ before. IsGathered end input before (W.contents writer.new) gathered.new.items))) }
     ensures fault { IfErr result (λ why. IfSome (left lines.old (R.remaining reader.old)) (λ input. IfSome (W.contents writer.old) (λ before. IsGatheredUpTo why input before (R.remaining reader.new) (W.contents writer.new) gathered.new.items))) }
 {
-    let mut cluster = None;
-    let mut number = 0;
-    loop {
-        number += 1;
-        hand_over_in_time(writer, lines, gathered)?;
-        if let Some(end) = answer_next(
-            alloc,
-            number,
-            reader,
-            lines,
-            &mut cluster,
-            text,
-            gathered,
-        )? {
-            return Ok(end);
-        }
-    }
+    let mut keys = Keys::new(alloc);
+    let mut network = None;
+    let mut text = Vec::new(alloc);
+    answer_lines(
+        alloc,
+        reader,
+        writer,
+        lines,
+        &mut keys,
+        &mut network,
+        &mut text,
+        gathered,
+    )
 }
 
 /// Runs the schedule that the reader gives and writes its answers: a line for each event, up to the
@@ -148,9 +174,8 @@ pub fn simulate<R: Read, W: Write>(
     ensures fault { IfErr result (λ why. IfSome (R.remaining reader.old) (λ input. IfSome (W.contents writer.old) (λ before. IsWrittenUpTo why input before (R.remaining reader.new) (W.contents writer.new)))) }
 {
     let mut lines = LineBuffer::new(alloc)?;
-    let mut text = Vec::new(alloc);
     let mut gathered = Vec::new(alloc);
-    let outcome = answer_lines(alloc, reader, writer, &mut lines, &mut text, &mut gathered);
+    let outcome = answer_all(alloc, reader, writer, &mut lines, &mut gathered);
     if outcome != Err(SimFault::Write) {
         hand_over(writer, &mut gathered)?;
     }

@@ -1,8 +1,24 @@
 //! Whole schedules and their answers, over readers and writers in memory that give and take a text in pieces, and
 //! that fail.
+use crate::cases::{
+    ACKNOWLEDGED_FRAME_IS_NOT_GIVEN_AGAIN, ALL_ACK_WAITS_FOR_EACH_MEMBER,
+    BUDGET_IS_JUDGED_BEFORE_THE_WINDOW, CARRIED_ITEMS_COME_AFTER_A_DROP, CURSOR_GOES_ROUND, Case,
+    DAMAGED, DROPPED_GROUP_LETS_ITEMS_FALL, EMPTY_PAYLOAD, FIFO_HOLDS_BACK_WHAT_COMES_EARLY,
+    FORGED_TOKENS, FRAMES_GIVEN_AGAIN_IN_FIFO_ORDER, FULL_FRAME, GROUP_MADE_AFTER_A_NOTICE,
+    GROUPS_AT_THEIR_LIMITS, ITEMS_OF_A_FRAME_COME_ONE_BY_ONE, LAST_OF_SIXTEEN_NODES,
+    LAZY_RELAYS_FOR_A_CRASHED_ORIGIN, NODES_WITH_UNLIKE_GROUPS, NODES_WITH_UNLIKE_KINDS,
+    NOISE_IS_NOT_HEARD, NOTHING_IS_SENT_TO_NO_OTHER_NODE, NOTICED_NODES_ARE_CUT_OFF,
+    NOTICES_OF_ONE_TICK_COUNT_IN_TURN, ONE_TENANT_ALONE, ORDER_OF_REFUSALS, PACKET_ARRIVES_TWICE,
+    PACKETS_ARE_NO_NOISE, PLACE_OF_A_DROPPED_GROUP, PLACES_OF_A_LOG,
+    PLAIN_BROADCAST_HOLDS_NOTHING_BACK, RELAYED_COPY_COUNTS_ITS_BYTES,
+    REPEATED_FRAME_OF_THREE_GROUPS, SMALLEST_GROUP, STOPPED_NODE_REFUSES_ALL,
+    TENANTS_AT_THEIR_LIMITS, TWO_NODES, TWO_TENANTS_SHARE_FRAMES, UNKNOWN_WORD, UNTAGGED,
+    WINDOW_OF_ONE,
+};
 use gb_simulate::complaint::complain;
 use gb_simulate::outcome::{BadLine, SimEnd, SimFault};
 use gb_simulate::simulate::simulate;
+use gb_types::memory::OutOfMemory;
 use gb_types::number::put_number;
 use std::alloc::Global;
 use std::cell::Cell;
@@ -144,174 +160,6 @@ fn with_space(alloc: Global, left: usize, piece: usize) -> Space {
     }
 }
 
-/// A schedule, the text that it makes, and how it ends.
-type Case = (&'static str, &'static str, SimEnd);
-
-const EMPTY_PAYLOAD: Case = (
-    "cluster 3 3\ntenant 0 7 4 8 4096 4\nmake 0 7 1 beb 0,1,2 8 4096 4\nopen 0 7 1\ntenant 1 7 4 8 4096 4\nmake 1 7 1 beb 0,1,2 8 4096 4\nopen 1 7 1\ntenant 2 7 4 8 4096 4\nmake 2 7 1 beb 0,1,2 8 4096 4\nopen 2 7 1\nsay 0 7 1 -\npack 0 1\npack 0 2\narrive 1\narrive 2\nfetch 0 7 1 0 16\nfetch 1 7 1 0 16\nfetch 2 7 1 0 16\n",
-    "ok\nok\nok\nok\nok\nok\nok\nok\nok\nok\nsaid 1\npacket 1\npacket 2\ngood first 1 0\ngood first 1 0\nlog 1 0:1:-\nlog 1 0:1:-\nlog 1 0:1:-\n",
-    SimEnd::All,
-);
-
-const PACKET_ARRIVES_TWICE: Case = (
-    "cluster 3 3\ntenant 0 7 4 8 4096 4\nmake 0 7 1 beb 0,1,2 8 4096 4\nopen 0 7 1\ntenant 1 7 4 8 4096 4\nmake 1 7 1 beb 0,1,2 8 4096 4\nopen 1 7 1\ntenant 2 7 4 8 4096 4\nmake 2 7 1 beb 0,1,2 8 4096 4\nopen 2 7 1\nsay 0 7 1 -\npack 0 1\npack 0 2\narrive 1\narrive 1\narrive 2\nfetch 0 7 1 0 16\nfetch 1 7 1 0 16\nfetch 2 7 1 0 16\n",
-    "ok\nok\nok\nok\nok\nok\nok\nok\nok\nok\nsaid 1\npacket 1\npacket 2\ngood first 1 0\ngood seen 0 0\ngood first 1 0\nlog 1 0:1:-\nlog 1 0:1:-\nlog 1 0:1:-\n",
-    SimEnd::All,
-);
-
-const UNKNOWN_WORD: Case = (
-    "cluster 2 3\nhello\n",
-    "ok\nbad line 2\n",
-    SimEnd::BadLine(2, BadLine::NoCommand),
-);
-
-const ONE_TENANT_AND_ONE_GROUP_A_NODE: Case = (
-    "cluster 1 2\ntenant 0 7 4 8 4096 4\ntenant 0 8 4 8 4096 4\ntenant 0 7 4 8 4096 4\ntenant 0 8 0 8 4096 4\nmake 0 7 1 beb 0 8 4096 4\nmake 0 7 2 beb 0 8 4096 4\nmake 0 7 2 beb 0 9 4096 4\nmake 0 7 4 beb 0 8 4096 4\nmake 0 8 1 beb 0 8 4096 4\nmake 0 7 1 beb 0 8 4096 4\nopen 0 7 2\nsay 0 8 1 61\nsay 0 7 1 61\n",
-    "ok\nok\nrefused 12 NoRoom\nrefused 13 TenantThere\nrefused 5 OverReserve\nok\nrefused 12 NoRoom\nrefused 5 OverReserve\nrefused 2 NoGroup\nrefused 1 Denied\nrefused 3 Spent\nrefused 2 NoGroup\nrefused 1 Denied\nrefused 6 WrongPhase\n",
-    SimEnd::All,
-);
-
-const NODES_WITH_UNLIKE_GROUPS: Case = (
-    "cluster 2 3\ntenant 0 7 4 8 4096 4\nmake 0 7 1 beb 0,1 8 4096 4\nopen 0 7 1\ntenant 1 7 4 8 4096 4\nmake 1 7 2 beb 0,1 8 4096 4\nopen 1 7 2\nsay 0 7 1 61\npack 0 1\narrive 1\nfetch 1 7 2 0 16\nfetch 1 7 1 0 16\n",
-    "ok\nok\nok\nok\nok\nok\nok\nsaid 1\npacket 1\ngood first 1 0\nlog 0\nrefused 2 NoGroup\n",
-    SimEnd::All,
-);
-
-const STOPPED_NODE_REFUSES_ALL: Case = (
-    "cluster 1 2\nstop 0\ntick 0\nsay 0 7 1 61\narrive 1\n",
-    "ok\nok\nrefused 15 Stopped\nrefused 15 Stopped\nno packet\n",
-    SimEnd::All,
-);
-
-const ACKNOWLEDGED_FRAME_IS_NOT_GIVEN_AGAIN: Case = (
-    "cluster 2 3\ntenant 0 7 4 8 4096 4\nmake 0 7 1 beb 0,1 8 4096 4\nopen 0 7 1\ntenant 1 7 4 8 4096 4\nmake 1 7 1 beb 0,1 8 4096 4\nopen 1 7 1\nsay 0 7 1 61\npack 0 1\narrive 1\narrive 1\nack 1 0\narrive 2\nagain 0 1 0\n",
-    "ok\nok\nok\nok\nok\nok\nok\nsaid 1\npacket 1\ngood first 1 0\ngood seen 0 0\npacket 2\ngood none 0 1\nnothing\n",
-    SimEnd::All,
-);
-
-const NOTHING_IS_SENT_TO_NO_OTHER_NODE: Case = (
-    "cluster 3 2\npack 0 0\nagain 0 0 0\nack 0 0\npack 0 1\nagain 0 1 0\nagain 0 1 18446744073709551615\nack 0 1\narrive 1\ntick 0\ntick 0\ntick 0\nack 0 1\npack 0 1\nagain 0 1 0\narrive 2\nack 1 0\narrive 3\ntick 0\ntick 1\ntick 1\narrive 0\narrive 18446744073709551615\n",
-    "ok\nnothing\nnothing\nnothing\nnothing\nnothing\nnothing\npacket 1\ngood none 0 0\nnoticed -\nnoticed 1 2\nnoticed -\npacket 2\nnothing\nnothing\ngood none 0 0\npacket 3\ngood none 0 0\nnoticed -\nnoticed -\nnoticed 0 2\nno packet\nno packet\n",
-    SimEnd::All,
-);
-
-const NOTICED_NODES_ARE_CUT_OFF: Case = (
-    "cluster 3 2\ntenant 0 7 4 8 4096 4\nmake 0 7 1 beb 0,1,2 8 4096 4\nopen 0 7 1\nsay 0 7 1 61\npack 0 1\nack 1 0\narrive 2\ntick 0\nack 1 0\narrive 3\ntick 0\npack 0 2\nagain 0 1 1\ntick 0\npack 0 1\nsay 0 7 1 62\npack 0 1\nmake 0 7 2 beb 0,1 8 4096 4\nfetch 0 7 1 0 16\nstop 0\nfetch 0 7 1 0 16\npack 0 1\narrive 2\nstop 0\n",
-    "ok\nok\nok\nok\nsaid 1\npacket 1\npacket 2\ngood none 0 0\nnoticed -\npacket 3\ngood none 0 0\nnoticed 2\nnothing\npacket 4\nnoticed 1\nnothing\nsaid 2\nnothing\nrefused 12 NoRoom\nlog 2 0:1:61 0:2:62\nok\nrefused 15 Stopped\nrefused 15 Stopped\nrefused 15 Stopped\nrefused 15 Stopped\n",
-    SimEnd::All,
-);
-
-const SMALLEST_GROUP: Case = (
-    "cluster 1 2\ntenant 0 7 4 8 4096 4\nmake 0 7 1 allack 0 8 4096 4\nopen 0 7 1\nsay 0 7 1 61\nfetch 0 7 1 0 16\n",
-    "ok\nok\nok\nok\nsaid 1\nlog 1 0:1:61\n",
-    SimEnd::All,
-);
-
-const FIFO_HOLDS_BACK_WHAT_COMES_EARLY: Case = (
-    "cluster 2 3\ntenant 0 7 4 8 4096 4\nmake 0 7 1 fbeb 0,1 8 4096 4\nopen 0 7 1\ntenant 1 7 4 8 4096 4\nmake 1 7 1 fbeb 0,1 8 4096 4\nopen 1 7 1\nsay 0 7 1 61\npack 0 1\nsay 0 7 1 62\npack 0 1\narrive 2\nfetch 1 7 1 0 16\narrive 1\nfetch 1 7 1 0 16\n",
-    "ok\nok\nok\nok\nok\nok\nok\nsaid 1\npacket 1\nsaid 2\npacket 2\ngood first 1 0\nlog 0\ngood first 1 0\nlog 2 0:1:61 0:2:62\n",
-    SimEnd::All,
-);
-
-const PLAIN_BROADCAST_HOLDS_NOTHING_BACK: Case = (
-    "cluster 2 3\ntenant 0 7 4 8 4096 4\nmake 0 7 1 beb 0,1 8 4096 4\nopen 0 7 1\ntenant 1 7 4 8 4096 4\nmake 1 7 1 beb 0,1 8 4096 4\nopen 1 7 1\nsay 0 7 1 61\npack 0 1\nsay 0 7 1 62\npack 0 1\narrive 2\nfetch 1 7 1 0 16\narrive 1\nfetch 1 7 1 0 16\n",
-    "ok\nok\nok\nok\nok\nok\nok\nsaid 1\npacket 1\nsaid 2\npacket 2\ngood first 1 0\nlog 1 0:2:62\ngood first 1 0\nlog 2 0:2:62 0:1:61\n",
-    SimEnd::All,
-);
-
-const LAZY_RELAYS_FOR_A_CRASHED_ORIGIN: Case = (
-    "cluster 3 3\ntenant 0 7 4 8 4096 4\nmake 0 7 1 lazy 0,1,2 8 4096 4\nopen 0 7 1\ntenant 1 7 4 8 4096 4\nmake 1 7 1 lazy 0,1,2 8 4096 4\nopen 1 7 1\ntenant 2 7 4 8 4096 4\nmake 2 7 1 lazy 0,1,2 8 4096 4\nopen 2 7 1\nsay 0 7 1 61\npack 0 1\nsay 0 7 1 62\npack 0 1\narrive 1\nstop 0\ntick 1\ntick 1\nack 2 1\narrive 3\ntick 1\npack 1 2\narrive 4\nfetch 2 7 1 0 16\narrive 2\npack 1 2\narrive 5\nfetch 2 7 1 0 16\n",
-    "ok\nok\nok\nok\nok\nok\nok\nok\nok\nok\nsaid 1\npacket 1\nsaid 2\npacket 2\ngood first 1 0\nok\nnoticed -\nnoticed -\npacket 3\ngood none 0 0\nnoticed 0\npacket 4\ngood first 1 0\nlog 1 0:1:61\ngood first 1 0\npacket 5\ngood first 1 0\nlog 2 0:1:61 0:2:62\n",
-    SimEnd::All,
-);
-
-const GROUP_MADE_AFTER_A_NOTICE: Case = (
-    "cluster 2 2\ntick 0\ntick 0\ntenant 0 7 4 8 4096 4\nmake 0 7 1 allack 0,1 8 4096 4\nopen 0 7 1\nsay 0 7 1 61\nfetch 0 7 1 0 16\n",
-    "ok\nnoticed -\nnoticed 1\nok\nok\nok\nsaid 1\nlog 1 0:1:61\n",
-    SimEnd::All,
-);
-
-const NODES_WITH_UNLIKE_KINDS: Case = (
-    "cluster 3 3\ntenant 0 7 4 8 4096 4\nmake 0 7 1 eager 0,1,2 8 4096 4\nopen 0 7 1\ntenant 1 7 4 8 4096 4\nmake 1 7 1 beb 0,1,2 8 4096 4\nopen 1 7 1\ntenant 2 7 4 8 4096 4\nmake 2 7 1 beb 0,1,2 8 4096 4\nopen 2 7 1\nsay 2 7 1 61\npack 2 0\npack 2 1\narrive 1\npack 0 1\narrive 3\nfetch 1 7 1 0 16\narrive 2\nfetch 1 7 1 0 16\n",
-    "ok\nok\nok\nok\nok\nok\nok\nok\nok\nok\nsaid 1\npacket 1\npacket 2\ngood first 1 0\npacket 3\ngood first 1 0\nlog 0\ngood first 1 0\nlog 1 2:1:61\n",
-    SimEnd::All,
-);
-
-const PLACES_OF_A_LOG: Case = (
-    "cluster 1 2\ntenant 0 7 4 8 4096 4\nmake 0 7 1 allack 0 8 4096 4\nopen 0 7 1\nsay 0 7 1 61\nfetch 0 7 1 0 16\nfetch 0 7 1 1 16\nfetch 0 7 1 2 16\nfetch 0 7 1 0 17\n",
-    "ok\nok\nok\nok\nsaid 1\nlog 1 0:1:61\nlog 0\nrefused 11 BadPlace\nrefused 11 BadPlace\n",
-    SimEnd::All,
-);
-
-const ALL_ACK_WAITS_FOR_EACH_MEMBER: Case = (
-    "cluster 2 3\ntenant 0 7 4 8 4096 4\nmake 0 7 1 allack 0,1 8 4096 4\nopen 0 7 1\ntenant 1 7 4 8 4096 4\nmake 1 7 1 allack 0,1 8 4096 4\nopen 1 7 1\nsay 0 7 1 61\nfetch 0 7 1 0 16\npack 0 1\narrive 1\nfetch 1 7 1 0 16\npack 1 0\narrive 2\nfetch 0 7 1 0 16\n",
-    "ok\nok\nok\nok\nok\nok\nok\nsaid 1\nlog 0\npacket 1\ngood first 1 0\nlog 1 0:1:61\npacket 2\ngood first 1 1\nlog 1 0:1:61\n",
-    SimEnd::All,
-);
-
-const FRAMES_GIVEN_AGAIN_IN_FIFO_ORDER: Case = (
-    "cluster 2 3\ntenant 0 7 4 8 4096 4\nmake 0 7 1 fbeb 0,1 8 4096 4\nopen 0 7 1\ntenant 1 7 4 8 4096 4\nmake 1 7 1 fbeb 0,1 8 4096 4\nopen 1 7 1\nsay 0 7 1 61\npack 0 1\nsay 0 7 1 62\npack 0 1\narrive 2\nack 1 0\narrive 3\nagain 0 1 2\nagain 0 1 1\narrive 4\nagain 0 1 0\narrive 5\nfetch 1 7 1 0 16\n",
-    "ok\nok\nok\nok\nok\nok\nok\nsaid 1\npacket 1\nsaid 2\npacket 2\ngood first 1 0\npacket 3\ngood none 0 1\nnothing\npacket 4\ngood first 1 0\npacket 5\ngood seen 0 0\nlog 2 0:1:61 0:2:62\n",
-    SimEnd::All,
-);
-
-const NOTICES_OF_ONE_TICK_COUNT_IN_TURN: Case = (
-    "cluster 4 2\ntenant 0 7 4 8 4096 4\nmake 0 7 1 lazy 0,1,2,3 8 4096 4\nopen 0 7 1\ntenant 1 7 4 8 4096 4\nmake 1 7 1 lazy 0,1,2,3 8 4096 4\nopen 1 7 1\ntenant 2 7 4 8 4096 4\nmake 2 7 1 lazy 0,1,2,3 8 4096 4\nopen 2 7 1\ntenant 3 7 4 8 4096 4\nmake 3 7 1 lazy 0,1,2,3 8 4096 4\nopen 3 7 1\nsay 2 7 1 62\npack 2 0\narrive 1\nsay 1 7 1 61\npack 1 0\narrive 2\ntick 0\nack 3 0\narrive 3\ntick 0\npack 0 3\npack 0 3\narrive 4\narrive 5\nfetch 3 7 1 0 16\n",
-    "ok\nok\nok\nok\nok\nok\nok\nok\nok\nok\nok\nok\nok\nsaid 1\npacket 1\ngood first 1 0\nsaid 1\npacket 2\ngood first 1 0\nnoticed -\npacket 3\ngood none 0 0\nnoticed 1 2\npacket 4\npacket 5\ngood first 1 0\ngood first 1 0\nlog 2 1:1:61 2:1:62\n",
-    SimEnd::All,
-);
-
-const BUDGET_IS_JUDGED_BEFORE_THE_WINDOW: Case = (
-    "cluster 2 3\ntenant 0 7 4 8 4096 4\nmake 0 7 1 beb 0,1 2 4096 2\nopen 0 7 1\nsay 0 7 1 61\nsay 0 7 1 62\nsay 0 7 1 63\n",
-    "ok\nok\nok\nok\nsaid 1\nsaid 2\nrefused 8 Budget\n",
-    SimEnd::All,
-);
-
-const WINDOW_OF_ONE: Case = (
-    "cluster 2 3\ntenant 0 7 4 8 4096 4\nmake 0 7 1 beb 0,1 8 4096 1\nopen 0 7 1\ntenant 1 7 4 8 4096 4\nmake 1 7 1 beb 0,1 8 4096 1\nopen 1 7 1\nsay 0 7 1 61\nsay 0 7 1 62\npack 0 1\narrive 1\nsay 0 7 1 62\nack 1 0\narrive 2\nsay 0 7 1 62\nsay 0 7 1 63\ntick 0\ntick 0\ntick 0\nsay 0 7 1 63\n",
-    "ok\nok\nok\nok\nok\nok\nok\nsaid 1\nrefused 10 Window\npacket 1\ngood first 1 0\nrefused 10 Window\npacket 2\ngood none 0 1\nsaid 2\nrefused 10 Window\nnoticed -\nnoticed -\nnoticed 1\nsaid 3\n",
-    SimEnd::All,
-);
-
-const DROPPED_GROUP_LETS_ITEMS_FALL: Case = (
-    "cluster 2 3\ntenant 0 7 4 8 4096 4\nmake 0 7 1 beb 0,1 8 4096 4\nopen 0 7 1\ntenant 1 7 4 8 4096 4\nmake 1 7 1 beb 0,1 8 4096 4\nopen 1 7 1\nsay 0 7 1 61\npack 0 1\ndrop 1 7 1\narrive 1\nmake 1 7 1 beb 0,1 8 4096 4\nfetch 1 7 1 0 16\n",
-    "ok\nok\nok\nok\nok\nok\nok\nsaid 1\npacket 1\nok\ngood first 1 0\nrefused 3 Spent\nrefused 3 Spent\n",
-    SimEnd::All,
-);
-
-const CARRIED_ITEMS_COME_AFTER_A_DROP: Case = (
-    "cluster 2 3\ntenant 0 7 4 8 4096 4\nmake 0 7 1 beb 0,1 8 4096 4\nopen 0 7 1\ntenant 1 7 4 8 4096 4\nmake 1 7 1 beb 0,1 8 4096 4\nopen 1 7 1\nsay 0 7 1 61\npack 0 1\nsay 0 7 1 62\ndrop 0 7 1\npack 0 1\nagain 0 1 0\narrive 2\nack 1 0\narrive 1\narrive 3\narrive 3\nagain 0 1 0\nfetch 1 7 1 0 16\nstop 1\narrive 1\narrive 4\n",
-    "ok\nok\nok\nok\nok\nok\nok\nsaid 1\npacket 1\nsaid 2\nok\nnothing\npacket 2\ngood first 1 0\npacket 3\ngood seen 0 0\ngood none 0 1\ngood none 0 0\nnothing\nlog 1 0:1:61\nok\nrefused 15 Stopped\nno packet\n",
-    SimEnd::All,
-);
-
-// Each refusal where the next one in the order holds as well.
-const ORDER_OF_REFUSALS: Case = (
-    "cluster 2 3\ntenant 0 7 0 8 64 4\nmake 0 7 9 beb 1 0 65 5\nopen 0 7 1\nshut 0 7 1\ndrop 0 7 1\nsay 0 7 1 61\nfetch 0 7 1 9 99\ntenant 0 7 4 8 64 4\ntenant 0 7 0 8 64 4\ntenant 0 7 4 8 64 4\ntenant 0 8 4 8 64 4\nmake 0 7 4 beb 1 9 64 4\nmake 0 7 1 beb 1 9 64 4\nmake 0 7 1 beb 0 9 64 4\nmake 0 7 1 beb 0,1 2 3 1\nmake 0 7 1 beb 1 9 64 4\nopen 0 7 2\nshut 0 7 2\ndrop 0 7 2\nsay 0 7 2 61\nfetch 0 7 2 9 99\nsay 0 7 1 61616161\nshut 0 7 1\nopen 0 7 1\nopen 0 7 1\nsay 0 7 1 61616161\nsay 0 7 1 61\nsay 0 7 1 616161\nsay 0 7 1 61\ntick 0\ntick 0\ntick 0\nsay 0 7 1 61\nsay 0 7 1 6161\nfetch 0 7 1 3 16\nfetch 0 7 1 2 17\nshut 0 7 1\nsay 0 7 1 61\ndrop 0 7 1\nopen 0 7 1\nshut 0 7 1\ndrop 0 7 1\nsay 0 7 1 61\nfetch 0 7 1 9 99\nmake 0 7 1 beb 1 9 64 4\nstop 0\ndrop 0 7 1\n",
-    "ok\nrefused 5 OverReserve\nrefused 1 Denied\nrefused 1 Denied\nrefused 1 Denied\nrefused 1 Denied\nrefused 1 Denied\nrefused 1 Denied\nok\nrefused 5 OverReserve\nrefused 13 TenantThere\nrefused 12 NoRoom\nrefused 2 NoGroup\nrefused 4 BadMembers\nrefused 5 OverReserve\nok\nrefused 3 Spent\nrefused 2 NoGroup\nrefused 2 NoGroup\nrefused 2 NoGroup\nrefused 2 NoGroup\nrefused 2 NoGroup\nrefused 6 WrongPhase\nrefused 6 WrongPhase\nok\nrefused 6 WrongPhase\nrefused 9 Bytes\nsaid 1\nrefused 9 Bytes\nrefused 10 Window\nnoticed -\nnoticed -\nnoticed 1\nsaid 2\nrefused 8 Budget\nrefused 11 BadPlace\nrefused 11 BadPlace\nok\nrefused 6 WrongPhase\nok\nrefused 3 Spent\nrefused 3 Spent\nrefused 3 Spent\nrefused 3 Spent\nrefused 3 Spent\nrefused 3 Spent\nok\nrefused 15 Stopped\n",
-    SimEnd::All,
-);
-
-// The tenants: numbers 1 to 65,535, 1 to 256 groups, 1 to 1,024 messages, 0 to 65,536 bytes, a window of 1 to 1,024.
-const TENANTS_AT_THEIR_LIMITS: Case = (
-    "cluster 2 2\ntenant 0 0 4 8 4096 4\ntenant 0 7 0 8 4096 4\ntenant 0 7 257 8 4096 4\ntenant 0 7 4 0 4096 4\ntenant 0 7 4 1025 4096 4\ntenant 0 7 4 8 65537 4\ntenant 0 7 4 8 4096 0\ntenant 0 7 4 8 4096 1025\ntenant 0 65535 256 1024 65536 1024\ntenant 1 1 1 1 0 1\n",
-    "ok\nrefused 5 OverReserve\nrefused 5 OverReserve\nrefused 5 OverReserve\nrefused 5 OverReserve\nrefused 5 OverReserve\nrefused 5 OverReserve\nrefused 5 OverReserve\nrefused 5 OverReserve\nok\nok\n",
-    SimEnd::All,
-);
-
-// A group may have what its tenant may: of the tenants with the most and with the least.
-const GROUPS_AT_THEIR_LIMITS: Case = (
-    "cluster 2 2\ntenant 0 65535 256 1024 65536 1024\ntenant 1 1 1 1 0 1\nmake 0 65535 256 beb 0 8 4096 4\nmake 0 65535 255 beb 0,2 8 4096 4\nmake 0 65535 255 beb 0 0 4096 4\nmake 0 65535 255 beb 0 1025 4096 4\nmake 0 65535 255 beb 0 8 65537 4\nmake 0 65535 255 beb 0 8 4096 0\nmake 0 65535 255 beb 0 8 4096 1025\nmake 0 65535 255 beb 0,1 1024 65536 1024\nmake 1 1 1 beb 1 1 0 1\nmake 1 1 0 beb 1 2 0 1\nmake 1 1 0 beb 1 1 1 1\nmake 1 1 0 beb 1 1 0 2\nmake 1 1 0 beb 1 1 0 1\nopen 1 1 0\nsay 1 1 0 -\nsay 1 1 0 -\n",
-    "ok\nok\nok\nrefused 2 NoGroup\nrefused 4 BadMembers\nrefused 5 OverReserve\nrefused 5 OverReserve\nrefused 5 OverReserve\nrefused 5 OverReserve\nrefused 5 OverReserve\nok\nrefused 2 NoGroup\nrefused 5 OverReserve\nrefused 5 OverReserve\nrefused 5 OverReserve\nok\nok\nsaid 1\nrefused 8 Budget\n",
-    SimEnd::All,
-);
-
-const LAST_OF_SIXTEEN_NODES: Case = (
-    "cluster 16 2\ntenant 0 7 4 8 4096 4\nmake 0 7 1 beb 0,1,2,3,4,5,6,7,8,9,10,11,12,13,14,15 8 4096 4\nopen 0 7 1\ntenant 15 7 4 8 4096 4\nmake 15 7 1 beb 0,1,2,3,4,5,6,7,8,9,10,11,12,13,14,15 8 4096 4\nopen 15 7 1\nsay 15 7 1 68656c6c6f\npack 15 0\narrive 1\nfetch 0 7 1 0 16\ntick 0\ntick 0\n",
-    "ok\nok\nok\nok\nok\nok\nok\nsaid 1\npacket 1\ngood first 1 0\nlog 1 15:1:68656c6c6f\nnoticed -\nnoticed 1 2 3 4 5 6 7 8 9 10 11 12 13 14 15\n",
-    SimEnd::All,
-);
-
 /// Runs a schedule, by pieces of so many bytes.
 fn is_run(alloc: Global, case: &Case, piece: usize) -> Result<bool, SimFault> {
     let (schedule, answers, end) = *case;
@@ -326,7 +174,6 @@ fn worked_schedules_in_any_pieces(rt: HostRuntime) -> Result<(), Fail> {
         EMPTY_PAYLOAD,
         PACKET_ARRIVES_TWICE,
         UNKNOWN_WORD,
-        ONE_TENANT_AND_ONE_GROUP_A_NODE,
         NODES_WITH_UNLIKE_GROUPS,
         STOPPED_NODE_REFUSES_ALL,
         ACKNOWLEDGED_FRAME_IS_NOT_GIVEN_AGAIN,
@@ -369,7 +216,7 @@ fn worked_schedules_of_bytes_windows_and_drops(rt: HostRuntime) -> Result<(), Fa
         WINDOW_OF_ONE,
         DROPPED_GROUP_LETS_ITEMS_FALL,
         CARRIED_ITEMS_COME_AFTER_A_DROP,
-        ORDER_OF_REFUSALS,
+        PLACE_OF_A_DROPPED_GROUP,
     ] {
         assert!(rt; is_run(rt.alloc(), case, 100)?);
     }
@@ -388,6 +235,23 @@ fn tenants_groups_and_nodes_at_their_limits(rt: HostRuntime) -> Result<(), Fail>
     Ok(())
 }
 
+#[test]
+fn worked_schedules_of_tenants_frames_and_noise(rt: HostRuntime) -> Result<(), Fail> {
+    for case in &[
+        REPEATED_FRAME_OF_THREE_GROUPS,
+        FORGED_TOKENS,
+        ONE_TENANT_ALONE,
+        TWO_TENANTS_SHARE_FRAMES,
+        NOISE_IS_NOT_HEARD,
+        PACKETS_ARE_NO_NOISE,
+        RELAYED_COPY_COUNTS_ITS_BYTES,
+        ITEMS_OF_A_FRAME_COME_ONE_BY_ONE,
+    ] {
+        assert!(rt; is_run(rt.alloc(), case, 100)?);
+    }
+    Ok(())
+}
+
 /// Whether a schedule is run to its end and has these answers.
 fn has_answers(alloc: Global, schedule: &[u8], answers: &[u8]) -> Result<bool, SimFault> {
     let mut reader = Pieces {
@@ -398,6 +262,93 @@ fn has_answers(alloc: Global, schedule: &[u8], answers: &[u8]) -> Result<bool, S
     let mut out = with_space(alloc, 1_000_000, 1_000);
     let end = simulate(alloc, &mut reader, &mut out)?;
     Ok(end == SimEnd::All && out.taken.as_slice() == answers)
+}
+
+/// Adds 64 messages, each of which is said and packed.
+fn fill_a_link(schedule: &mut Vec<u8>, answers: &mut Vec<u8>) -> Result<(), OutOfMemory> {
+    for number in 1..65u64 {
+        schedule.extend_from_slice(b"say 0 7 1 61\npack 0 1\n")?;
+        answers.extend_from_slice(b"said ")?;
+        put_number(answers, number)?;
+        answers.extend_from_slice(b"\npacket ")?;
+        put_number(answers, number)?;
+        answers.extend_from_slice(b"\n")?;
+    }
+    Ok(())
+}
+
+/// Appends a text in which each `*` stands for so many bytes `a`.
+fn spell_out(out: &mut Vec<u8>, text: &str, bytes: usize) -> Result<(), OutOfMemory> {
+    for byte in text.as_bytes() {
+        match *byte {
+            b'*' => {
+                for _ in 0..bytes {
+                    out.extend_from_slice(b"61")?;
+                }
+            }
+            other => out.push(other)?,
+        }
+    }
+    Ok(())
+}
+
+#[test]
+fn long_payloads(rt: HostRuntime) -> Result<(), Fail> {
+    let alloc = rt.alloc();
+    for (case, bytes) in [
+        (FULL_FRAME, 1_024),
+        (CURSOR_GOES_ROUND, 1_024),
+        (ORDER_OF_REFUSALS, 1_025),
+    ] {
+        let (text, answers) = case;
+        let mut schedule = Vec::new(alloc);
+        spell_out(&mut schedule, text, bytes)?;
+        assert!(rt; has_answers(alloc, &schedule, answers.as_bytes())?);
+    }
+    Ok(())
+}
+
+// Each front of a packet is no packet; nor is one with a byte changed; nothing is delivered of it.
+#[test]
+fn damaged_packets(rt: HostRuntime) -> Result<(), Fail> {
+    let alloc = rt.alloc();
+    let (text, told) = TWO_NODES;
+    let mut schedule = Vec::from_slice(alloc, text.as_bytes())?;
+    let mut answers = Vec::from_slice(alloc, told.as_bytes())?;
+    schedule.extend_from_slice(b"noise 1 -\n")?;
+    answers.extend_from_slice(b"fault 1 Short\n")?;
+    for count in 1..49usize {
+        schedule.extend_from_slice(b"noise 1 ")?;
+        schedule.extend_from_slice(&UNTAGGED.as_bytes()[..2 * count])?;
+        schedule.extend_from_slice(b"\n")?;
+        answers.extend_from_slice(match count < 39 {
+            true => b"fault 1 Short\n",
+            false => b"fault 7 Length\n",
+        })?;
+    }
+    let (text, told) = DAMAGED;
+    spell_out(&mut schedule, text, 1_024)?;
+    answers.extend_from_slice(told.as_bytes())?;
+    assert!(rt; has_answers(alloc, &schedule, &answers)?);
+    Ok(())
+}
+
+// What waits to be sent in a full link's frames keeps no other tenant from saying.
+#[test]
+fn a_full_link_refuses_no_say(rt: HostRuntime) -> Result<(), Fail> {
+    let alloc = rt.alloc();
+    let mut schedule = Vec::from_slice(
+        alloc,
+        b"cluster 2 3\ntenant 0 7 4 100 4096 100\ntenant 0 8 4 8 4096 4\nmake 0 7 1 beb 0,1 100 4096 100\nmake 0 8 1 beb 0,1 8 4096 4\nopen 0 7 1\nopen 0 8 1\n",
+    )?;
+    let mut answers = Vec::from_slice(alloc, b"ok\nok\nok\nok\nok\nok\nok\n")?;
+    fill_a_link(&mut schedule, &mut answers)?;
+    schedule.extend_from_slice(
+        b"say 0 7 1 61\npack 0 1\nsay 0 8 1 61\npack 0 1\nfetch 0 8 1 0 16\n",
+    )?;
+    answers.extend_from_slice(b"said 65\nnothing\nsaid 1\nnothing\nlog 1 0:1:61\n")?;
+    assert!(rt; has_answers(alloc, &schedule, &answers)?);
+    Ok(())
 }
 
 // The last of 1,024 messages is said, and one more is refused.
@@ -441,10 +392,10 @@ fn the_longest_payload(rt: HostRuntime) -> Result<(), Fail> {
     )?;
     let mut answers = Vec::from_slice(
         alloc,
-        b"ok\nok\nok\nok\nok\nok\nrefused 7 TooLong\nsaid 1\nrefused 9 Bytes\nsaid 2\npacket 1\ngood first 1 0\nlog 1 0:1:",
+        b"ok\nok\nok\nok\nok\nok\nrefused 7 TooLong\nsaid 1\nrefused 9 Bytes\nsaid 2\npacket 1\ngood first 2 0\nlog 2 0:1:",
     )?;
     answers.extend_from_slice(&digits)?;
-    answers.extend_from_slice(b"\n")?;
+    answers.extend_from_slice(b" 0:2:-\n")?;
     assert!(rt; has_answers(alloc, &schedule, &answers)?);
     Ok(())
 }
@@ -458,14 +409,7 @@ fn a_window_of_64_frames(rt: HostRuntime) -> Result<(), Fail> {
         b"cluster 2 3\ntenant 0 7 4 100 4096 100\nmake 0 7 1 beb 0,1 100 4096 100\nopen 0 7 1\n",
     )?;
     let mut answers = Vec::from_slice(alloc, b"ok\nok\nok\nok\n")?;
-    for number in 1..65u64 {
-        schedule.extend_from_slice(b"say 0 7 1 61\npack 0 1\n")?;
-        answers.extend_from_slice(b"said ")?;
-        put_number(&mut answers, number)?;
-        answers.extend_from_slice(b"\npacket ")?;
-        put_number(&mut answers, number)?;
-        answers.extend_from_slice(b"\n")?;
-    }
+    fill_a_link(&mut schedule, &mut answers)?;
     schedule.extend_from_slice(
         b"say 0 7 1 61\npack 0 1\narrive 1\nack 1 0\narrive 65\npack 0 1\narrive 66\n",
     )?;

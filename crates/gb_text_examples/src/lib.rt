@@ -11,4 +11,6 @@ mod requests;
 #[cfg(test)]
 mod sessions;
 #[cfg(test)]
+mod tokens;
+#[cfg(test)]
 mod words;

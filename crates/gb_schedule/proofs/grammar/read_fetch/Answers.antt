@@ -5,5 +5,5 @@ use Rattle.gb_schedule.proofs.grammar.read_fetch.Goals as goal
 
 pub returns : goal.returns
 returns c =
-    fetch_reads _ _ _ _ _ _ _ _ _ _ _ (words_are c.args.words.now _ 5 (omega arith))
-    c.in_ok-node.ensures c.in_ok-address.ensures c.in_ok-from.ensures c.in_ok-most.ensures
+    fetch_reads _ _ _ _ _ _ _ _ _ _ _ _ (words_are c.args.words.now _ 5 (omega arith))
+    c.in_ok-node.ensures c.in_ok-address.ensures c.in_ok-from.ensures c.in_ok-most.ensures c.member-token.ensures

@@ -1,10 +1,16 @@
 use Rattle.std.proofs.Common.{Some, ap}
 use Rattle.gb_simulate.proofs.AnswerLemmas.{on_ok}
-use Rattle.gb_simulate.proofs.OfClusterLemmas.{started_so}
+use Rattle.gb_simulate.proofs.OfNetworkLemmas.{started_so, has_nodes}
 use Rattle.gb_simulate.proofs.obey.begin.Goals as goal
+
+pub returns-clause-few : goal.returns-clause-few
+returns-clause-few c =
+    on_ok c.put_started.result
+    (λ is. has_nodes c.in_ok-start.field-0 c.args.nodes c.args.silence c.requires.plan (rw c.plan_of.ensures at c.in_ok-start.ensures.state))
+    c.put_started.ensures
 
 pub returns-clause-started : goal.returns-clause-started
 returns-clause-started c =
     on_ok c.put_started.result
-    (λ is. ap Some (started_so c.in_ok-start.field-0 c.args.plan.nodes c.args.plan.silence c.in_ok-start.ensures.state))
+    (λ is. ap Some (started_so c.in_ok-start.field-0 c.args.nodes c.args.silence (rw c.plan_of.ensures at c.in_ok-start.ensures.state)))
     c.put_started.ensures

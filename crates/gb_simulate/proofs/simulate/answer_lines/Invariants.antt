@@ -5,12 +5,12 @@ use Rattle.gb_simulate.specs.Schedule.{HasNodes}
 use Rattle.gb_simulate.proofs.simulate.answer_lines.Given as goal
 
 -- the lines so far are answered
-abbrev pub invariant-loop-cluster : goal.invariant-loop-cluster
-invariant-loop-cluster g l = record {
-  halfway : IsHalfway (left l.initial.lines (g.R.Read.remaining l.initial.reader)) (g.W.Write.contents l.initial.writer) (l.number + 1) l.cluster (left l.lines (g.R.Read.remaining l.reader)) (g.W.Write.contents l.writer) l.gathered.items;
-  few : HasNodes l.cluster;
+abbrev pub invariant-loop-reader : goal.invariant-loop-reader
+invariant-loop-reader g l = record {
+  halfway : IsHalfway (left l.initial.lines (g.R.Read.remaining l.initial.reader)) (g.W.Write.contents l.initial.writer) (l.number + 1) l.network (left l.lines (g.R.Read.remaining l.reader)) (g.W.Write.contents l.writer) l.gathered.items;
+  few : HasNodes l.network;
   counted : l.number ≤ 1000000;
 }
 
-abbrev pub decreases-loop-cluster : goal.decreases-loop-cluster
-decreases-loop-cluster g l = 1000000 - l.number
+abbrev pub decreases-loop-reader : goal.decreases-loop-reader
+decreases-loop-reader g l = 1000000 - l.number

@@ -1,0 +1,52 @@
+-- What an event in a network makes happen at its nodes.
+use Rattle.std.proofs.Common.{◌≡◌, ℕ, zero, suc, inl, inr, true, false, Bool, List, [], ◌∷◌, length, Option, Some, None, refl, sym, subst, ◌∙◌, arith}
+use Rattle.std.specs.Prelude.{◌⊎◌, slice_get, Contains, MatchBool}
+use Rattle.gb_node.specs.declared.event.NodeEvent.TheVariants.{Packet as Came}
+use Rattle.gb_network.specs.NetworkStep.{IsAt, IsArrival, IsStep, is_packet_for, packet_numbered, answer_of}
+use Rattle.gb_network.specs.NetworkValue.{NetworkValue, node_at}
+use Rattle.gb_network.specs.Run.{Did, ComesTo}
+use Rattle.gb_network.specs.declared.answer.Answer.{Answer}
+use Rattle.gb_network.specs.declared.answer.Answer.TheVariants.{NotNoise}
+use Rattle.gb_network.specs.declared.event.Event.{Event}
+use Rattle.gb_network.specs.declared.event.Event.TheVariants.{At, Arrive}
+use Rattle.gb_network.specs.declared.plan.NetworkPlan.{NetworkPlan}
+use Rattle.gb_network.specs.declared.posted.Posted.{Posted}
+use Rattle.gb_simulate.specs.RunTexts.{Step, IsOf, Happens}
+
+get_contains : (packets : List Posted) (k : ℕ) (p : Posted) → slice_get packets k ≡ Some p → Contains packets p
+get_contains [] k p e = absurd (cc)
+get_contains (q ∷ packets) zero p e = (0, omega arith, let same : q ≡ p = cc in same)
+get_contains (q ∷ packets) (suc k) p e = let rest = get_contains packets k p e in (suc rest.0, let l = rest.1 in omega (arith, l), rest.2)
+
+there : (packets : List Posted) (k : ℕ) (p : Posted) → packet_numbered packets k ≡ Some p → Contains packets p
+there packets zero p e = absurd (cc)
+there packets (suc k) p e = get_contains packets k p e
+
+bytes_in : (b c : List ℕ) → Came b ≡ Came c → b ≡ c
+bytes_in b c e = cc
+
+-- a run goes on by a step
+abbrev pub RunsOn : NetworkPlan → NetworkValue → Step → List Did → NetworkValue → Type 0
+RunsOn plan before step earlier after = (run : List Did) × Happens before step earlier after run × ComesTo plan run after
+
+pub runs_on : (plan : NetworkPlan) (old new : NetworkValue) (earlier : List Did) (event : Event) (answer : Answer) → IsStep old event answer new → ComesTo plan earlier old
+    → RunsOn plan old (record { event = event; answer = answer }) earlier new
+unfolding ComesTo
+runs_on plan old new earlier (At a event) answer step comes = by (is_packet_for (node_at old a) event) refl step
+  where
+    by : (b : Bool) → is_packet_for (node_at old a) event ≡ b → MatchBool b ((answer ≡ NotNoise) × (new ≡ old)) (IsAt old a event answer new)
+        → RunsOn plan old (record { event = At a event; answer = answer }) earlier new
+    by true is step = (earlier, inl (refl, step.1), subst (ComesTo plan earlier) (sym step.1) comes)
+    by false is step =
+        let d : Did = record { node = a; event = event; answer = step.0 } in
+        (d ∷ earlier, inr (d, refl, (refl, refl), step.2), (old, comes, λ bytes same yes. absurd (let n : true ≡ false = sym yes ∙ is in cc), step.1))
+runs_on plan old new earlier (Arrive k) answer step comes = by (packet_numbered old.packets k) refl step
+  where
+    by : (o : Option Posted) → packet_numbered old.packets k ≡ o → IsArrival old o answer new → RunsOn plan old (record { event = Arrive k; answer = answer }) earlier new
+    by None is step = (earlier, inl (refl, step.1), subst (ComesTo plan earlier) (sym step.1) comes)
+    by (Some p) is step =
+        let d : Did = record { node = p.to; event = Came p.text; answer = step.0 } in (
+          d ∷ earlier,
+          inr (d, refl, (p, is, refl, refl), step.2),
+          (old, comes, λ bytes same yes. subst (λ t. Contains old.packets (record { to = p.to; text = t })) (bytes_in p.text bytes same) (there old.packets k p is), step.1),
+        )
