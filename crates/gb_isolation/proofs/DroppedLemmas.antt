@@ -1,6 +1,7 @@
 -- A group is dropped at a node only by an answered request.
-use Rattle.std.proofs.Common.{◌≡◌, ℕ, Bool, true, false, ◌&&◌, ◌||◌, List, [], ◌∷◌, length, Option, Some, None, refl, ◌∙◌, ap}
+use Rattle.std.proofs.Common.{◌≡◌, ℕ, Bool, true, false, ◌&&◌, List, [], ◌∷◌, length, Option, Some, None, refl, ◌∙◌, ap}
 use Rattle.std.specs.Prelude.{fold, nat_lt, nat_le, if◌then◌else◌}
+use Rattle.std.proofs.lemmas.Bool.{or_parts}
 use Rattle.std.specs.FinSet as set
 use Rattle.std.specs.Ordering.{nat_cmp}
 use Rattle.gb_types.specs.Rising.{rising}
@@ -99,15 +100,11 @@ after_stays plan g past (Pack b) (Sent (SentPacket text)) kept o = fold_stays (p
 after_stays plan g past Tick (Ticked (Noticed found)) kept o = fold_stays noticed_for (λ b. stepped_stays (slot_noticed (node_numbered b))) (rising found) o
 after_stays plan g past e x kept o = refl
 
-neither : (a b : Bool) → (a || b) ≡ false → (a ≡ false) × (b ≡ false)
-neither true b h = absurd (cc)
-neither false b h = (refl, h)
-
 not_out : (plan : NodePlan) (g : Addr) (past : List Happened) → is_dropped g past ≡ false → is_out (group_of plan g past) ≡ false
 unfolding is_dropped group_of
 not_out plan g [] kept = refl
 not_out plan g (h ∷ past) kept =
-    let parts = neither (is_dropped_by g h.event h.answer) (is_dropped g past) kept in
+    let parts = or_parts (is_dropped_by g h.event h.answer) (is_dropped g past) kept in
     after_stays plan g past h.event h.answer parts.0 (group_of plan g past) ∙ not_out plan g past parts.1
 
 here : (me : ℕ) (o : Option (Option SlotState)) (m : Member) → SlotIs me o m → is_out o ≡ false → is_gone m.phase ≡ false
