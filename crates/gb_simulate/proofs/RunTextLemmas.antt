@@ -3,7 +3,7 @@ use Rattle.std.proofs.Common.{ℕ, ◌≡◌, List, [], ◌∷◌, ◌++◌, Opt
 use Rattle.std.proofs.lemmas.List.{append_assoc, append-nil}
 use Rattle.std.proofs.lemmas.List.Elements.{All-cons, All-nil}
 use Rattle.std.specs.Prelude.{codes}
-use Rattle.gb_isolation.specs.Isolation.{GroupsAreIsolated}
+use Rattle.gb_isolation.specs.RunLaws.{OfGroupsInRuns}
 use Rattle.gb_network.specs.Links.{PacketsAreHonest, LinksHold}
 use Rattle.gb_network.specs.NetworkStep.{IsStep}
 use Rattle.gb_network.specs.NetworkValue.{NetworkValue, IsNetworkPlan}
@@ -22,7 +22,7 @@ use Rattle.gb_simulate.specs.RunTexts.{Step, AreSteps, Happens, TellsRun}
 use Rattle.gb_simulate.specs.Schedule.{Obeys, GoesOn, event_of}
 use Rattle.gb_simulate.specs.Text.{AreAnswered, Reaches}
 use Rattle.gb_simulate.proofs.HappensLemmas.{runs_on}
-use Rattle.gb_simulate.specs.TextLaws.{IsLawful, TellsLawfulRun, BeginsWithRun, TextsAreOfRuns}
+use Rattle.gb_simulate.specs.TextLaws.{IsServed, IsLawful, TellsLawfulRun, BeginsWithRun, TextsAreOfRuns}
 
 comes_started : (nodes silence : ℕ) → IsNetworkPlan (plan_of nodes silence) → ComesTo (plan_of nodes silence) [] (started nodes silence)
 unfolding ComesTo started
@@ -142,21 +142,25 @@ run_of [] text w (none, is) = subst (TellsRun [] text) (sym is) (All-nil IsSilen
 run_of (line ∷ lines) text w (before, older, answer, answered, few, short, goes, is) =
     subst (λ q. TellsRun (line ∷ lines) q w) (sym is) (line_on lines older line answer before w (run_of lines older before answered) goes)
 
-lawful_so : NodesHavePasts → PacketsAreHonest → LinksHold → GroupsAreIsolated → (lines : List (List ℕ)) (text : List ℕ) (w : Option NetworkValue) → TellsRun lines text w → TellsLawfulRun lines text w
-lawful_so pasts packets links isolated lines text None run = run
-lawful_so pasts packets links isolated lines text (Some v) (run, here) =
+-- each group of every run is served
+abbrev pub GroupsAreServed : Type 0
+GroupsAreServed = OfGroupsInRuns IsServed
+
+lawful_so : NodesHavePasts → PacketsAreHonest → LinksHold → GroupsAreServed → (lines : List (List ℕ)) (text : List ℕ) (w : Option NetworkValue) → TellsRun lines text w → TellsLawfulRun lines text w
+lawful_so pasts packets links served lines text None run = run
+lawful_so pasts packets links served lines text (Some v) (run, here) =
     let plan : NetworkPlan = plan_of here.nodes here.silence in
     let lawful : IsLawful plan run v = record {
       pasts = λ a within. pasts plan run v a here.comes within;
       packets = packets plan run v here.comes;
       whole = links.whole plan run v here.comes;
       links = links.each plan run v here.comes;
-      groups = isolated plan run v here.comes;
+      groups = λ g fed. served plan run v here.comes g fed;
     } in
     (run, here, lawful)
 
-front_so : NodesHavePasts → PacketsAreHonest → LinksHold → GroupsAreIsolated → (input text : List ℕ) (w : Option NetworkValue) (n : ℕ) (lines_left : List (List ℕ)) → Reaches input text w n lines_left → BeginsWithRun input text lines_left
-front_so pasts packets links isolated input text w n lines_left r = (w, r.taken, r.lines, lawful_so pasts packets links isolated r.taken text w r.run)
+front_so : NodesHavePasts → PacketsAreHonest → LinksHold → GroupsAreServed → (input text : List ℕ) (w : Option NetworkValue) (n : ℕ) (lines_left : List (List ℕ)) → Reaches input text w n lines_left → BeginsWithRun input text lines_left
+front_so pasts packets links served input text w n lines_left r = (w, r.taken, r.lines, lawful_so pasts packets links served r.taken text w r.run)
 
-pub texts_so : NodesHavePasts → PacketsAreHonest → LinksHold → GroupsAreIsolated → TextsAreOfRuns
-texts_so pasts packets links isolated = record { whole = λ input text is. front_so pasts packets links isolated input text is.0 is.1 [] is.2; front = front_so pasts packets links isolated }
+pub texts_so : NodesHavePasts → PacketsAreHonest → LinksHold → GroupsAreServed → TextsAreOfRuns
+texts_so pasts packets links served = record { whole = λ input text is. front_so pasts packets links served input text is.0 is.1 [] is.2; front = front_so pasts packets links served }

@@ -4,6 +4,7 @@ use Rattle.gb_types.specs.declared.address.Addr.{Addr}
 use Rattle.gb_types.specs.declared.node.NodeId.{NodeId}
 use Rattle.gb_isolation.specs.Isolation.{IsIsolated}
 use Rattle.gb_isolation.specs.Project.{is_fed}
+use Rattle.gb_isolation.specs.RunLaws.{RunIntegrity, RunOrder, RunDuties, RunAgreement}
 use Rattle.gb_node.specs.Past.{ComesTo}
 use Rattle.gb_network.specs.Links.{IsHonest, IsAlwaysWhole, IsLink}
 use Rattle.gb_network.specs.NetworkValue.{NetworkValue, node_plan, node_at}
@@ -17,15 +18,23 @@ use Rattle.gb_simulate.specs.RunTexts.{IsRunOf}
 use Rattle.gb_simulate.specs.Text.{Reaches, IsText}
 use Rattle.gb_simulate.specs.declared.outcome.SimEnd.TheVariants.{All as AllLines}
 
+-- What a network promises of a group in a run: it is what it is alone, and integrity, order, duties and agreement hold.
+pub record IsServed (plan : NetworkPlan) (run : List Did) (v : NetworkValue) (g : Addr) : Type 0 where
+  pub isolated : IsIsolated plan run v g
+  pub integrity : RunIntegrity plan run v g
+  pub order : RunOrder plan run v g
+  pub duties : RunDuties plan run v g
+  pub agreement : RunAgreement plan run v g
+
 -- What a network promises of a run: each node came by its own past to what it is; each packet says what its sender did; each
--- frame was taken once at most, whole; only what was packed was taken, and only what was taken was acknowledged; each group is
--- what it is alone, where none of its requests was refused for want of memory.
+-- frame was taken once at most, whole; only what was packed was taken, and only what was taken was acknowledged; so each
+-- group is served of which no request was refused for want of memory.
 pub record IsLawful (plan : NetworkPlan) (run : List Did) (v : NetworkValue) : Type 0 where
   pub pasts : (a : NodeId) → a.number < plan.nodes → ComesTo (node_plan plan a) (past_at a run) (node_at v a)
   pub packets : (k : ℕ) (p : Posted) → slice_get v.packets k ≡ Some p → IsHonest plan run p
   pub whole : IsAlwaysWhole plan run
   pub links : (a b : NodeId) → IsLink plan run a b
-  pub groups : (g : Addr) → is_fed plan g run ≡ true → IsIsolated plan run v g
+  pub groups : (g : Addr) → is_fed plan g run ≡ true → IsServed plan run v g
 
 -- these lines are those of a run, of which all holds that a network promises; or they ask for nothing
 abbrev pub TellsLawfulRun : List (List ℕ) → List ℕ → Option NetworkValue → Type 0

@@ -1,5 +1,13 @@
-use Rattle.gb_simulate.proofs.RunTextLemmas.{texts_so}
+use Rattle.gb_simulate.proofs.RunTextLemmas.{GroupsAreServed, texts_so}
 use Rattle.gb_simulate.proofs.laws.texts_are_of_runs.Goals as goal
 
 pub returns : goal.returns
-returns c = texts_so c.nodes_have_pasts.ensures c.packets_are_honest.ensures c.links_hold.ensures c.groups_are_isolated.ensures
+returns c =
+    let served : GroupsAreServed = λ plan run v comes g fed. record {
+      isolated = c.groups_are_isolated.ensures plan run v comes g fed;
+      integrity = c.groups_keep_integrity.ensures plan run v comes g fed;
+      order = c.groups_keep_order.ensures plan run v comes g fed;
+      duties = c.groups_do_their_duties.ensures plan run v comes g fed;
+      agreement = c.settled_groups_agree.ensures plan run v comes g fed;
+    } in
+    texts_so c.nodes_have_pasts.ensures c.packets_are_honest.ensures c.links_hold.ensures served
