@@ -1,5 +1,5 @@
 -- A packing as a whole.
-use Rattle.std.proofs.Common.{◌≡◌, ℕ, suc, zero, ◌+◌, ◌-◌, ◌≤◌, ◌<◌, List, [], ◌∷◌, length, take, get_or, refl, ap, ◌∙◌, arith, inl, inr}
+use Rattle.std.proofs.Common.{◌≡◌, ℕ, suc, zero, ◌+◌, ◌-◌, ◌≤◌, ◌<◌, List, [], ◌∷◌, length, take, get_or, refl, ap, sym, ◌∙◌, arith, inl, inr}
 use Rattle.std.specs.Prelude.{sum_by, Bool, true, false, ltb, if◌then◌else◌}
 use Rattle.std.proofs.Math.ListN.{set}
 use Rattle.std.proofs.lemmas.List.{length-set, get_or-set_same, get_or-set_other, set_past}
@@ -49,6 +49,11 @@ taken_is dest to room k t now e a same =
 pub count_is : (dest to room k : ℕ) (t now : GroupsValue) → to ≡ dest → k ≡ length (fit room (walk (get_or t.cursors to 0) (queues dest t.rows))) → t ≡ now → k ≡ length (batch dest room now)
 count_is dest to room k t now e a same =
     a ∙ ap (λ n. length (fit room (walk (get_or t.cursors n 0) (queues dest t.rows)))) e ∙ ap (λ (v : GroupsValue). length (batch dest room v)) same
+
+-- the same from what the batch is
+pub count_from : (dest to room k : ℕ) (t now : GroupsValue) → to ≡ dest → t ≡ now → k ≡ length (batch dest room now) → k ≡ length (fit room (walk (get_or t.cursors to 0) (queues dest t.rows)))
+count_from dest to room k t now e same a =
+    a ∙ sym (ap (λ n. length (fit room (walk (get_or t.cursors n 0) (queues dest t.rows)))) e ∙ ap (λ (v : GroupsValue). length (batch dest room v)) same)
 
 pub bytes_is : (dest to room k : ℕ) (t now : GroupsValue) → to ≡ dest → k ≡ sum_by size (fit room (walk (get_or t.cursors to 0) (queues dest t.rows))) → t ≡ now → k ≡ sum_by size (batch dest room now)
 bytes_is dest to room k t now e a same =

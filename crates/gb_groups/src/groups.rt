@@ -1,5 +1,5 @@
 //! All groups of a node, with an index of what waits in them.
-ghost use Rattle.std.specs.Prelude.{◌≡◌, ◌==◌, ◌≤◌, ◌<◌, ◌+◌, is_some, ◌++◌, ◌∷◌, [], true, map, slice_set, ℕ, Some, None, length, sum_by, All, OnOk, OnErr, MatchOption, vec_len, vec_capacity};
+ghost use Rattle.std.specs.Prelude.{◌≡◌, ◌==◌, ◌≤◌, ◌<◌, ◌+◌, is_some, ◌++◌, ◌∷◌, [], true, map, slice_index_or, slice_set, ℕ, Some, None, length, sum_by, All, OnOk, OnErr, MatchOption, vec_len, vec_capacity};
 ghost use Rattle.gb_groups.specs.Fair.{IsFront, IsLongest};
 ghost use Rattle.gb_frame.specs.Packet.{item_of as view_item};
 ghost use Rattle.gb_types.specs.declared.limits.TheConstants.{NODES, PLACES};
@@ -10,6 +10,7 @@ ghost use Rattle.gb_slot.specs.Slot.{IsWithinLimits, new_slot, slot_done, slot_m
 ghost use Rattle.gb_groups.specs.SlotsValue.{row_at, on_slot, AreApart};
 ghost use Rattle.gb_groups.specs.AtAddress.{group_reply, drop_at, place_of, on_address, address_of, item_came, OthersKept};
 ghost use Rattle.gb_groups.specs.GroupsValue.{no_groups, walk_to, batch, packed, IsIndex, IsIndexBut};
+ghost use Rattle.gb_groups.specs.PlaceSet.{has};
 ghost use Rattle.gb_groups.specs.Members.{has_member, IsEnrolled, IsNextMember};
 ghost use Rattle.gb_groups.specs.Packing.{items, size};
 ghost use Rattle.gb_groups.specs.OneGroup.{LONGEST, NothingWaits};
@@ -17,7 +18,7 @@ ghost use Rattle.gb_frame.specs.Spelling.{items_text, IsItem};
 
 use crate::packing::{advance, measure};
 use crate::place_set::PlaceSet;
-use crate::slots::Slots;
+use crate::slots::{Slots, count_waiting};
 use gb_frame::item::ItemView;
 use gb_types::address::Addr;
 use gb_types::limits::{NODES, PAYLOAD};
@@ -45,6 +46,7 @@ pub struct Groups {
 
 impl Model for Groups {
     ghost use Rattle.gb_groups.specs.GroupsValue.{GroupsValue, ArePlaces, IsIndex};
+    ghost use Rattle.gb_groups.specs.PlaceSet.{has};
     ghost use Rattle.gb_groups.specs.Members.{AreMemberships};
     ghost use Rattle.std.specs.Coded.{codes, coded_ℕ};
     ghost use Rattle.std.specs.Ordering.{nat_cmp};
@@ -65,8 +67,9 @@ fn refresh(busy: &mut [PlaceSet], slots: &Slots, place: usize)
     requires others { IsIndexBut place slots.now.rows busy.old }
     ensures { IsIndex slots.now.rows busy.new }
 {
+    let slot = slots.slot(place);
     for index in 0..NODES {
-        if slots.waiting_for(place, NodeId::new(index as u8)) == 0 {
+        if count_waiting(slot, NodeId::new(index as u8)) == 0 {
             busy[index].remove(place);
         } else {
             busy[index].insert(place);
@@ -89,6 +92,13 @@ fn enrol(memberships: &mut [PlaceSet], place: usize, members: &NodeSet)
     }
 }
 
+/// For each node, no place.
+fn no_places() -> [PlaceSet; NODES]
+    ensures { (d p : ℕ) → d < NODES → has (slice_index_or result d []) p ≡ 0 }
+{
+    std::array::from_fn(|_| PlaceSet::new())
+}
+
 impl Groups {
     /// No group.
     pub fn new(alloc: Global) -> Groups
@@ -97,9 +107,9 @@ impl Groups {
         Groups {
             alloc,
             slots: Slots::new(alloc),
-            busy: std::array::from_fn(|_| PlaceSet::new()),
+            busy: no_places(),
             cursors: [0; NODES],
-            memberships: std::array::from_fn(|_| PlaceSet::new()),
+            memberships: no_places(),
         }
     }
 
@@ -298,12 +308,11 @@ impl Groups {
     }
 
     /// Appends the texts of the items of the next batch for a node, the longest front of the walk that has so many
-    /// bytes, 65,535 at most, and gives how many they are. Takes no memory: `out` has capacity for as many bytes as
-    /// `measure` says.
-    pub fn pack_into(&mut self, dest: NodeId, room: usize, out: &mut Vec<u8>) -> u16
+    /// bytes, 65,535 at most; `count` and the capacity of `out` are what `measure` says of it. Takes no memory.
+    pub fn pack_into(&mut self, dest: NodeId, room: usize, count: u16, out: &mut Vec<u8>)
         requires room { room ≤ 65535 }
+        requires count { count ≡ length (batch dest.number room self.old) }
         requires capacity { vec_len out.old + sum_by size (batch dest.number room self.old) ≤ vec_capacity out.old }
-        ensures count { result ≡ length (batch dest.number room self.old) }
         ensures written { out.new.items ≡ out.old.items ++ items_text (items self.old.rows (batch dest.number room self.old)) }
         ensures fit { All IsItem (items self.old.rows (batch dest.number room self.old)) }
         ensures len { vec_len out.new ≡ vec_len out.old + sum_by size (batch dest.number room self.old) }
@@ -316,11 +325,7 @@ impl Groups {
         let _places = self.slots.len();
         let to = dest.index();
         let from = self.cursors[to];
-        let mut busy = self.busy[to].duplicate();
-        let (count, _bytes) = measure(&self.slots, busy.duplicate(), dest, from, room);
-        let cursor = advance(&mut self.slots, &mut busy, dest, from, count, out);
-        self.busy[to] = busy;
-        self.cursors[to] = cursor;
-        count
+        let busy = &mut self.busy[to];
+        self.cursors[to] = advance(&mut self.slots, busy, dest, from, count, out);
     }
 }

@@ -5,20 +5,22 @@ ghost use Rattle.gb_groups.specs.PlaceSet.{has, IsNext};
 
 use std::marker::Model;
 
-/// A set of places below `PLACES`. Contracts see its words.
+/// A set of places below `PLACES`. Contracts see its words. A search looks at none behind the last that ever had a place.
 #[derive(Drop)]
 pub struct PlaceSet {
     words: [u64; 64],
+    /// No word from this one on has a place.
+    used: usize,
 }
 
 impl Model for PlaceSet {
-    ghost use Rattle.std.specs.Prelude.{ℕ, List, length, ◌≡◌};
+    ghost use Rattle.std.specs.Prelude.{ℕ, List, length, ◌≡◌, ◌≤◌, slice_index_or};
 
     ghost Value = { List ℕ };
 
     ghost view = { λ s. s.words };
 
-    ghost invariant = { λ s. length s.words ≡ 64 };
+    ghost invariant = { λ s. (length s.words ≡ 64) × (s.used ≤ 64) × ((a : ℕ) → s.used ≤ a → slice_index_or s.words a 0 ≡ 0) };
 }
 
 impl PlaceSet {
@@ -26,21 +28,27 @@ impl PlaceSet {
     pub fn new() -> PlaceSet
         ensures { (p : ℕ) → has result p ≡ 0 }
     {
-        PlaceSet { words: [0; 64] }
+        PlaceSet {
+            words: [0; 64],
+            used: 0,
+        }
     }
 
     /// The same set.
     pub fn duplicate(&self) -> PlaceSet
         ensures { result ≡ self.now }
     {
-        PlaceSet { words: self.words }
+        PlaceSet {
+            words: self.words,
+            used: self.used,
+        }
     }
 
     /// The least place of the set at or after one.
     pub fn next(&self, from: usize) -> Option<usize>
         ensures { MatchOption result ((p : ℕ) → from ≤ p → has self.now p ≡ 0) (λ q. IsNext self.now from q) }
     {
-        next_set(&self.words, from)
+        next_set(&self.words[..self.used], from)
     }
 
     /// Takes a place out of the set.
@@ -59,6 +67,7 @@ impl PlaceSet {
         ensures others { (p : ℕ) → p ≢ place → has self.new p ≡ has self.old p }
     {
         self.words[place / 64] |= 1 << (place % 64);
+        self.used = self.used.max(place / 64 + 1);
     }
 }
 

@@ -6,7 +6,7 @@ ghost use Rattle.gb_rules.specs.Group.{is_member, open_answer, shut_answer, drop
 ghost use Rattle.gb_rules.specs.Replied.{done_reply, said_reply, IsReply};
 ghost use Rattle.gb_rules.specs.declared.phase.Phase.TheVariants as Phase;
 ghost use Rattle.gb_slot.specs.Slot.{IsWithinLimits, new_slot, waiting, slot_came, slot_done, slot_noticed, slot_moved, slot_said};
-ghost use Rattle.gb_groups.specs.SlotsValue.{no_entry, row_at, on_slot, HaveCounters, IsShort, AreShort, AreApart, unless_gone, gone};
+ghost use Rattle.gb_groups.specs.SlotsValue.{Row, no_entry, row_at, on_slot, HaveCounters, IsShort, AreShort, AreApart, unless_gone, gone};
 ghost use Rattle.gb_frame.specs.Packet.{item_of as view_item};
 ghost use Rattle.gb_groups.specs.Packing.{queue, queues, took, item_of};
 ghost use Rattle.gb_groups.specs.Slots.{place_at};
@@ -67,6 +67,16 @@ fn key_at(places: &IndexMap<Addr, Place>, place: usize) -> Option<usize>
     }
 }
 
+/// How many items wait for a node in a group, none where it was dropped.
+pub(crate) fn count_waiting(slot: Option<&Slot>, dest: NodeId) -> usize
+    ensures { (row : Row) → MatchOption slot.entry (row.slot ≡ None) (λ s. row.slot ≡ Some s.now) → result ≡ length (queue dest.number row) }
+{
+    match slot {
+        Some(slot) => slot.waiting_for(dest),
+        None => 0,
+    }
+}
+
 impl Slots {
     /// No groups.
     pub fn new(alloc: Global) -> Slots
@@ -120,10 +130,7 @@ impl Slots {
     pub fn waiting_for(&self, place: usize, dest: NodeId) -> usize
         ensures { result ≡ length (queue dest.number (row_at self.now.rows place)) }
     {
-        match self.slot(place) {
-            Some(slot) => slot.waiting_for(dest),
-            None => 0,
-        }
+        count_waiting(self.slot(place), dest)
     }
 
     /// One of the items that wait for a node in the group at a place; they count from 0.

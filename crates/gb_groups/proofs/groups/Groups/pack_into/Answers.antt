@@ -1,4 +1,4 @@
-use Rattle.std.proofs.Common.{◌≡◌, List, ◌++◌, length, take, get_or, ap, sym, subst, ◌∙◌, arith}
+use Rattle.std.proofs.Common.{◌≡◌, List, ◌++◌, length, take, get_or, refl, ap, sym, subst, ◌∙◌, arith}
 use Rattle.std.specs.Prelude.{sum_by, All}
 use Rattle.gb_groups.specs.SlotsValue.{Row, HaveCounters, AreApart}
 use Rattle.gb_groups.specs.GroupsValue.{GroupsValue, walk_to, batch, packed}
@@ -6,31 +6,28 @@ use Rattle.gb_groups.specs.Members.{AreMemberships}
 use Rattle.gb_groups.specs.Packing.{Visit, queues, walk, size, items}
 use Rattle.gb_frame.specs.Spelling.{items_text, IsItem}
 use Rattle.gb_groups.proofs.TakingLemmas.{length-gave, queues-gave}
-use Rattle.gb_groups.proofs.BatchLemmas.{is_longest, packed_at, taken_is, count_is, places-kept, fit-front}
+use Rattle.gb_groups.proofs.BatchLemmas.{is_longest, packed_at, taken_is, count_from, places-kept, fit-front}
 use Rattle.gb_groups.proofs.FrontLemmas.{is_front}
 use Rattle.gb_groups.proofs.IndexLemmas.{index_at, index_changed}
 use Rattle.gb_groups.proofs.MemberLemmas.{memberships_gave}
 use Rattle.gb_groups.proofs.groups.Groups.pack_into.Goals as goal
 
-pub measure-count-requires-clause-index : goal.measure-count-requires-clause-index
-measure-count-requires-clause-index c =
-    index_at c.self.inside.slots.rows c.self.inside.busy c.index-to.result c.args.dest.number c.duplicate.result c.index-self-to.result c.self.invariant.1 c.index-to.ensures.value c.args.dest.below (c.duplicate.ensures ∙ c.duplicate-busy.ensures)
+pub advance-requires-clause-index : goal.advance-requires-clause-index
+advance-requires-clause-index c =
+    index_at c.self.inside.slots.rows c.self.inside.busy c.index-to.result c.args.dest.number (get_or c.self.inside.busy c.index-to.result c.index-self-to.result) c.index-self-to.result c.self.invariant.1 c.index-to.ensures.value c.args.dest.below refl
 
-pub advance-cursor-requires-clause-index : goal.advance-cursor-requires-clause-index
-advance-cursor-requires-clause-index c =
-    index_at c.self.inside.slots.rows c.self.inside.busy c.index-to.result c.args.dest.number c.duplicate-busy.result c.index-self-to.result c.self.invariant.1 c.index-to.ensures.value c.args.dest.below c.duplicate-busy.ensures
-
-pub advance-cursor-requires-clause-there : goal.advance-cursor-requires-clause-there
-advance-cursor-requires-clause-there c =
+pub advance-requires-clause-there : goal.advance-requires-clause-there
+advance-requires-clause-there c =
     let W = walk (get_or c.self.inside.cursors c.index-to.result 0) (queues c.args.dest.number c.self.inside.slots.rows) in
-    let k = c.measure-count.ensures.count in
+    let k = count_from c.args.dest.number c.index-to.result c.args.room c.args.count (record { rows = c.self.inside.slots.rows; cursors = c.self.inside.cursors }) c.args.self.now c.index-to.ensures.value c.self.view_is c.requires.count in
     omega (arith, k, (fit-front c.args.room W).0)
 
-pub advance-cursor-requires-clause-capacity : goal.advance-cursor-requires-clause-capacity
-advance-cursor-requires-clause-capacity c =
+pub advance-requires-clause-capacity : goal.advance-requires-clause-capacity
+advance-requires-clause-capacity c =
     let dest = c.args.dest.number in
     let T : GroupsValue = record { rows = c.self.inside.slots.rows; cursors = c.self.inside.cursors } in
-    let taken = taken_is dest c.index-to.result c.args.room c.measure-count.result.0 T c.args.self.now c.index-to.ensures.value c.measure-count.ensures.count c.self.view_is in
+    let k = count_from dest c.index-to.result c.args.room c.args.count T c.args.self.now c.index-to.ensures.value c.self.view_is c.requires.count in
+    let taken = taken_is dest c.index-to.result c.args.room c.args.count T c.args.self.now c.index-to.ensures.value k c.self.view_is in
     let sum = ap (λ (us : List Visit). sum_by size us) taken in
     omega (arith, c.requires.capacity)
 
@@ -38,47 +35,47 @@ pub invariant_of-self : goal.invariant_of-self
 invariant_of-self c =
     let dest = c.args.dest.number in
     let rows = c.self.inside.slots.rows in
-    let new : List Row = c.advance-cursor.new.slots.rows in
-    let vs = take c.measure-count.result.0 (walk (get_or c.self.inside.cursors c.index-to.result 0) (queues dest rows)) in
-    let size : length new ≡ length rows = ap length c.advance-cursor.ensures.rows ∙ length-gave dest 0 vs rows in
-    let others = λ (e : _) (ne : _). ap (queues e) c.advance-cursor.ensures.rows ∙ queues-gave dest e 0 vs rows ne in (
-      places-kept c.index-to.result c.advance-cursor.result c.self.inside.cursors rows new c.self.invariant.0 c.advance-cursor.ensures.within size,
-      index_changed rows new c.self.inside.busy c.index-to.result dest c.advance-cursor.new.busy c.self.invariant.1 c.index-to.ensures.value c.advance-cursor.ensures.index size others c.args.dest.below,
-      subst (λ (rs : List Row). AreMemberships rs c.self.inside.memberships) (sym c.advance-cursor.ensures.rows) (memberships_gave dest vs rows c.self.inside.memberships c.self.invariant.2),
+    let new : List Row = c.advance.new.slots.rows in
+    let vs = take c.args.count (walk (get_or c.self.inside.cursors c.index-to.result 0) (queues dest rows)) in
+    let size : length new ≡ length rows = ap length c.advance.ensures.rows ∙ length-gave dest 0 vs rows in
+    let others = λ (e : _) (ne : _). ap (queues e) c.advance.ensures.rows ∙ queues-gave dest e 0 vs rows ne in (
+      places-kept c.index-to.result c.advance.result c.self.inside.cursors rows new c.self.invariant.0 c.advance.ensures.within size,
+      index_changed rows new c.self.inside.busy c.index-to.result dest c.advance.new.busy c.self.invariant.1 c.index-to.ensures.value c.advance.ensures.index size others c.args.dest.below,
+      subst (λ (rs : List Row). AreMemberships rs c.self.inside.memberships) (sym c.advance.ensures.rows) (memberships_gave dest vs rows c.self.inside.memberships c.self.invariant.2),
     )
-
-pub returns-clause-count : goal.returns-clause-count
-returns-clause-count c =
-    count_is c.args.dest.number c.index-to.result c.args.room _ (record { rows = c.self.inside.slots.rows; cursors = c.self.inside.cursors }) c.args.self.now c.index-to.ensures.value c.measure-count.ensures.count c.self.view_is
 
 pub returns-clause-written : goal.returns-clause-written
 returns-clause-written c =
     let dest = c.args.dest.number in
     let T : GroupsValue = record { rows = c.self.inside.slots.rows; cursors = c.self.inside.cursors } in
-    let taken = taken_is dest c.index-to.result c.args.room c.measure-count.result.0 T c.args.self.now c.index-to.ensures.value c.measure-count.ensures.count c.self.view_is in
-    c.advance-cursor.ensures.written ∙ ap (λ (us : List Visit). c.args.out.now.items ++ items_text (items T.rows us)) taken
+    let k = count_from dest c.index-to.result c.args.room c.args.count T c.args.self.now c.index-to.ensures.value c.self.view_is c.requires.count in
+    let taken = taken_is dest c.index-to.result c.args.room c.args.count T c.args.self.now c.index-to.ensures.value k c.self.view_is in
+    c.advance.ensures.written ∙ ap (λ (us : List Visit). c.args.out.now.items ++ items_text (items T.rows us)) taken
     ∙ ap (λ (v : GroupsValue). c.args.out.now.items ++ items_text (items v.rows (batch dest c.args.room c.args.self.now))) c.self.view_is
 
 pub returns-clause-fit : goal.returns-clause-fit
 returns-clause-fit c =
     let dest = c.args.dest.number in
     let T : GroupsValue = record { rows = c.self.inside.slots.rows; cursors = c.self.inside.cursors } in
-    let taken = taken_is dest c.index-to.result c.args.room c.measure-count.result.0 T c.args.self.now c.index-to.ensures.value c.measure-count.ensures.count c.self.view_is in
+    let k = count_from dest c.index-to.result c.args.room c.args.count T c.args.self.now c.index-to.ensures.value c.self.view_is c.requires.count in
+    let taken = taken_is dest c.index-to.result c.args.room c.args.count T c.args.self.now c.index-to.ensures.value k c.self.view_is in
     subst (λ (v : GroupsValue). All IsItem (items v.rows (batch dest c.args.room c.args.self.now))) c.self.view_is
-    (subst (λ (us : List Visit). All IsItem (items T.rows us)) taken c.advance-cursor.ensures.fit)
+    (subst (λ (us : List Visit). All IsItem (items T.rows us)) taken c.advance.ensures.fit)
 
 pub returns-clause-len : goal.returns-clause-len
 returns-clause-len c =
     let dest = c.args.dest.number in
     let T : GroupsValue = record { rows = c.self.inside.slots.rows; cursors = c.self.inside.cursors } in
-    let taken = taken_is dest c.index-to.result c.args.room c.measure-count.result.0 T c.args.self.now c.index-to.ensures.value c.measure-count.ensures.count c.self.view_is in
+    let k = count_from dest c.index-to.result c.args.room c.args.count T c.args.self.now c.index-to.ensures.value c.self.view_is c.requires.count in
+    let taken = taken_is dest c.index-to.result c.args.room c.args.count T c.args.self.now c.index-to.ensures.value k c.self.view_is in
     let sum = ap (λ (us : List Visit). sum_by size us) taken in
-    omega (arith, c.advance-cursor.ensures.len)
+    omega (arith, c.advance.ensures.len)
 
 pub returns-clause-state : goal.returns-clause-state
 returns-clause-state c =
     let T : GroupsValue = record { rows = c.self.inside.slots.rows; cursors = c.self.inside.cursors } in
-    packed_at c.args.dest.number c.index-to.result c.args.room c.measure-count.result.0 c.advance-cursor.result T c.advance-cursor.new.slots.rows c.index-to.ensures.value c.measure-count.ensures.count c.advance-cursor.ensures.rows c.advance-cursor.ensures.cursor
+    let k = count_from c.args.dest.number c.index-to.result c.args.room c.args.count T c.args.self.now c.index-to.ensures.value c.self.view_is c.requires.count in
+    packed_at c.args.dest.number c.index-to.result c.args.room c.args.count c.advance.result T c.advance.new.slots.rows c.index-to.ensures.value k c.advance.ensures.rows c.advance.ensures.cursor
     ∙ ap (packed c.args.dest.number c.args.room) c.self.view_is
 
 pub returns-clause-longest : goal.returns-clause-longest
