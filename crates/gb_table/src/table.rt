@@ -17,8 +17,8 @@ ghost use Rattle.gb_table.specs.TableValue.{new_table, reserve_for, table_came, 
 ghost use Rattle.gb_table.specs.Requests.{is_admitted, is_by_tenant, table_reply, IsReplyTo, table_did};
 
 use crate::tenants::Tenants;
-use gb_cap::hmac::Key;
-use gb_cap::token::{Need, Token, admits};
+use gb_cap::hmac::{HmacKey, Key};
+use gb_cap::token::{Need, Token};
 use gb_frame::item::ItemView;
 use gb_groups::groups::Groups;
 use gb_rules::reserve::Reserve;
@@ -41,7 +41,8 @@ pub struct Table {
     nodes: u8,
     /// So many groups may its tenants make in all.
     places: u16,
-    admin_key: Key,
+    /// The administrator's key, with its pads hashed.
+    admin_key: HmacKey,
     tenants: Tenants,
     groups: Groups,
 }
@@ -75,7 +76,7 @@ impl Table {
             me,
             nodes,
             places,
-            admin_key: *admin_key,
+            admin_key: HmacKey::new(admin_key),
             tenants: Tenants::new(alloc),
             groups: Groups::new(alloc),
         }
@@ -100,7 +101,7 @@ impl Table {
         ensures { result ≡ is_admitted request.now self.now }
     {
         match request {
-            Request::AddTenant(token, _) => admits(&self.admin_key, Need::Admin, token),
+            Request::AddTenant(token, _) => self.admin_key.admits(Need::Admin, token),
             Request::Make(token, addr, _) => self.is_tenant(token, *addr),
             Request::OpenGroup(token, addr) => self.is_tenant(token, *addr),
             Request::ShutGroup(token, addr) => self.is_tenant(token, *addr),
@@ -259,12 +260,12 @@ impl Table {
         self.groups.measure(dest, room)
     }
 
-    /// Appends the texts of the items of the next batch for a node, which may have so many bytes, 65,535 at most, and
-    /// gives how many they are. Takes no memory: `out` has capacity for as many bytes as `measure` says.
-    pub fn pack_into(&mut self, dest: NodeId, room: usize, out: &mut Vec<u8>) -> u16
+    /// Appends the texts of the items of the next batch for a node, which may have so many bytes, 65,535 at most;
+    /// `count` and the capacity of `out` are what `measure` says of it. Takes no memory.
+    pub fn pack_into(&mut self, dest: NodeId, room: usize, count: u16, out: &mut Vec<u8>)
         requires room { room ≤ 65535 }
+        requires count { count ≡ length (batch dest.number room self.old.groups) }
         requires capacity { vec_len out.old + sum_by size (batch dest.number room self.old.groups) ≤ vec_capacity out.old }
-        ensures count { result ≡ length (batch dest.number room self.old.groups) }
         ensures written { out.new.items ≡ out.old.items ++ items_text (items self.old.groups.rows (batch dest.number room self.old.groups)) }
         ensures fit { All IsItem (items self.old.groups.rows (batch dest.number room self.old.groups)) }
         ensures len { vec_len out.new ≡ vec_len out.old + sum_by size (batch dest.number room self.old.groups) }
@@ -273,6 +274,6 @@ impl Table {
         ensures longest { IsLongest room (walk_to dest.number self.old.groups) (batch dest.number room self.old.groups) }
         ensures own { (p : ℕ) → p < length self.old.groups.rows → IsFront dest.number room self.old.groups p }
     {
-        self.groups.pack_into(dest, room, out)
+        self.groups.pack_into(dest, room, count, out);
     }
 }

@@ -2,9 +2,10 @@
 ghost use Rattle.std.specs.Prelude.{◌≡◌, ◌++◌, ◌∷◌, ◌+◌, ◌≤◌, ◌<◌, ◌^◌, [], None, OnOk, OnErr, option_copied};
 ghost use Rattle.gb_types.specs.declared.limits.TheConstants.{PLACES};
 ghost use Rattle.gb_rules.specs.Tenant.{row_of, reserved};
-ghost use Rattle.gb_table.specs.Requests.{is_by_row};
+ghost use Rattle.gb_table.specs.Requests.{is_token, is_by_row};
 
-use gb_cap::token::{Need, Token, admits};
+use gb_cap::hmac::HmacKey;
+use gb_cap::token::{Need, Token};
 use gb_types::address::TenantId;
 use gb_types::memory::OutOfMemory;
 use gb_types::spec::TenantRow;
@@ -12,10 +13,53 @@ use indexmap::IndexMap;
 use std::alloc::Global;
 use std::marker::Model;
 
+/// A tenant's row, and its key with its pads hashed, so that a token costs no more than a text of its length. Contracts see
+/// the row.
+#[derive(Drop)]
+pub struct Tenant {
+    row: TenantRow,
+    key: HmacKey,
+}
+
+impl Model for Tenant {
+    ghost use Rattle.std.specs.Prelude.{◌≡◌};
+    ghost use Rattle.gb_types.specs.declared.spec.TenantRow.{TenantRow as Row};
+
+    ghost Value = { Row };
+
+    ghost view = { λ t. t.row };
+
+    ghost invariant = { λ t. t.key ≡ t.row.key };
+}
+
+impl Tenant {
+    fn new(row: &TenantRow) -> Tenant
+        ensures { result ≡ row.now }
+    {
+        Tenant {
+            row: *row,
+            key: HmacKey::new(&row.key),
+        }
+    }
+
+    fn row(&self) -> &TenantRow
+        ensures { result.now ≡ self.now }
+    {
+        &self.row
+    }
+
+    /// Whether this is the token for a need under the tenant's key.
+    fn admits(&self, need: Need, token: &Token) -> bool
+        ensures { result ≡ is_token self.now.key need token.now }
+    {
+        self.key.admits(need, token)
+    }
+}
+
 /// The rows of a node's tenants. Contracts see them in the order in which they were added.
 #[derive(Drop)]
 pub struct Tenants {
-    rows: IndexMap<TenantId, TenantRow>,
+    rows: IndexMap<TenantId, Tenant>,
     /// How many groups they may make in all.
     reserved: u32,
 }
@@ -44,11 +88,21 @@ impl Tenants {
         }
     }
 
+    /// A tenant.
+    fn find(&self, tenant: TenantId) -> Option<&Tenant>
+        ensures { option_copied result ≡ row_of tenant self.now }
+    {
+        self.rows.get(&tenant)
+    }
+
     /// The row of a tenant.
     pub fn row(&self, tenant: TenantId) -> Option<&TenantRow>
         ensures { option_copied result ≡ row_of tenant self.now }
     {
-        self.rows.get(&tenant)
+        match self.find(tenant) {
+            Some(found) => Some(found.row()),
+            None => None,
+        }
     }
 
     /// How many groups the tenants may make in all.
@@ -66,7 +120,7 @@ impl Tenants {
         ensures err { OnErr result (self.new ≡ self.old) }
     {
         self.rows.reserve(1)?;
-        self.rows.insert(row.tenant, *row).unwrap();
+        self.rows.insert(row.tenant, Tenant::new(row)).unwrap();
         self.reserved += row.groups;
         Ok(())
     }
@@ -75,8 +129,8 @@ impl Tenants {
     pub fn admits(&self, tenant: TenantId, need: Need, token: &Token) -> bool
         ensures { result ≡ is_by_row need token.now (row_of tenant self.now) }
     {
-        match self.row(tenant) {
-            Some(row) => admits(&row.key, need, token),
+        match self.find(tenant) {
+            Some(found) => found.admits(need, token),
             None => false,
         }
     }

@@ -12,7 +12,7 @@ invariant_of-self-2 c =
     let row = c.args.row.now in
     let inserted = rw c.unwrap.ensures at c.insert.ensures.entries in
     let entries : c.insert.new.self.entries ≡ es ++ (row.tenant, row) ∷ [] =
-    inserted ∙ ap (λ (xs : List (ℕ × TenantRow)). insert_entry nat_eq xs row.tenant row) c.reserve.ensures.entries ∙ insert-last nat_eq row.tenant row es (λ k. refl) c.self.invariant.0 (ap (row_of row.tenant) c.self.view_is ∙ c.requires.fresh) in (
+    inserted ∙ ap (λ (xs : List (ℕ × TenantRow)). insert_entry nat_eq xs row.tenant c.new.result) c.reserve.ensures.entries ∙ ap (λ (r : TenantRow). insert_entry nat_eq es row.tenant r) c.new.ensures ∙ insert-last nat_eq row.tenant row es (λ k. refl) c.self.invariant.0 (ap (row_of row.tenant) c.self.view_is ∙ c.requires.fresh) in (
       subst AreKeyed (sym entries) (keyed-more row es c.self.invariant.0),
       ap (λ n. n + row.groups) c.self.invariant.1 ∙ sym (ap (λ (xs : List (ℕ × TenantRow)). reserved (rows_of xs)) entries ∙ ap reserved (rows-more row es) ∙ reserved-more (rows_of es) row),
     )
@@ -23,5 +23,5 @@ returns-clause-ok c =
     let row = c.args.row.now in
     let inserted = rw c.unwrap.ensures at c.insert.ensures.entries in
     let entries : c.insert.new.self.entries ≡ es ++ (row.tenant, row) ∷ [] =
-    inserted ∙ ap (λ (xs : List (ℕ × TenantRow)). insert_entry nat_eq xs row.tenant row) c.reserve.ensures.entries ∙ insert-last nat_eq row.tenant row es (λ k. refl) c.self.invariant.0 (ap (row_of row.tenant) c.self.view_is ∙ c.requires.fresh) in
+    inserted ∙ ap (λ (xs : List (ℕ × TenantRow)). insert_entry nat_eq xs row.tenant c.new.result) c.reserve.ensures.entries ∙ ap (λ (r : TenantRow). insert_entry nat_eq es row.tenant r) c.new.ensures ∙ insert-last nat_eq row.tenant row es (λ k. refl) c.self.invariant.0 (ap (row_of row.tenant) c.self.view_is ∙ c.requires.fresh) in
     ap rows_of entries ∙ rows-more row es ∙ ap (λ (rs : List TenantRow). rs ++ row ∷ []) c.self.view_is

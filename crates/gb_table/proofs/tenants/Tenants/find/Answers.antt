@@ -1,7 +1,7 @@
 use Rattle.std.proofs.Common.{refl, ap, ◌∙◌}
 use Rattle.gb_rules.specs.Tenant.{row_of}
 use Rattle.gb_table.proofs.TenantLemmas.{rows-lookup}
-use Rattle.gb_table.proofs.tenants.Tenants.row.Goals as goal
+use Rattle.gb_table.proofs.tenants.Tenants.find.Goals as goal
 
 pub returns : goal.returns
 returns c = c.get.ensures.value ∙ rows-lookup _ c.args.tenant c.self.inside.rows.entries (λ k. refl) c.self.invariant.0 ∙ ap (row_of c.args.tenant) c.self.view_is
