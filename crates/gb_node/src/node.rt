@@ -183,11 +183,12 @@ impl Node {
         }
     }
 
-    /// The next batch for a node, which has some items, with so many bytes, becomes the next frame, whose number this
+    /// The next batch for a node, which has so many items with so many bytes, becomes the next frame, whose number this
     /// gives. Without memory nothing has changed.
-    fn push_batch(&mut self, to: NodeId, bytes: usize) -> Result<u64, OutOfMemory>
+    fn push_batch(&mut self, to: NodeId, count: u16, bytes: usize) -> Result<u64, OutOfMemory>
         requires room { has_room (window_to self.old to.number) ≡ true }
-        requires some { 0 < length (batch to.number ROOM self.old.table.groups) }
+        requires some { 0 < count }
+        requires count { count ≡ length (batch to.number ROOM self.old.table.groups) }
         requires bytes { bytes ≡ sum_by size (batch to.number ROOM self.old.table.groups) }
         ensures state { OnOk result (self.new ≡ sent_batch to (Some (batch_to self.old.table to)) self.old) }
         ensures frame { IfOk result (λ number. (0 < number) × (number ≡ (window_to self.old to.number).next) × (frame_again (window_to self.new to.number) number ≡ Some (number, batch_to self.old.table to))) }
@@ -195,7 +196,7 @@ impl Node {
         ensures err { OnErr result (self.new ≡ self.old) }
     {
         let window = &mut self.windows[to.index()];
-        window.pack(&mut self.table, to, bytes)
+        window.pack(&mut self.table, to, count, bytes)
     }
 
     /// The texts of the frame for a node with this number that was not acknowledged, and the number; for 0 the lowest
@@ -223,11 +224,17 @@ impl Node {
         frame_packet(self.head(to, number), texts, &self.key, packet)
     }
 
-    /// Sends the next batch for a node, which has some items, with so many bytes. Without memory nothing has changed.
-    fn send_batch(&mut self, to: NodeId, bytes: usize) -> Result<PacketText, OutOfMemory>
+    /// Sends the next batch for a node, so many items with so many bytes. Without memory nothing has changed.
+    fn send_batch(
+        &mut self,
+        to: NodeId,
+        count: u16,
+        bytes: usize,
+    ) -> Result<PacketText, OutOfMemory>
         requires another { is_another self.old to ≡ true }
         requires room { has_room (window_to self.old to.number) ≡ true }
-        requires some { 0 < length (batch to.number ROOM self.old.table.groups) }
+        requires some { 0 < count }
+        requires count { count ≡ length (batch to.number ROOM self.old.table.groups) }
         requires bytes { bytes ≡ sum_by size (batch to.number ROOM self.old.table.groups) }
         requires most { bytes ≤ ROOM }
         ensures packet { IfOk result (λ p. p ≡ packet_text self.old.key (content_to self.old to (window_to self.old to.number).next (batch_to self.old.table to))) }
@@ -236,7 +243,7 @@ impl Node {
         ensures err { OnErr result (self.new ≡ self.old) }
     {
         let packet = Vec::with_capacity(self.alloc, SHORTEST + bytes)?;
-        let number = self.push_batch(to, bytes)?;
+        let number = self.push_batch(to, count, bytes)?;
         Ok(self.write_frame(to, number, packet))
     }
 
@@ -258,7 +265,7 @@ impl Node {
         if count == 0 {
             return Sent::Nothing;
         }
-        match self.send_batch(to, bytes) {
+        match self.send_batch(to, count, bytes) {
             Ok(packet) => Sent::Packet(packet),
             Err(_) => Sent::Refused(Refusal::OutOfMemory),
         }

@@ -77,11 +77,18 @@ impl Window {
         self.sender.acked(base, mask)
     }
 
-    /// Packs the next batch of a table for a node, some items with so many bytes, where it stays, as the next frame,
+    /// Packs the next batch of a table for a node, so many items with so many bytes, where it stays, as the next frame,
     /// and gives its number. Without memory nothing has changed.
-    pub fn pack(&mut self, table: &mut Table, to: NodeId, bytes: usize) -> Result<u64, OutOfMemory>
+    pub fn pack(
+        &mut self,
+        table: &mut Table,
+        to: NodeId,
+        count: u16,
+        bytes: usize,
+    ) -> Result<u64, OutOfMemory>
         requires room { has_room self.old ≡ true }
-        requires some { 0 < length (batch to.number ROOM table.old.groups) }
+        requires some { 0 < count }
+        requires count { count ≡ length (batch to.number ROOM table.old.groups) }
         requires bytes { bytes ≡ sum_by size (batch to.number ROOM table.old.groups) }
         ensures frame { IfOk result (λ number. (0 < number) × (number ≡ self.old.next) × (frame_again self.new number ≡ Some (number, batch_to table.old to))) }
         ensures texts { OnOk result (length (items_text (batch_to table.old to)) ≡ bytes) }
@@ -93,7 +100,7 @@ impl Window {
         // The proof reads how frames are numbered.
         let _ = self.sender.room();
         self.sender.space(bytes)?;
-        table.pack_into(to, ROOM, self.sender.spare());
+        table.pack_into(to, ROOM, count, self.sender.spare());
         Ok(self.sender.commit())
     }
 }

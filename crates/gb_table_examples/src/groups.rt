@@ -109,8 +109,8 @@ fn packs(
     let room = usize::from(room);
     let (count, bytes) = groups.measure(dest, room);
     let mut out = Vec::with_capacity(alloc, bytes)?;
-    let packed = groups.pack_into(dest, room, &mut out);
-    if packed != count || out.len() != bytes || want.len() != usize::from(count) {
+    groups.pack_into(dest, room, count, &mut out);
+    if out.len() != bytes || want.len() != usize::from(count) {
         return Ok(false);
     }
     let mut texts = out.as_slice();

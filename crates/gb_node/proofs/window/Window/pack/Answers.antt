@@ -1,4 +1,4 @@
-use Rattle.std.proofs.Common.{◌≡◌, ◌∙◌, ℕ, [], arith, ap, length}
+use Rattle.std.proofs.Common.{◌≡◌, ◌<◌, ◌∙◌, ℕ, [], arith, ap, length, subst}
 use Rattle.gb_node.specs.Frames.{AreBatches}
 use Rattle.gb_node.proofs.FrameLemmas.{more_batches}
 use Rattle.std.specs.declared.vec.Vec.{Vec}
@@ -8,11 +8,11 @@ use Rattle.gb_node.proofs.PackLemmas.{some_bytes, batch_written, batch_is, pushe
 use Rattle.gb_node.proofs.window.Window.pack.Goals as goal
 
 pub commit-requires-clause-frame : goal.commit-requires-clause-frame
-commit-requires-clause-frame c = let some = some_bytes _ c.requires.some in omega (arith, some, c.pack_into.ensures.len)
+commit-requires-clause-frame c = let some = some_bytes _ (subst (λ n. 0 < n) c.requires.count c.requires.some) in omega (arith, some, c.pack_into.ensures.len)
 
 pub invariant_of-self-2 : goal.invariant_of-self-2
 invariant_of-self-2 c =
-    let some = some_bytes _ c.requires.some in
+    let some = some_bytes _ (subst (λ n. 0 < n) c.requires.count c.requires.some) in
     let empty : c.spare.result.now.items ≡ [] = rw c.spare.ensures.value (c.in_ok-space.ensures.empty) in
     let none = ap length empty in
     let before : AreBatches c.space.new.self.window.undone = rw c.in_ok-space.ensures.window (c.self.invariant) in
