@@ -84,7 +84,8 @@ impl<L: Tapes, M: Ledger> Host<L, M> {
 
     /// The plan.
     pub fn plan(&self) -> HostPlan
-        ensures { (result ≡ self.now.plan) × (result ≡ L.plan) }
+        ensures is { (result ≡ self.now.plan) × (result ≡ L.plan) }
+        ensures limits { IsPlan result }
     {
         self.plan
     }

@@ -1,6 +1,6 @@
 //! A port over rings.
 ghost use Rattle.std.specs.Prelude.{◌≡◌, ◌≢◌, ◌⊎◌, ◌+◌, ◌-◌, ◌<◌, ◌≤◌, ◌^◌, ℕ, [], ◌∷◌, ◌++◌, true, false, Ok, Err, None, length, slice_index_or, slice_set, IfOk, IfSome, OnOk, OnErr, IsOk};
-ghost use Rattle.gb_port.specs.RingPorts.{outlet_to, inlet_at, received_of, HasReceived};
+ghost use Rattle.gb_port.specs.RingPorts.{RingSends, RingReceives, inlet_at, received_of};
 
 use crate::inlet::Inlet;
 use crate::outlet::Outlet;
@@ -53,19 +53,16 @@ fn take_from(inlets: &mut [Inlet], low: usize, high: usize) -> Option<(usize, Ve
 impl Port for RingPort {
     ghost count = { λ port. port.failures };
 
+    ghost sends = { RingSends };
+
+    ghost receives = { RingReceives };
+
     /// Copies the packet into the ring to the node. False where that ring has no free slot. `Device`: there is no such
     /// node.
     fn send(&mut self, to: NodeId, bytes: &[u8]) -> Result<bool, PortFault>
+        ensures is { RingSends self.old to bytes.now result self.new }
         ensures fault { OnErr result (self.new.failures ≡ self.old.failures + 1) }
         ensures well { OnOk result (self.new.failures ≡ self.old.failures) }
-        ensures sent { result ≡ Ok true → (outlet_to self.new to.number).sent ≡ (outlet_to self.old to.number).sent ++ bytes.now ∷ [] }
-        ensures lost { result ≢ Ok true → (outlet_to self.new to.number).sent ≡ (outlet_to self.old to.number).sent }
-        ensures others { self.new.outlets ≡ slice_set self.old.outlets to.number (outlet_to self.new to.number) }
-        ensures full { result ≡ Ok false
-            → (((outlet_to self.old to.number).free ≡ 0) × ((outlet_to self.new to.number).free ≡ 0)) ⊎ (self.old.failures ≡ 2 ^ 64 - 1) }
-        ensures device { result ≡ Err PortFault.Device → length self.old.outlets ≤ to.number }
-        ensures memory { result ≡ Err PortFault.OutOfMemory → to.number < length self.old.outlets }
-        ensures inlets { self.new.inlets ≡ self.old.inlets }
     {
         if to.index() >= self.outlets.len() {
             return failed(&mut self.failures, PortFault::Device, false);
@@ -78,13 +75,9 @@ impl Port for RingPort {
 
     /// The next packet of a ring. The rings are looked at in turn.
     fn recv(&mut self) -> Result<Option<Vec<u8>>, PortFault>
+        ensures is { RingReceives self.old result self.new }
         ensures fault { OnErr result (self.new.failures ≡ self.old.failures + 1) }
         ensures well { OnOk result (self.new.failures ≡ self.old.failures) }
-        ensures ok { IsOk result }
-        ensures some { IfOk result (λ answer. IfSome answer (λ packet. HasReceived self.old.inlets self.new.inlets packet.items)) }
-        ensures none { result ≡ Ok None → received_of self.new.inlets ≡ received_of self.old.inlets }
-        ensures empty { result ≡ Ok None → (node : ℕ) → (inlet_at self.new.inlets node).known ≡ [] }
-        ensures outlets { self.new.outlets ≡ self.old.outlets }
     {
         let count = self.inlets.len();
         let next = self.next;

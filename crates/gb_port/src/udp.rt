@@ -1,6 +1,7 @@
 //! A port over UDP, on the loopback address.
 ghost use Rattle.std.specs.Prelude.{◌≡◌, ◌+◌, ◌<◌, ◌≤◌, ◌^◌, IfOk, IfSome, OnOk, OnErr, vec_len};
 ghost use Rattle.gb_types.specs.declared.limits.TheConstants.{NODES, PACKET};
+ghost use Rattle.gb_port.specs.UdpPorts.{IsSamePort};
 
 use crate::port::{Port, PortFault, failed};
 use gb_types::limits::{NODES, PACKET};
@@ -104,11 +105,15 @@ impl UdpPort {
 impl Port for UdpPort {
     ghost count = { λ port. port.failures };
 
+    ghost sends = { λ old _ _ _ new. IsSamePort old new };
+
+    ghost receives = { λ old _ new. IsSamePort old new };
+
     /// Hands the packet to the system. False where it has no room. `Device`: the system failed, or there is no such node.
     fn send(&mut self, to: NodeId, bytes: &[u8]) -> Result<bool, PortFault>
         ensures fault { OnErr result (self.new.failures ≡ self.old.failures + 1) }
         ensures well { OnOk result (self.new.failures ≡ self.old.failures) }
-        ensures same { self.new ≡ record self.old { failures = self.new.failures } }
+        ensures is { IsSamePort self.old self.new }
     {
         if to.number >= self.nodes {
             return failed(&mut self.failures, PortFault::Device, false);
@@ -130,7 +135,7 @@ impl Port for UdpPort {
     fn recv(&mut self) -> Result<Option<Vec<u8>>, PortFault>
         ensures fault { OnErr result (self.new.failures ≡ self.old.failures + 1) }
         ensures well { OnOk result (self.new.failures ≡ self.old.failures) }
-        ensures same { self.new ≡ record self.old { failures = self.new.failures } }
+        ensures is { IsSamePort self.old self.new }
         ensures short { IfOk result (λ answer. IfSome answer (λ packet. vec_len packet ≤ PACKET + 1)) }
     {
         let count = match self.socket.recv_from(&mut self.space) {

@@ -1,0 +1,30 @@
+-- What a worker reads from an answer.
+use Rattle.std.specs.Prelude.{ℕ, Bool, true, false, List, [], fold}
+use Rattle.std.specs.FinSet as set
+use Rattle.std.specs.Ordering.{nat_cmp}
+use Rattle.gb_types.specs.declared.refusal.Refusal.TheVariants.{Stopped}
+use Rattle.gb_node.specs.declared.answer.NodeAnswer.{NodeAnswer}
+use Rattle.gb_node.specs.declared.answer.NodeAnswer.TheVariants.{Taken, Sent}
+use Rattle.gb_node.specs.declared.answer.PacketAnswer.TheVariants.{Good as TakenGood, Refused as TakenRefused}
+use Rattle.gb_node.specs.declared.answer.Sent.TheVariants.{Packet as SentPacket, Refused as SentRefused}
+use Rattle.gb_host.specs.declared.entry.SeatEntry.{SeatEntry}
+
+-- a packet that came, or a packet to be sent, was answered Stopped
+abbrev pub is_stopped : NodeAnswer → Bool
+is_stopped (Taken (TakenRefused Stopped)) = true
+is_stopped (Sent (SentRefused Stopped)) = true
+is_stopped other = false
+
+-- the answer gives a packet
+abbrev pub gives_packet : NodeAnswer → Bool
+gives_packet (Sent (SentPacket text)) = true
+gives_packet other = false
+
+-- these nodes, and the one whose good packet was taken, if one was
+abbrev pub and_heard : set.FinSet nat_cmp → NodeAnswer → set.FinSet nat_cmp
+and_heard nodes (Taken (TakenGood good)) = set.insert nodes good.from.number
+and_heard nodes other = nodes
+
+-- the nodes of which a good packet was taken
+abbrev pub heard_in : List SeatEntry → set.FinSet nat_cmp
+heard_in es = fold (λ nodes e. and_heard nodes e.answer) set.empty es

@@ -1,0 +1,29 @@
+-- What a session adds to its seat's list.
+use Rattle.std.specs.Prelude.{◌≡◌, ◌⊎◌, List, [], ◌∷◌, ◌++◌}
+use Rattle.gb_types.specs.declared.node.NodeId.{NodeId}
+use Rattle.gb_types.specs.declared.refusal.Refusal.TheVariants.{Stopped, OutOfMemory}
+use Rattle.gb_types.specs.declared.reply.Reply.{Reply}
+use Rattle.gb_types.specs.declared.reply.Reply.TheVariants.{Refused}
+use Rattle.gb_types.specs.declared.request.Request.{Request}
+use Rattle.gb_node.specs.declared.answer.NodeAnswer.{NodeAnswer}
+use Rattle.gb_node.specs.declared.answer.NodeAnswer.TheVariants.{Reply as Replied}
+use Rattle.gb_node.specs.declared.event.NodeEvent.TheVariants.{Request as Asked}
+use Rattle.gb_host.specs.declared.entry.SeatEntry.{SeatEntry}
+
+-- The reply that an answer is. A node answers each request with one; any other answer would be told as Stopped.
+abbrev pub reply_of : NodeAnswer → Reply
+reply_of (Replied reply) = reply
+reply_of other = Refused Stopped
+
+-- the request was asked at the node, once, and the reply is the node's
+abbrev pub IsAsked : NodeId → List SeatEntry → Request → Reply → List SeatEntry → Type 0
+IsAsked node old request reply new =
+    (answer : NodeAnswer) × (new ≡ old ++ record { node = node; event = Asked request; answer = answer } ∷ []) × (reply ≡ reply_of answer)
+
+-- nothing was asked, and the reply says Stopped or OutOfMemory
+abbrev pub IsUnasked : List SeatEntry → Reply → List SeatEntry → Type 0
+IsUnasked old reply new = (new ≡ old) × ((reply ≡ Refused Stopped) ⊎ (reply ≡ Refused OutOfMemory))
+
+-- a reply to a request, and what it leaves of the seat's list
+abbrev pub AnswersAt : NodeId → List SeatEntry → Request → Reply → List SeatEntry → Type 0
+AnswersAt node old request reply new = IsAsked node old request reply new ⊎ IsUnasked old reply new

@@ -1,0 +1,60 @@
+-- What a pump does with its port.
+use Rattle.std.specs.Prelude.{ℕ, ◌≡◌, Bool, List, [], ◌∷◌, ◌++◌, Option, Some, None, Result, Ok, Err}
+use Rattle.std.specs.declared.vec.Vec.{Vec}
+use Rattle.std.specs.declared.alloc.Global.{Global}
+use Rattle.gb_types.specs.declared.node.NodeId.{NodeId}
+use Rattle.gb_node.specs.declared.answer.NodeAnswer.{NodeAnswer}
+use Rattle.gb_node.specs.declared.answer.NodeAnswer.TheVariants.{Sent}
+use Rattle.gb_node.specs.declared.answer.Sent.TheVariants.{Packet as SentPacket}
+use Rattle.gb_node.specs.declared.event.NodeEvent.{NodeEvent}
+use Rattle.gb_node.specs.declared.event.NodeEvent.TheVariants.{Packet, Pack, Again, Ack}
+use Rattle.gb_port.specs.declared.port.PortFault.{PortFault}
+use Rattle.gb_host.specs.declared.entry.SeatEntry.{SeatEntry}
+
+-- bytes that travel: they came, or they went to a node
+pub data Traffic : Type 0 where
+  Came : List ℕ → Traffic
+  Went : NodeId → List ℕ → Traffic
+
+-- a call of a port, and what it answered
+pub data PortCall : Type 0 where
+  Received : Result (Option (Vec ℕ Global)) PortFault → PortCall
+  Handed : NodeId → List ℕ → Result Bool PortFault → PortCall
+
+-- these calls of a port, in turn, by what it says of each
+abbrev pub AreCalls : {P : Type 0} → (P → NodeId → List ℕ → Result Bool PortFault → P → Type 0) → (P → Result (Option (Vec ℕ Global)) PortFault → P → Type 0) → P → List PortCall → P → Type 0
+AreCalls sends receives p [] q = p ≡ q
+AreCalls {P} sends receives p (Received result ∷ calls) q = (u : P) × receives p result u × AreCalls sends receives u calls q
+AreCalls {P} sends receives p (Handed to bytes result ∷ calls) q = (u : P) × sends p to bytes result u × AreCalls sends receives u calls q
+
+-- what travels in a call: bytes that the port gave, or that it was handed
+abbrev pub travels_in : PortCall → List Traffic
+travels_in (Received (Ok (Some bytes))) = Came bytes.items ∷ []
+travels_in (Received other) = []
+travels_in (Handed to bytes result) = Went to bytes ∷ []
+
+abbrev pub travels : List PortCall → List Traffic
+travels [] = []
+travels (call ∷ calls) = travels_in call ++ travels calls
+
+-- what goes to a node by an answer, if it gives a packet
+abbrev pub goes_to : NodeId → NodeAnswer → List Traffic
+goes_to to (Sent (SentPacket text)) = Went to text ∷ []
+goes_to to other = []
+
+-- what travels by an event and its answer
+abbrev pub traffic_of : NodeEvent → NodeAnswer → List Traffic
+traffic_of (Packet bytes) answer = Came bytes ∷ []
+traffic_of (Pack to) answer = goes_to to answer
+traffic_of (Again to n) answer = goes_to to answer
+traffic_of (Ack to) answer = goes_to to answer
+traffic_of other answer = []
+
+abbrev pub traffic : List SeatEntry → List Traffic
+traffic [] = []
+traffic (e ∷ es) = traffic_of e.event e.answer ++ traffic es
+
+-- What travelled at the port is what the entries that a list gained say, in their order, each once.
+abbrev pub HasCarried : {P : Type 0} → (P → NodeId → List ℕ → Result Bool PortFault → P → Type 0) → (P → Result (Option (Vec ℕ Global)) PortFault → P → Type 0) → P → P → List SeatEntry → List SeatEntry → Type 0
+HasCarried sends receives before after old new =
+    (es : List SeatEntry) × (new ≡ old ++ es) × (calls : List PortCall) × AreCalls sends receives before calls after × (travels calls ≡ traffic es)

@@ -1,0 +1,85 @@
+-- What a pump adds to its seat's list.
+use Rattle.std.specs.Prelude.{ℕ, zero, suc, ◌≡◌, ◌⊎◌, ◌≤◌, ◌%◌, ◌==◌, ◌&&◌, ◌||◌, not, Bool, true, false, List, [], ◌∷◌, ◌++◌, length}
+use Rattle.std.specs.Bool.{MatchBool}
+use Rattle.std.specs.FinSet as set
+use Rattle.std.specs.Ordering.{nat_cmp}
+use Rattle.gb_types.specs.declared.node.NodeId.{NodeId}
+use Rattle.gb_node.specs.declared.event.NodeEvent.{NodeEvent}
+use Rattle.gb_node.specs.declared.event.NodeEvent.TheVariants.{Packet, Pack, Again, Ack}
+use Rattle.gb_node.specs.declared.answer.NodeAnswer.{NodeAnswer}
+use Rattle.gb_host.specs.declared.entry.SeatEntry.{SeatEntry}
+use Rattle.gb_worker.specs.Answered.{gives_packet, heard_in}
+use Rattle.gb_worker.specs.Gained.{Gains}
+use Rattle.gb_worker.specs.declared.end.WorkerEnd.{WorkerEnd}
+use Rattle.gb_worker.specs.declared.end.Why.TheVariants.{Turns, Gate}
+use Rattle.gb_worker.specs.declared.pump.TheConstants.{PACKETS, AGAIN, ACK}
+
+-- each is the event of bytes that came, at the node
+abbrev pub ArePackets : NodeId → List SeatEntry → Type 0
+ArePackets me [] = Unit {0}
+ArePackets me (e ∷ es) = (e.node ≡ me) × ((bytes : List ℕ) × (e.event ≡ Packet bytes)) × ArePackets me es
+
+-- the entry of an event for another node, by its number
+abbrev pub IsFor : (NodeId → NodeEvent) → NodeId → ℕ → SeatEntry → Type 0
+IsFor event me b e = (e.node ≡ me) × ((to : NodeId) × (to.number ≡ b) × (e.event ≡ event to))
+
+-- one entry of which this holds where it is due, else none
+abbrev pub IfDue : Bool → (SeatEntry → Type 0) → List SeatEntry → Type 0
+IfDue true P es = (e : SeatEntry) × (es ≡ e ∷ []) × P e
+IfDue false P es = es ≡ []
+
+-- in turn r a frame is sent again where a pack gave nothing
+abbrev pub is_again_due : ℕ → NodeAnswer → Bool
+is_again_due r answer = not (gives_packet answer) && (r % AGAIN == 0)
+
+-- in turn r an acknowledgement is sent where the other node was heard in the turn, and in every 16th turn
+abbrev pub is_ack_due : ℕ → Bool → Bool
+is_ack_due r is_heard = is_heard || (r % ACK == 0)
+
+-- What turn r sends to node b: a pack; where that gave nothing and 8 divides r an again, of the lowest frame; and where a
+-- good packet of b came in the turn, or 16 divides r, an ack.
+pub record SendsTo (r : ℕ) (me : NodeId) (b : ℕ) (is_heard : Bool) (es : List SeatEntry) : Type 0 where
+  pub pack : SeatEntry
+  pub again : List SeatEntry
+  pub ack : List SeatEntry
+  pub all : es ≡ pack ∷ (again ++ ack)
+  pub packs : IsFor Pack me b pack
+  pub resends : IfDue (is_again_due r pack.answer) (IsFor (λ to. Again to 0) me b) again
+  pub acknowledges : IfDue (is_ack_due r is_heard) (IsFor Ack me b) ack
+
+-- so it does to each other node below b, rising, of which those in the set were heard
+abbrev pub SendsAll : ℕ → NodeId → set.FinSet nat_cmp → ℕ → List SeatEntry → Type 0
+SendsAll r me heard zero es = es ≡ []
+SendsAll r me heard (suc b) es = MatchBool (b == me.number) (SendsAll r me heard b es)
+    ((xs ys : List SeatEntry) × (es ≡ xs ++ ys) × SendsAll r me heard b xs × SendsTo r me b (set.contains heard b) ys)
+
+-- at most so many packets came
+abbrev pub IsReceived : NodeId → ℕ → List SeatEntry → Type 0
+IsReceived me n es = ArePackets me es × (length es ≤ n)
+
+-- turn r: at most 16 packets that came, then what is sent to each other node, rising
+pub record IsTurn (r : ℕ) (me : NodeId) (nodes : ℕ) (es : List SeatEntry) : Type 0 where
+  pub received : List SeatEntry
+  pub sent : List SeatEntry
+  pub all : es ≡ received ++ sent
+  pub receives : IsReceived me PACKETS received
+  pub sends : SendsAll r me (heard_in received) nodes sent
+
+-- the beginning of turn r
+abbrev pub IsPart : ℕ → NodeId → ℕ → List SeatEntry → Type 0
+IsPart r me nodes es = (rest : List SeatEntry) × IsTurn r me nodes (es ++ rest)
+
+-- the turns 1 to t
+abbrev pub AreTurns : NodeId → ℕ → ℕ → List SeatEntry → Type 0
+AreTurns me nodes zero es = es ≡ []
+AreTurns me nodes (suc t) es = (xs ys : List SeatEntry) × (es ≡ xs ++ ys) × AreTurns me nodes t xs × IsTurn (suc t) me nodes ys
+
+-- The list has gained the turns 1 to `end.turns`, and the beginning of one more where the pump ended as the node had
+-- stopped or by a fault.
+pub record HasPumped (me : NodeId) (nodes : ℕ) (end : WorkerEnd) (old new : List SeatEntry) : Type 0 where
+  pub turns : List SeatEntry
+  pub part : List SeatEntry
+  pub gained : new ≡ old ++ (turns ++ part)
+  pub whole : AreTurns me nodes end.turns turns
+  pub begun : IsPart (suc end.turns) me nodes part
+  pub ended : (end.why ≡ Turns) ⊎ (end.why ≡ Gate) → part ≡ []

@@ -1,0 +1,12 @@
+//! The workers of a host: functions that run, each in a thread of its own, until they are told to end. A pump carries a
+//! node's packets (`pump::pump`), a ticker makes the time tick (`ticker::ticker`), a session answers a client's requests at
+//! a node (`session::session`, and `sessions::sessions` for many at once). Each calls the host through a seat of its own and
+//! waits at its gate. Nothing here knows what a port or a stream is made of. Read `pump::pump` first.
+#![tactic(auto)]
+
+pub mod calling;
+pub mod end;
+pub mod pump;
+pub mod session;
+pub mod sessions;
+pub mod ticker;

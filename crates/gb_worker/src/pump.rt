@@ -1,0 +1,265 @@
+//! The worker that carries a node's packets.
+ghost use Rattle.std.specs.Prelude.{◌≡◌, ◌≢◌, ◌⊎◌, ◌≤◌, ◌<◌, ◌∷◌, ◌++◌, ℕ, List, Some, Err, [], true, IfOk, IfErr, OnOk, OnErr};
+ghost use Rattle.std.specs.FinSet as set;
+ghost use Rattle.gb_types.specs.declared.limits.TheConstants.{NODES};
+ghost use Rattle.gb_node.specs.declared.answer.NodeAnswer.{NodeAnswer as AnswerValue};
+ghost use Rattle.gb_host.specs.declared.entry.SeatEntry.{SeatEntry as Made};
+ghost use Rattle.gb_worker.specs.Answered.{and_heard, gives_packet, heard_in};
+ghost use Rattle.gb_worker.specs.Carried.{HasCarried};
+ghost use Rattle.gb_worker.specs.Gained.{Gains};
+ghost use Rattle.gb_worker.specs.Turns.{HasPumped};
+
+use crate::calling::make;
+use crate::end::{Why, WorkerEnd};
+use gb_host::gate::Gate;
+use gb_host::host::Host;
+use gb_host::names::Tapes;
+use gb_host::seat::Seat;
+use gb_node::answer::{NodeAnswer, PacketAnswer, Sent};
+use gb_node::event::NodeEvent;
+use gb_node::packet_text::PacketText;
+use gb_port::port::Port;
+use gb_types::node::{NodeId, NodeSet};
+use std::sync::Wait;
+use std::sync::ledger::Ledger;
+
+/// How many packets a turn receives at most.
+pub const PACKETS: usize = 16;
+
+/// In every so manieth turn a frame that was not acknowledged is sent again to a node for which nothing waits.
+pub const AGAIN: u64 = 8;
+
+/// In every so manieth turn an acknowledgement is sent to a node that was not heard.
+pub const ACK: u64 = 16;
+
+// Definitions cite these values.
+const _: () = prove!(PACKETS == 16);
+
+const _: () = prove!(AGAIN == 8);
+
+const _: () = prove!(ACK == 16);
+
+/// A turn: its number, from 1, its node, and how many nodes there are.
+#[derive(Clone, Copy)]
+struct Turn {
+    number: u64,
+    me: NodeId,
+    nodes: u8,
+}
+
+// Adds the node whose good packet was taken, if one was.
+fn hear(heard: &mut NodeSet, answer: &NodeAnswer)
+    ensures { heard.new ≡ and_heard heard.old answer.now }
+{
+    if let NodeAnswer::Taken(PacketAnswer::Good(good)) = answer {
+        heard.insert(good.from);
+    }
+}
+
+// At most 16 packets that have come. Gives the nodes of which a good one came. Nothing there, or a fault of the port, ends
+// the receiving.
+fn receive<L: Tapes, M: Ledger, H: Wait, P: Port>(
+    rt: &H,
+    host: &Host<L, M>,
+    seat: &mut Seat<M>,
+    me: NodeId,
+    port: &mut P,
+    refused: &mut u64,
+) -> Result<NodeSet, Why> {
+    let mut heard = NodeSet::new();
+    for _i in 0..PACKETS {
+        let Ok(Some(bytes)) = port.recv() else {
+            return Ok(heard);
+        };
+        let event = NodeEvent::Packet(PacketText::from(bytes));
+        match make(rt, host, seat, me, event, refused) {
+            Ok(Some(answer)) => hear(&mut heard, &answer),
+            Ok(None) => {}
+            Err(why) => return Err(why),
+        }
+    }
+    Ok(heard)
+}
+
+// One event by which a node sends. What it gives is sent at once. Gives whether it gave a packet.
+fn send_one<L: Tapes, M: Ledger, H: Wait, P: Port>(
+    rt: &H,
+    host: &Host<L, M>,
+    seat: &mut Seat<M>,
+    me: NodeId,
+    event: NodeEvent,
+    to: NodeId,
+    port: &mut P,
+    refused: &mut u64,
+) -> Result<bool, Why> {
+    match make(rt, host, seat, me, event, refused) {
+        Ok(Some(NodeAnswer::Sent(Sent::Packet(text)))) => {
+            let _ = port.send(to, text.as_slice());
+            Ok(true)
+        }
+        Ok(_) => Ok(false),
+        Err(why) => Err(why),
+    }
+}
+
+// The same where it is due.
+fn send_due<L: Tapes, M: Ledger, H: Wait, P: Port>(
+    rt: &H,
+    host: &Host<L, M>,
+    seat: &mut Seat<M>,
+    me: NodeId,
+    is_due: bool,
+    event: NodeEvent,
+    to: NodeId,
+    port: &mut P,
+    refused: &mut u64,
+) -> Result<(), Why> {
+    if !is_due {
+        return Ok(());
+    }
+    match send_one(rt, host, seat, me, event, to, port, refused) {
+        Ok(_) => Ok(()),
+        Err(why) => Err(why),
+    }
+}
+
+// What a turn sends to one node.
+fn send_to<L: Tapes, M: Ledger, H: Wait, P: Port>(
+    rt: &H,
+    host: &Host<L, M>,
+    seat: &mut Seat<M>,
+    turn: Turn,
+    to: NodeId,
+    is_heard: bool,
+    port: &mut P,
+    refused: &mut u64,
+) -> Result<(), Why> {
+    let me = turn.me;
+    let is_given = match send_one(rt, host, seat, me, NodeEvent::Pack(to), to, port, refused) {
+        Ok(is_given) => is_given,
+        Err(why) => return Err(why),
+    };
+    let is_again = !is_given && turn.number % AGAIN == 0;
+    match send_due(
+        rt,
+        host,
+        seat,
+        me,
+        is_again,
+        NodeEvent::Again(to, 0),
+        to,
+        port,
+        refused,
+    ) {
+        Ok(()) => {}
+        Err(why) => return Err(why),
+    }
+    let is_ack = is_heard || turn.number % ACK == 0;
+    send_due(
+        rt,
+        host,
+        seat,
+        me,
+        is_ack,
+        NodeEvent::Ack(to),
+        to,
+        port,
+        refused,
+    )
+}
+
+// What a turn sends to the other nodes, rising.
+fn send_all<L: Tapes, M: Ledger, H: Wait, P: Port>(
+    rt: &H,
+    host: &Host<L, M>,
+    seat: &mut Seat<M>,
+    turn: Turn,
+    heard: &NodeSet,
+    port: &mut P,
+    refused: &mut u64,
+) -> Result<(), Why>
+    requires { turn.nodes ≤ NODES }
+{
+    for number in 0..turn.nodes {
+        if number != turn.me.number {
+            let to = NodeId::new(number);
+            match send_to(rt, host, seat, turn, to, heard.contains(to), port, refused) {
+                Ok(()) => {}
+                Err(why) => return Err(why),
+            }
+        }
+    }
+    Ok(())
+}
+
+// One turn.
+fn make_turn<L: Tapes, M: Ledger, H: Wait, P: Port>(
+    rt: &H,
+    host: &Host<L, M>,
+    seat: &mut Seat<M>,
+    turn: Turn,
+    port: &mut P,
+    refused: &mut u64,
+) -> Result<(), Why>
+    requires { turn.nodes ≤ NODES }
+{
+    let heard = match receive(rt, host, seat, turn.me, port, refused) {
+        Ok(heard) => heard,
+        Err(why) => return Err(why),
+    };
+    send_all(rt, host, seat, turn, &heard, port, refused)
+}
+
+/// Makes so many turns, numbered from 1. Each passes the gate, then receives at most 16 packets from the port, each of which
+/// is an event at the node, and then does this for each other node, rising: a pack; where that gave no packet and 8 divides
+/// the turn's number, an again of the lowest frame that is not acknowledged; where a good packet of that node came in this
+/// turn or 16 divides its number, an ack. What each gives is handed to the port at once; what the port does not take is lost.
+/// False at the gate ends the pump, and so does the answer Stopped, and a fault of the host other than want of memory; an
+/// event for which there was no memory did not happen, and is counted, and a packet that was to be its event is lost.
+pub fn pump<L: Tapes, M: Ledger, H: Wait, P: Port, G: Gate>(
+    rt: &H,
+    host: &Host<L, M>,
+    seat: &mut Seat<M>,
+    node: NodeId,
+    port: &mut P,
+    gate: &mut G,
+    turns: u64,
+) -> WorkerEnd
+    ensures pumped { L.plan.tape ≡ true → result.refused ≡ 0 → HasPumped node host.now.plan.cluster.nodes result seat.old.list seat.new.list }
+    ensures carried { L.plan.tape ≡ true → result.refused ≡ 0 → result.why ≢ Why.Fault → HasCarried P.sends P.receives port.old port.new seat.old.list seat.new.list }
+    ensures asked { result.why ≡ Why.Turns → result.turns ≡ turns }
+    ensures most { result.turns ≤ turns }
+    ensures number { seat.new.number ≡ seat.old.number }
+{
+    let nodes = host.plan().cluster.nodes;
+    let mut refused = 0u64;
+    for made in 0..turns {
+        if !gate.pass() {
+            return WorkerEnd {
+                turns: made,
+                refused,
+                why: Why::Gate,
+            };
+        }
+        let turn = Turn {
+            number: made + 1,
+            me: node,
+            nodes,
+        };
+        match make_turn(rt, host, seat, turn, port, &mut refused) {
+            Ok(()) => {}
+            Err(why) => {
+                return WorkerEnd {
+                    turns: made,
+                    refused,
+                    why,
+                };
+            }
+        }
+    }
+    WorkerEnd {
+        turns,
+        refused,
+        why: Why::Turns,
+    }
+}

@@ -1,0 +1,84 @@
+//! The worker that answers a client's requests.
+ghost use Rattle.std.specs.Prelude.{◌≡◌, true, IfOk, OnErr};
+ghost use Rattle.gb_session.specs.Runs.{HasAsked};
+ghost use Rattle.gb_session.specs.Sessions.{IsSession};
+ghost use Rattle.gb_worker.specs.Asked.{AnswersAt};
+
+use gb_host::fault::HostFault;
+use gb_host::gate::Gate;
+use gb_host::host::Host;
+use gb_host::names::Tapes;
+use gb_host::seat::Seat;
+use gb_node::answer::NodeAnswer;
+use gb_node::event::NodeEvent;
+use gb_session::answers::Answers;
+use gb_session::serve::{SessionEnd, SessionFault, serve};
+use gb_types::node::NodeId;
+use gb_types::refusal::Refusal;
+use gb_types::reply::Reply;
+use gb_types::request::Request;
+use std::alloc::Global;
+use std::io::{Read, Write};
+use std::sync::Wait;
+use std::sync::ledger::Ledger;
+
+// Who answers a session's requests: a node of a host, asked from a seat, as long as a gate is passed.
+#[derive(Drop)]
+struct Desk<'a, L: Tapes, M: Ledger, H, G> {
+    rt: &'a H,
+    host: &'a Host<L, M>,
+    node: NodeId,
+    is_shut: bool,
+    gate: &'a mut G,
+    seat: &'a mut Seat<M>,
+}
+
+impl<'a, L: Tapes, M: Ledger, H: Wait, G: Gate> Answers for Desk<'a, L, M, H, G> {
+    ghost use Rattle.std.specs.Prelude.{◌≡◌, true};
+    ghost use Rattle.gb_worker.specs.Asked.{AnswersAt};
+
+    ghost answers = { λ s request reply t. (t.node ≡ s.node) × (t.seat.ghost_name ≡ s.seat.ghost_name)
+        × (L.plan.tape ≡ true → AnswersAt s.node s.seat.now.list request reply t.seat.now.list) };
+
+    fn answer(&mut self, request: Request) -> Reply {
+        if self.is_shut || !self.gate.pass() {
+            self.is_shut = true;
+            return Reply::Refused(Refusal::Stopped);
+        }
+        let event = NodeEvent::Request(request);
+        match self.host.call(self.rt, self.seat, self.node, event) {
+            Ok(NodeAnswer::Reply(reply)) => reply,
+            Err(HostFault::OutOfMemory) => Reply::Refused(Refusal::OutOfMemory),
+            _ => Reply::Refused(Refusal::Stopped),
+        }
+    }
+}
+
+/// Answers the requests that the reader gives by calls at a node, and writes each reply; all else is as in
+/// `gb_session::serve::serve`, whose result it gives. The gate is passed before each call; from its first false on no call is
+/// made and each reply is Stopped. Where the host had no memory for a call the reply is OutOfMemory, and Stopped at any other
+/// fault of the host: then nothing happened at the node.
+pub fn session<L: Tapes, M: Ledger, H: Wait, R: Read, W: Write, G: Gate>(
+    rt: &H,
+    alloc: Global,
+    host: &Host<L, M>,
+    seat: &mut Seat<M>,
+    node: NodeId,
+    reader: &mut R,
+    writer: &mut W,
+    gate: &mut G,
+) -> Result<SessionEnd, SessionFault>
+    ensures ok { L.plan.tape ≡ true → IfOk result (IsSession (AnswersAt node) seat.old.list seat.new.list
+        (R.remaining reader.old) (R.remaining reader.new) (W.contents writer.old) (W.contents writer.new)) }
+    ensures asked { L.plan.tape ≡ true → OnErr result (HasAsked (AnswersAt node) seat.old.list seat.new.list) }
+{
+    let mut desk = Desk {
+        rt,
+        host,
+        node,
+        is_shut: false,
+        gate,
+        seat,
+    };
+    serve(alloc, &mut desk, reader, writer)
+}

@@ -1,0 +1,98 @@
+//! Many sessions at once.
+ghost use Rattle.std.specs.Prelude.{◌≡◌, length, vec_len, IfOk};
+ghost use Rattle.std.specs.Thread.{IsSync};
+
+use crate::session::session;
+use gb_host::gate::Gate;
+use gb_host::host::Host;
+use gb_host::names::Tapes;
+use gb_host::seat::Seat;
+use gb_session::serve::{SessionEnd, SessionFault};
+use gb_types::memory::OutOfMemory;
+use gb_types::node::NodeId;
+use std::alloc::Global;
+use std::io::{Read, Write};
+use std::sync::Wait;
+use std::sync::ledger::Ledger;
+use std::thread;
+use std::thread::Threads;
+
+/// A client: the node that it asks, the end from which its requests come, and the end to which the replies go.
+#[derive(Drop)]
+pub struct Stream<R, W> {
+    pub node: NodeId,
+    pub reader: R,
+    pub writer: W,
+}
+
+/// How one of many sessions ended.
+pub type Ending = Result<SessionEnd, SessionFault>;
+
+/// Holds a session with each client, all at once, each in a thread of its own, from a seat and by a gate of its own. Gives how
+/// each ended, in the order of the clients; or, once all have ended, want of memory for that. Where no thread can be made the
+/// sessions are held one after the other.
+pub fn sessions<
+    L: Tapes + Send + Sync,
+    M: Ledger + Send + Sync,
+    H: Threads + Wait + Sync,
+    R: Read + Send + Drop,
+    W: Write + Send + Drop,
+    G: Gate + Send + Drop,
+>(
+    rt: &H,
+    alloc: Global,
+    host: &Host<L, M>,
+    seats: &mut [Seat<M>],
+    streams: Vec<Stream<R, W>>,
+    gates: Vec<G>,
+) -> Result<Vec<Ending>, OutOfMemory>
+    requires seats { length seats.old ≡ vec_len streams }
+    requires gates { vec_len gates ≡ vec_len streams }
+    ensures { IfOk result (λ ends. vec_len ends ≡ vec_len streams) }
+{
+    let mut streams = streams;
+    let mut gates = gates;
+    let Some((seat, others)) = seats.split_last_mut() else {
+        return Ok(Vec::new(alloc));
+    };
+    let (Some(stream), Some(gate)) = (streams.pop(), gates.pop()) else {
+        return Ok(Vec::new(alloc));
+    };
+    let (end, ends) = thread::join(
+        rt,
+        || hold(rt, alloc, host, seat, stream, gate),
+        ||
+            requires { IsSync H.row }
+        { sessions(rt, alloc, host, others, streams, gates) },
+    );
+    let mut ends = ends?;
+    ends.push(end)?;
+    Ok(ends)
+}
+
+// One of the sessions.
+fn hold<L: Tapes, M: Ledger, H: Wait, R: Read + Drop, W: Write + Drop, G: Gate + Drop>(
+    rt: &H,
+    alloc: Global,
+    host: &Host<L, M>,
+    seat: &mut Seat<M>,
+    stream: Stream<R, W>,
+    gate: G,
+) -> Ending {
+    let Stream {
+        node,
+        reader,
+        writer,
+    } = stream;
+    let (mut reader, mut writer, mut gate) = (reader, writer, gate);
+    session(
+        rt,
+        alloc,
+        host,
+        seat,
+        node,
+        &mut reader,
+        &mut writer,
+        &mut gate,
+    )
+}

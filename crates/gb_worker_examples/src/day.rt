@@ -1,0 +1,256 @@
+// Days of a host of two nodes, from its opening to its end.
+ghost use Rattle.std.specs.Prelude.{◌≡◌, ◌+◌, ◌<◌, ◌^◌, vec_len};
+ghost use Rattle.gb_host.specs.Plans.{IsPlan};
+
+use crate::asking::{ADMIN_KEY, prepare};
+use crate::roles::{Done, Job, Role, count_callers, work};
+use gb_host::close::close;
+use gb_host::fault::HostFault;
+use gb_host::host::Host;
+use gb_host::names::Tapes;
+use gb_host::plan::HostPlan;
+use gb_host::seat::Seat;
+use gb_node::event::NodeEvent;
+use gb_node::tape::TapeEntry;
+use gb_port::fail_at::FailAt;
+use gb_port::port::Port;
+use gb_port::ring::RingPort;
+use gb_port::udp::UdpPort;
+use gb_types::memory::OutOfMemory;
+use gb_types::node::NodeId;
+use gb_types::plan::Plan;
+use std::alloc::Global;
+use std::marker::Brand;
+use std::rt::HostRuntime;
+use std::sync::Wait;
+use std::sync::atomic::AtomicU64;
+use std::sync::ledger::{Blank, Ledger};
+use std::test::Fail;
+use std::thread;
+use std::thread::Threads;
+use std::time::Clock;
+
+// The ports of the sockets in the tests.
+const BASE: u16 = 47_330;
+
+/// What a day left: what the last role counted, how many calls the seats noted, how many entries the tapes have, and how many
+/// of these are ticks, at each node.
+#[derive(Clone, Copy, PartialEq, Eq, Debug)]
+struct Left {
+    count: u64,
+    calls: usize,
+    entries: usize,
+    ticks: [usize; 2],
+}
+
+// The seats with their roles, in order.
+fn paired<M: Ledger, P: Drop>(
+    alloc: Global,
+    seats: Vec<Seat<M>>,
+    roles: Vec<Role<P>>,
+) -> Result<Vec<Job<M, P>>, OutOfMemory> {
+    let mut jobs = Vec::new(alloc);
+    let mut roles = roles.into_iter();
+    for seat in seats {
+        if let Some(role) = roles.next() {
+            jobs.push(Job { seat, role })?;
+        }
+    }
+    Ok(jobs)
+}
+
+fn count_ticks(tape: &[TapeEntry]) -> usize {
+    let mut count: usize = 0;
+    for entry in tape {
+        if let NodeEvent::Tick = entry.event {
+            count = count.saturating_add(1);
+        }
+    }
+    count
+}
+
+// A thread for each role; the group is made from the last one's seat; then the end.
+fn run<
+    L: Tapes + Send + Sync,
+    M: Ledger + Send + Sync,
+    P: Port + Send + Drop,
+    R: Threads + Wait + Clock + Sync,
+>(
+    rt: &R,
+    alloc: Global,
+    plan: HostPlan,
+    roles: Vec<Role<P>>,
+    tape_blank: Blank,
+    seat_blank: Blank,
+) -> Result<Left, HostFault>
+    requires plan { plan ≡ L.plan }
+    requires limits { IsPlan plan }
+    requires few { vec_len roles < 2 ^ 32 }
+    requires tape_blank { (tape_blank.name ≡ L.name) × (tape_blank.parts ≡ L.parts) × (tape_blank.parts ≡ plan.cluster.nodes + 1) }
+    requires seat_blank { (seat_blank.name ≡ M.name) × (seat_blank.parts ≡ M.parts) × (seat_blank.parts ≡ vec_len roles + 1) }
+{
+    let count = roles.len() as u32;
+    let callers = AtomicU64::new(count_callers(&roles));
+    let (host, mut seats) = Host::<L, M>::open(alloc, plan, count, tape_blank, seat_blank)?;
+    if let Some(seat) = seats.last_mut() {
+        prepare(rt, &host, seat, NodeId { number: 0 });
+        prepare(rt, &host, seat, NodeId { number: 1 });
+    }
+    let jobs = paired(alloc, seats, roles)?;
+    let (shared, left) = (&host, &callers);
+    let done = thread::map_vec(
+        rt,
+        jobs,
+        &|job: Job<M, P>| { work(rt, alloc, shared, left, job) },
+    )?;
+    let mut seats = Vec::new(alloc);
+    let mut calls: usize = 0;
+    let mut last: u64 = 0;
+    for one in done {
+        let Done { seat, count } = one;
+        calls = calls.saturating_add(seat.mine().len());
+        last = count;
+        seats.reserve(1)?;
+        seats.push_reserved(seat);
+    }
+    let closed = close(host, seats)?;
+    let mut entries: usize = 0;
+    for tape in &closed.tapes {
+        entries = entries.saturating_add(tape.as_slice().len());
+    }
+    let mut ticks = [0; 2];
+    for node in 0..2 {
+        if let Some(tape) = closed.tapes.get(node) {
+            ticks[node] = count_ticks(tape.as_slice());
+        }
+    }
+    Ok(Left {
+        count: last,
+        calls,
+        entries,
+        ticks,
+    })
+}
+
+// A day of two nodes with tapes.
+fn whole_day<P: Port + Send + Drop, R: Threads + Wait + Clock + Sync>(
+    rt: &R,
+    alloc: Global,
+    roles: Vec<Role<P>>,
+) -> Result<Left, HostFault>
+    requires { vec_len roles < 2 ^ 32 }
+{
+    let plan = HostPlan {
+        cluster: Plan {
+            nodes: 2,
+            silence: 1_000,
+            places: 1_024,
+            cluster_key: [0x11; 32],
+            admin_key: ADMIN_KEY,
+        },
+        tape: true,
+    };
+    let parts = roles.len() as u64 + 1;
+    run::<Brand, Brand, P, R>(rt, alloc, plan, roles, Blank::new(3), Blank::new(parts))
+}
+
+// A pump for each of two nodes, over these ports, and two more roles.
+fn with_pumps<P: Drop>(
+    alloc: Global,
+    ports: (P, P),
+    third: Role<P>,
+    fourth: Role<P>,
+) -> Result<Vec<Role<P>>, OutOfMemory> {
+    let mut roles = Vec::with_capacity(alloc, 4)?;
+    let (first, second) = ports;
+    roles.push(Role::Pump(NodeId { number: 0 }, first))?;
+    roles.push(Role::Pump(NodeId { number: 1 }, second))?;
+    roles.push(third)?;
+    roles.push(fourth)?;
+    Ok(roles)
+}
+
+fn rings(alloc: Global) -> Result<(RingPort, RingPort), OutOfMemory> {
+    let mut ports = RingPort::mesh(alloc, 2)?;
+    match (ports.pop(), ports.pop()) {
+        (Some(second), Some(first)) => Ok((first, second)),
+        _ => Err(OutOfMemory),
+    }
+}
+
+const FIRST: NodeId = NodeId { number: 0 };
+
+const SECOND: NodeId = NodeId { number: 1 };
+
+#[test]
+fn say_crosses_rings(rt: HostRuntime) -> Result<(), Fail> {
+    let alloc = rt.alloc();
+    let ports = rings(alloc)?;
+    let roles = with_pumps(alloc, ports, Role::Sayer(FIRST, 1), Role::Fetcher(SECOND))?;
+    let Ok(left) = whole_day(&rt, alloc, roles) else {
+        return Err(Fail::from("the host refused"));
+    };
+    assert_eq!(rt; left.count, 1);
+    assert_eq!(rt; left.calls, left.entries);
+    Ok(())
+}
+
+#[test]
+fn say_crosses_sockets(rt: HostRuntime) -> Result<(), Fail> {
+    let alloc = rt.alloc();
+    let Ok(first) = UdpPort::bind(&rt, alloc, FIRST, 2, BASE) else {
+        return Err(Fail::from("node 0's socket"));
+    };
+    let Ok(second) = UdpPort::bind(&rt, alloc, SECOND, 2, BASE) else {
+        return Err(Fail::from("node 1's socket"));
+    };
+    let ports = (first, second);
+    let roles = with_pumps(alloc, ports, Role::Sayer(FIRST, 1), Role::Fetcher(SECOND))?;
+    let Ok(left) = whole_day(&rt, alloc, roles) else {
+        return Err(Fail::from("the host refused"));
+    };
+    assert_eq!(rt; left.count, 1);
+    assert_eq!(rt; left.calls, left.entries);
+    Ok(())
+}
+
+#[test]
+fn two_ticks(rt: HostRuntime) -> Result<(), Fail> {
+    let mut roles: Vec<Role<RingPort>> = Vec::new(rt.alloc());
+    roles.push(Role::Ticker(2))?;
+    let Ok(left) = whole_day(&rt, rt.alloc(), roles) else {
+        return Err(Fail::from("the host refused"));
+    };
+    assert_eq!(rt; left.count, 2);
+    assert_eq!(rt; left.ticks, [2, 2]);
+    Ok(())
+}
+
+// Two callers say ten messages each, more than the group takes; their nodes' packets travel over rings, of which node 0's
+// port fails at a call, 0 for none.
+fn two_callers<R: Threads + Wait + Clock + Sync>(
+    rt: &R,
+    alloc: Global,
+    at: u64,
+) -> Result<Left, HostFault> {
+    let (first, second) = rings(alloc)?;
+    let ports = (FailAt::new(first, at), FailAt::new(second, 0));
+    let roles = with_pumps(
+        alloc,
+        ports,
+        Role::Sayer(FIRST, 10),
+        Role::Sayer(SECOND, 10),
+    )?;
+    whole_day(rt, alloc, roles)
+}
+
+#[test]
+fn tapes_and_seats_agree_whichever_call_of_a_port_fails(rt: HostRuntime) -> Result<(), Fail> {
+    for at in 0..51 {
+        let Ok(left) = two_callers(&rt, rt.alloc(), at) else {
+            return Err(Fail::from("the host refused"));
+        };
+        assert_eq!(rt; left.calls, left.entries);
+    }
+    Ok(())
+}

@@ -1,0 +1,10 @@
+//! Worked workers as tests: pumps over rings, sockets and failing ports, tickers, and sessions, each in a thread of its own.
+//! There is nothing here but tests.
+#![tactic(auto)]
+
+#[cfg(test)]
+mod asking;
+#[cfg(test)]
+mod day;
+#[cfg(test)]
+mod roles;
