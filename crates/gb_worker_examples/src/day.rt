@@ -2,7 +2,8 @@
 ghost use Rattle.std.specs.Prelude.{◌≡◌, ◌+◌, ◌<◌, ◌^◌, vec_len};
 ghost use Rattle.gb_host.specs.Plans.{IsPlan};
 
-use crate::asking::{ADMIN_KEY, prepare};
+use crate::asking::prepare;
+use crate::plans::two_nodes;
 use crate::roles::{Done, Job, Role, count_callers, work};
 use gb_host::close::close;
 use gb_host::fault::HostFault;
@@ -18,7 +19,6 @@ use gb_port::ring::RingPort;
 use gb_port::udp::UdpPort;
 use gb_types::memory::OutOfMemory;
 use gb_types::node::NodeId;
-use gb_types::plan::Plan;
 use std::alloc::Global;
 use std::marker::Brand;
 use std::rt::HostRuntime;
@@ -140,18 +140,15 @@ fn whole_day<P: Port + Send + Drop, R: Threads + Wait + Clock + Sync>(
 ) -> Result<Left, HostFault>
     requires { vec_len roles < 2 ^ 32 }
 {
-    let plan = HostPlan {
-        cluster: Plan {
-            nodes: 2,
-            silence: 1_000,
-            places: 1_024,
-            cluster_key: [0x11; 32],
-            admin_key: ADMIN_KEY,
-        },
-        tape: true,
-    };
     let parts = roles.len() as u64 + 1;
-    run::<Brand, Brand, P, R>(rt, alloc, plan, roles, Blank::new(3), Blank::new(parts))
+    run::<Brand, Brand, P, R>(
+        rt,
+        alloc,
+        two_nodes(),
+        roles,
+        Blank::new(3),
+        Blank::new(parts),
+    )
 }
 
 // A pump for each of two nodes, over these ports, and two more roles.

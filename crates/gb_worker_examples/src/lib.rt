@@ -5,6 +5,12 @@
 #[cfg(test)]
 mod asking;
 #[cfg(test)]
+mod clients;
+#[cfg(test)]
 mod day;
 #[cfg(test)]
+mod plans;
+#[cfg(test)]
 mod roles;
+#[cfg(test)]
+mod talks;

@@ -1,0 +1,86 @@
+// Readers, writers and gates of clients.
+use gb_host::gate::Gate;
+use std::io::{ErrorKind, Read, Write};
+use std::sync::atomic::{AtomicU64, Ordering};
+use std::time::{Clock, Duration};
+use std::{io, thread};
+
+/// A request whose token no node gave out.
+pub const REQUEST: &[u8] =
+    b"\x00\x00\x00\x49open 0000000000000000000000000000000000000000000000000000000000000000 7 1";
+
+/// How a running node answers it.
+const DENIED: &[u8] = b"\x00\x00\x00\x10refused 1 Denied";
+
+/// How many milliseconds a gate is held at most.
+const PATIENCE: u64 = 10_000;
+
+/// Gives so many requests, one in each read. One of the reads fails, counted from 1; 0: none.
+#[derive(Drop)]
+pub struct Asking {
+    pub requests: u64,
+    pub reads: u64,
+    pub fails_at: u64,
+}
+
+impl Read for Asking {
+    fn read(&mut self, buf: &mut [u8]) -> io::Result<usize> {
+        self.reads = self.reads.saturating_add(1);
+        if self.reads == self.fails_at {
+            return Err(ErrorKind::Other.into());
+        }
+        if self.reads > self.requests || buf.len() < REQUEST.len() {
+            return Ok(0);
+        }
+        buf[..REQUEST.len()].copy_from_slice(REQUEST);
+        Ok(REQUEST.len())
+    }
+}
+
+/// Counts the replies that say Denied. One of the writes fails, counted from 1; 0: none.
+#[derive(Drop)]
+pub struct Told<'a> {
+    pub denied: &'a AtomicU64,
+    pub writes: u64,
+    pub fails_at: u64,
+}
+
+impl Write for Told<'_> {
+    fn write(&mut self, buf: &[u8]) -> io::Result<usize> {
+        self.writes = self.writes.saturating_add(1);
+        if self.writes == self.fails_at {
+            return Err(ErrorKind::Other.into());
+        }
+        if buf == DENIED {
+            self.denied.fetch_add(1, Ordering::SeqCst);
+        }
+        Ok(buf.len())
+    }
+
+    fn flush(&mut self) -> io::Result<()> {
+        Ok(())
+    }
+}
+
+/// A gate that is held, if it is, until another client was told something; false where that takes too long.
+#[derive(Drop)]
+pub struct Held<'a, R> {
+    pub rt: &'a R,
+    pub is_held: bool,
+    pub other: &'a AtomicU64,
+}
+
+impl<R: Clock> Gate for Held<'_, R> {
+    fn pass(&mut self) -> bool {
+        if !self.is_held {
+            return true;
+        }
+        for _ in 0..PATIENCE {
+            if self.other.load(Ordering::SeqCst) != 0 {
+                return true;
+            }
+            thread::sleep(self.rt, Duration::from_millis(1));
+        }
+        false
+    }
+}
