@@ -6,3 +6,5 @@
 mod callers;
 #[cfg(test)]
 mod day;
+#[cfg(test)]
+mod locks;
