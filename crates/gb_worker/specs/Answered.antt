@@ -1,8 +1,11 @@
 -- What a worker reads from an answer.
-use Rattle.std.specs.Prelude.{ℕ, Bool, true, false, List, [], fold}
+use Rattle.std.specs.Prelude.{ℕ, Bool, true, false, List, [], fold, Option, Some, None}
 use Rattle.std.specs.FinSet as set
 use Rattle.std.specs.Ordering.{nat_cmp}
 use Rattle.gb_types.specs.declared.refusal.Refusal.TheVariants.{Stopped}
+use Rattle.gb_types.specs.declared.node.NodeId.{NodeId}
+use Rattle.gb_node.specs.declared.event.NodeEvent.{NodeEvent}
+use Rattle.gb_node.specs.declared.event.NodeEvent.TheVariants.{Pack, Again, Ack}
 use Rattle.gb_node.specs.declared.answer.NodeAnswer.{NodeAnswer}
 use Rattle.gb_node.specs.declared.answer.NodeAnswer.TheVariants.{Taken, Sent}
 use Rattle.gb_node.specs.declared.answer.PacketAnswer.TheVariants.{Good as TakenGood, Refused as TakenRefused}
@@ -28,3 +31,10 @@ and_heard nodes other = nodes
 -- the nodes of which a good packet was taken
 abbrev pub heard_in : List SeatEntry → set.FinSet nat_cmp
 heard_in es = fold (λ nodes e. and_heard nodes e.answer) set.empty es
+
+-- to which node an event sends
+abbrev pub destination : NodeEvent → Option NodeId
+destination (Pack to) = Some to
+destination (Again to n) = Some to
+destination (Ack to) = Some to
+destination other = None

@@ -54,6 +54,10 @@ abbrev pub traffic : List SeatEntry → List Traffic
 traffic [] = []
 traffic (e ∷ es) = traffic_of e.event e.answer ++ traffic es
 
+-- a port was asked for what came and gave nothing
+abbrev pub GivesNothing : {P : Type 0} → (P → Result (Option (Vec ℕ Global)) PortFault → P → Type 0) → P → P → Type 0
+GivesNothing receives before after = (result : Result (Option (Vec ℕ Global)) PortFault) × receives before result after × (travels_in (Received result) ≡ [])
+
 -- What travelled at the port is what the entries that a list gained say, in their order, each once.
 abbrev pub HasCarried : {P : Type 0} → (P → NodeId → List ℕ → Result Bool PortFault → P → Type 0) → (P → Result (Option (Vec ℕ Global)) PortFault → P → Type 0) → P → P → List SeatEntry → List SeatEntry → Type 0
 HasCarried sends receives before after old new =

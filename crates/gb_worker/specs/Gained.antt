@@ -1,7 +1,36 @@
 -- What calls add to a seat's list.
-use Rattle.std.specs.Prelude.{◌≡◌, List, ◌++◌}
+use Rattle.std.specs.Prelude.{◌≡◌, ◌⊎◌, Bool, true, false, List, [], ◌∷◌, ◌++◌}
+use Rattle.gb_types.specs.declared.node.NodeId.{NodeId}
+use Rattle.gb_node.specs.declared.answer.NodeAnswer.{NodeAnswer}
+use Rattle.gb_node.specs.declared.event.NodeEvent.{NodeEvent}
 use Rattle.gb_host.specs.declared.entry.SeatEntry.{SeatEntry}
+use Rattle.gb_worker.specs.Answered.{is_stopped, gives_packet}
 
 -- the list has gained entries of which this holds
 abbrev pub Gains : (List SeatEntry → Type 0) → List SeatEntry → List SeatEntry → Type 0
 Gains P old new = (es : List SeatEntry) × (new ≡ old ++ es) × P es
+
+-- a call, as a seat notes it
+abbrev pub noted : NodeId → NodeEvent → NodeAnswer → SeatEntry
+noted node event answer = record { node = node; event = event; answer = answer }
+
+-- one call, which was answered Stopped
+abbrev pub IsStopped : NodeId → NodeEvent → List SeatEntry → Type 0
+IsStopped node event es = (answer : NodeAnswer) × (is_stopped answer ≡ true) × (es ≡ noted node event answer ∷ [])
+
+-- one call, which gave a packet or not
+abbrev pub IsMade : NodeId → NodeEvent → Bool → List SeatEntry → Type 0
+IsMade node event is_given es = (answer : NodeAnswer) × (gives_packet answer ≡ is_given) × (es ≡ noted node event answer ∷ [])
+
+-- one call, or none
+abbrev pub IsBegun : NodeId → NodeEvent → List SeatEntry → Type 0
+IsBegun node event es = (es ≡ []) ⊎ ((answer : NodeAnswer) × (es ≡ noted node event answer ∷ []))
+
+-- the entry of an event at a node
+abbrev pub IsNoted : NodeId → NodeEvent → SeatEntry → Type 0
+IsNoted node event e = (e.node ≡ node) × (e.event ≡ event)
+
+-- one entry of which this holds where it is due, else none
+abbrev pub IfDue : Bool → (SeatEntry → Type 0) → List SeatEntry → Type 0
+IfDue true P es = (e : SeatEntry) × (es ≡ e ∷ []) × P e
+IfDue false P es = es ≡ []

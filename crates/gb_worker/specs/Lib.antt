@@ -1,6 +1,6 @@
-pub mod Gained
 pub mod Answered
+pub mod Gained
 pub mod Ticks
 pub mod Turns
-pub mod Asked
 pub mod Carried
+pub mod Asked

@@ -9,7 +9,7 @@ use Rattle.gb_node.specs.declared.event.NodeEvent.TheVariants.{Packet, Pack, Aga
 use Rattle.gb_node.specs.declared.answer.NodeAnswer.{NodeAnswer}
 use Rattle.gb_host.specs.declared.entry.SeatEntry.{SeatEntry}
 use Rattle.gb_worker.specs.Answered.{gives_packet, heard_in}
-use Rattle.gb_worker.specs.Gained.{Gains}
+use Rattle.gb_worker.specs.Gained.{IfDue}
 use Rattle.gb_worker.specs.declared.end.WorkerEnd.{WorkerEnd}
 use Rattle.gb_worker.specs.declared.end.Why.TheVariants.{Turns, Gate}
 use Rattle.gb_worker.specs.declared.pump.TheConstants.{PACKETS, AGAIN, ACK}
@@ -22,11 +22,6 @@ ArePackets me (e ∷ es) = (e.node ≡ me) × ((bytes : List ℕ) × (e.event �
 -- the entry of an event for another node, by its number
 abbrev pub IsFor : (NodeId → NodeEvent) → NodeId → ℕ → SeatEntry → Type 0
 IsFor event me b e = (e.node ≡ me) × ((to : NodeId) × (to.number ≡ b) × (e.event ≡ event to))
-
--- one entry of which this holds where it is due, else none
-abbrev pub IfDue : Bool → (SeatEntry → Type 0) → List SeatEntry → Type 0
-IfDue true P es = (e : SeatEntry) × (es ≡ e ∷ []) × P e
-IfDue false P es = es ≡ []
 
 -- in turn r a frame is sent again where a pack gave nothing
 abbrev pub is_again_due : ℕ → NodeAnswer → Bool
@@ -47,15 +42,27 @@ pub record SendsTo (r : ℕ) (me : NodeId) (b : ℕ) (is_heard : Bool) (es : Lis
   pub resends : IfDue (is_again_due r pack.answer) (IsFor (λ to. Again to 0) me b) again
   pub acknowledges : IfDue (is_ack_due r is_heard) (IsFor Ack me b) ack
 
+-- the beginning of it
+abbrev pub IsPartTo : ℕ → NodeId → ℕ → Bool → List SeatEntry → Type 0
+IsPartTo r me b is_heard es = (rest : List SeatEntry) × SendsTo r me b is_heard (es ++ rest)
+
 -- so it does to each other node below b, rising, of which those in the set were heard
 abbrev pub SendsAll : ℕ → NodeId → set.FinSet nat_cmp → ℕ → List SeatEntry → Type 0
 SendsAll r me heard zero es = es ≡ []
 SendsAll r me heard (suc b) es = MatchBool (b == me.number) (SendsAll r me heard b es)
     ((xs ys : List SeatEntry) × (es ≡ xs ++ ys) × SendsAll r me heard b xs × SendsTo r me b (set.contains heard b) ys)
 
+-- the beginning of it
+abbrev pub IsPartAll : ℕ → NodeId → set.FinSet nat_cmp → ℕ → List SeatEntry → Type 0
+IsPartAll r me heard nodes es = (rest : List SeatEntry) × SendsAll r me heard nodes (es ++ rest)
+
 -- at most so many packets came
 abbrev pub IsReceived : NodeId → ℕ → List SeatEntry → Type 0
 IsReceived me n es = ArePackets me es × (length es ≤ n)
+
+-- so many came, and these nodes were heard
+abbrev pub HasReceived : NodeId → ℕ → set.FinSet nat_cmp → List SeatEntry → Type 0
+HasReceived me n heard es = IsReceived me n es × (heard ≡ heard_in es)
 
 -- turn r: at most 16 packets that came, then what is sent to each other node, rising
 pub record IsTurn (r : ℕ) (me : NodeId) (nodes : ℕ) (es : List SeatEntry) : Type 0 where

@@ -1,13 +1,16 @@
 //! The worker that carries a node's packets.
-ghost use Rattle.std.specs.Prelude.{◌≡◌, ◌≢◌, ◌⊎◌, ◌≤◌, ◌<◌, ◌∷◌, ◌++◌, ℕ, List, Some, Err, [], true, IfOk, IfErr, OnOk, OnErr};
+ghost use Rattle.std.specs.Prelude.{◌≡◌, ◌≢◌, ◌⊎◌, ◌≤◌, ◌&&◌, ◌==◌, ◌%◌, not, ℕ, Option, Result, Ok, Some, Err, true, false, IfOk, IfErr, IfSome, IfNone, OnOk, OnErr};
 ghost use Rattle.std.specs.FinSet as set;
+ghost use Rattle.std.specs.declared.vec.Vec.{Vec as Bytes};
+ghost use Rattle.std.specs.declared.alloc.Global.{Global as TheGlobal};
 ghost use Rattle.gb_types.specs.declared.limits.TheConstants.{NODES};
-ghost use Rattle.gb_node.specs.declared.answer.NodeAnswer.{NodeAnswer as AnswerValue};
-ghost use Rattle.gb_host.specs.declared.entry.SeatEntry.{SeatEntry as Made};
-ghost use Rattle.gb_worker.specs.Answered.{and_heard, gives_packet, heard_in};
-ghost use Rattle.gb_worker.specs.Carried.{HasCarried};
-ghost use Rattle.gb_worker.specs.Gained.{Gains};
-ghost use Rattle.gb_worker.specs.Turns.{HasPumped};
+ghost use Rattle.gb_node.specs.declared.answer.NodeAnswer.TheVariants.{Sent as WasSent};
+ghost use Rattle.gb_node.specs.declared.answer.Sent.TheVariants.{Packet as SentPacket};
+ghost use Rattle.gb_port.specs.declared.port.PortFault.{PortFault as TheFault};
+ghost use Rattle.gb_worker.specs.Answered.{and_heard, destination, gives_packet};
+ghost use Rattle.gb_worker.specs.Carried.{HasCarried, GivesNothing};
+ghost use Rattle.gb_worker.specs.Gained.{Gains, IfDue, IsBegun, IsMade, IsNoted};
+ghost use Rattle.gb_worker.specs.Turns.{is_ack_due, SendsTo, IsPartTo, SendsAll, IsPartAll, IsReceived, HasReceived, IsTurn, IsPart, HasPumped};
 
 use crate::calling::make;
 use crate::end::{Why, WorkerEnd};
@@ -56,6 +59,29 @@ fn hear(heard: &mut NodeSet, answer: &NodeAnswer)
     }
 }
 
+// The next packet that came. None also where the port failed.
+fn next_packet<P: Port>(port: &mut P) -> Option<Vec<u8>>
+    ensures some { IfSome result (λ bytes. P.receives port.old (Ok (Some bytes)) port.new) }
+    ensures none { IfNone result (GivesNothing P.receives port.old port.new) }
+{
+    match port.recv() {
+        Ok(Some(bytes)) => Some(bytes),
+        Ok(None) => None,
+        Err(_) => None,
+    }
+}
+
+// The packet that an answer gives.
+fn packet_of(answer: NodeAnswer) -> Option<PacketText>
+    ensures some { IfSome result (λ text. answer ≡ WasSent (SentPacket text)) }
+    ensures none { IfNone result (gives_packet answer ≡ false) }
+{
+    match answer {
+        NodeAnswer::Sent(Sent::Packet(text)) => Some(text),
+        _ => None,
+    }
+}
+
 // At most 16 packets that have come. Gives the nodes of which a good one came. Nothing there, or a fault of the port, ends
 // the receiving.
 fn receive<L: Tapes, M: Ledger, H: Wait, P: Port>(
@@ -65,10 +91,17 @@ fn receive<L: Tapes, M: Ledger, H: Wait, P: Port>(
     me: NodeId,
     port: &mut P,
     refused: &mut u64,
-) -> Result<NodeSet, Why> {
+) -> Result<NodeSet, Why>
+    ensures received { L.plan.tape ≡ true → refused.new ≡ 0 → IfOk result (λ heard. Gains (HasReceived me PACKETS heard) seat.old.list seat.new.list) }
+    ensures ended { L.plan.tape ≡ true → refused.new ≡ 0 → OnErr result (Gains (IsReceived me PACKETS) seat.old.list seat.new.list) }
+    ensures carried { L.plan.tape ≡ true → refused.new ≡ 0 → result ≢ Err Why.Fault → HasCarried P.sends P.receives port.old port.new seat.old.list seat.new.list }
+    ensures why { IfErr result (λ why. (why ≡ Why.Stopped) ⊎ (why ≡ Why.Fault)) }
+    ensures counts { refused.new ≡ 0 → refused.old ≡ 0 }
+    ensures number { seat.new.number ≡ seat.old.number }
+{
     let mut heard = NodeSet::new();
     for _i in 0..PACKETS {
-        let Ok(Some(bytes)) = port.recv() else {
+        let Some(bytes) = next_packet(port) else {
             return Ok(heard);
         };
         let event = NodeEvent::Packet(PacketText::from(bytes));
@@ -81,7 +114,7 @@ fn receive<L: Tapes, M: Ledger, H: Wait, P: Port>(
     Ok(heard)
 }
 
-// One event by which a node sends. What it gives is sent at once. Gives whether it gave a packet.
+// One event by which a node sends to another. What it gives is sent at once. Gives whether it gave a packet.
 fn send_one<L: Tapes, M: Ledger, H: Wait, P: Port>(
     rt: &H,
     host: &Host<L, M>,
@@ -91,15 +124,25 @@ fn send_one<L: Tapes, M: Ledger, H: Wait, P: Port>(
     to: NodeId,
     port: &mut P,
     refused: &mut u64,
-) -> Result<bool, Why> {
-    match make(rt, host, seat, me, event, refused) {
-        Ok(Some(NodeAnswer::Sent(Sent::Packet(text)))) => {
-            let _ = port.send(to, text.as_slice());
-            Ok(true)
-        }
-        Ok(_) => Ok(false),
-        Err(why) => Err(why),
-    }
+) -> Result<bool, Why>
+    requires { destination event ≡ Some to }
+    ensures sent { L.plan.tape ≡ true → refused.new ≡ 0 → IfOk result (λ is_given. Gains (IsMade me event is_given) seat.old.list seat.new.list) }
+    ensures ended { L.plan.tape ≡ true → refused.new ≡ 0 → OnErr result (Gains (IsBegun me event) seat.old.list seat.new.list) }
+    ensures carried { L.plan.tape ≡ true → refused.new ≡ 0 → result ≢ Err Why.Fault → HasCarried P.sends P.receives port.old port.new seat.old.list seat.new.list }
+    ensures why { IfErr result (λ why. (why ≡ Why.Stopped) ⊎ (why ≡ Why.Fault)) }
+    ensures counts { refused.new ≡ 0 → refused.old ≡ 0 }
+    ensures number { seat.new.number ≡ seat.old.number }
+{
+    let answer = match make(rt, host, seat, me, event, refused) {
+        Ok(Some(answer)) => answer,
+        Ok(None) => return Ok(false),
+        Err(why) => return Err(why),
+    };
+    let Some(text) = packet_of(answer) else {
+        return Ok(false);
+    };
+    let _ = port.send(to, text.as_slice());
+    Ok(true)
 }
 
 // The same where it is due.
@@ -113,7 +156,15 @@ fn send_due<L: Tapes, M: Ledger, H: Wait, P: Port>(
     to: NodeId,
     port: &mut P,
     refused: &mut u64,
-) -> Result<(), Why> {
+) -> Result<(), Why>
+    requires { destination event ≡ Some to }
+    ensures sent { L.plan.tape ≡ true → refused.new ≡ 0 → OnOk result (Gains (IfDue is_due (IsNoted me event)) seat.old.list seat.new.list) }
+    ensures ended { L.plan.tape ≡ true → refused.new ≡ 0 → OnErr result ((is_due ≡ true) × Gains (IsBegun me event) seat.old.list seat.new.list) }
+    ensures carried { L.plan.tape ≡ true → refused.new ≡ 0 → result ≢ Err Why.Fault → HasCarried P.sends P.receives port.old port.new seat.old.list seat.new.list }
+    ensures why { IfErr result (λ why. (why ≡ Why.Stopped) ⊎ (why ≡ Why.Fault)) }
+    ensures counts { refused.new ≡ 0 → refused.old ≡ 0 }
+    ensures number { seat.new.number ≡ seat.old.number }
+{
     if !is_due {
         return Ok(());
     }
@@ -121,6 +172,20 @@ fn send_due<L: Tapes, M: Ledger, H: Wait, P: Port>(
         Ok(_) => Ok(()),
         Err(why) => Err(why),
     }
+}
+
+// Whether an again is due in a turn.
+fn is_again_due(turn: u64, is_given: bool) -> bool
+    ensures { result ≡ (not is_given && (turn % AGAIN == 0)) }
+{
+    !is_given && turn % AGAIN == 0
+}
+
+// Whether an acknowledgement is due in a turn.
+fn is_ack_due(turn: u64, is_heard: bool) -> bool
+    ensures { result ≡ is_ack_due turn is_heard }
+{
+    is_heard || turn % ACK == 0
 }
 
 // What a turn sends to one node.
@@ -133,13 +198,20 @@ fn send_to<L: Tapes, M: Ledger, H: Wait, P: Port>(
     is_heard: bool,
     port: &mut P,
     refused: &mut u64,
-) -> Result<(), Why> {
+) -> Result<(), Why>
+    ensures sent { L.plan.tape ≡ true → refused.new ≡ 0 → OnOk result (Gains (SendsTo turn.number turn.me to.number is_heard) seat.old.list seat.new.list) }
+    ensures ended { L.plan.tape ≡ true → refused.new ≡ 0 → OnErr result (Gains (IsPartTo turn.number turn.me to.number is_heard) seat.old.list seat.new.list) }
+    ensures carried { L.plan.tape ≡ true → refused.new ≡ 0 → result ≢ Err Why.Fault → HasCarried P.sends P.receives port.old port.new seat.old.list seat.new.list }
+    ensures why { IfErr result (λ why. (why ≡ Why.Stopped) ⊎ (why ≡ Why.Fault)) }
+    ensures counts { refused.new ≡ 0 → refused.old ≡ 0 }
+    ensures number { seat.new.number ≡ seat.old.number }
+{
     let me = turn.me;
     let is_given = match send_one(rt, host, seat, me, NodeEvent::Pack(to), to, port, refused) {
         Ok(is_given) => is_given,
         Err(why) => return Err(why),
     };
-    let is_again = !is_given && turn.number % AGAIN == 0;
+    let is_again = is_again_due(turn.number, is_given);
     match send_due(
         rt,
         host,
@@ -154,8 +226,8 @@ fn send_to<L: Tapes, M: Ledger, H: Wait, P: Port>(
         Ok(()) => {}
         Err(why) => return Err(why),
     }
-    let is_ack = is_heard || turn.number % ACK == 0;
-    send_due(
+    let is_ack = is_ack_due(turn.number, is_heard);
+    match send_due(
         rt,
         host,
         seat,
@@ -165,7 +237,10 @@ fn send_to<L: Tapes, M: Ledger, H: Wait, P: Port>(
         to,
         port,
         refused,
-    )
+    ) {
+        Ok(()) => Ok(()),
+        Err(why) => Err(why),
+    }
 }
 
 // What a turn sends to the other nodes, rising.
@@ -179,6 +254,12 @@ fn send_all<L: Tapes, M: Ledger, H: Wait, P: Port>(
     refused: &mut u64,
 ) -> Result<(), Why>
     requires { turn.nodes ≤ NODES }
+    ensures sent { L.plan.tape ≡ true → refused.new ≡ 0 → OnOk result (Gains (SendsAll turn.number turn.me heard.now turn.nodes) seat.old.list seat.new.list) }
+    ensures ended { L.plan.tape ≡ true → refused.new ≡ 0 → OnErr result (Gains (IsPartAll turn.number turn.me heard.now turn.nodes) seat.old.list seat.new.list) }
+    ensures carried { L.plan.tape ≡ true → refused.new ≡ 0 → result ≢ Err Why.Fault → HasCarried P.sends P.receives port.old port.new seat.old.list seat.new.list }
+    ensures why { IfErr result (λ why. (why ≡ Why.Stopped) ⊎ (why ≡ Why.Fault)) }
+    ensures counts { refused.new ≡ 0 → refused.old ≡ 0 }
+    ensures number { seat.new.number ≡ seat.old.number }
 {
     for number in 0..turn.nodes {
         if number != turn.me.number {
@@ -202,12 +283,21 @@ fn make_turn<L: Tapes, M: Ledger, H: Wait, P: Port>(
     refused: &mut u64,
 ) -> Result<(), Why>
     requires { turn.nodes ≤ NODES }
+    ensures turned { L.plan.tape ≡ true → refused.new ≡ 0 → OnOk result (Gains (IsTurn turn.number turn.me turn.nodes) seat.old.list seat.new.list) }
+    ensures ended { L.plan.tape ≡ true → refused.new ≡ 0 → OnErr result (Gains (IsPart turn.number turn.me turn.nodes) seat.old.list seat.new.list) }
+    ensures carried { L.plan.tape ≡ true → refused.new ≡ 0 → result ≢ Err Why.Fault → HasCarried P.sends P.receives port.old port.new seat.old.list seat.new.list }
+    ensures why { IfErr result (λ why. (why ≡ Why.Stopped) ⊎ (why ≡ Why.Fault)) }
+    ensures counts { refused.new ≡ 0 → refused.old ≡ 0 }
+    ensures number { seat.new.number ≡ seat.old.number }
 {
     let heard = match receive(rt, host, seat, turn.me, port, refused) {
         Ok(heard) => heard,
         Err(why) => return Err(why),
     };
-    send_all(rt, host, seat, turn, &heard, port, refused)
+    match send_all(rt, host, seat, turn, &heard, port, refused) {
+        Ok(()) => Ok(()),
+        Err(why) => Err(why),
+    }
 }
 
 /// Makes so many turns, numbered from 1. Each passes the gate, then receives at most 16 packets from the port, each of which

@@ -2,8 +2,8 @@
 ghost use Rattle.std.specs.Prelude.{◌≡◌, ◌≢◌, ◌≤◌, true};
 ghost use Rattle.gb_worker.specs.Ticks.{HasTicked};
 
+use crate::calling::ask;
 use crate::end::{Why, WorkerEnd};
-use gb_host::fault::HostFault;
 use gb_host::gate::Gate;
 use gb_host::host::Host;
 use gb_host::names::Tapes;
@@ -40,14 +40,20 @@ pub fn ticker<L: Tapes, M: Ledger, H: Wait, G: Gate>(
             };
         }
         for node in 0..nodes {
-            match host.call(rt, seat, NodeId::new(node), NodeEvent::Tick) {
+            match ask(
+                rt,
+                host,
+                seat,
+                NodeId::new(node),
+                NodeEvent::Tick,
+                &mut refused,
+            ) {
                 Ok(_) => {}
-                Err(HostFault::OutOfMemory) => refused = refused.saturating_add(1),
-                Err(_) => {
+                Err(why) => {
                     return WorkerEnd {
                         turns: turn,
                         refused,
-                        why: Why::Fault,
+                        why,
                     };
                 }
             }

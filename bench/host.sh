@@ -1,0 +1,22 @@
+#!/usr/bin/env bash
+# Prints how many calls a second a host makes of its nodes, from 1, 2 and 4 threads on 1 and 4 nodes, with tapes and without,
+# beside a node alone; and how fast messages come from a say at one node to a fetch at another, over rings and over sockets
+# of this machine. The program is built in bench/out, apart from the repository's own crates.
+set -eu
+top=$(cd "$(dirname "$0")/.." && pwd)
+work=$top/bench/out/host
+mkdir -p "$work/crates"
+lower='types|cap|frame|link|detect|layer|reliable|uniform|fifo|stack|rules|history|slot|groups|table|node|session|port|host|worker'
+for crate in ${lower//|/ }; do
+    mkdir -p "$work/crates/gb_$crate"
+    cp -r "$top/crates/gb_$crate/." "$work/crates/gb_$crate/"
+done
+mkdir -p "$work/crates/host/src"
+cp "$top/bench/host/main.rt.txt" "$work/crates/host/src/main.rt"
+mkdir -p "$work/crates/host/proofs"
+cp -r "$top/bench/host/proofs/." "$work/crates/host/proofs/"
+cp "$top/HANDLES" "$work/HANDLES"
+grep -E "^gb_($lower):" "$top/crates.txt" >"$work/crates.txt"
+echo 'host: gb_types gb_cap gb_node gb_port gb_host gb_worker anyhow' >>"$work/crates.txt"
+cd "$work/crates/host"
+"${RT:-rt}" run

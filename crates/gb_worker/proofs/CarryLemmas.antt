@@ -1,0 +1,115 @@
+-- What travels at a port, call by call.
+use Rattle.std.proofs.Common.{◌≡◌, ℕ, Bool, true, false, List, [], ◌∷◌, ◌++◌, refl, sym, ap, ap₂, ◌∙◌, append_assoc, Option, Some, None, Result, Ok, Err, subst}
+use Rattle.std.specs.declared.vec.Vec.{Vec}
+use Rattle.std.specs.declared.alloc.Global.{Global}
+use Rattle.gb_types.specs.declared.node.NodeId.{NodeId}
+use Rattle.gb_node.specs.declared.answer.NodeAnswer.{NodeAnswer}
+use Rattle.gb_node.specs.declared.answer.NodeAnswer.TheVariants as answers
+use Rattle.gb_node.specs.declared.answer.Sent.TheVariants as sents
+use Rattle.gb_node.specs.declared.event.NodeEvent.{NodeEvent}
+use Rattle.gb_node.specs.declared.event.NodeEvent.TheVariants as events
+use Rattle.gb_port.specs.declared.port.PortFault.{PortFault}
+use Rattle.gb_host.specs.declared.entry.SeatEntry.{SeatEntry}
+use Rattle.gb_worker.specs.Answered.{is_stopped, gives_packet, destination}
+use Rattle.gb_worker.specs.Carried.{Traffic, PortCall, Received, Handed, Came, Went, AreCalls, travels_in, travels, goes_to, traffic_of, traffic, GivesNothing, HasCarried}
+use Rattle.gb_worker.specs.Gained.{Gains, noted, IsStopped}
+use Rattle.gb_worker.proofs.GainLemmas.{append_nil, joined}
+
+abbrev Sends : Type 0 → Type 1
+Sends P = P → NodeId → List ℕ → Result Bool PortFault → P → Type 0
+
+abbrev Receives : Type 0 → Type 1
+Receives P = P → Result (Option (Vec ℕ Global)) PortFault → P → Type 0
+
+calls_append : {P : Type 0} (sends : Sends P) (receives : Receives P) (p q r : P) (xs ys : List PortCall) → AreCalls sends receives p xs q → AreCalls sends receives q ys r → AreCalls sends receives p (xs ++ ys) r
+calls_append sends receives p q r [] ys x y = subst (λ s. AreCalls sends receives s ys r) (sym x) y
+calls_append sends receives p q r (Received result ∷ xs) ys x y = (x.0, x.1, calls_append sends receives x.0 q r xs ys x.2 y)
+calls_append sends receives p q r (Handed to bytes result ∷ xs) ys x y = (x.0, x.1, calls_append sends receives x.0 q r xs ys x.2 y)
+
+travels_append : (xs ys : List PortCall) → travels (xs ++ ys) ≡ travels xs ++ travels ys
+travels_append [] ys = refl
+travels_append (x ∷ xs) ys = ap (λ zs. travels_in x ++ zs) (travels_append xs ys) ∙ sym (append_assoc (travels_in x) (travels xs) (travels ys))
+
+traffic_append : (xs ys : List SeatEntry) → traffic (xs ++ ys) ≡ traffic xs ++ traffic ys
+traffic_append [] ys = refl
+traffic_append (x ∷ xs) ys = ap (λ zs. traffic_of x.event x.answer ++ zs) (traffic_append xs ys) ∙ sym (append_assoc (traffic_of x.event x.answer) (traffic xs) (traffic ys))
+
+-- one part after another
+pub carried_more : {P : Type 0} (sends : Sends P) (receives : Receives P) (p q r : P) (old mid new : List SeatEntry) → HasCarried sends receives p q old mid → HasCarried sends receives q r mid new → HasCarried sends receives p r old new
+carried_more sends receives p q r old mid new g h = (
+  g.0 ++ h.0,
+  joined old mid new g.0 h.0 g.1 h.1,
+  g.2.0 ++ h.2.0,
+  calls_append sends receives p q r g.2.0 h.2.0 g.2.1 h.2.1,
+  travels_append g.2.0 h.2.0 ∙ (ap₂ (λ xs ys. xs ++ ys) g.2.2 h.2.2 ∙ sym (traffic_append g.0 h.0)),
+)
+
+-- nothing was called
+pub carried_none : {P : Type 0} (sends : Sends P) (receives : Receives P) (p : P) (list : List SeatEntry) → HasCarried sends receives p p list list
+carried_none sends receives p list = ([], sym (append_nil list), ([], refl, refl))
+
+-- an answer gave no packet
+pub carried_still : {P : Type 0} (sends : Sends P) (receives : Receives P) (p : P) (old new : List SeatEntry) (x : SeatEntry) → new ≡ old ++ x ∷ [] → traffic_of x.event x.answer ≡ [] → HasCarried sends receives p p old new
+carried_still sends receives p old new x h none = (x ∷ [], h, ([], refl, sym (append_nil (traffic_of x.event x.answer) ∙ none)))
+
+-- nothing came
+pub carried_nothing : {P : Type 0} (sends : Sends P) (receives : Receives P) (p q : P) (list : List SeatEntry) → GivesNothing receives p q → HasCarried sends receives p q list list
+carried_nothing sends receives p q list g = ([], sym (append_nil list), (Received g.0 ∷ [], (q, g.1, refl), append_nil (travels_in (Received g.0)) ∙ g.2))
+
+-- bytes came
+pub carried_in : {P : Type 0} (sends : Sends P) (receives : Receives P) (p q : P) (old new : List SeatEntry) (me : NodeId) (bytes : Vec ℕ Global) (a : NodeAnswer) → receives p (Ok (Some bytes)) q → new ≡ old ++ noted me (events.Packet bytes.items) a ∷ [] → HasCarried sends receives p q old new
+carried_in sends receives p q old new me bytes a r h = (noted me (events.Packet bytes.items) a ∷ [], h, (Received (Ok (Some bytes)) ∷ [], (q, r, refl), refl))
+
+-- to where an event sends
+goes : (e : NodeEvent) (to : NodeId) (a : NodeAnswer) → destination e ≡ Some to → traffic_of e a ≡ goes_to to a
+goes (events.Request request) to a h = absurd cc
+goes (events.Packet bytes) to a h = absurd cc
+goes (events.Pack b) to a h = let e : b ≡ to = cc in ap (λ n. goes_to n a) e
+goes (events.Again b n) to a h = let e : b ≡ to = cc in ap (λ n. goes_to n a) e
+goes (events.Ack b) to a h = let e : b ≡ to = cc in ap (λ n. goes_to n a) e
+goes events.Tick to a h = absurd cc
+goes events.Stop to a h = absurd cc
+
+stays : (to : NodeId) (a : NodeAnswer) → gives_packet a ≡ false → goes_to to a ≡ []
+stays to (answers.Reply reply) h = refl
+stays to (answers.Taken taken) h = refl
+stays to (answers.Sent (sents.Packet text)) h = absurd cc
+stays to (answers.Sent sents.Nothing) h = refl
+stays to (answers.Sent (sents.Refused why)) h = refl
+stays to (answers.Ticked ticked) h = refl
+stays to (answers.Halted halted) h = refl
+
+-- an answer gave a packet, which was sent
+pub carried_out : {P : Type 0} (sends : Sends P) (receives : Receives P) (p q : P) (old new : List SeatEntry) (me : NodeId) (e : NodeEvent) (to : NodeId) (a : NodeAnswer) (text : List ℕ) (r : Result Bool PortFault)
+    → destination e ≡ Some to → a ≡ answers.Sent (sents.Packet text) → sends p to text r q → new ≡ old ++ noted me e a ∷ [] → HasCarried sends receives p q old new
+carried_out sends receives p q old new me e to a text r d is s h = (
+  noted me e a ∷ [],
+  h,
+  (
+    Handed to text r ∷ [],
+    (q, s, refl),
+    sym (append_nil (traffic_of e a) ∙ (goes e to a d ∙ ap (goes_to to) is)),
+  ),
+)
+
+-- an answer to be sent gave none
+pub carried_unsent : {P : Type 0} (sends : Sends P) (receives : Receives P) (p : P) (old new : List SeatEntry) (me : NodeId) (e : NodeEvent) (to : NodeId) (a : NodeAnswer) → destination e ≡ Some to → gives_packet a ≡ false → new ≡ old ++ noted me e a ∷ [] → HasCarried sends receives p p old new
+carried_unsent sends receives p old new me e to a d none h = carried_still sends receives p old new (noted me e a) h (goes e to a d ∙ stays to a none)
+
+stopped_gives : (a : NodeAnswer) → is_stopped a ≡ true → gives_packet a ≡ false
+stopped_gives (answers.Reply reply) h = refl
+stopped_gives (answers.Taken taken) h = refl
+stopped_gives (answers.Sent (sents.Packet text)) h = absurd cc
+stopped_gives (answers.Sent sents.Nothing) h = refl
+stopped_gives (answers.Sent (sents.Refused why)) h = refl
+stopped_gives (answers.Ticked ticked) h = refl
+stopped_gives (answers.Halted halted) h = refl
+
+-- an event to be sent was answered Stopped
+pub carried_stopped : {P : Type 0} (sends : Sends P) (receives : Receives P) (p : P) (old new : List SeatEntry) (me : NodeId) (e : NodeEvent) (to : NodeId) → destination e ≡ Some to → Gains (IsStopped me e) old new → HasCarried sends receives p p old new
+carried_stopped sends receives p old new me e to d g =
+    carried_unsent sends receives p old new me e to g.2.0 d (stopped_gives g.2.0 g.2.1) (g.1 ∙ ap (λ es. old ++ es) g.2.2)
+
+-- bytes came, and the node had stopped
+pub carried_in_stopped : {P : Type 0} (sends : Sends P) (receives : Receives P) (p q : P) (old new : List SeatEntry) (me : NodeId) (bytes : Vec ℕ Global) → receives p (Ok (Some bytes)) q → Gains (IsStopped me (events.Packet bytes.items)) old new → HasCarried sends receives p q old new
+carried_in_stopped sends receives p q old new me bytes r g = carried_in sends receives p q old new me bytes g.2.0 r (g.1 ∙ ap (λ es. old ++ es) g.2.2)

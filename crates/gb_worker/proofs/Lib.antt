@@ -1,0 +1,5 @@
+pub mod GainLemmas
+pub mod TickLemmas
+pub mod TurnLemmas
+pub mod CarryLemmas
+pub mod AskLemmas
