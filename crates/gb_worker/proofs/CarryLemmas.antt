@@ -1,5 +1,5 @@
 -- What travels at a port, call by call.
-use Rattle.std.proofs.Common.{◌≡◌, ℕ, Bool, true, false, List, [], ◌∷◌, ◌++◌, refl, sym, ap, ap₂, ◌∙◌, append_assoc, Option, Some, None, Result, Ok, Err, subst}
+use Rattle.std.proofs.Common.{◌≡◌, ◌≢◌, ◌⊎◌, inl, inr, ℕ, Bool, true, false, List, [], ◌∷◌, ◌++◌, refl, sym, ap, ap₂, ◌∙◌, append_assoc, Option, Some, None, Result, Ok, Err, subst}
 use Rattle.std.specs.declared.vec.Vec.{Vec}
 use Rattle.std.specs.declared.alloc.Global.{Global}
 use Rattle.gb_types.specs.declared.node.NodeId.{NodeId}
@@ -13,6 +13,8 @@ use Rattle.gb_host.specs.declared.entry.SeatEntry.{SeatEntry}
 use Rattle.gb_worker.specs.Answered.{is_stopped, gives_packet, destination}
 use Rattle.gb_worker.specs.Carried.{Traffic, PortCall, Received, Handed, Came, Went, AreCalls, travels_in, travels, goes_to, traffic_of, traffic, GivesNothing, HasCarried}
 use Rattle.gb_worker.specs.Gained.{Gains, noted, IsStopped}
+use Rattle.gb_worker.specs.declared.end.Why.{Why}
+use Rattle.gb_worker.specs.declared.end.Why.TheVariants.{Stopped, Fault}
 use Rattle.gb_worker.proofs.GainLemmas.{append_nil, joined}
 
 abbrev Sends : Type 0 → Type 1
@@ -39,26 +41,26 @@ pub carried_more : {P : Type 0} (sends : Sends P) (receives : Receives P) (p q r
 carried_more sends receives p q r old mid new g h = (
   g.0 ++ h.0,
   joined old mid new g.0 h.0 g.1 h.1,
-  g.2.0 ++ h.2.0,
-  calls_append sends receives p q r g.2.0 h.2.0 g.2.1 h.2.1,
-  travels_append g.2.0 h.2.0 ∙ (ap₂ (λ xs ys. xs ++ ys) g.2.2 h.2.2 ∙ sym (traffic_append g.0 h.0)),
+  g.2 ++ h.2,
+  calls_append sends receives p q r g.2 h.2 g.3 h.3,
+  travels_append g.2 h.2 ∙ (ap₂ (λ xs ys. xs ++ ys) g.4 h.4 ∙ sym (traffic_append g.0 h.0)),
 )
 
 -- nothing was called
 pub carried_none : {P : Type 0} (sends : Sends P) (receives : Receives P) (p : P) (list : List SeatEntry) → HasCarried sends receives p p list list
-carried_none sends receives p list = ([], sym (append_nil list), ([], refl, refl))
+carried_none sends receives p list = ([], sym (append_nil list), [], refl, refl)
 
 -- an answer gave no packet
 pub carried_still : {P : Type 0} (sends : Sends P) (receives : Receives P) (p : P) (old new : List SeatEntry) (x : SeatEntry) → new ≡ old ++ x ∷ [] → traffic_of x.event x.answer ≡ [] → HasCarried sends receives p p old new
-carried_still sends receives p old new x h none = (x ∷ [], h, ([], refl, sym (append_nil (traffic_of x.event x.answer) ∙ none)))
+carried_still sends receives p old new x h none = (x ∷ [], h, [], refl, sym (append_nil (traffic_of x.event x.answer) ∙ none))
 
 -- nothing came
 pub carried_nothing : {P : Type 0} (sends : Sends P) (receives : Receives P) (p q : P) (list : List SeatEntry) → GivesNothing receives p q → HasCarried sends receives p q list list
-carried_nothing sends receives p q list g = ([], sym (append_nil list), (Received g.0 ∷ [], (q, g.1, refl), append_nil (travels_in (Received g.0)) ∙ g.2))
+carried_nothing sends receives p q list g = ([], sym (append_nil list), Received g.0 ∷ [], (q, g.1, refl), append_nil (travels_in (Received g.0)) ∙ g.2)
 
 -- bytes came
-pub carried_in : {P : Type 0} (sends : Sends P) (receives : Receives P) (p q : P) (old new : List SeatEntry) (me : NodeId) (bytes : Vec ℕ Global) (a : NodeAnswer) → receives p (Ok (Some bytes)) q → new ≡ old ++ noted me (events.Packet bytes.items) a ∷ [] → HasCarried sends receives p q old new
-carried_in sends receives p q old new me bytes a r h = (noted me (events.Packet bytes.items) a ∷ [], h, (Received (Ok (Some bytes)) ∷ [], (q, r, refl), refl))
+pub carried_in : {P : Type 0} (sends : Sends P) (receives : Receives P) (p q : P) (old new : List SeatEntry) (me : NodeId) (bytes : Vec ℕ Global) (text : List ℕ) (a : NodeAnswer) → receives p (Ok (Some bytes)) q → text ≡ bytes.items → new ≡ old ++ noted me (events.Packet text) a ∷ [] → HasCarried sends receives p q old new
+carried_in sends receives p q old new me bytes text a r same h = (noted me (events.Packet text) a ∷ [], h, Received (Ok (Some bytes)) ∷ [], (q, r, refl), ap (λ xs. Came xs ∷ []) (sym same))
 
 -- to where an event sends
 goes : (e : NodeEvent) (to : NodeId) (a : NodeAnswer) → destination e ≡ Some to → traffic_of e a ≡ goes_to to a
@@ -80,16 +82,14 @@ stays to (answers.Ticked ticked) h = refl
 stays to (answers.Halted halted) h = refl
 
 -- an answer gave a packet, which was sent
-pub carried_out : {P : Type 0} (sends : Sends P) (receives : Receives P) (p q : P) (old new : List SeatEntry) (me : NodeId) (e : NodeEvent) (to : NodeId) (a : NodeAnswer) (text : List ℕ) (r : Result Bool PortFault)
-    → destination e ≡ Some to → a ≡ answers.Sent (sents.Packet text) → sends p to text r q → new ≡ old ++ noted me e a ∷ [] → HasCarried sends receives p q old new
-carried_out sends receives p q old new me e to a text r d is s h = (
+pub carried_out : {P : Type 0} (sends : Sends P) (receives : Receives P) (p q : P) (old new : List SeatEntry) (me : NodeId) (e : NodeEvent) (to : NodeId) (a : NodeAnswer) (text bytes : List ℕ) (r : Result Bool PortFault)
+    → destination e ≡ Some to → a ≡ answers.Sent (sents.Packet text) → bytes ≡ text → sends p to bytes r q → new ≡ old ++ noted me e a ∷ [] → HasCarried sends receives p q old new
+carried_out sends receives p q old new me e to a text bytes r d is same s h = (
   noted me e a ∷ [],
   h,
-  (
-    Handed to text r ∷ [],
-    (q, s, refl),
-    sym (append_nil (traffic_of e a) ∙ (goes e to a d ∙ ap (goes_to to) is)),
-  ),
+  Handed to bytes r ∷ [],
+  (q, s, refl),
+  ap (λ xs. Went to xs ∷ []) same ∙ sym (append_nil (traffic_of e a) ∙ (goes e to a d ∙ ap (goes_to to) is)),
 )
 
 -- an answer to be sent gave none
@@ -111,5 +111,17 @@ carried_stopped sends receives p old new me e to d g =
     carried_unsent sends receives p old new me e to g.2.0 d (stopped_gives g.2.0 g.2.1) (g.1 ∙ ap (λ es. old ++ es) g.2.2)
 
 -- bytes came, and the node had stopped
-pub carried_in_stopped : {P : Type 0} (sends : Sends P) (receives : Receives P) (p q : P) (old new : List SeatEntry) (me : NodeId) (bytes : Vec ℕ Global) → receives p (Ok (Some bytes)) q → Gains (IsStopped me (events.Packet bytes.items)) old new → HasCarried sends receives p q old new
-carried_in_stopped sends receives p q old new me bytes r g = carried_in sends receives p q old new me bytes g.2.0 r (g.1 ∙ ap (λ es. old ++ es) g.2.2)
+pub carried_in_stopped : {P : Type 0} (sends : Sends P) (receives : Receives P) (p q : P) (old new : List SeatEntry) (me : NodeId) (bytes : Vec ℕ Global) (text : List ℕ) → receives p (Ok (Some bytes)) q → text ≡ bytes.items → Gains (IsStopped me (events.Packet text)) old new → HasCarried sends receives p q old new
+carried_in_stopped sends receives p q old new me bytes text r same g = carried_in sends receives p q old new me bytes text g.2.0 r same (g.1 ∙ ap (λ es. old ++ es) g.2.2)
+
+-- why a call ended a worker
+pub by_why : (A : Type 0) (why : Why) → (why ≡ Stopped) ⊎ (why ≡ Fault) → (why ≡ Stopped → A) → (why ≡ Fault → A) → A
+by_why A why (inl e) stopped fault = stopped e
+by_why A why (inr e) stopped fault = fault e
+
+-- what went well was no fault
+pub ok_is_no_fault : {A : Type 0} (x : A) → ◌≢◌ {A = Result A Why} (Ok x) (Err Fault)
+ok_is_no_fault x = λ e. absurd cc
+
+pub err_is_no_fault : {A : Type 0} (why : Why) → why ≢ Fault → ◌≢◌ {A = Result A Why} (Err why) (Err Fault)
+err_is_no_fault why not = λ e. not cc

@@ -72,8 +72,7 @@ pub sent_whole : (r : ℕ) (me to : NodeId) (is_heard is_given : Bool) (old mid 
     → Gains (SendsTo r me to.number is_heard) old new
 sent_whole r me to is_heard is_given old mid late new g h k =
     let P : Bool → Type 0 = λ t. IfDue t (IsFor (λ n. Again n 0) me to.number) h.0 in
-    let Q : List SeatEntry → Type 0 = λ xs. SendsTo r me to.number is_heard (xs ++ (h.0 ++ k.0)) in
-    (
+    let Q : List SeatEntry → Type 0 = λ xs. SendsTo r me to.number is_heard (xs ++ (h.0 ++ k.0)) in (
       g.0 ++ (h.0 ++ k.0),
       joined old mid new g.0 (h.0 ++ k.0) g.1 (joined mid late new h.0 k.0 h.1 k.1),
       subst Q (sym g.2.2) (sends r me to is_heard g.2.0 h.0 k.0
@@ -116,8 +115,7 @@ part_again r me to is_heard is_given old mid new g due h =
     let y = due_begun (λ n. Again n 0) me to (is_again_due r g.2.0) h.0 (sym (again_after r g.2.0 is_given g.2.1) ∙ due) h.2 in
     let z = some_due Ack me to (is_ack_due r is_heard) in
     let P : List SeatEntry → Type 0 = λ xs. IsPartTo r me to.number is_heard (xs ++ h.0) in
-    let Q : List SeatEntry → Type 0 = λ xs. SendsTo r me to.number is_heard (noted me (Pack to) g.2.0 ∷ xs) in
-    (
+    let Q : List SeatEntry → Type 0 = λ xs. SendsTo r me to.number is_heard (noted me (Pack to) g.2.0 ∷ xs) in (
       g.0 ++ h.0,
       joined old mid new g.0 h.0 g.1 h.1,
       subst P (sym g.2.2) (y.0 ++ z.0, subst Q (append_assoc h.0 y.0 z.0) (sends r me to is_heard g.2.0 (h.0 ++ y.0) z.0 y.1 z.1)),
@@ -131,8 +129,7 @@ part_ack r me to is_heard is_given old mid late new g h due k =
     let T : Bool → Type 0 = λ t. IfDue t (IsFor (λ n. Again n 0) me to.number) h.0 in
     let y = subst T (again_after r g.2.0 is_given g.2.1) (for_due (λ n. Again n 0) me to (not is_given && (r % AGAIN == 0)) h.0 h.2) in
     let P : List SeatEntry → Type 0 = λ xs. IsPartTo r me to.number is_heard (xs ++ (h.0 ++ k.0)) in
-    let Q : List SeatEntry → Type 0 = λ xs. SendsTo r me to.number is_heard (noted me (Pack to) g.2.0 ∷ xs) in
-    (
+    let Q : List SeatEntry → Type 0 = λ xs. SendsTo r me to.number is_heard (noted me (Pack to) g.2.0 ∷ xs) in (
       g.0 ++ (h.0 ++ k.0),
       joined old mid new g.0 (h.0 ++ k.0) g.1 (joined mid late new h.0 k.0 h.1 k.1),
       subst P (sym g.2.2) (z.0, subst Q (sym (append_assoc h.0 k.0 z.0)) (sends r me to is_heard g.2.0 h.0 (k.0 ++ z.0) y z.1)),
@@ -262,8 +259,7 @@ turn_whole r me nodes heard old mid new g h =
 
 pub turn_part : (r : ℕ) (me : NodeId) (nodes : ℕ) (heard : set.FinSet nat_cmp) (old mid new : List SeatEntry) → Gains (HasReceived me PACKETS heard) old mid → Gains (IsPartAll r me heard nodes) mid new → Gains (IsPart r me nodes) old new
 turn_part r me nodes heard old mid new g h =
-    let P : set.FinSet nat_cmp → Type 0 = λ s. SendsAll r me s nodes (h.0 ++ h.2.0) in
-    (
+    let P : set.FinSet nat_cmp → Type 0 = λ s. SendsAll r me s nodes (h.0 ++ h.2.0) in (
       g.0 ++ h.0,
       joined old mid new g.0 h.0 g.1 h.1,
       (h.2.0, record { received = g.0; sent = h.0 ++ h.2.0; all = append_assoc g.0 h.0 h.2.0; receives = g.2.0; sends = subst P g.2.1 h.2.1 }),

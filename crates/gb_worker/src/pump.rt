@@ -4,6 +4,7 @@ ghost use Rattle.std.specs.FinSet as set;
 ghost use Rattle.std.specs.declared.vec.Vec.{Vec as Bytes};
 ghost use Rattle.std.specs.declared.alloc.Global.{Global as TheGlobal};
 ghost use Rattle.gb_types.specs.declared.limits.TheConstants.{NODES};
+ghost use Rattle.gb_node.specs.declared.answer.NodeAnswer.{NodeAnswer as AnswerValue};
 ghost use Rattle.gb_node.specs.declared.answer.NodeAnswer.TheVariants.{Sent as WasSent};
 ghost use Rattle.gb_node.specs.declared.answer.Sent.TheVariants.{Packet as SentPacket};
 ghost use Rattle.gb_port.specs.declared.port.PortFault.{PortFault as TheFault};
@@ -51,10 +52,10 @@ struct Turn {
 }
 
 // Adds the node whose good packet was taken, if one was.
-fn hear(heard: &mut NodeSet, answer: &NodeAnswer)
-    ensures { heard.new ≡ and_heard heard.old answer.now }
+fn hear(heard: &mut NodeSet, answer: Option<NodeAnswer>)
+    ensures { (a : AnswerValue) → answer ≡ Some a → heard.new ≡ and_heard heard.old a }
 {
-    if let NodeAnswer::Taken(PacketAnswer::Good(good)) = answer {
+    if let Some(NodeAnswer::Taken(PacketAnswer::Good(good))) = answer {
         heard.insert(good.from);
     }
 }
@@ -105,11 +106,11 @@ fn receive<L: Tapes, M: Ledger, H: Wait, P: Port>(
             return Ok(heard);
         };
         let event = NodeEvent::Packet(PacketText::from(bytes));
-        match make(rt, host, seat, me, event, refused) {
-            Ok(Some(answer)) => hear(&mut heard, &answer),
-            Ok(None) => {}
+        let answer = match make(rt, host, seat, me, event, refused) {
+            Ok(answer) => answer,
             Err(why) => return Err(why),
-        }
+        };
+        hear(&mut heard, answer);
     }
     Ok(heard)
 }
@@ -166,6 +167,7 @@ fn send_due<L: Tapes, M: Ledger, H: Wait, P: Port>(
     ensures number { seat.new.number ≡ seat.old.number }
 {
     if !is_due {
+        drop(event);
         return Ok(());
     }
     match send_one(rt, host, seat, me, event, to, port, refused) {
