@@ -61,8 +61,9 @@ pub fn sessions<
     let (end, ends) = thread::join(
         rt,
         || hold(rt, alloc, host, seat, stream, gate),
-        ||
-            requires { IsSync H.row }
+        || -> Result<Vec<Ending>, OutOfMemory>
+            requires { IsSync H.row × (length others.now ≡ vec_len streams) × (vec_len gates ≡ vec_len streams) }
+            ensures { IfOk result (λ ends. vec_len ends ≡ vec_len streams) }
         { sessions(rt, alloc, host, others, streams, gates) },
     );
     let mut ends = ends?;
