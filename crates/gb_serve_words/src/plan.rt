@@ -1,0 +1,16 @@
+//! What a server is told to do.
+
+/// What the words of a command line tell a server to do.
+#[derive(Clone, Copy, Debug, PartialEq, Eq)]
+pub struct ServePlan {
+    /// How many nodes, 1 to 16.
+    pub nodes: u8,
+    /// The UDP port of node 0, 1,024 to 65,000. Node I's is I above it, and the TCP port of its sessions 64 above that.
+    pub base_port: u16,
+    /// How many ticks without a good packet make a node noticed, 2 to 1,000.
+    pub silence: u16,
+    /// How many connections each node serves, one after the other, 0 to 1,000. 0: it serves them for ever.
+    pub sessions: u16,
+    /// Whether the tapes of the nodes are kept and merged at the end.
+    pub tape: bool,
+}

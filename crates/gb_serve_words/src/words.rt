@@ -1,0 +1,114 @@
+//! The words of the server's command line.
+ghost use Rattle.std.specs.Prelude.{◌≡◌, ◌≢◌, IfOk, map, [], true, false};
+ghost use Rattle.clap.specs.Words.{app_of, found_of, kind_of, matches_of, rows_of, rule_of, takes, fault_of};
+ghost use Rattle.gb_serve_words.specs.Words.{serve_app, number_rule, IsGiven, IsPlanOf, IsWithin};
+
+use crate::fault::WordFault;
+use crate::plan::ServePlan;
+use clap::builder::ValueParser;
+use clap::error::ErrorKind;
+use clap::{Arg, ArgAction, ArgMatches, Command, Error};
+use std::alloc::{AllocError, Global};
+
+/// The silence of a cluster whose words give none.
+pub const SILENCE: u16 = 50;
+
+// Definitions cite this value.
+const _: () = prove!(SILENCE == 50);
+
+// An option with a number from `least` to `most`.
+fn number_arg<'a>(alloc: Global, name: &'static str, least: u16, most: u16) -> Arg<'a>
+    ensures rule { rule_of result ≡ number_rule name.entry.now least most false }
+    ensures local { result.global ≡ false }
+{
+    Arg::new(alloc, name)
+        .long(name)
+        .action(ArgAction::Set)
+        .value_parser(ValueParser::Signed(i64::from(least), i64::from(most)))
+}
+
+/// The command line.
+pub fn command<'a>(alloc: Global) -> Result<Command<'a>, AllocError>
+    ensures { IfOk result (λ made. app_of made ≡ serve_app) }
+{
+    let nodes = number_arg(alloc, "nodes", 1, 16)
+        .required(true)
+        .value_name("N")
+        .help("how many nodes the cluster has");
+    let base_port = number_arg(alloc, "base-port", 1_024, 65_000)
+        .required(true)
+        .value_name("P")
+        .help("node I's UDP port is P + I, the TCP port of its sessions P + 64 + I, on 127.0.0.1");
+    let silence = number_arg(alloc, "silence", 2, 1_000).value_name("S").help(
+        "how many ticks without a packet make a node noticed as crashed; 50 if not given",
+    );
+    let sessions = number_arg(alloc, "sessions", 0, 1_000).value_name("K").help(
+        "how many connections each node serves, one after the other; 0, or not given: for ever",
+    );
+    let bare = Command::new(alloc, "gb_serve")
+        .about("Serves groups that broadcast messages among their members")
+        .after_help(AFTER);
+    let with_nodes = bare.arg(nodes)?;
+    let with_port = with_nodes.arg(base_port)?;
+    let with_silence = with_port.arg(silence)?;
+    with_silence.arg(sessions)
+}
+
+/// What the help says behind the options.
+static AFTER: &str =
+    "Standard input gives two lines of 64 hexadecimal digits each: the cluster's key and the administrator's key.\n\n\
+Exit status: 0 when all connections were served, 1 for a fault, 2 for words that are refused.";
+
+// What a parse that failed comes to.
+fn fault_from(error: &Error) -> WordFault
+    ensures refused { result ≡ WordFault.Refused → kind_of error.now ≢ ErrorKind.OutOfMemory }
+    ensures memory { result ≡ WordFault.OutOfMemory → kind_of error.now ≡ ErrorKind.OutOfMemory }
+{
+    match error.kind() {
+        ErrorKind::OutOfMemory => WordFault::OutOfMemory,
+        _ => WordFault::Refused,
+    }
+}
+
+// The plan of words that were taken.
+fn plan_of(matches: &ArgMatches<'_>) -> ServePlan
+    requires { IsGiven (rows_of (found_of matches.now)) }
+    ensures read { IsPlanOf (rows_of (found_of matches.now)) result }
+    ensures within { IsWithin result }
+{
+    let nodes = matches.get_one::<u8>("nodes").unwrap();
+    let base_port = matches.get_one::<u16>("base-port").unwrap();
+    let silence = matches.get_one::<u16>("silence");
+    let sessions = matches.get_one::<u16>("sessions");
+    ServePlan {
+        nodes,
+        base_port,
+        silence: silence.unwrap_or(SILENCE),
+        sessions: sessions.unwrap_or(0),
+        tape: false,
+    }
+}
+
+/// What the words of a command line tell a server to do; the first word is the program's name. Refused: `clap` does not
+/// take the words.
+pub fn read_words<'a>(alloc: Global, words: &'a [&'a str]) -> Result<ServePlan, WordFault>
+    ensures given { IfOk result (λ plan. IsPlanOf (matches_of serve_app (map (λ word. word.now) words.entry.now)) plan) }
+    ensures within { IfOk result (λ plan. IsWithin plan) }
+    ensures accepted { IfOk result (λ _. fault_of serve_app (map (λ word. word.now) words.entry.now) ≡ []) }
+    ensures refused { result ≡ Err WordFault.Refused → fault_of serve_app (map (λ word. word.now) words.entry.now) ≢ [] }
+    ensures taken { takes serve_app (map (λ word. word.now) words.entry.now) ≡ true → result ≢ Err WordFault.Refused }
+{
+    let command = command(alloc)?;
+    match command.try_get_matches_from(words) {
+        Ok(matches) => Ok(plan_of(&matches)),
+        Err(error) => Err(fault_from(&error)),
+    }
+}
+
+/// What `clap` says of words that are refused, and of words that ask for help; nothing of words that are taken.
+pub fn refusal_text(alloc: Global, words: &[&str]) -> Result<String, AllocError> {
+    match command(alloc)?.try_get_matches_from(words) {
+        Ok(_) => Ok(String::new(alloc)),
+        Err(error) => format!(in alloc; "{error}"),
+    }
+}
