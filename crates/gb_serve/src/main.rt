@@ -1,0 +1,59 @@
+//! Serves groups on sockets of this machine: reads its keys on standard input, and writes what it serves and how it ended. Words
+//! that are refused are explained on standard error.
+#![tactic(auto)]
+
+use gb_serve_words::words::refusal_text;
+use gb_server::fault::ServeFault;
+use gb_server::serve_main::serve_main;
+use gb_server::told::{line_of, status_of, tell};
+use std::alloc::{AllocError, Global};
+use std::io;
+use std::io::Write;
+use std::process::ExitCode;
+
+// The words of the command line; none where they cannot be read.
+fn words_of(rt: &HostRuntime, alloc: Global) -> Result<Vec<String>, AllocError> {
+    match std::env::args(rt) {
+        Ok(words) => words.collect(alloc),
+        Err(_) => Ok(Vec::new(alloc)),
+    }
+}
+
+// The same, borrowed.
+fn texts_of(alloc: Global, words: &[String]) -> Result<Vec<&str>, AllocError> {
+    let mut texts: Vec<&str> = Vec::new(alloc);
+    for word in words {
+        texts.push(word.as_str())?;
+    }
+    Ok(texts)
+}
+
+// Says on standard error why words are refused.
+fn explain(rt: &HostRuntime, alloc: Global, words: &[&str]) {
+    if let Ok(text) = refusal_text(alloc, words) {
+        let _ = write!(rt.stderr(), "{text}");
+    }
+}
+
+// Tells that there is no memory for the words. The exit status.
+fn give_up(rt: &HostRuntime) -> ExitCode {
+    let outcome = Err(ServeFault::OutOfMemory);
+    let _ = tell(&mut io::writer(rt), line_of(outcome));
+    ExitCode::from(status_of(outcome))
+}
+
+/// Status 0: all connections were served; 1: a fault; 2: refused words.
+fn main(rt: HostRuntime) -> ExitCode {
+    let alloc = rt.alloc();
+    let Ok(strings) = words_of(&rt, alloc) else {
+        return give_up(&rt);
+    };
+    let Ok(words) = texts_of(alloc, &strings) else {
+        return give_up(&rt);
+    };
+    let status = serve_main(&rt, alloc, &words, &mut rt.reader(), &mut io::writer(&rt));
+    if status == 2 {
+        explain(&rt, alloc, &words);
+    }
+    ExitCode::from(status)
+}

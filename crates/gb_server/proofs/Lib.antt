@@ -1,0 +1,2 @@
+mod KeyLemmas
+mod ToldLemmas

@@ -1,0 +1,147 @@
+//! The server from its words to its exit status.
+ghost use Rattle.std.specs.Prelude.{◌≡◌, ◌≢◌, ◌≤◌, ◌+◌, ◌*◌, [], true, Err, OnOk, codes, map};
+ghost use Rattle.std.specs.Io.KnownBytes.{Appends};
+ghost use Rattle.clap.specs.Words.{fault_of, takes};
+ghost use Rattle.gb_serve_words.specs.Words.{IsWithin, serve_app};
+ghost use Rattle.gb_server.specs.Told.{HasServed, lined, serving_line};
+ghost use Rattle.gb_host.specs.Plans.{IsPlan};
+
+use crate::crew::hold;
+use crate::fault::ServeFault;
+use crate::keys::{Keys, read_keys};
+use crate::sockets::{Sockets, open_sockets};
+use crate::told::{line_of, serving_line, status_of, tell};
+use gb_host::close::close;
+use gb_host::host::Host;
+use gb_host::names::Tapes;
+use gb_host::plan::HostPlan;
+use gb_serve_words::plan::ServePlan;
+use gb_serve_words::words::read_words;
+use gb_types::plan::Plan;
+use std::alloc::Global;
+use std::io::{Read, Write};
+use std::marker::Brand;
+use std::net::{Net, TcpListener, TcpStream};
+use std::sync::Wait;
+use std::sync::ledger::{Blank, Ledger};
+use std::thread::Threads;
+use std::time::Clock;
+
+/// How many groups the tenants of a node may reserve in all.
+pub const PLACES: u16 = 1_024;
+
+// Definitions cite this value.
+const _: () = prove!(PLACES == 1_024);
+
+// The host of a plan.
+fn host_plan(plan: ServePlan, keys: Keys) -> HostPlan
+    ensures limits { IsWithin plan → IsPlan result }
+    ensures nodes { result.cluster.nodes ≡ plan.nodes }
+{
+    let (cluster_key, admin_key) = (keys.cluster, keys.admin);
+    let cluster = Plan {
+        nodes: plan.nodes,
+        silence: plan.silence,
+        places: PLACES,
+        cluster_key,
+        admin_key,
+    };
+    HostPlan {
+        cluster,
+        tape: plan.tape,
+    }
+}
+
+// Serves on sockets that are bound.
+fn serve_host<
+    L: Tapes + Send + Sync,
+    M: Ledger + Send + Sync,
+    H: Threads + Wait + Clock + Sync,
+    W: Write,
+>(
+    rt: &H,
+    alloc: Global,
+    plan: HostPlan,
+    serve: ServePlan,
+    sockets: Vec<Sockets>,
+    writer: &mut W,
+    tape_blank: Blank,
+    seat_blank: Blank,
+) -> Result<(), ServeFault>
+    requires plan { plan ≡ L.plan }
+    requires limits { IsPlan plan }
+    requires tape_blank { (tape_blank.name ≡ L.name) × (tape_blank.parts ≡ L.parts) × (tape_blank.parts ≡ plan.cluster.nodes + 1) }
+    requires seat_blank { (seat_blank.name ≡ M.name) × (seat_blank.parts ≡ M.parts) × (seat_blank.parts ≡ 2 * plan.cluster.nodes + 2) }
+    ensures told { OnOk result (Appends (W.contents writer.old) (W.contents writer.new) (serving_line serve.nodes serve.base_port)) }
+    ensures taken { result ≢ Err ServeFault.RefusedWords }
+{
+    let seats = 2 * u32::from(plan.cluster.nodes) + 1;
+    let (host, seats) = Host::<L, M>::open(alloc, plan, seats, tape_blank, seat_blank)?;
+    let line = serving_line(alloc, serve.nodes, serve.base_port)?;
+    if !tell(writer, &line) {
+        return Err(ServeFault::Write);
+    }
+    let seats = hold(rt, alloc, &host, seats, sockets, serve.sessions)?;
+    let _closed = close(host, seats)?;
+    Ok(())
+}
+
+// Serves by a plan, with keys.
+fn serve_plan<
+    H: Net<Listener = TcpListener, Stream = TcpStream> + Threads + Wait + Clock + Sync,
+    W: Write,
+>(rt: &H, alloc: Global, plan: ServePlan, keys: Keys, writer: &mut W) -> Result<(), ServeFault>
+    requires { IsWithin plan }
+    ensures told { OnOk result (Appends (W.contents writer.old) (W.contents writer.new) (serving_line plan.nodes plan.base_port)) }
+    ensures taken { result ≢ Err ServeFault.RefusedWords }
+{
+    let sockets = open_sockets(rt, alloc, plan.nodes, plan.base_port)?;
+    let nodes = u64::from(plan.nodes);
+    serve_host::<Brand, Brand, H, W>(
+        rt,
+        alloc,
+        host_plan(plan, keys),
+        plan,
+        sockets,
+        writer,
+        Blank::new(nodes + 1),
+        Blank::new(2 * nodes + 2),
+    )
+}
+
+// Serves by words, with the keys that the reader gives.
+fn serve<
+    H: Net<Listener = TcpListener, Stream = TcpStream> + Threads + Wait + Clock + Sync,
+    R: Read,
+    W: Write,
+>(rt: &H, alloc: Global, words: &[&str], reader: &mut R, writer: &mut W) -> Result<(), ServeFault>
+    ensures served { OnOk result (HasServed (map (λ word. word.now) words.now) (R.remaining reader.old) (R.remaining reader.new) (W.contents writer.old) (W.contents writer.new) []) }
+    ensures refused { result ≡ Err ServeFault.RefusedWords → (fault_of serve_app (map (λ word. word.now) words.now) ≢ []) × (reader.new ≡ reader.old) × (writer.new ≡ writer.old) }
+    ensures taken { takes serve_app (map (λ word. word.now) words.now) ≡ true → result ≢ Err ServeFault.RefusedWords }
+{
+    let plan = read_words(alloc, words)?;
+    let Some(keys) = read_keys(reader) else {
+        return Err(ServeFault::BadKeys);
+    };
+    serve_plan(rt, alloc, plan, keys, writer)
+}
+
+/// Serves by the words of a command line, of which the first is the program's name, with the keys that the reader gives, and
+/// writes what it serves and how it ended, a line each. The answer is the exit status: 0 when all connections were served, 2
+/// for refused words, 1 for all else. When it answers, its threads have ended and its sockets are closed.
+pub fn serve_main<
+    H: Net<Listener = TcpListener, Stream = TcpStream> + Threads + Wait + Clock + Sync,
+    R: Read,
+    W: Write,
+>(rt: &H, alloc: Global, words: &[&str], reader: &mut R, writer: &mut W) -> u8
+    ensures status { result ≤ 2 }
+    ensures served { result ≡ 0 → HasServed (map (λ word. word.now) words.now) (R.remaining reader.old) (R.remaining reader.new) (W.contents writer.old) (W.contents writer.new) (lined (codes "closed")) }
+    ensures refused { result ≡ 2 → (fault_of serve_app (map (λ word. word.now) words.now) ≢ []) × (reader.new ≡ reader.old) × Appends (W.contents writer.old) (W.contents writer.new) (lined (codes "refused words")) }
+    ensures taken { takes serve_app (map (λ word. word.now) words.now) ≡ true → result ≢ 2 }
+{
+    let outcome = serve(rt, alloc, words, reader, writer);
+    if outcome == Err(ServeFault::Write) || !tell(writer, line_of(outcome)) {
+        return 1;
+    }
+    status_of(outcome)
+}

@@ -1,0 +1,57 @@
+// What clients of a server do, as clients that are right and as ones that are not.
+use std::alloc::Global;
+use std::io::{Read, Write};
+use std::net::{Ipv4Addr, Net, Shutdown, SocketAddr, SocketAddrV4, TcpStream};
+use std::thread;
+use std::time::{Clock, Duration};
+
+/// A request of a group of a tenant that is not there, with its length.
+pub static OPEN: &[u8] =
+    b"\x00\x00\x00\x49open 0000000000000000000000000000000000000000000000000000000000000000 7 1";
+
+/// The reply to it.
+pub static DENIED: &[u8] = b"\x00\x00\x00\x10refused 1 Denied";
+
+/// The reply to what is no request.
+pub static MALFORMED: &[u8] = b"\x00\x00\x00\x14refused 14 Malformed";
+
+/// A port of this machine.
+pub fn address(port: u16) -> SocketAddr {
+    SocketAddr::V4(SocketAddrV4::new(Ipv4Addr::LOCALHOST, port))
+}
+
+// A connection to a port of this machine, as soon as somebody listens there; ten seconds are waited for that.
+fn connect<H: Net<Stream = TcpStream> + Clock>(rt: &H, port: u16) -> Option<TcpStream> {
+    for _ in 0..1_000 {
+        if let Ok(stream) = TcpStream::connect(rt, address(port)) {
+            return Some(stream);
+        }
+        thread::sleep(rt, Duration::from_millis(10));
+    }
+    None
+}
+
+/// What a server writes to a client that sends these bytes, sends no more, and reads to the end. None where it could not connect or read.
+pub fn told<H: Net<Stream = TcpStream> + Clock>(
+    rt: &H,
+    alloc: Global,
+    port: u16,
+    bytes: &[u8],
+) -> Option<Vec<u8>> {
+    let mut stream = connect(rt, port)?;
+    let _ = stream.set_read_timeout(Some(Duration::from_secs(10)));
+    stream.write_all(bytes).ok()?;
+    let _ = stream.shutdown(Shutdown::Write);
+    let mut text = Vec::new(alloc);
+    stream.read_to_end(&mut text).ok()?;
+    Some(text)
+}
+
+/// Sends these bytes and goes away at once. Whether it could connect.
+pub fn leaves<H: Net<Stream = TcpStream> + Clock>(rt: &H, port: u16, bytes: &[u8]) -> bool {
+    let Some(mut stream) = connect(rt, port) else {
+        return false;
+    };
+    let _ = stream.write_all(bytes);
+    true
+}

@@ -1,0 +1,100 @@
+//! Worked texts of keys, read in pieces and by readers that fail.
+use gb_server::keys::{Keys, read_keys};
+use std::io::{ErrorKind, Read};
+use std::test::Fail;
+use std::{cmp, io};
+
+/// Gives bytes by pieces of at most so many. Each other read is interrupted, and one at the end fails where `fails` is set.
+#[derive(Drop)]
+struct Pieces<'a> {
+    bytes: &'a [u8],
+    piece: usize,
+    fails: bool,
+    is_interrupted: bool,
+}
+
+impl Read for Pieces<'_> {
+    fn read(&mut self, buf: &mut [u8]) -> io::Result<usize> {
+        self.is_interrupted = !self.is_interrupted;
+        if self.is_interrupted {
+            return Err(ErrorKind::Interrupted.into());
+        }
+        let bytes = self.bytes;
+        if bytes.is_empty() && self.fails {
+            return Err(ErrorKind::Other.into());
+        }
+        let count = cmp::min(cmp::min(self.piece, bytes.len()), buf.len());
+        buf[..count].copy_from_slice(&bytes[..count]);
+        self.bytes = &bytes[count..];
+        Ok(count)
+    }
+}
+
+// Two keys in digits of both cases, and what is read behind them by somebody else.
+static TEXT: &[u8] =
+    b"1111111111111111111111111111111111111111111111111111111111111111\nabABcdCD22222222222222222222222222222222222222222222222222222222\nrest";
+
+// Whether the keys are those of the text.
+fn are_right(keys: Option<Keys>) -> bool {
+    let Some(keys) = keys else {
+        return false;
+    };
+    let mut admin = [0x22; 32];
+    admin[0] = 0xab;
+    admin[1] = 0xab;
+    admin[2] = 0xcd;
+    admin[3] = 0xcd;
+    keys.cluster == [0x11; 32] && keys.admin == admin
+}
+
+// The keys of the first bytes of the text, in pieces.
+fn keys_of(len: usize, piece: usize, fails: bool) -> bool {
+    let mut reader = Pieces {
+        bytes: TEXT.get(..len).unwrap_or(TEXT),
+        piece,
+        fails,
+        is_interrupted: false,
+    };
+    are_right(read_keys(&mut reader))
+}
+
+#[test]
+fn keys_come_in_pieces(rt: HostRuntime) {
+    let table = [
+        // Two whole lines, and what is behind them: no read is made at which the reader would fail.
+        (134, 1, true, true),
+        (134, 7, true, true),
+        (130, 200, true, true),
+        // The second line may lack its line feed, but then the end of the input shows that it is whole.
+        (129, 64, false, true),
+        (129, 64, true, false),
+        (128, 64, false, false),
+        (65, 64, false, false),
+        (0, 64, false, false),
+    ];
+    for (len, piece, fails, want) in table {
+        assert!(rt;
+            keys_of(len, piece, fails) == want,
+            "{len} bytes by {piece}"
+        );
+    }
+}
+
+#[test]
+fn other_texts_are_no_keys(rt: HostRuntime) -> Result<(), Fail> {
+    // A digit that is none, a line that is too long, a carriage return in front of the line feed.
+    for (place, byte) in [
+        (0, b'g'),
+        (63, b' '),
+        (64, b'1'),
+        (64, b'\r'),
+        (65, b'-'),
+        (128, b'\n'),
+        (129, b'2'),
+    ] {
+        let mut text = Vec::from_slice(rt.alloc(), &TEXT[..130])?;
+        text[place] = byte;
+        assert!(rt; read_keys(&mut text.as_slice()).is_none(), "byte {place}");
+    }
+    Ok(())
+}
