@@ -1,5 +1,5 @@
 // Days of a host of two nodes, from its opening to its end.
-ghost use Rattle.std.specs.Prelude.{◌≡◌, ◌+◌, ◌<◌, ◌^◌, vec_len};
+ghost use Rattle.std.specs.Prelude.{◌≡◌, ◌+◌, ◌<◌, ◌^◌, vec_len, IfOk};
 ghost use Rattle.gb_host.specs.Plans.{IsPlan};
 
 use crate::asking::prepare;
@@ -157,7 +157,9 @@ fn with_pumps<P: Drop>(
     ports: (P, P),
     third: Role<P>,
     fourth: Role<P>,
-) -> Result<Vec<Role<P>>, OutOfMemory> {
+) -> Result<Vec<Role<P>>, OutOfMemory>
+    ensures { IfOk result (λ roles. vec_len roles ≡ 4) }
+{
     let mut roles = Vec::with_capacity(alloc, 4)?;
     let (first, second) = ports;
     roles.push(Role::Pump(NodeId { number: 0 }, first))?;

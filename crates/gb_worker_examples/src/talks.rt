@@ -32,13 +32,13 @@ const SECOND: NodeId = NodeId { number: 1 };
 
 // Two clients ask at once, each at a node of its own, and the one with this number is held until the other is answered. How
 // many ended well.
-fn hold_both<L: Tapes + Send + Sync, M: Ledger + Send + Sync, R: Threads + Wait + Clock + Sync>(
-    rt: &R,
+fn hold_both<'a, L: Tapes + Send + Sync, M: Ledger + Send + Sync, R: Threads + Wait + Clock + Sync>(
+    rt: &'a R,
     alloc: Global,
     host: &Host<L, M>,
     seats: &mut [Seat<M>],
     held: usize,
-    denied: (&AtomicU64, &AtomicU64),
+    denied: (&'a AtomicU64, &'a AtomicU64),
 ) -> Result<usize, OutOfMemory> {
     let (first, second) = denied;
     let mut streams = Vec::with_capacity(alloc, 2)?;
@@ -88,12 +88,12 @@ struct Left {
 }
 
 // A host of two nodes, on which two clients ask at once.
-fn run_both<L: Tapes + Send + Sync, M: Ledger + Send + Sync, R: Threads + Wait + Clock + Sync>(
-    rt: &R,
+fn run_both<'a, L: Tapes + Send + Sync, M: Ledger + Send + Sync, R: Threads + Wait + Clock + Sync>(
+    rt: &'a R,
     alloc: Global,
     plan: HostPlan,
     held: usize,
-    denied: (&AtomicU64, &AtomicU64),
+    denied: (&'a AtomicU64, &'a AtomicU64),
     tape_blank: Blank,
     seat_blank: Blank,
 ) -> Result<Left, HostFault>
@@ -115,11 +115,11 @@ fn run_both<L: Tapes + Send + Sync, M: Ledger + Send + Sync, R: Threads + Wait +
     Ok(Left { finished, calls })
 }
 
-fn whole_both<R: Threads + Wait + Clock + Sync>(
-    rt: &R,
+fn whole_both<'a, R: Threads + Wait + Clock + Sync>(
+    rt: &'a R,
     alloc: Global,
     held: usize,
-    denied: (&AtomicU64, &AtomicU64),
+    denied: (&'a AtomicU64, &'a AtomicU64),
 ) -> Result<Left, HostFault> {
     run_both::<Brand, Brand, R>(
         rt,
