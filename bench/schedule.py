@@ -18,10 +18,10 @@ def setup():
     members = ','.join(str(node) for node in range(NODES))
     for node in range(NODES):
         for tenant in TENANTS:
-            yield f'tenant {node} {tenant} 4 1024 65536 1024'
+            yield f'tenant {node} {tenant} 4 1024 4096 1024'
             for group in GROUPS:
                 kind = KINDS[(4 * tenant + group) % len(KINDS)]
-                yield f'make {node} {tenant} {group} {kind} {members} 1024 65536 1024'
+                yield f'make {node} {tenant} {group} {kind} {members} 1024 4096 1024'
                 yield f'open {node} {tenant} {group}'
 
 

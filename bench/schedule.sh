@@ -1,6 +1,6 @@
 #!/usr/bin/env bash
 # Prints how many lines a second gb_sim answers, on a schedule of 10,000 and on one of 100,000 lines of says,
-# packs, arrives and fetches on a cluster of 4 nodes, and the ratio of the two times.
+# packs, arrives, acknowledgements and fetches of 16 groups of 4 tenants on a cluster of 4 nodes, and the ratio of the two times.
 set -eu
 top=$(cd "$(dirname "$0")/.." && pwd)
 work=$top/bench/out/schedule
