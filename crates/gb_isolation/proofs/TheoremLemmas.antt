@@ -36,6 +36,7 @@ isolated pasts plan run v comes g alike = record {
       let put : items_of g (frames_to plan.cluster_key b.number (past_at a run)) ++ waiting_in (group_at v g a) b.number ≡ (alone_in plan g run a.number).put b.number =
       ap (λ o. items_of g (frames_to plan.cluster_key b.number (past_at a run)) ++ waiting_in o b.number) kept ∙ sym (fits.put b.number in_b) in
       λ i. record { replies = sym fits.replies i; log = log i; put = put i };
+  carried = λ a b in_a in_b. (alike.fits a in_a).taken b.number in_b;
 }
 
 pub groups_isolated : PastsSay → Laws → GroupsAreIsolated

@@ -1,5 +1,5 @@
 -- That a group in a run is what it is alone.
-use Rattle.std.specs.Prelude.{ℕ, ◌≡◌, ◌<◌, ◌++◌, ◌&&◌, not, Bool, true, false, List, [], ◌∷◌, Option, Some, None}
+use Rattle.std.specs.Prelude.{ℕ, ◌≡◌, ◌<◌, ◌++◌, ◌&&◌, not, Bool, true, false, List, [], ◌∷◌, length, Option, Some, None}
 use Rattle.gb_types.specs.declared.address.Addr.{Addr}
 use Rattle.gb_types.specs.declared.entry.Entry.{Entry}
 use Rattle.gb_types.specs.declared.node.NodeId.{NodeId}
@@ -62,6 +62,8 @@ alone_in plan g run = alone plan.nodes g.group (project plan g run)
 pub record IsIsolated (plan : NetworkPlan) (run : List Did) (v : NetworkValue) (g : Addr) : Type 0 where
   pub legal : IsLegal plan.nodes g.group (project plan g run)
   pub same : (a b : NodeId) → a.number < plan.nodes → b.number < plan.nodes → seen_in plan run v g a b ≡ seen_alone (alone_in plan g run) a.number b.number
+  -- and as many items are carried
+  pub carried : (a b : NodeId) → a.number < plan.nodes → b.number < plan.nodes → (alone_in plan g run a.number).taken b.number ≡ length (items_of g (frames_to plan.cluster_key b.number (past_at a run)))
 
 -- so is each group of every run, of which no request was refused for want of memory
 abbrev pub GroupsAreIsolated : Type 0

@@ -72,7 +72,7 @@ no_noise plan nodes packets a i event old place within read is =
 
 -- Runs.
 
-get_contains : (packets : List Posted) (k : ℕ) (p : Posted) → slice_get packets k ≡ Some p → Contains packets p
+pub get_contains : (packets : List Posted) (k : ℕ) (p : Posted) → slice_get packets k ≡ Some p → Contains packets p
 get_contains [] k p e = absurd (cc)
 get_contains (q ∷ packets) zero p e = (0, omega arith, let same : q ≡ p = cc in same)
 get_contains (q ∷ packets) (suc k) p e = let rest = get_contains packets k p e in (suc rest.0, let l = rest.1 in omega (arith, l), rest.2)

@@ -178,6 +178,13 @@ impl Network {
         self.packets.as_slice()
     }
 
+    /// Every packet that was sent, in order, with no copy.
+    pub fn into_packets(self) -> Vec<Posted>
+        ensures { result.items ≡ self.packets }
+    {
+        self.packets
+    }
+
     /// One event. `Err` says that the network itself had no memory for one more packet, and nothing has changed; a
     /// node's want of memory is an answer.
     pub fn step(&mut self, event: &Event) -> Result<Answer, OutOfMemory>

@@ -1,0 +1,37 @@
+-- What happened in a run, from its front.
+use Rattle.std.proofs.Common.{◌≡◌, ℕ, zero, suc, ◌+◌, ◌<◌, List, [], ◌∷◌, ◌++◌, length, take, get_or, ◌∙◌, ap, sym, refl, arith, add-one, append_assoc}
+use Rattle.std.specs.Prelude.{min}
+use Rattle.std.proofs.lemmas.List.{append-nil}
+use Rattle.gb_network.specs.declared.answer.Answer.{Answer}
+use Rattle.gb_network.specs.declared.event.Event.{Event}
+use Rattle.gb_network.specs.declared.posted.Posted.{Posted}
+use Rattle.gb_trace.specs.Trace.{did_in, all_did}
+
+deeds_more : (ps : List Posted) (i : ℕ) (es : List Event) (rs : List Answer) (e : Event) (a : Answer) → i < length es → i < length rs
+    → all_did ps (take (suc i) es) (take (suc i) rs) ≡ all_did ps (take i es) (take i rs) ++ did_in ps (get_or es i e) (get_or rs i a)
+unfolding all_did
+deeds_more ps i [] rs e a lt ls = absurd (omega arith)
+deeds_more ps i (x ∷ es) [] e a lt ls = absurd (omega arith)
+deeds_more ps zero (x ∷ es) (y ∷ rs) e a lt ls = append-nil (did_in ps x y)
+deeds_more ps (suc i) (x ∷ es) (y ∷ rs) e a lt ls = ap (λ ds. did_in ps x y ++ ds) (deeds_more ps i es rs e a (omega arith) (omega arith)) ∙ sym (append_assoc (did_in ps x y) (all_did ps (take i es) (take i rs)) (did_in ps (get_or es i e) (get_or rs i a)))
+
+-- one event more
+pub newest_deed : (ps : List Posted) (es : List Event) (rs : List Answer) (i : ℕ) (e : Event) (a : Answer) → i < length es → i < length rs → e ≡ get_or es i e → a ≡ get_or rs i a
+    → all_did ps (take (i + 1) es) (take (i + 1) rs) ≡ all_did ps (take i es) (take i rs) ++ did_in ps e a
+newest_deed ps es rs i e a lt ls is it =
+    rw add-one (deeds_more ps i es rs e a lt ls)
+    ∙ (ap (λ (t : Event). all_did ps (take i es) (take i rs) ++ did_in ps t (get_or rs i a)) (sym is) ∙ ap (λ (t : Answer). all_did ps (take i es) (take i rs) ++ did_in ps e t) (sym it))
+
+pub no_deeds : (ps : List Posted) → all_did ps [] [] ≡ []
+unfolding all_did
+no_deeds ps = refl
+
+-- all of them
+pub all_deeds : (ps : List Posted) (n : ℕ) (es : List Event) (rs : List Answer) → n ≡ min (length es) (length rs) → all_did ps (take n es) (take n rs) ≡ all_did ps es rs
+unfolding all_did
+all_deeds ps zero [] rs is = refl
+all_deeds ps zero (x ∷ es) [] is = refl
+all_deeds ps zero (x ∷ es) (y ∷ rs) is = absurd (omega arith)
+all_deeds ps (suc n) [] rs is = refl
+all_deeds ps (suc n) (x ∷ es) [] is = refl
+all_deeds ps (suc n) (x ∷ es) (y ∷ rs) is = ap (λ ds. did_in ps x y ++ ds) (all_deeds ps n es rs (omega arith))

@@ -1,0 +1,26 @@
+-- Frames and a group's items in them.
+use Rattle.std.proofs.Common.{◌≡◌, ℕ, List, [], ◌∷◌, ◌++◌, refl, ◌∙◌, ap, sym}
+use Rattle.std.proofs.lemmas.List.{append-nil}
+use Rattle.gb_types.specs.declared.address.Addr.{Addr}
+use Rattle.gb_types.specs.declared.entry.Entry.{Entry}
+use Rattle.gb_types.specs.declared.node.NodeId.{NodeId}
+use Rattle.gb_frame.specs.declared.item.Item.{Item}
+use Rattle.gb_node.specs.Past.{frames_to}
+use Rattle.gb_network.specs.Run.{past_at}
+use Rattle.gb_trace.specs.Deeds.{past_in}
+use Rattle.gb_isolation.proofs.MarkLemmas.{items_of-append, items_of-none, items_of-one}
+use Rattle.gb_isolation.specs.Project.{items_in, items_of}
+
+pub more_frames : (g : Addr) (fs more : List (List Item)) → items_of g (fs ++ more) ≡ items_of g fs ++ items_of g more
+more_frames = items_of-append
+
+-- of one frame, and of none
+pub one_frame : (g : Addr) (fs : List (List Item)) (f : List Item) → fs ≡ f ∷ [] → items_of g fs ≡ items_in g f
+one_frame g fs f is = ap (items_of g) is ∙ items_of-one g f
+
+pub no_frame : (g : Addr) (fs : List (List Item)) (xs : List Entry) → fs ≡ [] → xs ≡ xs ++ items_of g fs
+no_frame g fs xs is = sym (ap (λ ys. xs ++ ys) (ap (items_of g) is ∙ items_of-none g) ∙ append-nil xs)
+
+pub no_items : (g : Addr) (key : List ℕ) (b : ℕ) (a : NodeId) → items_of g (frames_to key b (past_in a [])) ≡ []
+unfolding items_of frames_to past_at
+no_items g key b a = refl

@@ -1,0 +1,5 @@
+pub mod RunLemmas
+pub mod DeedLemmas
+pub mod PastLemmas
+pub mod FrameLemmas
+pub mod SeenLemmas

@@ -1,0 +1,271 @@
+-- A run that goes on by one more event.
+use Rattle.std.proofs.Common.{◌≡◌, ℕ, zero, suc, ◌+◌, ◌<◌, ◌≤◌, inl, inr, true, false, Bool, List, [], ◌∷◌, ◌++◌, length, take, get_or, Option, Some, None, refl, sym, ap, subst, ◌∙◌, arith, add-one, append_assoc, length-append}
+use Rattle.std.specs.Prelude.{◌⊎◌, slice_get, slice_set, option_map, reverse, All, Contains, MatchBool, if◌then◌else◌}
+use Rattle.std.proofs.lemmas.List.{append-nil, reverse-append, take_all, take_more}
+use Rattle.std.proofs.lemmas.List.Elements.{All-append, All-get_or}
+use Rattle.gb_types.specs.declared.node.NodeId.{NodeId}
+use Rattle.gb_node.specs.NodeStep.{turn, running_turn, stopped_answer, IsTurn, IsStarved}
+use Rattle.gb_node.specs.NodeValue.{NodeValue}
+use Rattle.gb_node.specs.declared.answer.NodeAnswer.{NodeAnswer}
+use Rattle.gb_node.specs.declared.answer.NodeAnswer.TheVariants.{Reply as Replied, Taken, Sent, Ticked, Halted}
+use Rattle.gb_node.specs.declared.answer.Sent.{Sent as SentValue}
+use Rattle.gb_node.specs.declared.answer.Sent.TheVariants.{Packet as SentPacket, Nothing as SentNothing, Refused as SentRefused}
+use Rattle.gb_node.specs.declared.event.NodeEvent.{NodeEvent}
+use Rattle.gb_node.specs.declared.event.NodeEvent.TheVariants.{Request as Asked, Packet as Came, Pack, Again, Ack, Tick, Stop}
+use Rattle.gb_network.proofs.CodeLemmas.{get_contains}
+use Rattle.gb_network.proofs.NodesLemmas.{stays}
+use Rattle.gb_network.specs.NetworkStep.{posted_to, posted, answer_of, packet_numbered, is_packet_for, NodeActs, IsAt, IsArrival, IsPlaced, IsStep}
+use Rattle.gb_network.specs.NetworkValue.{NetworkValue, network, node_at, new_network, IsNetworkPlan}
+use Rattle.gb_network.specs.Run.{Did, ComesTo, IsSent}
+use Rattle.gb_network.specs.declared.answer.Answer.{Answer}
+use Rattle.gb_network.specs.declared.answer.Answer.TheVariants.{NoPacket, NotNoise}
+use Rattle.gb_network.specs.declared.event.Event.{Event}
+use Rattle.gb_network.specs.declared.event.Event.TheVariants.{At, Arrive}
+use Rattle.gb_network.specs.declared.plan.NetworkPlan.{NetworkPlan}
+use Rattle.gb_network.specs.declared.posted.Posted.{Posted}
+use Rattle.gb_trace.specs.Trace.{own_answer, did_with, did_arrive, did_in, all_did, AreSteps, IsRun}
+
+-- Packets by their numbers.
+
+get_kept : (xs ys : List Posted) (k : ℕ) (p : Posted) → slice_get xs k ≡ Some p → slice_get (xs ++ ys) k ≡ Some p
+get_kept [] ys k p e = absurd (cc)
+get_kept (x ∷ xs) ys zero p e = e
+get_kept (x ∷ xs) ys (suc k) p e = get_kept xs ys k p e
+
+get_next : (xs ys : List Posted) (p : Posted) → slice_get (xs ++ p ∷ ys) (length xs) ≡ Some p
+get_next [] ys p = refl
+get_next (x ∷ xs) ys p = get_next xs ys p
+
+numbered_kept : (xs ys : List Posted) (k : ℕ) (p : Posted) → packet_numbered xs k ≡ Some p → packet_numbered (xs ++ ys) k ≡ Some p
+numbered_kept xs ys zero p e = absurd (cc)
+numbered_kept xs ys (suc k) p e = get_kept xs ys k p e
+
+numbered_next : (xs rest : List Posted) (p : Posted) → packet_numbered ((xs ++ p ∷ []) ++ rest) (length xs + 1) ≡ Some p
+numbered_next xs rest p = rw add-one (ap (λ (ps : List Posted). slice_get ps (length xs)) (append_assoc xs (p ∷ []) rest) ∙ get_next xs rest p)
+
+-- Only a packing, a frame again and an acknowledgement send a packet.
+
+abbrev Sends : NodeEvent → Type 0
+Sends (Pack b) = Unit {0}
+Sends (Again b n) = Unit {0}
+Sends (Ack b) = Unit {0}
+Sends event = ⊥
+
+sends : (v w : NodeValue) (event : NodeEvent) (text : List ℕ) → IsTurn v event (Sent (SentPacket text)) w → Sends event
+sends v w (Pack b) text turned = tt
+sends v w (Again b n) text turned = tt
+sends v w (Ack b) text turned = tt
+sends v w (Asked request) text turned = by v.stopped turned
+  where
+    by : (t : Bool) → (IsStarved (Asked request) (if t then record { value = v; answer = stopped_answer (Asked request) } else running_turn v (Asked request)).answer (Sent (SentPacket text)) × (w ≡ v))
+        ⊎ ((Sent (SentPacket text) ≡ (if t then record { value = v; answer = stopped_answer (Asked request) } else running_turn v (Asked request)).answer) × (w ≡ (if t then record { value = v; answer = stopped_answer (Asked request) } else running_turn v (Asked request)).value)) → ⊥
+    by true (inl starved) = let e = starved.0.0 in absurd (cc)
+    by false (inl starved) = let e = starved.0.0 in absurd (cc)
+    by true (inr done) = let e = done.0 in absurd (cc)
+    by false (inr done) = let e = done.0 in absurd (cc)
+sends v w (Came bytes) text turned = by v.stopped turned
+  where
+    by : (t : Bool) → (IsStarved (Came bytes) (if t then record { value = v; answer = stopped_answer (Came bytes) } else running_turn v (Came bytes)).answer (Sent (SentPacket text)) × (w ≡ v))
+        ⊎ ((Sent (SentPacket text) ≡ (if t then record { value = v; answer = stopped_answer (Came bytes) } else running_turn v (Came bytes)).answer) × (w ≡ (if t then record { value = v; answer = stopped_answer (Came bytes) } else running_turn v (Came bytes)).value)) → ⊥
+    by true (inl starved) = absurd (starved.0)
+    by false (inl starved) = absurd (starved.0)
+    by true (inr done) = let e = done.0 in absurd (cc)
+    by false (inr done) = let e = done.0 in absurd (cc)
+sends v w Tick text turned = by v.stopped turned
+  where
+    by : (t : Bool) → (IsStarved Tick (if t then record { value = v; answer = stopped_answer Tick } else running_turn v Tick).answer (Sent (SentPacket text)) × (w ≡ v))
+        ⊎ ((Sent (SentPacket text) ≡ (if t then record { value = v; answer = stopped_answer Tick } else running_turn v Tick).answer) × (w ≡ (if t then record { value = v; answer = stopped_answer Tick } else running_turn v Tick).value)) → ⊥
+    by true (inl starved) = absurd (starved.0)
+    by false (inl starved) = absurd (starved.0)
+    by true (inr done) = let e = done.0 in absurd (cc)
+    by false (inr done) = let e = done.0 in absurd (cc)
+sends v w Stop text turned = by v.stopped turned
+  where
+    by : (t : Bool) → (IsStarved Stop (if t then record { value = v; answer = stopped_answer Stop } else running_turn v Stop).answer (Sent (SentPacket text)) × (w ≡ v))
+        ⊎ ((Sent (SentPacket text) ≡ (if t then record { value = v; answer = stopped_answer Stop } else running_turn v Stop).answer) × (w ≡ (if t then record { value = v; answer = stopped_answer Stop } else running_turn v Stop).value)) → ⊥
+    by true (inl starved) = absurd (starved.0)
+    by false (inl starved) = absurd (starved.0)
+    by true (inr done) = let e = done.0 in absurd (cc)
+    by false (inr done) = let e = done.0 in absurd (cc)
+
+-- The answer of the network tells that of the node, among the packets that there are then, and later.
+
+own_is : (v w : NodeValue) (event : NodeEvent) (own : NodeAnswer) (before rest : List Posted) → IsTurn v event own w → own_answer ((before ++ posted event own) ++ rest) (answer_of (length before) own) ≡ Some own
+own_is v w event (Replied reply) before rest turned = refl
+own_is v w event (Taken taken) before rest turned = refl
+own_is v w event (Ticked ticked) before rest turned = refl
+own_is v w event (Halted halted) before rest turned = refl
+own_is v w event (Sent SentNothing) before rest turned = refl
+own_is v w event (Sent (SentRefused why)) before rest turned = refl
+own_is v w event (Sent (SentPacket text)) before rest turned = by event (sends v w event text turned)
+  where
+    at : (b : NodeId) → option_map Sent (option_map (λ (p : Posted). SentPacket p.text) (packet_numbered ((before ++ record { to = b; text = text } ∷ []) ++ rest) (length before + 1))) ≡ Some (Sent (SentPacket text))
+    at b = ap (λ (o : Option Posted). option_map Sent (option_map (λ (p : Posted). SentPacket p.text) o)) (numbered_next before rest (record { to = b; text = text }))
+
+    by : (e : NodeEvent) → Sends e → own_answer ((before ++ posted e (Sent (SentPacket text))) ++ rest) (answer_of (length before) (Sent (SentPacket text))) ≡ Some (Sent (SentPacket text))
+    by (Pack b) is = at b
+    by (Again b n) is = at b
+    by (Ack b) is = at b
+    by (Asked request) is = absurd is
+    by (Came bytes) is = absurd is
+    by Tick is = absurd is
+    by Stop is = absurd is
+
+-- One event.
+
+record IsOneMore (v : NetworkValue) (e : Event) (a : Answer) (w : NetworkValue) : Type 0 where
+  more : List Posted
+  grows : w.packets ≡ v.packets ++ more
+  settled : (rest : List Posted) → did_in (w.packets ++ rest) e a ≡ did_in w.packets e a
+  comes : (plan : NetworkPlan) (run : List Did) → ComesTo plan run v → ComesTo plan (reverse (did_in w.packets e a) ++ run) w
+
+none_arrives : (o : Option Posted) → did_arrive o None ≡ []
+none_arrives None = refl
+none_arrives (Some p) = refl
+
+-- nothing happened
+nothing_more : (v w : NetworkValue) (e : Event) (a : Answer) → w ≡ v → ((ps : List Posted) → did_in ps e a ≡ []) → IsOneMore v e a w
+nothing_more v w e a same none = record {
+  more = [];
+  grows = ap (λ (n : NetworkValue). n.packets) same ∙ sym (append-nil v.packets);
+  settled = λ rest. none (w.packets ++ rest) ∙ sym (none w.packets);
+  comes = λ plan run comes. subst (λ (ds : List Did). ComesTo plan (reverse ds ++ run) w) (sym (none w.packets)) (subst (ComesTo plan run) (sym same) comes);
+}
+
+-- something happened at a node
+one_more : (v w : NetworkValue) (e : Event) (a : Answer) (at : NodeId) (event : NodeEvent) (own : NodeAnswer) → NodeActs v at event own w → IsSent v at event
+    → ((rest : List Posted) → did_in (w.packets ++ rest) e a ≡ record { node = at; event = event; answer = own } ∷ []) → IsOneMore v e a w
+unfolding ComesTo
+one_more v w e a at event own acts sent is = record {
+  more = posted event own;
+  grows = ap (λ (n : NetworkValue). n.packets) acts.after;
+  settled = λ rest. is rest ∙ sym here;
+  comes = λ plan run comes. subst (λ (ds : List Did). ComesTo plan (reverse ds ++ run) w) (sym here) (v, comes, sent, acts);
+}
+  where
+    here : did_in w.packets e a ≡ record { node = at; event = event; answer = own } ∷ []
+    here = ap (λ (ps : List Posted). did_in ps e a) (sym (append-nil w.packets)) ∙ is []
+
+-- the answer of the node that acts, among all packets then and later
+acts_own : (v w : NetworkValue) (at : NodeId) (event : NodeEvent) (own : NodeAnswer) (a : Answer) (rest : List Posted) → NodeActs v at event own w → a ≡ answer_of (length v.packets) own → own_answer (w.packets ++ rest) a ≡ Some own
+acts_own v w at event own a rest acts answered =
+    ap (own_answer (w.packets ++ rest)) answered
+    ∙ (ap (λ (n : NetworkValue). own_answer (n.packets ++ rest) (answer_of (length v.packets) own)) acts.after
+    ∙ own_is (node_at v at) acts.node event own v.packets rest acts.turn)
+
+one_step : (v w : NetworkValue) (e : Event) (a : Answer) → IsStep v e a w → IsOneMore v e a w
+one_step v w (At at event) a step = by (is_packet_for (node_at v at) event) refl step
+  where
+    by : (b : Bool) → is_packet_for (node_at v at) event ≡ b → MatchBool b ((a ≡ NotNoise) × (w ≡ v)) (IsAt v at event a w) → IsOneMore v (At at event) a w
+    by true is step = nothing_more v w (At at event) a step.1 (λ ps. ap (λ x. did_in ps (At at event) x) step.0)
+    by false is step =
+        one_more v w (At at event) a at event step.0 step.1 (λ bytes same yes. absurd (let n : true ≡ false = sym yes ∙ is in cc))
+        (λ rest. ap (did_with at event) (acts_own v w at event step.0 a rest step.1 step.2))
+one_step v w (Arrive k) a step = by (packet_numbered v.packets k) refl step
+  where
+    there : (k : ℕ) (p : Posted) → packet_numbered v.packets k ≡ Some p → Contains v.packets p
+    there zero p e = absurd (cc)
+    there (suc k) p e = get_contains v.packets k p e
+
+    bytes_in : (b c : List ℕ) → Came b ≡ Came c → b ≡ c
+    bytes_in b c e = cc
+
+    by : (o : Option Posted) → packet_numbered v.packets k ≡ o → IsArrival v o a w → IsOneMore v (Arrive k) a w
+    by None is step = nothing_more v w (Arrive k) a step.1 (λ ps. ap (λ x. did_in ps (Arrive k) x) step.0 ∙ none_arrives (packet_numbered ps k))
+    by (Some p) is step =
+        one_more v w (Arrive k) a p.to (Came p.text) step.0 step.1 (λ bytes same yes. subst (λ t. Contains v.packets (record { to = p.to; text = t })) (bytes_in p.text bytes same) (there k p is))
+        (λ rest. ap (λ (o : Option Posted). did_arrive o (own_answer (w.packets ++ rest) a)) (kept rest) ∙ ap (did_with p.to (Came p.text)) (acts_own v w p.to (Came p.text) step.0 a rest step.1 step.2))
+      where
+        kept : (rest : List Posted) → packet_numbered (w.packets ++ rest) k ≡ Some p
+        kept rest =
+            ap (λ (n : NetworkValue). packet_numbered (n.packets ++ rest) k) step.1.after
+            ∙ (ap (λ (ps : List Posted). packet_numbered ps k) (append_assoc v.packets (posted (Came p.text) step.0) rest)
+            ∙ numbered_kept v.packets (posted (Came p.text) step.0 ++ rest) k p is)
+
+-- Many.
+
+all_did_more : (ps : List Posted) (es : List Event) (rs : List Answer) (e : Event) (a : Answer) → length es ≡ length rs → all_did ps (es ++ e ∷ []) (rs ++ a ∷ []) ≡ all_did ps es rs ++ did_in ps e a
+unfolding all_did
+all_did_more ps [] [] e a same = append-nil (did_in ps e a)
+all_did_more ps [] (x ∷ rs) e a same = absurd (omega (arith, same))
+all_did_more ps (x ∷ es) [] e a same = absurd (omega (arith, same))
+all_did_more ps (x ∷ es) (y ∷ rs) e a same = ap (λ ds. did_in ps x y ++ ds) (all_did_more ps es rs e a (omega (arith, same))) ∙ sym (append_assoc (did_in ps x y) (all_did ps es rs) (did_in ps e a))
+
+steps_more : (v w x : NetworkValue) (es : List Event) (rs : List Answer) (e : Event) (a : Answer) → AreSteps v es rs w → IsStep w e a x → AreSteps v (es ++ e ∷ []) (rs ++ a ∷ []) x
+unfolding AreSteps
+steps_more v w x [] [] e a steps step = (x, subst (λ (n : NetworkValue). IsStep n e a x) steps step, refl)
+steps_more v w x [] (y ∷ rs) e a steps step = absurd steps
+steps_more v w x (z ∷ es) [] e a steps step = absurd steps
+steps_more v w x (z ∷ es) (y ∷ rs) e a steps step = (steps.0, steps.1, steps_more steps.0 w x es rs e a steps.2 step)
+
+-- a run so far, of which more packets change nothing
+pub record Goes (plan : NetworkPlan) (es : List Event) (rs : List Answer) (v : NetworkValue) : Type 0 where
+  pub stepped : AreSteps (new_network plan) es rs v
+  pub comes : ComesTo plan (reverse (all_did v.packets es rs)) v
+  pub settled : (rest : List Posted) → all_did (v.packets ++ rest) es rs ≡ all_did v.packets es rs
+  pub count : length es ≡ length rs
+
+pub run_begins : (plan : NetworkPlan) (rs : List Answer) (v : NetworkValue) → rs ≡ [] → v ≡ new_network plan → ComesTo plan [] v → Goes plan [] rs v
+unfolding all_did AreSteps
+run_begins plan rs v none is comes = subst (λ (xs : List Answer). Goes plan [] xs v) (sym none) (record { stepped = is; comes = comes; settled = λ rest. refl; count = refl })
+
+run_on : (plan : NetworkPlan) (es : List Event) (rs : List Answer) (v w : NetworkValue) (e : Event) (a : Answer) → Goes plan es rs v → IsStep v e a w → Goes plan (es ++ e ∷ []) (rs ++ a ∷ []) w
+run_on plan es rs v w e a was step = record {
+  stepped = steps_more (new_network plan) v w es rs e a was.stepped step;
+  comes = subst (λ (ds : List Did). ComesTo plan ds w) (sym all) (one.comes plan (reverse (all_did v.packets es rs)) was.comes);
+  settled = λ rest.
+      all_did_more (w.packets ++ rest) es rs e a was.count
+      ∙ (ap (λ ds. ds ++ did_in (w.packets ++ rest) e a) (later rest)
+      ∙ (ap (λ ds. all_did w.packets es rs ++ ds) (one.settled rest) ∙ sym (all_did_more w.packets es rs e a was.count)));
+  count = length-append es (e ∷ []) ∙ (ap (λ n. n + 1) was.count ∙ sym (length-append rs (a ∷ [])));
+}
+  where
+    one : IsOneMore v e a w
+    one = one_step v w e a step
+
+    grown : (rest : List Posted) → all_did (w.packets ++ rest) es rs ≡ all_did v.packets es rs
+    grown rest = ap (λ (ps : List Posted). all_did (ps ++ rest) es rs) one.grows ∙ (ap (λ (ps : List Posted). all_did ps es rs) (append_assoc v.packets one.more rest) ∙ was.settled (one.more ++ rest))
+
+    first : all_did w.packets es rs ≡ all_did v.packets es rs
+    first = ap (λ (ps : List Posted). all_did ps es rs) (sym (append-nil w.packets)) ∙ grown []
+
+    later : (rest : List Posted) → all_did (w.packets ++ rest) es rs ≡ all_did w.packets es rs
+    later rest = grown rest ∙ sym first
+
+    all : reverse (all_did w.packets (es ++ e ∷ []) (rs ++ a ∷ [])) ≡ reverse (did_in w.packets e a) ++ reverse (all_did v.packets es rs)
+    all =
+        ap reverse (all_did_more w.packets es rs e a was.count)
+        ∙ (reverse-append (all_did w.packets es rs) (did_in w.packets e a) ∙ ap (λ ds. reverse (did_in w.packets e a) ++ reverse ds) first)
+
+-- one event more
+pub run_goes : (plan : NetworkPlan) (before es : List Event) (rs answers : List Answer) (v w : NetworkValue) (e : Event) (a : Answer) → Goes plan before rs v → es ≡ before ++ e ∷ [] → answers ≡ rs ++ a ∷ [] → IsStep v e a w → Goes plan es answers w
+run_goes plan before es rs answers v w e a was events are step =
+    subst (λ (xs : List Event). Goes plan xs answers w) (sym events) (subst (λ (ys : List Answer). Goes plan (before ++ e ∷ []) ys w) (sym are) (run_on plan before rs v w e a was step))
+
+-- what was found is a run
+pub is_run : (plan : NetworkPlan) (es : List Event) (rs : List Answer) (packets : List Posted) (v : NetworkValue) → Goes plan es rs v → packets ≡ v.packets → IsRun plan es rs packets v
+is_run plan es rs packets v goes are = record { stepped = goes.stepped; comes = subst (λ (ps : List Posted). ComesTo plan (reverse (all_did ps es rs)) v) (sym are) goes.comes; sent = sym are }
+
+-- the node that acts in an event of the list is one of the network's
+pub placed_at : (plan : NetworkPlan) (before es : List Event) (rs : List Answer) (v : NetworkValue) (i : ℕ) (e : Event) → Goes plan before rs v → All (IsPlaced plan.nodes) es → i < length es → e ≡ get_or es i e → IsPlaced (length v.nodes) e
+placed_at plan before es rs v i e was all lt is =
+    subst (λ n. IsPlaced n e) (sym (stays plan (reverse (all_did v.packets before rs)) v was.comes).count)
+    (subst (IsPlaced plan.nodes) (sym is) (All-get_or (IsPlaced plan.nodes) es i e lt all))
+
+placed_one : (n : ℕ) (e : Event) → IsPlaced n e → All (IsPlaced n) (e ∷ [])
+placed_one n e is zero d lt = is
+placed_one n e is (suc k) d lt = absurd (omega arith)
+
+pub placed_more : (n : ℕ) (es : List Event) (i : ℕ) (e : Event) → i < length es → e ≡ get_or es i e → IsPlaced n e → All (IsPlaced n) (take i es) → All (IsPlaced n) (take (i + 1) es)
+placed_more n es i e lt is here before =
+    subst (All (IsPlaced n)) (sym (take_more es i e lt ∙ ap (λ (x : Event). take i es ++ x ∷ []) (sym is)))
+    (All-append (IsPlaced n) (take i es) (e ∷ []) before (placed_one n e here))
+
+pub placed_all : (n : ℕ) (es : List Event) (i : ℕ) → length es ≤ i → All (IsPlaced n) (take i es) → All (IsPlaced n) es
+placed_all n es i le all = subst (All (IsPlaced n)) (take_all i es le) all
+
+pub placed_none : (n : ℕ) (es : List Event) → All (IsPlaced n) (take 0 es)
+placed_none n es k d lt = absurd (omega arith)
+
+pub placed_each : (n : ℕ) (es : List Event) (i : ℕ) (e : Event) → i < length es → e ≡ get_or es i e → All (IsPlaced n) es → IsPlaced n e
+placed_each n es i e lt is all = subst (IsPlaced n) (sym is) (All-get_or (IsPlaced n) es i e lt all)

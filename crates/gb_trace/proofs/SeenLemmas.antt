@@ -1,0 +1,61 @@
+-- What the plain programs see of an isolated group.
+use Rattle.std.proofs.Common.{◌≡◌, ℕ, ◌<◌, ◌≤◌, List, ◌++◌, length, take, sym, ◌∙◌, ap, subst, arith}
+use Rattle.std.proofs.lemmas.List.{take_all, take-append-le}
+use Rattle.gb_types.specs.declared.address.Addr.{Addr}
+use Rattle.gb_types.specs.declared.entry.Entry.{Entry}
+use Rattle.gb_types.specs.declared.limits.TheConstants.{NODES}
+use Rattle.gb_types.specs.declared.node.NodeId.{NodeId}
+use Rattle.gb_groups.specs.OneGroup.{waiting_in}
+use Rattle.gb_alone.specs.Alone.{Group}
+use Rattle.gb_alone.proofs.ObservationLemmas.{seen_same}
+use Rattle.gb_node.specs.NodeStep.{node_numbered}
+use Rattle.gb_node.specs.Past.{frames_to}
+use Rattle.gb_network.specs.NetworkValue.{NetworkValue, node_plan}
+use Rattle.gb_network.specs.Run.{Did, past_at}
+use Rattle.gb_network.specs.declared.plan.NetworkPlan.{NetworkPlan}
+use Rattle.gb_isolation.proofs.NoticeLemmas.{numbered_is}
+use Rattle.gb_isolation.specs.Isolation.{Seen, group_at, alone_in, IsIsolated}
+use Rattle.gb_isolation.specs.Project.{items_of, replies_in}
+use Rattle.gb_trace.specs.Observed.{IsolatedGroupsAreSeenAlone}
+
+-- the first items of a list that is continued
+take_front : (xs ys : List Entry) → take (length xs) (xs ++ ys) ≡ xs
+take_front xs ys = take-append-le (length xs) xs ys (omega arith) ∙ take_all (length xs) xs (omega arith)
+
+pub seen_alone_too : IsolatedGroupsAreSeenAlone
+seen_alone_too plan run v g few alike =
+    seen_same plan.nodes (λ a. replies_in (node_plan plan (node_numbered a)) g (past_at (node_numbered a) run)) (λ a. (group a).replies)
+    (λ a b. items_of g (frames_to plan.cluster_key b (past_at (node_numbered a) run))) (λ a b. take ((group a).taken b) ((group a).put b))
+    replied taken
+  where
+    group : Group
+    group = alone_in plan g run
+
+    is : (a : ℕ) → a < plan.nodes → (node_numbered a).number ≡ a
+    is a lt = numbered_is a (omega (arith, lt, few))
+
+    inside : (a : ℕ) → a < plan.nodes → (node_numbered a).number < plan.nodes
+    inside a lt = subst (λ n. n < plan.nodes) (sym (is a lt)) lt
+
+    replied : (a : ℕ) → a < plan.nodes → replies_in (node_plan plan (node_numbered a)) g (past_at (node_numbered a) run) ≡ (group a).replies
+    replied a lt =
+        ap (λ (s : Seen). s.replies) (alike.same (node_numbered a) (node_numbered a) (inside a lt) (inside a lt)) ∙ ap (λ n. (group n).replies) (is a lt)
+
+    items : ℕ → ℕ → List Entry
+    items a b = items_of g (frames_to plan.cluster_key b (past_at (node_numbered a) run))
+
+    put : (a b : ℕ) → a < plan.nodes → b < plan.nodes → items a b ++ waiting_in (group_at v g (node_numbered a)) b ≡ (group a).put b
+    put a b lt ls =
+        ap (λ n. items a n ++ waiting_in (group_at v g (node_numbered a)) n) (sym (is b ls))
+        ∙ (ap (λ (s : Seen). s.put) (alike.same (node_numbered a) (node_numbered b) (inside a lt) (inside b ls))
+        ∙ (ap (λ n. (group n).put (node_numbered b).number) (is a lt) ∙ ap (λ n. (group a).put n) (is b ls)))
+
+    many : (a b : ℕ) → a < plan.nodes → b < plan.nodes → (group a).taken b ≡ length (items a b)
+    many a b lt ls =
+        sym (ap (λ n. (group n).taken (node_numbered b).number) (is a lt) ∙ ap (λ n. (group a).taken n) (is b ls))
+        ∙ (alike.carried (node_numbered a) (node_numbered b) (inside a lt) (inside b ls) ∙ ap (λ n. length (items a n)) (is b ls))
+
+    taken : (a b : ℕ) → a < plan.nodes → b < plan.nodes → items a b ≡ take ((group a).taken b) ((group a).put b)
+    taken a b lt ls =
+        sym (ap (λ n. take n ((group a).put b)) (many a b lt ls)
+        ∙ (ap (λ xs. take (length (items a b)) xs) (sym (put a b lt ls)) ∙ take_front (items a b) (waiting_in (group_at v g (node_numbered a)) b)))

@@ -1,0 +1,10 @@
+use Rattle.std.proofs.Common.{◌<◌, length, arith}
+use Rattle.gb_trace.proofs.DeedLemmas.{newest_deed}
+use Rattle.gb_trace.proofs.deed.deeds_of.Goals as goal
+
+pub loop-i-preserved : goal.loop-i-preserved
+loop-i-preserved c =
+    let lt : c.loop-i.i < length c.args.events.now = omega arith in
+    let ls : c.loop-i.i < length c.args.answers.now = omega arith in
+    let more = newest_deed c.args.packets.now c.args.events.now c.args.answers.now c.loop-i.i c.index-events-i.result c.index-answers-i.result lt ls c.index-events-i.is c.index-answers-i.is in
+    cc (more, c.in_ok-add_deed.ensures)

@@ -1,0 +1,9 @@
+use Rattle.std.proofs.Common.{◌≡◌}
+use Rattle.std.specs.Prelude.{map, reverse}
+use Rattle.gb_alone.specs.Observation.{numbers_below}
+use Rattle.gb_node.specs.NodeStep.{node_numbered}
+use Rattle.gb_trace.specs.Observed.{observed_at}
+use Rattle.gb_trace.proofs.observation.seen_in.Given as goal
+
+abbrev pub invariant-loop-a : goal.invariant-loop-a
+invariant-loop-a l = l.seen.items ≡ map (λ a. observed_at l.plan l.addr (reverse l.deeds) (node_numbered a)) (numbers_below l.a)

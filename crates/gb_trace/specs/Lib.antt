@@ -1,0 +1,3 @@
+pub mod Trace
+pub mod Deeds
+pub mod Observed

@@ -1,0 +1,93 @@
+-- Whole runs of a network, from events, answers and packets.
+use Rattle.std.specs.Prelude.{ℕ, ◌≡◌, Bool, true, false, List, [], ◌∷◌, ◌++◌, Option, Some, None, option_map, reverse}
+use Rattle.gb_types.specs.declared.address.Addr.{Addr}
+use Rattle.gb_types.specs.declared.node.NodeId.{NodeId}
+use Rattle.gb_types.specs.declared.refusal.Refusal.TheVariants.{OutOfMemory}
+use Rattle.gb_types.specs.declared.reply.Reply.TheVariants.{Refused}
+use Rattle.gb_node.specs.declared.answer.Halted.TheVariants.{Refused as HaltRefused}
+use Rattle.gb_node.specs.declared.answer.NodeAnswer.{NodeAnswer}
+use Rattle.gb_node.specs.declared.answer.NodeAnswer.TheVariants.{Reply as Replied, Taken, Sent, Ticked, Halted}
+use Rattle.gb_node.specs.declared.answer.PacketAnswer.TheVariants.{Refused as TakenRefused}
+use Rattle.gb_node.specs.declared.answer.Sent.{Sent as SentValue}
+use Rattle.gb_node.specs.declared.answer.Sent.TheVariants.{Packet as SentPacket, Nothing as SentNothing, Refused as SentRefused}
+use Rattle.gb_node.specs.declared.answer.Ticked.TheVariants.{Refused as TickRefused}
+use Rattle.gb_node.specs.declared.event.NodeEvent.{NodeEvent}
+use Rattle.gb_node.specs.declared.event.NodeEvent.TheVariants.{Packet as Came}
+use Rattle.gb_network.specs.NetworkStep.{packet_numbered, IsStep}
+use Rattle.gb_network.specs.NetworkValue.{NetworkValue, new_network}
+use Rattle.gb_network.specs.Run.{Did, ComesTo}
+use Rattle.gb_network.specs.declared.answer.Answer.{Answer}
+use Rattle.gb_network.specs.declared.answer.Answer.TheVariants.{Reply as AnswerReply, Taken as AnswerTaken, Sent as AnswerSent, Ticked as AnswerTicked, Halted as AnswerHalted, NoPacket, NotNoise}
+use Rattle.gb_network.specs.declared.answer.Sending.{Sending}
+use Rattle.gb_network.specs.declared.answer.Sending.TheVariants.{Packet as SendingPacket, Nothing as SendingNothing, Refused as SendingRefused}
+use Rattle.gb_network.specs.declared.event.Event.{Event}
+use Rattle.gb_network.specs.declared.event.Event.TheVariants.{At, Arrive}
+use Rattle.gb_network.specs.declared.plan.NetworkPlan.{NetworkPlan}
+use Rattle.gb_network.specs.declared.posted.Posted.{Posted}
+use Rattle.gb_isolation.specs.Isolation.{IsIsolated}
+use Rattle.gb_isolation.specs.Project.{is_fed}
+
+-- what a node sent, where a packet's number stands for its text among the packets
+abbrev pub sent_as : List Posted → Sending → Option SentValue
+sent_as packets (SendingPacket k) = option_map (λ (p : Posted). SentPacket p.text) (packet_numbered packets k)
+sent_as packets SendingNothing = Some SentNothing
+sent_as packets (SendingRefused why) = Some (SentRefused why)
+
+-- the answer of the node that acted, if one did
+abbrev pub own_answer : List Posted → Answer → Option NodeAnswer
+own_answer packets (AnswerReply reply) = Some (Replied reply)
+own_answer packets (AnswerTaken taken) = Some (Taken taken)
+own_answer packets (AnswerSent s) = option_map Sent (sent_as packets s)
+own_answer packets (AnswerTicked ticked) = Some (Ticked ticked)
+own_answer packets (AnswerHalted halted) = Some (Halted halted)
+own_answer packets NoPacket = None
+own_answer packets NotNoise = None
+
+abbrev pub did_with : NodeId → NodeEvent → Option NodeAnswer → List Did
+did_with a event None = []
+did_with a event (Some answer) = record { node = a; event = event; answer = answer } ∷ []
+
+abbrev pub did_arrive : Option Posted → Option NodeAnswer → List Did
+did_arrive None answer = []
+did_arrive (Some p) answer = did_with p.to (Came p.text) answer
+
+-- What happened at a node by an event with its answer: an event at a node is its own, and a packet that arrives is its text, at the node that it was sent to.
+-- Where there was no such packet, or the noise was none, nothing happened.
+abbrev pub did_in : List Posted → Event → Answer → List Did
+did_in packets (At a event) answer = did_with a event (own_answer packets answer)
+did_in packets (Arrive k) answer = did_arrive (packet_numbered packets k) (own_answer packets answer)
+
+-- all that happened, in order; events beyond the answers do not count, nor answers beyond the events
+unfoldable pub all_did : List Posted → List Event → List Answer → List Did
+all_did packets [] answers = []
+all_did packets (e ∷ events) [] = []
+all_did packets (e ∷ events) (a ∷ answers) = did_in packets e a ++ all_did packets events answers
+
+-- the run that these events, answers and packets tell, the newest first
+abbrev pub run_of : List Event → List Answer → List Posted → List Did
+run_of events answers packets = reverse (all_did packets events answers)
+
+-- each event in turn is answered so, and makes the second network of the first
+unfoldable pub AreSteps : NetworkValue → List Event → List Answer → NetworkValue → Type 0
+AreSteps v [] [] w = w ≡ v
+AreSteps v (e ∷ events) (a ∷ answers) w = (x : NetworkValue) × IsStep v e a x × AreSteps x events answers w
+AreSteps v events answers w = ⊥
+
+-- A network that is started with the plan answers these events so and is this then, with these packets; it came to it by the run that they tell.
+pub record IsRun (plan : NetworkPlan) (events : List Event) (answers : List Answer) (packets : List Posted) (v : NetworkValue) : Type 0 where
+  pub stepped : AreSteps (new_network plan) events answers v
+  pub comes : ComesTo plan (run_of events answers packets) v
+  pub sent : v.packets ≡ packets
+
+-- each group of which no request was refused for want of memory is what it is alone
+abbrev pub IsIsolatedRun : NetworkPlan → List Event → List Answer → List Posted → NetworkValue → Type 0
+IsIsolatedRun plan events answers packets v = (g : Addr) → is_fed plan g (run_of events answers packets) ≡ true → IsIsolated plan (run_of events answers packets) v g
+
+-- the answer is want of memory
+abbrev pub is_starved : Answer → Bool
+is_starved (AnswerReply (Refused OutOfMemory)) = true
+is_starved (AnswerTaken (TakenRefused OutOfMemory)) = true
+is_starved (AnswerSent (SendingRefused OutOfMemory)) = true
+is_starved (AnswerTicked (TickRefused OutOfMemory)) = true
+is_starved (AnswerHalted (HaltRefused OutOfMemory)) = true
+is_starved answer = false

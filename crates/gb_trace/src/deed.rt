@@ -1,0 +1,187 @@
+//! What happened at nodes, read from events, answers and packets.
+ghost use Rattle.std.specs.Prelude.{◌≡◌, ◌++◌, ◌&&◌, nat_eq, IfOk, OnOk, Some, None, MatchOption};
+ghost use Rattle.gb_network.specs.NetworkStep.{packet_numbered};
+ghost use Rattle.gb_trace.specs.Trace.{sent_as, own_answer, did_with, did_in, all_did};
+
+use gb_network::answer::{Answer, Sending};
+use gb_network::event::Event;
+use gb_network::posted::Posted;
+use gb_node::answer::{NodeAnswer, Sent, Ticked};
+use gb_node::event::NodeEvent;
+use gb_node::packet_text::PacketText;
+use gb_types::memory::OutOfMemory;
+use gb_types::node::NodeId;
+use std::alloc::Global;
+use std::marker::Model;
+
+/// Something that happened at a node, and the node's answer. Contracts see these three.
+#[derive(Drop)]
+pub(crate) struct Deed {
+    node: NodeId,
+    event: NodeEvent,
+    answer: NodeAnswer,
+}
+
+impl Model for Deed {
+    ghost use Rattle.std.specs.Coded.{codes, coded_ℕ};
+    ghost use Rattle.std.specs.Ordering.{nat_cmp};
+    ghost use Rattle.std.specs.FinSet as set;
+    ghost use Rattle.gb_network.specs.Run.{Did};
+
+    ghost Value = { Did };
+
+    ghost coded = { Prim.hlevel (codes, set.code {R = nat_cmp} coded_ℕ) };
+
+    ghost view = { λ d. record { node = d.node; event = d.event; answer = d.answer } };
+}
+
+impl Deed {
+    pub(crate) fn node(&self) -> NodeId
+        ensures { result ≡ self.now.node }
+    {
+        self.node
+    }
+
+    pub(crate) fn event(&self) -> &NodeEvent
+        ensures { result.now ≡ self.now.event }
+    {
+        &self.event
+    }
+
+    pub(crate) fn answer(&self) -> &NodeAnswer
+        ensures { result.now ≡ self.now.answer }
+    {
+        &self.answer
+    }
+
+    /// Whether it happened at the node.
+    pub(crate) fn is_at(&self, node: NodeId) -> bool
+        ensures { result ≡ nat_eq self.now.node.number node.number }
+    {
+        self.node.number == node.number
+    }
+}
+
+/// The packet with the number.
+pub(crate) fn packet_of(packets: &[Posted], number: u64) -> Option<&Posted>
+    ensures { MatchOption result (packet_numbered packets.now number ≡ None) (λ p. packet_numbered packets.now number ≡ Some p.now) }
+{
+    if number == 0 {
+        return None;
+    }
+    packets.get((number - 1) as usize)
+}
+
+/// A copy of these bytes.
+fn copied(alloc: Global, text: &PacketText) -> Result<PacketText, OutOfMemory>
+    ensures { IfOk result (λ t. t ≡ text.now) }
+{
+    let bytes = Vec::from_slice(alloc, text.as_slice())?;
+    Ok(PacketText::from(bytes))
+}
+
+/// What the node sent, with the text of the packet in place of its number.
+fn sent_of(alloc: Global, packets: &[Posted], sending: Sending) -> Result<Option<Sent>, OutOfMemory>
+    ensures { IfOk result (λ s. s ≡ sent_as packets.now sending) }
+{
+    match sending {
+        Sending::Packet(number) => match packet_of(packets, number) {
+            None => Ok(None),
+            Some(packet) => Ok(Some(Sent::Packet(copied(alloc, &packet.text)?))),
+        },
+        Sending::Nothing => Ok(Some(Sent::Nothing)),
+        Sending::Refused(why) => Ok(Some(Sent::Refused(why))),
+    }
+}
+
+/// What a tick brought to light, copied.
+fn ticked_of(ticked: &Ticked) -> Ticked
+    ensures { result ≡ ticked.now }
+{
+    match ticked {
+        Ticked::Noticed(found) => Ticked::Noticed(found.duplicate()),
+        Ticked::Refused(why) => Ticked::Refused(*why),
+    }
+}
+
+/// The answer of the node that acted, if one did.
+fn answer_of(
+    alloc: Global,
+    packets: &[Posted],
+    answer: &Answer,
+) -> Result<Option<NodeAnswer>, OutOfMemory>
+    ensures { IfOk result (λ a. a ≡ own_answer packets.now answer.now) }
+{
+    match answer {
+        Answer::Reply(reply) => Ok(Some(NodeAnswer::Reply(reply.duplicate(alloc)?))),
+        Answer::Taken(taken) => Ok(Some(NodeAnswer::Taken(*taken))),
+        Answer::Sent(sending) => match sent_of(alloc, packets, *sending)? {
+            None => Ok(None),
+            Some(sent) => Ok(Some(NodeAnswer::Sent(sent))),
+        },
+        Answer::Ticked(ticked) => Ok(Some(NodeAnswer::Ticked(ticked_of(ticked)))),
+        Answer::Halted(halted) => Ok(Some(NodeAnswer::Halted(*halted))),
+        Answer::NoPacket => Ok(None),
+        Answer::NotNoise => Ok(None),
+    }
+}
+
+/// Adds what happened at the node, if its answer is there.
+fn add(
+    node: NodeId,
+    event: NodeEvent,
+    answer: Option<NodeAnswer>,
+    deeds: &mut Vec<Deed>,
+) -> Result<(), OutOfMemory>
+    ensures { OnOk result (deeds.new.items ≡ deeds.old.items ++ did_with node event answer) }
+{
+    if let Some(answer) = answer {
+        deeds.push(Deed {
+            node,
+            event,
+            answer,
+        })?;
+    }
+    Ok(())
+}
+
+/// Adds what happened at a node by the event with its answer.
+fn add_deed(
+    alloc: Global,
+    packets: &[Posted],
+    event: &Event,
+    answer: &Answer,
+    deeds: &mut Vec<Deed>,
+) -> Result<(), OutOfMemory>
+    ensures { OnOk result (deeds.new.items ≡ deeds.old.items ++ did_in packets.now event.now answer.now) }
+{
+    let own = answer_of(alloc, packets, answer)?;
+    match event {
+        Event::At(node, event) => add(*node, event.duplicate(alloc)?, own, deeds),
+        Event::Arrive(number) => match packet_of(packets, *number) {
+            None => Ok(()),
+            Some(packet) => {
+                let text = copied(alloc, &packet.text)?;
+                add(packet.to, NodeEvent::Packet(text), own, deeds)
+            }
+        },
+    }
+}
+
+/// All that happened at nodes, in order. Events beyond the answers do not count, nor answers beyond the events.
+#[tactic(auto, using(crate::proofs::DeedLemmas::all_deeds, crate::proofs::DeedLemmas::no_deeds))]
+pub(crate) fn deeds_of(
+    alloc: Global,
+    events: &[Event],
+    answers: &[Answer],
+    packets: &[Posted],
+) -> Result<Vec<Deed>, OutOfMemory>
+    ensures { IfOk result (λ v. v.items ≡ all_did packets.now events.now answers.now) }
+{
+    let count = events.len().min(answers.len());
+    let mut deeds = Vec::new(alloc);
+    for i in 0..count {
+        add_deed(alloc, packets, &events[i], &answers[i], &mut deeds)?;
+    }
+    Ok(deeds)
+}

@@ -1,0 +1,184 @@
+//! What is seen of a group in a run, computed plainly from its meaning.
+ghost use Rattle.std.specs.Prelude.{◌≡◌, ◌≤◌, ◌++◌, reverse, IfOk, OnOk, map};
+ghost use Rattle.gb_types.specs.declared.limits.TheConstants.{NODES as MOST};
+ghost use Rattle.gb_alone.specs.Observation.{numbers_below};
+ghost use Rattle.gb_node.specs.NodeStep.{node_numbered};
+ghost use Rattle.gb_node.specs.Past.{packed_for, frames_to};
+ghost use Rattle.gb_network.specs.NetworkValue.{node_plan};
+ghost use Rattle.gb_isolation.specs.Project.{items_of, reply_in, replies_in};
+ghost use Rattle.gb_trace.specs.Deeds.{past_in};
+ghost use Rattle.gb_trace.specs.Observed.{observed, observed_at};
+ghost use Rattle.gb_trace.specs.Trace.{run_of};
+
+use crate::deed::{Deed, deeds_of};
+use crate::past::is_own;
+use crate::reading::{add_items, packed};
+use crate::trace::Trace;
+use gb_alone::observation::{NodeSeen, Observation};
+use gb_cap::hmac::HmacKey;
+use gb_network::event::Event;
+use gb_network::plan::NetworkPlan;
+use gb_node::answer::NodeAnswer;
+use gb_node::event::NodeEvent;
+use gb_types::address::Addr;
+use gb_types::entry::Entries;
+use gb_types::memory::OutOfMemory;
+use gb_types::node::NodeId;
+use gb_types::reply::Reply;
+use std::alloc::Global;
+
+/// Adds a copy of the reply that this brings to the group at the node, after what happened before.
+fn add_reply(
+    alloc: Global,
+    plan: &NetworkPlan,
+    addr: Addr,
+    a: NodeId,
+    before: &[Deed],
+    deed: &Deed,
+    replies: &mut Vec<Reply>,
+) -> Result<(), OutOfMemory>
+    ensures { OnOk result (replies.new.items ≡ replies.old.items ++ reply_in (node_plan plan.now a) addr (past_in a before.now) deed.now.event deed.now.answer) }
+{
+    let NodeEvent::Request(request) = deed.event() else {
+        return Ok(());
+    };
+    let NodeAnswer::Reply(reply) = deed.answer() else {
+        return Ok(());
+    };
+    if is_own(plan, addr, a, before, request) {
+        replies.push(reply.duplicate(alloc)?)?;
+    }
+    Ok(())
+}
+
+/// The replies to the group's commands at the node.
+#[tactic(auto, using(crate::proofs::PastLemmas::here, crate::proofs::PastLemmas::elsewhere, crate::proofs::PastLemmas::whole), unfolding(gb_isolation::specs::Project::replies_in, gb_network::specs::Run::past_at))]
+fn replies_at(
+    alloc: Global,
+    plan: &NetworkPlan,
+    addr: Addr,
+    a: NodeId,
+    deeds: &[Deed],
+) -> Result<Vec<Reply>, OutOfMemory>
+    ensures { IfOk result (λ v. v.items ≡ replies_in (node_plan plan.now a) addr (past_in a deeds.now)) }
+{
+    let mut replies = Vec::new(alloc);
+    for i in 0..deeds.len() {
+        if deeds[i].is_at(a) {
+            add_reply(alloc, plan, addr, a, &deeds[..i], &deeds[i], &mut replies)?;
+        }
+    }
+    Ok(replies)
+}
+
+/// Adds the group's items of the frame that this packed for the node, if it did.
+#[tactic(auto, using(crate::proofs::FrameLemmas::one_frame, crate::proofs::FrameLemmas::no_frame))]
+fn add_frame(
+    alloc: Global,
+    addr: Addr,
+    key: &HmacKey,
+    b: NodeId,
+    deed: &Deed,
+    items: &mut Entries,
+) -> Result<(), OutOfMemory>
+    ensures { OnOk result (items.new ≡ items.old ++ items_of addr (packed_for key.now b.number deed.now.event deed.now.answer)) }
+{
+    if let Some(packet) = packed(key, b, deed) {
+        add_items(alloc, addr, &packet, items)?;
+    }
+    Ok(())
+}
+
+/// The group's items in the frames that a node packed for another one.
+#[tactic(auto, using(crate::proofs::PastLemmas::here, crate::proofs::PastLemmas::elsewhere, crate::proofs::PastLemmas::whole, crate::proofs::FrameLemmas::more_frames), unfolding(gb_node::specs::Past::frames_to, gb_network::specs::Run::past_at))]
+fn items_to(
+    alloc: Global,
+    addr: Addr,
+    key: &HmacKey,
+    a: NodeId,
+    b: NodeId,
+    deeds: &[Deed],
+) -> Result<Entries, OutOfMemory>
+    ensures { IfOk result (λ e. e ≡ items_of addr (frames_to key.now b.number (past_in a deeds.now))) }
+{
+    let mut items = Entries::new(alloc);
+    for i in 0..deeds.len() {
+        if deeds[i].is_at(a) {
+            add_frame(alloc, addr, key, b, &deeds[i], &mut items)?;
+        }
+    }
+    Ok(items)
+}
+
+/// The group's items that are carried from the node to each of so many.
+#[tactic(auto, using(gb_alone::proofs::ObservationLemmas::map_more, gb_alone::proofs::ObservationLemmas::map_none))]
+fn items_from(
+    alloc: Global,
+    addr: Addr,
+    key: &HmacKey,
+    nodes: u8,
+    a: NodeId,
+    deeds: &[Deed],
+) -> Result<Vec<Entries>, OutOfMemory>
+    requires { nodes ≤ MOST }
+    ensures { IfOk result (λ v. v.items ≡ map (λ b. items_of addr (frames_to key.now b (past_in a deeds.now))) (numbers_below nodes)) }
+{
+    let mut carried = Vec::new(alloc);
+    for b in 0..nodes {
+        carried.push(items_to(alloc, addr, key, a, NodeId::new(b), deeds)?)?;
+    }
+    Ok(carried)
+}
+
+/// What is seen of the group at the node.
+fn seen_at(
+    alloc: Global,
+    plan: &NetworkPlan,
+    addr: Addr,
+    key: &HmacKey,
+    a: NodeId,
+    deeds: &[Deed],
+) -> Result<NodeSeen, OutOfMemory>
+    requires few { plan.now.nodes ≤ MOST }
+    requires key { key.now ≡ plan.now.cluster_key }
+    ensures { IfOk result (λ s. s ≡ observed_at plan.now addr (reverse deeds.now) a) }
+{
+    let replies = replies_at(alloc, plan, addr, a, deeds)?;
+    let carried = items_from(alloc, addr, key, plan.nodes, a, deeds)?;
+    Ok(NodeSeen::new(replies, carried))
+}
+
+/// What is seen of the group at each node.
+#[tactic(auto, using(gb_alone::proofs::ObservationLemmas::map_none))]
+fn seen_in(
+    alloc: Global,
+    plan: &NetworkPlan,
+    addr: Addr,
+    deeds: &[Deed],
+) -> Result<Observation, OutOfMemory>
+    requires { plan.now.nodes ≤ MOST }
+    ensures { IfOk result (λ o. o ≡ observed plan.now addr (reverse deeds.now)) }
+{
+    let key = HmacKey::new(&plan.cluster_key);
+    let mut seen = Vec::new(alloc);
+    for a in 0..plan.nodes {
+        seen.push(seen_at(alloc, plan, addr, &key, NodeId::new(a), deeds)?)?;
+    }
+    Ok(Observation::from(seen))
+}
+
+/// What is seen of the group in a run, at each node of the plan: the replies to its commands, and its items that are
+/// carried. Events beyond the answers do not count, nor answers beyond the events.
+pub fn observe(
+    alloc: Global,
+    plan: &NetworkPlan,
+    events: &[Event],
+    trace: &Trace,
+    addr: Addr,
+) -> Result<Observation, OutOfMemory>
+    requires { plan.now.nodes ≤ MOST }
+    ensures { IfOk result (λ o. o ≡ observed plan.now addr (run_of events.now trace.now.answers.items trace.now.packets.items)) }
+{
+    let deeds = deeds_of(alloc, events, &trace.answers, &trace.packets)?;
+    seen_in(alloc, plan, addr, &deeds)
+}

@@ -1,0 +1,111 @@
+//! Questions about the past of a node, asked of all that happened in a run so far, in order.
+ghost use Rattle.std.specs.Prelude.{◌≡◌};
+ghost use Rattle.std.specs.Option.{option_copied};
+ghost use Rattle.gb_rules.specs.Tenant.{row_of};
+ghost use Rattle.gb_table.specs.Requests.{is_by_row};
+ghost use Rattle.gb_node.specs.Past.{added, tenants_in};
+ghost use Rattle.gb_node.specs.StepLaw.{is_admitted_by};
+ghost use Rattle.gb_network.specs.NetworkValue.{node_plan};
+ghost use Rattle.gb_isolation.specs.Project as projected;
+ghost use Rattle.gb_trace.specs.Deeds.{past_in};
+
+use crate::deed::Deed;
+use gb_cap::token::{Need, Token, admits};
+use gb_network::plan::NetworkPlan;
+use gb_node::answer::NodeAnswer;
+use gb_node::event::NodeEvent;
+use gb_rules::address::is_same;
+use gb_types::address::Addr;
+use gb_types::node::NodeId;
+use gb_types::reply::Reply;
+use gb_types::request::Request;
+use gb_types::spec::TenantRow;
+
+/// Whether the request names the group.
+pub(crate) fn is_named(addr: Addr, request: &Request) -> bool
+    ensures { result ≡ projected.is_named addr request.now }
+{
+    match request {
+        Request::AddTenant(_, _) => false,
+        Request::Make(_, named, _) => is_same(addr, *named),
+        Request::OpenGroup(_, named) => is_same(addr, *named),
+        Request::ShutGroup(_, named) => is_same(addr, *named),
+        Request::DropGroup(_, named) => is_same(addr, *named),
+        Request::Say(_, named, _) => is_same(addr, *named),
+        Request::Fetch(_, named, _, _) => is_same(addr, *named),
+    }
+}
+
+/// The row of the tenant, where this added it.
+fn row_added(tenant: u16, deed: &Deed) -> Option<&TenantRow>
+    ensures { option_copied result ≡ row_of tenant (added deed.now.event deed.now.answer) }
+{
+    match deed.event() {
+        NodeEvent::Request(Request::AddTenant(_, row)) => match deed.answer() {
+            NodeAnswer::Reply(Reply::Done) => {
+                if row.tenant == tenant {
+                    Some(row)
+                } else {
+                    None
+                }
+            }
+            _ => None,
+        },
+        _ => None,
+    }
+}
+
+/// The row of the tenant at the node.
+#[tactic(auto, using(crate::proofs::PastLemmas::here, crate::proofs::PastLemmas::elsewhere, crate::proofs::PastLemmas::whole, crate::proofs::PastLemmas::find_later), unfolding(gb_node::specs::Past::tenants_in, gb_network::specs::Run::past_at))]
+pub(crate) fn row_at(a: NodeId, tenant: u16, deeds: &[Deed]) -> Option<&TenantRow>
+    ensures { option_copied result ≡ row_of tenant (tenants_in (past_in a deeds.now)) }
+{
+    let mut found = None;
+    for i in 0..deeds.len() {
+        if deeds[i].is_at(a) {
+            found = found.or(row_added(tenant, &deeds[i]));
+        }
+    }
+    found
+}
+
+/// Whether this is the token for the need under the key of a tenant, if it is there.
+fn is_token(need: Need, token: &Token, row: Option<&TenantRow>) -> bool
+    ensures { result ≡ is_by_row need token.now (option_copied row.entry) }
+{
+    match row {
+        None => false,
+        Some(row) => admits(&row.key, need, token),
+    }
+}
+
+/// Whether the request has the token that it needs at the node.
+pub(crate) fn is_admitted(plan: &NetworkPlan, a: NodeId, deeds: &[Deed], request: &Request) -> bool
+    ensures { result ≡ is_admitted_by (node_plan plan.now a) (past_in a deeds.now) request.now }
+{
+    let (token, addr, need) = match request {
+        Request::AddTenant(token, _) => return admits(&plan.admin_key, Need::Admin, token),
+        Request::Make(token, addr, _) => (token, addr, Need::Tenant(addr.tenant)),
+        Request::OpenGroup(token, addr) => (token, addr, Need::Tenant(addr.tenant)),
+        Request::ShutGroup(token, addr) => (token, addr, Need::Tenant(addr.tenant)),
+        Request::DropGroup(token, addr) => (token, addr, Need::Tenant(addr.tenant)),
+        Request::Say(token, addr, _) => (token, addr, Need::Member(addr.tenant, addr.group, a)),
+        Request::Fetch(token, addr, _, _) => {
+            (token, addr, Need::Member(addr.tenant, addr.group, a))
+        }
+    };
+    is_token(need, token, row_at(a, addr.tenant, deeds))
+}
+
+/// Whether the request is one of the group at the node: it names the group, with the token that it needs.
+pub(crate) fn is_own(
+    plan: &NetworkPlan,
+    addr: Addr,
+    a: NodeId,
+    deeds: &[Deed],
+    request: &Request,
+) -> bool
+    ensures { result ≡ projected.is_own (node_plan plan.now a) addr (past_in a deeds.now) request.now }
+{
+    is_named(addr, request) && is_admitted(plan, a, deeds, request)
+}

@@ -1,0 +1,102 @@
+//! The packets that were packed and that came, read from their texts; and the items of a group in them.
+ghost use Rattle.std.specs.Prelude.{◌≡◌, ◌++◌, [], ◌∷◌, IfOk, OnOk, MatchOption};
+ghost use Rattle.gb_frame.specs.Packet.{item_of};
+ghost use Rattle.gb_groups.specs.AtAddress.{entry_of};
+ghost use Rattle.gb_groups.specs.OneGroup.{names};
+ghost use Rattle.gb_node.specs.Past as past;
+ghost use Rattle.gb_isolation.specs.Project.{items_in};
+
+use crate::deed::Deed;
+use gb_cap::hmac::HmacKey;
+use gb_frame::item::ItemView;
+use gb_frame::reading::decode;
+use gb_frame::view::PacketView;
+use gb_node::answer::{NodeAnswer, PacketAnswer, Sent};
+use gb_node::event::NodeEvent;
+use gb_rules::address::is_same;
+use gb_types::address::Addr;
+use gb_types::entry::{Entries, Entry};
+use gb_types::limits::NODES;
+use gb_types::memory::OutOfMemory;
+use gb_types::node::NodeId;
+use gb_types::payload::Payload;
+use std::alloc::Global;
+
+/// The packet that these bytes are, if they are one.
+pub(crate) fn read<'a>(key: &HmacKey, bytes: &'a [u8]) -> Option<PacketView<'a>>
+    ensures { MatchOption result (past.read key.now bytes.now ≡ []) (λ c. past.read key.now bytes.now ≡ c ∷ []) }
+{
+    match decode(bytes, key) {
+        Ok(packet) => Some(packet),
+        Err(_) => None,
+    }
+}
+
+/// The packet that this took.
+pub(crate) fn came<'a>(key: &HmacKey, deed: &'a Deed) -> Option<PacketView<'a>>
+    ensures { MatchOption result (past.came key.now deed.now.event deed.now.answer ≡ []) (λ c. past.came key.now deed.now.event deed.now.answer ≡ c ∷ []) }
+{
+    let NodeEvent::Packet(bytes) = deed.event() else {
+        return None;
+    };
+    let NodeAnswer::Taken(PacketAnswer::Good(_)) = deed.answer() else {
+        return None;
+    };
+    read(key, bytes.as_slice())
+}
+
+/// The packet that this packed for the node.
+pub(crate) fn packed<'a>(key: &HmacKey, b: NodeId, deed: &'a Deed) -> Option<PacketView<'a>>
+    ensures { MatchOption result (past.packed_for key.now b.number deed.now.event deed.now.answer ≡ []) (λ c. past.packed_for key.now b.number deed.now.event deed.now.answer ≡ c.items ∷ []) }
+{
+    let NodeEvent::Pack(to) = deed.event() else {
+        return None;
+    };
+    let NodeAnswer::Sent(Sent::Packet(text)) = deed.answer() else {
+        return None;
+    };
+    if to.number != b.number {
+        return None;
+    }
+    read(key, text.as_slice())
+}
+
+/// Whether the item is the group's.
+fn is_of(addr: Addr, item: ItemView<'_>) -> bool
+    ensures { result ≡ names addr (item_of item.entry) }
+{
+    let named = Addr {
+        tenant: item.tenant,
+        group: item.group,
+    };
+    is_same(addr, named)
+}
+
+/// What the item says. Nodes beyond the last are counted from 0 again.
+fn entry(alloc: Global, item: ItemView<'_>) -> Result<Entry, OutOfMemory>
+    ensures { IfOk result (λ e. e ≡ entry_of (item_of item.entry)) }
+{
+    let payload = Payload::from_slice(alloc, item.payload)?;
+    Ok(Entry {
+        origin: NodeId::new(item.origin % NODES as u8),
+        seq: item.seq,
+        payload,
+    })
+}
+
+/// Adds the group's items of the packet.
+pub(crate) fn add_items(
+    alloc: Global,
+    addr: Addr,
+    packet: &PacketView<'_>,
+    items: &mut Entries,
+) -> Result<(), OutOfMemory>
+    ensures { OnOk result (items.new ≡ items.old ++ items_in addr packet.now.items) }
+{
+    for item in packet.items() {
+        if is_of(addr, item) {
+            items.push(entry(alloc, item)?)?;
+        }
+    }
+    Ok(())
+}

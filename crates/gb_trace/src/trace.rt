@@ -1,0 +1,14 @@
+//! What a run leaves.
+use gb_network::answer::Answer;
+use gb_network::posted::Posted;
+
+/// What a run of a network leaves.
+#[derive(Drop)]
+pub struct Trace {
+    /// The answer to each event, in order.
+    pub answers: Vec<Answer>,
+    /// Every packet that was sent, in order: packet 1 stands first.
+    pub packets: Vec<Posted>,
+    /// Whether a node lacked memory for some event.
+    pub refused: bool,
+}

@@ -1,0 +1,10 @@
+//! Worked runs of networks as tests: three tenants whose messages share frames, seen in the run and alone. There is nothing
+//! here but tests.
+#![tactic(auto)]
+
+#[cfg(test)]
+mod runs;
+#[cfg(test)]
+mod schedule;
+#[cfg(test)]
+mod short;

@@ -1,0 +1,164 @@
+// What happens in a network of two nodes, and to one of its groups by itself.
+use gb_alone::event::{GroupEvent, GroupStep};
+use gb_cap::hmac::Key;
+use gb_cap::token::{Need, Token, token};
+use gb_network::event::Event;
+use gb_network::plan::NetworkPlan;
+use gb_node::event::NodeEvent;
+use gb_rules::reserve::Reserve;
+use gb_types::address::Addr;
+use gb_types::kind::Kind;
+use gb_types::memory::OutOfMemory;
+use gb_types::node::{NodeId, NodeSet};
+use gb_types::payload::Payload;
+use gb_types::request::Request;
+use gb_types::spec::{Spec, TenantRow};
+use std::alloc::Global;
+
+pub const FIRST: NodeId = NodeId { number: 0 };
+
+pub const SECOND: NodeId = NodeId { number: 1 };
+
+pub const TENANTS: [u16; 3] = [7, 8, 9];
+
+pub const PLAN: NetworkPlan = NetworkPlan {
+    nodes: 2,
+    silence: 3,
+    places: 8,
+    cluster_key: [3; 32],
+    admin_key: [1; 32],
+};
+
+const TENANT_KEY: Key = [2; 32];
+
+pub fn group_of(tenant: u16) -> Addr {
+    Addr { tenant, group: 1 }
+}
+
+fn row(tenant: u16) -> TenantRow {
+    TenantRow {
+        tenant,
+        key: TENANT_KEY,
+        groups: 2,
+        msgs: 4,
+        bytes: 64,
+        window: 4,
+    }
+}
+
+fn spec() -> Spec {
+    let mut members = NodeSet::new();
+    members.insert(FIRST);
+    members.insert(SECOND);
+    Spec {
+        kind: Kind::Beb,
+        members,
+        msgs: 4,
+        bytes: 64,
+        window: 4,
+    }
+}
+
+fn member(addr: Addr, node: NodeId) -> Token {
+    token(&TENANT_KEY, Need::Member(addr.tenant, addr.group, node))
+}
+
+fn owner(addr: Addr) -> Token {
+    token(&TENANT_KEY, Need::Tenant(addr.tenant))
+}
+
+/// A request is asked at a node.
+fn ask(events: &mut Vec<Event>, node: NodeId, request: Request) -> Result<(), OutOfMemory> {
+    events.push(Event::At(node, NodeEvent::Request(request)))?;
+    Ok(())
+}
+
+/// A tenant comes to a node, and its group is made there and opened.
+fn furnish(events: &mut Vec<Event>, node: NodeId, tenant: u16) -> Result<(), OutOfMemory> {
+    let addr = group_of(tenant);
+    let admin = token(&PLAN.admin_key, Need::Admin);
+    ask(events, node, Request::AddTenant(admin, row(tenant)))?;
+    ask(events, node, Request::Make(owner(addr), addr, spec()))?;
+    ask(events, node, Request::OpenGroup(owner(addr), addr))
+}
+
+/// A group says the number of its tenant.
+fn say(alloc: Global, events: &mut Vec<Event>, tenant: u16) -> Result<(), OutOfMemory> {
+    let addr = group_of(tenant);
+    let payload = Payload::from_slice(alloc, &tenant.to_be_bytes())?;
+    ask(
+        events,
+        FIRST,
+        Request::Say(member(addr, FIRST), addr, payload),
+    )
+}
+
+fn fetch(events: &mut Vec<Event>, node: NodeId, tenant: u16) -> Result<(), OutOfMemory> {
+    let addr = group_of(tenant);
+    ask(
+        events,
+        node,
+        Request::Fetch(member(addr, node), addr, 0, 16),
+    )
+}
+
+/// Both nodes have the three tenants' groups; each says something at the first node. One frame has the three messages; it
+/// comes to the second node, twice. Somebody says something with another node's token. The last tenant drops its group at
+/// the second node, which then stops; the logs are asked for.
+pub fn events(alloc: Global) -> Result<Vec<Event>, OutOfMemory> {
+    let mut events = Vec::new(alloc);
+    for node in [FIRST, SECOND] {
+        for tenant in TENANTS {
+            furnish(&mut events, node, tenant)?;
+        }
+    }
+    for tenant in TENANTS {
+        say(alloc, &mut events, tenant)?;
+    }
+    events.push(Event::At(FIRST, NodeEvent::Pack(SECOND)))?;
+    events.push(Event::Arrive(1))?;
+    events.push(Event::Arrive(1))?;
+    let addr = group_of(7);
+    let forged = Request::Fetch(member(addr, SECOND), addr, 0, 16);
+    ask(&mut events, FIRST, forged)?;
+    let gone = group_of(9);
+    ask(&mut events, SECOND, Request::DropGroup(owner(gone), gone))?;
+    fetch(&mut events, SECOND, 7)?;
+    events.push(Event::At(SECOND, NodeEvent::Stop))?;
+    fetch(&mut events, SECOND, 8)?;
+    Ok(events)
+}
+
+fn step(steps: &mut Vec<GroupStep>, node: NodeId, event: GroupEvent) -> Result<(), OutOfMemory> {
+    steps.push(GroupStep { node, event })?;
+    Ok(())
+}
+
+/// What of this concerns a tenant's group, written by hand.
+pub fn steps(alloc: Global, tenant: u16) -> Result<Vec<GroupStep>, OutOfMemory> {
+    let mut steps = Vec::new(alloc);
+    for node in [FIRST, SECOND] {
+        step(
+            &mut steps,
+            node,
+            GroupEvent::Tenant(Reserve::of(&row(tenant))),
+        )?;
+        step(&mut steps, node, GroupEvent::Make(spec()))?;
+        step(&mut steps, node, GroupEvent::Open)?;
+    }
+    let payload = Payload::from_slice(alloc, &tenant.to_be_bytes())?;
+    step(&mut steps, FIRST, GroupEvent::Say(payload))?;
+    step(&mut steps, FIRST, GroupEvent::Took(SECOND, 1))?;
+    step(&mut steps, SECOND, GroupEvent::Came(FIRST, 1))?;
+    if tenant == 7 {
+        step(&mut steps, SECOND, GroupEvent::Fetch(0, 16))?;
+    }
+    if tenant == 8 {
+        step(&mut steps, SECOND, GroupEvent::Stop)?;
+        step(&mut steps, SECOND, GroupEvent::Fetch(0, 16))?;
+    }
+    if tenant == 9 {
+        step(&mut steps, SECOND, GroupEvent::Drop)?;
+    }
+    Ok(steps)
+}
