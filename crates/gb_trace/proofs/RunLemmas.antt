@@ -1,24 +1,23 @@
 -- A run that goes on by one more event.
 use Rattle.std.proofs.Common.{◌≡◌, ℕ, zero, suc, ◌+◌, ◌<◌, ◌≤◌, inl, inr, true, false, Bool, List, [], ◌∷◌, ◌++◌, length, take, get_or, Option, Some, None, refl, sym, ap, subst, ◌∙◌, arith, add-one, append_assoc, length-append}
-use Rattle.std.specs.Prelude.{◌⊎◌, slice_get, slice_set, option_map, reverse, All, Contains, MatchBool, if◌then◌else◌}
+use Rattle.std.specs.Prelude.{◌⊎◌, slice_get, option_map, reverse, All, Contains, MatchBool, if◌then◌else◌}
 use Rattle.std.proofs.lemmas.List.{append-nil, reverse-append, take_all, take_more}
 use Rattle.std.proofs.lemmas.List.Elements.{All-append, All-get_or}
 use Rattle.gb_types.specs.declared.node.NodeId.{NodeId}
-use Rattle.gb_node.specs.NodeStep.{turn, running_turn, stopped_answer, IsTurn, IsStarved}
+use Rattle.gb_node.specs.NodeStep.{running_turn, stopped_answer, IsTurn, IsStarved}
 use Rattle.gb_node.specs.NodeValue.{NodeValue}
 use Rattle.gb_node.specs.declared.answer.NodeAnswer.{NodeAnswer}
 use Rattle.gb_node.specs.declared.answer.NodeAnswer.TheVariants.{Reply as Replied, Taken, Sent, Ticked, Halted}
-use Rattle.gb_node.specs.declared.answer.Sent.{Sent as SentValue}
 use Rattle.gb_node.specs.declared.answer.Sent.TheVariants.{Packet as SentPacket, Nothing as SentNothing, Refused as SentRefused}
 use Rattle.gb_node.specs.declared.event.NodeEvent.{NodeEvent}
 use Rattle.gb_node.specs.declared.event.NodeEvent.TheVariants.{Request as Asked, Packet as Came, Pack, Again, Ack, Tick, Stop}
 use Rattle.gb_network.proofs.CodeLemmas.{get_contains}
 use Rattle.gb_network.proofs.NodesLemmas.{stays}
-use Rattle.gb_network.specs.NetworkStep.{posted_to, posted, answer_of, packet_numbered, is_packet_for, NodeActs, IsAt, IsArrival, IsPlaced, IsStep}
-use Rattle.gb_network.specs.NetworkValue.{NetworkValue, network, node_at, new_network, IsNetworkPlan}
+use Rattle.gb_network.specs.NetworkStep.{posted, answer_of, packet_numbered, is_packet_for, NodeActs, IsAt, IsArrival, IsPlaced, IsStep}
+use Rattle.gb_network.specs.NetworkValue.{NetworkValue, node_at, new_network}
 use Rattle.gb_network.specs.Run.{Did, ComesTo, IsSent}
 use Rattle.gb_network.specs.declared.answer.Answer.{Answer}
-use Rattle.gb_network.specs.declared.answer.Answer.TheVariants.{NoPacket, NotNoise}
+use Rattle.gb_network.specs.declared.answer.Answer.TheVariants.{NotNoise}
 use Rattle.gb_network.specs.declared.event.Event.{Event}
 use Rattle.gb_network.specs.declared.event.Event.TheVariants.{At, Arrive}
 use Rattle.gb_network.specs.declared.plan.NetworkPlan.{NetworkPlan}

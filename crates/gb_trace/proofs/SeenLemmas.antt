@@ -1,20 +1,16 @@
 -- What the plain programs see of an isolated group.
-use Rattle.std.proofs.Common.{◌≡◌, ℕ, ◌<◌, ◌≤◌, List, ◌++◌, length, take, sym, ◌∙◌, ap, subst, arith}
+use Rattle.std.proofs.Common.{◌≡◌, ℕ, ◌<◌, List, ◌++◌, length, take, sym, ◌∙◌, ap, subst, arith}
 use Rattle.std.proofs.lemmas.List.{take_all, take-append-le}
-use Rattle.gb_types.specs.declared.address.Addr.{Addr}
 use Rattle.gb_types.specs.declared.entry.Entry.{Entry}
-use Rattle.gb_types.specs.declared.limits.TheConstants.{NODES}
-use Rattle.gb_types.specs.declared.node.NodeId.{NodeId}
 use Rattle.gb_groups.specs.OneGroup.{waiting_in}
 use Rattle.gb_alone.specs.Alone.{Group}
 use Rattle.gb_alone.proofs.ObservationLemmas.{seen_same}
 use Rattle.gb_node.specs.NodeStep.{node_numbered}
 use Rattle.gb_node.specs.Past.{frames_to}
-use Rattle.gb_network.specs.NetworkValue.{NetworkValue, node_plan}
-use Rattle.gb_network.specs.Run.{Did, past_at}
-use Rattle.gb_network.specs.declared.plan.NetworkPlan.{NetworkPlan}
+use Rattle.gb_network.specs.NetworkValue.{node_plan}
+use Rattle.gb_network.specs.Run.{past_at}
 use Rattle.gb_isolation.proofs.NoticeLemmas.{numbered_is}
-use Rattle.gb_isolation.specs.Isolation.{Seen, group_at, alone_in, IsIsolated}
+use Rattle.gb_isolation.specs.Isolation.{Seen, group_at, alone_in}
 use Rattle.gb_isolation.specs.Project.{items_of, replies_in}
 use Rattle.gb_trace.specs.Observed.{IsolatedGroupsAreSeenAlone}
 

@@ -1,5 +1,5 @@
 -- What is seen of a group in a run, but for what only the nodes hold.
-use Rattle.std.specs.Prelude.{ℕ, ◌≡◌, ◌≤◌, List, map}
+use Rattle.std.specs.Prelude.{◌≡◌, ◌≤◌, List, map}
 use Rattle.gb_types.specs.declared.address.Addr.{Addr}
 use Rattle.gb_types.specs.declared.limits.TheConstants.{NODES}
 use Rattle.gb_types.specs.declared.node.NodeId.{NodeId}
