@@ -1,0 +1,265 @@
+-- One event of an interleaving: it is the entry's event at its node.
+use Rattle.std.proofs.Common.{◌≡◌, ℕ, zero, suc, ◌+◌, ◌⊎◌, ◌<◌, List, [], ◌∷◌, ◌++◌, length, map, Bool, true, false, Option, Some, None, inl, inr, refl, sym, ◌∙◌, ap, subst, arith}
+use Rattle.std.specs.Prelude.{slice_get, nat_eq, nat_lt, ◌&&◌, if◌then◌else◌, is_ok, option_map, Result, Ok, Err, Contains, MatchBool}
+use Rattle.std.proofs.lemmas.Bool.{eqb-true}
+use Rattle.gb_types.specs.declared.node.NodeId.{NodeId}
+use Rattle.gb_types.specs.declared.refusal.Refusal.TheVariants.{OutOfMemory}
+use Rattle.gb_types.specs.declared.reply.Reply.TheVariants.{Refused}
+use Rattle.gb_types.specs.declared.request.Request.{Request}
+use Rattle.gb_types.proofs.SameLemmas.{same_number}
+use Rattle.gb_frame.specs.declared.fault.PacketFault.{PacketFault}
+use Rattle.gb_frame.specs.declared.fault.PacketFault.TheVariants.{Node}
+use Rattle.gb_frame.specs.Packet.{Content}
+use Rattle.gb_frame.specs.Reading.{reading}
+use Rattle.gb_node.specs.NodeStep.{turn, if_here, IsTurn}
+use Rattle.gb_node.specs.NodeValue.{NodeValue, new_node}
+use Rattle.gb_node.specs.Past.{packet_in, read}
+use Rattle.gb_node.specs.PastLaw.{IsOfPast, PastsSay}
+use Rattle.gb_node.specs.declared.answer.NodeAnswer.{NodeAnswer}
+use Rattle.gb_node.specs.declared.answer.NodeAnswer.TheVariants.{Reply, Taken, Sent, Ticked, Halted}
+use Rattle.gb_node.specs.declared.answer.Sent.TheVariants.{Packet as Gave, Nothing, Refused as Unsent}
+use Rattle.gb_node.specs.declared.event.NodeEvent.{NodeEvent}
+use Rattle.gb_node.specs.declared.event.NodeEvent.TheVariants.{Request as Asked, Packet as Came, Pack, Again, Ack, Tick, Stop}
+use Rattle.gb_node.proofs.EventLemmas.{starved_says}
+use Rattle.gb_node.proofs.SentLemmas.{sends}
+use Rattle.gb_network.specs.Links.{PacketsAreHonest}
+use Rattle.gb_network.specs.NetworkStep.{NodeActs, posted, answer_of, packet_numbered, is_packet_for, IsAt, IsArrival, IsStep, IsPlaced}
+use Rattle.gb_network.specs.NetworkValue.{NetworkValue, node_plan, node_at}
+use Rattle.gb_network.specs.Run.{Did, ComesTo, IsSent, past_at}
+use Rattle.gb_network.specs.declared.answer.Answer.{Answer}
+use Rattle.gb_network.specs.declared.answer.Answer.TheVariants.{Reply as AnswerReply, Taken as AnswerTaken, Sent as AnswerSent, Ticked as AnswerTicked, Halted as AnswerHalted, NoPacket, NotNoise}
+use Rattle.gb_network.specs.declared.answer.Sending.TheVariants.{Packet as SendingPacket, Nothing as SendingNothing, Refused as SendingRefused}
+use Rattle.gb_network.specs.declared.event.Event.{Event}
+use Rattle.gb_network.specs.declared.plan.NetworkPlan.{NetworkPlan}
+use Rattle.gb_network.specs.declared.posted.Posted.{Posted}
+use Rattle.gb_network.proofs.NodesLemmas.{have_pasts}
+use Rattle.gb_merge.specs.Interleaving.{is_good, sent_by, text_numbered, IsEventOf}
+use Rattle.gb_merge.specs.Merged.{told, is_starved}
+use Rattle.gb_merge.specs.Faults.{node_answer, node_after}
+use Rattle.gb_merge.specs.Woven.{is_refused}
+
+-- Texts.
+
+abbrev pub text_of : Posted → List ℕ
+text_of p = p.text
+
+abbrev pub texts : List Posted → List (List ℕ)
+texts packets = map text_of packets
+
+-- the packet that has the text
+record HasText (packets : List Posted) (k : ℕ) (bytes : List ℕ) : Type 0 where
+  packet : Posted
+  there : packet_numbered packets k ≡ Some packet
+  text : packet.text ≡ bytes
+
+text_got : (packets : List Posted) (k : ℕ) (bytes : List ℕ) → slice_get (texts packets) k ≡ Some bytes → (p : Posted) × (slice_get packets k ≡ Some p) × (p.text ≡ bytes)
+text_got [] k bytes at = absurd (cc)
+text_got (q ∷ packets) zero bytes at = (q, refl, let e : q.text ≡ bytes = cc in e)
+text_got (q ∷ packets) (suc k) bytes at = text_got packets k bytes at
+
+has_text : (packets : List Posted) (k : ℕ) (bytes : List ℕ) → text_numbered (texts packets) k ≡ Some bytes → HasText packets k bytes
+has_text packets zero bytes at = absurd (cc)
+has_text packets (suc k) bytes at = let got = text_got packets k bytes at in record { packet = got.0; there = got.1; text = got.2 }
+
+get_contains : (packets : List Posted) (k : ℕ) (p : Posted) → slice_get packets k ≡ Some p → Contains packets p
+get_contains [] k p e = absurd (cc)
+get_contains (q ∷ packets) zero p e = (0, omega arith, let same : q ≡ p = cc in same)
+get_contains (q ∷ packets) (suc k) p e = let rest = get_contains packets k p e in (suc rest.0, let l = rest.1 in omega (arith, l), rest.2)
+
+numbered_contains : (packets : List Posted) (k : ℕ) (p : Posted) → packet_numbered packets k ≡ Some p → Contains packets p
+numbered_contains packets zero p e = absurd (cc)
+numbered_contains packets (suc k) p e = get_contains packets k p e
+
+-- Packets for a node.
+
+-- a node of a network takes those packets that are good there
+pub good_is : PastsSay → (plan : NetworkPlan) (run : List Did) (v : NetworkValue) (a : NodeId) (bytes : List ℕ) → ComesTo plan run v → a.number < plan.nodes → is_packet_for (node_at v a) (Came bytes) ≡ is_good plan a bytes
+unfolding is_good
+good_is pasts plan run v a bytes comes within =
+    let was : IsOfPast (node_plan plan a) (past_at a run) (node_at v a) = pasts (node_plan plan a) (past_at a run) (node_at v a) (have_pasts plan run v a comes within) in
+    ap (λ (k : List ℕ). is_ok (if_here (node_at v a) (reading k bytes))) was.key ∙ by was (reading plan.cluster_key bytes)
+  where
+    by : IsOfPast (node_plan plan a) (past_at a run) (node_at v a) → (r : Result Content PacketFault) → is_ok (if_here (node_at v a) r) ≡ is_ok (if_here (new_node (node_plan plan a)) r)
+    by was (Err fault) = refl
+    by was (Ok c) = λ i. is_ok (if nat_eq c.to (was.me i).number && nat_lt c.from (was.nodes i) then Ok c else Err Node)
+
+-- a good packet says for which node it is
+goal_is : (plan : NetworkPlan) (a : NodeId) (bytes : List ℕ) (c : Content) → read plan.cluster_key bytes ≡ c ∷ [] → is_good plan a bytes ≡ true → c.to ≡ a.number
+unfolding is_good
+goal_is plan a bytes c says good = by (reading plan.cluster_key bytes) says good
+  where
+    right : (d : Content) (t u : Bool) → nat_eq d.to a.number ≡ t → is_ok (if t && u then Ok d else Err Node) ≡ true → d.to ≡ a.number
+    right d true u is so = eqb-true d.to a.number is
+    right d false u is so = absurd (cc)
+
+    by : (r : Result Content PacketFault) → packet_in r ≡ c ∷ [] → is_ok (if_here (new_node (node_plan plan a)) r) ≡ true → c.to ≡ a.number
+    by (Err fault) is so = absurd (cc)
+    by (Ok d) is so =
+        let same : d ≡ c = cc in
+        ap (λ (x : Content). x.to) (sym same) ∙ right d (nat_eq d.to a.number) (nat_lt d.from plan.nodes) refl so
+
+-- One event.
+
+-- the node does it
+pub record Acted (w : NetworkValue) (a : NodeId) (n : NodeEvent) (x : Answer) (new : NetworkValue) : Type 0 where
+  pub own : NodeAnswer
+  pub acts : NodeActs w a n own new
+  pub answered : x ≡ answer_of (length w.packets) own
+  pub sent : IsSent w a n
+
+acted : (w : NetworkValue) (a : NodeId) (n : NodeEvent) (x : Answer) (new : NetworkValue) → IsAt w a n x new → IsSent w a n → Acted w a n x new
+acted w a n x new at sent = record { own = at.0; acts = at.1; answered = at.2; sent = sent }
+
+pub acts : PastsSay → PacketsAreHonest → (plan : NetworkPlan) (run : List Did) (w : NetworkValue) (a : NodeId) (sent : List (List ℕ)) (n : NodeEvent) (e : Event) (x : Answer) (new : NetworkValue) → ComesTo plan run w → a.number < plan.nodes → IsEventOf plan a sent n e → texts w.packets ≡ sent → IsStep w e x new → Acted w a n x new
+acts pasts honest plan run w a sent (Asked request) e x new comes within is packets step = acted w a _ x new (subst (λ (d : Event). IsStep w d x new) is step) (λ bytes same yes. absurd (cc))
+acts pasts honest plan run w a sent (Pack b) e x new comes within is packets step = acted w a _ x new (subst (λ (d : Event). IsStep w d x new) is step) (λ bytes same yes. absurd (cc))
+acts pasts honest plan run w a sent (Again b n) e x new comes within is packets step = acted w a _ x new (subst (λ (d : Event). IsStep w d x new) is step) (λ bytes same yes. absurd (cc))
+acts pasts honest plan run w a sent (Ack b) e x new comes within is packets step = acted w a _ x new (subst (λ (d : Event). IsStep w d x new) is step) (λ bytes same yes. absurd (cc))
+acts pasts honest plan run w a sent Tick e x new comes within is packets step = acted w a _ x new (subst (λ (d : Event). IsStep w d x new) is step) (λ bytes same yes. absurd (cc))
+acts pasts honest plan run w a sent Stop e x new comes within is packets step = acted w a _ x new (subst (λ (d : Event). IsStep w d x new) is step) (λ bytes same yes. absurd (cc))
+acts pasts honest plan run w a sent (Came bytes) e x new comes within (inr noise) packets step =
+    let off : is_packet_for (node_at w a) (Came bytes) ≡ false = good_is pasts plan run w a bytes comes within ∙ noise.1 in
+    let at : IsAt w a (Came bytes) x new = subst (λ b. MatchBool b ((x ≡ NotNoise) × (new ≡ w)) (IsAt w a (Came bytes) x new)) off (subst (λ (d : Event). IsStep w d x new) noise.0 step) in
+    acted w a (Came bytes) x new at (λ b same yes. absurd (let one : is_packet_for (node_at w a) (Came bytes) ≡ true = yes in let e : true ≡ false = sym one ∙ off in cc))
+acts pasts honest plan run w a sent (Came bytes) e x new comes within (inl came) packets step =
+    let has = has_text w.packets came.0 bytes (ap (λ (ps : List (List ℕ)). text_numbered ps came.0) packets ∙ came.2) in
+    let arrives : IsAt w has.packet.to (Came has.packet.text) x new = subst (λ o. IsArrival w o x new) has.there (subst (λ (d : Event). IsStep w d x new) came.1 step) in
+    let inside = numbered_contains w.packets came.0 has.packet has.there in
+    let goal : has.packet.to ≡ a = here has in
+    let at : IsAt w a (Came bytes) x new = subst (λ t. IsAt w a (Came t) x new) has.text (subst (λ b. IsAt w b (Came has.packet.text) x new) goal arrives) in
+    acted w a (Came bytes) x new at (λ b same yes. let t : b ≡ bytes = bytes_in b bytes (sym same) in subst (λ u. Contains w.packets (record { to = a; text = u })) (sym t) (subst (λ u. Contains w.packets (record { to = a; text = u })) has.text (subst (λ c. Contains w.packets (record { to = c; text = has.packet.text })) goal inside)))
+  where
+    bytes_in : (b c : List ℕ) → Came b ≡ Came c → b ≡ c
+    bytes_in b c same = cc
+
+    got : (k : ℕ) (p : Posted) → packet_numbered w.packets k ≡ Some p → (i : ℕ) × (slice_get w.packets i ≡ Some p)
+    got zero p at = absurd (cc)
+    got (suc k) p at = (k, at)
+
+    here : (has : HasText w.packets came.0 bytes) → has.packet.to ≡ a
+    here has =
+        let at = got came.0 has.packet has.there in
+        let h = honest plan run w comes at.0 has.packet at.1 in
+        let reads : read plan.cluster_key bytes ≡ h.content ∷ [] = ap (read plan.cluster_key) (sym has.text) ∙ h.text in
+        same_number has.packet.to a (sym h.goal ∙ goal_is plan a bytes h.content reads came.3)
+
+-- Answers.
+
+-- what is no want of memory is what the node should answer
+pub turned : (old : NodeValue) (n : NodeEvent) (g : NodeAnswer) (new : NodeValue) → IsTurn old n g new → is_starved g ≡ false → (g ≡ node_answer old n) × (new ≡ node_after old n)
+unfolding node_answer node_after
+turned old n g new (inr went) fed = went
+turned old n g new (inl starved) fed = absurd (by (starved_says n (turn old n).answer g starved.0))
+  where
+    by : (g ≡ Sent (Unsent OutOfMemory)) ⊎ ((r : Request) × (n ≡ Asked r) × (g ≡ Reply (Refused OutOfMemory))) → ⊥
+    by (inl is) = let e : true ≡ false = sym (ap is_starved is) ∙ fed in cc
+    by (inr is) = let e : true ≡ false = sym (ap is_starved is.2) ∙ fed in cc
+
+-- an answer of the network that is no want of memory tells of none
+pub fed_is : (packets : List Posted) (x : Answer) (g : NodeAnswer) → told packets x ≡ Some g → is_refused x ≡ false → is_starved g ≡ false
+fed_is packets (AnswerReply reply) g is fed = let same : Reply reply ≡ g = cc in ap is_starved (sym same) ∙ fed
+fed_is packets (AnswerTaken taken) g is fed = let same : Taken taken ≡ g = cc in ap is_starved (sym same) ∙ fed
+fed_is packets (AnswerSent (SendingPacket k)) g is fed = by (packet_numbered packets k) is
+  where
+    by : (o : Option Posted) → option_map (λ (p : Posted). Sent (Gave p.text)) o ≡ Some g → is_starved g ≡ false
+    by None is = absurd (cc)
+    by (Some p) is = let same : Sent (Gave p.text) ≡ g = cc in ap is_starved (sym same)
+fed_is packets (AnswerSent SendingNothing) g is fed = let same : Sent Nothing ≡ g = cc in ap is_starved (sym same)
+fed_is packets (AnswerSent (SendingRefused why)) g is fed = let same : Sent (Unsent why) ≡ g = cc in ap is_starved (sym same) ∙ fed
+fed_is packets (AnswerTicked ticked) g is fed = let same : Ticked ticked ≡ g = cc in ap is_starved (sym same) ∙ fed
+fed_is packets (AnswerHalted halted) g is fed = let same : Halted halted ≡ g = cc in ap is_starved (sym same) ∙ fed
+fed_is packets NoPacket g is fed = absurd (cc)
+fed_is packets NotNoise g is fed = absurd (cc)
+
+-- What is sent.
+
+pack_none : (b : NodeId) (g : NodeAnswer) → sent_by g ≡ [] → posted (Pack b) g ≡ []
+pack_none b (Reply reply) none = refl
+pack_none b (Taken taken) none = refl
+pack_none b (Sent (Gave text)) none = absurd (cc)
+pack_none b (Sent Nothing) none = refl
+pack_none b (Sent (Unsent why)) none = refl
+pack_none b (Ticked ticked) none = refl
+pack_none b (Halted halted) none = refl
+
+again_none : (b : NodeId) (n : ℕ) (g : NodeAnswer) → sent_by g ≡ [] → posted (Again b n) g ≡ []
+again_none b n (Reply reply) none = refl
+again_none b n (Taken taken) none = refl
+again_none b n (Sent (Gave text)) none = absurd (cc)
+again_none b n (Sent Nothing) none = refl
+again_none b n (Sent (Unsent why)) none = refl
+again_none b n (Ticked ticked) none = refl
+again_none b n (Halted halted) none = refl
+
+ack_none : (b : NodeId) (g : NodeAnswer) → sent_by g ≡ [] → posted (Ack b) g ≡ []
+ack_none b (Reply reply) none = refl
+ack_none b (Taken taken) none = refl
+ack_none b (Sent (Gave text)) none = absurd (cc)
+ack_none b (Sent Nothing) none = refl
+ack_none b (Sent (Unsent why)) none = refl
+ack_none b (Ticked ticked) none = refl
+ack_none b (Halted halted) none = refl
+
+none_posted : (n : NodeEvent) (g : NodeAnswer) → sent_by g ≡ [] → posted n g ≡ []
+none_posted (Asked request) g none = refl
+none_posted (Came bytes) g none = refl
+none_posted (Pack b) g none = pack_none b g none
+none_posted (Again b n) g none = again_none b n g none
+none_posted (Ack b) g none = ack_none b g none
+none_posted Tick g none = refl
+none_posted Stop g none = refl
+
+-- a packet goes to some node
+one_posted : (v : NodeValue) (n : NodeEvent) (text : List ℕ) (w : NodeValue) → IsTurn v n (Sent (Gave text)) w → (b : NodeId) × (posted n (Sent (Gave text)) ≡ record { to = b; text = text } ∷ [])
+one_posted v (Pack b) text w turn = (b, refl)
+one_posted v (Again b n) text w turn = (b, refl)
+one_posted v (Ack b) text w turn = (b, refl)
+one_posted v (Asked request) text w turn = absurd (let is = (sends v (Asked request) text w (λ x. cc) turn).is in cc)
+one_posted v (Came bytes) text w turn = absurd (let is = (sends v (Came bytes) text w (λ x. cc) turn).is in cc)
+one_posted v Tick text w turn = absurd (let is = (sends v Tick text w (λ x. cc) turn).is in cc)
+one_posted v Stop text w turn = absurd (let is = (sends v Stop text w (λ x. cc) turn).is in cc)
+
+pub posted_is : (v : NodeValue) (n : NodeEvent) (g : NodeAnswer) (w : NodeValue) → IsTurn v n g w → texts (posted n g) ≡ sent_by g
+posted_is v n (Reply reply) w turn = ap texts (none_posted n (Reply reply) refl)
+posted_is v n (Taken taken) w turn = ap texts (none_posted n (Taken taken) refl)
+posted_is v n (Sent (Gave text)) w turn = ap texts (one_posted v n text w turn).1
+posted_is v n (Sent Nothing) w turn = ap texts (none_posted n (Sent Nothing) refl)
+posted_is v n (Sent (Unsent why)) w turn = ap texts (none_posted n (Sent (Unsent why)) refl)
+posted_is v n (Ticked ticked) w turn = ap texts (none_posted n (Ticked ticked) refl)
+posted_is v n (Halted halted) w turn = ap texts (none_posted n (Halted halted) refl)
+
+seam : {X : Type 0} (xs : List X) (y : X) (ys : List X) (k : ℕ) → k ≡ length xs → slice_get (xs ++ y ∷ ys) k ≡ Some y
+seam [] y ys zero is = refl
+seam [] y ys (suc k) is = absurd (omega (arith, is))
+seam (x ∷ xs) y ys zero is = absurd (omega (arith, is))
+seam (x ∷ xs) y ys (suc k) is = seam xs y ys k (omega (arith, is))
+
+numbered_last : (packets : List Posted) (p : Posted) (k : ℕ) → k ≡ length packets + 1 → packet_numbered (packets ++ p ∷ []) k ≡ Some p
+numbered_last packets p zero is = absurd (omega (arith, is))
+numbered_last packets p (suc k) is = seam packets p [] k (omega (arith, is))
+
+-- the answer tells what the node gave
+told_is : (before packets : List Posted) (v : NodeValue) (n : NodeEvent) (g : NodeAnswer) (w : NodeValue) → IsTurn v n g w → packets ≡ before ++ posted n g → told packets (answer_of (length before) g) ≡ Some g
+told_is before packets v n (Reply reply) w turn is = refl
+told_is before packets v n (Taken taken) w turn is = refl
+told_is before packets v n (Sent Nothing) w turn is = refl
+told_is before packets v n (Sent (Unsent why)) w turn is = refl
+told_is before packets v n (Ticked ticked) w turn is = refl
+told_is before packets v n (Halted halted) w turn is = refl
+told_is before packets v n (Sent (Gave text)) w turn is =
+    let one = one_posted v n text w turn in
+    ap (option_map (λ (p : Posted). Sent (Gave p.text))) (ap (λ ps. packet_numbered ps (length before + 1)) (is ∙ ap (λ ps. before ++ ps) one.1) ∙ numbered_last before (record { to = one.0; text = text }) (length before + 1) refl)
+
+pub told_own : (w : NetworkValue) (a : NodeId) (n : NodeEvent) (x : Answer) (new : NetworkValue) (d : Acted w a n x new) → told new.packets x ≡ Some d.own
+told_own w a n x new d = ap (told new.packets) d.answered ∙ told_is w.packets new.packets (node_at w a) n d.own d.acts.node d.acts.turn (ap (λ (v : NetworkValue). v.packets) d.acts.after)
+
+-- the event happens at one of the nodes
+pub placed_so : (plan : NetworkPlan) (nodes : ℕ) (a : NodeId) (sent : List (List ℕ)) (n : NodeEvent) (e : Event) → a.number < nodes → IsEventOf plan a sent n e → IsPlaced nodes e
+placed_so plan nodes a sent (Asked request) e within is = subst (IsPlaced nodes) (sym is) within
+placed_so plan nodes a sent (Pack b) e within is = subst (IsPlaced nodes) (sym is) within
+placed_so plan nodes a sent (Again b n) e within is = subst (IsPlaced nodes) (sym is) within
+placed_so plan nodes a sent (Ack b) e within is = subst (IsPlaced nodes) (sym is) within
+placed_so plan nodes a sent Tick e within is = subst (IsPlaced nodes) (sym is) within
+placed_so plan nodes a sent Stop e within is = subst (IsPlaced nodes) (sym is) within
+placed_so plan nodes a sent (Came bytes) e within (inl came) = subst (IsPlaced nodes) (sym came.1) tt
+placed_so plan nodes a sent (Came bytes) e within (inr noise) = subst (IsPlaced nodes) (sym noise.0) within

@@ -1,0 +1,13 @@
+pub mod In
+pub mod MailLemmas
+pub mod Weaving
+pub mod Holding
+pub mod Going
+pub mod Counting
+pub mod Marking
+pub mod Telling
+pub mod WeaveLemmas
+pub mod CodeLemmas
+pub mod Acting
+pub mod Following
+pub mod Merging

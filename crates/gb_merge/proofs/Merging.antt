@@ -1,0 +1,113 @@
+-- What merging comes to.
+use Rattle.std.proofs.Common.{◌≡◌, ℕ, suc, ◌⊎◌, ◌<◌, ◌≤◌, List, [], ◌∷◌, ◌++◌, length, map, take, Bool, true, false, Some, inl, inr, refl, sym, ◌∙◌, ap, subst, arith, append_assoc}
+use Rattle.std.specs.Prelude.{slice_get, if◌then◌else◌, nat_eq, ◌≢◌}
+use Rattle.std.proofs.lemmas.Bool.{cases_lt}
+use Rattle.std.proofs.lemmas.List.{append-nil, get_or_past, reverse-append}
+use Rattle.std.proofs.Math.Seq.{take-append_seam}
+use Rattle.gb_types.specs.declared.node.NodeId.{NodeId}
+use Rattle.gb_node.specs.Past.{Happened}
+use Rattle.gb_node.specs.declared.tape.TapeEntry.{TapeEntry}
+use Rattle.gb_network.specs.NetworkValue.{NetworkValue}
+use Rattle.gb_network.specs.Run.{Did, past_at}
+use Rattle.gb_network.specs.declared.event.Event.{Event}
+use Rattle.gb_network.specs.declared.plan.NetworkPlan.{NetworkPlan}
+use Rattle.gb_merge.specs.Interleaving.{Pick, entries_at, AreEvents, tape_of, sent_by}
+use Rattle.gb_merge.specs.Merged.{is_starved, did, run_of, happened, past_of, IsMerged}
+use Rattle.gb_merge.specs.Faults.{node_answer, replay, IsStranger, IsDifferent, IsFault}
+use Rattle.gb_merge.specs.Woven.{IsWoven, IsWhole, ArePlaced, IsFollowed, IsWrong, IsWeaveFault, IsFollowFault}
+use Rattle.gb_merge.specs.declared.fault.AuditFault.{AuditFault}
+use Rattle.gb_merge.specs.declared.fault.AuditFault.TheVariants.{Stranger, Stuck, Differs, OutOfMemory}
+use Rattle.gb_merge.proofs.Weaving.{entries_at-same, entries_at-append}
+
+pub whole_of : (plan : NetworkPlan) (tapes rest : List (List TapeEntry)) (picks : List Pick) (events : List Event) → IsWoven plan tapes rest picks events → ((a : ℕ) → tape_of rest a ≡ []) → IsWhole plan tapes picks events
+whole_of plan tapes rest picks events woven empty = record {
+  are_events = woven.are_events;
+  whole = λ a. sym (append-nil (entries_at a picks)) ∙ (ap (λ (xs : List TapeEntry). entries_at a picks ++ xs) (sym (empty a)) ∙ woven.parts a);
+}
+
+-- where in its tape an entry stands
+split : (tapes : List (List TapeEntry)) (done picks : List Pick) (p : Pick) → ((a : ℕ) → entries_at a (done ++ p ∷ picks) ≡ tape_of tapes a) → tape_of tapes p.node.number ≡ entries_at p.node.number done ++ p.entry ∷ entries_at p.node.number picks
+split tapes done picks p whole = sym (whole p.node.number) ∙ (entries_at-append p.node.number done (p ∷ picks) ∙ ap (λ (xs : List TapeEntry). entries_at p.node.number done ++ xs) (entries_at-same p.node.number p picks refl))
+
+inside_of : (tapes : List (List TapeEntry)) (a : ℕ) (before : List TapeEntry) (x : TapeEntry) (after : List TapeEntry) → tape_of tapes a ≡ before ++ x ∷ after → a < length tapes
+inside_of tapes a before x after is = by (cases_lt a (length tapes))
+  where
+    some : (xs : List TapeEntry) → [] ≡ xs ++ x ∷ after → ⊥
+    some [] e = absurd (cc)
+    some (y ∷ xs) e = absurd (cc)
+
+    by : (a < length tapes) ⊎ (length tapes ≤ a) → a < length tapes
+    by (inl within) = within
+    by (inr past) = absurd (some before (sym (get_or_past tapes a [] past) ∙ is))
+
+placed_from : (nodes : ℕ) (tapes : List (List TapeEntry)) → length tapes ≡ nodes → (done picks : List Pick) → ((a : ℕ) → entries_at a (done ++ picks) ≡ tape_of tapes a) → ArePlaced nodes picks
+unfolding ArePlaced
+placed_from nodes tapes one_each done [] whole = tt
+placed_from nodes tapes one_each done (p ∷ picks) whole =
+    let within : p.node.number < nodes = let lt = inside_of tapes p.node.number _ p.entry _ (split tapes done picks p whole) in omega arith in
+    (within, placed_from nodes tapes one_each (done ++ p ∷ []) picks (λ a. ap (entries_at a) (append_assoc done (p ∷ []) picks) ∙ whole a))
+
+pub placed : (nodes : ℕ) (tapes : List (List TapeEntry)) (picks : List Pick) → length tapes ≡ nodes → ((a : ℕ) → entries_at a picks ≡ tape_of tapes a) → ArePlaced nodes picks
+placed nodes tapes picks one_each whole = placed_from nodes tapes one_each [] picks whole
+
+pub events_count : (plan : NetworkPlan) (sent : List (List ℕ)) (picks : List Pick) (events : List Event) → AreEvents plan sent picks events → length events ≡ length picks
+unfolding AreEvents
+events_count plan sent [] [] are = refl
+events_count plan sent (p ∷ picks) (e ∷ events) are = ap suc (events_count plan (sent ++ sent_by p.entry.answer) picks events are.1)
+events_count plan sent [] (e ∷ events) are = absurd are
+events_count plan sent (p ∷ picks) [] are = absurd are
+
+pub merged : (plan : NetworkPlan) (tapes : List (List TapeEntry)) (picks : List Pick) (events : List Event) (v : NetworkValue) → IsWhole plan tapes picks events → IsFollowed plan events picks v → IsMerged plan tapes events
+merged plan tapes picks events v whole run = record { picks = picks; are_events = whole.are_events; whole = whole.whole; last = v; replays = run.replays; fed = run.fed; comes = run.comes }
+
+seam : {X : Type 0} (xs : List X) (y : X) (ys : List X) → slice_get (xs ++ y ∷ ys) (length xs) ≡ Some y
+seam [] y ys = refl
+seam (x ∷ xs) y ys = seam xs y ys
+
+different : (plan : NetworkPlan) (tapes : List (List TapeEntry)) (picks : List Pick) → ((a : ℕ) → entries_at a picks ≡ tape_of tapes a) → IsWrong plan picks → IsDifferent plan tapes
+different plan tapes picks whole wrong =
+    let p = wrong.pick in
+    let here = split tapes wrong.done wrong.others p (λ a. ap (entries_at a) (sym wrong.parts) ∙ whole a) in
+    let before = entries_at p.node.number wrong.done in
+    let front : take (length before) (tape_of tapes p.node.number) ≡ before = ap (take (length before)) here ∙ take-append_seam before (p.entry ∷ entries_at p.node.number wrong.others) in
+    record {
+      node = p.node;
+      place = length before;
+      entry = p.entry;
+      there = ap (λ (xs : List TapeEntry). slice_get xs (length before)) here ∙ seam before p.entry (entries_at p.node.number wrong.others);
+      differs = subst (λ (xs : List TapeEntry). (is_starved p.entry.answer ≡ true) ⊎ (p.entry.answer ≢ node_answer (replay plan p.node xs) p.entry.event)) (sym front) wrong.differs;
+    }
+
+pub weave_faulty : (plan : NetworkPlan) (tapes : List (List TapeEntry)) (f : AuditFault) → (IsStranger plan tapes → ⊥) → IsWeaveFault plan tapes f → IsFault plan tapes f
+weave_faulty plan tapes Stranger known is = absurd is
+weave_faulty plan tapes Stuck known is = (is, known)
+weave_faulty plan tapes Differs known is = absurd is
+weave_faulty plan tapes OutOfMemory known is = is
+
+pub follow_faulty : (plan : NetworkPlan) (tapes : List (List TapeEntry)) (picks : List Pick) (f : AuditFault) → (IsStranger plan tapes → ⊥) → ((a : ℕ) → entries_at a picks ≡ tape_of tapes a) → IsFollowFault plan picks f → IsFault plan tapes f
+follow_faulty plan tapes picks Stranger known whole is = absurd is
+follow_faulty plan tapes picks Stuck known whole is = absurd is
+follow_faulty plan tapes picks Differs known whole is = (different plan tapes picks whole is, known)
+follow_faulty plan tapes picks OutOfMemory known whole is = is
+
+-- What happened at a node.
+
+past_at-append : (a : NodeId) (run more : List Did) → past_at a (run ++ more) ≡ past_at a run ++ past_at a more
+unfolding past_at
+past_at-append a [] more = refl
+past_at-append a (d ∷ run) more = by (nat_eq d.node.number a.number) (past_at-append a run more)
+  where
+    by : (b : Bool) → past_at a (run ++ more) ≡ past_at a run ++ past_at a more → (if b then record { event = d.event; answer = d.answer } ∷ past_at a (run ++ more) else past_at a (run ++ more)) ≡ (if b then record { event = d.event; answer = d.answer } ∷ past_at a run else past_at a run) ++ past_at a more
+    by true ih = ap (λ (hs : List Happened). record { event = d.event; answer = d.answer } ∷ hs) ih
+    by false ih = ih
+
+pub past_is : (a : NodeId) (picks : List Pick) → past_at a (run_of picks) ≡ past_of (entries_at a.number picks)
+unfolding past_at entries_at
+past_is a [] = refl
+past_is a (p ∷ picks) =
+    ap (past_at a) (reverse-append (did p ∷ []) (map did picks)) ∙ (past_at-append a (run_of picks) (did p ∷ [])
+    ∙ (ap (λ (hs : List Happened). hs ++ past_at a (did p ∷ [])) (past_is a picks) ∙ by (nat_eq p.node.number a.number)))
+  where
+    by : (b : Bool) → past_of (entries_at a.number picks) ++ (if b then happened p.entry ∷ [] else []) ≡ past_of (if b then p.entry ∷ entries_at a.number picks else entries_at a.number picks)
+    by true = sym (reverse-append (happened p.entry ∷ []) (map happened (entries_at a.number picks)))
+    by false = append-nil (past_of (entries_at a.number picks))

@@ -1,0 +1,14 @@
+use Rattle.std.proofs.Common.{◌≡◌, length}
+use Rattle.gb_merge.specs.Woven.{IsWoven, AreMarked, sent_with, count_of}
+use Rattle.gb_merge.proofs.weave.weave.Given as goal
+
+abbrev pub invariant-all : goal.invariant-all
+invariant-all l = record {
+  woven : IsWoven l.reader l.tapes l.rest.items l.order.items l.events.items;
+  sent : l.sent ≡ sent_with l.order.items;
+  count : length l.marks.items ≡ length l.rest.items;
+  marked : AreMarked l.reader l.marks.items l.sent l.rest.items;
+}
+
+abbrev pub decreases-all : goal.decreases-all
+decreases-all l = count_of l.rest.items

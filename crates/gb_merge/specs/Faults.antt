@@ -1,0 +1,73 @@
+-- Why tapes are not merged.
+use Rattle.std.specs.Prelude.{ℕ, ◌≡◌, ◌≢◌, ◌⊎◌, true, List, [], ◌∷◌, ◌++◌, slice_get, Some, take, fold, if◌then◌else◌}
+use Rattle.gb_types.specs.declared.node.NodeId.{NodeId}
+use Rattle.gb_node.specs.NodeStep.{turn}
+use Rattle.gb_node.specs.NodeValue.{NodeValue, new_node}
+use Rattle.gb_node.specs.declared.answer.NodeAnswer.{NodeAnswer}
+use Rattle.gb_node.specs.declared.event.NodeEvent.{NodeEvent}
+use Rattle.gb_node.specs.declared.event.NodeEvent.TheVariants.{Packet as Came}
+use Rattle.gb_node.specs.declared.tape.TapeEntry.{TapeEntry}
+use Rattle.gb_network.specs.NetworkValue.{node_plan}
+use Rattle.gb_network.specs.declared.event.Event.{Event}
+use Rattle.gb_network.specs.declared.plan.NetworkPlan.{NetworkPlan}
+use Rattle.gb_merge.specs.Interleaving.{is_good, sent_by, tape_of, IsInterleaving}
+use Rattle.gb_merge.specs.Merged.{is_starved}
+use Rattle.gb_merge.specs.declared.fault.AuditFault.{AuditFault}
+use Rattle.gb_merge.specs.declared.fault.AuditFault.TheVariants.{Stranger, Stuck, Differs, OutOfMemory}
+
+-- the packets that a tape's answers send, in order
+unfoldable pub sent_of : List TapeEntry → List (List ℕ)
+sent_of [] = []
+sent_of (x ∷ entries) = sent_by x.answer ++ sent_of entries
+
+-- those of all tapes
+unfoldable pub all_sent : List (List TapeEntry) → List (List ℕ)
+all_sent [] = []
+all_sent (t ∷ tapes) = sent_of t ++ all_sent tapes
+
+-- what came to the node is a packet for it that is none of these
+abbrev pub IsBlocked : NetworkPlan → NodeId → List (List ℕ) → NodeEvent → Type 0
+IsBlocked plan a sent (Came bytes) = (is_good plan a bytes ≡ true) × ((k : ℕ) → slice_get sent k ≡ Some bytes → ⊥)
+IsBlocked plan a sent event = ⊥
+
+-- a packet came to a node for which it is, and no tape sent it
+pub record IsStranger (plan : NetworkPlan) (tapes : List (List TapeEntry)) : Type 0 where
+  pub node : NodeId
+  pub place : ℕ
+  pub entry : TapeEntry
+  pub there : slice_get (tape_of tapes node.number) place ≡ Some entry
+  pub stranger : IsBlocked plan node (all_sent tapes) entry.event
+
+-- the tapes have no interleaving
+abbrev pub IsStuck : NetworkPlan → List (List TapeEntry) → Type 0
+IsStuck plan tapes = (events : List Event) → IsInterleaving plan tapes events → ⊥
+
+-- what a node answers, and is then, where it has memory
+unfoldable pub node_answer : NodeValue → NodeEvent → NodeAnswer
+node_answer v event = (turn v event).answer
+
+unfoldable pub node_after : NodeValue → NodeEvent → NodeValue
+node_after v event = (turn v event).value
+
+-- a node after an entry: want of memory leaves it as it was
+abbrev pub after_entry : NodeValue → TapeEntry → NodeValue
+after_entry v x = if is_starved x.answer then v else node_after v x.event
+
+-- the replay of a tape: a node that is started and takes the tape's events in order
+abbrev pub replay : NetworkPlan → NodeId → List TapeEntry → NodeValue
+replay plan a entries = fold after_entry (new_node (node_plan plan a)) entries
+
+-- an answer in a tape is want of memory, or is not the replay's
+pub record IsDifferent (plan : NetworkPlan) (tapes : List (List TapeEntry)) : Type 0 where
+  pub node : NodeId
+  pub place : ℕ
+  pub entry : TapeEntry
+  pub there : slice_get (tape_of tapes node.number) place ≡ Some entry
+  pub differs : (is_starved entry.answer ≡ true) ⊎ (entry.answer ≢ node_answer (replay plan node (take place (tape_of tapes node.number))) entry.event)
+
+-- the fault is so; a stranger is told before the others
+abbrev pub IsFault : NetworkPlan → List (List TapeEntry) → AuditFault → Type 0
+IsFault plan tapes Stranger = IsStranger plan tapes
+IsFault plan tapes Stuck = IsStuck plan tapes × (IsStranger plan tapes → ⊥)
+IsFault plan tapes Differs = IsDifferent plan tapes × (IsStranger plan tapes → ⊥)
+IsFault plan tapes OutOfMemory = Unit {0}

@@ -1,0 +1,62 @@
+-- Interleavings of tapes: one list of events of the network in which each node's are the entries of its tape.
+use Rattle.std.specs.Prelude.{ℕ, zero, suc, ◌≡◌, ◌⊎◌, Bool, true, false, List, [], ◌∷◌, ◌++◌, slice_get, slice_index_or, Option, Some, None, is_ok, nat_eq, if◌then◌else◌}
+use Rattle.gb_types.specs.declared.node.NodeId.{NodeId}
+use Rattle.gb_node.specs.NodeStep.{read_at}
+use Rattle.gb_node.specs.NodeValue.{new_node}
+use Rattle.gb_node.specs.declared.answer.NodeAnswer.{NodeAnswer}
+use Rattle.gb_node.specs.declared.answer.NodeAnswer.TheVariants.{Sent}
+use Rattle.gb_node.specs.declared.answer.Sent.TheVariants.{Packet as SentPacket}
+use Rattle.gb_node.specs.declared.event.NodeEvent.{NodeEvent}
+use Rattle.gb_node.specs.declared.event.NodeEvent.TheVariants.{Packet as Came}
+use Rattle.gb_node.specs.declared.tape.TapeEntry.{TapeEntry}
+use Rattle.gb_network.specs.NetworkValue.{node_plan}
+use Rattle.gb_network.specs.declared.event.Event.{Event}
+use Rattle.gb_network.specs.declared.event.Event.TheVariants.{At, Arrive}
+use Rattle.gb_network.specs.declared.plan.NetworkPlan.{NetworkPlan}
+
+-- the next entry of a node's tape is taken
+pub record Pick : Type 0 where
+  pub node : NodeId
+  pub entry : TapeEntry
+
+-- the entries that are taken at a node, in order
+unfoldable pub entries_at : ℕ → List Pick → List TapeEntry
+entries_at a [] = []
+entries_at a (p ∷ picks) = if nat_eq p.node.number a then p.entry ∷ entries_at a picks else entries_at a picks
+
+-- the tape of a node
+abbrev pub tape_of : List (List TapeEntry) → ℕ → List TapeEntry
+tape_of tapes a = slice_index_or tapes a []
+
+-- the packets that an answer sends: one, or none
+abbrev pub sent_by : NodeAnswer → List (List ℕ)
+sent_by (Sent (SentPacket text)) = text ∷ []
+sent_by answer = []
+
+-- the packet with a number, if there is one; packets count from 1
+abbrev pub text_numbered : List (List ℕ) → ℕ → Option (List ℕ)
+text_numbered sent zero = None
+text_numbered sent (suc k) = slice_get sent k
+
+-- the bytes are a packet of the cluster for the node, from one of its nodes
+unfoldable pub is_good : NetworkPlan → NodeId → List ℕ → Bool
+is_good plan a bytes = is_ok (read_at (new_node (node_plan plan a)) bytes)
+
+-- An entry's event at a node is this event of the network, where these packets were sent before: bytes that are a packet for the node are the arrival of an equal one
+-- that was sent, other bytes are noise, and each other event is itself.
+abbrev pub IsEventOf : NetworkPlan → NodeId → List (List ℕ) → NodeEvent → Event → Type 0
+IsEventOf plan a sent (Came bytes) e = ((k : ℕ) × (e ≡ Arrive k) × (text_numbered sent k ≡ Some bytes) × (is_good plan a bytes ≡ true)) ⊎ ((e ≡ At a (Came bytes)) × (is_good plan a bytes ≡ false))
+IsEventOf plan a sent event e = e ≡ At a event
+
+-- the events are those of the entries, in order, where these packets were sent before; what is sent is what the tapes' answers say
+unfoldable pub AreEvents : NetworkPlan → List (List ℕ) → List Pick → List Event → Type 0
+AreEvents plan sent [] [] = Unit {0}
+AreEvents plan sent (p ∷ picks) (e ∷ events) = IsEventOf plan p.node sent p.entry.event e × AreEvents plan (sent ++ sent_by p.entry.answer) picks events
+AreEvents plan sent [] (e ∷ events) = ⊥
+AreEvents plan sent (p ∷ picks) [] = ⊥
+
+-- the events at each node are the entries of its tape, in order
+pub record IsInterleaving (plan : NetworkPlan) (tapes : List (List TapeEntry)) (events : List Event) : Type 0 where
+  pub picks : List Pick
+  pub are_events : AreEvents plan [] picks events
+  pub whole : (a : ℕ) → entries_at a picks ≡ tape_of tapes a

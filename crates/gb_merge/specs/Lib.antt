@@ -1,0 +1,5 @@
+pub mod Interleaving
+pub mod Merged
+pub mod FaultNumber
+pub mod Faults
+pub mod Woven

@@ -1,0 +1,103 @@
+-- What a merged list of events is: an interleaving of the tapes whose run gives the tapes' answers.
+use Rattle.std.specs.Prelude.{ℕ, ◌≡◌, Bool, true, false, List, [], ◌∷◌, map, reverse, Option, Some, None, option_map}
+use Rattle.gb_types.specs.declared.address.Addr.{Addr}
+use Rattle.gb_types.specs.declared.node.NodeId.{NodeId}
+use Rattle.gb_types.specs.declared.refusal.Refusal.{Refusal}
+use Rattle.gb_types.specs.declared.refusal.Refusal.TheVariants.{OutOfMemory}
+use Rattle.gb_types.specs.declared.reply.Reply.{Reply}
+use Rattle.gb_types.specs.declared.reply.Reply.TheVariants.{Refused}
+use Rattle.gb_node.specs.Past.{Happened}
+use Rattle.gb_node.specs.declared.answer.NodeAnswer.{NodeAnswer}
+use Rattle.gb_node.specs.declared.answer.NodeAnswer.TheVariants.{Reply as Replied, Taken, Sent, Ticked, Halted}
+use Rattle.gb_node.specs.declared.answer.PacketAnswer.TheVariants.{Refused as TakenRefused}
+use Rattle.gb_node.specs.declared.answer.Ticked.TheVariants.{Refused as TickRefused}
+use Rattle.gb_node.specs.declared.answer.Halted.TheVariants.{Refused as HaltRefused}
+use Rattle.gb_node.specs.declared.answer.Sent.TheVariants.{Packet as SentPacket, Nothing, Refused as SentRefused}
+use Rattle.gb_node.specs.declared.tape.TapeEntry.{TapeEntry}
+use Rattle.gb_network.specs.NetworkStep.{packet_numbered, IsStep}
+use Rattle.gb_network.specs.NetworkValue.{NetworkValue, new_network}
+use Rattle.gb_network.specs.Run.{Did, ComesTo, past_at}
+use Rattle.gb_network.specs.declared.answer.Answer.{Answer}
+use Rattle.gb_network.specs.declared.answer.Answer.TheVariants.{Reply as AnswerReply, Taken as AnswerTaken, Sent as AnswerSent, Ticked as AnswerTicked, Halted as AnswerHalted, NoPacket, NotNoise}
+use Rattle.gb_network.specs.declared.answer.Sending.TheVariants.{Packet as SendingPacket, Nothing as SendingNothing, Refused as SendingRefused}
+use Rattle.gb_network.specs.declared.event.Event.{Event}
+use Rattle.gb_network.specs.declared.plan.NetworkPlan.{NetworkPlan}
+use Rattle.gb_network.specs.declared.posted.Posted.{Posted}
+use Rattle.gb_isolation.specs.Isolation.{IsIsolated}
+use Rattle.gb_isolation.specs.Project.{is_fed}
+use Rattle.gb_merge.specs.Interleaving.{Pick, entries_at, AreEvents, tape_of}
+
+-- an answer of the network as the node's, with a packet's bytes in place of its number
+abbrev pub told : List Posted → Answer → Option NodeAnswer
+told packets (AnswerReply reply) = Some (Replied reply)
+told packets (AnswerTaken taken) = Some (Taken taken)
+told packets (AnswerSent (SendingPacket k)) = option_map (λ (p : Posted). Sent (SentPacket p.text)) (packet_numbered packets k)
+told packets (AnswerSent SendingNothing) = Some (Sent Nothing)
+told packets (AnswerSent (SendingRefused why)) = Some (Sent (SentRefused why))
+told packets (AnswerTicked ticked) = Some (Ticked ticked)
+told packets (AnswerHalted halted) = Some (Halted halted)
+told packets NoPacket = None
+told packets NotNoise = None
+
+-- the answer is want of memory
+abbrev pub is_want : Refusal → Bool
+is_want OutOfMemory = true
+is_want why = false
+
+abbrev pub is_starved_reply : Reply → Bool
+is_starved_reply (Refused why) = is_want why
+is_starved_reply reply = false
+
+abbrev pub is_starved : NodeAnswer → Bool
+is_starved (Replied reply) = is_starved_reply reply
+is_starved (Taken (TakenRefused why)) = is_want why
+is_starved (Sent (SentRefused why)) = is_want why
+is_starved (Ticked (TickRefused why)) = is_want why
+is_starved (Halted (HaltRefused why)) = is_want why
+is_starved answer = false
+
+-- the events happen one after the other, and each is answered as its entry says, packets compared by their bytes
+unfoldable pub Replays : NetworkValue → List Event → List Pick → NetworkValue → Type 0
+Replays old [] [] new = new ≡ old
+Replays old (e ∷ events) (p ∷ picks) new = (next : NetworkValue) × (answer : Answer) × IsStep old e answer next × (told next.packets answer ≡ Some p.entry.answer) × Replays next events picks new
+Replays old [] (p ∷ picks) new = ⊥
+Replays old (e ∷ events) [] new = ⊥
+
+-- no answer is want of memory
+unfoldable pub AreFed : List Pick → Type 0
+AreFed [] = Unit {0}
+AreFed (p ∷ picks) = (is_starved p.entry.answer ≡ false) × AreFed picks
+
+-- what was taken as a run of the network, the newest first
+abbrev pub did : Pick → Did
+did p = record { node = p.node; event = p.entry.event; answer = p.entry.answer }
+
+abbrev pub run_of : List Pick → List Did
+run_of picks = reverse (map did picks)
+
+-- a tape as what happened at its node, the newest first
+abbrev pub happened : TapeEntry → Happened
+happened x = record { event = x.event; answer = x.answer }
+
+abbrev pub past_of : List TapeEntry → List Happened
+past_of entries = reverse (map happened entries)
+
+-- The events are an interleaving of the tapes. From a network in which nothing has happened they give each tape's answers, and none is want of memory.
+pub record IsMerged (plan : NetworkPlan) (tapes : List (List TapeEntry)) (events : List Event) : Type 0 where
+  pub picks : List Pick
+  pub are_events : AreEvents plan [] picks events
+  pub whole : (a : ℕ) → entries_at a picks ≡ tape_of tapes a
+  pub last : NetworkValue
+  pub replays : Replays (new_network plan) events picks last
+  pub fed : AreFed picks
+  -- so all that holds of every run of a network holds of what the tapes say
+  pub comes : ComesTo plan (run_of picks) last
+
+-- What is merged is a run of a network: at each node happened what its tape says, and each group in it is what it is alone.
+pub record IsOneRun (plan : NetworkPlan) (tapes : List (List TapeEntry)) (events : List Event) (m : IsMerged plan tapes events) : Type 0 where
+  pub pasts : (a : NodeId) → past_at a (run_of m.picks) ≡ past_of (tape_of tapes a.number)
+  pub isolated : (g : Addr) → is_fed plan g (run_of m.picks) ≡ true → IsIsolated plan (run_of m.picks) m.last g
+
+-- so it is whatever the plan and the tapes are
+abbrev pub MergedIsOneRun : Type 0
+MergedIsOneRun = (plan : NetworkPlan) (tapes : List (List TapeEntry)) (events : List Event) (m : IsMerged plan tapes events) → IsOneRun plan tapes events m

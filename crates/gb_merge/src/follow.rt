@@ -1,0 +1,135 @@
+//! Running the events that were taken from tapes.
+ghost use Rattle.std.specs.Prelude.{◌≡◌, ◌↔◌, [], ℕ, length, IsTrue, Some, IfErr, OnOk};
+ghost use Rattle.std.specs.Option.{option_map};
+ghost use Rattle.gb_network.specs.NetworkStep.{packet_numbered, IsPlaced};
+ghost use Rattle.gb_network.specs.declared.posted.Posted.{Posted as PostedValue};
+ghost use Rattle.gb_network.specs.Run.{ComesTo};
+ghost use Rattle.gb_merge.specs.Interleaving.{AreEvents};
+ghost use Rattle.gb_merge.specs.Merged.{told, is_want};
+ghost use Rattle.gb_merge.specs.Woven.{is_refused, ArePlaced, IsTold, IsStepFault, IsFollowed, IsFollowFault};
+
+use crate::fault::AuditFault;
+use crate::rest::Taking;
+use gb_network::answer::{Answer, Sending};
+use gb_network::event::Event;
+use gb_network::laws::packets_are_honest;
+use gb_network::network::Network;
+use gb_network::posted::Posted;
+use gb_node::answer::{Halted, NodeAnswer, PacketAnswer, Sent, Ticked};
+use gb_node::past::pasts_say;
+use gb_types::refusal::Refusal;
+use gb_types::reply::Reply;
+
+/// Whether a request for memory was refused.
+fn is_want(why: Refusal) -> bool
+    ensures { result ≡ is_want why }
+{
+    why == Refusal::OutOfMemory
+}
+
+/// Whether the answer is want of memory.
+fn is_refused(answer: &Answer) -> bool
+    ensures { result ≡ is_refused answer.now }
+{
+    match answer {
+        Answer::Reply(Reply::Refused(why)) => is_want(*why),
+        Answer::Taken(PacketAnswer::Refused(why)) => is_want(*why),
+        Answer::Sent(Sending::Refused(why)) => is_want(*why),
+        Answer::Ticked(Ticked::Refused(why)) => is_want(*why),
+        Answer::Halted(Halted::Refused(why)) => is_want(*why),
+        _ => false,
+    }
+}
+
+/// Whether the packet has these bytes.
+fn has_bytes(packet: &Posted, bytes: &[u8]) -> bool
+    ensures { IsTrue result ↔ (packet.now.text ≡ bytes.now) }
+{
+    packet.text.as_slice() == bytes
+}
+
+/// Whether the packet with the number has these bytes.
+fn is_numbered(packets: &[Posted], number: u64, bytes: &[u8]) -> bool
+    ensures { IsTrue result ↔ (option_map (λ (p : PostedValue). p.text) (packet_numbered packets.now number) ≡ Some bytes.now) }
+{
+    if number == 0 {
+        return false;
+    }
+    match packets.get((number - 1) as usize) {
+        Some(packet) => has_bytes(packet, bytes),
+        None => false,
+    }
+}
+
+/// Whether what the network sent is what the node sent, packets compared by their bytes.
+fn is_sent(packets: &[Posted], sending: &Sending, sent: &Sent) -> bool
+    ensures { IsTrue result ↔ (told packets.now (Answer.Sent sending.now) ≡ Some (NodeAnswer.Sent sent.now)) }
+{
+    match (sending, sent) {
+        (Sending::Nothing, Sent::Nothing) => true,
+        (Sending::Refused(why), Sent::Refused(other)) => *why == *other,
+        (Sending::Packet(number), Sent::Packet(text)) => is_numbered(
+            packets,
+            *number,
+            text.as_slice(),
+        ),
+        _ => false,
+    }
+}
+
+/// Whether the network's answer is the node's, packets compared by their bytes.
+fn is_told(packets: &[Posted], answer: Answer, given: &NodeAnswer) -> bool
+    ensures { IsTrue result ↔ (told packets.now answer ≡ Some given.now) }
+{
+    match answer {
+        Answer::Sent(sending) => match given {
+            NodeAnswer::Sent(sent) => is_sent(packets, &sending, sent),
+            _ => false,
+        },
+        Answer::Reply(reply) => NodeAnswer::Reply(reply).is(given),
+        Answer::Taken(taken) => NodeAnswer::Taken(taken).is(given),
+        Answer::Ticked(ticked) => NodeAnswer::Ticked(ticked).is(given),
+        Answer::Halted(halted) => NodeAnswer::Halted(halted).is(given),
+        Answer::NoPacket | Answer::NotNoise => false,
+    }
+}
+
+/// One event, which is to be answered so.
+fn happen(network: &mut Network, event: &Event, given: &NodeAnswer) -> Result<(), AuditFault>
+    requires { IsPlaced (length network.old.nodes) event.now }
+    ensures ok { OnOk result (IsTold network.old event.now given.now network.new) }
+    ensures err { IfErr result (IsStepFault network.old event.now given.now) }
+    ensures nodes { length network.new.nodes ≡ length network.old.nodes }
+{
+    let answer = network.step(event)?;
+    if is_refused(&answer) {
+        return Err(AuditFault::OutOfMemory);
+    }
+    if !is_told(network.packets(), answer, given) {
+        return Err(AuditFault::Differs);
+    }
+    Ok(())
+}
+
+/// Runs the events in a network in which nothing has happened, up to the first that is not answered as its entry says.
+pub(crate) fn follow(
+    network: &mut Network,
+    events: &[Event],
+    order: &[Taking],
+) -> Result<(), AuditFault>
+    requires fresh { ComesTo network.old.plan [] network.old }
+    requires events { AreEvents network.old.plan [] order.now events.now }
+    requires placed { ArePlaced network.old.plan.nodes order.now }
+    requires count { length events.now ≡ length order.now }
+    ensures ok { OnOk result (IsFollowed network.old.plan events.now order.now network.new) }
+    ensures err { IfErr result (IsFollowFault network.old.plan order.now) }
+{
+    pasts_say();
+    packets_are_honest();
+    for i in 0..events.len() {
+        let event = &events[i];
+        let taken = &order[i];
+        happen(network, event, taken.answer())?;
+    }
+    Ok(())
+}

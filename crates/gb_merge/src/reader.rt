@@ -1,0 +1,67 @@
+//! Which bytes are packets for a node of a network.
+ghost use Rattle.std.specs.Prelude.{◌≡◌, true, MatchOption};
+ghost use Rattle.gb_merge.specs.Interleaving.{is_good};
+ghost use Rattle.gb_merge.specs.Woven.{IsOther};
+ghost use Rattle.gb_node.specs.declared.event.NodeEvent.TheVariants as NodeEvents;
+
+use gb_cap::hmac::HmacKey;
+use gb_frame::reading::decode;
+use gb_network::plan::NetworkPlan;
+use gb_node::event::NodeEvent;
+use gb_types::node::NodeId;
+use std::marker::Model;
+
+/// Reads packets as the nodes of a network do. Contracts see the network's plan.
+#[derive(Drop)]
+pub(crate) struct Reader {
+    plan: NetworkPlan,
+    key: HmacKey,
+}
+
+impl Model for Reader {
+    ghost use Rattle.std.specs.Prelude.{◌≡◌};
+    ghost use Rattle.gb_network.specs.declared.plan.NetworkPlan.{NetworkPlan};
+
+    ghost Value = { NetworkPlan };
+
+    ghost view = { λ r. r.plan };
+
+    ghost invariant = { λ r. r.key ≡ r.plan.cluster_key };
+}
+
+impl Reader {
+    pub(crate) fn new(plan: &NetworkPlan) -> Reader
+        ensures { result ≡ plan.now }
+    {
+        Reader {
+            plan: *plan,
+            key: HmacKey::new(&plan.cluster_key),
+        }
+    }
+
+    /// Whether the bytes are a packet of the cluster for the node.
+    pub(crate) fn is_good(&self, a: NodeId, bytes: &[u8]) -> bool
+        ensures { result ≡ is_good self.now a bytes.now }
+    {
+        let Ok(packet) = decode(bytes, &self.key) else {
+            return false;
+        };
+        let head = packet.head();
+        head.to.number == a.number && head.from.number < self.plan.nodes
+    }
+
+    /// The bytes that came to the node, where they are a packet of the cluster for it.
+    pub(crate) fn packet<'e>(&self, a: NodeId, event: &'e NodeEvent) -> Option<&'e [u8]>
+        ensures { MatchOption result (IsOther self.now a event.now) (λ b. (event.now ≡ NodeEvents.Packet b.now) × (is_good self.now a b.now ≡ true)) }
+    {
+        let NodeEvent::Packet(text) = event else {
+            return None;
+        };
+        let bytes = text.as_slice();
+        if self.is_good(a, bytes) {
+            Some(bytes)
+        } else {
+            None
+        }
+    }
+}

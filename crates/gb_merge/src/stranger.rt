@@ -1,0 +1,90 @@
+//! The search for packets that no tape sent.
+ghost use Rattle.std.specs.Prelude.{◌≡◌, ◌≤◌, ◌++◌, ℕ, false, length, IfOk, IsTrue, OnOk};
+ghost use Rattle.gb_types.specs.declared.limits.TheConstants.{NODES};
+ghost use Rattle.gb_merge.specs.Interleaving.{tape_of};
+ghost use Rattle.gb_merge.specs.Faults.{sent_of, all_sent, IsBlocked, IsStranger};
+ghost use Rattle.gb_merge.specs.Woven.{HasStranger};
+ghost use Rattle.gb_node.specs.NodeStep.{node_numbered};
+
+use crate::mail::Mail;
+use crate::reader::Reader;
+use crate::rest::post;
+use gb_node::event::NodeEvent;
+use gb_node::tape::{Tape, TapeEntry};
+use gb_types::memory::OutOfMemory;
+use gb_types::node::NodeId;
+use std::alloc::Global;
+
+/// Notes what the answers sent.
+fn post_all<'a>(sent: &mut Mail<'a>, entries: &'a [TapeEntry]) -> Result<(), OutOfMemory>
+    ensures { OnOk result (sent.new ≡ sent.old ++ sent_of entries.now) }
+{
+    for entry in entries {
+        post(sent, &entry.answer)?;
+    }
+    Ok(())
+}
+
+/// All that the tapes sent.
+fn all_sent<'a>(alloc: Global, tapes: &'a [Tape]) -> Result<Mail<'a>, OutOfMemory>
+    ensures { IfOk result (λ m. m ≡ all_sent tapes.now) }
+{
+    let mut sent = Mail::new(alloc);
+    for tape in tapes {
+        post_all(&mut sent, tape.as_slice())?;
+    }
+    Ok(sent)
+}
+
+/// Whether the event is a packet for the node that was not sent.
+fn is_strange(reader: &Reader, a: NodeId, event: &NodeEvent, sent: &Mail) -> bool
+    ensures strange { IsTrue result → IsBlocked reader.now a sent.now event.now }
+    ensures known { result ≡ false → IsBlocked reader.now a sent.now event.now → ⊥ }
+{
+    match reader.packet(a, event) {
+        Some(bytes) => sent.number(bytes).is_none(),
+        None => false,
+    }
+}
+
+/// Whether a packet for the node came to it that was not sent.
+fn has_stranger(reader: &Reader, a: NodeId, entries: &[TapeEntry], sent: &Mail) -> bool
+    ensures some { IsTrue result → HasStranger reader.now a sent.now entries.now }
+    ensures none { result ≡ false → HasStranger reader.now a sent.now entries.now → ⊥ }
+{
+    for entry in entries {
+        if is_strange(reader, a, &entry.event, sent) {
+            return true;
+        }
+    }
+    false
+}
+
+/// Whether a packet for a node came to it that was not sent.
+fn any_stranger(reader: &Reader, tapes: &[Tape], sent: &Mail) -> bool
+    requires { length tapes.now ≤ NODES }
+    ensures some { IsTrue result → (a : ℕ) × HasStranger reader.now (node_numbered a) sent.now (tape_of tapes.now a) }
+    ensures none { result ≡ false → (a : ℕ) → HasStranger reader.now (node_numbered a) sent.now (tape_of tapes.now a) → ⊥ }
+{
+    for i in 0..tapes.len() {
+        let tape = &tapes[i];
+        if has_stranger(reader, NodeId::new(i as u8), tape.as_slice(), sent) {
+            return true;
+        }
+    }
+    false
+}
+
+/// Whether a packet for a node came to it that no tape sent.
+pub(crate) fn have_stranger(
+    alloc: Global,
+    reader: &Reader,
+    tapes: &[Tape],
+) -> Result<bool, OutOfMemory>
+    requires { length tapes.now ≤ NODES }
+    ensures some { IfOk result (λ b. IsTrue b → IsStranger reader.now tapes.now) }
+    ensures none { IfOk result (λ b. b ≡ false → IsStranger reader.now tapes.now → ⊥) }
+{
+    let sent = all_sent(alloc, tapes)?;
+    Ok(any_stranger(reader, tapes, &sent))
+}
