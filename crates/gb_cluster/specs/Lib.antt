@@ -1,9 +1,0 @@
-pub mod NodeValue
-pub mod NodeStep
-pub mod NodeGroup
-pub mod Memory
-pub mod Acting
-pub mod State
-pub mod LinkLaws
-pub mod Runs
-pub mod TwoRuns
