@@ -13,8 +13,10 @@ for crate in ${lower//|/ }; do
 done
 mkdir -p "$work/crates/host/src"
 cp "$top/bench/host/main.rt.txt" "$work/crates/host/src/main.rt"
-mkdir -p "$work/crates/host/proofs"
-cp -r "$top/bench/host/proofs/." "$work/crates/host/proofs/"
+for loop in call_once carry_once; do
+    mkdir -p "$work/crates/host/proofs/$loop"
+    cp "$top/bench/host/$loop.antt.txt" "$work/crates/host/proofs/$loop/Invariants.antt"
+done
 cp "$top/HANDLES" "$work/HANDLES"
 grep -E "^gb_($lower):" "$top/crates.txt" >"$work/crates.txt"
 echo 'host: gb_types gb_cap gb_node gb_port gb_host gb_worker anyhow' >>"$work/crates.txt"
