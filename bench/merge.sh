@@ -4,7 +4,7 @@
 set -eu
 top=$(cd "$(dirname "$0")/.." && pwd)
 work=$top/bench/out/merge
-lower='types|cap|frame|link|detect|layer|reliable|uniform|fifo|stack|rules|history|slot|alone|duties|groups|table|node|network|isolation|merge'
+lower='types|cap|frame|link|detect|layer|reliable|uniform|fifo|stack|rules|history|slot|alone|duties|groups|table|node|cluster|isolation|merge'
 mkdir -p "$work/crates"
 for crate in ${lower//|/ }; do
     mkdir -p "$work/crates/gb_$crate"
@@ -13,6 +13,6 @@ done
 mkdir -p "$work/crates/merge/src"
 cp "$top/bench/merge/main.rt.txt" "$work/crates/merge/src/main.rt"
 grep -E "^gb_($lower):" "$top/crates.txt" >"$work/crates.txt"
-echo 'merge: gb_types gb_cap gb_node gb_network gb_merge anyhow' >>"$work/crates.txt"
+echo 'merge: gb_types gb_cap gb_node gb_cluster gb_merge anyhow' >>"$work/crates.txt"
 cd "$work/crates/merge"
 "${RT:-rt}" run

@@ -11,8 +11,8 @@ use Rattle.gb_node.specs.declared.answer.NodeAnswer.TheVariants.{Reply as Replie
 use Rattle.gb_node.specs.declared.event.NodeEvent.{NodeEvent}
 use Rattle.gb_node.specs.declared.event.NodeEvent.TheVariants.{Request as Asked}
 use Rattle.gb_node.specs.declared.plan.NodePlan.{NodePlan}
-use Rattle.gb_network.specs.NetworkValue.{node_plan}
-use Rattle.gb_network.specs.Run.{past_at}
+use Rattle.gb_cluster.specs.ClusterValue.{node_plan}
+use Rattle.gb_cluster.specs.Run.{past_at}
 use Rattle.gb_isolation.specs.Isolation.{wants_memory, is_ample, AmpleRunsFeedAll}
 use Rattle.gb_isolation.specs.Project.{is_fed, is_starved_by}
 

@@ -5,7 +5,7 @@ use Rattle.gb_node.specs.StepLaw.{AnswersSay}
 use Rattle.gb_node.specs.declared.answer.NodeAnswer.TheVariants.{Taken}
 use Rattle.gb_node.specs.declared.answer.PacketAnswer.TheVariants.{Good as TakenGood}
 use Rattle.gb_node.specs.declared.event.NodeEvent.TheVariants.{Packet as Brought}
-use Rattle.gb_network.specs.Links.{LinksHold, NothingIsOutside}
+use Rattle.gb_cluster.specs.Links.{LinksHold, NothingIsOutside}
 use Rattle.gb_isolation.proofs.FirstLemmas.{first_is_new}
 use Rattle.gb_isolation.proofs.RunLemmas.{Laws}
 

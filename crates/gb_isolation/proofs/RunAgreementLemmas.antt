@@ -25,10 +25,10 @@ use Rattle.gb_duties.proofs.SeenLemmas.{noticed_seen, seen_noticed, agreement_se
 use Rattle.gb_groups.specs.OneGroup.{waiting_in}
 use Rattle.gb_node.specs.NodeStep.{node_numbered}
 use Rattle.gb_node.specs.Past.{frames_to, is_taken}
-use Rattle.gb_network.specs.NetworkValue.{NetworkValue, node_plan}
-use Rattle.gb_network.specs.Run.{Did, ComesTo, past_at}
-use Rattle.gb_network.specs.declared.plan.NetworkPlan.{NetworkPlan}
-use Rattle.gb_network.proofs.NodesLemmas.{stays}
+use Rattle.gb_cluster.specs.ClusterValue.{ClusterValue, node_plan}
+use Rattle.gb_cluster.specs.Run.{Did, ComesTo, past_at}
+use Rattle.gb_cluster.specs.declared.plan.ClusterPlan.{ClusterPlan}
+use Rattle.gb_cluster.proofs.NodesLemmas.{stays}
 use Rattle.gb_isolation.specs.Isolation.{Seen, group_at, IsIsolated, GroupsAreIsolated}
 use Rattle.gb_isolation.specs.Project.{project, items_of, is_fed}
 use Rattle.gb_isolation.specs.RunLaws.{accepted_there, is_noticed, log_seen, made_there, IsSettledIn, SettledGroupsAgree}
@@ -39,7 +39,7 @@ use Rattle.gb_isolation.proofs.NoticeLemmas.{numbered_is}
 use Rattle.gb_isolation.proofs.RunDutyLemmas.{inside, noticed_is}
 use Rattle.gb_isolation.proofs.RunIntegrityLemmas.{accepted_same}
 
-module _ (isolated : GroupsAreIsolated) (behave : AllBehave) (plan : NetworkPlan) (run : List Did) (v : NetworkValue) (comes : ComesTo plan run v) (g : Addr) (fed : is_fed plan g run ≡ true) (runs : ℕ → Bool) (spec : Spec) (settled : IsSettledIn plan run v g runs spec) where
+module _ (isolated : GroupsAreIsolated) (behave : AllBehave) (plan : ClusterPlan) (run : List Did) (v : ClusterValue) (comes : ComesTo plan run v) (g : Addr) (fed : is_fed plan g run ≡ true) (runs : ℕ → Bool) (spec : Spec) (settled : IsSettledIn plan run v g runs spec) where
   abbrev nodes : ℕ
   nodes = plan.nodes
 
@@ -60,7 +60,7 @@ module _ (isolated : GroupsAreIsolated) (behave : AllBehave) (plan : NetworkPlan
 
   -- The moment before the first message was accepted.
 
-  was : (w : NetworkValue) × ComesTo plan settled.earlier w
+  was : (w : ClusterValue) × ComesTo plan settled.earlier w
   was = back plan settled.later settled.earlier v (subst (λ (r : List Did). ComesTo plan r v) settled.moment comes)
 
   fed_then : is_fed plan g settled.earlier ≡ true
@@ -72,7 +72,7 @@ module _ (isolated : GroupsAreIsolated) (behave : AllBehave) (plan : NetworkPlan
   alike_then : IsIsolated plan settled.earlier was.0 g
   alike_then = isolated plan settled.earlier was.0 was.1 g fed_then
 
-  -- the node with a member's number made the group, and so all members are nodes of the network
+  -- the node with a member's number made the group, and so all members are nodes of the cluster
   made_at_node : (a : ℕ) → is_member spec a ≡ true → (alone nodes g.group (project plan g settled.earlier) (node_numbered a).number).spec ≡ Some spec
   made_at_node a in_a = (behaved.fits (node_numbered a) (made_inside plan g settled.earlier was.0 was.1 (node_numbered a) spec (settled.made a in_a))).spec ∙ settled.made a in_a
 

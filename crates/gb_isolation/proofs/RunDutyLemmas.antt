@@ -18,10 +18,10 @@ use Rattle.gb_duties.proofs.DutyLemmas.{delivered_origin, logged_here}
 use Rattle.gb_duties.proofs.NoticeLemmas.{AllMarked}
 use Rattle.gb_duties.proofs.SeenLemmas.{duties_seen}
 use Rattle.gb_node.specs.NodeStep.{node_numbered}
-use Rattle.gb_network.specs.NetworkValue.{NetworkValue, node_plan}
-use Rattle.gb_network.specs.Run.{Did, past_at}
-use Rattle.gb_network.specs.declared.plan.NetworkPlan.{NetworkPlan}
-use Rattle.gb_network.proofs.NodesLemmas.{stays}
+use Rattle.gb_cluster.specs.ClusterValue.{ClusterValue, node_plan}
+use Rattle.gb_cluster.specs.Run.{Did, past_at}
+use Rattle.gb_cluster.specs.declared.plan.ClusterPlan.{ClusterPlan}
+use Rattle.gb_cluster.proofs.NodesLemmas.{stays}
 use Rattle.gb_isolation.specs.Isolation.{Seen, seen_in, IsIsolated, GroupsAreIsolated}
 use Rattle.gb_isolation.specs.Project.{project, made_with}
 use Rattle.gb_isolation.specs.RunLaws.{is_noticed, KeepsRunDuties, RunDuties, GroupsDoTheirDuties}
@@ -35,11 +35,11 @@ pub record LogLaws : Type 0 where
   pub has_delivered : ModuleLogHasDelivered
   pub within : (delivered : List MsgId) → AllIn delivered (in_order delivered)
 
-module _ (plan : NetworkPlan) (run : List Did) (v : NetworkValue) (g : Addr) (few : plan.nodes ≤ NODES) (alike : IsIsolated plan run v g) (behaves : BehavesAlone plan g run) (told : AllMarked (alone plan.nodes g.group (project plan g run))) where
+module _ (plan : ClusterPlan) (run : List Did) (v : ClusterValue) (g : Addr) (few : plan.nodes ≤ NODES) (alike : IsIsolated plan run v g) (behaves : BehavesAlone plan g run) (told : AllMarked (alone plan.nodes g.group (project plan g run))) where
   abbrev group : Group
   group = alone plan.nodes g.group (project plan g run)
 
-  -- members are nodes of the network
+  -- members are nodes of the cluster
   pub inside : (b : ℕ) (spec : Spec) → (alone plan.nodes g.group (project plan g run) b).spec ≡ Some spec → (c : ℕ) → is_member spec c ≡ true → c < plan.nodes
   inside b spec made c in_c = (run_inside plan.nodes g.group (project plan g run) nobody (λ a s is. absurd (cc)) b spec made).1 c in_c
 

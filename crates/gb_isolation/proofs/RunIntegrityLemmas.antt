@@ -13,10 +13,10 @@ use Rattle.gb_alone.specs.declared.event.GroupStep.{GroupStep}
 use Rattle.gb_alone.proofs.CommandLemmas.{commands, paired, Pairs, replies_from, run_replies, alone_pairs}
 use Rattle.gb_alone.proofs.InsideLemmas.{none_beyond}
 use Rattle.gb_node.specs.NodeStep.{node_numbered}
-use Rattle.gb_network.specs.NetworkValue.{NetworkValue, node_plan}
-use Rattle.gb_network.specs.Run.{Did, past_at}
-use Rattle.gb_network.specs.declared.plan.NetworkPlan.{NetworkPlan}
-use Rattle.gb_network.proofs.NodesLemmas.{stays}
+use Rattle.gb_cluster.specs.ClusterValue.{ClusterValue, node_plan}
+use Rattle.gb_cluster.specs.Run.{Did, past_at}
+use Rattle.gb_cluster.specs.declared.plan.ClusterPlan.{ClusterPlan}
+use Rattle.gb_cluster.proofs.NodesLemmas.{stays}
 use Rattle.gb_isolation.specs.Isolation.{Seen, seen_in, IsIsolated, GroupsAreIsolated}
 use Rattle.gb_isolation.specs.Project.{project}
 use Rattle.gb_isolation.specs.RunLaws.{accepted_in_past, accepted_there, RunIntegrity, GroupsKeepIntegrity, GroupsKeepOrder}
@@ -24,7 +24,7 @@ use Rattle.gb_isolation.proofs.MomentLemmas.{AllBehave}
 use Rattle.gb_isolation.proofs.NoticeLemmas.{numbered_is}
 use Rattle.gb_isolation.proofs.RunCommandLemmas.{run_pairs}
 
-module _ (plan : NetworkPlan) (run : List Did) (v : NetworkValue) (g : Addr) (few : plan.nodes ≤ NODES) (isolated : IsIsolated plan run v g) where
+module _ (plan : ClusterPlan) (run : List Did) (v : ClusterValue) (g : Addr) (few : plan.nodes ≤ NODES) (isolated : IsIsolated plan run v g) where
   abbrev steps : List GroupStep
   steps = project plan g run
 

@@ -30,11 +30,11 @@ use Rattle.gb_node.specs.declared.answer.Sent.TheVariants.{Packet as SentPacket}
 use Rattle.gb_node.specs.declared.answer.Ticked.TheVariants.{Noticed}
 use Rattle.gb_node.specs.declared.event.NodeEvent.{NodeEvent}
 use Rattle.gb_node.specs.declared.event.NodeEvent.TheVariants.{Request as Asked, Packet as Brought, Pack, Tick}
-use Rattle.gb_network.specs.NetworkValue.{NetworkValue, node_plan, node_at}
-use Rattle.gb_network.specs.Links.{IsAlwaysWhole, LinksHold}
-use Rattle.gb_network.specs.Run.{Did, ComesTo, past_at}
-use Rattle.gb_network.specs.declared.plan.NetworkPlan.{NetworkPlan}
-use Rattle.gb_network.proofs.NodesLemmas.{Stays, stays, have_pasts, past_same, past_other}
+use Rattle.gb_cluster.specs.ClusterValue.{ClusterValue, node_plan, node_at}
+use Rattle.gb_cluster.specs.Links.{IsAlwaysWhole, LinksHold}
+use Rattle.gb_cluster.specs.Run.{Did, ComesTo, past_at}
+use Rattle.gb_cluster.specs.declared.plan.ClusterPlan.{ClusterPlan}
+use Rattle.gb_cluster.proofs.NodesLemmas.{Stays, stays, have_pasts, past_same, past_other}
 use Rattle.gb_node.specs.declared.plan.NodePlan.{NodePlan}
 use Rattle.gb_node.specs.Past.{added, tenants_in}
 use Rattle.gb_isolation.specs.Project.{made_by, gives, project, items_of, is_fed, is_starved_by, is_new_frame, made_with, replies_in, is_met}
@@ -70,7 +70,7 @@ fits_frames nodes g me from later v m more was = record {
   acks = was.acks;
 }
 
--- A new network.
+-- A new cluster.
 
 none_marked : (g : Addr) (test : ℕ → Bool) → AreMarked g [] test []
 unfolding items_of
@@ -79,7 +79,7 @@ none_marked g test = record {
   beyond = λ place above. refl;
 }
 
-new_fits : (plan : NetworkPlan) (g : Addr) → AllFit plan g [] nobody
+new_fits : (plan : ClusterPlan) (g : Addr) → AllFit plan g [] nobody
 unfolding past_at frames_to items_of is_acked is_taken tenants_in group_of made_with replies_in is_met
 new_fits plan g a inside = record {
   reserve = refl;
@@ -118,10 +118,10 @@ not_replied g request x no_reply = (refl, refl)
 pub record Laws : Type 0 where
   pub answers : AnswersSay
   pub links : LinksHold
-  pub new : (plan : NetworkPlan) (run : List Did) (a : NodeId) (bytes : List ℕ) (good : Good) (v : NetworkValue) (c : Content) → ComesTo plan (record { node = a; event = Brought bytes; answer = Taken (TakenGood good) } ∷ run) v → read plan.cluster_key bytes ≡ c ∷ []
+  pub new : (plan : ClusterPlan) (run : List Did) (a : NodeId) (bytes : List ℕ) (good : Good) (v : ClusterValue) (c : Content) → ComesTo plan (record { node = a; event = Brought bytes; answer = Taken (TakenGood good) } ∷ run) v → read plan.cluster_key bytes ≡ c ∷ []
       → is_first good.frame ≡ is_new_frame plan.cluster_key (past_at a run) c
 
-module _ (laws : Laws) (plan : NetworkPlan) (g : Addr) (run : List Did) (before : NetworkValue) (comes : ComesTo plan run before) (was : BehavesAlone plan g run) where
+module _ (laws : Laws) (plan : ClusterPlan) (g : Addr) (run : List Did) (before : ClusterValue) (comes : ComesTo plan run before) (was : BehavesAlone plan g run) where
   abbrev group : Group
   group = alone plan.nodes g.group (project plan g run)
 
@@ -143,7 +143,7 @@ module _ (laws : Laws) (plan : NetworkPlan) (g : Addr) (run : List Did) (before 
       low = omega (arith, st.history.said, ap length (alone_said plan.nodes g.group a.number (project plan g run)), length-own_said (group a.number).told)
 
   -- what an event gives the group
-  step_goes : (a : NodeId) (e : NodeEvent) (x : NodeAnswer) (v : NetworkValue) → a.number < plan.nodes → ComesTo plan (record { node = a; event = e; answer = x } ∷ run) v → IsAnswered (node_plan plan a) (past_at a run) e x
+  step_goes : (a : NodeId) (e : NodeEvent) (x : NodeAnswer) (v : ClusterValue) → a.number < plan.nodes → ComesTo plan (record { node = a; event = e; answer = x } ∷ run) v → IsAnswered (node_plan plan a) (past_at a run) e x
       → is_starved_by (node_plan plan a) g (past_at a run) e x ≡ false
       → Goes plan.nodes g a (frames_for plan run a) (view_of (node_plan plan a) g (record { event = e; answer = x } ∷ past_at a run)) group (gives plan g run a e x)
   unfolding IsAlwaysWhole
@@ -194,7 +194,7 @@ module _ (laws : Laws) (plan : NetworkPlan) (g : Addr) (run : List Did) (before 
   }) (was.fits a within)
 
   -- the group behaves so after the step
-  pub goes_further : (a : NodeId) (e : NodeEvent) (x : NodeAnswer) (v : NetworkValue) → ComesTo plan (record { node = a; event = e; answer = x } ∷ run) v → is_starved_by (node_plan plan a) g (past_at a run) e x ≡ false
+  pub goes_further : (a : NodeId) (e : NodeEvent) (x : NodeAnswer) (v : ClusterValue) → ComesTo plan (record { node = a; event = e; answer = x } ∷ run) v → is_starved_by (node_plan plan a) g (past_at a run) e x ≡ false
       → BehavesAlone plan g (record { node = a; event = e; answer = x } ∷ run)
   unfolding project ComesTo frames_to
   goes_further a e x v goes fed = record {
@@ -275,7 +275,7 @@ module _ (laws : Laws) (plan : NetworkPlan) (g : Addr) (run : List Did) (before 
       by b inside (inr other) = elsewhere b inside other
 
 -- every group of which no request was refused for want of memory behaves so in every run
-pub behaves : Laws → (plan : NetworkPlan) (g : Addr) (run : List Did) (v : NetworkValue) → ComesTo plan run v → is_fed plan g run ≡ true → BehavesAlone plan g run
+pub behaves : Laws → (plan : ClusterPlan) (g : Addr) (run : List Did) (v : ClusterValue) → ComesTo plan run v → is_fed plan g run ≡ true → BehavesAlone plan g run
 unfolding ComesTo is_fed project
 behaves laws plan g [] v comes fed = record { legal = tt; fits = new_fits plan g }
 behaves laws plan g (d ∷ run) v comes fed =

@@ -1,15 +1,15 @@
-//! What holds of each group in every run of a network.
+//! What holds of each group in every run of a cluster.
 ghost use Rattle.gb_isolation.specs.Isolation.{AmpleRunsFeedAll, GroupsAreIsolated};
 ghost use Rattle.gb_isolation.specs.RunLaws.{GroupsDoTheirDuties, GroupsKeepIntegrity, GroupsKeepOrder, RunsAgree, SettledGroupsAgree};
 
 use gb_alone::laws::{integrity, order};
+use gb_cluster::laws::{links_hold, nothing_is_outside};
 use gb_duties::laws::{agreement, duties};
 use gb_fifo::order::gives_up_whole_runs;
-use gb_network::laws::{links_hold, nothing_is_outside};
 use gb_node::past::{answers_say, pasts_say};
 use gb_stack::stands::module_logs;
 
-/// The main law: for every plan, every run of a network and every group of which no request was refused for want of
+/// The main law: for every plan, every run of a cluster and every group of which no request was refused for want of
 /// memory, what concerns the group in the run is a legal list of events of the group by itself, and its replies, its logs,
 /// and the items that it puts out are those that it has alone, whatever other tenants do and whatever batches hold. The
 /// function does nothing when it runs; its contract is the law.
@@ -28,7 +28,7 @@ pub fn ample_runs_feed_all()
     ensures { AmpleRunsFeedAll }
 {}
 
-/// Two runs: in networks of one size, where the same happened to a group in both, its replies, its logs and the items that
+/// Two runs: in clusters of one size, where the same happened to a group in both, its replies, its logs and the items that
 /// it put out are the same, whatever else happened in either and however its items were packed among others. The function
 /// does nothing when it runs; its contract is the law.
 pub fn runs_agree()

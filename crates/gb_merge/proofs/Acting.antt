@@ -22,17 +22,17 @@ use Rattle.gb_node.specs.declared.event.NodeEvent.{NodeEvent}
 use Rattle.gb_node.specs.declared.event.NodeEvent.TheVariants.{Request as Asked, Packet as Came, Pack, Again, Ack, Tick, Stop}
 use Rattle.gb_node.proofs.EventLemmas.{starved_says}
 use Rattle.gb_node.proofs.SentLemmas.{sends}
-use Rattle.gb_network.specs.Links.{PacketsAreHonest}
-use Rattle.gb_network.specs.NetworkStep.{NodeActs, posted, answer_of, packet_numbered, is_packet_for, IsAt, IsArrival, IsStep, IsPlaced}
-use Rattle.gb_network.specs.NetworkValue.{NetworkValue, node_plan, node_at}
-use Rattle.gb_network.specs.Run.{Did, ComesTo, IsSent, past_at}
-use Rattle.gb_network.specs.declared.answer.Answer.{Answer}
-use Rattle.gb_network.specs.declared.answer.Answer.TheVariants.{Reply as AnswerReply, Taken as AnswerTaken, Sent as AnswerSent, Ticked as AnswerTicked, Halted as AnswerHalted, NoPacket, NotNoise}
-use Rattle.gb_network.specs.declared.answer.Sending.TheVariants.{Packet as SendingPacket, Nothing as SendingNothing, Refused as SendingRefused}
-use Rattle.gb_network.specs.declared.event.Event.{Event}
-use Rattle.gb_network.specs.declared.plan.NetworkPlan.{NetworkPlan}
-use Rattle.gb_network.specs.declared.posted.Posted.{Posted}
-use Rattle.gb_network.proofs.NodesLemmas.{have_pasts}
+use Rattle.gb_cluster.specs.Links.{PacketsAreHonest}
+use Rattle.gb_cluster.specs.ClusterStep.{NodeActs, posted, answer_of, packet_numbered, is_packet_for, IsAt, IsArrival, IsStep, IsPlaced}
+use Rattle.gb_cluster.specs.ClusterValue.{ClusterValue, node_plan, node_at}
+use Rattle.gb_cluster.specs.Run.{Did, ComesTo, IsSent, past_at}
+use Rattle.gb_cluster.specs.declared.answer.Answer.{Answer}
+use Rattle.gb_cluster.specs.declared.answer.Answer.TheVariants.{Reply as AnswerReply, Taken as AnswerTaken, Sent as AnswerSent, Ticked as AnswerTicked, Halted as AnswerHalted, NoPacket, NotNoise}
+use Rattle.gb_cluster.specs.declared.answer.Sending.TheVariants.{Packet as SendingPacket, Nothing as SendingNothing, Refused as SendingRefused}
+use Rattle.gb_cluster.specs.declared.event.Event.{Event}
+use Rattle.gb_cluster.specs.declared.plan.ClusterPlan.{ClusterPlan}
+use Rattle.gb_cluster.specs.declared.posted.Posted.{Posted}
+use Rattle.gb_cluster.proofs.NodesLemmas.{have_pasts}
 use Rattle.gb_merge.specs.Interleaving.{is_good, sent_by, text_numbered, IsEventOf}
 use Rattle.gb_merge.specs.Merged.{told, is_starved}
 use Rattle.gb_merge.specs.Faults.{node_answer, node_after}
@@ -72,8 +72,8 @@ numbered_contains packets (suc k) p e = get_contains packets k p e
 
 -- Packets for a node.
 
--- a node of a network takes those packets that are good there
-pub good_is : PastsSay → (plan : NetworkPlan) (run : List Did) (v : NetworkValue) (a : NodeId) (bytes : List ℕ) → ComesTo plan run v → a.number < plan.nodes → is_packet_for (node_at v a) (Came bytes) ≡ is_good plan a bytes
+-- a node of a cluster takes those packets that are good there
+pub good_is : PastsSay → (plan : ClusterPlan) (run : List Did) (v : ClusterValue) (a : NodeId) (bytes : List ℕ) → ComesTo plan run v → a.number < plan.nodes → is_packet_for (node_at v a) (Came bytes) ≡ is_good plan a bytes
 unfolding is_good
 good_is pasts plan run v a bytes comes within =
     let was : IsOfPast (node_plan plan a) (past_at a run) (node_at v a) = pasts (node_plan plan a) (past_at a run) (node_at v a) (have_pasts plan run v a comes within) in
@@ -84,7 +84,7 @@ good_is pasts plan run v a bytes comes within =
     by was (Ok c) = λ i. is_ok (if nat_eq c.to (was.me i).number && nat_lt c.from (was.nodes i) then Ok c else Err Node)
 
 -- a good packet says for which node it is
-goal_is : (plan : NetworkPlan) (a : NodeId) (bytes : List ℕ) (c : Content) → read plan.cluster_key bytes ≡ c ∷ [] → is_good plan a bytes ≡ true → c.to ≡ a.number
+goal_is : (plan : ClusterPlan) (a : NodeId) (bytes : List ℕ) (c : Content) → read plan.cluster_key bytes ≡ c ∷ [] → is_good plan a bytes ≡ true → c.to ≡ a.number
 unfolding is_good
 goal_is plan a bytes c says good = by (reading plan.cluster_key bytes) says good
   where
@@ -101,16 +101,16 @@ goal_is plan a bytes c says good = by (reading plan.cluster_key bytes) says good
 -- One event.
 
 -- the node does it
-pub record Acted (w : NetworkValue) (a : NodeId) (n : NodeEvent) (x : Answer) (new : NetworkValue) : Type 0 where
+pub record Acted (w : ClusterValue) (a : NodeId) (n : NodeEvent) (x : Answer) (new : ClusterValue) : Type 0 where
   pub own : NodeAnswer
   pub acts : NodeActs w a n own new
   pub answered : x ≡ answer_of (length w.packets) own
   pub sent : IsSent w a n
 
-acted : (w : NetworkValue) (a : NodeId) (n : NodeEvent) (x : Answer) (new : NetworkValue) → IsAt w a n x new → IsSent w a n → Acted w a n x new
+acted : (w : ClusterValue) (a : NodeId) (n : NodeEvent) (x : Answer) (new : ClusterValue) → IsAt w a n x new → IsSent w a n → Acted w a n x new
 acted w a n x new at sent = record { own = at.0; acts = at.1; answered = at.2; sent = sent }
 
-pub acts : PastsSay → PacketsAreHonest → (plan : NetworkPlan) (run : List Did) (w : NetworkValue) (a : NodeId) (sent : List (List ℕ)) (n : NodeEvent) (e : Event) (x : Answer) (new : NetworkValue) → ComesTo plan run w → a.number < plan.nodes → IsEventOf plan a sent n e → texts w.packets ≡ sent → IsStep w e x new → Acted w a n x new
+pub acts : PastsSay → PacketsAreHonest → (plan : ClusterPlan) (run : List Did) (w : ClusterValue) (a : NodeId) (sent : List (List ℕ)) (n : NodeEvent) (e : Event) (x : Answer) (new : ClusterValue) → ComesTo plan run w → a.number < plan.nodes → IsEventOf plan a sent n e → texts w.packets ≡ sent → IsStep w e x new → Acted w a n x new
 acts pasts honest plan run w a sent (Asked request) e x new comes within is packets step = acted w a _ x new (subst (λ (d : Event). IsStep w d x new) is step) (λ bytes same yes. absurd (cc))
 acts pasts honest plan run w a sent (Pack b) e x new comes within is packets step = acted w a _ x new (subst (λ (d : Event). IsStep w d x new) is step) (λ bytes same yes. absurd (cc))
 acts pasts honest plan run w a sent (Again b n) e x new comes within is packets step = acted w a _ x new (subst (λ (d : Event). IsStep w d x new) is step) (λ bytes same yes. absurd (cc))
@@ -155,7 +155,7 @@ turned old n g new (inl starved) fed = absurd (by (starved_says n (turn old n).a
     by (inl is) = let e : true ≡ false = sym (ap is_starved is) ∙ fed in cc
     by (inr is) = let e : true ≡ false = sym (ap is_starved is.2) ∙ fed in cc
 
--- an answer of the network that is no want of memory tells of none
+-- an answer of the cluster that is no want of memory tells of none
 pub fed_is : (packets : List Posted) (x : Answer) (g : NodeAnswer) → told packets x ≡ Some g → is_refused x ≡ false → is_starved g ≡ false
 fed_is packets (AnswerReply reply) g is fed = let same : Reply reply ≡ g = cc in ap is_starved (sym same) ∙ fed
 fed_is packets (AnswerTaken taken) g is fed = let same : Taken taken ≡ g = cc in ap is_starved (sym same) ∙ fed
@@ -250,11 +250,11 @@ told_is before packets v n (Sent (Gave text)) w turn is =
     let one = one_posted v n text w turn in
     ap (option_map (λ (p : Posted). Sent (Gave p.text))) (ap (λ ps. packet_numbered ps (length before + 1)) (is ∙ ap (λ ps. before ++ ps) one.1) ∙ numbered_last before (record { to = one.0; text = text }) (length before + 1) refl)
 
-pub told_own : (w : NetworkValue) (a : NodeId) (n : NodeEvent) (x : Answer) (new : NetworkValue) (d : Acted w a n x new) → told new.packets x ≡ Some d.own
-told_own w a n x new d = ap (told new.packets) d.answered ∙ told_is w.packets new.packets (node_at w a) n d.own d.acts.node d.acts.turn (ap (λ (v : NetworkValue). v.packets) d.acts.after)
+pub told_own : (w : ClusterValue) (a : NodeId) (n : NodeEvent) (x : Answer) (new : ClusterValue) (d : Acted w a n x new) → told new.packets x ≡ Some d.own
+told_own w a n x new d = ap (told new.packets) d.answered ∙ told_is w.packets new.packets (node_at w a) n d.own d.acts.node d.acts.turn (ap (λ (v : ClusterValue). v.packets) d.acts.after)
 
 -- the event happens at one of the nodes
-pub placed_so : (plan : NetworkPlan) (nodes : ℕ) (a : NodeId) (sent : List (List ℕ)) (n : NodeEvent) (e : Event) → a.number < nodes → IsEventOf plan a sent n e → IsPlaced nodes e
+pub placed_so : (plan : ClusterPlan) (nodes : ℕ) (a : NodeId) (sent : List (List ℕ)) (n : NodeEvent) (e : Event) → a.number < nodes → IsEventOf plan a sent n e → IsPlaced nodes e
 placed_so plan nodes a sent (Asked request) e within is = subst (IsPlaced nodes) (sym is) within
 placed_so plan nodes a sent (Pack b) e within is = subst (IsPlaced nodes) (sym is) within
 placed_so plan nodes a sent (Again b n) e within is = subst (IsPlaced nodes) (sym is) within

@@ -14,20 +14,20 @@ use Rattle.gb_node.specs.declared.answer.Ticked.TheVariants.{Refused as TickRefu
 use Rattle.gb_node.specs.declared.answer.Halted.TheVariants.{Refused as HaltRefused}
 use Rattle.gb_node.specs.declared.answer.Sent.TheVariants.{Packet as SentPacket, Nothing, Refused as SentRefused}
 use Rattle.gb_node.specs.declared.tape.TapeEntry.{TapeEntry}
-use Rattle.gb_network.specs.NetworkStep.{packet_numbered, IsStep}
-use Rattle.gb_network.specs.NetworkValue.{NetworkValue, new_network}
-use Rattle.gb_network.specs.Run.{Did, ComesTo, past_at}
-use Rattle.gb_network.specs.declared.answer.Answer.{Answer}
-use Rattle.gb_network.specs.declared.answer.Answer.TheVariants.{Reply as AnswerReply, Taken as AnswerTaken, Sent as AnswerSent, Ticked as AnswerTicked, Halted as AnswerHalted, NoPacket, NotNoise}
-use Rattle.gb_network.specs.declared.answer.Sending.TheVariants.{Packet as SendingPacket, Nothing as SendingNothing, Refused as SendingRefused}
-use Rattle.gb_network.specs.declared.event.Event.{Event}
-use Rattle.gb_network.specs.declared.plan.NetworkPlan.{NetworkPlan}
-use Rattle.gb_network.specs.declared.posted.Posted.{Posted}
+use Rattle.gb_cluster.specs.ClusterStep.{packet_numbered, IsStep}
+use Rattle.gb_cluster.specs.ClusterValue.{ClusterValue, new_cluster}
+use Rattle.gb_cluster.specs.Run.{Did, ComesTo, past_at}
+use Rattle.gb_cluster.specs.declared.answer.Answer.{Answer}
+use Rattle.gb_cluster.specs.declared.answer.Answer.TheVariants.{Reply as AnswerReply, Taken as AnswerTaken, Sent as AnswerSent, Ticked as AnswerTicked, Halted as AnswerHalted, NoPacket, NotNoise}
+use Rattle.gb_cluster.specs.declared.answer.Sending.TheVariants.{Packet as SendingPacket, Nothing as SendingNothing, Refused as SendingRefused}
+use Rattle.gb_cluster.specs.declared.event.Event.{Event}
+use Rattle.gb_cluster.specs.declared.plan.ClusterPlan.{ClusterPlan}
+use Rattle.gb_cluster.specs.declared.posted.Posted.{Posted}
 use Rattle.gb_isolation.specs.Isolation.{IsIsolated}
 use Rattle.gb_isolation.specs.Project.{is_fed}
 use Rattle.gb_merge.specs.Interleaving.{Pick, entries_at, AreEvents, tape_of}
 
--- an answer of the network as the node's, with a packet's bytes in place of its number
+-- an answer of the cluster as the node's, with a packet's bytes in place of its number
 abbrev pub told : List Posted → Answer → Option NodeAnswer
 told packets (AnswerReply reply) = Some (Replied reply)
 told packets (AnswerTaken taken) = Some (Taken taken)
@@ -57,9 +57,9 @@ is_starved (Halted (HaltRefused why)) = is_want why
 is_starved answer = false
 
 -- the events happen one after the other, and each is answered as its entry says, packets compared by their bytes
-unfoldable pub Replays : NetworkValue → List Event → List Pick → NetworkValue → Type 0
+unfoldable pub Replays : ClusterValue → List Event → List Pick → ClusterValue → Type 0
 Replays old [] [] new = new ≡ old
-Replays old (e ∷ events) (p ∷ picks) new = (next : NetworkValue) × (answer : Answer) × IsStep old e answer next × (told next.packets answer ≡ Some p.entry.answer) × Replays next events picks new
+Replays old (e ∷ events) (p ∷ picks) new = (next : ClusterValue) × (answer : Answer) × IsStep old e answer next × (told next.packets answer ≡ Some p.entry.answer) × Replays next events picks new
 Replays old [] (p ∷ picks) new = ⊥
 Replays old (e ∷ events) [] new = ⊥
 
@@ -68,7 +68,7 @@ unfoldable pub AreFed : List Pick → Type 0
 AreFed [] = Unit {0}
 AreFed (p ∷ picks) = (is_starved p.entry.answer ≡ false) × AreFed picks
 
--- what was taken as a run of the network, the newest first
+-- what was taken as a run of the cluster, the newest first
 abbrev pub did : Pick → Did
 did p = record { node = p.node; event = p.entry.event; answer = p.entry.answer }
 
@@ -82,22 +82,22 @@ happened x = record { event = x.event; answer = x.answer }
 abbrev pub past_of : List TapeEntry → List Happened
 past_of entries = reverse (map happened entries)
 
--- The events are an interleaving of the tapes. From a network in which nothing has happened they give each tape's answers, and none is want of memory.
-pub record IsMerged (plan : NetworkPlan) (tapes : List (List TapeEntry)) (events : List Event) : Type 0 where
+-- The events are an interleaving of the tapes. From a cluster in which nothing has happened they give each tape's answers, and none is want of memory.
+pub record IsMerged (plan : ClusterPlan) (tapes : List (List TapeEntry)) (events : List Event) : Type 0 where
   pub picks : List Pick
   pub are_events : AreEvents plan [] picks events
   pub whole : (a : ℕ) → entries_at a picks ≡ tape_of tapes a
-  pub last : NetworkValue
-  pub replays : Replays (new_network plan) events picks last
+  pub last : ClusterValue
+  pub replays : Replays (new_cluster plan) events picks last
   pub fed : AreFed picks
-  -- so all that holds of every run of a network holds of what the tapes say
+  -- so all that holds of every run of a cluster holds of what the tapes say
   pub comes : ComesTo plan (run_of picks) last
 
--- What is merged is a run of a network: at each node happened what its tape says, and each group in it is what it is alone.
-pub record IsOneRun (plan : NetworkPlan) (tapes : List (List TapeEntry)) (events : List Event) (m : IsMerged plan tapes events) : Type 0 where
+-- What is merged is a run of a cluster: at each node happened what its tape says, and each group in it is what it is alone.
+pub record IsOneRun (plan : ClusterPlan) (tapes : List (List TapeEntry)) (events : List Event) (m : IsMerged plan tapes events) : Type 0 where
   pub pasts : (a : NodeId) → past_at a (run_of m.picks) ≡ past_of (tape_of tapes a.number)
   pub isolated : (g : Addr) → is_fed plan g (run_of m.picks) ≡ true → IsIsolated plan (run_of m.picks) m.last g
 
 -- so it is whatever the plan and the tapes are
 abbrev pub MergedIsOneRun : Type 0
-MergedIsOneRun = (plan : NetworkPlan) (tapes : List (List TapeEntry)) (events : List Event) (m : IsMerged plan tapes events) → IsOneRun plan tapes events m
+MergedIsOneRun = (plan : ClusterPlan) (tapes : List (List TapeEntry)) (events : List Event) (m : IsMerged plan tapes events) → IsOneRun plan tapes events m

@@ -7,14 +7,14 @@ use Rattle.gb_node.specs.declared.answer.NodeAnswer.TheVariants.{Taken, Ticked, 
 use Rattle.gb_node.specs.declared.event.NodeEvent.{NodeEvent}
 use Rattle.gb_node.specs.declared.event.NodeEvent.TheVariants.{Packet as Came}
 use Rattle.gb_node.specs.declared.tape.TapeEntry.{TapeEntry}
-use Rattle.gb_network.specs.NetworkStep.{IsStep}
-use Rattle.gb_network.specs.NetworkValue.{NetworkValue, new_network}
-use Rattle.gb_network.specs.Run.{ComesTo}
-use Rattle.gb_network.specs.declared.answer.Answer.{Answer}
-use Rattle.gb_network.specs.declared.answer.Answer.TheVariants.{Reply as AnswerReply, Taken as AnswerTaken, Sent as AnswerSent, Ticked as AnswerTicked, Halted as AnswerHalted}
-use Rattle.gb_network.specs.declared.answer.Sending.TheVariants.{Refused as SendingRefused}
-use Rattle.gb_network.specs.declared.event.Event.{Event}
-use Rattle.gb_network.specs.declared.plan.NetworkPlan.{NetworkPlan}
+use Rattle.gb_cluster.specs.ClusterStep.{IsStep}
+use Rattle.gb_cluster.specs.ClusterValue.{ClusterValue, new_cluster}
+use Rattle.gb_cluster.specs.Run.{ComesTo}
+use Rattle.gb_cluster.specs.declared.answer.Answer.{Answer}
+use Rattle.gb_cluster.specs.declared.answer.Answer.TheVariants.{Reply as AnswerReply, Taken as AnswerTaken, Sent as AnswerSent, Ticked as AnswerTicked, Halted as AnswerHalted}
+use Rattle.gb_cluster.specs.declared.answer.Sending.TheVariants.{Refused as SendingRefused}
+use Rattle.gb_cluster.specs.declared.event.Event.{Event}
+use Rattle.gb_cluster.specs.declared.plan.ClusterPlan.{ClusterPlan}
 use Rattle.gb_merge.specs.Interleaving.{Pick, is_good, entries_at, sent_by, tape_of, IsEventOf, AreEvents}
 use Rattle.gb_merge.specs.Merged.{told, is_want, is_starved_reply, is_starved, run_of, Replays, AreFed}
 use Rattle.gb_merge.specs.Faults.{IsBlocked, IsStuck, node_answer, replay}
@@ -27,32 +27,32 @@ sent_with [] = []
 sent_with (p ∷ picks) = sent_by p.entry.answer ++ sent_with picks
 
 -- these entries were taken, as these events, and these are left
-pub record IsWoven (plan : NetworkPlan) (tapes rest : List (List TapeEntry)) (picks : List Pick) (events : List Event) : Type 0 where
+pub record IsWoven (plan : ClusterPlan) (tapes rest : List (List TapeEntry)) (picks : List Pick) (events : List Event) : Type 0 where
   pub are_events : AreEvents plan [] picks events
   pub parts : (a : ℕ) → entries_at a picks ++ tape_of rest a ≡ tape_of tapes a
   pub count : length rest ≡ length tapes
 
 -- the tapes are used up
-pub record IsWhole (plan : NetworkPlan) (tapes : List (List TapeEntry)) (picks : List Pick) (events : List Event) : Type 0 where
+pub record IsWhole (plan : ClusterPlan) (tapes : List (List TapeEntry)) (picks : List Pick) (events : List Event) : Type 0 where
   pub are_events : AreEvents plan [] picks events
   pub whole : (a : ℕ) → entries_at a picks ≡ tape_of tapes a
 
 -- it is no packet for the node
-abbrev pub IsOther : NetworkPlan → NodeId → NodeEvent → Type 0
+abbrev pub IsOther : ClusterPlan → NodeId → NodeEvent → Type 0
 IsOther plan a (Came bytes) = is_good plan a bytes ≡ false
 IsOther plan a event = Unit {0}
 
 -- nothing is left, or the next entry can not go
-abbrev pub IsHeld : NetworkPlan → ℕ → List (List ℕ) → List TapeEntry → Type 0
+abbrev pub IsHeld : ClusterPlan → ℕ → List (List ℕ) → List TapeEntry → Type 0
 IsHeld plan a sent [] = Unit {0}
 IsHeld plan a sent (x ∷ entries) = IsBlocked plan (node_numbered a) sent x.event
 
 -- no node can go
-abbrev pub AreHeld : NetworkPlan → List (List ℕ) → List (List TapeEntry) → Type 0
+abbrev pub AreHeld : ClusterPlan → List (List ℕ) → List (List TapeEntry) → Type 0
 AreHeld plan sent rest = (a : ℕ) → IsHeld plan a sent (tape_of rest a)
 
 -- the nodes that are marked can not go
-abbrev pub AreMarked : NetworkPlan → List Bool → List (List ℕ) → List (List TapeEntry) → Type 0
+abbrev pub AreMarked : ClusterPlan → List Bool → List (List ℕ) → List (List TapeEntry) → Type 0
 AreMarked plan marks sent rest = (a : ℕ) → slice_index_or marks a false ≡ true → IsHeld plan a sent (tape_of rest a)
 
 -- what comes next to a node is not these bytes
@@ -65,14 +65,14 @@ abbrev pub AreWoken : List Bool → List (List TapeEntry) → NodeAnswer → Lis
 AreWoken old rest answer new = (a : ℕ) → slice_index_or new a false ≡ true → (slice_index_or old a false ≡ true) × ((bytes : List ℕ) → sent_by answer ≡ bytes ∷ [] → AwaitsOther bytes (tape_of rest a))
 
 -- the next of these entries of a node can go, as this event
-pub record IsNext (plan : NetworkPlan) (a : NodeId) (sent : List (List ℕ)) (left : List TapeEntry) (e : Event) : Type 0 where
+pub record IsNext (plan : ClusterPlan) (a : NodeId) (sent : List (List ℕ)) (left : List TapeEntry) (e : Event) : Type 0 where
   pub entry : TapeEntry
   pub more : List TapeEntry
   pub next : left ≡ entry ∷ more
   pub is : IsEventOf plan a sent entry.event e
 
 -- the next entry of a node can go, as this event
-pub record CanGo (plan : NetworkPlan) (rest : List (List TapeEntry)) (sent : List (List ℕ)) (a : NodeId) (e : Event) : Type 0 where
+pub record CanGo (plan : ClusterPlan) (rest : List (List TapeEntry)) (sent : List (List ℕ)) (a : NodeId) (e : Event) : Type 0 where
   pub within : a.number < length rest
   pub entry : TapeEntry
   pub more : List TapeEntry
@@ -85,13 +85,13 @@ count_of [] = 0
 count_of (t ∷ rest) = length t + count_of rest
 
 -- where the entries were not yet run
-abbrev pub IsWeaveFault : NetworkPlan → List (List TapeEntry) → AuditFault → Type 0
+abbrev pub IsWeaveFault : ClusterPlan → List (List TapeEntry) → AuditFault → Type 0
 IsWeaveFault plan tapes Stuck = IsStuck plan tapes
 IsWeaveFault plan tapes OutOfMemory = Unit {0}
 IsWeaveFault plan tapes fault = ⊥
 
 -- a packet came to this node for which it is, and it is none of these
-pub record HasStranger (plan : NetworkPlan) (a : NodeId) (sent : List (List ℕ)) (entries : List TapeEntry) : Type 0 where
+pub record HasStranger (plan : ClusterPlan) (a : NodeId) (sent : List (List ℕ)) (entries : List TapeEntry) : Type 0 where
   pub place : ℕ
   pub entry : TapeEntry
   pub there : slice_get entries place ≡ Some entry
@@ -104,7 +104,7 @@ unfoldable pub ArePlaced : ℕ → List Pick → Type 0
 ArePlaced nodes [] = Unit {0}
 ArePlaced nodes (p ∷ picks) = (p.node.number < nodes) × ArePlaced nodes picks
 
--- the network's answer is want of memory
+-- the cluster's answer is want of memory
 abbrev pub is_refused : Answer → Bool
 is_refused (AnswerReply reply) = is_starved_reply reply
 is_refused (AnswerTaken taken) = is_starved (Taken taken)
@@ -113,41 +113,41 @@ is_refused (AnswerTicked ticked) = is_starved (Ticked ticked)
 is_refused (AnswerHalted halted) = is_starved (Halted halted)
 is_refused answer = false
 
--- an event is answered by the network as the entry says
-pub record IsTold (old : NetworkValue) (e : Event) (given : NodeAnswer) (new : NetworkValue) : Type 0 where
+-- an event is answered by the cluster as the entry says
+pub record IsTold (old : ClusterValue) (e : Event) (given : NodeAnswer) (new : ClusterValue) : Type 0 where
   pub answer : Answer
   pub step : IsStep old e answer new
   pub told_is : told new.packets answer ≡ Some given
   pub fed : is_refused answer ≡ false
 
 -- it is answered otherwise, and that is no want of memory
-pub record IsUntold (old : NetworkValue) (e : Event) (given : NodeAnswer) : Type 0 where
+pub record IsUntold (old : ClusterValue) (e : Event) (given : NodeAnswer) : Type 0 where
   pub answer : Answer
-  pub new : NetworkValue
+  pub new : ClusterValue
   pub step : IsStep old e answer new
   pub other : told new.packets answer ≢ Some given
   pub fed : is_refused answer ≡ false
 
-abbrev pub IsStepFault : NetworkValue → Event → NodeAnswer → AuditFault → Type 0
+abbrev pub IsStepFault : ClusterValue → Event → NodeAnswer → AuditFault → Type 0
 IsStepFault old e given Differs = IsUntold old e given
 IsStepFault old e given OutOfMemory = Unit {0}
 IsStepFault old e given fault = ⊥
 
 -- the run gave what was taken
-pub record IsFollowed (plan : NetworkPlan) (events : List Event) (picks : List Pick) (v : NetworkValue) : Type 0 where
-  pub replays : Replays (new_network plan) events picks v
+pub record IsFollowed (plan : ClusterPlan) (events : List Event) (picks : List Pick) (v : ClusterValue) : Type 0 where
+  pub replays : Replays (new_cluster plan) events picks v
   pub fed : AreFed picks
   pub comes : ComesTo plan (run_of picks) v
 
 -- the answer of an entry is not its node's
-pub record IsWrong (plan : NetworkPlan) (picks : List Pick) : Type 0 where
+pub record IsWrong (plan : ClusterPlan) (picks : List Pick) : Type 0 where
   pub done : List Pick
   pub pick : Pick
   pub others : List Pick
   pub parts : picks ≡ done ++ pick ∷ others
   pub differs : (is_starved pick.entry.answer ≡ true) ⊎ (pick.entry.answer ≢ node_answer (replay plan pick.node (entries_at pick.node.number done)) pick.entry.event)
 
-abbrev pub IsFollowFault : NetworkPlan → List Pick → AuditFault → Type 0
+abbrev pub IsFollowFault : ClusterPlan → List Pick → AuditFault → Type 0
 IsFollowFault plan picks Differs = IsWrong plan picks
 IsFollowFault plan picks OutOfMemory = Unit {0}
 IsFollowFault plan picks fault = ⊥

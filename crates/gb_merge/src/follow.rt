@@ -1,20 +1,20 @@
 //! Running the events that were taken from tapes.
 ghost use Rattle.std.specs.Prelude.{◌≡◌, ◌↔◌, [], ℕ, length, IsTrue, Some, IfErr, OnOk};
 ghost use Rattle.std.specs.Option.{option_map};
-ghost use Rattle.gb_network.specs.NetworkStep.{packet_numbered, IsPlaced};
-ghost use Rattle.gb_network.specs.declared.posted.Posted.{Posted as PostedValue};
-ghost use Rattle.gb_network.specs.Run.{ComesTo};
+ghost use Rattle.gb_cluster.specs.ClusterStep.{packet_numbered, IsPlaced};
+ghost use Rattle.gb_cluster.specs.declared.posted.Posted.{Posted as PostedValue};
+ghost use Rattle.gb_cluster.specs.Run.{ComesTo};
 ghost use Rattle.gb_merge.specs.Interleaving.{AreEvents};
 ghost use Rattle.gb_merge.specs.Merged.{told, is_want};
 ghost use Rattle.gb_merge.specs.Woven.{is_refused, ArePlaced, IsTold, IsStepFault, IsFollowed, IsFollowFault};
 
 use crate::fault::AuditFault;
 use crate::rest::Taking;
-use gb_network::answer::{Answer, Sending};
-use gb_network::event::Event;
-use gb_network::laws::packets_are_honest;
-use gb_network::network::Network;
-use gb_network::posted::Posted;
+use gb_cluster::answer::{Answer, Sending};
+use gb_cluster::cluster::Cluster;
+use gb_cluster::event::Event;
+use gb_cluster::laws::packets_are_honest;
+use gb_cluster::posted::Posted;
 use gb_node::answer::{Halted, NodeAnswer, PacketAnswer, Sent, Ticked};
 use gb_node::past::pasts_say;
 use gb_types::refusal::Refusal;
@@ -61,7 +61,7 @@ fn is_numbered(packets: &[Posted], number: u64, bytes: &[u8]) -> bool
     }
 }
 
-/// Whether what the network sent is what the node sent, packets compared by their bytes.
+/// Whether what the cluster sent is what the node sent, packets compared by their bytes.
 fn is_sent(packets: &[Posted], sending: &Sending, sent: &Sent) -> bool
     ensures { IsTrue result ↔ (told packets.now (Answer.Sent sending.now) ≡ Some (NodeAnswer.Sent sent.now)) }
 {
@@ -77,7 +77,7 @@ fn is_sent(packets: &[Posted], sending: &Sending, sent: &Sent) -> bool
     }
 }
 
-/// Whether the network's answer is the node's, packets compared by their bytes.
+/// Whether the cluster's answer is the node's, packets compared by their bytes.
 fn is_told(packets: &[Posted], answer: Answer, given: &NodeAnswer) -> bool
     ensures { IsTrue result ↔ (told packets.now answer ≡ Some given.now) }
 {
@@ -95,41 +95,41 @@ fn is_told(packets: &[Posted], answer: Answer, given: &NodeAnswer) -> bool
 }
 
 /// One event, which is to be answered so.
-fn happen(network: &mut Network, event: &Event, given: &NodeAnswer) -> Result<(), AuditFault>
-    requires { IsPlaced (length network.old.nodes) event.now }
-    ensures ok { OnOk result (IsTold network.old event.now given.now network.new) }
-    ensures err { IfErr result (IsStepFault network.old event.now given.now) }
-    ensures nodes { length network.new.nodes ≡ length network.old.nodes }
+fn happen(cluster: &mut Cluster, event: &Event, given: &NodeAnswer) -> Result<(), AuditFault>
+    requires { IsPlaced (length cluster.old.nodes) event.now }
+    ensures ok { OnOk result (IsTold cluster.old event.now given.now cluster.new) }
+    ensures err { IfErr result (IsStepFault cluster.old event.now given.now) }
+    ensures nodes { length cluster.new.nodes ≡ length cluster.old.nodes }
 {
-    let answer = network.step(event)?;
+    let answer = cluster.step(event)?;
     if is_refused(&answer) {
         return Err(AuditFault::OutOfMemory);
     }
-    if !is_told(network.packets(), answer, given) {
+    if !is_told(cluster.packets(), answer, given) {
         return Err(AuditFault::Differs);
     }
     Ok(())
 }
 
-/// Runs the events in a network in which nothing has happened, up to the first that is not answered as its entry says.
+/// Runs the events in a cluster in which nothing has happened, up to the first that is not answered as its entry says.
 pub(crate) fn follow(
-    network: &mut Network,
+    cluster: &mut Cluster,
     events: &[Event],
     order: &[Taking],
 ) -> Result<(), AuditFault>
-    requires fresh { ComesTo network.old.plan [] network.old }
-    requires events { AreEvents network.old.plan [] order.now events.now }
-    requires placed { ArePlaced network.old.plan.nodes order.now }
+    requires fresh { ComesTo cluster.old.plan [] cluster.old }
+    requires events { AreEvents cluster.old.plan [] order.now events.now }
+    requires placed { ArePlaced cluster.old.plan.nodes order.now }
     requires count { length events.now ≡ length order.now }
-    ensures ok { OnOk result (IsFollowed network.old.plan events.now order.now network.new) }
-    ensures err { IfErr result (IsFollowFault network.old.plan order.now) }
+    ensures ok { OnOk result (IsFollowed cluster.old.plan events.now order.now cluster.new) }
+    ensures err { IfErr result (IsFollowFault cluster.old.plan order.now) }
 {
     pasts_say();
     packets_are_honest();
     for i in 0..events.len() {
         let event = &events[i];
         let taken = &order[i];
-        happen(network, event, taken.answer())?;
+        happen(cluster, event, taken.answer())?;
     }
     Ok(())
 }

@@ -1,6 +1,6 @@
 //! Merging tapes.
 ghost use Rattle.std.specs.Prelude.{◌≡◌, length, IfOk, IfErr};
-ghost use Rattle.gb_network.specs.NetworkValue.{IsNetworkPlan};
+ghost use Rattle.gb_cluster.specs.ClusterValue.{IsClusterPlan};
 ghost use Rattle.gb_merge.specs.Faults.{IsFault};
 ghost use Rattle.gb_merge.specs.Merged.{IsMerged};
 
@@ -9,19 +9,19 @@ use crate::follow::follow;
 use crate::reader::Reader;
 use crate::stranger::have_stranger;
 use crate::weave::weave;
-use gb_network::event::Event;
-use gb_network::network::Network;
-use gb_network::plan::NetworkPlan;
+use gb_cluster::cluster::Cluster;
+use gb_cluster::event::Event;
+use gb_cluster::plan::ClusterPlan;
 use gb_node::tape::Tape;
 use std::alloc::Global;
 
-/// Merges the tapes of a network's nodes, one for each, by their numbers: events of the network in which each node's are
+/// Merges the tapes of a cluster's nodes, one for each, by their numbers: events of the cluster in which each node's are
 /// the entries of its tape, in order, and whose run from the start gives the tapes' answers. Taken is, again and again,
 /// the next entry of the lowest-numbered node that can go: a packet for the node can go once an equal one was sent, and
 /// becomes the arrival of the first equal one; each other entry can go at once, and bytes that are no packet for the node
 /// are noise. Nothing of the tapes is copied but into the events.
-pub fn merge(alloc: Global, plan: &NetworkPlan, tapes: &[Tape]) -> Result<Vec<Event>, AuditFault>
-    requires plan { IsNetworkPlan plan.now }
+pub fn merge(alloc: Global, plan: &ClusterPlan, tapes: &[Tape]) -> Result<Vec<Event>, AuditFault>
+    requires plan { IsClusterPlan plan.now }
     requires one_each { length tapes.now ≡ plan.now.nodes }
     ensures ok { IfOk result (λ v. IsMerged plan.now tapes.now v.items) }
     ensures err { IfErr result (IsFault plan.now tapes.now) }
@@ -31,9 +31,9 @@ pub fn merge(alloc: Global, plan: &NetworkPlan, tapes: &[Tape]) -> Result<Vec<Ev
         return Err(AuditFault::Stranger);
     }
     let woven = weave(alloc, &reader, tapes)?;
-    let mut network = Network::start(alloc, plan)?;
+    let mut cluster = Cluster::start(alloc, plan)?;
     follow(
-        &mut network,
+        &mut cluster,
         woven.events.as_slice(),
         woven.order.as_slice(),
     )?;

@@ -1,28 +1,28 @@
-//! Which bytes are packets for a node of a network.
+//! Which bytes are packets for a node of a cluster.
 ghost use Rattle.std.specs.Prelude.{◌≡◌, true, MatchOption};
 ghost use Rattle.gb_merge.specs.Interleaving.{is_good};
 ghost use Rattle.gb_merge.specs.Woven.{IsOther};
 ghost use Rattle.gb_node.specs.declared.event.NodeEvent.TheVariants as NodeEvents;
 
 use gb_cap::hmac::HmacKey;
+use gb_cluster::plan::ClusterPlan;
 use gb_frame::reading::decode;
-use gb_network::plan::NetworkPlan;
 use gb_node::event::NodeEvent;
 use gb_types::node::NodeId;
 use std::marker::Model;
 
-/// Reads packets as the nodes of a network do. Contracts see the network's plan.
+/// Reads packets as the nodes of a cluster do. Contracts see the cluster's plan.
 #[derive(Drop)]
 pub(crate) struct Reader {
-    plan: NetworkPlan,
+    plan: ClusterPlan,
     key: HmacKey,
 }
 
 impl Model for Reader {
     ghost use Rattle.std.specs.Prelude.{◌≡◌};
-    ghost use Rattle.gb_network.specs.declared.plan.NetworkPlan.{NetworkPlan};
+    ghost use Rattle.gb_cluster.specs.declared.plan.ClusterPlan.{ClusterPlan};
 
-    ghost Value = { NetworkPlan };
+    ghost Value = { ClusterPlan };
 
     ghost view = { λ r. r.plan };
 
@@ -30,7 +30,7 @@ impl Model for Reader {
 }
 
 impl Reader {
-    pub(crate) fn new(plan: &NetworkPlan) -> Reader
+    pub(crate) fn new(plan: &ClusterPlan) -> Reader
         ensures { result ≡ plan.now }
     {
         Reader {

@@ -1,4 +1,4 @@
-//! Taking the entries of tapes one after the other, as events of a network.
+//! Taking the entries of tapes one after the other, as events of a cluster.
 ghost use Rattle.std.specs.Prelude.{◌≡◌, ◌≤◌, ◌<◌, [], ℕ, List, length, IsTrue, false, MatchOption, IfOk, IfErr};
 ghost use Rattle.gb_types.specs.declared.limits.TheConstants.{NODES};
 ghost use Rattle.gb_node.specs.declared.tape.TapeEntry.{TapeEntry as Entry};
@@ -10,7 +10,7 @@ use crate::fault::AuditFault;
 use crate::mail::Mail;
 use crate::reader::Reader;
 use crate::rest::{Rest, Taking, packet_of, post};
-use gb_network::event::Event;
+use gb_cluster::event::Event;
 use gb_node::answer::NodeAnswer;
 use gb_node::event::NodeEvent;
 use gb_node::tape::Tape;
@@ -18,7 +18,7 @@ use gb_types::memory::OutOfMemory;
 use gb_types::node::NodeId;
 use std::alloc::Global;
 
-/// The event of the network that a node's event is, where it can go.
+/// The event of the cluster that a node's event is, where it can go.
 fn event_of(
     alloc: Global,
     reader: &Reader,
@@ -37,7 +37,7 @@ fn event_of(
     }
 }
 
-/// The event of the network that the next entry of a node is, where it can go.
+/// The event of the cluster that the next entry of a node is, where it can go.
 fn event_at(
     alloc: Global,
     reader: &Reader,
@@ -53,7 +53,7 @@ fn event_at(
     }
 }
 
-/// The lowest-numbered node that can go, and the event of the network that its next entry is. A mark says of a node
+/// The lowest-numbered node that can go, and the event of the cluster that its next entry is. A mark says of a node
 /// that it can not go, so that it is not looked at again.
 fn next_event(
     alloc: Global,
@@ -113,7 +113,7 @@ fn wake(marks: &mut Vec<bool>, rest: &[Rest], answer: &NodeAnswer)
     }
 }
 
-/// Entries in the order in which they were taken, and the events of the network that they are.
+/// Entries in the order in which they were taken, and the events of the cluster that they are.
 #[derive(Drop)]
 pub(crate) struct Woven<'a> {
     pub(crate) order: Vec<Taking<'a>>,

@@ -1,8 +1,8 @@
 //! Tapes made by nodes.
+use gb_cluster::event::Event;
+use gb_cluster::plan::ClusterPlan;
 use gb_merge::fault::AuditFault;
 use gb_merge::merge::merge;
-use gb_network::event::Event;
-use gb_network::plan::NetworkPlan;
 use gb_node::answer::{NodeAnswer, Sent};
 use gb_node::event::NodeEvent;
 use gb_node::node::Node;
@@ -21,7 +21,7 @@ pub const TWO: NodeId = NodeId { number: 2 };
 /// The key of the administrator's token.
 pub const ADMIN_KEY: [u8; 32] = [1; 32];
 
-pub const SINGLE: NetworkPlan = NetworkPlan {
+pub const SINGLE: ClusterPlan = ClusterPlan {
     nodes: 1,
     silence: 3,
     places: 4,
@@ -29,7 +29,7 @@ pub const SINGLE: NetworkPlan = NetworkPlan {
     admin_key: ADMIN_KEY,
 };
 
-pub const PAIR: NetworkPlan = NetworkPlan {
+pub const PAIR: ClusterPlan = ClusterPlan {
     nodes: 2,
     silence: 3,
     places: 4,
@@ -37,7 +37,7 @@ pub const PAIR: NetworkPlan = NetworkPlan {
     admin_key: ADMIN_KEY,
 };
 
-pub const TRIPLE: NetworkPlan = NetworkPlan {
+pub const TRIPLE: ClusterPlan = ClusterPlan {
     nodes: 3,
     silence: 3,
     places: 4,

@@ -1,16 +1,16 @@
--- What an event in a network makes happen at its nodes.
+-- What an event in a cluster makes happen at its nodes.
 use Rattle.std.proofs.Common.{◌≡◌, ℕ, zero, suc, inl, inr, true, false, Bool, List, [], ◌∷◌, length, Option, Some, None, refl, sym, subst, ◌∙◌, arith}
 use Rattle.std.specs.Prelude.{◌⊎◌, slice_get, Contains, MatchBool}
 use Rattle.gb_node.specs.declared.event.NodeEvent.TheVariants.{Packet as Came}
-use Rattle.gb_network.specs.NetworkStep.{IsAt, IsArrival, IsStep, is_packet_for, packet_numbered, answer_of}
-use Rattle.gb_network.specs.NetworkValue.{NetworkValue, node_at}
-use Rattle.gb_network.specs.Run.{Did, ComesTo}
-use Rattle.gb_network.specs.declared.answer.Answer.{Answer}
-use Rattle.gb_network.specs.declared.answer.Answer.TheVariants.{NotNoise}
-use Rattle.gb_network.specs.declared.event.Event.{Event}
-use Rattle.gb_network.specs.declared.event.Event.TheVariants.{At, Arrive}
-use Rattle.gb_network.specs.declared.plan.NetworkPlan.{NetworkPlan}
-use Rattle.gb_network.specs.declared.posted.Posted.{Posted}
+use Rattle.gb_cluster.specs.ClusterStep.{IsAt, IsArrival, IsStep, is_packet_for, packet_numbered, answer_of}
+use Rattle.gb_cluster.specs.ClusterValue.{ClusterValue, node_at}
+use Rattle.gb_cluster.specs.Run.{Did, ComesTo}
+use Rattle.gb_cluster.specs.declared.answer.Answer.{Answer}
+use Rattle.gb_cluster.specs.declared.answer.Answer.TheVariants.{NotNoise}
+use Rattle.gb_cluster.specs.declared.event.Event.{Event}
+use Rattle.gb_cluster.specs.declared.event.Event.TheVariants.{At, Arrive}
+use Rattle.gb_cluster.specs.declared.plan.ClusterPlan.{ClusterPlan}
+use Rattle.gb_cluster.specs.declared.posted.Posted.{Posted}
 use Rattle.gb_simulate.specs.RunTexts.{Step, IsOf, Happens}
 
 get_contains : (packets : List Posted) (k : ℕ) (p : Posted) → slice_get packets k ≡ Some p → Contains packets p
@@ -26,10 +26,10 @@ bytes_in : (b c : List ℕ) → Came b ≡ Came c → b ≡ c
 bytes_in b c e = cc
 
 -- a run goes on by a step
-abbrev pub RunsOn : NetworkPlan → NetworkValue → Step → List Did → NetworkValue → Type 0
+abbrev pub RunsOn : ClusterPlan → ClusterValue → Step → List Did → ClusterValue → Type 0
 RunsOn plan before step earlier after = (run : List Did) × Happens before step earlier after run × ComesTo plan run after
 
-pub runs_on : (plan : NetworkPlan) (old new : NetworkValue) (earlier : List Did) (event : Event) (answer : Answer) → IsStep old event answer new → ComesTo plan earlier old
+pub runs_on : (plan : ClusterPlan) (old new : ClusterValue) (earlier : List Did) (event : Event) (answer : Answer) → IsStep old event answer new → ComesTo plan earlier old
     → RunsOn plan old (record { event = event; answer = answer }) earlier new
 unfolding ComesTo
 runs_on plan old new earlier (At a event) answer step comes = by (is_packet_for (node_at old a) event) refl step

@@ -1,6 +1,6 @@
 pub mod RunTextLemmas
 pub mod ProgressLemmas
 pub mod AnswerLemmas
-pub mod OfNetworkLemmas
+pub mod OfClusterLemmas
 pub mod HappensLemmas
 pub mod WritingLemmas

@@ -7,7 +7,7 @@ use Rattle.std.proofs.Math.Seq.{take-append-add}
 use Rattle.std.proofs.lemmas.Bool.{cases_lt}
 use Rattle.std.proofs.lemmas.List.{append_assoc, append-nil, reverse-append, take-append-le}
 use Rattle.gb_schedule.specs.Lines.{lines_of}
-use Rattle.gb_network.specs.NetworkValue.{NetworkValue}
+use Rattle.gb_cluster.specs.ClusterValue.{ClusterValue}
 use Rattle.gb_simulate.specs.AnswerText.{bad_line}
 use Rattle.gb_simulate.specs.Schedule.{GoesOn}
 use Rattle.gb_simulate.specs.Text.{AreAnswered, Reaches, IsText, IsLeftOff, IsWritten, IsWrittenUpTo}
@@ -25,7 +25,7 @@ reaches_start input =
     let answered : AreAnswered [] [] None = (refl, refl) in record { taken = []; lines = refl; answered = answered; run = run_of [] [] None answered; count = refl }
 
 -- one line more
-reaches_on : (input text xs ys line answer : List ℕ) (w after : Option NetworkValue) (n : ℕ) → Reaches input text w n (lines_of xs) → lines_of xs ≡ line ∷ lines_of ys
+reaches_on : (input text xs ys line answer : List ℕ) (w after : Option ClusterValue) (n : ℕ) → Reaches input text w n (lines_of xs) → lines_of xs ≡ line ∷ lines_of ys
     → n ≤ 1000000 → length line ≤ 32768 → GoesOn w line after answer → Reaches input (text ++ answer) after (n + 1) (lines_of ys)
 unfolding AreAnswered
 reaches_on input text xs ys line answer w after n r first few short goes =
@@ -39,7 +39,7 @@ reaches_on input text xs ys line answer w after n r first few short goes =
     }
 
 -- the same, with other lines left, that are the same
-reaches_same : (input text : List ℕ) (w : Option NetworkValue) (n : ℕ) (xs ys : List (List ℕ)) → xs ≡ ys → Reaches input text w n xs → Reaches input text w n ys
+reaches_same : (input text : List ℕ) (w : Option ClusterValue) (n : ℕ) (xs ys : List (List ℕ)) → xs ≡ ys → Reaches input text w n xs → Reaches input text w n ys
 reaches_same input text w n xs ys same r = subst (λ q. Reaches input text w n q) same r
 
 some_same : (xs ys : List ℕ) → Some xs ≡ Some ys → xs ≡ ys
@@ -47,7 +47,7 @@ some_same xs ys is = cc
 
 -- ---- one line more, and what is handed over
 
-at_on : (i b : List ℕ) (n : ℕ) (w after : Option NetworkValue) (left left' now : Option (List ℕ)) (g g' : List ℕ) → IsAt i b n w left now g → TakesLine n w after left left' g g' → IsAt i b (n + 1) after left' now g'
+at_on : (i b : List ℕ) (n : ℕ) (w after : Option ClusterValue) (left left' now : Option (List ℕ)) (g g' : List ℕ) → IsAt i b n w left now g → TakesLine n w after left left' g g' → IsAt i b (n + 1) after left' now g'
 at_on i b n w after None left' now g g' at takes = absurd (cc (at.left_is))
 at_on i b n w after (Some xs) None now g g' at takes = absurd takes.given
 at_on i b n w after (Some xs) (Some ys) now g g' at takes =
@@ -66,7 +66,7 @@ at_on i b n w after (Some xs) (Some ys) now g g' at takes =
 grown : (b written front xs ys : List ℕ) → Some xs ≡ Some (b ++ written) → ys ≡ xs ++ front → ys ≡ b ++ (written ++ front)
 grown b written front xs ys was is = is ∙ ap (λ q. q ++ front) (some_same xs (b ++ written) was) ∙ append_assoc b written front
 
-at_handed : (i b : List ℕ) (n : ℕ) (w : Option NetworkValue) (left now now' : Option (List ℕ)) (g g' : List ℕ) → IsAt i b n w left now g → HandsOver now now' g g' → IsAt i b n w left now' g'
+at_handed : (i b : List ℕ) (n : ℕ) (w : Option ClusterValue) (left now now' : Option (List ℕ)) (g g' : List ℕ) → IsAt i b n w left now g → HandsOver now now' g g' → IsAt i b n w left now' g'
 at_handed i b n w left None now' g g' at handed = absurd (cc (at.now_is))
 at_handed i b n w left (Some xs) None g g' at handed = absurd handed.1
 at_handed i b n w left (Some xs) (Some ys) g g' at (front, grows, is) =
@@ -79,14 +79,14 @@ at_handed i b n w left (Some xs) (Some ys) g g' at (front, grows, is) =
       reaches = subst (λ q. Reaches i q w n (lines_of at.rest)) same at.reaches;
     }
 
-pub halfway_start : (input before : Option (List ℕ)) (w : Option NetworkValue) (g : List ℕ) → w ≡ None → g ≡ [] → IsHalfway input before 1 w input before g
+pub halfway_start : (input before : Option (List ℕ)) (w : Option ClusterValue) (g : List ℕ) → w ≡ None → g ≡ [] → IsHalfway input before 1 w input before g
 halfway_start None before w g first none = tt
 halfway_start (Some i) None w g first none = tt
 halfway_start (Some i) (Some b) w g first none =
     let here : IsAt i b 1 None (Some i) (Some b) g = record { written = []; rest = i; left_is = refl; now_is = ap Some (sym (append-nil b)); reaches = subst (λ q. Reaches i q None 1 (lines_of i)) (sym none) (reaches_start i) } in
     subst (λ q. IsAt i b 1 q (Some i) (Some b) g) (sym first) here
 
-pub halfway_on : (input before left left' now now' : Option (List ℕ)) (n : ℕ) (w after : Option NetworkValue) (g mid g' : List ℕ)
+pub halfway_on : (input before left left' now now' : Option (List ℕ)) (n : ℕ) (w after : Option ClusterValue) (g mid g' : List ℕ)
     → IsHalfway input before n w left now g → HandsOver now now' g mid → TakesLine n w after left left' mid g' → IsHalfway input before (n + 1) after left' now' g'
 halfway_on None before left left' now now' n w after g mid g' half handed takes = tt
 halfway_on (Some i) None left left' now now' n w after g mid g' half handed takes = tt
@@ -96,7 +96,7 @@ halfway_on (Some i) (Some b) left left' now now' n w after g mid g' half handed 
 -- ---- the end
 
 -- the schedule ends here
-at_end : (i b : List ℕ) (n : ℕ) (w : Option NetworkValue) (left now : Option (List ℕ)) (g g' : List ℕ) (end : SimEnd) → IsAt i b n w left now g → Ends end n w left g g' → IsGathered end i b now g'
+at_end : (i b : List ℕ) (n : ℕ) (w : Option ClusterValue) (left now : Option (List ℕ)) (g g' : List ℕ) (end : SimEnd) → IsAt i b n w left now g → Ends end n w left g g' → IsGathered end i b now g'
 at_end i b n w None now g g' end at ends = absurd (cc (at.left_is))
 at_end i b n w (Some xs) now g g' All at ends =
     let none : at.rest ≡ [] = sym (some_same xs at.rest at.left_is) ∙ ends.0 in
@@ -108,7 +108,7 @@ at_end i b n w (Some xs) now g g' (BadLine k why) at ends =
     let text_is : at.written ++ g' ≡ (at.written ++ g) ++ bad_line n = ap (λ q. at.written ++ q) ends.1 ∙ sym (append_assoc at.written g (bad_line n)) in
     rw ends.2 (at.written, at.now_is, (w, at.written ++ g, bad.0, bad.1, reaches_same i (at.written ++ g) w n (lines_of at.rest) (bad.0 ∷ bad.1) lines_are at.reaches, bad.3, text_is))
 
-pub end_gathered : (input before left now now' : Option (List ℕ)) (n : ℕ) (w : Option NetworkValue) (g mid g' : List ℕ) (found : Option SimEnd) (end : SimEnd)
+pub end_gathered : (input before left now now' : Option (List ℕ)) (n : ℕ) (w : Option ClusterValue) (g mid g' : List ℕ) (found : Option SimEnd) (end : SimEnd)
     → IsHalfway input before n w left now g → HandsOver now now' g mid → IfSome found (λ e. Ends e n w left mid g') → found ≡ Some end
     → IfSome input (λ i. IfSome before (λ b. IsGathered end i b now' g'))
 end_gathered None before left now now' n w g mid g' found end half handed ends is = tt
@@ -117,7 +117,7 @@ end_gathered (Some i) (Some b) left now now' n w g mid g' found end half handed 
     at_end i b n w left now' mid g' end (at_handed i b n w left now now' g mid half handed) (subst (λ f. IfSome f (λ e. Ends e n w left mid g')) is ends)
 
 -- a fault of a read or of memory ends it here
-at_fault : (i b : List ℕ) (n : ℕ) (w : Option NetworkValue) (left unread now : Option (List ℕ)) (g g' : List ℕ) (why : SimFault) → IsAt i b n w left now g → Fails why left unread g g' → IsGatheredUpTo why i b unread now g'
+at_fault : (i b : List ℕ) (n : ℕ) (w : Option ClusterValue) (left unread now : Option (List ℕ)) (g g' : List ℕ) (why : SimFault) → IsAt i b n w left now g → Fails why left unread g g' → IsGatheredUpTo why i b unread now g'
 at_fault i b n w None unread now g g' why at fails = absurd (cc (at.left_is))
 at_fault i b n w (Some xs) None now g g' Read at fails = absurd fails.0.2
 at_fault i b n w (Some xs) (Some ys) now g g' Read at fails =
@@ -131,7 +131,7 @@ at_fault i b n w (Some xs) unread now g g' OutOfMemory at fails =
     (at.written, at.now_is, inr (w, n, due.0, due.1, subst (λ q. Reaches i (at.written ++ q) w n (due.0 ∷ due.1)) (sym fails.1) r))
 at_fault i b n w (Some xs) unread now g g' Write at fails = absurd fails
 
-pub fault_gathered : (input before left unread now now' : Option (List ℕ)) (n : ℕ) (w : Option NetworkValue) (g mid g' : List ℕ) (why : SimFault)
+pub fault_gathered : (input before left unread now now' : Option (List ℕ)) (n : ℕ) (w : Option ClusterValue) (g mid g' : List ℕ) (why : SimFault)
     → IsHalfway input before n w left now g → HandsOver now now' g mid → Fails why left unread mid g'
     → IfSome input (λ i. IfSome before (λ b. IsGatheredUpTo why i b unread now' g'))
 fault_gathered None before left unread now now' n w g mid g' why half handed fails = tt
@@ -154,7 +154,7 @@ some_behind [] ys some none = some none
 some_behind (x ∷ xs) ys some none = absurd (cc (none))
 
 -- a front of the answers of some lines ends within the answer of one of them
-front_of_answers : (i : List ℕ) (unread : Option (List ℕ)) (taken lines_left : List (List ℕ)) (text : List ℕ) (w : Option NetworkValue) (k : ℕ)
+front_of_answers : (i : List ℕ) (unread : Option (List ℕ)) (taken lines_left : List (List ℕ)) (text : List ℕ) (w : Option ClusterValue) (k : ℕ)
     → lines_of i ≡ reverse taken ++ lines_left → AreAnswered taken text w → text ≢ [] → IsLeftOff Write i (take k text) unread
 unfolding AreAnswered
 front_of_answers i unread [] lines_left text w k lines answered some = absurd (some answered.0)
@@ -177,7 +177,7 @@ front_of_answers i unread (line ∷ taken) lines_left text w k lines (before, ol
       )
     ]
 
-front_reached : (i : List ℕ) (unread : Option (List ℕ)) (text : List ℕ) (w : Option NetworkValue) (n : ℕ) (lines_left : List (List ℕ)) (k : ℕ)
+front_reached : (i : List ℕ) (unread : Option (List ℕ)) (text : List ℕ) (w : Option ClusterValue) (n : ℕ) (lines_left : List (List ℕ)) (k : ℕ)
     → Reaches i text w n lines_left → text ≢ [] → IsLeftOff Write i (take k text) unread
 front_reached i unread text w n lines_left k r some = front_of_answers i unread r.taken lines_left text w k r.lines r.answered some
 
@@ -207,12 +207,12 @@ cut_short i b written xs unread (Some ys) g was (some, (count, grows)) off = (
   subst (λ q. IsLeftOff Write i q unread) (take-append-add written g count) (off (length written + count)),
 )
 
-at_cut : (i b : List ℕ) (n : ℕ) (w : Option NetworkValue) (left unread now now' : Option (List ℕ)) (g : List ℕ) → IsAt i b n w left now g → IsCutShort now now' g → IsWrittenUpTo Write i b unread now'
+at_cut : (i b : List ℕ) (n : ℕ) (w : Option ClusterValue) (left unread now now' : Option (List ℕ)) (g : List ℕ) → IsAt i b n w left now g → IsCutShort now now' g → IsWrittenUpTo Write i b unread now'
 at_cut i b n w left unread None now' g at cut = absurd (cc (at.now_is))
 at_cut i b n w left unread (Some xs) now' g at cut =
     cut_short i b at.written xs unread now' g at.now_is cut (λ k. front_reached i unread (at.written ++ g) w n (lines_of at.rest) k at.reaches (some_behind at.written g cut.0))
 
-pub cut_halfway : (input before left unread now now' : Option (List ℕ)) (n : ℕ) (w : Option NetworkValue) (g g' : List ℕ) (why : SimFault)
+pub cut_halfway : (input before left unread now now' : Option (List ℕ)) (n : ℕ) (w : Option ClusterValue) (g g' : List ℕ) (why : SimFault)
     → IsHalfway input before n w left now g → (why ≡ Write) × IsCutShort now now' g → IfSome input (λ i. IfSome before (λ b. IsGatheredUpTo why i b unread now' g'))
 cut_halfway None before left unread now now' n w g g' why half cut = tt
 cut_halfway (Some i) None left unread now now' n w g g' why half cut = tt

@@ -4,27 +4,27 @@ use Rattle.std.proofs.lemmas.List.{append_assoc, append-nil}
 use Rattle.std.proofs.lemmas.List.Elements.{All-cons, All-nil}
 use Rattle.std.specs.Prelude.{codes}
 use Rattle.gb_isolation.specs.RunLaws.{OfGroupsInRuns}
-use Rattle.gb_network.specs.Links.{PacketsAreHonest, LinksHold}
-use Rattle.gb_network.specs.NetworkStep.{IsStep}
-use Rattle.gb_network.specs.NetworkValue.{NetworkValue, IsNetworkPlan}
-use Rattle.gb_network.specs.Run.{Did, ComesTo, NodesHavePasts}
-use Rattle.gb_network.specs.declared.answer.Answer.{Answer}
-use Rattle.gb_network.specs.declared.event.Event.{Event}
-use Rattle.gb_network.specs.declared.plan.NetworkPlan.{NetworkPlan}
-use Rattle.gb_network.proofs.NodesLemmas.{stays}
+use Rattle.gb_cluster.specs.Links.{PacketsAreHonest, LinksHold}
+use Rattle.gb_cluster.specs.ClusterStep.{IsStep}
+use Rattle.gb_cluster.specs.ClusterValue.{ClusterValue, IsClusterPlan}
+use Rattle.gb_cluster.specs.Run.{Did, ComesTo, NodesHavePasts}
+use Rattle.gb_cluster.specs.declared.answer.Answer.{Answer}
+use Rattle.gb_cluster.specs.declared.event.Event.{Event}
+use Rattle.gb_cluster.specs.declared.plan.ClusterPlan.{ClusterPlan}
+use Rattle.gb_cluster.proofs.NodesLemmas.{stays}
 use Rattle.gb_schedule.proofs.PlaceLemmas.{line_in_place}
 use Rattle.gb_schedule.specs.Grammar.{IsCommandLine, IsSilent}
 use Rattle.gb_schedule.specs.Lines.{ended}
 use Rattle.gb_schedule.specs.declared.command.Command.{Command}
 use Rattle.gb_schedule.specs.declared.command.Command.TheVariants.{Cluster}
-use Rattle.gb_simulate.specs.OfNetwork.{plan_of, started, size, Takes}
+use Rattle.gb_simulate.specs.OfCluster.{plan_of, started, size, Takes}
 use Rattle.gb_simulate.specs.RunTexts.{Step, AreSteps, Happens, TellsRun}
 use Rattle.gb_simulate.specs.Schedule.{Obeys, GoesOn, event_of}
 use Rattle.gb_simulate.specs.Text.{AreAnswered, Reaches}
 use Rattle.gb_simulate.proofs.HappensLemmas.{runs_on}
 use Rattle.gb_simulate.specs.TextLaws.{IsServed, IsLawful, TellsLawfulRun, BeginsWithRun, TextsAreOfRuns}
 
-comes_started : (nodes silence : ℕ) → IsNetworkPlan (plan_of nodes silence) → ComesTo (plan_of nodes silence) [] (started nodes silence)
+comes_started : (nodes silence : ℕ) → IsClusterPlan (plan_of nodes silence) → ComesTo (plan_of nodes silence) [] (started nodes silence)
 unfolding ComesTo started
 comes_started nodes silence right = (right, refl)
 
@@ -33,7 +33,7 @@ unfolding AreSteps started
 steps_started nodes silence = (refl, refl)
 
 -- a line that asks for nothing
-silent_on : (lines : List (List ℕ)) (text line : List ℕ) (w : Option NetworkValue) → IsSilent line → TellsRun lines text w → TellsRun (line ∷ lines) text w
+silent_on : (lines : List (List ℕ)) (text line : List ℕ) (w : Option ClusterValue) → IsSilent line → TellsRun lines text w → TellsRun (line ∷ lines) text w
 silent_on lines text line None silent run = (All-cons IsSilent line lines silent run.0, run.1)
 silent_on lines text line (Some v) silent (run, is) = (
   run,
@@ -55,8 +55,8 @@ silent_on lines text line (Some v) silent (run, is) = (
   },
 )
 
--- the line that starts the network
-start_on : (lines : List (List ℕ)) (text line answer : List ℕ) (w : Option NetworkValue) (command : Command) (event : Option Event)
+-- the line that starts the cluster
+start_on : (lines : List (List ℕ)) (text line answer : List ℕ) (w : Option ClusterValue) (command : Command) (event : Option Event)
     → TellsRun lines text None → IsCommandLine None line command → Obeys None command event w answer → TellsRun (line ∷ lines) (text ++ answer) w
 start_on lines text line answer w (Cluster nodes silence) event run spelt (after_is, answer_is) =
     let plan = line_in_place None line (Cluster nodes silence) spelt in
@@ -82,17 +82,17 @@ start_on lines text line answer w (Cluster nodes silence) event run spelt (after
 start_on lines text line answer w other event run spelt obeys = absurd obeys
 
 -- one step more
-steps_on : (plan : NetworkPlan) (steps : List Step) (step : Step) (earlier run : List Did) (before v : NetworkValue)
+steps_on : (plan : ClusterPlan) (steps : List Step) (step : Step) (earlier run : List Did) (before v : ClusterValue)
     → AreSteps plan steps earlier before → IsStep before step.event step.answer v → Happens before step earlier v run → AreSteps plan (step ∷ steps) run v
 unfolding AreSteps
 steps_on plan steps step earlier run before v made takes happens = (before, earlier, made, takes, happens)
 
-step_is : (before v : NetworkValue) (event : Event) (answer : Answer) → Takes before event answer v → IsStep before event answer v
+step_is : (before v : ClusterValue) (event : Event) (answer : Answer) → Takes before event answer v → IsStep before event answer v
 unfolding Takes
 step_is before v event answer takes = takes
 
--- a line that the network obeys
-step_on : (lines : List (List ℕ)) (text line answer : List ℕ) (v : NetworkValue) (w : Option NetworkValue) (command : Command) (event : Option Event)
+-- a line that the cluster obeys
+step_on : (lines : List (List ℕ)) (text line answer : List ℕ) (v : ClusterValue) (w : Option ClusterValue) (command : Command) (event : Option Event)
     → TellsRun lines text (Some v) → IsCommandLine (Some (size v)) line command → event_of command ≡ event → Obeys (Some v) command event w answer
     → TellsRun (line ∷ lines) (text ++ answer) w
 step_on lines text line answer v w command None run spelt is obeys = absurd obeys
@@ -130,13 +130,13 @@ step_on lines text line answer v w command (Some event) (run, here) spelt is obe
       },
     )
 
-line_on : (lines : List (List ℕ)) (text line answer : List ℕ) (before w : Option NetworkValue) → TellsRun lines text before → GoesOn before line w answer → TellsRun (line ∷ lines) (text ++ answer) w
+line_on : (lines : List (List ℕ)) (text line answer : List ℕ) (before w : Option ClusterValue) → TellsRun lines text before → GoesOn before line w answer → TellsRun (line ∷ lines) (text ++ answer) w
 line_on lines text line answer before w run (inl (silent, same, none)) =
     subst (λ q. TellsRun (line ∷ lines) q w) (sym (ap (λ q. text ++ q) none ∙ append-nil text)) (subst (TellsRun (line ∷ lines) text) (sym same) (silent_on lines text line before silent run))
 line_on lines text line answer None w run (inr (command, spelt, obeys)) = start_on lines text line answer w command (event_of command) run spelt obeys
 line_on lines text line answer (Some v) w run (inr (command, spelt, obeys)) = step_on lines text line answer v w command (event_of command) run spelt refl obeys
 
-pub run_of : (lines : List (List ℕ)) (text : List ℕ) (w : Option NetworkValue) → AreAnswered lines text w → TellsRun lines text w
+pub run_of : (lines : List (List ℕ)) (text : List ℕ) (w : Option ClusterValue) → AreAnswered lines text w → TellsRun lines text w
 unfolding AreAnswered
 run_of [] text w (none, is) = subst (TellsRun [] text) (sym is) (All-nil IsSilent, none)
 run_of (line ∷ lines) text w (before, older, answer, answered, few, short, goes, is) =
@@ -146,10 +146,10 @@ run_of (line ∷ lines) text w (before, older, answer, answered, few, short, goe
 abbrev pub GroupsAreServed : Type 0
 GroupsAreServed = OfGroupsInRuns IsServed
 
-lawful_so : NodesHavePasts → PacketsAreHonest → LinksHold → GroupsAreServed → (lines : List (List ℕ)) (text : List ℕ) (w : Option NetworkValue) → TellsRun lines text w → TellsLawfulRun lines text w
+lawful_so : NodesHavePasts → PacketsAreHonest → LinksHold → GroupsAreServed → (lines : List (List ℕ)) (text : List ℕ) (w : Option ClusterValue) → TellsRun lines text w → TellsLawfulRun lines text w
 lawful_so pasts packets links served lines text None run = run
 lawful_so pasts packets links served lines text (Some v) (run, here) =
-    let plan : NetworkPlan = plan_of here.nodes here.silence in
+    let plan : ClusterPlan = plan_of here.nodes here.silence in
     let lawful : IsLawful plan run v = record {
       pasts = λ a within. pasts plan run v a here.comes within;
       packets = packets plan run v here.comes;
@@ -159,7 +159,7 @@ lawful_so pasts packets links served lines text (Some v) (run, here) =
     } in
     (run, here, lawful)
 
-front_so : NodesHavePasts → PacketsAreHonest → LinksHold → GroupsAreServed → (input text : List ℕ) (w : Option NetworkValue) (n : ℕ) (lines_left : List (List ℕ)) → Reaches input text w n lines_left → BeginsWithRun input text lines_left
+front_so : NodesHavePasts → PacketsAreHonest → LinksHold → GroupsAreServed → (input text : List ℕ) (w : Option ClusterValue) (n : ℕ) (lines_left : List (List ℕ)) → Reaches input text w n lines_left → BeginsWithRun input text lines_left
 front_so pasts packets links served input text w n lines_left r = (w, r.taken, r.lines, lawful_so pasts packets links served r.taken text w r.run)
 
 pub texts_so : NodesHavePasts → PacketsAreHonest → LinksHold → GroupsAreServed → TextsAreOfRuns

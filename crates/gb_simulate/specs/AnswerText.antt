@@ -15,10 +15,10 @@ use Rattle.gb_node.specs.declared.answer.PacketAnswer.{PacketAnswer}
 use Rattle.gb_node.specs.declared.answer.PacketAnswer.TheVariants.{Good as TakenGood, Fault as TakenFault, Refused as TakenRefused}
 use Rattle.gb_node.specs.declared.answer.Ticked.{Ticked}
 use Rattle.gb_node.specs.declared.answer.Ticked.TheVariants.{Noticed, Refused as TickRefused}
-use Rattle.gb_network.specs.declared.answer.Answer.{Answer}
-use Rattle.gb_network.specs.declared.answer.Answer.TheVariants.{Reply as AnswerReply, Taken as AnswerTaken, Sent as AnswerSent, Ticked as AnswerTicked, Halted as AnswerHalted, NoPacket, NotNoise}
-use Rattle.gb_network.specs.declared.answer.Sending.{Sending}
-use Rattle.gb_network.specs.declared.answer.Sending.TheVariants.{Packet as SentPacket, Nothing, Refused as SentRefused}
+use Rattle.gb_cluster.specs.declared.answer.Answer.{Answer}
+use Rattle.gb_cluster.specs.declared.answer.Answer.TheVariants.{Reply as AnswerReply, Taken as AnswerTaken, Sent as AnswerSent, Ticked as AnswerTicked, Halted as AnswerHalted, NoPacket, NotNoise}
+use Rattle.gb_cluster.specs.declared.answer.Sending.{Sending}
+use Rattle.gb_cluster.specs.declared.answer.Sending.TheVariants.{Packet as SentPacket, Nothing, Refused as SentRefused}
 use Rattle.gb_schedule.specs.Lines.{ended}
 
 -- what a node made of a frame, in a word

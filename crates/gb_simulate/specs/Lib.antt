@@ -1,4 +1,4 @@
-pub mod OfNetwork
+pub mod OfCluster
 pub mod AnswerText
 pub mod Schedule
 pub mod Status

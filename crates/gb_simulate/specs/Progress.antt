@@ -6,7 +6,7 @@ use Rattle.std.specs.Io.KnownBytes.{Appends, Keeps, prepend_known}
 use Rattle.gb_schedule.specs.Buffered.{WhereKnown}
 use Rattle.gb_schedule.specs.Lines.{lines_of, GivesLine, IsLine}
 use Rattle.gb_schedule.specs.declared.lines.TheConstants.{LINE}
-use Rattle.gb_network.specs.NetworkValue.{NetworkValue}
+use Rattle.gb_cluster.specs.ClusterValue.{ClusterValue}
 use Rattle.gb_simulate.specs.Schedule.{GoesOn, IsBadLine}
 use Rattle.gb_simulate.specs.AnswerText.{bad_line}
 use Rattle.gb_simulate.specs.Text.{Reaches, IsText, IsLeftOff}
@@ -19,7 +19,7 @@ use Rattle.gb_simulate.specs.declared.outcome.SimFault.{SimFault}
 use Rattle.gb_simulate.specs.declared.outcome.SimFault.TheVariants.{Read, Write, OutOfMemory}
 
 -- the next line is the n-th, it is silent or is obeyed, and its answer is gathered
-pub record TakesLine (n : ℕ) (w after : Option NetworkValue) (left left' : Option (List ℕ)) (gathered gathered' : List ℕ) : Type 0 where
+pub record TakesLine (n : ℕ) (w after : Option ClusterValue) (left left' : Option (List ℕ)) (gathered gathered' : List ℕ) : Type 0 where
   pub line : List ℕ
   pub answer : List ℕ
   pub given : WhereKnown (GivesLine line) left left'
@@ -29,11 +29,11 @@ pub record TakesLine (n : ℕ) (w after : Option NetworkValue) (left left' : Opt
   pub answered : gathered' ≡ gathered ++ answer
 
 -- the next line is bad, or is too long to be read
-abbrev pub IsNextBad : Reason → ℕ → Option NetworkValue → Option (List ℕ) → Type 0
+abbrev pub IsNextBad : Reason → ℕ → Option ClusterValue → Option (List ℕ) → Type 0
 IsNextBad why n w left = IfSome left (λ text. (line : List ℕ) × (more : List (List ℕ)) × (lines_of text ≡ line ∷ more) × IsBadLine why n w line)
 
 -- the schedule ends at line n: there is none, or it is bad, and that is gathered
-abbrev pub Ends : SimEnd → ℕ → Option NetworkValue → Option (List ℕ) → List ℕ → List ℕ → Type 0
+abbrev pub Ends : SimEnd → ℕ → Option ClusterValue → Option (List ℕ) → List ℕ → List ℕ → Type 0
 Ends All n w left gathered gathered' = IfSome left (λ text. text ≡ []) × (gathered' ≡ gathered)
 Ends (BadLine k why) n w left gathered gathered' = IsNextBad why n w left × (gathered' ≡ gathered ++ bad_line n) × (k ≡ n)
 
@@ -61,7 +61,7 @@ IsCutShort now now' gathered = (gathered ≢ []) × AppendsFront now now' gather
 
 -- the lines before line n are answered; the answers are written behind what was there before, but for those gathered; the
 -- rest is left
-pub record IsAt (input before : List ℕ) (n : ℕ) (w : Option NetworkValue) (left now : Option (List ℕ)) (gathered : List ℕ) : Type 0 where
+pub record IsAt (input before : List ℕ) (n : ℕ) (w : Option ClusterValue) (left now : Option (List ℕ)) (gathered : List ℕ) : Type 0 where
   pub written : List ℕ
   pub rest : List ℕ
   pub left_is : left ≡ Some rest
@@ -69,7 +69,7 @@ pub record IsAt (input before : List ℕ) (n : ℕ) (w : Option NetworkValue) (l
   pub reaches : Reaches input (written ++ gathered) w n (lines_of rest)
 
 -- so where the bytes are known
-abbrev pub IsHalfway : Option (List ℕ) → Option (List ℕ) → ℕ → Option NetworkValue → Option (List ℕ) → Option (List ℕ) → List ℕ → Type 0
+abbrev pub IsHalfway : Option (List ℕ) → Option (List ℕ) → ℕ → Option ClusterValue → Option (List ℕ) → Option (List ℕ) → List ℕ → Type 0
 IsHalfway input before n w left now gathered = IfSome input (λ i. IfSome before (λ b. IsAt i b n w left now gathered))
 
 -- the text of the whole schedule is written behind what was there before, but for what is gathered

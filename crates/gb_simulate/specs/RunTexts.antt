@@ -1,23 +1,23 @@
--- The lines of a schedule and their answers, as the steps of a run of a network.
+-- The lines of a schedule and their answers, as the steps of a run of a cluster.
 use Rattle.std.specs.Prelude.{ℕ, ◌≡◌, ◌⊎◌, List, [], ◌∷◌, ◌++◌, length, Option, Some, None, codes, All}
 use Rattle.gb_node.specs.declared.event.NodeEvent.TheVariants.{Packet as Came}
-use Rattle.gb_network.specs.NetworkStep.{IsStep, answer_of, packet_numbered}
-use Rattle.gb_network.specs.NetworkValue.{NetworkValue, new_network}
-use Rattle.gb_network.specs.Run.{Did, ComesTo}
-use Rattle.gb_network.specs.declared.answer.Answer.{Answer}
-use Rattle.gb_network.specs.declared.event.Event.{Event}
-use Rattle.gb_network.specs.declared.event.Event.TheVariants.{At, Arrive}
-use Rattle.gb_network.specs.declared.plan.NetworkPlan.{NetworkPlan}
-use Rattle.gb_network.specs.declared.posted.Posted.{Posted}
+use Rattle.gb_cluster.specs.ClusterStep.{IsStep, answer_of, packet_numbered}
+use Rattle.gb_cluster.specs.ClusterValue.{ClusterValue, new_cluster}
+use Rattle.gb_cluster.specs.Run.{Did, ComesTo}
+use Rattle.gb_cluster.specs.declared.answer.Answer.{Answer}
+use Rattle.gb_cluster.specs.declared.event.Event.{Event}
+use Rattle.gb_cluster.specs.declared.event.Event.TheVariants.{At, Arrive}
+use Rattle.gb_cluster.specs.declared.plan.ClusterPlan.{ClusterPlan}
+use Rattle.gb_cluster.specs.declared.posted.Posted.{Posted}
 use Rattle.gb_schedule.specs.Grammar.{IsCommandLine, IsSilent}
 use Rattle.gb_schedule.specs.Lines.{ended}
 use Rattle.gb_schedule.specs.declared.command.Command.{Command}
 use Rattle.gb_schedule.specs.declared.command.Command.TheVariants.{Cluster}
 use Rattle.gb_simulate.specs.AnswerText.{answer_spelling}
-use Rattle.gb_simulate.specs.OfNetwork.{plan_of}
+use Rattle.gb_simulate.specs.OfCluster.{plan_of}
 use Rattle.gb_simulate.specs.Schedule.{event_of}
 
--- an event in a network and its answer
+-- an event in a cluster and its answer
 pub record Step : Type 0 where
   pub event : Event
   pub answer : Answer
@@ -28,18 +28,18 @@ IsOf packets (At a event) d = (d.node ≡ a) × (d.event ≡ event)
 IsOf packets (Arrive k) d = (p : Posted) × (packet_numbered packets k ≡ Some p) × (d.node ≡ p.to) × (d.event ≡ Came p.text)
 
 -- by a step nothing happens at any node, or this, with the step's answer
-abbrev pub Happens : NetworkValue → Step → List Did → NetworkValue → List Did → Type 0
+abbrev pub Happens : ClusterValue → Step → List Did → ClusterValue → List Did → Type 0
 Happens before step earlier after run =
     ((run ≡ earlier) × (after ≡ before))
     ⊎ ((d : Did) × (run ≡ d ∷ earlier) × IsOf before.packets step.event d × (step.answer ≡ answer_of (length before.packets) d.answer))
 
--- steps of a network, and what happened at its nodes by them, both with the newest first
-unfoldable pub AreSteps : NetworkPlan → List Step → List Did → NetworkValue → Type 0
-AreSteps plan [] run v = (run ≡ []) × (v ≡ new_network plan)
+-- steps of a cluster, and what happened at its nodes by them, both with the newest first
+unfoldable pub AreSteps : ClusterPlan → List Step → List Did → ClusterValue → Type 0
+AreSteps plan [] run v = (run ≡ []) × (v ≡ new_cluster plan)
 AreSteps plan (step ∷ steps) run v =
-    (before : NetworkValue) × (earlier : List Did) × AreSteps plan steps earlier before × IsStep before step.event step.answer v × Happens before step earlier v run
+    (before : ClusterValue) × (earlier : List Did) × AreSteps plan steps earlier before × IsStep before step.event step.answer v × Happens before step earlier v run
 
--- in a network of so many nodes a line spells the event of a step, and its answer is the step's
+-- in a cluster of so many nodes a line spells the event of a step, and its answer is the step's
 pub record TellsStep (nodes : ℕ) (line answer : List ℕ) (step : Step) : Type 0 where
   pub command : Command
   pub spelt : IsCommandLine (Some nodes) line command
@@ -55,9 +55,9 @@ TellSteps nodes (line ∷ lines) text steps =
     ⊎ ((step : Step) × (earlier : List Step) × (answer : List ℕ) × (answers : List ℕ) × (steps ≡ step ∷ earlier) × (text ≡ answers ++ answer)
     × TellsStep nodes line answer step × TellSteps nodes lines answers earlier)
 
--- Lines, the newest first, are those of a run that leads here: one starts the network; those before it ask for nothing; those
+-- Lines, the newest first, are those of a run that leads here: one starts the cluster; those before it ask for nothing; those
 -- behind it tell the steps. The text is the answers of all. The run is what happened at the nodes by the steps.
-pub record IsRunOf (lines : List (List ℕ)) (text : List ℕ) (run : List Did) (v : NetworkValue) : Type 0 where
+pub record IsRunOf (lines : List (List ℕ)) (text : List ℕ) (run : List Did) (v : ClusterValue) : Type 0 where
   pub nodes : ℕ
   pub silence : ℕ
   pub behind : List (List ℕ)
@@ -74,6 +74,6 @@ pub record IsRunOf (lines : List (List ℕ)) (text : List ℕ) (run : List Did) 
   pub comes : ComesTo (plan_of nodes silence) run v
 
 -- these lines are those of a run, or ask for nothing
-abbrev pub TellsRun : List (List ℕ) → List ℕ → Option NetworkValue → Type 0
+abbrev pub TellsRun : List (List ℕ) → List ℕ → Option ClusterValue → Type 0
 TellsRun lines text None = All IsSilent lines × (text ≡ [])
 TellsRun lines text (Some v) = (run : List Did) × IsRunOf lines text run v

@@ -1,24 +1,24 @@
--- What a schedule makes a network answer.
+-- What a schedule makes a cluster answer.
 use Rattle.std.specs.Prelude.{ℕ, ◌≡◌, ◌≢◌, ◌≤◌, ◌<◌, ◌⊎◌, List, [], ◌∷◌, ◌++◌, length, Option, Some, None, codes}
 use Rattle.std.specs.Option.{ForSome}
 use Rattle.gb_types.specs.declared.limits.TheConstants.{NODES}
 use Rattle.gb_node.specs.declared.event.NodeEvent.TheVariants.{Request as AskEvent, Packet as CameEvent, Pack as PackEvent, Again as AgainEvent, Ack as AckEvent, Tick as TickEvent, Stop as StopEvent}
-use Rattle.gb_network.specs.NetworkValue.{NetworkValue}
-use Rattle.gb_network.specs.declared.answer.Answer.{Answer}
-use Rattle.gb_network.specs.declared.event.Event.{Event}
-use Rattle.gb_network.specs.declared.event.Event.TheVariants.{At, Arrive as ArriveEvent}
+use Rattle.gb_cluster.specs.ClusterValue.{ClusterValue}
+use Rattle.gb_cluster.specs.declared.answer.Answer.{Answer}
+use Rattle.gb_cluster.specs.declared.event.Event.{Event}
+use Rattle.gb_cluster.specs.declared.event.Event.TheVariants.{At, Arrive as ArriveEvent}
 use Rattle.gb_schedule.specs.Grammar.{IsCommandLine, IsSilent}
 use Rattle.gb_schedule.specs.Lines.{ended}
 use Rattle.gb_schedule.specs.declared.command.Command.{Command}
 use Rattle.gb_schedule.specs.declared.command.Command.TheVariants.{Cluster, Request, Pack, Again, Ack, Arrive, Noise, Tick, Stop}
 use Rattle.gb_schedule.specs.declared.lines.TheConstants.{LINE}
 use Rattle.gb_simulate.specs.AnswerText.{answer_spelling}
-use Rattle.gb_simulate.specs.OfNetwork.{started, size, Takes}
+use Rattle.gb_simulate.specs.OfCluster.{started, size, Takes}
 use Rattle.gb_simulate.specs.declared.outcome.BadLine.{BadLine}
 use Rattle.gb_simulate.specs.declared.outcome.BadLine.TheVariants.{TooLong, TooMany, NoCluster, NoCommand}
 use Rattle.gb_simulate.specs.declared.obey.TheConstants.{LINES}
 
--- the event that a command is, once there is a network
+-- the event that a command is, once there is a cluster
 abbrev pub event_of : Command → Option Event
 event_of (Cluster nodes silence) = None
 event_of (Request node request) = Some (At node (AskEvent request))
@@ -30,40 +30,40 @@ event_of (Noise node bytes) = Some (At node (CameEvent bytes))
 event_of (Tick node) = Some (At node TickEvent)
 event_of (Stop node) = Some (At node StopEvent)
 
--- how many nodes the network has, once there is one
-abbrev pub size_in : Option NetworkValue → Option ℕ
+-- how many nodes the cluster has, once there is one
+abbrev pub size_in : Option ClusterValue → Option ℕ
 size_in None = None
 size_in (Some v) = Some (size v)
 
--- a network has between 1 and 16 nodes
-abbrev pub HasNodes : Option NetworkValue → Type 0
+-- a cluster has between 1 and 16 nodes
+abbrev pub HasNodes : Option ClusterValue → Type 0
 HasNodes w = ForSome (size_in w) (λ count. (1 ≤ count) × (count ≤ NODES))
 
--- a network takes an event, and its answer is the line
-pub record Answers (v : NetworkValue) (event : Event) (after : Option NetworkValue) (text : List ℕ) : Type 0 where
+-- a cluster takes an event, and its answer is the line
+pub record Answers (v : ClusterValue) (event : Event) (after : Option ClusterValue) (text : List ℕ) : Type 0 where
   pub answer : Answer
-  pub next : NetworkValue
+  pub next : ClusterValue
   pub takes : Takes v event answer next
   pub after_is : after ≡ Some next
   pub text_is : text ≡ ended (answer_spelling answer)
 
--- what a command does: it starts a network, or is an event of the one that there is
-abbrev pub Obeys : Option NetworkValue → Command → Option Event → Option NetworkValue → List ℕ → Type 0
+-- what a command does: it starts a cluster, or is an event of the one that there is
+abbrev pub Obeys : Option ClusterValue → Command → Option Event → Option ClusterValue → List ℕ → Type 0
 Obeys None (Cluster nodes silence) event after text = (after ≡ Some (started nodes silence)) × (text ≡ ended (codes "ok"))
 Obeys (Some v) command (Some event) after text = Answers v event after text
 Obeys w command event after text = ⊥
 
 -- a line that asks for nothing gives no answer; a command is obeyed
-abbrev pub GoesOn : Option NetworkValue → List ℕ → Option NetworkValue → List ℕ → Type 0
+abbrev pub GoesOn : Option ClusterValue → List ℕ → Option ClusterValue → List ℕ → Type 0
 GoesOn w line after text = (IsSilent line × (after ≡ w) × (text ≡ [])) ⊎ ((command : Command) × IsCommandLine (size_in w) line command × Obeys w command (event_of command) after text)
 
 -- a line that is in no case of the grammar
-abbrev pub IsNoLine : Option NetworkValue → List ℕ → Type 0
+abbrev pub IsNoLine : Option ClusterValue → List ℕ → Type 0
 IsNoLine w line = (IsSilent line → ⊥) × ((command : Command) → IsCommandLine (size_in w) line command → ⊥)
 
 -- line n is bad, and this is why: it is too long; it is beyond the last line that a schedule may have; or it is in no
--- case of the grammar, before a network was started or after
-abbrev pub IsBadLine : BadLine → ℕ → Option NetworkValue → List ℕ → Type 0
+-- case of the grammar, before a cluster was started or after
+abbrev pub IsBadLine : BadLine → ℕ → Option ClusterValue → List ℕ → Type 0
 IsBadLine TooLong n w line = LINE < length line
 IsBadLine TooMany n w line = (length line ≤ LINE) × (LINES < n)
 IsBadLine NoCluster n w line = (length line ≤ LINE) × (n ≤ LINES) × (w ≡ None) × IsNoLine w line

@@ -2,7 +2,7 @@
 use Rattle.std.specs.Prelude.{ℕ, ◌+◌, ◌≡◌, ◌≤◌, ◌<◌, ◌⊎◌, List, [], ◌∷◌, ◌++◌, length, reverse, take, Option, Some, None}
 use Rattle.gb_schedule.specs.Lines.{lines_of, IsLine}
 use Rattle.gb_schedule.specs.declared.lines.TheConstants.{LINE}
-use Rattle.gb_network.specs.NetworkValue.{NetworkValue}
+use Rattle.gb_cluster.specs.ClusterValue.{ClusterValue}
 use Rattle.gb_simulate.specs.RunTexts.{TellsRun}
 use Rattle.gb_simulate.specs.Schedule.{GoesOn, IsBadLine}
 use Rattle.gb_simulate.specs.AnswerText.{bad_line}
@@ -14,14 +14,14 @@ use Rattle.gb_simulate.specs.declared.outcome.SimFault.{SimFault}
 use Rattle.gb_simulate.specs.declared.outcome.SimFault.TheVariants.{Read, Write, OutOfMemory}
 
 -- these lines, the newest first, are the first of a schedule; their answers are this text, and the cluster is so
-unfoldable pub AreAnswered : List (List ℕ) → List ℕ → Option NetworkValue → Type 0
+unfoldable pub AreAnswered : List (List ℕ) → List ℕ → Option ClusterValue → Type 0
 AreAnswered [] text w = (text ≡ []) × (w ≡ None)
 AreAnswered (line ∷ lines) text w =
-    (before : Option NetworkValue) × (older : List ℕ) × (answer : List ℕ) × AreAnswered lines older before
+    (before : Option ClusterValue) × (older : List ℕ) × (answer : List ℕ) × AreAnswered lines older before
     × (length lines < LINES) × (length line ≤ LINE) × GoesOn before line w answer × (text ≡ older ++ answer)
 
 -- the lines before line n are answered by this text, which is that of a run; the cluster is so, and these lines are left
-pub record Reaches (input text : List ℕ) (w : Option NetworkValue) (n : ℕ) (lines_left : List (List ℕ)) : Type 0 where
+pub record Reaches (input text : List ℕ) (w : Option ClusterValue) (n : ℕ) (lines_left : List (List ℕ)) : Type 0 where
   pub taken : List (List ℕ)
   pub lines : lines_of input ≡ reverse taken ++ lines_left
   pub answered : AreAnswered taken text w
@@ -30,27 +30,27 @@ pub record Reaches (input text : List ℕ) (w : Option NetworkValue) (n : ℕ) (
 
 -- the whole text of a schedule: all lines are answered, or all before the first bad one, whose number is told
 abbrev pub IsText : List ℕ → List ℕ → SimEnd → Type 0
-IsText input text All = (w : Option NetworkValue) × (n : ℕ) × Reaches input text w n []
+IsText input text All = (w : Option ClusterValue) × (n : ℕ) × Reaches input text w n []
 IsText input text (BadLine number why) =
-    (w : Option NetworkValue) × (answers : List ℕ) × (line : List ℕ) × (more : List (List ℕ))
+    (w : Option ClusterValue) × (answers : List ℕ) × (line : List ℕ) × (more : List (List ℕ))
     × Reaches input answers w number (line ∷ more) × IsBadLine why number w line × (text ≡ answers ++ bad_line number)
 
 -- the answer of line n, also where it is bad
-abbrev pub IsAnswerOf : ℕ → Option NetworkValue → List ℕ → List ℕ → Type 0
+abbrev pub IsAnswerOf : ℕ → Option ClusterValue → List ℕ → List ℕ → Type 0
 IsAnswerOf n w line answer =
-    ((n ≤ LINES) × (after : Option NetworkValue) × GoesOn w line after answer) ⊎ ((why : Reason) × IsBadLine why n w line × (answer ≡ bad_line n))
+    ((n ≤ LINES) × (after : Option ClusterValue) × GoesOn w line after answer) ⊎ ((why : Reason) × IsBadLine why n w line × (answer ≡ bad_line n))
 
 -- What is written where a fault ends a schedule, and what the reader has left. Read: all lines that were read whole are
 -- answered, and a piece of the next one may be read. OutOfMemory: nothing was read yet, or a line is left. Write: of the
 -- next line's answer a front is written.
 abbrev pub IsLeftOff : SimFault → List ℕ → List ℕ → Option (List ℕ) → Type 0
 IsLeftOff Read input text unread =
-    (w : Option NetworkValue) × (n : ℕ) × (piece : List ℕ) × (rest : List ℕ)
+    (w : Option ClusterValue) × (n : ℕ) × (piece : List ℕ) × (rest : List ℕ)
     × (unread ≡ Some rest) × IsLine piece × Reaches input text w n (lines_of (piece ++ rest))
 IsLeftOff OutOfMemory input text unread =
-    ((unread ≡ Some input) × (text ≡ [])) ⊎ ((w : Option NetworkValue) × (n : ℕ) × (line : List ℕ) × (more : List (List ℕ)) × Reaches input text w n (line ∷ more))
+    ((unread ≡ Some input) × (text ≡ [])) ⊎ ((w : Option ClusterValue) × (n : ℕ) × (line : List ℕ) × (more : List (List ℕ)) × Reaches input text w n (line ∷ more))
 IsLeftOff Write input text unread =
-    (w : Option NetworkValue) × (n : ℕ) × (line : List ℕ) × (more : List (List ℕ)) × (answers : List ℕ) × (answer : List ℕ) × (count : ℕ)
+    (w : Option ClusterValue) × (n : ℕ) × (line : List ℕ) × (more : List (List ℕ)) × (answers : List ℕ) × (answer : List ℕ) × (count : ℕ)
     × Reaches input answers w n (line ∷ more) × IsAnswerOf n w line answer × (text ≡ answers ++ take count answer)
 
 -- the text of the whole schedule is written behind what was there before

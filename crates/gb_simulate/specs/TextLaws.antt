@@ -1,4 +1,4 @@
--- What a schedule makes a network answer is the text of a run, of which all holds that a network promises.
+-- What a schedule makes a cluster answer is the text of a run, of which all holds that a cluster promises.
 use Rattle.std.specs.Prelude.{ℕ, ◌≡◌, ◌<◌, true, List, [], ◌++◌, reverse, Option, Some, None, All, slice_get}
 use Rattle.gb_types.specs.declared.address.Addr.{Addr}
 use Rattle.gb_types.specs.declared.node.NodeId.{NodeId}
@@ -6,47 +6,47 @@ use Rattle.gb_isolation.specs.Isolation.{IsIsolated}
 use Rattle.gb_isolation.specs.Project.{is_fed}
 use Rattle.gb_isolation.specs.RunLaws.{RunIntegrity, RunOrder, RunDuties, RunAgreement}
 use Rattle.gb_node.specs.Past.{ComesTo}
-use Rattle.gb_network.specs.Links.{IsHonest, IsAlwaysWhole, IsLink}
-use Rattle.gb_network.specs.NetworkValue.{NetworkValue, node_plan, node_at}
-use Rattle.gb_network.specs.Run.{Did, past_at}
-use Rattle.gb_network.specs.declared.plan.NetworkPlan.{NetworkPlan}
-use Rattle.gb_network.specs.declared.posted.Posted.{Posted}
+use Rattle.gb_cluster.specs.Links.{IsHonest, IsAlwaysWhole, IsLink}
+use Rattle.gb_cluster.specs.ClusterValue.{ClusterValue, node_plan, node_at}
+use Rattle.gb_cluster.specs.Run.{Did, past_at}
+use Rattle.gb_cluster.specs.declared.plan.ClusterPlan.{ClusterPlan}
+use Rattle.gb_cluster.specs.declared.posted.Posted.{Posted}
 use Rattle.gb_schedule.specs.Grammar.{IsSilent}
 use Rattle.gb_schedule.specs.Lines.{lines_of}
-use Rattle.gb_simulate.specs.OfNetwork.{plan_of}
+use Rattle.gb_simulate.specs.OfCluster.{plan_of}
 use Rattle.gb_simulate.specs.RunTexts.{IsRunOf}
 use Rattle.gb_simulate.specs.Text.{Reaches, IsText}
 use Rattle.gb_simulate.specs.declared.outcome.SimEnd.TheVariants.{All as AllLines}
 
--- What a network promises of a group in a run: it is what it is alone, and integrity, order, duties and agreement hold.
-pub record IsServed (plan : NetworkPlan) (run : List Did) (v : NetworkValue) (g : Addr) : Type 0 where
+-- What a cluster promises of a group in a run: it is what it is alone, and integrity, order, duties and agreement hold.
+pub record IsServed (plan : ClusterPlan) (run : List Did) (v : ClusterValue) (g : Addr) : Type 0 where
   pub isolated : IsIsolated plan run v g
   pub integrity : RunIntegrity plan run v g
   pub order : RunOrder plan run v g
   pub duties : RunDuties plan run v g
   pub agreement : RunAgreement plan run v g
 
--- What a network promises of a run: each node came by its own past to what it is; each packet says what its sender did; each
+-- What a cluster promises of a run: each node came by its own past to what it is; each packet says what its sender did; each
 -- frame was taken once at most, whole; only what was packed was taken, and only what was taken was acknowledged; so each
 -- group is served of which no request was refused for want of memory.
-pub record IsLawful (plan : NetworkPlan) (run : List Did) (v : NetworkValue) : Type 0 where
+pub record IsLawful (plan : ClusterPlan) (run : List Did) (v : ClusterValue) : Type 0 where
   pub pasts : (a : NodeId) → a.number < plan.nodes → ComesTo (node_plan plan a) (past_at a run) (node_at v a)
   pub packets : (k : ℕ) (p : Posted) → slice_get v.packets k ≡ Some p → IsHonest plan run p
   pub whole : IsAlwaysWhole plan run
   pub links : (a b : NodeId) → IsLink plan run a b
   pub groups : (g : Addr) → is_fed plan g run ≡ true → IsServed plan run v g
 
--- these lines are those of a run, of which all holds that a network promises; or they ask for nothing
-abbrev pub TellsLawfulRun : List (List ℕ) → List ℕ → Option NetworkValue → Type 0
+-- these lines are those of a run, of which all holds that a cluster promises; or they ask for nothing
+abbrev pub TellsLawfulRun : List (List ℕ) → List ℕ → Option ClusterValue → Type 0
 TellsLawfulRun lines text None = All IsSilent lines × (text ≡ [])
 TellsLawfulRun lines text (Some v) = (run : List Did) × (told : IsRunOf lines text run v) × IsLawful (plan_of told.nodes told.silence) run v
 
 -- the first lines of a schedule are such, and these are left
 abbrev pub BeginsWithRun : List ℕ → List ℕ → List (List ℕ) → Type 0
-BeginsWithRun input text lines_left = (w : Option NetworkValue) × (lines : List (List ℕ)) × (lines_of input ≡ reverse lines ++ lines_left) × TellsLawfulRun lines text w
+BeginsWithRun input text lines_left = (w : Option ClusterValue) × (lines : List (List ℕ)) × (lines_of input ≡ reverse lines ++ lines_left) × TellsLawfulRun lines text w
 
 -- So it is with the whole text of a schedule of good lines, and, wherever a bad line or a fault ended it, with the answers of
 -- the lines before.
 pub record TextsAreOfRuns : Type 0 where
   pub whole : (input text : List ℕ) → IsText input text AllLines → BeginsWithRun input text []
-  pub front : (input text : List ℕ) (w : Option NetworkValue) (n : ℕ) (lines_left : List (List ℕ)) → Reaches input text w n lines_left → BeginsWithRun input text lines_left
+  pub front : (input text : List ℕ) (w : Option ClusterValue) (n : ℕ) (lines_left : List (List ℕ)) → Reaches input text w n lines_left → BeginsWithRun input text lines_left

@@ -5,8 +5,8 @@ ghost use Rattle.gb_types.specs.ReplyText.{reply_spelling};
 ghost use Rattle.gb_schedule.specs.Lines.{ended};
 ghost use Rattle.gb_simulate.specs.AnswerText.{answer_spelling, bad_line, each_after_space, fault_name, fault_spelling, frame_word, good_spelling, halted_spelling, noticed_words, packet_spelling, sending_spelling, ticked_spelling};
 
+use gb_cluster::answer::{Answer, Sending};
 use gb_frame::fault::PacketFault;
-use gb_network::answer::{Answer, Sending};
 use gb_node::answer::{Frame, Good, Halted, PacketAnswer, Ticked};
 use gb_types::memory::OutOfMemory;
 use gb_types::node::NodeSet;

@@ -1,19 +1,19 @@
-//! What a line of a schedule does in the network, and its answer.
+//! What a line of a schedule does in the cluster, and its answer.
 ghost use Rattle.std.specs.Prelude.{◌≡◌, ◌≢◌, ◌≤◌, ◌<◌, [], codes, Some, None, length, Ok, IfOk, OnOk, IfSome};
 ghost use Rattle.gb_schedule.specs.Grammar.{IsInPlace};
 ghost use Rattle.gb_schedule.specs.Lines.{ended};
 ghost use Rattle.gb_schedule.specs.declared.lines.TheConstants.{LINE};
-ghost use Rattle.gb_network.specs.NetworkStep.{IsPlaced};
-ghost use Rattle.gb_network.specs.NetworkValue.{IsNetworkPlan};
-ghost use Rattle.gb_network.specs.declared.event.Event.TheVariants as Events;
-ghost use Rattle.gb_simulate.specs.OfNetwork.{started, size, plan_of};
+ghost use Rattle.gb_cluster.specs.ClusterStep.{IsPlaced};
+ghost use Rattle.gb_cluster.specs.ClusterValue.{IsClusterPlan};
+ghost use Rattle.gb_cluster.specs.declared.event.Event.TheVariants as Events;
+ghost use Rattle.gb_simulate.specs.OfCluster.{started, size, plan_of};
 ghost use Rattle.gb_simulate.specs.Schedule.{Answers, Obeys, GoesOn, event_of, IsBadLine, HasNodes, size_in};
 
 use crate::answer_text::{put_answer, put_started};
 use crate::outcome::BadLine;
-use gb_network::event::Event;
-use gb_network::network::Network;
-use gb_network::plan::NetworkPlan;
+use gb_cluster::cluster::Cluster;
+use gb_cluster::event::Event;
+use gb_cluster::plan::ClusterPlan;
 use gb_node::event::NodeEvent;
 use gb_node::packet_text::PacketText;
 use gb_schedule::command::Command;
@@ -31,11 +31,11 @@ const _: () = prove!(LINES == 1_000_000);
 /// How many groups the tenants of a node may make in all.
 const PLACES: u16 = 1_024;
 
-/// What the network of a schedule is started with.
-fn plan_of(nodes: u8, silence: u16) -> NetworkPlan
+/// What the cluster of a schedule is started with.
+fn plan_of(nodes: u8, silence: u16) -> ClusterPlan
     ensures { result ≡ plan_of nodes silence }
 {
-    NetworkPlan {
+    ClusterPlan {
         nodes,
         silence,
         places: PLACES,
@@ -44,140 +44,140 @@ fn plan_of(nodes: u8, silence: u16) -> NetworkPlan
     }
 }
 
-/// Starts a network.
+/// Starts a cluster.
 fn begin(
     alloc: Global,
-    network: &mut Option<Network>,
+    cluster: &mut Option<Cluster>,
     nodes: u8,
     silence: u16,
     text: &mut Vec<u8>,
 ) -> Result<(), OutOfMemory>
-    requires plan { IsNetworkPlan (plan_of nodes silence) }
+    requires plan { IsClusterPlan (plan_of nodes silence) }
     requires fresh { text.old.items ≡ [] }
-    ensures few { OnOk result (HasNodes network.new) }
-    ensures started { OnOk result (network.new ≡ Some (started nodes silence)) }
+    ensures few { OnOk result (HasNodes cluster.new) }
+    ensures started { OnOk result (cluster.new ≡ Some (started nodes silence)) }
     ensures text { OnOk result (text.new.items ≡ ended (codes "ok")) }
 {
-    *network = Some(Network::start(alloc, &plan_of(nodes, silence))?);
+    *cluster = Some(Cluster::start(alloc, &plan_of(nodes, silence))?);
     put_started(text)
 }
 
-/// An event in the network.
-fn act(network: &mut Network, event: &Event, text: &mut Vec<u8>) -> Result<(), OutOfMemory>
-    requires placed { IsPlaced (size network.old) event.now }
+/// An event in the cluster.
+fn act(cluster: &mut Cluster, event: &Event, text: &mut Vec<u8>) -> Result<(), OutOfMemory>
+    requires placed { IsPlaced (size cluster.old) event.now }
     requires fresh { text.old.items ≡ [] }
-    ensures size { size network.new ≡ size network.old }
-    ensures answers { OnOk result (Answers network.old event.now (Some network.new) text.new.items) }
+    ensures size { size cluster.new ≡ size cluster.old }
+    ensures answers { OnOk result (Answers cluster.old event.now (Some cluster.new) text.new.items) }
 {
-    let answer = network.step(event)?;
+    let answer = cluster.step(event)?;
     put_answer(text, &answer)
 }
 
-/// An event, where the network was started.
+/// An event, where the cluster was started.
 fn obey_event(
-    network: &mut Option<Network>,
+    cluster: &mut Option<Cluster>,
     event: &Event,
     text: &mut Vec<u8>,
 ) -> Result<(), OutOfMemory>
-    requires few { HasNodes network.old }
-    requires placed { IfSome (size_in network.old) (λ count. IsPlaced count event.now) }
+    requires few { HasNodes cluster.old }
+    requires placed { IfSome (size_in cluster.old) (λ count. IsPlaced count event.now) }
     requires fresh { text.old.items ≡ [] }
-    ensures few { OnOk result (HasNodes network.new) }
-    ensures answers { OnOk result (IfSome network.old (λ v. Answers v event.now network.new text.new.items)) }
+    ensures few { OnOk result (HasNodes cluster.new) }
+    ensures answers { OnOk result (IfSome cluster.old (λ v. Answers v event.now cluster.new text.new.items)) }
 {
-    match network {
-        Some(network) => act(network, event, text),
+    match cluster {
+        Some(cluster) => act(cluster, event, text),
         None => Ok(()),
     }
 }
 
-/// An event at a node, where the network was started.
+/// An event at a node, where the cluster was started.
 fn obey_at(
-    network: &mut Option<Network>,
+    cluster: &mut Option<Cluster>,
     node: NodeId,
     event: NodeEvent,
     text: &mut Vec<u8>,
 ) -> Result<(), OutOfMemory>
-    requires few { HasNodes network.old }
-    requires placed { IfSome (size_in network.old) (λ count. node.number < count) }
+    requires few { HasNodes cluster.old }
+    requires placed { IfSome (size_in cluster.old) (λ count. node.number < count) }
     requires fresh { text.old.items ≡ [] }
-    ensures few { OnOk result (HasNodes network.new) }
-    ensures answers { OnOk result (IfSome network.old (λ v. Answers v (Events.At node event) network.new text.new.items)) }
+    ensures few { OnOk result (HasNodes cluster.new) }
+    ensures answers { OnOk result (IfSome cluster.old (λ v. Answers v (Events.At node event) cluster.new text.new.items)) }
 {
-    obey_event(network, &Event::At(node, event), text)
+    obey_event(cluster, &Event::At(node, event), text)
 }
 
 /// A command that is in its place.
 fn obey(
     alloc: Global,
-    network: &mut Option<Network>,
+    cluster: &mut Option<Cluster>,
     command: Command,
     text: &mut Vec<u8>,
 ) -> Result<(), OutOfMemory>
-    requires few { HasNodes network.old }
-    requires in_place { IsInPlace (size_in network.old) command }
+    requires few { HasNodes cluster.old }
+    requires in_place { IsInPlace (size_in cluster.old) command }
     requires fresh { text.old.items ≡ [] }
-    ensures few { OnOk result (HasNodes network.new) }
-    ensures obeyed { OnOk result (Obeys network.old command (event_of command) network.new text.new.items) }
+    ensures few { OnOk result (HasNodes cluster.new) }
+    ensures obeyed { OnOk result (Obeys cluster.old command (event_of command) cluster.new text.new.items) }
 {
     match command {
-        Command::Cluster { nodes, silence } => { begin(alloc, network, nodes, silence, text) }
+        Command::Cluster { nodes, silence } => { begin(alloc, cluster, nodes, silence, text) }
         Command::Request(node, request) => {
-            obey_at(network, node, NodeEvent::Request(request), text)
+            obey_at(cluster, node, NodeEvent::Request(request), text)
         }
-        Command::Pack(node, to) => obey_at(network, node, NodeEvent::Pack(to), text),
+        Command::Pack(node, to) => obey_at(cluster, node, NodeEvent::Pack(to), text),
         Command::Again(node, to, frame) => {
-            obey_at(network, node, NodeEvent::Again(to, frame), text)
+            obey_at(cluster, node, NodeEvent::Again(to, frame), text)
         }
-        Command::Ack(node, to) => obey_at(network, node, NodeEvent::Ack(to), text),
-        Command::Arrive(packet) => obey_event(network, &Event::Arrive(packet), text),
+        Command::Ack(node, to) => obey_at(cluster, node, NodeEvent::Ack(to), text),
+        Command::Arrive(packet) => obey_event(cluster, &Event::Arrive(packet), text),
         Command::Noise(node, bytes) => {
             let bytes = PacketText::from(bytes.into_vec());
-            obey_at(network, node, NodeEvent::Packet(bytes), text)
+            obey_at(cluster, node, NodeEvent::Packet(bytes), text)
         }
-        Command::Tick(node) => obey_at(network, node, NodeEvent::Tick, text),
-        Command::Stop(node) => obey_at(network, node, NodeEvent::Stop, text),
+        Command::Tick(node) => obey_at(cluster, node, NodeEvent::Tick, text),
+        Command::Stop(node) => obey_at(cluster, node, NodeEvent::Stop, text),
     }
 }
 
-/// How many nodes the network has, once it was started.
-fn count_of(network: &Option<Network>) -> Option<u8>
-    requires { HasNodes network.now }
-    ensures { result ≡ size_in network.now }
+/// How many nodes the cluster has, once it was started.
+fn count_of(cluster: &Option<Cluster>) -> Option<u8>
+    requires { HasNodes cluster.now }
+    ensures { result ≡ size_in cluster.now }
 {
-    match network {
-        Some(network) => Some(network.nodes() as u8),
+    match cluster {
+        Some(cluster) => Some(cluster.nodes() as u8),
         None => None,
     }
 }
 
 /// Why no command was found in a line.
-fn why_none(network: &Option<Network>) -> BadLine
-    ensures none { network.now ≡ None → result ≡ BadLine.NoCluster }
-    ensures some { network.now ≢ None → result ≡ BadLine.NoCommand }
+fn why_none(cluster: &Option<Cluster>) -> BadLine
+    ensures none { cluster.now ≡ None → result ≡ BadLine.NoCluster }
+    ensures some { cluster.now ≢ None → result ≡ BadLine.NoCommand }
 {
-    match network {
+    match cluster {
         None => BadLine::NoCluster,
         Some(_) => BadLine::NoCommand,
     }
 }
 
 /// Obeys the line with this number and puts the line of its answer into `text`, or says why it is bad.
-/// Where memory lacks, the network may have taken the event, and `text` may hold a part of the answer.
+/// Where memory lacks, the cluster may have taken the event, and `text` may hold a part of the answer.
 pub fn answer_line(
     alloc: Global,
     number: u64,
     keys: &mut Keys,
-    network: &mut Option<Network>,
+    cluster: &mut Option<Cluster>,
     line: &[u8],
     text: &mut Vec<u8>,
 ) -> Result<Option<BadLine>, OutOfMemory>
-    requires few { HasNodes network.old }
+    requires few { HasNodes cluster.old }
     requires short { length line.now ≤ LINE }
     requires fresh { text.old.items ≡ [] }
-    ensures few { OnOk result (HasNodes network.new) }
-    ensures good { result ≡ Ok None → (number ≤ LINES) × GoesOn network.old line.now network.new text.new.items }
-    ensures bad { IfOk result (λ found. IfSome found (λ why. IsBadLine why number network.old line.now)) }
+    ensures few { OnOk result (HasNodes cluster.new) }
+    ensures good { result ≡ Ok None → (number ≤ LINES) × GoesOn cluster.old line.now cluster.new text.new.items }
+    ensures bad { IfOk result (λ found. IfSome found (λ why. IsBadLine why number cluster.old line.now)) }
     ensures silent { IfOk result (λ found. IfSome found (λ _. text.new.items ≡ [])) }
 {
     if number > LINES {
@@ -186,10 +186,10 @@ pub fn answer_line(
     if is_silent(line) {
         return Ok(None);
     }
-    match read_command(alloc, keys, count_of(network), line)? {
-        None => Ok(Some(why_none(network))),
+    match read_command(alloc, keys, count_of(cluster), line)? {
+        None => Ok(Some(why_none(cluster))),
         Some(command) => {
-            obey(alloc, network, command, text)?;
+            obey(alloc, cluster, command, text)?;
             Ok(None)
         }
     }

@@ -10,7 +10,7 @@ use crate::answer_text::put_bad_line;
 use crate::obey::answer_line;
 use crate::outcome::{BadLine, SimEnd, SimFault};
 use crate::writing::write_text;
-use gb_network::network::Network;
+use gb_cluster::cluster::Cluster;
 use gb_schedule::keys::Keys;
 use gb_schedule::lines::{LineBuffer, NextLine};
 use gb_types::memory::OutOfMemory;
@@ -52,21 +52,21 @@ fn answer_next<R: Read>(
     reader: &mut R,
     lines: &mut LineBuffer,
     keys: &mut Keys,
-    network: &mut Option<Network>,
+    cluster: &mut Option<Cluster>,
     text: &mut Vec<u8>,
     gathered: &mut Vec<u8>,
 ) -> Result<Option<SimEnd>, SimFault>
-    requires { HasNodes network.old }
-    ensures few { OnOk result (HasNodes network.new) }
-    ensures goes_on { result ≡ Ok None → TakesLine number network.old network.new (left lines.old (R.remaining reader.old)) (left lines.new (R.remaining reader.new)) gathered.old.items gathered.new.items }
-    ensures ends { IfOk result (λ found. IfSome found (λ end. Ends end number network.old (left lines.old (R.remaining reader.old)) gathered.old.items gathered.new.items)) }
+    requires { HasNodes cluster.old }
+    ensures few { OnOk result (HasNodes cluster.new) }
+    ensures goes_on { result ≡ Ok None → TakesLine number cluster.old cluster.new (left lines.old (R.remaining reader.old)) (left lines.new (R.remaining reader.new)) gathered.old.items gathered.new.items }
+    ensures ends { IfOk result (λ found. IfSome found (λ end. Ends end number cluster.old (left lines.old (R.remaining reader.old)) gathered.old.items gathered.new.items)) }
     ensures fails { IfErr result (λ why. Fails why (left lines.old (R.remaining reader.old)) (R.remaining reader.new) gathered.old.items gathered.new.items) }
 {
     text.clear();
     match lines.next(reader)? {
         NextLine::End => Ok(Some(SimEnd::All)),
         NextLine::TooLong => Ok(Some(end_badly(number, BadLine::TooLong, text, gathered)?)),
-        NextLine::Given => match answer_line(alloc, number, keys, network, lines.line(), text)? {
+        NextLine::Given => match answer_line(alloc, number, keys, cluster, lines.line(), text)? {
             Some(why) => Ok(Some(end_badly(number, why, text, gathered)?)),
             None => {
                 gather(gathered, text)?;
@@ -114,11 +114,11 @@ fn answer_lines<R: Read, W: Write>(
     writer: &mut W,
     lines: &mut LineBuffer,
     keys: &mut Keys,
-    network: &mut Option<Network>,
+    cluster: &mut Option<Cluster>,
     text: &mut Vec<u8>,
     gathered: &mut Vec<u8>,
 ) -> Result<SimEnd, SimFault>
-    requires first { network.old ≡ None }
+    requires first { cluster.old ≡ None }
     requires none { gathered.old.items ≡ [] }
     ensures text { IfOk result (λ end. IfSome (left lines.old (R.remaining reader.old)) (λ input. IfSome (W.contents writer.old) (λ before. IsGathered end input before (W.contents writer.new) gathered.new.items))) }
     ensures fault { IfErr result (λ why. IfSome (left lines.old (R.remaining reader.old)) (λ input. IfSome (W.contents writer.old) (λ before. IsGatheredUpTo why input before (R.remaining reader.new) (W.contents writer.new) gathered.new.items))) }
@@ -128,14 +128,14 @@ fn answer_lines<R: Read, W: Write>(
         number += 1;
         hand_over_in_time(writer, lines, gathered)?;
         if let Some(end) = answer_next(
-            alloc, number, reader, lines, keys, network, text, gathered,
+            alloc, number, reader, lines, keys, cluster, text, gathered,
         )? {
             return Ok(end);
         }
     }
 }
 
-/// Answers the lines of a schedule in a network of its own.
+/// Answers the lines of a schedule in a cluster of its own.
 fn answer_all<R: Read, W: Write>(
     alloc: Global,
     reader: &mut R,
@@ -148,7 +148,7 @@ fn answer_all<R: Read, W: Write>(
     ensures fault { IfErr result (λ why. IfSome (left lines.old (R.remaining reader.old)) (λ input. IfSome (W.contents writer.old) (λ before. IsGatheredUpTo why input before (R.remaining reader.new) (W.contents writer.new) gathered.new.items))) }
 {
     let mut keys = Keys::new(alloc);
-    let mut network = None;
+    let mut cluster = None;
     let mut text = Vec::new(alloc);
     answer_lines(
         alloc,
@@ -156,7 +156,7 @@ fn answer_all<R: Read, W: Write>(
         writer,
         lines,
         &mut keys,
-        &mut network,
+        &mut cluster,
         &mut text,
         gathered,
     )

@@ -1,4 +1,4 @@
-//! Schedules and what they make a network answer.
+//! Schedules and what they make a cluster answer.
 use gb_simulate::outcome::{BadLine, SimEnd};
 
 /// A schedule, the text that it makes, and how it ends.

@@ -2,9 +2,9 @@
 use Rattle.std.proofs.Common.{◌≡◌, ℕ, zero, suc, ◌+◌, ◌<◌, List, [], ◌∷◌, ◌++◌, length, take, get_or, ◌∙◌, ap, sym, refl, arith, add-one, append_assoc}
 use Rattle.std.specs.Prelude.{min}
 use Rattle.std.proofs.lemmas.List.{append-nil}
-use Rattle.gb_network.specs.declared.answer.Answer.{Answer}
-use Rattle.gb_network.specs.declared.event.Event.{Event}
-use Rattle.gb_network.specs.declared.posted.Posted.{Posted}
+use Rattle.gb_cluster.specs.declared.answer.Answer.{Answer}
+use Rattle.gb_cluster.specs.declared.event.Event.{Event}
+use Rattle.gb_cluster.specs.declared.posted.Posted.{Posted}
 use Rattle.gb_trace.specs.Trace.{did_in, all_did}
 
 deeds_more : (ps : List Posted) (i : ℕ) (es : List Event) (rs : List Answer) (e : Event) (a : Answer) → i < length es → i < length rs

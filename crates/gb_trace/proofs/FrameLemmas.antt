@@ -6,7 +6,7 @@ use Rattle.gb_types.specs.declared.entry.Entry.{Entry}
 use Rattle.gb_types.specs.declared.node.NodeId.{NodeId}
 use Rattle.gb_frame.specs.declared.item.Item.{Item}
 use Rattle.gb_node.specs.Past.{frames_to}
-use Rattle.gb_network.specs.Run.{past_at}
+use Rattle.gb_cluster.specs.Run.{past_at}
 use Rattle.gb_trace.specs.Deeds.{past_in}
 use Rattle.gb_isolation.proofs.MarkLemmas.{items_of-append, items_of-none, items_of-one}
 use Rattle.gb_isolation.specs.Project.{items_in, items_of}

@@ -5,7 +5,7 @@ use Rattle.std.proofs.lemmas.List.Folds.{find-append}
 use Rattle.std.specs.Prelude.{reverse, find, nat_eq, if◌then◌else◌}
 use Rattle.std.proofs.lemmas.List.{take_all, take_more, reverse-append}
 use Rattle.gb_types.specs.declared.node.NodeId.{NodeId}
-use Rattle.gb_network.specs.Run.{Did, past_at}
+use Rattle.gb_cluster.specs.Run.{Did, past_at}
 use Rattle.gb_trace.specs.Deeds.{past_in}
 
 -- one thing more

@@ -11,17 +11,17 @@ use Rattle.gb_node.specs.declared.answer.NodeAnswer.TheVariants.{Reply as Replie
 use Rattle.gb_node.specs.declared.answer.Sent.TheVariants.{Packet as SentPacket, Nothing as SentNothing, Refused as SentRefused}
 use Rattle.gb_node.specs.declared.event.NodeEvent.{NodeEvent}
 use Rattle.gb_node.specs.declared.event.NodeEvent.TheVariants.{Request as Asked, Packet as Came, Pack, Again, Ack, Tick, Stop}
-use Rattle.gb_network.proofs.CodeLemmas.{get_contains}
-use Rattle.gb_network.proofs.NodesLemmas.{stays}
-use Rattle.gb_network.specs.NetworkStep.{posted, answer_of, packet_numbered, is_packet_for, NodeActs, IsAt, IsArrival, IsPlaced, IsStep}
-use Rattle.gb_network.specs.NetworkValue.{NetworkValue, node_at, new_network}
-use Rattle.gb_network.specs.Run.{Did, ComesTo, IsSent}
-use Rattle.gb_network.specs.declared.answer.Answer.{Answer}
-use Rattle.gb_network.specs.declared.answer.Answer.TheVariants.{NotNoise}
-use Rattle.gb_network.specs.declared.event.Event.{Event}
-use Rattle.gb_network.specs.declared.event.Event.TheVariants.{At, Arrive}
-use Rattle.gb_network.specs.declared.plan.NetworkPlan.{NetworkPlan}
-use Rattle.gb_network.specs.declared.posted.Posted.{Posted}
+use Rattle.gb_cluster.proofs.CodeLemmas.{get_contains}
+use Rattle.gb_cluster.proofs.NodesLemmas.{stays}
+use Rattle.gb_cluster.specs.ClusterStep.{posted, answer_of, packet_numbered, is_packet_for, NodeActs, IsAt, IsArrival, IsPlaced, IsStep}
+use Rattle.gb_cluster.specs.ClusterValue.{ClusterValue, node_at, new_cluster}
+use Rattle.gb_cluster.specs.Run.{Did, ComesTo, IsSent}
+use Rattle.gb_cluster.specs.declared.answer.Answer.{Answer}
+use Rattle.gb_cluster.specs.declared.answer.Answer.TheVariants.{NotNoise}
+use Rattle.gb_cluster.specs.declared.event.Event.{Event}
+use Rattle.gb_cluster.specs.declared.event.Event.TheVariants.{At, Arrive}
+use Rattle.gb_cluster.specs.declared.plan.ClusterPlan.{ClusterPlan}
+use Rattle.gb_cluster.specs.declared.posted.Posted.{Posted}
 use Rattle.gb_trace.specs.Trace.{own_answer, did_with, did_arrive, did_in, all_did, AreSteps, IsRun}
 
 -- Packets by their numbers.
@@ -87,7 +87,7 @@ sends v w Stop text turned = by v.stopped turned
     by true (inr done) = let e = done.0 in absurd (cc)
     by false (inr done) = let e = done.0 in absurd (cc)
 
--- The answer of the network tells that of the node, among the packets that there are then, and later.
+-- The answer of the cluster tells that of the node, among the packets that there are then, and later.
 
 own_is : (v w : NodeValue) (event : NodeEvent) (own : NodeAnswer) (before rest : List Posted) → IsTurn v event own w → own_answer ((before ++ posted event own) ++ rest) (answer_of (length before) own) ≡ Some own
 own_is v w event (Replied reply) before rest turned = refl
@@ -112,32 +112,32 @@ own_is v w event (Sent (SentPacket text)) before rest turned = by event (sends v
 
 -- One event.
 
-record IsOneMore (v : NetworkValue) (e : Event) (a : Answer) (w : NetworkValue) : Type 0 where
+record IsOneMore (v : ClusterValue) (e : Event) (a : Answer) (w : ClusterValue) : Type 0 where
   more : List Posted
   grows : w.packets ≡ v.packets ++ more
   settled : (rest : List Posted) → did_in (w.packets ++ rest) e a ≡ did_in w.packets e a
-  comes : (plan : NetworkPlan) (run : List Did) → ComesTo plan run v → ComesTo plan (reverse (did_in w.packets e a) ++ run) w
+  comes : (plan : ClusterPlan) (run : List Did) → ComesTo plan run v → ComesTo plan (reverse (did_in w.packets e a) ++ run) w
 
 none_arrives : (o : Option Posted) → did_arrive o None ≡ []
 none_arrives None = refl
 none_arrives (Some p) = refl
 
 -- nothing happened
-nothing_more : (v w : NetworkValue) (e : Event) (a : Answer) → w ≡ v → ((ps : List Posted) → did_in ps e a ≡ []) → IsOneMore v e a w
+nothing_more : (v w : ClusterValue) (e : Event) (a : Answer) → w ≡ v → ((ps : List Posted) → did_in ps e a ≡ []) → IsOneMore v e a w
 nothing_more v w e a same none = record {
   more = [];
-  grows = ap (λ (n : NetworkValue). n.packets) same ∙ sym (append-nil v.packets);
+  grows = ap (λ (n : ClusterValue). n.packets) same ∙ sym (append-nil v.packets);
   settled = λ rest. none (w.packets ++ rest) ∙ sym (none w.packets);
   comes = λ plan run comes. subst (λ (ds : List Did). ComesTo plan (reverse ds ++ run) w) (sym (none w.packets)) (subst (ComesTo plan run) (sym same) comes);
 }
 
 -- something happened at a node
-one_more : (v w : NetworkValue) (e : Event) (a : Answer) (at : NodeId) (event : NodeEvent) (own : NodeAnswer) → NodeActs v at event own w → IsSent v at event
+one_more : (v w : ClusterValue) (e : Event) (a : Answer) (at : NodeId) (event : NodeEvent) (own : NodeAnswer) → NodeActs v at event own w → IsSent v at event
     → ((rest : List Posted) → did_in (w.packets ++ rest) e a ≡ record { node = at; event = event; answer = own } ∷ []) → IsOneMore v e a w
 unfolding ComesTo
 one_more v w e a at event own acts sent is = record {
   more = posted event own;
-  grows = ap (λ (n : NetworkValue). n.packets) acts.after;
+  grows = ap (λ (n : ClusterValue). n.packets) acts.after;
   settled = λ rest. is rest ∙ sym here;
   comes = λ plan run comes. subst (λ (ds : List Did). ComesTo plan (reverse ds ++ run) w) (sym here) (v, comes, sent, acts);
 }
@@ -146,13 +146,13 @@ one_more v w e a at event own acts sent is = record {
     here = ap (λ (ps : List Posted). did_in ps e a) (sym (append-nil w.packets)) ∙ is []
 
 -- the answer of the node that acts, among all packets then and later
-acts_own : (v w : NetworkValue) (at : NodeId) (event : NodeEvent) (own : NodeAnswer) (a : Answer) (rest : List Posted) → NodeActs v at event own w → a ≡ answer_of (length v.packets) own → own_answer (w.packets ++ rest) a ≡ Some own
+acts_own : (v w : ClusterValue) (at : NodeId) (event : NodeEvent) (own : NodeAnswer) (a : Answer) (rest : List Posted) → NodeActs v at event own w → a ≡ answer_of (length v.packets) own → own_answer (w.packets ++ rest) a ≡ Some own
 acts_own v w at event own a rest acts answered =
     ap (own_answer (w.packets ++ rest)) answered
-    ∙ (ap (λ (n : NetworkValue). own_answer (n.packets ++ rest) (answer_of (length v.packets) own)) acts.after
+    ∙ (ap (λ (n : ClusterValue). own_answer (n.packets ++ rest) (answer_of (length v.packets) own)) acts.after
     ∙ own_is (node_at v at) acts.node event own v.packets rest acts.turn)
 
-one_step : (v w : NetworkValue) (e : Event) (a : Answer) → IsStep v e a w → IsOneMore v e a w
+one_step : (v w : ClusterValue) (e : Event) (a : Answer) → IsStep v e a w → IsOneMore v e a w
 one_step v w (At at event) a step = by (is_packet_for (node_at v at) event) refl step
   where
     by : (b : Bool) → is_packet_for (node_at v at) event ≡ b → MatchBool b ((a ≡ NotNoise) × (w ≡ v)) (IsAt v at event a w) → IsOneMore v (At at event) a w
@@ -177,7 +177,7 @@ one_step v w (Arrive k) a step = by (packet_numbered v.packets k) refl step
       where
         kept : (rest : List Posted) → packet_numbered (w.packets ++ rest) k ≡ Some p
         kept rest =
-            ap (λ (n : NetworkValue). packet_numbered (n.packets ++ rest) k) step.1.after
+            ap (λ (n : ClusterValue). packet_numbered (n.packets ++ rest) k) step.1.after
             ∙ (ap (λ (ps : List Posted). packet_numbered ps k) (append_assoc v.packets (posted (Came p.text) step.0) rest)
             ∙ numbered_kept v.packets (posted (Came p.text) step.0 ++ rest) k p is)
 
@@ -190,27 +190,27 @@ all_did_more ps [] (x ∷ rs) e a same = absurd (omega (arith, same))
 all_did_more ps (x ∷ es) [] e a same = absurd (omega (arith, same))
 all_did_more ps (x ∷ es) (y ∷ rs) e a same = ap (λ ds. did_in ps x y ++ ds) (all_did_more ps es rs e a (omega (arith, same))) ∙ sym (append_assoc (did_in ps x y) (all_did ps es rs) (did_in ps e a))
 
-steps_more : (v w x : NetworkValue) (es : List Event) (rs : List Answer) (e : Event) (a : Answer) → AreSteps v es rs w → IsStep w e a x → AreSteps v (es ++ e ∷ []) (rs ++ a ∷ []) x
+steps_more : (v w x : ClusterValue) (es : List Event) (rs : List Answer) (e : Event) (a : Answer) → AreSteps v es rs w → IsStep w e a x → AreSteps v (es ++ e ∷ []) (rs ++ a ∷ []) x
 unfolding AreSteps
-steps_more v w x [] [] e a steps step = (x, subst (λ (n : NetworkValue). IsStep n e a x) steps step, refl)
+steps_more v w x [] [] e a steps step = (x, subst (λ (n : ClusterValue). IsStep n e a x) steps step, refl)
 steps_more v w x [] (y ∷ rs) e a steps step = absurd steps
 steps_more v w x (z ∷ es) [] e a steps step = absurd steps
 steps_more v w x (z ∷ es) (y ∷ rs) e a steps step = (steps.0, steps.1, steps_more steps.0 w x es rs e a steps.2 step)
 
 -- a run so far, of which more packets change nothing
-pub record Goes (plan : NetworkPlan) (es : List Event) (rs : List Answer) (v : NetworkValue) : Type 0 where
-  pub stepped : AreSteps (new_network plan) es rs v
+pub record Goes (plan : ClusterPlan) (es : List Event) (rs : List Answer) (v : ClusterValue) : Type 0 where
+  pub stepped : AreSteps (new_cluster plan) es rs v
   pub comes : ComesTo plan (reverse (all_did v.packets es rs)) v
   pub settled : (rest : List Posted) → all_did (v.packets ++ rest) es rs ≡ all_did v.packets es rs
   pub count : length es ≡ length rs
 
-pub run_begins : (plan : NetworkPlan) (rs : List Answer) (v : NetworkValue) → rs ≡ [] → v ≡ new_network plan → ComesTo plan [] v → Goes plan [] rs v
+pub run_begins : (plan : ClusterPlan) (rs : List Answer) (v : ClusterValue) → rs ≡ [] → v ≡ new_cluster plan → ComesTo plan [] v → Goes plan [] rs v
 unfolding all_did AreSteps
 run_begins plan rs v none is comes = subst (λ (xs : List Answer). Goes plan [] xs v) (sym none) (record { stepped = is; comes = comes; settled = λ rest. refl; count = refl })
 
-run_on : (plan : NetworkPlan) (es : List Event) (rs : List Answer) (v w : NetworkValue) (e : Event) (a : Answer) → Goes plan es rs v → IsStep v e a w → Goes plan (es ++ e ∷ []) (rs ++ a ∷ []) w
+run_on : (plan : ClusterPlan) (es : List Event) (rs : List Answer) (v w : ClusterValue) (e : Event) (a : Answer) → Goes plan es rs v → IsStep v e a w → Goes plan (es ++ e ∷ []) (rs ++ a ∷ []) w
 run_on plan es rs v w e a was step = record {
-  stepped = steps_more (new_network plan) v w es rs e a was.stepped step;
+  stepped = steps_more (new_cluster plan) v w es rs e a was.stepped step;
   comes = subst (λ (ds : List Did). ComesTo plan ds w) (sym all) (one.comes plan (reverse (all_did v.packets es rs)) was.comes);
   settled = λ rest.
       all_did_more (w.packets ++ rest) es rs e a was.count
@@ -237,16 +237,16 @@ run_on plan es rs v w e a was step = record {
         ∙ (reverse-append (all_did w.packets es rs) (did_in w.packets e a) ∙ ap (λ ds. reverse (did_in w.packets e a) ++ reverse ds) first)
 
 -- one event more
-pub run_goes : (plan : NetworkPlan) (before es : List Event) (rs answers : List Answer) (v w : NetworkValue) (e : Event) (a : Answer) → Goes plan before rs v → es ≡ before ++ e ∷ [] → answers ≡ rs ++ a ∷ [] → IsStep v e a w → Goes plan es answers w
+pub run_goes : (plan : ClusterPlan) (before es : List Event) (rs answers : List Answer) (v w : ClusterValue) (e : Event) (a : Answer) → Goes plan before rs v → es ≡ before ++ e ∷ [] → answers ≡ rs ++ a ∷ [] → IsStep v e a w → Goes plan es answers w
 run_goes plan before es rs answers v w e a was events are step =
     subst (λ (xs : List Event). Goes plan xs answers w) (sym events) (subst (λ (ys : List Answer). Goes plan (before ++ e ∷ []) ys w) (sym are) (run_on plan before rs v w e a was step))
 
 -- what was found is a run
-pub is_run : (plan : NetworkPlan) (es : List Event) (rs : List Answer) (packets : List Posted) (v : NetworkValue) → Goes plan es rs v → packets ≡ v.packets → IsRun plan es rs packets v
+pub is_run : (plan : ClusterPlan) (es : List Event) (rs : List Answer) (packets : List Posted) (v : ClusterValue) → Goes plan es rs v → packets ≡ v.packets → IsRun plan es rs packets v
 is_run plan es rs packets v goes are = record { stepped = goes.stepped; comes = subst (λ (ps : List Posted). ComesTo plan (reverse (all_did ps es rs)) v) (sym are) goes.comes; sent = sym are }
 
--- the node that acts in an event of the list is one of the network's
-pub placed_at : (plan : NetworkPlan) (before es : List Event) (rs : List Answer) (v : NetworkValue) (i : ℕ) (e : Event) → Goes plan before rs v → All (IsPlaced plan.nodes) es → i < length es → e ≡ get_or es i e → IsPlaced (length v.nodes) e
+-- the node that acts in an event of the list is one of the cluster's
+pub placed_at : (plan : ClusterPlan) (before es : List Event) (rs : List Answer) (v : ClusterValue) (i : ℕ) (e : Event) → Goes plan before rs v → All (IsPlaced plan.nodes) es → i < length es → e ≡ get_or es i e → IsPlaced (length v.nodes) e
 placed_at plan before es rs v i e was all lt is =
     subst (λ n. IsPlaced n e) (sym (stays plan (reverse (all_did v.packets before rs)) v was.comes).count)
     (subst (IsPlaced plan.nodes) (sym is) (All-get_or (IsPlaced plan.nodes) es i e lt all))

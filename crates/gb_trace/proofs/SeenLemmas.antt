@@ -7,8 +7,8 @@ use Rattle.gb_alone.specs.Alone.{Group}
 use Rattle.gb_alone.proofs.ObservationLemmas.{seen_same}
 use Rattle.gb_node.specs.NodeStep.{node_numbered}
 use Rattle.gb_node.specs.Past.{frames_to}
-use Rattle.gb_network.specs.NetworkValue.{node_plan}
-use Rattle.gb_network.specs.Run.{past_at}
+use Rattle.gb_cluster.specs.ClusterValue.{node_plan}
+use Rattle.gb_cluster.specs.Run.{past_at}
 use Rattle.gb_isolation.proofs.NoticeLemmas.{numbered_is}
 use Rattle.gb_isolation.specs.Isolation.{Seen, group_at, alone_in}
 use Rattle.gb_isolation.specs.Project.{items_of, replies_in}

@@ -2,7 +2,7 @@
 use Rattle.std.specs.Prelude.{List, reverse}
 use Rattle.gb_types.specs.declared.node.NodeId.{NodeId}
 use Rattle.gb_node.specs.Past.{Happened}
-use Rattle.gb_network.specs.Run.{Did, past_at}
+use Rattle.gb_cluster.specs.Run.{Did, past_at}
 
 -- what happened at a node, the newest first, where all this happened in order
 abbrev pub past_in : NodeId → List Did → List Happened

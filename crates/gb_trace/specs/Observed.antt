@@ -6,23 +6,23 @@ use Rattle.gb_types.specs.declared.node.NodeId.{NodeId}
 use Rattle.gb_alone.specs.Observation.{SeenAt, numbers_below, observed_alone}
 use Rattle.gb_node.specs.NodeStep.{node_numbered}
 use Rattle.gb_node.specs.Past.{frames_to}
-use Rattle.gb_network.specs.NetworkValue.{NetworkValue, node_plan}
-use Rattle.gb_network.specs.Run.{Did, past_at}
-use Rattle.gb_network.specs.declared.plan.NetworkPlan.{NetworkPlan}
+use Rattle.gb_cluster.specs.ClusterValue.{ClusterValue, node_plan}
+use Rattle.gb_cluster.specs.Run.{Did, past_at}
+use Rattle.gb_cluster.specs.declared.plan.ClusterPlan.{ClusterPlan}
 use Rattle.gb_isolation.specs.Isolation.{alone_in, IsIsolated}
 use Rattle.gb_isolation.specs.Project.{items_of, replies_in}
 
 -- at a node: the replies to the group's commands, and for each node the items that were packed for it
-abbrev pub observed_at : NetworkPlan → Addr → List Did → NodeId → SeenAt
+abbrev pub observed_at : ClusterPlan → Addr → List Did → NodeId → SeenAt
 observed_at plan g run a = record {
   replies = replies_in (node_plan plan a) g (past_at a run);
   carried = map (λ b. items_of g (frames_to plan.cluster_key b (past_at a run))) (numbers_below plan.nodes);
 }
 
 -- at each node
-abbrev pub observed : NetworkPlan → Addr → List Did → List SeenAt
+abbrev pub observed : ClusterPlan → Addr → List Did → List SeenAt
 observed plan g run = map (λ a. observed_at plan g run (node_numbered a)) (numbers_below plan.nodes)
 
 -- a group that is isolated in a run is seen there as what the projection makes of it alone
 abbrev pub IsolatedGroupsAreSeenAlone : Type 0
-IsolatedGroupsAreSeenAlone = (plan : NetworkPlan) (run : List Did) (v : NetworkValue) (g : Addr) → plan.nodes ≤ NODES → IsIsolated plan run v g → observed plan g run ≡ observed_alone plan.nodes (alone_in plan g run)
+IsolatedGroupsAreSeenAlone = (plan : ClusterPlan) (run : List Did) (v : ClusterValue) (g : Addr) → plan.nodes ≤ NODES → IsIsolated plan run v g → observed plan g run ≡ observed_alone plan.nodes (alone_in plan g run)

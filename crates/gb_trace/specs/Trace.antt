@@ -1,4 +1,4 @@
--- Whole runs of a network, from events, answers and packets.
+-- Whole runs of a cluster, from events, answers and packets.
 use Rattle.std.specs.Prelude.{◌≡◌, Bool, true, false, List, [], ◌∷◌, ◌++◌, Option, Some, None, option_map, reverse}
 use Rattle.gb_types.specs.declared.address.Addr.{Addr}
 use Rattle.gb_types.specs.declared.node.NodeId.{NodeId}
@@ -13,17 +13,17 @@ use Rattle.gb_node.specs.declared.answer.Sent.TheVariants.{Packet as SentPacket,
 use Rattle.gb_node.specs.declared.answer.Ticked.TheVariants.{Refused as TickRefused}
 use Rattle.gb_node.specs.declared.event.NodeEvent.{NodeEvent}
 use Rattle.gb_node.specs.declared.event.NodeEvent.TheVariants.{Packet as Came}
-use Rattle.gb_network.specs.NetworkStep.{packet_numbered, IsStep}
-use Rattle.gb_network.specs.NetworkValue.{NetworkValue, new_network}
-use Rattle.gb_network.specs.Run.{Did, ComesTo}
-use Rattle.gb_network.specs.declared.answer.Answer.{Answer}
-use Rattle.gb_network.specs.declared.answer.Answer.TheVariants.{Reply as AnswerReply, Taken as AnswerTaken, Sent as AnswerSent, Ticked as AnswerTicked, Halted as AnswerHalted, NoPacket, NotNoise}
-use Rattle.gb_network.specs.declared.answer.Sending.{Sending}
-use Rattle.gb_network.specs.declared.answer.Sending.TheVariants.{Packet as SendingPacket, Nothing as SendingNothing, Refused as SendingRefused}
-use Rattle.gb_network.specs.declared.event.Event.{Event}
-use Rattle.gb_network.specs.declared.event.Event.TheVariants.{At, Arrive}
-use Rattle.gb_network.specs.declared.plan.NetworkPlan.{NetworkPlan}
-use Rattle.gb_network.specs.declared.posted.Posted.{Posted}
+use Rattle.gb_cluster.specs.ClusterStep.{packet_numbered, IsStep}
+use Rattle.gb_cluster.specs.ClusterValue.{ClusterValue, new_cluster}
+use Rattle.gb_cluster.specs.Run.{Did, ComesTo}
+use Rattle.gb_cluster.specs.declared.answer.Answer.{Answer}
+use Rattle.gb_cluster.specs.declared.answer.Answer.TheVariants.{Reply as AnswerReply, Taken as AnswerTaken, Sent as AnswerSent, Ticked as AnswerTicked, Halted as AnswerHalted, NoPacket, NotNoise}
+use Rattle.gb_cluster.specs.declared.answer.Sending.{Sending}
+use Rattle.gb_cluster.specs.declared.answer.Sending.TheVariants.{Packet as SendingPacket, Nothing as SendingNothing, Refused as SendingRefused}
+use Rattle.gb_cluster.specs.declared.event.Event.{Event}
+use Rattle.gb_cluster.specs.declared.event.Event.TheVariants.{At, Arrive}
+use Rattle.gb_cluster.specs.declared.plan.ClusterPlan.{ClusterPlan}
+use Rattle.gb_cluster.specs.declared.posted.Posted.{Posted}
 use Rattle.gb_isolation.specs.Isolation.{IsIsolated}
 use Rattle.gb_isolation.specs.Project.{is_fed}
 
@@ -67,20 +67,20 @@ all_did packets (e ∷ events) (a ∷ answers) = did_in packets e a ++ all_did p
 abbrev pub run_of : List Event → List Answer → List Posted → List Did
 run_of events answers packets = reverse (all_did packets events answers)
 
--- each event in turn is answered so, and makes the second network of the first
-unfoldable pub AreSteps : NetworkValue → List Event → List Answer → NetworkValue → Type 0
+-- each event in turn is answered so, and makes the second cluster of the first
+unfoldable pub AreSteps : ClusterValue → List Event → List Answer → ClusterValue → Type 0
 AreSteps v [] [] w = w ≡ v
-AreSteps v (e ∷ events) (a ∷ answers) w = (x : NetworkValue) × IsStep v e a x × AreSteps x events answers w
+AreSteps v (e ∷ events) (a ∷ answers) w = (x : ClusterValue) × IsStep v e a x × AreSteps x events answers w
 AreSteps v events answers w = ⊥
 
--- A network that is started with the plan answers these events so and is this then, with these packets; it came to it by the run that they tell.
-pub record IsRun (plan : NetworkPlan) (events : List Event) (answers : List Answer) (packets : List Posted) (v : NetworkValue) : Type 0 where
-  pub stepped : AreSteps (new_network plan) events answers v
+-- A cluster that is started with the plan answers these events so and is this then, with these packets; it came to it by the run that they tell.
+pub record IsRun (plan : ClusterPlan) (events : List Event) (answers : List Answer) (packets : List Posted) (v : ClusterValue) : Type 0 where
+  pub stepped : AreSteps (new_cluster plan) events answers v
   pub comes : ComesTo plan (run_of events answers packets) v
   pub sent : v.packets ≡ packets
 
 -- each group of which no request was refused for want of memory is what it is alone
-abbrev pub IsIsolatedRun : NetworkPlan → List Event → List Answer → List Posted → NetworkValue → Type 0
+abbrev pub IsIsolatedRun : ClusterPlan → List Event → List Answer → List Posted → ClusterValue → Type 0
 IsIsolatedRun plan events answers packets v = (g : Addr) → is_fed plan g (run_of events answers packets) ≡ true → IsIsolated plan (run_of events answers packets) v g
 
 -- the answer is want of memory

@@ -1,11 +1,11 @@
 //! What happened at nodes, read from events, answers and packets.
 ghost use Rattle.std.specs.Prelude.{◌≡◌, ◌++◌, ◌&&◌, nat_eq, IfOk, OnOk, Some, None, MatchOption};
-ghost use Rattle.gb_network.specs.NetworkStep.{packet_numbered};
+ghost use Rattle.gb_cluster.specs.ClusterStep.{packet_numbered};
 ghost use Rattle.gb_trace.specs.Trace.{sent_as, own_answer, did_with, did_in, all_did};
 
-use gb_network::answer::{Answer, Sending};
-use gb_network::event::Event;
-use gb_network::posted::Posted;
+use gb_cluster::answer::{Answer, Sending};
+use gb_cluster::event::Event;
+use gb_cluster::posted::Posted;
 use gb_node::answer::{NodeAnswer, Sent, Ticked};
 use gb_node::event::NodeEvent;
 use gb_node::packet_text::PacketText;
@@ -26,7 +26,7 @@ impl Model for Deed {
     ghost use Rattle.std.specs.Coded.{codes, coded_ℕ};
     ghost use Rattle.std.specs.Ordering.{nat_cmp};
     ghost use Rattle.std.specs.FinSet as set;
-    ghost use Rattle.gb_network.specs.Run.{Did};
+    ghost use Rattle.gb_cluster.specs.Run.{Did};
 
     ghost Value = { Did };
 

@@ -1,4 +1,4 @@
-//! Whole runs of a network, and the plain programs that read them: what a run shows of one group, computed slowly from its
+//! Whole runs of a cluster, and the plain programs that read them: what a run shows of one group, computed slowly from its
 //! meaning. There is no node here: all is read from events, answers and packets. Read `run::run` and `trace::Trace` first,
 //! then specs/Trace.antt.
 #![tactic(auto)]

@@ -4,7 +4,7 @@ ghost use Rattle.gb_types.specs.declared.limits.TheConstants.{NODES as MOST};
 ghost use Rattle.gb_alone.specs.Observation.{numbers_below};
 ghost use Rattle.gb_node.specs.NodeStep.{node_numbered};
 ghost use Rattle.gb_node.specs.Past.{packed_for, frames_to};
-ghost use Rattle.gb_network.specs.NetworkValue.{node_plan};
+ghost use Rattle.gb_cluster.specs.ClusterValue.{node_plan};
 ghost use Rattle.gb_isolation.specs.Project.{items_of, reply_in, replies_in};
 ghost use Rattle.gb_trace.specs.Deeds.{past_in};
 ghost use Rattle.gb_trace.specs.Observed.{observed, observed_at};
@@ -16,8 +16,8 @@ use crate::reading::{add_items, packed};
 use crate::trace::Trace;
 use gb_alone::observation::{NodeSeen, Observation};
 use gb_cap::hmac::HmacKey;
-use gb_network::event::Event;
-use gb_network::plan::NetworkPlan;
+use gb_cluster::event::Event;
+use gb_cluster::plan::ClusterPlan;
 use gb_node::answer::NodeAnswer;
 use gb_node::event::NodeEvent;
 use gb_types::address::Addr;
@@ -30,7 +30,7 @@ use std::alloc::Global;
 /// Adds a copy of the reply that this brings to the group at the node, after what happened before.
 fn add_reply(
     alloc: Global,
-    plan: &NetworkPlan,
+    plan: &ClusterPlan,
     addr: Addr,
     a: NodeId,
     before: &[Deed],
@@ -52,10 +52,10 @@ fn add_reply(
 }
 
 /// The replies to the group's commands at the node.
-#[tactic(auto, using(crate::proofs::PastLemmas::here, crate::proofs::PastLemmas::elsewhere, crate::proofs::PastLemmas::whole), unfolding(gb_isolation::specs::Project::replies_in, gb_network::specs::Run::past_at))]
+#[tactic(auto, using(crate::proofs::PastLemmas::here, crate::proofs::PastLemmas::elsewhere, crate::proofs::PastLemmas::whole), unfolding(gb_isolation::specs::Project::replies_in, gb_cluster::specs::Run::past_at))]
 fn replies_at(
     alloc: Global,
-    plan: &NetworkPlan,
+    plan: &ClusterPlan,
     addr: Addr,
     a: NodeId,
     deeds: &[Deed],
@@ -90,7 +90,7 @@ fn add_frame(
 }
 
 /// The group's items in the frames that a node packed for another one.
-#[tactic(auto, using(crate::proofs::PastLemmas::here, crate::proofs::PastLemmas::elsewhere, crate::proofs::PastLemmas::whole, crate::proofs::FrameLemmas::more_frames), unfolding(gb_node::specs::Past::frames_to, gb_network::specs::Run::past_at))]
+#[tactic(auto, using(crate::proofs::PastLemmas::here, crate::proofs::PastLemmas::elsewhere, crate::proofs::PastLemmas::whole, crate::proofs::FrameLemmas::more_frames), unfolding(gb_node::specs::Past::frames_to, gb_cluster::specs::Run::past_at))]
 fn items_to(
     alloc: Global,
     addr: Addr,
@@ -133,7 +133,7 @@ fn items_from(
 /// What is seen of the group at the node.
 fn seen_at(
     alloc: Global,
-    plan: &NetworkPlan,
+    plan: &ClusterPlan,
     addr: Addr,
     key: &HmacKey,
     a: NodeId,
@@ -152,7 +152,7 @@ fn seen_at(
 #[tactic(auto, using(gb_alone::proofs::ObservationLemmas::map_none))]
 fn seen_in(
     alloc: Global,
-    plan: &NetworkPlan,
+    plan: &ClusterPlan,
     addr: Addr,
     deeds: &[Deed],
 ) -> Result<Observation, OutOfMemory>
@@ -171,7 +171,7 @@ fn seen_in(
 /// carried. Events beyond the answers do not count, nor answers beyond the events.
 pub fn observe(
     alloc: Global,
-    plan: &NetworkPlan,
+    plan: &ClusterPlan,
     events: &[Event],
     trace: &Trace,
     addr: Addr,

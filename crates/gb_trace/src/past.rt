@@ -5,13 +5,13 @@ ghost use Rattle.gb_rules.specs.Tenant.{row_of};
 ghost use Rattle.gb_table.specs.Requests.{is_by_row};
 ghost use Rattle.gb_node.specs.Past.{added, tenants_in};
 ghost use Rattle.gb_node.specs.StepLaw.{is_admitted_by};
-ghost use Rattle.gb_network.specs.NetworkValue.{node_plan};
+ghost use Rattle.gb_cluster.specs.ClusterValue.{node_plan};
 ghost use Rattle.gb_isolation.specs.Project as projected;
 ghost use Rattle.gb_trace.specs.Deeds.{past_in};
 
 use crate::deed::Deed;
 use gb_cap::token::{Need, Token, admits};
-use gb_network::plan::NetworkPlan;
+use gb_cluster::plan::ClusterPlan;
 use gb_node::answer::NodeAnswer;
 use gb_node::event::NodeEvent;
 use gb_rules::address::is_same;
@@ -56,7 +56,7 @@ fn row_added(tenant: u16, deed: &Deed) -> Option<&TenantRow>
 }
 
 /// The row of the tenant at the node.
-#[tactic(auto, using(crate::proofs::PastLemmas::here, crate::proofs::PastLemmas::elsewhere, crate::proofs::PastLemmas::whole, crate::proofs::PastLemmas::find_later), unfolding(gb_node::specs::Past::tenants_in, gb_network::specs::Run::past_at))]
+#[tactic(auto, using(crate::proofs::PastLemmas::here, crate::proofs::PastLemmas::elsewhere, crate::proofs::PastLemmas::whole, crate::proofs::PastLemmas::find_later), unfolding(gb_node::specs::Past::tenants_in, gb_cluster::specs::Run::past_at))]
 pub(crate) fn row_at(a: NodeId, tenant: u16, deeds: &[Deed]) -> Option<&TenantRow>
     ensures { option_copied result ≡ row_of tenant (tenants_in (past_in a deeds.now)) }
 {
@@ -80,7 +80,7 @@ fn is_token(need: Need, token: &Token, row: Option<&TenantRow>) -> bool
 }
 
 /// Whether the request has the token that it needs at the node.
-pub(crate) fn is_admitted(plan: &NetworkPlan, a: NodeId, deeds: &[Deed], request: &Request) -> bool
+pub(crate) fn is_admitted(plan: &ClusterPlan, a: NodeId, deeds: &[Deed], request: &Request) -> bool
     ensures { result ≡ is_admitted_by (node_plan plan.now a) (past_in a deeds.now) request.now }
 {
     let (token, addr, need) = match request {
@@ -99,7 +99,7 @@ pub(crate) fn is_admitted(plan: &NetworkPlan, a: NodeId, deeds: &[Deed], request
 
 /// Whether the request is one of the group at the node: it names the group, with the token that it needs.
 pub(crate) fn is_own(
-    plan: &NetworkPlan,
+    plan: &ClusterPlan,
     addr: Addr,
     a: NodeId,
     deeds: &[Deed],

@@ -1,16 +1,16 @@
-//! Whole runs of a network.
+//! Whole runs of a cluster.
 ghost use Rattle.std.specs.Prelude.{◌≡◌, ◌↔◌, All, IsTrue, IfOk};
 ghost use Rattle.std.specs.List.{list_any};
-ghost use Rattle.gb_network.specs.NetworkStep.{IsPlaced};
-ghost use Rattle.gb_network.specs.NetworkValue.{NetworkValue, IsNetworkPlan};
+ghost use Rattle.gb_cluster.specs.ClusterStep.{IsPlaced};
+ghost use Rattle.gb_cluster.specs.ClusterValue.{ClusterValue, IsClusterPlan};
 ghost use Rattle.gb_trace.specs.Trace.{is_starved, IsRun, IsIsolatedRun};
 
 use crate::trace::Trace;
+use gb_cluster::answer::{Answer, Sending};
+use gb_cluster::cluster::Cluster;
+use gb_cluster::event::Event;
+use gb_cluster::plan::ClusterPlan;
 use gb_isolation::laws::groups_are_isolated;
-use gb_network::answer::{Answer, Sending};
-use gb_network::event::Event;
-use gb_network::network::Network;
-use gb_network::plan::NetworkPlan;
 use gb_node::answer::{Halted, PacketAnswer, Ticked};
 use gb_types::memory::OutOfMemory;
 use gb_types::refusal::Refusal;
@@ -61,26 +61,26 @@ pub fn are_placed(nodes: usize, events: &[Event]) -> bool
     true
 }
 
-/// A whole run: what a network that is started with the plan answers to these events, one after the other. Each group of
+/// A whole run: what a cluster that is started with the plan answers to these events, one after the other. Each group of
 /// which no request was refused for want of memory is in it what it is alone. `Err` says that there was no memory to keep
 /// the run; a node's want of memory is an answer.
-pub fn run(alloc: Global, plan: NetworkPlan, events: &[Event]) -> Result<Trace, OutOfMemory>
-    requires plan { IsNetworkPlan plan }
+pub fn run(alloc: Global, plan: ClusterPlan, events: &[Event]) -> Result<Trace, OutOfMemory>
+    requires plan { IsClusterPlan plan }
     requires placed { All (IsPlaced plan.nodes) events.now }
-    ensures run { IfOk result (λ t. (v : NetworkValue) × IsRun plan events.now t.answers.items t.packets.items v × IsIsolatedRun plan events.now t.answers.items t.packets.items v) }
+    ensures run { IfOk result (λ t. (v : ClusterValue) × IsRun plan events.now t.answers.items t.packets.items v × IsIsolatedRun plan events.now t.answers.items t.packets.items v) }
     ensures refused { IfOk result (λ t. t.refused ≡ list_any is_starved t.answers.items) }
 {
     groups_are_isolated();
-    let mut network = Network::start(alloc, &plan)?;
+    let mut cluster = Cluster::start(alloc, &plan)?;
     let mut answers = Vec::with_capacity(alloc, events.len())?;
     for event in events {
-        let answer = network.step(event)?;
+        let answer = cluster.step(event)?;
         answers.push(answer)?;
     }
     let refused = has_refusal(answers.as_slice());
     Ok(Trace {
         answers,
-        packets: network.into_packets(),
+        packets: cluster.into_packets(),
         refused,
     })
 }

@@ -1,8 +1,8 @@
 //! What a run leaves.
-use gb_network::answer::Answer;
-use gb_network::posted::Posted;
+use gb_cluster::answer::Answer;
+use gb_cluster::posted::Posted;
 
-/// What a run of a network leaves.
+/// What a run of a cluster leaves.
 #[derive(Drop)]
 pub struct Trace {
     /// The answer to each event, in order.

@@ -1,4 +1,4 @@
-//! Worked runs of networks as tests: three tenants whose messages share frames, seen in the run and alone. There is nothing
+//! Worked runs of clusters as tests: three tenants whose messages share frames, seen in the run and alone. There is nothing
 //! here but tests.
 #![tactic(auto)]
 

@@ -1,7 +1,7 @@
 use crate::schedule::{PLAN, TENANTS, events, group_of, steps};
 use crate::short::{Got, is_seen};
 use gb_alone::alone::alone;
-use gb_network::event::Event;
+use gb_cluster::event::Event;
 use gb_trace::observation::observe;
 use gb_trace::refused::refused_for;
 use gb_trace::run::{are_placed, run};

@@ -1,9 +1,9 @@
-// What happens in a network of two nodes, and to one of its groups by itself.
+// What happens in a cluster of two nodes, and to one of its groups by itself.
 use gb_alone::event::{GroupEvent, GroupStep};
 use gb_cap::hmac::Key;
 use gb_cap::token::{Need, Token, token};
-use gb_network::event::Event;
-use gb_network::plan::NetworkPlan;
+use gb_cluster::event::Event;
+use gb_cluster::plan::ClusterPlan;
 use gb_node::event::NodeEvent;
 use gb_rules::reserve::Reserve;
 use gb_types::address::Addr;
@@ -21,7 +21,7 @@ pub const SECOND: NodeId = NodeId { number: 1 };
 
 pub const TENANTS: [u16; 3] = [7, 8, 9];
 
-pub const PLAN: NetworkPlan = NetworkPlan {
+pub const PLAN: ClusterPlan = ClusterPlan {
     nodes: 2,
     silence: 3,
     places: 8,

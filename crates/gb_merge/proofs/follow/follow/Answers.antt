@@ -8,7 +8,7 @@ use Rattle.gb_merge.proofs.Following.{is_at-first, is_at-next, goes_there, fault
 use Rattle.gb_merge.proofs.follow.follow.Goals as goal
 
 pub loop-i-init : goal.loop-i-init
-loop-i-init c = is_at-first c.args.network.now.plan c.args.events.now c.args.order.now c.args.network.now c.requires.fresh
+loop-i-init c = is_at-first c.args.cluster.now.plan c.args.events.now c.args.order.now c.args.cluster.now c.requires.fresh
 
 pub happen-requires : goal.happen-requires
 happen-requires c =
@@ -20,7 +20,7 @@ happen-requires c =
     let inside : i < length picks = omega (arith, c.loop-i-test.true, c.requires.count) in
     let e_at : slice_get events i ≡ Some e = slice_get_read events (length events) i e refl c.loop-i-test.true c.index-events-i.is in
     let p_at : slice_get picks i ≡ Some p = slice_get_read picks (length picks) i p refl inside c.index-order-i.is in
-    goes_there c.args.network.now.plan events picks i c.loop-i.network p e c.requires.events c.requires.placed p_at e_at c.loop-i.invariant
+    goes_there c.args.cluster.now.plan events picks i c.loop-i.cluster p e c.requires.events c.requires.placed p_at e_at c.loop-i.invariant
 
 pub returns-in_err-happen-clause-err : goal.returns-in_err-happen-clause-err
 returns-in_err-happen-clause-err c =
@@ -33,9 +33,9 @@ returns-in_err-happen-clause-err c =
     let e_at : slice_get events i ≡ Some e = slice_get_read events (length events) i e refl c.loop-i-test.true c.index-events-i.is in
     let p_at : slice_get picks i ≡ Some p = slice_get_read picks (length picks) i p refl inside c.index-order-i.is in
     let fault = c.in_err-happen.field-0.0 in
-    err_so c.from_residual.result fault (IsFollowFault c.args.network.now.plan picks) c.from_residual.ensures.1
-    (fault_of c.pasts_say.ensures c.packets_are_honest.ensures c.args.network.now.plan events picks i c.loop-i.network p e fault c.requires.events c.requires.placed p_at e_at c.loop-i.invariant
-    (subst (λ (g : NodeAnswer). IsStepFault c.loop-i.network e g fault) c.answer.ensures c.in_err-happen.ensures.err))
+    err_so c.from_residual.result fault (IsFollowFault c.args.cluster.now.plan picks) c.from_residual.ensures.1
+    (fault_of c.pasts_say.ensures c.packets_are_honest.ensures c.args.cluster.now.plan events picks i c.loop-i.cluster p e fault c.requires.events c.requires.placed p_at e_at c.loop-i.invariant
+    (subst (λ (g : NodeAnswer). IsStepFault c.loop-i.cluster e g fault) c.answer.ensures c.in_err-happen.ensures.err))
 
 pub loop-i-preserved : goal.loop-i-preserved
 loop-i-preserved c =
@@ -47,5 +47,5 @@ loop-i-preserved c =
     let inside : i < length picks = omega (arith, c.loop-i-test.true, c.requires.count) in
     let e_at : slice_get events i ≡ Some e = slice_get_read events (length events) i e refl c.loop-i-test.true c.index-events-i.is in
     let p_at : slice_get picks i ≡ Some p = slice_get_read picks (length picks) i p refl inside c.index-order-i.is in
-    is_at-next c.pasts_say.ensures c.packets_are_honest.ensures c.args.network.now.plan events picks i c.loop-i.network p e c.happen.new.network c.requires.events c.requires.placed p_at e_at c.index-order-i.is c.index-events-i.is inside c.loop-i-test.true c.loop-i.invariant
-    (subst (λ (g : NodeAnswer). IsTold c.loop-i.network e g c.happen.new.network) c.answer.ensures c.in_ok-happen.ensures.ok)
+    is_at-next c.pasts_say.ensures c.packets_are_honest.ensures c.args.cluster.now.plan events picks i c.loop-i.cluster p e c.happen.new.cluster c.requires.events c.requires.placed p_at e_at c.index-order-i.is c.index-events-i.is inside c.loop-i-test.true c.loop-i.invariant
+    (subst (λ (g : NodeAnswer). IsTold c.loop-i.cluster e g c.happen.new.cluster) c.answer.ensures c.in_ok-happen.ensures.ok)

@@ -1,6 +1,6 @@
 use Rattle.std.proofs.Common.{Some, ap}
 use Rattle.gb_simulate.proofs.AnswerLemmas.{on_ok}
-use Rattle.gb_simulate.proofs.OfNetworkLemmas.{started_so, has_nodes}
+use Rattle.gb_simulate.proofs.OfClusterLemmas.{started_so, has_nodes}
 use Rattle.gb_simulate.proofs.obey.begin.Goals as goal
 
 pub returns-clause-few : goal.returns-clause-few

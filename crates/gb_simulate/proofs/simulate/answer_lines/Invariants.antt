@@ -7,8 +7,8 @@ use Rattle.gb_simulate.proofs.simulate.answer_lines.Given as goal
 -- the lines so far are answered
 abbrev pub invariant-loop-reader : goal.invariant-loop-reader
 invariant-loop-reader g l = record {
-  halfway : IsHalfway (left l.initial.lines (g.R.Read.remaining l.initial.reader)) (g.W.Write.contents l.initial.writer) (l.number + 1) l.network (left l.lines (g.R.Read.remaining l.reader)) (g.W.Write.contents l.writer) l.gathered.items;
-  few : HasNodes l.network;
+  halfway : IsHalfway (left l.initial.lines (g.R.Read.remaining l.initial.reader)) (g.W.Write.contents l.initial.writer) (l.number + 1) l.cluster (left l.lines (g.R.Read.remaining l.reader)) (g.W.Write.contents l.writer) l.gathered.items;
+  few : HasNodes l.cluster;
   counted : l.number ≤ 1000000;
 }
 

@@ -1,0 +1,128 @@
+-- What the code's parts give together.
+use Rattle.std.proofs.Common.{◌≡◌, ℕ, zero, suc, ◌-◌, ◌<◌, ◌≤◌, inl, inr, true, false, Bool, List, [], ◌∷◌, length, map, get_or, Option, Some, None, refl, sym, ap, subst, ◌∙◌, arith}
+use Rattle.std.specs.Prelude.{◌⊎◌, slice_get, slice_set, Contains, MatchBool}
+use Rattle.std.specs.List.{range_with_len}
+use Rattle.std.proofs.lemmas.List.{get_or_default}
+use Rattle.std.proofs.lemmas.Option.{slice_get_past}
+use Rattle.gb_types.specs.declared.node.NodeId.{NodeId}
+use Rattle.gb_node.specs.NodeStep.{node_numbered}
+use Rattle.gb_node.specs.NodeValue.{NodeValue, new_node}
+use Rattle.gb_node.specs.declared.event.NodeEvent.{NodeEvent}
+use Rattle.gb_node.specs.declared.event.NodeEvent.TheVariants.{Packet as Came}
+use Rattle.gb_cluster.specs.ClusterValue.{ClusterValue, cluster, node_plan, node_at, new_cluster, IsClusterPlan}
+use Rattle.gb_cluster.specs.ClusterStep.{IsNodeTurn, IsAt, IsArrival, IsStep, is_packet_for, packet_numbered, AreForNodes}
+use Rattle.gb_cluster.specs.Run.{Did, ComesTo, GoesOn, IsReached}
+use Rattle.gb_cluster.specs.declared.answer.Answer.{Answer}
+use Rattle.gb_cluster.specs.declared.answer.Answer.TheVariants.{NoPacket, NotNoise}
+use Rattle.gb_cluster.specs.declared.event.Event.{Event}
+use Rattle.gb_cluster.specs.declared.event.Event.TheVariants.{At, Arrive}
+use Rattle.gb_cluster.specs.declared.plan.ClusterPlan.{ClusterPlan}
+use Rattle.gb_cluster.specs.declared.posted.Posted.{Posted}
+use Rattle.gb_cluster.specs.Links.{PacketsAreHonest}
+use Rattle.gb_cluster.proofs.NodesLemmas.{stays}
+
+-- the node that was read at an index takes an event
+pub acted : (plan : ClusterPlan) (nodes : List NodeValue) (before after : List Posted) (a : NodeId) (i : ℕ) (event : NodeEvent) (answer : Answer) (old new : NodeValue) → i ≡ a.number → i < length nodes → old ≡ get_or nodes i old
+    → IsNodeTurn old event before answer new after → IsAt (cluster plan nodes before) a event answer (cluster plan (slice_set nodes i new) after)
+acted plan nodes before after a i event answer old new place within read turned =
+    let there : old ≡ node_at (cluster plan nodes before) a = read ∙ (get_or_default nodes i old (new_node (node_plan plan a)) within ∙ ap (λ k. get_or nodes k (new_node (node_plan plan a))) place) in
+    let t = subst (λ v. IsNodeTurn v event before answer new after) there turned in (
+      t.own,
+      record {
+        placed = omega (arith, place, within);
+        node = new;
+        turn = t.turn;
+        spelt = t.spelt;
+        reason = t.reason;
+        after = λ j. cluster plan (slice_set nodes (place j) new) (t.sent j);
+      },
+      t.answered,
+    )
+
+numbered_at : (packets : List Posted) (k : ℕ) → (k ≡ 0 → ⊥) → packet_numbered packets k ≡ slice_get packets (k - 1)
+numbered_at packets zero some = absurd (some refl)
+numbered_at packets (suc k) some = let e : suc k - 1 ≡ k = omega arith in ap (slice_get packets) (sym e)
+
+pub not_there : (plan : ClusterPlan) (nodes : List NodeValue) (packets : List Posted) (k : ℕ) → (k ≡ 0 → ⊥) → length packets ≤ k - 1 → IsStep (cluster plan nodes packets) (Arrive k) NoPacket (cluster plan nodes packets)
+not_there plan nodes packets k some past =
+    let none : packet_numbered packets k ≡ None = numbered_at packets k some ∙ slice_get_past packets (k - 1) past in
+    subst (λ o. IsArrival (cluster plan nodes packets) o NoPacket (cluster plan nodes packets)) (sym none) (refl, refl)
+
+pub arrived : (plan : ClusterPlan) (nodes : List NodeValue) (packets : List Posted) (k : ℕ) (p : Posted) (i : ℕ) (answer : Answer) (old new : NodeValue) → (k ≡ 0 → ⊥) → slice_get packets (k - 1) ≡ Some p → i ≡ p.to.number → i < length nodes → old ≡ get_or nodes i old
+    → IsNodeTurn old (Came p.text) packets answer new packets → IsStep (cluster plan nodes packets) (Arrive k) answer (cluster plan (slice_set nodes i new) packets)
+arrived plan nodes packets k p i answer old new some at place within read turned =
+    subst (λ o. IsArrival (cluster plan nodes packets) o answer (cluster plan (slice_set nodes i new) packets)) (sym (numbered_at packets k some ∙ at))
+    (acted plan nodes packets packets p.to i (Came p.text) answer old new place within read turned)
+
+-- an event at a node that is no packet for it
+pub happened : (plan : ClusterPlan) (nodes : List NodeValue) (before after : List Posted) (a : NodeId) (i : ℕ) (event : NodeEvent) (answer : Answer) (old new : NodeValue) → i ≡ a.number → i < length nodes → old ≡ get_or nodes i old
+    → is_packet_for old event ≡ false → IsNodeTurn old event before answer new after → IsStep (cluster plan nodes before) (At a event) answer (cluster plan (slice_set nodes i new) after)
+happened plan nodes before after a i event answer old new place within read noise turned =
+    let there : old ≡ node_at (cluster plan nodes before) a = read ∙ (get_or_default nodes i old (new_node (node_plan plan a)) within ∙ ap (λ k. get_or nodes k (new_node (node_plan plan a))) place) in
+    let off : is_packet_for (node_at (cluster plan nodes before) a) event ≡ false = ap (λ v. is_packet_for v event) (sym there) ∙ noise in
+    subst (λ b. MatchBool b ((answer ≡ NotNoise) × (cluster plan (slice_set nodes i new) after ≡ cluster plan nodes before)) (IsAt (cluster plan nodes before) a event answer (cluster plan (slice_set nodes i new) after))) (sym off)
+    (acted plan nodes before after a i event answer old new place within read turned)
+
+pub no_noise : (plan : ClusterPlan) (nodes : List NodeValue) (packets : List Posted) (a : NodeId) (i : ℕ) (event : NodeEvent) (old : NodeValue) → i ≡ a.number → i < length nodes → old ≡ get_or nodes i old
+    → is_packet_for old event ≡ true → IsStep (cluster plan nodes packets) (At a event) NotNoise (cluster plan nodes packets)
+no_noise plan nodes packets a i event old place within read is =
+    let there : old ≡ node_at (cluster plan nodes packets) a = read ∙ (get_or_default nodes i old (new_node (node_plan plan a)) within ∙ ap (λ k. get_or nodes k (new_node (node_plan plan a))) place) in
+    let on : is_packet_for (node_at (cluster plan nodes packets) a) event ≡ true = ap (λ v. is_packet_for v event) (sym there) ∙ is in
+    subst (λ b. MatchBool b ((NotNoise ≡ NotNoise) × (cluster plan nodes packets ≡ cluster plan nodes packets)) (IsAt (cluster plan nodes packets) a event NotNoise (cluster plan nodes packets))) (sym on) (refl, refl)
+
+-- Runs.
+
+pub get_contains : (packets : List Posted) (k : ℕ) (p : Posted) → slice_get packets k ≡ Some p → Contains packets p
+get_contains [] k p e = absurd (cc)
+get_contains (q ∷ packets) zero p e = (0, omega arith, let same : q ≡ p = cc in same)
+get_contains (q ∷ packets) (suc k) p e = let rest = get_contains packets k p e in (suc rest.0, let l = rest.1 in omega (arith, l), rest.2)
+
+pub goes_on : (old new : ClusterValue) (event : Event) (answer : Answer) → IsStep old event answer new → GoesOn old new
+unfolding ComesTo
+goes_on old new (At a event) answer step run comes = by (is_packet_for (node_at old a) event) refl step
+  where
+    by : (b : Bool) → is_packet_for (node_at old a) event ≡ b → MatchBool b ((answer ≡ NotNoise) × (new ≡ old)) (IsAt old a event answer new) → ComesTo old.plan run new ⊎ ((d : Did) × ComesTo old.plan (d ∷ run) new)
+    by true is step = inl (subst (ComesTo old.plan run) (sym step.1) comes)
+    by false is step = inr (record { node = a; event = event; answer = step.0 }, (old, comes, λ bytes same yes. absurd (let n : true ≡ false = sym yes ∙ is in cc), step.1))
+goes_on old new (Arrive k) answer step run comes = by (packet_numbered old.packets k) refl step
+  where
+    there : (k : ℕ) (p : Posted) → packet_numbered old.packets k ≡ Some p → Contains old.packets p
+    there zero p e = absurd (cc)
+    there (suc k) p e = get_contains old.packets k p e
+
+    bytes_in : (b c : List ℕ) → Came b ≡ Came c → b ≡ c
+    bytes_in b c e = cc
+
+    by : (o : Option Posted) → packet_numbered old.packets k ≡ o → IsArrival old o answer new → ComesTo old.plan run new ⊎ ((d : Did) × ComesTo old.plan (d ∷ run) new)
+    by None is step = inl (subst (ComesTo old.plan run) (sym step.1) comes)
+    by (Some p) is step =
+        inr (
+          record { node = p.to; event = Came p.text; answer = step.0 },
+          (old, comes, λ bytes same yes. subst (λ t. Contains old.packets (record { to = p.to; text = t })) (bytes_in p.text bytes same) (there k p is), step.1),
+        )
+
+-- the plan and the number of nodes stay
+pub kept_after : (old new : ClusterValue) (event : Event) (answer : Answer) → IsReached old → IsStep old event answer new → IsReached new × (new.plan ≡ old.plan) × (length new.nodes ≡ length old.nodes)
+kept_after old new event answer reached step =
+    let before = stays old.plan reached.0 old reached.1 in
+    by before.count (goes_on old new event answer step reached.0 reached.1)
+  where
+    by : length old.nodes ≡ old.plan.nodes → ComesTo old.plan reached.0 new ⊎ ((d : Did) × ComesTo old.plan (d ∷ reached.0) new) → IsReached new × (new.plan ≡ old.plan) × (length new.nodes ≡ length old.nodes)
+    by count (inl comes) = let s = stays old.plan reached.0 new comes in ((reached.0, subst (λ p. ComesTo p reached.0 new) (sym s.plan_is) comes), s.plan_is, s.count ∙ sym count)
+    by count (inr comes) = let s = stays old.plan (comes.0 ∷ reached.0) new comes.1 in ((comes.0 ∷ reached.0, subst (λ p. ComesTo p (comes.0 ∷ reached.0) new) (sym s.plan_is) comes.1), s.plan_is, s.count ∙ sym count)
+
+-- every packet goes to one of the nodes
+pub for_nodes : PacketsAreHonest → (v : ClusterValue) → IsReached v → AreForNodes (length v.nodes) v.packets
+for_nodes packets v reached k p at =
+    let kept = stays v.plan reached.0 v reached.1 in
+    let count = kept.count in
+    let h = packets v.plan reached.0 v reached.1 k p at in
+    let l = h.reaches in
+    omega (arith, count, l)
+
+pub started : (plan : ClusterPlan) (n : ℕ) (nodes : List NodeValue) (packets : List Posted) → n ≡ plan.nodes → nodes ≡ map (λ a. new_node (node_plan plan (node_numbered a))) (range_with_len 0 n) → packets ≡ [] → cluster plan nodes packets ≡ new_cluster plan
+started plan n nodes packets all nodes_are packets_are = λ j. cluster plan ((nodes_are ∙ ap (λ k. map (λ a. new_node (node_plan plan (node_numbered a))) (range_with_len 0 k)) all) j) (packets_are j)
+
+pub started_comes : (plan : ClusterPlan) (v : ClusterValue) → IsClusterPlan plan → v ≡ new_cluster plan → ComesTo plan [] v
+unfolding ComesTo
+started_comes plan v right is = (right, is)

@@ -1,0 +1,23 @@
+use Rattle.std.proofs.Common.{arith, ◌≡◌, ◌-◌, Some, refl}
+use Rattle.std.specs.Prelude.{slice_get}
+use Rattle.std.proofs.lemmas.Option.{slice_get_read}
+use Rattle.gb_cluster.proofs.CodeLemmas.{not_there, arrived}
+use Rattle.gb_cluster.proofs.cluster.arrive.Goals as goal
+
+pub returns-in_default : goal.returns-in_default
+returns-in_default c plan = not_there plan c.args.nodes.now.items c.args.packets.now c.args.number c.if-number-eq0.false c.in_default.ensures.lookup.3
+
+pub index_mut-node-requires : goal.index_mut-node-requires
+index_mut-node-requires c =
+    let found = c.in-Some.ensures.lookup in
+    let at : slice_get c.args.packets.now (c.args.number - 1) ≡ Some c.in-Some.packet.now = slice_get_read c.args.packets.now _ (c.args.number - 1) c.in-Some.packet.now refl found.3.0 found.1 in
+    let ends = c.requires (c.args.number - 1) c.in-Some.packet.now at in
+    omega (arith, ends, c.index.ensures.value)
+
+pub returns : goal.returns
+returns c plan =
+    let found = c.in-Some.ensures.lookup in
+    let at : slice_get c.args.packets.now (c.args.number - 1) ≡ Some c.in-Some.packet.now = slice_get_read c.args.packets.now _ (c.args.number - 1) c.in-Some.packet.now refl found.3.0 found.1 in
+    let ends = c.requires (c.args.number - 1) c.in-Some.packet.now at in
+    arrived plan c.args.nodes.now.items c.args.packets.now c.args.number c.in-Some.packet.now c.index.result c.hand_in.result c.index_mut-node.result.now c.hand_in.new.node c.if-number-eq0.false at c.index.ensures.value
+    (omega (arith, ends, c.index.ensures.value)) c.index_mut-node.ensures.value (c.hand_in.ensures c.args.packets.now)

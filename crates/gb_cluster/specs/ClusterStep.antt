@@ -1,0 +1,95 @@
+-- What each event makes of a cluster.
+use Rattle.std.specs.Prelude.{ℕ, zero, suc, ◌≡◌, ◌<◌, ◌+◌, Bool, false, List, [], ◌∷◌, ◌++◌, length, Option, Some, None, is_ok, slice_get, slice_set, MatchBool}
+use Rattle.gb_types.specs.declared.node.NodeId.{NodeId}
+use Rattle.gb_node.specs.NodeValue.{NodeValue}
+use Rattle.gb_node.specs.NodeStep.{read_at, IsTurn, IsSpelt, IsForReason}
+use Rattle.gb_node.specs.declared.answer.NodeAnswer.{NodeAnswer}
+use Rattle.gb_node.specs.declared.answer.NodeAnswer.TheVariants.{Reply as Replied, Taken, Sent, Ticked, Halted}
+use Rattle.gb_node.specs.declared.answer.Sent.{Sent as SentValue}
+use Rattle.gb_node.specs.declared.answer.Sent.TheVariants.{Packet as SentPacket, Nothing, Refused}
+use Rattle.gb_node.specs.declared.event.NodeEvent.{NodeEvent}
+use Rattle.gb_node.specs.declared.event.NodeEvent.TheVariants.{Packet as Came, Pack, Again, Ack}
+use Rattle.gb_cluster.specs.ClusterValue.{ClusterValue, cluster, node_at}
+use Rattle.gb_cluster.specs.declared.answer.Answer.{Answer}
+use Rattle.gb_cluster.specs.declared.answer.Answer.TheVariants.{Reply as AnswerReply, Taken as AnswerTaken, Sent as AnswerSent, Ticked as AnswerTicked, Halted as AnswerHalted, NoPacket, NotNoise}
+use Rattle.gb_cluster.specs.declared.answer.Sending.{Sending}
+use Rattle.gb_cluster.specs.declared.answer.Sending.TheVariants.{Packet as SendingPacket, Nothing as SendingNothing, Refused as SendingRefused}
+use Rattle.gb_cluster.specs.declared.event.Event.{Event}
+use Rattle.gb_cluster.specs.declared.event.Event.TheVariants.{At, Arrive}
+use Rattle.gb_cluster.specs.declared.posted.Posted.{Posted}
+
+-- what is sent to a node
+abbrev pub posted_to : NodeId → SentValue → List Posted
+posted_to b (SentPacket text) = record { to = b; text = text } ∷ []
+posted_to b Nothing = []
+posted_to b (Refused why) = []
+
+-- the packets that an event at a node sends
+abbrev pub posted : NodeEvent → NodeAnswer → List Posted
+posted (Pack b) (Sent s) = posted_to b s
+posted (Again b n) (Sent s) = posted_to b s
+posted (Ack b) (Sent s) = posted_to b s
+posted event answer = []
+
+-- an event happens at one of the nodes, with this answer of the node
+pub record NodeActs (old : ClusterValue) (a : NodeId) (event : NodeEvent) (answer : NodeAnswer) (new : ClusterValue) : Type 0 where
+  pub placed : a.number < length old.nodes
+  pub node : NodeValue
+  pub turn : IsTurn (node_at old a) event answer node
+  pub spelt : IsSpelt (node_at old a) event answer
+  pub reason : IsForReason (node_at old a) event answer
+  pub after : new ≡ cluster old.plan (slice_set old.nodes a.number node) (old.packets ++ posted event answer)
+
+-- the node's answer, with the number of a packet in place of its bytes, where so many were sent before
+abbrev pub sending : ℕ → SentValue → Sending
+sending count (SentPacket text) = SendingPacket (count + 1)
+sending count Nothing = SendingNothing
+sending count (Refused why) = SendingRefused why
+
+abbrev pub answer_of : ℕ → NodeAnswer → Answer
+answer_of count (Replied reply) = AnswerReply reply
+answer_of count (Taken taken) = AnswerTaken taken
+answer_of count (Sent s) = AnswerSent (sending count s)
+answer_of count (Ticked ticked) = AnswerTicked ticked
+answer_of count (Halted halted) = AnswerHalted halted
+
+-- a node takes an event, where these packets were sent before it and those after it
+pub record IsNodeTurn (old : NodeValue) (event : NodeEvent) (before : List Posted) (answer : Answer) (new : NodeValue) (after : List Posted) : Type 0 where
+  pub own : NodeAnswer
+  pub turn : IsTurn old event own new
+  pub spelt : IsSpelt old event own
+  pub reason : IsForReason old event own
+  pub answered : answer ≡ answer_of (length before) own
+  pub sent : after ≡ before ++ posted event own
+
+-- an event at a node
+abbrev pub IsAt : ClusterValue → NodeId → NodeEvent → Answer → ClusterValue → Type 0
+IsAt old a event answer new = (own : NodeAnswer) × NodeActs old a event own new × (answer ≡ answer_of (length old.packets) own)
+
+-- the packet with a number, if there is one
+abbrev pub packet_numbered : List Posted → ℕ → Option Posted
+packet_numbered packets zero = None
+packet_numbered packets (suc k) = slice_get packets k
+
+abbrev pub IsArrival : ClusterValue → Option Posted → Answer → ClusterValue → Type 0
+IsArrival old None answer new = (answer ≡ NoPacket) × (new ≡ old)
+IsArrival old (Some p) answer new = IsAt old p.to (Came p.text) answer new
+
+-- bytes that a node would take for a packet of the cluster
+abbrev pub is_packet_for : NodeValue → NodeEvent → Bool
+is_packet_for v (Came bytes) = is_ok (read_at v bytes)
+is_packet_for v event = false
+
+-- A step of the cluster: something happens at a node, or there is no such packet, or the noise is none; then nothing changes.
+abbrev pub IsStep : ClusterValue → Event → Answer → ClusterValue → Type 0
+IsStep old (At a event) answer new = MatchBool (is_packet_for (node_at old a) event) ((answer ≡ NotNoise) × (new ≡ old)) (IsAt old a event answer new)
+IsStep old (Arrive k) answer new = IsArrival old (packet_numbered old.packets k) answer new
+
+-- the node that acts is one of the cluster's
+abbrev pub IsPlaced : ℕ → Event → Type 0
+IsPlaced nodes (At a event) = a.number < nodes
+IsPlaced nodes (Arrive k) = Unit {0}
+
+-- each packet goes to one of so many nodes
+abbrev pub AreForNodes : ℕ → List Posted → Type 0
+AreForNodes nodes packets = (k : ℕ) (p : Posted) → slice_get packets k ≡ Some p → p.to.number < nodes

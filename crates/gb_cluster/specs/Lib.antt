@@ -1,0 +1,4 @@
+pub mod ClusterValue
+pub mod ClusterStep
+pub mod Run
+pub mod Links

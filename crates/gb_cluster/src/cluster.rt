@@ -1,0 +1,201 @@
+//! The nodes of a cluster and every packet that they sent.
+ghost use Rattle.std.specs.Prelude.{◌≡◌, ◌<◌, ◌↔◌, ◌++◌, [], List, IsTrue, length, vec_len, vec_capacity, IfOk, OnErr};
+ghost use Rattle.gb_cluster.specs.ClusterStep.{posted_to, sending, is_packet_for, AreForNodes, IsNodeTurn, IsPlaced, IsStep};
+ghost use Rattle.gb_cluster.specs.ClusterValue.{cluster, new_cluster, IsClusterPlan};
+ghost use Rattle.gb_cluster.specs.Run.{ComesTo, GoesOn};
+ghost use Rattle.gb_cluster.specs.declared.event.Event.TheVariants as Events;
+ghost use Rattle.gb_cluster.specs.declared.plan.ClusterPlan.{ClusterPlan as Plan};
+ghost use Rattle.gb_cluster.specs.declared.posted.Posted.{Posted as PostedValue};
+ghost use Rattle.gb_node.specs.declared.event.NodeEvent.TheVariants as NodeEvents;
+
+use crate::answer::{Answer, Sending};
+use crate::event::Event;
+use crate::laws::packets_are_honest;
+use crate::plan::ClusterPlan;
+use crate::posted::Posted;
+use gb_node::answer::{NodeAnswer, Sent};
+use gb_node::event::NodeEvent;
+use gb_node::node::Node;
+use gb_types::memory::OutOfMemory;
+use gb_types::node::NodeId;
+use std::alloc::Global;
+use std::marker::Model;
+
+/// A cluster. Contracts see its nodes and every packet that was sent. It keeps no event and no answer.
+#[derive(Drop)]
+pub struct Cluster {
+    plan: ClusterPlan,
+    nodes: Vec<Node>,
+    packets: Vec<Posted>,
+}
+
+impl Model for Cluster {
+    ghost use Rattle.std.specs.Coded.{codes, coded_ℕ};
+    ghost use Rattle.std.specs.Ordering.{nat_cmp};
+    ghost use Rattle.std.specs.FinSet as set;
+    ghost use Rattle.gb_cluster.specs.ClusterValue.{ClusterValue};
+    ghost use Rattle.gb_cluster.specs.Run.{IsReached};
+
+    ghost Value = { ClusterValue };
+
+    ghost coded = { Prim.hlevel (codes, set.code {R = nat_cmp} coded_ℕ) };
+
+    ghost view = { λ n. record { plan = n.plan; nodes = n.nodes.items; packets = n.packets.items } };
+
+    ghost invariant = { λ n. IsReached (record { plan = n.plan; nodes = n.nodes.items; packets = n.packets.items }) };
+}
+
+/// Keeps the packet that was sent to a node, if there is one, and gives its number.
+fn post(packets: &mut Vec<Posted>, to: NodeId, sent: Sent) -> Sending
+    requires { vec_len packets.old < vec_capacity packets.old }
+    ensures packets { packets.new.items ≡ packets.old.items ++ posted_to to sent }
+    ensures answer { result ≡ sending (length packets.old.items) sent }
+{
+    match sent {
+        Sent::Packet(text) => {
+            packets.push_reserved(Posted { to, text });
+            Sending::Packet(packets.len() as u64)
+        }
+        Sent::Nothing => Sending::Nothing,
+        Sent::Refused(why) => Sending::Refused(why),
+    }
+}
+
+/// Whether bytes that come as noise are a packet for the node.
+fn is_no_noise(node: &Node, event: &NodeEvent) -> bool
+    ensures { result ≡ is_packet_for node.now event.now }
+{
+    match event {
+        NodeEvent::Packet(bytes) => node.is_packet(bytes.as_slice()),
+        _ => false,
+    }
+}
+
+/// An event at a node, and what comes of it. A packet that the node sends is kept.
+fn turn(node: &mut Node, packets: &mut Vec<Posted>, event: &NodeEvent) -> Answer
+    requires { vec_len packets.old < vec_capacity packets.old }
+    ensures { IsNodeTurn node.old event.now packets.old.items result node.new packets.new.items }
+{
+    match event {
+        NodeEvent::Pack(to) => Answer::Sent(post(packets, *to, node.pack(*to))),
+        NodeEvent::Again(to, number) => Answer::Sent(post(packets, *to, node.again(*to, *number))),
+        NodeEvent::Ack(to) => Answer::Sent(post(packets, *to, node.ack(*to))),
+        NodeEvent::Request(request) => Answer::Reply(node.request(request)),
+        NodeEvent::Packet(bytes) => Answer::Taken(node.packet(bytes.as_slice())),
+        NodeEvent::Tick => Answer::Ticked(node.tick()),
+        NodeEvent::Stop => Answer::Halted(node.stop()),
+    }
+}
+
+/// A packet that was sent, handed in at its node.
+fn hand_in(node: &mut Node, packet: &Posted) -> Answer
+    ensures { (packets : List PostedValue) → IsNodeTurn node.old (NodeEvents.Packet packet.now.text) packets result node.new packets }
+{
+    Answer::Taken(node.packet(packet.text.as_slice()))
+}
+
+/// The packet with a number, handed in at the node that it was sent to.
+fn arrive(nodes: &mut Vec<Node>, packets: &[Posted], number: u64) -> Answer
+    requires { AreForNodes (length nodes.old.items) packets.now }
+    ensures { (plan : Plan) → IsStep (cluster plan nodes.old.items packets.now) (Events.Arrive number) result (cluster plan nodes.new.items packets.now) }
+{
+    if number == 0 {
+        return Answer::NoPacket;
+    }
+    let Some(packet) = packets.get((number - 1) as usize) else {
+        return Answer::NoPacket;
+    };
+    let node = &mut nodes[packet.to.index()];
+    hand_in(node, packet)
+}
+
+/// An event at one of the nodes; noise that is a packet for the node is not handed in.
+fn happen(nodes: &mut Vec<Node>, packets: &mut Vec<Posted>, at: NodeId, event: &NodeEvent) -> Answer
+    requires placed { at.number < length nodes.old.items }
+    requires room { vec_len packets.old < vec_capacity packets.old }
+    ensures { (plan : Plan) → IsStep (cluster plan nodes.old.items packets.old.items) (Events.At at event.now) result (cluster plan nodes.new.items packets.new.items) }
+{
+    let node = &mut nodes[at.index()];
+    if is_no_noise(node, event) {
+        return Answer::NotNoise;
+    }
+    turn(node, packets, event)
+}
+
+/// What comes of an event, with nodes and packets after it.
+fn take(nodes: &mut Vec<Node>, packets: &mut Vec<Posted>, event: &Event) -> Answer
+    requires placed { IsPlaced (length nodes.old.items) event.now }
+    requires inside { AreForNodes (length nodes.old.items) packets.old.items }
+    requires room { vec_len packets.old < vec_capacity packets.old }
+    ensures { (plan : Plan) → IsStep (cluster plan nodes.old.items packets.old.items) event.now result (cluster plan nodes.new.items packets.new.items) }
+{
+    match event {
+        Event::At(at, event) => happen(nodes, packets, *at, event),
+        Event::Arrive(number) => arrive(nodes, packets, *number),
+    }
+}
+
+impl Cluster {
+    /// A cluster in which nothing has happened.
+    pub fn start(alloc: Global, plan: &ClusterPlan) -> Result<Cluster, OutOfMemory>
+        requires { IsClusterPlan plan.now }
+        ensures state { IfOk result (λ n. n ≡ new_cluster plan.now) }
+        ensures comes { IfOk result (ComesTo plan.now []) }
+    {
+        let mut nodes = Vec::with_capacity(alloc, plan.nodes as usize)?;
+        for number in 0..plan.nodes {
+            let me = NodeId::new(number);
+            nodes.push(Node::start(alloc, &plan.node(me)))?;
+        }
+        Ok(Cluster {
+            plan: *plan,
+            nodes,
+            packets: Vec::new(alloc),
+        })
+    }
+
+    /// How many nodes it has.
+    pub fn nodes(&self) -> usize
+        ensures { result ≡ length self.now.nodes }
+    {
+        self.nodes.len()
+    }
+
+    /// Whether the node that acts is one of the cluster's.
+    pub fn is_placed(&self, event: &Event) -> bool
+        ensures { IsTrue result ↔ IsPlaced (length self.now.nodes) event.now }
+    {
+        match event {
+            Event::At(at, _) => at.index() < self.nodes.len(),
+            Event::Arrive(_) => true,
+        }
+    }
+
+    /// Every packet that was sent, in order.
+    pub fn packets(&self) -> &[Posted]
+        ensures { result.now ≡ self.now.packets }
+    {
+        self.packets.as_slice()
+    }
+
+    /// Every packet that was sent, in order, with no copy.
+    pub fn into_packets(self) -> Vec<Posted>
+        ensures { result.items ≡ self.packets }
+    {
+        self.packets
+    }
+
+    /// One event. `Err` says that the cluster itself had no memory for one more packet, and nothing has changed; a
+    /// node's want of memory is an answer.
+    pub fn step(&mut self, event: &Event) -> Result<Answer, OutOfMemory>
+        requires { IsPlaced (length self.old.nodes) event.now }
+        ensures step { IfOk result (λ a. IsStep self.old event.now a self.new) }
+        ensures run { GoesOn self.old self.new }
+        ensures nodes { length self.new.nodes ≡ length self.old.nodes }
+        ensures err { OnErr result (self.new ≡ self.old) }
+    {
+        packets_are_honest();
+        self.packets.reserve(1)?;
+        Ok(take(&mut self.nodes, &mut self.packets, event))
+    }
+}

@@ -1,0 +1,45 @@
+//! What holds of every run of a cluster.
+ghost use Rattle.gb_cluster.specs.Links.{LinksHold, NothingIsOutside, PacketsAreHonest};
+ghost use Rattle.gb_cluster.specs.Run.{NodesHavePasts};
+
+use gb_frame::laws::what_is_written_is_read;
+use gb_node::past::pasts_say;
+
+/// A law of every run: each node is one that was started and came by its own past to what it is, whatever happened at
+/// the others. The function does nothing when it runs; its contract is the law.
+pub fn nodes_have_pasts()
+    ensures { NodesHavePasts }
+{}
+
+/// A law of every packet that was sent in a run: it says what its sender did. Its frame is the one that was packed under
+/// the number, and it acknowledges only frames that were taken. The function does nothing when it runs; its contract is
+/// the law.
+pub fn packets_are_honest()
+    ensures { PacketsAreHonest }
+{
+    what_is_written_is_read();
+    pasts_say();
+}
+
+/// A law of every link, whichever packets arrive, whenever and however often: a frame is taken once at most, with the
+/// items that were packed under its number, whole and in order; only a frame that was packed is taken, and only one that
+/// was taken is acknowledged. The function does nothing when it runs; its contract is the law.
+pub fn links_hold()
+    ensures { LinksHold }
+{
+    what_is_written_is_read();
+    pasts_say();
+    packets_are_honest();
+}
+
+/// A law of every packet that a node of a cluster takes: its frame is not outside the window in which the node awaits
+/// frames of its sender. For a sender packs a frame only where those that were not acknowledged are among the last 64, and
+/// only a frame that was taken is acknowledged. The function does nothing when it runs; its contract is the law.
+pub fn nothing_is_outside()
+    ensures { NothingIsOutside }
+{
+    what_is_written_is_read();
+    pasts_say();
+    packets_are_honest();
+    links_hold();
+}

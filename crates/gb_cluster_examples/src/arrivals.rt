@@ -1,0 +1,112 @@
+ghost use Rattle.std.specs.Prelude.{◌<◌};
+
+use gb_cluster::answer::{Answer, Sending};
+use gb_cluster::cluster::Cluster;
+use gb_cluster::event::Event;
+use gb_cluster::plan::ClusterPlan;
+use gb_frame::fault::PacketFault;
+use gb_node::answer::{Halted, PacketAnswer};
+use gb_node::event::NodeEvent;
+use gb_node::packet_text::PacketText;
+use gb_types::memory::OutOfMemory;
+use gb_types::node::NodeId;
+use gb_types::refusal::Refusal;
+use std::alloc::Global;
+use std::rt::HostRuntime;
+use std::test::Fail;
+
+const FIRST: NodeId = NodeId { number: 0 };
+
+const SECOND: NodeId = NodeId { number: 1 };
+
+const PLAN: ClusterPlan = ClusterPlan {
+    nodes: 2,
+    silence: 3,
+    places: 4,
+    cluster_key: [3; 32],
+    admin_key: [1; 32],
+};
+
+/// A short name for what comes of an event.
+fn word(answer: &Answer) -> &'static str {
+    match answer {
+        Answer::Sent(Sending::Packet(1)) => "packet 1",
+        Answer::Taken(PacketAnswer::Good(_)) => "good",
+        Answer::Taken(PacketAnswer::Fault(PacketFault::Short)) => "short",
+        Answer::Taken(PacketAnswer::Refused(Refusal::Stopped)) => "stopped",
+        Answer::Halted(Halted::Done) => "halted",
+        Answer::NoPacket => "no packet",
+        Answer::NotNoise => "not noise",
+        _ => "something else",
+    }
+}
+
+/// What comes of an event, where its node is one of the cluster's.
+fn told(cluster: &mut Cluster, event: &Event) -> Result<&'static str, OutOfMemory> {
+    if !cluster.is_placed(event) {
+        return Ok("nowhere");
+    }
+    let answer = cluster.step(event)?;
+    Ok(word(&answer))
+}
+
+/// The packet with a number arrives.
+fn arrives(cluster: &mut Cluster, number: u64) -> Result<&'static str, OutOfMemory> {
+    told(cluster, &Event::Arrive(number))
+}
+
+/// The first node acknowledges what came from the second.
+fn acknowledges(cluster: &mut Cluster) -> Result<&'static str, OutOfMemory> {
+    told(cluster, &Event::At(FIRST, NodeEvent::Ack(SECOND)))
+}
+
+/// The second node stops.
+fn stops(cluster: &mut Cluster) -> Result<&'static str, OutOfMemory> {
+    told(cluster, &Event::At(SECOND, NodeEvent::Stop))
+}
+
+/// Bytes that come as noise to the second node.
+fn noise(alloc: Global, bytes: &[u8]) -> Result<Event, OutOfMemory> {
+    let mut copy = Vec::with_capacity(alloc, bytes.len())?;
+    copy.extend_from_slice(bytes)?;
+    Ok(Event::At(SECOND, NodeEvent::Packet(PacketText::from(copy))))
+}
+
+/// Two bytes come to the second node, which are no packet.
+fn garbles(alloc: Global, cluster: &mut Cluster) -> Result<&'static str, OutOfMemory> {
+    let event = noise(alloc, b"GB")?;
+    told(cluster, &event)
+}
+
+/// The first packet that was sent comes to the second node as noise.
+fn echoes(alloc: Global, cluster: &mut Cluster) -> Result<&'static str, OutOfMemory> {
+    let event = match cluster.packets().first() {
+        Some(packet) => noise(alloc, packet.text.as_slice())?,
+        None => noise(alloc, b"")?,
+    };
+    told(cluster, &event)
+}
+
+/// Whether each event is answered as it should be, one after the other.
+fn is_answered(alloc: Global, cluster: &mut Cluster) -> Result<bool, OutOfMemory> {
+    let before = arrives(cluster, 1)? == "no packet";
+    let sent = acknowledges(cluster)? == "packet 1";
+    let came = arrives(cluster, 1)? == "good";
+    let garbled = garbles(alloc, cluster)? == "short";
+    let echoed = echoes(alloc, cluster)? == "not noise";
+    let stopped = stops(cluster)? == "halted";
+    let echoed_again = echoes(alloc, cluster)? == "not noise";
+    let refused = arrives(cluster, 1)? == "stopped";
+    Ok(before && sent && came && garbled && echoed && stopped && echoed_again && refused)
+}
+
+// A packet arrives once it was sent, as often as one likes; its bytes are no noise, running or stopped; a stopped node
+// refuses it.
+#[test]
+fn packets_and_noise(rt: HostRuntime) -> Result<(), Fail> {
+    let alloc = rt.alloc();
+    let mut cluster = Cluster::start(alloc, &PLAN)?;
+    let right = is_answered(alloc, &mut cluster)?;
+    assert!(rt; right);
+    Ok(())
+}

@@ -1,5 +1,0 @@
-use Rattle.gb_network.proofs.NodesLemmas.{have_pasts}
-use Rattle.gb_network.proofs.laws.nodes_have_pasts.Goals as goal
-
-pub returns : goal.returns
-returns c = have_pasts

@@ -1,5 +1,0 @@
-use Rattle.gb_network.proofs.HonestLemmas.{all_honest}
-use Rattle.gb_network.proofs.laws.packets_are_honest.Goals as goal
-
-pub returns : goal.returns
-returns c = all_honest c.what_is_written_is_read.ensures c.pasts_say.ensures

@@ -1,9 +1,0 @@
-use Rattle.std.proofs.Common.{◌≡◌, map}
-use Rattle.std.specs.List.{range_with_len}
-use Rattle.gb_node.specs.NodeStep.{node_numbered}
-use Rattle.gb_node.specs.NodeValue.{new_node}
-use Rattle.gb_network.specs.NetworkValue.{node_plan}
-use Rattle.gb_network.proofs.network.Network.start.Given as goal
-
-abbrev pub invariant-loop-number : goal.invariant-loop-number
-invariant-loop-number l = l.nodes.items ≡ map (λ a. new_node (node_plan l.plan (node_numbered a))) (range_with_len 0 l.number)

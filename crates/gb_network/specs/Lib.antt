@@ -1,4 +1,0 @@
-pub mod NetworkValue
-pub mod NetworkStep
-pub mod Run
-pub mod Links

@@ -1,0 +1,24 @@
+-- What schedules say of a cluster: how it is started, how many nodes it has, and what it answers.
+use Rattle.std.specs.Prelude.{ℕ, length}
+use Rattle.gb_cluster.specs.ClusterStep.{IsStep}
+use Rattle.gb_cluster.specs.ClusterValue.{ClusterValue, new_cluster}
+use Rattle.gb_cluster.specs.declared.answer.Answer.{Answer}
+use Rattle.gb_cluster.specs.declared.event.Event.{Event}
+use Rattle.gb_cluster.specs.declared.plan.ClusterPlan.{ClusterPlan}
+use Rattle.gb_schedule.specs.Keys.{cluster_key, admin_key}
+
+-- what it is started with: the tenants of a node may make 1,024 groups in all
+abbrev pub plan_of : ℕ → ℕ → ClusterPlan
+plan_of nodes silence = record { nodes = nodes; silence = silence; places = 1024; cluster_key = cluster_key; admin_key = admin_key }
+
+-- a cluster of so many nodes, in which nothing has happened
+unfoldable pub started : ℕ → ℕ → ClusterValue
+started nodes silence = new_cluster (plan_of nodes silence)
+
+-- how many nodes it has
+abbrev pub size : ClusterValue → ℕ
+size v = length v.nodes
+
+-- it takes an event, answers, and goes on so
+unfoldable pub Takes : ClusterValue → Event → Answer → ClusterValue → Type 0
+Takes before event answer after = IsStep before event answer after
