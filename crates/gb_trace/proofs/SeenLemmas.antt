@@ -3,16 +3,20 @@ use Rattle.std.proofs.Common.{◌≡◌, ℕ, ◌<◌, List, ◌++◌, length, t
 use Rattle.std.proofs.lemmas.List.{take_all, take-append-le}
 use Rattle.gb_types.specs.declared.entry.Entry.{Entry}
 use Rattle.gb_groups.specs.OneGroup.{waiting_in}
-use Rattle.gb_alone.specs.Alone.{Group}
+use Rattle.gb_alone.specs.Alone.{Group, alone, IsLegal}
+use Rattle.gb_alone.specs.Observation.{observed_alone}
+use Rattle.gb_alone.specs.declared.event.GroupStep.{GroupStep}
 use Rattle.gb_alone.proofs.ObservationLemmas.{seen_same}
 use Rattle.gb_node.specs.NodeStep.{node_numbered}
 use Rattle.gb_node.specs.Past.{frames_to}
 use Rattle.gb_cluster.specs.ClusterValue.{node_plan}
-use Rattle.gb_cluster.specs.Run.{past_at}
+use Rattle.gb_cluster.proofs.NodesLemmas.{stays}
+use Rattle.gb_cluster.specs.Run.{Did, past_at}
 use Rattle.gb_isolation.proofs.NoticeLemmas.{numbered_is}
-use Rattle.gb_isolation.specs.Isolation.{Seen, group_at, alone_in}
+use Rattle.gb_isolation.specs.Isolation.{Seen, group_at, alone_in, IsIsolated, GroupsAreIsolated}
 use Rattle.gb_isolation.specs.Project.{items_of, replies_in}
-use Rattle.gb_trace.specs.Observed.{IsolatedGroupsAreSeenAlone}
+use Rattle.gb_trace.specs.Observed.{IsolatedGroupsAreSeenAlone, FedGroupsAreSeenAlone}
+use Rattle.gb_trace.specs.Trace.{run_of}
 
 -- the first items of a list that is continued
 take_front : (xs ys : List Entry) → take (length xs) (xs ++ ys) ≡ xs
@@ -55,3 +59,16 @@ seen_alone_too plan run v g few alike =
     taken a b lt ls =
         sym (ap (λ n. take n ((group a).put b)) (many a b lt ls)
         ∙ (ap (λ xs. take (length (items a b)) xs) (sym (put a b lt ls)) ∙ take_front (items a b) (waiting_in (group_at v g (node_numbered a)) b)))
+
+-- the plain programs together
+pub seen_alone_projected : GroupsAreIsolated → IsolatedGroupsAreSeenAlone → FedGroupsAreSeenAlone
+seen_alone_projected isolated seen plan events answers packets v is_run g fed steps are = (
+  subst (IsLegal plan.nodes g.group) (sym are) alike.legal,
+  seen plan run v g (stays plan run v is_run.comes).right.few alike ∙ ap (λ (ss : List GroupStep). observed_alone plan.nodes (alone plan.nodes g.group ss)) (sym are),
+)
+  where
+    run : List Did
+    run = run_of events answers packets
+
+    alike : IsIsolated plan run v g
+    alike = isolated plan run v is_run.comes g fed

@@ -1,3 +1,4 @@
 pub mod Trace
 pub mod Deeds
+pub mod Counts
 pub mod Observed

@@ -3,8 +3,11 @@ ghost use Rattle.std.specs.Prelude.{◌≡◌};
 ghost use Rattle.std.specs.Option.{option_copied};
 ghost use Rattle.gb_rules.specs.Tenant.{row_of};
 ghost use Rattle.gb_table.specs.Requests.{is_by_row};
-ghost use Rattle.gb_node.specs.Past.{added, tenants_in};
+ghost use Rattle.gb_node.specs.Past.{added, tenants_in, is_stopped};
+ghost use Rattle.gb_node.specs.Past as occurred;
 ghost use Rattle.gb_node.specs.StepLaw.{is_admitted_by};
+ghost use Rattle.gb_node.specs.declared.answer.NodeAnswer.TheVariants.{Reply as Replied};
+ghost use Rattle.gb_node.specs.declared.event.NodeEvent.TheVariants.{Request as Asked};
 ghost use Rattle.gb_cluster.specs.ClusterValue.{node_plan};
 ghost use Rattle.gb_isolation.specs.Project as projected;
 ghost use Rattle.gb_trace.specs.Deeds.{past_in};
@@ -12,14 +15,14 @@ ghost use Rattle.gb_trace.specs.Deeds.{past_in};
 use crate::deed::Deed;
 use gb_cap::token::{Need, Token, admits};
 use gb_cluster::plan::ClusterPlan;
-use gb_node::answer::NodeAnswer;
+use gb_node::answer::{Halted, NodeAnswer};
 use gb_node::event::NodeEvent;
 use gb_rules::address::is_same;
 use gb_types::address::Addr;
 use gb_types::node::NodeId;
 use gb_types::reply::Reply;
 use gb_types::request::Request;
-use gb_types::spec::TenantRow;
+use gb_types::spec::{Spec, TenantRow};
 
 /// Whether the request names the group.
 pub(crate) fn is_named(addr: Addr, request: &Request) -> bool
@@ -108,4 +111,104 @@ pub(crate) fn is_own(
     ensures { result ≡ projected.is_own (node_plan plan.now a) addr (past_in a deeds.now) request.now }
 {
     is_named(addr, request) && is_admitted(plan, a, deeds, request)
+}
+
+/// Whether the node stopped by this.
+fn stops(deed: &Deed) -> bool
+    ensures { result ≡ occurred.stops deed.now.event deed.now.answer }
+{
+    match deed.event() {
+        NodeEvent::Stop => match deed.answer() {
+            NodeAnswer::Halted(Halted::Done) => true,
+            _ => false,
+        },
+        _ => false,
+    }
+}
+
+/// Whether the node has stopped.
+#[tactic(auto, using(crate::proofs::PastLemmas::here, crate::proofs::PastLemmas::elsewhere, crate::proofs::PastLemmas::whole), unfolding(gb_node::specs::Past::is_stopped, gb_cluster::specs::Run::past_at))]
+pub(crate) fn was_stopped(a: NodeId, deeds: &[Deed]) -> bool
+    ensures { result ≡ is_stopped (past_in a deeds.now) }
+{
+    let mut stopped = false;
+    for i in 0..deeds.len() {
+        if deeds[i].is_at(a) {
+            stopped = stops(&deeds[i]) || stopped;
+        }
+    }
+    stopped
+}
+
+/// Whether this, after what happened before, is a request of the group at the node, which has stopped.
+fn meets(plan: &ClusterPlan, addr: Addr, a: NodeId, before: &[Deed], deed: &Deed) -> bool
+    ensures { result ≡ projected.is_met_by (node_plan plan.now a) addr (past_in a before.now) deed.now.event deed.now.answer }
+{
+    let NodeEvent::Request(request) = deed.event() else {
+        return false;
+    };
+    let NodeAnswer::Reply(_) = deed.answer() else {
+        return false;
+    };
+    was_stopped(a, before) && is_own(plan, addr, a, before, request)
+}
+
+/// Whether a request of the group met the node's stop.
+#[tactic(auto, using(crate::proofs::PastLemmas::here, crate::proofs::PastLemmas::elsewhere, crate::proofs::PastLemmas::whole), unfolding(gb_isolation::specs::Project::is_met, gb_cluster::specs::Run::past_at))]
+pub(crate) fn was_met(plan: &ClusterPlan, addr: Addr, a: NodeId, deeds: &[Deed]) -> bool
+    ensures { result ≡ projected.is_met (node_plan plan.now a) addr (past_in a deeds.now) }
+{
+    let mut met = false;
+    for i in 0..deeds.len() {
+        if deeds[i].is_at(a) {
+            met = meets(plan, addr, a, &deeds[..i], &deeds[i]) || met;
+        }
+    }
+    met
+}
+
+/// What the request with its reply makes the group with, where it does.
+pub(crate) fn made<'a>(addr: Addr, request: &'a Request, reply: &Reply) -> Option<&'a Spec>
+    ensures { option_copied result ≡ projected.made_by addr (Asked request.now) (Replied reply.now) }
+{
+    match request {
+        Request::Make(_, named, spec) => match reply {
+            Reply::Done => {
+                if is_same(addr, *named) {
+                    Some(spec)
+                } else {
+                    None
+                }
+            }
+            _ => None,
+        },
+        _ => None,
+    }
+}
+
+/// What this makes the group with, where it does.
+fn makes(addr: Addr, deed: &Deed) -> Option<&Spec>
+    ensures { option_copied result ≡ projected.made_by addr deed.now.event deed.now.answer }
+{
+    match deed.event() {
+        NodeEvent::Request(request) => match deed.answer() {
+            NodeAnswer::Reply(reply) => made(addr, request, reply),
+            _ => None,
+        },
+        _ => None,
+    }
+}
+
+/// What the group was made with at the node, where it was.
+#[tactic(auto, using(crate::proofs::PastLemmas::here, crate::proofs::PastLemmas::elsewhere, crate::proofs::PastLemmas::whole), unfolding(gb_isolation::specs::Project::made_with, gb_cluster::specs::Run::past_at))]
+pub(crate) fn made_with(addr: Addr, a: NodeId, deeds: &[Deed]) -> Option<&Spec>
+    ensures { option_copied result ≡ projected.made_with addr (past_in a deeds.now) }
+{
+    let mut made = None;
+    for i in 0..deeds.len() {
+        if deeds[i].is_at(a) {
+            made = makes(addr, &deeds[i]).or(made);
+        }
+    }
+    made
 }

@@ -1,8 +1,9 @@
 //! The packets that were packed and that came, read from their texts; and the items of a group in them.
-ghost use Rattle.std.specs.Prelude.{◌≡◌, ◌++◌, [], ◌∷◌, IfOk, OnOk, MatchOption};
+ghost use Rattle.std.specs.Prelude.{◌≡◌, ◌++◌, [], ◌∷◌, length, IfOk, OnOk, MatchOption};
 ghost use Rattle.gb_frame.specs.Packet.{item_of};
 ghost use Rattle.gb_groups.specs.AtAddress.{entry_of};
 ghost use Rattle.gb_groups.specs.OneGroup.{names};
+ghost use Rattle.gb_node.specs.NodeStep.{node_numbered};
 ghost use Rattle.gb_node.specs.Past as past;
 ghost use Rattle.gb_isolation.specs.Project.{items_in};
 
@@ -99,4 +100,26 @@ pub(crate) fn add_items(
         }
     }
     Ok(())
+}
+
+/// How many of the packet's items are the group's.
+pub(crate) fn count_in(addr: Addr, packet: &PacketView<'_>) -> u64
+    ensures { result ≡ length (items_in addr packet.now.items) }
+{
+    let _most = packet.len();
+    let mut count = 0;
+    for one in packet.items() {
+        if is_of(addr, one) {
+            count += 1;
+        }
+    }
+    count
+}
+
+/// The node that sent the packet.
+pub(crate) fn sender(packet: &PacketView<'_>) -> NodeId
+    ensures node { result ≡ node_numbered packet.now.from }
+    ensures number { result.number ≡ packet.now.from }
+{
+    packet.head().from
 }

@@ -3,8 +3,12 @@
 #![tactic(auto)]
 
 #[cfg(test)]
+mod crash;
+#[cfg(test)]
 mod runs;
 #[cfg(test)]
 mod schedule;
 #[cfg(test)]
 mod short;
+#[cfg(test)]
+mod told;

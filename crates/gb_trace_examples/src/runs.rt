@@ -1,25 +1,22 @@
+ghost use Rattle.std.specs.Prelude.{◌≡◌, ◌≤◌};
+ghost use Rattle.gb_types.specs.declared.limits.TheConstants.{NODES, SILENCE_MIN};
+
+use crate::crash;
 use crate::schedule::{PLAN, TENANTS, events, group_of, steps};
-use crate::short::{Got, is_seen};
-use gb_alone::alone::alone;
+use crate::short::{Got, is_same, is_seen};
+use crate::told::{are_same_steps, are_steps};
+use gb_alone::event::GroupStep;
 use gb_cluster::event::Event;
-use gb_trace::observation::observe;
-use gb_trace::refused::refused_for;
+use gb_cluster::plan::ClusterPlan;
 use gb_trace::run::{are_placed, run};
 use gb_trace::trace::Trace;
+use gb_trace::{alone, observe, project, refused_for};
 use gb_types::memory::OutOfMemory;
 use gb_types::plan::Plan;
 use gb_types::refusal::Refusal;
 use std::alloc::Global;
 use std::rt::HostRuntime;
 use std::test::Fail;
-
-const ALONE: Plan = Plan {
-    nodes: 2,
-    silence: 3,
-    places: 8,
-    cluster_key: [3; 32],
-    admin_key: [1; 32],
-};
 
 /// The replies at the first node are the same for each group.
 const FIRST_REPLIES: [Got; 3] = [Got::Done, Got::Done, Got::Said(1)];
@@ -39,7 +36,44 @@ fn second_replies(tenant: u16) -> &'static [Got] {
     }
 }
 
-/// Whether a tenant's group is seen in the run as it should be, and is what it is alone, and lacked no memory.
+/// The plan of the cluster, of which a group alone reads how many nodes there are.
+fn alone_in(plan: &ClusterPlan) -> Plan
+    ensures { result.nodes ≡ plan.now.nodes }
+{
+    Plan {
+        nodes: plan.nodes,
+        silence: plan.silence,
+        places: plan.places,
+        cluster_key: plan.cluster_key,
+        admin_key: plan.admin_key,
+    }
+}
+
+/// The projection on a tenant's group, if it makes of the group alone what is seen of it in the run, where it lacked no
+/// memory.
+fn projection(
+    alloc: Global,
+    plan: &ClusterPlan,
+    events: &[Event],
+    trace: &Trace,
+    tenant: u16,
+) -> Result<Option<Vec<GroupStep>>, OutOfMemory>
+    requires few { plan.now.nodes ≤ NODES }
+    requires least { SILENCE_MIN ≤ plan.now.silence }
+{
+    let addr = group_of(tenant);
+    let steps = project(alloc, plan, events, trace, addr)?;
+    let by_itself = alone(alloc, &alone_in(plan), addr, &steps)?;
+    let seen = observe(alloc, plan, events, trace, addr)?;
+    let starved = refused_for(alloc, plan, events, trace, addr)?;
+    if starved || !is_same(&seen, &by_itself) {
+        return Ok(None);
+    }
+    Ok(Some(steps))
+}
+
+/// Whether a tenant's group is seen in the first run as it should be, and its projection is the one that is written by
+/// hand.
 fn is_alone(
     alloc: Global,
     events: &[Event],
@@ -47,16 +81,13 @@ fn is_alone(
     tenant: u16,
 ) -> Result<bool, OutOfMemory> {
     let payload = tenant.to_be_bytes();
-    let second = second_replies(tenant);
+    let wanted = steps(alloc, tenant)?;
     let seen = observe(alloc, &PLAN, events, trace, group_of(tenant))?;
-    let steps = steps(alloc, tenant)?;
-    let by_itself = alone(alloc, &ALONE, group_of(tenant), &steps)?;
-    let starved = refused_for(alloc, &PLAN, events, trace, group_of(tenant))?;
-    Ok(
-        is_seen(&seen, &FIRST_REPLIES, second, &payload)
-            && is_seen(&by_itself, &FIRST_REPLIES, second, &payload)
-            && !starved,
-    )
+    let right = is_seen(&seen, &FIRST_REPLIES, second_replies(tenant), &payload);
+    match projection(alloc, &PLAN, events, trace, tenant)? {
+        None => Ok(false),
+        Some(steps) => Ok(right && are_same_steps(&steps, &wanted)),
+    }
 }
 
 /// Whether each group is, and how many answers and packets there are.
@@ -79,5 +110,40 @@ fn outcome(alloc: Global) -> Result<Option<(bool, usize, usize)>, OutOfMemory> {
 fn three_groups_in_one_frame(rt: HostRuntime) -> Result<(), Fail> {
     let found = outcome(rt.alloc())?;
     assert!(rt; found == Some((true, 29, 1)));
+    Ok(())
+}
+
+/// Whether the projection on a tenant's group in the second run is the one that is written by hand.
+fn is_told(
+    alloc: Global,
+    events: &[Event],
+    trace: &Trace,
+    tenant: u16,
+) -> Result<bool, OutOfMemory> {
+    match projection(alloc, &crash::PLAN, events, trace, tenant)? {
+        None => Ok(false),
+        Some(steps) => Ok(are_steps(&steps, crash::told(tenant))),
+    }
+}
+
+/// Whether it is for each group, and how many answers and packets there are.
+fn crash_outcome(alloc: Global) -> Result<Option<(bool, usize, usize)>, OutOfMemory> {
+    let events = crash::events(alloc)?;
+    if !are_placed(3, &events) {
+        return Ok(None);
+    }
+    let trace = run(alloc, crash::PLAN, &events)?;
+    let mut right = !trace.refused;
+    for tenant in TENANTS {
+        right = is_told(alloc, &events, &trace, tenant)? && right;
+    }
+    Ok(Some((right, trace.answers.len(), trace.packets.len())))
+}
+
+// So are three groups of different kinds when two of three nodes stop: one is noticed, the other is asked after it stopped.
+#[test]
+fn three_groups_and_two_crashes(rt: HostRuntime) -> Result<(), Fail> {
+    let found = crash_outcome(rt.alloc())?;
+    assert!(rt; found == Some((true, 47, 4)));
     Ok(())
 }

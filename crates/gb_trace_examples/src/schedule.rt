@@ -46,17 +46,22 @@ fn row(tenant: u16) -> TenantRow {
     }
 }
 
-fn spec() -> Spec {
-    let mut members = NodeSet::new();
-    members.insert(FIRST);
-    members.insert(SECOND);
+/// A group of this kind with these members.
+pub fn spec_with(kind: Kind, members: NodeSet) -> Spec {
     Spec {
-        kind: Kind::Beb,
+        kind,
         members,
         msgs: 4,
         bytes: 64,
         window: 4,
     }
+}
+
+fn spec() -> Spec {
+    let mut members = NodeSet::new();
+    members.insert(FIRST);
+    members.insert(SECOND);
+    spec_with(Kind::Beb, members)
 }
 
 fn member(addr: Addr, node: NodeId) -> Token {
@@ -74,26 +79,38 @@ fn ask(events: &mut Vec<Event>, node: NodeId, request: Request) -> Result<(), Ou
 }
 
 /// A tenant comes to a node, and its group is made there and opened.
-fn furnish(events: &mut Vec<Event>, node: NodeId, tenant: u16) -> Result<(), OutOfMemory> {
+pub fn furnish(
+    events: &mut Vec<Event>,
+    node: NodeId,
+    tenant: u16,
+    spec: Spec,
+) -> Result<(), OutOfMemory> {
     let addr = group_of(tenant);
     let admin = token(&PLAN.admin_key, Need::Admin);
     ask(events, node, Request::AddTenant(admin, row(tenant)))?;
-    ask(events, node, Request::Make(owner(addr), addr, spec()))?;
+    ask(events, node, Request::Make(owner(addr), addr, spec))?;
     ask(events, node, Request::OpenGroup(owner(addr), addr))
 }
 
-/// A group says the number of its tenant.
-fn say(alloc: Global, events: &mut Vec<Event>, tenant: u16) -> Result<(), OutOfMemory> {
+/// A group says the number of its tenant at a node.
+pub fn say(
+    alloc: Global,
+    events: &mut Vec<Event>,
+    node: NodeId,
+    tenant: u16,
+) -> Result<(), OutOfMemory> {
     let addr = group_of(tenant);
     let payload = Payload::from_slice(alloc, &tenant.to_be_bytes())?;
-    ask(
-        events,
-        FIRST,
-        Request::Say(member(addr, FIRST), addr, payload),
-    )
+    let said = Request::Say(member(addr, node), addr, payload);
+    ask(events, node, said)
 }
 
-fn fetch(events: &mut Vec<Event>, node: NodeId, tenant: u16) -> Result<(), OutOfMemory> {
+pub fn drop_group(events: &mut Vec<Event>, node: NodeId, tenant: u16) -> Result<(), OutOfMemory> {
+    let addr = group_of(tenant);
+    ask(events, node, Request::DropGroup(owner(addr), addr))
+}
+
+pub fn fetch(events: &mut Vec<Event>, node: NodeId, tenant: u16) -> Result<(), OutOfMemory> {
     let addr = group_of(tenant);
     ask(
         events,
@@ -109,11 +126,11 @@ pub fn events(alloc: Global) -> Result<Vec<Event>, OutOfMemory> {
     let mut events = Vec::new(alloc);
     for node in [FIRST, SECOND] {
         for tenant in TENANTS {
-            furnish(&mut events, node, tenant)?;
+            furnish(&mut events, node, tenant, spec())?;
         }
     }
     for tenant in TENANTS {
-        say(alloc, &mut events, tenant)?;
+        say(alloc, &mut events, FIRST, tenant)?;
     }
     events.push(Event::At(FIRST, NodeEvent::Pack(SECOND)))?;
     events.push(Event::Arrive(1))?;
@@ -121,8 +138,7 @@ pub fn events(alloc: Global) -> Result<Vec<Event>, OutOfMemory> {
     let addr = group_of(7);
     let forged = Request::Fetch(member(addr, SECOND), addr, 0, 16);
     ask(&mut events, FIRST, forged)?;
-    let gone = group_of(9);
-    ask(&mut events, SECOND, Request::DropGroup(owner(gone), gone))?;
+    drop_group(&mut events, SECOND, 9)?;
     fetch(&mut events, SECOND, 7)?;
     events.push(Event::At(SECOND, NodeEvent::Stop))?;
     fetch(&mut events, SECOND, 8)?;

@@ -1,6 +1,6 @@
 // What is seen of a group, in short.
 use gb_alone::observation::{NodeSeen, Observation};
-use gb_types::entry::Entries;
+use gb_types::entry::{Entries, Entry};
 use gb_types::refusal::Refusal;
 use gb_types::reply::Reply;
 
@@ -70,4 +70,62 @@ pub fn is_seen(seen: &Observation, first: &[Got], second: &[Got], payload: &[u8]
         }
         _ => false,
     }
+}
+
+fn is_same_entry(entry: &Entry, other: &Entry) -> bool {
+    entry.origin.number == other.origin.number
+        && entry.seq == other.seq
+        && entry.payload.as_slice() == other.payload.as_slice()
+}
+
+fn are_same_entries(entries: &[Entry], others: &[Entry]) -> bool {
+    if entries.len() != others.len() {
+        return false;
+    }
+    for i in 0..entries.len() {
+        if !is_same_entry(&entries[i], &others[i]) {
+            return false;
+        }
+    }
+    true
+}
+
+fn is_same_reply(reply: &Reply, other: &Reply) -> bool {
+    match (reply, other) {
+        (Reply::Log(a), Reply::Log(b)) => are_same_entries(a.as_slice(), b.as_slice()),
+        _ => short_of(reply) == short_of(other),
+    }
+}
+
+fn is_same_node(node: &NodeSeen, other: &NodeSeen) -> bool {
+    let (replies, wanted) = (node.replies(), other.replies());
+    let (carried, expected) = (node.carried(), other.carried());
+    if replies.len() != wanted.len() || carried.len() != expected.len() {
+        return false;
+    }
+    for i in 0..replies.len() {
+        if !is_same_reply(&replies[i], &wanted[i]) {
+            return false;
+        }
+    }
+    for b in 0..carried.len() {
+        if !are_same_entries(carried[b].as_slice(), expected[b].as_slice()) {
+            return false;
+        }
+    }
+    true
+}
+
+/// Whether the same is seen at each of as many nodes.
+pub fn is_same(seen: &Observation, other: &Observation) -> bool {
+    let (nodes, others) = (seen.nodes(), other.nodes());
+    if nodes.len() != others.len() {
+        return false;
+    }
+    for a in 0..nodes.len() {
+        if !is_same_node(&nodes[a], &others[a]) {
+            return false;
+        }
+    }
+    true
 }

@@ -1,0 +1,163 @@
+//! What requests give a group in the projection of a run.
+ghost use Rattle.std.specs.Prelude.{◌≡◌, ◌≤◌, ◌++◌, [], ◌∷◌, true, IfOk, OnOk, if◌then◌else◌};
+ghost use Rattle.std.specs.Option.{option_to_list};
+ghost use Rattle.gb_types.specs.declared.limits.TheConstants.{NODES as MOST, SILENCE_MIN as LEAST};
+ghost use Rattle.gb_types.specs.declared.address.Addr.{Addr as AnyAddr};
+ghost use Rattle.gb_alone.specs.declared.event.GroupEvent.TheVariants.{Stop as Ends};
+ghost use Rattle.gb_cluster.specs.ClusterValue.{node_plan};
+ghost use Rattle.gb_isolation.specs.Project.{command_for, is_named, own_requested, tenant_given, requested, with_stop, is_met, asked};
+ghost use Rattle.gb_trace.specs.Deeds.{past_in};
+
+use crate::deed::Deed;
+use crate::noticed::add_noticed;
+use crate::past::{is_own, made, was_met, was_stopped};
+use crate::steps::{add, at};
+use gb_alone::event::{GroupEvent, GroupStep};
+use gb_cap::hmac::HmacKey;
+use gb_cluster::plan::ClusterPlan;
+use gb_rules::reserve::Reserve;
+use gb_types::address::Addr;
+use gb_types::memory::OutOfMemory;
+use gb_types::node::NodeId;
+use gb_types::reply::Reply;
+use gb_types::request::Request;
+use std::alloc::Global;
+
+/// The group's command that a request is.
+fn command(alloc: Global, a: NodeId, request: &Request) -> Result<Option<GroupStep>, OutOfMemory>
+    ensures { (addr : AnyAddr) → IfOk result (λ s. option_to_list s ≡ command_for addr a request.now) }
+{
+    Ok(match request {
+        Request::AddTenant(_, _) => None,
+        Request::Make(_, _, spec) => Some(at(a, GroupEvent::Make(spec.duplicate()))),
+        Request::OpenGroup(_, _) => Some(at(a, GroupEvent::Open)),
+        Request::ShutGroup(_, _) => Some(at(a, GroupEvent::Shut)),
+        Request::DropGroup(_, _) => Some(at(a, GroupEvent::Drop)),
+        Request::Say(_, _, payload) => Some(at(a, GroupEvent::Say(payload.duplicate(alloc)?))),
+        Request::Fetch(_, _, from, most) => Some(at(a, GroupEvent::Fetch(*from, *most))),
+    })
+}
+
+/// Adds what a request of the group with its reply gives it at a running node: made, it learns of the members that are
+/// noticed there.
+fn of_own(
+    alloc: Global,
+    plan: &ClusterPlan,
+    addr: Addr,
+    key: &HmacKey,
+    before: &[Deed],
+    a: NodeId,
+    request: &Request,
+    reply: &Reply,
+    steps: &mut Vec<GroupStep>,
+) -> Result<(), OutOfMemory>
+    requires named { is_named addr request.now ≡ true }
+    requires few { plan.now.nodes ≤ MOST }
+    requires least { LEAST ≤ plan.now.silence }
+    requires key { key.now ≡ plan.now.cluster_key }
+    ensures { OnOk result (steps.new.items ≡ steps.old.items ++ own_requested (node_plan plan.now a) addr (past_in a before.now) request.now reply.now) }
+{
+    add(command(alloc, a, request)?, steps)?;
+    match made(addr, request, reply) {
+        None => Ok(()),
+        Some(spec) => add_noticed(plan, key, a, spec, before, steps),
+    }
+}
+
+/// What a request with its reply tells the group of its tenant.
+fn tenant(addr: Addr, a: NodeId, request: &Request, reply: &Reply) -> Option<GroupStep>
+    ensures { option_to_list result ≡ tenant_given addr a request.now reply.now }
+{
+    match request {
+        Request::AddTenant(_, row) => match reply {
+            Reply::Done => {
+                if row.tenant == addr.tenant {
+                    Some(at(a, GroupEvent::Tenant(Reserve::of(row))))
+                } else {
+                    None
+                }
+            }
+            _ => None,
+        },
+        _ => None,
+    }
+}
+
+/// Adds what a request with its reply gives the group at a running node.
+fn of_running(
+    alloc: Global,
+    plan: &ClusterPlan,
+    addr: Addr,
+    key: &HmacKey,
+    before: &[Deed],
+    a: NodeId,
+    request: &Request,
+    reply: &Reply,
+    steps: &mut Vec<GroupStep>,
+) -> Result<(), OutOfMemory>
+    requires few { plan.now.nodes ≤ MOST }
+    requires least { LEAST ≤ plan.now.silence }
+    requires key { key.now ≡ plan.now.cluster_key }
+    ensures { OnOk result (steps.new.items ≡ steps.old.items ++ requested (node_plan plan.now a) addr (past_in a before.now) request.now reply.now) }
+{
+    add(tenant(addr, a, request, reply), steps)?;
+    if is_own(plan, addr, a, before, request) {
+        of_own(alloc, plan, addr, key, before, a, request, reply, steps)?;
+    }
+    Ok(())
+}
+
+/// Adds the node's stop, unless a request of the group met it before.
+fn add_stop(a: NodeId, met: bool, steps: &mut Vec<GroupStep>) -> Result<(), OutOfMemory>
+    ensures { OnOk result (steps.new.items ≡ steps.old.items ++ (if met then [] else record { node = a; event = Ends } ∷ [])) }
+{
+    if !met {
+        steps.push(at(a, GroupEvent::Stop))?;
+    }
+    Ok(())
+}
+
+/// Adds what a request of the group gives it at a node that has stopped: the first of them shows the stop.
+fn of_stopped(
+    alloc: Global,
+    plan: &ClusterPlan,
+    addr: Addr,
+    before: &[Deed],
+    a: NodeId,
+    request: &Request,
+    steps: &mut Vec<GroupStep>,
+) -> Result<(), OutOfMemory>
+    ensures { OnOk result (steps.new.items ≡ steps.old.items ++ with_stop a (is_met (node_plan plan.now a) addr (past_in a before.now)) (command_for addr a request.now)) }
+{
+    if let Some(step) = command(alloc, a, request)? {
+        add_stop(a, was_met(plan, addr, a, before), steps)?;
+        steps.push(step)?;
+    }
+    Ok(())
+}
+
+/// Adds what a request with its reply gives the group, after what happened before.
+pub(crate) fn of_request(
+    alloc: Global,
+    plan: &ClusterPlan,
+    addr: Addr,
+    key: &HmacKey,
+    before: &[Deed],
+    a: NodeId,
+    request: &Request,
+    reply: &Reply,
+    steps: &mut Vec<GroupStep>,
+) -> Result<(), OutOfMemory>
+    requires few { plan.now.nodes ≤ MOST }
+    requires least { LEAST ≤ plan.now.silence }
+    requires key { key.now ≡ plan.now.cluster_key }
+    ensures { OnOk result (steps.new.items ≡ steps.old.items ++ asked (node_plan plan.now a) addr (past_in a before.now) request.now reply.now) }
+{
+    if !was_stopped(a, before) {
+        return of_running(alloc, plan, addr, key, before, a, request, reply, steps);
+    }
+    if is_own(plan, addr, a, before, request) {
+        return of_stopped(alloc, plan, addr, before, a, request, steps);
+    }
+    Ok(())
+}

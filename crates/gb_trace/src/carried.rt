@@ -1,0 +1,227 @@
+//! What packets give a group in the projection of a run.
+ghost use Rattle.std.specs.Prelude.{◌≡◌, ◌++◌, [], OnOk, length, reverse, if◌then◌else◌};
+ghost use Rattle.std.specs.List.{flat_map};
+ghost use Rattle.std.specs.Option.{option_to_list};
+ghost use Rattle.gb_node.specs.Past as packets;
+ghost use Rattle.gb_node.specs.NodeStep.{node_numbered};
+ghost use Rattle.gb_isolation.specs.Project.{items_of, frames_in, took, comes, acknowledged, is_new_ack, is_new_frame, acknowledges, brings, arrived};
+ghost use Rattle.gb_trace.specs.Counts.{counts_acknowledged};
+ghost use Rattle.gb_trace.specs.Deeds.{past_in};
+
+use crate::deed::Deed;
+use crate::frames::{counts_to, first_of, has_come, was_acknowledged};
+use crate::reading::{count_in, read, sender};
+use crate::steps::at;
+use gb_alone::event::{GroupEvent, GroupStep};
+use gb_cap::hmac::HmacKey;
+use gb_cluster::plan::ClusterPlan;
+use gb_frame::view::PacketView;
+use gb_link::ack::covers;
+use gb_types::address::Addr;
+use gb_types::memory::OutOfMemory;
+use gb_types::node::NodeId;
+use std::alloc::Global;
+
+/// What a packet that was packed for the other node gives the group.
+#[tactic(auto, using(crate::proofs::CountLemmas::took_some, crate::proofs::CountLemmas::text_none, crate::proofs::CountLemmas::text_one))]
+pub(crate) fn of_packed(
+    addr: Addr,
+    key: &HmacKey,
+    a: NodeId,
+    b: NodeId,
+    text: &[u8],
+) -> Option<GroupStep>
+    ensures { option_to_list result ≡ took a b (length (items_of addr (frames_in key.now text.now))) }
+{
+    let packet = read(key, text)?;
+    let count = count_in(addr, &packet);
+    if count == 0 {
+        return None;
+    }
+    Some(at(a, GroupEvent::Took(b, count)))
+}
+
+/// Adds that so many items are acknowledged from a place on, where there are any.
+#[tactic(auto, using(crate::proofs::CountLemmas::acknowledged_some))]
+fn add_acknowledged(
+    a: NodeId,
+    b: NodeId,
+    place: u64,
+    count: u64,
+    steps: &mut Vec<GroupStep>,
+) -> Result<(), OutOfMemory>
+    ensures { OnOk result (steps.new.items ≡ steps.old.items ++ acknowledged a b place count) }
+{
+    if count != 0 {
+        steps.push(at(a, GroupEvent::Done(b, place, count)))?;
+    }
+    Ok(())
+}
+
+/// Adds that so many items come, with the places after this one. `Err` also where there is no number for them.
+fn add_comes(
+    from: NodeId,
+    to: NodeId,
+    place: u64,
+    count: u64,
+    steps: &mut Vec<GroupStep>,
+) -> Result<(), OutOfMemory>
+    ensures { OnOk result (steps.new.items ≡ steps.old.items ++ comes from to place count) }
+{
+    if count == 0 {
+        return Ok(());
+    }
+    let Some(next) = place.checked_add(1) else {
+        return Err(OutOfMemory);
+    };
+    steps.push(at(to, GroupEvent::Came(from, next)))?;
+    add_comes(from, to, next, count - 1, steps)
+}
+
+/// Whether the packet acknowledges the frame with this number for the first time.
+fn is_new(key: &HmacKey, before: &[Deed], a: NodeId, packet: &PacketView<'_>, number: u64) -> bool
+    ensures { result ≡ is_new_ack key.now (past_in a before.now) packet.now number }
+{
+    let head = packet.head();
+    covers(head.base, head.mask, number) && !was_acknowledged(key, a, head.from, number, before)
+}
+
+/// Adds that so many items are acknowledged from a place on, those of a frame, where the packet acknowledges it for the
+/// first time.
+fn add_new(
+    key: &HmacKey,
+    before: &[Deed],
+    a: NodeId,
+    packet: &PacketView<'_>,
+    number: u64,
+    place: u64,
+    count: u64,
+    steps: &mut Vec<GroupStep>,
+) -> Result<(), OutOfMemory>
+    ensures { OnOk result (steps.new.items ≡ steps.old.items ++ (if is_new_ack key.now (past_in a before.now) packet.now number then acknowledged a (node_numbered packet.now.from) place count else [])) }
+{
+    if is_new(key, before, a, packet, number) {
+        return add_acknowledged(a, sender(packet), place, count, steps);
+    }
+    Ok(())
+}
+
+/// Adds what the packet's acknowledgement gives the group, where the frames for its sender have so many items of it.
+/// `Err` also where there is no number for them.
+fn add_all_acknowledged(
+    key: &HmacKey,
+    before: &[Deed],
+    a: NodeId,
+    packet: &PacketView<'_>,
+    counts: &[u64],
+    steps: &mut Vec<GroupStep>,
+) -> Result<(), OutOfMemory>
+    ensures { OnOk result (steps.new.items ≡ steps.old.items ++ counts_acknowledged a (node_numbered packet.now.from) (is_new_ack key.now (past_in a before.now) packet.now) 1 0 counts.now) }
+{
+    let mut place = 1u64;
+    for i in 0..counts.len() {
+        add_new(
+            key,
+            before,
+            a,
+            packet,
+            i as u64 + 1,
+            place,
+            counts[i],
+            steps,
+        )?;
+        let Some(next) = place.checked_add(counts[i]) else {
+            return Err(OutOfMemory);
+        };
+        place = next;
+    }
+    Ok(())
+}
+
+/// Adds what the packet's acknowledgement gives the group.
+fn of_acknowledgement(
+    alloc: Global,
+    plan: &ClusterPlan,
+    addr: Addr,
+    key: &HmacKey,
+    before: &[Deed],
+    a: NodeId,
+    packet: &PacketView<'_>,
+    steps: &mut Vec<GroupStep>,
+) -> Result<(), OutOfMemory>
+    requires { key.now ≡ plan.now.cluster_key }
+    ensures { OnOk result (steps.new.items ≡ steps.old.items ++ acknowledges plan.now addr (past_in a before.now) a packet.now) }
+{
+    let counts = counts_to(alloc, addr, key, a, sender(packet), before)?;
+    add_all_acknowledged(key, before, a, packet, counts.as_slice(), steps)
+}
+
+/// Adds what the packet's frame gives the group: its items come, with the places after those of the frames before it.
+#[tactic(auto, using(crate::proofs::CountLemmas::offset_is))]
+fn of_frame(
+    alloc: Global,
+    plan: &ClusterPlan,
+    addr: Addr,
+    key: &HmacKey,
+    before: &[Deed],
+    a: NodeId,
+    packet: &PacketView<'_>,
+    steps: &mut Vec<GroupStep>,
+) -> Result<(), OutOfMemory>
+    requires { key.now ≡ plan.now.cluster_key }
+    ensures { OnOk result (steps.new.items ≡ steps.old.items ++ brings plan.now addr (reverse before.now) a packet.now) }
+{
+    let from = sender(packet);
+    let counts = counts_to(alloc, addr, key, from, a, before)?;
+    let place = first_of(counts.as_slice(), packet.head().frame.saturating_sub(1))?;
+    add_comes(from, a, place, count_in(addr, packet), steps)
+}
+
+/// Whether the packet has a frame, and none with its number came from its sender before.
+fn has_new_frame(key: &HmacKey, before: &[Deed], a: NodeId, packet: &PacketView<'_>) -> bool
+    ensures { result ≡ is_new_frame key.now (past_in a before.now) packet.now }
+{
+    let head = packet.head();
+    head.frame != 0 && !has_come(key, a, head.from, head.frame, before)
+}
+
+/// Adds what the packet gives the group: its acknowledgement counts first.
+fn of_packet(
+    alloc: Global,
+    plan: &ClusterPlan,
+    addr: Addr,
+    key: &HmacKey,
+    before: &[Deed],
+    a: NodeId,
+    packet: &PacketView<'_>,
+    steps: &mut Vec<GroupStep>,
+) -> Result<(), OutOfMemory>
+    requires { key.now ≡ plan.now.cluster_key }
+    ensures { OnOk result (steps.new.items ≡ steps.old.items ++ arrived plan.now addr (reverse before.now) a packet.now) }
+{
+    of_acknowledgement(alloc, plan, addr, key, before, a, packet, steps)?;
+    if has_new_frame(key, before, a, packet) {
+        of_frame(alloc, plan, addr, key, before, a, packet, steps)?;
+    }
+    Ok(())
+}
+
+/// Adds what bytes that a running node took give the group, after what happened before.
+pub(crate) fn of_taken(
+    alloc: Global,
+    plan: &ClusterPlan,
+    addr: Addr,
+    key: &HmacKey,
+    before: &[Deed],
+    a: NodeId,
+    bytes: &[u8],
+    steps: &mut Vec<GroupStep>,
+) -> Result<(), OutOfMemory>
+    requires { key.now ≡ plan.now.cluster_key }
+    ensures { OnOk result (steps.new.items ≡ steps.old.items ++ flat_map (arrived plan.now addr (reverse before.now) a) (packets.read plan.now.cluster_key bytes.now)) }
+{
+    match read(key, bytes) {
+        None => Ok(()),
+        Some(packet) => of_packet(alloc, plan, addr, key, before, a, &packet, steps),
+    }
+}

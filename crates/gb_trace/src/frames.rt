@@ -1,0 +1,140 @@
+//! Questions about the frames of the links, asked of all that happened in a run so far, in order.
+ghost use Rattle.std.specs.Prelude.{◌≡◌, ◌≤◌, ◌++◌, IfOk, OnOk, length, map, sum, take, if◌then◌else◌};
+ghost use Rattle.std.specs.List.{list_any};
+ghost use Rattle.gb_node.specs.Past.{came as taken_by, packed_for, frames_to, is_ack, is_acked, is_frame};
+ghost use Rattle.gb_isolation.specs.Project as projected;
+ghost use Rattle.gb_isolation.specs.Project.{items_in};
+ghost use Rattle.gb_trace.specs.Deeds.{past_in};
+
+use crate::deed::Deed;
+use crate::reading::{came, count_in, packed};
+use gb_cap::hmac::HmacKey;
+use gb_link::ack::covers;
+use gb_types::address::Addr;
+use gb_types::memory::OutOfMemory;
+use gb_types::node::NodeId;
+use std::alloc::Global;
+
+/// Whether this took a packet of the other node with this frame number.
+fn has_frame(key: &HmacKey, b: NodeId, number: u64, deed: &Deed) -> bool
+    ensures { result ≡ list_any (is_frame b.number number) (taken_by key.now deed.now.event deed.now.answer) }
+{
+    match came(key, deed) {
+        None => false,
+        Some(packet) => {
+            let head = packet.head();
+            head.from.number == b.number && head.frame == number
+        }
+    }
+}
+
+/// Whether the node took a packet of the other with this frame number.
+#[tactic(auto, using(crate::proofs::PastLemmas::here, crate::proofs::PastLemmas::elsewhere, crate::proofs::PastLemmas::whole), unfolding(gb_isolation::specs::Project::has_come, gb_cluster::specs::Run::past_at))]
+pub(crate) fn has_come(key: &HmacKey, a: NodeId, b: NodeId, number: u64, deeds: &[Deed]) -> bool
+    ensures { result ≡ projected.has_come key.now b.number number (past_in a deeds.now) }
+{
+    let mut come = false;
+    for i in 0..deeds.len() {
+        if deeds[i].is_at(a) {
+            come = has_frame(key, b, number, &deeds[i]) || come;
+        }
+    }
+    come
+}
+
+/// Whether this took a packet of the other node that acknowledges this frame.
+fn acknowledges(key: &HmacKey, b: NodeId, number: u64, deed: &Deed) -> bool
+    ensures { result ≡ list_any (is_ack b.number number) (taken_by key.now deed.now.event deed.now.answer) }
+{
+    match came(key, deed) {
+        None => false,
+        Some(packet) => {
+            let head = packet.head();
+            head.from.number == b.number && covers(head.base, head.mask, number)
+        }
+    }
+}
+
+/// How many frames this packed for the other node: one, where it did.
+fn frames_packed(key: &HmacKey, b: NodeId, deed: &Deed) -> usize
+    ensures count { result ≡ length (packed_for key.now b.number deed.now.event deed.now.answer) }
+    ensures most { result ≤ 1 }
+{
+    match packed(key, b, deed) {
+        None => 0,
+        Some(_) => 1,
+    }
+}
+
+/// Whether the node took an acknowledgement of the frame for the other with this number, after it had packed it.
+#[tactic(auto, using(crate::proofs::PastLemmas::here, crate::proofs::PastLemmas::elsewhere, crate::proofs::PastLemmas::whole), unfolding(gb_node::specs::Past::is_acked, gb_node::specs::Past::frames_to, gb_cluster::specs::Run::past_at))]
+pub(crate) fn was_acknowledged(
+    key: &HmacKey,
+    a: NodeId,
+    b: NodeId,
+    number: u64,
+    deeds: &[Deed],
+) -> bool
+    ensures { result ≡ is_acked key.now b.number number (past_in a deeds.now) }
+{
+    let mut frames = 0usize;
+    let mut acknowledged = false;
+    for i in 0..deeds.len() {
+        if deeds[i].is_at(a) {
+            acknowledged = acknowledged
+                || (number <= frames as u64 && acknowledges(key, b, number, &deeds[i]));
+            frames += frames_packed(key, b, &deeds[i]);
+        }
+    }
+    acknowledged
+}
+
+/// Adds how many items of the group the frame has that this packed for the other node, if it did.
+fn add_count(
+    addr: Addr,
+    key: &HmacKey,
+    b: NodeId,
+    deed: &Deed,
+    counts: &mut Vec<u64>,
+) -> Result<(), OutOfMemory>
+    ensures { OnOk result (counts.new.items ≡ counts.old.items ++ map (λ f. length (items_in addr f)) (packed_for key.now b.number deed.now.event deed.now.answer)) }
+{
+    if let Some(packet) = packed(key, b, deed) {
+        counts.push(count_in(addr, &packet))?;
+    }
+    Ok(())
+}
+
+/// How many items of the group each frame has that the node packed for the other, in order.
+#[tactic(auto, using(crate::proofs::PastLemmas::here, crate::proofs::PastLemmas::elsewhere, crate::proofs::PastLemmas::whole), unfolding(gb_node::specs::Past::frames_to, gb_cluster::specs::Run::past_at))]
+pub(crate) fn counts_to(
+    alloc: Global,
+    addr: Addr,
+    key: &HmacKey,
+    a: NodeId,
+    b: NodeId,
+    deeds: &[Deed],
+) -> Result<Vec<u64>, OutOfMemory>
+    ensures { IfOk result (λ v. v.items ≡ map (λ f. length (items_in addr f)) (frames_to key.now b.number (past_in a deeds.now))) }
+{
+    let mut counts = Vec::new(alloc);
+    for i in 0..deeds.len() {
+        if deeds[i].is_at(a) {
+            add_count(addr, key, b, &deeds[i], &mut counts)?;
+        }
+    }
+    Ok(counts)
+}
+
+/// How many items the first frames have together, so many. `Err` where there is no number for them.
+pub(crate) fn first_of(counts: &[u64], frames: u64) -> Result<u64, OutOfMemory>
+    ensures { IfOk result (λ n. n ≡ sum (take frames counts.now)) }
+{
+    let mut items = 0u64;
+    for i in 0..counts.len() {
+        if (i as u64) < frames {
+            items = items.checked_add(counts[i]).ok_or(OutOfMemory)?;
+        }
+    }
+    Ok(items)
+}

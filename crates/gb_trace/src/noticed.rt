@@ -1,0 +1,94 @@
+//! The notices that the projection of a run on a group has.
+ghost use Rattle.std.specs.Prelude.{◌≡◌, ◌≤◌, ◌++◌, ◌&&◌, [], ◌∷◌, OnOk, if◌then◌else◌};
+ghost use Rattle.std.specs.FinSet as set;
+ghost use Rattle.gb_types.specs.declared.limits.TheConstants.{NODES as MOST, SILENCE_MIN as LEAST};
+ghost use Rattle.gb_rules.specs.Group.{is_other};
+ghost use Rattle.gb_alone.specs.declared.event.GroupEvent.TheVariants.{Notice};
+ghost use Rattle.gb_node.specs.PastGroups.{noticed_in};
+ghost use Rattle.gb_cluster.specs.ClusterValue.{node_plan};
+ghost use Rattle.gb_isolation.specs.Project.{notices, ticked};
+ghost use Rattle.gb_isolation.specs.Project as projected;
+ghost use Rattle.gb_trace.specs.Deeds.{past_in};
+
+use crate::deed::Deed;
+use crate::past::made_with;
+use crate::silence::was_noticed;
+use crate::steps::at;
+use gb_alone::event::{GroupEvent, GroupStep};
+use gb_cap::hmac::HmacKey;
+use gb_cluster::plan::ClusterPlan;
+use gb_types::address::Addr;
+use gb_types::limits::NODES;
+use gb_types::memory::OutOfMemory;
+use gb_types::node::{NodeId, NodeSet};
+use gb_types::spec::Spec;
+
+/// Adds the notice of a node, where it is another member and is new.
+fn add_notice(
+    a: NodeId,
+    spec: &Spec,
+    other: NodeId,
+    new: bool,
+    steps: &mut Vec<GroupStep>,
+) -> Result<(), OutOfMemory>
+    ensures { OnOk result (steps.new.items ≡ steps.old.items ++ (if is_other spec.now a.number other.number && new then record { node = a; event = Notice other } ∷ [] else [])) }
+{
+    if spec.members.contains(other) && other.number != a.number && new {
+        steps.push(at(a, GroupEvent::Notice(other)))?;
+    }
+    Ok(())
+}
+
+/// Adds the notices of the members that are noticed at the node.
+pub(crate) fn add_noticed(
+    plan: &ClusterPlan,
+    key: &HmacKey,
+    a: NodeId,
+    spec: &Spec,
+    before: &[Deed],
+    steps: &mut Vec<GroupStep>,
+) -> Result<(), OutOfMemory>
+    requires few { plan.now.nodes ≤ MOST }
+    requires least { LEAST ≤ plan.now.silence }
+    requires key { key.now ≡ plan.now.cluster_key }
+    ensures { OnOk result (steps.new.items ≡ steps.old.items ++ notices a spec.now (set.contains (noticed_in (node_plan plan.now a) (past_in a before.now)))) }
+{
+    for b in 0..NODES {
+        let other = NodeId::new(b as u8);
+        let new = was_noticed(plan, key, a, other, before);
+        add_notice(a, spec, other, new, steps)?;
+    }
+    Ok(())
+}
+
+/// Adds the notices of the members that are found.
+fn add_found(
+    a: NodeId,
+    spec: &Spec,
+    found: &NodeSet,
+    steps: &mut Vec<GroupStep>,
+) -> Result<(), OutOfMemory>
+    ensures { OnOk result (steps.new.items ≡ steps.old.items ++ notices a spec.now (set.contains found.now)) }
+{
+    for b in 0..NODES {
+        let other = NodeId::new(b as u8);
+        add_notice(a, spec, other, found.contains(other), steps)?;
+    }
+    Ok(())
+}
+
+/// Adds what a tick that found these nodes gives the group, where it was made at the node.
+pub(crate) fn of_tick(
+    addr: Addr,
+    before: &[Deed],
+    a: NodeId,
+    found: &NodeSet,
+    steps: &mut Vec<GroupStep>,
+) -> Result<(), OutOfMemory>
+    ensures { OnOk result (steps.new.items ≡ steps.old.items ++ ticked a (set.contains found.now) (projected.made_with addr (past_in a before.now))) }
+{
+    match made_with(addr, a, before) {
+        None => Ok(()),
+        Some(spec) => add_found(a, spec, found, steps),
+    }
+}

@@ -1,0 +1,103 @@
+//! The projection of a run on one group, computed plainly from its meaning.
+ghost use Rattle.std.specs.Prelude.{◌≡◌, ◌≤◌, ◌++◌, reverse, IfOk, OnOk};
+ghost use Rattle.gb_types.specs.declared.limits.TheConstants.{NODES as MOST, SILENCE_MIN as LEAST};
+ghost use Rattle.gb_isolation.specs.Project.{gives};
+ghost use Rattle.gb_isolation.specs.Project as projected;
+ghost use Rattle.gb_trace.specs.Trace.{run_of};
+
+use crate::asked::of_request;
+use crate::carried::{of_packed, of_taken};
+use crate::deed::{Deed, deeds_of};
+use crate::noticed::of_tick;
+use crate::steps::add;
+use crate::trace::Trace;
+use gb_alone::event::GroupStep;
+use gb_cap::hmac::HmacKey;
+use gb_cluster::event::Event;
+use gb_cluster::plan::ClusterPlan;
+use gb_node::answer::{NodeAnswer, PacketAnswer, Sent, Ticked};
+use gb_node::event::NodeEvent;
+use gb_types::address::Addr;
+use gb_types::memory::OutOfMemory;
+use std::alloc::Global;
+
+/// Adds what this gives the group, after what happened before.
+fn of_deed(
+    alloc: Global,
+    plan: &ClusterPlan,
+    addr: Addr,
+    key: &HmacKey,
+    before: &[Deed],
+    deed: &Deed,
+    steps: &mut Vec<GroupStep>,
+) -> Result<(), OutOfMemory>
+    requires few { plan.now.nodes ≤ MOST }
+    requires least { LEAST ≤ plan.now.silence }
+    requires key { key.now ≡ plan.now.cluster_key }
+    ensures { OnOk result (steps.new.items ≡ steps.old.items ++ gives plan.now addr (reverse before.now) deed.now.node deed.now.event deed.now.answer) }
+{
+    let a = deed.node();
+    match deed.event() {
+        NodeEvent::Request(request) => match deed.answer() {
+            NodeAnswer::Reply(reply) => {
+                of_request(alloc, plan, addr, key, before, a, request, reply, steps)
+            }
+            _ => Ok(()),
+        },
+        NodeEvent::Pack(b) => match deed.answer() {
+            NodeAnswer::Sent(Sent::Packet(text)) => {
+                add(of_packed(addr, key, a, *b, text.as_slice()), steps)
+            }
+            _ => Ok(()),
+        },
+        NodeEvent::Packet(bytes) => match deed.answer() {
+            NodeAnswer::Taken(PacketAnswer::Good(_)) => {
+                of_taken(alloc, plan, addr, key, before, a, bytes.as_slice(), steps)
+            }
+            _ => Ok(()),
+        },
+        NodeEvent::Tick => match deed.answer() {
+            NodeAnswer::Ticked(Ticked::Noticed(found)) => of_tick(addr, before, a, found, steps),
+            _ => Ok(()),
+        },
+        _ => Ok(()),
+    }
+}
+
+/// What of all this concerns the group.
+#[tactic(auto, using(crate::proofs::PastLemmas::newest, crate::proofs::PastLemmas::whole), unfolding(gb_isolation::specs::Project::project))]
+fn of_deeds(
+    alloc: Global,
+    plan: &ClusterPlan,
+    addr: Addr,
+    deeds: &[Deed],
+) -> Result<Vec<GroupStep>, OutOfMemory>
+    requires few { plan.now.nodes ≤ MOST }
+    requires least { LEAST ≤ plan.now.silence }
+    ensures { IfOk result (λ v. v.items ≡ projected.project plan.now addr (reverse deeds.now)) }
+{
+    let key = HmacKey::new(&plan.cluster_key);
+    let mut steps = Vec::new(alloc);
+    for i in 0..deeds.len() {
+        of_deed(alloc, plan, addr, &key, &deeds[..i], &deeds[i], &mut steps)?;
+    }
+    Ok(steps)
+}
+
+/// The projection of a run on the group: what concerns it of events, answers and packets, in order. Events beyond the
+/// answers do not count, nor answers beyond the events. `Err` also where more than 2^64 - 1 items of the group are
+/// carried, since no more have numbers.
+pub fn project(
+    alloc: Global,
+    plan: &ClusterPlan,
+    events: &[Event],
+    trace: &Trace,
+    addr: Addr,
+) -> Result<Vec<GroupStep>, OutOfMemory>
+    requires few { plan.now.nodes ≤ MOST }
+    requires least { LEAST ≤ plan.now.silence }
+    ensures { IfOk result (λ v. v.items ≡ projected.project plan.now addr (run_of events.now trace.now.answers.items trace.now.packets.items)) }
+{
+    let deeds = deeds_of(alloc, events, &trace.answers, &trace.packets)?;
+    of_deeds(alloc, plan, addr, &deeds)
+}

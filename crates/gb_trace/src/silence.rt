@@ -1,0 +1,93 @@
+//! For how long nodes were silent, asked of all that happened in a run so far, in order.
+ghost use Rattle.std.specs.Prelude.{◌≡◌, ◌≤◌, ◌||◌, [], ◌∷◌, nat_le, if◌then◌else◌};
+ghost use Rattle.std.specs.FinSet as set;
+ghost use Rattle.std.specs.List.{list_any};
+ghost use Rattle.gb_types.specs.declared.limits.TheConstants.{NODES as MOST, SILENCE_MIN as LEAST};
+ghost use Rattle.gb_detect.specs.Silence.{Tick, is_noticed};
+ghost use Rattle.gb_node.specs.Past.{came as taken_by, ticks as ticked_by, watched};
+ghost use Rattle.gb_node.specs.PastGroups.{noticed_in};
+ghost use Rattle.gb_cluster.specs.ClusterValue.{node_plan};
+ghost use Rattle.gb_trace.specs.Deeds.{is_from, past_in};
+
+use crate::deed::Deed;
+use crate::reading::came;
+use gb_cap::hmac::HmacKey;
+use gb_cluster::plan::ClusterPlan;
+use gb_detect::laws::noticed_by_calls;
+use gb_node::answer::{NodeAnswer, Ticked};
+use gb_node::event::NodeEvent;
+use gb_types::node::NodeId;
+
+/// Whether the time ticked.
+fn ticks(deed: &Deed) -> bool
+    ensures { ticked_by deed.now.event deed.now.answer ≡ (if result then Tick ∷ [] else []) }
+{
+    match deed.event() {
+        NodeEvent::Tick => match deed.answer() {
+            NodeAnswer::Ticked(Ticked::Noticed(_)) => true,
+            _ => false,
+        },
+        _ => false,
+    }
+}
+
+/// For how many ticks the other node was not heard, after this but for its own tick, where it was so many before.
+fn quiet_after(key: &HmacKey, b: NodeId, deed: &Deed, quiet: usize) -> usize
+    ensures { result ≡ (if list_any (is_from b.number) (taken_by key.now deed.now.event deed.now.answer) then 0 else quiet) }
+{
+    match came(key, deed) {
+        None => quiet,
+        Some(packet) => {
+            if packet.head().from.number == b.number {
+                0
+            } else {
+                quiet
+            }
+        }
+    }
+}
+
+/// Whether it was so for too long, now or before.
+fn is_silent(quiet: usize, silence: u16, before: bool) -> bool
+    ensures { result ≡ (nat_le silence quiet || before) }
+{
+    quiet >= usize::from(silence) || before
+}
+
+/// Whether the other node was not heard at the node for so many ticks, at some moment so far.
+#[tactic(auto, using(crate::proofs::PastLemmas::here, crate::proofs::PastLemmas::elsewhere, crate::proofs::PastLemmas::whole), unfolding(gb_node::specs::Past::watched, gb_cluster::specs::Run::past_at))]
+fn was_silent(key: &HmacKey, a: NodeId, b: NodeId, silence: u16, deeds: &[Deed]) -> bool
+    requires { LEAST ≤ silence }
+    ensures { result ≡ is_noticed silence b.number (watched key.now (past_in a deeds.now)) }
+{
+    let mut quiet = 0usize;
+    let mut silent = false;
+    for i in 0..deeds.len() {
+        let deed = &deeds[i];
+        if deed.is_at(a) {
+            quiet = quiet_after(key, b, deed, quiet);
+            if ticks(deed) {
+                quiet += 1;
+                silent = is_silent(quiet, silence, silent);
+            }
+        }
+    }
+    silent
+}
+
+/// Whether the other node is noticed at the node.
+pub(crate) fn was_noticed(
+    plan: &ClusterPlan,
+    key: &HmacKey,
+    a: NodeId,
+    b: NodeId,
+    deeds: &[Deed],
+) -> bool
+    requires few { plan.now.nodes ≤ MOST }
+    requires least { LEAST ≤ plan.now.silence }
+    requires key { key.now ≡ plan.now.cluster_key }
+    ensures { result ≡ set.contains (noticed_in (node_plan plan.now a) (past_in a deeds.now)) b.number }
+{
+    noticed_by_calls();
+    b.number < plan.nodes && b.number != a.number && was_silent(key, a, b, plan.silence, deeds)
+}

@@ -1,0 +1,188 @@
+// A cluster of three nodes, of which two stop, in short.
+use crate::schedule::{FIRST, SECOND, drop_group, fetch, furnish, say, spec_with};
+use crate::told::Told;
+use gb_cluster::event::Event;
+use gb_cluster::plan::ClusterPlan;
+use gb_node::event::NodeEvent;
+use gb_types::kind::Kind;
+use gb_types::memory::OutOfMemory;
+use gb_types::node::{NodeId, NodeSet};
+use gb_types::spec::Spec;
+use std::alloc::Global;
+
+const THIRD: NodeId = NodeId { number: 2 };
+
+pub const PLAN: ClusterPlan = ClusterPlan {
+    nodes: 3,
+    silence: 2,
+    places: 8,
+    cluster_key: [3; 32],
+    admin_key: [1; 32],
+};
+
+/// What happens, in short.
+#[derive(Clone, Copy)]
+enum Act {
+    /// The tenant comes to the node, and its group is made there and opened.
+    Furnish(NodeId, u16),
+    Say(NodeId, u16),
+    Fetch(NodeId, u16),
+    DropGroup(NodeId, u16),
+    Pack(NodeId, NodeId),
+    Ack(NodeId, NodeId),
+    Arrive(u64),
+    Tick(NodeId),
+    Stop(NodeId),
+}
+
+/// Two groups' messages share a frame that comes twice; the frame back has a group's own message beside what it relays, and
+/// acknowledges the first. The third node stops, and is noticed at the first, where the last group is made only then. Its
+/// message shares a frame with what another group relays. Then the second node stops, and one group asks there twice.
+const ACTS: [Act; 31] = [
+    Act::Furnish(FIRST, 7),
+    Act::Furnish(FIRST, 8),
+    Act::Furnish(SECOND, 7),
+    Act::Furnish(SECOND, 8),
+    Act::Furnish(SECOND, 9),
+    Act::Furnish(THIRD, 7),
+    Act::Furnish(THIRD, 8),
+    Act::Say(FIRST, 7),
+    Act::Say(FIRST, 8),
+    Act::Say(SECOND, 8),
+    Act::Pack(FIRST, SECOND),
+    Act::Arrive(1),
+    Act::Arrive(1),
+    Act::Pack(SECOND, FIRST),
+    Act::Arrive(2),
+    Act::Stop(THIRD),
+    Act::Tick(FIRST),
+    Act::Ack(SECOND, FIRST),
+    Act::Arrive(3),
+    Act::Tick(FIRST),
+    Act::Furnish(FIRST, 9),
+    Act::Say(FIRST, 9),
+    Act::Pack(FIRST, SECOND),
+    Act::Arrive(4),
+    Act::Fetch(SECOND, 8),
+    Act::Fetch(SECOND, 9),
+    Act::Stop(SECOND),
+    Act::Fetch(SECOND, 7),
+    Act::Say(SECOND, 7),
+    Act::DropGroup(FIRST, 8),
+    Act::Fetch(FIRST, 7),
+];
+
+/// What of this concerns the groups of tenants 7, 8 and 9: best effort, eager, and all-ack.
+const BEST_EFFORT: [(u8, Told); 18] = [
+    (0, Told::Tenant),
+    (0, Told::Make),
+    (0, Told::Open),
+    (1, Told::Tenant),
+    (1, Told::Make),
+    (1, Told::Open),
+    (2, Told::Tenant),
+    (2, Told::Make),
+    (2, Told::Open),
+    (0, Told::Say),
+    (0, Told::Took(1, 1)),
+    (1, Told::Came(0, 1)),
+    (0, Told::Done(1, 1, 1)),
+    (0, Told::Notice(2)),
+    (1, Told::Stop),
+    (1, Told::Fetch),
+    (1, Told::Say),
+    (0, Told::Fetch),
+];
+
+const EAGER: [(u8, Told); 23] = [
+    (0, Told::Tenant),
+    (0, Told::Make),
+    (0, Told::Open),
+    (1, Told::Tenant),
+    (1, Told::Make),
+    (1, Told::Open),
+    (2, Told::Tenant),
+    (2, Told::Make),
+    (2, Told::Open),
+    (0, Told::Say),
+    (1, Told::Say),
+    (0, Told::Took(1, 1)),
+    (1, Told::Came(0, 1)),
+    (1, Told::Took(0, 2)),
+    (0, Told::Done(1, 1, 1)),
+    (0, Told::Came(1, 1)),
+    (0, Told::Came(1, 2)),
+    (0, Told::Notice(2)),
+    (0, Told::Took(1, 1)),
+    (1, Told::Done(0, 1, 2)),
+    (1, Told::Came(0, 2)),
+    (1, Told::Fetch),
+    (0, Told::Drop),
+];
+
+const ALL_ACK: [(u8, Told); 11] = [
+    (1, Told::Tenant),
+    (1, Told::Make),
+    (1, Told::Open),
+    (0, Told::Tenant),
+    (0, Told::Make),
+    (0, Told::Notice(2)),
+    (0, Told::Open),
+    (0, Told::Say),
+    (0, Told::Took(1, 1)),
+    (1, Told::Came(0, 1)),
+    (1, Told::Fetch),
+];
+
+/// What of this concerns the group of the tenant, written by hand.
+pub fn told(tenant: u16) -> &'static [(u8, Told)] {
+    match tenant {
+        7 => &BEST_EFFORT,
+        8 => &EAGER,
+        _ => &ALL_ACK,
+    }
+}
+
+fn spec_of(tenant: u16) -> Spec {
+    let mut members = NodeSet::new();
+    members.insert(FIRST);
+    members.insert(SECOND);
+    members.insert(THIRD);
+    let kind = match tenant {
+        7 => Kind::Beb,
+        8 => Kind::Eager,
+        _ => Kind::AllAck,
+    };
+    spec_with(kind, members)
+}
+
+fn add_at(events: &mut Vec<Event>, node: NodeId, event: NodeEvent) -> Result<(), OutOfMemory> {
+    events.push(Event::At(node, event))?;
+    Ok(())
+}
+
+fn add(alloc: Global, events: &mut Vec<Event>, act: Act) -> Result<(), OutOfMemory> {
+    match act {
+        Act::Furnish(node, tenant) => furnish(events, node, tenant, spec_of(tenant)),
+        Act::Say(node, tenant) => say(alloc, events, node, tenant),
+        Act::Fetch(node, tenant) => fetch(events, node, tenant),
+        Act::DropGroup(node, tenant) => drop_group(events, node, tenant),
+        Act::Pack(a, b) => add_at(events, a, NodeEvent::Pack(b)),
+        Act::Ack(a, b) => add_at(events, a, NodeEvent::Ack(b)),
+        Act::Arrive(number) => {
+            events.push(Event::Arrive(number))?;
+            Ok(())
+        }
+        Act::Tick(node) => add_at(events, node, NodeEvent::Tick),
+        Act::Stop(node) => add_at(events, node, NodeEvent::Stop),
+    }
+}
+
+/// All that happens.
+pub fn events(alloc: Global) -> Result<Vec<Event>, OutOfMemory> {
+    let mut events = Vec::new(alloc);
+    for act in ACTS {
+        add(alloc, &mut events, act)?;
+    }
+    Ok(events)
+}
