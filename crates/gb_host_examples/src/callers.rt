@@ -1,22 +1,26 @@
 // What callers ask.
 use gb_cap::hmac::Key;
 use gb_cap::token::{Need, token};
-use gb_host::entry::SeatEntry;
+use gb_host::fault::HostFault;
 use gb_host::host::Host;
 use gb_host::names::Tapes;
 use gb_host::seat::Seat;
-use gb_node::answer::NodeAnswer;
+use gb_node::answer::{NodeAnswer, Sent};
 use gb_node::event::NodeEvent;
+use gb_node::tape::{Tape, TapeEntry};
 use gb_types::address::Addr;
 use gb_types::kind::Kind;
 use gb_types::node::{NodeId, NodeSet};
 use gb_types::payload::Payload;
+use gb_types::refusal::Refusal;
 use gb_types::reply::Reply;
 use gb_types::request::Request;
 use gb_types::spec::{Spec, TenantRow};
 use std::alloc::Global;
 use std::sync::Wait;
 use std::sync::ledger::Ledger;
+use std::thread;
+use std::time::{Clock, Duration};
 
 pub const ADMIN_KEY: Key = [1; 32];
 
@@ -54,34 +58,122 @@ fn preparations(node: NodeId) -> [Request; 3] {
     ]
 }
 
-/// A caller at a node: it makes a group there, says something and reads it, and packs for the other node.
-pub fn work<L: Tapes, M: Ledger, R: Wait>(
+/// What a caller says.
+const WORDS: &[u8] = b"hello";
+
+/// How many times a caller asks at most, a millisecond apart.
+const PATIENCE: u64 = 10_000;
+
+fn lacks_memory(answer: &NodeAnswer) -> bool {
+    match answer {
+        NodeAnswer::Reply(Reply::Refused(Refusal::OutOfMemory)) => true,
+        NodeAnswer::Sent(Sent::Refused(Refusal::OutOfMemory)) => true,
+        _ => false,
+    }
+}
+
+// Asks once. Want of memory is the caller's, the host's or the node's.
+fn ask_once<L: Tapes, M: Ledger, R: Wait>(
     rt: &R,
     alloc: Global,
     host: &Host<L, M>,
     seat: &mut Seat<M>,
     node: NodeId,
-) {
-    for request in preparations(node) {
-        let _ = host.call(rt, seat, node, NodeEvent::Request(request));
+    event: &NodeEvent,
+) -> Result<NodeAnswer, HostFault> {
+    let copy = event.duplicate(alloc)?;
+    let answer = host.call(rt, seat, node, copy)?;
+    if lacks_memory(&answer) {
+        return Err(HostFault::OutOfMemory);
     }
-    let member = token(&TENANT_KEY, Need::Member(7, 0, node));
-    let Ok(payload) = Payload::from_slice(alloc, b"hello") else {
-        return;
-    };
-    let said = Request::Say(member, ADDR, payload);
-    let _ = host.call(rt, seat, node, NodeEvent::Request(said));
-    let fetched = Request::Fetch(member, ADDR, 0, 16);
-    let _ = host.call(rt, seat, node, NodeEvent::Request(fetched));
-    let _ = host.call(rt, seat, node, NodeEvent::Pack(NodeId { number: 1 }));
+    Ok(answer)
 }
 
-/// How many entries of logs were read.
-pub fn entries_read(calls: &[SeatEntry]) -> usize {
+// Asks a node, and again where there was no memory for it. None where that takes too long, or the host refuses for another
+// reason.
+fn ask<L: Tapes, M: Ledger, R: Wait + Clock>(
+    rt: &R,
+    alloc: Global,
+    host: &Host<L, M>,
+    seat: &mut Seat<M>,
+    node: NodeId,
+    event: &NodeEvent,
+) -> Option<NodeAnswer> {
+    for _ in 0..PATIENCE {
+        match ask_once(rt, alloc, host, seat, node, event) {
+            Ok(answer) => return Some(answer),
+            Err(HostFault::OutOfMemory) => thread::sleep(rt, Duration::from_millis(1)),
+            Err(_) => return None,
+        }
+    }
+    None
+}
+
+// Whether an answer is that the first message was said.
+fn is_said_first(answer: &Option<NodeAnswer>) -> bool {
+    match answer {
+        Some(NodeAnswer::Reply(Reply::Said(seq))) => *seq == 1,
+        _ => false,
+    }
+}
+
+// Whether an answer is a log of one message, which a node said first, with the caller's words.
+fn is_own_log(answer: &Option<NodeAnswer>, node: NodeId) -> bool {
+    let Some(NodeAnswer::Reply(Reply::Log(entries))) = answer else {
+        return false;
+    };
+    let Some(entry) = entries.as_slice().first() else {
+        return false;
+    };
+    let is_own = entry.origin == node && entry.seq == 1;
+    is_own && entries.len() == 1 && entry.payload.as_slice() == WORDS
+}
+
+/// A caller at a node: it makes a group there, says something and fetches it, and packs for the other node. Whether it was
+/// told that its first message was said, and its next fetch gave just that.
+pub fn work<L: Tapes, M: Ledger, R: Wait + Clock>(
+    rt: &R,
+    alloc: Global,
+    host: &Host<L, M>,
+    seat: &mut Seat<M>,
+    node: NodeId,
+) -> bool {
+    for request in preparations(node) {
+        let _ = ask(rt, alloc, host, seat, node, &NodeEvent::Request(request));
+    }
+    let member = token(&TENANT_KEY, Need::Member(7, 0, node));
+    let Ok(payload) = Payload::from_slice(alloc, WORDS) else {
+        return false;
+    };
+    let say = NodeEvent::Request(Request::Say(member, ADDR, payload));
+    let said = ask(rt, alloc, host, seat, node, &say);
+    let fetch = NodeEvent::Request(Request::Fetch(member, ADDR, 0, 16));
+    let log = ask(rt, alloc, host, seat, node, &fetch);
+    let _ = ask(
+        rt,
+        alloc,
+        host,
+        seat,
+        node,
+        &NodeEvent::Pack(NodeId { number: 1 }),
+    );
+    is_said_first(&said) && is_own_log(&log, node)
+}
+
+/// How many entries of the tapes are a seat's.
+pub fn entries_of(tapes: &[Tape], seat: u32) -> usize {
     let mut count: usize = 0;
-    for call in calls {
-        if let NodeAnswer::Reply(Reply::Log(entries)) = &call.answer {
-            count = count.saturating_add(entries.len());
+    for tape in tapes {
+        count = count.saturating_add(entries_in(tape.as_slice(), seat));
+    }
+    count
+}
+
+fn entries_in(tape: &[TapeEntry], seat: u32) -> usize {
+    let mut count: usize = 0;
+    for entry in tape {
+        if entry.seat == seat {
+            count = count.saturating_add(1);
         }
     }
     count

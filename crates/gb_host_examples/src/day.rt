@@ -2,7 +2,8 @@
 ghost use Rattle.std.specs.Prelude.{◌≡◌, ◌+◌};
 ghost use Rattle.gb_host.specs.Plans.{IsPlan};
 
-use crate::callers::{ADMIN_KEY, entries_read, work};
+use crate::callers::{entries_of, work};
+use crate::plans::two_nodes;
 use gb_host::close::close;
 use gb_host::fault::HostFault;
 use gb_host::host::Host;
@@ -10,26 +11,28 @@ use gb_host::names::Tapes;
 use gb_host::plan::HostPlan;
 use gb_host::seat::Seat;
 use gb_types::node::NodeId;
-use gb_types::plan::Plan;
 use std::alloc::Global;
 use std::marker::Brand;
 use std::rt::HostRuntime;
 use std::sync::Wait;
+use std::sync::atomic::{AtomicU64, Ordering};
 use std::sync::ledger::{Blank, Ledger};
 use std::test::Fail;
 use std::thread;
 use std::thread::Threads;
+use std::time::Clock;
 
-/// What a day left: how many calls the seats noted, how many entries of logs they read, and how many entries the tapes have.
+/// What a day left: how many callers read what they said; and for each caller how many calls its seat noted, and how many
+/// entries of the tapes are its seat's.
 #[derive(Clone, Copy, PartialEq, Eq, Debug)]
 struct Left {
-    calls: usize,
-    read: usize,
-    entries: usize,
+    read: u64,
+    calls: [usize; 2],
+    entries: [usize; 2],
 }
 
 // A thread for each of two callers, each at a node of its own; then the end.
-fn run<L: Tapes + Send + Sync, M: Ledger + Send + Sync, R: Threads + Wait + Sync>(
+fn run<L: Tapes + Send + Sync, M: Ledger + Send + Sync, R: Threads + Wait + Clock + Sync>(
     rt: &R,
     alloc: Global,
     plan: HostPlan,
@@ -42,7 +45,8 @@ fn run<L: Tapes + Send + Sync, M: Ledger + Send + Sync, R: Threads + Wait + Sync
     requires seat_blank { (seat_blank.name ≡ M.name) × (seat_blank.parts ≡ M.parts) × (seat_blank.parts ≡ 3) }
 {
     let (host, mut callers) = Host::<L, M>::open(alloc, plan, 2, tape_blank, seat_blank)?;
-    let shared = &host;
+    let read = AtomicU64::new(0);
+    let (shared, count) = (&host, &read);
     thread::for_each_chunk_mut(
         rt,
         callers.as_mut_slice(),
@@ -52,66 +56,58 @@ fn run<L: Tapes + Send + Sync, M: Ledger + Send + Sync, R: Threads + Wait + Sync
                 number: if i == 0 { 0 } else { 1 },
             };
             for seat in part.iter_mut() {
-                work(rt, alloc, shared, seat, node);
+                if work(rt, alloc, shared, seat, node) {
+                    count.fetch_add(1, Ordering::SeqCst);
+                }
             }
         },
     );
-    let mut calls: usize = 0;
-    let mut read: usize = 0;
-    for seat in &callers {
-        calls = calls.saturating_add(seat.mine().len());
-        read = read.saturating_add(entries_read(seat.mine()));
+    let mut left = Left {
+        read: read.into_inner(),
+        calls: [0; 2],
+        entries: [0; 2],
+    };
+    for i in 0..2 {
+        if let Some(seat) = callers.get(i) {
+            left.calls[i] = seat.mine().len();
+        }
     }
     let closed = close(host, callers)?;
-    let mut entries: usize = 0;
-    for tape in &closed.tapes {
-        entries = entries.saturating_add(tape.as_slice().len());
+    for i in 0..2 {
+        left.entries[i] = entries_of(&closed.tapes, i as u32);
     }
-    Ok(Left {
-        calls,
-        read,
-        entries,
-    })
+    Ok(left)
 }
 
 // A day of two nodes and two callers.
-fn whole_day<R: Threads + Wait + Sync>(
+fn whole_day<R: Threads + Wait + Clock + Sync>(
     rt: &R,
     alloc: Global,
     tape: bool,
 ) -> Result<Left, HostFault> {
-    let plan = HostPlan {
-        cluster: Plan {
-            nodes: 2,
-            silence: 2,
-            places: 8,
-            cluster_key: [3; 32],
-            admin_key: ADMIN_KEY,
-        },
-        tape,
-    };
-    run::<Brand, Brand, R>(rt, alloc, plan, Blank::new(3), Blank::new(3))
+    run::<Brand, Brand, R>(rt, alloc, two_nodes(tape), Blank::new(3), Blank::new(3))
 }
 
-// Each caller is told what it was, and at the end tapes and seats agree.
 #[test]
-fn tapes_and_seats_agree(rt: HostRuntime) -> Result<(), Fail> {
-    let Ok(left) = whole_day(&rt, rt.alloc(), true) else {
-        return Err(Fail::from("the host refused"));
-    };
-    assert_eq!(rt; left.calls, 12);
-    assert_eq!(rt; left.read, 2);
-    assert_eq!(rt; left.entries, 12);
+fn read_own_say(rt: HostRuntime) -> Result<(), Fail> {
+    for tape in [true, false] {
+        let Ok(left) = whole_day(&rt, rt.alloc(), tape) else {
+            return Err(Fail::from("the host refused"));
+        };
+        assert_eq!(rt; left.read, 2);
+    }
     Ok(())
 }
 
-// Without tapes nothing is noted.
+// At the end the tapes' entries of each seat are as many as its calls; without tapes nothing is noted.
 #[test]
-fn nothing_is_noted_without_tapes(rt: HostRuntime) -> Result<(), Fail> {
-    let Ok(left) = whole_day(&rt, rt.alloc(), false) else {
-        return Err(Fail::from("the host refused"));
-    };
-    assert_eq!(rt; left.calls, 0);
-    assert_eq!(rt; left.entries, 0);
+fn tapes_and_seats_agree(rt: HostRuntime) -> Result<(), Fail> {
+    for (tape, noted) in [(true, 6), (false, 0)] {
+        let Ok(left) = whole_day(&rt, rt.alloc(), tape) else {
+            return Err(Fail::from("the host refused"));
+        };
+        assert_eq!(rt; left.calls, [noted, noted]);
+        assert_eq!(rt; left.entries, [noted, noted]);
+    }
     Ok(())
 }

@@ -7,4 +7,8 @@ mod callers;
 #[cfg(test)]
 mod day;
 #[cfg(test)]
+mod faults;
+#[cfg(test)]
 mod locks;
+#[cfg(test)]
+mod plans;

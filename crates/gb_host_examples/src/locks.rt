@@ -2,7 +2,7 @@
 ghost use Rattle.std.specs.Prelude.{◌≡◌, ◌+◌};
 ghost use Rattle.gb_host.specs.Plans.{IsPlan};
 
-use crate::callers::ADMIN_KEY;
+use crate::plans::two_nodes;
 use gb_host::close::close;
 use gb_host::fault::HostFault;
 use gb_host::gate::Gate;
@@ -12,7 +12,6 @@ use gb_host::plan::HostPlan;
 use gb_host::seat::Seat;
 use gb_node::event::NodeEvent;
 use gb_types::node::NodeId;
-use gb_types::plan::Plan;
 use std::alloc::Global;
 use std::marker::Brand;
 use std::rt::HostRuntime;
@@ -118,17 +117,7 @@ fn run<L: Tapes + Send + Sync, M: Ledger + Send + Sync, R: Threads + Wait + Cloc
 }
 
 fn whole<R: Threads + Wait + Clock + Sync>(rt: &R, alloc: Global) -> Result<u64, HostFault> {
-    let plan = HostPlan {
-        cluster: Plan {
-            nodes: 2,
-            silence: 2,
-            places: 8,
-            cluster_key: [3; 32],
-            admin_key: ADMIN_KEY,
-        },
-        tape: true,
-    };
-    run::<Brand, Brand, R>(rt, alloc, plan, Blank::new(3), Blank::new(3))
+    run::<Brand, Brand, R>(rt, alloc, two_nodes(true), Blank::new(3), Blank::new(3))
 }
 
 #[test]

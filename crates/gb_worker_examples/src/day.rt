@@ -2,9 +2,10 @@
 ghost use Rattle.std.specs.Prelude.{◌≡◌, ◌+◌, ◌<◌, ◌^◌, vec_len, IfOk};
 ghost use Rattle.gb_host.specs.Plans.{IsPlan};
 
+use crate::agreement::{agree, copied};
 use crate::asking::prepare;
 use crate::plans::two_nodes;
-use crate::roles::{Done, Job, Role, count_callers, work};
+use crate::roles::{Done, Job, Role, TURNS, count_callers, work};
 use gb_host::close::close;
 use gb_host::fault::HostFault;
 use gb_host::host::Host;
@@ -30,17 +31,20 @@ use std::thread;
 use std::thread::Threads;
 use std::time::Clock;
 
+const FIRST: NodeId = NodeId { number: 0 };
+
+const SECOND: NodeId = NodeId { number: 1 };
+
 // The ports of the sockets in the tests.
 const BASE: u16 = 47_330;
 
-/// What a day left: what the last role counted, how many calls the seats noted, how many entries the tapes have, and how many
-/// of these are ticks, at each node.
+/// What a day left: what each role counted, how many ticks the tape of each node has, and whether the tapes tell of each seat
+/// what its list did.
 #[derive(Clone, Copy, PartialEq, Eq, Debug)]
 struct Left {
-    count: u64,
-    calls: usize,
-    entries: usize,
+    counts: [u64; 4],
     ticks: [usize; 2],
+    agree: bool,
 }
 
 // The seats with their roles, in order.
@@ -69,6 +73,17 @@ fn count_ticks(tape: &[TapeEntry]) -> usize {
     count
 }
 
+// What each of at most four roles counted.
+fn counts_of<M: Ledger>(done: &[Done<M>]) -> [u64; 4] {
+    let mut counts = [0; 4];
+    for i in 0..4 {
+        if let Some(one) = done.get(i) {
+            counts[i] = one.count;
+        }
+    }
+    counts
+}
+
 // A thread for each role; the group is made from the last one's seat; then the end.
 fn run<
     L: Tapes + Send + Sync,
@@ -93,8 +108,8 @@ fn run<
     let callers = AtomicU64::new(count_callers(&roles));
     let (host, mut seats) = Host::<L, M>::open(alloc, plan, count, tape_blank, seat_blank)?;
     if let Some(seat) = seats.last_mut() {
-        prepare(rt, &host, seat, NodeId { number: 0 });
-        prepare(rt, &host, seat, NodeId { number: 1 });
+        prepare(rt, alloc, &host, seat, FIRST);
+        prepare(rt, alloc, &host, seat, SECOND);
     }
     let jobs = paired(alloc, seats, roles)?;
     let (shared, left) = (&host, &callers);
@@ -103,21 +118,17 @@ fn run<
         jobs,
         &|job: Job<M, P>| { work(rt, alloc, shared, left, job) },
     )?;
+    let counts = counts_of(&done);
     let mut seats = Vec::new(alloc);
-    let mut calls: usize = 0;
-    let mut last: u64 = 0;
+    let mut lists = Vec::new(alloc);
     for one in done {
-        let Done { seat, count } = one;
-        calls = calls.saturating_add(seat.mine().len());
-        last = count;
+        let Done { seat, count: _ } = one;
+        lists.reserve(1)?;
+        lists.push_reserved(copied(alloc, seat.mine())?);
         seats.reserve(1)?;
         seats.push_reserved(seat);
     }
     let closed = close(host, seats)?;
-    let mut entries: usize = 0;
-    for tape in &closed.tapes {
-        entries = entries.saturating_add(tape.as_slice().len());
-    }
     let mut ticks = [0; 2];
     for node in 0..2 {
         if let Some(tape) = closed.tapes.get(node) {
@@ -125,10 +136,9 @@ fn run<
         }
     }
     Ok(Left {
-        count: last,
-        calls,
-        entries,
+        counts,
         ticks,
+        agree: agree(&closed.tapes, &lists),
     })
 }
 
@@ -162,8 +172,8 @@ fn with_pumps<P: Drop>(
 {
     let mut roles = Vec::with_capacity(alloc, 4)?;
     let (first, second) = ports;
-    roles.push(Role::Pump(NodeId { number: 0 }, first))?;
-    roles.push(Role::Pump(NodeId { number: 1 }, second))?;
+    roles.push(Role::Pump(FIRST, first))?;
+    roles.push(Role::Pump(SECOND, second))?;
     roles.push(third)?;
     roles.push(fourth)?;
     Ok(roles)
@@ -177,20 +187,22 @@ fn rings(alloc: Global) -> Result<(RingPort, RingPort), OutOfMemory> {
     }
 }
 
-const FIRST: NodeId = NodeId { number: 0 };
-
-const SECOND: NodeId = NodeId { number: 1 };
-
 #[test]
 fn say_crosses_rings(rt: HostRuntime) -> Result<(), Fail> {
     let alloc = rt.alloc();
     let ports = rings(alloc)?;
-    let roles = with_pumps(alloc, ports, Role::Sayer(FIRST, 1), Role::Fetcher(SECOND))?;
+    let roles = with_pumps(
+        alloc,
+        ports,
+        Role::Sayer(FIRST, 1),
+        Role::Fetcher(SECOND, FIRST),
+    )?;
     let Ok(left) = whole_day(&rt, alloc, roles) else {
         return Err(Fail::from("the host refused"));
     };
-    assert_eq!(rt; left.count, 1);
-    assert_eq!(rt; left.calls, left.entries);
+    let [_, _, said, found] = left.counts;
+    assert_eq!(rt; (said, found), (1, 1));
+    assert!(rt; left.agree);
     Ok(())
 }
 
@@ -204,12 +216,18 @@ fn say_crosses_sockets(rt: HostRuntime) -> Result<(), Fail> {
         return Err(Fail::from("node 1's socket"));
     };
     let ports = (first, second);
-    let roles = with_pumps(alloc, ports, Role::Sayer(FIRST, 1), Role::Fetcher(SECOND))?;
+    let roles = with_pumps(
+        alloc,
+        ports,
+        Role::Sayer(FIRST, 1),
+        Role::Fetcher(SECOND, FIRST),
+    )?;
     let Ok(left) = whole_day(&rt, alloc, roles) else {
         return Err(Fail::from("the host refused"));
     };
-    assert_eq!(rt; left.count, 1);
-    assert_eq!(rt; left.calls, left.entries);
+    let [_, _, said, found] = left.counts;
+    assert_eq!(rt; (said, found), (1, 1));
+    assert!(rt; left.agree);
     Ok(())
 }
 
@@ -220,13 +238,14 @@ fn two_ticks(rt: HostRuntime) -> Result<(), Fail> {
     let Ok(left) = whole_day(&rt, rt.alloc(), roles) else {
         return Err(Fail::from("the host refused"));
     };
-    assert_eq!(rt; left.count, 2);
+    assert_eq!(rt; left.counts[0], 2);
     assert_eq!(rt; left.ticks, [2, 2]);
+    assert!(rt; left.agree);
     Ok(())
 }
 
-// Two callers say ten messages each, more than the group takes; their nodes' packets travel over rings, of which node 0's
-// port fails at a call, 0 for none.
+// Two callers say ten messages each, more than the group takes: the first four of each are said. Their nodes' packets travel
+// over rings, of which node 0's port fails at a call, 0 for none.
 fn two_callers<R: Threads + Wait + Clock + Sync>(
     rt: &R,
     alloc: Global,
@@ -245,11 +264,14 @@ fn two_callers<R: Threads + Wait + Clock + Sync>(
 
 #[test]
 fn tapes_and_seats_agree_whichever_call_of_a_port_fails(rt: HostRuntime) -> Result<(), Fail> {
-    for at in 0..51 {
+    for at in 0..=TURNS {
         let Ok(left) = two_callers(&rt, rt.alloc(), at) else {
             return Err(Fail::from("the host refused"));
         };
-        assert_eq!(rt; left.calls, left.entries);
+        let [failures, none, first, second] = left.counts;
+        assert_eq!(rt; (failures, none), (at.min(1), 0));
+        assert!(rt; first >= 4 && second >= 4);
+        assert!(rt; left.agree);
     }
     Ok(())
 }

@@ -1,0 +1,24 @@
+// The plan of the hosts in the tests.
+ghost use Rattle.std.specs.Prelude.{◌≡◌};
+ghost use Rattle.gb_host.specs.Plans.{IsPlan};
+
+use crate::callers::ADMIN_KEY;
+use gb_host::plan::HostPlan;
+use gb_types::plan::Plan;
+
+/// Two nodes, with tapes or without.
+pub fn two_nodes(tape: bool) -> HostPlan
+    ensures nodes { result.cluster.nodes ≡ 2 }
+    ensures limits { IsPlan result }
+{
+    HostPlan {
+        cluster: Plan {
+            nodes: 2,
+            silence: 2,
+            places: 8,
+            cluster_key: [3; 32],
+            admin_key: ADMIN_KEY,
+        },
+        tape,
+    }
+}
