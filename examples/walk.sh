@@ -26,8 +26,13 @@ for _ in {1..100}; do
 done
 cat "$work/printed"
 
-ask() { # NODE WORDS..: asks a node
-    echo "node $1: ${*:2} -> $("$ctl" --port "$port" --node "$1" --secrets "$work/client.keys" "${@:2}" | tr '\n' ' ')"
+ask() { # NODE WORDS..: asks a node, and ends the walk where its reply is a refusal or there is none
+    local reply
+    reply=$("$ctl" --port "$port" --node "$1" --secrets "$work/client.keys" "${@:2}") || {
+        echo "node $1: ${*:2} -> $reply (status $?)"
+        exit 1
+    }
+    echo "node $1: ${*:2} -> ${reply//$'\n'/ }"
 }
 for node in 0 1 2; do
     ask "$node" tenant 7 4 100 4096 100

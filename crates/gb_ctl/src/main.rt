@@ -59,10 +59,8 @@ fn ask(rt: &HostRuntime, port: u16, body: &[u8]) -> Result<Vec<u8>, ClientFault>
     let Ok(mut stream) = TcpStream::connect(rt, address) else {
         return Err(ClientFault::Connection);
     };
-    if stream
-        .set_read_timeout(Some(Duration::from_secs(10)))
-        .is_err()
-    {
+    let wait = Some(Duration::from_secs(10));
+    if stream.set_nodelay(true).is_err() || stream.set_read_timeout(wait).is_err() {
         return Err(ClientFault::Connection);
     }
     send(&mut stream, body)?;

@@ -7,18 +7,29 @@ use std::time::{Clock, Duration};
 /// How many turns of the pump of node 0 lie between two ticks.
 pub const TICK: u64 = 64;
 
-/// How long a pump waits before each turn, in microseconds.
+/// How long a pump waits before each turn while nodes are asked, in microseconds.
 pub const TURN: u64 = 1_000;
+
+/// After so many waits in which no node was asked, a pump rests.
+pub const QUIET: u64 = 1_024;
+
+/// A pump that rests waits so many times before each turn, or until a node is asked.
+pub const REST: u64 = 8;
 
 // How long a worker that waits for another one sleeps before it looks again, in microseconds.
 const LOOK: u64 = 1_000;
 
-/// The gate of a pump: it opens after a thousandth of a second, until the server is over. That of node 0 counts its turns.
+/// The gate of a pump: it opens after a thousandth of a second, or up to eight where no client has asked any node for a while,
+/// until the server is over. That of node 0 counts its turns. All pumps of a server rest and wake alike, so that none of
+/// them is silent for more turns of node 0's pump than before.
 #[derive(Drop)]
 pub struct PumpGate<'a, H> {
     rt: &'a H,
     signals: &'a Signals,
     counts: bool,
+    // How many requests had come when the gate last looked, and how often it has found no more since.
+    requests: u64,
+    quiet: u64,
 }
 
 impl<'a, H: Clock> PumpGate<'a, H> {
@@ -27,7 +38,21 @@ impl<'a, H: Clock> PumpGate<'a, H> {
             rt,
             signals,
             counts,
+            requests: signals.requests(),
+            quiet: 0,
         }
+    }
+
+    // Whether a node was asked since the last look.
+    fn is_woken(&mut self) -> bool {
+        let requests = self.signals.requests();
+        if requests == self.requests {
+            self.quiet = self.quiet.saturating_add(1);
+            return false;
+        }
+        self.requests = requests;
+        self.quiet = 0;
+        true
     }
 }
 
@@ -36,8 +61,33 @@ impl<'a, H: Clock> Gate for PumpGate<'a, H> {
         if self.counts {
             self.signals.count_turn();
         }
-        thread::sleep(self.rt, Duration::from_micros(TURN));
+        let waits = if self.quiet < QUIET { 1 } else { REST };
+        for _ in 0..waits {
+            thread::sleep(self.rt, Duration::from_micros(TURN));
+            if self.is_woken() || self.signals.is_over() {
+                break;
+            }
+        }
         !self.signals.is_over()
+    }
+}
+
+/// The gate of a session: it stands open, and tells the pumps that a node is asked.
+#[derive(Drop)]
+pub struct SessionGate<'a> {
+    signals: &'a Signals,
+}
+
+impl<'a> SessionGate<'a> {
+    pub fn new(signals: &'a Signals) -> SessionGate<'a> {
+        SessionGate { signals }
+    }
+}
+
+impl<'a> Gate for SessionGate<'a> {
+    fn pass(&mut self) -> bool {
+        self.signals.count_request();
+        true
     }
 }
 

@@ -5,6 +5,7 @@ use std::sync::atomic::{AtomicBool, AtomicU64, Ordering};
 #[derive(Drop)]
 pub struct Signals {
     turns: AtomicU64,
+    requests: AtomicU64,
     is_begun: AtomicBool,
     is_over: AtomicBool,
 }
@@ -14,6 +15,7 @@ impl Signals {
     pub fn new() -> Signals {
         Signals {
             turns: AtomicU64::new(0),
+            requests: AtomicU64::new(0),
             is_begun: AtomicBool::new(false),
             is_over: AtomicBool::new(false),
         }
@@ -45,5 +47,15 @@ impl Signals {
     /// How many turns the pump of node 0 has begun.
     pub fn turns(&self) -> u64 {
         self.turns.load(Ordering::SeqCst)
+    }
+
+    /// A node is asked by a client.
+    pub fn count_request(&self) {
+        let _ = self.requests.fetch_add(1, Ordering::SeqCst);
+    }
+
+    /// How many requests there were.
+    pub fn requests(&self) -> u64 {
+        self.requests.load(Ordering::SeqCst)
     }
 }

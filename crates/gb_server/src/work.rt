@@ -1,7 +1,6 @@
 //! What each thread of a server does. Each owns its seat, and gives it back.
-use crate::gates::{PumpGate, TickGate, wait_to_begin};
+use crate::gates::{PumpGate, SessionGate, TickGate, wait_to_begin};
 use crate::signals::Signals;
-use gb_host::gate::Open;
 use gb_host::host::Host;
 use gb_host::names::Tapes;
 use gb_host::seat::Seat;
@@ -56,6 +55,7 @@ fn serve_one<L: Tapes, M: Ledger, H: Wait>(
     seat: &mut Seat<M>,
     node: NodeId,
     stream: &TcpStream,
+    signals: &Signals,
 ) {
     let _ = stream.set_nodelay(true);
     let (mut reader, mut writer) = (stream, stream);
@@ -67,7 +67,7 @@ fn serve_one<L: Tapes, M: Ledger, H: Wait>(
         node,
         &mut reader,
         &mut writer,
-        &mut Open,
+        &mut SessionGate::new(signals),
     );
 }
 
@@ -91,7 +91,7 @@ pub fn serve_connections<L: Tapes, M: Ledger, H: Wait + Clock>(
         }
         match listener.accept() {
             Ok((stream, _)) => {
-                serve_one(rt, alloc, host, &mut seat, node, &stream);
+                serve_one(rt, alloc, host, &mut seat, node, &stream, signals);
                 if left == 1 {
                     break;
                 }

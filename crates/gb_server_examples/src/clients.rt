@@ -20,8 +20,8 @@ pub fn address(port: u16) -> SocketAddr {
     SocketAddr::V4(SocketAddrV4::new(Ipv4Addr::LOCALHOST, port))
 }
 
-// A connection to a port of this machine, as soon as somebody listens there; ten seconds are waited for that.
-fn connect<H: Net<Stream = TcpStream> + Clock>(rt: &H, port: u16) -> Option<TcpStream> {
+/// A connection to a port of this machine, as soon as somebody listens there; ten seconds are waited for that.
+pub fn connect<H: Net<Stream = TcpStream> + Clock>(rt: &H, port: u16) -> Option<TcpStream> {
     for _ in 0..1_000 {
         if let Ok(stream) = TcpStream::connect(rt, address(port)) {
             return Some(stream);

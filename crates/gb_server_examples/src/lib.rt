@@ -3,7 +3,11 @@
 #![tactic(auto)]
 
 #[cfg(test)]
+mod chat;
+#[cfg(test)]
 mod clients;
+#[cfg(test)]
+mod gates;
 #[cfg(test)]
 mod keys;
 #[cfg(test)]

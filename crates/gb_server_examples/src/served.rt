@@ -8,11 +8,12 @@ use std::thread;
 use std::thread::Threads;
 use std::time::Clock;
 
-static KEYS: &[u8] =
+/// The keys of the servers here: the cluster's, 32 bytes 11, and the administrator's, 32 bytes 22.
+pub static KEYS: &[u8] =
     b"1111111111111111111111111111111111111111111111111111111111111111\n2222222222222222222222222222222222222222222222222222222222222222\n";
 
-// What a server prints, with its status, for these words and keys.
-fn printed<H: Net<Listener = TcpListener, Stream = TcpStream> + Threads + Wait + Clock + Sync>(
+/// What a server prints, with its status, for these words and keys.
+pub fn printed<H: Net<Listener = TcpListener, Stream = TcpStream> + Threads + Wait + Clock + Sync>(
     rt: &H,
     alloc: Global,
     words: &[&str],
@@ -24,8 +25,8 @@ fn printed<H: Net<Listener = TcpListener, Stream = TcpStream> + Threads + Wait +
     (status, lines)
 }
 
-// Whether a server ended with this status and printed these lines.
-fn ended(served: &(u8, Vec<u8>), status: u8, lines: &[u8]) -> bool {
+/// Whether a server ended with this status and printed these lines.
+pub fn ended(served: &(u8, Vec<u8>), status: u8, lines: &[u8]) -> bool {
     served.0 == status && served.1.as_slice() == lines
 }
 

@@ -1,0 +1,172 @@
+// A chat of three members, as examples/walk.sh and examples/client.py hold it: a server is started, each member's node takes the
+// tenant in, makes its group and opens it, each member says something, each reads what all said, and the server ends.
+use crate::clients::connect;
+use crate::served::{KEYS, ended, printed};
+use gb_client::exchange::{receive, send};
+use gb_client::fault::ClientFault;
+use gb_client::secrets::Secrets;
+use gb_client::task::{Asked, request_of};
+use gb_session::head::Head;
+use gb_types::node::NodeId;
+use gb_types::words::split_words;
+use std::alloc::Global;
+use std::net::{Net, TcpStream};
+use std::thread;
+use std::time::{Clock, Duration};
+
+// What the members know: the administrator's key, which the server reads in its second line, and the tenant's.
+const SECRETS: Secrets = Secrets {
+    admin: Some([0x22; 32]),
+    tenant: Some([0x33; 32]),
+    token: None,
+};
+
+// What is asked at each node before anything is said, and its replies.
+static PREPARATIONS: [(Head, &str, &str); 3] = [
+    (Head::Tenant, "7 4 100 4096 100", "ok"),
+    (Head::Make, "7 1 fallack 0,1,2 100 4096 100", "ok"),
+    (Head::Open, "7 1", "ok"),
+];
+
+// What each member says, and what is asked at its node at the end.
+static SAYS: [(Head, &str, &str); 3] = [
+    (Head::Say, "7 1 hello", "said 1"),
+    (Head::Say, "7 1 hi", "said 1"),
+    (Head::Say, "7 1 goodbye", "said 1"),
+];
+
+static END: [(Head, &str, &str); 2] = [
+    (Head::Shut, "7 1", "ok"),
+    (Head::Say, "7 1 more", "refused 6 WrongPhase"),
+];
+
+// The entries of each member's log: origin, number, payload.
+static ENTRIES: [&str; 3] = ["0:1:68656c6c6f", "1:1:6869", "2:1:676f6f64627965"];
+
+// A member: its node, and its connection to it.
+#[derive(Drop)]
+struct Member {
+    node: NodeId,
+    stream: TcpStream,
+}
+
+// A member of a server with this base port.
+fn joined<H: Net<Stream = TcpStream> + Clock>(
+    rt: &H,
+    base_port: u16,
+    node: NodeId,
+) -> Result<Member, ClientFault> {
+    let port = base_port
+        .saturating_add(64)
+        .saturating_add(u16::from(node.number));
+    let Some(stream) = connect(rt, port) else {
+        return Err(ClientFault::Connection);
+    };
+    let _ = stream.set_nodelay(true);
+    let _ = stream.set_read_timeout(Some(Duration::from_secs(10)));
+    Ok(Member { node, stream })
+}
+
+// The reply of a member's node to a request, whose words are those that gb_ctl takes.
+fn reply(
+    alloc: Global,
+    member: &mut Member,
+    head: Head,
+    line: &str,
+) -> Result<Vec<u8>, ClientFault> {
+    let asked = Asked {
+        head,
+        words: line.split(' ').collect(alloc)?,
+        is_text: true,
+    };
+    let body = request_of(alloc, &SECRETS, member.node, &asked)?;
+    send(&mut member.stream, &body)?;
+    receive(alloc, &mut member.stream)
+}
+
+// Whether a member's node gives these replies.
+fn gives(
+    alloc: Global,
+    member: &mut Member,
+    table: &[(Head, &str, &str)],
+) -> Result<bool, ClientFault> {
+    for (head, line, want) in table {
+        let found = reply(alloc, member, *head, line)?;
+        if found.as_slice() != want.as_bytes() {
+            return Ok(false);
+        }
+    }
+    Ok(true)
+}
+
+// Whether some text is that of a log with all three entries, in whatever order, and no other.
+fn has_all(alloc: Global, log: &[u8]) -> Result<bool, ClientFault> {
+    let words = split_words(alloc, log)?;
+    let [b"log", b"3", first, second, third] = words.as_slice() else {
+        return Ok(false);
+    };
+    for entry in ENTRIES {
+        let entry = entry.as_bytes();
+        if *first != entry && *second != entry && *third != entry {
+            return Ok(false);
+        }
+    }
+    Ok(true)
+}
+
+// Whether a member's log comes to have all that was said; ten seconds are waited for that.
+fn hears_all<H: Clock>(rt: &H, alloc: Global, member: &mut Member) -> Result<bool, ClientFault> {
+    for _ in 0..1_000 {
+        let log = reply(alloc, member, Head::Fetch, "7 1 0 16")?;
+        if has_all(alloc, &log)? {
+            return Ok(true);
+        }
+        thread::sleep(rt, Duration::from_millis(10));
+    }
+    Ok(false)
+}
+
+// What three members do. Whether each reply was right.
+fn chat<H: Net<Stream = TcpStream> + Clock>(
+    rt: &H,
+    alloc: Global,
+    base_port: u16,
+) -> Result<bool, ClientFault> {
+    let mut members = Vec::new(alloc);
+    for number in 0..3 {
+        members.push(joined(rt, base_port, NodeId::new(number))?)?;
+    }
+    let mut is_right = true;
+    for member in members.iter_mut() {
+        is_right = gives(alloc, member, &PREPARATIONS)? && is_right;
+    }
+    for (member, say) in members.iter_mut().zip(SAYS) {
+        is_right = gives(alloc, member, &[say])? && is_right;
+    }
+    for member in members.iter_mut() {
+        is_right = hears_all(rt, alloc, member)? && is_right;
+        is_right = gives(alloc, member, &END)? && is_right;
+    }
+    Ok(is_right)
+}
+
+#[test]
+fn three_members_chat(rt: HostRuntime) {
+    let alloc = rt.alloc();
+    let words = [
+        "gb_serve",
+        "--nodes",
+        "3",
+        "--base-port",
+        "24100",
+        "--sessions",
+        "1",
+    ];
+    let (served, is_right) = thread::join(
+        &rt,
+        || printed(&rt, alloc, &words, KEYS),
+        || chat(&rt, alloc, 24_100),
+    );
+    assert!(rt; is_right == Ok(true));
+    assert!(rt; ended(&served, 0, b"serving 3 nodes from port 24100\nclosed\n"));
+}
