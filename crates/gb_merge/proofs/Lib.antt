@@ -11,3 +11,5 @@ pub mod CodeLemmas
 pub mod Acting
 pub mod Following
 pub mod Merging
+pub mod Feeding
+pub mod Finding

@@ -29,7 +29,7 @@ whole_of plan tapes rest picks events woven empty = record {
 split : (tapes : List (List TapeEntry)) (done picks : List Pick) (p : Pick) → ((a : ℕ) → entries_at a (done ++ p ∷ picks) ≡ tape_of tapes a) → tape_of tapes p.node.number ≡ entries_at p.node.number done ++ p.entry ∷ entries_at p.node.number picks
 split tapes done picks p whole = sym (whole p.node.number) ∙ (entries_at-append p.node.number done (p ∷ picks) ∙ ap (λ (xs : List TapeEntry). entries_at p.node.number done ++ xs) (entries_at-same p.node.number p picks refl))
 
-inside_of : (tapes : List (List TapeEntry)) (a : ℕ) (before : List TapeEntry) (x : TapeEntry) (after : List TapeEntry) → tape_of tapes a ≡ before ++ x ∷ after → a < length tapes
+pub inside_of : (tapes : List (List TapeEntry)) (a : ℕ) (before : List TapeEntry) (x : TapeEntry) (after : List TapeEntry) → tape_of tapes a ≡ before ++ x ∷ after → a < length tapes
 inside_of tapes a before x after is = by (cases_lt a (length tapes))
   where
     some : (xs : List TapeEntry) → [] ≡ xs ++ x ∷ after → ⊥

@@ -3,3 +3,4 @@ pub mod Merged
 pub mod FaultNumber
 pub mod Faults
 pub mod Woven
+pub mod EachEntry

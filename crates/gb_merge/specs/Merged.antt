@@ -24,7 +24,6 @@ use Rattle.gb_cluster.specs.declared.event.Event.{Event}
 use Rattle.gb_cluster.specs.declared.plan.ClusterPlan.{ClusterPlan}
 use Rattle.gb_cluster.specs.declared.posted.Posted.{Posted}
 use Rattle.gb_isolation.specs.Isolation.{IsIsolated}
-use Rattle.gb_isolation.specs.Project.{is_fed}
 use Rattle.gb_merge.specs.Interleaving.{Pick, entries_at, AreEvents, tape_of}
 
 -- an answer of the cluster as the node's, with a packet's bytes in place of its number
@@ -96,7 +95,7 @@ pub record IsMerged (plan : ClusterPlan) (tapes : List (List TapeEntry)) (events
 -- What is merged is a run of a cluster: at each node happened what its tape says, and each group in it is what it is alone.
 pub record IsOneRun (plan : ClusterPlan) (tapes : List (List TapeEntry)) (events : List Event) (m : IsMerged plan tapes events) : Type 0 where
   pub pasts : (a : NodeId) → past_at a (run_of m.picks) ≡ past_of (tape_of tapes a.number)
-  pub isolated : (g : Addr) → is_fed plan g (run_of m.picks) ≡ true → IsIsolated plan (run_of m.picks) m.last g
+  pub isolated : (g : Addr) → IsIsolated plan (run_of m.picks) m.last g
 
 -- so it is whatever the plan and the tapes are
 abbrev pub MergedIsOneRun : Type 0
