@@ -146,8 +146,8 @@ fn act(
     }
 }
 
-// Before each step of a run with a crash each faulty text comes to the second node, which answers its fault; the steps go
-// as they do without.
+// Before each step of a run with a crash, and after the last, each faulty text comes to the second node, which answers its
+// fault; the steps go as they do without.
 #[test]
 fn faults_change_nothing(rt: HostRuntime) -> Result<(), Fail> {
     let alloc = rt.alloc();
@@ -160,5 +160,7 @@ fn faults_change_nothing(rt: HostRuntime) -> Result<(), Fail> {
         let found = act(alloc, &mut nodes, me, step, &mut sent)?;
         assert!(rt; found == wanted);
     }
+    let faults = disturb(&mut nodes, &texts);
+    assert!(rt; faults == texts.len());
     Ok(())
 }
