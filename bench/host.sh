@@ -1,15 +1,21 @@
 #!/usr/bin/env bash
-# Prints how many calls a second a host makes of its nodes, from 1, 2 and 4 threads on 1 and 4 nodes, with tapes and without,
-# beside a node alone; and how fast messages come from a say at one node to a fetch at another, over rings and over sockets
-# of this machine. The program is built in bench/out, apart from the repository's own crates.
+# Prints two tables: how many calls a second a host makes of its nodes, from 1, 2 and 4 threads on 1 and 4 nodes, with tapes
+# and without, beside a node alone; and how many messages a second come from a say at one node to a fetch at another, over
+# rings and over UDP on this machine. The program is built in bench/out, apart from the repository's own crates; what these keep
+# of their proofs is copied there once, so it is built soonest after `rt lib` in crates/gb_worker.
 set -eu
 top=$(cd "$(dirname "$0")/.." && pwd)
 work=$top/bench/out/host
 mkdir -p "$work/crates"
 lower='types|cap|frame|link|detect|layer|reliable|uniform|fifo|stack|rules|history|slot|groups|table|node|session|port|host|worker'
 for crate in ${lower//|/ }; do
-    mkdir -p "$work/crates/gb_$crate"
-    cp -r "$top/crates/gb_$crate/." "$work/crates/gb_$crate/"
+    from=$top/crates/gb_$crate to=$work/crates/gb_$crate
+    mkdir -p "$to"
+    for part in src specs proofs; do
+        rm -rf "${to:?}/$part"
+        if [ -d "$from/$part" ]; then cp -r "$from/$part" "$to/"; fi
+    done
+    if [ -d "$from/out" ] && [ ! -d "$to/out" ]; then cp -r "$from/out" "$to/"; fi
 done
 mkdir -p "$work/crates/host/src"
 cp "$top/bench/host/main.rt.txt" "$work/crates/host/src/main.rt"
