@@ -1,3 +1,4 @@
+pub mod KeptLemmas
 pub mod DifferenceLemmas
 pub mod TextLemmas
 pub mod CollisionLemmas

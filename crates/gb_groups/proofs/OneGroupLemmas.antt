@@ -9,6 +9,7 @@ use Rattle.gb_types.specs.declared.address.Addr.{Addr}
 use Rattle.gb_types.specs.declared.limits.TheConstants.{NODES, PAYLOAD}
 use Rattle.gb_types.specs.declared.node.NodeId.{NodeId}
 use Rattle.gb_frame.specs.declared.item.Item.{Item}
+use Rattle.gb_rules.proofs.AddressLemmas.{addr_is}
 use Rattle.gb_rules.specs.Address.{is_addr}
 use Rattle.gb_slot.specs.SlotState.{SlotState}
 use Rattle.gb_slot.specs.Slot.{slot_came, slot_took}
@@ -238,13 +239,6 @@ filter_same f h e (x ∷ xs) = ap (λ b. cond b (x ∷ filter f xs) (filter f xs
 map-length : {X Y : Type 0} (f : X → Y) (xs : List X) → length (map f xs) ≡ length xs
 map-length f [] = refl
 map-length f (x ∷ xs) = ap suc (map-length f xs)
-
-addr_is : (g a : Addr) → is_addr g a ≡ true → g ≡ a
-addr_is g a e =
-    let x = both_true (nat_eq g.tenant a.tenant) (nat_eq g.group a.group) e in
-    let t = eqb-true g.tenant a.tenant x.0 in
-    let u = eqb-true g.group a.group x.1 in
-    λ j. record { tenant = t j; group = u j }
 
 first_gave : (g : Addr) (dest b : ℕ) (vs : List Visit) (rows : List Row) → position_or_len (λ (row : Row). is_addr g row.addr) (gave dest b vs rows) ≡ position_or_len (λ (row : Row). is_addr g row.addr) rows
 unfolding gave

@@ -44,6 +44,7 @@ use Rattle.gb_node.specs.StepLaw.{group_answer, is_admitted_by, admitted_answer}
 use Rattle.gb_node.specs.declared.answer.NodeAnswer.TheVariants.{Reply as Replied}
 use Rattle.gb_node.specs.declared.event.NodeEvent.TheVariants.{Request as Asked}
 use Rattle.gb_node.specs.declared.plan.NodePlan.{NodePlan}
+use Rattle.gb_rules.proofs.AddressLemmas.{addr_is}
 use Rattle.gb_isolation.specs.Project.{asked, is_named, is_own, made_by, made_with, or_else, own_requested, requested, tenant_given}
 use Rattle.gb_isolation.proofs.AskLemmas.{SlotFits, asking, carried_in, commands, slot_fits, view_own}
 use Rattle.gb_isolation.proofs.FinishedLemmas.{counts_fit, said_more}
@@ -51,22 +52,16 @@ use Rattle.gb_isolation.proofs.MemberLemmas.{answered-is, put-said, said_member}
 use Rattle.gb_isolation.proofs.PastLemmas.{running_unmet}
 use Rattle.gb_isolation.proofs.View.{View, view_of, SlotStands, IsInside, KeepsAcks, Fits, Goes}
 
-pub addr_same : (g addr : Addr) → is_addr g addr ≡ true → addr ≡ g
-addr_same g addr h =
-    let tenants : addr.tenant ≡ g.tenant = grind (arith, nat_tests) in
-    let groups : addr.group ≡ g.group = grind (arith, nat_tests) in
-    λ i. record { tenant = tenants i; group = groups i }
-
 -- A command with the right token: the group's tenant is here.
 
 none_admitted : (plan : NodePlan) (g : Addr) (past : List Happened) (request : Request) → row_of g.tenant (tenants_in past) ≡ None → is_named g request ≡ true → is_admitted_by plan past request ≡ false
 none_admitted plan g past (AddTenant token row) none named = absurd (cc)
-none_admitted plan g past (Make token addr spec) none named = let there : row_of addr.tenant (tenants_in past) ≡ None = ap (λ (x : Addr). row_of x.tenant (tenants_in past)) (addr_same g addr named) ∙ none in rw there refl
-none_admitted plan g past (OpenGroup token addr) none named = let there : row_of addr.tenant (tenants_in past) ≡ None = ap (λ (x : Addr). row_of x.tenant (tenants_in past)) (addr_same g addr named) ∙ none in rw there refl
-none_admitted plan g past (ShutGroup token addr) none named = let there : row_of addr.tenant (tenants_in past) ≡ None = ap (λ (x : Addr). row_of x.tenant (tenants_in past)) (addr_same g addr named) ∙ none in rw there refl
-none_admitted plan g past (DropGroup token addr) none named = let there : row_of addr.tenant (tenants_in past) ≡ None = ap (λ (x : Addr). row_of x.tenant (tenants_in past)) (addr_same g addr named) ∙ none in rw there refl
-none_admitted plan g past (Say token addr payload) none named = let there : row_of addr.tenant (tenants_in past) ≡ None = ap (λ (x : Addr). row_of x.tenant (tenants_in past)) (addr_same g addr named) ∙ none in rw there refl
-none_admitted plan g past (Fetch token addr from most) none named = let there : row_of addr.tenant (tenants_in past) ≡ None = ap (λ (x : Addr). row_of x.tenant (tenants_in past)) (addr_same g addr named) ∙ none in rw there refl
+none_admitted plan g past (Make token addr spec) none named = let there : row_of addr.tenant (tenants_in past) ≡ None = ap (λ (x : Addr). row_of x.tenant (tenants_in past)) (sym (addr_is g addr named)) ∙ none in rw there refl
+none_admitted plan g past (OpenGroup token addr) none named = let there : row_of addr.tenant (tenants_in past) ≡ None = ap (λ (x : Addr). row_of x.tenant (tenants_in past)) (sym (addr_is g addr named)) ∙ none in rw there refl
+none_admitted plan g past (ShutGroup token addr) none named = let there : row_of addr.tenant (tenants_in past) ≡ None = ap (λ (x : Addr). row_of x.tenant (tenants_in past)) (sym (addr_is g addr named)) ∙ none in rw there refl
+none_admitted plan g past (DropGroup token addr) none named = let there : row_of addr.tenant (tenants_in past) ≡ None = ap (λ (x : Addr). row_of x.tenant (tenants_in past)) (sym (addr_is g addr named)) ∙ none in rw there refl
+none_admitted plan g past (Say token addr payload) none named = let there : row_of addr.tenant (tenants_in past) ≡ None = ap (λ (x : Addr). row_of x.tenant (tenants_in past)) (sym (addr_is g addr named)) ∙ none in rw there refl
+none_admitted plan g past (Fetch token addr from most) none named = let there : row_of addr.tenant (tenants_in past) ≡ None = ap (λ (x : Addr). row_of x.tenant (tenants_in past)) (sym (addr_is g addr named)) ∙ none in rw there refl
 
 pub tenant_here : (plan : NodePlan) (g : Addr) (past : List Happened) (request : Request) → is_own plan g past request ≡ true → is_some (view_of plan g past).reserve ≡ true
 tenant_here plan g past request own = by (row_of g.tenant (tenants_in past)) refl
@@ -313,7 +308,7 @@ module _ (plan : NodePlan) (g : Addr) (past : List Happened) (frames_from : ℕ 
 
   -- the node's reply is that for the group with this address
   same_answer : (answer : Shown → Reply) → is_addr g addr ≡ true → reply ≡ group_answer answer (group_of plan addr past) → group_answer answer (group_of plan g past) ≡ reply
-  same_answer answer named is = sym (is ∙ ap (λ (x : Addr). group_answer answer (group_of plan x past)) (addr_same g addr named))
+  same_answer answer named is = sym (is ∙ ap (λ (x : Addr). group_answer answer (group_of plan x past)) (sym (addr_is g addr named)))
 
   pub at_open : plan.nodes ≤ NODES → is_stopped past ≡ false → is_own plan g past (OpenGroup token addr) ≡ true → reply ≡ admitted_answer plan past (OpenGroup token addr)
       → Fits plan.nodes g plan.me.number frames_from before m → AskedGoes plan g past (OpenGroup token addr) reply frames_from group

@@ -29,9 +29,10 @@ use Rattle.gb_node.specs.Past.{Happened, is_stopped, tenants_in}
 use Rattle.gb_node.specs.PastGroups.{noticed_in, group_of}
 use Rattle.gb_node.specs.StepLaw.{is_admitted_by, admitted_answer}
 use Rattle.gb_node.specs.declared.plan.NodePlan.{NodePlan}
+use Rattle.gb_rules.proofs.AddressLemmas.{addr_is}
 use Rattle.gb_isolation.specs.Project.{is_met, is_own, made_with, or_else, replies_in}
 use Rattle.gb_isolation.proofs.AskLemmas.{asking, carried_in, slot_fits, view_own}
-use Rattle.gb_isolation.proofs.CommandLemmas.{AskedGoes, acks_some, addr_same, given_own, inside_some, own_command, replies_running}
+use Rattle.gb_isolation.proofs.CommandLemmas.{AskedGoes, acks_some, given_own, inside_some, own_command, replies_running}
 use Rattle.gb_isolation.proofs.FreshLemmas.{noticed_before, before_rising, marked_before, fresh_slot, fresh_put, waiting-new}
 use Rattle.gb_isolation.proofs.GoesLemmas.{after_there, after_elsewhere}
 use Rattle.gb_isolation.proofs.MemberLemmas.{made-is, KeepsRest}
@@ -171,4 +172,4 @@ module _ (plan : NodePlan) (g : Addr) (past : List Happened) (frames_from : ℕ 
       → Fits plan.nodes g plan.me.number frames_from before m → AskedGoes plan g past (Make token addr spec) reply frames_from group
   at_make reply running own is below fits =
       let named = (and_parts (is_addr g addr) (is_admitted_by plan past (Make token addr spec)) own).0 in
-      made_by_reply reply running own named (sym (is ∙ ap (λ (x : Addr). by_tenant (make_answer plan.nodes plan.me.number x.group (is_some (group_of plan x past)) spec) (option_map reserve_of (row_of x.tenant (tenants_in past)))) (addr_same g addr named))) below fits
+      made_by_reply reply running own named (sym (is ∙ ap (λ (x : Addr). by_tenant (make_answer plan.nodes plan.me.number x.group (is_some (group_of plan x past)) spec) (option_map reserve_of (row_of x.tenant (tenants_in past)))) (sym (addr_is g addr named)))) below fits

@@ -17,6 +17,7 @@ use Rattle.gb_types.specs.declared.reply.Reply.TheVariants.{Done, Said, Log, Ref
 use Rattle.gb_types.specs.declared.request.Request.{Request}
 use Rattle.gb_types.specs.declared.request.Request.TheVariants.{AddTenant, Make, OpenGroup, ShutGroup, DropGroup, Say, Fetch}
 use Rattle.gb_types.specs.declared.spec.Spec.{Spec}
+use Rattle.gb_rules.proofs.AddressLemmas.{addr_is}
 use Rattle.gb_rules.specs.Address.{is_addr}
 use Rattle.gb_rules.specs.Group.{is_other, say_answer}
 use Rattle.gb_rules.specs.declared.phase.Phase.{Phase}
@@ -207,14 +208,6 @@ said_told law me s t payload seq is h =
     (h.0, h.1, subst (λ (x : Entry). StandsFor (slot_said payload (Said seq) s) (Own x ∷ t.calls)) (λ i. record { origin = h.1 i; seq = sym is i; payload = payload }) (law.said s t.calls payload h.2))
 
 -- Requests.
-
-addr_is : (g a : Addr) → is_addr g a ≡ true → g ≡ a
-addr_is g a e = by (cases_eq g.tenant a.tenant) (cases_eq g.group a.group)
-  where
-    by : ((g.tenant ≡ a.tenant) ⊎ (g.tenant ≢ a.tenant)) → ((g.group ≡ a.group) ⊎ (g.group ≢ a.group)) → g ≡ a
-    by (inl x) (inl y) = λ i. record { tenant = x i; group = y i }
-    by (inl x) (inr y) = absurd (grind (arith, nat_tests, e, y))
-    by (inr x) y = absurd (grind (arith, nat_tests, e, x))
 
 module _ (law : SlotLaws) (me : NodeId) (noticed : set.FinSet nat_cmp) (few : (b : ℕ) → NODES ≤ b → set.contains noticed b ≡ false) (t : TableValue) (g : Addr) (o : Option (Option SlotState)) (is : o ≡ group_in g t.groups.rows) (x : Option (Option Told)) (h : IsTold me o x) where
   made_where : (b : Bool) (spec : Spec) → IsTold me (if b then Some (Some (new_slot spec me noticed)) else None) (if b then Some (Some (told_first spec me noticed)) else None)

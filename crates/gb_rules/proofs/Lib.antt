@@ -1,1 +1,2 @@
+pub mod AddressLemmas
 pub mod LetFallLemmas

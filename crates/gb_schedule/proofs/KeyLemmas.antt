@@ -1,39 +1,32 @@
--- The keys of tenants in their map.
-use Rattle.std.proofs.Common.{◌≡◌, ℕ, zero, suc, List, [], ◌∷◌, refl, sym, ap, ◌∙◌, subst, true, false, arith}
-use Rattle.std.specs.Prelude.{Bool, cond, nat_eq, Some, None, Result, Ok, Err, OnOk, OnErr}
-use Rattle.std.specs.Map.{lookup}
+-- The keys of tenants and the tokens of members in their maps.
+use Rattle.std.proofs.Common.{◌≡◌, ℕ, [], ◌∷◌, ◌++◌, refl, ap, ◌∙◌, true, false}
+use Rattle.std.specs.Prelude.{Bool, codes, ◌&&◌, nat_eq}
+use Rattle.std.specs.Int.{w16, to_be_bytes}
 use Rattle.std.proofs.lemmas.Bool.{eqb-true}
-use Rattle.std.proofs.lemmas.List.Elements.{All-cons, All-nil}
-use Rattle.indexmap.specs.IndexMap.{insert_entry}
-use Rattle.gb_schedule.specs.Keys.{tenant_key, AreTenantKeys}
+use Rattle.gb_types.specs.declared.address.Addr.{Addr}
+use Rattle.gb_types.specs.declared.node.NodeId.{NodeId}
+use Rattle.gb_cap.specs.Hmac.{hmac_of}
+use Rattle.gb_schedule.specs.Keys.{tenant_key, member_token}
+use Rattle.gb_schedule.specs.declared.keys.GroupMember.{GroupMember}
 
--- what is found by a tenant is its key
-pub found_key : (test : ℕ → Bool) (tenant : ℕ) (es : List (ℕ × List ℕ)) (key : List ℕ) → ((k : ℕ) → test k ≡ nat_eq tenant k) → AreTenantKeys es → lookup test es ≡ Some key → key ≡ tenant_key tenant
-found_key test tenant [] key h are is = absurd (cc)
-found_key test tenant (e ∷ es) key h are is = by (test e.0) refl is (found_key test tenant es key h (λ k d l. are (suc k) d (omega arith)))
-  where
-    by : (b : Bool) → test e.0 ≡ b → cond b (Some e.1) (lookup test es) ≡ Some key → (lookup test es ≡ Some key → key ≡ tenant_key tenant) → key ≡ tenant_key tenant
-    by true on found later =
-        let same : tenant ≡ e.0 = eqb-true tenant e.0 (sym (h e.0) ∙ on) in
-        let value : e.1 ≡ key = cc in
-        let here : e.1 ≡ tenant_key e.0 = are zero e (omega arith) in
-        sym value ∙ here ∙ ap tenant_key (sym same)
-    by false off found later = later found
+both : (s t : Bool) → (s && t) ≡ true → (s ≡ true) × (t ≡ true)
+both true t h = (refl, h)
+both false t h = absurd (cc)
 
--- a tenant's key is put in
-pub key_inserted : (eq : ℕ → ℕ → Bool) (tenant : ℕ) (es : List (ℕ × List ℕ)) (key : List ℕ) → ((k : ℕ) → eq tenant k ≡ nat_eq tenant k) → AreTenantKeys es → key ≡ tenant_key tenant → AreTenantKeys (insert_entry eq es tenant key)
-key_inserted eq tenant [] key h are is = All-cons (λ e. e.1 ≡ tenant_key e.0) (tenant, key) [] is (All-nil (λ e. e.1 ≡ tenant_key e.0))
-key_inserted eq tenant (e ∷ es) key h are is =
-    let rest : AreTenantKeys es = λ k d l. are (suc k) d (omega arith) in
-    by rest (eq tenant e.0) refl (key_inserted eq tenant es key h rest is)
-  where
-    by : AreTenantKeys es → (b : Bool) → eq tenant e.0 ≡ b → AreTenantKeys (insert_entry eq es tenant key) → AreTenantKeys (cond b ((e.0, key) ∷ es) (e ∷ insert_entry eq es tenant key))
-    by rest true on later =
-        let same : tenant ≡ e.0 = eqb-true tenant e.0 (sym (h e.0) ∙ on) in
-        All-cons (λ d. d.1 ≡ tenant_key d.0) (e.0, key) es (is ∙ ap tenant_key same) rest
-    by rest false off later = All-cons (λ d. d.1 ≡ tenant_key d.0) e (insert_entry eq es tenant key) (are zero e (omega arith)) later
+abbrev pub member_of : ℕ → ℕ → ℕ → GroupMember
+member_of tenant group node = record { address = record { tenant = tenant; group = group }; node = node }
 
--- the keys after an insertion, where memory was there for it or not
-pub keys_after : {T E : Type 0} (r : Result T E) (old new inserted : List (ℕ × List ℕ)) → OnOk r (new ≡ inserted) → OnErr r (new ≡ old) → AreTenantKeys old → AreTenantKeys inserted → AreTenantKeys new
-keys_after (Ok v) old new inserted ok err before after = subst AreTenantKeys (sym ok) after
-keys_after (Err e) old new inserted ok err before after = subst AreTenantKeys (sym err) before
+-- two members with the same numbers are one
+pub same_member : (a b : GroupMember) → (nat_eq a.address.tenant b.address.tenant && nat_eq a.address.group b.address.group) && nat_eq a.node b.node ≡ true → a ≡ b
+same_member a b h =
+    let e1 = both (nat_eq a.address.tenant b.address.tenant && nat_eq a.address.group b.address.group) (nat_eq a.node b.node) h in
+    let e2 = both (nat_eq a.address.tenant b.address.tenant) (nat_eq a.address.group b.address.group) e1.0 in
+    let t = eqb-true a.address.tenant b.address.tenant e2.0 in
+    let g = eqb-true a.address.group b.address.group e2.1 in
+    let n = eqb-true a.node b.node e1.1 in
+    ap (λ x. member_of x a.address.group a.node) t ∙ ap (λ x. member_of b.address.tenant x a.node) g ∙ ap (λ x. member_of b.address.tenant b.address.group x) n
+
+-- a token's text names its node by the number
+pub same_node : (address : Addr) (a b : NodeId) → a.number ≡ b.number → member_token address a ≡ member_token address b
+unfolding member_token
+same_node address a b e = ap (λ n. hmac_of (tenant_key address.tenant) (codes "M" ++ to_be_bytes w16 address.tenant ++ to_be_bytes w16 address.group ++ n ∷ [])) e

@@ -5,6 +5,7 @@ use Rattle.gb_cap.specs.Token.{token_of}
 use Rattle.gb_cap.specs.declared.token.Need.TheVariants.{Admin, Tenant, Member}
 use Rattle.gb_types.specs.declared.address.Addr.{Addr}
 use Rattle.gb_types.specs.declared.node.NodeId.{NodeId}
+use Rattle.gb_schedule.specs.declared.keys.GroupMember.{GroupMember}
 
 -- the key of the packets between the nodes
 abbrev pub cluster_key : List ℕ
@@ -37,3 +38,11 @@ member_token address node = token_of (tenant_key address.tenant) (Member address
 -- keys by their tenants
 abbrev pub AreTenantKeys : List (ℕ × List ℕ) → Type 0
 AreTenantKeys entries = All (λ e. e.1 ≡ tenant_key e.0) entries
+
+-- the token of a member of a group, whatever node has its number
+abbrev pub IsMemberToken : GroupMember → List ℕ → Type 0
+IsMemberToken member token = (node : NodeId) → node.number ≡ member.node → token ≡ member_token member.address node
+
+-- tokens by their members
+abbrev pub AreMemberTokens : List (GroupMember × List ℕ) → Type 0
+AreMemberTokens entries = All (λ e. IsMemberToken e.0 e.1) entries

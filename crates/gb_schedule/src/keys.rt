@@ -1,7 +1,7 @@
 //! The keys of a schedule's cluster, and the tokens that its lines come with.
 ghost use Rattle.std.specs.Prelude.{◌≡◌};
 ghost use Rattle.gb_cap.specs.Token.{token_of};
-ghost use Rattle.gb_schedule.specs.Keys.{tenant_key, admin_token, tenant_token, member_token};
+ghost use Rattle.gb_schedule.specs.Keys.{tenant_key, admin_token, tenant_token, member_token, IsMemberToken};
 
 use gb_cap::hmac::{HmacKey, Key};
 use gb_cap::token::{Need, Token};
@@ -29,23 +29,35 @@ pub fn tenant_key(tenant: TenantId) -> Key
     key
 }
 
+/// How many members' tokens are kept at most.
+const KEPT: usize = 16_384;
+
+/// A member of a group, by the group's address and its node's number.
+#[derive(Clone, Copy, PartialEq, Eq, Hash, Debug)]
+pub struct GroupMember {
+    address: Addr,
+    node: u8,
+}
+
 /// Makes the tokens of a schedule's lines. The keys of the administrator and of each tenant that was named are hashed
-/// once, not for each token. Contracts see nothing of it: each token is a function of what it is asked for.
+/// once, not for each token, and the tokens of the first members that were named are kept. Contracts see nothing of it: each
+/// token is a function of what it is asked for.
 #[derive(Drop)]
 pub struct Keys {
     admin: HmacKey,
     tenants: IndexMap<TenantId, HmacKey>,
+    members: IndexMap<GroupMember, Token>,
 }
 
 impl Model for Keys {
-    ghost use Rattle.gb_schedule.specs.Keys.{admin_key, AreTenantKeys};
+    ghost use Rattle.gb_schedule.specs.Keys.{admin_key, AreTenantKeys, AreMemberTokens};
     ghost use Rattle.std.specs.Prelude.{◌≡◌};
 
     ghost Value = { Unit {0} };
 
     ghost view = { λ k. tt };
 
-    ghost invariant = { λ k. (k.admin ≡ admin_key) × AreTenantKeys k.tenants.entries };
+    ghost invariant = { λ k. (k.admin ≡ admin_key) × AreTenantKeys k.tenants.entries × AreMemberTokens k.members.entries };
 }
 
 impl Keys {
@@ -54,6 +66,7 @@ impl Keys {
         Keys {
             admin: HmacKey::new(&ADMIN_KEY),
             tenants: IndexMap::new(alloc),
+            members: IndexMap::new(alloc),
         }
     }
 
@@ -75,8 +88,26 @@ impl Keys {
     pub fn member(&mut self, address: Addr, node: NodeId) -> Token
         ensures { result ≡ member_token address node }
     {
+        let member = GroupMember {
+            address,
+            node: node.number,
+        };
+        if let Some(token) = self.members.get(&member) {
+            return *token;
+        }
         let need = Need::Member(address.tenant, address.group, node);
-        self.token(address.tenant, need)
+        let token = self.token(address.tenant, need);
+        self.keep(member, token);
+        token
+    }
+
+    /// Keeps a member's token, where there are few and memory is there for it.
+    fn keep(&mut self, member: GroupMember, token: Token)
+        requires { IsMemberToken member token }
+    {
+        if self.members.len() < KEPT {
+            let _ = self.members.insert(member, token);
+        }
     }
 
     /// The token for a need under the key of a tenant, whose hashed key is kept where memory is there for it.

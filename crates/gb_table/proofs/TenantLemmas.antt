@@ -1,6 +1,6 @@
 -- The rows of tenants, in their map and in the rules.
 use Rattle.std.proofs.Common.{◌≡◌, ℕ, zero, suc, ◌+◌, ◌≤◌, ◌<◌, List, [], ◌∷◌, ◌++◌, get_or, refl, ap, sym, ◌∙◌, subst, true, false, arith, inl, inr, eq-eqb}
-use Rattle.std.specs.Prelude.{Bool, cond, ◌||◌, nat_lt, nat_le, nat_eq, Option, Some, None, All, if◌then◌else◌}
+use Rattle.std.specs.Prelude.{Bool, cond, ◌||◌, nat_lt, nat_le, nat_eq, Option, Some, None, All, bytes_eq, option_map, if◌then◌else◌}
 use Rattle.std.specs.Map.{lookup}
 use Rattle.std.proofs.lemmas.Bool.{cases_eq, ltb-false, leb-false, ne_eqb}
 use Rattle.std.proofs.lemmas.List.{map-append}
@@ -16,7 +16,11 @@ use Rattle.gb_types.specs.declared.spec.TenantRow.{TenantRow}
 use Rattle.gb_rules.specs.Tenant.{is_over_limits, is_bad, is_over, row_of, reserve_of, reserved, tenant_answer, make_answer}
 use Rattle.gb_rules.specs.declared.reserve.Reserve.{Reserve}
 use Rattle.gb_slot.specs.Slot.{IsWithinLimits}
-use Rattle.gb_table.specs.Kept.{rows_of, AreKeyed}
+use Rattle.gb_types.specs.declared.node.NodeId.{NodeId}
+use Rattle.gb_cap.specs.Token.{token_of}
+use Rattle.gb_cap.specs.declared.token.Need.TheVariants.{Member}
+use Rattle.gb_table.specs.Kept.{rows_of, AreKeyed, IsMemberToken, AreMemberTokens}
+use Rattle.gb_table.specs.Requests.{is_by_row}
 use Rattle.gb_table.specs.Within.{IsWithin}
 
 eq-sym : (a b : ℕ) → nat_eq a b ≡ nat_eq b a
@@ -149,3 +153,19 @@ within_limits row spec h e =
       bytes = omega arith;
       window = omega arith;
     }
+
+-- the tokens of members stay those when a tenant is added
+pub tokens_more : (me : NodeId) (tenants : List TenantRow) (row : TenantRow) (es : List (Addr × List ℕ)) → AreMemberTokens me tenants es → AreMemberTokens me (tenants ++ row ∷ []) es
+tokens_more me tenants row es are k d l = let h = are k d l in (h.0, found-more (get_or es k d).0.tenant tenants row h.0 h.1, h.2)
+
+-- a member's token is the one that its tenant's key gives
+pub token_admits : (me : NodeId) (tenants : List TenantRow) (addr : Addr) (own token : List ℕ) → IsMemberToken me tenants addr own → bytes_eq token own ≡ is_by_row (Member addr.tenant addr.group me) token (row_of addr.tenant tenants)
+token_admits me tenants addr own token is = ap (bytes_eq token) is.2 ∙ sym (ap (is_by_row (Member addr.tenant addr.group me) token) is.1)
+
+-- the token that the key of a tenant gives, where the tenant is here
+pub token_made : (me : NodeId) (tenants : List TenantRow) (addr : Addr) (token : List ℕ) → Some token ≡ option_map (λ row. token_of row.key (Member addr.tenant addr.group me)) (row_of addr.tenant tenants) → IsMemberToken me tenants addr token
+token_made me tenants addr token is = by (row_of addr.tenant tenants) refl is
+  where
+    by : (found : Option TenantRow) → row_of addr.tenant tenants ≡ found → Some token ≡ option_map (λ row. token_of row.key (Member addr.tenant addr.group me)) found → IsMemberToken me tenants addr token
+    by None at h = absurd (cc)
+    by (Some row) at h = let e : token ≡ token_of row.key (Member addr.tenant addr.group me) = cc in (row, at, e)

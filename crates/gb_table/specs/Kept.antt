@@ -1,6 +1,12 @@
--- How the tenants of a node are kept: a map from their numbers to their rows, in the order in which they were added.
-use Rattle.std.specs.Prelude.{ℕ, ◌≡◌, List, map, All}
+-- How the tenants of a node are kept: a map from their numbers to their rows, in the order in which they were added. And how the tokens of its
+-- groups' members are: a map from the groups' addresses.
+use Rattle.std.specs.Prelude.{ℕ, ◌≡◌, List, map, All, Some}
+use Rattle.gb_types.specs.declared.address.Addr.{Addr}
+use Rattle.gb_types.specs.declared.node.NodeId.{NodeId}
 use Rattle.gb_types.specs.declared.spec.TenantRow.{TenantRow}
+use Rattle.gb_cap.specs.Token.{token_of}
+use Rattle.gb_cap.specs.declared.token.Need.TheVariants.{Member}
+use Rattle.gb_rules.specs.Tenant.{row_of}
 
 -- the rows
 abbrev pub rows_of : List (ℕ × TenantRow) → List TenantRow
@@ -9,3 +15,11 @@ rows_of entries = map (λ e. e.1) entries
 -- each row stands under its tenant
 abbrev pub AreKeyed : List (ℕ × TenantRow) → Type 0
 AreKeyed entries = All (λ e. e.0 ≡ e.1.tenant) entries
+
+-- the token of an address's member at a node, whose tenant is here
+abbrev pub IsMemberToken : NodeId → List TenantRow → Addr → List ℕ → Type 0
+IsMemberToken me tenants addr token = (row : TenantRow) × (row_of addr.tenant tenants ≡ Some row) × (token ≡ token_of row.key (Member addr.tenant addr.group me))
+
+-- each address has the token of its member
+abbrev pub AreMemberTokens : NodeId → List TenantRow → List (Addr × List ℕ) → Type 0
+AreMemberTokens me tenants entries = All (λ e. IsMemberToken me tenants e.0 e.1) entries

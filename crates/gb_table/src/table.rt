@@ -1,5 +1,5 @@
 //! The tenants and groups of a node.
-ghost use Rattle.std.specs.Prelude.{◌≡◌, ◌+◌, ◌≤◌, ◌<◌, ◌++◌, ℕ, List, map, false, length, sum_by, All, is_some, vec_len, vec_capacity};
+ghost use Rattle.std.specs.Prelude.{◌≡◌, ◌+◌, ◌≤◌, ◌<◌, ◌++◌, ℕ, List, map, false, length, sum_by, All, is_some, bytes_eq, vec_len, vec_capacity};
 ghost use Rattle.std.specs.Ordering.{nat_cmp};
 ghost use Rattle.std.specs.FinSet as set;
 ghost use Rattle.gb_types.specs.declared.limits.TheConstants.{NODES, PLACES};
@@ -17,6 +17,7 @@ ghost use Rattle.gb_table.specs.TableValue.{new_table, reserve_for, table_came, 
 ghost use Rattle.gb_table.specs.Requests.{is_admitted, is_by_tenant, table_reply, IsReplyTo, table_did};
 
 use crate::tenants::Tenants;
+use gb_cap::compare::is_same;
 use gb_cap::hmac::{HmacKey, Key};
 use gb_cap::token::{Need, Token};
 use gb_frame::item::ItemView;
@@ -31,6 +32,7 @@ use gb_types::refusal::Refusal;
 use gb_types::reply::Reply;
 use gb_types::request::Request;
 use gb_types::spec::{Spec, TenantRow};
+use indexmap::IndexMap;
 use std::alloc::Global;
 use std::marker::Model;
 
@@ -45,6 +47,9 @@ pub struct Table {
     admin_key: HmacKey,
     tenants: Tenants,
     groups: Groups,
+    /// The token of each group's member at this node, made with the group, as far as there was memory for it. Contracts
+    /// see nothing of it.
+    member_tokens: IndexMap<Addr, Token>,
 }
 
 impl Model for Table {
@@ -52,6 +57,8 @@ impl Model for Table {
     ghost use Rattle.std.specs.Ordering.{nat_cmp};
     ghost use Rattle.std.specs.FinSet as set;
     ghost use Rattle.gb_table.specs.TableValue.{TableValue};
+    ghost use Rattle.std.specs.Prelude.{◌≡◌};
+    ghost use Rattle.gb_table.specs.Kept.{AreMemberTokens};
     ghost use Rattle.gb_table.specs.Within.{IsWithin, addrs_of};
 
     ghost Value = { TableValue };
@@ -60,7 +67,14 @@ impl Model for Table {
 
     ghost view = { λ t. record { me = t.me; nodes = t.nodes; places = t.places; admin_key = t.admin_key; tenants = t.tenants; groups = t.groups } };
 
-    ghost invariant = { λ t. IsWithin t.places t.tenants (addrs_of t.groups.rows) };
+    ghost invariant = { λ t. IsWithin t.places t.tenants (addrs_of t.groups.rows) × AreMemberTokens t.me t.tenants t.member_tokens.entries };
+}
+
+/// Whether a token is the one that is kept.
+fn is_kept(token: &Token, kept: &Token) -> bool
+    ensures { result ≡ bytes_eq token.now kept.now }
+{
+    is_same(token, kept)
 }
 
 impl Table {
@@ -79,6 +93,7 @@ impl Table {
             admin_key: HmacKey::new(admin_key),
             tenants: Tenants::new(alloc),
             groups: Groups::new(alloc),
+            member_tokens: IndexMap::new(alloc),
         }
     }
 
@@ -119,12 +134,31 @@ impl Table {
             .admits(addr.tenant, Need::Tenant(addr.tenant), token)
     }
 
+    /// To be the address's member at this node.
+    fn as_member(&self, addr: Addr) -> Need
+        ensures { result ≡ Need.Member addr.tenant addr.group self.now.me }
+    {
+        Need::Member(addr.tenant, addr.group, self.me)
+    }
+
     /// Whether this is the token of the address's member at this node.
     fn is_member(&self, token: &Token, addr: Addr) -> bool
         ensures { result ≡ is_by_tenant addr.tenant (Need.Member addr.tenant addr.group self.now.me) token.now self.now }
     {
-        let need = Need::Member(addr.tenant, addr.group, self.me);
-        self.tenants.admits(addr.tenant, need, token)
+        if let Some(own) = self.member_tokens.get(&addr) {
+            return is_kept(token, own);
+        }
+        self.tenants
+            .admits(addr.tenant, self.as_member(addr), token)
+    }
+
+    /// Keeps the token of the address's member at this node, where its tenant is here and there is memory for it.
+    fn keep_member_token(&mut self, addr: Addr)
+        ensures { self.new ≡ self.old }
+    {
+        if let Some(token) = self.tenants.token(addr.tenant, self.as_member(addr)) {
+            let _ = self.member_tokens.insert(addr, token);
+        }
     }
 
     fn add_tenant(&mut self, row: &TenantRow) -> Reply
@@ -143,7 +177,7 @@ impl Table {
         }
     }
 
-    fn make(&mut self, addr: Addr, spec: &Spec, noticed: &NodeSet) -> Reply
+    fn make_group(&mut self, addr: Addr, spec: &Spec, noticed: &NodeSet) -> Reply
         ensures reply { IsReply (by_tenant (make_answer self.old.nodes self.old.me.number addr.group (is_some (place_of addr self.old.groups.rows)) spec.now) (reserve_for addr.tenant self.old)) result }
         ensures state { (token : List ℕ) → self.new ≡ table_did noticed.now (Request.Make token addr spec.now) result self.old }
     {
@@ -167,6 +201,18 @@ impl Table {
             Ok(()) => Reply::Done,
             Err(_) => Reply::Refused(Refusal::OutOfMemory),
         }
+    }
+
+    /// Makes a group and keeps its member's token.
+    fn make(&mut self, addr: Addr, spec: &Spec, noticed: &NodeSet) -> Reply
+        ensures reply { IsReply (by_tenant (make_answer self.old.nodes self.old.me.number addr.group (is_some (place_of addr self.old.groups.rows)) spec.now) (reserve_for addr.tenant self.old)) result }
+        ensures state { (token : List ℕ) → self.new ≡ table_did noticed.now (Request.Make token addr spec.now) result self.old }
+    {
+        let reply = self.make_group(addr, spec, noticed);
+        if let Reply::Done = &reply {
+            self.keep_member_token(addr);
+        }
+        reply
     }
 
     fn open_group(&mut self, addr: Addr) -> Reply

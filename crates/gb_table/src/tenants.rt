@@ -1,6 +1,7 @@
 //! The tenants of a node.
-ghost use Rattle.std.specs.Prelude.{◌≡◌, ◌++◌, ◌∷◌, ◌+◌, ◌≤◌, ◌<◌, ◌^◌, [], None, OnOk, OnErr, option_copied};
+ghost use Rattle.std.specs.Prelude.{◌≡◌, ◌++◌, ◌∷◌, ◌+◌, ◌≤◌, ◌<◌, ◌^◌, [], None, OnOk, OnErr, option_copied, option_map};
 ghost use Rattle.gb_types.specs.declared.limits.TheConstants.{PLACES};
+ghost use Rattle.gb_cap.specs.Token.{token_of};
 ghost use Rattle.gb_rules.specs.Tenant.{row_of, reserved};
 ghost use Rattle.gb_table.specs.Requests.{is_token, is_by_row};
 
@@ -46,6 +47,13 @@ impl Tenant {
         ensures { result.now ≡ self.now }
     {
         &self.row
+    }
+
+    /// The token for a need under the tenant's key.
+    fn token(&self, need: Need) -> Token
+        ensures { result ≡ token_of self.now.key need }
+    {
+        self.key.token(need)
     }
 
     /// Whether this is the token for a need under the tenant's key.
@@ -123,6 +131,16 @@ impl Tenants {
         self.rows.insert(row.tenant, Tenant::new(row)).unwrap();
         self.reserved += row.groups;
         Ok(())
+    }
+
+    /// The token for a need under the key of a tenant, where it is here.
+    pub fn token(&self, tenant: TenantId, need: Need) -> Option<Token>
+        ensures { result ≡ option_map (λ row. token_of row.key need) (row_of tenant self.now) }
+    {
+        match self.find(tenant) {
+            Some(found) => Some(found.token(need)),
+            None => None,
+        }
     }
 
     /// Whether a tenant is here and this is the token for a need under its key.

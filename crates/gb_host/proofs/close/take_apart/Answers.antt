@@ -1,6 +1,6 @@
 use Rattle.std.proofs.Common.{arith, ◌≡◌, ◌+◌, ◌++◌, [], ◌∷◌, ◌∙◌, ap, vec_len}
 use Rattle.gb_types.specs.declared.node.NodeId.{NodeId}
-use Rattle.gb_host.proofs.Closings.{replays_step}
+use Rattle.gb_host.proofs.Closings.{lacks_memory, replays_step}
 use Rattle.gb_host.proofs.close.take_apart.Goals as goal
 
 pub loop-locked-preserved : goal.loop-locked-preserved
@@ -22,3 +22,9 @@ loop-locked-preserved g c =
 
 pub returns-clause-replays : goal.returns-clause-replays
 returns-clause-replays g c = λ k d under. c.loop-locked.invariant.replays k d (omega (arith, under, c.if-len-from.false, c.len-2.ensures, c.from-2.ensures))
+
+pub returns-in_err-reserve-clause-err : goal.returns-in_err-reserve-clause-err
+returns-in_err-reserve-clause-err g c = lacks_memory c.from_residual.result c.from_residual.ensures.1
+
+pub returns-in_err-reserve-2-clause-err : goal.returns-in_err-reserve-2-clause-err
+returns-in_err-reserve-2-clause-err g c = lacks_memory c.from_residual-in_err-reserve-2.result c.from_residual-in_err-reserve-2.ensures.1

@@ -1,7 +1,8 @@
 use Rattle.std.proofs.Common.{List, sym, subst, arith}
 use Rattle.gb_types.specs.declared.spec.TenantRow.{TenantRow}
+use Rattle.gb_table.specs.Kept.{AreMemberTokens}
 use Rattle.gb_table.specs.Within.{addrs_of, IsWithin}
-use Rattle.gb_table.proofs.TenantLemmas.{tenant_done, within_added}
+use Rattle.gb_table.proofs.TenantLemmas.{tenant_done, within_added, tokens_more}
 use Rattle.gb_table.proofs.table.Table.add_tenant.Goals as goal
 use Rattle.gb_table.proofs.table.Table.add_tenant.Goals.{in-Ok, in-Err}
 
@@ -13,7 +14,10 @@ invariant_of-self c =
     let p = c.from-places.ensures in
     let r = c.reserved.ensures in
     let room = d.1.1 in
+    let tokens = c.self.inside.member_tokens.entries in
+    let me = c.self.inside.me in
     elim c.match-add.branch [
-      | in-Ok w ↦ subst (λ (ts : List TenantRow). IsWithin c.self.inside.places ts addrs) (sym w.in-Ok.ensures.ok) (within_added c.self.inside.places c.self.inside.tenants addrs row c.self.invariant d.0 (omega arith))
-      | in-Err w ↦ subst (λ (ts : List TenantRow). IsWithin c.self.inside.places ts addrs) (sym w.in-Err.ensures.err) c.self.invariant
+      | in-Ok w ↦ subst (λ (ts : List TenantRow). IsWithin c.self.inside.places ts addrs × AreMemberTokens me ts tokens) (sym w.in-Ok.ensures.ok)
+          (within_added c.self.inside.places c.self.inside.tenants addrs row c.self.invariant.0 d.0 (omega arith), tokens_more me c.self.inside.tenants row tokens c.self.invariant.1)
+      | in-Err w ↦ subst (λ (ts : List TenantRow). IsWithin c.self.inside.places ts addrs × AreMemberTokens me ts tokens) (sym w.in-Err.ensures.err) c.self.invariant
     ]

@@ -6,4 +6,4 @@ use Rattle.gb_table.proofs.RequestLemmas.{within_step}
 use Rattle.gb_table.proofs.table.Table.item.Goals as goal
 
 pub invariant_of-self : goal.invariant_of-self
-invariant_of-self c = within_step c.self.inside.places c.self.inside.tenants c.self.inside.groups.rows _ (ap addrs_of c.item.ensures.rows ∙ addrs-came c.args.from (view_item c.args.item) c.self.inside.groups.rows) c.self.invariant
+invariant_of-self c = (within_step c.self.inside.places c.self.inside.tenants c.self.inside.groups.rows _ (ap addrs_of c.item.ensures.rows ∙ addrs-came c.args.from (view_item c.args.item) c.self.inside.groups.rows) c.self.invariant.0, c.self.invariant.1)

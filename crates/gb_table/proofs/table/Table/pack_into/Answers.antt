@@ -6,4 +6,4 @@ use Rattle.gb_table.proofs.RequestLemmas.{within_step}
 use Rattle.gb_table.proofs.table.Table.pack_into.Goals as goal
 
 pub invariant_of-self : goal.invariant_of-self
-invariant_of-self c = within_step c.self.inside.places c.self.inside.tenants c.self.inside.groups.rows _ (ap (λ (v : GroupsValue). addrs_of v.rows) c.pack_into.ensures.state ∙ addrs-gave c.args.dest.number 0 (batch c.args.dest.number c.args.room c.self.inside.groups) c.self.inside.groups.rows) c.self.invariant
+invariant_of-self c = (within_step c.self.inside.places c.self.inside.tenants c.self.inside.groups.rows _ (ap (λ (v : GroupsValue). addrs_of v.rows) c.pack_into.ensures.state ∙ addrs-gave c.args.dest.number 0 (batch c.args.dest.number c.args.room c.self.inside.groups) c.self.inside.groups.rows) c.self.invariant.0, c.self.invariant.1)

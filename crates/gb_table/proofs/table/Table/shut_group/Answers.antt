@@ -7,4 +7,4 @@ use Rattle.gb_table.proofs.RequestLemmas.{within_step}
 use Rattle.gb_table.proofs.table.Table.shut_group.Goals as goal
 
 pub invariant_of-self : goal.invariant_of-self
-invariant_of-self c = within_step c.self.inside.places c.self.inside.tenants c.self.inside.groups.rows _ (ap addrs_of c.shut_group.ensures.rows ∙ addrs-address c.args.addr (slot_moved Shut c.shut_group.result) c.self.inside.groups.rows) c.self.invariant
+invariant_of-self c = (within_step c.self.inside.places c.self.inside.tenants c.self.inside.groups.rows _ (ap addrs_of c.shut_group.ensures.rows ∙ addrs-address c.args.addr (slot_moved Shut c.shut_group.result) c.self.inside.groups.rows) c.self.invariant.0, c.self.invariant.1)

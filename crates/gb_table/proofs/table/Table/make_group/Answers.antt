@@ -14,8 +14,8 @@ use Rattle.gb_table.specs.TableValue.{TableValue, reserve_for}
 use Rattle.gb_table.specs.Within.{addrs_of, IsWithin}
 use Rattle.gb_table.proofs.TenantLemmas.{found_within, make_done, within_limits}
 use Rattle.gb_table.proofs.RequestLemmas.{make_should, not_made, has_place, within_made}
-use Rattle.gb_table.proofs.table.Table.make.Goals as goal
-use Rattle.gb_table.proofs.table.Table.make.Goals.{in-Ok, in-Err}
+use Rattle.gb_table.proofs.table.Table.make_group.Goals as goal
+use Rattle.gb_table.proofs.table.Table.make_group.Goals.{in-Ok, in-Err}
 
 pub returns-in_default-answer_make : goal.returns-in_default-answer_make
 returns-in_default-answer_make c =
@@ -29,13 +29,13 @@ pub make-requires-clause-limits : goal.make-requires-clause-limits
 make-requires-clause-limits c =
     let row = c.in-Some.row.now in
     let d = make_done c.from.result c.self.inside.me.number c.args.addr.group c.contains-made.result c.args.spec.now c.of-reserve.result c.in-Done.ensures in
-    within_limits row c.args.spec.now (found_within (λ (r : TenantRow). is_over_limits r ≡ false) c.args.addr.tenant c.self.inside.tenants row c.self.invariant.limits (sym c.in-Some.ensures)) (subst (λ (r : Reserve). is_over r c.args.spec.now ≡ false) c.of-reserve.ensures d.1.1.1)
+    within_limits row c.args.spec.now (found_within (λ (r : TenantRow). is_over_limits r ≡ false) c.args.addr.tenant c.self.inside.tenants row c.self.invariant.0.limits (sym c.in-Some.ensures)) (subst (λ (r : Reserve). is_over r c.args.spec.now ≡ false) c.of-reserve.ensures d.1.1.1)
 
 pub make-requires-clause-few : goal.make-requires-clause-few
 make-requires-clause-few c =
     let row = c.in-Some.row.now in
     let d = make_done c.from.result c.self.inside.me.number c.args.addr.group c.contains-made.result c.args.spec.now c.of-reserve.result c.in-Done.ensures in
-    has_place c.self.inside.places c.self.inside.tenants c.self.inside.groups.rows c.args.addr row c.self.invariant c.contains-made.ensures.apart (sym c.contains-made.ensures.there ∙ d.1.0) c.in-Some.ensures (subst (λ (r : Reserve). c.args.addr.group < r.groups) c.of-reserve.ensures d.0)
+    has_place c.self.inside.places c.self.inside.tenants c.self.inside.groups.rows c.args.addr row c.self.invariant.0 c.contains-made.ensures.apart (sym c.contains-made.ensures.there ∙ d.1.0) c.in-Some.ensures (subst (λ (r : Reserve). c.args.addr.group < r.groups) c.of-reserve.ensures d.0)
 
 pub invariant_of-self : goal.invariant_of-self
 invariant_of-self c =
@@ -44,8 +44,8 @@ invariant_of-self c =
     let below = subst (λ (r : Reserve). c.args.addr.group < r.groups) c.of-reserve.ensures d.0 in
     let group : Row = record { addr = c.args.addr; slot = Some (new_slot c.args.spec.now c.self.inside.me c.args.noticed.now) } in
     elim c.match-make.branch [
-      | in-Ok w ↦ subst (λ (rs : List Row). IsWithin c.self.inside.places c.self.inside.tenants (addrs_of rs)) (sym w.in-Ok.ensures.rows) (within_made c.self.inside.places c.self.inside.tenants c.self.inside.groups.rows group row c.self.invariant c.in-Some.ensures below)
-      | in-Err w ↦ subst (λ (g : GroupsValue). IsWithin c.self.inside.places c.self.inside.tenants (addrs_of g.rows)) (sym w.in-Err.ensures.err) c.self.invariant
+      | in-Ok w ↦ (subst (λ (rs : List Row). IsWithin c.self.inside.places c.self.inside.tenants (addrs_of rs)) (sym w.in-Ok.ensures.rows) (within_made c.self.inside.places c.self.inside.tenants c.self.inside.groups.rows group row c.self.invariant.0 c.in-Some.ensures below), c.self.invariant.1)
+      | in-Err w ↦ (subst (λ (g : GroupsValue). IsWithin c.self.inside.places c.self.inside.tenants (addrs_of g.rows)) (sym w.in-Err.ensures.err) c.self.invariant.0, c.self.invariant.1)
     ]
 
 pub returns-clause-reply : goal.returns-clause-reply
