@@ -5,7 +5,7 @@
 use gb_serve_words::words::refusal_text;
 use gb_server::fault::ServeFault;
 use gb_server::serve_main::serve_main;
-use gb_server::told::{line_of, status_of, tell};
+use gb_server::told::{status_of, tell_end};
 use std::alloc::{AllocError, Global};
 use std::io;
 use std::io::Write;
@@ -38,7 +38,7 @@ fn explain(rt: &HostRuntime, alloc: Global, words: &[&str]) {
 // Tells that there is no memory for the words. The exit status.
 fn give_up(rt: &HostRuntime) -> ExitCode {
     let outcome = Err(ServeFault::OutOfMemory);
-    let _ = tell(&mut io::writer(rt), line_of(outcome));
+    let _ = tell_end(&mut io::writer(rt), outcome);
     ExitCode::from(status_of(outcome))
 }
 

@@ -1,7 +1,7 @@
 //! The words of the server's command line.
 ghost use Rattle.std.specs.Prelude.{◌≡◌, ◌≢◌, IfOk, map, [], true, false};
 ghost use Rattle.clap.specs.Words.{app_of, found_of, kind_of, matches_of, rows_of, rule_of, takes, fault_of};
-ghost use Rattle.gb_serve_words.specs.Words.{serve_app, number_rule, IsGiven, IsPlanOf, IsWithin};
+ghost use Rattle.gb_serve_words.specs.Words.{serve_app, number_rule, flag_rule, IsGiven, IsPlanOf, IsWithin};
 
 use crate::fault::WordFault;
 use crate::plan::ServePlan;
@@ -27,6 +27,17 @@ fn number_arg<'a>(alloc: Global, name: &'static str, least: u16, most: u16) -> A
         .value_parser(ValueParser::Signed(i64::from(least), i64::from(most)))
 }
 
+// An option without a value, which stands among the words or does not.
+fn flag_arg<'a>(alloc: Global, name: &'static str) -> Arg<'a>
+    ensures rule { rule_of result ≡ flag_rule name.entry.now }
+    ensures local { result.global ≡ false }
+{
+    Arg::new(alloc, name)
+        .long(name)
+        .action(ArgAction::SetTrue)
+        .value_parser(ValueParser::Bool)
+}
+
 /// The command line.
 pub fn command<'a>(alloc: Global) -> Result<Command<'a>, AllocError>
     ensures { IfOk result (λ made. app_of made ≡ serve_app) }
@@ -45,19 +56,23 @@ pub fn command<'a>(alloc: Global) -> Result<Command<'a>, AllocError>
     let sessions = number_arg(alloc, "sessions", 0, 1_000).value_name("K").help(
         "how many connections each node serves, one after the other; 0, or not given: for ever",
     );
+    let tape = flag_arg(alloc, "tape").help(
+        "keep what happens at each node, and merge it at the end into one run of the cluster",
+    );
     let bare = Command::new(alloc, "gb_serve")
         .about("Serves groups that broadcast messages among their members")
         .after_help(AFTER);
     let with_nodes = bare.arg(nodes)?;
     let with_port = with_nodes.arg(base_port)?;
     let with_silence = with_port.arg(silence)?;
-    with_silence.arg(sessions)
+    let with_sessions = with_silence.arg(sessions)?;
+    with_sessions.arg(tape)
 }
 
 /// What the help says behind the options.
 static AFTER: &str =
     "Standard input gives two lines of 64 hexadecimal digits each: the cluster's key and the administrator's key.\n\n\
-Exit status: 0 when all connections were served, 1 for a fault, 2 for words that are refused.";
+Exit status: 0 when all connections were served and, with --tape, merged; 1 for a fault, 2 for words that are refused.";
 
 // What a parse that failed comes to.
 fn fault_from(error: &Error) -> WordFault
@@ -80,12 +95,13 @@ fn plan_of(matches: &ArgMatches<'_>) -> ServePlan
     let base_port = matches.get_one::<u16>("base-port").unwrap();
     let silence = matches.get_one::<u16>("silence");
     let sessions = matches.get_one::<u16>("sessions");
+    let tape = matches.get_flag("tape");
     ServePlan {
         nodes,
         base_port,
         silence: silence.unwrap_or(SILENCE),
         sessions: sessions.unwrap_or(0),
-        tape: false,
+        tape,
     }
 }
 

@@ -1,17 +1,19 @@
 //! The server from its words to its exit status.
-ghost use Rattle.std.specs.Prelude.{◌≡◌, ◌≢◌, ◌≤◌, ◌+◌, ◌*◌, [], true, Err, OnOk, codes, map};
+ghost use Rattle.std.specs.Prelude.{◌≡◌, ◌≢◌, ◌≤◌, ◌+◌, ◌*◌, [], List, true, Ok, Err, codes, map};
 ghost use Rattle.std.specs.Io.KnownBytes.{Appends};
 ghost use Rattle.clap.specs.Words.{fault_of, takes};
 ghost use Rattle.gb_serve_words.specs.Words.{IsWithin, serve_app};
-ghost use Rattle.gb_server.specs.Told.{HasServed, lined, serving_line};
+ghost use Rattle.gb_server.specs.Told.{HasServed, end_line, host_of, lined, serving_line};
 ghost use Rattle.gb_host.specs.Plans.{IsPlan};
+ghost use Rattle.gb_host.specs.SeatValue.{SeatValue};
+ghost use Rattle.gb_server.specs.Ended.{EndsSo, has_closed};
 
 use crate::crew::hold;
+use crate::ending::{Ended, end};
 use crate::fault::ServeFault;
 use crate::keys::{Keys, read_keys};
 use crate::sockets::{Sockets, open_sockets};
-use crate::told::{line_of, serving_line, status_of, tell};
-use gb_host::close::close;
+use crate::told::{serving_line, status_of, tell, tell_end};
 use gb_host::host::Host;
 use gb_host::names::Tapes;
 use gb_host::plan::HostPlan;
@@ -35,8 +37,8 @@ const _: () = prove!(PLACES == 1_024);
 
 // The host of a plan.
 fn host_plan(plan: ServePlan, keys: Keys) -> HostPlan
+    ensures is { result ≡ host_of plan keys }
     ensures limits { IsWithin plan → IsPlan result }
-    ensures nodes { result.cluster.nodes ≡ plan.nodes }
 {
     let (cluster_key, admin_key) = (keys.cluster, keys.admin);
     let cluster = Plan {
@@ -67,12 +69,14 @@ fn serve_host<
     writer: &mut W,
     tape_blank: Blank,
     seat_blank: Blank,
-) -> Result<(), ServeFault>
+) -> Result<Ended, ServeFault>
     requires plan { plan ≡ L.plan }
     requires limits { IsPlan plan }
+    requires some { 1 ≤ plan.cluster.nodes }
     requires tape_blank { (tape_blank.name ≡ L.name) × (tape_blank.parts ≡ L.parts) × (tape_blank.parts ≡ plan.cluster.nodes + 1) }
     requires seat_blank { (seat_blank.name ≡ M.name) × (seat_blank.parts ≡ M.parts) × (seat_blank.parts ≡ 2 * plan.cluster.nodes + 2) }
-    ensures told { OnOk result (Appends (W.contents writer.old) (W.contents writer.new) (serving_line serve.nodes serve.base_port)) }
+    ensures told { has_closed result ≡ true → Appends (W.contents writer.old) (W.contents writer.new) (serving_line serve.nodes serve.base_port) }
+    ensures ends { has_closed result ≡ true → (seats : List SeatValue) × EndsSo plan seats result }
     ensures taken { result ≢ Err ServeFault.RefusedWords }
 {
     let seats = 2 * u32::from(plan.cluster.nodes) + 1;
@@ -82,17 +86,17 @@ fn serve_host<
         return Err(ServeFault::Write);
     }
     let seats = hold(rt, alloc, &host, seats, sockets, serve.sessions)?;
-    let _closed = close(host, seats)?;
-    Ok(())
+    end(alloc, host, seats)
 }
 
 // Serves by a plan, with keys.
 fn serve_plan<
     H: Net<Listener = TcpListener, Stream = TcpStream> + Threads + Wait + Clock + Sync,
     W: Write,
->(rt: &H, alloc: Global, plan: ServePlan, keys: Keys, writer: &mut W) -> Result<(), ServeFault>
+>(rt: &H, alloc: Global, plan: ServePlan, keys: Keys, writer: &mut W) -> Result<Ended, ServeFault>
     requires { IsWithin plan }
-    ensures told { OnOk result (Appends (W.contents writer.old) (W.contents writer.new) (serving_line plan.nodes plan.base_port)) }
+    ensures told { has_closed result ≡ true → Appends (W.contents writer.old) (W.contents writer.new) (serving_line plan.nodes plan.base_port) }
+    ensures ends { has_closed result ≡ true → (seats : List SeatValue) × EndsSo (host_of plan keys) seats result }
     ensures taken { result ≢ Err ServeFault.RefusedWords }
 {
     let sockets = open_sockets(rt, alloc, plan.nodes, plan.base_port)?;
@@ -109,13 +113,20 @@ fn serve_plan<
     )
 }
 
-// Serves by words, with the keys that the reader gives.
-fn serve<
+/// Serves by words, with the keys that the reader gives, and writes what it serves. The answer is how it ended, which is still to
+/// be told.
+pub fn serve<
     H: Net<Listener = TcpListener, Stream = TcpStream> + Threads + Wait + Clock + Sync,
     R: Read,
     W: Write,
->(rt: &H, alloc: Global, words: &[&str], reader: &mut R, writer: &mut W) -> Result<(), ServeFault>
-    ensures served { OnOk result (HasServed (map (λ word. word.now) words.now) (R.remaining reader.old) (R.remaining reader.new) (W.contents writer.old) (W.contents writer.new) []) }
+>(
+    rt: &H,
+    alloc: Global,
+    words: &[&str],
+    reader: &mut R,
+    writer: &mut W,
+) -> Result<Ended, ServeFault>
+    ensures served { has_closed result ≡ true → HasServed (map (λ word. word.now) words.now) (R.remaining reader.old) (R.remaining reader.new) (W.contents writer.old) (W.contents writer.new) result [] }
     ensures refused { result ≡ Err ServeFault.RefusedWords → (fault_of serve_app (map (λ word. word.now) words.now) ≢ []) × (reader.new ≡ reader.old) × (writer.new ≡ writer.old) }
     ensures taken { takes serve_app (map (λ word. word.now) words.now) ≡ true → result ≢ Err ServeFault.RefusedWords }
 {
@@ -127,20 +138,20 @@ fn serve<
 }
 
 /// Serves by the words of a command line, of which the first is the program's name, with the keys that the reader gives, and
-/// writes what it serves and how it ended, a line each. The answer is the exit status: 0 when all connections were served, 2
-/// for refused words, 1 for all else. When it answers, its threads have ended and its sockets are closed.
+/// writes what it serves and how it ended, a line each. The answer is the exit status: 0 when all connections were served and,
+/// with tapes, they were merged, 2 for refused words, 1 for all else. When it answers, its threads have ended and its sockets are closed.
 pub fn serve_main<
     H: Net<Listener = TcpListener, Stream = TcpStream> + Threads + Wait + Clock + Sync,
     R: Read,
     W: Write,
 >(rt: &H, alloc: Global, words: &[&str], reader: &mut R, writer: &mut W) -> u8
     ensures status { result ≤ 2 }
-    ensures served { result ≡ 0 → HasServed (map (λ word. word.now) words.now) (R.remaining reader.old) (R.remaining reader.new) (W.contents writer.old) (W.contents writer.new) (lined (codes "closed")) }
+    ensures served { result ≡ 0 → (ended : Ended) × HasServed (map (λ word. word.now) words.now) (R.remaining reader.old) (R.remaining reader.new) (W.contents writer.old) (W.contents writer.new) (Ok ended) (end_line ended) }
     ensures refused { result ≡ 2 → (fault_of serve_app (map (λ word. word.now) words.now) ≢ []) × (reader.new ≡ reader.old) × Appends (W.contents writer.old) (W.contents writer.new) (lined (codes "refused words")) }
     ensures taken { takes serve_app (map (λ word. word.now) words.now) ≡ true → result ≢ 2 }
 {
     let outcome = serve(rt, alloc, words, reader, writer);
-    if outcome == Err(ServeFault::Write) || !tell(writer, line_of(outcome)) {
+    if outcome == Err(ServeFault::Write) || !tell_end(writer, outcome) {
         return 1;
     }
     status_of(outcome)

@@ -1,6 +1,7 @@
 // Whole servers: what they print, and what their clients are told.
 use crate::clients::{DENIED, MALFORMED, OPEN, address, leaves, told};
 use gb_server::serve_main::serve_main;
+use gb_types::number::read_number;
 use std::alloc::Global;
 use std::net::{Net, TcpListener, TcpStream, UdpSocket};
 use std::sync::Wait;
@@ -82,6 +83,43 @@ fn two_nodes_are_served(rt: HostRuntime) {
     );
     assert!(rt; ended(&served, 0, b"serving 2 nodes from port 42000\nclosed\n"));
     assert!(rt; is(&first, DENIED) && is(&second, b""));
+}
+
+// How many events were merged, where these are a server's lines: this one, and that so many were.
+fn merged(lines: &[u8], first: &[u8]) -> Option<u64> {
+    let rest = lines.strip_prefix(first)?;
+    let count = rest.strip_prefix(b"merged ".as_slice())?;
+    read_number(count.strip_suffix(b" events\n".as_slice())?, u64::MAX)
+}
+
+// With tapes a server merges them at its end: at least the client's request, and what the pumps of both nodes did, is an event.
+#[test]
+fn what_was_done_is_merged(rt: HostRuntime) {
+    let alloc = rt.alloc();
+    let words = [
+        "gb_serve",
+        "--tape",
+        "--nodes",
+        "2",
+        "--base-port",
+        "42750",
+        "--sessions",
+        "1",
+    ];
+    let (served, (first, second)) = thread::join(
+        &rt,
+        || printed(&rt, alloc, &words, KEYS),
+        || {
+            thread::join(
+                &rt,
+                || told(&rt, alloc, 42_814, OPEN),
+                || told(&rt, alloc, 42_815, OPEN),
+            )
+        },
+    );
+    assert!(rt; is(&first, DENIED) && is(&second, DENIED));
+    let count = merged(&served.1, b"serving 2 nodes from port 42750\n");
+    assert!(rt; served.0 == 0 && count.is_some_and(|count| count > 2));
 }
 
 // What clients of one node are told, one after the other: one that sends no request, one that sends half a message, two that go

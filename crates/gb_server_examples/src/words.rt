@@ -21,31 +21,47 @@ fn read(alloc: Global, line: &str) -> Result<ServePlan, WordFault> {
     read_words(alloc, &words)
 }
 
-fn plan(nodes: u8, base_port: u16, silence: u16, sessions: u16) -> Result<ServePlan, WordFault> {
+fn plan(
+    nodes: u8,
+    base_port: u16,
+    silence: u16,
+    sessions: u16,
+    tape: bool,
+) -> Result<ServePlan, WordFault> {
     Ok(ServePlan {
         nodes,
         base_port,
         silence,
         sessions,
-        tape: false,
+        tape,
     })
 }
 
 #[test]
 fn words_are_plans(rt: HostRuntime) -> Result<(), Fail> {
     let table = [
-        ("--nodes 1 --base-port 1024", plan(1, 1_024, 50, 0)),
-        ("--nodes 16 --base-port 65000", plan(16, 65_000, 50, 0)),
-        ("--base-port=42000 --nodes=2", plan(2, 42_000, 50, 0)),
+        ("--nodes 1 --base-port 1024", plan(1, 1_024, 50, 0, false)),
+        (
+            "--nodes 16 --base-port 65000",
+            plan(16, 65_000, 50, 0, false),
+        ),
+        ("--base-port=42000 --nodes=2", plan(2, 42_000, 50, 0, false)),
         (
             "--nodes 2 --base-port 42000 --silence 2 --sessions 1",
-            plan(2, 42_000, 2, 1),
+            plan(2, 42_000, 2, 1, false),
         ),
         (
             "--nodes 2 --base-port 42000 --silence 1000 --sessions 1000",
-            plan(2, 42_000, 1_000, 1_000),
+            plan(2, 42_000, 1_000, 1_000, false),
         ),
-        ("--nodes +3 --base-port 042000", plan(3, 42_000, 50, 0)),
+        (
+            "--tape --nodes 2 --base-port 42000",
+            plan(2, 42_000, 50, 0, true),
+        ),
+        (
+            "--nodes +3 --base-port 042000",
+            plan(3, 42_000, 50, 0, false),
+        ),
     ];
     for (line, want) in table {
         let found = read(rt.alloc(), line);
@@ -73,7 +89,8 @@ fn words_are_refused(rt: HostRuntime) -> Result<(), Fail> {
         "--nodes 99999999999999999999 --base-port 42000",
         "--nodes 2 --nodes 2 --base-port 42000",
         "--nodes --base-port 42000",
-        "--nodes 2 --base-port 42000 --tape",
+        "--nodes 2 --base-port 42000 --tape --tape",
+        "--nodes 2 --base-port 42000 --tape=true",
         "--nodes 2 --base-port 42000 3",
         "--help",
     ];

@@ -1,7 +1,7 @@
-use Rattle.std.proofs.Common.{◌∙◌, ◌≤◌, ℕ, Option, refl, sym, ap, subst, arith, codes, IfSome, unwrap_or}
+use Rattle.std.proofs.Common.{◌∙◌, ◌≤◌, ℕ, Option, sym, ap, subst, arith, codes, IfSome, unwrap_or}
 use Rattle.std.specs.Str.Parse.{ParsesUnsigned, ExplainsUnsignedError, HasUnsignedDigitsIfOk}
 use Rattle.clap.specs.Words.{found_of, one_of, rows_of}
-use Rattle.gb_serve_words.proofs.Numbers.{is_there, reads, within_or}
+use Rattle.gb_serve_words.proofs.Numbers.{is_there, reads, reads_flag, within_or}
 use Rattle.gb_serve_words.proofs.words.plan_of.Goals as goal
 
 pub unwrap-nodes-requires : goal.unwrap-nodes-requires
@@ -34,7 +34,7 @@ returns-clause-read c =
       base_port = sym port.0 ∙ c.unwrap-base_port.ensures;
       silence = c.unwrap_or.ensures ∙ ap (λ (o : Option ℕ). unwrap_or o 50) silence.0;
       sessions = c.unwrap_or-2.ensures ∙ ap (λ (o : Option ℕ). unwrap_or o 0) sessions.0;
-      tape = refl;
+      tape = reads_flag f (codes "tape") c.get_flag-tape.result c.requires.tape c.get_flag-tape.ensures.none c.get_flag-tape.ensures.value c.get_flag-tape.ensures.other;
     }
 
 pub returns-clause-within : goal.returns-clause-within
