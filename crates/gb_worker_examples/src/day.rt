@@ -6,20 +6,23 @@ use crate::agreement::{agree, copied};
 use crate::asking::prepare;
 use crate::plans::two_nodes;
 use crate::roles::{Done, Job, Role, TURNS, count_callers, work};
+use gb_cluster::plan::ClusterPlan;
 use gb_host::close::close;
 use gb_host::fault::HostFault;
 use gb_host::host::Host;
 use gb_host::names::Tapes;
 use gb_host::plan::HostPlan;
 use gb_host::seat::Seat;
+use gb_merge::merge::merge;
 use gb_node::event::NodeEvent;
-use gb_node::tape::TapeEntry;
+use gb_node::tape::{Tape, TapeEntry};
 use gb_port::fail_at::FailAt;
 use gb_port::port::Port;
 use gb_port::ring::RingPort;
 use gb_port::udp::UdpPort;
 use gb_types::memory::OutOfMemory;
 use gb_types::node::NodeId;
+use gb_types::plan::Plan;
 use std::alloc::Global;
 use std::marker::Brand;
 use std::rt::HostRuntime;
@@ -38,13 +41,14 @@ const SECOND: NodeId = NodeId { number: 1 };
 // The ports of the sockets in the tests.
 const BASE: u16 = 47_330;
 
-/// What a day left: what each role counted, how many ticks the tape of each node has, and whether the tapes tell of each seat
-/// what its list did.
+/// What a day left: what each role counted, how many ticks the tape of each node has, whether the tapes tell of each seat
+/// what its list did, and whether they were merged into as many events as they have entries.
 #[derive(Clone, Copy, PartialEq, Eq, Debug)]
 struct Left {
     counts: [u64; 4],
     ticks: [usize; 2],
     agree: bool,
+    merged: bool,
 }
 
 // The seats with their roles, in order.
@@ -82,6 +86,37 @@ fn counts_of<M: Ledger>(done: &[Done<M>]) -> [u64; 4] {
         }
     }
     counts
+}
+
+// Whether the tapes are merged into as many events as they have entries.
+fn are_merged(alloc: Global, plan: HostPlan, tapes: &[Tape]) -> bool
+    requires { IsPlan plan }
+{
+    let Plan {
+        nodes,
+        silence,
+        places,
+        cluster_key,
+        admin_key,
+    } = plan.cluster;
+    if nodes == 0 || tapes.len() != usize::from(nodes) {
+        return false;
+    }
+    let cluster = ClusterPlan {
+        nodes,
+        silence,
+        places,
+        cluster_key,
+        admin_key,
+    };
+    let mut entries: usize = 0;
+    for tape in tapes {
+        entries = entries.saturating_add(tape.as_slice().len());
+    }
+    match merge(alloc, &cluster, tapes) {
+        Ok(events) => events.len() == entries,
+        Err(_) => false,
+    }
 }
 
 // A thread for each role; the group is made from the last one's seat; then the end.
@@ -139,6 +174,7 @@ fn run<
         counts,
         ticks,
         agree: agree(&closed.tapes, &lists),
+        merged: are_merged(alloc, plan, &closed.tapes),
     })
 }
 
@@ -271,7 +307,7 @@ fn tapes_and_seats_agree_whichever_call_of_a_port_fails(rt: HostRuntime) -> Resu
         let [failures, none, first, second] = left.counts;
         assert_eq!(rt; (failures, none), (at.min(1), 0));
         assert!(rt; first >= 4 && second >= 4);
-        assert!(rt; left.agree);
+        assert!(rt; left.agree && left.merged);
     }
     Ok(())
 }
