@@ -1,4 +1,4 @@
-pub mod Replays
+pub mod ReplayLemmas
 pub mod CallLemmas
-pub mod Gathering
-pub mod Closings
+pub mod GatheringLemmas
+pub mod ClosingLemmas

@@ -98,7 +98,7 @@ fn list_with(alloc: Global, lists: Vec<CallList>, seat: u32) -> CallList
 
 /// Closes a host: each node is the replay of its tape, and each seat's calls are its entries in the tapes. Host and seats
 /// are given up in every case.
-#[tactic(auto, using(crate::proofs::Closings::closed_same, crate::proofs::Closings::closed_entries, crate::proofs::Closings::closed_fresh, crate::proofs::Closings::other_list))]
+#[tactic(auto, using(crate::proofs::ClosingLemmas::closed_same, crate::proofs::ClosingLemmas::closed_entries, crate::proofs::ClosingLemmas::closed_fresh, crate::proofs::ClosingLemmas::other_list))]
 pub fn close<L: Tapes, M: Ledger>(
     host: Host<L, M>,
     seats: Vec<Seat<M>>,

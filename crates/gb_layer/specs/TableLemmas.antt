@@ -169,6 +169,13 @@ leads_pushed width table m i (x ∷ ms) s h =
 pub leads_unsaid : (width : ℕ) (table : List ℕ) (m : MsgId) (ms : List MsgId) → told width table m ≡ None → leads width table 0 ms ≡ true → leads width table 0 (ms ++ m ∷ []) ≡ true
 leads_unsaid width table m ms n h = leads_pushed width table m 0 ms (ap (λ o. says o (0 + length ms + 1)) n) h
 
+-- a table without width speaks of no message
+pub leads_nothing : (table : List ℕ) (i : ℕ) (ms : List MsgId) → leads 0 table i ms ≡ true
+leads_nothing table i [] = refl
+leads_nothing table i (m ∷ ms) =
+    let none : covers 0 m ≡ false = grind (arith, nat_tests) in
+    ap (λ b. says (cond b (slice_get table (spot 0 m)) None) (i + 1) && leads 0 table (i + 1) ms) none ∙ leads_nothing table (i + 1) ms
+
 -- a new message is added, and the table says its place
 pub leads_said : (width : ℕ) (table : List ℕ) (m : MsgId) (ms : List MsgId) (at v : ℕ) → covers width m ≡ true → at ≡ spot width m → at < length table → v ≡ length ms + 1 → list_any (λ x. same x m) ms ≡ false
     → leads width table 0 ms ≡ true → leads width (set table at v) 0 (ms ++ m ∷ []) ≡ true

@@ -17,7 +17,8 @@ use std::alloc::Global;
 #[derive(Drop)]
 pub struct Table {
     /// 0, or one more than the place.
-    pub told: Vec<usize>,
+    pub told: Vec<u16>,
+    /// 0 once a message came after more than a `u16` counts: then the table speaks of none.
     pub width: u16,
 }
 
@@ -60,11 +61,10 @@ impl Table {
     pub fn told(&self, m: MsgId) -> Option<usize>
         ensures { result ≡ told self.now.width self.now.told.items m }
     {
-        if m.seq == 0 || m.seq > self.width {
-            return None;
+        match self.spot(m) {
+            Some(at) => Some(usize::from(self.told[at])),
+            None => None,
         }
-        let at = m.origin.index() * usize::from(self.width) + usize::from(m.seq - 1);
-        self.told.get(at).copied()
     }
 
     /// Where the table speaks of m, if it does.
@@ -81,12 +81,17 @@ impl Table {
 
     /// Takes m down, which comes after so many messages, none of which is m.
     pub fn note(&mut self, m: MsgId, count: usize)
-        requires { count < usize.MAX }
         ensures { (ms : List MsgId) → length ms ≡ count → list_any (λ x. same x m) ms ≡ false
             → leads self.old.width self.old.told.items 0 ms ≡ true → leads self.new.width self.new.told.items 0 (ms ++ m ∷ []) ≡ true }
     {
         match self.spot(m) {
-            Some(at) => self.told[at] = count + 1,
+            Some(at) => {
+                if count < usize::from(u16::MAX) {
+                    self.told[at] = (count + 1) as u16;
+                } else {
+                    self.width = 0;
+                }
+            }
             None => {}
         }
     }

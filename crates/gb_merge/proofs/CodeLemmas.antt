@@ -22,7 +22,7 @@ use Rattle.gb_cluster.proofs.NodesLemmas.{numbered_is}
 use Rattle.gb_merge.specs.Interleaving.{is_good, tape_of}
 use Rattle.gb_merge.specs.Faults.{all_sent, IsStranger}
 use Rattle.gb_merge.specs.Woven.{IsHeld, IsNext, CanGo, HasStranger}
-use Rattle.gb_merge.proofs.Going.{node_of}
+use Rattle.gb_merge.proofs.GoingLemmas.{node_of}
 
 -- Reading.
 

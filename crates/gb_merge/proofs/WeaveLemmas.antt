@@ -9,8 +9,8 @@ use Rattle.gb_node.specs.declared.tape.TapeEntry.{TapeEntry}
 use Rattle.gb_merge.specs.Interleaving.{Pick, sent_by, tape_of, IsEventOf}
 use Rattle.gb_merge.specs.Faults.{IsStuck}
 use Rattle.gb_merge.specs.Woven.{AreHeld, CanGo, IsWoven, sent_with}
-use Rattle.gb_merge.proofs.Holding.{stuck}
-use Rattle.gb_merge.proofs.Weaving.{woven-push, sent_with-push}
+use Rattle.gb_merge.proofs.HoldingLemmas.{stuck}
+use Rattle.gb_merge.proofs.TakenLemmas.{woven-push, sent_with-push}
 
 -- what was found
 pub can_go : (plan : ClusterPlan) (o : Option (NodeId × Event)) (a : NodeId) (e : Event) (seen rest : List (List TapeEntry)) (sent : List (List ℕ)) → o ≡ Some (a, e) → seen ≡ rest → MatchOption o (AreHeld plan sent seen) (λ r. CanGo plan seen sent r.0 r.1) → CanGo plan rest sent a e

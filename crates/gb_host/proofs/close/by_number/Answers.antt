@@ -1,6 +1,6 @@
 use Rattle.std.proofs.Common.{arith, ◌≡◌, ◌<◌, true, false, length, get_or, ◌∙◌, sym}
 use Rattle.std.proofs.lemmas.List.{get_or_read}
-use Rattle.gb_host.proofs.Gathering.{gathered_step}
+use Rattle.gb_host.proofs.GatheringLemmas.{gathered_step}
 use Rattle.gb_host.proofs.close.by_number.Goals as goal
 
 pub loop-seat-preserved : goal.loop-seat-preserved

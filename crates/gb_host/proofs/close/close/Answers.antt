@@ -1,6 +1,6 @@
 use Rattle.std.proofs.Common.{rules}
 use Rattle.gb_host.specs.Closing.{AreReplays, AreSame, list_at}
-use Rattle.gb_host.proofs.Closings.{closed_fresh}
+use Rattle.gb_host.proofs.ClosingLemmas.{closed_fresh}
 use Rattle.gb_host.proofs.close.close.Goals as goal
 
 pub returns-in-Ok-None-clause-fresh : goal.returns-in-Ok-None-clause-fresh

@@ -1,6 +1,6 @@
 use Rattle.std.proofs.Common.{arith, ◌≡◌, ◌+◌, ◌++◌, [], ◌∷◌, ◌∙◌, ap, vec_len}
 use Rattle.gb_types.specs.declared.node.NodeId.{NodeId}
-use Rattle.gb_host.proofs.Closings.{lacks_memory, replays_step}
+use Rattle.gb_host.proofs.ClosingLemmas.{lacks_memory, replays_step}
 use Rattle.gb_host.proofs.close.take_apart.Goals as goal
 
 pub loop-locked-preserved : goal.loop-locked-preserved

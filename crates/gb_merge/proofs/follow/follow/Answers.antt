@@ -4,7 +4,7 @@ use Rattle.std.proofs.lemmas.Option.{slice_get_read}
 use Rattle.gb_node.specs.declared.answer.NodeAnswer.{NodeAnswer}
 use Rattle.gb_merge.specs.Woven.{IsTold, IsStepFault, IsFollowFault}
 use Rattle.gb_merge.proofs.CodeLemmas.{err_so}
-use Rattle.gb_merge.proofs.Following.{is_at-first, is_at-next, goes_there, fault_of}
+use Rattle.gb_merge.proofs.FollowingLemmas.{is_at-first, is_at-next, goes_there, fault_of}
 use Rattle.gb_merge.proofs.follow.follow.Goals as goal
 
 pub loop-i-init : goal.loop-i-init

@@ -1,4 +1,4 @@
-use Rattle.gb_merge.proofs.Following.{IsAt}
+use Rattle.gb_merge.proofs.FollowingLemmas.{IsAt}
 use Rattle.gb_merge.proofs.follow.follow.Given as goal
 
 abbrev pub invariant-loop-i : goal.invariant-loop-i

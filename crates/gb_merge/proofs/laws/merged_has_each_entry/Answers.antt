@@ -1,8 +1,8 @@
 use Rattle.std.proofs.Common.{[], ◌∙◌, ap}
 use Rattle.std.specs.Prelude.{slice_get}
-use Rattle.gb_merge.proofs.Counting.{count_is, events_sum}
-use Rattle.gb_merge.proofs.Finding.{found_at, taken_so}
-use Rattle.gb_merge.proofs.Merging.{events_count}
+use Rattle.gb_merge.proofs.CountingLemmas.{count_is, events_sum}
+use Rattle.gb_merge.proofs.FindingLemmas.{found_at, taken_so}
+use Rattle.gb_merge.proofs.MergingLemmas.{events_count}
 use Rattle.gb_merge.proofs.laws.merged_has_each_entry.Goals as goal
 
 pub returns : goal.returns

@@ -1,7 +1,7 @@
 use Rattle.std.proofs.Common.{◌∙◌, ap}
 use Rattle.gb_merge.specs.Merged.{run_of, past_of}
-use Rattle.gb_merge.proofs.Feeding.{ample_run}
-use Rattle.gb_merge.proofs.Merging.{past_is}
+use Rattle.gb_merge.proofs.FeedingLemmas.{ample_run}
+use Rattle.gb_merge.proofs.MergingLemmas.{past_is}
 use Rattle.gb_merge.proofs.laws.merged_is_one_run.Goals as goal
 
 pub returns : goal.returns

@@ -6,7 +6,7 @@ use Rattle.gb_merge.specs.Interleaving.{Pick}
 use Rattle.gb_merge.specs.Faults.{IsFault, IsStranger}
 use Rattle.gb_merge.specs.Woven.{ArePlaced, IsWeaveFault, IsFollowFault}
 use Rattle.gb_merge.proofs.CodeLemmas.{err_so}
-use Rattle.gb_merge.proofs.Merging.{whole_of, placed, events_count, weave_faulty, follow_faulty}
+use Rattle.gb_merge.proofs.MergingLemmas.{whole_of, placed, events_count, weave_faulty, follow_faulty}
 use Rattle.gb_merge.proofs.merge.merge.Goals as goal
 
 pub returns-in_err-woven-clause-err : goal.returns-in_err-woven-clause-err

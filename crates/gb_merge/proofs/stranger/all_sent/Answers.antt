@@ -1,7 +1,7 @@
 use Rattle.std.proofs.Common.{◌++◌, List, sym, ◌∙◌, ap}
 use Rattle.gb_node.specs.declared.tape.TapeEntry.{TapeEntry}
 use Rattle.gb_merge.specs.Faults.{sent_of}
-use Rattle.gb_merge.proofs.Telling.{all_more, none_of_all}
+use Rattle.gb_merge.proofs.TellingLemmas.{all_more, none_of_all}
 use Rattle.gb_merge.proofs.stranger.all_sent.Goals as goal
 
 pub loop-tape-init : goal.loop-tape-init

@@ -1,6 +1,6 @@
 use Rattle.std.proofs.Common.{◌++◌, List, ℕ, sym, ◌∙◌, ap}
 use Rattle.std.proofs.lemmas.List.{append-nil}
-use Rattle.gb_merge.proofs.Telling.{sent_more, none_sent}
+use Rattle.gb_merge.proofs.TellingLemmas.{sent_more, none_sent}
 use Rattle.gb_merge.proofs.stranger.post_all.Goals as goal
 
 pub loop-entry-init : goal.loop-entry-init

@@ -1,4 +1,4 @@
-use Rattle.gb_merge.proofs.Going.{arrival_is, blocked_is}
+use Rattle.gb_merge.proofs.GoingLemmas.{arrival_is, blocked_is}
 use Rattle.gb_merge.proofs.weave.event_of.Goals as goal
 
 pub returns-in-Some-number : goal.returns-in-Some-number

@@ -4,10 +4,10 @@ use Rattle.std.proofs.Math.ListN.{length-set}
 use Rattle.gb_node.specs.declared.tape.TapeEntry.{TapeEntry}
 use Rattle.gb_merge.specs.Interleaving.{tape_of}
 use Rattle.gb_merge.specs.Woven.{IsWoven, AreMarked, AreWoken}
-use Rattle.gb_merge.proofs.Counting.{count_falls}
-use Rattle.gb_merge.proofs.Marking.{marked_on, unmarked}
+use Rattle.gb_merge.proofs.CountingLemmas.{count_falls}
+use Rattle.gb_merge.proofs.MarkingLemmas.{marked_on, unmarked}
 use Rattle.gb_merge.proofs.WeaveLemmas.{can_go, none_goes, read_is, goes, posted, held_up}
-use Rattle.gb_merge.proofs.Weaving.{woven-begins, sent_begins}
+use Rattle.gb_merge.proofs.TakenLemmas.{woven-begins, sent_begins}
 use Rattle.gb_merge.proofs.weave.weave.Goals as goal
 
 pub all-init : goal.all-init

@@ -1,7 +1,7 @@
 use Rattle.std.proofs.Common.{rules, ◌<◌, subst}
 use Rattle.gb_host.specs.Plans.{IsPlan}
 use Rattle.gb_host.specs.declared.plan.HostPlan.{HostPlan}
-use Rattle.gb_host.proofs.Replays.{hosted_fits_new}
+use Rattle.gb_host.proofs.ReplayLemmas.{hosted_fits_new}
 use Rattle.gb_host.proofs.hosted.Hosted.new.Goals as goal
 
 pub invariant_of-result : goal.invariant_of-result

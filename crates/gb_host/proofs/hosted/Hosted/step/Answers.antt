@@ -5,7 +5,7 @@ use Rattle.gb_node.specs.declared.tape.TapeEntry.{TapeEntry}
 use Rattle.gb_host.specs.HostedValue.{HostedValue}
 use Rattle.gb_host.specs.SeatValue.{SeatValue}
 use Rattle.gb_host.specs.declared.entry.SeatEntry.{SeatEntry}
-use Rattle.gb_host.proofs.Replays.{calls_at_le, hosted_fits_more, seat_fits_more}
+use Rattle.gb_host.proofs.ReplayLemmas.{calls_at_le, hosted_fits_more, seat_fits_more}
 use Rattle.gb_host.proofs.hosted.Hosted.step.Goals as goal
 
 pub overflow_add-counts : goal.overflow_add-counts

@@ -1,11 +1,14 @@
-use Rattle.std.proofs.Common.{◌+◌, arith}
-use Rattle.gb_layer.specs.TableLemmas.{leads_said, leads_unsaid}
+use Rattle.std.proofs.Common.{◌+◌, ◌++◌, ◌∷◌, [], arith}
+use Rattle.gb_layer.specs.TableLemmas.{leads_said, leads_nothing, leads_unsaid}
 use Rattle.gb_layer.proofs.table.Table.note.Goals as goal
 
-pub returns-in-Some : goal.returns-in-Some
-returns-in-Some c = λ ms len n leads.
+pub returns-then-count-from : goal.returns-then-count-from
+returns-then-count-from c = λ ms len n leads.
     let t = c.args.self.now in
     leads_said t.width t.told.items c.args.m ms c.in-Some.at (c.args.count + 1) c.in-Some.ensures.0 c.in-Some.ensures.1 c.in-Some.ensures.2 (omega (arith, len)) n leads
+
+pub returns-else-count-from : goal.returns-else-count-from
+returns-else-count-from c = λ ms len n leads. leads_nothing c.args.self.now.told.items 0 (ms ++ c.args.m ∷ [])
 
 pub returns-in-None : goal.returns-in-None
 returns-in-None c = λ ms len n leads.

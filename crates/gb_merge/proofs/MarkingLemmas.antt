@@ -18,8 +18,8 @@ use Rattle.gb_cluster.proofs.NodesLemmas.{numbered_is}
 use Rattle.gb_merge.specs.Interleaving.{sent_by, tape_of}
 use Rattle.gb_merge.specs.Faults.{IsBlocked}
 use Rattle.gb_merge.specs.Woven.{IsHeld, AreMarked, AreWoken, AwaitsOther, CanGo}
-use Rattle.gb_merge.proofs.In.{In, in_at, at_in, in_either}
-use Rattle.gb_merge.proofs.Holding.{not_blocked}
+use Rattle.gb_merge.proofs.AmongLemmas.{In, in_at, at_in, in_either}
+use Rattle.gb_merge.proofs.HoldingLemmas.{not_blocked}
 
 only_one : (b : List ℕ) (g : NodeAnswer) → In b (sent_by g) → sent_by g ≡ b ∷ []
 unfolding In

@@ -12,7 +12,7 @@ use Rattle.gb_cluster.specs.declared.plan.ClusterPlan.{ClusterPlan}
 use Rattle.gb_merge.specs.Interleaving.{Pick, entries_at, sent_by, IsEventOf, AreEvents, tape_of}
 use Rattle.gb_merge.specs.Faults.{sent_of}
 use Rattle.gb_merge.specs.Woven.{sent_with, IsWoven}
-use Rattle.gb_merge.proofs.In.{In, in_left, in_right, in_either}
+use Rattle.gb_merge.proofs.AmongLemmas.{In, in_left, in_right, in_either}
 
 -- the entry's own node
 pub entries_at-same : (a : ℕ) (p : Pick) (picks : List Pick) → p.node.number ≡ a → entries_at a (p ∷ picks) ≡ p.entry ∷ entries_at a picks

@@ -6,8 +6,8 @@ use Rattle.std.proofs.lemmas.List.{get_or-set_same, get_or-set_other}
 use Rattle.gb_node.specs.declared.tape.TapeEntry.{TapeEntry}
 use Rattle.gb_merge.specs.Interleaving.{Pick, entries_at, tape_of}
 use Rattle.gb_merge.specs.Woven.{count_of}
-use Rattle.gb_merge.proofs.Merging.{inside_of}
-use Rattle.gb_merge.proofs.Weaving.{entries_at-same, entries_at-other, nothing}
+use Rattle.gb_merge.proofs.MergingLemmas.{inside_of}
+use Rattle.gb_merge.proofs.TakenLemmas.{entries_at-same, entries_at-other, nothing}
 
 pub count_falls : (rest : List (List TapeEntry)) (a : ℕ) (x : TapeEntry) (more : List TapeEntry) → tape_of rest a ≡ x ∷ more → count_of (slice_set rest a more) < count_of rest
 unfolding count_of

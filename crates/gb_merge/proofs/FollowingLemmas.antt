@@ -26,8 +26,8 @@ use Rattle.gb_merge.specs.declared.fault.AuditFault.{AuditFault}
 use Rattle.gb_merge.specs.declared.fault.AuditFault.TheVariants.{Stranger, Stuck, Differs, OutOfMemory}
 use Rattle.gb_merge.specs.Faults.{node_answer, node_after, after_entry, replay}
 use Rattle.gb_merge.specs.Woven.{is_refused, sent_with, ArePlaced, IsTold, IsUntold, IsStepFault, IsFollowed, IsFollowFault, IsWrong}
-use Rattle.gb_merge.proofs.Acting.{texts, text_of, Acted, acts, turned, fed_is, posted_is, told_own, placed_so}
-use Rattle.gb_merge.proofs.Weaving.{entries_at-same, entries_at-other, entries_at-append, sent_with-push, nothing}
+use Rattle.gb_merge.proofs.ActingLemmas.{texts, text_of, Acted, acts, turned, fed_is, posted_is, told_own, placed_so}
+use Rattle.gb_merge.proofs.TakenLemmas.{entries_at-same, entries_at-other, entries_at-append, sent_with-push, nothing}
 
 run_of-push : (done : List Pick) (p : Pick) → run_of (done ++ p ∷ []) ≡ did p ∷ run_of done
 run_of-push done p = ap reverse (map-append did done (p ∷ [])) ∙ reverse-append (map did done) (did p ∷ [])

@@ -8,8 +8,8 @@ use Rattle.gb_cluster.specs.declared.plan.ClusterPlan.{ClusterPlan}
 use Rattle.gb_merge.specs.EachEntry.{IsTaken}
 use Rattle.gb_merge.specs.Interleaving.{Pick, entries_at, AreEvents, IsEventOf, sent_by}
 use Rattle.gb_merge.specs.Woven.{sent_with}
-use Rattle.gb_merge.proofs.Following.{event_at}
-use Rattle.gb_merge.proofs.Weaving.{entries_at-same, entries_at-other, nothing}
+use Rattle.gb_merge.proofs.FollowingLemmas.{event_at}
+use Rattle.gb_merge.proofs.TakenLemmas.{entries_at-same, entries_at-other, nothing}
 
 -- where the entry at a place of what was taken at a node stands
 pub record Found (a : ℕ) (picks : List Pick) (place : ℕ) (x : TapeEntry) : Type 0 where

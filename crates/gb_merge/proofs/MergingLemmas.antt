@@ -17,7 +17,7 @@ use Rattle.gb_merge.specs.Faults.{node_answer, replay, IsStranger, IsDifferent, 
 use Rattle.gb_merge.specs.Woven.{IsWoven, IsWhole, ArePlaced, IsFollowed, IsWrong, IsWeaveFault, IsFollowFault}
 use Rattle.gb_merge.specs.declared.fault.AuditFault.{AuditFault}
 use Rattle.gb_merge.specs.declared.fault.AuditFault.TheVariants.{Stranger, Stuck, Differs, OutOfMemory}
-use Rattle.gb_merge.proofs.Weaving.{entries_at-same, entries_at-append}
+use Rattle.gb_merge.proofs.TakenLemmas.{entries_at-same, entries_at-append}
 
 pub whole_of : (plan : ClusterPlan) (tapes rest : List (List TapeEntry)) (picks : List Pick) (events : List Event) → IsWoven plan tapes rest picks events → ((a : ℕ) → tape_of rest a ≡ []) → IsWhole plan tapes picks events
 whole_of plan tapes rest picks events woven empty = record {

@@ -12,8 +12,8 @@ use Rattle.gb_cluster.proofs.NodesLemmas.{numbered_is}
 use Rattle.gb_merge.specs.Interleaving.{Pick, entries_at, sent_by, text_numbered, IsEventOf, AreEvents, tape_of}
 use Rattle.gb_merge.specs.Faults.{IsStuck, sent_of, IsBlocked}
 use Rattle.gb_merge.specs.Woven.{sent_with, IsWoven, IsHeld, AreHeld}
-use Rattle.gb_merge.proofs.In.{In, in_at, at_in, in_left, in_right, in_either}
-use Rattle.gb_merge.proofs.Weaving.{entries_at-same, entries_at-other, sent_at}
+use Rattle.gb_merge.proofs.AmongLemmas.{In, in_at, at_in, in_left, in_right, in_either}
+use Rattle.gb_merge.proofs.TakenLemmas.{entries_at-same, entries_at-other, sent_at}
 
 -- the packet with the number is among them
 pub numbered_in : (b : List ℕ) (xs : List (List ℕ)) (k : ℕ) → text_numbered xs k ≡ Some b → In b xs
