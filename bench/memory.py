@@ -15,8 +15,8 @@ MESSAGE = 40 + 4 + 4 + 4 + 6
 RELAY = 22 + 6
 # What first-in first-out order adds: an entry, and a pair that came up below it.
 FIFO = 6 + 6
-# A table has a place of 8 bytes for each of the 16 nodes' m numbers.
-TABLE = 16 * 8
+# A table has a place of 2 bytes for each of the 16 nodes' m numbers.
+TABLE = 16 * 2
 # The set of the nodes that have an own message for good.
 ACKNOWLEDGED = 16
 

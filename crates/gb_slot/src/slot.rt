@@ -84,7 +84,7 @@ impl Slot {
     /// `bytes` payload bytes in all at most, this is n * `bytes` payload bytes; 58 bytes for each of the n * `msgs`
     /// messages (40 in the store, 4 in the log, 4 in what is put out, 10 in what a call of the broadcast gives), 28 more
     /// where the broadcast relays, and 12 more in first-in first-out order; 16 bytes for each of `msgs` own messages,
-    /// for the nodes that have it for good; and tables by which messages are found, of 128 * `msgs` bytes each: one, one
+    /// for the nodes that have it for good; and tables by which messages are found, of 32 * `msgs` bytes each: one, one
     /// more where the broadcast relays, and one more in first-in first-out order. OutOfMemory where it is not there.
     pub fn new(alloc: Global, spec: Spec, me: NodeId, noticed: &NodeSet) -> Result<Slot, Refusal>
         requires limits { IsWithinLimits spec }
