@@ -16,13 +16,13 @@ use Rattle.gb_cluster.specs.declared.answer.Answer.{Answer}
 use Rattle.gb_cluster.specs.declared.answer.Answer.TheVariants.{NoPacket, NotNoise}
 use Rattle.gb_cluster.specs.declared.event.Event.{Event}
 use Rattle.gb_cluster.specs.declared.event.Event.TheVariants.{At, Arrive}
-use Rattle.gb_cluster.specs.declared.plan.ClusterPlan.{ClusterPlan}
+use Rattle.gb_types.specs.declared.plan.Plan.{Plan}
 use Rattle.gb_cluster.specs.declared.posted.Posted.{Posted}
 use Rattle.gb_cluster.specs.Links.{PacketsAreHonest}
 use Rattle.gb_cluster.proofs.NodesLemmas.{stays}
 
 -- the node that was read at an index takes an event
-pub acted : (plan : ClusterPlan) (nodes : List NodeValue) (before after : List Posted) (a : NodeId) (i : ℕ) (event : NodeEvent) (answer : Answer) (old new : NodeValue) → i ≡ a.number → i < length nodes → old ≡ get_or nodes i old
+pub acted : (plan : Plan) (nodes : List NodeValue) (before after : List Posted) (a : NodeId) (i : ℕ) (event : NodeEvent) (answer : Answer) (old new : NodeValue) → i ≡ a.number → i < length nodes → old ≡ get_or nodes i old
     → IsNodeTurn old event before answer new after → IsAt (cluster plan nodes before) a event answer (cluster plan (slice_set nodes i new) after)
 acted plan nodes before after a i event answer old new place within read turned =
     let there : old ≡ node_at (cluster plan nodes before) a = read ∙ (get_or_default nodes i old (new_node (node_plan plan a)) within ∙ ap (λ k. get_or nodes k (new_node (node_plan plan a))) place) in
@@ -43,19 +43,19 @@ numbered_at : (packets : List Posted) (k : ℕ) → (k ≡ 0 → ⊥) → packet
 numbered_at packets zero some = absurd (some refl)
 numbered_at packets (suc k) some = let e : suc k - 1 ≡ k = omega arith in ap (slice_get packets) (sym e)
 
-pub not_there : (plan : ClusterPlan) (nodes : List NodeValue) (packets : List Posted) (k : ℕ) → (k ≡ 0 → ⊥) → length packets ≤ k - 1 → IsStep (cluster plan nodes packets) (Arrive k) NoPacket (cluster plan nodes packets)
+pub not_there : (plan : Plan) (nodes : List NodeValue) (packets : List Posted) (k : ℕ) → (k ≡ 0 → ⊥) → length packets ≤ k - 1 → IsStep (cluster plan nodes packets) (Arrive k) NoPacket (cluster plan nodes packets)
 not_there plan nodes packets k some past =
     let none : packet_numbered packets k ≡ None = numbered_at packets k some ∙ slice_get_past packets (k - 1) past in
     subst (λ o. IsArrival (cluster plan nodes packets) o NoPacket (cluster plan nodes packets)) (sym none) (refl, refl)
 
-pub arrived : (plan : ClusterPlan) (nodes : List NodeValue) (packets : List Posted) (k : ℕ) (p : Posted) (i : ℕ) (answer : Answer) (old new : NodeValue) → (k ≡ 0 → ⊥) → slice_get packets (k - 1) ≡ Some p → i ≡ p.to.number → i < length nodes → old ≡ get_or nodes i old
+pub arrived : (plan : Plan) (nodes : List NodeValue) (packets : List Posted) (k : ℕ) (p : Posted) (i : ℕ) (answer : Answer) (old new : NodeValue) → (k ≡ 0 → ⊥) → slice_get packets (k - 1) ≡ Some p → i ≡ p.to.number → i < length nodes → old ≡ get_or nodes i old
     → IsNodeTurn old (Came p.text) packets answer new packets → IsStep (cluster plan nodes packets) (Arrive k) answer (cluster plan (slice_set nodes i new) packets)
 arrived plan nodes packets k p i answer old new some at place within read turned =
     subst (λ o. IsArrival (cluster plan nodes packets) o answer (cluster plan (slice_set nodes i new) packets)) (sym (numbered_at packets k some ∙ at))
     (acted plan nodes packets packets p.to i (Came p.text) answer old new place within read turned)
 
 -- an event at a node that is no packet for it
-pub happened : (plan : ClusterPlan) (nodes : List NodeValue) (before after : List Posted) (a : NodeId) (i : ℕ) (event : NodeEvent) (answer : Answer) (old new : NodeValue) → i ≡ a.number → i < length nodes → old ≡ get_or nodes i old
+pub happened : (plan : Plan) (nodes : List NodeValue) (before after : List Posted) (a : NodeId) (i : ℕ) (event : NodeEvent) (answer : Answer) (old new : NodeValue) → i ≡ a.number → i < length nodes → old ≡ get_or nodes i old
     → is_packet_for old event ≡ false → IsNodeTurn old event before answer new after → IsStep (cluster plan nodes before) (At a event) answer (cluster plan (slice_set nodes i new) after)
 happened plan nodes before after a i event answer old new place within read noise turned =
     let there : old ≡ node_at (cluster plan nodes before) a = read ∙ (get_or_default nodes i old (new_node (node_plan plan a)) within ∙ ap (λ k. get_or nodes k (new_node (node_plan plan a))) place) in
@@ -63,7 +63,7 @@ happened plan nodes before after a i event answer old new place within read nois
     subst (λ b. MatchBool b ((answer ≡ NotNoise) × (cluster plan (slice_set nodes i new) after ≡ cluster plan nodes before)) (IsAt (cluster plan nodes before) a event answer (cluster plan (slice_set nodes i new) after))) (sym off)
     (acted plan nodes before after a i event answer old new place within read turned)
 
-pub no_noise : (plan : ClusterPlan) (nodes : List NodeValue) (packets : List Posted) (a : NodeId) (i : ℕ) (event : NodeEvent) (old : NodeValue) → i ≡ a.number → i < length nodes → old ≡ get_or nodes i old
+pub no_noise : (plan : Plan) (nodes : List NodeValue) (packets : List Posted) (a : NodeId) (i : ℕ) (event : NodeEvent) (old : NodeValue) → i ≡ a.number → i < length nodes → old ≡ get_or nodes i old
     → is_packet_for old event ≡ true → IsStep (cluster plan nodes packets) (At a event) NotNoise (cluster plan nodes packets)
 no_noise plan nodes packets a i event old place within read is =
     let there : old ≡ node_at (cluster plan nodes packets) a = read ∙ (get_or_default nodes i old (new_node (node_plan plan a)) within ∙ ap (λ k. get_or nodes k (new_node (node_plan plan a))) place) in
@@ -120,9 +120,9 @@ for_nodes packets v reached k p at =
     let l = h.reaches in
     omega (arith, count, l)
 
-pub started : (plan : ClusterPlan) (n : ℕ) (nodes : List NodeValue) (packets : List Posted) → n ≡ plan.nodes → nodes ≡ map (λ a. new_node (node_plan plan (node_numbered a))) (range_with_len 0 n) → packets ≡ [] → cluster plan nodes packets ≡ new_cluster plan
+pub started : (plan : Plan) (n : ℕ) (nodes : List NodeValue) (packets : List Posted) → n ≡ plan.nodes → nodes ≡ map (λ a. new_node (node_plan plan (node_numbered a))) (range_with_len 0 n) → packets ≡ [] → cluster plan nodes packets ≡ new_cluster plan
 started plan n nodes packets all nodes_are packets_are = λ j. cluster plan ((nodes_are ∙ ap (λ k. map (λ a. new_node (node_plan plan (node_numbered a))) (range_with_len 0 k)) all) j) (packets_are j)
 
-pub started_comes : (plan : ClusterPlan) (v : ClusterValue) → IsClusterPlan plan → v ≡ new_cluster plan → ComesTo plan [] v
+pub started_comes : (plan : Plan) (v : ClusterValue) → IsClusterPlan plan → v ≡ new_cluster plan → ComesTo plan [] v
 unfolding ComesTo
 started_comes plan v right is = (right, is)

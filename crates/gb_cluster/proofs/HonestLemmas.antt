@@ -27,7 +27,7 @@ use Rattle.gb_cluster.specs.ClusterValue.{ClusterValue, node_plan, node_at}
 use Rattle.gb_cluster.specs.ClusterStep.{posted, posted_to}
 use Rattle.gb_cluster.specs.Run.{Did, ComesTo, past_at}
 use Rattle.gb_cluster.specs.Links.{IsHonest, PacketsAreHonest}
-use Rattle.gb_cluster.specs.declared.plan.ClusterPlan.{ClusterPlan}
+use Rattle.gb_types.specs.declared.plan.Plan.{Plan}
 use Rattle.gb_cluster.specs.declared.posted.Posted.{Posted}
 use Rattle.gb_cluster.proofs.NodesLemmas.{stays, past_same, past_other, have_pasts}
 
@@ -79,7 +79,7 @@ taken_more key b n a d run e = elim (cases_eq d.node.number a.number) [
   | inr other ↦ ap (is_taken key b n) (past_other a d run other) ∙ e
 ]
 
-honest_more : (plan : ClusterPlan) (run : List Did) (d : Did) (p : Posted) → IsHonest plan run p → IsHonest plan (d ∷ run) p
+honest_more : (plan : Plan) (run : List Did) (d : Did) (p : Posted) → IsHonest plan run p → IsHonest plan (d ∷ run) p
 honest_more plan run d p h = record {
   content = h.content;
   from = h.from;
@@ -150,7 +150,7 @@ sent_by b Nothing p j e = absurd (cc)
 sent_by b (SentRefused why) p j e = absurd (cc)
 
 -- A packet that a node sends.
-module _ (law : WhatIsWrittenIsRead) (plan : ClusterPlan) (a : NodeId) (inside : a.number < plan.nodes) (past : List Happened) (v : NodeValue) (was : IsOfPast (node_plan plan a) past v) where
+module _ (law : WhatIsWrittenIsRead) (plan : Plan) (a : NodeId) (inside : a.number < plan.nodes) (past : List Happened) (v : NodeValue) (was : IsOfPast (node_plan plan a) past v) where
   acks_are : (b : NodeId) (frame : ℕ) (items : List Item) (n : ℕ) → 1 ≤ n → covers (content_to v b frame items).base (content_to v b frame items).mask n ≡ true → is_taken plan.cluster_key b.number n past ≡ true
   acks_are b frame items n from is = sym (was.received b n) ∙ covered_received (receiver_from v b.number) n from is
 

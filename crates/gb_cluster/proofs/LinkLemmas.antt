@@ -30,7 +30,7 @@ use Rattle.gb_node.specs.declared.event.NodeEvent.TheVariants.{Request as Asked,
 use Rattle.gb_cluster.specs.ClusterValue.{ClusterValue, node_plan, node_at}
 use Rattle.gb_cluster.specs.Run.{Did, ComesTo, past_at, IsSent}
 use Rattle.gb_cluster.specs.Links.{IsHonest, PacketsAreHonest, first_taken, IsWhole, IsAlwaysWhole, LinksHold}
-use Rattle.gb_cluster.specs.declared.plan.ClusterPlan.{ClusterPlan}
+use Rattle.gb_types.specs.declared.plan.Plan.{Plan}
 use Rattle.gb_cluster.proofs.NodesLemmas.{numbered_is, stays, past_same, past_other, have_pasts}
 use Rattle.gb_cluster.proofs.HonestLemmas.{get_within, contains_get, frames_more, taken_more}
 use Rattle.gb_node.specs.Past.{packed_for}
@@ -84,7 +84,7 @@ first_new r n e = by (nat_eq n 0) refl e
     by false is e = (grind (arith, nat_tests, is), admitted (set.contains r n) (is_awaited r n) e)
 
 -- A packet that a node of a cluster takes is honest.
-pub record HonestArrival (plan : ClusterPlan) (run : List Did) (a : NodeId) (bytes : List ℕ) (good : Good) (v : NodeValue) : Type 0 where
+pub record HonestArrival (plan : Plan) (run : List Did) (a : NodeId) (bytes : List ℕ) (good : Good) (v : NodeValue) : Type 0 where
   pub content : Content
   pub text : read plan.cluster_key bytes ≡ content ∷ []
   pub good_is : good ≡ good_of content v
@@ -97,7 +97,7 @@ one_content {c} {e} same = ap first same
     first [] = c
     first (x ∷ xs) = x
 
-module _ (law : WhatIsWrittenIsRead) (pasts : PastsSay) (packets : PacketsAreHonest) (plan : ClusterPlan) where
+module _ (law : WhatIsWrittenIsRead) (pasts : PastsSay) (packets : PacketsAreHonest) (plan : Plan) where
   pub arrives_honestly : (run : List Did) (v : ClusterValue) (a : NodeId) (bytes : List ℕ) (good : Good) (w : NodeValue) → ComesTo plan run v → a.number < plan.nodes → IsSent v a (Came bytes)
       → IsTurn (node_at v a) (Came bytes) (Taken (TakenGood good)) w → HonestArrival plan run a bytes good (node_at v a)
   arrives_honestly run v a bytes good w comes inside sent turned =

@@ -12,19 +12,19 @@ use Rattle.gb_node.specs.Past.{ComesTo as NodeComesTo}
 use Rattle.gb_cluster.specs.ClusterValue.{ClusterValue, node_plan, node_at, IsClusterPlan}
 use Rattle.gb_cluster.specs.ClusterStep.{NodeActs}
 use Rattle.gb_cluster.specs.Run.{Did, ComesTo, past_at, NodesHavePasts}
-use Rattle.gb_cluster.specs.declared.plan.ClusterPlan.{ClusterPlan}
+use Rattle.gb_types.specs.declared.plan.Plan.{Plan}
 
 -- a number of a node is that of the node
 pub numbered_is : (a : NodeId) → node_numbered a.number ≡ a
 numbered_is a = let b = a.below in same_number (node_numbered a.number) a (omega arith)
 
 -- what a run leaves as it is
-pub record Stays (plan : ClusterPlan) (v : ClusterValue) : Type 0 where
+pub record Stays (plan : Plan) (v : ClusterValue) : Type 0 where
   pub right : IsClusterPlan plan
   pub plan_is : v.plan ≡ plan
   pub count : length v.nodes ≡ plan.nodes
 
-pub stays : (plan : ClusterPlan) (run : List Did) (v : ClusterValue) → ComesTo plan run v → Stays plan v
+pub stays : (plan : Plan) (run : List Did) (v : ClusterValue) → ComesTo plan run v → Stays plan v
 unfolding ComesTo
 stays plan [] v comes = record {
   right = comes.0;

@@ -34,7 +34,7 @@ use Rattle.gb_node.specs.declared.plan.NodePlan.{NodePlan}
 use Rattle.gb_cluster.specs.ClusterValue.{ClusterValue, node_plan, node_at}
 use Rattle.gb_cluster.specs.Run.{Did, ComesTo, past_at, IsSent}
 use Rattle.gb_cluster.specs.Links.{PacketsAreHonest, LinksHold, NothingIsOutside}
-use Rattle.gb_cluster.specs.declared.plan.ClusterPlan.{ClusterPlan}
+use Rattle.gb_types.specs.declared.plan.Plan.{Plan}
 use Rattle.gb_cluster.proofs.NodesLemmas.{stays, have_pasts}
 use Rattle.gb_cluster.proofs.HonestLemmas.{get_within}
 use Rattle.gb_cluster.proofs.LinkLemmas.{arrives_honestly, one_content}
@@ -176,7 +176,7 @@ not_true true c so e = absurd (true≢false (sym (so refl) ∙ e))
 not_true false c so e = refl
 
 -- Every packet that is taken.
-module _ (law : WhatIsWrittenIsRead) (pasts : PastsSay) (packets : PacketsAreHonest) (links : LinksHold) (plan : ClusterPlan) where
+module _ (law : WhatIsWrittenIsRead) (pasts : PastsSay) (packets : PacketsAreHonest) (links : LinksHold) (plan : Plan) where
   taken_inside : (run : List Did) (before : ClusterValue) (a : NodeId) (bytes : List ℕ) (good : Good) (w : NodeValue) → ComesTo plan run before → a.number < plan.nodes → IsSent before a (Came bytes)
       → IsTurn (node_at before a) (Came bytes) (Taken (TakenGood good)) w → good.frame ≢ Beyond
   taken_inside run before a bytes good w comes inside was_sent turned e =

@@ -6,20 +6,20 @@ use Rattle.gb_types.specs.declared.node.NodeId.{NodeId}
 use Rattle.gb_node.specs.NodeStep.{node_numbered}
 use Rattle.gb_node.specs.NodeValue.{NodeValue, new_node}
 use Rattle.gb_node.specs.declared.plan.NodePlan.{NodePlan}
-use Rattle.gb_cluster.specs.declared.plan.ClusterPlan.{ClusterPlan}
+use Rattle.gb_types.specs.declared.plan.Plan.{Plan}
 use Rattle.gb_cluster.specs.declared.posted.Posted.{Posted}
 
 -- the nodes by their numbers, and every packet that was sent, in order
 pub record ClusterValue : Type 0 where
-  pub plan : ClusterPlan
+  pub plan : Plan
   pub nodes : List NodeValue
   pub packets : List Posted
 
-abbrev pub cluster : ClusterPlan → List NodeValue → List Posted → ClusterValue
+abbrev pub cluster : Plan → List NodeValue → List Posted → ClusterValue
 cluster plan nodes packets = record { plan = plan; nodes = nodes; packets = packets }
 
 -- what a node is started with
-abbrev pub node_plan : ClusterPlan → NodeId → NodePlan
+abbrev pub node_plan : Plan → NodeId → NodePlan
 node_plan plan me = record { me = me; nodes = plan.nodes; silence = plan.silence; places = plan.places; cluster_key = plan.cluster_key; admin_key = plan.admin_key; tape = false }
 
 -- a node of the cluster
@@ -27,11 +27,11 @@ abbrev pub node_at : ClusterValue → NodeId → NodeValue
 node_at v a = slice_index_or v.nodes a.number (new_node (node_plan v.plan a))
 
 -- a cluster in which nothing has happened
-abbrev pub new_cluster : ClusterPlan → ClusterValue
+abbrev pub new_cluster : Plan → ClusterValue
 new_cluster plan = cluster plan (map (λ a. new_node (node_plan plan (node_numbered a))) (range_with_len 0 plan.nodes)) []
 
 -- a cluster may be started so
-pub record IsClusterPlan (plan : ClusterPlan) : Type 0 where
+pub record IsClusterPlan (plan : Plan) : Type 0 where
   pub some : 1 ≤ plan.nodes
   pub few : plan.nodes ≤ NODES
   pub places : plan.places ≤ PLACES

@@ -15,12 +15,12 @@ use Rattle.gb_node.specs.declared.event.NodeEvent.{NodeEvent}
 use Rattle.gb_node.specs.declared.event.NodeEvent.TheVariants.{Packet as Came}
 use Rattle.gb_cluster.specs.ClusterValue.{ClusterValue}
 use Rattle.gb_cluster.specs.Run.{Did, ComesTo, past_at}
-use Rattle.gb_cluster.specs.declared.plan.ClusterPlan.{ClusterPlan}
+use Rattle.gb_types.specs.declared.plan.Plan.{Plan}
 use Rattle.gb_cluster.specs.declared.posted.Posted.{Posted}
 
 -- A packet that was sent goes from one node of the cluster to another, and says what its sender did: its frame is the one that was packed under the number, and it acknowledges
 -- only frames that were taken.
-pub record IsHonest (plan : ClusterPlan) (run : List Did) (p : Posted) : Type 0 where
+pub record IsHonest (plan : Plan) (run : List Did) (p : Posted) : Type 0 where
   pub content : Content
   pub from : NodeId
   pub text : read plan.cluster_key p.text ≡ content ∷ []
@@ -33,7 +33,7 @@ pub record IsHonest (plan : ClusterPlan) (run : List Did) (p : Posted) : Type 0 
 
 -- so every packet of every run
 abbrev pub PacketsAreHonest : Type 0
-PacketsAreHonest = (plan : ClusterPlan) (run : List Did) (v : ClusterValue) → ComesTo plan run v → (k : ℕ) (p : Posted) → slice_get v.packets k ≡ Some p → IsHonest plan run p
+PacketsAreHonest = (plan : Plan) (run : List Did) (v : ClusterValue) → ComesTo plan run v → (k : ℕ) (p : Posted) → slice_get v.packets k ≡ Some p → IsHonest plan run p
 
 -- the packet whose frame a node takes for the first time
 abbrev pub first_taken : List ℕ → NodeEvent → NodeAnswer → List Content
@@ -42,17 +42,17 @@ first_taken key event answer = []
 
 -- Where a node takes a frame for the first time, the frame was not taken before, and its items are those that the sender packed
 -- under its number for this node, whole and in order.
-abbrev pub IsWhole : ClusterPlan → List Did → Did → Type 0
+abbrev pub IsWhole : Plan → List Did → Did → Type 0
 IsWhole plan run d = (c : Content) → first_taken plan.cluster_key d.event d.answer ≡ c ∷ []
     → (1 ≤ c.frame) × (is_taken plan.cluster_key c.from c.frame (past_at d.node run) ≡ false) × (slice_get (frames_to plan.cluster_key d.node.number (past_at (node_numbered c.from) run)) (c.frame - 1) ≡ Some c.items)
 
 -- so at every moment of a run
-unfoldable pub IsAlwaysWhole : ClusterPlan → List Did → Type 0
+unfoldable pub IsAlwaysWhole : Plan → List Did → Type 0
 IsAlwaysWhole plan [] = Unit {0}
 IsAlwaysWhole plan (d ∷ run) = IsWhole plan run d × IsAlwaysWhole plan run
 
 -- The link from one node to another, in a run.
-pub record IsLink (plan : ClusterPlan) (run : List Did) (a b : NodeId) : Type 0 where
+pub record IsLink (plan : Plan) (run : List Did) (a b : NodeId) : Type 0 where
   -- what was taken was packed
   pub taken : (n : ℕ) → is_taken plan.cluster_key a.number n (past_at b run) ≡ true → (1 ≤ n) × (n ≤ length (frames_to plan.cluster_key b.number (past_at a run)))
   -- what was acknowledged was taken
@@ -60,12 +60,12 @@ pub record IsLink (plan : ClusterPlan) (run : List Did) (a b : NodeId) : Type 0 
 
 -- the links of every run: whatever arrives, frames are taken once and whole, and only those that were packed
 pub record LinksHold : Type 0 where
-  pub whole : (plan : ClusterPlan) (run : List Did) (v : ClusterValue) → ComesTo plan run v → IsAlwaysWhole plan run
-  pub each : (plan : ClusterPlan) (run : List Did) (v : ClusterValue) → ComesTo plan run v → (a b : NodeId) → IsLink plan run a b
+  pub whole : (plan : Plan) (run : List Did) (v : ClusterValue) → ComesTo plan run v → IsAlwaysWhole plan run
+  pub each : (plan : Plan) (run : List Did) (v : ClusterValue) → ComesTo plan run v → (a b : NodeId) → IsLink plan run a b
   -- what a packet acknowledges that is taken was taken by its sender
-  pub covered : (plan : ClusterPlan) (run : List Did) (d : Did) (v : ClusterValue) → ComesTo plan (d ∷ run) v → (c : Content) → came plan.cluster_key d.event d.answer ≡ c ∷ [] → c.from < NODES
+  pub covered : (plan : Plan) (run : List Did) (d : Did) (v : ClusterValue) → ComesTo plan (d ∷ run) v → (c : Content) → came plan.cluster_key d.event d.answer ≡ c ∷ [] → c.from < NODES
       → (n : ℕ) → 1 ≤ n → covers c.base c.mask n ≡ true → is_taken plan.cluster_key d.node.number n (past_at (node_numbered c.from) run) ≡ true
 
 -- No packet that is taken has a frame outside its receiver's window, whichever packets arrive, whenever and however often.
 abbrev pub NothingIsOutside : Type 0
-NothingIsOutside = (plan : ClusterPlan) (run : List Did) (d : Did) (v : ClusterValue) (bytes : List ℕ) (good : Good) → ComesTo plan (d ∷ run) v → d.event ≡ Came bytes → d.answer ≡ Taken (TakenGood good) → good.frame ≢ Beyond
+NothingIsOutside = (plan : Plan) (run : List Did) (d : Did) (v : ClusterValue) (bytes : List ℕ) (good : Good) → ComesTo plan (d ∷ run) v → d.event ≡ Came bytes → d.answer ≡ Taken (TakenGood good) → good.frame ≢ Beyond

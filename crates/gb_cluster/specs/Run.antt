@@ -7,7 +7,7 @@ use Rattle.gb_node.specs.declared.event.NodeEvent.{NodeEvent}
 use Rattle.gb_node.specs.declared.event.NodeEvent.TheVariants.{Packet as Came}
 use Rattle.gb_cluster.specs.ClusterValue.{ClusterValue, new_cluster, node_plan, node_at, IsClusterPlan}
 use Rattle.gb_cluster.specs.ClusterStep.{NodeActs, is_packet_for}
-use Rattle.gb_cluster.specs.declared.plan.ClusterPlan.{ClusterPlan}
+use Rattle.gb_types.specs.declared.plan.Plan.{Plan}
 
 -- something that happened at a node
 pub record Did : Type 0 where
@@ -20,7 +20,7 @@ abbrev pub IsSent : ClusterValue → NodeId → NodeEvent → Type 0
 IsSent v a event = (bytes : List ℕ) → event ≡ Came bytes → is_packet_for (node_at v a) event ≡ true → Contains v.packets (record { to = a; text = bytes })
 
 -- a cluster that was started with the plan comes by this run to this
-unfoldable pub ComesTo : ClusterPlan → List Did → ClusterValue → Type 0
+unfoldable pub ComesTo : Plan → List Did → ClusterValue → Type 0
 ComesTo plan [] v = IsClusterPlan plan × (v ≡ new_cluster plan)
 ComesTo plan (d ∷ run) v = (before : ClusterValue) × ComesTo plan run before × IsSent before d.node d.event × NodeActs before d.node d.event d.answer v
 
@@ -39,4 +39,4 @@ past_at a (d ∷ run) = if nat_eq d.node.number a.number then record { event = d
 
 -- each node of a cluster is one that was started and came by its own past to what it is
 abbrev pub NodesHavePasts : Type 0
-NodesHavePasts = (plan : ClusterPlan) (run : List Did) (v : ClusterValue) (a : NodeId) → ComesTo plan run v → a.number < plan.nodes → NodeComesTo (node_plan plan a) (past_at a run) (node_at v a)
+NodesHavePasts = (plan : Plan) (run : List Did) (v : ClusterValue) (a : NodeId) → ComesTo plan run v → a.number < plan.nodes → NodeComesTo (node_plan plan a) (past_at a run) (node_at v a)

@@ -4,27 +4,28 @@ ghost use Rattle.gb_cluster.specs.ClusterStep.{posted_to, sending, is_packet_for
 ghost use Rattle.gb_cluster.specs.ClusterValue.{cluster, new_cluster, IsClusterPlan};
 ghost use Rattle.gb_cluster.specs.Run.{ComesTo, GoesOn};
 ghost use Rattle.gb_cluster.specs.declared.event.Event.TheVariants as Events;
-ghost use Rattle.gb_cluster.specs.declared.plan.ClusterPlan.{ClusterPlan as Plan};
+ghost use Rattle.gb_types.specs.declared.plan.Plan.{Plan as PlanValue};
 ghost use Rattle.gb_cluster.specs.declared.posted.Posted.{Posted as PostedValue};
 ghost use Rattle.gb_node.specs.declared.event.NodeEvent.TheVariants as NodeEvents;
 
 use crate::answer::{Answer, Sending};
 use crate::event::Event;
 use crate::laws::packets_are_honest;
-use crate::plan::ClusterPlan;
+use crate::plan::node_plan;
 use crate::posted::Posted;
 use gb_node::answer::{NodeAnswer, Sent};
 use gb_node::event::NodeEvent;
 use gb_node::node::Node;
 use gb_types::memory::OutOfMemory;
 use gb_types::node::NodeId;
+use gb_types::plan::Plan;
 use std::alloc::Global;
 use std::marker::Model;
 
 /// A cluster. Contracts see its nodes and every packet that was sent. It keeps no event and no answer.
 #[derive(Drop)]
 pub struct Cluster {
-    plan: ClusterPlan,
+    plan: Plan,
     nodes: Vec<Node>,
     packets: Vec<Posted>,
 }
@@ -97,7 +98,7 @@ fn hand_in(node: &mut Node, packet: &Posted) -> Answer
 /// The packet with a number, handed in at the node that it was sent to.
 fn arrive(nodes: &mut Vec<Node>, packets: &[Posted], number: u64) -> Answer
     requires { AreForNodes (length nodes.old.items) packets.now }
-    ensures { (plan : Plan) → IsStep (cluster plan nodes.old.items packets.now) (Events.Arrive number) result (cluster plan nodes.new.items packets.now) }
+    ensures { (plan : PlanValue) → IsStep (cluster plan nodes.old.items packets.now) (Events.Arrive number) result (cluster plan nodes.new.items packets.now) }
 {
     if number == 0 {
         return Answer::NoPacket;
@@ -113,7 +114,7 @@ fn arrive(nodes: &mut Vec<Node>, packets: &[Posted], number: u64) -> Answer
 fn happen(nodes: &mut Vec<Node>, packets: &mut Vec<Posted>, at: NodeId, event: &NodeEvent) -> Answer
     requires placed { at.number < length nodes.old.items }
     requires room { vec_len packets.old < vec_capacity packets.old }
-    ensures { (plan : Plan) → IsStep (cluster plan nodes.old.items packets.old.items) (Events.At at event.now) result (cluster plan nodes.new.items packets.new.items) }
+    ensures { (plan : PlanValue) → IsStep (cluster plan nodes.old.items packets.old.items) (Events.At at event.now) result (cluster plan nodes.new.items packets.new.items) }
 {
     let node = &mut nodes[at.index()];
     if is_no_noise(node, event) {
@@ -127,7 +128,7 @@ fn take(nodes: &mut Vec<Node>, packets: &mut Vec<Posted>, event: &Event) -> Answ
     requires placed { IsPlaced (length nodes.old.items) event.now }
     requires inside { AreForNodes (length nodes.old.items) packets.old.items }
     requires room { vec_len packets.old < vec_capacity packets.old }
-    ensures { (plan : Plan) → IsStep (cluster plan nodes.old.items packets.old.items) event.now result (cluster plan nodes.new.items packets.new.items) }
+    ensures { (plan : PlanValue) → IsStep (cluster plan nodes.old.items packets.old.items) event.now result (cluster plan nodes.new.items packets.new.items) }
 {
     match event {
         Event::At(at, event) => happen(nodes, packets, *at, event),
@@ -137,7 +138,7 @@ fn take(nodes: &mut Vec<Node>, packets: &mut Vec<Posted>, event: &Event) -> Answ
 
 impl Cluster {
     /// A cluster in which nothing has happened.
-    pub fn start(alloc: Global, plan: &ClusterPlan) -> Result<Cluster, OutOfMemory>
+    pub fn start(alloc: Global, plan: &Plan) -> Result<Cluster, OutOfMemory>
         requires { IsClusterPlan plan.now }
         ensures state { IfOk result (λ n. n ≡ new_cluster plan.now) }
         ensures comes { IfOk result (ComesTo plan.now []) }
@@ -145,7 +146,7 @@ impl Cluster {
         let mut nodes = Vec::with_capacity(alloc, plan.nodes as usize)?;
         for number in 0..plan.nodes {
             let me = NodeId::new(number);
-            nodes.push(Node::start(alloc, &plan.node(me)))?;
+            nodes.push(Node::start(alloc, &node_plan(plan, me)))?;
         }
         Ok(Cluster {
             plan: *plan,

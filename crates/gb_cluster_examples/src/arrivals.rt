@@ -3,13 +3,13 @@ ghost use Rattle.std.specs.Prelude.{◌<◌};
 use gb_cluster::answer::{Answer, Sending};
 use gb_cluster::cluster::Cluster;
 use gb_cluster::event::Event;
-use gb_cluster::plan::ClusterPlan;
 use gb_frame::fault::PacketFault;
 use gb_node::answer::{Halted, PacketAnswer};
 use gb_node::event::NodeEvent;
 use gb_node::packet_text::PacketText;
 use gb_types::memory::OutOfMemory;
 use gb_types::node::NodeId;
+use gb_types::plan::Plan;
 use gb_types::refusal::Refusal;
 use std::alloc::Global;
 use std::rt::HostRuntime;
@@ -19,7 +19,7 @@ const FIRST: NodeId = NodeId { number: 0 };
 
 const SECOND: NodeId = NodeId { number: 1 };
 
-const PLAN: ClusterPlan = ClusterPlan {
+const PLAN: Plan = Plan {
     nodes: 2,
     silence: 3,
     places: 4,

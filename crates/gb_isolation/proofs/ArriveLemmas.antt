@@ -29,7 +29,7 @@ use Rattle.gb_node.specs.declared.event.NodeEvent.TheVariants.{Packet as Brought
 use Rattle.gb_node.specs.declared.plan.NodePlan.{NodePlan}
 use Rattle.gb_cluster.specs.ClusterValue.{node_plan}
 use Rattle.gb_cluster.specs.Run.{Did, past_at}
-use Rattle.gb_cluster.specs.declared.plan.ClusterPlan.{ClusterPlan}
+use Rattle.gb_types.specs.declared.plan.Plan.{Plan}
 use Rattle.gb_isolation.specs.Project.{items_of, items_in, offset, made_with, replies_in, is_met, comes, all_acknowledged, acknowledges, brings, arrived, is_new_frame}
 use Rattle.gb_isolation.proofs.View.{View, view_of, Fits, Goes, AreMarked, frames_for, view_at, AllFit}
 use Rattle.gb_isolation.proofs.GoesLemmas.{goes_on}
@@ -74,7 +74,7 @@ node_same x = same_number (node_numbered x.number) x (number_same x.number x.bel
 
 -- A packet.
 
-module _ (plan : ClusterPlan) (g : Addr) (run : List Did) (a : NodeId) (bytes : List ℕ) (good : Good) (group : Group) (few : plan.nodes ≤ NODES) (inside : a.number < plan.nodes)
+module _ (plan : Plan) (g : Addr) (run : List Did) (a : NodeId) (bytes : List ℕ) (good : Good) (group : Group) (few : plan.nodes ≤ NODES) (inside : a.number < plan.nodes)
     (right : IsTakenIn (node_plan plan a) (past_at a run) bytes good)
     (fresh : is_first good.frame ≡ is_new_frame plan.cluster_key (past_at a run) right.content)
     (framed : is_first good.frame ≡ true → slice_get (frames_to plan.cluster_key a.number (past_at (node_numbered right.content.from) run)) (right.content.frame - 1) ≡ Some right.content.items)

@@ -23,7 +23,7 @@ use Rattle.gb_node.specs.declared.event.NodeEvent.TheVariants.{Request as Asked,
 use Rattle.gb_cluster.specs.ClusterValue.{ClusterValue, node_plan, node_at}
 use Rattle.gb_cluster.specs.Run.{Did, ComesTo, past_at}
 use Rattle.gb_cluster.specs.Links.{NothingIsOutside, LinksHold}
-use Rattle.gb_cluster.specs.declared.plan.ClusterPlan.{ClusterPlan}
+use Rattle.gb_types.specs.declared.plan.Plan.{Plan}
 use Rattle.gb_cluster.proofs.NodesLemmas.{stays, past_same, past_other, have_pasts}
 use Rattle.gb_cluster.proofs.LinkLemmas.{takes}
 use Rattle.gb_isolation.specs.Project.{has_come, is_new_frame}
@@ -49,7 +49,7 @@ record IsTakenOnce (key : List ℕ) (past : List Happened) (bytes : List ℕ) (g
   text : read key bytes ≡ content ∷ []
   first : is_first good.frame ≡ (not (nat_eq content.frame 0) && not (is_taken key content.from content.frame past))
 
-taken_once : NothingIsOutside → PastsSay → (plan : ClusterPlan) (run : List Did) (d : Did) (v : ClusterValue) (bytes : List ℕ) (good : Good) → ComesTo plan (d ∷ run) v → d.event ≡ Came bytes → d.answer ≡ Taken (TakenGood good)
+taken_once : NothingIsOutside → PastsSay → (plan : Plan) (run : List Did) (d : Did) (v : ClusterValue) (bytes : List ℕ) (good : Good) → ComesTo plan (d ∷ run) v → d.event ≡ Came bytes → d.answer ≡ Taken (TakenGood good)
     → IsTakenOnce plan.cluster_key (past_at d.node run) bytes good
 unfolding ComesTo
 taken_once inside pasts plan run d v bytes good comes event answer =
@@ -117,7 +117,7 @@ came_or_taken key past bytes good b n some once =
     by false from t frame x is = rw (is ∙ ap (λ s. (s && nat_eq c.frame n) || false) from) (neither (is_first good.frame) (is_taken key b n past))
 
 -- a frame with a number came from a node where one was taken
-module _ (inside : NothingIsOutside) (pasts : PastsSay) (plan : ClusterPlan) where
+module _ (inside : NothingIsOutside) (pasts : PastsSay) (plan : Plan) where
   came_now : (run : List Did) (d : Did) (v : ClusterValue) (b n : ℕ) → ComesTo plan (d ∷ run) v → 1 ≤ n → (event : NodeEvent) → d.event ≡ event → (answer : NodeAnswer) → d.answer ≡ answer
       → (list_any (is_frame b n) (came plan.cluster_key event answer) || is_taken plan.cluster_key b n (past_at d.node run)) ≡ (is_taken_by plan.cluster_key b n event answer || is_taken plan.cluster_key b n (past_at d.node run))
   came_now run d v b n comes some (Came bytes) event (Taken (TakenGood good)) answer =
@@ -153,7 +153,7 @@ module _ (inside : NothingIsOutside) (pasts : PastsSay) (plan : ClusterPlan) whe
       ]
 
 -- the frame is taken for the first time where it is new
-pub first_is_new : NothingIsOutside → LinksHold → PastsSay → (plan : ClusterPlan) (run : List Did) (d : Did) (v : ClusterValue) (bytes : List ℕ) (good : Good) (c : Content) → ComesTo plan (d ∷ run) v → d.event ≡ Came bytes → d.answer ≡ Taken (TakenGood good)
+pub first_is_new : NothingIsOutside → LinksHold → PastsSay → (plan : Plan) (run : List Did) (d : Did) (v : ClusterValue) (bytes : List ℕ) (good : Good) (c : Content) → ComesTo plan (d ∷ run) v → d.event ≡ Came bytes → d.answer ≡ Taken (TakenGood good)
     → read plan.cluster_key bytes ≡ c ∷ [] → is_first good.frame ≡ is_new_frame plan.cluster_key (past_at d.node run) c
 unfolding ComesTo
 first_is_new inside links pasts plan run d v bytes good c comes event answer text =

@@ -24,7 +24,7 @@ use Rattle.gb_node.specs.declared.event.NodeEvent.TheVariants.{Pack}
 use Rattle.gb_node.specs.declared.plan.NodePlan.{NodePlan}
 use Rattle.gb_cluster.specs.ClusterValue.{ClusterValue, node_plan, node_at}
 use Rattle.gb_cluster.specs.Run.{Did, ComesTo, past_at}
-use Rattle.gb_cluster.specs.declared.plan.ClusterPlan.{ClusterPlan}
+use Rattle.gb_types.specs.declared.plan.Plan.{Plan}
 use Rattle.gb_cluster.proofs.HonestLemmas.{get_either}
 use Rattle.gb_cluster.proofs.NodesLemmas.{have_pasts, past_same, past_other}
 use Rattle.gb_isolation.proofs.DoneLemmas.{IsFit}
@@ -84,7 +84,7 @@ packed_fit plan g past (Pack y) (Sent (SentPacket text)) right b j f is = by (na
 packed_fit plan g past e x right b j f is = absurd (cc)
 
 -- so the items of every frame of a run
-pub frames_fit : AnswersSay → (plan : ClusterPlan) (g : Addr) (run : List Did) (v : ClusterValue) → ComesTo plan run v → (x : NodeId) → x.number < plan.nodes → (b k : ℕ) (f : List Item)
+pub frames_fit : AnswersSay → (plan : Plan) (g : Addr) (run : List Did) (v : ClusterValue) → ComesTo plan run v → (x : NodeId) → x.number < plan.nodes → (b k : ℕ) (f : List Item)
     → slice_get (frames_to plan.cluster_key b (past_at x run)) k ≡ Some f → All IsFit (items_for g f)
 unfolding ComesTo past_at frames_to
 frames_fit answers plan g [] v comes x inside b k f is = absurd (cc)

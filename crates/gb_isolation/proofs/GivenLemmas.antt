@@ -36,7 +36,7 @@ use Rattle.gb_node.specs.declared.event.NodeEvent.TheVariants.{Request as Asked,
 use Rattle.gb_node.specs.declared.plan.NodePlan.{NodePlan}
 use Rattle.gb_cluster.specs.ClusterValue.{node_plan}
 use Rattle.gb_cluster.specs.Run.{Did, past_at}
-use Rattle.gb_cluster.specs.declared.plan.ClusterPlan.{ClusterPlan}
+use Rattle.gb_types.specs.declared.plan.Plan.{Plan}
 use Rattle.gb_isolation.specs.Project.{items_in, items_of, offset, frames_in, is_named, is_own, command_for, made_with, or_else, notices, own_requested, tenant_given, is_met, with_stop, asked, took, comes, acknowledged, all_acknowledged, is_new_ack, is_new_frame, acknowledges, brings, arrived, ticked, gives}
 use Rattle.gb_isolation.proofs.NoticeLemmas.{notices_of, notices_there, notices_keep}
 use Rattle.gb_isolation.proofs.GoesLemmas.{after_there}
@@ -89,7 +89,7 @@ carried_all g a b test n before (f ∷ fs) =
     (elim (test n) as (λ t. AllAre (IsCarried a) (if t then acknowledged a b (before + 1) (length (items_in g f)) else [])) [ true ↦ carried_acknowledged a b (before + 1) (length (items_in g f)) | false ↦ tt ])
     (carried_all g a b test (n + 1) (before + length (items_in g f)) fs)
 
-carried_arrived : (plan : ClusterPlan) (g : Addr) (run : List Did) (a : NodeId) (c : Content) → AllAre (IsCarried a) (arrived plan g run a c)
+carried_arrived : (plan : Plan) (g : Addr) (run : List Did) (a : NodeId) (c : Content) → AllAre (IsCarried a) (arrived plan g run a c)
 carried_arrived plan g run a c =
     all_both (IsCarried a) (acknowledges plan g (past_at a run) a c) (if is_new_frame plan.cluster_key (past_at a run) c then brings plan g run a c else [])
     (carried_all g a (node_numbered c.from) (is_new_ack plan.cluster_key (past_at a run) c) 1 0 (frames_to plan.cluster_key c.from (past_at a run)))
@@ -98,7 +98,7 @@ carried_arrived plan g run a c =
       | false ↦ tt
     ])
 
-pub carried_packets : (plan : ClusterPlan) (g : Addr) (run : List Did) (a : NodeId) (cs : List Content) → AllAre (IsCarried a) (flat_map (arrived plan g run a) cs)
+pub carried_packets : (plan : Plan) (g : Addr) (run : List Did) (a : NodeId) (cs : List Content) → AllAre (IsCarried a) (flat_map (arrived plan g run a) cs)
 carried_packets plan g run a cs = all_flat (IsCarried a) (arrived plan g run a) (carried_arrived plan g run a) cs
 
 -- Where.
@@ -154,7 +154,7 @@ at_ticked a found None = tt
 at_ticked a found (Some spec) = at_notices a spec found
 
 -- what an event gives happens where the event does
-pub given_at : (plan : ClusterPlan) (g : Addr) (run : List Did) (a : NodeId) (e : NodeEvent) (x : NodeAnswer) → AllAre (IsAt a) (gives plan g run a e x)
+pub given_at : (plan : Plan) (g : Addr) (run : List Did) (a : NodeId) (e : NodeEvent) (x : NodeAnswer) → AllAre (IsAt a) (gives plan g run a e x)
 given_at plan g run a (Asked request) (Replied reply) = at_asked (node_plan plan a) g (past_at a run) request reply
 given_at plan g run a (Pack b) (Sent (SentPacket text)) = at_carried a (took a b (length (items_of g (frames_in plan.cluster_key text)))) (carried_took a b (length (items_of g (frames_in plan.cluster_key text))))
 given_at plan g run a (Brought bytes) (Taken (TakenGood good)) = at_carried a (flat_map (arrived plan g run a) (read plan.cluster_key bytes)) (carried_packets plan g run a (read plan.cluster_key bytes))
@@ -249,7 +249,7 @@ ticked_due nodes number a found None group made = tt
 ticked_due nodes number a found (Some spec) group made = notices_due nodes number a (filter (λ b. is_other spec a.number b && found b) (range_with_len 0 NODES)) group (ap is_some made)
 
 -- the notices that an event gives come where the group was made
-pub given_due : (plan : ClusterPlan) (g : Addr) (run : List Did) (group : Group) (a : NodeId) (e : NodeEvent) (x : NodeAnswer) → (group a.number).spec ≡ made_with g (past_at a run)
+pub given_due : (plan : Plan) (g : Addr) (run : List Did) (group : Group) (a : NodeId) (e : NodeEvent) (x : NodeAnswer) → (group a.number).spec ≡ made_with g (past_at a run)
     → (alone_from plan.nodes g.group group (gives plan g run a e x) a.number).spec ≡ made_with g (record { event = e; answer = x } ∷ past_at a run) → AreDue plan.nodes g.group group (gives plan g run a e x)
 given_due plan g run group a (Asked request) (Replied reply) before now = asked_due (node_plan plan a) g (past_at a run) group request reply now
 given_due plan g run group a (Pack b) (Sent (SentPacket text)) before now =

@@ -27,7 +27,7 @@ use Rattle.gb_node.specs.NodeStep.{node_numbered}
 use Rattle.gb_node.specs.Past.{frames_to, is_taken}
 use Rattle.gb_cluster.specs.ClusterValue.{ClusterValue, node_plan}
 use Rattle.gb_cluster.specs.Run.{Did, ComesTo, past_at}
-use Rattle.gb_cluster.specs.declared.plan.ClusterPlan.{ClusterPlan}
+use Rattle.gb_types.specs.declared.plan.Plan.{Plan}
 use Rattle.gb_cluster.proofs.NodesLemmas.{stays}
 use Rattle.gb_isolation.specs.Isolation.{Seen, group_at, IsIsolated, GroupsAreIsolated}
 use Rattle.gb_isolation.specs.Project.{project, items_of, is_fed}
@@ -39,7 +39,7 @@ use Rattle.gb_isolation.proofs.NoticeLemmas.{numbered_is}
 use Rattle.gb_isolation.proofs.RunDutyLemmas.{inside, noticed_is}
 use Rattle.gb_isolation.proofs.RunIntegrityLemmas.{accepted_same}
 
-module _ (isolated : GroupsAreIsolated) (behave : AllBehave) (plan : ClusterPlan) (run : List Did) (v : ClusterValue) (comes : ComesTo plan run v) (g : Addr) (fed : is_fed plan g run ≡ true) (runs : ℕ → Bool) (spec : Spec) (settled : IsSettledIn plan run v g runs spec) where
+module _ (isolated : GroupsAreIsolated) (behave : AllBehave) (plan : Plan) (run : List Did) (v : ClusterValue) (comes : ComesTo plan run v) (g : Addr) (fed : is_fed plan g run ≡ true) (runs : ℕ → Bool) (spec : Spec) (settled : IsSettledIn plan run v g runs spec) where
   abbrev nodes : ℕ
   nodes = plan.nodes
 

@@ -30,7 +30,7 @@ use Rattle.gb_node.specs.declared.event.NodeEvent.TheVariants.{Request as Asked,
 use Rattle.gb_node.specs.declared.plan.NodePlan.{NodePlan}
 use Rattle.gb_cluster.specs.ClusterValue.{node_plan}
 use Rattle.gb_cluster.specs.Run.{Did, past_at}
-use Rattle.gb_cluster.specs.declared.plan.ClusterPlan.{ClusterPlan}
+use Rattle.gb_types.specs.declared.plan.Plan.{Plan}
 use Rattle.gb_cluster.proofs.NodesLemmas.{past_same, past_other}
 use Rattle.gb_isolation.specs.Project.{items_of, frames_in, is_named, is_own, command_for, made_with, own_requested, tenant_given, is_met, with_stop, asked, took, arrived, ticked, gives, project, reply_in, replies_in}
 use Rattle.gb_isolation.specs.RunLaws.{said_by, accepted_by, accepted_in_past}
@@ -86,7 +86,7 @@ reply_pairs plan g past request reply =
 none_paired : (es : List GroupEvent) → es ≡ [] → Pairs es [] []
 none_paired es none = subst (λ xs. Pairs xs [] []) (sym none) no_pairs
 
-given_pairs : (plan : ClusterPlan) (g : Addr) (run : List Did) (a : NodeId) (e : NodeEvent) (x : NodeAnswer)
+given_pairs : (plan : Plan) (g : Addr) (run : List Did) (a : NodeId) (e : NodeEvent) (x : NodeAnswer)
     → Pairs (commands a.number (gives plan g run a e x)) (reply_in (node_plan plan a) g (past_at a run) e x) (accepted_by (node_plan plan a) g (past_at a run) e x)
 unfolding commands
 given_pairs plan g run a (Asked request) (Replied reply) = reply_pairs (node_plan plan a) g (past_at a run) request reply
@@ -102,7 +102,7 @@ given_pairs plan g run a Tick (Ticked (Noticed found)) =
 given_pairs plan g run a e x = no_pairs
 
 -- the commands of the projection at a node are those that have the replies there, and so it says what was accepted
-pub run_pairs : (plan : ClusterPlan) (g : Addr) (a : NodeId) (run : List Did) → Pairs (commands a.number (project plan g run)) (replies_in (node_plan plan a) g (past_at a run)) (accepted_in_past (node_plan plan a) g (past_at a run))
+pub run_pairs : (plan : Plan) (g : Addr) (a : NodeId) (run : List Did) → Pairs (commands a.number (project plan g run)) (replies_in (node_plan plan a) g (past_at a run)) (accepted_in_past (node_plan plan a) g (past_at a run))
 unfolding commands project replies_in accepted_in_past past_at
 run_pairs plan g a [] = no_pairs
 run_pairs plan g a (d ∷ run) = by (cases_eq d.node.number a.number) (run_pairs plan g a run)

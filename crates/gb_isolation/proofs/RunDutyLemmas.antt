@@ -20,7 +20,7 @@ use Rattle.gb_duties.proofs.SeenLemmas.{duties_seen}
 use Rattle.gb_node.specs.NodeStep.{node_numbered}
 use Rattle.gb_cluster.specs.ClusterValue.{ClusterValue, node_plan}
 use Rattle.gb_cluster.specs.Run.{Did, past_at}
-use Rattle.gb_cluster.specs.declared.plan.ClusterPlan.{ClusterPlan}
+use Rattle.gb_types.specs.declared.plan.Plan.{Plan}
 use Rattle.gb_cluster.proofs.NodesLemmas.{stays}
 use Rattle.gb_isolation.specs.Isolation.{Seen, seen_in, IsIsolated, GroupsAreIsolated}
 use Rattle.gb_isolation.specs.Project.{project, made_with}
@@ -35,7 +35,7 @@ pub record LogLaws : Type 0 where
   pub has_delivered : ModuleLogHasDelivered
   pub within : (delivered : List MsgId) → AllIn delivered (in_order delivered)
 
-module _ (plan : ClusterPlan) (run : List Did) (v : ClusterValue) (g : Addr) (few : plan.nodes ≤ NODES) (alike : IsIsolated plan run v g) (behaves : BehavesAlone plan g run) (told : AllMarked (alone plan.nodes g.group (project plan g run))) where
+module _ (plan : Plan) (run : List Did) (v : ClusterValue) (g : Addr) (few : plan.nodes ≤ NODES) (alike : IsIsolated plan run v g) (behaves : BehavesAlone plan g run) (told : AllMarked (alone plan.nodes g.group (project plan g run))) where
   abbrev group : Group
   group = alone plan.nodes g.group (project plan g run)
 

@@ -15,7 +15,7 @@ use Rattle.gb_alone.proofs.InsideLemmas.{none_beyond}
 use Rattle.gb_node.specs.NodeStep.{node_numbered}
 use Rattle.gb_cluster.specs.ClusterValue.{ClusterValue, node_plan}
 use Rattle.gb_cluster.specs.Run.{Did, past_at}
-use Rattle.gb_cluster.specs.declared.plan.ClusterPlan.{ClusterPlan}
+use Rattle.gb_types.specs.declared.plan.Plan.{Plan}
 use Rattle.gb_cluster.proofs.NodesLemmas.{stays}
 use Rattle.gb_isolation.specs.Isolation.{Seen, seen_in, IsIsolated, GroupsAreIsolated}
 use Rattle.gb_isolation.specs.Project.{project}
@@ -24,7 +24,7 @@ use Rattle.gb_isolation.proofs.MomentLemmas.{AllBehave}
 use Rattle.gb_isolation.proofs.NoticeLemmas.{numbered_is}
 use Rattle.gb_isolation.proofs.RunCommandLemmas.{run_pairs}
 
-module _ (plan : ClusterPlan) (run : List Did) (v : ClusterValue) (g : Addr) (few : plan.nodes ≤ NODES) (isolated : IsIsolated plan run v g) where
+module _ (plan : Plan) (run : List Did) (v : ClusterValue) (g : Addr) (few : plan.nodes ≤ NODES) (isolated : IsIsolated plan run v g) where
   abbrev steps : List GroupStep
   steps = project plan g run
 

@@ -33,7 +33,7 @@ use Rattle.gb_node.specs.declared.event.NodeEvent.TheVariants.{Request as Asked,
 use Rattle.gb_cluster.specs.ClusterValue.{ClusterValue, node_plan, node_at}
 use Rattle.gb_cluster.specs.Links.{IsAlwaysWhole, LinksHold}
 use Rattle.gb_cluster.specs.Run.{Did, ComesTo, past_at}
-use Rattle.gb_cluster.specs.declared.plan.ClusterPlan.{ClusterPlan}
+use Rattle.gb_types.specs.declared.plan.Plan.{Plan}
 use Rattle.gb_cluster.proofs.NodesLemmas.{Stays, stays, have_pasts, past_same, past_other}
 use Rattle.gb_node.specs.declared.plan.NodePlan.{NodePlan}
 use Rattle.gb_node.specs.Past.{added, tenants_in}
@@ -79,7 +79,7 @@ none_marked g test = record {
   beyond = λ place above. refl;
 }
 
-new_fits : (plan : ClusterPlan) (g : Addr) → AllFit plan g [] nobody
+new_fits : (plan : Plan) (g : Addr) → AllFit plan g [] nobody
 unfolding past_at frames_to items_of is_acked is_taken tenants_in group_of made_with replies_in is_met
 new_fits plan g a inside = record {
   reserve = refl;
@@ -118,10 +118,10 @@ not_replied g request x no_reply = (refl, refl)
 pub record Laws : Type 0 where
   pub answers : AnswersSay
   pub links : LinksHold
-  pub new : (plan : ClusterPlan) (run : List Did) (a : NodeId) (bytes : List ℕ) (good : Good) (v : ClusterValue) (c : Content) → ComesTo plan (record { node = a; event = Brought bytes; answer = Taken (TakenGood good) } ∷ run) v → read plan.cluster_key bytes ≡ c ∷ []
+  pub new : (plan : Plan) (run : List Did) (a : NodeId) (bytes : List ℕ) (good : Good) (v : ClusterValue) (c : Content) → ComesTo plan (record { node = a; event = Brought bytes; answer = Taken (TakenGood good) } ∷ run) v → read plan.cluster_key bytes ≡ c ∷ []
       → is_first good.frame ≡ is_new_frame plan.cluster_key (past_at a run) c
 
-module _ (laws : Laws) (plan : ClusterPlan) (g : Addr) (run : List Did) (before : ClusterValue) (comes : ComesTo plan run before) (was : BehavesAlone plan g run) where
+module _ (laws : Laws) (plan : Plan) (g : Addr) (run : List Did) (before : ClusterValue) (comes : ComesTo plan run before) (was : BehavesAlone plan g run) where
   abbrev group : Group
   group = alone plan.nodes g.group (project plan g run)
 
@@ -275,7 +275,7 @@ module _ (laws : Laws) (plan : ClusterPlan) (g : Addr) (run : List Did) (before 
       by b inside (inr other) = elsewhere b inside other
 
 -- every group of which no request was refused for want of memory behaves so in every run
-pub behaves : Laws → (plan : ClusterPlan) (g : Addr) (run : List Did) (v : ClusterValue) → ComesTo plan run v → is_fed plan g run ≡ true → BehavesAlone plan g run
+pub behaves : Laws → (plan : Plan) (g : Addr) (run : List Did) (v : ClusterValue) → ComesTo plan run v → is_fed plan g run ≡ true → BehavesAlone plan g run
 unfolding ComesTo is_fed project
 behaves laws plan g [] v comes fed = record { legal = tt; fits = new_fits plan g }
 behaves laws plan g (d ∷ run) v comes fed =

@@ -13,7 +13,7 @@ use Rattle.gb_node.specs.PastGroups.{group_of}
 use Rattle.gb_node.specs.PastLaw.{PastsSay}
 use Rattle.gb_cluster.specs.ClusterValue.{ClusterValue, node_plan, node_at}
 use Rattle.gb_cluster.specs.Run.{Did, ComesTo, past_at}
-use Rattle.gb_cluster.specs.declared.plan.ClusterPlan.{ClusterPlan}
+use Rattle.gb_types.specs.declared.plan.Plan.{Plan}
 use Rattle.gb_cluster.proofs.NodesLemmas.{have_pasts}
 use Rattle.gb_isolation.specs.Isolation.{log_in, group_at, IsIsolated, GroupsAreIsolated, alone_in}
 use Rattle.gb_isolation.specs.Project.{items_of}
@@ -26,7 +26,7 @@ log_same me None m st = sym (ap (λ (x : Option Spec). log_at me x m.told) (unma
 log_same me (Some None) m st = sym (ap (λ (x : Option Spec). log_at me x m.told) (dropped_held m st))
 log_same me (Some (Some s)) m st = log_is s m.told st.history ∙ (ap (λ k. log_of s.spec k m.told) st.here ∙ sym (ap (λ (x : Option Spec). log_at me x m.told) (stands_held me s m st)))
 
-pub isolated : PastsSay → (plan : ClusterPlan) (run : List Did) (v : ClusterValue) → ComesTo plan run v → (g : Addr) → BehavesAlone plan g run → IsIsolated plan run v g
+pub isolated : PastsSay → (plan : Plan) (run : List Did) (v : ClusterValue) → ComesTo plan run v → (g : Addr) → BehavesAlone plan g run → IsIsolated plan run v g
 isolated pasts plan run v comes g alike = record {
   legal = alike.legal;
   same = λ a b in_a in_b.

@@ -22,7 +22,7 @@ use Rattle.gb_node.specs.PastGroups.{noticed_in, group_of}
 use Rattle.gb_node.specs.declared.plan.NodePlan.{NodePlan}
 use Rattle.gb_cluster.specs.ClusterValue.{node_plan}
 use Rattle.gb_cluster.specs.Run.{Did, past_at}
-use Rattle.gb_cluster.specs.declared.plan.ClusterPlan.{ClusterPlan}
+use Rattle.gb_types.specs.declared.plan.Plan.{Plan}
 use Rattle.gb_isolation.specs.Project.{project, items_of, offset, made_with, replies_in, is_met}
 
 -- What a group has at a node.
@@ -127,16 +127,16 @@ pub record Goes (nodes : ℕ) (g : Addr) (a : NodeId) (frames_from : ℕ → Lis
 -- The whole cluster.
 
 -- the frames that each node packed for a node
-abbrev pub frames_for : ClusterPlan → List Did → NodeId → ℕ → List (List Item)
+abbrev pub frames_for : Plan → List Did → NodeId → ℕ → List (List Item)
 frames_for plan run a b = frames_to plan.cluster_key a.number (past_at (node_numbered b) run)
 
-abbrev pub view_at : ClusterPlan → Addr → List Did → NodeId → View
+abbrev pub view_at : Plan → Addr → List Did → NodeId → View
 view_at plan g run a = view_of (node_plan plan a) g (past_at a run)
 
 -- each node's view is that of the group alone
-abbrev pub AllFit : ClusterPlan → Addr → List Did → Group → Type 0
+abbrev pub AllFit : Plan → Addr → List Did → Group → Type 0
 AllFit plan g run group = (a : NodeId) → a.number < plan.nodes → Fits plan.nodes g a.number (frames_for plan run a) (view_at plan g run a) (group a.number)
 
-pub record BehavesAlone (plan : ClusterPlan) (g : Addr) (run : List Did) : Type 0 where
+pub record BehavesAlone (plan : Plan) (g : Addr) (run : List Did) : Type 0 where
   pub legal : IsLegal plan.nodes g.group (project plan g run)
   pub fits : AllFit plan g run (alone plan.nodes g.group (project plan g run))

@@ -20,7 +20,7 @@ use Rattle.gb_alone.specs.Alone.{Group, alone, IsLegal}
 use Rattle.gb_alone.specs.Laws.{log_of_member}
 use Rattle.gb_cluster.specs.ClusterValue.{ClusterValue, node_plan, node_at}
 use Rattle.gb_cluster.specs.Run.{Did, ComesTo, past_at}
-use Rattle.gb_cluster.specs.declared.plan.ClusterPlan.{ClusterPlan}
+use Rattle.gb_types.specs.declared.plan.Plan.{Plan}
 use Rattle.gb_isolation.specs.Project.{project, items_of, replies_in, is_fed}
 
 -- what was delivered in a group; nothing where it was not made, or was dropped
@@ -43,7 +43,7 @@ abbrev pub group_at : ClusterValue → Addr → NodeId → Option (Option SlotSt
 group_at v g a = group_in g (node_at v a).table.groups.rows
 
 -- what is seen in a run: replies and carried items stand in what happened, log and waiting items in the nodes
-abbrev pub seen_in : ClusterPlan → List Did → ClusterValue → Addr → NodeId → NodeId → Seen
+abbrev pub seen_in : Plan → List Did → ClusterValue → Addr → NodeId → NodeId → Seen
 seen_in plan run v g a b = record {
   replies = replies_in (node_plan plan a) g (past_at a run);
   log = log_in (group_at v g a);
@@ -55,11 +55,11 @@ abbrev pub seen_alone : Group → ℕ → ℕ → Seen
 seen_alone group a b = record { replies = (group a).replies; log = log_of_member a (group a); put = (group a).put b }
 
 -- the group alone, of what concerns it in the run
-abbrev pub alone_in : ClusterPlan → Addr → List Did → Group
+abbrev pub alone_in : Plan → Addr → List Did → Group
 alone_in plan g run = alone plan.nodes g.group (project plan g run)
 
 -- the projection of the run is legal, and what is seen of the group is what the projection makes of it alone
-pub record IsIsolated (plan : ClusterPlan) (run : List Did) (v : ClusterValue) (g : Addr) : Type 0 where
+pub record IsIsolated (plan : Plan) (run : List Did) (v : ClusterValue) (g : Addr) : Type 0 where
   pub legal : IsLegal plan.nodes g.group (project plan g run)
   pub same : (a b : NodeId) → a.number < plan.nodes → b.number < plan.nodes → seen_in plan run v g a b ≡ seen_alone (alone_in plan g run) a.number b.number
   -- and as many items are carried
@@ -67,7 +67,7 @@ pub record IsIsolated (plan : ClusterPlan) (run : List Did) (v : ClusterValue) (
 
 -- so is each group of every run, of which no request was refused for want of memory
 abbrev pub GroupsAreIsolated : Type 0
-GroupsAreIsolated = (plan : ClusterPlan) (run : List Did) (v : ClusterValue) → ComesTo plan run v → (g : Addr) → is_fed plan g run ≡ true → IsIsolated plan run v g
+GroupsAreIsolated = (plan : Plan) (run : List Did) (v : ClusterValue) → ComesTo plan run v → (g : Addr) → is_fed plan g run ≡ true → IsIsolated plan run v g
 
 -- the answer is want of memory
 abbrev pub wants_memory : NodeAnswer → Bool
@@ -85,4 +85,4 @@ is_ample (d ∷ run) = not (wants_memory d.answer) && is_ample run
 
 -- where no memory was refused in a run, no group's request was
 abbrev pub AmpleRunsFeedAll : Type 0
-AmpleRunsFeedAll = (plan : ClusterPlan) (run : List Did) → is_ample run ≡ true → (g : Addr) → is_fed plan g run ≡ true
+AmpleRunsFeedAll = (plan : Plan) (run : List Did) → is_ample run ≡ true → (g : Addr) → is_fed plan g run ≡ true

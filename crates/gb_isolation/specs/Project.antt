@@ -36,7 +36,7 @@ use Rattle.gb_node.specs.declared.event.NodeEvent.TheVariants.{Request as Asked,
 use Rattle.gb_node.specs.declared.plan.NodePlan.{NodePlan}
 use Rattle.gb_cluster.specs.ClusterValue.{node_plan}
 use Rattle.gb_cluster.specs.Run.{Did, past_at}
-use Rattle.gb_cluster.specs.declared.plan.ClusterPlan.{ClusterPlan}
+use Rattle.gb_types.specs.declared.plan.Plan.{Plan}
 
 -- Items.
 
@@ -172,13 +172,13 @@ abbrev pub is_new_frame : List ℕ → List Happened → Content → Bool
 is_new_frame key past c = not (nat_eq c.frame 0) && not (has_come key c.from c.frame past)
 
 -- A packet's acknowledgement counts first; then a frame's items come, where it did not come before: their places are those after the items of the frames before it.
-abbrev pub acknowledges : ClusterPlan → Addr → List Happened → NodeId → Content → List GroupStep
+abbrev pub acknowledges : Plan → Addr → List Happened → NodeId → Content → List GroupStep
 acknowledges plan g past a c = all_acknowledged g a (node_numbered c.from) (is_new_ack plan.cluster_key past c) 1 0 (frames_to plan.cluster_key c.from past)
 
-abbrev pub brings : ClusterPlan → Addr → List Did → NodeId → Content → List GroupStep
+abbrev pub brings : Plan → Addr → List Did → NodeId → Content → List GroupStep
 brings plan g run a c = comes (node_numbered c.from) a (offset g (frames_to plan.cluster_key a.number (past_at (node_numbered c.from) run)) (c.frame - 1)) (length (items_in g c.items))
 
-abbrev pub arrived : ClusterPlan → Addr → List Did → NodeId → Content → List GroupStep
+abbrev pub arrived : Plan → Addr → List Did → NodeId → Content → List GroupStep
 arrived plan g run a c = acknowledges plan g (past_at a run) a c ++ (if is_new_frame plan.cluster_key (past_at a run) c then brings plan g run a c else [])
 
 -- a tick gives a made group its notices
@@ -189,7 +189,7 @@ ticked a found (Some spec) = notices a spec found
 -- The projection.
 
 -- what an event at a node with its answer gives the group, after this run
-abbrev pub gives : ClusterPlan → Addr → List Did → NodeId → NodeEvent → NodeAnswer → List GroupStep
+abbrev pub gives : Plan → Addr → List Did → NodeId → NodeEvent → NodeAnswer → List GroupStep
 gives plan g run a (Asked request) (Replied reply) = asked (node_plan plan a) g (past_at a run) request reply
 gives plan g run a (Pack b) (Sent (SentPacket text)) = took a b (length (items_of g (frames_in plan.cluster_key text)))
 gives plan g run a (Brought bytes) (Taken (TakenGood good)) = flat_map (arrived plan g run a) (read plan.cluster_key bytes)
@@ -197,7 +197,7 @@ gives plan g run a Tick (Ticked (Noticed found)) = ticked a (set.contains found)
 gives plan g run a event answer = []
 
 -- the projection of a run on the group, in order
-unfoldable pub project : ClusterPlan → Addr → List Did → List GroupStep
+unfoldable pub project : Plan → Addr → List Did → List GroupStep
 project plan g [] = []
 project plan g (d ∷ run) = project plan g run ++ gives plan g run d.node d.event d.answer
 
@@ -219,6 +219,6 @@ is_starved_by plan g past (Asked request) (Replied (Refused OutOfMemory)) = is_o
 is_starved_by plan g past event answer = false
 
 -- none was in the run
-unfoldable pub is_fed : ClusterPlan → Addr → List Did → Bool
+unfoldable pub is_fed : Plan → Addr → List Did → Bool
 is_fed plan g [] = true
 is_fed plan g (d ∷ run) = not (is_starved_by (node_plan plan d.node) g (past_at d.node run) d.event d.answer) && is_fed plan g run

@@ -28,7 +28,7 @@ use Rattle.gb_node.specs.declared.event.NodeEvent.TheVariants.{Request as Asked}
 use Rattle.gb_node.specs.declared.plan.NodePlan.{NodePlan}
 use Rattle.gb_cluster.specs.ClusterValue.{ClusterValue, node_plan}
 use Rattle.gb_cluster.specs.Run.{Did, ComesTo, past_at}
-use Rattle.gb_cluster.specs.declared.plan.ClusterPlan.{ClusterPlan}
+use Rattle.gb_types.specs.declared.plan.Plan.{Plan}
 use Rattle.gb_isolation.specs.Isolation.{seen_in, group_at, alone_in}
 use Rattle.gb_isolation.specs.Project.{project, items_in, is_own, made_with, is_fed}
 
@@ -49,15 +49,15 @@ accepted_in_past plan g [] = []
 accepted_in_past plan g (h ∷ past) = accepted_in_past plan g past ++ accepted_by plan g past h.event h.answer
 
 -- so at the node with this number
-abbrev pub accepted_there : ClusterPlan → Addr → List Did → ℕ → List Accepted
+abbrev pub accepted_there : Plan → Addr → List Did → ℕ → List Accepted
 accepted_there plan g run s = accepted_in_past (node_plan plan (node_numbered s)) g (past_at (node_numbered s) run)
 
 -- what a law of groups says of each group of which no request was refused for want of memory, in every run of every cluster
-abbrev pub OfGroupsInRuns : (ClusterPlan → List Did → ClusterValue → Addr → Type 0) → Type 0
-OfGroupsInRuns Holds = (plan : ClusterPlan) (run : List Did) (v : ClusterValue) → ComesTo plan run v → (g : Addr) → is_fed plan g run ≡ true → Holds plan run v g
+abbrev pub OfGroupsInRuns : (Plan → List Did → ClusterValue → Addr → Type 0) → Type 0
+OfGroupsInRuns Holds = (plan : Plan) (run : List Did) (v : ClusterValue) → ComesTo plan run v → (g : Addr) → is_fed plan g run ≡ true → Holds plan run v g
 
 -- Integrity: the log seen at each node keeps it, and each item seen between two nodes was accepted at its origin.
-pub record RunIntegrity (plan : ClusterPlan) (run : List Did) (v : ClusterValue) (g : Addr) : Type 0 where
+pub record RunIntegrity (plan : Plan) (run : List Did) (v : ClusterValue) (g : Addr) : Type 0 where
   pub logs : (a b : NodeId) → a.number < plan.nodes → b.number < plan.nodes → KeepsIntegrity (accepted_there plan g run) (seen_in plan run v g a b).log
   pub items : (a b : NodeId) → a.number < plan.nodes → b.number < plan.nodes → All (IsAccepted (accepted_there plan g run)) (seen_in plan run v g a b).put
 
@@ -65,7 +65,7 @@ abbrev pub GroupsKeepIntegrity : Type 0
 GroupsKeepIntegrity = OfGroupsInRuns RunIntegrity
 
 -- Order: the log seen at each node keeps the order of the kind that the group was made with there.
-abbrev pub RunOrder : ClusterPlan → List Did → ClusterValue → Addr → Type 0
+abbrev pub RunOrder : Plan → List Did → ClusterValue → Addr → Type 0
 RunOrder plan run v g = (a b : NodeId) → a.number < plan.nodes → b.number < plan.nodes → KeepsOrder (made_with g (past_at a run)) (seen_in plan run v g a b).log
 
 abbrev pub GroupsKeepOrder : Type 0
@@ -83,15 +83,15 @@ is_dropped g [] = false
 is_dropped g (h ∷ past) = is_dropped_by g h.event h.answer || is_dropped g past
 
 -- a node is noticed at the node a
-abbrev pub is_noticed : ClusterPlan → List Did → NodeId → ℕ → Bool
+abbrev pub is_noticed : Plan → List Did → NodeId → ℕ → Bool
 is_noticed plan run a = set.contains (noticed_in (node_plan plan a) (past_at a run))
 
 -- the duties of the node b in the run, for each of these messages: what is noticed and put out is read there, what another node has had in the projection
-abbrev pub KeepsRunDuties : ClusterPlan → List Did → ClusterValue → Addr → NodeId → Spec → (MsgId → Bool) → Type 0
+abbrev pub KeepsRunDuties : Plan → List Did → ClusterValue → Addr → NodeId → Spec → (MsgId → Bool) → Type 0
 KeepsRunDuties plan run v g b spec messages = KeepsDuties spec b.number (is_noticed plan run b) (λ c. (seen_in plan run v g b (node_numbered c)).put) (HasHad (alone_in plan g run)) messages
 
 -- each node where the group was made, and not dropped, has done its duties for each message that its module delivered, and so for each that stands in the log seen there
-pub record RunDuties (plan : ClusterPlan) (run : List Did) (v : ClusterValue) (g : Addr) : Type 0 where
+pub record RunDuties (plan : Plan) (run : List Did) (v : ClusterValue) (g : Addr) : Type 0 where
   pub delivered : (b : NodeId) (spec : Spec) → b.number < plan.nodes → made_with g (past_at b run) ≡ Some spec → is_dropped g (past_at b run) ≡ false
       → KeepsRunDuties plan run v g b spec (delivered_at spec b.number (alone_in plan g run b.number))
   pub logged : (b : NodeId) (spec : Spec) → b.number < plan.nodes → made_with g (past_at b run) ≡ Some spec → KeepsRunDuties plan run v g b spec (has (seen_in plan run v g b b).log)
@@ -102,7 +102,7 @@ GroupsDoTheirDuties = OfGroupsInRuns RunDuties
 -- Agreement.
 
 -- the log that is seen at the node with this number
-abbrev pub log_seen : ClusterPlan → List Did → ClusterValue → Addr → ℕ → List Entry
+abbrev pub log_seen : Plan → List Did → ClusterValue → Addr → ℕ → List Entry
 log_seen plan run v g b = (seen_in plan run v g (node_numbered b) (node_numbered b)).log
 
 -- what the group was made with at the node with this number
@@ -110,7 +110,7 @@ abbrev pub made_there : Addr → List Did → ℕ → Option Spec
 made_there g run a = made_with g (past_at (node_numbered a) run)
 
 -- The group is settled in the run, with this spec, where these nodes run and the others have stopped.
-pub record IsSettledIn (plan : ClusterPlan) (run : List Did) (v : ClusterValue) (g : Addr) (runs : ℕ → Bool) (spec : Spec) : Type 0 where
+pub record IsSettledIn (plan : Plan) (run : List Did) (v : ClusterValue) (g : Addr) (runs : ℕ → Bool) (spec : Spec) : Type 0 where
   -- at some moment all members had made it with this spec, and no message had been accepted anywhere
   pub earlier : List Did
   pub later : List Did
@@ -128,7 +128,7 @@ pub record IsSettledIn (plan : ClusterPlan) (run : List Did) (v : ClusterValue) 
   pub unnoticed : (a b : ℕ) → is_member spec a ≡ true → IsRunning runs spec b → is_noticed plan run (node_numbered a) b ≡ false
 
 -- where the group is settled the logs seen at its members agree, whichever nodes are taken as those that run
-abbrev pub RunAgreement : ClusterPlan → List Did → ClusterValue → Addr → Type 0
+abbrev pub RunAgreement : Plan → List Did → ClusterValue → Addr → Type 0
 RunAgreement plan run v g = (runs : ℕ → Bool) (spec : Spec) → IsSettledIn plan run v g runs spec → KeepsAgreement (accepted_there plan g run) (log_seen plan run v g) runs spec
 
 abbrev pub SettledGroupsAgree : Type 0
@@ -140,6 +140,6 @@ SettledGroupsAgree = OfGroupsInRuns RunAgreement
 -- the items that it put out. What happened to it are its own requests, the fates of its items, and the notices of its members.
 abbrev pub RunsAgree : Type 0
 RunsAgree =
-    (plan other : ClusterPlan) (run that : List Did) (v w : ClusterValue) → ComesTo plan run v → ComesTo other that w
+    (plan other : Plan) (run that : List Did) (v w : ClusterValue) → ComesTo plan run v → ComesTo other that w
     → (g : Addr) → is_fed plan g run ≡ true → is_fed other g that ≡ true → plan.nodes ≡ other.nodes → project plan g run ≡ project other g that
     → (a b : NodeId) → a.number < plan.nodes → b.number < plan.nodes → seen_in plan run v g a b ≡ seen_in other that w g a b

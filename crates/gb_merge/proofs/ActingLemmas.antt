@@ -30,7 +30,7 @@ use Rattle.gb_cluster.specs.declared.answer.Answer.{Answer}
 use Rattle.gb_cluster.specs.declared.answer.Answer.TheVariants.{Reply as AnswerReply, Taken as AnswerTaken, Sent as AnswerSent, Ticked as AnswerTicked, Halted as AnswerHalted, NoPacket, NotNoise}
 use Rattle.gb_cluster.specs.declared.answer.Sending.TheVariants.{Packet as SendingPacket, Nothing as SendingNothing, Refused as SendingRefused}
 use Rattle.gb_cluster.specs.declared.event.Event.{Event}
-use Rattle.gb_cluster.specs.declared.plan.ClusterPlan.{ClusterPlan}
+use Rattle.gb_types.specs.declared.plan.Plan.{Plan}
 use Rattle.gb_cluster.specs.declared.posted.Posted.{Posted}
 use Rattle.gb_cluster.proofs.NodesLemmas.{have_pasts}
 use Rattle.gb_merge.specs.Interleaving.{is_good, sent_by, text_numbered, IsEventOf}
@@ -73,7 +73,7 @@ numbered_contains packets (suc k) p e = get_contains packets k p e
 -- Packets for a node.
 
 -- a node of a cluster takes those packets that are good there
-pub good_is : PastsSay → (plan : ClusterPlan) (run : List Did) (v : ClusterValue) (a : NodeId) (bytes : List ℕ) → ComesTo plan run v → a.number < plan.nodes → is_packet_for (node_at v a) (Came bytes) ≡ is_good plan a bytes
+pub good_is : PastsSay → (plan : Plan) (run : List Did) (v : ClusterValue) (a : NodeId) (bytes : List ℕ) → ComesTo plan run v → a.number < plan.nodes → is_packet_for (node_at v a) (Came bytes) ≡ is_good plan a bytes
 unfolding is_good
 good_is pasts plan run v a bytes comes within =
     let was : IsOfPast (node_plan plan a) (past_at a run) (node_at v a) = pasts (node_plan plan a) (past_at a run) (node_at v a) (have_pasts plan run v a comes within) in
@@ -84,7 +84,7 @@ good_is pasts plan run v a bytes comes within =
     by was (Ok c) = λ i. is_ok (if nat_eq c.to (was.me i).number && nat_lt c.from (was.nodes i) then Ok c else Err Node)
 
 -- a good packet says for which node it is
-goal_is : (plan : ClusterPlan) (a : NodeId) (bytes : List ℕ) (c : Content) → read plan.cluster_key bytes ≡ c ∷ [] → is_good plan a bytes ≡ true → c.to ≡ a.number
+goal_is : (plan : Plan) (a : NodeId) (bytes : List ℕ) (c : Content) → read plan.cluster_key bytes ≡ c ∷ [] → is_good plan a bytes ≡ true → c.to ≡ a.number
 unfolding is_good
 goal_is plan a bytes c says good = by (reading plan.cluster_key bytes) says good
   where
@@ -110,7 +110,7 @@ pub record Acted (w : ClusterValue) (a : NodeId) (n : NodeEvent) (x : Answer) (n
 acted : (w : ClusterValue) (a : NodeId) (n : NodeEvent) (x : Answer) (new : ClusterValue) → IsAt w a n x new → IsSent w a n → Acted w a n x new
 acted w a n x new at sent = record { own = at.0; acts = at.1; answered = at.2; sent = sent }
 
-pub acts : PastsSay → PacketsAreHonest → (plan : ClusterPlan) (run : List Did) (w : ClusterValue) (a : NodeId) (sent : List (List ℕ)) (n : NodeEvent) (e : Event) (x : Answer) (new : ClusterValue) → ComesTo plan run w → a.number < plan.nodes → IsEventOf plan a sent n e → texts w.packets ≡ sent → IsStep w e x new → Acted w a n x new
+pub acts : PastsSay → PacketsAreHonest → (plan : Plan) (run : List Did) (w : ClusterValue) (a : NodeId) (sent : List (List ℕ)) (n : NodeEvent) (e : Event) (x : Answer) (new : ClusterValue) → ComesTo plan run w → a.number < plan.nodes → IsEventOf plan a sent n e → texts w.packets ≡ sent → IsStep w e x new → Acted w a n x new
 acts pasts honest plan run w a sent (Asked request) e x new comes within is packets step = acted w a _ x new (subst (λ (d : Event). IsStep w d x new) is step) (λ bytes same yes. absurd (cc))
 acts pasts honest plan run w a sent (Pack b) e x new comes within is packets step = acted w a _ x new (subst (λ (d : Event). IsStep w d x new) is step) (λ bytes same yes. absurd (cc))
 acts pasts honest plan run w a sent (Again b n) e x new comes within is packets step = acted w a _ x new (subst (λ (d : Event). IsStep w d x new) is step) (λ bytes same yes. absurd (cc))
@@ -254,7 +254,7 @@ pub told_own : (w : ClusterValue) (a : NodeId) (n : NodeEvent) (x : Answer) (new
 told_own w a n x new d = ap (told new.packets) d.answered ∙ told_is w.packets new.packets (node_at w a) n d.own d.acts.node d.acts.turn (ap (λ (v : ClusterValue). v.packets) d.acts.after)
 
 -- the event happens at one of the nodes
-pub placed_so : (plan : ClusterPlan) (nodes : ℕ) (a : NodeId) (sent : List (List ℕ)) (n : NodeEvent) (e : Event) → a.number < nodes → IsEventOf plan a sent n e → IsPlaced nodes e
+pub placed_so : (plan : Plan) (nodes : ℕ) (a : NodeId) (sent : List (List ℕ)) (n : NodeEvent) (e : Event) → a.number < nodes → IsEventOf plan a sent n e → IsPlaced nodes e
 placed_so plan nodes a sent (Asked request) e within is = subst (IsPlaced nodes) (sym is) within
 placed_so plan nodes a sent (Pack b) e within is = subst (IsPlaced nodes) (sym is) within
 placed_so plan nodes a sent (Again b n) e within is = subst (IsPlaced nodes) (sym is) within

@@ -16,7 +16,7 @@ use Rattle.gb_node.specs.declared.tape.TapeEntry.{TapeEntry}
 use Rattle.gb_cluster.specs.ClusterStep.{packet_numbered}
 use Rattle.gb_cluster.specs.ClusterValue.{node_plan}
 use Rattle.gb_cluster.specs.declared.event.Event.{Event}
-use Rattle.gb_cluster.specs.declared.plan.ClusterPlan.{ClusterPlan}
+use Rattle.gb_types.specs.declared.plan.Plan.{Plan}
 use Rattle.gb_cluster.specs.declared.posted.Posted.{Posted}
 use Rattle.gb_cluster.proofs.NodesLemmas.{numbered_is}
 use Rattle.gb_merge.specs.Interleaving.{is_good, tape_of}
@@ -26,11 +26,11 @@ use Rattle.gb_merge.proofs.GoingLemmas.{node_of}
 
 -- Reading.
 
-abbrev pub here : ClusterPlan → NodeId → Result Content PacketFault → Bool
+abbrev pub here : Plan → NodeId → Result Content PacketFault → Bool
 here plan a (Err fault) = false
 here plan a (Ok c) = nat_eq c.to a.number && nat_lt c.from plan.nodes
 
-pub good_reads : (plan : ClusterPlan) (a : NodeId) (key bytes : List ℕ) (r : Result Content PacketFault) → key ≡ plan.cluster_key → r ≡ reading key bytes → here plan a r ≡ is_good plan a bytes
+pub good_reads : (plan : Plan) (a : NodeId) (key bytes : List ℕ) (r : Result Content PacketFault) → key ≡ plan.cluster_key → r ≡ reading key bytes → here plan a r ≡ is_good plan a bytes
 unfolding is_good
 good_reads plan a key bytes r key_is is = ap (here plan a) (is ∙ ap (λ (k : List ℕ). reading k bytes) key_is) ∙ by (reading plan.cluster_key bytes)
   where
@@ -64,11 +64,11 @@ err_so (Err x) e P is p = subst P (sym is) p
 
 -- Strangers.
 
-pub strange_to : (plan : ClusterPlan) (i : ℕ) (a : NodeId) (sent : List (List ℕ)) (tapes : List (List TapeEntry)) (t entries : List TapeEntry) → a.number ≡ i → entries ≡ t → t ≡ get_or tapes i t → i < length tapes → HasStranger plan a sent entries → HasStranger plan (node_numbered i) sent (tape_of tapes i)
+pub strange_to : (plan : Plan) (i : ℕ) (a : NodeId) (sent : List (List ℕ)) (tapes : List (List TapeEntry)) (t entries : List TapeEntry) → a.number ≡ i → entries ≡ t → t ≡ get_or tapes i t → i < length tapes → HasStranger plan a sent entries → HasStranger plan (node_numbered i) sent (tape_of tapes i)
 strange_to plan i a sent tapes t entries here is read within has =
     subst (λ (n : NodeId). HasStranger plan n sent (tape_of tapes i)) (sym (node_of i a here)) (subst (HasStranger plan a sent) (is ∙ (read ∙ get_or_default tapes i t [] within)) has)
 
-pub strange_from : (plan : ClusterPlan) (i : ℕ) (a : NodeId) (sent : List (List ℕ)) (tapes : List (List TapeEntry)) (t entries : List TapeEntry) → a.number ≡ i → entries ≡ t → t ≡ get_or tapes i t → i < length tapes → HasStranger plan (node_numbered i) sent (tape_of tapes i) → HasStranger plan a sent entries
+pub strange_from : (plan : Plan) (i : ℕ) (a : NodeId) (sent : List (List ℕ)) (tapes : List (List TapeEntry)) (t entries : List TapeEntry) → a.number ≡ i → entries ≡ t → t ≡ get_or tapes i t → i < length tapes → HasStranger plan (node_numbered i) sent (tape_of tapes i) → HasStranger plan a sent entries
 strange_from plan i a sent tapes t entries here is read within has =
     subst (λ (n : NodeId). HasStranger plan n sent entries) (node_of i a here) (subst (HasStranger plan (node_numbered i) sent) (sym (is ∙ (read ∙ get_or_default tapes i t [] within))) has)
 
@@ -80,7 +80,7 @@ none_more P i before here b within has = by (cases_lt b i)
     by (inl less) = before b less has
     by (inr more) = let same : b ≡ i = omega arith in here (subst P same has)
 
-pub none_at_all : (plan : ClusterPlan) (sent : List (List ℕ)) (tapes : List (List TapeEntry)) (i : ℕ) → length tapes ≤ i → ((b : ℕ) → b < i → HasStranger plan (node_numbered b) sent (tape_of tapes b) → ⊥) → (a : ℕ) → HasStranger plan (node_numbered a) sent (tape_of tapes a) → ⊥
+pub none_at_all : (plan : Plan) (sent : List (List ℕ)) (tapes : List (List TapeEntry)) (i : ℕ) → length tapes ≤ i → ((b : ℕ) → b < i → HasStranger plan (node_numbered b) sent (tape_of tapes b) → ⊥) → (a : ℕ) → HasStranger plan (node_numbered a) sent (tape_of tapes a) → ⊥
 none_at_all plan sent tapes i all before a has = by (cases_lt a i)
   where
     nothing : (entries : List TapeEntry) → entries ≡ [] → HasStranger plan (node_numbered a) sent entries → ⊥
@@ -91,7 +91,7 @@ none_at_all plan sent tapes i all before a has = by (cases_lt a i)
     by (inl less) = before a less has
     by (inr past) = nothing (tape_of tapes a) (get_or_past tapes a [] (omega arith)) has
 
-pub stranger_of : (plan : ClusterPlan) (sent : List (List ℕ)) (tapes : List (List TapeEntry)) (a : ℕ) → length tapes ≤ NODES → sent ≡ all_sent tapes → HasStranger plan (node_numbered a) sent (tape_of tapes a) → IsStranger plan tapes
+pub stranger_of : (plan : Plan) (sent : List (List ℕ)) (tapes : List (List TapeEntry)) (a : ℕ) → length tapes ≤ NODES → sent ≡ all_sent tapes → HasStranger plan (node_numbered a) sent (tape_of tapes a) → IsStranger plan tapes
 stranger_of plan sent tapes a few sent_is has = by (cases_lt a (length tapes))
   where
     nothing : (entries : List TapeEntry) → entries ≡ [] → HasStranger plan (node_numbered a) sent entries → ⊥
@@ -105,7 +105,7 @@ stranger_of plan sent tapes a few sent_is has = by (cases_lt a (length tapes))
         record { node = node_numbered a; place = all.place; entry = all.entry; there = ap (λ n. slice_get (tape_of tapes n) all.place) same ∙ all.there; stranger = all.stranger }
     by (inr past) = absurd (nothing (tape_of tapes a) (get_or_past tapes a [] past) has)
 
-pub stranger_has : (plan : ClusterPlan) (sent : List (List ℕ)) (tapes : List (List TapeEntry)) (s : IsStranger plan tapes) → sent ≡ all_sent tapes → HasStranger plan (node_numbered s.node.number) sent (tape_of tapes s.node.number)
+pub stranger_has : (plan : Plan) (sent : List (List ℕ)) (tapes : List (List TapeEntry)) (s : IsStranger plan tapes) → sent ≡ all_sent tapes → HasStranger plan (node_numbered s.node.number) sent (tape_of tapes s.node.number)
 stranger_has plan sent tapes s sent_is =
     subst (λ (n : NodeId). HasStranger plan n sent (tape_of tapes s.node.number)) (sym (numbered_is s.node)) (subst (λ (t : List (List ℕ)). HasStranger plan s.node t (tape_of tapes s.node.number)) (sym sent_is) (record { place = s.place; entry = s.entry; there = s.there; stranger = s.stranger }))
 
@@ -114,7 +114,7 @@ stranger_has plan sent tapes s sent_is =
 pub read_at_place : (rest : List (List TapeEntry)) (i : ℕ) (left : List TapeEntry) → left ≡ get_or rest i left → i < length rest → left ≡ tape_of rest i
 read_at_place rest i left is within = is ∙ get_or_default rest i left [] within
 
-pub can_go_at : (plan : ClusterPlan) (rest : List (List TapeEntry)) (sent : List (List ℕ)) (i : ℕ) (a : NodeId) (left : List TapeEntry) (e : Event) → a.number ≡ i → left ≡ get_or rest i left → i < length rest → IsNext plan a sent left e → CanGo plan rest sent a e
+pub can_go_at : (plan : Plan) (rest : List (List TapeEntry)) (sent : List (List ℕ)) (i : ℕ) (a : NodeId) (left : List TapeEntry) (e : Event) → a.number ≡ i → left ≡ get_or rest i left → i < length rest → IsNext plan a sent left e → CanGo plan rest sent a e
 can_go_at plan rest sent i a left e here is within next = record {
   within = omega arith;
   entry = next.entry;
@@ -123,10 +123,10 @@ can_go_at plan rest sent i a left e here is within next = record {
   is = next.is;
 }
 
-pub held_at : (plan : ClusterPlan) (rest : List (List TapeEntry)) (sent : List (List ℕ)) (i : ℕ) (a : NodeId) (left : List TapeEntry) → a.number ≡ i → left ≡ get_or rest i left → i < length rest → IsHeld plan a.number sent left → IsHeld plan i sent (tape_of rest i)
+pub held_at : (plan : Plan) (rest : List (List TapeEntry)) (sent : List (List ℕ)) (i : ℕ) (a : NodeId) (left : List TapeEntry) → a.number ≡ i → left ≡ get_or rest i left → i < length rest → IsHeld plan a.number sent left → IsHeld plan i sent (tape_of rest i)
 held_at plan rest sent i a left here is within held = subst (λ n. IsHeld plan n sent (tape_of rest i)) here (subst (IsHeld plan a.number sent) (read_at_place rest i left is within) held)
 
-pub held_more_at : (plan : ClusterPlan) (rest : List (List TapeEntry)) (sent : List (List ℕ)) (i : ℕ) → ((b : ℕ) → b < i → IsHeld plan b sent (tape_of rest b)) → IsHeld plan i sent (tape_of rest i) → (b : ℕ) → b < i + 1 → IsHeld plan b sent (tape_of rest b)
+pub held_more_at : (plan : Plan) (rest : List (List TapeEntry)) (sent : List (List ℕ)) (i : ℕ) → ((b : ℕ) → b < i → IsHeld plan b sent (tape_of rest b)) → IsHeld plan i sent (tape_of rest i) → (b : ℕ) → b < i + 1 → IsHeld plan b sent (tape_of rest b)
 held_more_at plan rest sent i before here b within = by (cases_lt b i)
   where
     by : (b < i) ⊎ (i ≤ b) → IsHeld plan b sent (tape_of rest b)

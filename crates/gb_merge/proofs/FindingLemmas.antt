@@ -4,7 +4,7 @@ use Rattle.std.specs.Prelude.{slice_get}
 use Rattle.std.proofs.lemmas.Bool.{cases_eq}
 use Rattle.gb_node.specs.declared.tape.TapeEntry.{TapeEntry}
 use Rattle.gb_cluster.specs.declared.event.Event.{Event}
-use Rattle.gb_cluster.specs.declared.plan.ClusterPlan.{ClusterPlan}
+use Rattle.gb_types.specs.declared.plan.Plan.{Plan}
 use Rattle.gb_merge.specs.EachEntry.{IsTaken}
 use Rattle.gb_merge.specs.Interleaving.{Pick, entries_at, AreEvents, IsEventOf, sent_by}
 use Rattle.gb_merge.specs.Woven.{sent_with}
@@ -55,14 +55,14 @@ found_at a (p ∷ picks) place x there = by (cases_eq p.node.number a) (λ k at.
     by (inr away) more = other a p picks place x away (more place (ap (λ (es : List TapeEntry). slice_get es place) (sym (entries_at-other a p picks away)) ∙ there))
 
 -- there is an event at each place of what was taken
-event_there : (plan : ClusterPlan) (sent : List (List ℕ)) (picks : List Pick) (events : List Event) (i : ℕ) (p : Pick) → AreEvents plan sent picks events → slice_get picks i ≡ Some p → (e : Event) × (slice_get events i ≡ Some e)
+event_there : (plan : Plan) (sent : List (List ℕ)) (picks : List Pick) (events : List Event) (i : ℕ) (p : Pick) → AreEvents plan sent picks events → slice_get picks i ≡ Some p → (e : Event) × (slice_get events i ≡ Some e)
 unfolding AreEvents
 event_there plan sent [] events i p are at = absurd (cc)
 event_there plan sent (q ∷ picks) [] i p are at = absurd are
 event_there plan sent (q ∷ picks) (e ∷ events) zero p are at = (e, refl)
 event_there plan sent (q ∷ picks) (e ∷ events) (suc i) p are at = event_there plan (sent ++ sent_by q.entry.answer) picks events i p are.1 at
 
-pub taken_so : (plan : ClusterPlan) (picks : List Pick) (events : List Event) (a place : ℕ) (x : TapeEntry) → AreEvents plan [] picks events → Found a picks place x → IsTaken plan picks events a place x
+pub taken_so : (plan : Plan) (picks : List Pick) (events : List Event) (a place : ℕ) (x : TapeEntry) → AreEvents plan [] picks events → Found a picks place x → IsTaken plan picks events a place x
 taken_so plan picks events a place x are f =
     let e = event_there plan [] picks events f.at f.pick are f.taken in
     record {

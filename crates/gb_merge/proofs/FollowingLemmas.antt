@@ -18,7 +18,7 @@ use Rattle.gb_cluster.specs.ClusterValue.{ClusterValue, new_cluster, node_plan, 
 use Rattle.gb_cluster.specs.Run.{Did, ComesTo, past_at}
 use Rattle.gb_cluster.specs.declared.answer.Answer.{Answer}
 use Rattle.gb_cluster.specs.declared.event.Event.{Event}
-use Rattle.gb_cluster.specs.declared.plan.ClusterPlan.{ClusterPlan}
+use Rattle.gb_types.specs.declared.plan.Plan.{Plan}
 use Rattle.gb_cluster.proofs.NodesLemmas.{stays, have_pasts, acting_is, other_is}
 use Rattle.gb_merge.specs.Interleaving.{Pick, entries_at, sent_by, IsEventOf, AreEvents}
 use Rattle.gb_merge.specs.Merged.{told, is_starved, did, run_of, Replays, AreFed}
@@ -33,13 +33,13 @@ run_of-push : (done : List Pick) (p : Pick) → run_of (done ++ p ∷ []) ≡ di
 run_of-push done p = ap reverse (map-append did done (p ∷ [])) ∙ reverse-append (map did done) (did p ∷ [])
 
 -- the cluster stands for what was taken
-pub record Stands (plan : ClusterPlan) (done : List Pick) (v : ClusterValue) : Type 0 where
+pub record Stands (plan : Plan) (done : List Pick) (v : ClusterValue) : Type 0 where
   pub comes : ComesTo plan (run_of done) v
   pub node : (a : NodeId) → a.number < plan.nodes → node_at v a ≡ replay plan a (entries_at a.number done)
   pub sent : texts v.packets ≡ sent_with done
 
 -- nothing was taken yet
-pub stands_first : (plan : ClusterPlan) (v : ClusterValue) → ComesTo plan [] v → Stands plan [] v
+pub stands_first : (plan : Plan) (v : ClusterValue) → ComesTo plan [] v → Stands plan [] v
 unfolding sent_with entries_at ComesTo NodeComesTo past_at
 stands_first plan v comes = record {
   comes = comes;
@@ -48,13 +48,13 @@ stands_first plan v comes = record {
 }
 
 -- what the event comes to
-record Goes (plan : ClusterPlan) (done : List Pick) (w : ClusterValue) (p : Pick) (x : Answer) (new : ClusterValue) : Type 0 where
+record Goes (plan : Plan) (done : List Pick) (w : ClusterValue) (p : Pick) (x : Answer) (new : ClusterValue) : Type 0 where
   acted : Acted w p.node p.entry.event x new
   told_so : told new.packets x ≡ Some acted.own
   given : acted.own ≡ node_answer (node_at w p.node) p.entry.event
   after : acted.acts.node ≡ node_after (node_at w p.node) p.entry.event
 
-goes : PastsSay → PacketsAreHonest → (plan : ClusterPlan) (done : List Pick) (w : ClusterValue) (p : Pick) (e : Event) (x : Answer) (new : ClusterValue) → Stands plan done w → p.node.number < plan.nodes → IsEventOf plan p.node (sent_with done) p.entry.event e → IsStep w e x new → is_refused x ≡ false → Goes plan done w p x new
+goes : PastsSay → PacketsAreHonest → (plan : Plan) (done : List Pick) (w : ClusterValue) (p : Pick) (e : Event) (x : Answer) (new : ClusterValue) → Stands plan done w → p.node.number < plan.nodes → IsEventOf plan p.node (sent_with done) p.entry.event e → IsStep w e x new → is_refused x ≡ false → Goes plan done w p x new
 goes pasts honest plan done w p e x new stands within is step fed =
     let does = acts pasts honest plan (run_of done) w p.node (sent_with done) p.entry.event e x new stands.comes within is stands.sent step in
     let told_so = told_own w p.node p.entry.event x new does in
@@ -62,7 +62,7 @@ goes pasts honest plan done w p e x new stands within is step fed =
     record { acted = does; told_so = told_so; given = both.0; after = both.1 }
 
 -- it goes on, where the entry's answer is what the node gave
-stands_on : (plan : ClusterPlan) (done : List Pick) (w : ClusterValue) (p : Pick) (x : Answer) (new : ClusterValue) (g : Goes plan done w p x new) → Stands plan done w → p.node.number < plan.nodes → g.acted.own ≡ p.entry.answer → is_starved p.entry.answer ≡ false → Stands plan (done ++ p ∷ []) new
+stands_on : (plan : Plan) (done : List Pick) (w : ClusterValue) (p : Pick) (x : Answer) (new : ClusterValue) (g : Goes plan done w p x new) → Stands plan done w → p.node.number < plan.nodes → g.acted.own ≡ p.entry.answer → is_starved p.entry.answer ≡ false → Stands plan (done ++ p ∷ []) new
 unfolding ComesTo
 stands_on plan done w p x new g stands within same fed = record {
   comes = subst (λ (run : List Did). ComesTo plan run new) (sym (run_of-push done p)) (w, stands.comes, g.acted.sent, acts_so);
@@ -116,7 +116,7 @@ no_one : AreFed []
 unfolding AreFed
 no_one = tt
 
-pub event_at : (plan : ClusterPlan) (sent : List (List ℕ)) (picks : List Pick) (events : List Event) (i : ℕ) (p : Pick) (e : Event) → AreEvents plan sent picks events → slice_get picks i ≡ Some p → slice_get events i ≡ Some e → IsEventOf plan p.node (sent ++ sent_with (take i picks)) p.entry.event e
+pub event_at : (plan : Plan) (sent : List (List ℕ)) (picks : List Pick) (events : List Event) (i : ℕ) (p : Pick) (e : Event) → AreEvents plan sent picks events → slice_get picks i ≡ Some p → slice_get events i ≡ Some e → IsEventOf plan p.node (sent ++ sent_with (take i picks)) p.entry.event e
 unfolding AreEvents sent_with
 event_at plan sent [] events i p e are at there = absurd (cc)
 event_at plan sent (q ∷ picks) [] i p e are at there = absurd are
@@ -141,16 +141,16 @@ cut (y ∷ xs) (suc i) x at = ap (λ zs. y ∷ zs) (cut xs i x at)
 -- The loop.
 
 -- so many of the events happened
-pub record IsAt (plan : ClusterPlan) (events : List Event) (picks : List Pick) (i : ℕ) (v : ClusterValue) : Type 0 where
+pub record IsAt (plan : Plan) (events : List Event) (picks : List Pick) (i : ℕ) (v : ClusterValue) : Type 0 where
   pub stands : Stands plan (take i picks) v
   pub replays : Replays (new_cluster plan) (take i events) (take i picks) v
   pub fed : AreFed (take i picks)
 
-pub is_at-first : (plan : ClusterPlan) (events : List Event) (picks : List Pick) (v : ClusterValue) → ComesTo plan [] v → IsAt plan events picks 0 v
+pub is_at-first : (plan : Plan) (events : List Event) (picks : List Pick) (v : ClusterValue) → ComesTo plan [] v → IsAt plan events picks 0 v
 unfolding ComesTo
 is_at-first plan events picks v comes = record { stands = stands_first plan v comes; replays = no_replay (new_cluster plan) v comes.1; fed = no_one }
 
-pub is_at-next : PastsSay → PacketsAreHonest → (plan : ClusterPlan) (events : List Event) (picks : List Pick) (i : ℕ) (w : ClusterValue) (p : Pick) (e : Event) (new : ClusterValue) → AreEvents plan [] picks events → ArePlaced plan.nodes picks → slice_get picks i ≡ Some p → slice_get events i ≡ Some e → p ≡ get_or picks i p → e ≡ get_or events i e → i < length picks → i < length events
+pub is_at-next : PastsSay → PacketsAreHonest → (plan : Plan) (events : List Event) (picks : List Pick) (i : ℕ) (w : ClusterValue) (p : Pick) (e : Event) (new : ClusterValue) → AreEvents plan [] picks events → ArePlaced plan.nodes picks → slice_get picks i ≡ Some p → slice_get events i ≡ Some e → p ≡ get_or picks i p → e ≡ get_or events i e → i < length picks → i < length events
     → IsAt plan events picks i w → IsTold w e p.entry.answer new → IsAt plan events picks (i + 1) new
 is_at-next pasts honest plan events picks i w p e new are placed p_at e_at p_is e_is p_in e_in at so =
     let within = placed_at plan.nodes picks i p placed p_at in
@@ -168,7 +168,7 @@ is_at-next pasts honest plan events picks i w p e new are placed p_at e_at p_is 
     some_in : {x y : NodeAnswer} → Some x ≡ Some y → x ≡ y
     some_in e = cc
 
-pub is_wrong : PastsSay → PacketsAreHonest → (plan : ClusterPlan) (events : List Event) (picks : List Pick) (i : ℕ) (w : ClusterValue) (p : Pick) (e : Event) → AreEvents plan [] picks events → ArePlaced plan.nodes picks → slice_get picks i ≡ Some p → slice_get events i ≡ Some e
+pub is_wrong : PastsSay → PacketsAreHonest → (plan : Plan) (events : List Event) (picks : List Pick) (i : ℕ) (w : ClusterValue) (p : Pick) (e : Event) → AreEvents plan [] picks events → ArePlaced plan.nodes picks → slice_get picks i ≡ Some p → slice_get events i ≡ Some e
     → IsAt plan events picks i w → IsUntold w e p.entry.answer → IsWrong plan picks
 is_wrong pasts honest plan events picks i w p e are placed p_at e_at at so =
     let within = placed_at plan.nodes picks i p placed p_at in
@@ -181,14 +181,14 @@ is_wrong pasts honest plan events picks i w p e are placed p_at e_at at so =
       differs = inr (λ is. so.other (g.told_so ∙ ap (λ (y : NodeAnswer). Some y) (g.given ∙ (ap (λ (v : NodeValue). node_answer v p.entry.event) (at.stands.node p.node within) ∙ sym is))));
     }
 
-pub fault_of : PastsSay → PacketsAreHonest → (plan : ClusterPlan) (events : List Event) (picks : List Pick) (i : ℕ) (w : ClusterValue) (p : Pick) (e : Event) (f : AuditFault) → AreEvents plan [] picks events → ArePlaced plan.nodes picks → slice_get picks i ≡ Some p → slice_get events i ≡ Some e
+pub fault_of : PastsSay → PacketsAreHonest → (plan : Plan) (events : List Event) (picks : List Pick) (i : ℕ) (w : ClusterValue) (p : Pick) (e : Event) (f : AuditFault) → AreEvents plan [] picks events → ArePlaced plan.nodes picks → slice_get picks i ≡ Some p → slice_get events i ≡ Some e
     → IsAt plan events picks i w → IsStepFault w e p.entry.answer f → IsFollowFault plan picks f
 fault_of pasts honest plan events picks i w p e Stranger are placed p_at e_at at is = absurd is
 fault_of pasts honest plan events picks i w p e Stuck are placed p_at e_at at is = absurd is
 fault_of pasts honest plan events picks i w p e Differs are placed p_at e_at at is = is_wrong pasts honest plan events picks i w p e are placed p_at e_at at is
 fault_of pasts honest plan events picks i w p e OutOfMemory are placed p_at e_at at is = tt
 
-pub followed : (plan : ClusterPlan) (events : List Event) (picks : List Pick) (n : ℕ) (v : ClusterValue) → take n events ≡ events → take n picks ≡ picks → IsAt plan events picks n v → IsFollowed plan events picks v
+pub followed : (plan : Plan) (events : List Event) (picks : List Pick) (n : ℕ) (v : ClusterValue) → take n events ≡ events → take n picks ≡ picks → IsAt plan events picks n v → IsFollowed plan events picks v
 followed plan events picks n v all every at = record {
   replays = subst (λ (es : List Event). Replays (new_cluster plan) es picks v) all (subst (λ (ps : List Pick). Replays (new_cluster plan) (take n events) ps v) every at.replays);
   fed = subst AreFed every at.fed;
@@ -196,11 +196,11 @@ followed plan events picks n v all every at = record {
 }
 
 -- the event is one of the cluster's
-pub goes_there : (plan : ClusterPlan) (events : List Event) (picks : List Pick) (i : ℕ) (w : ClusterValue) (p : Pick) (e : Event) → AreEvents plan [] picks events → ArePlaced plan.nodes picks → slice_get picks i ≡ Some p → slice_get events i ≡ Some e → IsAt plan events picks i w → IsPlaced (length w.nodes) e
+pub goes_there : (plan : Plan) (events : List Event) (picks : List Pick) (i : ℕ) (w : ClusterValue) (p : Pick) (e : Event) → AreEvents plan [] picks events → ArePlaced plan.nodes picks → slice_get picks i ≡ Some p → slice_get events i ≡ Some e → IsAt plan events picks i w → IsPlaced (length w.nodes) e
 goes_there plan events picks i w p e are placed p_at e_at at =
     let within = placed_at plan.nodes picks i p placed p_at in
     let count = (stays plan (run_of (take i picks)) w at.stands.comes).count in
     placed_so plan (length w.nodes) p.node (sent_with (take i picks)) p.entry.event e (omega (arith, within, count)) (event_at plan [] picks events i p e are p_at e_at)
 
-pub plan_stays : (plan : ClusterPlan) (events : List Event) (picks : List Pick) (i : ℕ) (w : ClusterValue) → IsAt plan events picks i w → w.plan ≡ plan
+pub plan_stays : (plan : Plan) (events : List Event) (picks : List Pick) (i : ℕ) (w : ClusterValue) → IsAt plan events picks i w → w.plan ≡ plan
 plan_stays plan events picks i w at = (stays plan (run_of (take i picks)) w at.stands.comes).plan_is

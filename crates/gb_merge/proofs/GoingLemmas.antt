@@ -12,7 +12,7 @@ use Rattle.gb_node.specs.declared.event.NodeEvent.{NodeEvent}
 use Rattle.gb_node.specs.declared.event.NodeEvent.TheVariants.{Request, Packet, Pack, Again, Ack, Tick, Stop}
 use Rattle.gb_node.specs.declared.tape.TapeEntry.{TapeEntry}
 use Rattle.gb_cluster.specs.declared.event.Event.TheVariants.{At, Arrive}
-use Rattle.gb_cluster.specs.declared.plan.ClusterPlan.{ClusterPlan}
+use Rattle.gb_types.specs.declared.plan.Plan.{Plan}
 use Rattle.gb_merge.specs.Interleaving.{is_good, text_numbered, IsEventOf, tape_of}
 use Rattle.gb_merge.specs.Faults.{IsBlocked}
 use Rattle.gb_merge.specs.Woven.{IsOther, IsHeld, AreHeld}
@@ -23,7 +23,7 @@ text_numbered_is sent zero some = absurd (omega arith)
 text_numbered_is sent (suc k) some = let e : k ≡ suc k - 1 = omega arith in ap (slice_get sent) e
 
 -- a packet for the node that was sent
-pub arrival_is : (plan : ClusterPlan) (sent : List (List ℕ)) (a : NodeId) (k : ℕ) (x : NodeEvent) (bytes : List ℕ) → x ≡ Packet bytes → is_good plan a bytes ≡ true → Some k ≡ option_map (λ i. i + 1) (position (bytes_eq bytes) sent) → IsEventOf plan a sent x (Arrive k)
+pub arrival_is : (plan : Plan) (sent : List (List ℕ)) (a : NodeId) (k : ℕ) (x : NodeEvent) (bytes : List ℕ) → x ≡ Packet bytes → is_good plan a bytes ≡ true → Some k ≡ option_map (λ i. i + 1) (position (bytes_eq bytes) sent) → IsEventOf plan a sent x (Arrive k)
 arrival_is plan sent a k x bytes is good at = subst (λ (y : NodeEvent). IsEventOf plan a sent y (Arrive k)) (sym is) (by (position (bytes_eq bytes) sent) refl at)
   where
     by : (o : Option ℕ) → position (bytes_eq bytes) sent ≡ o → Some k ≡ option_map (λ i. i + 1) o → IsEventOf plan a sent (Packet bytes) (Arrive k)
@@ -34,7 +34,7 @@ arrival_is plan sent a k x bytes is good at = subst (λ (y : NodeEvent). IsEvent
         inl (k, refl, text_numbered_is sent k (omega arith) ∙ (ap (slice_get sent) last ∙ found sent bytes i place), good)
 
 -- one that was not
-pub blocked_is : (plan : ClusterPlan) (sent : List (List ℕ)) (a : NodeId) (x : NodeEvent) (bytes : List ℕ) → x ≡ Packet bytes → is_good plan a bytes ≡ true → None ≡ option_map (λ i. i + 1) (position (bytes_eq bytes) sent) → IsBlocked plan a sent x
+pub blocked_is : (plan : Plan) (sent : List (List ℕ)) (a : NodeId) (x : NodeEvent) (bytes : List ℕ) → x ≡ Packet bytes → is_good plan a bytes ≡ true → None ≡ option_map (λ i. i + 1) (position (bytes_eq bytes) sent) → IsBlocked plan a sent x
 blocked_is plan sent a x bytes is good at = subst (IsBlocked plan a sent) (sym is) (good, λ k there. absent sent bytes k (by (position (bytes_eq bytes) sent) at) there)
   where
     by : (o : Option ℕ) → None ≡ option_map (λ (i : ℕ). i + 1) o → o ≡ None
@@ -42,7 +42,7 @@ blocked_is plan sent a x bytes is good at = subst (IsBlocked plan a sent) (sym i
     by (Some i) at = absurd (cc)
 
 -- one that was is not blocked
-pub sent_free : (plan : ClusterPlan) (sent : List (List ℕ)) (a : NodeId) (k : ℕ) (x : NodeEvent) (bytes : List ℕ) → x ≡ Packet bytes → Some k ≡ option_map (λ i. i + 1) (position (bytes_eq bytes) sent) → IsBlocked plan a sent x → ⊥
+pub sent_free : (plan : Plan) (sent : List (List ℕ)) (a : NodeId) (k : ℕ) (x : NodeEvent) (bytes : List ℕ) → x ≡ Packet bytes → Some k ≡ option_map (λ i. i + 1) (position (bytes_eq bytes) sent) → IsBlocked plan a sent x → ⊥
 sent_free plan sent a k x bytes is at blocked = by (position (bytes_eq bytes) sent) refl at
   where
     here : IsBlocked plan a sent (Packet bytes)
@@ -53,7 +53,7 @@ sent_free plan sent a k x bytes is at blocked = by (position (bytes_eq bytes) se
     by (Some i) place number = here.1 i (found sent bytes i place)
 
 -- each other event is itself
-pub itself : (plan : ClusterPlan) (sent : List (List ℕ)) (a : NodeId) (x : NodeEvent) → IsOther plan a x → IsEventOf plan a sent x (At a x)
+pub itself : (plan : Plan) (sent : List (List ℕ)) (a : NodeId) (x : NodeEvent) → IsOther plan a x → IsEventOf plan a sent x (At a x)
 itself plan sent a (Request request) other = refl
 itself plan sent a (Packet bytes) other = inr (refl, other)
 itself plan sent a (Pack b) other = refl
@@ -63,7 +63,7 @@ itself plan sent a Tick other = refl
 itself plan sent a Stop other = refl
 
 -- and is not blocked
-pub other_free : (plan : ClusterPlan) (sent : List (List ℕ)) (a : NodeId) (x : NodeEvent) → IsOther plan a x → IsBlocked plan a sent x → ⊥
+pub other_free : (plan : Plan) (sent : List (List ℕ)) (a : NodeId) (x : NodeEvent) → IsOther plan a x → IsBlocked plan a sent x → ⊥
 other_free plan sent a (Request request) other blocked = blocked
 other_free plan sent a (Packet bytes) other blocked = let yes = blocked.0 in cc
 other_free plan sent a (Pack b) other blocked = blocked
@@ -73,7 +73,7 @@ other_free plan sent a Tick other blocked = blocked
 other_free plan sent a Stop other blocked = blocked
 
 -- the nodes beyond the last have nothing
-pub all_held : (plan : ClusterPlan) (sent : List (List ℕ)) (rest : List (List TapeEntry)) (i : ℕ) → length rest ≤ i → ((a : ℕ) → a < i → IsHeld plan a sent (tape_of rest a)) → AreHeld plan sent rest
+pub all_held : (plan : Plan) (sent : List (List ℕ)) (rest : List (List TapeEntry)) (i : ℕ) → length rest ≤ i → ((a : ℕ) → a < i → IsHeld plan a sent (tape_of rest a)) → AreHeld plan sent rest
 all_held plan sent rest i all below a = by (cases_lt a i)
   where
     by : (a < i) ⊎ (i ≤ a) → IsHeld plan a sent (tape_of rest a)

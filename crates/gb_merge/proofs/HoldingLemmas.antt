@@ -7,7 +7,7 @@ use Rattle.gb_node.specs.declared.event.NodeEvent.{NodeEvent}
 use Rattle.gb_node.specs.declared.event.NodeEvent.TheVariants.{Request, Packet, Pack, Again, Ack, Tick, Stop}
 use Rattle.gb_node.specs.declared.tape.TapeEntry.{TapeEntry}
 use Rattle.gb_cluster.specs.declared.event.Event.{Event}
-use Rattle.gb_cluster.specs.declared.plan.ClusterPlan.{ClusterPlan}
+use Rattle.gb_types.specs.declared.plan.Plan.{Plan}
 use Rattle.gb_cluster.proofs.NodesLemmas.{numbered_is}
 use Rattle.gb_merge.specs.Interleaving.{Pick, entries_at, sent_by, text_numbered, IsEventOf, AreEvents, tape_of}
 use Rattle.gb_merge.specs.Faults.{IsStuck, sent_of, IsBlocked}
@@ -21,7 +21,7 @@ numbered_in b xs zero at = absurd (cc)
 numbered_in b xs (suc k) at = in_at b xs k at
 
 -- an entry that is an event where fewer packets were sent can go
-pub not_blocked : (plan : ClusterPlan) (a : NodeId) (before sent : List (List ℕ)) (x : NodeEvent) (e : Event) → ((b : List ℕ) → In b before → In b sent) → IsEventOf plan a before x e → IsBlocked plan a sent x → ⊥
+pub not_blocked : (plan : Plan) (a : NodeId) (before sent : List (List ℕ)) (x : NodeEvent) (e : Event) → ((b : List ℕ) → In b before → In b sent) → IsEventOf plan a before x e → IsBlocked plan a sent x → ⊥
 not_blocked plan a before sent (Request request) e fewer is blocked = blocked
 not_blocked plan a before sent (Pack b) e fewer is blocked = blocked
 not_blocked plan a before sent (Again b n) e fewer is blocked = blocked
@@ -42,7 +42,7 @@ record Goes_on (sent : List (List ℕ)) (left : List TapeEntry) (x : TapeEntry) 
   ahead : IsAhead sent left entries
   known : (b : List ℕ) → In b (sent_by x.answer) → In b sent
 
-next : (plan : ClusterPlan) (a : ℕ) (before sent : List (List ℕ)) (left : List TapeEntry) (x : TapeEntry) (entries : List TapeEntry) (e : Event) → ((b : List ℕ) → In b before → In b sent) → IsHeld plan a sent left → IsEventOf plan (node_numbered a) before x.event e → IsAhead sent left (x ∷ entries) → Goes_on sent left x entries
+next : (plan : Plan) (a : ℕ) (before sent : List (List ℕ)) (left : List TapeEntry) (x : TapeEntry) (entries : List TapeEntry) (e : Event) → ((b : List ℕ) → In b before → In b sent) → IsHeld plan a sent left → IsEventOf plan (node_numbered a) before x.event e → IsAhead sent left (x ∷ entries) → Goes_on sent left x entries
 unfolding sent_of
 next plan a before sent left x entries e fewer held is ahead = by ahead.taken ahead.parts ahead.known
   where
@@ -57,7 +57,7 @@ next plan a before sent left x entries e fewer held is ahead = by ahead.taken ah
         }
 
 -- the whole of another interleaving: nothing is left anywhere
-no_rest : (plan : ClusterPlan) (rest : List (List TapeEntry)) (sent : List (List ℕ)) → AreHeld plan sent rest → (before : List (List ℕ)) (picks : List Pick) (events : List Event) → AreEvents plan before picks events → ((b : List ℕ) → In b before → In b sent)
+no_rest : (plan : Plan) (rest : List (List TapeEntry)) (sent : List (List ℕ)) → AreHeld plan sent rest → (before : List (List ℕ)) (picks : List Pick) (events : List Event) → AreEvents plan before picks events → ((b : List ℕ) → In b before → In b sent)
     → ((a : ℕ) → IsAhead sent (tape_of rest a) (entries_at a picks)) → (a : ℕ) → tape_of rest a ≡ []
 unfolding AreEvents entries_at
 no_rest plan rest sent held before [] [] are fewer ahead a = by (ahead a).taken (ahead a).parts
@@ -88,7 +88,7 @@ no_rest plan rest sent held before (p ∷ picks) (e ∷ events) are fewer ahead 
     others c = by c (cases_eq p.node.number c)
 
 -- so the tapes have none
-pub stuck : (plan : ClusterPlan) (tapes rest : List (List TapeEntry)) (picks : List Pick) (events : List Event) (a : ℕ) → IsWoven plan tapes rest picks events → AreHeld plan (sent_with picks) rest → (tape_of rest a ≡ [] → ⊥) → IsStuck plan tapes
+pub stuck : (plan : Plan) (tapes rest : List (List TapeEntry)) (picks : List Pick) (events : List Event) (a : ℕ) → IsWoven plan tapes rest picks events → AreHeld plan (sent_with picks) rest → (tape_of rest a ≡ [] → ⊥) → IsStuck plan tapes
 unfolding In
 stuck plan tapes rest picks events a woven held left run other =
     left (no_rest plan rest (sent_with picks) held [] other.picks run other.are_events (λ b there. absurd there)

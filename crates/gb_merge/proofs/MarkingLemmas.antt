@@ -13,7 +13,7 @@ use Rattle.gb_node.specs.declared.event.NodeEvent.{NodeEvent}
 use Rattle.gb_node.specs.declared.event.NodeEvent.TheVariants.{Request, Packet, Pack, Again, Ack, Tick, Stop}
 use Rattle.gb_node.specs.declared.tape.TapeEntry.{TapeEntry}
 use Rattle.gb_cluster.specs.declared.event.Event.{Event}
-use Rattle.gb_cluster.specs.declared.plan.ClusterPlan.{ClusterPlan}
+use Rattle.gb_types.specs.declared.plan.Plan.{Plan}
 use Rattle.gb_cluster.proofs.NodesLemmas.{numbered_is}
 use Rattle.gb_merge.specs.Interleaving.{sent_by, tape_of}
 use Rattle.gb_merge.specs.Faults.{IsBlocked}
@@ -32,7 +32,7 @@ only_one b (Sent (Unsent why)) there = absurd there
 only_one b (Sent (Gave bytes)) (inl same) = ap (λ (x : List ℕ). x ∷ []) same
 only_one b (Sent (Gave bytes)) (inr there) = absurd there
 
-blocked_more : (plan : ClusterPlan) (c : NodeId) (sent : List (List ℕ)) (g : NodeAnswer) (x : NodeEvent) → ((bytes : List ℕ) → sent_by g ≡ bytes ∷ [] → x ≡ Packet bytes → ⊥) → IsBlocked plan c sent x → IsBlocked plan c (sent ++ sent_by g) x
+blocked_more : (plan : Plan) (c : NodeId) (sent : List (List ℕ)) (g : NodeAnswer) (x : NodeEvent) → ((bytes : List ℕ) → sent_by g ≡ bytes ∷ [] → x ≡ Packet bytes → ⊥) → IsBlocked plan c sent x → IsBlocked plan c (sent ++ sent_by g) x
 blocked_more plan c sent g (Request request) others blocked = blocked
 blocked_more plan c sent g (Pack b) others blocked = blocked
 blocked_more plan c sent g (Again b n) others blocked = blocked
@@ -45,11 +45,11 @@ blocked_more plan c sent g (Packet bytes) others blocked = (blocked.0, λ k at. 
     by (inl before) = let at = at_in bytes sent before in blocked.1 at.0 at.1
     by (inr new) = others bytes (only_one bytes g new) refl
 
-held_more : (plan : ClusterPlan) (c : ℕ) (sent : List (List ℕ)) (g : NodeAnswer) (left : List TapeEntry) → ((bytes : List ℕ) → sent_by g ≡ bytes ∷ [] → AwaitsOther bytes left) → IsHeld plan c sent left → IsHeld plan c (sent ++ sent_by g) left
+held_more : (plan : Plan) (c : ℕ) (sent : List (List ℕ)) (g : NodeAnswer) (left : List TapeEntry) → ((bytes : List ℕ) → sent_by g ≡ bytes ∷ [] → AwaitsOther bytes left) → IsHeld plan c sent left → IsHeld plan c (sent ++ sent_by g) left
 held_more plan c sent g [] others held = tt
 held_more plan c sent g (x ∷ left) others held = blocked_more plan (node_numbered c) sent g x.event others held
 
-pub marked_on : (plan : ClusterPlan) (marks woken : List Bool) (sent more : List (List ℕ)) (rest : List (List TapeEntry)) (a : NodeId) (e : Event) (x : TapeEntry) (left : List TapeEntry) → AreMarked plan marks sent rest → CanGo plan rest sent a e → more ≡ sent ++ sent_by x.answer → AreWoken marks (slice_set rest a.number left) x.answer woken
+pub marked_on : (plan : Plan) (marks woken : List Bool) (sent more : List (List ℕ)) (rest : List (List TapeEntry)) (a : NodeId) (e : Event) (x : TapeEntry) (left : List TapeEntry) → AreMarked plan marks sent rest → CanGo plan rest sent a e → more ≡ sent ++ sent_by x.answer → AreWoken marks (slice_set rest a.number left) x.answer woken
     → AreMarked plan woken more (slice_set rest a.number left)
 marked_on plan marks woken sent more rest a e x left marked go more_is wakes c at = subst (λ (s : List (List ℕ)). IsHeld plan c s (tape_of (slice_set rest a.number left) c)) (sym more_is) (by (cases_eq a.number c))
   where
@@ -73,5 +73,5 @@ none_set (suc n) zero = refl
 none_set (suc n) (suc a) = none_set n a
 
 -- no mark
-pub unmarked : (plan : ClusterPlan) (marks : List Bool) (n : ℕ) (sent : List (List ℕ)) (rest : List (List TapeEntry)) → marks ≡ replicate n false → AreMarked plan marks sent rest
+pub unmarked : (plan : Plan) (marks : List Bool) (n : ℕ) (sent : List (List ℕ)) (rest : List (List TapeEntry)) → marks ≡ replicate n false → AreMarked plan marks sent rest
 unmarked plan marks n sent rest is a at = absurd (let none = ap (λ (bs : List Bool). get_or bs a false) is ∙ none_set n a in let e : true ≡ false = sym at ∙ none in cc)

@@ -10,7 +10,7 @@ use Rattle.gb_node.specs.declared.tape.TapeEntry.{TapeEntry}
 use Rattle.gb_cluster.specs.ClusterValue.{ClusterValue}
 use Rattle.gb_cluster.specs.Run.{Did, past_at}
 use Rattle.gb_cluster.specs.declared.event.Event.{Event}
-use Rattle.gb_cluster.specs.declared.plan.ClusterPlan.{ClusterPlan}
+use Rattle.gb_types.specs.declared.plan.Plan.{Plan}
 use Rattle.gb_merge.specs.Interleaving.{Pick, entries_at, AreEvents, tape_of, sent_by}
 use Rattle.gb_merge.specs.Merged.{is_starved, did, run_of, happened, past_of, IsMerged}
 use Rattle.gb_merge.specs.Faults.{node_answer, replay, IsStranger, IsDifferent, IsFault}
@@ -19,7 +19,7 @@ use Rattle.gb_merge.specs.declared.fault.AuditFault.{AuditFault}
 use Rattle.gb_merge.specs.declared.fault.AuditFault.TheVariants.{Stranger, Stuck, Differs, OutOfMemory}
 use Rattle.gb_merge.proofs.TakenLemmas.{entries_at-same, entries_at-append}
 
-pub whole_of : (plan : ClusterPlan) (tapes rest : List (List TapeEntry)) (picks : List Pick) (events : List Event) → IsWoven plan tapes rest picks events → ((a : ℕ) → tape_of rest a ≡ []) → IsWhole plan tapes picks events
+pub whole_of : (plan : Plan) (tapes rest : List (List TapeEntry)) (picks : List Pick) (events : List Event) → IsWoven plan tapes rest picks events → ((a : ℕ) → tape_of rest a ≡ []) → IsWhole plan tapes picks events
 whole_of plan tapes rest picks events woven empty = record {
   are_events = woven.are_events;
   whole = λ a. sym (append-nil (entries_at a picks)) ∙ (ap (λ (xs : List TapeEntry). entries_at a picks ++ xs) (sym (empty a)) ∙ woven.parts a);
@@ -50,21 +50,21 @@ placed_from nodes tapes one_each done (p ∷ picks) whole =
 pub placed : (nodes : ℕ) (tapes : List (List TapeEntry)) (picks : List Pick) → length tapes ≡ nodes → ((a : ℕ) → entries_at a picks ≡ tape_of tapes a) → ArePlaced nodes picks
 placed nodes tapes picks one_each whole = placed_from nodes tapes one_each [] picks whole
 
-pub events_count : (plan : ClusterPlan) (sent : List (List ℕ)) (picks : List Pick) (events : List Event) → AreEvents plan sent picks events → length events ≡ length picks
+pub events_count : (plan : Plan) (sent : List (List ℕ)) (picks : List Pick) (events : List Event) → AreEvents plan sent picks events → length events ≡ length picks
 unfolding AreEvents
 events_count plan sent [] [] are = refl
 events_count plan sent (p ∷ picks) (e ∷ events) are = ap suc (events_count plan (sent ++ sent_by p.entry.answer) picks events are.1)
 events_count plan sent [] (e ∷ events) are = absurd are
 events_count plan sent (p ∷ picks) [] are = absurd are
 
-pub merged : (plan : ClusterPlan) (tapes : List (List TapeEntry)) (picks : List Pick) (events : List Event) (v : ClusterValue) → IsWhole plan tapes picks events → IsFollowed plan events picks v → IsMerged plan tapes events
+pub merged : (plan : Plan) (tapes : List (List TapeEntry)) (picks : List Pick) (events : List Event) (v : ClusterValue) → IsWhole plan tapes picks events → IsFollowed plan events picks v → IsMerged plan tapes events
 merged plan tapes picks events v whole run = record { picks = picks; are_events = whole.are_events; whole = whole.whole; last = v; replays = run.replays; fed = run.fed; comes = run.comes }
 
 seam : {X : Type 0} (xs : List X) (y : X) (ys : List X) → slice_get (xs ++ y ∷ ys) (length xs) ≡ Some y
 seam [] y ys = refl
 seam (x ∷ xs) y ys = seam xs y ys
 
-different : (plan : ClusterPlan) (tapes : List (List TapeEntry)) (picks : List Pick) → ((a : ℕ) → entries_at a picks ≡ tape_of tapes a) → IsWrong plan picks → IsDifferent plan tapes
+different : (plan : Plan) (tapes : List (List TapeEntry)) (picks : List Pick) → ((a : ℕ) → entries_at a picks ≡ tape_of tapes a) → IsWrong plan picks → IsDifferent plan tapes
 different plan tapes picks whole wrong =
     let p = wrong.pick in
     let here = split tapes wrong.done wrong.others p (λ a. ap (entries_at a) (sym wrong.parts) ∙ whole a) in
@@ -78,13 +78,13 @@ different plan tapes picks whole wrong =
       differs = subst (λ (xs : List TapeEntry). (is_starved p.entry.answer ≡ true) ⊎ (p.entry.answer ≢ node_answer (replay plan p.node xs) p.entry.event)) (sym front) wrong.differs;
     }
 
-pub weave_faulty : (plan : ClusterPlan) (tapes : List (List TapeEntry)) (f : AuditFault) → (IsStranger plan tapes → ⊥) → IsWeaveFault plan tapes f → IsFault plan tapes f
+pub weave_faulty : (plan : Plan) (tapes : List (List TapeEntry)) (f : AuditFault) → (IsStranger plan tapes → ⊥) → IsWeaveFault plan tapes f → IsFault plan tapes f
 weave_faulty plan tapes Stranger known is = absurd is
 weave_faulty plan tapes Stuck known is = (is, known)
 weave_faulty plan tapes Differs known is = absurd is
 weave_faulty plan tapes OutOfMemory known is = is
 
-pub follow_faulty : (plan : ClusterPlan) (tapes : List (List TapeEntry)) (picks : List Pick) (f : AuditFault) → (IsStranger plan tapes → ⊥) → ((a : ℕ) → entries_at a picks ≡ tape_of tapes a) → IsFollowFault plan picks f → IsFault plan tapes f
+pub follow_faulty : (plan : Plan) (tapes : List (List TapeEntry)) (picks : List Pick) (f : AuditFault) → (IsStranger plan tapes → ⊥) → ((a : ℕ) → entries_at a picks ≡ tape_of tapes a) → IsFollowFault plan picks f → IsFault plan tapes f
 follow_faulty plan tapes picks Stranger known whole is = absurd is
 follow_faulty plan tapes picks Stuck known whole is = absurd is
 follow_faulty plan tapes picks Differs known whole is = (different plan tapes picks whole is, known)

@@ -8,7 +8,7 @@ use Rattle.std.proofs.lemmas.List.{append-nil, get_or-set_same, get_or-set_other
 use Rattle.std.proofs.Math.ListN.{length-set}
 use Rattle.gb_cluster.specs.declared.event.Event.{Event}
 use Rattle.gb_node.specs.declared.tape.TapeEntry.{TapeEntry}
-use Rattle.gb_cluster.specs.declared.plan.ClusterPlan.{ClusterPlan}
+use Rattle.gb_types.specs.declared.plan.Plan.{Plan}
 use Rattle.gb_merge.specs.Interleaving.{Pick, entries_at, sent_by, IsEventOf, AreEvents, tape_of}
 use Rattle.gb_merge.specs.Faults.{sent_of}
 use Rattle.gb_merge.specs.Woven.{sent_with, IsWoven}
@@ -37,7 +37,7 @@ unfolding sent_with
 sent_with-push [] p = append-nil (sent_by p.entry.answer)
 sent_with-push (q ∷ picks) p = ap (λ (xs : List (List ℕ)). sent_by q.entry.answer ++ xs) (sent_with-push picks p) ∙ sym (append_assoc (sent_by q.entry.answer) (sent_with picks) (sent_by p.entry.answer))
 
-pub are_events-push : (plan : ClusterPlan) (sent : List (List ℕ)) (picks : List Pick) (events : List Event) (p : Pick) (e : Event) → AreEvents plan sent picks events → IsEventOf plan p.node (sent ++ sent_with picks) p.entry.event e → AreEvents plan sent (picks ++ p ∷ []) (events ++ e ∷ [])
+pub are_events-push : (plan : Plan) (sent : List (List ℕ)) (picks : List Pick) (events : List Event) (p : Pick) (e : Event) → AreEvents plan sent picks events → IsEventOf plan p.node (sent ++ sent_with picks) p.entry.event e → AreEvents plan sent (picks ++ p ∷ []) (events ++ e ∷ [])
 unfolding AreEvents sent_with
 are_events-push plan sent [] [] p e are is = (subst (λ (s : List (List ℕ)). IsEventOf plan p.node s p.entry.event e) (append-nil sent) is, tt)
 are_events-push plan sent (q ∷ picks) (d ∷ events) p e are is =
@@ -66,7 +66,7 @@ parts-push tapes rest picks p more within next parts a = by (cases_eq p.node.num
         ap (λ (xs : List TapeEntry). xs ++ tape_of (slice_set rest p.node.number more) a) taken ∙ (ap (λ (xs : List TapeEntry). entries_at a picks ++ xs) left ∙ parts a)
 
 -- one more
-pub woven-push : (plan : ClusterPlan) (tapes rest others : List (List TapeEntry)) (picks all : List Pick) (events run : List Event) (p : Pick) (more : List TapeEntry) (e : Event) → IsWoven plan tapes rest picks events → p.node.number < length rest → tape_of rest p.node.number ≡ p.entry ∷ more
+pub woven-push : (plan : Plan) (tapes rest others : List (List TapeEntry)) (picks all : List Pick) (events run : List Event) (p : Pick) (more : List TapeEntry) (e : Event) → IsWoven plan tapes rest picks events → p.node.number < length rest → tape_of rest p.node.number ≡ p.entry ∷ more
     → IsEventOf plan p.node (sent_with picks) p.entry.event e → others ≡ slice_set rest p.node.number more → all ≡ picks ++ p ∷ [] → run ≡ events ++ e ∷ [] → IsWoven plan tapes others all run
 woven-push plan tapes rest others picks all events run p more e woven within next is others_are all_are run_is =
     subst (λ (r : List (List TapeEntry)). IsWoven plan tapes r all run) (sym others_are)
@@ -92,12 +92,12 @@ sent_at a b (p ∷ picks) there = by (nat_eq p.node.number a) (sent_at a b picks
     by true ih h = go ih (in_either b (sent_by p.entry.answer) (sent_of (entries_at a picks)) h)
     by false ih h = in_right b (sent_by p.entry.answer) (sent_with picks) (ih h)
 
-no_events : (plan : ClusterPlan) → AreEvents plan [] [] []
+no_events : (plan : Plan) → AreEvents plan [] [] []
 unfolding AreEvents
 no_events plan = tt
 
 -- none
-pub woven-begins : (plan : ClusterPlan) (tapes rest : List (List TapeEntry)) (picks : List Pick) (events : List Event) → rest ≡ tapes → picks ≡ [] → events ≡ [] → IsWoven plan tapes rest picks events
+pub woven-begins : (plan : Plan) (tapes rest : List (List TapeEntry)) (picks : List Pick) (events : List Event) → rest ≡ tapes → picks ≡ [] → events ≡ [] → IsWoven plan tapes rest picks events
 woven-begins plan tapes rest picks events rest_is picks_is events_is = subst (λ (r : List (List TapeEntry)). IsWoven plan tapes r picks events) (sym rest_is) (subst (λ (ps : List Pick). IsWoven plan tapes tapes ps events) (sym picks_is) (subst (IsWoven plan tapes tapes []) (sym events_is) first))
   where
     first : IsWoven plan tapes tapes [] []

@@ -2,14 +2,14 @@
 use Rattle.std.specs.Prelude.{ℕ, ◌≡◌, List, length, take, slice_get, sum_by, Some}
 use Rattle.gb_node.specs.declared.tape.TapeEntry.{TapeEntry}
 use Rattle.gb_cluster.specs.declared.event.Event.{Event}
-use Rattle.gb_cluster.specs.declared.plan.ClusterPlan.{ClusterPlan}
+use Rattle.gb_types.specs.declared.plan.Plan.{Plan}
 use Rattle.gb_merge.specs.Interleaving.{Pick, entries_at, tape_of, IsEventOf}
 use Rattle.gb_merge.specs.Merged.{IsMerged}
 use Rattle.gb_merge.specs.Woven.{sent_with}
 
 -- The entry at this place of a node's tape was taken: as many entries of the tape were taken before it as stand before it there, and
 -- where it was taken stands its event.
-pub record IsTaken (plan : ClusterPlan) (picks : List Pick) (events : List Event) (a place : ℕ) (x : TapeEntry) : Type 0 where
+pub record IsTaken (plan : Plan) (picks : List Pick) (events : List Event) (a place : ℕ) (x : TapeEntry) : Type 0 where
   pub at : ℕ
   pub pick : Pick
   pub taken : slice_get picks at ≡ Some pick
@@ -21,10 +21,10 @@ pub record IsTaken (plan : ClusterPlan) (picks : List Pick) (events : List Event
   pub is : IsEventOf plan pick.node (sent_with (take at picks)) x.event event
 
 -- each entry of each tape was taken, and nothing else: there are as many events as entries
-pub record HasEachEntry (plan : ClusterPlan) (tapes : List (List TapeEntry)) (events : List Event) (m : IsMerged plan tapes events) : Type 0 where
+pub record HasEachEntry (plan : Plan) (tapes : List (List TapeEntry)) (events : List Event) (m : IsMerged plan tapes events) : Type 0 where
   pub each : (a place : ℕ) (x : TapeEntry) → slice_get (tape_of tapes a) place ≡ Some x → IsTaken plan m.picks events a place x
   pub count : length events ≡ sum_by length tapes
 
 -- so it is whatever was merged
 abbrev pub MergedHasEachEntry : Type 0
-MergedHasEachEntry = (plan : ClusterPlan) (tapes : List (List TapeEntry)) (events : List Event) (m : IsMerged plan tapes events) → HasEachEntry plan tapes events m
+MergedHasEachEntry = (plan : Plan) (tapes : List (List TapeEntry)) (events : List Event) (m : IsMerged plan tapes events) → HasEachEntry plan tapes events m

@@ -9,7 +9,7 @@ use Rattle.gb_node.specs.declared.event.NodeEvent.TheVariants.{Packet as Came}
 use Rattle.gb_node.specs.declared.tape.TapeEntry.{TapeEntry}
 use Rattle.gb_cluster.specs.ClusterValue.{node_plan}
 use Rattle.gb_cluster.specs.declared.event.Event.{Event}
-use Rattle.gb_cluster.specs.declared.plan.ClusterPlan.{ClusterPlan}
+use Rattle.gb_types.specs.declared.plan.Plan.{Plan}
 use Rattle.gb_merge.specs.Interleaving.{is_good, sent_by, tape_of, IsInterleaving}
 use Rattle.gb_merge.specs.Merged.{is_starved}
 use Rattle.gb_merge.specs.declared.fault.AuditFault.{AuditFault}
@@ -26,12 +26,12 @@ all_sent [] = []
 all_sent (t ∷ tapes) = sent_of t ++ all_sent tapes
 
 -- what came to the node is a packet for it that is none of these
-abbrev pub IsBlocked : ClusterPlan → NodeId → List (List ℕ) → NodeEvent → Type 0
+abbrev pub IsBlocked : Plan → NodeId → List (List ℕ) → NodeEvent → Type 0
 IsBlocked plan a sent (Came bytes) = (is_good plan a bytes ≡ true) × ((k : ℕ) → slice_get sent k ≡ Some bytes → ⊥)
 IsBlocked plan a sent event = ⊥
 
 -- a packet came to a node for which it is, and no tape sent it
-pub record IsStranger (plan : ClusterPlan) (tapes : List (List TapeEntry)) : Type 0 where
+pub record IsStranger (plan : Plan) (tapes : List (List TapeEntry)) : Type 0 where
   pub node : NodeId
   pub place : ℕ
   pub entry : TapeEntry
@@ -39,7 +39,7 @@ pub record IsStranger (plan : ClusterPlan) (tapes : List (List TapeEntry)) : Typ
   pub stranger : IsBlocked plan node (all_sent tapes) entry.event
 
 -- the tapes have no interleaving
-abbrev pub IsStuck : ClusterPlan → List (List TapeEntry) → Type 0
+abbrev pub IsStuck : Plan → List (List TapeEntry) → Type 0
 IsStuck plan tapes = (events : List Event) → IsInterleaving plan tapes events → ⊥
 
 -- what a node answers, and is then, where it has memory
@@ -54,11 +54,11 @@ abbrev pub after_entry : NodeValue → TapeEntry → NodeValue
 after_entry v x = if is_starved x.answer then v else node_after v x.event
 
 -- the replay of a tape: a node that is started and takes the tape's events in order
-abbrev pub replay : ClusterPlan → NodeId → List TapeEntry → NodeValue
+abbrev pub replay : Plan → NodeId → List TapeEntry → NodeValue
 replay plan a entries = fold after_entry (new_node (node_plan plan a)) entries
 
 -- an answer in a tape is want of memory, or is not the replay's
-pub record IsDifferent (plan : ClusterPlan) (tapes : List (List TapeEntry)) : Type 0 where
+pub record IsDifferent (plan : Plan) (tapes : List (List TapeEntry)) : Type 0 where
   pub node : NodeId
   pub place : ℕ
   pub entry : TapeEntry
@@ -66,7 +66,7 @@ pub record IsDifferent (plan : ClusterPlan) (tapes : List (List TapeEntry)) : Ty
   pub differs : (is_starved entry.answer ≡ true) ⊎ (entry.answer ≢ node_answer (replay plan node (take place (tape_of tapes node.number))) entry.event)
 
 -- the fault is so; a stranger is told before the others
-abbrev pub IsFault : ClusterPlan → List (List TapeEntry) → AuditFault → Type 0
+abbrev pub IsFault : Plan → List (List TapeEntry) → AuditFault → Type 0
 IsFault plan tapes Stranger = IsStranger plan tapes
 IsFault plan tapes Stuck = IsStuck plan tapes × (IsStranger plan tapes → ⊥)
 IsFault plan tapes Differs = IsDifferent plan tapes × (IsStranger plan tapes → ⊥)

@@ -12,7 +12,7 @@ use Rattle.gb_node.specs.declared.tape.TapeEntry.{TapeEntry}
 use Rattle.gb_cluster.specs.ClusterValue.{node_plan}
 use Rattle.gb_cluster.specs.declared.event.Event.{Event}
 use Rattle.gb_cluster.specs.declared.event.Event.TheVariants.{At, Arrive}
-use Rattle.gb_cluster.specs.declared.plan.ClusterPlan.{ClusterPlan}
+use Rattle.gb_types.specs.declared.plan.Plan.{Plan}
 
 -- the next entry of a node's tape is taken
 pub record Pick : Type 0 where
@@ -39,24 +39,24 @@ text_numbered sent zero = None
 text_numbered sent (suc k) = slice_get sent k
 
 -- the bytes are a packet of the cluster for the node, from one of its nodes
-unfoldable pub is_good : ClusterPlan → NodeId → List ℕ → Bool
+unfoldable pub is_good : Plan → NodeId → List ℕ → Bool
 is_good plan a bytes = is_ok (read_at (new_node (node_plan plan a)) bytes)
 
 -- An entry's event at a node is this event of the cluster, where these packets were sent before: bytes that are a packet for the node are the arrival of an equal one
 -- that was sent, other bytes are noise, and each other event is itself.
-abbrev pub IsEventOf : ClusterPlan → NodeId → List (List ℕ) → NodeEvent → Event → Type 0
+abbrev pub IsEventOf : Plan → NodeId → List (List ℕ) → NodeEvent → Event → Type 0
 IsEventOf plan a sent (Came bytes) e = ((k : ℕ) × (e ≡ Arrive k) × (text_numbered sent k ≡ Some bytes) × (is_good plan a bytes ≡ true)) ⊎ ((e ≡ At a (Came bytes)) × (is_good plan a bytes ≡ false))
 IsEventOf plan a sent event e = e ≡ At a event
 
 -- the events are those of the entries, in order, where these packets were sent before; what is sent is what the tapes' answers say
-unfoldable pub AreEvents : ClusterPlan → List (List ℕ) → List Pick → List Event → Type 0
+unfoldable pub AreEvents : Plan → List (List ℕ) → List Pick → List Event → Type 0
 AreEvents plan sent [] [] = Unit {0}
 AreEvents plan sent (p ∷ picks) (e ∷ events) = IsEventOf plan p.node sent p.entry.event e × AreEvents plan (sent ++ sent_by p.entry.answer) picks events
 AreEvents plan sent [] (e ∷ events) = ⊥
 AreEvents plan sent (p ∷ picks) [] = ⊥
 
 -- the events at each node are the entries of its tape, in order
-pub record IsInterleaving (plan : ClusterPlan) (tapes : List (List TapeEntry)) (events : List Event) : Type 0 where
+pub record IsInterleaving (plan : Plan) (tapes : List (List TapeEntry)) (events : List Event) : Type 0 where
   pub picks : List Pick
   pub are_events : AreEvents plan [] picks events
   pub whole : (a : ℕ) → entries_at a picks ≡ tape_of tapes a

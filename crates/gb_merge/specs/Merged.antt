@@ -21,7 +21,7 @@ use Rattle.gb_cluster.specs.declared.answer.Answer.{Answer}
 use Rattle.gb_cluster.specs.declared.answer.Answer.TheVariants.{Reply as AnswerReply, Taken as AnswerTaken, Sent as AnswerSent, Ticked as AnswerTicked, Halted as AnswerHalted, NoPacket, NotNoise}
 use Rattle.gb_cluster.specs.declared.answer.Sending.TheVariants.{Packet as SendingPacket, Nothing as SendingNothing, Refused as SendingRefused}
 use Rattle.gb_cluster.specs.declared.event.Event.{Event}
-use Rattle.gb_cluster.specs.declared.plan.ClusterPlan.{ClusterPlan}
+use Rattle.gb_types.specs.declared.plan.Plan.{Plan}
 use Rattle.gb_cluster.specs.declared.posted.Posted.{Posted}
 use Rattle.gb_isolation.specs.Isolation.{IsIsolated}
 use Rattle.gb_merge.specs.Interleaving.{Pick, entries_at, AreEvents, tape_of}
@@ -82,7 +82,7 @@ abbrev pub past_of : List TapeEntry → List Happened
 past_of entries = reverse (map happened entries)
 
 -- The events are an interleaving of the tapes. From a cluster in which nothing has happened they give each tape's answers, and none is want of memory.
-pub record IsMerged (plan : ClusterPlan) (tapes : List (List TapeEntry)) (events : List Event) : Type 0 where
+pub record IsMerged (plan : Plan) (tapes : List (List TapeEntry)) (events : List Event) : Type 0 where
   pub picks : List Pick
   pub are_events : AreEvents plan [] picks events
   pub whole : (a : ℕ) → entries_at a picks ≡ tape_of tapes a
@@ -93,10 +93,10 @@ pub record IsMerged (plan : ClusterPlan) (tapes : List (List TapeEntry)) (events
   pub comes : ComesTo plan (run_of picks) last
 
 -- What is merged is a run of a cluster: at each node happened what its tape says, and each group in it is what it is alone.
-pub record IsOneRun (plan : ClusterPlan) (tapes : List (List TapeEntry)) (events : List Event) (m : IsMerged plan tapes events) : Type 0 where
+pub record IsOneRun (plan : Plan) (tapes : List (List TapeEntry)) (events : List Event) (m : IsMerged plan tapes events) : Type 0 where
   pub pasts : (a : NodeId) → past_at a (run_of m.picks) ≡ past_of (tape_of tapes a.number)
   pub isolated : (g : Addr) → IsIsolated plan (run_of m.picks) m.last g
 
 -- so it is whatever the plan and the tapes are
 abbrev pub MergedIsOneRun : Type 0
-MergedIsOneRun = (plan : ClusterPlan) (tapes : List (List TapeEntry)) (events : List Event) (m : IsMerged plan tapes events) → IsOneRun plan tapes events m
+MergedIsOneRun = (plan : Plan) (tapes : List (List TapeEntry)) (events : List Event) (m : IsMerged plan tapes events) → IsOneRun plan tapes events m

@@ -14,7 +14,7 @@ use Rattle.gb_cluster.specs.declared.answer.Answer.{Answer}
 use Rattle.gb_cluster.specs.declared.answer.Answer.TheVariants.{Reply as AnswerReply, Taken as AnswerTaken, Sent as AnswerSent, Ticked as AnswerTicked, Halted as AnswerHalted}
 use Rattle.gb_cluster.specs.declared.answer.Sending.TheVariants.{Refused as SendingRefused}
 use Rattle.gb_cluster.specs.declared.event.Event.{Event}
-use Rattle.gb_cluster.specs.declared.plan.ClusterPlan.{ClusterPlan}
+use Rattle.gb_types.specs.declared.plan.Plan.{Plan}
 use Rattle.gb_merge.specs.Interleaving.{Pick, is_good, entries_at, sent_by, tape_of, IsEventOf, AreEvents}
 use Rattle.gb_merge.specs.Merged.{told, is_want, is_starved_reply, is_starved, run_of, Replays, AreFed}
 use Rattle.gb_merge.specs.Faults.{IsBlocked, IsStuck, node_answer, replay}
@@ -27,32 +27,32 @@ sent_with [] = []
 sent_with (p ∷ picks) = sent_by p.entry.answer ++ sent_with picks
 
 -- these entries were taken, as these events, and these are left
-pub record IsWoven (plan : ClusterPlan) (tapes rest : List (List TapeEntry)) (picks : List Pick) (events : List Event) : Type 0 where
+pub record IsWoven (plan : Plan) (tapes rest : List (List TapeEntry)) (picks : List Pick) (events : List Event) : Type 0 where
   pub are_events : AreEvents plan [] picks events
   pub parts : (a : ℕ) → entries_at a picks ++ tape_of rest a ≡ tape_of tapes a
   pub count : length rest ≡ length tapes
 
 -- the tapes are used up
-pub record IsWhole (plan : ClusterPlan) (tapes : List (List TapeEntry)) (picks : List Pick) (events : List Event) : Type 0 where
+pub record IsWhole (plan : Plan) (tapes : List (List TapeEntry)) (picks : List Pick) (events : List Event) : Type 0 where
   pub are_events : AreEvents plan [] picks events
   pub whole : (a : ℕ) → entries_at a picks ≡ tape_of tapes a
 
 -- it is no packet for the node
-abbrev pub IsOther : ClusterPlan → NodeId → NodeEvent → Type 0
+abbrev pub IsOther : Plan → NodeId → NodeEvent → Type 0
 IsOther plan a (Came bytes) = is_good plan a bytes ≡ false
 IsOther plan a event = Unit {0}
 
 -- nothing is left, or the next entry can not go
-abbrev pub IsHeld : ClusterPlan → ℕ → List (List ℕ) → List TapeEntry → Type 0
+abbrev pub IsHeld : Plan → ℕ → List (List ℕ) → List TapeEntry → Type 0
 IsHeld plan a sent [] = Unit {0}
 IsHeld plan a sent (x ∷ entries) = IsBlocked plan (node_numbered a) sent x.event
 
 -- no node can go
-abbrev pub AreHeld : ClusterPlan → List (List ℕ) → List (List TapeEntry) → Type 0
+abbrev pub AreHeld : Plan → List (List ℕ) → List (List TapeEntry) → Type 0
 AreHeld plan sent rest = (a : ℕ) → IsHeld plan a sent (tape_of rest a)
 
 -- the nodes that are marked can not go
-abbrev pub AreMarked : ClusterPlan → List Bool → List (List ℕ) → List (List TapeEntry) → Type 0
+abbrev pub AreMarked : Plan → List Bool → List (List ℕ) → List (List TapeEntry) → Type 0
 AreMarked plan marks sent rest = (a : ℕ) → slice_index_or marks a false ≡ true → IsHeld plan a sent (tape_of rest a)
 
 -- what comes next to a node is not these bytes
@@ -65,14 +65,14 @@ abbrev pub AreWoken : List Bool → List (List TapeEntry) → NodeAnswer → Lis
 AreWoken old rest answer new = (a : ℕ) → slice_index_or new a false ≡ true → (slice_index_or old a false ≡ true) × ((bytes : List ℕ) → sent_by answer ≡ bytes ∷ [] → AwaitsOther bytes (tape_of rest a))
 
 -- the next of these entries of a node can go, as this event
-pub record IsNext (plan : ClusterPlan) (a : NodeId) (sent : List (List ℕ)) (left : List TapeEntry) (e : Event) : Type 0 where
+pub record IsNext (plan : Plan) (a : NodeId) (sent : List (List ℕ)) (left : List TapeEntry) (e : Event) : Type 0 where
   pub entry : TapeEntry
   pub more : List TapeEntry
   pub next : left ≡ entry ∷ more
   pub is : IsEventOf plan a sent entry.event e
 
 -- the next entry of a node can go, as this event
-pub record CanGo (plan : ClusterPlan) (rest : List (List TapeEntry)) (sent : List (List ℕ)) (a : NodeId) (e : Event) : Type 0 where
+pub record CanGo (plan : Plan) (rest : List (List TapeEntry)) (sent : List (List ℕ)) (a : NodeId) (e : Event) : Type 0 where
   pub within : a.number < length rest
   pub entry : TapeEntry
   pub more : List TapeEntry
@@ -85,13 +85,13 @@ count_of [] = 0
 count_of (t ∷ rest) = length t + count_of rest
 
 -- where the entries were not yet run
-abbrev pub IsWeaveFault : ClusterPlan → List (List TapeEntry) → AuditFault → Type 0
+abbrev pub IsWeaveFault : Plan → List (List TapeEntry) → AuditFault → Type 0
 IsWeaveFault plan tapes Stuck = IsStuck plan tapes
 IsWeaveFault plan tapes OutOfMemory = Unit {0}
 IsWeaveFault plan tapes fault = ⊥
 
 -- a packet came to this node for which it is, and it is none of these
-pub record HasStranger (plan : ClusterPlan) (a : NodeId) (sent : List (List ℕ)) (entries : List TapeEntry) : Type 0 where
+pub record HasStranger (plan : Plan) (a : NodeId) (sent : List (List ℕ)) (entries : List TapeEntry) : Type 0 where
   pub place : ℕ
   pub entry : TapeEntry
   pub there : slice_get entries place ≡ Some entry
@@ -134,20 +134,20 @@ IsStepFault old e given OutOfMemory = Unit {0}
 IsStepFault old e given fault = ⊥
 
 -- the run gave what was taken
-pub record IsFollowed (plan : ClusterPlan) (events : List Event) (picks : List Pick) (v : ClusterValue) : Type 0 where
+pub record IsFollowed (plan : Plan) (events : List Event) (picks : List Pick) (v : ClusterValue) : Type 0 where
   pub replays : Replays (new_cluster plan) events picks v
   pub fed : AreFed picks
   pub comes : ComesTo plan (run_of picks) v
 
 -- the answer of an entry is not its node's
-pub record IsWrong (plan : ClusterPlan) (picks : List Pick) : Type 0 where
+pub record IsWrong (plan : Plan) (picks : List Pick) : Type 0 where
   pub done : List Pick
   pub pick : Pick
   pub others : List Pick
   pub parts : picks ≡ done ++ pick ∷ others
   pub differs : (is_starved pick.entry.answer ≡ true) ⊎ (pick.entry.answer ≢ node_answer (replay plan pick.node (entries_at pick.node.number done)) pick.entry.event)
 
-abbrev pub IsFollowFault : ClusterPlan → List Pick → AuditFault → Type 0
+abbrev pub IsFollowFault : Plan → List Pick → AuditFault → Type 0
 IsFollowFault plan picks Differs = IsWrong plan picks
 IsFollowFault plan picks OutOfMemory = Unit {0}
 IsFollowFault plan picks fault = ⊥

@@ -11,8 +11,8 @@ use crate::stranger::have_stranger;
 use crate::weave::weave;
 use gb_cluster::cluster::Cluster;
 use gb_cluster::event::Event;
-use gb_cluster::plan::ClusterPlan;
 use gb_node::tape::Tape;
+use gb_types::plan::Plan;
 use std::alloc::Global;
 
 /// Merges the tapes of a cluster's nodes, one for each, by their numbers: events of the cluster in which each node's are
@@ -20,7 +20,7 @@ use std::alloc::Global;
 /// the next entry of the lowest-numbered node that can go: a packet for the node can go once an equal one was sent, and
 /// becomes the arrival of the first equal one; each other entry can go at once, and bytes that are no packet for the node
 /// are noise. Nothing of the tapes is copied but into the events.
-pub fn merge(alloc: Global, plan: &ClusterPlan, tapes: &[Tape]) -> Result<Vec<Event>, AuditFault>
+pub fn merge(alloc: Global, plan: &Plan, tapes: &[Tape]) -> Result<Vec<Event>, AuditFault>
     requires plan { IsClusterPlan plan.now }
     requires one_each { length tapes.now ≡ plan.now.nodes }
     ensures ok { IfOk result (λ v. IsMerged plan.now tapes.now v.items) }

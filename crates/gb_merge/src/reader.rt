@@ -5,24 +5,24 @@ ghost use Rattle.gb_merge.specs.Woven.{IsOther};
 ghost use Rattle.gb_node.specs.declared.event.NodeEvent.TheVariants as NodeEvents;
 
 use gb_cap::hmac::HmacKey;
-use gb_cluster::plan::ClusterPlan;
 use gb_frame::reading::decode;
 use gb_node::event::NodeEvent;
 use gb_types::node::NodeId;
+use gb_types::plan::Plan;
 use std::marker::Model;
 
 /// Reads packets as the nodes of a cluster do. Contracts see the cluster's plan.
 #[derive(Drop)]
 pub(crate) struct Reader {
-    plan: ClusterPlan,
+    plan: Plan,
     key: HmacKey,
 }
 
 impl Model for Reader {
     ghost use Rattle.std.specs.Prelude.{◌≡◌};
-    ghost use Rattle.gb_cluster.specs.declared.plan.ClusterPlan.{ClusterPlan};
+    ghost use Rattle.gb_types.specs.declared.plan.Plan.{Plan};
 
-    ghost Value = { ClusterPlan };
+    ghost Value = { Plan };
 
     ghost view = { λ r. r.plan };
 
@@ -30,7 +30,7 @@ impl Model for Reader {
 }
 
 impl Reader {
-    pub(crate) fn new(plan: &ClusterPlan) -> Reader
+    pub(crate) fn new(plan: &Plan) -> Reader
         ensures { result ≡ plan.now }
     {
         Reader {

@@ -2,6 +2,7 @@
 use crate::record::{
     ONE, PAIR, SINGLE, TRIPLE, TWO, ZERO, forge, happen, notes, pair, pass, single, triple,
 };
+use gb_cluster::plan::node_plan;
 use gb_node::answer::{NodeAnswer, Ticked};
 use gb_node::event::NodeEvent;
 use gb_node::node::Node;
@@ -32,8 +33,8 @@ fn lost(alloc: Global, zero: &mut Node, one: &mut Node) -> Result<Vec<u8>, OutOf
 #[test]
 fn no_tape_sent_it(rt: HostRuntime) -> Result<(), Fail> {
     let alloc = rt.alloc();
-    let mut zero = Node::start(alloc, &PAIR.node(ZERO));
-    let mut one = Node::start(alloc, &PAIR.node(ONE));
+    let mut zero = Node::start(alloc, &node_plan(&PAIR, ZERO));
+    let mut one = Node::start(alloc, &node_plan(&PAIR, ONE));
     let told = lost(alloc, &mut zero, &mut one)?;
     assert!(rt; told.as_slice() == b"stranger".as_slice());
     Ok(())
@@ -69,9 +70,9 @@ fn crossed(
 #[test]
 fn each_waits_for_the_other(rt: HostRuntime) -> Result<(), Fail> {
     let alloc = rt.alloc();
-    let mut zero = Node::start(alloc, &TRIPLE.node(ZERO));
-    let mut one = Node::start(alloc, &TRIPLE.node(ONE));
-    let mut two = Node::start(alloc, &TRIPLE.node(TWO));
+    let mut zero = Node::start(alloc, &node_plan(&TRIPLE, ZERO));
+    let mut one = Node::start(alloc, &node_plan(&TRIPLE, ONE));
+    let mut two = Node::start(alloc, &node_plan(&TRIPLE, TWO));
     let told = crossed(alloc, &mut zero, &mut one, &mut two, false)?;
     assert!(rt; told.as_slice() == b"stuck".as_slice());
     Ok(())
@@ -81,9 +82,9 @@ fn each_waits_for_the_other(rt: HostRuntime) -> Result<(), Fail> {
 #[test]
 fn a_stranger_is_told_before_tapes_that_are_stuck(rt: HostRuntime) -> Result<(), Fail> {
     let alloc = rt.alloc();
-    let mut zero = Node::start(alloc, &TRIPLE.node(ZERO));
-    let mut one = Node::start(alloc, &TRIPLE.node(ONE));
-    let mut two = Node::start(alloc, &TRIPLE.node(TWO));
+    let mut zero = Node::start(alloc, &node_plan(&TRIPLE, ZERO));
+    let mut one = Node::start(alloc, &node_plan(&TRIPLE, ONE));
+    let mut two = Node::start(alloc, &node_plan(&TRIPLE, TWO));
     let told = crossed(alloc, &mut zero, &mut one, &mut two, true)?;
     assert!(rt; told.as_slice() == b"stranger".as_slice());
     Ok(())

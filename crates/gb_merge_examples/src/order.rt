@@ -1,5 +1,6 @@
 // In which order entries are taken.
 use crate::record::{ONE, PAIR, TRIPLE, TWO, ZERO, came, happen, notes, pair, pass, triple};
+use gb_cluster::plan::node_plan;
 use gb_node::event::NodeEvent;
 use gb_node::node::Node;
 use gb_types::memory::OutOfMemory;
@@ -30,9 +31,9 @@ fn waits(
 #[test]
 fn the_lowest_node_that_can_go_goes(rt: HostRuntime) -> Result<(), Fail> {
     let alloc = rt.alloc();
-    let mut zero = Node::start(alloc, &TRIPLE.node(ZERO));
-    let mut one = Node::start(alloc, &TRIPLE.node(ONE));
-    let mut two = Node::start(alloc, &TRIPLE.node(TWO));
+    let mut zero = Node::start(alloc, &node_plan(&TRIPLE, ZERO));
+    let mut one = Node::start(alloc, &node_plan(&TRIPLE, ONE));
+    let mut two = Node::start(alloc, &node_plan(&TRIPLE, TWO));
     let told = waits(alloc, &mut zero, &mut one, &mut two)?;
     assert!(rt; told.as_slice() == b"1t 1t 2a #1 0t 2a ".as_slice());
     Ok(())
@@ -63,9 +64,9 @@ fn chain(
 #[test]
 fn the_first_equal_packet_arrives(rt: HostRuntime) -> Result<(), Fail> {
     let alloc = rt.alloc();
-    let mut zero = Node::start(alloc, &TRIPLE.node(ZERO));
-    let mut one = Node::start(alloc, &TRIPLE.node(ONE));
-    let mut two = Node::start(alloc, &TRIPLE.node(TWO));
+    let mut zero = Node::start(alloc, &node_plan(&TRIPLE, ZERO));
+    let mut one = Node::start(alloc, &node_plan(&TRIPLE, ONE));
+    let mut two = Node::start(alloc, &node_plan(&TRIPLE, TWO));
     let told = chain(alloc, &mut zero, &mut one, &mut two)?;
     assert!(rt; told.as_slice() == b"2a 2a 2a #3 1a #4 #1 ".as_slice());
     Ok(())
@@ -88,8 +89,8 @@ fn strays(alloc: Global, zero: &mut Node, one: &mut Node) -> Result<Vec<u8>, Out
 #[test]
 fn what_is_no_packet_for_the_node_is_noise(rt: HostRuntime) -> Result<(), Fail> {
     let alloc = rt.alloc();
-    let mut zero = Node::start(alloc, &PAIR.node(ZERO));
-    let mut one = Node::start(alloc, &PAIR.node(ONE));
+    let mut zero = Node::start(alloc, &node_plan(&PAIR, ZERO));
+    let mut one = Node::start(alloc, &node_plan(&PAIR, ONE));
     let told = strays(alloc, &mut zero, &mut one)?;
     assert!(rt; told.as_slice() == b"0n 0a 0n #1 ".as_slice());
     Ok(())

@@ -1,6 +1,5 @@
 //! Tapes made by nodes.
 use gb_cluster::event::Event;
-use gb_cluster::plan::ClusterPlan;
 use gb_merge::fault::AuditFault;
 use gb_merge::merge::merge;
 use gb_node::answer::{NodeAnswer, Sent};
@@ -10,6 +9,7 @@ use gb_node::packet_text::PacketText;
 use gb_node::tape::{Tape, TapeEntry};
 use gb_types::memory::OutOfMemory;
 use gb_types::node::NodeId;
+use gb_types::plan::Plan;
 use std::alloc::Global;
 
 pub const ZERO: NodeId = NodeId { number: 0 };
@@ -21,7 +21,7 @@ pub const TWO: NodeId = NodeId { number: 2 };
 /// The key of the administrator's token.
 pub const ADMIN_KEY: [u8; 32] = [1; 32];
 
-pub const SINGLE: ClusterPlan = ClusterPlan {
+pub const SINGLE: Plan = Plan {
     nodes: 1,
     silence: 3,
     places: 4,
@@ -29,7 +29,7 @@ pub const SINGLE: ClusterPlan = ClusterPlan {
     admin_key: ADMIN_KEY,
 };
 
-pub const PAIR: ClusterPlan = ClusterPlan {
+pub const PAIR: Plan = Plan {
     nodes: 2,
     silence: 3,
     places: 4,
@@ -37,7 +37,7 @@ pub const PAIR: ClusterPlan = ClusterPlan {
     admin_key: ADMIN_KEY,
 };
 
-pub const TRIPLE: ClusterPlan = ClusterPlan {
+pub const TRIPLE: Plan = Plan {
     nodes: 3,
     silence: 3,
     places: 4,

@@ -1,6 +1,7 @@
 // A stop after each event.
 use crate::record::{ADMIN_KEY, ONE, PAIR, ZERO, happen, notes, pair, pass_newest};
 use gb_cap::token::{Need, token};
+use gb_cluster::plan::node_plan;
 use gb_node::event::NodeEvent;
 use gb_node::node::Node;
 use gb_node::tape::TapeEntry;
@@ -118,8 +119,8 @@ fn stopped(
 
 /// How many of the events are merged, with a stop after one of them; three letters stand for an event.
 fn merged(alloc: Global, after: usize, at_first: bool) -> Result<usize, OutOfMemory> {
-    let mut zero = Node::start(alloc, &PAIR.node(ZERO));
-    let mut one = Node::start(alloc, &PAIR.node(ONE));
+    let mut zero = Node::start(alloc, &node_plan(&PAIR, ZERO));
+    let mut one = Node::start(alloc, &node_plan(&PAIR, ONE));
     let told = stopped(alloc, &mut zero, &mut one, after, at_first)?;
     Ok(told.len() / 3)
 }
@@ -127,8 +128,8 @@ fn merged(alloc: Global, after: usize, at_first: bool) -> Result<usize, OutOfMem
 #[test]
 fn without_a_stop(rt: HostRuntime) -> Result<(), Fail> {
     let alloc = rt.alloc();
-    let mut zero = Node::start(alloc, &PAIR.node(ZERO));
-    let mut one = Node::start(alloc, &PAIR.node(ONE));
+    let mut zero = Node::start(alloc, &node_plan(&PAIR, ZERO));
+    let mut one = Node::start(alloc, &node_plan(&PAIR, ONE));
     let told = stopped(alloc, &mut zero, &mut one, EVENTS, true)?;
     assert!(rt; told.as_slice() == b"0r 0r 0r 0r 0p 1r 1r 1r #1 1r 1a #2 0t 1t ".as_slice());
     Ok(())

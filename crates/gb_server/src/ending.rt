@@ -1,9 +1,8 @@
 //! The end of a server: its host is closed and, with tapes, they are merged.
 ghost use Rattle.std.specs.Prelude.{◌≡◌, ◌≤◌};
-ghost use Rattle.gb_server.specs.Ended.{cluster_of, EndsSo};
+ghost use Rattle.gb_server.specs.Ended.{EndsSo};
 
 use crate::fault::ServeFault;
-use gb_cluster::plan::ClusterPlan;
 use gb_host::close::close;
 use gb_host::closed::Closed;
 use gb_host::host::Host;
@@ -24,20 +23,6 @@ pub enum Ended {
     Merged(u64),
 }
 
-// The plan of the host's cluster.
-fn cluster_of(plan: HostPlan) -> ClusterPlan
-    ensures { result ≡ cluster_of plan }
-{
-    let (cluster_key, admin_key) = (plan.cluster.cluster_key, plan.cluster.admin_key);
-    ClusterPlan {
-        nodes: plan.cluster.nodes,
-        silence: plan.cluster.silence,
-        places: plan.cluster.places,
-        cluster_key,
-        admin_key,
-    }
-}
-
 /// Ends a host: closes it, and merges the tapes where it kept them. Host and seats are given up in every case. A fault of the
 /// host is told as it is, and an audit fault where the tapes have no run of the cluster.
 pub fn end<L: Tapes, M: Ledger>(
@@ -54,8 +39,7 @@ pub fn end<L: Tapes, M: Ledger>(
     if !plan.tape {
         return Ok(Ended::Closed);
     }
-    let cluster = cluster_of(plan);
-    match merge(alloc, &cluster, &tapes) {
+    match merge(alloc, &plan.cluster, &tapes) {
         Ok(events) => {
             merged_has_each_entry();
             Ok(Ended::Merged(events.len() as u64))

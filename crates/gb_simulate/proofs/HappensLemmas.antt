@@ -9,7 +9,7 @@ use Rattle.gb_cluster.specs.declared.answer.Answer.{Answer}
 use Rattle.gb_cluster.specs.declared.answer.Answer.TheVariants.{NotNoise}
 use Rattle.gb_cluster.specs.declared.event.Event.{Event}
 use Rattle.gb_cluster.specs.declared.event.Event.TheVariants.{At, Arrive}
-use Rattle.gb_cluster.specs.declared.plan.ClusterPlan.{ClusterPlan}
+use Rattle.gb_types.specs.declared.plan.Plan.{Plan}
 use Rattle.gb_cluster.specs.declared.posted.Posted.{Posted}
 use Rattle.gb_simulate.specs.RunTexts.{Step, IsOf, Happens}
 
@@ -26,10 +26,10 @@ bytes_in : (b c : List ℕ) → Came b ≡ Came c → b ≡ c
 bytes_in b c e = cc
 
 -- a run goes on by a step
-abbrev pub RunsOn : ClusterPlan → ClusterValue → Step → List Did → ClusterValue → Type 0
+abbrev pub RunsOn : Plan → ClusterValue → Step → List Did → ClusterValue → Type 0
 RunsOn plan before step earlier after = (run : List Did) × Happens before step earlier after run × ComesTo plan run after
 
-pub runs_on : (plan : ClusterPlan) (old new : ClusterValue) (earlier : List Did) (event : Event) (answer : Answer) → IsStep old event answer new → ComesTo plan earlier old
+pub runs_on : (plan : Plan) (old new : ClusterValue) (earlier : List Did) (event : Event) (answer : Answer) → IsStep old event answer new → ComesTo plan earlier old
     → RunsOn plan old (record { event = event; answer = answer }) earlier new
 unfolding ComesTo
 runs_on plan old new earlier (At a event) answer step comes = by (is_packet_for (node_at old a) event) refl step

@@ -10,7 +10,7 @@ use Rattle.gb_cluster.specs.ClusterValue.{ClusterValue, IsClusterPlan}
 use Rattle.gb_cluster.specs.Run.{Did, ComesTo, NodesHavePasts}
 use Rattle.gb_cluster.specs.declared.answer.Answer.{Answer}
 use Rattle.gb_cluster.specs.declared.event.Event.{Event}
-use Rattle.gb_cluster.specs.declared.plan.ClusterPlan.{ClusterPlan}
+use Rattle.gb_types.specs.declared.plan.Plan.{Plan}
 use Rattle.gb_cluster.proofs.NodesLemmas.{stays}
 use Rattle.gb_schedule.proofs.PlaceLemmas.{line_in_place}
 use Rattle.gb_schedule.specs.Grammar.{IsCommandLine, IsSilent}
@@ -82,7 +82,7 @@ start_on lines text line answer w (Cluster nodes silence) event run spelt (after
 start_on lines text line answer w other event run spelt obeys = absurd obeys
 
 -- one step more
-steps_on : (plan : ClusterPlan) (steps : List Step) (step : Step) (earlier run : List Did) (before v : ClusterValue)
+steps_on : (plan : Plan) (steps : List Step) (step : Step) (earlier run : List Did) (before v : ClusterValue)
     → AreSteps plan steps earlier before → IsStep before step.event step.answer v → Happens before step earlier v run → AreSteps plan (step ∷ steps) run v
 unfolding AreSteps
 steps_on plan steps step earlier run before v made takes happens = (before, earlier, made, takes, happens)
@@ -149,7 +149,7 @@ GroupsAreServed = OfGroupsInRuns IsServed
 lawful_so : NodesHavePasts → PacketsAreHonest → LinksHold → GroupsAreServed → (lines : List (List ℕ)) (text : List ℕ) (w : Option ClusterValue) → TellsRun lines text w → TellsLawfulRun lines text w
 lawful_so pasts packets links served lines text None run = run
 lawful_so pasts packets links served lines text (Some v) (run, here) =
-    let plan : ClusterPlan = plan_of here.nodes here.silence in
+    let plan : Plan = plan_of here.nodes here.silence in
     let lawful : IsLawful plan run v = record {
       pasts = λ a within. pasts plan run v a here.comes within;
       packets = packets plan run v here.comes;

@@ -4,11 +4,11 @@ use Rattle.gb_cluster.specs.ClusterStep.{IsStep}
 use Rattle.gb_cluster.specs.ClusterValue.{ClusterValue, new_cluster}
 use Rattle.gb_cluster.specs.declared.answer.Answer.{Answer}
 use Rattle.gb_cluster.specs.declared.event.Event.{Event}
-use Rattle.gb_cluster.specs.declared.plan.ClusterPlan.{ClusterPlan}
+use Rattle.gb_types.specs.declared.plan.Plan.{Plan}
 use Rattle.gb_schedule.specs.Keys.{cluster_key, admin_key}
 
 -- what it is started with: the tenants of a node may make 1,024 groups in all
-abbrev pub plan_of : ℕ → ℕ → ClusterPlan
+abbrev pub plan_of : ℕ → ℕ → Plan
 plan_of nodes silence = record { nodes = nodes; silence = silence; places = 1024; cluster_key = cluster_key; admin_key = admin_key }
 
 -- a cluster of so many nodes, in which nothing has happened

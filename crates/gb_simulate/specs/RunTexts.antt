@@ -7,7 +7,7 @@ use Rattle.gb_cluster.specs.Run.{Did, ComesTo}
 use Rattle.gb_cluster.specs.declared.answer.Answer.{Answer}
 use Rattle.gb_cluster.specs.declared.event.Event.{Event}
 use Rattle.gb_cluster.specs.declared.event.Event.TheVariants.{At, Arrive}
-use Rattle.gb_cluster.specs.declared.plan.ClusterPlan.{ClusterPlan}
+use Rattle.gb_types.specs.declared.plan.Plan.{Plan}
 use Rattle.gb_cluster.specs.declared.posted.Posted.{Posted}
 use Rattle.gb_schedule.specs.Grammar.{IsCommandLine, IsSilent}
 use Rattle.gb_schedule.specs.Lines.{ended}
@@ -34,7 +34,7 @@ Happens before step earlier after run =
     ⊎ ((d : Did) × (run ≡ d ∷ earlier) × IsOf before.packets step.event d × (step.answer ≡ answer_of (length before.packets) d.answer))
 
 -- steps of a cluster, and what happened at its nodes by them, both with the newest first
-unfoldable pub AreSteps : ClusterPlan → List Step → List Did → ClusterValue → Type 0
+unfoldable pub AreSteps : Plan → List Step → List Did → ClusterValue → Type 0
 AreSteps plan [] run v = (run ≡ []) × (v ≡ new_cluster plan)
 AreSteps plan (step ∷ steps) run v =
     (before : ClusterValue) × (earlier : List Did) × AreSteps plan steps earlier before × IsStep before step.event step.answer v × Happens before step earlier v run

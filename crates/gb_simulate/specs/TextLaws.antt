@@ -9,7 +9,7 @@ use Rattle.gb_node.specs.Past.{ComesTo}
 use Rattle.gb_cluster.specs.Links.{IsHonest, IsAlwaysWhole, IsLink}
 use Rattle.gb_cluster.specs.ClusterValue.{ClusterValue, node_plan, node_at}
 use Rattle.gb_cluster.specs.Run.{Did, past_at}
-use Rattle.gb_cluster.specs.declared.plan.ClusterPlan.{ClusterPlan}
+use Rattle.gb_types.specs.declared.plan.Plan.{Plan}
 use Rattle.gb_cluster.specs.declared.posted.Posted.{Posted}
 use Rattle.gb_schedule.specs.Grammar.{IsSilent}
 use Rattle.gb_schedule.specs.Lines.{lines_of}
@@ -19,7 +19,7 @@ use Rattle.gb_simulate.specs.Text.{Reaches, IsText}
 use Rattle.gb_simulate.specs.declared.outcome.SimEnd.TheVariants.{All as AllLines}
 
 -- What a cluster promises of a group in a run: it is what it is alone, and integrity, order, duties and agreement hold.
-pub record IsServed (plan : ClusterPlan) (run : List Did) (v : ClusterValue) (g : Addr) : Type 0 where
+pub record IsServed (plan : Plan) (run : List Did) (v : ClusterValue) (g : Addr) : Type 0 where
   pub isolated : IsIsolated plan run v g
   pub integrity : RunIntegrity plan run v g
   pub order : RunOrder plan run v g
@@ -29,7 +29,7 @@ pub record IsServed (plan : ClusterPlan) (run : List Did) (v : ClusterValue) (g 
 -- What a cluster promises of a run: each node came by its own past to what it is; each packet says what its sender did; each
 -- frame was taken once at most, whole; only what was packed was taken, and only what was taken was acknowledged; so each
 -- group is served of which no request was refused for want of memory.
-pub record IsLawful (plan : ClusterPlan) (run : List Did) (v : ClusterValue) : Type 0 where
+pub record IsLawful (plan : Plan) (run : List Did) (v : ClusterValue) : Type 0 where
   pub pasts : (a : NodeId) → a.number < plan.nodes → ComesTo (node_plan plan a) (past_at a run) (node_at v a)
   pub packets : (k : ℕ) (p : Posted) → slice_get v.packets k ≡ Some p → IsHonest plan run p
   pub whole : IsAlwaysWhole plan run

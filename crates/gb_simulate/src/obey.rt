@@ -13,7 +13,6 @@ use crate::answer_text::{put_answer, put_started};
 use crate::outcome::BadLine;
 use gb_cluster::cluster::Cluster;
 use gb_cluster::event::Event;
-use gb_cluster::plan::ClusterPlan;
 use gb_node::event::NodeEvent;
 use gb_node::packet_text::PacketText;
 use gb_schedule::command::Command;
@@ -21,6 +20,7 @@ use gb_schedule::grammar::{is_silent, read_command};
 use gb_schedule::keys::{ADMIN_KEY, CLUSTER_KEY, Keys};
 use gb_types::memory::OutOfMemory;
 use gb_types::node::NodeId;
+use gb_types::plan::Plan;
 use std::alloc::Global;
 
 /// How many lines a schedule may have.
@@ -32,10 +32,10 @@ const _: () = prove!(LINES == 1_000_000);
 const PLACES: u16 = 1_024;
 
 /// What the cluster of a schedule is started with.
-fn plan_of(nodes: u8, silence: u16) -> ClusterPlan
+fn plan_of(nodes: u8, silence: u16) -> Plan
     ensures { result ≡ plan_of nodes silence }
 {
-    ClusterPlan {
+    Plan {
         nodes,
         silence,
         places: PLACES,

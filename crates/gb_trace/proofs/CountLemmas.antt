@@ -11,7 +11,7 @@ use Rattle.gb_alone.specs.declared.event.GroupEvent.TheVariants.{Took, Came, Don
 use Rattle.gb_alone.specs.declared.event.GroupStep.{GroupStep}
 use Rattle.gb_node.specs.NodeStep.{node_numbered}
 use Rattle.gb_node.specs.Past.{Happened, read, frames_to}
-use Rattle.gb_cluster.specs.declared.plan.ClusterPlan.{ClusterPlan}
+use Rattle.gb_types.specs.declared.plan.Plan.{Plan}
 use Rattle.gb_isolation.proofs.MarkLemmas.{items_of-none, items_of-one}
 use Rattle.gb_isolation.specs.Project.{items_in, items_of, offset, frames_in, took, comes, acknowledged, all_acknowledged, is_new_ack, acknowledges}
 use Rattle.gb_trace.specs.Counts.{counts_acknowledged}
@@ -102,7 +102,7 @@ pub place_on : (ks : List ℕ) (i place next : ℕ) → i < length ks → place 
 place_on ks i place next lt is adds = let more = sum_by_more (λ n. n) ks i 0 lt in omega (arith, is, adds, more)
 
 -- what a packet acknowledges, where the frames for its sender have so many items
-pub acknowledged_is : (plan : ClusterPlan) (g : Addr) (past : List Happened) (a : NodeId) (c : Content) (key ks : List ℕ) (n : ℕ) → key ≡ plan.cluster_key → n ≡ c.from → ks ≡ counted g (frames_to key n past)
+pub acknowledged_is : (plan : Plan) (g : Addr) (past : List Happened) (a : NodeId) (c : Content) (key ks : List ℕ) (n : ℕ) → key ≡ plan.cluster_key → n ≡ c.from → ks ≡ counted g (frames_to key n past)
     → counts_acknowledged a (node_numbered c.from) (is_new_ack key past c) 1 0 ks ≡ acknowledges plan g past a c
 acknowledged_is plan g past a c key ks n same is are =
     ap (counts_acknowledged a (node_numbered c.from) (is_new_ack key past c) 1 0) (are ∙ ap (λ m. counted g (frames_to key m past)) is)

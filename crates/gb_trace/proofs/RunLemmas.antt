@@ -20,7 +20,7 @@ use Rattle.gb_cluster.specs.declared.answer.Answer.{Answer}
 use Rattle.gb_cluster.specs.declared.answer.Answer.TheVariants.{NotNoise}
 use Rattle.gb_cluster.specs.declared.event.Event.{Event}
 use Rattle.gb_cluster.specs.declared.event.Event.TheVariants.{At, Arrive}
-use Rattle.gb_cluster.specs.declared.plan.ClusterPlan.{ClusterPlan}
+use Rattle.gb_types.specs.declared.plan.Plan.{Plan}
 use Rattle.gb_cluster.specs.declared.posted.Posted.{Posted}
 use Rattle.gb_trace.specs.Trace.{own_answer, did_with, did_arrive, did_in, all_did, AreSteps, IsRun}
 
@@ -116,7 +116,7 @@ record IsOneMore (v : ClusterValue) (e : Event) (a : Answer) (w : ClusterValue) 
   more : List Posted
   grows : w.packets ≡ v.packets ++ more
   settled : (rest : List Posted) → did_in (w.packets ++ rest) e a ≡ did_in w.packets e a
-  comes : (plan : ClusterPlan) (run : List Did) → ComesTo plan run v → ComesTo plan (reverse (did_in w.packets e a) ++ run) w
+  comes : (plan : Plan) (run : List Did) → ComesTo plan run v → ComesTo plan (reverse (did_in w.packets e a) ++ run) w
 
 none_arrives : (o : Option Posted) → did_arrive o None ≡ []
 none_arrives None = refl
@@ -198,17 +198,17 @@ steps_more v w x (z ∷ es) [] e a steps step = absurd steps
 steps_more v w x (z ∷ es) (y ∷ rs) e a steps step = (steps.0, steps.1, steps_more steps.0 w x es rs e a steps.2 step)
 
 -- a run so far, of which more packets change nothing
-pub record Goes (plan : ClusterPlan) (es : List Event) (rs : List Answer) (v : ClusterValue) : Type 0 where
+pub record Goes (plan : Plan) (es : List Event) (rs : List Answer) (v : ClusterValue) : Type 0 where
   pub stepped : AreSteps (new_cluster plan) es rs v
   pub comes : ComesTo plan (reverse (all_did v.packets es rs)) v
   pub settled : (rest : List Posted) → all_did (v.packets ++ rest) es rs ≡ all_did v.packets es rs
   pub count : length es ≡ length rs
 
-pub run_begins : (plan : ClusterPlan) (rs : List Answer) (v : ClusterValue) → rs ≡ [] → v ≡ new_cluster plan → ComesTo plan [] v → Goes plan [] rs v
+pub run_begins : (plan : Plan) (rs : List Answer) (v : ClusterValue) → rs ≡ [] → v ≡ new_cluster plan → ComesTo plan [] v → Goes plan [] rs v
 unfolding all_did AreSteps
 run_begins plan rs v none is comes = subst (λ (xs : List Answer). Goes plan [] xs v) (sym none) (record { stepped = is; comes = comes; settled = λ rest. refl; count = refl })
 
-run_on : (plan : ClusterPlan) (es : List Event) (rs : List Answer) (v w : ClusterValue) (e : Event) (a : Answer) → Goes plan es rs v → IsStep v e a w → Goes plan (es ++ e ∷ []) (rs ++ a ∷ []) w
+run_on : (plan : Plan) (es : List Event) (rs : List Answer) (v w : ClusterValue) (e : Event) (a : Answer) → Goes plan es rs v → IsStep v e a w → Goes plan (es ++ e ∷ []) (rs ++ a ∷ []) w
 run_on plan es rs v w e a was step = record {
   stepped = steps_more (new_cluster plan) v w es rs e a was.stepped step;
   comes = subst (λ (ds : List Did). ComesTo plan ds w) (sym all) (one.comes plan (reverse (all_did v.packets es rs)) was.comes);
@@ -237,16 +237,16 @@ run_on plan es rs v w e a was step = record {
         ∙ (reverse-append (all_did w.packets es rs) (did_in w.packets e a) ∙ ap (λ ds. reverse (did_in w.packets e a) ++ reverse ds) first)
 
 -- one event more
-pub run_goes : (plan : ClusterPlan) (before es : List Event) (rs answers : List Answer) (v w : ClusterValue) (e : Event) (a : Answer) → Goes plan before rs v → es ≡ before ++ e ∷ [] → answers ≡ rs ++ a ∷ [] → IsStep v e a w → Goes plan es answers w
+pub run_goes : (plan : Plan) (before es : List Event) (rs answers : List Answer) (v w : ClusterValue) (e : Event) (a : Answer) → Goes plan before rs v → es ≡ before ++ e ∷ [] → answers ≡ rs ++ a ∷ [] → IsStep v e a w → Goes plan es answers w
 run_goes plan before es rs answers v w e a was events are step =
     subst (λ (xs : List Event). Goes plan xs answers w) (sym events) (subst (λ (ys : List Answer). Goes plan (before ++ e ∷ []) ys w) (sym are) (run_on plan before rs v w e a was step))
 
 -- what was found is a run
-pub is_run : (plan : ClusterPlan) (es : List Event) (rs : List Answer) (packets : List Posted) (v : ClusterValue) → Goes plan es rs v → packets ≡ v.packets → IsRun plan es rs packets v
+pub is_run : (plan : Plan) (es : List Event) (rs : List Answer) (packets : List Posted) (v : ClusterValue) → Goes plan es rs v → packets ≡ v.packets → IsRun plan es rs packets v
 is_run plan es rs packets v goes are = record { stepped = goes.stepped; comes = subst (λ (ps : List Posted). ComesTo plan (reverse (all_did ps es rs)) v) (sym are) goes.comes; sent = sym are }
 
 -- the node that acts in an event of the list is one of the cluster's
-pub placed_at : (plan : ClusterPlan) (before es : List Event) (rs : List Answer) (v : ClusterValue) (i : ℕ) (e : Event) → Goes plan before rs v → All (IsPlaced plan.nodes) es → i < length es → e ≡ get_or es i e → IsPlaced (length v.nodes) e
+pub placed_at : (plan : Plan) (before es : List Event) (rs : List Answer) (v : ClusterValue) (i : ℕ) (e : Event) → Goes plan before rs v → All (IsPlaced plan.nodes) es → i < length es → e ≡ get_or es i e → IsPlaced (length v.nodes) e
 placed_at plan before es rs v i e was all lt is =
     subst (λ n. IsPlaced n e) (sym (stays plan (reverse (all_did v.packets before rs)) v was.comes).count)
     (subst (IsPlaced plan.nodes) (sym is) (All-get_or (IsPlaced plan.nodes) es i e lt all))

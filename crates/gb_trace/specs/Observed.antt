@@ -12,30 +12,30 @@ use Rattle.gb_cluster.specs.ClusterValue.{ClusterValue, node_plan}
 use Rattle.gb_cluster.specs.Run.{Did, past_at}
 use Rattle.gb_cluster.specs.declared.answer.Answer.{Answer}
 use Rattle.gb_cluster.specs.declared.event.Event.{Event}
-use Rattle.gb_cluster.specs.declared.plan.ClusterPlan.{ClusterPlan}
+use Rattle.gb_types.specs.declared.plan.Plan.{Plan}
 use Rattle.gb_cluster.specs.declared.posted.Posted.{Posted}
 use Rattle.gb_isolation.specs.Isolation.{alone_in, IsIsolated}
 use Rattle.gb_isolation.specs.Project.{items_of, replies_in, project, is_fed}
 use Rattle.gb_trace.specs.Trace.{run_of, IsRun}
 
 -- at a node: the replies to the group's commands, and for each node the items that were packed for it
-abbrev pub observed_at : ClusterPlan → Addr → List Did → NodeId → SeenAt
+abbrev pub observed_at : Plan → Addr → List Did → NodeId → SeenAt
 observed_at plan g run a = record {
   replies = replies_in (node_plan plan a) g (past_at a run);
   carried = map (λ b. items_of g (frames_to plan.cluster_key b (past_at a run))) (numbers_below plan.nodes);
 }
 
 -- at each node
-abbrev pub observed : ClusterPlan → Addr → List Did → List SeenAt
+abbrev pub observed : Plan → Addr → List Did → List SeenAt
 observed plan g run = map (λ a. observed_at plan g run (node_numbered a)) (numbers_below plan.nodes)
 
 -- a group that is isolated in a run is seen there as what the projection makes of it alone
 abbrev pub IsolatedGroupsAreSeenAlone : Type 0
-IsolatedGroupsAreSeenAlone = (plan : ClusterPlan) (run : List Did) (v : ClusterValue) (g : Addr) → plan.nodes ≤ NODES → IsIsolated plan run v g → observed plan g run ≡ observed_alone plan.nodes (alone_in plan g run)
+IsolatedGroupsAreSeenAlone = (plan : Plan) (run : List Did) (v : ClusterValue) (g : Addr) → plan.nodes ≤ NODES → IsIsolated plan run v g → observed plan g run ≡ observed_alone plan.nodes (alone_in plan g run)
 
 -- In a run, a group of which no request was refused for want of memory: the projection is legal, and what is seen of the group is what these steps make of it alone.
 abbrev pub FedGroupsAreSeenAlone : Type 0
 FedGroupsAreSeenAlone =
-    (plan : ClusterPlan) (events : List Event) (answers : List Answer) (packets : List Posted) (v : ClusterValue) → IsRun plan events answers packets v
+    (plan : Plan) (events : List Event) (answers : List Answer) (packets : List Posted) (v : ClusterValue) → IsRun plan events answers packets v
     → (g : Addr) → is_fed plan g (run_of events answers packets) ≡ true → (steps : List GroupStep) → steps ≡ project plan g (run_of events answers packets)
     → IsLegal plan.nodes g.group steps × (observed plan g (run_of events answers packets) ≡ observed_alone plan.nodes (alone plan.nodes g.group steps))

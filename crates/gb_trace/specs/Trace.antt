@@ -22,7 +22,7 @@ use Rattle.gb_cluster.specs.declared.answer.Sending.{Sending}
 use Rattle.gb_cluster.specs.declared.answer.Sending.TheVariants.{Packet as SendingPacket, Nothing as SendingNothing, Refused as SendingRefused}
 use Rattle.gb_cluster.specs.declared.event.Event.{Event}
 use Rattle.gb_cluster.specs.declared.event.Event.TheVariants.{At, Arrive}
-use Rattle.gb_cluster.specs.declared.plan.ClusterPlan.{ClusterPlan}
+use Rattle.gb_types.specs.declared.plan.Plan.{Plan}
 use Rattle.gb_cluster.specs.declared.posted.Posted.{Posted}
 use Rattle.gb_isolation.specs.Isolation.{IsIsolated}
 use Rattle.gb_isolation.specs.Project.{is_fed}
@@ -74,13 +74,13 @@ AreSteps v (e ∷ events) (a ∷ answers) w = (x : ClusterValue) × IsStep v e a
 AreSteps v events answers w = ⊥
 
 -- A cluster that is started with the plan answers these events so and is this then, with these packets; it came to it by the run that they tell.
-pub record IsRun (plan : ClusterPlan) (events : List Event) (answers : List Answer) (packets : List Posted) (v : ClusterValue) : Type 0 where
+pub record IsRun (plan : Plan) (events : List Event) (answers : List Answer) (packets : List Posted) (v : ClusterValue) : Type 0 where
   pub stepped : AreSteps (new_cluster plan) events answers v
   pub comes : ComesTo plan (run_of events answers packets) v
   pub sent : v.packets ≡ packets
 
 -- each group of which no request was refused for want of memory is what it is alone
-abbrev pub IsIsolatedRun : ClusterPlan → List Event → List Answer → List Posted → ClusterValue → Type 0
+abbrev pub IsIsolatedRun : Plan → List Event → List Answer → List Posted → ClusterValue → Type 0
 IsIsolatedRun plan events answers packets v = (g : Addr) → is_fed plan g (run_of events answers packets) ≡ true → IsIsolated plan (run_of events answers packets) v g
 
 -- the answer is want of memory

@@ -14,11 +14,11 @@ use crate::past::{is_own, made, was_met, was_stopped};
 use crate::steps::{add, at};
 use gb_alone::event::{GroupEvent, GroupStep};
 use gb_cap::hmac::HmacKey;
-use gb_cluster::plan::ClusterPlan;
 use gb_rules::reserve::Reserve;
 use gb_types::address::Addr;
 use gb_types::memory::OutOfMemory;
 use gb_types::node::NodeId;
+use gb_types::plan::Plan;
 use gb_types::reply::Reply;
 use gb_types::request::Request;
 use std::alloc::Global;
@@ -42,7 +42,7 @@ fn command(alloc: Global, a: NodeId, request: &Request) -> Result<Option<GroupSt
 /// noticed there.
 fn of_own(
     alloc: Global,
-    plan: &ClusterPlan,
+    plan: &Plan,
     addr: Addr,
     key: &HmacKey,
     before: &[Deed],
@@ -86,7 +86,7 @@ fn tenant(addr: Addr, a: NodeId, request: &Request, reply: &Reply) -> Option<Gro
 /// Adds what a request with its reply gives the group at a running node.
 fn of_running(
     alloc: Global,
-    plan: &ClusterPlan,
+    plan: &Plan,
     addr: Addr,
     key: &HmacKey,
     before: &[Deed],
@@ -120,7 +120,7 @@ fn add_stop(a: NodeId, met: bool, steps: &mut Vec<GroupStep>) -> Result<(), OutO
 /// Adds what a request of the group gives it at a node that has stopped: the first of them shows the stop.
 fn of_stopped(
     alloc: Global,
-    plan: &ClusterPlan,
+    plan: &Plan,
     addr: Addr,
     before: &[Deed],
     a: NodeId,
@@ -139,7 +139,7 @@ fn of_stopped(
 /// Adds what a request with its reply gives the group, after what happened before.
 pub(crate) fn of_request(
     alloc: Global,
-    plan: &ClusterPlan,
+    plan: &Plan,
     addr: Addr,
     key: &HmacKey,
     before: &[Deed],

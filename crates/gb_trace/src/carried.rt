@@ -14,12 +14,12 @@ use crate::reading::{count_in, read, sender};
 use crate::steps::at;
 use gb_alone::event::{GroupEvent, GroupStep};
 use gb_cap::hmac::HmacKey;
-use gb_cluster::plan::ClusterPlan;
 use gb_frame::view::PacketView;
 use gb_link::ack::covers;
 use gb_types::address::Addr;
 use gb_types::memory::OutOfMemory;
 use gb_types::node::NodeId;
+use gb_types::plan::Plan;
 use std::alloc::Global;
 
 /// What a packet that was packed for the other node gives the group.
@@ -141,7 +141,7 @@ fn add_all_acknowledged(
 /// Adds what the packet's acknowledgement gives the group.
 fn of_acknowledgement(
     alloc: Global,
-    plan: &ClusterPlan,
+    plan: &Plan,
     addr: Addr,
     key: &HmacKey,
     before: &[Deed],
@@ -160,7 +160,7 @@ fn of_acknowledgement(
 #[tactic(auto, using(crate::proofs::CountLemmas::offset_is))]
 fn of_frame(
     alloc: Global,
-    plan: &ClusterPlan,
+    plan: &Plan,
     addr: Addr,
     key: &HmacKey,
     before: &[Deed],
@@ -188,7 +188,7 @@ fn has_new_frame(key: &HmacKey, before: &[Deed], a: NodeId, packet: &PacketView<
 /// Adds what the packet gives the group: its acknowledgement counts first.
 fn of_packet(
     alloc: Global,
-    plan: &ClusterPlan,
+    plan: &Plan,
     addr: Addr,
     key: &HmacKey,
     before: &[Deed],
@@ -209,7 +209,7 @@ fn of_packet(
 /// Adds what bytes that a running node took give the group, after what happened before.
 pub(crate) fn of_taken(
     alloc: Global,
-    plan: &ClusterPlan,
+    plan: &Plan,
     addr: Addr,
     key: &HmacKey,
     before: &[Deed],

@@ -16,11 +16,11 @@ use crate::silence::was_noticed;
 use crate::steps::at;
 use gb_alone::event::{GroupEvent, GroupStep};
 use gb_cap::hmac::HmacKey;
-use gb_cluster::plan::ClusterPlan;
 use gb_types::address::Addr;
 use gb_types::limits::NODES;
 use gb_types::memory::OutOfMemory;
 use gb_types::node::{NodeId, NodeSet};
+use gb_types::plan::Plan;
 use gb_types::spec::Spec;
 
 /// Adds the notice of a node, where it is another member and is new.
@@ -41,7 +41,7 @@ fn add_notice(
 
 /// Adds the notices of the members that are noticed at the node.
 pub(crate) fn add_noticed(
-    plan: &ClusterPlan,
+    plan: &Plan,
     key: &HmacKey,
     a: NodeId,
     spec: &Spec,

@@ -17,20 +17,20 @@ use crate::trace::Trace;
 use gb_alone::observation::{NodeSeen, Observation};
 use gb_cap::hmac::HmacKey;
 use gb_cluster::event::Event;
-use gb_cluster::plan::ClusterPlan;
 use gb_node::answer::NodeAnswer;
 use gb_node::event::NodeEvent;
 use gb_types::address::Addr;
 use gb_types::entry::Entries;
 use gb_types::memory::OutOfMemory;
 use gb_types::node::NodeId;
+use gb_types::plan::Plan;
 use gb_types::reply::Reply;
 use std::alloc::Global;
 
 /// Adds a copy of the reply that this brings to the group at the node, after what happened before.
 fn add_reply(
     alloc: Global,
-    plan: &ClusterPlan,
+    plan: &Plan,
     addr: Addr,
     a: NodeId,
     before: &[Deed],
@@ -55,7 +55,7 @@ fn add_reply(
 #[tactic(auto, using(crate::proofs::PastLemmas::here, crate::proofs::PastLemmas::elsewhere, crate::proofs::PastLemmas::whole), unfolding(gb_isolation::specs::Project::replies_in, gb_cluster::specs::Run::past_at))]
 fn replies_at(
     alloc: Global,
-    plan: &ClusterPlan,
+    plan: &Plan,
     addr: Addr,
     a: NodeId,
     deeds: &[Deed],
@@ -133,7 +133,7 @@ fn items_from(
 /// What is seen of the group at the node.
 fn seen_at(
     alloc: Global,
-    plan: &ClusterPlan,
+    plan: &Plan,
     addr: Addr,
     key: &HmacKey,
     a: NodeId,
@@ -152,7 +152,7 @@ fn seen_at(
 #[tactic(auto, using(gb_alone::proofs::ObservationLemmas::map_none))]
 fn seen_in(
     alloc: Global,
-    plan: &ClusterPlan,
+    plan: &Plan,
     addr: Addr,
     deeds: &[Deed],
 ) -> Result<Observation, OutOfMemory>
@@ -171,7 +171,7 @@ fn seen_in(
 /// carried. Events beyond the answers do not count, nor answers beyond the events.
 pub fn observe(
     alloc: Global,
-    plan: &ClusterPlan,
+    plan: &Plan,
     events: &[Event],
     trace: &Trace,
     addr: Addr,

@@ -14,12 +14,12 @@ ghost use Rattle.gb_trace.specs.Deeds.{past_in};
 
 use crate::deed::Deed;
 use gb_cap::token::{Need, Token, admits};
-use gb_cluster::plan::ClusterPlan;
 use gb_node::answer::{Halted, NodeAnswer};
 use gb_node::event::NodeEvent;
 use gb_rules::address::is_same;
 use gb_types::address::Addr;
 use gb_types::node::NodeId;
+use gb_types::plan::Plan;
 use gb_types::reply::Reply;
 use gb_types::request::Request;
 use gb_types::spec::{Spec, TenantRow};
@@ -83,7 +83,7 @@ fn is_token(need: Need, token: &Token, row: Option<&TenantRow>) -> bool
 }
 
 /// Whether the request has the token that it needs at the node.
-pub(crate) fn is_admitted(plan: &ClusterPlan, a: NodeId, deeds: &[Deed], request: &Request) -> bool
+pub(crate) fn is_admitted(plan: &Plan, a: NodeId, deeds: &[Deed], request: &Request) -> bool
     ensures { result ≡ is_admitted_by (node_plan plan.now a) (past_in a deeds.now) request.now }
 {
     let (token, addr, need) = match request {
@@ -101,13 +101,7 @@ pub(crate) fn is_admitted(plan: &ClusterPlan, a: NodeId, deeds: &[Deed], request
 }
 
 /// Whether the request is one of the group at the node: it names the group, with the token that it needs.
-pub(crate) fn is_own(
-    plan: &ClusterPlan,
-    addr: Addr,
-    a: NodeId,
-    deeds: &[Deed],
-    request: &Request,
-) -> bool
+pub(crate) fn is_own(plan: &Plan, addr: Addr, a: NodeId, deeds: &[Deed], request: &Request) -> bool
     ensures { result ≡ projected.is_own (node_plan plan.now a) addr (past_in a deeds.now) request.now }
 {
     is_named(addr, request) && is_admitted(plan, a, deeds, request)
@@ -141,7 +135,7 @@ pub(crate) fn was_stopped(a: NodeId, deeds: &[Deed]) -> bool
 }
 
 /// Whether this, after what happened before, is a request of the group at the node, which has stopped.
-fn meets(plan: &ClusterPlan, addr: Addr, a: NodeId, before: &[Deed], deed: &Deed) -> bool
+fn meets(plan: &Plan, addr: Addr, a: NodeId, before: &[Deed], deed: &Deed) -> bool
     ensures { result ≡ projected.is_met_by (node_plan plan.now a) addr (past_in a before.now) deed.now.event deed.now.answer }
 {
     let NodeEvent::Request(request) = deed.event() else {
@@ -155,7 +149,7 @@ fn meets(plan: &ClusterPlan, addr: Addr, a: NodeId, before: &[Deed], deed: &Deed
 
 /// Whether a request of the group met the node's stop.
 #[tactic(auto, using(crate::proofs::PastLemmas::here, crate::proofs::PastLemmas::elsewhere, crate::proofs::PastLemmas::whole), unfolding(gb_isolation::specs::Project::is_met, gb_cluster::specs::Run::past_at))]
-pub(crate) fn was_met(plan: &ClusterPlan, addr: Addr, a: NodeId, deeds: &[Deed]) -> bool
+pub(crate) fn was_met(plan: &Plan, addr: Addr, a: NodeId, deeds: &[Deed]) -> bool
     ensures { result ≡ projected.is_met (node_plan plan.now a) addr (past_in a deeds.now) }
 {
     let mut met = false;

@@ -14,17 +14,17 @@ use crate::trace::Trace;
 use gb_alone::event::GroupStep;
 use gb_cap::hmac::HmacKey;
 use gb_cluster::event::Event;
-use gb_cluster::plan::ClusterPlan;
 use gb_node::answer::{NodeAnswer, PacketAnswer, Sent, Ticked};
 use gb_node::event::NodeEvent;
 use gb_types::address::Addr;
 use gb_types::memory::OutOfMemory;
+use gb_types::plan::Plan;
 use std::alloc::Global;
 
 /// Adds what this gives the group, after what happened before.
 fn of_deed(
     alloc: Global,
-    plan: &ClusterPlan,
+    plan: &Plan,
     addr: Addr,
     key: &HmacKey,
     before: &[Deed],
@@ -68,7 +68,7 @@ fn of_deed(
 #[tactic(auto, using(crate::proofs::PastLemmas::newest, crate::proofs::PastLemmas::whole), unfolding(gb_isolation::specs::Project::project))]
 fn of_deeds(
     alloc: Global,
-    plan: &ClusterPlan,
+    plan: &Plan,
     addr: Addr,
     deeds: &[Deed],
 ) -> Result<Vec<GroupStep>, OutOfMemory>
@@ -89,7 +89,7 @@ fn of_deeds(
 /// carried, since no more have numbers.
 pub fn project(
     alloc: Global,
-    plan: &ClusterPlan,
+    plan: &Plan,
     events: &[Event],
     trace: &Trace,
     addr: Addr,

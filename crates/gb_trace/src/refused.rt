@@ -9,11 +9,11 @@ use crate::deed::{Deed, deeds_of};
 use crate::past::is_own;
 use crate::trace::Trace;
 use gb_cluster::event::Event;
-use gb_cluster::plan::ClusterPlan;
 use gb_node::answer::NodeAnswer;
 use gb_node::event::NodeEvent;
 use gb_types::address::Addr;
 use gb_types::memory::OutOfMemory;
+use gb_types::plan::Plan;
 use gb_types::refusal::Refusal;
 use gb_types::reply::Reply;
 use gb_types::request::Request;
@@ -21,7 +21,7 @@ use std::alloc::Global;
 
 /// Whether this was a request of the group, or one that takes its tenant in, that was refused for want of memory after
 /// what happened before.
-fn is_starved(plan: &ClusterPlan, addr: Addr, before: &[Deed], deed: &Deed) -> bool
+fn is_starved(plan: &Plan, addr: Addr, before: &[Deed], deed: &Deed) -> bool
     ensures { result ≡ is_starved_by (node_plan plan.now deed.now.node) addr (past_in deed.now.node before.now) deed.now.event deed.now.answer }
 {
     let NodeEvent::Request(request) = deed.event() else {
@@ -38,7 +38,7 @@ fn is_starved(plan: &ClusterPlan, addr: Addr, before: &[Deed], deed: &Deed) -> b
 
 /// Whether none was.
 #[tactic(auto, using(crate::proofs::PastLemmas::newest, crate::proofs::PastLemmas::whole), unfolding(gb_isolation::specs::Project::is_fed))]
-fn is_ample(plan: &ClusterPlan, addr: Addr, deeds: &[Deed]) -> bool
+fn is_ample(plan: &Plan, addr: Addr, deeds: &[Deed]) -> bool
     ensures { result ≡ is_fed plan.now addr (reverse deeds.now) }
 {
     let mut fed = true;
@@ -52,7 +52,7 @@ fn is_ample(plan: &ClusterPlan, addr: Addr, deeds: &[Deed]) -> bool
 /// was, the group is what it is alone. Events beyond the answers do not count, nor answers beyond the events.
 pub fn refused_for(
     alloc: Global,
-    plan: &ClusterPlan,
+    plan: &Plan,
     events: &[Event],
     trace: &Trace,
     addr: Addr,

@@ -9,10 +9,10 @@ use crate::trace::Trace;
 use gb_cluster::answer::{Answer, Sending};
 use gb_cluster::cluster::Cluster;
 use gb_cluster::event::Event;
-use gb_cluster::plan::ClusterPlan;
 use gb_isolation::laws::groups_are_isolated;
 use gb_node::answer::{Halted, PacketAnswer, Ticked};
 use gb_types::memory::OutOfMemory;
+use gb_types::plan::Plan;
 use gb_types::refusal::Refusal;
 use gb_types::reply::Reply;
 use std::alloc::Global;
@@ -64,7 +64,7 @@ pub fn are_placed(nodes: usize, events: &[Event]) -> bool
 /// A whole run: what a cluster that is started with the plan answers to these events, one after the other. Each group of
 /// which no request was refused for want of memory is in it what it is alone. `Err` says that there was no memory to keep
 /// the run; a node's want of memory is an answer.
-pub fn run(alloc: Global, plan: ClusterPlan, events: &[Event]) -> Result<Trace, OutOfMemory>
+pub fn run(alloc: Global, plan: Plan, events: &[Event]) -> Result<Trace, OutOfMemory>
     requires plan { IsClusterPlan plan }
     requires placed { All (IsPlaced plan.nodes) events.now }
     ensures run { IfOk result (λ t. (v : ClusterValue) × IsRun plan events.now t.answers.items t.packets.items v × IsIsolatedRun plan events.now t.answers.items t.packets.items v) }

@@ -12,11 +12,11 @@ ghost use Rattle.gb_trace.specs.Deeds.{is_from, past_in};
 use crate::deed::Deed;
 use crate::reading::came;
 use gb_cap::hmac::HmacKey;
-use gb_cluster::plan::ClusterPlan;
 use gb_detect::laws::noticed_by_calls;
 use gb_node::answer::{NodeAnswer, Ticked};
 use gb_node::event::NodeEvent;
 use gb_types::node::NodeId;
+use gb_types::plan::Plan;
 
 /// Whether the time ticked.
 fn ticks(deed: &Deed) -> bool
@@ -76,13 +76,7 @@ fn was_silent(key: &HmacKey, a: NodeId, b: NodeId, silence: u16, deeds: &[Deed])
 }
 
 /// Whether the other node is noticed at the node.
-pub(crate) fn was_noticed(
-    plan: &ClusterPlan,
-    key: &HmacKey,
-    a: NodeId,
-    b: NodeId,
-    deeds: &[Deed],
-) -> bool
+pub(crate) fn was_noticed(plan: &Plan, key: &HmacKey, a: NodeId, b: NodeId, deeds: &[Deed]) -> bool
     requires few { plan.now.nodes ≤ MOST }
     requires least { LEAST ≤ plan.now.silence }
     requires key { key.now ≡ plan.now.cluster_key }

@@ -2,17 +2,17 @@
 use crate::schedule::{FIRST, SECOND, drop_group, fetch, furnish, say, spec_with};
 use crate::told::Told;
 use gb_cluster::event::Event;
-use gb_cluster::plan::ClusterPlan;
 use gb_node::event::NodeEvent;
 use gb_types::kind::Kind;
 use gb_types::memory::OutOfMemory;
 use gb_types::node::{NodeId, NodeSet};
+use gb_types::plan::Plan;
 use gb_types::spec::Spec;
 use std::alloc::Global;
 
 const THIRD: NodeId = NodeId { number: 2 };
 
-pub const PLAN: ClusterPlan = ClusterPlan {
+pub const PLAN: Plan = Plan {
     nodes: 3,
     silence: 2,
     places: 8,

@@ -7,7 +7,6 @@ use crate::short::{Got, is_same, is_seen};
 use crate::told::{are_same_steps, are_steps};
 use gb_alone::event::GroupStep;
 use gb_cluster::event::Event;
-use gb_cluster::plan::ClusterPlan;
 use gb_trace::run::{are_placed, run};
 use gb_trace::trace::Trace;
 use gb_trace::{alone, observe, project, refused_for};
@@ -36,24 +35,11 @@ fn second_replies(tenant: u16) -> &'static [Got] {
     }
 }
 
-/// The plan of the cluster, of which a group alone reads how many nodes there are.
-fn alone_in(plan: &ClusterPlan) -> Plan
-    ensures { result.nodes ≡ plan.now.nodes }
-{
-    Plan {
-        nodes: plan.nodes,
-        silence: plan.silence,
-        places: plan.places,
-        cluster_key: plan.cluster_key,
-        admin_key: plan.admin_key,
-    }
-}
-
 /// The projection on a tenant's group, if it makes of the group alone what is seen of it in the run, where it lacked no
 /// memory.
 fn projection(
     alloc: Global,
-    plan: &ClusterPlan,
+    plan: &Plan,
     events: &[Event],
     trace: &Trace,
     tenant: u16,
@@ -63,7 +49,7 @@ fn projection(
 {
     let addr = group_of(tenant);
     let steps = project(alloc, plan, events, trace, addr)?;
-    let by_itself = alone(alloc, &alone_in(plan), addr, &steps)?;
+    let by_itself = alone(alloc, plan, addr, &steps)?;
     let seen = observe(alloc, plan, events, trace, addr)?;
     let starved = refused_for(alloc, plan, events, trace, addr)?;
     if starved || !is_same(&seen, &by_itself) {

@@ -3,7 +3,6 @@ use gb_alone::event::{GroupEvent, GroupStep};
 use gb_cap::hmac::Key;
 use gb_cap::token::{Need, Token, token};
 use gb_cluster::event::Event;
-use gb_cluster::plan::ClusterPlan;
 use gb_node::event::NodeEvent;
 use gb_rules::reserve::Reserve;
 use gb_types::address::Addr;
@@ -11,6 +10,7 @@ use gb_types::kind::Kind;
 use gb_types::memory::OutOfMemory;
 use gb_types::node::{NodeId, NodeSet};
 use gb_types::payload::Payload;
+use gb_types::plan::Plan;
 use gb_types::request::Request;
 use gb_types::spec::{Spec, TenantRow};
 use std::alloc::Global;
@@ -21,7 +21,7 @@ pub const SECOND: NodeId = NodeId { number: 1 };
 
 pub const TENANTS: [u16; 3] = [7, 8, 9];
 
-pub const PLAN: ClusterPlan = ClusterPlan {
+pub const PLAN: Plan = Plan {
     nodes: 2,
     silence: 3,
     places: 8,

@@ -6,7 +6,6 @@ use crate::agreement::{agree, copied};
 use crate::asking::prepare;
 use crate::plans::two_nodes;
 use crate::roles::{Done, Job, Role, TURNS, count_callers, work};
-use gb_cluster::plan::ClusterPlan;
 use gb_host::close::close;
 use gb_host::fault::HostFault;
 use gb_host::host::Host;
@@ -22,7 +21,6 @@ use gb_port::ring::RingPort;
 use gb_port::udp::UdpPort;
 use gb_types::memory::OutOfMemory;
 use gb_types::node::NodeId;
-use gb_types::plan::Plan;
 use std::alloc::Global;
 use std::marker::Brand;
 use std::rt::HostRuntime;
@@ -92,23 +90,10 @@ fn counts_of<M: Ledger>(done: &[Done<M>]) -> [u64; 4] {
 fn are_merged(alloc: Global, plan: HostPlan, tapes: &[Tape]) -> bool
     requires { IsPlan plan }
 {
-    let Plan {
-        nodes,
-        silence,
-        places,
-        cluster_key,
-        admin_key,
-    } = plan.cluster;
-    if nodes == 0 || tapes.len() != usize::from(nodes) {
+    let cluster = plan.cluster;
+    if cluster.nodes == 0 || tapes.len() != usize::from(cluster.nodes) {
         return false;
     }
-    let cluster = ClusterPlan {
-        nodes,
-        silence,
-        places,
-        cluster_key,
-        admin_key,
-    };
     let mut entries: usize = 0;
     for tape in tapes {
         entries = entries.saturating_add(tape.as_slice().len());

@@ -14,7 +14,7 @@ loop-number-preserved c =
     let f : ℕ → NodeValue = λ a. new_node (node_plan c.args.plan.now (node_numbered a)) in
     let n = c.loop-number.number in
     let me : c.new-me.result ≡ node_numbered n = sym (numbered_is c.new-me.result) ∙ ap node_numbered c.new-me.ensures in
-    let made : c.start.result ≡ f n = c.start.ensures ∙ (ap new_node c.node.ensures ∙ ap (λ (a : NodeId). new_node (node_plan c.args.plan.now a)) me) in
+    let made : c.start.result ≡ f n = c.start.ensures ∙ (ap new_node c.node_plan.ensures ∙ ap (λ (a : NodeId). new_node (node_plan c.args.plan.now a)) me) in
     c.in_ok-push.ensures.items
     ∙ (ap (λ (vs : List NodeValue). vs ++ c.start.result ∷ []) c.loop-number.invariant
     ∙ (ap (λ (v : NodeValue). map f (range_with_len 0 n) ++ v ∷ []) made
