@@ -1,9 +1,11 @@
-//! Worked runs of clusters as tests: three tenants whose messages share frames, seen in the run and alone. There is nothing
-//! here but tests.
+//! Worked runs of clusters as tests: three tenants whose messages share frames, and schedules in
+//! which a node stops after each event, seen in the run and alone. There is nothing here but tests.
 #![tactic(auto)]
 
 #[cfg(test)]
 mod crash;
+#[cfg(test)]
+mod projected;
 #[cfg(test)]
 mod runs;
 #[cfg(test)]
@@ -11,4 +13,8 @@ mod schedule;
 #[cfg(test)]
 mod short;
 #[cfg(test)]
+mod stops;
+#[cfg(test)]
 mod told;
+#[cfg(test)]
+mod worked;

@@ -1,17 +1,13 @@
-ghost use Rattle.std.specs.Prelude.{◌≡◌, ◌≤◌};
-ghost use Rattle.gb_types.specs.declared.limits.TheConstants.{NODES, SILENCE_MIN};
-
 use crate::crash;
+use crate::projected::projection;
 use crate::schedule::{PLAN, TENANTS, events, group_of, steps};
-use crate::short::{Got, is_same, is_seen};
+use crate::short::{Got, is_seen};
 use crate::told::{are_same_steps, are_steps};
-use gb_alone::event::GroupStep;
 use gb_cluster::event::Event;
+use gb_trace::observe;
 use gb_trace::run::{are_placed, run};
 use gb_trace::trace::Trace;
-use gb_trace::{alone, observe, project, refused_for};
 use gb_types::memory::OutOfMemory;
-use gb_types::plan::Plan;
 use gb_types::refusal::Refusal;
 use std::alloc::Global;
 use std::rt::HostRuntime;
@@ -35,29 +31,6 @@ fn second_replies(tenant: u16) -> &'static [Got] {
     }
 }
 
-/// The projection on a tenant's group, if it makes of the group alone what is seen of it in the run, where it lacked no
-/// memory.
-fn projection(
-    alloc: Global,
-    plan: &Plan,
-    events: &[Event],
-    trace: &Trace,
-    tenant: u16,
-) -> Result<Option<Vec<GroupStep>>, OutOfMemory>
-    requires few { plan.now.nodes ≤ NODES }
-    requires least { SILENCE_MIN ≤ plan.now.silence }
-{
-    let addr = group_of(tenant);
-    let steps = project(alloc, plan, events, trace, addr)?;
-    let by_itself = alone(alloc, plan, addr, &steps)?;
-    let seen = observe(alloc, plan, events, trace, addr)?;
-    let starved = refused_for(alloc, plan, events, trace, addr)?;
-    if starved || !is_same(&seen, &by_itself) {
-        return Ok(None);
-    }
-    Ok(Some(steps))
-}
-
 /// Whether a tenant's group is seen in the first run as it should be, and its projection is the one that is written by
 /// hand.
 fn is_alone(
@@ -70,7 +43,7 @@ fn is_alone(
     let wanted = steps(alloc, tenant)?;
     let seen = observe(alloc, &PLAN, events, trace, group_of(tenant))?;
     let right = is_seen(&seen, &FIRST_REPLIES, second_replies(tenant), &payload);
-    match projection(alloc, &PLAN, events, trace, tenant)? {
+    match projection(alloc, &PLAN, events, trace, group_of(tenant))? {
         None => Ok(false),
         Some(steps) => Ok(right && are_same_steps(&steps, &wanted)),
     }
@@ -106,7 +79,7 @@ fn is_told(
     trace: &Trace,
     tenant: u16,
 ) -> Result<bool, OutOfMemory> {
-    match projection(alloc, &crash::PLAN, events, trace, tenant)? {
+    match projection(alloc, &crash::PLAN, events, trace, group_of(tenant))? {
         None => Ok(false),
         Some(steps) => Ok(are_steps(&steps, crash::told(tenant))),
     }

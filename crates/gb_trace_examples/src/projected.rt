@@ -1,0 +1,35 @@
+// The projection of a run on a group, and whether it makes of the group alone what is seen of it.
+ghost use Rattle.std.specs.Prelude.{◌≡◌, ◌≤◌};
+ghost use Rattle.gb_types.specs.declared.limits.TheConstants.{NODES, SILENCE_MIN};
+
+use crate::short::is_same;
+use gb_alone::event::GroupStep;
+use gb_cluster::event::Event;
+use gb_trace::trace::Trace;
+use gb_trace::{alone, observe, project, refused_for};
+use gb_types::address::Addr;
+use gb_types::memory::OutOfMemory;
+use gb_types::plan::Plan;
+use std::alloc::Global;
+
+/// The projection on a group, if it makes of the group alone what is seen of it in the run, where it lacked no
+/// memory.
+pub fn projection(
+    alloc: Global,
+    plan: &Plan,
+    events: &[Event],
+    trace: &Trace,
+    addr: Addr,
+) -> Result<Option<Vec<GroupStep>>, OutOfMemory>
+    requires few { plan.now.nodes ≤ NODES }
+    requires least { SILENCE_MIN ≤ plan.now.silence }
+{
+    let steps = project(alloc, plan, events, trace, addr)?;
+    let by_itself = alone(alloc, plan, addr, &steps)?;
+    let seen = observe(alloc, plan, events, trace, addr)?;
+    let starved = refused_for(alloc, plan, events, trace, addr)?;
+    if starved || !is_same(&seen, &by_itself) {
+        return Ok(None);
+    }
+    Ok(Some(steps))
+}

@@ -1,0 +1,350 @@
+// A node stops after each event of worked schedules: each group is still seen as it is alone, and the stopped node refuses
+// whatever comes later.
+ghost use Rattle.std.specs.Prelude.{◌≡◌, ◌≤◌, IsTrue};
+ghost use Rattle.gb_cluster.specs.ClusterValue.{IsClusterPlan};
+
+use crate::projected::projection;
+use crate::worked::{ALL_ACK, BEST_EFFORT, EMPTY_PAYLOAD, FIFO, LAZY_RELAY, UNLIKE_SPECS};
+use gb_cluster::answer::{Answer, Sending};
+use gb_cluster::event::Event;
+use gb_cluster::posted::Posted;
+use gb_node::answer::{Halted, PacketAnswer, Ticked};
+use gb_node::event::NodeEvent;
+use gb_node::packet_text::PacketText;
+use gb_schedule::command::Command;
+use gb_schedule::grammar::read_command;
+use gb_schedule::keys::{ADMIN_KEY, CLUSTER_KEY, Keys};
+use gb_trace::run::{are_placed, run};
+use gb_trace::trace::Trace;
+use gb_types::address::Addr;
+use gb_types::limits::{NODES, PLACES, SILENCE_MAX, SILENCE_MIN};
+use gb_types::memory::OutOfMemory;
+use gb_types::node::{NodeId, NodeSet};
+use gb_types::plan::Plan;
+use gb_types::refusal::Refusal;
+use gb_types::reply::Reply;
+use gb_types::request::Request;
+use std::alloc::Global;
+use std::rt::HostRuntime;
+use std::test::Fail;
+
+/// What the cluster of a schedule is started with.
+fn plan_of(nodes: u8, silence: u16) -> Plan {
+    Plan {
+        nodes,
+        silence,
+        places: 1_024,
+        cluster_key: CLUSTER_KEY,
+        admin_key: ADMIN_KEY,
+    }
+}
+
+/// Whether a cluster may be started so.
+fn is_plan(plan: &Plan) -> bool
+    ensures { IsTrue result → IsClusterPlan plan.now }
+{
+    1 <= plan.nodes
+        && usize::from(plan.nodes) <= NODES
+        && plan.places <= PLACES
+        && SILENCE_MIN <= plan.silence
+        && plan.silence <= SILENCE_MAX
+}
+
+/// The event that a command asks for, if it starts no cluster.
+fn event_of(command: Command) -> Option<Event> {
+    match command {
+        Command::Cluster {
+            nodes: _,
+            silence: _,
+        } => None,
+        Command::Request(node, request) => Some(Event::At(node, NodeEvent::Request(request))),
+        Command::Pack(node, to) => Some(Event::At(node, NodeEvent::Pack(to))),
+        Command::Again(node, to, frame) => Some(Event::At(node, NodeEvent::Again(to, frame))),
+        Command::Ack(node, to) => Some(Event::At(node, NodeEvent::Ack(to))),
+        Command::Arrive(packet) => Some(Event::Arrive(packet)),
+        Command::Noise(node, bytes) => {
+            let bytes = PacketText::from(bytes.into_vec());
+            Some(Event::At(node, NodeEvent::Packet(bytes)))
+        }
+        Command::Tick(node) => Some(Event::At(node, NodeEvent::Tick)),
+        Command::Stop(node) => Some(Event::At(node, NodeEvent::Stop)),
+    }
+}
+
+/// The plan that the first line spells, if a cluster may be started so.
+fn read_plan(alloc: Global, keys: &mut Keys, line: &[u8]) -> Result<Option<Plan>, OutOfMemory> {
+    let Some(Command::Cluster { nodes, silence }) = read_command(alloc, keys, None, line)? else {
+        return Ok(None);
+    };
+    Ok(Some(plan_of(nodes, silence)))
+}
+
+/// The plan of a schedule and its events, if each of its lines spells a command in its place.
+fn read(alloc: Global, lines: &[&[u8]]) -> Result<Option<(Plan, Vec<Event>)>, OutOfMemory> {
+    let mut keys = Keys::new(alloc);
+    let mut events = Vec::new(alloc);
+    let [first, others @ ..] = lines else {
+        return Ok(None);
+    };
+    let Some(plan) = read_plan(alloc, &mut keys, first)? else {
+        return Ok(None);
+    };
+    if !is_plan(&plan) {
+        return Ok(None);
+    }
+    for line in others {
+        let Some(command) = read_command(alloc, &mut keys, Some(plan.nodes), line)? else {
+            return Ok(None);
+        };
+        let Some(event) = event_of(command) else {
+            return Ok(None);
+        };
+        events.push(event)?;
+    }
+    Ok(Some((plan, events)))
+}
+
+/// The group that an event names, if it is a request that names one.
+fn named(event: &Event) -> Option<Addr> {
+    let Event::At(_, NodeEvent::Request(request)) = event else {
+        return None;
+    };
+    match request {
+        Request::AddTenant(_, _) => None,
+        Request::Make(_, addr, _) => Some(*addr),
+        Request::OpenGroup(_, addr) => Some(*addr),
+        Request::ShutGroup(_, addr) => Some(*addr),
+        Request::DropGroup(_, addr) => Some(*addr),
+        Request::Say(_, addr, _) => Some(*addr),
+        Request::Fetch(_, addr, _, _) => Some(*addr),
+    }
+}
+
+/// The groups that the events name, each once.
+fn groups_of(alloc: Global, events: &[Event]) -> Result<Vec<Addr>, OutOfMemory> {
+    let mut groups: Vec<Addr> = Vec::new(alloc);
+    for event in events {
+        if let Some(addr) = named(event) {
+            if !groups.as_slice().contains(&addr) {
+                groups.push(addr)?;
+            }
+        }
+    }
+    Ok(groups)
+}
+
+/// Whether there are groups, and each is seen in the run as it is alone.
+fn are_alone(
+    alloc: Global,
+    plan: &Plan,
+    events: &[Event],
+    trace: &Trace,
+) -> Result<bool, OutOfMemory>
+    requires { IsClusterPlan plan.now }
+{
+    let groups = groups_of(alloc, events)?;
+    for addr in groups.as_slice() {
+        if projection(alloc, plan, events, trace, *addr)?.is_none() {
+            return Ok(false);
+        }
+    }
+    Ok(!groups.is_empty())
+}
+
+/// Whether an answer is one to such an event.
+fn is_answer_to(event: &NodeEvent, answer: &Answer) -> bool {
+    match (event, answer) {
+        (NodeEvent::Request(_), Answer::Reply(_)) => true,
+        (NodeEvent::Packet(_), Answer::Taken(_)) => true,
+        (NodeEvent::Pack(_), Answer::Sent(_)) => true,
+        (NodeEvent::Again(_, _), Answer::Sent(_)) => true,
+        (NodeEvent::Ack(_), Answer::Sent(_)) => true,
+        (NodeEvent::Tick, Answer::Ticked(_)) => true,
+        (NodeEvent::Stop, Answer::Halted(_)) => true,
+        _ => false,
+    }
+}
+
+/// Whether an answer says that the node has stopped.
+fn is_stopped(answer: &Answer) -> bool {
+    match answer {
+        Answer::Reply(Reply::Refused(why)) => *why == Refusal::Stopped,
+        Answer::Taken(PacketAnswer::Refused(why)) => *why == Refusal::Stopped,
+        Answer::Sent(Sending::Refused(why)) => *why == Refusal::Stopped,
+        Answer::Ticked(Ticked::Refused(why)) => *why == Refusal::Stopped,
+        Answer::Halted(Halted::Refused(why)) => *why == Refusal::Stopped,
+        _ => false,
+    }
+}
+
+/// The node that a packet was sent to, by the packet's number, where these were sent.
+fn receiver(packets: &[Posted], number: u64) -> Option<NodeId> {
+    if number == 0 || number > packets.len() as u64 {
+        return None;
+    }
+    Some(packets[number as usize - 1].to)
+}
+
+/// Whether an answer is right where these packets were sent and these nodes had stopped before: it says that the node has
+/// stopped exactly where it has.
+fn is_right(stopped: &NodeSet, sent: &[Posted], event: &Event, answer: &Answer) -> bool {
+    match event {
+        Event::At(node, event) => {
+            is_answer_to(event, answer) && is_stopped(answer) == stopped.contains(*node)
+        }
+        Event::Arrive(number) => match (receiver(sent, *number), answer) {
+            (None, Answer::NoPacket) => true,
+            (Some(node), Answer::Taken(_)) => is_stopped(answer) == stopped.contains(node),
+            _ => false,
+        },
+    }
+}
+
+/// Whether each answer of a run is.
+fn are_right(events: &[Event], trace: &Trace) -> bool {
+    let (answers, packets) = (trace.answers.as_slice(), trace.packets.as_slice());
+    if answers.len() != events.len() {
+        return false;
+    }
+    let mut stopped = NodeSet::new();
+    let mut sent: usize = 0;
+    for i in 0..events.len() {
+        if sent > packets.len() || !is_right(&stopped, &packets[..sent], &events[i], &answers[i]) {
+            return false;
+        }
+        if let Event::At(node, NodeEvent::Stop) = &events[i] {
+            stopped.insert(*node);
+        }
+        if let Answer::Sent(Sending::Packet(_)) = &answers[i] {
+            sent += 1;
+        }
+    }
+    sent == packets.len()
+}
+
+/// Whether all is right in a run of a schedule with such a stop: how many events come before it, and where it is.
+fn is_right_with(
+    alloc: Global,
+    lines: &[&[u8]],
+    place: usize,
+    node: NodeId,
+) -> Result<bool, OutOfMemory> {
+    let Some((plan, mut events)) = read(alloc, lines)? else {
+        return Ok(false);
+    };
+    if place > events.len() {
+        return Ok(false);
+    }
+    events.insert(place, Event::At(node, NodeEvent::Stop))?;
+    if !is_plan(&plan) || !are_placed(usize::from(plan.nodes), &events) {
+        return Ok(false);
+    }
+    let trace = run(alloc, plan, &events)?;
+    Ok(are_right(&events, &trace) && are_alone(alloc, &plan, &events, &trace)?)
+}
+
+/// The first stop with which something is wrong: how many events come before it, and the number of its node.
+fn first_wrong(
+    alloc: Global,
+    lines: &[&[u8]],
+    nodes: u8,
+) -> Result<Option<(usize, u8)>, OutOfMemory> {
+    for place in 0..lines.len() {
+        for number in 0..nodes {
+            let Some(node) = NodeId::from_number(number) else {
+                return Ok(Some((place, number)));
+            };
+            if !is_right_with(alloc, lines, place, node)? {
+                return Ok(Some((place, number)));
+            }
+        }
+    }
+    Ok(None)
+}
+
+/// Whether these logs, by how many entries they have, were fetched, in order, and nothing was refused.
+fn are_fetched(answers: &[Answer], logs: &[usize]) -> bool {
+    let mut left = logs;
+    for answer in answers {
+        if let Answer::Reply(Reply::Refused(_)) = answer {
+            return false;
+        }
+        if let Answer::Reply(Reply::Log(entries)) = answer {
+            let [first, others @ ..] = left else {
+                return false;
+            };
+            if entries.len() != *first {
+                return false;
+            }
+            left = others;
+        }
+    }
+    left.is_empty()
+}
+
+/// Whether all is right in a run of the schedule as it is, for so many nodes, with these logs.
+fn is_worked(
+    alloc: Global,
+    lines: &[&[u8]],
+    nodes: u8,
+    logs: &[usize],
+) -> Result<bool, OutOfMemory> {
+    let Some((plan, events)) = read(alloc, lines)? else {
+        return Ok(false);
+    };
+    if plan.nodes != nodes || !is_plan(&plan) || !are_placed(usize::from(nodes), &events) {
+        return Ok(false);
+    }
+    let trace = run(alloc, plan, &events)?;
+    let fetched = are_fetched(trace.answers.as_slice(), logs);
+    let right = fetched && are_right(&events, &trace);
+    Ok(right && are_alone(alloc, &plan, &events, &trace)?)
+}
+
+#[test]
+fn a_stop_after_each_event_of_an_empty_payload(rt: HostRuntime) -> Result<(), Fail> {
+    assert!(rt; is_worked(rt.alloc(), &EMPTY_PAYLOAD, 3, &[1, 1, 1])?);
+    let wrong = first_wrong(rt.alloc(), &EMPTY_PAYLOAD, 3)?;
+    assert_eq!(rt; wrong, None);
+    Ok(())
+}
+
+#[test]
+fn a_stop_after_each_event_of_two_messages_in_fifo_order(rt: HostRuntime) -> Result<(), Fail> {
+    assert!(rt; is_worked(rt.alloc(), &FIFO, 2, &[0, 2])?);
+    let wrong = first_wrong(rt.alloc(), &FIFO, 2)?;
+    assert_eq!(rt; wrong, None);
+    Ok(())
+}
+
+#[test]
+fn a_stop_after_each_event_of_two_messages_by_best_effort(rt: HostRuntime) -> Result<(), Fail> {
+    assert!(rt; is_worked(rt.alloc(), &BEST_EFFORT, 2, &[1, 2])?);
+    let wrong = first_wrong(rt.alloc(), &BEST_EFFORT, 2)?;
+    assert_eq!(rt; wrong, None);
+    Ok(())
+}
+
+#[test]
+fn a_stop_after_each_event_of_a_lazy_relay(rt: HostRuntime) -> Result<(), Fail> {
+    assert!(rt; is_worked(rt.alloc(), &LAZY_RELAY, 3, &[1, 2])?);
+    let wrong = first_wrong(rt.alloc(), &LAZY_RELAY, 3)?;
+    assert_eq!(rt; wrong, None);
+    Ok(())
+}
+
+#[test]
+fn a_stop_after_each_event_of_unlike_specs(rt: HostRuntime) -> Result<(), Fail> {
+    assert!(rt; is_worked(rt.alloc(), &UNLIKE_SPECS, 3, &[0, 1])?);
+    let wrong = first_wrong(rt.alloc(), &UNLIKE_SPECS, 3)?;
+    assert_eq!(rt; wrong, None);
+    Ok(())
+}
+
+#[test]
+fn a_stop_after_each_event_of_acknowledgements_by_all(rt: HostRuntime) -> Result<(), Fail> {
+    assert!(rt; is_worked(rt.alloc(), &ALL_ACK, 2, &[0, 1, 1])?);
+    let wrong = first_wrong(rt.alloc(), &ALL_ACK, 2)?;
+    assert_eq!(rt; wrong, None);
+    Ok(())
+}
