@@ -112,8 +112,7 @@ fn named(event: &Event) -> Option<Addr> {
     match request {
         Request::AddTenant(_, _) => None,
         Request::Make(_, addr, _) => Some(*addr),
-        Request::OpenGroup(_, addr) => Some(*addr),
-        Request::ShutGroup(_, addr) => Some(*addr),
+        Request::OpenGroup(_, addr) | Request::ShutGroup(_, addr) => Some(*addr),
         Request::DropGroup(_, addr) => Some(*addr),
         Request::Say(_, addr, _) => Some(*addr),
         Request::Fetch(_, addr, _, _) => Some(*addr),
@@ -222,6 +221,18 @@ fn are_right(events: &[Event], trace: &Trace) -> bool {
     sent == packets.len()
 }
 
+/// The trace of these events, if a cluster may be started so and all is right in it.
+fn right_trace(alloc: Global, plan: Plan, events: &[Event]) -> Result<Option<Trace>, OutOfMemory> {
+    if !is_plan(&plan) || !are_placed(usize::from(plan.nodes), events) {
+        return Ok(None);
+    }
+    let trace = run(alloc, plan, events)?;
+    if are_right(events, &trace) && are_alone(alloc, &plan, events, &trace)? {
+        return Ok(Some(trace));
+    }
+    Ok(None)
+}
+
 /// Whether all is right in a run of a schedule with such a stop: how many events come before it, and where it is.
 fn is_right_with(
     alloc: Global,
@@ -236,11 +247,7 @@ fn is_right_with(
         return Ok(false);
     }
     events.insert(place, Event::At(node, NodeEvent::Stop))?;
-    if !is_plan(&plan) || !are_placed(usize::from(plan.nodes), &events) {
-        return Ok(false);
-    }
-    let trace = run(alloc, plan, &events)?;
-    Ok(are_right(&events, &trace) && are_alone(alloc, &plan, &events, &trace)?)
+    Ok(right_trace(alloc, plan, &events)?.is_some())
 }
 
 /// The first stop with which something is wrong: how many events come before it, and the number of its node.
@@ -262,10 +269,14 @@ fn first_wrong(
     Ok(None)
 }
 
-/// Whether these logs, by how many entries they have, were fetched, in order, and nothing was refused.
+/// Whether these logs, by how many entries they have, were fetched, in order, no request was refused, and no node that had
+/// stopped was asked for anything.
 fn are_fetched(answers: &[Answer], logs: &[usize]) -> bool {
     let mut left = logs;
     for answer in answers {
+        if is_stopped(answer) {
+            return false;
+        }
         if let Answer::Reply(Reply::Refused(_)) = answer {
             return false;
         }
@@ -292,13 +303,10 @@ fn is_worked(
     let Some((plan, events)) = read(alloc, lines)? else {
         return Ok(false);
     };
-    if plan.nodes != nodes || !is_plan(&plan) || !are_placed(usize::from(nodes), &events) {
+    let Some(trace) = right_trace(alloc, plan, &events)? else {
         return Ok(false);
-    }
-    let trace = run(alloc, plan, &events)?;
-    let fetched = are_fetched(trace.answers.as_slice(), logs);
-    let right = fetched && are_right(&events, &trace);
-    Ok(right && are_alone(alloc, &plan, &events, &trace)?)
+    };
+    Ok(plan.nodes == nodes && are_fetched(trace.answers.as_slice(), logs))
 }
 
 #[test]
