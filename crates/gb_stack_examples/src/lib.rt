@@ -8,3 +8,5 @@ mod layers;
 mod order;
 #[cfg(test)]
 mod stacks;
+#[cfg(test)]
+mod tables;
