@@ -1,18 +1,42 @@
--- How many places say true.
-use Rattle.gb_types.specs.declared.limits.TheConstants.{NODES}
-use Rattle.std.proofs.Common.{◌≡◌, ℕ, ◌+◌, ◌<◌, Bool, false, cond, List, [], ◌∷◌, slice_index_or, ◌&&◌, ap, ◌∙◌, arith, count_by, add-one}
+-- How many bits of a word are 1.
+use Rattle.std.proofs.Common.{◌≡◌, ℕ, zero, suc, ◌+◌, ◌%◌, ◌^◌, ◌<◌, min, Bool, cond, ◌&&◌, nat_eq, bit_and, count_ones, mod-lt, sym, ap, ◌∙◌, arith, count_by}
+use lib.Count.{ones-ones}
+use Rattle.std.specs.Int.{bit_at}
 use Rattle.std.specs.FinSet as fin
-use Rattle.std.proofs.lemmas.List.Sums.{sum_by-append}
-use Rattle.gb_types.specs.Places.{places, below}
-use Rattle.gb_types.proofs.CoverLemmas.{at_place}
+use Rattle.std.proofs.lemmas.Bool.Decides.{nat_tests}
+use Rattle.std.proofs.lemmas.List.Sums.{sum_by-cons}
+use Rattle.std.proofs.lemmas.Nat.{pow_pos, mod-pow-add, ones-le, ones_cat, and_le_l}
+use Rattle.std.proofs.lemmas.Nat.Bits.{bit_at_and, bit_at-lt}
+use Rattle.gb_types.specs.declared.limits.TheConstants.{NODES}
+use Rattle.gb_types.specs.Places.{of_bits, below}
+use Rattle.gb_types.proofs.PlaceLemmas.{at_bit}
 
-cons : (p : ℕ → Bool) (x : ℕ) (xs : List ℕ) → count_by p (x ∷ xs) ≡ cond (p x) 1 0 + count_by p xs
-cons p x xs = let e = sum_by-append (λ y. cond {A = ℕ} (p y) 1 0) (x ∷ []) xs in omega (arith, e)
+one_bit : (d : ℕ) → d < 2 → cond (nat_eq d 1) 1 0 ≡ count_ones d
+one_bit zero small = sym (ones-ones 0)
+one_bit (suc zero) small = sym (ones-ones 1)
+one_bit (suc (suc d)) small = absurd (omega arith)
 
--- one more place
-pub both_more : (a b : List Bool) (i : ℕ) (v : Bool) → i < NODES → (slice_index_or a i false && slice_index_or b i false) ≡ v
-    → count_by (λ p. fin.contains (places a) p && fin.contains (places b) p) (below (i + 1)) ≡ cond v 1 0 + count_by (λ p. fin.contains (places a) p && fin.contains (places b) p) (below i)
-both_more a b i v lt h =
-    let p : ℕ → Bool = λ p. fin.contains (places a) p && fin.contains (places b) p in
-    ap (λ n. count_by p (below n)) (add-one i)
-    ∙ (cons p i (below i) ∙ ap (λ w. cond {A = ℕ} w 1 0 + count_by p (below i)) ((λ j. at_place a i lt j && at_place b i lt j) ∙ h))
+-- of the lowest w bits
+counted : (n : ℕ) (p : ℕ → Bool) (w : ℕ) → ((i : ℕ) → p i ≡ nat_eq (bit_at n i) 1) → count_by p (below w) ≡ count_ones (n % 2 ^ w)
+counted n p zero h = omega (arith, ones-le 0 (n % 2 ^ 0) (mod-lt n (pow_pos 0)))
+counted n p (suc w) h =
+    let top : cond {A = ℕ} (p w) 1 0 ≡ count_ones (bit_at n w) = ap (λ b. cond {A = ℕ} b 1 0) (h w) ∙ one_bit (bit_at n w) (bit_at-lt n w) in
+    let more : 1 + w ≡ suc w = omega arith in
+    sum_by-cons (λ x. cond {A = ℕ} (p x) 1 0) w (below w)
+    ∙ ((λ i. top i + counted n p w h i)
+    ∙ (sym (ones_cat w (bit_at n w) (n % 2 ^ w) (mod-lt n (pow_pos w)))
+    ∙ (ap count_ones (sym (mod-pow-add n 1 w)) ∙ ap (λ k. count_ones (n % 2 ^ k)) more)))
+
+in_both : (x y : ℕ) → x < 2 → y < 2 → (nat_eq x 1 && nat_eq y 1) ≡ nat_eq (min x y) 1
+in_both x y xs ys = grind (arith, nat_tests)
+
+pub both_counted : (a b : ℕ) → a < 2 ^ 16 → b < 2 ^ 16
+    → count_ones (bit_and a b) ≡ count_by (λ p. fin.contains (of_bits a) p && fin.contains (of_bits b) p) (below NODES)
+both_counted a b fa fb =
+    let fits : bit_and a b < 2 ^ 16 = omega (arith, and_le_l a b) in
+    let whole : bit_and a b % 2 ^ 16 ≡ bit_and a b = omega arith in
+    ap count_ones (sym whole)
+    ∙ sym (counted (bit_and a b) (λ p. fin.contains (of_bits a) p && fin.contains (of_bits b) p) NODES
+    (λ q.
+    (λ i. at_bit a q fa i && at_bit b q fb i)
+    ∙ (in_both (bit_at a q) (bit_at b q) (bit_at-lt a q) (bit_at-lt b q) ∙ ap (λ d. nat_eq d 1) (sym (bit_at_and a b q)))))

@@ -1,14 +1,17 @@
 -- When each member of a set passes a test.
 use Rattle.gb_types.specs.declared.limits.TheConstants.{NODES}
-use Rattle.std.proofs.Common.{◌≡◌, ℕ, ◌<◌, ◌≤◌, Bool, true, false, List, [], ◌∷◌, slice_index_or, nat_lt, ◌||◌, ◌&&◌, refl, ap, sym, ◌∙◌, arith}
+use Rattle.std.proofs.Common.{◌≡◌, ℕ, zero, suc, ◌+◌, ◌-◌, ◌/◌, ◌%◌, ◌^◌, ◌<◌, ◌≤◌, min, max, Bool, true, false, List, [], ◌∷◌, nat_eq, nat_lt, bit_and, bit_or, ◌||◌, ◌&&◌, refl, ap, sym, ◌∙◌, arith, inl, inr}
+use Rattle.std.specs.Int.{bit_at}
 use Rattle.std.specs.Ordering.{nat_cmp, eq_by_cmp}
 use Rattle.std.specs.List.{list_any, list_all}
 use Rattle.std.specs.FinSet as fin
 use Rattle.std.specs.Cmp.{nat_cmp_total, unsigned_tied}
-use Rattle.std.proofs.lemmas.Bool.{eqb-true, eq-eqb}
+use Rattle.std.proofs.lemmas.Bool.{cases_lt, eqb-true, eq-eqb, ltb-true, lt-ltb}
 use Rattle.std.proofs.lemmas.Bool.Decides.{nat_tests}
-use Rattle.gb_types.specs.Places.{places}
-use Rattle.gb_types.proofs.PlaceLemmas.{contains-places}
+use Rattle.std.proofs.lemmas.Nat.{shr-shr}
+use Rattle.std.proofs.lemmas.Nat.Bits.{same_from_bits, bit_at_and, bit_at_or, bit_at-zero, bit_at-lt}
+use Rattle.gb_types.specs.Places.{of_bits}
+use Rattle.gb_types.proofs.PlaceLemmas.{at_bit, in_range, zero_bit}
 
 or_true : (b : Bool) → (b || true) ≡ true
 or_true true = refl
@@ -51,38 +54,72 @@ not_all_members p s q h k =
       | false ↦ λ _. refl
     ] refl
 
-pub at_place : (has : List Bool) (q : ℕ) → q < NODES → fin.contains (places has) q ≡ slice_index_or has q false
-at_place has q lt = let k : nat_lt q NODES ≡ true = grind (arith, nat_tests) in contains-places has q ∙ ap (λ b. b && slice_index_or has q false) k
+kept_bit : (x y z : ℕ) → x < 2 → y < 2 → z < 2 → (nat_eq x 1 ≡ true → (nat_eq y 1 || nat_eq z 1) ≡ true) → min x (max y z) ≡ x
+kept_bit zero y z xs ys zs h = omega arith
+kept_bit (suc x) y z xs ys zs h = let one : suc x ≡ 1 = omega arith in let e = h (eq-eqb (suc x) 1 one) in grind (arith, nat_tests, e)
 
-pub in_range : (has : List Bool) (q : ℕ) → fin.contains (places has) q ≡ true → q < NODES
-in_range has q h = let k : nat_lt q NODES ≡ true = and_left _ (slice_index_or has q false) (sym (contains-places has q) ∙ h) in grind (arith, nat_tests)
+covering_bit : (x y z : ℕ) → y < 2 → z < 2 → min x (max y z) ≡ x → nat_eq x 1 ≡ true → (nat_eq y 1 || nat_eq z 1) ≡ true
+covering_bit x y z ys zs h e = grind (arith, nat_tests)
 
--- the place k is not of the first table, or is of another
-abbrev pub IsCovered : List Bool → List Bool → List Bool → ℕ → Type 0
-IsCovered a b c k = slice_index_or a k false ≡ true → (slice_index_or b k false || slice_index_or c k false) ≡ true
+-- the bits of the first word are all in one of the others
+pub covered_is : (a b c : ℕ) → a < 2 ^ 16 → b < 2 ^ 16 → c < 2 ^ 16
+    → nat_eq (bit_and a (bit_or b c)) a ≡ list_all (λ p. fin.contains (of_bits b) p || fin.contains (of_bits c) p) (fin.items (of_bits a))
+covered_is a b c fa fb fc =
+    let p : ℕ → Bool = λ p. fin.contains (of_bits b) p || fin.contains (of_bits c) p in
+    let bit : (q : ℕ) → bit_at (bit_and a (bit_or b c)) q ≡ min (bit_at a q) (max (bit_at b q) (bit_at c q)) = λ q. bit_at_and a (bit_or b c) q ∙ ap (min (bit_at a q)) (bit_at_or b c q) in
+    let passes : (q : ℕ) → p q ≡ (nat_eq (bit_at b q) 1 || nat_eq (bit_at c q) 1) = λ q i. at_bit b q fb i || at_bit c q fc i in
+    elim (list_all p (fin.items (of_bits a))) as (λ v. list_all p (fin.items (of_bits a)) ≡ v → nat_eq (bit_and a (bit_or b c)) a ≡ v) [
+      | true ↦ λ all.
+          eq-eqb (bit_and a (bit_or b c)) a
+          (same_from_bits _ _
+          (λ q. bit q ∙ kept_bit (bit_at a q) (bit_at b q) (bit_at c q) (bit_at-lt a q) (bit_at-lt b q) (bit_at-lt c q)
+          (λ h. sym (passes q) ∙ from_all p _ q all (sym (fin.contains-items (of_bits a) q) ∙ (at_bit a q fa ∙ h)))))
+      | false ↦ λ some. elim (nat_eq (bit_and a (bit_or b c)) a) as (λ v. nat_eq (bit_and a (bit_or b c)) a ≡ v → v ≡ false) [
+        | true ↦ λ e.
+            sym (all_members p (of_bits a)
+            (λ q h. passes q ∙ covering_bit (bit_at a q) (bit_at b q) (bit_at c q) (bit_at-lt b q) (bit_at-lt c q) (sym (bit q) ∙ ap (λ n. bit_at n q) (eqb-true _ a e)) (sym (at_bit a q fa) ∙ h)))
+            ∙ some
+        | false ↦ λ _. refl
+      ] refl
+    ] refl
 
-pub covered_all : (a b c : List Bool) → ((k : ℕ) → k < NODES → IsCovered a b c k) → list_all (λ p. fin.contains (places b) p || fin.contains (places c) p) (fin.items (places a)) ≡ true
-covered_all a b c f =
-    all_members (λ p. fin.contains (places b) p || fin.contains (places c) p) (places a)
-    (λ q h. let lt = in_range a q h in (λ i. at_place b q lt i || at_place c q lt i) ∙ f q lt (sym (at_place a q lt) ∙ h))
+-- a bit of the word from the bound on
+pub bit_beyond : (bits bound i : ℕ) → bit_at (bits / 2 ^ bound) i ≡ bit_at bits (bound + i)
+bit_beyond bits bound i = ap (λ n. n % 2) (shr-shr bits bound i)
 
-pub uncovered : (a b c : List Bool) (k : ℕ) → k < NODES → slice_index_or a k false ≡ true → slice_index_or b k false ≡ false → slice_index_or c k false ≡ false
-    → list_all (λ p. fin.contains (places b) p || fin.contains (places c) p) (fin.items (places a)) ≡ false
-uncovered a b c k lt h i j =
-    not_all_members (λ p. fin.contains (places b) p || fin.contains (places c) p) (places a) k (at_place a k lt ∙ h)
-    (ap (λ v. v || fin.contains (places c) k) (at_place b k lt ∙ i) ∙ (at_place c k lt ∙ j))
+-- no bit at the bound or above is 1
+pub below_is : (bits bound : ℕ) → bits < 2 ^ 16 → nat_eq (bits / 2 ^ bound) 0 ≡ list_all (λ p. nat_lt p bound) (fin.items (of_bits bits))
+below_is bits bound fits =
+    let p : ℕ → Bool = λ p. nat_lt p bound in
+    elim (list_all p (fin.items (of_bits bits))) as (λ v. list_all p (fin.items (of_bits bits)) ≡ v → nat_eq (bits / 2 ^ bound) 0 ≡ v) [
+      | true ↦ λ all. eq-eqb (bits / 2 ^ bound) 0 (same_from_bits _ _ (λ i. bit_beyond bits bound i ∙ (none_beyond all i ∙ sym (bit_at-zero i))))
+      | false ↦ λ some. elim (nat_eq (bits / 2 ^ bound) 0) as (λ v. nat_eq (bits / 2 ^ bound) 0 ≡ v → v ≡ false) [
+        | true ↦ λ e. sym (all_members p (of_bits bits) (λ q h. in_front (eqb-true _ 0 e) q (sym (at_bit bits q fits) ∙ h))) ∙ some
+        | false ↦ λ _. refl
+      ] refl
+    ] refl
+  where
+    none_beyond : list_all (λ p. nat_lt p bound) (fin.items (of_bits bits)) ≡ true → (i : ℕ) → bit_at bits (bound + i) ≡ 0
+    none_beyond all i = let d = bit_at-lt bits (bound + i) in
+        elim (nat_eq (bit_at bits (bound + i)) 1) as (λ v. nat_eq (bit_at bits (bound + i)) 1 ≡ v → bit_at bits (bound + i) ≡ 0) [
+          | true ↦ λ e. let lt = ltb-true (bound + i) bound (from_all (λ p. nat_lt p bound) _ (bound + i) all (sym (fin.contains-items (of_bits bits) (bound + i)) ∙ (at_bit bits (bound + i) fits ∙ e))) in absurd (omega arith)
+          | false ↦ λ e. zero_bit (bit_at bits (bound + i)) d e
+        ] refl
 
--- the place k is not of the table, or below the bound
-abbrev pub IsBelow : List Bool → ℕ → ℕ → Type 0
-IsBelow a n k = slice_index_or a k false ≡ true → k < n
+    in_front : bits / 2 ^ bound ≡ 0 → (q : ℕ) → nat_eq (bit_at bits q) 1 ≡ true → nat_lt q bound ≡ true
+    in_front none q one =
+        elim (cases_lt q bound) [
+          | inl lt ↦ lt-ltb q bound lt
+          | inr le ↦
+              let at : bound + (q - bound) ≡ q = omega arith in
+              let gone : bit_at bits q ≡ 0 = ap (bit_at bits) (sym at) ∙ (sym (bit_beyond bits bound (q - bound)) ∙ (ap (λ n. bit_at n (q - bound)) none ∙ bit_at-zero (q - bound))) in
+              let here = eqb-true (bit_at bits q) 1 one in
+              absurd (omega arith)
+        ]
 
-pub below_all : (a : List Bool) (n : ℕ) → ((k : ℕ) → k < NODES → IsBelow a n k) → list_all (λ p. nat_lt p n) (fin.items (places a)) ≡ true
-below_all a n f =
-    all_members (λ p. nat_lt p n) (places a)
-    (λ q h. let lt = in_range a q h in let b : q < n = f q lt (sym (at_place a q lt) ∙ h) in grind (arith, nat_tests))
-
-pub not_below : (a : List Bool) (n k : ℕ) → k < NODES → slice_index_or a k false ≡ true → n ≤ k → list_all (λ p. nat_lt p n) (fin.items (places a)) ≡ false
-not_below a n k lt h le = not_all_members (λ p. nat_lt p n) (places a) k (at_place a k lt ∙ h) (grind (arith, nat_tests))
+-- the bound is above all nodes
+pub all_below : (bits bound : ℕ) → NODES ≤ bound → list_all (λ p. nat_lt p bound) (fin.items (of_bits bits)) ≡ true
+all_below bits bound le = all_members (λ p. nat_lt p bound) (of_bits bits) (λ q h. let lt = in_range bits q h in lt-ltb q bound (omega arith))
 
 or_same : (b : Bool) → (b || b) ≡ b
 or_same true = refl

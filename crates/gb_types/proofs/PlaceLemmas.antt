@@ -1,12 +1,16 @@
+-- The set that a word stands for.
 use Rattle.gb_types.specs.declared.limits.TheConstants.{NODES}
-use Rattle.std.proofs.Common.{◌≡◌, ℕ, ◌<◌, Bool, true, false, List, slice_index_or, nat_eq, nat_lt, length, set, get_or, ◌||◌, ◌&&◌, refl, ap, sym, ◌∙◌, arith, replicate, zero, suc, get_or-set_other, get_or-set_same, ◌≢◌}
+use Rattle.std.proofs.Common.{◌≡◌, ℕ, zero, suc, ◌<◌, ◌^◌, ◌*◌, ◌%◌, Bool, true, false, nat_eq, nat_lt, bit_or, ◌||◌, ◌&&◌, refl, ap, sym, ◌∙◌, arith, inl, inr, w16, ◌≢◌}
+use Rattle.std.specs.Int.{bit_at}
 use Rattle.std.specs.Ordering.{nat_cmp, eq_by_cmp}
 use Rattle.std.specs.List.{list_any}
 use Rattle.std.specs.FinSet as fin
 use Rattle.std.specs.FinSet.{nat_cmp-IsAntisymmetric}
 use Rattle.std.specs.Cmp.{nat_cmp_total, unsigned_tied}
+use Rattle.std.proofs.lemmas.Bool.{cases_lt}
 use Rattle.std.proofs.lemmas.Bool.Decides.{nat_tests}
-use Rattle.gb_types.specs.Places.{places, below}
+use Rattle.std.proofs.lemmas.Nat.Bits.{bit_at-zero, bit_at_above, bit_at_set_same, bit_at_set_other}
+use Rattle.gb_types.specs.Places.{of_bits, below}
 
 pub any-below : (n q : ℕ) → list_any (λ y. nat_eq y q) (below n) ≡ nat_lt q n
 any-below zero q = grind (arith, nat_tests)
@@ -17,32 +21,42 @@ kept n p q =
     fin.contains-retain _ p q (λ x e. ap p (sym (nat_cmp-IsAntisymmetric q x e)))
     ∙ ap (λ b. b && p q) (fin.contains-from_list_nat (below n) q ∙ any-below n q)
 
-pub contains-places : (has : List Bool) (q : ℕ) → fin.contains (places has) q ≡ (nat_lt q NODES && slice_index_or has q false)
-unfolding places
-contains-places has q = kept NODES (λ i. slice_index_or has i false) q
+pub contains-of_bits : (bits q : ℕ) → fin.contains (of_bits bits) q ≡ (nat_lt q NODES && nat_eq (bit_at bits q) 1)
+unfolding of_bits
+contains-of_bits bits q = kept NODES (λ i. nat_eq (bit_at bits i) 1) q
 
-all_false : (n q : ℕ) → get_or (replicate n false) q false ≡ false
-all_false zero q = refl
-all_false (suc n) zero = refl
-all_false (suc n) (suc q) = all_false n q
+pub in_range : (bits q : ℕ) → fin.contains (of_bits bits) q ≡ true → q < NODES
+in_range bits q h = let e : (nat_lt q NODES && nat_eq (bit_at bits q) 1) ≡ true = sym (contains-of_bits bits q) ∙ h in grind (arith, nat_tests, e)
 
-and-false : (b : Bool) → (b && false) ≡ false
-and-false true = refl
-and-false false = refl
+-- a word of 16 bits has none above those of the nodes
+pub at_bit : (bits q : ℕ) → bits < 2 ^ 16 → fin.contains (of_bits bits) q ≡ nat_eq (bit_at bits q) 1
+at_bit bits q fits =
+    contains-of_bits bits q
+    ∙ elim (cases_lt q NODES) [
+      | inl lt ↦ let within : nat_lt q NODES ≡ true = grind (arith, nat_tests) in ap (λ b. b && nat_eq (bit_at bits q) 1) within
+      | inr le ↦
+          let beyond : nat_lt q NODES ≡ false = grind (arith, nat_tests) in
+          ap (λ b. b && nat_eq (bit_at bits q) 1) beyond ∙ ap (λ d. nat_eq d 1) (sym (bit_at_above bits 16 q fits le))
+    ]
 
-pub places-none : places (replicate NODES false) ≡ fin.empty
-places-none =
+-- a bit that is not 1
+pub zero_bit : (d : ℕ) → d < 2 → nat_eq d 1 ≡ false → d ≡ 0
+zero_bit d small out = grind (arith, nat_tests)
+
+pub of_bits-none : of_bits 0 ≡ fin.empty
+of_bits-none =
     fin.same_set nat_cmp_total nat_cmp-IsAntisymmetric _ _
-    (λ q. contains-places (replicate NODES false) q ∙ (ap (λ b. nat_lt q NODES && b) (all_false NODES q) ∙ (and-false _ ∙ sym (fin.contains-empty nat_cmp q))))
+    (λ q. at_bit 0 q (omega arith) ∙ (ap (λ d. nat_eq d 1) (bit_at-zero q) ∙ sym (fin.contains-empty nat_cmp q)))
 
-after_set : (has : List Bool) (k q : ℕ) → k < NODES → length has ≡ NODES → (nat_lt q NODES && get_or (set has k true) q false) ≡ (nat_eq q k || (nat_lt q NODES && get_or has q false))
-after_set has k q in_range len =
-    elim (nat_eq q k) as (λ b. nat_eq q k ≡ b → (nat_lt q NODES && get_or (set has k true) q false) ≡ (b || (nat_lt q NODES && get_or has q false))) [
-      | true ↦ λ e. let h : q ≡ k = grind (arith, nat_tests) in let lt : k < length has = omega arith in rw h (rw get_or-set_same (grind (arith, nat_tests)))
-      | false ↦ λ e. let h : q ≢ k = grind (arith, nat_tests) in rw get_or-set_other refl
+after_set : (bits k q : ℕ) → k < NODES → (nat_lt q NODES && nat_eq (bit_at (bit_or bits (1 * 2 ^ k % 2 ^ 16)) q) 1) ≡ (nat_eq q k || (nat_lt q NODES && nat_eq (bit_at bits q) 1))
+after_set bits k q lt =
+    elim (nat_eq q k) as (λ b. nat_eq q k ≡ b → (nat_lt q NODES && nat_eq (bit_at (bit_or bits (1 * 2 ^ k % 2 ^ 16)) q) 1) ≡ (b || (nat_lt q NODES && nat_eq (bit_at bits q) 1))) [
+      | true ↦ λ e. let h : q ≡ k = grind (arith, nat_tests) in let within : nat_lt k NODES ≡ true = grind (arith, nat_tests) in
+          rw h (λ i. within i && nat_eq (bit_at_set_same w16 bits k lt i) 1)
+      | false ↦ λ e. let h : q ≢ k = grind (arith, nat_tests) in ap (λ d. nat_lt q NODES && nat_eq d 1) (bit_at_set_other w16 bits k lt q h)
     ] refl
 
-pub places-set : (has : List Bool) (k : ℕ) → k < NODES → length has ≡ NODES → places (set has k true) ≡ fin.insert (places has) k
-places-set has k in_range len =
+pub of_bits-set : (bits k : ℕ) → k < NODES → of_bits (bit_or bits (1 * 2 ^ k % 2 ^ 16)) ≡ fin.insert (of_bits bits) k
+of_bits-set bits k lt =
     fin.same_set nat_cmp_total nat_cmp-IsAntisymmetric _ _
-    (λ q. contains-places _ q ∙ (after_set has k q in_range len ∙ (ap (λ b. b || (nat_lt q NODES && get_or has q false)) (sym (unsigned_tied q k)) ∙ (ap (λ b. eq_by_cmp nat_cmp q k || b) (sym (contains-places has q)) ∙ sym (fin.contains-insert nat_cmp_total _ k q)))))
+    (λ q. contains-of_bits _ q ∙ (after_set bits k q lt ∙ (ap (λ b. b || (nat_lt q NODES && nat_eq (bit_at bits q) 1)) (sym (unsigned_tied q k)) ∙ (ap (λ b. eq_by_cmp nat_cmp q k || b) (sym (contains-of_bits bits q)) ∙ sym (fin.contains-insert nat_cmp_total _ k q)))))

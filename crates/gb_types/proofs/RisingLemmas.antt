@@ -97,6 +97,15 @@ pub rising_from-start : (s : fin.FinSet nat_cmp) → rising_from s 0 ≡ rising 
 unfolding rising_from rising
 rising_from-start s = refl
 
+-- Numbers that are not in the set are left out.
+pub rising_from-skip : (s : fin.FinSet nat_cmp) (low k : ℕ) → low + k ≤ NODES → ((q : ℕ) → low ≤ q → q < low + k → fin.contains s q ≡ false) → rising_from s low ≡ rising_from s (low + k)
+rising_from-skip s low zero le out = let same : low ≡ low + 0 = omega arith in ap (rising_from s) same
+rising_from-skip s low (suc k) le out =
+    let top : low + 1 + k ≡ low + suc k = omega arith in
+    rising_from-step s low (omega arith)
+    ∙ (ap (λ b. cond b (low ∷ rising_from s (low + 1)) (rising_from s (low + 1))) (out low (omega arith) (omega arith))
+    ∙ (rising_from-skip s (low + 1) k (omega arith) (λ q from to. out q (omega arith) (omega arith)) ∙ ap (rising_from s) top))
+
 -- ---- which numbers are listed
 
 not_below : (p : ℕ → Bool) (low k q : ℕ) → q < low → list_any (λ n. nat_eq n q) (passing p low k) ≡ false

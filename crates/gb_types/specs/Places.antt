@@ -1,5 +1,6 @@
--- Tables over the nodes, and the sets that they stand for.
-use Rattle.std.specs.Prelude.{ℕ, ◌&&◌, count_by, Bool, false, List, [], ◌∷◌, slice_index_or}
+-- Words with a bit for each node, and the sets that they stand for.
+use Rattle.std.specs.Prelude.{ℕ, ◌&&◌, count_by, nat_eq, List, [], ◌∷◌}
+use Rattle.std.specs.Int.{bit_at}
 use Rattle.std.specs.Ordering.{nat_cmp}
 use Rattle.std.specs.FinSet as set
 use Rattle.gb_types.specs.declared.limits.TheConstants.{NODES}
@@ -10,9 +11,9 @@ abbrev pub below : ℕ → List ℕ
 below zero = []
 below (suc n) = n ∷ below n
 
--- the nodes whose places in the table say true
-unfoldable pub places : List Bool → set.FinSet nat_cmp
-places has = set.retain (set.from_list (below NODES)) (λ i. slice_index_or has i false)
+-- the nodes whose bits in the word are 1
+unfoldable pub of_bits : ℕ → set.FinSet nat_cmp
+of_bits bits = set.retain (set.from_list (below NODES)) (λ i. nat_eq (bit_at bits i) 1)
 
 -- how many nodes are in both sets
 abbrev pub common : set.FinSet nat_cmp → set.FinSet nat_cmp → ℕ

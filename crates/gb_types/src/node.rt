@@ -1,8 +1,8 @@
 //! Nodes, and sets of them.
-ghost use Rattle.std.specs.Prelude.{◌≡◌, ℕ, ◌<◌, ◌≤◌, ◌↔◌, ◌||◌, ◌&&◌, [], ◌∷◌, ◌+◌, nat_lt, count_by, IsNone, IfSome, MatchOption, IsTrue};
+ghost use Rattle.std.specs.Prelude.{◌≡◌, ◌<◌, ◌≤◌, ◌↔◌, ◌||◌, ◌&&◌, [], ◌∷◌, ◌+◌, nat_lt, count_by, IsNone, IfSome, MatchOption, IsTrue};
 ghost use Rattle.std.specs.List.{list_all};
 ghost use Rattle.std.specs.FinSet as set;
-ghost use Rattle.gb_types.specs.Places.{places, below, common};
+ghost use Rattle.gb_types.specs.Places.{of_bits, below, common};
 ghost use Rattle.gb_types.specs.Rising.{rising, rising_from, AreNodes};
 ghost use Rattle.gb_types.specs.declared.limits.TheConstants.{NODES};
 
@@ -50,57 +50,45 @@ impl NodeId {
 /// A set of nodes. Contracts see a finite set of their numbers.
 #[derive(Debug, Drop)]
 pub struct NodeSet {
-    has: [bool; NODES],
+    /// The bit with a node's number is 1 where the node is in the set.
+    bits: u16,
 }
 
 impl Model for NodeSet {
     ghost use Rattle.std.specs.Ordering.{nat_cmp};
     ghost use Rattle.std.specs.FinSet as set;
     ghost use Rattle.std.specs.Coded.{coded_ℕ};
-    ghost use Rattle.gb_types.specs.Places.{places};
+    ghost use Rattle.gb_types.specs.Places.{of_bits};
 
     ghost Value = { set.FinSet nat_cmp };
 
     ghost coded = { set.code coded_ℕ };
 
-    ghost view = { λ a. places a.has };
+    ghost view = { λ a. of_bits a.bits };
 }
 
-/// Whether each place of the first table that says true says so in one of the others.
-fn is_within(has: &[bool; NODES], first: &[bool; NODES], second: &[bool; NODES]) -> bool
-    ensures { result ≡ list_all (λ p. set.contains (places first.now) p || set.contains (places second.now) p) (set.items (places has.now)) }
+/// Whether each node of the first word is in one of the others.
+fn is_within(bits: u16, first: u16, second: u16) -> bool
+    ensures { result ≡ list_all (λ p. set.contains (of_bits first) p || set.contains (of_bits second) p) (set.items (of_bits bits)) }
 {
-    for i in 0..NODES {
-        if has[i] && !first[i] && !second[i] {
-            return false;
-        }
-    }
-    true
+    bits & (first | second) == bits
 }
 
-/// Whether only places below the bound say true.
-fn is_all_below(has: &[bool; NODES], bound: usize) -> bool
-    ensures { result ≡ list_all (λ p. nat_lt p bound) (set.items (places has.now)) }
+/// Whether all nodes of the word have numbers below the bound.
+fn is_all_below(bits: u16, bound: usize) -> bool
+    ensures { result ≡ list_all (λ p. nat_lt p bound) (set.items (of_bits bits)) }
 {
-    for i in 0..NODES {
-        if has[i] && i >= bound {
-            return false;
-        }
+    if bound >= NODES {
+        return true;
     }
-    true
+    bits >> bound == 0
 }
 
-/// How many places say true in both tables.
-fn count_both(has: &[bool; NODES], other: &[bool; NODES]) -> usize
-    ensures { result ≡ count_by (λ p. set.contains (places has.now) p && set.contains (places other.now) p) (below NODES) }
+/// How many nodes are in both words.
+fn count_both(bits: u16, other: u16) -> usize
+    ensures { result ≡ count_by (λ p. set.contains (of_bits bits) p && set.contains (of_bits other) p) (below NODES) }
 {
-    let mut count: usize = 0;
-    for i in 0..NODES {
-        if has[i] && other[i] {
-            count += 1;
-        }
-    }
-    count
+    (bits & other).count_ones() as usize
 }
 
 impl NodeSet {
@@ -108,37 +96,35 @@ impl NodeSet {
     pub fn new() -> NodeSet
         ensures { result ≡ set.empty }
     {
-        NodeSet {
-            has: [false; NODES],
-        }
+        NodeSet { bits: 0 }
     }
 
     /// The same set.
     pub fn duplicate(&self) -> NodeSet
         ensures { result ≡ self.now }
     {
-        NodeSet { has: self.has }
+        NodeSet { bits: self.bits }
     }
 
     /// Whether the node is in the set.
     pub fn contains(&self, node: NodeId) -> bool
         ensures { result ≡ set.contains self.now node.number }
     {
-        self.has[node.number as usize]
+        (self.bits >> node.index()) & 1 == 1
     }
 
     /// Whether there are none.
     pub fn is_empty(&self) -> bool
         ensures { IsTrue result ↔ (self.now ≡ set.empty) }
     {
-        !self.has.contains(&true)
+        self.bits == 0
     }
 
     /// Whether each of these nodes is in the other set.
     pub fn is_subset(&self, other: &NodeSet) -> bool
         ensures { result ≡ set.is_subset self.now other.now }
     {
-        is_within(&self.has, &other.has, &other.has)
+        is_within(self.bits, other.bits, other.bits)
     }
 
     /// The first node of the set that has this number or a greater one.
@@ -146,13 +132,15 @@ impl NodeSet {
         ensures { MatchOption result (rising_from self.now number ≡ [])
             (λ n. rising_from self.now number ≡ n.number ∷ rising_from self.now (n.number + 1)) }
     {
-        for i in number..NODES {
-            let node = NodeId::new(i as u8);
-            if self.contains(node) {
-                return Some(node);
-            }
+        if number >= NODES {
+            return None;
         }
-        None
+        let left = self.bits >> number;
+        if left == 0 {
+            return None;
+        }
+        let first = number + left.trailing_zeros() as usize;
+        Some(NodeId::new(first as u8))
     }
 
     /// The nodes of the set, rising.
@@ -160,8 +148,8 @@ impl NodeSet {
         ensures rising { result ≡ rising self.now }
         ensures whole { AreNodes self.now }
     {
-        // The proof reads what the table has.
-        let _ = &self.has;
+        // The proof reads the word.
+        let _ = &self.bits;
         Nodes::new(self)
     }
 
@@ -169,38 +157,36 @@ impl NodeSet {
     pub fn union(&self, other: &NodeSet) -> NodeSet
         ensures { result ≡ set.union self.now other.now }
     {
-        let mut both = self.duplicate();
-        for node in other.nodes() {
-            both.insert(node);
+        NodeSet {
+            bits: self.bits | other.bits,
         }
-        both
     }
 
     /// Whether each of these nodes is in one of the two sets.
     pub fn is_covered(&self, first: &NodeSet, second: &NodeSet) -> bool
         ensures { result ≡ list_all (λ p. set.contains first.now p || set.contains second.now p) (set.items self.now) }
     {
-        is_within(&self.has, &first.has, &second.has)
+        is_within(self.bits, first.bits, second.bits)
     }
 
     /// Whether each of these nodes has a number below the bound.
     pub fn is_below(&self, bound: usize) -> bool
         ensures { result ≡ list_all (λ p. nat_lt p bound) (set.items self.now) }
     {
-        is_all_below(&self.has, bound)
+        is_all_below(self.bits, bound)
     }
 
     /// How many nodes are in both sets.
     pub fn count_in(&self, other: &NodeSet) -> usize
         ensures { result ≡ common self.now other.now }
     {
-        count_both(&self.has, &other.has)
+        count_both(self.bits, other.bits)
     }
 
     /// Puts the node in.
     pub fn insert(&mut self, node: NodeId)
         ensures { self.new ≡ set.insert self.old node.number }
     {
-        self.has[node.number as usize] = true;
+        self.bits |= 1 << node.index();
     }
 }

@@ -1,11 +1,9 @@
-use Rattle.std.proofs.Common.{sym, arith}
-use Rattle.gb_types.proofs.CoverLemmas.{below_all, not_below}
+use Rattle.std.proofs.Common.{sym}
+use Rattle.gb_types.proofs.CoverLemmas.{below_is, all_below}
 use Rattle.gb_types.proofs.node.is_all_below.Goals as goal
 
-pub returns : goal.returns
-returns c = sym (below_all c.args.has.now c.args.bound (λ k lt. c.loop-i.invariant k (omega arith)))
+pub returns-then-bound-ge-NODES : goal.returns-then-bound-ge-NODES
+returns-then-bound-ge-NODES c = sym (all_below c.args.bits c.args.bound c.if-bound-ge-NODES.true)
 
-pub returns-then-i-bound : goal.returns-then-i-bound
-returns-then-i-bound c =
-    let end = c.loop-i-test.true in
-    sym (not_below c.args.has.now c.args.bound c.loop-i.i (omega (arith, end)) c.if-has-i.true c.if-i-bound.true)
+pub returns : goal.returns
+returns c = below_is c.args.bits c.args.bound c.ranges.bits.fits

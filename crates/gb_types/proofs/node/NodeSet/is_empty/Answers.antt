@@ -1,5 +1,6 @@
+use Rattle.std.proofs.Common.{arith}
 use Rattle.gb_types.proofs.EmptyLemmas.{is_empty}
 use Rattle.gb_types.proofs.node.NodeSet.is_empty.Goals as goal
 
 pub returns : goal.returns
-returns c = rw (← c.self.view_is) (is_empty c.self.inside.has c.contains.result c.self.told c.contains.ensures.cases)
+returns c = rw (← c.self.view_is) (is_empty c.self.inside.bits (omega arith))
