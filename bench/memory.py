@@ -10,15 +10,15 @@ import sys
 
 # The bytes for each of the n * m messages: a place in the store, a number in the log, one in what is put out, and one
 # and a pair with its sender in what a call of the broadcast gives.
-MESSAGE = 40 + 4 + 4 + 4 + 6
+MESSAGE = 24 + 4 + 4 + 4 + 6
 # What a relay adds: an entry, and a pair that came up below it.
-RELAY = 22 + 6
+RELAY = 8 + 6
 # What first-in first-out order adds: an entry, and a pair that came up below it.
 FIFO = 6 + 6
-# A table has a place of 2 bytes for each of the 16 nodes' m numbers.
-TABLE = 16 * 2
+# A table has a place of 2 bytes for each of m numbers of each node up to the last member.
+TABLE = 2
 # The set of the nodes that have an own message for good.
-ACKNOWLEDGED = 16
+ACKNOWLEDGED = 2
 
 
 def reserved(kind, members, msgs, size):
@@ -27,7 +27,7 @@ def reserved(kind, members, msgs, size):
     is_relay = kind.removeprefix('f') != 'beb'
     message = MESSAGE + RELAY * is_relay + FIFO * is_fifo
     tables = 1 + is_relay + is_fifo
-    return members * msgs * message + members * size + msgs * ACKNOWLEDGED, tables * TABLE * msgs
+    return members * msgs * message + members * size + msgs * ACKNOWLEDGED, tables * TABLE * members * msgs
 
 
 def data_bytes(process):

@@ -163,7 +163,7 @@ impl<L: Broadcast> Layer for Fifo<L> {
         let messages = count.checked_mul(usize::from(msgs)).ok_or(OutOfMemory)?;
         let once = messages.checked_add(calls).ok_or(OutOfMemory)?;
         self.entries.list.reserve(once)?;
-        self.entries.cover(msgs)?;
+        self.entries.cover(members, msgs)?;
         out.ups.reserve(once)?;
         self.whole_below(members, msgs, calls, out)
     }

@@ -15,7 +15,7 @@ use gb_layer::table::Table;
 use gb_types::limits::NODES;
 use gb_types::memory::OutOfMemory;
 use gb_types::message::MsgId;
-use gb_types::node::NodeId;
+use gb_types::node::{NodeId, NodeSet};
 use std::alloc::Global;
 
 /// The entries in the order of first mention, with a table that leads to them.
@@ -104,12 +104,12 @@ impl Ledger {
         }
     }
 
-    /// Has the table cover messages numbered from 1 to this width, where there are no entries yet.
-    pub fn cover(&mut self, width: u16) -> Result<(), OutOfMemory>
+    /// Has the table cover the members' messages numbered from 1 to this width, where there are no entries yet.
+    pub fn cover(&mut self, members: &NodeSet, width: u16) -> Result<(), OutOfMemory>
         requires { self.old.list.items ≡ [] }
         ensures { self.new.list ≡ self.old.list }
     {
-        self.table.cover(width)
+        self.table.cover(members, width)
     }
 
     /// Where an entry of m may stand.

@@ -33,13 +33,13 @@ impl Ledger {
         }
     }
 
-    /// Has the table cover messages numbered from 1 to this width, where there are no entries yet.
-    pub fn cover(&mut self, width: u16) -> Result<(), OutOfMemory>
+    /// Has the table cover the members' messages numbered from 1 to this width, where there are no entries yet.
+    pub fn cover(&mut self, members: &NodeSet, width: u16) -> Result<(), OutOfMemory>
         requires { self.old.list.items ≡ [] }
         ensures list { self.new.list ≡ self.old.list }
         ensures width { OnOk result (self.new.table.width ≡ width) }
     {
-        self.table.cover(width)
+        self.table.cover(members, width)
     }
 
     /// The place that the table means by v, if there is one.

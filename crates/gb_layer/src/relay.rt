@@ -434,7 +434,7 @@ impl<L: Layer, R: Rule> Layer for Relay<L, R> {
         let twice = calls.checked_add(calls).ok_or(OutOfMemory)?;
         let below = twice.checked_add(messages).ok_or(OutOfMemory)?;
         self.entries.list.reserve(once)?;
-        self.entries.cover(msgs)?;
+        self.entries.cover(members, msgs)?;
         out.ups.reserve(once)?;
         self.whole_below(members, msgs, calls, below, out)
     }

@@ -4,6 +4,7 @@ ghost use Rattle.std.specs.List.{list_any};
 ghost use Rattle.std.specs.declared.option.Option.TheVariants.{None};
 ghost use Rattle.gb_types.specs.declared.message.MsgId.{MsgId};
 ghost use Rattle.gb_types.specs.Message.{same};
+ghost use Rattle.gb_types.specs.declared.limits.TheConstants.{NODES};
 ghost use Rattle.gb_layer.specs.Places.{StandsAmong};
 ghost use Rattle.gb_layer.specs.Table.{told, covers, spot, leads, IsNowhere, IsThere};
 
@@ -11,9 +12,10 @@ use crate::places::Places;
 use gb_types::limits::NODES;
 use gb_types::memory::OutOfMemory;
 use gb_types::message::MsgId;
+use gb_types::node::{NodeId, NodeSet};
 use std::alloc::Global;
 
-/// Where each message of a list stands, by origin and number, of the messages numbered from 1 to a width.
+/// Where each message of a list stands, by origin and number: of the members' messages numbered from 1 to a width.
 #[derive(Drop)]
 pub struct Table {
     /// 0, or one more than the place.
@@ -35,6 +37,19 @@ pub fn place(count: usize, v: usize) -> Option<usize>
     Some(v - 1)
 }
 
+/// One more than the greatest number of the nodes, 0 where there are none.
+fn span(nodes: &NodeSet) -> usize
+    ensures { result ≤ NODES }
+{
+    for above in 0..NODES {
+        let number = NODES - 1 - above;
+        if nodes.contains(NodeId::new(number as u8)) {
+            return number + 1;
+        }
+    }
+    0
+}
+
 impl Table {
     /// A table that covers no message.
     pub fn new(alloc: Global) -> Table
@@ -47,11 +62,12 @@ impl Table {
         }
     }
 
-    /// Has the table cover messages numbered from 1 to this width, where there are none yet.
-    pub fn cover(&mut self, width: u16) -> Result<(), OutOfMemory>
+    /// Has the table cover the members' messages numbered from 1 to this width, where there are none yet. It takes two
+    /// bytes for each number of each node up to the last member.
+    pub fn cover(&mut self, members: &NodeSet, width: u16) -> Result<(), OutOfMemory>
         ensures { OnOk result (self.new.width ≡ width) }
     {
-        let places = NODES * usize::from(width);
+        let places = span(members) * usize::from(width);
         self.told.resize(places, 0)?;
         self.width = width;
         Ok(())

@@ -2,7 +2,7 @@
 use gb_layer::table::Table;
 use gb_types::memory::OutOfMemory;
 use gb_types::message::MsgId;
-use gb_types::node::NodeId;
+use gb_types::node::{NodeId, NodeSet};
 use std::alloc::Global;
 use std::rt::HostRuntime;
 use std::test::Fail;
@@ -22,7 +22,9 @@ const OTHER: MsgId = MsgId {
 /// What a table says of the first message, and of another that comes after so many.
 fn said_after(alloc: Global, count: usize) -> Result<(Option<usize>, Option<usize>), OutOfMemory> {
     let mut table = Table::new(alloc);
-    table.cover(2)?;
+    let mut members = NodeSet::new();
+    members.insert(ORIGIN);
+    table.cover(&members, 2)?;
     table.note(FIRST, 0);
     table.note(OTHER, count);
     Ok((table.told(FIRST), table.told(OTHER)))
