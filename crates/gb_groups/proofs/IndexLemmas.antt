@@ -2,7 +2,7 @@
 use Rattle.std.proofs.Common.{zero, suc, ◌∷◌, ◌++◌, refl, length-append, ◌≡◌, ◌≢◌, ℕ, ◌<◌, ◌+◌, min, List, [], length, get_or, ap, sym, subst, ◌∙◌, arith, inl, inr}
 use Rattle.std.proofs.Math.ListN.{set}
 use Rattle.std.proofs.lemmas.Bool.{cases_eq}
-use Rattle.std.proofs.lemmas.List.{get_or_default, get_or-set_same, get_or-set_other, length-set, map-set, map-append}
+use Rattle.std.proofs.lemmas.List.{get_or_default, get_or-set_same, get_or-set_other, length-set, length-map, map-set, map-append}
 use Rattle.std.proofs.Math.Seq.{map-set_same}
 use Rattle.gb_types.specs.declared.limits.TheConstants.{NODES, PLACES}
 use Rattle.gb_types.specs.declared.entry.Entry.{Entry}
@@ -47,6 +47,29 @@ pub index_quiet : (rows : List Row) (busy : List (List ℕ)) (p : ℕ) (row : Ro
 index_quiet rows busy p row ok same = record {
   size = ok.size;
   each = λ d h. busy_same d (get_or busy d []) rows (set rows p row) (ok.each d h) (length-set rows p row) (map-set_same (queue d) rows p row no_row (same d));
+}
+
+-- as many items wait in a group's place
+as_many : (d : ℕ) (rows : List Row) (p : ℕ) (row : Row) → p < length rows → length (queue d row) ≡ length (queue d (row_at rows p)) → (q : ℕ) → length (get_or (queues d (set rows p row)) q []) ≡ length (get_or (queues d rows) q [])
+as_many d rows p row h same q =
+    let changed : queues d (set rows p row) ≡ set (queues d rows) p (queue d row) = map-set (queue d) rows p row in
+    let there : p < length (queues d rows) = let n = length-map rows (queue d) in omega arith in
+    let old : get_or (queues d rows) p [] ≡ queue d (row_at rows p) = queues_at d rows p (row_at rows p) h (get_or_default rows p no_row (row_at rows p) h) in
+    elim (cases_eq q p) [
+      | inl e ↦
+          ap (λ k. length (get_or (queues d (set rows p row)) k [])) e ∙ ap (λ (qs : List (List Entry)). length (get_or qs p [])) changed ∙ ap (λ (x : List Entry). length x) (get_or-set_same (queues d rows) p (queue d row) [] there)
+          ∙ same ∙ sym (ap (λ (x : List Entry). length x) old) ∙ sym (ap (λ k. length (get_or (queues d rows) k [])) e)
+      | inr ne ↦ ap (λ (qs : List (List Entry)). length (get_or qs q [])) changed ∙ ap (λ (x : List Entry). length x) (get_or-set_other (queues d rows) p q (queue d row) [] ne)
+    ]
+
+-- a group changes, and as many items wait in it for each node
+pub index_as_many : (rows : List Row) (busy : List (List ℕ)) (p : ℕ) (row : Row) → p < length rows → IsIndex rows busy → ((d : ℕ) → length (queue d row) ≡ length (queue d (row_at rows p))) → IsIndex (set rows p row) busy
+index_as_many rows busy p row h ok same = record {
+  size = ok.size;
+  each = λ d l. record {
+    few = let n = length-set rows p row in let f = (ok.each d l).few in omega arith;
+    each = λ q. (ok.each d l).each q ∙ sym (ap (min 1) (as_many d rows p row h (same d) q));
+  };
 }
 
 pub places_quiet : (rows : List Row) (cursors : List ℕ) (p : ℕ) (row : Row) → ArePlaces rows cursors → ArePlaces (set rows p row) cursors

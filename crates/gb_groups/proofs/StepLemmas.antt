@@ -1,8 +1,8 @@
 -- What steps leave of the counters of a slot, and of the payloads that it knows.
-use Rattle.std.proofs.Common.{◌≡◌, ℕ, zero, suc, ◌≤◌, ◌+◌, map, drop, subst, List, [], ◌∷◌, ◌++◌, length, true, false, refl, ap, ◌∙◌, arith, inl, inr}
+use Rattle.std.proofs.Common.{◌≡◌, ℕ, zero, suc, ◌≤◌, ◌+◌, map, drop, subst, List, [], ◌∷◌, ◌++◌, length, true, false, refl, ap, sym, ◌∙◌, arith, inl, inr}
 use Rattle.std.proofs.lemmas.Bool.{cases_lt, lt-ltb}
 use Rattle.std.specs.FinSet as nodes
-use Rattle.std.specs.Prelude.{if◌then◌else◌, ◌&&◌, not, nat_lt, nat_le, Some, None, slice_get}
+use Rattle.std.specs.Prelude.{if◌then◌else◌, ◌&&◌, not, nat_lt, nat_le, Some, None, option_map, slice_get}
 use Rattle.gb_types.specs.Entry.{message_of}
 use Rattle.gb_types.specs.declared.entry.Entry.{Entry}
 use Rattle.gb_types.specs.Message.{same}
@@ -21,7 +21,8 @@ use Rattle.gb_rules.specs.declared.phase.Phase.TheVariants.{Made, Opened, Shut, 
 use Rattle.gb_rules.specs.declared.usage.Usage.{Usage}
 use Rattle.gb_slot.specs.Slot.{falls, own_entry, usage_of, shown, waiting, taken_for, slot_called, slot_moved, slot_said, slot_came, slot_noticed, slot_done, slot_took}
 use Rattle.gb_slot.specs.SlotState.{SlotState}
-use Rattle.gb_groups.specs.SlotsValue.{IsShort}
+use Rattle.gb_groups.specs.Packing.{queue, queue_of}
+use Rattle.gb_groups.specs.SlotsValue.{Row, IsShort, on_slot}
 
 pub taken-moved : (phase : Phase) (reply : Reply) (s : SlotState) → (slot_moved phase reply s).taken ≡ s.taken
 taken-moved phase Done s = refl
@@ -115,3 +116,8 @@ waiting_fits s d nth e h =
       | true ↦ λ f. known_fits s.store (drop (taken_for s d) s.outgoing) nth e h f
       | false ↦ λ f. let none : None ≡ Some e = f in absurd (cc)
     ]
+
+-- as many items wait in a group as in its slot before
+pub many-came : (from : NodeId) (x : Entry) (row : Row) (s t : SlotState) (d : ℕ) → row.slot ≡ Some s → t ≡ slot_came from x s → length (waiting t d) ≡ length (waiting s d) → length (queue d (on_slot (slot_came from x) row)) ≡ length (queue d row)
+many-came from x row s t d is new same =
+    ap (λ o. length (queue_of d (option_map (slot_came from x) o))) is ∙ sym (ap (λ (v : SlotState). length (waiting v d)) new) ∙ same ∙ sym (ap (λ o. length (queue_of d o)) is)

@@ -153,7 +153,9 @@ impl Groups {
             group: item.group,
         };
         if let Some(place) = self.slots.find(addr) {
-            self.slots.came(place, from, origin, item.seq, item.payload);
+            if !self.slots.came(place, from, origin, item.seq, item.payload) {
+                return;
+            }
             refresh(&mut self.busy, &self.slots, place);
         }
     }

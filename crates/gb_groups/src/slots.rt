@@ -1,5 +1,5 @@
 //! The slots of a node's groups, in the order in which they were made.
-ghost use Rattle.std.specs.Prelude.{◌≡◌, ◌≢◌, ◌<◌, ◌≤◌, ◌+◌, ◌&&◌, [], ℕ, List, Option, Some, None, length, slice_get, slice_index_or, slice_set, position, ◌++◌, ◌∷◌, OnOk, OnErr, true, IfSome, MatchOption, option_map};
+ghost use Rattle.std.specs.Prelude.{◌≡◌, ◌≢◌, ◌<◌, ◌≤◌, ◌+◌, ◌&&◌, [], ℕ, List, Option, Some, None, length, slice_get, slice_index_or, slice_set, position, ◌++◌, ◌∷◌, OnOk, OnErr, true, false, IfSome, MatchOption, option_map};
 ghost use Rattle.gb_types.specs.declared.limits.TheConstants.{PAYLOAD};
 ghost use Rattle.gb_rules.specs.Address.{is_addr};
 ghost use Rattle.gb_rules.specs.Group.{is_member, open_answer, shut_answer, drop_answer, say_answer, fetch_answer};
@@ -166,16 +166,26 @@ impl Slots {
         }
     }
 
-    /// Takes an item that came from a node into the group at a place.
-    pub fn came(&mut self, place: usize, from: NodeId, origin: NodeId, seq: u16, payload: &[u8])
+    /// Takes an item that came from a node into the group at a place. Says whether more may wait for a node then; where
+    /// not, as many items wait for each node as before.
+    pub fn came(
+        &mut self,
+        place: usize,
+        from: NodeId,
+        origin: NodeId,
+        seq: u16,
+        payload: &[u8],
+    ) -> bool
         requires { length payload.now ≤ PAYLOAD }
-        ensures { self.new.rows ≡ slice_set self.old.rows place (on_slot (slot_came from (record { origin = origin; seq = seq; payload = payload.now })) (row_at self.old.rows place)) }
+        ensures rows { self.new.rows ≡ slice_set self.old.rows place (on_slot (slot_came from (record { origin = origin; seq = seq; payload = payload.now })) (row_at self.old.rows place)) }
+        ensures quiet { result ≡ false → (dest : ℕ) → length (queue dest (on_slot (slot_came from (record { origin = origin; seq = seq; payload = payload.now })) (row_at self.old.rows place))) ≡ length (queue dest (row_at self.old.rows place)) }
     {
         if let Some(key) = key_at(&self.places, place) {
             if let Some(slot) = self.slots.get_mut(key) {
-                slot.came(from, origin, seq, payload);
+                return slot.came(from, origin, seq, payload);
             }
         }
+        true
     }
 
     /// Takes an acknowledgement of a message of the group at a place from a node.

@@ -1,7 +1,7 @@
 -- Parts of lists.
-use Rattle.std.proofs.Common.{◌≡◌, ℕ, zero, suc, ◌+◌, List, [], ◌∷◌, take, drop, Some, None, refl, sym, ◌∙◌, ap}
-use Rattle.std.specs.Prelude.{map, slice_get}
-use Rattle.std.proofs.lemmas.List.{take-map, drop-map, drop_more}
+use Rattle.std.proofs.Common.{◌≡◌, ℕ, zero, suc, ◌+◌, ◌-◌, Bool, true, false, length, List, [], ◌∷◌, take, drop, Some, None, refl, sym, ◌∙◌, ap}
+use Rattle.std.specs.Prelude.{map, slice_get, if◌then◌else◌}
+use Rattle.std.proofs.lemmas.List.{take-map, drop-map, drop_more, length-map, length-drop}
 use Rattle.std.proofs.lemmas.Option.{slice_get_within, get_or_from_slice_get}
 use Rattle.gb_types.specs.declared.message.MsgId.{MsgId}
 use Rattle.gb_types.specs.declared.entry.Entry.{Entry}
@@ -20,3 +20,8 @@ drop-none [] zero is = refl
 drop-none [] (suc i) is = refl
 drop-none (x ∷ xs) zero is = cc
 drop-none (x ∷ xs) (suc i) is = drop-none xs i is
+
+-- the rest of a list from a place is as long as that of one as long
+pub same_rest : (f g : MsgId → Entry) (b : Bool) (n : ℕ) (ms ns : List MsgId) → length ms ≡ length ns → length (if b then map f (drop n ms) else []) ≡ length (if b then map g (drop n ns) else [])
+same_rest f g true n ms ns same = length-map (drop n ms) f ∙ (length-drop n ms ∙ (ap (λ k. k - n) same ∙ (sym (length-drop n ns) ∙ sym (length-map (drop n ns) g))))
+same_rest f g false n ms ns same = refl

@@ -1,5 +1,5 @@
 //! One group at one node.
-ghost use Rattle.std.specs.Prelude.{◌≡◌, false, ◌≢◌, OnErr, ◌≤◌, ◌<◌, ◌&&◌, not, List, [], ◌∷◌, Some, take, drop, map, slice_get, length, IfOk, MatchOption, true, IsOkUnless};
+ghost use Rattle.std.specs.Prelude.{◌≡◌, ℕ, false, ◌≢◌, OnErr, ◌≤◌, ◌<◌, ◌&&◌, not, List, [], ◌∷◌, Some, take, drop, map, slice_get, length, IfOk, MatchOption, true, IsOkUnless};
 ghost use Rattle.std.specs.FinSet as set;
 ghost use Rattle.gb_types.specs.declared.entry.Entry.{Entry as EntryValue};
 ghost use Rattle.gb_history.specs.Messages.{entry_in};
@@ -81,11 +81,12 @@ impl Slot {
     /// broadcast is put out to the other members.
     ///
     /// All memory that the group ever needs is taken here. With n members, each of whom says `msgs` messages with
-    /// `bytes` payload bytes in all at most, this is n * `bytes` payload bytes; 58 bytes for each of the n * `msgs`
-    /// messages (40 in the store, 4 in the log, 4 in what is put out, 10 in what a call of the broadcast gives), 28 more
-    /// where the broadcast relays, and 12 more in first-in first-out order; 16 bytes for each of `msgs` own messages,
-    /// for the nodes that have it for good; and tables by which messages are found, of 32 * `msgs` bytes each: one, one
-    /// more where the broadcast relays, and one more in first-in first-out order. OutOfMemory where it is not there.
+    /// `bytes` payload bytes in all at most, this is n * `bytes` payload bytes; 42 bytes for each of the n * `msgs`
+    /// messages (24 in the store, 4 in the log, 4 in what is put out, 10 in what a call of the broadcast gives), 14 more
+    /// where the broadcast relays, and 12 more in first-in first-out order; 2 bytes for each of `msgs` own messages,
+    /// for the nodes that have it for good; and tables by which messages are found, of 2 * `msgs` bytes for each node
+    /// up to the last member: one, one more where the broadcast relays, and one more in first-in first-out order.
+    /// OutOfMemory where it is not there.
     pub fn new(alloc: Global, spec: Spec, me: NodeId, noticed: &NodeSet) -> Result<Slot, Refusal>
         requires limits { IsWithinLimits spec }
         requires member { is_member spec me.number ≡ true }
@@ -112,7 +113,7 @@ impl Slot {
         let members = spec.members.count_in(&spec.members);
         let messages = members * spec.msgs as usize;
         let bytes = members * spec.bytes as usize;
-        let store = Store::new(alloc, spec.msgs as u16, messages, bytes)?;
+        let store = Store::new(alloc, &spec.members, spec.msgs as u16, messages, bytes)?;
         let log = Vec::with_capacity(alloc, messages)?;
         let outgoing = Vec::with_capacity(alloc, messages)?;
         let acknowledged = Vec::with_capacity(alloc, spec.msgs as usize)?;
@@ -204,17 +205,24 @@ impl Slot {
         Ok(seq)
     }
 
-    /// Takes an item that came from a node: it is let fall, or the broadcast takes it. Takes no memory.
-    pub fn came(&mut self, from: NodeId, origin: NodeId, seq: u16, payload: &[u8])
+    /// Takes an item that came from a node: it is let fall, or the broadcast takes it. Says whether something was put out;
+    /// where nothing was, as many items wait for each node as before. Takes no memory.
+    pub fn came(&mut self, from: NodeId, origin: NodeId, seq: u16, payload: &[u8]) -> bool
         ensures state { self.new ≡ slot_came from (record { origin = origin; seq = seq; payload = payload.now }) self.old }
+        ensures quiet { result ≡ false → (dest : ℕ) → length (waiting self.new dest) ≡ length (waiting self.old dest) }
     {
+        // (the tables cover the members' messages alone)
+        if !self.spec.members.contains(origin) {
+            return false;
+        }
         let m = MsgId { origin, seq };
         let known = self.store.contains(m);
         let before = self.store.was_taken_in(m, from);
         let seen = self.store.bytes_of(origin);
         if is_let_fall(&self.spec, self.me, from, m, payload, before, known, seen) {
-            return;
+            return false;
         }
+        let count = self.outgoing.len();
         take_call(
             &mut self.stack,
             Call::Came(from, m),
@@ -223,6 +231,7 @@ impl Slot {
             &mut self.outgoing,
         );
         self.store.take_in(m, payload, from);
+        self.outgoing.len() != count
     }
 
     /// Takes note that a node is noticed to have crashed. Nothing waits for it from then on. A node that is no

@@ -157,10 +157,11 @@ fn count_bytes(seen: &mut [u32; NODES], m: MsgId, payload: &[u8])
 }
 
 impl Store {
-    /// Nothing, with memory for so many messages, with so many bytes of payload in all. Messages numbered up to this
-    /// width are found at once, others by a search.
+    /// Nothing, with memory for so many messages, with so many bytes of payload in all. The members' messages numbered
+    /// up to this width are found at once, others by a search.
     pub fn new(
         alloc: Global,
+        members: &NodeSet,
         width: u16,
         messages: usize,
         bytes: usize,
@@ -169,7 +170,7 @@ impl Store {
         ensures memory { IfOk result (λ s. (messages ≤ s.places) × (bytes ≤ s.bytes)) }
     {
         let mut table = Table::new(alloc);
-        table.cover(width)?;
+        table.cover(members, width)?;
         Ok(Store {
             kept: Vec::with_capacity(alloc, messages)?,
             bytes: Vec::with_capacity(alloc, bytes)?,

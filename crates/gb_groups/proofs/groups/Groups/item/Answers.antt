@@ -1,25 +1,50 @@
 use Rattle.std.proofs.Common.{ap, subst, ◌∙◌, arith}
+use Rattle.gb_types.specs.declared.entry.Entry.{Entry}
 use Rattle.gb_frame.specs.Packet.{item_of as view_item}
 use Rattle.gb_slot.specs.Slot.{slot_came}
 use Rattle.gb_groups.specs.SlotsValue.{row_at, on_slot}
 use Rattle.gb_groups.specs.AtAddress.{address_of, item_came, OthersKept}
 use Rattle.gb_groups.specs.GroupsValue.{GroupsValue}
-use Rattle.gb_groups.proofs.AddressLemmas.{others_kept, item_is}
-use Rattle.gb_groups.proofs.IndexLemmas.{index_but}
+use Rattle.gb_groups.proofs.AddressLemmas.{others_kept, item_is, place_is}
+use Rattle.gb_groups.proofs.IndexLemmas.{index_but, index_as_many, places_quiet}
+use Rattle.gb_groups.proofs.MemberLemmas.{memberships_step, spec-came}
 use Rattle.gb_groups.proofs.groups.Groups.item.Goals as goal
 
 pub refresh-requires-clause-others : goal.refresh-requires-clause-others
 refresh-requires-clause-others c =
     let rows = c.self.inside.slots.rows in
-    rw c.came.ensures (index_but rows c.self.inside.busy c.in-Some-find.place (on_slot (slot_came c.args.from (record { origin = c.in-Some.origin; seq = c.args.item.seq; payload = c.args.item.payload.now })) (row_at rows c.in-Some-find.place)) c.self.invariant.1)
+    let x : Entry = record { origin = c.in-Some.origin; seq = c.args.item.seq; payload = c.args.item.payload.now } in
+    rw c.came.ensures.rows (index_but rows c.self.inside.busy c.in-Some-find.place (on_slot (slot_came c.args.from x) (row_at rows c.in-Some-find.place)) c.self.invariant.1)
 
-pub returns-in-Some-find-clause-rows : goal.returns-in-Some-find-clause-rows
-returns-in-Some-find-clause-rows c =
-    c.came.ensures ∙ item_is c.args.from c.in-Some.origin (view_item c.args.item) c.self.inside.slots.rows c.in-Some-find.place c.in-Some.ensures.some (omega arith) c.in-Some-find.ensures.place
+pub invariant_of-self : goal.invariant_of-self
+invariant_of-self c =
+    let rows = c.self.inside.slots.rows in
+    let p = c.in-Some-find.place in
+    let x : Entry = record { origin = c.in-Some.origin; seq = c.args.item.seq; payload = c.args.item.payload.now } in
+    let row = on_slot (slot_came c.args.from x) (row_at rows p) in
+    let within = (place_is (address_of (view_item c.args.item)) rows p c.in-Some-find.ensures.place).0 in
+    rw c.came.ensures.rows (places_quiet rows c.self.inside.cursors p row c.self.invariant.0, index_as_many rows c.self.inside.busy p row within c.self.invariant.1 (c.came.ensures.quiet c.if-not-came.true), memberships_step (slot_came c.args.from x) rows c.self.inside.memberships p (spec-came c.args.from x) c.self.invariant.2)
+
+pub returns-then-not-came-clause-rows : goal.returns-then-not-came-clause-rows
+returns-then-not-came-clause-rows c =
+    c.came.ensures.rows ∙ item_is c.args.from c.in-Some.origin (view_item c.args.item) c.self.inside.slots.rows c.in-Some-find.place c.in-Some.ensures.some (omega arith) c.in-Some-find.ensures.place
     ∙ ap (λ (v : GroupsValue). item_came c.args.from (view_item c.args.item) v.rows) c.self.view_is
 
-pub returns-in-Some-find-clause-others : goal.returns-in-Some-find-clause-others
-returns-in-Some-find-clause-others c =
+pub returns-then-not-came-clause-others : goal.returns-then-not-came-clause-others
+returns-then-not-came-clause-others c =
     let rows = c.self.inside.slots.rows in
+    let x : Entry = record { origin = c.in-Some.origin; seq = c.args.item.seq; payload = c.args.item.payload.now } in
     subst (λ (v : GroupsValue). OthersKept (address_of (view_item c.args.item)) v.rows c.came.new.self.rows) c.self.view_is
-    (rw c.came.ensures (others_kept (address_of (view_item c.args.item)) rows c.in-Some-find.place (slot_came c.args.from (record { origin = c.in-Some.origin; seq = c.args.item.seq; payload = c.args.item.payload.now })) c.in-Some-find.ensures.place))
+    (rw c.came.ensures.rows (others_kept (address_of (view_item c.args.item)) rows c.in-Some-find.place (slot_came c.args.from x) c.in-Some-find.ensures.place))
+
+pub returns-else-not-came-clause-rows : goal.returns-else-not-came-clause-rows
+returns-else-not-came-clause-rows c =
+    c.came.ensures.rows ∙ item_is c.args.from c.in-Some.origin (view_item c.args.item) c.self.inside.slots.rows c.in-Some-find.place c.in-Some.ensures.some (omega arith) c.in-Some-find.ensures.place
+    ∙ ap (λ (v : GroupsValue). item_came c.args.from (view_item c.args.item) v.rows) c.self.view_is
+
+pub returns-else-not-came-clause-others : goal.returns-else-not-came-clause-others
+returns-else-not-came-clause-others c =
+    let rows = c.self.inside.slots.rows in
+    let x : Entry = record { origin = c.in-Some.origin; seq = c.args.item.seq; payload = c.args.item.payload.now } in
+    subst (λ (v : GroupsValue). OthersKept (address_of (view_item c.args.item)) v.rows c.came.new.self.rows) c.self.view_is
+    (rw c.came.ensures.rows (others_kept (address_of (view_item c.args.item)) rows c.in-Some-find.place (slot_came c.args.from x) c.in-Some-find.ensures.place))

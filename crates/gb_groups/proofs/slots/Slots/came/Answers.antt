@@ -1,9 +1,11 @@
 use Rattle.gb_slot.specs.Slot.{slot_came}
-use Rattle.gb_groups.proofs.StepLemmas.{taken-came, short-came}
-use Rattle.std.proofs.Common.{ap, ◌∙◌, length}
+use Rattle.gb_groups.proofs.StepLemmas.{many-came, taken-came, short-came}
+use Rattle.gb_types.specs.declared.entry.Entry.{Entry}
+use Rattle.std.proofs.Common.{ap, map, ◌∙◌, length}
 use Rattle.std.proofs.Math.ListN.{set}
 use Rattle.gb_groups.specs.SlotsValue.{SlotsValue, row_at, on_slot}
-use Rattle.gb_groups.proofs.SlotsLemmas.{changed}
+use Rattle.gb_groups.specs.Slots.{row_of}
+use Rattle.gb_groups.proofs.SlotsLemmas.{changed, slot_is}
 use Rattle.gb_groups.proofs.slots.Slots.came.Goals as goal
 
 pub invariant_of-self : goal.invariant_of-self
@@ -11,8 +13,14 @@ invariant_of-self c =
     let v = c.in-Some-get_mut.slot.now in
     (changed (slot_came c.args.from (record { origin = c.args.origin; seq = c.args.seq; payload = c.args.payload.now })) c.self.inside.places.entries c.self.inside.slots c.args.place c.in-Some.key v c.came.new.self c.self.invariant c.in-Some.ensures c.in-Some-get_mut.ensures.value c.came.ensures.state (ap length (taken-came c.args.from (record { origin = c.args.origin; seq = c.args.seq; payload = c.args.payload.now }) v)) (short-came c.args.from (record { origin = c.args.origin; seq = c.args.seq; payload = c.args.payload.now }) v c.requires)).kept
 
-pub returns-in-Some-get_mut : goal.returns-in-Some-get_mut
-returns-in-Some-get_mut c =
+pub returns-in-Some-get_mut-clause-rows : goal.returns-in-Some-get_mut-clause-rows
+returns-in-Some-get_mut-clause-rows c =
     let v = c.in-Some-get_mut.slot.now in
     (changed (slot_came c.args.from (record { origin = c.args.origin; seq = c.args.seq; payload = c.args.payload.now })) c.self.inside.places.entries c.self.inside.slots c.args.place c.in-Some.key v c.came.new.self c.self.invariant c.in-Some.ensures c.in-Some-get_mut.ensures.value c.came.ensures.state (ap length (taken-came c.args.from (record { origin = c.args.origin; seq = c.args.seq; payload = c.args.payload.now }) v)) (short-came c.args.from (record { origin = c.args.origin; seq = c.args.seq; payload = c.args.payload.now }) v c.requires)).rows
     ∙ ap (λ (w : SlotsValue). set w.rows c.args.place (on_slot (slot_came c.args.from (record { origin = c.args.origin; seq = c.args.seq; payload = c.args.payload.now })) (row_at w.rows c.args.place))) c.self.view_is
+
+pub returns-in-Some-get_mut-clause-quiet : goal.returns-in-Some-get_mut-clause-quiet
+returns-in-Some-get_mut-clause-quiet c = λ quiet dest.
+    let v = c.in-Some-get_mut.slot.now in
+    let x : Entry = record { origin = c.args.origin; seq = c.args.seq; payload = c.args.payload.now } in
+    rw (← c.self.view_is) (many-came c.args.from x (row_at (map (row_of c.self.inside.slots) c.self.inside.places.entries) c.args.place) v c.came.new.self dest (slot_is c.self.inside.slots c.self.inside.places.entries c.args.place c.in-Some.key v c.in-Some.ensures c.in-Some-get_mut.ensures.value) c.came.ensures.state (c.came.ensures.quiet quiet dest))

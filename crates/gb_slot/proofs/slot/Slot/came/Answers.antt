@@ -1,12 +1,14 @@
-use Rattle.std.proofs.Common.{◌≡◌, ◌&&◌, rules, refl, sym, ◌∙◌, subst, arith}
+use Rattle.std.proofs.Common.{◌≡◌, ◌&&◌, length, rules, refl, sym, ◌∙◌, subst, arith}
+use Rattle.std.proofs.lemmas.Bool.Decides.{nat_tests}
 use Rattle.gb_types.specs.Entry.{message_of}
 use Rattle.gb_types.specs.declared.entry.Entry.{Entry}
 use Rattle.gb_layer.specs.declared.call.Call.TheVariants.{Came}
 use Rattle.gb_stack.specs.contracts.stack.StackLayer.TheImpl.{meaning-value}
-use Rattle.gb_history.specs.Messages.{with_new}
+use Rattle.gb_history.specs.Messages.{with_new, entry_in}
 use Rattle.gb_slot.specs.Reached.{IsReached, limit_of}
 use Rattle.gb_slot.specs.Slot.{slot_called}
 use Rattle.gb_slot.proofs.MemoryLemmas.{held, room_for_call, places_in_log, places_put_out, place_in_store, bytes_in_store, item_stays, new_known}
+use Rattle.gb_slot.proofs.PageLemmas.{same_rest}
 use Rattle.gb_slot.proofs.ReachedLemmas.{reached_came, kept_item}
 use Rattle.gb_slot.proofs.slot.Slot.came.Goals as goal
 
@@ -28,6 +30,12 @@ take_call-requires-clause-outgoing c =
     let stays = item_stays s c.args.from x c.is_let_fall.result c.was_taken_in-before.result c.contains-known.result c.bytes_of-seen.result c.is_let_fall.ensures.test c.if-is_let_fall.false c.was_taken_in-before.ensures c.contains-known.ensures.entries c.bytes_of-seen.ensures in
     let next = reached_came (held s) c.args.from x stays c.self.invariant.5 in
     places_put_out s (slot_called (Came c.args.from (message_of x)) (with_new s.store.entries x) (held s)) _ c.self.invariant.6 next refl refl
+
+pub returns-clause-quiet : goal.returns-clause-quiet
+returns-clause-quiet c = λ quiet dest.
+    let same : c.len.result ≡ c.len-count.result = grind (arith, nat_tests, quiet) in
+    let count : length c.take_call.new.outgoing.items ≡ length c.self.inside.outgoing.items = omega (arith, same) in
+    rw (← c.self.view_is) (same_rest (entry_in c.take_in.new.self.entries) (entry_in c.self.inside.store.entries) _ _ c.take_call.new.outgoing.items c.self.inside.outgoing.items count)
 
 pub take_in-requires-clause-place : goal.take_in-requires-clause-place
 take_in-requires-clause-place c = λ new.
