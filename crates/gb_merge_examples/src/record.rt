@@ -1,5 +1,8 @@
 //! Tapes made by nodes.
+ghost use Rattle.gb_cluster.specs.ClusterValue.{IsClusterPlan};
+
 use gb_cluster::event::Event;
+use gb_cluster::plan::node_plan;
 use gb_merge::fault::AuditFault;
 use gb_merge::merge::merge;
 use gb_node::answer::{NodeAnswer, Sent};
@@ -45,50 +48,119 @@ pub const TRIPLE: Plan = Plan {
     admin_key: ADMIN_KEY,
 };
 
-/// No entries.
-pub fn notes(alloc: Global) -> Vec<TapeEntry> {
-    Vec::new(alloc)
+/// The nodes of a cluster, each with the tape of what happened there.
+#[derive(Drop)]
+pub struct Record {
+    alloc: Global,
+    nodes: Vec<Node>,
+    tapes: Vec<Vec<TapeEntry>>,
 }
 
-/// An event at a node, with the node's answer, is noted.
-pub fn happen(
-    node: &mut Node,
-    tape: &mut Vec<TapeEntry>,
-    event: NodeEvent,
-) -> Result<(), OutOfMemory> {
-    let answer = node.take(&event);
-    tape.push(TapeEntry {
-        seat: 0,
-        count: 0,
-        event,
-        answer,
-    })?;
-    Ok(())
-}
+impl Record {
+    /// Nodes at which nothing happened.
+    pub fn new(alloc: Global, plan: &Plan) -> Result<Record, OutOfMemory>
+        requires { IsClusterPlan plan.now }
+    {
+        let mut nodes = Vec::new(alloc);
+        let mut tapes = Vec::new(alloc);
+        for number in 0..plan.nodes {
+            nodes.push(Node::start(alloc, &node_plan(plan, NodeId { number })))?;
+            tapes.push(Vec::new(alloc))?;
+        }
+        Ok(Record {
+            alloc,
+            nodes,
+            tapes,
+        })
+    }
 
-/// An event with an answer that no node gave is noted.
-pub fn forge(
-    tape: &mut Vec<TapeEntry>,
-    event: NodeEvent,
-    answer: NodeAnswer,
-) -> Result<(), OutOfMemory> {
-    tape.push(TapeEntry {
-        seat: 0,
-        count: 0,
-        event,
-        answer,
-    })?;
-    Ok(())
-}
+    /// An event at a node, with the node's answer, is noted.
+    pub fn happen(&mut self, at: NodeId, event: NodeEvent) -> Result<(), OutOfMemory> {
+        match self.nodes.get_mut(at.index()) {
+            Some(node) => {
+                let answer = node.take(&event);
+                self.forge(at, event, answer)
+            }
+            None => Ok(()),
+        }
+    }
 
-/// Bytes that come to a node.
-pub fn came(alloc: Global, bytes: &[u8]) -> Result<NodeEvent, OutOfMemory> {
-    let copy = Vec::from_slice(alloc, bytes)?;
-    Ok(NodeEvent::Packet(PacketText::from(copy)))
+    /// An event with an answer that the node did not give is noted.
+    pub fn forge(
+        &mut self,
+        at: NodeId,
+        event: NodeEvent,
+        answer: NodeAnswer,
+    ) -> Result<(), OutOfMemory> {
+        let entry = TapeEntry {
+            seat: 0,
+            count: 0,
+            event,
+            answer,
+        };
+        if let Some(tape) = self.tapes.get_mut(at.index()) {
+            tape.push(entry)?;
+        }
+        Ok(())
+    }
+
+    /// Bytes come to a node.
+    pub fn came(&mut self, at: NodeId, bytes: &[u8]) -> Result<(), OutOfMemory> {
+        let copy = Vec::from_slice(self.alloc, bytes)?;
+        self.happen(at, NodeEvent::Packet(PacketText::from(copy)))
+    }
+
+    /// The tape of a node.
+    fn tape(&self, at: NodeId) -> &[TapeEntry] {
+        match self.tapes.get(at.index()) {
+            Some(tape) => tape.as_slice(),
+            None => &[],
+        }
+    }
+
+    /// The packet that a node sent by the entry at a place, as it comes; no bytes where there is none.
+    pub fn sent(&self, from: NodeId, place: usize) -> Result<NodeEvent, OutOfMemory> {
+        let copy = Vec::from_slice(self.alloc, sent_at(self.tape(from), place))?;
+        Ok(NodeEvent::Packet(PacketText::from(copy)))
+    }
+
+    /// A packet that was sent comes to a node.
+    pub fn pass(&mut self, from: NodeId, place: usize, to: NodeId) -> Result<(), OutOfMemory> {
+        let packet = self.sent(from, place)?;
+        self.happen(to, packet)
+    }
+
+    /// The packet that was sent last comes to a node.
+    pub fn pass_newest(&mut self, from: NodeId, to: NodeId) -> Result<(), OutOfMemory> {
+        let place = newest(self.tape(from));
+        self.pass(from, place, to)
+    }
+
+    /// What happened at a node is lost.
+    pub fn lose(&mut self, at: NodeId) {
+        if let Some(tape) = self.tapes.get_mut(at.index()) {
+            tape.clear();
+        }
+    }
+
+    /// What merging the tapes gives: the events in letters, or the fault.
+    pub fn merged(self, plan: &Plan) -> Result<Vec<u8>, OutOfMemory>
+        requires { IsClusterPlan plan.now }
+    {
+        let alloc = self.alloc;
+        let mut tapes = Vec::new(alloc);
+        for entries in self.tapes {
+            tapes.push(Tape::from(entries))?;
+        }
+        if tapes.len() != usize::from(plan.nodes) {
+            return Ok(Vec::new(alloc));
+        }
+        told(alloc, merge(alloc, plan, tapes.as_slice()))
+    }
 }
 
 /// The packet that was sent by the entry at a place; no bytes where there is none.
-pub fn sent_at(tape: &[TapeEntry], place: usize) -> &[u8] {
+fn sent_at(tape: &[TapeEntry], place: usize) -> &[u8] {
     match tape.get(place) {
         Some(entry) => match &entry.answer {
             NodeAnswer::Sent(Sent::Packet(text)) => text.as_slice(),
@@ -98,39 +170,15 @@ pub fn sent_at(tape: &[TapeEntry], place: usize) -> &[u8] {
     }
 }
 
-/// A packet that was sent comes to a node.
-pub fn pass(
-    alloc: Global,
-    from: &[TapeEntry],
-    place: usize,
-    node: &mut Node,
-    tape: &mut Vec<TapeEntry>,
-) -> Result<(), OutOfMemory> {
-    let event = came(alloc, sent_at(from, place))?;
-    happen(node, tape, event)
-}
-
-/// The packet that was sent last; no bytes where none was.
-fn newest(tape: &[TapeEntry]) -> &[u8] {
-    let mut found: &[u8] = &[];
+/// Where the packet stands that was sent last.
+fn newest(tape: &[TapeEntry]) -> usize {
+    let mut found = 0;
     for place in 0..tape.len() {
-        let sent = sent_at(tape, place);
-        if !sent.is_empty() {
-            found = sent;
+        if !sent_at(tape, place).is_empty() {
+            found = place;
         }
     }
     found
-}
-
-/// The packet that was sent last comes to a node.
-pub fn pass_newest(
-    alloc: Global,
-    from: &[TapeEntry],
-    node: &mut Node,
-    tape: &mut Vec<TapeEntry>,
-) -> Result<(), OutOfMemory> {
-    let event = came(alloc, newest(from))?;
-    happen(node, tape, event)
 }
 
 /// A fault in a word.
@@ -175,37 +223,4 @@ fn told(alloc: Global, merged: Result<Vec<Event>, AuditFault>) -> Result<Vec<u8>
         Ok(events) => spell(alloc, events.as_slice()),
         Err(fault) => Ok(Vec::from_slice(alloc, word(fault).as_bytes())?),
     }
-}
-
-/// What merging the tapes of a single node gives.
-pub fn single(alloc: Global, zero: Vec<TapeEntry>) -> Result<Vec<u8>, OutOfMemory> {
-    let mut tapes = Vec::new(alloc);
-    tapes.push(Tape::from(zero))?;
-    told(alloc, merge(alloc, &SINGLE, tapes.as_slice()))
-}
-
-/// What merging the tapes of two nodes gives.
-pub fn pair(
-    alloc: Global,
-    zero: Vec<TapeEntry>,
-    one: Vec<TapeEntry>,
-) -> Result<Vec<u8>, OutOfMemory> {
-    let mut tapes = Vec::new(alloc);
-    tapes.push(Tape::from(zero))?;
-    tapes.push(Tape::from(one))?;
-    told(alloc, merge(alloc, &PAIR, tapes.as_slice()))
-}
-
-/// What merging the tapes of three nodes gives.
-pub fn triple(
-    alloc: Global,
-    zero: Vec<TapeEntry>,
-    one: Vec<TapeEntry>,
-    two: Vec<TapeEntry>,
-) -> Result<Vec<u8>, OutOfMemory> {
-    let mut tapes = Vec::new(alloc);
-    tapes.push(Tape::from(zero))?;
-    tapes.push(Tape::from(one))?;
-    tapes.push(Tape::from(two))?;
-    told(alloc, merge(alloc, &TRIPLE, tapes.as_slice()))
 }

@@ -1,14 +1,11 @@
 // A stop after each event.
-use crate::record::{ADMIN_KEY, ONE, PAIR, ZERO, happen, notes, pair, pass_newest};
+use crate::record::{ADMIN_KEY, ONE, PAIR, Record, ZERO};
 use gb_cap::token::{Need, token};
-use gb_cluster::plan::node_plan;
 use gb_node::event::NodeEvent;
-use gb_node::node::Node;
-use gb_node::tape::TapeEntry;
 use gb_types::address::Addr;
 use gb_types::kind::Kind;
 use gb_types::memory::OutOfMemory;
-use gb_types::node::NodeSet;
+use gb_types::node::{NodeId, NodeSet};
 use gb_types::payload::Payload;
 use gb_types::request::Request;
 use gb_types::spec::{Spec, TenantRow};
@@ -69,68 +66,46 @@ fn fetch() -> NodeEvent {
 
 /// The events in turn: two nodes make a group, the first says a message in it and packs it, it comes to the second,
 /// which reads its log and acknowledges; both tick.
-fn step(
-    alloc: Global,
-    turn: usize,
-    zero: &mut Node,
-    one: &mut Node,
-    first: &mut Vec<TapeEntry>,
-    second: &mut Vec<TapeEntry>,
-) -> Result<(), OutOfMemory> {
+fn step(alloc: Global, turn: usize, record: &mut Record) -> Result<(), OutOfMemory> {
     match turn {
-        0 => happen(zero, first, add()),
-        1 => happen(one, second, add()),
-        2 => happen(zero, first, make()),
-        3 => happen(one, second, make()),
-        4 => happen(zero, first, open()),
-        5 => happen(one, second, open()),
-        6 => happen(zero, first, say(alloc)?),
-        7 => happen(zero, first, NodeEvent::Pack(ONE)),
-        8 => pass_newest(alloc, first.as_slice(), one, second),
-        9 => happen(one, second, fetch()),
-        10 => happen(one, second, NodeEvent::Ack(ZERO)),
-        11 => pass_newest(alloc, second.as_slice(), zero, first),
-        12 => happen(zero, first, NodeEvent::Tick),
-        _ => happen(one, second, NodeEvent::Tick),
+        0 => record.happen(ZERO, add()),
+        1 => record.happen(ONE, add()),
+        2 => record.happen(ZERO, make()),
+        3 => record.happen(ONE, make()),
+        4 => record.happen(ZERO, open()),
+        5 => record.happen(ONE, open()),
+        6 => record.happen(ZERO, say(alloc)?),
+        7 => record.happen(ZERO, NodeEvent::Pack(ONE)),
+        8 => record.pass_newest(ZERO, ONE),
+        9 => record.happen(ONE, fetch()),
+        10 => record.happen(ONE, NodeEvent::Ack(ZERO)),
+        11 => record.pass_newest(ONE, ZERO),
+        12 => record.happen(ZERO, NodeEvent::Tick),
+        _ => record.happen(ONE, NodeEvent::Tick),
     }
 }
 
-/// The tapes of the events, with a stop of a node after one of them, merged.
-fn stopped(
-    alloc: Global,
-    zero: &mut Node,
-    one: &mut Node,
-    after: usize,
-    at_first: bool,
-) -> Result<Vec<u8>, OutOfMemory> {
-    let mut first = notes(alloc);
-    let mut second = notes(alloc);
+/// What merging the tapes of the events gives, with a stop of a node after one of them.
+fn stopped(alloc: Global, after: usize, node: NodeId) -> Result<Vec<u8>, OutOfMemory> {
+    let mut record = Record::new(alloc, &PAIR)?;
     for turn in 0..EVENTS {
-        step(alloc, turn, zero, one, &mut first, &mut second)?;
-        if turn == after && at_first {
-            happen(zero, &mut first, NodeEvent::Stop)?;
-        }
-        if turn == after && !at_first {
-            happen(one, &mut second, NodeEvent::Stop)?;
+        step(alloc, turn, &mut record)?;
+        if turn == after {
+            record.happen(node, NodeEvent::Stop)?;
         }
     }
-    pair(alloc, first, second)
+    record.merged(&PAIR)
 }
 
-/// How many of the events are merged, with a stop after one of them; three letters stand for an event.
-fn merged(alloc: Global, after: usize, at_first: bool) -> Result<usize, OutOfMemory> {
-    let mut zero = Node::start(alloc, &node_plan(&PAIR, ZERO));
-    let mut one = Node::start(alloc, &node_plan(&PAIR, ONE));
-    let told = stopped(alloc, &mut zero, &mut one, after, at_first)?;
+/// How many of the events are merged, with a stop of a node after one of them; three letters stand for an event.
+fn merged(alloc: Global, after: usize, node: NodeId) -> Result<usize, OutOfMemory> {
+    let told = stopped(alloc, after, node)?;
     Ok(told.len() / 3)
 }
 
 #[test]
 fn without_a_stop(rt: HostRuntime) -> Result<(), Fail> {
-    let alloc = rt.alloc();
-    let mut zero = Node::start(alloc, &node_plan(&PAIR, ZERO));
-    let mut one = Node::start(alloc, &node_plan(&PAIR, ONE));
-    let told = stopped(alloc, &mut zero, &mut one, EVENTS, true)?;
+    let told = stopped(rt.alloc(), EVENTS, ZERO)?;
     assert!(rt; told.as_slice() == b"0r 0r 0r 0r 0p 1r 1r 1r #1 1r 1a #2 0t 1t ".as_slice());
     Ok(())
 }
@@ -139,8 +114,8 @@ fn without_a_stop(rt: HostRuntime) -> Result<(), Fail> {
 fn a_stop_after_each_event(rt: HostRuntime) -> Result<(), Fail> {
     let alloc = rt.alloc();
     for after in 0..EVENTS {
-        let first = merged(alloc, after, true)?;
-        let second = merged(alloc, after, false)?;
+        let first = merged(alloc, after, ZERO)?;
+        let second = merged(alloc, after, ONE)?;
         assert!(rt; first == EVENTS + 1 && second == EVENTS + 1);
     }
     Ok(())

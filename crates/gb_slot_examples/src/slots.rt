@@ -1,5 +1,5 @@
 //! One group at one node.
-use crate::steps::{FRIEND, ME, OTHER, STRANGER, Step, compare};
+use crate::steps::{FRIEND, ME, OTHER, STRANGER, Step, compare, node};
 use gb_slot::slot::Slot;
 use gb_types::kind::Kind;
 use gb_types::node::NodeSet;
@@ -42,20 +42,21 @@ const SMALL: Limits = Limits {
 
 /// A group of three members at one of them. The other may be noticed before it is made.
 fn group(alloc: Global, kind: Kind, limits: Limits, noticed: bool) -> Result<Slot, Refusal> {
+    let me = node(ME);
     let mut members = NodeSet::new();
-    members.insert(FRIEND);
-    members.insert(OTHER);
-    members.insert(ME);
+    members.insert(node(FRIEND));
+    members.insert(node(OTHER));
+    members.insert(me);
     let mut seen = NodeSet::new();
     if noticed {
-        seen.insert(OTHER);
+        seen.insert(node(OTHER));
     }
     let Limits {
         msgs,
         bytes,
         window,
     } = limits;
-    if !members.contains(ME) || msgs == 0 || msgs > 1_024 || bytes > 65_536 || window > 1_024 {
+    if !members.contains(me) || msgs == 0 || msgs > 1_024 || bytes > 65_536 || window > 1_024 {
         return Err(Refusal::BadMembers);
     }
     let spec = Spec {
@@ -65,7 +66,7 @@ fn group(alloc: Global, kind: Kind, limits: Limits, noticed: bool) -> Result<Slo
         bytes,
         window,
     };
-    Slot::new(alloc, spec, ME, &seen)
+    Slot::new(alloc, spec, me, &seen)
 }
 
 /// Each call of a group of this kind answers what it must.
@@ -74,40 +75,56 @@ fn run(
     alloc: Global,
     kind: Kind,
     limits: Limits,
-    steps: &[Step<'_>],
+    steps: &[Step],
 ) -> Result<(), Fail> {
     let mut slot = group(alloc, kind, limits, false)?;
     compare(rt, &mut slot, steps);
     Ok(())
 }
 
+const MEMBERS_SAY_AND_HEAR: &[Step] = &[
+    Step::Open(None),
+    Step::Say(b"one", Ok(1)),
+    Step::Came(FRIEND, (FRIEND, 2, b"hello")),
+    Step::Say(b"", Ok(2)),
+    Step::Came(OTHER, (OTHER, 1, b"")),
+    Step::Came(FRIEND, (FRIEND, 1, b"earlier")),
+    Step::Log(&[
+        (ME, 1, b"one"),
+        (FRIEND, 2, b"hello"),
+        (ME, 2, b""),
+        (OTHER, 1, b""),
+        (FRIEND, 1, b"earlier"),
+    ]),
+    Step::Fetch(3, 1, Ok(1)),
+    Step::Fetch(5, 16, Ok(0)),
+    Step::Fetch(0, 0, Ok(0)),
+];
+
 #[test]
 fn members_say_and_hear(rt: HostRuntime) -> Result<(), Fail> {
-    run(
-        &rt,
-        rt.alloc(),
-        Kind::Beb,
-        WIDE,
-        &[
-            Step::Open(None),
-            Step::Say(b"one", Ok(1)),
-            Step::Came(FRIEND, (FRIEND, 2, b"hello")),
-            Step::Say(b"", Ok(2)),
-            Step::Came(OTHER, (OTHER, 1, b"")),
-            Step::Came(FRIEND, (FRIEND, 1, b"earlier")),
-            Step::Log(&[
-                (ME, 1, b"one"),
-                (FRIEND, 2, b"hello"),
-                (ME, 2, b""),
-                (OTHER, 1, b""),
-                (FRIEND, 1, b"earlier"),
-            ]),
-            Step::Fetch(3, 1, Ok(1)),
-            Step::Fetch(5, 16, Ok(0)),
-            Step::Fetch(0, 0, Ok(0)),
-        ],
-    )
+    run(&rt, rt.alloc(), Kind::Beb, WIDE, MEMBERS_SAY_AND_HEAR)
 }
+
+const WHAT_IS_SAID_WAITS_FOR_EACH_OTHER_MEMBER: &[Step] = &[
+    Step::Open(None),
+    Step::Idle(FRIEND),
+    Step::Say(b"one", Ok(1)),
+    Step::Came(FRIEND, (FRIEND, 1, b"not sent on")),
+    Step::Say(b"two", Ok(2)),
+    Step::Waits(FRIEND, 2, (ME, 1, b"one")),
+    Step::Waits(OTHER, 2, (ME, 1, b"one")),
+    Step::Take(FRIEND, 1),
+    Step::Waits(FRIEND, 1, (ME, 2, b"two")),
+    Step::Waits(OTHER, 2, (ME, 1, b"one")),
+    Step::Take(OTHER, 2),
+    Step::Idle(OTHER),
+    Step::Say(b"three", Ok(3)),
+    Step::Waits(FRIEND, 2, (ME, 2, b"two")),
+    Step::Waits(OTHER, 1, (ME, 3, b"three")),
+    Step::Idle(ME),
+    Step::Idle(STRANGER),
+];
 
 #[test]
 fn what_is_said_waits_for_each_other_member(rt: HostRuntime) -> Result<(), Fail> {
@@ -116,45 +133,50 @@ fn what_is_said_waits_for_each_other_member(rt: HostRuntime) -> Result<(), Fail>
         rt.alloc(),
         Kind::Beb,
         WIDE,
-        &[
-            Step::Open(None),
-            Step::Idle(FRIEND),
-            Step::Say(b"one", Ok(1)),
-            Step::Came(FRIEND, (FRIEND, 1, b"not sent on")),
-            Step::Say(b"two", Ok(2)),
-            Step::Waits(FRIEND, 2, (ME, 1, b"one")),
-            Step::Waits(OTHER, 2, (ME, 1, b"one")),
-            Step::Take(FRIEND, 1),
-            Step::Waits(FRIEND, 1, (ME, 2, b"two")),
-            Step::Waits(OTHER, 2, (ME, 1, b"one")),
-            Step::Take(OTHER, 2),
-            Step::Idle(OTHER),
-            Step::Say(b"three", Ok(3)),
-            Step::Waits(FRIEND, 2, (ME, 2, b"two")),
-            Step::Waits(OTHER, 1, (ME, 3, b"three")),
-            Step::Idle(ME),
-            Step::Idle(STRANGER),
-        ],
+        WHAT_IS_SAID_WAITS_FOR_EACH_OTHER_MEMBER,
     )
 }
+
+const NOTHING_WAITS_FOR_A_NODE_THAT_WAS_NOTICED: &[Step] = &[
+    Step::Open(None),
+    Step::Say(b"one", Ok(1)),
+    Step::Idle(OTHER),
+    Step::Waits(FRIEND, 1, (ME, 1, b"one")),
+    Step::Came(OTHER, (OTHER, 1, b"sent before")),
+    Step::Log(&[(ME, 1, b"one"), (OTHER, 1, b"sent before")]),
+];
 
 #[test]
 fn nothing_waits_for_a_node_that_was_noticed(rt: HostRuntime) -> Result<(), Fail> {
     let mut slot = group(rt.alloc(), Kind::Beb, WIDE, true)?;
-    compare(
-        &rt,
-        &mut slot,
-        &[
-            Step::Open(None),
-            Step::Say(b"one", Ok(1)),
-            Step::Idle(OTHER),
-            Step::Waits(FRIEND, 1, (ME, 1, b"one")),
-            Step::Came(OTHER, (OTHER, 1, b"sent before")),
-            Step::Log(&[(ME, 1, b"one"), (OTHER, 1, b"sent before")]),
-        ],
-    );
+    compare(&rt, &mut slot, NOTHING_WAITS_FOR_A_NODE_THAT_WAS_NOTICED);
     Ok(())
 }
+
+const REFUSALS_COME_IN_THEIR_ORDER: &[Step] = &[
+    Step::Say(TOO_LONG, Err(Refusal::WrongPhase)),
+    Step::Came(FRIEND, (FRIEND, 1, b"early")),
+    Step::Shut(Some(Refusal::WrongPhase)),
+    Step::Open(None),
+    Step::Open(Some(Refusal::WrongPhase)),
+    Step::Say(TOO_LONG, Err(Refusal::TooLong)),
+    Step::Say(LONGEST, Ok(1)),
+    Step::Say(b"last", Ok(2)),
+    Step::Say(TOO_LONG, Err(Refusal::TooLong)),
+    Step::Say(b"", Err(Refusal::Budget)),
+    Step::Waits(FRIEND, 2, (ME, 1, LONGEST)),
+    Step::Log(&[(FRIEND, 1, b"early"), (ME, 1, LONGEST), (ME, 2, b"last")]),
+    Step::Fetch(3, 16, Ok(0)),
+    Step::Fetch(4, 1, Err(Refusal::BadPlace)),
+    Step::Fetch(0, 17, Err(Refusal::BadPlace)),
+    Step::Shut(None),
+    Step::Shut(Some(Refusal::WrongPhase)),
+    Step::Open(Some(Refusal::WrongPhase)),
+    Step::Say(TOO_LONG, Err(Refusal::WrongPhase)),
+    // Items still come.
+    Step::Came(FRIEND, (FRIEND, 2, b"late")),
+    Step::Fetch(3, 16, Ok(1)),
+];
 
 #[test]
 fn refusals_come_in_their_order(rt: HostRuntime) -> Result<(), Fail> {
@@ -163,74 +185,74 @@ fn refusals_come_in_their_order(rt: HostRuntime) -> Result<(), Fail> {
         rt.alloc(),
         Kind::Beb,
         Limits { msgs: 2, ..WIDE },
-        &[
-            Step::Say(TOO_LONG, Err(Refusal::WrongPhase)),
-            Step::Came(FRIEND, (FRIEND, 1, b"early")),
-            Step::Shut(Some(Refusal::WrongPhase)),
-            Step::Open(None),
-            Step::Open(Some(Refusal::WrongPhase)),
-            Step::Say(TOO_LONG, Err(Refusal::TooLong)),
-            Step::Say(LONGEST, Ok(1)),
-            Step::Say(b"last", Ok(2)),
-            Step::Say(TOO_LONG, Err(Refusal::TooLong)),
-            Step::Say(b"", Err(Refusal::Budget)),
-            Step::Waits(FRIEND, 2, (ME, 1, LONGEST)),
-            Step::Log(&[(FRIEND, 1, b"early"), (ME, 1, LONGEST), (ME, 2, b"last")]),
-            Step::Fetch(3, 16, Ok(0)),
-            Step::Fetch(4, 1, Err(Refusal::BadPlace)),
-            Step::Fetch(0, 17, Err(Refusal::BadPlace)),
-            Step::Shut(None),
-            Step::Shut(Some(Refusal::WrongPhase)),
-            Step::Open(Some(Refusal::WrongPhase)),
-            Step::Say(TOO_LONG, Err(Refusal::WrongPhase)),
-            // Items still come.
-            Step::Came(FRIEND, (FRIEND, 2, b"late")),
-            Step::Fetch(3, 16, Ok(1)),
-        ],
+        REFUSALS_COME_IN_THEIR_ORDER,
     )
 }
 
+const ITEMS_ARE_LET_FALL: &[Step] = &[
+    Step::Open(None),
+    Step::Say(b"own", Ok(1)),
+    Step::Came(FRIEND, (FRIEND, 1, b"first")),
+    // From no member, or made by none.
+    Step::Came(STRANGER, (STRANGER, 1, b"")),
+    Step::Came(STRANGER, (FRIEND, 2, b"")),
+    Step::Came(FRIEND, (STRANGER, 1, b"")),
+    // From this node, said or not.
+    Step::Came(ME, (ME, 1, b"")),
+    Step::Came(ME, (ME, 2, b"")),
+    Step::Came(ME, (FRIEND, 2, b"")),
+    // For the second time from its sender.
+    Step::Came(FRIEND, (FRIEND, 1, b"")),
+    // With a number that no message has.
+    Step::Came(FRIEND, (FRIEND, 0, b"")),
+    Step::Came(FRIEND, (FRIEND, 5, b"")),
+    Step::Came(FRIEND, (FRIEND, u16::MAX, b"")),
+    // An own message from another node that was not said.
+    Step::Came(FRIEND, (ME, 2, b"")),
+    Step::Waits(OTHER, 1, (ME, 1, b"own")),
+    Step::Came(FRIEND, (FRIEND, 4, b"fourth")),
+    Step::Came(FRIEND, (FRIEND, 2, b"second")),
+    Step::Say(b"own again", Ok(2)),
+    Step::Log(&[
+        (ME, 1, b"own"),
+        (FRIEND, 1, b"first"),
+        (FRIEND, 4, b"fourth"),
+        (FRIEND, 2, b"second"),
+        (ME, 2, b"own again"),
+    ]),
+];
+
 #[test]
 fn items_are_let_fall(rt: HostRuntime) -> Result<(), Fail> {
-    run(
-        &rt,
-        rt.alloc(),
-        Kind::Beb,
-        WIDE,
-        &[
-            Step::Open(None),
-            Step::Say(b"own", Ok(1)),
-            Step::Came(FRIEND, (FRIEND, 1, b"first")),
-            // From no member, or made by none.
-            Step::Came(STRANGER, (STRANGER, 1, b"")),
-            Step::Came(STRANGER, (FRIEND, 2, b"")),
-            Step::Came(FRIEND, (STRANGER, 1, b"")),
-            // From this node, said or not.
-            Step::Came(ME, (ME, 1, b"")),
-            Step::Came(ME, (ME, 2, b"")),
-            Step::Came(ME, (FRIEND, 2, b"")),
-            // For the second time from its sender.
-            Step::Came(FRIEND, (FRIEND, 1, b"")),
-            // With a number that no message has.
-            Step::Came(FRIEND, (FRIEND, 0, b"")),
-            Step::Came(FRIEND, (FRIEND, 5, b"")),
-            Step::Came(FRIEND, (FRIEND, u16::MAX, b"")),
-            // An own message from another node that was not said.
-            Step::Came(FRIEND, (ME, 2, b"")),
-            Step::Waits(OTHER, 1, (ME, 1, b"own")),
-            Step::Came(FRIEND, (FRIEND, 4, b"fourth")),
-            Step::Came(FRIEND, (FRIEND, 2, b"second")),
-            Step::Say(b"own again", Ok(2)),
-            Step::Log(&[
-                (ME, 1, b"own"),
-                (FRIEND, 1, b"first"),
-                (FRIEND, 4, b"fourth"),
-                (FRIEND, 2, b"second"),
-                (ME, 2, b"own again"),
-            ]),
-        ],
-    )
+    run(&rt, rt.alloc(), Kind::Beb, WIDE, ITEMS_ARE_LET_FALL)
 }
+
+const NOTHING_WAITS_FOR_A_NODE_THAT_CRASHES: &[Step] = &[
+    Step::Open(None),
+    Step::Say(b"one", Ok(1)),
+    // No other members.
+    Step::Notice(STRANGER),
+    Step::Notice(ME),
+    Step::Waits(FRIEND, 1, (ME, 1, b"one")),
+    Step::Say(b"two", Ok(2)),
+    Step::Take(OTHER, 1),
+    Step::Notice(FRIEND),
+    Step::Idle(FRIEND),
+    Step::Waits(OTHER, 1, (ME, 2, b"two")),
+    Step::Say(b"three", Ok(3)),
+    Step::Notice(FRIEND),
+    Step::Idle(FRIEND),
+    Step::Waits(OTHER, 2, (ME, 2, b"two")),
+    Step::Came(FRIEND, (FRIEND, 1, b"sent before")),
+    Step::Log(&[
+        (ME, 1, b"one"),
+        (ME, 2, b"two"),
+        (ME, 3, b"three"),
+        (FRIEND, 1, b"sent before"),
+    ]),
+    Step::Notice(OTHER),
+    Step::Idle(OTHER),
+];
 
 #[test]
 fn nothing_waits_for_a_node_that_crashes(rt: HostRuntime) -> Result<(), Fail> {
@@ -239,65 +261,49 @@ fn nothing_waits_for_a_node_that_crashes(rt: HostRuntime) -> Result<(), Fail> {
         rt.alloc(),
         Kind::Beb,
         WIDE,
-        &[
-            Step::Open(None),
-            Step::Say(b"one", Ok(1)),
-            // No other members.
-            Step::Notice(STRANGER),
-            Step::Notice(ME),
-            Step::Waits(FRIEND, 1, (ME, 1, b"one")),
-            Step::Say(b"two", Ok(2)),
-            Step::Take(OTHER, 1),
-            Step::Notice(FRIEND),
-            Step::Idle(FRIEND),
-            Step::Waits(OTHER, 1, (ME, 2, b"two")),
-            Step::Say(b"three", Ok(3)),
-            Step::Notice(FRIEND),
-            Step::Idle(FRIEND),
-            Step::Waits(OTHER, 2, (ME, 2, b"two")),
-            Step::Came(FRIEND, (FRIEND, 1, b"sent before")),
-            Step::Log(&[
-                (ME, 1, b"one"),
-                (ME, 2, b"two"),
-                (ME, 3, b"three"),
-                (FRIEND, 1, b"sent before"),
-            ]),
-            Step::Notice(OTHER),
-            Step::Idle(OTHER),
-        ],
+        NOTHING_WAITS_FOR_A_NODE_THAT_CRASHES,
     )
 }
 
 /// A copy that another member relayed is taken in and not delivered; the origin's own then is, with the bytes that came
 /// first.
+const BEST_EFFORT_TAKES_RELAYED_COPIES_IN: &[Step] = &[
+    Step::Open(None),
+    Step::Came(OTHER, (FRIEND, 1, b"first")),
+    Step::Came(OTHER, (FRIEND, 1, b"again")),
+    Step::Log(&[]),
+];
+
+const BEST_EFFORT_TAKES_RELAYED_COPIES_IN_2: &[Step] = &[
+    Step::Came(FRIEND, (FRIEND, 1, b"later")),
+    Step::Say(b"own", Ok(1)),
+    Step::Came(FRIEND, (ME, 1, b"back")),
+    Step::Log(&[(FRIEND, 1, b"first"), (ME, 1, b"own")]),
+    Step::Waits(OTHER, 1, (ME, 1, b"own")),
+];
+
 #[test]
 fn best_effort_takes_relayed_copies_in(rt: HostRuntime) -> Result<(), Fail> {
     let mut slot = group(rt.alloc(), Kind::Beb, WIDE, false)?;
-    compare(
-        &rt,
-        &mut slot,
-        &[
-            Step::Open(None),
-            Step::Came(OTHER, (FRIEND, 1, b"first")),
-            Step::Came(OTHER, (FRIEND, 1, b"again")),
-            Step::Log(&[]),
-        ],
-    );
-    compare(
-        &rt,
-        &mut slot,
-        &[
-            Step::Came(FRIEND, (FRIEND, 1, b"later")),
-            Step::Say(b"own", Ok(1)),
-            Step::Came(FRIEND, (ME, 1, b"back")),
-            Step::Log(&[(FRIEND, 1, b"first"), (ME, 1, b"own")]),
-            Step::Waits(OTHER, 1, (ME, 1, b"own")),
-        ],
-    );
+    compare(&rt, &mut slot, BEST_EFFORT_TAKES_RELAYED_COPIES_IN);
+    compare(&rt, &mut slot, BEST_EFFORT_TAKES_RELAYED_COPIES_IN_2);
     Ok(())
 }
 
 /// A lazy group relays what its crashed origin said, from the notice on.
+const LAZY_GROUPS_RELAY_AFTER_A_CRASH: &[Step] = &[
+    Step::Open(None),
+    Step::Came(FRIEND, (FRIEND, 1, b"one")),
+    Step::Idle(OTHER),
+    Step::Notice(FRIEND),
+    Step::Waits(OTHER, 1, (FRIEND, 1, b"one")),
+    Step::Came(OTHER, (FRIEND, 2, b"two")),
+    Step::Take(OTHER, 1),
+    Step::Waits(OTHER, 1, (FRIEND, 2, b"two")),
+    Step::Idle(FRIEND),
+    Step::Log(&[(FRIEND, 1, b"one"), (FRIEND, 2, b"two")]),
+];
+
 #[test]
 fn lazy_groups_relay_after_a_crash(rt: HostRuntime) -> Result<(), Fail> {
     run(
@@ -305,121 +311,116 @@ fn lazy_groups_relay_after_a_crash(rt: HostRuntime) -> Result<(), Fail> {
         rt.alloc(),
         Kind::Lazy,
         WIDE,
-        &[
-            Step::Open(None),
-            Step::Came(FRIEND, (FRIEND, 1, b"one")),
-            Step::Idle(OTHER),
-            Step::Notice(FRIEND),
-            Step::Waits(OTHER, 1, (FRIEND, 1, b"one")),
-            Step::Came(OTHER, (FRIEND, 2, b"two")),
-            Step::Take(OTHER, 1),
-            Step::Waits(OTHER, 1, (FRIEND, 2, b"two")),
-            Step::Idle(FRIEND),
-            Step::Log(&[(FRIEND, 1, b"one"), (FRIEND, 2, b"two")]),
-        ],
+        LAZY_GROUPS_RELAY_AFTER_A_CRASH,
     )
 }
 
 /// An all-ack group delivers once every member that was not noticed holds the message.
+const ALL_ACK_GROUPS_WAIT_FOR_EACH_MEMBER: &[Step] = &[
+    Step::Open(None),
+    Step::Say(b"one", Ok(1)),
+    Step::Came(FRIEND, (ME, 1, b"one")),
+    Step::Log(&[]),
+];
+
+const ALL_ACK_GROUPS_WAIT_FOR_EACH_MEMBER_2: &[Step] = &[
+    Step::Came(OTHER, (ME, 1, b"one")),
+    Step::Came(FRIEND, (FRIEND, 1, b"two")),
+    Step::Log(&[(ME, 1, b"one")]),
+];
+
+const ALL_ACK_GROUPS_WAIT_FOR_EACH_MEMBER_3: &[Step] = &[
+    Step::Waits(OTHER, 2, (ME, 1, b"one")),
+    Step::Notice(OTHER),
+    Step::Log(&[(ME, 1, b"one"), (FRIEND, 1, b"two")]),
+];
+
 #[test]
 fn all_ack_groups_wait_for_each_member(rt: HostRuntime) -> Result<(), Fail> {
     let mut slot = group(rt.alloc(), Kind::AllAck, WIDE, false)?;
-    compare(
-        &rt,
-        &mut slot,
-        &[
-            Step::Open(None),
-            Step::Say(b"one", Ok(1)),
-            Step::Came(FRIEND, (ME, 1, b"one")),
-            Step::Log(&[]),
-        ],
-    );
-    compare(
-        &rt,
-        &mut slot,
-        &[
-            Step::Came(OTHER, (ME, 1, b"one")),
-            Step::Came(FRIEND, (FRIEND, 1, b"two")),
-            Step::Log(&[(ME, 1, b"one")]),
-        ],
-    );
-    compare(
-        &rt,
-        &mut slot,
-        &[
-            Step::Waits(OTHER, 2, (ME, 1, b"one")),
-            Step::Notice(OTHER),
-            Step::Log(&[(ME, 1, b"one"), (FRIEND, 1, b"two")]),
-        ],
-    );
+    compare(&rt, &mut slot, ALL_ACK_GROUPS_WAIT_FOR_EACH_MEMBER);
+    compare(&rt, &mut slot, ALL_ACK_GROUPS_WAIT_FOR_EACH_MEMBER_2);
+    compare(&rt, &mut slot, ALL_ACK_GROUPS_WAIT_FOR_EACH_MEMBER_3);
     Ok(())
 }
 
+const ACKNOWLEDGEMENTS_ARE_KEPT: &[Step] = &[
+    Step::Said(0),
+    Step::Open(None),
+    Step::Say(b"one", Ok(1)),
+    Step::Say(b"two", Ok(2)),
+    Step::Said(2),
+    Step::Acknowledged(0, [true, false, false, false]),
+    Step::Acknowledged(1, [true, false, false, false]),
+    Step::Done(FRIEND, ME, 2),
+    Step::Acknowledged(0, [true, false, false, false]),
+    Step::Acknowledged(1, [true, true, false, false]),
+    Step::Done(OTHER, ME, 1),
+    // Acknowledged before, said elsewhere, or never said.
+    Step::Done(FRIEND, ME, 2),
+    Step::Done(FRIEND, FRIEND, 1),
+    Step::Done(FRIEND, STRANGER, 1),
+    Step::Done(FRIEND, ME, 0),
+    Step::Done(FRIEND, ME, 3),
+    Step::Done(FRIEND, ME, u16::MAX),
+    Step::Said(2),
+    Step::Acknowledged(0, [true, false, true, false]),
+    Step::Acknowledged(1, [true, true, false, false]),
+    Step::Waits(FRIEND, 2, (ME, 1, b"one")),
+];
+
 #[test]
 fn acknowledgements_are_kept(rt: HostRuntime) -> Result<(), Fail> {
-    run(
-        &rt,
-        rt.alloc(),
-        Kind::Beb,
-        WIDE,
-        &[
-            Step::Said(0),
-            Step::Open(None),
-            Step::Say(b"one", Ok(1)),
-            Step::Say(b"two", Ok(2)),
-            Step::Said(2),
-            Step::Acknowledged(0, [true, false, false, false]),
-            Step::Acknowledged(1, [true, false, false, false]),
-            Step::Done(FRIEND, ME, 2),
-            Step::Acknowledged(0, [true, false, false, false]),
-            Step::Acknowledged(1, [true, true, false, false]),
-            Step::Done(OTHER, ME, 1),
-            // Acknowledged before, said elsewhere, or never said.
-            Step::Done(FRIEND, ME, 2),
-            Step::Done(FRIEND, FRIEND, 1),
-            Step::Done(FRIEND, STRANGER, 1),
-            Step::Done(FRIEND, ME, 0),
-            Step::Done(FRIEND, ME, 3),
-            Step::Done(FRIEND, ME, u16::MAX),
-            Step::Said(2),
-            Step::Acknowledged(0, [true, false, true, false]),
-            Step::Acknowledged(1, [true, true, false, false]),
-            Step::Waits(FRIEND, 2, (ME, 1, b"one")),
-        ],
-    )
+    run(&rt, rt.alloc(), Kind::Beb, WIDE, ACKNOWLEDGEMENTS_ARE_KEPT)
 }
+
+const USAGE_IS_BOUNDED: &[Step] = &[
+    Step::Open(None),
+    Step::Say(b"sevenly", Ok(1)),
+    Step::Say(b"four", Err(Refusal::Bytes)),
+    // No more bytes are left, and the window is closed.
+    Step::Say(b"ten", Ok(2)),
+    Step::Say(b"x", Err(Refusal::Bytes)),
+    Step::Say(b"", Err(Refusal::Window)),
+    Step::Done(FRIEND, ME, 1),
+    Step::Say(b"", Err(Refusal::Window)),
+    Step::Done(OTHER, ME, 1),
+    Step::Say(b"", Ok(3)),
+    Step::Notice(OTHER),
+    Step::Say(b"", Err(Refusal::Window)),
+    // No other member is to have it.
+    Step::Notice(FRIEND),
+    Step::Say(b"", Ok(4)),
+    Step::Say(b"x", Err(Refusal::Budget)),
+    Step::Say(TOO_LONG, Err(Refusal::TooLong)),
+];
 
 #[test]
 fn usage_is_bounded(rt: HostRuntime) -> Result<(), Fail> {
-    run(
-        &rt,
-        rt.alloc(),
-        Kind::Beb,
-        NARROW,
-        &[
-            Step::Open(None),
-            Step::Say(b"sevenly", Ok(1)),
-            Step::Say(b"four", Err(Refusal::Bytes)),
-            // No more bytes are left, and the window is closed.
-            Step::Say(b"ten", Ok(2)),
-            Step::Say(b"x", Err(Refusal::Bytes)),
-            Step::Say(b"", Err(Refusal::Window)),
-            Step::Done(FRIEND, ME, 1),
-            Step::Say(b"", Err(Refusal::Window)),
-            Step::Done(OTHER, ME, 1),
-            Step::Say(b"", Ok(3)),
-            Step::Notice(OTHER),
-            Step::Say(b"", Err(Refusal::Window)),
-            // No other member is to have it.
-            Step::Notice(FRIEND),
-            Step::Say(b"", Ok(4)),
-            Step::Say(b"x", Err(Refusal::Budget)),
-            Step::Say(TOO_LONG, Err(Refusal::TooLong)),
-        ],
-    )
+    run(&rt, rt.alloc(), Kind::Beb, NARROW, USAGE_IS_BOUNDED)
 }
 
 /// Each origin's bytes are bounded by themselves. What is let fall, or known, counts nothing.
+const BYTES_OF_AN_ORIGIN_ARE_BOUNDED: &[Step] = &[
+    Step::Open(None),
+    Step::Came(FRIEND, (FRIEND, 1, b"sevenly")),
+    Step::Came(OTHER, (FRIEND, 1, b"known before")),
+    Step::Came(FRIEND, (FRIEND, 2, b"four")),
+    Step::Came(FRIEND, (FRIEND, 2, b"ten")),
+    Step::Came(FRIEND, (FRIEND, 3, b"x")),
+    Step::Came(FRIEND, (FRIEND, 4, b"")),
+    Step::Came(OTHER, (OTHER, 1, b"ten of them")),
+    Step::Came(OTHER, (OTHER, 1, b"ten of its")),
+    Step::Say(b"ten of own", Ok(1)),
+    Step::Log(&[
+        (FRIEND, 1, b"sevenly"),
+        (FRIEND, 2, b"ten"),
+        (FRIEND, 4, b""),
+        (OTHER, 1, b"ten of its"),
+        (ME, 1, b"ten of own"),
+    ]),
+];
+
 #[test]
 fn bytes_of_an_origin_are_bounded(rt: HostRuntime) -> Result<(), Fail> {
     run(
@@ -427,29 +428,34 @@ fn bytes_of_an_origin_are_bounded(rt: HostRuntime) -> Result<(), Fail> {
         rt.alloc(),
         Kind::Beb,
         NARROW,
-        &[
-            Step::Open(None),
-            Step::Came(FRIEND, (FRIEND, 1, b"sevenly")),
-            Step::Came(OTHER, (FRIEND, 1, b"known before")),
-            Step::Came(FRIEND, (FRIEND, 2, b"four")),
-            Step::Came(FRIEND, (FRIEND, 2, b"ten")),
-            Step::Came(FRIEND, (FRIEND, 3, b"x")),
-            Step::Came(FRIEND, (FRIEND, 4, b"")),
-            Step::Came(OTHER, (OTHER, 1, b"ten of them")),
-            Step::Came(OTHER, (OTHER, 1, b"ten of its")),
-            Step::Say(b"ten of own", Ok(1)),
-            Step::Log(&[
-                (FRIEND, 1, b"sevenly"),
-                (FRIEND, 2, b"ten"),
-                (FRIEND, 4, b""),
-                (OTHER, 1, b"ten of its"),
-                (ME, 1, b"ten of own"),
-            ]),
-        ],
+        BYTES_OF_AN_ORIGIN_ARE_BOUNDED,
     )
 }
 
 /// Each member says all its messages with all their bytes: nothing is refused or let fall, and each is put out once.
+const ALL_THAT_MAY_BE_SAID_IS_TAKEN: &[Step] = &[
+    Step::Open(None),
+    Step::Say(b"me", Ok(1)),
+    Step::Came(FRIEND, (FRIEND, 2, b"four")),
+    Step::Came(OTHER, (FRIEND, 1, b"")),
+    Step::Came(FRIEND, (FRIEND, 1, b"")),
+    Step::Came(OTHER, (OTHER, 1, b"a")),
+    Step::Came(FRIEND, (OTHER, 2, b"few")),
+    Step::Say(b"us", Ok(2)),
+    Step::Came(OTHER, (OTHER, 3, b"")),
+    Step::Say(b"", Err(Refusal::Budget)),
+    Step::Waits(FRIEND, 6, (ME, 1, b"me")),
+    Step::Waits(OTHER, 6, (ME, 1, b"me")),
+    Step::Log(&[
+        (ME, 1, b"me"),
+        (FRIEND, 2, b"four"),
+        (FRIEND, 1, b""),
+        (OTHER, 1, b"a"),
+        (OTHER, 2, b"few"),
+        (ME, 2, b"us"),
+    ]),
+];
+
 #[test]
 fn all_that_may_be_said_is_taken(rt: HostRuntime) -> Result<(), Fail> {
     run(
@@ -457,27 +463,6 @@ fn all_that_may_be_said_is_taken(rt: HostRuntime) -> Result<(), Fail> {
         rt.alloc(),
         Kind::Eager,
         SMALL,
-        &[
-            Step::Open(None),
-            Step::Say(b"me", Ok(1)),
-            Step::Came(FRIEND, (FRIEND, 2, b"four")),
-            Step::Came(OTHER, (FRIEND, 1, b"")),
-            Step::Came(FRIEND, (FRIEND, 1, b"")),
-            Step::Came(OTHER, (OTHER, 1, b"a")),
-            Step::Came(FRIEND, (OTHER, 2, b"few")),
-            Step::Say(b"us", Ok(2)),
-            Step::Came(OTHER, (OTHER, 3, b"")),
-            Step::Say(b"", Err(Refusal::Budget)),
-            Step::Waits(FRIEND, 6, (ME, 1, b"me")),
-            Step::Waits(OTHER, 6, (ME, 1, b"me")),
-            Step::Log(&[
-                (ME, 1, b"me"),
-                (FRIEND, 2, b"four"),
-                (FRIEND, 1, b""),
-                (OTHER, 1, b"a"),
-                (OTHER, 2, b"few"),
-                (ME, 2, b"us"),
-            ]),
-        ],
+        ALL_THAT_MAY_BE_SAID_IS_TAKEN,
     )
 }

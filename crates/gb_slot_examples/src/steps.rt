@@ -5,35 +5,41 @@ use gb_types::node::NodeId;
 use gb_types::refusal::Refusal;
 use std::process::Abort;
 
-pub const ME: NodeId = NodeId { number: 1 };
+pub const ME: u8 = 1;
 
-pub const FRIEND: NodeId = NodeId { number: 2 };
+pub const FRIEND: u8 = 2;
 
-pub const OTHER: NodeId = NodeId { number: 3 };
+pub const OTHER: u8 = 3;
 
-pub const STRANGER: NodeId = NodeId { number: 4 };
+pub const STRANGER: u8 = 4;
+
+/// The node with this number, below 16.
+pub fn node(number: u8) -> NodeId {
+    NodeId::new(number % 16)
+}
 
 /// The origin, number and payload of a message.
-pub type Message = (NodeId, u16, &'static [u8]);
+pub type Message = (u8, u16, &'static [u8]);
 
+/// A call, with nodes by their numbers, and what it must answer.
 #[derive(Clone, Copy)]
-pub enum Step<'a> {
+pub enum Step {
     Open(Option<Refusal>),
     Shut(Option<Refusal>),
     /// A payload is said and gets a number, or is refused.
     Say(&'static [u8], Result<u16, Refusal>),
     /// A message comes from a node.
-    Came(NodeId, Message),
-    Notice(NodeId),
+    Came(u8, Message),
+    Notice(u8),
     /// A node acknowledges the message of an origin with a number.
-    Done(NodeId, NodeId, u16),
+    Done(u8, u8, u16),
     /// So many items are taken, of those that wait for the node.
-    Take(NodeId, usize),
+    Take(u8, usize),
     /// So many wait for the node, this one first.
-    Waits(NodeId, usize, Message),
-    Idle(NodeId),
+    Waits(u8, usize, Message),
+    Idle(u8),
     /// The log has these messages, and no more.
-    Log(&'a [Message]),
+    Log(&'static [Message]),
     /// So many entries are read from a place on, this number at most.
     Fetch(u32, u32, Result<usize, Refusal>),
     /// So many messages were said.
@@ -43,7 +49,8 @@ pub enum Step<'a> {
 }
 
 fn waits(slot: &Slot, dest: NodeId, count: usize, want: Message) -> bool {
-    let (origin, seq, payload) = want;
+    let (number, seq, payload) = want;
+    let origin = node(number);
     match slot.peek(dest) {
         Some((m, found)) => {
             slot.waiting_for(dest) == count && m == MsgId { origin, seq } && found == payload
@@ -59,8 +66,11 @@ fn has_log(slot: &Slot, want: &[Message]) -> bool {
     if log.len() != want.len() {
         return false;
     }
-    for (entry, (origin, seq, payload)) in log.iter().zip(want) {
-        if entry.origin != *origin || entry.seq != *seq || entry.payload.as_slice() != *payload {
+    for (entry, (number, seq, payload)) in log.iter().zip(want) {
+        if entry.origin.number != *number
+            || entry.seq != *seq
+            || entry.payload.as_slice() != *payload
+        {
             return false;
         }
     }
@@ -78,10 +88,10 @@ fn is_acknowledged(slot: &Slot, place: usize, want: [bool; 4]) -> bool {
     match slot.acknowledged().get(place) {
         Some(found) => {
             [
-                found.contains(ME),
-                found.contains(FRIEND),
-                found.contains(OTHER),
-                found.contains(STRANGER),
+                found.contains(node(ME)),
+                found.contains(node(FRIEND)),
+                found.contains(node(OTHER)),
+                found.contains(node(STRANGER)),
             ] == want
         }
         None => false,
@@ -89,32 +99,40 @@ fn is_acknowledged(slot: &Slot, place: usize, want: [bool; 4]) -> bool {
 }
 
 /// Makes the call, and says whether it answers what it must.
-fn holds(slot: &mut Slot, step: Step<'_>) -> bool {
+fn holds(slot: &mut Slot, step: Step) -> bool {
     match step {
         Step::Open(want) => slot.open_group().err() == want,
         Step::Shut(want) => slot.shut_group().err() == want,
         Step::Say(payload, want) => slot.say(payload) == want,
         Step::Came(from, (origin, seq, payload)) => {
-            slot.came(from, origin, seq, payload);
+            slot.came(node(from), node(origin), seq, payload);
             true
         }
         Step::Notice(who) => {
-            slot.notice(who);
+            slot.notice(node(who));
             true
         }
         Step::Done(dest, origin, seq) => {
-            slot.done(dest, MsgId { origin, seq });
+            let m = MsgId {
+                origin: node(origin),
+                seq,
+            };
+            slot.done(node(dest), m);
             true
         }
         Step::Take(dest, count) => {
+            let dest = node(dest);
             if count > slot.waiting_for(dest) {
                 return false;
             }
             slot.took(dest, count);
             true
         }
-        Step::Waits(dest, count, want) => waits(slot, dest, count, want),
-        Step::Idle(dest) => slot.waiting_for(dest) == 0 && slot.peek(dest).is_none(),
+        Step::Waits(dest, count, want) => waits(slot, node(dest), count, want),
+        Step::Idle(dest) => {
+            let dest = node(dest);
+            slot.waiting_for(dest) == 0 && slot.peek(dest).is_none()
+        }
         Step::Log(want) => has_log(slot, want),
         Step::Fetch(from, most, want) => fetches(slot, from, most, want),
         Step::Said(count) => slot.acknowledged().len() == count,
@@ -123,7 +141,7 @@ fn holds(slot: &mut Slot, step: Step<'_>) -> bool {
 }
 
 /// Each call answers what it must.
-pub fn compare(rt: &impl Abort, slot: &mut Slot, steps: &[Step<'_>]) {
+pub fn compare(rt: &impl Abort, slot: &mut Slot, steps: &[Step]) {
     for step in steps {
         let held = holds(slot, *step);
         assert!(rt; held);

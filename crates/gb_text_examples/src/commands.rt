@@ -32,38 +32,65 @@ fn shown(alloc: Global, words: &[u8], numbers: &[u64]) -> Result<Vec<u8>, OutOfM
     Ok(text)
 }
 
-/// A request's word, the node and the address.
-fn addressed(
+/// Words, numbers behind them, and then each byte as a number.
+fn shown_bytes(
     alloc: Global,
     words: &[u8],
-    node: u64,
-    address: Addr,
+    numbers: &[u64],
+    bytes: &[u8],
 ) -> Result<Vec<u8>, OutOfMemory> {
-    let numbers = [node, u64::from(address.tenant), u64::from(address.group)];
-    shown(alloc, words, &numbers)
+    let mut text = shown(alloc, words, numbers)?;
+    for byte in bytes {
+        add(&mut text, u64::from(*byte))?;
+    }
+    Ok(text)
+}
+
+/// A request's node and address.
+fn place(node: u64, address: Addr) -> [u64; 3] {
+    [node, u64::from(address.tenant), u64::from(address.group)]
 }
 
 /// A tenant's row, without its key.
 fn told_row(alloc: Global, node: u64, row: &TenantRow) -> Result<Vec<u8>, OutOfMemory> {
-    let mut text = shown(alloc, b"take in", &[node, u64::from(row.tenant)])?;
-    add(&mut text, u64::from(row.groups))?;
-    add(&mut text, u64::from(row.msgs))?;
-    add(&mut text, u64::from(row.bytes))?;
-    add(&mut text, u64::from(row.window))?;
-    Ok(text)
+    let numbers = [
+        node,
+        u64::from(row.tenant),
+        u64::from(row.groups),
+        u64::from(row.msgs),
+        u64::from(row.bytes),
+        u64::from(row.window),
+    ];
+    shown(alloc, b"take in", &numbers)
 }
 
-/// A spec's members come last, by number.
-fn told_spec(alloc: Global, node: u64, address: Addr, spec: &Spec) -> Result<Vec<u8>, OutOfMemory> {
+/// A spec, without its members.
+fn told_limits(
+    alloc: Global,
+    node: u64,
+    address: Addr,
+    spec: &Spec,
+) -> Result<Vec<u8>, OutOfMemory> {
     let words: &[u8] = if spec.kind == Kind::Beb {
         b"make"
     } else {
         b"make another kind"
     };
-    let mut text = addressed(alloc, words, node, address)?;
-    add(&mut text, u64::from(spec.msgs))?;
-    add(&mut text, u64::from(spec.bytes))?;
-    add(&mut text, u64::from(spec.window))?;
+    let [node, tenant, group] = place(node, address);
+    let numbers = [
+        node,
+        tenant,
+        group,
+        u64::from(spec.msgs),
+        u64::from(spec.bytes),
+        u64::from(spec.window),
+    ];
+    shown(alloc, words, &numbers)
+}
+
+/// A spec's members come last, by number.
+fn told_spec(alloc: Global, node: u64, address: Addr, spec: &Spec) -> Result<Vec<u8>, OutOfMemory> {
+    let mut text = told_limits(alloc, node, address, spec)?;
     for number in 0..16u8 {
         if spec.members.contains(NodeId::new(number)) {
             add(&mut text, u64::from(number))?;
@@ -72,28 +99,54 @@ fn told_spec(alloc: Global, node: u64, address: Addr, spec: &Spec) -> Result<Vec
     Ok(text)
 }
 
+/// What is read, from a place on.
+fn told_fetch(
+    alloc: Global,
+    node: u64,
+    address: Addr,
+    from: u32,
+    most: u32,
+) -> Result<Vec<u8>, OutOfMemory> {
+    let [node, tenant, group] = place(node, address);
+    let numbers = [node, tenant, group, u64::from(from), u64::from(most)];
+    shown(alloc, b"fetch", &numbers)
+}
+
 /// What a request at a node asks for.
 fn told_request(alloc: Global, node: u64, request: &Request) -> Result<Vec<u8>, OutOfMemory> {
     match request {
         Request::AddTenant(_, row) => told_row(alloc, node, row),
         Request::Make(_, address, spec) => told_spec(alloc, node, *address, spec),
-        Request::OpenGroup(_, address) => addressed(alloc, b"open", node, *address),
-        Request::ShutGroup(_, address) => addressed(alloc, b"shut", node, *address),
-        Request::DropGroup(_, address) => addressed(alloc, b"drop", node, *address),
+        Request::OpenGroup(_, address) => shown(alloc, b"open", &place(node, *address)),
+        Request::ShutGroup(_, address) => shown(alloc, b"shut", &place(node, *address)),
+        Request::DropGroup(_, address) => shown(alloc, b"drop", &place(node, *address)),
         Request::Say(_, address, payload) => {
-            let mut text = addressed(alloc, b"say", node, *address)?;
-            for byte in payload.as_slice() {
-                add(&mut text, u64::from(*byte))?;
-            }
-            Ok(text)
+            shown_bytes(alloc, b"say", &place(node, *address), payload.as_slice())
         }
-        Request::Fetch(_, address, from, most) => {
-            let mut text = addressed(alloc, b"fetch", node, *address)?;
-            add(&mut text, u64::from(*from))?;
-            add(&mut text, u64::from(*most))?;
-            Ok(text)
-        }
+        Request::Fetch(_, address, from, most) => told_fetch(alloc, node, *address, *from, *most),
     }
+}
+
+/// Words, and a node behind them.
+fn at(alloc: Global, words: &[u8], node: NodeId) -> Result<Vec<u8>, OutOfMemory> {
+    shown(alloc, words, &[u64::from(node.number)])
+}
+
+/// Words, and two nodes behind them.
+fn between(alloc: Global, words: &[u8], node: NodeId, to: NodeId) -> Result<Vec<u8>, OutOfMemory> {
+    let numbers = [u64::from(node.number), u64::from(to.number)];
+    shown(alloc, words, &numbers)
+}
+
+/// A frame that is given again.
+fn told_again(alloc: Global, node: NodeId, to: NodeId, frame: u64) -> Result<Vec<u8>, OutOfMemory> {
+    let numbers = [u64::from(node.number), u64::from(to.number), frame];
+    shown(alloc, b"again", &numbers)
+}
+
+/// Bytes that are handed in at a node.
+fn told_noise(alloc: Global, node: NodeId, bytes: &[u8]) -> Result<Vec<u8>, OutOfMemory> {
+    shown_bytes(alloc, b"noise", &[u64::from(node.number)], bytes)
 }
 
 /// What a command asks for.
@@ -103,40 +156,43 @@ fn told_command(alloc: Global, command: &Command) -> Result<Vec<u8>, OutOfMemory
             shown(alloc, b"cluster", &[u64::from(*nodes), u64::from(*silence)])
         }
         Command::Request(node, request) => told_request(alloc, u64::from(node.number), request),
-        Command::Pack(node, to) => {
-            shown(
-                alloc,
-                b"pack",
-                &[u64::from(node.number), u64::from(to.number)],
-            )
-        }
-        Command::Again(node, to, frame) => {
-            let mut text = shown(
-                alloc,
-                b"again",
-                &[u64::from(node.number), u64::from(to.number)],
-            )?;
-            add(&mut text, *frame)?;
-            Ok(text)
-        }
-        Command::Ack(node, to) => {
-            shown(
-                alloc,
-                b"acknowledge",
-                &[u64::from(node.number), u64::from(to.number)],
-            )
-        }
+        Command::Pack(node, to) => between(alloc, b"pack", *node, *to),
+        Command::Again(node, to, frame) => told_again(alloc, *node, *to, *frame),
+        Command::Ack(node, to) => between(alloc, b"acknowledge", *node, *to),
         Command::Arrive(packet) => shown(alloc, b"arrive", &[*packet]),
-        Command::Noise(node, bytes) => {
-            let mut text = shown(alloc, b"noise", &[u64::from(node.number)])?;
-            for byte in bytes.as_slice() {
-                add(&mut text, u64::from(*byte))?;
-            }
-            Ok(text)
-        }
-        Command::Tick(node) => shown(alloc, b"tick", &[u64::from(node.number)]),
-        Command::Stop(node) => shown(alloc, b"stop", &[u64::from(node.number)]),
+        Command::Noise(node, bytes) => told_noise(alloc, *node, bytes.as_slice()),
+        Command::Tick(node) => at(alloc, b"tick", *node),
+        Command::Stop(node) => at(alloc, b"stop", *node),
     }
+}
+
+/// What a line asks for.
+fn told(
+    alloc: Global,
+    keys: &mut Keys,
+    nodes: Option<u8>,
+    line: &[u8],
+) -> Result<Vec<u8>, OutOfMemory>
+    requires { ForSome nodes (λ count. (1 ≤ count) × (count ≤ NODES)) }
+{
+    match read_command(alloc, keys, nodes, line)? {
+        Some(command) => told_command(alloc, &command),
+        None => shown(alloc, b"bad", &[]),
+    }
+}
+
+/// Whether a line asks for what stands behind its `=`, or for nothing where it has none.
+fn is_told(
+    alloc: Global,
+    keys: &mut Keys,
+    nodes: Option<u8>,
+    each: &str,
+) -> Result<bool, OutOfMemory>
+    requires { ForSome nodes (λ count. (1 ≤ count) × (count ≤ NODES)) }
+{
+    let (line, wanted) = each.split_once('=').unwrap_or((each, "bad"));
+    let found = told(alloc, keys, nodes, line.as_bytes())?;
+    Ok(found.as_slice() == wanted.as_bytes())
 }
 
 /// Each line, one under the other, asks for what stands behind its `=`, or for nothing where it has none. Gives their count.
@@ -146,15 +202,8 @@ fn compare(rt: &impl Abort, alloc: Global, nodes: Option<u8>, lines: &str) -> Re
     let mut keys = Keys::new(alloc);
     let mut count: usize = 0;
     for each in lines.split('\n') {
-        let (line, told) = match each.split_once('=') {
-            Some((line, told)) => (line, told),
-            None => (each, "bad"),
-        };
-        let found = match read_command(alloc, &mut keys, nodes, line.as_bytes())? {
-            Some(command) => told_command(alloc, &command)?,
-            None => Vec::from_slice(alloc, b"bad")?,
-        };
-        assert!(rt; found.as_slice() == told.as_bytes());
+        let held = is_told(alloc, &mut keys, nodes, each)?;
+        assert!(rt; held);
         count = count.wrapping_add(1);
     }
     Ok(count)
@@ -190,12 +239,16 @@ fn bad_lines(rt: HostRuntime) -> Result<(), Fail> {
     Ok(())
 }
 
+const SILENT_LINES: &[&str] = &["", "#", "# open 0 7 1", "#\r"];
+
+const LOUD_LINES: &[&str] = &[" ", " #", "\r"];
+
 #[test]
 fn silent_lines(rt: HostRuntime) {
-    for line in ["", "#", "# open 0 7 1", "#\r"] {
+    for line in SILENT_LINES {
         assert!(rt; is_silent(line.as_bytes()));
     }
-    for line in [" ", " #", "\r"] {
+    for line in LOUD_LINES {
         assert!(rt; !is_silent(line.as_bytes()));
     }
     for line in GOOD_LINES.split('\n') {

@@ -3,7 +3,6 @@ use gb_schedule::lines::{LineBuffer, LinesFault, NextLine};
 use gb_types::memory::OutOfMemory;
 use std::alloc::{AllocError, Global};
 use std::io::{ErrorKind, Read};
-use std::process::Abort;
 use std::test::Fail;
 use std::{cmp, io};
 
@@ -42,109 +41,139 @@ fn in_pieces(text: &[u8], piece: usize) -> Pieces<'_> {
     }
 }
 
+/// A line, and a stroke behind it.
+fn show_line(text: &mut String, line: &[u8]) -> Result<(), OutOfMemory> {
+    for byte in line {
+        text.push(char::from(*byte))?;
+    }
+    Ok(text.push('|')?)
+}
+
+/// The next line, or how the lines end. Answers whether there was a line.
+fn show_next<R: Read>(
+    text: &mut String,
+    lines: &mut LineBuffer,
+    reader: &mut R,
+) -> Result<bool, OutOfMemory> {
+    let end = match lines.next(reader) {
+        Ok(NextLine::Given) => {
+            show_line(text, lines.line())?;
+            return Ok(true);
+        }
+        Ok(NextLine::TooLong) => "too long",
+        Ok(NextLine::End) => "end",
+        Err(LinesFault::Read) => "fault",
+        Err(LinesFault::TooManyReads) => "too many reads",
+    };
+    text.push_str(end)?;
+    Ok(false)
+}
+
 /// The lines that come, each with a stroke behind it, and then how they end.
 fn shown<R: Read>(alloc: Global, reader: &mut R) -> Result<String, OutOfMemory> {
     let mut lines = LineBuffer::new(alloc)?;
     let mut text = String::new(alloc);
     for _ in 0..100_000 {
-        match lines.next(reader) {
-            Ok(NextLine::Given) => {
-                for byte in lines.line() {
-                    text.push(char::from(*byte))?;
-                }
-                text.push('|')?;
-            }
-            Ok(NextLine::TooLong) => {
-                text.push_str("too long")?;
-                break;
-            }
-            Ok(NextLine::End) => {
-                text.push_str("end")?;
-                break;
-            }
-            Err(LinesFault::Read) => {
-                text.push_str("fault")?;
-                break;
-            }
-            Err(LinesFault::TooManyReads) => {
-                text.push_str("too many reads")?;
-                break;
-            }
+        if !show_next(&mut text, &mut lines, reader)? {
+            break;
         }
     }
     Ok(text)
 }
 
+/// Whether these lines are shown.
+fn shows<R: Read>(alloc: Global, reader: &mut R, lines: &str) -> Result<bool, OutOfMemory> {
+    let given = shown(alloc, reader)?;
+    Ok(given.as_str() == lines)
+}
+
+/// Whether what is shown ends with these lines.
+fn shows_last<R: Read>(alloc: Global, reader: &mut R, ends: &str) -> Result<bool, OutOfMemory> {
+    let given = shown(alloc, reader)?;
+    Ok(given.as_str().ends_with(ends))
+}
+
+const TEXTS: &[(&str, &str)] = &[
+    ("", "end"),
+    ("\n", "|end"),
+    ("a", "a|end"),
+    ("a\n", "a|end"),
+    ("a\nb", "a|b|end"),
+    ("a\n\nb\n", "a||b|end"),
+    ("\n\na", "||a|end"),
+    ("a b\r\nc\r", "a b\r|c\r|end"),
+    (
+        "cluster 2 3\npack 0 1\narrive 1\n",
+        "cluster 2 3|pack 0 1|arrive 1|end",
+    ),
+];
+
+const PIECES: &[usize] = &[1, 2, 3, 7, 65_536];
+
+/// Whether these lines come of the text in any pieces.
+fn is_read(alloc: Global, text: &[u8], lines: &str) -> Result<bool, OutOfMemory> {
+    for piece in PIECES {
+        if !shows(alloc, &mut in_pieces(text, *piece), lines)? {
+            return Ok(false);
+        }
+    }
+    let mut whole = text;
+    shows(alloc, &mut whole, lines)
+}
+
 #[test]
 fn lines_in_any_pieces(rt: HostRuntime) -> Result<(), Fail> {
-    let texts: [(&str, &str); 9] = [
-        ("", "end"),
-        ("\n", "|end"),
-        ("a", "a|end"),
-        ("a\n", "a|end"),
-        ("a\nb", "a|b|end"),
-        ("a\n\nb\n", "a||b|end"),
-        ("\n\na", "||a|end"),
-        ("a b\r\nc\r", "a b\r|c\r|end"),
-        (
-            "cluster 2 3\npack 0 1\narrive 1\n",
-            "cluster 2 3|pack 0 1|arrive 1|end",
-        ),
-    ];
-    for (text, lines) in texts {
-        for piece in [1, 2, 3, 7, 65_536] {
-            let given = shown(rt.alloc(), &mut in_pieces(text.as_bytes(), piece))?;
-            assert!(rt; given.as_str() == lines);
-        }
-        let given = shown(rt.alloc(), &mut text.as_bytes())?;
-        assert!(rt; given.as_str() == lines);
+    for (text, lines) in TEXTS {
+        let held = is_read(rt.alloc(), text.as_bytes(), lines)?;
+        assert!(rt; held);
     }
     Ok(())
+}
+
+/// Whether these lines come where the third read fails so.
+fn shows_failing(alloc: Global, kind: ErrorKind, lines: &str) -> Result<bool, OutOfMemory> {
+    let mut reader = in_pieces(b"a\nbcd\ne", 2);
+    reader.failing = 2;
+    reader.kind = kind;
+    shows(alloc, &mut reader, lines)
 }
 
 #[test]
 fn a_failed_read_is_a_fault_and_an_interrupted_one_is_made_again(
     rt: HostRuntime,
 ) -> Result<(), Fail> {
-    for (kind, lines) in [
-        (ErrorKind::Other, "a|fault"),
-        (ErrorKind::Interrupted, "a|bcd|e|end"),
-    ] {
-        let mut reader = in_pieces(b"a\nbcd\ne", 2);
-        reader.failing = 2;
-        reader.kind = kind;
-        let given = shown(rt.alloc(), &mut reader)?;
-        assert!(rt; given.as_str() == lines);
-    }
+    let failed = shows_failing(rt.alloc(), ErrorKind::Other, "a|fault")?;
+    assert!(rt; failed);
+    let again = shows_failing(rt.alloc(), ErrorKind::Interrupted, "a|bcd|e|end")?;
+    assert!(rt; again);
     Ok(())
 }
 
-/// The next line is told so, and then this line stands.
-fn gives<R: Read>(
-    rt: &impl Abort,
-    lines: &mut LineBuffer,
-    reader: &mut R,
-    told: Result<NextLine, LinesFault>,
-    line: &[u8],
-) {
-    let found = lines.next(reader);
-    assert!(rt; found == told);
-    assert!(rt; lines.line() == line);
+/// What the next line is told to be, and the line that then stands.
+type Next = (Result<NextLine, LinesFault>, &'static [u8]);
+
+/// Whether the next line is told so, and then this line stands.
+fn gives<R: Read>(lines: &mut LineBuffer, reader: &mut R, next: &Next) -> bool {
+    let (told, line) = *next;
+    lines.next(reader) == told && lines.line() == line
 }
+
+const AFTER_A_FAILED_READ: &[Next] = &[
+    (Err(LinesFault::Read), b""),
+    (Ok(NextLine::Given), b"ab"),
+    (Ok(NextLine::Given), b"c"),
+    (Ok(NextLine::End), b""),
+    (Ok(NextLine::End), b""),
+];
 
 #[test]
 fn nothing_is_lost_at_a_failed_read(rt: HostRuntime) -> Result<(), Fail> {
     let mut reader = in_pieces(b"ab\nc", 1);
     reader.failing = 1;
     let mut lines = LineBuffer::new(rt.alloc())?;
-    for (told, line) in [
-        (Err(LinesFault::Read), b"".as_slice()),
-        (Ok(NextLine::Given), b"ab"),
-        (Ok(NextLine::Given), b"c"),
-        (Ok(NextLine::End), b""),
-        (Ok(NextLine::End), b""),
-    ] {
-        gives(&rt, &mut lines, &mut reader, told, line);
+    for next in AFTER_A_FAILED_READ {
+        let held = gives(&mut lines, &mut reader, next);
+        assert!(rt; held);
     }
     assert!(rt; reader.reads == 6);
     Ok(())
@@ -157,24 +186,37 @@ fn long_line(alloc: Global, count: usize) -> Result<Vec<u8>, AllocError> {
     Ok(text)
 }
 
+/// Whether what is shown of a line of so many bytes, and a short one, ends so in any pieces.
+fn is_long_line_read(alloc: Global, count: usize, ends: &str) -> Result<bool, OutOfMemory> {
+    let text = long_line(alloc, count)?;
+    for piece in [7, 32_768, 65_536] {
+        if !shows_last(alloc, &mut in_pieces(&text, piece), ends)? {
+            return Ok(false);
+        }
+    }
+    Ok(true)
+}
+
 #[test]
 fn the_longest_line(rt: HostRuntime) -> Result<(), Fail> {
     for (count, ends) in [(32_768, "#|b|end"), (32_769, "too long")] {
-        let text = long_line(rt.alloc(), count)?;
-        for piece in [7, 32_768, 65_536] {
-            let given = shown(rt.alloc(), &mut in_pieces(&text, piece))?;
-            assert!(rt; given.as_str().ends_with(ends));
-        }
+        let held = is_long_line_read(rt.alloc(), count, ends)?;
+        assert!(rt; held);
     }
     Ok(())
+}
+
+/// Whether what is shown of one line of so many bytes ends so.
+fn is_one_line_read(alloc: Global, count: usize, ends: &str) -> Result<bool, OutOfMemory> {
+    let text = vec![in alloc; b'#'; count]?;
+    shows_last(alloc, &mut in_pieces(&text, 1_000), ends)
 }
 
 #[test]
 fn the_longest_line_without_its_line_feed(rt: HostRuntime) -> Result<(), Fail> {
     for (count, ends) in [(32_768, "#|end"), (32_769, "too long")] {
-        let text = vec![in rt.alloc(); b'#'; count]?;
-        let given = shown(rt.alloc(), &mut in_pieces(&text, 1_000))?;
-        assert!(rt; given.as_str().ends_with(ends));
+        let held = is_one_line_read(rt.alloc(), count, ends)?;
+        assert!(rt; held);
     }
     Ok(())
 }
@@ -200,19 +242,26 @@ impl Read for Interrupted<'_> {
     }
 }
 
+/// Whether the next line is told so after so many interrupted reads.
+fn gives_after(alloc: Global, left: u64, next: &Next) -> Result<bool, OutOfMemory> {
+    let mut lines = LineBuffer::new(alloc)?;
+    let mut reader = Interrupted {
+        left,
+        text: b"ab\n",
+    };
+    Ok(gives(&mut lines, &mut reader, next))
+}
+
 /// A read that was interrupted counts; the line takes three reads more.
 #[test]
 fn as_many_reads_as_are_allowed(rt: HostRuntime) -> Result<(), Fail> {
-    for (left, told, line) in [
-        (63_999_997, Ok(NextLine::Given), b"ab".as_slice()),
-        (63_999_998, Err(LinesFault::TooManyReads), b""),
-    ] {
-        let mut lines = LineBuffer::new(rt.alloc())?;
-        let mut reader = Interrupted {
-            left,
-            text: b"ab\n",
-        };
-        gives(&rt, &mut lines, &mut reader, told, line);
-    }
+    let given = gives_after(rt.alloc(), 63_999_997, &(Ok(NextLine::Given), b"ab"))?;
+    assert!(rt; given);
+    let too_many = gives_after(
+        rt.alloc(),
+        63_999_998,
+        &(Err(LinesFault::TooManyReads), b""),
+    )?;
+    assert!(rt; too_many);
     Ok(())
 }

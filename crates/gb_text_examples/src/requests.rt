@@ -43,55 +43,70 @@ const GROUP: Addr = Addr {
     group: 1,
 };
 
+const WORDS: &[(&[u8], Option<[u8; 32]>)] = &[
+    (&DIGITS, Some(BYTES)),
+    (&[b'0'; 64], Some([0; 32])),
+    (&[b'f'; 64], Some([255; 32])),
+    (&[b'F'; 64], Some([255; 32])),
+    (&[b'0'; 65], None),
+    (&[b'0'; 66], None),
+    (b"", None),
+    (b"-", None),
+];
+
+const NO_DIGITS: &[u8] = &[b'/', b':', b'@', b'G', b'`', b'g', b' ', 0, 0x80, 0xff];
+
+/// Whether 64 digits spell no token with this byte in place of one.
+fn is_no_digit(byte: u8) -> bool {
+    for place in [0usize, 31, 63] {
+        let mut word = DIGITS;
+        word[place] = byte;
+        if read_token(&word).is_some() {
+            return false;
+        }
+    }
+    true
+}
+
 #[test]
 fn a_token_is_64_digits_of_both_cases(rt: HostRuntime) {
-    for (word, token) in [
-        (DIGITS.as_slice(), Some(BYTES)),
-        (&[b'0'; 64], Some([0; 32])),
-        (&[b'f'; 64], Some([255; 32])),
-        (&[b'F'; 64], Some([255; 32])),
-        (&DIGITS[..63], None),
-        (&DIGITS[..62], None),
-        (&[b'0'; 65], None),
-        (&[b'0'; 66], None),
-        (b"", None),
-        (b"-", None),
-    ] {
+    for (word, token) in WORDS {
         let found = read_token(word);
-        assert!(rt; found == token);
+        assert!(rt; found == *token);
     }
-    for byte in [b'/', b':', b'@', b'G', b'`', b'g', b' ', 0, 0x80, 0xff] {
-        for place in [0usize, 31, 63] {
-            let mut word = DIGITS;
-            assert!(rt; place < word.len());
-            word[place] = byte;
-            let found = read_token(&word);
-            assert!(rt; found.is_none());
-        }
+    for count in [63, 62] {
+        let found = read_token(&DIGITS[..count]);
+        assert!(rt; found.is_none());
+    }
+    for byte in NO_DIGITS {
+        assert!(rt; is_no_digit(*byte));
     }
 }
 
 /// Whether the request is of group 1 of tenant 7, with the token of the others.
-fn is_of_group(token: [u8; 32], address: Addr) -> bool {
-    token == BYTES && address == GROUP
+fn is_of_group(token: &[u8; 32], address: Addr) -> bool {
+    *token == BYTES && address == GROUP
 }
 
 /// Which of these requests it is, where all its parts are the ones that its words spell: 1 open, 2 shut, 3 drop, 4 say,
 /// 5 fetch, 6 tenant, 7 make; 0 where it is none of them.
-fn which(request: Request) -> u8 {
-    match request {
-        Request::OpenGroup(token, address) if is_of_group(token, address) => 1,
-        Request::ShutGroup(token, address) if is_of_group(token, address) => 2,
-        Request::DropGroup(token, address) if is_of_group(token, address) => 3,
-        Request::Say(token, address, payload)
-            if is_of_group(token, address) && payload.as_slice() == b"\xc0\xff\xee".as_slice() => {
-            4
+fn which(request: &Request) -> u8 {
+    let (number, is_spelled) = match request {
+        Request::OpenGroup(token, address) => (1, is_of_group(token, *address)),
+        Request::ShutGroup(token, address) => (2, is_of_group(token, *address)),
+        Request::DropGroup(token, address) => (3, is_of_group(token, *address)),
+        Request::Say(token, address, payload) => {
+            let is_said = payload.as_slice() == b"\xc0\xff\xee".as_slice();
+            (4, is_said && is_of_group(token, *address))
         }
-        Request::Fetch(token, address, 5, 16) if is_of_group(token, address) => 5,
-        Request::AddTenant(token, row) if token == BYTES && is_row(&row) => 6,
-        Request::Make(token, address, spec) if token == BYTES && is_spec(address, &spec) => 7,
-        _ => 0,
-    }
+        Request::Fetch(token, address, from, most) => {
+            let is_fetched = *from == 5 && *most == 16;
+            (5, is_fetched && is_of_group(token, *address))
+        }
+        Request::AddTenant(token, row) => (6, *token == BYTES && is_row(row)),
+        Request::Make(token, address, spec) => (7, *token == BYTES && is_spec(*address, spec)),
+    };
+    if is_spelled { number } else { 0 }
 }
 
 /// Whether the row is that of the words.
@@ -120,30 +135,38 @@ fn is_spec(address: Addr, spec: &Spec) -> bool {
     is_named && is_limited && spec.kind == Kind::FifoLazy
 }
 
+/// Each body, and which request it spells.
+const HEADS: &[(&[u8], u8)] = &[
+    (OPEN, 1),
+    (SHUT, 2),
+    (DROP, 3),
+    (SAY, 4),
+    (FETCH, 5),
+    (TENANT, 6),
+    (MAKE, 7),
+];
+
+/// Whether the body spells this request.
+fn is_head(alloc: Global, body: &[u8], number: u8) -> Result<bool, Refusal> {
+    let request = parse_request(alloc, body)?;
+    Ok(which(&request) == number)
+}
+
 #[test]
 fn each_head_spells_its_request(rt: HostRuntime) -> Result<(), Fail> {
-    for (body, number) in [
-        (OPEN, 1),
-        (SHUT, 2),
-        (DROP, 3),
-        (SAY, 4),
-        (FETCH, 5),
-        (TENANT, 6),
-        (MAKE, 7),
-    ] {
-        let request = parse_request(rt.alloc(), body)?;
-        assert!(rt; which(request) == number);
+    for (body, number) in HEADS {
+        let held = is_head(rt.alloc(), body, *number)?;
+        assert!(rt; held);
     }
     Ok(())
 }
 
 /// A say in the group 1 of this tenant, with so many digits of payload.
 fn say(alloc: Global, tenant: &[u8], digits: usize) -> Result<Vec<u8>, OutOfMemory> {
-    let mut body = Vec::from_slice(alloc, b"say ")?;
-    body.extend_from_slice(&DIGITS)?;
-    body.extend_from_slice(b" ")?;
-    body.extend_from_slice(tenant)?;
-    body.extend_from_slice(b" 1 ")?;
+    let mut body = Vec::new(alloc);
+    for part in [b"say ".as_slice(), &DIGITS, b" ", tenant, b" 1 "] {
+        body.extend_from_slice(part)?;
+    }
     for _ in 0..digits {
         body.push(b'6')?;
     }
@@ -155,34 +178,49 @@ fn is_malformed(alloc: Global, body: &[u8]) -> bool {
     matches!(parse_request(alloc, body), Err(Refusal::Malformed))
 }
 
-#[test]
-fn a_body_is_as_long_as_it_may_be(rt: HostRuntime) -> Result<(), Fail> {
-    let alloc = rt.alloc();
+/// Whether the bytes are so many, and spell a say of so many bytes.
+fn is_say(alloc: Global, body: &[u8], len: usize, said: usize) -> bool {
+    match &parse_request(alloc, body) {
+        Ok(Request::Say(_, _, payload)) => body.len() == len && payload.len() == said,
+        _ => false,
+    }
+}
+
+/// Whether the longest body spells a say.
+fn longest_is_say(alloc: Global) -> Result<bool, OutOfMemory> {
     let body = say(alloc, b"10", 4_022)?;
-    assert!(rt; body.len() == 4_096);
-    let Request::Say(_, _, payload) = parse_request(alloc, &body)? else {
-        return Err(Fail::from("a say"));
-    };
-    assert!(rt; payload.len() == 2_011);
+    Ok(is_say(alloc, &body, 4_096, 2_011))
+}
+
+/// Whether a body of one byte more is malformed.
+fn longer_is_malformed(alloc: Global) -> Result<bool, OutOfMemory> {
     let body = say(alloc, b"7", 4_024)?;
-    assert!(rt; body.len() == 4_097);
-    assert!(rt; is_malformed(alloc, &body));
-    Ok(())
+    Ok(body.len() == 4_097 && is_malformed(alloc, &body))
 }
 
 #[test]
+fn a_body_is_as_long_as_it_may_be(rt: HostRuntime) -> Result<(), Fail> {
+    let longest = longest_is_say(rt.alloc())?;
+    assert!(rt; longest);
+    let longer = longer_is_malformed(rt.alloc())?;
+    assert!(rt; longer);
+    Ok(())
+}
+
+const BODIES: &[&[u8]] = &[
+    b"",
+    b"open",
+    b"open 0123456789abcdefABCDEF0123456789abcdefABCDEF0123456789abcdefABC 7 1",
+    b"open 0123456789abcdefABCDEF0123456789abcdefABCDEF0123456789abcdefABCDE 7 1",
+    b"open 0123456789abcdefABCDEF0123456789abcdefABCDEF0123456789abcdefABCg 7 1",
+    b"open 0123456789abcdefABCDEF0123456789abcdefABCDEF0123456789abcdefABCD 07 1",
+    b"open 0123456789abcdefABCDEF0123456789abcdefABCDEF0123456789abcdefABCD 7 65536",
+    b"open  0123456789abcdefABCDEF0123456789abcdefABCDEF0123456789abcdefABCD 7 1",
+];
+
+#[test]
 fn a_body_in_no_case_of_the_table_is_malformed(rt: HostRuntime) {
-    let bodies: [&[u8]; 8] = [
-        b"",
-        b"open",
-        b"open 0123456789abcdefABCDEF0123456789abcdefABCDEF0123456789abcdefABC 7 1",
-        b"open 0123456789abcdefABCDEF0123456789abcdefABCDEF0123456789abcdefABCDE 7 1",
-        b"open 0123456789abcdefABCDEF0123456789abcdefABCDEF0123456789abcdefABCg 7 1",
-        b"open 0123456789abcdefABCDEF0123456789abcdefABCDEF0123456789abcdefABCD 07 1",
-        b"open 0123456789abcdefABCDEF0123456789abcdefABCDEF0123456789abcdefABCD 7 65536",
-        b"open  0123456789abcdefABCDEF0123456789abcdefABCDEF0123456789abcdefABCD 7 1",
-    ];
-    for body in bodies {
+    for body in BODIES {
         assert!(rt; is_malformed(rt.alloc(), body));
     }
 }

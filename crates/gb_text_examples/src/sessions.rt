@@ -139,37 +139,54 @@ fn is_held(alloc: Global, case: &Case, piece: usize) -> Result<bool, SessionFaul
     Ok(found == end && out.taken.as_slice() == written)
 }
 
+/// Holds a session, by pieces of several sizes.
+fn is_held_in_pieces(alloc: Global, case: &Case) -> Result<bool, SessionFault> {
+    for piece in [1, 2, 3, 7, 100] {
+        if !is_held(alloc, case, piece)? {
+            return Ok(false);
+        }
+    }
+    Ok(true)
+}
+
+const CASES: &[Case] = &[
+    NOTHING,
+    NO_REQUEST,
+    ONE_REQUEST,
+    CUT_IN_A_LENGTH,
+    TOO_LONG,
+    REQUEST_BEFORE_A_MALFORMED_ONE,
+];
+
 #[test]
 fn sessions_in_any_pieces(rt: HostRuntime) -> Result<(), Fail> {
-    let alloc = rt.alloc();
-    for case in [
-        NOTHING,
-        NO_REQUEST,
-        ONE_REQUEST,
-        CUT_IN_A_LENGTH,
-        TOO_LONG,
-        REQUEST_BEFORE_A_MALFORMED_ONE,
-    ] {
-        for piece in [1, 2, 3, 7, 100] {
-            let held = is_held(alloc, &case, piece)?;
-            assert!(rt; held);
-        }
+    for case in CASES {
+        let held = is_held_in_pieces(rt.alloc(), case)?;
+        assert!(rt; held);
     }
     Ok(())
 }
 
-#[test]
-fn a_failed_read_or_write_ends_the_session(rt: HostRuntime) -> Result<(), Fail> {
-    let alloc = rt.alloc();
+/// Whether a failed read ends the session, behind the reply.
+fn ends_at_a_read(alloc: Global) -> bool {
     let (read, written, _) = ONE_REQUEST;
     let mut out = with_space(alloc, 1_000);
     let end = serve(alloc, &mut Denies, &mut in_pieces(read, 7, true), &mut out);
-    assert!(rt; end == Err(SessionFault::Read));
-    assert!(rt; out.taken.as_slice() == written);
+    end == Err(SessionFault::Read) && out.taken.as_slice() == written
+}
+
+/// Whether a failed write ends the session.
+fn ends_at_a_write(alloc: Global) -> bool {
+    let (read, _, _) = ONE_REQUEST;
     let mut out = with_space(alloc, 10);
     let end = serve(alloc, &mut Denies, &mut in_pieces(read, 7, false), &mut out);
-    assert!(rt; end == Err(SessionFault::Write));
-    Ok(())
+    end == Err(SessionFault::Write)
+}
+
+#[test]
+fn a_failed_read_or_write_ends_the_session(rt: HostRuntime) {
+    assert!(rt; ends_at_a_read(rt.alloc()));
+    assert!(rt; ends_at_a_write(rt.alloc()));
 }
 
 /// A request, as it stands in a stream.
@@ -285,67 +302,76 @@ fn with_replies(alloc: Global, replies: u32) -> Replies {
     }
 }
 
+/// Whether so many replies were written, and these bytes.
+fn has_written(out: &Replies, others: &[u8]) -> bool {
+    out.left == 0 && out.others.as_slice() == others
+}
+
+/// The last bytes that are read, the replies, the other bytes that are written, the reads, and how the session ends.
+type Asked = (&'static [u8], u32, &'static [u8], u64, SessionEnd);
+
+const ASKED: &[Asked] = &[
+    (b"", 999_999, b"", 1_000_000, SessionEnd::Finished),
+    (HEY, 999_999, TOLD, 1_000_000, SessionEnd::Malformed),
+    (OPEN_AND_HEY, 1_000_000, b"", 1_000_000, SessionEnd::Limit),
+];
+
+/// Holds a session of 999,999 requests and the last bytes.
+fn is_answered(alloc: Global, case: &Asked) -> Result<bool, SessionFault> {
+    let (last, replies, others, reads, end) = *case;
+    let mut reader = Requests {
+        left: 999_999,
+        last,
+        reads: 0,
+    };
+    let mut out = with_replies(alloc, replies);
+    let found = serve(alloc, &mut Denies, &mut reader, &mut out)?;
+    Ok(found == end && reader.reads == reads && has_written(&out, others))
+}
+
 // The last of 1,000,000 requests is answered, and nothing behind it, also in the same read; no read is made then.
 #[test]
 fn a_session_answers_so_many_requests(rt: HostRuntime) -> Result<(), Fail> {
-    let alloc = rt.alloc();
-    let cases: [(&[u8], u32, &[u8], u64, SessionEnd); 3] = [
-        (b"", 999_999, b"", 1_000_000, SessionEnd::Finished),
-        (HEY, 999_999, TOLD, 1_000_000, SessionEnd::Malformed),
-        (OPEN_AND_HEY, 1_000_000, b"", 1_000_000, SessionEnd::Limit),
-    ];
-    for (last, replies, others, reads, end) in cases {
-        let mut reader = Requests {
-            left: 999_999,
-            last,
-            reads: 0,
-        };
-        let mut out = with_replies(alloc, replies);
-        let found = serve(alloc, &mut Denies, &mut reader, &mut out)?;
-        assert!(rt; found == end);
-        assert!(rt; out.left == 0);
-        assert!(rt; out.others.as_slice() == others);
-        assert!(rt; reader.reads == reads);
+    for case in ASKED {
+        let held = is_answered(rt.alloc(), case)?;
+        assert!(rt; held);
     }
     Ok(())
 }
+
+/// Holds a session of so many bytes, one a read.
+fn is_cut(alloc: Global, left: u64, reads: u64, end: SessionEnd) -> Result<bool, SessionFault> {
+    let mut reader = Bytes { left, reads: 0 };
+    let mut out = with_replies(alloc, 51_948);
+    let found = serve(alloc, &mut Denies, &mut reader, &mut out)?;
+    Ok(found == end && reader.reads == reads && has_written(&out, b""))
+}
+
+const CUTS: &[(u64, u64, SessionEnd)] = &[
+    (3_999_996, 3_999_997, SessionEnd::Finished),
+    (3_999_999, 4_000_000, SessionEnd::Cut),
+    (4_000_000, 4_000_000, SessionEnd::Limit),
+];
 
 // The 4,000,000th read may find the end; if it gives a byte, all before it is answered and no read is made.
 #[test]
 fn a_session_makes_so_many_reads(rt: HostRuntime) -> Result<(), Fail> {
-    let alloc = rt.alloc();
-    let cases: [(u64, u64, SessionEnd); 3] = [
-        (3_999_996, 3_999_997, SessionEnd::Finished),
-        (3_999_999, 4_000_000, SessionEnd::Cut),
-        (4_000_000, 4_000_000, SessionEnd::Limit),
-    ];
-    for (bytes, reads, end) in cases {
-        let mut reader = Bytes {
-            left: bytes,
-            reads: 0,
-        };
-        let mut out = with_replies(alloc, 51_948);
-        let found = serve(alloc, &mut Denies, &mut reader, &mut out)?;
-        assert!(rt; found == end);
-        assert!(rt; out.left == 0);
-        assert!(rt; out.others.is_empty());
-        assert!(rt; reader.reads == reads);
+    for (bytes, reads, end) in CUTS {
+        let held = is_cut(rt.alloc(), *bytes, *reads, *end)?;
+        assert!(rt; held);
     }
     Ok(())
 }
 
+/// Whether a session ends so after so many interrupted reads, and writes nothing.
+fn is_made_again(alloc: Global, left: u64, end: Result<SessionEnd, SessionFault>) -> bool {
+    let mut out = with_replies(alloc, 0);
+    let found = serve(alloc, &mut Denies, &mut Interrupts { left }, &mut out);
+    found == end && out.others.is_empty()
+}
+
 #[test]
-fn a_read_is_made_again_so_many_times(rt: HostRuntime) -> Result<(), Fail> {
-    let alloc = rt.alloc();
-    let cases = [
-        (3_999_999, Ok(SessionEnd::Finished)),
-        (4_000_000, Err(SessionFault::Read)),
-    ];
-    for (left, end) in cases {
-        let mut out = with_replies(alloc, 0);
-        let found = serve(alloc, &mut Denies, &mut Interrupts { left }, &mut out);
-        assert!(rt; found == end);
-        assert!(rt; out.others.is_empty());
-    }
-    Ok(())
+fn a_read_is_made_again_so_many_times(rt: HostRuntime) {
+    assert!(rt; is_made_again(rt.alloc(), 3_999_999, Ok(SessionEnd::Finished)));
+    assert!(rt; is_made_again(rt.alloc(), 4_000_000, Err(SessionFault::Read)));
 }

@@ -15,7 +15,7 @@ const ADMIN: &[u8] = b"674e623760cac750ae766b788c59c762f116bab90bcfb901f9c20ac06
 const KEY_OF_SEVEN: &[u8] = b"3333333333333333333333333333333333333333333333333333333333330007";
 
 /// A tenant and its token.
-const TENANTS: [(u16, &[u8]); 2] = [
+const TENANTS: &[(u16, &[u8])] = &[
     (
         7,
         b"86f04bb42771f115055ad668878e557e4ed8f7c54b3ec303508c086e4fccdbd2",
@@ -27,7 +27,7 @@ const TENANTS: [(u16, &[u8]); 2] = [
 ];
 
 /// A tenant, a node, and the token of the member of the tenant's group 1 there.
-const MEMBERS: [(u16, u8, &[u8]); 4] = [
+const MEMBERS: &[(u16, u8, &[u8])] = &[
     (
         7,
         0,
@@ -50,16 +50,26 @@ const MEMBERS: [(u16, u8, &[u8]); 4] = [
     ),
 ];
 
+/// Whether the member's token has these digits.
+fn is_member(rt: &impl Abort, keys: &mut Keys, tenant: u16, number: u8, digits: &[u8]) -> bool {
+    let node = NodeId::from_number(number).expect(rt, "a node");
+    keys.member(Addr { tenant, group: 1 }, node) == token(rt, digits)
+}
+
+/// Compares the tokens of each kind with their digits.
+fn compare(rt: &impl Abort, keys: &mut Keys) {
+    assert!(rt; keys.admin() == token(rt, ADMIN));
+    assert!(rt; tenant_key(7) == token(rt, KEY_OF_SEVEN));
+    for (tenant, digits) in TENANTS {
+        assert!(rt; keys.tenant(*tenant) == token(rt, digits));
+    }
+    for (tenant, number, digits) in MEMBERS {
+        assert!(rt; is_member(rt, keys, *tenant, *number, digits));
+    }
+}
+
 #[test]
 fn tokens_of_each_kind(rt: HostRuntime) {
     let mut keys = Keys::new(rt.alloc());
-    assert!(rt; keys.admin() == token(&rt, ADMIN));
-    assert!(rt; tenant_key(7) == token(&rt, KEY_OF_SEVEN));
-    for (tenant, digits) in TENANTS {
-        assert!(rt; keys.tenant(tenant) == token(&rt, digits));
-    }
-    for (tenant, number, digits) in MEMBERS {
-        let found = keys.member(Addr { tenant, group: 1 }, NodeId::new(number));
-        assert!(rt; found == token(&rt, digits));
-    }
+    compare(&rt, &mut keys);
 }

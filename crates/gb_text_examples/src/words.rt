@@ -41,6 +41,19 @@ fn is_written(rt: &impl Abort, alloc: Global, reply: Reply, text: &str) -> Resul
     Ok(())
 }
 
+const ENTRIES: &[(u8, u16, &[u8])] = &[(0, 1, b"a"), (15, 1024, b""), (2, 3, &[0, 10, 255])];
+
+/// The entries of the table.
+fn three_entries(rt: &impl Abort, alloc: Global) -> Result<Entries, OutOfMemory> {
+    let mut entries = Entries::new(alloc);
+    for (origin, seq, payload) in ENTRIES {
+        entries.push(entry(alloc, node(rt, *origin), *seq, payload)?)?;
+    }
+    assert!(rt; entries.len() == 3);
+    assert!(rt; !entries.is_empty());
+    Ok(entries)
+}
+
 #[test]
 fn replies(rt: HostRuntime) -> Result<(), Fail> {
     let alloc = rt.alloc();
@@ -48,116 +61,111 @@ fn replies(rt: HostRuntime) -> Result<(), Fail> {
     is_written(&rt, alloc, Reply::Said(1), "said 1")?;
     is_written(&rt, alloc, Reply::Said(65_535), "said 65535")?;
     is_written(&rt, alloc, Reply::Log(Entries::new(alloc)), "log 0")?;
-    let first = entry(alloc, node(&rt, 0), 1, b"a")?;
-    let second = entry(alloc, node(&rt, 15), 1024, b"")?;
-    let third = entry(alloc, node(&rt, 2), 3, &[0, 10, 255])?;
-    let mut entries = Entries::new(alloc);
-    entries.push(first)?;
-    entries.push(second)?;
-    entries.push(third)?;
-    assert!(rt; entries.len() == 3);
-    assert!(rt; !entries.is_empty());
-    is_written(
-        &rt,
-        alloc,
-        Reply::Log(entries),
-        "log 3 0:1:61 15:1024:- 2:3:000aff",
-    )?;
-    is_written(
-        &rt,
-        alloc,
-        Reply::Refused(Refusal::OverReserve),
-        "refused 5 OverReserve",
-    )?;
+    let log = Reply::Log(three_entries(&rt, alloc)?);
+    is_written(&rt, alloc, log, "log 3 0:1:61 15:1024:- 2:3:000aff")?;
+    let refused = Reply::Refused(Refusal::OverReserve);
+    is_written(&rt, alloc, refused, "refused 5 OverReserve")?;
     Ok(())
 }
+
+const REFUSALS: &[(Refusal, &str)] = &[
+    (Refusal::Denied, "refused 1 Denied"),
+    (Refusal::NoGroup, "refused 2 NoGroup"),
+    (Refusal::Spent, "refused 3 Spent"),
+    (Refusal::BadMembers, "refused 4 BadMembers"),
+    (Refusal::OverReserve, "refused 5 OverReserve"),
+    (Refusal::WrongPhase, "refused 6 WrongPhase"),
+    (Refusal::TooLong, "refused 7 TooLong"),
+    (Refusal::Budget, "refused 8 Budget"),
+    (Refusal::Bytes, "refused 9 Bytes"),
+    (Refusal::Window, "refused 10 Window"),
+    (Refusal::BadPlace, "refused 11 BadPlace"),
+    (Refusal::NoRoom, "refused 12 NoRoom"),
+    (Refusal::TenantThere, "refused 13 TenantThere"),
+    (Refusal::Malformed, "refused 14 Malformed"),
+    (Refusal::Stopped, "refused 15 Stopped"),
+    (Refusal::OutOfMemory, "refused 16 OutOfMemory"),
+];
 
 #[test]
 fn refusals(rt: HostRuntime) -> Result<(), Fail> {
-    let all = [
-        (Refusal::Denied, "refused 1 Denied"),
-        (Refusal::NoGroup, "refused 2 NoGroup"),
-        (Refusal::Spent, "refused 3 Spent"),
-        (Refusal::BadMembers, "refused 4 BadMembers"),
-        (Refusal::OverReserve, "refused 5 OverReserve"),
-        (Refusal::WrongPhase, "refused 6 WrongPhase"),
-        (Refusal::TooLong, "refused 7 TooLong"),
-        (Refusal::Budget, "refused 8 Budget"),
-        (Refusal::Bytes, "refused 9 Bytes"),
-        (Refusal::Window, "refused 10 Window"),
-        (Refusal::BadPlace, "refused 11 BadPlace"),
-        (Refusal::NoRoom, "refused 12 NoRoom"),
-        (Refusal::TenantThere, "refused 13 TenantThere"),
-        (Refusal::Malformed, "refused 14 Malformed"),
-        (Refusal::Stopped, "refused 15 Stopped"),
-        (Refusal::OutOfMemory, "refused 16 OutOfMemory"),
-    ];
-    for (refusal, text) in all {
-        is_written(&rt, rt.alloc(), Reply::Refused(refusal), text)?;
+    for (refusal, text) in REFUSALS {
+        is_written(&rt, rt.alloc(), Reply::Refused(*refusal), text)?;
     }
     Ok(())
 }
 
+const NUMBERS: &[(&[u8], u64, Option<u64>)] = &[
+    (b"0", 0, Some(0)),
+    (b"1", 0, None),
+    (b"65535", 65_535, Some(65_535)),
+    (b"65536", 65_535, None),
+    (b"18446744073709551615", u64::MAX, Some(u64::MAX)),
+    (b"18446744073709551616", u64::MAX, None),
+    (b"100000000000000000000000000001", u64::MAX, None),
+    (b"", u64::MAX, None),
+    (b"00", u64::MAX, None),
+    (b"01", u64::MAX, None),
+    (b"+1", u64::MAX, None),
+    (b"-1", u64::MAX, None),
+    (b" 1", u64::MAX, None),
+    (b"1 ", u64::MAX, None),
+    (b"1a", u64::MAX, None),
+    (b"\xd9\xa1", u64::MAX, None),
+    (b"\xff", u64::MAX, None),
+];
+
 #[test]
 fn numbers_are_read(rt: HostRuntime) {
-    for (word, max, number) in [
-        (b"0".as_slice(), 0, Some(0)),
-        (b"1", 0, None),
-        (b"65535", 65_535, Some(65_535)),
-        (b"65536", 65_535, None),
-        (b"18446744073709551615", u64::MAX, Some(u64::MAX)),
-        (b"18446744073709551616", u64::MAX, None),
-        (b"100000000000000000000000000001", u64::MAX, None),
-        (b"", u64::MAX, None),
-        (b"00", u64::MAX, None),
-        (b"01", u64::MAX, None),
-        (b"+1", u64::MAX, None),
-        (b"-1", u64::MAX, None),
-        (b" 1", u64::MAX, None),
-        (b"1 ", u64::MAX, None),
-        (b"1a", u64::MAX, None),
-        (b"\xd9\xa1", u64::MAX, None),
-        (b"\xff", u64::MAX, None),
-    ] {
-        let found = read_number(word, max);
-        assert!(rt; found == number);
+    for (word, max, number) in NUMBERS {
+        let found = read_number(word, *max);
+        assert!(rt; found == *number);
     }
+}
+
+/// A word, and two numbers behind it.
+fn two_numbers(alloc: Global) -> Result<Vec<u8>, OutOfMemory> {
+    let mut text = Vec::from_slice(alloc, b"said ")?;
+    for number in [0, u64::MAX] {
+        put_number(&mut text, number)?;
+    }
+    Ok(text)
 }
 
 #[test]
 fn numbers_are_written(rt: HostRuntime) -> Result<(), Fail> {
-    let mut text = Vec::from_slice(rt.alloc(), b"said ")?;
-    put_number(&mut text, 0)?;
-    put_number(&mut text, u64::MAX)?;
+    let text = two_numbers(rt.alloc())?;
     assert!(rt; text.as_slice() == b"said 018446744073709551615".as_slice());
     Ok(())
 }
 
+const KINDS: &[(&[u8], Option<Kind>)] = &[
+    (b"beb", Some(Kind::Beb)),
+    (b"lazy", Some(Kind::Lazy)),
+    (b"eager", Some(Kind::Eager)),
+    (b"allack", Some(Kind::AllAck)),
+    (b"fbeb", Some(Kind::FifoBeb)),
+    (b"flazy", Some(Kind::FifoLazy)),
+    (b"feager", Some(Kind::FifoEager)),
+    (b"fallack", Some(Kind::FifoAllAck)),
+    (b"", None),
+    (b"f", None),
+    (b"be", None),
+    (b"bebb", None),
+    (b"Beb", None),
+    (b"beb ", None),
+    (b"fifo", None),
+    (b"ffbeb", None),
+    (b"lazyf", None),
+    (b"all-ack", None),
+    (b"fLazy", None),
+];
+
 #[test]
 fn kinds(rt: HostRuntime) {
-    for (word, kind) in [
-        (b"beb".as_slice(), Some(Kind::Beb)),
-        (b"lazy", Some(Kind::Lazy)),
-        (b"eager", Some(Kind::Eager)),
-        (b"allack", Some(Kind::AllAck)),
-        (b"fbeb", Some(Kind::FifoBeb)),
-        (b"flazy", Some(Kind::FifoLazy)),
-        (b"feager", Some(Kind::FifoEager)),
-        (b"fallack", Some(Kind::FifoAllAck)),
-        (b"", None),
-        (b"f", None),
-        (b"be", None),
-        (b"bebb", None),
-        (b"Beb", None),
-        (b"beb ", None),
-        (b"fifo", None),
-        (b"ffbeb", None),
-        (b"lazyf", None),
-        (b"all-ack", None),
-        (b"fLazy", None),
-    ] {
+    for (word, kind) in KINDS {
         let found = read_kind(word);
-        assert!(rt; found == kind);
+        assert!(rt; found == *kind);
     }
 }
 
@@ -169,76 +177,71 @@ fn spells(rt: &impl Abort, alloc: Global, word: &[u8], members: &[u8]) -> Result
     Ok(())
 }
 
-#[test]
-fn members(rt: HostRuntime) -> Result<(), Fail> {
-    let alloc = rt.alloc();
-    spells(&rt, alloc, b"0", &[0])?;
-    spells(&rt, alloc, b"0,1", &[0, 1])?;
-    spells(&rt, alloc, b"2,9,15", &[2, 9, 15])?;
-    spells(&rt, alloc, b"15", &[15])?;
-    spells(
-        &rt,
-        alloc,
+const MEMBERS: &[(&[u8], &[u8])] = &[
+    (b"0", &[0]),
+    (b"0,1", &[0, 1]),
+    (b"2,9,15", &[2, 9, 15]),
+    (b"15", &[15]),
+    (
         b"0,1,2,3,4,5,6,7,8,9,10,11,12,13,14,15",
         &[0, 1, 2, 3, 4, 5, 6, 7, 8, 9, 10, 11, 12, 13, 14, 15],
-    )?;
-    for word in [
-        b"".as_slice(),
-        b"1,0",
-        b"0,0",
-        b"16",
-        b"0,16",
-        b"0,",
-        b",0",
-        b"0,,1",
-        b"0 1",
-        b"00",
-        b"+1",
-        b"-",
-    ] {
+    ),
+];
+
+const NO_MEMBERS: &[&[u8]] = &[
+    b"", b"1,0", b"0,0", b"16", b"0,16", b"0,", b",0", b"0,,1", b"0 1", b"00", b"+1", b"-",
+];
+
+#[test]
+fn members(rt: HostRuntime) -> Result<(), Fail> {
+    for (word, members) in MEMBERS {
+        spells(&rt, rt.alloc(), word, members)?;
+    }
+    for word in NO_MEMBERS {
         let found = read_members(word);
         assert!(rt; found.is_none());
     }
     Ok(())
 }
 
-// The word spells these bytes, or nothing.
-fn carries(
-    rt: &impl Abort,
-    alloc: Global,
-    word: &[u8],
-    bytes: Option<&[u8]>,
-) -> Result<(), OutOfMemory> {
-    let found = read_payload(alloc, word)?;
-    match (found, bytes) {
-        (Some(found), Some(bytes)) => assert!(rt; found.as_slice() == bytes),
-        (found, bytes) => assert!(rt; found.is_none() && bytes.is_none()),
+// Whether the word spells these bytes, or nothing.
+fn carries(alloc: Global, word: &[u8], bytes: Option<&[u8]>) -> Result<bool, OutOfMemory> {
+    match &read_payload(alloc, word)? {
+        Some(found) => Ok(bytes == Some(found.as_slice())),
+        None => Ok(bytes.is_none()),
     }
-    Ok(())
+}
+
+const PAYLOADS: &[(&[u8], Option<&[u8]>)] = &[
+    (b"-", Some(&[])),
+    (b"61", Some(b"a")),
+    (b"6A", Some(&[0x6a])),
+    (b"00fFFf", Some(&[0, 255, 255])),
+    (b"", None),
+    (b"6", None),
+    (b"616", None),
+    (b"6g", None),
+    (b"--", None),
+    (b"-61", None),
+    (b"61 ", None),
+    (b"0x61", None),
+];
+
+/// The words of two payloads.
+fn two_payloads(alloc: Global) -> Result<Vec<u8>, OutOfMemory> {
+    let mut text = Vec::new(alloc);
+    put_payload(&mut text, &[])?;
+    put_payload(&mut text, &[0x0a, 0xff])?;
+    Ok(text)
 }
 
 #[test]
 fn payloads(rt: HostRuntime) -> Result<(), Fail> {
-    let alloc = rt.alloc();
-    carries(&rt, alloc, b"-", Some(&[]))?;
-    carries(&rt, alloc, b"61", Some(b"a"))?;
-    carries(&rt, alloc, b"6A", Some(&[0x6a]))?;
-    carries(&rt, alloc, b"00fFFf", Some(&[0, 255, 255]))?;
-    for word in [
-        b"".as_slice(),
-        b"6",
-        b"616",
-        b"6g",
-        b"--",
-        b"-61",
-        b"61 ",
-        b"0x61",
-    ] {
-        carries(&rt, alloc, word, None)?;
+    for (word, bytes) in PAYLOADS {
+        let held = carries(rt.alloc(), word, *bytes)?;
+        assert!(rt; held);
     }
-    let mut text = Vec::new(alloc);
-    put_payload(&mut text, &[])?;
-    put_payload(&mut text, &[0x0a, 0xff])?;
+    let text = two_payloads(rt.alloc())?;
     assert!(rt; text.as_slice() == b"-0aff".as_slice());
     Ok(())
 }
@@ -260,37 +263,57 @@ fn next_number(set: &NodeSet, from: usize) -> u8 {
     }
 }
 
+/// Compares two sets that share one of their two nodes.
+fn compare_sets(rt: &impl Abort, odd: &NodeSet, low: &NodeSet) {
+    assert!(rt; !odd.is_empty());
+    assert!(rt; !low.is_subset(odd));
+    assert!(rt; odd.is_subset(odd));
+    assert!(rt; odd.count_in(low) == 1);
+}
+
+/// Compares the nodes of both sets.
+fn compare_both(rt: &impl Abort, both: &NodeSet, odd: &NodeSet, low: &NodeSet) {
+    assert!(rt; low.is_subset(both));
+    let copy = both.duplicate();
+    assert!(rt; copy.is_covered(odd, low));
+    for (from, number) in [(2, 3), (4, 16), (NODES, 16)] {
+        assert!(rt; next_number(both, from) == number);
+    }
+}
+
 #[test]
 fn sets(rt: HostRuntime) -> Result<(), Fail> {
-    let none = NodeSet::new();
-    assert!(rt; none.is_empty());
+    assert!(rt; NodeSet::new().is_empty());
     let odd = set(&rt, &[3, 1]);
     let low = set(&rt, &[1, 0]);
-    assert!(rt; !odd.is_empty());
-    assert!(rt; !low.is_subset(&odd));
-    assert!(rt; odd.is_subset(&odd));
-    assert!(rt; odd.count_in(&low) == 1);
+    compare_sets(&rt, &odd, &low);
     let both = odd.union(&low);
+    compare_both(&rt, &both, &odd, &low);
     let found = numbers(rt.alloc(), &both)?;
     assert!(rt; found.as_slice() == [0, 1, 3].as_slice());
-    assert!(rt; low.is_subset(&both));
-    let copy = both.duplicate();
-    assert!(rt; copy.is_covered(&odd, &low));
-    for (from, number) in [(2, 3), (4, 16), (NODES, 16)] {
-        assert!(rt; next_number(&both, from) == number);
-    }
+    Ok(())
+}
+
+/// Compares a copy of an entry.
+fn compare_entry(rt: &impl Abort, alloc: Global, said: &Entry) -> Result<(), OutOfMemory> {
+    let copy = said.duplicate(alloc)?;
+    assert!(rt; copy.message() == said.message());
+    assert!(rt; copy.payload.as_slice() == b"hey".as_slice());
+    Ok(())
+}
+
+/// Compares a copy of an entry's bytes.
+fn compare_bytes(rt: &impl Abort, alloc: Global, said: &Entry) -> Result<(), OutOfMemory> {
+    let bytes = said.payload.duplicate(alloc)?.into_vec();
+    assert!(rt; bytes.as_slice() == b"hey".as_slice());
     Ok(())
 }
 
 #[test]
 fn entries(rt: HostRuntime) -> Result<(), Fail> {
-    let alloc = rt.alloc();
-    let said = entry(alloc, node(&rt, 4), 7, b"hey")?;
-    let copy = said.duplicate(alloc)?;
-    assert!(rt; copy.message() == said.message());
-    assert!(rt; copy.payload.as_slice() == b"hey".as_slice());
-    let bytes = said.payload.duplicate(alloc)?.into_vec();
-    assert!(rt; bytes.as_slice() == b"hey".as_slice());
+    let said = entry(rt.alloc(), node(&rt, 4), 7, b"hey")?;
+    compare_entry(&rt, rt.alloc(), &said)?;
+    compare_bytes(&rt, rt.alloc(), &said)?;
     Ok(())
 }
 
