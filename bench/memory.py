@@ -1,8 +1,9 @@
 #!/usr/bin/env python3
 """Measures the memory of a group: memory.py PROGRAM.
 
-In a cluster of n nodes each node makes the group. What the program's data and heap grow by meanwhile, whether it was
-touched or not, is divided by n. The allocator is told to take no more from the system than it is asked for, up to a page.
+In a cluster of n nodes each node makes some groups, after a first one that lays out a node's tables. What the program's
+data and heap grow by meanwhile, whether it was touched or not, is divided by n and by the groups. The allocator is told
+to take no more from the system than it is asked for, up to a page.
 """
 import os
 import subprocess
@@ -19,6 +20,10 @@ FIFO = 6 + 6
 TABLE = 2
 # The set of the nodes that have an own message for good.
 ACKNOWLEDGED = 2
+
+
+# How many groups each node makes.
+GROUPS = 8
 
 
 def reserved(kind, members, msgs, size):
@@ -51,13 +56,17 @@ def measured(program, kind, members, msgs, size):
     environment = dict(os.environ, MALLOC_TOP_PAD_='0')
     process = subprocess.Popen([program], stdin=subprocess.PIPE, stdout=subprocess.PIPE, text=True, env=environment)
     names = ','.join(str(node) for node in range(members))
-    tell(process, [f'cluster {members} 3'] + [f'tenant {node} 7 2 {msgs} {size} 1' for node in range(members)])
+    def make(group):
+        tell(process, [f'make {node} 7 {group} {kind} {names} {msgs} {size} 1' for node in range(members)])
+    tell(process, [f'cluster {members} 3'] + [f'tenant {node} 7 {1 + GROUPS} {msgs} {size} 1' for node in range(members)])
+    make(0)
     before = data_bytes(process)
-    tell(process, [f'make {node} 7 1 {kind} {names} {msgs} {size} 1' for node in range(members)])
+    for group in range(GROUPS):
+        make(1 + group)
     taken = data_bytes(process) - before
     process.stdin.close()
     process.wait()
-    return taken / members
+    return taken / members / GROUPS
 
 
 def main():

@@ -8,9 +8,9 @@ use std::marker::Model;
 /// A set of places below `PLACES`. Contracts see its words. A search looks at none behind the last that ever had a place.
 #[derive(Drop)]
 pub struct PlaceSet {
-    words: [u64; 64],
-    /// No word from this one on has a place.
+    /// No word from this one on has a place. It stands beside the first words, which most nodes get by with.
     used: usize,
+    words: [u64; 64],
 }
 
 impl Model for PlaceSet {
@@ -29,8 +29,8 @@ impl PlaceSet {
         ensures { (p : ℕ) → has result p ≡ 0 }
     {
         PlaceSet {
-            words: [0; 64],
             used: 0,
+            words: [0; 64],
         }
     }
 
@@ -39,8 +39,8 @@ impl PlaceSet {
         ensures { result ≡ self.now }
     {
         PlaceSet {
-            words: self.words,
             used: self.used,
+            words: self.words,
         }
     }
 

@@ -2,86 +2,105 @@
 use gb_detect::detector::Detector;
 use gb_types::limits::NODES;
 use gb_types::node::{NodeId, NodeSet};
-use std::alloc::{AllocError, Global};
 use std::process::Abort;
-use std::test::Fail;
 
-const NODE_1: NodeId = NodeId { number: 1 };
+/// The node with this number, below 16.
+fn node(number: u8) -> NodeId {
+    NodeId::new(number % 16)
+}
 
-const NODE_3: NodeId = NodeId { number: 3 };
-
-/// The nodes of a set, in rising order.
-fn listed(alloc: Global, set: &NodeSet) -> Result<Vec<u8>, AllocError> {
-    let mut numbers = Vec::new(alloc);
+/// Whether the set has the nodes with these numbers, and no others.
+fn has(set: &NodeSet, numbers: &[u8]) -> bool {
     for number in 0..NODES as u8 {
-        if set.contains(NodeId { number }) {
-            numbers.push(number)?;
+        if set.contains(node(number)) != numbers.contains(&number) {
+            return false;
         }
     }
-    Ok(numbers)
+    true
 }
 
-/// Compares a set of nodes with these numbers.
-fn compare(rt: &impl Abort, alloc: Global, set: &NodeSet, numbers: &[u8]) -> Result<(), Fail> {
-    let found = listed(alloc, set)?;
-    assert!(rt; found.as_slice() == numbers);
-    Ok(())
+/// A call of a detector, and the nodes that it must give.
+enum Step {
+    Heard(u8),
+    Tick(&'static [u8]),
+    Due(&'static [u8]),
+    Noticed(&'static [u8]),
 }
 
-#[test]
-fn a_packet_in_front_of_the_ticks_does_not_help(rt: HostRuntime) -> Result<(), Fail> {
-    let mut detector = Detector::new(NodeId { number: 0 }, 2, 2);
-    detector.heard(NODE_1);
-    let found = detector.tick();
-    compare(&rt, rt.alloc(), &found, &[])?;
-    let found = detector.tick();
-    compare(&rt, rt.alloc(), &found, &[1])
-}
-
-#[test]
-fn a_packet_between_ticks_starts_the_silence_again(rt: HostRuntime) -> Result<(), Fail> {
-    let mut detector = Detector::new(NodeId { number: 0 }, 2, 2);
-    for _ in 0..5 {
-        let found = detector.tick();
-        compare(&rt, rt.alloc(), &found, &[])?;
-        detector.heard(NODE_1);
+/// Makes the call, and says whether it gives what it must.
+fn holds(detector: &mut Detector, step: &Step) -> bool {
+    match step {
+        Step::Heard(number) => {
+            detector.heard(node(*number));
+            true
+        }
+        Step::Tick(numbers) => has(&detector.tick(), numbers),
+        Step::Due(numbers) => has(&detector.due(), numbers),
+        Step::Noticed(numbers) => has(&detector.noticed(), numbers),
     }
-    let found = detector.tick();
-    compare(&rt, rt.alloc(), &found, &[])?;
-    compare(&rt, rt.alloc(), &detector.due(), &[1])?;
-    compare(&rt, rt.alloc(), &detector.noticed(), &[])?;
-    let found = detector.tick();
-    compare(&rt, rt.alloc(), &found, &[1])?;
-    compare(&rt, rt.alloc(), &detector.noticed(), &[1])
 }
 
+/// Makes the calls, so many times.
+fn compare(rt: &impl Abort, detector: &mut Detector, times: usize, steps: &[Step]) {
+    for _ in 0..times {
+        for step in steps {
+            let held = holds(detector, step);
+            assert!(rt; held);
+        }
+    }
+}
+
+const PACKET_IN_FRONT: &[Step] = &[Step::Heard(1), Step::Tick(&[]), Step::Tick(&[1])];
+
 #[test]
-fn several_notices_in_one_tick_stay(rt: HostRuntime) -> Result<(), Fail> {
+fn a_packet_in_front_of_the_ticks_does_not_help(rt: HostRuntime) {
+    let mut detector = Detector::new(NodeId { number: 0 }, 2, 2);
+    compare(&rt, &mut detector, 1, PACKET_IN_FRONT);
+}
+
+const TICK_AND_PACKET: &[Step] = &[Step::Tick(&[]), Step::Heard(1)];
+
+const SILENCE_AGAIN: &[Step] = &[
+    Step::Tick(&[]),
+    Step::Due(&[1]),
+    Step::Noticed(&[]),
+    Step::Tick(&[1]),
+    Step::Noticed(&[1]),
+];
+
+#[test]
+fn a_packet_between_ticks_starts_the_silence_again(rt: HostRuntime) {
+    let mut detector = Detector::new(NodeId { number: 0 }, 2, 2);
+    compare(&rt, &mut detector, 5, TICK_AND_PACKET);
+    compare(&rt, &mut detector, 1, SILENCE_AGAIN);
+}
+
+const SEVERAL_NOTICES: &[Step] = &[
+    Step::Tick(&[]),
+    Step::Heard(1),
+    Step::Tick(&[0, 3, 4]),
+    Step::Heard(3),
+    Step::Noticed(&[0, 3, 4]),
+    Step::Tick(&[1]),
+    Step::Tick(&[]),
+    Step::Noticed(&[0, 1, 3, 4]),
+];
+
+#[test]
+fn several_notices_in_one_tick_stay(rt: HostRuntime) {
     let mut detector = Detector::new(NodeId { number: 2 }, 5, 2);
-    let found = detector.tick();
-    compare(&rt, rt.alloc(), &found, &[])?;
-    detector.heard(NODE_1);
-    let found = detector.tick();
-    compare(&rt, rt.alloc(), &found, &[0, 3, 4])?;
-    detector.heard(NODE_3);
-    compare(&rt, rt.alloc(), &detector.noticed(), &[0, 3, 4])?;
-    let found = detector.tick();
-    compare(&rt, rt.alloc(), &found, &[1])?;
-    let found = detector.tick();
-    compare(&rt, rt.alloc(), &found, &[])?;
-    compare(&rt, rt.alloc(), &detector.noticed(), &[0, 1, 3, 4])
+    compare(&rt, &mut detector, 1, SEVERAL_NOTICES);
 }
 
+const OTHERS: &[u8] = &[0, 1, 2, 3, 4, 5, 6, 7, 8, 9, 10, 11, 12, 13, 14];
+
+const SILENT_TICK: &[Step] = &[Step::Tick(&[])];
+
+const LAST_TICK: &[Step] = &[Step::Due(OTHERS), Step::Tick(OTHERS), Step::Due(&[])];
+
 #[test]
-fn a_silence_of_a_thousand_ticks(rt: HostRuntime) -> Result<(), Fail> {
+fn a_silence_of_a_thousand_ticks(rt: HostRuntime) {
     let mut detector = Detector::new(NodeId { number: 15 }, 16, 1_000);
-    for _ in 0..999 {
-        let found = detector.tick();
-        compare(&rt, rt.alloc(), &found, &[])?;
-    }
-    let others = [0, 1, 2, 3, 4, 5, 6, 7, 8, 9, 10, 11, 12, 13, 14];
-    compare(&rt, rt.alloc(), &detector.due(), &others)?;
-    let found = detector.tick();
-    compare(&rt, rt.alloc(), &found, &others)?;
-    compare(&rt, rt.alloc(), &detector.due(), &[])
+    compare(&rt, &mut detector, 999, SILENT_TICK);
+    compare(&rt, &mut detector, 1, LAST_TICK);
 }

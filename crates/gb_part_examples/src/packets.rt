@@ -4,6 +4,7 @@ use gb_frame::fault::PacketFault;
 use gb_frame::item::{Item, ItemView, first_item, put_item};
 use gb_frame::packet::{Head, Packet};
 use gb_frame::reading::decode;
+use gb_frame::view::PacketView;
 use gb_frame::writing::{encode, wrap};
 use gb_types::memory::OutOfMemory;
 use gb_types::node::NodeId;
@@ -105,11 +106,17 @@ fn fault_of(text: &[u8]) -> Option<PacketFault> {
     decode(text, &key()).err()
 }
 
+/// Whether these bytes have these digits.
+fn spells(alloc: Global, text: &[u8], digits: &str) -> Result<bool, Fail> {
+    let told = bytes(alloc, digits)?;
+    Ok(text == told.as_slice())
+}
+
 /// Compares a packet's text with its digits.
 fn compare(rt: &impl Abort, alloc: Global, packet: &Packet, digits: &str) -> Result<(), Fail> {
     let text = written(alloc, packet)?.ok_or("within limits")?;
-    let told = bytes(alloc, digits)?;
-    assert!(rt; text.as_slice() == told.as_slice());
+    let held = spells(alloc, &text, digits)?;
+    assert!(rt; held);
     Ok(())
 }
 
@@ -130,6 +137,14 @@ fn acknowledgement(rt: HostRuntime) -> Result<(), Fail> {
         items: Vec::new(rt.alloc()),
     };
     compare(&rt, rt.alloc(), &packet, ACKNOWLEDGEMENT)
+}
+
+/// Whether one item of the byte `a` stands in the frame.
+fn has_one_item(frame: &[u8]) -> bool {
+    match first_item(frame) {
+        Some((first, rest)) => first.payload == b"a".as_slice() && rest.is_empty(),
+        None => false,
+    }
 }
 
 /// An item is written into a frame, and the frame is wrapped.
@@ -154,14 +169,40 @@ fn a_frame_is_wrapped(rt: HostRuntime) -> Result<(), Fail> {
     };
     let mut text = Vec::with_capacity(alloc, 49)?;
     wrap(head, &frame, &key(), &mut text);
-    let told = bytes(alloc, TEXT)?;
-    assert!(rt; text.as_slice() == told.as_slice());
-    let Some((first, rest)) = first_item(&frame) else {
-        return Err(Fail::from("an item stands there"));
-    };
-    assert!(rt; first.payload == b"a".as_slice());
-    assert!(rt; rest.is_empty());
+    let held = spells(alloc, &text, TEXT)?;
+    assert!(rt; held);
+    assert!(rt; has_one_item(&frame));
     Ok(())
+}
+
+/// The head of `TEXT`.
+fn told_head() -> Head {
+    Head {
+        from: NodeId { number: 0 },
+        to: NodeId { number: 1 },
+        base: 1,
+        mask: 0,
+        frame: 1,
+    }
+}
+
+/// Whether this is the item of `TEXT`.
+fn is_told(item: &ItemView<'_>) -> bool {
+    let numbers = (item.tenant, item.group, item.origin, item.seq);
+    numbers == (7, 1, 0, 1) && item.payload == b"a".as_slice()
+}
+
+/// Compares what is read of `TEXT`.
+fn compare_read(rt: &impl Abort, read: &PacketView<'_>) {
+    let head = read.head();
+    assert!(rt; head == told_head());
+    let mut items = 0;
+    for item in read.items() {
+        assert!(rt; is_told(&item));
+        assert!(rt; items == 0);
+        items += 1;
+    }
+    assert!(rt; items == 1);
 }
 
 #[test]
@@ -170,24 +211,7 @@ fn what_was_written_is_read(rt: HostRuntime) -> Result<(), Fail> {
     let Ok(read) = decode(&text, &key()) else {
         return Err(Fail::from("the text is a packet's"));
     };
-    let told = Head {
-        from: NodeId { number: 0 },
-        to: NodeId { number: 1 },
-        base: 1,
-        mask: 0,
-        frame: 1,
-    };
-    let head = read.head();
-    assert!(rt; head == told);
-    let mut items = 0;
-    for item in read.items() {
-        let numbers = (item.tenant, item.group, item.origin, item.seq);
-        assert!(rt; numbers == (7, 1, 0, 1));
-        assert!(rt; item.payload == b"a".as_slice());
-        assert!(rt; items == 0);
-        items += 1;
-    }
-    assert!(rt; items == 1);
+    compare_read(&rt, &read);
     Ok(())
 }
 
@@ -203,11 +227,8 @@ fn what_has_no_items_is_read(rt: HostRuntime) -> Result<(), Fail> {
     Ok(())
 }
 
-#[test]
-fn cut_short(rt: HostRuntime) -> Result<(), Fail> {
-    let found = fault_of(&[]);
-    assert!(rt; found == Some(PacketFault::Short));
-    let text = shaped(rt.alloc(), &[1])?;
+/// Compares the faults of a text of 49 bytes that is cut short.
+fn compare_cut(rt: &impl Abort, text: &[u8]) {
     assert!(rt; text.len() == 49);
     for len in 1..39 {
         let found = fault_of(&text[..len]);
@@ -217,42 +238,69 @@ fn cut_short(rt: HostRuntime) -> Result<(), Fail> {
         let found = fault_of(&text[..len]);
         assert!(rt; found == Some(PacketFault::Length));
     }
+}
+
+#[test]
+fn cut_short(rt: HostRuntime) -> Result<(), Fail> {
+    let found = fault_of(&[]);
+    assert!(rt; found == Some(PacketFault::Short));
+    let text = shaped(rt.alloc(), &[1])?;
+    compare_cut(&rt, &text);
     Ok(())
+}
+
+/// A place, a byte that stands there in place of the good one, and the fault that is found.
+type Changed = (usize, u8, PacketFault);
+
+const FAULTS: &[Changed] = &[
+    (0, 0x00, PacketFault::Magic),
+    (2, 0x02, PacketFault::Version),
+    (4, 0x00, PacketFault::Node),
+    (4, 15, PacketFault::Tag),
+    (4, 16, PacketFault::Node),
+    (3, 15, PacketFault::Tag),
+    (3, 16, PacketFault::Node),
+    (20, 0x01, PacketFault::Mask),
+    (20, 0xfe, PacketFault::Tag),
+    (12, 0x00, PacketFault::Mask),
+    (28, 0x00, PacketFault::Count),
+    (30, 0x00, PacketFault::Count),
+    (29, 0xff, PacketFault::Length),
+    (38, 0x04, PacketFault::Length),
+];
+
+/// Whether the changed text has this fault.
+fn has_fault(alloc: Global, case: &Changed) -> Result<bool, Fail> {
+    let (at, byte, fault) = *case;
+    let text = changed(alloc, at, byte)?;
+    Ok(fault_of(&text) == Some(fault))
+}
+
+/// Whether a text with a byte more trails.
+fn trails(alloc: Global) -> Result<bool, Fail> {
+    let mut text = shaped(alloc, &[1])?;
+    let is_tag = fault_of(&text) == Some(PacketFault::Tag);
+    text.push(0)?;
+    Ok(is_tag && fault_of(&text) == Some(PacketFault::Trailing))
+}
+
+/// Whether a text of 8,303 bytes is too long.
+fn is_too_long(alloc: Global) -> Result<bool, Fail> {
+    let text = shaped(alloc, &[1_024; 8])?;
+    Ok(text.len() == 8_303 && fault_of(&text) == Some(PacketFault::TooLong))
 }
 
 /// Each fault, and the bytes of a header at their last good value and one beyond it.
 #[test]
 fn each_fault(rt: HostRuntime) -> Result<(), Fail> {
-    for (at, byte, fault) in [
-        (0, 0x00, PacketFault::Magic),
-        (2, 0x02, PacketFault::Version),
-        (4, 0x00, PacketFault::Node),
-        (4, 15, PacketFault::Tag),
-        (4, 16, PacketFault::Node),
-        (3, 15, PacketFault::Tag),
-        (3, 16, PacketFault::Node),
-        (20, 0x01, PacketFault::Mask),
-        (20, 0xfe, PacketFault::Tag),
-        (12, 0x00, PacketFault::Mask),
-        (28, 0x00, PacketFault::Count),
-        (30, 0x00, PacketFault::Count),
-        (29, 0xff, PacketFault::Length),
-        (38, 0x04, PacketFault::Length),
-    ] {
-        let text = changed(rt.alloc(), at, byte)?;
-        let found = fault_of(&text);
-        assert!(rt; found == Some(fault));
+    for case in FAULTS {
+        let held = has_fault(rt.alloc(), case)?;
+        assert!(rt; held);
     }
-    let mut longer = shaped(rt.alloc(), &[1])?;
-    let found = fault_of(&longer);
-    assert!(rt; found == Some(PacketFault::Tag));
-    longer.push(0)?;
-    let found = fault_of(&longer);
-    assert!(rt; found == Some(PacketFault::Trailing));
-    let long = shaped(rt.alloc(), &[1_024; 8])?;
-    assert!(rt; long.len() == 8_303);
-    let found = fault_of(&long);
-    assert!(rt; found == Some(PacketFault::TooLong));
+    let longer = trails(rt.alloc())?;
+    assert!(rt; longer);
+    let long = is_too_long(rt.alloc())?;
+    assert!(rt; long);
     Ok(())
 }
 
@@ -269,38 +317,54 @@ fn last_byte_of_the_tag(rt: HostRuntime) -> Result<(), Fail> {
     Ok(())
 }
 
+/// Whether a packet with items of these payloads can be written.
+fn is_within(alloc: Global, payloads: &[u16]) -> Result<bool, OutOfMemory> {
+    let packet = packet(alloc, payloads)?;
+    let text = written(alloc, &packet)?;
+    Ok(text.is_some())
+}
+
+/// The fault of a text with items of these payloads, and its length.
+fn shaped_fault(alloc: Global, payloads: &[u16]) -> Result<(Option<PacketFault>, usize), Fail> {
+    let text = shaped(alloc, payloads)?;
+    Ok((fault_of(&text), text.len()))
+}
+
 /// The longest payload is 1,024 bytes, when it is written and when it is read.
 #[test]
 fn longest_payload(rt: HostRuntime) -> Result<(), Fail> {
     let alloc = rt.alloc();
-    for (len, within, fault) in [
+    for (len, within, told) in [
         (1_024, true, PacketFault::Tag),
         (1_025, false, PacketFault::Length),
     ] {
-        let text = written(alloc, &packet(alloc, &[len])?)?;
-        assert!(rt; text.is_some() == within);
-        let text = shaped(alloc, &[len])?;
-        let found = fault_of(&text);
-        assert!(rt; found == Some(fault));
+        let found = is_within(alloc, &[len])?;
+        assert!(rt; found == within);
+        let (fault, _) = shaped_fault(alloc, &[len])?;
+        assert!(rt; fault == Some(told));
     }
     Ok(())
+}
+
+/// Whether the longest packet has 8,192 bytes, and is read.
+fn longest_is_read(alloc: Global) -> Result<bool, Fail> {
+    let packet = packet(alloc, &LONGEST)?;
+    let text = written(alloc, &packet)?.ok_or("within limits")?;
+    Ok(text.len() == 8_192 && fault_of(&text).is_none())
 }
 
 /// The longest packet is 8,192 bytes, when it is written and when it is read.
 #[test]
 fn longest_packet(rt: HostRuntime) -> Result<(), Fail> {
     let alloc = rt.alloc();
-    let text = written(alloc, &packet(alloc, &LONGEST)?)?.ok_or("within limits")?;
-    assert!(rt; text.len() == 8_192);
-    let found = fault_of(&text);
-    assert!(rt; found.is_none());
+    let read = longest_is_read(alloc)?;
+    assert!(rt; read);
     let mut payloads = LONGEST;
     payloads[7] = 914;
-    let text = written(alloc, &packet(alloc, &payloads)?)?;
-    assert!(rt; text.is_none());
-    let text = shaped(alloc, &payloads)?;
-    assert!(rt; text.len() == 8_193);
-    let found = fault_of(&text);
-    assert!(rt; found == Some(PacketFault::TooLong));
+    let within = is_within(alloc, &payloads)?;
+    assert!(rt; !within);
+    let (fault, len) = shaped_fault(alloc, &payloads)?;
+    assert!(rt; len == 8_193);
+    assert!(rt; fault == Some(PacketFault::TooLong));
     Ok(())
 }

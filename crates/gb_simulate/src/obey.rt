@@ -44,7 +44,8 @@ fn plan_of(nodes: u8, silence: u16) -> Plan
     }
 }
 
-/// Starts a cluster.
+/// Starts a cluster. Its nodes are made on the stack, so it stands apart from what every line runs through.
+#[inline(never)]
 fn begin(
     alloc: Global,
     cluster: &mut Option<Cluster>,

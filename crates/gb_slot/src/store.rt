@@ -22,9 +22,9 @@ use std::marker::Model;
 /// A message, where its payload stands among the bytes, and the nodes from which it was taken in.
 #[derive(Drop)]
 pub struct Kept {
-    m: MsgId,
     start: usize,
     end: usize,
+    m: MsgId,
     from: NodeSet,
 }
 
@@ -141,9 +141,9 @@ fn append(kept: &mut Vec<Kept>, bytes: &mut Vec<u8>, m: MsgId, payload: &[u8])
     bytes.extend_from_slice(payload).unwrap();
     let end = bytes.len();
     kept.push_reserved(Kept {
-        m,
         start,
         end,
+        m,
         from: NodeSet::new(),
     });
 }

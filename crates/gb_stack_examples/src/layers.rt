@@ -5,6 +5,7 @@ use gb_layer::call::Call;
 use gb_layer::effects::{Effects, Up};
 use gb_layer::layer::Layer;
 use gb_layer::plain;
+use gb_types::memory::OutOfMemory;
 use gb_types::message::MsgId;
 use gb_types::node::NodeId;
 use std::alloc::Global;
@@ -31,47 +32,71 @@ const SECOND: MsgId = MsgId {
     seq: 2,
 };
 
+/// Tells a layer of an own message, of another node's and of a crash.
+fn tell(rt: &impl Abort, layer: &mut Beb, out: &mut Effects) -> Result<(), OutOfMemory> {
+    assert!(rt; layer.me() == ME);
+    layer.ready(3, out)?;
+    assert!(rt; out.sends.capacity() >= 3 && out.ups.capacity() >= 3);
+    layer.say(OWN, out);
+    layer.ready(1, out)?;
+    layer.came(OTHER, FIRST, out);
+    layer.ready(1, out)?;
+    layer.notice(ORIGIN, out);
+    Ok(())
+}
+
+const UPS: [Up; 2] = [
+    Up { via: ME, m: OWN },
+    Up {
+        via: OTHER,
+        m: FIRST,
+    },
+];
+
 #[test]
 fn beb_hands_up_whatever_comes(rt: HostRuntime) -> Result<(), Fail> {
     let mut layer = Beb::new(ME);
     let mut out = Effects::new(rt.alloc());
-    assert!(rt; layer.me() == ME);
-    layer.ready(3, &mut out)?;
-    assert!(rt; out.sends.capacity() >= 3 && out.ups.capacity() >= 3);
-    layer.say(OWN, &mut out);
-    layer.ready(1, &mut out)?;
-    layer.came(OTHER, FIRST, &mut out);
-    layer.ready(1, &mut out)?;
-    layer.notice(ORIGIN, &mut out);
+    tell(&rt, &mut layer, &mut out)?;
     assert!(rt; out.sends.as_slice() == [OWN].as_slice());
-    let ups = [
-        Up { via: ME, m: OWN },
-        Up {
-            via: OTHER,
-            m: FIRST,
-        },
-    ];
-    assert!(rt; out.ups.as_slice() == ups.as_slice());
+    assert!(rt; out.ups.as_slice() == UPS.as_slice());
     Ok(())
 }
 
-/// Compares what the plain program says of a history with this log and these broadcasts.
+const HISTORY: [Call; 3] = [
+    Call::Came(OTHER, SECOND),
+    Call::Notice(ORIGIN),
+    Call::Came(ORIGIN, FIRST),
+];
+
+/// Whether the plain program says of the history that it has this log.
+fn has_log(alloc: Global, module: BroadcastModule, log: &[MsgId]) -> Result<bool, OutOfMemory> {
+    let found = plain::log(alloc, module, ME, &MEMBERS, &HISTORY)?;
+    Ok(found.as_slice() == log)
+}
+
+/// Whether the plain program says of the history that its last call has these broadcasts.
+fn has_broadcasts(
+    alloc: Global,
+    module: BroadcastModule,
+    broadcasts: &[MsgId],
+) -> Result<bool, OutOfMemory> {
+    let found = plain::broadcasts(alloc, module, ME, &HISTORY)?;
+    Ok(found.as_slice() == broadcasts)
+}
+
+/// Compares what the plain program says of the history with this log and these broadcasts.
 fn compare(
     rt: &impl Abort,
     alloc: Global,
     module: BroadcastModule,
     log: &[MsgId],
     broadcasts: &[MsgId],
-) -> Result<(), Fail> {
-    let history = [
-        Call::Came(OTHER, SECOND),
-        Call::Notice(ORIGIN),
-        Call::Came(ORIGIN, FIRST),
-    ];
-    let found = plain::log(alloc, module, ME, &MEMBERS, &history)?;
-    assert!(rt; found.as_slice() == log);
-    let found = plain::broadcasts(alloc, module, ME, &history)?;
-    assert!(rt; found.as_slice() == broadcasts);
+) -> Result<(), OutOfMemory> {
+    let logged = has_log(alloc, module, log)?;
+    assert!(rt; logged);
+    let broadcast = has_broadcasts(alloc, module, broadcasts)?;
+    assert!(rt; broadcast);
     Ok(())
 }
 
@@ -85,5 +110,6 @@ fn plain_answers_are_those_of_the_algorithms(rt: HostRuntime) -> Result<(), Fail
     compare(&rt, alloc, BroadcastModule::BestEffort, &[FIRST], &[])?;
     compare(&rt, alloc, BroadcastModule::Lazy, &both, &second)?;
     compare(&rt, alloc, BroadcastModule::Eager, &both, &second)?;
-    compare(&rt, alloc, BroadcastModule::AllAck, &second, &second)
+    compare(&rt, alloc, BroadcastModule::AllAck, &second, &second)?;
+    Ok(())
 }

@@ -1,4 +1,5 @@
 //! A fifo over other layers than those of a stack, and the plain order on lists worked out by hand.
+use crate::stacks::take_all;
 use gb_fifo::fifo::Fifo;
 use gb_fifo::{order, plain};
 use gb_layer::beb::Beb;
@@ -13,23 +14,38 @@ use std::alloc::Global;
 use std::process::Abort;
 use std::test::Fail;
 
-const ORIGIN: NodeId = NodeId { number: 0 };
+const ORIGIN: u8 = 0;
 
-const ME: NodeId = NodeId { number: 1 };
+const ME: u8 = 1;
 
-const OTHER: NodeId = NodeId { number: 2 };
+const OTHER: u8 = 2;
+
+/// The node with this number, below 16.
+fn node(number: u8) -> NodeId {
+    NodeId::new(number % 16)
+}
+
+/// The message of this origin with this number.
+fn message(origin: u8, seq: u16) -> MsgId {
+    MsgId {
+        origin: node(origin),
+        seq,
+    }
+}
 
 /// Messages, by origin and number.
-fn listed(alloc: Global, told: &[(NodeId, u16)]) -> Result<Vec<MsgId>, OutOfMemory> {
+fn listed(alloc: Global, told: &[(u8, u16)]) -> Result<Vec<MsgId>, OutOfMemory> {
     let mut found = Vec::new(alloc);
     for (origin, seq) in told {
-        let m = MsgId {
-            origin: *origin,
-            seq: *seq,
-        };
-        found.push(m)?;
+        found.push(message(*origin, *seq))?;
     }
     Ok(found)
+}
+
+/// Whether these messages were sent.
+fn has_sent(alloc: Global, out: &Effects, sends: &[(u8, u16)]) -> Result<bool, OutOfMemory> {
+    let sends = listed(alloc, sends)?;
+    Ok(out.sends.as_slice() == sends.as_slice())
 }
 
 /// The messages that came up.
@@ -41,87 +57,139 @@ fn messages(alloc: Global, out: &Effects) -> Result<Vec<MsgId>, OutOfMemory> {
     Ok(found)
 }
 
+/// Whether these messages came up.
+fn has_given(alloc: Global, out: &Effects, ups: &[(u8, u16)]) -> Result<bool, OutOfMemory> {
+    let found = messages(alloc, out)?;
+    let ups = listed(alloc, ups)?;
+    Ok(found.as_slice() == ups.as_slice())
+}
+
 /// Compares what was sent and what came up.
 fn compare(
     rt: &impl Abort,
     alloc: Global,
     out: &Effects,
-    sends: &[(NodeId, u16)],
-    ups: &[(NodeId, u16)],
-) -> Result<(), Fail> {
-    let sends = listed(alloc, sends)?;
-    assert!(rt; out.sends.as_slice() == sends.as_slice());
-    let found = messages(alloc, out)?;
-    let ups = listed(alloc, ups)?;
-    assert!(rt; found.as_slice() == ups.as_slice());
+    sends: &[(u8, u16)],
+    ups: &[(u8, u16)],
+) -> Result<(), OutOfMemory> {
+    let sent = has_sent(alloc, out, sends)?;
+    assert!(rt; sent);
+    let given = has_given(alloc, out, ups)?;
+    assert!(rt; given);
+    Ok(())
+}
+
+/// The own message is said to a fifo, or another one comes from its origin. Then so many have come up.
+fn take<L: Layer>(
+    rt: &impl Abort,
+    fifo: &mut L,
+    out: &mut Effects,
+    step: (u8, u16, usize),
+) -> Result<(), OutOfMemory> {
+    let (origin, seq, count) = step;
+    let m = message(origin, seq);
+    let call = if origin == ME {
+        Call::Say(m)
+    } else {
+        Call::Came(m.origin, m)
+    };
+    fifo.ready(1, out)?;
+    fifo.take(call, out);
+    assert!(rt; out.ups.len() == count);
     Ok(())
 }
 
 /// Says the node's own messages to a fifo, and has the others come from their origins. After each so many have come up.
-fn told(rt: &impl Abort, alloc: Global, steps: &[(NodeId, u16, usize)]) -> Result<Effects, Fail> {
-    let mut fifo = Fifo::new(alloc, Direct::new(Beb::new(ME)));
+fn told(
+    rt: &impl Abort,
+    alloc: Global,
+    steps: &[(u8, u16, usize)],
+) -> Result<Effects, OutOfMemory> {
+    let mut fifo = Fifo::new(alloc, Direct::new(Beb::new(node(ME))));
     let mut out = Effects::new(alloc);
-    for (origin, seq, count) in steps {
-        let m = MsgId {
-            origin: *origin,
-            seq: *seq,
-        };
-        let call = if *origin == ME {
-            Call::Say(m)
-        } else {
-            Call::Came(*origin, m)
-        };
-        fifo.ready(1, &mut out)?;
-        fifo.take(call, &mut out);
-        assert!(rt; out.ups.len() == *count);
+    for step in steps {
+        take(rt, &mut fifo, &mut out, *step)?;
     }
     Ok(out)
 }
+
+const LATE: &[(u8, u16, usize)] = &[
+    (ORIGIN, 3, 0),
+    (ORIGIN, 2, 0),
+    (OTHER, 1, 1),
+    (ORIGIN, 1, 4),
+    (ORIGIN, 1, 4),
+    (ORIGIN, 4, 5),
+];
+
+const LATE_UPS: &[(u8, u16)] = &[
+    (OTHER, 1),
+    (ORIGIN, 1),
+    (ORIGIN, 2),
+    (ORIGIN, 3),
+    (ORIGIN, 4),
+];
 
 /// A gap that is filled late: the third and the second message wait for the first, and come up with it, each once.
 /// Another origin's message in between does not wait, and a copy of what came up changes nothing.
 #[test]
 fn a_gap_is_filled_late(rt: HostRuntime) -> Result<(), Fail> {
-    let steps = [
-        (ORIGIN, 3, 0),
-        (ORIGIN, 2, 0),
-        (OTHER, 1, 1),
-        (ORIGIN, 1, 4),
-        (ORIGIN, 1, 4),
-        (ORIGIN, 4, 5),
-    ];
-    let ups = [
-        (OTHER, 1),
-        (ORIGIN, 1),
-        (ORIGIN, 2),
-        (ORIGIN, 3),
-        (ORIGIN, 4),
-    ];
-    let out = told(&rt, rt.alloc(), &steps)?;
-    compare(&rt, rt.alloc(), &out, &[], &ups)
+    let out = told(&rt, rt.alloc(), LATE)?;
+    compare(&rt, rt.alloc(), &out, &[], LATE_UPS)?;
+    Ok(())
 }
+
+const TURNS: &[(u8, u16, usize)] = &[
+    (ORIGIN, 2, 0),
+    (OTHER, 1, 1),
+    (ME, 2, 1),
+    (ORIGIN, 1, 3),
+    (OTHER, 2, 4),
+    (ME, 1, 6),
+];
+
+const TURNS_UPS: &[(u8, u16)] = &[
+    (OTHER, 1),
+    (ORIGIN, 1),
+    (ORIGIN, 2),
+    (OTHER, 2),
+    (ME, 1),
+    (ME, 2),
+];
 
 /// The messages of two origins, and this node's own, come in turns and out of order.
 #[test]
 fn two_origins_do_not_wait_for_each_other(rt: HostRuntime) -> Result<(), Fail> {
-    let steps = [
-        (ORIGIN, 2, 0),
-        (OTHER, 1, 1),
-        (ME, 2, 1),
-        (ORIGIN, 1, 3),
-        (OTHER, 2, 4),
-        (ME, 1, 6),
+    let out = told(&rt, rt.alloc(), TURNS)?;
+    compare(&rt, rt.alloc(), &out, &[(ME, 2), (ME, 1)], TURNS_UPS)?;
+    Ok(())
+}
+
+/// Tells a layer of the second and the first message of an origin that crashes in between, and of an own one.
+fn tell<L: Layer>(rt: &impl Abort, layer: &mut L, out: &mut Effects) -> Result<(), OutOfMemory> {
+    assert!(rt; layer.me() == node(ME));
+    layer.ready(3, out)?;
+    assert!(rt; out.sends.capacity() >= 3 && out.ups.capacity() >= 3);
+    let origin = node(ORIGIN);
+    let calls = [
+        Call::Came(origin, message(ORIGIN, 2)),
+        Call::Notice(origin),
+        Call::Came(origin, message(ORIGIN, 1)),
+        Call::Say(message(ME, 1)),
     ];
-    let ups = [
-        (OTHER, 1),
-        (ORIGIN, 1),
-        (ORIGIN, 2),
-        (OTHER, 2),
-        (ME, 1),
-        (ME, 2),
-    ];
-    let out = told(&rt, rt.alloc(), &steps)?;
-    compare(&rt, rt.alloc(), &out, &[(ME, 2), (ME, 1)], &ups)
+    take_all(layer, &calls, out)
+}
+
+/// Compares what a layer that is told so sends and gives up.
+fn compare_told<L: Layer>(
+    rt: &impl Abort,
+    alloc: Global,
+    layer: &mut L,
+) -> Result<(), OutOfMemory> {
+    let mut out = Effects::new(alloc);
+    tell(rt, layer, &mut out)?;
+    let ups = [(ORIGIN, 1), (ORIGIN, 2), (ME, 1)];
+    compare(rt, alloc, &out, &[(ME, 1)], &ups)
 }
 
 /// A fifo over a fifo gives up the same. It stands where the layer below stands, and makes room for each call.
@@ -129,66 +197,49 @@ fn two_origins_do_not_wait_for_each_other(rt: HostRuntime) -> Result<(), Fail> {
 fn a_fifo_stands_over_any_broadcast(rt: HostRuntime) -> Result<(), Fail> {
     order::one_two_three::<Fifo<Direct<Beb>>>();
     order::in_origin_order::<Fifo<Direct<Beb>>>();
-    let below = Fifo::new(rt.alloc(), Direct::new(Beb::new(ME)));
+    let below = Fifo::new(rt.alloc(), Direct::new(Beb::new(node(ME))));
     let mut fifo = Fifo::new(rt.alloc(), below);
-    let mut out = Effects::new(rt.alloc());
-    assert!(rt; fifo.me() == ME);
-    fifo.ready(3, &mut out)?;
-    assert!(rt; out.sends.capacity() >= 3 && out.ups.capacity() >= 3);
-    let calls = [
-        Call::Came(
-            ORIGIN,
-            MsgId {
-                origin: ORIGIN,
-                seq: 2,
-            },
-        ),
-        Call::Notice(ORIGIN),
-        Call::Came(
-            ORIGIN,
-            MsgId {
-                origin: ORIGIN,
-                seq: 1,
-            },
-        ),
-        Call::Say(MsgId { origin: ME, seq: 1 }),
-    ];
-    for call in calls {
-        fifo.ready(1, &mut out)?;
-        fifo.take(call, &mut out);
-    }
-    let ups = [(ORIGIN, 1), (ORIGIN, 2), (ME, 1)];
-    compare(&rt, rt.alloc(), &out, &[(ME, 1)], &ups)
+    compare_told(&rt, rt.alloc(), &mut fifo)?;
+    Ok(())
 }
 
 /// Puts what was delivered in order by the plain program, and compares.
 fn in_order(
-    rt: &impl Abort,
     alloc: Global,
-    delivered: &[(NodeId, u16)],
-    given: &[(NodeId, u16)],
-) -> Result<(), Fail> {
+    delivered: &[(u8, u16)],
+    given: &[(u8, u16)],
+) -> Result<bool, OutOfMemory> {
     let delivered = listed(alloc, delivered)?;
     let given = listed(alloc, given)?;
     let found = plain::in_order(alloc, &delivered)?;
-    assert!(rt; found.as_slice() == given.as_slice());
-    Ok(())
+    Ok(found.as_slice() == given.as_slice())
 }
+
+/// What was delivered, and the order in which it is given.
+type Order = (&'static [(u8, u16)], &'static [(u8, u16)]);
+
+const NOTHING: Order = (&[], &[]);
+
+const FILLED: Order = (
+    &[(ORIGIN, 2), (OTHER, 1), (ORIGIN, 1)],
+    &[(OTHER, 1), (ORIGIN, 1), (ORIGIN, 2)],
+);
+
+const GAP: Order = (&[(ORIGIN, 1), (ORIGIN, 3), (ORIGIN, 4)], &[(ORIGIN, 1)]);
+
+const REPEATED: Order = (&[(ORIGIN, 1), (ORIGIN, 1)], &[(ORIGIN, 1)]);
+
+const ZERO: Order = (&[(ORIGIN, 0), (ORIGIN, 65535), (ORIGIN, 1)], &[(ORIGIN, 1)]);
+
+const ORDERS: &[Order] = &[NOTHING, FILLED, GAP, REPEATED, ZERO];
 
 /// The plain program, on lists worked out by hand: a gap that is filled, one that is not, a repeated message, and a
 /// message with the number 0, which no run from 1 on has.
 #[test]
 fn plain_answers_are_those_of_the_definition(rt: HostRuntime) -> Result<(), Fail> {
-    let alloc = rt.alloc();
-    let first = [(ORIGIN, 1)];
-    in_order(&rt, alloc, &[], &[])?;
-    let late = [(ORIGIN, 2), (OTHER, 1), (ORIGIN, 1)];
-    let filled = [(OTHER, 1), (ORIGIN, 1), (ORIGIN, 2)];
-    in_order(&rt, alloc, &late, &filled)?;
-    let gap = [(ORIGIN, 1), (ORIGIN, 3), (ORIGIN, 4)];
-    in_order(&rt, alloc, &gap, &first)?;
-    let repeated = [(ORIGIN, 1), (ORIGIN, 1)];
-    in_order(&rt, alloc, &repeated, &first)?;
-    let zero = [(ORIGIN, 0), (ORIGIN, 65535), (ORIGIN, 1)];
-    in_order(&rt, alloc, &zero, &first)
+    for (delivered, given) in ORDERS {
+        let held = in_order(rt.alloc(), delivered, given)?;
+        assert!(rt; held);
+    }
+    Ok(())
 }

@@ -38,7 +38,7 @@ const SECOND: MsgId = MsgId {
     seq: 2,
 };
 
-const KINDS: [Kind; 8] = [
+const KINDS: &[Kind] = &[
     Kind::Beb,
     Kind::Lazy,
     Kind::Eager,
@@ -62,13 +62,13 @@ const CALLS: [Call; 9] = [
     Call::Notice(OTHER),
 ];
 
-/// The members, as a set.
-fn members() -> NodeSet {
-    let mut members = NodeSet::new();
-    for member in MEMBERS {
-        members.insert(member);
+/// These nodes, as a set.
+fn set(nodes: &[NodeId]) -> NodeSet {
+    let mut found = NodeSet::new();
+    for node in nodes {
+        found.insert(*node);
     }
-    members
+    found
 }
 
 /// A stack of a kind, at a node that noticed these.
@@ -77,7 +77,7 @@ fn stack(alloc: Global, kind: Kind, noticed: &NodeSet) -> Result<Stack, OutOfMem
 {
     let spec = Spec {
         kind,
-        members: members(),
+        members: set(&MEMBERS),
         msgs: 8,
         bytes: 4_096,
         window: 4,
@@ -105,6 +105,48 @@ fn may_come(past: &[Call], call: Call) -> bool {
     }
 }
 
+/// Whether the plain program broadcasts the same at the last call of a history.
+fn has_sent(
+    alloc: Global,
+    kind: Kind,
+    history: &[Call],
+    sends: &[MsgId],
+) -> Result<bool, OutOfMemory> {
+    let broadcasts = plain::broadcasts(alloc, kind, ME, history)?;
+    Ok(sends == broadcasts.as_slice())
+}
+
+/// Whether the plain program has the same log after a history.
+fn has_log(
+    alloc: Global,
+    kind: Kind,
+    history: &[Call],
+    log: &[MsgId],
+) -> Result<bool, OutOfMemory> {
+    let told = plain::log(alloc, kind, ME, &MEMBERS, history)?;
+    Ok(log == told.as_slice())
+}
+
+/// Adds what came up to the log, and compares what was sent, and the log, with the plain program's answers.
+fn compare_effects(
+    rt: &impl Abort,
+    alloc: Global,
+    kind: Kind,
+    history: &[Call],
+    out: &Effects,
+    log: &mut Vec<MsgId>,
+) -> Result<(), OutOfMemory> {
+    let sent = has_sent(alloc, kind, history, &out.sends)?;
+    assert!(rt; sent);
+    for up in &out.ups {
+        assert!(rt; up.via == up.m.origin);
+        log.push(up.m)?;
+    }
+    let logged = has_log(alloc, kind, history, log)?;
+    assert!(rt; logged);
+    Ok(())
+}
+
 /// Makes a call, and compares what it sends, and the log, with the plain program's answers.
 fn take_and_compare<L: Broadcast>(
     rt: &impl Abort,
@@ -114,48 +156,56 @@ fn take_and_compare<L: Broadcast>(
     history: &[Call],
     call: Call,
     log: &mut Vec<MsgId>,
-) -> Result<(), Fail> {
+) -> Result<(), OutOfMemory> {
     let mut out = Effects::new(alloc);
     layer.ready(1, &mut out)?;
     layer.take(call, &mut out);
-    let broadcasts = plain::broadcasts(alloc, kind, ME, history)?;
-    assert!(rt; out.sends.as_slice() == broadcasts.as_slice());
-    for up in &out.ups {
-        assert!(rt; up.via == up.m.origin);
-        log.push(up.m)?;
-    }
-    let told = plain::log(alloc, kind, ME, &MEMBERS, history)?;
-    assert!(rt; log.as_slice() == told.as_slice());
-    Ok(())
+    compare_effects(rt, alloc, kind, history, &out, log)
 }
 
-/// Makes the calls one by one, up to the first that may not come. Answers whether all were made.
-fn compare(
-    rt: &impl Abort,
-    alloc: Global,
-    kind: Kind,
-    noticed: &[NodeId],
-    calls: &[Call],
-) -> Result<bool, Fail> {
-    let mut seen = NodeSet::new();
+/// The notices of the other members among these nodes, the newest first.
+fn notices(alloc: Global, noticed: &[NodeId]) -> Result<Vec<Call>, OutOfMemory> {
     let mut history = Vec::new(alloc);
     for who in noticed {
-        seen.insert(*who);
         if MEMBERS.contains(who) && *who != ME {
             history.insert(0, Call::Notice(*who))?;
         }
     }
-    let mut layer = stack(alloc, kind, &seen)?;
-    assert!(rt; layer.me() == ME);
+    Ok(history)
+}
+
+/// Makes the calls one by one, up to the first that may not come. Answers whether all were made.
+fn take_calls<L: Broadcast>(
+    rt: &impl Abort,
+    alloc: Global,
+    layer: &mut L,
+    kind: Kind,
+    noticed: &[NodeId],
+    calls: &[Call],
+) -> Result<bool, OutOfMemory> {
+    let mut history = notices(alloc, noticed)?;
     let mut log = Vec::new(alloc);
     for call in calls {
         if !may_come(&history, *call) {
             return Ok(false);
         }
         history.insert(0, *call)?;
-        take_and_compare(rt, alloc, &mut layer, kind, &history, *call, &mut log)?;
+        take_and_compare(rt, alloc, layer, kind, &history, *call, &mut log)?;
     }
     Ok(true)
+}
+
+/// Makes the calls at a new stack, up to the first that may not come. Answers whether all were made.
+fn compare(
+    rt: &impl Abort,
+    alloc: Global,
+    kind: Kind,
+    noticed: &[NodeId],
+    calls: &[Call],
+) -> Result<bool, OutOfMemory> {
+    let mut layer = stack(alloc, kind, &set(noticed))?;
+    assert!(rt; layer.me() == ME);
+    take_calls(rt, alloc, &mut layer, kind, noticed, calls)
 }
 
 /// Compares a kind's stack with the plain program over each lawful history of three of the calls, after the notices
@@ -165,10 +215,11 @@ fn compare_kind(
     alloc: Global,
     kind: Kind,
     noticed: &[NodeId],
-) -> Result<(), Fail> {
+) -> Result<(), OutOfMemory> {
+    let all = CALLS;
     let mut whole: usize = 0;
     for n in 0..729 {
-        let calls = [CALLS[n / 81], CALLS[n / 9 % 9], CALLS[n % 9]];
+        let calls = [all[n / 81], all[n / 9 % 9], all[n % 9]];
         if compare(rt, alloc, kind, noticed, &calls)? {
             whole += 1;
         }
@@ -178,9 +229,9 @@ fn compare_kind(
 }
 
 /// Compares each kind's stack with the plain program.
-fn compare_all(rt: &impl Abort, alloc: Global, noticed: &[NodeId]) -> Result<(), Fail> {
+fn compare_all(rt: &impl Abort, alloc: Global, noticed: &[NodeId]) -> Result<(), OutOfMemory> {
     for kind in KINDS {
-        compare_kind(rt, alloc, kind, noticed)?;
+        compare_kind(rt, alloc, *kind, noticed)?;
     }
     Ok(())
 }
@@ -190,97 +241,137 @@ fn each_stack_is_its_plain_kind(rt: HostRuntime) -> Result<(), Fail> {
     stands::stands();
     stands::logs();
     stands::starts();
-    compare_all(&rt, rt.alloc(), &[])
+    compare_all(&rt, rt.alloc(), &[])?;
+    Ok(())
 }
 
 #[test]
 fn each_stack_starts_with_the_notices(rt: HostRuntime) -> Result<(), Fail> {
     compare_all(&rt, rt.alloc(), &[OTHER])?;
-    compare_all(&rt, rt.alloc(), &[ORIGIN, ME, STRANGER])
+    compare_all(&rt, rt.alloc(), &[ORIGIN, ME, STRANGER])?;
+    Ok(())
 }
 
-/// What these calls send and hand up, one after the other.
-fn run(alloc: Global, kind: Kind, noticed: &NodeSet, calls: &[Call]) -> Result<Effects, Fail> {
-    let mut layer = stack(alloc, kind, noticed)?;
-    let mut out = Effects::new(alloc);
+/// Makes the calls, one after the other.
+pub fn take_all<L: Layer>(
+    layer: &mut L,
+    calls: &[Call],
+    out: &mut Effects,
+) -> Result<(), OutOfMemory> {
     for call in calls {
-        layer.ready(1, &mut out)?;
-        layer.take(*call, &mut out);
+        layer.ready(1, out)?;
+        layer.take(*call, out);
     }
+    Ok(())
+}
+
+/// What these calls of a layer send and hand up, one after the other.
+fn effects<L: Layer>(alloc: Global, layer: &mut L, calls: &[Call]) -> Result<Effects, OutOfMemory> {
+    let mut out = Effects::new(alloc);
+    take_all(layer, calls, &mut out)?;
     Ok(out)
 }
 
-/// Compares how many messages a copy of another node's message has a kind send and hand up, after this notice.
-fn compare_copy(
-    rt: &impl Abort,
+/// What these calls of a new stack send and hand up, one after the other.
+fn run(
     alloc: Global,
     kind: Kind,
     noticed: &NodeSet,
-    sends: usize,
-    ups: usize,
-) -> Result<(), Fail> {
-    let out = run(alloc, kind, noticed, &[Call::Came(OTHER, FIRST)])?;
-    assert!(rt; out.sends.len() == sends);
-    assert!(rt; out.ups.len() == ups);
-    Ok(())
+    calls: &[Call],
+) -> Result<Effects, OutOfMemory> {
+    let mut layer = stack(alloc, kind, noticed)?;
+    effects(alloc, &mut layer, calls)
 }
+
+/// A kind, whether the origin was noticed, and how many messages are then sent and handed up.
+type Copied = (Kind, bool, usize, usize);
+
+/// Whether a copy of another node's message has a kind send and hand up so many messages.
+fn is_copied(alloc: Global, case: Copied) -> Result<bool, OutOfMemory> {
+    let (kind, is_noticed, sends, ups) = case;
+    let mut noticed = NodeSet::new();
+    if is_noticed {
+        noticed.insert(ORIGIN);
+    }
+    let out = run(alloc, kind, &noticed, &[Call::Came(OTHER, FIRST)])?;
+    Ok(out.sends.len() == sends && out.ups.len() == ups)
+}
+
+const COPIES: &[Copied] = &[
+    (Kind::Beb, false, 0, 0),
+    (Kind::Lazy, false, 0, 1),
+    (Kind::Eager, false, 1, 1),
+    (Kind::AllAck, false, 1, 0),
+    (Kind::AllAck, true, 1, 1),
+    (Kind::FifoBeb, false, 0, 0),
+    (Kind::FifoLazy, false, 0, 1),
+    (Kind::FifoEager, false, 1, 1),
+    (Kind::FifoAllAck, false, 1, 0),
+    (Kind::FifoAllAck, true, 1, 1),
+];
 
 /// A relayed copy is delivered by lazy and by eager broadcast, and relayed by eager; best effort does neither. All-ack
 /// relays it, and delivers it where the origin, which is not known to hold it, was noticed.
 #[test]
 fn a_relayed_copy_tells_the_kinds_apart(rt: HostRuntime) -> Result<(), Fail> {
-    let nobody = NodeSet::new();
-    let mut origin = NodeSet::new();
-    origin.insert(ORIGIN);
-    for (kind, noticed, sends, ups) in [
-        (Kind::Beb, &nobody, 0, 0),
-        (Kind::Lazy, &nobody, 0, 1),
-        (Kind::Eager, &nobody, 1, 1),
-        (Kind::AllAck, &nobody, 1, 0),
-        (Kind::AllAck, &origin, 1, 1),
-        (Kind::FifoBeb, &nobody, 0, 0),
-        (Kind::FifoLazy, &nobody, 0, 1),
-        (Kind::FifoEager, &nobody, 1, 1),
-        (Kind::FifoAllAck, &nobody, 1, 0),
-        (Kind::FifoAllAck, &origin, 1, 1),
-    ] {
-        compare_copy(&rt, rt.alloc(), kind, noticed, sends, ups)?;
+    for case in COPIES {
+        let held = is_copied(rt.alloc(), *case)?;
+        assert!(rt; held);
     }
     Ok(())
 }
 
-/// Compares what two messages that come in the other order have a kind send and hand up, after this notice.
-fn compare_turned(
-    rt: &impl Abort,
-    alloc: Global,
-    kind: Kind,
-    noticed: &NodeSet,
-    told: &[MsgId],
-) -> Result<(), Fail> {
-    let calls = [Call::Came(OTHER, SECOND), Call::Came(OTHER, FIRST)];
-    let out = run(alloc, kind, noticed, &calls)?;
-    assert!(rt; out.sends.as_slice() == [SECOND, FIRST].as_slice());
-    let mut found = Vec::new(alloc);
-    for up in &out.ups {
-        assert!(rt; up.via == ORIGIN);
-        found.push(up.m)?;
+/// Whether these messages of the origin came up, as taken from it.
+fn has_given(out: &Effects, told: &[MsgId]) -> bool {
+    if out.ups.len() != told.len() {
+        return false;
     }
-    assert!(rt; found.as_slice() == told);
-    Ok(())
+    for (up, m) in out.ups.iter().zip(told) {
+        if up.via != ORIGIN || up.m != *m {
+            return false;
+        }
+    }
+    true
+}
+
+/// Whether two messages that come in the other order have a kind send them so and hand up these, after the origin's
+/// notice.
+fn is_turned(alloc: Global, kind: Kind, told: &[MsgId]) -> Result<bool, OutOfMemory> {
+    let calls = [Call::Came(OTHER, SECOND), Call::Came(OTHER, FIRST)];
+    let out = run(alloc, kind, &set(&[ORIGIN]), &calls)?;
+    Ok(out.sends.as_slice() == [SECOND, FIRST].as_slice() && has_given(&out, told))
 }
 
 /// Under a fifo kind the second message waits for the first, which a lazy stack that starts after the origin's
 /// notice also relays.
 #[test]
 fn fifo_lazy_waits_and_relays(rt: HostRuntime) -> Result<(), Fail> {
-    let mut seen = NodeSet::new();
-    seen.insert(ORIGIN);
-    compare_turned(&rt, rt.alloc(), Kind::FifoLazy, &seen, &[FIRST, SECOND])?;
-    compare_turned(&rt, rt.alloc(), Kind::Lazy, &seen, &[SECOND, FIRST])
+    let waits = is_turned(rt.alloc(), Kind::FifoLazy, &[FIRST, SECOND])?;
+    assert!(rt; waits);
+    let relays = is_turned(rt.alloc(), Kind::Lazy, &[SECOND, FIRST])?;
+    assert!(rt; relays);
+    Ok(())
 }
 
-/// What the second of two calls gives, of a stack that started after these notices and took its memory once, for one
-/// message a member; none where that limit does not allow both.
+/// What the second of two calls gives, of a new layer that took its memory once, for one message a member; none where
+/// that limit does not allow both.
+fn second_of<L: Layer>(
+    alloc: Global,
+    layer: &mut L,
+    first: Call,
+    second: Call,
+) -> Result<Option<Effects>, OutOfMemory>
+    requires { L.is_empty (L.meaning layer.old) }
+{
+    let mut out = Effects::new(alloc);
+    if take_two(layer, &set(&MEMBERS), 1, first, second, &mut out)? {
+        Ok(Some(out))
+    } else {
+        Ok(None)
+    }
+}
+
+/// The same of a stack that started after these notices.
 fn two(
     alloc: Global,
     kind: Kind,
@@ -289,52 +380,35 @@ fn two(
     second: Call,
 ) -> Result<Option<Effects>, OutOfMemory> {
     let mut layer = stack(alloc, kind, noticed)?;
-    let mut out = Effects::new(alloc);
-    if take_two(&mut layer, &members(), 1, first, second, &mut out)? {
-        Ok(Some(out))
-    } else {
-        Ok(None)
-    }
+    second_of(alloc, &mut layer, first, second)
 }
 
 /// Compares what two copies of a message send and bring up with the plain program's answers.
-fn compare_two(
-    rt: &impl Abort,
-    alloc: Global,
-    kind: Kind,
-    first: Call,
-    second: Call,
-) -> Result<(), Fail> {
+fn compare_two(rt: &impl Abort, alloc: Global, kind: Kind) -> Result<(), Fail> {
+    let first = Call::Came(ORIGIN, FIRST);
+    let second = Call::Came(OTHER, FIRST);
     let out = two(alloc, kind, &NodeSet::new(), first, second)?.ok_or("within the limit")?;
     let mut log = plain::log(alloc, kind, ME, &MEMBERS, &[first])?;
-    for up in &out.ups {
-        log.push(up.m)?;
-    }
-    let calls = [second, first];
-    let told = plain::log(alloc, kind, ME, &MEMBERS, &calls)?;
-    assert!(rt; log.as_slice() == told.as_slice());
-    let broadcasts = plain::broadcasts(alloc, kind, ME, &calls)?;
-    assert!(rt; out.sends.as_slice() == broadcasts.as_slice());
+    compare_effects(rt, alloc, kind, &[second, first], &out, &mut log)?;
     Ok(())
+}
+
+/// Whether the limit does not allow a second message of a member, after another one's notice.
+fn is_beyond(alloc: Global, kind: Kind) -> Result<bool, OutOfMemory> {
+    let first = Call::Came(ORIGIN, FIRST);
+    let second = Call::Came(ORIGIN, SECOND);
+    let found = two(alloc, kind, &set(&[OTHER]), first, second)?;
+    Ok(found.is_none())
 }
 
 /// Each stack, of a new node and of one that noticed another, takes its memory once: two copies of a message then
 /// send and bring up what the plain program says. The number after the last that the limit allows is not allowed.
 #[test]
 fn each_stack_takes_its_memory_once(rt: HostRuntime) -> Result<(), Fail> {
-    let first = Call::Came(ORIGIN, FIRST);
-    let mut noticed = NodeSet::new();
-    noticed.insert(OTHER);
     for kind in KINDS {
-        compare_two(&rt, rt.alloc(), kind, first, Call::Came(OTHER, FIRST))?;
-        let beyond = two(
-            rt.alloc(),
-            kind,
-            &noticed,
-            first,
-            Call::Came(ORIGIN, SECOND),
-        )?;
-        assert!(rt; beyond.is_none());
+        compare_two(&rt, rt.alloc(), *kind)?;
+        let beyond = is_beyond(rt.alloc(), *kind)?;
+        assert!(rt; beyond);
     }
     Ok(())
 }

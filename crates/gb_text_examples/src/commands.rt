@@ -196,17 +196,35 @@ fn is_told(
 }
 
 /// Each line, one under the other, asks for what stands behind its `=`, or for nothing where it has none. Gives their count.
-fn compare(rt: &impl Abort, alloc: Global, nodes: Option<u8>, lines: &str) -> Result<usize, Fail>
+fn compare_lines(
+    rt: &impl Abort,
+    alloc: Global,
+    keys: &mut Keys,
+    nodes: Option<u8>,
+    lines: &str,
+) -> Result<usize, OutOfMemory>
     requires { ForSome nodes (λ count. (1 ≤ count) × (count ≤ NODES)) }
 {
-    let mut keys = Keys::new(alloc);
     let mut count: usize = 0;
     for each in lines.split('\n') {
-        let held = is_told(alloc, &mut keys, nodes, each)?;
+        let held = is_told(alloc, keys, nodes, each)?;
         assert!(rt; held);
         count = count.wrapping_add(1);
     }
     Ok(count)
+}
+
+/// The same, with new keys.
+fn compare(
+    rt: &impl Abort,
+    alloc: Global,
+    nodes: Option<u8>,
+    lines: &str,
+) -> Result<usize, OutOfMemory>
+    requires { ForSome nodes (λ count. (1 ≤ count) × (count ≤ NODES)) }
+{
+    let mut keys = Keys::new(alloc);
+    compare_lines(rt, alloc, &mut keys, nodes, lines)
 }
 
 const FIRST_LINES: &str =

@@ -47,24 +47,35 @@ const ENTRIES: &[(u8, u16, &[u8])] = &[(0, 1, b"a"), (15, 1024, b""), (2, 3, &[0
 fn three_entries(rt: &impl Abort, alloc: Global) -> Result<Entries, OutOfMemory> {
     let mut entries = Entries::new(alloc);
     for (origin, seq, payload) in ENTRIES {
-        entries.push(entry(alloc, node(rt, *origin), *seq, payload)?)?;
+        let told = entry(alloc, node(rt, *origin), *seq, payload)?;
+        entries.push(told)?;
     }
+    Ok(entries)
+}
+
+/// The reply that has them.
+fn log_is_written(rt: &impl Abort, alloc: Global) -> Result<(), OutOfMemory> {
+    let entries = three_entries(rt, alloc)?;
     assert!(rt; entries.len() == 3);
     assert!(rt; !entries.is_empty());
-    Ok(entries)
+    let text = "log 3 0:1:61 15:1024:- 2:3:000aff";
+    is_written(rt, alloc, Reply::Log(entries), text)
+}
+
+/// Replies without entries.
+fn others_are_written(rt: &impl Abort, alloc: Global) -> Result<(), OutOfMemory> {
+    is_written(rt, alloc, Reply::Done, "ok")?;
+    is_written(rt, alloc, Reply::Said(1), "said 1")?;
+    is_written(rt, alloc, Reply::Said(65_535), "said 65535")?;
+    is_written(rt, alloc, Reply::Log(Entries::new(alloc)), "log 0")?;
+    let refused = Reply::Refused(Refusal::OverReserve);
+    is_written(rt, alloc, refused, "refused 5 OverReserve")
 }
 
 #[test]
 fn replies(rt: HostRuntime) -> Result<(), Fail> {
-    let alloc = rt.alloc();
-    is_written(&rt, alloc, Reply::Done, "ok")?;
-    is_written(&rt, alloc, Reply::Said(1), "said 1")?;
-    is_written(&rt, alloc, Reply::Said(65_535), "said 65535")?;
-    is_written(&rt, alloc, Reply::Log(Entries::new(alloc)), "log 0")?;
-    let log = Reply::Log(three_entries(&rt, alloc)?);
-    is_written(&rt, alloc, log, "log 3 0:1:61 15:1024:- 2:3:000aff")?;
-    let refused = Reply::Refused(Refusal::OverReserve);
-    is_written(&rt, alloc, refused, "refused 5 OverReserve")?;
+    others_are_written(&rt, rt.alloc())?;
+    log_is_written(&rt, rt.alloc())?;
     Ok(())
 }
 
