@@ -97,6 +97,15 @@ nodes_where-union n s p =
     ∙ (or-and (nat_lt q n) (set.contains s q) (p q)
     ∙ sym (contains-either _ _ q ∙ (λ j. contains-nodes_where n (set.contains s) q j || contains-nodes_where n p q j)))))
 
+-- nodes below n stay
+pub nodes_where-twice : (n : ℕ) (p : ℕ → Bool) → nodes_where n (set.contains (nodes_where n p)) ≡ nodes_where n p
+nodes_where-twice n p = same_nodes _ _ (λ q. contains-nodes_where n _ q ∙ (ap (λ b. nat_lt q n && b) (contains-nodes_where n p q) ∙ (and-twice (nat_lt q n) (p q) ∙ sym (contains-nodes_where n p q))))
+
+-- a set of nodes below n that grew by nodes below n is one
+pub nodes_where-grown : (n : ℕ) (s : set.FinSet nat_cmp) (p : ℕ → Bool) → nodes_where n (set.contains s) ≡ s
+    → nodes_where n (set.contains (set.union s (nodes_where n (set.contains (nodes_where n p))))) ≡ set.union s (nodes_where n (set.contains (nodes_where n p)))
+nodes_where-grown n s p kept = nodes_where-union n s p ∙ (ap (λ t. set.union t (nodes_where n p)) kept ∙ ap (set.union s) (sym (nodes_where-twice n p)))
+
 -- what a tick would notice, told from the set that stands behind the noticed one
 pub is_due-inside : (me n s : ℕ) (silences : List ℕ) (behind : set.FinSet nat_cmp) (b : ℕ) → b < n
     → is_due (record { me = me; nodes = n; silence = s; silences = silences; noticed = nodes_where n (set.contains behind) }) b

@@ -20,7 +20,7 @@ pub struct Detector {
 }
 
 impl Model for Detector {
-    ghost use Rattle.std.specs.Prelude.{◌≤◌};
+    ghost use Rattle.std.specs.Prelude.{◌≡◌, ◌≤◌};
     ghost use Rattle.std.specs.FinSet as set;
     ghost use Rattle.gb_types.specs.declared.limits.TheConstants.{NODES};
     ghost use Rattle.gb_detect.specs.Watch.{Watch, watch_code, nodes_where};
@@ -37,7 +37,7 @@ impl Model for Detector {
       noticed = nodes_where a.nodes (set.contains a.noticed);
     } };
 
-    ghost invariant = { λ a. a.nodes ≤ NODES };
+    ghost invariant = { λ a. (a.nodes ≤ NODES) × (nodes_where a.nodes (set.contains a.noticed) ≡ a.noticed) };
 }
 
 /// Puts the nodes below `nodes` of one set into another.
@@ -134,8 +134,6 @@ impl Detector {
         ensures value { result ≡ self.now.noticed }
         ensures definition { (calls : List Call) → StandsFor calls self.now → AreNoticed self.now calls result }
     {
-        let mut found = NodeSet::new();
-        insert_each(&mut found, &self.noticed, self.nodes);
-        found
+        self.noticed.duplicate()
     }
 }

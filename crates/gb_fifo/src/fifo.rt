@@ -74,8 +74,8 @@ impl<L: Broadcast> Fifo<L> {
         ensures below_memory { vec_capacity self.old.below ≤ vec_capacity self.new.below }
         ensures sends_memory { vec_capacity out.old.sends ≤ vec_capacity out.new.sends }
     {
-        self.below.clear();
         mem::swap(&mut out.ups, &mut self.below);
+        out.ups.clear();
         self.lower.take(call, out);
         mem::swap(&mut out.ups, &mut self.below);
     }

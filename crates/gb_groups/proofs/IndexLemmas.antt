@@ -1,5 +1,5 @@
 -- The index of what waits, over all nodes.
-use Rattle.std.proofs.Common.{zero, suc, ◌∷◌, ◌++◌, refl, length-append, ◌≡◌, ◌≢◌, ℕ, ◌<◌, ◌+◌, min, List, [], length, get_or, ap, sym, subst, ◌∙◌, arith, inl, inr}
+use Rattle.std.proofs.Common.{zero, suc, ◌∷◌, ◌++◌, refl, length-append, ◌≡◌, ◌≢◌, ℕ, ◌<◌, min, List, [], length, get_or, ap, sym, subst, ◌∙◌, arith, inl, inr}
 use Rattle.std.proofs.Math.ListN.{set}
 use Rattle.std.proofs.lemmas.Bool.{cases_eq}
 use Rattle.std.proofs.lemmas.List.{get_or_default, get_or-set_same, get_or-set_other, length-set, length-map, map-set, map-append}
@@ -101,34 +101,6 @@ index_whole rows busy p ok all = record {
     ];
   };
 }
-
--- one node's set was made right
-pub record Refreshed (p to : ℕ) (rows : List Row) (busy : List (List ℕ)) : Type 0 where
-  pub but : IsIndexBut p rows busy
-  pub right : (d : ℕ) → d < to → IsRight rows busy p d
-
-pub refreshed : (p to : ℕ) (rows : List Row) (busy : List (List ℕ)) (words other : List ℕ) → p < length rows → to < NODES → Refreshed p to rows busy → ((q : ℕ) → q ≢ p → has words q ≡ has (get_or busy to other) q) → has words p ≡ min 1 (length (queue to (row_at rows p))) → Refreshed p (to + 1) rows (set busy to words)
-refreshed p to rows busy words other h l ok others here =
-    let n = ok.but.size in
-    let m : to < length busy = omega arith in
-    let at : get_or (set busy to words) to [] ≡ words = get_or-set_same busy to words [] m in
-    let old = get_or_default busy to [] other m in
-    record {
-      but = record {
-        size = length-set busy to words ∙ n;
-        few = ok.but.few;
-        each = λ d q k ne. elim (cases_eq d to) [
-          | inl e ↦ ap (λ i. has (get_or (set busy to words) i []) q) e ∙ ap (λ (ws : List ℕ). has ws q) at ∙ others q ne ∙ sym (ap (λ (ws : List ℕ). has ws q) old) ∙ sym (ap (λ i. has (get_or busy i []) q) e) ∙ ok.but.each d q k ne
-          | inr off ↦ ap (λ (ws : List ℕ). has ws q) (get_or-set_other busy to d words [] off) ∙ ok.but.each d q k ne
-        ];
-      };
-      right = λ d k. elim (cases_eq d to) [
-        | inl e ↦
-            ap (λ i. has (get_or (set busy to words) i []) p) e ∙ ap (λ (ws : List ℕ). has ws p) at ∙ here
-            ∙ sym (ap (λ (x : List Entry). min 1 (length x)) (queues_at to rows p (row_at rows p) h (get_or_default rows p no_row (row_at rows p) h))) ∙ sym (ap (λ i. min 1 (length (get_or (queues i rows) p []))) e)
-        | inr off ↦ ap (λ (ws : List ℕ). has ws p) (get_or-set_other busy to d words [] off) ∙ ok.right d (omega arith)
-      ];
-    }
 
 get_or-none : (qs : List (List Entry)) (p : ℕ) → get_or (qs ++ [] ∷ []) p [] ≡ get_or qs p []
 get_or-none [] zero = refl

@@ -14,6 +14,7 @@ pub mod AddressLemmas
 pub mod QuietLemmas
 pub mod AddLemmas
 pub mod MemberLemmas
+pub mod NotedLemmas
 pub mod DropLemmas
 pub mod OneGroupLemmas
 pub mod ShortLemmas

@@ -1,10 +1,10 @@
 -- What one packing takes: the walk round the groups, the batch, and where the next walk begins.
-use Rattle.std.specs.Prelude.{ℕ, suc, ◌+◌, ◌-◌, ◌==◌, Bool, if◌then◌else◌, List, [], ◌∷◌, ◌++◌, length, take, drop, map, Option, Some, None, option_map, slice_get, count_by, ltb}
+use Rattle.std.specs.Prelude.{ℕ, suc, ◌+◌, ◌-◌, ◌==◌, Bool, if◌then◌else◌, List, [], ◌∷◌, ◌++◌, length, take, drop, map, Option, Some, None, option_map, slice_get, slice_index_or, count_by, ltb}
 use Rattle.gb_types.specs.declared.entry.Entry.{Entry}
 use Rattle.gb_frame.specs.declared.item.Item.{Item}
 use Rattle.gb_slot.specs.Slot.{waiting, slot_took}
 use Rattle.gb_slot.specs.SlotState.{SlotState}
-use Rattle.gb_groups.specs.SlotsValue.{Row, row_at}
+use Rattle.gb_groups.specs.SlotsValue.{Row, row_at, no_entry}
 use Rattle.gb_groups.specs.Turns.{in_turns}
 
 -- an item that a group at a place gives
@@ -67,6 +67,10 @@ queue_of dest (Some s) = waiting s dest
 
 abbrev pub queue : ℕ → Row → List Entry
 queue dest row = queue_of dest row.slot
+
+-- the first item that waits for a node in a group
+abbrev pub first_entry : ℕ → Row → Entry
+first_entry dest row = slice_index_or (queue dest row) 0 no_entry
 
 -- what waits for a node, group by group
 abbrev pub queues : ℕ → List Row → List (List Entry)

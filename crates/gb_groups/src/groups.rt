@@ -1,5 +1,5 @@
 //! All groups of a node, with an index of what waits in them.
-ghost use Rattle.std.specs.Prelude.{◌≡◌, ◌==◌, ◌≤◌, ◌<◌, ◌+◌, is_some, ◌++◌, ◌∷◌, [], true, map, slice_index_or, slice_set, ℕ, Some, None, length, sum_by, All, OnOk, OnErr, MatchOption, vec_len, vec_capacity};
+ghost use Rattle.std.specs.Prelude.{min, false, ◌≢◌, ◌≡◌, ◌==◌, ◌≤◌, ◌<◌, ◌+◌, is_some, ◌++◌, ◌∷◌, [], true, map, slice_index_or, slice_set, ℕ, Some, None, length, sum_by, All, OnOk, OnErr, MatchOption, vec_len, vec_capacity};
 ghost use Rattle.gb_groups.specs.Fair.{IsFront, IsLongest};
 ghost use Rattle.gb_frame.specs.Packet.{item_of as view_item};
 ghost use Rattle.gb_types.specs.declared.limits.TheConstants.{NODES, PLACES};
@@ -10,7 +10,9 @@ ghost use Rattle.gb_slot.specs.Slot.{IsWithinLimits, new_slot, slot_done, slot_m
 ghost use Rattle.gb_groups.specs.SlotsValue.{row_at, on_slot, AreApart};
 ghost use Rattle.gb_groups.specs.AtAddress.{group_reply, drop_at, place_of, on_address, address_of, item_came, OthersKept};
 ghost use Rattle.gb_groups.specs.GroupsValue.{no_groups, walk_to, batch, packed, IsIndex, IsIndexBut};
+ghost use Rattle.gb_groups.specs.Busy.{members_of, IsNoted};
 ghost use Rattle.gb_groups.specs.PlaceSet.{has};
+ghost use Rattle.std.specs.FinSet as set;
 ghost use Rattle.gb_groups.specs.Members.{has_member, IsEnrolled, IsNextMember};
 ghost use Rattle.gb_groups.specs.Packing.{items, size};
 ghost use Rattle.gb_groups.specs.OneGroup.{LONGEST, NothingWaits};
@@ -18,8 +20,9 @@ ghost use Rattle.gb_frame.specs.Spelling.{items_text, IsItem};
 
 use crate::packing::{advance, measure};
 use crate::place_set::PlaceSet;
-use crate::slots::{Slots, count_waiting};
+use crate::slots::Slots;
 use gb_frame::item::ItemView;
+use gb_slot::slot::Slot;
 use gb_types::address::Addr;
 use gb_types::limits::{NODES, PAYLOAD};
 use gb_types::memory::OutOfMemory;
@@ -61,19 +64,42 @@ impl Model for Groups {
     ghost invariant = { λ h. ArePlaces h.slots.rows h.cursors × IsIndex h.slots.rows h.busy × AreMemberships h.slots.rows h.memberships };
 }
 
-/// Notes in the index what waits in the group at a place.
+/// Has a set have a place where so many items wait there, and not where none does.
+fn note_at(set: &mut PlaceSet, place: usize, waiting: usize)
+    requires { place < PLACES }
+    ensures here { has set.new place ≡ min 1 waiting }
+    ensures others { (p : ℕ) → p ≢ place → has set.new p ≡ has set.old p }
+{
+    if waiting == 0 {
+        set.remove(place);
+    } else {
+        set.insert(place);
+    }
+}
+
+/// Notes in the sets of a group's members what waits for them in the group, which is at a place.
+fn note_members(busy: &mut [PlaceSet], slot: &Slot, place: usize)
+    requires place { place < PLACES }
+    requires size { length busy.old ≡ NODES }
+    ensures { IsNoted NODES place slot.now busy.old busy.new }
+{
+    for index in 0..NODES {
+        let node = NodeId::new(index as u8);
+        if slot.members().contains(node) {
+            note_at(&mut busy[index], place, slot.waiting_for(node));
+        }
+    }
+}
+
+/// Notes in the index what waits in the group at a place. Nothing waits for nodes that are no members.
 fn refresh(busy: &mut [PlaceSet], slots: &Slots, place: usize)
     requires place { place < length slots.now.rows }
     requires others { IsIndexBut place slots.now.rows busy.old }
+    requires outside { (d : ℕ) → d < NODES → set.contains (members_of (row_at slots.now.rows place).slot) d ≡ false → has (slice_index_or busy.old d []) place ≡ 0 }
     ensures { IsIndex slots.now.rows busy.new }
 {
-    let slot = slots.slot(place);
-    for index in 0..NODES {
-        if count_waiting(slot, NodeId::new(index as u8)) == 0 {
-            busy[index].remove(place);
-        } else {
-            busy[index].insert(place);
-        }
+    if let Some(slot) = slots.slot(place) {
+        note_members(busy, slot, place);
     }
 }
 
@@ -229,7 +255,7 @@ impl Groups {
         match self.slots.find(addr) {
             Some(place) => {
                 let reply = self.slots.remove(place);
-                refresh(&mut self.busy, &self.slots, place);
+                enrol(&mut self.busy, place, &NodeSet::new());
                 enrol(&mut self.memberships, place, &NodeSet::new());
                 reply
             }

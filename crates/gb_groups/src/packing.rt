@@ -8,7 +8,6 @@ ghost use Rattle.gb_groups.specs.Packing.{queues, walk, size, fit, gave, new_cur
 
 use crate::place_set::PlaceSet;
 use crate::slots::Slots;
-use gb_frame::item::put_item;
 use gb_frame::limits::ITEM_HEADER;
 use gb_types::node::NodeId;
 
@@ -58,9 +57,7 @@ pub fn advance(
     let mut at = from;
     for _step in 0..count {
         let place = next_place(slots, busy, dest, at).unwrap();
-        put_item(slots.peek(place, dest, 0), out);
-        slots.took(place, dest, 1);
-        if slots.waiting_for(place, dest) == 0 {
+        if slots.give(place, dest, out) == 0 {
             busy.remove(place);
         }
         at = place + 1;
@@ -121,14 +118,14 @@ pub fn measure(
     let mut left = room;
     while let Some((round, place)) = next_turn(slots, &active, dest, from, lap, at) {
         let nth = if place < from { round - 1 } else { round };
-        let item = slots.peek(place, dest, nth);
-        let bytes = ITEM_HEADER + item.payload.len();
+        let (payload, waiting) = slots.measure_at(place, dest, nth);
+        let bytes = ITEM_HEADER + payload;
         if left < bytes {
             return (count, room - left);
         }
         count += 1;
         left -= bytes;
-        if slots.waiting_for(place, dest) == nth + 1 {
+        if waiting == nth + 1 {
             active.remove(place);
         }
         lap = round;

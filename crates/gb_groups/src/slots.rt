@@ -1,5 +1,5 @@
 //! The slots of a node's groups, in the order in which they were made.
-ghost use Rattle.std.specs.Prelude.{◌≡◌, ◌≢◌, ◌<◌, ◌≤◌, ◌+◌, ◌&&◌, [], ℕ, List, Option, Some, None, length, slice_get, slice_index_or, slice_set, position, ◌++◌, ◌∷◌, OnOk, OnErr, true, false, IfSome, MatchOption, option_map};
+ghost use Rattle.std.specs.Prelude.{◌≡◌, ◌≢◌, ◌<◌, ◌≤◌, ◌+◌, ◌&&◌, [], ℕ, List, Option, Some, None, length, slice_get, slice_index_or, slice_set, position, ◌++◌, ◌∷◌, OnOk, OnErr, true, false, IfSome, MatchOption, option_map, vec_len, vec_capacity};
 ghost use Rattle.gb_types.specs.declared.limits.TheConstants.{PAYLOAD};
 ghost use Rattle.gb_rules.specs.Address.{is_addr};
 ghost use Rattle.gb_rules.specs.Group.{is_member, open_answer, shut_answer, drop_answer, say_answer, fetch_answer};
@@ -7,11 +7,12 @@ ghost use Rattle.gb_rules.specs.Replied.{done_reply, said_reply, IsReply};
 ghost use Rattle.gb_rules.specs.declared.phase.Phase.TheVariants as Phase;
 ghost use Rattle.gb_slot.specs.Slot.{IsWithinLimits, new_slot, waiting, slot_came, slot_done, slot_noticed, slot_moved, slot_said};
 ghost use Rattle.gb_groups.specs.SlotsValue.{Row, no_entry, row_at, on_slot, HaveCounters, IsShort, AreShort, AreApart, unless_gone, gone};
-ghost use Rattle.gb_frame.specs.Packet.{item_of as view_item};
-ghost use Rattle.gb_groups.specs.Packing.{queue, queues, took, item_of};
+ghost use Rattle.gb_frame.specs.Spelling.{item_text, IsItem};
+ghost use Rattle.gb_frame.specs.declared.limits.TheConstants.{ITEM_HEADER};
+ghost use Rattle.gb_groups.specs.Packing.{queue, queues, first_entry, took, item_of};
 ghost use Rattle.gb_groups.specs.Slots.{place_at};
 
-use gb_frame::item::ItemView;
+use gb_frame::item::{ItemView, put_item};
 use gb_slot::slot::Slot;
 use gb_types::address::Addr;
 use gb_types::entry::Entries;
@@ -67,16 +68,6 @@ fn key_at(places: &IndexMap<Addr, Place>, place: usize) -> Option<usize>
     }
 }
 
-/// How many items wait for a node in a group, none where it was dropped.
-pub(crate) fn count_waiting(slot: Option<&Slot>, dest: NodeId) -> usize
-    ensures { (row : Row) → MatchOption slot.entry (row.slot ≡ None) (λ s. row.slot ≡ Some s.now) → result ≡ length (queue dest.number row) }
-{
-    match slot {
-        Some(slot) => slot.waiting_for(dest),
-        None => 0,
-    }
-}
-
 impl Slots {
     /// No groups.
     pub fn new(alloc: Global) -> Slots
@@ -126,44 +117,44 @@ impl Slots {
         *addr
     }
 
-    /// How many items wait for a node in the group at a place.
-    pub fn waiting_for(&self, place: usize, dest: NodeId) -> usize
-        ensures { result ≡ length (queue dest.number (row_at self.now.rows place)) }
+    /// The bytes of the payload of one of the items that wait for a node in the group at a place, which count from 0, and
+    /// how many wait.
+    pub fn measure_at(&self, place: usize, dest: NodeId, nth: usize) -> (usize, usize)
+        requires { nth < length (queue dest.number (row_at self.now.rows place)) }
+        ensures bytes { result.0 ≡ length (slice_index_or (queue dest.number (row_at self.now.rows place)) nth no_entry).payload }
+        ensures short { result.0 ≤ PAYLOAD }
+        ensures waiting { result.1 ≡ length (queue dest.number (row_at self.now.rows place)) }
     {
-        count_waiting(self.slot(place), dest)
-    }
-
-    /// One of the items that wait for a node in the group at a place; they count from 0.
-    pub fn peek(&self, place: usize, dest: NodeId, nth: usize) -> ItemView<'_>
-        requires place { place < length self.now.rows }
-        requires item { nth < length (queue dest.number (row_at self.now.rows place)) }
-        ensures item { view_item result ≡ item_of (row_at self.now.rows place) (slice_index_or (queue dest.number (row_at self.now.rows place)) nth no_entry) }
-        ensures short { length result.payload.now ≤ PAYLOAD }
-    {
-        let addr = self.addr(place);
         let Some(slot) = self.slot(place) else {
             unreachable!()
         };
-        let (m, payload) = slot.peek_at(dest, nth);
-        ItemView {
-            tenant: addr.tenant,
-            group: addr.group,
-            origin: m.origin.number,
-            seq: m.seq,
-            payload,
-        }
+        let (_, payload) = slot.peek_at(dest, nth);
+        (payload.len(), slot.waiting_for(dest))
     }
 
-    /// The first items that wait for a node in the group at a place, so many, are taken to be sent to it.
-    pub fn took(&mut self, place: usize, dest: NodeId, count: usize)
-        requires { count ≤ length (queue dest.number (row_at self.old.rows place)) }
-        ensures { self.new.rows ≡ slice_set self.old.rows place (took dest.number count (row_at self.old.rows place)) }
+    /// Appends the text of the first item that waits for a node in the group at a place, and takes the item to be sent.
+    /// Says how many wait then. Takes no memory.
+    pub fn give(&mut self, place: usize, dest: NodeId, out: &mut Vec<u8>) -> usize
+        requires place { place < length self.old.rows }
+        requires item { 0 < length (queue dest.number (row_at self.old.rows place)) }
+        requires room { vec_len out.old + ITEM_HEADER + length (first_entry dest.number (row_at self.old.rows place)).payload ≤ vec_capacity out.old }
+        ensures rows { self.new.rows ≡ slice_set self.old.rows place (took dest.number 1 (row_at self.old.rows place)) }
+        ensures left { result ≡ length (queue dest.number (took dest.number 1 (row_at self.old.rows place))) }
+        ensures written { out.new.items ≡ out.old.items ++ item_text (item_of (row_at self.old.rows place) (first_entry dest.number (row_at self.old.rows place))) }
+        ensures len { vec_len out.new ≡ vec_len out.old + ITEM_HEADER + length (first_entry dest.number (row_at self.old.rows place)).payload }
+        ensures capacity { vec_capacity out.old ≤ vec_capacity out.new }
+        ensures fits { IsItem (item_of (row_at self.old.rows place) (first_entry dest.number (row_at self.old.rows place))) }
     {
-        if let Some(key) = key_at(&self.places, place) {
-            if let Some(slot) = self.slots.get_mut(key) {
-                slot.took(dest, count);
-            }
-        }
+        let addr = self.addr(place);
+        let Some(key) = key_at(&self.places, place) else {
+            unreachable!()
+        };
+        let Some(slot) = self.slots.get_mut(key) else {
+            unreachable!()
+        };
+        put_first(addr, slot, dest, out);
+        slot.took(dest, 1);
+        slot.waiting_for(dest)
     }
 
     /// Takes an item that came from a node into the group at a place. Says whether more may wait for a node then; where
@@ -301,6 +292,29 @@ impl Slots {
         self.places.insert(addr, Place::Key(key)).unwrap();
         Ok(())
     }
+}
+
+/// Appends the text of the first item that waits for a node in a group. Takes no memory.
+fn put_first(addr: Addr, slot: &Slot, dest: NodeId, out: &mut Vec<u8>)
+    requires short { IsShort (Some slot.now) }
+    requires item { 0 < length (waiting slot.now dest.number) }
+    requires room { vec_len out.old + ITEM_HEADER + length (slice_index_or (waiting slot.now dest.number) 0 no_entry).payload ≤ vec_capacity out.old }
+    ensures written { out.new.items ≡ out.old.items ++ item_text (item_of (record { addr = addr; slot = Some slot.now }) (slice_index_or (waiting slot.now dest.number) 0 no_entry)) }
+    ensures len { vec_len out.new ≡ vec_len out.old + ITEM_HEADER + length (slice_index_or (waiting slot.now dest.number) 0 no_entry).payload }
+    ensures capacity { vec_capacity out.old ≤ vec_capacity out.new }
+    ensures fits { IsItem (item_of (record { addr = addr; slot = Some slot.now }) (slice_index_or (waiting slot.now dest.number) 0 no_entry)) }
+{
+    let (m, payload) = slot.peek_at(dest, 0);
+    put_item(
+        ItemView {
+            tenant: addr.tenant,
+            group: addr.group,
+            origin: m.origin.number,
+            seq: m.seq,
+            payload,
+        },
+        out,
+    );
 }
 
 /// Drops a slot.

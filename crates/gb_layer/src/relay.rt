@@ -150,8 +150,8 @@ impl<L: Layer, R: Rule> Relay<L, R> {
         ensures whole { (l : Limit) → IsWhole L.is_whole L.need self.old l → is_within l call ≡ true → IsWhole L.is_whole L.need self.new l }
         ensures sends_memory { vec_capacity out.old.sends ≤ vec_capacity out.new.sends }
     {
-        self.below.clear();
         mem::swap(&mut out.ups, &mut self.below);
+        out.ups.clear();
         let me = self.lower.me();
         self.lower.take(call, out);
         mem::swap(&mut out.ups, &mut self.below);

@@ -126,6 +126,16 @@ impl SpacedSender<Vec<u8>> {
         Ok(())
     }
 
+    /// Gives back the memory of a frame that is done, for the spare to be written in.
+    pub fn reuse(&mut self, mut frame: Vec<u8>)
+        ensures window { self.new.window ≡ self.old.window }
+        ensures spaced { self.new.spaced ≡ self.old.spaced }
+        ensures spare { self.new.spare.items ≡ [] }
+    {
+        frame.clear();
+        self.spare = frame;
+    }
+
     /// Makes the spare the next frame, and gives its number. Takes no memory.
     pub fn commit(&mut self) -> u64
         requires room { IsTrue (has_room self.old.window) }

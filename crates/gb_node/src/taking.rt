@@ -56,6 +56,7 @@ pub fn take_ack(table: &mut Table, window: &mut Window, by: NodeId, base: u64, m
     let mut done = 0;
     while let Some((_, texts)) = window.acked(base, mask) {
         finish_frame(table, by, &texts);
+        window.reuse(texts);
         done += 1;
     }
     done

@@ -77,6 +77,13 @@ impl Window {
         self.sender.acked(base, mask)
     }
 
+    /// Gives back the memory of a frame that is done, for one that is packed later.
+    pub fn reuse(&mut self, texts: Vec<u8>)
+        ensures { self.new ≡ self.old }
+    {
+        self.sender.reuse(texts);
+    }
+
     /// Packs the next batch of a table for a node, so many items with so many bytes, where it stays, as the next frame,
     /// and gives its number. Without memory nothing has changed.
     pub fn pack(

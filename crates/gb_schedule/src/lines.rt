@@ -78,9 +78,27 @@ fn line_feed_within(bytes: &[u8], from: usize, to: usize) -> Option<usize>
         × (slice_index bytes.now place ≡ 10) × NoLineFeed bytes.now from place) }
     ensures none { IfNone result (NoLineFeed bytes.now from to) }
 {
+    // The place where a search before ended is looked at first.
+    if from < to && bytes[from] == b'\n' {
+        return Some(from);
+    }
     match memchr(b'\n', &bytes[from..to]) {
         Some(place) => Some(from + place),
         None => None,
+    }
+}
+
+// The first line feed from `from` up to `to`, or `to`, where there is none.
+fn search_line_feed(bytes: &[u8], from: usize, to: usize) -> usize
+    requires ordered { from ≤ to }
+    requires within { to ≤ length bytes.now }
+    ensures least { from ≤ result }
+    ensures most { result ≤ to }
+    ensures none_before { NoLineFeed bytes.now from result }
+{
+    match line_feed_within(bytes, from, to) {
+        Some(place) => place,
+        None => to,
     }
 }
 
@@ -189,7 +207,7 @@ impl LineBuffer {
                 }
                 self.line_end = line_end;
                 self.start = line_end + 1;
-                self.searched = self.start;
+                self.searched = search_line_feed(&self.bytes, self.start, self.end);
                 Some(NextLine::Given)
             }
             None => {

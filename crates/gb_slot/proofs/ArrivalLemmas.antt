@@ -1,5 +1,5 @@
 -- From which nodes messages were taken in, after each call.
-use Rattle.std.proofs.Common.{◌≡◌, ℕ, ◌||◌, ◌&&◌, Bool, true, false, List, [], ◌∷◌, refl, sym, ◌∙◌, ap}
+use Rattle.std.proofs.Common.{◌≡◌, ℕ, ◌||◌, ◌&&◌, Bool, true, false, List, [], ◌∷◌, ◌++◌, refl, sym, ◌∙◌, ap}
 use Rattle.std.specs.Prelude.{nat_eq, if◌then◌else◌}
 use Rattle.std.specs.Ordering.{nat_cmp}
 use Rattle.std.specs.FinSet as set
@@ -8,6 +8,7 @@ use Rattle.gb_types.specs.declared.message.MsgId.{MsgId}
 use Rattle.gb_types.specs.declared.node.NodeId.{NodeId}
 use Rattle.gb_types.specs.Message.{same}
 use Rattle.gb_types.proofs.SameLemmas.{same-true, same_itself}
+use Rattle.gb_layer.specs.Bools.{or_left, or_right}
 use Rattle.gb_layer.specs.Lists.{any_push}
 use Rattle.gb_layer.specs.declared.call.Call.TheVariants.{Came}
 use Rattle.gb_slot.specs.Arrivals.{Arrival, has_arrival, with_message, nodes_of, with_node}
@@ -62,3 +63,10 @@ nodes_after_came arrivals q m x p =
           nodes_with_node (with_message arrivals m) q m x p (any_push (λ a. same a.m m) arrivals (record { m = m; from = set.empty }) ∙ ap (λ b. b || has_arrival arrivals m) (same_itself m))
           ∙ ap (λ s. (nat_eq q.number p && same m x) || set.contains s p) (nodes_with_message arrivals m x)
     ] refl
+
+-- a message that was not there yet, taken in from a node
+pub with_node_new : (p : NodeId) (m : MsgId) (arrivals : List Arrival) → has_arrival arrivals m ≡ false → with_node p m (with_message arrivals m) ≡ arrivals ++ record { m = m; from = set.insert (set.empty {R = nat_cmp}) p.number } ∷ []
+with_node_new p m [] new = ap (λ (b : Bool). if b then record { m = m; from = set.insert (set.empty {R = nat_cmp}) p.number } ∷ [] else record { m = m; from = set.empty {R = nat_cmp} } ∷ []) (same_itself m)
+with_node_new p m (a ∷ arrivals) new =
+    ap (λ (b : Bool). if b then record { m = a.m; from = set.insert a.from p.number } ∷ with_message arrivals m else a ∷ with_node p m (with_message arrivals m)) (or_left (same a.m m) (has_arrival arrivals m) new)
+    ∙ ap (λ rest. a ∷ rest) (with_node_new p m arrivals (or_right (same a.m m) (has_arrival arrivals m) new))

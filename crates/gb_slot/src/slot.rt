@@ -216,8 +216,7 @@ impl Slot {
             return false;
         }
         let m = MsgId { origin, seq };
-        let known = self.store.contains(m);
-        let before = self.store.was_taken_in(m, from);
+        let (known, before) = self.store.known_from(m, from);
         let seen = self.store.bytes_of(origin);
         if is_let_fall(&self.spec, self.me, from, m, payload, before, known, seen) {
             return false;
@@ -230,7 +229,7 @@ impl Slot {
             &mut self.log,
             &mut self.outgoing,
         );
-        self.store.take_in(m, payload, from);
+        self.store.take_in(m, payload, from, known);
         self.outgoing.len() != count
     }
 
@@ -291,6 +290,13 @@ impl Slot {
             Ok(entries) => Ok(entries),
             Err(_) => Err(Refusal::OutOfMemory),
         }
+    }
+
+    /// The group's members.
+    pub fn members(&self) -> &NodeSet
+        ensures { result.now ≡ self.now.spec.members }
+    {
+        &self.spec.members
     }
 
     /// Whether the node is a member other than this one.

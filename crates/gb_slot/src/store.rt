@@ -1,5 +1,6 @@
 //! The messages that a slot knows, with their payloads. Each payload stands here once.
 ghost use Rattle.std.specs.Prelude.{◌≡◌, ℕ, true, false, ◌+◌, ◌≤◌, ◌<◌, ◌∷◌, ◌++◌, [], List, length, slice_index, slice_range, vec_len, vec_capacity, IfOk};
+ghost use Rattle.std.specs.List.{list_any};
 ghost use Rattle.gb_history.specs.Messages.{has, payload_in, entry_in, with_new, bytes_of};
 ghost use Rattle.std.specs.FinSet as set;
 ghost use Rattle.gb_layer.specs.Table.{leads};
@@ -99,14 +100,15 @@ fn payload_of<'a>(kept: &[Kept], table: &Table, bytes: &'a [u8], m: MsgId) -> &'
     }
 }
 
-/// Whether a message was taken in from a node.
-fn was_taken_in(kept: &[Kept], table: &Table, m: MsgId, from: NodeId) -> bool
+/// Whether a message is there, and whether it was taken in from a node.
+fn known_from(kept: &[Kept], table: &Table, m: MsgId, from: NodeId) -> (bool, bool)
     requires { leads table.now.width table.now.told.items 0 (messages_of kept.now) ≡ true }
-    ensures { result ≡ set.contains (nodes_of (arrivals_of kept.now) m) from.number }
+    ensures known { result.0 ≡ list_any (is_of m) kept.now }
+    ensures taken { result.1 ≡ set.contains (nodes_of (arrivals_of kept.now) m) from.number }
 {
     match find(kept, table, m) {
-        Some(i) => kept[i].from.contains(from),
-        None => false,
+        Some(i) => (true, kept[i].from.contains(from)),
+        None => (false, false),
     }
 }
 
@@ -125,13 +127,13 @@ fn mark(kept: &mut Vec<Kept>, table: &Table, m: MsgId, from: NodeId)
     }
 }
 
-/// Adds a message and its payload at the end, where there is room.
-fn append(kept: &mut Vec<Kept>, bytes: &mut Vec<u8>, m: MsgId, payload: &[u8])
+/// Adds a message that was taken in from these nodes, and its payload, at the end, where there is room.
+fn append(kept: &mut Vec<Kept>, bytes: &mut Vec<u8>, m: MsgId, payload: &[u8], from: NodeSet)
     requires place { vec_len kept.old < vec_capacity kept.old }
     requires room { vec_len bytes.old + length payload.now ≤ vec_capacity bytes.old }
     requires inside { AreInside bytes.old.items kept.old.items }
     ensures entries { entries_of bytes.new.items kept.new.items ≡ entries_of bytes.old.items kept.old.items ++ record { origin = m.origin; seq = m.seq; payload = payload.now } ∷ [] }
-    ensures arrivals { arrivals_of kept.new.items ≡ with_message (arrivals_of kept.old.items) m }
+    ensures arrivals { arrivals_of kept.new.items ≡ arrivals_of kept.old.items ++ record { m = m; from = from } ∷ [] }
     ensures messages { messages_of kept.new.items ≡ messages_of kept.old.items ++ m ∷ [] }
     ensures inside { AreInside bytes.new.items kept.new.items }
     ensures kept { (vec_len kept.new ≡ vec_len kept.old + 1) × (vec_capacity kept.new ≡ vec_capacity kept.old) }
@@ -144,7 +146,7 @@ fn append(kept: &mut Vec<Kept>, bytes: &mut Vec<u8>, m: MsgId, payload: &[u8])
         start,
         end,
         m,
-        from: NodeSet::new(),
+        from,
     });
 }
 
@@ -179,6 +181,21 @@ impl Store {
         })
     }
 
+    /// Puts a message in at the end that was taken in from these nodes, and copies its payload. Takes no memory.
+    fn add(&mut self, m: MsgId, payload: &[u8], from: NodeSet)
+        requires new { has self.old.entries m ≡ false }
+        requires place { length self.old.entries < self.old.places }
+        requires bytes { total_bytes self.old.entries + length payload.now ≤ self.old.bytes }
+        requires limit { bytes_of m.origin.number self.old.entries + length payload.now ≤ BYTES }
+        ensures entries { self.new.entries ≡ self.old.entries ++ record { origin = m.origin; seq = m.seq; payload = payload.now } ∷ [] }
+        ensures arrivals { self.new.arrivals ≡ self.old.arrivals ++ record { m = m; from = from } ∷ [] }
+        ensures memory { (self.old.places ≤ self.new.places) × (self.old.bytes ≤ self.new.bytes) }
+    {
+        self.table.note(m, self.kept.len());
+        append(&mut self.kept, &mut self.bytes, m, payload, from);
+        count_bytes(&mut self.seen, m, payload);
+    }
+
     /// Puts a message in at the end, and copies its payload. Takes no memory.
     pub fn push(&mut self, m: MsgId, payload: &[u8])
         requires new { has self.old.entries m ≡ false }
@@ -189,9 +206,7 @@ impl Store {
         ensures arrivals { self.new.arrivals ≡ with_message self.old.arrivals m }
         ensures memory { (self.old.places ≤ self.new.places) × (self.old.bytes ≤ self.new.bytes) }
     {
-        self.table.note(m, self.kept.len());
-        append(&mut self.kept, &mut self.bytes, m, payload);
-        count_bytes(&mut self.seen, m, payload);
+        self.add(m, payload, NodeSet::new());
     }
 
     /// How many payload bytes an origin's messages have.
@@ -201,19 +216,13 @@ impl Store {
         self.seen[origin.index()]
     }
 
-    /// Whether the message is there.
-    pub fn contains(&self, m: MsgId) -> bool
-        ensures entries { result ≡ has self.now.entries m }
-        ensures arrivals { result ≡ has_arrival self.now.arrivals m }
+    /// Whether the message is there, and whether it was taken in from the node.
+    pub fn known_from(&self, m: MsgId, from: NodeId) -> (bool, bool)
+        ensures entries { result.0 ≡ has self.now.entries m }
+        ensures arrivals { result.0 ≡ has_arrival self.now.arrivals m }
+        ensures taken { result.1 ≡ set.contains (nodes_of self.now.arrivals m) from.number }
     {
-        find(&self.kept, &self.table, m).is_some()
-    }
-
-    /// Whether the message was taken in from the node.
-    pub fn was_taken_in(&self, m: MsgId, from: NodeId) -> bool
-        ensures { result ≡ set.contains (nodes_of self.now.arrivals m) from.number }
-    {
-        was_taken_in(&self.kept, &self.table, m, from)
+        known_from(&self.kept, &self.table, m, from)
     }
 
     /// The message, where it is there, was taken in from the node.
@@ -225,8 +234,10 @@ impl Store {
         mark(&mut self.kept, &self.table, m, from);
     }
 
-    /// Takes a message in from a node. Where it is not there it is put in, and its payload copied. Takes no memory.
-    pub fn take_in(&mut self, m: MsgId, payload: &[u8], from: NodeId)
+    /// Takes a message in from a node. Where it is not known here yet it is put in, and its payload copied. Takes no memory.
+    pub fn take_in(&mut self, m: MsgId, payload: &[u8], from: NodeId, is_known: bool)
+        requires known { is_known ≡ has self.old.entries m }
+        requires arrived { is_known ≡ has_arrival self.old.arrivals m }
         requires place { has self.old.entries m ≡ false → length self.old.entries < self.old.places }
         requires bytes { has self.old.entries m ≡ false → total_bytes self.old.entries + length payload.now ≤ self.old.bytes }
         requires limit { has self.old.entries m ≡ false → bytes_of m.origin.number self.old.entries + length payload.now ≤ BYTES }
@@ -234,12 +245,13 @@ impl Store {
         ensures arrivals { self.new.arrivals ≡ with_arrived from m self.old.arrivals }
         ensures memory { (self.old.places ≤ self.new.places) × (self.old.bytes ≤ self.new.bytes) }
     {
-        if self.contains(m) {
+        if is_known {
             self.mark(m, from);
             return;
         }
-        self.push(m, payload);
-        self.mark(m, from);
+        let mut nodes = NodeSet::new();
+        nodes.insert(from);
+        self.add(m, payload, nodes);
     }
 
     /// The payload of a message, none where it is not there.

@@ -2,3 +2,4 @@ pub mod TableValue
 pub mod Requests
 pub mod Kept
 pub mod Within
+pub mod OwnNode

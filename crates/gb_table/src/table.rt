@@ -60,6 +60,7 @@ impl Model for Table {
     ghost use Rattle.std.specs.Prelude.{◌≡◌};
     ghost use Rattle.gb_table.specs.Kept.{AreMemberTokens};
     ghost use Rattle.gb_table.specs.Within.{IsWithin, addrs_of};
+    ghost use Rattle.gb_table.specs.OwnNode.{AreAt};
 
     ghost Value = { TableValue };
 
@@ -67,7 +68,7 @@ impl Model for Table {
 
     ghost view = { λ t. record { me = t.me; nodes = t.nodes; places = t.places; admin_key = t.admin_key; tenants = t.tenants; groups = t.groups } };
 
-    ghost invariant = { λ t. IsWithin t.places t.tenants (addrs_of t.groups.rows) × AreMemberTokens t.me t.tenants t.member_tokens.entries };
+    ghost invariant = { λ t. IsWithin t.places t.tenants (addrs_of t.groups.rows) × AreMemberTokens t.me t.tenants t.member_tokens.entries × AreAt t.me t.groups.rows };
 }
 
 /// Whether a token is the one that is kept.
@@ -279,11 +280,15 @@ impl Table {
         self.groups.item(from, item);
     }
 
-    /// Takes an acknowledgement of a message of a group from a node.
+    /// Takes an acknowledgement of a message of a group from a node. One of a message that was not said here changes
+    /// nothing, so its group is not looked for.
     pub fn done(&mut self, dest: NodeId, addr: Addr, m: MsgId)
         ensures state { self.new ≡ table_done dest addr m self.old }
         ensures others { OthersKept addr self.old.groups.rows self.new.groups.rows }
     {
+        if m.origin != self.me {
+            return;
+        }
         self.groups.done(dest, addr, m);
     }
 

@@ -1,5 +1,5 @@
 -- Which words spell a number.
-use Rattle.std.proofs.Common.{◌≡◌, ℕ, ◌<◌, ◌≤◌, ◌^◌, ◌↔◌, ◌⊎◌, inl, inr, List, length, get_or, Option, Some, None, nat_le, sym, ap, ◌∙◌, subst, arith, decimal, Result, Ok, Err}
+use Rattle.std.proofs.Common.{◌≡◌, ℕ, ◌<◌, ◌≤◌, ◌^◌, ◌↔◌, ◌⊎◌, inl, inr, List, [], ◌∷◌, length, get_or, Option, Some, None, nat_le, sym, ap, ◌∙◌, subst, arith, decimal, Result, Ok, Err}
 use Rattle.std.specs.Str.Parse.{AllDigits, digits_value, ParsesUnsigned}
 use Rattle.std.specs.Result.{OkIff, MatchResult, result_ok}
 use Rattle.std.specs.Str.{IsUtf8}
@@ -64,3 +64,9 @@ no_text n word P Q (Err x) small e h none = h.0 (rw e (IsUtf8-from_ascii _ (IsAs
 -- and parses
 pub no_number : {E : Type 0} (n : ℕ) (word : List ℕ) (r : Result ℕ E) → n < 2 ^ 64 → word ≡ decimal n → ParsesUnsigned 64 10 word r → result_ok r ≡ None → ⊥
 no_number {E} n word r small e parsed none = let read = parse-decimal {E = E} 64 n word r small small e parsed in cc
+
+-- a word of one byte
+pub only_digit : (word : List ℕ) (d : ℕ) → length word ≡ 1 → d ≡ get_or word 0 0 → d ∷ [] ≡ word
+only_digit [] d one is = absurd (omega arith)
+only_digit (b ∷ []) d one is = ap (λ x. x ∷ []) is
+only_digit (b ∷ c ∷ rest) d one is = absurd (omega arith)

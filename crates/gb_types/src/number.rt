@@ -17,6 +17,10 @@ fn begins_badly(word: &[u8]) -> bool
 pub fn read_number(word: &[u8], max: u64) -> Option<u64>
     ensures { (n : ℕ) → (result ≡ Some n) ↔ ((n ≤ max) × (word.now ≡ decimal n)) }
 {
+    if word.len() == 1 && word[0].is_ascii_digit() {
+        let number = u64::from(word[0] - b'0');
+        return (number <= max).then_some(number);
+    }
     if begins_badly(word) {
         return None;
     }

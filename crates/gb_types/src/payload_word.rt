@@ -32,7 +32,10 @@ pub fn put_payload(out: &mut Vec<u8>, bytes: &[u8]) -> Result<(), OutOfMemory>
         out.extend_from_slice(b"-")?;
         return Ok(());
     }
-    let digits = hex::encode(*out.allocator(), bytes)?;
-    out.extend_from_slice(digits.as_bytes())?;
+    let start = out.len();
+    let digits = bytes.len().checked_mul(2).ok_or(OutOfMemory)?;
+    let end = start.checked_add(digits).ok_or(OutOfMemory)?;
+    out.resize(end, 0)?;
+    hex::encode_to_slice(bytes, &mut out[start..]).unwrap();
     Ok(())
 }

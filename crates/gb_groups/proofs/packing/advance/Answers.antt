@@ -1,19 +1,18 @@
 use Rattle.std.proofs.Common.{◌≡◌, ◌<◌, ◌+◌, ◌-◌, List, [], ℕ, length, get_or, drop, Some, None, eq-eqb, ap, sym, refl, ◌∙◌, arith}
 use Rattle.std.specs.Prelude.{Option, IsSome, true, false, ◌==◌, if◌then◌else◌}
 use Rattle.std.proofs.lemmas.Bool.{ne_eqb}
-use Rattle.std.proofs.lemmas.List.{length-set, get_or-set_same, get_or_default}
+use Rattle.std.proofs.lemmas.List.{length-set, get_or_default}
 use Rattle.std.proofs.Math.ListN.{set}
 use Rattle.gb_groups.specs.SlotsValue.{row_at, counters, no_row}
 use Rattle.gb_groups.specs.Busy.{IsBusy}
 use Rattle.gb_groups.proofs.BusyLemmas.{index_cleared, index_kept}
-use Rattle.gb_frame.specs.Packet.{item_of as view_item}
 use Rattle.gb_frame.specs.declared.item.Item.{Item}
-use Rattle.gb_groups.specs.Packing.{Visit, queue, took, queues, walk, first_place, new_cursor}
+use Rattle.gb_groups.specs.Packing.{Visit, queue, first_entry, item_of, took, queues, walk, first_place, new_cursor}
 use Rattle.gb_groups.proofs.WalkLemmas.{nowhere, queues_at}
 use Rattle.gb_groups.proofs.TakingLemmas.{has_next, first_visit, gives_one, gave_step, gave-none, cursor_next, cursor_last, cursor_idle}
 use Rattle.gb_groups.proofs.WriteLemmas.{wrote_none, wrote_more, item_here, sum-more, sum-fewer}
 use Rattle.gb_groups.proofs.packing.advance.Goals as goal
-use Rattle.gb_groups.proofs.packing.advance.Goals.{then-waiting_for-eq0, else-waiting_for-eq0}
+use Rattle.gb_groups.proofs.packing.advance.Goals.{then-give-eq0, else-give-eq0}
 
 pub loop-step-init : goal.loop-step-init
 loop-step-init c = record { index = c.requires.index; size = refl; within = c.requires.from; rows = sym (gave-none c.args.dest.number 0 c.args.slots.now.rows); rest = refl; wrote = wrote_none c.args.slots.now.rows (walk c.args.from (queues c.args.dest.number c.args.slots.now.rows)) _ _; capacity = omega arith; last = λ h. absurd (omega arith) }
@@ -33,11 +32,11 @@ unwrap-place-requires c =
     (next_is c.next_place.result (walk c.loop-step.at (queues c.args.dest.number c.loop-step.slots.rows)) vs c.loop-step._step c.next_place.ensures.place c.loop-step.invariant.rest
     ∙ has_next c.loop-step._step vs (omega (arith, c.requires.there)))
 
-pub peek-requires-clause-place : goal.peek-requires-clause-place
-peek-requires-clause-place c = (rw c.unwrap-place.ensures at c.next_place.ensures.within)
+pub give-requires-clause-place : goal.give-requires-clause-place
+give-requires-clause-place c = (rw c.unwrap-place.ensures at c.next_place.ensures.within)
 
-pub peek-requires-clause-item : goal.peek-requires-clause-item
-peek-requires-clause-item c =
+pub give-requires-clause-item : goal.give-requires-clause-item
+give-requires-clause-item c =
     let dest = c.args.dest.number in
     let p = c.unwrap-place.result in
     let rows = c.loop-step.slots.rows in
@@ -47,8 +46,8 @@ peek-requires-clause-item c =
     let here : row ≡ get_or rows p row = get_or_default rows p no_row row within in
     rw (queues_at dest rows p row within here) at busy
 
-pub put_item-requires-clause-room : goal.put_item-requires-clause-room
-put_item-requires-clause-room c =
+pub give-requires-clause-room : goal.give-requires-clause-room
+give-requires-clause-room c =
     let dest = c.args.dest.number in
     let k = c.loop-step._step in
     let p = c.unwrap-place.result in
@@ -61,7 +60,7 @@ put_item-requires-clause-room c =
     let same : walk p (queues dest rows) ≡ walk c.loop-step.at (queues dest rows) = (rw c.unwrap-place.ensures at c.next_place.ensures.same) in
     let l : k < length vs = omega (arith, c.requires.there) in
     let first = first_visit dest rows p c.loop-step.at k row vs within here busy same c.loop-step.invariant.rest l in
-    let bytes = ap (λ (i : Item). length i.payload) (c.peek.ensures.item ∙ item_here dest p k rows c.args.slots.now.rows vs _ c.loop-step.invariant.rows within first) in
+    let bytes = ap (λ (i : Item). length i.payload) (item_here dest p k rows c.args.slots.now.rows vs (first_entry dest row) c.loop-step.invariant.rows within first) in
     let sum = sum-more k vs l in
     let fewer = sum-fewer (k + 1) c.args.count vs (omega arith) in
     let size = c.loop-step.invariant.wrote.size in
@@ -82,24 +81,24 @@ loop-step-preserved c =
     let d : dest < counters row = let n = c.next_place.ensures.counters.each p in let b = c.args.dest.below in omega arith in
     let here : row ≡ get_or rows p row = get_or_default rows p no_row row within in
     let l : k < length vs = omega (arith, c.requires.there) in
-    let item = c.peek.ensures.item ∙ item_here dest p k rows c.args.slots.now.rows vs _ c.loop-step.invariant.rows within (first_visit dest rows p c.loop-step.at k row vs within here busy same c.loop-step.invariant.rest l) in
+    let item = item_here dest p k rows c.args.slots.now.rows vs (first_entry dest row) c.loop-step.invariant.rows within (first_visit dest rows p c.loop-step.at k row vs within here busy same c.loop-step.invariant.rest l) in
     let one = gives_one dest rows p c.loop-step.at k row vs d within here busy same c.loop-step.invariant.rest l in
     let e : k + 1 - 1 ≡ k = omega arith in
-    let left : c.waiting_for.result ≡ length (queue dest (took dest 1 row)) = c.waiting_for.ensures ∙ ap (λ rs. length (queue dest (row_at rs p))) c.took.ensures ∙ ap (λ r. length (queue dest r)) (get_or-set_same rows p (took dest 1 row) no_row within) in
-    let index : IsBusy dest c.if-waiting_for-eq0.busy (set rows p (took dest 1 row)) = elim c.if-waiting_for-eq0.branch [
-      | then-waiting_for-eq0 w ↦
-          rw w.busy-is (index_cleared dest p c.loop-step.busy w.remove.new.self rows row d c.loop-step.invariant.index within w.remove.ensures.here w.remove.ensures.others (sym left ∙ w.if-waiting_for-eq0.true))
-      | else-waiting_for-eq0 w ↦
-          rw w.busy-is (index_kept dest p c.loop-step.busy rows row d c.loop-step.invariant.index within busy (omega (arith, w.if-waiting_for-eq0.false)))
+    let left : c.give.result ≡ length (queue dest (took dest 1 row)) = c.give.ensures.left in
+    let index : IsBusy dest c.if-give-eq0.busy (set rows p (took dest 1 row)) = elim c.if-give-eq0.branch [
+      | then-give-eq0 w ↦
+          rw w.busy-is (index_cleared dest p c.loop-step.busy w.remove.new.self rows row d c.loop-step.invariant.index within w.remove.ensures.here w.remove.ensures.others (sym left ∙ w.if-give-eq0.true))
+      | else-give-eq0 w ↦
+          rw w.busy-is (index_kept dest p c.loop-step.busy rows row d c.loop-step.invariant.index within busy (omega (arith, w.if-give-eq0.false)))
     ] in
-    rw (c.took.ensures, e) (record {
+    rw (c.give.ensures.rows, e) (record {
       index = index;
       size = length-set rows p (took dest 1 row) ∙ c.loop-step.invariant.size;
       within = rw length-set (omega arith);
       rows = gave_step dest p k rows c.args.slots.now.rows row vs c.loop-step.invariant.rows within here l one.place;
       rest = one.rest;
-      wrote = wrote_more c.args.slots.now.rows vs _ _ k _ _ (view_item c.peek.result) _ _ l c.loop-step.invariant.wrote item c.put_item.ensures.fits (omega (arith, c.put_item.ensures.len)) c.put_item.ensures.written;
-      capacity = let more = c.put_item.ensures.capacity in omega (arith, c.loop-step.invariant.capacity);
+      wrote = wrote_more c.args.slots.now.rows vs _ _ k _ _ (item_of row (first_entry dest row)) _ _ l c.loop-step.invariant.wrote item c.give.ensures.fits (omega (arith, c.give.ensures.len)) c.give.ensures.written;
+      capacity = let more = c.give.ensures.capacity in omega (arith, c.loop-step.invariant.capacity);
       last = λ _. omega (arith, one.place);
     })
 

@@ -1,13 +1,12 @@
 use Rattle.std.proofs.Common.{◌≡◌, ◌+◌, [], List, ℕ, length, get_or, ap, refl, arith}
 use Rattle.gb_types.specs.declared.entry.Entry.{Entry}
-use Rattle.gb_frame.specs.declared.item.Item.{Item}
 use Rattle.gb_groups.specs.SlotsValue.{Row, row_at, no_entry}
 use Rattle.gb_groups.specs.Packing.{queue, queues, fit, walk}
 use Rattle.gb_groups.specs.Ahead.{visits, ahead, IsActive, IsTurn}
 use Rattle.gb_groups.proofs.AheadLemmas.{ahead-start, visits-first, visits-later, measured_start, measured_none}
 use Rattle.gb_groups.proofs.BusyLemmas.{turn_item, turn_taken, turn_stop, row_here, active_next, active_start}
 use Rattle.gb_groups.proofs.packing.measure.Goals as goal
-use Rattle.gb_groups.proofs.packing.measure.Goals.{then-place-from, else-place-from, then-waiting_for-nth, else-waiting_for-nth}
+use Rattle.gb_groups.proofs.packing.measure.Goals.{then-place-from, else-place-from, then-waiting-nth, else-waiting-nth}
 
 pub loop-round-init : goal.loop-round-init
 loop-round-init c =
@@ -22,8 +21,8 @@ loop-round-init c =
       same = rw e (measured_start c.args.room (walk c.args.from (queues c.args.dest.number rows)));
     }
 
-pub peek-item-requires-clause-item : goal.peek-item-requires-clause-item
-peek-item-requires-clause-item c =
+pub measure_at-payload-requires : goal.measure_at-payload-requires
+measure_at-payload-requires c =
     let dest = c.args.dest.number in
     let rows : List Row = c.args.slots.now.rows in
     let from = c.args.from in
@@ -50,7 +49,7 @@ returns-then-left-bytes-clause-count c =
       | then-place-from w ↦ visits-first from to q nth w.if-place-from.true w.nth-is
       | else-place-from w ↦ visits-later from to q nth w.if-place-from.false w.nth-is
     ] in
-    let bytes = ap (λ (i : Item). length i.payload) c.peek-item.ensures.item in
+    let bytes = c.measure_at-payload.ensures.bytes in
     let whole = turn_stop dest from c.loop-round.lap c.loop-round.at to q nth c.args.room c.loop-round.left c.loop-round.count rows (fit c.args.room (walk from (queues dest rows))) t v c.loop-round.invariant.same (omega (arith, c.if-left-bytes.true)) in
     whole.0
 
@@ -67,7 +66,7 @@ returns-then-left-bytes-clause-bytes c =
       | then-place-from w ↦ visits-first from to q nth w.if-place-from.true w.nth-is
       | else-place-from w ↦ visits-later from to q nth w.if-place-from.false w.nth-is
     ] in
-    let bytes = ap (λ (i : Item). length i.payload) c.peek-item.ensures.item in
+    let bytes = c.measure_at-payload.ensures.bytes in
     let whole = turn_stop dest from c.loop-round.lap c.loop-round.at to q nth c.args.room c.loop-round.left c.loop-round.count rows (fit c.args.room (walk from (queues dest rows))) t v c.loop-round.invariant.same (omega (arith, c.if-left-bytes.true)) in
     let sum = whole.1 in omega arith
 
@@ -90,16 +89,16 @@ loop-round-preserved c =
     let item = turn_item dest from c.loop-round.lap c.loop-round.at to q nth rows row t v here in
     let i = c.loop-round.invariant in
     let fits = c.if-left-bytes.false in
-    let len = ap (λ (i : Item). length i.payload) c.peek-item.ensures.item in
-    let cnt = c.waiting_for.ensures in
+    let len = c.measure_at-payload.ensures.bytes in
+    let cnt = c.measure_at-payload.ensures.waiting in
     let words : List ℕ = c.loop-round.active in
-    let index : IsActive c.if-waiting_for-nth.active (ahead from to (q + 1) 0 (queues dest rows)) = elim c.if-waiting_for-nth.branch [
-      | then-waiting_for-nth w ↦
-          rw w.active-is (active_next dest from c.loop-round.lap c.loop-round.at to q nth words w.remove.new.self rows row t v here i.index (let h = w.remove.ensures.here in let k = w.if-waiting_for-nth.true in omega arith) w.remove.ensures.others)
-      | else-waiting_for-nth w ↦
-          rw w.active-is (active_next dest from c.loop-round.lap c.loop-round.at to q nth words words rows row t v here i.index (let h = i.index.each q in let k = ap (λ (L : List (List Entry)). length (get_or L q [])) t.left_is in let f = w.if-waiting_for-nth.false in let n = item.0 in let m = item.1 in omega arith) (λ p _. refl))
+    let index : IsActive c.if-waiting-nth.active (ahead from to (q + 1) 0 (queues dest rows)) = elim c.if-waiting-nth.branch [
+      | then-waiting-nth w ↦
+          rw w.active-is (active_next dest from c.loop-round.lap c.loop-round.at to q nth words w.remove.new.self rows row t v here i.index (let h = w.remove.ensures.here in let k = w.if-waiting-nth.true in omega arith) w.remove.ensures.others)
+      | else-waiting-nth w ↦
+          rw w.active-is (active_next dest from c.loop-round.lap c.loop-round.at to q nth words words rows row t v here i.index (let h = i.index.each q in let k = ap (λ (L : List (List Entry)). length (get_or L q [])) t.left_is in let f = w.if-waiting-nth.false in let n = item.0 in let m = item.1 in omega arith) (λ p _. refl))
     ] in
-    let bytes : length c.peek-item.result.payload.now ≡ length e.payload = len in
+    let bytes : c.measure_at-payload.result.0 ≡ length e.payload = len in
     rw bytes (record {
       within = let h = t.within in omega arith;
       begun = λ h. t.begun (omega arith);

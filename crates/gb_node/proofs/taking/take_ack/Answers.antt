@@ -11,11 +11,11 @@ overflow_add-done c = let few = freed_few c.args.window.now c.args.base c.args.m
 pub loop-texts-preserved : goal.loop-texts-preserved
 loop-texts-preserved c =
     let first = c.in-Some.ensures.first.0 in
-    record {
+    rw c.reuse.ensures (record {
       count = freed_count c.loop-texts.window c.acked.new.self c.args.base c.args.mask c.loop-texts.done _ _ first c.loop-texts.invariant.count;
       window = acked_goes c.loop-texts.window c.acked.new.self c.args.base c.args.mask c.acked.ensures.done ∙ c.loop-texts.invariant.window;
       table = freed_table c.loop-texts.window c.acked.new.self c.args.base c.args.mask _ c.args.by c.loop-texts.table c.finish_frame.new.table _ first (c.finish_frame.ensures ∙ ap (λ b. fold (item_done c.args.by) c.loop-texts.table (batch_in b)) c.deref.ensures.value) c.loop-texts.invariant.table;
-    }
+    })
 
 pub returns-clause-window : goal.returns-clause-window
 returns-clause-window c = acked_ends c.loop-texts.window c.acked.new.self c.args.base c.args.mask c.acked.ensures.done c.in_default.ensures.first ∙ c.loop-texts.invariant.window

@@ -1,6 +1,9 @@
-use Rattle.std.proofs.Common.{◌≡◌, None, Ok, refl, sym, ◌∙◌, arith, rules}
+use Rattle.std.proofs.Common.{◌≡◌, ◌+◌, ◌≤◌, length, get_or, true, None, Ok, refl, sym, ◌∙◌, arith, rules}
+use Rattle.std.specs.Char.{is_ascii_digit}
+use Rattle.std.proofs.lemmas.Bool.Decides.{nat_tests}
 use Rattle.std.proofs.lemmas.Bool.{false≢true}
-use Rattle.gb_types.proofs.NumberLemmas.{BeginsBadly, refuses, answers, not_badly, reads_back, no_text, no_number}
+use Rattle.std.proofs.lemmas.Fmt.{decimal_digit}
+use Rattle.gb_types.proofs.NumberLemmas.{BeginsBadly, only_digit, refuses, answers, not_badly, reads_back, no_text, no_number}
 use Rattle.gb_types.proofs.number.read_number.Goals as goal
 
 pub returns-then-begins_badly : goal.returns-then-begins_badly
@@ -27,4 +30,15 @@ returns c =
     let read : c.parse.result ≡ Ok c.in_ok-number.number = search rules in
     let well = λ (bad : BeginsBadly c.in_ok-ok.field-0.now). false≢true (c.if-begins_badly.ensures.1 (rw text at bad)) in
     let spelt = reads_back c.in_ok-ok.field-0.now c.parse.result c.in_ok-number.number c.parse.ensures.value.0 read well in
-    answers c.args.word.now c.args.max c.in_ok-number.number _ (omega arith) spelt.1 (spelt.0 ∙ text) c.then_some.ensures
+    answers c.args.word.now c.args.max c.in_ok-number.number _ (omega arith) spelt.1 (spelt.0 ∙ text) c.then_some-2.ensures
+
+pub returns-then-is_ascii_digit : goal.returns-then-is_ascii_digit
+returns-then-is_ascii_digit c =
+    let word = c.args.word.now in
+    let one : length word ≡ 1 = c.if-word-eq1.true in
+    let digit : is_ascii_digit (get_or word 0 0) ≡ true = sym c.is_ascii_digit.ensures.value ∙ c.if-is_ascii_digit.true in
+    let least : 48 ≤ get_or word 0 0 = grind (arith, nat_tests, digit) in
+    let most : get_or word 0 0 ≤ 57 = grind (arith, nat_tests, digit) in
+    let is = c.from-number.ensures in
+    answers word c.args.max c.from-number.result _ (omega arith) (omega arith)
+    (decimal_digit c.from-number.result (omega arith) ∙ only_digit word (48 + c.from-number.result) one (omega arith)) c.then_some.ensures

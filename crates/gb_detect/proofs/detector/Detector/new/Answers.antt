@@ -7,3 +7,6 @@ returns-clause-value c = rw (c.new.ensures, nodes_where-empty)
 
 pub returns-clause-stands : goal.returns-clause-stands
 returns-clause-stands c = rw (c.new.ensures, nodes_where-empty) (stands-start c.args.me.number c.args.nodes c.args.silence c.requires.cluster c.requires.least)
+
+pub invariant_of-result : goal.invariant_of-result
+invariant_of-result c = (c.requires.cluster, rw c.new.ensures (nodes_where-empty c.args.nodes))

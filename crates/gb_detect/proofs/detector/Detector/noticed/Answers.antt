@@ -1,13 +1,12 @@
-use Rattle.std.proofs.Common.{ap, sym, subst}
+use Rattle.std.proofs.Common.{ap, sym, subst, ◌∙◌}
 use Rattle.std.specs.FinSet as set
 use Rattle.std.specs.Ordering.{nat_cmp}
 use Rattle.gb_detect.specs.Watch.{Watch, AreNoticed}
-use Rattle.gb_detect.proofs.SetLemmas.{union-of_empty}
 use Rattle.gb_detect.proofs.ReplayLemmas.{stands-noticed}
 use Rattle.gb_detect.proofs.detector.Detector.noticed.Goals as goal
 
 copied : goal.returns-clause-value
-copied c = rw (c.insert_each.ensures, c.new-found.ensures, union-of_empty) (ap (λ (d : Watch). d.noticed) c.self.view_is)
+copied c = c.duplicate.ensures ∙ (sym c.self.invariant.1 ∙ ap (λ (d : Watch). d.noticed) c.self.view_is)
 
 pub returns-clause-value : goal.returns-clause-value
 returns-clause-value c = copied c

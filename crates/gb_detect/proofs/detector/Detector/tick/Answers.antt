@@ -3,7 +3,7 @@ use Rattle.std.specs.FinSet as set
 use Rattle.std.specs.Ordering.{nat_cmp}
 use Rattle.gb_detect.specs.Silence.{Tick}
 use Rattle.gb_detect.specs.Watch.{Watch, nodes_where, is_due, StandsFor}
-use Rattle.gb_detect.proofs.SetLemmas.{nodes_where-union}
+use Rattle.gb_detect.proofs.SetLemmas.{nodes_where-union, nodes_where-grown}
 use Rattle.gb_detect.proofs.ReplayLemmas.{stands-tick}
 use Rattle.gb_detect.proofs.detector.Detector.tick.Goals as goal
 
@@ -19,3 +19,9 @@ returns-clause-value c = ticked c
 
 pub returns-clause-stands : goal.returns-clause-stands
 returns-clause-stands c calls stands = subst (λ (d : Watch). StandsFor (Tick ∷ calls) d) (sym (ticked c)) (stands-tick calls c.args.self.now stands)
+
+pub invariant_of-self : goal.invariant_of-self
+invariant_of-self c =
+    let a = c.self.inside in
+    let value : Watch = record { me = a.me.number; nodes = a.nodes; silence = a.silence; silences = a.silences; noticed = nodes_where a.nodes (set.contains a.noticed) } in
+    rw (c.insert_each.ensures, c.due-found.ensures.value, ← c.self.view_is) (c.self.invariant.0, nodes_where-grown a.nodes a.noticed (is_due value) c.self.invariant.1)

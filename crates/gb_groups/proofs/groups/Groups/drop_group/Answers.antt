@@ -5,8 +5,9 @@ use Rattle.gb_groups.specs.SlotsValue.{row_at, gone}
 use Rattle.gb_groups.specs.AtAddress.{OthersKept}
 use Rattle.gb_groups.specs.GroupsValue.{GroupsValue}
 use Rattle.gb_groups.proofs.AddressLemmas.{others_kept_row, place_is}
-use Rattle.gb_groups.proofs.IndexLemmas.{index_but, places_quiet}
+use Rattle.gb_groups.proofs.IndexLemmas.{places_quiet}
 use Rattle.gb_groups.proofs.MemberLemmas.{memberships_dropped}
+use Rattle.gb_groups.proofs.NotedLemmas.{index_dropped}
 use Rattle.gb_groups.proofs.groups.Groups.drop_group.Goals as goal
 
 pub invariant_of-self : goal.invariant_of-self
@@ -14,13 +15,9 @@ invariant_of-self c =
     let rows = c.self.inside.slots.rows in
     let row = gone (row_at rows c.in-Some.place) in
     let within = (place_is c.args.addr rows c.in-Some.place c.in-Some.ensures.place).0 in
-    let kept = subst (λ (s : _). IsEnrolled NODES c.in-Some.place s c.self.inside.memberships c.enrol.new.memberships) c.new.ensures c.enrol.ensures in
-    (rw c.remove-reply.ensures.rows (places_quiet rows c.self.inside.cursors c.in-Some.place row c.self.invariant.0), c.refresh.ensures, rw c.remove-reply.ensures.rows (memberships_dropped rows c.self.inside.memberships c.enrol.new.memberships c.in-Some.place c.self.invariant.2 within kept))
-
-pub refresh-requires-clause-others : goal.refresh-requires-clause-others
-refresh-requires-clause-others c =
-    let rows = c.self.inside.slots.rows in
-    rw c.remove-reply.ensures.rows (index_but rows c.self.inside.busy c.in-Some.place (gone (row_at rows c.in-Some.place)) c.self.invariant.1)
+    let busy = subst (λ (s : _). IsEnrolled NODES c.in-Some.place s c.self.inside.busy c.enrol.new.memberships) c.new.ensures c.enrol.ensures in
+    let kept = subst (λ (s : _). IsEnrolled NODES c.in-Some.place s c.self.inside.memberships c.enrol-in-Some.new.memberships) c.new-in-Some.ensures c.enrol-in-Some.ensures in
+    rw c.remove-reply.ensures.rows (places_quiet rows c.self.inside.cursors c.in-Some.place row c.self.invariant.0, index_dropped rows c.self.inside.busy c.enrol.new.memberships c.in-Some.place within c.self.invariant.1 busy, memberships_dropped rows c.self.inside.memberships c.enrol-in-Some.new.memberships c.in-Some.place c.self.invariant.2 within kept)
 
 pub returns-in-Some-clause-others : goal.returns-in-Some-clause-others
 returns-in-Some-clause-others c =

@@ -8,6 +8,7 @@ use Rattle.gb_groups.specs.GroupsValue.{GroupsValue}
 use Rattle.gb_groups.proofs.AddressLemmas.{others_kept, item_is, place_is}
 use Rattle.gb_groups.proofs.IndexLemmas.{index_but, index_as_many, places_quiet}
 use Rattle.gb_groups.proofs.MemberLemmas.{memberships_step, spec-came}
+use Rattle.gb_groups.proofs.NotedLemmas.{outside_stepped}
 use Rattle.gb_groups.proofs.groups.Groups.item.Goals as goal
 
 pub refresh-requires-clause-others : goal.refresh-requires-clause-others
@@ -15,6 +16,14 @@ refresh-requires-clause-others c =
     let rows = c.self.inside.slots.rows in
     let x : Entry = record { origin = c.in-Some.origin; seq = c.args.item.seq; payload = c.args.item.payload.now } in
     rw c.came.ensures.rows (index_but rows c.self.inside.busy c.in-Some-find.place (on_slot (slot_came c.args.from x) (row_at rows c.in-Some-find.place)) c.self.invariant.1)
+
+pub refresh-requires-clause-outside : goal.refresh-requires-clause-outside
+refresh-requires-clause-outside c =
+    let rows = c.self.inside.slots.rows in
+    let p = c.in-Some-find.place in
+    let x : Entry = record { origin = c.in-Some.origin; seq = c.args.item.seq; payload = c.args.item.payload.now } in
+    let within = (place_is (address_of (view_item c.args.item)) rows p c.in-Some-find.ensures.place).0 in
+    rw c.came.ensures.rows (outside_stepped (slot_came c.args.from x) rows c.self.inside.busy p within (spec-came c.args.from x) c.self.invariant.1)
 
 pub invariant_of-self : goal.invariant_of-self
 invariant_of-self c =

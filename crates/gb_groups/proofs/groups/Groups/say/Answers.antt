@@ -4,14 +4,22 @@ use Rattle.gb_slot.specs.Slot.{slot_said}
 use Rattle.gb_groups.specs.SlotsValue.{row_at, on_slot}
 use Rattle.gb_groups.specs.AtAddress.{reply_at, group_reply, OthersKept}
 use Rattle.gb_groups.specs.GroupsValue.{GroupsValue}
-use Rattle.gb_groups.proofs.AddressLemmas.{others_kept}
+use Rattle.gb_groups.proofs.AddressLemmas.{others_kept, place_is}
 use Rattle.gb_groups.proofs.IndexLemmas.{index_but}
+use Rattle.gb_groups.proofs.MemberLemmas.{spec-said}
+use Rattle.gb_groups.proofs.NotedLemmas.{outside_stepped}
 use Rattle.gb_groups.proofs.groups.Groups.say.Goals as goal
 
 pub refresh-requires-clause-others : goal.refresh-requires-clause-others
 refresh-requires-clause-others c =
     let rows = c.self.inside.slots.rows in
     rw c.say-reply.ensures.rows (index_but rows c.self.inside.busy c.in-Some.place (on_slot (slot_said c.args.payload.now c.say-reply.result) (row_at rows c.in-Some.place)) c.self.invariant.1)
+
+pub refresh-requires-clause-outside : goal.refresh-requires-clause-outside
+refresh-requires-clause-outside c =
+    let rows = c.self.inside.slots.rows in
+    let within = (place_is c.args.addr rows c.in-Some.place c.in-Some.ensures.place).0 in
+    rw c.say-reply.ensures.rows (outside_stepped (slot_said c.args.payload.now c.say-reply.result) rows c.self.inside.busy c.in-Some.place within (spec-said c.args.payload.now c.say-reply.result) c.self.invariant.1)
 
 pub returns-in-Some-clause-others : goal.returns-in-Some-clause-others
 returns-in-Some-clause-others c =

@@ -1,9 +1,21 @@
-use Rattle.std.proofs.Common.{ap, ◌∙◌}
+use Rattle.std.proofs.Common.{◌≡◌, ap, sym, subst, ◌∙◌, refl}
 use Rattle.gb_slot.specs.Slot.{slot_done}
+use Rattle.gb_table.specs.TableValue.{TableValue, table_done}
+use Rattle.gb_table.specs.OwnNode.{AreAt}
 use Rattle.gb_table.specs.Within.{addrs_of}
 use Rattle.gb_table.proofs.AddrLemmas.{addrs-address}
+use Rattle.gb_table.proofs.OwnNodeLemmas.{at_address, table_unchanged}
 use Rattle.gb_table.proofs.RequestLemmas.{within_step}
 use Rattle.gb_table.proofs.table.Table.done.Goals as goal
 
 pub invariant_of-self : goal.invariant_of-self
-invariant_of-self c = (within_step c.self.inside.places c.self.inside.tenants c.self.inside.groups.rows _ (ap addrs_of c.done.ensures.rows ∙ addrs-address c.args.addr (slot_done c.args.dest c.args.m) c.self.inside.groups.rows) c.self.invariant.0, c.self.invariant.1)
+invariant_of-self c = (
+  within_step c.self.inside.places c.self.inside.tenants c.self.inside.groups.rows _ (ap addrs_of c.done.ensures.rows ∙ addrs-address c.args.addr (slot_done c.args.dest c.args.m) c.self.inside.groups.rows) c.self.invariant.0,
+  c.self.invariant.1,
+  subst (AreAt c.self.inside.me) (sym c.done.ensures.rows) (at_address c.self.inside.me c.args.addr (slot_done c.args.dest c.args.m) c.self.inside.groups.rows (λ s. refl) c.self.invariant.2),
+)
+
+pub returns-then-ne-clause-state : goal.returns-then-ne-clause-state
+returns-then-ne-clause-state c =
+    let t : TableValue = record { me = c.self.inside.me; nodes = c.self.inside.nodes; places = c.self.inside.places; admin_key = c.self.inside.admin_key; tenants = c.self.inside.tenants; groups = c.self.inside.groups } in
+    subst (λ (v : TableValue). v ≡ table_done c.args.dest c.args.addr c.args.m v) c.self.view_is (table_unchanged c.args.dest c.args.addr c.args.m t (sym c.if-ne.true ∙ c.ne.ensures) c.self.invariant.2)

@@ -17,4 +17,5 @@ invariant_of-self c = (
   kept_after (IsMemberToken c.self.inside.me c.self.inside.tenants) c.insert.result _ c.args.addr c.self.inside.member_tokens.entries c.insert.new.self.entries c.in-Some.token c.insert.ensures.entries c.insert.ensures.err
       (λ k h. addr_is c.args.addr k h) c.self.invariant.1 (token_made c.self.inside.me c.self.inside.tenants c.args.addr c.in-Some.token
       (c.in-Some.ensures ∙ ap (λ (need : Need). option_map (λ row. token_of row.key need) (row_of c.args.addr.tenant c.self.inside.tenants)) (c.as_member.ensures ∙ ap (λ (v : TableValue). Member c.args.addr.tenant c.args.addr.group v.me) (sym c.self.view_is)))),
+  c.self.invariant.2,
 )

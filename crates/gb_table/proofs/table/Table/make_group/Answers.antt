@@ -1,4 +1,4 @@
-use Rattle.std.proofs.Common.{◌≡◌, ◌<◌, List, false, ap, sym, subst, ◌∙◌, inl, inr}
+use Rattle.std.proofs.Common.{◌≡◌, ◌<◌, List, false, refl, ap, sym, subst, ◌∙◌, inl, inr}
 use Rattle.std.specs.Prelude.{Some, is_some}
 use Rattle.gb_types.specs.declared.reply.Reply.{Reply}
 use Rattle.gb_types.specs.declared.reply.Reply.TheVariants.{Done}
@@ -11,8 +11,10 @@ use Rattle.gb_groups.specs.SlotsValue.{Row}
 use Rattle.gb_groups.specs.AtAddress.{place_of}
 use Rattle.gb_groups.specs.GroupsValue.{GroupsValue}
 use Rattle.gb_table.specs.TableValue.{TableValue, reserve_for}
+use Rattle.gb_table.specs.OwnNode.{AreAt}
 use Rattle.gb_table.specs.Within.{addrs_of, IsWithin}
 use Rattle.gb_table.proofs.TenantLemmas.{found_within, make_done, within_limits}
+use Rattle.gb_table.proofs.OwnNodeLemmas.{at_more}
 use Rattle.gb_table.proofs.RequestLemmas.{make_should, not_made, has_place, within_made}
 use Rattle.gb_table.proofs.table.Table.make_group.Goals as goal
 use Rattle.gb_table.proofs.table.Table.make_group.Goals.{in-Ok, in-Err}
@@ -44,8 +46,16 @@ invariant_of-self c =
     let below = subst (λ (r : Reserve). c.args.addr.group < r.groups) c.of-reserve.ensures d.0 in
     let group : Row = record { addr = c.args.addr; slot = Some (new_slot c.args.spec.now c.self.inside.me c.args.noticed.now) } in
     elim c.match-make.branch [
-      | in-Ok w ↦ (subst (λ (rs : List Row). IsWithin c.self.inside.places c.self.inside.tenants (addrs_of rs)) (sym w.in-Ok.ensures.rows) (within_made c.self.inside.places c.self.inside.tenants c.self.inside.groups.rows group row c.self.invariant.0 c.in-Some.ensures below), c.self.invariant.1)
-      | in-Err w ↦ (subst (λ (g : GroupsValue). IsWithin c.self.inside.places c.self.inside.tenants (addrs_of g.rows)) (sym w.in-Err.ensures.err) c.self.invariant.0, c.self.invariant.1)
+      | in-Ok w ↦ (
+        subst (λ (rs : List Row). IsWithin c.self.inside.places c.self.inside.tenants (addrs_of rs)) (sym w.in-Ok.ensures.rows) (within_made c.self.inside.places c.self.inside.tenants c.self.inside.groups.rows group row c.self.invariant.0 c.in-Some.ensures below),
+        c.self.invariant.1,
+        subst (AreAt c.self.inside.me) (sym w.in-Ok.ensures.rows) (at_more c.self.inside.me c.self.inside.groups.rows group c.self.invariant.2 refl),
+      )
+      | in-Err w ↦ (
+        subst (λ (g : GroupsValue). IsWithin c.self.inside.places c.self.inside.tenants (addrs_of g.rows)) (sym w.in-Err.ensures.err) c.self.invariant.0,
+        c.self.invariant.1,
+        subst (λ (g : GroupsValue). AreAt c.self.inside.me g.rows) (sym w.in-Err.ensures.err) c.self.invariant.2,
+      )
     ]
 
 pub returns-clause-reply : goal.returns-clause-reply

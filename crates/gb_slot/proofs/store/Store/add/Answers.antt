@@ -6,7 +6,7 @@ use Rattle.gb_slot.specs.Kept.{entries_of, messages_of, AreCounted}
 use Rattle.gb_slot.specs.StoreValue.{StoreValue, total_bytes}
 use Rattle.gb_slot.proofs.FewLemmas.{total_pushed}
 use Rattle.gb_slot.proofs.PlaceLemmas.{any_entries, any_messages}
-use Rattle.gb_slot.proofs.store.Store.push.Goals as goal
+use Rattle.gb_slot.proofs.store.Store.add.Goals as goal
 
 pub invariant_of-self : goal.invariant_of-self
 invariant_of-self c =
