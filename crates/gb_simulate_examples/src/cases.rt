@@ -1,242 +1,253 @@
 //! Schedules and what they make a cluster answer.
-use gb_simulate::outcome::{BadLine, SimEnd};
+use gb_simulate::outcome::{BadLine, SimEnd, SimFault};
 
 /// A schedule, the text that it makes, and how it ends.
 pub type Case = (&'static str, &'static str, SimEnd);
 
-/// A schedule, and the text that it makes.
-pub type Text = (&'static str, &'static str);
+/// Lines, and the text that they make. `*` stands for a payload, `#` for a number, and `%` for so many bytes of
+/// `UNTAGGED`.
+type Text = (&'static str, &'static str);
 
-pub const EMPTY_PAYLOAD: Case = (
+/// Lines that are repeated, once for each number from the first one up to below the last.
+pub type Part = (Text, u16, u16);
+
+/// How many bytes a payload has, and a schedule in parts.
+pub type Built = (usize, &'static [Part]);
+
+/// A byte that is repeated so many times as a schedule, the most that is read at once, the text that it makes, and how
+/// it ends.
+pub type Repeated = (u8, usize, usize, &'static str, SimEnd);
+
+const EMPTY_PAYLOAD: Case = (
     "cluster 3 3\ntenant 0 7 4 8 4096 4\nmake 0 7 1 beb 0,1,2 8 4096 4\nopen 0 7 1\ntenant 1 7 4 8 4096 4\nmake 1 7 1 beb 0,1,2 8 4096 4\nopen 1 7 1\ntenant 2 7 4 8 4096 4\nmake 2 7 1 beb 0,1,2 8 4096 4\nopen 2 7 1\nsay 0 7 1 -\npack 0 1\npack 0 2\narrive 1\narrive 2\nfetch 0 7 1 0 16\nfetch 1 7 1 0 16\nfetch 2 7 1 0 16\n",
     "ok\nok\nok\nok\nok\nok\nok\nok\nok\nok\nsaid 1\npacket 1\npacket 2\ngood first 1 0\ngood first 1 0\nlog 1 0:1:-\nlog 1 0:1:-\nlog 1 0:1:-\n",
     SimEnd::All,
 );
 
-pub const PACKET_ARRIVES_TWICE: Case = (
+const PACKET_ARRIVES_TWICE: Case = (
     "cluster 3 3\ntenant 0 7 4 8 4096 4\nmake 0 7 1 beb 0,1,2 8 4096 4\nopen 0 7 1\ntenant 1 7 4 8 4096 4\nmake 1 7 1 beb 0,1,2 8 4096 4\nopen 1 7 1\ntenant 2 7 4 8 4096 4\nmake 2 7 1 beb 0,1,2 8 4096 4\nopen 2 7 1\nsay 0 7 1 -\npack 0 1\npack 0 2\narrive 1\narrive 1\narrive 2\nfetch 0 7 1 0 16\nfetch 1 7 1 0 16\nfetch 2 7 1 0 16\n",
     "ok\nok\nok\nok\nok\nok\nok\nok\nok\nok\nsaid 1\npacket 1\npacket 2\ngood first 1 0\ngood seen 0 0\ngood first 1 0\nlog 1 0:1:-\nlog 1 0:1:-\nlog 1 0:1:-\n",
     SimEnd::All,
 );
 
-pub const UNKNOWN_WORD: Case = (
+const UNKNOWN_WORD: Case = (
     "cluster 2 3\nhello\n",
     "ok\nbad line 2\n",
     SimEnd::BadLine(2, BadLine::NoCommand),
 );
 
-pub const NODES_WITH_UNLIKE_GROUPS: Case = (
+const NODES_WITH_UNLIKE_GROUPS: Case = (
     "cluster 2 3\ntenant 0 7 4 8 4096 4\nmake 0 7 1 beb 0,1 8 4096 4\nopen 0 7 1\ntenant 1 7 4 8 4096 4\nmake 1 7 2 beb 0,1 8 4096 4\nopen 1 7 2\nsay 0 7 1 61\npack 0 1\narrive 1\nfetch 1 7 2 0 16\nfetch 1 7 1 0 16\n",
     "ok\nok\nok\nok\nok\nok\nok\nsaid 1\npacket 1\ngood first 1 0\nlog 0\nrefused 2 NoGroup\n",
     SimEnd::All,
 );
 
-pub const STOPPED_NODE_REFUSES_ALL: Case = (
+const STOPPED_NODE_REFUSES_ALL: Case = (
     "cluster 1 2\nstop 0\ntick 0\nsay 0 7 1 61\narrive 1\n",
     "ok\nok\nrefused 15 Stopped\nrefused 15 Stopped\nno packet\n",
     SimEnd::All,
 );
 
-pub const ACKNOWLEDGED_FRAME_IS_NOT_GIVEN_AGAIN: Case = (
+const ACKNOWLEDGED_FRAME_IS_NOT_GIVEN_AGAIN: Case = (
     "cluster 2 3\ntenant 0 7 4 8 4096 4\nmake 0 7 1 beb 0,1 8 4096 4\nopen 0 7 1\ntenant 1 7 4 8 4096 4\nmake 1 7 1 beb 0,1 8 4096 4\nopen 1 7 1\nsay 0 7 1 61\npack 0 1\narrive 1\narrive 1\nack 1 0\narrive 2\nagain 0 1 0\n",
     "ok\nok\nok\nok\nok\nok\nok\nsaid 1\npacket 1\ngood first 1 0\ngood seen 0 0\npacket 2\ngood none 0 1\nnothing\n",
     SimEnd::All,
 );
 
-pub const NOTHING_IS_SENT_TO_NO_OTHER_NODE: Case = (
+const NOTHING_IS_SENT_TO_NO_OTHER_NODE: Case = (
     "cluster 3 2\npack 0 0\nagain 0 0 0\nack 0 0\npack 0 1\nagain 0 1 0\nagain 0 1 18446744073709551615\nack 0 1\narrive 1\ntick 0\ntick 0\ntick 0\nack 0 1\npack 0 1\nagain 0 1 0\narrive 2\nack 1 0\narrive 3\ntick 0\ntick 1\ntick 1\narrive 0\narrive 18446744073709551615\n",
     "ok\nnothing\nnothing\nnothing\nnothing\nnothing\nnothing\npacket 1\ngood none 0 0\nnoticed -\nnoticed 1 2\nnoticed -\npacket 2\nnothing\nnothing\ngood none 0 0\npacket 3\ngood none 0 0\nnoticed -\nnoticed -\nnoticed 0 2\nno packet\nno packet\n",
     SimEnd::All,
 );
 
-pub const NOTICED_NODES_ARE_CUT_OFF: Case = (
+const NOTICED_NODES_ARE_CUT_OFF: Case = (
     "cluster 3 2\ntenant 0 7 4 8 4096 4\nmake 0 7 1 beb 0,1,2 8 4096 4\nopen 0 7 1\nsay 0 7 1 61\npack 0 1\nack 1 0\narrive 2\ntick 0\nack 1 0\narrive 3\ntick 0\npack 0 2\nagain 0 1 1\ntick 0\npack 0 1\nsay 0 7 1 62\npack 0 1\nmake 0 7 2 beb 0,1 8 4096 4\nfetch 0 7 1 0 16\nstop 0\nfetch 0 7 1 0 16\npack 0 1\narrive 2\nstop 0\n",
     "ok\nok\nok\nok\nsaid 1\npacket 1\npacket 2\ngood none 0 0\nnoticed -\npacket 3\ngood none 0 0\nnoticed 2\nnothing\npacket 4\nnoticed 1\nnothing\nsaid 2\nnothing\nok\nlog 2 0:1:61 0:2:62\nok\nrefused 15 Stopped\nrefused 15 Stopped\nrefused 15 Stopped\nrefused 15 Stopped\n",
     SimEnd::All,
 );
 
-pub const SMALLEST_GROUP: Case = (
+const SMALLEST_GROUP: Case = (
     "cluster 1 2\ntenant 0 7 4 8 4096 4\nmake 0 7 1 allack 0 8 4096 4\nopen 0 7 1\nsay 0 7 1 61\nfetch 0 7 1 0 16\n",
     "ok\nok\nok\nok\nsaid 1\nlog 1 0:1:61\n",
     SimEnd::All,
 );
 
-pub const FIFO_HOLDS_BACK_WHAT_COMES_EARLY: Case = (
+const FIFO_HOLDS_BACK_WHAT_COMES_EARLY: Case = (
     "cluster 2 3\ntenant 0 7 4 8 4096 4\nmake 0 7 1 fbeb 0,1 8 4096 4\nopen 0 7 1\ntenant 1 7 4 8 4096 4\nmake 1 7 1 fbeb 0,1 8 4096 4\nopen 1 7 1\nsay 0 7 1 61\npack 0 1\nsay 0 7 1 62\npack 0 1\narrive 2\nfetch 1 7 1 0 16\narrive 1\nfetch 1 7 1 0 16\n",
     "ok\nok\nok\nok\nok\nok\nok\nsaid 1\npacket 1\nsaid 2\npacket 2\ngood first 1 0\nlog 0\ngood first 1 0\nlog 2 0:1:61 0:2:62\n",
     SimEnd::All,
 );
 
-pub const PLAIN_BROADCAST_HOLDS_NOTHING_BACK: Case = (
+const PLAIN_BROADCAST_HOLDS_NOTHING_BACK: Case = (
     "cluster 2 3\ntenant 0 7 4 8 4096 4\nmake 0 7 1 beb 0,1 8 4096 4\nopen 0 7 1\ntenant 1 7 4 8 4096 4\nmake 1 7 1 beb 0,1 8 4096 4\nopen 1 7 1\nsay 0 7 1 61\npack 0 1\nsay 0 7 1 62\npack 0 1\narrive 2\nfetch 1 7 1 0 16\narrive 1\nfetch 1 7 1 0 16\n",
     "ok\nok\nok\nok\nok\nok\nok\nsaid 1\npacket 1\nsaid 2\npacket 2\ngood first 1 0\nlog 1 0:2:62\ngood first 1 0\nlog 2 0:2:62 0:1:61\n",
     SimEnd::All,
 );
 
-pub const LAZY_RELAYS_FOR_A_CRASHED_ORIGIN: Case = (
+const LAZY_RELAYS_FOR_A_CRASHED_ORIGIN: Case = (
     "cluster 3 3\ntenant 0 7 4 8 4096 4\nmake 0 7 1 lazy 0,1,2 8 4096 4\nopen 0 7 1\ntenant 1 7 4 8 4096 4\nmake 1 7 1 lazy 0,1,2 8 4096 4\nopen 1 7 1\ntenant 2 7 4 8 4096 4\nmake 2 7 1 lazy 0,1,2 8 4096 4\nopen 2 7 1\nsay 0 7 1 61\npack 0 1\nsay 0 7 1 62\npack 0 1\narrive 1\nstop 0\ntick 1\ntick 1\nack 2 1\narrive 3\ntick 1\npack 1 2\narrive 4\nfetch 2 7 1 0 16\narrive 2\npack 1 2\narrive 5\nfetch 2 7 1 0 16\n",
     "ok\nok\nok\nok\nok\nok\nok\nok\nok\nok\nsaid 1\npacket 1\nsaid 2\npacket 2\ngood first 1 0\nok\nnoticed -\nnoticed -\npacket 3\ngood none 0 0\nnoticed 0\npacket 4\ngood first 1 0\nlog 1 0:1:61\ngood first 1 0\npacket 5\ngood first 1 0\nlog 2 0:1:61 0:2:62\n",
     SimEnd::All,
 );
 
-pub const GROUP_MADE_AFTER_A_NOTICE: Case = (
+const GROUP_MADE_AFTER_A_NOTICE: Case = (
     "cluster 2 2\ntick 0\ntick 0\ntenant 0 7 4 8 4096 4\nmake 0 7 1 allack 0,1 8 4096 4\nopen 0 7 1\nsay 0 7 1 61\nfetch 0 7 1 0 16\n",
     "ok\nnoticed -\nnoticed 1\nok\nok\nok\nsaid 1\nlog 1 0:1:61\n",
     SimEnd::All,
 );
 
-pub const NODES_WITH_UNLIKE_KINDS: Case = (
+const NODES_WITH_UNLIKE_KINDS: Case = (
     "cluster 3 3\ntenant 0 7 4 8 4096 4\nmake 0 7 1 eager 0,1,2 8 4096 4\nopen 0 7 1\ntenant 1 7 4 8 4096 4\nmake 1 7 1 beb 0,1,2 8 4096 4\nopen 1 7 1\ntenant 2 7 4 8 4096 4\nmake 2 7 1 beb 0,1,2 8 4096 4\nopen 2 7 1\nsay 2 7 1 61\npack 2 0\npack 2 1\narrive 1\npack 0 1\narrive 3\nfetch 1 7 1 0 16\narrive 2\nfetch 1 7 1 0 16\n",
     "ok\nok\nok\nok\nok\nok\nok\nok\nok\nok\nsaid 1\npacket 1\npacket 2\ngood first 1 0\npacket 3\ngood first 1 0\nlog 0\ngood first 1 0\nlog 1 2:1:61\n",
     SimEnd::All,
 );
 
-pub const PLACES_OF_A_LOG: Case = (
+const PLACES_OF_A_LOG: Case = (
     "cluster 1 2\ntenant 0 7 4 8 4096 4\nmake 0 7 1 allack 0 8 4096 4\nopen 0 7 1\nsay 0 7 1 61\nfetch 0 7 1 0 16\nfetch 0 7 1 1 16\nfetch 0 7 1 2 16\nfetch 0 7 1 0 17\n",
     "ok\nok\nok\nok\nsaid 1\nlog 1 0:1:61\nlog 0\nrefused 11 BadPlace\nrefused 11 BadPlace\n",
     SimEnd::All,
 );
 
-pub const ALL_ACK_WAITS_FOR_EACH_MEMBER: Case = (
+const ALL_ACK_WAITS_FOR_EACH_MEMBER: Case = (
     "cluster 2 3\ntenant 0 7 4 8 4096 4\nmake 0 7 1 allack 0,1 8 4096 4\nopen 0 7 1\ntenant 1 7 4 8 4096 4\nmake 1 7 1 allack 0,1 8 4096 4\nopen 1 7 1\nsay 0 7 1 61\nfetch 0 7 1 0 16\npack 0 1\narrive 1\nfetch 1 7 1 0 16\npack 1 0\narrive 2\nfetch 0 7 1 0 16\n",
     "ok\nok\nok\nok\nok\nok\nok\nsaid 1\nlog 0\npacket 1\ngood first 1 0\nlog 1 0:1:61\npacket 2\ngood first 1 1\nlog 1 0:1:61\n",
     SimEnd::All,
 );
 
-pub const FRAMES_GIVEN_AGAIN_IN_FIFO_ORDER: Case = (
+const FRAMES_GIVEN_AGAIN_IN_FIFO_ORDER: Case = (
     "cluster 2 3\ntenant 0 7 4 8 4096 4\nmake 0 7 1 fbeb 0,1 8 4096 4\nopen 0 7 1\ntenant 1 7 4 8 4096 4\nmake 1 7 1 fbeb 0,1 8 4096 4\nopen 1 7 1\nsay 0 7 1 61\npack 0 1\nsay 0 7 1 62\npack 0 1\narrive 2\nack 1 0\narrive 3\nagain 0 1 2\nagain 0 1 1\narrive 4\nagain 0 1 0\narrive 5\nfetch 1 7 1 0 16\n",
     "ok\nok\nok\nok\nok\nok\nok\nsaid 1\npacket 1\nsaid 2\npacket 2\ngood first 1 0\npacket 3\ngood none 0 1\nnothing\npacket 4\ngood first 1 0\npacket 5\ngood seen 0 0\nlog 2 0:1:61 0:2:62\n",
     SimEnd::All,
 );
 
-pub const BUDGET_IS_JUDGED_BEFORE_THE_WINDOW: Case = (
+const BUDGET_IS_JUDGED_BEFORE_THE_WINDOW: Case = (
     "cluster 2 3\ntenant 0 7 4 8 4096 4\nmake 0 7 1 beb 0,1 2 4096 2\nopen 0 7 1\nsay 0 7 1 61\nsay 0 7 1 62\nsay 0 7 1 63\n",
     "ok\nok\nok\nok\nsaid 1\nsaid 2\nrefused 8 Budget\n",
     SimEnd::All,
 );
 
-pub const WINDOW_OF_ONE: Case = (
+const WINDOW_OF_ONE: Case = (
     "cluster 2 3\ntenant 0 7 4 8 4096 4\nmake 0 7 1 beb 0,1 8 4096 1\nopen 0 7 1\ntenant 1 7 4 8 4096 4\nmake 1 7 1 beb 0,1 8 4096 1\nopen 1 7 1\nsay 0 7 1 61\nsay 0 7 1 62\npack 0 1\narrive 1\nsay 0 7 1 62\nack 1 0\narrive 2\nsay 0 7 1 62\nsay 0 7 1 63\ntick 0\ntick 0\ntick 0\nsay 0 7 1 63\n",
     "ok\nok\nok\nok\nok\nok\nok\nsaid 1\nrefused 10 Window\npacket 1\ngood first 1 0\nrefused 10 Window\npacket 2\ngood none 0 1\nsaid 2\nrefused 10 Window\nnoticed -\nnoticed -\nnoticed 1\nsaid 3\n",
     SimEnd::All,
 );
 
-pub const DROPPED_GROUP_LETS_ITEMS_FALL: Case = (
+const DROPPED_GROUP_LETS_ITEMS_FALL: Case = (
     "cluster 2 3\ntenant 0 7 4 8 4096 4\nmake 0 7 1 beb 0,1 8 4096 4\nopen 0 7 1\ntenant 1 7 4 8 4096 4\nmake 1 7 1 beb 0,1 8 4096 4\nopen 1 7 1\nsay 0 7 1 61\npack 0 1\ndrop 1 7 1\narrive 1\nmake 1 7 1 beb 0,1 8 4096 4\nfetch 1 7 1 0 16\n",
     "ok\nok\nok\nok\nok\nok\nok\nsaid 1\npacket 1\nok\ngood first 1 0\nrefused 3 Spent\nrefused 3 Spent\n",
     SimEnd::All,
 );
 
-pub const CARRIED_ITEMS_COME_AFTER_A_DROP: Case = (
+const CARRIED_ITEMS_COME_AFTER_A_DROP: Case = (
     "cluster 2 3\ntenant 0 7 4 8 4096 4\nmake 0 7 1 beb 0,1 8 4096 4\nopen 0 7 1\ntenant 1 7 4 8 4096 4\nmake 1 7 1 beb 0,1 8 4096 4\nopen 1 7 1\nsay 0 7 1 61\npack 0 1\nsay 0 7 1 62\ndrop 0 7 1\npack 0 1\nagain 0 1 0\narrive 2\nack 1 0\narrive 1\narrive 3\narrive 3\nagain 0 1 0\nfetch 1 7 1 0 16\nstop 1\narrive 1\narrive 4\n",
     "ok\nok\nok\nok\nok\nok\nok\nsaid 1\npacket 1\nsaid 2\nok\nnothing\npacket 2\ngood first 1 0\npacket 3\ngood seen 0 0\ngood none 0 1\ngood none 0 0\nnothing\nlog 1 0:1:61\nok\nrefused 15 Stopped\nno packet\n",
     SimEnd::All,
 );
 
 // The tenants: numbers 1 to 65,535, 1 to 256 groups, 1 to 1,024 messages, 0 to 65,536 bytes, a window of 1 to 1,024.
-pub const TENANTS_AT_THEIR_LIMITS: Case = (
+const TENANTS_AT_THEIR_LIMITS: Case = (
     "cluster 2 2\ntenant 0 0 4 8 4096 4\ntenant 0 7 0 8 4096 4\ntenant 0 7 257 8 4096 4\ntenant 0 7 4 0 4096 4\ntenant 0 7 4 1025 4096 4\ntenant 0 7 4 8 65537 4\ntenant 0 7 4 8 4096 0\ntenant 0 7 4 8 4096 1025\ntenant 0 65535 256 1024 65536 1024\ntenant 1 1 1 1 0 1\n",
     "ok\nrefused 5 OverReserve\nrefused 5 OverReserve\nrefused 5 OverReserve\nrefused 5 OverReserve\nrefused 5 OverReserve\nrefused 5 OverReserve\nrefused 5 OverReserve\nrefused 5 OverReserve\nok\nok\n",
     SimEnd::All,
 );
 
 // A group may have what its tenant may: of the tenants with the most and with the least.
-pub const GROUPS_AT_THEIR_LIMITS: Case = (
+const GROUPS_AT_THEIR_LIMITS: Case = (
     "cluster 2 2\ntenant 0 65535 256 1024 65536 1024\ntenant 1 1 1 1 0 1\nmake 0 65535 256 beb 0 8 4096 4\nmake 0 65535 255 beb 0,2 8 4096 4\nmake 0 65535 255 beb 0 0 4096 4\nmake 0 65535 255 beb 0 1025 4096 4\nmake 0 65535 255 beb 0 8 65537 4\nmake 0 65535 255 beb 0 8 4096 0\nmake 0 65535 255 beb 0 8 4096 1025\nmake 0 65535 255 beb 0,1 1024 65536 1024\nmake 1 1 1 beb 1 1 0 1\nmake 1 1 0 beb 1 2 0 1\nmake 1 1 0 beb 1 1 1 1\nmake 1 1 0 beb 1 1 0 2\nmake 1 1 0 beb 1 1 0 1\nopen 1 1 0\nsay 1 1 0 -\nsay 1 1 0 -\n",
     "ok\nok\nok\nrefused 2 NoGroup\nrefused 4 BadMembers\nrefused 5 OverReserve\nrefused 5 OverReserve\nrefused 5 OverReserve\nrefused 5 OverReserve\nrefused 5 OverReserve\nok\nrefused 2 NoGroup\nrefused 5 OverReserve\nrefused 5 OverReserve\nrefused 5 OverReserve\nok\nok\nsaid 1\nrefused 8 Budget\n",
     SimEnd::All,
 );
 
-pub const LAST_OF_SIXTEEN_NODES: Case = (
+const LAST_OF_SIXTEEN_NODES: Case = (
     "cluster 16 2\ntenant 0 7 4 8 4096 4\nmake 0 7 1 beb 0,1,2,3,4,5,6,7,8,9,10,11,12,13,14,15 8 4096 4\nopen 0 7 1\ntenant 15 7 4 8 4096 4\nmake 15 7 1 beb 0,1,2,3,4,5,6,7,8,9,10,11,12,13,14,15 8 4096 4\nopen 15 7 1\nsay 15 7 1 68656c6c6f\npack 15 0\narrive 1\nfetch 0 7 1 0 16\ntick 0\ntick 0\n",
     "ok\nok\nok\nok\nok\nok\nok\nsaid 1\npacket 1\ngood first 1 0\nlog 1 15:1:68656c6c6f\nnoticed -\nnoticed 1 2 3 4 5 6 7 8 9 10 11 12 13 14 15\n",
     SimEnd::All,
 );
 
 // Both nodes are noticed in one tick; what their notices set free goes in the order of the nodes.
-pub const NOTICES_OF_ONE_TICK_COUNT_IN_TURN: Case = (
+const NOTICES_OF_ONE_TICK_COUNT_IN_TURN: Case = (
     "cluster 4 2\ntenant 0 7 4 8 4096 4\nmake 0 7 1 lazy 0,1,2,3 8 4096 4\nopen 0 7 1\ntenant 1 7 4 8 4096 4\nmake 1 7 1 lazy 0,1,2,3 8 4096 4\nopen 1 7 1\ntenant 2 7 4 8 4096 4\nmake 2 7 1 lazy 0,1,2,3 8 4096 4\nopen 2 7 1\ntenant 3 7 4 8 4096 4\nmake 3 7 1 lazy 0,1,2,3 8 4096 4\nopen 3 7 1\nsay 2 7 1 62\npack 2 0\narrive 1\nsay 1 7 1 61\npack 1 0\narrive 2\ntick 0\nack 3 0\narrive 3\ntick 0\npack 0 3\narrive 4\nfetch 3 7 1 0 16\n",
     "ok\nok\nok\nok\nok\nok\nok\nok\nok\nok\nok\nok\nok\nsaid 1\npacket 1\ngood first 1 0\nsaid 1\npacket 2\ngood first 1 0\nnoticed -\npacket 3\ngood none 0 0\nnoticed 1 2\npacket 4\ngood first 2 0\nlog 2 1:1:61 2:1:62\n",
     SimEnd::All,
 );
 
-pub const REPEATED_FRAME_OF_THREE_GROUPS: Case = (
+const REPEATED_FRAME_OF_THREE_GROUPS: Case = (
     "cluster 2 3\ntenant 0 7 4 8 4096 4\nmake 0 7 1 beb 0,1 8 4096 4\nopen 0 7 1\ntenant 1 7 4 8 4096 4\nmake 1 7 1 beb 0,1 8 4096 4\nopen 1 7 1\nmake 0 7 2 beb 0,1 8 4096 4\nopen 0 7 2\nmake 0 7 3 beb 0,1 8 4096 4\nopen 0 7 3\nmake 1 7 2 beb 0,1 8 4096 4\nopen 1 7 2\nmake 1 7 3 beb 0,1 8 4096 4\nopen 1 7 3\nsay 0 7 1 61\nsay 0 7 2 62\nsay 0 7 3 63\npack 0 1\narrive 1\narrive 1\nfetch 1 7 1 0 16\nfetch 1 7 2 0 16\nfetch 1 7 3 0 16\n",
     "ok\nok\nok\nok\nok\nok\nok\nok\nok\nok\nok\nok\nok\nok\nok\nsaid 1\nsaid 1\nsaid 1\npacket 1\ngood first 3 0\ngood seen 0 0\nlog 1 0:1:61\nlog 1 0:1:62\nlog 1 0:1:63\n",
     SimEnd::All,
 );
 
 // A forged token is refused alike where the group is made, where it is not, and where the tenant is unknown.
-pub const FORGED_TOKENS: Case = (
+const FORGED_TOKENS: Case = (
     "cluster 2 3\ntenant 0 7 4 8 4096 4\nmake 0 7 1 beb 0,1 8 4096 4\nopen 0 7 1\ntenant 1 7 4 8 4096 4\nmake 1 7 1 beb 0,1 8 4096 4\nopen 1 7 1\nforge 0 7 1\nforge 0 7 3\nforge 0 9 1\nsay 0 7 1 61\n",
     "ok\nok\nok\nok\nok\nok\nok\nrefused 1 Denied\nrefused 1 Denied\nrefused 1 Denied\nsaid 1\n",
     SimEnd::All,
 );
 
-pub const ONE_TENANT_ALONE: Case = (
+const ONE_TENANT_ALONE: Case = (
     "cluster 2 3\ntenant 0 7 4 8 4096 4\nmake 0 7 1 beb 0,1 8 4096 4\nopen 0 7 1\ntenant 1 7 4 8 4096 4\nmake 1 7 1 beb 0,1 8 4096 4\nopen 1 7 1\nsay 0 7 1 61\nsay 0 7 1 62\npack 0 1\narrive 1\nfetch 1 7 1 0 16\n",
     "ok\nok\nok\nok\nok\nok\nok\nsaid 1\nsaid 2\npacket 1\ngood first 2 0\nlog 2 0:1:61 0:2:62\n",
     SimEnd::All,
 );
 
 // The same as before for the first tenant, where a second one says as much and shares its frames.
-pub const TWO_TENANTS_SHARE_FRAMES: Case = (
+const TWO_TENANTS_SHARE_FRAMES: Case = (
     "cluster 2 3\ntenant 0 7 4 8 4096 4\nmake 0 7 1 beb 0,1 8 4096 4\nopen 0 7 1\ntenant 1 7 4 8 4096 4\nmake 1 7 1 beb 0,1 8 4096 4\nopen 1 7 1\ntenant 0 8 4 8 4096 4\nmake 0 8 1 beb 0,1 8 4096 4\nopen 0 8 1\ntenant 1 8 4 8 4096 4\nmake 1 8 1 beb 0,1 8 4096 4\nopen 1 8 1\nsay 0 8 1 71\nsay 0 7 1 61\nsay 0 8 1 72\nsay 0 7 1 62\npack 0 1\narrive 1\narrive 1\nfetch 1 7 1 0 16\n",
     "ok\nok\nok\nok\nok\nok\nok\nok\nok\nok\nok\nok\nok\nsaid 1\nsaid 1\nsaid 2\nsaid 2\npacket 1\ngood first 4 0\ngood seen 0 0\nlog 2 0:1:61 0:2:62\n",
     SimEnd::All,
 );
 
-pub const NOISE_IS_NOT_HEARD: Case = (
+const NOISE_IS_NOT_HEARD: Case = (
     "cluster 2 2\ntick 1\nnoise 1 47420100010000000000000001000000000000000000000000000000010001000700010000010001610000000000000000\ntick 1\n",
     "ok\nnoticed -\nfault 10 Tag\nnoticed 0\n",
     SimEnd::All,
 );
 
 // A packet of the cluster is no noise, also at a node that stopped; it is noise at a node that it is not for.
-pub const PACKETS_ARE_NO_NOISE: Case = (
+const PACKETS_ARE_NO_NOISE: Case = (
     "cluster 2 2\ntick 1\nnoise 1 4742010001000000000000000100000000000000000000000000000001000100070001000001000161185b249b24f186ab\nnoise 0 4742010001000000000000000100000000000000000000000000000001000100070001000001000161185b249b24f186ab\ntick 1\nstop 1\nnoise 1 4742010001000000000000000100000000000000000000000000000001000100070001000001000161185b249b24f186ab\nnoise 1 47420100010000000000000001000000000000000000000000000000010001000700010000010001610000000000000000\nnoise 1 4742010001000000000000000100000000000000000000000000000001000100070001000001000161185B249B24F186AB\n",
     "ok\nnoticed -\nnot noise\nfault 4 Node\nnoticed 0\nok\nnot noise\nrefused 15 Stopped\nnot noise\n",
     SimEnd::All,
 );
 
-pub const RELAYED_COPY_COUNTS_ITS_BYTES: Case = (
+const RELAYED_COPY_COUNTS_ITS_BYTES: Case = (
     "cluster 3 3\ntenant 0 7 4 8 4096 4\nmake 0 7 1 eager 0,1,2 8 4096 4\nopen 0 7 1\ntenant 1 7 4 8 4096 4\nmake 1 7 1 beb 0,1,2 8 3 4\nopen 1 7 1\ntenant 2 7 4 8 4096 4\nmake 2 7 1 beb 0,1,2 8 4096 4\nopen 2 7 1\nsay 2 7 1 6161\npack 2 1\nsay 2 7 1 6262\npack 2 1\npack 2 0\narrive 3\npack 0 1\narrive 4\narrive 2\nfetch 1 7 1 0 16\narrive 1\nfetch 1 7 1 0 16\n",
     "ok\nok\nok\nok\nok\nok\nok\nok\nok\nok\nsaid 1\npacket 1\nsaid 2\npacket 2\npacket 3\ngood first 2 0\npacket 4\ngood first 2 0\ngood first 1 0\nlog 0\ngood first 1 0\nlog 1 2:1:6161\n",
     SimEnd::All,
 );
 
-pub const ITEMS_OF_A_FRAME_COME_ONE_BY_ONE: Case = (
+const ITEMS_OF_A_FRAME_COME_ONE_BY_ONE: Case = (
     "cluster 3 3\ntenant 0 7 4 8 4096 4\nmake 0 7 1 allack 0,1,2 8 4096 4\nopen 0 7 1\ntenant 1 7 4 8 4096 4\nmake 1 7 1 allack 0,1,2 8 4096 4\nopen 1 7 1\ntenant 2 7 4 8 4096 4\nmake 2 7 1 allack 0,1,2 8 4096 4\nopen 2 7 1\nsay 2 7 1 61\npack 2 0\npack 2 1\nsay 2 7 1 62\npack 2 0\npack 2 1\narrive 1\narrive 3\nfetch 0 7 1 0 16\narrive 4\narrive 2\npack 1 0\narrive 5\nfetch 0 7 1 0 16\n",
     "ok\nok\nok\nok\nok\nok\nok\nok\nok\nok\nsaid 1\npacket 1\npacket 2\nsaid 2\npacket 3\npacket 4\ngood first 1 0\ngood first 1 0\nlog 0\ngood first 1 0\ngood first 1 0\npacket 5\ngood first 2 0\nlog 2 2:2:62 2:1:61\n",
     SimEnd::All,
 );
 
-pub const PLACE_OF_A_DROPPED_GROUP: Case = (
+const PLACE_OF_A_DROPPED_GROUP: Case = (
     "cluster 1 2\ntenant 0 7 4 8 4096 4\nmake 0 7 1 beb 0 8 4096 4\nopen 0 7 1\nmake 0 7 2 beb 0 8 4096 4\nopen 0 7 2\nsay 0 7 1 61\ndrop 0 7 1\nmake 0 7 3 beb 0 8 4096 4\nopen 0 7 3\nfetch 0 7 3 0 16\nsay 0 7 3 63\nfetch 0 7 2 0 16\nfetch 0 7 1 0 16\n",
     "ok\nok\nok\nok\nok\nok\nsaid 1\nok\nok\nok\nlog 0\nsaid 1\nlog 0\nrefused 3 Spent\n",
     SimEnd::All,
 );
 
 // Each `*` is a payload of 1,024 bytes.
-pub const FULL_FRAME: Text = (
+const FULL_FRAME: Text = (
     "cluster 2 3\ntenant 0 7 4 8 65536 8\nmake 0 7 1 beb 0,1 8 65536 8\nopen 0 7 1\ntenant 1 7 4 8 65536 8\nmake 1 7 1 beb 0,1 8 65536 8\nopen 1 7 1\nsay 0 7 1 *\nsay 0 7 1 *\nsay 0 7 1 *\nsay 0 7 1 *\nsay 0 7 1 *\nsay 0 7 1 *\nsay 0 7 1 *\nsay 0 7 1 *\npack 0 1\narrive 1\npack 0 1\narrive 2\n",
     "ok\nok\nok\nok\nok\nok\nok\nsaid 1\nsaid 2\nsaid 3\nsaid 4\nsaid 5\nsaid 6\nsaid 7\nsaid 8\npacket 1\ngood first 7 0\npacket 2\ngood first 1 0\n",
 );
 
 // Each `*` is a payload of 1,024 bytes. The group after the last is the first one, also where another is made later.
-pub const CURSOR_GOES_ROUND: Text = (
+const CURSOR_GOES_ROUND: Text = (
     "cluster 2 3\ntenant 0 7 4 16 65536 16\ntenant 1 7 4 16 65536 16\nmake 0 7 0 beb 0,1 16 65536 16\nopen 0 7 0\nmake 0 7 1 beb 0,1 16 65536 16\nopen 0 7 1\nmake 1 7 0 beb 0,1 16 65536 16\nopen 1 7 0\nmake 1 7 1 beb 0,1 16 65536 16\nopen 1 7 1\nsay 0 7 0 61\nsay 0 7 1 61\npack 0 1\narrive 1\nmake 0 7 2 beb 0,1 16 65536 16\nopen 0 7 2\nmake 1 7 2 beb 0,1 16 65536 16\nopen 1 7 2\nsay 0 7 0 *\nsay 0 7 0 *\nsay 0 7 0 *\nsay 0 7 0 *\nsay 0 7 0 *\nsay 0 7 0 *\nsay 0 7 0 *\nsay 0 7 2 *\nsay 0 7 2 *\nsay 0 7 2 *\nsay 0 7 2 *\nsay 0 7 2 *\nsay 0 7 2 *\nsay 0 7 2 *\npack 0 1\narrive 2\nfetch 1 7 0 5 16\nfetch 1 7 0 6 16\nfetch 1 7 2 3 16\nfetch 1 7 2 4 16\n",
     "ok\nok\nok\nok\nok\nok\nok\nok\nok\nok\nok\nsaid 1\nsaid 1\npacket 1\ngood first 2 0\nok\nok\nok\nok\nsaid 2\nsaid 3\nsaid 4\nsaid 5\nsaid 6\nsaid 7\nsaid 8\nsaid 1\nsaid 2\nsaid 3\nsaid 4\nsaid 5\nsaid 6\nsaid 7\npacket 2\ngood first 7 0\nlog 0\nrefused 11 BadPlace\nlog 0\nrefused 11 BadPlace\n",
 );
 
 // Each refusal where the next one in the order holds as well. Each `*` is a payload of 1,025 bytes.
-pub const ORDER_OF_REFUSALS: Text = (
+const ORDER_OF_REFUSALS: Text = (
     "cluster 2 3\ntenant 0 0 4 8 64 4\ntenant 0 7 4 8 64 4\ntenant 0 7 0 8 64 4\ntenant 0 7 257 8 64 4\ntenant 0 7 4 0 64 4\ntenant 0 7 4 1025 64 4\ntenant 0 7 4 8 65537 4\ntenant 0 7 4 8 64 0\ntenant 0 7 4 8 64 1025\ntenant 0 7 256 8 64 4\ntenant 0 8 256 8 64 4\ntenant 0 9 256 8 64 4\ntenant 0 10 256 8 64 4\ntenant 0 11 253 8 64 4\ntenant 0 7 253 8 64 4\ntenant 0 11 252 8 64 4\ntenant 0 12 1 8 64 4\ntenant 0 12 257 8 64 4\nmake 0 99 300 beb 1 9 64 4\nmake 0 7 4 beb 1 9 64 4\nmake 0 7 1 beb 1 9 64 4\nmake 0 7 1 beb 0,2 9 64 4\nmake 0 7 1 beb 0 9 64 4\nmake 0 7 1 beb 0 0 64 4\nmake 0 7 1 beb 0 8 65 4\nmake 0 7 1 beb 0 8 64 5\nmake 0 7 1 beb 0 8 64 0\nmake 0 7 1 beb 0,1 2 3 1\nmake 0 7 1 beb 1 9 64 4\nfetch 0 7 2 9 99\nopen 0 7 2\nsay 0 7 2 *\nsay 0 7 1 *\nshut 0 7 1\nopen 0 7 1\nopen 0 7 1\nsay 0 7 1 *\nsay 0 7 1 6162\nsay 0 7 1 6162\nsay 0 7 1 61\ntick 0\ntick 0\ntick 0\nsay 0 7 1 61\nsay 0 7 1 61\nsay 0 7 1 *\nfetch 0 7 1 3 16\nfetch 0 7 1 2 17\nfetch 0 7 1 2 16\nfetch 0 7 1 0 0\nshut 0 7 1\nshut 0 7 1\nopen 0 7 1\nsay 0 7 1 *\ndrop 0 7 1\ndrop 0 7 1\nshut 0 7 1\nopen 0 7 1\nfetch 0 7 1 9 99\nsay 0 7 1 *\nmake 0 7 1 beb 1 9 64 4\nforge 0 7 1\nforge 0 7 2\nstop 0\nforge 0 7 1\nmake 0 99 300 beb 1 9 64 4\ntenant 0 7 0 8 64 4\ndrop 0 7 1\nfetch 0 7 1 9 99\npack 0 1\nagain 0 1 0\nack 0 1\npack 0 0\ntick 0\nstop 0\nnoise 0 -\narrive 0\narrive 1\n",
     "ok\nrefused 5 OverReserve\nok\nrefused 5 OverReserve\nrefused 5 OverReserve\nrefused 5 OverReserve\nrefused 5 OverReserve\nrefused 5 OverReserve\nrefused 5 OverReserve\nrefused 5 OverReserve\nrefused 13 TenantThere\nok\nok\nok\nrefused 12 NoRoom\nrefused 13 TenantThere\nok\nrefused 12 NoRoom\nrefused 5 OverReserve\nrefused 1 Denied\nrefused 2 NoGroup\nrefused 4 BadMembers\nrefused 4 BadMembers\nrefused 5 OverReserve\nrefused 5 OverReserve\nrefused 5 OverReserve\nrefused 5 OverReserve\nrefused 5 OverReserve\nok\nrefused 3 Spent\nrefused 2 NoGroup\nrefused 2 NoGroup\nrefused 2 NoGroup\nrefused 6 WrongPhase\nrefused 6 WrongPhase\nok\nrefused 6 WrongPhase\nrefused 7 TooLong\nsaid 1\nrefused 9 Bytes\nrefused 10 Window\nnoticed -\nnoticed -\nnoticed 1\nsaid 2\nrefused 8 Budget\nrefused 7 TooLong\nrefused 11 BadPlace\nrefused 11 BadPlace\nlog 0\nlog 0\nok\nrefused 6 WrongPhase\nrefused 6 WrongPhase\nrefused 6 WrongPhase\nok\nrefused 3 Spent\nrefused 3 Spent\nrefused 3 Spent\nrefused 3 Spent\nrefused 3 Spent\nrefused 3 Spent\nrefused 1 Denied\nrefused 1 Denied\nok\nrefused 15 Stopped\nrefused 15 Stopped\nrefused 15 Stopped\nrefused 15 Stopped\nrefused 15 Stopped\nrefused 15 Stopped\nrefused 15 Stopped\nrefused 15 Stopped\nrefused 15 Stopped\nrefused 15 Stopped\nrefused 15 Stopped\nrefused 15 Stopped\nno packet\nno packet\n",
 );
 
 // A group of two nodes.
-pub const TWO_NODES: Text = (
+const TWO_NODES: Text = (
     "cluster 2 3\ntenant 0 7 4 8 4096 4\nmake 0 7 1 beb 0,1 8 4096 4\nopen 0 7 1\ntenant 1 7 4 8 4096 4\nmake 1 7 1 beb 0,1 8 4096 4\nopen 1 7 1\n",
     "ok\nok\nok\nok\nok\nok\nok\n",
 );
@@ -246,7 +257,273 @@ pub const UNTAGGED: &str =
     "47420100010000000000000001000000000000000000000000000000010001000700010000010001610000000000000000";
 
 // The same with a byte changed, in the order of the faults; in one line it has eight items of 1,024 bytes, each a `*`.
-pub const DAMAGED: Text = (
+const DAMAGED: Text = (
     "noise 1 00420100010000000000000001000000000000000000000000000000010001000700010000010001610000000000000000\nnoise 1 47420200010000000000000001000000000000000000000000000000010001000700010000010001610000000000000000\nnoise 1 47420100000000000000000001000000000000000000000000000000010001000700010000010001610000000000000000\nnoise 1 47420100010000000000000001000000000000000100000000000000010001000700010000010001610000000000000000\nnoise 1 47420100010000000000000000000000000000000000000000000000010001000700010000010001610000000000000000\nnoise 1 47420100010000000000000001000000000000000000000000000000000001000700010000010001610000000000000000\nnoise 1 47420100010000000000000001000000000000000000000000000000010000000700010000010001610000000000000000\nnoise 1 47420100010000000000000001000000000000000000000000000000010001000700010000010401610000000000000000\nnoise 1 4742010001000000000000000100000000000000000000000000000001000100070001000001000161000000000000000000\nnoise 1 47420100010000000000000001000000000000000000000000000000010008000700010000010400*000700010000020400*000700010000030400*000700010000040400*000700010000050400*000700010000060400*000700010000070400*000700010000080400*0000000000000000\nnoise 1 47420100010000000000000001000000000000000000000000000000010001000700010000010001610000000000000000\nfetch 1 7 1 0 16\n",
     "fault 2 Magic\nfault 3 Version\nfault 4 Node\nfault 5 Mask\nfault 5 Mask\nfault 6 Count\nfault 6 Count\nfault 7 Length\nfault 8 Trailing\nfault 9 TooLong\nfault 10 Tag\nlog 0\n",
 );
+
+pub const IN_ANY_PIECES: &[Case] = &[
+    EMPTY_PAYLOAD,
+    PACKET_ARRIVES_TWICE,
+    UNKNOWN_WORD,
+    NODES_WITH_UNLIKE_GROUPS,
+    STOPPED_NODE_REFUSES_ALL,
+    ACKNOWLEDGED_FRAME_IS_NOT_GIVEN_AGAIN,
+    NOTHING_IS_SENT_TO_NO_OTHER_NODE,
+    NOTICED_NODES_ARE_CUT_OFF,
+    ("", "", SimEnd::All),
+];
+
+pub const OF_THE_KINDS: &[Case] = &[
+    SMALLEST_GROUP,
+    FIFO_HOLDS_BACK_WHAT_COMES_EARLY,
+    PLAIN_BROADCAST_HOLDS_NOTHING_BACK,
+    LAZY_RELAYS_FOR_A_CRASHED_ORIGIN,
+    GROUP_MADE_AFTER_A_NOTICE,
+    NODES_WITH_UNLIKE_KINDS,
+    PLACES_OF_A_LOG,
+    ALL_ACK_WAITS_FOR_EACH_MEMBER,
+    FRAMES_GIVEN_AGAIN_IN_FIFO_ORDER,
+    NOTICES_OF_ONE_TICK_COUNT_IN_TURN,
+];
+
+pub const OF_BYTES_WINDOWS_AND_DROPS: &[Case] = &[
+    BUDGET_IS_JUDGED_BEFORE_THE_WINDOW,
+    WINDOW_OF_ONE,
+    DROPPED_GROUP_LETS_ITEMS_FALL,
+    CARRIED_ITEMS_COME_AFTER_A_DROP,
+    PLACE_OF_A_DROPPED_GROUP,
+];
+
+pub const AT_THEIR_LIMITS: &[Case] = &[
+    TENANTS_AT_THEIR_LIMITS,
+    GROUPS_AT_THEIR_LIMITS,
+    LAST_OF_SIXTEEN_NODES,
+];
+
+pub const OF_TENANTS_FRAMES_AND_NOISE: &[Case] = &[
+    REPEATED_FRAME_OF_THREE_GROUPS,
+    FORGED_TOKENS,
+    ONE_TENANT_ALONE,
+    TWO_TENANTS_SHARE_FRAMES,
+    NOISE_IS_NOT_HEARD,
+    PACKETS_ARE_NO_NOISE,
+    RELAYED_COPY_COUNTS_ITS_BYTES,
+    ITEMS_OF_A_FRAME_COME_ONE_BY_ONE,
+];
+
+pub const AT_THEIR_EDGES: &[Case] = &[
+    ("cluster 1 2", "ok\n", SimEnd::All),
+    ("cluster 16 1000", "ok\n", SimEnd::All),
+    (
+        "cluster 16 1001\n",
+        "bad line 1\n",
+        SimEnd::BadLine(1, BadLine::NoCluster),
+    ),
+    (
+        "cluster 1 1\n",
+        "bad line 1\n",
+        SimEnd::BadLine(1, BadLine::NoCluster),
+    ),
+    (
+        "cluster 0 2\n",
+        "bad line 1\n",
+        SimEnd::BadLine(1, BadLine::NoCluster),
+    ),
+    ("\n# a comment\n\ncluster 1 2\n\n", "ok\n", SimEnd::All),
+    (
+        "\n# a comment\n\ncluster 1 2\ncluster 1 2\n",
+        "ok\nbad line 5\n",
+        SimEnd::BadLine(5, BadLine::NoCommand),
+    ),
+    (
+        "cluster 1 2\r\n",
+        "bad line 1\n",
+        SimEnd::BadLine(1, BadLine::NoCluster),
+    ),
+    (
+        "cluster 1 2\nhello",
+        "ok\nbad line 2\n",
+        SimEnd::BadLine(2, BadLine::NoCommand),
+    ),
+    (
+        "cluster 17 2\n",
+        "bad line 1\n",
+        SimEnd::BadLine(1, BadLine::NoCluster),
+    ),
+    (
+        "cluster 1 2\npack 0 1\n",
+        "ok\nbad line 2\n",
+        SimEnd::BadLine(2, BadLine::NoCommand),
+    ),
+    (
+        "arrive 1\n",
+        "bad line 1\n",
+        SimEnd::BadLine(1, BadLine::NoCluster),
+    ),
+    (
+        "cluster 1 2\narrive 1\narrive 01\narrive 1\n",
+        "ok\nno packet\nbad line 3\n",
+        SimEnd::BadLine(3, BadLine::NoCommand),
+    ),
+];
+
+pub const IN_LOWER_CASE: &[Case] = &[(
+    "cluster 1 2\ntenant 0 7 4 8 4096 4\nmake 0 7 1 beb 0 8 4096 4\nopen 0 7 1\nsay 0 7 1 C0fFEe\nfetch 0 7 1 0 16\n",
+    "ok\nok\nok\nok\nsaid 1\nlog 1 0:1:c0ffee\n",
+    SimEnd::All,
+)];
+
+pub const LONG_PAYLOADS: &[Built] = &[
+    (1_024, &[(FULL_FRAME, 0, 1)]),
+    (1_024, &[(CURSOR_GOES_ROUND, 0, 1)]),
+    (1_025, &[(ORDER_OF_REFUSALS, 0, 1)]),
+];
+
+// Each front of a packet is no packet; nor is one with a byte changed; nothing is delivered of it.
+pub const DAMAGED_PACKETS: &[Built] = &[(
+    1_024,
+    &[
+        (TWO_NODES, 0, 1),
+        (("noise 1 -\n", "fault 1 Short\n"), 0, 1),
+        (("noise 1 %\n", "fault 1 Short\n"), 1, 39),
+        (("noise 1 %\n", "fault 7 Length\n"), 39, 49),
+        (DAMAGED, 0, 1),
+    ],
+)];
+
+// Each message is said and packed.
+const SAY_AND_PACK: Text = ("say 0 7 1 61\npack 0 1\n", "said #\npacket #\n");
+
+// What waits to be sent in a full link's frames keeps no other tenant from saying.
+pub const FULL_LINK: &[Built] = &[(
+    0,
+    &[
+        (
+            (
+                "cluster 2 3\ntenant 0 7 4 100 4096 100\ntenant 0 8 4 8 4096 4\nmake 0 7 1 beb 0,1 100 4096 100\nmake 0 8 1 beb 0,1 8 4096 4\nopen 0 7 1\nopen 0 8 1\n",
+                "ok\nok\nok\nok\nok\nok\nok\n",
+            ),
+            0,
+            1,
+        ),
+        (SAY_AND_PACK, 1, 65),
+        (
+            (
+                "say 0 7 1 61\npack 0 1\nsay 0 8 1 61\npack 0 1\nfetch 0 8 1 0 16\n",
+                "said 65\nnothing\nsaid 1\nnothing\nlog 1 0:1:61\n",
+            ),
+            0,
+            1,
+        ),
+    ],
+)];
+
+// The last of 1,024 messages is said, and one more is refused.
+pub const ALL_MESSAGES: &[Built] = &[(
+    0,
+    &[
+        (
+            (
+                "cluster 1 2\ntenant 0 7 4 1024 65536 1024\nmake 0 7 1 beb 0 1024 65536 1024\nopen 0 7 1\n",
+                "ok\nok\nok\nok\n",
+            ),
+            0,
+            1,
+        ),
+        (("say 0 7 1 78\n", "said #\n"), 1, 1_025),
+        (("say 0 7 1 78\n", "refused 8 Budget\n"), 0, 1),
+    ],
+)];
+
+// A payload of 1,024 bytes is said and comes, and one of 1,025 is refused; so all bytes of the group are said.
+pub const LONGEST_PAYLOAD: &[Built] = &[(
+    1_024,
+    &[(
+        (
+            "cluster 2 2\ntenant 0 7 4 8 65536 4\nmake 0 7 1 beb 0,1 8 1024 4\nopen 0 7 1\ntenant 1 7 4 8 65536 4\nmake 1 7 1 beb 0,1 8 1024 4\nsay 0 7 1 *61\nsay 0 7 1 *\nsay 0 7 1 61\nsay 0 7 1 -\npack 0 1\narrive 1\nfetch 1 7 1 0 16\n",
+            "ok\nok\nok\nok\nok\nok\nrefused 7 TooLong\nsaid 1\nrefused 9 Bytes\nsaid 2\npacket 1\ngood first 2 0\nlog 2 0:1:* 0:2:-\n",
+        ),
+        0,
+        1,
+    )],
+)];
+
+// 64 frames that are not acknowledged fill a link; an acknowledgement of the first makes room for one more.
+pub const WINDOW_OF_64_FRAMES: &[Built] = &[(
+    0,
+    &[
+        (
+            (
+                "cluster 2 3\ntenant 0 7 4 100 4096 100\nmake 0 7 1 beb 0,1 100 4096 100\nopen 0 7 1\n",
+                "ok\nok\nok\nok\n",
+            ),
+            0,
+            1,
+        ),
+        (SAY_AND_PACK, 1, 65),
+        (
+            (
+                "say 0 7 1 61\npack 0 1\narrive 1\nack 1 0\narrive 65\npack 0 1\narrive 66\n",
+                "said 65\nnothing\ngood first 1 0\npacket 65\ngood none 0 1\npacket 66\ngood first 1 0\n",
+            ),
+            0,
+            1,
+        ),
+    ],
+)];
+
+pub const LONGEST_LINES: &[Repeated] = &[
+    (b'#', 32_768, 1, "", SimEnd::All),
+    (
+        b'#',
+        32_769,
+        1,
+        "bad line 1\n",
+        SimEnd::BadLine(1, BadLine::TooLong),
+    ),
+];
+
+pub const MOST_LINES: &[Repeated] = &[
+    (b'\n', 1_000_000, 1_000_001, "", SimEnd::All),
+    (
+        b'\n',
+        1_000_001,
+        1_000_001,
+        "bad line 1000001\n",
+        SimEnd::BadLine(1_000_001, BadLine::TooMany),
+    ),
+];
+
+/// Lines, one a read, and how many bytes are flushed before.
+pub const ASKED: &[(&str, usize)] = &[
+    ("cluster 1 2\n", 0),
+    ("# a comment\n", 3),
+    ("arrive 1\narri", 3),
+    ("ve 2\n", 13),
+    ("tick 0\n", 23),
+];
+
+/// How a schedule ends, and the line that is told of it.
+pub const COMPLAINTS: &[(Result<SimEnd, SimFault>, &str)] = &[
+    (Ok(SimEnd::All), ""),
+    (
+        Ok(SimEnd::BadLine(18_446_744_073_709_551_615, BadLine::TooLong)),
+        "bad line 18446744073709551615: it is too long\n",
+    ),
+    (
+        Ok(SimEnd::BadLine(1_000_001, BadLine::TooMany)),
+        "bad line 1000001: there are too many lines\n",
+    ),
+    (
+        Ok(SimEnd::BadLine(1, BadLine::NoCluster)),
+        "bad line 1: it starts no cluster, and none was started before\n",
+    ),
+    (
+        Ok(SimEnd::BadLine(3, BadLine::NoCommand)),
+        "bad line 3: it spells no command of the cluster\n",
+    ),
+    (Err(SimFault::Read), "a read failed\n"),
+    (Err(SimFault::Write), "a write failed\n"),
+    (Err(SimFault::OutOfMemory), "out of memory\n"),
+];
