@@ -83,9 +83,6 @@ insert-union s t k =
 pub union-empty : (s : set.FinSet nat_cmp) → set.union s set.empty ≡ s
 union-empty s = same_nodes _ _ (λ q. contains-either s _ q ∙ (ap (λ b. set.contains s q || b) (set.contains-empty nat_cmp q) ∙ or-false _))
 
-pub union-of_empty : (s : set.FinSet nat_cmp) → set.union set.empty s ≡ s
-union-of_empty s = same_nodes _ _ (λ q. contains-either _ s q ∙ ap (λ b. b || set.contains s q) (set.contains-empty nat_cmp q))
-
 -- the nodes below n of a set that grew by nodes below n
 pub nodes_where-union : (n : ℕ) (s : set.FinSet nat_cmp) (p : ℕ → Bool)
     → nodes_where n (set.contains (set.union s (nodes_where n (set.contains (nodes_where n p))))) ≡ set.union (nodes_where n (set.contains s)) (nodes_where n p)

@@ -131,6 +131,7 @@ impl SpacedSender<Vec<u8>> {
         ensures window { self.new.window ≡ self.old.window }
         ensures spaced { self.new.spaced ≡ self.old.spaced }
         ensures spare { self.new.spare.items ≡ [] }
+        ensures memory { vec_capacity self.new.spare ≡ vec_capacity frame }
     {
         frame.clear();
         self.spare = frame;
