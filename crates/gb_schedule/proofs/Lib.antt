@@ -3,6 +3,7 @@ pub mod LineSplitLemmas
 pub mod LeftLemmas
 pub mod CutLemmas
 pub mod RowLemmas
+pub mod WordLemmas
 pub mod CommandLemmas
 pub mod SilentLemmas
 pub mod PlaceLemmas

@@ -10,6 +10,7 @@ ghost use Rattle.gb_schedule.specs.Grammar.{SpellsCluster, SpellsTenant, SpellsM
 use crate::command::Command;
 use crate::head::{Head, read_head};
 use crate::keys::{Keys, NO_TOKEN, tenant_key};
+use crate::words::{WORDS, words_in};
 use gb_types::limits::{NODES, SILENCE_MAX, SILENCE_MIN};
 use gb_types::memory::OutOfMemory;
 use gb_types::node::NodeId;
@@ -19,7 +20,6 @@ use gb_types::payload_word::read_payload;
 use gb_types::request::Request;
 use gb_types::request_words::{read_address, read_spec, read_u16, read_u32};
 use gb_types::spec::TenantRow;
-use smallvec::SmallVec;
 use std::alloc::Global;
 
 // A number from the least to the most.
@@ -344,15 +344,6 @@ fn read_arguments(
     }
 }
 
-// The words of a line. No line that spells a command has more than fit with no memory.
-fn words_in(alloc: Global, line: &[u8]) -> Result<SmallVec<&[u8], 10>, OutOfMemory>
-    ensures { IfOk result (λ words. map (λ word. word.now) words.items ≡ words_of line.now) }
-{
-    let mut words = SmallVec::new(alloc);
-    words.extend(line.split(|byte| *byte == b' '))?;
-    Ok(words)
-}
-
 /// The command that a line spells, or None where it spells none. `nodes` is how many nodes the
 /// cluster has, once there is one. Each request comes with its token, but a forged one.
 pub fn read_command(
@@ -366,8 +357,12 @@ pub fn read_command(
         ↔ IsCommandLine nodes line.now command) }
     ensures in_place { IfOk result (λ found. IfSome found (IsInPlace nodes)) }
 {
-    let words = words_in(alloc, line)?;
-    let [head, arguments @ ..] = words.as_slice() else {
+    let mut space: [&[u8]; WORDS] = [line; WORDS];
+    let Some(count) = words_in(line, &mut space) else {
+        return Ok(None);
+    };
+    let words = &space[..count];
+    let [head, arguments @ ..] = words else {
         return Ok(None);
     };
     let Some(head) = read_head(head) else {

@@ -8,3 +8,4 @@ pub mod grammar;
 pub mod head;
 pub mod keys;
 pub mod lines;
+mod words;

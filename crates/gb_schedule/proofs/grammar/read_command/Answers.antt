@@ -1,15 +1,23 @@
-use Rattle.std.proofs.Common.{sym, ap, map, ◌∙◌, arith}
+use Rattle.std.proofs.Common.{take, sym, ◌∙◌}
 use Rattle.std.specs.Result.{IfOk}
+use Rattle.std.proofs.lemmas.List.{length-take-le}
 use Rattle.gb_schedule.specs.Grammar.{IsCommandLine}
 use Rattle.gb_types.proofs.ReadLemmas.{words_and_rest}
 use Rattle.gb_schedule.proofs.CommandLemmas.{Finds, command_found}
 use Rattle.gb_schedule.proofs.PlaceLemmas.{command_in_place}
 use Rattle.gb_schedule.proofs.grammar.read_command.Goals as goal
 
+pub slice_bounds-space-end : goal.slice_bounds-space-end
+slice_bounds-space-end c = c.in-Some.ensures.found.0
+
+pub slice_bounds-words-end : goal.slice_bounds-words-end
+slice_bounds-words-end c = sym (length-take-le c.in-Some.count c.words_in.new.words c.in-Some.ensures.found.0)
+
 pub returns : goal.returns
 returns c =
+    let words = take c.in-Some.count c.words_in.new.words in
     let finds : IfOk c.read_arguments.result (Finds (IsCommandLine c.args.nodes c.args.line.now)) =
-    command_found c.args.nodes c.args.line.now c.in-Some.head _ _ c.read_arguments.result
-    (sym c.in_ok-words.ensures ∙ ap (map (λ word. word.now)) (sym c.as_slice.ensures) ∙ words_and_rest c.as_slice.result.now _ 1 (omega arith))
-    c.in-Some.ensures c.read_arguments.ensures in
+    command_found c.args.nodes c.args.line.now c.in-Some-read_head.head _ _ c.read_arguments.result
+    (sym c.in-Some.ensures.found.1 ∙ words_and_rest words _ 1 c.in-len1-up.len_at_least)
+    c.in-Some-read_head.ensures c.read_arguments.ensures in
     record { spelt = finds; in_place = command_in_place c.args.nodes c.args.line.now c.read_arguments.result finds }
