@@ -71,6 +71,7 @@ pub struct LineBuffer {
 }
 
 // The first line feed from `from` up to `to`.
+#[inline(always)]
 fn line_feed_within(bytes: &[u8], from: usize, to: usize) -> Option<usize>
     requires ordered { from ≤ to }
     requires within { to ≤ length bytes.now }

@@ -156,6 +156,7 @@ impl Layer for Stack {
         }
     }
 
+    #[inline(always)]
     fn take(&mut self, call: Call, out: &mut Effects) {
         match self {
             Stack::Unordered(layer) => layer.take(call, out),
