@@ -33,6 +33,10 @@ pub fn put_number(out: &mut Vec<u8>, number: u64) -> Result<(), OutOfMemory>
     ensures ok { OnOk result (out.new.items ≡ out.old.items ++ decimal number) }
     ensures err { OnErr result (out.new.items ≡ out.old.items) }
 {
+    if number < 10 {
+        out.push(b'0' + number as u8)?;
+        return Ok(());
+    }
     let mut digits = Buffer::new();
     out.extend_from_slice(digits.format(number).as_bytes())?;
     Ok(())
