@@ -14,6 +14,7 @@ fn begins_badly(word: &[u8]) -> bool
 }
 
 /// The number that a word spells, where it is `max` at most. A word of any length is answered.
+#[inline(always)]
 pub fn read_number(word: &[u8], max: u64) -> Option<u64>
     ensures { (n : ℕ) → (result ≡ Some n) ↔ ((n ≤ max) × (word.now ≡ decimal n)) }
 {
@@ -29,6 +30,7 @@ pub fn read_number(word: &[u8], max: u64) -> Option<u64>
 }
 
 /// Appends a number. Without memory nothing has changed.
+#[inline(always)]
 pub fn put_number(out: &mut Vec<u8>, number: u64) -> Result<(), OutOfMemory>
     ensures ok { OnOk result (out.new.items ≡ out.old.items ++ decimal number) }
     ensures err { OnErr result (out.new.items ≡ out.old.items) }
