@@ -24,6 +24,7 @@ use Rattle.gb_rules.specs.LetFall.{is_let_fall}
 use Rattle.gb_rules.specs.declared.usage.Usage.{Usage}
 use Rattle.gb_slot.specs.Arrivals.{nodes_of}
 use Rattle.gb_slot.specs.Reached.{IsReached, limit_of, most_messages, most_bytes}
+use Rattle.gb_slot.specs.Outgoing.{put_messages}
 use Rattle.gb_slot.specs.Representation.{state_of, HasMemory}
 use Rattle.gb_slot.specs.Slot.{usage_of, waiting, taken_for, slot_said, falls}
 use Rattle.gb_slot.specs.SlotState.{SlotState}
@@ -52,13 +53,14 @@ places_in_log s next ups m r same is =
     omega (arith, few, count, all, len, there, same)
 
 -- and what is sent among those that are put out
-pub places_put_out : (s : Inside) (next : SlotState) (sends : List MsgId) → HasMemory s → IsReached next → most_messages next.spec ≡ most_messages s.spec → next.outgoing ≡ s.outgoing.items ++ sends → vec_len s.outgoing + length sends ≤ vec_capacity s.outgoing
+pub places_put_out : (s : Inside) (next : SlotState) (sends : List MsgId) → HasMemory s → IsReached next → most_messages next.spec ≡ most_messages s.spec → next.outgoing ≡ put_messages s.outgoing.items ++ sends → vec_len s.outgoing + length sends ≤ vec_capacity s.outgoing
 places_put_out s next sends m r same is =
     let few = few_outgoing next r in
-    let count : length next.outgoing ≡ length s.outgoing.items + length sends = ap length is ∙ length-append s.outgoing.items sends in
+    let count : length next.outgoing ≡ length (put_messages s.outgoing.items) + length sends = ap length is ∙ length-append (put_messages s.outgoing.items) sends in
+    let all : length (put_messages s.outgoing.items) ≡ length s.outgoing.items = length-map s.outgoing.items (λ o. o.m) in
     let len = s.outgoing.ok.0 in
     let there = m.outgoing in
-    omega (arith, few, count, len, there, same)
+    omega (arith, few, count, all, len, there, same)
 
 -- a message that becomes known has its place in the store
 pub place_in_store : (s : Inside) (next : SlotState) (x : Entry) → HasMemory s → IsReached next → most_messages next.spec ≡ most_messages s.spec → next.store ≡ s.store.entries ++ x ∷ [] → length s.store.entries < s.store.places
@@ -106,4 +108,5 @@ few_wait s now b at view is r =
     let few = waiting_few (held s) b (r.stands.taken b) in
     let same : length (waiting now b) ≡ length (waiting (held s) b) = ap (λ (v : SlotState). length (waiting v b)) (sym view) in
     let place : slice_index_or s.taken at 0 ≡ taken_for (held s) b = ap (λ k. slice_index_or s.taken k 0) is in
-    omega (arith, few, same, place)
+    let all : length (put_messages s.outgoing.items) ≡ length s.outgoing.items = length-map s.outgoing.items (λ o. o.m) in
+    omega (arith, few, same, place, all)

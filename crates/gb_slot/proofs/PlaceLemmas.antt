@@ -1,14 +1,19 @@
 -- What stands at the place of a message.
-use Rattle.std.proofs.Common.{◌≡◌, ℕ, zero, suc, ◌≤◌, ◌<◌, ◌||◌, Bool, true, false, List, [], ◌∷◌, length, take, set, get_or, slice_get, Some, None, refl, sym, ◌∙◌, ap, arith}
-use Rattle.std.specs.Prelude.{Option, slice_range, is_some, if◌then◌else◌}
+use Rattle.std.proofs.Common.{◌≡◌, ℕ, zero, suc, ◌≤◌, ◌<◌, ◌||◌, Bool, true, false, List, [], ◌∷◌, ◌++◌, length, take, set, get_or, slice_get, Some, None, refl, sym, ◌∙◌, ap, subst, arith}
+use Rattle.std.specs.Prelude.{Option, MatchOption, map, slice_range, is_some, if◌then◌else◌}
 use Rattle.std.specs.Ordering.{nat_cmp}
 use Rattle.std.specs.FinSet as nodes
-use Rattle.std.specs.List.{list_any}
+use Rattle.std.specs.List.{list_any, IsDistinct, AllByRecursion}
 use Rattle.std.proofs.Math.Bool.{or-true}
+use Rattle.std.proofs.lemmas.List.{map-append}
+use Rattle.std.proofs.lemmas.Option.{get_or_from_slice_get}
 use Rattle.gb_types.specs.declared.message.MsgId.{MsgId}
 use Rattle.gb_types.specs.declared.node.NodeId.{NodeId}
+use Rattle.gb_types.specs.Entry.{message_of}
 use Rattle.gb_types.specs.Message.{same}
+use Rattle.gb_types.proofs.SameLemmas.{same-true}
 use Rattle.gb_layer.specs.Bools.{or_left, or_right}
+use Rattle.gb_layer.specs.WholeLemmas.{once_grown}
 use Rattle.gb_history.specs.Messages.{has, payload_in}
 use Rattle.gb_slot.specs.Arrivals.{Arrival, has_arrival, nodes_of, with_node}
 use Rattle.gb_slot.specs.declared.store.Kept.{Kept}
@@ -128,3 +133,49 @@ pub inside_at : (bytes : List ℕ) (kept : List Kept) (i : ℕ) (d e : Kept) →
 inside_at bytes [] i d e inside lt = absurd (omega arith)
 inside_at bytes (k ∷ kept) zero d e inside lt = (inside.0, inside.1)
 inside_at bytes (k ∷ kept) (suc i) d e inside lt = let less : i < length kept = omega (arith, lt) in inside_at bytes kept i d e inside.2 less
+
+-- a test that fails for each message fails for the one at a place
+apart_at : (t : MsgId → Bool) (kept : List Kept) (i : ℕ) (d : Kept) → AllByRecursion (λ y. t y ≡ false) (messages_of kept) → i < length kept → t (get_or kept i d).m ≡ false
+apart_at t [] i d apart lt = absurd (omega arith)
+apart_at t (k ∷ kept) zero d apart lt = apart.0
+apart_at t (k ∷ kept) (suc i) d apart lt = let less : i < length kept = omega (arith, lt) in apart_at t kept i d apart.1 less
+
+module _ (m : MsgId) where
+  -- where each message stands once none stands before its place
+  none_earlier : (kept : List Kept) (i : ℕ) (d : Kept) → IsDistinct same (messages_of kept) → i < length kept → is_of m (get_or kept i d) ≡ true → list_any (is_of m) (take i kept) ≡ false
+  unfolding IsDistinct
+  none_earlier [] i d once lt is = absurd (omega arith)
+  none_earlier (k ∷ kept) zero d once lt is = refl
+  none_earlier (k ∷ kept) (suc i) d once lt is =
+      let less : i < length kept = omega (arith, lt) in
+      let other : is_of m k ≡ false = ap (same k.m) (sym (same-true (get_or kept i d).m m is)) ∙ apart_at (same k.m) kept i d once.0 less in
+      ap (λ b. b || list_any (is_of m) (take i kept)) other ∙ none_earlier kept i d once.1 less is
+
+  -- where each message stands once its place is where what is kept is of it
+  pub placed_once : (kept : List Kept) (i : ℕ) (x : Kept) → IsDistinct same (messages_of kept) → i < length kept → slice_get kept i ≡ Some x → is_of m x ≡ true → IsPlaceOf m kept (Some i)
+  placed_once kept i x once lt there is =
+      let found : get_or kept i x ≡ x = get_or_from_slice_get kept i x x there in
+      (lt, λ k at. ap (is_of m) (sym (get_or_from_slice_get kept i k x at) ∙ found) ∙ is, none_earlier kept i x once lt (ap (is_of m) found ∙ is))
+
+  -- the message at its place
+  pub placed_message : (bytes : List ℕ) (kept : List Kept) (i : ℕ) → IsPlaceOf m kept (Some i) → slice_get (map message_of (entries_of bytes kept)) i ≡ Some m
+  placed_message bytes [] i at = absurd (omega (arith, at.0))
+  placed_message bytes (k ∷ kept) zero at = ap (λ x. Some x) (same-true k.m m (at.1 k refl))
+  placed_message bytes (k ∷ kept) (suc i) at = placed_message bytes kept i (rest_placed m k kept i at)
+
+  -- where it stands among the entries, if it does
+  pub place_told : (bytes : List ℕ) (kept : List Kept) (found : Option ℕ) → IsPlaceOf m kept found → MatchOption found (has (entries_of bytes kept) m ≡ false) (λ i. slice_get (map message_of (entries_of bytes kept)) i ≡ Some m)
+  place_told bytes kept None at = any_entries m bytes kept ∙ at
+  place_told bytes kept (Some i) at = placed_message bytes kept i at
+
+-- a message more, that was not there
+pub once_pushed : (kept : List Kept) (m : MsgId) → IsDistinct same (messages_of kept) → list_any (is_of m) kept ≡ false → IsDistinct same (messages_of kept ++ m ∷ [])
+once_pushed kept m once new =
+    let k : Kept = record { m = m; start = 0; end = 0; from = nodes.empty } in
+    subst (IsDistinct same) (map-append (λ x. x.m) kept (k ∷ []))
+    (subst (λ (b : Bool). IsDistinct same (messages_of (if b then kept else kept ++ k ∷ []))) new (once_grown (λ x. x.m) kept k once))
+
+-- none of no messages stands there twice
+pub once_none : (kept : List Kept) → kept ≡ [] → IsDistinct same (messages_of kept)
+unfolding IsDistinct
+once_none kept none = subst (λ ks. IsDistinct same (messages_of ks)) (sym none) tt

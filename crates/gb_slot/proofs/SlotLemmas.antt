@@ -1,6 +1,6 @@
 -- What a slot answers and shows.
 use Rattle.std.proofs.Common.{◌≡◌, ℕ, zero, suc, ◌+◌, ◌≤◌, ◌<◌, ◌||◌, ◌&&◌, not, true, false, List, [], ◌∷◌, length, take, drop, Some, None, refl, sym, ◌∙◌, ap, arith}
-use Rattle.std.specs.Prelude.{map, slice_get, option_map, nat_lt, if◌then◌else◌}
+use Rattle.std.specs.Prelude.{Option, map, slice_get, option_map, nat_lt, if◌then◌else◌}
 use Rattle.std.proofs.lemmas.Option.{slice_get-map}
 use Rattle.std.specs.FinSet as set
 use Rattle.std.proofs.lemmas.Bool.Decides.{nat_tests}
@@ -13,8 +13,10 @@ use Rattle.gb_types.specs.declared.reply.Reply.TheVariants.{Log, Refused}
 use Rattle.gb_history.specs.Messages.{entry_in, payload_in}
 use Rattle.gb_rules.specs.Replied.{takes_memory}
 use Rattle.gb_rules.specs.Group.{Shown, is_other, fetch_answer}
+use Rattle.gb_slot.specs.Outgoing.{put_messages}
 use Rattle.gb_slot.specs.Slot.{shown, waiting, taken_for}
 use Rattle.gb_slot.specs.SlotState.{SlotState}
+use Rattle.gb_slot.specs.declared.put_out.PutOut.{PutOut}
 use Rattle.gb_slot.proofs.PageLemmas.{page-map, drop-at, drop-none}
 
 -- the entries from a place on are what a fetch gives
@@ -41,6 +43,10 @@ pub fetched_some : (s : SlotState) (log : List MsgId) (from most : ℕ) → s.lo
 fetched_some s log from most is within few some =
     let found : List MsgId = take most (drop from log) in
     ap takes_memory (sym (fetched s log from most (map (entry_in s.store) found) is within few refl)) ∙ log_some s found some
+
+-- the message that was put out at a place, from what is read there
+pub put-at : (outgoing read : List PutOut) (i : ℕ) (found : Option PutOut) → read ≡ outgoing → slice_get read i ≡ found → slice_get (put_messages outgoing) i ≡ option_map (λ o. o.m) found
+put-at outgoing read i found same is = slice_get-map (λ o. o.m) outgoing i ∙ ap (option_map (λ o. o.m)) (ap (λ os. slice_get os i) (sym same) ∙ is)
 
 -- the item that waits first
 pub waiting-at : (s : SlotState) (b i : ℕ) (m : MsgId) (payload : List ℕ) → (is_other s.spec s.me.number b && not (set.contains s.noticed b)) ≡ true → taken_for s b ≡ i → slice_get s.outgoing i ≡ Some m → payload ≡ payload_in s.store m

@@ -7,4 +7,5 @@ pub mod StandsFor
 pub mod HistoryLaws
 pub mod Reached
 pub mod Effects
+pub mod Outgoing
 pub mod Representation

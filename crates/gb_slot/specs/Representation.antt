@@ -4,6 +4,7 @@ use Rattle.gb_layer.specs.Room.{free_sends, free_ups}
 use Rattle.gb_stack.specs.StackRoom.{stack_need, stack_whole}
 use Rattle.gb_stack.specs.StackState.{StackState}
 use Rattle.gb_slot.specs.Effects.{IsEmpty}
+use Rattle.gb_slot.specs.Outgoing.{put_messages}
 use Rattle.gb_slot.specs.Reached.{limit_of, most_messages, most_bytes}
 use Rattle.gb_slot.specs.SlotState.{SlotState}
 use Rattle.gb_slot.specs.declared.slot.Slot.TheInside.{Inside}
@@ -20,7 +21,7 @@ state_of stack s = record {
   said = s.said;
   store = s.store.entries;
   log = s.log.items;
-  outgoing = s.outgoing.items;
+  outgoing = put_messages s.outgoing.items;
   taken = s.taken;
   acknowledged = s.acknowledged.items;
 }

@@ -7,6 +7,7 @@
 
 mod broadcast;
 pub mod history;
+pub mod put_out;
 pub mod slot;
 pub mod store;
 mod window;

@@ -7,6 +7,7 @@ ghost use Rattle.gb_rules.specs.Replied.{done_reply, said_reply, log_reply, IsRe
 ghost use Rattle.gb_rules.specs.Group.{is_gone, is_member, is_other, open_answer, shut_answer, say_answer, fetch_answer};
 
 use crate::broadcast::take_call;
+use crate::put_out::PutOut;
 use crate::store::Store;
 use crate::window::{acknowledge, add_said, count_unfinished};
 use gb_layer::call::Call;
@@ -42,7 +43,7 @@ pub struct Slot {
     /// All that was delivered, in order.
     log: Vec<MsgId>,
     /// All that was broadcast, in order.
-    outgoing: Vec<MsgId>,
+    outgoing: Vec<PutOut>,
     store: Store,
     said: u32,
     taken: [usize; NODES],
@@ -81,8 +82,8 @@ impl Slot {
     /// broadcast is put out to the other members.
     ///
     /// All memory that the group ever needs is taken here. With n members, each of whom says `msgs` messages with
-    /// `bytes` payload bytes in all at most, this is n * `bytes` payload bytes; 42 bytes for each of the n * `msgs`
-    /// messages (24 in the store, 4 in the log, 4 in what is put out, 10 in what a call of the broadcast gives), 14 more
+    /// `bytes` payload bytes in all at most, this is n * `bytes` payload bytes; 44 bytes for each of the n * `msgs`
+    /// messages (24 in the store, 4 in the log, 6 in what is put out, 10 in what a call of the broadcast gives), 14 more
     /// where the broadcast relays, and 12 more in first-in first-out order; 2 bytes for each of `msgs` own messages,
     /// for the nodes that have it for good; and tables by which messages are found, of 2 * `msgs` bytes for each node
     /// up to the last member: one, one more where the broadcast relays, and one more in first-in first-out order.
@@ -184,14 +185,15 @@ impl Slot {
             origin: self.me,
             seq,
         };
+        self.store.push(m, payload);
         take_call(
             &mut self.stack,
             Call::Say(m),
             &mut self.effects,
             &mut self.log,
             &mut self.outgoing,
+            &self.store,
         );
-        self.store.push(m, payload);
         let mut by = NodeSet::new();
         by.insert(self.me);
         self.unfinished = add_said(
@@ -222,14 +224,15 @@ impl Slot {
             return false;
         }
         let count = self.outgoing.len();
+        self.store.take_in(m, payload, from, known);
         take_call(
             &mut self.stack,
             Call::Came(from, m),
             &mut self.effects,
             &mut self.log,
             &mut self.outgoing,
+            &self.store,
         );
-        self.store.take_in(m, payload, from, known);
         self.outgoing.len() != count
     }
 
@@ -249,6 +252,7 @@ impl Slot {
             &mut self.effects,
             &mut self.log,
             &mut self.outgoing,
+            &self.store,
         );
     }
 
@@ -320,9 +324,11 @@ impl Slot {
         if !self.is_reached(dest) {
             return None;
         }
-        let next = item_at(&self.outgoing, self.taken[dest.index()]);
-        match next {
-            Some(m) => Some((m, self.store.payload(m))),
+        match item_at(&self.outgoing, self.taken[dest.index()]) {
+            Some(next) => Some((
+                next.m,
+                self.store.payload_at(next.m, usize::from(next.place)),
+            )),
             None => None,
         }
     }
@@ -333,8 +339,11 @@ impl Slot {
         ensures { slice_get (waiting self.now dest.number) place ≡ Some (record { origin = result.0.origin; seq = result.0.seq; payload = result.1.now }) }
     {
         let outgoing = self.outgoing.as_slice();
-        let m = outgoing[self.taken[dest.index()] + place];
-        (m, self.store.payload(m))
+        let item = outgoing[self.taken[dest.index()] + place];
+        (
+            item.m,
+            self.store.payload_at(item.m, usize::from(item.place)),
+        )
     }
 
     /// How many items wait for the node.
@@ -357,7 +366,7 @@ impl Slot {
 }
 
 /// The item at a place.
-fn item_at(items: &[MsgId], at: usize) -> Option<MsgId>
+fn item_at(items: &[PutOut], at: usize) -> Option<PutOut>
     ensures { result ≡ slice_get items.now at }
 {
     items.get(at).copied()

@@ -1,12 +1,14 @@
 //! The messages that a slot knows, with their payloads. Each payload stands here once.
-ghost use Rattle.std.specs.Prelude.{◌≡◌, ℕ, true, false, ◌+◌, ◌≤◌, ◌<◌, ◌∷◌, ◌++◌, [], List, length, slice_index, slice_range, vec_len, vec_capacity, IfOk};
-ghost use Rattle.std.specs.List.{list_any};
+ghost use Rattle.std.specs.Prelude.{◌≡◌, ℕ, true, false, ◌+◌, ◌≤◌, ◌<◌, ◌∷◌, ◌++◌, [], List, length, map, Some, slice_get, slice_index, slice_range, vec_len, vec_capacity, IfOk, MatchOption};
+ghost use Rattle.std.specs.List.{list_any, IsDistinct};
 ghost use Rattle.gb_history.specs.Messages.{has, payload_in, entry_in, with_new, bytes_of};
 ghost use Rattle.std.specs.FinSet as set;
 ghost use Rattle.gb_layer.specs.Table.{leads};
 ghost use Rattle.gb_slot.specs.Arrivals.{has_arrival, with_message, nodes_of, with_node, with_arrived};
 ghost use Rattle.gb_slot.specs.StoreValue.{total_bytes};
 ghost use Rattle.gb_slot.specs.Kept.{entries_of, arrivals_of, messages_of, is_of, IsPlaceOf, AreInside, AreCounted};
+ghost use Rattle.gb_types.specs.Entry.{message_of};
+ghost use Rattle.gb_types.specs.Message.{same};
 ghost use Rattle.gb_types.specs.declared.entry.Entry.{Entry as EntryValue};
 ghost use Rattle.gb_types.specs.declared.limits.TheConstants.{BYTES};
 
@@ -45,6 +47,8 @@ impl Model for Store {
     ghost use Rattle.std.specs.Coded.{codes, coded_ℕ};
     ghost use Rattle.std.specs.Ordering.{nat_cmp};
     ghost use Rattle.std.specs.FinSet as set;
+    ghost use Rattle.std.specs.List.{IsDistinct};
+    ghost use Rattle.gb_types.specs.Message.{same};
     ghost use Rattle.gb_layer.specs.Table.{leads};
     ghost use Rattle.gb_slot.specs.Kept.{entries_of, arrivals_of, messages_of, AreInside, AreCounted};
     ghost use Rattle.gb_slot.specs.StoreValue.{StoreValue, total_bytes};
@@ -55,7 +59,7 @@ impl Model for Store {
 
     ghost view = { λ s. record { entries = entries_of s.bytes.items s.kept.items; arrivals = arrivals_of s.kept.items; places = vec_capacity s.kept; bytes = vec_capacity s.bytes } };
 
-    ghost invariant = { λ s. AreInside s.bytes.items s.kept.items × AreCounted s.seen (entries_of s.bytes.items s.kept.items) × (leads s.table.width s.table.told.items 0 (messages_of s.kept.items) ≡ true) × (vec_len s.bytes ≡ total_bytes (entries_of s.bytes.items s.kept.items)) };
+    ghost invariant = { λ s. AreInside s.bytes.items s.kept.items × AreCounted s.seen (entries_of s.bytes.items s.kept.items) × (leads s.table.width s.table.told.items 0 (messages_of s.kept.items) ≡ true) × (vec_len s.bytes ≡ total_bytes (entries_of s.bytes.items s.kept.items)) × IsDistinct same (messages_of s.kept.items) };
 }
 
 /// Whether what is kept is of the message.
@@ -98,6 +102,19 @@ fn payload_of<'a>(kept: &[Kept], table: &Table, bytes: &'a [u8], m: MsgId) -> &'
         Some(i) => part(bytes, kept[i].start, kept[i].end),
         None => &[],
     }
+}
+
+/// The payload of a message, none where it is not there. It is looked for at this place first.
+fn payload_at<'a>(kept: &[Kept], table: &Table, bytes: &'a [u8], m: MsgId, place: usize) -> &'a [u8]
+    requires inside { AreInside bytes.now kept.now }
+    requires leads { leads table.now.width table.now.told.items 0 (messages_of kept.now) ≡ true }
+    requires once { IsDistinct same (messages_of kept.now) }
+    ensures { result.now ≡ payload_in (entries_of bytes.entry.now kept.now) m }
+{
+    if place < kept.len() && is_of(&kept[place], m) {
+        return part(bytes, kept[place].start, kept[place].end);
+    }
+    payload_of(kept, table, bytes, m)
 }
 
 /// Whether a message is there, and whether it was taken in from a node.
@@ -161,6 +178,7 @@ fn count_bytes(seen: &mut [u32; NODES], m: MsgId, payload: &[u8])
 impl Store {
     /// Nothing, with memory for so many messages, with so many bytes of payload in all. The members' messages numbered
     /// up to this width are found at once, others by a search.
+    #[tactic(auto, using(crate::proofs::PlaceLemmas::once_none))]
     pub fn new(
         alloc: Global,
         members: &NodeSet,
@@ -259,6 +277,21 @@ impl Store {
         ensures { result.now ≡ payload_in self.now.entries m }
     {
         payload_of(&self.kept, &self.table, &self.bytes, m)
+    }
+
+    /// Where the message stands among those that are there, if it does; places count from 0.
+    pub fn place(&self, m: MsgId) -> Option<usize>
+        ensures { MatchOption result (has self.now.entries m ≡ false) (λ i. slice_get (map message_of self.now.entries) i ≡ Some m) }
+    {
+        find(&self.kept, &self.table, m)
+    }
+
+    /// The payload of a message, none where it is not there. Where the message stands at this place, nothing is
+    /// searched.
+    pub fn payload_at(&self, m: MsgId, place: usize) -> &[u8]
+        ensures { result.now ≡ payload_in self.now.entries m }
+    {
+        payload_at(&self.kept, &self.table, &self.bytes, m, place)
     }
 
     /// The message with its payload, copied.

@@ -1,10 +1,12 @@
 use Rattle.std.proofs.Common.{◌≡◌, ◌&&◌, length, rules, refl, sym, ◌∙◌, subst, arith}
 use Rattle.std.proofs.lemmas.Bool.Decides.{nat_tests}
+use Rattle.std.proofs.lemmas.List.{length-map}
 use Rattle.gb_types.specs.Entry.{message_of}
 use Rattle.gb_types.specs.declared.entry.Entry.{Entry}
 use Rattle.gb_layer.specs.declared.call.Call.TheVariants.{Came}
 use Rattle.gb_stack.specs.contracts.stack.StackLayer.TheImpl.{meaning-value}
 use Rattle.gb_history.specs.Messages.{with_new, entry_in}
+use Rattle.gb_slot.specs.Outgoing.{put_messages}
 use Rattle.gb_slot.specs.Reached.{IsReached, limit_of}
 use Rattle.gb_slot.specs.Slot.{slot_called}
 use Rattle.gb_slot.proofs.MemoryLemmas.{held, room_for_call, places_in_log, places_put_out, place_in_store, bytes_in_store, item_stays, new_known}
@@ -34,8 +36,10 @@ take_call-requires-clause-outgoing c =
 pub returns-clause-quiet : goal.returns-clause-quiet
 returns-clause-quiet c = λ quiet dest.
     let same : c.len.result ≡ c.len-count.result = grind (arith, nat_tests, quiet) in
-    let count : length c.take_call.new.outgoing.items ≡ length c.self.inside.outgoing.items = omega (arith, same) in
-    rw (← c.self.view_is) (same_rest (entry_in c.take_in.new.self.entries) (entry_in c.self.inside.store.entries) _ _ c.take_call.new.outgoing.items c.self.inside.outgoing.items count)
+    let now = c.take_call.new.outgoing.items in
+    let before = c.self.inside.outgoing.items in
+    let count : length (put_messages now) ≡ length (put_messages before) = omega (arith, same, length-map now (λ o. o.m), length-map before (λ o. o.m)) in
+    rw (← c.self.view_is) (same_rest (entry_in c.take_in.new.self.entries) (entry_in c.self.inside.store.entries) _ _ (put_messages now) (put_messages before) count)
 
 pub take_in-requires-clause-place : goal.take_in-requires-clause-place
 take_in-requires-clause-place c = λ new.
@@ -74,7 +78,7 @@ invariant_of-self c =
     let facts = kept_item s.spec s.me.number c.args.from.number x c.known_from-known.result.1 c.known_from-known.result.0 c.bytes_of-seen.result (sym c.is_let_fall.ensures.test ∙ c.if-is_let_fall.false) in
     let called = c.take_call.ensures in
     let kept = c.take_in.ensures in
-    let is : (slot_called (Came c.args.from (message_of x)) (with_new s.store.entries x) (held s)) ≡ record (held s) { stack = meaning-value.it c.take_call.new.stack; arrivals = c.take_in.new.self.arrivals; store = c.take_in.new.self.entries; log = c.take_call.new.log.items; outgoing = c.take_call.new.outgoing.items } =
+    let is : (slot_called (Came c.args.from (message_of x)) (with_new s.store.entries x) (held s)) ≡ record (held s) { stack = meaning-value.it c.take_call.new.stack; arrivals = c.take_in.new.self.arrivals; store = c.take_in.new.self.entries; log = c.take_call.new.log.items; outgoing = put_messages c.take_call.new.outgoing.items } =
     sym (λ i. record (held s) { stack = called.meaning i; arrivals = kept.arrivals i; store = kept.entries i; log = called.log i; outgoing = called.outgoing i }) in (
       search rules,
       search rules,

@@ -3,6 +3,7 @@ use Rattle.std.specs.Prelude.{replicate}
 use Rattle.gb_types.specs.declared.limits.TheConstants.{NODES}
 use Rattle.gb_rules.specs.declared.phase.Phase.TheVariants.{Made}
 use Rattle.gb_stack.specs.contracts.stack.StackLayer.TheImpl.{meaning-value}
+use Rattle.gb_slot.specs.Outgoing.{put_messages}
 use Rattle.gb_slot.specs.Reached.{IsReached}
 use Rattle.gb_slot.specs.Slot.{new_slot}
 use Rattle.gb_slot.specs.SlotState.{SlotState}
@@ -30,7 +31,7 @@ invariant_of-result c =
       said = 0;
       store = c.in_ok-store.store.entries;
       log = c.in_ok-log.log.items;
-      outgoing = c.in_ok-outgoing.outgoing.items;
+      outgoing = put_messages c.in_ok-outgoing.outgoing.items;
       taken = replicate NODES 0;
       acknowledged = c.in_ok-acknowledged.acknowledged.items;
     } in
@@ -40,7 +41,7 @@ invariant_of-result c =
       arrivals = c.in_ok-store.ensures.empty.1 i;
       store = c.in_ok-store.ensures.empty.0 i;
       log = c.in_ok-log.ensures.items i;
-      outgoing = c.in_ok-outgoing.ensures.items i;
+      outgoing = put_messages (c.in_ok-outgoing.ensures.items i);
       acknowledged = c.in_ok-acknowledged.ensures.items i;
     } in
     let reached = reached_new spec c.args.me c.args.noticed.now (meaning-value.it c.in_ok-stack.stack) c.requires.member c.nodes.ensures.whole c.in_ok-stack.ensures.started in (

@@ -1,6 +1,7 @@
 use Rattle.std.proofs.Common.{◌≡◌, true, rules, refl, sym, subst, arith}
 use Rattle.gb_stack.specs.contracts.stack.StackLayer.TheImpl.{meaning-value}
 use Rattle.gb_rules.specs.Group.{is_other}
+use Rattle.gb_slot.specs.Outgoing.{put_messages}
 use Rattle.gb_slot.specs.Reached.{IsReached, limit_of}
 use Rattle.gb_slot.proofs.MemoryLemmas.{held, room_for_call, places_in_log, places_put_out}
 use Rattle.gb_slot.proofs.ReachedLemmas.{noticed_by, reached_noticed}
@@ -30,7 +31,7 @@ invariant_of-self c =
     let next = reached_noticed (held s) c.args.who other c.self.invariant.5 in
     let m = c.self.invariant.6 in
     let called = c.take_call.ensures in
-    let is : noticed_by c.args.who (held s) ≡ record (held s) { noticed = c.insert.new.self; stack = meaning-value.it c.take_call.new.stack; log = c.take_call.new.log.items; outgoing = c.take_call.new.outgoing.items } =
+    let is : noticed_by c.args.who (held s) ≡ record (held s) { noticed = c.insert.new.self; stack = meaning-value.it c.take_call.new.stack; log = c.take_call.new.log.items; outgoing = put_messages c.take_call.new.outgoing.items } =
     sym (λ i. record (held s) { noticed = c.insert.ensures i; stack = called.meaning i; log = called.log i; outgoing = called.outgoing i }) in (
       search rules,
       search rules,

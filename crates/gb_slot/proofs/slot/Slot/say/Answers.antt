@@ -1,6 +1,7 @@
 use Rattle.std.proofs.Common.{◌≡◌, ◌+◌, ◌∷◌, ◌++◌, [], rules, refl, sym, ◌∙◌, ap, subst, arith}
 use Rattle.std.specs.FinSet as set
 use Rattle.gb_stack.specs.contracts.stack.StackLayer.TheImpl.{meaning-value}
+use Rattle.gb_slot.specs.Outgoing.{put_messages}
 use Rattle.gb_slot.specs.Reached.{IsReached, limit_of}
 use Rattle.gb_slot.specs.Slot.{own_entry, slot_said}
 use Rattle.gb_types.specs.declared.reply.Reply.TheVariants.{Said}
@@ -47,7 +48,7 @@ invariant_of-self c =
     let kept = c.push.ensures in
     let added = c.add_said-self-inside.ensures in
     let acknowledged = added.items ∙ ap (λ by. s.acknowledged.items ++ by ∷ []) (c.insert.ensures ∙ ap (λ by. set.insert by s.me.number) c.new-by.ensures) in
-    let is : slot_said c.args.payload.now (Said (s.said + 1)) (held s) ≡ record (held s) { stack = meaning-value.it c.take_call.new.stack; arrivals = c.push.new.self.arrivals; said = s.said + 1; store = c.push.new.self.entries; log = c.take_call.new.log.items; outgoing = c.take_call.new.outgoing.items; acknowledged = c.add_said-self-inside.new.acknowledged.items } =
+    let is : slot_said c.args.payload.now (Said (s.said + 1)) (held s) ≡ record (held s) { stack = meaning-value.it c.take_call.new.stack; arrivals = c.push.new.self.arrivals; said = s.said + 1; store = c.push.new.self.entries; log = c.take_call.new.log.items; outgoing = put_messages c.take_call.new.outgoing.items; acknowledged = c.add_said-self-inside.new.acknowledged.items } =
     sym (λ i. record (held s) { stack = called.meaning i; arrivals = kept.arrivals i; said = s.said + 1; store = kept.entries i; log = called.log i; outgoing = called.outgoing i; acknowledged = acknowledged i }) in (
       search rules,
       search rules,

@@ -1,11 +1,13 @@
 use Rattle.std.proofs.Common.{◌≡◌, ◌+◌, ◌∙◌, ap, sym, subst, length, arith}
 use Rattle.std.proofs.lemmas.List.{length-map}
+use Rattle.std.specs.List.{IsDistinct}
+use Rattle.gb_types.specs.Message.{same}
 use Rattle.gb_layer.specs.Table.{leads}
 use Rattle.gb_history.specs.Messages.{has}
 use Rattle.gb_slot.specs.Kept.{entries_of, messages_of, AreCounted}
 use Rattle.gb_slot.specs.StoreValue.{StoreValue, total_bytes}
 use Rattle.gb_slot.proofs.FewLemmas.{total_pushed}
-use Rattle.gb_slot.proofs.PlaceLemmas.{any_entries, any_messages}
+use Rattle.gb_slot.proofs.PlaceLemmas.{any_entries, any_messages, once_pushed}
 use Rattle.gb_slot.proofs.store.Store.add.Goals as goal
 
 pub invariant_of-self : goal.invariant_of-self
@@ -25,4 +27,5 @@ invariant_of-self c =
       subst (AreCounted c.count_bytes.new.seen) (sym c.append.ensures.entries) (c.count_bytes.ensures (entries_of bytes kept) c.self.invariant.1),
       ap (leads table.width table.told.items 0) c.append.ensures.messages ∙ noted,
       c.append.ensures.bytes.0 ∙ (ap (λ n. n + length c.args.payload.now) c.self.invariant.3 ∙ sym (ap total_bytes c.append.ensures.entries ∙ total_pushed (entries_of bytes kept) _)),
+      subst (IsDistinct same) (sym c.append.ensures.messages) (once_pushed kept m c.self.invariant.4 (sym (any_entries m bytes kept) ∙ unknown)),
     )
