@@ -60,6 +60,7 @@ fn write_log(log: &mut Vec<MsgId>, ups: &mut Vec<Up>)
 
 /// The broadcast takes a call. What it sends is put out, with its place in the store, what comes up goes to the log.
 /// Takes no memory.
+#[inline(always)]
 pub(crate) fn take_call(
     stack: &mut Stack,
     call: Call,
