@@ -8,7 +8,9 @@ pub const WORDS: usize = 9;
 
 const _: () = prove!(WORDS == 9);
 
-/// How many bytes stand before the first space: all, where there is none.
+/// How many bytes stand before the first space: all, where there is none. Called, not inlined: LLVM would unroll the loop
+/// over the words, and carry each word's place through this one.
+#[inline(never)]
 fn word_len(text: &[u8]) -> usize
     ensures { result ≡ position_or_len (λ byte. byte == 32) text.now }
 {

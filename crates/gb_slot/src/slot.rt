@@ -334,6 +334,7 @@ impl Slot {
     }
 
     /// The item at a place among those that wait for the node, with its payload; places count from 0.
+    #[inline(always)]
     pub fn peek_at(&self, dest: NodeId, place: usize) -> (MsgId, &[u8])
         requires { place < length (waiting self.now dest.number) }
         ensures { slice_get (waiting self.now dest.number) place ≡ Some (record { origin = result.0.origin; seq = result.0.seq; payload = result.1.now }) }
