@@ -1,14 +1,16 @@
 -- The sets of a group's members, one after the other.
-use Rattle.std.proofs.Common.{◌≡◌, ◌≢◌, ℕ, ◌<◌, ◌+◌, min, List, [], length, get_or, ap, sym, refl, ◌∙◌, arith, inl, inr, true, false}
+use Rattle.std.proofs.Common.{◌≡◌, ◌≢◌, ℕ, ◌<◌, ◌≤◌, ◌+◌, ◌-◌, min, List, [], ◌∷◌, length, subst, get_or, ap, sym, refl, ◌∙◌, arith, inl, inr, true, false}
 use Rattle.std.specs.Prelude.{Bool, Option, Some, None, option_map, nat_eq, ◌&&◌, not, if◌then◌else◌}
 use Rattle.std.specs.FinSet as nodes
 use Rattle.std.specs.Ordering.{nat_cmp}
 use Rattle.std.proofs.Math.ListN.{set}
-use Rattle.std.proofs.lemmas.Bool.{cases_eq}
+use Rattle.std.proofs.lemmas.Bool.{cases_eq, cases_lt}
 use Rattle.std.proofs.lemmas.List.{get_or_default, get_or-set_same, get_or-set_other, length-set}
 use Rattle.gb_types.specs.declared.entry.Entry.{Entry}
 use Rattle.gb_types.specs.declared.limits.TheConstants.{NODES}
 use Rattle.gb_types.specs.declared.spec.Spec.{Spec}
+use Rattle.gb_types.specs.Rising.{rising_from}
+use Rattle.gb_types.proofs.RisingLemmas.{first_or_none}
 use Rattle.gb_slot.specs.Slot.{waiting}
 use Rattle.gb_slot.specs.SlotState.{SlotState}
 use Rattle.gb_groups.specs.Busy.{members_of, IsNoted}
@@ -46,13 +48,38 @@ noted_member to place s old busy words other l member ok here others =
       ];
     }
 
--- a node that is no member has no set to write
-pub noted_other : (to place : ℕ) (s : SlotState) (old busy : List (List ℕ)) → nodes.contains s.spec.members to ≡ false → IsNoted to place s old busy → IsNoted (to + 1) place s old busy
-noted_other to place s old busy none ok = record {
+-- the first member from a number on is one, and none comes before it
+pub record IsFirstMember (members : nodes.FinSet nat_cmp) (from node : ℕ) : Type 0 where
+  pub least : from ≤ node
+  pub member : nodes.contains members node ≡ true
+  pub before : (d : ℕ) → from ≤ d → d < node → nodes.contains members d ≡ false
+
+pub first_member : (members : nodes.FinSet nat_cmp) (from node : ℕ) (rest : List ℕ) → rising_from members from ≡ node ∷ rest → IsFirstMember members from node
+unfolding rising_from
+first_member members from node rest e =
+    elim (first_or_none (nodes.contains members) from (NODES - from)) [
+      | inl none ↦ let both : [] ≡ node ∷ rest = sym none.0 ∙ e in absurd (cc)
+      | inr first ↦
+          let f = first.1 in
+          let same : first.0 ≡ node = ap (λ xs. get_or xs 0 0) (sym f.parts ∙ e) in
+          subst (λ n. IsFirstMember members from n) same (record { least = f.least; member = f.passes; before = f.before.fails })
+    ]
+
+pub no_member : (members : nodes.FinSet nat_cmp) (from : ℕ) → rising_from members from ≡ [] → (d : ℕ) → from ≤ d → d < NODES → nodes.contains members d ≡ false
+unfolding rising_from
+no_member members from e d le lt =
+    elim (first_or_none (nodes.contains members) from (NODES - from)) [
+      | inl none ↦ none.1.fails d le (omega arith)
+      | inr first ↦ let both : first.0 ∷ _ ≡ [] = sym first.1.parts ∙ e in absurd (cc)
+    ]
+
+-- nodes that are no members have no sets to write
+pub noted_further : (from to place : ℕ) (s : SlotState) (old busy : List (List ℕ)) → ((d : ℕ) → from ≤ d → d < to → nodes.contains s.spec.members d ≡ false) → IsNoted from place s old busy → IsNoted to place s old busy
+noted_further from to place s old busy none ok = record {
   size = ok.size;
-  here = λ d h m. elim (cases_eq d to) [
-    | inl e ↦ let both : true ≡ false = sym m ∙ ap (nodes.contains s.spec.members) e ∙ none in absurd (cc)
-    | inr ne ↦ ok.here d (omega arith) m
+  here = λ d h m. elim (cases_lt d from) [
+    | inl l ↦ ok.here d l m
+    | inr l ↦ let both : true ≡ false = sym m ∙ none d l h in absurd (cc)
   ];
   stay = ok.stay;
   others = ok.others;

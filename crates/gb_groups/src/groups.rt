@@ -83,11 +83,10 @@ fn note_members(busy: &mut [PlaceSet], slot: &Slot, place: usize)
     requires size { length busy.old ≡ NODES }
     ensures { IsNoted NODES place slot.now busy.old busy.new }
 {
-    for index in 0..NODES {
-        let node = NodeId::new(index as u8);
-        if slot.members().contains(node) {
-            note_at(&mut busy[index], place, slot.waiting_for(node));
-        }
+    let mut from = 0;
+    while let Some(node) = slot.members().next_from(from) {
+        note_at(&mut busy[node.index()], place, slot.waiting_for(node));
+        from = node.index() + 1;
     }
 }
 

@@ -1,21 +1,36 @@
-use Rattle.std.proofs.Common.{◌≡◌, min, length, ap, sym, ◌∙◌, arith}
+use Rattle.std.proofs.Common.{◌≡◌, ◌+◌, min, true, length, ap, sym, subst, ◌∙◌, arith}
+use Rattle.std.proofs.Math.ListN.{set}
 use Rattle.std.specs.FinSet as nodes
+use Rattle.gb_types.specs.Rising.{rising_from}
+use Rattle.gb_types.specs.declared.limits.TheConstants.{NODES}
 use Rattle.gb_slot.specs.Slot.{waiting}
-use Rattle.gb_groups.proofs.NotedLemmas.{noted_none, noted_member, noted_other}
+use Rattle.gb_groups.specs.Busy.{IsNoted}
+use Rattle.gb_groups.proofs.NotedLemmas.{noted_none, noted_member, noted_further, first_member, no_member}
 use Rattle.gb_groups.proofs.groups.note_members.Goals as goal
-use Rattle.gb_groups.proofs.groups.note_members.Goals.{then-contains, else-contains}
 
-pub loop-index-init : goal.loop-index-init
-loop-index-init c = noted_none c.args.place c.args.slot.now c.args.busy.now
+pub loop-node-init : goal.loop-node-init
+loop-node-init c = noted_none c.args.place c.args.slot.now c.args.busy.now
 
-pub loop-index-preserved : goal.loop-index-preserved
-loop-index-preserved c =
+pub loop-node-preserved : goal.loop-node-preserved
+loop-node-preserved c =
     let s = c.args.slot.now in
-    let size = c.loop-index.invariant.size in
-    let named : c.contains.result ≡ nodes.contains s.spec.members c.loop-index.index = c.contains.ensures ∙ ap (λ m. nodes.contains m c.new-node.result.number) c.members.ensures ∙ ap (nodes.contains s.spec.members) c.new-node.ensures in
-    elim c.if-contains.branch [
-      | then-contains w ↦
-          rw w.busy-is (noted_member c.loop-index.index c.args.place s c.args.busy.now c.loop-index.busy w.note_at.new.set w.index-busy-index.result (omega (arith, c.requires.size)) (sym named ∙ w.if-contains.true) c.loop-index.invariant (w.note_at.ensures.here ∙ ap (min 1) (w.waiting_for.ensures ∙ ap (λ n. length (waiting s n)) c.new-node.ensures)) w.note_at.ensures.others)
-      | else-contains w ↦
-          rw w.busy-is (noted_other c.loop-index.index c.args.place s c.args.busy.now c.loop-index.busy (sym named ∙ w.if-contains.false) c.loop-index.invariant)
-    ]
+    let old = c.args.busy.now in
+    let busy = c.loop-node.busy in
+    let from = c.loop-node.from in
+    let node = c.index.result in
+    let is = c.index.ensures.value in
+    let size = c.loop-node.invariant.size in
+    let found = ap (λ m. rising_from m from) (sym c.members.ensures) ∙ c.in-Some.ensures in
+    let first = first_member s.spec.members from c.in-Some.node.number _ found in
+    let member : nodes.contains s.spec.members node ≡ true = ap (nodes.contains s.spec.members) is ∙ first.member in
+    let here = c.note_at.ensures.here ∙ ap (min 1) (c.waiting_for.ensures ∙ ap (λ n. length (waiting s n)) (sym is)) in
+    subst (λ n. IsNoted (n + 1) c.args.place s old (set busy node c.note_at.new.set)) (is ∙ sym c.index-from.ensures.value)
+    (noted_member node c.args.place s old busy c.note_at.new.set c.index-busy-index.result (omega (arith, c.requires.size, c.index.ensures.bound)) member
+    (noted_further from node c.args.place s old busy (λ d le lt. first.before d le (omega (arith, is, lt))) c.loop-node.invariant) here c.note_at.ensures.others)
+
+pub returns : goal.returns
+returns c =
+    let s = c.args.slot.now in
+    let from = c.loop-node.from in
+    let none = ap (λ m. rising_from m from) (sym c.members.ensures) ∙ c.in_default.ensures in
+    noted_further from NODES c.args.place s c.args.busy.now c.loop-node.busy (no_member s.spec.members from none) c.loop-node.invariant
