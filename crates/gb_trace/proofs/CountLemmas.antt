@@ -1,7 +1,7 @@
 -- How many items of a group frames have, and what is told of them.
 use Rattle.std.proofs.Common.{◌≡◌, ◌≢◌, ℕ, zero, suc, ◌+◌, ◌-◌, ◌<◌, Bool, List, [], ◌∷◌, ◌++◌, map, length, take, get_or, length-take, refl, sym, ap, ◌∙◌, arith, append_assoc, length-append}
 use Rattle.std.specs.Prelude.{sum, if◌then◌else◌}
-use Rattle.std.proofs.lemmas.List.{append-nil, take-map, take_more}
+use Rattle.std.proofs.lemmas.List.{append-nil, map-append, take-map, take_more}
 use Rattle.std.proofs.lemmas.List.Sums.{sum_by-cons, sum_by_more}
 use Rattle.gb_types.specs.declared.address.Addr.{Addr}
 use Rattle.gb_types.specs.declared.node.NodeId.{NodeId}
@@ -10,11 +10,13 @@ use Rattle.gb_frame.specs.Packet.{Content}
 use Rattle.gb_alone.specs.declared.event.GroupEvent.TheVariants.{Took, Came, Done}
 use Rattle.gb_alone.specs.declared.event.GroupStep.{GroupStep}
 use Rattle.gb_node.specs.NodeStep.{node_numbered}
-use Rattle.gb_node.specs.Past.{Happened, read, frames_to}
+use Rattle.gb_node.specs.Past.{Happened, read, packed_for, frames_to}
+use Rattle.gb_cluster.specs.Run.{past_at}
 use Rattle.gb_types.specs.declared.plan.Plan.{Plan}
 use Rattle.gb_isolation.proofs.MarkLemmas.{items_of-none, items_of-one}
 use Rattle.gb_isolation.specs.Project.{items_in, items_of, offset, frames_in, took, comes, acknowledged, all_acknowledged, is_new_ack, acknowledges}
 use Rattle.gb_trace.specs.Counts.{counts_acknowledged}
+use Rattle.gb_trace.specs.Deeds.{past_in}
 
 -- one step, where there are any items
 pub took_some : (a b : NodeId) (k : ℕ) → k ≢ 0 → took a b k ≡ record { node = a; event = Took b k } ∷ []
@@ -47,8 +49,17 @@ text_none g key text is = ap (λ (cs : List Content). length (items_of g (map (�
 pub text_one : (g : Addr) (key text : List ℕ) (c : Content) → read key text ≡ c ∷ [] → length (items_of g (frames_in key text)) ≡ length (items_in g c.items)
 text_one g key text c is = ap (λ (cs : List Content). length (items_of g (map (λ (x : Content). x.items) cs))) is ∙ ap length (items_of-one g c.items)
 
-abbrev counted : Addr → List (List Item) → List ℕ
+abbrev pub counted : Addr → List (List Item) → List ℕ
 counted g fs = map (λ f. length (items_in g f)) fs
+
+-- the frames that were packed before anything happened, and with one thing more
+pub no_counts : (g : Addr) (key : List ℕ) (b : ℕ) (a : NodeId) → counted g (frames_to key b (past_in a [])) ≡ []
+unfolding frames_to past_at
+no_counts g key b a = refl
+
+pub counts_more : (g : Addr) (key : List ℕ) (b : ℕ) (h : Happened) (past : List Happened) → counted g (frames_to key b (h ∷ past)) ≡ counted g (frames_to key b past) ++ counted g (packed_for key b h.event h.answer)
+unfolding frames_to
+counts_more g key b h past = map-append (λ f. length (items_in g f)) (frames_to key b past) (packed_for key b h.event h.answer)
 
 counts_are : (g : Addr) (fs : List (List Item)) → length (items_of g fs) ≡ sum (counted g fs)
 unfolding items_of

@@ -1,18 +1,23 @@
 -- Frames and a group's items in them.
-use Rattle.std.proofs.Common.{◌≡◌, ℕ, List, [], ◌∷◌, ◌++◌, refl, ◌∙◌, ap, sym}
+use Rattle.std.proofs.Common.{◌≡◌, ℕ, Bool, false, List, [], ◌∷◌, ◌++◌, refl, ◌∙◌, ap, sym}
+use Rattle.std.specs.List.{list_any}
+use Rattle.std.proofs.Math.Bool.{or-false}
 use Rattle.std.proofs.lemmas.List.{append-nil}
 use Rattle.gb_types.specs.declared.address.Addr.{Addr}
 use Rattle.gb_types.specs.declared.entry.Entry.{Entry}
 use Rattle.gb_types.specs.declared.node.NodeId.{NodeId}
+use Rattle.gb_frame.specs.Packet.{Content}
 use Rattle.gb_frame.specs.declared.item.Item.{Item}
-use Rattle.gb_node.specs.Past.{frames_to}
+use Rattle.gb_node.specs.Past.{Happened, packed_for, frames_to}
 use Rattle.gb_cluster.specs.Run.{past_at}
 use Rattle.gb_trace.specs.Deeds.{past_in}
 use Rattle.gb_isolation.proofs.MarkLemmas.{items_of-append, items_of-none, items_of-one}
 use Rattle.gb_isolation.specs.Project.{items_in, items_of}
 
-pub more_frames : (g : Addr) (fs more : List (List Item)) → items_of g (fs ++ more) ≡ items_of g fs ++ items_of g more
-more_frames = items_of-append
+-- in the frames that were packed, with one thing more
+pub items_more : (g : Addr) (key : List ℕ) (b : ℕ) (h : Happened) (past : List Happened) → items_of g (frames_to key b (h ∷ past)) ≡ items_of g (frames_to key b past) ++ items_of g (packed_for key b h.event h.answer)
+unfolding frames_to
+items_more g key b h past = items_of-append g (frames_to key b past) (packed_for key b h.event h.answer)
 
 -- of one frame, and of none
 pub one_frame : (g : Addr) (fs : List (List Item)) (f : List Item) → fs ≡ f ∷ [] → items_of g fs ≡ items_in g f
@@ -24,3 +29,10 @@ no_frame g fs xs is = sym (ap (λ ys. xs ++ ys) (ap (items_of g) is ∙ items_of
 pub no_items : (g : Addr) (key : List ℕ) (b : ℕ) (a : NodeId) → items_of g (frames_to key b (past_in a [])) ≡ []
 unfolding items_of frames_to past_at
 no_items g key b a = refl
+
+-- whether a packet passes a test, of none and of one
+pub any_none : (p : Content → Bool) (cs : List Content) → cs ≡ [] → list_any p cs ≡ false
+any_none p cs is = ap (list_any p) is
+
+pub any_one : (p : Content → Bool) (cs : List Content) (c : Content) → cs ≡ c ∷ [] → list_any p cs ≡ p c
+any_one p cs c is = ap (list_any p) is ∙ or-false (p c)

@@ -1,4 +1,3 @@
-pub mod RunLemmas
 pub mod DeedLemmas
 pub mod PastLemmas
 pub mod FrameLemmas

@@ -1,11 +1,16 @@
 -- What happened in a run, one thing after the other.
-use Rattle.std.proofs.Common.{◌≡◌, ℕ, ◌+◌, ◌<◌, ◌≤◌, Bool, true, false, List, [], ◌∷◌, ◌++◌, length, take, get_or, ◌∙◌, ap, sym}
+use Rattle.std.proofs.Common.{◌≡◌, ℕ, ◌+◌, ◌<◌, ◌≤◌, Bool, true, false, List, [], ◌∷◌, ◌++◌, length, take, get_or, ◌∙◌, ap, sym, refl}
 use Rattle.std.specs.Option.{option_or}
 use Rattle.std.proofs.lemmas.List.Folds.{find-append}
 use Rattle.std.specs.Prelude.{reverse, find, nat_eq, if◌then◌else◌}
 use Rattle.std.proofs.lemmas.List.{take_all, take_more, reverse-append}
+use Rattle.gb_types.specs.declared.address.Addr.{Addr}
 use Rattle.gb_types.specs.declared.node.NodeId.{NodeId}
+use Rattle.gb_types.specs.declared.plan.Plan.{Plan}
+use Rattle.gb_node.specs.Past.{Happened}
+use Rattle.gb_node.specs.declared.plan.NodePlan.{NodePlan}
 use Rattle.gb_cluster.specs.Run.{Did, past_at}
+use Rattle.gb_isolation.specs.Project.{gives, project, reply_in, replies_in}
 use Rattle.gb_trace.specs.Deeds.{past_in}
 
 -- one thing more
@@ -27,6 +32,34 @@ here a ds i d lt is at = past_newest a ds i d lt is ∙ ap (λ (t : Bool). if t 
 
 pub elsewhere : (a : NodeId) (ds : List Did) (i : ℕ) (d : Did) → i < length ds → d ≡ get_or ds i d → nat_eq d.node.number a.number ≡ false → past_in a (take (i + 1) ds) ≡ past_in a (take i ds)
 elsewhere a ds i d lt is at = past_newest a ds i d lt is ∙ ap (λ (t : Bool). if t then record { event = d.event; answer = d.answer } ∷ past_in a (take i ds) else past_in a (take i ds)) at
+
+-- a list that each thing at the node lengthens, after one thing more there
+pub longer : {X : Type 0} (f : List Happened → List X) (more : List X) (a : NodeId) (ds : List Did) (i : ℕ) (d : Did) (was now : List X) → i < length ds → d ≡ get_or ds i d → nat_eq d.node.number a.number ≡ true
+    → f (record { event = d.event; answer = d.answer } ∷ past_in a (take i ds)) ≡ f (past_in a (take i ds)) ++ more → now ≡ was ++ more → was ≡ f (past_in a (take i ds)) → now ≡ f (past_in a (take (i + 1) ds))
+longer f more a ds i d was now lt is at grows adds so = adds ∙ (ap (λ xs. xs ++ more) so ∙ (sym grows ∙ ap f (sym (here a ds i d lt is at))))
+
+-- and after one elsewhere
+pub as_long : {X : Type 0} (f : List Happened → List X) (a : NodeId) (ds : List Did) (i : ℕ) (d : Did) (was : List X) → i < length ds → d ≡ get_or ds i d → nat_eq d.node.number a.number ≡ false
+    → was ≡ f (past_in a (take i ds)) → was ≡ f (past_in a (take (i + 1) ds))
+as_long f a ds i d was lt is at so = so ∙ ap f (sym (elsewhere a ds i d lt is at))
+
+-- the replies at a node, before anything happened and with one thing more
+pub no_replies : (plan : NodePlan) (g : Addr) (a : NodeId) → replies_in plan g (past_in a []) ≡ []
+unfolding replies_in past_at
+no_replies plan g a = refl
+
+pub replies_more : (plan : NodePlan) (g : Addr) (h : Happened) (past : List Happened) → replies_in plan g (h ∷ past) ≡ replies_in plan g past ++ reply_in plan g past h.event h.answer
+unfolding replies_in
+replies_more plan g h past = refl
+
+-- the projection, before anything happened and with one thing more
+pub none_projected : (plan : Plan) (g : Addr) → project plan g [] ≡ []
+unfolding project
+none_projected plan g = refl
+
+pub more_projected : (plan : Plan) (g : Addr) (run : List Did) (d : Did) → project plan g (d ∷ run) ≡ project plan g run ++ gives plan g run d.node d.event d.answer
+unfolding project
+more_projected plan g run d = refl
 
 pub find_later : {X : Type 0} (p : X → Bool) (xs ys : List X) → find p (xs ++ ys) ≡ option_or (find p xs) (find p ys)
 find_later = find-append

@@ -1,16 +1,10 @@
 -- Whole runs of a cluster, from events, answers and packets.
-use Rattle.std.specs.Prelude.{◌≡◌, Bool, true, false, List, [], ◌∷◌, ◌++◌, Option, Some, None, option_map, reverse}
-use Rattle.gb_types.specs.declared.address.Addr.{Addr}
+use Rattle.std.specs.Prelude.{◌≡◌, List, [], ◌∷◌, ◌++◌, Option, Some, None, option_map, reverse}
 use Rattle.gb_types.specs.declared.node.NodeId.{NodeId}
-use Rattle.gb_types.specs.declared.refusal.Refusal.TheVariants.{OutOfMemory}
-use Rattle.gb_types.specs.declared.reply.Reply.TheVariants.{Refused}
-use Rattle.gb_node.specs.declared.answer.Halted.TheVariants.{Refused as HaltRefused}
 use Rattle.gb_node.specs.declared.answer.NodeAnswer.{NodeAnswer}
 use Rattle.gb_node.specs.declared.answer.NodeAnswer.TheVariants.{Reply as Replied, Taken, Sent, Ticked, Halted}
-use Rattle.gb_node.specs.declared.answer.PacketAnswer.TheVariants.{Refused as TakenRefused}
 use Rattle.gb_node.specs.declared.answer.Sent.{Sent as SentValue}
 use Rattle.gb_node.specs.declared.answer.Sent.TheVariants.{Packet as SentPacket, Nothing as SentNothing, Refused as SentRefused}
-use Rattle.gb_node.specs.declared.answer.Ticked.TheVariants.{Refused as TickRefused}
 use Rattle.gb_node.specs.declared.event.NodeEvent.{NodeEvent}
 use Rattle.gb_node.specs.declared.event.NodeEvent.TheVariants.{Packet as Came}
 use Rattle.gb_cluster.specs.ClusterStep.{packet_numbered, IsStep}
@@ -24,8 +18,6 @@ use Rattle.gb_cluster.specs.declared.event.Event.{Event}
 use Rattle.gb_cluster.specs.declared.event.Event.TheVariants.{At, Arrive}
 use Rattle.gb_types.specs.declared.plan.Plan.{Plan}
 use Rattle.gb_cluster.specs.declared.posted.Posted.{Posted}
-use Rattle.gb_isolation.specs.Isolation.{IsIsolated}
-use Rattle.gb_isolation.specs.Project.{is_fed}
 
 -- what a node sent, where a packet's number stands for its text among the packets
 abbrev pub sent_as : List Posted → Sending → Option SentValue
@@ -78,16 +70,3 @@ pub record IsRun (plan : Plan) (events : List Event) (answers : List Answer) (pa
   pub stepped : AreSteps (new_cluster plan) events answers v
   pub comes : ComesTo plan (run_of events answers packets) v
   pub sent : v.packets ≡ packets
-
--- each group of which no request was refused for want of memory is what it is alone
-abbrev pub IsIsolatedRun : Plan → List Event → List Answer → List Posted → ClusterValue → Type 0
-IsIsolatedRun plan events answers packets v = (g : Addr) → is_fed plan g (run_of events answers packets) ≡ true → IsIsolated plan (run_of events answers packets) v g
-
--- the answer is want of memory
-abbrev pub is_starved : Answer → Bool
-is_starved (AnswerReply (Refused OutOfMemory)) = true
-is_starved (AnswerTaken (TakenRefused OutOfMemory)) = true
-is_starved (AnswerSent (SendingRefused OutOfMemory)) = true
-is_starved (AnswerTicked (TickRefused OutOfMemory)) = true
-is_starved (AnswerHalted (HaltRefused OutOfMemory)) = true
-is_starved answer = false

@@ -16,6 +16,7 @@ use gb_types::node::NodeId;
 use std::alloc::Global;
 
 /// Whether this took a packet of the other node with this frame number.
+#[tactic(auto, using(crate::proofs::FrameLemmas::any_none, crate::proofs::FrameLemmas::any_one))]
 fn has_frame(key: &HmacKey, b: NodeId, number: u64, deed: &Deed) -> bool
     ensures { result ≡ list_any (is_frame b.number number) (taken_by key.now deed.now.event deed.now.answer) }
 {
@@ -35,14 +36,16 @@ pub(crate) fn has_come(key: &HmacKey, a: NodeId, b: NodeId, number: u64, deeds: 
 {
     let mut come = false;
     for i in 0..deeds.len() {
-        if deeds[i].is_at(a) {
-            come = has_frame(key, b, number, &deeds[i]) || come;
+        let deed = &deeds[i];
+        if deed.is_at(a) {
+            come = has_frame(key, b, number, deed) || come;
         }
     }
     come
 }
 
 /// Whether this took a packet of the other node that acknowledges this frame.
+#[tactic(auto, using(crate::proofs::FrameLemmas::any_none, crate::proofs::FrameLemmas::any_one))]
 fn acknowledges(key: &HmacKey, b: NodeId, number: u64, deed: &Deed) -> bool
     ensures { result ≡ list_any (is_ack b.number number) (taken_by key.now deed.now.event deed.now.answer) }
 {
@@ -80,10 +83,11 @@ pub(crate) fn was_acknowledged(
     let mut frames = 0usize;
     let mut acknowledged = false;
     for i in 0..deeds.len() {
-        if deeds[i].is_at(a) {
+        let deed = &deeds[i];
+        if deed.is_at(a) {
             acknowledged = acknowledged
-                || (number <= frames as u64 && acknowledges(key, b, number, &deeds[i]));
-            frames += frames_packed(key, b, &deeds[i]);
+                || (number <= frames as u64 && acknowledges(key, b, number, deed));
+            frames += frames_packed(key, b, deed);
         }
     }
     acknowledged
@@ -106,7 +110,7 @@ fn add_count(
 }
 
 /// How many items of the group each frame has that the node packed for the other, in order.
-#[tactic(auto, using(crate::proofs::PastLemmas::here, crate::proofs::PastLemmas::elsewhere, crate::proofs::PastLemmas::whole), unfolding(gb_node::specs::Past::frames_to, gb_cluster::specs::Run::past_at))]
+#[tactic(auto, using(crate::proofs::PastLemmas::whole))]
 pub(crate) fn counts_to(
     alloc: Global,
     addr: Addr,
@@ -119,8 +123,9 @@ pub(crate) fn counts_to(
 {
     let mut counts = Vec::new(alloc);
     for i in 0..deeds.len() {
-        if deeds[i].is_at(a) {
-            add_count(addr, key, b, &deeds[i], &mut counts)?;
+        let deed = &deeds[i];
+        if deed.is_at(a) {
+            add_count(addr, key, b, deed, &mut counts)?;
         }
     }
     Ok(counts)

@@ -52,7 +52,7 @@ fn add_reply(
 }
 
 /// The replies to the group's commands at the node.
-#[tactic(auto, using(crate::proofs::PastLemmas::here, crate::proofs::PastLemmas::elsewhere, crate::proofs::PastLemmas::whole), unfolding(gb_isolation::specs::Project::replies_in, gb_cluster::specs::Run::past_at))]
+#[tactic(auto, using(crate::proofs::PastLemmas::whole))]
 fn replies_at(
     alloc: Global,
     plan: &Plan,
@@ -64,8 +64,9 @@ fn replies_at(
 {
     let mut replies = Vec::new(alloc);
     for i in 0..deeds.len() {
-        if deeds[i].is_at(a) {
-            add_reply(alloc, plan, addr, a, &deeds[..i], &deeds[i], &mut replies)?;
+        let deed = &deeds[i];
+        if deed.is_at(a) {
+            add_reply(alloc, plan, addr, a, &deeds[..i], deed, &mut replies)?;
         }
     }
     Ok(replies)
@@ -90,7 +91,7 @@ fn add_frame(
 }
 
 /// The group's items in the frames that a node packed for another one.
-#[tactic(auto, using(crate::proofs::PastLemmas::here, crate::proofs::PastLemmas::elsewhere, crate::proofs::PastLemmas::whole, crate::proofs::FrameLemmas::more_frames), unfolding(gb_node::specs::Past::frames_to, gb_cluster::specs::Run::past_at))]
+#[tactic(auto, using(crate::proofs::PastLemmas::whole))]
 fn items_to(
     alloc: Global,
     addr: Addr,
@@ -103,8 +104,9 @@ fn items_to(
 {
     let mut items = Entries::new(alloc);
     for i in 0..deeds.len() {
-        if deeds[i].is_at(a) {
-            add_frame(alloc, addr, key, b, &deeds[i], &mut items)?;
+        let deed = &deeds[i];
+        if deed.is_at(a) {
+            add_frame(alloc, addr, key, b, deed, &mut items)?;
         }
     }
     Ok(items)

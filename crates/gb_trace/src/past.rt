@@ -65,8 +65,9 @@ pub(crate) fn row_at(a: NodeId, tenant: u16, deeds: &[Deed]) -> Option<&TenantRo
 {
     let mut found = None;
     for i in 0..deeds.len() {
-        if deeds[i].is_at(a) {
-            found = found.or(row_added(tenant, &deeds[i]));
+        let deed = &deeds[i];
+        if deed.is_at(a) {
+            found = found.or(row_added(tenant, deed));
         }
     }
     found
@@ -127,8 +128,9 @@ pub(crate) fn was_stopped(a: NodeId, deeds: &[Deed]) -> bool
 {
     let mut stopped = false;
     for i in 0..deeds.len() {
-        if deeds[i].is_at(a) {
-            stopped = stops(&deeds[i]) || stopped;
+        let deed = &deeds[i];
+        if deed.is_at(a) {
+            stopped = stops(deed) || stopped;
         }
     }
     stopped
@@ -154,8 +156,9 @@ pub(crate) fn was_met(plan: &Plan, addr: Addr, a: NodeId, deeds: &[Deed]) -> boo
 {
     let mut met = false;
     for i in 0..deeds.len() {
-        if deeds[i].is_at(a) {
-            met = meets(plan, addr, a, &deeds[..i], &deeds[i]) || met;
+        let deed = &deeds[i];
+        if deed.is_at(a) {
+            met = meets(plan, addr, a, &deeds[..i], deed) || met;
         }
     }
     met
@@ -200,8 +203,9 @@ pub(crate) fn made_with(addr: Addr, a: NodeId, deeds: &[Deed]) -> Option<&Spec>
 {
     let mut made = None;
     for i in 0..deeds.len() {
-        if deeds[i].is_at(a) {
-            made = makes(addr, &deeds[i]).or(made);
+        let deed = &deeds[i];
+        if deed.is_at(a) {
+            made = makes(addr, deed).or(made);
         }
     }
     made

@@ -65,7 +65,7 @@ fn of_deed(
 }
 
 /// What of all this concerns the group.
-#[tactic(auto, using(crate::proofs::PastLemmas::newest, crate::proofs::PastLemmas::whole), unfolding(gb_isolation::specs::Project::project))]
+#[tactic(auto, using(crate::proofs::PastLemmas::whole))]
 fn of_deeds(
     alloc: Global,
     plan: &Plan,

@@ -1,8 +1,8 @@
 use Rattle.std.proofs.Common.{List, ◌++◌, ◌∷◌, [], take, sym, ◌∙◌, ap, subst, arith}
 use Rattle.std.proofs.lemmas.List.{take_all, take_more}
 use Rattle.gb_cluster.specs.declared.event.Event.{Event}
-use Rattle.gb_trace.proofs.RunLemmas.{Goes, run_begins, run_goes, placed_at, is_run}
-use Rattle.gb_trace.proofs.run.run.Goals as goal
+use Rattle.gb_run.proofs.RunLemmas.{Goes, run_begins, run_goes, placed_at, is_run}
+use Rattle.gb_run.proofs.run.run.Goals as goal
 
 pub loop-event-init : goal.loop-event-init
 loop-event-init c = run_begins c.args.plan c.in_ok-answers.answers.items c.in_ok-cluster.cluster c.in_ok-answers.ensures.items c.in_ok-cluster.ensures.state c.in_ok-cluster.ensures.comes

@@ -3,14 +3,15 @@ ghost use Rattle.std.specs.Prelude.{◌≡◌, ◌↔◌, All, IsTrue, IfOk};
 ghost use Rattle.std.specs.List.{list_any};
 ghost use Rattle.gb_cluster.specs.ClusterStep.{IsPlaced};
 ghost use Rattle.gb_cluster.specs.ClusterValue.{ClusterValue, IsClusterPlan};
-ghost use Rattle.gb_trace.specs.Trace.{is_starved, IsRun, IsIsolatedRun};
+ghost use Rattle.gb_trace.specs.Trace.{IsRun};
+ghost use Rattle.gb_run.specs.Run.{is_starved, IsIsolatedRun};
 
-use crate::trace::Trace;
 use gb_cluster::answer::{Answer, Sending};
 use gb_cluster::cluster::Cluster;
 use gb_cluster::event::Event;
 use gb_isolation::laws::groups_are_isolated;
 use gb_node::answer::{Halted, PacketAnswer, Ticked};
+use gb_trace::trace::Trace;
 use gb_types::memory::OutOfMemory;
 use gb_types::plan::Plan;
 use gb_types::refusal::Refusal;

@@ -1,0 +1,21 @@
+use Rattle.std.proofs.Common.{◌<◌, ◌++◌, ◌∙◌, length, take, arith, ap, sym}
+use Rattle.std.specs.Prelude.{reverse}
+use Rattle.gb_isolation.specs.Project.{gives, project}
+use Rattle.gb_trace.proofs.PastLemmas.{newest, none_projected, more_projected}
+use Rattle.gb_trace.proofs.projection.of_deeds.Goals as goal
+
+pub loop-i-init : goal.loop-i-init
+loop-i-init c = c.new-steps.ensures.items ∙ sym (none_projected c.args.plan.now c.args.addr)
+
+pub loop-i-preserved : goal.loop-i-preserved
+loop-i-preserved c =
+    let plan = c.args.plan.now in
+    let g = c.args.addr in
+    let ds = c.args.deeds.now in
+    let i = c.loop-i.i in
+    let d = c.index-deeds-i.result in
+    let run = reverse (take i ds) in
+    let lt : i < length ds = omega arith in
+    c.in_ok-of_deed.ensures
+    ∙ (ap (λ xs. xs ++ gives plan g run d.node d.event d.answer) c.loop-i.invariant
+    ∙ sym (ap (project plan g) (newest ds i d lt c.index-deeds-i.is) ∙ more_projected plan g run d))
