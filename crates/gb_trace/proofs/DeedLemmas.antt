@@ -1,8 +1,7 @@
 -- What happened in a run, from its front.
-use Rattle.std.proofs.Common.{◌≡◌, ◌≢◌, ℕ, zero, suc, ◌+◌, ◌-◌, ◌<◌, List, [], ◌∷◌, ◌++◌, length, take, get_or, ◌∙◌, ap, sym, refl, arith, add-one, append_assoc}
-use Rattle.std.specs.Prelude.{min, slice_get}
+use Rattle.std.proofs.Common.{◌≡◌, ℕ, zero, suc, ◌+◌, ◌<◌, List, [], ◌∷◌, ◌++◌, length, take, get_or, ◌∙◌, ap, sym, refl, arith, add-one, append_assoc}
+use Rattle.std.specs.Prelude.{min}
 use Rattle.std.proofs.lemmas.List.{append-nil}
-use Rattle.gb_cluster.specs.ClusterStep.{packet_numbered}
 use Rattle.gb_cluster.specs.declared.answer.Answer.{Answer}
 use Rattle.gb_cluster.specs.declared.event.Event.{Event}
 use Rattle.gb_cluster.specs.declared.posted.Posted.{Posted}
@@ -36,8 +35,3 @@ all_deeds ps zero (x ∷ es) (y ∷ rs) is = absurd (omega arith)
 all_deeds ps (suc n) [] rs is = refl
 all_deeds ps (suc n) (x ∷ es) [] is = refl
 all_deeds ps (suc n) (x ∷ es) (y ∷ rs) is = ap (λ ds. did_in ps x y ++ ds) (all_deeds ps n es rs (omega arith))
-
--- the packet with a number that is not 0
-pub numbered_is : (ps : List Posted) (n : ℕ) → n ≢ 0 → packet_numbered ps n ≡ slice_get ps (n - 1)
-numbered_is ps zero some = absurd (some refl)
-numbered_is ps (suc k) some = let same : k ≡ suc k - 1 = omega arith in ap (slice_get ps) same

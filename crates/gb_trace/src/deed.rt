@@ -63,7 +63,6 @@ impl Deed {
 }
 
 /// The packet with the number.
-#[tactic(auto, using(crate::proofs::DeedLemmas::numbered_is))]
 pub(crate) fn packet_of(packets: &[Posted], number: u64) -> Option<&Posted>
     ensures { MatchOption result (packet_numbered packets.now number ≡ None) (λ p. packet_numbered packets.now number ≡ Some p.now) }
 {

@@ -110,7 +110,6 @@ fn add_count(
 }
 
 /// How many items of the group each frame has that the node packed for the other, in order.
-#[tactic(auto, using(crate::proofs::PastLemmas::whole))]
 pub(crate) fn counts_to(
     alloc: Global,
     addr: Addr,

@@ -52,7 +52,6 @@ fn add_reply(
 }
 
 /// The replies to the group's commands at the node.
-#[tactic(auto, using(crate::proofs::PastLemmas::whole))]
 fn replies_at(
     alloc: Global,
     plan: &Plan,
@@ -91,7 +90,6 @@ fn add_frame(
 }
 
 /// The group's items in the frames that a node packed for another one.
-#[tactic(auto, using(crate::proofs::PastLemmas::whole))]
 fn items_to(
     alloc: Global,
     addr: Addr,

@@ -65,7 +65,6 @@ fn of_deed(
 }
 
 /// What of all this concerns the group.
-#[tactic(auto, using(crate::proofs::PastLemmas::whole))]
 fn of_deeds(
     alloc: Global,
     plan: &Plan,

@@ -1,9 +1,9 @@
-use Rattle.std.proofs.Common.{◌<◌, ◌∙◌, length, take, arith, sym}
+use Rattle.std.proofs.Common.{◌<◌, ◌≤◌, ◌∙◌, length, take, arith, ap, sym}
 use Rattle.gb_node.specs.Past.{packed_for, frames_to}
 use Rattle.gb_isolation.specs.Project.{items_of}
 use Rattle.gb_trace.specs.Deeds.{past_in}
 use Rattle.gb_trace.proofs.FrameLemmas.{no_items, items_more}
-use Rattle.gb_trace.proofs.PastLemmas.{longer, as_long}
+use Rattle.gb_trace.proofs.PastLemmas.{whole, longer, as_long}
 use Rattle.gb_trace.proofs.observation.items_to.Goals as goal
 use Rattle.gb_trace.proofs.observation.items_to.Goals.{then-is_at+in_ok-add_frame, else-is_at}
 
@@ -28,3 +28,9 @@ loop-i-preserved c =
           rw w.items-is
           (as_long (λ past. items_of g (frames_to key b past)) c.args.a ds i d c.loop-i.items lt c.index-deeds-i.is (sym c.is_at.ensures ∙ w.if-is_at.false) c.loop-i.invariant)
     ]
+
+pub returns : goal.returns
+returns c =
+    let ds = c.args.deeds.now in
+    let all : length ds ≤ c.loop-i.i = omega arith in
+    c.loop-i.invariant ∙ ap (λ xs. items_of c.args.addr (frames_to c.args.key.now c.args.b.number (past_in c.args.a xs))) (whole ds c.loop-i.i all)

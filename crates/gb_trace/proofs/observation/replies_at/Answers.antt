@@ -1,8 +1,8 @@
-use Rattle.std.proofs.Common.{◌<◌, ◌∙◌, length, take, arith, sym}
+use Rattle.std.proofs.Common.{◌<◌, ◌≤◌, ◌∙◌, length, take, arith, ap, sym}
 use Rattle.gb_cluster.specs.ClusterValue.{node_plan}
 use Rattle.gb_isolation.specs.Project.{reply_in, replies_in}
 use Rattle.gb_trace.specs.Deeds.{past_in}
-use Rattle.gb_trace.proofs.PastLemmas.{longer, as_long, no_replies, replies_more}
+use Rattle.gb_trace.proofs.PastLemmas.{whole, longer, as_long, no_replies, replies_more}
 use Rattle.gb_trace.proofs.observation.replies_at.Goals as goal
 use Rattle.gb_trace.proofs.observation.replies_at.Goals.{then-is_at+in_ok-add_reply, else-is_at}
 
@@ -27,3 +27,9 @@ loop-i-preserved c =
           rw w.replies-is
           (as_long (replies_in plan g) c.args.a ds i d c.loop-i.replies.items lt c.index-deeds-i.is (sym c.is_at.ensures ∙ w.if-is_at.false) c.loop-i.invariant)
     ]
+
+pub returns : goal.returns
+returns c =
+    let ds = c.args.deeds.now in
+    let all : length ds ≤ c.loop-i.i = omega arith in
+    c.loop-i.invariant ∙ ap (λ xs. replies_in (node_plan c.args.plan.now c.args.a) c.args.addr (past_in c.args.a xs)) (whole ds c.loop-i.i all)

@@ -1,7 +1,7 @@
-use Rattle.std.proofs.Common.{◌<◌, ◌++◌, ◌∙◌, length, take, arith, ap, sym}
+use Rattle.std.proofs.Common.{◌<◌, ◌≤◌, ◌++◌, ◌∙◌, length, take, arith, ap, sym}
 use Rattle.std.specs.Prelude.{reverse}
 use Rattle.gb_isolation.specs.Project.{gives, project}
-use Rattle.gb_trace.proofs.PastLemmas.{newest, none_projected, more_projected}
+use Rattle.gb_trace.proofs.PastLemmas.{newest, whole, none_projected, more_projected}
 use Rattle.gb_trace.proofs.projection.of_deeds.Goals as goal
 
 pub loop-i-init : goal.loop-i-init
@@ -19,3 +19,9 @@ loop-i-preserved c =
     c.in_ok-of_deed.ensures
     ∙ (ap (λ xs. xs ++ gives plan g run d.node d.event d.answer) c.loop-i.invariant
     ∙ sym (ap (project plan g) (newest ds i d lt c.index-deeds-i.is) ∙ more_projected plan g run d))
+
+pub returns : goal.returns
+returns c =
+    let ds = c.args.deeds.now in
+    let all : length ds ≤ c.loop-i.i = omega arith in
+    c.loop-i.invariant ∙ ap (λ xs. project c.args.plan.now c.args.addr (reverse xs)) (whole ds c.loop-i.i all)
