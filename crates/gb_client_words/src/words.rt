@@ -1,6 +1,7 @@
 //! The words of the command line.
 ghost use Rattle.std.specs.Prelude.{◌≡◌, ◌+◌, ◌≤◌};
 
+use clap::builder::ValueParser;
 use clap::{Arg, ArgAction, ArgMatches, Command};
 use gb_cap::token::Need;
 use gb_client::task::{Asked, Task};
@@ -30,197 +31,287 @@ impl Plan<'_> {
     }
 }
 
-// The words behind a subcommand, each with its name and what it is.
-const T: (&str, &str) = ("T", "the tenant's number, 0 to 65535");
+// How an argument is given.
+enum Form {
+    // A required word in its place.
+    Word,
+    // A word in its place that may be left out.
+    OptionalWord,
+    // `--NAME`, for payloads as text.
+    Flag,
+    // `--NAME VALUE`, which may be left out, with the name of its value.
+    Named(&'static str),
+    // The same, with the value that stands for one that is left out.
+    Defaulted(&'static str, &'static str),
+    // `--NAME VALUE`, which is required, with the name of its value and the least and the most number.
+    Number(&'static str, i64, i64),
+}
 
-const G: (&str, &str) = ("G", "the group's number, below the tenant's GROUPS");
+// An argument: its name, what it is, and how it is given.
+struct ArgWords {
+    name: &'static str,
+    help: &'static str,
+    form: Form,
+}
 
-const KIND: (&str, &str) = (
-    "KIND",
-    "how messages are broadcast: beb, lazy, eager, allack, or in first-in first-out order fbeb, flazy, feager, fallack",
-);
+const T: ArgWords = ArgWords {
+    name: "T",
+    help: "the tenant's number, 0 to 65535",
+    form: Form::Word,
+};
 
-const MEMBERS: (&str, &str) = (
-    "MEMBERS",
-    "the nodes of the group, rising, with commas: 0,1,2",
-);
+const G: ArgWords = ArgWords {
+    name: "G",
+    help: "the group's number, below the tenant's GROUPS",
+    form: Form::Word,
+};
 
-const GROUPS: (&str, &str) = ("GROUPS", "how many groups the tenant may make, 1 to 256");
+const KIND: ArgWords = ArgWords {
+    name: "KIND",
+    help: "how messages are broadcast: beb, lazy, eager, allack, or in first-in first-out order fbeb, flazy, feager, fallack",
+    form: Form::Word,
+};
 
-const MSGS: (&str, &str) = (
-    "MSGS",
-    "how many messages each member may say in a group, 1 to 1024",
-);
+const MEMBERS: ArgWords = ArgWords {
+    name: "MEMBERS",
+    help: "the nodes of the group, rising, with commas: 0,1,2",
+    form: Form::Word,
+};
 
-const BYTES: (&str, &str) = (
-    "BYTES",
-    "how many payload bytes each member may say in a group, 0 to 65536",
-);
+const GROUPS: ArgWords = ArgWords {
+    name: "GROUPS",
+    help: "how many groups the tenant may make, 1 to 256",
+    form: Form::Word,
+};
 
-const WINDOW: (&str, &str) = (
-    "WINDOW",
-    "how many own messages of a member may be unfinished at once, 1 to 1024",
-);
+const MSGS: ArgWords = ArgWords {
+    name: "MSGS",
+    help: "how many messages each member may say in a group, 1 to 1024",
+    form: Form::Word,
+};
 
-const PAYLOAD: (&str, &str) = (
-    "PAYLOAD",
-    "the message: hexadecimal digits, or - for no bytes; with --text the text itself",
-);
+const BYTES: ArgWords = ArgWords {
+    name: "BYTES",
+    help: "how many payload bytes each member may say in a group, 0 to 65536",
+    form: Form::Word,
+};
 
-const FROM: (&str, &str) = (
-    "FROM",
-    "the place of the first entry to give; the log's first entry has place 0",
-);
+const WINDOW: ArgWords = ArgWords {
+    name: "WINDOW",
+    help: "how many own messages of a member may be unfinished at once, 1 to 1024",
+    form: Form::Word,
+};
 
-const MAX: (&str, &str) = ("MAX", "how many entries to give at most, up to 16");
+const PAYLOAD: ArgWords = ArgWords {
+    name: "PAYLOAD",
+    help: "the message: hexadecimal digits, or - for no bytes; with --text the text itself",
+    form: Form::Word,
+};
 
-const NEED: (&str, &str) = ("NEED", "whose token: admin, tenant or member");
+const FROM: ArgWords = ArgWords {
+    name: "FROM",
+    help: "the place of the first entry to give; the log's first entry has place 0",
+    form: Form::Word,
+};
 
-static TENANT_WORDS: [(&str, &str); 5] = [T, GROUPS, MSGS, BYTES, WINDOW];
+const MAX: ArgWords = ArgWords {
+    name: "MAX",
+    help: "how many entries to give at most, up to 16",
+    form: Form::Word,
+};
 
-static MAKE_WORDS: [(&str, &str); 7] = [T, G, KIND, MEMBERS, MSGS, BYTES, WINDOW];
+const PAYLOAD_AS_TEXT: ArgWords = ArgWords {
+    name: "text",
+    help: "PAYLOAD is text",
+    form: Form::Flag,
+};
 
-static GROUP_WORDS: [(&str, &str); 2] = [T, G];
+const ENTRIES_AS_TEXT: ArgWords = ArgWords {
+    name: "text",
+    help: "show payloads as text, in quotes, an entry a line",
+    form: Form::Flag,
+};
 
-static SAY_WORDS: [(&str, &str); 3] = [T, G, PAYLOAD];
+const NEED: ArgWords = ArgWords {
+    name: "NEED",
+    help: "whose token: admin, tenant or member",
+    form: Form::Word,
+};
 
-static FETCH_WORDS: [(&str, &str); 4] = [T, G, FROM, MAX];
+const HOLDER_T: ArgWords = ArgWords {
+    name: "T",
+    help: "the tenant's number, for tenant and member",
+    form: Form::OptionalWord,
+};
 
-// The words behind a request's subcommand.
-fn words_of(head: Head) -> &'static [(&'static str, &'static str)] {
-    match head {
-        Head::Tenant => TENANT_WORDS.as_slice(),
-        Head::Make => MAKE_WORDS.as_slice(),
-        Head::Open => GROUP_WORDS.as_slice(),
-        Head::Shut => GROUP_WORDS.as_slice(),
-        Head::Drop => GROUP_WORDS.as_slice(),
-        Head::Say => SAY_WORDS.as_slice(),
-        Head::Fetch => FETCH_WORDS.as_slice(),
+const HOLDER_G: ArgWords = ArgWords {
+    name: "G",
+    help: "the group's number, for member",
+    form: Form::OptionalWord,
+};
+
+const FIRST: ArgWords = ArgWords {
+    name: "from",
+    help: "the place of the first entry to print",
+    form: Form::Defaulted("FROM", "0"),
+};
+
+const TIMES: ArgWords = ArgWords {
+    name: "times",
+    help: "fetch so many times at most, half a second after one that gave nothing",
+    form: Form::Defaulted("N", "1000"),
+};
+
+const PORT: ArgWords = ArgWords {
+    name: "port",
+    help: "the server's base port; node I's sessions are on port P + 64 + I of 127.0.0.1",
+    form: Form::Number("P", 1_024, 65_000),
+};
+
+const NODE: ArgWords = ArgWords {
+    name: "node",
+    help: "the node to ask",
+    form: Form::Number("I", 0, 15),
+};
+
+const SECRETS: ArgWords = ArgWords {
+    name: "secrets",
+    help: "the file with keys and tokens; standard input where it is not given",
+    form: Form::Named("FILE"),
+};
+
+// The options that stand before the subcommand.
+static OPTIONS: &[ArgWords] = &[PORT, NODE, SECRETS];
+
+// What a subcommand asks for.
+#[derive(Clone, Copy)]
+enum Purpose {
+    Token,
+    Ask(Head),
+    Follow,
+}
+
+// A subcommand: its name, what it asks for and what it does, and what stands behind it.
+struct SubcommandWords {
+    name: &'static str,
+    purpose: Purpose,
+    about: &'static str,
+    args: &'static [ArgWords],
+}
+
+static SUBCOMMANDS: &[SubcommandWords] = &[
+    SubcommandWords {
+        name: "token",
+        purpose: Purpose::Token,
+        about: "Prints a token, made of a key; asks no server",
+        args: &[NEED, HOLDER_T, HOLDER_G],
+    },
+    SubcommandWords {
+        name: "tenant",
+        purpose: Purpose::Ask(Head::Tenant),
+        about: "Takes a tenant in, with the key of the secrets' line tenant",
+        args: &[T, GROUPS, MSGS, BYTES, WINDOW],
+    },
+    SubcommandWords {
+        name: "make",
+        purpose: Purpose::Ask(Head::Make),
+        about: "Makes a group at the node; each member's node makes it",
+        args: &[T, G, KIND, MEMBERS, MSGS, BYTES, WINDOW],
+    },
+    SubcommandWords {
+        name: "open",
+        purpose: Purpose::Ask(Head::Open),
+        about: "Opens a group that was made, so that messages may be said",
+        args: &[T, G],
+    },
+    SubcommandWords {
+        name: "shut",
+        purpose: Purpose::Ask(Head::Shut),
+        about: "Shuts an open group: nothing more is said in it at the node",
+        args: &[T, G],
+    },
+    SubcommandWords {
+        name: "drop",
+        purpose: Purpose::Ask(Head::Drop),
+        about: "Drops a group at the node for good, with its log",
+        args: &[T, G],
+    },
+    SubcommandWords {
+        name: "say",
+        purpose: Purpose::Ask(Head::Say),
+        about: "Says a message in a group",
+        args: &[T, G, PAYLOAD, PAYLOAD_AS_TEXT],
+    },
+    SubcommandWords {
+        name: "fetch",
+        purpose: Purpose::Ask(Head::Fetch),
+        about: "Gives entries of a group's log",
+        args: &[T, G, FROM, MAX, ENTRIES_AS_TEXT],
+    },
+    SubcommandWords {
+        name: "follow",
+        purpose: Purpose::Follow,
+        about: "Fetches a group's log as it grows, and prints its new entries",
+        args: &[T, G, FIRST, TIMES, ENTRIES_AS_TEXT],
+    },
+];
+
+// An argument that is an option with a value.
+fn with_value<'a>(arg: Arg<'a>, name: &'static str, value_name: &'static str) -> Arg<'a> {
+    arg.long(name).value_name(value_name).action(ArgAction::Set)
+}
+
+// The argument that a row of a table says.
+fn arg_of<'a>(alloc: Global, words: &ArgWords) -> Arg<'a> {
+    let name = words.name;
+    let bare = Arg::new(alloc, name).help(words.help);
+    match words.form {
+        Form::Word => bare.action(ArgAction::Set).required(true),
+        Form::OptionalWord => bare.action(ArgAction::Set),
+        Form::Flag => bare.long(name).action(ArgAction::SetTrue),
+        Form::Named(value_name) => with_value(bare, name, value_name),
+        Form::Defaulted(value_name, value) => {
+            with_value(bare, name, value_name).default_value(value)
+        }
+        Form::Number(value_name, least, most) => {
+            with_value(bare, name, value_name)
+                .required(true)
+                .value_parser(ValueParser::Signed(least, most))
+        }
     }
 }
 
-// A command whose words are all required.
-fn with_words<'a>(
+// A command with more arguments.
+fn with_args<'a>(
     alloc: Global,
     command: Command<'a>,
-    words: &[(&'static str, &'static str)],
+    args: &[ArgWords],
 ) -> Result<Command<'a>, AllocError> {
     let mut command = command;
-    for word in words {
-        let arg = Arg::new(alloc, word.0)
-            .required(true)
-            .action(ArgAction::Set)
-            .help(word.1);
-        command = command.arg(arg)?;
+    for words in args {
+        command = command.arg(arg_of(alloc, words))?;
     }
     Ok(command)
 }
 
-// The flag for payloads as text.
-fn text_flag<'a>(alloc: Global, help: &'static str) -> Arg<'a> {
-    Arg::new(alloc, "text")
-        .long("text")
-        .action(ArgAction::SetTrue)
-        .help(help)
+// The subcommand that a row of the table says.
+fn subcommand_of<'a>(alloc: Global, words: &SubcommandWords) -> Result<Command<'a>, AllocError> {
+    let bare = Command::new(alloc, words.name).about(words.about);
+    with_args(alloc, bare, words.args)
 }
 
-// A request's subcommand.
-fn request_command<'a>(
+// A command with more subcommands.
+fn with_subcommands<'a>(
     alloc: Global,
-    name: &'static str,
-    head: Head,
-    about: &'static str,
+    command: Command<'a>,
+    subcommands: &[SubcommandWords],
 ) -> Result<Command<'a>, AllocError> {
-    let command = with_words(
-        alloc,
-        Command::new(alloc, name).about(about),
-        words_of(head),
-    )?;
-    match head {
-        Head::Say => command.arg(text_flag(alloc, "PAYLOAD is text")),
-        Head::Fetch => command.arg(text_flag(
-            alloc,
-            "show payloads as text, in quotes, an entry a line",
-        )),
-        _ => Ok(command),
+    let mut command = command;
+    for words in subcommands {
+        let subcommand = subcommand_of(alloc, words)?;
+        command = command.subcommand(subcommand)?;
     }
-}
-
-fn token_command<'a>(alloc: Global) -> Result<Command<'a>, AllocError> {
-    Command::new(alloc, "token")
-        .about("Prints a token, made of a key; asks no server")
-        .arg(
-            Arg::new(alloc, NEED.0)
-                .required(true)
-                .action(ArgAction::Set)
-                .help(NEED.1),
-        )?
-        .arg(
-            Arg::new(alloc, T.0)
-                .action(ArgAction::Set)
-                .help("the tenant's number, for tenant and member"),
-        )?
-        .arg(
-            Arg::new(alloc, G.0)
-                .action(ArgAction::Set)
-                .help("the group's number, for member"),
-        )
-}
-
-fn follow_command<'a>(alloc: Global) -> Result<Command<'a>, AllocError> {
-    let command = Command::new(alloc, "follow").about(
-        "Fetches a group's log as it grows, and prints its new entries",
-    );
-    with_words(alloc, command, GROUP_WORDS.as_slice())?
-        .arg(
-            Arg::new(alloc, "from")
-                .long("from")
-                .value_name("FROM")
-                .action(ArgAction::Set)
-                .default_value("0")
-                .help("the place of the first entry to print"),
-        )?
-        .arg(
-            Arg::new(alloc, "times")
-                .long("times")
-                .value_name("N")
-                .action(ArgAction::Set)
-                .default_value("1000")
-                .help("fetch so many times at most, half a second after one that gave nothing"),
-        )?
-        .arg(text_flag(alloc, "show payloads as text, in quotes, an entry a line"))
-}
-
-// The options that stand before the subcommand.
-fn with_options<'a>(alloc: Global, command: Command<'a>) -> Result<Command<'a>, AllocError> {
-    command
-        .arg(
-            Arg::new(alloc, "port")
-                .long("port")
-                .value_name("P")
-                .required(true)
-                .action(ArgAction::Set)
-                .value_parser(clap::value_parser!(u16).range(1_024..=65_000))
-                .help(
-                    "the server's base port; node I's sessions are on port P + 64 + I of 127.0.0.1",
-                ),
-        )?
-        .arg(
-            Arg::new(alloc, "node")
-                .long("node")
-                .value_name("I")
-                .required(true)
-                .action(ArgAction::Set)
-                .value_parser(clap::value_parser!(u8).range(0..=15))
-                .help("the node to ask"),
-        )?
-        .arg(
-            Arg::new(alloc, "secrets")
-                .long("secrets")
-                .value_name("FILE")
-                .action(ArgAction::Set)
-                .help("the file with keys and tokens; standard input where it is not given"),
-        )
+    Ok(command)
 }
 
 /// What the help says behind the options.
@@ -237,76 +328,39 @@ Exit status: 0 for a reply that is no refusal, 1 for a refusal, 2 for wrong word
 
 /// The command line.
 pub fn command<'a>(alloc: Global) -> Result<Command<'a>, AllocError> {
-    let command = Command::new(alloc, "gb_ctl")
+    let bare = Command::new(alloc, "gb_ctl")
         .about("Asks a node of a group broadcast server, and prints its reply")
         .after_help(AFTER)
         .subcommand_required(true);
-    with_options(alloc, command)?
-        .subcommand(token_command(alloc)?)?
-        .subcommand(request_command(
-            alloc,
-            "tenant",
-            Head::Tenant,
-            "Takes a tenant in, with the key of the secrets' line tenant",
-        )?)?
-        .subcommand(request_command(
-            alloc,
-            "make",
-            Head::Make,
-            "Makes a group at the node; each member's node makes it",
-        )?)?
-        .subcommand(request_command(
-            alloc,
-            "open",
-            Head::Open,
-            "Opens a group that was made, so that messages may be said",
-        )?)?
-        .subcommand(request_command(
-            alloc,
-            "shut",
-            Head::Shut,
-            "Shuts an open group: nothing more is said in it at the node",
-        )?)?
-        .subcommand(request_command(
-            alloc,
-            "drop",
-            Head::Drop,
-            "Drops a group at the node for good, with its log",
-        )?)?
-        .subcommand(request_command(alloc, "say", Head::Say, "Says a message in a group")?)?
-        .subcommand(request_command(
-            alloc,
-            "fetch",
-            Head::Fetch,
-            "Gives entries of a group's log",
-        )?)?
-        .subcommand(follow_command(alloc)?)
+    let command = with_args(alloc, bare, OPTIONS)?;
+    with_subcommands(alloc, command, SUBCOMMANDS)
 }
 
-// The request's subcommand with this name.
-fn head_of(name: &str) -> Option<Head> {
-    match name {
-        "tenant" => Some(Head::Tenant),
-        "make" => Some(Head::Make),
-        "open" => Some(Head::Open),
-        "shut" => Some(Head::Shut),
-        "drop" => Some(Head::Drop),
-        "say" => Some(Head::Say),
-        "fetch" => Some(Head::Fetch),
-        _ => None,
+// The subcommand with this name.
+fn subcommand_named(
+    subcommands: &'static [SubcommandWords],
+    name: &str,
+) -> Option<&'static SubcommandWords> {
+    for words in subcommands {
+        if words.name == name {
+            return Some(words);
+        }
     }
+    None
 }
 
-// The words that were given for these.
+// The required words among these arguments that were given.
 fn given<'a>(
     alloc: Global,
     matches: &ArgMatches<'a>,
-    words: &[(&'static str, &'static str)],
+    args: &[ArgWords],
 ) -> Result<Vec<&'a str>, AllocError> {
     let mut given = Vec::new(alloc);
-    for word in words {
-        if let Some(text) = matches.get_str(word.0) {
-            given.push(text)?;
+    for words in args {
+        if let Form::Word = words.form {
+            if let Some(text) = matches.get_str(words.name) {
+                given.push(text)?;
+            }
         }
     }
     Ok(given)
@@ -314,19 +368,16 @@ fn given<'a>(
 
 // What a token is asked for.
 fn need<'a>(node: NodeId, matches: &ArgMatches<'a>) -> Option<Need> {
-    match (
-        matches.get_str(NEED.0)?,
-        matches.get_str(T.0),
-        matches.get_str(G.0),
-    ) {
-        ("admin", None, None) => Some(Need::Admin),
-        ("tenant", Some(tenant), None) => Some(Need::Tenant(read_u16(tenant.as_bytes())?)),
-        ("member", Some(tenant), Some(group)) => {
-            Some(Need::Member(
-                read_u16(tenant.as_bytes())?,
-                read_u16(group.as_bytes())?,
-                node,
-            ))
+    let need = matches.get_str("NEED")?;
+    let tenant = matches.get_str("T");
+    let group = matches.get_str("G");
+    match need {
+        "admin" if tenant.is_none() && group.is_none() => Some(Need::Admin),
+        "tenant" if group.is_none() => Some(Need::Tenant(read_u16(tenant?.as_bytes())?)),
+        "member" => {
+            let tenant = read_u16(tenant?.as_bytes())?;
+            let group = read_u16(group?.as_bytes())?;
+            Some(Need::Member(tenant, group, node))
         }
         _ => None,
     }
@@ -337,39 +388,54 @@ fn number<'a>(matches: &ArgMatches<'a>, id: &str) -> Option<u32> {
     read_u32(matches.get_str(id)?.as_bytes())
 }
 
+// What is asked of a node, with the words that were given.
+fn asked<'a>(
+    alloc: Global,
+    head: Head,
+    matches: &ArgMatches<'a>,
+    args: &[ArgWords],
+) -> Result<Asked<'a>, AllocError> {
+    let is_text = matches.get_flag("text");
+    let words = given(alloc, matches, args)?;
+    Ok(Asked {
+        head,
+        words,
+        is_text,
+    })
+}
+
+// A log to follow. None where the options are no numbers.
+fn follow_task<'a>(
+    alloc: Global,
+    matches: &ArgMatches<'a>,
+    args: &[ArgWords],
+) -> Result<Option<Task<'a>>, AllocError> {
+    let from = number(matches, "from");
+    let times = number(matches, "times");
+    let (Some(from), Some(times)) = (from, times) else {
+        return Ok(None);
+    };
+    let asked = asked(alloc, Head::Fetch, matches, args)?;
+    Ok(Some(Task::Follow(asked, from, times)))
+}
+
 // What a subcommand asks for. None where its words do not spell it.
 fn task<'a>(
     alloc: Global,
     node: NodeId,
-    name: &str,
+    subcommand: &SubcommandWords,
     matches: &ArgMatches<'a>,
 ) -> Result<Option<Task<'a>>, AllocError> {
-    if name == "token" {
-        let Some(need) = need(node, matches) else {
-            return Ok(None);
-        };
-        return Ok(Some(Task::Token(need)));
-    }
-    let is_text = matches.get_flag("text");
-    if let Some(head) = head_of(name) {
-        let words = given(alloc, matches, words_of(head))?;
-        return Ok(Some(Task::Ask(Asked {
-            head,
-            words,
-            is_text,
-        })));
-    }
-    let words = given(alloc, matches, GROUP_WORDS.as_slice())?;
-    match (number(matches, "from"), number(matches, "times")) {
-        (Some(from), Some(times)) => {
-            let asked = Asked {
-                head: Head::Fetch,
-                words,
-                is_text,
-            };
-            Ok(Some(Task::Follow(asked, from, times)))
+    match subcommand.purpose {
+        Purpose::Token => match need(node, matches) {
+            Some(need) => Ok(Some(Task::Token(need))),
+            None => Ok(None),
+        },
+        Purpose::Ask(head) => {
+            let asked = asked(alloc, head, matches, subcommand.args)?;
+            Ok(Some(Task::Ask(asked)))
         }
-        _ => Ok(None),
+        Purpose::Follow => follow_task(alloc, matches, subcommand.args),
     }
 }
 
@@ -391,7 +457,10 @@ pub fn plan_of<'a>(
     let Some((name, inner)) = matches.subcommand() else {
         return Ok(None);
     };
-    let Some(task) = task(alloc, node, name, inner)? else {
+    let Some(subcommand) = subcommand_named(SUBCOMMANDS, name) else {
+        return Ok(None);
+    };
+    let Some(task) = task(alloc, node, subcommand, inner)? else {
         return Ok(None);
     };
     Ok(Some(Plan {
