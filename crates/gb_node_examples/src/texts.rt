@@ -1,133 +1,178 @@
-// Texts that are no packet for a node.
-use crate::pair::{CLUSTER_KEY, sealed};
-use gb_cap::hmac::Key;
+// Packets of the first node to the second that no node sent, and texts that are no packet for the second node.
+use crate::steps::SECOND;
+use gb_cap::hmac::{Key, hmac};
 use gb_frame::fault::PacketFault;
 use gb_node::answer::PacketAnswer;
 use gb_node::node::Node;
+use gb_node::packet_text::PacketText;
 use gb_types::memory::OutOfMemory;
 use std::alloc::Global;
+use std::process::Abort;
 
-/// A packet of the first node to the second: frame 1 with one item, before its tag.
-const BODY: [u8; 41] = [
-    b'G', b'B', 1, 0, 1, 0, 0, 0, 0, 0, 0, 0, 1, 0, 0, 0, 0, 0, 0, 0, 0, 0, 0, 0, 0, 0, 0, 0, 1, 0,
-    1, 0, 7, 0, 1, 0, 0, 1, 0, 1, b'a',
-];
+pub const CLUSTER_KEY: Key = [0x11; 32];
 
 const OTHER_KEY: Key = [4; 32];
 
-/// A text, and how it is answered.
-#[derive(Drop)]
-pub struct Faulty {
-    text: Vec<u8>,
-    fault: PacketFault,
+/// Puts the tag of a text under a key behind it.
+fn seal(text: &mut Vec<u8>, key: &Key) -> Result<(), OutOfMemory> {
+    let tag = hmac(key, text);
+    text.extend_from_slice(&tag[..8])?;
+    Ok(())
 }
 
-/// What is changed in the body, which has eight zero bytes in place of its tag, and how that is answered.
-const CHANGES: [(usize, u8, PacketFault); 10] = [
-    (0, 0, PacketFault::Magic),
-    (2, 2, PacketFault::Version),
-    (4, 0, PacketFault::Node),
-    (20, 1, PacketFault::Mask),
-    (12, 0, PacketFault::Mask),
-    (28, 0, PacketFault::Count),
-    (30, 0, PacketFault::Count),
-    (38, 4, PacketFault::Length),
-    (0, b'G', PacketFault::Tag),
-    (40, b'b', PacketFault::Tag),
+/// Appends numbers and items, and seals the text.
+fn spell(text: &mut Vec<u8>, numbers: &[u64], items: &[u8]) -> Result<(), OutOfMemory> {
+    for number in numbers {
+        text.extend_from_slice(&number.to_be_bytes())?;
+    }
+    text.extend_from_slice(items)?;
+    seal(text, &CLUSTER_KEY)
+}
+
+/// A packet of the first node to the second, with this base, mask and frame, and these items behind their count.
+pub fn packet(alloc: Global, numbers: &[u64], items: &[u8]) -> Result<PacketText, OutOfMemory> {
+    let mut text = Vec::from_slice(alloc, b"GB\x01\0\x01")?;
+    spell(&mut text, numbers, items)?;
+    Ok(PacketText::from(text))
+}
+
+/// A packet of the first node to the second, frame 1 with one item, before its tag; then nine zeros.
+const TEXT: &[u8] =
+    b"GB\x01\0\x01\0\0\0\0\0\0\0\x01\0\0\0\0\0\0\0\0\0\0\0\0\0\0\0\x01\0\x01\0\x07\0\x01\0\0\x01\0\x01a\0\0\0\0\0\0\0\0\0";
+
+/// What is put behind a text.
+enum Tag {
+    Nothing,
+    /// Its tag under a key, in whose last byte these bits are turned.
+    Under(Key, u8),
+}
+
+/// So many bytes of `TEXT`, one of which is changed, what is put behind them, and how that is answered.
+type Faulty = (usize, usize, u8, Tag, PacketFault);
+
+const FAULTY: &[Faulty] = &[
+    // With eight zeros in place of the tag.
+    (49, 0, 0, Tag::Nothing, PacketFault::Magic),
+    (49, 2, 2, Tag::Nothing, PacketFault::Version),
+    (49, 4, 0, Tag::Nothing, PacketFault::Node),
+    (49, 20, 1, Tag::Nothing, PacketFault::Mask),
+    (49, 12, 0, Tag::Nothing, PacketFault::Mask),
+    (49, 28, 0, Tag::Nothing, PacketFault::Count),
+    (49, 30, 0, Tag::Nothing, PacketFault::Count),
+    (49, 38, 4, Tag::Nothing, PacketFault::Length),
+    (49, 0, b'G', Tag::Nothing, PacketFault::Tag),
+    (49, 40, b'b', Tag::Nothing, PacketFault::Tag),
+    (50, 0, b'G', Tag::Nothing, PacketFault::Trailing),
+    // Under another key, with another tag, for another node, and from outside the cluster.
+    (41, 0, b'G', Tag::Under(OTHER_KEY, 0), PacketFault::Tag),
+    (41, 0, b'G', Tag::Under(CLUSTER_KEY, 1), PacketFault::Tag),
+    (41, 4, 2, Tag::Under(CLUSTER_KEY, 0), PacketFault::Node),
+    (41, 3, 3, Tag::Under(CLUSTER_KEY, 0), PacketFault::Node),
 ];
 
-/// A byte of the body that is changed, the key that seals it, what is changed in the last byte of its tag, and how that is
-/// answered: under another key, with another tag, for another node, and from outside the cluster.
-const SEALS: [(usize, u8, Key, u8, PacketFault); 4] = [
-    (0, b'G', OTHER_KEY, 0, PacketFault::Tag),
-    (0, b'G', CLUSTER_KEY, 1, PacketFault::Tag),
-    (4, 2, CLUSTER_KEY, 0, PacketFault::Node),
-    (3, 3, CLUSTER_KEY, 0, PacketFault::Node),
-];
-
-/// The body with a byte changed.
-fn changed(alloc: Global, at: usize, byte: u8) -> Result<Vec<u8>, OutOfMemory> {
-    let mut text = Vec::from_slice(alloc, &BODY)?;
+/// So many bytes of `TEXT`, one of which is changed.
+fn changed(alloc: Global, length: usize, at: usize, byte: u8) -> Result<Vec<u8>, OutOfMemory> {
+    let mut text = Vec::from_slice(alloc, TEXT)?;
+    text.truncate(length);
     if let Some(place) = text.get_mut(at) {
         *place = byte;
     }
     Ok(text)
 }
 
-/// A text with eight items of 1,024 bytes each.
-fn too_long(alloc: Global) -> Result<Vec<u8>, OutOfMemory> {
-    let mut text = changed(alloc, 30, 8)?;
-    text.truncate(31);
-    for seq in 1..9 {
-        text.extend_from_slice(&[0, 7, 0, 1, 0, 0, seq, 4, 0])?;
-        text.extend_from_slice(&[b'a'; 1_024])?;
+/// Puts a tag behind a text.
+fn end(text: &mut Vec<u8>, tag: &Tag) -> Result<(), OutOfMemory> {
+    let Tag::Under(key, turned) = tag else {
+        return Ok(());
+    };
+    seal(text, key)?;
+    if let Some(last) = text.last_mut() {
+        *last ^= *turned;
     }
-    text.extend_from_slice(&[0; 8])?;
-    Ok(text)
+    Ok(())
 }
 
-/// The first bytes of the body and eight zero bytes, as many as there are of each length.
-fn cut(alloc: Global, texts: &mut Vec<Faulty>) -> Result<(), OutOfMemory> {
+/// Whether the node answers a text by this fault.
+fn answers(node: &mut Node, text: &[u8], fault: PacketFault) -> bool {
+    node.packet(text) == PacketAnswer::Fault(fault)
+}
+
+/// Whether the node answers the text by its fault.
+fn answers_faulty(alloc: Global, node: &mut Node, faulty: &Faulty) -> Result<bool, OutOfMemory> {
+    let (length, at, byte, tag, fault) = faulty;
+    let mut text = changed(alloc, *length, *at, *byte)?;
+    end(&mut text, tag)?;
+    Ok(answers(node, &text, *fault))
+}
+
+/// Whether the node answers so many bytes of `TEXT`, without the last zeros, by their fault.
+fn answers_cut(node: &mut Node, length: usize) -> bool {
+    let text = TEXT.get(..length).unwrap_or(TEXT);
+    if length < 39 {
+        answers(node, text, PacketFault::Short)
+    } else {
+        answers(node, text, PacketFault::Length)
+    }
+}
+
+/// The items of long messages, from the first number on, before their payloads.
+const LONG_HEADS: &[&[u8]] = &[
+    b"\0\x07\0\x01\0\0\x01\x04\0",
+    b"\0\x07\0\x01\0\0\x02\x04\0",
+    b"\0\x07\0\x01\0\0\x03\x04\0",
+    b"\0\x07\0\x01\0\0\x04\x04\0",
+    b"\0\x07\0\x01\0\0\x05\x04\0",
+    b"\0\x07\0\x01\0\0\x06\x04\0",
+    b"\0\x07\0\x01\0\0\x07\x04\0",
+    b"\0\x07\0\x01\0\0\x08\x04\0",
+];
+
+const ZEROS: &[u8] = &[0; 8];
+
+/// Appends a payload of 1,024 bytes.
+fn put_payload(text: &mut Vec<u8>) -> Result<(), OutOfMemory> {
+    for _ in 0..64 {
+        text.extend_from_slice(b"aaaaaaaaaaaaaaaa")?;
+    }
+    Ok(())
+}
+
+/// Appends eight items of 1,024 bytes each.
+fn put_long(text: &mut Vec<u8>) -> Result<(), OutOfMemory> {
+    for head in LONG_HEADS {
+        text.extend_from_slice(head)?;
+        put_payload(text)?;
+    }
+    Ok(())
+}
+
+/// Whether the node answers that a text with eight items of 1,024 bytes each is too long.
+fn answers_long(alloc: Global, node: &mut Node) -> Result<bool, OutOfMemory> {
+    let mut text = changed(alloc, 31, 30, 8)?;
+    put_long(&mut text)?;
+    text.extend_from_slice(ZEROS)?;
+    Ok(answers(node, &text, PacketFault::TooLong))
+}
+
+/// Hands each of the texts to a node, which answers it by its fault.
+fn disturb_node(rt: &impl Abort, alloc: Global, node: &mut Node) -> Result<(), OutOfMemory> {
     for length in 0..49 {
-        let mut text = Vec::from_slice(alloc, &BODY)?;
-        text.extend_from_slice(&[0; 8])?;
-        text.truncate(length);
-        let fault = if length < 39 {
-            PacketFault::Short
-        } else {
-            PacketFault::Length
-        };
-        texts.push(Faulty { text, fault })?;
+        let cut = answers_cut(node, length);
+        assert!(rt; cut);
     }
+    for faulty in FAULTY {
+        let found = answers_faulty(alloc, node, faulty)?;
+        assert!(rt; found);
+    }
+    let long = answers_long(alloc, node)?;
+    assert!(rt; long);
     Ok(())
 }
 
-/// The body with each of the changes, and eight zero bytes.
-fn changes(alloc: Global, texts: &mut Vec<Faulty>) -> Result<(), OutOfMemory> {
-    for (at, byte, fault) in CHANGES {
-        let mut text = changed(alloc, at, byte)?;
-        text.extend_from_slice(&[0; 8])?;
-        texts.push(Faulty { text, fault })?;
+/// Hands each of the texts to the second node, which answers it by its fault.
+pub fn disturb(rt: &impl Abort, alloc: Global, nodes: &mut [Node]) -> Result<(), OutOfMemory> {
+    match nodes.get_mut(usize::from(SECOND)) {
+        Some(node) => disturb_node(rt, alloc, node),
+        None => panic!(rt; "no second node"),
     }
-    let mut text = changed(alloc, 0, b'G')?;
-    text.extend_from_slice(&[0; 9])?;
-    let fault = PacketFault::Trailing;
-    texts.push(Faulty { text, fault })?;
-    let text = too_long(alloc)?;
-    let fault = PacketFault::TooLong;
-    texts.push(Faulty { text, fault })?;
-    Ok(())
-}
-
-/// The body with one byte changed and sealed under a key, then with one byte of its tag changed.
-fn seals(alloc: Global, texts: &mut Vec<Faulty>) -> Result<(), OutOfMemory> {
-    for (at, byte, key, flip, fault) in SEALS {
-        let mut text = sealed(changed(alloc, at, byte)?, &key)?;
-        if let Some(last) = text.last_mut() {
-            *last ^= flip;
-        }
-        texts.push(Faulty { text, fault })?;
-    }
-    Ok(())
-}
-
-/// Each of the texts.
-pub fn all_faulty(alloc: Global) -> Result<Vec<Faulty>, OutOfMemory> {
-    let mut texts = Vec::new(alloc);
-    cut(alloc, &mut texts)?;
-    changes(alloc, &mut texts)?;
-    seals(alloc, &mut texts)?;
-    Ok(texts)
-}
-
-/// Hands a node the texts; how many of them it answered by their faults.
-pub fn answered(node: &mut Node, texts: &[Faulty]) -> usize {
-    let mut count: usize = 0;
-    for faulty in texts {
-        let answer = node.packet(&faulty.text);
-        if answer == PacketAnswer::Fault(faulty.fault) {
-            count = count.saturating_add(1);
-        }
-    }
-    count
 }

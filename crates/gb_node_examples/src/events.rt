@@ -1,0 +1,98 @@
+// The event of a step at a node.
+use crate::steps::{FIRST, SECOND, Step, THIRD, node};
+use crate::texts::packet;
+use gb_cap::hmac::Key;
+use gb_cap::token::{Need, Token, token};
+use gb_node::event::NodeEvent;
+use gb_node::packet_text::PacketText;
+use gb_types::address::Addr;
+use gb_types::kind::Kind;
+use gb_types::memory::OutOfMemory;
+use gb_types::node::NodeSet;
+use gb_types::payload::Payload;
+use gb_types::request::Request;
+use gb_types::spec::{Spec, TenantRow};
+use std::alloc::Global;
+
+pub const ADMIN_KEY: Key = [1; 32];
+
+const TENANT_KEY: Key = [2; 32];
+
+/// Adds a tenant, which may make two groups.
+fn add(tenant: u16) -> Request {
+    let row = TenantRow {
+        tenant,
+        key: TENANT_KEY,
+        groups: 2,
+        msgs: 4,
+        bytes: 64,
+        window: 4,
+    };
+    Request::AddTenant(token(&ADMIN_KEY, Need::Admin), row)
+}
+
+/// The token of a group's owner.
+fn owner(addr: Addr) -> Token {
+    token(&TENANT_KEY, Need::Tenant(addr.tenant))
+}
+
+/// The token of a group's member at a node.
+fn member(addr: Addr, me: u8) -> Token {
+    token(&TENANT_KEY, Need::Member(addr.tenant, addr.group, node(me)))
+}
+
+/// What a group of the three nodes is made with.
+fn spec(kind: Kind) -> Spec {
+    let mut members = NodeSet::new();
+    members.insert(node(FIRST));
+    members.insert(node(SECOND));
+    members.insert(node(THIRD));
+    Spec {
+        kind,
+        members,
+        msgs: 4,
+        bytes: 64,
+        window: 4,
+    }
+}
+
+/// Says something in a group at a node.
+fn say(alloc: Global, me: u8, addr: Addr, bytes: &[u8]) -> Result<NodeEvent, OutOfMemory> {
+    let payload = Payload::from_slice(alloc, bytes)?;
+    Ok(NodeEvent::Request(Request::Say(member(addr, me), addr, payload)))
+}
+
+/// The packet with this number among those that were sent comes; no bytes come where there is none.
+fn arrive(alloc: Global, sent: &[PacketText], number: usize) -> Result<NodeEvent, OutOfMemory> {
+    let bytes: &[u8] = match sent.get(number) {
+        Some(packet) => packet.as_slice(),
+        None => b"",
+    };
+    let bytes = Vec::from_slice(alloc, bytes)?;
+    Ok(NodeEvent::Packet(PacketText::from(bytes)))
+}
+
+/// The event of a step at a node, after these packets were sent.
+pub fn event(
+    alloc: Global,
+    sent: &[PacketText],
+    me: u8,
+    step: &Step,
+) -> Result<NodeEvent, OutOfMemory> {
+    Ok(match step {
+        Step::Tenant(tenant) => NodeEvent::Request(add(*tenant)),
+        Step::Make(addr, kind) => {
+            NodeEvent::Request(Request::Make(owner(*addr), *addr, spec(*kind)))
+        }
+        Step::Open(addr) => NodeEvent::Request(Request::OpenGroup(owner(*addr), *addr)),
+        Step::Say(addr, bytes) => say(alloc, me, *addr, bytes)?,
+        Step::Fetch(addr) => NodeEvent::Request(Request::Fetch(member(*addr, me), *addr, 0, 16)),
+        Step::Pack(to) => NodeEvent::Pack(node(*to)),
+        Step::Again(to, frame) => NodeEvent::Again(node(*to), *frame),
+        Step::Ack(to) => NodeEvent::Ack(node(*to)),
+        Step::Arrive(number) => arrive(alloc, sent, *number)?,
+        Step::Packet(numbers, items) => NodeEvent::Packet(packet(alloc, numbers, items)?),
+        Step::Tick => NodeEvent::Tick,
+        Step::Stop => NodeEvent::Stop,
+    })
+}

@@ -1,0 +1,203 @@
+// Three nodes, and steps at them with what they must tell. Tables name nodes by their numbers.
+ghost use Rattle.std.specs.Prelude.{◌<◌};
+
+use crate::events::{ADMIN_KEY, event};
+use crate::texts::CLUSTER_KEY;
+use gb_node::answer::{Frame, Good, Halted, NodeAnswer, PacketAnswer, Sent, Ticked};
+use gb_node::node::Node;
+use gb_node::packet_text::PacketText;
+use gb_node::plan::NodePlan;
+use gb_types::address::Addr;
+use gb_types::kind::Kind;
+use gb_types::memory::OutOfMemory;
+use gb_types::node::NodeId;
+use gb_types::refusal::Refusal;
+use gb_types::reply::Reply;
+use std::alloc::Global;
+use std::process::Abort;
+
+pub const FIRST: u8 = 0;
+
+pub const SECOND: u8 = 1;
+
+pub const THIRD: u8 = 2;
+
+/// The node with this number, below 16.
+pub fn node(number: u8) -> NodeId {
+    NodeId::new(number % 16)
+}
+
+/// The group of most tests.
+pub const GROUP: Addr = Addr {
+    tenant: 7,
+    group: 1,
+};
+
+/// What happens at a node.
+pub enum Step {
+    /// A tenant is added, which may make two groups.
+    Tenant(u16),
+    /// A group of the three nodes is made.
+    Make(Addr, Kind),
+    Open(Addr),
+    Say(Addr, &'static [u8]),
+    Fetch(Addr),
+    Pack(u8),
+    /// A frame for a node is sent again.
+    Again(u8, u64),
+    Ack(u8),
+    /// The packet with this number among those that were sent comes, counted from 0.
+    Arrive(usize),
+    /// A packet of the first node to the second comes that no node sent, with this base, mask and frame, and these items
+    /// behind their count.
+    Packet([u64; 3], &'static [u8]),
+    Tick,
+    Stop,
+}
+
+/// What is looked at of an answer.
+pub enum Told {
+    Done,
+    Said(u16),
+    /// A log with so many entries.
+    Log(usize),
+    /// A request is refused.
+    Refused(Refusal),
+    /// A packet of so many bytes is sent.
+    Sent(usize),
+    Nothing,
+    /// A packet is not sent, for this reason.
+    NotSent(Refusal),
+    /// A good packet of a node, what became of its frame, how many items came, and how many frames it newly acknowledges.
+    Came(u8, Frame, u32, u32),
+    /// Whether the first node is noticed now.
+    Noticed(bool),
+    Stopped,
+}
+
+/// The number of a node, a step there, and what it must tell.
+pub type Line = (u8, Step, Told);
+
+/// A node of a cluster of three, at which nothing has happened.
+fn start(alloc: Global, number: u8) -> Node
+    requires { number < 3 }
+{
+    let plan = NodePlan {
+        me: NodeId::new(number),
+        nodes: 3,
+        silence: 3,
+        places: 8,
+        cluster_key: CLUSTER_KEY,
+        admin_key: ADMIN_KEY,
+        tape: false,
+    };
+    Node::start(alloc, &plan)
+}
+
+/// The three nodes, at which nothing has happened.
+pub fn three(alloc: Global) -> Result<Vec<Node>, OutOfMemory> {
+    let mut nodes = Vec::new(alloc);
+    for number in 0..3u8 {
+        nodes.push(start(alloc, number))?;
+    }
+    Ok(nodes)
+}
+
+/// Whether a reply is what must be told.
+fn is_reply(reply: &Reply, wanted: &Told) -> bool {
+    match (reply, wanted) {
+        (Reply::Done, Told::Done) => true,
+        (Reply::Said(seq), Told::Said(wanted)) => *seq == *wanted,
+        (Reply::Log(entries), Told::Log(wanted)) => entries.len() == *wanted,
+        (Reply::Refused(why), Told::Refused(wanted)) => *why == *wanted,
+        _ => false,
+    }
+}
+
+/// Whether what was sent is what must be told.
+fn is_sent(sent: &Sent, wanted: &Told) -> bool {
+    match (sent, wanted) {
+        (Sent::Packet(packet), Told::Sent(wanted)) => packet.as_slice().len() == *wanted,
+        (Sent::Nothing, Told::Nothing) => true,
+        (Sent::Refused(why), Told::NotSent(wanted)) => *why == *wanted,
+        _ => false,
+    }
+}
+
+/// Whether what became of a packet is what must be told.
+fn is_taken(taken: &PacketAnswer, wanted: &Told) -> bool {
+    let Told::Came(from, frame, items, done) = wanted else {
+        return false;
+    };
+    let good = Good {
+        from: node(*from),
+        frame: *frame,
+        items: *items,
+        done: *done,
+    };
+    *taken == PacketAnswer::Good(good)
+}
+
+/// Whether an answer is what must be told.
+fn is_told(answer: &NodeAnswer, wanted: &Told) -> bool {
+    match (answer, wanted) {
+        (NodeAnswer::Reply(reply), _) => is_reply(reply, wanted),
+        (NodeAnswer::Sent(sent), _) => is_sent(sent, wanted),
+        (NodeAnswer::Taken(taken), _) => is_taken(taken, wanted),
+        (NodeAnswer::Ticked(Ticked::Noticed(found)), Told::Noticed(wanted)) => {
+            found.contains(node(FIRST)) == *wanted
+        }
+        (NodeAnswer::Halted(Halted::Done), Told::Stopped) => true,
+        _ => false,
+    }
+}
+
+/// Keeps a copy of the packet that was sent, if there is one.
+fn keep(alloc: Global, sent: &mut Vec<PacketText>, answer: &NodeAnswer) -> Result<(), OutOfMemory> {
+    let NodeAnswer::Sent(Sent::Packet(packet)) = answer else {
+        return Ok(());
+    };
+    let bytes = Vec::from_slice(alloc, packet.as_slice())?;
+    Ok(sent.push(PacketText::from(bytes))?)
+}
+
+/// Takes a step at a node. Whether it tells what it must.
+pub fn holds(
+    alloc: Global,
+    nodes: &mut [Node],
+    sent: &mut Vec<PacketText>,
+    line: &Line,
+) -> Result<bool, OutOfMemory> {
+    let (me, step, wanted) = line;
+    let event = event(alloc, sent, *me, step)?;
+    match nodes.get_mut(usize::from(*me)) {
+        Some(node) => {
+            let answer = node.take(&event);
+            keep(alloc, sent, &answer)?;
+            Ok(is_told(&answer, wanted))
+        }
+        None => Ok(false),
+    }
+}
+
+/// Each step tells what it must.
+pub fn compare(
+    rt: &impl Abort,
+    alloc: Global,
+    nodes: &mut [Node],
+    sent: &mut Vec<PacketText>,
+    lines: &[Line],
+) -> Result<(), OutOfMemory> {
+    for line in lines {
+        let held = holds(alloc, nodes, sent, line)?;
+        assert!(rt; held);
+    }
+    Ok(())
+}
+
+/// Each step tells what it must, from three nodes on at which nothing has happened.
+pub fn run(rt: &impl Abort, alloc: Global, lines: &[Line]) -> Result<(), OutOfMemory> {
+    let mut nodes = three(alloc)?;
+    let mut sent = Vec::new(alloc);
+    compare(rt, alloc, &mut nodes, &mut sent, lines)
+}
