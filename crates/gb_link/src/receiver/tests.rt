@@ -27,34 +27,41 @@ fn arrive(
     assert!(rt; found == acknowledgement);
 }
 
+/// The first number beyond the window, and the last within it.
+const EDGES: &[(u64, Admission)] = &[(65, Admission::Outside), (64, Admission::First)];
+
+/// Number 1 moves the window by one.
+const MOVED: &[(u64, Admission)] = &[
+    (1, Admission::First),
+    (65, Admission::First),
+    (66, Admission::Outside),
+    (u64::MAX, Admission::Outside),
+];
+
 #[test]
 fn the_window_has_64_numbers(rt: HostRuntime) {
     let mut receiver = Receiver::new();
     arrive(&rt, &mut receiver, &[], (1, 0));
-    let edges = [(65, Admission::Outside), (64, Admission::First)];
-    arrive(&rt, &mut receiver, &edges, (1, 1 << 63));
-    let moved = [
-        (1, Admission::First),
-        (65, Admission::First),
-        (66, Admission::Outside),
-        (u64::MAX, Admission::Outside),
-    ];
-    arrive(&rt, &mut receiver, &moved, (2, 3 << 62));
+    arrive(&rt, &mut receiver, EDGES, (1, 1 << 63));
+    arrive(&rt, &mut receiver, MOVED, (2, 3 << 62));
 }
 
 /// Bit 2 of the mask stands for base + 2.
+const REPEATED: &[(u64, Admission)] = &[
+    (2, Admission::First),
+    (2, Admission::Seen),
+    (1, Admission::First),
+    (1, Admission::Seen),
+    (2, Admission::Seen),
+    (5, Admission::First),
+];
+
 #[test]
 fn a_repeated_number_is_seen(rt: HostRuntime) {
-    let told = [
-        (2, Admission::First),
-        (2, Admission::Seen),
-        (1, Admission::First),
-        (1, Admission::Seen),
-        (2, Admission::Seen),
-        (5, Admission::First),
-    ];
-    arrive(&rt, &mut Receiver::new(), &told, (3, 4));
+    arrive(&rt, &mut Receiver::new(), REPEATED, (3, 4));
 }
+
+const THE_FIRST: &[(u64, Admission)] = &[(1, Admission::First)];
 
 #[test]
 fn the_base_moves_over_a_full_window(rt: HostRuntime) {
@@ -64,23 +71,26 @@ fn the_base_moves_over_a_full_window(rt: HostRuntime) {
         assert!(rt; found == Admission::First);
     }
     arrive(&rt, &mut receiver, &[], (1, u64::MAX - 1));
-    arrive(&rt, &mut receiver, &[(1, Admission::First)], (65, 0));
+    arrive(&rt, &mut receiver, THE_FIRST, (65, 0));
 }
 
 /// No frame has the number after the last frame's.
+const THE_LAST: &[(u64, Admission)] = &[
+    (1, Admission::Seen),
+    (LAST_FRAME, Admission::First),
+    (u64::MAX, Admission::Outside),
+];
+
+/// The last number but one fills the gap below the last.
+const THE_LAST_BUT_ONE: &[(u64, Admission)] = &[
+    (LAST_FRAME - 1, Admission::First),
+    (u64::MAX, Admission::Outside),
+    (LAST_FRAME, Admission::Seen),
+];
+
 #[test]
 fn numbers_end_at_the_last_frame(rt: HostRuntime) {
     let mut receiver = received_below(LAST_FRAME - 1);
-    let last = [
-        (1, Admission::Seen),
-        (LAST_FRAME, Admission::First),
-        (u64::MAX, Admission::Outside),
-    ];
-    arrive(&rt, &mut receiver, &last, (LAST_FRAME - 1, 2));
-    let filled = [
-        (LAST_FRAME - 1, Admission::First),
-        (u64::MAX, Admission::Outside),
-        (LAST_FRAME, Admission::Seen),
-    ];
-    arrive(&rt, &mut receiver, &filled, (u64::MAX, 0));
+    arrive(&rt, &mut receiver, THE_LAST, (LAST_FRAME - 1, 2));
+    arrive(&rt, &mut receiver, THE_LAST_BUT_ONE, (u64::MAX, 0));
 }

@@ -52,35 +52,37 @@ fn follow(
 }
 
 /// Frame 65 is 64 above frame 1, and 66 above frame 2; frame 3 is done out of order.
+const THE_WINDOW_ENDS: &[Told] = &[
+    Told::Room(false),
+    Told::Acked(1, 1 << 2, Some((3, 30))),
+    Told::Room(false),
+    Told::Acked(2, 0, Some((1, 10))),
+    Told::Room(true),
+    Told::Pushed(65, 650),
+    Told::Room(false),
+];
+
 #[test]
 fn room_ends_with_the_window(rt: HostRuntime) -> Result<(), Fail> {
-    let calls = [
-        Told::Room(false),
-        Told::Acked(1, 1 << 2, Some((3, 30))),
-        Told::Room(false),
-        Told::Acked(2, 0, Some((1, 10))),
-        Told::Room(true),
-        Told::Pushed(65, 650),
-        Told::Room(false),
-    ];
-    follow(&rt, &mut Sender::new(rt.alloc()), 64, &calls)
+    follow(&rt, &mut Sender::new(rt.alloc()), 64, THE_WINDOW_ENDS)
 }
 
 /// Number 0 stands for the lowest one; frame 4 was never pushed, and what is done is not given again.
+const GIVEN_AGAIN: &[Told] = &[
+    Told::Again(0, Some((1, 10))),
+    Told::Again(3, Some((3, 30))),
+    Told::Again(4, None),
+    Told::Acked(2, 0, Some((1, 10))),
+    Told::Again(1, None),
+    Told::Again(0, Some((2, 20))),
+    Told::Acked(4, 0, Some((2, 20))),
+    Told::Acked(4, 0, Some((3, 30))),
+    Told::Again(0, None),
+];
+
 #[test]
 fn a_frame_is_given_again(rt: HostRuntime) -> Result<(), Fail> {
-    let calls = [
-        Told::Again(0, Some((1, 10))),
-        Told::Again(3, Some((3, 30))),
-        Told::Again(4, None),
-        Told::Acked(2, 0, Some((1, 10))),
-        Told::Again(1, None),
-        Told::Again(0, Some((2, 20))),
-        Told::Acked(4, 0, Some((2, 20))),
-        Told::Acked(4, 0, Some((3, 30))),
-        Told::Again(0, None),
-    ];
-    follow(&rt, &mut Sender::new(rt.alloc()), 3, &calls)
+    follow(&rt, &mut Sender::new(rt.alloc()), 3, GIVEN_AGAIN)
 }
 
 #[test]
@@ -95,37 +97,39 @@ fn a_mask_of_all_ones_covers_its_base(rt: HostRuntime) -> Result<(), Fail> {
 }
 
 /// Bit 1 stands for base + 1; then come a repeated acknowledgement, a stale one, and one of a frame never pushed.
+const STALE_AND_REPEATED: &[Told] = &[
+    Told::Acked(3, 2, Some((1, 10))),
+    Told::Acked(3, 2, Some((2, 20))),
+    Told::Acked(3, 2, Some((4, 40))),
+    Told::Acked(3, 2, None),
+    Told::Acked(2, 0, None),
+    Told::Acked(1, 1 << 9, None),
+    Told::Again(0, Some((3, 30))),
+];
+
 #[test]
 fn stale_and_repeated_acknowledgements_cover_nothing_more(rt: HostRuntime) -> Result<(), Fail> {
-    let calls = [
-        Told::Acked(3, 2, Some((1, 10))),
-        Told::Acked(3, 2, Some((2, 20))),
-        Told::Acked(3, 2, Some((4, 40))),
-        Told::Acked(3, 2, None),
-        Told::Acked(2, 0, None),
-        Told::Acked(1, 1 << 9, None),
-        Told::Again(0, Some((3, 30))),
-    ];
-    follow(&rt, &mut Sender::new(rt.alloc()), 5, &calls)
+    follow(&rt, &mut Sender::new(rt.alloc()), 5, STALE_AND_REPEATED)
 }
 
 /// After the last frame there is no room, whatever is done; base + 1 passes 2^64.
+const THE_LAST_FRAMES: &[Told] = &[
+    Told::Room(true),
+    Told::Pushed(18_446_744_073_709_551_613, 1),
+    Told::Room(true),
+    Told::Pushed(18_446_744_073_709_551_614, 2),
+    Told::Room(false),
+    Told::Acked(1, u64::MAX, None),
+    Told::Acked(u64::MAX - 2, 2, Some((LAST_FRAME, 2))),
+    Told::Acked(u64::MAX, u64::MAX, Some((LAST_FRAME - 1, 1))),
+    Told::Room(false),
+];
+
 #[test]
 fn numbers_end_at_the_last_frame(rt: HostRuntime) -> Result<(), Fail> {
     let mut sender = Sender {
         next: LAST_FRAME - 1,
         undone: VecDeque::new(rt.alloc()),
     };
-    let calls = [
-        Told::Room(true),
-        Told::Pushed(18_446_744_073_709_551_613, 1),
-        Told::Room(true),
-        Told::Pushed(18_446_744_073_709_551_614, 2),
-        Told::Room(false),
-        Told::Acked(1, u64::MAX, None),
-        Told::Acked(u64::MAX - 2, 2, Some((LAST_FRAME, 2))),
-        Told::Acked(u64::MAX, u64::MAX, Some((LAST_FRAME - 1, 1))),
-        Told::Room(false),
-    ];
-    follow(&rt, &mut sender, 0, &calls)
+    follow(&rt, &mut sender, 0, THE_LAST_FRAMES)
 }
