@@ -1,12 +1,16 @@
-//! Tapes merged, as tests: rows of worked tapes that nodes made here, and what merging gives. There is nothing here but
-//! tests.
+//! Tapes merged, as tests: tables of steps at nodes, whose tapes are merged, and what merging gives. There is nothing here
+//! but tests.
 #![tactic(auto)]
 
 #[cfg(test)]
 mod faults;
 #[cfg(test)]
+mod merged;
+#[cfg(test)]
 mod order;
 #[cfg(test)]
-mod record;
+mod requests;
+#[cfg(test)]
+mod steps;
 #[cfg(test)]
 mod stops;

@@ -1,0 +1,81 @@
+//! Requests of one tenant in one group, whose members are the first two nodes.
+use gb_cap::hmac::Key;
+use gb_cap::token::{Need, Token, token};
+use gb_types::address::Addr;
+use gb_types::kind::Kind;
+use gb_types::memory::OutOfMemory;
+use gb_types::node::{NodeId, NodeSet};
+use gb_types::payload::Payload;
+use gb_types::request::Request;
+use gb_types::spec::{Spec, TenantRow};
+use std::alloc::Global;
+
+/// The key of the administrator's token.
+pub const ADMIN_KEY: Key = [1; 32];
+
+const TENANT_KEY: Key = [7; 32];
+
+const TENANT: TenantRow = TenantRow {
+    tenant: 7,
+    key: TENANT_KEY,
+    groups: 4,
+    msgs: 8,
+    bytes: 64,
+    window: 8,
+};
+
+const GROUP: Addr = Addr {
+    tenant: 7,
+    group: 1,
+};
+
+/// What is asked at a node, under the token that it needs.
+#[derive(Clone, Copy)]
+pub enum Asked {
+    AddTenant,
+    MakeGroup,
+    OpenGroup,
+    Say(&'static [u8]),
+    /// So many entries of the log at most, from a place on.
+    Fetch(u32, u32),
+}
+
+/// The node with this number, below 16.
+pub fn node(number: u8) -> NodeId {
+    NodeId::new(number % 16)
+}
+
+fn owner() -> Token {
+    token(&TENANT_KEY, Need::Tenant(7))
+}
+
+fn member(me: NodeId) -> Token {
+    token(&TENANT_KEY, Need::Member(7, 1, me))
+}
+
+fn spec() -> Spec {
+    let mut members = NodeSet::new();
+    members.insert(node(0));
+    members.insert(node(1));
+    Spec {
+        kind: Kind::Beb,
+        members,
+        msgs: 8,
+        bytes: 64,
+        window: 8,
+    }
+}
+
+/// The request at a node.
+pub fn request(alloc: Global, me: NodeId, asked: Asked) -> Result<Request, OutOfMemory> {
+    Ok(match asked {
+        Asked::AddTenant => Request::AddTenant(token(&ADMIN_KEY, Need::Admin), TENANT),
+        Asked::MakeGroup => Request::Make(owner(), GROUP, spec()),
+        Asked::OpenGroup => Request::OpenGroup(owner(), GROUP),
+        Asked::Say(bytes) => {
+            let payload = Payload::from_slice(alloc, bytes)?;
+            Request::Say(member(me), GROUP, payload)
+        }
+        Asked::Fetch(from, most) => Request::Fetch(member(me), GROUP, from, most),
+    })
+}

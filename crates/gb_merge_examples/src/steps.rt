@@ -1,0 +1,193 @@
+//! Steps at nodes, and the tapes that they leave.
+ghost use Rattle.gb_cluster.specs.ClusterValue.{IsClusterPlan};
+
+use crate::requests::{Asked, node, request};
+use gb_cluster::plan::node_plan;
+use gb_node::answer::{NodeAnswer, Sent, Ticked};
+use gb_node::event::NodeEvent;
+use gb_node::node::Node;
+use gb_node::packet_text::PacketText;
+use gb_node::tape::{Tape, TapeEntry};
+use gb_types::memory::OutOfMemory;
+use gb_types::node::{NodeId, NodeSet};
+use gb_types::plan::Plan;
+use gb_types::refusal::Refusal;
+use std::alloc::Global;
+use std::mem;
+
+/// What happens at a node, with other nodes by their numbers.
+#[derive(Clone, Copy)]
+pub enum Step {
+    Ask(Asked),
+    /// What waits for another node is packed.
+    Pack(u8),
+    /// Another node is sent an acknowledgement.
+    Ack(u8),
+    Tick,
+    /// A tick is noted, with an answer that the node did not give: the nodes that are noticed, or a refusal.
+    ForgeTick(Result<&'static [u8], Refusal>),
+    Stop,
+    /// Bytes come.
+    Bytes(&'static [u8]),
+    /// The packet that a node sent by the entry at a place of its tape comes; no bytes where it sent none.
+    Come(u8, usize),
+    /// The acknowledgement that a node would send this one comes, and that node notes nothing.
+    ComeUnsent(u8),
+}
+
+/// A step, and the number of the node where it happens.
+pub type At = (u8, Step);
+
+/// A node, with the tape of what happened there.
+#[derive(Drop)]
+pub struct Taped {
+    node: Node,
+    tape: Vec<TapeEntry>,
+}
+
+/// Adds the nodes of a cluster, at which nothing happened.
+pub fn start(alloc: Global, plan: &Plan, nodes: &mut Vec<Taped>) -> Result<(), OutOfMemory>
+    requires { IsClusterPlan plan.now }
+{
+    for number in 0..plan.nodes {
+        let node = Node::start(alloc, &node_plan(plan, NodeId { number }));
+        let tape = Vec::new(alloc);
+        nodes.push(Taped { node, tape })?;
+    }
+    Ok(())
+}
+
+/// The bytes of what was sent; none where it is no packet.
+fn bytes(sent: &Sent) -> &[u8] {
+    match sent {
+        Sent::Packet(text) => text.as_slice(),
+        _ => &[],
+    }
+}
+
+/// The bytes that a node sent by the entry at a place of its tape.
+fn sent(nodes: &[Taped], from: NodeId, place: usize) -> &[u8] {
+    let Some(taped) = nodes.get(from.index()) else {
+        return &[];
+    };
+    match taped.tape.get(place) {
+        Some(entry) => match &entry.answer {
+            NodeAnswer::Sent(sent) => bytes(sent),
+            _ => &[],
+        },
+        None => &[],
+    }
+}
+
+/// Bytes come.
+fn come(alloc: Global, bytes: &[u8]) -> Result<NodeEvent, OutOfMemory> {
+    let copy = Vec::from_slice(alloc, bytes)?;
+    Ok(NodeEvent::Packet(PacketText::from(copy)))
+}
+
+/// The acknowledgement that a node would send another comes.
+fn come_unsent(
+    alloc: Global,
+    nodes: &[Taped],
+    from: NodeId,
+    to: NodeId,
+) -> Result<NodeEvent, OutOfMemory> {
+    match nodes.get(from.index()) {
+        Some(taped) => {
+            let sent = taped.node.ack(to);
+            come(alloc, bytes(&sent))
+        }
+        None => come(alloc, &[]),
+    }
+}
+
+/// The event of a step at a node.
+fn event(alloc: Global, nodes: &[Taped], me: NodeId, step: Step) -> Result<NodeEvent, OutOfMemory> {
+    Ok(match step {
+        Step::Ask(asked) => NodeEvent::Request(request(alloc, me, asked)?),
+        Step::Pack(to) => NodeEvent::Pack(node(to)),
+        Step::Ack(to) => NodeEvent::Ack(node(to)),
+        Step::Tick | Step::ForgeTick(_) => NodeEvent::Tick,
+        Step::Stop => NodeEvent::Stop,
+        Step::Bytes(bytes) => come(alloc, bytes)?,
+        Step::Come(from, place) => come(alloc, sent(nodes, node(from), place))?,
+        Step::ComeUnsent(from) => come_unsent(alloc, nodes, node(from), me)?,
+    })
+}
+
+/// What a tick is forged to have brought to light.
+fn forged(told: Result<&[u8], Refusal>) -> Ticked {
+    match told {
+        Ok(numbers) => {
+            let mut noticed = NodeSet::new();
+            for number in numbers {
+                noticed.insert(node(*number));
+            }
+            Ticked::Noticed(noticed)
+        }
+        Err(refusal) => Ticked::Refused(refusal),
+    }
+}
+
+/// What is noted as the answer to the event of a step.
+fn answer(node: &mut Node, step: Step, event: &NodeEvent) -> NodeAnswer {
+    match step {
+        Step::ForgeTick(told) => NodeAnswer::Ticked(forged(told)),
+        _ => node.take(event),
+    }
+}
+
+/// An event is noted with its answer.
+fn note(
+    tape: &mut Vec<TapeEntry>,
+    event: NodeEvent,
+    answer: NodeAnswer,
+) -> Result<(), OutOfMemory> {
+    tape.push(TapeEntry {
+        seat: 0,
+        count: 0,
+        event,
+        answer,
+    })?;
+    Ok(())
+}
+
+/// Takes a step at a node.
+fn take(alloc: Global, nodes: &mut [Taped], me: NodeId, step: Step) -> Result<(), OutOfMemory> {
+    let event = event(alloc, nodes, me, step)?;
+    match nodes.get_mut(me.index()) {
+        Some(taped) => {
+            let answer = answer(&mut taped.node, step, &event);
+            note(&mut taped.tape, event, answer)
+        }
+        None => Ok(()),
+    }
+}
+
+/// Takes steps in turn.
+pub fn take_all(alloc: Global, nodes: &mut [Taped], steps: &[At]) -> Result<(), OutOfMemory> {
+    for (number, step) in steps {
+        take(alloc, nodes, node(*number), *step)?;
+    }
+    Ok(())
+}
+
+/// The tape of a node is lost.
+pub fn lose(nodes: &mut [Taped], number: u8) {
+    if let Some(taped) = nodes.get_mut(usize::from(number)) {
+        taped.tape.clear();
+    }
+}
+
+/// Takes the tapes from the nodes.
+pub fn hand_over(
+    alloc: Global,
+    nodes: &mut [Taped],
+    tapes: &mut Vec<Tape>,
+) -> Result<(), OutOfMemory> {
+    for taped in nodes {
+        let entries = mem::replace(&mut taped.tape, Vec::new(alloc));
+        tapes.push(Tape::from(entries))?;
+    }
+    Ok(())
+}
