@@ -154,16 +154,16 @@ impl<L: Layer, R: Rule> Relay<L, R> {
         out.ups.clear();
         let me = self.lower.me();
         self.lower.take(call, out);
-        mem::swap(&mut out.ups, &mut self.below);
         take_in(
             &mut self.entries,
             &self.rule,
             me,
             &self.members,
             &self.noticed,
-            &self.below,
+            &out.ups,
             &mut self.pending,
         );
+        mem::swap(&mut out.ups, &mut self.below);
     }
 
     /// The message of the entry at i, where it is to be relayed.
