@@ -1,7 +1,8 @@
 """Runs `rt ci` and prints the processor minutes and the wall time of each crate's checks, read from /proc once a second.
 
-A crate's wall time is that in which some check of it ran. What runs for less than a second may be missed; the total
-of the processor time is the operating system's own count."""
+A crate's work has three parts: its proof, the proof of its tests (which proves the crate once more), and its wrong bodies
+(`crates/NAME/must-fail`), which are tried on copies of the crate. A crate's wall time is that in which some check of it ran.
+What runs for less than a second may be missed; the total of the processor time is the operating system's own count."""
 import os
 import resource
 import subprocess
@@ -9,10 +10,11 @@ import sys
 import time
 
 TICKS = os.sysconf("SC_CLK_TCK")
+PARTS = ("proof", "tests", "wrong bodies")
 
 
 def checks():
-    """Yields each running check: its process, its crate, and its processor seconds so far."""
+    """Yields each running check: its process, its crate, which part of the crate's work it is, and its processor seconds so far."""
     for pid in filter(str.isdigit, os.listdir("/proc")):
         try:
             with open(f"/proc/{pid}/cmdline", "rb") as file:
@@ -21,7 +23,9 @@ def checks():
                 continue
             with open(f"/proc/{pid}/stat") as file:
                 fields = file.read().rsplit(")", 1)[1].split()
-            yield pid, words[words.index("--crate-name") + 1], (int(fields[11]) + int(fields[12])) / TICKS
+            is_copy = os.path.basename(os.readlink(f"/proc/{pid}/cwd")).startswith("rt-edit-")
+            part = "wrong bodies" if is_copy else "tests" if "--test" in words else "proof"
+            yield pid, words[words.index("--crate-name") + 1], part, (int(fields[11]) + int(fields[12])) / TICKS
         except (OSError, IndexError):
             continue
 
@@ -30,15 +34,23 @@ def main():
     start, spent, wall = time.time(), {}, {}
     gate = subprocess.Popen(["rt", "ci"])
     while gate.poll() is None:
-        for crate in {crate for pid, crate, seconds in checks() if spent.update({(crate, pid): seconds}) is None}:
-            wall[crate] = wall.get(crate, 0) + 1
+        now = list(checks())
+        for pid, crate, part, seconds in now:
+            spent[crate, part, pid] = seconds
+        for crate, part in {(crate, part) for _, crate, part, _ in now}:
+            wall[crate, part] = wall.get((crate, part), 0) + 1
         time.sleep(1)
-    print(f"\n{'crate':<14}{'processor minutes':>20}{'wall minutes':>16}")
-    by_crate = {crate: sum(s for (name, _), s in spent.items() if name == crate) for crate in wall}
-    for crate in sorted(by_crate, key=by_crate.get, reverse=True):
-        print(f"{crate:<14}{by_crate[crate] / 60:>20.1f}{wall[crate] / 60:>16.1f}")
+    minutes = {}
+    for (crate, part, _), seconds in spent.items():
+        minutes.setdefault(crate, dict.fromkeys(PARTS, 0.0))[part] += seconds / 60
+    print(f"\n{'processor minutes':<26}" + "".join(f"{part:>14}" for part in PARTS) + f"{'all':>10}    wall minutes of each part")
+    rows = sorted(minutes.items(), key=lambda row: -sum(row[1].values()))
+    rows.append(("all crates", {part: sum(row[part] for _, row in rows) for part in PARTS}))
+    for crate, row in rows:
+        walls = "  ".join(f"{wall.get((crate, part), 0) / 60:.1f}" for part in PARTS) if crate in minutes else ""
+        print(f"{crate:<26}" + "".join(f"{row[part]:>14.1f}" for part in PARTS) + f"{sum(row.values()):>10.1f}    {walls}")
     used = resource.getrusage(resource.RUSAGE_CHILDREN)
-    print(f"{'all':<14}{(used.ru_utime + used.ru_stime) / 60:>20.1f}{(time.time() - start) / 60:>16.1f}")
+    print(f"processor minutes by the operating system: {(used.ru_utime + used.ru_stime) / 60:.1f}; wall minutes: {(time.time() - start) / 60:.1f}")
     sys.exit(gate.returncode)
 
 

@@ -3,3 +3,4 @@ pub mod HonestLemmas
 pub mod LinkLemmas
 pub mod OutsideLemmas
 pub mod CodeLemmas
+pub mod ReadLemmas

@@ -1,5 +1,5 @@
 -- What each event makes of a cluster.
-use Rattle.std.specs.Prelude.{ℕ, zero, suc, ◌≡◌, ◌<◌, ◌+◌, Bool, false, List, [], ◌∷◌, ◌++◌, length, Option, Some, None, is_ok, slice_get, slice_set, MatchBool}
+use Rattle.std.specs.Prelude.{ℕ, zero, suc, ◌≡◌, ◌<◌, ◌+◌, Bool, true, false, List, [], ◌∷◌, ◌++◌, length, Option, Some, None, is_ok, slice_get, slice_set, MatchBool}
 use Rattle.gb_types.specs.declared.node.NodeId.{NodeId}
 use Rattle.gb_node.specs.NodeValue.{NodeValue}
 use Rattle.gb_node.specs.NodeStep.{read_at, IsTurn, IsSpelt, IsForReason}
@@ -93,3 +93,7 @@ IsPlaced nodes (Arrive k) = Unit {0}
 -- each packet goes to one of so many nodes
 abbrev pub AreForNodes : ℕ → List Posted → Type 0
 AreForNodes nodes packets = (k : ℕ) (p : Posted) → slice_get packets k ≡ Some p → p.to.number < nodes
+
+-- the node that each packet goes to reads it
+abbrev pub AreRead : List NodeValue → List Posted → Type 0
+AreRead nodes packets = (k : ℕ) (p : Posted) (v : NodeValue) → slice_get packets k ≡ Some p → slice_get nodes p.to.number ≡ Some v → is_ok (read_at v p.text) ≡ true

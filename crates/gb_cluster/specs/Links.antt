@@ -14,6 +14,7 @@ use Rattle.gb_node.specs.declared.answer.PacketAnswer.TheVariants.{Good as Taken
 use Rattle.gb_node.specs.declared.event.NodeEvent.{NodeEvent}
 use Rattle.gb_node.specs.declared.event.NodeEvent.TheVariants.{Packet as Came}
 use Rattle.gb_cluster.specs.ClusterValue.{ClusterValue}
+use Rattle.gb_cluster.specs.ClusterStep.{AreRead}
 use Rattle.gb_cluster.specs.Run.{Did, ComesTo, past_at}
 use Rattle.gb_types.specs.declared.plan.Plan.{Plan}
 use Rattle.gb_cluster.specs.declared.posted.Posted.{Posted}
@@ -34,6 +35,10 @@ pub record IsHonest (plan : Plan) (run : List Did) (p : Posted) : Type 0 where
 -- so every packet of every run
 abbrev pub PacketsAreHonest : Type 0
 PacketsAreHonest = (plan : Plan) (run : List Did) (v : ClusterValue) → ComesTo plan run v → (k : ℕ) (p : Posted) → slice_get v.packets k ≡ Some p → IsHonest plan run p
+
+-- and the node that it was sent to reads it, at every moment after
+abbrev pub PacketsAreRead : Type 0
+PacketsAreRead = (plan : Plan) (run : List Did) (v : ClusterValue) → ComesTo plan run v → AreRead v.nodes v.packets
 
 -- the packet whose frame a node takes for the first time
 abbrev pub first_taken : List ℕ → NodeEvent → NodeAnswer → List Content

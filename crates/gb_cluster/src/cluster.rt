@@ -1,6 +1,7 @@
 //! The nodes of a cluster and every packet that they sent.
-ghost use Rattle.std.specs.Prelude.{◌≡◌, ◌<◌, ◌↔◌, ◌++◌, [], List, IsTrue, length, vec_len, vec_capacity, IfOk, OnErr};
-ghost use Rattle.gb_cluster.specs.ClusterStep.{posted_to, sending, is_packet_for, AreForNodes, IsNodeTurn, IsPlaced, IsStep};
+ghost use Rattle.std.specs.Prelude.{◌≡◌, ◌<◌, ◌↔◌, ◌++◌, [], List, IsTrue, true, is_ok, length, vec_len, vec_capacity, IfOk, OnErr};
+ghost use Rattle.gb_cluster.specs.ClusterStep.{posted_to, sending, is_packet_for, AreForNodes, AreRead, IsNodeTurn, IsPlaced, IsStep};
+ghost use Rattle.gb_node.specs.NodeStep.{read_at};
 ghost use Rattle.gb_cluster.specs.ClusterValue.{cluster, new_cluster, IsClusterPlan};
 ghost use Rattle.gb_cluster.specs.Run.{ComesTo, GoesOn};
 ghost use Rattle.gb_cluster.specs.declared.event.Event.TheVariants as Events;
@@ -10,7 +11,7 @@ ghost use Rattle.gb_node.specs.declared.event.NodeEvent.TheVariants as NodeEvent
 
 use crate::answer::{Answer, Sending};
 use crate::event::Event;
-use crate::laws::packets_are_honest;
+use crate::laws::{packets_are_honest, packets_are_read};
 use crate::plan::node_plan;
 use crate::posted::Posted;
 use gb_node::answer::{NodeAnswer, Sent};
@@ -88,16 +89,18 @@ fn turn(node: &mut Node, packets: &mut Vec<Posted>, event: &NodeEvent) -> Answer
     }
 }
 
-/// A packet that was sent, handed in at its node.
+/// A packet that was sent, handed in at its node, which reads it.
 fn hand_in(node: &mut Node, packet: &Posted) -> Answer
+    requires { is_ok (read_at node.old packet.now.text) ≡ true }
     ensures { (packets : List PostedValue) → IsNodeTurn node.old (NodeEvents.Packet packet.now.text) packets result node.new packets }
 {
-    Answer::Taken(node.packet(packet.text.as_slice()))
+    Answer::Taken(node.known_packet(packet.text.as_slice()))
 }
 
 /// The packet with a number, handed in at the node that it was sent to.
 fn arrive(nodes: &mut Vec<Node>, packets: &[Posted], number: u64) -> Answer
-    requires { AreForNodes (length nodes.old.items) packets.now }
+    requires inside { AreForNodes (length nodes.old.items) packets.now }
+    requires read { AreRead nodes.old.items packets.now }
     ensures { (plan : PlanValue) → IsStep (cluster plan nodes.old.items packets.now) (Events.Arrive number) result (cluster plan nodes.new.items packets.now) }
 {
     if number == 0 {
@@ -127,6 +130,7 @@ fn happen(nodes: &mut Vec<Node>, packets: &mut Vec<Posted>, at: NodeId, event: &
 fn take(nodes: &mut Vec<Node>, packets: &mut Vec<Posted>, event: &Event) -> Answer
     requires placed { IsPlaced (length nodes.old.items) event.now }
     requires inside { AreForNodes (length nodes.old.items) packets.old.items }
+    requires read { AreRead nodes.old.items packets.old.items }
     requires room { vec_len packets.old < vec_capacity packets.old }
     ensures { (plan : PlanValue) → IsStep (cluster plan nodes.old.items packets.old.items) event.now result (cluster plan nodes.new.items packets.new.items) }
 {
@@ -196,6 +200,7 @@ impl Cluster {
         ensures err { OnErr result (self.new ≡ self.old) }
     {
         packets_are_honest();
+        packets_are_read();
         self.packets.reserve(1)?;
         Ok(take(&mut self.nodes, &mut self.packets, event))
     }

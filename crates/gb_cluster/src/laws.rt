@@ -1,5 +1,5 @@
 //! What holds of every run of a cluster.
-ghost use Rattle.gb_cluster.specs.Links.{LinksHold, NothingIsOutside, PacketsAreHonest};
+ghost use Rattle.gb_cluster.specs.Links.{LinksHold, NothingIsOutside, PacketsAreHonest, PacketsAreRead};
 ghost use Rattle.gb_cluster.specs.Run.{NodesHavePasts};
 
 use gb_frame::laws::what_is_written_is_read;
@@ -19,6 +19,15 @@ pub fn packets_are_honest()
 {
     what_is_written_is_read();
     pasts_say();
+}
+
+/// A law of every packet that was sent in a run: the node that it was sent to reads it, whenever it arrives, so that
+/// nothing has to be tested of it there. The function does nothing when it runs; its contract is the law.
+pub fn packets_are_read()
+    ensures { PacketsAreRead }
+{
+    pasts_say();
+    packets_are_honest();
 }
 
 /// A law of every link, whichever packets arrive, whenever and however often: a frame is taken once at most, with the

@@ -1,6 +1,6 @@
 -- Reading finds a packet exactly in its text, and otherwise the first fault of the table.
 use Rattle.std.proofs.Common.{◌≡◌, ◌≢◌, ℕ, ◌-◌, ◌^◌, ◌≤◌, Bool, true, false, cond, List, [], ◌∷◌, ◌++◌, length, take, drop, codes, Option, Some, None, Ok, refl, sym, ap, ◌∙◌, arith, inl, inr, ◌⊎◌}
-use Rattle.std.specs.Prelude.{find, not, ◌&&◌, ◌==◌, ◌%◌, nat_lt, is_none, IfNone, IfSome, IsSome, is_some, if◌then◌else◌}
+use Rattle.std.specs.Prelude.{find, is_ok, not, ◌&&◌, ◌==◌, ◌%◌, nat_lt, is_none, IfNone, IfSome, IsSome, is_some, if◌then◌else◌}
 use Rattle.std.specs.Cmp.Lexicographic.{same_text, other_text}
 use Rattle.std.specs.Int.{w16, w64, to_be_bytes}
 use Rattle.std.proofs.Math.Seq.{drop-cons}
@@ -15,7 +15,7 @@ use Rattle.gb_frame.specs.declared.item.Item.{Item}
 use Rattle.gb_frame.specs.Packet.{Content}
 use Rattle.gb_frame.specs.Spelling.{items_text, header_text, tagged_text, tag_of, packet_text, IsBytes, IsItem, IsWithinLimits, IsText}
 use Rattle.gb_frame.specs.Fields.{version_in, from_in, to_in, base_in, mask_in, frame_in, count_in, items_in, tag_in, tagged_in}
-use Rattle.gb_frame.specs.Reading.{unless, faults, test, fault_in, content_in, parsed, left_over, items_of}
+use Rattle.gb_frame.specs.Reading.{unless, faults, test, fault_in, reading, content_in, parsed, left_over, items_of}
 use Rattle.gb_frame.specs.Faults.{Stand, HasFault, IsFirstFault}
 use Rattle.gb_frame.specs.Laws.{WhatIsWrittenIsRead}
 use Rattle.gb_frame.proofs.NumberLemmas.{IsBytes-take, IsBytes-drop, wide16, wide64, cut, number_below}
@@ -291,3 +291,14 @@ is_there key bytes none = ap is_some (good key bytes none).parsed
 -- a fault where there is a packet's text
 pub no_fault_found : (key bytes : List ℕ) (c : Content) (f : PacketFault) → IsText key bytes c → fault_in key bytes ≡ Some f → ⊥
 no_fault_found key bytes c f t e = let none = (text_found key bytes c t).0 in absurd cc
+
+-- where bytes are read, nothing is wrong with them
+pub nothing_wrong : (key bytes : List ℕ) → is_ok (reading key bytes) ≡ true → fault_in key bytes ≡ None
+nothing_wrong key bytes e = by (fault_in key bytes) e
+  where
+    by : (o : Option PacketFault) → is_ok (unless o (content_in bytes)) ≡ true → o ≡ None
+    by None e = refl
+    by (Some f) e = absurd (cc)
+
+pub read_whole : (key bytes : List ℕ) → is_ok (reading key bytes) ≡ true → reading key bytes ≡ Ok (content_in bytes)
+read_whole key bytes e = ap (λ o. unless o (content_in bytes)) (nothing_wrong key bytes e)

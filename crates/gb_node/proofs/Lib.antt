@@ -13,3 +13,4 @@ pub mod ReadLemmas
 pub mod SetLemmas
 pub mod SentLemmas
 pub mod StepLemmas
+pub mod KnownLemmas

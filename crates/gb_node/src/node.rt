@@ -1,5 +1,5 @@
 //! The node.
-ghost use Rattle.std.specs.Prelude.{◌≡◌, ◌≤◌, ◌<◌, ◌+◌, [], IsSome, vec_capacity, List, true, false, length, replicate, sum_by, None, Some, MatchOption, IfOk, OnOk, OnErr, is_ok};
+ghost use Rattle.std.specs.Prelude.{◌≡◌, ◌≤◌, ◌<◌, ◌+◌, [], IsSome, vec_capacity, List, true, false, length, replicate, sum_by, None, Some, MatchOption, IfOk, OnOk, OnErr, Ok, is_ok};
 ghost use Rattle.std.specs.FinSet as set;
 ghost use Rattle.gb_types.specs.declared.limits.TheConstants.{NODES as MOST, PLACES, SILENCE_MIN, SILENCE_MAX};
 ghost use Rattle.gb_frame.specs.Batch.{batch_in, IsBatch};
@@ -28,7 +28,7 @@ use gb_detect::detector::Detector;
 use gb_frame::fault::PacketFault;
 use gb_frame::limits::{ROOM, SHORTEST};
 use gb_frame::packet::Head;
-use gb_frame::reading::decode;
+use gb_frame::reading::{decode, decode_known};
 use gb_frame::view::PacketView;
 use gb_link::receiver::Receiver;
 use gb_table::table::Table;
@@ -385,6 +385,27 @@ impl Node {
             Err(fault) => PacketAnswer::Fault(fault),
             Ok(packet) => PacketAnswer::Good(self.take_packet(&packet)),
         }
+    }
+
+    /// The packet that bytes are which are known to be one for this node. Nothing is tested again.
+    fn read_known<'a>(&self, bytes: &'a [u8]) -> PacketView<'a>
+        requires { is_ok (read_at self.now bytes.now) ≡ true }
+        ensures { read_at self.now bytes.now ≡ Ok result }
+    {
+        decode_known(bytes, &self.key)
+    }
+
+    /// Takes bytes that are known to be a packet of the cluster for this node, as those are that its nodes sent to it. What
+    /// comes of it is what comes of `packet`, without a test, and with no tag computed. Takes no memory.
+    pub fn known_packet(&mut self, bytes: &[u8]) -> PacketAnswer
+        requires { is_ok (read_at self.old bytes.now) ≡ true }
+        ensures { IsTurn self.old (NodeEvent.Packet bytes.now) (NodeAnswer.Taken result) self.new }
+    {
+        if self.stopped {
+            return PacketAnswer::Refused(Refusal::Stopped);
+        }
+        let packet = self.read_known(bytes);
+        PacketAnswer::Good(self.take_packet(&packet))
     }
 
     /// The time ticks. The nodes that are noticed now are noticed in each group, rising. Takes no memory.

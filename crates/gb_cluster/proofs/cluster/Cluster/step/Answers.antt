@@ -1,6 +1,6 @@
 use Rattle.std.proofs.Common.{List, length, sym, subst}
 use Rattle.gb_cluster.specs.ClusterValue.{ClusterValue, cluster}
-use Rattle.gb_cluster.specs.ClusterStep.{AreForNodes, IsStep}
+use Rattle.gb_cluster.specs.ClusterStep.{AreForNodes, AreRead, IsStep}
 use Rattle.gb_cluster.specs.Run.{IsReached}
 use Rattle.gb_cluster.specs.declared.posted.Posted.{Posted}
 use Rattle.gb_cluster.proofs.CodeLemmas.{for_nodes, goes_on, kept_after}
@@ -10,6 +10,11 @@ pub take-requires-clause-inside : goal.take-requires-clause-inside
 take-requires-clause-inside c =
     let i = c.self.inside in
     subst (AreForNodes (length i.nodes.items)) (sym c.in_ok-reserve.ensures.items) (for_nodes c.packets_are_honest.ensures (cluster i.plan i.nodes.items i.packets.items) c.self.invariant)
+
+pub take-requires-clause-read : goal.take-requires-clause-read
+take-requires-clause-read c =
+    let i = c.self.inside in
+    subst (AreRead i.nodes.items) (sym c.in_ok-reserve.ensures.items) (c.packets_are_read.ensures i.plan c.self.invariant.0 (cluster i.plan i.nodes.items i.packets.items) c.self.invariant.1)
 
 pub returns-clause-step : goal.returns-clause-step
 returns-clause-step c =

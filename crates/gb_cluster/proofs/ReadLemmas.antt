@@ -1,0 +1,45 @@
+-- The node that a packet was sent to reads it.
+use Rattle.std.proofs.Common.{◌≡◌, ℕ, ◌<◌, Bool, true, List, [], ◌∷◌, length, Some, Ok, Err, refl, sym, ap, subst, ◌∙◌, arith}
+use Rattle.std.specs.Prelude.{Result, ◌&&◌, is_ok, nat_lt, slice_get, if◌then◌else◌}
+use Rattle.std.proofs.lemmas.Bool.{eq-eqb, lt-ltb}
+use Rattle.std.proofs.lemmas.Option.{slice_get-get_or}
+use Rattle.gb_frame.specs.declared.fault.PacketFault.{PacketFault}
+use Rattle.gb_frame.specs.declared.fault.PacketFault.TheVariants.{Node}
+use Rattle.gb_frame.specs.Packet.{Content}
+use Rattle.gb_frame.specs.Reading.{reading}
+use Rattle.gb_node.specs.NodeValue.{NodeValue, new_node}
+use Rattle.gb_node.specs.NodeStep.{is_here, if_here, read_at}
+use Rattle.gb_node.specs.Past.{packet_in, read}
+use Rattle.gb_node.specs.PastLaw.{PastsSay}
+use Rattle.gb_cluster.specs.ClusterValue.{ClusterValue, node_plan, node_at}
+use Rattle.gb_cluster.specs.Run.{past_at}
+use Rattle.gb_cluster.specs.Links.{PacketsAreHonest, PacketsAreRead}
+use Rattle.gb_cluster.proofs.NodesLemmas.{stays, have_pasts}
+
+read_under : (key bytes : List ℕ) (c : Content) → read key bytes ≡ c ∷ [] → reading key bytes ≡ Ok c
+read_under key bytes c e = by (reading key bytes) e
+  where
+    by : (r : Result Content PacketFault) → packet_in r ≡ c ∷ [] → r ≡ Ok c
+    by (Ok d) e = let same : d ≡ c = cc in ap Ok same
+    by (Err fault) e = absurd (cc)
+
+-- a node reads the packets under its key that are for it, from nodes of the cluster
+reads : (v : NodeValue) (bytes : List ℕ) (c : Content) → reading v.key bytes ≡ Ok c → c.to ≡ v.table.me.number → c.from < v.table.nodes → is_ok (read_at v bytes) ≡ true
+reads v bytes c is to from =
+    let here : is_here v c ≡ true = ap (λ b. b && nat_lt c.from v.table.nodes) (eq-eqb c.to v.table.me.number to) ∙ lt-ltb c.from v.table.nodes from in
+    ap (λ r. is_ok (if_here v r)) is ∙ ap (λ b. is_ok (if b then Ok c else Err Node)) here
+
+pub all_read : PacketsAreHonest → PastsSay → PacketsAreRead
+all_read honest pasts plan run v comes k p w at there =
+    let h = honest plan run v comes k p at in
+    let count = (stays plan run v comes).count in
+    let reaches = h.reaches in
+    let within : p.to.number < length v.nodes = omega (arith, count, reaches) in
+    let found = slice_get-get_or v.nodes p.to.number (new_node (node_plan v.plan p.to)) within in
+    let is : node_at v p.to ≡ w = let same : Some (node_at v p.to) ≡ Some w = sym found ∙ there in cc in
+    let was = pasts (node_plan plan p.to) (past_at p.to run) (node_at v p.to) (have_pasts plan run v p.to comes reaches) in
+    let nodes = was.nodes in
+    let sender = h.sender in
+    let inside = h.inside in
+    subst (λ u. is_ok (read_at u p.text) ≡ true) is
+    (reads (node_at v p.to) p.text h.content (ap (λ key. reading key p.text) was.key ∙ read_under plan.cluster_key p.text h.content h.text) (h.goal ∙ ap (λ a. a.number) (sym was.me)) (omega (arith, nodes, sender, inside)))

@@ -1,0 +1,18 @@
+use Rattle.std.proofs.Common.{ap, sym, ◌∙◌, Ok}
+use Rattle.gb_frame.proofs.ReadingLemmas.{good, is_there, nothing_wrong, read_whole}
+use Rattle.gb_frame.proofs.reading.decode_known.Goals as goal
+
+pub of-requires-clause-long : goal.of-requires-clause-long
+of-requires-clause-long c = (good c.args.key.now c.args.bytes.now (nothing_wrong c.args.key.now c.args.bytes.now c.requires)).long
+
+pub of-requires-clause-from : goal.of-requires-clause-from
+of-requires-clause-from c = (good c.args.key.now c.args.bytes.now (nothing_wrong c.args.key.now c.args.bytes.now c.requires)).from
+
+pub of-requires-clause-to : goal.of-requires-clause-to
+of-requires-clause-to c = (good c.args.key.now c.args.bytes.now (nothing_wrong c.args.key.now c.args.bytes.now c.requires)).to
+
+pub of-requires-clause-items : goal.of-requires-clause-items
+of-requires-clause-items c = is_there c.args.key.now c.args.bytes.now (nothing_wrong c.args.key.now c.args.bytes.now c.requires)
+
+pub returns : goal.returns
+returns c = read_whole c.args.key.now c.args.bytes.now c.requires ∙ ap Ok (sym c.of.ensures)
