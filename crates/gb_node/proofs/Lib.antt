@@ -14,3 +14,4 @@ pub mod SetLemmas
 pub mod SentLemmas
 pub mod StepLemmas
 pub mod KnownLemmas
+pub mod KeptLemmas

@@ -139,7 +139,7 @@ asked_within r t h = within_if (is_admitted r t) (admitted_reply r t) (Refused D
 
 -- Packets.
 
-tag_fits : (key text : List ℕ) → length (tag_of key text) ≡ 8
+pub tag_fits : (key text : List ℕ) → length (tag_of key text) ≡ 8
 unfolding tag_of
 tag_fits key text = omega (arith, length-take TAG (hmac_of key text), length-hmac_of key text)
 

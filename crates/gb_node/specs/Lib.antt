@@ -6,3 +6,4 @@ pub mod PastGroups
 pub mod PastLaw
 pub mod Reads
 pub mod StepLaw
+pub mod KeptAcks

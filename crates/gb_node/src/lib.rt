@@ -8,6 +8,7 @@ pub mod copies;
 pub mod event;
 pub mod node;
 pub mod packet;
+pub mod packet_key;
 pub mod packet_text;
 pub mod past;
 pub mod plan;

@@ -18,12 +18,12 @@ ghost use Rattle.gb_node.specs.NodeStep.{window_to, is_another, is_reached, cont
 
 use crate::answer::{Good, Halted, NodeAnswer, PacketAnswer, Sent, Ticked};
 use crate::event::NodeEvent;
-use crate::packet::{bare_packet, frame_packet};
+use crate::packet::frame_packet;
+use crate::packet_key::PacketKey;
 use crate::packet_text::PacketText;
 use crate::plan::NodePlan;
 use crate::taking::{notice_each, take_ack, take_frame};
 use crate::window::Window;
-use gb_cap::hmac::HmacKey;
 use gb_detect::detector::Detector;
 use gb_frame::fault::PacketFault;
 use gb_frame::limits::{ROOM, SHORTEST};
@@ -46,7 +46,7 @@ use std::marker::Model;
 pub struct Node {
     alloc: Global,
     /// The key of the cluster's packets.
-    key: HmacKey,
+    key: PacketKey,
     table: Table,
     /// For each node, the sending end of the link to it.
     windows: [Window; NODES],
@@ -129,7 +129,7 @@ impl Node {
     {
         Node {
             alloc,
-            key: HmacKey::new(&plan.cluster_key),
+            key: PacketKey::new(&plan.cluster_key),
             table: Table::new(alloc, plan.me, plan.nodes, plan.places, &plan.admin_key),
             windows: new_windows(alloc),
             receivers: new_receivers(),
@@ -221,7 +221,7 @@ impl Node {
         let Some((_, texts)) = self.undone(to, number) else {
             unreachable!()
         };
-        frame_packet(self.head(to, number), texts, &self.key, packet)
+        frame_packet(self.head(to, number), texts, self.key.key(), packet)
     }
 
     /// Sends the next batch for a node, so many items with so many bytes. Without memory nothing has changed.
@@ -280,7 +280,7 @@ impl Node {
         ensures packet { OnOk result (IsPacket (content_to self.now to number (batch_in texts.now))) }
     {
         let packet = Vec::with_capacity(self.alloc, SHORTEST + texts.len())?;
-        Ok(frame_packet(self.head(to, number), texts, &self.key, packet))
+        Ok(frame_packet(self.head(to, number), texts, self.key.key(), packet))
     }
 
     /// Sends a frame that was not acknowledged once more, by its number; 0 stands for the lowest such number. Changes
@@ -305,18 +305,21 @@ impl Node {
     }
 
     /// The packet to another node that acknowledges what came from there so far, alone.
-    fn acknowledgement(&self, to: NodeId) -> Result<PacketText, OutOfMemory>
-        requires { is_another self.now to ≡ true }
-        ensures text { IfOk result (λ p. p ≡ packet_text self.now.key (content_to self.now to 0 [])) }
-        ensures packet { OnOk result (IsPacket (content_to self.now to 0 [])) }
+    fn acknowledgement(&mut self, to: NodeId) -> Result<PacketText, OutOfMemory>
+        requires { is_another self.old to ≡ true }
+        ensures text { IfOk result (λ p. p ≡ packet_text self.old.key (content_to self.old to 0 [])) }
+        ensures packet { OnOk result (IsPacket (content_to self.old to 0 [])) }
+        ensures state { self.new ≡ self.old }
     {
-        bare_packet(self.alloc, self.head(to, 0), &self.key)
+        let head = self.head(to, 0);
+        self.key.bare_packet(self.alloc, head)
     }
 
     /// Sends an acknowledgement alone. Changes nothing.
-    pub fn ack(&self, to: NodeId) -> Sent
-        ensures turn { IsTurn self.now (NodeEvent.Ack to) (NodeAnswer.Sent result) self.now }
-        ensures spelt { IsSpelt self.now (NodeEvent.Ack to) (NodeAnswer.Sent result) }
+    pub fn ack(&mut self, to: NodeId) -> Sent
+        ensures turn { IsTurn self.old (NodeEvent.Ack to) (NodeAnswer.Sent result) self.new }
+        ensures spelt { IsSpelt self.old (NodeEvent.Ack to) (NodeAnswer.Sent result) }
+        ensures same { self.new ≡ self.old }
     {
         if self.stopped {
             return Sent::Refused(Refusal::Stopped);
@@ -355,7 +358,7 @@ impl Node {
     fn read<'a>(&self, bytes: &'a [u8]) -> Result<PacketView<'a>, PacketFault>
         ensures { result ≡ read_at self.now bytes.now }
     {
-        let packet = match decode(bytes, &self.key) {
+        let packet = match decode(bytes, self.key.key()) {
             Ok(packet) => packet,
             Err(fault) => return Err(fault),
         };
@@ -392,7 +395,7 @@ impl Node {
         requires { is_ok (read_at self.now bytes.now) ≡ true }
         ensures { read_at self.now bytes.now ≡ Ok result }
     {
-        decode_known(bytes, &self.key)
+        decode_known(bytes, self.key.key())
     }
 
     /// Takes bytes that are known to be a packet of the cluster for this node, as those are that its nodes sent to it. What

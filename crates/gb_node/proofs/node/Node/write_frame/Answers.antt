@@ -1,6 +1,6 @@
 use Rattle.std.proofs.Common.{subst}
 use Rattle.gb_frame.specs.Spelling.{IsPacket}
-use Rattle.std.proofs.Common.{ap}
+use Rattle.std.proofs.Common.{ap, ◌∙◌}
 use Rattle.gb_frame.specs.Batch.{batch_in}
 use Rattle.gb_node.specs.NodeValue.{NodeValue}
 use Rattle.gb_node.proofs.NodeLemmas.{written}
@@ -8,7 +8,7 @@ use Rattle.gb_node.proofs.node.Node.write_frame.Goals as goal
 
 pub returns-clause-text : goal.returns-clause-text
 returns-clause-text c =
-    rw c.in-Some.ensures.0 (written c.args.self.now c.args.to c.args.number (batch_in c.in-Some.texts.now) _ _ _ c.frame_packet.ensures.text (ap (λ (v : NodeValue). v.key) c.self.view_is) (c.head.ensures.content _))
+    rw c.in-Some.ensures.0 (written c.args.self.now c.args.to c.args.number (batch_in c.in-Some.texts.now) _ _ _ c.frame_packet.ensures.text (c.key.ensures ∙ ap (λ (v : NodeValue). v.key) c.self.view_is) (c.head.ensures.content _))
 
 pub returns-clause-packet : goal.returns-clause-packet
 returns-clause-packet c = rw c.in-Some.ensures.0 (subst IsPacket (c.head.ensures.content (batch_in c.in-Some.texts.now)) c.frame_packet.ensures.packet)

@@ -1,0 +1,135 @@
+//! The key of a cluster's packets at a node, with the acknowledgements that were sent last.
+ghost use Rattle.std.specs.Prelude.{◌≡◌, ◌≤◌, [], length, replicate, IfOk, OnOk, IfSome, None};
+ghost use Rattle.gb_types.specs.declared.limits.TheConstants.{NODES as MOST};
+ghost use Rattle.gb_frame.specs.Packet.{packet_of};
+ghost use Rattle.gb_frame.specs.Spelling.{packet_text, IsPacket};
+ghost use Rattle.gb_node.specs.Frames.{IsHead};
+ghost use Rattle.gb_node.specs.KeptAcks.{IsKept};
+
+use crate::packet::bare_packet;
+use crate::packet_text::PacketText;
+use gb_cap::hmac::{HmacKey, Key};
+use gb_frame::limits::SHORTEST;
+use gb_frame::packet::Head;
+use gb_types::limits::NODES;
+use gb_types::memory::OutOfMemory;
+use std::alloc::Global;
+use std::marker::Model;
+
+/// A packet without a frame, with its head.
+#[derive(Clone, Copy, Drop)]
+struct Bare {
+    head: Head,
+    text: [u8; SHORTEST],
+}
+
+/// The key of the cluster's packets. For each node it keeps the last packet without a frame that went there: where nothing
+/// came from the node since, the next one is the same, and its tag is not computed again. Contracts see the key alone.
+#[derive(Drop)]
+pub struct PacketKey {
+    key: HmacKey,
+    kept: [Option<Bare>; NODES],
+}
+
+impl Model for PacketKey {
+    ghost use Rattle.std.specs.Prelude.{ℕ, List};
+    ghost use Rattle.gb_node.specs.KeptAcks.{AreKept};
+
+    ghost Value = { List ℕ };
+
+    ghost view = { λ k. k.key };
+
+    ghost invariant = { λ k. AreKept k.key k.kept };
+}
+
+/// A packet that was sent, with its head.
+fn bare_of(head: Head, packet: &PacketText) -> Bare
+    requires { length packet.now ≡ SHORTEST }
+    ensures head { result.head ≡ head }
+    ensures text { result.text ≡ packet.now }
+{
+    let mut text = [0; SHORTEST];
+    text.copy_from_slice(packet.as_slice());
+    Bare { head, text }
+}
+
+/// The bytes of a packet that was kept.
+fn copied(alloc: Global, bare: &Bare) -> Result<PacketText, OutOfMemory>
+    ensures { IfOk result (λ p. p ≡ bare.now.text) }
+{
+    let mut text = Vec::with_capacity(alloc, SHORTEST)?;
+    text.extend_from_slice(&bare.text)?;
+    Ok(PacketText::from(text))
+}
+
+/// The packet with this head alone, made and kept.
+fn anew(
+    alloc: Global,
+    head: Head,
+    key: &HmacKey,
+    kept: &mut Option<Bare>,
+) -> Result<PacketText, OutOfMemory>
+    requires head { IsHead head }
+    requires frame { head.frame ≡ 0 }
+    requires kept { IfSome kept.old (IsKept key.now) }
+    ensures text { IfOk result (λ p. p ≡ packet_text key.now (packet_of head [])) }
+    ensures packet { OnOk result (IsPacket (packet_of head [])) }
+    ensures kept { IfSome kept.new (IsKept key.now) }
+{
+    let packet = bare_packet(alloc, head, key)?;
+    *kept = Some(bare_of(head, &packet));
+    Ok(packet)
+}
+
+/// The packet with this head alone: the one that is kept, where it has this head, or one that is made and kept.
+fn again_or_anew(
+    alloc: Global,
+    head: Head,
+    key: &HmacKey,
+    kept: &mut Option<Bare>,
+) -> Result<PacketText, OutOfMemory>
+    requires head { IsHead head }
+    requires frame { head.frame ≡ 0 }
+    requires kept { IfSome kept.old (IsKept key.now) }
+    ensures text { IfOk result (λ p. p ≡ packet_text key.now (packet_of head [])) }
+    ensures packet { OnOk result (IsPacket (packet_of head [])) }
+    ensures kept { IfSome kept.new (IsKept key.now) }
+{
+    if let Some(bare) = kept {
+        if bare.head == head {
+            return copied(alloc, bare);
+        }
+    }
+    anew(alloc, head, key, kept)
+}
+
+impl PacketKey {
+    /// No packet was sent under it.
+    pub fn new(key: &Key) -> PacketKey
+        ensures { result ≡ key.now }
+    {
+        PacketKey {
+            key: HmacKey::new(key),
+            kept: [None; NODES],
+        }
+    }
+
+    /// The key, with its pads hashed.
+    pub fn key(&self) -> &HmacKey
+        ensures { result.now ≡ self.now }
+    {
+        &self.key
+    }
+
+    /// The packet with this head alone, which has no frame.
+    pub fn bare_packet(&mut self, alloc: Global, head: Head) -> Result<PacketText, OutOfMemory>
+        requires head { IsHead head }
+        requires frame { head.frame ≡ 0 }
+        ensures text { IfOk result (λ p. p ≡ packet_text self.old (packet_of head [])) }
+        ensures packet { OnOk result (IsPacket (packet_of head [])) }
+        ensures key { self.new ≡ self.old }
+    {
+        let kept = &mut self.kept;
+        again_or_anew(alloc, head, &self.key, &mut kept[head.to.index()])
+    }
+}
