@@ -88,11 +88,11 @@ fn come(alloc: Global, bytes: &[u8]) -> Result<NodeEvent, OutOfMemory> {
 /// The acknowledgement that a node would send another comes.
 fn come_unsent(
     alloc: Global,
-    nodes: &[Taped],
+    nodes: &mut [Taped],
     from: NodeId,
     to: NodeId,
 ) -> Result<NodeEvent, OutOfMemory> {
-    match nodes.get(from.index()) {
+    match nodes.get_mut(from.index()) {
         Some(taped) => {
             let sent = taped.node.ack(to);
             come(alloc, bytes(&sent))
@@ -102,7 +102,12 @@ fn come_unsent(
 }
 
 /// The event of a step at a node.
-fn event(alloc: Global, nodes: &[Taped], me: NodeId, step: Step) -> Result<NodeEvent, OutOfMemory> {
+fn event(
+    alloc: Global,
+    nodes: &mut [Taped],
+    me: NodeId,
+    step: Step,
+) -> Result<NodeEvent, OutOfMemory> {
     Ok(match step {
         Step::Ask(asked) => NodeEvent::Request(request(alloc, me, asked)?),
         Step::Pack(to) => NodeEvent::Pack(node(to)),
