@@ -71,6 +71,6 @@ abbrev pub KeepsOrder : Option Spec → List Entry → Type 0
 KeepsOrder None log = Unit {0}
 KeepsOrder (Some spec) log = is_fifo spec.kind ≡ true → RunsFromOne (map message_of log)
 
--- so in the log of each node, for the kind that was chosen there
+-- in each legal list of steps the log of each node keeps the order of the kind that was chosen at the node
 abbrev pub IsInOrder : Type 0
 IsInOrder = (nodes number : ℕ) (steps : List GroupStep) → IsLegal nodes number steps → (b : ℕ) → KeepsOrder (alone nodes number steps b).spec (log_of_member b (alone nodes number steps b))

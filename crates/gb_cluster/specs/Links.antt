@@ -32,11 +32,11 @@ pub record IsHonest (plan : Plan) (run : List Did) (p : Posted) : Type 0 where
   pub frame : content.frame ≢ 0 → slice_get (frames_to plan.cluster_key p.to.number (past_at from run)) (content.frame - 1) ≡ Some content.items
   pub acks : (n : ℕ) → 1 ≤ n → covers content.base content.mask n ≡ true → is_taken plan.cluster_key p.to.number n (past_at from run) ≡ true
 
--- so every packet of every run
+-- every packet that was sent in a run is honest
 abbrev pub PacketsAreHonest : Type 0
 PacketsAreHonest = (plan : Plan) (run : List Did) (v : ClusterValue) → ComesTo plan run v → (k : ℕ) (p : Posted) → slice_get v.packets k ≡ Some p → IsHonest plan run p
 
--- and the node that it was sent to reads it, at every moment after
+-- a packet that was sent is read by the node that it was sent to, at every moment of a run
 abbrev pub PacketsAreRead : Type 0
 PacketsAreRead = (plan : Plan) (run : List Did) (v : ClusterValue) → ComesTo plan run v → AreRead v.nodes v.packets
 
@@ -51,7 +51,7 @@ abbrev pub IsWhole : Plan → List Did → Did → Type 0
 IsWhole plan run d = (c : Content) → first_taken plan.cluster_key d.event d.answer ≡ c ∷ []
     → (1 ≤ c.frame) × (is_taken plan.cluster_key c.from c.frame (past_at d.node run) ≡ false) × (slice_get (frames_to plan.cluster_key d.node.number (past_at (node_numbered c.from) run)) (c.frame - 1) ≡ Some c.items)
 
--- so at every moment of a run
+-- at every moment of a run a frame that is taken for the first time is whole
 unfoldable pub IsAlwaysWhole : Plan → List Did → Type 0
 IsAlwaysWhole plan [] = Unit {0}
 IsAlwaysWhole plan (d ∷ run) = IsWhole plan run d × IsAlwaysWhole plan run

@@ -51,7 +51,7 @@ pub record KeepsAgreement (accepted : ℕ → List Accepted) (log : ℕ → List
 abbrev pub logs_of : Group → ℕ → List Entry
 logs_of group b = log_of_member b (group b)
 
--- so it is where a group is settled, whichever nodes are taken as those that run
+-- the logs of a settled group agree, whichever nodes are taken as those that run
 abbrev pub IsAgreed : Type 0
 IsAgreed =
     (nodes number : ℕ) (steps : List GroupStep) → IsLegal nodes number steps → (runs : ℕ → Bool) (spec : Spec) → IsSettled nodes number steps runs spec

@@ -33,7 +33,7 @@ Duty Lazy noticed put had b c m = ((m.origin.number ≡ b) ⊎ (noticed m.origin
 Duty Eager noticed put had b c m = IsPutOut noticed put c m
 Duty AllAck noticed put had b c m = (noticed c ≡ true) ⊎ had c m
 
--- so for each other member and each of these messages
+-- a node has done its duty for each other member and each of these messages
 abbrev pub KeepsDuties : Spec → ℕ → (ℕ → Bool) → (ℕ → List Entry) → (ℕ → MsgId → Type 0) → (MsgId → Bool) → Type 0
 KeepsDuties spec b noticed put had messages = (c : ℕ) → is_other spec b c ≡ true → (m : MsgId) → messages m ≡ true → Duty (module_of spec.kind) noticed put had b c m
 
@@ -45,7 +45,7 @@ noticed_at member = was_noticed (calls_of member.told)
 abbrev pub delivered_at : Spec → ℕ → Member → MsgId → Bool
 delivered_at spec b member = is_in (log (module_of spec.kind) b (set.items spec.members) (calls_of member.told))
 
--- and those that stand in its log
+-- the messages that stand in a node's log
 abbrev pub logged_at : ℕ → Member → MsgId → Bool
 logged_at b member = has (log_of_member b member)
 
@@ -58,6 +58,6 @@ pub record Duties (group : Group) : Type 0 where
   pub delivered : (b : ℕ) (spec : Spec) → held_spec (group b).phase (group b).spec ≡ Some spec → KeepsDuties spec b (noticed_at (group b)) (group b).put (HasHad group) (delivered_at spec b (group b))
   pub logged : (b : ℕ) (spec : Spec) → held_spec (group b).phase (group b).spec ≡ Some spec → KeepsDuties spec b (noticed_at (group b)) (group b).put (HasHad group) (logged_at b (group b))
 
--- so it is after every event
+-- after every event of a legal list each node has done its duties
 abbrev pub IsDutiful : Type 0
 IsDutiful = (nodes number : ℕ) (steps : List GroupStep) → IsLegal nodes number steps → Duties (alone nodes number steps)

@@ -59,7 +59,7 @@ dropped = to_one ++ (at first (Took third 1) ∷ at third (Came first 1) ∷ at 
 abbrev pub loss : List GroupStep
 loss = to_one ++ (at first Stop ∷ at second (Notice first) ∷ at third (Notice first) ∷ [])
 
--- and what they relay comes
+-- node 0 stops before the message goes to node 2, the others notice that, and what they relay comes
 abbrev pub crash : List GroupStep
 crash = loss ++ (at second (Took third 1) ∷ at third (Came second 1) ∷ at third (Took second 1) ∷ at second (Came third 1) ∷ [])
 

@@ -70,7 +70,7 @@ abbrev pub pick : (Entry → Bool) → List Entry → List Up
 pick p [] = []
 pick p (e ∷ es) = cond (p e) (up_of e ∷ []) (pick p es)
 
--- and the entries then
+-- the entries once the first of them that passes a test was handed up
 abbrev pub give : (Entry → Bool) → List Entry → List Entry
 give p [] = []
 give p (e ∷ es) = cond (p e) (given_entry e ∷ es) (e ∷ give p es)
@@ -80,7 +80,7 @@ abbrev pub released : ℕ → ℕ → List Entry → List Entry
 released s zero es = es
 released s (suc n) es = released s n (give (next_of s es) es)
 
--- and what comes up by that
+-- what comes up when the next message of an origin is handed up, if it is here, so many times
 abbrev pub released_ups : ℕ → ℕ → List Entry → List Up
 released_ups s zero es = []
 released_ups s (suc n) es = pick (next_of s es) es ++ released_ups s n (give (next_of s es) es)
@@ -89,7 +89,7 @@ released_ups s (suc n) es = pick (next_of s es) es ++ released_ups s n (give (ne
 abbrev pub taken_one : MsgId → List Entry → List Entry
 taken_one m es = released m.origin.number (length es) (map (brought m) es)
 
--- and what comes up by that
+-- what comes up once m came up from below
 abbrev pub taken_one_ups : MsgId → List Entry → List Up
 taken_one_ups m es = released_ups m.origin.number (length es) (map (brought m) es)
 
@@ -98,7 +98,7 @@ abbrev pub taken : List Up → List Entry → List Entry
 taken [] es = es
 taken (u ∷ us) es = taken us (taken_one u.m es)
 
--- and what comes up by that
+-- what comes up once these pairs came up from below, one by one
 abbrev pub taken_ups : List Up → List Entry → List Up
 taken_ups [] es = []
 taken_ups (u ∷ us) es = taken_one_ups u.m es ++ taken_ups us (taken_one u.m es)

@@ -17,11 +17,11 @@ use Rattle.gb_groups.specs.AtAddress.{place_of, row_for, on_address, drop_at, ad
 abbrev pub group_in : Addr → List Row → Option (Option SlotState)
 group_in g rows = option_map (λ row. row.slot) (row_for g rows)
 
--- after a step of what is kept of it
+-- a group after a step of its slot, if it is there
 abbrev pub stepped : {X : Type 0} → (X → X) → Option (Option X) → Option (Option X)
 stepped step o = option_map (option_map step) o
 
--- after it was dropped
+-- a group once it was dropped, if it was made
 abbrev pub dropped : {X : Type 0} → Option (Option X) → Option (Option X)
 dropped o = option_map (λ s. None) o
 

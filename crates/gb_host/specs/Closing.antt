@@ -33,7 +33,7 @@ AreReplays p n nodes tapes = (b : NodeId) (d : NodeValue) → b.number < n → I
 abbrev pub IsSame : List (List TapeEntry) → ℕ → List SeatEntry → Type 0
 IsSame tapes s list = (k : ℕ) → calls_of s (tape_at tapes k) ≡ numbered 0 (calls_at k list)
 
--- so it is for each seat; a number without a seat stands in no tape
+-- each seat's entries in the tapes are its calls; a number without a seat stands in no tape
 abbrev pub AreSame : List (List TapeEntry) → (ℕ → List SeatEntry) → Type 0
 AreSame tapes lists = (s : ℕ) → IsSame tapes s (lists s)
 

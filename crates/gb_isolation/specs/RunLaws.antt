@@ -48,7 +48,7 @@ unfoldable pub accepted_in_past : NodePlan → Addr → List Happened → List A
 accepted_in_past plan g [] = []
 accepted_in_past plan g (h ∷ past) = accepted_in_past plan g past ++ accepted_by plan g past h.event h.answer
 
--- so at the node with this number
+-- the group's messages that were accepted at the node with this number, in order
 abbrev pub accepted_there : Plan → Addr → List Did → ℕ → List Accepted
 accepted_there plan g run s = accepted_in_past (node_plan plan (node_numbered s)) g (past_at (node_numbered s) run)
 

@@ -25,6 +25,6 @@ pub record HasEachEntry (plan : Plan) (tapes : List (List TapeEntry)) (events : 
   pub each : (a place : ℕ) (x : TapeEntry) → slice_get (tape_of tapes a) place ≡ Some x → IsTaken plan m.picks events a place x
   pub count : length events ≡ sum_by length tapes
 
--- so it is whatever was merged
+-- whatever was merged has each entry of each tape, and nothing else
 abbrev pub MergedHasEachEntry : Type 0
 MergedHasEachEntry = (plan : Plan) (tapes : List (List TapeEntry)) (events : List Event) (m : IsMerged plan tapes events) → HasEachEntry plan tapes events m

@@ -97,6 +97,6 @@ pub record IsOneRun (plan : Plan) (tapes : List (List TapeEntry)) (events : List
   pub pasts : (a : NodeId) → past_at a (run_of m.picks) ≡ past_of (tape_of tapes a.number)
   pub isolated : (g : Addr) → IsIsolated plan (run_of m.picks) m.last g
 
--- so it is whatever the plan and the tapes are
+-- what is merged is one run, whatever the plan and the tapes are
 abbrev pub MergedIsOneRun : Type 0
 MergedIsOneRun = (plan : Plan) (tapes : List (List TapeEntry)) (events : List Event) (m : IsMerged plan tapes events) → IsOneRun plan tapes events m

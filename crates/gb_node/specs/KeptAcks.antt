@@ -9,6 +9,6 @@ pub record IsKept (key : List ℕ) (b : Bare) : Type 0 where
   pub text : b.text ≡ packet_text key (packet_of b.head [])
   pub packet : IsPacket (packet_of b.head [])
 
--- so for each node where one is kept
+-- for each node what is kept, if anything, is the packet with its head
 abbrev pub AreKept : List ℕ → List (Option Bare) → Type 0
 AreKept key kept = (i : ℕ) → IfSome (slice_index_or kept i None) (IsKept key)

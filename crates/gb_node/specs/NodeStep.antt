@@ -85,7 +85,7 @@ next_batch v b = if is_reached v b && has_room (window_to v b.number) then unles
 abbrev pub pack_content : NodeValue → NodeId → Option Content
 pack_content v b = option_map (content_to v b (window_to v b.number).next) (next_batch v b)
 
--- after it
+-- a node once this batch was packed for another, if there is one
 abbrev pub sent_batch : NodeId → Option (List Item) → NodeValue → NodeValue
 sent_batch b None v = v
 sent_batch b (Some items) v = record v { table = table_packed b.number ROOM v.table; windows = slice_set v.windows b.number (pushed (window_to v b.number) items) }

@@ -42,7 +42,7 @@ open_in phase = Refused WrongPhase
 abbrev pub open_answer : Shown → Reply
 open_answer s = open_in s.phase
 
--- and shut once, after it was opened
+-- a group is shut once, after it was opened
 abbrev pub shut_in : Phase → Reply
 shut_in Opened = Done
 shut_in phase = Refused WrongPhase
@@ -50,7 +50,7 @@ shut_in phase = Refused WrongPhase
 abbrev pub shut_answer : Shown → Reply
 shut_answer s = shut_in s.phase
 
--- and dropped whenever it is there
+-- a group is dropped whenever it is there
 abbrev pub drop_answer : Shown → Reply
 drop_answer s = Done
 

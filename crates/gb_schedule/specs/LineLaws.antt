@@ -7,7 +7,7 @@ use Rattle.gb_schedule.specs.Lines.{lines_of, IsLine, ended}
 abbrev pub WrittenLinesAreRead : Type 0
 WrittenLinesAreRead = (lines : List (List ℕ)) → All IsLine lines → lines_of (flat_map ended lines) ≡ lines
 
--- so they are where the last one lacks its line feed
+-- lines that were written one after another are the lines of that text also where the last one lacks its line feed
 abbrev pub LastMayLackItsLineFeed : Type 0
 LastMayLackItsLineFeed = (lines : List (List ℕ)) (last : List ℕ) → All IsLine lines → IsLine last → last ≢ []
     → lines_of (flat_map ended lines ++ last) ≡ lines ++ last ∷ []

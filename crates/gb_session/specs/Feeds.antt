@@ -9,7 +9,7 @@ pub record FeedValue : Type 0 where
   pub begun : List ℕ
   pub is_malformed : Bool
 
--- so a feed stands where this is behind the last good message
+-- where a feed stands that has this behind its last good message: at a Malformed one, or within one that is begun
 abbrev pub StandsAt : Bool → List ℕ → List ℕ → Type 0
 StandsAt true begun rest = IsMalformed rest
 StandsAt false begun rest = (rest ≡ begun) × IsBegun rest

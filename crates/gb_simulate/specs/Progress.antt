@@ -68,7 +68,7 @@ pub record IsAt (input before : List ℕ) (n : ℕ) (w : Option ClusterValue) (l
   pub now_is : now ≡ Some (before ++ written)
   pub reaches : Reaches input (written ++ gathered) w n (lines_of rest)
 
--- so where the bytes are known
+-- a reader and a writer stand at a line, as far as their bytes are known
 abbrev pub IsHalfway : Option (List ℕ) → Option (List ℕ) → ℕ → Option ClusterValue → Option (List ℕ) → Option (List ℕ) → List ℕ → Type 0
 IsHalfway input before n w left now gathered = IfSome input (λ i. IfSome before (λ b. IsAt i b n w left now gathered))
 

@@ -32,11 +32,11 @@ MovedStands = (s : SlotState) (told : List GroupCall) (phase : Phase) (reply : R
 abbrev pub SaidStands : Type 0
 SaidStands = (s : SlotState) (told : List GroupCall) (payload : List ℕ) → StandsFor s told → StandsFor (slot_said payload (Said (s.said + 1)) s) (Own (own_entry s payload) ∷ told)
 
--- and so after an item that is not let fall
+-- after an item that is not let fall the slot stands for the history with it
 abbrev pub CameStands : Type 0
 CameStands = (s : SlotState) (told : List GroupCall) (from : NodeId) (x : Entry) → StandsFor s told → falls from x s ≡ false → StandsFor (slot_came from x s) (Other from x ∷ told)
 
--- and so after another member was noticed
+-- after another member was noticed the slot stands for the history with the notice
 abbrev pub NoticedStands : Type 0
 NoticedStands = (s : SlotState) (told : List GroupCall) (q : NodeId) → StandsFor s told → is_other s.spec s.me.number q.number ≡ true → StandsFor (slot_noticed q s) (Crashed q ∷ told)
 
@@ -70,7 +70,7 @@ abbrev pub WaitingNoticed : Type 0
 WaitingNoticed = (s : SlotState) (told : List GroupCall) (q : NodeId) (b : ℕ) → StandsFor s told → is_other s.spec s.me.number q.number ≡ true
     → waiting (slot_noticed q s) b ≡ (if nat_eq b q.number then [] else waiting s b ++ (if reaches s b then puts_of s.spec s.me.number (Crashed q) told else []))
 
--- and shrinks by what is taken, for this node alone
+-- what waits for a node shrinks by what is taken for it
 abbrev pub WaitingTook : Type 0
 WaitingTook = (s : SlotState) (told : List GroupCall) (b count : ℕ) → StandsFor s told → b < NODES → waiting (slot_took b count s) b ≡ drop count (waiting s b)
 

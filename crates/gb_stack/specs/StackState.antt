@@ -104,7 +104,7 @@ unordered_noticing Lazy me members noticed = lazy (record { lower = me; members 
 unordered_noticing Eager me members noticed = eager (record { lower = me; members = members; noticed = noticed; entries = [] })
 unordered_noticing AllAck me members noticed = all_ack (record { lower = me; members = members; noticed = noticed; entries = [] })
 
--- and so a stack of a kind
+-- a stack of a kind that starts at a node which has noticed some
 abbrev pub stack_noticing : Kind → NodeId → Nodes → Nodes → StackState
 stack_noticing kind me members noticed =
     if is_fifo kind then fifo (record { lower = unordered_noticing (module_of kind) me members noticed; entries = [] })

@@ -42,17 +42,17 @@ pub record SendsTo (r : ℕ) (me : NodeId) (b : ℕ) (is_heard : Bool) (es : Lis
   pub resends : IfDue (is_again_due r pack.answer) (IsFor (λ to. Again to 0) me b) again
   pub acknowledges : IfDue (is_ack_due r is_heard) (IsFor Ack me b) ack
 
--- the beginning of it
+-- what a pump sends in a turn to one node, or the beginning of that
 abbrev pub IsPartTo : ℕ → NodeId → ℕ → Bool → List SeatEntry → Type 0
 IsPartTo r me b is_heard es = (rest : List SeatEntry) × SendsTo r me b is_heard (es ++ rest)
 
--- so it does to each other node below b, rising, of which those in the set were heard
+-- what a pump sends in a turn to each other node below b, rising, of which those in the set were heard
 abbrev pub SendsAll : ℕ → NodeId → set.FinSet nat_cmp → ℕ → List SeatEntry → Type 0
 SendsAll r me heard zero es = es ≡ []
 SendsAll r me heard (suc b) es = MatchBool (b == me.number) (SendsAll r me heard b es)
     ((xs ys : List SeatEntry) × (es ≡ xs ++ ys) × SendsAll r me heard b xs × SendsTo r me b (set.contains heard b) ys)
 
--- the beginning of it
+-- what a pump sends in a turn to all, or the beginning of that
 abbrev pub IsPartAll : ℕ → NodeId → set.FinSet nat_cmp → ℕ → List SeatEntry → Type 0
 IsPartAll r me heard nodes es = (rest : List SeatEntry) × SendsAll r me heard nodes (es ++ rest)
 
