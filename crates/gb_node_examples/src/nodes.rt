@@ -76,6 +76,45 @@ fn nothing_is_sent(rt: HostRuntime) -> Result<(), Fail> {
     Ok(())
 }
 
+/// An acknowledgement that says nothing new is sent again, and once a frame came another one is sent, which counts.
+const AN_ACKNOWLEDGEMENT_IS_SENT_AGAIN: &[Line] = &[
+    (SECOND, Step::Ack(FIRST), Told::Sent(39)),
+    (SECOND, Step::Ack(FIRST), Told::Sent(39)),
+    (
+        FIRST,
+        Step::Arrive(1),
+        Told::Came(SECOND, Frame::Nothing, 0, 0),
+    ),
+    (FIRST, Step::Tenant(7), Told::Done),
+    (FIRST, Step::Make(GROUP, Kind::Beb), Told::Done),
+    (FIRST, Step::Open(GROUP), Told::Done),
+    (FIRST, Step::Say(GROUP, b"a"), Told::Said(1)),
+    (FIRST, Step::Pack(SECOND), Told::Sent(49)),
+    (
+        SECOND,
+        Step::Arrive(2),
+        Told::Came(FIRST, Frame::First, 1, 0),
+    ),
+    (SECOND, Step::Ack(FIRST), Told::Sent(39)),
+    (SECOND, Step::Ack(FIRST), Told::Sent(39)),
+    (
+        FIRST,
+        Step::Arrive(4),
+        Told::Came(SECOND, Frame::Nothing, 0, 1),
+    ),
+    (
+        FIRST,
+        Step::Arrive(3),
+        Told::Came(SECOND, Frame::Nothing, 0, 0),
+    ),
+];
+
+#[test]
+fn an_acknowledgement_is_sent_again(rt: HostRuntime) -> Result<(), Fail> {
+    run(&rt, rt.alloc(), AN_ACKNOWLEDGEMENT_IS_SENT_AGAIN)?;
+    Ok(())
+}
+
 /// A stopped node refuses.
 const A_STOPPED_NODE_ANSWERS_STOPPED: &[Line] = &[
     (FIRST, Step::Stop, Told::Stopped),
