@@ -3,17 +3,15 @@ use Rattle.std.proofs.Common.{◌≡◌, ℕ, ◌+◌, ◌<◌, Bool, true, fals
 use Rattle.std.specs.Ordering.{nat_cmp}
 use Rattle.std.specs.FinSet as set
 use Rattle.std.specs.FinSet.{nat_cmp-IsAntisymmetric}
-use Rattle.std.specs.Cmp.{nat_cmp_total, unsigned_tied}
+use Rattle.std.specs.Cmp.{nat_cmp_total}
 use Rattle.std.proofs.lemmas.Bool.Decides.{nat_tests}
 use Rattle.gb_types.specs.Places.{below}
+use Rattle.gb_types.proofs.InsertedLemmas.{contains-insert}
 use Rattle.gb_types.proofs.PlaceLemmas.{any-below}
 use Rattle.gb_detect.specs.Watch.{nodes_where, is_due}
 
 same_nodes : (s t : set.FinSet nat_cmp) → ((q : ℕ) → set.contains s q ≡ set.contains t q) → s ≡ t
 same_nodes s t e = set.same_set nat_cmp_total nat_cmp-IsAntisymmetric s t e
-
-contains-put : (s : set.FinSet nat_cmp) (k q : ℕ) → set.contains (set.insert s k) q ≡ (nat_eq q k || set.contains s q)
-contains-put s k q = set.contains-insert nat_cmp_total s k q ∙ ap (λ b. b || set.contains s q) (unsigned_tied q k)
 
 pub contains-either : (s t : set.FinSet nat_cmp) (q : ℕ) → set.contains (set.union s t) q ≡ (set.contains s q || set.contains t q)
 contains-either s t q = set.contains-union nat_cmp_total s t q
@@ -58,7 +56,7 @@ one_more p i q h =
 pub nodes_where-more : (p : ℕ → Bool) (i : ℕ) → p i ≡ true → set.insert (nodes_where i p) i ≡ nodes_where (i + 1) p
 nodes_where-more p i h =
     same_nodes _ _
-    (λ q. contains-put _ i q ∙ (ap (λ b. nat_eq q i || b) (contains-nodes_where i p q) ∙ (one_more p i q h ∙ sym (contains-nodes_where (i + 1) p q))))
+    (λ q. contains-insert _ i q ∙ (ap (λ b. nat_eq q i || b) (contains-nodes_where i p q) ∙ (one_more p i q h ∙ sym (contains-nodes_where (i + 1) p q))))
 
 not_more : (p : ℕ → Bool) (i q : ℕ) → p i ≡ false → (nat_lt q i && p q) ≡ (nat_lt q (i + 1) && p q)
 not_more p i q h =
@@ -78,7 +76,7 @@ or-assoc false b c = refl
 pub insert-union : (s t : set.FinSet nat_cmp) (k : ℕ) → set.insert (set.union s t) k ≡ set.union s (set.insert t k)
 insert-union s t k =
     same_nodes _ _
-    (λ q. contains-put _ k q ∙ (ap (λ b. nat_eq q k || b) (contains-either s t q) ∙ (or-assoc (nat_eq q k) (set.contains s q) (set.contains t q) ∙ (ap (λ b. set.contains s q || b) (sym (contains-put t k q)) ∙ sym (contains-either s _ q)))))
+    (λ q. contains-insert _ k q ∙ (ap (λ b. nat_eq q k || b) (contains-either s t q) ∙ (or-assoc (nat_eq q k) (set.contains s q) (set.contains t q) ∙ (ap (λ b. set.contains s q || b) (sym (contains-insert t k q)) ∙ sym (contains-either s _ q)))))
 
 pub union-empty : (s : set.FinSet nat_cmp) → set.union s set.empty ≡ s
 union-empty s = same_nodes _ _ (λ q. contains-either s _ q ∙ (ap (λ b. set.contains s q || b) (set.contains-empty nat_cmp q) ∙ or-false _))

@@ -1,5 +1,5 @@
 -- A packet is taken: what it gives a group.
-use Rattle.std.proofs.Common.{◌≡◌, ◌≢◌, ℕ, ◌+◌, ◌-◌, ◌%◌, ◌<◌, ◌≤◌, List, [], ◌∷◌, ◌++◌, length, map, fold, option_map, Some, Bool, true, false, not, ◌&&◌, ◌||◌, refl, sym, ◌∙◌, ap, subst, arith, nat_eq, nat_le, slice_get}
+use Rattle.std.proofs.Common.{◌≡◌, ◌≢◌, ℕ, ◌+◌, ◌-◌, ◌<◌, ◌≤◌, List, [], ◌∷◌, ◌++◌, length, map, fold, option_map, Some, Bool, true, false, not, ◌&&◌, ◌||◌, refl, sym, ◌∙◌, ap, subst, arith, nat_eq, nat_le, slice_get}
 use Rattle.std.specs.Prelude.{All, if◌then◌else◌}
 use Rattle.std.specs.List.{list_any, flat_map}
 use Rattle.std.specs.FinSet as set
@@ -9,7 +9,6 @@ use Rattle.std.proofs.lemmas.List.{append-nil}
 use Rattle.gb_types.specs.declared.address.Addr.{Addr}
 use Rattle.gb_types.specs.declared.limits.TheConstants.{NODES}
 use Rattle.gb_types.specs.declared.node.NodeId.{NodeId}
-use Rattle.gb_types.proofs.SameLemmas.{same_number}
 use Rattle.gb_frame.specs.declared.item.Item.{Item}
 use Rattle.gb_frame.specs.Packet.{Content}
 use Rattle.gb_link.specs.Ack.{covers}
@@ -34,6 +33,7 @@ use Rattle.gb_isolation.specs.Project.{items_of, items_in, offset, made_with, re
 use Rattle.gb_isolation.proofs.View.{View, view_of, Fits, Goes, AreMarked, frames_for, view_at, AllFit}
 use Rattle.gb_isolation.proofs.GoesLemmas.{goes_on}
 use Rattle.gb_isolation.proofs.DoneLemmas.{IsFit, with_acks, acks_goes}
+use Rattle.gb_isolation.proofs.PastLemmas.{number_same, node_same}
 use Rattle.gb_isolation.proofs.ComeLemmas.{with_frame, frame_goes}
 
 -- The view.
@@ -63,14 +63,6 @@ packet_view plan g past bytes good c is = λ i. record {
   taken = λ b n. (ap (λ (cs : List Content). (is_first good.frame && list_any (is_frame b n) cs) || is_taken plan.cluster_key b n past) is
       ∙ ap (λ t. (is_first good.frame && t) || is_taken plan.cluster_key b n past) (or-false (nat_eq c.from b && nat_eq c.frame n))) i;
 }
-
--- Nodes by their numbers.
-
-number_same : (n : ℕ) → n < NODES → n % NODES ≡ n
-number_same n low = omega (arith, low)
-
-pub node_same : (x : NodeId) → node_numbered x.number ≡ x
-node_same x = same_number (node_numbered x.number) x (number_same x.number x.below)
 
 -- A packet.
 

@@ -22,7 +22,7 @@ use Rattle.gb_rules.specs.Group.{is_member}
 use Rattle.gb_slot.specs.Slot.{slot_done, with_acknowledgement}
 use Rattle.gb_slot.specs.SlotState.{SlotState}
 use Rattle.gb_slot.proofs.HistoryLemmas.{done_stands}
-use Rattle.gb_slot.proofs.NoticeLemmas.{contains-inserted}
+use Rattle.gb_types.proofs.InsertedLemmas.{contains-inserted}
 use Rattle.gb_alone.specs.declared.event.GroupEvent.TheVariants.{Done as Acknowledged}
 use Rattle.gb_alone.specs.declared.event.GroupStep.{GroupStep}
 use Rattle.gb_alone.specs.Alone.{Member, Group, after, alone_from, places, is_marked, is_own, is_acknowledged, IsLegalFrom}

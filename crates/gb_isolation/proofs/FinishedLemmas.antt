@@ -18,7 +18,7 @@ use Rattle.gb_types.proofs.AllMemberLemmas.{all_rising}
 use Rattle.gb_layer.specs.Machine.{was_noticed}
 use Rattle.gb_history.specs.History.{calls_of, said_in}
 use Rattle.gb_rules.specs.Group.{is_member}
-use Rattle.gb_slot.proofs.NoticeLemmas.{contains-inserted}
+use Rattle.gb_types.proofs.InsertedLemmas.{contains-inserted}
 use Rattle.gb_slot.specs.Slot.{unfinished_of}
 use Rattle.gb_slot.specs.Slot as slot
 use Rattle.gb_slot.specs.SlotState.{SlotState}

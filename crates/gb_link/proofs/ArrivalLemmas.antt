@@ -1,15 +1,10 @@
 -- A set of received numbers, and how often a number is First.
 use Rattle.std.proofs.Common.{◌≡◌, ℕ, ◌+◌, ◌≤◌, Bool, true, false, ◌&&◌, ◌||◌, cond, nat_eq, List, [], ◌∷◌, refl, ap, sym, ◌∙◌, arith}
-use Rattle.std.specs.Cmp.{nat_cmp_total, unsigned_tied}
 use Rattle.std.specs.FinSet as set
 use Rattle.std.proofs.lemmas.Bool.Decides.{nat_tests}
+use Rattle.gb_types.proofs.InsertedLemmas.{contains-inserted}
 use Rattle.gb_link.specs.declared.receiver.Admission.TheVariants.{First, Seen, Outside}
 use Rattle.gb_link.specs.Received.{Received, is_awaited, taken, is_first, firsts}
-
-pub contains-inserted : (s : Received) (n m : ℕ) → set.contains (set.insert s n) m ≡ (nat_eq n m || set.contains s m)
-contains-inserted s n m =
-    let swap : nat_eq m n ≡ nat_eq n m = grind (arith, nat_tests) in
-    set.contains-insert nat_cmp_total s n m ∙ ap (λ b. b || set.contains s m) (unsigned_tied m n ∙ swap)
 
 and_false : (b : Bool) → (b && false) ≡ false
 and_false true = refl

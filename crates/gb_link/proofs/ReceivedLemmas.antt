@@ -3,7 +3,7 @@ use Rattle.std.proofs.Common.{◌≡◌, ◌≢◌, ℕ, ◌+◌, ◌-◌, ◌*�
 use Rattle.std.proofs.lemmas.Nat.{or_lt}
 use Rattle.std.specs.Int.{bit_at}
 use Rattle.std.specs.Ordering.{nat_cmp}
-use Rattle.std.specs.Cmp.{nat_cmp_total, unsigned_tied}
+use Rattle.std.specs.Cmp.{nat_cmp_total}
 use Rattle.std.specs.FinSet as set
 use Rattle.std.specs.FinSet.{nat_cmp-IsAntisymmetric}
 use Rattle.std.proofs.lemmas.Bool.Decides.{nat_tests}
@@ -11,6 +11,7 @@ use Rattle.std.proofs.lemmas.Nat.Bits.{bit_at_lowest, bit_at-suc, bit_at-zero, b
 use Rattle.gb_types.specs.declared.limits.TheConstants.{LAST_FRAME}
 use Rattle.gb_types.specs.Places.{below}
 use Rattle.gb_types.proofs.PlaceLemmas.{any-below}
+use Rattle.gb_types.proofs.InsertedLemmas.{contains-insert}
 use Rattle.gb_link.specs.Ack.{covers}
 use Rattle.gb_link.specs.declared.receiver.Admission.TheVariants.{First, Seen, Outside}
 use Rattle.gb_link.specs.Received.{Received, admission, base_of, word_of, mask_of}
@@ -101,7 +102,7 @@ covered_set base mask ahead word after started within =
     (λ n from. contains-covered base _ n after from ∙ (set_at base mask ahead n within ∙ sym (inserted n ∙ ap (λ b. nat_eq n (base + ahead) || b) (contains-covered base mask n word from))))
   where
     inserted : (n : ℕ) → set.contains (set.insert (covered base mask) (base + ahead)) n ≡ (nat_eq n (base + ahead) || set.contains (covered base mask) n)
-    inserted n = set.contains-insert nat_cmp_total (covered base mask) (base + ahead) n ∙ ap (λ b. b || set.contains (covered base mask) n) (unsigned_tied n (base + ahead))
+    inserted n = contains-insert (covered base mask) (base + ahead) n
 
     not_zero : nat_eq 0 (base + ahead) ≡ false
     not_zero = grind (arith, nat_tests)
@@ -186,7 +187,7 @@ pub first_in_range : (base mask n : ℕ) → IsReceiver base mask → covers bas
     → (m : ℕ) → set.contains (covered base (bit_or mask (1 * 2 ^ (n - base) % 2 ^ 64))) m ≡ true → m ≤ LAST_FRAME
 first_in_range base mask n kept is near last m there =
     let inserted : (nat_eq m n || set.contains (covered base mask) m) ≡ true =
-    sym (ap (λ s. set.contains s m) (covered_first base mask n kept is near) ∙ (set.contains-insert nat_cmp_total (covered base mask) n m ∙ ap (λ b. b || set.contains (covered base mask) m) (unsigned_tied m n))) ∙ there in
+    sym (ap (λ s. set.contains s m) (covered_first base mask n kept is near) ∙ contains-insert (covered base mask) n m) ∙ there in
     elim (nat_eq m n) as (λ b. nat_eq m n ≡ b → (b || set.contains (covered base mask) m) ≡ true → m ≤ LAST_FRAME) [
       | true ↦ λ e _. let same : m ≡ n = grind (arith, nat_tests) in omega (arith, same, last)
       | false ↦ λ _ before. kept.last m before

@@ -13,7 +13,7 @@ use Rattle.gb_layer.specs.Lists.{any_push}
 use Rattle.gb_layer.specs.declared.call.Call.TheVariants.{Came}
 use Rattle.gb_slot.specs.Arrivals.{Arrival, has_arrival, with_message, nodes_of, with_node}
 use Rattle.gb_slot.specs.Slot.{with_arrival}
-use Rattle.gb_slot.proofs.NoticeLemmas.{contains-inserted}
+use Rattle.gb_types.proofs.InsertedLemmas.{contains-inserted}
 
 -- a message that was not taken in from a node changes nothing
 pub nodes_with_message : (arrivals : List Arrival) (m x : MsgId) → nodes_of (with_message arrivals m) x ≡ nodes_of arrivals x

@@ -34,7 +34,8 @@ use Rattle.gb_slot.specs.SlotState.{SlotState}
 use Rattle.gb_slot.specs.StandsFor.{StandsFor, reaches}
 use Rattle.gb_history.proofs.MentionLemmas.{has-known}
 use Rattle.gb_slot.proofs.ArrivalLemmas.{nodes_with_message, nodes_after_came}
-use Rattle.gb_slot.proofs.NoticeLemmas.{contains-inserted, other_differs, notices_lawful, none_mentioned, none_came, none_known, none_said, none_sent, none_logged, notice_calls, others_differ, notices_tell, noticed_are}
+use Rattle.gb_types.proofs.InsertedLemmas.{contains-inserted}
+use Rattle.gb_slot.proofs.NoticeLemmas.{other_differs, notices_lawful, none_mentioned, none_came, none_known, none_said, none_sent, none_logged, notice_calls, others_differ, notices_tell, noticed_are}
 use Rattle.gb_slot.proofs.TakenLemmas.{none_taken, drop-drop, taken_more, taken_elsewhere, waiting_few}
 use Rattle.gb_slot.proofs.CalledLemmas.{called_stands, waiting-called}
 use Rattle.gb_rules.proofs.LetFallLemmas.{not_fallen, falls-alike}

@@ -1,7 +1,6 @@
 -- Histories of notices alone, and the nodes that are noticed.
 use Rattle.std.proofs.Common.{◌≡◌, ◌≢◌, ℕ, Bool, true, false, cond, ◌&&◌, ◌||◌, not, List, [], ◌∷◌, ◌++◌, refl, sym, ◌∙◌, ap, arith}
 use Rattle.std.specs.Prelude.{map, filter, nat_eq, if◌then◌else◌}
-use Rattle.std.specs.Cmp.{nat_cmp_total, unsigned_tied}
 use Rattle.std.specs.Ordering.{nat_cmp}
 use Rattle.std.specs.FinSet as set
 use Rattle.std.specs.List.{AllByRecursion, list_any}
@@ -29,11 +28,6 @@ use Rattle.gb_stack.proofs.StandsLemmas as stack
 use Rattle.gb_history.specs.declared.call.GroupCall.TheVariants.{Crashed}
 use Rattle.gb_history.specs.History.{calls_of, known, said_in}
 use Rattle.gb_rules.specs.Group.{is_other}
-
-pub contains-inserted : (s : set.FinSet nat_cmp) (n m : ℕ) → set.contains (set.insert s n) m ≡ (nat_eq n m || set.contains s m)
-contains-inserted s n m =
-    let swap : nat_eq m n ≡ nat_eq n m = grind (arith, nat_tests) in
-    set.contains-insert nat_cmp_total s n m ∙ ap (λ b. b || set.contains s m) (unsigned_tied m n ∙ swap)
 
 -- another member is not this node
 pub other_differs : (spec : Spec) (me b : ℕ) → is_other spec me b ≡ true → b ≢ me

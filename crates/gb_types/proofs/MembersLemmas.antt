@@ -2,7 +2,7 @@
 use Rattle.std.proofs.Common.{◌≡◌, ◌≢◌, ◌↔◌, ℕ, zero, suc, ◌+◌, ◌-◌, ◌<◌, ◌≤◌, Bool, true, false, cond, eqb, nat_eq, ◌||◌, inl, inr, List, [], ◌∷◌, ◌++◌, map, length, take, drop, get_or, Option, Some, None, decimal, refl, sym, ap, subst, ◌∙◌, arith, add-one, drop-cons}
 use Rattle.std.specs.List.{slice_split, join_with_byte, All, list_any}
 use Rattle.std.specs.Ordering.{nat_cmp}
-use Rattle.std.specs.Cmp.{nat_cmp_total, unsigned_tied}
+use Rattle.std.specs.Cmp.{nat_cmp_total}
 use Rattle.std.specs.FinSet as fin
 use Rattle.std.specs.FinSet.{nat_cmp-IsAntisymmetric}
 use Rattle.std.specs.Int.{IsInRange}
@@ -17,6 +17,7 @@ use Rattle.std.proofs.lemmas.Str.Parse.{digit_from_value}
 use Rattle.gb_types.specs.declared.limits.TheConstants.{NODES}
 use Rattle.gb_types.specs.Rising.{rising, AreNodes}
 use Rattle.gb_types.specs.MembersWord.{members_word}
+use Rattle.gb_types.proofs.InsertedLemmas.{contains-insert}
 use Rattle.gb_types.proofs.RisingLemmas.{passing, NonePasses, first_or_none, none_passing, passing_push, any-rising}
 
 -- the parts of a word at its commas
@@ -68,9 +69,6 @@ IsReadTo-none parts = record {
 not_member : (s : fin.FinSet nat_cmp) (low q : ℕ) → ((q : ℕ) → fin.contains s q ≡ true → q < low) → low ≤ q → fin.contains s q ≡ false
 not_member s low q under le =
     elim (fin.contains s q) as (λ b. fin.contains s q ≡ b → b ≡ false) [ true ↦ λ e. let lt = under q e in absurd (omega arith) | false ↦ λ _. refl ] refl
-
-contains-insert : (s : fin.FinSet nat_cmp) (n q : ℕ) → fin.contains (fin.insert s n) q ≡ (eqb q n || fin.contains s q)
-contains-insert s n q = fin.contains-insert nat_cmp_total s n q ∙ ap (λ b. b || fin.contains s q) (unsigned_tied q n)
 
 contains-insert-other : (s : fin.FinSet nat_cmp) (n q : ℕ) → q ≢ n → fin.contains (fin.insert s n) q ≡ fin.contains s q
 contains-insert-other s n q other = let e : eqb q n ≡ false = grind (arith, nat_tests) in contains-insert s n q ∙ ap (λ b. b || fin.contains s q) e
