@@ -1,6 +1,6 @@
 -- Packets say what their senders did.
 use Rattle.std.proofs.Common.{◌≡◌, ◌≢◌, ℕ, zero, suc, ◌+◌, ◌-◌, ◌<◌, ◌≤◌, inl, inr, true, false, Bool, List, [], ◌∷◌, ◌++◌, length, map, Option, Some, None, refl, sym, ap, subst, ◌∙◌, arith}
-use Rattle.std.specs.Prelude.{◌⊎◌, ◌||◌, not, cond, filter, find, nat_eq, option_map, slice_get, slice_index_or, IfSome, if◌then◌else◌}
+use Rattle.std.specs.Prelude.{◌⊎◌, ◌||◌, not, cond, filter, find, nat_eq, option_map, slice_get, slice_index_or, if◌then◌else◌}
 use Rattle.std.specs.List.{AllByRecursion}
 use Rattle.std.proofs.lemmas.Bool.{cases_Bool, cases_eq, eq-eqb}
 use Rattle.std.proofs.lemmas.List.{append_assoc, length-append}
@@ -13,8 +13,9 @@ use Rattle.gb_link.specs.SendWindow.{SendWindow, frame_again}
 use Rattle.gb_link.specs.Ack.{covers}
 use Rattle.gb_link.proofs.LinkLemmas.{covered_received}
 use Rattle.gb_node.specs.NodeValue.{NodeValue}
-use Rattle.gb_node.proofs.SentLemmas.{sends, Says, says, reached_another, batch_another, another_in, read_is}
-use Rattle.gb_node.specs.NodeStep.{window_to, receiver_from, is_reached, is_another, next_batch, content_to, pack_content, ack_content, sent, IsTurn, IsSpelt}
+use Rattle.gb_node.specs.SendLaw.{Says}
+use Rattle.gb_node.proofs.SentLemmas.{packet_says, reached_another, batch_another, another_in, read_is}
+use Rattle.gb_node.specs.NodeStep.{window_to, receiver_from, is_reached, is_another, next_batch, content_to, IsTurn, IsSpelt}
 use Rattle.gb_node.specs.Past.{Happened, read, packed_for, frames_to, numbered, is_taken, is_taken_by, is_acked}
 use Rattle.gb_node.specs.PastLaw.{IsOfPast, PastsSay}
 use Rattle.gb_node.specs.declared.answer.NodeAnswer.{NodeAnswer}
@@ -161,7 +162,7 @@ module _ (law : WhatIsWrittenIsRead) (plan : Plan) (a : NodeId) (inside : a.numb
     honest b text frame items other is fit framed = record {
       content = content_to v b frame items;
       from = a;
-      text = read_is (node_plan plan a) past v was law text (content_to v b frame items) is fit;
+      text = read_is law (node_plan plan a) past v was text (content_to v b frame items) is fit;
       sender = ap (λ (x : NodeId). x.number) was.me;
       inside = inside;
       goal = refl;
@@ -183,7 +184,7 @@ module _ (law : WhatIsWrittenIsRead) (plan : Plan) (a : NodeId) (inside : a.numb
         let fs = frames_to plan.cluster_key b.number past in
         let one : packed_for plan.cluster_key b.number d.event d.answer ≡ items ∷ [] =
         (λ i. packed_for plan.cluster_key b.number (event i) (answer i))
-        ∙ (ap (λ t. if t then map (λ (c : Content). c.items) (read plan.cluster_key text) else []) (eq-eqb b.number b.number refl) ∙ ap (map (λ (c : Content). c.items)) (read_is (node_plan plan a) past v was law text c text_is fit)) in
+        ∙ (ap (λ t. if t then map (λ (c : Content). c.items) (read plan.cluster_key text) else []) (eq-eqb b.number b.number refl) ∙ ap (map (λ (c : Content). c.items)) (read_is law (node_plan plan a) past v was text c text_is fit)) in
         let h : Happened = record { event = d.event; answer = d.answer } in
         let longer : frames_to plan.cluster_key b.number (past_at a (d ∷ run)) ≡ fs ++ items ∷ [] =
         ap (frames_to plan.cluster_key b.number) (past_same a d run (ap (λ (x : NodeId). x.number) here) ∙ ap (λ hs. h ∷ hs) past_is) ∙ ap (λ gs. fs ++ gs) one in
@@ -213,16 +214,15 @@ module _ (law : WhatIsWrittenIsRead) (plan : Plan) (a : NodeId) (inside : a.numb
         → (p : Posted) (j : ℕ) → slice_get (posted e (Sent (SentPacket text))) j ≡ Some p → IsHonest plan (d ∷ run) p
     sent_honest (Pack b) text w event answer turned spelt p j e =
         subst (IsHonest plan (d ∷ run)) (one b text p j e)
-        (pack_honest b text (next_batch v b) refl event answer (says v (pack_content v b) text spelt (sends v (Pack b) text w (λ x. cc) turned).is))
+        (pack_honest b text (next_batch v b) refl event answer (packet_says v (Pack b) text w turned spelt))
     sent_honest (Again b n) text w event answer turned spelt p j e =
-        subst (IsHonest plan (d ∷ run)) (one b text p j e) (by (is_reached v b) refl spelt (sends v (Again b n) text w (λ x. cc) turned).is)
+        subst (IsHonest plan (d ∷ run)) (one b text p j e) (by (is_reached v b) refl (packet_says v (Again b n) text w turned spelt))
       where
-        by : (reached : Bool) → is_reached v b ≡ reached → IfSome (if reached then option_map (λ u. content_to v b u.0 u.1) (frame_again (window_to v b.number) n) else None) IsPacket
-            → Sent (SentPacket text) ≡ Sent (sent v (if reached then option_map (λ u. content_to v b u.0 u.1) (frame_again (window_to v b.number) n) else None)) → IsHonest plan (d ∷ run) (record { to = b; text = text })
-        by true is fit same = again_honest b n text (frame_again (window_to v b.number) n) (reached_another v b is) refl (says v (option_map (λ u. content_to v b u.0 u.1) (frame_again (window_to v b.number) n)) text fit same)
-        by false is fit same = absurd (cc)
+        by : (reached : Bool) → is_reached v b ≡ reached → Says v (if reached then option_map (λ u. content_to v b u.0 u.1) (frame_again (window_to v b.number) n) else None) text → IsHonest plan (d ∷ run) (record { to = b; text = text })
+        by true is said = again_honest b n text (frame_again (window_to v b.number) n) (reached_another v b is) refl said
+        by false is said = absurd (let x = said.is in cc)
     sent_honest (Ack b) text w event answer turned spelt p j e =
-        subst (IsHonest plan (d ∷ run)) (one b text p j e) (ack_honest b text (is_another v b) refl (says v (ack_content v b) text spelt (sends v (Ack b) text w (λ x. cc) turned).is))
+        subst (IsHonest plan (d ∷ run)) (one b text p j e) (ack_honest b text (is_another v b) refl (packet_says v (Ack b) text w turned spelt))
     sent_honest (Asked r) text w event answer turned spelt p j e = absurd (cc)
     sent_honest (Came bytes) text w event answer turned spelt p j e = absurd (cc)
     sent_honest Tick text w event answer turned spelt p j e = absurd (cc)

@@ -65,7 +65,7 @@ packs key v b (Pack x) (Sent (SentPacket text)) w turned = by (nat_eq x.number b
     frames = map (λ (c : Content). c.items) (read key text)
 
     by : (same : Bool) → nat_eq x.number b.number ≡ same → ((if same then frames else []) ≡ []) ⊎ ((length (if same then frames else []) ≤ 1) × (has_room (window_to v b.number) ≡ true))
-    by true is = inr (one_read key text, ap (λ n. has_room (window_to v n)) (sym (eqb-true x.number b.number is)) ∙ room_for v x text (sends v (Pack x) text w (λ x. cc) turned).is)
+    by true is = inr (one_read key text, ap (λ n. has_room (window_to v n)) (sym (eqb-true x.number b.number is)) ∙ room_for v x text (sends v (Pack x) text w turned).is)
     by false is = inl refl
 packs key v b (Pack x) (Sent Nothing) w turned = inl refl
 packs key v b (Pack x) (Sent (SentRefused why)) w turned = inl refl

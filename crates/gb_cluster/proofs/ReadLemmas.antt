@@ -1,6 +1,6 @@
 -- The node that a packet was sent to reads it.
-use Rattle.std.proofs.Common.{◌≡◌, ℕ, ◌<◌, Bool, true, List, [], ◌∷◌, length, Some, Ok, Err, refl, sym, ap, subst, ◌∙◌, arith}
-use Rattle.std.specs.Prelude.{Result, ◌&&◌, is_ok, nat_lt, slice_get, if◌then◌else◌}
+use Rattle.std.proofs.Common.{◌≡◌, ℕ, ◌<◌, true, List, [], ◌∷◌, length, Some, Ok, Err, sym, ap, subst, ◌∙◌, arith}
+use Rattle.std.specs.Prelude.{Result, ◌&&◌, is_ok, nat_lt, if◌then◌else◌}
 use Rattle.std.proofs.lemmas.Bool.{eq-eqb, lt-ltb}
 use Rattle.std.proofs.lemmas.Option.{slice_get-get_or}
 use Rattle.gb_frame.specs.declared.fault.PacketFault.{PacketFault}
@@ -11,7 +11,7 @@ use Rattle.gb_node.specs.NodeValue.{NodeValue, new_node}
 use Rattle.gb_node.specs.NodeStep.{is_here, if_here, read_at}
 use Rattle.gb_node.specs.Past.{packet_in, read}
 use Rattle.gb_node.specs.PastLaw.{PastsSay}
-use Rattle.gb_cluster.specs.ClusterValue.{ClusterValue, node_plan, node_at}
+use Rattle.gb_cluster.specs.ClusterValue.{node_plan, node_at}
 use Rattle.gb_cluster.specs.Run.{past_at}
 use Rattle.gb_cluster.specs.Links.{PacketsAreHonest, PacketsAreRead}
 use Rattle.gb_cluster.proofs.NodesLemmas.{stays, have_pasts}

@@ -214,10 +214,10 @@ one_posted : (v : NodeValue) (n : NodeEvent) (text : List ℕ) (w : NodeValue) �
 one_posted v (Pack b) text w turn = (b, refl)
 one_posted v (Again b n) text w turn = (b, refl)
 one_posted v (Ack b) text w turn = (b, refl)
-one_posted v (Asked request) text w turn = absurd (let is = (sends v (Asked request) text w (λ x. cc) turn).is in cc)
-one_posted v (Came bytes) text w turn = absurd (let is = (sends v (Came bytes) text w (λ x. cc) turn).is in cc)
-one_posted v Tick text w turn = absurd (let is = (sends v Tick text w (λ x. cc) turn).is in cc)
-one_posted v Stop text w turn = absurd (let is = (sends v Stop text w (λ x. cc) turn).is in cc)
+one_posted v (Asked request) text w turn = absurd (let is = (sends v (Asked request) text w turn).is in cc)
+one_posted v (Came bytes) text w turn = absurd (let is = (sends v (Came bytes) text w turn).is in cc)
+one_posted v Tick text w turn = absurd (let is = (sends v Tick text w turn).is in cc)
+one_posted v Stop text w turn = absurd (let is = (sends v Stop text w turn).is in cc)
 
 pub posted_is : (v : NodeValue) (n : NodeEvent) (g : NodeAnswer) (w : NodeValue) → IsTurn v n g w → texts (posted n g) ≡ sent_by g
 posted_is v n (Reply reply) w turn = ap texts (none_posted n (Reply reply) refl)

@@ -25,6 +25,7 @@ use Rattle.gb_node.specs.NodeValue.{NodeValue}
 use Rattle.gb_node.specs.NodeStep.{window_to, receiver_from, node_did, stopped_answer, IsStarved}
 use Rattle.gb_node.specs.Past.{Happened, came, packed_for, numbered, is_ack, is_taken_by, ticks, added, stops}
 use Rattle.gb_node.specs.PastGroups.{Told, noticed_in, asked_for, asked_told, group_after, told_after}
+use Rattle.gb_node.specs.SendLaw.{StarvedSays}
 use Rattle.gb_node.specs.declared.plan.NodePlan.{NodePlan}
 use Rattle.gb_node.specs.declared.answer.NodeAnswer.{NodeAnswer}
 use Rattle.gb_node.specs.declared.answer.NodeAnswer.TheVariants.{Reply as Replied, Taken, Sent, Ticked, Halted}
@@ -112,7 +113,7 @@ unsent_quiet key Tick = record { still = record { none_came = refl; none_packed 
 unsent_quiet key Stop = record { still = record { none_came = refl; none_packed = λ b. refl; none_taken = λ b n. refl }; no_tick = refl; none_added = refl; no_stop = refl }
 
 -- want of memory is told as that
-pub starved_says : (e : NodeEvent) (should answer : NodeAnswer) → IsStarved e should answer → (answer ≡ Sent (SentRefused OutOfMemory)) ⊎ ((r : Request) × (e ≡ Asked r) × (answer ≡ Replied (Refused OutOfMemory)))
+pub starved_says : StarvedSays
 starved_says (Asked r) (Replied should) answer starved = inr (r, refl, starved.0)
 starved_says (Asked r) (Taken should) answer starved = absurd starved
 starved_says (Asked r) (Sent (SentPacket text)) answer starved = inl starved

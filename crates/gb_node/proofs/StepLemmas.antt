@@ -49,7 +49,8 @@ use Rattle.gb_node.specs.declared.event.NodeEvent.{NodeEvent}
 use Rattle.gb_node.specs.declared.event.NodeEvent.TheVariants.{Request as Asked, Packet as Came, Pack, Again, Ack, Tick, Stop}
 use Rattle.gb_node.proofs.GroupLemmas.{front_taken, waiting_enough, next_items}
 use Rattle.gb_node.proofs.InductionLemmas.{started, stands}
-use Rattle.gb_node.proofs.SentLemmas.{acts, sends, Says, says, batch_another, other_number, another_in, read_is}
+use Rattle.gb_node.specs.SendLaw.{Says}
+use Rattle.gb_node.proofs.SentLemmas.{acts, sends, says, batch_another, other_number, another_in, read_is}
 use Rattle.gb_node.proofs.ToldLemmas.{SlotLaws, reply_is}
 
 -- Requests.
@@ -120,7 +121,7 @@ module _ (law : WhatIsWrittenIsRead) (each : EachGroup) (plan : NodePlan) (past 
       record {
         running = sym was.stopped ∙ running;
         content = c;
-        text_is = read_is plan past v was law text c text_is fit;
+        text_is = read_is law plan past v was text c text_is fit;
         inside = another.0;
         apart = another.1;
         enough = λ g. subst (λ o. length (items_for g items) ≤ length (waiting_in o b.number)) (was.groups g) (waiting_enough each v b g items ok (next_items v b items batch));
@@ -129,7 +130,7 @@ module _ (law : WhatIsWrittenIsRead) (each : EachGroup) (plan : NodePlan) (past 
 
   packed : (b : NodeId) (text : List ℕ) (w : NodeValue) → IsTurn v (Pack b) (Sent (SentPacket text)) w → IsSpelt v (Pack b) (Sent (SentPacket text)) → IsPacked plan past b text
   packed b text w turned spelt =
-      let sent = sends v (Pack b) text w (λ x. cc) turned in
+      let sent = sends v (Pack b) text w turned in
       batch_says b text (next_batch v b) refl sent.running (says v (pack_content v b) text spelt sent.is)
 
 -- Packets that are taken.

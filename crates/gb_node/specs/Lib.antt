@@ -6,4 +6,5 @@ pub mod PastGroups
 pub mod PastLaw
 pub mod Reads
 pub mod StepLaw
+pub mod SendLaw
 pub mod KeptAcks

@@ -1,6 +1,7 @@
 //! What a node's past says of it.
 ghost use Rattle.gb_node.specs.PastLaw.{PastsSay};
 ghost use Rattle.gb_node.specs.StepLaw.{AnswersSay};
+ghost use Rattle.gb_node.specs.SendLaw.{BatchesAreForOthers, OthersAreInside, PacketsAreReadBack, PacketsSay, ReachedAreOthers, SendersRun, StarvedSays};
 
 use gb_detect::laws::noticed_by_calls;
 use gb_frame::laws::what_is_written_is_read;
@@ -30,4 +31,19 @@ pub fn answers_say()
     each_group();
     stands();
     noticed_by_calls();
+}
+
+/// A law of every node, whatever happens at it: a node that sends a packet runs, and the packet says what its event is to
+/// send, goes to another node of the cluster and is read back under the cluster's key; want of memory is only ever the
+/// answer to a sending or to a request. The function does nothing when it runs; its contract is the law.
+pub fn packets_say()
+    ensures senders { SendersRun }
+    ensures packets { PacketsSay }
+    ensures reached { ReachedAreOthers }
+    ensures batches { BatchesAreForOthers }
+    ensures inside { OthersAreInside }
+    ensures read { PacketsAreReadBack }
+    ensures starved { StarvedSays }
+{
+    what_is_written_is_read();
 }

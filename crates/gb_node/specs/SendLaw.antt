@@ -1,0 +1,57 @@
+-- What a node that sends a packet is, what the packet says, and what want of memory is.
+use Rattle.std.specs.Prelude.{ℕ, ◌≡◌, ◌≢◌, ◌<◌, ◌⊎◌, true, false, List, [], ◌∷◌, Option, Some}
+use Rattle.gb_types.specs.declared.node.NodeId.{NodeId}
+use Rattle.gb_types.specs.declared.refusal.Refusal.TheVariants.{OutOfMemory}
+use Rattle.gb_types.specs.declared.reply.Reply.TheVariants.{Refused}
+use Rattle.gb_types.specs.declared.request.Request.{Request}
+use Rattle.gb_frame.specs.declared.item.Item.{Item}
+use Rattle.gb_frame.specs.Packet.{Content}
+use Rattle.gb_frame.specs.Spelling.{packet_text, IsPacket}
+use Rattle.gb_node.specs.NodeValue.{NodeValue}
+use Rattle.gb_node.specs.NodeStep.{running_turn, is_another, is_reached, next_batch, sent_content, IsStarved, IsTurn, IsSpelt}
+use Rattle.gb_node.specs.Past.{Happened, read}
+use Rattle.gb_node.specs.PastLaw.{IsOfPast}
+use Rattle.gb_node.specs.declared.plan.NodePlan.{NodePlan}
+use Rattle.gb_node.specs.declared.answer.NodeAnswer.{NodeAnswer}
+use Rattle.gb_node.specs.declared.answer.NodeAnswer.TheVariants.{Reply as Replied, Sent}
+use Rattle.gb_node.specs.declared.answer.Sent.TheVariants.{Packet as SentPacket, Refused as SentRefused}
+use Rattle.gb_node.specs.declared.event.NodeEvent.{NodeEvent}
+use Rattle.gb_node.specs.declared.event.NodeEvent.TheVariants.{Request as Asked}
+
+-- the answer is a running node's, as it should be
+pub record Acts (v : NodeValue) (e : NodeEvent) (a : NodeAnswer) : Type 0 where
+  pub running : v.stopped ≡ false
+  pub is : a ≡ (running_turn v e).answer
+
+-- a packet says this, if anything is said
+pub record Says (v : NodeValue) (o : Option Content) (text : List ℕ) : Type 0 where
+  pub content : Content
+  pub is : o ≡ Some content
+  pub text_is : text ≡ packet_text v.key content
+  pub fit : IsPacket content
+
+-- a node that sends a packet runs, and its answer is as it should be
+abbrev pub SendersRun : Type 0
+SendersRun = (v : NodeValue) (e : NodeEvent) (text : List ℕ) (w : NodeValue) → IsTurn v e (Sent (SentPacket text)) w → Acts v e (Sent (SentPacket text))
+
+-- the packet says what the event is to send
+abbrev pub PacketsSay : Type 0
+PacketsSay = (v : NodeValue) (e : NodeEvent) (text : List ℕ) (w : NodeValue) → IsTurn v e (Sent (SentPacket text)) w → IsSpelt v e (Sent (SentPacket text)) → Says v (sent_content v e) text
+
+-- frames go to other nodes of the cluster
+abbrev pub ReachedAreOthers : Type 0
+ReachedAreOthers = (v : NodeValue) (b : NodeId) → is_reached v b ≡ true → is_another v b ≡ true
+
+abbrev pub BatchesAreForOthers : Type 0
+BatchesAreForOthers = (v : NodeValue) (b : NodeId) (items : List Item) → next_batch v b ≡ Some items → is_another v b ≡ true
+
+abbrev pub OthersAreInside : Type 0
+OthersAreInside = (plan : NodePlan) (past : List Happened) (v : NodeValue) → IsOfPast plan past v → (b : NodeId) → is_another v b ≡ true → (b.number < plan.nodes) × (b.number ≢ plan.me.number)
+
+-- a packet is read under the cluster's key
+abbrev pub PacketsAreReadBack : Type 0
+PacketsAreReadBack = (plan : NodePlan) (past : List Happened) (v : NodeValue) → IsOfPast plan past v → (text : List ℕ) (c : Content) → text ≡ packet_text v.key c → IsPacket c → read plan.cluster_key text ≡ c ∷ []
+
+-- want of memory is the answer to a sending or to a request
+abbrev pub StarvedSays : Type 0
+StarvedSays = (e : NodeEvent) (should answer : NodeAnswer) → IsStarved e should answer → (answer ≡ Sent (SentRefused OutOfMemory)) ⊎ ((r : Request) × (e ≡ Asked r) × (answer ≡ Replied (Refused OutOfMemory)))
