@@ -1,16 +1,19 @@
 -- What the code's parts give together.
 use Rattle.std.proofs.Common.{◌≡◌, ℕ, zero, suc, ◌-◌, ◌<◌, ◌≤◌, inl, inr, true, false, Bool, List, [], ◌∷◌, length, map, get_or, Option, Some, None, refl, sym, ap, subst, ◌∙◌, arith}
-use Rattle.std.specs.Prelude.{◌⊎◌, slice_get, slice_set, Contains, MatchBool}
+use Rattle.std.specs.Prelude.{◌⊎◌, slice_get, slice_set, Contains, IsSome, MatchBool, if◌then◌else◌}
 use Rattle.std.specs.List.{range_with_len}
+use Rattle.std.proofs.lemmas.Bool.{cases_Bool}
 use Rattle.std.proofs.lemmas.List.{get_or_default}
 use Rattle.std.proofs.lemmas.Option.{slice_get_past}
 use Rattle.gb_types.specs.declared.node.NodeId.{NodeId}
-use Rattle.gb_node.specs.NodeStep.{node_numbered}
+use Rattle.gb_node.specs.NodeStep.{node_numbered, running_turn, stopped_answer, IsStarved, IsTurn}
 use Rattle.gb_node.specs.NodeValue.{NodeValue, new_node}
+use Rattle.gb_node.specs.declared.answer.NodeAnswer.TheVariants.{Sent}
+use Rattle.gb_node.specs.declared.answer.Sent.{Sent as SentValue}
 use Rattle.gb_node.specs.declared.event.NodeEvent.{NodeEvent}
-use Rattle.gb_node.specs.declared.event.NodeEvent.TheVariants.{Packet as Came}
+use Rattle.gb_node.specs.declared.event.NodeEvent.TheVariants.{Request as Asked, Packet as Came, Pack, Again, Ack, Tick, Stop}
 use Rattle.gb_cluster.specs.ClusterValue.{ClusterValue, cluster, node_plan, node_at, new_cluster, IsClusterPlan}
-use Rattle.gb_cluster.specs.ClusterStep.{IsNodeTurn, IsAt, IsArrival, IsStep, is_packet_for, packet_numbered, AreForNodes}
+use Rattle.gb_cluster.specs.ClusterStep.{IsNodeTurn, IsAt, IsArrival, IsStep, receiver_of, is_packet_for, packet_numbered, AreForNodes}
 use Rattle.gb_cluster.specs.Run.{Did, ComesTo, GoesOn, IsReached}
 use Rattle.gb_cluster.specs.declared.answer.Answer.{Answer}
 use Rattle.gb_cluster.specs.declared.answer.Answer.TheVariants.{NoPacket, NotNoise}
@@ -20,6 +23,28 @@ use Rattle.gb_types.specs.declared.plan.Plan.{Plan}
 use Rattle.gb_cluster.specs.declared.posted.Posted.{Posted}
 use Rattle.gb_cluster.specs.Links.{PacketsAreHonest}
 use Rattle.gb_cluster.proofs.NodesLemmas.{stays}
+
+-- An answer with what is sent is none of an event to which neither a stopped node nor a running one gives such an answer.
+silent : (v : NodeValue) (e : NodeEvent) (s : SentValue) (w : NodeValue) → (IsStarved e (stopped_answer e) (Sent s) → ⊥) → (IsStarved e (running_turn v e).answer (Sent s) → ⊥)
+    → (stopped_answer e ≡ Sent s → ⊥) → ((running_turn v e).answer ≡ Sent s → ⊥) → IsTurn v e (Sent s) w → ⊥
+silent v e s w stopped_starved running_starved stopped running (inl starved) = elim (cases_Bool v.stopped) [
+  | inl h ↦ stopped_starved (subst (λ b. IsStarved e (if b then record { value = v; answer = stopped_answer e } else running_turn v e).answer (Sent s)) h starved.0)
+  | inr h ↦ running_starved (subst (λ b. IsStarved e (if b then record { value = v; answer = stopped_answer e } else running_turn v e).answer (Sent s)) h starved.0)
+]
+silent v e s w stopped_starved running_starved stopped running (inr went) = elim (cases_Bool v.stopped) [
+  | inl h ↦ stopped (sym (went.0 ∙ ap (λ b. (if b then record { value = v; answer = stopped_answer e } else running_turn v e).answer) h))
+  | inr h ↦ running (sym (went.0 ∙ ap (λ b. (if b then record { value = v; answer = stopped_answer e } else running_turn v e).answer) h))
+]
+
+-- only an event that sends to some node is answered with what is sent
+pub sends_somewhere : (v : NodeValue) (e : NodeEvent) (s : SentValue) (w : NodeValue) → IsTurn v e (Sent s) w → IsSome (receiver_of e)
+sends_somewhere v (Pack b) s w turned = refl
+sends_somewhere v (Again b n) s w turned = refl
+sends_somewhere v (Ack b) s w turned = refl
+sends_somewhere v (Asked request) s w turned = absurd (silent v (Asked request) s w (λ x. let no = x.0 in cc) (λ x. let no = x.0 in cc) (λ x. cc) (λ x. cc) turned)
+sends_somewhere v (Came bytes) s w turned = absurd (silent v (Came bytes) s w (λ x. x) (λ x. x) (λ x. cc) (λ x. cc) turned)
+sends_somewhere v Tick s w turned = absurd (silent v Tick s w (λ x. x) (λ x. x) (λ x. cc) (λ x. cc) turned)
+sends_somewhere v Stop s w turned = absurd (silent v Stop s w (λ x. x) (λ x. x) (λ x. cc) (λ x. cc) turned)
 
 -- the node that was read at an index takes an event
 pub acted : (plan : Plan) (nodes : List NodeValue) (before after : List Posted) (a : NodeId) (i : ℕ) (event : NodeEvent) (answer : Answer) (old new : NodeValue) → i ≡ a.number → i < length nodes → old ≡ get_or nodes i old

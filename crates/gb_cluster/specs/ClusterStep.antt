@@ -18,18 +18,30 @@ use Rattle.gb_cluster.specs.declared.event.Event.{Event}
 use Rattle.gb_cluster.specs.declared.event.Event.TheVariants.{At, Arrive}
 use Rattle.gb_cluster.specs.declared.posted.Posted.{Posted}
 
+-- the node to which an event sends
+abbrev pub receiver_of : NodeEvent → Option NodeId
+receiver_of (Pack b) = Some b
+receiver_of (Again b n) = Some b
+receiver_of (Ack b) = Some b
+receiver_of event = None
+
 -- what is sent to a node
 abbrev pub posted_to : NodeId → SentValue → List Posted
 posted_to b (SentPacket text) = record { to = b; text = text } ∷ []
 posted_to b Nothing = []
 posted_to b (Refused why) = []
 
+abbrev pub posted_by : Option NodeId → SentValue → List Posted
+posted_by (Some b) s = posted_to b s
+posted_by None s = []
+
 -- the packets that an event at a node sends
 abbrev pub posted : NodeEvent → NodeAnswer → List Posted
-posted (Pack b) (Sent s) = posted_to b s
-posted (Again b n) (Sent s) = posted_to b s
-posted (Ack b) (Sent s) = posted_to b s
-posted event answer = []
+posted event (Sent s) = posted_by (receiver_of event) s
+posted event (Replied reply) = []
+posted event (Taken taken) = []
+posted event (Ticked ticked) = []
+posted event (Halted halted) = []
 
 -- an event happens at one of the nodes, with this answer of the node
 pub record NodeActs (old : ClusterValue) (a : NodeId) (event : NodeEvent) (answer : NodeAnswer) (new : ClusterValue) : Type 0 where

@@ -1,12 +1,13 @@
 //! The nodes of a cluster and every packet that they sent.
-ghost use Rattle.std.specs.Prelude.{◌≡◌, ◌<◌, ◌↔◌, ◌++◌, [], List, IsTrue, true, is_ok, length, vec_len, vec_capacity, IfOk, OnErr};
-ghost use Rattle.gb_cluster.specs.ClusterStep.{posted_to, sending, is_packet_for, AreForNodes, AreRead, IsNodeTurn, IsPlaced, IsStep};
+ghost use Rattle.std.specs.Prelude.{◌≡◌, ◌<◌, ◌↔◌, ◌++◌, [], List, IsTrue, IsSome, true, is_ok, length, vec_len, vec_capacity, IfOk, OnErr};
+ghost use Rattle.gb_cluster.specs.ClusterStep.{receiver_of, posted, sending, is_packet_for, AreForNodes, AreRead, IsNodeTurn, IsPlaced, IsStep};
 ghost use Rattle.gb_node.specs.NodeStep.{read_at};
 ghost use Rattle.gb_cluster.specs.ClusterValue.{cluster, new_cluster, IsClusterPlan};
 ghost use Rattle.gb_cluster.specs.Run.{ComesTo, GoesOn};
 ghost use Rattle.gb_cluster.specs.declared.event.Event.TheVariants as Events;
 ghost use Rattle.gb_types.specs.declared.plan.Plan.{Plan as PlanValue};
 ghost use Rattle.gb_cluster.specs.declared.posted.Posted.{Posted as PostedValue};
+ghost use Rattle.gb_node.specs.declared.answer.NodeAnswer.TheVariants as NodeAnswers;
 ghost use Rattle.gb_node.specs.declared.event.NodeEvent.TheVariants as NodeEvents;
 
 use crate::answer::{Answer, Sending};
@@ -47,12 +48,28 @@ impl Model for Cluster {
     ghost invariant = { λ n. IsReached (record { plan = n.plan; nodes = n.nodes.items; packets = n.packets.items }) };
 }
 
-/// Keeps the packet that was sent to a node, if there is one, and gives its number.
-fn post(packets: &mut Vec<Posted>, to: NodeId, sent: Sent) -> Sending
-    requires { vec_len packets.old < vec_capacity packets.old }
-    ensures packets { packets.new.items ≡ packets.old.items ++ posted_to to sent }
+/// The node to which an event sends, if it sends at all.
+fn receiver(event: &NodeEvent) -> Option<NodeId>
+    ensures { result ≡ receiver_of event.now }
+{
+    match event {
+        NodeEvent::Pack(to) => Some(*to),
+        NodeEvent::Again(to, _) => Some(*to),
+        NodeEvent::Ack(to) => Some(*to),
+        _ => None,
+    }
+}
+
+/// Keeps the packet that an event sent, if it sent one, and gives its number.
+fn post(packets: &mut Vec<Posted>, event: &NodeEvent, sent: Sent) -> Sending
+    requires room { vec_len packets.old < vec_capacity packets.old }
+    requires sends { IsSome (receiver_of event.now) }
+    ensures packets { packets.new.items ≡ packets.old.items ++ posted event.now (NodeAnswers.Sent sent) }
     ensures answer { result ≡ sending (length packets.old.items) sent }
 {
+    let Some(to) = receiver(event) else {
+        unreachable!()
+    };
     match sent {
         Sent::Packet(text) => {
             packets.push_reserved(Posted { to, text });
@@ -78,14 +95,12 @@ fn turn(node: &mut Node, packets: &mut Vec<Posted>, event: &NodeEvent) -> Answer
     requires { vec_len packets.old < vec_capacity packets.old }
     ensures { IsNodeTurn node.old event.now packets.old.items result node.new packets.new.items }
 {
-    match event {
-        NodeEvent::Pack(to) => Answer::Sent(post(packets, *to, node.pack(*to))),
-        NodeEvent::Again(to, number) => Answer::Sent(post(packets, *to, node.again(*to, *number))),
-        NodeEvent::Ack(to) => Answer::Sent(post(packets, *to, node.ack(*to))),
-        NodeEvent::Request(request) => Answer::Reply(node.request(request)),
-        NodeEvent::Packet(bytes) => Answer::Taken(node.packet(bytes.as_slice())),
-        NodeEvent::Tick => Answer::Ticked(node.tick()),
-        NodeEvent::Stop => Answer::Halted(node.stop()),
+    match node.take(event) {
+        NodeAnswer::Reply(reply) => Answer::Reply(reply),
+        NodeAnswer::Taken(taken) => Answer::Taken(taken),
+        NodeAnswer::Sent(sent) => Answer::Sent(post(packets, event, sent)),
+        NodeAnswer::Ticked(ticked) => Answer::Ticked(ticked),
+        NodeAnswer::Halted(halted) => Answer::Halted(halted),
     }
 }
 
