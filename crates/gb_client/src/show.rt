@@ -18,9 +18,9 @@ fn is_plain(bytes: &[u8]) -> bool {
 // Appends a payload's word as text in quotes, where it is text; else as it is.
 fn put_text(alloc: Global, out: &mut Vec<u8>, word: &[u8]) -> Result<(), OutOfMemory> {
     match read_payload(alloc, word)? {
-        Some(bytes) if is_plain(&bytes) => {
+        Some(payload) if is_plain(payload.as_slice()) => {
             out.extend_from_slice(b"\"")?;
-            out.extend_from_slice(&bytes)?;
+            out.extend_from_slice(payload.as_slice())?;
             out.extend_from_slice(b"\"")?;
         }
         _ => out.extend_from_slice(word)?,

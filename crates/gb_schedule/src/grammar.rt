@@ -172,7 +172,7 @@ fn read_say(
         return Ok(None);
     };
     let token = keys.member(address, node);
-    let request = Request::Say(token, address, Payload::from(payload));
+    let request = Request::Say(token, address, payload);
     Ok(Some(Command::Request(node, request)))
 }
 
@@ -277,7 +277,7 @@ fn read_noise(alloc: Global, nodes: u8, words: &[&[u8]]) -> Result<Option<Comman
     let Some(bytes) = read_payload(alloc, bytes)? else {
         return Ok(None);
     };
-    Ok(Some(Command::Noise(node, Payload::from(bytes))))
+    Ok(Some(Command::Noise(node, bytes)))
 }
 
 // tick A

@@ -7,7 +7,6 @@ ghost use Rattle.gb_session.specs.Grammar.{SpellsTenant, SpellsMake, NamesGroup,
 use crate::head::{Head, read_head};
 use gb_types::address::Addr;
 use gb_types::memory::OutOfMemory;
-use gb_types::payload::Payload;
 use gb_types::payload_word::read_payload;
 use gb_types::refusal::Refusal;
 use gb_types::request::Request;
@@ -84,7 +83,7 @@ fn read_say(alloc: Global, token: [u8; 32], words: &[&[u8]]) -> Result<Option<Re
     let Some(payload) = read_payload(alloc, payload)? else {
         return Ok(None);
     };
-    Ok(Some(Request::Say(token, address, Payload::from(payload))))
+    Ok(Some(Request::Say(token, address, payload)))
 }
 
 // T G FROM MAX

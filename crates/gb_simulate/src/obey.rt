@@ -133,7 +133,7 @@ fn obey(
         Command::Ack(node, to) => obey_at(cluster, node, NodeEvent::Ack(to), text),
         Command::Arrive(packet) => obey_event(cluster, &Event::Arrive(packet), text),
         Command::Noise(node, bytes) => {
-            let bytes = PacketText::from(bytes.into_vec());
+            let bytes = PacketText::from(bytes.into_vec()?);
             obey_at(cluster, node, NodeEvent::Packet(bytes), text)
         }
         Command::Tick(node) => obey_at(cluster, node, NodeEvent::Tick, text),

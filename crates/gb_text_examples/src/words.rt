@@ -228,6 +228,18 @@ const PAYLOADS: &[(&[u8], Option<&[u8]>)] = &[
     (b"61", Some(b"a")),
     (b"6A", Some(&[0x6a])),
     (b"00fFFf", Some(&[0, 255, 255])),
+    // 16 bytes stand in the payload itself, 17 do not.
+    (
+        b"000102030405060708090a0b0c0d0e0f",
+        Some(&[0, 1, 2, 3, 4, 5, 6, 7, 8, 9, 10, 11, 12, 13, 14, 15]),
+    ),
+    (
+        b"000102030405060708090a0b0c0d0e0f10",
+        Some(&[0, 1, 2, 3, 4, 5, 6, 7, 8, 9, 10, 11, 12, 13, 14, 15, 16]),
+    ),
+    (b"000102030405060708090a0b0c0d0e0g", None),
+    (b"000102030405060708090a0b0c0d0e0f1", None),
+    (b"000102030405060708090a0b0c0d0e0f1g", None),
     (b"", None),
     (b"6", None),
     (b"616", None),
@@ -315,7 +327,7 @@ fn compare_entry(rt: &impl Abort, alloc: Global, said: &Entry) -> Result<(), Out
 
 /// Compares a copy of an entry's bytes.
 fn compare_bytes(rt: &impl Abort, alloc: Global, said: &Entry) -> Result<(), OutOfMemory> {
-    let bytes = said.payload.duplicate(alloc)?.into_vec();
+    let bytes = said.payload.duplicate(alloc)?.into_vec()?;
     assert!(rt; bytes.as_slice() == b"hey".as_slice());
     Ok(())
 }

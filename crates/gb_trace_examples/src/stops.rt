@@ -63,7 +63,7 @@ fn event_of(command: Command) -> Option<Event> {
         Command::Ack(node, to) => Some(Event::At(node, NodeEvent::Ack(to))),
         Command::Arrive(packet) => Some(Event::Arrive(packet)),
         Command::Noise(node, bytes) => {
-            let bytes = PacketText::from(bytes.into_vec());
+            let bytes = PacketText::from(bytes.into_vec()?);
             Some(Event::At(node, NodeEvent::Packet(bytes)))
         }
         Command::Tick(node) => Some(Event::At(node, NodeEvent::Tick)),

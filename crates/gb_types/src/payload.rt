@@ -2,13 +2,17 @@
 ghost use Rattle.std.specs.Prelude.{◌≡◌, ◌==◌, ℕ, List, [], length, IfOk};
 
 use crate::memory::OutOfMemory;
+use smallvec::SmallVec;
 use std::alloc::Global;
 use std::marker::Model;
 
-/// What a message says: any bytes, as they were given. Contracts see the list of the bytes.
+/// How many bytes stand in the payload itself. More take memory of their own.
+pub const INLINE: usize = 16;
+
+/// What a message says: any bytes, as they were given; few of them take no memory. Contracts see the list of the bytes.
 #[derive(Debug, Drop)]
 pub struct Payload {
-    bytes: Vec<u8>,
+    bytes: SmallVec<u8, INLINE>,
 }
 
 impl Model for Payload {
@@ -23,7 +27,7 @@ impl Payload {
         ensures { result ≡ [] }
     {
         Payload {
-            bytes: Vec::new(alloc),
+            bytes: SmallVec::new(alloc),
         }
     }
 
@@ -31,7 +35,7 @@ impl Payload {
     pub fn from_slice(alloc: Global, bytes: &[u8]) -> Result<Payload, OutOfMemory>
         ensures { IfOk result (λ p. p ≡ bytes.now) }
     {
-        let bytes = Vec::from_slice(alloc, bytes)?;
+        let bytes = SmallVec::from_slice(alloc, bytes)?;
         Ok(Payload { bytes })
     }
 
@@ -55,11 +59,11 @@ impl Payload {
         self.bytes.as_slice()
     }
 
-    /// The bytes, with no copy.
-    pub fn into_vec(self) -> Vec<u8>
-        ensures { result.items ≡ self }
+    /// The bytes, with no copy where they are more than `INLINE`.
+    pub fn into_vec(self) -> Result<Vec<u8>, OutOfMemory>
+        ensures { IfOk result (λ v. v.items ≡ self) }
     {
-        self.bytes
+        Ok(self.bytes.into_vec()?)
     }
 
     /// The same bytes, copied.
@@ -74,6 +78,8 @@ impl From<Vec<u8>> for Payload {
     ghost from_gives = { λ v p. p ≡ v.items };
 
     fn from(bytes: Vec<u8>) -> Payload {
-        Payload { bytes }
+        Payload {
+            bytes: SmallVec::from_vec(bytes),
+        }
     }
 }

@@ -1,22 +1,39 @@
 //! Payloads in words: hexadecimal digits, or `-` for no bytes.
-ghost use Rattle.std.specs.Prelude.{◌≡◌, ◌++◌, IfOk, OnOk, OnErr};
-ghost use Rattle.std.specs.Option.{option_map};
+ghost use Rattle.std.specs.Prelude.{◌≡◌, ◌≤◌, ◌*◌, ◌++◌, length, IfOk, OnOk, OnErr};
+ghost use Rattle.std.specs.Result.{result_ok};
+ghost use Rattle.hex.specs.Hex.{decode_of};
+ghost use Rattle.gb_types.specs.declared.payload.TheConstants.{INLINE};
 ghost use Rattle.gb_types.specs.PayloadWord.{payload_of, payload_word};
 
 use crate::memory::OutOfMemory;
+use crate::payload::{INLINE, Payload};
 use hex::FromHexError;
 use std::alloc::Global;
 
+/// The bytes of at most so many digits that they stand in the payload itself.
+fn read_few(alloc: Global, word: &[u8]) -> Result<Option<Payload>, OutOfMemory>
+    requires { length word.now ≤ 2 * INLINE }
+    ensures { IfOk result (λ found. found ≡ result_ok (decode_of word.now)) }
+{
+    let mut bytes = [0; INLINE];
+    let few = &mut bytes[..word.len() / 2];
+    match hex::decode_to_slice(word, few) {
+        Ok(()) => Ok(Some(Payload::from_slice(alloc, few)?)),
+        Err(_) => Ok(None),
+    }
+}
+
 /// The bytes that a word spells, with digits of both cases. None where it is neither `-` nor an even
 /// number of digits, at least two.
-pub fn read_payload(alloc: Global, word: &[u8]) -> Result<Option<Vec<u8>>, OutOfMemory>
-    ensures { IfOk result (λ found. option_map (λ v. v.items) found ≡ payload_of word.now) }
+pub fn read_payload(alloc: Global, word: &[u8]) -> Result<Option<Payload>, OutOfMemory>
+    ensures { IfOk result (λ found. found ≡ payload_of word.now) }
 {
     match word {
-        b"-" => Ok(Some(Vec::new(alloc))),
+        b"-" => Ok(Some(Payload::new(alloc))),
         [] => Ok(None),
+        _ if word.len() <= 2 * INLINE => read_few(alloc, word),
         _ => match hex::decode(alloc, word) {
-            Ok(bytes) => Ok(Some(bytes)),
+            Ok(bytes) => Ok(Some(Payload::from(bytes))),
             Err(FromHexError::OutOfMemory) => Err(OutOfMemory),
             Err(_) => Ok(None),
         },
