@@ -1,4 +1,4 @@
-use Rattle.std.proofs.Common.{Some, sym, ap, ◌∙◌, arith}
+use Rattle.std.proofs.Common.{sym, arith}
 use Rattle.gb_types.proofs.ReadLemmas.{words_are}
 use Rattle.gb_schedule.proofs.RowLemmas.{noise_reads}
 use Rattle.gb_schedule.proofs.grammar.read_noise.Goals as goal
@@ -6,4 +6,4 @@ use Rattle.gb_schedule.proofs.grammar.read_noise.Goals as goal
 pub returns : goal.returns
 returns c =
     let read = rw (c.in-Some-2.is) at c.in_ok-bytes.ensures in
-    noise_reads _ _ _ _ _ _ (words_are c.args.words.now _ 2 (omega arith)) c.in-Some.ensures (sym read ∙ ap Some (sym c.from.ensures))
+    noise_reads _ _ _ _ _ _ (words_are c.args.words.now _ 2 (omega arith)) c.in-Some.ensures (sym read)
