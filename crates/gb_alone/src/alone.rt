@@ -74,22 +74,25 @@ fn step_at(
 {
     let me = step.node;
     match &step.event {
-        GroupEvent::Tenant(reserve) => group[me.index()].take_tenant(*reserve),
-        GroupEvent::Took(b, count) => group[me.index()].took(*b, *count)?,
-        GroupEvent::Done(b, place, count) => {
-            group[me.index()].mark_done(*b, *place, *count)?;
+        GroupEvent::Tenant(reserve) => {
+            group[me.index()].take_tenant(*reserve);
+            Ok(())
         }
-        GroupEvent::Notice(q) => group[me.index()].notice(alloc, me, *q)?,
-        GroupEvent::Stop => group[me.index()].stop(),
-        GroupEvent::Came(from, place) => item_at(alloc, group, me, *from, *place)?,
-        GroupEvent::Make(_) => command_at(alloc, nodes, number, group, me, &step.event)?,
-        GroupEvent::Open => command_at(alloc, nodes, number, group, me, &step.event)?,
-        GroupEvent::Shut => command_at(alloc, nodes, number, group, me, &step.event)?,
-        GroupEvent::Drop => command_at(alloc, nodes, number, group, me, &step.event)?,
-        GroupEvent::Say(_) => command_at(alloc, nodes, number, group, me, &step.event)?,
-        GroupEvent::Fetch(_, _) => command_at(alloc, nodes, number, group, me, &step.event)?,
+        GroupEvent::Took(b, count) => group[me.index()].took(*b, *count),
+        GroupEvent::Done(b, place, count) => group[me.index()].mark_done(*b, *place, *count),
+        GroupEvent::Notice(q) => group[me.index()].notice(alloc, me, *q),
+        GroupEvent::Stop => {
+            group[me.index()].stop();
+            Ok(())
+        }
+        GroupEvent::Came(from, place) => item_at(alloc, group, me, *from, *place),
+        GroupEvent::Make(_)
+        | GroupEvent::Open
+        | GroupEvent::Shut
+        | GroupEvent::Drop
+        | GroupEvent::Say(_)
+        | GroupEvent::Fetch(_, _) => command_at(alloc, nodes, number, group, me, &step.event),
     }
-    Ok(())
 }
 
 /// What is seen at a node of so many.

@@ -10,9 +10,9 @@ ghost use Rattle.gb_types.specs.declared.reply.Reply.{Reply as Answer};
 
 use crate::event::GroupEvent;
 use crate::marks::Marks;
-use crate::put::{carried_rows, first_of, row_of, rows_after};
+use crate::put::{carried_rows, first_of, row_of, rows_told};
 use gb_history::call::{GroupCall, calls_of, said_in};
-use gb_history::log::{bytes_in, falls_after, log_of, puts_of};
+use gb_history::log::{bytes_in, falls_after, log_of};
 use gb_layer::call::Call;
 use gb_layer::plain::is_noticed;
 use gb_rules::group::{check_open, check_say, check_shut, is_bad_place};
@@ -130,10 +130,7 @@ impl Member {
         if self.phase == Phase::Gone {
             return None;
         }
-        match &self.spec {
-            None => None,
-            Some(spec) => Some(spec),
-        }
+        self.spec.as_ref()
     }
 
     /// The spec of the group, or why a command on it is refused: Denied where its tenant was not taken in, NoGroup
@@ -246,7 +243,7 @@ impl Member {
 
     /// The reply to a command to say something. `Err` where there is no number for it.
     fn say_reply(&self, alloc: Global, me: NodeId, payload: &Payload) -> Result<Reply, OutOfMemory>
-        ensures { IfOk result (λ r. (nodes number : ℕ) → r ≡ one_group.running_reply nodes number me.number (GroupEvent.Say payload.now) (member_of self.now)) }
+        ensures { (nodes number : ℕ) → IfOk result (λ r. r ≡ one_group.running_reply nodes number me.number (GroupEvent.Say payload.now) (member_of self.now)) }
     {
         let spec = match self.made_spec() {
             Ok(spec) => spec,
@@ -267,7 +264,7 @@ impl Member {
         from: u32,
         max: u32,
     ) -> Result<Reply, OutOfMemory>
-        ensures { IfOk result (λ r. (nodes number : ℕ) → r ≡ one_group.running_reply nodes number me.number (GroupEvent.Fetch from max) (member_of self.now)) }
+        ensures { (nodes number : ℕ) → IfOk result (λ r. r ≡ one_group.running_reply nodes number me.number (GroupEvent.Fetch from max) (member_of self.now)) }
     {
         let spec = match self.made_spec() {
             Ok(spec) => spec,
@@ -314,20 +311,14 @@ impl Member {
             GroupEvent::Open => Ok(self.open_reply()),
             GroupEvent::Shut => Ok(self.shut_reply()),
             GroupEvent::Drop => Ok(self.drop_reply()),
-            GroupEvent::Say(payload) => {
-                let said = self.say_reply(alloc, me, payload)?;
-                Ok(said)
-            }
-            GroupEvent::Fetch(from, max) => {
-                let found = self.fetch_reply(alloc, me, *from, *max)?;
-                Ok(found)
-            }
-            GroupEvent::Tenant(_) => Ok(Reply::Done),
-            GroupEvent::Took(_, _) => Ok(Reply::Done),
-            GroupEvent::Came(_, _) => Ok(Reply::Done),
-            GroupEvent::Done(_, _, _) => Ok(Reply::Done),
-            GroupEvent::Notice(_) => Ok(Reply::Done),
-            GroupEvent::Stop => Ok(Reply::Done),
+            GroupEvent::Say(payload) => self.say_reply(alloc, me, payload),
+            GroupEvent::Fetch(from, max) => self.fetch_reply(alloc, me, *from, *max),
+            GroupEvent::Tenant(_)
+            | GroupEvent::Took(_, _)
+            | GroupEvent::Came(_, _)
+            | GroupEvent::Done(_, _, _)
+            | GroupEvent::Notice(_)
+            | GroupEvent::Stop => Ok(Reply::Done),
         }
     }
 
@@ -345,8 +336,7 @@ impl Member {
         if self.stopped {
             return Ok(Reply::Refused(Refusal::Stopped));
         }
-        let reply = self.running_reply(alloc, nodes, number, me, event)?;
-        Ok(reply)
+        self.running_reply(alloc, nodes, number, me, event)
     }
 
     /// The group is told something here.
@@ -355,8 +345,7 @@ impl Member {
     {
         self.told.insert(0, call)?;
         if let Some(spec) = &self.spec {
-            let more = puts_of(alloc, spec, me, &self.told)?;
-            self.put = rows_after(alloc, spec, me, &self.told, &self.put, more.as_slice())?;
+            self.put = rows_told(alloc, spec, me, &self.told, &self.put)?;
         }
         Ok(())
     }
@@ -381,19 +370,18 @@ impl Member {
         ensures { OnOk result (self.new ≡ value_did me event.now reply.now self.old) }
     {
         match (event, reply) {
-            (GroupEvent::Make(spec), Reply::Done) => self.spec = Some(spec.duplicate()),
-            (GroupEvent::Open, Reply::Done) => self.phase = Phase::Opened,
-            (GroupEvent::Shut, Reply::Done) => self.phase = Phase::Shut,
-            (GroupEvent::Drop, Reply::Done) => self.drop_group(alloc)?,
+            (GroupEvent::Drop, Reply::Done) => return self.drop_group(alloc),
             (GroupEvent::Say(payload), Reply::Said(seq)) => {
-                let payload = payload.duplicate(alloc)?;
                 let x = Entry {
                     origin: me,
                     seq: *seq,
-                    payload,
+                    payload: payload.duplicate(alloc)?,
                 };
-                self.call(alloc, me, GroupCall::Own(x))?;
+                return self.call(alloc, me, GroupCall::Own(x));
             }
+            (GroupEvent::Make(spec), Reply::Done) => self.spec = Some(spec.duplicate()),
+            (GroupEvent::Open, Reply::Done) => self.phase = Phase::Opened,
+            (GroupEvent::Shut, Reply::Done) => self.phase = Phase::Shut,
             _ => {}
         }
         Ok(())
@@ -428,10 +416,10 @@ impl Member {
             None => true,
             Some(spec) => falls_after(alloc, spec, me, &self.told, from, &x)?,
         };
-        if !falls {
-            self.call(alloc, me, GroupCall::Other(from, x))?;
+        if falls {
+            return Ok(());
         }
-        Ok(())
+        self.call(alloc, me, GroupCall::Other(from, x))
     }
 
     /// An item comes from a node, where there is one.
@@ -444,10 +432,10 @@ impl Member {
     ) -> Result<(), OutOfMemory>
         ensures { OnOk result (self.new ≡ value_taken_in me.number from item self.old) }
     {
-        if let Some(x) = item {
-            self.item_came(alloc, me, from, x)?;
+        match item {
+            None => Ok(()),
+            Some(x) => self.item_came(alloc, me, from, x),
         }
-        Ok(())
     }
 
     /// So many more items to a node are carried. `Err` where no number is so great.
@@ -491,11 +479,11 @@ impl Member {
             None => false,
             Some(spec) => spec.members.contains(q) && q != me,
         };
-        if concerned {
-            self.cut(alloc, q)?;
-            self.call(alloc, me, GroupCall::Crashed(q))?;
+        if !concerned {
+            return Ok(());
         }
-        Ok(())
+        self.cut(alloc, q)?;
+        self.call(alloc, me, GroupCall::Crashed(q))
     }
 
     /// The node stops.

@@ -3,10 +3,12 @@ ghost use Rattle.std.specs.Prelude.{◌≡◌, ◌++◌, [], ◌&&◌, not, IfOk
 ghost use Rattle.gb_types.specs.declared.limits.TheConstants.{NODES as MOST};
 ghost use Rattle.gb_layer.specs.Machine as machine;
 ghost use Rattle.gb_rules.specs.Group as rules;
+ghost use Rattle.gb_history.specs.History as history;
 ghost use Rattle.gb_alone.specs.MemberLists.{row_with, carried_row};
 ghost use Rattle.gb_alone.specs.Observation.{numbers_below};
 
 use gb_history::call::{GroupCall, calls_of};
+use gb_history::log::puts_of;
 use gb_layer::call::Call;
 use gb_layer::plain::is_noticed;
 use gb_types::entry::{Entries, Entry};
@@ -69,7 +71,7 @@ fn row_after(
 
 /// The items put out to each node, after these too.
 #[tactic(auto, using(crate::proofs::ObservationLemmas::map_more, crate::proofs::ObservationLemmas::map_none))]
-pub(crate) fn rows_after(
+fn rows_after(
     alloc: Global,
     spec: &Spec,
     me: NodeId,
@@ -86,6 +88,20 @@ pub(crate) fn rows_after(
         rows.push(row_after(alloc, reached, row_of(put, b), more)?)?;
     }
     Ok(rows)
+}
+
+/// The items put out to each node, after what the last of these calls puts out too.
+pub(crate) fn rows_told(
+    alloc: Global,
+    spec: &Spec,
+    me: NodeId,
+    told: &[GroupCall],
+    put: &[Entries],
+) -> Result<Vec<Entries>, OutOfMemory>
+    ensures { IfOk result (λ v. v.items ≡ map (row_with spec.now me.number told.now put.now (history.newest_puts spec.now me.number told.now)) (numbers_below MOST)) }
+{
+    let more = puts_of(alloc, spec, me, told)?;
+    rows_after(alloc, spec, me, told, put, more.as_slice())
 }
 
 /// The items put out to each node that are carried.
