@@ -1,16 +1,17 @@
 //! A group at one node, as the plain program keeps it.
-ghost use Rattle.std.specs.Prelude.{ℕ, ◌≡◌, ◌+◌, ◌-◌, ◌<◌, ◌≤◌, [], IfOk, OnOk, true, None, Some, MatchOption, MatchResult, length, replicate, take, drop, slice_get, slice_index_or};
+ghost use Rattle.std.specs.Prelude.{ℕ, ◌≡◌, ◌||◌, nat_eq, ◌+◌, ◌-◌, ◌<◌, ◌≤◌, [], IfOk, OnOk, true, None, Some, MatchOption, MatchResult, length, replicate, take, drop, slice_get, slice_index_or};
 ghost use Rattle.gb_types.specs.declared.limits.TheConstants.{NODES as MOST};
 ghost use Rattle.gb_alone.specs.Alone as one_group;
-ghost use Rattle.gb_alone.specs.Alone.{Member as Prior, held_spec, is_finished, count_unfinished, usage_of, shown_in};
+ghost use Rattle.gb_layer.specs.Machine.{was_noticed};
+ghost use Rattle.gb_alone.specs.Alone.{Member as Prior, held_spec, is_acknowledged, is_finished, count_unfinished, usage_of, shown_in};
 ghost use Rattle.gb_alone.specs.MemberLists.{member_of, StandsForMember};
 ghost use Rattle.gb_history.specs.History.{calls_of};
-ghost use Rattle.gb_rules.specs.Group.{Shown};
+ghost use Rattle.gb_rules.specs.Group.{Shown, fetch_answer};
 ghost use Rattle.gb_types.specs.declared.reply.Reply.{Reply as Answer};
 
 use crate::event::GroupEvent;
 use crate::marks::Marks;
-use crate::put::{carried_rows, first_of, row_of, rows_told};
+use crate::put::{carried_row, carried_rows, row_of, rows_told};
 use gb_history::call::{GroupCall, calls_of, said_in};
 use gb_history::log::{bytes_in, falls_after, log_of};
 use gb_layer::call::Call;
@@ -39,6 +40,17 @@ fn page(entries: &[Entry], from: usize, most: usize) -> &[Entry]
     let rest = &entries[from..];
     let count = most.min(rest.len());
     &rest[..count]
+}
+
+/// The reply to a command to read a log.
+fn log_reply(alloc: Global, log: &[Entry], from: u32, max: u32) -> Result<Reply, OutOfMemory>
+    ensures { (s : Shown) → s.log ≡ log.now → IfOk result (λ r. r ≡ fetch_answer s from max) }
+{
+    if is_bad_place(log.len(), from, max) {
+        return Ok(Reply::Refused(Refusal::BadPlace));
+    }
+    let found = page(log, from as usize, max as usize);
+    Ok(Reply::Log(Entries::from_slice(alloc, found)?))
 }
 
 /// For each node no places.
@@ -188,16 +200,22 @@ impl Member {
         }
     }
 
+    /// Whether a node is this one, or noticed, or acknowledged the own message with a number.
+    fn is_finished_by(&self, me: NodeId, calls: &[Call], seq: u32, b: NodeId) -> bool
+        ensures { result ≡ (nat_eq b.number me.number || (was_noticed calls.now b.number || is_acknowledged me.number seq (slice_index_or self.now.done b.number []) 1 (slice_index_or self.now.put b.number []))) }
+    {
+        b == me
+            || is_noticed(calls, b)
+            || self.done[b.index()].has_own(me, seq, row_of(&self.put, b.index()))
+    }
+
     /// Whether each other member is noticed, or acknowledged the own message with a number.
     fn is_finished(&self, spec: &Spec, me: NodeId, calls: &[Call], seq: u32) -> bool
         requires { calls.now ≡ calls_of self.now.told }
         ensures { result ≡ is_finished spec.now me.number self.now.told (member_of self.now).put (member_of self.now).done seq }
     {
         for b in spec.members.nodes() {
-            if b != me
-                && !is_noticed(calls, b)
-                && !self.done[b.index()].has_own(me, seq, row_of(&self.put, b.index()))
-            {
+            if !self.is_finished_by(me, calls, seq, b) {
                 return false;
             }
         }
@@ -233,10 +251,11 @@ impl Member {
             return Err(OutOfMemory);
         }
         let said = said as u32;
+        let bytes = bytes_in(alloc, &self.told, me)?;
         let calls = calls_of(alloc, &self.told)?;
         Ok(Usage {
             said,
-            bytes: bytes_in(alloc, &self.told, me)?,
+            bytes,
             unfinished: self.unfinished(spec, me, &calls, 1, said),
         })
     }
@@ -271,11 +290,7 @@ impl Member {
             Err(why) => return Ok(Reply::Refused(why)),
         };
         let log = log_of(alloc, spec, me, &self.told)?;
-        if is_bad_place(log.len(), from, max) {
-            return Ok(Reply::Refused(Refusal::BadPlace));
-        }
-        let found = page(log.as_slice(), from as usize, max as usize);
-        Ok(Reply::Log(Entries::from_slice(alloc, found)?))
+        log_reply(alloc, log.as_slice(), from, max)
     }
 
     /// The reply to a command to make the group.
@@ -359,6 +374,24 @@ impl Member {
         Ok(())
     }
 
+    /// The group says a message with this number and payload.
+    fn say(
+        &mut self,
+        alloc: Global,
+        me: NodeId,
+        seq: u16,
+        payload: &Payload,
+    ) -> Result<(), OutOfMemory>
+        ensures { OnOk result (self.new ≡ value_called me.number (GroupCall.Own (record { origin = me; seq = seq; payload = payload.now })) self.old) }
+    {
+        let x = Entry {
+            origin: me,
+            seq,
+            payload: payload.duplicate(alloc)?,
+        };
+        self.call(alloc, me, GroupCall::Own(x))
+    }
+
     /// What a command does besides its reply.
     fn did(
         &mut self,
@@ -372,12 +405,7 @@ impl Member {
         match (event, reply) {
             (GroupEvent::Drop, Reply::Done) => return self.drop_group(alloc),
             (GroupEvent::Say(payload), Reply::Said(seq)) => {
-                let x = Entry {
-                    origin: me,
-                    seq: *seq,
-                    payload: payload.duplicate(alloc)?,
-                };
-                return self.call(alloc, me, GroupCall::Own(x));
+                return self.say(alloc, me, *seq, payload);
             }
             (GroupEvent::Make(spec), Reply::Done) => self.spec = Some(spec.duplicate()),
             (GroupEvent::Open, Reply::Done) => self.phase = Phase::Opened,
@@ -402,6 +430,16 @@ impl Member {
         Ok(())
     }
 
+    /// Whether an item that comes from a node is let fall.
+    fn falls(&self, alloc: Global, me: NodeId, from: NodeId, x: &Entry) -> Result<bool, OutOfMemory>
+        ensures { IfOk result (λ b. b ≡ one_group.falls me.number from.number x.now self.now.told (held_spec self.now.phase self.now.spec)) }
+    {
+        match self.held_spec() {
+            None => Ok(true),
+            Some(spec) => falls_after(alloc, spec, me, &self.told, from, x),
+        }
+    }
+
     /// An item comes from a node, and is let fall, or the group is told of it.
     fn item_came(
         &mut self,
@@ -412,11 +450,7 @@ impl Member {
     ) -> Result<(), OutOfMemory>
         ensures { OnOk result (self.new ≡ value_came me.number from x self.old) }
     {
-        let falls = match self.held_spec() {
-            None => true,
-            Some(spec) => falls_after(alloc, spec, me, &self.told, from, &x)?,
-        };
-        if falls {
+        if self.falls(alloc, me, from, &x)? {
             return Ok(());
         }
         self.call(alloc, me, GroupCall::Other(from, x))
@@ -462,12 +496,10 @@ impl Member {
     fn cut(&mut self, alloc: Global, q: NodeId) -> Result<(), OutOfMemory>
         ensures { OnOk result (self.new ≡ value_cut q self.old) }
     {
-        if q.index() >= self.put.len() {
-            return Ok(());
+        let at = q.index();
+        if at < self.put.len() {
+            self.put[at] = carried_row(alloc, &self.put, &self.taken, at)?;
         }
-        let count = self.taken[q.index()];
-        let kept = Entries::from_slice(alloc, first_of(row_of(&self.put, q.index()), count))?;
-        self.put[q.index()] = kept;
         Ok(())
     }
 
@@ -514,7 +546,7 @@ impl Member {
         requires { b < MOST }
         ensures { IfOk result (λ e. (m : Prior) → StandsForMember self.now m → e ≡ take (m.taken b) (m.put b)) }
     {
-        Entries::from_slice(alloc, first_of(row_of(&self.put, b), self.taken[b]))
+        carried_row(alloc, &self.put, &self.taken, b)
     }
 
     /// The replies to the group's commands, copied.
