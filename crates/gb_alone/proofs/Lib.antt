@@ -2,6 +2,7 @@ pub mod AcceptedLemmas
 pub mod CommandLemmas
 pub mod InsideLemmas
 pub mod IntegrityLemmas
+pub mod ItemLemmas
 pub mod KnownLemmas
 pub mod UsageLemmas
 pub mod MemberListLemmas

@@ -41,8 +41,7 @@ fn command_at(
 {
     let at = me.index();
     let reply = group[at].reply(alloc, nodes, number, me, event)?;
-    group[at].command(alloc, me, event, reply)?;
-    Ok(())
+    group[at].command(alloc, me, event, reply)
 }
 
 /// An item comes from a node, where there is one with this place.
@@ -57,8 +56,7 @@ fn item_at(
     ensures { OnOk result (group.new.items ≡ slice_set group.old.items me.number (value_taken_in me.number from (slice_get (slice_index_or (value_at group.old.items from.number).put me.number []) (place - 1)) (value_at group.old.items me.number))) }
 {
     let item = group[from.index()].item(alloc, me, place)?;
-    group[me.index()].take_in(alloc, me, from, item)?;
-    Ok(())
+    group[me.index()].take_in(alloc, me, from, item)
 }
 
 /// What happens at a node changes the group there.
@@ -74,22 +72,25 @@ fn step_at(
 {
     let me = step.node;
     match &step.event {
-        GroupEvent::Tenant(reserve) => group[me.index()].take_tenant(*reserve),
-        GroupEvent::Took(b, count) => group[me.index()].took(*b, *count)?,
-        GroupEvent::Done(b, place, count) => {
-            group[me.index()].mark_done(*b, *place, *count)?;
+        GroupEvent::Tenant(reserve) => {
+            group[me.index()].take_tenant(*reserve);
+            Ok(())
         }
-        GroupEvent::Notice(q) => group[me.index()].notice(alloc, me, *q)?,
-        GroupEvent::Stop => group[me.index()].stop(),
-        GroupEvent::Came(from, place) => item_at(alloc, group, me, *from, *place)?,
-        GroupEvent::Make(_) => command_at(alloc, nodes, number, group, me, &step.event)?,
-        GroupEvent::Open => command_at(alloc, nodes, number, group, me, &step.event)?,
-        GroupEvent::Shut => command_at(alloc, nodes, number, group, me, &step.event)?,
-        GroupEvent::Drop => command_at(alloc, nodes, number, group, me, &step.event)?,
-        GroupEvent::Say(_) => command_at(alloc, nodes, number, group, me, &step.event)?,
-        GroupEvent::Fetch(_, _) => command_at(alloc, nodes, number, group, me, &step.event)?,
+        GroupEvent::Took(b, count) => group[me.index()].took(*b, *count),
+        GroupEvent::Done(b, place, count) => group[me.index()].mark_done(*b, *place, *count),
+        GroupEvent::Notice(q) => group[me.index()].notice(alloc, me, *q),
+        GroupEvent::Stop => {
+            group[me.index()].stop();
+            Ok(())
+        }
+        GroupEvent::Came(from, place) => item_at(alloc, group, me, *from, *place),
+        GroupEvent::Make(_)
+        | GroupEvent::Open
+        | GroupEvent::Shut
+        | GroupEvent::Drop
+        | GroupEvent::Say(_)
+        | GroupEvent::Fetch(_, _) => command_at(alloc, nodes, number, group, me, &step.event),
     }
-    Ok(())
 }
 
 /// What is seen at a node of so many.
@@ -111,7 +112,7 @@ fn seen_of(alloc: Global, nodes: u8, member: &Member) -> Result<NodeSeen, OutOfM
 fn all_seen(alloc: Global, nodes: u8, group: &[Member]) -> Result<Observation, OutOfMemory>
     requires few { nodes ≤ MOST }
     requires size { length group.now ≡ MOST }
-    ensures { IfOk result (λ o. (g : Group) → StandForMembers group.now g → o ≡ observed_alone nodes g) }
+    ensures { (g : Group) → StandForMembers group.now g → IfOk result (λ o. o ≡ observed_alone nodes g) }
 {
     let mut seen = Vec::new(alloc);
     for a in 0..usize::from(nodes) {
@@ -134,8 +135,7 @@ fn seen_alone(
     for step in steps {
         step_at(alloc, nodes, number, &mut group, step)?;
     }
-    let seen = all_seen(alloc, nodes, group.as_slice())?;
-    Ok(seen)
+    all_seen(alloc, nodes, &group)
 }
 
 /// The group alone, in a cluster of this plan: what is seen of it after these steps. `Err` also where a node says

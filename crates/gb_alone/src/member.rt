@@ -1,18 +1,19 @@
 //! A group at one node, as the plain program keeps it.
-ghost use Rattle.std.specs.Prelude.{ℕ, ◌≡◌, ◌+◌, ◌-◌, ◌<◌, ◌≤◌, [], IfOk, OnOk, true, None, Some, MatchOption, MatchResult, length, replicate, take, drop, slice_get, slice_index_or};
+ghost use Rattle.std.specs.Prelude.{ℕ, ◌≡◌, ◌||◌, nat_eq, ◌+◌, ◌-◌, ◌<◌, ◌≤◌, [], IfOk, OnOk, true, None, Some, MatchOption, MatchResult, length, replicate, take, drop, slice_get, slice_index_or};
 ghost use Rattle.gb_types.specs.declared.limits.TheConstants.{NODES as MOST};
 ghost use Rattle.gb_alone.specs.Alone as one_group;
-ghost use Rattle.gb_alone.specs.Alone.{Member as Prior, held_spec, is_finished, count_unfinished, usage_of, shown_in};
+ghost use Rattle.gb_layer.specs.Machine.{was_noticed};
+ghost use Rattle.gb_alone.specs.Alone.{Member as Prior, held_spec, is_acknowledged, is_finished, count_unfinished, usage_of, shown_in};
 ghost use Rattle.gb_alone.specs.MemberLists.{member_of, StandsForMember};
 ghost use Rattle.gb_history.specs.History.{calls_of};
-ghost use Rattle.gb_rules.specs.Group.{Shown};
+ghost use Rattle.gb_rules.specs.Group.{Shown, fetch_answer};
 ghost use Rattle.gb_types.specs.declared.reply.Reply.{Reply as Answer};
 
 use crate::event::GroupEvent;
 use crate::marks::Marks;
-use crate::put::{carried_rows, first_of, row_of, rows_after};
+use crate::put::{carried_row, carried_rows, row_of, rows_told};
 use gb_history::call::{GroupCall, calls_of, said_in};
-use gb_history::log::{bytes_in, falls_after, log_of, puts_of};
+use gb_history::log::{bytes_in, falls_after, log_of};
 use gb_layer::call::Call;
 use gb_layer::plain::is_noticed;
 use gb_rules::group::{check_open, check_say, check_shut, is_bad_place};
@@ -39,6 +40,17 @@ fn page(entries: &[Entry], from: usize, most: usize) -> &[Entry]
     let rest = &entries[from..];
     let count = most.min(rest.len());
     &rest[..count]
+}
+
+/// The reply to a command to read a log.
+fn log_reply(alloc: Global, log: &[Entry], from: u32, max: u32) -> Result<Reply, OutOfMemory>
+    ensures { (s : Shown) → s.log ≡ log.now → IfOk result (λ r. r ≡ fetch_answer s from max) }
+{
+    if is_bad_place(log.len(), from, max) {
+        return Ok(Reply::Refused(Refusal::BadPlace));
+    }
+    let found = page(log, from as usize, max as usize);
+    Ok(Reply::Log(Entries::from_slice(alloc, found)?))
 }
 
 /// For each node no places.
@@ -130,10 +142,7 @@ impl Member {
         if self.phase == Phase::Gone {
             return None;
         }
-        match &self.spec {
-            None => None,
-            Some(spec) => Some(spec),
-        }
+        self.spec.as_ref()
     }
 
     /// The spec of the group, or why a command on it is refused: Denied where its tenant was not taken in, NoGroup
@@ -191,16 +200,22 @@ impl Member {
         }
     }
 
+    /// Whether a node is this one, or noticed, or acknowledged the own message with a number.
+    fn is_finished_by(&self, me: NodeId, calls: &[Call], seq: u32, b: NodeId) -> bool
+        ensures { result ≡ (nat_eq b.number me.number || (was_noticed calls.now b.number || is_acknowledged me.number seq (slice_index_or self.now.done b.number []) 1 (slice_index_or self.now.put b.number []))) }
+    {
+        b == me
+            || is_noticed(calls, b)
+            || self.done[b.index()].has_own(me, seq, row_of(&self.put, b.index()))
+    }
+
     /// Whether each other member is noticed, or acknowledged the own message with a number.
     fn is_finished(&self, spec: &Spec, me: NodeId, calls: &[Call], seq: u32) -> bool
         requires { calls.now ≡ calls_of self.now.told }
         ensures { result ≡ is_finished spec.now me.number self.now.told (member_of self.now).put (member_of self.now).done seq }
     {
         for b in spec.members.nodes() {
-            if b != me
-                && !is_noticed(calls, b)
-                && !self.done[b.index()].has_own(me, seq, row_of(&self.put, b.index()))
-            {
+            if !self.is_finished_by(me, calls, seq, b) {
                 return false;
             }
         }
@@ -236,17 +251,18 @@ impl Member {
             return Err(OutOfMemory);
         }
         let said = said as u32;
+        let bytes = bytes_in(alloc, &self.told, me)?;
         let calls = calls_of(alloc, &self.told)?;
         Ok(Usage {
             said,
-            bytes: bytes_in(alloc, &self.told, me)?,
+            bytes,
             unfinished: self.unfinished(spec, me, &calls, 1, said),
         })
     }
 
     /// The reply to a command to say something. `Err` where there is no number for it.
     fn say_reply(&self, alloc: Global, me: NodeId, payload: &Payload) -> Result<Reply, OutOfMemory>
-        ensures { IfOk result (λ r. (nodes number : ℕ) → r ≡ one_group.running_reply nodes number me.number (GroupEvent.Say payload.now) (member_of self.now)) }
+        ensures { (nodes number : ℕ) → IfOk result (λ r. r ≡ one_group.running_reply nodes number me.number (GroupEvent.Say payload.now) (member_of self.now)) }
     {
         let spec = match self.made_spec() {
             Ok(spec) => spec,
@@ -267,18 +283,14 @@ impl Member {
         from: u32,
         max: u32,
     ) -> Result<Reply, OutOfMemory>
-        ensures { IfOk result (λ r. (nodes number : ℕ) → r ≡ one_group.running_reply nodes number me.number (GroupEvent.Fetch from max) (member_of self.now)) }
+        ensures { (nodes number : ℕ) → IfOk result (λ r. r ≡ one_group.running_reply nodes number me.number (GroupEvent.Fetch from max) (member_of self.now)) }
     {
         let spec = match self.made_spec() {
             Ok(spec) => spec,
             Err(why) => return Ok(Reply::Refused(why)),
         };
         let log = log_of(alloc, spec, me, &self.told)?;
-        if is_bad_place(log.len(), from, max) {
-            return Ok(Reply::Refused(Refusal::BadPlace));
-        }
-        let found = page(log.as_slice(), from as usize, max as usize);
-        Ok(Reply::Log(Entries::from_slice(alloc, found)?))
+        log_reply(alloc, log.as_slice(), from, max)
     }
 
     /// The reply to a command to make the group.
@@ -314,20 +326,14 @@ impl Member {
             GroupEvent::Open => Ok(self.open_reply()),
             GroupEvent::Shut => Ok(self.shut_reply()),
             GroupEvent::Drop => Ok(self.drop_reply()),
-            GroupEvent::Say(payload) => {
-                let said = self.say_reply(alloc, me, payload)?;
-                Ok(said)
-            }
-            GroupEvent::Fetch(from, max) => {
-                let found = self.fetch_reply(alloc, me, *from, *max)?;
-                Ok(found)
-            }
-            GroupEvent::Tenant(_) => Ok(Reply::Done),
-            GroupEvent::Took(_, _) => Ok(Reply::Done),
-            GroupEvent::Came(_, _) => Ok(Reply::Done),
-            GroupEvent::Done(_, _, _) => Ok(Reply::Done),
-            GroupEvent::Notice(_) => Ok(Reply::Done),
-            GroupEvent::Stop => Ok(Reply::Done),
+            GroupEvent::Say(payload) => self.say_reply(alloc, me, payload),
+            GroupEvent::Fetch(from, max) => self.fetch_reply(alloc, me, *from, *max),
+            GroupEvent::Tenant(_)
+            | GroupEvent::Took(_, _)
+            | GroupEvent::Came(_, _)
+            | GroupEvent::Done(_, _, _)
+            | GroupEvent::Notice(_)
+            | GroupEvent::Stop => Ok(Reply::Done),
         }
     }
 
@@ -345,8 +351,7 @@ impl Member {
         if self.stopped {
             return Ok(Reply::Refused(Refusal::Stopped));
         }
-        let reply = self.running_reply(alloc, nodes, number, me, event)?;
-        Ok(reply)
+        self.running_reply(alloc, nodes, number, me, event)
     }
 
     /// The group is told something here.
@@ -355,8 +360,7 @@ impl Member {
     {
         self.told.insert(0, call)?;
         if let Some(spec) = &self.spec {
-            let more = puts_of(alloc, spec, me, &self.told)?;
-            self.put = rows_after(alloc, spec, me, &self.told, &self.put, more.as_slice())?;
+            self.put = rows_told(alloc, spec, me, &self.told, &self.put)?;
         }
         Ok(())
     }
@@ -370,6 +374,24 @@ impl Member {
         Ok(())
     }
 
+    /// The group says a message with this number and payload.
+    fn say(
+        &mut self,
+        alloc: Global,
+        me: NodeId,
+        seq: u16,
+        payload: &Payload,
+    ) -> Result<(), OutOfMemory>
+        ensures { OnOk result (self.new ≡ value_called me.number (GroupCall.Own (record { origin = me; seq = seq; payload = payload.now })) self.old) }
+    {
+        let x = Entry {
+            origin: me,
+            seq,
+            payload: payload.duplicate(alloc)?,
+        };
+        self.call(alloc, me, GroupCall::Own(x))
+    }
+
     /// What a command does besides its reply.
     fn did(
         &mut self,
@@ -381,19 +403,13 @@ impl Member {
         ensures { OnOk result (self.new ≡ value_did me event.now reply.now self.old) }
     {
         match (event, reply) {
+            (GroupEvent::Drop, Reply::Done) => return self.drop_group(alloc),
+            (GroupEvent::Say(payload), Reply::Said(seq)) => {
+                return self.say(alloc, me, *seq, payload);
+            }
             (GroupEvent::Make(spec), Reply::Done) => self.spec = Some(spec.duplicate()),
             (GroupEvent::Open, Reply::Done) => self.phase = Phase::Opened,
             (GroupEvent::Shut, Reply::Done) => self.phase = Phase::Shut,
-            (GroupEvent::Drop, Reply::Done) => self.drop_group(alloc)?,
-            (GroupEvent::Say(payload), Reply::Said(seq)) => {
-                let payload = payload.duplicate(alloc)?;
-                let x = Entry {
-                    origin: me,
-                    seq: *seq,
-                    payload,
-                };
-                self.call(alloc, me, GroupCall::Own(x))?;
-            }
             _ => {}
         }
         Ok(())
@@ -414,6 +430,16 @@ impl Member {
         Ok(())
     }
 
+    /// Whether an item that comes from a node is let fall.
+    fn falls(&self, alloc: Global, me: NodeId, from: NodeId, x: &Entry) -> Result<bool, OutOfMemory>
+        ensures { IfOk result (λ b. b ≡ one_group.falls me.number from.number x.now self.now.told (held_spec self.now.phase self.now.spec)) }
+    {
+        match self.held_spec() {
+            None => Ok(true),
+            Some(spec) => falls_after(alloc, spec, me, &self.told, from, x),
+        }
+    }
+
     /// An item comes from a node, and is let fall, or the group is told of it.
     fn item_came(
         &mut self,
@@ -424,14 +450,10 @@ impl Member {
     ) -> Result<(), OutOfMemory>
         ensures { OnOk result (self.new ≡ value_came me.number from x self.old) }
     {
-        let falls = match self.held_spec() {
-            None => true,
-            Some(spec) => falls_after(alloc, spec, me, &self.told, from, &x)?,
-        };
-        if !falls {
-            self.call(alloc, me, GroupCall::Other(from, x))?;
+        if self.falls(alloc, me, from, &x)? {
+            return Ok(());
         }
-        Ok(())
+        self.call(alloc, me, GroupCall::Other(from, x))
     }
 
     /// An item comes from a node, where there is one.
@@ -444,10 +466,10 @@ impl Member {
     ) -> Result<(), OutOfMemory>
         ensures { OnOk result (self.new ≡ value_taken_in me.number from item self.old) }
     {
-        if let Some(x) = item {
-            self.item_came(alloc, me, from, x)?;
+        match item {
+            None => Ok(()),
+            Some(x) => self.item_came(alloc, me, from, x),
         }
-        Ok(())
     }
 
     /// So many more items to a node are carried. `Err` where no number is so great.
@@ -474,12 +496,10 @@ impl Member {
     fn cut(&mut self, alloc: Global, q: NodeId) -> Result<(), OutOfMemory>
         ensures { OnOk result (self.new ≡ value_cut q self.old) }
     {
-        if q.index() >= self.put.len() {
-            return Ok(());
+        let at = q.index();
+        if at < self.put.len() {
+            self.put[at] = carried_row(alloc, &self.put, &self.taken, at)?;
         }
-        let count = self.taken[q.index()];
-        let kept = Entries::from_slice(alloc, first_of(row_of(&self.put, q.index()), count))?;
-        self.put[q.index()] = kept;
         Ok(())
     }
 
@@ -491,11 +511,11 @@ impl Member {
             None => false,
             Some(spec) => spec.members.contains(q) && q != me,
         };
-        if concerned {
-            self.cut(alloc, q)?;
-            self.call(alloc, me, GroupCall::Crashed(q))?;
+        if !concerned {
+            return Ok(());
         }
-        Ok(())
+        self.cut(alloc, q)?;
+        self.call(alloc, me, GroupCall::Crashed(q))
     }
 
     /// The node stops.
@@ -526,7 +546,7 @@ impl Member {
         requires { b < MOST }
         ensures { IfOk result (λ e. (m : Prior) → StandsForMember self.now m → e ≡ take (m.taken b) (m.put b)) }
     {
-        Entries::from_slice(alloc, first_of(row_of(&self.put, b), self.taken[b]))
+        carried_row(alloc, &self.put, &self.taken, b)
     }
 
     /// The replies to the group's commands, copied.

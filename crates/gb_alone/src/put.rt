@@ -1,12 +1,14 @@
 //! What a group puts out to other nodes.
-ghost use Rattle.std.specs.Prelude.{◌≡◌, ◌++◌, [], ◌&&◌, not, IfOk, OnOk, length, map, take, slice_index_or, if◌then◌else◌};
+ghost use Rattle.std.specs.Prelude.{◌≡◌, ◌<◌, ◌++◌, List, [], ◌&&◌, not, IfOk, OnOk, length, map, take, slice_index_or, if◌then◌else◌};
 ghost use Rattle.gb_types.specs.declared.limits.TheConstants.{NODES as MOST};
 ghost use Rattle.gb_layer.specs.Machine as machine;
 ghost use Rattle.gb_rules.specs.Group as rules;
+ghost use Rattle.gb_history.specs.History as history;
 ghost use Rattle.gb_alone.specs.MemberLists.{row_with, carried_row};
 ghost use Rattle.gb_alone.specs.Observation.{numbers_below};
 
 use gb_history::call::{GroupCall, calls_of};
+use gb_history::log::puts_of;
 use gb_layer::call::Call;
 use gb_layer::plain::is_noticed;
 use gb_types::entry::{Entries, Entry};
@@ -27,7 +29,7 @@ fn add_copies(alloc: Global, row: &mut Entries, more: &[Entry]) -> Result<(), Ou
 }
 
 /// The first of these, so many at most.
-pub(crate) fn first_of(row: &[Entry], count: u64) -> &[Entry]
+fn first_of(row: &[Entry], count: u64) -> &[Entry]
     ensures { result.now ≡ take count row.entry.now }
 {
     let count = (count as usize).min(row.len());
@@ -54,14 +56,18 @@ fn is_reached(spec: &Spec, me: NodeId, b: NodeId, calls: &[Call]) -> bool
 /// The items put out to a node, after these too, where it is reached.
 fn row_after(
     alloc: Global,
-    is_reached: bool,
-    row: &[Entry],
+    spec: &Spec,
+    me: NodeId,
+    b: usize,
+    calls: &[Call],
+    put: &[Entries],
     more: &[Entry],
 ) -> Result<Entries, OutOfMemory>
-    ensures { IfOk result (λ e. e ≡ (if is_reached then row.now ++ more.now else row.now)) }
+    requires { b < MOST }
+    ensures { (told : List GroupCall) → calls.now ≡ history.calls_of told → IfOk result (λ e. e ≡ row_with spec.now me.number told put.now more.now b) }
 {
-    let mut next = Entries::from_slice(alloc, row)?;
-    if is_reached {
+    let mut next = Entries::from_slice(alloc, row_of(put, b))?;
+    if is_reached(spec, me, NodeId::new(b as u8), calls) {
         add_copies(alloc, &mut next, more)?;
     }
     Ok(next)
@@ -69,7 +75,7 @@ fn row_after(
 
 /// The items put out to each node, after these too.
 #[tactic(auto, using(crate::proofs::ObservationLemmas::map_more, crate::proofs::ObservationLemmas::map_none))]
-pub(crate) fn rows_after(
+fn rows_after(
     alloc: Global,
     spec: &Spec,
     me: NodeId,
@@ -82,10 +88,36 @@ pub(crate) fn rows_after(
     let calls = calls_of(alloc, told)?;
     let mut rows = Vec::new(alloc);
     for b in 0..NODES {
-        let reached = is_reached(spec, me, NodeId::new(b as u8), &calls);
-        rows.push(row_after(alloc, reached, row_of(put, b), more)?)?;
+        rows.push(row_after(alloc, spec, me, b, &calls, put, more)?)?;
     }
     Ok(rows)
+}
+
+/// The items put out to each node, after what the last of these calls puts out too.
+pub(crate) fn rows_told(
+    alloc: Global,
+    spec: &Spec,
+    me: NodeId,
+    told: &[GroupCall],
+    put: &[Entries],
+) -> Result<Vec<Entries>, OutOfMemory>
+    ensures { IfOk result (λ v. v.items ≡ map (row_with spec.now me.number told.now put.now (history.newest_puts spec.now me.number told.now)) (numbers_below MOST)) }
+{
+    let more = puts_of(alloc, spec, me, told)?;
+    rows_after(alloc, spec, me, told, put, more.as_slice())
+}
+
+/// The items put out to a node that are carried.
+pub(crate) fn carried_row(
+    alloc: Global,
+    put: &[Entries],
+    taken: &[u64],
+    b: usize,
+) -> Result<Entries, OutOfMemory>
+    requires { b < length taken.now }
+    ensures { IfOk result (λ e. e ≡ carried_row taken.now put.now b) }
+{
+    Entries::from_slice(alloc, first_of(row_of(put, b), taken[b]))
 }
 
 /// The items put out to each node that are carried.
@@ -100,7 +132,7 @@ pub(crate) fn carried_rows(
 {
     let mut rows = Vec::new(alloc);
     for b in 0..NODES {
-        rows.push(Entries::from_slice(alloc, first_of(row_of(put, b), taken[b]))?)?;
+        rows.push(carried_row(alloc, put, taken, b)?)?;
     }
     Ok(rows)
 }

@@ -1,10 +1,17 @@
 //! One group at one node.
-ghost use Rattle.std.specs.Prelude.{◌≡◌, ℕ, false, ◌≢◌, OnErr, ◌≤◌, ◌<◌, ◌&&◌, not, List, [], ◌∷◌, Some, take, drop, map, slice_get, length, IfOk, MatchOption, true, IsOkUnless};
+ghost use Rattle.std.specs.Prelude.{◌≡◌, ℕ, false, ◌≢◌, OnErr, OnOk, ◌≤◌, ◌<◌, ◌&&◌, not, List, [], ◌∷◌, Some, take, drop, map, slice_get, length, IfOk, MatchOption, true, IsOkUnless, vec_capacity};
 ghost use Rattle.std.specs.FinSet as set;
 ghost use Rattle.gb_types.specs.declared.entry.Entry.{Entry as EntryValue};
+ghost use Rattle.gb_layer.specs.Room.{free_sends, free_ups};
+ghost use Rattle.gb_stack.specs.StackRoom.{stack_need, stack_whole};
+ghost use Rattle.gb_stack.specs.StackState.{new_stack};
+ghost use Rattle.gb_stack.specs.Stands.{HasStarted};
 ghost use Rattle.gb_history.specs.Messages.{entry_in};
 ghost use Rattle.gb_rules.specs.Replied.{done_reply, said_reply, log_reply, IsReply};
 ghost use Rattle.gb_rules.specs.Group.{is_gone, is_member, is_other, open_answer, shut_answer, say_answer, fetch_answer};
+ghost use Rattle.gb_slot.specs.Effects.{IsEmpty};
+ghost use Rattle.gb_slot.specs.Reached.{limit_of, most_bytes, most_messages};
+ghost use Rattle.gb_slot.specs.Slot.{IsWithinLimits};
 
 use crate::broadcast::take_call;
 use crate::put_out::PutOut;
@@ -106,18 +113,11 @@ impl Slot {
         requires member { is_member spec me.number ≡ true }
         ensures { IfOk result (λ s. s ≡ new_slot spec me noticed.now) }
     {
-        let mut stack = Stack::new(alloc, &spec, me, noticed)?;
-        let mut effects = Effects::new(alloc);
-        stack.whole(&spec.members, spec.msgs as u16, 1, &mut effects)?;
         // The proof reads that only nodes were noticed.
         let _ = noticed.nodes();
-        let members = spec.members.count_in(&spec.members);
-        let messages = members * spec.msgs as usize;
-        let bytes = members * spec.bytes as usize;
-        let store = Store::new(alloc, &spec.members, spec.msgs as u16, messages, bytes)?;
-        let log = Vec::with_capacity(alloc, messages)?;
-        let outgoing = Vec::with_capacity(alloc, messages)?;
-        let acknowledged = Vec::with_capacity(alloc, spec.msgs as usize)?;
+        let mut effects = Effects::new(alloc);
+        let stack = broadcast(alloc, &spec, me, noticed, &mut effects)?;
+        let (store, log, outgoing, acknowledged) = memory(alloc, &spec)?;
         Ok(Slot {
             alloc,
             spec,
@@ -364,6 +364,72 @@ impl Slot {
     {
         self.taken[dest.index()] += count;
     }
+}
+
+/// The broadcast of a group at the node `me`, which has noticed these nodes. It and what takes what a call of it gives
+/// have all their memory.
+fn broadcast(
+    alloc: Global,
+    spec: &Spec,
+    me: NodeId,
+    noticed: &NodeSet,
+    effects: &mut Effects,
+) -> Result<Stack, OutOfMemory>
+    requires { IsWithinLimits spec.now }
+    ensures meaning { IfOk result (λ s. ⟦<Stack as Layer>⟧.meaning s ≡ new_stack spec.now.kind me spec.now.members noticed.now) }
+    ensures started { IfOk result (λ s. HasStarted me spec.now.members noticed.now (⟦<Stack as Layer>⟧.meaning s)) }
+    ensures whole { IfOk result (λ s. stack_whole s (limit_of spec.now)) }
+    ensures empty { IsEmpty effects.old → IsEmpty effects.new }
+    ensures sends { OnOk result ((stack_need (limit_of spec.now)).sends ≤ free_sends effects.new) }
+    ensures ups { OnOk result ((stack_need (limit_of spec.now)).ups ≤ free_ups effects.new) }
+{
+    let mut stack = Stack::new(alloc, spec, me, noticed)?;
+    stack.whole(&spec.members, spec.msgs as u16, 1, effects)?;
+    Ok(stack)
+}
+
+/// The store and the lists of a group, empty, with all their memory: the log, what is put out, and for each message that
+/// is said here the nodes that have it for good.
+fn memory(
+    alloc: Global,
+    spec: &Spec,
+) -> Result<(Store, Vec<MsgId>, Vec<PutOut>, Vec<NodeSet>), OutOfMemory>
+    requires { IsWithinLimits spec.now }
+    ensures store { IfOk result (λ r. (r.0.entries ≡ []) × (r.0.arrivals ≡ [])) }
+    ensures log { IfOk result (λ r. r.1.items ≡ []) }
+    ensures outgoing { IfOk result (λ r. r.2.items ≡ []) }
+    ensures acknowledged { IfOk result (λ r. r.3.items ≡ []) }
+    ensures places { IfOk result (λ r. most_messages spec.now ≤ r.0.places) }
+    ensures bytes { IfOk result (λ r. most_bytes spec.now ≤ r.0.bytes) }
+    ensures log_memory { IfOk result (λ r. most_messages spec.now ≤ vec_capacity r.1) }
+    ensures outgoing_memory { IfOk result (λ r. most_messages spec.now ≤ vec_capacity r.2) }
+    ensures acknowledged_memory { IfOk result (λ r. spec.now.msgs ≤ vec_capacity r.3) }
+{
+    let members = spec.members.count_in(&spec.members);
+    let messages = members * spec.msgs as usize;
+    let bytes = members * spec.bytes as usize;
+    let (log, outgoing, acknowledged) = lists(alloc, messages, spec.msgs as usize)?;
+    let store = Store::new(alloc, &spec.members, spec.msgs as u16, messages, bytes)?;
+    Ok((store, log, outgoing, acknowledged))
+}
+
+/// The lists of a group, with memory for so many messages, and so many of them said here.
+fn lists(
+    alloc: Global,
+    messages: usize,
+    own: usize,
+) -> Result<(Vec<MsgId>, Vec<PutOut>, Vec<NodeSet>), OutOfMemory>
+    ensures log { IfOk result (λ l. l.0.items ≡ []) }
+    ensures outgoing { IfOk result (λ l. l.1.items ≡ []) }
+    ensures acknowledged { IfOk result (λ l. l.2.items ≡ []) }
+    ensures log_memory { IfOk result (λ l. messages ≤ vec_capacity l.0) }
+    ensures outgoing_memory { IfOk result (λ l. messages ≤ vec_capacity l.1) }
+    ensures acknowledged_memory { IfOk result (λ l. own ≤ vec_capacity l.2) }
+{
+    let log = Vec::with_capacity(alloc, messages)?;
+    let outgoing = Vec::with_capacity(alloc, messages)?;
+    let acknowledged = Vec::with_capacity(alloc, own)?;
+    Ok((log, outgoing, acknowledged))
 }
 
 /// The item at a place.

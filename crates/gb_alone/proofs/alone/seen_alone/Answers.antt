@@ -23,4 +23,4 @@ returns c =
     let g = one_group.alone c.args.nodes c.args.number c.args.steps.now in
     let all = ap (fold (values_after c.args.nodes c.args.number) (replicate NODES new_member)) (take_short c.loop-step.step-index c.args.steps.now c.loop-step-test.false) in
     let P : List MemberValue → Type 0 = λ vs. StandForMembers vs g in
-    c.in_ok-seen.ensures g (subst P (sym (c.as_slice.ensures.value ∙ (c.loop-step.invariant.0 ∙ all))) (alone_listed c.args.nodes c.args.number c.args.steps.now))
+    c.all_seen.ensures g (subst P (sym (c.deref.ensures.value ∙ (c.loop-step.invariant.0 ∙ all))) (alone_listed c.args.nodes c.args.number c.args.steps.now))

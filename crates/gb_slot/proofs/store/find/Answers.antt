@@ -1,4 +1,5 @@
 use Rattle.std.proofs.Common.{arith}
+use Rattle.std.proofs.lemmas.Grind.{common_steps}
 use Rattle.std.proofs.lemmas.List.{length-map}
 use Rattle.gb_layer.proofs.PlacesLemmas.{among_entries, fails_elsewhere, get_within}
 use Rattle.gb_slot.specs.Kept.{is_of, messages_of}
@@ -21,3 +22,6 @@ returns c =
     let test = c.loop-i-test.false in
     none_after (is_of c.args.m) kept c.loop-i.i c.loop-i.invariant
     (λ k e le here. fails_elsewhere (is_of c.args.m) at.from at.to kept stands k e (λ a. let to = a.1 in let within = get_within kept k e here in omega (arith, to, le, within, end, test)) here)
+
+pub loop-i-preserved : goal.loop-i-preserved
+loop-i-preserved c = grind (arith, common_steps)

@@ -1,3 +1,4 @@
+use Rattle.std.proofs.lemmas.Grind.{common_steps}
 use Rattle.std.proofs.Common.{◌<◌, ◌-◌, ap, arith, length}
 use Rattle.std.proofs.lemmas.List.{get_or-set_same}
 use Rattle.gb_slot.proofs.WindowLemmas.{one, unfinished_few, unfinished_has, unfinished_set}
@@ -28,3 +29,6 @@ returns-clause-count c =
     let replaced = unfinished_set spec noticed bys at new old within in
     let there = ap (one spec noticed) (get_or-set_same bys at new c.index-acknowledged-place-3.result within) in
     omega (arith, has, replaced, there, c.requires.count, c.count_one-before.ensures.value, c.count_one-after.ensures.value)
+
+pub returns-clause-items : goal.returns-clause-items
+returns-clause-items c = grind (arith, common_steps)

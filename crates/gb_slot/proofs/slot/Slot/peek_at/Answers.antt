@@ -29,3 +29,15 @@ returns c =
     let there = slice_get_read c.as_slice-outgoing.result.now (length c.as_slice-outgoing.result.now) i item refl within c.index-outgoing-self.is in
     let outgoing = ap (λ (v : SlotState). slice_get v.outgoing i) (sym c.self.view_is) ∙ put-at s.outgoing.items c.as_slice-outgoing.result.now i (Some item) c.as_slice-outgoing.ensures.value there in
     waiting-placed now b i c.args.place item.m c.payload_at.result.now c.requires place outgoing (c.payload_at.ensures ∙ ap (λ (v : SlotState). payload_in v.store item.m) c.self.view_is)
+
+pub overflow_add-item : goal.overflow_add-item
+overflow_add-item c =
+    let few = few_wait c.self.inside c.args.self.now c.args.dest.number c.index.result c.self.view_is c.index.ensures.value c.self.invariant.5 in
+    let all = ap (λ (os : List PutOut). length os) c.as_slice-outgoing.ensures.value in
+    omega (arith, few, all, c.requires)
+
+pub offset_bounds-outgoing-self-inside : goal.offset_bounds-outgoing-self-inside
+offset_bounds-outgoing-self-inside c =
+    let few = few_wait c.self.inside c.args.self.now c.args.dest.number c.index.result c.self.view_is c.index.ensures.value c.self.invariant.5 in
+    let all = ap (λ (os : List PutOut). length os) c.as_slice-outgoing.ensures.value in
+    omega (arith, few, all, c.requires)

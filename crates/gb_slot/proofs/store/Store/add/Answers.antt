@@ -1,3 +1,4 @@
+use Rattle.std.proofs.lemmas.Grind.{common_steps}
 use Rattle.std.proofs.Common.{◌≡◌, ◌+◌, ◌∙◌, ap, sym, subst, length, arith}
 use Rattle.std.proofs.lemmas.List.{length-map}
 use Rattle.std.specs.List.{IsDistinct}
@@ -29,3 +30,6 @@ invariant_of-self c =
       c.append.ensures.bytes.0 ∙ (ap (λ n. n + length c.args.payload.now) c.self.invariant.3 ∙ sym (ap total_bytes c.append.ensures.entries ∙ total_pushed (entries_of bytes kept) _)),
       subst (IsDistinct same) (sym c.append.ensures.messages) (once_pushed kept m c.self.invariant.4 (sym (any_entries m bytes kept) ∙ unknown)),
     )
+
+pub append-requires-clause-place : goal.append-requires-clause-place
+append-requires-clause-place c = grind (arith, common_steps)
