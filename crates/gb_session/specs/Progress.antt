@@ -1,11 +1,13 @@
 -- How far a session has come.
-use Rattle.std.specs.Prelude.{◌≡◌, ℕ, ◌+◌, ◌<◌, ◌≤◌, false, List, ◌++◌, length, Option}
+use Rattle.std.specs.Prelude.{◌≡◌, ℕ, ◌+◌, ◌<◌, ◌≤◌, ◌≢◌, false, List, [], ◌++◌, length, Option}
 use Rattle.std.specs.List.{flat_map}
 use Rattle.std.specs.Io.KnownBytes.{Appends, Consumes}
 use Rattle.gb_types.specs.declared.reply.Reply.{Reply}
 use Rattle.gb_types.specs.declared.request.Request.{Request}
 use Rattle.gb_session.specs.Feeds.{FeedValue, HasGiven}
 use Rattle.gb_session.specs.Runs.{IsRun, reply_message}
+use Rattle.gb_session.specs.declared.serve.SessionEnd.{SessionEnd}
+use Rattle.gb_session.specs.declared.serve.SessionEnd.TheVariants.{Finished, Cut}
 use Rattle.gb_session.specs.declared.serve.TheConstants.{REQUESTS}
 
 -- the first of these requests are answered, and the others are left; n were answered before, and m are now
@@ -19,3 +21,9 @@ abbrev pub HasServed : {S : Type 0} → (S → Request → Reply → S → Type 
 HasServed answers s t input unread before after feed count reads =
     (stream : List ℕ) × Consumes input unread stream × (requests : List Request) × (replies : List Reply) × HasGiven stream requests feed × (feed.is_malformed ≡ false)
     × IsRun answers s requests replies t × Appends before after (flat_map reply_message replies) × (count ≡ length requests) × (count < REQUESTS) × (reads ≤ length stream)
+
+-- how a session ends where the input does, behind these bytes of a message
+abbrev pub EndsBehind : List ℕ → SessionEnd → Type 0
+EndsBehind begun Finished = begun ≡ []
+EndsBehind begun Cut = begun ≢ []
+EndsBehind begun other = ⊥
