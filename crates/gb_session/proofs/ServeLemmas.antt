@@ -1,5 +1,5 @@
 -- How each request, each piece and the end move a session on.
-use Rattle.std.proofs.Common.{◌≡◌, ◌≢◌, ℕ, zero, suc, ◌+◌, ◌<◌, ◌≤◌, ◌==◌, Bool, true, false, List, [], ◌∷◌, ◌++◌, Option, Some, length, refl, sym, ap, ◌∙◌, subst, inl, arith}
+use Rattle.std.proofs.Common.{◌≡◌, ◌≢◌, ℕ, zero, suc, ◌+◌, ◌<◌, ◌≤◌, ◌==◌, Bool, true, false, List, [], ◌∷◌, ◌++◌, Option, Some, None, length, refl, sym, ap, ◌∙◌, subst, inl, arith}
 use Rattle.std.specs.List.{flat_map}
 use Rattle.std.specs.Io.KnownBytes.{Appends, Consumes, IsAtEnd}
 use Rattle.std.proofs.lemmas.Bool.{eqb-true, false≢true}
@@ -10,7 +10,7 @@ use Rattle.gb_session.specs.Streams.{SpellsRequests, IsBegun}
 use Rattle.gb_session.specs.Feeds.{FeedValue, HasGiven, StandsAt, Gives}
 use Rattle.gb_session.specs.Runs.{HasAsked, reply_message}
 use Rattle.gb_session.specs.Sessions.{AnswersFirst, EndsPiece, IsSession, IsMetAtLast, malformed_message}
-use Rattle.gb_session.specs.Progress.{EndsBehind, HasAnswered, HasServed}
+use Rattle.gb_session.specs.Progress.{EndsBehind, HasAnswered, HasServed, TellsMalformed}
 use Rattle.gb_session.specs.declared.serve.SessionEnd.{SessionEnd}
 use Rattle.gb_session.specs.declared.serve.SessionEnd.TheVariants.{Finished, Cut, Malformed, Limit}
 use Rattle.gb_session.proofs.RunLemmas.{IsRun-join, replies-join, Appends-none, Appends-join, Consumes-none, Consumes-join}
@@ -155,6 +155,20 @@ ends_in_piece answers s t u input unread unread' before now after feed feed' pie
     ends_malformed answers s t u input unread unread' before now ends.0 after feed feed' piece requests n m reads served read short gives ends.1 ends.2 ends.3
 ends_in_piece answers s t u input unread unread' before now after feed feed' piece requests n m reads Limit served read short gives ends =
     ends_limit answers s t u input unread unread' before now after feed feed' piece requests n m reads served read short gives ends
+
+pub first_asked : {S : Type 0} (answers : S → Request → Reply → S → Type 0) (s t : S) (requests : List Request) (before after : Option (List ℕ)) (n m : ℕ) (is_over : Bool)
+    → AnswersFirst answers s t requests before after n m is_over → HasAsked answers s t
+first_asked answers s t requests before after n m is_over first = (first.0, first.2, first.4)
+
+-- the requests of a piece are answered, and a Malformed message behind them is told of
+pub piece_ends : {S : Type 0} (answers : S → Request → Reply → S → Type 0) (s t : S) (requests : List Request) (before told after : Option (List ℕ)) (n m : ℕ) (met is_malformed : Bool) (ending : Option SessionEnd)
+    → AnswersFirst answers s t requests before told n m false → met ≡ is_malformed → TellsMalformed met told after ending → EndsPiece answers s t requests before after n m is_malformed ending
+piece_ends answers s t requests before told after n m met is_malformed None first same tells =
+    (subst (λ w. AnswersFirst answers s t requests before w n m false) tells.1 first, sym same ∙ tells.0)
+piece_ends answers s t requests before told after n m met is_malformed (Some Malformed) first same tells = (told, first, tells.1, sym same ∙ tells.0)
+piece_ends answers s t requests before told after n m met is_malformed (Some Finished) first same tells = absurd tells
+piece_ends answers s t requests before told after n m met is_malformed (Some Cut) first same tells = absurd tells
+piece_ends answers s t requests before told after n m met is_malformed (Some Limit) first same tells = absurd tells
 
 -- the input ended
 pub ends_at_end : {S : Type 0} (answers : S → Request → Reply → S → Type 0) (s t : S) (input unread unread' before now : Option (List ℕ)) (feed : FeedValue) (piece : List ℕ) (n reads : ℕ) (end : SessionEnd)

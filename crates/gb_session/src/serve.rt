@@ -6,7 +6,7 @@ ghost use Rattle.gb_types.specs.declared.reply.Reply.{Reply as TheReply};
 ghost use Rattle.gb_types.specs.declared.request.Request.{Request as TheRequest};
 ghost use Rattle.gb_session.specs.Feeds.{Gives};
 ghost use Rattle.gb_session.specs.Runs.{reply_message, HasAsked};
-ghost use Rattle.gb_session.specs.Progress.{EndsBehind};
+ghost use Rattle.gb_session.specs.Progress.{EndsBehind, TellsMalformed};
 ghost use Rattle.gb_session.specs.Sessions.{AnswersFirst, EndsPiece, IsSession};
 ghost use Rattle.gb_session.specs.declared.serve.SessionFault.TheVariants.{OutOfMemory as NoMemory};
 
@@ -172,6 +172,21 @@ fn answer_requests<A: Answers, W: Write>(
     Ok(false)
 }
 
+// Tells of a Malformed message, where one was met, and ends the session.
+fn end_piece<W: Write>(
+    alloc: Global,
+    writer: &mut W,
+    malformed: bool,
+) -> Result<Option<SessionEnd>, SessionFault>
+    ensures { IfOk result (TellsMalformed malformed (W.contents writer.old) (W.contents writer.new)) }
+{
+    if malformed {
+        write_reply(alloc, writer, &Reply::Refused(Refusal::Malformed))?;
+        return Ok(Some(SessionEnd::Malformed));
+    }
+    Ok(None)
+}
+
 // Takes a piece of the stream, and answers the requests that are whole now.
 fn take_piece<A: Answers, W: Write>(
     alloc: Global,
@@ -195,11 +210,7 @@ fn take_piece<A: Answers, W: Write>(
     if is_over {
         return Ok(Some(SessionEnd::Limit));
     }
-    if fed.malformed {
-        write_reply(alloc, writer, &Reply::Refused(Refusal::Malformed))?;
-        return Ok(Some(SessionEnd::Malformed));
-    }
-    Ok(None)
+    end_piece(alloc, writer, fed.malformed)
 }
 
 // How a session ends where the input does.
