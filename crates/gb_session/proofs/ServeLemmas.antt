@@ -1,8 +1,8 @@
 -- How each request, each piece and the end move a session on.
-use Rattle.std.proofs.Common.{◌≡◌, ◌≢◌, ℕ, zero, suc, ◌+◌, ◌<◌, ◌≤◌, ◌==◌, Bool, true, false, List, [], ◌∷◌, ◌++◌, Option, Some, length, refl, sym, ap, ◌∙◌, subst, inl, arith}
+use Rattle.std.proofs.Common.{◌≡◌, ◌≢◌, ℕ, zero, suc, ◌+◌, ◌<◌, ◌≤◌, ◌==◌, Bool, true, false, List, [], ◌∷◌, ◌++◌, Option, Some, None, length, refl, sym, ap, ◌∙◌, subst, inl, arith}
 use Rattle.std.specs.List.{flat_map}
-use Rattle.std.specs.Io.KnownBytes.{Appends, Consumes}
-use Rattle.std.proofs.lemmas.Bool.{false≢true}
+use Rattle.std.specs.Io.KnownBytes.{Appends, Consumes, IsAtEnd}
+use Rattle.std.proofs.lemmas.Bool.{eqb-true, false≢true}
 use Rattle.std.proofs.lemmas.List.{append_assoc, append-nil, length-append}
 use Rattle.gb_types.specs.declared.reply.Reply.{Reply}
 use Rattle.gb_types.specs.declared.request.Request.{Request}
@@ -10,7 +10,7 @@ use Rattle.gb_session.specs.Streams.{SpellsRequests, IsBegun}
 use Rattle.gb_session.specs.Feeds.{FeedValue, HasGiven, StandsAt, Gives}
 use Rattle.gb_session.specs.Runs.{HasAsked, reply_message}
 use Rattle.gb_session.specs.Sessions.{AnswersFirst, EndsPiece, IsSession, IsMetAtLast, malformed_message}
-use Rattle.gb_session.specs.Progress.{HasAnswered, HasServed}
+use Rattle.gb_session.specs.Progress.{EndsBehind, HasAnswered, HasServed, TellsMalformed}
 use Rattle.gb_session.specs.declared.serve.SessionEnd.{SessionEnd}
 use Rattle.gb_session.specs.declared.serve.SessionEnd.TheVariants.{Finished, Cut, Malformed, Limit}
 use Rattle.gb_session.proofs.RunLemmas.{IsRun-join, replies-join, Appends-none, Appends-join, Consumes-none, Consumes-join}
@@ -155,6 +155,58 @@ ends_in_piece answers s t u input unread unread' before now after feed feed' pie
     ends_malformed answers s t u input unread unread' before now ends.0 after feed feed' piece requests n m reads served read short gives ends.1 ends.2 ends.3
 ends_in_piece answers s t u input unread unread' before now after feed feed' piece requests n m reads Limit served read short gives ends =
     ends_limit answers s t u input unread unread' before now after feed feed' piece requests n m reads served read short gives ends
+
+pub first_asked : {S : Type 0} (answers : S → Request → Reply → S → Type 0) (s t : S) (requests : List Request) (before after : Option (List ℕ)) (n m : ℕ) (is_over : Bool)
+    → AnswersFirst answers s t requests before after n m is_over → HasAsked answers s t
+first_asked answers s t requests before after n m is_over first = (first.0, first.2, first.4)
+
+-- the requests of a piece are answered, and a Malformed message behind them is told of
+pub piece_ends : {S : Type 0} (answers : S → Request → Reply → S → Type 0) (s t : S) (requests : List Request) (before told after : Option (List ℕ)) (n m : ℕ) (met is_malformed : Bool) (ending : Option SessionEnd)
+    → AnswersFirst answers s t requests before told n m false → met ≡ is_malformed → TellsMalformed met told after ending → EndsPiece answers s t requests before after n m is_malformed ending
+piece_ends answers s t requests before told after n m met is_malformed None first same tells =
+    (subst (λ w. AnswersFirst answers s t requests before w n m false) tells.1 first, sym same ∙ tells.0)
+piece_ends answers s t requests before told after n m met is_malformed (Some Malformed) first same tells = (told, first, tells.1, sym same ∙ tells.0)
+piece_ends answers s t requests before told after n m met is_malformed (Some Finished) first same tells = absurd tells
+piece_ends answers s t requests before told after n m met is_malformed (Some Cut) first same tells = absurd tells
+piece_ends answers s t requests before told after n m met is_malformed (Some Limit) first same tells = absurd tells
+
+-- the input ended
+pub ends_at_end : {S : Type 0} (answers : S → Request → Reply → S → Type 0) (s t : S) (input unread unread' before now : Option (List ℕ)) (feed : FeedValue) (piece : List ℕ) (n reads : ℕ) (end : SessionEnd)
+    → HasServed answers s t input unread before now feed n reads → Consumes unread unread' piece → piece ≡ [] → IsAtEnd unread' → EndsBehind feed.begun end
+    → IsSession answers s t input unread' before now end
+ends_at_end answers s t input unread unread' before now feed piece n reads end served read none over behind = go end behind
+  where
+    rest : (served.4.rest ≡ feed.begun) × IsBegun served.4.rest
+    rest = begun_rest feed served.0 served.2 served.5 served.4
+
+    stream_is : served.0 ++ piece ≡ served.0
+    stream_is = ap (λ x. served.0 ++ x) none ∙ append-nil served.0
+
+    consumed : Consumes input unread' served.0
+    consumed = subst (λ x. Consumes input unread' x) stream_is (Consumes-join input unread unread' served.0 piece served.1 read)
+
+    written : Appends before now (flat_map reply_message served.3 ++ [])
+    written = subst (λ w. Appends before now w) (sym (append-nil (flat_map reply_message served.3))) served.7
+
+    few : length served.2 < 1000000
+    few = omega (arith, served.8, served.9)
+
+    go : (how : SessionEnd) → EndsBehind feed.begun how → IsSession answers s t input unread' before now how
+    go Finished is = (served.0, consumed, served.2, served.3, served.4.rest, served.4.holds, served.6, written, (few, rest.0 ∙ is, over))
+    go Cut is = (served.0, consumed, served.2, served.3, served.4.rest, served.4.holds, served.6, written, (few, (λ e. is (sym rest.0 ∙ e)), rest.1, over))
+    go Malformed is = absurd is
+    go Limit is = absurd is
+
+pub served_asked : {S : Type 0} (answers : S → Request → Reply → S → Type 0) (s t : S) (input unread before now : Option (List ℕ)) (feed : FeedValue) (n reads : ℕ)
+    → HasServed answers s t input unread before now feed n reads → HasAsked answers s t
+served_asked answers s t input unread before now feed n reads served = (served.2, served.3, served.6)
+
+-- a read that gave nothing
+pub no_bytes : (piece : List ℕ) (empty : Bool) → empty ≡ (length piece == 0) → empty ≡ true → piece ≡ []
+no_bytes [] empty is none = refl
+no_bytes (byte ∷ piece) empty is none =
+    let zero_bytes : length (byte ∷ piece) ≡ 0 = eqb-true (length (byte ∷ piece)) 0 (sym is ∙ none) in
+    absurd (omega arith)
 
 -- a read that gave something
 pub some_bytes : (n : ℕ) (empty : Bool) → empty ≡ (n == 0) → empty ≡ false → 0 < n

@@ -6,6 +6,7 @@ ghost use Rattle.gb_types.specs.declared.reply.Reply.{Reply as TheReply};
 ghost use Rattle.gb_types.specs.declared.request.Request.{Request as TheRequest};
 ghost use Rattle.gb_session.specs.Feeds.{Gives};
 ghost use Rattle.gb_session.specs.Runs.{reply_message, HasAsked};
+ghost use Rattle.gb_session.specs.Progress.{EndsBehind, TellsMalformed};
 ghost use Rattle.gb_session.specs.Sessions.{AnswersFirst, EndsPiece, IsSession};
 ghost use Rattle.gb_session.specs.declared.serve.SessionFault.TheVariants.{OutOfMemory as NoMemory};
 
@@ -171,6 +172,21 @@ fn answer_requests<A: Answers, W: Write>(
     Ok(false)
 }
 
+// Tells of a Malformed message, where one was met, and ends the session.
+fn end_piece<W: Write>(
+    alloc: Global,
+    writer: &mut W,
+    malformed: bool,
+) -> Result<Option<SessionEnd>, SessionFault>
+    ensures { IfOk result (TellsMalformed malformed (W.contents writer.old) (W.contents writer.new)) }
+{
+    if malformed {
+        write_reply(alloc, writer, &Reply::Refused(Refusal::Malformed))?;
+        return Ok(Some(SessionEnd::Malformed));
+    }
+    Ok(None)
+}
+
 // Takes a piece of the stream, and answers the requests that are whole now.
 fn take_piece<A: Answers, W: Write>(
     alloc: Global,
@@ -194,11 +210,48 @@ fn take_piece<A: Answers, W: Write>(
     if is_over {
         return Ok(Some(SessionEnd::Limit));
     }
-    if fed.malformed {
-        write_reply(alloc, writer, &Reply::Refused(Refusal::Malformed))?;
-        return Ok(Some(SessionEnd::Malformed));
+    end_piece(alloc, writer, fed.malformed)
+}
+
+// How a session ends where the input does.
+fn end_of_input(feed: &Feed) -> SessionEnd
+    ensures { EndsBehind feed.now.begun result }
+{
+    if feed.is_between() {
+        SessionEnd::Finished
+    } else {
+        SessionEnd::Cut
     }
-    Ok(None)
+}
+
+// Serves a session, with a feed before the first piece and the space for the reads.
+fn serve_pieces<A: Answers, R: Read, W: Write>(
+    alloc: Global,
+    answers: &mut A,
+    reader: &mut R,
+    writer: &mut W,
+    feed: &mut Feed,
+    space: &mut [u8],
+) -> Result<SessionEnd, SessionFault>
+    requires fresh { feed.old ≡ record { begun = []; is_malformed = false } }
+    requires room { length space.old ≡ PIECE }
+    ensures ok { IfOk result (IsSession A.answers answers.old answers.new (R.remaining reader.old)
+        (R.remaining reader.new) (W.contents writer.old) (W.contents writer.new)) }
+    ensures asked { OnErr result (HasAsked A.answers answers.old answers.new) }
+{
+    let mut answered = 0;
+    let mut reads: u64 = 0;
+    'reads: while reads < READS {
+        let piece = read_piece(reader, space)?;
+        if piece.is_empty() {
+            return Ok(end_of_input(feed));
+        }
+        if let Some(end) = take_piece(alloc, answers, writer, feed, piece, &mut answered)? {
+            return Ok(end);
+        }
+        reads += 1;
+    }
+    Ok(SessionEnd::Limit)
 }
 
 /// Answers the requests that the reader gives, and writes each reply with its length, until the input ends, a message is
@@ -215,20 +268,5 @@ pub fn serve<A: Answers, R: Read, W: Write>(
 {
     let mut feed = Feed::new(alloc)?;
     let mut space = make_space(alloc)?;
-    let mut answered = 0;
-    let mut reads: u64 = 0;
-    'reads: while reads < READS {
-        let piece = read_piece(reader, &mut space)?;
-        if piece.is_empty() {
-            if feed.is_between() {
-                return Ok(SessionEnd::Finished);
-            }
-            return Ok(SessionEnd::Cut);
-        }
-        if let Some(end) = take_piece(alloc, answers, writer, &mut feed, piece, &mut answered)? {
-            return Ok(end);
-        }
-        reads += 1;
-    }
-    Ok(SessionEnd::Limit)
+    serve_pieces(alloc, answers, reader, writer, &mut feed, &mut space)
 }
