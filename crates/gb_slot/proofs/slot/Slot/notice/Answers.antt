@@ -1,4 +1,4 @@
-use Rattle.std.proofs.Common.{◌≡◌, true, rules, refl, sym, subst, arith}
+use Rattle.std.proofs.Common.{◌≡◌, true, rules, refl, sym, subst}
 use Rattle.gb_stack.specs.contracts.stack.StackLayer.TheImpl.{meaning-value}
 use Rattle.gb_rules.specs.Group.{is_other}
 use Rattle.gb_slot.specs.Outgoing.{put_messages}

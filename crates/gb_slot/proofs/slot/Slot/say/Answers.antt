@@ -1,4 +1,4 @@
-use Rattle.std.proofs.Common.{◌≡◌, ◌+◌, ◌∷◌, ◌++◌, [], rules, refl, sym, ◌∙◌, ap, subst, arith}
+use Rattle.std.proofs.Common.{◌≡◌, ◌+◌, ◌∷◌, ◌++◌, [], rules, refl, sym, ◌∙◌, ap, subst}
 use Rattle.std.specs.FinSet as set
 use Rattle.gb_stack.specs.contracts.stack.StackLayer.TheImpl.{meaning-value}
 use Rattle.gb_slot.specs.Outgoing.{put_messages}
