@@ -94,7 +94,6 @@ fn step_at(
 }
 
 /// What is seen at a node of so many.
-#[tactic(auto, using(crate::proofs::ObservationLemmas::map_more, crate::proofs::ObservationLemmas::map_none))]
 fn seen_of(alloc: Global, nodes: u8, member: &Member) -> Result<NodeSeen, OutOfMemory>
     requires { nodes ≤ MOST }
     ensures { IfOk result (λ s. (m : Prior) → StandsForMember member.now m → s ≡ record { replies = m.replies; carried = map (λ b. take (m.taken b) (m.put b)) (numbers_below nodes) }) }
@@ -108,7 +107,6 @@ fn seen_of(alloc: Global, nodes: u8, member: &Member) -> Result<NodeSeen, OutOfM
 }
 
 /// What is seen at each of so many nodes.
-#[tactic(auto, using(crate::proofs::ObservationLemmas::map_more, crate::proofs::ObservationLemmas::map_none))]
 fn all_seen(alloc: Global, nodes: u8, group: &[Member]) -> Result<Observation, OutOfMemory>
     requires few { nodes ≤ MOST }
     requires size { length group.now ≡ MOST }

@@ -74,7 +74,6 @@ fn row_after(
 }
 
 /// The items put out to each node, after these too.
-#[tactic(auto, using(crate::proofs::ObservationLemmas::map_more, crate::proofs::ObservationLemmas::map_none))]
 fn rows_after(
     alloc: Global,
     spec: &Spec,
@@ -121,7 +120,6 @@ pub(crate) fn carried_row(
 }
 
 /// The items put out to each node that are carried.
-#[tactic(auto, using(crate::proofs::ObservationLemmas::map_more, crate::proofs::ObservationLemmas::map_none))]
 pub(crate) fn carried_rows(
     alloc: Global,
     put: &[Entries],

@@ -38,6 +38,13 @@ use Rattle.gb_slot.proofs.TakenLemmas.{waiting_few}
 abbrev pub held : Inside → SlotState
 held s = state_of (meaning-value.it s.stack) s
 
+-- memory that was enough still is
+pub still_enough : {need had has : ℕ} → need ≤ had → had ≤ has → need ≤ has
+still_enough was more = omega arith
+
+pub as_much : {need had has : ℕ} → need ≤ had → has ≡ had → need ≤ has
+as_much was same = omega arith
+
 -- the broadcast has room for a call
 pub room_for_call : (s : Inside) → HasMemory s → stack_room s.stack (free_sends s.effects) (free_ups s.effects) 1
 room_for_call s m = stack_whole_room s.stack (limit_of s.spec) (free_sends s.effects) (free_ups s.effects) m.stack m.sends m.ups

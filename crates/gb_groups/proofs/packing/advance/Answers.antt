@@ -1,4 +1,4 @@
-use Rattle.std.proofs.Common.{◌≡◌, ◌<◌, ◌+◌, ◌-◌, List, [], ℕ, length, get_or, drop, Some, None, eq-eqb, ap, sym, refl, ◌∙◌, arith}
+use Rattle.std.proofs.Common.{◌≡◌, ◌<◌, ◌≤◌, ◌+◌, ◌-◌, List, [], ℕ, length, get_or, drop, Some, None, eq-eqb, ap, sym, refl, ◌∙◌, arith}
 use Rattle.std.specs.Prelude.{Option, IsSome, true, false, ◌==◌, if◌then◌else◌}
 use Rattle.std.proofs.lemmas.Bool.{ne_eqb}
 use Rattle.std.proofs.lemmas.List.{length-set, get_or_default}
@@ -139,3 +139,79 @@ returns-then-count-eq0-clause-cursor c =
     let z : 0 ≡ c.args.count = omega arith in
     cursor_idle n c.args.from vs (sym c.in-None.is ∙ next_is c.next_place-2.result (walk c.loop-step.at (queues c.args.dest.number c.loop-step.slots.rows)) vs c.loop-step._step c.next_place-2.ensures.place c.loop-step.invariant.rest ∙ ap (λ k. first_place (drop k vs)) e)
     ∙ ap (λ k. new_cursor n c.args.from k vs) z
+
+-- all items were given
+same_count : {k n : ℕ} → k ≤ n → n ≤ k → k ≡ n
+same_count most least = omega arith
+
+pub returns-in-Some-clause-rows : goal.returns-in-Some-clause-rows
+returns-in-Some-clause-rows c = rw (← same_count c.loop-step.auto._step-end c.loop-step-test.false) c.loop-step.invariant.rows
+
+pub returns-in-Some-clause-written : goal.returns-in-Some-clause-written
+returns-in-Some-clause-written c = rw (← same_count c.loop-step.auto._step-end c.loop-step-test.false) c.loop-step.invariant.wrote.written
+
+pub returns-in-Some-clause-fit : goal.returns-in-Some-clause-fit
+returns-in-Some-clause-fit c = rw (← same_count c.loop-step.auto._step-end c.loop-step-test.false) c.loop-step.invariant.wrote.fit
+
+pub returns-in-Some-clause-len : goal.returns-in-Some-clause-len
+returns-in-Some-clause-len c = rw (← same_count c.loop-step.auto._step-end c.loop-step-test.false) c.loop-step.invariant.wrote.size
+
+pub returns-in-Some-clause-index : goal.returns-in-Some-clause-index
+returns-in-Some-clause-index c = c.loop-step.invariant.index
+
+pub returns-in-Some-clause-capacity : goal.returns-in-Some-clause-capacity
+returns-in-Some-clause-capacity c = c.loop-step.invariant.capacity
+
+pub returns-then-count-eq0-clause-rows : goal.returns-then-count-eq0-clause-rows
+returns-then-count-eq0-clause-rows c = rw (← same_count c.loop-step.auto._step-end c.loop-step-test.false) c.loop-step.invariant.rows
+
+pub returns-then-count-eq0-clause-written : goal.returns-then-count-eq0-clause-written
+returns-then-count-eq0-clause-written c = rw (← same_count c.loop-step.auto._step-end c.loop-step-test.false) c.loop-step.invariant.wrote.written
+
+pub returns-then-count-eq0-clause-fit : goal.returns-then-count-eq0-clause-fit
+returns-then-count-eq0-clause-fit c = rw (← same_count c.loop-step.auto._step-end c.loop-step-test.false) c.loop-step.invariant.wrote.fit
+
+pub returns-then-count-eq0-clause-len : goal.returns-then-count-eq0-clause-len
+returns-then-count-eq0-clause-len c = rw (← same_count c.loop-step.auto._step-end c.loop-step-test.false) c.loop-step.invariant.wrote.size
+
+pub returns-then-count-eq0-clause-index : goal.returns-then-count-eq0-clause-index
+returns-then-count-eq0-clause-index c = c.loop-step.invariant.index
+
+pub returns-then-count-eq0-clause-capacity : goal.returns-then-count-eq0-clause-capacity
+returns-then-count-eq0-clause-capacity c = c.loop-step.invariant.capacity
+
+pub returns-then-at-len-clause-rows : goal.returns-then-at-len-clause-rows
+returns-then-at-len-clause-rows c = rw (← same_count c.loop-step.auto._step-end c.loop-step-test.false) c.loop-step.invariant.rows
+
+pub returns-then-at-len-clause-written : goal.returns-then-at-len-clause-written
+returns-then-at-len-clause-written c = rw (← same_count c.loop-step.auto._step-end c.loop-step-test.false) c.loop-step.invariant.wrote.written
+
+pub returns-then-at-len-clause-fit : goal.returns-then-at-len-clause-fit
+returns-then-at-len-clause-fit c = rw (← same_count c.loop-step.auto._step-end c.loop-step-test.false) c.loop-step.invariant.wrote.fit
+
+pub returns-then-at-len-clause-len : goal.returns-then-at-len-clause-len
+returns-then-at-len-clause-len c = rw (← same_count c.loop-step.auto._step-end c.loop-step-test.false) c.loop-step.invariant.wrote.size
+
+pub returns-then-at-len-clause-index : goal.returns-then-at-len-clause-index
+returns-then-at-len-clause-index c = c.loop-step.invariant.index
+
+pub returns-then-at-len-clause-capacity : goal.returns-then-at-len-clause-capacity
+returns-then-at-len-clause-capacity c = c.loop-step.invariant.capacity
+
+pub returns-else-at-len-clause-rows : goal.returns-else-at-len-clause-rows
+returns-else-at-len-clause-rows c = rw (← same_count c.loop-step.auto._step-end c.loop-step-test.false) c.loop-step.invariant.rows
+
+pub returns-else-at-len-clause-written : goal.returns-else-at-len-clause-written
+returns-else-at-len-clause-written c = rw (← same_count c.loop-step.auto._step-end c.loop-step-test.false) c.loop-step.invariant.wrote.written
+
+pub returns-else-at-len-clause-fit : goal.returns-else-at-len-clause-fit
+returns-else-at-len-clause-fit c = rw (← same_count c.loop-step.auto._step-end c.loop-step-test.false) c.loop-step.invariant.wrote.fit
+
+pub returns-else-at-len-clause-len : goal.returns-else-at-len-clause-len
+returns-else-at-len-clause-len c = rw (← same_count c.loop-step.auto._step-end c.loop-step-test.false) c.loop-step.invariant.wrote.size
+
+pub returns-else-at-len-clause-index : goal.returns-else-at-len-clause-index
+returns-else-at-len-clause-index c = c.loop-step.invariant.index
+
+pub returns-else-at-len-clause-capacity : goal.returns-else-at-len-clause-capacity
+returns-else-at-len-clause-capacity c = c.loop-step.invariant.capacity

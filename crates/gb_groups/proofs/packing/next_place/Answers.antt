@@ -1,3 +1,5 @@
+use Rattle.std.proofs.lemmas.Grind.{common_steps}
+use Rattle.std.proofs.Common.{arith}
 use Rattle.gb_groups.proofs.BusyLemmas.{busy_at, place_of, same_next, same_early, none_next}
 use Rattle.gb_groups.proofs.packing.next_place.Goals as goal
 
@@ -19,3 +21,6 @@ returns-in-Some-next-clause-same c = same_early c.args.dest.number c.args.from c
 
 pub returns-in-None-next-clause-place : goal.returns-in-None-next-clause-place
 returns-in-None-next-clause-place c = none_next c.args.dest.number c.args.from c.args.busy.now c.args.slots.now.rows c.requires.index c.in-None-next.ensures
+
+pub returns-in-Some-clause-within : goal.returns-in-Some-clause-within
+returns-in-Some-clause-within c = grind (arith, common_steps)

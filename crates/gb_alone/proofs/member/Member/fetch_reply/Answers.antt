@@ -1,4 +1,4 @@
-use Rattle.std.proofs.Common.{◌≡◌, List, ◌∙◌, ap, sym}
+use Rattle.std.proofs.Common.{List, ◌∙◌, ap, sym}
 use Rattle.gb_history.specs.History.{log_of}
 use Rattle.gb_history.specs.declared.call.GroupCall.{GroupCall}
 use Rattle.gb_rules.specs.Group.{Shown, fetch_answer}

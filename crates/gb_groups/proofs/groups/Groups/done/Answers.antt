@@ -1,4 +1,5 @@
-use Rattle.std.proofs.Common.{subst, refl}
+use Rattle.std.proofs.lemmas.Grind.{common_steps}
+use Rattle.std.proofs.Common.{subst, refl, arith}
 use Rattle.gb_slot.specs.Slot.{slot_done}
 use Rattle.gb_groups.specs.SlotsValue.{row_at, on_slot}
 use Rattle.gb_groups.specs.AtAddress.{OthersKept}
@@ -20,3 +21,6 @@ returns-in-Some-clause-others c =
     let rows = c.self.inside.slots.rows in
     subst (λ (v : GroupsValue). OthersKept c.args.addr v.rows c.done.new.self.rows) c.self.view_is
     (rw c.done.ensures (others_kept c.args.addr rows c.in-Some.place (slot_done c.args.dest c.args.m) c.in-Some.ensures.place))
+
+pub returns-in-Some-clause-rows : goal.returns-in-Some-clause-rows
+returns-in-Some-clause-rows c = grind (arith, common_steps)

@@ -1,4 +1,5 @@
-use Rattle.std.proofs.Common.{ap, subst, ◌∙◌}
+use Rattle.std.proofs.lemmas.Grind.{common_steps}
+use Rattle.std.proofs.Common.{ap, subst, ◌∙◌, arith}
 use Rattle.gb_rules.specs.Group.{Shown, say_answer}
 use Rattle.gb_slot.specs.Slot.{slot_said}
 use Rattle.gb_groups.specs.SlotsValue.{row_at, on_slot}
@@ -31,3 +32,6 @@ pub returns-in-Some-clause-reply : goal.returns-in-Some-clause-reply
 returns-in-Some-clause-reply c =
     let answer = λ (s : Shown). say_answer s c.args.payload.now in
     c.say-reply.ensures.reply ∙ ap (reply_at answer c.self.inside.slots.rows) c.in-Some.ensures.place ∙ ap (λ (v : GroupsValue). group_reply answer c.args.addr v.rows) c.self.view_is
+
+pub returns-in-Some-clause-rows : goal.returns-in-Some-clause-rows
+returns-in-Some-clause-rows c = grind (arith, common_steps)

@@ -1,7 +1,8 @@
+use Rattle.std.proofs.lemmas.Grind.{common_steps}
 use Rattle.gb_slot.specs.Slot.{slot_came}
 use Rattle.gb_groups.proofs.StepLemmas.{many-came, taken-came, short-came}
 use Rattle.gb_types.specs.declared.entry.Entry.{Entry}
-use Rattle.std.proofs.Common.{ap, map, ◌∙◌, length}
+use Rattle.std.proofs.Common.{ap, map, ◌∙◌, length, arith}
 use Rattle.std.proofs.Math.ListN.{set}
 use Rattle.gb_groups.specs.SlotsValue.{SlotsValue, row_at, on_slot}
 use Rattle.gb_groups.specs.Slots.{row_of}
@@ -24,3 +25,9 @@ returns-in-Some-get_mut-clause-quiet c = λ quiet dest.
     let v = c.in-Some-get_mut.slot.now in
     let x : Entry = record { origin = c.args.origin; seq = c.args.seq; payload = c.args.payload.now } in
     rw (← c.self.view_is) (many-came c.args.from x (row_at (map (row_of c.self.inside.slots) c.self.inside.places.entries) c.args.place) v c.came.new.self dest (slot_is c.self.inside.slots c.self.inside.places.entries c.args.place c.in-Some.key v c.in-Some.ensures c.in-Some-get_mut.ensures.value) c.came.ensures.state (c.came.ensures.quiet quiet dest))
+
+pub returns-in_default-get_mut-clause-rows : goal.returns-in_default-get_mut-clause-rows
+returns-in_default-get_mut-clause-rows c = grind (arith, common_steps)
+
+pub returns-in_default-clause-rows : goal.returns-in_default-clause-rows
+returns-in_default-clause-rows c = grind (arith, common_steps)

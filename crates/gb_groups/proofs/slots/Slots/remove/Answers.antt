@@ -1,4 +1,5 @@
-use Rattle.std.proofs.Common.{◌≡◌, map, ap, sym, subst, ◌∙◌}
+use Rattle.std.proofs.lemmas.Grind.{common_steps}
+use Rattle.std.proofs.Common.{◌≡◌, map, ap, sym, subst, ◌∙◌, arith}
 use Rattle.std.proofs.Math.ListN.{set}
 use Rattle.slab.specs.Slab.{get}
 use Rattle.indexmap.specs.IndexMap.{with_value_at}
@@ -42,3 +43,9 @@ returns-clause-rows c =
     let without : Without slots c.try_remove.new.self key = record { others = λ k ne. c.try_remove.ensures.updates.others k ne ∙ ap (λ (i : Inside). get i.slots k) at } in
     let after = dropped es slots c.try_remove.new.self p key without c.self.invariant c.in-Some.ensures in
     ap (λ (i : Inside). map (row_of c.try_remove.new.self) i.places.entries) at ∙ after.rows ∙ ap (λ (w : SlotsValue). set w.rows p (gone (row_at w.rows p))) c.self.view_is
+
+pub returns-in_default-clause-reply : goal.returns-in_default-clause-reply
+returns-in_default-clause-reply c = grind (arith, common_steps)
+
+pub returns-in_default-clause-rows : goal.returns-in_default-clause-rows
+returns-in_default-clause-rows c = grind (arith, common_steps)

@@ -1,9 +1,10 @@
+use Rattle.std.proofs.lemmas.Grind.{common_steps}
 use Rattle.gb_rules.specs.Group.{Shown, say_answer}
 use Rattle.gb_rules.specs.Replied.{said_reply}
 use Rattle.gb_slot.specs.Slot.{slot_said}
 use Rattle.gb_types.specs.declared.reply.Reply.{Reply}
 use Rattle.gb_groups.proofs.StepLemmas.{taken-said, short-said}
-use Rattle.std.proofs.Common.{◌≡◌, Some, ap, sym, ◌∙◌, length}
+use Rattle.std.proofs.Common.{◌≡◌, Some, ap, sym, ◌∙◌, length, arith}
 use Rattle.std.proofs.Math.ListN.{set}
 use Rattle.gb_groups.specs.SlotsValue.{SlotsValue, row_at, on_slot, unless_gone}
 use Rattle.gb_groups.proofs.SlotsLemmas.{changed, slot_is}
@@ -28,3 +29,9 @@ returns-in-Some-get_mut-clause-reply c =
     let there : (row_at c.args.self.now.rows c.args.place).slot ≡ Some v =
     ap (λ (w : SlotsValue). (row_at w.rows c.args.place).slot) (sym c.self.view_is) ∙ slot_is c.self.inside.slots c.self.inside.places.entries c.args.place c.in-Some.key v c.in-Some.ensures c.in-Some-get_mut.ensures.value in
     c.said.ensures ∙ c.say.ensures.answer ∙ sym (ap (unless_gone answer) there)
+
+pub returns-clause-reply : goal.returns-clause-reply
+returns-clause-reply c = grind (arith, common_steps)
+
+pub returns-clause-rows : goal.returns-clause-rows
+returns-clause-rows c = grind (arith, common_steps)

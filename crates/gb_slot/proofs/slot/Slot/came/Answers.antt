@@ -1,4 +1,4 @@
-use Rattle.std.proofs.Common.{◌≡◌, ◌&&◌, length, rules, refl, sym, ◌∙◌, subst, arith}
+use Rattle.std.proofs.Common.{◌≡◌, ◌&&◌, length, refl, sym, ◌∙◌, subst, arith}
 use Rattle.std.proofs.lemmas.Bool.Decides.{nat_tests}
 use Rattle.std.proofs.lemmas.List.{length-map}
 use Rattle.gb_types.specs.Entry.{message_of}
@@ -9,7 +9,7 @@ use Rattle.gb_history.specs.Messages.{with_new, entry_in}
 use Rattle.gb_slot.specs.Outgoing.{put_messages}
 use Rattle.gb_slot.specs.Reached.{IsReached, limit_of}
 use Rattle.gb_slot.specs.Slot.{slot_called}
-use Rattle.gb_slot.proofs.MemoryLemmas.{held, room_for_call, places_in_log, places_put_out, place_in_store, bytes_in_store, item_stays, new_known}
+use Rattle.gb_slot.proofs.MemoryLemmas.{held, room_for_call, places_in_log, places_put_out, place_in_store, bytes_in_store, item_stays, new_known, still_enough, as_much}
 use Rattle.gb_slot.proofs.PageLemmas.{same_rest}
 use Rattle.gb_slot.proofs.ReachedLemmas.{reached_came, kept_item}
 use Rattle.gb_slot.proofs.slot.Slot.came.Goals as goal
@@ -80,21 +80,21 @@ invariant_of-self c =
     let kept = c.take_in.ensures in
     let is : (slot_called (Came c.args.from (message_of x)) (with_new s.store.entries x) (held s)) ≡ record (held s) { stack = meaning-value.it c.take_call.new.stack; arrivals = c.take_in.new.self.arrivals; store = c.take_in.new.self.entries; log = c.take_call.new.log.items; outgoing = put_messages c.take_call.new.outgoing.items } =
     sym (λ i. record (held s) { stack = called.meaning i; arrivals = kept.arrivals i; store = kept.entries i; log = called.log i; outgoing = called.outgoing i }) in (
-      search rules,
-      search rules,
-      search rules,
-      search rules,
-      search rules,
+      c.self.invariant.0,
+      c.self.invariant.1,
+      c.self.invariant.2,
+      c.self.invariant.3,
+      c.self.invariant.4,
       subst IsReached is next,
       record {
         stack = called.whole (limit_of s.spec) m.stack (λ i. facts.0 i && facts.1 i);
         empty = called.empty;
-        sends = (let a = m.sends in let b = called.free_sends in omega (arith, a, b));
-        ups = (let a = m.ups in let b = called.free_ups in omega (arith, a, b));
-        log = (let a = m.log in let b = called.log_memory in omega (arith, a, b));
-        outgoing = (let a = m.outgoing in let b = called.outgoing_memory in omega (arith, a, b));
-        places = (let a = m.places in let b = kept.memory.0 in omega (arith, a, b));
-        bytes = (let a = m.bytes in let b = kept.memory.1 in omega (arith, a, b));
+        sends = still_enough m.sends called.free_sends;
+        ups = still_enough m.ups called.free_ups;
+        log = as_much m.log called.log_memory;
+        outgoing = as_much m.outgoing called.outgoing_memory;
+        places = still_enough m.places kept.memory.0;
+        bytes = still_enough m.bytes kept.memory.1;
         acknowledged = m.acknowledged;
       },
     )

@@ -1,9 +1,9 @@
-use Rattle.std.proofs.Common.{◌≡◌, true, rules, refl, sym, subst, arith}
+use Rattle.std.proofs.Common.{◌≡◌, true, rules, refl, sym, subst}
 use Rattle.gb_stack.specs.contracts.stack.StackLayer.TheImpl.{meaning-value}
 use Rattle.gb_rules.specs.Group.{is_other}
 use Rattle.gb_slot.specs.Outgoing.{put_messages}
 use Rattle.gb_slot.specs.Reached.{IsReached, limit_of}
-use Rattle.gb_slot.proofs.MemoryLemmas.{held, room_for_call, places_in_log, places_put_out}
+use Rattle.gb_slot.proofs.MemoryLemmas.{held, room_for_call, places_in_log, places_put_out, still_enough, as_much}
 use Rattle.gb_slot.proofs.ReachedLemmas.{noticed_by, reached_noticed}
 use Rattle.gb_slot.proofs.slot.Slot.notice.Goals as goal
 
@@ -33,19 +33,19 @@ invariant_of-self c =
     let called = c.take_call.ensures in
     let is : noticed_by c.args.who (held s) ≡ record (held s) { noticed = c.insert.new.self; stack = meaning-value.it c.take_call.new.stack; log = c.take_call.new.log.items; outgoing = put_messages c.take_call.new.outgoing.items } =
     sym (λ i. record (held s) { noticed = c.insert.ensures i; stack = called.meaning i; log = called.log i; outgoing = called.outgoing i }) in (
-      search rules,
-      search rules,
-      search rules,
-      search rules,
+      c.self.invariant.0,
+      c.self.invariant.1,
+      c.self.invariant.2,
+      c.self.invariant.3,
       search rules,
       subst IsReached is next,
       record {
         stack = called.whole (limit_of s.spec) m.stack refl;
         empty = called.empty;
-        sends = (let a = m.sends in let b = called.free_sends in omega (arith, a, b));
-        ups = (let a = m.ups in let b = called.free_ups in omega (arith, a, b));
-        log = (let a = m.log in let b = called.log_memory in omega (arith, a, b));
-        outgoing = (let a = m.outgoing in let b = called.outgoing_memory in omega (arith, a, b));
+        sends = still_enough m.sends called.free_sends;
+        ups = still_enough m.ups called.free_ups;
+        log = as_much m.log called.log_memory;
+        outgoing = as_much m.outgoing called.outgoing_memory;
         places = m.places;
         bytes = m.bytes;
         acknowledged = m.acknowledged;

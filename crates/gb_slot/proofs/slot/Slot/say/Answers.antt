@@ -1,11 +1,11 @@
-use Rattle.std.proofs.Common.{◌≡◌, ◌+◌, ◌∷◌, ◌++◌, [], rules, refl, sym, ◌∙◌, ap, subst, arith}
+use Rattle.std.proofs.Common.{◌≡◌, ◌+◌, ◌∷◌, ◌++◌, [], rules, refl, sym, ◌∙◌, ap, subst}
 use Rattle.std.specs.FinSet as set
 use Rattle.gb_stack.specs.contracts.stack.StackLayer.TheImpl.{meaning-value}
 use Rattle.gb_slot.specs.Outgoing.{put_messages}
 use Rattle.gb_slot.specs.Reached.{IsReached, limit_of}
 use Rattle.gb_slot.specs.Slot.{own_entry, slot_said}
 use Rattle.gb_types.specs.declared.reply.Reply.TheVariants.{Said}
-use Rattle.gb_slot.proofs.MemoryLemmas.{held, room_for_call, places_in_log, places_put_out, place_in_store, bytes_in_store, said_leads}
+use Rattle.gb_slot.proofs.MemoryLemmas.{held, room_for_call, places_in_log, places_put_out, place_in_store, bytes_in_store, said_leads, still_enough, as_much}
 use Rattle.gb_slot.proofs.ReachedLemmas.{own_unknown, own_counted}
 use Rattle.gb_slot.proofs.slot.Slot.say.Goals as goal
 
@@ -51,20 +51,20 @@ invariant_of-self c =
     let is : slot_said c.args.payload.now (Said (s.said + 1)) (held s) ≡ record (held s) { stack = meaning-value.it c.take_call.new.stack; arrivals = c.push.new.self.arrivals; said = s.said + 1; store = c.push.new.self.entries; log = c.take_call.new.log.items; outgoing = put_messages c.take_call.new.outgoing.items; acknowledged = c.add_said-self-inside.new.acknowledged.items } =
     sym (λ i. record (held s) { stack = called.meaning i; arrivals = kept.arrivals i; said = s.said + 1; store = kept.entries i; log = called.log i; outgoing = called.outgoing i; acknowledged = acknowledged i }) in (
       search rules,
-      search rules,
-      search rules,
+      c.self.invariant.1,
+      c.self.invariant.2,
       search rules,
       search rules,
       subst IsReached is next,
       record {
         stack = called.whole (limit_of s.spec) m.stack (own_counted (held s) c.args.payload.now c.self.invariant.5.member (search rules));
         empty = called.empty;
-        sends = (let a = m.sends in let b = called.free_sends in omega (arith, a, b));
-        ups = (let a = m.ups in let b = called.free_ups in omega (arith, a, b));
-        log = (let a = m.log in let b = called.log_memory in omega (arith, a, b));
-        outgoing = (let a = m.outgoing in let b = called.outgoing_memory in omega (arith, a, b));
-        places = (let a = m.places in let b = kept.memory.0 in omega (arith, a, b));
-        bytes = (let a = m.bytes in let b = kept.memory.1 in omega (arith, a, b));
-        acknowledged = (let a = m.acknowledged in let b = added.memory in omega (arith, a, b));
+        sends = still_enough m.sends called.free_sends;
+        ups = still_enough m.ups called.free_ups;
+        log = as_much m.log called.log_memory;
+        outgoing = as_much m.outgoing called.outgoing_memory;
+        places = still_enough m.places kept.memory.0;
+        bytes = still_enough m.bytes kept.memory.1;
+        acknowledged = as_much m.acknowledged added.memory;
       },
     )

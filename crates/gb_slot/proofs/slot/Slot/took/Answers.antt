@@ -1,4 +1,4 @@
-use Rattle.std.proofs.Common.{◌≡◌, ◌+◌, ◌≤◌, length, rules, sym, subst, arith}
+use Rattle.std.proofs.Common.{◌≡◌, ◌+◌, ◌≤◌, length, sym, subst, arith}
 use Rattle.std.specs.Prelude.{slice_index_or, slice_set}
 use Rattle.gb_slot.specs.Reached.{IsReached}
 use Rattle.gb_slot.specs.Slot.{waiting, slot_took}
@@ -24,11 +24,11 @@ invariant_of-self c =
     let is : slot_took b c.args.count (held s) ≡ record (held s) { taken = slice_set s.taken c.index.result (slice_index_or s.taken c.index.result 0 + c.args.count) } =
     sym (λ i. record (held s) { taken = slice_set s.taken (c.index.ensures.value i) (slice_index_or s.taken (c.index.ensures.value i) 0 + c.args.count) }) in
     let m = c.self.invariant.6 in (
-      search rules,
-      search rules,
-      search rules,
-      search rules,
-      search rules,
+      c.self.invariant.0,
+      c.self.invariant.1,
+      c.self.invariant.2,
+      c.self.invariant.3,
+      c.self.invariant.4,
       subst IsReached is next,
       record {
         stack = m.stack;

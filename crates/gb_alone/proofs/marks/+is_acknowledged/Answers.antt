@@ -1,0 +1,9 @@
+use Rattle.std.proofs.lemmas.Grind.{common_steps}
+use Rattle.std.proofs.Common.{arith}
+use Rattle.gb_alone.proofs.marks.+is_acknowledged.Goals as goal
+
+pub returns-in-empty : goal.returns-in-empty
+returns-in-empty t c = grind (arith, common_steps)
+
+pub returns-else-is_marked : goal.returns-else-is_marked
+returns-else-is_marked t c = grind (arith, common_steps)
