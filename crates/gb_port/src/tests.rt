@@ -14,8 +14,18 @@ use std::time::Duration;
 // The port of node 0's socket in the tests.
 const BASE: u16 = 47_310;
 
-// What a receiving answered: a packet's first byte, `-` for an empty packet, `.` for nothing there, `!` for a fault.
-fn seen(answer: Result<Option<Vec<u8>>, PortFault>) -> u8 {
+// What a port answers to a packet: `+` for sent, `.` for no room, `!` for a fault of the device, `?` for want of memory.
+fn sent<P: Port>(port: &mut P, to: NodeId, packet: &[u8]) -> u8 {
+    match port.send(to, packet) {
+        Ok(true) => b'+',
+        Ok(false) => b'.',
+        Err(PortFault::Device) => b'!',
+        Err(PortFault::OutOfMemory) => b'?',
+    }
+}
+
+// What was received: a packet's first byte, `-` for an empty packet, `.` for nothing there, `!` for a fault.
+fn seen(answer: &Result<Option<Vec<u8>>, PortFault>) -> u8 {
     match answer {
         Ok(Some(packet)) => match packet.as_slice() {
             [] => b'-',
@@ -26,91 +36,118 @@ fn seen(answer: Result<Option<Vec<u8>>, PortFault>) -> u8 {
     }
 }
 
-// What a sending answered: `+` for sent, `.` for no room, `!` for a fault of the device, `?` for want of memory.
-fn told(answer: Result<bool, PortFault>) -> u8 {
-    match answer {
-        Ok(true) => b'+',
-        Ok(false) => b'.',
-        Err(PortFault::Device) => b'!',
-        Err(PortFault::OutOfMemory) => b'?',
-    }
+// What a port answers when it is asked for a packet, as `seen` has it.
+fn received<P: Port>(port: &mut P) -> u8 {
+    seen(&port.recv())
 }
 
-// A mesh of three nodes.
-fn three(alloc: Global) -> Result<(RingPort, RingPort, RingPort), OutOfMemory> {
-    let mut ports = RingPort::mesh(alloc, 3)?;
-    match (ports.pop(), ports.pop(), ports.pop()) {
-        (Some(c), Some(b), Some(a)) => Ok((a, b, c)),
-        _ => Err(OutOfMemory),
-    }
-}
-
+// A port may be moved to another thread. How many failures it counted.
 fn may_move<P: Port + Send>(port: &P) -> u64 {
     port.failures()
 }
 
+// A call of the port of the node that is named first, and what it answers.
+#[derive(Clone, Copy)]
+enum Call {
+    // A packet to the second node.
+    Send(u8, u8, &'static [u8], u8),
+    Receive(u8, u8),
+    Failures(u8, u64),
+}
+
+// Whether a port answers the call so.
+fn is_answered(ports: &mut [RingPort], call: Call) -> bool {
+    match call {
+        Call::Send(node, to, packet, answer) => {
+            match (ports.get_mut(usize::from(node)), NodeId::from_number(to)) {
+                (Some(port), Some(to)) => sent(port, to, packet) == answer,
+                _ => false,
+            }
+        }
+        Call::Receive(node, answer) => match ports.get_mut(usize::from(node)) {
+            Some(port) => received(port) == answer,
+            None => false,
+        },
+        Call::Failures(node, count) => match ports.get(usize::from(node)) {
+            Some(port) => may_move(port) == count,
+            None => false,
+        },
+    }
+}
+
+// Whether ports answer these calls so, one after another.
+fn are_answered(ports: &mut [RingPort], calls: &[Call]) -> bool {
+    for call in calls {
+        if !is_answered(ports, *call) {
+            return false;
+        }
+    }
+    true
+}
+
+// The packets of three nodes. The rings to a node are looked at in turn, and there is no node 3.
+const CROSSING: &[Call] = &[
+    Call::Send(0, 1, b"1", b'+'),
+    Call::Send(0, 1, b"2", b'+'),
+    Call::Send(2, 1, b"3", b'+'),
+    Call::Send(1, 0, b"", b'+'),
+    Call::Send(1, 2, b"4", b'+'),
+    Call::Send(1, 1, b"5", b'+'),
+    Call::Send(1, 3, b"6", b'!'),
+    Call::Receive(1, b'1'),
+    Call::Receive(1, b'5'),
+    Call::Receive(1, b'3'),
+    Call::Receive(1, b'2'),
+    Call::Receive(1, b'.'),
+    Call::Receive(0, b'-'),
+    Call::Receive(0, b'.'),
+    Call::Receive(2, b'4'),
+    Call::Receive(2, b'.'),
+    Call::Failures(0, 0),
+    Call::Failures(1, 1),
+];
+
 #[test]
 fn packets_cross_a_mesh_in_order(rt: HostRuntime) -> Result<(), Fail> {
-    let (mut a, mut b, mut c) = three(rt.alloc())?;
-    let (to_a, to_b, to_c) = (NodeId::new(0), NodeId::new(1), NodeId::new(2));
-    let sent = [
-        told(a.send(to_b, b"1")),
-        told(a.send(to_b, b"2")),
-        told(c.send(to_b, b"3")),
-        told(b.send(to_a, b"")),
-        told(b.send(to_c, b"4")),
-        told(b.send(to_b, b"5")),
-        told(b.send(NodeId::new(3), b"6")),
-    ];
-    assert!(rt; sent == *b"++++++!");
-    let at_b = [
-        seen(b.recv()),
-        seen(b.recv()),
-        seen(b.recv()),
-        seen(b.recv()),
-        seen(b.recv()),
-    ];
-    assert!(rt; at_b == *b"1532.");
-    let at_others = [
-        seen(a.recv()),
-        seen(a.recv()),
-        seen(c.recv()),
-        seen(c.recv()),
-    ];
-    assert!(rt; at_others == *b"-.4.");
-    assert!(rt; may_move(&a) == 0 && may_move(&b) == 1);
+    let mut ports = RingPort::mesh(rt.alloc(), 3)?;
+    assert!(rt; are_answered(&mut ports, CROSSING));
     Ok(())
 }
 
+// Node 1's packets fill the ring from node 0.
+const FULL: &[Call] = &[
+    Call::Send(0, 1, b"2", b'.'),
+    Call::Send(0, 2, b"2", b'+'),
+    Call::Receive(1, b'1'),
+    Call::Send(0, 1, b"3", b'+'),
+    Call::Failures(0, 0),
+];
+
 #[test]
 fn the_packet_after_sixty_four_has_no_room(rt: HostRuntime) -> Result<(), Fail> {
-    let (mut a, mut b, _) = three(rt.alloc())?;
-    let to_b = NodeId::new(1);
+    let mut ports = RingPort::mesh(rt.alloc(), 3)?;
     for _ in 0..SLOTS {
-        assert!(rt; told(a.send(to_b, b"1")) == b'+');
+        assert!(rt; is_answered(&mut ports, Call::Send(0, 1, b"1", b'+')));
     }
-    assert!(rt; told(a.send(to_b, b"2")) == b'.');
-    assert!(rt; told(a.send(NodeId::new(2), b"2")) == b'+');
-    assert!(rt; seen(b.recv()) == b'1');
-    assert!(rt; told(a.send(to_b, b"3")) == b'+');
-    assert!(rt; a.failures() == 0);
+    assert!(rt; are_answered(&mut ports, FULL));
     Ok(())
 }
+
+const TWO_FOR_THE_FIRST: &[Call] = &[Call::Send(1, 0, b"1", b'+'), Call::Send(1, 0, b"2", b'+')];
 
 // Two packets come to a port that fails at a call. What it tells of two packets to another port and of three receivings,
 // in turn, and how many failures it counted.
 fn calls(alloc: Global, at: u64) -> Result<([u8; 5], u64), OutOfMemory> {
-    let (a, mut b, _) = three(alloc)?;
-    let (to_a, to_b) = (NodeId::new(0), NodeId::new(1));
-    let _ = b.send(to_a, b"1");
-    let _ = b.send(to_a, b"2");
+    let mut ports = RingPort::mesh(alloc, 2)?;
+    let _ = are_answered(&mut ports, TWO_FOR_THE_FIRST);
+    let (to_b, a) = (NodeId::new(1), ports.swap_remove(0));
     let mut a = FailAt::new(a, at);
     let told = [
-        told(a.send(to_b, b"3")),
-        seen(a.recv()),
-        told(a.send(to_b, b"4")),
-        seen(a.recv()),
-        seen(a.recv()),
+        sent(&mut a, to_b, b"3"),
+        received(&mut a),
+        sent(&mut a, to_b, b"4"),
+        received(&mut a),
+        received(&mut a),
     ];
     Ok((told, a.failures()))
 }
@@ -142,7 +179,7 @@ fn wait_for(rt: &HostRuntime, port: &mut UdpPort) -> (u8, usize) {
             Ok(None) => 0,
             Err(_) => 0,
         };
-        let first = seen(answer);
+        let first = seen(&answer);
         if first != b'.' {
             return (first, len);
         }
@@ -162,18 +199,18 @@ fn packets_cross_sockets(rt: HostRuntime) -> Result<(), Fail> {
         Err(fault) => fault == BindFault::Port,
     };
     assert!(rt; is_refused);
-    assert!(rt; seen(b.recv()) == b'.');
-    assert!(rt; told(a.send(to_b, b"1 packet")) == b'+');
+    assert!(rt; received(&mut b) == b'.');
+    assert!(rt; sent(&mut a, to_b, b"1 packet") == b'+');
     assert!(rt; wait_for(&rt, &mut b) == (b'1', 8));
     // A datagram of one byte more than is kept is cut.
     let long = vec![in rt.alloc(); b'2'; SPACE + 1]?;
-    assert!(rt; told(b.send(to_a, &long)) == b'+');
+    assert!(rt; sent(&mut b, to_a, &long) == b'+');
     assert!(rt; wait_for(&rt, &mut a) == (b'2', SPACE));
-    assert!(rt; seen(a.recv()) == b'.');
+    assert!(rt; received(&mut a) == b'.');
     // The system takes no datagram of 65,508 bytes, and there is no third node.
     let longest = vec![in rt.alloc(); b'3'; 65_508]?;
-    assert!(rt; told(b.send(to_a, &longest)) == b'!');
-    assert!(rt; told(b.send(NodeId::new(2), b"4")) == b'!');
+    assert!(rt; sent(&mut b, to_a, &longest) == b'!');
+    assert!(rt; sent(&mut b, NodeId::new(2), b"4") == b'!');
     assert!(rt; a.failures() == 0 && b.failures() == 2);
     Ok(())
 }
