@@ -117,6 +117,27 @@ fn deliver_in<R: Rule>(
     deliver_all(&mut ledger.list, places, rule, me, members, noticed, out);
 }
 
+/// How many calls of the layer below so many calls make at most, where there are so many messages. None where there is
+/// no such number.
+fn calls_below(calls: usize, messages: usize) -> Option<usize>
+    ensures { IfSome result (λ below. below ≡ calls + calls + messages) }
+{
+    match calls.checked_add(calls) {
+        Some(twice) => twice.checked_add(messages),
+        None => None,
+    }
+}
+
+/// The same, where each member makes so many messages.
+fn whole_calls_below(members: &NodeSet, msgs: u16, calls: usize) -> Option<usize>
+    ensures { IfSome result (λ below. below ≡ calls + calls + message_count (record { members = members.now; msgs = msgs; calls = calls })) }
+{
+    match members.count_in(members).checked_mul(usize::from(msgs)) {
+        Some(messages) => calls_below(calls, messages),
+        None => None,
+    }
+}
+
 impl<L: Layer, R: Rule> Relay<L, R> {
     ghost use Rattle.gb_layer.specs.RelayState.{state_of, IsWhole, limit_below, unsent, ungiven};
 
@@ -412,12 +433,12 @@ impl<L: Layer, R: Rule> Layer for Relay<L, R> {
     }
 
     fn ready(&mut self, calls: usize, out: &mut Effects) -> Result<(), OutOfMemory> {
-        let count = self.entries.list.len();
-        let twice = calls.checked_add(calls).ok_or(OutOfMemory)?;
-        let below = twice.checked_add(count).ok_or(OutOfMemory)?;
-        let ups = count.checked_add(calls).ok_or(OutOfMemory)?;
+        let Some(below) = calls_below(calls, self.entries.list.len()) else {
+            return Err(OutOfMemory);
+        };
         self.entries.list.reserve(calls)?;
-        out.ups.reserve(ups)?;
+        // A pair for each message and for each call.
+        out.ups.reserve(below - calls)?;
         self.ready_below(below, out)
     }
 
@@ -428,11 +449,11 @@ impl<L: Layer, R: Rule> Layer for Relay<L, R> {
         calls: usize,
         out: &mut Effects,
     ) -> Result<(), OutOfMemory> {
-        let count = members.count_in(members);
-        let messages = count.checked_mul(usize::from(msgs)).ok_or(OutOfMemory)?;
-        let once = messages.checked_add(calls).ok_or(OutOfMemory)?;
-        let twice = calls.checked_add(calls).ok_or(OutOfMemory)?;
-        let below = twice.checked_add(messages).ok_or(OutOfMemory)?;
+        let Some(below) = whole_calls_below(members, msgs, calls) else {
+            return Err(OutOfMemory);
+        };
+        // Once for each message and for each call.
+        let once = below - calls;
         self.entries.list.reserve(once)?;
         self.entries.cover(members, msgs)?;
         out.ups.reserve(once)?;

@@ -1,5 +1,9 @@
-use Rattle.std.proofs.Common.{◌∙◌, ap, count_by}
-use Rattle.gb_layer.specs.Relay.{is_unsent, is_ungiven}
+use Rattle.std.proofs.Common.{◌≡◌, ◌∙◌, ◌++◌, List, ap, sym, subst, count_by}
+use Rattle.gb_types.specs.declared.node.NodeId.{NodeId}
+use Rattle.gb_layer.specs.declared.effects.Up.{Up}
+use Rattle.gb_layer.specs.Places.{StandsAmong}
+use Rattle.gb_layer.specs.Pending.{is_pending}
+use Rattle.gb_layer.specs.Relay.{is_unsent, is_ungiven, taken_in}
 use Rattle.gb_layer.proofs.CountedLemmas.{taken_in_unsent, taken_in_ungiven}
 use Rattle.std.proofs.Common.{rules}
 use Rattle.gb_layer.specs.EntryLemmas.{keys, keys_taken_in}
@@ -17,3 +21,41 @@ pub returns-clause-whole : goal.returns-clause-whole
 returns-clause-whole g c = λ l w h.
     whole_kept g.L.Layer.is_whole g.L.Layer.need c.args.self.now _ l (λ k. c.take.ensures.whole (limit_below l) k (within_more l (limit_below l).calls c.args.call h)) (search rules) (search rules)
     (ap keys c.take_in.ensures.items ∙ keys_taken_in c.me-me.result c.deref.result.now c.args.self.now.entries.list.items) w
+
+pub invariant_of-self : goal.invariant_of-self
+invariant_of-self g c =
+    let L = g.L.Layer in
+    let r = c.args.self.now in
+    let there = c.take_in.new.pending in
+    let es = c.take_in.new.ledger.list.items in
+    let stays = sym (g.met.L.Layer.me_stays (L.meaning r.lower) c.args.call) in
+    let me : c.me-me.result ≡ L.me (L.meaning c.take.new.self) = c.me-me.ensures ∙ (stays ∙ ap L.me (sym c.take.ensures.meaning)) in
+    let stood = subst (λ (n : NodeId). StandsAmong (is_pending g.R.Rule.rules n r.members r.noticed) r.pending.from r.pending.to r.entries.list.items) (sym c.me-me.ensures) r.pending_stands in
+    record { pending_stands = subst (λ (n : NodeId). StandsAmong (is_pending g.R.Rule.rules n r.members r.noticed) there.from there.to es) me (c.take_in.ensures.pending stood) }
+
+pub returns-clause-state : goal.returns-clause-state
+returns-clause-state g c =
+    let L = g.L.Layer in
+    let r = c.args.self.now in
+    let s = L.meaning r.lower in
+    let given = (L.gives s c.args.call).ups in
+    let came : c.deref.result.now ≡ given = c.deref.ensures.value ∙ (c.take.ensures.ups ∙ ap (λ (us : List Up). us ++ given) c.clear.ensures.items) in
+    let entries : c.take_in.new.ledger.list.items ≡ taken_in (L.me s) given r.entries.list.items =
+    c.take_in.ensures.items
+    ∙ (ap (λ (n : NodeId). taken_in n c.deref.result.now r.entries.list.items) c.me-me.ensures ∙ ap (λ (us : List Up). taken_in (L.me s) us r.entries.list.items) came) in
+    λ i. record { lower = c.take.ensures.meaning i; members = r.members; noticed = r.noticed; entries = entries i }
+
+pub returns-clause-sends : goal.returns-clause-sends
+returns-clause-sends g c = c.take.ensures.sends
+
+pub returns-clause-ups : goal.returns-clause-ups
+returns-clause-ups g c = c.swap-2.ensures.x_after ∙ c.swap.ensures.y_after
+
+pub returns-clause-capacity : goal.returns-clause-capacity
+returns-clause-capacity g c = c.take_in.ensures.capacity
+
+pub returns-clause-len : goal.returns-clause-len
+returns-clause-len g c = c.take_in.ensures.len
+
+pub returns-clause-sends_memory : goal.returns-clause-sends_memory
+returns-clause-sends_memory g c = c.take.ensures.sends_memory
