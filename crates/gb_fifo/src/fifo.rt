@@ -1,5 +1,5 @@
 //! The layer that keeps each origin's order.
-ghost use Rattle.std.specs.Prelude.{◌≡◌, ℕ, ◌+◌, ◌≤◌, ◌++◌, vec_len, vec_capacity, OnOk, true};
+ghost use Rattle.std.specs.Prelude.{◌≡◌, ℕ, ◌+◌, ◌≤◌, ◌++◌, vec_len, vec_capacity, OnOk, IfSome, true};
 ghost use Rattle.gb_layer.specs.Limit.{Limit, is_within, message_count};
 ghost use Rattle.gb_layer.specs.Room.{free_sends, free_ups};
 ghost use Rattle.gb_fifo.specs.Entries.{noted_by};
@@ -28,6 +28,17 @@ pub struct Fifo<L> {
     entries: Ledger,
     /// What the newest call of the layer below brought up.
     below: Vec<Up>,
+}
+
+/// How many pairs come up at most in so many calls, where each member makes so many messages. None where there is no
+/// such number.
+fn whole_ups(members: &NodeSet, msgs: u16, calls: usize) -> Option<usize>
+    ensures { IfSome result (λ most. most ≡ message_count (record { members = members.now; msgs = msgs; calls = calls }) + calls) }
+{
+    match members.count_in(members).checked_mul(usize::from(msgs)) {
+        Some(messages) => messages.checked_add(calls),
+        None => None,
+    }
 }
 
 impl<L: Broadcast> Fifo<L> {
@@ -146,7 +157,9 @@ impl<L: Broadcast> Layer for Fifo<L> {
 
     fn ready(&mut self, calls: usize, out: &mut Effects) -> Result<(), OutOfMemory> {
         let count = self.entries.list.len();
-        let ups = count.checked_add(calls).ok_or(OutOfMemory)?;
+        let Some(ups) = count.checked_add(calls) else {
+            return Err(OutOfMemory);
+        };
         self.entries.list.reserve(calls)?;
         out.ups.reserve(ups)?;
         self.ready_below(calls, out)
@@ -159,9 +172,9 @@ impl<L: Broadcast> Layer for Fifo<L> {
         calls: usize,
         out: &mut Effects,
     ) -> Result<(), OutOfMemory> {
-        let count = members.count_in(members);
-        let messages = count.checked_mul(usize::from(msgs)).ok_or(OutOfMemory)?;
-        let once = messages.checked_add(calls).ok_or(OutOfMemory)?;
+        let Some(once) = whole_ups(members, msgs, calls) else {
+            return Err(OutOfMemory);
+        };
         self.entries.list.reserve(once)?;
         self.entries.cover(members, msgs)?;
         out.ups.reserve(once)?;
