@@ -14,9 +14,12 @@ pub returns-clause-ok : goal.returns-clause-ok
 returns-clause-ok g c =
     let first = rw c.if-is_over.false at c.in_ok-is_over.ensures.ok in
     IfOk-weaker c.end_piece.result _ _
-    (λ ending tells. (c.in-Ok.fed.requests.items, c.in-Ok.ensures.given,
+    (λ ending tells. (
+      c.in-Ok.fed.requests.items,
+      c.in-Ok.ensures.given,
       piece_ends g.A.Answers.answers c.args.answers.now c.answer_requests.new.answers c.in-Ok.fed.requests.items (g.W.Write.contents c.args.writer.now) (g.W.Write.contents c.answer_requests.new.writer)
-      (g.W.Write.contents c.end_piece.new.writer) c.args.answered.now c.answer_requests.new.answered c.in-Ok.fed.malformed c.piece.new.self.is_malformed ending first c.in-Ok.ensures.malformed tells))
+          (g.W.Write.contents c.end_piece.new.writer) c.args.answered.now c.answer_requests.new.answered c.in-Ok.fed.malformed c.piece.new.self.is_malformed ending first c.in-Ok.ensures.malformed tells,
+    ))
     c.end_piece.ensures
 
 pub returns-clause-asked : goal.returns-clause-asked
