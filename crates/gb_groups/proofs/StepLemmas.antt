@@ -1,8 +1,9 @@
 -- What steps leave of the counters of a slot, and of the payloads that it knows.
-use Rattle.std.proofs.Common.{◌≡◌, ℕ, zero, suc, ◌≤◌, ◌+◌, map, drop, subst, List, [], ◌∷◌, ◌++◌, length, true, false, refl, ap, sym, ◌∙◌, arith, inl, inr}
+use Rattle.std.proofs.Common.{◌≡◌, ℕ, zero, suc, ◌≤◌, ◌+◌, map, drop, subst, List, [], ◌∷◌, ◌++◌, length, get_or, true, false, refl, ap, sym, ◌∙◌, arith, inl, inr}
 use Rattle.std.proofs.lemmas.Bool.{cases_lt, lt-ltb}
+use Rattle.std.proofs.lemmas.Option.{get_or_from_slice_get}
 use Rattle.std.specs.FinSet as nodes
-use Rattle.std.specs.Prelude.{if◌then◌else◌, ◌&&◌, not, nat_lt, nat_le, Some, None, option_map, slice_get}
+use Rattle.std.specs.Prelude.{Option, if◌then◌else◌, ◌&&◌, not, nat_lt, nat_le, Some, None, option_map, slice_get}
 use Rattle.gb_types.specs.Entry.{message_of}
 use Rattle.gb_types.specs.declared.entry.Entry.{Entry}
 use Rattle.gb_types.specs.Message.{same}
@@ -116,6 +117,12 @@ waiting_fits s d nth e h =
       | true ↦ λ f. known_fits s.store (drop (taken_for s d) s.outgoing) nth e h f
       | false ↦ λ f. let none : None ≡ Some e = f in absurd (cc)
     ]
+
+-- and it is what waits in its group
+pub waiting_bytes : (d nth : ℕ) (row : Row) (s : SlotState) (e none : Entry) → row.slot ≡ Some s → slice_get (waiting s d) nth ≡ Some e → length e.payload ≡ length (get_or (queue d row) nth none).payload
+waiting_bytes d nth row s e none is at =
+    ap (λ (x : Entry). length x.payload) (sym (get_or_from_slice_get (waiting s d) nth e none at))
+    ∙ ap (λ (o : Option SlotState). length (get_or (queue_of d o) nth none).payload) (sym is)
 
 -- as many items wait in a group as in its slot before
 pub many-came : (from : NodeId) (x : Entry) (row : Row) (s t : SlotState) (d : ℕ) → row.slot ≡ Some s → t ≡ slot_came from x s → length (waiting t d) ≡ length (waiting s d) → length (queue d (on_slot (slot_came from x) row)) ≡ length (queue d row)

@@ -57,3 +57,14 @@ returns-else-not-came-clause-others c =
     let x : Entry = record { origin = c.in-Some.origin; seq = c.args.item.seq; payload = c.args.item.payload.now } in
     subst (λ (v : GroupsValue). OthersKept (address_of (view_item c.args.item)) v.rows c.came.new.self.rows) c.self.view_is
     (rw c.came.ensures.rows (others_kept (address_of (view_item c.args.item)) rows c.in-Some-find.place (slot_came c.args.from x) c.in-Some-find.ensures.place))
+
+pub invariant_of-self-in-Some-find : goal.invariant_of-self-in-Some-find
+invariant_of-self-in-Some-find c =
+    let rows = c.self.inside.slots.rows in
+    let p = c.in-Some-find.place in
+    let x : Entry = record { origin = c.in-Some.origin; seq = c.args.item.seq; payload = c.args.item.payload.now } in
+    let step = slot_came c.args.from x in (
+      rw c.came.ensures.rows (places_quiet rows c.self.inside.cursors p (on_slot step (row_at rows p)) c.self.invariant.0),
+      c.refresh.ensures,
+      rw c.came.ensures.rows (memberships_step step rows c.self.inside.memberships p (spec-came c.args.from x) c.self.invariant.2),
+    )

@@ -6,8 +6,8 @@ use Rattle.gb_groups.specs.SlotsValue.{row_at, on_slot}
 use Rattle.gb_groups.specs.AtAddress.{reply_at, group_reply, OthersKept}
 use Rattle.gb_groups.specs.GroupsValue.{GroupsValue}
 use Rattle.gb_groups.proofs.AddressLemmas.{others_kept, place_is}
-use Rattle.gb_groups.proofs.IndexLemmas.{index_but}
-use Rattle.gb_groups.proofs.MemberLemmas.{spec-said}
+use Rattle.gb_groups.proofs.IndexLemmas.{index_but, places_quiet}
+use Rattle.gb_groups.proofs.MemberLemmas.{memberships_step, spec-said}
 use Rattle.gb_groups.proofs.NotedLemmas.{outside_stepped}
 use Rattle.gb_groups.proofs.groups.Groups.say.Goals as goal
 
@@ -35,3 +35,13 @@ returns-in-Some-clause-reply c =
 
 pub returns-in-Some-clause-rows : goal.returns-in-Some-clause-rows
 returns-in-Some-clause-rows c = grind (arith, common_steps)
+
+pub invariant_of-self : goal.invariant_of-self
+invariant_of-self c =
+    let rows = c.self.inside.slots.rows in
+    let p = c.in-Some.place in
+    let step = slot_said c.args.payload.now c.say-reply.result in (
+      rw c.say-reply.ensures.rows (places_quiet rows c.self.inside.cursors p (on_slot step (row_at rows p)) c.self.invariant.0),
+      c.refresh.ensures,
+      rw c.say-reply.ensures.rows (memberships_step step rows c.self.inside.memberships p (spec-said c.args.payload.now c.say-reply.result) c.self.invariant.2),
+    )

@@ -1,4 +1,5 @@
-use Rattle.std.proofs.Common.{ap, sym, subst, ◌∙◌}
+use Rattle.std.proofs.lemmas.Grind.{common_steps}
+use Rattle.std.proofs.Common.{ap, sym, subst, ◌∙◌, arith}
 use Rattle.gb_table.specs.OwnNode.{AreAt}
 use Rattle.gb_table.specs.Within.{addrs_of}
 use Rattle.gb_table.proofs.AddrLemmas.{addrs-drop}
@@ -12,3 +13,6 @@ invariant_of-self c = (
   c.self.invariant.1,
   subst (AreAt c.self.inside.me) (sym c.drop_group.ensures.rows) (at_dropped c.self.inside.me c.args.addr c.self.inside.groups.rows c.self.invariant.2),
 )
+
+pub returns-clause-state : goal.returns-clause-state
+returns-clause-state c = grind (arith, common_steps)

@@ -1,4 +1,5 @@
-use Rattle.std.proofs.Common.{ap, sym, subst, ◌∙◌}
+use Rattle.std.proofs.lemmas.Grind.{common_steps}
+use Rattle.std.proofs.Common.{ap, sym, subst, ◌∙◌, arith}
 use Rattle.gb_slot.specs.Slot.{slot_said}
 use Rattle.gb_table.specs.OwnNode.{AreAt}
 use Rattle.gb_table.specs.Within.{addrs_of}
@@ -13,3 +14,6 @@ invariant_of-self c = (
   c.self.invariant.1,
   subst (AreAt c.self.inside.me) (sym c.say.ensures.rows) (at_address c.self.inside.me c.args.addr (slot_said _ c.say.result) c.self.inside.groups.rows (me-said _ c.say.result) c.self.invariant.2),
 )
+
+pub returns-clause-state : goal.returns-clause-state
+returns-clause-state c = grind (arith, common_steps)

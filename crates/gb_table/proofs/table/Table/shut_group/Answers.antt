@@ -1,4 +1,5 @@
-use Rattle.std.proofs.Common.{ap, sym, subst, ◌∙◌}
+use Rattle.std.proofs.lemmas.Grind.{common_steps}
+use Rattle.std.proofs.Common.{ap, sym, subst, ◌∙◌, arith}
 use Rattle.gb_rules.specs.declared.phase.Phase.TheVariants.{Shut}
 use Rattle.gb_slot.specs.Slot.{slot_moved}
 use Rattle.gb_table.specs.OwnNode.{AreAt}
@@ -14,3 +15,6 @@ invariant_of-self c = (
   c.self.invariant.1,
   subst (AreAt c.self.inside.me) (sym c.shut_group.ensures.rows) (at_address c.self.inside.me c.args.addr (slot_moved Shut c.shut_group.result) c.self.inside.groups.rows (me-moved Shut c.shut_group.result) c.self.invariant.2),
 )
+
+pub returns-clause-state : goal.returns-clause-state
+returns-clause-state c = grind (arith, common_steps)
