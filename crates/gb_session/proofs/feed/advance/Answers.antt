@@ -20,7 +20,7 @@ pub returns-in_ok-push-in-Message-clause-ok : goal.returns-in_ok-push-in-Message
 returns-in_ok-push-in-Message-clause-ok c =
     IfOk-weaker c.take_behind.result _ _
     (λ now stops. piece_message c.args.space.now c.args.piece.now c.args.len c.fitting-count.result _ _ _ _ _ _ _ c.in-Message.request c.in-Message.end now.1 (omega arith) c.requires.begun
-      (looked_at c.args.space.now c.args.piece.now c.copy_from_slice.new.self c.args.len c.fitting-count.result (omega arith) (omega (arith, c.fitting-count.ensures)) c.copy_from_slice.ensures.after)
-      (rw c.in-Message.is at c.in_ok-read_front.ensures) c.in_ok-push-in-Message.ensures.items (take_rest c.args.piece.now (c.in-Message.end - c.args.len))
-      stops.1 stops.2)
+    (looked_at c.args.space.now c.args.piece.now c.copy_from_slice.new.self c.args.len c.fitting-count.result (omega arith) (omega (arith, c.fitting-count.ensures)) c.copy_from_slice.ensures.after)
+    (rw c.in-Message.is at c.in_ok-read_front.ensures) c.in_ok-push-in-Message.ensures.items (take_rest c.args.piece.now (c.in-Message.end - c.args.len))
+    stops.1 stops.2)
     c.take_behind.ensures.ok
