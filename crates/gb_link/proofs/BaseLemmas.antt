@@ -9,6 +9,7 @@ use Rattle.std.proofs.lemmas.Bool.Decides.{nat_tests}
 use Rattle.std.proofs.lemmas.List.Sums.{sum_by-append}
 use Rattle.std.proofs.lemmas.Nat.Bits.{bit_at_lowest, bit_at-suc, bit_at-zero}
 use Rattle.gb_link.specs.Received.{Received, first_missing, base_of, word_of}
+use Rattle.gb_link.proofs.TestLemmas.{lt_true, lt_false, eq_true, eq_false}
 
 -- a count, with one more element
 pub count-cons : {X : Type 0} (p : X → Bool) (x : X) (xs : List X) → count_by p (x ∷ xs) ≡ cond (p x) 1 0 + count_by p xs
@@ -70,8 +71,8 @@ first_missing_below s n (suc k) m low high =
     elim (set.contains s n) as (λ b. set.contains s n ≡ b → m < cond b (first_missing s (n + 1) k) n → set.contains s m ≡ true) [
       | true ↦ λ there under.
           elim (nat_eq m n) as (λ b. nat_eq m n ≡ b → set.contains s m ≡ true) [
-            | true ↦ λ e. let same : m ≡ n = grind (arith, nat_tests) in ap (λ x. set.contains s x) same ∙ there
-            | false ↦ λ e. let more : n + 1 ≤ m = grind (arith, nat_tests) in first_missing_below s (n + 1) k m more under
+            | true ↦ λ e. let same : m ≡ n = eq_true m n e in ap (λ x. set.contains s x) same ∙ there
+            | false ↦ λ e. let ne = eq_false m n e in let more : n + 1 ≤ m = omega (arith, ne, low) in first_missing_below s (n + 1) k m more under
           ] refl
       | false ↦ λ _ under. absurd (omega (arith, low, under))
     ] refl high
@@ -104,11 +105,11 @@ base_of_lacks s = first_missing_lacks s 1 _ (from_most 1 (set.items s))
 pub base_of_is : (s : Received) (base : ℕ) → 1 ≤ base → set.contains s base ≡ false → ((m : ℕ) → 1 ≤ m → m < base → set.contains s m ≡ true) → base_of s ≡ base
 base_of_is s base started lacks all =
     elim (nat_lt (base_of s) base) as (λ b. nat_lt (base_of s) base ≡ b → base_of s ≡ base) [
-      | true ↦ λ e. let low : base_of s < base = grind (arith, nat_tests) in let there = all (base_of s) (base_of_from s) low in let gone = base_of_lacks s in absurd cc
+      | true ↦ λ e. let low : base_of s < base = lt_true (base_of s) base e in let there = all (base_of s) (base_of_from s) low in let gone = base_of_lacks s in absurd cc
       | false ↦ λ e.
           elim (nat_lt base (base_of s)) as (λ b. nat_lt base (base_of s) ≡ b → base_of s ≡ base) [
-            | true ↦ λ f. let high : base < base_of s = grind (arith, nat_tests) in let there = base_of_below s base started high in absurd cc
-            | false ↦ λ f. grind (arith, nat_tests)
+            | true ↦ λ f. let high : base < base_of s = lt_true base (base_of s) f in let there = base_of_below s base started high in absurd cc
+            | false ↦ λ f. let least = lt_false (base_of s) base e in let most = lt_false base (base_of s) f in omega (arith, least, most)
           ] refl
     ] refl
 

@@ -15,10 +15,7 @@ use Rattle.gb_link.specs.Link.{LinkEvent, push, arrive, make_ack, take_ack, Link
 use Rattle.gb_types.proofs.InsertedLemmas.{contains-inserted}
 use Rattle.gb_link.proofs.BaseLemmas.{count-cons, base_of_from, base_of_below, base_of_lacks, word_of_bit}
 use Rattle.gb_link.proofs.WindowLemmas.{IsWindow-pushed, IsWindow-acknowledged}
-
-or_true : (b : Bool) → (b || true) ≡ true
-or_true true = refl
-or_true false = refl
+use Rattle.gb_link.proofs.TestLemmas.{lt_true, lt_false, eq_true, eq_more, or_true}
 
 or_false : (b : Bool) → (b || false) ≡ b
 or_false true = refl
@@ -37,10 +34,11 @@ mask_of_bit s i one = word_of_bit s (base_of s) 64 i one
 pub covered_received : (s : Received) (n : ℕ) → 1 ≤ n → covers (base_of s) (mask_of s) n ≡ true → set.contains s n ≡ true
 covered_received s n from is =
     elim (nat_lt n (base_of s)) as (λ b. nat_lt n (base_of s) ≡ b → (b || nat_eq (bit_at (mask_of s) (n - base_of s)) 1) ≡ true → set.contains s n ≡ true) [
-      | true ↦ λ low _. let below : n < base_of s = grind (arith, nat_tests) in base_of_below s n from below
+      | true ↦ λ low _. let below : n < base_of s = lt_true n (base_of s) low in base_of_below s n from below
       | false ↦ λ high bit.
-          let one : bit_at (mask_of s) (n - base_of s) ≡ 1 = grind (arith, nat_tests, bit) in
-          let there : base_of s + (n - base_of s) ≡ n = grind (arith, nat_tests) in
+          let one : bit_at (mask_of s) (n - base_of s) ≡ 1 = eq_true (bit_at (mask_of s) (n - base_of s)) 1 bit in
+          let least = lt_false n (base_of s) high in
+          let there : base_of s + (n - base_of s) ≡ n = omega (arith, least) in
           ap (λ m. set.contains s m) (sym there) ∙ mask_of_bit s (n - base_of s) one
     ] refl is
 
@@ -60,8 +58,8 @@ admission_near s n from near last =
     at_least : (s : Received) (n : ℕ) → 1 ≤ n → set.contains s n ≡ false → base_of s ≤ n
     at_least s n from lacks =
         elim (nat_lt n (base_of s)) as (λ b. nat_lt n (base_of s) ≡ b → base_of s ≤ n) [
-          | true ↦ λ low. let below : n < base_of s = grind (arith, nat_tests) in let there = base_of_below s n from below in absurd cc
-          | false ↦ λ high. grind (arith, nat_tests)
+          | true ↦ λ low. let below : n < base_of s = lt_true n (base_of s) low in let there = base_of_below s n from below in absurd cc
+          | false ↦ λ high. lt_false n (base_of s) high
         ] refl
 
 module _ {F : Type 0} where
@@ -74,7 +72,7 @@ module _ {F : Type 0} where
   undone_recent next [] n r is = absurd cc
   undone_recent next (u ∷ us) n r is =
       elim (nat_eq u.0 n) as (λ b. nat_eq u.0 n ≡ b → (b || is_undone us n) ≡ true → (n < next) × (next ≤ n + 64)) [
-        | true ↦ λ e _. let same : u.0 ≡ n = grind (arith, nat_tests) in (omega (arith, same, r.0), omega (arith, same, r.1))
+        | true ↦ λ e _. let same : u.0 ≡ n = eq_true u.0 n e in (omega (arith, same, r.0), omega (arith, same, r.1))
         | false ↦ λ _ later. undone_recent next us n r.2 later
       ] refl is
 
@@ -82,7 +80,7 @@ module _ {F : Type 0} where
   undone_above low [] n h is = absurd cc
   undone_above low (u ∷ us) n h is =
       elim (nat_eq u.0 n) as (λ b. nat_eq u.0 n ≡ b → (b || is_undone us n) ≡ true → low ≤ n) [
-        | true ↦ λ e _. let same : u.0 ≡ n = grind (arith, nat_tests) in omega (arith, same, h.0)
+        | true ↦ λ e _. let same : u.0 ≡ n = eq_true u.0 n e in omega (arith, same, h.0)
         | false ↦ λ _ later. let rest = undone_above (u.0 + 1) us n h.1 later in omega (arith, rest, h.0)
       ] refl is
 
@@ -115,7 +113,7 @@ module _ {F : Type 0} where
             let same : v ≡ u = cc in
             elim (nat_eq v.0 n) as (λ b. nat_eq v.0 n ≡ b → is_undone us n ≡ ((b || is_undone us n) && not (nat_eq u.0 n))) [
               | true ↦ λ is.
-                  let number : v.0 ≡ n = grind (arith, nat_tests) in
+                  let number : v.0 ≡ n = eq_true v.0 n is in
                   let gone : is_undone us n ≡ false = not_undone (v.0 + 1) us n h.1 (omega (arith, number)) in
                   let out : nat_eq u.0 n ≡ true = subst (λ w. nat_eq w.0 n ≡ true) same is in
                   gone ∙ sym (ap (λ b. not b) out)
@@ -127,7 +125,7 @@ module _ {F : Type 0} where
             let rest = undone-without test (v.0 + 1) us u n h.1 later in
             let above = undone_above (v.0 + 1) us u.0 h.1 (found_undone test us u later).0 in
             elim (nat_eq v.0 n) as (λ b. nat_eq v.0 n ≡ b → (b || is_undone (without_first test us) n) ≡ ((b || is_undone us n) && not (nat_eq u.0 n))) [
-              | true ↦ λ is. let other : nat_eq u.0 n ≡ false = grind (arith, nat_tests) in sym (ap (λ b. not b) other)
+              | true ↦ λ is. let first = eq_true v.0 n is in let other : nat_eq u.0 n ≡ false = eq_more u.0 n (omega (arith, first, above)) in sym (ap (λ b. not b) other)
               | false ↦ λ _. rest
             ] refl
       ] e
@@ -187,7 +185,7 @@ module _ {F : Type 0} where
           undone-pushed l.sender.undone l.sender.next frame n
           ∙ elim (nat_eq l.sender.next n) as (λ b. nat_eq l.sender.next n ≡ b → (is_undone l.sender.undone n || b) ≡ not (is_number n l.done)) [
             | true ↦ λ is.
-                let same : l.sender.next ≡ n = grind (arith, nat_tests) in
+                let same : l.sender.next ≡ n = eq_true l.sender.next n is in
                 or_true (is_undone l.sender.undone n) ∙ sym (ap (λ b. not b) (not_done n same))
             | false ↦ λ other.
                 let here : was_pushed l n ≡ true = grind (arith, nat_tests, was) in
@@ -210,10 +208,10 @@ module _ {F : Type 0} where
       let started = base_of_from l.receiver in
       elim (nat_lt (base_of l.receiver) l.sender.next) as (λ b. nat_lt (base_of l.receiver) l.sender.next ≡ b → (1 ≤ n) × (n < base_of l.receiver + 64) × (n ≤ LAST_FRAME)) [
         | true ↦ λ lt.
-            let under : base_of l.receiver < l.sender.next = grind (arith, nat_tests) in
+            let under : base_of l.receiver < l.sender.next = lt_true (base_of l.receiver) l.sender.next lt in
             let recent = (undone_recent l.sender.next l.sender.undone (base_of l.receiver) kept.window.recent (base_undone (is_pushed l (base_of l.receiver) started under))).1 in
             (from, omega (arith, recent, below), omega (arith, below, last))
-        | false ↦ λ ge. let over : l.sender.next ≤ base_of l.receiver = grind (arith, nat_tests) in (from, omega (arith, over, below), omega (arith, below, last))
+        | false ↦ λ ge. let over : l.sender.next ≤ base_of l.receiver = lt_false (base_of l.receiver) l.sender.next ge in (from, omega (arith, over, below), omega (arith, below, last))
       ] refl
     where
       base_undone : was_pushed l (base_of l.receiver) ≡ true → is_undone l.sender.undone (base_of l.receiver) ≡ true
@@ -254,7 +252,7 @@ module _ {F : Type 0} where
       grows : (m : ℕ) (b : Bool) → set.contains l.receiver n ≡ b → set.contains (taken l.receiver n (cond b Seen First)) m ≡ (nat_eq n m || set.contains l.receiver m)
       grows m true there =
           elim (nat_eq n m) as (λ b. nat_eq n m ≡ b → set.contains l.receiver m ≡ (b || set.contains l.receiver m)) [
-            | true ↦ λ is. let same : n ≡ m = grind (arith, nat_tests) in ap (λ k. set.contains l.receiver k) (sym same) ∙ there
+            | true ↦ λ is. let same : n ≡ m = eq_true n m is in ap (λ k. set.contains l.receiver k) (sym same) ∙ there
             | false ↦ λ _. refl
           ] refl
       grows m false lacks = contains-inserted l.receiver n m
@@ -268,7 +266,7 @@ module _ {F : Type 0} where
       was_sent : (m : ℕ) → (nat_eq n m || set.contains l.receiver m) ≡ true → was_pushed l m ≡ true
       was_sent m is =
           elim (nat_eq n m) as (λ b. nat_eq n m ≡ b → (b || set.contains l.receiver m) ≡ true → was_pushed l m ≡ true) [
-            | true ↦ λ e _. let same : n ≡ m = grind (arith, nat_tests) in subst (λ k. was_pushed l k ≡ true) same was
+            | true ↦ λ e _. let same : n ≡ m = eq_true n m e in subst (λ k. was_pushed l k ≡ true) same was
             | false ↦ λ _ before. kept.received_pushed m before
           ] refl is
 
@@ -276,7 +274,7 @@ module _ {F : Type 0} where
       first m b is =
           elim (nat_eq n m) as (λ e. nat_eq n m ≡ e → cond {A = ℕ} (e && is_first (cond b Seen First)) 1 0 + cond (set.contains l.receiver m) 1 0 ≡ cond (e || set.contains l.receiver m) 1 0) [
             | true ↦ λ e.
-                let same : n ≡ m = grind (arith, nat_tests) in
+                let same : n ≡ m = eq_true n m e in
                 let there : set.contains l.receiver m ≡ b = ap (λ k. set.contains l.receiver k) (sym same) ∙ is in
                 ap (λ c. cond {A = ℕ} (is_first (cond b Seen First)) 1 0 + cond c 1 0) there ∙ one b
             | false ↦ λ _. omega arith
@@ -350,7 +348,7 @@ module _ {F : Type 0} where
       each : (P : ℕ → Type 0) (u : ℕ × F) (n : ℕ) → P u.0 → (is_number n l.done ≡ true → P n) → (nat_eq u.0 n || is_number n l.done) ≡ true → P n
       each P u n here before is =
           elim (nat_eq u.0 n) as (λ b. nat_eq u.0 n ≡ b → (b || is_number n l.done) ≡ true → P n) [
-            | true ↦ λ e _. let same : u.0 ≡ n = grind (arith, nat_tests) in subst P same here
+            | true ↦ λ e _. let same : u.0 ≡ n = eq_true u.0 n e in subst P same here
             | false ↦ λ _ old. before old
           ] refl is
 
@@ -371,7 +369,7 @@ module _ {F : Type 0} where
           ∙ (ap (λ k. cond {A = ℕ} (nat_eq u.0 n) 1 0 + k) (kept.done_once n)
           ∙ elim (nat_eq u.0 n) as (λ b. nat_eq u.0 n ≡ b → cond {A = ℕ} b 1 0 + cond (is_number n l.done) 1 0 ≡ cond (b || is_number n l.done) 1 0) [
             | true ↦ λ is.
-                let same : u.0 ≡ n = grind (arith, nat_tests) in
+                let same : u.0 ≡ n = eq_true u.0 n is in
                 let new : is_number n l.done ≡ false = subst (λ m. is_number m l.done ≡ false) same (negated (is_number u.0 l.done) (sym (kept.accounted u.0 (was_held u e)) ∙ is_held u e)) in
                 ap (λ b. 1 + cond {A = ℕ} b 1 0) new
             | false ↦ λ _. omega arith

@@ -18,6 +18,7 @@ use Rattle.gb_link.specs.Received.{Received, admission, base_of, word_of, mask_o
 use Rattle.gb_link.specs.Words.{covered, IsReceiver}
 use Rattle.gb_link.proofs.BaseLemmas.{base_of_is, word_of_is}
 use Rattle.gb_link.proofs.AckLemmas.{not_covered_beyond}
+use Rattle.gb_link.proofs.TestLemmas.{lt_true, lt_false, lt_is, lt_not, eq_true, eq_false, eq_less, eq_more, or_true}
 
 in_covered : (base mask n : ℕ) → set.contains (covered base mask) n ≡ (nat_lt n (base + 64) && (not (nat_eq n 0) && covers base mask n))
 unfolding covered
@@ -31,8 +32,8 @@ pub contains-covered : (base mask n : ℕ) → mask < 2 ^ 64 → 1 ≤ n → set
 contains-covered base mask n word from =
     in_covered base mask n
     ∙ elim (nat_lt n (base + 64)) as (λ b. nat_lt n (base + 64) ≡ b → (b && (not (nat_eq n 0) && covers base mask n)) ≡ covers base mask n) [
-      | true ↦ λ _. let some : nat_eq n 0 ≡ false = grind (arith, nat_tests) in ap (λ b. not b && covers base mask n) some
-      | false ↦ λ far. let beyond : base + 64 ≤ n = grind (arith, nat_tests) in sym (not_covered_beyond base mask n (omega arith) (omega arith) word)
+      | true ↦ λ _. let some : nat_eq n 0 ≡ false = eq_more n 0 (omega arith) in ap (λ b. not b && covers base mask n) some
+      | false ↦ λ far. let beyond = lt_false n (base + 64) far in sym (not_covered_beyond base mask n (omega arith) (omega arith) word)
     ] refl
 
 pub contains-zero : (base mask : ℕ) → set.contains (covered base mask) 0 ≡ false
@@ -53,17 +54,21 @@ same_received s t none some = set.same_set nat_cmp_total nat_cmp-IsAntisymmetric
 slide_at : (base mask n : ℕ) → mask % 2 ≡ 1 → covers (base + 1) (mask / 2) n ≡ covers base mask n
 slide_at base mask n odd =
     elim (nat_lt n base) as (λ b. nat_lt n base ≡ b → covers (base + 1) (mask / 2) n ≡ covers base mask n) [
-      | true ↦ λ low. let lower : nat_lt n (base + 1) ≡ true = grind (arith, nat_tests) in grind (arith, low, lower)
+      | true ↦ λ low.
+          let lt = lt_true n base low in
+          let lower = lt_is n (base + 1) (omega (arith, lt)) in
+          ap (λ b. b || nat_eq (bit_at (mask / 2) (n - (base + 1))) 1) lower ∙ sym (ap (λ b. b || nat_eq (bit_at mask (n - base)) 1) low)
       | false ↦ λ high.
-          let from : base ≤ n = grind (arith, nat_tests) in
+          let from : base ≤ n = lt_false n base high in
           elim (nat_lt n (base + 1)) as (λ b. nat_lt n (base + 1) ≡ b → (b || nat_eq (bit_at (mask / 2) (n - (base + 1))) 1) ≡ covers base mask n) [
             | true ↦ λ low.
-                let same : n - base ≡ 0 = grind (arith, nat_tests) in
+                let lt = lt_true n (base + 1) low in
+                let same : n - base ≡ 0 = omega (arith, lt, from) in
                 let set_bit : bit_at mask (n - base) ≡ 1 = ap (λ i. bit_at mask i) same ∙ (bit_at_lowest mask ∙ odd) in
-                let is : nat_eq (bit_at mask (n - base)) 1 ≡ true = grind (arith, nat_tests) in
+                let is : nat_eq (bit_at mask (n - base)) 1 ≡ true = ap (λ v. nat_eq v 1) set_bit in
                 sym (ap (λ b. b || nat_eq (bit_at mask (n - base)) 1) high ∙ is)
             | false ↦ λ beyond.
-                let next : base + 1 ≤ n = grind (arith, nat_tests) in
+                let next : base + 1 ≤ n = lt_false n (base + 1) beyond in
                 let step : n - base ≡ suc (n - (base + 1)) = omega arith in
                 let bit : bit_at mask (n - base) ≡ bit_at (mask / 2) (n - (base + 1)) = ap (λ i. bit_at mask i) step ∙ bit_at-suc mask (n - (base + 1)) in
                 sym (ap (λ b. b || nat_eq (bit_at mask (n - base)) 1) high ∙ ap (λ v. nat_eq v 1) bit)
@@ -79,16 +84,19 @@ covered_slide base mask word odd =
 set_at : (base mask ahead n : ℕ) → ahead < 64 → covers base (bit_or mask (1 * 2 ^ ahead % 2 ^ 64)) n ≡ (nat_eq n (base + ahead) || covers base mask n)
 set_at base mask ahead n within =
     elim (nat_lt n base) as (λ b. nat_lt n base ≡ b → covers base (bit_or mask (1 * 2 ^ ahead % 2 ^ 64)) n ≡ (nat_eq n (base + ahead) || covers base mask n)) [
-      | true ↦ λ low. grind (arith, nat_tests, low)
+      | true ↦ λ low.
+          ap (λ b. b || nat_eq (bit_at (bit_or mask (1 * 2 ^ ahead % 2 ^ 64)) (n - base)) 1) low
+          ∙ sym (ap (λ b. nat_eq n (base + ahead) || (b || nat_eq (bit_at mask (n - base)) 1)) low ∙ or_true (nat_eq n (base + ahead)))
       | false ↦ λ high.
-          let from : base ≤ n = grind (arith, nat_tests) in
+          let from : base ≤ n = lt_false n base high in
           elim (nat_eq n (base + ahead)) as (λ b. nat_eq n (base + ahead) ≡ b → covers base (bit_or mask (1 * 2 ^ ahead % 2 ^ 64)) n ≡ (b || covers base mask n)) [
             | true ↦ λ here.
-                let same : n - base ≡ ahead = grind (arith, nat_tests) in
+                let e = eq_true n (base + ahead) here in
+                let same : n - base ≡ ahead = omega (arith, e) in
                 let bit : bit_at (bit_or mask (1 * 2 ^ ahead % 2 ^ 64)) (n - base) ≡ 1 = ap (λ i. bit_at (bit_or mask (1 * 2 ^ ahead % 2 ^ 64)) i) same ∙ bit_at_set_same w64 mask ahead within in
                 ap (λ b. b || nat_eq (bit_at (bit_or mask (1 * 2 ^ ahead % 2 ^ 64)) (n - base)) 1) high ∙ ap (λ v. nat_eq v 1) bit
             | false ↦ λ other.
-                let ne : n - base ≢ ahead = grind (arith, nat_tests) in
+                let ne : n - base ≢ ahead = λ same. eq_false n (base + ahead) other (omega (arith, same, from)) in
                 ap (λ v. nat_lt n base || nat_eq v 1) (bit_at_set_other w64 mask ahead within (n - base) ne)
           ] refl
     ] refl
@@ -105,7 +113,7 @@ covered_set base mask ahead word after started within =
     inserted n = contains-insert (covered base mask) (base + ahead) n
 
     not_zero : nat_eq 0 (base + ahead) ≡ false
-    not_zero = grind (arith, nat_tests)
+    not_zero = eq_less 0 (base + ahead) (omega (arith, started))
 
 -- nothing is covered at the start
 pub covered_none : covered 1 0 ≡ set.empty
@@ -114,14 +122,14 @@ covered_none =
     (λ n from. contains-covered 1 0 n (omega arith) from ∙ (none n from ∙ sym (set.contains-empty nat_cmp n)))
   where
     none : (n : ℕ) → 1 ≤ n → covers 1 0 n ≡ false
-    none n from = let clear : bit_at 0 (n - 1) ≡ 0 = bit_at-zero (n - 1) in let high : nat_lt n 1 ≡ false = grind (arith, nat_tests) in ap (λ b. b || nat_eq (bit_at 0 (n - 1)) 1) high ∙ ap (λ v. nat_eq v 1) clear
+    none n from = let clear : bit_at 0 (n - 1) ≡ 0 = bit_at-zero (n - 1) in let high : nat_lt n 1 ≡ false = lt_not n 1 from in ap (λ b. b || nat_eq (bit_at 0 (n - 1)) 1) high ∙ ap (λ v. nat_eq v 1) clear
 
 below_base : (base mask n : ℕ) → n < base → covers base mask n ≡ true
-below_base base mask n low = let e : nat_lt n base ≡ true = grind (arith, nat_tests) in ap (λ b. b || nat_eq (bit_at mask (n - base)) 1) e
+below_base base mask n low = let e : nat_lt n base ≡ true = lt_is n base low in ap (λ b. b || nat_eq (bit_at mask (n - base)) 1) e
 
 above_base : (base mask i : ℕ) → covers base mask (base + i) ≡ nat_eq (bit_at mask i) 1
 above_base base mask i =
-    let high : nat_lt (base + i) base ≡ false = grind (arith, nat_tests) in
+    let high : nat_lt (base + i) base ≡ false = lt_not (base + i) base (omega arith) in
     let same : base + i - base ≡ i = omega arith in
     ap (λ b. b || nat_eq (bit_at mask (base + i - base)) 1) high ∙ ap (λ j. nat_eq (bit_at mask j) 1) same
 
@@ -136,7 +144,7 @@ base_of_covered base mask kept =
     here = omega arith
 
     clear : nat_eq (bit_at mask 0) 1 ≡ false
-    clear = let zero_bit : bit_at mask 0 ≡ 0 = bit_at_lowest mask ∙ kept.even in grind (arith, nat_tests, zero_bit)
+    clear = let zero_bit : bit_at mask 0 ≡ 0 = bit_at_lowest mask ∙ kept.even in ap (λ v. nat_eq v 1) zero_bit
 
 pub mask_of_covered : (base mask : ℕ) → IsReceiver base mask → mask_of (covered base mask) ≡ mask
 unfolding mask_of
