@@ -1,9 +1,8 @@
-use Rattle.std.proofs.Common.{◌≡◌, false, ◌∙◌, sym, arith, nat_lt, ◌-◌}
-use Rattle.std.proofs.lemmas.Bool.Decides.{nat_tests}
+use Rattle.std.proofs.Common.{◌-◌, ◌∙◌, sym, arith}
 use Rattle.gb_link.proofs.AckLemmas.{not_covered_beyond}
+use Rattle.gb_link.proofs.TestLemmas.{lt_not}
 use Rattle.gb_link.proofs.ack.covers.Goals as goal
 
 pub returns-else-ahead-lt-LINK_WINDOW : goal.returns-else-ahead-lt-LINK_WINDOW
 returns-else-ahead-lt-LINK_WINDOW c =
-    let beyond : nat_lt (c.args.number - c.args.base) 64 ≡ false = grind (arith, nat_tests) in
-    beyond ∙ sym (not_covered_beyond c.args.base c.args.mask c.args.number (omega arith) (omega arith) c.ranges.mask.fits)
+    lt_not (c.args.number - c.args.base) 64 (omega arith) ∙ sym (not_covered_beyond c.args.base c.args.mask c.args.number (omega arith) (omega arith) c.ranges.mask.fits)
