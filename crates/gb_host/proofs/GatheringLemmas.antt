@@ -1,8 +1,8 @@
 -- Gathering lists by number.
-use Rattle.std.proofs.Common.{◌≡◌, ◌≢◌, ℕ, ◌+◌, ◌<◌, Bool, true, false, List, [], ◌∷◌, ◌++◌, length, refl, sym, ap, ◌∙◌, arith, cond, eqb, get_or, set, append_assoc, sum_by, inl, inr, ◌⊎◌}
+use Rattle.std.proofs.Common.{◌≡◌, ◌≢◌, ℕ, ◌+◌, ◌<◌, Bool, true, false, List, [], ◌∷◌, ◌++◌, length, refl, sym, ap, ◌∙◌, arith, cond, eqb, get_or, set, take, append_assoc, sum_by, inl, inr, ◌⊎◌}
 use Rattle.std.proofs.lemmas.Bool.{false≢true}
 use Rattle.std.proofs.lemmas.Bool.Decides.{eqb_tells}
-use Rattle.std.proofs.lemmas.List.{length-set, get_or-set_same, get_or-set_other}
+use Rattle.std.proofs.lemmas.List.{length-set, get_or-set_same, get_or-set_other, take_at}
 use Rattle.std.proofs.lemmas.List.Sums.{sum_by-set, sum_by-append}
 use Rattle.std.proofs.lemmas.Grind.{common_steps}
 use Rattle.gb_host.specs.declared.entry.SeatEntry.{SeatEntry}
@@ -68,7 +68,11 @@ gathered_lists all lists given g s = g.kept s ∙ ap (λ xs. list_of xs s) (sym 
 pub gathered_entries : (all : List SeatValue) (lists : List (List SeatEntry)) (given : List Bool) → Gathered all [] lists given → sum_by length lists ≡ seat_entries all
 gathered_entries all lists given g = g.sum ∙ ap seat_entries (sym g.split)
 
-pub gathered_step : (all rest less : List SeatValue) (x : SeatValue) (lists : List (List SeatEntry)) (given : List Bool) (n : ℕ) (list : List SeatEntry) → Gathered all rest lists given → rest ≡ less ++ x ∷ []
-    → n ≡ x.number → list ≡ x.list → n < length lists → get_or given n true ≡ false → Gathered all less (set lists n list) (set given n true)
-gathered_step all rest less x lists given n list g pop number same under free =
-    rw (number, same) (gathered_more all rest less x lists given g pop (rw number at under) (rw number at free))
+-- the same where lists and marks were lent as slices, and are back
+pub gathered_step : (all rest less : List SeatValue) (x : SeatValue) (lists lent put more : List (List SeatEntry)) (given lent_given put_given more_given : List Bool) (n m : ℕ) → Gathered all rest lists given → rest ≡ less ++ x ∷ []
+    → lent ≡ lists → lent_given ≡ given → put ≡ set lent x.number x.list → put_given ≡ set lent_given x.number true → x.number < length lent → get_or lent_given x.number true ≡ false
+    → length lists ≡ n → length given ≡ m → Gathered all less (take n (put ++ more)) (take m (put_given ++ more_given))
+gathered_step all rest less x lists lent put more given lent_given put_given more_given n m g pop same same_given put_is given_is under free len len_given =
+    let whole : length put ≡ n = ap length put_is ∙ (length-set lent x.number x.list ∙ (ap length same ∙ len)) in
+    let whole_given : length put_given ≡ m = ap length given_is ∙ (length-set lent_given x.number true ∙ (ap length same_given ∙ len_given)) in
+    rw (take_at put more n whole, take_at put_given more_given m whole_given, put_is, given_is, same, same_given) (gathered_more all rest less x lists given g pop (rw same at under) (rw same_given at free))

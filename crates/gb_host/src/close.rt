@@ -1,5 +1,5 @@
 //! The end of a host.
-ghost use Rattle.std.specs.Prelude.{◌≡◌, ◌≢◌, ◌⊎◌, ◌≤◌, ℕ, true, length, IfOk, IfErr, vec_len, sum_by};
+ghost use Rattle.std.specs.Prelude.{◌≡◌, ◌≢◌, ◌⊎◌, ◌<◌, ◌≤◌, ℕ, true, false, [], length, IfOk, IfErr, OnOk, slice_index_or, slice_set, vec_capacity, vec_len, sum_by};
 ghost use Rattle.gb_types.specs.declared.limits.TheConstants.{NODES};
 ghost use Rattle.gb_host.specs.Closing.{list_at, list_of, AreReplays, AreSame, IsOther, AreFresh, tape_entries, seat_entries};
 ghost use Rattle.gb_host.specs.declared.closed.Difference.{Difference as DifferenceValue};
@@ -13,6 +13,7 @@ use crate::hosted::Hosted;
 use crate::names::Tapes;
 use crate::plan::HostPlan;
 use crate::seat::Seat;
+use gb_types::node::NodeId;
 use std::alloc::Global;
 use std::sync::Mutex;
 use std::sync::ledger::Ledger;
@@ -31,6 +32,23 @@ fn by_number<M: Ledger>(
     if seats.len() != count as usize {
         return Err(HostFault::ForeignSeat);
     }
+    let (mut lists, mut given) = blanks(alloc, count)?;
+    let mut rest = seats;
+    while let Some(seat) = rest.pop() {
+        if !put_list(seat, lists.as_mut_slice(), given.as_mut_slice()) {
+            return Err(HostFault::ForeignSeat);
+        }
+    }
+    Ok(lists)
+}
+
+// So many empty lists, of which none was given.
+fn blanks(alloc: Global, count: u32) -> Result<(Vec<CallList>, Vec<bool>), HostFault>
+    ensures len { IfOk result (λ r. (vec_len r.0 ≡ count) × (vec_len r.1 ≡ count)) }
+    ensures blank { IfOk result (λ r. (s : ℕ) → list_at r.0.items s ≡ []) }
+    ensures sum { IfOk result (λ r. sum_by length r.0.items ≡ 0) }
+    ensures err { IfErr result (λ e. e ≡ HostFault.OutOfMemory) }
+{
     let mut lists = Vec::new(alloc);
     let mut given = Vec::new(alloc);
     for _i in 0..count {
@@ -39,17 +57,59 @@ fn by_number<M: Ledger>(
         lists.push_reserved(CallList::new(alloc));
         given.push_reserved(false);
     }
-    let mut rest = seats;
-    while let Some(seat) = rest.pop() {
-        let (number, list) = seat.into_list();
-        let place = number as usize;
-        if place >= lists.len() || given[place] {
-            return Err(HostFault::ForeignSeat);
-        }
-        given[place] = true;
-        lists[place] = list;
+    Ok((lists, given))
+}
+
+// Puts a seat's calls under its number. False where that is too high, or was given.
+fn put_list<M: Ledger>(seat: Seat<M>, lists: &mut [CallList], given: &mut [bool]) -> bool
+    requires { length given.old ≡ length lists.old }
+    ensures free { result ≡ true → (seat.number < length lists.old) × (slice_index_or given.old seat.number true ≡ false) }
+    ensures lists { result ≡ true → lists.new ≡ slice_set lists.old seat.number seat.list }
+    ensures given { result ≡ true → given.new ≡ slice_set given.old seat.number true }
+{
+    let (number, list) = seat.into_list();
+    let place = number as usize;
+    if place >= lists.len() || given[place] {
+        return false;
     }
-    Ok(lists)
+    given[place] = true;
+    lists[place] = list;
+    true
+}
+
+// Room for the node with this number and its tape, where it is the next one.
+fn make_room(closed: &mut Closed, me: NodeId) -> Result<(), HostFault>
+    ensures nodes { closed.new.nodes.items ≡ closed.old.nodes.items }
+    ensures tapes { closed.new.tapes.items ≡ closed.old.tapes.items }
+    ensures next { OnOk result (me.number ≡ vec_len closed.old.nodes) }
+    ensures room { OnOk result ((vec_len closed.new.nodes < vec_capacity closed.new.nodes) × (vec_len closed.new.tapes < vec_capacity closed.new.tapes)) }
+    ensures err { IfErr result (λ e. (e ≡ HostFault.NoNode) ⊎ (e ≡ HostFault.OutOfMemory)) }
+{
+    if usize::from(me.number) != closed.nodes.len() {
+        return Err(HostFault::NoNode);
+    }
+    if closed.nodes.reserve(1).is_err() || closed.tapes.reserve(1).is_err() {
+        return Err(HostFault::OutOfMemory);
+    }
+    Ok(())
+}
+
+// Adds the node and the tape that were under a lock, where they are the next ones.
+fn add_parts<L: Tapes>(closed: &mut Closed, hosted: Hosted<L>) -> Result<(), HostFault>
+    requires as_many { vec_len closed.old.tapes ≡ vec_len closed.old.nodes }
+    requires replays { AreReplays L.plan (vec_len closed.old.nodes) closed.old.nodes.items closed.old.tapes.items }
+    ensures as_many { OnOk result (vec_len closed.new.tapes ≡ vec_len closed.new.nodes) }
+    ensures replays { OnOk result (AreReplays L.plan (vec_len closed.new.nodes) closed.new.nodes.items closed.new.tapes.items) }
+    ensures err { IfErr result (λ e. (e ≡ HostFault.NoNode) ⊎ (e ≡ HostFault.OutOfMemory)) }
+{
+    match make_room(closed, hosted.me()) {
+        Ok(()) => {}
+        Err(fault) => return Err(fault),
+    }
+    let (node, tape) = hosted.into_parts();
+    closed.nodes.push_reserved(node);
+    closed.tapes.push_reserved(tape);
+    Ok(())
 }
 
 // The nodes and tapes of all locks.
@@ -68,15 +128,10 @@ fn take_apart<L: Tapes>(
         tapes: Vec::new(alloc),
     };
     for locked in nodes {
-        let hosted = locked.into_inner();
-        if usize::from(hosted.me().number) != closed.nodes.len() {
-            return Err(HostFault::NoNode);
+        match add_parts(&mut closed, locked.into_inner()) {
+            Ok(()) => {}
+            Err(fault) => return Err(fault),
         }
-        closed.nodes.reserve(1)?;
-        closed.tapes.reserve(1)?;
-        let (node, tape) = hosted.into_parts();
-        closed.nodes.push_reserved(node);
-        closed.tapes.push_reserved(tape);
     }
     if closed.nodes.len() != usize::from(plan.cluster.nodes) {
         return Err(HostFault::NoNode);
@@ -98,7 +153,6 @@ fn list_with(alloc: Global, lists: Vec<CallList>, seat: u32) -> CallList
 
 /// Closes a host: each node is the replay of its tape, and each seat's calls are its entries in the tapes. Host and seats
 /// are given up in every case.
-#[tactic(auto, using(crate::proofs::ClosingLemmas::closed_same, crate::proofs::ClosingLemmas::closed_entries, crate::proofs::ClosingLemmas::closed_fresh, crate::proofs::ClosingLemmas::other_list))]
 pub fn close<L: Tapes, M: Ledger>(
     host: Host<L, M>,
     seats: Vec<Seat<M>>,

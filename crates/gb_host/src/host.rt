@@ -16,7 +16,7 @@ use gb_node::event::NodeEvent;
 use gb_types::node::NodeId;
 use std::alloc::Global;
 use std::marker::Model;
-use std::sync::ledger::{Blank, Ledger};
+use std::sync::ledger::{Blank, Ledger, Share};
 use std::sync::{Mutex, Wait};
 
 /// Nodes, each under a lock of its own, and the books under theirs. Contracts see the plan and the number of seats.
@@ -60,18 +60,8 @@ impl<L: Tapes, M: Ledger> Host<L, M> {
     {
         let (tapes, mut tape_rest) = tape_blank.open::<L>();
         let (lists, mut seat_rest) = seat_blank.open::<M>();
-        let mut nodes = Vec::new(alloc);
-        for number in 0..plan.cluster.nodes {
-            let share = tape_rest.split_off(1, 0);
-            nodes.reserve(1)?;
-            nodes.push_reserved(Mutex::new(Hosted::new(alloc, plan, NodeId::new(number), share)));
-        }
-        let mut given = Vec::new(alloc);
-        for number in 0..seats {
-            let share = seat_rest.split_off(1, 0);
-            given.reserve(1)?;
-            given.push_reserved(Seat::new(alloc, number, share));
-        }
+        let nodes = open_nodes(alloc, plan, &mut tape_rest)?;
+        let given = open_seats(alloc, seats, &mut seat_rest)?;
         let host = Host {
             alloc,
             plan,
@@ -144,4 +134,42 @@ impl<L: Tapes, M: Ledger> Host<L, M> {
         } = self;
         (alloc, plan, seats, nodes)
     }
+}
+
+// The nodes of a plan, each with a part of a share that has one part more than there are of these.
+fn open_nodes<L: Tapes>(
+    alloc: Global,
+    plan: HostPlan,
+    rest: &mut Share<L>,
+) -> Result<Vec<Mutex<Hosted<L>>>, HostFault>
+    requires plan { plan ≡ L.plan }
+    requires limits { IsPlan plan }
+    requires rest { (rest.old.parts ≡ plan.cluster.nodes + 1) × (rest.old.amount ≡ 0) }
+    ensures { IfOk result (λ nodes. vec_len nodes ≡ plan.cluster.nodes) }
+{
+    let mut nodes = Vec::new(alloc);
+    for number in 0..plan.cluster.nodes {
+        let share = rest.split_off(1, 0);
+        nodes.reserve(1)?;
+        nodes.push_reserved(Mutex::new(Hosted::new(alloc, plan, NodeId::new(number), share)));
+    }
+    Ok(nodes)
+}
+
+// So many seats, each with a part of a share that has one part more than there are of these.
+fn open_seats<M: Ledger>(
+    alloc: Global,
+    seats: u32,
+    rest: &mut Share<M>,
+) -> Result<Vec<Seat<M>>, HostFault>
+    requires { (rest.old.parts ≡ seats + 1) × (rest.old.amount ≡ 0) }
+    ensures { IfOk result (λ given. (vec_len given ≡ seats) × AreNew seats given.items) }
+{
+    let mut given = Vec::new(alloc);
+    for number in 0..seats {
+        let share = rest.split_off(1, 0);
+        given.reserve(1)?;
+        given.push_reserved(Seat::new(alloc, number, share));
+    }
+    Ok(given)
 }

@@ -1,5 +1,5 @@
 //! A node under its lock.
-ghost use Rattle.std.specs.Prelude.{◌≡◌, ◌+◌, ◌<◌, ◌≤◌, ◌++◌, [], IfOk, IfErr, OnOk, OnErr, cond, slice_index, slice_set, vec_capacity};
+ghost use Rattle.std.specs.Prelude.{◌≡◌, ◌+◌, ◌-◌, ◌<◌, ◌≤◌, ◌^◌, ◌++◌, [], true, false, length, vec_len, IfOk, IfErr, OnOk, OnErr, cond, slice_index, slice_set, vec_capacity};
 ghost use Rattle.gb_node.specs.NodeStep.{IsTurn, IsSpelt};
 ghost use Rattle.gb_node.specs.NodeValue.{new_node};
 ghost use Rattle.gb_node.specs.Reads.{room_of};
@@ -145,56 +145,112 @@ impl<L: Tapes> Hosted<L> {
             list,
             share: mine,
         } = seat;
+        let copy = match make_room(*alloc, &event, tape, list) {
+            Ok(copy) => copy,
+            Err(fault) => return Err(fault),
+        };
+        let (answer, for_tape, for_list) = match answers(
+            rt, *alloc, books, node, share, mine, &event,
+        ) {
+            Ok(answers) => answers,
+            Err(fault) => return Err(fault),
+        };
         let at = me.index();
-        let copy = event.duplicate(*alloc)?;
-        tape.reserve(1)?;
-        list.reserve(1)?;
-        if event.only_reads() {
-            let answer = node.take(&event);
-            let for_tape = answer.duplicate(*alloc)?;
-            let for_list = answer.duplicate(*alloc)?;
-            if !books.lock(rt).add(share, mine) {
-                return Err(HostFault::Full);
-            }
-            let count = counts[at];
-            // The proof reads how long the list may be.
-            let _most = list.capacity();
-            counts[at] = count + 1;
-            tape.push_reserved(TapeEntry {
-                seat: *number,
-                count,
-                event,
-                answer: for_tape,
-            });
-            list.push_reserved(SeatEntry {
-                node: *me,
-                event: copy,
-                answer: for_list,
-            });
-            return Ok(answer);
-        }
-        let (room, other_room) = rooms(*alloc, &event)?;
-        if !books.lock(rt).add(share, mine) {
-            return Err(HostFault::Full);
-        }
-        let answer = node.take(&event);
         let count = counts[at];
-        // The proof reads how long the list may be.
-        let _most = list.capacity();
         counts[at] = count + 1;
         tape.push_reserved(TapeEntry {
             seat: *number,
             count,
             event,
-            answer: answer.in_room(room),
+            answer: for_tape,
         });
         list.push_reserved(SeatEntry {
             node: *me,
             event: copy,
-            answer: answer.in_room(other_room),
+            answer: for_list,
         });
         Ok(answer)
     }
+}
+
+// A copy of an event, with room for an entry more in the tape and in the seat's list.
+fn make_room(
+    alloc: Global,
+    event: &NodeEvent,
+    tape: &mut Vec<TapeEntry>,
+    list: &mut Vec<SeatEntry>,
+) -> Result<NodeEvent, HostFault>
+    ensures copy { IfOk result (λ copy. copy ≡ event.now) }
+    ensures items { (tape.new.items ≡ tape.old.items) × (list.new.items ≡ list.old.items) }
+    ensures room { OnOk result ((vec_len tape.new < vec_capacity tape.new) × (vec_len list.new < vec_capacity list.new)) }
+    ensures few { OnOk result (length list.old.items < 2 ^ 64 - 1) }
+{
+    let copy = event.duplicate(alloc)?;
+    tape.reserve(1)?;
+    list.reserve(1)?;
+    // The proof reads how long the list may be.
+    let _most = list.capacity();
+    Ok(copy)
+}
+
+// An event at a node, which is booked: its answer, and copies of that for the tape and for the seat's list.
+fn answers<L: Tapes, M: Ledger, R: Wait>(
+    rt: &R,
+    alloc: Global,
+    books: &Mutex<Books<L, M>>,
+    node: &mut Node,
+    tape: &mut Share<L>,
+    seat: &mut Share<M>,
+    event: &NodeEvent,
+) -> Result<(NodeAnswer, NodeAnswer, NodeAnswer), HostFault>
+    requires parts { (0 < tape.old.parts) × (0 < seat.old.parts) }
+    ensures turn { IfOk result (λ r. IsTurn node.old event.now r.0 node.new) }
+    ensures spelt { IfOk result (λ r. IsSpelt node.old event.now r.0) }
+    ensures copies { IfOk result (λ r. (r.1 ≡ r.0) × (r.2 ≡ r.0)) }
+    ensures added { OnOk result ((tape.new.amount ≡ tape.old.amount + 1) × (seat.new.amount ≡ seat.old.amount + 1)) }
+    ensures parts { (tape.new.parts ≡ tape.old.parts) × (seat.new.parts ≡ seat.old.parts) }
+    ensures err { OnErr result ((node.new ≡ node.old) × (tape.new.amount ≡ tape.old.amount) × (seat.new.amount ≡ seat.old.amount)) }
+{
+    if event.only_reads() {
+        let answer = node.take(event);
+        let (for_tape, for_list) = copies(alloc, &answer)?;
+        if !book(rt, books, tape, seat) {
+            return Err(HostFault::Full);
+        }
+        return Ok((answer, for_tape, for_list));
+    }
+    let (room, other_room) = rooms(alloc, event)?;
+    if !book(rt, books, tape, seat) {
+        return Err(HostFault::Full);
+    }
+    let answer = node.take(event);
+    let for_tape = answer.in_room(room);
+    let for_list = answer.in_room(other_room);
+    Ok((answer, for_tape, for_list))
+}
+
+// Adds one to both books and to a share of each. False, with nothing changed, where 2^64 - 1 are booked.
+fn book<L: Ledger, M: Ledger, R: Wait>(
+    rt: &R,
+    books: &Mutex<Books<L, M>>,
+    tape: &mut Share<L>,
+    seat: &mut Share<M>,
+) -> bool
+    requires parts { (0 < tape.old.parts) × (0 < seat.old.parts) }
+    ensures parts { (tape.new.parts ≡ tape.old.parts) × (seat.new.parts ≡ seat.old.parts) }
+    ensures added { result ≡ true → (tape.new.amount ≡ tape.old.amount + 1) × (seat.new.amount ≡ seat.old.amount + 1) }
+    ensures full { result ≡ false → (tape.new.amount ≡ tape.old.amount) × (seat.new.amount ≡ seat.old.amount) }
+{
+    books.lock(rt).add(tape, seat)
+}
+
+// Two copies of an answer.
+fn copies(alloc: Global, answer: &NodeAnswer) -> Result<(NodeAnswer, NodeAnswer), HostFault>
+    ensures { IfOk result (λ r. (r.0 ≡ answer.now) × (r.1 ≡ answer.now)) }
+{
+    let for_tape = answer.duplicate(alloc)?;
+    let for_list = answer.duplicate(alloc)?;
+    Ok((for_tape, for_list))
 }
 
 // Room for two copies of the answer to an event that may change the node.

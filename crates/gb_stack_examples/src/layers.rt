@@ -53,13 +53,18 @@ const UPS: [Up; 2] = [
     },
 ];
 
+/// Compares what a layer that is told so sends and hands up.
+fn compare_told(rt: &impl Abort, out: &Effects) {
+    assert!(rt; out.sends.as_slice() == [OWN].as_slice());
+    assert!(rt; out.ups.as_slice() == UPS.as_slice());
+}
+
 #[test]
 fn beb_hands_up_whatever_comes(rt: HostRuntime) -> Result<(), Fail> {
     let mut layer = Beb::new(ME);
     let mut out = Effects::new(rt.alloc());
     tell(&rt, &mut layer, &mut out)?;
-    assert!(rt; out.sends.as_slice() == [OWN].as_slice());
-    assert!(rt; out.ups.as_slice() == UPS.as_slice());
+    compare_told(&rt, &out);
     Ok(())
 }
 

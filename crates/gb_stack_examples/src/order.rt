@@ -6,7 +6,7 @@ use gb_layer::beb::Beb;
 use gb_layer::call::Call;
 use gb_layer::direct::Direct;
 use gb_layer::effects::Effects;
-use gb_layer::layer::Layer;
+use gb_layer::layer::{Broadcast, Layer};
 use gb_types::memory::OutOfMemory;
 use gb_types::message::MsgId;
 use gb_types::node::NodeId;
@@ -79,6 +79,16 @@ fn compare(
     Ok(())
 }
 
+/// The own message is said, or another one comes from its origin.
+fn call_of(origin: u8, seq: u16) -> Call {
+    let m = message(origin, seq);
+    if origin == ME {
+        Call::Say(m)
+    } else {
+        Call::Came(m.origin, m)
+    }
+}
+
 /// The own message is said to a fifo, or another one comes from its origin. Then so many have come up.
 fn take<L: Layer>(
     rt: &impl Abort,
@@ -87,14 +97,8 @@ fn take<L: Layer>(
     step: (u8, u16, usize),
 ) -> Result<(), OutOfMemory> {
     let (origin, seq, count) = step;
-    let m = message(origin, seq);
-    let call = if origin == ME {
-        Call::Say(m)
-    } else {
-        Call::Came(m.origin, m)
-    };
     fifo.ready(1, out)?;
-    fifo.take(call, out);
+    fifo.take(call_of(origin, seq), out);
     assert!(rt; out.ups.len() == count);
     Ok(())
 }
@@ -192,14 +196,24 @@ fn compare_told<L: Layer>(
     compare(rt, alloc, &out, &[(ME, 1)], &ups)
 }
 
+/// Compares the same of a fifo over a fifo.
+fn compare_two_fifos(rt: &impl Abort, alloc: Global) -> Result<(), OutOfMemory> {
+    let below = Fifo::new(alloc, Direct::new(Beb::new(node(ME))));
+    let mut fifo = Fifo::new(alloc, below);
+    compare_told(rt, alloc, &mut fifo)
+}
+
+/// The laws of what a fifo over a layer gives up.
+fn laws<L: Broadcast>() {
+    order::one_two_three::<L>();
+    order::in_origin_order::<L>();
+}
+
 /// A fifo over a fifo gives up the same. It stands where the layer below stands, and makes room for each call.
 #[test]
 fn a_fifo_stands_over_any_broadcast(rt: HostRuntime) -> Result<(), Fail> {
-    order::one_two_three::<Fifo<Direct<Beb>>>();
-    order::in_origin_order::<Fifo<Direct<Beb>>>();
-    let below = Fifo::new(rt.alloc(), Direct::new(Beb::new(node(ME))));
-    let mut fifo = Fifo::new(rt.alloc(), below);
-    compare_told(&rt, rt.alloc(), &mut fifo)?;
+    laws::<Fifo<Direct<Beb>>>();
+    compare_two_fifos(&rt, rt.alloc())?;
     Ok(())
 }
 

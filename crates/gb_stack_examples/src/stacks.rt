@@ -127,6 +127,15 @@ fn has_log(
     Ok(log == told.as_slice())
 }
 
+/// Adds what came up to the log, each message under its origin.
+fn add_ups(rt: &impl Abort, out: &Effects, log: &mut Vec<MsgId>) -> Result<(), OutOfMemory> {
+    for up in &out.ups {
+        assert!(rt; up.via == up.m.origin);
+        log.push(up.m)?;
+    }
+    Ok(())
+}
+
 /// Adds what came up to the log, and compares what was sent, and the log, with the plain program's answers.
 fn compare_effects(
     rt: &impl Abort,
@@ -138,10 +147,7 @@ fn compare_effects(
 ) -> Result<(), OutOfMemory> {
     let sent = has_sent(alloc, kind, history, &out.sends)?;
     assert!(rt; sent);
-    for up in &out.ups {
-        assert!(rt; up.via == up.m.origin);
-        log.push(up.m)?;
-    }
+    add_ups(rt, out, log)?;
     let logged = has_log(alloc, kind, history, log)?;
     assert!(rt; logged);
     Ok(())
@@ -167,14 +173,15 @@ fn take_and_compare<L: Broadcast>(
 fn notices(alloc: Global, noticed: &[NodeId]) -> Result<Vec<Call>, OutOfMemory> {
     let mut history = Vec::new(alloc);
     for who in noticed {
-        if MEMBERS.contains(who) && *who != ME {
+        if *who == ORIGIN || *who == OTHER {
             history.insert(0, Call::Notice(*who))?;
         }
     }
     Ok(history)
 }
 
-/// Makes the calls one by one, up to the first that may not come. Answers whether all were made.
+/// Makes the calls one by one at the layer of this node, up to the first that may not come. Answers whether all were
+/// made.
 fn take_calls<L: Broadcast>(
     rt: &impl Abort,
     alloc: Global,
@@ -183,6 +190,7 @@ fn take_calls<L: Broadcast>(
     noticed: &[NodeId],
     calls: &[Call],
 ) -> Result<bool, OutOfMemory> {
+    assert!(rt; layer.me() == ME);
     let mut history = notices(alloc, noticed)?;
     let mut log = Vec::new(alloc);
     for call in calls {
@@ -204,7 +212,6 @@ fn compare(
     calls: &[Call],
 ) -> Result<bool, OutOfMemory> {
     let mut layer = stack(alloc, kind, &set(noticed))?;
-    assert!(rt; layer.me() == ME);
     take_calls(rt, alloc, &mut layer, kind, noticed, calls)
 }
 
@@ -323,11 +330,12 @@ fn a_relayed_copy_tells_the_kinds_apart(rt: HostRuntime) -> Result<(), Fail> {
 
 /// Whether these messages of the origin came up, as taken from it.
 fn has_given(out: &Effects, told: &[MsgId]) -> bool {
-    if out.ups.len() != told.len() {
+    let ups = out.ups.as_slice();
+    if ups.len() != told.len() {
         return false;
     }
-    for (up, m) in out.ups.iter().zip(told) {
-        if up.via != ORIGIN || up.m != *m {
+    for i in 0..ups.len() {
+        if ups[i].via != ORIGIN || ups[i].m != told[i] {
             return false;
         }
     }
@@ -383,14 +391,30 @@ fn two(
     second_of(alloc, &mut layer, first, second)
 }
 
-/// Compares what two copies of a message send and bring up with the plain program's answers.
-fn compare_two(rt: &impl Abort, alloc: Global, kind: Kind) -> Result<(), Fail> {
-    let first = Call::Came(ORIGIN, FIRST);
-    let second = Call::Came(OTHER, FIRST);
-    let out = two(alloc, kind, &NodeSet::new(), first, second)?.ok_or("within the limit")?;
-    let mut log = plain::log(alloc, kind, ME, &MEMBERS, &[first])?;
-    compare_effects(rt, alloc, kind, &[second, first], &out, &mut log)?;
-    Ok(())
+/// Two copies of a message, the newest first.
+const COPIED: [Call; 2] = [Call::Came(OTHER, FIRST), Call::Came(ORIGIN, FIRST)];
+
+/// Compares what the second copy sends and brings up with the plain program's answers.
+fn compare_second(
+    rt: &impl Abort,
+    alloc: Global,
+    kind: Kind,
+    out: &Effects,
+) -> Result<(), OutOfMemory> {
+    let mut log = plain::log(alloc, kind, ME, &MEMBERS, &COPIED[1..])?;
+    compare_effects(rt, alloc, kind, &COPIED, out, &mut log)
+}
+
+/// Compares what two copies of a message send and bring up with the plain program's answers. Answers whether the limit
+/// allows both.
+fn compare_two(rt: &impl Abort, alloc: Global, kind: Kind) -> Result<bool, OutOfMemory> {
+    match two(alloc, kind, &NodeSet::new(), COPIED[1], COPIED[0])? {
+        Some(out) => {
+            compare_second(rt, alloc, kind, &out)?;
+            Ok(true)
+        }
+        None => Ok(false),
+    }
 }
 
 /// Whether the limit does not allow a second message of a member, after another one's notice.
@@ -406,7 +430,8 @@ fn is_beyond(alloc: Global, kind: Kind) -> Result<bool, OutOfMemory> {
 #[test]
 fn each_stack_takes_its_memory_once(rt: HostRuntime) -> Result<(), Fail> {
     for kind in KINDS {
-        compare_two(&rt, rt.alloc(), *kind)?;
+        let within = compare_two(&rt, rt.alloc(), *kind)?;
+        assert!(rt; within);
         let beyond = is_beyond(rt.alloc(), *kind)?;
         assert!(rt; beyond);
     }

@@ -1,14 +1,6 @@
-use Rattle.std.proofs.Common.{◌≡◌, ℕ, [], length, vec_len, sum_by}
-use Rattle.gb_host.specs.Closing.{Gathered, list_at}
+use Rattle.std.proofs.Common.{◌≡◌, vec_len}
+use Rattle.gb_host.specs.Closing.{Gathered}
 use Rattle.gb_host.proofs.close.by_number.Given as goal
-
-abbrev pub invariant-loop-i : goal.invariant-loop-i
-invariant-loop-i g l = record {
-  lists : vec_len l.lists ≡ l._i;
-  given : vec_len l.given ≡ l._i;
-  blank : (s : ℕ) → list_at l.lists.items s ≡ [];
-  sum : sum_by length l.lists.items ≡ 0;
-}
 
 abbrev pub invariant-loop-seat : goal.invariant-loop-seat
 invariant-loop-seat g l = record {

@@ -13,53 +13,26 @@ overflow_add-counts g c =
     let n = c.self.inside.me.number in
     let fits = c.seat.invariant.counts n c.self.inside.me.below in
     let le = calls_at_le n c.seat.inside.list.items in
-    let room = c.in_ok-reserve-2.ensures.ok in
-    rw c.index-at.ensures.value (omega (arith, fits, le, room, c.reserve-2.ensures.len, c.seat.inside.list.ok.0, c.capacity-most.ensures, c.capacity-most.type_inv))
-
-pub overflow_add-counts-2 : goal.overflow_add-counts-2
-overflow_add-counts-2 g c =
-    let n = c.self.inside.me.number in
-    let fits = c.seat.invariant.counts n c.self.inside.me.below in
-    let le = calls_at_le n c.seat.inside.list.items in
-    let room = c.in_ok-reserve-2.ensures.ok in
-    rw c.index-at.ensures.value (omega (arith, fits, le, room, c.reserve-2.ensures.len, c.seat.inside.list.ok.0, c.capacity-most-2.ensures, c.capacity-most-2.type_inv))
-
-pub invariant_of-self-then-only_reads : goal.invariant_of-self-then-only_reads
-invariant_of-self-then-only_reads g c =
-    let old : HostedValue = record { me = c.self.inside.me; node = c.self.inside.node; tape = c.self.inside.tape.items; amount = c.self.inside.share.amount; parts = c.self.inside.share.parts } in
-    let e : TapeEntry = record { seat = c.seat.inside.number; count = get_or c.seat.inside.counts c.index-at.result 0; event = c.args.event; answer = c.in_ok-for_tape.for_tape } in (
-      c.self.invariant.0,
-      hosted_fits_more g.L.Tapes.plan old _ e c.self.invariant.1 (search rules) refl
-          (subst (λ (a : NodeAnswer). IsTurn c.self.inside.node c.args.event a c.take-answer.new.self) (sym c.in_ok-for_tape.ensures) c.take-answer.ensures.turn)
-          (subst (λ (a : NodeAnswer). IsSpelt c.self.inside.node c.args.event a) (sym c.in_ok-for_tape.ensures) c.take-answer.ensures.spelt)
-          (c.push_reserved.ensures.items ∙ ap (λ xs. xs ++ e ∷ []) c.reserve.ensures.items)
-          (search rules) (search rules),
-    )
+    rw c.index-at.ensures.value (omega (arith, fits, le, c.in-Ok.ensures.few))
 
 pub invariant_of-self-2 : goal.invariant_of-self-2
 invariant_of-self-2 g c =
     let old : HostedValue = record { me = c.self.inside.me; node = c.self.inside.node; tape = c.self.inside.tape.items; amount = c.self.inside.share.amount; parts = c.self.inside.share.parts } in
-    let e : TapeEntry = record { seat = c.seat.inside.number; count = get_or c.seat.inside.counts c.index-at.result 0; event = c.args.event; answer = c.in_room.result } in (
+    let given = c.in-Ok-answers.answers in
+    let told = c.in-Ok-answers.ensures in
+    let e : TapeEntry = record { seat = c.seat.inside.number; count = get_or c.seat.inside.counts c.index-at.result 0; event = c.args.event; answer = given.1 } in (
       c.self.invariant.0,
       hosted_fits_more g.L.Tapes.plan old _ e c.self.invariant.1 (search rules) refl
-          (subst (λ (a : NodeAnswer). IsTurn c.self.inside.node c.args.event a c.take-answer-2.new.self) (sym c.in_room.ensures) c.take-answer-2.ensures.turn)
-          (subst (λ (a : NodeAnswer). IsSpelt c.self.inside.node c.args.event a) (sym c.in_room.ensures) c.take-answer-2.ensures.spelt)
-          (c.push_reserved-2.ensures.items ∙ ap (λ xs. xs ++ e ∷ []) c.reserve.ensures.items)
-          (search rules) (search rules),
+          (subst (λ (a : NodeAnswer). IsTurn c.self.inside.node c.args.event a c.answers.new.node) (sym told.copies.0) told.turn)
+          (subst (λ (a : NodeAnswer). IsSpelt c.self.inside.node c.args.event a) (sym told.copies.0) told.spelt)
+          (c.push_reserved.ensures.items ∙ ap (λ xs. xs ++ e ∷ []) c.make_room.ensures.items.0)
+          told.added.0 c.answers.ensures.parts.0,
     )
-
-pub invariant_of-seat-then-only_reads : goal.invariant_of-seat-then-only_reads
-invariant_of-seat-then-only_reads g c =
-    let old : SeatValue = record { number = c.seat.inside.number; counts = c.seat.inside.counts; list = c.seat.inside.list.items; amount = c.seat.inside.share.amount; parts = c.seat.inside.share.parts } in
-    let e : SeatEntry = record { node = c.self.inside.me; event = c.in_ok-copy.copy; answer = c.in_ok-for_list.for_list } in
-    seat_fits_more old _ e c.seat.invariant (rw c.index-at.ensures.value refl)
-    (c.push_reserved-then-only_reads.ensures.items ∙ ap (λ xs. xs ++ e ∷ []) c.reserve-2.ensures.items)
-    (search rules) (search rules)
 
 pub invariant_of-seat-2 : goal.invariant_of-seat-2
 invariant_of-seat-2 g c =
     let old : SeatValue = record { number = c.seat.inside.number; counts = c.seat.inside.counts; list = c.seat.inside.list.items; amount = c.seat.inside.share.amount; parts = c.seat.inside.share.parts } in
-    let e : SeatEntry = record { node = c.self.inside.me; event = c.in_ok-copy.copy; answer = c.in_room-2.result } in
+    let e : SeatEntry = record { node = c.self.inside.me; event = c.in-Ok.copy; answer = c.in-Ok-answers.answers.2 } in
     seat_fits_more old _ e c.seat.invariant (rw c.index-at.ensures.value refl)
-    (c.push_reserved-3.ensures.items ∙ ap (λ xs. xs ++ e ∷ []) c.reserve-2.ensures.items)
-    (search rules) (search rules)
+    (c.push_reserved-2.ensures.items ∙ ap (λ xs. xs ++ e ∷ []) c.make_room.ensures.items.1)
+    c.in-Ok-answers.ensures.added.1 c.answers.ensures.parts.1
