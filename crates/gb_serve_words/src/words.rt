@@ -42,30 +42,31 @@ fn flag_arg<'a>(alloc: Global, name: &'static str) -> Arg<'a>
 pub fn command<'a>(alloc: Global) -> Result<Command<'a>, AllocError>
     ensures { IfOk result (λ made. app_of made ≡ serve_app) }
 {
+    // Each option is added as soon as it is made, so that none waits where adding another fails.
+    let bare = Command::new(alloc, "gb_serve")
+        .about("Serves groups that broadcast messages among their members")
+        .after_help(AFTER);
     let nodes = number_arg(alloc, "nodes", 1, 16)
         .required(true)
         .value_name("N")
         .help("how many nodes the cluster has");
+    let with_nodes = bare.arg(nodes)?;
     let base_port = number_arg(alloc, "base-port", 1_024, 65_000)
         .required(true)
         .value_name("P")
         .help("node I's UDP port is P + I, the TCP port of its sessions P + 64 + I, on 127.0.0.1");
+    let with_port = with_nodes.arg(base_port)?;
     let silence = number_arg(alloc, "silence", 2, 1_000).value_name("S").help(
         "how many ticks without a packet make a node noticed as crashed; 50 if not given",
     );
+    let with_silence = with_port.arg(silence)?;
     let sessions = number_arg(alloc, "sessions", 0, 1_000).value_name("K").help(
         "how many connections each node serves, one after the other; 0, or not given: for ever",
     );
+    let with_sessions = with_silence.arg(sessions)?;
     let tape = flag_arg(alloc, "tape").help(
         "keep what happens at each node, and merge it at the end into one run of the cluster",
     );
-    let bare = Command::new(alloc, "gb_serve")
-        .about("Serves groups that broadcast messages among their members")
-        .after_help(AFTER);
-    let with_nodes = bare.arg(nodes)?;
-    let with_port = with_nodes.arg(base_port)?;
-    let with_silence = with_port.arg(silence)?;
-    let with_sessions = with_silence.arg(sessions)?;
     with_sessions.arg(tape)
 }
 
