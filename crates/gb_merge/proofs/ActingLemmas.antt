@@ -3,6 +3,7 @@ use Rattle.std.proofs.Common.{◌≡◌, ℕ, zero, suc, ◌+◌, ◌⊎◌, ◌
 use Rattle.std.specs.Prelude.{slice_get, nat_eq, nat_lt, ◌&&◌, if◌then◌else◌, is_ok, option_map, Result, Ok, Err, Contains, MatchBool}
 use Rattle.std.proofs.lemmas.Bool.{eqb-true}
 use Rattle.gb_types.specs.declared.node.NodeId.{NodeId}
+use Rattle.gb_types.specs.declared.refusal.Refusal.{Refusal}
 use Rattle.gb_types.specs.declared.refusal.Refusal.TheVariants.{OutOfMemory}
 use Rattle.gb_types.specs.declared.reply.Reply.TheVariants.{Refused}
 use Rattle.gb_types.specs.declared.request.Request.{Request}
@@ -23,7 +24,7 @@ use Rattle.gb_node.specs.declared.event.NodeEvent.TheVariants.{Request as Asked,
 use Rattle.gb_node.proofs.EventLemmas.{starved_says}
 use Rattle.gb_node.proofs.SentLemmas.{sends}
 use Rattle.gb_cluster.specs.Links.{PacketsAreHonest}
-use Rattle.gb_cluster.specs.ClusterStep.{NodeActs, posted, answer_of, packet_numbered, is_packet_for, IsAt, IsArrival, IsStep, IsPlaced}
+use Rattle.gb_cluster.specs.ClusterStep.{NodeActs, receiver_of, posted_by, posted, answer_of, packet_numbered, is_packet_for, IsAt, IsArrival, IsStep, IsPlaced}
 use Rattle.gb_cluster.specs.ClusterValue.{ClusterValue, node_plan, node_at}
 use Rattle.gb_cluster.specs.Run.{Did, ComesTo, IsSent, past_at}
 use Rattle.gb_cluster.specs.declared.answer.Answer.{Answer}
@@ -173,41 +174,22 @@ fed_is packets NotNoise g is fed = absurd (cc)
 
 -- What is sent.
 
-pack_none : (b : NodeId) (g : NodeAnswer) → sent_by g ≡ [] → posted (Pack b) g ≡ []
-pack_none b (Reply reply) none = refl
-pack_none b (Taken taken) none = refl
-pack_none b (Sent (Gave text)) none = absurd (cc)
-pack_none b (Sent Nothing) none = refl
-pack_none b (Sent (Unsent why)) none = refl
-pack_none b (Ticked ticked) none = refl
-pack_none b (Halted halted) none = refl
+nothing_posted : (to : Option NodeId) → posted_by to Nothing ≡ []
+nothing_posted None = refl
+nothing_posted (Some b) = refl
 
-again_none : (b : NodeId) (n : ℕ) (g : NodeAnswer) → sent_by g ≡ [] → posted (Again b n) g ≡ []
-again_none b n (Reply reply) none = refl
-again_none b n (Taken taken) none = refl
-again_none b n (Sent (Gave text)) none = absurd (cc)
-again_none b n (Sent Nothing) none = refl
-again_none b n (Sent (Unsent why)) none = refl
-again_none b n (Ticked ticked) none = refl
-again_none b n (Halted halted) none = refl
-
-ack_none : (b : NodeId) (g : NodeAnswer) → sent_by g ≡ [] → posted (Ack b) g ≡ []
-ack_none b (Reply reply) none = refl
-ack_none b (Taken taken) none = refl
-ack_none b (Sent (Gave text)) none = absurd (cc)
-ack_none b (Sent Nothing) none = refl
-ack_none b (Sent (Unsent why)) none = refl
-ack_none b (Ticked ticked) none = refl
-ack_none b (Halted halted) none = refl
+refused_posted : (to : Option NodeId) (why : Refusal) → posted_by to (Unsent why) ≡ []
+refused_posted None why = refl
+refused_posted (Some b) why = refl
 
 none_posted : (n : NodeEvent) (g : NodeAnswer) → sent_by g ≡ [] → posted n g ≡ []
-none_posted (Asked request) g none = refl
-none_posted (Came bytes) g none = refl
-none_posted (Pack b) g none = pack_none b g none
-none_posted (Again b n) g none = again_none b n g none
-none_posted (Ack b) g none = ack_none b g none
-none_posted Tick g none = refl
-none_posted Stop g none = refl
+none_posted n (Reply reply) none = refl
+none_posted n (Taken taken) none = refl
+none_posted n (Sent (Gave text)) none = absurd (cc)
+none_posted n (Sent Nothing) none = nothing_posted (receiver_of n)
+none_posted n (Sent (Unsent why)) none = refused_posted (receiver_of n) why
+none_posted n (Ticked ticked) none = refl
+none_posted n (Halted halted) none = refl
 
 -- a packet goes to some node
 one_posted : (v : NodeValue) (n : NodeEvent) (text : List ℕ) (w : NodeValue) → IsTurn v n (Sent (Gave text)) w → (b : NodeId) × (posted n (Sent (Gave text)) ≡ record { to = b; text = text } ∷ [])

@@ -1,16 +1,17 @@
 -- A run that goes on by one more event.
-use Rattle.std.proofs.Common.{◌≡◌, ℕ, zero, suc, ◌+◌, ◌<◌, ◌≤◌, inl, inr, true, false, Bool, List, [], ◌∷◌, ◌++◌, length, take, get_or, Option, Some, None, refl, sym, ap, subst, ◌∙◌, arith, add-one, append_assoc, length-append}
-use Rattle.std.specs.Prelude.{◌⊎◌, slice_get, option_map, reverse, All, Contains, MatchBool, if◌then◌else◌}
+use Rattle.std.proofs.Common.{◌≡◌, ℕ, zero, suc, ◌+◌, ◌<◌, ◌≤◌, true, false, Bool, List, [], ◌∷◌, ◌++◌, length, take, get_or, Option, Some, None, refl, sym, ap, subst, ◌∙◌, arith, add-one, append_assoc, length-append}
+use Rattle.std.specs.Prelude.{slice_get, option_map, reverse, All, Contains, MatchBool}
 use Rattle.std.proofs.lemmas.List.{append-nil, reverse-append, take_all, take_more}
 use Rattle.std.proofs.lemmas.List.Elements.{All-append, All-get_or}
 use Rattle.gb_types.specs.declared.node.NodeId.{NodeId}
-use Rattle.gb_node.specs.NodeStep.{running_turn, stopped_answer, IsTurn, IsStarved}
+use Rattle.gb_node.specs.NodeStep.{IsTurn}
 use Rattle.gb_node.specs.NodeValue.{NodeValue}
 use Rattle.gb_node.specs.declared.answer.NodeAnswer.{NodeAnswer}
 use Rattle.gb_node.specs.declared.answer.NodeAnswer.TheVariants.{Reply as Replied, Taken, Sent, Ticked, Halted}
 use Rattle.gb_node.specs.declared.answer.Sent.TheVariants.{Packet as SentPacket, Nothing as SentNothing, Refused as SentRefused}
 use Rattle.gb_node.specs.declared.event.NodeEvent.{NodeEvent}
 use Rattle.gb_node.specs.declared.event.NodeEvent.TheVariants.{Request as Asked, Packet as Came, Pack, Again, Ack, Tick, Stop}
+use Rattle.gb_node.proofs.SentLemmas as sent
 use Rattle.gb_cluster.proofs.CodeLemmas.{get_contains}
 use Rattle.gb_cluster.proofs.NodesLemmas.{stays}
 use Rattle.gb_cluster.specs.ClusterStep.{posted, answer_of, packet_numbered, is_packet_for, NodeActs, IsAt, IsArrival, IsPlaced, IsStep}
@@ -54,38 +55,10 @@ sends : (v w : NodeValue) (event : NodeEvent) (text : List ℕ) → IsTurn v eve
 sends v w (Pack b) text turned = tt
 sends v w (Again b n) text turned = tt
 sends v w (Ack b) text turned = tt
-sends v w (Asked request) text turned = by v.stopped turned
-  where
-    by : (t : Bool) → (IsStarved (Asked request) (if t then record { value = v; answer = stopped_answer (Asked request) } else running_turn v (Asked request)).answer (Sent (SentPacket text)) × (w ≡ v))
-        ⊎ ((Sent (SentPacket text) ≡ (if t then record { value = v; answer = stopped_answer (Asked request) } else running_turn v (Asked request)).answer) × (w ≡ (if t then record { value = v; answer = stopped_answer (Asked request) } else running_turn v (Asked request)).value)) → ⊥
-    by true (inl starved) = let e = starved.0.0 in absurd (cc)
-    by false (inl starved) = let e = starved.0.0 in absurd (cc)
-    by true (inr done) = let e = done.0 in absurd (cc)
-    by false (inr done) = let e = done.0 in absurd (cc)
-sends v w (Came bytes) text turned = by v.stopped turned
-  where
-    by : (t : Bool) → (IsStarved (Came bytes) (if t then record { value = v; answer = stopped_answer (Came bytes) } else running_turn v (Came bytes)).answer (Sent (SentPacket text)) × (w ≡ v))
-        ⊎ ((Sent (SentPacket text) ≡ (if t then record { value = v; answer = stopped_answer (Came bytes) } else running_turn v (Came bytes)).answer) × (w ≡ (if t then record { value = v; answer = stopped_answer (Came bytes) } else running_turn v (Came bytes)).value)) → ⊥
-    by true (inl starved) = absurd (starved.0)
-    by false (inl starved) = absurd (starved.0)
-    by true (inr done) = let e = done.0 in absurd (cc)
-    by false (inr done) = let e = done.0 in absurd (cc)
-sends v w Tick text turned = by v.stopped turned
-  where
-    by : (t : Bool) → (IsStarved Tick (if t then record { value = v; answer = stopped_answer Tick } else running_turn v Tick).answer (Sent (SentPacket text)) × (w ≡ v))
-        ⊎ ((Sent (SentPacket text) ≡ (if t then record { value = v; answer = stopped_answer Tick } else running_turn v Tick).answer) × (w ≡ (if t then record { value = v; answer = stopped_answer Tick } else running_turn v Tick).value)) → ⊥
-    by true (inl starved) = absurd (starved.0)
-    by false (inl starved) = absurd (starved.0)
-    by true (inr done) = let e = done.0 in absurd (cc)
-    by false (inr done) = let e = done.0 in absurd (cc)
-sends v w Stop text turned = by v.stopped turned
-  where
-    by : (t : Bool) → (IsStarved Stop (if t then record { value = v; answer = stopped_answer Stop } else running_turn v Stop).answer (Sent (SentPacket text)) × (w ≡ v))
-        ⊎ ((Sent (SentPacket text) ≡ (if t then record { value = v; answer = stopped_answer Stop } else running_turn v Stop).answer) × (w ≡ (if t then record { value = v; answer = stopped_answer Stop } else running_turn v Stop).value)) → ⊥
-    by true (inl starved) = absurd (starved.0)
-    by false (inl starved) = absurd (starved.0)
-    by true (inr done) = let e = done.0 in absurd (cc)
-    by false (inr done) = let e = done.0 in absurd (cc)
+sends v w (Asked request) text turned = absurd (let is = (sent.sends v (Asked request) text w turned).is in cc)
+sends v w (Came bytes) text turned = absurd (let is = (sent.sends v (Came bytes) text w turned).is in cc)
+sends v w Tick text turned = absurd (let is = (sent.sends v Tick text w turned).is in cc)
+sends v w Stop text turned = absurd (let is = (sent.sends v Stop text w turned).is in cc)
 
 -- The answer of the cluster tells that of the node, among the packets that there are then, and later.
 
