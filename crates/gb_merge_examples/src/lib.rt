@@ -1,7 +1,9 @@
-//! Tapes merged, as tests: tables of steps at nodes, whose tapes are merged, and what merging gives. There is nothing here
-//! but tests.
+//! Worked clusters and merged tapes, as tests: packets that arrive twice, noise and a stop; tables of steps at nodes, whose
+//! tapes are merged, and what merging gives. There is nothing here but tests.
 #![tactic(auto)]
 
+#[cfg(test)]
+mod arrivals;
 #[cfg(test)]
 mod faults;
 #[cfg(test)]
