@@ -51,8 +51,8 @@ fn is_plan(plan: &Plan) -> bool
 }
 
 /// The event that a command asks for, if it starts no cluster.
-fn event_of(command: Command) -> Option<Event> {
-    match command {
+fn event_of(command: Command) -> Result<Option<Event>, OutOfMemory> {
+    Ok(match command {
         Command::Cluster {
             nodes: _,
             silence: _,
@@ -68,7 +68,7 @@ fn event_of(command: Command) -> Option<Event> {
         }
         Command::Tick(node) => Some(Event::At(node, NodeEvent::Tick)),
         Command::Stop(node) => Some(Event::At(node, NodeEvent::Stop)),
-    }
+    })
 }
 
 /// The plan that the first line spells, if a cluster may be started so.
@@ -96,7 +96,7 @@ fn read(alloc: Global, lines: &[&[u8]]) -> Result<Option<(Plan, Vec<Event>)>, Ou
         let Some(command) = read_command(alloc, &mut keys, Some(plan.nodes), line)? else {
             return Ok(None);
         };
-        let Some(event) = event_of(command) else {
+        let Some(event) = event_of(command)? else {
             return Ok(None);
         };
         events.push(event)?;
