@@ -1,7 +1,7 @@
 -- Duties: what a node that delivered a message has done for each other member. By them Algorithms 3.1 to 3.4 of Cachin, Guerraoui, Rodrigues, Introduction to
 -- Reliable and Secure Distributed Programming, 2011, bring about Validity (Module 3.1), Agreement (Module 3.2) and Uniform Agreement (Module 3.3). They are safety:
 -- each holds after every event, and none says that something will happen.
-use Rattle.std.specs.Prelude.{ℕ, ◌≡◌, ◌⊎◌, Bool, true, List, Some}
+use Rattle.std.specs.Prelude.{ℕ, ◌≡◌, ◌⊎◌, Bool, true, false, List, Some}
 use Rattle.std.specs.FinSet as set
 use Rattle.gb_types.specs.declared.entry.Entry.{Entry}
 use Rattle.gb_types.specs.declared.message.MsgId.{MsgId}
@@ -12,7 +12,7 @@ use Rattle.gb_layer.specs.declared.broadcast_module.BroadcastModule.{BroadcastMo
 use Rattle.gb_layer.specs.declared.broadcast_module.BroadcastModule.TheVariants.{BestEffort, Lazy, Eager, AllAck}
 use Rattle.gb_fifo.specs.Order.{is_in}
 use Rattle.gb_stack.specs.Kinds.{module_of}
-use Rattle.gb_rules.specs.Group.{is_other}
+use Rattle.gb_rules.specs.Group.{is_gone, is_member, is_other}
 use Rattle.gb_history.specs.History.{calls_of}
 use Rattle.gb_history.specs.Messages.{has}
 use Rattle.gb_alone.specs.Alone.{Member, Group, alone, held_spec, IsLegal}
@@ -61,3 +61,14 @@ pub record Duties (group : Group) : Type 0 where
 -- after every event of a legal list each node has done its duties
 abbrev pub IsDutiful : Type 0
 IsDutiful = (nodes number : ℕ) (steps : List GroupStep) → IsLegal nodes number steps → Duties (alone nodes number steps)
+
+-- What stands in a log.
+
+-- what is delivered at a node that made the group is of a member
+abbrev pub DeliveredAreOfMembers : Type 0
+DeliveredAreOfMembers = (nodes number : ℕ) (steps : List GroupStep) (b : ℕ) (spec : Spec) → (alone nodes number steps b).spec ≡ Some spec → (m : MsgId) → delivered_at spec b (alone nodes number steps b) m ≡ true → is_member spec m.origin.number ≡ true
+
+-- what stands in a log is delivered there, and the group was not dropped
+abbrev pub LoggedAreDelivered : Type 0
+LoggedAreDelivered = (nodes number : ℕ) (steps : List GroupStep) (b : ℕ) (spec : Spec) → (alone nodes number steps b).spec ≡ Some spec → (m : MsgId) → logged_at b (alone nodes number steps b) m ≡ true
+    → (is_gone (alone nodes number steps b).phase ≡ false) × (delivered_at spec b (alone nodes number steps b) m ≡ true)

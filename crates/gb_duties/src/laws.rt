@@ -1,6 +1,6 @@
 //! Laws of one group: what its nodes have done for each other, and what their logs share.
 ghost use Rattle.gb_duties.specs.Agreement.{IsAgreed};
-ghost use Rattle.gb_duties.specs.Duties.{IsDutiful};
+ghost use Rattle.gb_duties.specs.Duties.{DeliveredAreOfMembers, IsDutiful, LoggedAreDelivered};
 
 use gb_fifo::order::{gives_up_whole_runs, top_is_the_greatest};
 use gb_stack::stands::module_logs;
@@ -8,9 +8,12 @@ use gb_stack::stands::module_logs;
 /// Duties: after every event, at each node that made the group and did not drop it, for each message that was delivered
 /// there and each other member. An eager node has noticed the member or put the message out to it; a lazy one so where
 /// the message is its own or of an origin that it noticed; a best-effort one where it is its own. At an all-ack node the
-/// member is noticed, or has said the message or taken it in, whether or not it dropped the group since.
+/// member is noticed, or has said the message or taken it in, whether or not it dropped the group since. What is delivered
+/// at a node is of a member of the group, and what stands in a log is delivered.
 pub fn duties()
-    ensures { IsDutiful }
+    ensures dutiful { IsDutiful }
+    ensures members { DeliveredAreOfMembers }
+    ensures logged { LoggedAreDelivered }
 {
     module_logs();
     gives_up_whole_runs();

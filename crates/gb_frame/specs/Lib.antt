@@ -5,3 +5,4 @@ pub mod Reading
 pub mod Faults
 pub mod Laws
 pub mod Batch
+pub mod Items

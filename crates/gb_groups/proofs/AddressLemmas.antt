@@ -11,7 +11,8 @@ use Rattle.gb_types.specs.declared.address.Addr.{Addr}
 use Rattle.gb_rules.specs.Address.{is_addr}
 use Rattle.gb_slot.specs.SlotState.{SlotState}
 use Rattle.gb_groups.specs.SlotsValue.{Row, row_at, on_slot, no_row}
-use Rattle.gb_groups.specs.AtAddress.{place_of, step_at, on_address, address_of, entry_of, item_came, OthersKept}
+use Rattle.gb_frame.specs.Items.{address_of, entry_of}
+use Rattle.gb_groups.specs.AtAddress.{place_of, step_at, on_address, item_came, OthersKept}
 use Rattle.std.proofs.lemmas.Bool.{lt-ltb, le-leb}
 use Rattle.gb_types.proofs.SameLemmas.{same_number}
 use Rattle.gb_types.specs.declared.limits.TheConstants.{NODES, PAYLOAD}

@@ -17,8 +17,10 @@ use Rattle.gb_groups.specs.SlotsValue.{Row, row_at, no_row, on_slot, gone, AreAp
 use Rattle.gb_groups.specs.GroupsValue.{GroupsValue, batch, packed}
 use Rattle.gb_groups.specs.Packing.{Visit, visit, share, is_at, items, item_at, queue, gave}
 use Rattle.gb_groups.specs.Fair.{is_of}
-use Rattle.gb_groups.specs.AtAddress.{place_of, step_at, on_address, gone_at, drop_at, address_of, entry_of, item_came}
-use Rattle.gb_groups.specs.OneGroup.{group_in, stepped, dropped, or_added, where_so, names, items_for, came_for, waiting_in, item_for, EachGroup, StayApart}
+use Rattle.gb_frame.specs.Items.{address_of, entry_of, names, items_for, item_for}
+use Rattle.gb_groups.specs.AtAddress.{place_of, step_at, on_address, gone_at, drop_at, item_came}
+use Rattle.gb_rules.specs.Lifetime.{stepped, dropped, or_added, where_so}
+use Rattle.gb_groups.specs.OneGroup.{group_in, came_for, waiting_in, EachGroup, StayApart}
 use Rattle.gb_groups.proofs.AddLemmas.{end_apart}
 use Rattle.gb_groups.proofs.AddressLemmas.{place_is, addr_through, both_true}
 use Rattle.gb_groups.proofs.BatchLemmas.{get_or-gave}

@@ -1,11 +1,10 @@
 -- A step at one address.
-use Rattle.std.proofs.Common.{arith}
-use Rattle.std.specs.Prelude.{ℕ, ◌≡◌, ◌<◌, ◌%◌, ◌&&◌, false, List, length, Option, Some, None, option_map, position, nat_lt, nat_le, slice_set, if◌then◌else◌}
+use Rattle.std.specs.Prelude.{ℕ, ◌≡◌, ◌&&◌, false, List, length, Option, Some, None, option_map, position, nat_lt, nat_le, slice_set, if◌then◌else◌}
 use Rattle.gb_types.specs.declared.address.Addr.{Addr}
-use Rattle.gb_types.specs.declared.entry.Entry.{Entry}
 use Rattle.gb_types.specs.declared.limits.TheConstants.{NODES, PAYLOAD}
 use Rattle.gb_types.specs.declared.node.NodeId.{NodeId}
 use Rattle.gb_frame.specs.declared.item.Item.{Item}
+use Rattle.gb_frame.specs.Items.{address_of, entry_of}
 use Rattle.gb_types.specs.declared.refusal.Refusal.TheVariants.{NoGroup}
 use Rattle.gb_types.specs.declared.reply.Reply.{Reply}
 use Rattle.gb_types.specs.declared.reply.Reply.TheVariants.{Refused}
@@ -43,16 +42,6 @@ drop_at addr rows = gone_at rows (place_of addr rows)
 -- every other group is as it was
 pub record OthersKept (addr : Addr) (old new : List Row) : Type 0 where
   pub others : (g : Addr) → is_addr g addr ≡ false → row_for g new ≡ row_for g old
-
-pub rest_is_node : (n : ℕ) → n % NODES < NODES
-rest_is_node n = omega arith
-
--- the address of an item, and what it says; its origin's number is below the number of nodes that there may be
-abbrev pub address_of : Item → Addr
-address_of i = record { tenant = i.tenant; group = i.group }
-
-abbrev pub entry_of : Item → Entry
-entry_of i = record { origin = record { number = i.origin % NODES; below = rest_is_node i.origin }; seq = i.seq; payload = i.payload }
 
 -- after an item came from a node; one whose origin is no node, or that is longer than a message may be, is let fall
 abbrev pub item_came : NodeId → Item → List Row → List Row

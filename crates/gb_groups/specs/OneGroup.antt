@@ -1,45 +1,23 @@
 -- What becomes of one group among the groups of a node.
-use Rattle.std.specs.Prelude.{ℕ, ◌≡◌, ◌+◌, ◌&&◌, Bool, List, ◌++◌, ◌∷◌, [], length, map, take, filter, fold, Option, Some, None, option_map, nat_lt, nat_le, if◌then◌else◌}
+use Rattle.std.specs.Prelude.{ℕ, ◌≡◌, ◌+◌, ◌&&◌, List, ◌++◌, ◌∷◌, [], length, map, take, fold, Option, Some, None, option_map, nat_lt, nat_le, if◌then◌else◌}
 use Rattle.gb_types.specs.declared.address.Addr.{Addr}
 use Rattle.gb_types.specs.declared.entry.Entry.{Entry}
 use Rattle.gb_types.specs.declared.limits.TheConstants.{NODES, PAYLOAD}
 use Rattle.gb_types.specs.declared.node.NodeId.{NodeId}
 use Rattle.gb_frame.specs.declared.item.Item.{Item}
+use Rattle.gb_frame.specs.Items.{entry_of, item_for, items_for}
 use Rattle.gb_rules.specs.Address.{is_addr}
+use Rattle.gb_rules.specs.Lifetime.{stepped, dropped, or_added, where_so}
 use Rattle.gb_slot.specs.SlotState.{SlotState}
 use Rattle.gb_slot.specs.Slot.{slot_came, slot_took}
 use Rattle.gb_groups.specs.SlotsValue.{Row, on_slot, AreApart}
 use Rattle.gb_groups.specs.GroupsValue.{GroupsValue, batch, packed}
 use Rattle.gb_groups.specs.Packing.{items, queue_of}
-use Rattle.gb_groups.specs.AtAddress.{place_of, row_for, on_address, drop_at, address_of, entry_of, item_came}
+use Rattle.gb_groups.specs.AtAddress.{place_of, row_for, on_address, drop_at, item_came}
 
 -- the group with an address: None where it was never made, no slot where it was dropped
 abbrev pub group_in : Addr → List Row → Option (Option SlotState)
 group_in g rows = option_map (λ row. row.slot) (row_for g rows)
-
--- a group after a step of its slot, if it is there
-abbrev pub stepped : {X : Type 0} → (X → X) → Option (Option X) → Option (Option X)
-stepped step o = option_map (option_map step) o
-
--- a group once it was dropped, if it was made
-abbrev pub dropped : {X : Type 0} → Option (Option X) → Option (Option X)
-dropped o = option_map (λ s. None) o
-
--- where it is not there, it is the one that is added
-abbrev pub or_added : {X : Type 0} → Option (Option X) → Option (Option X) → Option (Option X)
-or_added None new = new
-or_added (Some s) new = Some s
-
--- only where a test holds
-abbrev pub where_so : {X : Type 0} → Bool → (X → X) → X → X
-where_so b step o = if b then step o else o
-
--- the items that name a group, among these
-abbrev pub names : Addr → Item → Bool
-names g i = is_addr g (address_of i)
-
-abbrev pub items_for : Addr → List Item → List Item
-items_for g items = filter (names g) items
 
 -- after an item came for it from a node; one whose origin is no node, or that is longer than a message may be, is let fall
 abbrev pub came_for : NodeId → Option (Option SlotState) → Item → Option (Option SlotState)
@@ -57,10 +35,6 @@ LONGEST = 9 + PAYLOAD
 -- nothing waits for a node in any group
 abbrev pub NothingWaits : ℕ → List Row → Type 0
 NothingWaits dest rows = (g : Addr) → waiting_in (group_in g rows) dest ≡ []
-
--- an entry of a group as an item of a packet
-abbrev pub item_for : Addr → Entry → Item
-item_for g e = record { tenant = g.tenant; group = g.group; origin = e.origin.number; seq = e.seq; payload = e.payload }
 
 -- What each call makes of each group by itself.
 pub record EachGroup : Type 0 where

@@ -1,3 +1,4 @@
 pub mod MentionLemmas
 pub mod KnownLemmas
 pub mod LogLemmas
+pub mod PutLemmas

@@ -7,7 +7,7 @@ use Rattle.gb_types.specs.declared.message.MsgId.{MsgId}
 use Rattle.gb_types.specs.declared.spec.Spec.{Spec}
 use Rattle.gb_layer.specs.declared.call.Call.{Call}
 use Rattle.gb_layer.specs.declared.call.Call.TheVariants.{Say, Came, Notice}
-use Rattle.gb_layer.specs.Machine.{mentions, came_from}
+use Rattle.gb_layer.specs.Machine.{mentions, came_from, was_noticed}
 use Rattle.gb_stack.specs.Kinds.{kind_broadcasts, kind_log}
 use Rattle.gb_history.specs.declared.call.GroupCall.{GroupCall}
 use Rattle.gb_history.specs.declared.call.GroupCall.TheVariants.{Own, Other, Crashed}
@@ -29,6 +29,10 @@ call_of (Crashed q) = Notice q
 unfoldable pub calls_of : List GroupCall → List Call
 calls_of [] = []
 calls_of (c ∷ told) = call_of c ∷ calls_of told
+
+-- the group was told of the crash of a node with this number
+abbrev pub has_noticed : List GroupCall → ℕ → Bool
+has_noticed told b = was_noticed (calls_of told) b
 
 -- the messages that the group was told of, in the order of first mention, with the payloads that they had then
 unfoldable pub known : List GroupCall → List Entry

@@ -16,10 +16,10 @@ use Rattle.gb_detect.specs.Silence.{Heard}
 use Rattle.gb_detect.specs.Watch.{start, replay}
 use Rattle.gb_rules.specs.Tenant.{reserve_of, row_of}
 use Rattle.gb_alone.specs.Alone.{Member, Group, alone_from}
-use Rattle.gb_groups.specs.OneGroup.{items_for, came_for, waiting_in}
+use Rattle.gb_frame.specs.Items.{items_for}
 use Rattle.gb_node.specs.NodeStep.{node_numbered}
 use Rattle.gb_node.specs.Past.{Happened, read, frames_to, is_ack, is_acked, is_frame, is_first, is_taken, is_stopped, tenants_in, watched}
-use Rattle.gb_node.specs.PastGroups.{group_of, taken_for}
+use Rattle.gb_node.specs.PastGroups.{waiting_of, came_told, taken_told, told_of}
 use Rattle.gb_node.specs.StepLaw.{IsTakenIn}
 use Rattle.gb_node.specs.declared.answer.Good.{Good}
 use Rattle.gb_node.specs.declared.answer.NodeAnswer.TheVariants.{Taken}
@@ -39,20 +39,20 @@ use Rattle.gb_isolation.proofs.ComeLemmas.{with_frame, frame_goes}
 -- The view.
 
 -- the view after a packet from a node is taken, whose frame comes for the first time or does not
-abbrev with_packet : Addr → Content → Bool → View → View
-with_packet g c first v =
-    let u : View = with_acks g (node_numbered c.from) c.from (covers c.base c.mask) v in
+abbrev with_packet : Addr → NodeId → Content → Bool → View → View
+with_packet g me c first v =
+    let u : View = with_acks g me (node_numbered c.from) c.from (covers c.base c.mask) v in
     record u {
-      slot = if first then fold (came_for (node_numbered c.from)) u.slot (items_for g c.items) else u.slot;
+      told = if first then fold (came_told me (node_numbered c.from)) u.told (items_for g c.items) else u.told;
       taken = λ b n. (first && (nat_eq c.from b && nat_eq c.frame n)) || v.taken b n;
     }
 
 packet_view : (plan : NodePlan) (g : Addr) (past : List Happened) (bytes : List ℕ) (good : Good) (c : Content) → read plan.cluster_key bytes ≡ c ∷ []
-    → view_of plan g (record { event = Brought bytes; answer = Taken (TakenGood good) } ∷ past) ≡ with_packet g c (is_first good.frame) (view_of plan g past)
-unfolding frames_to is_acked is_taken watched tenants_in group_of made_with replies_in is_met
+    → view_of plan g (record { event = Brought bytes; answer = Taken (TakenGood good) } ∷ past) ≡ with_packet g plan.me c (is_first good.frame) (view_of plan g past)
+unfolding frames_to is_acked is_taken watched tenants_in told_of made_with replies_in is_met
 packet_view plan g past bytes good c is = λ i. record {
   reserve = option_map reserve_of (row_of g.tenant (append-nil (tenants_in past) i));
-  slot = fold (taken_for plan.cluster_key g past good.frame) (group_of plan g past) (is i);
+  told = fold (taken_told plan.me plan.cluster_key g past good.frame) (told_of plan g past) (is i);
   made = made_with g past;
   noticed = set.contains (replay (start plan.me.number plan.nodes plan.silence) (map (λ (x : Content). Heard x.from) (is i) ++ watched plan.cluster_key past)).noticed;
   replies = append-nil (replies_in plan g past) i;
@@ -123,24 +123,24 @@ module _ (plan : Plan) (g : Addr) (run : List Did) (a : NodeId) (bytes : List �
   come = subst (λ (x : NodeId). AreMarked g (frames_to key s.number (past_at x run)) (λ n. is_taken key a.number n (past_at s run)) ((group s.number).come a.number)) (node_same a) (sender.come a.number inside)
 
   abbrev u : View
-  u = with_acks g s c.from covered v
+  u = with_acks g a s c.from covered v
 
   acks_part : Goes plan.nodes g a frames_from u group (acknowledges plan g past a c)
-  acks_part = subst (λ d. Goes plan.nodes g a frames_from (with_acks g s d covered v) group (all_acknowledged g a s (λ n. covered n && not (is_acked key d n past)) 1 0 (frames_to key d past))) number
+  acks_part = subst (λ d. Goes plan.nodes g a frames_from (with_acks g a s d covered v) group (all_acknowledged g a s (λ n. covered n && not (is_acked key d n past)) 1 0 (frames_to key d past))) number
       (acks_goes plan.nodes g a s frames_from v group covered sender_inside (λ same. apart (sym same)) running (λ k f at. fit a inside s.number k f at)
       (λ n place covers_it low high. come.each n place low high ∙ got (n + 1) (omega arith) covers_it) here)
 
   abbrev mid : Group
   mid = alone_from plan.nodes g.group group (acknowledges plan g past a c)
 
-  frame_part : is_first good.frame ≡ true → Goes plan.nodes g a frames_from (with_packet g c true v) mid (brings plan g run a c)
+  frame_part : is_first good.frame ≡ true → Goes plan.nodes g a frames_from (with_packet g a c true v) mid (brings plan g run a c)
   frame_part first =
-      subst (λ fs. Goes plan.nodes g a frames_from (with_packet g c true v) mid (comes s a (offset g fs (c.frame - 1)) (length (items_in g c.items)))) forth
-      (subst (λ d. Goes plan.nodes g a frames_from (with_frame s d c.frame (items_for g c.items) u) mid (comes s a (offset g (frames_from s.number) (c.frame - 1)) (length (items_in g c.items)))) number
-      (subst (λ n. Goes plan.nodes g a frames_from (with_frame s s.number n (items_for g c.items) u) mid (comes s a (offset g (frames_from s.number) (c.frame - 1)) (length (items_in g c.items)))) counted
-      (frame_goes plan.nodes g a s frames_from u mid (c.frame - 1) c.items (waiting_in (view_at plan g run s).slot a.number) sender_inside apart (acks_part.there.stopped ∙ (sym here.stopped ∙ running))
+      subst (λ fs. Goes plan.nodes g a frames_from (with_packet g a c true v) mid (comes s a (offset g fs (c.frame - 1)) (length (items_in g c.items)))) forth
+      (subst (λ d. Goes plan.nodes g a frames_from (with_frame a s d c.frame (items_for g c.items) u) mid (comes s a (offset g (frames_from s.number) (c.frame - 1)) (length (items_in g c.items)))) number
+      (subst (λ n. Goes plan.nodes g a frames_from (with_frame a s s.number n (items_for g c.items) u) mid (comes s a (offset g (frames_from s.number) (c.frame - 1)) (length (items_in g c.items)))) counted
+      (frame_goes plan.nodes g a s frames_from u mid (c.frame - 1) c.items (waiting_of (view_at plan g run s).told a.number) sender_inside apart (acks_part.there.stopped ∙ (sym here.stopped ∙ running))
       (ap (λ fs. slice_get fs (c.frame - 1)) forth ∙ framed first) (fit s sender_inside a.number (c.frame - 1) c.items (framed first))
-      (ap (λ (m : Member). m.put a.number) same_sender ∙ (sender.put a.number inside ∙ ap (λ fs. items_of g fs ++ waiting_in (view_at plan g run s).slot a.number) (sym forth)))
+      (ap (λ (m : Member). m.put a.number) same_sender ∙ (sender.put a.number inside ∙ ap (λ fs. items_of g fs ++ waiting_of (view_at plan g run s).told a.number) (sym forth)))
       (ap (λ (m : Member). m.taken a.number) same_sender ∙ (sender.taken a.number inside ∙ ap (λ fs. length (items_of g fs)) (sym forth)))
       ((λ i. is_taken key (number i) (counted i) past) ∙ (right.first first).1) acks_part.there)))
     where
@@ -153,8 +153,8 @@ module _ (plan : Plan) (g : Addr) (run : List Did) (a : NodeId) (bytes : List �
       same_sender : mid s.number ≡ group s.number
       same_sender = acks_part.elsewhere s.number apart
 
-  packet_part : (first : Bool) → is_first good.frame ≡ first → Goes plan.nodes g a frames_from (with_packet g c first v) group (acknowledges plan g past a c ++ (if first then brings plan g run a c else []))
-  packet_part true is = goes_on plan.nodes g a frames_from u (with_packet g c true v) group (acknowledges plan g past a c) (brings plan g run a c) acks_part (frame_part is)
+  packet_part : (first : Bool) → is_first good.frame ≡ first → Goes plan.nodes g a frames_from (with_packet g a c first v) group (acknowledges plan g past a c ++ (if first then brings plan g run a c else []))
+  packet_part true is = goes_on plan.nodes g a frames_from u (with_packet g a c true v) group (acknowledges plan g past a c) (brings plan g run a c) acks_part (frame_part is)
   packet_part false is = subst (λ given. Goes plan.nodes g a frames_from u group given) (sym (append-nil (acknowledges plan g past a c))) acks_part
 
   given : flat_map (arrived plan g run a) (read key bytes) ≡ acknowledges plan g past a c ++ (if is_first good.frame then brings plan g run a c else [])

@@ -17,21 +17,19 @@ use Rattle.gb_types.specs.declared.spec.Spec.{Spec}
 use Rattle.gb_frame.specs.declared.item.Item.{Item}
 use Rattle.gb_rules.specs.Tenant.{reserve_of, row_of}
 use Rattle.gb_rules.specs.declared.reserve.Reserve.{Reserve}
-use Rattle.gb_slot.specs.SlotState.{SlotState}
 use Rattle.gb_alone.specs.declared.event.GroupEvent.{GroupEvent}
 use Rattle.gb_alone.specs.declared.event.GroupEvent.TheVariants.{Make as AskMake, Open as AskOpen, Shut as AskShut, Drop as AskDrop, Say as AskSay}
 use Rattle.gb_alone.specs.Alone.{Member, Group, did, commanded, member_after, is_marked, MayHappen}
-use Rattle.gb_groups.specs.OneGroup.{waiting_in}
 use Rattle.gb_node.specs.Past.{Happened, frames_to, is_acked, is_taken, watched, added, tenants_in, is_stopped}
-use Rattle.gb_node.specs.PastGroups.{noticed_in, group_of, asked_for}
+use Rattle.gb_node.specs.PastGroups.{Told, noticed_in, waiting_of, asked_told, told_of}
 use Rattle.gb_node.specs.declared.answer.NodeAnswer.TheVariants.{Reply as Replied}
 use Rattle.gb_node.specs.declared.event.NodeEvent.TheVariants.{Request as Asked}
 use Rattle.gb_node.specs.declared.plan.NodePlan.{NodePlan}
 use Rattle.gb_isolation.specs.Project.{items_of, is_own, made_by, or_else, made_with, is_met_by, is_met, reply_in, replies_in}
 use Rattle.gb_isolation.proofs.GoesLemmas.{goes_one}
-use Rattle.gb_isolation.proofs.MemberLemmas.{same_slot}
+use Rattle.gb_isolation.proofs.MemberLemmas.{same_member}
 use Rattle.gb_isolation.proofs.QuietLemmas.{quiet_goes}
-use Rattle.gb_isolation.proofs.View.{View, view_of, SlotIs, KeepsAcks, IsInside, AreMarked, Fits, Goes}
+use Rattle.gb_isolation.proofs.View.{View, view_of, MemberIs, KeepsAcks, IsInside, AreMarked, Fits, Goes}
 
 -- The view.
 
@@ -45,17 +43,17 @@ none_acked false true = refl
 none_acked false false = refl
 
 -- the view after a request has other links nowhere, and notices nobody
-pub view_asked : (plan : NodePlan) (g : Addr) (past : List Happened) (request : Request) (reply : Reply) (reserve : Option Reserve) (slot : Option (Option SlotState)) (made : Option Spec) (replies : List Reply) (met : Bool)
+pub view_asked : (plan : NodePlan) (g : Addr) (past : List Happened) (request : Request) (reply : Reply) (reserve : Option Reserve) (told : Option (Option Told)) (made : Option Spec) (replies : List Reply) (met : Bool)
     → option_map reserve_of (row_of g.tenant (tenants_in past ++ added (Asked request) (Replied reply))) ≡ reserve
-    → asked_for g plan.me (noticed_in plan past) request reply (group_of plan g past) ≡ slot
+    → asked_told g plan.me (noticed_in plan past) request reply (told_of plan g past) ≡ told
     → or_else (made_by g (Asked request) (Replied reply)) (made_with g past) ≡ made
     → replies_in plan g past ++ reply_in plan g past (Asked request) (Replied reply) ≡ replies
     → (is_met_by plan g past (Asked request) (Replied reply) || is_met plan g past) ≡ met
-    → view_of plan g (asking request reply ∷ past) ≡ record (view_of plan g past) { reserve = reserve; slot = slot; made = made; replies = replies; met = met }
-unfolding tenants_in group_of made_with replies_in is_met frames_to is_acked is_taken watched
-view_asked plan g past request reply reserve slot made replies met reserves slots mades says meets = λ i. record {
+    → view_of plan g (asking request reply ∷ past) ≡ record (view_of plan g past) { reserve = reserve; told = told; made = made; replies = replies; met = met }
+unfolding tenants_in told_of made_with replies_in is_met frames_to is_acked is_taken watched
+view_asked plan g past request reply reserve told made replies met reserves tells mades says meets = λ i. record {
   reserve = reserves i;
-  slot = slots i;
+  told = tells i;
   made = mades i;
   noticed = set.contains (noticed_in plan past);
   replies = says i;
@@ -70,16 +68,16 @@ pub rows_kept : (plan : NodePlan) (g : Addr) (past : List Happened) (request : R
 rows_kept plan g past request reply none = ap (λ rows. option_map reserve_of (row_of g.tenant (tenants_in past ++ rows))) none ∙ ap (λ rows. option_map reserve_of (row_of g.tenant rows)) (append-nil (tenants_in past))
 
 -- the group's own request at a running node
-pub view_own : (plan : NodePlan) (g : Addr) (past : List Happened) (request : Request) (reply : Reply) (slot : Option (Option SlotState)) (made : Option Spec)
+pub view_own : (plan : NodePlan) (g : Addr) (past : List Happened) (request : Request) (reply : Reply) (told : Option (Option Told)) (made : Option Spec)
     → is_stopped past ≡ false
     → is_own plan g past request ≡ true
     → added (Asked request) (Replied reply) ≡ []
-    → asked_for g plan.me (noticed_in plan past) request reply (group_of plan g past) ≡ slot
+    → asked_told g plan.me (noticed_in plan past) request reply (told_of plan g past) ≡ told
     → or_else (made_by g (Asked request) (Replied reply)) (made_with g past) ≡ made
-    → view_of plan g (asking request reply ∷ past) ≡ record (view_of plan g past) { slot = slot; made = made; replies = replies_in plan g past ++ reply ∷ [] }
-view_own plan g past request reply slot made running own rows slots mades =
-    view_asked plan g past request reply (view_of plan g past).reserve slot made (replies_in plan g past ++ reply ∷ []) (is_met plan g past)
-    (rows_kept plan g past request reply rows) slots mades
+    → view_of plan g (asking request reply ∷ past) ≡ record (view_of plan g past) { told = told; made = made; replies = replies_in plan g past ++ reply ∷ [] }
+view_own plan g past request reply told made running own rows tells mades =
+    view_asked plan g past request reply (view_of plan g past).reserve told made (replies_in plan g past ++ reply ∷ []) (is_met plan g past)
+    (rows_kept plan g past request reply rows) tells mades
     (ap (λ b. replies_in plan g past ++ (if b then reply ∷ [] else [])) own)
     (ap (λ b. (b && is_own plan g past request) || is_met plan g past) running)
 
@@ -103,7 +101,7 @@ refused_makes g (DropGroup token addr) why = refl
 refused_makes g (Say token addr payload) why = refl
 refused_makes g (Fetch token addr from most) why = refl
 
-pub refused_for : (g : Addr) (me : NodeId) (noticed : set.FinSet nat_cmp) (request : Request) (why : Refusal) (o : Option (Option SlotState)) → asked_for g me noticed request (Refused why) o ≡ o
+pub refused_for : (g : Addr) (me : NodeId) (noticed : set.FinSet nat_cmp) (request : Request) (why : Refusal) (o : Option (Option Told)) → asked_told g me noticed request (Refused why) o ≡ o
 refused_for g me noticed (AddTenant token row) why o = refl
 refused_for g me noticed (Make token addr spec) why o = refl
 refused_for g me noticed (OpenGroup token addr) why o = refl
@@ -116,17 +114,17 @@ refused_for g me noticed (Fetch token addr from most) why o = refl
 pub quiet_request : (plan : NodePlan) (g : Addr) (past : List Happened) (request : Request) (reply : Reply) (frames_from : ℕ → List (List Item)) (group : Group)
     → is_own plan g past request ≡ false
     → added (Asked request) (Replied reply) ≡ []
-    → asked_for g plan.me (noticed_in plan past) request reply (group_of plan g past) ≡ group_of plan g past
+    → asked_told g plan.me (noticed_in plan past) request reply (told_of plan g past) ≡ told_of plan g past
     → made_by g (Asked request) (Replied reply) ≡ None
     → Fits plan.nodes g plan.me.number frames_from (view_of plan g past) (group plan.me.number)
     → Goes plan.nodes g plan.me frames_from (view_of plan g (asking request reply ∷ past)) group []
-quiet_request plan g past request reply frames_from group other rows slot unmade fits = quiet_goes plan g past (Asked request) (Replied reply) frames_from group (record {
+quiet_request plan g past request reply frames_from group other rows told unmade fits = quiet_goes plan g past (Asked request) (Replied reply) frames_from group (record {
   packed = λ b. refl;
   none_came = refl;
   none_taken = λ b n. refl;
   no_tick = refl;
   none_added = rows;
-  same_group = slot;
+  same_group = told;
   not_made = unmade;
   no_reply = ap (λ b. if b then reply ∷ [] else []) other;
   unmet = ap (λ b. is_stopped past && b) other ∙ and_right (is_stopped past) false refl;
@@ -138,7 +136,7 @@ pub refused_quiet : (plan : NodePlan) (g : Addr) (past : List Happened) (request
     → Fits plan.nodes g plan.me.number frames_from (view_of plan g past) (group plan.me.number)
     → Goes plan.nodes g plan.me frames_from (view_of plan g (asking request (Refused why) ∷ past)) group []
 refused_quiet plan g past request why frames_from group other fits =
-    quiet_request plan g past request (Refused why) frames_from group other (refused_adds request why) (refused_for g plan.me (noticed_in plan past) request why (group_of plan g past)) (refused_makes g request why) fits
+    quiet_request plan g past request (Refused why) frames_from group other (refused_adds request why) (refused_for g plan.me (noticed_in plan past) request why (told_of plan g past)) (refused_makes g request why) fits
 
 -- A command.
 
@@ -159,11 +157,11 @@ did_keeps a AskDrop Done m = record { reserve = refl; taken = refl; come = refl;
 did_keeps a (AskSay payload) (Said seq) m = record { reserve = refl; taken = refl; come = refl; done = refl; noticed = refl; stopped = refl }
 did_keeps a e r m = record { reserve = refl; taken = refl; come = refl; done = refl; noticed = refl; stopped = refl }
 
--- a slot fits the group at a node, of whose items these are carried to each node
-pub record SlotFits (nodes : ℕ) (me : ℕ) (carried : ℕ → List Entry) (o : Option (Option SlotState)) (m : Member) : Type 0 where
-  pub slot : SlotIs me o m
+-- what is told fits the group at a node, of whose items these are carried to each node
+pub record MemberFits (nodes : ℕ) (me : ℕ) (carried : ℕ → List Entry) (o : Option (Option Told)) (m : Member) : Type 0 where
+  pub told : MemberIs o m
   pub inside : IsInside nodes o
-  pub put : (b : ℕ) → b < nodes → m.put b ≡ carried b ++ waiting_in o b
+  pub put : (b : ℕ) → b < nodes → m.put b ≡ carried b ++ waiting_of o b
   pub taken : (b : ℕ) → b < nodes → m.taken b ≡ length (carried b)
   pub acks : KeepsAcks nodes me o carried m.done
 
@@ -171,31 +169,31 @@ pub record SlotFits (nodes : ℕ) (me : ℕ) (carried : ℕ → List Entry) (o :
 abbrev pub carried_in : Addr → View → ℕ → List Entry
 carried_in g v b = items_of g (v.frames b)
 
-pub slot_fits : (nodes : ℕ) (g : Addr) (me : ℕ) (frames_from : ℕ → List (List Item)) (v : View) (m : Member) → Fits nodes g me frames_from v m → SlotFits nodes me (carried_in g v) v.slot m
-slot_fits nodes g me frames_from v m fits = record { slot = fits.slot; inside = fits.inside; put = fits.put; taken = fits.taken; acks = fits.acks }
+pub member_fits : (nodes : ℕ) (g : Addr) (me : ℕ) (frames_from : ℕ → List (List Item)) (v : View) (m : Member) → Fits nodes g me frames_from v m → MemberFits nodes me (carried_in g v) v.told m
+member_fits nodes g me frames_from v m fits = record { told = fits.told; inside = fits.inside; put = fits.put; taken = fits.taken; acks = fits.acks }
 
 -- a command of the group that does not make it
-pub commands : (nodes : ℕ) (g : Addr) (a : NodeId) (frames_from : ℕ → List (List Item)) (v : View) (group : Group) (e : GroupEvent) (reply : Reply) (o : Option (Option SlotState))
+pub commands : (nodes : ℕ) (g : Addr) (a : NodeId) (frames_from : ℕ → List (List Item)) (v : View) (group : Group) (e : GroupEvent) (reply : Reply) (o : Option (Option Told))
     → Fits nodes g a.number frames_from v (group a.number)
     → MayHappen a e group
     → member_after nodes g.group a e group ≡ commanded a e reply (group a.number)
     → (did a e reply (group a.number)).spec ≡ (group a.number).spec
-    → SlotFits nodes a.number (carried_in g v) o (did a e reply (group a.number))
-    → Goes nodes g a frames_from (record v { slot = o; replies = v.replies ++ reply ∷ [] }) group (record { node = a; event = e } ∷ [])
-commands nodes g a frames_from v group e reply o fits may is spec slots =
-    goes_one nodes g a frames_from (record v { slot = o; replies = v.replies ++ reply ∷ [] }) group e may (subst (Fits nodes g a.number frames_from (record v { slot = o; replies = v.replies ++ reply ∷ [] })) (sym is) (record {
+    → MemberFits nodes a.number (carried_in g v) o (did a e reply (group a.number))
+    → Goes nodes g a frames_from (record v { told = o; replies = v.replies ++ reply ∷ [] }) group (record { node = a; event = e } ∷ [])
+commands nodes g a frames_from v group e reply o fits may is spec tells =
+    goes_one nodes g a frames_from (record v { told = o; replies = v.replies ++ reply ∷ [] }) group e may (subst (Fits nodes g a.number frames_from (record v { told = o; replies = v.replies ++ reply ∷ [] })) (sym is) (record {
       reserve = keeps.reserve ∙ fits.reserve;
-      slot = same_slot a.number o (did a e reply (group a.number)) (commanded a e reply (group a.number)) refl refl refl slots.slot;
-      inside = slots.inside;
-      put = slots.put;
-      taken = slots.taken;
+      told = same_member o (did a e reply (group a.number)) (commanded a e reply (group a.number)) refl refl refl tells.told;
+      inside = tells.inside;
+      put = tells.put;
+      taken = tells.taken;
       replies = ap (λ rs. rs ++ reply ∷ []) fits.replies;
       spec = spec ∙ fits.spec;
       noticed = λ b. ap (is_marked b) keeps.noticed ∙ fits.noticed b;
       stopped = keeps.stopped ∙ fits.stopped;
       come = λ b low. subst (λ (f : ℕ → List ℕ). AreMarked g (frames_from b) (v.taken b) (f b)) (sym keeps.come) (fits.come b low);
       done = λ b low. subst (λ (f : ℕ → List ℕ). AreMarked g (v.frames b) (v.acked b) (f b)) (sym keeps.done) (fits.done b low);
-      acks = slots.acks;
+      acks = tells.acks;
     }))
   where
     keeps : KeepsLinks (group a.number) (did a e reply (group a.number))

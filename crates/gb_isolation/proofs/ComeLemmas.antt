@@ -1,62 +1,65 @@
--- A frame's items come: to the slot, and to the group alone.
+-- A frame's items come: as the past tells, and to the group alone.
 use Rattle.std.proofs.Common.{◌≡◌, ◌≢◌, ℕ, zero, suc, ◌+◌, ◌-◌, ◌<◌, ◌≤◌, List, [], ◌∷◌, ◌++◌, length, map, fold, Option, Some, None, Bool, true, false, ◌&&◌, ◌||◌, ◌⊎◌, inl, inr, refl, sym, ◌∙◌, ap, subst, arith, nat_eq, nat_lt, nat_le, slice_get, take, length-append}
 use Rattle.std.specs.Prelude.{All, if◌then◌else◌}
-use Rattle.std.specs.Ordering.{nat_cmp}
-use Rattle.std.specs.FinSet as fin
 use Rattle.std.proofs.lemmas.Bool.{cases_eq, cases_lt}
 use Rattle.std.proofs.lemmas.Bool.Decides.{nat_tests}
 use Rattle.std.proofs.lemmas.List.Elements.{All-head, All-tail}
-use Rattle.gb_types.specs.Entry.{message_of}
 use Rattle.gb_types.specs.declared.address.Addr.{Addr}
 use Rattle.gb_types.specs.declared.entry.Entry.{Entry}
 use Rattle.gb_types.specs.declared.limits.TheConstants.{NODES, PAYLOAD}
 use Rattle.gb_types.specs.declared.node.NodeId.{NodeId}
 use Rattle.gb_frame.specs.declared.item.Item.{Item}
-use Rattle.gb_history.specs.Messages.{with_new}
-use Rattle.gb_layer.specs.declared.call.Call.TheVariants.{Came as Brought}
-use Rattle.gb_slot.specs.Slot.{slot_came, slot_called, falls}
-use Rattle.gb_slot.specs.SlotState.{SlotState}
+use Rattle.gb_history.specs.declared.call.GroupCall.TheVariants.{Other}
+use Rattle.gb_history.specs.History.{said_in, falls_after}
 use Rattle.gb_alone.specs.declared.event.GroupEvent.TheVariants.{Came}
 use Rattle.gb_alone.specs.declared.event.GroupStep.{GroupStep}
-use Rattle.gb_alone.specs.Alone.{Member, Group, after, alone_from, is_marked, item_came, taken_in, IsLegalFrom}
-use Rattle.gb_groups.specs.AtAddress.{entry_of}
-use Rattle.gb_groups.specs.OneGroup.{stepped, where_so, items_for, came_for, waiting_in}
+use Rattle.gb_alone.specs.Alone.{Member, Group, after, alone_from, is_acknowledged, is_marked, item_came, taken_in, IsLegalFrom}
+use Rattle.gb_frame.specs.Items.{entry_of, items_for}
+use Rattle.gb_rules.specs.Lifetime.{stepped, where_so}
+use Rattle.gb_node.specs.PastGroups.{Told, waiting_of, with_call, unless_falls, came_told}
 use Rattle.gb_isolation.specs.Project.{items_in, items_of, offset, comes}
-use Rattle.gb_isolation.proofs.View.{View, SlotIs, AreMarked, KeepsAcks, Fits, Goes}
+use Rattle.gb_isolation.proofs.View.{View, MemberIs, AreMarked, KeepsAcks, Fits, Goes, said_of, acknowledged_of}
 use Rattle.gb_isolation.proofs.GoesLemmas.{after_there, after_elsewhere, eqb_self, eqb_apart, eqb_apart_back}
-use Rattle.gb_isolation.proofs.MemberLemmas.{KeepsRest, same_slot, slot-came, put-item_came, item_came-rest, item_came-noticed}
+use Rattle.gb_isolation.proofs.MemberLemmas.{KeepsRest, same_member, told-came, put-item_came, item_came-rest, item_came-noticed}
 use Rattle.gb_isolation.proofs.MarkLemmas.{is_between, or_off, offset_next, offset_all, item_there, marks_added, marks_same}
-use Rattle.gb_isolation.proofs.DoneLemmas.{IsFit, spec_in, acks_in, inside_too, KeepsIn, keeps_in, keeps_of}
+use Rattle.gb_isolation.proofs.DoneLemmas.{IsFit, spec_in, inside_too}
 
--- The slot.
+-- What the past tells.
 
 -- an item leaves the spec and the acknowledgements
-came-spec : (from : NodeId) (x : Entry) (o : Option (Option SlotState)) → spec_in (stepped (slot_came from x) o) ≡ spec_in o
-came-spec from x None = refl
-came-spec from x (Some None) = refl
-came-spec from x (Some (Some s)) = elim (falls from x s) as (λ b. Some (if b then s else slot_called (Brought from (message_of x)) (with_new s.store x) s).spec ≡ Some s.spec) [ true ↦ refl | false ↦ refl ]
+came-spec : (me from : NodeId) (x : Entry) (o : Option (Option Told)) → spec_in (stepped (unless_falls me from x) o) ≡ spec_in o
+came-spec me from x None = refl
+came-spec me from x (Some None) = refl
+came-spec me from x (Some (Some t)) = elim (falls_after t.spec me.number t.calls from.number x) as (λ b. Some (if b then t else with_call me (Other from x) t).spec ≡ Some t.spec) [ true ↦ refl | false ↦ refl ]
 
-came-acks : (from : NodeId) (x : Entry) (o : Option (Option SlotState)) → acks_in (stepped (slot_came from x) o) ≡ acks_in o
-came-acks from x None = refl
-came-acks from x (Some None) = refl
-came-acks from x (Some (Some s)) = elim (falls from x s) as (λ b. (if b then s else slot_called (Brought from (message_of x)) (with_new s.store x) s).acknowledged ≡ s.acknowledged) [ true ↦ refl | false ↦ refl ]
+came-said : (me from : NodeId) (x : Entry) (o : Option (Option Told)) → said_of (stepped (unless_falls me from x) o) ≡ said_of o
+unfolding said_in
+came-said me from x None = refl
+came-said me from x (Some None) = refl
+came-said me from x (Some (Some t)) = elim (falls_after t.spec me.number t.calls from.number x) as (λ b. said_in (if b then t else with_call me (Other from x) t).calls ≡ said_in t.calls) [ true ↦ refl | false ↦ refl ]
 
-came_for-is : (from : NodeId) (o : Option (Option SlotState)) (i : Item) → IsFit i → came_for from o i ≡ stepped (slot_came from (entry_of i)) o
-came_for-is from o i fit = ap (λ b. where_so b (stepped (slot_came from (entry_of i))) o) passes
+came-acks : (me from : NodeId) (x : Entry) (o : Option (Option Told)) → acknowledged_of (stepped (unless_falls me from x) o) ≡ acknowledged_of o
+came-acks me from x None = refl
+came-acks me from x (Some None) = refl
+came-acks me from x (Some (Some t)) = elim (falls_after t.spec me.number t.calls from.number x) as (λ b. (if b then t else with_call me (Other from x) t).acknowledged ≡ t.acknowledged) [ true ↦ refl | false ↦ refl ]
+
+came_told-is : (me from : NodeId) (o : Option (Option Told)) (i : Item) → IsFit i → came_told me from o i ≡ stepped (unless_falls me from (entry_of i)) o
+came_told-is me from o i fit = ap (λ b. where_so b (stepped (unless_falls me from (entry_of i))) o) passes
   where
     passes : (nat_lt i.origin NODES && nat_le (length i.payload) PAYLOAD) ≡ true
     passes = let low : i.origin < NODES = fit.0 in let short : length i.payload ≤ PAYLOAD = fit.1 in grind (arith, nat_tests, low, short)
 
 -- The group alone.
 
--- what items from a node do to the group: the slot is this one then, and these places have come
-pub record Coming (nodes : ℕ) (g : Addr) (from me : NodeId) (carried : ℕ → List Entry) (place count : ℕ) (o next_slot : Option (Option SlotState)) (group next : Group) (given : List GroupStep) : Type 0 where
+-- what items from a node do to the group: the past tells this of it then, and these places have come
+pub record Coming (nodes : ℕ) (g : Addr) (from me : NodeId) (carried : ℕ → List Entry) (place count : ℕ) (o next_told : Option (Option Told)) (group next : Group) (given : List GroupStep) : Type 0 where
   pub legal : IsLegalFrom nodes g.group group given
   pub others : (x : ℕ) → x ≢ me.number → next x ≡ group x
-  pub slot : SlotIs me.number next_slot (next me.number)
-  pub put : (b : ℕ) → b < nodes → (next me.number).put b ≡ carried b ++ waiting_in next_slot b
-  pub same_spec : spec_in next_slot ≡ spec_in o
-  pub same_acks : acks_in next_slot ≡ acks_in o
+  pub told : MemberIs next_told (next me.number)
+  pub put : (b : ℕ) → b < nodes → (next me.number).put b ≡ carried b ++ waiting_of next_told b
+  pub same_spec : spec_in next_told ≡ spec_in o
+  pub same_said : said_of next_told ≡ said_of o
+  pub same_acks : acknowledged_of next_told ≡ acknowledged_of o
   pub reserve : (next me.number).reserve ≡ (group me.number).reserve
   pub made : (next me.number).spec ≡ (group me.number).spec
   pub replies : (next me.number).replies ≡ (group me.number).replies
@@ -67,14 +70,15 @@ pub record Coming (nodes : ℕ) (g : Addr) (from me : NodeId) (carried : ℕ →
   pub elsewhere : (x : ℕ) → x ≢ from.number → (next me.number).come x ≡ (group me.number).come x
   pub marks : (q : ℕ) → is_marked q ((next me.number).come from.number) ≡ (is_between place (place + count) q || is_marked q ((group me.number).come from.number))
 
-nothing_comes : (nodes : ℕ) (g : Addr) (from me : NodeId) (carried : ℕ → List Entry) (place : ℕ) (o : Option (Option SlotState)) (group : Group) → SlotIs me.number o (group me.number) → ((b : ℕ) → b < nodes → (group me.number).put b ≡ carried b ++ waiting_in o b)
+nothing_comes : (nodes : ℕ) (g : Addr) (from me : NodeId) (carried : ℕ → List Entry) (place : ℕ) (o : Option (Option Told)) (group : Group) → MemberIs o (group me.number) → ((b : ℕ) → b < nodes → (group me.number).put b ≡ carried b ++ waiting_of o b)
     → Coming nodes g from me carried place 0 o o group group []
 nothing_comes nodes g from me carried place o group st puts = record {
   legal = tt;
   others = λ x other. refl;
-  slot = st;
+  told = st;
   put = puts;
   same_spec = refl;
+  same_said = refl;
   same_acks = refl;
   reserve = refl;
   made = refl;
@@ -88,32 +92,33 @@ nothing_comes nodes g from me carried place o group st puts = record {
 }
 
 -- what more items do, after these
-abbrev ComesOn : ℕ → Addr → NodeId → NodeId → (ℕ → List Entry) → ℕ → List Item → Option (Option SlotState) → Type 0
+abbrev ComesOn : ℕ → Addr → NodeId → NodeId → (ℕ → List Entry) → ℕ → List Item → Option (Option Told) → Type 0
 ComesOn nodes g from me carried place xs o =
     (group : Group) → (group me.number).stopped ≡ false
     → ((j : ℕ) (e : Entry) → slice_get (map entry_of xs) j ≡ Some e → slice_get ((group from.number).put me.number) (place + j) ≡ Some e)
     → place + length (map entry_of xs) ≤ (group from.number).taken me.number
     → ((q : ℕ) → place < q → q ≤ place + length (map entry_of xs) → is_marked q ((group me.number).come from.number) ≡ false)
-    → SlotIs me.number o (group me.number)
-    → ((b : ℕ) → b < nodes → (group me.number).put b ≡ carried b ++ waiting_in o b)
-    → Coming nodes g from me carried place (length (map entry_of xs)) o (fold (came_for from) o xs) group (alone_from nodes g.group group (comes from me place (length (map entry_of xs)))) (comes from me place (length (map entry_of xs)))
+    → MemberIs o (group me.number)
+    → ((b : ℕ) → b < nodes → (group me.number).put b ≡ carried b ++ waiting_of o b)
+    → Coming nodes g from me carried place (length (map entry_of xs)) o (fold (came_told me from) o xs) group (alone_from nodes g.group group (comes from me place (length (map entry_of xs)))) (comes from me place (length (map entry_of xs)))
 
 -- an item comes, and then the others
-come_next : (nodes : ℕ) (g : Addr) (from me : NodeId) (carried : ℕ → List Entry) (place : ℕ) (i : Item) (xs : List Item) (o : Option (Option SlotState)) (group : Group) → from.number ≢ me.number → IsFit i → (group me.number).stopped ≡ false
+come_next : (nodes : ℕ) (g : Addr) (from me : NodeId) (carried : ℕ → List Entry) (place : ℕ) (i : Item) (xs : List Item) (o : Option (Option Told)) (group : Group) → from.number ≢ me.number → IsFit i → (group me.number).stopped ≡ false
     → ((j : ℕ) (e : Entry) → slice_get (map entry_of (i ∷ xs)) j ≡ Some e → slice_get ((group from.number).put me.number) (place + j) ≡ Some e)
     → place + length (map entry_of (i ∷ xs)) ≤ (group from.number).taken me.number
     → ((q : ℕ) → place < q → q ≤ place + length (map entry_of (i ∷ xs)) → is_marked q ((group me.number).come from.number) ≡ false)
-    → SlotIs me.number o (group me.number)
-    → ((b : ℕ) → b < nodes → (group me.number).put b ≡ carried b ++ waiting_in o b)
-    → ComesOn nodes g from me carried (place + 1) xs (came_for from o i)
-    → Coming nodes g from me carried place (length (map entry_of (i ∷ xs))) o (fold (came_for from) o (i ∷ xs)) group (alone_from nodes g.group group (comes from me place (length (map entry_of (i ∷ xs))))) (comes from me place (length (map entry_of (i ∷ xs))))
+    → MemberIs o (group me.number)
+    → ((b : ℕ) → b < nodes → (group me.number).put b ≡ carried b ++ waiting_of o b)
+    → ComesOn nodes g from me carried (place + 1) xs (came_told me from o i)
+    → Coming nodes g from me carried place (length (map entry_of (i ∷ xs))) o (fold (came_told me from) o (i ∷ xs)) group (alone_from nodes g.group group (comes from me place (length (map entry_of (i ∷ xs))))) (comes from me place (length (map entry_of (i ∷ xs))))
 come_next nodes g from me carried place i xs o group apart fit running there most fresh st puts go_on = record {
   legal = ((running, omega arith, omega (arith, most), fresh (place + 1) (omega arith) (omega arith)), later.legal);
   others = λ x other. later.others x other ∙ after_elsewhere nodes g.group group me x (Came from (place + 1)) other;
-  slot = later.slot;
+  told = later.told;
   put = later.put;
-  same_spec = later.same_spec ∙ (ap spec_in came ∙ came-spec from e o);
-  same_acks = later.same_acks ∙ (ap acks_in came ∙ came-acks from e o);
+  same_spec = later.same_spec ∙ (ap spec_in came ∙ came-spec me from e o);
+  same_said = later.same_said ∙ (ap said_of came ∙ came-said me from e o);
+  same_acks = later.same_acks ∙ (ap acknowledged_of came ∙ came-acks me from e o);
   reserve = later.reserve ∙ (ap (λ (m : Member). m.reserve) here ∙ rest.reserve);
   made = later.made ∙ (ap (λ (m : Member). m.spec) here ∙ rest.spec);
   replies = later.replies ∙ (ap (λ (m : Member). m.replies) here ∙ rest.replies);
@@ -138,8 +143,8 @@ come_next nodes g from me carried place i xs o group apart fit running there mos
     rest : KeepsRest (group me.number) (item_came me.number from e (group me.number))
     rest = item_came-rest me.number from e (group me.number)
 
-    came : came_for from o i ≡ stepped (slot_came from e) o
-    came = came_for-is from o i fit
+    came : came_told me from o i ≡ stepped (unless_falls me from e) o
+    came = came_told-is me from o i fit
 
     found : slice_get ((group from.number).put me.number) (place + 1 - 1) ≡ Some e
     found = ap (slice_get ((group from.number).put me.number)) (omega arith) ∙ there 0 e refl
@@ -153,12 +158,12 @@ come_next nodes g from me carried place i xs o group apart fit running there mos
     first_mark : (q : ℕ) → is_marked q ((mid me.number).come from.number) ≡ (nat_eq (place + 1) q || is_marked q ((group me.number).come from.number))
     first_mark q = ap (λ (m : Member). is_marked q (m.come from.number)) here ∙ rw (eqb_self from.number) refl
 
-    slot_then : SlotIs me.number (came_for from o i) (mid me.number)
-    slot_then = subst (λ (m : Member). SlotIs me.number (came_for from o i) m) (sym here) (subst (λ k. SlotIs me.number k (taken_in me.number from (place + 1) (Some e) (group me.number))) (sym came)
-        (same_slot me.number (stepped (slot_came from e) o) (item_came me.number from e (group me.number)) (taken_in me.number from (place + 1) (Some e) (group me.number)) refl refl refl (slot-came me.number from e o (group me.number) st)))
+    told_then : MemberIs (came_told me from o i) (mid me.number)
+    told_then = subst (λ (m : Member). MemberIs (came_told me from o i) m) (sym here) (subst (λ k. MemberIs k (taken_in me.number from (place + 1) (Some e) (group me.number))) (sym came)
+        (same_member (stepped (unless_falls me from e) o) (item_came me.number from e (group me.number)) (taken_in me.number from (place + 1) (Some e) (group me.number)) refl refl refl (told-came me from e o (group me.number) st)))
 
-    put_then : (b : ℕ) → b < nodes → (mid me.number).put b ≡ carried b ++ waiting_in (came_for from o i) b
-    put_then b in_b = ap (λ (m : Member). m.put b) here ∙ (put-item_came me.number from e o (group me.number) b (carried b) st (puts b in_b) ∙ ap (λ k. carried b ++ waiting_in k b) (sym came))
+    put_then : (b : ℕ) → b < nodes → (mid me.number).put b ≡ carried b ++ waiting_of (came_told me from o i) b
+    put_then b in_b = ap (λ (m : Member). m.put b) here ∙ (put-item_came me from e o (group me.number) b (carried b) st (puts b in_b) ∙ ap (λ k. carried b ++ waiting_of k b) (sym came))
 
     there_then : (j : ℕ) (x : Entry) → slice_get (map entry_of xs) j ≡ Some x → slice_get ((mid from.number).put me.number) (place + 1 + j) ≡ Some x
     there_then j x at = ap (λ (m : Member). slice_get (m.put me.number) (place + 1 + j)) sender ∙ (ap (slice_get ((group from.number).put me.number)) (omega arith) ∙ there (suc j) x at)
@@ -169,8 +174,8 @@ come_next nodes g from me carried place i xs o group apart fit running there mos
     fresh_then : (q : ℕ) → place + 1 < q → q ≤ place + 1 + count → is_marked q ((mid me.number).come from.number) ≡ false
     fresh_then q low high = first_mark q ∙ (or_off (nat_eq (place + 1) q) (is_marked q ((group me.number).come from.number)) (grind (arith, nat_tests, low)) ∙ fresh q (omega (arith, low)) (omega (arith, high)))
 
-    later : Coming nodes g from me carried (place + 1) count (came_for from o i) (fold (came_for from) (came_for from o i) xs) mid (alone_from nodes g.group mid (comes from me (place + 1) count)) (comes from me (place + 1) count)
-    later = go_on mid (ap (λ (m : Member). m.stopped) here ∙ (rest.stopped ∙ running)) there_then most_then fresh_then slot_then put_then
+    later : Coming nodes g from me carried (place + 1) count (came_told me from o i) (fold (came_told me from) (came_told me from o i) xs) mid (alone_from nodes g.group mid (comes from me (place + 1) count)) (comes from me (place + 1) count)
+    later = go_on mid (ap (λ (m : Member). m.stopped) here ∙ (rest.stopped ∙ running)) there_then most_then fresh_then told_then put_then
 
     one : (q : ℕ) → (nat_eq (place + 1) q || is_between (place + 1) (place + 1 + count) q) ≡ is_between place (place + suc count) q
     one q = grind (arith, nat_tests)
@@ -181,10 +186,10 @@ come_next nodes g from me carried place i xs o group apart fit running there mos
     by false b c d is = ap (λ x. x || d) is
 
 -- these items come, one behind the other
-pub all_come : (nodes : ℕ) (g : Addr) (from me : NodeId) (carried : ℕ → List Entry) (place : ℕ) (xs : List Item) (o : Option (Option SlotState)) → from.number ≢ me.number → All IsFit xs → ComesOn nodes g from me carried place xs o
+pub all_come : (nodes : ℕ) (g : Addr) (from me : NodeId) (carried : ℕ → List Entry) (place : ℕ) (xs : List Item) (o : Option (Option Told)) → from.number ≢ me.number → All IsFit xs → ComesOn nodes g from me carried place xs o
 all_come nodes g from me carried place [] o apart fits group running there most fresh st puts = nothing_comes nodes g from me carried place o group st puts
 all_come nodes g from me carried place (i ∷ xs) o apart fits group running there most fresh st puts =
-    come_next nodes g from me carried place i xs o group apart (All-head IsFit i xs fits) running there most fresh st puts (all_come nodes g from me carried (place + 1) xs (came_for from o i) apart (All-tail IsFit i xs fits))
+    come_next nodes g from me carried place i xs o group apart (All-head IsFit i xs fits) running there most fresh st puts (all_come nodes g from me carried (place + 1) xs (came_told me from o i) apart (All-tail IsFit i xs fits))
 
 -- Places.
 
@@ -201,9 +206,9 @@ offset_rises g (f ∷ fs) (suc n) (suc m) le =
 -- The node's view.
 
 -- the view after the frame with the number n came from a node, which has the number d, with these items of the group
-abbrev pub with_frame : NodeId → ℕ → ℕ → List Item → View → View
-with_frame from d n items v = record v {
-  slot = fold (came_for from) v.slot items;
+abbrev pub with_frame : NodeId → NodeId → ℕ → ℕ → List Item → View → View
+with_frame me from d n items v = record v {
+  told = fold (came_told me from) v.told items;
   taken = λ b m. (nat_eq d b && nat_eq n m) || v.taken b m;
 }
 
@@ -224,7 +229,7 @@ module _ (nodes : ℕ) (g : Addr) (a s : NodeId) (frames_from : ℕ → List (Li
   next = alone_from nodes g.group group given
 
   abbrev later : View
-  later = with_frame s s.number (n + 1) (items_for g f) v
+  later = with_frame a s s.number (n + 1) (items_for g f) v
 
   abbrev carried : ℕ → List Entry
   carried b = items_of g (v.frames b)
@@ -232,12 +237,12 @@ module _ (nodes : ℕ) (g : Addr) (a s : NodeId) (frames_from : ℕ → List (Li
   ends : offset g forth (n + 1) ≡ place + length (items_in g f)
   ends = offset_next g forth n f at
 
-  coming : Coming nodes g s a carried place (length (items_in g f)) v.slot later.slot group next given
-  coming = all_come nodes g s a carried place (items_for g f) v.slot apart fit group running
+  coming : Coming nodes g s a carried place (length (items_in g f)) v.told later.told group next given
+  coming = all_come nodes g s a carried place (items_for g f) v.told apart fit group running
       (λ j e is. ap (λ xs. slice_get xs (place + j)) puts ∙ item_there g forth waits n j f e at is)
       (let most = offset_all g forth (n + 1) in omega (arith, most, ends, count))
       (λ q low high. (fits.come s.number inside).each n q low (omega (arith, high, ends)) ∙ new)
-      fits.slot fits.put
+      fits.told fits.put
 
   come_here : AreMarked g forth (later.taken s.number) ((next a.number).come s.number)
   come_here = marks_added g forth (nat_eq (n + 1)) (v.taken s.number) (later.taken s.number) (is_between place (place + length (items_in g f))) ((group a.number).come s.number) ((next a.number).come s.number)
@@ -272,10 +277,13 @@ module _ (nodes : ℕ) (g : Addr) (a s : NodeId) (frames_from : ℕ → List (Li
       marks_same g (frames_from b) (v.taken b) (later.taken b) ((group a.number).come b) ((next a.number).come b) (coming.elsewhere b other)
       (λ m some. ap (λ t. (t && nat_eq (n + 1) m) || v.taken b m) off) (fits.come b in_b)
 
-  kept : KeepsAcks nodes a.number later.slot carried (next a.number).done
-  kept = keeps_of nodes a.number later.slot carried (next a.number).done
-      (subst (λ (acks : List (fin.FinSet nat_cmp)). KeepsIn nodes a.number acks carried (next a.number).done) (sym coming.same_acks)
-      (subst (λ d. KeepsIn nodes a.number (acks_in v.slot) carried d) (sym coming.done) (keeps_in nodes a.number v.slot carried (group a.number).done fits.acks)))
+  kept : KeepsAcks nodes a.number later.told carried (next a.number).done
+  kept = record {
+    each = λ b k in_b low.
+        ap (λ (f : ℕ → ℕ → Bool). f (k + 1) b) coming.same_acks
+        ∙ (fits.acks.each b k in_b (subst (λ count. k < count) coming.same_said low) ∙ ap (λ (d : ℕ → List ℕ). is_acknowledged a.number (k + 1) (d b) 1 (carried b)) (sym coming.done));
+    beyond = λ b seq far. ap (λ (f : ℕ → ℕ → Bool). f seq b) coming.same_acks ∙ fits.acks.beyond b seq (subst (λ count. count < seq) coming.same_said far);
+  }
 
   -- what a frame that comes for the first time gives a group
   pub frame_goes : Goes nodes g a frames_from later group given
@@ -284,8 +292,8 @@ module _ (nodes : ℕ) (g : Addr) (a s : NodeId) (frames_from : ℕ → List (Li
     elsewhere = coming.others;
     there = record {
       reserve = coming.reserve ∙ fits.reserve;
-      slot = coming.slot;
-      inside = inside_too nodes v.slot later.slot coming.same_spec fits.inside;
+      told = coming.told;
+      inside = inside_too nodes v.told later.told coming.same_spec fits.inside;
       put = coming.put;
       taken = λ b in_b. ap (λ (t : ℕ → ℕ). t b) coming.taken ∙ fits.taken b in_b;
       replies = coming.replies ∙ fits.replies;

@@ -1,19 +1,18 @@
 -- What opening, shutting, dropping, saying and reading do to a group at a running node.
-use Rattle.std.proofs.Common.{◌≡◌, ◌≢◌, ℕ, ◌+◌, ◌<◌, ◌≤◌, List, [], ◌∷◌, ◌++◌, length, get_or, take, Option, Some, None, Bool, true, false, ◌||◌, nat_eq, refl, sym, ◌∙◌, ap, subst, arith}
-use Rattle.std.specs.Prelude.{if◌then◌else◌, is_some, nat_lt, nat_le, option_map}
+use Rattle.std.proofs.Common.{◌≡◌, ◌≢◌, ℕ, ◌+◌, ◌<◌, ◌≤◌, List, [], ◌∷◌, ◌++◌, length, take, Option, Some, None, Bool, true, false, ◌⊎◌, inl, inr, refl, sym, ◌∙◌, ap, subst, arith}
+use Rattle.std.specs.Prelude.{if◌then◌else◌, is_some, option_map}
 use Rattle.std.specs.FinSet as set
 use Rattle.std.specs.List.{list_any}
 use Rattle.std.specs.Ordering.{nat_cmp}
 use Rattle.std.proofs.Math.Seq.{take-length}
-use Rattle.std.proofs.lemmas.Bool.{and_parts}
-use Rattle.std.proofs.lemmas.Bool.Decides.{nat_tests}
+use Rattle.std.proofs.lemmas.Bool.{and_parts, cases_lt}
 use Rattle.std.proofs.lemmas.List.{append-nil, take-append-le}
 use Rattle.gb_types.specs.declared.address.Addr.{Addr}
 use Rattle.gb_types.specs.declared.entry.Entry.{Entry}
-use Rattle.gb_types.specs.declared.limits.TheConstants.{NODES, PAYLOAD}
+use Rattle.gb_types.specs.declared.limits.TheConstants.{NODES}
 use Rattle.gb_types.specs.declared.node.NodeId.{NodeId}
 use Rattle.gb_types.specs.declared.refusal.Refusal.{Refusal}
-use Rattle.gb_types.specs.declared.refusal.Refusal.TheVariants.{NoGroup, Spent, TooLong, Budget, Bytes, Window, Stopped}
+use Rattle.gb_types.specs.declared.refusal.Refusal.TheVariants.{NoGroup, Spent, Stopped}
 use Rattle.gb_types.specs.declared.reply.Reply.{Reply}
 use Rattle.gb_types.specs.declared.reply.Reply.TheVariants.{Done, Said, Refused}
 use Rattle.gb_types.specs.declared.request.Request.{Request}
@@ -25,32 +24,30 @@ use Rattle.gb_rules.specs.Address.{is_addr}
 use Rattle.gb_rules.specs.Group.{Shown, is_gone, is_member, on_made, open_answer, shut_answer, drop_answer, say_answer, fetch_answer}
 use Rattle.gb_rules.specs.Tenant.{by_tenant, reserve_of, row_of}
 use Rattle.gb_rules.specs.declared.phase.Phase.{Phase}
-use Rattle.gb_rules.specs.declared.phase.Phase.TheVariants.{Made, Opened, Shut, Gone}
+use Rattle.gb_rules.specs.declared.phase.Phase.TheVariants.{Opened, Shut}
 use Rattle.gb_rules.specs.declared.reserve.Reserve.{Reserve}
-use Rattle.gb_rules.specs.declared.usage.Usage.{Usage}
-use Rattle.gb_slot.proofs.HistoryLemmas.{moved_stands}
-use Rattle.gb_slot.specs.Slot.{shown, slot_moved, slot_said}
-use Rattle.gb_slot.specs.SlotState.{SlotState}
+use Rattle.gb_history.specs.History.{said_in}
+use Rattle.gb_history.specs.declared.call.GroupCall.{GroupCall}
 use Rattle.gb_history.specs.declared.call.GroupCall.TheVariants.{Own}
 use Rattle.gb_alone.specs.declared.event.GroupEvent.{GroupEvent}
 use Rattle.gb_alone.specs.declared.event.GroupEvent.TheVariants.{Open as AskOpen, Shut as AskShut, Drop as AskDrop, Say as AskSay, Fetch as AskFetch}
 use Rattle.gb_alone.specs.Alone.{Member, Group, called, commanded, did, dropped, is_acknowledged, member_after, on_group, reply_to, running_reply, MayHappen}
 use Rattle.gb_alone.specs.Alone as alone
-use Rattle.gb_groups.specs.OneGroup.{stepped, where_so}
-use Rattle.gb_groups.specs.OneGroup as one
+use Rattle.gb_rules.specs.Lifetime.{stepped, where_so}
+use Rattle.gb_rules.specs.Lifetime as life
 use Rattle.gb_node.specs.Past.{Happened, added, is_stopped, tenants_in}
-use Rattle.gb_node.specs.PastGroups.{noticed_in, group_of, asked_for}
+use Rattle.gb_node.specs.PastGroups.{Told, noticed_in, shown_of, shown_in, with_call, moved_to, asked_told, told_of}
 use Rattle.gb_node.specs.StepLaw.{group_answer, is_admitted_by, admitted_answer}
 use Rattle.gb_node.specs.declared.answer.NodeAnswer.TheVariants.{Reply as Replied}
 use Rattle.gb_node.specs.declared.event.NodeEvent.TheVariants.{Request as Asked}
 use Rattle.gb_node.specs.declared.plan.NodePlan.{NodePlan}
 use Rattle.gb_rules.proofs.AddressLemmas.{addr_is}
 use Rattle.gb_isolation.specs.Project.{asked, is_named, is_own, made_by, made_with, or_else, own_requested, requested, tenant_given}
-use Rattle.gb_isolation.proofs.AskLemmas.{SlotFits, asking, carried_in, commands, slot_fits, view_own}
-use Rattle.gb_isolation.proofs.FinishedLemmas.{counts_fit, said_more}
-use Rattle.gb_isolation.proofs.MemberLemmas.{answered-is, put-said, said_member}
+use Rattle.gb_isolation.proofs.AskLemmas.{MemberFits, asking, carried_in, commands, member_fits, view_own}
+use Rattle.gb_isolation.proofs.FinishedLemmas.{counts_fit, unknown_acknowledged}
+use Rattle.gb_isolation.proofs.MemberLemmas.{answered-is, called_there, called_put}
 use Rattle.gb_isolation.proofs.PastLemmas.{running_unmet}
-use Rattle.gb_isolation.proofs.View.{View, view_of, SlotStands, IsInside, KeepsAcks, Fits, Goes}
+use Rattle.gb_isolation.proofs.View.{View, view_of, IsThere, IsInside, Fits, Goes}
 
 -- A command with the right token: the group's tenant is here.
 
@@ -100,9 +97,9 @@ module _ (plan : NodePlan) (g : Addr) (past : List Happened) (request : Request)
       by = rw running refl
 
   -- the group's own request, which does not make it
-  pub own_command : (e : GroupEvent) (o : Option (Option SlotState)) → is_stopped past ≡ false → is_own plan g past request ≡ true
+  pub own_command : (e : GroupEvent) (o : Option (Option Told)) → is_stopped past ≡ false → is_own plan g past request ≡ true
       → added (Asked request) (Replied reply) ≡ []
-      → asked_for g plan.me (noticed_in plan past) request reply (group_of plan g past) ≡ o
+      → asked_told g plan.me (noticed_in plan past) request reply (told_of plan g past) ≡ o
       → made_by g (Asked request) (Replied reply) ≡ None
       → tenant_given g plan.me request reply ++ own_requested plan g past request reply ≡ record { node = plan.me; event = e } ∷ []
       → MayHappen plan.me e group
@@ -110,27 +107,27 @@ module _ (plan : NodePlan) (g : Addr) (past : List Happened) (request : Request)
       → running_reply plan.nodes g.group plan.me.number e (group plan.me.number) ≡ reply
       → (did plan.me e reply (group plan.me.number)).spec ≡ (group plan.me.number).spec
       → Fits plan.nodes g plan.me.number frames_from (view_of plan g past) (group plan.me.number)
-      → SlotFits plan.nodes plan.me.number (carried_in g (view_of plan g past)) o (did plan.me e reply (group plan.me.number))
+      → MemberFits plan.nodes plan.me.number (carried_in g (view_of plan g past)) o (did plan.me e reply (group plan.me.number))
       → AskedGoes
-  own_command e o running own rows slot unmade one may is same spec fits slots =
+  own_command e o running own rows told unmade one may is same spec fits tells =
       subst (λ es. Goes plan.nodes g plan.me frames_from (view_of plan g (asking request reply ∷ past)) group es) (sym (given_own running own ∙ one))
-      (subst (λ (v : View). Goes plan.nodes g plan.me frames_from v group (record { node = plan.me; event = e } ∷ [])) (sym (view_own plan g past request reply o (made_with g past) running own rows slot (ap (λ x. or_else x (made_with g past)) unmade)))
-      (commands plan.nodes g plan.me frames_from (view_of plan g past) group e reply o fits may (is ∙ ap (λ r. commanded plan.me e r (group plan.me.number)) (replies_running e running fits ∙ same)) spec slots))
+      (subst (λ (v : View). Goes plan.nodes g plan.me frames_from v group (record { node = plan.me; event = e } ∷ [])) (sym (view_own plan g past request reply o (made_with g past) running own rows told (ap (λ x. or_else x (made_with g past)) unmade)))
+      (commands plan.nodes g plan.me frames_from (view_of plan g past) group e reply o fits may (is ∙ ap (λ r. commanded plan.me e r (group plan.me.number)) (replies_running e running fits ∙ same)) spec tells))
 
 -- the rules answer the same for the group alone
 pub answers_alike : (plan : NodePlan) (g : Addr) (past : List Happened) (request : Request) (frames_from : ℕ → List (List Item)) (group : Group) (answer : Shown → Reply) → plan.nodes ≤ NODES → is_own plan g past request ≡ true
-    → Fits plan.nodes g plan.me.number frames_from (view_of plan g past) (group plan.me.number) → on_group answer plan.me.number (group plan.me.number) ≡ group_answer answer (group_of plan g past)
+    → Fits plan.nodes g plan.me.number frames_from (view_of plan g past) (group plan.me.number) → on_group answer plan.me.number (group plan.me.number) ≡ group_answer answer (shown_in plan.me.number (told_of plan g past))
 answers_alike plan g past request frames_from group answer few own fits =
     by_some (on_made answer (alone.shown plan.me.number (group plan.me.number))) (group plan.me.number).reserve (ap (λ (x : Option Reserve). is_some x) fits.reserve ∙ tenant_here plan g past request own)
-    ∙ answered-is answer plan.me.number (group_of plan g past) (group plan.me.number) fits.slot (counts_fit plan.nodes g plan.me.number frames_from (view_of plan g past) (group plan.me.number) few fits)
+    ∙ answered-is answer plan.me.number (told_of plan g past) (group plan.me.number) fits.told (counts_fit plan.nodes g plan.me.number frames_from (view_of plan g past) (group plan.me.number) few fits)
 
--- Slots.
+-- What a command finds.
 
--- a command that is answered so, and not as refused, finds a slot
-pub found_from : (answer : Shown → Reply) (r : Reply) → ((why : Refusal) → r ≢ Refused why) → (o : Option (Option SlotState)) → group_answer answer o ≡ r → (s : SlotState) × (o ≡ Some (Some s)) × (answer (shown s) ≡ r)
-found_from answer r accepted None is = absurd (accepted NoGroup (sym is))
-found_from answer r accepted (Some None) is = absurd (accepted Spent (sym is))
-found_from answer r accepted (Some (Some s)) is = (s, refl, is)
+-- a command that is answered so, and not as refused, finds the group there
+pub found_from : (answer : Shown → Reply) (me : ℕ) (r : Reply) → ((why : Refusal) → r ≢ Refused why) → (o : Option (Option Told)) → group_answer answer (shown_in me o) ≡ r → (t : Told) × (o ≡ Some (Some t)) × (answer (shown_of me t) ≡ r)
+found_from answer me r accepted None is = absurd (accepted NoGroup (sym is))
+found_from answer me r accepted (Some None) is = absurd (accepted Spent (sym is))
+found_from answer me r accepted (Some (Some t)) is = (t, refl, is)
 
 done_accepted : (why : Refusal) → Done ≢ Refused why
 done_accepted why e = cc
@@ -138,47 +135,43 @@ done_accepted why e = cc
 said_accepted : (seq : ℕ) (why : Refusal) → Said seq ≢ Refused why
 said_accepted seq why e = cc
 
-abbrev slot_or : SlotState → Option (Option SlotState) → SlotState
-slot_or d (Some (Some s)) = s
-slot_or d o = d
+abbrev told_or : Told → Option (Option Told) → Told
+told_or d (Some (Some t)) = t
+told_or d o = d
 
-slot_same : (s u : SlotState) → Some (Some s) ≡ Some (Some u) → s ≡ u
-slot_same s u is = ap (slot_or s) is
-
-pub inside_some : (nodes : ℕ) (s : SlotState) → ((b : ℕ) → is_member s.spec b ≡ true → b < nodes) → IsInside nodes (Some (Some s))
-inside_some nodes s within = λ u is b there. within b (ap (λ (x : SlotState). is_member x.spec b) (slot_same s u is) ∙ there)
-
-pub acks_some : (nodes me : ℕ) (s : SlotState) (carried : ℕ → List Entry) (done : ℕ → List ℕ)
-    → ((b k : ℕ) → b < nodes → k < length s.acknowledged → set.contains (get_or s.acknowledged k set.empty) b ≡ (nat_eq b me || is_acknowledged me (k + 1) (done b) 1 (carried b))) → KeepsAcks nodes me (Some (Some s)) carried done
-acks_some nodes me s carried done kept = λ u is. subst (λ (x : SlotState). (b k : ℕ) → b < nodes → k < length x.acknowledged → set.contains (get_or x.acknowledged k set.empty) b ≡ (nat_eq b me || is_acknowledged me (k + 1) (done b) 1 (carried b))) (slot_same s u is) kept
+pub inside_some : (nodes : ℕ) (t : Told) → ((b : ℕ) → is_member t.spec b ≡ true → b < nodes) → IsInside nodes (Some (Some t))
+inside_some nodes t within = λ u is b there. within b (ap (λ (x : Told). is_member x.spec b) (same u is) ∙ there)
+  where
+    same : (u : Told) → Some (Some t) ≡ Some (Some u) → t ≡ u
+    same u is = ap (told_or t) is
 
 -- Opening and shutting.
 
--- the slot after the reply: it moves to a phase where it is that it does
-abbrev moved_after : Phase → Reply → Option (Option SlotState) → Option (Option SlotState)
-moved_after phase Done o = stepped (slot_moved phase Done) o
+-- the group after the reply: it moves to a phase where it is that it does
+abbrev moved_after : Phase → Reply → Option (Option Told) → Option (Option Told)
+moved_after phase Done o = stepped (moved_to phase) o
 moved_after phase r o = o
 
 abbrev member_moved : Phase → Reply → Member → Member
 member_moved phase Done m = record m { phase = phase }
 member_moved phase r m = m
 
-moved_fits : (nodes me : ℕ) (carried : ℕ → List Entry) (phase : Phase) (s : SlotState) (m : Member) → is_gone phase ≡ false → SlotFits nodes me carried (Some (Some s)) m → SlotFits nodes me carried (Some (Some (slot_moved phase Done s))) (record m { phase = phase })
-moved_fits nodes me carried phase s m live fits =
-    let st : SlotStands me s m = fits.slot in
+moved_fits : (nodes me : ℕ) (carried : ℕ → List Entry) (phase : Phase) (t : Told) (m : Member) → is_gone phase ≡ false → MemberFits nodes me carried (Some (Some t)) m → MemberFits nodes me carried (Some (Some (moved_to phase t))) (record m { phase = phase })
+moved_fits nodes me carried phase t m live fits =
+    let st : IsThere t m = fits.told in
     record {
-      slot = record { spec = st.spec; phase = refl; present = live; here = st.here; history = moved_stands s m.told phase Done st.history };
-      inside = inside_some nodes (slot_moved phase Done s) (fits.inside s refl);
+      told = record { spec = st.spec; phase = refl; present = live; calls = st.calls };
+      inside = inside_some nodes (moved_to phase t) (fits.inside t refl);
       put = fits.put;
       taken = fits.taken;
-      acks = acks_some nodes me (slot_moved phase Done s) carried m.done (fits.acks s refl);
+      acks = record { each = fits.acks.each; beyond = fits.acks.beyond };
     }
 
-moves : (answer : Shown → Reply) (phase : Phase) → is_gone phase ≡ false → (nodes me : ℕ) (carried : ℕ → List Entry) (o : Option (Option SlotState)) (m : Member) (r : Reply) → group_answer answer o ≡ r
-    → SlotFits nodes me carried o m → SlotFits nodes me carried (moved_after phase r o) (member_moved phase r m)
+moves : (answer : Shown → Reply) (phase : Phase) → is_gone phase ≡ false → (nodes me : ℕ) (carried : ℕ → List Entry) (o : Option (Option Told)) (m : Member) (r : Reply) → group_answer answer (shown_in me o) ≡ r
+    → MemberFits nodes me carried o m → MemberFits nodes me carried (moved_after phase r o) (member_moved phase r m)
 moves answer phase live nodes me carried o m Done is fits =
-    let made = found_from answer Done done_accepted o is in
-    subst (λ x. SlotFits nodes me carried (stepped (slot_moved phase Done) x) (record m { phase = phase })) (sym made.1) (moved_fits nodes me carried phase made.0 m live (subst (λ x. SlotFits nodes me carried x m) made.1 fits))
+    let made = found_from answer me Done done_accepted o is in
+    subst (λ x. MemberFits nodes me carried (stepped (moved_to phase) x) (record m { phase = phase })) (sym made.1) (moved_fits nodes me carried phase made.0 m live (subst (λ x. MemberFits nodes me carried x m) made.1 fits))
 moves answer phase live nodes me carried o m r is fits = fits
 
 moved_spec : (phase : Phase) (r : Reply) (m : Member) → (member_moved phase r m).spec ≡ m.spec
@@ -193,41 +186,41 @@ did_shut : (a : NodeId) (r : Reply) (m : Member) → did a AskShut r m ≡ membe
 did_shut a Done m = refl
 did_shut a r m = refl
 
-opened_for : (g : Addr) (me : NodeId) (noticed : set.FinSet nat_cmp) (token : List ℕ) (addr : Addr) (r : Reply) (o : Option (Option SlotState)) → is_addr g addr ≡ true → asked_for g me noticed (OpenGroup token addr) r o ≡ moved_after Opened r o
-opened_for g me noticed token addr Done o here = ap (λ b. where_so b (stepped (slot_moved Opened Done)) o) here
+opened_for : (g : Addr) (me : NodeId) (noticed : set.FinSet nat_cmp) (token : List ℕ) (addr : Addr) (r : Reply) (o : Option (Option Told)) → is_addr g addr ≡ true → asked_told g me noticed (OpenGroup token addr) r o ≡ moved_after Opened r o
+opened_for g me noticed token addr Done o here = ap (λ b. where_so b (stepped (moved_to Opened)) o) here
 opened_for g me noticed token addr r o here = refl
 
-shut_for : (g : Addr) (me : NodeId) (noticed : set.FinSet nat_cmp) (token : List ℕ) (addr : Addr) (r : Reply) (o : Option (Option SlotState)) → is_addr g addr ≡ true → asked_for g me noticed (ShutGroup token addr) r o ≡ moved_after Shut r o
-shut_for g me noticed token addr Done o here = ap (λ b. where_so b (stepped (slot_moved Shut Done)) o) here
+shut_for : (g : Addr) (me : NodeId) (noticed : set.FinSet nat_cmp) (token : List ℕ) (addr : Addr) (r : Reply) (o : Option (Option Told)) → is_addr g addr ≡ true → asked_told g me noticed (ShutGroup token addr) r o ≡ moved_after Shut r o
+shut_for g me noticed token addr Done o here = ap (λ b. where_so b (stepped (moved_to Shut)) o) here
 shut_for g me noticed token addr r o here = refl
 
 -- Dropping.
 
-abbrev dropped_after : Reply → Option (Option SlotState) → Option (Option SlotState)
-dropped_after Done o = one.dropped o
+abbrev dropped_after : Reply → Option (Option Told) → Option (Option Told)
+dropped_after Done o = life.dropped o
 dropped_after r o = o
 
 abbrev member_dropped : Reply → Member → Member
 member_dropped Done m = dropped m
 member_dropped r m = m
 
-dropped_fits : (nodes me : ℕ) (carried : ℕ → List Entry) (s : SlotState) (m : Member) → SlotFits nodes me carried (Some (Some s)) m → SlotFits nodes me carried (Some None) (dropped m)
-dropped_fits nodes me carried s m fits =
-    let st : SlotStands me s m = fits.slot in
+dropped_fits : (nodes me : ℕ) (carried : ℕ → List Entry) (t : Told) (m : Member) → MemberFits nodes me carried (Some (Some t)) m → MemberFits nodes me carried (Some None) (dropped m)
+dropped_fits nodes me carried t m fits =
+    let st : IsThere t m = fits.told in
     record {
-      slot = record { gone = refl; made = ap (λ (x : Option Spec). is_some x) st.spec };
+      told = record { gone = refl; made = ap (λ (x : Option Spec). is_some x) st.spec };
       inside = λ u is. absurd (cc);
       put = λ b low.
           ap (λ n. take n (m.put b)) (fits.taken b low)
-          ∙ (ap (take (length (carried b))) (fits.put b low) ∙ (take-append-le (length (carried b)) (carried b) (one.waiting_in (Some (Some s)) b) (omega arith) ∙ (take-length (carried b) ∙ sym (append-nil (carried b)))));
+          ∙ (ap (take (length (carried b))) (fits.put b low) ∙ (take-append-le (length (carried b)) (carried b) (t.waiting b) (omega arith) ∙ (take-length (carried b) ∙ sym (append-nil (carried b)))));
       taken = fits.taken;
-      acks = λ u is. absurd (cc);
+      acks = record { each = λ b k low said. absurd (omega (arith, said)); beyond = λ b seq far. refl };
     }
 
-drops : (nodes me : ℕ) (carried : ℕ → List Entry) (o : Option (Option SlotState)) (m : Member) (r : Reply) → group_answer drop_answer o ≡ r → SlotFits nodes me carried o m → SlotFits nodes me carried (dropped_after r o) (member_dropped r m)
+drops : (nodes me : ℕ) (carried : ℕ → List Entry) (o : Option (Option Told)) (m : Member) (r : Reply) → group_answer drop_answer (shown_in me o) ≡ r → MemberFits nodes me carried o m → MemberFits nodes me carried (dropped_after r o) (member_dropped r m)
 drops nodes me carried o m Done is fits =
-    let made = found_from drop_answer Done done_accepted o is in
-    subst (λ x. SlotFits nodes me carried (one.dropped x) (dropped m)) (sym made.1) (dropped_fits nodes me carried made.0 m (subst (λ x. SlotFits nodes me carried x m) made.1 fits))
+    let made = found_from drop_answer me Done done_accepted o is in
+    subst (λ x. MemberFits nodes me carried (life.dropped x) (dropped m)) (sym made.1) (dropped_fits nodes me carried made.0 m (subst (λ x. MemberFits nodes me carried x m) made.1 fits))
 drops nodes me carried o m r is fits = fits
 
 dropped_spec : (r : Reply) (m : Member) → (member_dropped r m).spec ≡ m.spec
@@ -238,63 +231,58 @@ did_dropped : (a : NodeId) (r : Reply) (m : Member) → did a AskDrop r m ≡ me
 did_dropped a Done m = refl
 did_dropped a r m = refl
 
-dropped_for : (g : Addr) (me : NodeId) (noticed : set.FinSet nat_cmp) (token : List ℕ) (addr : Addr) (r : Reply) (o : Option (Option SlotState)) → is_addr g addr ≡ true → asked_for g me noticed (DropGroup token addr) r o ≡ dropped_after r o
-dropped_for g me noticed token addr Done o here = ap (λ b. where_so b one.dropped o) here
+dropped_for : (g : Addr) (me : NodeId) (noticed : set.FinSet nat_cmp) (token : List ℕ) (addr : Addr) (r : Reply) (o : Option (Option Told)) → is_addr g addr ≡ true → asked_told g me noticed (DropGroup token addr) r o ≡ dropped_after r o
+dropped_for g me noticed token addr Done o here = ap (λ b. where_so b life.dropped o) here
 dropped_for g me noticed token addr r o here = refl
 
 -- Saying.
 
-said_when : (c d e f : Bool) (n seq : ℕ) → (if c then Refused TooLong else (if d then Refused Budget else (if e then Refused Bytes else (if f then Refused Window else Said n)))) ≡ Said seq → seq ≡ n
-said_when true d e f n seq is = absurd (cc)
-said_when false true e f n seq is = absurd (cc)
-said_when false false true f n seq is = absurd (cc)
-said_when false false false true n seq is = absurd (cc)
-said_when false false false false n seq is = cc
+-- what is said at a node, with the reply's number
+abbrev saying : NodeId → List ℕ → ℕ → GroupCall
+saying me payload seq = Own (record { origin = me; seq = seq; payload = payload })
 
-say_when : (phase : Phase) (spec : Spec) (usage : Usage) (log : List Entry) (payload : List ℕ) (seq : ℕ) → say_answer (record { spec = spec; phase = phase; usage = usage; log = log }) payload ≡ Said seq → seq ≡ usage.said + 1
-say_when Made spec usage log payload seq is = absurd (cc)
-say_when Shut spec usage log payload seq is = absurd (cc)
-say_when Gone spec usage log payload seq is = absurd (cc)
-say_when Opened spec usage log payload seq is =
-    said_when (nat_lt PAYLOAD (length payload)) (nat_le spec.msgs usage.said) (nat_lt spec.bytes (usage.bytes + length payload)) (nat_le spec.window usage.unfinished) (usage.said + 1) seq is
-
-abbrev said_after : List ℕ → Reply → Option (Option SlotState) → Option (Option SlotState)
-said_after payload (Said seq) o = stepped (slot_said payload (Said seq)) o
-said_after payload r o = o
+abbrev said_after : NodeId → List ℕ → Reply → Option (Option Told) → Option (Option Told)
+said_after me payload (Said seq) o = stepped (with_call me (saying me payload seq)) o
+said_after me payload r o = o
 
 -- a message is said, whose number no item has that is carried
-said_fits : (nodes : ℕ) (a : NodeId) (carried : ℕ → List Entry) (payload : List ℕ) (seq : ℕ) (s : SlotState) (m : Member) → seq ≡ s.said + 1
-    → ((b : ℕ) → b < nodes → list_any (alone.is_own a.number (s.said + 1)) (carried b) ≡ false)
-    → SlotFits nodes a.number carried (Some (Some s)) m
-    → SlotFits nodes a.number carried (Some (Some (slot_said payload (Said seq) s))) (called a.number (Own (record { origin = a; seq = seq; payload = payload })) m)
-said_fits nodes a carried payload seq s m next fresh fits =
-    let st : SlotStands a.number s m = fits.slot in
-    record {
-      slot = said_member a seq payload s m next st;
-      inside = inside_some nodes (slot_said payload (Said seq) s) (fits.inside s refl);
-      put = λ b low. put-said a seq payload s m b (carried b) next st (fits.put b low);
-      taken = fits.taken;
-      acks = acks_some nodes a.number (slot_said payload (Said seq) s) carried m.done (λ b k low short. subst (λ (n : ℕ). k < length (s.acknowledged ++ set.insert set.empty n ∷ []) → set.contains (get_or (s.acknowledged ++ set.insert set.empty n ∷ []) k set.empty) b ≡ (nat_eq b a.number || is_acknowledged a.number (k + 1) (m.done b) 1 (carried b))) (sym st.here)
-          (λ short. said_more a.number b (m.done b) (carried b) s.acknowledged (ap (λ n. list_any (alone.is_own a.number (n + 1)) (carried b)) st.history.acknowledged ∙ fresh b low) (λ j near. fits.acks s refl b j low near) k short) short);
-    }
+said_fits : (nodes : ℕ) (a : NodeId) (carried : ℕ → List Entry) (payload : List ℕ) (seq : ℕ) (t : Told) (m : Member)
+    → ((b : ℕ) → b < nodes → list_any (alone.is_own a.number (said_in t.calls + 1)) (carried b) ≡ false)
+    → MemberFits nodes a.number carried (Some (Some t)) m
+    → MemberFits nodes a.number carried (Some (Some (with_call a (saying a payload seq) t))) (called a.number (saying a payload seq) m)
+unfolding said_in
+said_fits nodes a carried payload seq t m fresh fits = record {
+  told = called_there a (saying a payload seq) t m fits.told;
+  inside = inside_some nodes (with_call a (saying a payload seq) t) (fits.inside t refl);
+  put = λ b low. called_put a (saying a payload seq) t m b (carried b) fits.told (fits.put b low);
+  taken = fits.taken;
+  acks = record {
+    each = λ b k low said. each b k low said (cases_lt k (said_in t.calls));
+    beyond = λ b n far. fits.acks.beyond b n (omega (arith, far));
+  };
+}
+  where
+    each : (b k : ℕ) → b < nodes → k < said_in t.calls + 1 → ((k < said_in t.calls) ⊎ (said_in t.calls ≤ k)) → t.acknowledged (k + 1) b ≡ is_acknowledged a.number (k + 1) (m.done b) 1 (carried b)
+    each b k low said (inl before) = fits.acks.each b k low before
+    each b k low said (inr last) =
+        let now : k ≡ said_in t.calls = omega (arith, said, last) in
+        fits.acks.beyond b (k + 1) (omega (arith, now)) ∙ sym (ap (λ n. is_acknowledged a.number (n + 1) (m.done b) 1 (carried b)) now ∙ unknown_acknowledged a.number (said_in t.calls + 1) (m.done b) 1 (carried b) (fresh b low))
 
-says : (nodes : ℕ) (a : NodeId) (carried : ℕ → List Entry) (payload : List ℕ) (o : Option (Option SlotState)) (m : Member) (r : Reply) → group_answer (λ s. say_answer s payload) o ≡ r
-    → ((s : SlotState) → o ≡ Some (Some s) → (b : ℕ) → b < nodes → list_any (alone.is_own a.number (s.said + 1)) (carried b) ≡ false)
-    → SlotFits nodes a.number carried o m → SlotFits nodes a.number carried (said_after payload r o) (did a (AskSay payload) r m)
+says : (nodes : ℕ) (a : NodeId) (carried : ℕ → List Entry) (payload : List ℕ) (o : Option (Option Told)) (m : Member) (r : Reply) → group_answer (λ s. say_answer s payload) (shown_in a.number o) ≡ r
+    → ((t : Told) → o ≡ Some (Some t) → (b : ℕ) → b < nodes → list_any (alone.is_own a.number (said_in t.calls + 1)) (carried b) ≡ false)
+    → MemberFits nodes a.number carried o m → MemberFits nodes a.number carried (said_after a payload r o) (did a (AskSay payload) r m)
 says nodes a carried payload o m (Said seq) is fresh fits =
-    let made = found_from (λ s. say_answer s payload) (Said seq) (said_accepted seq) o is in
-    let s : SlotState = made.0 in
-    let next : seq ≡ s.said + 1 = say_when s.phase s.spec (shown s).usage (shown s).log payload seq made.2 in
-    subst (λ x. SlotFits nodes a.number carried (stepped (slot_said payload (Said seq)) x) (called a.number (Own (record { origin = a; seq = seq; payload = payload })) m)) (sym made.1)
-    (said_fits nodes a carried payload seq s m next (fresh s made.1) (subst (λ x. SlotFits nodes a.number carried x m) made.1 fits))
+    let made = found_from (λ s. say_answer s payload) a.number (Said seq) (said_accepted seq) o is in
+    subst (λ x. MemberFits nodes a.number carried (stepped (with_call a (saying a payload seq)) x) (called a.number (saying a payload seq) m)) (sym made.1)
+    (said_fits nodes a carried payload seq made.0 m (fresh made.0 made.1) (subst (λ x. MemberFits nodes a.number carried x m) made.1 fits))
 says nodes a carried payload o m r is fresh fits = fits
 
 said_spec : (a : NodeId) (payload : List ℕ) (r : Reply) (m : Member) → (did a (AskSay payload) r m).spec ≡ m.spec
 said_spec a payload (Said seq) m = refl
 said_spec a payload r m = refl
 
-said_for : (g : Addr) (me : NodeId) (noticed : set.FinSet nat_cmp) (token : List ℕ) (addr : Addr) (payload : List ℕ) (r : Reply) (o : Option (Option SlotState)) → is_addr g addr ≡ true → asked_for g me noticed (Say token addr payload) r o ≡ said_after payload r o
-said_for g me noticed token addr payload (Said seq) o here = ap (λ b. where_so b (stepped (slot_said payload (Said seq))) o) here
+said_for : (g : Addr) (me : NodeId) (noticed : set.FinSet nat_cmp) (token : List ℕ) (addr : Addr) (payload : List ℕ) (r : Reply) (o : Option (Option Told)) → is_addr g addr ≡ true → asked_told g me noticed (Say token addr payload) r o ≡ said_after me payload r o
+said_for g me noticed token addr payload (Said seq) o here = ap (λ b. where_so b (stepped (with_call me (saying me payload seq))) o) here
 said_for g me noticed token addr payload r o here = refl
 
 -- The group's commands, each with the node's reply.
@@ -307,57 +295,57 @@ module _ (plan : NodePlan) (g : Addr) (past : List Happened) (frames_from : ℕ 
   m = group plan.me.number
 
   -- the node's reply is that for the group with this address
-  same_answer : (answer : Shown → Reply) → is_addr g addr ≡ true → reply ≡ group_answer answer (group_of plan addr past) → group_answer answer (group_of plan g past) ≡ reply
-  same_answer answer named is = sym (is ∙ ap (λ (x : Addr). group_answer answer (group_of plan x past)) (sym (addr_is g addr named)))
+  same_answer : (answer : Shown → Reply) → is_addr g addr ≡ true → reply ≡ group_answer answer (shown_in plan.me.number (told_of plan addr past)) → group_answer answer (shown_in plan.me.number (told_of plan g past)) ≡ reply
+  same_answer answer named is = sym (is ∙ ap (λ (x : Addr). group_answer answer (shown_in plan.me.number (told_of plan x past))) (sym (addr_is g addr named)))
 
   pub at_open : plan.nodes ≤ NODES → is_stopped past ≡ false → is_own plan g past (OpenGroup token addr) ≡ true → reply ≡ admitted_answer plan past (OpenGroup token addr)
       → Fits plan.nodes g plan.me.number frames_from before m → AskedGoes plan g past (OpenGroup token addr) reply frames_from group
   at_open few running own is fits =
       let named = (and_parts (is_addr g addr) (is_admitted_by plan past (OpenGroup token addr)) own).0 in
       let same = same_answer open_answer named is in
-      own_command plan g past (OpenGroup token addr) reply frames_from group AskOpen (moved_after Opened reply (group_of plan g past)) running own refl (opened_for g plan.me (noticed_in plan past) token addr reply (group_of plan g past) named) refl refl tt refl
+      own_command plan g past (OpenGroup token addr) reply frames_from group AskOpen (moved_after Opened reply (told_of plan g past)) running own refl (opened_for g plan.me (noticed_in plan past) token addr reply (told_of plan g past) named) refl refl tt refl
       (answers_alike plan g past (OpenGroup token addr) frames_from group open_answer few own fits ∙ same)
       (ap (λ (n : Member). n.spec) (did_opened plan.me reply m) ∙ moved_spec Opened reply m) fits
-      (subst (λ (n : Member). SlotFits plan.nodes plan.me.number (carried_in g before) (moved_after Opened reply (group_of plan g past)) n) (sym (did_opened plan.me reply m))
-      (moves open_answer Opened refl plan.nodes plan.me.number (carried_in g before) (group_of plan g past) m reply same (slot_fits plan.nodes g plan.me.number frames_from before m fits)))
+      (subst (λ (n : Member). MemberFits plan.nodes plan.me.number (carried_in g before) (moved_after Opened reply (told_of plan g past)) n) (sym (did_opened plan.me reply m))
+      (moves open_answer Opened refl plan.nodes plan.me.number (carried_in g before) (told_of plan g past) m reply same (member_fits plan.nodes g plan.me.number frames_from before m fits)))
 
   pub at_shut : plan.nodes ≤ NODES → is_stopped past ≡ false → is_own plan g past (ShutGroup token addr) ≡ true → reply ≡ admitted_answer plan past (ShutGroup token addr)
       → Fits plan.nodes g plan.me.number frames_from before m → AskedGoes plan g past (ShutGroup token addr) reply frames_from group
   at_shut few running own is fits =
       let named = (and_parts (is_addr g addr) (is_admitted_by plan past (ShutGroup token addr)) own).0 in
       let same = same_answer shut_answer named is in
-      own_command plan g past (ShutGroup token addr) reply frames_from group AskShut (moved_after Shut reply (group_of plan g past)) running own refl (shut_for g plan.me (noticed_in plan past) token addr reply (group_of plan g past) named) refl refl tt refl
+      own_command plan g past (ShutGroup token addr) reply frames_from group AskShut (moved_after Shut reply (told_of plan g past)) running own refl (shut_for g plan.me (noticed_in plan past) token addr reply (told_of plan g past) named) refl refl tt refl
       (answers_alike plan g past (ShutGroup token addr) frames_from group shut_answer few own fits ∙ same)
       (ap (λ (n : Member). n.spec) (did_shut plan.me reply m) ∙ moved_spec Shut reply m) fits
-      (subst (λ (n : Member). SlotFits plan.nodes plan.me.number (carried_in g before) (moved_after Shut reply (group_of plan g past)) n) (sym (did_shut plan.me reply m))
-      (moves shut_answer Shut refl plan.nodes plan.me.number (carried_in g before) (group_of plan g past) m reply same (slot_fits plan.nodes g plan.me.number frames_from before m fits)))
+      (subst (λ (n : Member). MemberFits plan.nodes plan.me.number (carried_in g before) (moved_after Shut reply (told_of plan g past)) n) (sym (did_shut plan.me reply m))
+      (moves shut_answer Shut refl plan.nodes plan.me.number (carried_in g before) (told_of plan g past) m reply same (member_fits plan.nodes g plan.me.number frames_from before m fits)))
 
   pub at_drop : plan.nodes ≤ NODES → is_stopped past ≡ false → is_own plan g past (DropGroup token addr) ≡ true → reply ≡ admitted_answer plan past (DropGroup token addr)
       → Fits plan.nodes g plan.me.number frames_from before m → AskedGoes plan g past (DropGroup token addr) reply frames_from group
   at_drop few running own is fits =
       let named = (and_parts (is_addr g addr) (is_admitted_by plan past (DropGroup token addr)) own).0 in
       let same = same_answer drop_answer named is in
-      own_command plan g past (DropGroup token addr) reply frames_from group AskDrop (dropped_after reply (group_of plan g past)) running own refl (dropped_for g plan.me (noticed_in plan past) token addr reply (group_of plan g past) named) refl refl tt refl
+      own_command plan g past (DropGroup token addr) reply frames_from group AskDrop (dropped_after reply (told_of plan g past)) running own refl (dropped_for g plan.me (noticed_in plan past) token addr reply (told_of plan g past) named) refl refl tt refl
       (answers_alike plan g past (DropGroup token addr) frames_from group drop_answer few own fits ∙ same)
       (ap (λ (n : Member). n.spec) (did_dropped plan.me reply m) ∙ dropped_spec reply m) fits
-      (subst (λ (n : Member). SlotFits plan.nodes plan.me.number (carried_in g before) (dropped_after reply (group_of plan g past)) n) (sym (did_dropped plan.me reply m))
-      (drops plan.nodes plan.me.number (carried_in g before) (group_of plan g past) m reply same (slot_fits plan.nodes g plan.me.number frames_from before m fits)))
+      (subst (λ (n : Member). MemberFits plan.nodes plan.me.number (carried_in g before) (dropped_after reply (told_of plan g past)) n) (sym (did_dropped plan.me reply m))
+      (drops plan.nodes plan.me.number (carried_in g before) (told_of plan g past) m reply same (member_fits plan.nodes g plan.me.number frames_from before m fits)))
 
   pub at_say : (payload : List ℕ) → plan.nodes ≤ NODES → is_stopped past ≡ false → is_own plan g past (Say token addr payload) ≡ true → reply ≡ admitted_answer plan past (Say token addr payload)
-      → ((s : SlotState) → group_of plan g past ≡ Some (Some s) → (b : ℕ) → b < plan.nodes → list_any (alone.is_own plan.me.number (s.said + 1)) (carried_in g before b) ≡ false)
+      → ((t : Told) → told_of plan g past ≡ Some (Some t) → (b : ℕ) → b < plan.nodes → list_any (alone.is_own plan.me.number (said_in t.calls + 1)) (carried_in g before b) ≡ false)
       → Fits plan.nodes g plan.me.number frames_from before m → AskedGoes plan g past (Say token addr payload) reply frames_from group
   at_say payload few running own is fresh fits =
       let named = (and_parts (is_addr g addr) (is_admitted_by plan past (Say token addr payload)) own).0 in
       let same = same_answer (λ s. say_answer s payload) named is in
-      own_command plan g past (Say token addr payload) reply frames_from group (AskSay payload) (said_after payload reply (group_of plan g past)) running own refl (said_for g plan.me (noticed_in plan past) token addr payload reply (group_of plan g past) named) refl refl tt refl
+      own_command plan g past (Say token addr payload) reply frames_from group (AskSay payload) (said_after plan.me payload reply (told_of plan g past)) running own refl (said_for g plan.me (noticed_in plan past) token addr payload reply (told_of plan g past) named) refl refl tt refl
       (answers_alike plan g past (Say token addr payload) frames_from group (λ s. say_answer s payload) few own fits ∙ same)
       (said_spec plan.me payload reply m) fits
-      (says plan.nodes plan.me (carried_in g before) payload (group_of plan g past) m reply same fresh (slot_fits plan.nodes g plan.me.number frames_from before m fits))
+      (says plan.nodes plan.me (carried_in g before) payload (told_of plan g past) m reply same fresh (member_fits plan.nodes g plan.me.number frames_from before m fits))
 
   pub at_fetch : (from most : ℕ) → plan.nodes ≤ NODES → is_stopped past ≡ false → is_own plan g past (Fetch token addr from most) ≡ true → reply ≡ admitted_answer plan past (Fetch token addr from most)
       → Fits plan.nodes g plan.me.number frames_from before m → AskedGoes plan g past (Fetch token addr from most) reply frames_from group
   at_fetch from most few running own is fits =
       let named = (and_parts (is_addr g addr) (is_admitted_by plan past (Fetch token addr from most)) own).0 in
-      own_command plan g past (Fetch token addr from most) reply frames_from group (AskFetch from most) (group_of plan g past) running own refl refl refl refl tt refl
+      own_command plan g past (Fetch token addr from most) reply frames_from group (AskFetch from most) (told_of plan g past) running own refl refl refl refl tt refl
       (answers_alike plan g past (Fetch token addr from most) frames_from group (λ s. fetch_answer s from most) few own fits ∙ same_answer (λ s. fetch_answer s from most) named is)
-      refl fits (slot_fits plan.nodes g plan.me.number frames_from before m fits)
+      refl fits (member_fits plan.nodes g plan.me.number frames_from before m fits)

@@ -1,13 +1,11 @@
--- An acknowledgement is taken: by the slot, and by the group alone.
-use Rattle.std.proofs.Common.{◌≡◌, ◌≢◌, ℕ, zero, suc, ◌+◌, ◌-◌, ◌<◌, ◌≤◌, List, [], ◌∷◌, ◌++◌, length, map, get_or, fold, cond, Option, Some, None, Bool, true, false, not, ◌&&◌, ◌||◌, ◌⊎◌, inl, inr, refl, sym, ◌∙◌, ap, subst, arith, nat_eq, nat_lt, nat_le, slice_get, slice_set, slice_index_or, take, add-one, length-append}
+-- An acknowledgement is taken: as the past tells, and by the group alone.
+use Rattle.std.proofs.Common.{◌≡◌, ◌≢◌, ℕ, zero, suc, ◌+◌, ◌<◌, ◌≤◌, List, [], ◌∷◌, ◌++◌, length, map, fold, cond, Option, Some, None, Bool, true, false, not, ◌&&◌, ◌||◌, ◌⊎◌, inl, inr, refl, sym, ◌∙◌, ap, subst, arith, nat_eq, nat_lt, nat_le, slice_get, take, add-one, length-append}
 use Rattle.std.specs.Prelude.{All, filter, if◌then◌else◌}
 use Rattle.std.specs.List.{list_any}
-use Rattle.std.specs.Ordering.{nat_cmp}
-use Rattle.std.specs.FinSet as fin
 use Rattle.std.proofs.lemmas.Bool.{cases_Bool, cases_eq, cases_lt, or_right, or_from}
 use Rattle.std.proofs.lemmas.Bool.Decides.{nat_tests}
 use Rattle.std.proofs.lemmas.Option.{same_Some}
-use Rattle.std.proofs.lemmas.List.{append-nil, get_or-set_same, get_or-set_other, length-set, take_all}
+use Rattle.std.proofs.lemmas.List.{append-nil, take_all}
 use Rattle.std.proofs.lemmas.List.Elements.{All-nil, All-cons, All-head, All-tail}
 use Rattle.std.proofs.lemmas.List.Sums.{fold-append}
 use Rattle.gb_types.specs.Entry.{message_of}
@@ -18,22 +16,19 @@ use Rattle.gb_types.specs.declared.message.MsgId.{MsgId}
 use Rattle.gb_types.specs.declared.node.NodeId.{NodeId}
 use Rattle.gb_types.specs.declared.spec.Spec.{Spec}
 use Rattle.gb_frame.specs.declared.item.Item.{Item}
+use Rattle.gb_history.specs.History.{said_in}
 use Rattle.gb_rules.specs.Group.{is_member}
-use Rattle.gb_slot.specs.Slot.{slot_done, with_acknowledgement}
-use Rattle.gb_slot.specs.SlotState.{SlotState}
-use Rattle.gb_slot.proofs.HistoryLemmas.{done_stands}
-use Rattle.gb_types.proofs.InsertedLemmas.{contains-inserted}
 use Rattle.gb_alone.specs.declared.event.GroupEvent.TheVariants.{Done as Acknowledged}
 use Rattle.gb_alone.specs.declared.event.GroupStep.{GroupStep}
 use Rattle.gb_alone.specs.Alone.{Member, Group, after, alone_from, places, is_marked, is_own, is_acknowledged, IsLegalFrom}
-use Rattle.gb_groups.specs.AtAddress.{entry_of}
-use Rattle.gb_groups.specs.OneGroup.{stepped, where_so, names, items_for, waiting_in}
+use Rattle.gb_frame.specs.Items.{entry_of, names, items_for}
+use Rattle.gb_rules.specs.Lifetime.{stepped, where_so}
 use Rattle.gb_node.specs.Past.{numbered}
-use Rattle.gb_node.specs.PastGroups.{items_freed, done_for}
+use Rattle.gb_node.specs.PastGroups.{Told, waiting_of, items_freed, finished_by, done_told}
 use Rattle.gb_isolation.specs.Project.{items_in, items_of, offset, acknowledged, all_acknowledged}
-use Rattle.gb_isolation.proofs.View.{View, SlotIs, AreMarked, KeepsAcks, IsInside, Fits, Goes}
+use Rattle.gb_isolation.proofs.View.{View, MemberIs, AreMarked, KeepsAcks, IsInside, Fits, Goes, said_of, acknowledged_of}
 use Rattle.gb_isolation.proofs.GoesLemmas.{legal-append, after_there, after_elsewhere, eqb_self, eqb_apart, eqb_apart_back}
-use Rattle.gb_isolation.proofs.MemberLemmas.{same_slot}
+use Rattle.gb_isolation.proofs.MemberLemmas.{same_member}
 use Rattle.gb_isolation.proofs.MarkLemmas.{Found, is_between, is_in, in_above, in_frame, in_beyond, in_found, or_off, offset_all, marks_same}
 
 -- Items that groups put out.
@@ -70,95 +65,60 @@ freed_fit g covered acked n (f ∷ fs) fit = by (acked n) (freed_fit g covered a
     by true all = all
     by false all = go (covered n) all
 
--- The slot.
+-- What the past tells.
 
--- the spec of a slot, and for each own message the nodes that have it for good
-abbrev pub spec_in : Option (Option SlotState) → Option Spec
+-- the spec of a group that is there
+abbrev pub spec_in : Option (Option Told) → Option Spec
 spec_in None = None
 spec_in (Some None) = None
-spec_in (Some (Some s)) = Some s.spec
-
-abbrev pub acks_in : Option (Option SlotState) → List (fin.FinSet nat_cmp)
-acks_in None = []
-acks_in (Some None) = []
-acks_in (Some (Some s)) = s.acknowledged
+spec_in (Some (Some t)) = Some t.spec
 
 none_some : {X : Type 0} (x : X) → Some x ≡ None → ⊥
 none_some x same = cc
 
 -- with the same spec the members are inside as well
-pub inside_too : (nodes : ℕ) (o k : Option (Option SlotState)) → spec_in k ≡ spec_in o → IsInside nodes o → IsInside nodes k
+pub inside_too : (nodes : ℕ) (o k : Option (Option Told)) → spec_in k ≡ spec_in o → IsInside nodes o → IsInside nodes k
 inside_too nodes None k same inside s is b member = absurd (none_some s.spec (sym (ap spec_in is) ∙ same))
 inside_too nodes (Some None) k same inside s is b member = absurd (none_some s.spec (sym (ap spec_in is) ∙ same))
 inside_too nodes (Some (Some t)) k same inside s is b member =
     let specs : s.spec ≡ t.spec = same_Some s.spec t.spec (sym (ap spec_in is) ∙ same) in
     inside t refl b (ap (λ (x : Spec). is_member x b) (sym specs) ∙ member)
 
--- these sets keep of each own message which nodes have it for good
-abbrev pub KeepsIn : ℕ → ℕ → List (fin.FinSet nat_cmp) → (ℕ → List Entry) → (ℕ → List ℕ) → Type 0
-KeepsIn nodes me acks carried done = (b k : ℕ) → b < nodes → k < length acks → fin.contains (get_or acks k fin.empty) b ≡ (nat_eq b me || is_acknowledged me (k + 1) (done b) 1 (carried b))
-
-pub keeps_in : (nodes me : ℕ) (o : Option (Option SlotState)) (carried : ℕ → List Entry) (done : ℕ → List ℕ) → KeepsAcks nodes me o carried done → KeepsIn nodes me (acks_in o) carried done
-keeps_in nodes me None carried done kept b k inside low = absurd (omega (arith, low))
-keeps_in nodes me (Some None) carried done kept b k inside low = absurd (omega (arith, low))
-keeps_in nodes me (Some (Some s)) carried done kept b k inside low = kept s refl b k inside low
-
-pub keeps_of : (nodes me : ℕ) (o : Option (Option SlotState)) (carried : ℕ → List Entry) (done : ℕ → List ℕ) → KeepsIn nodes me (acks_in o) carried done → KeepsAcks nodes me o carried done
-keeps_of nodes me o carried done kept s is = subst (λ (acks : List (fin.FinSet nat_cmp)). KeepsIn nodes me acks carried done) (ap acks_in is) kept
-
 -- acknowledged items change nothing of what a group shows and has waiting
-pub record SameSlot (o k : Option (Option SlotState)) : Type 0 where
-  pub stands : (me : ℕ) (m : Member) → SlotIs me o m → SlotIs me k m
-  pub waiting : (b : ℕ) → waiting_in k b ≡ waiting_in o b
+pub record SameGroup (o k : Option (Option Told)) : Type 0 where
+  pub stands : (m : Member) → MemberIs o m → MemberIs k m
+  pub waiting : (b : ℕ) → waiting_of k b ≡ waiting_of o b
   pub spec : spec_in k ≡ spec_in o
-  pub size : length (acks_in k) ≡ length (acks_in o)
+  pub said : said_of k ≡ said_of o
 
-length-with : (seq : ℕ) (b : NodeId) (acks : List (fin.FinSet nat_cmp)) → length (with_acknowledgement seq b acks) ≡ length acks
-length-with seq b acks =
-    elim (nat_le 1 seq && nat_le seq (length acks)) as (λ t. length (if t then slice_set acks (seq - 1) (fin.insert (slice_index_or acks (seq - 1) fin.empty) b.number) else acks) ≡ length acks) [
-      | true ↦ length-set acks (seq - 1) (fin.insert (slice_index_or acks (seq - 1) fin.empty) b.number)
-      | false ↦ refl
-    ]
+same_itself : (o : Option (Option Told)) → SameGroup o o
+same_itself o = record { stands = λ m st. st; waiting = λ b. refl; spec = refl; said = refl }
 
-length-done : (b : NodeId) (m : MsgId) (s : SlotState) → length (slot_done b m s).acknowledged ≡ length s.acknowledged
-length-done b m s = elim (nat_eq m.origin.number s.me.number) as (λ t. length (if t then with_acknowledgement m.seq b s.acknowledged else s.acknowledged) ≡ length s.acknowledged) [
-  | true ↦ length-with m.seq b s.acknowledged
-  | false ↦ refl
-]
+stepped_done-same : (me from : NodeId) (message : MsgId) (o : Option (Option Told)) → SameGroup o (stepped (finished_by me from message) o)
+stepped_done-same me from message None = same_itself None
+stepped_done-same me from message (Some None) = same_itself (Some None)
+stepped_done-same me from message (Some (Some t)) = record { stands = λ m st. record { spec = st.spec; phase = st.phase; present = st.present; calls = st.calls }; waiting = λ b. refl; spec = refl; said = refl }
 
-same_itself : (o : Option (Option SlotState)) → SameSlot o o
-same_itself o = record { stands = λ me m st. st; waiting = λ b. refl; spec = refl; size = refl }
-
-stepped_done-same : (from : NodeId) (message : MsgId) (o : Option (Option SlotState)) → SameSlot o (stepped (slot_done from message) o)
-stepped_done-same from message None = same_itself None
-stepped_done-same from message (Some None) = same_itself (Some None)
-stepped_done-same from message (Some (Some s)) = record {
-  stands = λ me m st. record { spec = st.spec; phase = st.phase; present = st.present; here = st.here; history = done_stands s m.told from message st.history };
-  waiting = λ b. refl;
-  spec = refl;
-  size = length-done from message s;
-}
-
-done_for-same : (from : NodeId) (o : Option (Option SlotState)) (i : Item) → SameSlot o (done_for from o i)
-done_for-same from o i = by (nat_lt i.origin NODES)
+done_told-same : (me from : NodeId) (o : Option (Option Told)) (i : Item) → SameGroup o (done_told me from o i)
+done_told-same me from o i = by (nat_lt i.origin NODES)
   where
-    by : (b : Bool) → SameSlot o (where_so b (stepped (slot_done from (message_of (entry_of i)))) o)
-    by true = stepped_done-same from (message_of (entry_of i)) o
+    by : (b : Bool) → SameGroup o (where_so b (stepped (finished_by me from (message_of (entry_of i)))) o)
+    by true = stepped_done-same me from (message_of (entry_of i)) o
     by false = same_itself o
 
-pub all_done-same : (from : NodeId) (xs : List Item) (o : Option (Option SlotState)) → SameSlot o (fold (done_for from) o xs)
-all_done-same from [] o = same_itself o
-all_done-same from (i ∷ xs) o =
-    let first = done_for-same from o i in
-    let later = all_done-same from xs (done_for from o i) in
+pub all_done-same : (me from : NodeId) (xs : List Item) (o : Option (Option Told)) → SameGroup o (fold (done_told me from) o xs)
+all_done-same me from [] o = same_itself o
+all_done-same me from (i ∷ xs) o =
+    let first = done_told-same me from o i in
+    let later = all_done-same me from xs (done_told me from o i) in
     record {
-      stands = λ me m st. later.stands me m (first.stands me m st);
+      stands = λ m st. later.stands m (first.stands m st);
       waiting = λ b. later.waiting b ∙ first.waiting b;
       spec = later.spec ∙ first.spec;
-      size = later.size ∙ first.size;
+      said = later.said ∙ first.said;
     }
 
--- Which acknowledgements it keeps.
+-- Which acknowledgements it tells of.
 
 last_false : (t : Bool) → t ≡ (t || false)
 last_false true = refl
@@ -168,128 +128,71 @@ and_false : (t : Bool) → (t && false) ≡ false
 and_false true = refl
 and_false false = refl
 
--- one message is acknowledged by a node
-with_one : (seq : ℕ) (b : NodeId) (acks : List (fin.FinSet nat_cmp)) (k c : ℕ) → k < length acks
-    → fin.contains (get_or (with_acknowledgement seq b acks) k fin.empty) c ≡ (fin.contains (get_or acks k fin.empty) c || (nat_eq c b.number && nat_eq seq (k + 1)))
-with_one seq b acks k c low = go (cases_eq seq (k + 1))
-  where
-    old : fin.FinSet nat_cmp
-    old = get_or acks (seq - 1) fin.empty
-
-    swap : nat_eq b.number c ≡ nat_eq c b.number
-    swap = grind (arith, nat_tests)
-
-    or_swap : (x y : Bool) → (x || y) ≡ (y || (x && true))
-    or_swap true true = refl
-    or_swap true false = refl
-    or_swap false true = refl
-    or_swap false false = refl
-
-    go : ((seq ≡ k + 1) ⊎ (seq ≡ k + 1 → ⊥)) → fin.contains (get_or (with_acknowledgement seq b acks) k fin.empty) c ≡ (fin.contains (get_or acks k fin.empty) c || (nat_eq c b.number && nat_eq seq (k + 1)))
-    go (inl same) =
-        let inside : (nat_le 1 seq && nat_le seq (length acks)) ≡ true = grind (arith, nat_tests, same, low) in
-        let place : seq - 1 ≡ k = omega (arith, same) in
-        let equal : nat_eq seq (k + 1) ≡ true = grind (arith, nat_tests, same) in
-        ap (λ t. fin.contains (get_or (if t then slice_set acks (seq - 1) (fin.insert old b.number) else acks) k fin.empty) c) inside
-        ∙ (ap (λ n. fin.contains (get_or (slice_set acks n (fin.insert (get_or acks n fin.empty) b.number)) k fin.empty) c) place
-        ∙ (ap (λ (x : fin.FinSet nat_cmp). fin.contains x c) (get_or-set_same acks k (fin.insert (get_or acks k fin.empty) b.number) fin.empty low)
-        ∙ (contains-inserted (get_or acks k fin.empty) b.number c
-        ∙ (ap (λ t. t || fin.contains (get_or acks k fin.empty) c) swap
-        ∙ (or_swap (nat_eq c b.number) (fin.contains (get_or acks k fin.empty) c)
-        ∙ ap (λ t. fin.contains (get_or acks k fin.empty) c || (nat_eq c b.number && t)) (sym equal))))))
-    go (inr other) =
-        let apart : nat_eq seq (k + 1) ≡ false = grind (arith, nat_tests, other) in
-        kept (cases_Bool (nat_le 1 seq && nat_le seq (length acks)))
-        ∙ (last_false (fin.contains (get_or acks k fin.empty) c) ∙ ap (λ t. fin.contains (get_or acks k fin.empty) c || t) (sym (ap (λ t. nat_eq c b.number && t) apart ∙ and_false (nat_eq c b.number))))
-      where
-        kept : (((nat_le 1 seq && nat_le seq (length acks)) ≡ true) ⊎ ((nat_le 1 seq && nat_le seq (length acks)) ≡ false)) → fin.contains (get_or (with_acknowledgement seq b acks) k fin.empty) c ≡ fin.contains (get_or acks k fin.empty) c
-        kept (inl inside) =
-            let some : 1 ≤ seq = grind (arith, nat_tests, inside) in
-            let away : k ≢ seq - 1 = λ e. other (omega (arith, e, some)) in
-            ap (λ t. fin.contains (get_or (if t then slice_set acks (seq - 1) (fin.insert old b.number) else acks) k fin.empty) c) inside
-            ∙ ap (λ (x : fin.FinSet nat_cmp). fin.contains x c) (get_or-set_other acks (seq - 1) k (fin.insert old b.number) fin.empty away)
-        kept (inr outside) = ap (λ t. fin.contains (get_or (if t then slice_set acks (seq - 1) (fin.insert old b.number) else acks) k fin.empty) c) outside
-
-done_one : (b : NodeId) (x : Entry) (s : SlotState) (me k c : ℕ) → s.me.number ≡ me → k < length s.acknowledged
-    → fin.contains (get_or (slot_done b (message_of x) s).acknowledged k fin.empty) c ≡ (fin.contains (get_or s.acknowledged k fin.empty) c || (nat_eq c b.number && is_own me (k + 1) x))
-done_one b x s me k c here low = go (nat_eq x.origin.number s.me.number) refl
-  where
-    go : (t : Bool) → nat_eq x.origin.number s.me.number ≡ t → fin.contains (get_or (if t then with_acknowledgement x.seq b s.acknowledged else s.acknowledged) k fin.empty) c ≡ (fin.contains (get_or s.acknowledged k fin.empty) c || (nat_eq c b.number && is_own me (k + 1) x))
-    go true is = with_one x.seq b s.acknowledged k c low ∙ ap (λ t. fin.contains (get_or s.acknowledged k fin.empty) c || (nat_eq c b.number && (t && nat_eq x.seq (k + 1)))) (sym (ap (nat_eq x.origin.number) (sym here) ∙ is))
-    go false is =
-        last_false (fin.contains (get_or s.acknowledged k fin.empty) c)
-        ∙ ap (λ t. fin.contains (get_or s.acknowledged k fin.empty) c || t) (sym (ap (λ t. nat_eq c b.number && (t && nat_eq x.seq (k + 1))) (ap (nat_eq x.origin.number) (sym here) ∙ is) ∙ and_false (nat_eq c b.number)))
-
--- the slot, if there is one, is at the node me
-abbrev IsHere : ℕ → Option (Option SlotState) → Type 0
-IsHere me None = Unit {0}
-IsHere me (Some None) = Unit {0}
-IsHere me (Some (Some s)) = s.me.number ≡ me
-
-is_here : (me : ℕ) (o : Option (Option SlotState)) (m : Member) → SlotIs me o m → IsHere me o
-is_here me None m st = tt
-is_here me (Some None) m st = tt
-is_here me (Some (Some s)) m st = st.here
-
 -- one item is acknowledged
-done_for-one : (from : NodeId) (i : Item) (me k c : ℕ) (o : Option (Option SlotState)) → IsFit i → IsHere me o → k < length (acks_in o)
-    → (fin.contains (get_or (acks_in (done_for from o i)) k fin.empty) c ≡ (fin.contains (get_or (acks_in o) k fin.empty) c || (nat_eq c from.number && is_own me (k + 1) (entry_of i)))) × IsHere me (done_for from o i)
-done_for-one from i me k c None fit here low = absurd (omega (arith, low))
-done_for-one from i me k c (Some None) fit here low = absurd (omega (arith, low))
-done_for-one from i me k c (Some (Some s)) fit here low = subst Goal (sym node) (done_one from (entry_of i) s me k c here low, here)
+done_told-one : (me from : NodeId) (i : Item) (k c : ℕ) (o : Option (Option Told)) → IsFit i → k < said_of o
+    → acknowledged_of (done_told me from o i) (k + 1) c ≡ (acknowledged_of o (k + 1) c || (nat_eq c from.number && is_own me.number (k + 1) (entry_of i)))
+done_told-one me from i k c None fit low = absurd (omega (arith, low))
+done_told-one me from i k c (Some None) fit low = absurd (omega (arith, low))
+done_told-one me from i k c (Some (Some t)) fit low =
+    let there : nat_le (k + 1) (said_in t.calls) ≡ true = grind (arith, nat_tests, low) in
+    ap (λ b. acknowledged_of (where_so b (stepped (finished_by me from (message_of (entry_of i)))) (Some (Some t))) (k + 1) c) node
+    ∙ ap (λ b. t.acknowledged (k + 1) c || (b && (nat_eq c from.number && is_own me.number (k + 1) (entry_of i)))) there
   where
-    Goal : Bool → Type 0
-    Goal b =
-        (fin.contains (get_or (acks_in (where_so b (stepped (slot_done from (message_of (entry_of i)))) (Some (Some s)))) k fin.empty) c ≡ (fin.contains (get_or s.acknowledged k fin.empty) c || (nat_eq c from.number && is_own me (k + 1) (entry_of i))))
-        × IsHere me (where_so b (stepped (slot_done from (message_of (entry_of i)))) (Some (Some s)))
-
     node : nat_lt i.origin NODES ≡ true
     node = let low : i.origin < NODES = fit.0 in grind (arith, nat_tests, low)
 
 -- these items are acknowledged
-items_done : (from : NodeId) (me k c : ℕ) (xs : List Item) (o : Option (Option SlotState)) → All IsFit xs → IsHere me o → k < length (acks_in o)
-    → fin.contains (get_or (acks_in (fold (done_for from) o xs)) k fin.empty) c ≡ (fin.contains (get_or (acks_in o) k fin.empty) c || (nat_eq c from.number && list_any (is_own me (k + 1)) (map entry_of xs)))
-items_done from me k c [] o fits here low =
-    last_false (fin.contains (get_or (acks_in o) k fin.empty) c) ∙ ap (λ t. fin.contains (get_or (acks_in o) k fin.empty) c || t) (sym (and_false (nat_eq c from.number)))
-items_done from me k c (i ∷ xs) o fits here low =
-    let one = done_for-one from i me k c o (All-head IsFit i xs fits) here low in
-    let size = (done_for-same from o i).size in
-    let rest = items_done from me k c xs (done_for from o i) (All-tail IsFit i xs fits) one.1 (omega (arith, low, size)) in
-    rest ∙ (ap (λ t. t || (nat_eq c from.number && list_any (is_own me (k + 1)) (map entry_of xs))) one.0 ∙ by (fin.contains (get_or (acks_in o) k fin.empty) c) (nat_eq c from.number) (is_own me (k + 1) (entry_of i)) (list_any (is_own me (k + 1)) (map entry_of xs)))
+items_done : (me from : NodeId) (k c : ℕ) (xs : List Item) (o : Option (Option Told)) → All IsFit xs → k < said_of o
+    → acknowledged_of (fold (done_told me from) o xs) (k + 1) c ≡ (acknowledged_of o (k + 1) c || (nat_eq c from.number && list_any (is_own me.number (k + 1)) (map entry_of xs)))
+items_done me from k c [] o fits low = last_false (acknowledged_of o (k + 1) c) ∙ ap (λ t. acknowledged_of o (k + 1) c || t) (sym (and_false (nat_eq c from.number)))
+items_done me from k c (i ∷ xs) o fits low =
+    let one = done_told-one me from i k c o (All-head IsFit i xs fits) low in
+    let said = (done_told-same me from o i).said in
+    let rest = items_done me from k c xs (done_told me from o i) (All-tail IsFit i xs fits) (omega (arith, low, said)) in
+    rest ∙ (ap (λ t. t || (nat_eq c from.number && list_any (is_own me.number (k + 1)) (map entry_of xs))) one ∙ by (acknowledged_of o (k + 1) c) (nat_eq c from.number) (is_own me.number (k + 1) (entry_of i)) (list_any (is_own me.number (k + 1)) (map entry_of xs)))
   where
     by : (x y a b : Bool) → ((x || (y && a)) || (y && b)) ≡ (x || (y && (a || b)))
     by true y a b = refl
     by false true a b = refl
     by false false a b = refl
 
--- what a slot keeps after an acknowledgement of a node
-pub acks_taken : (nodes me : ℕ) (from : NodeId) (xs : List Item) (o : Option (Option SlotState)) (m : Member) (carried : ℕ → List Entry) (done next : ℕ → List ℕ) → SlotIs me o m → All IsFit xs
-    → ((k : ℕ) → is_acknowledged me k (next from.number) 1 (carried from.number) ≡ (is_acknowledged me k (done from.number) 1 (carried from.number) || list_any (is_own me k) (map entry_of xs)))
-    → ((b : ℕ) → b ≢ from.number → next b ≡ done b)
-    → KeepsIn nodes me (acks_in o) carried done → KeepsIn nodes me (acks_in (fold (done_for from) o xs)) carried next
-acks_taken nodes me from xs o m carried done next st fits more others kept b k inside low =
-    let size = (all_done-same from xs o).size in
-    let before : k < length (acks_in o) = omega (arith, low, size) in
-    items_done from me k b xs o fits (is_here me o m st) before
-    ∙ (ap (λ t. t || (nat_eq b from.number && list_any (is_own me (k + 1)) (map entry_of xs))) (kept b k inside before)
-    ∙ by (cases_eq b from.number))
+-- of a message that was not said nothing is acknowledged
+none_done : (me from : NodeId) (seq c : ℕ) (xs : List Item) (o : Option (Option Told)) → said_of o < seq → acknowledged_of o seq c ≡ false → acknowledged_of (fold (done_told me from) o xs) seq c ≡ false
+none_done me from seq c [] o far none = none
+none_done me from seq c (i ∷ xs) o far none = none_done me from seq c xs (done_told me from o i) (omega (arith, far, (done_told-same me from o i).said)) (one o far none (nat_lt i.origin NODES))
   where
-    by : ((b ≡ from.number) ⊎ (b ≡ from.number → ⊥))
-        → ((nat_eq b me || is_acknowledged me (k + 1) (done b) 1 (carried b)) || (nat_eq b from.number && list_any (is_own me (k + 1)) (map entry_of xs))) ≡ (nat_eq b me || is_acknowledged me (k + 1) (next b) 1 (carried b))
-    by (inl same) =
+    one : (o : Option (Option Told)) → said_of o < seq → acknowledged_of o seq c ≡ false → (b : Bool) → acknowledged_of (where_so b (stepped (finished_by me from (message_of (entry_of i)))) o) seq c ≡ false
+    one o far none false = none
+    one None far none true = none
+    one (Some None) far none true = none
+    one (Some (Some t)) far none true = let out : nat_le seq (said_in t.calls) ≡ false = grind (arith, nat_tests, far) in rw (none, out) refl
+
+-- what is told of acknowledgements after one of a node
+pub acks_taken : (nodes : ℕ) (me from : NodeId) (xs : List Item) (o : Option (Option Told)) (carried : ℕ → List Entry) (done next : ℕ → List ℕ) → All IsFit xs
+    → ((k : ℕ) → is_acknowledged me.number k (next from.number) 1 (carried from.number) ≡ (is_acknowledged me.number k (done from.number) 1 (carried from.number) || list_any (is_own me.number k) (map entry_of xs)))
+    → ((b : ℕ) → b ≢ from.number → next b ≡ done b)
+    → KeepsAcks nodes me.number o carried done → KeepsAcks nodes me.number (fold (done_told me from) o xs) carried next
+acks_taken nodes me from xs o carried done next fits more others kept = record {
+  each = λ b k inside low.
+      let before : k < said_of o = omega (arith, low, said) in
+      items_done me from k b xs o fits before
+      ∙ (ap (λ t. t || (nat_eq b from.number && list_any (is_own me.number (k + 1)) (map entry_of xs))) (kept.each b k inside before)
+      ∙ by b k (cases_eq b from.number));
+  beyond = λ b seq far. let above : said_of o < seq = omega (arith, far, said) in none_done me from seq b xs o above (kept.beyond b seq above);
+}
+  where
+    said : said_of (fold (done_told me from) o xs) ≡ said_of o
+    said = (all_done-same me from xs o).said
+
+    by : (b k : ℕ) → ((b ≡ from.number) ⊎ (b ≡ from.number → ⊥)) → (is_acknowledged me.number (k + 1) (done b) 1 (carried b) || (nat_eq b from.number && list_any (is_own me.number (k + 1)) (map entry_of xs))) ≡ is_acknowledged me.number (k + 1) (next b) 1 (carried b)
+    by b k (inl same) =
         let on : nat_eq b from.number ≡ true = grind (arith, nat_tests, same) in
-        let here : is_acknowledged me (k + 1) (next b) 1 (carried b) ≡ (is_acknowledged me (k + 1) (done b) 1 (carried b) || list_any (is_own me (k + 1)) (map entry_of xs)) =
-        subst (λ c. is_acknowledged me (k + 1) (next c) 1 (carried c) ≡ (is_acknowledged me (k + 1) (done c) 1 (carried c) || list_any (is_own me (k + 1)) (map entry_of xs))) (sym same) (more (k + 1)) in
-        ap (λ t. (nat_eq b me || is_acknowledged me (k + 1) (done b) 1 (carried b)) || (t && list_any (is_own me (k + 1)) (map entry_of xs))) on
-        ∙ (assoc (nat_eq b me) (is_acknowledged me (k + 1) (done b) 1 (carried b)) (list_any (is_own me (k + 1)) (map entry_of xs)) ∙ ap (λ t. nat_eq b me || t) (sym here))
-      where
-        assoc : (x y z : Bool) → ((x || y) || z) ≡ (x || (y || z))
-        assoc true y z = refl
-        assoc false y z = refl
-    by (inr other) =
+        ap (λ t. is_acknowledged me.number (k + 1) (done b) 1 (carried b) || (t && list_any (is_own me.number (k + 1)) (map entry_of xs))) on
+        ∙ sym (subst (λ c. is_acknowledged me.number (k + 1) (next c) 1 (carried c) ≡ (is_acknowledged me.number (k + 1) (done c) 1 (carried c) || list_any (is_own me.number (k + 1)) (map entry_of xs))) (sym same) (more (k + 1)))
+    by b k (inr other) =
         let off : nat_eq b from.number ≡ false = grind (arith, nat_tests, other) in
-        ap (λ t. (nat_eq b me || is_acknowledged me (k + 1) (done b) 1 (carried b)) || (t && list_any (is_own me (k + 1)) (map entry_of xs))) off
-        ∙ (sym (last_false (nat_eq b me || is_acknowledged me (k + 1) (done b) 1 (carried b))) ∙ ap (λ d. nat_eq b me || is_acknowledged me (k + 1) d 1 (carried b)) (sym (others b other)))
+        ap (λ t. is_acknowledged me.number (k + 1) (done b) 1 (carried b) || (t && list_any (is_own me.number (k + 1)) (map entry_of xs))) off
+        ∙ (sym (last_false (is_acknowledged me.number (k + 1) (done b) 1 (carried b))) ∙ ap (λ d. is_acknowledged me.number (k + 1) d 1 (carried b)) (sym (others b other)))
 
 -- Places and items.
 
@@ -531,9 +434,9 @@ all_acked nodes g me from new n before (f ∷ fs) group apart running may = go (
 -- The node's view.
 
 -- the view after an acknowledgement of the frames that pass came from a node, which has the number d
-abbrev pub with_acks : Addr → NodeId → ℕ → (ℕ → Bool) → View → View
-with_acks g from d covered v = record v {
-  slot = fold (done_for from) v.slot (freed_of g covered (v.acked d) 1 (v.frames d));
+abbrev pub with_acks : Addr → NodeId → NodeId → ℕ → (ℕ → Bool) → View → View
+with_acks g me from d covered v = record v {
+  told = fold (done_told me from) v.told (freed_of g covered (v.acked d) 1 (v.frames d));
   acked = λ b n. v.acked b n || (nat_le n (length (v.frames b)) && (nat_eq d b && covered n));
 }
 
@@ -581,7 +484,7 @@ module _ (nodes : ℕ) (g : Addr) (a s : NodeId) (frames_from : ℕ → List (Li
   mid = alone_from nodes g.group group acks
 
   abbrev later : View
-  later = with_acks g s s.number covered v
+  later = with_acks g a s s.number covered v
 
   abbrev freed : List Item
   freed = freed_of g covered (v.acked s.number) 1 back
@@ -597,8 +500,8 @@ module _ (nodes : ℕ) (g : Addr) (a s : NodeId) (frames_from : ℕ → List (Li
           let parts = not_before (covered (found.frame + 1)) (v.acked s.number (found.frame + 1)) first in
           (got found.frame place parts.0 low high, (fits.done s.number inside).each found.frame place low high ∙ parts.1)
 
-  same : SameSlot v.slot later.slot
-  same = all_done-same s freed v.slot
+  same : SameGroup v.told later.told
+  same = all_done-same a s freed v.told
 
   done_here : AreMarked g back (later.acked s.number) ((mid a.number).done s.number)
   done_here = record {
@@ -625,11 +528,10 @@ module _ (nodes : ℕ) (g : Addr) (a s : NodeId) (frames_from : ℕ → List (Li
   abbrev carried : ℕ → List Entry
   carried b = items_of g (v.frames b)
 
-  kept : KeepsAcks nodes a.number later.slot carried (mid a.number).done
-  kept = keeps_of nodes a.number later.slot carried (mid a.number).done
-      (acks_taken nodes a.number s freed v.slot (group a.number) carried (group a.number).done (mid a.number).done fits.slot (freed_fit g covered (v.acked s.number) 1 back fit)
+  kept : KeepsAcks nodes a.number later.told carried (mid a.number).done
+  kept = acks_taken nodes a s freed v.told carried (group a.number).done (mid a.number).done (freed_fit g covered (v.acked s.number) 1 back fit)
       (λ k. freed_acknowledged g a.number k covered (v.acked s.number) ((group a.number).done s.number) ((mid a.number).done s.number) back acked.marks) acked.elsewhere
-      (keeps_in nodes a.number v.slot carried (group a.number).done fits.acks))
+      fits.acks
 
   -- what an acknowledgement gives a group
   pub acks_goes : Goes nodes g a frames_from later group acks
@@ -638,8 +540,8 @@ module _ (nodes : ℕ) (g : Addr) (a s : NodeId) (frames_from : ℕ → List (Li
     elsewhere = acked.others;
     there = record {
       reserve = ap (λ (m : Member). m.reserve) acked.member ∙ fits.reserve;
-      slot = same_slot a.number later.slot (group a.number) (mid a.number) (ap (λ (m : Member). m.spec) acked.member) (ap (λ (m : Member). m.phase) acked.member) (ap (λ (m : Member). m.told) acked.member) (same.stands a.number (group a.number) fits.slot);
-      inside = inside_too nodes v.slot later.slot same.spec fits.inside;
+      told = same_member later.told (group a.number) (mid a.number) (ap (λ (m : Member). m.spec) acked.member) (ap (λ (m : Member). m.phase) acked.member) (ap (λ (m : Member). m.told) acked.member) (same.stands (group a.number) fits.told);
+      inside = inside_too nodes v.told later.told same.spec fits.inside;
       put = λ b in_b. ap (λ (m : Member). m.put b) acked.member ∙ (fits.put b in_b ∙ ap (λ xs. carried b ++ xs) (sym (same.waiting b)));
       taken = λ b in_b. ap (λ (m : Member). m.taken b) acked.member ∙ fits.taken b in_b;
       replies = ap (λ (m : Member). m.replies) acked.member ∙ fits.replies;

@@ -13,19 +13,18 @@ use Rattle.gb_types.specs.declared.request.Request.{Request}
 use Rattle.gb_types.specs.declared.request.Request.TheVariants.{Make, OpenGroup, ShutGroup, DropGroup, Say}
 use Rattle.gb_frame.specs.declared.item.Item.{Item}
 use Rattle.gb_frame.specs.Packet.{Content}
+use Rattle.gb_history.specs.declared.call.GroupCall.TheVariants.{Own}
 use Rattle.gb_rules.specs.Address.{is_addr}
 use Rattle.gb_rules.specs.Group.{is_gone}
 use Rattle.gb_rules.specs.declared.phase.Phase.TheVariants.{Opened, Shut}
-use Rattle.gb_slot.specs.Slot.{new_slot, slot_moved, slot_said, slot_done, slot_came, slot_took, slot_noticed}
-use Rattle.gb_slot.specs.SlotState.{SlotState}
 use Rattle.gb_types.specs.Entry.{message_of}
 use Rattle.gb_types.specs.declared.limits.TheConstants.{NODES, PAYLOAD}
 use Rattle.gb_alone.specs.Alone.{Member}
-use Rattle.gb_groups.specs.AtAddress.{entry_of}
-use Rattle.gb_groups.specs.OneGroup.{stepped, dropped, or_added, where_so, items_for, came_for}
+use Rattle.gb_frame.specs.Items.{entry_of, items_for}
+use Rattle.gb_rules.specs.Lifetime.{stepped, dropped, or_added, where_so}
 use Rattle.gb_node.specs.NodeStep.{node_numbered}
 use Rattle.gb_node.specs.Past.{Happened, read, is_first}
-use Rattle.gb_node.specs.PastGroups.{noticed_in, freed_by, items_freed, asked_for, done_for, taken_for, packed_from, noticed_for, group_after, group_of}
+use Rattle.gb_node.specs.PastGroups.{Told, noticed_in, freed_by, items_freed, told_first, moved_to, with_call, finished_by, unless_falls, took_from, if_other, asked_told, done_told, came_told, taken_told, packed_told, noticed_told, told_after, told_of}
 use Rattle.gb_node.specs.declared.answer.Frame.{Frame}
 use Rattle.gb_node.specs.declared.answer.NodeAnswer.{NodeAnswer}
 use Rattle.gb_node.specs.declared.answer.NodeAnswer.TheVariants.{Reply as Replied, Taken, Sent, Ticked}
@@ -36,47 +35,47 @@ use Rattle.gb_node.specs.declared.event.NodeEvent.{NodeEvent}
 use Rattle.gb_node.specs.declared.event.NodeEvent.TheVariants.{Request as Asked, Packet as Brought, Pack, Tick}
 use Rattle.gb_node.specs.declared.plan.NodePlan.{NodePlan}
 use Rattle.gb_isolation.specs.RunLaws.{is_dropped, is_dropped_by}
-use Rattle.gb_isolation.proofs.View.{SlotIs}
+use Rattle.gb_isolation.proofs.View.{MemberIs}
 
 -- the group was dropped
-abbrev is_out : Option (Option SlotState) → Bool
+abbrev is_out : Option (Option Told) → Bool
 is_out None = false
 is_out (Some None) = true
 is_out (Some (Some s)) = false
 
 -- a change that neither drops the group nor brings it back
-abbrev Stays : (Option (Option SlotState) → Option (Option SlotState)) → Type 0
-Stays change = (o : Option (Option SlotState)) → is_out (change o) ≡ is_out o
+abbrev Stays : (Option (Option Told) → Option (Option Told)) → Type 0
+Stays change = (o : Option (Option Told)) → is_out (change o) ≡ is_out o
 
-stepped_stays : (step : SlotState → SlotState) → Stays (stepped step)
+stepped_stays : (step : Told → Told) → Stays (stepped step)
 stepped_stays step None = refl
 stepped_stays step (Some None) = refl
 stepped_stays step (Some (Some s)) = refl
 
-where_stays : (t : Bool) (change : Option (Option SlotState) → Option (Option SlotState)) → Stays change → Stays (where_so t change)
+where_stays : (t : Bool) (change : Option (Option Told) → Option (Option Told)) → Stays change → Stays (where_so t change)
 where_stays true change stays o = stays o
 where_stays false change stays o = refl
 
-fold_stays : {X : Type 0} (change : Option (Option SlotState) → X → Option (Option SlotState)) → ((x : X) → Stays (λ o. change o x)) → (xs : List X) → Stays (λ o. fold change o xs)
+fold_stays : {X : Type 0} (change : Option (Option Told) → X → Option (Option Told)) → ((x : X) → Stays (λ o. change o x)) → (xs : List X) → Stays (λ o. fold change o xs)
 fold_stays change stays [] o = refl
 fold_stays change stays (x ∷ xs) o = fold_stays change stays xs (change o x) ∙ stays x o
 
-added_stays : (t : Bool) (s : SlotState) → Stays (λ o. or_added o (if t then Some (Some s) else None))
+added_stays : (t : Bool) (s : Told) → Stays (λ o. or_added o (if t then Some (Some s) else None))
 added_stays true s None = refl
 added_stays false s None = refl
 added_stays t s (Some None) = refl
 added_stays t s (Some (Some x)) = refl
 
-asked_stays : (g : Addr) (me : NodeId) (noticed : set.FinSet nat_cmp) (request : Request) (reply : Reply) → is_dropped_by g (Asked request) (Replied reply) ≡ false → Stays (asked_for g me noticed request reply)
-asked_stays g me noticed (Make token addr spec) Done kept o = added_stays (is_addr g addr) (new_slot spec me noticed) o
-asked_stays g me noticed (OpenGroup token addr) Done kept o = where_stays (is_addr g addr) (stepped (slot_moved Opened Done)) (stepped_stays (slot_moved Opened Done)) o
-asked_stays g me noticed (ShutGroup token addr) Done kept o = where_stays (is_addr g addr) (stepped (slot_moved Shut Done)) (stepped_stays (slot_moved Shut Done)) o
+asked_stays : (g : Addr) (me : NodeId) (noticed : set.FinSet nat_cmp) (request : Request) (reply : Reply) → is_dropped_by g (Asked request) (Replied reply) ≡ false → Stays (asked_told g me noticed request reply)
+asked_stays g me noticed (Make token addr spec) Done kept o = added_stays (is_addr g addr) (told_first spec me noticed) o
+asked_stays g me noticed (OpenGroup token addr) Done kept o = where_stays (is_addr g addr) (stepped (moved_to Opened)) (stepped_stays (moved_to Opened)) o
+asked_stays g me noticed (ShutGroup token addr) Done kept o = where_stays (is_addr g addr) (stepped (moved_to Shut)) (stepped_stays (moved_to Shut)) o
 asked_stays g me noticed (DropGroup token addr) Done kept o = ap (λ (t : Bool). is_out (where_so t dropped o)) kept
-asked_stays g me noticed (Say token addr payload) (Said seq) kept o = where_stays (is_addr g addr) (stepped (slot_said payload (Said seq))) (stepped_stays (slot_said payload (Said seq))) o
+asked_stays g me noticed (Say token addr payload) (Said seq) kept o = where_stays (is_addr g addr) (stepped (with_call me (Own (record { origin = me; seq = seq; payload = payload })))) (stepped_stays (with_call me (Own (record { origin = me; seq = seq; payload = payload })))) o
 asked_stays g me noticed request reply kept o = refl
 
-taken_stays : (key : List ℕ) (g : Addr) (past : List Happened) (frame : Frame) (c : Content) → Stays (λ o. taken_for key g past frame o c)
-taken_stays key g past frame c o = by (is_first frame)
+taken_stays : (me : NodeId) (key : List ℕ) (g : Addr) (past : List Happened) (frame : Frame) (c : Content) → Stays (λ o. taken_told me key g past frame o c)
+taken_stays me key g past frame c o = by (is_first frame)
   where
     from : NodeId
     from = node_numbered c.from
@@ -84,34 +83,34 @@ taken_stays key g past frame c o = by (is_first frame)
     freed : List Item
     freed = items_for g (items_freed (freed_by key past c))
 
-    acknowledged : is_out (fold (done_for from) o freed) ≡ is_out o
-    acknowledged = fold_stays (done_for from) (λ i. where_stays (nat_lt i.origin NODES) (stepped (slot_done from (message_of (entry_of i)))) (stepped_stays (slot_done from (message_of (entry_of i))))) freed o
+    acknowledged : is_out (fold (done_told me from) o freed) ≡ is_out o
+    acknowledged = fold_stays (done_told me from) (λ i. where_stays (nat_lt i.origin NODES) (stepped (finished_by me from (message_of (entry_of i)))) (stepped_stays (finished_by me from (message_of (entry_of i))))) freed o
 
-    by : (t : Bool) → is_out (if t then fold (came_for from) (fold (done_for from) o freed) (items_for g c.items) else fold (done_for from) o freed) ≡ is_out o
+    by : (t : Bool) → is_out (if t then fold (came_told me from) (fold (done_told me from) o freed) (items_for g c.items) else fold (done_told me from) o freed) ≡ is_out o
     by true =
-        fold_stays (came_for from) (λ i. where_stays (nat_lt i.origin NODES && nat_le (length i.payload) PAYLOAD) (stepped (slot_came from (entry_of i))) (stepped_stays (slot_came from (entry_of i)))) (items_for g c.items) (fold (done_for from) o freed)
+        fold_stays (came_told me from) (λ i. where_stays (nat_lt i.origin NODES && nat_le (length i.payload) PAYLOAD) (stepped (unless_falls me from (entry_of i))) (stepped_stays (unless_falls me from (entry_of i)))) (items_for g c.items) (fold (done_told me from) o freed)
         ∙ acknowledged
     by false = acknowledged
 
-after_stays : (plan : NodePlan) (g : Addr) (past : List Happened) (e : NodeEvent) (x : NodeAnswer) → is_dropped_by g e x ≡ false → Stays (group_after plan g past e x)
+after_stays : (plan : NodePlan) (g : Addr) (past : List Happened) (e : NodeEvent) (x : NodeAnswer) → is_dropped_by g e x ≡ false → Stays (told_after plan g past e x)
 after_stays plan g past (Asked request) (Replied reply) kept o = asked_stays g plan.me (noticed_in plan past) request reply kept o
-after_stays plan g past (Brought bytes) (Taken (TakenGood good)) kept o = fold_stays (taken_for plan.cluster_key g past good.frame) (taken_stays plan.cluster_key g past good.frame) (read plan.cluster_key bytes) o
-after_stays plan g past (Pack b) (Sent (SentPacket text)) kept o = fold_stays (packed_from g b) (λ c. stepped_stays (slot_took b.number (length (items_for g c.items)))) (read plan.cluster_key text) o
-after_stays plan g past Tick (Ticked (Noticed found)) kept o = fold_stays noticed_for (λ b. stepped_stays (slot_noticed (node_numbered b))) (rising found) o
+after_stays plan g past (Brought bytes) (Taken (TakenGood good)) kept o = fold_stays (taken_told plan.me plan.cluster_key g past good.frame) (taken_stays plan.me plan.cluster_key g past good.frame) (read plan.cluster_key bytes) o
+after_stays plan g past (Pack b) (Sent (SentPacket text)) kept o = fold_stays (packed_told g b) (λ c. stepped_stays (took_from b.number (length (items_for g c.items)))) (read plan.cluster_key text) o
+after_stays plan g past Tick (Ticked (Noticed found)) kept o = fold_stays (noticed_told plan.me) (λ b. stepped_stays (if_other plan.me (node_numbered b))) (rising found) o
 after_stays plan g past e x kept o = refl
 
-not_out : (plan : NodePlan) (g : Addr) (past : List Happened) → is_dropped g past ≡ false → is_out (group_of plan g past) ≡ false
-unfolding is_dropped group_of
+not_out : (plan : NodePlan) (g : Addr) (past : List Happened) → is_dropped g past ≡ false → is_out (told_of plan g past) ≡ false
+unfolding is_dropped told_of
 not_out plan g [] kept = refl
 not_out plan g (h ∷ past) kept =
     let parts = or_parts (is_dropped_by g h.event h.answer) (is_dropped g past) kept in
-    after_stays plan g past h.event h.answer parts.0 (group_of plan g past) ∙ not_out plan g past parts.1
+    after_stays plan g past h.event h.answer parts.0 (told_of plan g past) ∙ not_out plan g past parts.1
 
-here : (me : ℕ) (o : Option (Option SlotState)) (m : Member) → SlotIs me o m → is_out o ≡ false → is_gone m.phase ≡ false
-here me None m st kept = ap is_gone st.phase
-here me (Some None) m st kept = absurd (cc)
-here me (Some (Some s)) m st kept = ap is_gone st.phase ∙ st.present
+here : (o : Option (Option Told)) (m : Member) → MemberIs o m → is_out o ≡ false → is_gone m.phase ≡ false
+here None m st kept = ap is_gone st.phase
+here (Some None) m st kept = absurd (cc)
+here (Some (Some s)) m st kept = ap is_gone st.phase ∙ st.present
 
 -- where no drop was answered the group is not dropped
-pub kept_there : (plan : NodePlan) (g : Addr) (past : List Happened) (me : ℕ) (m : Member) → SlotIs me (group_of plan g past) m → is_dropped g past ≡ false → is_gone m.phase ≡ false
-kept_there plan g past me m st kept = here me (group_of plan g past) m st (not_out plan g past kept)
+pub kept_there : (plan : NodePlan) (g : Addr) (past : List Happened) (m : Member) → MemberIs (told_of plan g past) m → is_dropped g past ≡ false → is_gone m.phase ≡ false
+kept_there plan g past m st kept = here (told_of plan g past) m st (not_out plan g past kept)

@@ -1,4 +1,4 @@
--- The items of the frames of a run are those of slots: their origins are nodes, and none is longer than a message may be.
+-- The items of the frames of a run are those of groups: their origins are nodes, and none is longer than a message may be.
 use Rattle.std.proofs.Common.{◌≡◌, ◌≢◌, ℕ, zero, suc, ◌<◌, List, [], ◌∷◌, length, take, Option, Some, None, Result, Ok, Err, Bool, true, false, ◌⊎◌, inl, inr, sym, ◌∙◌, ap, subst}
 use Rattle.std.specs.Prelude.{All, map, nat_eq, slice_get, if◌then◌else◌}
 use Rattle.std.specs.List.{AllByRecursion}
@@ -12,9 +12,9 @@ use Rattle.gb_frame.specs.declared.fault.PacketFault.{PacketFault}
 use Rattle.gb_frame.specs.declared.item.Item.{Item}
 use Rattle.gb_frame.specs.Packet.{Content}
 use Rattle.gb_frame.specs.Reading.{reading}
-use Rattle.gb_groups.specs.OneGroup.{items_for, item_for, names, waiting_in}
+use Rattle.gb_frame.specs.Items.{items_for, item_for, names}
 use Rattle.gb_node.specs.Past.{Happened, ComesTo as NodeComesTo, packet_in, read, frames_to, packed_for}
-use Rattle.gb_node.specs.PastGroups.{group_of}
+use Rattle.gb_node.specs.PastGroups.{waiting_of, told_of}
 use Rattle.gb_node.specs.StepLaw.{IsAnswered, IsPacked, AnswersSay}
 use Rattle.gb_node.specs.declared.answer.NodeAnswer.{NodeAnswer}
 use Rattle.gb_node.specs.declared.answer.NodeAnswer.TheVariants.{Sent}
@@ -54,7 +54,7 @@ content_fit : (plan : NodePlan) (g : Addr) (past : List Happened) (b : NodeId) (
 content_fit plan g past b text right = λ k d low. (nodes k d low, short k d low)
   where
     waits : List Entry
-    waits = take (length (items_for g right.content.items)) (waiting_in (group_of plan g past) b.number)
+    waits = take (length (items_for g right.content.items)) (waiting_of (told_of plan g past) b.number)
 
     nodes : All IsOfNode (items_for g right.content.items)
     nodes = subst (All IsOfNode) (sym (right.front g)) (All-from_recursion IsOfNode (map (item_for g) waits) (of_nodes g waits))

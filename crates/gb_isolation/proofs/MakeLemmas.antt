@@ -15,30 +15,42 @@ use Rattle.gb_types.specs.declared.reply.Reply.TheVariants.{Done, Refused}
 use Rattle.gb_types.specs.declared.request.Request.TheVariants.{Make}
 use Rattle.gb_types.specs.declared.spec.Spec.{Spec}
 use Rattle.gb_frame.specs.declared.item.Item.{Item}
+use Rattle.gb_history.specs.declared.call.GroupCall.{GroupCall}
+use Rattle.gb_history.specs.declared.call.GroupCall.TheVariants.{Crashed}
+use Rattle.gb_history.specs.History.{said_in}
 use Rattle.gb_rules.specs.Address.{is_addr}
 use Rattle.gb_rules.specs.Group.{is_gone, is_member}
 use Rattle.gb_rules.specs.Tenant.{make_answer, by_tenant, reserve_of, row_of}
 use Rattle.gb_rules.specs.declared.reserve.Reserve.{Reserve}
-use Rattle.gb_slot.specs.Slot.{new_slot}
-use Rattle.gb_slot.specs.SlotState.{SlotState}
 use Rattle.gb_alone.proofs.InsideLemmas.{step_inside}
 use Rattle.gb_alone.specs.declared.event.GroupEvent.TheVariants.{Make as AskMake}
 use Rattle.gb_alone.specs.Alone.{Member, Group, after, commanded, is_marked, reply_to, running_reply}
-use Rattle.gb_groups.specs.OneGroup.{or_added, waiting_in}
+use Rattle.gb_rules.specs.Lifetime.{or_added}
+use Rattle.gb_node.specs.NodeStep.{node_numbered}
 use Rattle.gb_node.specs.Past.{Happened, is_stopped, tenants_in}
-use Rattle.gb_node.specs.PastGroups.{noticed_in, group_of}
+use Rattle.gb_node.specs.PastGroups.{Told, noticed_in, waiting_of, noticed_members, crashed_onto, told_first, told_of}
 use Rattle.gb_node.specs.StepLaw.{is_admitted_by, admitted_answer}
 use Rattle.gb_node.specs.declared.plan.NodePlan.{NodePlan}
 use Rattle.gb_rules.proofs.AddressLemmas.{addr_is}
 use Rattle.gb_isolation.specs.Project.{is_met, is_own, made_with, or_else, replies_in}
-use Rattle.gb_isolation.proofs.AskLemmas.{asking, carried_in, slot_fits, view_own}
-use Rattle.gb_isolation.proofs.CommandLemmas.{AskedGoes, acks_some, given_own, inside_some, own_command, replies_running}
-use Rattle.gb_isolation.proofs.FreshLemmas.{noticed_before, before_rising, marked_before, fresh_slot, fresh_put, waiting-new}
+use Rattle.gb_isolation.proofs.AskLemmas.{asking, carried_in, member_fits, view_own}
+use Rattle.gb_isolation.proofs.CommandLemmas.{AskedGoes, given_own, inside_some, own_command, replies_running}
+use Rattle.gb_isolation.proofs.FreshLemmas.{before_rising, marked_before, fresh_there, fresh_put}
 use Rattle.gb_isolation.proofs.GoesLemmas.{after_there, after_elsewhere}
 use Rattle.gb_isolation.proofs.MemberLemmas.{made-is, KeepsRest}
 use Rattle.gb_isolation.proofs.NoticeLemmas.{all_noticed, notices_of, notices_there, notices_elsewhere, notices_keep, notices_mark, notices_legal}
 use Rattle.gb_isolation.proofs.PastLemmas.{running_unmet}
-use Rattle.gb_isolation.proofs.View.{View, view_of, AreMarked, Fits, Goes, NotMade, SlotIs, is_concerned}
+use Rattle.gb_isolation.proofs.View.{View, view_of, AreMarked, Fits, Goes, NotMade, IsThere, MemberIs, is_concerned, said_of}
+
+-- notices say nothing
+none_said : (bs : List ℕ) (calls : List GroupCall) → said_in calls ≡ 0 → said_in (crashed_onto calls bs) ≡ 0
+unfolding said_in
+none_said [] calls none = none
+none_said (b ∷ bs) calls none = none_said bs (Crashed (node_numbered b) ∷ calls) none
+
+first_said : (bs : List ℕ) → said_in (crashed_onto [] bs) ≡ 0
+unfolding said_in
+first_said bs = none_said bs [] refl
 
 -- The group is made.
 
@@ -47,7 +59,7 @@ module _ (nodes : ℕ) (g : Addr) (a : NodeId) (frames_from : ℕ → List (List
   made = commanded a (AskMake spec) Done (group a.number)
 
   abbrev noticed_now : List ℕ
-  noticed_now = noticed_before spec a.number v.noticed
+  noticed_now = noticed_members spec a.number v.noticed
 
   abbrev next : Member
   next = all_noticed a.number noticed_now made
@@ -68,14 +80,14 @@ module _ (nodes : ℕ) (g : Addr) (a : NodeId) (frames_from : ℕ → List (List
       spec_is : (after nodes g.group everywhere (record { node = a; event = AskMake spec }) a.number).spec ≡ Some spec
       spec_is = ap (λ (m : Member). m.spec) (after_there nodes g.group everywhere a (AskMake spec) ∙ ap (λ r. commanded a (AskMake spec) r (group a.number)) is)
 
-  made_fits : (noticed : set.FinSet nat_cmp) → v.noticed ≡ set.contains noticed → ((b : ℕ) → v.noticed b ≡ true → b < NODES) → v.slot ≡ None → (group a.number).spec ≡ None → reply_to nodes g.group a.number (AskMake spec) (group a.number) ≡ Done
+  made_fits : (noticed : set.FinSet nat_cmp) → v.noticed ≡ set.contains noticed → ((b : ℕ) → v.noticed b ≡ true → b < NODES) → v.told ≡ None → (group a.number).spec ≡ None → reply_to nodes g.group a.number (AskMake spec) (group a.number) ≡ Done
       → Fits nodes g a.number frames_from v (group a.number)
-      → Fits nodes g a.number frames_from (record v { slot = Some (Some (new_slot spec a noticed)); made = Some spec; replies = v.replies ++ Done ∷ [] }) next
+      → Fits nodes g a.number frames_from (record v { told = Some (Some (told_first spec a noticed)); made = Some spec; replies = v.replies ++ Done ∷ [] }) next
   made_fits noticed noticed_is below free unmade answered fits = record {
     reserve = keeps.reserve ∙ fits.reserve;
-    slot = fresh_slot a spec v.noticed noticed made below (λ b. sym (ap (λ (f : ℕ → Bool). f b) noticed_is)) refl absent.phase absent.told;
-    inside = inside_some nodes (new_slot spec a noticed) (members_inside unmade answered);
-    put = λ b low. fresh_put a.number spec v.noticed made b refl (ap is_gone absent.phase) absent.told (count b low) ∙ (fits.put b low ∙ ap (λ xs. carried_in g v b ++ xs) (ap (λ o. waiting_in o b) free ∙ sym (waiting-new a spec noticed b)));
+    told = subst (λ (new : ℕ → Bool). IsThere (told_first spec a noticed) (all_noticed a.number (noticed_members spec a.number new) made)) (sym noticed_is) (fresh_there a spec noticed made refl absent.phase absent.told);
+    inside = inside_some nodes (told_first spec a noticed) (members_inside unmade answered);
+    put = λ b low. fresh_put a.number spec v.noticed made b refl (ap is_gone absent.phase) absent.told (count b low) ∙ (fits.put b low ∙ ap (λ o. carried_in g v b ++ waiting_of o b) free);
     taken = λ b low. ap (λ (f : ℕ → ℕ). f b) keeps.taken ∙ fits.taken b low;
     replies = keeps.replies ∙ ap (λ rs. rs ++ Done ∷ []) fits.replies;
     spec = keeps.spec;
@@ -84,24 +96,28 @@ module _ (nodes : ℕ) (g : Addr) (a : NodeId) (frames_from : ℕ → List (List
     stopped = keeps.stopped ∙ fits.stopped;
     come = λ b low. subst (λ (f : ℕ → List ℕ). AreMarked g (frames_from b) (v.taken b) (f b)) (sym keeps.come) (fits.come b low);
     done = λ b low. subst (λ (f : ℕ → List ℕ). AreMarked g (v.frames b) (v.acked b) (f b)) (sym keeps.done) (fits.done b low);
-    acks = acks_some nodes a.number (new_slot spec a noticed) (carried_in g v) next.done (λ b k low short. absurd (omega (arith, short)));
+    acks = record { each = λ b k low short. absurd (omega (arith, short, none)); beyond = λ b seq far. refl };
   }
     where
       keeps : KeepsRest made next
       keeps = notices_keep a.number noticed_now made
 
       absent : NotMade (group a.number)
-      absent = subst (λ o. SlotIs a.number o (group a.number)) free fits.slot
+      absent = subst (λ o. MemberIs o (group a.number)) free fits.told
+
+      -- nothing was said
+      none : said_of (Some (Some (told_first spec a noticed))) ≡ 0
+      none = first_said (noticed_members spec a.number (set.contains noticed))
 
       unmarked : (b : ℕ) → is_marked b (group a.number).noticed ≡ false
       unmarked b = fits.noticed b ∙ ap (λ o. is_concerned a.number b o && v.noticed b) (sym fits.spec ∙ unmade)
 
       count : (b : ℕ) → b < nodes → (group a.number).taken b ≡ length ((group a.number).put b)
-      count b low = fits.taken b low ∙ ap length (sym (fits.put b low ∙ (ap (λ o. carried_in g v b ++ waiting_in o b) free ∙ append-nil (carried_in g v b))))
+      count b low = fits.taken b low ∙ ap length (sym (fits.put b low ∙ (ap (λ o. carried_in g v b ++ waiting_of o b) free ∙ append-nil (carried_in g v b))))
 
-  made_goes : (noticed : set.FinSet nat_cmp) → v.noticed ≡ set.contains noticed → ((b : ℕ) → v.noticed b ≡ true → b < NODES) → v.slot ≡ None → v.met ≡ false → reply_to nodes g.group a.number (AskMake spec) (group a.number) ≡ Done
+  made_goes : (noticed : set.FinSet nat_cmp) → v.noticed ≡ set.contains noticed → ((b : ℕ) → v.noticed b ≡ true → b < NODES) → v.told ≡ None → v.met ≡ false → reply_to nodes g.group a.number (AskMake spec) (group a.number) ≡ Done
       → Fits nodes g a.number frames_from v (group a.number)
-      → Goes nodes g a frames_from (record v { slot = Some (Some (new_slot spec a noticed)); made = Some spec; replies = v.replies ++ Done ∷ [] }) group (record { node = a; event = AskMake spec } ∷ notices_of a noticed_now)
+      → Goes nodes g a frames_from (record v { told = Some (Some (told_first spec a noticed)); made = Some spec; replies = v.replies ++ Done ∷ [] }) group (record { node = a; event = AskMake spec } ∷ notices_of a noticed_now)
   made_goes noticed noticed_is below free unmet answered fits = record {
     legal = (
       tt,
@@ -109,12 +125,12 @@ module _ (nodes : ℕ) (g : Addr) (a : NodeId) (frames_from : ℕ → List (List
           (λ x new. ap (λ (m : Member). is_marked x m.noticed) first_there ∙ (fits.noticed x ∙ ap (λ o. is_concerned a.number x o && v.noticed x) (sym fits.spec ∙ absent.spec))),
     );
     elsewhere = λ x other. notices_elsewhere nodes g.group a noticed_now first x other ∙ after_elsewhere nodes g.group group a x (AskMake spec) other;
-    there = subst (Fits nodes g a.number frames_from (record v { slot = Some (Some (new_slot spec a noticed)); made = Some spec; replies = v.replies ++ Done ∷ [] }))
+    there = subst (Fits nodes g a.number frames_from (record v { told = Some (Some (told_first spec a noticed)); made = Some spec; replies = v.replies ++ Done ∷ [] }))
         (sym (notices_there nodes g.group a noticed_now first ∙ ap (all_noticed a.number noticed_now) first_there)) (made_fits noticed noticed_is below free absent.spec answered fits);
   }
     where
       absent : NotMade (group a.number)
-      absent = subst (λ o. SlotIs a.number o (group a.number)) free fits.slot
+      absent = subst (λ o. MemberIs o (group a.number)) free fits.told
 
       first_there : first a.number ≡ made
       first_there = after_there nodes g.group group a (AskMake spec) ∙ ap (λ r. commanded a (AskMake spec) r (group a.number)) answered
@@ -133,10 +149,10 @@ module _ (plan : NodePlan) (g : Addr) (past : List Happened) (frames_from : ℕ 
 
   -- what the rules answer for the group
   abbrev rule : Reply
-  rule = by_tenant (make_answer plan.nodes plan.me.number g.group (is_some (group_of plan g past)) spec) before.reserve
+  rule = by_tenant (make_answer plan.nodes plan.me.number g.group (is_some (told_of plan g past)) spec) before.reserve
 
   -- a group that is made was not made before
-  not_made : (o : Option (Option SlotState)) (reserve : Option Reserve) → by_tenant (make_answer plan.nodes plan.me.number g.group (is_some o) spec) reserve ≡ Done → o ≡ None
+  not_made : (o : Option (Option Told)) (reserve : Option Reserve) → by_tenant (make_answer plan.nodes plan.me.number g.group (is_some o) spec) reserve ≡ Done → o ≡ None
   not_made None reserve is = refl
   not_made (Some s) None is = absurd (cc)
   not_made (Some s) (Some reserve) is = absurd (go (nat_le reserve.groups g.group) is)
@@ -148,28 +164,28 @@ module _ (plan : NodePlan) (g : Addr) (past : List Happened) (frames_from : ℕ 
   -- the group alone answers the same
   alone_rule : (r : Reply) → Fits plan.nodes g plan.me.number frames_from before m → rule ≡ r → running_reply plan.nodes g.group plan.me.number (AskMake spec) m ≡ r
   alone_rule r fits is =
-      ap (λ (b : Bool). by_tenant (make_answer plan.nodes plan.me.number g.group b spec) m.reserve) (made-is plan.me.number (group_of plan g past) m fits.slot)
-      ∙ (ap (by_tenant (make_answer plan.nodes plan.me.number g.group (is_some (group_of plan g past)) spec)) fits.reserve ∙ is)
+      ap (λ (b : Bool). by_tenant (make_answer plan.nodes plan.me.number g.group b spec) m.reserve) (made-is (told_of plan g past) m fits.told)
+      ∙ (ap (by_tenant (make_answer plan.nodes plan.me.number g.group (is_some (told_of plan g past)) spec)) fits.reserve ∙ is)
 
   made_by_reply : (r : Reply) → is_stopped past ≡ false → is_own plan g past (Make token addr spec) ≡ true → is_addr g addr ≡ true → rule ≡ r → ((b : ℕ) → set.contains noticed b ≡ true → b < NODES)
       → Fits plan.nodes g plan.me.number frames_from before m → AskedGoes plan g past (Make token addr spec) r frames_from group
   made_by_reply Done running own named is below fits =
-      let free : group_of plan g past ≡ None = not_made (group_of plan g past) before.reserve is in
+      let free : told_of plan g past ≡ None = not_made (told_of plan g past) before.reserve is in
       let unmet_here : is_met plan g past ≡ false = running_unmet plan g past running in
       let answered : reply_to plan.nodes g.group plan.me.number (AskMake spec) m ≡ Done = replies_running plan g past (Make token addr spec) Done frames_from group (AskMake spec) running fits ∙ alone_rule Done fits is in
-      let later : view_of plan g (asking (Make token addr spec) Done ∷ past) ≡ record before { slot = Some (Some (new_slot spec plan.me noticed)); made = Some spec; replies = replies_in plan g past ++ Done ∷ [] } =
-      view_own plan g past (Make token addr spec) Done (Some (Some (new_slot spec plan.me noticed))) (Some spec) running own refl
-      (ap (λ o. or_added o (if is_addr g addr then Some (Some (new_slot spec plan.me noticed)) else None)) free ∙ ap (λ b. if b then Some (Some (new_slot spec plan.me noticed)) else None) named)
+      let later : view_of plan g (asking (Make token addr spec) Done ∷ past) ≡ record before { told = Some (Some (told_first spec plan.me noticed)); made = Some spec; replies = replies_in plan g past ++ Done ∷ [] } =
+      view_own plan g past (Make token addr spec) Done (Some (Some (told_first spec plan.me noticed))) (Some spec) running own refl
+      (ap (λ o. or_added o (if is_addr g addr then Some (Some (told_first spec plan.me noticed)) else None)) free ∙ ap (λ b. if b then Some (Some (told_first spec plan.me noticed)) else None) named)
       (ap (λ b. or_else (if b then Some spec else None) (made_with g past)) named) in
       subst (λ es. Goes plan.nodes g plan.me frames_from (view_of plan g (asking (Make token addr spec) Done ∷ past)) group es) (sym (given_own plan g past (Make token addr spec) Done frames_from group running own))
-      (subst (λ (v : View). Goes plan.nodes g plan.me frames_from v group (record { node = plan.me; event = AskMake spec } ∷ notices_of plan.me (noticed_before spec plan.me.number before.noticed))) (sym later)
+      (subst (λ (v : View). Goes plan.nodes g plan.me frames_from v group (record { node = plan.me; event = AskMake spec } ∷ notices_of plan.me (noticed_members spec plan.me.number before.noticed))) (sym later)
       (made_goes plan.nodes g plan.me frames_from before group spec noticed refl below free unmet_here answered fits))
   made_by_reply r running own named is below fits =
-      own_command plan g past (Make token addr spec) r frames_from group (AskMake spec) (group_of plan g past) running own refl refl refl refl tt refl
-      (alone_rule r fits is) refl fits (slot_fits plan.nodes g plan.me.number frames_from before m fits)
+      own_command plan g past (Make token addr spec) r frames_from group (AskMake spec) (told_of plan g past) running own refl refl refl refl tt refl
+      (alone_rule r fits is) refl fits (member_fits plan.nodes g plan.me.number frames_from before m fits)
 
   pub at_make : (reply : Reply) → is_stopped past ≡ false → is_own plan g past (Make token addr spec) ≡ true → reply ≡ admitted_answer plan past (Make token addr spec) → ((b : ℕ) → set.contains noticed b ≡ true → b < NODES)
       → Fits plan.nodes g plan.me.number frames_from before m → AskedGoes plan g past (Make token addr spec) reply frames_from group
   at_make reply running own is below fits =
       let named = (and_parts (is_addr g addr) (is_admitted_by plan past (Make token addr spec)) own).0 in
-      made_by_reply reply running own named (sym (is ∙ ap (λ (x : Addr). by_tenant (make_answer plan.nodes plan.me.number x.group (is_some (group_of plan x past)) spec) (option_map reserve_of (row_of x.tenant (tenants_in past)))) (sym (addr_is g addr named)))) below fits
+      made_by_reply reply running own named (sym (is ∙ ap (λ (x : Addr). by_tenant (make_answer plan.nodes plan.me.number x.group (is_some (told_of plan x past)) spec) (option_map reserve_of (row_of x.tenant (tenants_in past)))) (sym (addr_is g addr named)))) below fits

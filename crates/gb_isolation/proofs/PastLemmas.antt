@@ -9,8 +9,7 @@ use Rattle.gb_types.specs.declared.entry.Entry.{Entry}
 use Rattle.gb_types.specs.declared.limits.TheConstants.{NODES}
 use Rattle.gb_types.specs.declared.node.NodeId.{NodeId}
 use Rattle.gb_types.proofs.SameLemmas.{same_number}
-use Rattle.gb_groups.specs.AtAddress.{entry_of}
-use Rattle.gb_groups.specs.OneGroup.{item_for}
+use Rattle.gb_frame.specs.Items.{entry_of, item_for}
 use Rattle.gb_node.specs.NodeStep.{node_numbered}
 use Rattle.gb_node.specs.Past.{Happened, came, frames_to, is_ack, is_acked, is_stopped, packed_for, stops}
 use Rattle.gb_node.specs.declared.answer.NodeAnswer.{NodeAnswer}

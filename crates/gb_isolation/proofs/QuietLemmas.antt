@@ -16,7 +16,7 @@ use Rattle.gb_detect.specs.Watch.{start, replay}
 use Rattle.gb_rules.specs.Tenant.{reserve_of, row_of}
 use Rattle.gb_alone.specs.Alone.{Group}
 use Rattle.gb_node.specs.Past.{Happened, added, came, frames_to, is_ack, is_acked, is_taken, is_taken_by, packed_for, tenants_in, ticks, watched}
-use Rattle.gb_node.specs.PastGroups.{group_after, group_of}
+use Rattle.gb_node.specs.PastGroups.{told_after, told_of}
 use Rattle.gb_node.specs.declared.answer.NodeAnswer.{NodeAnswer}
 use Rattle.gb_node.specs.declared.event.NodeEvent.{NodeEvent}
 use Rattle.gb_node.specs.declared.plan.NodePlan.{NodePlan}
@@ -31,16 +31,16 @@ pub record IsQuiet (plan : NodePlan) (g : Addr) (past : List Happened) (e : Node
   pub none_taken : (b n : ℕ) → is_taken_by plan.cluster_key b n e x ≡ false
   pub no_tick : ticks e x ≡ []
   pub none_added : added e x ≡ []
-  pub same_group : group_after plan g past e x (group_of plan g past) ≡ group_of plan g past
+  pub same_group : told_after plan g past e x (told_of plan g past) ≡ told_of plan g past
   pub not_made : made_by g e x ≡ None
   pub no_reply : reply_in plan g past e x ≡ []
   pub unmet : is_met_by plan g past e x ≡ false
 
 quiet_view : (plan : NodePlan) (g : Addr) (past : List Happened) (e : NodeEvent) (x : NodeAnswer) → IsQuiet plan g past e x → view_of plan g (record { event = e; answer = x } ∷ past) ≡ view_of plan g past
-unfolding frames_to is_acked is_taken watched tenants_in group_of made_with replies_in is_met
+unfolding frames_to is_acked is_taken watched tenants_in told_of made_with replies_in is_met
 quiet_view plan g past e x q = λ i. record {
   reserve = option_map reserve_of (row_of g.tenant ((ap (λ (rows : List TenantRow). tenants_in past ++ rows) q.none_added ∙ append-nil (tenants_in past)) i));
-  slot = q.same_group i;
+  told = q.same_group i;
   made = or_else (q.not_made i) (made_with g past);
   noticed = set.contains (replay (start plan.me.number plan.nodes plan.silence) (q.no_tick i ++ map (λ (c : Content). Heard c.from) (q.none_came i) ++ watched plan.cluster_key past)).noticed;
   replies = (ap (λ (rs : List Reply). replies_in plan g past ++ rs) q.no_reply ∙ append-nil (replies_in plan g past)) i;

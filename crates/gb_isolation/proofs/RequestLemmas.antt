@@ -16,16 +16,15 @@ use Rattle.gb_types.specs.declared.request.Request.{Request}
 use Rattle.gb_types.specs.declared.request.Request.TheVariants.{AddTenant, Make, OpenGroup, ShutGroup, DropGroup, Say, Fetch}
 use Rattle.gb_types.specs.declared.spec.TenantRow.{TenantRow}
 use Rattle.gb_frame.specs.declared.item.Item.{Item}
+use Rattle.gb_history.specs.History.{said_in}
 use Rattle.gb_rules.specs.Tenant.{is_over_limits, reserve_of, reserved, row_of, tenant_answer}
-use Rattle.gb_slot.specs.Slot.{new_slot}
-use Rattle.gb_slot.specs.SlotState.{SlotState}
 use Rattle.gb_alone.specs.Alone.{Group, member_after}
 use Rattle.gb_alone.specs.Alone as alone
 use Rattle.gb_alone.specs.declared.event.GroupEvent.TheVariants.{Tenant}
-use Rattle.gb_groups.specs.OneGroup.{or_added}
+use Rattle.gb_rules.specs.Lifetime.{or_added}
 use Rattle.gb_node.specs.NodeStep.{RequestTakesMemory}
 use Rattle.gb_node.specs.Past.{Happened, added, frames_to, is_stopped, tenants_in}
-use Rattle.gb_node.specs.PastGroups.{noticed_in, group_of, asked_for}
+use Rattle.gb_node.specs.PastGroups.{Told, noticed_in, told_first, asked_told, told_of}
 use Rattle.gb_node.specs.StepLaw.{IsAsked, admitted_answer, is_admitted_by, past_answer}
 use Rattle.gb_node.specs.declared.answer.NodeAnswer.TheVariants.{Reply as Replied}
 use Rattle.gb_node.specs.declared.event.NodeEvent.TheVariants.{Request as Asked}
@@ -35,7 +34,7 @@ use Rattle.gb_isolation.proofs.AskLemmas.{asking, quiet_request, refused_quiet, 
 use Rattle.gb_isolation.proofs.CommandLemmas.{AskedGoes, at_open, at_shut, at_drop, at_say, at_fetch}
 use Rattle.gb_isolation.proofs.GoesLemmas.{goes_none, goes_one}
 use Rattle.gb_isolation.proofs.MakeLemmas.{at_make}
-use Rattle.gb_isolation.proofs.MemberLemmas.{same_slot}
+use Rattle.gb_isolation.proofs.MemberLemmas.{same_member}
 use Rattle.gb_isolation.proofs.StoppedLemmas.{stopped_goes}
 use Rattle.gb_isolation.proofs.View.{View, view_of, Fits, Goes}
 
@@ -87,13 +86,13 @@ module _ (plan : NodePlan) (g : Addr) (past : List Happened) (frames_from : ℕ 
 
   passes : (request : Request) (reply : Reply) → is_stopped past ≡ false → is_own plan g past request ≡ false
       → added (Asked request) (Replied reply) ≡ []
-      → asked_for g plan.me (noticed_in plan past) request reply (group_of plan g past) ≡ group_of plan g past
+      → asked_told g plan.me (noticed_in plan past) request reply (told_of plan g past) ≡ told_of plan g past
       → made_by g (Asked request) (Replied reply) ≡ None
       → tenant_given g plan.me request reply ≡ []
       → FitsBefore → AskedGoes plan g past request reply frames_from group
-  passes request reply running other rows slot unmade none fits =
+  passes request reply running other rows told unmade none fits =
       subst (λ es. Goes plan.nodes g plan.me frames_from (view_of plan g (asking request reply ∷ past)) group es) (sym (given_quiet request reply running other none))
-      (quiet_request plan g past request reply frames_from group other rows slot unmade fits)
+      (quiet_request plan g past request reply frames_from group other rows told unmade fits)
 
   refusal_passes : (request : Request) (why : Refusal) → is_stopped past ≡ false → is_own plan g past request ≡ false → FitsBefore → AskedGoes plan g past request (Refused why) frames_from group
   refusal_passes request why running other fits =
@@ -112,7 +111,7 @@ module _ (plan : NodePlan) (g : Addr) (past : List Happened) (frames_from : ℕ 
       (subst (λ (v : View). Goes plan.nodes g plan.me frames_from v group (record { node = plan.me; event = Tenant (reserve_of row) } ∷ [])) (sym later)
       (goes_one plan.nodes g plan.me frames_from (record before { reserve = Some (reserve_of row) }) group (Tenant (reserve_of row)) tt (record {
         reserve = refl;
-        slot = same_slot plan.me.number before.slot (group plan.me.number) (member_after plan.nodes g.group plan.me (Tenant (reserve_of row)) group) refl refl refl fits.slot;
+        told = same_member before.told (group plan.me.number) (member_after plan.nodes g.group plan.me (Tenant (reserve_of row)) group) refl refl refl fits.told;
         inside = fits.inside;
         put = fits.put;
         taken = fits.taken;
@@ -138,7 +137,7 @@ module _ (plan : NodePlan) (g : Addr) (past : List Happened) (frames_from : ℕ 
           by = rw running refl
 
       later : view_of plan g (asking (AddTenant token row) Done ∷ past) ≡ record before { reserve = Some (reserve_of row) }
-      later = view_asked plan g past (AddTenant token row) Done (Some (reserve_of row)) (group_of plan g past) (made_with g past) (replies_in plan g past) (is_met plan g past)
+      later = view_asked plan g past (AddTenant token row) Done (Some (reserve_of row)) (told_of plan g past) (made_with g past) (replies_in plan g past) (is_met plan g past)
           (ap (option_map reserve_of) there) refl refl (append-nil (replies_in plan g past)) (ap (λ b. (b && false) || is_met plan g past) running)
 
   tenant_other : (token : List ℕ) (row : TenantRow) → is_stopped past ≡ false → nat_eq row.tenant g.tenant ≡ false → FitsBefore → AskedGoes plan g past (AddTenant token row) Done frames_from group
@@ -153,7 +152,7 @@ module _ (plan : NodePlan) (g : Addr) (past : List Happened) (frames_from : ℕ 
           by = rw running refl
 
       later : view_of plan g (asking (AddTenant token row) Done ∷ past) ≡ before
-      later = view_asked plan g past (AddTenant token row) Done before.reserve (group_of plan g past) (made_with g past) (replies_in plan g past) (is_met plan g past)
+      later = view_asked plan g past (AddTenant token row) Done before.reserve (told_of plan g past) (made_with g past) (replies_in plan g past) (is_met plan g past)
           (ap (option_map reserve_of) (row-other g.tenant (tenants_in past) row other)) refl refl (append-nil (replies_in plan g past)) (ap (λ b. (b && false) || is_met plan g past) running)
 
   -- by the reply
@@ -167,12 +166,12 @@ module _ (plan : NodePlan) (g : Addr) (past : List Happened) (frames_from : ℕ 
 
   -- Another group's request.
 
-  added_none : (o : Option (Option SlotState)) → or_added o None ≡ o
+  added_none : (o : Option (Option Told)) → or_added o None ≡ o
   added_none None = refl
   added_none (Some s) = refl
 
-  other_for : (request : Request) (r : Reply) → is_named g request ≡ false → asked_for g plan.me (noticed_in plan past) request r (group_of plan g past) ≡ group_of plan g past
-  other_for (Make token addr spec) Done other = ap (λ b. or_added (group_of plan g past) (if b then Some (Some (new_slot spec plan.me (noticed_in plan past))) else None)) other ∙ added_none (group_of plan g past)
+  other_for : (request : Request) (r : Reply) → is_named g request ≡ false → asked_told g plan.me (noticed_in plan past) request r (told_of plan g past) ≡ told_of plan g past
+  other_for (Make token addr spec) Done other = ap (λ b. or_added (told_of plan g past) (if b then Some (Some (told_first spec plan.me (noticed_in plan past))) else None)) other ∙ added_none (told_of plan g past)
   other_for (OpenGroup token addr) Done other = rw other refl
   other_for (ShutGroup token addr) Done other = rw other refl
   other_for (DropGroup token addr) Done other = rw other refl
@@ -197,7 +196,7 @@ module _ (plan : NodePlan) (g : Addr) (past : List Happened) (frames_from : ℕ 
 
   own_goes : (request : Request) (reply : Reply) → plan.nodes ≤ NODES
       → ((b : ℕ) → set.contains (noticed_in plan past) b ≡ true → b < NODES)
-      → ((s : SlotState) → group_of plan g past ≡ Some (Some s) → (b : ℕ) → b < plan.nodes → list_any (alone.is_own plan.me.number (s.said + 1)) (items_of g (frames_to plan.cluster_key b past)) ≡ false)
+      → ((t : Told) → told_of plan g past ≡ Some (Some t) → (b : ℕ) → b < plan.nodes → list_any (alone.is_own plan.me.number (said_in t.calls + 1)) (items_of g (frames_to plan.cluster_key b past)) ≡ false)
       → is_stopped past ≡ false → is_own plan g past request ≡ true → reply ≡ admitted_answer plan past request → FitsBefore → AskedGoes plan g past request reply frames_from group
   own_goes (AddTenant token row) reply few below fresh running own is fits = absurd (clash own)
     where
@@ -262,7 +261,7 @@ module _ (plan : NodePlan) (past : List Happened) (request : Request) (reply : R
 pub asked_goes : (plan : NodePlan) (g : Addr) (past : List Happened) (request : Request) (reply : Reply) (frames_from : ℕ → List (List Item)) (group : Group)
     → plan.nodes ≤ NODES
     → ((b : ℕ) → set.contains (noticed_in plan past) b ≡ true → (b < plan.nodes) × (b ≢ plan.me.number))
-    → ((s : SlotState) → group_of plan g past ≡ Some (Some s) → (b : ℕ) → b < plan.nodes → list_any (alone.is_own plan.me.number (s.said + 1)) (items_of g (frames_to plan.cluster_key b past)) ≡ false)
+    → ((t : Told) → told_of plan g past ≡ Some (Some t) → (b : ℕ) → b < plan.nodes → list_any (alone.is_own plan.me.number (said_in t.calls + 1)) (items_of g (frames_to plan.cluster_key b past)) ≡ false)
     → IsAsked plan past request reply
     → is_starved_by plan g past (Asked request) (Replied reply) ≡ false
     → Fits plan.nodes g plan.me.number frames_from (view_of plan g past) (group plan.me.number)

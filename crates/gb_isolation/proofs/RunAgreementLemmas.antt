@@ -10,10 +10,8 @@ use Rattle.gb_types.specs.declared.entry.Entry.{Entry}
 use Rattle.gb_types.specs.declared.limits.TheConstants.{NODES}
 use Rattle.gb_types.specs.declared.spec.Spec.{Spec}
 use Rattle.gb_frame.specs.declared.item.Item.{Item}
-use Rattle.gb_layer.specs.Bools.{and_both}
-use Rattle.gb_layer.specs.Machine.{was_noticed}
 use Rattle.gb_rules.specs.Group.{is_gone, is_member, is_other}
-use Rattle.gb_history.specs.History.{calls_of}
+use Rattle.gb_history.specs.History.{has_noticed}
 use Rattle.gb_alone.specs.Alone.{Group, after, nobody, alone, is_marked, IsLegal, IsLegalFrom}
 use Rattle.gb_alone.specs.Laws.{accepted}
 use Rattle.gb_alone.specs.declared.event.GroupStep.{GroupStep}
@@ -22,14 +20,14 @@ use Rattle.gb_duties.specs.Agreement.{IsRunning, IsSettled, IsAgreed, KeepsAgree
 use Rattle.gb_duties.proofs.FlowLemmas.{nobody_flows, run_flows, legal_parts, made_stays}
 use Rattle.gb_duties.proofs.NoticeLemmas.{AllMarked}
 use Rattle.gb_duties.proofs.SeenLemmas.{noticed_seen, seen_noticed, agreement_seen}
-use Rattle.gb_groups.specs.OneGroup.{waiting_in}
+use Rattle.gb_node.specs.NodeGroups.{waiting_at}
 use Rattle.gb_node.specs.NodeStep.{node_numbered}
 use Rattle.gb_node.specs.Past.{frames_to, is_taken}
-use Rattle.gb_cluster.specs.ClusterValue.{ClusterValue, node_plan}
+use Rattle.gb_cluster.specs.ClusterValue.{ClusterValue, node_plan, node_at}
 use Rattle.gb_cluster.specs.Run.{Did, ComesTo, past_at}
 use Rattle.gb_types.specs.declared.plan.Plan.{Plan}
 use Rattle.gb_cluster.proofs.NodesLemmas.{stays}
-use Rattle.gb_isolation.specs.Isolation.{Seen, group_at, IsIsolated, GroupsAreIsolated}
+use Rattle.gb_isolation.specs.Isolation.{Seen, IsIsolated, GroupsAreIsolated}
 use Rattle.gb_isolation.specs.Project.{project, items_of, is_fed}
 use Rattle.gb_isolation.specs.RunLaws.{accepted_there, is_noticed, log_seen, made_there, IsSettledIn, SettledGroupsAgree}
 use Rattle.gb_isolation.proofs.View.{AreMarked, BehavesAlone}
@@ -122,7 +120,7 @@ module _ (isolated : GroupsAreIsolated) (behave : AllBehave) (plan : Plan) (run 
   here : (a : ℕ) → IsRunning runs spec a → is_gone (group a).phase ≡ false
   here a run_a =
       ap (λ k. is_gone (group k).phase) (sym (is_number a run_a.0))
-      ∙ kept_there (node_plan plan (node_numbered a)) g (past_at (node_numbered a) run) (node_numbered a).number (group (node_numbered a).number) (behaves.fits (node_numbered a) (there a run_a.0)).slot (settled.kept a run_a)
+      ∙ kept_there (node_plan plan (node_numbered a)) g (past_at (node_numbered a) run) (group (node_numbered a).number) (behaves.fits (node_numbered a) (there a run_a.0)).told (settled.kept a run_a)
 
   marks : (a : ℕ) → is_member spec a ≡ true → (b : ℕ) → is_marked b (group a).noticed ≡ (is_other spec a b && is_noticed plan run (node_numbered a) b)
   marks a in_a b =
@@ -136,9 +134,9 @@ module _ (isolated : GroupsAreIsolated) (behave : AllBehave) (plan : Plan) (run 
   taken : (a b : ℕ) → is_member spec a ≡ true → is_member spec b ≡ true → (group a).taken b ≡ length (items_of g (frames a b))
   taken a b in_a in_b = ap (λ k. (group k).taken b) (sym (is_number a in_a)) ∙ (behaves.fits (node_numbered a) (there a in_a)).taken b (within b in_b)
 
-  put : (a b : ℕ) → is_member spec a ≡ true → is_member spec b ≡ true → (group a).put b ≡ items_of g (frames a b) ++ waiting_in (group_at v g (node_numbered a)) b
+  put : (a b : ℕ) → is_member spec a ≡ true → is_member spec b ≡ true → (group a).put b ≡ items_of g (frames a b) ++ waiting_at (node_at v (node_numbered a)) g b
   put a b in_a in_b =
-      sym (subst (λ k. items_of g (frames a k) ++ waiting_in (group_at v g (node_numbered a)) k ≡ (group (node_numbered a).number).put k) (is_number b in_b) (ap (λ (s : Seen). s.put) (alike.same (node_numbered a) (node_numbered b) (there a in_a) (there b in_b)))
+      sym (subst (λ k. items_of g (frames a k) ++ waiting_at (node_at v (node_numbered a)) g k ≡ (group (node_numbered a).number).put k) (is_number b in_b) (ap (λ (s : Seen). s.put) (alike.same (node_numbered a) (node_numbered b) (there a in_a) (there b in_b)))
       ∙ ap (λ k. (group k).put b) (is_number a in_a))
 
   carried : (a b : ℕ) → IsRunning runs spec a → IsRunning runs spec b → a ≢ b → (group a).taken b ≡ length ((group a).put b)
@@ -157,18 +155,21 @@ module _ (isolated : GroupsAreIsolated) (behave : AllBehave) (plan : Plan) (run 
       let at = stands_in g (frames a b) place some (omega (arith, most, count)) in
       (come a b run_a.0 run_b.0).each at.number place at.above at.within ∙ settled.came a b run_a run_b other at.number at.frame at.there at.some
 
-  noticed : (a b : ℕ) → IsRunning runs spec a → is_member spec b ≡ true → runs b ≡ false → was_noticed (calls_of (group a).told) b ≡ true
+  noticed : (a b : ℕ) → IsRunning runs spec a → is_member spec b ≡ true → runs b ≡ false → has_noticed (group a).told b ≡ true
   noticed a b run_a in_b stopped =
-      seen_noticed a (group a) spec (made a run_a.0) (told a) (is_noticed plan run (node_numbered a)) (marks a run_a.0) b (here a run_a) (and_both in_b (apart (nat_eq b a) refl)) (settled.noticed a b run_a in_b stopped)
+      seen_noticed a (group a) spec (made a run_a.0) (told a) (is_noticed plan run (node_numbered a)) (marks a run_a.0) b (here a run_a) (both in_b (apart (nat_eq b a) refl)) (settled.noticed a b run_a in_b stopped)
     where
+      both : {p q : Bool} → p ≡ true → q ≡ true → (p && q) ≡ true
+      both h k = cc
+
       apart : (t : Bool) → nat_eq b a ≡ t → not t ≡ true
       apart true is = let e : runs b ≡ true = ap runs (eqb-true b a is) ∙ run_a.1 in absurd (cc)
       apart false is = refl
 
-  unnoticed : (a b : ℕ) → is_member spec a ≡ true → IsRunning runs spec b → was_noticed (calls_of (group a).told) b ≡ false
-  unnoticed a b in_a run_b = go (was_noticed (calls_of (group a).told) b) refl
+  unnoticed : (a b : ℕ) → is_member spec a ≡ true → IsRunning runs spec b → has_noticed (group a).told b ≡ false
+  unnoticed a b in_a run_b = go (has_noticed (group a).told b) refl
     where
-      go : (t : Bool) → was_noticed (calls_of (group a).told) b ≡ t → t ≡ false
+      go : (t : Bool) → has_noticed (group a).told b ≡ t → t ≡ false
       go true h = let e = noticed_seen a (group a) spec (made a in_a) (told a) (is_noticed plan run (node_numbered a)) (marks a in_a) b h in let f = settled.unnoticed a b in_a run_b in absurd (cc)
       go false h = refl
 

@@ -6,15 +6,11 @@ use Rattle.gb_types.specs.declared.limits.TheConstants.{NODES}
 use Rattle.gb_types.specs.declared.message.MsgId.{MsgId}
 use Rattle.gb_types.specs.declared.node.NodeId.{NodeId}
 use Rattle.gb_types.specs.declared.spec.Spec.{Spec}
-use Rattle.gb_fifo.specs.Order.{in_order}
-use Rattle.gb_fifo.specs.OrderLaws.{AllIn}
-use Rattle.gb_stack.specs.LogLaws.{ModuleLogHasDelivered}
 use Rattle.gb_rules.specs.Group.{is_gone, is_member, is_other}
 use Rattle.gb_history.specs.Messages.{has}
 use Rattle.gb_alone.specs.Alone.{Group, nobody, alone, is_marked}
 use Rattle.gb_alone.proofs.InsideLemmas.{run_inside}
-use Rattle.gb_duties.specs.Duties.{HasHad, KeepsDuties, IsDutiful, noticed_at, delivered_at}
-use Rattle.gb_duties.proofs.DutyLemmas.{delivered_origin, logged_here}
+use Rattle.gb_duties.specs.Duties.{HasHad, KeepsDuties, IsDutiful, DeliveredAreOfMembers, LoggedAreDelivered, noticed_at, delivered_at}
 use Rattle.gb_duties.proofs.NoticeLemmas.{AllMarked}
 use Rattle.gb_duties.proofs.SeenLemmas.{duties_seen}
 use Rattle.gb_node.specs.NodeStep.{node_numbered}
@@ -30,10 +26,11 @@ use Rattle.gb_isolation.proofs.DroppedLemmas.{kept_there}
 use Rattle.gb_isolation.proofs.MomentLemmas.{AllBehave, marked}
 use Rattle.gb_isolation.proofs.NoticeLemmas.{numbered_is}
 
--- what the lower crates say of logs: a module's log has what is delivered, and the order gives up nothing else
-pub record LogLaws : Type 0 where
-  pub has_delivered : ModuleLogHasDelivered
-  pub within : (delivered : List MsgId) → AllIn delivered (in_order delivered)
+-- the laws of a group's duties, and of what is delivered and logged
+pub record DutyLaws : Type 0 where
+  pub dutiful : IsDutiful
+  pub members : DeliveredAreOfMembers
+  pub logged : LoggedAreDelivered
 
 module _ (plan : Plan) (run : List Did) (v : ClusterValue) (g : Addr) (few : plan.nodes ≤ NODES) (alike : IsIsolated plan run v g) (behaves : BehavesAlone plan g run) (told : AllMarked (alone plan.nodes g.group (project plan g run))) where
   abbrev group : Group
@@ -61,22 +58,22 @@ module _ (plan : Plan) (run : List Did) (v : ClusterValue) (g : Addr) (few : pla
     seen here messages origins done =
         duties_seen spec b.number (group b.number) made here (told b.number) (is_noticed plan run b) noticed_is (λ c. (seen_in plan run v g b (node_numbered c)).put) put_there (HasHad group) messages origins done
 
-    delivered : LogLaws → IsDutiful → is_gone (group b.number).phase ≡ false → KeepsRunDuties plan run v g b spec (delivered_at spec b.number (group b.number))
-    delivered logs law here =
-        seen here (delivered_at spec b.number (group b.number)) (delivered_origin logs.has_delivered plan.nodes g.group (project plan g run) b.number spec made)
-        ((law plan.nodes g.group (project plan g run) alike.legal).delivered b.number spec (ap (λ (gone : Bool). if gone then None else (group b.number).spec) here ∙ made))
+    delivered : DutyLaws → is_gone (group b.number).phase ≡ false → KeepsRunDuties plan run v g b spec (delivered_at spec b.number (group b.number))
+    delivered laws here =
+        seen here (delivered_at spec b.number (group b.number)) (laws.members plan.nodes g.group (project plan g run) b.number spec made)
+        ((laws.dutiful plan.nodes g.group (project plan g run) alike.legal).delivered b.number spec (ap (λ (gone : Bool). if gone then None else (group b.number).spec) here ∙ made))
 
-    logged : LogLaws → IsDutiful → KeepsRunDuties plan run v g b spec (has (seen_in plan run v g b b).log)
-    logged logs law c other m h =
-        let there = logged_here logs.has_delivered plan.nodes g.group (project plan g run) b.number spec logs.within made m (ap (λ (s : Seen). has s.log m) (sym (alike.same b b in_b in_b)) ∙ h) in
-        delivered logs law there.0 c other m there.1
+    logged : DutyLaws → KeepsRunDuties plan run v g b spec (has (seen_in plan run v g b b).log)
+    logged laws c other m h =
+        let there = laws.logged plan.nodes g.group (project plan g run) b.number spec made m (ap (λ (s : Seen). has s.log m) (sym (alike.same b b in_b in_b)) ∙ h) in
+        delivered laws there.0 c other m there.1
 
-  run_duties : LogLaws → IsDutiful → RunDuties plan run v g
-  run_duties logs law = record {
-    delivered = λ b spec in_b made_there kept. delivered b in_b spec made_there logs law (kept_there (node_plan plan b) g (past_at b run) b.number (group b.number) (behaves.fits b in_b).slot kept);
-    logged = λ b spec in_b made_there. logged b in_b spec made_there logs law;
+  run_duties : DutyLaws → RunDuties plan run v g
+  run_duties laws = record {
+    delivered = λ b spec in_b made_there kept. delivered b in_b spec made_there laws (kept_there (node_plan plan b) g (past_at b run) (group b.number) (behaves.fits b in_b).told kept);
+    logged = λ b spec in_b made_there. logged b in_b spec made_there laws;
   }
 
-pub all_dutiful : LogLaws → IsDutiful → GroupsAreIsolated → AllBehave → GroupsDoTheirDuties
-all_dutiful logs law isolated behave plan run v comes g fed =
-    run_duties plan run v g (stays plan run v comes).right.few (isolated plan run v comes g fed) (behave plan g run v comes fed) (marked behave plan g run v comes fed) logs law
+pub all_dutiful : DutyLaws → GroupsAreIsolated → AllBehave → GroupsDoTheirDuties
+all_dutiful laws isolated behave plan run v comes g fed =
+    run_duties plan run v g (stays plan run v comes).right.few (isolated plan run v comes g fed) (behave plan g run v comes fed) (marked behave plan g run v comes fed) laws

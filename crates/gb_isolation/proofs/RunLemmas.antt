@@ -12,15 +12,14 @@ use Rattle.gb_types.specs.declared.node.NodeId.{NodeId}
 use Rattle.gb_types.proofs.SameLemmas.{same_number}
 use Rattle.gb_frame.specs.declared.item.Item.{Item}
 use Rattle.gb_frame.specs.Packet.{Content}
-use Rattle.gb_slot.specs.SlotState.{SlotState}
+use Rattle.gb_history.specs.History.{said_in}
 use Rattle.gb_alone.specs.Alone.{Group, Member, nobody, after, alone, alone_from, is_own}
 use Rattle.gb_alone.specs.Laws.{accepted}
 use Rattle.gb_alone.proofs.AcceptedLemmas.{alone_said, length-own_said}
 use Rattle.gb_alone.proofs.IntegrityLemmas.{is_integral}
-use Rattle.gb_groups.specs.OneGroup.{waiting_in}
 use Rattle.gb_node.specs.NodeStep.{node_numbered}
 use Rattle.gb_node.specs.Past.{Happened, ComesTo as NodeComesTo, read, frames_to, is_acked, is_first, is_taken, is_stopped, packed_for}
-use Rattle.gb_node.specs.PastGroups.{group_of}
+use Rattle.gb_node.specs.PastGroups.{Told, waiting_of, told_of}
 use Rattle.gb_node.specs.StepLaw.{IsAnswered, AnswersSay}
 use Rattle.gb_node.specs.declared.answer.Good.{Good}
 use Rattle.gb_node.specs.declared.answer.NodeAnswer.{NodeAnswer}
@@ -38,7 +37,7 @@ use Rattle.gb_cluster.proofs.NodesLemmas.{Stays, stays, have_pasts, past_same, p
 use Rattle.gb_node.specs.declared.plan.NodePlan.{NodePlan}
 use Rattle.gb_node.specs.Past.{added, tenants_in}
 use Rattle.gb_isolation.specs.Project.{made_by, gives, project, items_of, is_fed, is_starved_by, is_new_frame, made_with, replies_in, is_met}
-use Rattle.gb_isolation.proofs.View.{View, view_of, view_at, frames_for, AreMarked, SlotIs, SlotStands, Fits, Goes, AllFit, BehavesAlone}
+use Rattle.gb_isolation.proofs.View.{View, view_of, view_at, frames_for, AreMarked, MemberIs, IsThere, Fits, Goes, AllFit, BehavesAlone}
 use Rattle.gb_isolation.proofs.NextLemmas.{none_beyond_accepted, none_of_front}
 use Rattle.gb_isolation.proofs.ArriveLemmas.{arrived_goes}
 use Rattle.gb_isolation.proofs.FitLemmas.{frames_fit}
@@ -57,7 +56,7 @@ fits_frames : (nodes : ℕ) (g : Addr) (me : ℕ) (from later : ℕ → List (Li
     → Fits nodes g me from v m → Fits nodes g me later v m
 fits_frames nodes g me from later v m more was = record {
   reserve = was.reserve;
-  slot = was.slot;
+  told = was.told;
   inside = was.inside;
   put = was.put;
   taken = was.taken;
@@ -80,10 +79,10 @@ none_marked g test = record {
 }
 
 new_fits : (plan : Plan) (g : Addr) → AllFit plan g [] nobody
-unfolding past_at frames_to items_of is_acked is_taken tenants_in group_of made_with replies_in is_met
+unfolding past_at frames_to items_of is_acked is_taken tenants_in told_of made_with replies_in is_met
 new_fits plan g a inside = record {
   reserve = refl;
-  slot = record { spec = refl; phase = refl; told = refl };
+  told = record { spec = refl; phase = refl; told = refl };
   inside = λ s is. absurd (cc);
   put = λ b in_b. refl;
   taken = λ b in_b. refl;
@@ -93,7 +92,7 @@ new_fits plan g a inside = record {
   stopped = refl;
   come = λ b in_b. none_marked g (λ n. false);
   done = λ b in_b. none_marked g (λ n. false);
-  acks = λ s is. absurd (cc);
+  acks = record { each = λ b k in_b low. absurd (omega (arith, low)); beyond = λ b seq far. refl };
 }
 
 -- A step.
@@ -129,18 +128,18 @@ module _ (laws : Laws) (plan : Plan) (g : Addr) (run : List Did) (before : Clust
   few = (stays plan run before comes).right.few
 
   -- no item that is carried has the number that is said next
-  unsaid : (a : NodeId) → a.number < plan.nodes → (s : SlotState) → group_of (node_plan plan a) g (past_at a run) ≡ Some (Some s) → (b : ℕ) → b < plan.nodes
-      → list_any (is_own a.number (s.said + 1)) (items_of g (frames_to plan.cluster_key b (past_at a run))) ≡ false
-  unsaid a within s there b in_b =
-      none_of_front (is_own a.number (s.said + 1)) (items_of g (frames_to plan.cluster_key b (past_at a run))) (waiting_in (group_of (node_plan plan a) g (past_at a run)) b)
-      (ap (list_any (is_own a.number (s.said + 1))) (sym ((was.fits a within).put b in_b))
-      ∙ none_beyond_accepted (accepted plan.nodes g.group (project plan g run)) a.number (s.said + 1) ((group a.number).put b) low ((is_integral plan.nodes g.group (project plan g run) was.legal).items a.number b))
+  unsaid : (a : NodeId) → a.number < plan.nodes → (t : Told) → told_of (node_plan plan a) g (past_at a run) ≡ Some (Some t) → (b : ℕ) → b < plan.nodes
+      → list_any (is_own a.number (said_in t.calls + 1)) (items_of g (frames_to plan.cluster_key b (past_at a run))) ≡ false
+  unsaid a within t there b in_b =
+      none_of_front (is_own a.number (said_in t.calls + 1)) (items_of g (frames_to plan.cluster_key b (past_at a run))) (waiting_of (told_of (node_plan plan a) g (past_at a run)) b)
+      (ap (list_any (is_own a.number (said_in t.calls + 1))) (sym ((was.fits a within).put b in_b))
+      ∙ none_beyond_accepted (accepted plan.nodes g.group (project plan g run)) a.number (said_in t.calls + 1) ((group a.number).put b) low ((is_integral plan.nodes g.group (project plan g run) was.legal).items a.number b))
     where
-      st : SlotStands a.number s (group a.number)
-      st = subst (λ o. SlotIs a.number o (group a.number)) there (was.fits a within).slot
+      st : IsThere t (group a.number)
+      st = subst (λ o. MemberIs o (group a.number)) there (was.fits a within).told
 
-      low : length (accepted plan.nodes g.group (project plan g run) a.number) < s.said + 1
-      low = omega (arith, st.history.said, ap length (alone_said plan.nodes g.group a.number (project plan g run)), length-own_said (group a.number).told)
+      low : length (accepted plan.nodes g.group (project plan g run) a.number) < said_in t.calls + 1
+      low = omega (arith, ap said_in st.calls, ap length (alone_said plan.nodes g.group a.number (project plan g run)), length-own_said (group a.number).told)
 
   -- what an event gives the group
   step_goes : (a : NodeId) (e : NodeEvent) (x : NodeAnswer) (v : ClusterValue) → a.number < plan.nodes → ComesTo plan (record { node = a; event = e; answer = x } ∷ run) v → IsAnswered (node_plan plan a) (past_at a run) e x

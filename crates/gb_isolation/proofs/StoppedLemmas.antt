@@ -14,13 +14,13 @@ use Rattle.gb_alone.specs.declared.event.GroupEvent.{GroupEvent}
 use Rattle.gb_alone.specs.declared.event.GroupEvent.TheVariants.{Make as AskMake, Open as AskOpen, Shut as AskShut, Drop as AskDrop, Say as AskSay, Fetch as AskFetch, Stop}
 use Rattle.gb_alone.specs.Alone.{Member, Group, alone_from, commanded, did, member_after, reply_to, running_reply, MayHappen}
 use Rattle.gb_node.specs.Past.{Happened, is_stopped}
-use Rattle.gb_node.specs.PastGroups.{noticed_in, group_of}
+use Rattle.gb_node.specs.PastGroups.{noticed_in, told_of}
 use Rattle.gb_node.specs.StepLaw.{is_admitted_by}
 use Rattle.gb_node.specs.declared.plan.NodePlan.{NodePlan}
 use Rattle.gb_isolation.specs.Project.{is_named, is_own, is_met, command_for, with_stop, asked, made_with, or_else, replies_in}
 use Rattle.gb_isolation.proofs.AskLemmas.{asking, view_asked, rows_kept, refused_adds, refused_makes, refused_for, refused_quiet}
 use Rattle.gb_isolation.proofs.GoesLemmas.{goes_one, goes_on}
-use Rattle.gb_isolation.proofs.MemberLemmas.{same_slot}
+use Rattle.gb_isolation.proofs.MemberLemmas.{same_member}
 use Rattle.gb_isolation.proofs.View.{View, view_of, Fits, Goes}
 
 -- the reply of a node that has stopped
@@ -51,7 +51,7 @@ module _ (nodes : ℕ) (g : Addr) (a : NodeId) (frames_from : ℕ → List (List
   stop_goes : (v : View) (group : Group) → Fits nodes g a.number frames_from v (group a.number) → Goes nodes g a frames_from (record v { met = true }) group (record { node = a; event = Stop } ∷ [])
   stop_goes v group fits = goes_one nodes g a frames_from (record v { met = true }) group Stop tt (record {
     reserve = fits.reserve;
-    slot = same_slot a.number v.slot (group a.number) (member_after nodes g.group a Stop group) refl refl refl fits.slot;
+    told = same_member v.told (group a.number) (member_after nodes g.group a Stop group) refl refl refl fits.told;
     inside = fits.inside;
     put = fits.put;
     taken = fits.taken;
@@ -69,7 +69,7 @@ module _ (nodes : ℕ) (g : Addr) (a : NodeId) (frames_from : ℕ → List (List
       → Goes nodes g a frames_from (record v { replies = v.replies ++ refused ∷ [] }) group (record { node = a; event = c.event } ∷ [])
   refused_goes request c v group met fits = goes_one nodes g a frames_from (record v { replies = v.replies ++ refused ∷ [] }) group c.event (c.may group) (subst (Fits nodes g a.number frames_from (record v { replies = v.replies ++ refused ∷ [] })) (sym left) (record {
     reserve = fits.reserve;
-    slot = same_slot a.number v.slot (group a.number) next refl refl refl fits.slot;
+    told = same_member v.told (group a.number) next refl refl refl fits.told;
     inside = fits.inside;
     put = fits.put;
     taken = fits.taken;
@@ -125,9 +125,9 @@ module _ (plan : NodePlan) (g : Addr) (past : List Happened) (request : Request)
       (subst (λ (v : View). Goes plan.nodes g plan.me frames_from v group (with_stop plan.me (is_met plan g past) (record { node = plan.me; event = c.event } ∷ []))) (sym later) (meets plan.nodes g plan.me frames_from request c (view_of plan g past) group fits (is_met plan g past) refl))
     where
       later : view_of plan g (asking request refused ∷ past) ≡ record (view_of plan g past) { replies = replies_in plan g past ++ refused ∷ []; met = true }
-      later = view_asked plan g past request refused (view_of plan g past).reserve (group_of plan g past) (made_with g past) (replies_in plan g past ++ refused ∷ []) true
+      later = view_asked plan g past request refused (view_of plan g past).reserve (told_of plan g past) (made_with g past) (replies_in plan g past ++ refused ∷ []) true
           (rows_kept plan g past request refused (refused_adds request Stopped))
-          (refused_for g plan.me (noticed_in plan past) request Stopped (group_of plan g past))
+          (refused_for g plan.me (noticed_in plan past) request Stopped (told_of plan g past))
           (ap (λ o. or_else o (made_with g past)) (refused_makes g request Stopped))
           (ap (λ b. replies_in plan g past ++ (if b then refused ∷ [] else [])) own)
           (ap (λ b. (b && is_own plan g past request) || is_met plan g past) stopped ∙ ap (λ b. b || is_met plan g past) own)

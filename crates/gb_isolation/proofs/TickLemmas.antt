@@ -1,6 +1,6 @@
 -- What a tick that notices nodes makes of a group.
-use Rattle.std.proofs.Common.{◌≡◌, ℕ, zero, suc, ◌+◌, ◌<◌, ◌≤◌, List, [], ◌∷◌, ◌++◌, length, get_or, Option, Some, None, Bool, true, false, cond, ◌&&◌, ◌||◌, refl, sym, ◌∙◌, ap, subst, arith}
-use Rattle.std.specs.Prelude.{nat_eq, nat_le, fold, filter, option_map, if◌then◌else◌}
+use Rattle.std.proofs.Common.{◌≡◌, ℕ, zero, suc, ◌+◌, ◌<◌, ◌≤◌, List, [], ◌∷◌, ◌++◌, length, Option, Some, None, Bool, true, false, cond, ◌&&◌, ◌||◌, refl, sym, ◌∙◌, ap, subst, arith}
+use Rattle.std.specs.Prelude.{nat_le, fold, filter, option_map, if◌then◌else◌}
 use Rattle.std.specs.FinSet as set
 use Rattle.std.specs.List.{range_with_len}
 use Rattle.std.specs.Ordering.{nat_cmp}
@@ -14,25 +14,24 @@ use Rattle.gb_types.specs.declared.limits.TheConstants.{NODES}
 use Rattle.gb_types.specs.declared.node.NodeId.{NodeId}
 use Rattle.gb_types.specs.declared.spec.Spec.{Spec}
 use Rattle.gb_frame.specs.declared.item.Item.{Item}
-use Rattle.gb_layer.specs.declared.call.Call.TheVariants.{Notice as Crash}
 use Rattle.gb_rules.specs.Group.{is_other}
 use Rattle.gb_rules.specs.Tenant.{reserve_of, row_of}
-use Rattle.gb_slot.specs.Slot.{slot_called, slot_noticed}
-use Rattle.gb_slot.specs.SlotState.{SlotState}
+use Rattle.gb_history.specs.declared.call.GroupCall.TheVariants.{Crashed}
+use Rattle.gb_history.specs.History.{said_in}
 use Rattle.gb_alone.specs.Alone.{Member, Group, node_noticed, is_marked, is_acknowledged}
-use Rattle.gb_groups.specs.OneGroup.{stepped, waiting_in}
+use Rattle.gb_rules.specs.Lifetime.{stepped}
 use Rattle.gb_node.specs.NodeStep.{node_numbered}
 use Rattle.gb_node.specs.Past.{Happened, frames_to, is_acked, is_taken, tenants_in}
-use Rattle.gb_node.specs.PastGroups.{noticed_for, group_of}
+use Rattle.gb_node.specs.PastGroups.{Told, waiting_of, with_call, cut_off, if_other, noticed_told, told_of}
 use Rattle.gb_node.specs.StepLaw.{IsTicked}
 use Rattle.gb_node.specs.declared.answer.NodeAnswer.TheVariants.{Ticked}
 use Rattle.gb_node.specs.declared.answer.Ticked.TheVariants.{Noticed}
 use Rattle.gb_node.specs.declared.event.NodeEvent.TheVariants.{Tick}
 use Rattle.gb_node.specs.declared.plan.NodePlan.{NodePlan}
 use Rattle.gb_isolation.specs.Project.{items_of, made_with, replies_in, is_met, ticked}
-use Rattle.gb_isolation.proofs.View.{View, view_of, Fits, Goes, SlotIs, AreMarked, KeepsAcks, IsInside, is_concerned}
+use Rattle.gb_isolation.proofs.View.{View, view_of, Fits, Goes, MemberIs, AreMarked, KeepsAcks, IsInside, is_concerned, said_of, acknowledged_of}
 use Rattle.gb_isolation.proofs.GoesLemmas.{goes_none}
-use Rattle.gb_isolation.proofs.MemberLemmas.{KeepsRest, slot-noticed, put-noticed}
+use Rattle.gb_isolation.proofs.MemberLemmas.{KeepsRest, told-noticed, put-noticed}
 use Rattle.gb_isolation.proofs.NoticeLemmas.{numbered_is, all_noticed, notice_keeps, notices_of, notices_there, notices_elsewhere, notices_keep, notices_mark, notices_legal, passing_rising, passing_marked}
 use Rattle.gb_isolation.proofs.PackLemmas.{inside_stepped}
 use Rattle.gb_isolation.proofs.PastLemmas.{running_unmet}
@@ -42,14 +41,14 @@ use Rattle.gb_isolation.proofs.PastLemmas.{running_unmet}
 abbrev pub ticking : set.FinSet nat_cmp → Happened
 ticking found = record { event = Tick; answer = Ticked (Noticed found) }
 
-abbrev view_ticked : set.FinSet nat_cmp → View → View
-view_ticked found v = record v { slot = fold noticed_for v.slot (rising found); noticed = λ b. set.contains found b || v.noticed b }
+abbrev view_ticked : NodeId → set.FinSet nat_cmp → View → View
+view_ticked me found v = record v { told = fold (noticed_told me) v.told (rising found); noticed = λ b. set.contains found b || v.noticed b }
 
-ticked_view : (plan : NodePlan) (g : Addr) (past : List Happened) (found : set.FinSet nat_cmp) → IsTicked plan past found → view_of plan g (ticking found ∷ past) ≡ view_ticked found (view_of plan g past)
-unfolding frames_to is_acked is_taken tenants_in group_of made_with replies_in is_met
+ticked_view : (plan : NodePlan) (g : Addr) (past : List Happened) (found : set.FinSet nat_cmp) → IsTicked plan past found → view_of plan g (ticking found ∷ past) ≡ view_ticked plan.me found (view_of plan g past)
+unfolding frames_to is_acked is_taken tenants_in told_of made_with replies_in is_met
 ticked_view plan g past found right = λ i. record {
   reserve = option_map reserve_of (row_of g.tenant (append-nil (tenants_in past) i));
-  slot = fold noticed_for (group_of plan g past) (rising found);
+  told = fold (noticed_told plan.me) (told_of plan g past) (rising found);
   made = made_with g past;
   noticed = λ b. right.later b i;
   replies = append-nil (replies_in plan g past) i;
@@ -59,93 +58,82 @@ ticked_view plan g past found right = λ i. record {
   taken = λ x n. is_taken plan.cluster_key x n past;
 }
 
--- The slot.
+-- What the past tells.
 
--- the slot stands for the group, of whose items these are carried
-record SlotFits (nodes me : ℕ) (o : Option (Option SlotState)) (m : Member) (carried : ℕ → List Entry) : Type 0 where
-  slot : SlotIs me o m
+-- what is told stands for the group, of whose items these are carried
+record MemberFits (nodes me : ℕ) (o : Option (Option Told)) (m : Member) (carried : ℕ → List Entry) : Type 0 where
+  told : MemberIs o m
   inside : IsInside nodes o
-  put : (b : ℕ) → b < nodes → m.put b ≡ carried b ++ waiting_in o b
+  put : (b : ℕ) → b < nodes → m.put b ≡ carried b ++ waiting_of o b
   taken : (b : ℕ) → b < nodes → m.taken b ≡ length (carried b)
   acks : KeepsAcks nodes me o carried m.done
 
-spec-noticed : (q : NodeId) (s : SlotState) → (slot_noticed q s).spec ≡ s.spec
-spec-noticed q s = go (is_other s.spec s.me.number q.number)
-  where
-    go : (b : Bool) → (if b then (let next = slot_called (Crash q) s.store s in record next { noticed = set.insert s.noticed q.number }) else s).spec ≡ s.spec
-    go true = refl
-    go false = refl
+spec-noticed : (me q : NodeId) (t : Told) → (if_other me q t).spec ≡ t.spec
+spec-noticed me q t = elim (is_other t.spec me.number q.number) as (λ b. (if b then with_call me (Crashed q) (cut_off q.number t) else t).spec ≡ t.spec) [ true ↦ refl | false ↦ refl ]
 
-acks-noticed : (q : NodeId) (s : SlotState) → (slot_noticed q s).acknowledged ≡ s.acknowledged
-acks-noticed q s = go (is_other s.spec s.me.number q.number)
-  where
-    go : (b : Bool) → (if b then (let next = slot_called (Crash q) s.store s in record next { noticed = set.insert s.noticed q.number }) else s).acknowledged ≡ s.acknowledged
-    go true = refl
-    go false = refl
+said-noticed : (me q : NodeId) (o : Option (Option Told)) → said_of (stepped (if_other me q) o) ≡ said_of o
+unfolding said_in
+said-noticed me q None = refl
+said-noticed me q (Some None) = refl
+said-noticed me q (Some (Some t)) = elim (is_other t.spec me.number q.number) as (λ b. said_in (if b then with_call me (Crashed q) (cut_off q.number t) else t).calls ≡ said_in t.calls) [ true ↦ refl | false ↦ refl ]
 
--- a step of a slot that leaves its acknowledgements keeps them
-pub acks_stepped : (nodes me : ℕ) (step : SlotState → SlotState) (o : Option (Option SlotState)) (carried : ℕ → List Entry) (done next : ℕ → List ℕ) → ((s : SlotState) → (step s).acknowledged ≡ s.acknowledged) → next ≡ done
-    → KeepsAcks nodes me o carried done → KeepsAcks nodes me (stepped step o) carried next
-acks_stepped nodes me step None carried done next same is was s eq = absurd (cc)
-acks_stepped nodes me step (Some None) carried done next same is was s eq = absurd (cc)
-acks_stepped nodes me step (Some (Some s)) carried done next same is was u eq = λ b k inside low.
-    let acks : u.acknowledged ≡ s.acknowledged = ap acks_in (sym eq) ∙ same s in
-    ap (λ xs. set.contains (get_or xs k set.empty) b) acks
-    ∙ (was s refl b k inside (subst (λ xs. k < length xs) acks low) ∙ ap (λ (d : ℕ → List ℕ). nat_eq b me || is_acknowledged me (k + 1) (d b) 1 (carried b)) (sym is))
-  where
-    acks_in : Option (Option SlotState) → List (set.FinSet nat_cmp)
-    acks_in None = u.acknowledged
-    acks_in (Some None) = u.acknowledged
-    acks_in (Some (Some x)) = x.acknowledged
+acks-noticed : (me q : NodeId) (o : Option (Option Told)) → acknowledged_of (stepped (if_other me q) o) ≡ acknowledged_of o
+acks-noticed me q None = refl
+acks-noticed me q (Some None) = refl
+acks-noticed me q (Some (Some t)) = elim (is_other t.spec me.number q.number) as (λ b. (if b then with_call me (Crashed q) (cut_off q.number t) else t).acknowledged ≡ t.acknowledged) [ true ↦ refl | false ↦ refl ]
 
-fits-noticed : (nodes me : ℕ) (q : NodeId) (o : Option (Option SlotState)) (m : Member) (carried : ℕ → List Entry) → SlotFits nodes me o m carried → SlotFits nodes me (stepped (slot_noticed q) o) (node_noticed me q m) carried
+fits-noticed : (nodes : ℕ) (me q : NodeId) (o : Option (Option Told)) (m : Member) (carried : ℕ → List Entry) → MemberFits nodes me.number o m carried → MemberFits nodes me.number (stepped (if_other me q) o) (node_noticed me.number q m) carried
 fits-noticed nodes me q o m carried was = record {
-  slot = slot-noticed me q o m was.slot;
-  inside = inside_stepped nodes (slot_noticed q) o (spec-noticed q) was.inside;
-  put = λ b in_b. put-noticed me q o m b (carried b) was.slot (was.put b in_b) (was.taken b in_b);
-  taken = λ b in_b. ap (λ (f : ℕ → ℕ). f b) (notice_keeps me q m).taken ∙ was.taken b in_b;
-  acks = acks_stepped nodes me (slot_noticed q) o carried m.done (node_noticed me q m).done (acks-noticed q) (notice_keeps me q m).done was.acks;
+  told = told-noticed me q o m was.told;
+  inside = inside_stepped nodes (if_other me q) o (spec-noticed me q) was.inside;
+  put = λ b in_b. put-noticed me q o m b (carried b) was.told (was.put b in_b) (was.taken b in_b);
+  taken = λ b in_b. ap (λ (f : ℕ → ℕ). f b) (notice_keeps me.number q m).taken ∙ was.taken b in_b;
+  acks = record {
+    each = λ b k in_b low.
+        ap (λ (f : ℕ → ℕ → Bool). f (k + 1) b) (acks-noticed me q o)
+        ∙ (was.acks.each b k in_b (subst (λ n. k < n) (said-noticed me q o) low) ∙ ap (λ (d : ℕ → List ℕ). is_acknowledged me.number (k + 1) (d b) 1 (carried b)) (sym (notice_keeps me.number q m).done));
+    beyond = λ b seq far. ap (λ (f : ℕ → ℕ → Bool). f seq b) (acks-noticed me q o) ∙ was.acks.beyond b seq (subst (λ n. n < seq) (said-noticed me q o) far);
+  };
 }
 
 -- a node that is no other member changes nothing
-foreign-noticed : (me b : ℕ) (s : SlotState) (m : Member) → b < NODES → SlotIs me (Some (Some s)) m → is_other s.spec me b ≡ false → slot_noticed (node_numbered b) s ≡ s
-foreign-noticed me b s m below st foreign = ap (λ (t : Bool). if t then (let next = slot_called (Crash (node_numbered b)) s.store s in record next { noticed = set.insert s.noticed (node_numbered b).number }) else s)
-    (ap (λ (k : ℕ). is_other s.spec k (node_numbered b).number) st.here ∙ (ap (is_other s.spec me) (numbered_is b below) ∙ foreign))
+foreign-noticed : (me : NodeId) (b : ℕ) (t : Told) → b < NODES → is_other t.spec me.number b ≡ false → if_other me (node_numbered b) t ≡ t
+foreign-noticed me b t below foreign = ap (λ (c : Bool). if c then with_call me (Crashed (node_numbered b)) (cut_off (node_numbered b).number t) else t) (ap (is_other t.spec me.number) (numbered_is b below) ∙ foreign)
 
--- nodes are noticed in the slot, and those of them that are other members in the group alone
-fits-all : (nodes me : ℕ) (new : ℕ → Bool) (low count : ℕ) (spec : Spec) (s : SlotState) (m : Member) (carried : ℕ → List Entry) → low + count ≤ NODES → s.spec ≡ spec → SlotFits nodes me (Some (Some s)) m carried
-    → SlotFits nodes me (fold noticed_for (Some (Some s)) (filter new (range_with_len low count))) (all_noticed me (filter (λ b. is_other spec me b && new b) (range_with_len low count)) m) carried
-fits-all nodes me new low zero spec s m carried few same was = was
-fits-all nodes me new low (suc count) spec s m carried few same was =
-    by (new low) (is_other spec me low) refl
-    (fits-all nodes me new (low + 1) count spec (slot_noticed (node_numbered low) s) (node_noticed me (node_numbered low) m) carried (omega arith) (spec-noticed (node_numbered low) s ∙ same) (fits-noticed nodes me (node_numbered low) (Some (Some s)) m carried was))
-    (fits-all nodes me new (low + 1) count spec s m carried (omega arith) same was)
+-- nodes are noticed in what is told, and those of them that are other members in the group alone
+fits-all : (nodes : ℕ) (me : NodeId) (new : ℕ → Bool) (low count : ℕ) (spec : Spec) (t : Told) (m : Member) (carried : ℕ → List Entry) → low + count ≤ NODES → t.spec ≡ spec → MemberFits nodes me.number (Some (Some t)) m carried
+    → MemberFits nodes me.number (fold (noticed_told me) (Some (Some t)) (filter new (range_with_len low count))) (all_noticed me.number (filter (λ b. is_other spec me.number b && new b) (range_with_len low count)) m) carried
+fits-all nodes me new low zero spec t m carried few same was = was
+fits-all nodes me new low (suc count) spec t m carried few same was =
+    by (new low) (is_other spec me.number low) refl
+    (fits-all nodes me new (low + 1) count spec (if_other me (node_numbered low) t) (node_noticed me.number (node_numbered low) m) carried (omega arith) (spec-noticed me (node_numbered low) t ∙ same) (fits-noticed nodes me (node_numbered low) (Some (Some t)) m carried was))
+    (fits-all nodes me new (low + 1) count spec t m carried (omega arith) same was)
   where
-    slots : List ℕ
-    slots = filter new (range_with_len (low + 1) count)
+    found : List ℕ
+    found = filter new (range_with_len (low + 1) count)
 
     members : List ℕ
-    members = filter (λ b. is_other spec me b && new b) (range_with_len (low + 1) count)
+    members = filter (λ b. is_other spec me.number b && new b) (range_with_len (low + 1) count)
 
-    by : (is_new other : Bool) → is_other spec me low ≡ other
-        → SlotFits nodes me (fold noticed_for (Some (Some (slot_noticed (node_numbered low) s))) slots) (all_noticed me members (node_noticed me (node_numbered low) m)) carried
-        → SlotFits nodes me (fold noticed_for (Some (Some s)) slots) (all_noticed me members m) carried
-        → SlotFits nodes me (fold noticed_for (Some (Some s)) (cond is_new (low ∷ slots) slots)) (all_noticed me (cond (other && is_new) (low ∷ members) members) m) carried
+    by : (is_new other : Bool) → is_other spec me.number low ≡ other
+        → MemberFits nodes me.number (fold (noticed_told me) (Some (Some (if_other me (node_numbered low) t))) found) (all_noticed me.number members (node_noticed me.number (node_numbered low) m)) carried
+        → MemberFits nodes me.number (fold (noticed_told me) (Some (Some t)) found) (all_noticed me.number members m) carried
+        → MemberFits nodes me.number (fold (noticed_told me) (Some (Some t)) (cond is_new (low ∷ found) found)) (all_noticed me.number (cond (other && is_new) (low ∷ members) members) m) carried
     by true true is noticed skipped = noticed
-    by true false is noticed skipped = subst (λ (t : SlotState). SlotFits nodes me (fold noticed_for (Some (Some t)) slots) (all_noticed me members m) carried)
-        (sym (foreign-noticed me low s m (omega arith) was.slot (ap (λ (x : Spec). is_other x me low) same ∙ is))) skipped
+    by true false is noticed skipped = subst (λ (u : Told). MemberFits nodes me.number (fold (noticed_told me) (Some (Some u)) found) (all_noticed me.number members m) carried)
+        (sym (foreign-noticed me low t (omega arith) (ap (λ (x : Spec). is_other x me.number low) same ∙ is))) skipped
     by false true is noticed skipped = skipped
     by false false is noticed skipped = skipped
 
 -- where the group was dropped no notice changes anything but what is noticed
-fits-gone : (nodes me : ℕ) (found bs : List ℕ) (m : Member) (carried : ℕ → List Entry) → SlotFits nodes me (Some None) m carried → SlotFits nodes me (fold noticed_for (Some None) found) (all_noticed me bs m) carried
+fits-gone : (nodes : ℕ) (me : NodeId) (found bs : List ℕ) (m : Member) (carried : ℕ → List Entry) → MemberFits nodes me.number (Some None) m carried → MemberFits nodes me.number (fold (noticed_told me) (Some None) found) (all_noticed me.number bs m) carried
 fits-gone nodes me [] [] m carried was = was
-fits-gone nodes me [] (b ∷ bs) m carried was = fits-gone nodes me [] bs (node_noticed me (node_numbered b) m) carried (fits-noticed nodes me (node_numbered b) (Some None) m carried was)
+fits-gone nodes me [] (b ∷ bs) m carried was = fits-gone nodes me [] bs (node_noticed me.number (node_numbered b) m) carried (fits-noticed nodes me (node_numbered b) (Some None) m carried was)
 fits-gone nodes me (x ∷ found) bs m carried was = fits-gone nodes me found bs m carried was
 
-none_noticed : (found : List ℕ) → fold noticed_for None found ≡ None
-none_noticed [] = refl
-none_noticed (b ∷ found) = none_noticed found
+none_noticed : (me : NodeId) (found : List ℕ) → fold (noticed_told me) None found ≡ None
+none_noticed me [] = refl
+none_noticed me (b ∷ found) = none_noticed me found
 
 -- The group.
 
@@ -166,17 +154,17 @@ module _ (plan : NodePlan) (g : Addr) (past : List Happened) (found : set.FinSet
   abbrev bs : Spec → List ℕ
   bs spec = filter (test spec) (range_with_len 0 NODES)
 
-  slot_was : SlotFits plan.nodes plan.me.number v.slot m carried
-  slot_was = record { slot = was.slot; inside = was.inside; put = was.put; taken = was.taken; acks = was.acks }
+  told_was : MemberFits plan.nodes plan.me.number v.told m carried
+  told_was = record { told = was.told; inside = was.inside; put = was.put; taken = was.taken; acks = was.acks }
 
-  slot_now : (o : Option (Option SlotState)) (spec : Spec) → m.spec ≡ Some spec → SlotFits plan.nodes plan.me.number o m carried → SlotFits plan.nodes plan.me.number (fold noticed_for o (rising found)) (all_noticed plan.me.number (bs spec) m) carried
+  told_now : (o : Option (Option Told)) (spec : Spec) → m.spec ≡ Some spec → MemberFits plan.nodes plan.me.number o m carried → MemberFits plan.nodes plan.me.number (fold (noticed_told plan.me) o (rising found)) (all_noticed plan.me.number (bs spec) m) carried
   unfolding rising
-  slot_now None spec is fits = absurd (clash (sym is ∙ fits.slot.spec))
+  told_now None spec is fits = absurd (clash (sym is ∙ fits.told.spec))
     where
       clash : Some spec ≡ None → ⊥
       clash e = cc
-  slot_now (Some None) spec is fits = fits-gone plan.nodes plan.me.number (filter (set.contains found) (range_with_len 0 NODES)) (bs spec) m carried fits
-  slot_now (Some (Some s)) spec is fits = fits-all plan.nodes plan.me.number (set.contains found) 0 NODES spec s m carried (omega arith) (some_same (sym fits.slot.spec ∙ is)) fits
+  told_now (Some None) spec is fits = fits-gone plan.nodes plan.me (filter (set.contains found) (range_with_len 0 NODES)) (bs spec) m carried fits
+  told_now (Some (Some s)) spec is fits = fits-all plan.nodes plan.me (set.contains found) 0 NODES spec s m carried (omega arith) (some_same (sym fits.told.spec ∙ is)) fits
     where
       some_same : Some s.spec ≡ Some spec → s.spec ≡ spec
       some_same e = ap (λ (x : Option Spec). spec_or x) e
@@ -189,13 +177,13 @@ module _ (plan : NodePlan) (g : Addr) (past : List Happened) (found : set.FinSet
   node_found : (b : ℕ) → set.contains found b ≡ true → b < NODES
   node_found b is = let low = (right.inside b is).0 in omega (arith, low, few)
 
-  goes_made : (spec : Spec) → v.made ≡ Some spec → Goes plan.nodes g plan.me frames_from (view_ticked found v) group (notices_of plan.me (bs spec))
+  goes_made : (spec : Spec) → v.made ≡ Some spec → Goes plan.nodes g plan.me frames_from (view_ticked plan.me found v) group (notices_of plan.me (bs spec))
   goes_made spec is = record {
     legal = notices_legal plan.nodes g.group plan.me 0 (bs spec) group (passing_rising (test spec) 0 NODES (omega arith)) (was.stopped ∙ running_unmet plan g past right.running) fresh;
     elsewhere = λ x other. notices_elsewhere plan.nodes g.group plan.me (bs spec) group x other;
-    there = subst (Fits plan.nodes g plan.me.number frames_from (view_ticked found v)) (sym (notices_there plan.nodes g.group plan.me (bs spec) group)) (record {
+    there = subst (Fits plan.nodes g plan.me.number frames_from (view_ticked plan.me found v)) (sym (notices_there plan.nodes g.group plan.me (bs spec) group)) (record {
       reserve = keeps.reserve ∙ was.reserve;
-      slot = now.slot;
+      told = now.told;
       inside = now.inside;
       put = now.put;
       taken = now.taken;
@@ -212,8 +200,8 @@ module _ (plan : NodePlan) (g : Addr) (past : List Happened) (found : set.FinSet
       keeps : KeepsRest m (all_noticed plan.me.number (bs spec) m)
       keeps = notices_keep plan.me.number (bs spec) m
 
-      now : SlotFits plan.nodes plan.me.number (fold noticed_for v.slot (rising found)) (all_noticed plan.me.number (bs spec) m) carried
-      now = slot_now v.slot spec (was.spec ∙ is) slot_was
+      now : MemberFits plan.nodes plan.me.number (fold (noticed_told plan.me) v.told (rising found)) (all_noticed plan.me.number (bs spec) m) carried
+      now = told_now v.told spec (was.spec ∙ is) told_was
 
       marked : (x : ℕ) → is_marked x (bs spec) ≡ test spec x
       marked x = passing_marked (test spec) (λ y t. node_found y (and_parts (is_other spec plan.me.number y) (set.contains found y) t).1) x
@@ -233,12 +221,12 @@ module _ (plan : NodePlan) (g : Addr) (past : List Happened) (found : set.FinSet
           by true n w = refl
           by false n w = refl
 
-  goes_unmade : v.made ≡ None → Goes plan.nodes g plan.me frames_from (view_ticked found v) group []
-  goes_unmade none = goes_none plan.nodes g plan.me frames_from (view_ticked found v) group (record {
+  goes_unmade : v.made ≡ None → Goes plan.nodes g plan.me frames_from (view_ticked plan.me found v) group []
+  goes_unmade none = goes_none plan.nodes g plan.me frames_from (view_ticked plan.me found v) group (record {
     reserve = was.reserve;
-    slot = subst (λ o. SlotIs plan.me.number o m) (sym later) was.slot;
+    told = subst (λ o. MemberIs o m) (sym later) was.told;
     inside = subst (IsInside plan.nodes) (sym later) was.inside;
-    put = λ b inside. was.put b inside ∙ ap (λ o. carried b ++ waiting_in o b) (sym later);
+    put = λ b inside. was.put b inside ∙ ap (λ o. carried b ++ waiting_of o b) (sym later);
     taken = was.taken;
     replies = was.replies;
     spec = was.spec;
@@ -249,7 +237,7 @@ module _ (plan : NodePlan) (g : Addr) (past : List Happened) (found : set.FinSet
     acks = subst (λ o. KeepsAcks plan.nodes plan.me.number o carried m.done) (sym later) was.acks;
   })
     where
-      absent : (o : Option (Option SlotState)) → SlotIs plan.me.number o m → o ≡ None
+      absent : (o : Option (Option Told)) → MemberIs o m → o ≡ None
       absent None st = refl
       absent (Some None) st = absurd (clash (sym st.made ∙ ap is_there (was.spec ∙ none)))
         where
@@ -264,13 +252,13 @@ module _ (plan : NodePlan) (g : Addr) (past : List Happened) (found : set.FinSet
           clash : Some s.spec ≡ None → ⊥
           clash e = cc
 
-      later : fold noticed_for v.slot (rising found) ≡ v.slot
-      later = ap (λ o. fold noticed_for o (rising found)) (absent v.slot was.slot) ∙ (none_noticed (rising found) ∙ sym (absent v.slot was.slot))
+      later : fold (noticed_told plan.me) v.told (rising found) ≡ v.told
+      later = ap (λ o. fold (noticed_told plan.me) o (rising found)) (absent v.told was.told) ∙ (none_noticed plan.me (rising found) ∙ sym (absent v.told was.told))
 
   -- time passes, and nodes are noticed
   pub ticked_goes : Goes plan.nodes g plan.me frames_from (view_of plan g (ticking found ∷ past)) group (ticked plan.me (set.contains found) (made_with g past))
   ticked_goes = subst (λ w. Goes plan.nodes g plan.me frames_from w group (ticked plan.me (set.contains found) (made_with g past))) (sym (ticked_view plan g past found right)) (by v.made refl)
     where
-      by : (o : Option Spec) → v.made ≡ o → Goes plan.nodes g plan.me frames_from (view_ticked found v) group (ticked plan.me (set.contains found) o)
+      by : (o : Option Spec) → v.made ≡ o → Goes plan.nodes g plan.me frames_from (view_ticked plan.me found v) group (ticked plan.me (set.contains found) o)
       by None is = goes_unmade is
       by (Some spec) is = goes_made spec is

@@ -1,5 +1,5 @@
 -- What a group has at a node, read from the node's past, and how it stands for the group alone.
-use Rattle.std.specs.Prelude.{ℕ, ◌+◌, ◌≡◌, ◌≢◌, ◌≤◌, ◌<◌, ◌&&◌, ◌||◌, nat_eq, get_or, Bool, true, false, List, [], ◌++◌, length, Option, Some, None, is_some, option_map}
+use Rattle.std.specs.Prelude.{ℕ, ◌+◌, ◌≡◌, ◌≢◌, ◌≤◌, ◌<◌, ◌&&◌, Bool, true, false, List, [], ◌++◌, length, Option, Some, None, is_some, option_map}
 use Rattle.std.specs.FinSet as set
 use Rattle.gb_types.specs.declared.address.Addr.{Addr}
 use Rattle.gb_types.specs.declared.entry.Entry.{Entry}
@@ -7,18 +7,16 @@ use Rattle.gb_types.specs.declared.node.NodeId.{NodeId}
 use Rattle.gb_types.specs.declared.reply.Reply.{Reply}
 use Rattle.gb_types.specs.declared.spec.Spec.{Spec}
 use Rattle.gb_frame.specs.declared.item.Item.{Item}
+use Rattle.gb_history.specs.History.{said_in}
 use Rattle.gb_rules.specs.Group.{is_gone, is_other, is_member}
 use Rattle.gb_rules.specs.Tenant.{reserve_of, row_of}
 use Rattle.gb_rules.specs.declared.phase.Phase.TheVariants.{Made, Gone}
 use Rattle.gb_rules.specs.declared.reserve.Reserve.{Reserve}
-use Rattle.gb_slot.specs.SlotState.{SlotState}
-use Rattle.gb_slot.specs.StandsFor.{StandsFor}
 use Rattle.gb_alone.specs.Alone.{Member, Group, alone, alone_from, is_marked, is_acknowledged, IsLegal, IsLegalFrom}
 use Rattle.gb_alone.specs.declared.event.GroupStep.{GroupStep}
-use Rattle.gb_groups.specs.OneGroup.{waiting_in}
 use Rattle.gb_node.specs.NodeStep.{node_numbered}
 use Rattle.gb_node.specs.Past.{Happened, frames_to, is_acked, is_taken, tenants_in}
-use Rattle.gb_node.specs.PastGroups.{noticed_in, group_of}
+use Rattle.gb_node.specs.PastGroups.{Told, noticed_in, waiting_of, told_of}
 use Rattle.gb_node.specs.declared.plan.NodePlan.{NodePlan}
 use Rattle.gb_cluster.specs.ClusterValue.{node_plan}
 use Rattle.gb_cluster.specs.Run.{Did, past_at}
@@ -29,8 +27,8 @@ use Rattle.gb_isolation.specs.Project.{project, items_of, offset, made_with, rep
 pub record View : Type 0 where
   -- what its tenant may have
   pub reserve : Option Reserve
-  -- what is kept of it
-  pub slot : Option (Option SlotState)
+  -- what the past tells of it
+  pub told : Option (Option Told)
   -- what it was made with
   pub made : Option Spec
   -- whether a node is noticed there
@@ -47,7 +45,7 @@ pub record View : Type 0 where
 abbrev pub view_of : NodePlan → Addr → List Happened → View
 view_of plan g past = record {
   reserve = option_map reserve_of (row_of g.tenant (tenants_in past));
-  slot = group_of plan g past;
+  told = told_of plan g past;
   made = made_with g past;
   noticed = set.contains (noticed_in plan past);
   replies = replies_in plan g past;
@@ -70,18 +68,17 @@ pub record WasDropped (m : Member) : Type 0 where
   pub gone : m.phase ≡ Gone
   pub made : is_some m.spec ≡ true
 
--- the slot stands for the group there
-pub record SlotStands (me : ℕ) (s : SlotState) (m : Member) : Type 0 where
-  pub spec : m.spec ≡ Some s.spec
-  pub phase : m.phase ≡ s.phase
-  pub present : is_gone s.phase ≡ false
-  pub here : s.me.number ≡ me
-  pub history : StandsFor s m.told
+-- the group is there as it is told of
+pub record IsThere (t : Told) (m : Member) : Type 0 where
+  pub spec : m.spec ≡ Some t.spec
+  pub phase : m.phase ≡ t.phase
+  pub present : is_gone t.phase ≡ false
+  pub calls : m.told ≡ t.calls
 
-abbrev pub SlotIs : ℕ → Option (Option SlotState) → Member → Type 0
-SlotIs me None m = NotMade m
-SlotIs me (Some None) m = WasDropped m
-SlotIs me (Some (Some s)) m = SlotStands me s m
+abbrev pub MemberIs : Option (Option Told) → Member → Type 0
+MemberIs None m = NotMade m
+MemberIs (Some None) m = WasDropped m
+MemberIs (Some (Some t)) m = IsThere t m
 
 -- of these frames' items those of the frames whose numbers pass the test are marked
 pub record AreMarked (g : Addr) (fs : List (List Item)) (test : ℕ → Bool) (marks : List ℕ) : Type 0 where
@@ -89,13 +86,25 @@ pub record AreMarked (g : Addr) (fs : List (List Item)) (test : ℕ → Bool) (m
   -- and no place beyond
   pub beyond : (place : ℕ) → length (items_of g fs) < place → is_marked place marks ≡ false
 
--- a slot keeps of each of its own messages which nodes have it for good: this one, and those at whose places it is acknowledged
-abbrev pub KeepsAcks : ℕ → ℕ → Option (Option SlotState) → (ℕ → List Entry) → (ℕ → List ℕ) → Type 0
-KeepsAcks nodes me o carried done = (s : SlotState) → o ≡ Some (Some s) → (b k : ℕ) → b < nodes → k < length s.acknowledged → set.contains (get_or s.acknowledged k set.empty) b ≡ (nat_eq b me || is_acknowledged me (k + 1) (done b) 1 (carried b))
+-- how many messages were said there, and which of them, by number, a node acknowledged
+abbrev pub said_of : Option (Option Told) → ℕ
+said_of None = 0
+said_of (Some None) = 0
+said_of (Some (Some t)) = said_in t.calls
 
--- the members of a slot's group are nodes of the cluster
-abbrev pub IsInside : ℕ → Option (Option SlotState) → Type 0
-IsInside nodes o = (s : SlotState) → o ≡ Some (Some s) → (b : ℕ) → is_member s.spec b ≡ true → b < nodes
+abbrev pub acknowledged_of : Option (Option Told) → ℕ → ℕ → Bool
+acknowledged_of None seq b = false
+acknowledged_of (Some None) seq b = false
+acknowledged_of (Some (Some t)) seq b = t.acknowledged seq b
+
+-- a node acknowledged one of them where its place is marked, and none that was not said
+pub record KeepsAcks (nodes me : ℕ) (o : Option (Option Told)) (carried : ℕ → List Entry) (done : ℕ → List ℕ) : Type 0 where
+  pub each : (b k : ℕ) → b < nodes → k < said_of o → acknowledged_of o (k + 1) b ≡ is_acknowledged me (k + 1) (done b) 1 (carried b)
+  pub beyond : (b seq : ℕ) → said_of o < seq → acknowledged_of o seq b ≡ false
+
+-- its members are nodes of the cluster
+abbrev pub IsInside : ℕ → Option (Option Told) → Type 0
+IsInside nodes o = (t : Told) → o ≡ Some (Some t) → (b : ℕ) → is_member t.spec b ≡ true → b < nodes
 
 -- a node that was noticed is so in a group where it is another member
 abbrev pub is_concerned : ℕ → ℕ → Option Spec → Bool
@@ -105,9 +114,9 @@ is_concerned me b (Some spec) = is_other spec me b
 -- The view is that of the group alone at the node me of so many, to which the other nodes packed these frames.
 pub record Fits (nodes : ℕ) (g : Addr) (me : ℕ) (frames_from : ℕ → List (List Item)) (v : View) (m : Member) : Type 0 where
   pub reserve : m.reserve ≡ v.reserve
-  pub slot : SlotIs me v.slot m
-  pub inside : IsInside nodes v.slot
-  pub put : (b : ℕ) → b < nodes → m.put b ≡ items_of g (v.frames b) ++ waiting_in v.slot b
+  pub told : MemberIs v.told m
+  pub inside : IsInside nodes v.told
+  pub put : (b : ℕ) → b < nodes → m.put b ≡ items_of g (v.frames b) ++ waiting_of v.told b
   pub taken : (b : ℕ) → b < nodes → m.taken b ≡ length (items_of g (v.frames b))
   pub replies : m.replies ≡ v.replies
   pub spec : m.spec ≡ v.made
@@ -116,7 +125,7 @@ pub record Fits (nodes : ℕ) (g : Addr) (me : ℕ) (frames_from : ℕ → List 
   -- the items of the frames that were taken have come, and those of the frames that were acknowledged are done
   pub come : (b : ℕ) → b < nodes → AreMarked g (frames_from b) (v.taken b) (m.come b)
   pub done : (b : ℕ) → b < nodes → AreMarked g (v.frames b) (v.acked b) (m.done b)
-  pub acks : KeepsAcks nodes me v.slot (λ b. items_of g (v.frames b)) m.done
+  pub acks : KeepsAcks nodes me v.told (λ b. items_of g (v.frames b)) m.done
 
 -- What events give a group at a node: they may happen, after them the view is the group's there, and nothing else has changed.
 pub record Goes (nodes : ℕ) (g : Addr) (a : NodeId) (frames_from : ℕ → List (List Item)) (v : View) (group : Group) (given : List GroupStep) : Type 0 where

@@ -6,9 +6,8 @@ use Rattle.gb_types.specs.declared.node.NodeId.{NodeId}
 use Rattle.gb_types.specs.declared.refusal.Refusal.TheVariants.{OutOfMemory}
 use Rattle.gb_types.specs.declared.reply.Reply.{Reply}
 use Rattle.gb_types.specs.declared.reply.Reply.TheVariants.{Refused}
-use Rattle.gb_slot.specs.Slot.{shown}
-use Rattle.gb_slot.specs.SlotState.{SlotState}
-use Rattle.gb_groups.specs.OneGroup.{group_in, waiting_in}
+use Rattle.gb_rules.specs.Group.{Shown}
+use Rattle.gb_node.specs.NodeGroups.{shown_at, waiting_at}
 use Rattle.gb_node.specs.Past.{frames_to}
 use Rattle.gb_node.specs.declared.answer.Halted.TheVariants.{Refused as HaltRefused}
 use Rattle.gb_node.specs.declared.answer.NodeAnswer.{NodeAnswer}
@@ -24,10 +23,10 @@ use Rattle.gb_types.specs.declared.plan.Plan.{Plan}
 use Rattle.gb_isolation.specs.Project.{project, items_of, replies_in, is_fed}
 
 -- what was delivered in a group; nothing where it was not made, or was dropped
-abbrev pub log_in : Option (Option SlotState) → List Entry
+abbrev pub log_in : Option (Option Shown) → List Entry
 log_in None = []
 log_in (Some None) = []
-log_in (Some (Some s)) = (shown s).log
+log_in (Some (Some x)) = x.log
 
 -- what is seen of a group at a node, and towards another node
 pub record Seen : Type 0 where
@@ -38,16 +37,12 @@ pub record Seen : Type 0 where
   -- the items put out to the other node: those that are carried, then those that wait
   pub put : List Entry
 
--- the group as a node keeps it
-abbrev pub group_at : ClusterValue → Addr → NodeId → Option (Option SlotState)
-group_at v g a = group_in g (node_at v a).table.groups.rows
-
 -- what is seen in a run: replies and carried items stand in what happened, log and waiting items in the nodes
 abbrev pub seen_in : Plan → List Did → ClusterValue → Addr → NodeId → NodeId → Seen
 seen_in plan run v g a b = record {
   replies = replies_in (node_plan plan a) g (past_at a run);
-  log = log_in (group_at v g a);
-  put = items_of g (frames_to plan.cluster_key b.number (past_at a run)) ++ waiting_in (group_at v g a) b.number;
+  log = log_in (shown_at (node_at v a) g);
+  put = items_of g (frames_to plan.cluster_key b.number (past_at a run)) ++ waiting_at (node_at v a) g b.number;
 }
 
 -- what is seen of a group alone

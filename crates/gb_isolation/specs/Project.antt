@@ -20,8 +20,7 @@ use Rattle.gb_rules.specs.Group.{is_other}
 use Rattle.gb_rules.specs.Tenant.{reserve_of}
 use Rattle.gb_alone.specs.declared.event.GroupEvent.TheVariants.{Tenant, Make as AskMake, Open as AskOpen, Shut as AskShut, Drop as AskDrop, Say as AskSay, Fetch as AskFetch, Took, Came, Done as Acknowledged, Notice, Stop as Ends}
 use Rattle.gb_alone.specs.declared.event.GroupStep.{GroupStep}
-use Rattle.gb_groups.specs.AtAddress.{entry_of}
-use Rattle.gb_groups.specs.OneGroup.{items_for}
+use Rattle.gb_frame.specs.Items.{entry_of, items_for}
 use Rattle.gb_node.specs.NodeStep.{node_numbered}
 use Rattle.gb_node.specs.Past.{Happened, read, frames_to, is_acked, is_frame, came, is_stopped}
 use Rattle.gb_node.specs.PastGroups.{noticed_in}

@@ -17,7 +17,7 @@ use Rattle.gb_history.specs.Messages.{has}
 use Rattle.gb_alone.specs.Laws.{Accepted, IsAccepted, KeepsIntegrity, KeepsOrder}
 use Rattle.gb_duties.specs.Agreement.{IsRunning, KeepsAgreement}
 use Rattle.gb_duties.specs.Duties.{HasHad, KeepsDuties, delivered_at}
-use Rattle.gb_groups.specs.OneGroup.{waiting_in}
+use Rattle.gb_node.specs.NodeGroups.{waiting_at}
 use Rattle.gb_node.specs.NodeStep.{node_numbered}
 use Rattle.gb_node.specs.Past.{Happened, frames_to, is_taken}
 use Rattle.gb_node.specs.PastGroups.{noticed_in}
@@ -26,10 +26,10 @@ use Rattle.gb_node.specs.declared.answer.NodeAnswer.TheVariants.{Reply as Replie
 use Rattle.gb_node.specs.declared.event.NodeEvent.{NodeEvent}
 use Rattle.gb_node.specs.declared.event.NodeEvent.TheVariants.{Request as Asked}
 use Rattle.gb_node.specs.declared.plan.NodePlan.{NodePlan}
-use Rattle.gb_cluster.specs.ClusterValue.{ClusterValue, node_plan}
+use Rattle.gb_cluster.specs.ClusterValue.{ClusterValue, node_plan, node_at}
 use Rattle.gb_cluster.specs.Run.{Did, ComesTo, past_at}
 use Rattle.gb_types.specs.declared.plan.Plan.{Plan}
-use Rattle.gb_isolation.specs.Isolation.{seen_in, group_at, alone_in}
+use Rattle.gb_isolation.specs.Isolation.{seen_in, alone_in}
 use Rattle.gb_isolation.specs.Project.{project, items_in, is_own, made_with, is_fed}
 
 -- What was accepted.
@@ -120,7 +120,7 @@ pub record IsSettledIn (plan : Plan) (run : List Did) (v : ClusterValue) (g : Ad
   -- no running member has dropped it
   pub kept : (a : ℕ) → IsRunning runs spec a → is_dropped g (past_at (node_numbered a) run) ≡ false
   -- from one running member to another nothing waits, and each frame with an item of the group was taken
-  pub carried : (a b : ℕ) → IsRunning runs spec a → IsRunning runs spec b → a ≢ b → waiting_in (group_at v g (node_numbered a)) b ≡ []
+  pub carried : (a b : ℕ) → IsRunning runs spec a → IsRunning runs spec b → a ≢ b → waiting_at (node_at v (node_numbered a)) g b ≡ []
   pub came : (a b : ℕ) → IsRunning runs spec a → IsRunning runs spec b → a ≢ b → (n : ℕ) (frame : List Item) → slice_get (frames_to plan.cluster_key b (past_at (node_numbered a) run)) n ≡ Some frame → items_in g frame ≢ []
       → is_taken plan.cluster_key a (n + 1) (past_at (node_numbered b) run) ≡ true
   -- each stopped member is noticed at each running one, and no running one at any member

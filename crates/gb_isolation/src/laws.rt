@@ -5,9 +5,7 @@ ghost use Rattle.gb_isolation.specs.RunLaws.{GroupsDoTheirDuties, GroupsKeepInte
 use gb_alone::laws::{integrity, order};
 use gb_cluster::laws::{links_hold, nothing_is_outside};
 use gb_duties::laws::{agreement, duties};
-use gb_fifo::order::gives_up_whole_runs;
 use gb_node::past::{answers_say, pasts_say};
-use gb_stack::stands::module_logs;
 
 /// The main law: for every plan, every run of a cluster and every group of which no request was refused for want of
 /// memory, what concerns the group in the run is a legal list of events of the group by itself, and its replies, its logs,
@@ -72,8 +70,6 @@ pub fn groups_do_their_duties()
     answers_say();
     links_hold();
     nothing_is_outside();
-    module_logs();
-    gives_up_whole_runs();
     duties();
 }
 

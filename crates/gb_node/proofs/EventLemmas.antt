@@ -24,7 +24,7 @@ use Rattle.gb_table.specs.Requests.{table_did}
 use Rattle.gb_node.specs.NodeValue.{NodeValue}
 use Rattle.gb_node.specs.NodeStep.{window_to, receiver_from, node_did, stopped_answer, IsStarved}
 use Rattle.gb_node.specs.Past.{Happened, came, packed_for, numbered, is_ack, is_taken_by, ticks, added, stops}
-use Rattle.gb_node.specs.PastGroups.{Told, noticed_in, asked_for, asked_told, group_after, told_after}
+use Rattle.gb_node.specs.PastGroups.{Told, noticed_in, asked_told, told_after}
 use Rattle.gb_node.specs.SendLaw.{StarvedSays}
 use Rattle.gb_node.specs.declared.plan.NodePlan.{NodePlan}
 use Rattle.gb_node.specs.declared.answer.NodeAnswer.{NodeAnswer}
@@ -32,6 +32,7 @@ use Rattle.gb_node.specs.declared.answer.NodeAnswer.TheVariants.{Reply as Replie
 use Rattle.gb_node.specs.declared.answer.Sent.TheVariants.{Packet as SentPacket, Nothing, Refused as SentRefused}
 use Rattle.gb_node.specs.declared.event.NodeEvent.{NodeEvent}
 use Rattle.gb_node.specs.declared.event.NodeEvent.TheVariants.{Request as Asked, Packet as Came, Pack, Again, Ack, Tick, Stop}
+use Rattle.gb_node.proofs.SlotGroups.{asked_for, group_after}
 use Rattle.gb_node.proofs.PastLemmas.{Moved, filter_all}
 
 -- A step at which no packet is taken or packed.

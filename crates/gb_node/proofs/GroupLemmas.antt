@@ -35,8 +35,10 @@ use Rattle.gb_link.specs.declared.receiver.Admission.TheVariants.{First, Seen, O
 use Rattle.gb_slot.specs.SlotState.{SlotState}
 use Rattle.gb_slot.specs.Slot.{new_slot, slot_moved, slot_said, slot_noticed, slot_came, slot_done, slot_took}
 use Rattle.gb_groups.specs.SlotsValue.{AreApart}
-use Rattle.gb_groups.specs.AtAddress.{address_of, entry_of, item_came, place_of}
-use Rattle.gb_groups.specs.OneGroup.{group_in, stepped, where_so, names, items_for, item_for, waiting_in, came_for, EachGroup, StayApart}
+use Rattle.gb_frame.specs.Items.{address_of, entry_of, names, items_for, item_for}
+use Rattle.gb_groups.specs.AtAddress.{item_came, place_of}
+use Rattle.gb_rules.specs.Lifetime.{stepped, where_so}
+use Rattle.gb_groups.specs.OneGroup.{group_in, waiting_in, came_for, EachGroup, StayApart}
 use Rattle.gb_rules.specs.Tenant.{make_answer, by_tenant}
 use Rattle.gb_rules.specs.declared.reserve.Reserve.{Reserve}
 use Rattle.gb_table.specs.TableValue.{TableValue, reserve_for, table_noticed, table_packed}
@@ -44,8 +46,8 @@ use Rattle.gb_table.specs.Requests.{is_admitted, table_did, table_reply}
 use Rattle.gb_node.specs.NodeValue.{NodeValue}
 use Rattle.gb_node.specs.NodeStep.{node_numbered, window_to, receiver_from, is_reached, content_to, batch_to, unless_empty, next_batch, sent_batch, newly_done, took_ack, heard, good_of, node_took, node_ticked, node_did, item_done, frame_done, item_comes, items_come, fate, kind_of, frame_comes, notice_each}
 use Rattle.gb_node.specs.Past.{Happened, packet_in, read, packed_for, frames_to, numbered, is_acked, is_first}
-use Rattle.gb_node.specs.PastGroups.{freed_by, items_freed, asked_for, done_for, taken_for, packed_from, noticed_for, group_after}
-use Rattle.gb_node.specs.PastLaw.{IsOfPast}
+use Rattle.gb_node.specs.PastGroups.{freed_by, items_freed}
+use Rattle.gb_node.proofs.SlotGroups.{asked_for, done_for, taken_for, packed_from, noticed_for, group_after, StandsForPast}
 use Rattle.gb_node.specs.declared.plan.NodePlan.{NodePlan}
 use Rattle.gb_node.specs.declared.answer.NodeAnswer.{NodeAnswer}
 use Rattle.gb_node.specs.declared.answer.NodeAnswer.TheVariants.{Reply as Replied, Taken, Sent, Ticked, Halted}
@@ -242,7 +244,7 @@ module _ (law : StayApart) where
   notices_apart t found ok = apart_all (λ t b. table_noticed (node_numbered b) t) (λ t b ok. law.every (slot_noticed (node_numbered b)) t.groups.rows ok) t found ok
 
 -- What each event makes of each group, in the words of the past.
-module _ (each : EachGroup) (plan : NodePlan) (past : List Happened) (v : NodeValue) (was : IsOfPast plan past v) (g : Addr) where
+module _ (each : EachGroup) (plan : NodePlan) (past : List Happened) (v : NodeValue) (was : StandsForPast plan past v) (g : Addr) where
   pub asked_groups : (r : Request) (reply : Reply) → group_in g (node_did r reply v).table.groups.rows ≡ group_after plan g past (Asked r) (Replied reply) (group_in g v.table.groups.rows)
   asked_groups r reply =
       did_for each v.watch.noticed g r reply v.table

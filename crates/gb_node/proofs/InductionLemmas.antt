@@ -20,16 +20,19 @@ use Rattle.gb_frame.specs.Spelling.{packet_text, IsPacket}
 use Rattle.gb_frame.specs.Laws.{WhatIsWrittenIsRead}
 use Rattle.gb_link.specs.SendWindow.{SendWindow, new_window, pushed}
 use Rattle.gb_detect.specs.Watch.{due}
+use Rattle.gb_slot.specs.Slot.{shown}
 use Rattle.gb_groups.specs.SlotsValue.{AreApart}
-use Rattle.gb_groups.specs.OneGroup.{group_in, items_for, waiting_in, EachGroup, StayApart}
+use Rattle.gb_frame.specs.Items.{items_for}
+use Rattle.gb_groups.specs.OneGroup.{group_in, waiting_in, EachGroup, StayApart}
 use Rattle.gb_table.specs.Requests.{table_reply}
 use Rattle.gb_detect.specs.Silence.{is_noticed}
 use Rattle.gb_detect.specs.Laws.{NoticedByCalls}
 use Rattle.gb_node.specs.NodeValue.{NodeValue, new_node, IsNodePlan}
 use Rattle.gb_node.specs.NodeStep.{fate, Turn, turn, running_turn, stopped_answer, IsTurn, IsSpelt, is_here, if_here, taken_answer, node_read, next_batch, sent, sent_batch, content_to, window_to, receiver_from, node_numbered, newly_done, heard, took_ack, without_done, receives, again_content, ack_content}
 use Rattle.gb_node.specs.Past.{Happened, ComesTo, read, packet_in, frames_to, numbered, is_acked, is_taken, watched, tenants_in, is_stopped}
-use Rattle.gb_node.specs.PastGroups.{noticed_in, taken_for, taken_told, packed_from, group_after, group_of, told_after, told_of, IsTold}
+use Rattle.gb_node.specs.PastGroups.{noticed_in, taken_told, packed_told, told_after, told_of}
 use Rattle.gb_node.specs.PastLaw.{IsOfPast, PastsSay}
+use Rattle.gb_node.proofs.SlotGroups.{taken_for, packed_from, group_after, group_of, IsTold, StandsForPast}
 use Rattle.gb_node.specs.declared.plan.NodePlan.{NodePlan}
 use Rattle.gb_node.specs.declared.answer.NodeAnswer.{NodeAnswer}
 use Rattle.gb_node.specs.declared.answer.NodeAnswer.TheVariants.{Taken, Sent}
@@ -38,6 +41,7 @@ use Rattle.gb_node.specs.declared.event.NodeEvent.{NodeEvent}
 use Rattle.gb_node.specs.declared.event.NodeEvent.TheVariants.{Request as Asked, Packet as Came, Pack, Again, Ack, Tick, Stop}
 use Rattle.gb_node.proofs.PastLemmas.{Moved, moved_says}
 use Rattle.gb_node.proofs.EventLemmas.{quiet_moved, stopped_moved, starved_moved, asked_moved, stopped_group, starved_group, LeavesGroup}
+use Rattle.gb_node.proofs.ShownLemmas.{told_shown, told_waiting}
 use Rattle.gb_node.proofs.ToldLemmas.{SlotLaws, asked_stands, taken_stands, packed_stands, noticed_stands}
 use Rattle.gb_node.proofs.GroupLemmas.{waiting_enough, asked_groups, took_groups, packed_groups, ticked_groups, next_items, did_apart, frames_done_apart, frame_comes_apart, notices_apart}
 use Rattle.gb_node.proofs.LinkLemmas.{took_moved, packed_moved, ticked_moved, halted_moved, told as packet_told}
@@ -55,7 +59,7 @@ record Goes (plan : NodePlan) (past : List Happened) (v : NodeValue) (e : NodeEv
   apart : AreApart w.table.groups.rows
   told : (g : Addr) → IsTold plan.me (group_after plan g past e a (group_of plan g past)) (told_after plan g past e a (told_of plan g past))
 
-module _ (law : WhatIsWrittenIsRead) (each : EachGroup) (stay : StayApart) (slots : SlotLaws) (few : NoticedByCalls) (plan : NodePlan) (right : IsNodePlan plan) (past : List Happened) (v : NodeValue) (was : IsOfPast plan past v) (has : HasTables v) (ok : AreApart v.table.groups.rows) where
+module _ (law : WhatIsWrittenIsRead) (each : EachGroup) (stay : StayApart) (slots : SlotLaws) (few : NoticedByCalls) (plan : NodePlan) (right : IsNodePlan plan) (past : List Happened) (v : NodeValue) (was : StandsForPast plan past v) (has : HasTables v) (ok : AreApart v.table.groups.rows) where
   -- a group that an event leaves is told nothing
   left : (g : Addr) (e : NodeEvent) (a : NodeAnswer) → LeavesGroup plan g past e a → IsTold plan.me (group_after plan g past e a (group_of plan g past)) (told_after plan g past e a (told_of plan g past))
   left g e a leaves = subst (λ o. IsTold plan.me o (told_after plan g past e a (told_of plan g past))) (leaves.0 (group_of plan g past)) (subst (IsTold plan.me (group_of plan g past)) (leaves.1 (told_of plan g past)) (was.told g))
@@ -86,7 +90,7 @@ module _ (law : WhatIsWrittenIsRead) (each : EachGroup) (stay : StayApart) (slot
       told = λ g.
           let one : read plan.cluster_key bytes ≡ c ∷ [] = ap (λ k. read k bytes) (sym was.key) ∙ ap packet_in is in
           let frame = fate c.frame (receiver_from v c.from) in
-          subst (λ cs. IsTold plan.me (fold (taken_for plan.cluster_key g past frame) (group_of plan g past) cs) (fold (taken_told plan.me g frame) (told_of plan g past) cs)) (sym one)
+          subst (λ cs. IsTold plan.me (fold (taken_for plan.cluster_key g past frame) (group_of plan g past) cs) (fold (taken_told plan.me plan.cluster_key g past frame) (told_of plan g past) cs)) (sym one)
           (taken_stands slots plan.me plan.cluster_key g past frame (group_of plan g past) (told_of plan g past) c (was.told g));
     })
     | inr h ↦ rw h (faulty bytes Node)
@@ -111,7 +115,7 @@ module _ (law : WhatIsWrittenIsRead) (each : EachGroup) (stay : StayApart) (slot
         told = λ g.
             let c = content_to v b (window_to v b.number).next items in
             let one : read plan.cluster_key (packet_text v.key c) ≡ c ∷ [] = ap (λ k. read k (packet_text v.key c)) (sym was.key) ∙ packet_told v b items law fit has.windows in
-            subst (λ cs. IsTold plan.me (fold (packed_from g b) (group_of plan g past) cs) (told_of plan g past)) (sym one)
+            subst (λ cs. IsTold plan.me (fold (packed_from g b) (group_of plan g past) cs) (fold (packed_told g b) (told_of plan g past) cs)) (sym one)
             (packed_stands slots plan.me b (items_for g items) (group_of plan g past) (told_of plan g past) (λ s there. subst (λ o. length (items_for g items) ≤ length (waiting_in o b.number)) (was.groups g ∙ there) (waiting_enough each v b g items ok (next_items v b items is))) (was.told g));
       }
 
@@ -158,7 +162,7 @@ module _ (law : WhatIsWrittenIsRead) (each : EachGroup) (stay : StayApart) (slot
   goes e a w (inl starved) spelt = subst (Goes plan past v e a) (sym starved.1) (record { moved = starved_moved v.key e (turn v e).answer a v starved.0; tables = has; groups = λ g. (starved_group plan g past e (turn v e).answer a starved.0).0 (group_in g v.table.groups.rows); apart = ok; told = λ g. left g e a (starved_group plan g past e (turn v e).answer a starved.0) })
   goes e a w (inr went) spelt = subst (Goes plan past v e a) (sym went.1) (subst (λ x. IsSpelt v e x → Goes plan past v e x (turn v e).value) (sym went.0) (turn_goes e) spelt)
 
-new_says : (plan : NodePlan) → IsOfPast plan [] (new_node plan)
+new_says : (plan : NodePlan) → StandsForPast plan [] (new_node plan)
 unfolding frames_to numbered is_acked is_taken watched tenants_in is_stopped group_of told_of
 new_says plan = record {
   key = refl;
@@ -177,7 +181,7 @@ new_says plan = record {
 }
 
 pub record Standing (plan : NodePlan) (past : List Happened) (v : NodeValue) : Type 0 where
-  pub says : IsOfPast plan past v
+  pub says : StandsForPast plan past v
   pub tables : HasTables v
   pub apart : AreApart v.table.groups.rows
 
@@ -203,5 +207,23 @@ module _ (law : WhatIsWrittenIsRead) (each : EachGroup) (stay : StayApart) (slot
         apart = step.apart;
       }
 
+-- what a node is, and what it shows of each group, the past says
+pub of_past : SlotLaws → (plan : NodePlan) (past : List Happened) (v : NodeValue) → StandsForPast plan past v → IsOfPast plan past v
+of_past slots plan past v was = record {
+  key = was.key;
+  me = was.me;
+  nodes = was.nodes;
+  places = was.places;
+  admin_key = was.admin_key;
+  stopped = was.stopped;
+  watch = was.watch;
+  tenants = was.tenants;
+  next = was.next;
+  undone = was.undone;
+  received = was.received;
+  shown = λ g. ap (option_map (option_map shown)) (was.groups g) ∙ told_shown slots.log plan.me (group_of plan g past) (told_of plan g past) (was.told g);
+  waiting = λ g b. ap (λ o. waiting_in o b) (was.groups g) ∙ told_waiting plan.me (group_of plan g past) (told_of plan g past) b (was.told g);
+}
+
 pub pasts_say : WhatIsWrittenIsRead → EachGroup → StayApart → SlotLaws → NoticedByCalls → PastsSay
-pasts_say law each stay slots few plan past v comes = (stands law each stay slots few plan past v comes).says
+pasts_say law each stay slots few plan past v comes = of_past slots plan past v (stands law each stay slots few plan past v comes).says

@@ -3,12 +3,17 @@ pub mod AckLemmas
 pub mod PackLemmas
 pub mod NodeLemmas
 pub mod TookLemmas
+pub mod SlotGroups
 pub mod PastLemmas
 pub mod EventLemmas
 pub mod LinkLemmas
 pub mod InductionLemmas
 pub mod GroupLemmas
+pub mod FreshLemmas
+pub mod WaitsLemmas
+pub mod AcknowledgedLemmas
 pub mod ToldLemmas
+pub mod ShownLemmas
 pub mod ReadLemmas
 pub mod SetLemmas
 pub mod SentLemmas

@@ -16,8 +16,8 @@ use Rattle.gb_groups.specs.OneGroup.{group_in}
 use Rattle.gb_node.specs.NodeValue.{NodeValue}
 use Rattle.gb_node.specs.NodeStep.{window_to, receiver_from}
 use Rattle.gb_node.specs.Past.{Happened, came, packed_for, frames_to, numbered, is_ack, is_acked, is_taken_by, is_taken, ticks, watched, added, tenants_in, stops, is_stopped}
-use Rattle.gb_node.specs.PastGroups.{group_after, group_of, told_after, told_of, IsTold}
-use Rattle.gb_node.specs.PastLaw.{IsOfPast}
+use Rattle.gb_node.specs.PastGroups.{told_after, told_of}
+use Rattle.gb_node.proofs.SlotGroups.{group_after, group_of, IsTold, StandsForPast}
 use Rattle.gb_node.specs.declared.plan.NodePlan.{NodePlan}
 use Rattle.gb_node.specs.declared.answer.NodeAnswer.{NodeAnswer}
 use Rattle.gb_node.specs.declared.event.NodeEvent.{NodeEvent}
@@ -110,9 +110,9 @@ pub record Moved (key : List ℕ) (e : NodeEvent) (a : NodeAnswer) (v w : NodeVa
   pub received : (b : NodeId) (n : ℕ) → set.contains (receiver_from w b.number) n ≡ (is_taken_by key b.number n e a || set.contains (receiver_from v b.number) n)
 
 -- so the past says what the node is then
-pub moved_says : (plan : NodePlan) (past : List Happened) (e : NodeEvent) (a : NodeAnswer) (v w : NodeValue) → IsOfPast plan past v → Moved plan.cluster_key e a v w
+pub moved_says : (plan : NodePlan) (past : List Happened) (e : NodeEvent) (a : NodeAnswer) (v w : NodeValue) → StandsForPast plan past v → Moved plan.cluster_key e a v w
     → ((g : Addr) → group_in g w.table.groups.rows ≡ group_after plan g past e a (group_in g v.table.groups.rows))
-    → ((g : Addr) → IsTold plan.me (group_after plan g past e a (group_of plan g past)) (told_after plan g past e a (told_of plan g past))) → IsOfPast plan (record { event = e; answer = a } ∷ past) w
+    → ((g : Addr) → IsTold plan.me (group_after plan g past e a (group_of plan g past)) (told_after plan g past e a (told_of plan g past))) → StandsForPast plan (record { event = e; answer = a } ∷ past) w
 unfolding frames_to is_taken watched tenants_in is_stopped group_of told_of
 moved_says plan past e a v w was step groups told =
     let key = plan.cluster_key in

@@ -27,14 +27,16 @@ use Rattle.gb_detect.specs.Laws.{NoticedByCalls}
 use Rattle.gb_detect.proofs.SetLemmas.{contains-either, contains-nodes_where}
 use Rattle.gb_rules.specs.Group.{Shown, open_answer, shut_answer, drop_answer, say_answer, fetch_answer}
 use Rattle.gb_rules.specs.Tenant.{reserve_of, row_of, make_answer, by_tenant}
+use Rattle.gb_slot.specs.Slot.{shown}
 use Rattle.gb_groups.specs.SlotsValue.{Row, row_at, AreApart}
 use Rattle.gb_groups.specs.AtAddress.{place_of, group_reply}
-use Rattle.gb_groups.specs.OneGroup.{items_for, item_for, waiting_in, EachGroup, StayApart}
+use Rattle.gb_frame.specs.Items.{items_for, item_for}
+use Rattle.gb_groups.specs.OneGroup.{EachGroup, StayApart}
 use Rattle.gb_table.specs.Requests.{is_admitted, admitted_reply, table_reply}
 use Rattle.gb_node.specs.NodeValue.{NodeValue, IsNodePlan}
 use Rattle.gb_node.specs.NodeStep.{turn, running_turn, window_to, receiver_from, content_to, next_batch, pack_content, is_here, if_here, taken_answer, good_of, fate, kind_of, IsTurn, IsSpelt, IsStarved}
 use Rattle.gb_node.specs.Past.{Happened, ComesTo, read, packet_in, is_first, watched, tenants_in}
-use Rattle.gb_node.specs.PastGroups.{noticed_in, group_of}
+use Rattle.gb_node.specs.PastGroups.{Told, noticed_in, shown_in, told_of}
 use Rattle.gb_node.specs.PastLaw.{IsOfPast}
 use Rattle.gb_node.specs.StepLaw.{past_table, is_admitted_by, group_answer, admitted_answer, past_answer, IsAsked, IsPacked, IsTakenIn, IsTicked, IsAnswered, AnswersSay}
 use Rattle.gb_node.specs.declared.plan.NodePlan.{NodePlan}
@@ -48,7 +50,7 @@ use Rattle.gb_node.specs.declared.answer.Ticked.TheVariants.{Noticed, Refused as
 use Rattle.gb_node.specs.declared.event.NodeEvent.{NodeEvent}
 use Rattle.gb_node.specs.declared.event.NodeEvent.TheVariants.{Request as Asked, Packet as Came, Pack, Again, Ack, Tick, Stop}
 use Rattle.gb_node.proofs.GroupLemmas.{front_taken, waiting_enough, next_items}
-use Rattle.gb_node.proofs.InductionLemmas.{started, stands}
+use Rattle.gb_node.proofs.InductionLemmas.{started, stands, of_past}
 use Rattle.gb_node.specs.SendLaw.{Says}
 use Rattle.gb_node.proofs.SentLemmas.{acts, sends, says, batch_another, other_number, another_in, read_is}
 use Rattle.gb_node.proofs.ToldLemmas.{SlotLaws, reply_is}
@@ -58,14 +60,18 @@ module _ (plan : NodePlan) (past : List Happened) (v : NodeValue) (was : IsOfPas
   table_is : v.table ≡ record (past_table plan past) { groups = v.table.groups }
   table_is = λ i. record { me = was.me i; nodes = was.nodes i; places = was.places i; admin_key = was.admin_key i; tenants = was.tenants i; groups = v.table.groups }
 
-  at_group : (answer : Shown → Reply) (addr : Addr) → group_reply answer addr v.table.groups.rows ≡ group_answer answer (group_of plan addr past)
-  at_group answer addr = reply_is answer v.table.groups.rows (place_of addr v.table.groups.rows) ∙ ap (group_answer answer) (was.groups addr)
+  at_group : (answer : Shown → Reply) (addr : Addr) → group_reply answer addr v.table.groups.rows ≡ group_answer answer (shown_in plan.me.number (told_of plan addr past))
+  at_group answer addr = reply_is answer v.table.groups.rows (place_of addr v.table.groups.rows) ∙ ap (group_answer answer) (was.shown addr)
 
   -- an address was used where its group was made
-  made_is : (addr : Addr) → is_some (place_of addr v.table.groups.rows) ≡ is_some (group_of plan addr past)
-  made_is addr = there (place_of addr v.table.groups.rows) ∙ ap is_some (was.groups addr)
+  made_is : (addr : Addr) → is_some (place_of addr v.table.groups.rows) ≡ is_some (told_of plan addr past)
+  made_is addr = there (place_of addr v.table.groups.rows) ∙ (ap is_some (was.shown addr) ∙ same (told_of plan addr past))
     where
-      there : (o : Option ℕ) → is_some o ≡ is_some (option_map (λ (row : Row). row.slot) (option_map (row_at v.table.groups.rows) o))
+      same : (o : Option (Option Told)) → is_some (shown_in plan.me.number o) ≡ is_some o
+      same None = refl
+      same (Some t) = refl
+
+      there : (o : Option ℕ) → is_some o ≡ is_some (option_map (option_map shown) (option_map (λ (row : Row). row.slot) (option_map (row_at v.table.groups.rows) o)))
       there None = refl
       there (Some p) = refl
 
@@ -124,8 +130,8 @@ module _ (law : WhatIsWrittenIsRead) (each : EachGroup) (plan : NodePlan) (past 
         text_is = read_is law plan past v was text c text_is fit;
         inside = another.0;
         apart = another.1;
-        enough = λ g. subst (λ o. length (items_for g items) ≤ length (waiting_in o b.number)) (was.groups g) (waiting_enough each v b g items ok (next_items v b items batch));
-        front = λ g. subst (λ o. items_for g items ≡ map (item_for g) (take (length (items_for g items)) (waiting_in o b.number))) (was.groups g) (front_taken each v b g items ok (next_items v b items batch));
+        enough = λ g. subst (λ xs. length (items_for g items) ≤ length xs) (was.waiting g b.number) (waiting_enough each v b g items ok (next_items v b items batch));
+        front = λ g. subst (λ xs. items_for g items ≡ map (item_for g) (take (length (items_for g items)) xs)) (was.waiting g b.number) (front_taken each v b g items ok (next_items v b items batch));
       }
 
   packed : (b : NodeId) (text : List ℕ) (w : NodeValue) → IsTurn v (Pack b) (Sent (SentPacket text)) w → IsSpelt v (Pack b) (Sent (SentPacket text)) → IsPacked plan past b text
@@ -290,6 +296,6 @@ unfolding ComesTo
 answers_say law each stay slots few = record {
   each = λ plan past event answer v comes.
       let before = stands law each stay slots few plan past comes.0 comes.1 in
-      answered law each few plan (started plan past comes.0 comes.1) past comes.0 before.says before.apart v event answer comes.2 comes.3;
+      answered law each few plan (started plan past comes.0 comes.1) past comes.0 (of_past slots plan past comes.0 before.says) before.apart v event answer comes.2 comes.3;
   noticed = λ plan past v b comes there. noticed_inside few plan (started plan past v comes) past b there;
 }

@@ -2,6 +2,7 @@ pub mod Frames
 pub mod NodeValue
 pub mod NodeStep
 pub mod Past
+pub mod NodeGroups
 pub mod PastGroups
 pub mod PastLaw
 pub mod Reads

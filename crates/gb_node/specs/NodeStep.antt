@@ -24,7 +24,7 @@ use Rattle.gb_link.specs.declared.receiver.Admission.{Admission}
 use Rattle.gb_link.specs.declared.receiver.Admission.TheVariants.{First, Seen, Outside}
 use Rattle.gb_detect.specs.Watch.{due, after_heard, after_tick}
 use Rattle.gb_rules.specs.Replied.{takes_memory}
-use Rattle.gb_groups.specs.AtAddress.{address_of, entry_of, rest_is_node}
+use Rattle.gb_frame.specs.Items.{address_of, entry_of, rest_is_node}
 use Rattle.gb_groups.specs.GroupsValue.{batch}
 use Rattle.gb_groups.specs.OneGroup.{NothingWaits}
 use Rattle.gb_groups.specs.Packing.{items}

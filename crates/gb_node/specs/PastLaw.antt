@@ -4,12 +4,12 @@ use Rattle.std.specs.FinSet as set
 use Rattle.gb_types.specs.declared.address.Addr.{Addr}
 use Rattle.gb_types.specs.declared.node.NodeId.{NodeId}
 use Rattle.gb_detect.specs.Watch.{start, replay}
-use Rattle.gb_groups.specs.OneGroup.{group_in}
 use Rattle.gb_node.specs.NodeValue.{NodeValue}
 use Rattle.gb_node.specs.NodeStep.{window_to, receiver_from}
 use Rattle.gb_node.specs.declared.plan.NodePlan.{NodePlan}
 use Rattle.gb_node.specs.Past.{Happened, ComesTo, frames_to, numbered, is_acked, is_taken, watched, tenants_in, is_stopped}
-use Rattle.gb_node.specs.PastGroups.{group_of, told_of, IsTold}
+use Rattle.gb_node.specs.NodeGroups.{shown_at, waiting_at}
+use Rattle.gb_node.specs.PastGroups.{shown_in, waiting_of, told_of}
 
 -- What a node is its past says.
 pub record IsOfPast (plan : NodePlan) (past : List Happened) (v : NodeValue) : Type 0 where
@@ -26,10 +26,9 @@ pub record IsOfPast (plan : NodePlan) (past : List Happened) (v : NodeValue) : T
   pub undone : (b : NodeId) → (window_to v b.number).undone ≡ filter (λ u. not (is_acked plan.cluster_key b.number u.0 past)) (numbered 1 (frames_to plan.cluster_key b.number past))
   -- the link from each node: the numbers received
   pub received : (b : NodeId) (n : ℕ) → set.contains (receiver_from v b.number) n ≡ is_taken plan.cluster_key b.number n past
-  -- each group
-  pub groups : (g : Addr) → group_in g v.table.groups.rows ≡ group_of plan g past
-  -- and each slot stands for what its group was told
-  pub told : (g : Addr) → IsTold plan.me (group_of plan g past) (told_of plan g past)
+  -- each group: what the rules read of it, and what waits in it
+  pub shown : (g : Addr) → shown_at v g ≡ shown_in plan.me.number (told_of plan g past)
+  pub waiting : (g : Addr) (b : ℕ) → waiting_at v g b ≡ waiting_of (told_of plan g past) b
 
 -- every node is what its past says
 abbrev pub PastsSay : Type 0

@@ -4,7 +4,7 @@ use Rattle.std.specs.FinSet as set
 use Rattle.std.specs.Ordering.{nat_cmp}
 use Rattle.gb_types.specs.declared.address.Addr.{Addr}
 use Rattle.gb_types.specs.declared.node.NodeId.{NodeId}
-use Rattle.gb_types.specs.declared.refusal.Refusal.TheVariants.{Stopped, OutOfMemory, Denied, NoGroup}
+use Rattle.gb_types.specs.declared.refusal.Refusal.TheVariants.{Stopped, OutOfMemory, Denied, NoGroup, Spent}
 use Rattle.gb_types.specs.declared.reply.Reply.{Reply}
 use Rattle.gb_types.specs.declared.reply.Reply.TheVariants.{Refused}
 use Rattle.gb_types.specs.declared.request.Request.{Request}
@@ -12,15 +12,13 @@ use Rattle.gb_types.specs.declared.request.Request.TheVariants.{AddTenant, Make,
 use Rattle.gb_frame.specs.Packet.{Content}
 use Rattle.gb_rules.specs.Group.{Shown, open_answer, shut_answer, drop_answer, say_answer, fetch_answer}
 use Rattle.gb_rules.specs.Tenant.{reserve_of, row_of, reserved, tenant_answer, make_answer, by_tenant}
-use Rattle.gb_slot.specs.SlotState.{SlotState}
-use Rattle.gb_groups.specs.SlotsValue.{unless_gone}
-use Rattle.gb_groups.specs.OneGroup.{items_for, item_for, waiting_in}
+use Rattle.gb_frame.specs.Items.{items_for, item_for}
 use Rattle.gb_table.specs.TableValue.{TableValue, new_table}
 use Rattle.gb_table.specs.Requests.{is_admitted}
 use Rattle.gb_node.specs.NodeValue.{NodeValue}
 use Rattle.gb_node.specs.NodeStep.{RequestTakesMemory}
 use Rattle.gb_node.specs.Past.{Happened, ComesTo, read, is_first, is_taken, tenants_in, is_stopped}
-use Rattle.gb_node.specs.PastGroups.{noticed_in, group_of}
+use Rattle.gb_node.specs.PastGroups.{noticed_in, shown_in, waiting_of, told_of}
 use Rattle.gb_node.specs.declared.answer.Good.{Good}
 use Rattle.gb_node.specs.declared.answer.NodeAnswer.{NodeAnswer}
 use Rattle.gb_node.specs.declared.answer.NodeAnswer.TheVariants.{Reply as Replied, Taken, Sent, Ticked}
@@ -42,20 +40,21 @@ abbrev pub is_admitted_by : NodePlan → List Happened → Request → Bool
 is_admitted_by plan past request = is_admitted request (past_table plan past)
 
 -- the reply to a command on a group that may have been made, and dropped since
-abbrev pub group_answer : (Shown → Reply) → Option (Option SlotState) → Reply
+abbrev pub group_answer : (Shown → Reply) → Option (Option Shown) → Reply
 group_answer answer None = Refused NoGroup
-group_answer answer (Some slot) = unless_gone answer slot
+group_answer answer (Some None) = Refused Spent
+group_answer answer (Some (Some x)) = answer x
 
 -- the reply to a request with the right token
 abbrev pub admitted_answer : NodePlan → List Happened → Request → Reply
 admitted_answer plan past (AddTenant token row) = tenant_answer plan.places (reserved (tenants_in past)) (is_some (row_of row.tenant (tenants_in past))) row
 admitted_answer plan past (Make token addr spec) =
-    by_tenant (make_answer plan.nodes plan.me.number addr.group (is_some (group_of plan addr past)) spec) (option_map reserve_of (row_of addr.tenant (tenants_in past)))
-admitted_answer plan past (OpenGroup token addr) = group_answer open_answer (group_of plan addr past)
-admitted_answer plan past (ShutGroup token addr) = group_answer shut_answer (group_of plan addr past)
-admitted_answer plan past (DropGroup token addr) = group_answer drop_answer (group_of plan addr past)
-admitted_answer plan past (Say token addr payload) = group_answer (λ s. say_answer s payload) (group_of plan addr past)
-admitted_answer plan past (Fetch token addr from most) = group_answer (λ s. fetch_answer s from most) (group_of plan addr past)
+    by_tenant (make_answer plan.nodes plan.me.number addr.group (is_some (told_of plan addr past)) spec) (option_map reserve_of (row_of addr.tenant (tenants_in past)))
+admitted_answer plan past (OpenGroup token addr) = group_answer open_answer (shown_in plan.me.number (told_of plan addr past))
+admitted_answer plan past (ShutGroup token addr) = group_answer shut_answer (shown_in plan.me.number (told_of plan addr past))
+admitted_answer plan past (DropGroup token addr) = group_answer drop_answer (shown_in plan.me.number (told_of plan addr past))
+admitted_answer plan past (Say token addr payload) = group_answer (λ s. say_answer s payload) (shown_in plan.me.number (told_of plan addr past))
+admitted_answer plan past (Fetch token addr from most) = group_answer (λ s. fetch_answer s from most) (shown_in plan.me.number (told_of plan addr past))
 
 -- the reply to any request
 abbrev pub past_answer : NodePlan → List Happened → Request → Reply
@@ -74,8 +73,8 @@ pub record IsPacked (plan : NodePlan) (past : List Happened) (b : NodeId) (text 
   pub text_is : read plan.cluster_key text ≡ content ∷ []
   pub inside : b.number < plan.nodes
   pub apart : b.number ≢ plan.me.number
-  pub enough : (g : Addr) → length (items_for g content.items) ≤ length (waiting_in (group_of plan g past) b.number)
-  pub front : (g : Addr) → items_for g content.items ≡ map (item_for g) (take (length (items_for g content.items)) (waiting_in (group_of plan g past) b.number))
+  pub enough : (g : Addr) → length (items_for g content.items) ≤ length (waiting_of (told_of plan g past) b.number)
+  pub front : (g : Addr) → items_for g content.items ≡ map (item_for g) (take (length (items_for g content.items)) (waiting_of (told_of plan g past) b.number))
 
 -- a packet is taken by a running node: it is one for this node from another one, and its frame is taken once
 pub record IsTakenIn (plan : NodePlan) (past : List Happened) (bytes : List ℕ) (good : Good) : Type 0 where

@@ -3,3 +3,4 @@ pub mod Group
 pub mod LetFall
 pub mod Replied
 pub mod Tenant
+pub mod Lifetime

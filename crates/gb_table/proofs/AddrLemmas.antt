@@ -11,7 +11,8 @@ use Rattle.gb_slot.specs.Slot.{slot_came}
 use Rattle.gb_slot.specs.SlotState.{SlotState}
 use Rattle.gb_groups.specs.SlotsValue.{Row, row_at, on_slot, gone, no_row}
 use Rattle.gb_groups.specs.Packing.{Visit, gave}
-use Rattle.gb_groups.specs.AtAddress.{place_of, step_at, on_address, gone_at, drop_at, address_of, entry_of, item_came}
+use Rattle.gb_frame.specs.Items.{address_of, entry_of}
+use Rattle.gb_groups.specs.AtAddress.{place_of, step_at, on_address, gone_at, drop_at, item_came}
 use Rattle.gb_table.specs.Within.{addrs_of}
 
 addrs-set : (rows : List Row) (p : ℕ) (row : Row) → row.addr ≡ (row_at rows p).addr → addrs_of (set rows p row) ≡ addrs_of rows

@@ -21,7 +21,8 @@ use Rattle.gb_slot.specs.Slot.{falls, slot_called, slot_moved, slot_said, slot_c
 use Rattle.gb_slot.specs.SlotState.{SlotState}
 use Rattle.gb_groups.specs.SlotsValue.{Row, row_at, on_slot, gone, no_row}
 use Rattle.gb_groups.specs.Packing.{Visit, gave, share}
-use Rattle.gb_groups.specs.AtAddress.{place_of, step_at, on_address, gone_at, drop_at, address_of, entry_of, item_came}
+use Rattle.gb_frame.specs.Items.{address_of, entry_of}
+use Rattle.gb_groups.specs.AtAddress.{place_of, step_at, on_address, gone_at, drop_at, item_came}
 use Rattle.gb_table.specs.TableValue.{TableValue, with_rows, table_done}
 use Rattle.gb_table.specs.OwnNode.{IsAt, AreAt}
 

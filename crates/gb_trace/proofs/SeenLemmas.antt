@@ -2,18 +2,18 @@
 use Rattle.std.proofs.Common.{◌≡◌, ℕ, ◌<◌, List, ◌++◌, length, take, sym, ◌∙◌, ap, subst, arith}
 use Rattle.std.proofs.lemmas.List.{take_all, take-append-le}
 use Rattle.gb_types.specs.declared.entry.Entry.{Entry}
-use Rattle.gb_groups.specs.OneGroup.{waiting_in}
 use Rattle.gb_alone.specs.Alone.{Group, alone, IsLegal}
 use Rattle.gb_alone.specs.Observation.{observed_alone}
 use Rattle.gb_alone.specs.declared.event.GroupStep.{GroupStep}
 use Rattle.gb_alone.proofs.ObservationLemmas.{seen_same}
+use Rattle.gb_node.specs.NodeGroups.{waiting_at}
 use Rattle.gb_node.specs.NodeStep.{node_numbered}
 use Rattle.gb_node.specs.Past.{frames_to}
-use Rattle.gb_cluster.specs.ClusterValue.{node_plan}
+use Rattle.gb_cluster.specs.ClusterValue.{node_plan, node_at}
 use Rattle.gb_cluster.proofs.NodesLemmas.{stays}
 use Rattle.gb_cluster.specs.Run.{Did, past_at}
 use Rattle.gb_isolation.proofs.NoticeLemmas.{numbered_is}
-use Rattle.gb_isolation.specs.Isolation.{Seen, group_at, alone_in, IsIsolated, GroupsAreIsolated}
+use Rattle.gb_isolation.specs.Isolation.{Seen, alone_in, IsIsolated, GroupsAreIsolated}
 use Rattle.gb_isolation.specs.Project.{items_of, replies_in}
 use Rattle.gb_trace.specs.Observed.{IsolatedGroupsAreSeenAlone, FedGroupsAreSeenAlone}
 use Rattle.gb_trace.specs.Trace.{run_of}
@@ -44,9 +44,9 @@ seen_alone_too plan run v g few alike =
     items : ℕ → ℕ → List Entry
     items a b = items_of g (frames_to plan.cluster_key b (past_at (node_numbered a) run))
 
-    put : (a b : ℕ) → a < plan.nodes → b < plan.nodes → items a b ++ waiting_in (group_at v g (node_numbered a)) b ≡ (group a).put b
+    put : (a b : ℕ) → a < plan.nodes → b < plan.nodes → items a b ++ waiting_at (node_at v (node_numbered a)) g b ≡ (group a).put b
     put a b lt ls =
-        ap (λ n. items a n ++ waiting_in (group_at v g (node_numbered a)) n) (sym (is b ls))
+        ap (λ n. items a n ++ waiting_at (node_at v (node_numbered a)) g n) (sym (is b ls))
         ∙ (ap (λ (s : Seen). s.put) (alike.same (node_numbered a) (node_numbered b) (inside a lt) (inside b ls))
         ∙ (ap (λ n. (group n).put (node_numbered b).number) (is a lt) ∙ ap (λ n. (group a).put n) (is b ls)))
 
@@ -58,7 +58,7 @@ seen_alone_too plan run v g few alike =
     taken : (a b : ℕ) → a < plan.nodes → b < plan.nodes → items a b ≡ take ((group a).taken b) ((group a).put b)
     taken a b lt ls =
         sym (ap (λ n. take n ((group a).put b)) (many a b lt ls)
-        ∙ (ap (λ xs. take (length (items a b)) xs) (sym (put a b lt ls)) ∙ take_front (items a b) (waiting_in (group_at v g (node_numbered a)) b)))
+        ∙ (ap (λ xs. take (length (items a b)) xs) (sym (put a b lt ls)) ∙ take_front (items a b) (waiting_at (node_at v (node_numbered a)) g b)))
 
 -- the plain programs together
 pub seen_alone_projected : GroupsAreIsolated → IsolatedGroupsAreSeenAlone → FedGroupsAreSeenAlone

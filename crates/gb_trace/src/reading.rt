@@ -1,8 +1,7 @@
 //! The packets that were packed and that came, read from their texts; and the items of a group in them.
 ghost use Rattle.std.specs.Prelude.{◌≡◌, ◌++◌, [], ◌∷◌, length, IfOk, OnOk, MatchOption};
 ghost use Rattle.gb_frame.specs.Packet.{item_of};
-ghost use Rattle.gb_groups.specs.AtAddress.{entry_of};
-ghost use Rattle.gb_groups.specs.OneGroup.{names};
+ghost use Rattle.gb_frame.specs.Items.{entry_of, names};
 ghost use Rattle.gb_node.specs.NodeStep.{node_numbered};
 ghost use Rattle.gb_node.specs.Past as past;
 ghost use Rattle.gb_isolation.specs.Project.{items_in};

@@ -4,5 +4,5 @@ use Rattle.gb_isolation.proofs.RunLemmas.{behaves}
 use Rattle.gb_isolation.proofs.laws.groups_do_their_duties.Goals as goal
 
 pub returns : goal.returns
-returns c = all_dutiful (record { has_delivered = c.module_logs.ensures; within = c.gives_up_whole_runs.ensures.delivered }) c.duties.ensures c.groups_are_isolated.ensures
+returns c = all_dutiful (record { dutiful = c.duties.ensures.dutiful; members = c.duties.ensures.members; logged = c.duties.ensures.logged }) c.groups_are_isolated.ensures
     (behaves (laws_hold c.pasts_say.ensures c.answers_say.ensures c.links_hold.ensures c.nothing_is_outside.ensures))

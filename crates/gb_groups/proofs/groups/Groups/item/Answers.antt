@@ -3,7 +3,8 @@ use Rattle.gb_types.specs.declared.entry.Entry.{Entry}
 use Rattle.gb_frame.specs.Packet.{item_of as view_item}
 use Rattle.gb_slot.specs.Slot.{slot_came}
 use Rattle.gb_groups.specs.SlotsValue.{row_at, on_slot}
-use Rattle.gb_groups.specs.AtAddress.{address_of, item_came, OthersKept}
+use Rattle.gb_frame.specs.Items.{address_of}
+use Rattle.gb_groups.specs.AtAddress.{item_came, OthersKept}
 use Rattle.gb_groups.specs.GroupsValue.{GroupsValue}
 use Rattle.gb_groups.proofs.AddressLemmas.{others_kept, item_is, place_is}
 use Rattle.gb_groups.proofs.IndexLemmas.{index_but, index_as_many, places_quiet}

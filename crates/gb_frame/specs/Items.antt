@@ -1,0 +1,28 @@
+-- What an item says: the group that it names, and its message.
+use Rattle.std.proofs.Common.{arith}
+use Rattle.std.specs.Prelude.{ℕ, ◌<◌, ◌%◌, ◌&&◌, Bool, List, filter, nat_eq}
+use Rattle.gb_types.specs.declared.address.Addr.{Addr}
+use Rattle.gb_types.specs.declared.entry.Entry.{Entry}
+use Rattle.gb_types.specs.declared.limits.TheConstants.{NODES}
+use Rattle.gb_frame.specs.declared.item.Item.{Item}
+
+pub rest_is_node : (n : ℕ) → n % NODES < NODES
+rest_is_node n = omega arith
+
+-- the address of an item, and what it says; its origin's number is below the number of nodes that there may be
+abbrev pub address_of : Item → Addr
+address_of i = record { tenant = i.tenant; group = i.group }
+
+abbrev pub entry_of : Item → Entry
+entry_of i = record { origin = record { number = i.origin % NODES; below = rest_is_node i.origin }; seq = i.seq; payload = i.payload }
+
+-- an entry of a group as an item
+abbrev pub item_for : Addr → Entry → Item
+item_for g e = record { tenant = g.tenant; group = g.group; origin = e.origin.number; seq = e.seq; payload = e.payload }
+
+-- the items that name a group, among these
+abbrev pub names : Addr → Item → Bool
+names g i = nat_eq g.tenant i.tenant && nat_eq g.group i.group
+
+abbrev pub items_for : Addr → List Item → List Item
+items_for g items = filter (names g) items

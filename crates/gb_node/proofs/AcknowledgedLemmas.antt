@@ -1,0 +1,141 @@
+-- Which nodes have each own message for good: what a slot keeps of acknowledgements is what the past tells.
+use Rattle.std.proofs.Common.{◌≡◌, ◌≢◌, ℕ, ◌+◌, ◌-◌, ◌<◌, ◌≤◌, List, [], ◌∷◌, ◌++◌, length, get_or, Bool, true, false, ◌&&◌, ◌||◌, ◌⊎◌, inl, inr, refl, sym, ◌∙◌, ap, arith, nat_eq, nat_le, slice_set, slice_index_or, length-append}
+use Rattle.std.specs.Prelude.{if◌then◌else◌}
+use Rattle.std.specs.Ordering.{nat_cmp}
+use Rattle.std.specs.FinSet as set
+use Rattle.std.proofs.Math.Seq.{get_or-append_seam}
+use Rattle.std.proofs.lemmas.Bool.{cases_Bool, cases_eq, cases_lt}
+use Rattle.std.proofs.lemmas.Bool.Decides.{nat_tests}
+use Rattle.std.proofs.lemmas.List.{get_or-set_same, get_or-set_other, get_or_append_left, length-set}
+use Rattle.gb_types.specs.declared.message.MsgId.{MsgId}
+use Rattle.gb_types.specs.declared.node.NodeId.{NodeId}
+use Rattle.gb_types.proofs.InsertedLemmas.{contains-inserted}
+use Rattle.gb_history.specs.History.{said_in}
+use Rattle.gb_slot.specs.Slot.{slot_done, with_acknowledgement}
+use Rattle.gb_slot.specs.SlotState.{SlotState}
+use Rattle.gb_node.specs.PastGroups.{Told, is_own_message, acknowledged_with}
+use Rattle.gb_node.proofs.SlotGroups.{AcksAgree, SlotTold}
+
+abbrev Acks : Type 0
+Acks = List (set.FinSet nat_cmp)
+
+-- A message is said, which this node alone has.
+pub acks_said : (me : ℕ) (acks : Acks) (acknowledged : ℕ → ℕ → Bool) → AcksAgree me acks acknowledged → AcksAgree me (acks ++ set.insert set.empty me ∷ []) acknowledged
+acks_said me acks acknowledged was = record {
+  each = λ k b low. go k b low (cases_lt k (length acks));
+  beyond = λ seq b far. was.beyond seq b (omega (arith, far, length-append acks (new ∷ [])));
+}
+  where
+    new : set.FinSet nat_cmp
+    new = set.insert set.empty me
+
+    go : (k b : ℕ) → k < length (acks ++ new ∷ []) → ((k < length acks) ⊎ (length acks ≤ k)) → set.contains (get_or (acks ++ new ∷ []) k set.empty) b ≡ (nat_eq b me || acknowledged (k + 1) b)
+    go k b low (inl old) = ap (λ (s : set.FinSet nat_cmp). set.contains s b) (get_or_append_left acks (new ∷ []) set.empty k old) ∙ was.each k b old
+    go k b low (inr late) =
+        let place : k ≡ length acks = omega (arith, low, late, length-append acks (new ∷ [])) in
+        let swap : nat_eq me b ≡ nat_eq b me = grind (arith, nat_tests) in
+        ap (λ n. set.contains (get_or (acks ++ new ∷ []) n set.empty) b) place
+        ∙ (ap (λ (s : set.FinSet nat_cmp). set.contains s b) (get_or-append_seam acks new [] set.empty)
+        ∙ (contains-inserted set.empty me b
+        ∙ ((λ i. swap i || set.contains-empty nat_cmp b i)
+        ∙ ap (λ t. nat_eq b me || t) (sym (was.beyond (k + 1) b (omega (arith, place)))))))
+
+-- A message is acknowledged by a node.
+
+length-with : (seq : ℕ) (b : NodeId) (acks : Acks) → length (with_acknowledgement seq b acks) ≡ length acks
+length-with seq b acks =
+    elim (nat_le 1 seq && nat_le seq (length acks)) as (λ t. length (if t then slice_set acks (seq - 1) (set.insert (slice_index_or acks (seq - 1) set.empty) b.number) else acks) ≡ length acks) [
+      | true ↦ length-set acks (seq - 1) (set.insert (slice_index_or acks (seq - 1) set.empty) b.number)
+      | false ↦ refl
+    ]
+
+length-done : (b : NodeId) (m : MsgId) (s : SlotState) → length (slot_done b m s).acknowledged ≡ length s.acknowledged
+length-done b m s = elim (nat_eq m.origin.number s.me.number) as (λ t. length (if t then with_acknowledgement m.seq b s.acknowledged else s.acknowledged) ≡ length s.acknowledged) [
+  | true ↦ length-with m.seq b s.acknowledged
+  | false ↦ refl
+]
+
+last_false : (t : Bool) → t ≡ (t || false)
+last_false true = refl
+last_false false = refl
+
+and_false : (t : Bool) → (t && false) ≡ false
+and_false true = refl
+and_false false = refl
+
+with_one : (seq : ℕ) (b : NodeId) (acks : Acks) (k c : ℕ) → k < length acks
+    → set.contains (get_or (with_acknowledgement seq b acks) k set.empty) c ≡ (set.contains (get_or acks k set.empty) c || (nat_eq c b.number && nat_eq seq (k + 1)))
+with_one seq b acks k c low = go (cases_eq seq (k + 1))
+  where
+    old : set.FinSet nat_cmp
+    old = get_or acks (seq - 1) set.empty
+
+    swap : nat_eq b.number c ≡ nat_eq c b.number
+    swap = grind (arith, nat_tests)
+
+    or_swap : (x y : Bool) → (x || y) ≡ (y || (x && true))
+    or_swap true true = refl
+    or_swap true false = refl
+    or_swap false true = refl
+    or_swap false false = refl
+
+    go : ((seq ≡ k + 1) ⊎ (seq ≡ k + 1 → ⊥)) → set.contains (get_or (with_acknowledgement seq b acks) k set.empty) c ≡ (set.contains (get_or acks k set.empty) c || (nat_eq c b.number && nat_eq seq (k + 1)))
+    go (inl same) =
+        let inside : (nat_le 1 seq && nat_le seq (length acks)) ≡ true = grind (arith, nat_tests, same, low) in
+        let place : seq - 1 ≡ k = omega (arith, same) in
+        let equal : nat_eq seq (k + 1) ≡ true = grind (arith, nat_tests, same) in
+        ap (λ t. set.contains (get_or (if t then slice_set acks (seq - 1) (set.insert old b.number) else acks) k set.empty) c) inside
+        ∙ (ap (λ n. set.contains (get_or (slice_set acks n (set.insert (get_or acks n set.empty) b.number)) k set.empty) c) place
+        ∙ (ap (λ (x : set.FinSet nat_cmp). set.contains x c) (get_or-set_same acks k (set.insert (get_or acks k set.empty) b.number) set.empty low)
+        ∙ (contains-inserted (get_or acks k set.empty) b.number c
+        ∙ (ap (λ t. t || set.contains (get_or acks k set.empty) c) swap
+        ∙ (or_swap (nat_eq c b.number) (set.contains (get_or acks k set.empty) c)
+        ∙ ap (λ t. set.contains (get_or acks k set.empty) c || (nat_eq c b.number && t)) (sym equal))))))
+    go (inr other) =
+        let apart : nat_eq seq (k + 1) ≡ false = grind (arith, nat_tests, other) in
+        kept (cases_Bool (nat_le 1 seq && nat_le seq (length acks)))
+        ∙ (last_false (set.contains (get_or acks k set.empty) c) ∙ ap (λ t. set.contains (get_or acks k set.empty) c || t) (sym (ap (λ t. nat_eq c b.number && t) apart ∙ and_false (nat_eq c b.number))))
+      where
+        kept : (((nat_le 1 seq && nat_le seq (length acks)) ≡ true) ⊎ ((nat_le 1 seq && nat_le seq (length acks)) ≡ false)) → set.contains (get_or (with_acknowledgement seq b acks) k set.empty) c ≡ set.contains (get_or acks k set.empty) c
+        kept (inl inside) =
+            let some : 1 ≤ seq = grind (arith, nat_tests, inside) in
+            let away : k ≢ seq - 1 = λ e. other (omega (arith, e, some)) in
+            ap (λ t. set.contains (get_or (if t then slice_set acks (seq - 1) (set.insert old b.number) else acks) k set.empty) c) inside
+            ∙ ap (λ (x : set.FinSet nat_cmp). set.contains x c) (get_or-set_other acks (seq - 1) k (set.insert old b.number) set.empty away)
+        kept (inr outside) = ap (λ t. set.contains (get_or (if t then slice_set acks (seq - 1) (set.insert old b.number) else acks) k set.empty) c) outside
+
+done_one : (b : NodeId) (m : MsgId) (s : SlotState) (me k c : ℕ) → s.me.number ≡ me → k < length s.acknowledged
+    → set.contains (get_or (slot_done b m s).acknowledged k set.empty) c ≡ (set.contains (get_or s.acknowledged k set.empty) c || (nat_eq c b.number && is_own_message me (k + 1) m))
+done_one b m s me k c here low = go (nat_eq m.origin.number s.me.number) refl
+  where
+    go : (t : Bool) → nat_eq m.origin.number s.me.number ≡ t → set.contains (get_or (if t then with_acknowledgement m.seq b s.acknowledged else s.acknowledged) k set.empty) c ≡ (set.contains (get_or s.acknowledged k set.empty) c || (nat_eq c b.number && is_own_message me (k + 1) m))
+    go true is = with_one m.seq b s.acknowledged k c low ∙ ap (λ t. set.contains (get_or s.acknowledged k set.empty) c || (nat_eq c b.number && (t && nat_eq m.seq (k + 1)))) (sym (ap (nat_eq m.origin.number) (sym here) ∙ is))
+    go false is =
+        last_false (set.contains (get_or s.acknowledged k set.empty) c)
+        ∙ ap (λ t. set.contains (get_or s.acknowledged k set.empty) c || t) (sym (ap (λ t. nat_eq c b.number && (t && nat_eq m.seq (k + 1))) (ap (nat_eq m.origin.number) (sym here) ∙ is) ∙ and_false (nat_eq c b.number)))
+
+pub acks_done : (me from : NodeId) (m : MsgId) (s : SlotState) (t : Told) → SlotTold me s t → AcksAgree me.number (slot_done from m s).acknowledged (acknowledged_with me.number from m t)
+acks_done me from m s t h = record { each = each; beyond = beyond }
+  where
+    -- as many messages are kept of as were said
+    said : length s.acknowledged ≡ said_in t.calls
+    said = h.stands.acknowledged ∙ h.stands.said
+
+    or_assoc : (x y z : Bool) → ((x || y) || z) ≡ (x || (y || z))
+    or_assoc true y z = refl
+    or_assoc false y z = refl
+
+    each : (k c : ℕ) → k < length (slot_done from m s).acknowledged → set.contains (get_or (slot_done from m s).acknowledged k set.empty) c ≡ (nat_eq c me.number || acknowledged_with me.number from m t (k + 1) c)
+    each k c long =
+        let low : k < length s.acknowledged = omega (arith, long, length-done from m s) in
+        let there : nat_le (k + 1) (said_in t.calls) ≡ true = grind (arith, nat_tests, low, said) in
+        let one : Bool = nat_eq c from.number && is_own_message me.number (k + 1) m in
+        done_one from m s me.number k c (ap (λ (x : NodeId). x.number) h.here) low
+        ∙ (ap (λ x. x || one) (h.acks.each k c low)
+        ∙ (or_assoc (nat_eq c me.number) (t.acknowledged (k + 1) c) one ∙ ap (λ x. nat_eq c me.number || (t.acknowledged (k + 1) c || (x && one))) (sym there)))
+
+    beyond : (seq c : ℕ) → length (slot_done from m s).acknowledged < seq → acknowledged_with me.number from m t seq c ≡ false
+    beyond seq c far =
+        let above : length s.acknowledged < seq = omega (arith, far, length-done from m s) in
+        let out : nat_le seq (said_in t.calls) ≡ false = grind (arith, nat_tests, above, said) in
+        rw (h.acks.beyond seq c above, out) refl

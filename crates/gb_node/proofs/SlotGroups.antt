@@ -1,0 +1,111 @@
+-- Each group of a node as its slot, which stands for what the past tells of the group.
+use Rattle.std.specs.Prelude.{ℕ, ◌≡◌, ◌+◌, ◌<◌, ◌||◌, not, false, Bool, List, [], ◌∷◌, length, filter, fold, get_or, Option, Some, None, nat_eq, nat_lt, if◌then◌else◌}
+use Rattle.std.specs.FinSet as set
+use Rattle.std.specs.Ordering.{nat_cmp}
+use Rattle.gb_types.specs.Entry.{message_of}
+use Rattle.gb_types.specs.Rising.{rising}
+use Rattle.gb_types.specs.declared.address.Addr.{Addr}
+use Rattle.gb_types.specs.declared.limits.TheConstants.{NODES}
+use Rattle.gb_types.specs.declared.node.NodeId.{NodeId}
+use Rattle.gb_types.specs.declared.reply.Reply.{Reply}
+use Rattle.gb_types.specs.declared.reply.Reply.TheVariants.{Done, Said}
+use Rattle.gb_types.specs.declared.request.Request.{Request}
+use Rattle.gb_types.specs.declared.request.Request.TheVariants.{Make, OpenGroup, ShutGroup, DropGroup, Say}
+use Rattle.gb_frame.specs.declared.item.Item.{Item}
+use Rattle.gb_frame.specs.Packet.{Content}
+use Rattle.gb_detect.specs.Watch.{start, replay}
+use Rattle.gb_rules.specs.Address.{is_addr}
+use Rattle.gb_rules.specs.declared.phase.Phase.TheVariants.{Opened, Shut}
+use Rattle.gb_slot.specs.SlotState.{SlotState}
+use Rattle.gb_slot.specs.Slot.{new_slot, slot_moved, slot_said, slot_done, slot_took, slot_noticed, waiting}
+use Rattle.gb_slot.specs.StandsFor.{StandsFor}
+use Rattle.gb_frame.specs.Items.{entry_of, items_for}
+use Rattle.gb_rules.specs.Lifetime.{stepped, dropped, or_added, where_so}
+use Rattle.gb_groups.specs.OneGroup.{group_in, came_for}
+use Rattle.gb_node.specs.NodeValue.{NodeValue}
+use Rattle.gb_node.specs.NodeStep.{node_numbered, window_to, receiver_from}
+use Rattle.gb_node.specs.declared.plan.NodePlan.{NodePlan}
+use Rattle.gb_node.specs.declared.answer.NodeAnswer.{NodeAnswer}
+use Rattle.gb_node.specs.declared.answer.NodeAnswer.TheVariants.{Reply as Replied, Taken, Sent, Ticked}
+use Rattle.gb_node.specs.declared.answer.PacketAnswer.TheVariants.{Good as TakenGood}
+use Rattle.gb_node.specs.declared.answer.Frame.{Frame}
+use Rattle.gb_node.specs.declared.answer.Sent.TheVariants.{Packet as SentPacket}
+use Rattle.gb_node.specs.declared.answer.Ticked.TheVariants.{Noticed}
+use Rattle.gb_node.specs.declared.event.NodeEvent.{NodeEvent}
+use Rattle.gb_node.specs.declared.event.NodeEvent.TheVariants.{Request as Asked, Packet as Came, Pack, Tick}
+use Rattle.gb_node.specs.Past.{Happened, read, frames_to, numbered, is_acked, is_taken, is_first, watched, tenants_in, is_stopped}
+use Rattle.gb_node.specs.PastGroups.{Told, noticed_in, freed_by, items_freed, told_of}
+
+-- What each event makes of a group's slot.
+
+-- a request of the group, where it is answered so: made, it knows which nodes are noticed
+abbrev pub asked_for : Addr → NodeId → set.FinSet nat_cmp → Request → Reply → Option (Option SlotState) → Option (Option SlotState)
+asked_for g me noticed (Make token addr spec) Done o = or_added o (if is_addr g addr then Some (Some (new_slot spec me noticed)) else None)
+asked_for g me noticed (OpenGroup token addr) Done o = where_so (is_addr g addr) (stepped (slot_moved Opened Done)) o
+asked_for g me noticed (ShutGroup token addr) Done o = where_so (is_addr g addr) (stepped (slot_moved Shut Done)) o
+asked_for g me noticed (DropGroup token addr) Done o = where_so (is_addr g addr) dropped o
+asked_for g me noticed (Say token addr payload) (Said seq) o = where_so (is_addr g addr) (stepped (slot_said payload (Said seq))) o
+asked_for g me noticed request reply o = o
+
+abbrev pub done_for : NodeId → Option (Option SlotState) → Item → Option (Option SlotState)
+done_for from o i = where_so (nat_lt i.origin NODES) (stepped (slot_done from (message_of (entry_of i)))) o
+
+abbrev pub taken_for : List ℕ → Addr → List Happened → Frame → Option (Option SlotState) → Content → Option (Option SlotState)
+taken_for key g past frame o c =
+    let acknowledged = fold (done_for (node_numbered c.from)) o (items_for g (items_freed (freed_by key past c))) in
+    if is_first frame then fold (came_for (node_numbered c.from)) acknowledged (items_for g c.items) else acknowledged
+
+abbrev pub packed_from : Addr → NodeId → Option (Option SlotState) → Content → Option (Option SlotState)
+packed_from g b o c = stepped (slot_took b.number (length (items_for g c.items))) o
+
+abbrev pub noticed_for : Option (Option SlotState) → ℕ → Option (Option SlotState)
+noticed_for o b = stepped (slot_noticed (node_numbered b)) o
+
+abbrev pub group_after : NodePlan → Addr → List Happened → NodeEvent → NodeAnswer → Option (Option SlotState) → Option (Option SlotState)
+group_after plan g past (Asked request) (Replied reply) o = asked_for g plan.me (noticed_in plan past) request reply o
+group_after plan g past (Came bytes) (Taken (TakenGood good)) o = fold (taken_for plan.cluster_key g past good.frame) o (read plan.cluster_key bytes)
+group_after plan g past (Pack b) (Sent (SentPacket text)) o = fold (packed_from g b) o (read plan.cluster_key text)
+group_after plan g past Tick (Ticked (Noticed found)) o = fold noticed_for o (rising found)
+group_after plan g past event answer o = o
+
+-- the group's slot: what all that happened made of it
+unfoldable pub group_of : NodePlan → Addr → List Happened → Option (Option SlotState)
+group_of plan g [] = None
+group_of plan g (h ∷ past) = group_after plan g past h.event h.answer (group_of plan g past)
+
+-- What the slot is, beside what the past tells.
+
+-- for each own message the nodes that have it for good: this one, and those that acknowledged it
+pub record AcksAgree (me : ℕ) (acks : List (set.FinSet nat_cmp)) (acknowledged : ℕ → ℕ → Bool) : Type 0 where
+  pub each : (k b : ℕ) → k < length acks → set.contains (get_or acks k set.empty) b ≡ (nat_eq b me || acknowledged (k + 1) b)
+  pub beyond : (seq b : ℕ) → length acks < seq → acknowledged seq b ≡ false
+
+pub record SlotTold (me : NodeId) (s : SlotState) (t : Told) : Type 0 where
+  pub spec : s.spec ≡ t.spec
+  pub here : s.me ≡ me
+  pub phase : s.phase ≡ t.phase
+  pub stands : StandsFor s t.calls
+  pub waits : (b : ℕ) → waiting s b ≡ t.waiting b
+  pub acks : AcksAgree me.number s.acknowledged t.acknowledged
+
+abbrev pub IsTold : NodeId → Option (Option SlotState) → Option (Option Told) → Type 0
+IsTold me None None = Unit {0}
+IsTold me (Some None) (Some None) = Unit {0}
+IsTold me (Some (Some s)) (Some (Some t)) = SlotTold me s t
+IsTold me o p = ⊥
+
+-- What a node is its past says, and each group's slot stands for what the past tells of the group.
+pub record StandsForPast (plan : NodePlan) (past : List Happened) (v : NodeValue) : Type 0 where
+  pub key : v.key ≡ plan.cluster_key
+  pub me : v.table.me ≡ plan.me
+  pub nodes : v.table.nodes ≡ plan.nodes
+  pub places : v.table.places ≡ plan.places
+  pub admin_key : v.table.admin_key ≡ plan.admin_key
+  pub stopped : v.stopped ≡ is_stopped past
+  pub watch : v.watch ≡ replay (start plan.me.number plan.nodes plan.silence) (watched plan.cluster_key past)
+  pub tenants : v.table.tenants ≡ tenants_in past
+  pub next : (b : NodeId) → (window_to v b.number).next ≡ length (frames_to plan.cluster_key b.number past) + 1
+  pub undone : (b : NodeId) → (window_to v b.number).undone ≡ filter (λ u. not (is_acked plan.cluster_key b.number u.0 past)) (numbered 1 (frames_to plan.cluster_key b.number past))
+  pub received : (b : NodeId) (n : ℕ) → set.contains (receiver_from v b.number) n ≡ is_taken plan.cluster_key b.number n past
+  pub groups : (g : Addr) → group_in g v.table.groups.rows ≡ group_of plan g past
+  pub told : (g : Addr) → IsTold plan.me (group_of plan g past) (told_of plan g past)
