@@ -8,13 +8,11 @@ use Rattle.gb_types.specs.declared.node.NodeId.{NodeId}
 use Rattle.gb_frame.specs.declared.item.Item.{Item}
 use Rattle.gb_frame.specs.Packet.{Content}
 use Rattle.gb_frame.specs.Spelling.{packet_text, IsPacket}
-use Rattle.gb_frame.specs.Laws.{WhatIsWrittenIsRead}
 use Rattle.gb_link.specs.SendWindow.{SendWindow, frame_again}
 use Rattle.gb_link.specs.Ack.{covers}
 use Rattle.gb_link.proofs.LinkLemmas.{covered_received}
 use Rattle.gb_node.specs.NodeValue.{NodeValue}
-use Rattle.gb_node.specs.SendLaw.{Says}
-use Rattle.gb_node.proofs.SentLemmas.{packet_says, reached_another, batch_another, another_in, read_is}
+use Rattle.gb_node.specs.SendLaw.{Says, PacketsSay, ReachedAreOthers, BatchesAreForOthers, OthersAreInside, PacketsAreReadBack}
 use Rattle.gb_node.specs.NodeStep.{window_to, receiver_from, is_reached, is_another, next_batch, content_to, IsTurn, IsSpelt}
 use Rattle.gb_node.specs.Past.{Happened, read, packed_for, frames_to, numbered, is_taken, is_taken_by, is_acked}
 use Rattle.gb_node.specs.PastLaw.{IsOfPast, PastsSay}
@@ -150,8 +148,16 @@ sent_by b (SentPacket text) p j e = ap (λ (x : Posted). Sent (SentPacket x.text
 sent_by b Nothing p j e = absurd (cc)
 sent_by b (SentRefused why) p j e = absurd (cc)
 
+-- What holds of a node that sends a packet.
+pub record SendLaws : Type 0 where
+  pub packets : PacketsSay
+  pub reached : ReachedAreOthers
+  pub batches : BatchesAreForOthers
+  pub inside : OthersAreInside
+  pub read : PacketsAreReadBack
+
 -- A packet that a node sends.
-module _ (law : WhatIsWrittenIsRead) (plan : Plan) (a : NodeId) (inside : a.number < plan.nodes) (past : List Happened) (v : NodeValue) (was : IsOfPast (node_plan plan a) past v) where
+module _ (law : SendLaws) (plan : Plan) (a : NodeId) (inside : a.number < plan.nodes) (past : List Happened) (v : NodeValue) (was : IsOfPast (node_plan plan a) past v) where
   acks_are : (b : NodeId) (frame : ℕ) (items : List Item) (n : ℕ) → 1 ≤ n → covers (content_to v b frame items).base (content_to v b frame items).mask n ≡ true → is_taken plan.cluster_key b.number n past ≡ true
   acks_are b frame items n from is = sym (was.received b n) ∙ covered_received (receiver_from v b.number) n from is
 
@@ -162,11 +168,11 @@ module _ (law : WhatIsWrittenIsRead) (plan : Plan) (a : NodeId) (inside : a.numb
     honest b text frame items other is fit framed = record {
       content = content_to v b frame items;
       from = a;
-      text = read_is law (node_plan plan a) past v was text (content_to v b frame items) is fit;
+      text = law.read (node_plan plan a) past v was text (content_to v b frame items) is fit;
       sender = ap (λ (x : NodeId). x.number) was.me;
       inside = inside;
       goal = refl;
-      reaches = (another_in (node_plan plan a) past v was b other).0;
+      reaches = (law.inside (node_plan plan a) past v was b other).0;
       frame = framed;
       acks = λ n from covered. taken_more plan.cluster_key b.number n a d run (ap (is_taken plan.cluster_key b.number n) past_is ∙ acks_are b frame items n from covered);
     }
@@ -184,12 +190,12 @@ module _ (law : WhatIsWrittenIsRead) (plan : Plan) (a : NodeId) (inside : a.numb
         let fs = frames_to plan.cluster_key b.number past in
         let one : packed_for plan.cluster_key b.number d.event d.answer ≡ items ∷ [] =
         (λ i. packed_for plan.cluster_key b.number (event i) (answer i))
-        ∙ (ap (λ t. if t then map (λ (c : Content). c.items) (read plan.cluster_key text) else []) (eq-eqb b.number b.number refl) ∙ ap (map (λ (c : Content). c.items)) (read_is law (node_plan plan a) past v was text c text_is fit)) in
+        ∙ (ap (λ t. if t then map (λ (c : Content). c.items) (read plan.cluster_key text) else []) (eq-eqb b.number b.number refl) ∙ ap (map (λ (c : Content). c.items)) (law.read (node_plan plan a) past v was text c text_is fit)) in
         let h : Happened = record { event = d.event; answer = d.answer } in
         let longer : frames_to plan.cluster_key b.number (past_at a (d ∷ run)) ≡ fs ++ items ∷ [] =
         ap (frames_to plan.cluster_key b.number) (past_same a d run (ap (λ (x : NodeId). x.number) here) ∙ ap (λ hs. h ∷ hs) past_is) ∙ ap (λ gs. fs ++ gs) one in
         let number = was.next b in
-        honest b text next items (batch_another v b items batch) text_is fit (λ some. ap (λ gs. slice_get gs (next - 1)) longer ∙ get_last fs items (next - 1) (omega (arith, number)))
+        honest b text next items (law.batches v b items batch) text_is fit (λ some. ap (λ gs. slice_get gs (next - 1)) longer ∙ get_last fs items (next - 1) (omega (arith, number)))
 
     again_honest : (b : NodeId) (n : ℕ) (text : List ℕ) (o : Option (ℕ × List Item)) → is_another v b ≡ true → frame_again (window_to v b.number) n ≡ o
         → Says v (option_map (λ u. content_to v b u.0 u.1) o) text → IsHonest plan (d ∷ run) (record { to = b; text = text })
@@ -214,15 +220,15 @@ module _ (law : WhatIsWrittenIsRead) (plan : Plan) (a : NodeId) (inside : a.numb
         → (p : Posted) (j : ℕ) → slice_get (posted e (Sent (SentPacket text))) j ≡ Some p → IsHonest plan (d ∷ run) p
     sent_honest (Pack b) text w event answer turned spelt p j e =
         subst (IsHonest plan (d ∷ run)) (one b text p j e)
-        (pack_honest b text (next_batch v b) refl event answer (packet_says v (Pack b) text w turned spelt))
+        (pack_honest b text (next_batch v b) refl event answer (law.packets v (Pack b) text w turned spelt))
     sent_honest (Again b n) text w event answer turned spelt p j e =
-        subst (IsHonest plan (d ∷ run)) (one b text p j e) (by (is_reached v b) refl (packet_says v (Again b n) text w turned spelt))
+        subst (IsHonest plan (d ∷ run)) (one b text p j e) (by (is_reached v b) refl (law.packets v (Again b n) text w turned spelt))
       where
         by : (reached : Bool) → is_reached v b ≡ reached → Says v (if reached then option_map (λ u. content_to v b u.0 u.1) (frame_again (window_to v b.number) n) else None) text → IsHonest plan (d ∷ run) (record { to = b; text = text })
-        by true is said = again_honest b n text (frame_again (window_to v b.number) n) (reached_another v b is) refl said
+        by true is said = again_honest b n text (frame_again (window_to v b.number) n) (law.reached v b is) refl said
         by false is said = absurd (let x = said.is in cc)
     sent_honest (Ack b) text w event answer turned spelt p j e =
-        subst (IsHonest plan (d ∷ run)) (one b text p j e) (ack_honest b text (is_another v b) refl (packet_says v (Ack b) text w turned spelt))
+        subst (IsHonest plan (d ∷ run)) (one b text p j e) (ack_honest b text (is_another v b) refl (law.packets v (Ack b) text w turned spelt))
     sent_honest (Asked r) text w event answer turned spelt p j e = absurd (cc)
     sent_honest (Came bytes) text w event answer turned spelt p j e = absurd (cc)
     sent_honest Tick text w event answer turned spelt p j e = absurd (cc)
@@ -267,7 +273,7 @@ posted_by (Ack b) (Ticked x) p j e = absurd (cc)
 posted_by (Ack b) (Halted x) p j e = absurd (cc)
 
 -- Every packet is honest.
-pub all_honest : WhatIsWrittenIsRead → PastsSay → PacketsAreHonest
+pub all_honest : SendLaws → PastsSay → PacketsAreHonest
 unfolding ComesTo
 all_honest law pasts plan [] v comes k p e = let none : slice_get [] k ≡ Some p = ap (λ (w : ClusterValue). slice_get w.packets k) (sym comes.1) ∙ e in absurd (cc)
 all_honest law pasts plan (d ∷ run) v comes k p e =

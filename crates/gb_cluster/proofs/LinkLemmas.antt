@@ -12,7 +12,6 @@ use Rattle.gb_frame.specs.declared.fault.PacketFault.{PacketFault}
 use Rattle.gb_frame.specs.declared.fault.PacketFault.TheVariants.{Node as NodeFault}
 use Rattle.gb_frame.specs.Packet.{Content}
 use Rattle.gb_frame.specs.Reading.{reading}
-use Rattle.gb_frame.specs.Laws.{WhatIsWrittenIsRead}
 use Rattle.gb_link.specs.Received.{Received, admission, is_awaited}
 use Rattle.gb_link.specs.declared.receiver.Admission.TheVariants.{First, Seen, Outside}
 use Rattle.gb_link.specs.Ack.{covers}
@@ -97,7 +96,7 @@ one_content {c} {e} same = ap first same
     first [] = c
     first (x ∷ xs) = x
 
-module _ (law : WhatIsWrittenIsRead) (pasts : PastsSay) (packets : PacketsAreHonest) (plan : Plan) where
+module _ (pasts : PastsSay) (packets : PacketsAreHonest) (plan : Plan) where
   pub arrives_honestly : (run : List Did) (v : ClusterValue) (a : NodeId) (bytes : List ℕ) (good : Good) (w : NodeValue) → ComesTo plan run v → a.number < plan.nodes → IsSent v a (Came bytes)
       → IsTurn (node_at v a) (Came bytes) (Taken (TakenGood good)) w → HonestArrival plan run a bytes good (node_at v a)
   arrives_honestly run v a bytes good w comes inside sent turned =
@@ -295,12 +294,12 @@ module _ (law : WhatIsWrittenIsRead) (pasts : PastsSay) (packets : PacketsAreHon
           split (inl was) = earlier was
           split (inr new) = now same (and_both (nat_le n (length (frames_to plan.cluster_key b.number (past_at a run)))) (list_any (is_ack b.number n) (came plan.cluster_key d.event d.answer)) new).1
 
-pub links_hold : WhatIsWrittenIsRead → PastsSay → PacketsAreHonest → LinksHold
-links_hold law pasts packets = record {
-  whole = λ plan run v comes. always_whole law pasts packets plan run v comes;
+pub links_hold : PastsSay → PacketsAreHonest → LinksHold
+links_hold pasts packets = record {
+  whole = λ plan run v comes. always_whole pasts packets plan run v comes;
   each = λ plan run v comes a b. record {
-    taken = taken_packed law pasts packets plan run v (always_whole law pasts packets plan run v comes) a b;
-    acknowledged = acked_taken law pasts packets plan run v comes a b;
+    taken = taken_packed pasts packets plan run v (always_whole pasts packets plan run v comes) a b;
+    acknowledged = acked_taken pasts packets plan run v comes a b;
   };
-  covered = λ plan run d v comes. covered_taken law pasts packets plan run d v comes;
+  covered = λ plan run d v comes. covered_taken pasts packets plan run d v comes;
 }

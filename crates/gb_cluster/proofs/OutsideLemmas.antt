@@ -12,7 +12,6 @@ use Rattle.gb_frame.specs.declared.fault.PacketFault.{PacketFault}
 use Rattle.gb_frame.specs.declared.item.Item.{Item}
 use Rattle.gb_frame.specs.Packet.{Content}
 use Rattle.gb_frame.specs.Reading.{reading}
-use Rattle.gb_frame.specs.Laws.{WhatIsWrittenIsRead}
 use Rattle.gb_link.specs.Received.{Received, base_of, admission, is_awaited}
 use Rattle.gb_link.specs.SendWindow.{SendWindow, has_room, is_in_window}
 use Rattle.gb_link.specs.declared.receiver.Admission.TheVariants.{First, Seen, Outside}
@@ -21,7 +20,7 @@ use Rattle.gb_node.specs.NodeValue.{NodeValue}
 use Rattle.gb_node.specs.NodeStep.{window_to, receiver_from, is_reached, batch_to, unless_empty, content_to, pack_content, sent, fate, kind_of, IsTurn}
 use Rattle.gb_node.specs.Past.{Happened, ComesTo as NodeComesTo, read, packet_in, came, packed_for, frames_to, numbered, is_taken, is_acked, is_ack}
 use Rattle.gb_node.specs.PastLaw.{PastsSay}
-use Rattle.gb_node.proofs.SentLemmas.{sends}
+use Rattle.gb_node.specs.SendLaw.{SendersRun}
 use Rattle.gb_node.specs.declared.answer.NodeAnswer.{NodeAnswer}
 use Rattle.gb_node.specs.declared.answer.NodeAnswer.TheVariants.{Reply as Replied, Taken, Sent, Ticked, Halted}
 use Rattle.gb_node.specs.declared.answer.PacketAnswer.TheVariants.{Good as TakenGood}
@@ -57,9 +56,9 @@ room_for v b text e = by (is_reached v b) (has_room (window_to v b.number)) refl
     by false u is e = absurd (cc)
 
 -- an event packs nothing for a node, or one frame for which there is room
-packs : (key : List ℕ) (v : NodeValue) (b : NodeId) (e : NodeEvent) (answer : NodeAnswer) (w : NodeValue) → IsTurn v e answer w
+packs : SendersRun → (key : List ℕ) (v : NodeValue) (b : NodeId) (e : NodeEvent) (answer : NodeAnswer) (w : NodeValue) → IsTurn v e answer w
     → (packed_for key b.number e answer ≡ []) ⊎ ((length (packed_for key b.number e answer) ≤ 1) × (has_room (window_to v b.number) ≡ true))
-packs key v b (Pack x) (Sent (SentPacket text)) w turned = by (nat_eq x.number b.number) refl
+packs sends key v b (Pack x) (Sent (SentPacket text)) w turned = by (nat_eq x.number b.number) refl
   where
     frames : List (List Item)
     frames = map (λ (c : Content). c.items) (read key text)
@@ -67,18 +66,18 @@ packs key v b (Pack x) (Sent (SentPacket text)) w turned = by (nat_eq x.number b
     by : (same : Bool) → nat_eq x.number b.number ≡ same → ((if same then frames else []) ≡ []) ⊎ ((length (if same then frames else []) ≤ 1) × (has_room (window_to v b.number) ≡ true))
     by true is = inr (one_read key text, ap (λ n. has_room (window_to v n)) (sym (eqb-true x.number b.number is)) ∙ room_for v x text (sends v (Pack x) text w turned).is)
     by false is = inl refl
-packs key v b (Pack x) (Sent Nothing) w turned = inl refl
-packs key v b (Pack x) (Sent (SentRefused why)) w turned = inl refl
-packs key v b (Pack x) (Replied y) w turned = inl refl
-packs key v b (Pack x) (Taken y) w turned = inl refl
-packs key v b (Pack x) (Ticked y) w turned = inl refl
-packs key v b (Pack x) (Halted y) w turned = inl refl
-packs key v b (Asked r) answer w turned = inl refl
-packs key v b (Came bytes) answer w turned = inl refl
-packs key v b (Again x n) answer w turned = inl refl
-packs key v b (Ack x) answer w turned = inl refl
-packs key v b Tick answer w turned = inl refl
-packs key v b Stop answer w turned = inl refl
+packs sends key v b (Pack x) (Sent Nothing) w turned = inl refl
+packs sends key v b (Pack x) (Sent (SentRefused why)) w turned = inl refl
+packs sends key v b (Pack x) (Replied y) w turned = inl refl
+packs sends key v b (Pack x) (Taken y) w turned = inl refl
+packs sends key v b (Pack x) (Ticked y) w turned = inl refl
+packs sends key v b (Pack x) (Halted y) w turned = inl refl
+packs sends key v b (Asked r) answer w turned = inl refl
+packs sends key v b (Came bytes) answer w turned = inl refl
+packs sends key v b (Again x n) answer w turned = inl refl
+packs sends key v b (Ack x) answer w turned = inl refl
+packs sends key v b Tick answer w turned = inl refl
+packs sends key v b Stop answer w turned = inl refl
 
 -- The frames that are not done are among the last 64.
 
@@ -133,15 +132,15 @@ or_left true c e = absurd (cc)
 or_left false c e = refl
 
 -- so they are at every node
-recent : PastsSay → (plan : NodePlan) (past : List Happened) (v : NodeValue) → NodeComesTo plan past v → (b : NodeId) → AreRecent (λ n. is_acked plan.cluster_key b.number n past) (frames_to plan.cluster_key b.number past)
+recent : SendersRun → PastsSay → (plan : NodePlan) (past : List Happened) (v : NodeValue) → NodeComesTo plan past v → (b : NodeId) → AreRecent (λ n. is_acked plan.cluster_key b.number n past) (frames_to plan.cluster_key b.number past)
 unfolding NodeComesTo frames_to is_acked
-recent pasts plan [] v comes b = record { last = omega arith; near = λ n from to new. absurd (omega (arith, from, to)) }
-recent pasts plan (h ∷ past) v comes b =
+recent sends pasts plan [] v comes b = record { last = omega arith; near = λ n from to new. absurd (omega (arith, from, to)) }
+recent sends pasts plan (h ∷ past) v comes b =
     let key = plan.cluster_key in
     let was = pasts plan past comes.0 comes.1 in
     still_recent (window_to comes.0 b.number) (frames_to key b.number past) (packed_for key b.number h.event h.answer) (λ n. is_acked key b.number n past) (λ n. is_acked key b.number n (h ∷ past)) (was.next b) (was.undone b)
     (λ n new. or_left (is_acked key b.number n past) (nat_le n (length (frames_to key b.number past)) && list_any (is_ack b.number n) (came key h.event h.answer)) new)
-    (recent pasts plan past comes.0 comes.1 b) (packs key comes.0 b h.event h.answer v comes.2)
+    (recent sends pasts plan past comes.0 comes.1 b) (packs sends key comes.0 b h.event h.answer v comes.2)
 
 -- A receiver awaits them.
 
@@ -176,15 +175,15 @@ not_true true c so e = absurd (true≢false (sym (so refl) ∙ e))
 not_true false c so e = refl
 
 -- Every packet that is taken.
-module _ (law : WhatIsWrittenIsRead) (pasts : PastsSay) (packets : PacketsAreHonest) (links : LinksHold) (plan : Plan) where
+module _ (sends : SendersRun) (pasts : PastsSay) (packets : PacketsAreHonest) (links : LinksHold) (plan : Plan) where
   taken_inside : (run : List Did) (before : ClusterValue) (a : NodeId) (bytes : List ℕ) (good : Good) (w : NodeValue) → ComesTo plan run before → a.number < plan.nodes → IsSent before a (Came bytes)
       → IsTurn (node_at before a) (Came bytes) (Taken (TakenGood good)) w → good.frame ≢ Beyond
   taken_inside run before a bytes good w comes inside was_sent turned e =
-      let so = arrives_honestly law pasts packets plan run before a bytes good w comes inside was_sent turned in
+      let so = arrives_honestly pasts packets plan run before a bytes good w comes inside was_sent turned in
       let key = plan.cluster_key in
       let from = so.honest.from in
       let was = pasts (node_plan plan a) (past_at a run) (node_at before a) (have_pasts plan run before a comes inside) in
-      let near = recent pasts (node_plan plan from) (past_at from run) (node_at before from) (have_pasts plan run before from comes so.honest.inside) a in
+      let near = recent sends pasts (node_plan plan from) (past_at from run) (node_at before from) (have_pasts plan run before from comes so.honest.inside) a in
       let said : so.honest.content ≡ so.content = one_content (sym so.honest.text ∙ so.text) in
       let from_is : so.content.from ≡ from.number = sym (ap (λ (x : Content). x.from) said) ∙ so.honest.sender in
       let frame_is : so.content.frame ≡ so.honest.content.frame = sym (ap (λ (x : Content). x.frame) said) in
@@ -197,12 +196,12 @@ module _ (law : WhatIsWrittenIsRead) (pasts : PastsSay) (packets : PacketsAreHon
       awaited r n (length (frames_to key a.number (past_at from run))) some (omega (arith, there, some)) near.last lacks (λ m low high gone. near.near m low high (unacked m low gone)))
       ((λ i. fate (sym frame_is i) (receiver_from (node_at before a) (sym from_is i))) ∙ (sym (ap (λ (g : Good). g.frame) so.good_is) ∙ e))
 
-pub nothing_is_outside : WhatIsWrittenIsRead → PastsSay → PacketsAreHonest → LinksHold → NothingIsOutside
+pub nothing_is_outside : SendersRun → PastsSay → PacketsAreHonest → LinksHold → NothingIsOutside
 unfolding ComesTo
-nothing_is_outside law pasts packets links plan run d v bytes good comes event answer =
+nothing_is_outside sends pasts packets links plan run d v bytes good comes event answer =
     let acts = comes.3 in
     let kept = stays plan run comes.0 comes.1 in
     let count = kept.count in
     let placed = acts.placed in
-    taken_inside law pasts packets links plan run comes.0 d.node bytes good acts.node comes.1 (omega (arith, count, placed)) (subst (IsSent comes.0 d.node) event comes.2)
+    taken_inside sends pasts packets links plan run comes.0 d.node bytes good acts.node comes.1 (omega (arith, count, placed)) (subst (IsSent comes.0 d.node) event comes.2)
     (subst (λ x. IsTurn (node_at comes.0 d.node) (Came bytes) x acts.node) answer (subst (λ x. IsTurn (node_at comes.0 d.node) x d.answer acts.node) event acts.turn))

@@ -2,8 +2,7 @@
 ghost use Rattle.gb_cluster.specs.Links.{LinksHold, NothingIsOutside, PacketsAreHonest, PacketsAreRead};
 ghost use Rattle.gb_cluster.specs.Run.{NodesHavePasts};
 
-use gb_frame::laws::what_is_written_is_read;
-use gb_node::past::pasts_say;
+use gb_node::past::{packets_say, pasts_say};
 
 /// A law of every run: each node is one that was started and came by its own past to what it is, whatever happened at
 /// the others. The function does nothing when it runs; its contract is the law.
@@ -17,7 +16,7 @@ pub fn nodes_have_pasts()
 pub fn packets_are_honest()
     ensures { PacketsAreHonest }
 {
-    what_is_written_is_read();
+    packets_say();
     pasts_say();
 }
 
@@ -36,7 +35,6 @@ pub fn packets_are_read()
 pub fn links_hold()
     ensures { LinksHold }
 {
-    what_is_written_is_read();
     pasts_say();
     packets_are_honest();
 }
@@ -47,7 +45,7 @@ pub fn links_hold()
 pub fn nothing_is_outside()
     ensures { NothingIsOutside }
 {
-    what_is_written_is_read();
+    packets_say();
     pasts_say();
     packets_are_honest();
     links_hold();

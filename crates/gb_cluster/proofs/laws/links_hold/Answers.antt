@@ -2,4 +2,4 @@ use Rattle.gb_cluster.proofs.LinkLemmas.{links_hold}
 use Rattle.gb_cluster.proofs.laws.links_hold.Goals as goal
 
 pub returns : goal.returns
-returns c = links_hold c.what_is_written_is_read.ensures c.pasts_say.ensures c.packets_are_honest.ensures
+returns c = links_hold c.pasts_say.ensures c.packets_are_honest.ensures
