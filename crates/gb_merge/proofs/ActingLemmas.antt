@@ -21,8 +21,7 @@ use Rattle.gb_node.specs.declared.answer.NodeAnswer.TheVariants.{Reply, Taken, S
 use Rattle.gb_node.specs.declared.answer.Sent.TheVariants.{Packet as Gave, Nothing, Refused as Unsent}
 use Rattle.gb_node.specs.declared.event.NodeEvent.{NodeEvent}
 use Rattle.gb_node.specs.declared.event.NodeEvent.TheVariants.{Request as Asked, Packet as Came, Pack, Again, Ack, Tick, Stop}
-use Rattle.gb_node.proofs.EventLemmas.{starved_says}
-use Rattle.gb_node.proofs.SentLemmas.{sends}
+use Rattle.gb_node.specs.SendLaw.{SendersRun, StarvedSays}
 use Rattle.gb_cluster.specs.Links.{PacketsAreHonest}
 use Rattle.gb_cluster.specs.ClusterStep.{NodeActs, receiver_of, posted_by, posted, answer_of, packet_numbered, is_packet_for, IsAt, IsArrival, IsStep, IsPlaced}
 use Rattle.gb_cluster.specs.ClusterValue.{ClusterValue, node_plan, node_at}
@@ -147,10 +146,10 @@ acts pasts honest plan run w a sent (Came bytes) e x new comes within (inl came)
 -- Answers.
 
 -- what is no want of memory is what the node should answer
-pub turned : (old : NodeValue) (n : NodeEvent) (g : NodeAnswer) (new : NodeValue) → IsTurn old n g new → is_starved g ≡ false → (g ≡ node_answer old n) × (new ≡ node_after old n)
+pub turned : StarvedSays → (old : NodeValue) (n : NodeEvent) (g : NodeAnswer) (new : NodeValue) → IsTurn old n g new → is_starved g ≡ false → (g ≡ node_answer old n) × (new ≡ node_after old n)
 unfolding node_answer node_after
-turned old n g new (inr went) fed = went
-turned old n g new (inl starved) fed = absurd (by (starved_says n (turn old n).answer g starved.0))
+turned starves old n g new (inr went) fed = went
+turned starves old n g new (inl starved) fed = absurd (by (starves n (turn old n).answer g starved.0))
   where
     by : (g ≡ Sent (Unsent OutOfMemory)) ⊎ ((r : Request) × (n ≡ Asked r) × (g ≡ Reply (Refused OutOfMemory))) → ⊥
     by (inl is) = let e : true ≡ false = sym (ap is_starved is) ∙ fed in cc
@@ -192,23 +191,23 @@ none_posted n (Ticked ticked) none = refl
 none_posted n (Halted halted) none = refl
 
 -- a packet goes to some node
-one_posted : (v : NodeValue) (n : NodeEvent) (text : List ℕ) (w : NodeValue) → IsTurn v n (Sent (Gave text)) w → (b : NodeId) × (posted n (Sent (Gave text)) ≡ record { to = b; text = text } ∷ [])
-one_posted v (Pack b) text w turn = (b, refl)
-one_posted v (Again b n) text w turn = (b, refl)
-one_posted v (Ack b) text w turn = (b, refl)
-one_posted v (Asked request) text w turn = absurd (let is = (sends v (Asked request) text w turn).is in cc)
-one_posted v (Came bytes) text w turn = absurd (let is = (sends v (Came bytes) text w turn).is in cc)
-one_posted v Tick text w turn = absurd (let is = (sends v Tick text w turn).is in cc)
-one_posted v Stop text w turn = absurd (let is = (sends v Stop text w turn).is in cc)
+one_posted : SendersRun → (v : NodeValue) (n : NodeEvent) (text : List ℕ) (w : NodeValue) → IsTurn v n (Sent (Gave text)) w → (b : NodeId) × (posted n (Sent (Gave text)) ≡ record { to = b; text = text } ∷ [])
+one_posted sends v (Pack b) text w turn = (b, refl)
+one_posted sends v (Again b n) text w turn = (b, refl)
+one_posted sends v (Ack b) text w turn = (b, refl)
+one_posted sends v (Asked request) text w turn = absurd (let is = (sends v (Asked request) text w turn).is in cc)
+one_posted sends v (Came bytes) text w turn = absurd (let is = (sends v (Came bytes) text w turn).is in cc)
+one_posted sends v Tick text w turn = absurd (let is = (sends v Tick text w turn).is in cc)
+one_posted sends v Stop text w turn = absurd (let is = (sends v Stop text w turn).is in cc)
 
-pub posted_is : (v : NodeValue) (n : NodeEvent) (g : NodeAnswer) (w : NodeValue) → IsTurn v n g w → texts (posted n g) ≡ sent_by g
-posted_is v n (Reply reply) w turn = ap texts (none_posted n (Reply reply) refl)
-posted_is v n (Taken taken) w turn = ap texts (none_posted n (Taken taken) refl)
-posted_is v n (Sent (Gave text)) w turn = ap texts (one_posted v n text w turn).1
-posted_is v n (Sent Nothing) w turn = ap texts (none_posted n (Sent Nothing) refl)
-posted_is v n (Sent (Unsent why)) w turn = ap texts (none_posted n (Sent (Unsent why)) refl)
-posted_is v n (Ticked ticked) w turn = ap texts (none_posted n (Ticked ticked) refl)
-posted_is v n (Halted halted) w turn = ap texts (none_posted n (Halted halted) refl)
+pub posted_is : SendersRun → (v : NodeValue) (n : NodeEvent) (g : NodeAnswer) (w : NodeValue) → IsTurn v n g w → texts (posted n g) ≡ sent_by g
+posted_is sends v n (Reply reply) w turn = ap texts (none_posted n (Reply reply) refl)
+posted_is sends v n (Taken taken) w turn = ap texts (none_posted n (Taken taken) refl)
+posted_is sends v n (Sent (Gave text)) w turn = ap texts (one_posted sends v n text w turn).1
+posted_is sends v n (Sent Nothing) w turn = ap texts (none_posted n (Sent Nothing) refl)
+posted_is sends v n (Sent (Unsent why)) w turn = ap texts (none_posted n (Sent (Unsent why)) refl)
+posted_is sends v n (Ticked ticked) w turn = ap texts (none_posted n (Ticked ticked) refl)
+posted_is sends v n (Halted halted) w turn = ap texts (none_posted n (Halted halted) refl)
 
 seam : {X : Type 0} (xs : List X) (y : X) (ys : List X) (k : ℕ) → k ≡ length xs → slice_get (xs ++ y ∷ ys) k ≡ Some y
 seam [] y ys zero is = refl
@@ -221,19 +220,19 @@ numbered_last packets p zero is = absurd (omega (arith, is))
 numbered_last packets p (suc k) is = seam packets p [] k (omega (arith, is))
 
 -- the answer tells what the node gave
-told_is : (before packets : List Posted) (v : NodeValue) (n : NodeEvent) (g : NodeAnswer) (w : NodeValue) → IsTurn v n g w → packets ≡ before ++ posted n g → told packets (answer_of (length before) g) ≡ Some g
-told_is before packets v n (Reply reply) w turn is = refl
-told_is before packets v n (Taken taken) w turn is = refl
-told_is before packets v n (Sent Nothing) w turn is = refl
-told_is before packets v n (Sent (Unsent why)) w turn is = refl
-told_is before packets v n (Ticked ticked) w turn is = refl
-told_is before packets v n (Halted halted) w turn is = refl
-told_is before packets v n (Sent (Gave text)) w turn is =
-    let one = one_posted v n text w turn in
+told_is : SendersRun → (before packets : List Posted) (v : NodeValue) (n : NodeEvent) (g : NodeAnswer) (w : NodeValue) → IsTurn v n g w → packets ≡ before ++ posted n g → told packets (answer_of (length before) g) ≡ Some g
+told_is sends before packets v n (Reply reply) w turn is = refl
+told_is sends before packets v n (Taken taken) w turn is = refl
+told_is sends before packets v n (Sent Nothing) w turn is = refl
+told_is sends before packets v n (Sent (Unsent why)) w turn is = refl
+told_is sends before packets v n (Ticked ticked) w turn is = refl
+told_is sends before packets v n (Halted halted) w turn is = refl
+told_is sends before packets v n (Sent (Gave text)) w turn is =
+    let one = one_posted sends v n text w turn in
     ap (option_map (λ (p : Posted). Sent (Gave p.text))) (ap (λ ps. packet_numbered ps (length before + 1)) (is ∙ ap (λ ps. before ++ ps) one.1) ∙ numbered_last before (record { to = one.0; text = text }) (length before + 1) refl)
 
-pub told_own : (w : ClusterValue) (a : NodeId) (n : NodeEvent) (x : Answer) (new : ClusterValue) (d : Acted w a n x new) → told new.packets x ≡ Some d.own
-told_own w a n x new d = ap (told new.packets) d.answered ∙ told_is w.packets new.packets (node_at w a) n d.own d.acts.node d.acts.turn (ap (λ (v : ClusterValue). v.packets) d.acts.after)
+pub told_own : SendersRun → (w : ClusterValue) (a : NodeId) (n : NodeEvent) (x : Answer) (new : ClusterValue) (d : Acted w a n x new) → told new.packets x ≡ Some d.own
+told_own sends w a n x new d = ap (told new.packets) d.answered ∙ told_is sends w.packets new.packets (node_at w a) n d.own d.acts.node d.acts.turn (ap (λ (v : ClusterValue). v.packets) d.acts.after)
 
 -- the event happens at one of the nodes
 pub placed_so : (plan : Plan) (nodes : ℕ) (a : NodeId) (sent : List (List ℕ)) (n : NodeEvent) (e : Event) → a.number < nodes → IsEventOf plan a sent n e → IsPlaced nodes e

@@ -10,6 +10,7 @@ use Rattle.gb_types.proofs.SameLemmas.{same_number}
 use Rattle.gb_node.specs.NodeValue.{NodeValue, new_node}
 use Rattle.gb_node.specs.Past.{ComesTo as NodeComesTo}
 use Rattle.gb_node.specs.PastLaw.{PastsSay}
+use Rattle.gb_node.specs.SendLaw.{SendersRun, StarvedSays}
 use Rattle.gb_node.specs.declared.answer.NodeAnswer.{NodeAnswer}
 use Rattle.gb_node.specs.declared.tape.TapeEntry.{TapeEntry}
 use Rattle.gb_cluster.specs.Links.{PacketsAreHonest}
@@ -54,17 +55,23 @@ record Goes (plan : Plan) (done : List Pick) (w : ClusterValue) (p : Pick) (x : 
   given : acted.own ≡ node_answer (node_at w p.node) p.entry.event
   after : acted.acts.node ≡ node_after (node_at w p.node) p.entry.event
 
-goes : PastsSay → PacketsAreHonest → (plan : Plan) (done : List Pick) (w : ClusterValue) (p : Pick) (e : Event) (x : Answer) (new : ClusterValue) → Stands plan done w → p.node.number < plan.nodes → IsEventOf plan p.node (sent_with done) p.entry.event e → IsStep w e x new → is_refused x ≡ false → Goes plan done w p x new
-goes pasts honest plan done w p e x new stands within is step fed =
-    let does = acts pasts honest plan (run_of done) w p.node (sent_with done) p.entry.event e x new stands.comes within is stands.sent step in
-    let told_so = told_own w p.node p.entry.event x new does in
-    let both = turned (node_at w p.node) p.entry.event does.own does.acts.node does.acts.turn (fed_is new.packets x does.own told_so fed) in
+-- what holds of every node
+pub record NodeLaws : Type 0 where
+  pub pasts : PastsSay
+  pub senders : SendersRun
+  pub starved : StarvedSays
+
+goes : NodeLaws → PacketsAreHonest → (plan : Plan) (done : List Pick) (w : ClusterValue) (p : Pick) (e : Event) (x : Answer) (new : ClusterValue) → Stands plan done w → p.node.number < plan.nodes → IsEventOf plan p.node (sent_with done) p.entry.event e → IsStep w e x new → is_refused x ≡ false → Goes plan done w p x new
+goes laws honest plan done w p e x new stands within is step fed =
+    let does = acts laws.pasts honest plan (run_of done) w p.node (sent_with done) p.entry.event e x new stands.comes within is stands.sent step in
+    let told_so = told_own laws.senders w p.node p.entry.event x new does in
+    let both = turned laws.starved (node_at w p.node) p.entry.event does.own does.acts.node does.acts.turn (fed_is new.packets x does.own told_so fed) in
     record { acted = does; told_so = told_so; given = both.0; after = both.1 }
 
 -- it goes on, where the entry's answer is what the node gave
-stands_on : (plan : Plan) (done : List Pick) (w : ClusterValue) (p : Pick) (x : Answer) (new : ClusterValue) (g : Goes plan done w p x new) → Stands plan done w → p.node.number < plan.nodes → g.acted.own ≡ p.entry.answer → is_starved p.entry.answer ≡ false → Stands plan (done ++ p ∷ []) new
+stands_on : SendersRun → (plan : Plan) (done : List Pick) (w : ClusterValue) (p : Pick) (x : Answer) (new : ClusterValue) (g : Goes plan done w p x new) → Stands plan done w → p.node.number < plan.nodes → g.acted.own ≡ p.entry.answer → is_starved p.entry.answer ≡ false → Stands plan (done ++ p ∷ []) new
 unfolding ComesTo
-stands_on plan done w p x new g stands within same fed = record {
+stands_on sends plan done w p x new g stands within same fed = record {
   comes = subst (λ (run : List Did). ComesTo plan run new) (sym (run_of-push done p)) (w, stands.comes, g.acted.sent, acts_so);
   node = λ a inside. by a inside (cases_eq p.node.number a.number);
   sent = packets_so;
@@ -78,7 +85,7 @@ stands_on plan done w p x new g stands within same fed = record {
         ap (λ (v : ClusterValue). texts v.packets) g.acted.acts.after
         ∙ (map-append text_of w.packets (posted p.entry.event g.acted.own)
         ∙ (ap (λ (ts : List (List ℕ)). ts ++ texts (posted p.entry.event g.acted.own)) stands.sent
-        ∙ (ap (λ (ts : List (List ℕ)). sent_with done ++ ts) (posted_is (node_at w p.node) p.entry.event g.acted.own g.acted.acts.node g.acted.acts.turn)
+        ∙ (ap (λ (ts : List (List ℕ)). sent_with done ++ ts) (posted_is sends (node_at w p.node) p.entry.event g.acted.own g.acted.acts.node g.acted.acts.turn)
         ∙ (ap (λ (y : NodeAnswer). sent_with done ++ sent_by y) same ∙ sym (sent_with-push done p)))))
 
     by : (a : NodeId) → a.number < plan.nodes → (p.node.number ≡ a.number) ⊎ (p.node.number ≡ a.number → ⊥) → node_at new a ≡ replay plan a (entries_at a.number (done ++ p ∷ []))
@@ -150,17 +157,17 @@ pub is_at-first : (plan : Plan) (events : List Event) (picks : List Pick) (v : C
 unfolding ComesTo
 is_at-first plan events picks v comes = record { stands = stands_first plan v comes; replays = no_replay (new_cluster plan) v comes.1; fed = no_one }
 
-pub is_at-next : PastsSay → PacketsAreHonest → (plan : Plan) (events : List Event) (picks : List Pick) (i : ℕ) (w : ClusterValue) (p : Pick) (e : Event) (new : ClusterValue) → AreEvents plan [] picks events → ArePlaced plan.nodes picks → slice_get picks i ≡ Some p → slice_get events i ≡ Some e → p ≡ get_or picks i p → e ≡ get_or events i e → i < length picks → i < length events
+pub is_at-next : NodeLaws → PacketsAreHonest → (plan : Plan) (events : List Event) (picks : List Pick) (i : ℕ) (w : ClusterValue) (p : Pick) (e : Event) (new : ClusterValue) → AreEvents plan [] picks events → ArePlaced plan.nodes picks → slice_get picks i ≡ Some p → slice_get events i ≡ Some e → p ≡ get_or picks i p → e ≡ get_or events i e → i < length picks → i < length events
     → IsAt plan events picks i w → IsTold w e p.entry.answer new → IsAt plan events picks (i + 1) new
-is_at-next pasts honest plan events picks i w p e new are placed p_at e_at p_is e_is p_in e_in at so =
+is_at-next laws honest plan events picks i w p e new are placed p_at e_at p_is e_is p_in e_in at so =
     let within = placed_at plan.nodes picks i p placed p_at in
-    let g = goes pasts honest plan (take i picks) w p e so.answer new at.stands within (event_at plan [] picks events i p e are p_at e_at) so.step so.fed in
+    let g = goes laws honest plan (take i picks) w p e so.answer new at.stands within (event_at plan [] picks events i p e are p_at e_at) so.step so.fed in
     let same : g.acted.own ≡ p.entry.answer = some_in (sym g.told_so ∙ so.told_is) in
     let fed : is_starved p.entry.answer ≡ false = fed_is new.packets so.answer p.entry.answer so.told_is so.fed in
     let picks_are : take (i + 1) picks ≡ take i picks ++ p ∷ [] = take_more picks i p p_in ∙ ap (λ (r : Pick). take i picks ++ r ∷ []) (sym p_is) in
     let events_are : take (i + 1) events ≡ take i events ++ e ∷ [] = take_more events i e e_in ∙ ap (λ (r : Event). take i events ++ r ∷ []) (sym e_is) in
     record {
-      stands = subst (λ (ps : List Pick). Stands plan ps new) (sym picks_are) (stands_on plan (take i picks) w p so.answer new g at.stands within same fed);
+      stands = subst (λ (ps : List Pick). Stands plan ps new) (sym picks_are) (stands_on laws.senders plan (take i picks) w p so.answer new g at.stands within same fed);
       replays = subst (λ (es : List Event). Replays (new_cluster plan) es (take (i + 1) picks) new) (sym events_are) (subst (λ (ps : List Pick). Replays (new_cluster plan) (take i events ++ e ∷ []) ps new) (sym picks_are) (replays-push (new_cluster plan) (take i events) (take i picks) w e p so.answer new at.replays so.step so.told_is));
       fed = subst AreFed (sym picks_are) (fed-push (take i picks) p at.fed fed);
     }
@@ -168,11 +175,11 @@ is_at-next pasts honest plan events picks i w p e new are placed p_at e_at p_is 
     some_in : {x y : NodeAnswer} → Some x ≡ Some y → x ≡ y
     some_in e = cc
 
-pub is_wrong : PastsSay → PacketsAreHonest → (plan : Plan) (events : List Event) (picks : List Pick) (i : ℕ) (w : ClusterValue) (p : Pick) (e : Event) → AreEvents plan [] picks events → ArePlaced plan.nodes picks → slice_get picks i ≡ Some p → slice_get events i ≡ Some e
+pub is_wrong : NodeLaws → PacketsAreHonest → (plan : Plan) (events : List Event) (picks : List Pick) (i : ℕ) (w : ClusterValue) (p : Pick) (e : Event) → AreEvents plan [] picks events → ArePlaced plan.nodes picks → slice_get picks i ≡ Some p → slice_get events i ≡ Some e
     → IsAt plan events picks i w → IsUntold w e p.entry.answer → IsWrong plan picks
-is_wrong pasts honest plan events picks i w p e are placed p_at e_at at so =
+is_wrong laws honest plan events picks i w p e are placed p_at e_at at so =
     let within = placed_at plan.nodes picks i p placed p_at in
-    let g = goes pasts honest plan (take i picks) w p e so.answer so.new at.stands within (event_at plan [] picks events i p e are p_at e_at) so.step so.fed in
+    let g = goes laws honest plan (take i picks) w p e so.answer so.new at.stands within (event_at plan [] picks events i p e are p_at e_at) so.step so.fed in
     record {
       done = take i picks;
       pick = p;
@@ -181,12 +188,12 @@ is_wrong pasts honest plan events picks i w p e are placed p_at e_at at so =
       differs = inr (λ is. so.other (g.told_so ∙ ap (λ (y : NodeAnswer). Some y) (g.given ∙ (ap (λ (v : NodeValue). node_answer v p.entry.event) (at.stands.node p.node within) ∙ sym is))));
     }
 
-pub fault_of : PastsSay → PacketsAreHonest → (plan : Plan) (events : List Event) (picks : List Pick) (i : ℕ) (w : ClusterValue) (p : Pick) (e : Event) (f : AuditFault) → AreEvents plan [] picks events → ArePlaced plan.nodes picks → slice_get picks i ≡ Some p → slice_get events i ≡ Some e
+pub fault_of : NodeLaws → PacketsAreHonest → (plan : Plan) (events : List Event) (picks : List Pick) (i : ℕ) (w : ClusterValue) (p : Pick) (e : Event) (f : AuditFault) → AreEvents plan [] picks events → ArePlaced plan.nodes picks → slice_get picks i ≡ Some p → slice_get events i ≡ Some e
     → IsAt plan events picks i w → IsStepFault w e p.entry.answer f → IsFollowFault plan picks f
-fault_of pasts honest plan events picks i w p e Stranger are placed p_at e_at at is = absurd is
-fault_of pasts honest plan events picks i w p e Stuck are placed p_at e_at at is = absurd is
-fault_of pasts honest plan events picks i w p e Differs are placed p_at e_at at is = is_wrong pasts honest plan events picks i w p e are placed p_at e_at at is
-fault_of pasts honest plan events picks i w p e OutOfMemory are placed p_at e_at at is = tt
+fault_of laws honest plan events picks i w p e Stranger are placed p_at e_at at is = absurd is
+fault_of laws honest plan events picks i w p e Stuck are placed p_at e_at at is = absurd is
+fault_of laws honest plan events picks i w p e Differs are placed p_at e_at at is = is_wrong laws honest plan events picks i w p e are placed p_at e_at at is
+fault_of laws honest plan events picks i w p e OutOfMemory are placed p_at e_at at is = tt
 
 pub followed : (plan : Plan) (events : List Event) (picks : List Pick) (n : ℕ) (v : ClusterValue) → take n events ≡ events → take n picks ≡ picks → IsAt plan events picks n v → IsFollowed plan events picks v
 followed plan events picks n v all every at = record {

@@ -16,7 +16,7 @@ use gb_cluster::event::Event;
 use gb_cluster::laws::packets_are_honest;
 use gb_cluster::posted::Posted;
 use gb_node::answer::{Halted, NodeAnswer, PacketAnswer, Sent, Ticked};
-use gb_node::past::pasts_say;
+use gb_node::past::{packets_say, pasts_say};
 use gb_types::refusal::Refusal;
 use gb_types::reply::Reply;
 
@@ -125,6 +125,7 @@ pub(crate) fn follow(
     ensures err { IfErr result (IsFollowFault cluster.old.plan order.now) }
 {
     pasts_say();
+    packets_say();
     packets_are_honest();
     for i in 0..events.len() {
         let event = &events[i];

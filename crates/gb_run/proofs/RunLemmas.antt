@@ -11,7 +11,7 @@ use Rattle.gb_node.specs.declared.answer.NodeAnswer.TheVariants.{Reply as Replie
 use Rattle.gb_node.specs.declared.answer.Sent.TheVariants.{Packet as SentPacket, Nothing as SentNothing, Refused as SentRefused}
 use Rattle.gb_node.specs.declared.event.NodeEvent.{NodeEvent}
 use Rattle.gb_node.specs.declared.event.NodeEvent.TheVariants.{Request as Asked, Packet as Came, Pack, Again, Ack, Tick, Stop}
-use Rattle.gb_node.proofs.SentLemmas as sent
+use Rattle.gb_node.specs.SendLaw.{SendersRun}
 use Rattle.gb_cluster.proofs.CodeLemmas.{get_contains}
 use Rattle.gb_cluster.proofs.NodesLemmas.{stays}
 use Rattle.gb_cluster.specs.ClusterStep.{posted, answer_of, packet_numbered, is_packet_for, NodeActs, IsAt, IsArrival, IsPlaced, IsStep}
@@ -51,25 +51,25 @@ Sends (Again b n) = Unit {0}
 Sends (Ack b) = Unit {0}
 Sends event = ⊥
 
-sends : (v w : NodeValue) (event : NodeEvent) (text : List ℕ) → IsTurn v event (Sent (SentPacket text)) w → Sends event
-sends v w (Pack b) text turned = tt
-sends v w (Again b n) text turned = tt
-sends v w (Ack b) text turned = tt
-sends v w (Asked request) text turned = absurd (let is = (sent.sends v (Asked request) text w turned).is in cc)
-sends v w (Came bytes) text turned = absurd (let is = (sent.sends v (Came bytes) text w turned).is in cc)
-sends v w Tick text turned = absurd (let is = (sent.sends v Tick text w turned).is in cc)
-sends v w Stop text turned = absurd (let is = (sent.sends v Stop text w turned).is in cc)
+sends : SendersRun → (v w : NodeValue) (event : NodeEvent) (text : List ℕ) → IsTurn v event (Sent (SentPacket text)) w → Sends event
+sends law v w (Pack b) text turned = tt
+sends law v w (Again b n) text turned = tt
+sends law v w (Ack b) text turned = tt
+sends law v w (Asked request) text turned = absurd (let is = (law v (Asked request) text w turned).is in cc)
+sends law v w (Came bytes) text turned = absurd (let is = (law v (Came bytes) text w turned).is in cc)
+sends law v w Tick text turned = absurd (let is = (law v Tick text w turned).is in cc)
+sends law v w Stop text turned = absurd (let is = (law v Stop text w turned).is in cc)
 
 -- The answer of the cluster tells that of the node, among the packets that there are then, and later.
 
-own_is : (v w : NodeValue) (event : NodeEvent) (own : NodeAnswer) (before rest : List Posted) → IsTurn v event own w → own_answer ((before ++ posted event own) ++ rest) (answer_of (length before) own) ≡ Some own
-own_is v w event (Replied reply) before rest turned = refl
-own_is v w event (Taken taken) before rest turned = refl
-own_is v w event (Ticked ticked) before rest turned = refl
-own_is v w event (Halted halted) before rest turned = refl
-own_is v w event (Sent SentNothing) before rest turned = refl
-own_is v w event (Sent (SentRefused why)) before rest turned = refl
-own_is v w event (Sent (SentPacket text)) before rest turned = by event (sends v w event text turned)
+own_is : SendersRun → (v w : NodeValue) (event : NodeEvent) (own : NodeAnswer) (before rest : List Posted) → IsTurn v event own w → own_answer ((before ++ posted event own) ++ rest) (answer_of (length before) own) ≡ Some own
+own_is law v w event (Replied reply) before rest turned = refl
+own_is law v w event (Taken taken) before rest turned = refl
+own_is law v w event (Ticked ticked) before rest turned = refl
+own_is law v w event (Halted halted) before rest turned = refl
+own_is law v w event (Sent SentNothing) before rest turned = refl
+own_is law v w event (Sent (SentRefused why)) before rest turned = refl
+own_is law v w event (Sent (SentPacket text)) before rest turned = by event (sends law v w event text turned)
   where
     at : (b : NodeId) → option_map Sent (option_map (λ (p : Posted). SentPacket p.text) (packet_numbered ((before ++ record { to = b; text = text } ∷ []) ++ rest) (length before + 1))) ≡ Some (Sent (SentPacket text))
     at b = ap (λ (o : Option Posted). option_map Sent (option_map (λ (p : Posted). SentPacket p.text) o)) (numbered_next before rest (record { to = b; text = text }))
@@ -119,21 +119,21 @@ one_more v w e a at event own acts sent is = record {
     here = ap (λ (ps : List Posted). did_in ps e a) (sym (append-nil w.packets)) ∙ is []
 
 -- the answer of the node that acts, among all packets then and later
-acts_own : (v w : ClusterValue) (at : NodeId) (event : NodeEvent) (own : NodeAnswer) (a : Answer) (rest : List Posted) → NodeActs v at event own w → a ≡ answer_of (length v.packets) own → own_answer (w.packets ++ rest) a ≡ Some own
-acts_own v w at event own a rest acts answered =
+acts_own : SendersRun → (v w : ClusterValue) (at : NodeId) (event : NodeEvent) (own : NodeAnswer) (a : Answer) (rest : List Posted) → NodeActs v at event own w → a ≡ answer_of (length v.packets) own → own_answer (w.packets ++ rest) a ≡ Some own
+acts_own law v w at event own a rest acts answered =
     ap (own_answer (w.packets ++ rest)) answered
     ∙ (ap (λ (n : ClusterValue). own_answer (n.packets ++ rest) (answer_of (length v.packets) own)) acts.after
-    ∙ own_is (node_at v at) acts.node event own v.packets rest acts.turn)
+    ∙ own_is law (node_at v at) acts.node event own v.packets rest acts.turn)
 
-one_step : (v w : ClusterValue) (e : Event) (a : Answer) → IsStep v e a w → IsOneMore v e a w
-one_step v w (At at event) a step = by (is_packet_for (node_at v at) event) refl step
+one_step : SendersRun → (v w : ClusterValue) (e : Event) (a : Answer) → IsStep v e a w → IsOneMore v e a w
+one_step law v w (At at event) a step = by (is_packet_for (node_at v at) event) refl step
   where
     by : (b : Bool) → is_packet_for (node_at v at) event ≡ b → MatchBool b ((a ≡ NotNoise) × (w ≡ v)) (IsAt v at event a w) → IsOneMore v (At at event) a w
     by true is step = nothing_more v w (At at event) a step.1 (λ ps. ap (λ x. did_in ps (At at event) x) step.0)
     by false is step =
         one_more v w (At at event) a at event step.0 step.1 (λ bytes same yes. absurd (let n : true ≡ false = sym yes ∙ is in cc))
-        (λ rest. ap (did_with at event) (acts_own v w at event step.0 a rest step.1 step.2))
-one_step v w (Arrive k) a step = by (packet_numbered v.packets k) refl step
+        (λ rest. ap (did_with at event) (acts_own law v w at event step.0 a rest step.1 step.2))
+one_step law v w (Arrive k) a step = by (packet_numbered v.packets k) refl step
   where
     there : (k : ℕ) (p : Posted) → packet_numbered v.packets k ≡ Some p → Contains v.packets p
     there zero p e = absurd (cc)
@@ -146,7 +146,7 @@ one_step v w (Arrive k) a step = by (packet_numbered v.packets k) refl step
     by None is step = nothing_more v w (Arrive k) a step.1 (λ ps. ap (λ x. did_in ps (Arrive k) x) step.0 ∙ none_arrives (packet_numbered ps k))
     by (Some p) is step =
         one_more v w (Arrive k) a p.to (Came p.text) step.0 step.1 (λ bytes same yes. subst (λ t. Contains v.packets (record { to = p.to; text = t })) (bytes_in p.text bytes same) (there k p is))
-        (λ rest. ap (λ (o : Option Posted). did_arrive o (own_answer (w.packets ++ rest) a)) (kept rest) ∙ ap (did_with p.to (Came p.text)) (acts_own v w p.to (Came p.text) step.0 a rest step.1 step.2))
+        (λ rest. ap (λ (o : Option Posted). did_arrive o (own_answer (w.packets ++ rest) a)) (kept rest) ∙ ap (did_with p.to (Came p.text)) (acts_own law v w p.to (Came p.text) step.0 a rest step.1 step.2))
       where
         kept : (rest : List Posted) → packet_numbered (w.packets ++ rest) k ≡ Some p
         kept rest =
@@ -181,8 +181,8 @@ pub run_begins : (plan : Plan) (rs : List Answer) (v : ClusterValue) → rs ≡ 
 unfolding all_did AreSteps
 run_begins plan rs v none is comes = subst (λ (xs : List Answer). Goes plan [] xs v) (sym none) (record { stepped = is; comes = comes; settled = λ rest. refl; count = refl })
 
-run_on : (plan : Plan) (es : List Event) (rs : List Answer) (v w : ClusterValue) (e : Event) (a : Answer) → Goes plan es rs v → IsStep v e a w → Goes plan (es ++ e ∷ []) (rs ++ a ∷ []) w
-run_on plan es rs v w e a was step = record {
+run_on : SendersRun → (plan : Plan) (es : List Event) (rs : List Answer) (v w : ClusterValue) (e : Event) (a : Answer) → Goes plan es rs v → IsStep v e a w → Goes plan (es ++ e ∷ []) (rs ++ a ∷ []) w
+run_on law plan es rs v w e a was step = record {
   stepped = steps_more (new_cluster plan) v w es rs e a was.stepped step;
   comes = subst (λ (ds : List Did). ComesTo plan ds w) (sym all) (one.comes plan (reverse (all_did v.packets es rs)) was.comes);
   settled = λ rest.
@@ -193,7 +193,7 @@ run_on plan es rs v w e a was step = record {
 }
   where
     one : IsOneMore v e a w
-    one = one_step v w e a step
+    one = one_step law v w e a step
 
     grown : (rest : List Posted) → all_did (w.packets ++ rest) es rs ≡ all_did v.packets es rs
     grown rest = ap (λ (ps : List Posted). all_did (ps ++ rest) es rs) one.grows ∙ (ap (λ (ps : List Posted). all_did ps es rs) (append_assoc v.packets one.more rest) ∙ was.settled (one.more ++ rest))
@@ -210,9 +210,9 @@ run_on plan es rs v w e a was step = record {
         ∙ (reverse-append (all_did w.packets es rs) (did_in w.packets e a) ∙ ap (λ ds. reverse (did_in w.packets e a) ++ reverse ds) first)
 
 -- one event more
-pub run_goes : (plan : Plan) (before es : List Event) (rs answers : List Answer) (v w : ClusterValue) (e : Event) (a : Answer) → Goes plan before rs v → es ≡ before ++ e ∷ [] → answers ≡ rs ++ a ∷ [] → IsStep v e a w → Goes plan es answers w
-run_goes plan before es rs answers v w e a was events are step =
-    subst (λ (xs : List Event). Goes plan xs answers w) (sym events) (subst (λ (ys : List Answer). Goes plan (before ++ e ∷ []) ys w) (sym are) (run_on plan before rs v w e a was step))
+pub run_goes : SendersRun → (plan : Plan) (before es : List Event) (rs answers : List Answer) (v w : ClusterValue) (e : Event) (a : Answer) → Goes plan before rs v → es ≡ before ++ e ∷ [] → answers ≡ rs ++ a ∷ [] → IsStep v e a w → Goes plan es answers w
+run_goes law plan before es rs answers v w e a was events are step =
+    subst (λ (xs : List Event). Goes plan xs answers w) (sym events) (subst (λ (ys : List Answer). Goes plan (before ++ e ∷ []) ys w) (sym are) (run_on law plan before rs v w e a was step))
 
 -- what was found is a run
 pub is_run : (plan : Plan) (es : List Event) (rs : List Answer) (packets : List Posted) (v : ClusterValue) → Goes plan es rs v → packets ≡ v.packets → IsRun plan es rs packets v

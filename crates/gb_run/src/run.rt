@@ -11,6 +11,7 @@ use gb_cluster::cluster::Cluster;
 use gb_cluster::event::Event;
 use gb_isolation::laws::groups_are_isolated;
 use gb_node::answer::{Halted, PacketAnswer, Ticked};
+use gb_node::past::packets_say;
 use gb_trace::trace::Trace;
 use gb_types::memory::OutOfMemory;
 use gb_types::plan::Plan;
@@ -72,6 +73,7 @@ pub fn run(alloc: Global, plan: Plan, events: &[Event]) -> Result<Trace, OutOfMe
     ensures refused { IfOk result (λ t. t.refused ≡ list_any is_starved t.answers.items) }
 {
     groups_are_isolated();
+    packets_say();
     let mut cluster = Cluster::start(alloc, &plan)?;
     let mut answers = Vec::with_capacity(alloc, events.len())?;
     for event in events {

@@ -34,7 +34,7 @@ returns-in_err-happen-clause-err c =
     let p_at : slice_get picks i ≡ Some p = slice_get_read picks (length picks) i p refl inside c.index-order-i.is in
     let fault = c.in_err-happen.field-0.0 in
     err_so c.from_residual.result fault (IsFollowFault c.args.cluster.now.plan picks) c.from_residual.ensures.1
-    (fault_of c.pasts_say.ensures c.packets_are_honest.ensures c.args.cluster.now.plan events picks i c.loop-i.cluster p e fault c.requires.events c.requires.placed p_at e_at c.loop-i.invariant
+    (fault_of (record { pasts = c.pasts_say.ensures; senders = c.packets_say.ensures.senders; starved = c.packets_say.ensures.starved }) c.packets_are_honest.ensures c.args.cluster.now.plan events picks i c.loop-i.cluster p e fault c.requires.events c.requires.placed p_at e_at c.loop-i.invariant
     (subst (λ (g : NodeAnswer). IsStepFault c.loop-i.cluster e g fault) c.answer.ensures c.in_err-happen.ensures.err))
 
 pub loop-i-preserved : goal.loop-i-preserved
@@ -47,5 +47,5 @@ loop-i-preserved c =
     let inside : i < length picks = omega (arith, c.loop-i-test.true, c.requires.count) in
     let e_at : slice_get events i ≡ Some e = slice_get_read events (length events) i e refl c.loop-i-test.true c.index-events-i.is in
     let p_at : slice_get picks i ≡ Some p = slice_get_read picks (length picks) i p refl inside c.index-order-i.is in
-    is_at-next c.pasts_say.ensures c.packets_are_honest.ensures c.args.cluster.now.plan events picks i c.loop-i.cluster p e c.happen.new.cluster c.requires.events c.requires.placed p_at e_at c.index-order-i.is c.index-events-i.is inside c.loop-i-test.true c.loop-i.invariant
+    is_at-next (record { pasts = c.pasts_say.ensures; senders = c.packets_say.ensures.senders; starved = c.packets_say.ensures.starved }) c.packets_are_honest.ensures c.args.cluster.now.plan events picks i c.loop-i.cluster p e c.happen.new.cluster c.requires.events c.requires.placed p_at e_at c.index-order-i.is c.index-events-i.is inside c.loop-i-test.true c.loop-i.invariant
     (subst (λ (g : NodeAnswer). IsTold c.loop-i.cluster e g c.happen.new.cluster) c.answer.ensures c.in_ok-happen.ensures.ok)

@@ -12,7 +12,7 @@ loop-event-preserved c =
     let events = c.args.events.now in
     let i = c.loop-event.event-index in
     let e = c.event-item.result in
-    run_goes c.args.plan (take i events) _ c.loop-event.answers.items _ c.loop-event.cluster c.step.new.self e c.in_ok-answer.answer c.loop-event.invariant
+    run_goes c.packets_say.ensures.senders c.args.plan (take i events) _ c.loop-event.answers.items _ c.loop-event.cluster c.step.new.self e c.in_ok-answer.answer c.loop-event.invariant
     (take_more events i e (omega arith) ∙ ap (λ (x : Event). take i events ++ x ∷ []) (sym c.event-item.is)) c.in_ok-push.ensures.items c.in_ok-answer.ensures.step
 
 pub returns-clause-run : goal.returns-clause-run
