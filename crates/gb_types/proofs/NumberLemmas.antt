@@ -1,41 +1,77 @@
 -- Which words spell a number.
-use Rattle.std.proofs.Common.{◌≡◌, ℕ, ◌<◌, ◌≤◌, ◌^◌, ◌↔◌, ◌⊎◌, inl, inr, List, [], ◌∷◌, length, get_or, Option, Some, None, nat_le, sym, ap, ◌∙◌, subst, arith, decimal, Result, Ok, Err}
-use Rattle.std.specs.Str.Parse.{AllDigits, digits_value, ParsesUnsigned}
-use Rattle.std.specs.Result.{OkIff, MatchResult, result_ok}
-use Rattle.std.specs.Str.{IsUtf8}
-use Rattle.std.proofs.lemmas.Str.{IsUtf8-from_ascii}
+use Rattle.std.proofs.Common.{◌≡◌, ℕ, zero, suc, ◌+◌, ◌-◌, ◌*◌, ◌<◌, ◌≤◌, ◌^◌, ◌↔◌, ◌⊎◌, inl, inr, true, false, List, [], ◌∷◌, length, take, get_or, Option, Some, None, nat_le, refl, sym, ap, subst, ◌∙◌, arith, decimal}
+use Rattle.std.specs.Char.{digit_value, is_ascii_digit}
+use Rattle.std.specs.Int.{IsInRange}
+use Rattle.std.specs.Str.Parse.{AllDigits, digits_value, digits_value_after}
 use Rattle.std.specs.Bool.{then_some}
+use Rattle.std.proofs.lemmas.Str.{digit_value_digit}
 use Rattle.std.proofs.lemmas.Bool.{cases_eq, cases_lt}
 use Rattle.std.proofs.lemmas.Bool.Decides.{nat_tests}
-use Rattle.std.proofs.lemmas.Str.Parse.{IsNumeralModel, numerals_by_value, tells_digits, parse_plain, not_in_digits}
-use Rattle.std.proofs.lemmas.Fmt.{decimal_injective, decimal-digits_value, first_decimal, decimal_digit, decimal_is_IsNumeral, parse-decimal, IsAscii-decimal}
+use Rattle.std.proofs.lemmas.Str.Parse.{IsNumeralModel, numerals_by_value, tells_digits, digits_value-take-le}
+use Rattle.std.proofs.lemmas.Fmt.{decimal_injective, decimal-digits_value, first_decimal, decimal_digit, decimal_is_IsNumeral}
 
 own : IsNumeralModel (AllDigits 10) (digits_value 10)
 own = numerals_by_value (AllDigits 10) tells_digits
 
--- what begins with a sign, or with a zero before more digits
+pub is_digit : (c : ℕ) → is_ascii_digit c ≡ true → IsInRange 48 57 c
+is_digit c digit = (grind (arith, nat_tests, digit), grind (arith, nat_tests, digit))
+
+pub no_digit : (c : ℕ) → is_ascii_digit c ≡ false → IsInRange 48 57 c → ⊥
+no_digit c not range = grind (arith, nat_tests, not, range)
+
+-- the digits of a front, and one more
+value_after_more : (n : ℕ) (ds : List ℕ) (i : ℕ) → i < length ds → digits_value_after 10 n (take (suc i) ds) ≡ digits_value_after 10 n (take i ds) * 10 + digit_value (get_or ds i 0)
+value_after_more n [] i l = absurd (omega arith)
+value_after_more n (c ∷ cs) zero l = refl
+value_after_more n (c ∷ cs) (suc i) l = value_after_more (n * 10 + digit_value c) cs i (omega arith)
+
+all_digits_more : (ds : List ℕ) (i : ℕ) → i < length ds → AllDigits 10 (take i ds) → digit_value (get_or ds i 0) < 10 → AllDigits 10 (take (suc i) ds)
+all_digits_more [] i l all more = absurd (omega arith)
+all_digits_more (c ∷ cs) zero l all more = (more, tt)
+all_digits_more (c ∷ cs) (suc i) l all more = (all.0, all_digits_more cs i (omega arith) all.1 more)
+
+-- a front that was read, and one more digit, whose number fits
+pub read_more : (ds : List ℕ) (i number next : ℕ) → i < length ds → AllDigits 10 (take i ds) × (digits_value 10 (take i ds) ≡ number) → IsInRange 48 57 (get_or ds i 0)
+    → next ≡ number * 10 + (get_or ds i 0 - 48) → AllDigits 10 (take (i + 1) ds) × (digits_value 10 (take (i + 1) ds) ≡ next)
+read_more ds i number next l read digit is =
+    let weight = digit_value_digit (get_or ds i 0) digit in
+    let one : suc i ≡ i + 1 = omega arith in
+    let value : digits_value 10 (take i ds) * 10 + digit_value (get_or ds i 0) ≡ next = omega (arith, read.1, is, weight) in
+    subst (λ k. AllDigits 10 (take k ds) × (digits_value 10 (take k ds) ≡ next)) one (all_digits_more ds i l read.0 (omega (arith, weight, digit)), value_after_more 0 ds i l ∙ value)
+
+-- and whose number does not
+pub too_many_bits : (ds : List ℕ) (i number : ℕ) → i < length ds → AllDigits 10 (take i ds) × (digits_value 10 (take i ds) ≡ number) → IsInRange 48 57 (get_or ds i 0)
+    → 2 ^ 64 ≤ number * 10 + (get_or ds i 0 - 48) → 2 ^ 64 ≤ digits_value 10 ds
+too_many_bits ds i number l read digit many =
+    let more = read_more ds i number (number * 10 + (get_or ds i 0 - 48)) l read digit refl in
+    omega (arith, more.1, many, digits_value-take-le 10 ds (i + 1) (omega arith))
+
+-- what begins with no digit, or with a zero before more digits
 abbrev pub BeginsBadly : List ℕ → Type 0
-BeginsBadly word = (get_or word 0 0 ≡ 43) ⊎ ((get_or word 0 0 ≡ 48) × (1 < length word))
+BeginsBadly word = (word ≡ []) ⊎ ((get_or word 0 0 ≡ 48) × (1 < length word))
 
 -- no number does
 pub not_badly : (n : ℕ) (word : List ℕ) → n < 2 ^ 64 → word ≡ decimal n → BeginsBadly word → ⊥
-not_badly n word small e (inl plus) =
-    let numeral = decimal_is_IsNumeral n small in
-    not_in_digits own (decimal n) 43 numeral.0.1 (λ range. omega (arith, range)) 0 numeral.0.0 (ap (λ w. get_or w 0 0) (sym e) ∙ plus)
+not_badly n word small e (inl none) = let numeral = decimal_is_IsNumeral n small in let empty : length (decimal n) ≡ 0 = ap length (sym e ∙ none) in omega (arith, numeral.0.0, empty)
 not_badly n word small e (inr zeros) =
     elim (cases_eq n 0) [
       | inl none ↦ let one : length word ≡ 1 = ap length (e ∙ ap decimal none ∙ decimal_digit 0 (omega arith)) in let more = zeros.1 in omega (arith, one, more)
-      | inr some ↦ let first = first_decimal n (omega arith) small in let zero : get_or (decimal n) 0 0 ≡ 48 = ap (λ w. get_or w 0 0) (sym e) ∙ zeros.0 in omega (arith, first, zero)
+      | inr some ↦ let first = first_decimal n (omega arith) small in let none : get_or (decimal n) 0 0 ≡ 48 = ap (λ w. get_or w 0 0) (sym e) ∙ zeros.0 in omega (arith, first, none)
     ]
 
--- a word that begins well reads as what it spells
-pub reads_back : {E : Type 0} (word : List ℕ) (r : Result ℕ E) (number : ℕ) → ParsesUnsigned 64 10 word r → r ≡ Ok number → (BeginsBadly word → ⊥) → (decimal number ≡ word) × (number < 2 ^ 64)
-reads_back {E} word r number parsed is well =
-    let read = parse_plain own 64 word r parsed (λ plus. well (inl plus)) in
-    let P : Result ℕ E → Type 0 = λ r. OkIff r (AllDigits 10 word × (0 < length word) × (digits_value 10 word < 2 ^ 64)) (digits_value 10 word) in
-    let ok = subst P is read in
-    let one : get_or word 0 0 ≡ 48 → length word ≡ 1 = λ zero. elim (cases_lt 1 (length word)) [ inl more ↦ absurd (well (inr (zero, more))) | inr few ↦ let some = ok.0.1 in omega arith ] in
-    (rw ok.1 (decimal-digits_value own word ok.0.0 ok.0.1 one ok.0.2), rw ok.1 ok.0.2)
+-- digits that begin well spell the number that they write
+pub reads_back : (word : List ℕ) → AllDigits 10 word → digits_value 10 word < 2 ^ 64 → (BeginsBadly word → ⊥) → decimal (digits_value 10 word) ≡ word
+reads_back [] all small well = absurd (well (inl refl))
+reads_back (c ∷ cs) all small well =
+    let one : c ≡ 48 → length (c ∷ cs) ≡ 1 = λ least. elim (cases_lt 1 (length (c ∷ cs))) [ inl more ↦ absurd (well (inr (least, more))) | inr few ↦ omega arith ] in
+    decimal-digits_value own (c ∷ cs) all (omega arith) one small
+
+-- a number's word are digits, and it has few bits
+pub no_digits : (n : ℕ) (word : List ℕ) → n < 2 ^ 64 → word ≡ decimal n → (AllDigits 10 word → 2 ^ 64 ≤ digits_value 10 word) → ⊥
+no_digits n word small e many =
+    let numeral = decimal_is_IsNumeral n small in
+    let least : 2 ^ 64 ≤ digits_value 10 word = many (rw e numeral.0.1) in
+    let is : digits_value 10 word ≡ n = ap (digits_value 10) e ∙ numeral.1 in omega (arith, least, is)
 
 -- the answer, where the word spells this number
 pub answers : (word : List ℕ) (max number : ℕ) (r : Option ℕ) → max < 2 ^ 64 → number < 2 ^ 64 → decimal number ≡ word → r ≡ then_some (nat_le number max) number
@@ -55,18 +91,3 @@ answers word max number r fits small spelt is n =
 -- the answer, where it spells none
 pub refuses : (word : List ℕ) (max : ℕ) (r : Option ℕ) → ((n : ℕ) → n ≤ max → word ≡ decimal n → ⊥) → r ≡ None → (n : ℕ) → (r ≡ Some n) ↔ ((n ≤ max) × (word ≡ decimal n))
 refuses word max r unspelt is n = (λ e. cc, λ h. absurd (unspelt n h.0 h.1))
-
--- a number's word is text
-pub no_text : {X E : Type 0} (n : ℕ) (word : List ℕ) (P : X → Type 0) (Q : E → Type 0) (r : Result X E) → n < 2 ^ 64 → word ≡ decimal n → MatchResult r P (λ e. (¬ (IsUtf8 word)) × Q e) → result_ok r ≡ None → ⊥
-no_text n word P Q (Ok x) small e h none = cc
-no_text n word P Q (Err x) small e h none = h.0 (rw e (IsUtf8-from_ascii _ (IsAscii-decimal n small)))
-
--- and parses
-pub no_number : {E : Type 0} (n : ℕ) (word : List ℕ) (r : Result ℕ E) → n < 2 ^ 64 → word ≡ decimal n → ParsesUnsigned 64 10 word r → result_ok r ≡ None → ⊥
-no_number {E} n word r small e parsed none = let read = parse-decimal {E = E} 64 n word r small small e parsed in cc
-
--- a word of one byte
-pub only_digit : (word : List ℕ) (d : ℕ) → length word ≡ 1 → d ≡ get_or word 0 0 → d ∷ [] ≡ word
-only_digit [] d one is = absurd (omega arith)
-only_digit (b ∷ []) d one is = ap (λ x. x ∷ []) is
-only_digit (b ∷ c ∷ rest) d one is = absurd (omega arith)

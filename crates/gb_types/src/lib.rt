@@ -9,6 +9,7 @@ pub mod kind;
 pub mod kind_word;
 pub mod laws;
 pub mod limits;
+mod log_text;
 pub mod members_word;
 pub mod memory;
 pub mod message;

@@ -1,16 +1,40 @@
 //! Numbers in words: decimal digits without a leading zero.
-ghost use Rattle.std.specs.Prelude.{◌≡◌, ℕ, ◌<◌, ◌≤◌, ◌↔◌, ◌⊎◌, ◌++◌, Some, IsTrue, OnOk, OnErr, slice_index, length, decimal};
+ghost use Rattle.std.specs.Prelude.{◌≡◌, ℕ, ◌<◌, ◌≤◌, ◌+◌, ◌*◌, ◌^◌, ◌↔◌, ◌⊎◌, [], ◌++◌, Some, IfSome, IfNone, IsTrue, OnOk, OnErr, slice_index, length, decimal};
+ghost use Rattle.std.specs.Str.Parse.{AllDigits, digits_value};
 
 use crate::memory::OutOfMemory;
 use itoa::Buffer;
 
-/// Whether a word begins as no number does: with a sign, or with a zero before more digits.
+/// Whether a word begins as no number does: it has no bytes, or a zero before more.
 fn begins_badly(word: &[u8]) -> bool
-    // 43 is `+`, and 48 is `0`.
-    ensures { IsTrue result ↔ ((slice_index word.now 0 ≡ 43)
+    // 48 is `0`.
+    ensures { IsTrue result ↔ ((word.now ≡ [])
         ⊎ ((slice_index word.now 0 ≡ 48) × (1 < length word.now))) }
 {
-    matches!(word, [b'+', ..] | [b'0', _, ..])
+    matches!(word, [] | [b'0', _, ..])
+}
+
+/// The number that a digit behind those of a number makes of it, where it has 64 bits.
+fn with_digit(number: u64, digit: u8) -> Option<u64>
+    ensures some { IfSome result (λ n. n ≡ number * 10 + digit) }
+    ensures none { IfNone result (2 ^ 64 ≤ number * 10 + digit) }
+{
+    number.checked_mul(10)?.checked_add(u64::from(digit))
+}
+
+/// The number that digits write; None where a byte is no digit, or the number has more than 64 bits.
+fn read_digits(word: &[u8]) -> Option<u64>
+    ensures some { IfSome result (λ n. AllDigits 10 word.now × (digits_value 10 word.now ≡ n)) }
+    ensures none { IfNone result (AllDigits 10 word.now → 2 ^ 64 ≤ digits_value 10 word.now) }
+{
+    let mut number: u64 = 0;
+    for byte in word {
+        if !byte.is_ascii_digit() {
+            return None;
+        }
+        number = with_digit(number, *byte - b'0')?;
+    }
+    Some(number)
 }
 
 /// The number that a word spells, where it is `max` at most. A word of any length is answered.
@@ -18,14 +42,10 @@ fn begins_badly(word: &[u8]) -> bool
 pub fn read_number(word: &[u8], max: u64) -> Option<u64>
     ensures { (n : ℕ) → (result ≡ Some n) ↔ ((n ≤ max) × (word.now ≡ decimal n)) }
 {
-    if word.len() == 1 && word[0].is_ascii_digit() {
-        let number = u64::from(word[0] - b'0');
-        return (number <= max).then_some(number);
-    }
     if begins_badly(word) {
         return None;
     }
-    let number: u64 = str::from_utf8(word).ok()?.parse().ok()?;
+    let number = read_digits(word)?;
     (number <= max).then_some(number)
 }
 

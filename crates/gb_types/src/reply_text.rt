@@ -1,38 +1,13 @@
 //! How a reply is written.
 ghost use Rattle.std.specs.Prelude.{◌≡◌, ◌++◌, ◌∷◌, codes, IfOk, OnOk};
-ghost use Rattle.std.specs.List.{flat_map};
-ghost use Rattle.gb_types.specs.ReplyText.{entry_text, reply_spelling};
+ghost use Rattle.gb_types.specs.ReplyText.{reply_spelling};
 
-use crate::entry::Entry;
+use crate::log_text::put_entries;
 use crate::memory::OutOfMemory;
 use crate::number::put_number;
-use crate::payload_word::put_payload;
 use crate::refusal::Refusal;
 use crate::reply::Reply;
 use std::alloc::Global;
-
-/// Appends `ORIGIN:SEQ:PAYLOAD`.
-fn put_entry(out: &mut Vec<u8>, entry: &Entry) -> Result<(), OutOfMemory>
-    ensures { OnOk result (out.new.items ≡ out.old.items ++ entry_text entry.now) }
-{
-    put_number(out, u64::from(entry.origin.number))?;
-    out.extend_from_slice(b":")?;
-    put_number(out, u64::from(entry.seq))?;
-    out.extend_from_slice(b":")?;
-    put_payload(out, entry.payload.as_slice())
-}
-
-/// Appends each entry after a space.
-fn put_entries(out: &mut Vec<u8>, entries: &[Entry]) -> Result<(), OutOfMemory>
-    ensures { OnOk result (out.new.items
-        ≡ out.old.items ++ flat_map (λ e. codes " " ++ entry_text e) entries.now) }
-{
-    for entry in entries {
-        out.extend_from_slice(b" ")?;
-        put_entry(out, entry)?;
-    }
-    Ok(())
-}
 
 /// Appends `refused NUMBER NAME`.
 fn put_refusal(out: &mut Vec<u8>, why: Refusal) -> Result<(), OutOfMemory>

@@ -1,0 +1,9 @@
+use Rattle.std.proofs.Common.{◌++◌, codes, rules}
+use Rattle.std.proofs.lemmas.List.Folds.{length-flat_map-take}
+use Rattle.gb_types.specs.ReplyText.{entry_text}
+use Rattle.gb_types.proofs.log_text.write_entries.Goals as goal
+
+pub write_entry-at-requires : goal.write_entry-at-requires
+write_entry-at-requires c =
+    let room = length-flat_map-take (λ e. codes " " ++ entry_text e) c.args.entries.now c.loop-entry.entry-index c.entry-item.result (search rules) in
+    search (rules, room)

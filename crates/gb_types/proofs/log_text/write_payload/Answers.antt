@@ -1,0 +1,13 @@
+use Rattle.std.proofs.Common.{◌<◌, length, rules}
+use Rattle.gb_types.proofs.LogTextLemmas.{payload_digits}
+use Rattle.gb_types.proofs.log_text.write_payload.Goals as goal
+
+pub overflow_add-end : goal.overflow_add-end
+overflow_add-end c =
+    let some : 0 < length c.args.payload.now = search rules in
+    let digits = payload_digits c.args.payload.now some in search (rules, digits.1)
+
+pub slice_bounds-encode_to_slice-end : goal.slice_bounds-encode_to_slice-end
+slice_bounds-encode_to_slice-end c =
+    let some : 0 < length c.args.payload.now = search rules in
+    let digits = payload_digits c.args.payload.now some in search (rules, digits.1)
