@@ -1,5 +1,5 @@
 -- What a sender keeps, through each of its calls.
-use Rattle.std.proofs.Common.{◌≡◌, ℕ, ◌+◌, ◌≤◌, true, false, cond, IsTrue, ◌&&◌, List, [], ◌∷◌, ◌++◌, arith, Bool, Option, None, Some, ap, refl}
+use Rattle.std.proofs.Common.{◌≡◌, ℕ, zero, suc, ◌+◌, ◌-◌, ◌<◌, ◌≤◌, nat_eq, length, get_or, sym, ◌∙◌, true, false, cond, IsTrue, ◌&&◌, List, [], ◌∷◌, ◌++◌, arith, Bool, Option, None, Some, ap, refl}
 use Rattle.std.specs.Prelude.{MatchOption, OnSome, IfNone}
 use Rattle.std.specs.List.{find, filter}
 use Rattle.std.proofs.lemmas.Bool.Decides.{nat_tests}
@@ -90,3 +90,22 @@ module _ {F : Type 0} where
         | true ↦ λ _. refl
         | false ↦ λ fails. rw fails (filter_first test us)
       ] refl
+
+  -- each number is at least the one that the list ascends from
+  ascending_above : (low : ℕ) (us : List (ℕ × F)) (i : ℕ) (d : ℕ × F) → AreAscending low us → i < length us → low ≤ (get_or us i d).0
+  ascending_above low [] i d h l = absurd (omega arith)
+  ascending_above low (u ∷ us) zero d h l = h.0
+  ascending_above low (u ∷ us) (suc i) d h l = let above = ascending_above (u.0 + 1) us i d h.1 (omega arith) in omega (arith, h.0, above)
+
+  -- the last of a list is the one that has its number
+  pub last_found : (low n : ℕ) (us : List (ℕ × F)) (i : ℕ) (d : ℕ × F) → AreAscending low us → length us ≡ suc i → (get_or us i d).0 ≡ n → find (λ u. nat_eq u.0 n) us ≡ Some (get_or us i d)
+  last_found low n [] i d h l is = absurd (omega arith)
+  last_found low n (u ∷ us) zero d h l is =
+      let hit : nat_eq u.0 n ≡ true = grind (arith, nat_tests) in ap (λ b. cond b (Some u) (find (λ v. nat_eq v.0 n) us)) hit
+  last_found low n (u ∷ us) (suc i) d h l is =
+      let above = ascending_above (u.0 + 1) us i d h.1 (omega arith) in
+      let miss : nat_eq u.0 n ≡ false = grind (arith, nat_tests, above) in
+      ap (λ b. cond b (Some u) (find (λ v. nat_eq v.0 n) us)) miss ∙ last_found (u.0 + 1) n us i d h.1 (omega arith) is
+
+  pub newest_found : (n : ℕ) (us : List (ℕ × F)) (x : ℕ × F) → AreAscending 1 us → 0 < length us → x ≡ get_or us (length us - 1) x → x.0 ≡ n → find (λ u. nat_eq u.0 n) us ≡ Some x
+  newest_found n us x h some at is = last_found 1 n us (length us - 1) x h (omega arith) (ap (λ u. u.0) (sym at) ∙ is) ∙ ap Some (sym at)

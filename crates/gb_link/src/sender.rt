@@ -1,5 +1,5 @@
 // The sending end of a link.
-ghost use Rattle.std.specs.Prelude.{◌≡◌, ◌≤◌, [], ◌∷◌, IsTrue, OnOk, OnErr, IfOk, MatchOption, position, nat_eq, find};
+ghost use Rattle.std.specs.Prelude.{◌≡◌, ◌≤◌, [], ◌∷◌, IsTrue, OnOk, OnErr, IfOk, IfSome, Some, MatchOption, position, nat_eq, find};
 ghost use Rattle.std.specs.VecDeque.{deque_len, deque_capacity};
 ghost use Rattle.std.specs.Option.{option_map, option_copied};
 ghost use Rattle.gb_link.specs.Ack.{covers};
@@ -129,10 +129,26 @@ fn first_covered<F>(undone: &VecDeque<(u64, F)>, base: u64, mask: u64) -> Option
     undone.iter().position(|held| covers(base, mask, held.0))
 }
 
+/// The frame that was pushed last, where it has this number and is undone.
+fn newest_under<F>(undone: &VecDeque<(u64, F)>, number: u64) -> Option<&(u64, F)>
+    requires { AreAscending 1 undone.now.items }
+    ensures { IfSome (option_copied result) (λ held. find (λ h. nat_eq h.0 number) undone.now.items ≡ Some held) }
+{
+    match undone.back() {
+        Some(newest) if newest.0 == number => Some(newest),
+        _ => None,
+    }
+}
+
+/// The undone frame of this number. One that was just pushed is found at once.
 pub(crate) fn held_under<F>(undone: &VecDeque<(u64, F)>, number: u64) -> Option<&(u64, F)>
+    requires { AreAscending 1 undone.now.items }
     ensures { option_copied result ≡ find (λ held. nat_eq held.0 number) undone.now.items }
 {
-    undone.iter().find(|held| held.0 == number)
+    match newest_under(undone, number) {
+        Some(newest) => Some(newest),
+        None => undone.iter().find(|held| held.0 == number),
+    }
 }
 
 pub(crate) fn parts<F>(held: Option<&(u64, F)>) -> Option<(u64, &F)>
