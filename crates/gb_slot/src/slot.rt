@@ -449,7 +449,8 @@ fn page(messages: &[MsgId], from: usize, most: usize) -> &[MsgId]
     &rest[..count]
 }
 
-/// The messages, with their payloads.
+/// The messages, with their payloads. Each is looked for behind the one before it, since most of a log stands in the
+/// store in its order.
 fn copies(alloc: Global, store: &Store, messages: &[MsgId]) -> Result<Vec<Entry>, OutOfMemory>
     ensures ok { IfOk result (λ v. v.items ≡ map (entry_in store.now.entries) messages.now) }
     ensures lack { OnErr result (messages.now ≢ []) }
@@ -458,8 +459,11 @@ fn copies(alloc: Global, store: &Store, messages: &[MsgId]) -> Result<Vec<Entry>
         return Ok(Vec::new(alloc));
     }
     let mut entries = Vec::with_capacity(alloc, messages.len())?;
+    let mut place = store.place(messages[0]).unwrap_or(0);
     for m in messages {
-        entries.push(store.entry(alloc, *m)?)?;
+        let entry = store.entry(alloc, *m, place)?;
+        entries.push_reserved(entry);
+        place = place.wrapping_add(1);
     }
     Ok(entries)
 }

@@ -272,13 +272,6 @@ impl Store {
         self.add(m, payload, nodes);
     }
 
-    /// The payload of a message, none where it is not there.
-    pub fn payload(&self, m: MsgId) -> &[u8]
-        ensures { result.now ≡ payload_in self.now.entries m }
-    {
-        payload_of(&self.kept, &self.table, &self.bytes, m)
-    }
-
     /// Where the message stands among those that are there, if it does; places count from 0.
     pub fn place(&self, m: MsgId) -> Option<usize>
         ensures { MatchOption result (has self.now.entries m ≡ false) (λ i. slice_get (map message_of self.now.entries) i ≡ Some m) }
@@ -294,11 +287,11 @@ impl Store {
         payload_at(&self.kept, &self.table, &self.bytes, m, place)
     }
 
-    /// The message with its payload, copied.
-    pub fn entry(&self, alloc: Global, m: MsgId) -> Result<Entry, OutOfMemory>
+    /// The message with its payload, copied. Where it stands at this place, nothing is searched.
+    pub fn entry(&self, alloc: Global, m: MsgId, place: usize) -> Result<Entry, OutOfMemory>
         ensures { IfOk result (λ e. e ≡ entry_in self.now.entries m) }
     {
-        let payload = Payload::from_slice(alloc, self.payload(m))?;
+        let payload = Payload::from_slice(alloc, self.payload_at(m, place))?;
         Ok(Entry {
             origin: m.origin,
             seq: m.seq,
