@@ -6,7 +6,7 @@ use Rattle.std.proofs.lemmas.List.{get_or_past, get_or-set_same, get_or-set_othe
 use Rattle.gb_types.specs.declared.entry.Entry.{Entry}
 use Rattle.gb_groups.specs.SlotsValue.{Row, row_at, counters, no_entry, no_row}
 use Rattle.std.specs.Prelude.{sum_by}
-use Rattle.gb_groups.specs.Packing.{Visit, walk, queue, queues, took, first_place, visit, size}
+use Rattle.gb_groups.specs.Packing.{Visit, walk, queue, queues, took, first_place, visit, size, fit}
 use Rattle.gb_groups.specs.PlaceSet.{has, IsNext}
 use Rattle.gb_groups.specs.Busy.{IsBusy}
 use Rattle.gb_groups.proofs.WalkLemmas.{walk_idle, walk_wrap, walk_none, first_of_gives, length-queues, nothing_past, empty, queues_at}
@@ -251,3 +251,9 @@ active_start dest from words rows b =
     let m = length-queues dest rows in
     let e = ahead-start from 0 (queues dest rows) in
     record { few = let f = b.few in omega arith; each = λ p. b.each p ∙ ap (λ L. min 1 (length (get_or L p []))) (sym e) }
+
+-- where the walk visits no place, nothing fits
+pub nothing_fits : (room : ℕ) (vs : List Visit) → first_place vs ≡ None → (0 ≡ length (fit room vs)) × (0 ≡ sum_by size (fit room vs))
+unfolding fit
+nothing_fits room [] none = (refl, refl)
+nothing_fits room (v ∷ vs) none = cc

@@ -331,8 +331,7 @@ impl Groups {
         // The proof reads that no message is longer than one may be.
         let _places = self.slots.len();
         let to = dest.index();
-        let active = self.busy[to].duplicate();
-        measure(&self.slots, active, dest, self.cursors[to], room)
+        measure(&self.slots, &self.busy[to], dest, self.cursors[to], room)
     }
 
     /// Appends the texts of the items of the next batch for a node, the longest front of the walk that has so many

@@ -98,8 +98,9 @@ fn next_turn(
     }
 }
 
-/// How many items fit of the walk to a node, and how many bytes they take. `active` is the node's set of busy places.
-pub fn measure(
+/// How many items fit of the walk to a node, and how many bytes they take. `active` is the node's set of busy places,
+/// from which a place is taken once all that waits there is counted.
+fn measure_busy(
     slots: &Slots,
     mut active: PlaceSet,
     dest: NodeId,
@@ -132,4 +133,25 @@ pub fn measure(
         at = place + 1;
     }
     (count, room - left)
+}
+
+/// How many items fit of the walk to a node, and how many bytes they take. `busy` is the node's set of busy places; where
+/// it is empty nothing is copied.
+pub fn measure(
+    slots: &Slots,
+    busy: &PlaceSet,
+    dest: NodeId,
+    from: usize,
+    room: usize,
+) -> (u16, usize)
+    requires from { from ≤ length slots.now.rows }
+    requires room { room ≤ 65535 }
+    requires index { IsBusy dest.number busy.now slots.now.rows }
+    ensures count { result.0 ≡ length (fit room (walk from (queues dest.number slots.now.rows))) }
+    ensures bytes { result.1 ≡ sum_by size (fit room (walk from (queues dest.number slots.now.rows))) }
+{
+    if next_place(slots, busy, dest, from).is_none() {
+        return (0, 0);
+    }
+    measure_busy(slots, busy.duplicate(), dest, from, room)
 }

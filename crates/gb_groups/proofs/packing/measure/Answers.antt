@@ -1,115 +1,14 @@
-use Rattle.std.proofs.Common.{◌≡◌, ◌+◌, [], List, ℕ, length, get_or, ap, refl, arith}
-use Rattle.gb_types.specs.declared.entry.Entry.{Entry}
-use Rattle.gb_groups.specs.SlotsValue.{Row, row_at, no_entry}
-use Rattle.gb_groups.specs.Packing.{queue, queues, fit, walk}
-use Rattle.gb_groups.specs.Ahead.{visits, ahead, IsActive, IsTurn}
-use Rattle.gb_groups.proofs.AheadLemmas.{ahead-start, visits-first, visits-later, measured_start, measured_none}
-use Rattle.gb_groups.proofs.BusyLemmas.{turn_item, turn_taken, turn_stop, row_here, active_next, active_start}
+use Rattle.std.proofs.Common.{◌≡◌, None, rules}
+use Rattle.gb_groups.specs.Packing.{queues, walk, first_place}
+use Rattle.gb_groups.proofs.BusyLemmas.{nothing_fits}
 use Rattle.gb_groups.proofs.packing.measure.Goals as goal
-use Rattle.gb_groups.proofs.packing.measure.Goals.{then-place-from, else-place-from, then-waiting-nth, else-waiting-nth}
 
-pub loop-round-init : goal.loop-round-init
-loop-round-init c =
-    let rows = c.args.slots.now.rows in
-    let e = ahead-start c.args.from 0 (queues c.args.dest.number rows) in
-    record {
-      within = c.requires.from;
-      begun = λ h. absurd (omega arith);
-      laps = omega arith;
-      index = active_start c.args.dest.number c.args.from c.args.active rows c.requires.index;
-      few = omega arith;
-      same = rw e (measured_start c.args.room (walk c.args.from (queues c.args.dest.number rows)));
-    }
+pub returns-then-is_none-clause-count : goal.returns-then-is_none-clause-count
+returns-then-is_none-clause-count c =
+    let none : first_place (walk c.args.from (queues c.args.dest.number c.args.slots.now.rows)) ≡ None = search rules in
+    (nothing_fits c.args.room (walk c.args.from (queues c.args.dest.number c.args.slots.now.rows)) none).0
 
-pub measure_at-payload-requires : goal.measure_at-payload-requires
-measure_at-payload-requires c =
-    let dest = c.args.dest.number in
-    let rows : List Row = c.args.slots.now.rows in
-    let from = c.args.from in
-    let q = c.in-Some.place in
-    let to = c.in-Some.round in
-    let nth = c.if-place-from.nth in
-    let t : IsTurn dest from c.loop-round.lap c.loop-round.at rows to q = c.in-Some.ensures in
-    let v : nth ≡ visits from to q q = elim c.if-place-from.branch [
-      | then-place-from w ↦ visits-first from to q nth w.if-place-from.true w.nth-is
-      | else-place-from w ↦ visits-later from to q nth w.if-place-from.false w.nth-is
-    ] in
-    (turn_item dest from c.loop-round.lap c.loop-round.at to q nth rows (row_at rows q) t v (row_here rows q t.within)).0
-
-pub returns-then-left-bytes-clause-count : goal.returns-then-left-bytes-clause-count
-returns-then-left-bytes-clause-count c =
-    let dest = c.args.dest.number in
-    let rows : List Row = c.args.slots.now.rows in
-    let from = c.args.from in
-    let q = c.in-Some.place in
-    let to = c.in-Some.round in
-    let nth = c.if-place-from.nth in
-    let t : IsTurn dest from c.loop-round.lap c.loop-round.at rows to q = c.in-Some.ensures in
-    let v : nth ≡ visits from to q q = elim c.if-place-from.branch [
-      | then-place-from w ↦ visits-first from to q nth w.if-place-from.true w.nth-is
-      | else-place-from w ↦ visits-later from to q nth w.if-place-from.false w.nth-is
-    ] in
-    let bytes = c.measure_at-payload.ensures.bytes in
-    let whole = turn_stop dest from c.loop-round.lap c.loop-round.at to q nth c.args.room c.loop-round.left c.loop-round.count rows (fit c.args.room (walk from (queues dest rows))) t v c.loop-round.invariant.same (omega (arith, c.if-left-bytes.true)) in
-    whole.0
-
-pub returns-then-left-bytes-clause-bytes : goal.returns-then-left-bytes-clause-bytes
-returns-then-left-bytes-clause-bytes c =
-    let dest = c.args.dest.number in
-    let rows : List Row = c.args.slots.now.rows in
-    let from = c.args.from in
-    let q = c.in-Some.place in
-    let to = c.in-Some.round in
-    let nth = c.if-place-from.nth in
-    let t : IsTurn dest from c.loop-round.lap c.loop-round.at rows to q = c.in-Some.ensures in
-    let v : nth ≡ visits from to q q = elim c.if-place-from.branch [
-      | then-place-from w ↦ visits-first from to q nth w.if-place-from.true w.nth-is
-      | else-place-from w ↦ visits-later from to q nth w.if-place-from.false w.nth-is
-    ] in
-    let bytes = c.measure_at-payload.ensures.bytes in
-    let whole = turn_stop dest from c.loop-round.lap c.loop-round.at to q nth c.args.room c.loop-round.left c.loop-round.count rows (fit c.args.room (walk from (queues dest rows))) t v c.loop-round.invariant.same (omega (arith, c.if-left-bytes.true)) in
-    let sum = whole.1 in omega arith
-
-pub loop-round-preserved : goal.loop-round-preserved
-loop-round-preserved c =
-    let dest = c.args.dest.number in
-    let rows : List Row = c.args.slots.now.rows in
-    let from = c.args.from in
-    let q = c.in-Some.place in
-    let to = c.in-Some.round in
-    let row = row_at rows q in
-    let nth = c.if-place-from.nth in
-    let t : IsTurn dest from c.loop-round.lap c.loop-round.at rows to q = c.in-Some.ensures in
-    let v : nth ≡ visits from to q q = elim c.if-place-from.branch [
-      | then-place-from w ↦ visits-first from to q nth w.if-place-from.true w.nth-is
-      | else-place-from w ↦ visits-later from to q nth w.if-place-from.false w.nth-is
-    ] in
-    let e = get_or (queue dest row) nth no_entry in
-    let here = row_here rows q t.within in
-    let item = turn_item dest from c.loop-round.lap c.loop-round.at to q nth rows row t v here in
-    let i = c.loop-round.invariant in
-    let fits = c.if-left-bytes.false in
-    let len = c.measure_at-payload.ensures.bytes in
-    let cnt = c.measure_at-payload.ensures.waiting in
-    let words : List ℕ = c.loop-round.active in
-    let index : IsActive c.if-waiting-nth.active (ahead from to (q + 1) 0 (queues dest rows)) = elim c.if-waiting-nth.branch [
-      | then-waiting-nth w ↦
-          rw w.active-is (active_next dest from c.loop-round.lap c.loop-round.at to q nth words w.remove.new.self rows row t v here i.index (let h = w.remove.ensures.here in let k = w.if-waiting-nth.true in omega arith) w.remove.ensures.others)
-      | else-waiting-nth w ↦
-          rw w.active-is (active_next dest from c.loop-round.lap c.loop-round.at to q nth words words rows row t v here i.index (let h = i.index.each q in let k = ap (λ (L : List (List Entry)). length (get_or L q [])) t.left_is in let f = w.if-waiting-nth.false in let n = item.0 in let m = item.1 in omega arith) (λ p _. refl))
-    ] in
-    let bytes : c.measure_at-payload.result.0 ≡ length e.payload = len in
-    rw bytes (record {
-      within = let h = t.within in omega arith;
-      begun = λ h. t.begun (omega arith);
-      laps = let h = t.near in omega (arith, i.laps);
-      few = let h = i.few in omega (arith, bytes, fits);
-      index = index;
-      same = turn_taken dest from c.loop-round.lap c.loop-round.at to q nth c.args.room c.loop-round.left c.loop-round.count rows (fit c.args.room (walk from (queues dest rows))) t v i.same (omega (arith, bytes, fits));
-    })
-
-pub returns-clause-count : goal.returns-clause-count
-returns-clause-count c = (measured_none c.args.room c.loop-round.left c.loop-round.count _ _ c.loop-round.invariant.same c.in_default.ensures).0
-
-pub returns-clause-bytes : goal.returns-clause-bytes
-returns-clause-bytes c = let sum = (measured_none c.args.room c.loop-round.left c.loop-round.count _ _ c.loop-round.invariant.same c.in_default.ensures).1 in omega arith
+pub returns-then-is_none-clause-bytes : goal.returns-then-is_none-clause-bytes
+returns-then-is_none-clause-bytes c =
+    let none : first_place (walk c.args.from (queues c.args.dest.number c.args.slots.now.rows)) ≡ None = search rules in
+    (nothing_fits c.args.room (walk c.args.from (queues c.args.dest.number c.args.slots.now.rows)) none).1

@@ -1,4 +1,4 @@
-use Rattle.std.proofs.Common.{arith, get_or, subst, sym, ◌∙◌}
+use Rattle.std.proofs.Common.{arith, get_or, refl, subst, sym, ◌∙◌}
 use Rattle.gb_groups.specs.Packing.{walk, queues}
 use Rattle.gb_groups.proofs.BatchLemmas.{count_is, bytes_is, fit-fits}
 use Rattle.gb_groups.specs.SlotsValue.{AreShort}
@@ -9,7 +9,7 @@ use Rattle.gb_groups.proofs.groups.Groups.measure.Goals as goal
 
 pub measure-requires-clause-index : goal.measure-requires-clause-index
 measure-requires-clause-index c =
-    index_at c.self.inside.slots.rows c.self.inside.busy c.index-to.result c.args.dest.number c.duplicate-active.result c.index-self-to.result c.self.invariant.1 c.index-to.ensures.value c.args.dest.below c.duplicate-active.ensures
+    index_at c.self.inside.slots.rows c.self.inside.busy c.index-to.result c.args.dest.number (get_or c.self.inside.busy c.index-to.result c.index-self-to.result) c.index-self-to.result c.self.invariant.1 c.index-to.ensures.value c.args.dest.below refl
 
 pub returns-clause-count : goal.returns-clause-count
 returns-clause-count c =

@@ -2,7 +2,7 @@ use Rattle.std.proofs.Common.{◌≤◌, ◌<◌, ◌+◌, ◌*◌, length}
 use Rattle.gb_groups.specs.Packing.{queues, walk, fit}
 use Rattle.gb_groups.specs.Ahead.{ahead, IsActive}
 use Rattle.gb_groups.proofs.AheadLemmas.{Measured}
-use Rattle.gb_groups.proofs.packing.measure.Given as goal
+use Rattle.gb_groups.proofs.packing.measure_busy.Given as goal
 
 abbrev pub invariant-loop-round : goal.invariant-loop-round
 invariant-loop-round l =
