@@ -126,16 +126,25 @@ fn hears_all<H: Clock>(rt: &H, alloc: Global, member: &mut Member) -> Result<boo
     Ok(false)
 }
 
-// What three members do. Whether each reply was right.
-fn chat<H: Net<Stream = TcpStream> + Clock>(
+// The three members of a server with this base port.
+fn all_joined<H: Net<Stream = TcpStream> + Clock>(
     rt: &H,
     alloc: Global,
     base_port: u16,
-) -> Result<bool, ClientFault> {
+) -> Result<Vec<Member>, ClientFault> {
     let mut members = Vec::new(alloc);
     for number in 0..3 {
         members.push(joined(rt, base_port, NodeId::new(number))?)?;
     }
+    Ok(members)
+}
+
+// What the members do. Whether each reply was right.
+fn talk<H: Net<Stream = TcpStream> + Clock>(
+    rt: &H,
+    alloc: Global,
+    members: &mut [Member],
+) -> Result<bool, ClientFault> {
     let mut is_right = true;
     for member in members.iter_mut() {
         is_right = gives(alloc, member, &PREPARATIONS)? && is_right;
@@ -148,6 +157,16 @@ fn chat<H: Net<Stream = TcpStream> + Clock>(
         is_right = gives(alloc, member, &END)? && is_right;
     }
     Ok(is_right)
+}
+
+// What three members do. Whether each reply was right.
+fn chat<H: Net<Stream = TcpStream> + Clock>(
+    rt: &H,
+    alloc: Global,
+    base_port: u16,
+) -> Result<bool, ClientFault> {
+    let mut members = all_joined(rt, alloc, base_port)?;
+    talk(rt, alloc, members.as_mut_slice())
 }
 
 #[test]

@@ -102,18 +102,32 @@ fn request(alloc: Global, ask: Ask, token: Token) -> Result<Request, OutOfMemory
     Ok(request)
 }
 
-/// A table with four places answers so, where the tenant 7 may make two groups.
-fn compare(rt: &impl Abort, alloc: Global, steps: &[(Ask, Holder, Told)]) -> Result<(), Fail> {
-    let mut table = Table::new(alloc, ME, 3, 4, &ADMIN_KEY);
-    let tenant = request(alloc, Ask::Tenant(7, 2), token_of(Holder::Admin))?;
-    let _ = table.request(&tenant, &NodeSet::new());
+/// What a table answers to what is asked, in short.
+fn answer(alloc: Global, table: &mut Table, ask: Ask, holder: Holder) -> Result<Told, OutOfMemory> {
+    let request = request(alloc, ask, token_of(holder))?;
+    let reply = table.request(&request, &NodeSet::new());
+    Ok(in_short(&reply))
+}
+
+/// The table answers so, where the tenant 7 may make two groups.
+fn compare_each(
+    rt: &impl Abort,
+    alloc: Global,
+    table: &mut Table,
+    steps: &[(Ask, Holder, Told)],
+) -> Result<(), Fail> {
+    let _ = answer(alloc, table, Ask::Tenant(7, 2), Holder::Admin)?;
     for (ask, holder, want) in steps {
-        let request = request(alloc, *ask, token_of(*holder))?;
-        let reply = table.request(&request, &NodeSet::new());
-        let found = in_short(&reply);
+        let found = answer(alloc, table, *ask, *holder)?;
         assert!(rt; found == *want);
     }
     Ok(())
+}
+
+/// A table with four places answers so, where the tenant 7 may make two groups.
+fn compare(rt: &impl Abort, alloc: Global, steps: &[(Ask, Holder, Told)]) -> Result<(), Fail> {
+    let mut table = Table::new(alloc, ME, 3, 4, &ADMIN_KEY);
+    compare_each(rt, alloc, &mut table, steps)
 }
 
 #[test]

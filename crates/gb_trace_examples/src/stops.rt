@@ -2,6 +2,7 @@
 // whatever comes later.
 ghost use Rattle.std.specs.Prelude.{◌≡◌, ◌≤◌, IsTrue};
 ghost use Rattle.gb_cluster.specs.ClusterValue.{IsClusterPlan};
+ghost use Rattle.gb_types.specs.declared.limits.TheConstants.{NODES as MOST};
 
 use crate::projected::projection;
 use crate::worked::{ALL_ACK, BEST_EFFORT, EMPTY_PAYLOAD, FIFO, LAZY_RELAY, UNLIKE_SPECS};
@@ -79,29 +80,68 @@ fn read_plan(alloc: Global, keys: &mut Keys, line: &[u8]) -> Result<Option<Plan>
     Ok(Some(plan_of(nodes, silence)))
 }
 
+/// The event that a line spells, if it spells a command in its place that starts no cluster.
+fn read_event(
+    alloc: Global,
+    keys: &mut Keys,
+    nodes: u8,
+    line: &[u8],
+) -> Result<Option<Event>, OutOfMemory>
+    requires { (1 ≤ nodes) × (nodes ≤ MOST) }
+{
+    match read_command(alloc, keys, Some(nodes), line)? {
+        Some(command) => event_of(command),
+        None => Ok(None),
+    }
+}
+
+/// Adds the events that the lines spell; whether each line spells one.
+fn read_events(
+    alloc: Global,
+    keys: &mut Keys,
+    nodes: u8,
+    lines: &[&[u8]],
+    events: &mut Vec<Event>,
+) -> Result<bool, OutOfMemory>
+    requires { (1 ≤ nodes) × (nodes ≤ MOST) }
+{
+    for line in lines {
+        match read_event(alloc, keys, nodes, line)? {
+            Some(event) => events.push(event)?,
+            None => return Ok(false),
+        }
+    }
+    Ok(true)
+}
+
+/// The plan that the first of the lines spells, with the events of the others added, if each line spells a command in its
+/// place.
+fn read_all(
+    alloc: Global,
+    keys: &mut Keys,
+    lines: &[&[u8]],
+    events: &mut Vec<Event>,
+) -> Result<Option<Plan>, OutOfMemory> {
+    let [first, others @ ..] = lines else {
+        return Ok(None);
+    };
+    let Some(plan) = read_plan(alloc, keys, first)? else {
+        return Ok(None);
+    };
+    if is_plan(&plan) && read_events(alloc, keys, plan.nodes, others, events)? {
+        return Ok(Some(plan));
+    }
+    Ok(None)
+}
+
 /// The plan of a schedule and its events, if each of its lines spells a command in its place.
 fn read(alloc: Global, lines: &[&[u8]]) -> Result<Option<(Plan, Vec<Event>)>, OutOfMemory> {
     let mut keys = Keys::new(alloc);
     let mut events = Vec::new(alloc);
-    let [first, others @ ..] = lines else {
-        return Ok(None);
-    };
-    let Some(plan) = read_plan(alloc, &mut keys, first)? else {
-        return Ok(None);
-    };
-    if !is_plan(&plan) {
-        return Ok(None);
+    match read_all(alloc, &mut keys, lines, &mut events)? {
+        Some(plan) => Ok(Some((plan, events))),
+        None => Ok(None),
     }
-    for line in others {
-        let Some(command) = read_command(alloc, &mut keys, Some(plan.nodes), line)? else {
-            return Ok(None);
-        };
-        let Some(event) = event_of(command)? else {
-            return Ok(None);
-        };
-        events.push(event)?;
-    }
-    Ok(Some((plan, events)))
 }
 
 /// The group that an event names, if it is a request that names one.

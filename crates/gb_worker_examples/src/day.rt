@@ -7,6 +7,7 @@ use crate::asking::prepare;
 use crate::plans::two_nodes;
 use crate::roles::{Done, Job, Role, TURNS, count_callers, work};
 use gb_host::close::close;
+use gb_host::entry::SeatEntry;
 use gb_host::fault::HostFault;
 use gb_host::host::Host;
 use gb_host::names::Tapes;
@@ -104,6 +105,53 @@ fn are_merged(alloc: Global, plan: HostPlan, tapes: &[Tape]) -> bool
     }
 }
 
+// How many ticks the tapes of the two nodes have.
+fn ticks_of(tapes: &[Tape]) -> [usize; 2] {
+    let mut ticks = [0; 2];
+    for node in 0..2 {
+        if let Some(tape) = tapes.get(node) {
+            ticks[node] = count_ticks(tape.as_slice());
+        }
+    }
+    ticks
+}
+
+// The seats of the roles, with copies of their lists added.
+fn seats_of<M: Ledger>(
+    alloc: Global,
+    done: Vec<Done<M>>,
+    lists: &mut Vec<Vec<SeatEntry>>,
+) -> Result<Vec<Seat<M>>, OutOfMemory> {
+    let mut seats = Vec::new(alloc);
+    for one in done {
+        let Done { seat, count: _ } = one;
+        lists.push(copied(alloc, seat.mine())?)?;
+        seats.push(seat)?;
+    }
+    Ok(seats)
+}
+
+// Ends a day whose roles are done.
+fn end<L: Tapes, M: Ledger>(
+    alloc: Global,
+    plan: HostPlan,
+    host: Host<L, M>,
+    done: Vec<Done<M>>,
+) -> Result<Left, HostFault>
+    requires { IsPlan plan }
+{
+    let counts = counts_of(&done);
+    let mut lists = Vec::new(alloc);
+    let seats = seats_of(alloc, done, &mut lists)?;
+    let closed = close(host, seats)?;
+    Ok(Left {
+        counts,
+        ticks: ticks_of(&closed.tapes),
+        agree: agree(&closed.tapes, &lists),
+        merged: are_merged(alloc, plan, &closed.tapes),
+    })
+}
+
 // A thread for each role; the group is made from the last one's seat; then the end.
 fn run<
     L: Tapes + Send + Sync,
@@ -138,29 +186,7 @@ fn run<
         jobs,
         &|job: Job<M, P>| { work(rt, alloc, shared, left, job) },
     )?;
-    let counts = counts_of(&done);
-    let mut seats = Vec::new(alloc);
-    let mut lists = Vec::new(alloc);
-    for one in done {
-        let Done { seat, count: _ } = one;
-        lists.reserve(1)?;
-        lists.push_reserved(copied(alloc, seat.mine())?);
-        seats.reserve(1)?;
-        seats.push_reserved(seat);
-    }
-    let closed = close(host, seats)?;
-    let mut ticks = [0; 2];
-    for node in 0..2 {
-        if let Some(tape) = closed.tapes.get(node) {
-            ticks[node] = count_ticks(tape.as_slice());
-        }
-    }
-    Ok(Left {
-        counts,
-        ticks,
-        agree: agree(&closed.tapes, &lists),
-        merged: are_merged(alloc, plan, &closed.tapes),
-    })
+    end(alloc, plan, host, done)
 }
 
 // A day of two nodes with tapes.
