@@ -87,17 +87,27 @@ fn echoes(alloc: Global, cluster: &mut Cluster) -> Result<&'static str, OutOfMem
     told(cluster, &event)
 }
 
-/// Whether each event is answered as it should be, one after the other.
-fn is_answered(alloc: Global, cluster: &mut Cluster) -> Result<bool, OutOfMemory> {
+/// Whether each event is answered as it should be while the node runs, one after the other.
+fn is_answered_running(alloc: Global, cluster: &mut Cluster) -> Result<bool, OutOfMemory> {
     let before = arrives(cluster, 1)? == "no packet";
     let sent = acknowledges(cluster)? == "packet 1";
     let came = arrives(cluster, 1)? == "good";
     let garbled = garbles(alloc, cluster)? == "short";
     let echoed = echoes(alloc, cluster)? == "not noise";
+    Ok(before && sent && came && garbled && echoed)
+}
+
+/// Whether each event is answered as it should be from the stop on, one after the other.
+fn is_answered_stopped(alloc: Global, cluster: &mut Cluster) -> Result<bool, OutOfMemory> {
     let stopped = stops(cluster)? == "halted";
-    let echoed_again = echoes(alloc, cluster)? == "not noise";
+    let echoed = echoes(alloc, cluster)? == "not noise";
     let refused = arrives(cluster, 1)? == "stopped";
-    Ok(before && sent && came && garbled && echoed && stopped && echoed_again && refused)
+    Ok(stopped && echoed && refused)
+}
+
+/// Whether each event is answered as it should be, running and stopped.
+fn is_answered(alloc: Global, cluster: &mut Cluster) -> Result<bool, OutOfMemory> {
+    Ok(is_answered_running(alloc, cluster)? && is_answered_stopped(alloc, cluster)?)
 }
 
 // A packet arrives once it was sent, as often as one likes; its bytes are no noise, running or stopped; a stopped node
