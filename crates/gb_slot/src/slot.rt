@@ -461,8 +461,7 @@ fn copies(alloc: Global, store: &Store, messages: &[MsgId]) -> Result<Vec<Entry>
     let mut entries = Vec::with_capacity(alloc, messages.len())?;
     let mut place = store.place(messages[0]).unwrap_or(0);
     for m in messages {
-        let entry = store.entry(alloc, *m, place)?;
-        entries.push_reserved(entry);
+        store.put_entry(alloc, *m, place, &mut entries)?;
         place = place.wrapping_add(1);
     }
     Ok(entries)

@@ -1,5 +1,5 @@
 //! The messages that a slot knows, with their payloads. Each payload stands here once.
-ghost use Rattle.std.specs.Prelude.{◌≡◌, ℕ, true, false, ◌+◌, ◌≤◌, ◌<◌, ◌∷◌, ◌++◌, [], List, length, map, Some, slice_get, slice_index, slice_range, vec_len, vec_capacity, IfOk, MatchOption};
+ghost use Rattle.std.specs.Prelude.{◌≡◌, ℕ, true, false, ◌+◌, ◌≤◌, ◌<◌, ◌∷◌, ◌++◌, [], List, length, map, Some, slice_get, slice_index, slice_range, vec_len, vec_capacity, IfOk, OnOk, MatchOption};
 ghost use Rattle.std.specs.List.{list_any, IsDistinct};
 ghost use Rattle.gb_history.specs.Messages.{has, payload_in, entry_in, with_new, bytes_of};
 ghost use Rattle.std.specs.FinSet as set;
@@ -287,15 +287,26 @@ impl Store {
         payload_at(&self.kept, &self.table, &self.bytes, m, place)
     }
 
-    /// The message with its payload, copied. Where it stands at this place, nothing is searched.
-    pub fn entry(&self, alloc: Global, m: MsgId, place: usize) -> Result<Entry, OutOfMemory>
-        ensures { IfOk result (λ e. e ≡ entry_in self.now.entries m) }
+    /// Puts the message with its payload, copied to where it stays, behind entries with room for one more. Where it
+    /// stands at this place, nothing is searched.
+    pub fn put_entry(
+        &self,
+        alloc: Global,
+        m: MsgId,
+        place: usize,
+        entries: &mut Vec<Entry>,
+    ) -> Result<(), OutOfMemory>
+        requires { vec_len entries.old < vec_capacity entries.old }
+        ensures ok { OnOk result (entries.new.items ≡ entries.old.items ++ entry_in self.now.entries m ∷ []) }
+        ensures room { vec_capacity entries.new ≡ vec_capacity entries.old }
     {
-        let payload = Payload::from_slice(alloc, self.payload_at(m, place))?;
-        Ok(Entry {
+        let payload = self.payload_at(m, place);
+        let last = entries.len();
+        entries.push_reserved(Entry {
             origin: m.origin,
             seq: m.seq,
-            payload,
-        })
+            payload: Payload::new(alloc),
+        });
+        entries[last].payload.extend_from_slice(payload)
     }
 }

@@ -1,5 +1,6 @@
 //! The bytes that a message carries.
-ghost use Rattle.std.specs.Prelude.{◌≡◌, ◌==◌, ℕ, List, [], length, IfOk};
+ghost use Rattle.std.specs.Prelude.{◌≡◌, ◌==◌, ℕ, List, [], length, ◌++◌, IfOk, OnOk, OnErr};
+ghost use Rattle.smallvec.specs.SmallVec.{HasRoomFor};
 
 use crate::memory::OutOfMemory;
 use smallvec::SmallVec;
@@ -8,6 +9,9 @@ use std::marker::Model;
 
 /// How many bytes stand in the payload itself. More take memory of their own.
 pub const INLINE: usize = 16;
+
+/// How many bytes are written one by one. A call to copy them costs more.
+const FEW: usize = 8;
 
 /// What a message says: any bytes, as they were given; few of them take no memory. Contracts see the list of the bytes.
 #[derive(Debug, Drop)]
@@ -19,6 +23,16 @@ impl Model for Payload {
     ghost Value = { List ℕ };
 
     ghost view = { λ p. p.bytes.items };
+}
+
+/// Adds bytes at the end, one by one, where there is room for them.
+fn push_few(all: &mut SmallVec<u8, INLINE>, bytes: &[u8])
+    requires { HasRoomFor all.old (length bytes.now) }
+    ensures { all.new.items ≡ all.old.items ++ bytes.now }
+{
+    for byte in bytes {
+        all.push_reserved(*byte);
+    }
 }
 
 impl Payload {
@@ -37,6 +51,19 @@ impl Payload {
     {
         let bytes = SmallVec::from_slice(alloc, bytes)?;
         Ok(Payload { bytes })
+    }
+
+    /// Adds bytes at the end, copied to where they stay. Without memory nothing has changed.
+    pub fn extend_from_slice(&mut self, bytes: &[u8]) -> Result<(), OutOfMemory>
+        ensures ok { OnOk result (self.new ≡ self.old ++ bytes.now) }
+        ensures err { OnErr result (self.new ≡ self.old) }
+    {
+        if bytes.len() <= FEW && bytes.len() <= self.bytes.capacity() - self.bytes.len() {
+            push_few(&mut self.bytes, bytes);
+            return Ok(());
+        }
+        self.bytes.extend_from_slice(bytes)?;
+        Ok(())
     }
 
     /// How many bytes.
