@@ -1,5 +1,5 @@
 //! The messages that a slot knows, with their payloads. Each payload stands here once.
-ghost use Rattle.std.specs.Prelude.{◌≡◌, ℕ, true, false, ◌+◌, ◌≤◌, ◌<◌, ◌∷◌, ◌++◌, [], List, length, map, Some, slice_get, slice_index, slice_range, vec_len, vec_capacity, IfOk, OnOk, MatchOption};
+ghost use Rattle.std.specs.Prelude.{◌≡◌, ℕ, true, false, ◌+◌, ◌≤◌, ◌<◌, ◌∷◌, ◌++◌, [], List, length, map, Some, slice_get, slice_index, slice_range, vec_len, vec_capacity, IsOk, IfOk, OnOk, OnErr, MatchOption};
 ghost use Rattle.std.specs.List.{list_any, IsDistinct};
 ghost use Rattle.gb_history.specs.Messages.{has, payload_in, entry_in, with_new, bytes_of};
 ghost use Rattle.std.specs.FinSet as set;
@@ -11,6 +11,7 @@ ghost use Rattle.gb_types.specs.Entry.{message_of};
 ghost use Rattle.gb_types.specs.Message.{same};
 ghost use Rattle.gb_types.specs.declared.entry.Entry.{Entry as EntryValue};
 ghost use Rattle.gb_types.specs.declared.limits.TheConstants.{BYTES};
+ghost use Rattle.gb_types.specs.declared.payload.TheConstants.{INLINE};
 
 use gb_layer::table::Table;
 use gb_types::entry::Entry;
@@ -21,6 +22,12 @@ use gb_types::node::{NodeId, NodeSet};
 use gb_types::payload::Payload;
 use std::alloc::Global;
 use std::marker::Model;
+
+/// How many bytes are copied one by one, to where they stay. An entry that is made first and then moved is read in larger
+/// pieces than such bytes were written in, for which the processor waits.
+const FEW: usize = 8;
+
+const _: () = prove!(FEW <= gb_types::payload::INLINE);
 
 /// A message, where its payload stands among the bytes, and the nodes from which it was taken in.
 #[derive(Drop)]
@@ -175,6 +182,22 @@ fn count_bytes(seen: &mut [u32; NODES], m: MsgId, payload: &[u8])
     seen[m.origin.index()] += payload.len() as u32;
 }
 
+/// Puts a message with few bytes behind entries with room for one more.
+fn put_few(alloc: Global, m: MsgId, payload: &[u8], entries: &mut Vec<Entry>)
+    requires few { length payload.now ≤ INLINE }
+    requires room { vec_len entries.old < vec_capacity entries.old }
+    ensures items { entries.new.items ≡ entries.old.items ++ record { origin = m.origin; seq = m.seq; payload = payload.now } ∷ [] }
+    ensures room { vec_capacity entries.new ≡ vec_capacity entries.old }
+{
+    let last = entries.len();
+    entries.push_reserved(Entry {
+        origin: m.origin,
+        seq: m.seq,
+        payload: Payload::new(alloc),
+    });
+    entries[last].payload.push_few(payload);
+}
+
 impl Store {
     /// Nothing, with memory for so many messages, with so many bytes of payload in all. The members' messages numbered
     /// up to this width are found at once, others by a search.
@@ -287,8 +310,8 @@ impl Store {
         payload_at(&self.kept, &self.table, &self.bytes, m, place)
     }
 
-    /// Puts the message with its payload, copied to where it stays, behind entries with room for one more. Where it
-    /// stands at this place, nothing is searched.
+    /// Puts the message with its payload, copied, behind entries with room for one more. Where it stands at this place,
+    /// nothing is searched. Without memory nothing has changed.
     pub fn put_entry(
         &self,
         alloc: Global,
@@ -298,15 +321,21 @@ impl Store {
     ) -> Result<(), OutOfMemory>
         requires { vec_len entries.old < vec_capacity entries.old }
         ensures ok { OnOk result (entries.new.items ≡ entries.old.items ++ entry_in self.now.entries m ∷ []) }
+        ensures succeeds { length (payload_in self.now.entries m) ≤ INLINE → IsOk result }
+        ensures err { OnErr result (entries.new ≡ entries.old) }
         ensures room { vec_capacity entries.new ≡ vec_capacity entries.old }
     {
         let payload = self.payload_at(m, place);
-        let last = entries.len();
+        if payload.len() <= FEW {
+            put_few(alloc, m, payload, entries);
+            return Ok(());
+        }
+        let payload = Payload::from_slice(alloc, payload)?;
         entries.push_reserved(Entry {
             origin: m.origin,
             seq: m.seq,
-            payload: Payload::new(alloc),
+            payload,
         });
-        entries[last].payload.extend_from_slice(payload)
+        Ok(())
     }
 }

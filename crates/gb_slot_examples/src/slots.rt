@@ -106,6 +106,36 @@ fn members_say_and_hear(rt: HostRuntime) -> Result<(), Fail> {
     run(&rt, rt.alloc(), Kind::Beb, WIDE, MEMBERS_SAY_AND_HEAR)
 }
 
+// Few bytes are copied one by one, up to 16 stand in the payload itself, more take memory of their own.
+const PAYLOADS_OF_EACH_LENGTH_ARE_FETCHED: &[Step] = &[
+    Step::Open(None),
+    Step::Say(b"12345678", Ok(1)),
+    Step::Say(b"123456789", Ok(2)),
+    Step::Say(b"1234567890abcdef", Ok(3)),
+    Step::Say(b"1234567890abcdefg", Ok(4)),
+    Step::Came(FRIEND, (FRIEND, 1, b"")),
+    Step::Came(OTHER, (OTHER, 1, b"1")),
+    Step::Log(&[
+        (ME, 1, b"12345678"),
+        (ME, 2, b"123456789"),
+        (ME, 3, b"1234567890abcdef"),
+        (ME, 4, b"1234567890abcdefg"),
+        (FRIEND, 1, b""),
+        (OTHER, 1, b"1"),
+    ]),
+];
+
+#[test]
+fn payloads_of_each_length_are_fetched(rt: HostRuntime) -> Result<(), Fail> {
+    run(
+        &rt,
+        rt.alloc(),
+        Kind::Beb,
+        WIDE,
+        PAYLOADS_OF_EACH_LENGTH_ARE_FETCHED,
+    )
+}
+
 const WHAT_IS_SAID_WAITS_FOR_EACH_OTHER_MEMBER: &[Step] = &[
     Step::Open(None),
     Step::Idle(FRIEND),

@@ -1,5 +1,5 @@
 //! The bytes that a message carries.
-ghost use Rattle.std.specs.Prelude.{◌≡◌, ◌==◌, ℕ, List, [], length, ◌++◌, IfOk, OnOk, OnErr};
+ghost use Rattle.std.specs.Prelude.{◌≡◌, ◌==◌, ◌≤◌, ◌+◌, ℕ, List, [], length, ◌++◌, IsOk, IfOk};
 ghost use Rattle.smallvec.specs.SmallVec.{HasRoomFor};
 
 use crate::memory::OutOfMemory;
@@ -10,8 +10,7 @@ use std::marker::Model;
 /// How many bytes stand in the payload itself. More take memory of their own.
 pub const INLINE: usize = 16;
 
-/// How many bytes are written one by one. A call to copy them costs more.
-const FEW: usize = 8;
+const _: () = prove!(INLINE == 16);
 
 /// What a message says: any bytes, as they were given; few of them take no memory. Contracts see the list of the bytes.
 #[derive(Debug, Drop)]
@@ -26,7 +25,7 @@ impl Model for Payload {
 }
 
 /// Adds bytes at the end, one by one, where there is room for them.
-fn push_few(all: &mut SmallVec<u8, INLINE>, bytes: &[u8])
+fn push_each(all: &mut SmallVec<u8, INLINE>, bytes: &[u8])
     requires { HasRoomFor all.old (length bytes.now) }
     ensures { all.new.items ≡ all.old.items ++ bytes.now }
 {
@@ -45,25 +44,22 @@ impl Payload {
         }
     }
 
-    /// These bytes, copied.
+    /// These bytes, copied. Up to `INLINE` bytes take no memory, and so never want it.
     pub fn from_slice(alloc: Global, bytes: &[u8]) -> Result<Payload, OutOfMemory>
-        ensures { IfOk result (λ p. p ≡ bytes.now) }
+        ensures ok { IfOk result (λ p. p ≡ bytes.now) }
+        ensures succeeds { length bytes.now ≤ INLINE → IsOk result }
     {
         let bytes = SmallVec::from_slice(alloc, bytes)?;
         Ok(Payload { bytes })
     }
 
-    /// Adds bytes at the end, copied to where they stay. Without memory nothing has changed.
-    pub fn extend_from_slice(&mut self, bytes: &[u8]) -> Result<(), OutOfMemory>
-        ensures ok { OnOk result (self.new ≡ self.old ++ bytes.now) }
-        ensures err { OnErr result (self.new ≡ self.old) }
+    /// Adds bytes at the end, one by one, where all then stand in the payload itself.
+    pub fn push_few(&mut self, bytes: &[u8])
+        requires { length self.old + length bytes.now ≤ INLINE }
+        ensures { self.new ≡ self.old ++ bytes.now }
     {
-        if bytes.len() <= FEW && bytes.len() <= self.bytes.capacity() - self.bytes.len() {
-            push_few(&mut self.bytes, bytes);
-            return Ok(());
-        }
-        self.bytes.extend_from_slice(bytes)?;
-        Ok(())
+        prove!(INLINE <= self.bytes.capacity());
+        push_each(&mut self.bytes, bytes);
     }
 
     /// How many bytes.
@@ -93,9 +89,10 @@ impl Payload {
         Ok(self.bytes.into_vec()?)
     }
 
-    /// The same bytes, copied.
+    /// The same bytes, copied. Up to `INLINE` bytes take no memory, and so never want it.
     pub fn duplicate(&self, alloc: Global) -> Result<Payload, OutOfMemory>
-        ensures { IfOk result (λ p. p ≡ self.now) }
+        ensures ok { IfOk result (λ p. p ≡ self.now) }
+        ensures succeeds { length self.now ≤ INLINE → IsOk result }
     {
         Payload::from_slice(alloc, self.as_slice())
     }

@@ -9,4 +9,4 @@ pub returns : goal.returns
 returns c =
     let e : Entry = entry_of (item_of c.args.item) in
     let o : c.new.result ≡ e.origin = same_number c.new.result e.origin c.new.ensures in
-    λ i. record { origin = o i; seq = c.args.item.seq; payload = c.in_ok-payload.ensures i }
+    λ i. record { origin = o i; seq = c.args.item.seq; payload = c.in_ok-payload.ensures.ok i }
