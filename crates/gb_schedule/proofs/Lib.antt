@@ -3,6 +3,8 @@ pub mod LineSplitLemmas
 pub mod LeftLemmas
 pub mod CutLemmas
 pub mod RowLemmas
+pub mod StepLemmas
+pub mod HeadLemmas
 pub mod WordLemmas
 pub mod CommandLemmas
 pub mod SilentLemmas

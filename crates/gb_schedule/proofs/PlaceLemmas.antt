@@ -1,8 +1,10 @@
 -- The command of a line is in its place.
-use Rattle.std.proofs.Common.{ℕ, List, Option, Some, None, Result, Ok, Err, refl}
+use Rattle.std.proofs.Common.{◌≡◌, ◌↔◌, ℕ, List, Option, Some, None, Result, Ok, Err, refl}
 use Rattle.std.specs.Result.{IfOk}
 use Rattle.std.specs.Option.{IfSome}
 use Rattle.gb_schedule.specs.declared.command.Command.{Command}
+use Rattle.gb_schedule.specs.declared.command.Command.TheVariants.{Step as StepCommand}
+use Rattle.gb_schedule.specs.declared.command.Step.{Step}
 use Rattle.gb_schedule.specs.declared.head.Head.{Head}
 use Rattle.gb_schedule.specs.declared.head.Head.TheVariants.{Cluster, Tenant, Make, Open, Shut, Drop, Say, Fetch, Forge, Pack, Again, Ack, Arrive, Noise, Tick, Stop}
 use Rattle.gb_schedule.specs.Grammar.{Spells, IsCommandLine, IsInPlace}
@@ -54,3 +56,9 @@ pub command_in_place : {E : Type 0} (nodes : Option ℕ) (line : List ℕ) (resu
     → IfOk result (Finds (IsCommandLine nodes line)) → IfOk result (λ answer. IfSome answer (IsInPlace nodes))
 command_in_place nodes line (Ok answer) finds = found_in_place nodes line answer finds
 command_in_place nodes line (Err e) finds = tt
+
+-- and so is a step
+pub step_in_place : (nodes : ℕ) (line : List ℕ) (answer : Option Step) → ((step : Step) → (answer ≡ Some step) ↔ IsCommandLine (Some nodes) line (StepCommand step))
+    → IfSome answer (λ step. IsInPlace (Some nodes) (StepCommand step))
+step_in_place nodes line None finds = tt
+step_in_place nodes line (Some step) finds = line_in_place (Some nodes) line (StepCommand step) ((finds step).0 refl)

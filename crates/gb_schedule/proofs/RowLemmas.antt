@@ -8,19 +8,16 @@ use Rattle.gb_types.specs.declared.spec.Spec.{Spec}
 use Rattle.gb_types.specs.declared.spec.TenantRow.{TenantRow}
 use Rattle.gb_types.specs.declared.request.Request.{Request as AnyRequest}
 use Rattle.gb_types.specs.declared.request.Request.TheVariants.{AddTenant, Make, Say, Fetch}
-use Rattle.gb_schedule.specs.declared.command.Command.TheVariants.{Cluster, Request, Pack, Again, Ack, Noise, Tick, Stop}
+use Rattle.gb_schedule.specs.declared.command.Command.TheVariants.{Cluster, Request, Noise}
 use Rattle.gb_types.specs.RequestWords.{SpellsSpec}
 use Rattle.gb_types.proofs.RequestWordLemmas.{IsShortWord, IsLongWord, AreAddressWords}
-use Rattle.gb_schedule.specs.Grammar.{SpellsCluster, SpellsTenant, SpellsMake, SpellsNamed, SpellsSay, SpellsFetch, SpellsForge, SpellsPack, SpellsAgain, SpellsAck, SpellsNoise, SpellsTick, SpellsStop}
+use Rattle.gb_schedule.specs.Grammar.{SpellsCluster, SpellsTenant, SpellsMake, SpellsNamed, SpellsSay, SpellsFetch, SpellsForge, SpellsNoise}
 use Rattle.gb_schedule.specs.Keys.{tenant_key, no_token, admin_token, tenant_token, member_token}
 use Rattle.gb_types.proofs.ReadLemmas.{Reads, found, only, reads_one, some_same}
 
 -- what the readers of single words find
 abbrev pub IsNodeWord : ℕ → List ℕ → NodeId → Type 0
 IsNodeWord nodes word node = (node.number < nodes) × (word ≡ decimal node.number)
-
-abbrev pub IsFrameWord : List ℕ → ℕ → Type 0
-IsFrameWord word n = (n ≤ 18446744073709551615) × (word ≡ decimal n)
 
 pub named_reads : (request : List ℕ → Addr → AnyRequest) (nodes : ℕ) (words : List (List ℕ)) (a t g : List ℕ) (node : NodeId) (address : Addr) (token : List ℕ) → words ≡ a ∷ t ∷ g ∷ []
     → Reads (IsNodeWord nodes a) node → Reads (AreAddressWords t g) address → token ≡ tenant_token address.tenant
@@ -206,70 +203,6 @@ forge_reads nodes words a t g node address payload are reads_node reads_address 
     let same_address : address ≡ spelt.address = only (AreAddressWords t g) address spelt.address reads_address (spelt.tenant, cc, spelt.group, cc) in
     ap (λ q. Request node (Say no_token address q)) none ∙ (λ i. Request (same_node i) (Say no_token (same_address i) [])) ∙ sym spelt.command_is)
 
-pub pack_reads : (nodes : ℕ) (words : List (List ℕ)) (a b : List ℕ) (node to : NodeId) → words ≡ a ∷ b ∷ []
-    → Reads (IsNodeWord nodes a) node → Reads (IsNodeWord nodes b) to
-    → Reads (λ command. SpellsPack nodes command words) (Pack node to)
-pack_reads nodes words a b node to are reads_node reads_to =
-    let is_node = found (IsNodeWord nodes a) node reads_node in
-    let is_to = found (IsNodeWord nodes b) to reads_to in
-    let here : SpellsPack nodes (Pack node to) words = record {
-      node = node;
-      to = to;
-      command_is = refl;
-      words_are = cc (are, is_node.1, is_to.1);
-      in_cluster = is_node.0;
-      to_in_cluster = is_to.0;
-    } in
-    reads_one (λ command. SpellsPack nodes command words) _ here (λ command spelt.
-    let same : a ∷ b ∷ [] ≡ decimal spelt.node.number ∷ decimal spelt.to.number ∷ [] = sym are ∙ spelt.words_are in
-    let same_node : node ≡ spelt.node = only (IsNodeWord nodes a) node spelt.node reads_node (spelt.in_cluster, cc) in
-    let same_to : to ≡ spelt.to = only (IsNodeWord nodes b) to spelt.to reads_to (spelt.to_in_cluster, cc) in
-    cc spelt.command_is)
-
-pub again_reads : (nodes : ℕ) (words : List (List ℕ)) (a b f : List ℕ) (node to : NodeId) (frame : ℕ) → words ≡ a ∷ b ∷ f ∷ []
-    → Reads (IsNodeWord nodes a) node → Reads (IsNodeWord nodes b) to → Reads (IsFrameWord f) frame
-    → Reads (λ command. SpellsAgain nodes command words) (Again node to frame)
-again_reads nodes words a b f node to frame are reads_node reads_to reads_frame =
-    let is_node = found (IsNodeWord nodes a) node reads_node in
-    let is_to = found (IsNodeWord nodes b) to reads_to in
-    let is_frame = found (IsFrameWord f) frame reads_frame in
-    let here : SpellsAgain nodes (Again node to frame) words = record {
-      node = node;
-      to = to;
-      frame = frame;
-      command_is = refl;
-      words_are = cc (are, is_node.1, is_to.1, is_frame.1);
-      in_cluster = is_node.0;
-      to_in_cluster = is_to.0;
-      frame_in = is_frame.0;
-    } in
-    reads_one (λ command. SpellsAgain nodes command words) _ here (λ command spelt.
-    let same : a ∷ b ∷ f ∷ [] ≡ decimal spelt.node.number ∷ decimal spelt.to.number ∷ decimal spelt.frame ∷ [] = sym are ∙ spelt.words_are in
-    let same_node : node ≡ spelt.node = only (IsNodeWord nodes a) node spelt.node reads_node (spelt.in_cluster, cc) in
-    let same_to : to ≡ spelt.to = only (IsNodeWord nodes b) to spelt.to reads_to (spelt.to_in_cluster, cc) in
-    let same_frame : frame ≡ spelt.frame = only (IsFrameWord f) frame spelt.frame reads_frame (spelt.frame_in, cc) in
-    cc spelt.command_is)
-
-pub ack_reads : (nodes : ℕ) (words : List (List ℕ)) (a b : List ℕ) (node to : NodeId) → words ≡ a ∷ b ∷ []
-    → Reads (IsNodeWord nodes a) node → Reads (IsNodeWord nodes b) to
-    → Reads (λ command. SpellsAck nodes command words) (Ack node to)
-ack_reads nodes words a b node to are reads_node reads_to =
-    let is_node = found (IsNodeWord nodes a) node reads_node in
-    let is_to = found (IsNodeWord nodes b) to reads_to in
-    let here : SpellsAck nodes (Ack node to) words = record {
-      node = node;
-      to = to;
-      command_is = refl;
-      words_are = cc (are, is_node.1, is_to.1);
-      in_cluster = is_node.0;
-      to_in_cluster = is_to.0;
-    } in
-    reads_one (λ command. SpellsAck nodes command words) _ here (λ command spelt.
-    let same : a ∷ b ∷ [] ≡ decimal spelt.node.number ∷ decimal spelt.to.number ∷ [] = sym are ∙ spelt.words_are in
-    let same_node : node ≡ spelt.node = only (IsNodeWord nodes a) node spelt.node reads_node (spelt.in_cluster, cc) in
-    let same_to : to ≡ spelt.to = only (IsNodeWord nodes b) to spelt.to reads_to (spelt.to_in_cluster, cc) in
-    cc spelt.command_is)
-
 pub noise_reads : (nodes : ℕ) (words : List (List ℕ)) (a h : List ℕ) (node : NodeId) (bytes : List ℕ) → words ≡ a ∷ h ∷ []
     → Reads (IsNodeWord nodes a) node → payload_of h ≡ Some bytes
     → Reads (λ command. SpellsNoise nodes command words) (Noise node bytes)
@@ -290,36 +223,4 @@ noise_reads nodes words a h node bytes are reads_node are_bytes =
     let same_word : spelt.bytes_word ≡ h = cc in
     let spelt_bytes : payload_of h ≡ Some spelt.bytes = rw same_word at spelt.bytes_are in
     let same_bytes : bytes ≡ spelt.bytes = some_same bytes spelt.bytes (sym are_bytes ∙ spelt_bytes) in
-    cc spelt.command_is)
-
-pub tick_reads : (nodes : ℕ) (words : List (List ℕ)) (a : List ℕ) (node : NodeId) → words ≡ a ∷ []
-    → Reads (IsNodeWord nodes a) node
-    → Reads (λ command. SpellsTick nodes command words) (Tick node)
-tick_reads nodes words a node are reads_node =
-    let is_node = found (IsNodeWord nodes a) node reads_node in
-    let here : SpellsTick nodes (Tick node) words = record {
-      node = node;
-      command_is = refl;
-      words_are = cc (are, is_node.1);
-      in_cluster = is_node.0;
-    } in
-    reads_one (λ command. SpellsTick nodes command words) _ here (λ command spelt.
-    let same : a ∷ [] ≡ decimal spelt.node.number ∷ [] = sym are ∙ spelt.words_are in
-    let same_node : node ≡ spelt.node = only (IsNodeWord nodes a) node spelt.node reads_node (spelt.in_cluster, cc) in
-    cc spelt.command_is)
-
-pub stop_reads : (nodes : ℕ) (words : List (List ℕ)) (a : List ℕ) (node : NodeId) → words ≡ a ∷ []
-    → Reads (IsNodeWord nodes a) node
-    → Reads (λ command. SpellsStop nodes command words) (Stop node)
-stop_reads nodes words a node are reads_node =
-    let is_node = found (IsNodeWord nodes a) node reads_node in
-    let here : SpellsStop nodes (Stop node) words = record {
-      node = node;
-      command_is = refl;
-      words_are = cc (are, is_node.1);
-      in_cluster = is_node.0;
-    } in
-    reads_one (λ command. SpellsStop nodes command words) _ here (λ command spelt.
-    let same : a ∷ [] ≡ decimal spelt.node.number ∷ [] = sym are ∙ spelt.words_are in
-    let same_node : node ≡ spelt.node = only (IsNodeWord nodes a) node spelt.node reads_node (spelt.in_cluster, cc) in
     cc spelt.command_is)

@@ -11,7 +11,8 @@ use Rattle.gb_types.specs.declared.spec.TenantRow.{TenantRow}
 use Rattle.gb_types.specs.declared.request.Request.{Request as AnyRequest}
 use Rattle.gb_types.specs.declared.request.Request.TheVariants.{AddTenant, Make, OpenGroup, ShutGroup, DropGroup, Say, Fetch}
 use Rattle.gb_schedule.specs.declared.command.Command.{Command}
-use Rattle.gb_schedule.specs.declared.command.Command.TheVariants.{Cluster, Request, Pack, Again, Ack, Arrive, Noise, Tick, Stop}
+use Rattle.gb_schedule.specs.declared.command.Command.TheVariants.{Cluster, Request, Noise, Step}
+use Rattle.gb_schedule.specs.declared.command.Step.TheVariants.{Pack, Again, Ack, Arrive, Tick, Stop}
 use Rattle.gb_schedule.specs.declared.head.Head.{Head}
 use Rattle.gb_schedule.specs.declared.head.Head.TheVariants as heads
 use Rattle.gb_schedule.specs.Head.{head_word}
@@ -105,7 +106,7 @@ pub record SpellsForge (nodes : ℕ) (command : Command) (words : List (List ℕ
 pub record SpellsPack (nodes : ℕ) (command : Command) (words : List (List ℕ)) : Type 0 where
   pub node : NodeId
   pub to : NodeId
-  pub command_is : command ≡ Pack node to
+  pub command_is : command ≡ Step (Pack node to)
   pub words_are : words ≡ decimal node.number ∷ decimal to.number ∷ []
   pub in_cluster : node.number < nodes
   pub to_in_cluster : to.number < nodes
@@ -115,7 +116,7 @@ pub record SpellsAgain (nodes : ℕ) (command : Command) (words : List (List ℕ
   pub node : NodeId
   pub to : NodeId
   pub frame : ℕ
-  pub command_is : command ≡ Again node to frame
+  pub command_is : command ≡ Step (Again node to frame)
   pub words_are : words ≡ decimal node.number ∷ decimal to.number ∷ decimal frame ∷ []
   pub in_cluster : node.number < nodes
   pub to_in_cluster : to.number < nodes
@@ -125,7 +126,7 @@ pub record SpellsAgain (nodes : ℕ) (command : Command) (words : List (List ℕ
 pub record SpellsAck (nodes : ℕ) (command : Command) (words : List (List ℕ)) : Type 0 where
   pub node : NodeId
   pub to : NodeId
-  pub command_is : command ≡ Ack node to
+  pub command_is : command ≡ Step (Ack node to)
   pub words_are : words ≡ decimal node.number ∷ decimal to.number ∷ []
   pub in_cluster : node.number < nodes
   pub to_in_cluster : to.number < nodes
@@ -133,7 +134,7 @@ pub record SpellsAck (nodes : ℕ) (command : Command) (words : List (List ℕ))
 -- `arrive K`
 pub record SpellsArrive (command : Command) (words : List (List ℕ)) : Type 0 where
   pub packet : ℕ
-  pub command_is : command ≡ Arrive packet
+  pub command_is : command ≡ Step (Arrive packet)
   pub words_are : words ≡ decimal packet ∷ []
   pub packet_in : packet ≤ 18446744073709551615
 
@@ -150,14 +151,14 @@ pub record SpellsNoise (nodes : ℕ) (command : Command) (words : List (List ℕ
 -- `tick A`
 pub record SpellsTick (nodes : ℕ) (command : Command) (words : List (List ℕ)) : Type 0 where
   pub node : NodeId
-  pub command_is : command ≡ Tick node
+  pub command_is : command ≡ Step (Tick node)
   pub words_are : words ≡ decimal node.number ∷ []
   pub in_cluster : node.number < nodes
 
 -- `stop A`
 pub record SpellsStop (nodes : ℕ) (command : Command) (words : List (List ℕ)) : Type 0 where
   pub node : NodeId
-  pub command_is : command ≡ Stop node
+  pub command_is : command ≡ Step (Stop node)
   pub words_are : words ≡ decimal node.number ∷ []
   pub in_cluster : node.number < nodes
 
@@ -195,13 +196,13 @@ pub record IsCommandLine (nodes : Option ℕ) (line : List ℕ) (command : Comma
 abbrev pub IsInPlace : Option ℕ → Command → Type 0
 IsInPlace None (Cluster nodes silence) = (1 ≤ nodes) × (nodes ≤ NODES) × (SILENCE_MIN ≤ silence) × (silence ≤ SILENCE_MAX)
 IsInPlace (Some nodes) (Request node request) = node.number < nodes
-IsInPlace (Some nodes) (Pack node to) = (node.number < nodes) × (to.number < nodes)
-IsInPlace (Some nodes) (Again node to frame) = (node.number < nodes) × (to.number < nodes) × (frame ≤ 18446744073709551615)
-IsInPlace (Some nodes) (Ack node to) = (node.number < nodes) × (to.number < nodes)
-IsInPlace (Some nodes) (Arrive packet) = packet ≤ 18446744073709551615
+IsInPlace (Some nodes) (Step (Pack node to)) = (node.number < nodes) × (to.number < nodes)
+IsInPlace (Some nodes) (Step (Again node to frame)) = (node.number < nodes) × (to.number < nodes) × (frame ≤ 18446744073709551615)
+IsInPlace (Some nodes) (Step (Ack node to)) = (node.number < nodes) × (to.number < nodes)
+IsInPlace (Some nodes) (Step (Arrive packet)) = packet ≤ 18446744073709551615
 IsInPlace (Some nodes) (Noise node bytes) = node.number < nodes
-IsInPlace (Some nodes) (Tick node) = node.number < nodes
-IsInPlace (Some nodes) (Stop node) = node.number < nodes
+IsInPlace (Some nodes) (Step (Tick node)) = node.number < nodes
+IsInPlace (Some nodes) (Step (Stop node)) = node.number < nodes
 IsInPlace other command = ⊥
 
 -- the line is empty, or begins with `#`

@@ -3,14 +3,9 @@ use gb_types::node::NodeId;
 use gb_types::payload::Payload;
 use gb_types::request::Request;
 
-/// What a line of a schedule asks for.
-#[derive(Drop)]
-pub enum Command {
-    /// Starts a cluster of so many nodes; a node is noticed after so many ticks without a good
-    /// packet of it.
-    Cluster { nodes: u8, silence: u16 },
-    /// Makes a request at a node.
-    Request(NodeId, Request),
+/// What a line asks for of links, time and a node's end: what carries no bytes.
+#[derive(Clone, Copy)]
+pub enum Step {
     /// Lets the first node pack the first item that waits for the second.
     Pack(NodeId, NodeId),
     /// Lets the first node give its frame with this number to the second again, where the frame is
@@ -20,10 +15,22 @@ pub enum Command {
     Ack(NodeId, NodeId),
     /// Lets a packet arrive where it was sent to. Packets are numbered from 1 as they are sent.
     Arrive(u64),
-    /// Hands bytes in at a node, which may be anything but a packet of the cluster.
-    Noise(NodeId, Payload),
     /// Lets time pass at a node.
     Tick(NodeId),
     /// Stops a node for good.
     Stop(NodeId),
+}
+
+/// What a line of a schedule asks for.
+#[derive(Drop)]
+pub enum Command {
+    /// Starts a cluster of so many nodes; a node is noticed after so many ticks without a good
+    /// packet of it.
+    Cluster { nodes: u8, silence: u16 },
+    /// Makes a request at a node.
+    Request(NodeId, Request),
+    /// Hands bytes in at a node, which may be anything but a packet of the cluster.
+    Noise(NodeId, Payload),
+    /// Lets a packet be sent or arrive, time pass, or a node stop.
+    Step(Step),
 }

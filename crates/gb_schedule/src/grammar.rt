@@ -1,16 +1,19 @@
 //! The grammar of a schedule: the words behind each head, and the command that they spell.
-ghost use Rattle.std.specs.Prelude.{◌≡◌, ◌≤◌, ◌<◌, ◌↔◌, ℕ, [], ◌∷◌, Some, IfOk, IfSome, IsTrue, decimal, map};
+ghost use Rattle.std.specs.Prelude.{◌≡◌, ◌≤◌, ◌<◌, ◌↔◌, ℕ, List, [], ◌∷◌, ◌++◌, Some, IfOk, IfSome, IfNone, IsTrue, decimal, map};
 ghost use Rattle.std.specs.Option.{ForSome};
+ghost use Rattle.std.specs.Io.{StartsWith};
 ghost use Rattle.gb_types.specs.Words.{words_of};
 ghost use Rattle.gb_types.specs.declared.node.NodeId.{NodeId as TheNode};
+ghost use Rattle.gb_schedule.specs.declared.command.Step.{Step as TheStep};
 ghost use Rattle.gb_schedule.specs.declared.command.Command.{Command as TheCommand};
+ghost use Rattle.gb_schedule.specs.declared.command.Command.TheVariants as Commands;
 ghost use Rattle.gb_types.specs.declared.request.Request.TheVariants.{OpenGroup, ShutGroup, DropGroup};
 ghost use Rattle.gb_schedule.specs.Grammar.{SpellsCluster, SpellsTenant, SpellsMake, SpellsNamed, SpellsSay, SpellsFetch, SpellsForge, SpellsPack, SpellsAgain, SpellsAck, SpellsArrive, SpellsNoise, SpellsTick, SpellsStop, Spells, IsCommandLine, IsInPlace, IsSilent, SilentLinesSpellNothing};
 
-use crate::command::Command;
+use crate::command::{Command, Step};
 use crate::head::{Head, read_head};
 use crate::keys::{Keys, NO_TOKEN, tenant_key};
-use crate::words::{WORDS, words_in};
+use crate::words::{WORDS, cut_word, words_in};
 use gb_types::limits::{NODES, SILENCE_MAX, SILENCE_MIN};
 use gb_types::memory::OutOfMemory;
 use gb_types::node::NodeId;
@@ -208,60 +211,6 @@ fn read_forge(alloc: Global, nodes: u8, words: &[&[u8]]) -> Option<Command>
     Some(Command::Request(node, request))
 }
 
-// pack A B
-fn read_pack(nodes: u8, words: &[&[u8]]) -> Option<Command>
-    requires { (1 ≤ nodes) × (nodes ≤ NODES) }
-    ensures { (command : TheCommand) → (result ≡ Some command)
-        ↔ SpellsPack nodes command (map (λ word. word.now) words.now) }
-{
-    let [node, to] = words else {
-        return None;
-    };
-    let node = read_node(node, nodes)?;
-    let to = read_node(to, nodes)?;
-    Some(Command::Pack(node, to))
-}
-
-// again A B F
-fn read_again(nodes: u8, words: &[&[u8]]) -> Option<Command>
-    requires { (1 ≤ nodes) × (nodes ≤ NODES) }
-    ensures { (command : TheCommand) → (result ≡ Some command)
-        ↔ SpellsAgain nodes command (map (λ word. word.now) words.now) }
-{
-    let [node, to, frame] = words else {
-        return None;
-    };
-    let node = read_node(node, nodes)?;
-    let to = read_node(to, nodes)?;
-    let frame = read_number(frame, u64::MAX)?;
-    Some(Command::Again(node, to, frame))
-}
-
-// ack A B
-fn read_ack(nodes: u8, words: &[&[u8]]) -> Option<Command>
-    requires { (1 ≤ nodes) × (nodes ≤ NODES) }
-    ensures { (command : TheCommand) → (result ≡ Some command)
-        ↔ SpellsAck nodes command (map (λ word. word.now) words.now) }
-{
-    let [node, to] = words else {
-        return None;
-    };
-    let node = read_node(node, nodes)?;
-    let to = read_node(to, nodes)?;
-    Some(Command::Ack(node, to))
-}
-
-// arrive K
-fn read_arrive(words: &[&[u8]]) -> Option<Command>
-    ensures { (command : TheCommand) → (result ≡ Some command)
-        ↔ SpellsArrive command (map (λ word. word.now) words.now) }
-{
-    let [packet] = words else {
-        return None;
-    };
-    Some(Command::Arrive(read_number(packet, u64::MAX)?))
-}
-
 // noise B HEX
 fn read_noise(alloc: Global, nodes: u8, words: &[&[u8]]) -> Result<Option<Command>, OutOfMemory>
     requires { (1 ≤ nodes) × (nodes ≤ NODES) }
@@ -280,33 +229,153 @@ fn read_noise(alloc: Global, nodes: u8, words: &[&[u8]]) -> Result<Option<Comman
     Ok(Some(Command::Noise(node, bytes)))
 }
 
-// tick A
-fn read_tick(nodes: u8, words: &[&[u8]]) -> Option<Command>
+// The node, of a cluster of so many, that the first word of a text spells, and what stands behind the space after it.
+fn first_node(text: &[u8], nodes: u8) -> Option<(NodeId, &[u8])>
     requires { (1 ≤ nodes) × (nodes ≤ NODES) }
-    ensures { (command : TheCommand) → (result ≡ Some command)
-        ↔ SpellsTick nodes command (map (λ word. word.now) words.now) }
+    ensures some { IfSome result (λ found. (found.0.number < nodes)
+        × (words_of text.now ≡ decimal found.0.number ∷ words_of found.1.now)) }
+    ensures none { IfNone result ((node : TheNode) (word : List ℕ) (words : List (List ℕ)) → node.number < nodes
+        → words_of text.now ≡ decimal node.number ∷ word ∷ words → ⊥) }
 {
-    let [node] = words else {
-        return None;
-    };
-    let node = read_node(node, nodes)?;
-    Some(Command::Tick(node))
+    let (word, rest) = cut_word(text);
+    let node = read_node(word, nodes)?;
+    match rest {
+        None => None,
+        Some(rest) => Some((node, rest)),
+    }
+}
+
+// The node, of a cluster of so many, that a text of one word spells.
+fn last_node(text: &[u8], nodes: u8) -> Option<NodeId>
+    requires { (1 ≤ nodes) × (nodes ≤ NODES) }
+    ensures { (node : TheNode) → (result ≡ Some node)
+        ↔ ((node.number < nodes) × (words_of text.now ≡ decimal node.number ∷ [])) }
+{
+    read_node(text, nodes)
+}
+
+// The number that a text of one word spells.
+fn last_number(text: &[u8]) -> Option<u64>
+    ensures { (n : ℕ) → (result ≡ Some n)
+        ↔ ((n ≤ 18446744073709551615) × (words_of text.now ≡ decimal n ∷ [])) }
+{
+    read_number(text, u64::MAX)
+}
+
+// pack A B
+fn read_pack(nodes: u8, text: &[u8]) -> Option<Step>
+    requires { (1 ≤ nodes) × (nodes ≤ NODES) }
+    ensures { (step : TheStep) → (result ≡ Some step)
+        ↔ SpellsPack nodes (Commands.Step step) (words_of text.now) }
+{
+    let (node, rest) = first_node(text, nodes)?;
+    let to = last_node(rest, nodes)?;
+    Some(Step::Pack(node, to))
+}
+
+// again A B F
+fn read_again(nodes: u8, text: &[u8]) -> Option<Step>
+    requires { (1 ≤ nodes) × (nodes ≤ NODES) }
+    ensures { (step : TheStep) → (result ≡ Some step)
+        ↔ SpellsAgain nodes (Commands.Step step) (words_of text.now) }
+{
+    let (node, rest) = first_node(text, nodes)?;
+    let (to, rest) = first_node(rest, nodes)?;
+    let frame = last_number(rest)?;
+    Some(Step::Again(node, to, frame))
+}
+
+// ack A B
+fn read_ack(nodes: u8, text: &[u8]) -> Option<Step>
+    requires { (1 ≤ nodes) × (nodes ≤ NODES) }
+    ensures { (step : TheStep) → (result ≡ Some step)
+        ↔ SpellsAck nodes (Commands.Step step) (words_of text.now) }
+{
+    let (node, rest) = first_node(text, nodes)?;
+    let to = last_node(rest, nodes)?;
+    Some(Step::Ack(node, to))
+}
+
+// arrive K
+fn read_arrive(text: &[u8]) -> Option<Step>
+    ensures { (step : TheStep) → (result ≡ Some step)
+        ↔ SpellsArrive (Commands.Step step) (words_of text.now) }
+{
+    let packet = last_number(text)?;
+    Some(Step::Arrive(packet))
+}
+
+// tick A
+fn read_tick(nodes: u8, text: &[u8]) -> Option<Step>
+    requires { (1 ≤ nodes) × (nodes ≤ NODES) }
+    ensures { (step : TheStep) → (result ≡ Some step)
+        ↔ SpellsTick nodes (Commands.Step step) (words_of text.now) }
+{
+    let node = last_node(text, nodes)?;
+    Some(Step::Tick(node))
 }
 
 // stop A
-fn read_stop(nodes: u8, words: &[&[u8]]) -> Option<Command>
+fn read_stop(nodes: u8, text: &[u8]) -> Option<Step>
     requires { (1 ≤ nodes) × (nodes ≤ NODES) }
-    ensures { (command : TheCommand) → (result ≡ Some command)
-        ↔ SpellsStop nodes command (map (λ word. word.now) words.now) }
+    ensures { (step : TheStep) → (result ≡ Some step)
+        ↔ SpellsStop nodes (Commands.Step step) (words_of text.now) }
 {
-    let [node] = words else {
-        return None;
-    };
-    let node = read_node(node, nodes)?;
-    Some(Command::Stop(node))
+    let node = last_node(text, nodes)?;
+    Some(Step::Stop(node))
 }
 
-// The command that a head and the words behind it, its arguments, spell.
+// What stands in a line behind these bytes, where it begins with them.
+#[inline(always)]
+fn behind<'a>(line: &'a [u8], begin: &[u8]) -> Option<&'a [u8]>
+    ensures some { IfSome result (λ text. line.now ≡ begin.now ++ text.now) }
+    ensures none { IfNone result (StartsWith line.now begin.now → ⊥) }
+{
+    line.strip_prefix(begin)
+}
+
+// The step that a line spells in a cluster of so many nodes.
+fn find_step(nodes: u8, line: &[u8]) -> Option<Step>
+    requires { (1 ≤ nodes) × (nodes ≤ NODES) }
+    ensures { (step : TheStep) → (result ≡ Some step)
+        ↔ IsCommandLine (Some nodes) line.now (Commands.Step step) }
+{
+    if let Some(text) = behind(line, b"arrive ") {
+        return read_arrive(text);
+    }
+    if let Some(text) = behind(line, b"pack ") {
+        return read_pack(nodes, text);
+    }
+    if let Some(text) = behind(line, b"ack ") {
+        return read_ack(nodes, text);
+    }
+    if let Some(text) = behind(line, b"tick ") {
+        return read_tick(nodes, text);
+    }
+    if let Some(text) = behind(line, b"again ") {
+        return read_again(nodes, text);
+    }
+    if let Some(text) = behind(line, b"stop ") {
+        return read_stop(nodes, text);
+    }
+    None
+}
+
+/// The step that a line spells, or None where it spells none. `nodes` is how many nodes the cluster has, once there is
+/// one.
+pub fn read_step(nodes: Option<u8>, line: &[u8]) -> Option<Step>
+    requires { ForSome nodes (λ count. (1 ≤ count) × (count ≤ NODES)) }
+    ensures spelt { (step : TheStep) → (result ≡ Some step)
+        ↔ IsCommandLine nodes line.now (Commands.Step step) }
+    ensures in_place { IfSome result (λ step. IsInPlace nodes (Commands.Step step)) }
+{
+    match nodes {
+        None => None,
+        Some(nodes) => find_step(nodes, line),
+    }
+}
+
+// The command that a head and the words behind it, its arguments, spell, where they spell no step.
 fn read_arguments(
     alloc: Global,
     keys: &mut Keys,
@@ -314,7 +383,8 @@ fn read_arguments(
     head: Head,
     arguments: &[&[u8]],
 ) -> Result<Option<Command>, OutOfMemory>
-    requires { ForSome nodes (λ count. (1 ≤ count) × (count ≤ NODES)) }
+    requires few { ForSome nodes (λ count. (1 ≤ count) × (count ≤ NODES)) }
+    requires no_step { (step : TheStep) → Spells head nodes (Commands.Step step) (map (λ word. word.now) arguments.now) → ⊥ }
     ensures { IfOk result (λ found. (command : TheCommand) → (found ≡ Some command)
         ↔ Spells head nodes command (map (λ word. word.now) arguments.now)) }
 {
@@ -334,25 +404,21 @@ fn read_arguments(
         Head::Say => read_say(alloc, keys, nodes, arguments),
         Head::Fetch => Ok(read_fetch(keys, nodes, arguments)),
         Head::Forge => Ok(read_forge(alloc, nodes, arguments)),
-        Head::Pack => Ok(read_pack(nodes, arguments)),
-        Head::Again => Ok(read_again(nodes, arguments)),
-        Head::Ack => Ok(read_ack(nodes, arguments)),
-        Head::Arrive => Ok(read_arrive(arguments)),
         Head::Noise => read_noise(alloc, nodes, arguments),
-        Head::Tick => Ok(read_tick(nodes, arguments)),
-        Head::Stop => Ok(read_stop(nodes, arguments)),
+        Head::Pack | Head::Again | Head::Ack | Head::Arrive | Head::Tick | Head::Stop => Ok(None),
     }
 }
 
-/// The command that a line spells, or None where it spells none. `nodes` is how many nodes the
+/// The command that a line spells which spells no step, or None where it spells none. `nodes` is how many nodes the
 /// cluster has, once there is one. Each request comes with its token, but a forged one.
-pub fn read_command(
+pub fn read_other_command(
     alloc: Global,
     keys: &mut Keys,
     nodes: Option<u8>,
     line: &[u8],
 ) -> Result<Option<Command>, OutOfMemory>
-    requires { ForSome nodes (λ count. (1 ≤ count) × (count ≤ NODES)) }
+    requires few { ForSome nodes (λ count. (1 ≤ count) × (count ≤ NODES)) }
+    requires no_step { (step : TheStep) → IsCommandLine nodes line.now (Commands.Step step) → ⊥ }
     ensures spelt { IfOk result (λ found. (command : TheCommand) → (found ≡ Some command)
         ↔ IsCommandLine nodes line.now command) }
     ensures in_place { IfOk result (λ found. IfSome found (IsInPlace nodes)) }
@@ -369,6 +435,25 @@ pub fn read_command(
         return Ok(None);
     };
     read_arguments(alloc, keys, nodes, head, arguments)
+}
+
+/// The command that a line spells, or None where it spells none. `nodes` is how many nodes the
+/// cluster has, once there is one. Each request comes with its token, but a forged one.
+pub fn read_command(
+    alloc: Global,
+    keys: &mut Keys,
+    nodes: Option<u8>,
+    line: &[u8],
+) -> Result<Option<Command>, OutOfMemory>
+    requires { ForSome nodes (λ count. (1 ≤ count) × (count ≤ NODES)) }
+    ensures spelt { IfOk result (λ found. (command : TheCommand) → (found ≡ Some command)
+        ↔ IsCommandLine nodes line.now command) }
+    ensures in_place { IfOk result (λ found. IfSome found (IsInPlace nodes)) }
+{
+    match read_step(nodes, line) {
+        Some(step) => Ok(Some(Command::Step(step))),
+        None => read_other_command(alloc, keys, nodes, line),
+    }
 }
 
 /// Whether a line asks for nothing: it is empty, or a comment, which begins with `#`.

@@ -1,8 +1,8 @@
 -- What an event in a cluster makes happen at its nodes.
-use Rattle.std.proofs.Common.{◌≡◌, ℕ, zero, suc, inl, inr, true, false, Bool, List, [], ◌∷◌, length, Option, Some, None, refl, sym, subst, ◌∙◌, arith}
-use Rattle.std.specs.Prelude.{◌⊎◌, slice_get, Contains, MatchBool}
+use Rattle.std.proofs.Common.{◌≡◌, ℕ, zero, suc, inl, inr, true, false, Bool, List, [], ◌∷◌, Option, Some, None, refl, sym, subst, ◌∙◌, arith}
+use Rattle.std.specs.Prelude.{slice_get, Contains, MatchBool}
 use Rattle.gb_node.specs.declared.event.NodeEvent.TheVariants.{Packet as Came}
-use Rattle.gb_cluster.specs.ClusterStep.{IsAt, IsArrival, IsStep, is_packet_for, packet_numbered, answer_of}
+use Rattle.gb_cluster.specs.ClusterStep.{IsAt, IsArrival, IsStep, is_packet_for, packet_numbered}
 use Rattle.gb_cluster.specs.ClusterValue.{ClusterValue, node_at}
 use Rattle.gb_cluster.specs.Run.{Did, ComesTo}
 use Rattle.gb_cluster.specs.declared.answer.Answer.{Answer}
@@ -11,7 +11,7 @@ use Rattle.gb_cluster.specs.declared.event.Event.{Event}
 use Rattle.gb_cluster.specs.declared.event.Event.TheVariants.{At, Arrive}
 use Rattle.gb_types.specs.declared.plan.Plan.{Plan}
 use Rattle.gb_cluster.specs.declared.posted.Posted.{Posted}
-use Rattle.gb_simulate.specs.RunTexts.{Step, IsOf, Happens}
+use Rattle.gb_simulate.specs.RunTexts.{Step, Happens}
 
 get_contains : (packets : List Posted) (k : ℕ) (p : Posted) → slice_get packets k ≡ Some p → Contains packets p
 get_contains [] k p e = absurd (cc)

@@ -10,7 +10,7 @@ use Rattle.gb_schedule.specs.Lines.{lines_of}
 use Rattle.gb_cluster.specs.ClusterValue.{ClusterValue}
 use Rattle.gb_simulate.specs.AnswerText.{bad_line}
 use Rattle.gb_simulate.specs.Schedule.{GoesOn}
-use Rattle.gb_simulate.specs.Text.{AreAnswered, Reaches, IsText, IsLeftOff, IsWritten, IsWrittenUpTo}
+use Rattle.gb_simulate.specs.Text.{AreAnswered, Reaches, IsText, IsLeftOff, IsWrittenUpTo}
 use Rattle.gb_simulate.specs.Progress.{TakesLine, Ends, Fails, HandsOver, IsCutShort, IsAt, IsHalfway, IsGathered, IsGatheredUpTo}
 use Rattle.gb_simulate.specs.declared.outcome.SimEnd.{SimEnd}
 use Rattle.gb_simulate.specs.declared.outcome.SimEnd.TheVariants.{All, BadLine}

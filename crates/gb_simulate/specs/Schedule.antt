@@ -1,5 +1,5 @@
 -- What a schedule makes a cluster answer.
-use Rattle.std.specs.Prelude.{ℕ, ◌≡◌, ◌≢◌, ◌≤◌, ◌<◌, ◌⊎◌, List, [], ◌∷◌, ◌++◌, length, Option, Some, None, codes}
+use Rattle.std.specs.Prelude.{ℕ, ◌≡◌, ◌≢◌, ◌≤◌, ◌<◌, ◌⊎◌, List, [], drop, length, Option, Some, None, codes}
 use Rattle.std.specs.Option.{ForSome}
 use Rattle.gb_types.specs.declared.limits.TheConstants.{NODES}
 use Rattle.gb_node.specs.declared.event.NodeEvent.TheVariants.{Request as AskEvent, Packet as CameEvent, Pack as PackEvent, Again as AgainEvent, Ack as AckEvent, Tick as TickEvent, Stop as StopEvent}
@@ -10,7 +10,8 @@ use Rattle.gb_cluster.specs.declared.event.Event.TheVariants.{At, Arrive as Arri
 use Rattle.gb_schedule.specs.Grammar.{IsCommandLine, IsSilent}
 use Rattle.gb_schedule.specs.Lines.{ended}
 use Rattle.gb_schedule.specs.declared.command.Command.{Command}
-use Rattle.gb_schedule.specs.declared.command.Command.TheVariants.{Cluster, Request, Pack, Again, Ack, Arrive, Noise, Tick, Stop}
+use Rattle.gb_schedule.specs.declared.command.Command.TheVariants.{Cluster, Request, Noise, Step}
+use Rattle.gb_schedule.specs.declared.command.Step.TheVariants.{Pack, Again, Ack, Arrive, Tick, Stop}
 use Rattle.gb_schedule.specs.declared.lines.TheConstants.{LINE}
 use Rattle.gb_simulate.specs.AnswerText.{answer_spelling}
 use Rattle.gb_simulate.specs.OfCluster.{started, size, Takes}
@@ -18,17 +19,21 @@ use Rattle.gb_simulate.specs.declared.outcome.BadLine.{BadLine}
 use Rattle.gb_simulate.specs.declared.outcome.BadLine.TheVariants.{TooLong, TooMany, NoCluster, NoCommand}
 use Rattle.gb_simulate.specs.declared.obey.TheConstants.{LINES}
 
+-- what stands in a text behind the old one
+abbrev pub added : List ℕ → List ℕ → List ℕ
+added old new = drop (length old) new
+
 -- the event that a command is, once there is a cluster
 abbrev pub event_of : Command → Option Event
 event_of (Cluster nodes silence) = None
 event_of (Request node request) = Some (At node (AskEvent request))
-event_of (Pack node to) = Some (At node (PackEvent to))
-event_of (Again node to frame) = Some (At node (AgainEvent to frame))
-event_of (Ack node to) = Some (At node (AckEvent to))
-event_of (Arrive packet) = Some (ArriveEvent packet)
+event_of (Step (Pack node to)) = Some (At node (PackEvent to))
+event_of (Step (Again node to frame)) = Some (At node (AgainEvent to frame))
+event_of (Step (Ack node to)) = Some (At node (AckEvent to))
+event_of (Step (Arrive packet)) = Some (ArriveEvent packet)
 event_of (Noise node bytes) = Some (At node (CameEvent bytes))
-event_of (Tick node) = Some (At node TickEvent)
-event_of (Stop node) = Some (At node StopEvent)
+event_of (Step (Tick node)) = Some (At node TickEvent)
+event_of (Step (Stop node)) = Some (At node StopEvent)
 
 -- how many nodes the cluster has, once there is one
 abbrev pub size_in : Option ClusterValue → Option ℕ

@@ -1,5 +1,6 @@
-//! How an answer is written.
-ghost use Rattle.std.specs.Prelude.{◌≡◌, ◌++◌, ◌∷◌, [], codes, OnOk};
+//! How an answer is written. Without memory a part of it may stand behind what was there.
+ghost use Rattle.std.specs.Prelude.{◌≡◌, ◌++◌, ◌∷◌, [], codes, OnOk, OnErr};
+ghost use Rattle.std.specs.Io.{StartsWith};
 ghost use Rattle.gb_types.specs.Rising.{rising, rising_from};
 ghost use Rattle.gb_types.specs.ReplyText.{reply_spelling};
 ghost use Rattle.gb_schedule.specs.Lines.{ended};
@@ -17,14 +18,16 @@ use gb_types::reply_text::put_reply;
 
 /// Appends the text of a refusal.
 fn put_refusal(out: &mut Vec<u8>, why: Refusal) -> Result<(), OutOfMemory>
-    ensures { OnOk result (out.new.items ≡ out.old.items ++ reply_spelling (Reply.Refused why)) }
+    ensures ok { OnOk result (out.new.items ≡ out.old.items ++ reply_spelling (Reply.Refused why)) }
+    ensures err { OnErr result (StartsWith out.new.items out.old.items) }
 {
     put_reply(out, &Reply::Refused(why))
 }
 
 /// Appends what a node made of a frame, in a word.
 fn put_frame(out: &mut Vec<u8>, frame: Frame) -> Result<(), OutOfMemory>
-    ensures { OnOk result (out.new.items ≡ out.old.items ++ frame_word frame) }
+    ensures ok { OnOk result (out.new.items ≡ out.old.items ++ frame_word frame) }
+    ensures err { OnErr result (StartsWith out.new.items out.old.items) }
 {
     match frame {
         Frame::Nothing => out.extend_from_slice(b"none")?,
@@ -37,7 +40,8 @@ fn put_frame(out: &mut Vec<u8>, frame: Frame) -> Result<(), OutOfMemory>
 
 /// Appends `good FRAME ITEMS DONE`.
 fn put_good(out: &mut Vec<u8>, good: &Good) -> Result<(), OutOfMemory>
-    ensures { OnOk result (out.new.items ≡ out.old.items ++ good_spelling good.now) }
+    ensures ok { OnOk result (out.new.items ≡ out.old.items ++ good_spelling good.now) }
+    ensures err { OnErr result (StartsWith out.new.items out.old.items) }
 {
     out.extend_from_slice(b"good ")?;
     put_frame(out, good.frame)?;
@@ -67,7 +71,8 @@ fn name_of(fault: PacketFault) -> &'static [u8]
 
 /// Appends `fault NUMBER NAME`.
 fn put_fault(out: &mut Vec<u8>, fault: PacketFault) -> Result<(), OutOfMemory>
-    ensures { OnOk result (out.new.items ≡ out.old.items ++ fault_spelling fault) }
+    ensures ok { OnOk result (out.new.items ≡ out.old.items ++ fault_spelling fault) }
+    ensures err { OnErr result (StartsWith out.new.items out.old.items) }
 {
     out.extend_from_slice(b"fault ")?;
     put_number(out, u64::from(fault.number()))?;
@@ -78,7 +83,8 @@ fn put_fault(out: &mut Vec<u8>, fault: PacketFault) -> Result<(), OutOfMemory>
 
 /// Appends what became of bytes that came.
 fn put_packet(out: &mut Vec<u8>, taken: &PacketAnswer) -> Result<(), OutOfMemory>
-    ensures { OnOk result (out.new.items ≡ out.old.items ++ packet_spelling taken.now) }
+    ensures ok { OnOk result (out.new.items ≡ out.old.items ++ packet_spelling taken.now) }
+    ensures err { OnErr result (StartsWith out.new.items out.old.items) }
 {
     match taken {
         PacketAnswer::Good(good) => put_good(out, good),
@@ -89,7 +95,8 @@ fn put_packet(out: &mut Vec<u8>, taken: &PacketAnswer) -> Result<(), OutOfMemory
 
 /// Appends `packet K`, `nothing` or a refusal.
 fn put_sending(out: &mut Vec<u8>, sending: Sending) -> Result<(), OutOfMemory>
-    ensures { OnOk result (out.new.items ≡ out.old.items ++ sending_spelling sending) }
+    ensures ok { OnOk result (out.new.items ≡ out.old.items ++ sending_spelling sending) }
+    ensures err { OnErr result (StartsWith out.new.items out.old.items) }
 {
     match sending {
         Sending::Packet(number) => {
@@ -106,7 +113,8 @@ fn put_sending(out: &mut Vec<u8>, sending: Sending) -> Result<(), OutOfMemory>
 
 /// Appends the numbers of the nodes of a set, rising, each after a space.
 fn put_each(out: &mut Vec<u8>, found: &NodeSet) -> Result<(), OutOfMemory>
-    ensures { OnOk result (out.new.items ≡ out.old.items ++ each_after_space (rising_from found.now 0)) }
+    ensures ok { OnOk result (out.new.items ≡ out.old.items ++ each_after_space (rising_from found.now 0)) }
+    ensures err { OnErr result (StartsWith out.new.items out.old.items) }
 {
     let mut from = 0;
     'all: while let Some(node) = found.next_from(from) {
@@ -119,7 +127,8 @@ fn put_each(out: &mut Vec<u8>, found: &NodeSet) -> Result<(), OutOfMemory>
 
 /// Appends `noticed` and the nodes that are noticed, or `noticed -`.
 fn put_noticed(out: &mut Vec<u8>, found: &NodeSet) -> Result<(), OutOfMemory>
-    ensures { OnOk result (out.new.items ≡ out.old.items ++ noticed_words (rising found.now)) }
+    ensures ok { OnOk result (out.new.items ≡ out.old.items ++ noticed_words (rising found.now)) }
+    ensures err { OnErr result (StartsWith out.new.items out.old.items) }
 {
     match found.next_from(0) {
         None => {
@@ -135,7 +144,8 @@ fn put_noticed(out: &mut Vec<u8>, found: &NodeSet) -> Result<(), OutOfMemory>
 
 /// Appends what a tick brought to light.
 fn put_ticked(out: &mut Vec<u8>, ticked: &Ticked) -> Result<(), OutOfMemory>
-    ensures { OnOk result (out.new.items ≡ out.old.items ++ ticked_spelling ticked.now) }
+    ensures ok { OnOk result (out.new.items ≡ out.old.items ++ ticked_spelling ticked.now) }
+    ensures err { OnErr result (StartsWith out.new.items out.old.items) }
 {
     match ticked {
         Ticked::Noticed(found) => put_noticed(out, found),
@@ -145,7 +155,8 @@ fn put_ticked(out: &mut Vec<u8>, ticked: &Ticked) -> Result<(), OutOfMemory>
 
 /// Appends whether a node stopped.
 fn put_halted(out: &mut Vec<u8>, halted: Halted) -> Result<(), OutOfMemory>
-    ensures { OnOk result (out.new.items ≡ out.old.items ++ halted_spelling halted) }
+    ensures ok { OnOk result (out.new.items ≡ out.old.items ++ halted_spelling halted) }
+    ensures err { OnErr result (StartsWith out.new.items out.old.items) }
 {
     match halted {
         Halted::Done => put_reply(out, &Reply::Done),
@@ -155,7 +166,8 @@ fn put_halted(out: &mut Vec<u8>, halted: Halted) -> Result<(), OutOfMemory>
 
 /// Appends words.
 fn put_words(out: &mut Vec<u8>, words: &[u8]) -> Result<(), OutOfMemory>
-    ensures { OnOk result (out.new.items ≡ out.old.items ++ words.now) }
+    ensures ok { OnOk result (out.new.items ≡ out.old.items ++ words.now) }
+    ensures err { OnErr result (StartsWith out.new.items out.old.items) }
 {
     out.extend_from_slice(words)?;
     Ok(())
@@ -163,7 +175,8 @@ fn put_words(out: &mut Vec<u8>, words: &[u8]) -> Result<(), OutOfMemory>
 
 /// Appends the text of an answer.
 fn put_text(out: &mut Vec<u8>, answer: &Answer) -> Result<(), OutOfMemory>
-    ensures { OnOk result (out.new.items ≡ out.old.items ++ answer_spelling answer.now) }
+    ensures ok { OnOk result (out.new.items ≡ out.old.items ++ answer_spelling answer.now) }
+    ensures err { OnErr result (StartsWith out.new.items out.old.items) }
 {
     match answer {
         Answer::Reply(reply) => put_reply(out, reply),
@@ -178,7 +191,8 @@ fn put_text(out: &mut Vec<u8>, answer: &Answer) -> Result<(), OutOfMemory>
 
 /// Appends the line of an answer.
 pub fn put_answer(out: &mut Vec<u8>, answer: &Answer) -> Result<(), OutOfMemory>
-    ensures { OnOk result (out.new.items ≡ out.old.items ++ ended (answer_spelling answer.now)) }
+    ensures ok { OnOk result (out.new.items ≡ out.old.items ++ ended (answer_spelling answer.now)) }
+    ensures err { OnErr result (StartsWith out.new.items out.old.items) }
 {
     put_text(out, answer)?;
     out.extend_from_slice(b"\n")?;
@@ -187,7 +201,8 @@ pub fn put_answer(out: &mut Vec<u8>, answer: &Answer) -> Result<(), OutOfMemory>
 
 /// Appends the line that a cluster was started.
 pub fn put_started(out: &mut Vec<u8>) -> Result<(), OutOfMemory>
-    ensures { OnOk result (out.new.items ≡ out.old.items ++ ended (codes "ok")) }
+    ensures ok { OnOk result (out.new.items ≡ out.old.items ++ ended (codes "ok")) }
+    ensures err { OnErr result (StartsWith out.new.items out.old.items) }
 {
     out.extend_from_slice(b"ok\n")?;
     Ok(())
@@ -195,7 +210,8 @@ pub fn put_started(out: &mut Vec<u8>) -> Result<(), OutOfMemory>
 
 /// Appends the line that says which line is bad.
 pub fn put_bad_line(out: &mut Vec<u8>, number: u64) -> Result<(), OutOfMemory>
-    ensures { OnOk result (out.new.items ≡ out.old.items ++ bad_line number) }
+    ensures ok { OnOk result (out.new.items ≡ out.old.items ++ bad_line number) }
+    ensures err { OnErr result (StartsWith out.new.items out.old.items) }
 {
     out.extend_from_slice(b"bad line ")?;
     put_number(out, number)?;

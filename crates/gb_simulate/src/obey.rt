@@ -1,13 +1,15 @@
 //! What a line of a schedule does in the cluster, and its answer.
 ghost use Rattle.std.specs.Prelude.{◌≡◌, ◌≢◌, ◌≤◌, ◌<◌, [], codes, Some, None, length, Ok, IfOk, OnOk, IfSome};
+ghost use Rattle.std.specs.Io.{StartsWith};
 ghost use Rattle.gb_schedule.specs.Grammar.{IsInPlace};
+ghost use Rattle.gb_schedule.specs.declared.command.Command.TheVariants as Commands;
 ghost use Rattle.gb_schedule.specs.Lines.{ended};
 ghost use Rattle.gb_schedule.specs.declared.lines.TheConstants.{LINE};
 ghost use Rattle.gb_cluster.specs.ClusterStep.{IsPlaced};
 ghost use Rattle.gb_cluster.specs.ClusterValue.{IsClusterPlan};
 ghost use Rattle.gb_cluster.specs.declared.event.Event.TheVariants as Events;
 ghost use Rattle.gb_simulate.specs.OfCluster.{started, size, plan_of};
-ghost use Rattle.gb_simulate.specs.Schedule.{Answers, Obeys, GoesOn, event_of, IsBadLine, HasNodes, size_in};
+ghost use Rattle.gb_simulate.specs.Schedule.{added, Answers, Obeys, GoesOn, event_of, IsBadLine, HasNodes, size_in};
 
 use crate::answer_text::{put_answer, put_started};
 use crate::outcome::BadLine;
@@ -15,8 +17,8 @@ use gb_cluster::cluster::Cluster;
 use gb_cluster::event::Event;
 use gb_node::event::NodeEvent;
 use gb_node::packet_text::PacketText;
-use gb_schedule::command::Command;
-use gb_schedule::grammar::{is_silent, read_command};
+use gb_schedule::command::{Command, Step};
+use gb_schedule::grammar::{is_silent, read_other_command, read_step};
 use gb_schedule::keys::{ADMIN_KEY, CLUSTER_KEY, Keys};
 use gb_types::memory::OutOfMemory;
 use gb_types::node::NodeId;
@@ -54,10 +56,10 @@ fn begin(
     text: &mut Vec<u8>,
 ) -> Result<(), OutOfMemory>
     requires plan { IsClusterPlan (plan_of nodes silence) }
-    requires fresh { text.old.items ≡ [] }
     ensures few { OnOk result (HasNodes cluster.new) }
     ensures started { OnOk result (cluster.new ≡ Some (started nodes silence)) }
-    ensures text { OnOk result (text.new.items ≡ ended (codes "ok")) }
+    ensures text { OnOk result (added text.old.items text.new.items ≡ ended (codes "ok")) }
+    ensures front { StartsWith text.new.items text.old.items }
 {
     *cluster = Some(Cluster::start(alloc, &plan_of(nodes, silence))?);
     put_started(text)
@@ -66,9 +68,9 @@ fn begin(
 /// An event in the cluster.
 fn act(cluster: &mut Cluster, event: &Event, text: &mut Vec<u8>) -> Result<(), OutOfMemory>
     requires placed { IsPlaced (size cluster.old) event.now }
-    requires fresh { text.old.items ≡ [] }
     ensures size { size cluster.new ≡ size cluster.old }
-    ensures answers { OnOk result (Answers cluster.old event.now (Some cluster.new) text.new.items) }
+    ensures answers { OnOk result (Answers cluster.old event.now (Some cluster.new) (added text.old.items text.new.items)) }
+    ensures front { StartsWith text.new.items text.old.items }
 {
     let answer = cluster.step(event)?;
     put_answer(text, &answer)
@@ -82,9 +84,9 @@ fn obey_event(
 ) -> Result<(), OutOfMemory>
     requires few { HasNodes cluster.old }
     requires placed { IfSome (size_in cluster.old) (λ count. IsPlaced count event.now) }
-    requires fresh { text.old.items ≡ [] }
     ensures few { OnOk result (HasNodes cluster.new) }
-    ensures answers { OnOk result (IfSome cluster.old (λ v. Answers v event.now cluster.new text.new.items)) }
+    ensures answers { OnOk result (IfSome cluster.old (λ v. Answers v event.now cluster.new (added text.old.items text.new.items))) }
+    ensures front { StartsWith text.new.items text.old.items }
 {
     match cluster {
         Some(cluster) => act(cluster, event, text),
@@ -101,11 +103,35 @@ fn obey_at(
 ) -> Result<(), OutOfMemory>
     requires few { HasNodes cluster.old }
     requires placed { IfSome (size_in cluster.old) (λ count. node.number < count) }
-    requires fresh { text.old.items ≡ [] }
     ensures few { OnOk result (HasNodes cluster.new) }
-    ensures answers { OnOk result (IfSome cluster.old (λ v. Answers v (Events.At node event) cluster.new text.new.items)) }
+    ensures answers { OnOk result (IfSome cluster.old (λ v. Answers v (Events.At node event) cluster.new (added text.old.items text.new.items))) }
+    ensures front { StartsWith text.new.items text.old.items }
 {
     obey_event(cluster, &Event::At(node, event), text)
+}
+
+/// A step that is in its place.
+fn obey_step(
+    cluster: &mut Option<Cluster>,
+    step: Step,
+    text: &mut Vec<u8>,
+) -> Result<(), OutOfMemory>
+    requires few { HasNodes cluster.old }
+    requires in_place { IsInPlace (size_in cluster.old) (Commands.Step step) }
+    ensures few { OnOk result (HasNodes cluster.new) }
+    ensures obeyed { OnOk result (Obeys cluster.old (Commands.Step step) (event_of (Commands.Step step)) cluster.new (added text.old.items text.new.items)) }
+    ensures front { StartsWith text.new.items text.old.items }
+{
+    match step {
+        Step::Pack(node, to) => obey_at(cluster, node, NodeEvent::Pack(to), text),
+        Step::Again(node, to, frame) => {
+            obey_at(cluster, node, NodeEvent::Again(to, frame), text)
+        }
+        Step::Ack(node, to) => obey_at(cluster, node, NodeEvent::Ack(to), text),
+        Step::Arrive(packet) => obey_event(cluster, &Event::Arrive(packet), text),
+        Step::Tick(node) => obey_at(cluster, node, NodeEvent::Tick, text),
+        Step::Stop(node) => obey_at(cluster, node, NodeEvent::Stop, text),
+    }
 }
 
 /// A command that is in its place.
@@ -117,27 +143,20 @@ fn obey(
 ) -> Result<(), OutOfMemory>
     requires few { HasNodes cluster.old }
     requires in_place { IsInPlace (size_in cluster.old) command }
-    requires fresh { text.old.items ≡ [] }
     ensures few { OnOk result (HasNodes cluster.new) }
-    ensures obeyed { OnOk result (Obeys cluster.old command (event_of command) cluster.new text.new.items) }
+    ensures obeyed { OnOk result (Obeys cluster.old command (event_of command) cluster.new (added text.old.items text.new.items)) }
+    ensures front { StartsWith text.new.items text.old.items }
 {
     match command {
         Command::Cluster { nodes, silence } => { begin(alloc, cluster, nodes, silence, text) }
         Command::Request(node, request) => {
             obey_at(cluster, node, NodeEvent::Request(request), text)
         }
-        Command::Pack(node, to) => obey_at(cluster, node, NodeEvent::Pack(to), text),
-        Command::Again(node, to, frame) => {
-            obey_at(cluster, node, NodeEvent::Again(to, frame), text)
-        }
-        Command::Ack(node, to) => obey_at(cluster, node, NodeEvent::Ack(to), text),
-        Command::Arrive(packet) => obey_event(cluster, &Event::Arrive(packet), text),
         Command::Noise(node, bytes) => {
             let bytes = PacketText::from(bytes.into_vec()?);
             obey_at(cluster, node, NodeEvent::Packet(bytes), text)
         }
-        Command::Tick(node) => obey_at(cluster, node, NodeEvent::Tick, text),
-        Command::Stop(node) => obey_at(cluster, node, NodeEvent::Stop, text),
+        Command::Step(step) => obey_step(cluster, step, text),
     }
 }
 
@@ -163,8 +182,8 @@ fn why_none(cluster: &Option<Cluster>) -> BadLine
     }
 }
 
-/// Obeys the line with this number and puts the line of its answer into `text`, or says why it is bad.
-/// Where memory lacks, the cluster may have taken the event, and `text` may hold a part of the answer.
+/// Obeys the line with this number and appends the line of its answer, or says why it is bad.
+/// Where memory lacks, the cluster may have taken the event, and a part of the answer may stand behind what was there.
 pub fn answer_line(
     alloc: Global,
     number: u64,
@@ -175,11 +194,11 @@ pub fn answer_line(
 ) -> Result<Option<BadLine>, OutOfMemory>
     requires few { HasNodes cluster.old }
     requires short { length line.now ≤ LINE }
-    requires fresh { text.old.items ≡ [] }
     ensures few { OnOk result (HasNodes cluster.new) }
-    ensures good { result ≡ Ok None → (number ≤ LINES) × GoesOn cluster.old line.now cluster.new text.new.items }
+    ensures good { result ≡ Ok None → (number ≤ LINES) × GoesOn cluster.old line.now cluster.new (added text.old.items text.new.items) }
     ensures bad { IfOk result (λ found. IfSome found (λ why. IsBadLine why number cluster.old line.now)) }
-    ensures silent { IfOk result (λ found. IfSome found (λ _. text.new.items ≡ [])) }
+    ensures silent { IfOk result (λ found. IfSome found (λ _. text.new.items ≡ text.old.items)) }
+    ensures front { StartsWith text.new.items text.old.items }
 {
     if number > LINES {
         return Ok(Some(BadLine::TooMany));
@@ -187,7 +206,12 @@ pub fn answer_line(
     if is_silent(line) {
         return Ok(None);
     }
-    match read_command(alloc, keys, count_of(cluster), line)? {
+    let nodes = count_of(cluster);
+    if let Some(step) = read_step(nodes, line) {
+        obey_step(cluster, step, text)?;
+        return Ok(None);
+    }
+    match read_other_command(alloc, keys, nodes, line)? {
         None => Ok(Some(why_none(cluster))),
         Some(command) => {
             obey(alloc, cluster, command, text)?;

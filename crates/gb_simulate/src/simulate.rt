@@ -1,5 +1,6 @@
 //! Runs a schedule, line by line.
 ghost use Rattle.std.specs.Prelude.{◌≡◌, ◌≢◌, ◌++◌, [], Ok, Some, None, IfOk, IfErr, OnOk, IfSome};
+ghost use Rattle.std.specs.Io.{StartsWith};
 ghost use Rattle.gb_schedule.specs.Buffered.{left, WantsRead};
 ghost use Rattle.gb_simulate.specs.AnswerText.{bad_line};
 ghost use Rattle.gb_simulate.specs.Schedule.{HasNodes};
@@ -20,32 +21,45 @@ use std::io::{Read, Write};
 /// The bytes of answers that are gathered before they are written, where no read comes first.
 const GATHERED: usize = 65_536;
 
-/// Adds a line to the answers that were gathered.
-fn gather(gathered: &mut Vec<u8>, text: &[u8]) -> Result<(), OutOfMemory>
-    ensures ok { OnOk result (gathered.new.items ≡ gathered.old.items ++ text.now) }
-    ensures err { IfErr result (λ _. gathered.new.items ≡ gathered.old.items) }
-{
-    gathered.extend_from_slice(text)?;
-    Ok(())
-}
-
 /// Ends a schedule: line `number` is bad.
-fn end_badly(
-    number: u64,
-    why: BadLine,
-    text: &mut Vec<u8>,
-    gathered: &mut Vec<u8>,
-) -> Result<SimEnd, OutOfMemory>
-    requires { text.old.items ≡ [] }
+fn end_badly(number: u64, why: BadLine, gathered: &mut Vec<u8>) -> Result<SimEnd, OutOfMemory>
     ensures ok { IfOk result (λ end. (end ≡ SimEnd.BadLine number why) × (gathered.new.items ≡ gathered.old.items ++ bad_line number)) }
-    ensures err { IfErr result (λ _. gathered.new.items ≡ gathered.old.items) }
+    ensures front { StartsWith gathered.new.items gathered.old.items }
 {
-    put_bad_line(text, number)?;
-    gather(gathered, text)?;
+    put_bad_line(gathered, number)?;
     Ok(SimEnd::BadLine(number, why))
 }
 
-/// Answers the next line, or finds the end of the schedule. A line's answer is made whole, and then gathered.
+/// Answers the next line, or finds the end of the schedule. Where memory lacks, a part of the answer may be gathered.
+fn gather_next<R: Read>(
+    alloc: Global,
+    number: u64,
+    reader: &mut R,
+    lines: &mut LineBuffer,
+    keys: &mut Keys,
+    cluster: &mut Option<Cluster>,
+    gathered: &mut Vec<u8>,
+) -> Result<Option<SimEnd>, SimFault>
+    requires { HasNodes cluster.old }
+    ensures few { OnOk result (HasNodes cluster.new) }
+    ensures goes_on { result ≡ Ok None → TakesLine number cluster.old cluster.new (left lines.old (R.remaining reader.old)) (left lines.new (R.remaining reader.new)) gathered.old.items gathered.new.items }
+    ensures ends { IfOk result (λ found. IfSome found (λ end. Ends end number cluster.old (left lines.old (R.remaining reader.old)) gathered.old.items gathered.new.items)) }
+    ensures fails { IfErr result (λ why. Fails why (left lines.old (R.remaining reader.old)) (R.remaining reader.new) gathered.old.items gathered.old.items) }
+    ensures front { StartsWith gathered.new.items gathered.old.items }
+{
+    match lines.next(reader)? {
+        NextLine::End => Ok(Some(SimEnd::All)),
+        NextLine::TooLong => Ok(Some(end_badly(number, BadLine::TooLong, gathered)?)),
+        NextLine::Given => {
+            match answer_line(alloc, number, keys, cluster, lines.line(), gathered)? {
+                Some(why) => Ok(Some(end_badly(number, why, gathered)?)),
+                None => Ok(None),
+            }
+        }
+    }
+}
+
+/// Answers the next line, or finds the end of the schedule. A line's answer is gathered whole, or not at all.
 fn answer_next<R: Read>(
     alloc: Global,
     number: u64,
@@ -53,7 +67,6 @@ fn answer_next<R: Read>(
     lines: &mut LineBuffer,
     keys: &mut Keys,
     cluster: &mut Option<Cluster>,
-    text: &mut Vec<u8>,
     gathered: &mut Vec<u8>,
 ) -> Result<Option<SimEnd>, SimFault>
     requires { HasNodes cluster.old }
@@ -62,18 +75,12 @@ fn answer_next<R: Read>(
     ensures ends { IfOk result (λ found. IfSome found (λ end. Ends end number cluster.old (left lines.old (R.remaining reader.old)) gathered.old.items gathered.new.items)) }
     ensures fails { IfErr result (λ why. Fails why (left lines.old (R.remaining reader.old)) (R.remaining reader.new) gathered.old.items gathered.new.items) }
 {
-    text.clear();
-    match lines.next(reader)? {
-        NextLine::End => Ok(Some(SimEnd::All)),
-        NextLine::TooLong => Ok(Some(end_badly(number, BadLine::TooLong, text, gathered)?)),
-        NextLine::Given => match answer_line(alloc, number, keys, cluster, lines.line(), text)? {
-            Some(why) => Ok(Some(end_badly(number, why, text, gathered)?)),
-            None => {
-                gather(gathered, text)?;
-                Ok(None)
-            }
-        },
+    let before = gathered.len();
+    let outcome = gather_next(alloc, number, reader, lines, keys, cluster, gathered);
+    if outcome.is_err() {
+        gathered.truncate(before);
     }
+    outcome
 }
 
 /// Writes the answers that were gathered, where there are any, and flushes them.
@@ -115,7 +122,6 @@ fn answer_lines<R: Read, W: Write>(
     lines: &mut LineBuffer,
     keys: &mut Keys,
     cluster: &mut Option<Cluster>,
-    text: &mut Vec<u8>,
     gathered: &mut Vec<u8>,
 ) -> Result<SimEnd, SimFault>
     requires first { cluster.old ≡ None }
@@ -127,9 +133,7 @@ fn answer_lines<R: Read, W: Write>(
     loop {
         number += 1;
         hand_over_in_time(writer, lines, gathered)?;
-        if let Some(end) = answer_next(
-            alloc, number, reader, lines, keys, cluster, text, gathered,
-        )? {
+        if let Some(end) = answer_next(alloc, number, reader, lines, keys, cluster, gathered)? {
             return Ok(end);
         }
     }
@@ -149,7 +153,6 @@ fn answer_all<R: Read, W: Write>(
 {
     let mut keys = Keys::new(alloc);
     let mut cluster = None;
-    let mut text = Vec::new(alloc);
     answer_lines(
         alloc,
         reader,
@@ -157,7 +160,6 @@ fn answer_all<R: Read, W: Write>(
         lines,
         &mut keys,
         &mut cluster,
-        &mut text,
         gathered,
     )
 }

@@ -2,7 +2,7 @@
 ghost use Rattle.std.specs.Prelude.{◌≤◌};
 ghost use Rattle.std.specs.Option.{ForSome};
 
-use gb_schedule::command::Command;
+use gb_schedule::command::{Command, Step};
 use gb_schedule::grammar::{is_silent, read_command};
 use gb_schedule::keys::Keys;
 use gb_types::address::Addr;
@@ -149,6 +149,18 @@ fn told_noise(alloc: Global, node: NodeId, bytes: &[u8]) -> Result<Vec<u8>, OutO
     shown_bytes(alloc, b"noise", &[u64::from(node.number)], bytes)
 }
 
+/// What a step asks for.
+fn told_step(alloc: Global, step: Step) -> Result<Vec<u8>, OutOfMemory> {
+    match step {
+        Step::Pack(node, to) => between(alloc, b"pack", node, to),
+        Step::Again(node, to, frame) => told_again(alloc, node, to, frame),
+        Step::Ack(node, to) => between(alloc, b"acknowledge", node, to),
+        Step::Arrive(packet) => shown(alloc, b"arrive", &[packet]),
+        Step::Tick(node) => at(alloc, b"tick", node),
+        Step::Stop(node) => at(alloc, b"stop", node),
+    }
+}
+
 /// What a command asks for.
 fn told_command(alloc: Global, command: &Command) -> Result<Vec<u8>, OutOfMemory> {
     match command {
@@ -156,13 +168,8 @@ fn told_command(alloc: Global, command: &Command) -> Result<Vec<u8>, OutOfMemory
             shown(alloc, b"cluster", &[u64::from(*nodes), u64::from(*silence)])
         }
         Command::Request(node, request) => told_request(alloc, u64::from(node.number), request),
-        Command::Pack(node, to) => between(alloc, b"pack", *node, *to),
-        Command::Again(node, to, frame) => told_again(alloc, *node, *to, *frame),
-        Command::Ack(node, to) => between(alloc, b"acknowledge", *node, *to),
-        Command::Arrive(packet) => shown(alloc, b"arrive", &[*packet]),
         Command::Noise(node, bytes) => told_noise(alloc, *node, bytes.as_slice()),
-        Command::Tick(node) => at(alloc, b"tick", *node),
-        Command::Stop(node) => at(alloc, b"stop", *node),
+        Command::Step(step) => told_step(alloc, *step),
     }
 }
 

@@ -13,7 +13,7 @@ use gb_node::answer::{Halted, PacketAnswer, Ticked};
 use gb_node::event::NodeEvent;
 use gb_node::packet_text::PacketText;
 use gb_run::run::{are_placed, run};
-use gb_schedule::command::Command;
+use gb_schedule::command::{Command, Step};
 use gb_schedule::grammar::read_command;
 use gb_schedule::keys::{ADMIN_KEY, CLUSTER_KEY, Keys};
 use gb_trace::trace::Trace;
@@ -51,6 +51,18 @@ fn is_plan(plan: &Plan) -> bool
         && plan.silence <= SILENCE_MAX
 }
 
+/// The event that a step asks for.
+fn step_of(step: Step) -> Event {
+    match step {
+        Step::Pack(node, to) => Event::At(node, NodeEvent::Pack(to)),
+        Step::Again(node, to, frame) => Event::At(node, NodeEvent::Again(to, frame)),
+        Step::Ack(node, to) => Event::At(node, NodeEvent::Ack(to)),
+        Step::Arrive(packet) => Event::Arrive(packet),
+        Step::Tick(node) => Event::At(node, NodeEvent::Tick),
+        Step::Stop(node) => Event::At(node, NodeEvent::Stop),
+    }
+}
+
 /// The event that a command asks for, if it starts no cluster.
 fn event_of(command: Command) -> Result<Option<Event>, OutOfMemory> {
     Ok(match command {
@@ -59,16 +71,11 @@ fn event_of(command: Command) -> Result<Option<Event>, OutOfMemory> {
             silence: _,
         } => None,
         Command::Request(node, request) => Some(Event::At(node, NodeEvent::Request(request))),
-        Command::Pack(node, to) => Some(Event::At(node, NodeEvent::Pack(to))),
-        Command::Again(node, to, frame) => Some(Event::At(node, NodeEvent::Again(to, frame))),
-        Command::Ack(node, to) => Some(Event::At(node, NodeEvent::Ack(to))),
-        Command::Arrive(packet) => Some(Event::Arrive(packet)),
         Command::Noise(node, bytes) => {
             let bytes = PacketText::from(bytes.into_vec()?);
             Some(Event::At(node, NodeEvent::Packet(bytes)))
         }
-        Command::Tick(node) => Some(Event::At(node, NodeEvent::Tick)),
-        Command::Stop(node) => Some(Event::At(node, NodeEvent::Stop)),
+        Command::Step(step) => Some(step_of(step)),
     })
 }
 

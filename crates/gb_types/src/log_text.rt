@@ -1,5 +1,5 @@
 //! How the entries of a log are written: each byte at its place, in room that is made for all of them at once.
-ghost use Rattle.std.specs.Prelude.{◌≡◌, ◌+◌, ◌<◌, ◌≤◌, [], ◌∷◌, ◌++◌, codes, decimal, take, length, IfSome, OnOk};
+ghost use Rattle.std.specs.Prelude.{◌≡◌, ◌+◌, ◌<◌, ◌≤◌, [], ◌∷◌, ◌++◌, codes, decimal, take, length, IfSome, OnOk, OnErr};
 ghost use Rattle.std.specs.List.{flat_map};
 ghost use Rattle.gb_types.specs.PayloadWord.{payload_word};
 ghost use Rattle.gb_types.specs.ReplyText.{entry_text};
@@ -113,10 +113,11 @@ fn room_for(entries: &[Entry]) -> Option<usize>
     Some(room)
 }
 
-/// Appends each entry after a space.
+/// Appends each entry after a space. Without memory nothing has changed.
 pub(crate) fn put_entries(out: &mut Vec<u8>, entries: &[Entry]) -> Result<(), OutOfMemory>
-    ensures { OnOk result (out.new.items
+    ensures ok { OnOk result (out.new.items
         ≡ out.old.items ++ flat_map (λ e. codes " " ++ entry_text e) entries.now) }
+    ensures err { OnErr result (out.new.items ≡ out.old.items) }
 {
     let from = out.len();
     let room = room_for(entries).ok_or(OutOfMemory)?;

@@ -1,5 +1,6 @@
 //! How a reply is written.
-ghost use Rattle.std.specs.Prelude.{◌≡◌, ◌++◌, ◌∷◌, codes, IfOk, OnOk};
+ghost use Rattle.std.specs.Prelude.{◌≡◌, ◌++◌, ◌∷◌, codes, IfOk, OnOk, OnErr};
+ghost use Rattle.std.specs.Io.{StartsWith};
 ghost use Rattle.gb_types.specs.ReplyText.{reply_spelling};
 
 use crate::log_text::put_entries;
@@ -11,7 +12,8 @@ use std::alloc::Global;
 
 /// Appends `refused NUMBER NAME`.
 fn put_refusal(out: &mut Vec<u8>, why: Refusal) -> Result<(), OutOfMemory>
-    ensures { OnOk result (out.new.items ≡ out.old.items ++ reply_spelling (Reply.Refused why)) }
+    ensures ok { OnOk result (out.new.items ≡ out.old.items ++ reply_spelling (Reply.Refused why)) }
+    ensures err { OnErr result (StartsWith out.new.items out.old.items) }
 {
     out.extend_from_slice(b"refused ")?;
     put_number(out, u64::from(why.number()))?;
@@ -21,9 +23,11 @@ fn put_refusal(out: &mut Vec<u8>, why: Refusal) -> Result<(), OutOfMemory>
 }
 
 /// Appends the text of a reply, without a line end: `ok`, `said SEQ`, `log COUNT` and then for each entry a space
-/// and `ORIGIN:SEQ:PAYLOAD`, or `refused NUMBER NAME`. Payloads are in lower case, or `-`.
+/// and `ORIGIN:SEQ:PAYLOAD`, or `refused NUMBER NAME`. Payloads are in lower case, or `-`. Without memory a part of it may
+/// stand behind what was there.
 pub fn put_reply(out: &mut Vec<u8>, reply: &Reply) -> Result<(), OutOfMemory>
-    ensures { OnOk result (out.new.items ≡ out.old.items ++ reply_spelling reply.now) }
+    ensures ok { OnOk result (out.new.items ≡ out.old.items ++ reply_spelling reply.now) }
+    ensures err { OnErr result (StartsWith out.new.items out.old.items) }
 {
     match reply {
         Reply::Done => out.extend_from_slice(b"ok")?,

@@ -1,7 +1,5 @@
-use Rattle.std.proofs.Common.{arith}
-use Rattle.gb_types.proofs.ReadLemmas.{words_are}
-use Rattle.gb_schedule.proofs.RowLemmas.{ack_reads}
+use Rattle.gb_schedule.proofs.StepLemmas.{ack_reads}
 use Rattle.gb_schedule.proofs.grammar.read_ack.Goals as goal
 
 pub returns : goal.returns
-returns c = ack_reads _ _ _ _ _ _ (words_are c.args.words.now _ 2 (omega arith)) c.in_ok-node.ensures c.in_ok-to.ensures
+returns c = ack_reads _ _ _ _ _ c.in_ok-node.ensures.some.0 c.in_ok-node.ensures.some.1 c.in_ok-to.ensures

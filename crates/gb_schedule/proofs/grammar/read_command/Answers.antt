@@ -1,23 +1,8 @@
-use Rattle.std.proofs.Common.{take, sym, ◌∙◌}
-use Rattle.std.specs.Result.{IfOk}
-use Rattle.std.proofs.lemmas.List.{length-take-le}
-use Rattle.gb_schedule.specs.Grammar.{IsCommandLine}
-use Rattle.gb_types.proofs.ReadLemmas.{words_and_rest}
-use Rattle.gb_schedule.proofs.CommandLemmas.{Finds, command_found}
-use Rattle.gb_schedule.proofs.PlaceLemmas.{command_in_place}
+use Rattle.gb_schedule.proofs.HeadLemmas.{step_is_command}
 use Rattle.gb_schedule.proofs.grammar.read_command.Goals as goal
 
-pub slice_bounds-space-end : goal.slice_bounds-space-end
-slice_bounds-space-end c = c.in-Some.ensures.found.0
+pub returns-in-Some-clause-spelt : goal.returns-in-Some-clause-spelt
+returns-in-Some-clause-spelt c = step_is_command c.args.nodes c.args.line.now c.in-Some.step c.in-Some.ensures.spelt
 
-pub slice_bounds-words-end : goal.slice_bounds-words-end
-slice_bounds-words-end c = sym (length-take-le c.in-Some.count c.words_in.new.words c.in-Some.ensures.found.0)
-
-pub returns : goal.returns
-returns c =
-    let words = take c.in-Some.count c.words_in.new.words in
-    let finds : IfOk c.read_arguments.result (Finds (IsCommandLine c.args.nodes c.args.line.now)) =
-    command_found c.args.nodes c.args.line.now c.in-Some-read_head.head _ _ c.read_arguments.result
-    (sym c.in-Some.ensures.found.1 ∙ words_and_rest words _ 1 c.in-len1-up.len_at_least)
-    c.in-Some-read_head.ensures c.read_arguments.ensures in
-    record { spelt = finds; in_place = command_in_place c.args.nodes c.args.line.now c.read_arguments.result finds }
+pub read_other_command-requires-clause-no_step : goal.read_other_command-requires-clause-no_step
+read_other_command-requires-clause-no_step c step spelt = cc ((c.in-None.ensures.spelt step).1 spelt)

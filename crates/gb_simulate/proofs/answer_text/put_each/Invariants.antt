@@ -1,10 +1,11 @@
 use Rattle.std.proofs.Common.{◌≡◌, ◌++◌, length}
+use Rattle.std.specs.Io.{StartsWith}
 use Rattle.gb_types.specs.Rising.{rising_from}
 use Rattle.gb_simulate.specs.AnswerText.{each_after_space}
 use Rattle.gb_simulate.proofs.answer_text.put_each.Given as goal
 
 abbrev pub invariant-all : goal.invariant-all
-invariant-all l = l.out.items ++ each_after_space (rising_from l.found l.from) ≡ l.fn.out.items ++ each_after_space (rising_from l.found 0)
+invariant-all l = (l.out.items ++ each_after_space (rising_from l.found l.from) ≡ l.fn.out.items ++ each_after_space (rising_from l.found 0)) × StartsWith l.out.items l.fn.out.items
 
 abbrev pub decreases-all : goal.decreases-all
 decreases-all l = length (rising_from l.found l.from)

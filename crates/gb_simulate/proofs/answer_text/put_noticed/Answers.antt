@@ -4,12 +4,12 @@ use Rattle.gb_simulate.specs.AnswerText.{each_after_space}
 use Rattle.gb_simulate.proofs.AnswerLemmas.{noticed-none, noticed-some, joined, on_ok}
 use Rattle.gb_simulate.proofs.answer_text.put_noticed.Goals as goal
 
-pub returns-in_ok-extend_from_slice-in-None : goal.returns-in_ok-extend_from_slice-in-None
-returns-in_ok-extend_from_slice-in-None c =
+pub returns-in_ok-extend_from_slice-in-None-clause-ok : goal.returns-in_ok-extend_from_slice-in-None-clause-ok
+returns-in_ok-extend_from_slice-in-None-clause-ok c =
     c.in_ok-extend_from_slice-in-None.ensures.items ∙ ap (λ xs. c.args.out.now.items ++ xs) (sym (noticed-none c.args.found.now c.in-None.ensures))
 
-pub returns-in_ok-extend_from_slice-in-Some : goal.returns-in_ok-extend_from_slice-in-Some
-returns-in_ok-extend_from_slice-in-Some c =
+pub returns-in_ok-extend_from_slice-in-Some-clause-ok : goal.returns-in_ok-extend_from_slice-in-Some-clause-ok
+returns-in_ok-extend_from_slice-in-Some-clause-ok c =
     on_ok c.put_each.result
     (λ is. is ∙ joined c.args.out.now.items c.extend_from_slice-in-Some.new.self.items (each_after_space (rising_from c.args.found.now 0)) _ c.in_ok-extend_from_slice-in-Some.ensures.items (noticed-some c.args.found.now c.in-Some.field-0.number (rising_from c.args.found.now (c.in-Some.field-0.number + 1)) c.in-Some.ensures))
-    c.put_each.ensures
+    c.put_each.ensures.ok

@@ -1,7 +1,5 @@
-use Rattle.std.proofs.Common.{◌++◌, refl, ap, ◌∙◌}
-use Rattle.gb_schedule.specs.Lines.{ended}
-use Rattle.gb_simulate.specs.AnswerText.{answer_spelling}
-use Rattle.gb_simulate.proofs.AnswerLemmas.{on_ok}
+use Rattle.std.proofs.Common.{refl}
+use Rattle.gb_simulate.proofs.AnswerLemmas.{on_ok, added_is}
 use Rattle.gb_simulate.proofs.OfClusterLemmas.{takes_so}
 use Rattle.gb_simulate.proofs.obey.act.Goals as goal
 
@@ -13,6 +11,6 @@ returns-clause-answers c =
       next = c.step.new.self;
       takes = takes_so c.args.cluster.now c.step.new.self c.args.event.now c.in_ok-answer.answer c.in_ok-answer.ensures.step;
       after_is = refl;
-      text_is = is ∙ ap (λ q. q ++ ended (answer_spelling c.in_ok-answer.answer)) c.requires.fresh;
+      text_is = added_is c.args.text.now.items c.put_answer.new.out.items _ is;
     })
-    c.put_answer.ensures
+    c.put_answer.ensures.ok
