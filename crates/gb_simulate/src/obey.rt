@@ -76,7 +76,9 @@ fn act(cluster: &mut Cluster, event: &Event, text: &mut Vec<u8>) -> Result<(), O
     put_answer(text, &answer)
 }
 
-/// An event, where the cluster was started.
+/// An event, where the cluster was started. Inlined, as the next two are: an event is then made where it is taken, and not
+/// copied on its way.
+#[inline(always)]
 fn obey_event(
     cluster: &mut Option<Cluster>,
     event: &Event,
@@ -95,6 +97,7 @@ fn obey_event(
 }
 
 /// An event at a node, where the cluster was started.
+#[inline(always)]
 fn obey_at(
     cluster: &mut Option<Cluster>,
     node: NodeId,
@@ -111,6 +114,7 @@ fn obey_at(
 }
 
 /// A step that is in its place.
+#[inline(always)]
 fn obey_step(
     cluster: &mut Option<Cluster>,
     step: Step,
