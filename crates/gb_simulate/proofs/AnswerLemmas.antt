@@ -1,6 +1,7 @@
 -- How the nodes that are noticed are written.
-use Rattle.std.proofs.Common.{◌≡◌, ℕ, List, [], ◌∷◌, ◌++◌, drop, length, refl, sym, ◌∙◌, ap, subst}
+use Rattle.std.proofs.Common.{◌≡◌, ℕ, List, [], ◌∷◌, ◌++◌, length, refl, sym, ◌∙◌, ap, subst}
 use Rattle.std.proofs.lemmas.List.{append_assoc, append-nil, take-append-drop}
+use Rattle.std.proofs.lemmas.List.Prefix.{front_rest}
 use Rattle.std.specs.Io.{StartsWith}
 use Rattle.std.specs.FinSet as set
 use Rattle.std.specs.Ordering.{nat_cmp}
@@ -33,17 +34,10 @@ pub err_so : {T E : Type 0} (r : Result T E) (e : E) (P : E → Type 0) → IsEr
 err_so (Ok v) e P is p = tt
 err_so (Err x) e P is p = subst P (sym is) p
 
-drop_front : (xs ys : List ℕ) → drop (length xs) (xs ++ ys) ≡ ys
-drop_front [] ys = refl
-drop_front (x ∷ xs) ys = drop_front xs ys
-
--- what was appended is what was added
-pub added_is : (old new more : List ℕ) → new ≡ old ++ more → added old new ≡ more
-added_is old new more is = ap (drop (length old)) is ∙ drop_front old more
-
 -- a text that begins with the old one is that and what was added
 pub added_behind : (old new : List ℕ) → StartsWith new old → new ≡ old ++ added old new
 added_behind old new front = sym (take-append-drop (length old) new) ∙ ap (λ xs. xs ++ added old new) front
 
+-- nothing was added where nothing changed
 pub nothing_added : (old new : List ℕ) → new ≡ old → added old new ≡ []
-nothing_added old new is = added_is old new [] (is ∙ sym (append-nil old))
+nothing_added old new is = front_rest new old [] (is ∙ sym (append-nil old))

@@ -76,8 +76,7 @@ fn act(cluster: &mut Cluster, event: &Event, text: &mut Vec<u8>) -> Result<(), O
     put_answer(text, &answer)
 }
 
-/// An event, where the cluster was started. Inlined, as the next two are: an event is then made where it is taken, and not
-/// copied on its way.
+/// An event, where the cluster was started. Inlined, as the next two are: a schedule was measured to take less time so.
 #[inline(always)]
 fn obey_event(
     cluster: &mut Option<Cluster>,

@@ -1,5 +1,6 @@
 use Rattle.std.proofs.Common.{refl}
-use Rattle.gb_simulate.proofs.AnswerLemmas.{on_ok, added_is}
+use Rattle.std.proofs.lemmas.List.Prefix.{front_rest}
+use Rattle.gb_simulate.proofs.AnswerLemmas.{on_ok}
 use Rattle.gb_simulate.proofs.OfClusterLemmas.{takes_so}
 use Rattle.gb_simulate.proofs.obey.act.Goals as goal
 
@@ -11,6 +12,6 @@ returns-clause-answers c =
       next = c.step.new.self;
       takes = takes_so c.args.cluster.now c.step.new.self c.args.event.now c.in_ok-answer.answer c.in_ok-answer.ensures.step;
       after_is = refl;
-      text_is = added_is c.args.text.now.items c.put_answer.new.out.items _ is;
+      text_is = front_rest c.put_answer.new.out.items c.args.text.now.items _ is;
     })
     c.put_answer.ensures.ok

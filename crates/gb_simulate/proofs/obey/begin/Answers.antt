@@ -1,5 +1,6 @@
 use Rattle.std.proofs.Common.{Some, ap}
-use Rattle.gb_simulate.proofs.AnswerLemmas.{on_ok, added_is}
+use Rattle.std.proofs.lemmas.List.Prefix.{front_rest}
+use Rattle.gb_simulate.proofs.AnswerLemmas.{on_ok}
 use Rattle.gb_simulate.proofs.OfClusterLemmas.{started_so, has_nodes}
 use Rattle.gb_simulate.proofs.obey.begin.Goals as goal
 
@@ -16,4 +17,4 @@ returns-clause-started c =
     c.put_started.ensures.ok
 
 pub returns-clause-text : goal.returns-clause-text
-returns-clause-text c = on_ok c.put_started.result (λ is. added_is c.args.text.now.items c.put_started.new.out.items _ is) c.put_started.ensures.ok
+returns-clause-text c = on_ok c.put_started.result (λ is. front_rest c.put_started.new.out.items c.args.text.now.items _ is) c.put_started.ensures.ok
