@@ -3,7 +3,8 @@ use Rattle.std.proofs.Common.{◌≡◌, ℕ, ◌+◌, ◌-◌, ◌≤◌, List,
 use Rattle.std.specs.Prelude.{slice_range}
 use Rattle.std.specs.Ordering.{nat_cmp}
 use Rattle.std.specs.FinSet.{FinSet}
-use Rattle.std.proofs.lemmas.List.{take-append-le, drop-append-le, map-append}
+use Rattle.std.proofs.lemmas.List.{take_all, take-append-le, drop-append-le, map-append}
+use Rattle.std.proofs.lemmas.List.Prefix.{front_rest}
 use Rattle.gb_types.specs.declared.message.MsgId.{MsgId}
 use Rattle.gb_slot.specs.declared.store.Kept.{Kept}
 use Rattle.gb_slot.specs.Kept.{entry_of, entries_of, AreInside}
@@ -15,19 +16,11 @@ slice_range-append bytes more i j le within =
     let enough : j - i ≤ length (drop i bytes) = omega (arith, length-drop i bytes) in
     ap (take (j - i)) (drop-append-le i bytes more start) ∙ take-append-le (j - i) (drop i bytes) more enough
 
-drop_all : (bytes more : List ℕ) → drop (length bytes) (bytes ++ more) ≡ more
-drop_all [] more = refl
-drop_all (b ∷ bytes) more = drop_all bytes more
-
-take_all : (xs : List ℕ) → take (length xs) xs ≡ xs
-take_all [] = refl
-take_all (x ∷ xs) = ap (λ ys. x ∷ ys) (take_all xs)
-
 -- the part that was added
 pub slice_range-added : (bytes more : List ℕ) (j : ℕ) → j ≡ length bytes + length more → slice_range (bytes ++ more) (length bytes) j ≡ more
 slice_range-added bytes more j is =
     let count : j - length bytes ≡ length more = omega arith in
-    ap (take (j - length bytes)) (drop_all bytes more) ∙ (ap (λ n. take n more) count ∙ take_all more)
+    ap (take (j - length bytes)) (front_rest (bytes ++ more) bytes more refl) ∙ (ap (λ n. take n more) count ∙ take_all (length more) more (omega arith))
 
 pub entries_of-append : (bytes more : List ℕ) (kept : List Kept) → AreInside bytes kept → entries_of (bytes ++ more) kept ≡ entries_of bytes kept
 entries_of-append bytes more [] inside = refl

@@ -1,6 +1,4 @@
 //! Why a request is refused.
-ghost use Rattle.std.specs.Prelude.{◌≡◌};
-
 use thiserror::Error;
 
 /// Why a request was refused. Nothing has changed then.
@@ -54,56 +52,4 @@ pub enum Refusal {
     /// A request for memory was refused.
     #[error("out of memory")]
     OutOfMemory,
-}
-
-impl Refusal {
-    ghost use Rattle.gb_types.specs.Refusal.{refusal_number, refusal_name};
-
-    /// Its number, 1 to 16.
-    pub fn number(self) -> u8
-        ensures { result ≡ refusal_number self }
-    {
-        match self {
-            Refusal::Denied => 1,
-            Refusal::NoGroup => 2,
-            Refusal::Spent => 3,
-            Refusal::BadMembers => 4,
-            Refusal::OverReserve => 5,
-            Refusal::WrongPhase => 6,
-            Refusal::TooLong => 7,
-            Refusal::Budget => 8,
-            Refusal::Bytes => 9,
-            Refusal::Window => 10,
-            Refusal::BadPlace => 11,
-            Refusal::NoRoom => 12,
-            Refusal::TenantThere => 13,
-            Refusal::Malformed => 14,
-            Refusal::Stopped => 15,
-            Refusal::OutOfMemory => 16,
-        }
-    }
-
-    /// Its name, as it is written.
-    pub fn name(self) -> &'static str
-        ensures { result.now ≡ refusal_name self }
-    {
-        match self {
-            Refusal::Denied => "Denied",
-            Refusal::NoGroup => "NoGroup",
-            Refusal::Spent => "Spent",
-            Refusal::BadMembers => "BadMembers",
-            Refusal::OverReserve => "OverReserve",
-            Refusal::WrongPhase => "WrongPhase",
-            Refusal::TooLong => "TooLong",
-            Refusal::Budget => "Budget",
-            Refusal::Bytes => "Bytes",
-            Refusal::Window => "Window",
-            Refusal::BadPlace => "BadPlace",
-            Refusal::NoRoom => "NoRoom",
-            Refusal::TenantThere => "TenantThere",
-            Refusal::Malformed => "Malformed",
-            Refusal::Stopped => "Stopped",
-            Refusal::OutOfMemory => "OutOfMemory",
-        }
-    }
 }

@@ -10,16 +10,28 @@ use crate::refusal::Refusal;
 use crate::reply::Reply;
 use std::alloc::Global;
 
-/// Appends `refused NUMBER NAME`.
-fn put_refusal(out: &mut Vec<u8>, why: Refusal) -> Result<(), OutOfMemory>
-    ensures ok { OnOk result (out.new.items ≡ out.old.items ++ reply_spelling (Reply.Refused why)) }
-    ensures err { OnErr result (StartsWith out.new.items out.old.items) }
+/// The text of a refusal, `refused NUMBER NAME`, in one piece, so that it is written at once.
+fn refusal_text(why: Refusal) -> &'static [u8]
+    ensures { result.now ≡ reply_spelling (Reply.Refused why) }
 {
-    out.extend_from_slice(b"refused ")?;
-    put_number(out, u64::from(why.number()))?;
-    out.extend_from_slice(b" ")?;
-    out.extend_from_slice(why.name().as_bytes())?;
-    Ok(())
+    match why {
+        Refusal::Denied => b"refused 1 Denied",
+        Refusal::NoGroup => b"refused 2 NoGroup",
+        Refusal::Spent => b"refused 3 Spent",
+        Refusal::BadMembers => b"refused 4 BadMembers",
+        Refusal::OverReserve => b"refused 5 OverReserve",
+        Refusal::WrongPhase => b"refused 6 WrongPhase",
+        Refusal::TooLong => b"refused 7 TooLong",
+        Refusal::Budget => b"refused 8 Budget",
+        Refusal::Bytes => b"refused 9 Bytes",
+        Refusal::Window => b"refused 10 Window",
+        Refusal::BadPlace => b"refused 11 BadPlace",
+        Refusal::NoRoom => b"refused 12 NoRoom",
+        Refusal::TenantThere => b"refused 13 TenantThere",
+        Refusal::Malformed => b"refused 14 Malformed",
+        Refusal::Stopped => b"refused 15 Stopped",
+        Refusal::OutOfMemory => b"refused 16 OutOfMemory",
+    }
 }
 
 /// Appends the text of a reply, without a line end: `ok`, `said SEQ`, `log COUNT` and then for each entry a space
@@ -40,7 +52,7 @@ pub fn put_reply(out: &mut Vec<u8>, reply: &Reply) -> Result<(), OutOfMemory>
             put_number(out, entries.len() as u64)?;
             put_entries(out, entries.as_slice())?;
         }
-        Reply::Refused(why) => put_refusal(out, *why)?,
+        Reply::Refused(why) => out.extend_from_slice(refusal_text(*why))?,
     }
     Ok(())
 }
