@@ -9,7 +9,7 @@ ghost use Rattle.gb_rules.specs.declared.phase.Phase.TheVariants as Phase;
 ghost use Rattle.gb_slot.specs.Slot.{IsWithinLimits, new_slot, slot_done, slot_moved, slot_noticed, slot_said};
 ghost use Rattle.gb_groups.specs.SlotsValue.{row_at, on_slot, AreApart};
 ghost use Rattle.gb_frame.specs.Items.{address_of};
-ghost use Rattle.gb_groups.specs.AtAddress.{group_reply, drop_at, place_of, on_address, item_came, OthersKept};
+ghost use Rattle.gb_groups.specs.AtAddress.{group_reply, reply_at, drop_at, place_of, on_address, item_came, OthersKept};
 ghost use Rattle.gb_groups.specs.GroupsValue.{no_groups, walk_to, batch, packed, IsIndex, IsIndexBut};
 ghost use Rattle.gb_groups.specs.Busy.{members_of, IsNoted};
 ghost use Rattle.gb_groups.specs.PlaceSet.{has};
@@ -153,12 +153,12 @@ impl Groups {
         self.slots.len() == 0
     }
 
-    /// Whether a group was ever made with this address.
-    pub fn contains(&self, addr: Addr) -> bool
-        ensures there { result ≡ is_some (place_of addr self.now.rows) }
+    /// The place of the group with this address, where one was ever made.
+    pub fn find(&self, addr: Addr) -> Option<usize>
+        ensures place { result ≡ place_of addr self.now.rows }
         ensures apart { AreApart self.now.rows }
     {
-        self.slots.find(addr).is_some()
+        self.slots.find(addr)
     }
 
     /// Takes an item in that came from a node. It is let fall where it is longer than a message may be,
@@ -280,11 +280,11 @@ impl Groups {
         }
     }
 
-    /// Reads the log of the group with this address.
-    pub fn fetch(&self, addr: Addr, from: u32, most: u32) -> Reply
-        ensures { IsReply (group_reply (λ s. fetch_answer s from most) addr self.now.rows) result }
+    /// Reads the log of the group at the place that `find` gave, if it gave one.
+    pub fn fetch(&self, place: Option<usize>, from: u32, most: u32) -> Reply
+        ensures { IsReply (reply_at (λ s. fetch_answer s from most) self.now.rows place) result }
     {
-        match self.slots.find(addr) {
+        match place {
             Some(place) => self.slots.fetch(place, from, most),
             None => Reply::Refused(Refusal::NoGroup),
         }

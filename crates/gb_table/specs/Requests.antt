@@ -42,6 +42,12 @@ is_admitted (DropGroup token addr) t = is_by_tenant addr.tenant (Tenant addr.ten
 is_admitted (Say token addr payload) t = is_by_tenant addr.tenant (Member addr.tenant addr.group t.me) token t
 is_admitted (Fetch token addr from most) t = is_by_tenant addr.tenant (Member addr.tenant addr.group t.me) token t
 
+-- the place of the group that a member speaks to or reads
+abbrev pub place_for : Request → TableValue → Option ℕ
+place_for (Say token addr payload) t = place_of addr t.groups.rows
+place_for (Fetch token addr from most) t = place_of addr t.groups.rows
+place_for request t = None
+
 -- the reply to a request with the right token
 abbrev pub admitted_reply : Request → TableValue → Reply
 admitted_reply (AddTenant token row) t = tenant_answer t.places (reserved t.tenants) (is_some (row_of row.tenant t.tenants)) row

@@ -1,5 +1,5 @@
 //! The tenants and groups of a node.
-ghost use Rattle.std.specs.Prelude.{◌≡◌, ◌+◌, ◌≤◌, ◌<◌, ◌++◌, ℕ, List, map, false, length, sum_by, All, is_some, bytes_eq, vec_len, vec_capacity};
+ghost use Rattle.std.specs.Prelude.{◌≡◌, ◌+◌, ◌≤◌, ◌<◌, ◌++◌, ℕ, List, map, false, length, sum_by, All, IfSome, is_some, bytes_eq, vec_len, vec_capacity};
 ghost use Rattle.std.specs.Ordering.{nat_cmp};
 ghost use Rattle.std.specs.FinSet as set;
 ghost use Rattle.gb_types.specs.declared.limits.TheConstants.{NODES, PLACES};
@@ -15,7 +15,8 @@ ghost use Rattle.gb_groups.specs.OneGroup.{LONGEST, NothingWaits};
 ghost use Rattle.gb_groups.specs.GroupsValue.{walk_to, batch};
 ghost use Rattle.gb_groups.specs.Packing.{items, size};
 ghost use Rattle.gb_table.specs.TableValue.{new_table, reserve_for, table_came, table_done, table_noticed, table_packed};
-ghost use Rattle.gb_table.specs.Requests.{is_admitted, is_by_tenant, table_reply, IsReplyTo, table_did};
+ghost use Rattle.gb_table.specs.Kept.{IsMemberToken};
+ghost use Rattle.gb_table.specs.Requests.{is_admitted, is_by_tenant, place_for, table_reply, IsReplyTo, table_did};
 
 use crate::tenants::Tenants;
 use gb_cap::compare::is_same;
@@ -113,8 +114,19 @@ impl Table {
         self.nodes
     }
 
-    /// Whether a request comes with the token that it needs.
-    fn is_admitted(&self, request: &Request) -> bool
+    /// The place of the group that a member speaks to or reads, where it was ever made.
+    fn place_for(&self, request: &Request) -> Option<usize>
+        ensures { result ≡ place_for request.now self.now }
+    {
+        match request {
+            Request::Say(_, addr, _) => self.groups.find(*addr),
+            Request::Fetch(_, addr, _, _) => self.groups.find(*addr),
+            _ => None,
+        }
+    }
+
+    /// Whether a request comes with the token that it needs. A member's is looked for at a place.
+    fn is_admitted(&self, request: &Request, place: Option<usize>) -> bool
         ensures { result ≡ is_admitted request.now self.now }
     {
         match request {
@@ -123,8 +135,8 @@ impl Table {
             Request::OpenGroup(token, addr) => self.is_tenant(token, *addr),
             Request::ShutGroup(token, addr) => self.is_tenant(token, *addr),
             Request::DropGroup(token, addr) => self.is_tenant(token, *addr),
-            Request::Say(token, addr, _) => self.is_member(token, *addr),
-            Request::Fetch(token, addr, _, _) => self.is_member(token, *addr),
+            Request::Say(token, addr, _) => self.is_member(token, *addr, place),
+            Request::Fetch(token, addr, _, _) => self.is_member(token, *addr, place),
         }
     }
 
@@ -143,11 +155,24 @@ impl Table {
         Need::Member(addr.tenant, addr.group, self.me)
     }
 
-    /// Whether this is the token of the address's member at this node.
-    fn is_member(&self, token: &Token, addr: Addr) -> bool
+    /// The token of the address's member at this node, where it is kept at this place. Tokens are kept in the order in which
+    /// groups were made, so this is the group's place, but where memory lacked for one.
+    fn kept_token(&self, addr: Addr, place: Option<usize>) -> Option<&Token>
+        ensures { IfSome result (λ own. IsMemberToken self.now.me self.now.tenants addr own.now) }
+    {
+        let (kept, own) = self.member_tokens.get_index(place?)?;
+        if *kept != addr {
+            return None;
+        }
+        Some(own)
+    }
+
+    /// Whether this is the token of the address's member at this node. It is looked for at a place; where another stands
+    /// there, it is made.
+    fn is_member(&self, token: &Token, addr: Addr, place: Option<usize>) -> bool
         ensures { result ≡ is_by_tenant addr.tenant (Need.Member addr.tenant addr.group self.now.me) token.now self.now }
     {
-        if let Some(own) = self.member_tokens.get(&addr) {
+        if let Some(own) = self.kept_token(addr, place) {
             return is_kept(token, own);
         }
         self.tenants
@@ -163,6 +188,8 @@ impl Table {
         }
     }
 
+    // Called, not inlined, as the next ones are: what many requests run through keeps a small frame.
+    #[inline(never)]
     fn add_tenant(&mut self, row: &TenantRow) -> Reply
         ensures reply { IsReply (tenant_answer self.old.places (reserved self.old.tenants) (is_some (row_of row.now.tenant self.old.tenants)) row.now) result }
         ensures state { (noticed : set.FinSet nat_cmp) (token : List ℕ) → self.new ≡ table_did noticed (Request.AddTenant token row.now) result self.old }
@@ -187,7 +214,7 @@ impl Table {
             return Reply::Refused(Refusal::Denied);
         };
         let reserve = Reserve::of(row);
-        let made = self.groups.contains(addr);
+        let made = self.groups.find(addr).is_some();
         match answer_make(
             usize::from(self.nodes),
             self.me,
@@ -206,6 +233,7 @@ impl Table {
     }
 
     /// Makes a group and keeps its member's token.
+    #[inline(never)]
     fn make(&mut self, addr: Addr, spec: &Spec, noticed: &NodeSet) -> Reply
         ensures reply { IsReply (by_tenant (make_answer self.old.nodes self.old.me.number addr.group (is_some (place_of addr self.old.groups.rows)) spec.now) (reserve_for addr.tenant self.old)) result }
         ensures state { (token : List ℕ) → self.new ≡ table_did noticed.now (Request.Make token addr spec.now) result self.old }
@@ -217,6 +245,7 @@ impl Table {
         reply
     }
 
+    #[inline(never)]
     fn open_group(&mut self, addr: Addr) -> Reply
         ensures reply { result ≡ group_reply open_answer addr self.old.groups.rows }
         ensures state { (noticed : set.FinSet nat_cmp) (token : List ℕ) → self.new ≡ table_did noticed (Request.OpenGroup token addr) result self.old }
@@ -224,6 +253,7 @@ impl Table {
         self.groups.open_group(addr)
     }
 
+    #[inline(never)]
     fn shut_group(&mut self, addr: Addr) -> Reply
         ensures reply { result ≡ group_reply shut_answer addr self.old.groups.rows }
         ensures state { (noticed : set.FinSet nat_cmp) (token : List ℕ) → self.new ≡ table_did noticed (Request.ShutGroup token addr) result self.old }
@@ -231,6 +261,7 @@ impl Table {
         self.groups.shut_group(addr)
     }
 
+    #[inline(never)]
     fn drop_group(&mut self, addr: Addr) -> Reply
         ensures reply { result ≡ group_reply drop_answer addr self.old.groups.rows }
         ensures state { (noticed : set.FinSet nat_cmp) (token : List ℕ) → self.new ≡ table_did noticed (Request.DropGroup token addr) result self.old }
@@ -245,12 +276,6 @@ impl Table {
         self.groups.say(addr, payload.as_slice())
     }
 
-    fn fetch(&self, addr: Addr, from: u32, most: u32) -> Reply
-        ensures { IsReply (group_reply (λ s. fetch_answer s from most) addr self.now.groups.rows) result }
-    {
-        self.groups.fetch(addr, from, most)
-    }
-
     /// Answers a request at a node that has noticed these. Denied comes first, with a token that is not the one that
     /// the request needs, where the tenant is not here, and for a group that is not the token's, all alike. Then the
     /// refusals of the rules in their order, and OutOfMemory last. After a refusal nothing has changed.
@@ -259,7 +284,8 @@ impl Table {
         ensures state { self.new ≡ table_did noticed.now request.now result self.old }
         ensures denied { is_admitted request.now self.old ≡ false → (result ≡ Reply.Refused Refusal.Denied) × (self.new ≡ self.old) }
     {
-        if !self.is_admitted(request) {
+        let place = self.place_for(request);
+        if !self.is_admitted(request, place) {
             return Reply::Refused(Refusal::Denied);
         }
         match request {
@@ -269,7 +295,7 @@ impl Table {
             Request::ShutGroup(_, addr) => self.shut_group(*addr),
             Request::DropGroup(_, addr) => self.drop_group(*addr),
             Request::Say(_, addr, payload) => self.say(*addr, payload),
-            Request::Fetch(_, addr, from, most) => self.fetch(*addr, *from, *most),
+            Request::Fetch(_, _, from, most) => self.groups.fetch(place, *from, *most),
         }
     }
 

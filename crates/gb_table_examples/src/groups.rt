@@ -50,7 +50,7 @@ fn open(groups: &mut Groups, addr: Addr) -> Reply {
         bytes: 65_536,
         window: 1_024,
     };
-    if groups.contains(addr) {
+    if groups.find(addr).is_some() {
         return Reply::Refused(Refusal::Spent);
     }
     if groups.len() >= usize::from(PLACES) {
@@ -85,7 +85,7 @@ fn take(groups: &mut Groups, step: Step, group: u16) -> Reply {
         }
         Step::Shut => groups.shut_group(addr),
         Step::Drop => groups.drop_group(addr),
-        Step::Fetch => groups.fetch(addr, 0, 16),
+        Step::Fetch => groups.fetch(groups.find(addr), 0, 16),
     }
 }
 
