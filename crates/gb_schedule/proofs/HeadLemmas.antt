@@ -97,24 +97,24 @@ begins line word next words are = sym (each_line_is_its_words line).0 ∙ ap (jo
 
 -- a line that begins with no step's head spells none
 pub no_step : (nodes : ℕ) (line : List ℕ) (step : Step) (head : Head) (words : List (List ℕ)) → words_of line ≡ head_word head ∷ words → Spells head (Some nodes) (StepCommand step) words
-    → (StartsWith line (codes "arrive ") → ⊥) → (StartsWith line (codes "pack ") → ⊥) → (StartsWith line (codes "ack ") → ⊥)
+    → (StartsWith line (codes "arrive ") → ⊥) → (StartsWith line (codes "pack ") → ⊥) → (StartsWith line (codes "ack ") → ⊥) → (StartsWith line (codes "fetch ") → ⊥)
     → (StartsWith line (codes "tick ") → ⊥) → (StartsWith line (codes "again ") → ⊥) → (StartsWith line (codes "stop ") → ⊥) → ⊥
-no_step nodes line step Cluster words are s arrive pack ack tick again stop = s
-no_step nodes line step Tenant words are s arrive pack ack tick again stop = cc s.command_is
-no_step nodes line step Make words are s arrive pack ack tick again stop = cc s.command_is
-no_step nodes line step Open words are s arrive pack ack tick again stop = cc s.command_is
-no_step nodes line step Shut words are s arrive pack ack tick again stop = cc s.command_is
-no_step nodes line step Drop words are s arrive pack ack tick again stop = cc s.command_is
-no_step nodes line step Say words are s arrive pack ack tick again stop = cc s.command_is
-no_step nodes line step Fetch words are s arrive pack ack tick again stop = cc s.command_is
-no_step nodes line step Forge words are s arrive pack ack tick again stop = cc s.command_is
-no_step nodes line step Pack words are s arrive pack ack tick again stop = pack (ap (take 5) (begins line _ _ _ (are ∙ ap (λ ws. codes "pack" ∷ ws) s.words_are)))
-no_step nodes line step Again words are s arrive pack ack tick again stop = again (ap (take 6) (begins line _ _ _ (are ∙ ap (λ ws. codes "again" ∷ ws) s.words_are)))
-no_step nodes line step Ack words are s arrive pack ack tick again stop = ack (ap (take 4) (begins line _ _ _ (are ∙ ap (λ ws. codes "ack" ∷ ws) s.words_are)))
-no_step nodes line step Arrive words are s arrive pack ack tick again stop = arrive (ap (take 7) (begins line _ _ _ (are ∙ ap (λ ws. codes "arrive" ∷ ws) s.words_are)))
-no_step nodes line step Noise words are s arrive pack ack tick again stop = cc s.command_is
-no_step nodes line step Tick words are s arrive pack ack tick again stop = tick (ap (take 5) (begins line _ _ _ (are ∙ ap (λ ws. codes "tick" ∷ ws) s.words_are)))
-no_step nodes line step Stop words are s arrive pack ack tick again stop = stop (ap (take 5) (begins line _ _ _ (are ∙ ap (λ ws. codes "stop" ∷ ws) s.words_are)))
+no_step nodes line step Cluster words are s arrive pack ack fetch tick again stop = s
+no_step nodes line step Tenant words are s arrive pack ack fetch tick again stop = cc s.command_is
+no_step nodes line step Make words are s arrive pack ack fetch tick again stop = cc s.command_is
+no_step nodes line step Open words are s arrive pack ack fetch tick again stop = cc s.command_is
+no_step nodes line step Shut words are s arrive pack ack fetch tick again stop = cc s.command_is
+no_step nodes line step Drop words are s arrive pack ack fetch tick again stop = cc s.command_is
+no_step nodes line step Say words are s arrive pack ack fetch tick again stop = cc s.command_is
+no_step nodes line step Fetch words are s arrive pack ack fetch tick again stop = fetch (ap (take 6) (begins line _ _ _ (are ∙ ap (λ ws. codes "fetch" ∷ ws) s.words_are)))
+no_step nodes line step Forge words are s arrive pack ack fetch tick again stop = cc s.command_is
+no_step nodes line step Pack words are s arrive pack ack fetch tick again stop = pack (ap (take 5) (begins line _ _ _ (are ∙ ap (λ ws. codes "pack" ∷ ws) s.words_are)))
+no_step nodes line step Again words are s arrive pack ack fetch tick again stop = again (ap (take 6) (begins line _ _ _ (are ∙ ap (λ ws. codes "again" ∷ ws) s.words_are)))
+no_step nodes line step Ack words are s arrive pack ack fetch tick again stop = ack (ap (take 4) (begins line _ _ _ (are ∙ ap (λ ws. codes "ack" ∷ ws) s.words_are)))
+no_step nodes line step Arrive words are s arrive pack ack fetch tick again stop = arrive (ap (take 7) (begins line _ _ _ (are ∙ ap (λ ws. codes "arrive" ∷ ws) s.words_are)))
+no_step nodes line step Noise words are s arrive pack ack fetch tick again stop = cc s.command_is
+no_step nodes line step Tick words are s arrive pack ack fetch tick again stop = tick (ap (take 5) (begins line _ _ _ (are ∙ ap (λ ws. codes "tick" ∷ ws) s.words_are)))
+no_step nodes line step Stop words are s arrive pack ack fetch tick again stop = stop (ap (take 5) (begins line _ _ _ (are ∙ ap (λ ws. codes "stop" ∷ ws) s.words_are)))
 
 -- before a cluster was started, no line spells a step
 pub no_cluster : (line : List ℕ) (step : Step) (head : Head) (words : List (List ℕ)) → Spells head None (StepCommand step) words → ⊥
@@ -152,7 +152,7 @@ all_steps Drop (Some nodes) step command words s t = absurd (cc s.command_is)
 all_steps Say None step command words s t = absurd s
 all_steps Say (Some nodes) step command words s t = absurd (cc s.command_is)
 all_steps Fetch None step command words s t = absurd s
-all_steps Fetch (Some nodes) step command words s t = absurd (cc s.command_is)
+all_steps Fetch (Some nodes) step command words s t = (steps.Fetch t.node t.address t.from t.most, t.command_is)
 all_steps Forge None step command words s t = absurd s
 all_steps Forge (Some nodes) step command words s t = absurd (cc s.command_is)
 all_steps Pack None step command words s t = absurd s

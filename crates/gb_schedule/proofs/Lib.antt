@@ -10,3 +10,4 @@ pub mod CommandLemmas
 pub mod SilentLemmas
 pub mod PlaceLemmas
 pub mod KeyLemmas
+pub mod NumbersLemmas

@@ -7,11 +7,11 @@ use Rattle.gb_types.specs.declared.address.Addr.{Addr}
 use Rattle.gb_types.specs.declared.spec.Spec.{Spec}
 use Rattle.gb_types.specs.declared.spec.TenantRow.{TenantRow}
 use Rattle.gb_types.specs.declared.request.Request.{Request as AnyRequest}
-use Rattle.gb_types.specs.declared.request.Request.TheVariants.{AddTenant, Make, Say, Fetch}
+use Rattle.gb_types.specs.declared.request.Request.TheVariants.{AddTenant, Make, Say}
 use Rattle.gb_schedule.specs.declared.command.Command.TheVariants.{Cluster, Request, Noise}
 use Rattle.gb_types.specs.RequestWords.{SpellsSpec}
 use Rattle.gb_types.proofs.RequestWordLemmas.{IsShortWord, IsLongWord, AreAddressWords}
-use Rattle.gb_schedule.specs.Grammar.{SpellsCluster, SpellsTenant, SpellsMake, SpellsNamed, SpellsSay, SpellsFetch, SpellsForge, SpellsNoise}
+use Rattle.gb_schedule.specs.Grammar.{SpellsCluster, SpellsTenant, SpellsMake, SpellsNamed, SpellsSay, SpellsForge, SpellsNoise}
 use Rattle.gb_schedule.specs.Keys.{tenant_key, no_token, admin_token, tenant_token, member_token}
 use Rattle.gb_types.proofs.ReadLemmas.{Reads, found, only, reads_one, some_same}
 
@@ -152,35 +152,6 @@ say_reads nodes words a t g p node address payload token are reads_node reads_ad
     let spelt_payload : payload_of p ≡ Some spelt.payload = rw same_word at spelt.payload_is in
     let same_payload : payload ≡ spelt.payload = some_same payload spelt.payload (sym is_payload ∙ spelt_payload) in
     ap (λ q. Request node (Say q address payload)) is_token ∙ (λ i. Request (same_node i) (Say (member_token (same_address i) (same_node i)) (same_address i) (same_payload i))) ∙ sym spelt.command_is)
-
-pub fetch_reads : (nodes : ℕ) (words : List (List ℕ)) (a t g f m : List ℕ) (node : NodeId) (address : Addr) (from most : ℕ) (token : List ℕ) → words ≡ a ∷ t ∷ g ∷ f ∷ m ∷ []
-    → Reads (IsNodeWord nodes a) node → Reads (AreAddressWords t g) address → Reads (IsLongWord f) from → Reads (IsLongWord m) most → token ≡ member_token address node
-    → Reads (λ command. SpellsFetch nodes command words) (Request node (Fetch token address from most))
-fetch_reads nodes words a t g f m node address from most token are reads_node reads_address reads_from reads_most is_token =
-    let is_node = found (IsNodeWord nodes a) node reads_node in
-    let is_address = found (AreAddressWords t g) address reads_address in
-    let is_from = found (IsLongWord f) from reads_from in
-    let is_most = found (IsLongWord m) most reads_most in
-    let here : SpellsFetch nodes (Request node (Fetch token address from most)) words = record {
-      node = node;
-      address = address;
-      from = from;
-      most = most;
-      command_is = ap (λ q. Request node (Fetch q address from most)) is_token;
-      words_are = cc (are, is_node.1, is_address.1, is_address.3, is_from.1, is_most.1);
-      in_cluster = is_node.0;
-      tenant = is_address.0;
-      group = is_address.2;
-      from_in = is_from.0;
-      most_in = is_most.0;
-    } in
-    reads_one (λ command. SpellsFetch nodes command words) _ here (λ command spelt.
-    let same : a ∷ t ∷ g ∷ f ∷ m ∷ [] ≡ decimal spelt.node.number ∷ decimal spelt.address.tenant ∷ decimal spelt.address.group ∷ decimal spelt.from ∷ decimal spelt.most ∷ [] = sym are ∙ spelt.words_are in
-    let same_node : node ≡ spelt.node = only (IsNodeWord nodes a) node spelt.node reads_node (spelt.in_cluster, cc) in
-    let same_address : address ≡ spelt.address = only (AreAddressWords t g) address spelt.address reads_address (spelt.tenant, cc, spelt.group, cc) in
-    let same_from : from ≡ spelt.from = only (IsLongWord f) from spelt.from reads_from (spelt.from_in, cc) in
-    let same_most : most ≡ spelt.most = only (IsLongWord m) most spelt.most reads_most (spelt.most_in, cc) in
-    ap (λ q. Request node (Fetch q address from most)) is_token ∙ (λ i. Request (same_node i) (Fetch (member_token (same_address i) (same_node i)) (same_address i) (same_from i) (same_most i))) ∙ sym spelt.command_is)
 
 pub forge_reads : (nodes : ℕ) (words : List (List ℕ)) (a t g : List ℕ) (node : NodeId) (address : Addr) (payload : List ℕ) → words ≡ a ∷ t ∷ g ∷ []
     → Reads (IsNodeWord nodes a) node → Reads (AreAddressWords t g) address → payload ≡ []

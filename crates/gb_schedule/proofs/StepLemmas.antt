@@ -1,37 +1,17 @@
--- The steps that the words behind a head spell, from what the readers of nodes and numbers found.
-use Rattle.std.proofs.Common.{◌≡◌, ◌≢◌, ◌↔◌, ℕ, ◌<◌, ◌≤◌, ◌^◌, List, [], ◌∷◌, refl, sym, ap, ◌∙◌, decimal, arith}
-use Rattle.std.specs.List.{join_with_byte}
-use Rattle.std.specs.Str.Parse.{AllDigits}
-use Rattle.std.proofs.lemmas.Str.Parse.{digit_from_value}
-use Rattle.std.proofs.lemmas.Fmt.{decimal_injective, decimal_is_IsNumeral}
-use Rattle.std.proofs.lemmas.List.Elements.{All-nil, All-cons}
-use Rattle.gb_types.specs.Words.{words_of, IsWord}
+-- The steps that the words behind a head spell, from the numbers that the words write.
+use Rattle.std.proofs.Common.{◌≡◌, ◌↔◌, ℕ, ◌+◌, ◌≤◌, List, [], ◌∷◌, Some, None, get_or, refl, sym, ◌∙◌, decimal, arith}
+use Rattle.std.proofs.lemmas.Fmt.{decimal_injective}
+use Rattle.gb_types.specs.Words.{words_of}
+use Rattle.gb_types.specs.declared.address.Addr.{Addr}
 use Rattle.gb_types.specs.declared.node.NodeId.{NodeId}
-use Rattle.gb_types.proofs.ReadLemmas.{Reads, found, only, reads_one}
+use Rattle.gb_types.proofs.ReadLemmas.{Reads, found, reads_one}
 use Rattle.gb_types.proofs.SameLemmas.{same_number}
-use Rattle.gb_types.proofs.WordLemmas.{written_words_are_read, each_line_is_its_words}
 use Rattle.gb_schedule.specs.declared.command.Command.TheVariants.{Step}
-use Rattle.gb_schedule.specs.declared.command.Step.TheVariants.{Pack, Again, Ack, Arrive, Tick, Stop}
-use Rattle.gb_schedule.specs.Grammar.{SpellsPack, SpellsAgain, SpellsAck, SpellsArrive, SpellsTick, SpellsStop}
-
--- digits have no space among them
-digits_are_word : (ds : List ℕ) → AllDigits 10 ds → IsWord ds
-digits_are_word [] all = All-nil (λ x. x ≢ 32)
-digits_are_word (c ∷ cs) all = All-cons (λ x. x ≢ 32) c cs (λ is. let digit = digit_from_value c all.0 in omega (arith, digit, is)) (digits_are_word cs all.1)
-
--- a number is written in one word
-decimal_is_word : (n : ℕ) → n < 2 ^ 64 → words_of (decimal n) ≡ decimal n ∷ []
-decimal_is_word n small =
-    written_words_are_read (decimal n ∷ []) (λ is. cc is)
-    (All-cons IsWord (decimal n) [] (digits_are_word (decimal n) (decimal_is_IsNumeral n small).0.1) (All-nil IsWord))
-
--- a text of one word is that word
-one_word : (text word : List ℕ) → words_of text ≡ word ∷ [] → text ≡ word
-one_word text word is = sym (each_line_is_its_words text).0 ∙ ap (join_with_byte 32) is
-
--- a text is a number, or it is one word, which is that number
-pub is_number : (text : List ℕ) (n : ℕ) → n < 2 ^ 64 → (text ≡ decimal n) ↔ (words_of text ≡ decimal n ∷ [])
-is_number text n small = (λ is. ap words_of is ∙ decimal_is_word n small, λ is. one_word text (decimal n) is)
+use Rattle.gb_schedule.specs.declared.command.Step.TheVariants.{Pack, Again, Ack, Arrive, Tick, Stop, Fetch}
+use Rattle.gb_schedule.specs.declared.command.Step.{Step as AnyStep}
+use Rattle.gb_schedule.specs.Grammar.{SpellsPack, SpellsAgain, SpellsAck, SpellsArrive, SpellsTick, SpellsStop, SpellsFetch}
+use Rattle.gb_schedule.specs.Numbers.{AreNumbers}
+use Rattle.gb_schedule.proofs.NumbersLemmas.{within}
 
 -- nodes with one word are equal
 same_node : (a b : NodeId) → decimal a.number ≡ decimal b.number → a ≡ b
@@ -40,108 +20,275 @@ same_node a b is =
     let small_b = b.below in
     same_number a b (decimal_injective a.number b.number (omega (arith, small_a)) (omega (arith, small_b)) is)
 
--- what the readers of the last word find
-abbrev pub IsLastNode : ℕ → List (List ℕ) → NodeId → Type 0
-IsLastNode nodes words node = (node.number < nodes) × (words ≡ decimal node.number ∷ [])
+step_is : {a b : AnyStep} → Step a ≡ Step b → a ≡ b
+step_is is = cc is
 
-abbrev pub IsLastNumber : List (List ℕ) → ℕ → Type 0
-IsLastNumber words n = (n ≤ 18446744073709551615) × (words ≡ decimal n ∷ [])
+-- where no numbers were read, none are there
+none_there : {X : Type 0} (most text ns : List ℕ) → ((ms : List ℕ) → (None ≡ Some ms) ↔ AreNumbers most text ms) → AreNumbers most text ns → X
+none_there most text ns none are = let is = (none ns).1 are in cc is
 
-pub pack_reads : (nodes : ℕ) (words rest : List (List ℕ)) (node to : NodeId) → node.number < nodes → words ≡ decimal node.number ∷ rest
-    → Reads (IsLastNode nodes rest) to
-    → Reads (λ step. SpellsPack nodes (Step step) words) (Pack node to)
-pack_reads nodes words rest node to inside are reads_to =
-    let is_to = found (IsLastNode nodes rest) to reads_to in
-    let here : SpellsPack nodes (Step (Pack node to)) words = record {
+-- each of two numbers is at most its bound
+pub two_within : (last : ℕ) (text ns : List ℕ) → Reads (AreNumbers (last ∷ last ∷ []) text) ns → (get_or ns 0 0 ≤ last) × (get_or ns 1 0 ≤ last)
+two_within last text ns reads = let are = (found (AreNumbers (last ∷ last ∷ []) text) ns reads).1 in (within (last ∷ last ∷ []) ns 0 are, within (last ∷ last ∷ []) ns 1 are)
+
+pub pack_reads : (nodes last : ℕ) (text ns : List ℕ) (node to : NodeId) → last + 1 ≡ nodes → Reads (AreNumbers (last ∷ last ∷ []) text) ns → node.number ≡ get_or ns 0 0 → to.number ≡ get_or ns 1 0
+    → Reads (λ step. SpellsPack nodes (Step step) (words_of text)) (Pack node to)
+pack_reads nodes last text [] node to is reads is_node is_to = absurd (found (AreNumbers (last ∷ last ∷ []) text) [] reads).1
+pack_reads nodes last text (a ∷ []) node to is reads is_node is_to = absurd (found (AreNumbers (last ∷ last ∷ []) text) (a ∷ []) reads).1.1
+pack_reads nodes last text (a ∷ b ∷ c ∷ ns) node to is reads is_node is_to = absurd (found (AreNumbers (last ∷ last ∷ []) text) (a ∷ b ∷ c ∷ ns) reads).1.1.1
+pack_reads nodes last text (a ∷ b ∷ []) node to is reads is_node is_to =
+    let are = found (AreNumbers (last ∷ last ∷ []) text) (a ∷ b ∷ []) reads in
+    let first : a ≤ last = are.1.0 in
+    let second : b ≤ last = are.1.1.0 in
+    let here : SpellsPack nodes (Step (Pack node to)) (words_of text) = record {
       node = node;
       to = to;
       command_is = refl;
-      words_are = cc (are, is_to.1);
-      in_cluster = inside;
-      to_in_cluster = is_to.0;
+      words_are = cc (are.0, is_node, is_to);
+      in_cluster = omega (arith, is, is_node, first);
+      to_in_cluster = omega (arith, is, is_to, second);
     } in
-    reads_one (λ step. SpellsPack nodes (Step step) words) _ here (λ step spelt.
-    let same : decimal node.number ∷ rest ≡ decimal spelt.node.number ∷ decimal spelt.to.number ∷ [] = sym are ∙ spelt.words_are in
+    reads_one (λ step. SpellsPack nodes (Step step) (words_of text)) _ here (λ step spelt.
+    let same : decimal node.number ∷ decimal to.number ∷ [] ≡ decimal spelt.node.number ∷ decimal spelt.to.number ∷ [] = sym here.words_are ∙ spelt.words_are in
     let same_first : node ≡ spelt.node = same_node node spelt.node cc in
-    let same_to : to ≡ spelt.to = only (IsLastNode nodes rest) to spelt.to reads_to (spelt.to_in_cluster, cc) in
+    let same_to : to ≡ spelt.to = same_node to spelt.to cc in
     cc spelt.command_is)
 
-pub again_reads : (nodes : ℕ) (words rest last : List (List ℕ)) (node to : NodeId) (frame : ℕ) → node.number < nodes → words ≡ decimal node.number ∷ rest
-    → to.number < nodes → rest ≡ decimal to.number ∷ last → Reads (IsLastNumber last) frame
-    → Reads (λ step. SpellsAgain nodes (Step step) words) (Again node to frame)
-again_reads nodes words rest last node to frame inside are to_inside are_behind reads_frame =
-    let is_frame = found (IsLastNumber last) frame reads_frame in
-    let here : SpellsAgain nodes (Step (Again node to frame)) words = record {
+pub pack_none : (nodes last : ℕ) (text : List ℕ) → last + 1 ≡ nodes → ((ns : List ℕ) → (None ≡ Some ns) ↔ AreNumbers (last ∷ last ∷ []) text ns)
+    → (step : AnyStep) → (None ≡ Some step) ↔ SpellsPack nodes (Step step) (words_of text)
+pack_none nodes last text is none step = (
+  λ found. cc found,
+  λ spelt.
+      let first = spelt.in_cluster in
+      let second = spelt.to_in_cluster in
+      none_there (last ∷ last ∷ []) text (spelt.node.number ∷ spelt.to.number ∷ []) none (spelt.words_are, (omega (arith, is, first), (omega (arith, is, second), tt))),
+)
+
+pub ack_reads : (nodes last : ℕ) (text ns : List ℕ) (node to : NodeId) → last + 1 ≡ nodes → Reads (AreNumbers (last ∷ last ∷ []) text) ns → node.number ≡ get_or ns 0 0 → to.number ≡ get_or ns 1 0
+    → Reads (λ step. SpellsAck nodes (Step step) (words_of text)) (Ack node to)
+ack_reads nodes last text [] node to is reads is_node is_to = absurd (found (AreNumbers (last ∷ last ∷ []) text) [] reads).1
+ack_reads nodes last text (a ∷ []) node to is reads is_node is_to = absurd (found (AreNumbers (last ∷ last ∷ []) text) (a ∷ []) reads).1.1
+ack_reads nodes last text (a ∷ b ∷ c ∷ ns) node to is reads is_node is_to = absurd (found (AreNumbers (last ∷ last ∷ []) text) (a ∷ b ∷ c ∷ ns) reads).1.1.1
+ack_reads nodes last text (a ∷ b ∷ []) node to is reads is_node is_to =
+    let are = found (AreNumbers (last ∷ last ∷ []) text) (a ∷ b ∷ []) reads in
+    let first : a ≤ last = are.1.0 in
+    let second : b ≤ last = are.1.1.0 in
+    let here : SpellsAck nodes (Step (Ack node to)) (words_of text) = record {
+      node = node;
+      to = to;
+      command_is = refl;
+      words_are = cc (are.0, is_node, is_to);
+      in_cluster = omega (arith, is, is_node, first);
+      to_in_cluster = omega (arith, is, is_to, second);
+    } in
+    reads_one (λ step. SpellsAck nodes (Step step) (words_of text)) _ here (λ step spelt.
+    let same : decimal node.number ∷ decimal to.number ∷ [] ≡ decimal spelt.node.number ∷ decimal spelt.to.number ∷ [] = sym here.words_are ∙ spelt.words_are in
+    let same_first : node ≡ spelt.node = same_node node spelt.node cc in
+    let same_to : to ≡ spelt.to = same_node to spelt.to cc in
+    cc spelt.command_is)
+
+pub ack_none : (nodes last : ℕ) (text : List ℕ) → last + 1 ≡ nodes → ((ns : List ℕ) → (None ≡ Some ns) ↔ AreNumbers (last ∷ last ∷ []) text ns)
+    → (step : AnyStep) → (None ≡ Some step) ↔ SpellsAck nodes (Step step) (words_of text)
+ack_none nodes last text is none step = (
+  λ found. cc found,
+  λ spelt.
+      let first = spelt.in_cluster in
+      let second = spelt.to_in_cluster in
+      none_there (last ∷ last ∷ []) text (spelt.node.number ∷ spelt.to.number ∷ []) none (spelt.words_are, (omega (arith, is, first), (omega (arith, is, second), tt))),
+)
+
+-- one number is at most its bound
+pub one_within : (last : ℕ) (text ns : List ℕ) → Reads (AreNumbers (last ∷ []) text) ns → get_or ns 0 0 ≤ last
+one_within last text ns reads = within (last ∷ []) ns 0 (found (AreNumbers (last ∷ []) text) ns reads).1
+
+pub tick_reads : (nodes last : ℕ) (text ns : List ℕ) (node : NodeId) → last + 1 ≡ nodes → Reads (AreNumbers (last ∷ []) text) ns → node.number ≡ get_or ns 0 0
+    → Reads (λ step. SpellsTick nodes (Step step) (words_of text)) (Tick node)
+tick_reads nodes last text [] node is reads is_node = absurd (found (AreNumbers (last ∷ []) text) [] reads).1
+tick_reads nodes last text (a ∷ b ∷ ns) node is reads is_node = absurd (found (AreNumbers (last ∷ []) text) (a ∷ b ∷ ns) reads).1.1
+tick_reads nodes last text (a ∷ []) node is reads is_node =
+    let are = found (AreNumbers (last ∷ []) text) (a ∷ []) reads in
+    let first : a ≤ last = are.1.0 in
+    let here : SpellsTick nodes (Step (Tick node)) (words_of text) = record {
+      node = node;
+      command_is = refl;
+      words_are = cc (are.0, is_node);
+      in_cluster = omega (arith, is, is_node, first);
+    } in
+    reads_one (λ step. SpellsTick nodes (Step step) (words_of text)) _ here (λ step spelt.
+    let same : decimal node.number ∷ [] ≡ decimal spelt.node.number ∷ [] = sym here.words_are ∙ spelt.words_are in
+    let same_first : node ≡ spelt.node = same_node node spelt.node cc in
+    cc spelt.command_is)
+
+pub tick_none : (nodes last : ℕ) (text : List ℕ) → last + 1 ≡ nodes → ((ns : List ℕ) → (None ≡ Some ns) ↔ AreNumbers (last ∷ []) text ns)
+    → (step : AnyStep) → (None ≡ Some step) ↔ SpellsTick nodes (Step step) (words_of text)
+tick_none nodes last text is none step = (
+  λ found. cc found,
+  λ spelt.
+      let first = spelt.in_cluster in
+      none_there (last ∷ []) text (spelt.node.number ∷ []) none (spelt.words_are, (omega (arith, is, first), tt)),
+)
+
+pub stop_reads : (nodes last : ℕ) (text ns : List ℕ) (node : NodeId) → last + 1 ≡ nodes → Reads (AreNumbers (last ∷ []) text) ns → node.number ≡ get_or ns 0 0
+    → Reads (λ step. SpellsStop nodes (Step step) (words_of text)) (Stop node)
+stop_reads nodes last text [] node is reads is_node = absurd (found (AreNumbers (last ∷ []) text) [] reads).1
+stop_reads nodes last text (a ∷ b ∷ ns) node is reads is_node = absurd (found (AreNumbers (last ∷ []) text) (a ∷ b ∷ ns) reads).1.1
+stop_reads nodes last text (a ∷ []) node is reads is_node =
+    let are = found (AreNumbers (last ∷ []) text) (a ∷ []) reads in
+    let first : a ≤ last = are.1.0 in
+    let here : SpellsStop nodes (Step (Stop node)) (words_of text) = record {
+      node = node;
+      command_is = refl;
+      words_are = cc (are.0, is_node);
+      in_cluster = omega (arith, is, is_node, first);
+    } in
+    reads_one (λ step. SpellsStop nodes (Step step) (words_of text)) _ here (λ step spelt.
+    let same : decimal node.number ∷ [] ≡ decimal spelt.node.number ∷ [] = sym here.words_are ∙ spelt.words_are in
+    let same_first : node ≡ spelt.node = same_node node spelt.node cc in
+    cc spelt.command_is)
+
+pub stop_none : (nodes last : ℕ) (text : List ℕ) → last + 1 ≡ nodes → ((ns : List ℕ) → (None ≡ Some ns) ↔ AreNumbers (last ∷ []) text ns)
+    → (step : AnyStep) → (None ≡ Some step) ↔ SpellsStop nodes (Step step) (words_of text)
+stop_none nodes last text is none step = (
+  λ found. cc found,
+  λ spelt.
+      let first = spelt.in_cluster in
+      none_there (last ∷ []) text (spelt.node.number ∷ []) none (spelt.words_are, (omega (arith, is, first), tt)),
+)
+
+-- the largest frame number, and packet number
+abbrev pub largest : ℕ
+largest = 18446744073709551615
+
+pub arrive_reads : (text ns : List ℕ) (packet : ℕ) → Reads (AreNumbers (largest ∷ []) text) ns → packet ≡ get_or ns 0 0 → Reads (λ step. SpellsArrive (Step step) (words_of text)) (Arrive packet)
+arrive_reads text [] packet reads is = absurd (found (AreNumbers (largest ∷ []) text) [] reads).1
+arrive_reads text (a ∷ b ∷ ns) packet reads is = absurd (found (AreNumbers (largest ∷ []) text) (a ∷ b ∷ ns) reads).1.1
+arrive_reads text (a ∷ []) packet reads is =
+    let are = found (AreNumbers (largest ∷ []) text) (a ∷ []) reads in
+    let small : a ≤ largest = are.1.0 in
+    let here : SpellsArrive (Step (Arrive packet)) (words_of text) = record {
+      packet = packet;
+      command_is = refl;
+      words_are = cc (are.0, is);
+      packet_in = omega (arith, is, small);
+    } in
+    reads_one (λ step. SpellsArrive (Step step) (words_of text)) _ here (λ step spelt.
+    let words : decimal packet ∷ [] ≡ decimal spelt.packet ∷ [] = sym here.words_are ∙ spelt.words_are in
+    let fits = here.packet_in in
+    let fits_spelt = spelt.packet_in in
+    let same : packet ≡ spelt.packet = decimal_injective packet spelt.packet (omega (arith, fits)) (omega (arith, fits_spelt)) cc in
+    cc spelt.command_is)
+
+pub arrive_none : (text : List ℕ) → ((ns : List ℕ) → (None ≡ Some ns) ↔ AreNumbers (largest ∷ []) text ns) → (step : AnyStep) → (None ≡ Some step) ↔ SpellsArrive (Step step) (words_of text)
+arrive_none text none step = (λ found. cc found, λ spelt. none_there (largest ∷ []) text (spelt.packet ∷ []) none (spelt.words_are, (spelt.packet_in, tt)))
+
+pub again_within : (last : ℕ) (text ns : List ℕ) → Reads (AreNumbers (last ∷ last ∷ largest ∷ []) text) ns → (get_or ns 0 0 ≤ last) × (get_or ns 1 0 ≤ last)
+again_within last text ns reads =
+    let are = (found (AreNumbers (last ∷ last ∷ largest ∷ []) text) ns reads).1 in
+    (within (last ∷ last ∷ largest ∷ []) ns 0 are, within (last ∷ last ∷ largest ∷ []) ns 1 are)
+
+pub again_reads : (nodes last : ℕ) (text ns : List ℕ) (node to : NodeId) (frame : ℕ) → last + 1 ≡ nodes → Reads (AreNumbers (last ∷ last ∷ largest ∷ []) text) ns
+    → node.number ≡ get_or ns 0 0 → to.number ≡ get_or ns 1 0 → frame ≡ get_or ns 2 0
+    → Reads (λ step. SpellsAgain nodes (Step step) (words_of text)) (Again node to frame)
+again_reads nodes last text [] node to frame is reads is_node is_to is_frame = absurd (found (AreNumbers (last ∷ last ∷ largest ∷ []) text) [] reads).1
+again_reads nodes last text (a ∷ []) node to frame is reads is_node is_to is_frame = absurd (found (AreNumbers (last ∷ last ∷ largest ∷ []) text) (a ∷ []) reads).1.1
+again_reads nodes last text (a ∷ b ∷ []) node to frame is reads is_node is_to is_frame = absurd (found (AreNumbers (last ∷ last ∷ largest ∷ []) text) (a ∷ b ∷ []) reads).1.1.1
+again_reads nodes last text (a ∷ b ∷ f ∷ c ∷ ns) node to frame is reads is_node is_to is_frame = absurd (found (AreNumbers (last ∷ last ∷ largest ∷ []) text) (a ∷ b ∷ f ∷ c ∷ ns) reads).1.1.1.1
+again_reads nodes last text (a ∷ b ∷ f ∷ []) node to frame is reads is_node is_to is_frame =
+    let are = found (AreNumbers (last ∷ last ∷ largest ∷ []) text) (a ∷ b ∷ f ∷ []) reads in
+    let first : a ≤ last = are.1.0 in
+    let second : b ≤ last = are.1.1.0 in
+    let small : f ≤ largest = are.1.1.1.0 in
+    let here : SpellsAgain nodes (Step (Again node to frame)) (words_of text) = record {
       node = node;
       to = to;
       frame = frame;
       command_is = refl;
-      words_are = cc (are, are_behind, is_frame.1);
-      in_cluster = inside;
-      to_in_cluster = to_inside;
-      frame_in = is_frame.0;
+      words_are = cc (are.0, is_node, is_to, is_frame);
+      in_cluster = omega (arith, is, is_node, first);
+      to_in_cluster = omega (arith, is, is_to, second);
+      frame_in = omega (arith, is_frame, small);
     } in
-    reads_one (λ step. SpellsAgain nodes (Step step) words) _ here (λ step spelt.
-    let same : decimal node.number ∷ decimal to.number ∷ last ≡ decimal spelt.node.number ∷ decimal spelt.to.number ∷ decimal spelt.frame ∷ [] = sym (are ∙ ap (λ ws. decimal node.number ∷ ws) are_behind) ∙ spelt.words_are in
+    reads_one (λ step. SpellsAgain nodes (Step step) (words_of text)) _ here (λ step spelt.
+    let same : decimal node.number ∷ decimal to.number ∷ decimal frame ∷ [] ≡ decimal spelt.node.number ∷ decimal spelt.to.number ∷ decimal spelt.frame ∷ [] = sym here.words_are ∙ spelt.words_are in
     let same_first : node ≡ spelt.node = same_node node spelt.node cc in
     let same_to : to ≡ spelt.to = same_node to spelt.to cc in
-    let same_frame : frame ≡ spelt.frame = only (IsLastNumber last) frame spelt.frame reads_frame (spelt.frame_in, cc) in
+    let fits = here.frame_in in
+    let fits_spelt = spelt.frame_in in
+    let same_frame : frame ≡ spelt.frame = decimal_injective frame spelt.frame (omega (arith, fits)) (omega (arith, fits_spelt)) cc in
     cc spelt.command_is)
 
-pub ack_reads : (nodes : ℕ) (words rest : List (List ℕ)) (node to : NodeId) → node.number < nodes → words ≡ decimal node.number ∷ rest
-    → Reads (IsLastNode nodes rest) to
-    → Reads (λ step. SpellsAck nodes (Step step) words) (Ack node to)
-ack_reads nodes words rest node to inside are reads_to =
-    let is_to = found (IsLastNode nodes rest) to reads_to in
-    let here : SpellsAck nodes (Step (Ack node to)) words = record {
+pub again_none : (nodes last : ℕ) (text : List ℕ) → last + 1 ≡ nodes → ((ns : List ℕ) → (None ≡ Some ns) ↔ AreNumbers (last ∷ last ∷ largest ∷ []) text ns)
+    → (step : AnyStep) → (None ≡ Some step) ↔ SpellsAgain nodes (Step step) (words_of text)
+again_none nodes last text is none step = (
+  λ found. cc found,
+  λ spelt.
+      let first = spelt.in_cluster in
+      let second = spelt.to_in_cluster in
+      none_there (last ∷ last ∷ largest ∷ []) text (spelt.node.number ∷ spelt.to.number ∷ spelt.frame ∷ []) none
+      (spelt.words_are, (omega (arith, is, first), (omega (arith, is, second), (spelt.frame_in, tt)))),
+)
+
+-- the bounds of the numbers of a fetch
+abbrev pub fetch_bounds : ℕ → List ℕ
+fetch_bounds last = last ∷ 65535 ∷ 65535 ∷ 4294967295 ∷ 4294967295 ∷ []
+
+pub fetch_within : (last : ℕ) (text ns : List ℕ) → Reads (AreNumbers (fetch_bounds last) text) ns
+    → (get_or ns 0 0 ≤ last) × (get_or ns 1 0 ≤ 65535) × (get_or ns 2 0 ≤ 65535) × (get_or ns 3 0 ≤ 4294967295) × (get_or ns 4 0 ≤ 4294967295)
+fetch_within last text ns reads =
+    let are = (found (AreNumbers (fetch_bounds last) text) ns reads).1 in
+    let le = within (fetch_bounds last) ns in
+    (le 0 are, le 1 are, le 2 are, le 3 are, le 4 are)
+
+pub fetch_reads : (nodes last : ℕ) (text ns : List ℕ) (node : NodeId) (address : Addr) (from most : ℕ) → last + 1 ≡ nodes → Reads (AreNumbers (fetch_bounds last) text) ns
+    → node.number ≡ get_or ns 0 0 → address.tenant ≡ get_or ns 1 0 → address.group ≡ get_or ns 2 0 → from ≡ get_or ns 3 0 → most ≡ get_or ns 4 0
+    → Reads (λ step. SpellsFetch nodes (Step step) (words_of text)) (Fetch node address from most)
+fetch_reads nodes last text [] node address from most is reads n t g f m = absurd (found (AreNumbers (fetch_bounds last) text) [] reads).1
+fetch_reads nodes last text (a ∷ []) node address from most is reads n t g f m = absurd (found (AreNumbers (fetch_bounds last) text) (a ∷ []) reads).1.1
+fetch_reads nodes last text (a ∷ b ∷ []) node address from most is reads n t g f m = absurd (found (AreNumbers (fetch_bounds last) text) (a ∷ b ∷ []) reads).1.1.1
+fetch_reads nodes last text (a ∷ b ∷ c ∷ []) node address from most is reads n t g f m = absurd (found (AreNumbers (fetch_bounds last) text) (a ∷ b ∷ c ∷ []) reads).1.1.1.1
+fetch_reads nodes last text (a ∷ b ∷ c ∷ d ∷ []) node address from most is reads n t g f m = absurd (found (AreNumbers (fetch_bounds last) text) (a ∷ b ∷ c ∷ d ∷ []) reads).1.1.1.1.1
+fetch_reads nodes last text (a ∷ b ∷ c ∷ d ∷ e ∷ x ∷ ns) node address from most is reads n t g f m = absurd (found (AreNumbers (fetch_bounds last) text) (a ∷ b ∷ c ∷ d ∷ e ∷ x ∷ ns) reads).1.1.1.1.1.1
+fetch_reads nodes last text (a ∷ b ∷ c ∷ d ∷ e ∷ []) node address from most is reads n t g f m =
+    let are = found (AreNumbers (fetch_bounds last) text) (a ∷ b ∷ c ∷ d ∷ e ∷ []) reads in
+    let first : a ≤ last = are.1.0 in
+    let second : b ≤ 65535 = are.1.1.0 in
+    let third : c ≤ 65535 = are.1.1.1.0 in
+    let fourth : d ≤ 4294967295 = are.1.1.1.1.0 in
+    let fifth : e ≤ 4294967295 = are.1.1.1.1.1.0 in
+    let here : SpellsFetch nodes (Step (Fetch node address from most)) (words_of text) = record {
       node = node;
-      to = to;
+      address = address;
+      from = from;
+      most = most;
       command_is = refl;
-      words_are = cc (are, is_to.1);
-      in_cluster = inside;
-      to_in_cluster = is_to.0;
+      words_are = cc (are.0, n, t, g, f, m);
+      in_cluster = omega (arith, is, n, first);
+      tenant = omega (arith, t, second);
+      group = omega (arith, g, third);
+      from_in = omega (arith, f, fourth);
+      most_in = omega (arith, m, fifth);
     } in
-    reads_one (λ step. SpellsAck nodes (Step step) words) _ here (λ step spelt.
-    let same : decimal node.number ∷ rest ≡ decimal spelt.node.number ∷ decimal spelt.to.number ∷ [] = sym are ∙ spelt.words_are in
+    reads_one (λ step. SpellsFetch nodes (Step step) (words_of text)) _ here (λ step spelt.
+    let same : decimal node.number ∷ decimal address.tenant ∷ decimal address.group ∷ decimal from ∷ decimal most ∷ [] ≡ decimal spelt.node.number ∷ decimal spelt.address.tenant ∷ decimal spelt.address.group ∷ decimal spelt.from ∷ decimal spelt.most ∷ [] = sym here.words_are ∙ spelt.words_are in
     let same_first : node ≡ spelt.node = same_node node spelt.node cc in
-    let same_to : to ≡ spelt.to = only (IsLastNode nodes rest) to spelt.to reads_to (spelt.to_in_cluster, cc) in
-    cc spelt.command_is)
+    let same_tenant : address.tenant ≡ spelt.address.tenant = decimal_injective address.tenant spelt.address.tenant (let small = here.tenant in omega (arith, small)) (let small = spelt.tenant in omega (arith, small)) cc in
+    let same_group : address.group ≡ spelt.address.group = decimal_injective address.group spelt.address.group (let small = here.group in omega (arith, small)) (let small = spelt.group in omega (arith, small)) cc in
+    let same_from : from ≡ spelt.from = decimal_injective from spelt.from (let small = here.from_in in omega (arith, small)) (let small = spelt.from_in in omega (arith, small)) cc in
+    let same_most : most ≡ spelt.most = decimal_injective most spelt.most (let small = here.most_in in omega (arith, small)) (let small = spelt.most_in in omega (arith, small)) cc in
+    let same_address : address ≡ spelt.address = λ i. record { tenant = same_tenant i; group = same_group i } in
+    let same_fetch : Fetch node address from most ≡ Fetch spelt.node spelt.address spelt.from spelt.most = λ i. Fetch (same_first i) (same_address i) (same_from i) (same_most i) in
+    same_fetch ∙ step_is (sym spelt.command_is))
 
-pub arrive_reads : (words : List (List ℕ)) (packet : ℕ) → Reads (IsLastNumber words) packet → Reads (λ step. SpellsArrive (Step step) words) (Arrive packet)
-arrive_reads words packet reads =
-    let is_packet = found (IsLastNumber words) packet reads in
-    let here : SpellsArrive (Step (Arrive packet)) words = record {
-      packet = packet;
-      command_is = refl;
-      words_are = is_packet.1;
-      packet_in = is_packet.0;
-    } in
-    reads_one (λ step. SpellsArrive (Step step) words) _ here (λ step spelt.
-    let same : packet ≡ spelt.packet = only (IsLastNumber words) packet spelt.packet reads (spelt.packet_in, spelt.words_are) in
-    cc spelt.command_is)
-
-pub tick_reads : (nodes : ℕ) (words : List (List ℕ)) (node : NodeId) → Reads (IsLastNode nodes words) node → Reads (λ step. SpellsTick nodes (Step step) words) (Tick node)
-tick_reads nodes words node reads =
-    let is_node = found (IsLastNode nodes words) node reads in
-    let here : SpellsTick nodes (Step (Tick node)) words = record {
-      node = node;
-      command_is = refl;
-      words_are = is_node.1;
-      in_cluster = is_node.0;
-    } in
-    reads_one (λ step. SpellsTick nodes (Step step) words) _ here (λ step spelt.
-    let same : node ≡ spelt.node = only (IsLastNode nodes words) node spelt.node reads (spelt.in_cluster, spelt.words_are) in
-    cc spelt.command_is)
-
-pub stop_reads : (nodes : ℕ) (words : List (List ℕ)) (node : NodeId) → Reads (IsLastNode nodes words) node → Reads (λ step. SpellsStop nodes (Step step) words) (Stop node)
-stop_reads nodes words node reads =
-    let is_node = found (IsLastNode nodes words) node reads in
-    let here : SpellsStop nodes (Step (Stop node)) words = record {
-      node = node;
-      command_is = refl;
-      words_are = is_node.1;
-      in_cluster = is_node.0;
-    } in
-    reads_one (λ step. SpellsStop nodes (Step step) words) _ here (λ step spelt.
-    let same : node ≡ spelt.node = only (IsLastNode nodes words) node spelt.node reads (spelt.in_cluster, spelt.words_are) in
-    cc spelt.command_is)
+pub fetch_none : (nodes last : ℕ) (text : List ℕ) → last + 1 ≡ nodes → ((ns : List ℕ) → (None ≡ Some ns) ↔ AreNumbers (fetch_bounds last) text ns)
+    → (step : AnyStep) → (None ≡ Some step) ↔ SpellsFetch nodes (Step step) (words_of text)
+fetch_none nodes last text is none step = (
+  λ found. cc found,
+  λ spelt.
+      let first = spelt.in_cluster in
+      let second = spelt.tenant in
+      let third = spelt.group in
+      let fourth = spelt.from_in in
+      let fifth = spelt.most_in in
+      none_there (fetch_bounds last) text (spelt.node.number ∷ spelt.address.tenant ∷ spelt.address.group ∷ spelt.from ∷ spelt.most ∷ []) none
+      (spelt.words_are, (omega (arith, is, first), (omega (arith, second), (omega (arith, third), (omega (arith, fourth), (omega (arith, fifth), tt)))))),
+)

@@ -9,10 +9,10 @@ use Rattle.gb_types.specs.declared.address.Addr.{Addr}
 use Rattle.gb_types.specs.declared.spec.Spec.{Spec}
 use Rattle.gb_types.specs.declared.spec.TenantRow.{TenantRow}
 use Rattle.gb_types.specs.declared.request.Request.{Request as AnyRequest}
-use Rattle.gb_types.specs.declared.request.Request.TheVariants.{AddTenant, Make, OpenGroup, ShutGroup, DropGroup, Say, Fetch}
+use Rattle.gb_types.specs.declared.request.Request.TheVariants.{AddTenant, Make, OpenGroup, ShutGroup, DropGroup, Say}
 use Rattle.gb_schedule.specs.declared.command.Command.{Command}
 use Rattle.gb_schedule.specs.declared.command.Command.TheVariants.{Cluster, Request, Noise, Step}
-use Rattle.gb_schedule.specs.declared.command.Step.TheVariants.{Pack, Again, Ack, Arrive, Tick, Stop}
+use Rattle.gb_schedule.specs.declared.command.Step.TheVariants.{Pack, Again, Ack, Arrive, Tick, Stop, Fetch}
 use Rattle.gb_schedule.specs.declared.head.Head.{Head}
 use Rattle.gb_schedule.specs.declared.head.Head.TheVariants as heads
 use Rattle.gb_schedule.specs.Head.{head_word}
@@ -78,13 +78,13 @@ pub record SpellsSay (nodes : ℕ) (command : Command) (words : List (List ℕ))
   pub group : IsShort address.group
   pub payload_is : payload_of payload_word ≡ Some payload
 
--- `fetch A T G FROM MAX`
+-- `fetch A T G FROM MAX`; it comes with the member's token when it is obeyed
 pub record SpellsFetch (nodes : ℕ) (command : Command) (words : List (List ℕ)) : Type 0 where
   pub node : NodeId
   pub address : Addr
   pub from : ℕ
   pub most : ℕ
-  pub command_is : command ≡ Request node (Fetch (member_token address node) address from most)
+  pub command_is : command ≡ Step (Fetch node address from most)
   pub words_are : words ≡ decimal node.number ∷ decimal address.tenant ∷ decimal address.group ∷ decimal from ∷ decimal most ∷ []
   pub in_cluster : node.number < nodes
   pub tenant : IsShort address.tenant
@@ -203,6 +203,7 @@ IsInPlace (Some nodes) (Step (Arrive packet)) = packet ≤ 18446744073709551615
 IsInPlace (Some nodes) (Noise node bytes) = node.number < nodes
 IsInPlace (Some nodes) (Step (Tick node)) = node.number < nodes
 IsInPlace (Some nodes) (Step (Stop node)) = node.number < nodes
+IsInPlace (Some nodes) (Step (Fetch node address from most)) = node.number < nodes
 IsInPlace other command = ⊥
 
 -- the line is empty, or begins with `#`

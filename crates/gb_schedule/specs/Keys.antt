@@ -1,11 +1,12 @@
 -- The keys of a schedule's cluster, and the tokens under them.
-use Rattle.std.specs.Prelude.{◌≡◌, ℕ, List, ◌++◌, All, replicate}
+use Rattle.std.specs.Prelude.{◌≡◌, ℕ, List, ◌++◌, All, Option, IfSome, replicate}
 use Rattle.std.specs.Int.{w16, to_be_bytes}
 use Rattle.gb_cap.specs.Token.{token_of}
 use Rattle.gb_cap.specs.declared.token.Need.TheVariants.{Admin, Tenant, Member}
 use Rattle.gb_types.specs.declared.address.Addr.{Addr}
 use Rattle.gb_types.specs.declared.node.NodeId.{NodeId}
 use Rattle.gb_schedule.specs.declared.keys.GroupMember.{GroupMember}
+use Rattle.gb_schedule.specs.declared.keys.MemberToken.{MemberToken}
 
 -- the key of the packets between the nodes
 abbrev pub cluster_key : List ℕ
@@ -43,6 +44,6 @@ AreTenantKeys entries = All (λ e. e.1 ≡ tenant_key e.0) entries
 abbrev pub IsMemberToken : GroupMember → List ℕ → Type 0
 IsMemberToken member token = (node : NodeId) → node.number ≡ member.node → token ≡ member_token member.address node
 
--- tokens by their members
-abbrev pub AreMemberTokens : List (GroupMember × List ℕ) → Type 0
-AreMemberTokens entries = All (λ e. IsMemberToken e.0 e.1) entries
+-- what is kept at a place is a member's token, where something is
+abbrev pub AreMemberTokens : List (Option MemberToken) → Type 0
+AreMemberTokens places = All (λ place. IfSome place (λ kept. IsMemberToken kept.member kept.token)) places

@@ -5,3 +5,4 @@ pub mod LineBuffer
 pub mod Head
 pub mod Keys
 pub mod Grammar
+pub mod Numbers

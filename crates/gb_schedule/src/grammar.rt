@@ -13,7 +13,8 @@ ghost use Rattle.gb_schedule.specs.Grammar.{SpellsCluster, SpellsTenant, SpellsM
 use crate::command::{Command, Step};
 use crate::head::{Head, read_head};
 use crate::keys::{Keys, NO_TOKEN, tenant_key};
-use crate::words::{WORDS, cut_word, words_in};
+use crate::words::{WORDS, numbers_in, words_in};
+use gb_types::address::Addr;
 use gb_types::limits::{NODES, SILENCE_MAX, SILENCE_MIN};
 use gb_types::memory::OutOfMemory;
 use gb_types::node::NodeId;
@@ -24,6 +25,11 @@ use gb_types::request::Request;
 use gb_types::request_words::{read_address, read_spec, read_u16, read_u32};
 use gb_types::spec::TenantRow;
 use std::alloc::Global;
+
+// The largest numbers of 16 and of 32 bits.
+const SHORT: u64 = 65_535;
+
+const LONG: u64 = 4_294_967_295;
 
 // A number from the least to the most.
 fn read_between(word: &[u8], least: u64, most: u64) -> Option<u64>
@@ -179,23 +185,6 @@ fn read_say(
     Ok(Some(Command::Request(node, request)))
 }
 
-// fetch A T G FROM MAX
-fn read_fetch(keys: &mut Keys, nodes: u8, words: &[&[u8]]) -> Option<Command>
-    requires { (1 ≤ nodes) × (nodes ≤ NODES) }
-    ensures { (command : TheCommand) → (result ≡ Some command)
-        ↔ SpellsFetch nodes command (map (λ word. word.now) words.now) }
-{
-    let [node, tenant, group, from, most] = words else {
-        return None;
-    };
-    let node = read_node(node, nodes)?;
-    let address = read_address(tenant, group)?;
-    let from = read_u32(from)?;
-    let most = read_u32(most)?;
-    let token = keys.member(address, node);
-    Some(Command::Request(node, Request::Fetch(token, address, from, most)))
-}
-
 // forge A T G
 fn read_forge(alloc: Global, nodes: u8, words: &[&[u8]]) -> Option<Command>
     requires { (1 ≤ nodes) × (nodes ≤ NODES) }
@@ -229,48 +218,15 @@ fn read_noise(alloc: Global, nodes: u8, words: &[&[u8]]) -> Result<Option<Comman
     Ok(Some(Command::Noise(node, bytes)))
 }
 
-// The node, of a cluster of so many, that the first word of a text spells, and what stands behind the space after it.
-fn first_node(text: &[u8], nodes: u8) -> Option<(NodeId, &[u8])>
-    requires { (1 ≤ nodes) × (nodes ≤ NODES) }
-    ensures some { IfSome result (λ found. (found.0.number < nodes)
-        × (words_of text.now ≡ decimal found.0.number ∷ words_of found.1.now)) }
-    ensures none { IfNone result ((node : TheNode) (word : List ℕ) (words : List (List ℕ)) → node.number < nodes
-        → words_of text.now ≡ decimal node.number ∷ word ∷ words → ⊥) }
-{
-    let (word, rest) = cut_word(text);
-    let node = read_node(word, nodes)?;
-    match rest {
-        None => None,
-        Some(rest) => Some((node, rest)),
-    }
-}
-
-// The node, of a cluster of so many, that a text of one word spells.
-fn last_node(text: &[u8], nodes: u8) -> Option<NodeId>
-    requires { (1 ≤ nodes) × (nodes ≤ NODES) }
-    ensures { (node : TheNode) → (result ≡ Some node)
-        ↔ ((node.number < nodes) × (words_of text.now ≡ decimal node.number ∷ [])) }
-{
-    read_node(text, nodes)
-}
-
-// The number that a text of one word spells.
-fn last_number(text: &[u8]) -> Option<u64>
-    ensures { (n : ℕ) → (result ≡ Some n)
-        ↔ ((n ≤ 18446744073709551615) × (words_of text.now ≡ decimal n ∷ [])) }
-{
-    read_number(text, u64::MAX)
-}
-
 // pack A B
 fn read_pack(nodes: u8, text: &[u8]) -> Option<Step>
     requires { (1 ≤ nodes) × (nodes ≤ NODES) }
     ensures { (step : TheStep) → (result ≡ Some step)
         ↔ SpellsPack nodes (Commands.Step step) (words_of text.now) }
 {
-    let (node, rest) = first_node(text, nodes)?;
-    let to = last_node(rest, nodes)?;
-    Some(Step::Pack(node, to))
+    let last = u64::from(nodes) - 1;
+    let [node, to] = numbers_in(text, [last, last])?;
+    Some(Step::Pack(NodeId::new(node as u8), NodeId::new(to as u8)))
 }
 
 // again A B F
@@ -279,10 +235,9 @@ fn read_again(nodes: u8, text: &[u8]) -> Option<Step>
     ensures { (step : TheStep) → (result ≡ Some step)
         ↔ SpellsAgain nodes (Commands.Step step) (words_of text.now) }
 {
-    let (node, rest) = first_node(text, nodes)?;
-    let (to, rest) = first_node(rest, nodes)?;
-    let frame = last_number(rest)?;
-    Some(Step::Again(node, to, frame))
+    let last = u64::from(nodes) - 1;
+    let [node, to, frame] = numbers_in(text, [last, last, u64::MAX])?;
+    Some(Step::Again(NodeId::new(node as u8), NodeId::new(to as u8), frame))
 }
 
 // ack A B
@@ -291,9 +246,9 @@ fn read_ack(nodes: u8, text: &[u8]) -> Option<Step>
     ensures { (step : TheStep) → (result ≡ Some step)
         ↔ SpellsAck nodes (Commands.Step step) (words_of text.now) }
 {
-    let (node, rest) = first_node(text, nodes)?;
-    let to = last_node(rest, nodes)?;
-    Some(Step::Ack(node, to))
+    let last = u64::from(nodes) - 1;
+    let [node, to] = numbers_in(text, [last, last])?;
+    Some(Step::Ack(NodeId::new(node as u8), NodeId::new(to as u8)))
 }
 
 // arrive K
@@ -301,7 +256,7 @@ fn read_arrive(text: &[u8]) -> Option<Step>
     ensures { (step : TheStep) → (result ≡ Some step)
         ↔ SpellsArrive (Commands.Step step) (words_of text.now) }
 {
-    let packet = last_number(text)?;
+    let [packet] = numbers_in(text, [u64::MAX])?;
     Some(Step::Arrive(packet))
 }
 
@@ -311,8 +266,9 @@ fn read_tick(nodes: u8, text: &[u8]) -> Option<Step>
     ensures { (step : TheStep) → (result ≡ Some step)
         ↔ SpellsTick nodes (Commands.Step step) (words_of text.now) }
 {
-    let node = last_node(text, nodes)?;
-    Some(Step::Tick(node))
+    let last = u64::from(nodes) - 1;
+    let [node] = numbers_in(text, [last])?;
+    Some(Step::Tick(NodeId::new(node as u8)))
 }
 
 // stop A
@@ -321,8 +277,24 @@ fn read_stop(nodes: u8, text: &[u8]) -> Option<Step>
     ensures { (step : TheStep) → (result ≡ Some step)
         ↔ SpellsStop nodes (Commands.Step step) (words_of text.now) }
 {
-    let node = last_node(text, nodes)?;
-    Some(Step::Stop(node))
+    let last = u64::from(nodes) - 1;
+    let [node] = numbers_in(text, [last])?;
+    Some(Step::Stop(NodeId::new(node as u8)))
+}
+
+// fetch A T G FROM MAX
+fn read_fetch(nodes: u8, text: &[u8]) -> Option<Step>
+    requires { (1 ≤ nodes) × (nodes ≤ NODES) }
+    ensures { (step : TheStep) → (result ≡ Some step)
+        ↔ SpellsFetch nodes (Commands.Step step) (words_of text.now) }
+{
+    let last = u64::from(nodes) - 1;
+    let [node, tenant, group, from, most] = numbers_in(text, [last, SHORT, SHORT, LONG, LONG])?;
+    let address = Addr {
+        tenant: tenant as u16,
+        group: group as u16,
+    };
+    Some(Step::Fetch(NodeId::new(node as u8), address, from as u32, most as u32))
 }
 
 // What stands in a line behind these bytes, where it begins with them.
@@ -348,6 +320,9 @@ fn find_step(nodes: u8, line: &[u8]) -> Option<Step>
     }
     if let Some(text) = behind(line, b"ack ") {
         return read_ack(nodes, text);
+    }
+    if let Some(text) = behind(line, b"fetch ") {
+        return read_fetch(nodes, text);
     }
     if let Some(text) = behind(line, b"tick ") {
         return read_tick(nodes, text);
@@ -402,10 +377,15 @@ fn read_arguments(
         Head::Shut => Ok(read_shut(keys, nodes, arguments)),
         Head::Drop => Ok(read_drop(keys, nodes, arguments)),
         Head::Say => read_say(alloc, keys, nodes, arguments),
-        Head::Fetch => Ok(read_fetch(keys, nodes, arguments)),
         Head::Forge => Ok(read_forge(alloc, nodes, arguments)),
         Head::Noise => read_noise(alloc, nodes, arguments),
-        Head::Pack | Head::Again | Head::Ack | Head::Arrive | Head::Tick | Head::Stop => Ok(None),
+        Head::Fetch
+        | Head::Pack
+        | Head::Again
+        | Head::Ack
+        | Head::Arrive
+        | Head::Tick
+        | Head::Stop => Ok(None),
     }
 }
 

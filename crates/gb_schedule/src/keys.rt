@@ -1,7 +1,7 @@
 //! The keys of a schedule's cluster, and the tokens that its lines come with.
-ghost use Rattle.std.specs.Prelude.{◌≡◌};
+ghost use Rattle.std.specs.Prelude.{◌≡◌, IfSome};
 ghost use Rattle.gb_cap.specs.Token.{token_of};
-ghost use Rattle.gb_schedule.specs.Keys.{tenant_key, admin_token, tenant_token, member_token, IsMemberToken};
+ghost use Rattle.gb_schedule.specs.Keys.{tenant_key, admin_token, tenant_token, member_token, IsMemberToken, AreMemberTokens};
 
 use gb_cap::hmac::{HmacKey, Key};
 use gb_cap::token::{Need, Token};
@@ -30,23 +30,31 @@ pub fn tenant_key(tenant: TenantId) -> Key
 }
 
 /// How many members' tokens are kept at most.
-const KEPT: usize = 16_384;
+const KEPT: usize = 1_024;
 
 /// A member of a group, by the group's address and its node's number.
-#[derive(Clone, Copy, PartialEq, Eq, Hash, Debug)]
+#[derive(Clone, Copy, PartialEq, Eq, Debug)]
 pub struct GroupMember {
     address: Addr,
     node: u8,
 }
 
+/// A token that was made, and the member whose it is.
+#[derive(Clone, Copy)]
+pub struct MemberToken {
+    member: GroupMember,
+    token: Token,
+}
+
 /// Makes the tokens of a schedule's lines. The keys of the administrator and of each tenant that was named are hashed
-/// once, not for each token, and the tokens of the first members that were named are kept. Contracts see nothing of it: each
-/// token is a function of what it is asked for.
+/// once, not for each token, and tokens of members are kept, each at a place of its member's: of two members with one place the
+/// last that was named has it. Contracts see nothing of it: each token is a function of what it is asked for.
 #[derive(Drop)]
 pub struct Keys {
     admin: HmacKey,
     tenants: IndexMap<TenantId, HmacKey>,
-    members: IndexMap<GroupMember, Token>,
+    /// None where nothing is kept; no places where there was no memory for them.
+    members: Vec<Option<MemberToken>>,
 }
 
 impl Model for Keys {
@@ -57,7 +65,22 @@ impl Model for Keys {
 
     ghost view = { λ k. tt };
 
-    ghost invariant = { λ k. (k.admin ≡ admin_key) × AreTenantKeys k.tenants.entries × AreMemberTokens k.members.entries };
+    ghost invariant = { λ k. (k.admin ≡ admin_key) × AreTenantKeys k.tenants.entries × AreMemberTokens k.members.items };
+}
+
+/// Places at which nothing is kept.
+fn empty_places(alloc: Global) -> Vec<Option<MemberToken>>
+    ensures { AreMemberTokens result.items }
+{
+    match Vec::from_elem(alloc, None, KEPT) {
+        Ok(places) => places,
+        Err(_) => Vec::new(alloc),
+    }
+}
+
+/// The place of a member's token. The 16 nodes and the first 64 groups of a tenant have places of their own.
+fn place_of(tenant: TenantId, group: u16, node: u8) -> usize {
+    ((usize::from(tenant) + usize::from(group)) * 16 + usize::from(node)) % KEPT
 }
 
 impl Keys {
@@ -66,7 +89,7 @@ impl Keys {
         Keys {
             admin: HmacKey::new(&ADMIN_KEY),
             tenants: IndexMap::new(alloc),
-            members: IndexMap::new(alloc),
+            members: empty_places(alloc),
         }
     }
 
@@ -92,21 +115,32 @@ impl Keys {
             address,
             node: node.number,
         };
-        if let Some(token) = self.members.get(&member) {
-            return *token;
+        let place = place_of(address.tenant, address.group, node.number);
+        if let Some(token) = self.kept(&member, place) {
+            return token;
         }
         let need = Need::Member(address.tenant, address.group, node);
         let token = self.token(address.tenant, need);
-        self.keep(member, token);
+        self.keep(MemberToken { member, token }, place);
         token
     }
 
-    /// Keeps a member's token, where there are few and memory is there for it.
-    fn keep(&mut self, member: GroupMember, token: Token)
-        requires { IsMemberToken member token }
+    /// The token of a member, where it is kept at a place.
+    fn kept(&self, member: &GroupMember, place: usize) -> Option<Token>
+        ensures { IfSome result (IsMemberToken member.now) }
     {
-        if self.members.len() < KEPT {
-            let _ = self.members.insert(member, token);
+        match self.members.get(place) {
+            Some(Some(found)) if found.member == *member => Some(found.token),
+            _ => None,
+        }
+    }
+
+    /// Keeps a member's token at a place, where there is one.
+    fn keep(&mut self, made: MemberToken, place: usize)
+        requires { IsMemberToken made.member made.token }
+    {
+        if place < self.members.len() {
+            self.members[place] = Some(made);
         }
     }
 

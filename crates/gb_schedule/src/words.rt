@@ -1,7 +1,11 @@
 //! The words of a line, with no memory taken.
-ghost use Rattle.std.specs.Prelude.{◌≡◌, ◌≤◌, ◌<◌, ◌==◌, ◌∷◌, [], length, map, take, IfSome, IfNone};
+ghost use Rattle.std.specs.Prelude.{◌≡◌, ◌≤◌, ◌<◌, ◌==◌, ◌∷◌, ◌↔◌, ℕ, List, [], Some, length, map, take, IfSome, IfNone};
 ghost use Rattle.std.specs.List.{position_or_len};
+ghost use Rattle.std.specs.Str.Parse.{AllDigits, digits_value};
 ghost use Rattle.gb_types.specs.Words.{words_of};
+ghost use Rattle.gb_schedule.specs.Numbers.{IsCutOff, BeginsWithNoNumber, AreNumbers};
+
+use gb_types::number::read_number;
 
 /// The most words that a line which spells a command has, its head among them.
 pub const WORDS: usize = 9;
@@ -23,7 +27,7 @@ fn word_len(text: &[u8]) -> usize
 }
 
 /// The first word of a text, and what stands behind the space after it, where there is one.
-pub fn cut_word(text: &[u8]) -> (&[u8], Option<&[u8]>)
+fn cut_word(text: &[u8]) -> (&[u8], Option<&[u8]>)
     ensures more { IfSome result.1 (λ rest. words_of text.now ≡ result.0.now ∷ words_of rest.now) }
     ensures last { IfNone result.1 (words_of text.now ≡ result.0.now ∷ []) }
 {
@@ -32,6 +36,80 @@ pub fn cut_word(text: &[u8]) -> (&[u8], Option<&[u8]>)
         return (&text[..len], Some(&text[len + 1..]));
     }
     (text, None)
+}
+
+/// The number that the first word of a text writes, and what stands behind the space after it, where there is one. None where
+/// it writes no number of 64 bits.
+fn cut_any_number(text: &[u8]) -> Option<(u64, Option<&[u8]>)>
+    ensures some { IfSome result (λ found. IsCutOff text.now found.0 found.1) }
+    ensures none { IfNone result (BeginsWithNoNumber text.now) }
+{
+    let (word, rest) = cut_word(text);
+    let number = read_number(word, u64::MAX)?;
+    Some((number, rest))
+}
+
+/// The same, where so many digits that begin a text write a number.
+#[inline(always)]
+fn cut_behind_digits(text: &[u8], number: u64, digits: usize) -> Option<(u64, Option<&[u8]>)>
+    requires within { digits ≤ length text.now }
+    requires read { AllDigits 10 (take digits text.now) × (digits_value 10 (take digits text.now) ≡ number) }
+    ensures some { IfSome result (λ found. IsCutOff text.now found.0 found.1) }
+    ensures none { IfNone result (BeginsWithNoNumber text.now) }
+{
+    if digits == 0 || (digits > 1 && text[0] == b'0') {
+        return cut_any_number(text);
+    }
+    if digits == text.len() {
+        return Some((number, None));
+    }
+    if text[digits] != b' ' {
+        return cut_any_number(text);
+    }
+    Some((number, Some(&text[digits + 1..])))
+}
+
+/// No digit behind so large a number makes one of more than 64 bits.
+const FITS_ONE_MORE: u64 = 1_844_674_407_370_955_160;
+
+/// The same as `cut_any_number`. One pass over the digits reads those of most numbers; what is left is read word by word.
+#[inline(always)]
+fn cut_number(text: &[u8]) -> Option<(u64, Option<&[u8]>)>
+    ensures some { IfSome result (λ found. IsCutOff text.now found.0 found.1) }
+    ensures none { IfNone result (BeginsWithNoNumber text.now) }
+{
+    let mut number: u64 = 0;
+    for place in 0..text.len() {
+        let byte = text[place];
+        if !byte.is_ascii_digit() {
+            return cut_behind_digits(text, number, place);
+        }
+        if number > FITS_ONE_MORE {
+            return cut_any_number(text);
+        }
+        number = number * 10 + u64::from(byte - b'0');
+    }
+    cut_behind_digits(text, number, text.len())
+}
+
+/// The numbers that the words of a text write, where these are so many and none is larger than what stands at its place.
+pub fn numbers_in<const N: usize>(text: &[u8], most: [u64; N]) -> Option<[u64; N]>
+    ensures { (ns : List ℕ) → (result ≡ Some ns) ↔ AreNumbers most.entry text.now ns }
+{
+    let mut numbers = [0; N];
+    let mut left = text;
+    for place in 0..N {
+        let (number, behind) = cut_number(left)?;
+        if number > most[place] {
+            return None;
+        }
+        numbers[place] = number;
+        match behind {
+            Some(rest) => left = rest,
+            None => return if place + 1 == N { Some(numbers) } else { None },
+        }
+    }
+    None
 }
 
 /// Puts the words of a line into an array, and says how many these are; None where the line has more than fit.

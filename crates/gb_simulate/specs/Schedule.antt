@@ -2,16 +2,18 @@
 use Rattle.std.specs.Prelude.{ℕ, ◌≡◌, ◌≢◌, ◌≤◌, ◌<◌, ◌⊎◌, List, [], drop, length, Option, Some, None, codes}
 use Rattle.std.specs.Option.{ForSome}
 use Rattle.gb_types.specs.declared.limits.TheConstants.{NODES}
+use Rattle.gb_types.specs.declared.request.Request.TheVariants.{Fetch as FetchRequest}
 use Rattle.gb_node.specs.declared.event.NodeEvent.TheVariants.{Request as AskEvent, Packet as CameEvent, Pack as PackEvent, Again as AgainEvent, Ack as AckEvent, Tick as TickEvent, Stop as StopEvent}
 use Rattle.gb_cluster.specs.ClusterValue.{ClusterValue}
 use Rattle.gb_cluster.specs.declared.answer.Answer.{Answer}
 use Rattle.gb_cluster.specs.declared.event.Event.{Event}
 use Rattle.gb_cluster.specs.declared.event.Event.TheVariants.{At, Arrive as ArriveEvent}
 use Rattle.gb_schedule.specs.Grammar.{IsCommandLine, IsSilent}
+use Rattle.gb_schedule.specs.Keys.{member_token}
 use Rattle.gb_schedule.specs.Lines.{ended}
 use Rattle.gb_schedule.specs.declared.command.Command.{Command}
 use Rattle.gb_schedule.specs.declared.command.Command.TheVariants.{Cluster, Request, Noise, Step}
-use Rattle.gb_schedule.specs.declared.command.Step.TheVariants.{Pack, Again, Ack, Arrive, Tick, Stop}
+use Rattle.gb_schedule.specs.declared.command.Step.TheVariants.{Pack, Again, Ack, Arrive, Tick, Stop, Fetch}
 use Rattle.gb_schedule.specs.declared.lines.TheConstants.{LINE}
 use Rattle.gb_simulate.specs.AnswerText.{answer_spelling}
 use Rattle.gb_simulate.specs.OfCluster.{started, size, Takes}
@@ -23,7 +25,7 @@ use Rattle.gb_simulate.specs.declared.obey.TheConstants.{LINES}
 abbrev pub added : List ℕ → List ℕ → List ℕ
 added old new = drop (length old) new
 
--- the event that a command is, once there is a cluster
+-- the event that a command is, once there is a cluster; a fetch comes with the member's token
 abbrev pub event_of : Command → Option Event
 event_of (Cluster nodes silence) = None
 event_of (Request node request) = Some (At node (AskEvent request))
@@ -34,6 +36,7 @@ event_of (Step (Arrive packet)) = Some (ArriveEvent packet)
 event_of (Noise node bytes) = Some (At node (CameEvent bytes))
 event_of (Step (Tick node)) = Some (At node TickEvent)
 event_of (Step (Stop node)) = Some (At node StopEvent)
+event_of (Step (Fetch node address from most)) = Some (At node (AskEvent (FetchRequest (member_token address node) address from most)))
 
 -- how many nodes the cluster has, once there is one
 abbrev pub size_in : Option ClusterValue → Option ℕ

@@ -23,6 +23,7 @@ use gb_schedule::keys::{ADMIN_KEY, CLUSTER_KEY, Keys};
 use gb_types::memory::OutOfMemory;
 use gb_types::node::NodeId;
 use gb_types::plan::Plan;
+use gb_types::request::Request;
 use std::alloc::Global;
 
 /// How many lines a schedule may have.
@@ -115,6 +116,7 @@ fn obey_at(
 /// A step that is in its place.
 #[inline(always)]
 fn obey_step(
+    keys: &mut Keys,
     cluster: &mut Option<Cluster>,
     step: Step,
     text: &mut Vec<u8>,
@@ -134,12 +136,18 @@ fn obey_step(
         Step::Arrive(packet) => obey_event(cluster, &Event::Arrive(packet), text),
         Step::Tick(node) => obey_at(cluster, node, NodeEvent::Tick, text),
         Step::Stop(node) => obey_at(cluster, node, NodeEvent::Stop, text),
+        Step::Fetch(node, address, from, most) => {
+            let token = keys.member(address, node);
+            let request = Request::Fetch(token, address, from, most);
+            obey_at(cluster, node, NodeEvent::Request(request), text)
+        }
     }
 }
 
 /// A command that is in its place.
 fn obey(
     alloc: Global,
+    keys: &mut Keys,
     cluster: &mut Option<Cluster>,
     command: Command,
     text: &mut Vec<u8>,
@@ -159,7 +167,7 @@ fn obey(
             let bytes = PacketText::from(bytes.into_vec()?);
             obey_at(cluster, node, NodeEvent::Packet(bytes), text)
         }
-        Command::Step(step) => obey_step(cluster, step, text),
+        Command::Step(step) => obey_step(keys, cluster, step, text),
     }
 }
 
@@ -211,13 +219,13 @@ pub fn answer_line(
     }
     let nodes = count_of(cluster);
     if let Some(step) = read_step(nodes, line) {
-        obey_step(cluster, step, text)?;
+        obey_step(keys, cluster, step, text)?;
         return Ok(None);
     }
     match read_other_command(alloc, keys, nodes, line)? {
         None => Ok(Some(why_none(cluster))),
         Some(command) => {
-            obey(alloc, cluster, command, text)?;
+            obey(alloc, keys, cluster, command, text)?;
             Ok(None)
         }
     }
