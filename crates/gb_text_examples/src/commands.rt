@@ -123,7 +123,7 @@ fn told_request(alloc: Global, node: u64, request: &Request) -> Result<Vec<u8>, 
         Request::Say(_, address, payload) => {
             shown_bytes(alloc, b"say", &place(node, *address), payload.as_slice())
         }
-        Request::Fetch(_, address, from, most) => told_fetch(alloc, node, *address, *from, *most),
+        Request::Fetch(_, _, _, _) => shown(alloc, b"bad", &[]),
     }
 }
 
@@ -158,6 +158,9 @@ fn told_step(alloc: Global, step: Step) -> Result<Vec<u8>, OutOfMemory> {
         Step::Arrive(packet) => shown(alloc, b"arrive", &[packet]),
         Step::Tick(node) => at(alloc, b"tick", node),
         Step::Stop(node) => at(alloc, b"stop", node),
+        Step::Fetch(node, address, from, most) => {
+            told_fetch(alloc, u64::from(node.number), address, from, most)
+        }
     }
 }
 
@@ -238,10 +241,10 @@ const FIRST_LINES: &str =
     "cluster 1 2=cluster 1 2\ncluster 16 1000=cluster 16 1000\ncluster 0 2\ncluster 17 2\ncluster 272 2\ncluster 2 1\ncluster 2 1001\ncluster 2\ncluster 2 3 4\nopen 0 7 1\narrive 1\nagain 0 0 0\nack 0 0\ntick 0\nstop 0";
 
 const GOOD_LINES: &str =
-    "tenant 2 65535 256 4294967295 0 10=take in 2 65535 256 4294967295 0 10\nmake 0 7 1 beb 0,1,15 8 64 4=make 0 7 1 8 64 4 0 1 15\nopen 1 0 65535=open 1 0 65535\nshut 2 7 1=shut 2 7 1\ndrop 0 65535 0=drop 0 65535 0\nsay 0 7 1 -=say 0 7 1\nsay 0 7 1 00fF6a=say 0 7 1 0 255 106\nfetch 0 7 1 1 4294967295=fetch 0 7 1 1 4294967295\nforge 2 7 65535=say 2 7 65535\nnoise 2 -=noise 2\nnoise 0 00fF6a=noise 0 0 255 106\npack 0 2=pack 0 2\npack 1 1=pack 1 1\nagain 0 2 1=again 0 2 1\nagain 2 0 0=again 2 0 0\nagain 1 1 0=again 1 1 0\nagain 1 2 18446744073709551615=again 1 2 18446744073709551615\nack 0 2=acknowledge 0 2\nack 2 0=acknowledge 2 0\nack 1 1=acknowledge 1 1\ntick 0=tick 0\ntick 2=tick 2\nstop 0=stop 0\nstop 2=stop 2\narrive 0=arrive 0\narrive 18446744073709551615=arrive 18446744073709551615";
+    "tenant 2 65535 256 4294967295 0 10=take in 2 65535 256 4294967295 0 10\nmake 0 7 1 beb 0,1,15 8 64 4=make 0 7 1 8 64 4 0 1 15\nopen 1 0 65535=open 1 0 65535\nshut 2 7 1=shut 2 7 1\ndrop 0 65535 0=drop 0 65535 0\nsay 0 7 1 -=say 0 7 1\nsay 0 7 1 00fF6a=say 0 7 1 0 255 106\nfetch 0 7 1 1 4294967295=fetch 0 7 1 1 4294967295\nforge 2 7 65535=say 2 7 65535\nnoise 2 -=noise 2\nnoise 0 00fF6a=noise 0 0 255 106\npack 0 2=pack 0 2\npack 1 1=pack 1 1\nagain 0 2 1=again 0 2 1\nagain 2 0 0=again 2 0 0\nagain 1 1 0=again 1 1 0\nagain 1 2 18446744073709551615=again 1 2 18446744073709551615\nack 0 2=acknowledge 0 2\nack 2 0=acknowledge 2 0\nack 1 1=acknowledge 1 1\ntick 0=tick 0\ntick 2=tick 2\nstop 0=stop 0\nstop 2=stop 2\narrive 0=arrive 0\narrive 18446744073709551615=arrive 18446744073709551615\narrive 18446744073709551610=arrive 18446744073709551610\narrive 18446744073709551609=arrive 18446744073709551609\narrive 1844674407370955161=arrive 1844674407370955161\nfetch 2 65535 65535 4294967295 0=fetch 2 65535 65535 4294967295 0";
 
 const BAD_LINES: &str =
-    "cluster 2 3\nopen 3 7 1\nshut 3 7 1\nshut 0 7\ndrop 3 7 1\ndrop 0 7\ndrop 0 7 1 1\ndrops 0 7 1\nopen 256 7 1\nopen 0 65536 1\nopen 0 7 65536\nopen 00 7 1\nopen 0 07 1\nopen 0 +7 1\nopen  0 7 1\n open 0 7 1\nopen 0 7 1 \nopen 0 7 1\r\nopen 0 7\nopen 0 7 1 1\nOpen 0 7 1\nopenx 0 7 1\nfetch 0 7 1 1 4294967296\narrive 18446744073709551616\narrive 111111111111111111111111111111\narrive\narrive \nmake 0 7 1 beb 1,0 8 64 4\nmake 0 7 1 beb 0,16 8 64 4\nmake 0 7 1 beb 0, 8 64 4\nmake 0 7 1 bee 0 8 64 4\nmake 0 7 1 beb 0 8 64 4 4\npack 0 1 1 1 1 1 1 1 1 1 1\nsay 0 7 1 6\nsay 0 7 1 6g\nsay 0 7 1\nsay 0 7 1 \npack 0 3\nagain 3 0 1\nagain 0 3 1\nagain 0 1 18446744073709551616\nagain 0 1 -\nagain 0 1 01\nagain 0 1\nagain 0 1 \nagain 0 1 1 1\nagain\nack 3 0\nack 0 3\nack 0\nack 0 1 1\nack 0  1\nack\nacknowledge 0 1\ntick 3\ntick 258\ntick 00\ntick 0 1\ntick\ntick \nticks 0\nstop 3\nstop 256\nstop 0 1\nstop\nStop 0\nsto 0\nforge 3 7 1\nforge 0 7\nforge 0 7 1 -\nforge 0 65536 1\nnoise 3 -\nnoise 0\nnoise 0 6\nnoise 0 6g\nnoise 0 - -\nnoise 0 \n\n ";
+    "cluster 2 3\nopen 3 7 1\nshut 3 7 1\nshut 0 7\ndrop 3 7 1\ndrop 0 7\ndrop 0 7 1 1\ndrops 0 7 1\nopen 256 7 1\nopen 0 65536 1\nopen 0 7 65536\nopen 00 7 1\nopen 0 07 1\nopen 0 +7 1\nopen  0 7 1\n open 0 7 1\nopen 0 7 1 \nopen 0 7 1\r\nopen 0 7\nopen 0 7 1 1\nOpen 0 7 1\nopenx 0 7 1\nfetch 0 7 1 1 4294967296\nfetch 0 7 1 4294967296 1\nfetch 0 65536 1 1 1\nfetch 0 7 65536 1 1\nfetch 3 7 1 1 1\nfetch 0 7 1 1\nfetch 0 7 1 1 \nfetch 0 7 1 1 1 1\nfetch 0 7 1 1 01\nfetch 0 7 1 1  1\nfetch 0 7 1 1 1x\nfetch 0 7 1 x 1\nfetch\nfetches 0 7 1 1 1\narrive 184467440737095516150\narrive 18446744073709551616x\narrive 18446744073709551616\narrive 111111111111111111111111111111\narrive\narrive \nmake 0 7 1 beb 1,0 8 64 4\nmake 0 7 1 beb 0,16 8 64 4\nmake 0 7 1 beb 0, 8 64 4\nmake 0 7 1 bee 0 8 64 4\nmake 0 7 1 beb 0 8 64 4 4\npack 0 1 1 1 1 1 1 1 1 1 1\nsay 0 7 1 6\nsay 0 7 1 6g\nsay 0 7 1\nsay 0 7 1 \npack 0 3\nagain 3 0 1\nagain 0 3 1\nagain 0 1 18446744073709551616\nagain 0 1 -\nagain 0 1 01\nagain 0 1\nagain 0 1 \nagain 0 1 1 1\nagain\nack 3 0\nack 0 3\nack 0\nack 0 1 1\nack 0  1\nack\nacknowledge 0 1\ntick 3\ntick 258\ntick 00\ntick 0 1\ntick\ntick \nticks 0\nstop 3\nstop 256\nstop 0 1\nstop\nStop 0\nsto 0\nforge 3 7 1\nforge 0 7\nforge 0 7 1 -\nforge 0 65536 1\nnoise 3 -\nnoise 0\nnoise 0 6\nnoise 0 6g\nnoise 0 - -\nnoise 0 \n\n ";
 
 #[test]
 fn the_first_line(rt: HostRuntime) -> Result<(), Fail> {
@@ -253,14 +256,14 @@ fn the_first_line(rt: HostRuntime) -> Result<(), Fail> {
 #[test]
 fn good_lines(rt: HostRuntime) -> Result<(), Fail> {
     let count = compare(&rt, rt.alloc(), Some(3), GOOD_LINES)?;
-    assert!(rt; count == 26);
+    assert!(rt; count == 30);
     Ok(())
 }
 
 #[test]
 fn bad_lines(rt: HostRuntime) -> Result<(), Fail> {
     let count = compare(&rt, rt.alloc(), Some(3), BAD_LINES)?;
-    assert!(rt; count == 79);
+    assert!(rt; count == 94);
     Ok(())
 }
 

@@ -52,7 +52,7 @@ fn is_plan(plan: &Plan) -> bool
 }
 
 /// The event that a step asks for.
-fn step_of(step: Step) -> Event {
+fn step_of(keys: &mut Keys, step: Step) -> Event {
     match step {
         Step::Pack(node, to) => Event::At(node, NodeEvent::Pack(to)),
         Step::Again(node, to, frame) => Event::At(node, NodeEvent::Again(to, frame)),
@@ -60,11 +60,16 @@ fn step_of(step: Step) -> Event {
         Step::Arrive(packet) => Event::Arrive(packet),
         Step::Tick(node) => Event::At(node, NodeEvent::Tick),
         Step::Stop(node) => Event::At(node, NodeEvent::Stop),
+        Step::Fetch(node, addr, from, most) => {
+            let token = keys.member(addr, node);
+            let request = Request::Fetch(token, addr, from, most);
+            Event::At(node, NodeEvent::Request(request))
+        }
     }
 }
 
 /// The event that a command asks for, if it starts no cluster.
-fn event_of(command: Command) -> Result<Option<Event>, OutOfMemory> {
+fn event_of(keys: &mut Keys, command: Command) -> Result<Option<Event>, OutOfMemory> {
     Ok(match command {
         Command::Cluster {
             nodes: _,
@@ -75,7 +80,7 @@ fn event_of(command: Command) -> Result<Option<Event>, OutOfMemory> {
             let bytes = PacketText::from(bytes.into_vec()?);
             Some(Event::At(node, NodeEvent::Packet(bytes)))
         }
-        Command::Step(step) => Some(step_of(step)),
+        Command::Step(step) => Some(step_of(keys, step)),
     })
 }
 
@@ -97,7 +102,7 @@ fn read_event(
     requires { (1 ≤ nodes) × (nodes ≤ MOST) }
 {
     match read_command(alloc, keys, Some(nodes), line)? {
-        Some(command) => event_of(command),
+        Some(command) => event_of(keys, command),
         None => Ok(None),
     }
 }
