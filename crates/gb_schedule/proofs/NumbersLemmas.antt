@@ -1,54 +1,118 @@
 -- The numbers that the words of a text write, read one after the other.
-use Rattle.std.proofs.Common.{◌≡◌, ◌↔◌, ◌==◌, ℕ, zero, suc, ◌+◌, ◌<◌, ◌≤◌, ◌^◌, List, [], ◌∷◌, ◌++◌, Option, Some, None, length, take, drop, set, get_or, map, decimal, refl, sym, ap, ◌∙◌, subst, append_assoc, length-drop, length-set, slice_index, inl, inr, Bool, true, false, true≢false, arith}
+use Rattle.std.proofs.Common.{◌≡◌, ◌↔◌, ◌==◌, ◌⊎◌, ◌*◌, ◌-◌, ◌%◌, ℕ, zero, suc, ◌+◌, ◌<◌, ◌≤◌, ◌^◌, List, [], ◌∷◌, ◌++◌, Option, Some, None, length, take, drop, set, get_or, map, decimal, refl, sym, ap, ◌∙◌, subst, append_assoc, length-drop, length-set, slice_index, inl, inr, false, arith}
 use Rattle.std.specs.Str.Parse.{AllDigits, digits_value}
-use Rattle.std.proofs.lemmas.Bool.{eq-eqb, ne_eqb}
-use Rattle.std.proofs.lemmas.Str.Parse.{digit_at}
-use Rattle.std.proofs.lemmas.Fmt.{decimal_injective}
-use Rattle.std.proofs.lemmas.List.{take_all, drop_all, take_more_set, drop_more, length-take-le, get_or-take}
+use Rattle.std.specs.Int.{IsInRange}
+use Rattle.std.specs.List.{join_with_byte}
+use Rattle.std.proofs.lemmas.Bool.{cases_lt, ne_eqb}
+use Rattle.std.proofs.lemmas.Nat.{mod-mul-add}
+use Rattle.std.proofs.lemmas.Str.Parse.{digit_at, digits_value_short, numerals_by_value, tells_digits}
+use Rattle.std.proofs.lemmas.Fmt.{decimal_injective, decimal_is_IsNumeral}
+use Rattle.std.proofs.lemmas.List.{take_all, drop_all, take_more_set, drop_more, length-take-le, get_or-take, get_or_append_left, get_or-append-add}
 use Rattle.std.proofs.lemmas.List.Splits.{length-slice_split}
 use Rattle.gb_types.specs.Words.{words_of}
-use Rattle.gb_types.proofs.NumberLemmas.{BeginsBadly, reads_back}
-use Rattle.gb_types.proofs.ReadLemmas.{some_same}
+use Rattle.gb_types.proofs.NumberLemmas.{BeginsBadly, not_badly, read_more, reads_back}
+use Rattle.gb_types.proofs.WordLemmas.{each_line_is_its_words}
+use Rattle.gb_types.proofs.ReadLemmas.{Reads, reads_one, some_same}
 use denote.Ref.{Bor}
 use Rattle.gb_schedule.specs.Numbers.{IsCutOff, BeginsWithNoNumber, AreAtMost, AreNumbers}
 use Rattle.gb_schedule.proofs.WordLemmas.{first_space, more_words, last_word}
 
--- a text that was tested for a zero begins with none
-pub no_zero : (text : List ℕ) (test : Bool) → test ≡ (get_or text 0 0 == 48) → test ≡ false → get_or text 0 0 ≡ 48 → ⊥
-no_zero text test is not at = let both : true ≡ false = sym (eq-eqb (get_or text 0 0) 48 at) ∙ sym is ∙ not in true≢false both
+kept : (x : ℕ) → x < 2 ^ 64 → x % 2 ^ 64 ≡ x
+kept x small = ap (λ k. k % 2 ^ 64) (let same : x ≡ 0 * 2 ^ 64 + x = omega arith in same) ∙ mod-mul-add 0 (2 ^ 64) x small
 
--- digits that begin a text, and begin well, are the word of the number that they write
-module _ (text : List ℕ) (digits number : ℕ) (within : digits ≤ length text) (read : AllDigits 10 (take digits text) × (digits_value 10 (take digits text) ≡ number)) where
+-- one digit more, read with what does not fit cut off: up to 19 digits nothing is
+pub more_digit : (text : List ℕ) (place number next : ℕ) → place < length text → AllDigits 10 (take place text) → (place ≤ 19 → digits_value 10 (take place text) ≡ number) → IsInRange 48 57 (get_or text place 0)
+    → next ≡ (number * 10 % 2 ^ 64 + (get_or text place 0 - 48)) % 2 ^ 64 → AllDigits 10 (take (place + 1) text) × (place + 1 ≤ 19 → digits_value 10 (take (place + 1) text) ≡ next)
+more_digit text place number next below all value digit is =
+    let before = digits_value 10 (take place text) in
+    let more = read_more text place before (before * 10 + (get_or text place 0 - 48)) below (all, refl) digit refl in (
+      more.0,
+      λ few.
+          let count = length-take-le place text (omega (arith, below)) in
+          let small : before < 10 ^ 18 = digits_value_short (numerals_by_value (AllDigits 10) tells_digits) (take place text) 18 all (omega (arith, few, count)) in
+          let same : before ≡ number = value (omega (arith, few)) in
+          let tens : number * 10 % 2 ^ 64 ≡ number * 10 = kept (number * 10) (omega (arith, small, same)) in
+          let whole : (number * 10 + (get_or text place 0 - 48)) % 2 ^ 64 ≡ number * 10 + (get_or text place 0 - 48) = kept (number * 10 + (get_or text place 0 - 48)) (omega (arith, small, same, digit)) in
+          let fits : next ≡ number * 10 + (get_or text place 0 - 48) = is ∙ ap (λ k. (k + (get_or text place 0 - 48)) % 2 ^ 64) tens ∙ whole in
+          more.1 ∙ (omega (arith, same, fits)),
+    )
+
+-- digits that begin a text
+module _ (text : List ℕ) (digits : ℕ) (within : digits ≤ length text) (all : AllDigits 10 (take digits text)) where
   no_space : (k : ℕ) → k < digits → (slice_index text k == 32) ≡ false
   no_space k below =
       let count = length-take-le digits text within in
-      let digit = digit_at (take digits text) k read.0 (omega (arith, below, count)) in
+      let digit = digit_at (take digits text) k all (omega (arith, below, count)) in
       let same = get_or-take digits text k 0 below in
       ne_eqb (get_or text k 0) 32 (λ is. omega (arith, digit, same, is))
 
-  module _ (fits : number < 2 ^ 64) (some : 0 < digits) (well : 1 < digits → get_or text 0 0 ≡ 48 → ⊥) where
-    begins_well : BeginsBadly (take digits text) → ⊥
-    begins_well (inl none) = let count = length-take-le digits text within in omega (arith, some, count, ap length none)
-    begins_well (inr zeros) =
-        let count = length-take-le digits text within in
-        let same = get_or-take digits text 0 0 some in
-        well (omega (arith, zeros.1, count)) (sym same ∙ zeros.0)
+  -- a text of digits alone is one word
+  pub last_digits : digits ≡ length text → words_of text ≡ take digits text ∷ []
+  last_digits end =
+      let at = first_space text digits within no_space (λ lt. absurd (omega (arith, lt, end))) in
+      last_word text (omega (arith, at, end)) ∙ ap (λ w. w ∷ []) (sym (take_all digits text (omega (arith, end))))
 
-    is_number : take digits text ≡ decimal number
-    is_number = sym (reads_back (take digits text) read.0 (omega (arith, read.1, fits)) begins_well) ∙ ap decimal read.1
+  -- a space behind digits ends the first word
+  pub next_digits : digits < length text → slice_index text digits ≡ 32 → words_of text ≡ take digits text ∷ words_of (drop (digits + 1) text)
+  next_digits below space =
+      let at = first_space text digits within no_space (λ lt. space) in
+      let words = more_words text (omega (arith, at, below)) in
+      subst (λ p. words_of text ≡ take p text ∷ words_of (drop (p + 1) text)) (sym at) words
 
-    -- a text of digits alone
-    pub last_number : digits ≡ length text → words_of text ≡ decimal number ∷ []
-    last_number all =
-        let at = first_space text digits within no_space (λ lt. absurd (omega (arith, lt, all))) in
-        last_word text (omega (arith, at, all)) ∙ ap (λ w. w ∷ []) (sym (take_all digits text (omega (arith, all))) ∙ is_number)
+  -- where a zero stands before more digits, they spell no number
+  pub zero_first : 1 < digits → get_or text 0 0 ≡ 48 → (n : ℕ) → n < 2 ^ 64 → take digits text ≡ decimal n → ⊥
+  zero_first more begin n small is =
+      let count = length-take-le digits text within in
+      let same = get_or-take digits text 0 0 (omega (arith, more)) in
+      not_badly n (take digits text) small is (inr (same ∙ begin, omega (arith, more, count)))
 
-    -- digits, and a space behind them
-    pub next_number : digits < length text → slice_index text digits ≡ 32 → words_of text ≡ decimal number ∷ words_of (drop (digits + 1) text)
-    next_number below space =
-        let at = first_space text digits within no_space (λ lt. space) in
-        let words = more_words text (omega (arith, at, below)) in
-        subst (λ p. words_of text ≡ take p text ∷ words_of (drop (p + 1) text)) (sym at) words ∙ ap (λ w. w ∷ words_of (drop (digits + 1) text)) is_number
+  -- else they spell the number that they write
+  pub digits_spell : (number : ℕ) → number < 2 ^ 64 → digits_value 10 (take digits text) ≡ number → 0 < digits → (1 < digits → get_or text 0 0 ≡ 48 → ⊥) → Reads (λ n. (n ≤ 18446744073709551615) × (take digits text ≡ decimal n)) number
+  digits_spell number fits value some well =
+      let count = length-take-le digits text within in
+      let begins_well : BeginsBadly (take digits text) → ⊥ = bad number some well in
+      let is : take digits text ≡ decimal number = sym (reads_back (take digits text) all (omega (arith, value, fits)) begins_well) ∙ ap decimal value in
+      reads_one (λ n. (n ≤ 18446744073709551615) × (take digits text ≡ decimal n)) number (omega (arith, fits), is)
+      (λ n spelt. decimal_injective number n fits (let le = spelt.0 in omega (arith, le)) (sym is ∙ spelt.1))
+    where
+      bad : (number : ℕ) → 0 < digits → (1 < digits → get_or text 0 0 ≡ 48 → ⊥) → BeginsBadly (take digits text) → ⊥
+      bad number some well (inl none) = let count = length-take-le digits text within in omega (arith, some, count, ap length none)
+      bad number some well (inr zeros) =
+          let count = length-take-le digits text within in
+          let same = get_or-take digits text 0 0 some in
+          well (omega (arith, zeros.1, count)) (sym same ∙ zeros.0)
+
+  -- a byte behind digits that is no digit and no space stands in the first word, which is no number then
+  another_byte : (w rest : List ℕ) → AllDigits 10 w → digits < length text → (get_or text digits 0 ≡ 32 → ⊥) → (IsInRange 48 57 (get_or text digits 0) → ⊥) → (text ≡ w) ⊎ (text ≡ w ++ 32 ∷ rest) → ⊥
+  another_byte w rest own below space digit (inl same) =
+      let count = ap length same in
+      digit (subst (λ t. IsInRange 48 57 (get_or t digits 0)) (sym same) (digit_at w digits own (omega (arith, below, count))))
+  another_byte w rest own below space digit (inr same) =
+      elim (cases_lt digits (length w)) [
+        | inl before ↦ digit (subst (λ t. IsInRange 48 57 (get_or t digits 0)) (sym same) (subst (IsInRange 48 57) (sym (get_or_append_left w (32 ∷ rest) 0 digits before)) (digit_at w digits own before)))
+        | inr after ↦
+            let end : get_or text (length w) 0 ≡ 32 = ap (λ t. get_or t (length w) 0) same ∙ ap (λ k. get_or (w ++ 32 ∷ rest) k 0) (omega arith) ∙ get_or-append-add w (32 ∷ rest) 0 0 in
+            elim (cases_lt (length w) digits) [
+              | inl inside ↦
+                  let count = length-take-le digits text within in
+                  let one = digit_at (take digits text) (length w) all (omega (arith, inside, count)) in
+                  let here = get_or-take digits text (length w) 0 inside in
+                  omega (arith, one, here, end)
+              | inr at ↦ space (ap (λ k. get_or text k 0) (omega (arith, at, after)) ∙ end)
+            ]
+      ]
+
+  pub no_number : digits < length text → (slice_index text digits ≡ 32 → ⊥) → (IsInRange 48 57 (get_or text digits 0) → ⊥) → BeginsWithNoNumber text
+  no_number below space digit n [] small is = another_byte (decimal n) [] (decimal_is_IsNumeral n small).0.1 below space digit (inl (sym (each_line_is_its_words text).0 ∙ ap (join_with_byte 32) is))
+  no_number below space digit n (next ∷ words) small is =
+      another_byte (decimal n) (join_with_byte 32 (next ∷ words)) (decimal_is_IsNumeral n small).0.1 below space digit (inr (sym (each_line_is_its_words text).0 ∙ ap (join_with_byte 32) is))
+
+-- a first word that spells no number
+pub no_first : (text word : List ℕ) (words : List (List ℕ)) → words_of text ≡ word ∷ words → ((n : ℕ) → (None ≡ Some n) ↔ ((n ≤ 18446744073709551615) × (word ≡ decimal n))) → BeginsWithNoNumber text
+no_first text word words are none n others small is =
+    let same : word ∷ words ≡ decimal n ∷ others = sym are ∙ is in
+    let found : None ≡ Some n = (none n).1 (omega (arith, small), cc) in
+    cc found
 
 -- a number that was cut off is the first word
 pub first_word : (text : List ℕ) (n : ℕ) (rest : Option (Bor (List ℕ))) → IsCutOff text n rest → (words : List (List ℕ)) × (words_of text ≡ decimal n ∷ words)

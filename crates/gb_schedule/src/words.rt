@@ -1,6 +1,7 @@
 //! The words of a line, with no memory taken.
-ghost use Rattle.std.specs.Prelude.{◌≡◌, ◌≤◌, ◌<◌, ◌==◌, ◌∷◌, ◌↔◌, ℕ, List, [], Some, length, map, take, IfSome, IfNone};
+ghost use Rattle.std.specs.Prelude.{◌≡◌, ◌≤◌, ◌<◌, ◌==◌, ◌∷◌, ◌↔◌, ℕ, List, [], Some, false, length, slice_index, decimal, map, take, IfSome, IfNone};
 ghost use Rattle.std.specs.List.{position_or_len};
+ghost use Rattle.std.specs.Char.{is_ascii_digit};
 ghost use Rattle.std.specs.Str.Parse.{AllDigits, digits_value};
 ghost use Rattle.gb_types.specs.Words.{words_of};
 ghost use Rattle.gb_schedule.specs.Numbers.{IsCutOff, BeginsWithNoNumber, AreNumbers};
@@ -38,58 +39,71 @@ fn cut_word(text: &[u8]) -> (&[u8], Option<&[u8]>)
     (text, None)
 }
 
-/// The number that the first word of a text writes, and what stands behind the space after it, where there is one. None where
-/// it writes no number of 64 bits.
-fn cut_any_number(text: &[u8]) -> Option<(u64, Option<&[u8]>)>
-    ensures some { IfSome result (λ found. IsCutOff text.now found.0 found.1) }
-    ensures none { IfNone result (BeginsWithNoNumber text.now) }
-{
-    let (word, rest) = cut_word(text);
-    let number = read_number(word, u64::MAX)?;
-    Some((number, rest))
-}
+/// Up to so many digits write a number of 64 bits.
+const FIT: usize = 19;
 
-/// The same, where so many digits that begin a text write a number.
+const _: () = prove!(FIT == 19);
+
+/// The digits that a text begins with: the number that they write, where they are so few that it fits, and how many they are.
 #[inline(always)]
-fn cut_behind_digits(text: &[u8], number: u64, digits: usize) -> Option<(u64, Option<&[u8]>)>
-    requires within { digits ≤ length text.now }
-    requires read { AllDigits 10 (take digits text.now) × (digits_value 10 (take digits text.now) ≡ number) }
-    ensures some { IfSome result (λ found. IsCutOff text.now found.0 found.1) }
-    ensures none { IfNone result (BeginsWithNoNumber text.now) }
-{
-    if digits == 0 || (digits > 1 && text[0] == b'0') {
-        return cut_any_number(text);
-    }
-    if digits == text.len() {
-        return Some((number, None));
-    }
-    if text[digits] != b' ' {
-        return cut_any_number(text);
-    }
-    Some((number, Some(&text[digits + 1..])))
-}
-
-/// No digit behind so large a number makes one of more than 64 bits.
-const FITS_ONE_MORE: u64 = 1_844_674_407_370_955_160;
-
-/// The same as `cut_any_number`. One pass over the digits reads those of most numbers; what is left is read word by word.
-#[inline(always)]
-fn cut_number(text: &[u8]) -> Option<(u64, Option<&[u8]>)>
-    ensures some { IfSome result (λ found. IsCutOff text.now found.0 found.1) }
-    ensures none { IfNone result (BeginsWithNoNumber text.now) }
+fn front_number(text: &[u8]) -> (u64, usize)
+    ensures within { result.1 ≤ length text.now }
+    ensures digits { AllDigits 10 (take result.1 text.now) }
+    ensures number { result.1 ≤ FIT → digits_value 10 (take result.1 text.now) ≡ result.0 }
+    ensures end { result.1 < length text.now → is_ascii_digit (slice_index text.now result.1) ≡ false }
 {
     let mut number: u64 = 0;
     for place in 0..text.len() {
         let byte = text[place];
         if !byte.is_ascii_digit() {
-            return cut_behind_digits(text, number, place);
+            return (number, place);
         }
-        if number > FITS_ONE_MORE {
-            return cut_any_number(text);
-        }
-        number = number * 10 + u64::from(byte - b'0');
+        number = number.wrapping_mul(10).wrapping_add(u64::from(byte - b'0'));
     }
-    cut_behind_digits(text, number, text.len())
+    (number, text.len())
+}
+
+/// The number that a word spells. Called, not inlined, since few words come here.
+#[inline(never)]
+fn read_word(word: &[u8]) -> Option<u64>
+    ensures { (n : ℕ) → (result ≡ Some n) ↔ ((n ≤ 18446744073709551615) × (word.now ≡ decimal n)) }
+{
+    read_number(word, u64::MAX)
+}
+
+/// The number that so many digits, which a text begins with, spell as a word. `number` is what they write, where they are few.
+#[inline(always)]
+fn number_of(text: &[u8], number: u64, digits: usize) -> Option<u64>
+    requires within { digits ≤ length text.now }
+    requires digits { AllDigits 10 (take digits text.now) }
+    requires number { digits ≤ FIT → digits_value 10 (take digits text.now) ≡ number }
+    ensures { (n : ℕ) → (result ≡ Some n) ↔ ((n ≤ 18446744073709551615) × (take digits text.now ≡ decimal n)) }
+{
+    if digits == 0 || digits > FIT {
+        return read_word(&text[..digits]);
+    }
+    if digits > 1 && text[0] == b'0' {
+        return None;
+    }
+    Some(number)
+}
+
+/// The number that the first word of a text writes, and what stands behind the space after it, where there is one. None where
+/// it writes no number of 64 bits.
+#[inline(always)]
+fn cut_number(text: &[u8]) -> Option<(u64, Option<&[u8]>)>
+    ensures some { IfSome result (λ found. IsCutOff text.now found.0 found.1) }
+    ensures none { IfNone result (BeginsWithNoNumber text.now) }
+{
+    let (number, digits) = front_number(text);
+    if digits == text.len() {
+        return Some((number_of(text, number, digits)?, None));
+    }
+    if text[digits] != b' ' {
+        return None;
+    }
+    let number = number_of(text, number, digits)?;
+    Some((number, Some(&text[digits + 1..])))
 }
 
 /// The numbers that the words of a text write, where these are so many and none is larger than what stands at its place.
