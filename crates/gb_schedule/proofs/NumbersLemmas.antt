@@ -1,20 +1,20 @@
 -- The numbers that the words of a text write, read one after the other.
-use Rattle.std.proofs.Common.{◌≡◌, ◌↔◌, ◌==◌, ◌⊎◌, ◌*◌, ◌-◌, ◌%◌, ℕ, zero, suc, ◌+◌, ◌<◌, ◌≤◌, ◌^◌, List, [], ◌∷◌, ◌++◌, Option, Some, None, length, take, drop, set, get_or, map, decimal, refl, sym, ap, ◌∙◌, subst, append_assoc, length-drop, length-set, slice_index, inl, inr, false, arith}
+use Rattle.std.proofs.Common.{◌≡◌, ◌↔◌, ◌==◌, ◌⊎◌, ◌*◌, ◌-◌, ◌%◌, ℕ, zero, suc, ◌+◌, ◌<◌, ◌≤◌, ◌^◌, List, [], ◌∷◌, ◌++◌, Some, None, length, take, drop, get_or, map, decimal, refl, sym, ap, ◌∙◌, subst, slice_index, inl, inr, false, arith}
 use Rattle.std.specs.Str.Parse.{AllDigits, digits_value}
 use Rattle.std.specs.Int.{IsInRange}
 use Rattle.std.specs.List.{join_with_byte}
-use Rattle.std.proofs.lemmas.Bool.{cases_lt, ne_eqb}
+use Rattle.std.proofs.lemmas.Bool.{cases_lt, cases_eq, ne_eqb}
 use Rattle.std.proofs.lemmas.Nat.{mod-mul-add}
 use Rattle.std.proofs.lemmas.Str.Parse.{digit_at, digits_value_short, numerals_by_value, tells_digits}
 use Rattle.std.proofs.lemmas.Fmt.{decimal_injective, decimal_is_IsNumeral}
-use Rattle.std.proofs.lemmas.List.{take_all, drop_all, take_more_set, drop_more, length-take-le, get_or-take, get_or_append_left, get_or-append-add}
+use Rattle.std.proofs.lemmas.List.{take_all, length-take-le, get_or-take, get_or_append_left, get_or-append-add}
 use Rattle.std.proofs.lemmas.List.Splits.{length-slice_split}
+use Rattle.std.proofs.lemmas.List.Elements.{All-head, All-tail, All-get_or, All-from_get_or}
 use Rattle.gb_types.specs.Words.{words_of}
 use Rattle.gb_types.proofs.NumberLemmas.{BeginsBadly, not_badly, read_more, reads_back}
 use Rattle.gb_types.proofs.WordLemmas.{each_line_is_its_words}
-use Rattle.gb_types.proofs.ReadLemmas.{Reads, reads_one, some_same}
-use denote.Ref.{Bor}
-use Rattle.gb_schedule.specs.Numbers.{IsCutOff, BeginsWithNoNumber, AreAtMost, AreNumbers}
+use Rattle.gb_types.proofs.ReadLemmas.{Reads, reads_one}
+use Rattle.gb_schedule.specs.Numbers.{BeginsWithNoNumber, AllFit, AreAtMost, AreNumbers}
 use Rattle.gb_schedule.proofs.WordLemmas.{first_space, more_words, last_word}
 
 kept : (x : ℕ) → x < 2 ^ 64 → x % 2 ^ 64 ≡ x
@@ -36,6 +36,13 @@ more_digit text place number next below all value digit is =
           let fits : next ≡ number * 10 + (get_or text place 0 - 48) = is ∙ ap (λ k. (k + (get_or text place 0 - 48)) % 2 ^ 64) tens ∙ whole in
           more.1 ∙ (omega (arith, same, fits)),
     )
+
+-- a first word that spells no number
+pub no_first : (text word : List ℕ) (words : List (List ℕ)) → words_of text ≡ word ∷ words → ((n : ℕ) → (None ≡ Some n) ↔ ((n ≤ 18446744073709551615) × (word ≡ decimal n))) → BeginsWithNoNumber text
+no_first text word words are none n others small is =
+    let same : word ∷ words ≡ decimal n ∷ others = sym are ∙ is in
+    let found : None ≡ Some n = (none n).1 (omega (arith, small), cc) in
+    cc found
 
 -- digits that begin a text
 module _ (text : List ℕ) (digits : ℕ) (within : digits ≤ length text) (all : AllDigits 10 (take digits text)) where
@@ -107,124 +114,44 @@ module _ (text : List ℕ) (digits : ℕ) (within : digits ≤ length text) (all
   no_number below space digit n (next ∷ words) small is =
       another_byte (decimal n) (join_with_byte 32 (next ∷ words)) (decimal_is_IsNumeral n small).0.1 below space digit (inr (sym (each_line_is_its_words text).0 ∙ ap (join_with_byte 32) is))
 
--- a first word that spells no number
-pub no_first : (text word : List ℕ) (words : List (List ℕ)) → words_of text ≡ word ∷ words → ((n : ℕ) → (None ≡ Some n) ↔ ((n ≤ 18446744073709551615) × (word ≡ decimal n))) → BeginsWithNoNumber text
-no_first text word words are none n others small is =
-    let same : word ∷ words ≡ decimal n ∷ others = sym are ∙ is in
-    let found : None ≡ Some n = (none n).1 (omega (arith, small), cc) in
-    cc found
+  -- digits that spell no number begin no number, whatever stands behind them
+  pub no_number_first : (digits < length text → IsInRange 48 57 (get_or text digits 0) → ⊥) → ((n : ℕ) → (None ≡ Some n) ↔ ((n ≤ 18446744073709551615) × (take digits text ≡ decimal n))) → BeginsWithNoNumber text
+  no_number_first end none =
+      elim (cases_lt digits (length text)) [
+        | inl below ↦
+            elim (cases_eq (get_or text digits 0) 32) [
+              | inl space ↦ no_first text (take digits text) (words_of (drop (digits + 1) text)) (next_digits below space) none
+              | inr other ↦ no_number below other (end below)
+            ]
+        | inr all ↦ no_first text (take digits text) [] (last_digits (omega (arith, all, within))) none
+      ]
 
--- a number that was cut off is the first word
-pub first_word : (text : List ℕ) (n : ℕ) (rest : Option (Bor (List ℕ))) → IsCutOff text n rest → (words : List (List ℕ)) × (words_of text ≡ decimal n ∷ words)
-first_word text n None is = ([], is)
-first_word text n (Some rest) is = (words_of rest.now, is)
+abbrev fits : ℕ → Type 0
+fits n = n < 2 ^ 64
 
--- the numbers so far are the first of all that may be found, and those that are left of the text make them whole
-abbrev pub AreFirst : List ℕ → List ℕ → ℕ → List ℕ → List ℕ → Type 0
-AreFirst most text place numbers left =
-    ((ns : List ℕ) → AreNumbers most text ns → (rest : List ℕ) × (ns ≡ take place numbers ++ rest) × AreNumbers (drop place most) left rest)
-    × ((rest : List ℕ) → AreNumbers (drop place most) left rest → AreNumbers most text (take place numbers ++ rest))
+-- where the next word is no number of 64 bits, the words are no such numbers
+pub stops_at : (left front ns : List ℕ) → BeginsWithNoNumber left → AllFit ns → map decimal front ++ words_of left ≡ map decimal ns → ⊥
+stops_at left [] [] none fit is = let some = length-slice_split (λ byte. byte == 32) left in omega (arith, some, ap length is)
+stops_at left [] (n ∷ ns) none fit is = none n (map decimal ns) (All-head fits n ns fit) is
+stops_at left (m ∷ front) [] none fit is = cc is
+stops_at left (m ∷ front) (n ∷ ns) none fit is = stops_at left front ns none (All-tail fits n ns fit) cc
 
--- nothing was read yet
-pub none_so_far : (most text numbers : List ℕ) → AreFirst most text 0 numbers text
-none_so_far most text numbers = (λ ns are. (ns, refl, are), λ rest are. are)
+-- the words of a text are one list of numbers at most
+pub same_numbers : (ns ms : List ℕ) → AllFit ns → AllFit ms → map decimal ns ≡ map decimal ms → ns ≡ ms
+same_numbers [] [] fit_ns fit_ms is = refl
+same_numbers [] (m ∷ ms) fit_ns fit_ms is = cc is
+same_numbers (n ∷ ns) [] fit_ns fit_ms is = cc is
+same_numbers (n ∷ ns) (m ∷ ms) fit_ns fit_ms is =
+    let first : n ≡ m = decimal_injective n m (All-head fits n ns fit_ns) (All-head fits m ms fit_ms) cc in
+    let others : ns ≡ ms = same_numbers ns ms (All-tail fits n ns fit_ns) (All-tail fits m ms fit_ms) cc in
+    ap (λ k. k ∷ ns) first ∙ ap (λ ks. m ∷ ks) others
 
--- the first of the numbers that are left
-first_is : (m : ℕ) (ms left : List ℕ) (number : ℕ) (words : List (List ℕ)) (rest : List ℕ) → m < 2 ^ 64 → number < 2 ^ 64 → words_of left ≡ decimal number ∷ words → AreNumbers (m ∷ ms) left rest
-    → (more : List ℕ) × (rest ≡ number ∷ more) × (number ≤ m) × (words ≡ map decimal more) × AreAtMost ms more
-first_is m ms left number words [] small fits is are = absurd are.1
-first_is m ms left number words (n ∷ more) small fits is are =
-    let le : n ≤ m = are.1.0 in
-    let same : decimal number ∷ words ≡ decimal n ∷ map decimal more = sym is ∙ are.0 in
-    let one : number ≡ n = decimal_injective number n fits (omega (arith, le, small)) cc in
-    (more, ap (λ k. k ∷ more) (sym one), omega (arith, one, le), cc, are.1.1)
-
-module _ (most text : List ℕ) (place : ℕ) (numbers left : List ℕ) (below : place < length most) (small : get_or most place 0 < 2 ^ 64) (first : AreFirst most text place numbers left) where
-  -- the first bound of those that are left
-  abbrev bound : ℕ
-  bound = get_or most place 0
-
-  left_are : (ns : List ℕ) → AreNumbers most text ns → (rest : List ℕ) × (ns ≡ take place numbers ++ rest) × AreNumbers (bound ∷ drop (place + 1) most) left rest
-  left_are ns are =
-      let found = first.0 ns are in
-      (found.0, found.1, subst (λ ms. AreNumbers ms left found.0) (drop_more most place 0 below) found.2)
-
-  -- where the next word is no number, there are none
-  pub no_word : BeginsWithNoNumber left → (ns : List ℕ) → AreNumbers most text ns → ⊥
-  no_word none ns are = let found = left_are ns are in by found.0 found.2
-    where
-      by : (rest : List ℕ) → AreNumbers (bound ∷ drop (place + 1) most) left rest → ⊥
-      by [] is = is.1
-      by (n ∷ more) is = let le : n ≤ bound = is.1.0 in none n (map decimal more) (omega (arith, le, small)) is.0
-
-  module _ (number : ℕ) (fits : number < 2 ^ 64) where
-    -- nor where it is too large
-    pub too_large : (words : List (List ℕ)) → words_of left ≡ decimal number ∷ words → bound < number → (ns : List ℕ) → AreNumbers most text ns → ⊥
-    too_large words is above ns are =
-        let found = left_are ns are in
-        let head = first_is bound (drop (place + 1) most) left number words found.0 small fits is found.2 in
-        let le : number ≤ bound = head.2 in
-        omega (arith, le, above)
-
-    -- nor where it is the last word, and more are wanted
-    pub too_few : words_of left ≡ decimal number ∷ [] → place + 1 < length most → (ns : List ℕ) → AreNumbers most text ns → ⊥
-    too_few is more ns are =
-        let found = left_are ns are in
-        let head = first_is bound (drop (place + 1) most) left number [] found.0 small fits is found.2 in
-        by (drop (place + 1) most) head.0 (omega (arith, more, length-drop (place + 1) most)) head.3 head.4
-      where
-        by : (ms rest : List ℕ) → 0 < length ms → [] ≡ map decimal rest → AreAtMost ms rest → ⊥
-        by [] rest some none at_most = omega (arith, some)
-        by (m ∷ ms) [] some none at_most = at_most
-        by (m ∷ ms) (n ∷ rest) some none at_most = cc
-
-    module _ (room : place < length numbers) (le : number ≤ bound) where
-      taken : (rest : List ℕ) → take (place + 1) (set numbers place number) ++ rest ≡ take place numbers ++ number ∷ rest
-      taken rest = ap (λ xs. xs ++ rest) (take_more_set numbers place number room) ∙ append_assoc (take place numbers) (number ∷ []) rest
-
-      -- one more was read, and others stand behind it
-      pub one_more_number : (rest : List ℕ) → words_of left ≡ decimal number ∷ words_of rest → AreFirst most text (place + 1) (set numbers place number) rest
-      one_more_number rest is = (
-        λ ns are.
-            let found = left_are ns are in
-            let head = first_is bound (drop (place + 1) most) left number (words_of rest) found.0 small fits is found.2 in
-            (head.0, found.1 ∙ ap (λ r. take place numbers ++ r) head.1 ∙ sym (taken head.0), (head.3, head.4)),
-        λ more are.
-            let whole : AreNumbers (drop place most) left (number ∷ more) = subst (λ ms. AreNumbers ms left (number ∷ more)) (sym (drop_more most place 0 below)) (is ∙ ap (λ ws. decimal number ∷ ws) are.0, (le, are.1)) in
-            subst (AreNumbers most text) (sym (taken more)) (first.1 (number ∷ more) whole),
-      )
-
-      -- the last was read, and these are all
-      pub all_read : words_of left ≡ decimal number ∷ [] → place + 1 ≡ length most → place + 1 ≡ length numbers → (ns : List ℕ) → (Some (set numbers place number) ≡ Some ns) ↔ AreNumbers most text ns
-      all_read is last full ns =
-          let same_length = length-set numbers place number in
-          let whole : take (place + 1) (set numbers place number) ≡ set numbers place number = take_all (place + 1) (set numbers place number) (omega (arith, full, same_length)) in
-          let all : set numbers place number ≡ take place numbers ++ number ∷ [] = sym whole ∙ take_more_set numbers place number room in
-          let none : drop (place + 1) most ≡ [] = drop_all (place + 1) most (omega (arith, last)) in
-          let bounds : bound ∷ drop (place + 1) most ≡ bound ∷ [] = ap (λ ms. bound ∷ ms) none in
-          let here : AreNumbers (drop place most) left (number ∷ []) = subst (λ ms. AreNumbers ms left (number ∷ [])) (sym (drop_more most place 0 below ∙ bounds)) (is, (le, tt)) in
-          let are : AreNumbers most text (set numbers place number) = subst (AreNumbers most text) (sym all) (first.1 (number ∷ []) here) in (
-            λ e. subst (AreNumbers most text) (some_same (set numbers place number) ns e) are,
-            λ others.
-                let found = left_are ns others in
-                let head = first_is bound (drop (place + 1) most) left number [] found.0 small fits is found.2 in
-                let alone : head.0 ≡ [] = no_more head.0 head.3 in
-                ap Some (all ∙ sym (found.1 ∙ ap (λ r. take place numbers ++ r) (head.1 ∙ ap (λ r. number ∷ r) alone))),
-          )
-        where
-          no_more : (rest : List ℕ) → [] ≡ map decimal rest → rest ≡ []
-          no_more [] e = refl
-          no_more (n ∷ rest) e = cc
-
--- where all are read and words are left, there are none
-pub too_many_numbers : (most text : List ℕ) (place : ℕ) (numbers left : List ℕ) → length most ≤ place → AreFirst most text place numbers left → (ns : List ℕ) → AreNumbers most text ns → ⊥
-too_many_numbers most text place numbers left all first ns are =
-    let found = first.0 ns are in
-    by found.0 (subst (λ ms. AreNumbers ms left found.0) (drop_all place most all) found.2)
-  where
-    by : (rest : List ℕ) → AreNumbers [] left rest → ⊥
-    by [] is = let some = length-slice_split (λ byte. byte == 32) left in omega (arith, some, ap length is.0)
-    by (n ∷ rest) is = is.1
+-- numbers within bounds are as many, and of 64 bits where the bounds are
+pub as_many : (most ns : List ℕ) → AreAtMost most ns → length ns ≡ length most
+as_many [] [] are = refl
+as_many [] (n ∷ ns) are = absurd are
+as_many (m ∷ most) [] are = absurd are
+as_many (m ∷ most) (n ∷ ns) are = ap suc (as_many most ns are.1)
 
 -- each number is at most its bound
 pub within : (most ns : List ℕ) (k : ℕ) → AreAtMost most ns → get_or ns k 0 ≤ get_or most k 0
@@ -233,3 +160,31 @@ within [] (n ∷ ns) k are = absurd are
 within (m ∷ most) [] k are = absurd are
 within (m ∷ most) (n ∷ ns) zero are = are.0
 within (m ∷ most) (n ∷ ns) (suc k) are = within most ns k are.1
+
+pub at_most_fit : (most ns : List ℕ) → AllFit most → AreAtMost most ns → AllFit ns
+at_most_fit most ns fit are =
+    let count = as_many most ns are in
+    All-from_get_or fits ns 0 (λ k below. let bound = All-get_or fits most k 0 (omega (arith, below, count)) fit in let le = within most ns k are in omega (arith, bound, le))
+
+pub each_at_most : (most ns : List ℕ) → length ns ≡ length most → ((k : ℕ) → k < length most → get_or ns k 0 ≤ get_or most k 0) → AreAtMost most ns
+each_at_most [] [] count le = tt
+each_at_most [] (n ∷ ns) count le = cc count
+each_at_most (m ∷ most) [] count le = cc count
+each_at_most (m ∷ most) (n ∷ ns) count le = (le 0 (omega arith), each_at_most most ns (omega (arith, count)) (λ k below. le (suc k) (omega (arith, below))))
+
+-- numbers that the words of a text write, none above its bound, are all that are to be found; where one is above, there are none
+module _ (most text ms : List ℕ) (fit_most : AllFit most) (fit : AllFit ms) (words : map decimal ms ≡ words_of text) where
+  they_are : (ns : List ℕ) → AreNumbers most text ns → ms ≡ ns
+  they_are ns are = same_numbers ms ns fit (at_most_fit most ns fit_most are.1) (words ∙ are.0)
+
+  pub all_read : AreAtMost most ms → Reads (AreNumbers most text) ms
+  all_read le = reads_one (AreNumbers most text) ms (sym words, le) they_are
+
+  pub too_large : (place : ℕ) → get_or most place 0 < get_or ms place 0 → (ns : List ℕ) → AreNumbers most text ns → ⊥
+  too_large place above ns are =
+      let le = within most ns place are.1 in
+      let same = ap (λ xs. get_or xs place 0) (they_are ns are) in
+      omega (arith, above, le, same)
+
+  pub other_count : (length most ≡ length ms → ⊥) → (ns : List ℕ) → AreNumbers most text ns → ⊥
+  other_count other ns are = other (sym (ap length (they_are ns are) ∙ as_many most ns are.1))

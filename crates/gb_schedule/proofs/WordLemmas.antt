@@ -5,7 +5,6 @@ use Rattle.std.proofs.lemmas.List.Sums.{position_or_len_is, prefix_len_passes}
 use Rattle.std.proofs.lemmas.List.Splits.{slice_split_first, slice_split_none, length-slice_split}
 use Rattle.std.proofs.lemmas.List.{take_more_set, map-append, length-map, take_all}
 use Rattle.gb_types.specs.Words.{words_of}
-use denote.Ref.{Bor}
 
 -- the first space of a text
 pub first_space : (text : List ℕ) (place : ℕ) → place ≤ length text → ((k : ℕ) → k < place → (slice_index text k == 32) ≡ false)
@@ -28,35 +27,31 @@ last_word text all =
     slice_split_none (λ byte. byte == 32) text
     (λ k d lt. not_true (get_or text k d == 32) (prefix_len_passes (λ byte. not (byte == 32)) text k d (omega (arith, lt, all))))
 
--- words that stand in an array up to a place, and one more at that place
-one_more : (words : List (Bor (List ℕ))) (place : ℕ) (word : Bor (List ℕ)) → place < length words
-    → map (λ w. w.now) (take (place + 1) (set words place word)) ≡ map (λ w. w.now) (take place words) ++ word.now ∷ []
-one_more words place word below = ap (map (λ w. w.now)) (take_more_set words place word below) ∙ map-append (λ w. w.now) (take place words) (word ∷ [])
+-- what stands in an array up to a place is read as words: one more at that place, the words so far in front of those that are left
+module _ {X : Type 0} (word_of : X → List ℕ) (words : List X) (place : ℕ) where
+  one_more : (word : X) → place < length words → map word_of (take (place + 1) (set words place word)) ≡ map word_of (take place words) ++ word_of word ∷ []
+  one_more word below = ap (map word_of) (take_more_set words place word below) ∙ map-append word_of (take place words) (word ∷ [])
 
--- the words so far stand in front of those that are left, after one more was put down
-pub goes_on : (words : List (Bor (List ℕ))) (place : ℕ) (word : Bor (List ℕ)) (line left rest : List ℕ) → place < length words
-    → map (λ w. w.now) (take place words) ++ words_of left ≡ words_of line → words_of left ≡ word.now ∷ words_of rest
-    → map (λ w. w.now) (take (place + 1) (set words place word)) ++ words_of rest ≡ words_of line
-goes_on words place word line left rest below so_far split =
-    ap (λ ws. ws ++ words_of rest) (one_more words place word below)
-    ∙ append_assoc (map (λ w. w.now) (take place words)) (word.now ∷ []) (words_of rest)
-    ∙ ap (λ ws. map (λ w. w.now) (take place words) ++ ws) (sym split)
-    ∙ so_far
+  -- after one more was put down
+  pub goes_on : (word : X) (line left rest : List ℕ) → place < length words → map word_of (take place words) ++ words_of left ≡ words_of line → words_of left ≡ word_of word ∷ words_of rest
+      → map word_of (take (place + 1) (set words place word)) ++ words_of rest ≡ words_of line
+  goes_on word line left rest below so_far split =
+      ap (λ ws. ws ++ words_of rest) (one_more word below)
+      ∙ append_assoc (map word_of (take place words)) (word_of word ∷ []) (words_of rest)
+      ∙ ap (λ ws. map word_of (take place words) ++ ws) (sym split)
+      ∙ so_far
 
--- the last word makes them all
-pub ends : (words : List (Bor (List ℕ))) (place : ℕ) (word : Bor (List ℕ)) (line left : List ℕ) → place < length words
-    → map (λ w. w.now) (take place words) ++ words_of left ≡ words_of line → words_of left ≡ word.now ∷ []
-    → map (λ w. w.now) (take (place + 1) (set words place word)) ≡ words_of line
-ends words place word line left below so_far last =
-    one_more words place word below ∙ ap (λ ws. map (λ w. w.now) (take place words) ++ ws) (sym last) ∙ so_far
+  -- the last word makes them all
+  pub ends : (word : X) (line left : List ℕ) → place < length words → map word_of (take place words) ++ words_of left ≡ words_of line → words_of left ≡ word_of word ∷ []
+      → map word_of (take (place + 1) (set words place word)) ≡ words_of line
+  ends word line left below so_far last = one_more word below ∙ ap (λ ws. map word_of (take place words) ++ ws) (sym last) ∙ so_far
 
--- where an array is full and a text is left, the line has more words
-pub too_many : (words : List (Bor (List ℕ))) (place : ℕ) (line left : List ℕ) → length words ≤ place
-    → map (λ w. w.now) (take place words) ++ words_of left ≡ words_of line → length words < length (words_of line)
-too_many words place line left all so_far =
-    let whole = ap length so_far in
-    let parts = length-append (map (λ w. w.now) (take place words)) (words_of left) in
-    let front = length-map (take place words) (λ w. w.now) in
-    let taken = ap length (take_all place words all) in
-    let behind = length-slice_split (λ byte. byte == 32) left in
-    omega (arith, whole, parts, front, taken, behind)
+  -- where an array is full and a text is left, the line has more words
+  pub too_many : (line left : List ℕ) → length words ≤ place → map word_of (take place words) ++ words_of left ≡ words_of line → length words < length (words_of line)
+  too_many line left all so_far =
+      let whole = ap length so_far in
+      let parts = length-append (map word_of (take place words)) (words_of left) in
+      let front = length-map (take place words) word_of in
+      let taken = ap length (take_all place words all) in
+      let behind = length-slice_split (λ byte. byte == 32) left in
+      omega (arith, whole, parts, front, taken, behind)

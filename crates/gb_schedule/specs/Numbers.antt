@@ -1,16 +1,19 @@
 -- The numbers that the words of a text write.
-use Rattle.std.specs.Prelude.{◌≡◌, ℕ, ◌<◌, ◌≤◌, ◌^◌, List, [], ◌∷◌, map, Option, Some, None, decimal}
-use denote.Ref.{Bor}
+use Rattle.std.specs.Prelude.{◌≡◌, ℕ, ◌<◌, ◌≤◌, ◌^◌, List, [], ◌∷◌, length, drop, map, All, Option, Some, None, decimal}
 use Rattle.gb_types.specs.Words.{words_of}
 
--- the first word of a text is a number, and this is what stands behind the space after it, where there is one
-abbrev pub IsCutOff : List ℕ → ℕ → Option (Bor (List ℕ)) → Type 0
-IsCutOff text n None = words_of text ≡ decimal n ∷ []
-IsCutOff text n (Some rest) = words_of text ≡ decimal n ∷ words_of rest.now
+-- the word at a place of a text is a number, and this is where the next word stands, if there is one
+abbrev pub IsNumberAt : List ℕ → ℕ → ℕ → Option ℕ → Type 0
+IsNumberAt text from n None = words_of (drop from text) ≡ decimal n ∷ []
+IsNumberAt text from n (Some next) = (next ≤ length text) × (words_of (drop from text) ≡ decimal n ∷ words_of (drop next text))
 
 -- the first word of a text is no number of 64 bits
 abbrev pub BeginsWithNoNumber : List ℕ → Type 0
 BeginsWithNoNumber text = (n : ℕ) (words : List (List ℕ)) → n < 2 ^ 64 → words_of text ≡ decimal n ∷ words → ⊥
+
+-- these are numbers of 64 bits
+abbrev pub AllFit : List ℕ → Type 0
+AllFit ns = All (λ n. n < 2 ^ 64) ns
 
 -- there are as many numbers as bounds, and none is larger than its own
 abbrev pub AreAtMost : List ℕ → List ℕ → Type 0

@@ -108,6 +108,7 @@ impl Keys {
     }
 
     /// The token of a group's member at a node.
+    #[inline(always)]
     pub fn member(&mut self, address: Addr, node: NodeId) -> Token
         ensures { result ≡ member_token address node }
     {
@@ -116,9 +117,21 @@ impl Keys {
             node: node.number,
         };
         let place = place_of(address.tenant, address.group, node.number);
-        if let Some(token) = self.kept(&member, place) {
-            return token;
+        match self.kept(&member, place) {
+            Some(token) => token,
+            None => self.make(address, node, place),
         }
+    }
+
+    /// Makes a member's token and keeps it at a place. Called, not inlined: few lines are the first to name a member.
+    #[inline(never)]
+    fn make(&mut self, address: Addr, node: NodeId, place: usize) -> Token
+        ensures { result ≡ member_token address node }
+    {
+        let member = GroupMember {
+            address,
+            node: node.number,
+        };
         let need = Need::Member(address.tenant, address.group, node);
         let token = self.token(address.tenant, need);
         self.keep(MemberToken { member, token }, place);
@@ -126,6 +139,7 @@ impl Keys {
     }
 
     /// The token of a member, where it is kept at a place.
+    #[inline(always)]
     fn kept(&self, member: &GroupMember, place: usize) -> Option<Token>
         ensures { IfSome result (IsMemberToken member.now) }
     {

@@ -1,10 +1,10 @@
 //! The words of a line, with no memory taken.
-ghost use Rattle.std.specs.Prelude.{◌≡◌, ◌≤◌, ◌<◌, ◌==◌, ◌∷◌, ◌↔◌, ℕ, List, [], Some, false, length, slice_index, decimal, map, take, IfSome, IfNone};
+ghost use Rattle.std.specs.Prelude.{◌≡◌, ◌≤◌, ◌<◌, ◌==◌, ◌∷◌, ◌↔◌, ℕ, List, [], Some, false, length, slice_index, decimal, map, take, drop, IfSome, IfNone};
 ghost use Rattle.std.specs.List.{position_or_len};
 ghost use Rattle.std.specs.Char.{is_ascii_digit};
 ghost use Rattle.std.specs.Str.Parse.{AllDigits, digits_value};
 ghost use Rattle.gb_types.specs.Words.{words_of};
-ghost use Rattle.gb_schedule.specs.Numbers.{IsCutOff, BeginsWithNoNumber, AreNumbers};
+ghost use Rattle.gb_schedule.specs.Numbers.{IsNumberAt, BeginsWithNoNumber, AllFit, AreNumbers};
 
 use gb_types::number::read_number;
 
@@ -44,23 +44,25 @@ const FIT: usize = 19;
 
 const _: () = prove!(FIT == 19);
 
-/// The digits that a text begins with: the number that they write, where they are so few that it fits, and how many they are.
+/// The digits that stand in a text from a place on: the number that they write, where they are so few that it fits, and how many
+/// they are.
 #[inline(always)]
-fn front_number(text: &[u8]) -> (u64, usize)
-    ensures within { result.1 ≤ length text.now }
-    ensures digits { AllDigits 10 (take result.1 text.now) }
-    ensures number { result.1 ≤ FIT → digits_value 10 (take result.1 text.now) ≡ result.0 }
-    ensures end { result.1 < length text.now → is_ascii_digit (slice_index text.now result.1) ≡ false }
+fn digits_at(text: &[u8], from: usize) -> (u64, usize)
+    requires { from ≤ length text.now }
+    ensures within { result.1 ≤ length (drop from text.now) }
+    ensures digits { AllDigits 10 (take result.1 (drop from text.now)) }
+    ensures number { result.1 ≤ FIT → digits_value 10 (take result.1 (drop from text.now)) ≡ result.0 }
+    ensures end { result.1 < length (drop from text.now) → is_ascii_digit (slice_index (drop from text.now) result.1) ≡ false }
 {
     let mut number: u64 = 0;
-    for place in 0..text.len() {
+    for place in from..text.len() {
         let byte = text[place];
         if !byte.is_ascii_digit() {
-            return (number, place);
+            return (number, place - from);
         }
         number = number.wrapping_mul(10).wrapping_add(u64::from(byte - b'0'));
     }
-    (number, text.len())
+    (number, text.len() - from)
 }
 
 /// The number that a word spells. Called, not inlined, since few words come here.
@@ -71,59 +73,90 @@ fn read_word(word: &[u8]) -> Option<u64>
     read_number(word, u64::MAX)
 }
 
-/// The number that so many digits, which a text begins with, spell as a word. `number` is what they write, where they are few.
+/// The number that so many digits, which stand in a text from a place on, spell as a word. `number` is what they write, where
+/// they are few.
 #[inline(always)]
-fn number_of(text: &[u8], number: u64, digits: usize) -> Option<u64>
-    requires within { digits ≤ length text.now }
-    requires digits { AllDigits 10 (take digits text.now) }
-    requires number { digits ≤ FIT → digits_value 10 (take digits text.now) ≡ number }
-    ensures { (n : ℕ) → (result ≡ Some n) ↔ ((n ≤ 18446744073709551615) × (take digits text.now ≡ decimal n)) }
+fn number_of(text: &[u8], from: usize, digits: usize, number: u64) -> Option<u64>
+    requires from { from ≤ length text.now }
+    requires within { digits ≤ length (drop from text.now) }
+    requires digits { AllDigits 10 (take digits (drop from text.now)) }
+    requires number { digits ≤ FIT → digits_value 10 (take digits (drop from text.now)) ≡ number }
+    ensures { (n : ℕ) → (result ≡ Some n) ↔ ((n ≤ 18446744073709551615) × (take digits (drop from text.now) ≡ decimal n)) }
 {
-    if digits == 0 || digits > FIT {
-        return read_word(&text[..digits]);
+    match digits {
+        1 => Some(number),
+        2..=FIT => if text[from] == b'0' {
+            None
+        } else {
+            Some(number)
+        },
+        _ => read_word(&text[from..from + digits]),
     }
-    if digits > 1 && text[0] == b'0' {
-        return None;
-    }
-    Some(number)
 }
 
-/// The number that the first word of a text writes, and what stands behind the space after it, where there is one. None where
-/// it writes no number of 64 bits.
+/// The number that a word writes, which stands in a text from a place on, and where the next word stands, if there is one. None
+/// where it writes no number of 64 bits.
 #[inline(always)]
-fn cut_number(text: &[u8]) -> Option<(u64, Option<&[u8]>)>
-    ensures some { IfSome result (λ found. IsCutOff text.now found.0 found.1) }
-    ensures none { IfNone result (BeginsWithNoNumber text.now) }
+fn number_at(text: &[u8], from: usize) -> Option<(u64, Option<usize>)>
+    requires { from ≤ length text.now }
+    ensures some { IfSome result (λ found. IsNumberAt text.now from found.0 found.1) }
+    ensures none { IfNone result (BeginsWithNoNumber (drop from text.now)) }
 {
-    let (number, digits) = front_number(text);
-    if digits == text.len() {
-        return Some((number_of(text, number, digits)?, None));
+    let (number, digits) = digits_at(text, from);
+    let number = number_of(text, from, digits, number)?;
+    let end = from + digits;
+    if end == text.len() {
+        return Some((number, None));
     }
-    if text[digits] != b' ' {
+    if text[end] != b' ' {
         return None;
     }
-    let number = number_of(text, number, digits)?;
-    Some((number, Some(&text[digits + 1..])))
+    Some((number, Some(end + 1)))
 }
 
-/// The numbers that the words of a text write, where these are so many and none is larger than what stands at its place.
-pub fn numbers_in<const N: usize>(text: &[u8], most: [u64; N]) -> Option<[u64; N]>
-    ensures { (ns : List ℕ) → (result ≡ Some ns) ↔ AreNumbers most.entry text.now ns }
+/// The most numbers that are read of a text.
+const NUMBERS: usize = 5;
+
+const _: () = prove!(NUMBERS == 5);
+
+/// Puts the numbers that the words of a text write into an array, and says how many these are; None where a word writes no number
+/// of 64 bits, or where there are more than fit. Called, not inlined: the readers of all steps share it.
+#[inline(never)]
+fn find_numbers(text: &[u8], numbers: &mut [u64; NUMBERS]) -> Option<usize>
+    ensures found { IfSome result (λ count. (count ≤ length numbers.new) × AllFit (take count numbers.new) × (map decimal (take count numbers.new) ≡ words_of text.now)) }
+    ensures none { IfNone result ((ns : List ℕ) → AllFit ns → length ns ≤ NUMBERS → words_of text.now ≡ map decimal ns → ⊥) }
 {
-    let mut numbers = [0; N];
-    let mut left = text;
-    for place in 0..N {
-        let (number, behind) = cut_number(left)?;
-        if number > most[place] {
-            return None;
-        }
+    let mut from = 0;
+    for place in 0..NUMBERS {
+        let (number, next) = number_at(text, from)?;
         numbers[place] = number;
-        match behind {
-            Some(rest) => left = rest,
-            None => return if place + 1 == N { Some(numbers) } else { None },
+        match next {
+            Some(start) => from = start,
+            None => return Some(place + 1),
         }
     }
     None
+}
+
+/// The numbers that the words of a text write, where these are so many and none is larger than what stands at its place.
+#[inline(always)]
+pub fn numbers_in<const N: usize>(text: &[u8], most: [u64; N]) -> Option<[u64; N]>
+    requires { N ≤ NUMBERS }
+    ensures { (ns : List ℕ) → (result ≡ Some ns) ↔ AreNumbers most.entry text.now ns }
+{
+    let mut found = [0; NUMBERS];
+    let count = find_numbers(text, &mut found)?;
+    if count != N {
+        return None;
+    }
+    let mut numbers = [0; N];
+    for place in 0..N {
+        if found[place] > most[place] {
+            return None;
+        }
+        numbers[place] = found[place];
+    }
+    Some(numbers)
 }
 
 /// Puts the words of a line into an array, and says how many these are; None where the line has more than fit.

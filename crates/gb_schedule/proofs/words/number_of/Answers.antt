@@ -1,18 +1,25 @@
-use Rattle.std.proofs.Common.{◌≡◌, ◌<◌, get_or, arith}
+use Rattle.std.proofs.Common.{◌≡◌, ◌∙◌, drop, get_or, ap, sym, arith}
+use Rattle.std.proofs.lemmas.List.{get_or-drop}
 use Rattle.gb_schedule.proofs.NumbersLemmas.{zero_first, digits_spell}
 use Rattle.gb_schedule.proofs.words.number_of.Goals as goal
-use Rattle.gb_schedule.proofs.words.number_of.Goals.{else-digits-gt1-via-then-digits-gt1+else-text-eq48, else-digits-gt1-via-else-digits-gt1}
 
-pub returns-then-text-eq48 : goal.returns-then-text-eq48
-returns-then-text-eq48 c n = (
-  λ is. cc is,
-  λ spelt. absurd (zero_first c.args.text.now c.args.digits c.requires.within c.requires.digits c.if-digits-gt1.true c.if-text-eq48.true n (let le = spelt.0 in omega (arith, le)) spelt.1),
-)
+pub returns-in-1 : goal.returns-in-1
+returns-in-1 c =
+    let one = c.in-1.is in
+    digits_spell (drop c.args.from c.args.text.now) c.args.digits c.requires.within c.requires.digits c.args.number c.ranges.number.fits (c.requires.number (omega (arith, one))) (omega (arith, one)) (λ more begin. omega (arith, more, one))
 
-pub returns : goal.returns
-returns c =
-    let some = c.if-digits-eq0.false in
-    let few = c.if-digits-gt-FIT.false in
-    let well : 1 < c.args.digits → get_or c.args.text.now 0 0 ≡ 48 → ⊥ =
-    elim c.else-digits-gt1.branch [ else-digits-gt1-via-then-digits-gt1+else-text-eq48 w ↦ (λ more. w.if-text-eq48.false) | else-digits-gt1-via-else-digits-gt1 w ↦ (λ more begin. let one = w.if-digits-gt1.false in omega (arith, one, more)) ] in
-    digits_spell c.args.text.now c.args.digits c.requires.within c.requires.digits c.args.number c.ranges.number.fits (c.requires.number few) (omega (arith, some)) well
+pub returns-then-text-from-eq48 : goal.returns-then-text-from-eq48
+returns-then-text-from-eq48 c n =
+    let front = drop c.args.from c.args.text.now in
+    let range = c.in-2-to-19 in
+    let zero : get_or front 0 0 ≡ 48 = get_or-drop c.args.from c.args.text.now 0 0 ∙ ap (λ k. get_or c.args.text.now k 0) (omega arith) ∙ c.if-text-from-eq48.true in (
+      λ is. cc is,
+      λ spelt. absurd (zero_first front c.args.digits c.requires.within c.requires.digits (omega (arith, range)) zero n (let le = spelt.0 in omega (arith, le)) spelt.1),
+    )
+
+pub returns-else-text-from-eq48 : goal.returns-else-text-from-eq48
+returns-else-text-from-eq48 c =
+    let front = drop c.args.from c.args.text.now in
+    let range = c.in-2-to-19 in
+    let here : get_or c.args.text.now c.args.from 0 ≡ get_or front 0 0 = ap (λ k. get_or c.args.text.now k 0) (omega arith) ∙ sym (get_or-drop c.args.from c.args.text.now 0 0) in
+    digits_spell front c.args.digits c.requires.within c.requires.digits c.args.number c.ranges.number.fits (c.requires.number (omega (arith, range))) (omega (arith, range)) (λ more begin. c.if-text-from-eq48.false (here ∙ begin))

@@ -1,60 +1,62 @@
-use Rattle.std.proofs.Common.{◌<◌, ◌^◌, ◌∙◌, length, length-set, get_or, sym, rules, arith}
-use Rattle.gb_schedule.proofs.NumbersLemmas.{first_word, no_word, too_large, too_few, one_more_number, all_read, too_many_numbers}
+use Rattle.std.proofs.Common.{◌≡◌, ◌≤◌, ◌<◌, ◌^◌, ◌∙◌, ℕ, length, take, get_or, sym, ap, subst, rules, arith}
+use Rattle.std.proofs.lemmas.List.{take_all, get_or-take, length-take-le}
+use Rattle.std.proofs.lemmas.List.Elements.{All-from_get_or}
+use Rattle.gb_types.proofs.ReadLemmas.{Reads}
+use Rattle.gb_schedule.specs.Numbers.{AllFit, AreNumbers}
+use Rattle.gb_schedule.proofs.NumbersLemmas.{as_many, at_most_fit, each_at_most, all_read, too_large, other_count}
 use Rattle.gb_schedule.proofs.words.numbers_in.Goals as goal
 
-pub returns-in_err-number : goal.returns-in_err-number
-returns-in_err-number g c ns =
-    let below : c.loop-place.place < length c.args.most = search rules in
-    let small : get_or c.args.most c.loop-place.place 0 < 2 ^ 64 = search rules in (
+pub returns-in_err-count : goal.returns-in_err-count
+returns-in_err-count g c ns =
+    let bounds : length c.args.most ≡ g.row.N = search rules in
+    let few = c.requires in
+    let fit : AllFit c.args.most = All-from_get_or (λ n. n < 2 ^ 64) c.args.most 0 (λ k below. search rules) in (
       λ is. cc (is, c.from_residual.ensures),
-      λ are. absurd (no_word c.args.most c.args.text.now c.loop-place.place c.loop-place.numbers c.loop-place.left.now below small c.loop-place.invariant.1 c.in_err-number.ensures.none ns are),
+      λ are. let count = as_many c.args.most ns are.1 in absurd (c.in_err-count.ensures.none ns (at_most_fit c.args.most ns fit are.1) (omega (arith, count, bounds, few)) are.0),
     )
 
-pub returns-then-number-most : goal.returns-then-number-most
-returns-then-number-most g c ns =
-    let below : c.loop-place.place < length c.args.most = search rules in
-    let small : get_or c.args.most c.loop-place.place 0 < 2 ^ 64 = search rules in
-    let fits : c.in_ok-number.number < 2 ^ 64 = search rules in
-    let word = first_word c.loop-place.left.now c.in_ok-number.number c.in_ok-number.behind c.in_ok-number.ensures.some in (
+pub returns-then-count : goal.returns-then-count
+returns-then-count g c ns =
+    let bounds : length c.args.most ≡ g.row.N = search rules in
+    let words = c.in_ok-count.ensures.found in
+    let ms = take c.in_ok-count.count c.find_numbers.new.numbers in
+    let fit : AllFit c.args.most = All-from_get_or (λ n. n < 2 ^ 64) c.args.most 0 (λ k below. search rules) in
+    let count = length-take-le c.in_ok-count.count c.find_numbers.new.numbers words.0 in
+    let other = c.if-count.true in (
       λ is. cc is,
-      λ are. absurd (too_large c.args.most c.args.text.now c.loop-place.place c.loop-place.numbers c.loop-place.left.now below small c.loop-place.invariant.1 c.in_ok-number.number fits word.0 word.1 c.if-number-most.true ns are),
+      λ are. absurd (other_count c.args.most c.args.text.now ms fit words.1 words.2 (λ same. omega (arith, same, bounds, count, other)) ns are),
     )
 
-pub returns-then-place : goal.returns-then-place
-returns-then-place g c =
-    let below : c.loop-place.place < length c.args.most = search rules in
-    let small : get_or c.args.most c.loop-place.place 0 < 2 ^ 64 = search rules in
-    let fits : c.in_ok-number.number < 2 ^ 64 = search rules in
-    let same = c.loop-place.invariant.0 in
-    let test = c.loop-place-test.true in
-    let room : c.loop-place.place < length c.loop-place.numbers = omega (arith, same, test) in
-    all_read c.args.most c.args.text.now c.loop-place.place c.loop-place.numbers c.loop-place.left.now below small c.loop-place.invariant.1 c.in_ok-number.number fits room c.if-number-most.false
-    (rw c.in-None.is at c.in_ok-number.ensures.some) (search rules) (c.if-place.true ∙ sym same)
-
-pub returns-else-place : goal.returns-else-place
-returns-else-place g c ns =
-    let below : c.loop-place.place < length c.args.most = search rules in
-    let small : get_or c.args.most c.loop-place.place 0 < 2 ^ 64 = search rules in
-    let fits : c.in_ok-number.number < 2 ^ 64 = search rules in (
+pub returns-then-found-place : goal.returns-then-found-place
+returns-then-found-place g c ns =
+    let words = c.in_ok-count.ensures.found in
+    let found = c.find_numbers.new.numbers in
+    let place = c.loop-place.place in
+    let below = c.loop-place-test.true in
+    let all = c.if-count.false in
+    let above = c.if-found-place.true in
+    let fit : AllFit c.args.most = All-from_get_or (λ n. n < 2 ^ 64) c.args.most 0 (λ k below. search rules) in
+    let same : get_or (take c.in_ok-count.count found) place 0 ≡ get_or found place 0 = get_or-take c.in_ok-count.count found place 0 (omega (arith, below, all)) in (
       λ is. cc is,
-      λ are. absurd (too_few c.args.most c.args.text.now c.loop-place.place c.loop-place.numbers c.loop-place.left.now below small c.loop-place.invariant.1 c.in_ok-number.number fits (rw c.in-None.is at c.in_ok-number.ensures.some) (search rules) ns are),
-    )
-
-pub loop-place-preserved : goal.loop-place-preserved
-loop-place-preserved g c =
-    let below : c.loop-place.place < length c.args.most = search rules in
-    let small : get_or c.args.most c.loop-place.place 0 < 2 ^ 64 = search rules in
-    let fits : c.in_ok-number.number < 2 ^ 64 = search rules in
-    let same = c.loop-place.invariant.0 in
-    let test = c.loop-place-test.true in
-    let room : c.loop-place.place < length c.loop-place.numbers = omega (arith, same, test) in (
-      length-set c.loop-place.numbers c.loop-place.place c.in_ok-number.number ∙ same,
-      one_more_number c.args.most c.args.text.now c.loop-place.place c.loop-place.numbers c.loop-place.left.now below small c.loop-place.invariant.1 c.in_ok-number.number fits room c.if-number-most.false c.in-Some.rest.now
-          (rw c.in-Some.is at c.in_ok-number.ensures.some),
+      λ are. absurd (too_large c.args.most c.args.text.now (take c.in_ok-count.count found) fit words.1 words.2 place (omega (arith, above, same)) ns are),
     )
 
 pub returns : goal.returns
-returns g c ns = (
-  λ is. cc is,
-  λ are. absurd (too_many_numbers c.args.most c.args.text.now c.loop-place.place c.loop-place.numbers c.loop-place.left.now (search rules) c.loop-place.invariant.1 ns are),
-)
+returns g c =
+    let words = c.in_ok-count.ensures.found in
+    let found = c.find_numbers.new.numbers in
+    let count = c.in_ok-count.count in
+    let numbers = c.loop-place.numbers in
+    let bounds : length c.args.most ≡ g.row.N = search rules in
+    let all = c.if-count.false in
+    let end = c.loop-place-test.false in
+    let high = c.loop-place.auto.place-end in
+    let size = c.loop-place.invariant.0 in
+    let fit : AllFit c.args.most = All-from_get_or (λ n. n < 2 ^ 64) c.args.most 0 (λ k below. search rules) in
+    let long = length-take-le count found words.0 in
+    let each : (k : ℕ) → k < length c.args.most → get_or (take count found) k 0 ≤ get_or c.args.most k 0 =
+    λ k below. let same = get_or-take count found k 0 (omega (arith, below, bounds, all)) in let le = c.loop-place.invariant.2 k (omega (arith, below, bounds, end)) in omega (arith, same, le) in
+    let whole : take c.loop-place.place numbers ≡ numbers = take_all c.loop-place.place numbers (omega (arith, size, end)) in
+    let at : c.loop-place.place ≡ count = omega (arith, end, high, all) in
+    let same : take count found ≡ numbers = ap (λ n. take n found) (sym at) ∙ sym c.loop-place.invariant.1 ∙ whole in
+    subst (Reads (AreNumbers c.args.most c.args.text.now)) same (all_read c.args.most c.args.text.now (take count found) fit words.1 words.2 (each_at_most c.args.most (take count found) (omega (arith, long, bounds, all)) each))

@@ -1,7 +1,0 @@
-use Rattle.std.proofs.Common.{◌≡◌, ◌≤◌, take}
-use Rattle.std.specs.Str.Parse.{AllDigits, digits_value}
-use Rattle.gb_schedule.proofs.words.front_number.Given as goal
-
--- the bytes so far are digits, and while they are few, this is the number that they write
-abbrev pub invariant-loop-place : goal.invariant-loop-place
-invariant-loop-place l = AllDigits 10 (take l.place l.text) × (l.place ≤ 19 → digits_value 10 (take l.place l.text) ≡ l.number)
