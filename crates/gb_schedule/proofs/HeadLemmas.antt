@@ -1,6 +1,6 @@
 -- A line begins with its head: heads are told apart by their words, and a line whose words begin with a head begins with
 -- its bytes and a space.
-use Rattle.std.proofs.Common.{◌≡◌, ◌↔◌, ◌==◌, ◌+◌, ◌*◌, if◌then◌else◌, ℕ, false, true, length, drop, ap₂, List, ◌∷◌, ◌++◌, Option, Some, None, codes, get_or, take, refl, sym, ap, ◌∙◌, subst}
+use Rattle.std.proofs.Common.{◌≡◌, ◌↔◌, ◌==◌, ◌+◌, ◌*◌, if◌then◌else◌, ℕ, suc, false, true, length, drop, ap₂, List, [], ◌∷◌, ◌++◌, Option, Some, None, codes, get_or, take, refl, sym, ap, ◌∙◌, subst}
 use Rattle.std.specs.List.{join_with_byte}
 use Rattle.std.specs.Io.{StartsWith}
 use Rattle.std.specs.Option.{MatchOption, IfSome}
@@ -95,26 +95,46 @@ step_found nodes line head words answer are finds step = (
 begins : (line word next : List ℕ) (words : List (List ℕ)) → words_of line ≡ word ∷ next ∷ words → line ≡ word ++ 32 ∷ join_with_byte 32 (next ∷ words)
 begins line word next words are = sym (each_line_is_its_words line).0 ∙ ap (join_with_byte 32) are
 
--- a line that begins with no step's head spells none
+-- the first byte of a line that begins so
+first_is : (line : List ℕ) (first : ℕ) (rest : List ℕ) (n : ℕ) → take (suc n) line ≡ first ∷ rest → get_or line 0 0 ≡ first
+first_is [] first rest n is = cc (let none : [] ≡ first ∷ rest = is in none)
+first_is (byte ∷ line) first rest n is = cc (let some : byte ∷ take n line ≡ first ∷ rest = is in some)
+
+-- a line that begins with no step's head spells none. Where the first byte is another head's, nothing more is asked
 pub no_step : (nodes : ℕ) (line : List ℕ) (step : Step) (head : Head) (words : List (List ℕ)) → words_of line ≡ head_word head ∷ words → Spells head (Some nodes) (StepCommand step) words
-    → (StartsWith line (codes "arrive ") → ⊥) → (StartsWith line (codes "pack ") → ⊥) → (StartsWith line (codes "ack ") → ⊥) → (StartsWith line (codes "fetch ") → ⊥)
-    → (StartsWith line (codes "tick ") → ⊥) → (StartsWith line (codes "again ") → ⊥) → (StartsWith line (codes "stop ") → ⊥) → ⊥
-no_step nodes line step Cluster words are s arrive pack ack fetch tick again stop = s
-no_step nodes line step Tenant words are s arrive pack ack fetch tick again stop = cc s.command_is
-no_step nodes line step Make words are s arrive pack ack fetch tick again stop = cc s.command_is
-no_step nodes line step Open words are s arrive pack ack fetch tick again stop = cc s.command_is
-no_step nodes line step Shut words are s arrive pack ack fetch tick again stop = cc s.command_is
-no_step nodes line step Drop words are s arrive pack ack fetch tick again stop = cc s.command_is
-no_step nodes line step Say words are s arrive pack ack fetch tick again stop = cc s.command_is
-no_step nodes line step Fetch words are s arrive pack ack fetch tick again stop = fetch (ap (take 6) (begins line _ _ _ (are ∙ ap (λ ws. codes "fetch" ∷ ws) s.words_are)))
-no_step nodes line step Forge words are s arrive pack ack fetch tick again stop = cc s.command_is
-no_step nodes line step Pack words are s arrive pack ack fetch tick again stop = pack (ap (take 5) (begins line _ _ _ (are ∙ ap (λ ws. codes "pack" ∷ ws) s.words_are)))
-no_step nodes line step Again words are s arrive pack ack fetch tick again stop = again (ap (take 6) (begins line _ _ _ (are ∙ ap (λ ws. codes "again" ∷ ws) s.words_are)))
-no_step nodes line step Ack words are s arrive pack ack fetch tick again stop = ack (ap (take 4) (begins line _ _ _ (are ∙ ap (λ ws. codes "ack" ∷ ws) s.words_are)))
-no_step nodes line step Arrive words are s arrive pack ack fetch tick again stop = arrive (ap (take 7) (begins line _ _ _ (are ∙ ap (λ ws. codes "arrive" ∷ ws) s.words_are)))
-no_step nodes line step Noise words are s arrive pack ack fetch tick again stop = cc s.command_is
-no_step nodes line step Tick words are s arrive pack ack fetch tick again stop = tick (ap (take 5) (begins line _ _ _ (are ∙ ap (λ ws. codes "tick" ∷ ws) s.words_are)))
-no_step nodes line step Stop words are s arrive pack ack fetch tick again stop = stop (ap (take 5) (begins line _ _ _ (are ∙ ap (λ ws. codes "stop" ∷ ws) s.words_are)))
+    → (get_or line 0 0 ≡ 97 → StartsWith line (codes "arrive ") → ⊥) → (get_or line 0 0 ≡ 97 → StartsWith line (codes "ack ") → ⊥) → (get_or line 0 0 ≡ 97 → StartsWith line (codes "again ") → ⊥)
+    → (get_or line 0 0 ≡ 112 → StartsWith line (codes "pack ") → ⊥) → (get_or line 0 0 ≡ 102 → StartsWith line (codes "fetch ") → ⊥)
+    → (get_or line 0 0 ≡ 116 → StartsWith line (codes "tick ") → ⊥) → (get_or line 0 0 ≡ 115 → StartsWith line (codes "stop ") → ⊥) → ⊥
+no_step nodes line step Cluster words are s arrive ack again pack fetch tick stop = s
+no_step nodes line step Tenant words are s arrive ack again pack fetch tick stop = cc s.command_is
+no_step nodes line step Make words are s arrive ack again pack fetch tick stop = cc s.command_is
+no_step nodes line step Open words are s arrive ack again pack fetch tick stop = cc s.command_is
+no_step nodes line step Shut words are s arrive ack again pack fetch tick stop = cc s.command_is
+no_step nodes line step Drop words are s arrive ack again pack fetch tick stop = cc s.command_is
+no_step nodes line step Say words are s arrive ack again pack fetch tick stop = cc s.command_is
+no_step nodes line step Fetch words are s arrive ack again pack fetch tick stop =
+    let begin : StartsWith line (codes "fetch ") = ap (take 6) (begins line _ _ _ (are ∙ ap (λ ws. codes "fetch" ∷ ws) s.words_are)) in
+    fetch (first_is line 102 (codes "etch ") 5 begin) begin
+no_step nodes line step Forge words are s arrive ack again pack fetch tick stop = cc s.command_is
+no_step nodes line step Pack words are s arrive ack again pack fetch tick stop =
+    let begin : StartsWith line (codes "pack ") = ap (take 5) (begins line _ _ _ (are ∙ ap (λ ws. codes "pack" ∷ ws) s.words_are)) in
+    pack (first_is line 112 (codes "ack ") 4 begin) begin
+no_step nodes line step Again words are s arrive ack again pack fetch tick stop =
+    let begin : StartsWith line (codes "again ") = ap (take 6) (begins line _ _ _ (are ∙ ap (λ ws. codes "again" ∷ ws) s.words_are)) in
+    again (first_is line 97 (codes "gain ") 5 begin) begin
+no_step nodes line step Ack words are s arrive ack again pack fetch tick stop =
+    let begin : StartsWith line (codes "ack ") = ap (take 4) (begins line _ _ _ (are ∙ ap (λ ws. codes "ack" ∷ ws) s.words_are)) in
+    ack (first_is line 97 (codes "ck ") 3 begin) begin
+no_step nodes line step Arrive words are s arrive ack again pack fetch tick stop =
+    let begin : StartsWith line (codes "arrive ") = ap (take 7) (begins line _ _ _ (are ∙ ap (λ ws. codes "arrive" ∷ ws) s.words_are)) in
+    arrive (first_is line 97 (codes "rrive ") 6 begin) begin
+no_step nodes line step Noise words are s arrive ack again pack fetch tick stop = cc s.command_is
+no_step nodes line step Tick words are s arrive ack again pack fetch tick stop =
+    let begin : StartsWith line (codes "tick ") = ap (take 5) (begins line _ _ _ (are ∙ ap (λ ws. codes "tick" ∷ ws) s.words_are)) in
+    tick (first_is line 116 (codes "ick ") 4 begin) begin
+no_step nodes line step Stop words are s arrive ack again pack fetch tick stop =
+    let begin : StartsWith line (codes "stop ") = ap (take 5) (begins line _ _ _ (are ∙ ap (λ ws. codes "stop" ∷ ws) s.words_are)) in
+    stop (first_is line 115 (codes "top ") 4 begin) begin
 
 -- before a cluster was started, no line spells a step
 pub no_cluster : (line : List ℕ) (step : Step) (head : Head) (words : List (List ℕ)) → Spells head None (StepCommand step) words → ⊥

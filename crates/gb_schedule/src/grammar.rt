@@ -312,28 +312,22 @@ fn find_step(nodes: u8, line: &[u8]) -> Option<Step>
     ensures { (step : TheStep) → (result ≡ Some step)
         ↔ IsCommandLine (Some nodes) line.now (Commands.Step step) }
 {
-    if let Some(text) = behind(line, b"arrive ") {
-        return read_arrive(text);
+    match line.first() {
+        Some(b'a') => {
+            if let Some(text) = behind(line, b"arrive ") {
+                return read_arrive(text);
+            }
+            if let Some(text) = behind(line, b"ack ") {
+                return read_ack(nodes, text);
+            }
+            read_again(nodes, behind(line, b"again ")?)
+        }
+        Some(b'p') => read_pack(nodes, behind(line, b"pack ")?),
+        Some(b'f') => read_fetch(nodes, behind(line, b"fetch ")?),
+        Some(b't') => read_tick(nodes, behind(line, b"tick ")?),
+        Some(b's') => read_stop(nodes, behind(line, b"stop ")?),
+        _ => None,
     }
-    if let Some(text) = behind(line, b"pack ") {
-        return read_pack(nodes, text);
-    }
-    if let Some(text) = behind(line, b"ack ") {
-        return read_ack(nodes, text);
-    }
-    if let Some(text) = behind(line, b"fetch ") {
-        return read_fetch(nodes, text);
-    }
-    if let Some(text) = behind(line, b"tick ") {
-        return read_tick(nodes, text);
-    }
-    if let Some(text) = behind(line, b"again ") {
-        return read_again(nodes, text);
-    }
-    if let Some(text) = behind(line, b"stop ") {
-        return read_stop(nodes, text);
-    }
-    None
 }
 
 /// The step that a line spells, or None where it spells none. `nodes` is how many nodes the cluster has, once there is
