@@ -139,45 +139,41 @@ fn answer_lines<R: Read, W: Write>(
     }
 }
 
-/// Answers the lines of a schedule in a cluster of its own.
+/// Answers the lines of a schedule, with keys of its own.
 fn answer_all<R: Read, W: Write>(
     alloc: Global,
     reader: &mut R,
     writer: &mut W,
     lines: &mut LineBuffer,
+    cluster: &mut Option<Cluster>,
     gathered: &mut Vec<u8>,
 ) -> Result<SimEnd, SimFault>
-    requires { gathered.old.items ≡ [] }
+    requires first { cluster.old ≡ None }
+    requires none { gathered.old.items ≡ [] }
     ensures text { IfOk result (λ end. IfSome (left lines.old (R.remaining reader.old)) (λ input. IfSome (W.contents writer.old) (λ before. IsGathered end input before (W.contents writer.new) gathered.new.items))) }
     ensures fault { IfErr result (λ why. IfSome (left lines.old (R.remaining reader.old)) (λ input. IfSome (W.contents writer.old) (λ before. IsGatheredUpTo why input before (R.remaining reader.new) (W.contents writer.new) gathered.new.items))) }
 {
     let mut keys = Keys::new(alloc);
-    let mut cluster = None;
-    answer_lines(
-        alloc,
-        reader,
-        writer,
-        lines,
-        &mut keys,
-        &mut cluster,
-        gathered,
-    )
+    answer_lines(alloc, reader, writer, lines, &mut keys, cluster, gathered)
 }
 
 /// Runs the schedule that the reader gives and writes its answers: a line for each event, up to the
 /// end, the first bad line or a fault. Each answer is written whole, but where the writer itself
-/// fails. Answers are gathered, and written and flushed before each read and at the end.
+/// fails. Answers are gathered, and written and flushed before each read and at the end. The cluster is None at first;
+/// the schedule starts it, and whoever runs the schedule gives it up.
 pub fn simulate<R: Read, W: Write>(
     alloc: Global,
     reader: &mut R,
     writer: &mut W,
+    cluster: &mut Option<Cluster>,
 ) -> Result<SimEnd, SimFault>
+    requires { cluster.old ≡ None }
     ensures text { IfOk result (λ end. IfSome (R.remaining reader.old) (λ input. IfSome (W.contents writer.old) (λ before. IsWritten end input before (W.contents writer.new)))) }
     ensures fault { IfErr result (λ why. IfSome (R.remaining reader.old) (λ input. IfSome (W.contents writer.old) (λ before. IsWrittenUpTo why input before (R.remaining reader.new) (W.contents writer.new)))) }
 {
     let mut lines = LineBuffer::new(alloc)?;
     let mut gathered = Vec::new(alloc);
-    let outcome = answer_all(alloc, reader, writer, &mut lines, &mut gathered);
+    let outcome = answer_all(alloc, reader, writer, &mut lines, cluster, &mut gathered);
     if outcome != Err(SimFault::Write) {
         hand_over(writer, &mut gathered)?;
     }

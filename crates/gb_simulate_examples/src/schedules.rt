@@ -136,6 +136,16 @@ fn with_space(alloc: Global, left: usize, piece: usize) -> Space {
     }
 }
 
+/// Runs a schedule in a cluster of its own.
+fn run<R: Read, W: Write>(
+    alloc: Global,
+    reader: &mut R,
+    writer: &mut W,
+) -> Result<SimEnd, SimFault> {
+    let mut cluster = None;
+    simulate(alloc, reader, writer, &mut cluster)
+}
+
 /// Whether a schedule makes this text, and ends so.
 fn makes(
     alloc: Global,
@@ -144,7 +154,7 @@ fn makes(
     answers: &[u8],
     end: SimEnd,
 ) -> Result<bool, SimFault> {
-    let found = simulate(alloc, reader, out)?;
+    let found = run(alloc, reader, out)?;
     Ok(found == end && out.taken.as_slice() == answers)
 }
 
@@ -386,7 +396,7 @@ fn comes_to(
     outcome: Result<SimEnd, SimFault>,
     answers: &[u8],
 ) -> bool {
-    simulate(alloc, reader, out) == outcome && out.taken.as_slice() == answers
+    run(alloc, reader, out) == outcome && out.taken.as_slice() == answers
 }
 
 /// Whether a failed read ends the run, behind the answers before it.
@@ -458,7 +468,7 @@ fn is_flushed_in_time(alloc: Global, count: usize) -> Result<bool, SimFault> {
         taken: 0,
         flushed: &flushed,
     };
-    let end = simulate(alloc, &mut reader, &mut writer)?;
+    let end = run(alloc, &mut reader, &mut writer)?;
     Ok(end == SimEnd::All && flushed.get() == count)
 }
 
