@@ -165,7 +165,7 @@ impl Cluster {
         let mut nodes = Vec::with_capacity(alloc, plan.nodes as usize)?;
         for number in 0..plan.nodes {
             let me = NodeId::new(number);
-            nodes.push(Node::start(alloc, &node_plan(plan, me)))?;
+            nodes.push_reserved(Node::start(alloc, &node_plan(plan, me)));
         }
         Ok(Cluster {
             plan: *plan,

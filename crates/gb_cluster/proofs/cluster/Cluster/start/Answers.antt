@@ -15,13 +15,21 @@ loop-number-preserved c =
     let n = c.loop-number.number in
     let me : c.new-me.result ≡ node_numbered n = sym (numbered_is c.new-me.result) ∙ ap node_numbered c.new-me.ensures in
     let made : c.start.result ≡ f n = c.start.ensures ∙ (ap new_node c.node_plan.ensures ∙ ap (λ (a : NodeId). new_node (node_plan c.args.plan.now a)) me) in
-    c.in_ok-push.ensures.items
-    ∙ (ap (λ (vs : List NodeValue). vs ++ c.start.result ∷ []) c.loop-number.invariant
-    ∙ (ap (λ (v : NodeValue). map f (range_with_len 0 n) ++ v ∷ []) made
-    ∙ sym (map-range_with_len_more f 0 n n (omega arith))))
+    let items = c.push_reserved.ensures.items in
+    let len = c.push_reserved.ensures.len in
+    let same = c.push_reserved.ensures.capacity in
+    let room = c.loop-number.invariant.2 in
+    let count = c.loop-number.invariant.1 in (
+      items
+          ∙ (ap (λ (vs : List NodeValue). vs ++ c.start.result ∷ []) c.loop-number.invariant.0
+          ∙ (ap (λ (v : NodeValue). map f (range_with_len 0 n) ++ v ∷ []) made
+          ∙ sym (map-range_with_len_more f 0 n n (omega arith)))),
+      omega (arith, len, count),
+      omega (arith, same, room),
+    )
 
 pub returns-clause-state : goal.returns-clause-state
-returns-clause-state c = started c.args.plan.now c.loop-number.number _ _ (omega arith) c.loop-number.invariant c.new.ensures.items
+returns-clause-state c = started c.args.plan.now c.loop-number.number _ _ (omega arith) c.loop-number.invariant.0 c.new.ensures.items
 
 pub returns-clause-comes : goal.returns-clause-comes
 returns-clause-comes c = started_comes c.args.plan.now _ c.requires (returns-clause-state c)

@@ -1,4 +1,4 @@
-use Rattle.std.proofs.Common.{◌≡◌, map}
+use Rattle.std.proofs.Common.{◌≡◌, ◌≤◌, map, vec_len, vec_capacity}
 use Rattle.std.specs.List.{range_with_len}
 use Rattle.gb_node.specs.NodeStep.{node_numbered}
 use Rattle.gb_node.specs.NodeValue.{new_node}
@@ -6,4 +6,4 @@ use Rattle.gb_cluster.specs.ClusterValue.{node_plan}
 use Rattle.gb_cluster.proofs.cluster.Cluster.start.Given as goal
 
 abbrev pub invariant-loop-number : goal.invariant-loop-number
-invariant-loop-number l = l.nodes.items ≡ map (λ a. new_node (node_plan l.plan (node_numbered a))) (range_with_len 0 l.number)
+invariant-loop-number l = (l.nodes.items ≡ map (λ a. new_node (node_plan l.plan (node_numbered a))) (range_with_len 0 l.number)) × (vec_len l.nodes ≡ l.number) × (l.plan.nodes ≤ vec_capacity l.nodes)
