@@ -7,24 +7,21 @@ ghost use Rattle.gb_types.specs.Words.{words_of};
 ghost use Rattle.gb_schedule.specs.Numbers.{IsNumberAt, BeginsWithNoNumber, AllFit, AreNumbers};
 
 use gb_types::number::read_number;
+use memchr::memchr;
 
 /// The most words that a line which spells a command has, its head among them.
 pub const WORDS: usize = 9;
 
 const _: () = prove!(WORDS == 9);
 
-/// How many bytes stand before the first space: all, where there is none. Called, not inlined: LLVM would unroll the loop
-/// over the words, and carry each word's place through this one.
-#[inline(never)]
+/// How many bytes stand before the first space: all, where there is none.
 fn word_len(text: &[u8]) -> usize
     ensures { result ≡ position_or_len (λ byte. byte == 32) text.now }
 {
-    for place in 0..text.len() {
-        if text[place] == b' ' {
-            return place;
-        }
+    match memchr(b' ', text) {
+        Some(len) => len,
+        None => text.len(),
     }
-    text.len()
 }
 
 /// The first word of a text, and what stands behind the space after it, where there is one.

@@ -1,17 +1,16 @@
-use Rattle.std.proofs.Common.{◌≡◌, length, sym, arith}
+use Rattle.std.proofs.Common.{◌==◌, length, slice_index, arith}
+use Rattle.std.proofs.lemmas.Bool.{eqb-true, false_from_ne_true}
 use Rattle.gb_schedule.proofs.WordLemmas.{first_space}
 use Rattle.gb_schedule.proofs.words.word_len.Goals as goal
 
-pub returns-then-text-place-eq32 : goal.returns-then-text-place-eq32
-returns-then-text-place-eq32 c =
+pub returns-in-Some : goal.returns-in-Some
+returns-in-Some c =
     let text = c.args.text.now in
-    let below = c.loop-place-test.true in
-    first_space text c.loop-place.place (omega (arith, below)) c.loop-place.invariant (λ lt. c.if-text-place-eq32.true)
+    let found = c.in-Some.ensures in
+    let high = found.0.high in
+    first_space text c.in-Some.len (omega (arith, high)) (λ k below. false_from_ne_true (slice_index text k == 32) (found.0.before k (omega arith) below)) (λ lt. eqb-true (slice_index text c.in-Some.len) 32 found.1)
 
-pub returns : goal.returns
-returns c =
+pub returns-in-None : goal.returns-in-None
+returns-in-None c =
     let text = c.args.text.now in
-    let end = c.loop-place.auto.place-end in
-    let not_below = c.loop-place-test.false in
-    let at : c.loop-place.place ≡ length text = omega (arith, end, not_below) in
-    rw (sym at) (first_space text c.loop-place.place (omega (arith, at)) c.loop-place.invariant (λ lt. absurd (omega (arith, lt, at))))
+    first_space text (length text) (omega arith) (λ k below. false_from_ne_true (slice_index text k == 32) (c.in-None.ensures k (omega arith) below)) (λ lt. absurd (omega (arith, lt)))
