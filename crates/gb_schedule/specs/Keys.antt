@@ -44,6 +44,10 @@ AreTenantKeys entries = All (λ e. e.1 ≡ tenant_key e.0) entries
 abbrev pub IsMemberToken : GroupMember → List ℕ → Type 0
 IsMemberToken member token = (node : NodeId) → node.number ≡ member.node → token ≡ member_token member.address node
 
--- what is kept at a place is a member's token, where something is
-abbrev pub AreMemberTokens : List (Option MemberToken) → Type 0
-AreMemberTokens places = All (λ place. IfSome place (λ kept. IsMemberToken kept.member kept.token)) places
+-- tokens by their members
+abbrev pub AreMemberTokens : List (GroupMember × List ℕ) → Type 0
+AreMemberTokens entries = All (λ e. IsMemberToken e.0 e.1) entries
+
+-- what stands at a place is a member's token, where something does
+abbrev pub AreRecentTokens : List (Option MemberToken) → Type 0
+AreRecentTokens places = All (λ place. IfSome place (λ found. IsMemberToken found.member found.token)) places

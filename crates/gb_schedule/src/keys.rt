@@ -1,7 +1,7 @@
 //! The keys of a schedule's cluster, and the tokens that its lines come with.
 ghost use Rattle.std.specs.Prelude.{◌≡◌, IfSome};
 ghost use Rattle.gb_cap.specs.Token.{token_of};
-ghost use Rattle.gb_schedule.specs.Keys.{tenant_key, admin_token, tenant_token, member_token, IsMemberToken, AreMemberTokens};
+ghost use Rattle.gb_schedule.specs.Keys.{tenant_key, admin_token, tenant_token, member_token, IsMemberToken, AreRecentTokens};
 
 use gb_cap::hmac::{HmacKey, Key};
 use gb_cap::token::{Need, Token};
@@ -30,10 +30,13 @@ pub fn tenant_key(tenant: TenantId) -> Key
 }
 
 /// How many members' tokens are kept at most.
-const KEPT: usize = 1_024;
+const KEPT: usize = 16_384;
+
+/// At how many places the tokens of members stand that were named of late.
+const RECENT: usize = 1_024;
 
 /// A member of a group, by the group's address and its node's number.
-#[derive(Clone, Copy, PartialEq, Eq, Debug)]
+#[derive(Clone, Copy, PartialEq, Eq, Hash, Debug)]
 pub struct GroupMember {
     address: Addr,
     node: u8,
@@ -47,40 +50,43 @@ pub struct MemberToken {
 }
 
 /// Makes the tokens of a schedule's lines. The keys of the administrator and of each tenant that was named are hashed
-/// once, not for each token, and tokens of members are kept, each at a place of its member's: of two members with one place the
-/// last that was named has it. Contracts see nothing of it: each token is a function of what it is asked for.
+/// once, not for each token, and the tokens of the first members that were named are kept. Those of members that were named of
+/// late are found without a hash, each at a place of its member's: of two members with one place the last that was named has it.
+/// Contracts see nothing of it: each token is a function of what it is asked for.
 #[derive(Drop)]
 pub struct Keys {
     admin: HmacKey,
     tenants: IndexMap<TenantId, HmacKey>,
-    /// None where nothing is kept; no places where there was no memory for them.
-    members: Vec<Option<MemberToken>>,
+    members: IndexMap<GroupMember, Token>,
+    /// None where none stands; no places where there was no memory for them.
+    recent: Vec<Option<MemberToken>>,
 }
 
 impl Model for Keys {
-    ghost use Rattle.gb_schedule.specs.Keys.{admin_key, AreTenantKeys, AreMemberTokens};
+    ghost use Rattle.gb_schedule.specs.Keys.{admin_key, AreTenantKeys, AreMemberTokens, AreRecentTokens};
     ghost use Rattle.std.specs.Prelude.{◌≡◌};
 
     ghost Value = { Unit {0} };
 
     ghost view = { λ k. tt };
 
-    ghost invariant = { λ k. (k.admin ≡ admin_key) × AreTenantKeys k.tenants.entries × AreMemberTokens k.members.items };
+    ghost invariant = { λ k. (k.admin ≡ admin_key) × AreTenantKeys k.tenants.entries × AreMemberTokens k.members.entries × AreRecentTokens k.recent.items };
 }
 
-/// Places at which nothing is kept.
+/// Places at which nothing stands.
 fn empty_places(alloc: Global) -> Vec<Option<MemberToken>>
-    ensures { AreMemberTokens result.items }
+    ensures { AreRecentTokens result.items }
 {
-    match Vec::from_elem(alloc, None, KEPT) {
+    match Vec::from_elem(alloc, None, RECENT) {
         Ok(places) => places,
         Err(_) => Vec::new(alloc),
     }
 }
 
-/// The place of a member's token. The 16 nodes and the first 64 groups of a tenant have places of their own.
+/// The place of a member's token. The 16 nodes and the first 64 groups of a tenant have places of their own, and so have 4 groups
+/// of 16 tenants.
 fn place_of(tenant: TenantId, group: u16, node: u8) -> usize {
-    ((usize::from(tenant) + usize::from(group)) * 16 + usize::from(node)) % KEPT
+    ((usize::from(tenant) * 4 + usize::from(group)) * 16 + usize::from(node)) % RECENT
 }
 
 impl Keys {
@@ -89,7 +95,8 @@ impl Keys {
         Keys {
             admin: HmacKey::new(&ADMIN_KEY),
             tenants: IndexMap::new(alloc),
-            members: empty_places(alloc),
+            members: IndexMap::new(alloc),
+            recent: empty_places(alloc),
         }
     }
 
@@ -117,44 +124,69 @@ impl Keys {
             node: node.number,
         };
         let place = place_of(address.tenant, address.group, node.number);
-        match self.kept(&member, place) {
+        match self.recent_token(&member, place) {
             Some(token) => token,
-            None => self.make(address, node, place),
+            None => self.find(address, node, place),
         }
     }
 
-    /// Makes a member's token and keeps it at a place. Called, not inlined: few lines are the first to name a member.
+    /// The token of a member, where it stands at a place.
+    #[inline(always)]
+    fn recent_token(&self, member: &GroupMember, place: usize) -> Option<Token>
+        ensures { IfSome result (IsMemberToken member.now) }
+    {
+        match self.recent.get(place) {
+            Some(Some(found)) if found.member == *member => Some(found.token),
+            _ => None,
+        }
+    }
+
+    /// Finds a member's token, or makes it, and puts it at a place. Called, not inlined: most lines find it at its place.
     #[inline(never)]
-    fn make(&mut self, address: Addr, node: NodeId, place: usize) -> Token
+    fn find(&mut self, address: Addr, node: NodeId, place: usize) -> Token
         ensures { result ≡ member_token address node }
     {
         let member = GroupMember {
             address,
             node: node.number,
         };
-        let need = Need::Member(address.tenant, address.group, node);
-        let token = self.token(address.tenant, need);
-        self.keep(MemberToken { member, token }, place);
+        let token = match self.members.get(&member) {
+            Some(token) => *token,
+            None => self.make(address, node),
+        };
+        self.put(MemberToken { member, token }, place);
         token
     }
 
-    /// The token of a member, where it is kept at a place.
-    #[inline(always)]
-    fn kept(&self, member: &GroupMember, place: usize) -> Option<Token>
-        ensures { IfSome result (IsMemberToken member.now) }
+    /// Makes a member's token and keeps it.
+    fn make(&mut self, address: Addr, node: NodeId) -> Token
+        ensures { result ≡ member_token address node }
     {
-        match self.members.get(place) {
-            Some(Some(found)) if found.member == *member => Some(found.token),
-            _ => None,
+        let need = Need::Member(address.tenant, address.group, node);
+        let token = self.token(address.tenant, need);
+        let member = GroupMember {
+            address,
+            node: node.number,
+        };
+        self.keep(member, token);
+        token
+    }
+
+    /// Keeps a member's token, where there are few and memory is there for it.
+    fn keep(&mut self, member: GroupMember, token: Token)
+        requires { IsMemberToken member token }
+    {
+        if self.members.len() < KEPT {
+            let _ = self.members.insert(member, token);
         }
     }
 
-    /// Keeps a member's token at a place, where there is one.
-    fn keep(&mut self, made: MemberToken, place: usize)
-        requires { IsMemberToken made.member made.token }
+    /// Puts a member's token at a place, where there is one.
+    fn put(&mut self, found: MemberToken, place: usize)
+        requires { IsMemberToken found.member found.token }
     {
-        if place < self.members.len() {
-            self.members[place] = Some(made);
+        if place < self.recent.len() {
+            self.recent[place] = Some(found);
         }
     }
 

@@ -1,12 +1,12 @@
-use Rattle.std.proofs.Common.{Some}
-use Rattle.std.specs.Prelude.{IfSome}
-use Rattle.std.proofs.lemmas.List.Elements.{All-set}
+use Rattle.gb_cap.proofs.KeptLemmas.{kept_after}
 use Rattle.gb_schedule.specs.Keys.{IsMemberToken}
+use Rattle.gb_schedule.proofs.KeyLemmas.{same_member}
 use Rattle.gb_schedule.proofs.keys.Keys.keep.Goals as goal
 
 pub invariant_of-self : goal.invariant_of-self
 invariant_of-self c = (
   c.self.invariant.0,
   c.self.invariant.1,
-  All-set (λ place. IfSome place (λ kept. IsMemberToken kept.member kept.token)) c.self.inside.members.items c.args.place (Some c.args.made) c.requires c.self.invariant.2,
+  kept_after IsMemberToken c.insert.result _ c.args.member c.self.inside.members.entries c.insert.new.self.entries c.args.token c.insert.ensures.entries c.insert.ensures.err (λ k h. same_member c.args.member k h) c.self.invariant.2 c.requires,
+  c.self.invariant.3,
 )

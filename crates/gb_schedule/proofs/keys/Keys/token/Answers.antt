@@ -16,4 +16,5 @@ invariant_of-self c = (
   c.self.invariant.0,
   kept_after (λ (t : ℕ) (k : List ℕ). k ≡ tenant_key t) c.insert.result _ c.args.tenant c.self.inside.tenants.entries c.insert.new.self.entries c.new-key.result c.insert.ensures.entries c.insert.ensures.err (λ k h. eqb-true c.args.tenant k h) c.self.invariant.1 (c.new-key.ensures ∙ c.tenant_key.ensures),
   c.self.invariant.2,
+  c.self.invariant.3,
 )
