@@ -1,17 +1,13 @@
 -- The keys of tenants and the tokens of members in their maps.
-use Rattle.std.proofs.Common.{◌≡◌, ℕ, [], ◌∷◌, ◌++◌, refl, ap, ◌∙◌, true, false}
-use Rattle.std.specs.Prelude.{Bool, codes, ◌&&◌, nat_eq}
+use Rattle.std.proofs.Common.{◌≡◌, ℕ, [], ◌∷◌, ◌++◌, ap, ◌∙◌, true}
+use Rattle.std.specs.Prelude.{codes, ◌&&◌, nat_eq}
 use Rattle.std.specs.Int.{w16, to_be_bytes}
-use Rattle.std.proofs.lemmas.Bool.{eqb-true}
+use Rattle.std.proofs.lemmas.Bool.{and_parts, eqb-true}
 use Rattle.gb_types.specs.declared.address.Addr.{Addr}
 use Rattle.gb_types.specs.declared.node.NodeId.{NodeId}
 use Rattle.gb_cap.specs.Hmac.{hmac_of}
 use Rattle.gb_schedule.specs.Keys.{tenant_key, member_token}
 use Rattle.gb_schedule.specs.declared.keys.GroupMember.{GroupMember}
-
-both : (s t : Bool) → (s && t) ≡ true → (s ≡ true) × (t ≡ true)
-both true t h = (refl, h)
-both false t h = absurd (cc)
 
 abbrev pub member_of : ℕ → ℕ → ℕ → GroupMember
 member_of tenant group node = record { address = record { tenant = tenant; group = group }; node = node }
@@ -19,8 +15,8 @@ member_of tenant group node = record { address = record { tenant = tenant; group
 -- two members with the same numbers are one
 pub same_member : (a b : GroupMember) → (nat_eq a.address.tenant b.address.tenant && nat_eq a.address.group b.address.group) && nat_eq a.node b.node ≡ true → a ≡ b
 same_member a b h =
-    let e1 = both (nat_eq a.address.tenant b.address.tenant && nat_eq a.address.group b.address.group) (nat_eq a.node b.node) h in
-    let e2 = both (nat_eq a.address.tenant b.address.tenant) (nat_eq a.address.group b.address.group) e1.0 in
+    let e1 = and_parts (nat_eq a.address.tenant b.address.tenant && nat_eq a.address.group b.address.group) (nat_eq a.node b.node) h in
+    let e2 = and_parts (nat_eq a.address.tenant b.address.tenant) (nat_eq a.address.group b.address.group) e1.0 in
     let t = eqb-true a.address.tenant b.address.tenant e2.0 in
     let g = eqb-true a.address.group b.address.group e2.1 in
     let n = eqb-true a.node b.node e1.1 in

@@ -4,7 +4,7 @@ use Rattle.std.specs.Str.Parse.{AllDigits, digits_value}
 use Rattle.std.specs.Int.{IsInRange}
 use Rattle.std.specs.List.{join_with_byte}
 use Rattle.std.proofs.lemmas.Bool.{cases_lt, cases_eq, ne_eqb}
-use Rattle.std.proofs.lemmas.Nat.{mod-mul-add}
+use Rattle.std.proofs.Math.Nat.{mod-eq_of_lt}
 use Rattle.std.proofs.lemmas.Str.Parse.{digit_at, digits_value_short, numerals_by_value, tells_digits}
 use Rattle.std.proofs.lemmas.Fmt.{decimal_injective, decimal_is_IsNumeral}
 use Rattle.std.proofs.lemmas.List.{take_all, length-take-le, get_or-take, get_or_append_left, get_or-append-add}
@@ -17,9 +17,6 @@ use Rattle.gb_types.proofs.ReadLemmas.{Reads, reads_one}
 use Rattle.gb_schedule.specs.Numbers.{BeginsWithNoNumber, AllFit, AreAtMost, AreNumbers}
 use Rattle.gb_schedule.proofs.WordLemmas.{first_space, more_words, last_word}
 
-kept : (x : ℕ) → x < 2 ^ 64 → x % 2 ^ 64 ≡ x
-kept x small = ap (λ k. k % 2 ^ 64) (let same : x ≡ 0 * 2 ^ 64 + x = omega arith in same) ∙ mod-mul-add 0 (2 ^ 64) x small
-
 -- one digit more, read with what does not fit cut off: up to 19 digits nothing is
 pub more_digit : (text : List ℕ) (place number next : ℕ) → place < length text → AllDigits 10 (take place text) → (place ≤ 19 → digits_value 10 (take place text) ≡ number) → IsInRange 48 57 (get_or text place 0)
     → next ≡ (number * 10 % 2 ^ 64 + (get_or text place 0 - 48)) % 2 ^ 64 → AllDigits 10 (take (place + 1) text) × (place + 1 ≤ 19 → digits_value 10 (take (place + 1) text) ≡ next)
@@ -31,8 +28,8 @@ more_digit text place number next below all value digit is =
           let count = length-take-le place text (omega (arith, below)) in
           let small : before < 10 ^ 18 = digits_value_short (numerals_by_value (AllDigits 10) tells_digits) (take place text) 18 all (omega (arith, few, count)) in
           let same : before ≡ number = value (omega (arith, few)) in
-          let tens : number * 10 % 2 ^ 64 ≡ number * 10 = kept (number * 10) (omega (arith, small, same)) in
-          let whole : (number * 10 + (get_or text place 0 - 48)) % 2 ^ 64 ≡ number * 10 + (get_or text place 0 - 48) = kept (number * 10 + (get_or text place 0 - 48)) (omega (arith, small, same, digit)) in
+          let tens : number * 10 % 2 ^ 64 ≡ number * 10 = mod-eq_of_lt {n = number * 10} {m = 2 ^ 64} (omega (arith, small, same)) in
+          let whole : (number * 10 + (get_or text place 0 - 48)) % 2 ^ 64 ≡ number * 10 + (get_or text place 0 - 48) = mod-eq_of_lt {n = number * 10 + (get_or text place 0 - 48)} {m = 2 ^ 64} (omega (arith, small, same, digit)) in
           let fits : next ≡ number * 10 + (get_or text place 0 - 48) = is ∙ ap (λ k. (k + (get_or text place 0 - 48)) % 2 ^ 64) tens ∙ whole in
           more.1 ∙ (omega (arith, same, fits)),
     )

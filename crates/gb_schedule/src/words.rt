@@ -135,7 +135,8 @@ fn find_numbers(text: &[u8], numbers: &mut [u64; NUMBERS]) -> Option<usize>
     None
 }
 
-/// The numbers that the words of a text write, where these are so many and none is larger than what stands at its place.
+/// The numbers that the words of a text write, where these are so many, at most `NUMBERS`, and none is larger than what stands at
+/// its place.
 #[inline(always)]
 pub fn numbers_in<const N: usize>(text: &[u8], most: [u64; N]) -> Option<[u64; N]>
     requires { N ≤ NUMBERS }

@@ -159,18 +159,18 @@ fn answer_all<R: Read, W: Write>(
 
 /// Runs the schedule that the reader gives and writes its answers: a line for each event, up to the
 /// end, the first bad line or a fault. Each answer is written whole, but where the writer itself
-/// fails. Answers are gathered, and written and flushed before each read and at the end. The cluster is None at first;
-/// the schedule starts it, and whoever runs the schedule gives it up.
+/// fails. Answers are gathered, and written and flushed before each read and at the end. The cluster is the one that the
+/// schedule starts: one that was there before is given up first, and whoever runs the schedule gives up this one.
 pub fn simulate<R: Read, W: Write>(
     alloc: Global,
     reader: &mut R,
     writer: &mut W,
     cluster: &mut Option<Cluster>,
 ) -> Result<SimEnd, SimFault>
-    requires { cluster.old ≡ None }
     ensures text { IfOk result (λ end. IfSome (R.remaining reader.old) (λ input. IfSome (W.contents writer.old) (λ before. IsWritten end input before (W.contents writer.new)))) }
     ensures fault { IfErr result (λ why. IfSome (R.remaining reader.old) (λ input. IfSome (W.contents writer.old) (λ before. IsWrittenUpTo why input before (R.remaining reader.new) (W.contents writer.new)))) }
 {
+    *cluster = None;
     let mut lines = LineBuffer::new(alloc)?;
     let mut gathered = Vec::new(alloc);
     let outcome = answer_all(alloc, reader, writer, &mut lines, cluster, &mut gathered);
