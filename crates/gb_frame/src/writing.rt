@@ -33,14 +33,18 @@ fn put_header(head: Head, count: u16, text: &mut Vec<u8>)
     ensures capacity { vec_capacity text.old ≤ vec_capacity text.new }
     ensures fits { (items : List Item) → FitsFields (packet_of head items) }
 {
+    let [b0, b1, b2, b3, b4, b5, b6, b7] = head.base.to_be_bytes();
+    let [m0, m1, m2, m3, m4, m5, m6, m7] = head.mask.to_be_bytes();
+    let [f0, f1, f2, f3, f4, f5, f6, f7] = head.frame.to_be_bytes();
+    let [c0, c1] = count.to_be_bytes();
+    let (from, to) = (head.from.number, head.to.number);
     append(
         text,
-        &[b'G', b'B', VERSION, head.from.number, head.to.number],
+        &[
+            b'G', b'B', VERSION, from, to, b0, b1, b2, b3, b4, b5, b6, b7, m0, m1, m2, m3, m4, m5,
+            m6, m7, f0, f1, f2, f3, f4, f5, f6, f7, c0, c1,
+        ],
     );
-    append(text, &head.base.to_be_bytes());
-    append(text, &head.mask.to_be_bytes());
-    append(text, &head.frame.to_be_bytes());
-    append(text, &count.to_be_bytes());
 }
 
 /// Appends the tag of what stands from this place on. Takes no memory.

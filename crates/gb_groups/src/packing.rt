@@ -1,12 +1,12 @@
 //! The walk round the groups, with no work for groups where nothing waits.
-ghost use Rattle.std.specs.Prelude.{◌≡◌, ◌<◌, ◌≤◌, ◌+◌, ◌++◌, [], ℕ, length, take, sum_by, slice_index_or, All, IfSome, MatchOption, vec_len, vec_capacity};
+ghost use Rattle.std.specs.Prelude.{◌≡◌, ◌<◌, ◌≤◌, ◌+◌, ◌*◌, ◌++◌, [], ℕ, length, take, sum_by, slice_index_or, All, IfSome, MatchOption, vec_len, vec_capacity};
 ghost use Rattle.gb_frame.specs.Spelling.{items_text, IsItem};
 ghost use Rattle.gb_groups.specs.Ahead.{ahead, IsActive, IsTurn};
 ghost use Rattle.gb_groups.specs.Busy.{IsBusy};
 ghost use Rattle.gb_groups.specs.SlotsValue.{HaveCounters, AreApart};
 ghost use Rattle.gb_groups.specs.Packing.{queues, walk, size, fit, gave, new_cursor, items, first_place};
 
-use crate::place_set::PlaceSet;
+use crate::place_set::{PlaceSet, next_of, remove_of};
 use crate::slots::Slots;
 use gb_frame::limits::ITEM_HEADER;
 use gb_types::node::NodeId;
@@ -76,7 +76,7 @@ pub fn advance(
 /// The next visit of the walk, where `lap` rounds were made and it stands at a place: its round and place.
 fn next_turn(
     slots: &Slots,
-    active: &PlaceSet,
+    active: &[u64],
     dest: NodeId,
     from: usize,
     lap: usize,
@@ -85,28 +85,31 @@ fn next_turn(
     requires at { at ≤ length slots.now.rows }
     requires begun { at < from → 0 < lap }
     requires lap { lap ≤ 65535 }
+    requires few { length active.now ≤ 64 }
     requires index { IsActive active.now (ahead from lap at 0 (queues dest.number slots.now.rows)) }
-    ensures { MatchOption result (walk at (ahead from lap at 0 (queues dest.number slots.now.rows)) ≡ []) (λ r. IsTurn dest.number from lap at slots.now.rows r.0 r.1) }
+    ensures turn { MatchOption result (walk at (ahead from lap at 0 (queues dest.number slots.now.rows)) ≡ []) (λ r. IsTurn dest.number from lap at slots.now.rows r.0 r.1) }
+    ensures within { IfSome result (λ r. r.1 < 64 * length active.now) }
 {
     let _places = slots.len();
-    match active.next(at) {
+    match next_of(active, at) {
         Some(place) => Some((lap, place)),
-        None => match active.next(0) {
+        None => match next_of(active, 0) {
             Some(early) => Some((lap + 1, early)),
             None => None,
         },
     }
 }
 
-/// How many items fit of the walk to a node, and how many bytes they take. `active` is the node's set of busy places,
-/// from which a place is taken once all that waits there is counted.
-fn measure_busy(
+/// How many items fit of the walk to a node, and how many bytes they take. `active` are the words of the node's set of busy
+/// places, from which a place is taken once all that waits there is counted.
+fn measure_busy<const N: usize>(
     slots: &Slots,
-    mut active: PlaceSet,
+    mut active: [u64; N],
     dest: NodeId,
     from: usize,
     room: usize,
 ) -> (u16, usize)
+    requires few { N ≤ 64 }
     requires from { from ≤ length slots.now.rows }
     requires room { room ≤ 65535 }
     requires index { IsBusy dest.number active slots.now.rows }
@@ -127,7 +130,7 @@ fn measure_busy(
         count += 1;
         left -= bytes;
         if waiting == nth + 1 {
-            active.remove(place);
+            remove_of(&mut active, place);
         }
         lap = round;
         at = place + 1;
@@ -135,8 +138,8 @@ fn measure_busy(
     (count, room - left)
 }
 
-/// How many items fit of the walk to a node, and how many bytes they take. `busy` is the node's set of busy places; where
-/// it is empty nothing is copied.
+/// How many items fit of the walk to a node, and how many bytes they take. `busy` is the node's set of busy places, of which
+/// no more is copied than the places that a small node has, and nothing where it is empty.
 pub fn measure(
     slots: &Slots,
     busy: &PlaceSet,
@@ -153,5 +156,8 @@ pub fn measure(
     if next_place(slots, busy, dest, from).is_none() {
         return (0, 0);
     }
-    measure_busy(slots, busy.duplicate(), dest, from, room)
+    match busy.only_word() {
+        Some(word) => measure_busy(slots, [word], dest, from, room),
+        None => measure_busy(slots, busy.words(), dest, from, room),
+    }
 }

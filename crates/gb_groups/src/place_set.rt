@@ -1,5 +1,5 @@
 //! Sets of places, 64 in a word.
-ghost use Rattle.std.specs.Prelude.{◌≡◌, ◌≢◌, ◌<◌, ◌≤◌, ◌+◌, ◌*◌, ℕ, List, replicate, length, MatchOption};
+ghost use Rattle.std.specs.Prelude.{◌≡◌, ◌≢◌, ◌<◌, ◌≤◌, ◌+◌, ◌*◌, ℕ, List, [], ◌∷◌, replicate, length, slice_index_or, IfSome, MatchOption};
 ghost use Rattle.gb_types.specs.declared.limits.TheConstants.{PLACES};
 ghost use Rattle.gb_groups.specs.PlaceSet.{has, IsNext};
 
@@ -34,21 +34,28 @@ impl PlaceSet {
         }
     }
 
-    /// The same set.
-    pub fn duplicate(&self) -> PlaceSet
+    /// The word of the first 64 places, where the set has no others.
+    pub fn only_word(&self) -> Option<u64>
+        ensures { IfSome result (λ word. (p : ℕ) → has (word ∷ []) p ≡ has self.now p) }
+    {
+        if self.used <= 1 {
+            return Some(self.words[0]);
+        }
+        None
+    }
+
+    /// The words of all places.
+    pub fn words(&self) -> [u64; 64]
         ensures { result ≡ self.now }
     {
-        PlaceSet {
-            used: self.used,
-            words: self.words,
-        }
+        self.words
     }
 
     /// The least place of the set at or after one.
     pub fn next(&self, from: usize) -> Option<usize>
         ensures { MatchOption result ((p : ℕ) → from ≤ p → has self.now p ≡ 0) (λ q. IsNext self.now from q) }
     {
-        next_set(&self.words[..self.used], from)
+        next_of(&self.words[..self.used], from)
     }
 
     /// Takes a place out of the set.
@@ -57,7 +64,7 @@ impl PlaceSet {
         ensures here { has self.new place ≡ 0 }
         ensures others { (p : ℕ) → p ≢ place → has self.new p ≡ has self.old p }
     {
-        self.words[place / 64] &= !(1 << (place % 64));
+        remove_of(&mut self.words, place);
     }
 
     /// Puts a place into the set.
@@ -71,10 +78,11 @@ impl PlaceSet {
     }
 }
 
-/// The least place of the set at or after one.
-fn next_set(words: &[u64], from: usize) -> Option<usize>
+/// The least place of a set, by its words, at or after one.
+pub fn next_of(words: &[u64], from: usize) -> Option<usize>
     requires { length words.now ≤ 64 }
-    ensures { MatchOption result ((p : ℕ) → from ≤ p → has words.now p ≡ 0) (λ q. IsNext words.now from q) }
+    ensures next { MatchOption result ((p : ℕ) → from ≤ p → has words.now p ≡ 0) (λ q. IsNext words.now from q) }
+    ensures within { IfSome result (λ q. q < 64 * length words.now) }
 {
     let first = from / 64;
     if words.len() <= first {
@@ -91,4 +99,15 @@ fn next_set(words: &[u64], from: usize) -> Option<usize>
         }
     }
     None
+}
+
+/// Takes a place out of a set, by its words.
+pub fn remove_of(words: &mut [u64], place: usize)
+    requires { place < 64 * length words.old }
+    ensures here { has words.new place ≡ 0 }
+    ensures others { (p : ℕ) → p ≢ place → has words.new p ≡ has words.old p }
+    ensures length { length words.new ≡ length words.old }
+    ensures zeros { (a : ℕ) → slice_index_or words.old a 0 ≡ 0 → slice_index_or words.new a 0 ≡ 0 }
+{
+    words[place / 64] &= !(1 << (place % 64));
 }

@@ -19,7 +19,7 @@ use std::alloc::Global;
 use std::io::{Read, Write};
 
 /// The bytes of answers that are gathered before they are written, where no read comes first.
-const GATHERED: usize = 65_536;
+const GATHERED: usize = 16_384;
 
 /// Ends a schedule: line `number` is bad.
 fn end_badly(number: u64, why: BadLine, gathered: &mut Vec<u8>) -> Result<SimEnd, OutOfMemory>

@@ -9,7 +9,7 @@ use Rattle.gb_groups.proofs.packing.measure_busy.Goals as goal
 use Rattle.gb_groups.proofs.packing.measure_busy.Goals.{then-place-from, else-place-from, then-waiting-nth, else-waiting-nth}
 
 pub loop-round-init : goal.loop-round-init
-loop-round-init c =
+loop-round-init g c =
     let rows = c.args.slots.now.rows in
     let e = ahead-start c.args.from 0 (queues c.args.dest.number rows) in
     record {
@@ -22,14 +22,14 @@ loop-round-init c =
     }
 
 pub measure_at-payload-requires : goal.measure_at-payload-requires
-measure_at-payload-requires c =
+measure_at-payload-requires g c =
     let dest = c.args.dest.number in
     let rows : List Row = c.args.slots.now.rows in
     let from = c.args.from in
     let q = c.in-Some.place in
     let to = c.in-Some.round in
     let nth = c.if-place-from.nth in
-    let t : IsTurn dest from c.loop-round.lap c.loop-round.at rows to q = c.in-Some.ensures in
+    let t : IsTurn dest from c.loop-round.lap c.loop-round.at rows to q = c.in-Some.ensures.turn in
     let v : nth ≡ visits from to q q = elim c.if-place-from.branch [
       | then-place-from w ↦ visits-first from to q nth w.if-place-from.true w.nth-is
       | else-place-from w ↦ visits-later from to q nth w.if-place-from.false w.nth-is
@@ -37,14 +37,14 @@ measure_at-payload-requires c =
     (turn_item dest from c.loop-round.lap c.loop-round.at to q nth rows (row_at rows q) t v (row_here rows q t.within)).0
 
 pub returns-then-left-bytes-clause-count : goal.returns-then-left-bytes-clause-count
-returns-then-left-bytes-clause-count c =
+returns-then-left-bytes-clause-count g c =
     let dest = c.args.dest.number in
     let rows : List Row = c.args.slots.now.rows in
     let from = c.args.from in
     let q = c.in-Some.place in
     let to = c.in-Some.round in
     let nth = c.if-place-from.nth in
-    let t : IsTurn dest from c.loop-round.lap c.loop-round.at rows to q = c.in-Some.ensures in
+    let t : IsTurn dest from c.loop-round.lap c.loop-round.at rows to q = c.in-Some.ensures.turn in
     let v : nth ≡ visits from to q q = elim c.if-place-from.branch [
       | then-place-from w ↦ visits-first from to q nth w.if-place-from.true w.nth-is
       | else-place-from w ↦ visits-later from to q nth w.if-place-from.false w.nth-is
@@ -54,14 +54,14 @@ returns-then-left-bytes-clause-count c =
     whole.0
 
 pub returns-then-left-bytes-clause-bytes : goal.returns-then-left-bytes-clause-bytes
-returns-then-left-bytes-clause-bytes c =
+returns-then-left-bytes-clause-bytes g c =
     let dest = c.args.dest.number in
     let rows : List Row = c.args.slots.now.rows in
     let from = c.args.from in
     let q = c.in-Some.place in
     let to = c.in-Some.round in
     let nth = c.if-place-from.nth in
-    let t : IsTurn dest from c.loop-round.lap c.loop-round.at rows to q = c.in-Some.ensures in
+    let t : IsTurn dest from c.loop-round.lap c.loop-round.at rows to q = c.in-Some.ensures.turn in
     let v : nth ≡ visits from to q q = elim c.if-place-from.branch [
       | then-place-from w ↦ visits-first from to q nth w.if-place-from.true w.nth-is
       | else-place-from w ↦ visits-later from to q nth w.if-place-from.false w.nth-is
@@ -71,7 +71,7 @@ returns-then-left-bytes-clause-bytes c =
     let sum = whole.1 in omega arith
 
 pub loop-round-preserved : goal.loop-round-preserved
-loop-round-preserved c =
+loop-round-preserved g c =
     let dest = c.args.dest.number in
     let rows : List Row = c.args.slots.now.rows in
     let from = c.args.from in
@@ -79,7 +79,7 @@ loop-round-preserved c =
     let to = c.in-Some.round in
     let row = row_at rows q in
     let nth = c.if-place-from.nth in
-    let t : IsTurn dest from c.loop-round.lap c.loop-round.at rows to q = c.in-Some.ensures in
+    let t : IsTurn dest from c.loop-round.lap c.loop-round.at rows to q = c.in-Some.ensures.turn in
     let v : nth ≡ visits from to q q = elim c.if-place-from.branch [
       | then-place-from w ↦ visits-first from to q nth w.if-place-from.true w.nth-is
       | else-place-from w ↦ visits-later from to q nth w.if-place-from.false w.nth-is
@@ -94,7 +94,7 @@ loop-round-preserved c =
     let words : List ℕ = c.loop-round.active in
     let index : IsActive c.if-waiting-nth.active (ahead from to (q + 1) 0 (queues dest rows)) = elim c.if-waiting-nth.branch [
       | then-waiting-nth w ↦
-          rw w.active-is (active_next dest from c.loop-round.lap c.loop-round.at to q nth words w.remove.new.self rows row t v here i.index (let h = w.remove.ensures.here in let k = w.if-waiting-nth.true in omega arith) w.remove.ensures.others)
+          rw w.active-is (active_next dest from c.loop-round.lap c.loop-round.at to q nth words w.remove_of.new.words rows row t v here i.index (let h = w.remove_of.ensures.here in let k = w.if-waiting-nth.true in omega arith) w.remove_of.ensures.others)
       | else-waiting-nth w ↦
           rw w.active-is (active_next dest from c.loop-round.lap c.loop-round.at to q nth words words rows row t v here i.index (let h = i.index.each q in let k = ap (λ (L : List (List Entry)). length (get_or L q [])) t.left_is in let f = w.if-waiting-nth.false in let n = item.0 in let m = item.1 in omega arith) (λ p _. refl))
     ] in
@@ -109,7 +109,7 @@ loop-round-preserved c =
     })
 
 pub returns-clause-count : goal.returns-clause-count
-returns-clause-count c = (measured_none c.args.room c.loop-round.left c.loop-round.count _ _ c.loop-round.invariant.same c.in_default.ensures).0
+returns-clause-count g c = (measured_none c.args.room c.loop-round.left c.loop-round.count _ _ c.loop-round.invariant.same c.in_default.ensures.turn).0
 
 pub returns-clause-bytes : goal.returns-clause-bytes
-returns-clause-bytes c = let sum = (measured_none c.args.room c.loop-round.left c.loop-round.count _ _ c.loop-round.invariant.same c.in_default.ensures).1 in omega arith
+returns-clause-bytes g c = let sum = (measured_none c.args.room c.loop-round.left c.loop-round.count _ _ c.loop-round.invariant.same c.in_default.ensures.turn).1 in omega arith

@@ -5,7 +5,7 @@ use Rattle.gb_groups.proofs.AheadLemmas.{Measured}
 use Rattle.gb_groups.proofs.packing.measure_busy.Given as goal
 
 abbrev pub invariant-loop-round : goal.invariant-loop-round
-invariant-loop-round l =
+invariant-loop-round g l =
     let waiting = queues l.dest.number l.slots.rows in
     record {
       within : l.at ≤ length l.slots.rows;
@@ -17,4 +17,4 @@ invariant-loop-round l =
     }
 
 abbrev pub decreases-loop-round : goal.decreases-loop-round
-decreases-loop-round l = l.left
+decreases-loop-round g l = l.left
