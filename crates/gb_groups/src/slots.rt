@@ -118,7 +118,8 @@ impl Slots {
     }
 
     /// The bytes of the payload of one of the items that wait for a node in the group at a place, which count from 0, and
-    /// how many wait.
+    /// how many wait. Inlined: packing calls it once an item.
+    #[inline(always)]
     pub fn measure_at(&self, place: usize, dest: NodeId, nth: usize) -> (usize, usize)
         requires { nth < length (queue dest.number (row_at self.now.rows place)) }
         ensures bytes { result.0 ≡ length (slice_index_or (queue dest.number (row_at self.now.rows place)) nth no_entry).payload }
