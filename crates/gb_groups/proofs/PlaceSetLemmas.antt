@@ -1,5 +1,5 @@
 -- Bits of words.
-use Rattle.std.proofs.Common.{◌≡◌, ℕ, zero, suc, replicate, take, ◌+◌, ◌-◌, ◌*◌, ◌/◌, ◌%◌, ◌^◌, ◌≤◌, ◌<◌, min, List, [], ◌∷◌, length, get_or, refl, ap, sym, ◌∙◌, arith, inl, inr, w64, bit_and}
+use Rattle.std.proofs.Common.{◌≡◌, ℕ, zero, suc, replicate, take, ◌+◌, ◌-◌, ◌*◌, ◌/◌, ◌%◌, ◌^◌, ◌≤◌, ◌<◌, min, List, length, get_or, refl, ap, sym, ◌∙◌, arith, inl, inr, w64, bit_and}
 use Rattle.std.specs.Int.{bit_at, trailing_zeros}
 use Rattle.std.specs.Prelude.{◌⊎◌, Option, Some, None, MatchOption}
 use Rattle.std.proofs.Math.ListN.{set}
@@ -148,15 +148,3 @@ pub found-front : (found : Option ℕ) (words : List ℕ) (n from : ℕ) → ((a
     → MatchOption found ((p : ℕ) → from ≤ p → has words p ≡ 0) (λ q. IsNext words from q)
 found-front None words n from none h = λ p l. sym (has-front words n p none) ∙ h p l
 found-front (Some q) words n from none h = next-front words n from q none h
-
--- one word tells all, where the others have no place
-pub has-only : (words : List ℕ) (p : ℕ) → 0 < length words → ((a : ℕ) → 1 ≤ a → get_or words a 0 ≡ 0) → has (get_or words 0 0 ∷ []) p ≡ has words p
-has-only [] p h none = absurd (omega arith)
-has-only (w ∷ ws) p h none = has-front (w ∷ ws) 1 p none
-
--- a place of the set stands in one of its words
-pub has-within : (words : List ℕ) (p : ℕ) → has words p ≡ 1 → p < 64 * length words
-has-within words p here = elim (cases_lt (p / 64) (length words)) [
-  | inl l ↦ omega arith
-  | inr l ↦ let none = has-past words p l in absurd (omega (arith, here, none))
-]

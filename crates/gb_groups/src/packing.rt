@@ -138,8 +138,8 @@ fn measure_busy<const N: usize>(
     (count, room - left)
 }
 
-/// How many items fit of the walk to a node, and how many bytes they take. `busy` is the node's set of busy places, of which
-/// no more is copied than the places that a small node has, and nothing where it is empty.
+/// How many items fit of the walk to a node, and how many bytes they take. `busy` is the node's set of busy places. It is copied
+/// where it is not empty: one word at a node of up to 64 groups, 8 with up to 512, else all.
 pub fn measure(
     slots: &Slots,
     busy: &PlaceSet,
@@ -156,8 +156,11 @@ pub fn measure(
     if next_place(slots, busy, dest, from).is_none() {
         return (0, 0);
     }
-    match busy.only_word() {
-        Some(word) => measure_busy(slots, [word], dest, from, room),
-        None => measure_busy(slots, busy.words(), dest, from, room),
+    if let Some(words) = busy.first_words::<1>() {
+        return measure_busy(slots, words, dest, from, room);
     }
+    if let Some(words) = busy.first_words::<8>() {
+        return measure_busy(slots, words, dest, from, room);
+    }
+    measure_busy(slots, busy.words(), dest, from, room)
 }

@@ -1,5 +1,5 @@
 //! Sets of places, 64 in a word.
-ghost use Rattle.std.specs.Prelude.{◌≡◌, ◌≢◌, ◌<◌, ◌≤◌, ◌+◌, ◌*◌, ℕ, List, [], ◌∷◌, replicate, length, slice_index_or, IfSome, MatchOption};
+ghost use Rattle.std.specs.Prelude.{◌≡◌, ◌≢◌, ◌<◌, ◌≤◌, ◌+◌, ◌*◌, ℕ, List, replicate, length, slice_index_or, IfSome, MatchOption};
 ghost use Rattle.gb_types.specs.declared.limits.TheConstants.{PLACES};
 ghost use Rattle.gb_groups.specs.PlaceSet.{has, IsNext};
 
@@ -34,14 +34,17 @@ impl PlaceSet {
         }
     }
 
-    /// The word of the first 64 places, where the set has no others.
-    pub fn only_word(&self) -> Option<u64>
-        ensures { IfSome result (λ word. (p : ℕ) → has (word ∷ []) p ≡ has self.now p) }
+    /// The words of the first 64 * N places, where the set has no others.
+    pub fn first_words<const N: usize>(&self) -> Option<[u64; N]>
+        requires { N ≤ 64 }
+        ensures { IfSome result (λ words. (p : ℕ) → has words p ≡ has self.now p) }
     {
-        if self.used <= 1 {
-            return Some(self.words[0]);
+        if self.used > N {
+            return None;
         }
-        None
+        let mut words = [0; N];
+        words.copy_from_slice(&self.words[..N]);
+        Some(words)
     }
 
     /// The words of all places.
