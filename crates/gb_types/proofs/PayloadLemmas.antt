@@ -1,8 +1,9 @@
 -- The words of payloads.
-use Rattle.std.proofs.Common.{◌≡◌, ◌≢◌, ℕ, suc, ◌<◌, ◌/◌, ◌%◌, Bool, true, false, cond, ◌&&◌, eqb, List, [], ◌∷◌, Some, None, slice_index, length, codes, refl, sym, ap, ◌∙◌, arith}
+use Rattle.std.proofs.Common.{◌≡◌, ◌≢◌, ℕ, suc, ◌<◌, ◌/◌, ◌%◌, Bool, true, false, cond, ◌&&◌, eqb, List, [], ◌∷◌, ◌++◌, take, drop, Some, None, Ok, slice_index, length, codes, refl, sym, ap, ◌∙◌, arith}
 use Rattle.std.specs.Result.{result_ok}
 use Rattle.std.specs.Str.{bytes_eq}
 use Rattle.std.proofs.lemmas.Bool.Decides.{nat_tests}
+use Rattle.std.proofs.lemmas.List.{take-append-drop}
 use Rattle.hex.specs.Hex.{IsBytes, decode_of, encode_lower, encode_with, lower_digits, hex_digit_value}
 use Rattle.hex.proofs.HexLemmas.{decode_of-encode_lower, length-encode_with, IsDigits-lower_digits}
 use Rattle.gb_types.specs.PayloadWord.{payload_word, payload_of}
@@ -47,3 +48,21 @@ without-encode c none (b ∷ bytes) h =
 pub without-payload_word : (c : ℕ) → hex_digit_value c ≡ None → c ≢ 45 → (bytes : List ℕ) → IsBytes bytes → Without c (payload_word bytes)
 without-payload_word c none other [] h = (λ e. other (sym e), tt)
 without-payload_word c none other (b ∷ bytes) h = without-encode c none (b ∷ bytes) h
+
+encode_with-append : (t front behind : List ℕ) → encode_with t (front ++ behind) ≡ encode_with t front ++ encode_with t behind
+unfolding encode_with
+encode_with-append t [] behind = refl
+encode_with-append t (b ∷ front) behind = ap (λ digits. slice_index t (b / 16) ∷ slice_index t (b % 16) ∷ digits) (encode_with-append t front behind)
+
+-- a word has the digits of the bytes where both parts of it have those of theirs
+pub encode-in_parts : (n k : ℕ) (bytes word : List ℕ) → encode_lower (take n bytes) ≡ take k word → encode_lower (drop n bytes) ≡ drop k word
+    → encode_lower bytes ≡ word
+encode-in_parts n k bytes word front behind =
+    let parts = encode_with-append lower_digits (take n bytes) (drop n bytes) in
+    let bytes_parts = take-append-drop n bytes in
+    let word_parts = take-append-drop k word in
+    ap encode_lower (sym bytes_parts) ∙ (parts ∙ (ap (λ digits. digits ++ encode_lower (drop n bytes)) front ∙ (ap (λ digits. take k word ++ digits) behind ∙ word_parts)))
+
+-- a word with the digits of some bytes spells them
+pub decode-of_digits : (bytes word : List ℕ) → IsBytes bytes → encode_lower bytes ≡ word → decode_of word ≡ Ok bytes
+decode-of_digits bytes word fits is = ap decode_of (sym is) ∙ decode_of-encode_lower bytes fits

@@ -10,6 +10,7 @@ pub mod kind_word;
 pub mod laws;
 pub mod limits;
 mod log_text;
+mod lower_digits;
 pub mod members_word;
 pub mod memory;
 pub mod message;

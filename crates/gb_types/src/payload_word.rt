@@ -5,6 +5,7 @@ ghost use Rattle.hex.specs.Hex.{decode_of};
 ghost use Rattle.gb_types.specs.declared.payload.TheConstants.{INLINE};
 ghost use Rattle.gb_types.specs.PayloadWord.{payload_of, payload_word};
 
+use crate::lower_digits::read_lower;
 use crate::memory::OutOfMemory;
 use crate::payload::{INLINE, Payload};
 use hex::FromHexError;
@@ -23,6 +24,17 @@ fn read_few(alloc: Global, word: &[u8]) -> Result<Option<Payload>, OutOfMemory>
     }
 }
 
+/// The bytes of any digits. None where these are none, or odd in number.
+fn read_any(alloc: Global, word: &[u8]) -> Result<Option<Payload>, OutOfMemory>
+    ensures { IfOk result (λ found. found ≡ result_ok (decode_of word.now)) }
+{
+    match hex::decode(alloc, word) {
+        Ok(bytes) => Ok(Some(Payload::from(bytes))),
+        Err(FromHexError::OutOfMemory) => Err(OutOfMemory),
+        Err(_) => Ok(None),
+    }
+}
+
 /// The bytes that a word spells, with digits of both cases. None where it is neither `-` nor an even
 /// number of digits, at least two.
 pub fn read_payload(alloc: Global, word: &[u8]) -> Result<Option<Payload>, OutOfMemory>
@@ -32,10 +44,9 @@ pub fn read_payload(alloc: Global, word: &[u8]) -> Result<Option<Payload>, OutOf
         b"-" => Ok(Some(Payload::new(alloc))),
         [] => Ok(None),
         _ if word.len() <= 2 * INLINE => read_few(alloc, word),
-        _ => match hex::decode(alloc, word) {
-            Ok(bytes) => Ok(Some(Payload::from(bytes))),
-            Err(FromHexError::OutOfMemory) => Err(OutOfMemory),
-            Err(_) => Ok(None),
+        _ => match read_lower(alloc, word)? {
+            Some(bytes) => Ok(Some(Payload::from(bytes))),
+            None => read_any(alloc, word),
         },
     }
 }

@@ -1,0 +1,86 @@
+//! The bytes of hexadecimal digits in lower case. A branch for each digit, as the crate `hex` reads them, is foretold for payloads
+//! that look alike, and for others costs ten times as much. So the bytes are guessed without one, and their digits, as `hex`
+//! writes them, are compared with the word.
+ghost use Rattle.std.specs.Prelude.{◌≡◌, ◌≤◌, ◌*◌, length, true, Ok, IfOk, IfSome};
+ghost use Rattle.hex.specs.Hex.{decode_of, encode_lower};
+
+use crate::memory::OutOfMemory;
+use std::alloc::Global;
+
+/// How many bytes are compared with their digits at once.
+const BLOCK: usize = 16;
+
+/// How many digits those have.
+const DIGITS: usize = 32;
+
+const _: () = prove!(DIGITS == 2 * BLOCK);
+
+/// What a hexadecimal digit stands for. Of any other character some number.
+fn guess_digit(digit: u8) -> u8 {
+    (digit & 15).wrapping_add((digit >> 6).wrapping_mul(9))
+}
+
+/// Puts what pairs of digits stand for into the bytes, where digits these are. What comes of it has to be looked at.
+fn guess(pairs: &[[u8; 2]], bytes: &mut [u8]) {
+    for (byte, [high, low]) in bytes.iter_mut().zip(pairs) {
+        *byte = guess_digit(*high)
+            .wrapping_mul(16)
+            .wrapping_add(guess_digit(*low));
+    }
+}
+
+/// Whether a block of bytes has these digits.
+fn has_digits(bytes: &[u8; BLOCK], word: &[u8; DIGITS]) -> bool
+    ensures { result ≡ true → encode_lower bytes.now ≡ word.now }
+{
+    let mut digits = [0; DIGITS];
+    hex::encode_to_slice(bytes, &mut digits).is_ok() && digits == *word
+}
+
+/// Whether at most a block of bytes has these digits.
+fn have_digits(bytes: &[u8], word: &[u8]) -> bool
+    ensures { result ≡ true → encode_lower bytes.now ≡ word.now }
+{
+    let mut digits = [0; DIGITS];
+    if bytes.len() > BLOCK {
+        return false;
+    }
+    let few = &mut digits[..2 * bytes.len()];
+    hex::encode_to_slice(bytes, few).is_ok() && *few == *word
+}
+
+/// Whether a word spells the bytes in lower case: true only where it does.
+fn is_spelled(bytes: &[u8], word: &[u8]) -> bool
+    ensures { result ≡ true → decode_of word.now ≡ Ok bytes.now }
+{
+    let mut left = bytes;
+    let mut digits = word;
+    for _ in 0..bytes.len() / BLOCK {
+        let Some((few, bytes_behind)) = left.split_first_chunk::<BLOCK>() else {
+            return false;
+        };
+        let Some((these, digits_behind)) = digits.split_first_chunk::<DIGITS>() else {
+            return false;
+        };
+        if !has_digits(few, these) {
+            return false;
+        }
+        left = bytes_behind;
+        digits = digits_behind;
+    }
+    have_digits(left, digits)
+}
+
+/// The bytes that a word spells, found where it is written in lower case. None leaves it to be read digit by digit.
+pub fn read_lower(alloc: Global, word: &[u8]) -> Result<Option<Vec<u8>>, OutOfMemory>
+    ensures { IfOk result (λ found. IfSome found (λ bytes. decode_of word.now ≡ Ok bytes.items)) }
+{
+    let (pairs, _) = word.as_chunks::<2>();
+    let mut bytes = vec![in alloc; 0u8; pairs.len()]?;
+    guess(pairs, bytes.as_mut_slice());
+    if is_spelled(bytes.as_slice(), word) {
+        Ok(Some(bytes))
+    } else {
+        Ok(None)
+    }
+}
