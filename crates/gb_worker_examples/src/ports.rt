@@ -1,9 +1,9 @@
 //! Worked ports.
-use crate::fail_at::FailAt;
-use crate::mesh::SLOTS;
-use crate::port::{Port, PortFault};
-use crate::ring::RingPort;
-use crate::udp::{BindFault, SPACE, UdpPort};
+use gb_port::fail_at::FailAt;
+use gb_port::mesh::SLOTS;
+use gb_port::port::{Port, PortFault};
+use gb_port::ring::RingPort;
+use gb_port::udp::{BindFault, SPACE, UdpPort};
 use gb_types::memory::OutOfMemory;
 use gb_types::node::NodeId;
 use std::alloc::Global;
