@@ -74,7 +74,7 @@ is_named Tick = refl
 is_named Stop = refl
 
 -- heads with one word are equal
-one_head : (a b : Head) → head_word a ≡ head_word b → a ≡ b
+pub one_head : (a b : Head) → head_word a ≡ head_word b → a ≡ b
 one_head a b is = sym (is_named a) ∙ ap (λ w. named (letters w)) is ∙ is_named b
 
 -- what is found is the step that is spelt behind the head, and so the line's
@@ -92,7 +92,7 @@ step_found nodes line head words answer are finds step = (
 )
 
 -- a line of two words at least begins with the first and a space
-begins : (line word next : List ℕ) (words : List (List ℕ)) → words_of line ≡ word ∷ next ∷ words → line ≡ word ++ 32 ∷ join_with_byte 32 (next ∷ words)
+pub begins : (line word next : List ℕ) (words : List (List ℕ)) → words_of line ≡ word ∷ next ∷ words → line ≡ word ++ 32 ∷ join_with_byte 32 (next ∷ words)
 begins line word next words are = sym (each_line_is_its_words line).0 ∙ ap (join_with_byte 32) are
 
 -- the first byte of a line that begins so

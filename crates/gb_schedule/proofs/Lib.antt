@@ -3,6 +3,7 @@ pub mod LineSplitLemmas
 pub mod LeftLemmas
 pub mod CutLemmas
 pub mod RowLemmas
+pub mod SayLemmas
 pub mod StepLemmas
 pub mod HeadLemmas
 pub mod WordLemmas

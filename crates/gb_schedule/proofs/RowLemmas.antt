@@ -11,8 +11,8 @@ use Rattle.gb_types.specs.declared.request.Request.TheVariants.{AddTenant, Make,
 use Rattle.gb_schedule.specs.declared.command.Command.TheVariants.{Cluster, Request, Noise}
 use Rattle.gb_types.specs.RequestWords.{SpellsSpec}
 use Rattle.gb_types.proofs.RequestWordLemmas.{IsShortWord, IsLongWord, AreAddressWords}
-use Rattle.gb_schedule.specs.Grammar.{SpellsCluster, SpellsTenant, SpellsMake, SpellsNamed, SpellsSay, SpellsForge, SpellsNoise}
-use Rattle.gb_schedule.specs.Keys.{tenant_key, no_token, admin_token, tenant_token, member_token}
+use Rattle.gb_schedule.specs.Grammar.{SpellsCluster, SpellsTenant, SpellsMake, SpellsNamed, SpellsForge, SpellsNoise}
+use Rattle.gb_schedule.specs.Keys.{tenant_key, no_token, admin_token, tenant_token}
 use Rattle.gb_types.proofs.ReadLemmas.{Reads, found, only, reads_one, some_same}
 
 -- what the readers of single words find
@@ -125,33 +125,6 @@ make_reads nodes words a t g rest node address spec token are reads_node reads_a
     let same_words : spelt.spec_words ≡ rest = cc in
     let same_spec : spec ≡ spelt.spec = only (λ x. SpellsSpec x rest) spec spelt.spec reads_spec (rw same_words at spelt.spells_spec) in
     ap (λ q. Request node (Make q address spec)) is_token ∙ (λ i. Request (same_node i) (Make (tenant_token (same_address i).tenant) (same_address i) (same_spec i))) ∙ sym spelt.command_is)
-
-pub say_reads : (nodes : ℕ) (words : List (List ℕ)) (a t g p : List ℕ) (node : NodeId) (address : Addr) (payload token : List ℕ) → words ≡ a ∷ t ∷ g ∷ p ∷ []
-    → Reads (IsNodeWord nodes a) node → Reads (AreAddressWords t g) address → payload_of p ≡ Some payload → token ≡ member_token address node
-    → Reads (λ command. SpellsSay nodes command words) (Request node (Say token address payload))
-say_reads nodes words a t g p node address payload token are reads_node reads_address is_payload is_token =
-    let is_node = found (IsNodeWord nodes a) node reads_node in
-    let is_address = found (AreAddressWords t g) address reads_address in
-    let here : SpellsSay nodes (Request node (Say token address payload)) words = record {
-      node = node;
-      address = address;
-      payload = payload;
-      payload_word = p;
-      command_is = ap (λ q. Request node (Say q address payload)) is_token;
-      words_are = cc (are, is_node.1, is_address.1, is_address.3);
-      in_cluster = is_node.0;
-      tenant = is_address.0;
-      group = is_address.2;
-      payload_is = is_payload;
-    } in
-    reads_one (λ command. SpellsSay nodes command words) _ here (λ command spelt.
-    let same : a ∷ t ∷ g ∷ p ∷ [] ≡ decimal spelt.node.number ∷ decimal spelt.address.tenant ∷ decimal spelt.address.group ∷ spelt.payload_word ∷ [] = sym are ∙ spelt.words_are in
-    let same_node : node ≡ spelt.node = only (IsNodeWord nodes a) node spelt.node reads_node (spelt.in_cluster, cc) in
-    let same_address : address ≡ spelt.address = only (AreAddressWords t g) address spelt.address reads_address (spelt.tenant, cc, spelt.group, cc) in
-    let same_word : spelt.payload_word ≡ p = cc in
-    let spelt_payload : payload_of p ≡ Some spelt.payload = rw same_word at spelt.payload_is in
-    let same_payload : payload ≡ spelt.payload = some_same payload spelt.payload (sym is_payload ∙ spelt_payload) in
-    ap (λ q. Request node (Say q address payload)) is_token ∙ (λ i. Request (same_node i) (Say (member_token (same_address i) (same_node i)) (same_address i) (same_payload i))) ∙ sym spelt.command_is)
 
 pub forge_reads : (nodes : ℕ) (words : List (List ℕ)) (a t g : List ℕ) (node : NodeId) (address : Addr) (payload : List ℕ) → words ≡ a ∷ t ∷ g ∷ []
     → Reads (IsNodeWord nodes a) node → Reads (AreAddressWords t g) address → payload ≡ []

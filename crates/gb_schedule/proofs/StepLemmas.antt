@@ -14,7 +14,7 @@ use Rattle.gb_schedule.specs.Numbers.{AreNumbers}
 use Rattle.gb_schedule.proofs.NumbersLemmas.{within}
 
 -- nodes with one word are equal
-same_node : (a b : NodeId) → decimal a.number ≡ decimal b.number → a ≡ b
+pub same_node : (a b : NodeId) → decimal a.number ≡ decimal b.number → a ≡ b
 same_node a b is =
     let small_a = a.below in
     let small_b = b.below in

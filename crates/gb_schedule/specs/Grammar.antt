@@ -1,6 +1,6 @@
 -- The grammar of a schedule: for each head, the words behind it and the command that they spell. Numbers are decimal,
 -- without a leading zero.
-use Rattle.std.specs.Prelude.{◌≡◌, ℕ, ◌<◌, ◌≤◌, List, [], ◌∷◌, Option, None, Some, decimal}
+use Rattle.std.specs.Prelude.{◌≡◌, ℕ, ◌<◌, ◌≤◌, List, [], ◌∷◌, Option, None, Some, length, drop, decimal}
 use Rattle.gb_types.specs.declared.limits.TheConstants.{NODES, SILENCE_MIN, SILENCE_MAX}
 use Rattle.gb_types.specs.PayloadWord.{payload_of}
 use Rattle.gb_types.specs.RequestWords.{IsShort, IsLong, SpellsSpec}
@@ -64,6 +64,20 @@ pub record SpellsNamed (request : List ℕ → Addr → AnyRequest) (nodes : ℕ
   pub in_cluster : node.number < nodes
   pub tenant : IsShort address.tenant
   pub group : IsShort address.group
+
+-- the first three words of a text are the numbers of a node, a tenant and a group, and this is where the word behind them stands
+pub record NamesMemberAt (nodes : ℕ) (text : List ℕ) (node : NodeId) (address : Addr) (at : ℕ) : Type 0 where
+  pub words_are : words_of text ≡ decimal node.number ∷ decimal address.tenant ∷ decimal address.group ∷ words_of (drop at text)
+  pub in_cluster : node.number < nodes
+  pub tenant : IsShort address.tenant
+  pub group : IsShort address.group
+  pub within : at ≤ length text
+
+-- the first three words of a text, with a word behind them, are no such numbers
+abbrev pub NamesNoMember : ℕ → List ℕ → Type 0
+NamesNoMember nodes text =
+    (node : NodeId) (address : Addr) (word : List ℕ) (words : List (List ℕ)) → node.number < nodes → IsShort address.tenant → IsShort address.group
+    → words_of text ≡ decimal node.number ∷ decimal address.tenant ∷ decimal address.group ∷ word ∷ words → ⊥
 
 -- `say A T G PAYLOAD`; a payload may be spelt in digits of both cases
 pub record SpellsSay (nodes : ℕ) (command : Command) (words : List (List ℕ)) : Type 0 where

@@ -1,5 +1,5 @@
 //! The grammar of a schedule: the words behind each head, and the command that they spell.
-ghost use Rattle.std.specs.Prelude.{◌≡◌, ◌≤◌, ◌<◌, ◌↔◌, ℕ, List, [], ◌∷◌, ◌++◌, Some, IfOk, IfSome, IfNone, IsTrue, decimal, map};
+ghost use Rattle.std.specs.Prelude.{◌≡◌, ◌≤◌, ◌<◌, ◌↔◌, ℕ, List, [], ◌∷◌, ◌++◌, Some, IfOk, IfSome, IfNone, IsTrue, codes, decimal, map};
 ghost use Rattle.std.specs.Option.{ForSome};
 ghost use Rattle.std.specs.Io.{StartsWith};
 ghost use Rattle.gb_types.specs.Words.{words_of};
@@ -8,12 +8,13 @@ ghost use Rattle.gb_schedule.specs.declared.command.Step.{Step as TheStep};
 ghost use Rattle.gb_schedule.specs.declared.command.Command.{Command as TheCommand};
 ghost use Rattle.gb_schedule.specs.declared.command.Command.TheVariants as Commands;
 ghost use Rattle.gb_types.specs.declared.request.Request.TheVariants.{OpenGroup, ShutGroup, DropGroup};
-ghost use Rattle.gb_schedule.specs.Grammar.{SpellsCluster, SpellsTenant, SpellsMake, SpellsNamed, SpellsSay, SpellsFetch, SpellsForge, SpellsPack, SpellsAgain, SpellsAck, SpellsArrive, SpellsNoise, SpellsTick, SpellsStop, Spells, IsCommandLine, IsInPlace, IsSilent, SilentLinesSpellNothing};
+ghost use Rattle.gb_schedule.specs.declared.head.Head.TheVariants.{Say as SayHead};
+ghost use Rattle.gb_schedule.specs.Grammar.{NamesMemberAt, NamesNoMember, SpellsCluster, SpellsTenant, SpellsMake, SpellsNamed, SpellsSay, SpellsFetch, SpellsForge, SpellsPack, SpellsAgain, SpellsAck, SpellsArrive, SpellsNoise, SpellsTick, SpellsStop, Spells, IsCommandLine, IsInPlace, IsSilent, SilentLinesSpellNothing};
 
 use crate::command::{Command, Step};
 use crate::head::{Head, read_head};
 use crate::keys::{Keys, NO_TOKEN, tenant_key};
-use crate::words::{WORDS, numbers_in, words_in};
+use crate::words::{WORDS, number_at, numbers_in, words_in};
 use gb_types::address::Addr;
 use gb_types::limits::{NODES, SILENCE_MAX, SILENCE_MIN};
 use gb_types::memory::OutOfMemory;
@@ -157,27 +158,42 @@ fn read_drop(keys: &mut Keys, nodes: u8, words: &[&[u8]]) -> Option<Command>
     Some(Command::Request(node, Request::DropGroup(token, address)))
 }
 
+// The member that the first three words of a text name, and where the word behind them stands.
+#[inline(always)]
+fn member_at(nodes: u8, text: &[u8]) -> Option<(NodeId, Addr, usize)>
+    requires { (1 ≤ nodes) × (nodes ≤ NODES) }
+    ensures some { IfSome result (λ found. NamesMemberAt nodes text.now found.0 found.1 found.2) }
+    ensures none { IfNone result (NamesNoMember nodes text.now) }
+{
+    let (node, rest) = number_at(text, 0)?;
+    let (tenant, rest) = number_at(text, rest?)?;
+    let (group, rest) = number_at(text, rest?)?;
+    let rest = rest?;
+    if node >= u64::from(nodes) || tenant > SHORT || group > SHORT {
+        return None;
+    }
+    let address = Addr {
+        tenant: tenant as u16,
+        group: group as u16,
+    };
+    Some((NodeId::new(node as u8), address, rest))
+}
+
 // say A T G PAYLOAD
 fn read_say(
     alloc: Global,
     keys: &mut Keys,
     nodes: u8,
-    words: &[&[u8]],
+    text: &[u8],
 ) -> Result<Option<Command>, OutOfMemory>
     requires { (1 ≤ nodes) × (nodes ≤ NODES) }
     ensures { IfOk result (λ found. (command : TheCommand) → (found ≡ Some command)
-        ↔ SpellsSay nodes command (map (λ word. word.now) words.now)) }
+        ↔ SpellsSay nodes command (words_of text.now)) }
 {
-    let [node, tenant, group, payload] = words else {
+    let Some((node, address, rest)) = member_at(nodes, text) else {
         return Ok(None);
     };
-    let Some(node) = read_node(node, nodes) else {
-        return Ok(None);
-    };
-    let Some(address) = read_address(tenant, group) else {
-        return Ok(None);
-    };
-    let Some(payload) = read_payload(alloc, payload)? else {
+    let Some(payload) = read_payload(alloc, &text[rest..])? else {
         return Ok(None);
     };
     let token = keys.member(address, node);
@@ -344,7 +360,17 @@ pub fn read_step(nodes: Option<u8>, line: &[u8]) -> Option<Step>
     }
 }
 
-// The command that a head and the words behind it, its arguments, spell, where they spell no step.
+// What stands behind `say ` in a line that begins with it, and how many nodes the cluster has, once there is one.
+fn behind_say(nodes: Option<u8>, line: &[u8]) -> Option<(u8, &[u8])>
+    ensures some { IfSome result (λ found. (nodes ≡ Some found.0) × (line.now ≡ codes "say " ++ found.1.now)) }
+    ensures none { IfNone result (ForSome nodes (λ count. StartsWith line.now (codes "say ") → ⊥)) }
+{
+    let nodes = nodes?;
+    let text = behind(line, b"say ")?;
+    Some((nodes, text))
+}
+
+// The command that a head and the words behind it, its arguments, spell, where they spell no step and say nothing.
 fn read_arguments(
     alloc: Global,
     keys: &mut Keys,
@@ -354,6 +380,7 @@ fn read_arguments(
 ) -> Result<Option<Command>, OutOfMemory>
     requires few { ForSome nodes (λ count. (1 ≤ count) × (count ≤ NODES)) }
     requires no_step { (step : TheStep) → Spells head nodes (Commands.Step step) (map (λ word. word.now) arguments.now) → ⊥ }
+    requires no_say { (command : TheCommand) → head ≡ SayHead → Spells head nodes command (map (λ word. word.now) arguments.now) → ⊥ }
     ensures { IfOk result (λ found. (command : TheCommand) → (found ≡ Some command)
         ↔ Spells head nodes command (map (λ word. word.now) arguments.now)) }
 {
@@ -370,10 +397,10 @@ fn read_arguments(
         Head::Open => Ok(read_open(keys, nodes, arguments)),
         Head::Shut => Ok(read_shut(keys, nodes, arguments)),
         Head::Drop => Ok(read_drop(keys, nodes, arguments)),
-        Head::Say => read_say(alloc, keys, nodes, arguments),
         Head::Forge => Ok(read_forge(alloc, nodes, arguments)),
         Head::Noise => read_noise(alloc, nodes, arguments),
-        Head::Fetch
+        Head::Say
+        | Head::Fetch
         | Head::Pack
         | Head::Again
         | Head::Ack
@@ -397,6 +424,9 @@ pub fn read_other_command(
         ↔ IsCommandLine nodes line.now command) }
     ensures in_place { IfOk result (λ found. IfSome found (IsInPlace nodes)) }
 {
+    if let Some((nodes, text)) = behind_say(nodes, line) {
+        return read_say(alloc, keys, nodes, text);
+    }
     let mut space: [&[u8]; WORDS] = [line; WORDS];
     let Some(count) = words_in(line, &mut space) else {
         return Ok(None);

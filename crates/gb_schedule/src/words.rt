@@ -94,7 +94,7 @@ fn number_of(text: &[u8], from: usize, digits: usize, number: u64) -> Option<u64
 /// The number that a word writes, which stands in a text from a place on, and where the next word stands, if there is one. None
 /// where it writes no number of 64 bits.
 #[inline(always)]
-fn number_at(text: &[u8], from: usize) -> Option<(u64, Option<usize>)>
+pub fn number_at(text: &[u8], from: usize) -> Option<(u64, Option<usize>)>
     requires { from ≤ length text.now }
     ensures some { IfSome result (λ found. IsNumberAt text.now from found.0 found.1) }
     ensures none { IfNone result (BeginsWithNoNumber (drop from text.now)) }

@@ -1,0 +1,94 @@
+-- What is said behind `say `: the numbers of a member, read one after the other, and the payload behind them.
+use Rattle.std.proofs.Common.{◌≡◌, ◌↔◌, ℕ, ◌<◌, ◌≤◌, ◌^◌, List, [], ◌∷◌, ◌++◌, Option, Some, None, Result, codes, drop, take, decimal, refl, sym, ap, ◌∙◌, subst, arith}
+use Rattle.std.specs.Io.{StartsWith}
+use Rattle.std.specs.List.{join_with_byte}
+use Rattle.std.specs.Option.{ForSome}
+use Rattle.std.specs.Result.{IfOk}
+use Rattle.std.proofs.lemmas.Fmt.{decimal_injective}
+use Rattle.gb_types.specs.PayloadWord.{payload_of}
+use Rattle.gb_types.specs.Words.{words_of}
+use Rattle.gb_types.specs.declared.address.Addr.{Addr}
+use Rattle.gb_types.specs.declared.node.NodeId.{NodeId}
+use Rattle.gb_types.specs.declared.request.Request.TheVariants.{Say}
+use Rattle.gb_types.proofs.PayloadLemmas.{payload_is_one_word}
+use Rattle.gb_types.proofs.ReadLemmas.{Reads, found, reads_one, some_same}
+use Rattle.gb_types.proofs.WordLemmas.{each_line_is_its_words}
+use Rattle.gb_schedule.specs.declared.command.Command.{Command}
+use Rattle.gb_schedule.specs.declared.command.Command.TheVariants.{Request}
+use Rattle.gb_schedule.specs.declared.head.Head.{Head}
+use Rattle.gb_schedule.specs.declared.head.Head.TheVariants as heads
+use Rattle.gb_schedule.specs.Head.{head_word}
+use Rattle.gb_schedule.specs.Keys.{member_token}
+use Rattle.gb_schedule.specs.Numbers.{IsNumberAt}
+use Rattle.gb_schedule.specs.Grammar.{SpellsSay, Spells, IsCommandLine, NamesMemberAt, NamesNoMember}
+use Rattle.gb_schedule.proofs.CommandLemmas.{Finds, command_found}
+use Rattle.gb_schedule.proofs.HeadLemmas.{begins, one_head}
+use Rattle.gb_schedule.proofs.StepLemmas.{same_node as one_node}
+
+-- numbers of which one is above its bound name no member
+pub beyond : (nodes : ℕ) → nodes ≤ 16 → (text : List ℕ) (a t g second third at : ℕ) → a < 2 ^ 64 → t < 2 ^ 64 → g < 2 ^ 64
+    → IsNumberAt text 0 a (Some second) → IsNumberAt text second t (Some third) → IsNumberAt text third g (Some at) → (a < nodes → t ≤ 65535 → g ≤ 65535 → ⊥) → NamesNoMember nodes text
+beyond nodes few text a t g second third at small_a small_t small_g one two three above node address word words below is_t is_g are =
+    let same : decimal a ∷ decimal t ∷ decimal g ∷ words_of (drop at text) ≡ decimal node.number ∷ decimal address.tenant ∷ decimal address.group ∷ word ∷ words = cc (one.1, two.1, three.1, are) in
+    let same_node : a ≡ node.number = decimal_injective a node.number small_a (omega (arith, below, few)) cc in
+    let same_tenant : t ≡ address.tenant = decimal_injective t address.tenant small_t (omega (arith, is_t)) cc in
+    let same_group : g ≡ address.group = decimal_injective g address.group small_g (omega (arith, is_g)) cc in
+    above (omega (arith, same_node, below)) (omega (arith, same_tenant, is_t)) (omega (arith, same_group, is_g))
+
+-- a member's numbers and the word of a payload behind them spell what is said
+pub say_reads : (nodes : ℕ) (text : List ℕ) (node : NodeId) (address : Addr) (at : ℕ) (payload token : List ℕ) → NamesMemberAt nodes text node address at → payload_of (drop at text) ≡ Some payload → token ≡ member_token address node
+    → Reads (λ command. SpellsSay nodes command (words_of text)) (Request node (Say token address payload))
+say_reads nodes text node address at payload token named is_payload is_token =
+    let word = payload_is_one_word (drop at text) payload is_payload in
+    let here : SpellsSay nodes (Request node (Say token address payload)) (words_of text) = record {
+      node = node;
+      address = address;
+      payload = payload;
+      payload_word = drop at text;
+      command_is = ap (λ q. Request node (Say q address payload)) is_token;
+      words_are = named.words_are ∙ ap (λ ws. decimal node.number ∷ decimal address.tenant ∷ decimal address.group ∷ ws) word;
+      in_cluster = named.in_cluster;
+      tenant = named.tenant;
+      group = named.group;
+      payload_is = is_payload;
+    } in
+    reads_one (λ command. SpellsSay nodes command (words_of text)) _ here (λ command spelt.
+    let same : decimal node.number ∷ decimal address.tenant ∷ decimal address.group ∷ drop at text ∷ [] ≡ decimal spelt.node.number ∷ decimal spelt.address.tenant ∷ decimal spelt.address.group ∷ spelt.payload_word ∷ [] = sym here.words_are ∙ spelt.words_are in
+    let same_node : node ≡ spelt.node = one_node node spelt.node cc in
+    let same_tenant : address.tenant ≡ spelt.address.tenant = decimal_injective address.tenant spelt.address.tenant (let small = here.tenant in omega (arith, small)) (let small = spelt.tenant in omega (arith, small)) cc in
+    let same_group : address.group ≡ spelt.address.group = decimal_injective address.group spelt.address.group (let small = here.group in omega (arith, small)) (let small = spelt.group in omega (arith, small)) cc in
+    let same_address : address ≡ spelt.address = λ i. record { tenant = same_tenant i; group = same_group i } in
+    let same_word : drop at text ≡ spelt.payload_word = cc in
+    let spelt_payload : payload_of (drop at text) ≡ Some spelt.payload = ap payload_of same_word ∙ spelt.payload_is in
+    let same_payload : payload ≡ spelt.payload = some_same payload spelt.payload (sym is_payload ∙ spelt_payload) in
+    ap (λ q. Request node (Say q address payload)) is_token ∙ (λ i. Request (same_node i) (Say (member_token (same_address i) (same_node i)) (same_address i) (same_payload i))) ∙ sym spelt.command_is)
+
+-- where what stands behind a member's numbers spells no payload
+pub say_no_payload : (nodes : ℕ) (text : List ℕ) (node : NodeId) (address : Addr) (at : ℕ) → NamesMemberAt nodes text node address at → payload_of (drop at text) ≡ None
+    → (command : Command) → (None ≡ Some command) ↔ SpellsSay nodes command (words_of text)
+say_no_payload nodes text node address at named none command = (
+  λ is. cc is,
+  λ spelt.
+      let same : decimal node.number ∷ decimal address.tenant ∷ decimal address.group ∷ words_of (drop at text) ≡ decimal spelt.node.number ∷ decimal spelt.address.tenant ∷ decimal spelt.address.group ∷ spelt.payload_word ∷ [] = sym named.words_are ∙ spelt.words_are in
+      let one : words_of (drop at text) ≡ spelt.payload_word ∷ [] = cc in
+      let word : drop at text ≡ spelt.payload_word = sym (each_line_is_its_words (drop at text)).0 ∙ ap (join_with_byte 32) one in
+      let no : None ≡ Some spelt.payload = sym none ∙ (ap payload_of word ∙ spelt.payload_is) in
+      absurd (cc no),
+)
+
+-- a line that does not begin so says nothing
+pub no_say_behind : (nodes : Option ℕ) (line : List ℕ) (head : Head) (word : List ℕ) (rest : List (List ℕ)) → words_of line ≡ word ∷ rest → Reads (λ h. word ≡ head_word h) head
+    → ForSome nodes (λ count. StartsWith line (codes "say ") → ⊥) → (command : Command) → head ≡ heads.Say → Spells head nodes command rest → ⊥
+no_say_behind None line head word rest are reads none command is spelt = subst (λ h. Spells h None command rest) is spelt
+no_say_behind (Some nodes) line head word rest are reads none command is spelt =
+    let said : SpellsSay nodes command rest = subst (λ h. Spells h (Some nodes) command rest) is spelt in
+    let is_word : word ≡ codes "say" = found (λ h. word ≡ head_word h) head reads ∙ ap head_word is in
+    let words : words_of line ≡ codes "say" ∷ decimal said.node.number ∷ decimal said.address.tenant ∷ decimal said.address.group ∷ said.payload_word ∷ [] = cc (are, is_word, said.words_are) in
+    none nodes refl (ap (take 4) (begins line _ _ _ words))
+
+-- what stands behind `say ` spells what the line does
+pub say_found : {E : Type 0} (nodes : Option ℕ) (count : ℕ) (line text : List ℕ) (result : Result (Option Command) E) → nodes ≡ Some count → line ≡ codes "say " ++ text
+    → IfOk result (Finds (λ command. SpellsSay count command (words_of text))) → IfOk result (Finds (IsCommandLine nodes line))
+say_found nodes count line text result some is finds =
+    let say : Reads (λ h. codes "say" ≡ head_word h) heads.Say = reads_one (λ h. codes "say" ≡ head_word h) heads.Say refl (λ h same. one_head heads.Say h same) in
+    subst (λ n. IfOk result (Finds (IsCommandLine n line))) (sym some) (command_found (Some count) line heads.Say (codes "say") (words_of text) result (ap words_of is) say finds)
