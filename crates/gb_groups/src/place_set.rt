@@ -34,7 +34,7 @@ impl PlaceSet {
         }
     }
 
-    /// The words of the first 64 * N places, where the set has no others.
+    /// The words of the first 64 * N places, where the set has had no others since it was made.
     pub fn first_words<const N: usize>(&self) -> Option<[u64; N]>
         requires { N ≤ 64 }
         ensures { IfSome result (λ words. (p : ℕ) → has words p ≡ has self.now p) }

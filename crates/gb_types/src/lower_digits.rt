@@ -20,15 +20,6 @@ fn guess_digit(digit: u8) -> u8 {
     (digit & 15).wrapping_add((digit >> 6).wrapping_mul(9))
 }
 
-/// Puts what pairs of digits stand for into the bytes, where digits these are. What comes of it has to be looked at.
-fn guess(pairs: &[[u8; 2]], bytes: &mut [u8]) {
-    for (byte, [high, low]) in bytes.iter_mut().zip(pairs) {
-        *byte = guess_digit(*high)
-            .wrapping_mul(16)
-            .wrapping_add(guess_digit(*low));
-    }
-}
-
 /// Whether a block of bytes has these digits.
 fn has_digits(bytes: &[u8; BLOCK], word: &[u8; DIGITS]) -> bool
     ensures { result ≡ true → encode_lower bytes.now ≡ word.now }
@@ -77,7 +68,12 @@ pub fn read_lower(alloc: Global, word: &[u8]) -> Result<Option<Vec<u8>>, OutOfMe
 {
     let (pairs, _) = word.as_chunks::<2>();
     let mut bytes = vec![in alloc; 0u8; pairs.len()]?;
-    guess(pairs, bytes.as_mut_slice());
+    // Any bytes will do here: they are looked at below.
+    for (byte, [high, low]) in bytes.iter_mut().zip(pairs) {
+        *byte = guess_digit(*high)
+            .wrapping_mul(16)
+            .wrapping_add(guess_digit(*low));
+    }
     if is_spelled(bytes.as_slice(), word) {
         Ok(Some(bytes))
     } else {
