@@ -1,6 +1,6 @@
-//! The bytes of hexadecimal digits in lower case. A branch for each digit, as the crate `hex` reads them, is foretold for payloads
-//! that look alike, and for others costs ten times as much. So the bytes are guessed without one, and their digits, as `hex`
-//! writes them, are compared with the word.
+//! The bytes of hexadecimal digits in lower case. The crate `hex` reads them with a branch for each, which a processor foretells
+//! where payloads look alike; where they do not, reading takes several times as long. So the bytes are guessed without a branch, and
+//! their digits, as `hex` writes them, are compared with the word.
 ghost use Rattle.std.specs.Prelude.{◌≡◌, ◌≤◌, ◌*◌, length, true, Ok, IfOk, IfSome};
 ghost use Rattle.hex.specs.Hex.{decode_of, encode_lower};
 
@@ -20,16 +20,16 @@ fn guess_digit(digit: u8) -> u8 {
     (digit & 15).wrapping_add((digit >> 6).wrapping_mul(9))
 }
 
-/// Whether a block of bytes has these digits.
-fn has_digits(bytes: &[u8; BLOCK], word: &[u8; DIGITS]) -> bool
+/// Whether the digits of a block of bytes are these: true only where they are.
+fn is_block_spelled(bytes: &[u8; BLOCK], word: &[u8; DIGITS]) -> bool
     ensures { result ≡ true → encode_lower bytes.now ≡ word.now }
 {
     let mut digits = [0; DIGITS];
     hex::encode_to_slice(bytes, &mut digits).is_ok() && digits == *word
 }
 
-/// Whether at most a block of bytes has these digits.
-fn have_digits(bytes: &[u8], word: &[u8]) -> bool
+/// Whether the digits of at most a block of bytes are these: true only where they are.
+fn is_rest_spelled(bytes: &[u8], word: &[u8]) -> bool
     ensures { result ≡ true → encode_lower bytes.now ≡ word.now }
 {
     let mut digits = [0; DIGITS];
@@ -53,13 +53,13 @@ fn is_spelled(bytes: &[u8], word: &[u8]) -> bool
         let Some((these, digits_behind)) = digits.split_first_chunk::<DIGITS>() else {
             return false;
         };
-        if !has_digits(few, these) {
+        if !is_block_spelled(few, these) {
             return false;
         }
         left = bytes_behind;
         digits = digits_behind;
     }
-    have_digits(left, digits)
+    is_rest_spelled(left, digits)
 }
 
 /// The bytes that a word spells, found where it is written in lower case. None leaves it to be read digit by digit.

@@ -7,8 +7,8 @@ pub loop-preserved : goal.loop-preserved
 loop-preserved c behind =
     let left = c.in-Some.ensures.cases in
     let digits = c.in-Some-split_first_chunk.ensures.cases in
-    let block = c.has_digits.ensures c.if-not-has_digits.false in
+    let block = c.is_block_spelled.ensures c.if-not-is_block_spelled.false in
     c.loop.invariant (encode-in_parts 16 32 c.loop.left.now c.loop.digits.now (ap encode_lower (sym left.0) ∙ (block ∙ digits.0)) (ap encode_lower (sym left.1) ∙ (behind ∙ digits.1)))
 
 pub returns : goal.returns
-returns c same = decode-of_digits c.args.bytes.now c.args.word.now (λ i. omega (arith, c.type_inv.bytes i)) (c.loop.invariant (c.have_digits.ensures same))
+returns c same = decode-of_digits c.args.bytes.now c.args.word.now (λ i. omega (arith, c.type_inv.bytes i)) (c.loop.invariant (c.is_rest_spelled.ensures same))
