@@ -1,5 +1,4 @@
-//! Worked ports and workers as tests: ports call by call, pumps over rings, sockets and failing ports, tickers, and sessions,
-//! each in a thread of its own.
+//! Worked workers as tests: pumps over rings, sockets and failing ports, tickers, and sessions, each in a thread of its own.
 //! There is nothing here but tests.
 #![tactic(auto)]
 
@@ -13,8 +12,6 @@ mod clients;
 mod day;
 #[cfg(test)]
 mod plans;
-#[cfg(test)]
-mod ports;
 #[cfg(test)]
 mod roles;
 #[cfg(test)]
