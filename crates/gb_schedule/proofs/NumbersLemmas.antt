@@ -1,20 +1,20 @@
 -- The numbers that the words of a text write, read one after the other.
-use Rattle.std.proofs.Common.{◌≡◌, ◌↔◌, ◌==◌, ◌⊎◌, ◌*◌, ◌-◌, ◌%◌, ℕ, zero, suc, ◌+◌, ◌<◌, ◌≤◌, ◌^◌, List, [], ◌∷◌, ◌++◌, Some, None, length, take, drop, get_or, map, decimal, refl, sym, ap, ◌∙◌, subst, slice_index, inl, inr, false, arith}
+use Rattle.std.proofs.Common.{◌≡◌, ◌↔◌, ◌==◌, ◌⊎◌, ◌*◌, ◌-◌, ◌%◌, ℕ, zero, suc, ◌+◌, ◌<◌, ◌≤◌, ◌^◌, List, [], ◌∷◌, ◌++◌, Some, None, length, take, drop, get_or, map, decimal, refl, sym, ap, ◌∙◌, subst, slice_index, inl, inr, false, length-drop, arith}
 use Rattle.std.specs.Str.Parse.{AllDigits, digits_value}
 use Rattle.std.specs.Int.{IsInRange}
 use Rattle.std.specs.List.{join_with_byte}
 use Rattle.std.proofs.lemmas.Bool.{cases_lt, cases_eq, ne_eqb}
 use Rattle.std.proofs.Math.Nat.{mod-eq_of_lt}
 use Rattle.std.proofs.lemmas.Str.Parse.{digit_at, digits_value_short, numerals_by_value, tells_digits}
-use Rattle.std.proofs.lemmas.Fmt.{decimal_injective, decimal_is_IsNumeral}
-use Rattle.std.proofs.lemmas.List.{take_all, length-take-le, get_or-take, get_or_append_left, get_or-append-add}
+use Rattle.std.proofs.lemmas.Fmt.{decimal_injective, decimal_is_IsNumeral, decimal_digit}
+use Rattle.std.proofs.lemmas.List.{take_all, length-take-le, get_or-take, get_or_append_left, get_or-append-add, get_or-drop, drop-drop}
 use Rattle.std.proofs.lemmas.List.Splits.{length-slice_split}
 use Rattle.std.proofs.lemmas.List.Elements.{All-head, All-tail, All-get_or, All-from_get_or}
 use Rattle.gb_types.specs.Words.{words_of}
 use Rattle.gb_types.proofs.NumberLemmas.{BeginsBadly, not_badly, read_more, reads_back}
 use Rattle.gb_types.proofs.WordLemmas.{each_line_is_its_words}
 use Rattle.gb_types.proofs.ReadLemmas.{Reads, reads_one}
-use Rattle.gb_schedule.specs.Numbers.{BeginsWithNoNumber, AllFit, AreAtMost, AreNumbers}
+use Rattle.gb_schedule.specs.Numbers.{IsNumberAt, BeginsWithNoNumber, AllFit, AreAtMost, AreNumbers}
 use Rattle.gb_schedule.proofs.WordLemmas.{first_space, more_words, last_word}
 
 -- one digit more, read with what does not fit cut off: up to 19 digits nothing is
@@ -125,6 +125,52 @@ module _ (text : List ℕ) (digits : ℕ) (within : digits ≤ length text) (all
 
 abbrev fits : ℕ → Type 0
 fits n = n < 2 ^ 64
+
+-- a digit spells its value, as a word of its own
+one_digit : (text : List ℕ) → 0 < length text → IsInRange 48 57 (get_or text 0 0) → (take 1 text ≡ decimal (get_or text 0 0 - 48)) × AllDigits 10 (take 1 text)
+one_digit [] some digit = absurd (omega (arith, some))
+one_digit (byte ∷ text) some digit =
+    let is : byte ∷ [] ≡ decimal (byte - 48) = ap (λ b. b ∷ []) (omega (arith, digit)) ∙ sym (decimal_digit (byte - 48) (omega (arith, digit))) in
+    (is, subst (AllDigits 10) (sym is) (decimal_is_IsNumeral (byte - 48) (omega (arith, digit))).0.1)
+
+-- a digit at a place of a text
+module _ (text : List ℕ) (from : ℕ) (below : from < length text) (digit : IsInRange 48 57 (get_or text from 0)) where
+  abbrev front : List ℕ
+  front = drop from text
+
+  here : get_or front 0 0 ≡ get_or text from 0
+  here = get_or-drop from text 0 0 ∙ ap (λ k. get_or text k 0) (omega arith)
+
+  some : 0 < length front
+  some = let count = length-drop from text in omega (arith, count, below)
+
+  spelt : (take 1 front ≡ decimal (get_or text from 0 - 48)) × AllDigits 10 (take 1 front)
+  spelt =
+      let one = one_digit front some (subst (IsInRange 48 57) (sym here) digit) in
+      (one.0 ∙ ap (λ b. decimal (b - 48)) here, one.1)
+
+  -- it is the last word, where the text ends behind it
+  pub last_digit : from + 1 ≡ length text → IsNumberAt text from (get_or text from 0 - 48) None
+  last_digit end =
+      let count = length-drop from text in
+      last_digits front 1 (omega (arith, some)) spelt.1 (omega (arith, count, end)) ∙ ap (λ w. w ∷ []) spelt.0
+
+  -- it is a word before others, where a space stands behind it
+  pub next_digit : from + 1 < length text → get_or text (from + 1) 0 ≡ 32 → IsNumberAt text from (get_or text from 0 - 48) (Some (from + 1 + 1))
+  next_digit more space =
+      let count = length-drop from text in
+      let rest : drop (1 + 1) front ≡ drop (from + 1 + 1) text = drop-drop (1 + 1) from text ∙ ap (λ k. drop k text) (omega arith) in (
+        omega (arith, more),
+        next_digits front 1 (omega (arith, some)) spelt.1 (omega (arith, count, more)) (get_or-drop from text 1 0 ∙ space) ∙ ap (λ w. w ∷ words_of (drop (1 + 1) front)) spelt.0 ∙ ap (λ t. decimal (get_or text from 0 - 48) ∷ words_of t) rest,
+      )
+
+-- a number with a word behind it is not the last
+pub not_last : (text : List ℕ) (from m next n : ℕ) → IsNumberAt text from m (Some next) → words_of (drop from text) ≡ decimal n ∷ [] → ⊥
+not_last text from m next n at last =
+    let some = length-slice_split (λ byte. byte == 32) (drop next text) in
+    let two : decimal m ∷ words_of (drop next text) ≡ decimal n ∷ [] = sym at.1 ∙ last in
+    let none : words_of (drop next text) ≡ [] = cc two in
+    omega (arith, some, ap length none)
 
 -- where the next word is no number of 64 bits, the words are no such numbers
 pub stops_at : (left front ns : List ℕ) → BeginsWithNoNumber left → AllFit ns → map decimal front ++ words_of left ≡ map decimal ns → ⊥

@@ -1,5 +1,5 @@
 -- The steps that the words behind a head spell, from the numbers that the words write.
-use Rattle.std.proofs.Common.{◌≡◌, ◌↔◌, ℕ, ◌+◌, ◌≤◌, List, [], ◌∷◌, Some, None, get_or, refl, sym, ◌∙◌, decimal, arith}
+use Rattle.std.proofs.Common.{◌≡◌, ◌↔◌, ℕ, ◌+◌, ◌<◌, ◌≤◌, ◌^◌, List, [], ◌∷◌, Some, None, drop, get_or, refl, sym, ◌∙◌, decimal, arith}
 use Rattle.std.proofs.lemmas.Fmt.{decimal_injective}
 use Rattle.gb_types.specs.Words.{words_of}
 use Rattle.gb_types.specs.declared.address.Addr.{Addr}
@@ -9,8 +9,8 @@ use Rattle.gb_types.proofs.SameLemmas.{same_number}
 use Rattle.gb_schedule.specs.declared.command.Command.TheVariants.{Step}
 use Rattle.gb_schedule.specs.declared.command.Step.TheVariants.{Pack, Again, Ack, Arrive, Tick, Stop, Fetch}
 use Rattle.gb_schedule.specs.declared.command.Step.{Step as AnyStep}
-use Rattle.gb_schedule.specs.Grammar.{SpellsPack, SpellsAgain, SpellsAck, SpellsArrive, SpellsTick, SpellsStop, SpellsFetch}
-use Rattle.gb_schedule.specs.Numbers.{AreNumbers}
+use Rattle.gb_schedule.specs.Grammar.{NamesTwoNodes, SpellsPack, SpellsAgain, SpellsAck, SpellsArrive, SpellsTick, SpellsStop, SpellsFetch}
+use Rattle.gb_schedule.specs.Numbers.{IsNumberAt, AreNumbers}
 use Rattle.gb_schedule.proofs.NumbersLemmas.{within}
 
 -- nodes with one word are equal
@@ -27,75 +27,62 @@ step_is is = cc is
 none_there : {X : Type 0} (most text ns : List ℕ) → ((ms : List ℕ) → (None ≡ Some ms) ↔ AreNumbers most text ms) → AreNumbers most text ns → X
 none_there most text ns none are = let is = (none ns).1 are in cc is
 
--- each of two numbers is at most its bound
-pub two_within : (last : ℕ) (text ns : List ℕ) → Reads (AreNumbers (last ∷ last ∷ []) text) ns → (get_or ns 0 0 ≤ last) × (get_or ns 1 0 ≤ last)
-two_within last text ns reads = let are = (found (AreNumbers (last ∷ last ∷ []) text) ns reads).1 in (within (last ∷ last ∷ []) ns 0 are, within (last ∷ last ∷ []) ns 1 are)
+-- numbers of which one is no node's name no two nodes
+pub beyond_two : (nodes : ℕ) → nodes ≤ 16 → (text : List ℕ) (a b second : ℕ) → a < 2 ^ 64 → b < 2 ^ 64 → IsNumberAt text 0 a (Some second) → words_of (drop second text) ≡ decimal b ∷ [] → (a < nodes → b < nodes → ⊥)
+    → (node to : NodeId) → NamesTwoNodes nodes text node to → ⊥
+beyond_two nodes few text a b second small_a small_b one last above node to named =
+    let below = named.in_cluster in
+    let to_below = named.to_in_cluster in
+    let same : decimal a ∷ decimal b ∷ [] ≡ decimal node.number ∷ decimal to.number ∷ [] = cc (one.1, last, named.words_are) in
+    let same_first : a ≡ node.number = decimal_injective a node.number small_a (omega (arith, below, few)) cc in
+    let same_second : b ≡ to.number = decimal_injective b to.number small_b (omega (arith, to_below, few)) cc in
+    above (omega (arith, same_first, below)) (omega (arith, same_second, to_below))
 
-pub pack_reads : (nodes last : ℕ) (text ns : List ℕ) (node to : NodeId) → last + 1 ≡ nodes → Reads (AreNumbers (last ∷ last ∷ []) text) ns → node.number ≡ get_or ns 0 0 → to.number ≡ get_or ns 1 0
-    → Reads (λ step. SpellsPack nodes (Step step) (words_of text)) (Pack node to)
-pack_reads nodes last text [] node to is reads is_node is_to = absurd (found (AreNumbers (last ∷ last ∷ []) text) [] reads).1
-pack_reads nodes last text (a ∷ []) node to is reads is_node is_to = absurd (found (AreNumbers (last ∷ last ∷ []) text) (a ∷ []) reads).1.1
-pack_reads nodes last text (a ∷ b ∷ c ∷ ns) node to is reads is_node is_to = absurd (found (AreNumbers (last ∷ last ∷ []) text) (a ∷ b ∷ c ∷ ns) reads).1.1.1
-pack_reads nodes last text (a ∷ b ∷ []) node to is reads is_node is_to =
-    let are = found (AreNumbers (last ∷ last ∷ []) text) (a ∷ b ∷ []) reads in
-    let first : a ≤ last = are.1.0 in
-    let second : b ≤ last = are.1.1.0 in
+-- no text names two nodes in two ways
+same_pair : (nodes : ℕ) (text : List ℕ) (a b c d : NodeId) → NamesTwoNodes nodes text a b → words_of text ≡ decimal c.number ∷ decimal d.number ∷ [] → (a ≡ c) × (b ≡ d)
+same_pair nodes text a b c d named are =
+    let same : decimal a.number ∷ decimal b.number ∷ [] ≡ decimal c.number ∷ decimal d.number ∷ [] = sym named.words_are ∙ are in
+    (same_node a c cc, same_node b d cc)
+
+pub pack_reads : (nodes : ℕ) (text : List ℕ) (node to : NodeId) → NamesTwoNodes nodes text node to → Reads (λ step. SpellsPack nodes (Step step) (words_of text)) (Pack node to)
+pack_reads nodes text node to named =
     let here : SpellsPack nodes (Step (Pack node to)) (words_of text) = record {
       node = node;
       to = to;
       command_is = refl;
-      words_are = cc (are.0, is_node, is_to);
-      in_cluster = omega (arith, is, is_node, first);
-      to_in_cluster = omega (arith, is, is_to, second);
+      words_are = named.words_are;
+      in_cluster = named.in_cluster;
+      to_in_cluster = named.to_in_cluster;
     } in
     reads_one (λ step. SpellsPack nodes (Step step) (words_of text)) _ here (λ step spelt.
-    let same : decimal node.number ∷ decimal to.number ∷ [] ≡ decimal spelt.node.number ∷ decimal spelt.to.number ∷ [] = sym here.words_are ∙ spelt.words_are in
-    let same_first : node ≡ spelt.node = same_node node spelt.node cc in
-    let same_to : to ≡ spelt.to = same_node to spelt.to cc in
-    cc spelt.command_is)
+    let same = same_pair nodes text node to spelt.node spelt.to named spelt.words_are in
+    let first = same.0 in
+    let second = same.1 in
+    cc (first, second, spelt.command_is))
 
-pub pack_none : (nodes last : ℕ) (text : List ℕ) → last + 1 ≡ nodes → ((ns : List ℕ) → (None ≡ Some ns) ↔ AreNumbers (last ∷ last ∷ []) text ns)
-    → (step : AnyStep) → (None ≡ Some step) ↔ SpellsPack nodes (Step step) (words_of text)
-pack_none nodes last text is none step = (
-  λ found. cc found,
-  λ spelt.
-      let first = spelt.in_cluster in
-      let second = spelt.to_in_cluster in
-      none_there (last ∷ last ∷ []) text (spelt.node.number ∷ spelt.to.number ∷ []) none (spelt.words_are, (omega (arith, is, first), (omega (arith, is, second), tt))),
-)
+pub pack_none : (nodes : ℕ) (text : List ℕ) → ((node to : NodeId) → NamesTwoNodes nodes text node to → ⊥) → (step : AnyStep) → (None ≡ Some step) ↔ SpellsPack nodes (Step step) (words_of text)
+pack_none nodes text none step =
+    (λ found. cc found, λ spelt. absurd (none spelt.node spelt.to (record { words_are = spelt.words_are; in_cluster = spelt.in_cluster; to_in_cluster = spelt.to_in_cluster })))
 
-pub ack_reads : (nodes last : ℕ) (text ns : List ℕ) (node to : NodeId) → last + 1 ≡ nodes → Reads (AreNumbers (last ∷ last ∷ []) text) ns → node.number ≡ get_or ns 0 0 → to.number ≡ get_or ns 1 0
-    → Reads (λ step. SpellsAck nodes (Step step) (words_of text)) (Ack node to)
-ack_reads nodes last text [] node to is reads is_node is_to = absurd (found (AreNumbers (last ∷ last ∷ []) text) [] reads).1
-ack_reads nodes last text (a ∷ []) node to is reads is_node is_to = absurd (found (AreNumbers (last ∷ last ∷ []) text) (a ∷ []) reads).1.1
-ack_reads nodes last text (a ∷ b ∷ c ∷ ns) node to is reads is_node is_to = absurd (found (AreNumbers (last ∷ last ∷ []) text) (a ∷ b ∷ c ∷ ns) reads).1.1.1
-ack_reads nodes last text (a ∷ b ∷ []) node to is reads is_node is_to =
-    let are = found (AreNumbers (last ∷ last ∷ []) text) (a ∷ b ∷ []) reads in
-    let first : a ≤ last = are.1.0 in
-    let second : b ≤ last = are.1.1.0 in
+pub ack_reads : (nodes : ℕ) (text : List ℕ) (node to : NodeId) → NamesTwoNodes nodes text node to → Reads (λ step. SpellsAck nodes (Step step) (words_of text)) (Ack node to)
+ack_reads nodes text node to named =
     let here : SpellsAck nodes (Step (Ack node to)) (words_of text) = record {
       node = node;
       to = to;
       command_is = refl;
-      words_are = cc (are.0, is_node, is_to);
-      in_cluster = omega (arith, is, is_node, first);
-      to_in_cluster = omega (arith, is, is_to, second);
+      words_are = named.words_are;
+      in_cluster = named.in_cluster;
+      to_in_cluster = named.to_in_cluster;
     } in
     reads_one (λ step. SpellsAck nodes (Step step) (words_of text)) _ here (λ step spelt.
-    let same : decimal node.number ∷ decimal to.number ∷ [] ≡ decimal spelt.node.number ∷ decimal spelt.to.number ∷ [] = sym here.words_are ∙ spelt.words_are in
-    let same_first : node ≡ spelt.node = same_node node spelt.node cc in
-    let same_to : to ≡ spelt.to = same_node to spelt.to cc in
-    cc spelt.command_is)
+    let same = same_pair nodes text node to spelt.node spelt.to named spelt.words_are in
+    let first = same.0 in
+    let second = same.1 in
+    cc (first, second, spelt.command_is))
 
-pub ack_none : (nodes last : ℕ) (text : List ℕ) → last + 1 ≡ nodes → ((ns : List ℕ) → (None ≡ Some ns) ↔ AreNumbers (last ∷ last ∷ []) text ns)
-    → (step : AnyStep) → (None ≡ Some step) ↔ SpellsAck nodes (Step step) (words_of text)
-ack_none nodes last text is none step = (
-  λ found. cc found,
-  λ spelt.
-      let first = spelt.in_cluster in
-      let second = spelt.to_in_cluster in
-      none_there (last ∷ last ∷ []) text (spelt.node.number ∷ spelt.to.number ∷ []) none (spelt.words_are, (omega (arith, is, first), (omega (arith, is, second), tt))),
-)
+pub ack_none : (nodes : ℕ) (text : List ℕ) → ((node to : NodeId) → NamesTwoNodes nodes text node to → ⊥) → (step : AnyStep) → (None ≡ Some step) ↔ SpellsAck nodes (Step step) (words_of text)
+ack_none nodes text none step =
+    (λ found. cc found, λ spelt. absurd (none spelt.node spelt.to (record { words_are = spelt.words_are; in_cluster = spelt.in_cluster; to_in_cluster = spelt.to_in_cluster })))
 
 -- one number is at most its bound
 pub one_within : (last : ℕ) (text ns : List ℕ) → Reads (AreNumbers (last ∷ []) text) ns → get_or ns 0 0 ≤ last
@@ -159,27 +146,17 @@ stop_none nodes last text is none step = (
 abbrev pub largest : ℕ
 largest = 18446744073709551615
 
-pub arrive_reads : (text ns : List ℕ) (packet : ℕ) → Reads (AreNumbers (largest ∷ []) text) ns → packet ≡ get_or ns 0 0 → Reads (λ step. SpellsArrive (Step step) (words_of text)) (Arrive packet)
-arrive_reads text [] packet reads is = absurd (found (AreNumbers (largest ∷ []) text) [] reads).1
-arrive_reads text (a ∷ b ∷ ns) packet reads is = absurd (found (AreNumbers (largest ∷ []) text) (a ∷ b ∷ ns) reads).1.1
-arrive_reads text (a ∷ []) packet reads is =
-    let are = found (AreNumbers (largest ∷ []) text) (a ∷ []) reads in
-    let small : a ≤ largest = are.1.0 in
-    let here : SpellsArrive (Step (Arrive packet)) (words_of text) = record {
-      packet = packet;
-      command_is = refl;
-      words_are = cc (are.0, is);
-      packet_in = omega (arith, is, small);
-    } in
+pub arrive_reads : (text : List ℕ) (packet : ℕ) → packet ≤ largest → words_of text ≡ decimal packet ∷ [] → Reads (λ step. SpellsArrive (Step step) (words_of text)) (Arrive packet)
+arrive_reads text packet small are =
+    let here : SpellsArrive (Step (Arrive packet)) (words_of text) = record { packet = packet; command_is = refl; words_are = are; packet_in = small } in
     reads_one (λ step. SpellsArrive (Step step) (words_of text)) _ here (λ step spelt.
-    let words : decimal packet ∷ [] ≡ decimal spelt.packet ∷ [] = sym here.words_are ∙ spelt.words_are in
-    let fits = here.packet_in in
+    let words : decimal packet ∷ [] ≡ decimal spelt.packet ∷ [] = sym are ∙ spelt.words_are in
     let fits_spelt = spelt.packet_in in
-    let same : packet ≡ spelt.packet = decimal_injective packet spelt.packet (omega (arith, fits)) (omega (arith, fits_spelt)) cc in
+    let same : packet ≡ spelt.packet = decimal_injective packet spelt.packet (omega (arith, small)) (omega (arith, fits_spelt)) cc in
     cc spelt.command_is)
 
-pub arrive_none : (text : List ℕ) → ((ns : List ℕ) → (None ≡ Some ns) ↔ AreNumbers (largest ∷ []) text ns) → (step : AnyStep) → (None ≡ Some step) ↔ SpellsArrive (Step step) (words_of text)
-arrive_none text none step = (λ found. cc found, λ spelt. none_there (largest ∷ []) text (spelt.packet ∷ []) none (spelt.words_are, (spelt.packet_in, tt)))
+pub arrive_none : (text : List ℕ) → ((packet : ℕ) → packet ≤ largest → words_of text ≡ decimal packet ∷ [] → ⊥) → (step : AnyStep) → (None ≡ Some step) ↔ SpellsArrive (Step step) (words_of text)
+arrive_none text none step = (λ found. cc found, λ spelt. absurd (none spelt.packet spelt.packet_in spelt.words_are))
 
 pub again_within : (last : ℕ) (text ns : List ℕ) → Reads (AreNumbers (last ∷ last ∷ largest ∷ []) text) ns → (get_or ns 0 0 ≤ last) × (get_or ns 1 0 ≤ last)
 again_within last text ns reads =

@@ -116,6 +116,12 @@ pub record SpellsForge (nodes : ℕ) (command : Command) (words : List (List ℕ
   pub tenant : IsShort address.tenant
   pub group : IsShort address.group
 
+-- the words of a text are the numbers of these two nodes
+pub record NamesTwoNodes (nodes : ℕ) (text : List ℕ) (node to : NodeId) : Type 0 where
+  pub words_are : words_of text ≡ decimal node.number ∷ decimal to.number ∷ []
+  pub in_cluster : node.number < nodes
+  pub to_in_cluster : to.number < nodes
+
 -- `pack A B`
 pub record SpellsPack (nodes : ℕ) (command : Command) (words : List (List ℕ)) : Type 0 where
   pub node : NodeId

@@ -9,12 +9,12 @@ ghost use Rattle.gb_schedule.specs.declared.command.Command.{Command as TheComma
 ghost use Rattle.gb_schedule.specs.declared.command.Command.TheVariants as Commands;
 ghost use Rattle.gb_types.specs.declared.request.Request.TheVariants.{OpenGroup, ShutGroup, DropGroup};
 ghost use Rattle.gb_schedule.specs.declared.head.Head.TheVariants.{Say as SayHead};
-ghost use Rattle.gb_schedule.specs.Grammar.{NamesMemberAt, NamesNoMember, SpellsCluster, SpellsTenant, SpellsMake, SpellsNamed, SpellsSay, SpellsFetch, SpellsForge, SpellsPack, SpellsAgain, SpellsAck, SpellsArrive, SpellsNoise, SpellsTick, SpellsStop, Spells, IsCommandLine, IsInPlace, IsSilent, SilentLinesSpellNothing};
+ghost use Rattle.gb_schedule.specs.Grammar.{NamesMemberAt, NamesNoMember, NamesTwoNodes, SpellsCluster, SpellsTenant, SpellsMake, SpellsNamed, SpellsSay, SpellsFetch, SpellsForge, SpellsPack, SpellsAgain, SpellsAck, SpellsArrive, SpellsNoise, SpellsTick, SpellsStop, Spells, IsCommandLine, IsInPlace, IsSilent, SilentLinesSpellNothing};
 
 use crate::command::{Command, Step};
 use crate::head::{Head, read_head};
 use crate::keys::{Keys, NO_TOKEN, tenant_key};
-use crate::words::{WORDS, number_at, numbers_in, words_in};
+use crate::words::{WORDS, last_number_at, number_at, numbers_in, words_in};
 use gb_types::address::Addr;
 use gb_types::limits::{NODES, SILENCE_MAX, SILENCE_MIN};
 use gb_types::memory::OutOfMemory;
@@ -234,15 +234,30 @@ fn read_noise(alloc: Global, nodes: u8, words: &[&[u8]]) -> Result<Option<Comman
     Ok(Some(Command::Noise(node, bytes)))
 }
 
+// The two nodes that the words of a text name.
+#[inline(always)]
+fn two_nodes(nodes: u8, text: &[u8]) -> Option<(NodeId, NodeId)>
+    requires { (1 ≤ nodes) × (nodes ≤ NODES) }
+    ensures some { IfSome result (λ found. NamesTwoNodes nodes text.now found.0 found.1) }
+    ensures none { IfNone result ((node to : TheNode) → NamesTwoNodes nodes text.now node to → ⊥) }
+{
+    let (node, rest) = number_at(text, 0)?;
+    let to = last_number_at(text, rest?)?;
+    let count = u64::from(nodes);
+    if node >= count || to >= count {
+        return None;
+    }
+    Some((NodeId::new(node as u8), NodeId::new(to as u8)))
+}
+
 // pack A B
 fn read_pack(nodes: u8, text: &[u8]) -> Option<Step>
     requires { (1 ≤ nodes) × (nodes ≤ NODES) }
     ensures { (step : TheStep) → (result ≡ Some step)
         ↔ SpellsPack nodes (Commands.Step step) (words_of text.now) }
 {
-    let last = u64::from(nodes) - 1;
-    let [node, to] = numbers_in(text, [last, last])?;
-    Some(Step::Pack(NodeId::new(node as u8), NodeId::new(to as u8)))
+    let (node, to) = two_nodes(nodes, text)?;
+    Some(Step::Pack(node, to))
 }
 
 // again A B F
@@ -262,9 +277,8 @@ fn read_ack(nodes: u8, text: &[u8]) -> Option<Step>
     ensures { (step : TheStep) → (result ≡ Some step)
         ↔ SpellsAck nodes (Commands.Step step) (words_of text.now) }
 {
-    let last = u64::from(nodes) - 1;
-    let [node, to] = numbers_in(text, [last, last])?;
-    Some(Step::Ack(NodeId::new(node as u8), NodeId::new(to as u8)))
+    let (node, to) = two_nodes(nodes, text)?;
+    Some(Step::Ack(node, to))
 }
 
 // arrive K
@@ -272,7 +286,7 @@ fn read_arrive(text: &[u8]) -> Option<Step>
     ensures { (step : TheStep) → (result ≡ Some step)
         ↔ SpellsArrive (Commands.Step step) (words_of text.now) }
 {
-    let [packet] = numbers_in(text, [u64::MAX])?;
+    let packet = last_number_at(text, 0)?;
     Some(Step::Arrive(packet))
 }
 

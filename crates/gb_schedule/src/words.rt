@@ -1,5 +1,5 @@
 //! The words of a line, with no memory taken.
-ghost use Rattle.std.specs.Prelude.{◌≡◌, ◌≤◌, ◌<◌, ◌==◌, ◌∷◌, ◌↔◌, ℕ, List, [], Some, false, length, slice_index, decimal, map, take, drop, IfSome, IfNone};
+ghost use Rattle.std.specs.Prelude.{◌≡◌, ◌≤◌, ◌<◌, ◌==◌, ◌∷◌, ◌^◌, ◌↔◌, ℕ, List, [], Some, false, length, slice_index, decimal, map, take, drop, IfSome, IfNone};
 ghost use Rattle.std.specs.List.{position_or_len};
 ghost use Rattle.std.specs.Char.{is_ascii_digit};
 ghost use Rattle.std.specs.Str.Parse.{AllDigits, digits_value};
@@ -91,6 +91,31 @@ fn number_of(text: &[u8], from: usize, digits: usize, number: u64) -> Option<u64
     }
 }
 
+/// The number that a word of one digit writes, which stands in a text from a place on, and where the next word stands, if there is
+/// one. None where no such word is found: most words of a schedule are, and are read so at once.
+#[inline(always)]
+fn one_digit_at(text: &[u8], from: usize) -> Option<(u64, Option<usize>)>
+    requires { from ≤ length text.now }
+    ensures { IfSome result (λ found. IsNumberAt text.now from found.0 found.1) }
+{
+    if from == text.len() {
+        return None;
+    }
+    let byte = text[from];
+    if !byte.is_ascii_digit() {
+        return None;
+    }
+    let number = u64::from(byte - b'0');
+    let end = from + 1;
+    if end == text.len() {
+        return Some((number, None));
+    }
+    if text[end] != b' ' {
+        return None;
+    }
+    Some((number, Some(end + 1)))
+}
+
 /// The number that a word writes, which stands in a text from a place on, and where the next word stands, if there is one. None
 /// where it writes no number of 64 bits.
 #[inline(always)]
@@ -99,6 +124,9 @@ pub fn number_at(text: &[u8], from: usize) -> Option<(u64, Option<usize>)>
     ensures some { IfSome result (λ found. IsNumberAt text.now from found.0 found.1) }
     ensures none { IfNone result (BeginsWithNoNumber (drop from text.now)) }
 {
+    if let Some(found) = one_digit_at(text, from) {
+        return Some(found);
+    }
     let (number, digits) = digits_at(text, from);
     let number = number_of(text, from, digits, number)?;
     let end = from + digits;
@@ -109,6 +137,21 @@ pub fn number_at(text: &[u8], from: usize) -> Option<(u64, Option<usize>)>
         return None;
     }
     Some((number, Some(end + 1)))
+}
+
+/// The number that the last word of a text writes, which stands in it from a place on. None where it writes no number of 64 bits,
+/// or where a word stands behind it.
+#[inline(always)]
+pub fn last_number_at(text: &[u8], from: usize) -> Option<u64>
+    requires { from ≤ length text.now }
+    ensures some { IfSome result (λ n. words_of (drop from text.now) ≡ decimal n ∷ []) }
+    ensures none { IfNone result ((n : ℕ) → n < 2 ^ 64 → words_of (drop from text.now) ≡ decimal n ∷ [] → ⊥) }
+{
+    let (number, next) = number_at(text, from)?;
+    match next {
+        None => Some(number),
+        Some(_) => None,
+    }
 }
 
 /// The most numbers that are read of a text.

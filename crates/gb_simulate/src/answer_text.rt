@@ -93,21 +93,31 @@ fn put_packet(out: &mut Vec<u8>, taken: &PacketAnswer) -> Result<(), OutOfMemory
     }
 }
 
-/// Appends `packet K`, `nothing` or a refusal.
+/// Appends words.
+fn put_words(out: &mut Vec<u8>, words: &[u8]) -> Result<(), OutOfMemory>
+    ensures ok { OnOk result (out.new.items ≡ out.old.items ++ words.now) }
+    ensures err { OnErr result (StartsWith out.new.items out.old.items) }
+{
+    out.extend_from_slice(words)?;
+    Ok(())
+}
+
+/// Appends the line `packet K`, `nothing` or a refusal.
 fn put_sending(out: &mut Vec<u8>, sending: Sending) -> Result<(), OutOfMemory>
-    ensures ok { OnOk result (out.new.items ≡ out.old.items ++ sending_spelling sending) }
+    ensures ok { OnOk result (out.new.items ≡ out.old.items ++ ended (sending_spelling sending)) }
     ensures err { OnErr result (StartsWith out.new.items out.old.items) }
 {
     match sending {
         Sending::Packet(number) => {
             out.extend_from_slice(b"packet ")?;
-            put_number(out, number)
+            put_number(out, number)?;
+            put_words(out, b"\n")
         }
-        Sending::Nothing => {
-            out.extend_from_slice(b"nothing")?;
-            Ok(())
+        Sending::Nothing => put_words(out, b"nothing\n"),
+        Sending::Refused(why) => {
+            put_refusal(out, why)?;
+            put_words(out, b"\n")
         }
-        Sending::Refused(why) => put_refusal(out, why),
     }
 }
 
@@ -164,39 +174,21 @@ fn put_halted(out: &mut Vec<u8>, halted: Halted) -> Result<(), OutOfMemory>
     }
 }
 
-/// Appends words.
-fn put_words(out: &mut Vec<u8>, words: &[u8]) -> Result<(), OutOfMemory>
-    ensures ok { OnOk result (out.new.items ≡ out.old.items ++ words.now) }
-    ensures err { OnErr result (StartsWith out.new.items out.old.items) }
-{
-    out.extend_from_slice(words)?;
-    Ok(())
-}
-
-/// Appends the text of an answer.
-fn put_text(out: &mut Vec<u8>, answer: &Answer) -> Result<(), OutOfMemory>
-    ensures ok { OnOk result (out.new.items ≡ out.old.items ++ answer_spelling answer.now) }
-    ensures err { OnErr result (StartsWith out.new.items out.old.items) }
-{
-    match answer {
-        Answer::Reply(reply) => put_reply(out, reply),
-        Answer::Taken(taken) => put_packet(out, taken),
-        Answer::Sent(sending) => put_sending(out, *sending),
-        Answer::Ticked(ticked) => put_ticked(out, ticked),
-        Answer::Halted(halted) => put_halted(out, *halted),
-        Answer::NoPacket => put_words(out, b"no packet"),
-        Answer::NotNoise => put_words(out, b"not noise"),
-    }
-}
-
-/// Appends the line of an answer.
+/// Appends the line of an answer. One that is known before is appended at once, with its line feed: most lines are such.
 pub fn put_answer(out: &mut Vec<u8>, answer: &Answer) -> Result<(), OutOfMemory>
     ensures ok { OnOk result (out.new.items ≡ out.old.items ++ ended (answer_spelling answer.now)) }
     ensures err { OnErr result (StartsWith out.new.items out.old.items) }
 {
-    put_text(out, answer)?;
-    out.extend_from_slice(b"\n")?;
-    Ok(())
+    match answer {
+        Answer::Reply(reply) => put_reply(out, reply)?,
+        Answer::Taken(taken) => put_packet(out, taken)?,
+        Answer::Sent(sending) => return put_sending(out, *sending),
+        Answer::Ticked(ticked) => put_ticked(out, ticked)?,
+        Answer::Halted(halted) => put_halted(out, *halted)?,
+        Answer::NoPacket => return put_words(out, b"no packet\n"),
+        Answer::NotNoise => return put_words(out, b"not noise\n"),
+    }
+    put_words(out, b"\n")
 }
 
 /// Appends the line that a cluster was started.
