@@ -30,7 +30,9 @@ fn end_badly(number: u64, why: BadLine, gathered: &mut Vec<u8>) -> Result<SimEnd
     Ok(SimEnd::BadLine(number, why))
 }
 
-/// Answers the next line, or finds the end of the schedule. Where memory lacks, a part of the answer may be gathered.
+/// Answers the next line, or finds the end of the schedule. Where memory lacks, a part of the answer may be gathered. Inlined, as
+/// the next is: a schedule was measured to take less time so.
+#[inline(always)]
 fn gather_next<R: Read>(
     alloc: Global,
     number: u64,
@@ -60,6 +62,7 @@ fn gather_next<R: Read>(
 }
 
 /// Answers the next line, or finds the end of the schedule. A line's answer is gathered whole, or not at all.
+#[inline(always)]
 fn answer_next<R: Read>(
     alloc: Global,
     number: u64,
