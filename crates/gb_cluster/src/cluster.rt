@@ -141,20 +141,6 @@ fn happen(nodes: &mut Vec<Node>, packets: &mut Vec<Posted>, at: NodeId, event: &
     turn(node, packets, event)
 }
 
-/// What comes of an event, with nodes and packets after it.
-fn take(nodes: &mut Vec<Node>, packets: &mut Vec<Posted>, event: &Event) -> Answer
-    requires placed { IsPlaced (length nodes.old.items) event.now }
-    requires inside { AreForNodes (length nodes.old.items) packets.old.items }
-    requires read { AreRead nodes.old.items packets.old.items }
-    requires room { vec_len packets.old < vec_capacity packets.old }
-    ensures { (plan : PlanValue) → IsStep (cluster plan nodes.old.items packets.old.items) event.now result (cluster plan nodes.new.items packets.new.items) }
-{
-    match event {
-        Event::At(at, event) => happen(nodes, packets, *at, event),
-        Event::Arrive(number) => arrive(nodes, packets, *number),
-    }
-}
-
 impl Cluster {
     /// A cluster in which nothing has happened.
     pub fn start(alloc: Global, plan: &Plan) -> Result<Cluster, OutOfMemory>
@@ -205,6 +191,30 @@ impl Cluster {
         self.packets
     }
 
+    /// An event at one of the nodes; noise that is a packet for the node is not handed in. `Err` says that the cluster itself had no
+    /// memory for one more packet, and nothing has changed; a node's want of memory is an answer.
+    pub fn happen(&mut self, at: NodeId, event: &NodeEvent) -> Result<Answer, OutOfMemory>
+        requires { at.number < length self.old.nodes }
+        ensures step { IfOk result (λ a. IsStep self.old (Events.At at event.now) a self.new) }
+        ensures run { GoesOn self.old self.new }
+        ensures nodes { length self.new.nodes ≡ length self.old.nodes }
+        ensures err { OnErr result (self.new ≡ self.old) }
+    {
+        self.packets.reserve(1)?;
+        Ok(happen(&mut self.nodes, &mut self.packets, at, event))
+    }
+
+    /// The packet with a number arrives at the node that it was sent to.
+    pub fn arrive(&mut self, number: u64) -> Answer
+        ensures step { IsStep self.old (Events.Arrive number) result self.new }
+        ensures run { GoesOn self.old self.new }
+        ensures nodes { length self.new.nodes ≡ length self.old.nodes }
+    {
+        packets_are_honest();
+        packets_are_read();
+        arrive(&mut self.nodes, &self.packets, number)
+    }
+
     /// One event. `Err` says that the cluster itself had no memory for one more packet, and nothing has changed; a
     /// node's want of memory is an answer.
     pub fn step(&mut self, event: &Event) -> Result<Answer, OutOfMemory>
@@ -214,9 +224,9 @@ impl Cluster {
         ensures nodes { length self.new.nodes ≡ length self.old.nodes }
         ensures err { OnErr result (self.new ≡ self.old) }
     {
-        packets_are_honest();
-        packets_are_read();
-        self.packets.reserve(1)?;
-        Ok(take(&mut self.nodes, &mut self.packets, event))
+        match event {
+            Event::At(at, event) => self.happen(*at, event),
+            Event::Arrive(number) => Ok(self.arrive(*number)),
+        }
     }
 }

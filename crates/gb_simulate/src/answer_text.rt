@@ -102,6 +102,24 @@ fn put_words(out: &mut Vec<u8>, words: &[u8]) -> Result<(), OutOfMemory>
     Ok(())
 }
 
+/// Appends the line `nothing`, with its line feed at once: many lines are so.
+#[inline(always)]
+fn put_nothing(out: &mut Vec<u8>) -> Result<(), OutOfMemory>
+    ensures ok { OnOk result (out.new.items ≡ out.old.items ++ ended (codes "nothing")) }
+    ensures err { OnErr result (StartsWith out.new.items out.old.items) }
+{
+    put_words(out, b"nothing\n")
+}
+
+/// Appends the line `no packet`, as `put_nothing` does.
+#[inline(always)]
+fn put_no_packet(out: &mut Vec<u8>) -> Result<(), OutOfMemory>
+    ensures ok { OnOk result (out.new.items ≡ out.old.items ++ ended (codes "no packet")) }
+    ensures err { OnErr result (StartsWith out.new.items out.old.items) }
+{
+    put_words(out, b"no packet\n")
+}
+
 /// Appends the line `packet K`, `nothing` or a refusal.
 fn put_sending(out: &mut Vec<u8>, sending: Sending) -> Result<(), OutOfMemory>
     ensures ok { OnOk result (out.new.items ≡ out.old.items ++ ended (sending_spelling sending)) }
@@ -113,7 +131,7 @@ fn put_sending(out: &mut Vec<u8>, sending: Sending) -> Result<(), OutOfMemory>
             put_number(out, number)?;
             put_words(out, b"\n")
         }
-        Sending::Nothing => put_words(out, b"nothing\n"),
+        Sending::Nothing => put_nothing(out),
         Sending::Refused(why) => {
             put_refusal(out, why)?;
             put_words(out, b"\n")
@@ -174,8 +192,9 @@ fn put_halted(out: &mut Vec<u8>, halted: Halted) -> Result<(), OutOfMemory>
     }
 }
 
-/// Appends the line of an answer. One that is known before is appended at once, with its line feed: most lines are such.
-pub fn put_answer(out: &mut Vec<u8>, answer: &Answer) -> Result<(), OutOfMemory>
+/// Appends the line of an answer of whichever kind. Called, not inlined: few lines come here.
+#[inline(never)]
+fn put_line(out: &mut Vec<u8>, answer: &Answer) -> Result<(), OutOfMemory>
     ensures ok { OnOk result (out.new.items ≡ out.old.items ++ ended (answer_spelling answer.now)) }
     ensures err { OnErr result (StartsWith out.new.items out.old.items) }
 {
@@ -185,10 +204,23 @@ pub fn put_answer(out: &mut Vec<u8>, answer: &Answer) -> Result<(), OutOfMemory>
         Answer::Sent(sending) => return put_sending(out, *sending),
         Answer::Ticked(ticked) => put_ticked(out, ticked)?,
         Answer::Halted(halted) => put_halted(out, *halted)?,
-        Answer::NoPacket => return put_words(out, b"no packet\n"),
-        Answer::NotNoise => return put_words(out, b"not noise\n"),
+        Answer::NoPacket => return put_no_packet(out),
+        Answer::NotNoise => put_words(out, b"not noise")?,
     }
     put_words(out, b"\n")
+}
+
+/// Appends the line of an answer. The two that most lines have are told apart before the others.
+#[inline(always)]
+pub fn put_answer(out: &mut Vec<u8>, answer: &Answer) -> Result<(), OutOfMemory>
+    ensures ok { OnOk result (out.new.items ≡ out.old.items ++ ended (answer_spelling answer.now)) }
+    ensures err { OnErr result (StartsWith out.new.items out.old.items) }
+{
+    match answer {
+        Answer::Sent(Sending::Nothing) => put_nothing(out),
+        Answer::NoPacket => put_no_packet(out),
+        _ => put_line(out, answer),
+    }
 }
 
 /// Appends the line that a cluster was started.

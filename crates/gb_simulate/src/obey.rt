@@ -14,7 +14,6 @@ ghost use Rattle.gb_simulate.specs.Schedule.{added, Answers, Obeys, GoesOn, even
 use crate::answer_text::{put_answer, put_started};
 use crate::outcome::BadLine;
 use gb_cluster::cluster::Cluster;
-use gb_cluster::event::Event;
 use gb_node::event::NodeEvent;
 use gb_node::packet_text::PacketText;
 use gb_schedule::command::{Command, Step};
@@ -66,37 +65,32 @@ fn begin(
     put_started(text)
 }
 
-/// An event in the cluster.
-fn act(cluster: &mut Cluster, event: &Event, text: &mut Vec<u8>) -> Result<(), OutOfMemory>
-    requires placed { IsPlaced (size cluster.old) event.now }
+/// An event at a node of the cluster.
+fn answer_event(
+    cluster: &mut Cluster,
+    node: NodeId,
+    event: &NodeEvent,
+    text: &mut Vec<u8>,
+) -> Result<(), OutOfMemory>
+    requires placed { node.number < size cluster.old }
     ensures size { size cluster.new ≡ size cluster.old }
-    ensures answers { OnOk result (Answers cluster.old event.now (Some cluster.new) (added text.old.items text.new.items)) }
+    ensures answers { OnOk result (Answers cluster.old (Events.At node event.now) (Some cluster.new) (added text.old.items text.new.items)) }
     ensures front { StartsWith text.new.items text.old.items }
 {
-    let answer = cluster.step(event)?;
+    let answer = cluster.happen(node, event)?;
     put_answer(text, &answer)
 }
 
-/// An event, where the cluster was started. Inlined, as the next two are: a schedule was measured to take less time so.
-#[inline(always)]
-fn obey_event(
-    cluster: &mut Option<Cluster>,
-    event: &Event,
-    text: &mut Vec<u8>,
-) -> Result<(), OutOfMemory>
-    requires few { HasNodes cluster.old }
-    requires placed { IfSome (size_in cluster.old) (λ count. IsPlaced count event.now) }
-    ensures few { OnOk result (HasNodes cluster.new) }
-    ensures answers { OnOk result (IfSome cluster.old (λ v. Answers v event.now cluster.new (added text.old.items text.new.items))) }
+/// The arrival of a packet in the cluster.
+fn answer_arrival(cluster: &mut Cluster, packet: u64, text: &mut Vec<u8>) -> Result<(), OutOfMemory>
+    ensures size { size cluster.new ≡ size cluster.old }
+    ensures answers { OnOk result (Answers cluster.old (Events.Arrive packet) (Some cluster.new) (added text.old.items text.new.items)) }
     ensures front { StartsWith text.new.items text.old.items }
 {
-    match cluster {
-        Some(cluster) => act(cluster, event, text),
-        None => Ok(()),
-    }
+    put_answer(text, &cluster.arrive(packet))
 }
 
-/// An event at a node, where the cluster was started.
+/// An event at a node, where the cluster was started. Inlined, as the next two are: a schedule was measured to take less time so.
 #[inline(always)]
 fn obey_at(
     cluster: &mut Option<Cluster>,
@@ -110,7 +104,28 @@ fn obey_at(
     ensures answers { OnOk result (IfSome cluster.old (λ v. Answers v (Events.At node event) cluster.new (added text.old.items text.new.items))) }
     ensures front { StartsWith text.new.items text.old.items }
 {
-    obey_event(cluster, &Event::At(node, event), text)
+    match cluster {
+        Some(cluster) => answer_event(cluster, node, &event, text),
+        None => Ok(()),
+    }
+}
+
+/// The arrival of a packet, where the cluster was started.
+#[inline(always)]
+fn obey_arrival(
+    cluster: &mut Option<Cluster>,
+    packet: u64,
+    text: &mut Vec<u8>,
+) -> Result<(), OutOfMemory>
+    requires few { HasNodes cluster.old }
+    ensures few { OnOk result (HasNodes cluster.new) }
+    ensures answers { OnOk result (IfSome cluster.old (λ v. Answers v (Events.Arrive packet) cluster.new (added text.old.items text.new.items))) }
+    ensures front { StartsWith text.new.items text.old.items }
+{
+    match cluster {
+        Some(cluster) => answer_arrival(cluster, packet, text),
+        None => Ok(()),
+    }
 }
 
 /// A step that is in its place.
@@ -133,7 +148,7 @@ fn obey_step(
             obey_at(cluster, node, NodeEvent::Again(to, frame), text)
         }
         Step::Ack(node, to) => obey_at(cluster, node, NodeEvent::Ack(to), text),
-        Step::Arrive(packet) => obey_event(cluster, &Event::Arrive(packet), text),
+        Step::Arrive(packet) => obey_arrival(cluster, packet, text),
         Step::Tick(node) => obey_at(cluster, node, NodeEvent::Tick, text),
         Step::Stop(node) => obey_at(cluster, node, NodeEvent::Stop, text),
         Step::Fetch(node, address, from, most) => {

@@ -1,16 +1,17 @@
 use Rattle.std.proofs.Common.{refl}
 use Rattle.std.proofs.lemmas.List.Prefix.{front_rest}
+use Rattle.gb_cluster.specs.declared.event.Event.TheVariants as Events
 use Rattle.gb_simulate.proofs.AnswerLemmas.{on_ok}
 use Rattle.gb_simulate.proofs.OfClusterLemmas.{takes_so}
-use Rattle.gb_simulate.proofs.obey.act.Goals as goal
+use Rattle.gb_simulate.proofs.obey.answer_arrival.Goals as goal
 
 pub returns-clause-answers : goal.returns-clause-answers
 returns-clause-answers c =
     on_ok c.put_answer.result
     (λ is. record {
-      answer = c.in_ok-answer.answer;
-      next = c.step.new.self;
-      takes = takes_so c.args.cluster.now c.step.new.self c.args.event.now c.in_ok-answer.answer c.in_ok-answer.ensures.step;
+      answer = c.arrive.result;
+      next = c.arrive.new.self;
+      takes = takes_so c.args.cluster.now c.arrive.new.self (Events.Arrive c.args.packet) c.arrive.result c.arrive.ensures.step;
       after_is = refl;
       text_is = front_rest c.put_answer.new.out.items c.args.text.now.items _ is;
     })

@@ -1,0 +1,18 @@
+use Rattle.std.proofs.Common.{refl}
+use Rattle.std.proofs.lemmas.List.Prefix.{front_rest}
+use Rattle.gb_cluster.specs.declared.event.Event.TheVariants as Events
+use Rattle.gb_simulate.proofs.AnswerLemmas.{on_ok}
+use Rattle.gb_simulate.proofs.OfClusterLemmas.{takes_so}
+use Rattle.gb_simulate.proofs.obey.answer_event.Goals as goal
+
+pub returns-clause-answers : goal.returns-clause-answers
+returns-clause-answers c =
+    on_ok c.put_answer.result
+    (λ is. record {
+      answer = c.in_ok-answer.answer;
+      next = c.happen.new.self;
+      takes = takes_so c.args.cluster.now c.happen.new.self (Events.At c.args.node c.args.event.now) c.in_ok-answer.answer c.in_ok-answer.ensures.step;
+      after_is = refl;
+      text_is = front_rest c.put_answer.new.out.items c.args.text.now.items _ is;
+    })
+    c.put_answer.ensures.ok
