@@ -267,6 +267,16 @@ fn bad_lines(rt: HostRuntime) -> Result<(), Fail> {
     Ok(())
 }
 
+const LINES_OF_SIXTEEN: &str =
+    "pack 15 9=pack 15 9\npack 9 15=pack 9 15\npack 16 9\npack 9 16\nack 15 10=acknowledge 15 10\nack 10 15=acknowledge 10 15\nack 16 0\nack 0 16\nagain 15 14 1=again 15 14 1\nagain 16 0 1\nagain 0 16 1\ntick 15=tick 15\ntick 16\nstop 15=stop 15\nstop 16\nsay 15 7 1 61=say 15 7 1 97\nsay 16 7 1 61";
+
+#[test]
+fn lines_of_sixteen_nodes(rt: HostRuntime) -> Result<(), Fail> {
+    let count = compare(&rt, rt.alloc(), Some(16), LINES_OF_SIXTEEN)?;
+    assert!(rt; count == 17);
+    Ok(())
+}
+
 const SILENT_LINES: &[&str] = &["", "#", "# open 0 7 1", "#\r"];
 
 const LOUD_LINES: &[&str] = &[" ", " #", "\r"];
