@@ -1,7 +1,7 @@
 //! The layer that keeps each origin's order.
 ghost use Rattle.std.specs.Prelude.{◌≡◌, ℕ, ◌+◌, ◌≤◌, ◌++◌, vec_len, vec_capacity, OnOk, IfSome, true};
 ghost use Rattle.gb_layer.specs.Limit.{Limit, is_within, message_count};
-ghost use Rattle.gb_layer.specs.Room.{free_sends, free_ups};
+ghost use Rattle.gb_layer.specs.Room.{free};
 ghost use Rattle.gb_fifo.specs.Entries.{noted_by};
 ghost use Rattle.gb_fifo.specs.FifoMachine.{FifoState, fifo_next, fifo_gives};
 ghost use Rattle.gb_fifo.specs.FifoRoom.{state_of, HasRoom, IsWhole, fifo_need, ungiven, IsNew};
@@ -11,12 +11,12 @@ ghost use Rattle.gb_fifo.specs.FifoLemmas.{fifo_me_stays, fifo_sends_handed_in, 
 
 use crate::ledger::{Ledger, take_all};
 use gb_layer::call::Call;
-use gb_layer::effects::{Effects, Up};
+use gb_layer::effects::Up;
 use gb_layer::layer::{Broadcast, Layer};
 use gb_types::memory::OutOfMemory;
+use gb_types::message::MsgId;
 use gb_types::node::{NodeId, NodeSet};
 use std::alloc::Global;
-use std::mem;
 
 /// Gives up each origin's messages in the order 1, 2, 3, .. (Hadzilacos, Toueg 1994; Cachin, Guerraoui, Rodrigues
 /// 2011, Broadcast with Sequence Number): what the layer below brings up waits until the messages before it have
@@ -72,38 +72,31 @@ impl<L: Broadcast> Fifo<L> {
     }
 
     /// Makes the call of the layer below. What that brings up is put aside, and what it sends is sent.
-    fn call_lower(&mut self, call: Call, out: &mut Effects)
-        requires { L.has_room self.old.lower (free_sends out.old) (vec_capacity self.old.below) 1 }
+    fn call_lower(&mut self, call: Call, sends: &mut Vec<MsgId>)
+        requires { L.has_room self.old.lower (free sends.old) (vec_capacity self.old.below) 1 }
         ensures lower { L.meaning self.new.lower ≡ L.next (L.meaning self.old.lower) call }
         ensures entries { self.new.entries ≡ self.old.entries }
         ensures below { self.new.below.items ≡ (L.gives (L.meaning self.old.lower) call).ups }
-        ensures sends { out.new.sends.items ≡ out.old.sends.items ++ (L.gives (L.meaning self.old.lower) call).sends }
-        ensures ups { out.new.ups ≡ out.old.ups }
-        ensures room { (n : ℕ) → L.has_room self.old.lower (free_sends out.old) (vec_capacity self.old.below) (n + 1)
-            → L.has_room self.new.lower (free_sends out.new) (vec_capacity self.new.below) n }
+        ensures sends { sends.new.items ≡ sends.old.items ++ (L.gives (L.meaning self.old.lower) call).sends }
+        ensures room { (n : ℕ) → L.has_room self.old.lower (free sends.old) (vec_capacity self.old.below) (n + 1)
+            → L.has_room self.new.lower (free sends.new) (vec_capacity self.new.below) n }
         ensures whole { (l : Limit) → L.is_whole self.old.lower l → is_within l call ≡ true → L.is_whole self.new.lower l }
         ensures below_memory { vec_capacity self.old.below ≤ vec_capacity self.new.below }
-        ensures sends_memory { vec_capacity out.old.sends ≤ vec_capacity out.new.sends }
+        ensures sends_memory { vec_capacity sends.old ≤ vec_capacity sends.new }
     {
-        mem::swap(&mut out.ups, &mut self.below);
-        out.ups.clear();
-        self.lower.take(call, out);
-        mem::swap(&mut out.ups, &mut self.below);
+        self.below.clear();
+        self.lower.take(call, sends, &mut self.below);
     }
 
     /// Makes room below for the next calls, so many.
-    fn ready_below(&mut self, calls: usize, out: &mut Effects) -> Result<(), OutOfMemory>
+    fn ready_below(&mut self, calls: usize, sends: &mut Vec<MsgId>) -> Result<(), OutOfMemory>
         ensures meaning { L.meaning self.new.lower ≡ L.meaning self.old.lower }
         ensures entries { self.new.entries ≡ self.old.entries }
-        ensures sends { out.new.sends.items ≡ out.old.sends.items }
-        ensures ups { out.new.ups ≡ out.old.ups }
-        ensures room { OnOk result (L.has_room self.new.lower (free_sends out.new) (vec_capacity self.new.below) calls) }
+        ensures sends { sends.new.items ≡ sends.old.items }
+        ensures room { OnOk result (L.has_room self.new.lower (free sends.new) (vec_capacity self.new.below) calls) }
     {
         self.below.clear();
-        mem::swap(&mut out.ups, &mut self.below);
-        let made = self.lower.ready(calls, out);
-        mem::swap(&mut out.ups, &mut self.below);
-        made
+        self.lower.ready(calls, sends, &mut self.below)
     }
 
     /// Takes all the memory that the layer below ever needs.
@@ -112,21 +105,18 @@ impl<L: Broadcast> Fifo<L> {
         members: &NodeSet,
         msgs: u16,
         calls: usize,
-        out: &mut Effects,
+        sends: &mut Vec<MsgId>,
     ) -> Result<(), OutOfMemory>
         requires empty { IsNew L.is_empty (state_of L.meaning self.old) }
         requires memory { message_count (record { members = members.now; msgs = msgs; calls = calls }) + calls ≤ vec_capacity self.old.entries.list }
         ensures state { state_of L.meaning self.new ≡ state_of L.meaning self.old }
-        ensures sends { out.new.sends.items ≡ out.old.sends.items }
-        ensures ups { out.new.ups ≡ out.old.ups }
+        ensures sends { sends.new.items ≡ sends.old.items }
         ensures whole { OnOk result (IsWhole L.is_whole L.need self.new (record { members = members.now; msgs = msgs; calls = calls })) }
-        ensures free_sends { OnOk result ((L.need (record { members = members.now; msgs = msgs; calls = calls })).sends ≤ free_sends out.new) }
+        ensures free_sends { OnOk result ((L.need (record { members = members.now; msgs = msgs; calls = calls })).sends ≤ free sends.new) }
     {
         self.below.clear();
-        mem::swap(&mut out.ups, &mut self.below);
-        let made = self.lower.whole(members, msgs, calls, out);
-        mem::swap(&mut out.ups, &mut self.below);
-        made
+        self.lower
+            .whole(members, msgs, calls, sends, &mut self.below)
     }
 }
 
@@ -155,14 +145,19 @@ impl<L: Broadcast> Layer for Fifo<L> {
         self.lower.me()
     }
 
-    fn ready(&mut self, calls: usize, out: &mut Effects) -> Result<(), OutOfMemory> {
+    fn ready(
+        &mut self,
+        calls: usize,
+        sends: &mut Vec<MsgId>,
+        ups: &mut Vec<Up>,
+    ) -> Result<(), OutOfMemory> {
         let count = self.entries.list.len();
-        let Some(ups) = count.checked_add(calls) else {
+        let Some(most) = count.checked_add(calls) else {
             return Err(OutOfMemory);
         };
         self.entries.list.reserve(calls)?;
-        out.ups.reserve(ups)?;
-        self.ready_below(calls, out)
+        ups.reserve(most)?;
+        self.ready_below(calls, sends)
     }
 
     fn whole(
@@ -170,21 +165,22 @@ impl<L: Broadcast> Layer for Fifo<L> {
         members: &NodeSet,
         msgs: u16,
         calls: usize,
-        out: &mut Effects,
+        sends: &mut Vec<MsgId>,
+        ups: &mut Vec<Up>,
     ) -> Result<(), OutOfMemory> {
         let Some(once) = whole_ups(members, msgs, calls) else {
             return Err(OutOfMemory);
         };
         self.entries.list.reserve(once)?;
         self.entries.cover(members, msgs)?;
-        out.ups.reserve(once)?;
-        self.whole_below(members, msgs, calls, out)
+        ups.reserve(once)?;
+        self.whole_below(members, msgs, calls, sends)
     }
 
-    fn take(&mut self, call: Call, out: &mut Effects) {
+    fn take(&mut self, call: Call, sends: &mut Vec<MsgId>, ups: &mut Vec<Up>) {
         self.note_call(call);
-        self.call_lower(call, out);
-        take_all(&mut self.entries, &self.below, out);
+        self.call_lower(call, sends);
+        take_all(&mut self.entries, &self.below, ups);
     }
 
     ghost roomier = { fifo_roomier L.has_room L.roomier };

@@ -3,13 +3,13 @@ ghost use Rattle.std.specs.Prelude.{◌≡◌, ℕ, ◌+◌, ◌≤◌, ◌<◌,
 ghost use Rattle.std.specs.List.{list_any};
 ghost use Rattle.gb_types.specs.declared.limits.TheConstants.{NODES};
 ghost use Rattle.gb_layer.specs.Places.{StandsAmong};
-ghost use Rattle.gb_layer.specs.Room.{free_ups};
+ghost use Rattle.gb_layer.specs.Room.{free};
 ghost use Rattle.gb_layer.specs.Table.{leads};
 ghost use Rattle.gb_fifo.specs.Entries.{is_for, noted, brought, is_ungiven, given_of, is_next, next_of, give, pick, given_entry, up_of, released, released_ups, taken_one, taken_one_ups, taken, taken_ups, IsPlace};
 ghost use Rattle.gb_fifo.specs.EntryLemmas.{keys};
 
 use crate::entry::Entry;
-use gb_layer::effects::{Effects, Up};
+use gb_layer::effects::Up;
 use gb_layer::places::Places;
 use gb_layer::table::Table;
 use gb_types::limits::NODES;
@@ -174,34 +174,34 @@ impl Ledger {
 }
 
 /// Hands up one message.
-fn give_one(e: &mut Entry, out: &mut Effects)
-    requires { 1 ≤ free_ups out.old }
+fn give_one(e: &mut Entry, ups: &mut Vec<Up>)
+    requires { 1 ≤ free ups.old }
     ensures entry { e.new ≡ given_entry e.old }
-    ensures ups { out.new.ups.items ≡ out.old.ups.items ++ up_of e.old ∷ [] }
-    ensures sends { out.new.sends ≡ out.old.sends }
-    ensures room { free_ups out.old ≤ free_ups out.new + 1 }
-    ensures memory { vec_capacity out.old.ups ≤ vec_capacity out.new.ups }
+    ensures ups { ups.new.items ≡ ups.old.items ++ up_of e.old ∷ [] }
+    ensures room { free ups.old ≤ free ups.new + 1 }
+    ensures memory { vec_capacity ups.old ≤ vec_capacity ups.new }
 {
     e.given = true;
-    let m = e.m;
-    out.up(m.origin, m);
+    ups.push_reserved(Up {
+        via: e.m.origin,
+        m: e.m,
+    });
 }
 
 /// Hands up the next message of an origin, if it came up, and says whether it did.
-fn give_next(ledger: &mut Ledger, origin: NodeId, out: &mut Effects) -> bool
-    requires { count_by is_ungiven ledger.old.list.items ≤ free_ups out.old }
+fn give_next(ledger: &mut Ledger, origin: NodeId, ups: &mut Vec<Up>) -> bool
+    requires { count_by is_ungiven ledger.old.list.items ≤ free ups.old }
     ensures found { result ≡ list_any (next_of origin.number ledger.old.list.items) ledger.old.list.items }
     ensures items { ledger.new.list.items ≡ give (next_of origin.number ledger.old.list.items) ledger.old.list.items }
-    ensures ups { out.new.ups.items ≡ out.old.ups.items ++ pick (next_of origin.number ledger.old.list.items) ledger.old.list.items }
-    ensures sends { out.new.sends ≡ out.old.sends }
-    ensures room { free_ups out.old + count_by is_ungiven ledger.new.list.items ≤ free_ups out.new + count_by is_ungiven ledger.old.list.items }
+    ensures ups { ups.new.items ≡ ups.old.items ++ pick (next_of origin.number ledger.old.list.items) ledger.old.list.items }
+    ensures room { free ups.old + count_by is_ungiven ledger.new.list.items ≤ free ups.new + count_by is_ungiven ledger.old.list.items }
     ensures len { vec_len ledger.new.list ≡ vec_len ledger.old.list }
     ensures capacity { vec_capacity ledger.new.list ≡ vec_capacity ledger.old.list }
-    ensures memory { vec_capacity out.old.ups ≤ vec_capacity out.new.ups }
+    ensures memory { vec_capacity ups.old ≤ vec_capacity ups.new }
 {
     match ledger.find_next(origin) {
         Some(i) => {
-            give_one(&mut ledger.list[i], out);
+            give_one(&mut ledger.list[i], ups);
             ledger.given[origin.index()] += 1;
             true
         }
@@ -210,51 +210,48 @@ fn give_next(ledger: &mut Ledger, origin: NodeId, out: &mut Effects) -> bool
 }
 
 /// Hands up the next messages of an origin, as long as the next one came up.
-fn release(ledger: &mut Ledger, origin: NodeId, out: &mut Effects)
-    requires { count_by is_ungiven ledger.old.list.items ≤ free_ups out.old }
+fn release(ledger: &mut Ledger, origin: NodeId, ups: &mut Vec<Up>)
+    requires { count_by is_ungiven ledger.old.list.items ≤ free ups.old }
     ensures items { ledger.new.list.items ≡ released origin.number (length ledger.old.list.items) ledger.old.list.items }
-    ensures ups { out.new.ups.items ≡ out.old.ups.items ++ released_ups origin.number (length ledger.old.list.items) ledger.old.list.items }
-    ensures sends { out.new.sends ≡ out.old.sends }
-    ensures room { free_ups out.old + count_by is_ungiven ledger.new.list.items ≤ free_ups out.new + count_by is_ungiven ledger.old.list.items }
+    ensures ups { ups.new.items ≡ ups.old.items ++ released_ups origin.number (length ledger.old.list.items) ledger.old.list.items }
+    ensures room { free ups.old + count_by is_ungiven ledger.new.list.items ≤ free ups.new + count_by is_ungiven ledger.old.list.items }
     ensures len { vec_len ledger.new.list ≡ vec_len ledger.old.list }
     ensures capacity { vec_capacity ledger.new.list ≡ vec_capacity ledger.old.list }
-    ensures memory { vec_capacity out.old.ups ≤ vec_capacity out.new.ups }
+    ensures memory { vec_capacity ups.old ≤ vec_capacity ups.new }
 {
     let count = ledger.list.len();
     for i in 0..count {
-        if !give_next(ledger, origin, out) {
+        if !give_next(ledger, origin, ups) {
             return;
         }
     }
 }
 
 /// Takes a message that the layer below brought up.
-fn take_one(ledger: &mut Ledger, m: MsgId, out: &mut Effects)
-    requires { count_by is_ungiven ledger.old.list.items ≤ free_ups out.old }
+fn take_one(ledger: &mut Ledger, m: MsgId, ups: &mut Vec<Up>)
+    requires { count_by is_ungiven ledger.old.list.items ≤ free ups.old }
     ensures items { ledger.new.list.items ≡ taken_one m ledger.old.list.items }
-    ensures ups { out.new.ups.items ≡ out.old.ups.items ++ taken_one_ups m ledger.old.list.items }
-    ensures sends { out.new.sends ≡ out.old.sends }
-    ensures room { free_ups out.old + count_by is_ungiven ledger.new.list.items ≤ free_ups out.new + count_by is_ungiven ledger.old.list.items }
+    ensures ups { ups.new.items ≡ ups.old.items ++ taken_one_ups m ledger.old.list.items }
+    ensures room { free ups.old + count_by is_ungiven ledger.new.list.items ≤ free ups.new + count_by is_ungiven ledger.old.list.items }
     ensures len { vec_len ledger.new.list ≡ vec_len ledger.old.list }
     ensures capacity { vec_capacity ledger.new.list ≡ vec_capacity ledger.old.list }
-    ensures memory { vec_capacity out.old.ups ≤ vec_capacity out.new.ups }
+    ensures memory { vec_capacity ups.old ≤ vec_capacity ups.new }
 {
     ledger.bring(m);
-    release(ledger, m.origin, out);
+    release(ledger, m.origin, ups);
 }
 
 /// Takes what the layer below brought up, one by one.
-pub fn take_all(ledger: &mut Ledger, ups: &[Up], out: &mut Effects)
-    requires { count_by is_ungiven ledger.old.list.items ≤ free_ups out.old }
-    ensures items { ledger.new.list.items ≡ taken ups.now ledger.old.list.items }
-    ensures ups { out.new.ups.items ≡ out.old.ups.items ++ taken_ups ups.now ledger.old.list.items }
-    ensures sends { out.new.sends ≡ out.old.sends }
-    ensures room { free_ups out.old + count_by is_ungiven ledger.new.list.items ≤ free_ups out.new + count_by is_ungiven ledger.old.list.items }
+pub fn take_all(ledger: &mut Ledger, below: &[Up], ups: &mut Vec<Up>)
+    requires { count_by is_ungiven ledger.old.list.items ≤ free ups.old }
+    ensures items { ledger.new.list.items ≡ taken below.now ledger.old.list.items }
+    ensures ups { ups.new.items ≡ ups.old.items ++ taken_ups below.now ledger.old.list.items }
+    ensures room { free ups.old + count_by is_ungiven ledger.new.list.items ≤ free ups.new + count_by is_ungiven ledger.old.list.items }
     ensures len { vec_len ledger.new.list ≡ vec_len ledger.old.list }
     ensures capacity { vec_capacity ledger.new.list ≡ vec_capacity ledger.old.list }
-    ensures memory { vec_capacity out.old.ups ≤ vec_capacity out.new.ups }
+    ensures memory { vec_capacity ups.old ≤ vec_capacity ups.new }
 {
-    for up in ups {
-        take_one(ledger, up.m, out);
+    for up in below {
+        take_one(ledger, up.m, ups);
     }
 }

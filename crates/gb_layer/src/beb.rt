@@ -7,9 +7,10 @@ ghost use Rattle.gb_layer.specs.RoomLemmas.{beb_roomier};
 ghost use Rattle.gb_layer.specs.BebLemmas.{beb_sends_handed_in, beb_ups_handed_in, beb_up_once, beb_sent_once, beb_noticed_once, fair_once};
 
 use crate::call::Call;
-use crate::effects::Effects;
+use crate::effects::Up;
 use crate::layer::Layer;
 use gb_types::memory::OutOfMemory;
+use gb_types::message::MsgId;
 use gb_types::node::{NodeId, NodeSet};
 
 /// Sends what is said, and hands up what is said and whatever comes, from whichever node (Cachin, Guerraoui,
@@ -54,9 +55,14 @@ impl Layer for Beb {
         self.me
     }
 
-    fn ready(&mut self, calls: usize, out: &mut Effects) -> Result<(), OutOfMemory> {
-        out.sends.reserve(calls)?;
-        out.ups.reserve(calls)?;
+    fn ready(
+        &mut self,
+        calls: usize,
+        sends: &mut Vec<MsgId>,
+        ups: &mut Vec<Up>,
+    ) -> Result<(), OutOfMemory> {
+        sends.reserve(calls)?;
+        ups.reserve(calls)?;
         Ok(())
     }
 
@@ -65,18 +71,19 @@ impl Layer for Beb {
         _members: &NodeSet,
         _msgs: u16,
         calls: usize,
-        out: &mut Effects,
+        sends: &mut Vec<MsgId>,
+        ups: &mut Vec<Up>,
     ) -> Result<(), OutOfMemory> {
-        self.ready(calls, out)
+        self.ready(calls, sends, ups)
     }
 
-    fn take(&mut self, call: Call, out: &mut Effects) {
+    fn take(&mut self, call: Call, sends: &mut Vec<MsgId>, ups: &mut Vec<Up>) {
         match call {
             Call::Say(m) => {
-                out.send(m);
-                out.up(self.me, m);
+                sends.push_reserved(m);
+                ups.push_reserved(Up { via: self.me, m });
             }
-            Call::Came(from, m) => out.up(from, m),
+            Call::Came(from, m) => ups.push_reserved(Up { via: from, m }),
             Call::Notice(_) => {}
         }
     }

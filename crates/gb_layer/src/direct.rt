@@ -4,9 +4,10 @@ ghost use Rattle.gb_layer.specs.Machine.{is_own, own_gives};
 ghost use Rattle.gb_layer.specs.DirectLemmas.{direct_sends_handed_in, direct_ups_handed_in, direct_up_once, direct_sent_once, direct_noticed_once, own_pairs};
 
 use crate::call::Call;
-use crate::effects::{Effects, Up};
+use crate::effects::Up;
 use crate::layer::{Broadcast, Layer};
 use gb_types::memory::OutOfMemory;
+use gb_types::message::MsgId;
 use gb_types::node::{NodeId, NodeSet};
 
 /// Keeps, of the pairs from a place on, those that came from where the message was made.
@@ -69,8 +70,13 @@ impl<L: Layer> Layer for Direct<L> {
         self.lower.me()
     }
 
-    fn ready(&mut self, calls: usize, out: &mut Effects) -> Result<(), OutOfMemory> {
-        self.lower.ready(calls, out)
+    fn ready(
+        &mut self,
+        calls: usize,
+        sends: &mut Vec<MsgId>,
+        ups: &mut Vec<Up>,
+    ) -> Result<(), OutOfMemory> {
+        self.lower.ready(calls, sends, ups)
     }
 
     fn whole(
@@ -78,15 +84,16 @@ impl<L: Layer> Layer for Direct<L> {
         members: &NodeSet,
         msgs: u16,
         calls: usize,
-        out: &mut Effects,
+        sends: &mut Vec<MsgId>,
+        ups: &mut Vec<Up>,
     ) -> Result<(), OutOfMemory> {
-        self.lower.whole(members, msgs, calls, out)
+        self.lower.whole(members, msgs, calls, sends, ups)
     }
 
-    fn take(&mut self, call: Call, out: &mut Effects) {
-        let first = out.ups.len();
-        self.lower.take(call, out);
-        keep_own(&mut out.ups, first);
+    fn take(&mut self, call: Call, sends: &mut Vec<MsgId>, ups: &mut Vec<Up>) {
+        let first = ups.len();
+        self.lower.take(call, sends, ups);
+        keep_own(ups, first);
     }
 
     ghost roomier = { λ d. L.roomier d.lower };

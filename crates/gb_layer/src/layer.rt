@@ -6,10 +6,10 @@ ghost use Rattle.gb_layer.specs.declared.call.Call.TheVariants.{Say, Came, Notic
 ghost use Rattle.gb_layer.specs.Laws.{StaysAtItsNode, ComesFromItsOrigin, SendsWhatWasHandedIn, HandsUpWhatWasHandedIn, HandsUpOnce, SendsOnce, NoticesOnce};
 ghost use Rattle.gb_layer.specs.Limit.{Limit, Need, is_within};
 ghost use Rattle.gb_layer.specs.Machine.{Gives};
-ghost use Rattle.gb_layer.specs.Room.{free_sends, free_ups};
+ghost use Rattle.gb_layer.specs.Room.{free};
 
 use crate::call::Call;
-use crate::effects::Effects;
+use crate::effects::Up;
 use gb_types::memory::OutOfMemory;
 use gb_types::message::MsgId;
 use gb_types::node::{NodeId, NodeSet};
@@ -61,11 +61,16 @@ pub trait Layer {
 
     /// Makes room for the next `calls` calls, in the layer and in `out`. A refusal changes nothing that is
     /// remembered or was given.
-    fn ready(&mut self, calls: usize, out: &mut Effects) -> Result<(), OutOfMemory>
+    fn ready(
+        &mut self,
+        calls: usize,
+        sends: &mut Vec<MsgId>,
+        ups: &mut Vec<Up>,
+    ) -> Result<(), OutOfMemory>
         ensures meaning { meaning self.new ≡ meaning self.old }
-        ensures sends { out.new.sends.items ≡ out.old.sends.items }
-        ensures ups { out.new.ups.items ≡ out.old.ups.items }
-        ensures room { OnOk result (has_room self.new (free_sends out.new) (free_ups out.new) calls) };
+        ensures sends { sends.new.items ≡ sends.old.items }
+        ensures ups { ups.new.items ≡ ups.old.items }
+        ensures room { OnOk result (has_room self.new (free sends.new) (free ups.new) calls) };
 
     /// Takes, once, all the memory that calls ever need that are about messages of these members, numbered from 1
     /// to `msgs`, where `out` is emptied after each `calls` calls and keeps its memory. A refusal changes nothing
@@ -75,71 +80,72 @@ pub trait Layer {
         members: &NodeSet,
         msgs: u16,
         calls: usize,
-        out: &mut Effects,
+        sends: &mut Vec<MsgId>,
+        ups: &mut Vec<Up>,
     ) -> Result<(), OutOfMemory>
         requires { is_empty (meaning self.old) }
         ensures meaning { meaning self.new ≡ meaning self.old }
-        ensures sends { out.new.sends.items ≡ out.old.sends.items }
-        ensures ups { out.new.ups.items ≡ out.old.ups.items }
+        ensures sends { sends.new.items ≡ sends.old.items }
+        ensures ups { ups.new.items ≡ ups.old.items }
         ensures whole { OnOk result (is_whole self.new (record { members = members.now; msgs = msgs; calls = calls })) }
-        ensures free_sends { OnOk result ((need (record { members = members.now; msgs = msgs; calls = calls })).sends ≤ free_sends out.new) }
-        ensures free_ups { OnOk result ((need (record { members = members.now; msgs = msgs; calls = calls })).ups ≤ free_ups out.new) };
+        ensures free_sends { OnOk result ((need (record { members = members.now; msgs = msgs; calls = calls })).sends ≤ free sends.new) }
+        ensures free_ups { OnOk result ((need (record { members = members.now; msgs = msgs; calls = calls })).ups ≤ free ups.new) };
 
     /// Takes a call: a layer's own work. `say`, `came` and `notice` are this, one for each call.
-    fn take(&mut self, call: Call, out: &mut Effects)
-        requires { has_room self.old (free_sends out.old) (free_ups out.old) 1 }
+    fn take(&mut self, call: Call, sends: &mut Vec<MsgId>, ups: &mut Vec<Up>)
+        requires { has_room self.old (free sends.old) (free ups.old) 1 }
         ensures meaning { meaning self.new ≡ next (meaning self.old) call }
-        ensures sends { out.new.sends.items ≡ out.old.sends.items ++ (gives (meaning self.old) call).sends }
-        ensures ups { out.new.ups.items ≡ out.old.ups.items ++ (gives (meaning self.old) call).ups }
-        ensures room { (n : ℕ) → has_room self.old (free_sends out.old) (free_ups out.old) (n + 1)
-            → has_room self.new (free_sends out.new) (free_ups out.new) n }
+        ensures sends { sends.new.items ≡ sends.old.items ++ (gives (meaning self.old) call).sends }
+        ensures ups { ups.new.items ≡ ups.old.items ++ (gives (meaning self.old) call).ups }
+        ensures room { (n : ℕ) → has_room self.old (free sends.old) (free ups.old) (n + 1)
+            → has_room self.new (free sends.new) (free ups.new) n }
         ensures whole { (l : Limit) → is_whole self.old l → is_within l call ≡ true → is_whole self.new l }
-        ensures sends_memory { vec_capacity out.old.sends ≤ vec_capacity out.new.sends }
-        ensures ups_memory { vec_capacity out.old.ups ≤ vec_capacity out.new.ups };
+        ensures sends_memory { vec_capacity sends.old ≤ vec_capacity sends.new }
+        ensures ups_memory { vec_capacity ups.old ≤ vec_capacity ups.new };
 
     /// Broadcasts m, a message of this node.
-    final fn say(&mut self, m: MsgId, out: &mut Effects)
-        requires { has_room self.old (free_sends out.old) (free_ups out.old) 1 }
+    final fn say(&mut self, m: MsgId, sends: &mut Vec<MsgId>, ups: &mut Vec<Up>)
+        requires { has_room self.old (free sends.old) (free ups.old) 1 }
         ensures meaning { meaning self.new ≡ next (meaning self.old) (Say m) }
-        ensures sends { out.new.sends.items ≡ out.old.sends.items ++ (gives (meaning self.old) (Say m)).sends }
-        ensures ups { out.new.ups.items ≡ out.old.ups.items ++ (gives (meaning self.old) (Say m)).ups }
-        ensures room { (n : ℕ) → has_room self.old (free_sends out.old) (free_ups out.old) (n + 1)
-            → has_room self.new (free_sends out.new) (free_ups out.new) n }
+        ensures sends { sends.new.items ≡ sends.old.items ++ (gives (meaning self.old) (Say m)).sends }
+        ensures ups { ups.new.items ≡ ups.old.items ++ (gives (meaning self.old) (Say m)).ups }
+        ensures room { (n : ℕ) → has_room self.old (free sends.old) (free ups.old) (n + 1)
+            → has_room self.new (free sends.new) (free ups.new) n }
         ensures whole { (l : Limit) → is_whole self.old l → is_within l (Say m) ≡ true → is_whole self.new l }
-        ensures sends_memory { vec_capacity out.old.sends ≤ vec_capacity out.new.sends }
-        ensures ups_memory { vec_capacity out.old.ups ≤ vec_capacity out.new.ups }
+        ensures sends_memory { vec_capacity sends.old ≤ vec_capacity sends.new }
+        ensures ups_memory { vec_capacity ups.old ≤ vec_capacity ups.new }
     {
-        self.take(Call::Say(m), out);
+        self.take(Call::Say(m), sends, ups);
     }
 
     /// Takes m, which came from another node: its origin, or a node that relayed it.
-    final fn came(&mut self, from: NodeId, m: MsgId, out: &mut Effects)
-        requires { has_room self.old (free_sends out.old) (free_ups out.old) 1 }
+    final fn came(&mut self, from: NodeId, m: MsgId, sends: &mut Vec<MsgId>, ups: &mut Vec<Up>)
+        requires { has_room self.old (free sends.old) (free ups.old) 1 }
         ensures meaning { meaning self.new ≡ next (meaning self.old) (Came from m) }
-        ensures sends { out.new.sends.items ≡ out.old.sends.items ++ (gives (meaning self.old) (Came from m)).sends }
-        ensures ups { out.new.ups.items ≡ out.old.ups.items ++ (gives (meaning self.old) (Came from m)).ups }
-        ensures room { (n : ℕ) → has_room self.old (free_sends out.old) (free_ups out.old) (n + 1)
-            → has_room self.new (free_sends out.new) (free_ups out.new) n }
+        ensures sends { sends.new.items ≡ sends.old.items ++ (gives (meaning self.old) (Came from m)).sends }
+        ensures ups { ups.new.items ≡ ups.old.items ++ (gives (meaning self.old) (Came from m)).ups }
+        ensures room { (n : ℕ) → has_room self.old (free sends.old) (free ups.old) (n + 1)
+            → has_room self.new (free sends.new) (free ups.new) n }
         ensures whole { (l : Limit) → is_whole self.old l → is_within l (Came from m) ≡ true → is_whole self.new l }
-        ensures sends_memory { vec_capacity out.old.sends ≤ vec_capacity out.new.sends }
-        ensures ups_memory { vec_capacity out.old.ups ≤ vec_capacity out.new.ups }
+        ensures sends_memory { vec_capacity sends.old ≤ vec_capacity sends.new }
+        ensures ups_memory { vec_capacity ups.old ≤ vec_capacity ups.new }
     {
-        self.take(Call::Came(from, m), out);
+        self.take(Call::Came(from, m), sends, ups);
     }
 
     /// Takes note that another node is noticed to have crashed.
-    final fn notice(&mut self, who: NodeId, out: &mut Effects)
-        requires { has_room self.old (free_sends out.old) (free_ups out.old) 1 }
+    final fn notice(&mut self, who: NodeId, sends: &mut Vec<MsgId>, ups: &mut Vec<Up>)
+        requires { has_room self.old (free sends.old) (free ups.old) 1 }
         ensures meaning { meaning self.new ≡ next (meaning self.old) (Notice who) }
-        ensures sends { out.new.sends.items ≡ out.old.sends.items ++ (gives (meaning self.old) (Notice who)).sends }
-        ensures ups { out.new.ups.items ≡ out.old.ups.items ++ (gives (meaning self.old) (Notice who)).ups }
-        ensures room { (n : ℕ) → has_room self.old (free_sends out.old) (free_ups out.old) (n + 1)
-            → has_room self.new (free_sends out.new) (free_ups out.new) n }
+        ensures sends { sends.new.items ≡ sends.old.items ++ (gives (meaning self.old) (Notice who)).sends }
+        ensures ups { ups.new.items ≡ ups.old.items ++ (gives (meaning self.old) (Notice who)).ups }
+        ensures room { (n : ℕ) → has_room self.old (free sends.old) (free ups.old) (n + 1)
+            → has_room self.new (free sends.new) (free ups.new) n }
         ensures whole { (l : Limit) → is_whole self.old l → is_within l (Notice who) ≡ true → is_whole self.new l }
-        ensures sends_memory { vec_capacity out.old.sends ≤ vec_capacity out.new.sends }
-        ensures ups_memory { vec_capacity out.old.ups ≤ vec_capacity out.new.ups }
+        ensures sends_memory { vec_capacity sends.old ≤ vec_capacity sends.new }
+        ensures ups_memory { vec_capacity ups.old ≤ vec_capacity ups.new }
     {
-        self.take(Call::Notice(who), out);
+        self.take(Call::Notice(who), sends, ups);
     }
 
     /// More free places are room for as many calls, or fewer.

@@ -1,7 +1,7 @@
 //! A layer that relays, by a rule.
 ghost use Rattle.std.specs.Prelude.{◌≡◌, ℕ, ◌+◌, ◌≤◌, ◌<◌, [], ◌∷◌, ◌++◌, slice_get, vec_len, vec_capacity, OnOk, IfSome, count_by, map, filter, true};
 ghost use Rattle.gb_layer.specs.declared.call.Call.TheVariants.{Say, Came};
-ghost use Rattle.gb_layer.specs.Room.{free_sends, free_ups};
+ghost use Rattle.gb_layer.specs.Room.{free};
 ghost use Rattle.gb_layer.specs.Pending.{is_pending};
 ghost use Rattle.gb_layer.specs.Places.{StandsAmong};
 ghost use Rattle.gb_layer.specs.Relay.{State, IsNew, IsEmpty, at_start, is_unsent, is_ungiven, marked_sent, call_below, due_to_relay, due_to_deliver, due_message, relay_if, relay_if_sends, relayed, relayed_sends, begun, begun_sends, given, given_ups, is_repeat, relay_next, relay_gives, handed, up_of};
@@ -10,7 +10,7 @@ ghost use Rattle.gb_layer.specs.RelayLemmas.{relay_me_stays, relay_noticed_once,
 ghost use Rattle.gb_layer.specs.RelayOnceLemmas.{relay_sends_handed_in, relay_ups_handed_in, relay_up_once, relay_sent_once};
 
 use crate::call::Call;
-use crate::effects::{Effects, Up};
+use crate::effects::Up;
 use crate::entries::Entry;
 use crate::layer::{Broadcast, Layer};
 use crate::ledger::Ledger;
@@ -21,7 +21,6 @@ use gb_types::memory::OutOfMemory;
 use gb_types::message::MsgId;
 use gb_types::node::{NodeId, NodeSet};
 use std::alloc::Global;
-use std::mem;
 
 /// Says below, once, each message that the rule broadcasts, and hands up, once, each message that the rule
 /// delivers, as from its origin. A message is here once the layer below has brought it up, and is then held by
@@ -50,20 +49,20 @@ fn deliver_one<R: Rule>(
     me: NodeId,
     members: &NodeSet,
     noticed: &NodeSet,
-    out: &mut Effects,
+    ups: &mut Vec<Up>,
 )
-    requires { count_by is_ungiven (entry.old ∷ []) ≤ free_ups out.old }
+    requires { count_by is_ungiven (entry.old ∷ []) ≤ free ups.old }
     ensures entry { entry.new ≡ handed (due_to_deliver R.rules me members.now noticed.now) entry.old }
-    ensures ups { out.new.ups.items ≡ out.old.ups.items ++ map up_of (filter (due_to_deliver R.rules me members.now noticed.now) (entry.old ∷ [])) }
-    ensures sends { out.new.sends ≡ out.old.sends }
-    ensures room { free_ups out.old + count_by is_ungiven (entry.new ∷ []) ≤ free_ups out.new + count_by is_ungiven (entry.old ∷ []) }
-    ensures sends_memory { vec_capacity out.new.sends ≡ vec_capacity out.old.sends }
-    ensures ups_memory { vec_capacity out.old.ups ≤ vec_capacity out.new.ups }
+    ensures ups { ups.new.items ≡ ups.old.items ++ map up_of (filter (due_to_deliver R.rules me members.now noticed.now) (entry.old ∷ [])) }
+    ensures room { free ups.old + count_by is_ungiven (entry.new ∷ []) ≤ free ups.new + count_by is_ungiven (entry.old ∷ []) }
+    ensures ups_memory { vec_capacity ups.old ≤ vec_capacity ups.new }
 {
     if is_ready(entry, rule, me, members, noticed) {
         entry.given = true;
-        let m = entry.m;
-        out.up(m.origin, m);
+        ups.push_reserved(Up {
+            via: entry.m.origin,
+            m: entry.m,
+        });
     }
 }
 
@@ -75,21 +74,19 @@ fn deliver_all<R: Rule>(
     me: NodeId,
     members: &NodeSet,
     noticed: &NodeSet,
-    out: &mut Effects,
+    ups: &mut Vec<Up>,
 )
     requires places { StandsAmong (due_to_deliver R.rules me members.now noticed.now) places.from places.to entries.old.items }
-    requires room { count_by is_ungiven entries.old.items ≤ free_ups out.old }
+    requires room { count_by is_ungiven entries.old.items ≤ free ups.old }
     ensures items { entries.new.items ≡ map (handed (due_to_deliver R.rules me members.now noticed.now)) entries.old.items }
-    ensures ups { out.new.ups.items ≡ out.old.ups.items ++ map up_of (filter (due_to_deliver R.rules me members.now noticed.now) entries.old.items) }
-    ensures sends { out.new.sends ≡ out.old.sends }
-    ensures room { free_ups out.old + count_by is_ungiven entries.new.items ≤ free_ups out.new + count_by is_ungiven entries.old.items }
+    ensures ups { ups.new.items ≡ ups.old.items ++ map up_of (filter (due_to_deliver R.rules me members.now noticed.now) entries.old.items) }
+    ensures room { free ups.old + count_by is_ungiven entries.new.items ≤ free ups.new + count_by is_ungiven entries.old.items }
     ensures len { vec_len entries.new ≡ vec_len entries.old }
     ensures capacity { vec_capacity entries.new ≡ vec_capacity entries.old }
-    ensures sends_memory { vec_capacity out.new.sends ≡ vec_capacity out.old.sends }
-    ensures ups_memory { vec_capacity out.old.ups ≤ vec_capacity out.new.ups }
+    ensures ups_memory { vec_capacity ups.old ≤ vec_capacity ups.new }
 {
     for i in places.from..places.to.min(entries.len()) {
-        deliver_one(&mut entries[i], rule, me, members, noticed, out);
+        deliver_one(&mut entries[i], rule, me, members, noticed, ups);
     }
 }
 
@@ -101,20 +98,18 @@ fn deliver_in<R: Rule>(
     me: NodeId,
     members: &NodeSet,
     noticed: &NodeSet,
-    out: &mut Effects,
+    ups: &mut Vec<Up>,
 )
     requires places { StandsAmong (due_to_deliver R.rules me members.now noticed.now) places.from places.to ledger.old.list.items }
-    requires room { count_by is_ungiven ledger.old.list.items ≤ free_ups out.old }
+    requires room { count_by is_ungiven ledger.old.list.items ≤ free ups.old }
     ensures items { ledger.new.list.items ≡ map (handed (due_to_deliver R.rules me members.now noticed.now)) ledger.old.list.items }
-    ensures ups { out.new.ups.items ≡ out.old.ups.items ++ map up_of (filter (due_to_deliver R.rules me members.now noticed.now) ledger.old.list.items) }
-    ensures sends { out.new.sends ≡ out.old.sends }
-    ensures room { free_ups out.old + count_by is_ungiven ledger.new.list.items ≤ free_ups out.new + count_by is_ungiven ledger.old.list.items }
+    ensures ups { ups.new.items ≡ ups.old.items ++ map up_of (filter (due_to_deliver R.rules me members.now noticed.now) ledger.old.list.items) }
+    ensures room { free ups.old + count_by is_ungiven ledger.new.list.items ≤ free ups.new + count_by is_ungiven ledger.old.list.items }
     ensures len { vec_len ledger.new.list ≡ vec_len ledger.old.list }
     ensures capacity { vec_capacity ledger.new.list ≡ vec_capacity ledger.old.list }
-    ensures sends_memory { vec_capacity out.new.sends ≡ vec_capacity out.old.sends }
-    ensures ups_memory { vec_capacity out.old.ups ≤ vec_capacity out.new.ups }
+    ensures ups_memory { vec_capacity ups.old ≤ vec_capacity ups.new }
 {
-    deliver_all(&mut ledger.list, places, rule, me, members, noticed, out);
+    deliver_all(&mut ledger.list, places, rule, me, members, noticed, ups);
 }
 
 /// How many calls of the layer below so many calls make at most, where there are so many messages. None where there is
@@ -158,33 +153,30 @@ impl<L: Layer, R: Rule> Relay<L, R> {
     }
 
     /// Makes a call of the layer below, and writes down who holds what came up.
-    fn call_lower(&mut self, call: Call, out: &mut Effects)
-        requires { L.has_room self.old.lower (free_sends out.old) (vec_capacity self.old.below) 1 }
+    fn call_lower(&mut self, call: Call, sends: &mut Vec<MsgId>)
+        requires { L.has_room self.old.lower (free sends.old) (vec_capacity self.old.below) 1 }
         ensures state { state_of L.meaning self.new ≡ call_below L.next L.gives L.me (state_of L.meaning self.old) call }
-        ensures sends { out.new.sends.items ≡ out.old.sends.items ++ (L.gives (L.meaning self.old.lower) call).sends }
-        ensures ups { out.new.ups ≡ out.old.ups }
-        ensures room { (n : ℕ) → L.has_room self.old.lower (free_sends out.old) (vec_capacity self.old.below) (n + 1) → L.has_room self.new.lower (free_sends out.new) (vec_capacity self.new.below) n }
+        ensures sends { sends.new.items ≡ sends.old.items ++ (L.gives (L.meaning self.old.lower) call).sends }
+        ensures room { (n : ℕ) → L.has_room self.old.lower (free sends.old) (vec_capacity self.old.below) (n + 1) → L.has_room self.new.lower (free sends.new) (vec_capacity self.new.below) n }
         ensures capacity { vec_capacity self.new.entries.list ≡ vec_capacity self.old.entries.list }
         ensures len { vec_len self.new.entries.list ≡ vec_len self.old.entries.list }
         ensures unsent { unsent self.new ≡ unsent self.old }
         ensures ungiven { ungiven self.new ≡ ungiven self.old }
         ensures whole { (l : Limit) → IsWhole L.is_whole L.need self.old l → is_within l call ≡ true → IsWhole L.is_whole L.need self.new l }
-        ensures sends_memory { vec_capacity out.old.sends ≤ vec_capacity out.new.sends }
+        ensures sends_memory { vec_capacity sends.old ≤ vec_capacity sends.new }
     {
-        mem::swap(&mut out.ups, &mut self.below);
-        out.ups.clear();
+        self.below.clear();
         let me = self.lower.me();
-        self.lower.take(call, out);
+        self.lower.take(call, sends, &mut self.below);
         take_in(
             &mut self.entries,
             &self.rule,
             me,
             &self.members,
             &self.noticed,
-            &out.ups,
+            &self.below,
             &mut self.pending,
         );
-        mem::swap(&mut out.ups, &mut self.below);
     }
 
     /// The message of the entry at i, where it is to be relayed.
@@ -203,130 +195,125 @@ impl<L: Layer, R: Rule> Relay<L, R> {
     }
 
     /// Relays the message of the entry at i, where it is to be.
-    fn relay_at(&mut self, i: usize, out: &mut Effects)
+    fn relay_at(&mut self, i: usize, sends: &mut Vec<MsgId>)
         requires within { i < vec_len self.old.entries.list }
-        requires room { L.has_room self.old.lower (free_sends out.old) (vec_capacity self.old.below) (unsent self.old) }
+        requires room { L.has_room self.old.lower (free sends.old) (vec_capacity self.old.below) (unsent self.old) }
         ensures state { state_of L.meaning self.new ≡ relay_if L.next L.gives L.me R.rules (state_of L.meaning self.old) (slice_get self.old.entries.list.items i) }
-        ensures sends { out.new.sends.items ≡ out.old.sends.items ++ relay_if_sends L.next L.gives L.me R.rules (state_of L.meaning self.old) (slice_get self.old.entries.list.items i) }
-        ensures ups { out.new.ups ≡ out.old.ups }
-        ensures room { (n : ℕ) → L.has_room self.old.lower (free_sends out.old) (vec_capacity self.old.below) (n + unsent self.old) → L.has_room self.new.lower (free_sends out.new) (vec_capacity self.new.below) (n + unsent self.new) }
+        ensures sends { sends.new.items ≡ sends.old.items ++ relay_if_sends L.next L.gives L.me R.rules (state_of L.meaning self.old) (slice_get self.old.entries.list.items i) }
+        ensures room { (n : ℕ) → L.has_room self.old.lower (free sends.old) (vec_capacity self.old.below) (n + unsent self.old) → L.has_room self.new.lower (free sends.new) (vec_capacity self.new.below) (n + unsent self.new) }
         ensures capacity { vec_capacity self.new.entries.list ≡ vec_capacity self.old.entries.list }
         ensures len { vec_len self.new.entries.list ≡ vec_len self.old.entries.list }
         ensures ungiven { ungiven self.new ≡ ungiven self.old }
         ensures whole { (l : Limit) → IsWhole L.is_whole L.need self.old l → IsWhole L.is_whole L.need self.new l }
-        ensures sends_memory { vec_capacity out.old.sends ≤ vec_capacity out.new.sends }
+        ensures sends_memory { vec_capacity sends.old ≤ vec_capacity sends.new }
     {
         if let Some(m) = self.due(i) {
             self.entries.mark_sent(m);
-            self.call_lower(Call::Say(m), out);
+            self.call_lower(Call::Say(m), sends);
         }
     }
 
     /// Relays everything that is to be.
-    fn relay_all(&mut self, out: &mut Effects)
-        requires { L.has_room self.old.lower (free_sends out.old) (vec_capacity self.old.below) (unsent self.old) }
+    fn relay_all(&mut self, sends: &mut Vec<MsgId>)
+        requires { L.has_room self.old.lower (free sends.old) (vec_capacity self.old.below) (unsent self.old) }
         ensures state { state_of L.meaning self.new ≡ relayed L.next L.gives L.me R.rules (state_of L.meaning self.old) }
-        ensures sends { out.new.sends.items ≡ out.old.sends.items ++ relayed_sends L.next L.gives L.me R.rules (state_of L.meaning self.old) }
-        ensures ups { out.new.ups ≡ out.old.ups }
-        ensures room { (n : ℕ) → L.has_room self.old.lower (free_sends out.old) (vec_capacity self.old.below) (n + unsent self.old) → L.has_room self.new.lower (free_sends out.new) (vec_capacity self.new.below) (n + unsent self.new) }
+        ensures sends { sends.new.items ≡ sends.old.items ++ relayed_sends L.next L.gives L.me R.rules (state_of L.meaning self.old) }
+        ensures room { (n : ℕ) → L.has_room self.old.lower (free sends.old) (vec_capacity self.old.below) (n + unsent self.old) → L.has_room self.new.lower (free sends.new) (vec_capacity self.new.below) (n + unsent self.new) }
         ensures capacity { vec_capacity self.new.entries.list ≡ vec_capacity self.old.entries.list }
         ensures len { vec_len self.new.entries.list ≡ vec_len self.old.entries.list }
         ensures ungiven { ungiven self.new ≡ ungiven self.old }
         ensures whole { (l : Limit) → IsWhole L.is_whole L.need self.old l → IsWhole L.is_whole L.need self.new l }
-        ensures sends_memory { vec_capacity out.old.sends ≤ vec_capacity out.new.sends }
+        ensures sends_memory { vec_capacity sends.old ≤ vec_capacity sends.new }
     {
         let count = self.entries.list.len();
         for i in self.pending.from..count {
             if i >= self.pending.to {
                 return;
             }
-            self.relay_at(i, out);
+            self.relay_at(i, sends);
         }
     }
 
     /// Says m below, unless it was sent from here.
-    fn begin_say(&mut self, m: MsgId, out: &mut Effects)
-        requires below { L.has_room self.old.lower (free_sends out.old) (vec_capacity self.old.below) (2 + unsent self.old) }
+    fn begin_say(&mut self, m: MsgId, sends: &mut Vec<MsgId>)
+        requires below { L.has_room self.old.lower (free sends.old) (vec_capacity self.old.below) (2 + unsent self.old) }
         requires entries { vec_len self.old.entries.list + 1 ≤ vec_capacity self.old.entries.list }
         ensures state { state_of L.meaning self.new ≡ begun L.next L.gives L.me (state_of L.meaning self.old) (Say m) }
-        ensures sends { out.new.sends.items ≡ out.old.sends.items ++ begun_sends L.next L.gives L.me (state_of L.meaning self.old) (Say m) }
-        ensures ups { out.new.ups ≡ out.old.ups }
-        ensures room { (n : ℕ) → L.has_room self.old.lower (free_sends out.old) (vec_capacity self.old.below) (n + 2 + unsent self.old) → L.has_room self.new.lower (free_sends out.new) (vec_capacity self.new.below) (n + unsent self.new) }
+        ensures sends { sends.new.items ≡ sends.old.items ++ begun_sends L.next L.gives L.me (state_of L.meaning self.old) (Say m) }
+        ensures room { (n : ℕ) → L.has_room self.old.lower (free sends.old) (vec_capacity self.old.below) (n + 2 + unsent self.old) → L.has_room self.new.lower (free sends.new) (vec_capacity self.new.below) (n + unsent self.new) }
         ensures capacity { vec_capacity self.old.entries.list ≤ vec_capacity self.new.entries.list }
         ensures len { vec_len self.new.entries.list ≤ vec_len self.old.entries.list + 1 }
         ensures ungiven { ungiven self.new ≤ ungiven self.old + 1 }
         ensures whole { (l : Limit) → IsWhole L.is_whole L.need self.old l → is_counted l m ≡ true → IsWhole L.is_whole L.need self.new l }
-        ensures sends_memory { vec_capacity out.old.sends ≤ vec_capacity out.new.sends }
+        ensures sends_memory { vec_capacity sends.old ≤ vec_capacity sends.new }
     {
         if !self.entries.was_sent(m) {
             self.entries.note(m);
             self.entries.mark_sent(m);
-            self.call_lower(Call::Say(m), out);
+            self.call_lower(Call::Say(m), sends);
         }
     }
 
     /// Takes m below.
-    fn begin_came(&mut self, from: NodeId, m: MsgId, out: &mut Effects)
-        requires below { L.has_room self.old.lower (free_sends out.old) (vec_capacity self.old.below) (2 + unsent self.old) }
+    fn begin_came(&mut self, from: NodeId, m: MsgId, sends: &mut Vec<MsgId>)
+        requires below { L.has_room self.old.lower (free sends.old) (vec_capacity self.old.below) (2 + unsent self.old) }
         requires entries { vec_len self.old.entries.list + 1 ≤ vec_capacity self.old.entries.list }
         ensures state { state_of L.meaning self.new ≡ begun L.next L.gives L.me (state_of L.meaning self.old) (Came from m) }
-        ensures sends { out.new.sends.items ≡ out.old.sends.items ++ begun_sends L.next L.gives L.me (state_of L.meaning self.old) (Came from m) }
-        ensures ups { out.new.ups ≡ out.old.ups }
-        ensures room { (n : ℕ) → L.has_room self.old.lower (free_sends out.old) (vec_capacity self.old.below) (n + 2 + unsent self.old) → L.has_room self.new.lower (free_sends out.new) (vec_capacity self.new.below) (n + unsent self.new) }
+        ensures sends { sends.new.items ≡ sends.old.items ++ begun_sends L.next L.gives L.me (state_of L.meaning self.old) (Came from m) }
+        ensures room { (n : ℕ) → L.has_room self.old.lower (free sends.old) (vec_capacity self.old.below) (n + 2 + unsent self.old) → L.has_room self.new.lower (free sends.new) (vec_capacity self.new.below) (n + unsent self.new) }
         ensures capacity { vec_capacity self.old.entries.list ≤ vec_capacity self.new.entries.list }
         ensures len { vec_len self.new.entries.list ≤ vec_len self.old.entries.list + 1 }
         ensures ungiven { ungiven self.new ≤ ungiven self.old + 1 }
         ensures whole { (l : Limit) → IsWhole L.is_whole L.need self.old l → is_within l (Came from m) ≡ true → IsWhole L.is_whole L.need self.new l }
-        ensures sends_memory { vec_capacity out.old.sends ≤ vec_capacity out.new.sends }
+        ensures sends_memory { vec_capacity sends.old ≤ vec_capacity sends.new }
     {
         self.entries.note(m);
-        self.call_lower(Call::Came(from, m), out);
+        self.call_lower(Call::Came(from, m), sends);
     }
 
     /// Does the call itself, before anything is relayed.
-    fn begin(&mut self, call: Call, out: &mut Effects)
-        requires below { L.has_room self.old.lower (free_sends out.old) (vec_capacity self.old.below) (2 + unsent self.old) }
+    fn begin(&mut self, call: Call, sends: &mut Vec<MsgId>)
+        requires below { L.has_room self.old.lower (free sends.old) (vec_capacity self.old.below) (2 + unsent self.old) }
         requires entries { vec_len self.old.entries.list + 1 ≤ vec_capacity self.old.entries.list }
         ensures state { state_of L.meaning self.new ≡ begun L.next L.gives L.me (state_of L.meaning self.old) call }
-        ensures sends { out.new.sends.items ≡ out.old.sends.items ++ begun_sends L.next L.gives L.me (state_of L.meaning self.old) call }
-        ensures ups { out.new.ups ≡ out.old.ups }
-        ensures room { (n : ℕ) → L.has_room self.old.lower (free_sends out.old) (vec_capacity self.old.below) (n + 2 + unsent self.old) → L.has_room self.new.lower (free_sends out.new) (vec_capacity self.new.below) (n + unsent self.new) }
+        ensures sends { sends.new.items ≡ sends.old.items ++ begun_sends L.next L.gives L.me (state_of L.meaning self.old) call }
+        ensures room { (n : ℕ) → L.has_room self.old.lower (free sends.old) (vec_capacity self.old.below) (n + 2 + unsent self.old) → L.has_room self.new.lower (free sends.new) (vec_capacity self.new.below) (n + unsent self.new) }
         ensures capacity { vec_capacity self.old.entries.list ≤ vec_capacity self.new.entries.list }
         ensures len { vec_len self.new.entries.list ≤ vec_len self.old.entries.list + 1 }
         ensures ungiven { ungiven self.new ≤ ungiven self.old + 1 }
         ensures whole { (l : Limit) → IsWhole L.is_whole L.need self.old l → is_within l call ≡ true → IsWhole L.is_whole L.need self.new l }
-        ensures sends_memory { vec_capacity out.old.sends ≤ vec_capacity out.new.sends }
+        ensures sends_memory { vec_capacity sends.old ≤ vec_capacity sends.new }
     {
         match call {
-            Call::Say(m) => self.begin_say(m, out),
-            Call::Came(from, m) => self.begin_came(from, m, out),
+            Call::Say(m) => self.begin_say(m, sends),
+            Call::Came(from, m) => self.begin_came(from, m, sends),
             Call::Notice(who) => {
                 self.pending = Places {
                     from: 0,
                     to: self.entries.list.len(),
                 };
                 self.noticed.insert(who);
-                self.call_lower(Call::Notice(who), out);
+                self.call_lower(Call::Notice(who), sends);
             }
         }
     }
 
     /// Relays and hands up everything that is to be.
-    fn finish(&mut self, out: &mut Effects)
-        requires below { L.has_room self.old.lower (free_sends out.old) (vec_capacity self.old.below) (unsent self.old) }
-        requires ups { ungiven self.old ≤ free_ups out.old }
+    fn finish(&mut self, sends: &mut Vec<MsgId>, ups: &mut Vec<Up>)
+        requires below { L.has_room self.old.lower (free sends.old) (vec_capacity self.old.below) (unsent self.old) }
+        requires ups { ungiven self.old ≤ free ups.old }
         ensures state { state_of L.meaning self.new ≡ given L.me R.rules (relayed L.next L.gives L.me R.rules (state_of L.meaning self.old)) }
-        ensures sends { out.new.sends.items ≡ out.old.sends.items ++ relayed_sends L.next L.gives L.me R.rules (state_of L.meaning self.old) }
-        ensures ups { out.new.ups.items ≡ out.old.ups.items ++ given_ups L.me R.rules (relayed L.next L.gives L.me R.rules (state_of L.meaning self.old)) }
-        ensures room { (n : ℕ) → L.has_room self.old.lower (free_sends out.old) (vec_capacity self.old.below) (n + unsent self.old) → L.has_room self.new.lower (free_sends out.new) (vec_capacity self.new.below) (n + unsent self.new) }
+        ensures sends { sends.new.items ≡ sends.old.items ++ relayed_sends L.next L.gives L.me R.rules (state_of L.meaning self.old) }
+        ensures ups { ups.new.items ≡ ups.old.items ++ given_ups L.me R.rules (relayed L.next L.gives L.me R.rules (state_of L.meaning self.old)) }
+        ensures room { (n : ℕ) → L.has_room self.old.lower (free sends.old) (vec_capacity self.old.below) (n + unsent self.old) → L.has_room self.new.lower (free sends.new) (vec_capacity self.new.below) (n + unsent self.new) }
         ensures capacity { vec_capacity self.new.entries.list ≡ vec_capacity self.old.entries.list }
         ensures len { vec_len self.new.entries.list ≡ vec_len self.old.entries.list }
-        ensures free { free_ups out.old + ungiven self.new ≤ free_ups out.new + ungiven self.old }
+        ensures free { free ups.old + ungiven self.new ≤ free ups.new + ungiven self.old }
         ensures whole { (l : Limit) → IsWhole L.is_whole L.need self.old l → IsWhole L.is_whole L.need self.new l }
-        ensures sends_memory { vec_capacity out.old.sends ≤ vec_capacity out.new.sends }
-        ensures ups_memory { vec_capacity out.old.ups ≤ vec_capacity out.new.ups }
+        ensures sends_memory { vec_capacity sends.old ≤ vec_capacity sends.new }
+        ensures ups_memory { vec_capacity ups.old ≤ vec_capacity ups.new }
     {
-        self.relay_all(out);
+        self.relay_all(sends);
         let me = self.lower.me();
         let places = self.pending;
         deliver_in(
@@ -336,7 +323,7 @@ impl<L: Layer, R: Rule> Relay<L, R> {
             me,
             &self.members,
             &self.noticed,
-            out,
+            ups,
         );
         self.pending = Places { from: 0, to: 0 };
         add_pending(
@@ -361,20 +348,16 @@ impl<L: Layer, R: Rule> Relay<L, R> {
     }
 
     /// Makes room for so many calls of the layer below.
-    fn ready_below(&mut self, calls: usize, out: &mut Effects) -> Result<(), OutOfMemory>
+    fn ready_below(&mut self, calls: usize, sends: &mut Vec<MsgId>) -> Result<(), OutOfMemory>
         ensures meaning { L.meaning self.new.lower ≡ L.meaning self.old.lower }
         ensures entries { self.new.entries.list ≡ self.old.entries.list }
         ensures members { self.new.members ≡ self.old.members }
         ensures noticed { self.new.noticed ≡ self.old.noticed }
-        ensures sends { out.new.sends.items ≡ out.old.sends.items }
-        ensures ups { out.new.ups ≡ out.old.ups }
-        ensures room { OnOk result (L.has_room self.new.lower (free_sends out.new) (vec_capacity self.new.below) calls) }
+        ensures sends { sends.new.items ≡ sends.old.items }
+        ensures room { OnOk result (L.has_room self.new.lower (free sends.new) (vec_capacity self.new.below) calls) }
     {
         self.below.clear();
-        mem::swap(&mut out.ups, &mut self.below);
-        let made = self.lower.ready(calls, out);
-        mem::swap(&mut out.ups, &mut self.below);
-        made
+        self.lower.ready(calls, sends, &mut self.below)
     }
 
     /// Takes all the memory that the layer below ever needs, which is called so many times.
@@ -384,22 +367,19 @@ impl<L: Layer, R: Rule> Relay<L, R> {
         msgs: u16,
         calls: usize,
         below: usize,
-        out: &mut Effects,
+        sends: &mut Vec<MsgId>,
     ) -> Result<(), OutOfMemory>
         requires empty { IsEmpty L.is_empty (state_of L.meaning self.old) }
         requires below { below ≡ calls + calls + message_count (record { members = members.now; msgs = msgs; calls = calls }) }
         requires memory { message_count (record { members = members.now; msgs = msgs; calls = calls }) + calls ≤ vec_capacity self.old.entries.list }
         ensures state { state_of L.meaning self.new ≡ state_of L.meaning self.old }
-        ensures sends { out.new.sends.items ≡ out.old.sends.items }
-        ensures ups { out.new.ups ≡ out.old.ups }
+        ensures sends { sends.new.items ≡ sends.old.items }
         ensures whole { OnOk result (IsWhole L.is_whole L.need self.new (record { members = members.now; msgs = msgs; calls = calls })) }
-        ensures free_sends { OnOk result ((L.need (limit_below (record { members = members.now; msgs = msgs; calls = calls }))).sends ≤ free_sends out.new) }
+        ensures free_sends { OnOk result ((L.need (limit_below (record { members = members.now; msgs = msgs; calls = calls }))).sends ≤ free sends.new) }
     {
         self.below.clear();
-        mem::swap(&mut out.ups, &mut self.below);
-        let made = self.lower.whole(members, msgs, below, out);
-        mem::swap(&mut out.ups, &mut self.below);
-        made
+        self.lower
+            .whole(members, msgs, below, sends, &mut self.below)
     }
 }
 
@@ -432,14 +412,19 @@ impl<L: Layer, R: Rule> Layer for Relay<L, R> {
         self.lower.me()
     }
 
-    fn ready(&mut self, calls: usize, out: &mut Effects) -> Result<(), OutOfMemory> {
+    fn ready(
+        &mut self,
+        calls: usize,
+        sends: &mut Vec<MsgId>,
+        ups: &mut Vec<Up>,
+    ) -> Result<(), OutOfMemory> {
         let Some(below) = calls_below(calls, self.entries.list.len()) else {
             return Err(OutOfMemory);
         };
         self.entries.list.reserve(calls)?;
         // A pair for each message and for each call.
-        out.ups.reserve(below - calls)?;
-        self.ready_below(below, out)
+        ups.reserve(below - calls)?;
+        self.ready_below(below, sends)
     }
 
     fn whole(
@@ -447,7 +432,8 @@ impl<L: Layer, R: Rule> Layer for Relay<L, R> {
         members: &NodeSet,
         msgs: u16,
         calls: usize,
-        out: &mut Effects,
+        sends: &mut Vec<MsgId>,
+        ups: &mut Vec<Up>,
     ) -> Result<(), OutOfMemory> {
         let Some(below) = whole_calls_below(members, msgs, calls) else {
             return Err(OutOfMemory);
@@ -456,14 +442,14 @@ impl<L: Layer, R: Rule> Layer for Relay<L, R> {
         let once = below - calls;
         self.entries.list.reserve(once)?;
         self.entries.cover(members, msgs)?;
-        out.ups.reserve(once)?;
-        self.whole_below(members, msgs, calls, below, out)
+        ups.reserve(once)?;
+        self.whole_below(members, msgs, calls, below, sends)
     }
 
-    fn take(&mut self, call: Call, out: &mut Effects) {
+    fn take(&mut self, call: Call, sends: &mut Vec<MsgId>, ups: &mut Vec<Up>) {
         if !self.repeats(call) {
-            self.begin(call, out);
-            self.finish(out);
+            self.begin(call, sends);
+            self.finish(sends, ups);
         }
     }
 

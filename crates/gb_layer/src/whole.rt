@@ -3,7 +3,7 @@ ghost use Rattle.std.specs.Prelude.{◌≡◌, true, IfOk};
 ghost use Rattle.gb_layer.specs.Limit as limit;
 
 use crate::call::Call;
-use crate::effects::Effects;
+use crate::effects::Up;
 use crate::layer::Layer;
 use gb_types::memory::OutOfMemory;
 use gb_types::message::MsgId;
@@ -37,12 +37,13 @@ pub fn take_two<L: Layer>(
     msgs: u16,
     first: Call,
     second: Call,
-    out: &mut Effects,
+    sends: &mut Vec<MsgId>,
+    ups: &mut Vec<Up>,
 ) -> Result<bool, OutOfMemory>
     requires { L.is_empty (L.meaning layer.old) }
     ensures meaning { IfOk result (λ both. both ≡ true → L.meaning layer.new ≡ L.next (L.next (L.meaning layer.old) first) second) }
-    ensures sends { IfOk result (λ both. both ≡ true → out.new.sends.items ≡ (L.gives (L.next (L.meaning layer.old) first) second).sends) }
-    ensures ups { IfOk result (λ both. both ≡ true → out.new.ups.items ≡ (L.gives (L.next (L.meaning layer.old) first) second).ups) }
+    ensures sends { IfOk result (λ both. both ≡ true → sends.new.items ≡ (L.gives (L.next (L.meaning layer.old) first) second).sends) }
+    ensures ups { IfOk result (λ both. both ≡ true → ups.new.items ≡ (L.gives (L.next (L.meaning layer.old) first) second).ups) }
 {
     if !is_within(members, msgs, first) {
         return Ok(false);
@@ -50,10 +51,10 @@ pub fn take_two<L: Layer>(
     if !is_within(members, msgs, second) {
         return Ok(false);
     }
-    layer.whole(members, msgs, 1, out)?;
-    layer.take(first, out);
-    out.sends.clear();
-    out.ups.clear();
-    layer.take(second, out);
+    layer.whole(members, msgs, 1, sends, ups)?;
+    layer.take(first, sends, ups);
+    sends.clear();
+    ups.clear();
+    layer.take(second, sends, ups);
     Ok(true)
 }

@@ -14,7 +14,7 @@ use Rattle.gb_types.specs.declared.message.MsgId.{MsgId}
 use Rattle.gb_types.specs.declared.node.NodeId.{NodeId}
 use Rattle.gb_types.specs.declared.reply.Reply.TheVariants.{Said}
 use Rattle.gb_layer.specs.Machine.{messages}
-use Rattle.gb_layer.specs.Room.{free_sends, free_ups}
+use Rattle.gb_slot.specs.Effects.{free_sends, free_ups}
 use Rattle.gb_layer.specs.declared.effects.Up.{Up}
 use Rattle.gb_stack.specs.StackRoom.{stack_room}
 use Rattle.gb_stack.specs.WholeLemmas.{stack_whole_room}

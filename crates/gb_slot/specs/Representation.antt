@@ -1,9 +1,8 @@
 -- How a slot keeps its state, in memory that was taken when it was made.
 use Rattle.std.specs.Prelude.{◌≤◌, vec_capacity}
-use Rattle.gb_layer.specs.Room.{free_sends, free_ups}
 use Rattle.gb_stack.specs.StackRoom.{stack_need, stack_whole}
 use Rattle.gb_stack.specs.StackState.{StackState}
-use Rattle.gb_slot.specs.Effects.{IsEmpty}
+use Rattle.gb_slot.specs.Effects.{IsEmpty, free_sends, free_ups}
 use Rattle.gb_slot.specs.Outgoing.{put_messages}
 use Rattle.gb_slot.specs.Reached.{limit_of, most_messages, most_bytes}
 use Rattle.gb_slot.specs.SlotState.{SlotState}

@@ -2,10 +2,9 @@
 ghost use Rattle.std.specs.Prelude.{◌≡◌, ◌≤◌, ◌+◌, ◌++◌, ◌^◌, true, [], length, map, Some, slice_get, vec_len, vec_capacity};
 ghost use Rattle.gb_layer.specs.Limit.{Limit, is_within};
 ghost use Rattle.gb_layer.specs.Machine.{messages};
-ghost use Rattle.gb_layer.specs.Room.{free_sends, free_ups};
 ghost use Rattle.gb_types.specs.Entry.{message_of};
 ghost use Rattle.gb_history.specs.Messages.{has};
-ghost use Rattle.gb_slot.specs.Effects.{IsEmpty};
+ghost use Rattle.gb_slot.specs.Effects.{IsEmpty, free_sends, free_ups};
 ghost use Rattle.gb_slot.specs.Outgoing.{put_messages};
 ghost use Rattle.gb_stack.specs.StackRoom.{stack_room, stack_whole};
 ghost use Rattle.gb_stack.specs.StackState.{stack_next, stack_gives};
@@ -83,7 +82,7 @@ pub(crate) fn take_call(
     ensures log_memory { vec_capacity log.new ≡ vec_capacity log.old }
     ensures outgoing_memory { vec_capacity outgoing.new ≡ vec_capacity outgoing.old }
 {
-    stack.take(call, effects);
+    stack.take(call, &mut effects.sends, &mut effects.ups);
     put_out(outgoing, &mut effects.sends, store);
     write_log(log, &mut effects.ups);
 }

@@ -2,14 +2,13 @@
 ghost use Rattle.std.specs.Prelude.{◌≡◌, ℕ, false, ◌≢◌, OnErr, OnOk, ◌≤◌, ◌<◌, ◌&&◌, not, List, [], ◌∷◌, Some, take, drop, map, slice_get, length, IfOk, MatchOption, true, IsOkUnless, vec_capacity};
 ghost use Rattle.std.specs.FinSet as set;
 ghost use Rattle.gb_types.specs.declared.entry.Entry.{Entry as EntryValue};
-ghost use Rattle.gb_layer.specs.Room.{free_sends, free_ups};
 ghost use Rattle.gb_stack.specs.StackRoom.{stack_need, stack_whole};
 ghost use Rattle.gb_stack.specs.StackState.{new_stack};
 ghost use Rattle.gb_stack.specs.Stands.{HasStarted};
 ghost use Rattle.gb_history.specs.Messages.{entry_in};
 ghost use Rattle.gb_rules.specs.Replied.{done_reply, said_reply, log_reply, IsReply};
 ghost use Rattle.gb_rules.specs.Group.{is_gone, is_member, is_other, open_answer, shut_answer, say_answer, fetch_answer};
-ghost use Rattle.gb_slot.specs.Effects.{IsEmpty};
+ghost use Rattle.gb_slot.specs.Effects.{IsEmpty, free_sends, free_ups};
 ghost use Rattle.gb_slot.specs.Reached.{limit_of, most_bytes, most_messages};
 ghost use Rattle.gb_slot.specs.Slot.{IsWithinLimits};
 
@@ -384,7 +383,13 @@ fn broadcast(
     ensures ups { OnOk result ((stack_need (limit_of spec.now)).ups ≤ free_ups effects.new) }
 {
     let mut stack = Stack::new(alloc, spec, me, noticed)?;
-    stack.whole(&spec.members, spec.msgs as u16, 1, effects)?;
+    stack.whole(
+        &spec.members,
+        spec.msgs as u16,
+        1,
+        &mut effects.sends,
+        &mut effects.ups,
+    )?;
     Ok(stack)
 }
 

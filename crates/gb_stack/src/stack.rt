@@ -2,7 +2,7 @@
 ghost use Rattle.std.specs.Prelude.{◌≡◌, ℕ, ◌+◌, ◌++◌, IfOk, if◌then◌else◌};
 ghost use Rattle.gb_types.specs.declared.limits.TheConstants.{NODES};
 ghost use Rattle.gb_layer.specs.declared.call.Call.TheVariants.{Notice};
-ghost use Rattle.gb_layer.specs.Room.{free_sends, free_ups};
+ghost use Rattle.gb_layer.specs.Room.{free};
 ghost use Rattle.gb_stack.specs.Stands.{is_other_noticed, HasHeard, HasStarted};
 ghost use Rattle.gb_stack.specs.StackState.{StackState, unordered, fifo, stack_next, stack_gives, stack_me, IsUntoldStack, IsEmptyStack, untold_stack, new_stack};
 ghost use Rattle.gb_stack.specs.StackRoom.{stack_room, stack_whole, stack_need};
@@ -14,11 +14,12 @@ use crate::kinds::{broadcast_module, is_fifo};
 use crate::unordered::Unordered;
 use gb_fifo::fifo::Fifo;
 use gb_layer::call::Call;
-use gb_layer::effects::Effects;
+use gb_layer::effects::Up;
 use gb_layer::layer::{Broadcast, Layer};
 use gb_types::kind::Kind;
 use gb_types::limits::NODES;
 use gb_types::memory::OutOfMemory;
+use gb_types::message::MsgId;
 use gb_types::node::{NodeId, NodeSet};
 use gb_types::spec::Spec;
 use std::alloc::Global;
@@ -30,16 +31,17 @@ fn hear_of<L: Layer>(
     members: &NodeSet,
     noticed: &NodeSet,
     node: NodeId,
-    out: &mut Effects,
+    sends: &mut Vec<MsgId>,
+    ups: &mut Vec<Up>,
 )
-    requires { L.has_room layer.old (free_sends out.old) (free_ups out.old) 1 }
+    requires { L.has_room layer.old (free sends.old) (free ups.old) 1 }
     ensures meaning { L.meaning layer.new
         ≡ (if is_other_noticed me members.now noticed.now node.number then L.next (L.meaning layer.old) (Notice node) else L.meaning layer.old) }
-    ensures room { (n : ℕ) → L.has_room layer.old (free_sends out.old) (free_ups out.old) (n + 1)
-        → L.has_room layer.new (free_sends out.new) (free_ups out.new) n }
+    ensures room { (n : ℕ) → L.has_room layer.old (free sends.old) (free ups.old) (n + 1)
+        → L.has_room layer.new (free sends.new) (free ups.new) n }
 {
     if noticed.contains(node) && members.contains(node) && node != me {
-        layer.notice(node, out);
+        layer.notice(node, sends, ups);
     }
 }
 
@@ -49,14 +51,15 @@ fn hear<L: Layer>(
     me: NodeId,
     members: &NodeSet,
     noticed: &NodeSet,
-    out: &mut Effects,
+    sends: &mut Vec<MsgId>,
+    ups: &mut Vec<Up>,
 )
-    requires { L.has_room layer.old (free_sends out.old) (free_ups out.old) NODES }
+    requires { L.has_room layer.old (free sends.old) (free ups.old) NODES }
     ensures { HasHeard L.next me members.now noticed.now NODES (L.meaning layer.old) (L.meaning layer.new) }
 {
     for i in 0..NODES {
         let node = NodeId::new(i as u8);
-        hear_of(layer, me, members, noticed, node, out);
+        hear_of(layer, me, members, noticed, node, sends, ups);
     }
 }
 
@@ -96,9 +99,9 @@ impl Stack {
         ensures started { IfOk result (λ s. HasStarted me spec.now.members noticed.now (⟦<Stack as Layer>⟧.meaning s)) }
     {
         let mut stack = Stack::untold(alloc, spec.kind, me, spec.members.duplicate());
-        let mut out = Effects::new(alloc);
-        stack.ready(NODES, &mut out)?;
-        hear(&mut stack, me, &spec.members, noticed, &mut out);
+        let (mut sends, mut ups) = (Vec::new(alloc), Vec::new(alloc));
+        stack.ready(NODES, &mut sends, &mut ups)?;
+        hear(&mut stack, me, &spec.members, noticed, &mut sends, &mut ups);
         // The proof reads that only nodes were noticed.
         let _ = noticed.nodes();
         Ok(stack)
@@ -136,10 +139,15 @@ impl Layer for Stack {
         }
     }
 
-    fn ready(&mut self, calls: usize, out: &mut Effects) -> Result<(), OutOfMemory> {
+    fn ready(
+        &mut self,
+        calls: usize,
+        sends: &mut Vec<MsgId>,
+        ups: &mut Vec<Up>,
+    ) -> Result<(), OutOfMemory> {
         match self {
-            Stack::Unordered(layer) => layer.ready(calls, out),
-            Stack::Fifo(layer) => layer.ready(calls, out),
+            Stack::Unordered(layer) => layer.ready(calls, sends, ups),
+            Stack::Fifo(layer) => layer.ready(calls, sends, ups),
         }
     }
 
@@ -148,19 +156,20 @@ impl Layer for Stack {
         members: &NodeSet,
         msgs: u16,
         calls: usize,
-        out: &mut Effects,
+        sends: &mut Vec<MsgId>,
+        ups: &mut Vec<Up>,
     ) -> Result<(), OutOfMemory> {
         match self {
-            Stack::Unordered(layer) => layer.whole(members, msgs, calls, out),
-            Stack::Fifo(layer) => layer.whole(members, msgs, calls, out),
+            Stack::Unordered(layer) => layer.whole(members, msgs, calls, sends, ups),
+            Stack::Fifo(layer) => layer.whole(members, msgs, calls, sends, ups),
         }
     }
 
     #[inline(always)]
-    fn take(&mut self, call: Call, out: &mut Effects) {
+    fn take(&mut self, call: Call, sends: &mut Vec<MsgId>, ups: &mut Vec<Up>) {
         match self {
-            Stack::Unordered(layer) => layer.take(call, out),
-            Stack::Fifo(layer) => layer.take(call, out),
+            Stack::Unordered(layer) => layer.take(call, sends, ups),
+            Stack::Fifo(layer) => layer.take(call, sends, ups),
         }
     }
 

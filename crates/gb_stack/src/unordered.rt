@@ -1,7 +1,7 @@
 //! The broadcasts that keep no order.
 ghost use Rattle.std.specs.Prelude.{◌≡◌, ◌≤◌, OnOk};
 ghost use Rattle.std.specs.FinSet as set;
-ghost use Rattle.gb_layer.specs.Room.{free_sends, free_ups};
+ghost use Rattle.gb_layer.specs.Room.{free};
 ghost use Rattle.gb_stack.specs.StackState.{UnorderedState, best_effort, lazy, eager, all_ack, unordered_next, unordered_gives, unordered_me, IsUntold, IsEmpty, unordered_noticing};
 ghost use Rattle.gb_stack.specs.StackRoom.{unordered_room, unordered_whole, stack_need};
 ghost use Rattle.gb_stack.specs.WholeLemmas.{unordered_whole_room};
@@ -12,12 +12,13 @@ use gb_layer::beb::Beb;
 use gb_layer::broadcast_module::BroadcastModule;
 use gb_layer::call::Call;
 use gb_layer::direct::Direct;
-use gb_layer::effects::Effects;
+use gb_layer::effects::Up;
 use gb_layer::layer::{Broadcast, Layer};
 use gb_layer::relay::Relay;
 use gb_reliable::eager::{Eager, Eagerly};
 use gb_reliable::lazy::{Lazily, Lazy};
 use gb_types::memory::OutOfMemory;
+use gb_types::message::MsgId;
 use gb_types::node::{NodeId, NodeSet};
 use gb_uniform::all_ack::{AllAck, AllAcked};
 use std::alloc::Global;
@@ -58,19 +59,20 @@ fn reserve_most(
     members: &NodeSet,
     msgs: u16,
     calls: usize,
-    out: &mut Effects,
+    sends: &mut Vec<MsgId>,
+    ups: &mut Vec<Up>,
 ) -> Result<(), OutOfMemory>
-    ensures sends { out.new.sends.items ≡ out.old.sends.items }
-    ensures ups { out.new.ups.items ≡ out.old.ups.items }
-    ensures free_sends { OnOk result ((stack_need (record { members = members.now; msgs = msgs; calls = calls })).sends ≤ free_sends out.new) }
-    ensures free_ups { OnOk result ((stack_need (record { members = members.now; msgs = msgs; calls = calls })).ups ≤ free_ups out.new) }
+    ensures sends { sends.new.items ≡ sends.old.items }
+    ensures ups { ups.new.items ≡ ups.old.items }
+    ensures free_sends { OnOk result ((stack_need (record { members = members.now; msgs = msgs; calls = calls })).sends ≤ free sends.new) }
+    ensures free_ups { OnOk result ((stack_need (record { members = members.now; msgs = msgs; calls = calls })).ups ≤ free ups.new) }
 {
     let count = members.count_in(members);
     let messages = count.checked_mul(usize::from(msgs)).ok_or(OutOfMemory)?;
     let once = messages.checked_add(calls).ok_or(OutOfMemory)?;
-    let sends = once.checked_add(calls).ok_or(OutOfMemory)?;
-    out.sends.reserve(sends)?;
-    out.ups.reserve(once)?;
+    let most = once.checked_add(calls).ok_or(OutOfMemory)?;
+    sends.reserve(most)?;
+    ups.reserve(once)?;
     Ok(())
 }
 
@@ -109,12 +111,17 @@ impl Layer for Unordered {
         }
     }
 
-    fn ready(&mut self, calls: usize, out: &mut Effects) -> Result<(), OutOfMemory> {
+    fn ready(
+        &mut self,
+        calls: usize,
+        sends: &mut Vec<MsgId>,
+        ups: &mut Vec<Up>,
+    ) -> Result<(), OutOfMemory> {
         match self {
-            Unordered::BestEffort(layer) => layer.ready(calls, out),
-            Unordered::Lazy(layer) => layer.ready(calls, out),
-            Unordered::Eager(layer) => layer.ready(calls, out),
-            Unordered::AllAck(layer) => layer.ready(calls, out),
+            Unordered::BestEffort(layer) => layer.ready(calls, sends, ups),
+            Unordered::Lazy(layer) => layer.ready(calls, sends, ups),
+            Unordered::Eager(layer) => layer.ready(calls, sends, ups),
+            Unordered::AllAck(layer) => layer.ready(calls, sends, ups),
         }
     }
 
@@ -123,22 +130,23 @@ impl Layer for Unordered {
         members: &NodeSet,
         msgs: u16,
         calls: usize,
-        out: &mut Effects,
+        sends: &mut Vec<MsgId>,
+        ups: &mut Vec<Up>,
     ) -> Result<(), OutOfMemory> {
         match self {
-            Unordered::BestEffort(_) => reserve_most(members, msgs, calls, out),
-            Unordered::Lazy(layer) => layer.whole(members, msgs, calls, out),
-            Unordered::Eager(layer) => layer.whole(members, msgs, calls, out),
-            Unordered::AllAck(layer) => layer.whole(members, msgs, calls, out),
+            Unordered::BestEffort(_) => reserve_most(members, msgs, calls, sends, ups),
+            Unordered::Lazy(layer) => layer.whole(members, msgs, calls, sends, ups),
+            Unordered::Eager(layer) => layer.whole(members, msgs, calls, sends, ups),
+            Unordered::AllAck(layer) => layer.whole(members, msgs, calls, sends, ups),
         }
     }
 
-    fn take(&mut self, call: Call, out: &mut Effects) {
+    fn take(&mut self, call: Call, sends: &mut Vec<MsgId>, ups: &mut Vec<Up>) {
         match self {
-            Unordered::BestEffort(layer) => layer.take(call, out),
-            Unordered::Lazy(layer) => layer.take(call, out),
-            Unordered::Eager(layer) => layer.take(call, out),
-            Unordered::AllAck(layer) => layer.take(call, out),
+            Unordered::BestEffort(layer) => layer.take(call, sends, ups),
+            Unordered::Lazy(layer) => layer.take(call, sends, ups),
+            Unordered::Eager(layer) => layer.take(call, sends, ups),
+            Unordered::AllAck(layer) => layer.take(call, sends, ups),
         }
     }
 

@@ -35,13 +35,13 @@ const SECOND: MsgId = MsgId {
 /// Tells a layer of an own message, of another node's and of a crash.
 fn tell(rt: &impl Abort, layer: &mut Beb, out: &mut Effects) -> Result<(), OutOfMemory> {
     assert!(rt; layer.me() == ME);
-    layer.ready(3, out)?;
+    layer.ready(3, &mut out.sends, &mut out.ups)?;
     assert!(rt; out.sends.capacity() >= 3 && out.ups.capacity() >= 3);
-    layer.say(OWN, out);
-    layer.ready(1, out)?;
-    layer.came(OTHER, FIRST, out);
-    layer.ready(1, out)?;
-    layer.notice(ORIGIN, out);
+    layer.say(OWN, &mut out.sends, &mut out.ups);
+    layer.ready(1, &mut out.sends, &mut out.ups)?;
+    layer.came(OTHER, FIRST, &mut out.sends, &mut out.ups);
+    layer.ready(1, &mut out.sends, &mut out.ups)?;
+    layer.notice(ORIGIN, &mut out.sends, &mut out.ups);
     Ok(())
 }
 

@@ -97,8 +97,8 @@ fn take<L: Layer>(
     step: (u8, u16, usize),
 ) -> Result<(), OutOfMemory> {
     let (origin, seq, count) = step;
-    fifo.ready(1, out)?;
-    fifo.take(call_of(origin, seq), out);
+    fifo.ready(1, &mut out.sends, &mut out.ups)?;
+    fifo.take(call_of(origin, seq), &mut out.sends, &mut out.ups);
     assert!(rt; out.ups.len() == count);
     Ok(())
 }
@@ -172,7 +172,7 @@ fn two_origins_do_not_wait_for_each_other(rt: HostRuntime) -> Result<(), Fail> {
 /// Tells a layer of the second and the first message of an origin that crashes in between, and of an own one.
 fn tell<L: Layer>(rt: &impl Abort, layer: &mut L, out: &mut Effects) -> Result<(), OutOfMemory> {
     assert!(rt; layer.me() == node(ME));
-    layer.ready(3, out)?;
+    layer.ready(3, &mut out.sends, &mut out.ups)?;
     assert!(rt; out.sends.capacity() >= 3 && out.ups.capacity() >= 3);
     let origin = node(ORIGIN);
     let calls = [

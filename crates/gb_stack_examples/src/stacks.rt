@@ -372,7 +372,15 @@ fn second_of<L: Layer>(
     requires { L.is_empty (L.meaning layer.old) }
 {
     let mut out = Effects::new(alloc);
-    if take_two(layer, &set(&MEMBERS), 1, first, second, &mut out)? {
+    if take_two(
+        layer,
+        &set(&MEMBERS),
+        1,
+        first,
+        second,
+        &mut out.sends,
+        &mut out.ups,
+    )? {
         Ok(Some(out))
     } else {
         Ok(None)

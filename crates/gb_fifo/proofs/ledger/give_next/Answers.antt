@@ -36,7 +36,7 @@ returns-in-Some-clause-ups c =
     let es = c.args.ledger.now.list.items in
     let s = c.args.origin.number in
     let here = c.in-Some.ensures in
-    c.give_one.ensures.ups ∙ ap (λ us. c.args.out.now.ups.items ++ us) (picked_at (next_of s es) es c.in-Some.i c.index_mut.result.now here c.index_mut.ensures.value)
+    c.give_one.ensures.ups ∙ ap (λ us. c.args.ups.now.items ++ us) (picked_at (next_of s es) es c.in-Some.i c.index_mut.result.now here c.index_mut.ensures.value)
 
 pub returns-in-Some-clause-room : goal.returns-in-Some-clause-room
 returns-in-Some-clause-room c =
@@ -55,8 +55,8 @@ returns-in-None-clause-items c =
 pub returns-in-None-clause-ups : goal.returns-in-None-clause-ups
 returns-in-None-clause-ups c =
     let s = c.args.origin.number in
-    sym (append-nil c.args.out.now.ups.items)
-    ∙ ap (λ us. c.args.out.now.ups.items ++ us) (none_picked (next_of s c.args.ledger.now.list.items) c.args.ledger.now.list.items c.in-None.ensures)
+    sym (append-nil c.args.ups.now.items)
+    ∙ ap (λ us. c.args.ups.now.items ++ us) (none_picked (next_of s c.args.ledger.now.list.items) c.args.ledger.now.list.items c.in-None.ensures)
 
 pub invariant_of-ledger : goal.invariant_of-ledger
 invariant_of-ledger c =

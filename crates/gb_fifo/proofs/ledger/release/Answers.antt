@@ -17,9 +17,9 @@ returns-then-not-give_next-clause-ups c =
     let s = c.args.origin.number in
     let n = c.len-count.result in
     let all = c.args.ledger.now.list.items in
-    let before = c.args.out.now.ups.items in
+    let before = c.args.ups.now.items in
     let e : n ≡ length all = search rules in
-    released_ups_done s (n - c.loop-i.i) c.loop-i.ledger.list.items c.loop-i.out.ups.items c.give_next.new.out.ups.items (before ++ released_ups s n all) (sym c.give_next.ensures.found ∙ c.if-not-give_next.true) c.give_next.ensures.ups c.loop-i.invariant.ups
+    released_ups_done s (n - c.loop-i.i) c.loop-i.ledger.list.items c.loop-i.ups.items c.give_next.new.ups.items (before ++ released_ups s n all) (sym c.give_next.ensures.found ∙ c.if-not-give_next.true) c.give_next.ensures.ups c.loop-i.invariant.ups
     ∙ ap (λ k. before ++ released_ups s k all) e
 
 pub loop-i-preserved : goal.loop-i-preserved
@@ -32,7 +32,7 @@ loop-i-preserved c =
     record {
       count = c.loop-i.invariant.count;
       items = released_more s n i es c.give_next.new.ledger.list.items (released s n c.args.ledger.now.list.items) lt c.give_next.ensures.items c.loop-i.invariant.items;
-      ups = released_ups_more s n i es c.give_next.new.ledger.list.items c.loop-i.out.ups.items c.give_next.new.out.ups.items (c.args.out.now.ups.items ++ released_ups s n c.args.ledger.now.list.items) lt c.give_next.ensures.items c.give_next.ensures.ups c.loop-i.invariant.ups;
+      ups = released_ups_more s n i es c.give_next.new.ledger.list.items c.loop-i.ups.items c.give_next.new.ups.items (c.args.ups.now.items ++ released_ups s n c.args.ledger.now.list.items) lt c.give_next.ensures.items c.give_next.ensures.ups c.loop-i.invariant.ups;
       sends = c.give_next.ensures.sends ∙ c.loop-i.invariant.sends;
       room = (let a = c.give_next.ensures.room in let b = c.loop-i.invariant.room in omega (arith, a, b));
       capacity = c.give_next.ensures.capacity ∙ c.loop-i.invariant.capacity;

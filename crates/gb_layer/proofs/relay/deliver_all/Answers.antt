@@ -28,8 +28,7 @@ loop-i-preserved g c =
     let k = count_by-set is_ungiven es i x c.deliver_one.new.entry ltes is in
     record {
       items = mapped_more (handed due) xs es i x c.deliver_one.new.entry c.loop-i.invariant.items lt is c.deliver_one.ensures.entry;
-      ups = picked_more up_of due xs c.loop-i.out.ups.items c.args.out.now.ups.items c.deliver_one.new.out.ups.items i x c.loop-i.invariant.ups c.deliver_one.ensures.ups (mapped_at (handed due) xs es i x c.loop-i.invariant.items lt is) lt;
-      sends = c.deliver_one.ensures.sends ∙ c.loop-i.invariant.sends;
+      ups = picked_more up_of due xs c.loop-i.ups.items c.args.ups.now.items c.deliver_one.new.ups.items i x c.loop-i.invariant.ups c.deliver_one.ensures.ups (mapped_at (handed due) xs es i x c.loop-i.invariant.items lt is) lt;
       room = (let a = c.deliver_one.ensures.room in let b = c.loop-i.invariant.room in omega (arith, a, b, k));
       ups_memory = (let a = c.deliver_one.ensures.ups_memory in let b = c.loop-i.invariant.ups_memory in omega (arith, a, b));
       capacity = c.loop-i.invariant.capacity;
@@ -42,14 +41,13 @@ loop-i-init g c =
     let due = due_to_deliver rules c.args.me c.args.members.now c.args.noticed.now in
     let xs = c.args.entries.now.items in
     let at = c.args.places in
-    let us = c.args.out.now.ups.items in
+    let us = c.args.ups.now.items in
     record {
       items = mapped_below (handed due) xs at.from
           (λ k x lt here. handed_stays rules c.args.me c.args.members.now c.args.noticed.now x (fails_elsewhere due at.from at.to xs c.requires.places k x (λ a. let from = a.0 in omega (arith, from, lt)) here));
       ups = sym (append-nil us)
           ∙ ap (λ (ys : List Entry). us ++ map up_of ys)
           (sym (picked_below due xs at.from (λ k x lt here. fails_elsewhere due at.from at.to xs c.requires.places k x (λ a. let from = a.0 in omega (arith, from, lt)) here)));
-      sends = refl;
       room = omega arith;
       ups_memory = omega arith;
       capacity = refl;
@@ -81,6 +79,6 @@ returns-clause-ups g c =
     let ok = c.args.entries.now.ok.0 in
     let test = c.loop-i-test.false in
     c.loop-i.invariant.ups
-    ∙ ap (λ (ys : List Entry). c.args.out.now.ups.items ++ map up_of ys)
+    ∙ ap (λ (ys : List Entry). c.args.ups.now.items ++ map up_of ys)
     (picked_from due xs c.loop-i.i (λ k x le here. fails_elsewhere due at.from at.to xs c.requires.places k x
     (λ a. let to = a.1 in let within = get_within xs k x here in omega (arith, to, le, within, end, len, ok, test)) here))

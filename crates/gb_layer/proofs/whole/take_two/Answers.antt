@@ -1,12 +1,12 @@
 use Rattle.std.proofs.Common.{rules, arith, ◌≡◌, true}
 use Rattle.gb_layer.specs.Limit.{Limit, is_within}
-use Rattle.gb_layer.specs.Room.{free_sends, free_ups}
+use Rattle.gb_layer.specs.Room.{free}
 use Rattle.gb_layer.proofs.whole.take_two.Goals as goal
 
 pub take-requires : goal.take-requires
 take-requires g c =
     let limit : Limit = record { members = c.args.members.now; msgs = c.args.msgs; calls = 1 } in
-    g.met.L.Layer.whole_room c.whole.new.self limit (free_sends c.whole.new.out) (free_ups c.whole.new.out) c.in_ok-whole.ensures.whole c.in_ok-whole.ensures.free_sends c.in_ok-whole.ensures.free_ups
+    g.met.L.Layer.whole_room c.whole.new.self limit (free c.whole.new.sends) (free c.whole.new.ups) c.in_ok-whole.ensures.whole c.in_ok-whole.ensures.free_sends c.in_ok-whole.ensures.free_ups
 
 pub take-requires-2 : goal.take-requires-2
 take-requires-2 g c =
@@ -20,5 +20,5 @@ take-requires-2 g c =
     let ds = c.clear-2.ensures.capacity in
     let dl = c.clear-2.ensures.len in
     let within : is_within limit c.args.first ≡ true = search rules in
-    g.met.L.Layer.whole_room c.take.new.self limit (free_sends (record { sends = c.clear.new.self; ups = c.clear-2.new.self })) (free_ups (record { sends = c.clear.new.self; ups = c.clear-2.new.self }))
+    g.met.L.Layer.whole_room c.take.new.self limit (free c.clear.new.self) (free c.clear-2.new.self)
     (c.take.ensures.whole limit c.in_ok-whole.ensures.whole within) (omega (arith, a, s, cs, cl)) (omega (arith, b, u, ds, dl))

@@ -1,6 +1,6 @@
 use Rattle.std.proofs.Common.{◌≡◌, ℕ, ◌≤◌, ◌+◌, ◌-◌, arith, subst}
 use Rattle.gb_types.specs.declared.limits.TheConstants.{NODES}
-use Rattle.gb_layer.specs.Room.{free_sends, free_ups}
+use Rattle.gb_layer.specs.Room.{free}
 use Rattle.gb_stack.proofs.StartLemmas.{heard_none, heard_more}
 use Rattle.gb_stack.proofs.stack.hear.Goals as goal
 
@@ -22,5 +22,5 @@ loop-i-preserved g c =
     record {
       within = below;
       heard = heard_more L.next c.args.me c.args.members.now c.args.noticed.now i (L.meaning c.args.layer.now) (L.meaning c.loop-i.layer) (L.meaning c.hear_of.new.layer) c.new-node.result c.new-node.ensures c.loop-i.invariant.heard c.hear_of.ensures.meaning;
-      room = c.hear_of.ensures.room (NODES - (i + 1)) (subst (λ (n : ℕ). L.has_room c.loop-i.layer (free_sends c.loop-i.out) (free_ups c.loop-i.out) n) count c.loop-i.invariant.room);
+      room = c.hear_of.ensures.room (NODES - (i + 1)) (subst (λ (n : ℕ). L.has_room c.loop-i.layer (free c.loop-i.sends) (free c.loop-i.ups) n) count c.loop-i.invariant.room);
     }

@@ -1,6 +1,6 @@
 use Rattle.std.proofs.Common.{◌≤◌, ◌-◌}
 use Rattle.gb_types.specs.declared.limits.TheConstants.{NODES}
-use Rattle.gb_layer.specs.Room.{free_sends, free_ups}
+use Rattle.gb_layer.specs.Room.{free}
 use Rattle.gb_stack.specs.Stands.{HasHeard}
 use Rattle.gb_stack.proofs.stack.hear.Given as goal
 
@@ -10,5 +10,5 @@ invariant-loop-i g l =
     record {
       within : l.i ≤ NODES;
       heard : HasHeard L.next l.me l.members l.noticed l.i (L.meaning l.fn.layer) (L.meaning l.layer);
-      room : L.has_room l.layer (free_sends l.out) (free_ups l.out) (NODES - l.i);
+      room : L.has_room l.layer (free l.sends) (free l.ups) (NODES - l.i);
     }

@@ -2,7 +2,7 @@ use Rattle.std.proofs.Common.{◌≡◌, ◌+◌, ◌++◌, true, vec_capacity, 
 use Rattle.gb_layer.specs.declared.call.Call.{Call}
 use Rattle.gb_layer.specs.declared.call.Call.TheVariants.{Notice}
 use Rattle.gb_layer.specs.Limit.{is_within}
-use Rattle.gb_layer.specs.Room.{free_sends}
+use Rattle.gb_layer.specs.Room.{free}
 use Rattle.gb_layer.specs.Rule.{Nodes}
 use Rattle.gb_layer.specs.Relay.{call_below, begun, begun_sends}
 use Rattle.gb_layer.specs.RelayState.{state_of, unsent}
@@ -14,7 +14,7 @@ returns-in-Say-clause-state g c = let L = g.L.Layer in c.begin_say.ensures.state
 pub returns-in-Say-clause-sends : goal.returns-in-Say-clause-sends
 returns-in-Say-clause-sends g c =
     let L = g.L.Layer in
-    c.begin_say.ensures.sends ∙ ap (λ (k : Call). c.args.out.now.sends.items ++ begun_sends L.next L.gives L.me (state_of L.meaning c.args.self.now) k) (sym c.in-Say.is)
+    c.begin_say.ensures.sends ∙ ap (λ (k : Call). c.args.sends.now.items ++ begun_sends L.next L.gives L.me (state_of L.meaning c.args.self.now) k) (sym c.in-Say.is)
 
 pub returns-in-Say-clause-room : goal.returns-in-Say-clause-room
 returns-in-Say-clause-room g c = c.begin_say.ensures.room
@@ -28,7 +28,7 @@ returns-in-Came-clause-state g c = let L = g.L.Layer in c.begin_came.ensures.sta
 pub returns-in-Came-clause-sends : goal.returns-in-Came-clause-sends
 returns-in-Came-clause-sends g c =
     let L = g.L.Layer in
-    c.begin_came.ensures.sends ∙ ap (λ (k : Call). c.args.out.now.sends.items ++ begun_sends L.next L.gives L.me (state_of L.meaning c.args.self.now) k) (sym c.in-Came.is)
+    c.begin_came.ensures.sends ∙ ap (λ (k : Call). c.args.sends.now.items ++ begun_sends L.next L.gives L.me (state_of L.meaning c.args.self.now) k) (sym c.in-Came.is)
 
 pub returns-in-Came-clause-room : goal.returns-in-Came-clause-room
 returns-in-Came-clause-room g c = c.begin_came.ensures.room
@@ -47,13 +47,13 @@ returns-in-Notice-clause-state g c =
 pub returns-in-Notice-clause-sends : goal.returns-in-Notice-clause-sends
 returns-in-Notice-clause-sends g c =
     let L = g.L.Layer in
-    c.call_lower.ensures.sends ∙ ap (λ (k : Call). c.args.out.now.sends.items ++ begun_sends L.next L.gives L.me (state_of L.meaning c.args.self.now) k) (sym c.in-Notice.is)
+    c.call_lower.ensures.sends ∙ ap (λ (k : Call). c.args.sends.now.items ++ begun_sends L.next L.gives L.me (state_of L.meaning c.args.self.now) k) (sym c.in-Notice.is)
 
 pub returns-in-Notice-clause-room : goal.returns-in-Notice-clause-room
 returns-in-Notice-clause-room g c = λ n room.
     let same = c.call_lower.ensures.unsent in
     let r = c.args.self.now in
-    let a = free_sends c.args.out.now in
+    let a = free c.args.sends.now in
     let b = vec_capacity r.below in
     c.call_lower.ensures.room (n + unsent c.call_lower.new.self)
     (g.met.L.Layer.roomier r.lower a b (n + 2 + unsent r) a b (n + unsent c.call_lower.new.self + 1) (omega arith) (omega arith) (omega (arith, same)) room)

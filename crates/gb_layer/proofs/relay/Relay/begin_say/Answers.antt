@@ -1,5 +1,5 @@
 use Rattle.std.proofs.Common.{arith, ◌≡◌, ◌+◌, vec_capacity, count_by, map, ap, ◌∙◌}
-use Rattle.gb_layer.specs.Room.{free_sends}
+use Rattle.gb_layer.specs.Room.{free}
 use Rattle.gb_layer.specs.Relay.{is_unsent, marked_sent}
 use Rattle.gb_layer.specs.RelayState.{unsent}
 use Rattle.gb_layer.proofs.CountedLemmas.{marked_no_more}
@@ -18,7 +18,7 @@ returns-then-not-was_sent-clause-room g c = λ n room.
     let e : unsent c.call_lower.new.self ≡ count_by is_unsent (map (marked_sent c.args.m) c.note.new.self.list.items) = c.call_lower.ensures.unsent ∙ ap (count_by is_unsent) c.mark_sent.ensures.items in
     let h = marked_no_more c.args.m c.note.new.self.list.items in
     let k = c.note.ensures.unsent in
-    let a = free_sends c.args.out.now in
+    let a = free c.args.sends.now in
     let b = vec_capacity c.args.self.now.below in
     c.call_lower.ensures.room (n + unsent c.call_lower.new.self)
     (g.met.L.Layer.roomier c.args.self.now.lower a b (n + 2 + unsent c.args.self.now) a b (n + unsent c.call_lower.new.self + 1) (omega arith) (omega arith) (omega (arith, h, e, k)) room)

@@ -48,9 +48,6 @@ returns-clause-state g c =
 pub returns-clause-sends : goal.returns-clause-sends
 returns-clause-sends g c = c.take.ensures.sends
 
-pub returns-clause-ups : goal.returns-clause-ups
-returns-clause-ups g c = c.swap-2.ensures.x_after ∙ c.swap.ensures.y_after
-
 pub returns-clause-capacity : goal.returns-clause-capacity
 returns-clause-capacity g c = c.take_in.ensures.capacity
 

@@ -1,5 +1,5 @@
 use Rattle.std.proofs.Common.{arith, ◌≡◌, ◌+◌, vec_capacity, count_by, map, ap, ◌∙◌}
-use Rattle.gb_layer.specs.Room.{free_sends}
+use Rattle.gb_layer.specs.Room.{free}
 use Rattle.gb_layer.specs.Relay.{is_unsent, is_ungiven, marked_sent}
 use Rattle.gb_layer.specs.RelayState.{unsent}
 use Rattle.gb_layer.proofs.CountedLemmas.{all_marked_ungiven}
@@ -17,7 +17,7 @@ use Rattle.gb_layer.proofs.relay.Relay.relay_at.Goals as goal
 pub call_lower-requires : goal.call_lower-requires
 call_lower-requires g c =
     let h = c.in-Some.ensures.unsent in
-    let a = free_sends c.args.out.now in
+    let a = free c.args.sends.now in
     let b = vec_capacity c.args.self.now.below in
     g.met.L.Layer.roomier c.args.self.now.lower a b (unsent c.args.self.now) a b 1 (omega arith) (omega arith) (omega (arith, h)) c.requires.room
 
@@ -25,7 +25,7 @@ pub returns-in-Some-clause-room : goal.returns-in-Some-clause-room
 returns-in-Some-clause-room g c = λ n room.
     let h = c.in-Some.ensures.unsent in
     let e : unsent c.call_lower.new.self ≡ count_by is_unsent (map (marked_sent c.in-Some.m) c.args.self.now.entries.list.items) = c.call_lower.ensures.unsent ∙ ap (count_by is_unsent) c.mark_sent.ensures.items in
-    let a = free_sends c.args.out.now in
+    let a = free c.args.sends.now in
     let b = vec_capacity c.args.self.now.below in
     c.call_lower.ensures.room (n + unsent c.call_lower.new.self)
     (g.met.L.Layer.roomier c.args.self.now.lower a b (n + unsent c.args.self.now) a b (n + unsent c.call_lower.new.self + 1) (omega arith) (omega arith) (omega (arith, h, e)) room)

@@ -2,7 +2,7 @@ use Rattle.std.proofs.Common.{◌≡◌, ◌+◌, ◌-◌, ◌++◌, Bool, true,
 use Rattle.gb_types.specs.declared.message.MsgId.{MsgId}
 use Rattle.gb_layer.specs.declared.effects.Up.{Up}
 use Rattle.gb_layer.specs.Machine.{nothing}
-use Rattle.gb_layer.specs.Room.{free_sends, free_ups}
+use Rattle.gb_layer.specs.Room.{free}
 use Rattle.gb_layer.specs.Relay.{State, is_repeat, begun, begun_sends, relayed, relayed_sends, given, given_ups}
 use Rattle.gb_layer.specs.RelayState.{state_of, unsent}
 use Rattle.gb_layer.proofs.relay.RelayLayer.take.Goals as goal
@@ -23,7 +23,7 @@ returns-then-not-repeats-clause-sends g c =
     let R = g.R.Rule.rules in
     let r = state_of L.meaning c.args.self.now in
     let new : is_repeat r c.args.call ≡ false = sym c.repeats.ensures ∙ c.if-not-repeats.true in
-    let sent = c.args.out.now.sends.items in
+    let sent = c.args.sends.now.items in
     let s = begun L.next L.gives L.me r c.args.call in
     let first = begun_sends L.next L.gives L.me r c.args.call in
     let then = relayed_sends L.next L.gives L.me R s in
@@ -41,22 +41,20 @@ returns-then-not-repeats-clause-ups g c =
     let new : is_repeat r c.args.call ≡ false = sym c.repeats.ensures ∙ c.if-not-repeats.true in
     let s = begun L.next L.gives L.me r c.args.call in
     c.finish.ensures.ups
-    ∙ (ap (λ v. v.items ++ given_ups L.me R (relayed L.next L.gives L.me R (state_of L.meaning c.begin.new.self))) c.begin.ensures.ups
-    ∙ (ap (λ (s : State L.State). c.args.out.now.ups.items ++ given_ups L.me R (relayed L.next L.gives L.me R s)) c.begin.ensures.state
-    ∙ sym (ap (λ (b : Bool). c.args.out.now.ups.items
-    ++ (cond b nothing (record { sends = begun_sends L.next L.gives L.me r c.args.call ++ relayed_sends L.next L.gives L.me R s; ups = given_ups L.me R (relayed L.next L.gives L.me R s) })).ups) new)))
+    ∙ (ap (λ (s : State L.State). c.args.ups.now.items ++ given_ups L.me R (relayed L.next L.gives L.me R s)) c.begin.ensures.state
+    ∙ sym (ap (λ (b : Bool). c.args.ups.now.items
+    ++ (cond b nothing (record { sends = begun_sends L.next L.gives L.me r c.args.call ++ relayed_sends L.next L.gives L.me R s; ups = given_ups L.me R (relayed L.next L.gives L.me R s) })).ups) new))
 
 pub returns-then-not-repeats-clause-room : goal.returns-then-not-repeats-clause-room
 returns-then-not-repeats-clause-room g c = λ n room.
     let r = c.args.self.now in
-    let a = free_sends c.args.out.now in
+    let a = free c.args.sends.now in
     let b = vec_capacity r.below in
-    let free : free_ups c.begin.new.out ≡ free_ups c.args.out.now = ap (λ v. vec_capacity v - vec_len v) c.begin.ensures.ups in
     record {
       lower = c.finish.ensures.room (n + n)
           (c.begin.ensures.room (n + n) (g.met.L.Layer.roomier r.lower a b (n + 1 + (n + 1) + unsent r) a b (n + n + 2 + unsent r) (omega arith) (omega arith) (omega arith) room.lower));
       entries = (let fl = c.finish.ensures.len in let fc = c.finish.ensures.capacity in let bl = c.begin.ensures.len in let bc = c.begin.ensures.capacity in let h = room.entries in omega (arith, fl, fc, bl, bc, h));
-      ups = (let f = c.finish.ensures.free in let u = c.begin.ensures.ungiven in let h = room.ups in omega (arith, f, u, h, free));
+      ups = (let f = c.finish.ensures.free in let u = c.begin.ensures.ungiven in let h = room.ups in omega (arith, f, u, h));
     }
 
 pub returns-then-not-repeats-clause-whole : goal.returns-then-not-repeats-clause-whole
