@@ -90,6 +90,19 @@ fn find(kept: &[Kept], table: &Table, m: MsgId) -> Option<usize>
     None
 }
 
+/// Where the message is kept. It is looked for in the last place first: a message is asked for most often when it was just
+/// put in.
+fn find_recent(kept: &[Kept], table: &Table, m: MsgId) -> Option<usize>
+    requires leads { leads table.now.width table.now.told.items 0 (messages_of kept.now) ≡ true }
+    requires once { IsDistinct same (messages_of kept.now) }
+    ensures { IsPlaceOf m kept.now result }
+{
+    if !kept.is_empty() && is_of(&kept[kept.len() - 1], m) {
+        return Some(kept.len() - 1);
+    }
+    find(kept, table, m)
+}
+
 /// The bytes from one place to another.
 fn part(bytes: &[u8], start: usize, end: usize) -> &[u8]
     requires order { start ≤ end }
@@ -299,7 +312,7 @@ impl Store {
     pub fn place(&self, m: MsgId) -> Option<usize>
         ensures { MatchOption result (has self.now.entries m ≡ false) (λ i. slice_get (map message_of self.now.entries) i ≡ Some m) }
     {
-        find(&self.kept, &self.table, m)
+        find_recent(&self.kept, &self.table, m)
     }
 
     /// The payload of a message, none where it is not there. Where the message stands at this place, nothing is

@@ -33,7 +33,6 @@ loop-i-preserved c =
       count = c.loop-i.invariant.count;
       items = released_more s n i es c.give_next.new.ledger.list.items (released s n c.args.ledger.now.list.items) lt c.give_next.ensures.items c.loop-i.invariant.items;
       ups = released_ups_more s n i es c.give_next.new.ledger.list.items c.loop-i.ups.items c.give_next.new.ups.items (c.args.ups.now.items ++ released_ups s n c.args.ledger.now.list.items) lt c.give_next.ensures.items c.give_next.ensures.ups c.loop-i.invariant.ups;
-      sends = c.give_next.ensures.sends ∙ c.loop-i.invariant.sends;
       room = (let a = c.give_next.ensures.room in let b = c.loop-i.invariant.room in omega (arith, a, b));
       capacity = c.give_next.ensures.capacity ∙ c.loop-i.invariant.capacity;
       len = c.give_next.ensures.len ∙ c.loop-i.invariant.len;

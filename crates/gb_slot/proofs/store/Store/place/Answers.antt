@@ -7,6 +7,6 @@ pub returns : goal.returns
 returns c =
     let m = c.args.m in
     let s = c.self.inside in
-    let found = c.find.result in
-    let at = subst (λ ks. IsPlaceOf m ks found) c.deref.ensures.value c.find.ensures in
+    let found = c.find_recent.result in
+    let at = subst (λ ks. IsPlaceOf m ks found) c.deref.ensures.value c.find_recent.ensures in
     rw (← c.self.view_is) (place_told m s.bytes.items s.kept.items found at)
