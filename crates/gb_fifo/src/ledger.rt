@@ -38,10 +38,11 @@ fn is_of(e: &Entry, m: MsgId) -> bool
 
 /// Whether there is an entry of m, which stands at these places.
 fn is_noted(entries: &[Entry], places: Places, m: MsgId) -> bool
-    requires { StandsAmong (is_for m) places.from places.to entries.now }
+    requires places { StandsAmong (is_for m) places.from places.to entries.now }
+    requires within { places.to ≤ length entries.now }
     ensures { result ≡ list_any (is_for m) entries.now }
 {
-    for i in places.from..places.to.min(entries.len()) {
+    for i in places.from..places.to {
         if is_of(&entries[i], m) {
             return true;
         }
@@ -60,12 +61,13 @@ fn bring_one(e: &mut Entry, m: MsgId)
 
 /// Marks the entry of m, which stands at these places: m came up.
 fn bring_all(entries: &mut Vec<Entry>, places: Places, m: MsgId)
-    requires { StandsAmong (is_for m) places.from places.to entries.old.items }
+    requires places { StandsAmong (is_for m) places.from places.to entries.old.items }
+    requires within { places.to ≤ length entries.old.items }
     ensures items { entries.new.items ≡ map (brought m) entries.old.items }
     ensures len { vec_len entries.new ≡ vec_len entries.old }
     ensures capacity { vec_capacity entries.new ≡ vec_capacity entries.old }
 {
-    for i in places.from..places.to.min(entries.len()) {
+    for i in places.from..places.to {
         bring_one(&mut entries[i], m);
     }
 }
@@ -81,10 +83,11 @@ fn is_after(e: &Entry, origin: NodeId, k: usize) -> bool
 /// The place of the message of an origin after the first k, which stands at these places, if it came up and was not
 /// handed up.
 fn find_after(entries: &[Entry], places: Places, origin: NodeId, k: usize) -> Option<usize>
-    requires { StandsAmong (is_next origin.number k) places.from places.to entries.now }
+    requires places { StandsAmong (is_next origin.number k) places.from places.to entries.now }
+    requires within { places.to ≤ length entries.now }
     ensures { IsPlace (is_next origin.number k) entries.now result }
 {
-    for i in places.from..places.to.min(entries.len()) {
+    for i in places.from..places.to {
         if is_after(&entries[i], origin, k) {
             return Some(i);
         }
@@ -114,14 +117,16 @@ impl Ledger {
 
     /// Where an entry of m may stand.
     fn places(&self, m: MsgId) -> Places
-        ensures { StandsAmong (is_for m) result.from result.to self.now.list.items }
+        ensures places { StandsAmong (is_for m) result.from result.to self.now.list.items }
+        ensures within { result.to ≤ length self.now.list.items }
     {
         self.table.places(m, self.list.len())
     }
 
     /// Where the message of an origin after the first k may stand.
     fn places_after(&self, origin: NodeId, k: usize) -> Places
-        ensures { StandsAmong (is_next origin.number k) result.from result.to self.now.list.items }
+        ensures places { StandsAmong (is_next origin.number k) result.from result.to self.now.list.items }
+        ensures within { result.to ≤ length self.now.list.items }
     {
         if k < usize::from(u16::MAX) {
             let seq = k as u16 + 1;

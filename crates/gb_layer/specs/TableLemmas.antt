@@ -94,6 +94,11 @@ not_held me via m e h = ap (λ b. cond b (held_entry me via e) e) h
 pub not_marked : (m : MsgId) (e : Entry) → is_for m e ≡ false → marked_sent m e ≡ e
 not_marked m e h = ap (λ b. cond b (sent_entry e) e) h
 
+-- where no entry is of m, marking m as sent changes nothing
+pub unmarked : (m : MsgId) (es : List Entry) → list_any (is_for m) es ≡ false → map (marked_sent m) es ≡ es
+unmarked m [] none = refl
+unmarked m (e ∷ es) none = λ i. not_marked m e (or_left (is_for m e) _ none) i ∷ unmarked m es (or_right (is_for m e) _ none) i
+
 pub not_sent : (m : MsgId) (e : Entry) → is_for m e ≡ false → (is_for m e && e.sent) ≡ false
 not_sent m e h = ap (λ b. b && e.sent) h
 

@@ -3,7 +3,7 @@ ghost use Rattle.std.specs.Prelude.{◌≡◌, ◌+◌, ◌≤◌, ◌&&◌, tru
 ghost use Rattle.std.specs.List.{list_any};
 ghost use Rattle.gb_layer.specs.EntryLemmas.{keys};
 ghost use Rattle.gb_layer.specs.Places.{StandsAmong};
-ghost use Rattle.gb_layer.specs.Relay.{is_for, is_sent, new_entry, held, is_unsent, is_ungiven, marked_sent, noted};
+ghost use Rattle.gb_layer.specs.Relay.{is_for, is_sent, new_entry, sent_entry, held, is_unsent, is_ungiven, marked_sent, noted};
 ghost use Rattle.gb_layer.specs.Table.{leads, IsNowhere, IsThere};
 
 use crate::entries::{Entry, has_entry, hold_in, hold_one, mark_one, mark_sent, was_sent};
@@ -97,6 +97,23 @@ impl Ledger {
         }
     }
 
+    /// Adds an entry of m, where there is none, and marks m as sent from here.
+    pub fn note_sent(&mut self, m: MsgId)
+        requires { vec_len self.old.list + 1 ≤ vec_capacity self.old.list }
+        ensures items { self.new.list.items ≡ map (marked_sent m) (noted self.old.list.items m) }
+        ensures len { vec_len self.new.list ≤ vec_len self.old.list + 1 }
+        ensures capacity { vec_capacity self.old.list ≤ vec_capacity self.new.list }
+        ensures unsent { count_by is_unsent self.new.list.items ≤ count_by is_unsent self.old.list.items }
+        ensures ungiven { count_by is_ungiven self.new.list.items ≤ count_by is_ungiven self.old.list.items + 1 }
+    {
+        if self.has(m) {
+            self.mark_sent(m);
+        } else {
+            self.table.note(m, self.list.len());
+            self.list.push_reserved(sent_entry(m));
+        }
+    }
+
     /// Writes down that this node and via hold m.
     pub fn hold(&mut self, me: NodeId, via: NodeId, m: MsgId)
         ensures items { self.new.list.items ≡ map (held me via m) self.old.list.items }
@@ -125,6 +142,18 @@ impl Ledger {
             },
             None => mark_sent(&mut self.list, m),
         }
+    }
+}
+
+/// An entry of m, which was sent from here and has nothing else yet.
+fn sent_entry(m: MsgId) -> Entry
+    ensures { result ≡ sent_entry (new_entry m) }
+{
+    Entry {
+        m,
+        holders: NodeSet::new(),
+        sent: true,
+        given: false,
     }
 }
 

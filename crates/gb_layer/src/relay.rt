@@ -248,8 +248,7 @@ impl<L: Layer, R: Rule> Relay<L, R> {
         ensures sends_memory { vec_capacity sends.old ≤ vec_capacity sends.new }
     {
         if !self.entries.was_sent(m) {
-            self.entries.note(m);
-            self.entries.mark_sent(m);
+            self.entries.note_sent(m);
             self.call_lower(Call::Say(m), sends);
         }
     }

@@ -82,7 +82,7 @@ fn find(kept: &[Kept], table: &Table, m: MsgId) -> Option<usize>
     ensures { IsPlaceOf m kept.now result }
 {
     let places = table.places(m, kept.len());
-    for i in places.from..places.to.min(kept.len()) {
+    for i in places.from..places.to {
         if is_of(&kept[i], m) {
             return Some(i);
         }
@@ -97,8 +97,9 @@ fn find_recent(kept: &[Kept], table: &Table, m: MsgId) -> Option<usize>
     requires once { IsDistinct same (messages_of kept.now) }
     ensures { IsPlaceOf m kept.now result }
 {
-    if !kept.is_empty() && is_of(&kept[kept.len() - 1], m) {
-        return Some(kept.len() - 1);
+    let count = kept.len();
+    if count != 0 && is_of(&kept[count - 1], m) {
+        return Some(count - 1);
     }
     find(kept, table, m)
 }

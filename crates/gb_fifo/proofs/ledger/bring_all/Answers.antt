@@ -16,7 +16,7 @@ loop-i-init c =
     let xs = c.args.entries.now.items in
     let at = c.args.places in
     record {
-      items = mapped_below (brought m) xs at.from (λ k x lt here. stays m x (fails_elsewhere (is_for m) at.from at.to xs c.requires k x (λ a. let from = a.0 in omega (arith, from, lt)) here));
+      items = mapped_below (brought m) xs at.from (λ k x lt here. stays m x (fails_elsewhere (is_for m) at.from at.to xs c.requires.places k x (λ a. let from = a.0 in omega (arith, from, lt)) here));
       len = refl;
       capacity = refl;
     }
@@ -28,9 +28,8 @@ loop-i-preserved c =
     let i = c.loop-i.i in
     let x = c.index_mut.result.now in
     let ok = c.args.entries.now.ok.0 in
-    let end = c.min-i-end.ensures in
-    let len = c.len.ensures in
-    let lt : i < length xs = omega (arith, ok, end, len) in
+    let end = c.requires.within in
+    let lt : i < length xs = omega (arith, ok, end) in
     let is : x ≡ get_or es i x = c.index_mut.ensures.value in
     record {
       items = mapped_more (brought c.args.m) xs es i x c.bring_one.new.e c.loop-i.invariant.items lt is c.bring_one.ensures;
@@ -43,10 +42,9 @@ returns-clause-items c =
     let m = c.args.m in
     let xs = c.args.entries.now.items in
     let at = c.args.places in
-    let end = c.min-i-end.ensures in
-    let len = c.len.ensures in
+    let end = c.requires.within in
     let ok = c.args.entries.now.ok.0 in
     let test = c.loop-i-test.false in
     c.loop-i.invariant.items
     ∙ mapped_from (brought m) xs c.loop-i.i
-    (λ k x le here. stays m x (fails_elsewhere (is_for m) at.from at.to xs c.requires k x (λ a. let to = a.1 in let within = get_within xs k x here in omega (arith, to, le, within, end, len, ok, test)) here))
+    (λ k x le here. stays m x (fails_elsewhere (is_for m) at.from at.to xs c.requires.places k x (λ a. let to = a.1 in let within = get_within xs k x here in omega (arith, to, le, within, end, ok, test)) here))

@@ -18,7 +18,7 @@ returns c =
     let kept = c.args.kept.now in
     let at = c.places-places.result in
     let stands = among_entries (λ k. k.m) c.args.m at.from at.to kept (c.places-places.ensures.stands (messages_of kept) (length-map kept (λ k. k.m)) c.requires) in
-    let end = c.min-i-end.ensures in
+    let end = c.places-places.ensures.within in
     let test = c.loop-i-test.false in
     none_after (is_of c.args.m) kept c.loop-i.i c.loop-i.invariant
     (λ k e le here. fails_elsewhere (is_of c.args.m) at.from at.to kept stands k e (λ a. let to = a.1 in let within = get_within kept k e here in omega (arith, to, le, within, end, test)) here)

@@ -1,8 +1,7 @@
-use Rattle.std.proofs.Common.{arith, ◌≡◌, ◌+◌, vec_capacity, count_by, map, ap, ◌∙◌}
+use Rattle.std.proofs.Common.{arith, ◌≡◌, ◌+◌, vec_capacity, count_by, ap, ◌∙◌}
 use Rattle.gb_layer.specs.Room.{free}
-use Rattle.gb_layer.specs.Relay.{is_unsent, marked_sent}
+use Rattle.gb_layer.specs.Relay.{is_unsent, noted}
 use Rattle.gb_layer.specs.RelayState.{unsent}
-use Rattle.gb_layer.proofs.CountedLemmas.{marked_no_more}
 use Rattle.std.proofs.Common.{rules}
 use Rattle.gb_layer.specs.EntryLemmas.{keys, keys_marked}
 use Rattle.gb_layer.specs.WholeLemmas.{whole_noted}
@@ -15,19 +14,18 @@ use Rattle.gb_layer.proofs.relay.Relay.begin_say.Goals as goal
 
 pub returns-then-not-was_sent-clause-room : goal.returns-then-not-was_sent-clause-room
 returns-then-not-was_sent-clause-room g c = λ n room.
-    let e : unsent c.call_lower.new.self ≡ count_by is_unsent (map (marked_sent c.args.m) c.note.new.self.list.items) = c.call_lower.ensures.unsent ∙ ap (count_by is_unsent) c.mark_sent.ensures.items in
-    let h = marked_no_more c.args.m c.note.new.self.list.items in
-    let k = c.note.ensures.unsent in
+    let e : unsent c.call_lower.new.self ≡ count_by is_unsent c.note_sent.new.self.list.items = c.call_lower.ensures.unsent in
+    let k = c.note_sent.ensures.unsent in
     let a = free c.args.sends.now in
     let b = vec_capacity c.args.self.now.below in
     c.call_lower.ensures.room (n + unsent c.call_lower.new.self)
-    (g.met.L.Layer.roomier c.args.self.now.lower a b (n + 2 + unsent c.args.self.now) a b (n + unsent c.call_lower.new.self + 1) (omega arith) (omega arith) (omega (arith, h, e, k)) room)
+    (g.met.L.Layer.roomier c.args.self.now.lower a b (n + 2 + unsent c.args.self.now) a b (n + unsent c.call_lower.new.self + 1) (omega arith) (omega arith) (omega (arith, e, k)) room)
 
 pub returns-then-not-was_sent-clause-whole : goal.returns-then-not-was_sent-clause-whole
 returns-then-not-was_sent-clause-whole g c = λ l w h.
     c.call_lower.ensures.whole l
     (whole_noted g.L.Layer.is_whole g.L.Layer.need c.args.self.now _ l c.args.m (λ k. k) (omega arith) (search rules)
-    (ap keys c.mark_sent.ensures.items ∙ (keys_marked c.args.m c.note.new.self.list.items ∙ ap keys c.note.ensures.items)) h w) h
+    (ap keys c.note_sent.ensures.items ∙ keys_marked c.args.m (noted c.args.self.now.entries.list.items c.args.m)) h w) h
 
 pub invariant_of-self : goal.invariant_of-self
 invariant_of-self g c =
@@ -36,6 +34,6 @@ invariant_of-self g c =
     let rules = g.R.Rule.rules in
     let P = λ (xs : List Entry). StandsAmong (is_pending rules me r.members r.noticed) r.pending.from r.pending.to xs in
     record {
-      pending_stands = subst P (sym c.mark_sent.ensures.items) (pending_marked rules me r.members r.noticed c.args.m r.pending.from r.pending.to c.note.new.self.list.items
-          (subst P (sym c.note.ensures.items) (pending_noted rules me r.members r.noticed c.args.m r.pending.from r.pending.to r.entries.list.items r.pending_stands)));
+      pending_stands = subst P (sym c.note_sent.ensures.items) (pending_marked rules me r.members r.noticed c.args.m r.pending.from r.pending.to (noted r.entries.list.items c.args.m)
+          (pending_noted rules me r.members r.noticed c.args.m r.pending.from r.pending.to r.entries.list.items r.pending_stands));
     }
