@@ -15,6 +15,7 @@ pub mod QuietLemmas
 pub mod AddLemmas
 pub mod MemberLemmas
 pub mod NotedLemmas
+pub mod CoveredLemmas
 pub mod DropLemmas
 pub mod OneGroupLemmas
 pub mod ShortLemmas

@@ -73,8 +73,8 @@ memberships_gave dest vs rows sets ok = memberships_same rows (gave dest 0 vs ro
 
 -- one set more was written
 
-pub enrolled : (to place : ℕ) (members : nodes.FinSet nat_cmp) (old sets : List (List ℕ)) (words other : List ℕ) → to < length sets → IsEnrolled to place members old sets → ((q : ℕ) → q ≢ place → has words q ≡ has (get_or sets to other) q) → has words place ≡ (if nodes.contains members to then 1 else 0) → IsEnrolled (to + 1) place members old (set sets to words)
-enrolled to place members old sets words other l ok others here =
+pub enrolled : (to place : ℕ) (members : nodes.FinSet nat_cmp) (old sets : List (List ℕ)) (words other : List ℕ) → to < length sets → IsEnrolled to place members old sets → ((q : ℕ) → q ≢ place → has words q ≡ has (get_or sets to other) q) → has words place ≡ (if nodes.contains members to then 1 else 0) → length words ≡ length (get_or sets to other) → IsEnrolled (to + 1) place members old (set sets to words)
+enrolled to place members old sets words other l ok others here n =
     let at : get_or (set sets to words) to [] ≡ words = get_or-set_same sets to words [] l in
     let before = get_or_default sets to [] other l in
     record {
@@ -88,6 +88,12 @@ enrolled to place members old sets words other l ok others here =
             ap (λ i. has (get_or (set sets to words) i []) q) e ∙ ap (λ (ws : List ℕ). has ws q) at ∙ others q ne ∙ sym (ap (λ (ws : List ℕ). has ws q) before)
             ∙ sym (ap (λ i. has (get_or sets i []) q) e) ∙ ok.others who q ne
         | inr off ↦ ap (λ (ws : List ℕ). has ws q) (get_or-set_other sets to who words [] off) ∙ ok.others who q ne
+      ];
+      words = λ who. elim (cases_eq who to) [
+        | inl e ↦
+            ap (λ i. length (get_or (set sets to words) i [])) e ∙ ap (λ (ws : List ℕ). length ws) at ∙ n ∙ sym (ap (λ (ws : List ℕ). length ws) before)
+            ∙ sym (ap (λ i. length (get_or sets i [])) e) ∙ ok.words who
+        | inr off ↦ ap (λ (ws : List ℕ). length ws) (get_or-set_other sets to who words [] off) ∙ ok.words who
       ];
     }
 

@@ -23,11 +23,11 @@ use Rattle.gb_groups.proofs.IndexLemmas.{index_whole, index_but}
 use Rattle.gb_groups.proofs.WalkLemmas.{queues_at}
 
 pub noted_none : (place : ℕ) (s : SlotState) (busy : List (List ℕ)) → IsNoted 0 place s busy busy
-noted_none place s busy = record { size = refl; here = λ d h m. absurd (omega arith); stay = λ d m. refl; others = λ d p ne. refl }
+noted_none place s busy = record { size = refl; here = λ d h m. absurd (omega arith); stay = λ d m. refl; others = λ d p ne. refl; words = λ d. refl }
 
 -- the set of one member more was written
-pub noted_member : (to place : ℕ) (s : SlotState) (old busy : List (List ℕ)) (words other : List ℕ) → to < length busy → nodes.contains s.spec.members to ≡ true → IsNoted to place s old busy → has words place ≡ min 1 (length (waiting s to)) → ((q : ℕ) → q ≢ place → has words q ≡ has (get_or busy to other) q) → IsNoted (to + 1) place s old (set busy to words)
-noted_member to place s old busy words other l member ok here others =
+pub noted_member : (to place : ℕ) (s : SlotState) (old busy : List (List ℕ)) (words other : List ℕ) → to < length busy → nodes.contains s.spec.members to ≡ true → IsNoted to place s old busy → has words place ≡ min 1 (length (waiting s to)) → ((q : ℕ) → q ≢ place → has words q ≡ has (get_or busy to other) q) → length words ≡ length (get_or busy to other) → IsNoted (to + 1) place s old (set busy to words)
+noted_member to place s old busy words other l member ok here others n =
     let at : get_or (set busy to words) to [] ≡ words = get_or-set_same busy to words [] l in
     let before = get_or_default busy to [] other l in
     record {
@@ -45,6 +45,12 @@ noted_member to place s old busy words other l member ok here others =
             ap (λ i. has (get_or (set busy to words) i []) q) e ∙ ap (λ (ws : List ℕ). has ws q) at ∙ others q ne ∙ sym (ap (λ (ws : List ℕ). has ws q) before)
             ∙ sym (ap (λ i. has (get_or busy i []) q) e) ∙ ok.others d q ne
         | inr off ↦ ap (λ (ws : List ℕ). has ws q) (get_or-set_other busy to d words [] off) ∙ ok.others d q ne
+      ];
+      words = λ d. elim (cases_eq d to) [
+        | inl e ↦
+            ap (λ i. length (get_or (set busy to words) i [])) e ∙ ap (λ (ws : List ℕ). length ws) at ∙ n ∙ sym (ap (λ (ws : List ℕ). length ws) before)
+            ∙ sym (ap (λ i. length (get_or busy i [])) e) ∙ ok.words d
+        | inr off ↦ ap (λ (ws : List ℕ). length ws) (get_or-set_other busy to d words [] off) ∙ ok.words d
       ];
     }
 
@@ -83,6 +89,7 @@ noted_further from to place s old busy none ok = record {
   ];
   stay = ok.stay;
   others = ok.others;
+  words = ok.words;
 }
 
 -- nothing waits for a node that is no member
@@ -118,7 +125,7 @@ index_noted rows old busy p s h is ok outside w =
     ] refl)
 
 -- a step of a group that keeps its spec keeps its members
-members_stepped : (f : SlotState → SlotState) (d : ℕ) (slot : Option SlotState) → ((s : SlotState) → (f s).spec ≡ s.spec) → nodes.contains (members_of (option_map f slot)) d ≡ nodes.contains (members_of slot) d
+pub members_stepped : (f : SlotState → SlotState) (d : ℕ) (slot : Option SlotState) → ((s : SlotState) → (f s).spec ≡ s.spec) → nodes.contains (members_of (option_map f slot)) d ≡ nodes.contains (members_of slot) d
 members_stepped f d None same = refl
 members_stepped f d (Some s) same = ap (λ (x : Spec). nodes.contains x.members d) (same s)
 

@@ -1,10 +1,10 @@
 -- Bits of words.
-use Rattle.std.proofs.Common.{◌≡◌, ℕ, zero, suc, replicate, take, ◌+◌, ◌-◌, ◌*◌, ◌/◌, ◌%◌, ◌^◌, ◌≤◌, ◌<◌, min, List, length, get_or, refl, ap, sym, ◌∙◌, arith, inl, inr, w64, bit_and}
+use Rattle.std.proofs.Common.{◌≡◌, ℕ, zero, suc, replicate, ◌+◌, ◌-◌, ◌*◌, ◌/◌, ◌%◌, ◌^◌, ◌≤◌, ◌<◌, min, List, length, get_or, refl, ap, sym, ◌∙◌, arith, inl, inr, w64, bit_and}
 use Rattle.std.specs.Int.{bit_at, trailing_zeros}
-use Rattle.std.specs.Prelude.{◌⊎◌, Option, Some, None, MatchOption}
+use Rattle.std.specs.Prelude.{◌⊎◌}
 use Rattle.std.proofs.Math.ListN.{set}
 use Rattle.std.proofs.lemmas.Bool.{cases_lt, cases_eq}
-use Rattle.std.proofs.lemmas.List.{get_or_past, get_or-take, length-take, get_or-set_same, get_or-set_other}
+use Rattle.std.proofs.lemmas.List.{get_or_past, get_or-set_same, get_or-set_other}
 use Rattle.std.proofs.lemmas.Nat.{and_le_l}
 use Rattle.std.proofs.lemmas.Nat.Bits.{bit_at-zero, bit_at_and, bit_at-lt, bit_at_mask_inside, bit_at_mask_below, bit_at-trailing_zeros}
 use Rattle.gb_groups.specs.PlaceSet.{has, IsNext}
@@ -126,25 +126,26 @@ pub has-none : (n p : ℕ) → has (replicate {A = ℕ} n 0) p ≡ 0
 unfolding has
 has-none n p = ap (λ w. bit_at w (p % 64)) (none_of n (p / 64)) ∙ bit_at-zero (p % 64)
 
--- the words before one tell all, where there is no place from there on
-pub has-front : (words : List ℕ) (n p : ℕ) → ((a : ℕ) → n ≤ a → get_or words a 0 ≡ 0) → has (take n words) p ≡ has words p
+-- words that differ in nothing but zeros behind the last have the same places
+pub has-same : (words other : List ℕ) (p : ℕ) → ((a : ℕ) → get_or other a 0 ≡ get_or words a 0) → has other p ≡ has words p
 unfolding has
-has-front words n p none =
-    elim (cases_lt (p / 64) n) [
-      | inl l ↦ ap (λ w. bit_at w (p % 64)) (get_or-take n words (p / 64) 0 l)
-      | inr l ↦ ap (λ w. bit_at w (p % 64)) (get_or_past (take n words) (p / 64) 0 (let h = length-take n words in omega arith) ∙ sym (none (p / 64) l))
+has-same words other p same = ap (λ w. bit_at w (p % 64)) (same (p / 64))
+
+-- a set has a word for each place that it has
+pub has-within : (words : List ℕ) (p : ℕ) → has words p ≡ 1 → p < 64 * length words
+has-within words p h =
+    elim (cases_lt (p / 64) (length words)) [
+      | inl l ↦ omega arith
+      | inr l ↦ let none = has-past words p l in absurd (omega arith)
     ]
 
-pub next-front : (words : List ℕ) (n from q : ℕ) → ((a : ℕ) → n ≤ a → get_or words a 0 ≡ 0) → IsNext (take n words) from q → IsNext words from q
-next-front words n from q none x = record {
-  after = x.after;
-  here = sym (has-front words n q none) ∙ x.here;
-  none = λ p h l. sym (has-front words n p none) ∙ x.none p h l;
-}
-
--- what a search of these words finds
-pub found-front : (found : Option ℕ) (words : List ℕ) (n from : ℕ) → ((a : ℕ) → n ≤ a → get_or words a 0 ≡ 0)
-    → MatchOption found ((p : ℕ) → from ≤ p → has (take n words) p ≡ 0) (λ q. IsNext (take n words) from q)
-    → MatchOption found ((p : ℕ) → from ≤ p → has words p ≡ 0) (λ q. IsNext words from q)
-found-front None words n from none h = λ p l. sym (has-front words n p none) ∙ h p l
-found-front (Some q) words n from none h = next-front words n from q none h
+-- words with zeros behind them
+pub lengthened : (words other : List ℕ) (n p : ℕ) → length words ≤ n → length other ≡ n → ((a : ℕ) → a < length words → get_or other a 0 ≡ get_or words a 0) → ((a : ℕ) → length words ≤ a → a < n → get_or other a 0 ≡ 0) → has other p ≡ has words p
+lengthened words other n p le size front back = has-same words other p (λ a.
+    elim (cases_lt a (length words)) [
+      | inl l ↦ front a l
+      | inr l ↦ elim (cases_lt a n) [
+        | inl m ↦ back a l m ∙ sym (get_or_past words a 0 l)
+        | inr m ↦ get_or_past other a 0 (omega arith) ∙ sym (get_or_past words a 0 l)
+      ]
+    ])

@@ -25,3 +25,4 @@ pub record IsNoted (bound place : ℕ) (s : SlotState) (old new : List (List ℕ
   pub here : (d : ℕ) → d < bound → set.contains s.spec.members d ≡ true → has (slice_index_or new d []) place ≡ min 1 (length (waiting s d))
   pub stay : (d : ℕ) → set.contains s.spec.members d ≡ false → has (slice_index_or new d []) place ≡ has (slice_index_or old d []) place
   pub others : (d p : ℕ) → p ≢ place → has (slice_index_or new d []) p ≡ has (slice_index_or old d []) p
+  pub words : (d : ℕ) → length (slice_index_or new d []) ≡ length (slice_index_or old d [])

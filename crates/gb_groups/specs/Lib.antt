@@ -4,6 +4,7 @@ pub mod SlotsValue
 pub mod Packing
 pub mod Busy
 pub mod Members
+pub mod Covered
 pub mod Ahead
 pub mod Slots
 pub mod GroupsValue

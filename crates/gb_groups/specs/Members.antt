@@ -23,6 +23,7 @@ pub record IsEnrolled (bound place : ℕ) (members : set.FinSet nat_cmp) (old ne
   pub size : length new ≡ length old
   pub here : (who : ℕ) → who < bound → has (slice_index_or new who []) place ≡ (if set.contains members who then 1 else 0)
   pub others : (who p : ℕ) → p ≢ place → has (slice_index_or new who []) p ≡ has (slice_index_or old who []) p
+  pub words : (who : ℕ) → length (slice_index_or new who []) ≡ length (slice_index_or old who [])
 
 -- the first place from one on of a group that has the node among its members
 pub record IsNextMember (who from : ℕ) (rows : List Row) (q : ℕ) : Type 0 where

@@ -1,5 +1,5 @@
 //! All groups of a node, with an index of what waits in them.
-ghost use Rattle.std.specs.Prelude.{min, false, ◌≢◌, ◌≡◌, ◌==◌, ◌≤◌, ◌<◌, ◌+◌, is_some, ◌++◌, ◌∷◌, [], true, map, slice_index_or, slice_set, ℕ, Some, None, length, sum_by, All, OnOk, OnErr, MatchOption, vec_len, vec_capacity};
+ghost use Rattle.std.specs.Prelude.{min, false, ◌≢◌, ◌≡◌, ◌==◌, ◌≤◌, ◌<◌, ◌+◌, ◌*◌, is_some, ◌++◌, ◌∷◌, [], true, map, slice_index_or, slice_set, ℕ, Some, None, length, sum_by, All, OnOk, OnErr, MatchOption, vec_len, vec_capacity};
 ghost use Rattle.gb_groups.specs.Fair.{IsFront, IsLongest};
 ghost use Rattle.gb_frame.specs.Packet.{item_of as view_item};
 ghost use Rattle.gb_types.specs.declared.limits.TheConstants.{NODES, PLACES};
@@ -15,6 +15,7 @@ ghost use Rattle.gb_groups.specs.Busy.{members_of, IsNoted};
 ghost use Rattle.gb_groups.specs.PlaceSet.{has};
 ghost use Rattle.std.specs.FinSet as set;
 ghost use Rattle.gb_groups.specs.Members.{has_member, IsEnrolled, IsNextMember};
+ghost use Rattle.gb_groups.specs.Covered.{HaveWord, HaveGrown};
 ghost use Rattle.gb_groups.specs.Packing.{items, size};
 ghost use Rattle.gb_groups.specs.OneGroup.{LONGEST, NothingWaits};
 ghost use Rattle.gb_frame.specs.Spelling.{items_text, IsItem};
@@ -40,11 +41,12 @@ use std::marker::Model;
 pub struct Groups {
     alloc: Global,
     slots: Slots,
-    /// For each node, the places of the groups where something waits for it.
+    /// For each node, the places of the groups where something waits for it. Its set has words for the places of all groups
+    /// that have the node among their members, so that only `make` takes memory for it.
     busy: [PlaceSet; NODES],
     /// For each node, the place where packing for it goes on.
     cursors: [usize; NODES],
-    /// For each node, the places of the groups that have it among their members.
+    /// For each node, the places of the groups that have it among their members. `make` alone takes memory for it.
     memberships: [PlaceSet; NODES],
 }
 
@@ -52,6 +54,7 @@ impl Model for Groups {
     ghost use Rattle.gb_groups.specs.GroupsValue.{GroupsValue, ArePlaces, IsIndex};
     ghost use Rattle.gb_groups.specs.PlaceSet.{has};
     ghost use Rattle.gb_groups.specs.Members.{AreMemberships};
+    ghost use Rattle.gb_groups.specs.Covered.{AreCovered};
     ghost use Rattle.std.specs.Coded.{codes, coded_ℕ};
     ghost use Rattle.std.specs.Ordering.{nat_cmp};
     ghost use Rattle.std.specs.FinSet as set;
@@ -62,14 +65,15 @@ impl Model for Groups {
 
     ghost view = { λ h. record { rows = h.slots.rows; cursors = h.cursors } };
 
-    ghost invariant = { λ h. ArePlaces h.slots.rows h.cursors × IsIndex h.slots.rows h.busy × AreMemberships h.slots.rows h.memberships };
+    ghost invariant = { λ h. ArePlaces h.slots.rows h.cursors × IsIndex h.slots.rows h.busy × AreMemberships h.slots.rows h.memberships × AreCovered h.memberships h.busy };
 }
 
 /// Has a set have a place where so many items wait there, and not where none does.
 fn note_at(set: &mut PlaceSet, place: usize, waiting: usize)
-    requires { place < PLACES }
+    requires { place < 64 * length set.old }
     ensures here { has set.new place ≡ min 1 waiting }
     ensures others { (p : ℕ) → p ≢ place → has set.new p ≡ has set.old p }
+    ensures words { length set.new ≡ length set.old }
 {
     if waiting == 0 {
         set.remove(place);
@@ -80,8 +84,8 @@ fn note_at(set: &mut PlaceSet, place: usize, waiting: usize)
 
 /// Notes in the sets of a group's members what waits for them in the group, which is at a place.
 fn note_members(busy: &mut [PlaceSet], slot: &Slot, place: usize)
-    requires place { place < PLACES }
     requires size { length busy.old ≡ NODES }
+    requires words { HaveWord NODES place slot.now.spec.members busy.old }
     ensures { IsNoted NODES place slot.now busy.old busy.new }
 {
     let mut from = 0;
@@ -96,7 +100,9 @@ fn refresh(busy: &mut [PlaceSet], slots: &Slots, place: usize)
     requires place { place < length slots.now.rows }
     requires others { IsIndexBut place slots.now.rows busy.old }
     requires outside { (d : ℕ) → d < NODES → set.contains (members_of (row_at slots.now.rows place).slot) d ≡ false → has (slice_index_or busy.old d []) place ≡ 0 }
-    ensures { IsIndex slots.now.rows busy.new }
+    requires words { HaveWord NODES place (members_of (row_at slots.now.rows place).slot) busy.old }
+    ensures index { IsIndex slots.now.rows busy.new }
+    ensures words { (d : ℕ) → length (slice_index_or busy.new d []) ≡ length (slice_index_or busy.old d []) }
 {
     if let Some(slot) = slots.slot(place) {
         note_members(busy, slot, place);
@@ -105,8 +111,8 @@ fn refresh(busy: &mut [PlaceSet], slots: &Slots, place: usize)
 
 /// Puts a place into the sets of these nodes, and takes it out of the others' sets.
 fn enrol(memberships: &mut [PlaceSet], place: usize, members: &NodeSet)
-    requires place { place < PLACES }
     requires size { length memberships.old ≡ NODES }
+    requires words { HaveWord NODES place members.now memberships.old }
     ensures { IsEnrolled NODES place members.now memberships.old memberships.new }
 {
     for index in 0..NODES {
@@ -118,11 +124,26 @@ fn enrol(memberships: &mut [PlaceSet], place: usize, members: &NodeSet)
     }
 }
 
+/// Has the sets of these nodes have words for a place. Without memory some of them may have some.
+fn cover(sets: &mut [PlaceSet], place: usize, members: &NodeSet) -> Result<(), OutOfMemory>
+    requires place { place < PLACES }
+    requires size { length sets.old ≡ NODES }
+    ensures grown { HaveGrown sets.old sets.new }
+    ensures words { OnOk result (HaveWord NODES place members.now sets.new) }
+{
+    for index in 0..NODES {
+        if members.contains(NodeId::new(index as u8)) {
+            sets[index].cover(place)?;
+        }
+    }
+    Ok(())
+}
+
 /// For each node, no place.
-fn no_places() -> [PlaceSet; NODES]
+fn no_places(alloc: Global) -> [PlaceSet; NODES]
     ensures { (d p : ℕ) → d < NODES → has (slice_index_or result d []) p ≡ 0 }
 {
-    std::array::from_fn(|_| PlaceSet::new())
+    std::array::from_fn(|_| PlaceSet::new(alloc))
 }
 
 impl Groups {
@@ -133,9 +154,9 @@ impl Groups {
         Groups {
             alloc,
             slots: Slots::new(alloc),
-            busy: no_places(),
+            busy: no_places(alloc),
             cursors: [0; NODES],
-            memberships: no_places(),
+            memberships: no_places(alloc),
         }
     }
 
@@ -197,7 +218,9 @@ impl Groups {
         }
     }
 
-    /// Makes a group, last in the order, at the node `me`, which has noticed these nodes.
+    /// Makes a group, last in the order, at the node `me`, which has noticed these nodes. Beside what the group takes, it
+    /// takes memory for two sets of each member: 8 bytes in each for each 64 groups that were made here, in a `Vec`, which
+    /// doubles its room as it grows. No other call takes memory for the sets.
     pub fn make(
         &mut self,
         addr: Addr,
@@ -214,6 +237,8 @@ impl Groups {
         ensures err { OnErr result (self.new ≡ self.old) }
     {
         let place = self.slots.len();
+        cover(&mut self.busy, place, &spec.members)?;
+        cover(&mut self.memberships, place, &spec.members)?;
         self.slots.add(self.alloc, addr, spec, me, noticed)?;
         enrol(&mut self.memberships, place, &spec.members);
         Ok(())

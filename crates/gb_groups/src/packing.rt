@@ -48,6 +48,7 @@ pub fn advance(
     ensures within { result ≤ length slots.old.rows }
     ensures rows { slots.new.rows ≡ gave dest.number 0 (take count (walk from (queues dest.number slots.old.rows))) slots.old.rows }
     ensures index { IsBusy dest.number busy.new slots.new.rows }
+    ensures words { length busy.new ≡ length busy.old }
     ensures cursor { result ≡ new_cursor (length slots.old.rows) from count (walk from (queues dest.number slots.old.rows)) }
     ensures written { out.new.items ≡ out.old.items ++ items_text (items slots.old.rows (take count (walk from (queues dest.number slots.old.rows)))) }
     ensures fit { All IsItem (items slots.old.rows (take count (walk from (queues dest.number slots.old.rows)))) }

@@ -1,84 +1,113 @@
 //! Sets of places, 64 in a word.
-ghost use Rattle.std.specs.Prelude.{◌≡◌, ◌≢◌, ◌<◌, ◌≤◌, ◌+◌, ◌*◌, ℕ, List, replicate, length, slice_index_or, IfSome, MatchOption};
+ghost use Rattle.std.specs.Prelude.{◌≡◌, ◌≢◌, ◌<◌, ◌≤◌, ◌+◌, ◌*◌, ◌/◌, ℕ, length, max, IfSome, OnOk, OnErr, MatchOption};
 ghost use Rattle.gb_types.specs.declared.limits.TheConstants.{PLACES};
 ghost use Rattle.gb_groups.specs.PlaceSet.{has, IsNext};
 
+use gb_types::memory::OutOfMemory;
+use std::alloc::Global;
 use std::marker::Model;
 
-/// A set of places below `PLACES`. Contracts see its words. A search looks at none behind the last that ever had a place.
+/// A set of places below `PLACES`. Contracts see its words.
 #[derive(Drop)]
 pub struct PlaceSet {
-    /// No word from this one on has a place. It stands beside the first words, which most nodes get by with.
-    used: usize,
-    words: [u64; 64],
+    /// A word for each 64 places, as many as were needed so far. Behind the last there is no place.
+    words: Vec<u64>,
 }
 
 impl Model for PlaceSet {
-    ghost use Rattle.std.specs.Prelude.{ℕ, List, length, ◌≡◌, ◌≤◌, slice_index_or};
+    ghost use Rattle.std.specs.Prelude.{ℕ, List, length, ◌≤◌};
 
     ghost Value = { List ℕ };
 
-    ghost view = { λ s. s.words };
+    ghost view = { λ s. s.words.items };
 
-    ghost invariant = { λ s. (length s.words ≡ 64) × (s.used ≤ 64) × ((a : ℕ) → s.used ≤ a → slice_index_or s.words a 0 ≡ 0) };
+    ghost invariant = { λ s. length s.words.items ≤ 64 };
 }
 
 impl PlaceSet {
-    /// No place.
-    pub fn new() -> PlaceSet
+    /// No place. It has no words, and takes no memory.
+    pub fn new(alloc: Global) -> PlaceSet
         ensures { (p : ℕ) → has result p ≡ 0 }
     {
         PlaceSet {
-            used: 0,
-            words: [0; 64],
+            words: Vec::new(alloc),
         }
     }
 
-    /// The words of the first 64 * N places, where the set has had no others since it was made.
+    /// Has the set have words for the places up to one, 8 bytes for each 64 places. Without memory nothing has changed.
+    pub fn cover(&mut self, place: usize) -> Result<(), OutOfMemory>
+        requires { place < PLACES }
+        ensures same { (p : ℕ) → has self.new p ≡ has self.old p }
+        ensures longer { length self.old ≤ length self.new }
+        ensures words { OnOk result (length self.new ≡ max (length self.old) (place / 64 + 1)) }
+        ensures err { OnErr result (self.new ≡ self.old) }
+    {
+        let needed = place / 64 + 1;
+        if self.words.len() < needed {
+            self.words.resize(needed, 0)?;
+        }
+        Ok(())
+    }
+
+    /// The words of the first 64 * N places, where the set has no more.
     pub fn first_words<const N: usize>(&self) -> Option<[u64; N]>
         requires { N ≤ 64 }
         ensures { IfSome result (λ words. (p : ℕ) → has words p ≡ has self.now p) }
     {
-        if self.used > N {
+        if self.words.len() > N {
             return None;
         }
-        let mut words = [0; N];
-        words.copy_from_slice(&self.words[..N]);
-        Some(words)
+        Some(padded(&self.words))
     }
 
     /// The words of all places.
     pub fn words(&self) -> [u64; 64]
-        ensures { result ≡ self.now }
+        ensures { (p : ℕ) → has result p ≡ has self.now p }
     {
-        self.words
+        padded(&self.words)
     }
 
     /// The least place of the set at or after one.
     pub fn next(&self, from: usize) -> Option<usize>
         ensures { MatchOption result ((p : ℕ) → from ≤ p → has self.now p ≡ 0) (λ q. IsNext self.now from q) }
     {
-        next_of(&self.words[..self.used], from)
+        next_of(&self.words, from)
     }
 
     /// Takes a place out of the set.
     pub fn remove(&mut self, place: usize)
-        requires { place < PLACES }
         ensures here { has self.new place ≡ 0 }
         ensures others { (p : ℕ) → p ≢ place → has self.new p ≡ has self.old p }
+        ensures length { length self.new ≡ length self.old }
     {
-        remove_of(&mut self.words, place);
+        if place / 64 < self.words.len() {
+            remove_of(&mut self.words, place);
+        }
     }
 
-    /// Puts a place into the set.
+    /// Puts a place into the set, which has a word for it.
     pub fn insert(&mut self, place: usize)
-        requires { place < PLACES }
+        requires { place < 64 * length self.old }
         ensures here { has self.new place ≡ 1 }
         ensures others { (p : ℕ) → p ≢ place → has self.new p ≡ has self.old p }
+        ensures length { length self.new ≡ length self.old }
     {
         self.words[place / 64] |= 1 << (place % 64);
-        self.used = self.used.max(place / 64 + 1);
     }
+}
+
+/// So many words: those of a set, and zeros behind them.
+fn padded<const N: usize>(words: &[u64]) -> [u64; N]
+    requires { length words.now ≤ N }
+    ensures { (p : ℕ) → has result p ≡ has words.now p }
+{
+    let mut padded = [0; N];
+    for index in 0..N {
+        if index < words.len() {
+            padded[index] = words[index];
+        }
+    }
+    padded
 }
 
 /// The least place of a set, by its words, at or after one.
@@ -110,7 +139,6 @@ pub fn remove_of(words: &mut [u64], place: usize)
     ensures here { has words.new place ≡ 0 }
     ensures others { (p : ℕ) → p ≢ place → has words.new p ≡ has words.old p }
     ensures length { length words.new ≡ length words.old }
-    ensures zeros { (a : ℕ) → slice_index_or words.old a 0 ≡ 0 → slice_index_or words.new a 0 ≡ 0 }
 {
     words[place / 64] &= !(1 << (place % 64));
 }

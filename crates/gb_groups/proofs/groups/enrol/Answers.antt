@@ -6,7 +6,7 @@ use Rattle.gb_groups.proofs.groups.enrol.Goals as goal
 use Rattle.gb_groups.proofs.groups.enrol.Goals.{then-contains, else-contains}
 
 pub loop-index-init : goal.loop-index-init
-loop-index-init c = record { size = refl; here = λ who h. absurd (omega arith); others = λ who p ne. refl }
+loop-index-init c = record { size = refl; here = λ who h. absurd (omega arith); others = λ who p ne. refl; words = λ who. refl }
 
 pub loop-index-preserved : goal.loop-index-preserved
 loop-index-preserved c =
@@ -15,7 +15,7 @@ loop-index-preserved c =
     let size = c.loop-index.invariant.size in
     elim c.if-contains.branch [
       | then-contains w ↦
-          rw w.memberships-is (enrolled c.loop-index.index c.args.place members c.args.memberships.now c.loop-index.memberships w.insert.new.self w.index-memberships-index.result (omega (arith, c.requires.size)) c.loop-index.invariant w.insert.ensures.others (w.insert.ensures.here ∙ ap (λ b. if b then 1 else 0) (sym w.if-contains.true ∙ named)))
+          rw w.memberships-is (enrolled c.loop-index.index c.args.place members c.args.memberships.now c.loop-index.memberships w.insert.new.self w.index-memberships-index.result (omega (arith, c.requires.size)) c.loop-index.invariant w.insert.ensures.others (w.insert.ensures.here ∙ ap (λ b. if b then 1 else 0) (sym w.if-contains.true ∙ named)) w.insert.ensures.length)
       | else-contains w ↦
-          rw w.memberships-is (enrolled c.loop-index.index c.args.place members c.args.memberships.now c.loop-index.memberships w.remove.new.self w.index-memberships-index-else-contains.result (omega (arith, c.requires.size)) c.loop-index.invariant w.remove.ensures.others (w.remove.ensures.here ∙ ap (λ b. if b then 1 else 0) (sym w.if-contains.false ∙ named)))
+          rw w.memberships-is (enrolled c.loop-index.index c.args.place members c.args.memberships.now c.loop-index.memberships w.remove.new.self w.index-memberships-index-else-contains.result (omega (arith, c.requires.size)) c.loop-index.invariant w.remove.ensures.others (w.remove.ensures.here ∙ ap (λ b. if b then 1 else 0) (sym w.if-contains.false ∙ named)) w.remove.ensures.length)
     ]

@@ -1,8 +1,8 @@
 use Rattle.gb_groups.proofs.NotedLemmas.{index_gone, index_noted}
 use Rattle.gb_groups.proofs.groups.refresh.Goals as goal
 
-pub returns-in-Some : goal.returns-in-Some
-returns-in-Some c = index_noted c.args.slots.now.rows c.args.busy.now c.note_members.new.busy c.args.place c.in-Some.slot.now c.requires.place c.in-Some.ensures.slot c.requires.others c.requires.outside c.note_members.ensures
+pub returns-in-Some-clause-index : goal.returns-in-Some-clause-index
+returns-in-Some-clause-index c = index_noted c.args.slots.now.rows c.args.busy.now c.note_members.new.busy c.args.place c.in-Some.slot.now c.requires.place c.in-Some.ensures.slot c.requires.others c.requires.outside c.note_members.ensures
 
-pub returns-in_default : goal.returns-in_default
-returns-in_default c = index_gone c.args.slots.now.rows c.args.busy.now c.args.place c.requires.place c.in_default.ensures.slot c.requires.others c.requires.outside
+pub returns-in_default-clause-index : goal.returns-in_default-clause-index
+returns-in_default-clause-index c = index_gone c.args.slots.now.rows c.args.busy.now c.args.place c.requires.place c.in_default.ensures.slot c.requires.others c.requires.outside

@@ -15,7 +15,7 @@ use Rattle.gb_groups.proofs.packing.advance.Goals as goal
 use Rattle.gb_groups.proofs.packing.advance.Goals.{then-give-eq0, else-give-eq0}
 
 pub loop-step-init : goal.loop-step-init
-loop-step-init c = record { index = c.requires.index; size = refl; within = c.requires.from; rows = sym (gave-none c.args.dest.number 0 c.args.slots.now.rows); rest = refl; wrote = wrote_none c.args.slots.now.rows (walk c.args.from (queues c.args.dest.number c.args.slots.now.rows)) _ _; capacity = omega arith; last = λ h. absurd (omega arith) }
+loop-step-init c = record { index = c.requires.index; words = refl; size = refl; within = c.requires.from; rows = sym (gave-none c.args.dest.number 0 c.args.slots.now.rows); rest = refl; wrote = wrote_none c.args.slots.now.rows (walk c.args.from (queues c.args.dest.number c.args.slots.now.rows)) _ _; capacity = omega arith; last = λ h. absurd (omega arith) }
 
 -- the first place of the walk is that of the next visit
 next_is : (r : Option ℕ) (here vs : List Visit) (k : ℕ) → r ≡ first_place here → here ≡ drop k vs → r ≡ first_place (drop k vs)
@@ -91,8 +91,13 @@ loop-step-preserved c =
       | else-give-eq0 w ↦
           rw w.busy-is (index_kept dest p c.loop-step.busy rows row d c.loop-step.invariant.index within busy (omega (arith, w.if-give-eq0.false)))
     ] in
+    let words : length c.if-give-eq0.busy ≡ length c.args.busy.now = elim c.if-give-eq0.branch [
+      | then-give-eq0 w ↦ rw w.busy-is (w.remove.ensures.length ∙ c.loop-step.invariant.words)
+      | else-give-eq0 w ↦ rw w.busy-is c.loop-step.invariant.words
+    ] in
     rw (c.give.ensures.rows, e) (record {
       index = index;
+      words = words;
       size = length-set rows p (took dest 1 row) ∙ c.loop-step.invariant.size;
       within = rw length-set (omega arith);
       rows = gave_step dest p k rows c.args.slots.now.rows row vs c.loop-step.invariant.rows within here l one.place;

@@ -11,6 +11,7 @@ invariant-loop-step l =
     let vs = walk l.from (queues l.dest.number l.fn.slots.rows) in
     record {
       index : IsBusy l.dest.number l.busy l.slots.rows;
+      words : length l.busy ≡ length l.fn.busy;
       size : length l.slots.rows ≡ length l.fn.slots.rows;
       within : l.at ≤ length l.slots.rows;
       rows : l.slots.rows ≡ gave l.dest.number 0 (take l._step vs) l.fn.slots.rows;

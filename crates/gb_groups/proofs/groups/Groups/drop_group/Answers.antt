@@ -1,14 +1,23 @@
-use Rattle.std.proofs.Common.{subst, refl}
+use Rattle.std.proofs.Common.{subst, sym, refl}
+use Rattle.std.specs.FinSet as nodes
 use Rattle.gb_types.specs.declared.limits.TheConstants.{NODES}
+use Rattle.gb_groups.specs.Covered.{HaveWord}
 use Rattle.gb_groups.specs.Members.{IsEnrolled}
 use Rattle.gb_groups.specs.SlotsValue.{row_at, gone}
 use Rattle.gb_groups.specs.AtAddress.{OthersKept}
 use Rattle.gb_groups.specs.GroupsValue.{GroupsValue}
 use Rattle.gb_groups.proofs.AddressLemmas.{others_kept_row, place_is}
+use Rattle.gb_groups.proofs.CoveredLemmas.{word_nobody, covered_enrolled, covered_kept}
 use Rattle.gb_groups.proofs.IndexLemmas.{places_quiet}
 use Rattle.gb_groups.proofs.MemberLemmas.{memberships_dropped}
 use Rattle.gb_groups.proofs.NotedLemmas.{index_dropped}
 use Rattle.gb_groups.proofs.groups.Groups.drop_group.Goals as goal
+
+pub enrol-requires-clause-words : goal.enrol-requires-clause-words
+enrol-requires-clause-words c = subst (λ (s : _). HaveWord NODES c.in-Some.place s c.self.inside.busy) (sym c.new.ensures) (word_nobody NODES c.in-Some.place c.self.inside.busy)
+
+pub enrol-requires-in-Some-clause-words : goal.enrol-requires-in-Some-clause-words
+enrol-requires-in-Some-clause-words c = subst (λ (s : _). HaveWord NODES c.in-Some.place s c.self.inside.memberships) (sym c.new-in-Some.ensures) (word_nobody NODES c.in-Some.place c.self.inside.memberships)
 
 pub invariant_of-self : goal.invariant_of-self
 invariant_of-self c =
@@ -17,7 +26,10 @@ invariant_of-self c =
     let within = (place_is c.args.addr rows c.in-Some.place c.in-Some.ensures.place).0 in
     let busy = subst (λ (s : _). IsEnrolled NODES c.in-Some.place s c.self.inside.busy c.enrol.new.memberships) c.new.ensures c.enrol.ensures in
     let kept = subst (λ (s : _). IsEnrolled NODES c.in-Some.place s c.self.inside.memberships c.enrol-in-Some.new.memberships) c.new-in-Some.ensures c.enrol-in-Some.ensures in
-    rw c.remove-reply.ensures.rows (places_quiet rows c.self.inside.cursors c.in-Some.place row c.self.invariant.0, index_dropped rows c.self.inside.busy c.enrol.new.memberships c.in-Some.place within c.self.invariant.1 busy, memberships_dropped rows c.self.inside.memberships c.enrol-in-Some.new.memberships c.in-Some.place c.self.invariant.2 within kept)
+    let nobody = word_nobody NODES c.in-Some.place c.self.inside.busy in
+    let enrolled = covered_enrolled c.in-Some.place nodes.empty c.self.inside.memberships c.enrol-in-Some.new.memberships c.self.inside.busy c.self.invariant.3 nobody kept in
+    let covered = covered_kept c.enrol-in-Some.new.memberships c.self.inside.busy c.enrol.new.memberships enrolled busy.words in
+    rw c.remove-reply.ensures.rows (places_quiet rows c.self.inside.cursors c.in-Some.place row c.self.invariant.0, index_dropped rows c.self.inside.busy c.enrol.new.memberships c.in-Some.place within c.self.invariant.1 busy, memberships_dropped rows c.self.inside.memberships c.enrol-in-Some.new.memberships c.in-Some.place c.self.invariant.2 within kept, covered)
 
 pub returns-in-Some-clause-others : goal.returns-in-Some-clause-others
 returns-in-Some-clause-others c =

@@ -9,6 +9,7 @@ use Rattle.gb_groups.specs.GroupsValue.{GroupsValue}
 use Rattle.gb_groups.proofs.AddressLemmas.{others_kept, item_is, place_is}
 use Rattle.gb_groups.proofs.IndexLemmas.{index_but, index_as_many, places_quiet}
 use Rattle.gb_groups.proofs.MemberLemmas.{memberships_step, spec-came}
+use Rattle.gb_groups.proofs.CoveredLemmas.{covered_kept, word_stepped}
 use Rattle.gb_groups.proofs.NotedLemmas.{outside_stepped}
 use Rattle.gb_groups.proofs.groups.Groups.item.Goals as goal
 
@@ -26,6 +27,14 @@ refresh-requires-clause-outside c =
     let within = (place_is (address_of (view_item c.args.item)) rows p c.in-Some-find.ensures.place).0 in
     rw c.came.ensures.rows (outside_stepped (slot_came c.args.from x) rows c.self.inside.busy p within (spec-came c.args.from x) c.self.invariant.1)
 
+pub refresh-requires-clause-words : goal.refresh-requires-clause-words
+refresh-requires-clause-words c =
+    let rows = c.self.inside.slots.rows in
+    let p = c.in-Some-find.place in
+    let x : Entry = record { origin = c.in-Some.origin; seq = c.args.item.seq; payload = c.args.item.payload.now } in
+    let within = (place_is (address_of (view_item c.args.item)) rows p c.in-Some-find.ensures.place).0 in
+    rw c.came.ensures.rows (word_stepped (slot_came c.args.from x) rows c.self.inside.memberships c.self.inside.busy p within (spec-came c.args.from x) c.self.invariant.2 c.self.invariant.3)
+
 pub invariant_of-self : goal.invariant_of-self
 invariant_of-self c =
     let rows = c.self.inside.slots.rows in
@@ -33,7 +42,7 @@ invariant_of-self c =
     let x : Entry = record { origin = c.in-Some.origin; seq = c.args.item.seq; payload = c.args.item.payload.now } in
     let row = on_slot (slot_came c.args.from x) (row_at rows p) in
     let within = (place_is (address_of (view_item c.args.item)) rows p c.in-Some-find.ensures.place).0 in
-    rw c.came.ensures.rows (places_quiet rows c.self.inside.cursors p row c.self.invariant.0, index_as_many rows c.self.inside.busy p row within c.self.invariant.1 (c.came.ensures.quiet c.if-not-came.true), memberships_step (slot_came c.args.from x) rows c.self.inside.memberships p (spec-came c.args.from x) c.self.invariant.2)
+    rw c.came.ensures.rows (places_quiet rows c.self.inside.cursors p row c.self.invariant.0, index_as_many rows c.self.inside.busy p row within c.self.invariant.1 (c.came.ensures.quiet c.if-not-came.true), memberships_step (slot_came c.args.from x) rows c.self.inside.memberships p (spec-came c.args.from x) c.self.invariant.2, c.self.invariant.3)
 
 pub returns-then-not-came-clause-rows : goal.returns-then-not-came-clause-rows
 returns-then-not-came-clause-rows c =
@@ -66,6 +75,7 @@ invariant_of-self-in-Some-find c =
     let x : Entry = record { origin = c.in-Some.origin; seq = c.args.item.seq; payload = c.args.item.payload.now } in
     let step = slot_came c.args.from x in (
       rw c.came.ensures.rows (places_quiet rows c.self.inside.cursors p (on_slot step (row_at rows p)) c.self.invariant.0),
-      c.refresh.ensures,
+      c.refresh.ensures.index,
       rw c.came.ensures.rows (memberships_step step rows c.self.inside.memberships p (spec-came c.args.from x) c.self.invariant.2),
+      covered_kept c.self.inside.memberships c.self.inside.busy c.refresh.new.busy c.self.invariant.3 c.refresh.ensures.words,
     )

@@ -8,6 +8,7 @@ use Rattle.gb_frame.specs.Spelling.{items_text, IsItem}
 use Rattle.gb_groups.proofs.TakingLemmas.{length-gave, queues-gave}
 use Rattle.gb_groups.proofs.BatchLemmas.{is_longest, packed_at, taken_is, count_from, places-kept, fit-front}
 use Rattle.gb_groups.proofs.FrontLemmas.{is_front}
+use Rattle.gb_groups.proofs.CoveredLemmas.{covered_written}
 use Rattle.gb_groups.proofs.IndexLemmas.{index_at, index_changed}
 use Rattle.gb_groups.proofs.MemberLemmas.{memberships_gave}
 use Rattle.gb_groups.proofs.groups.Groups.pack_into.Goals as goal
@@ -42,6 +43,7 @@ invariant_of-self c =
       places-kept c.index-to.result c.advance.result c.self.inside.cursors rows new c.self.invariant.0 c.advance.ensures.within size,
       index_changed rows new c.self.inside.busy c.index-to.result dest c.advance.new.busy c.self.invariant.1 c.index-to.ensures.value c.advance.ensures.index size others c.args.dest.below,
       subst (λ (rs : List Row). AreMemberships rs c.self.inside.memberships) (sym c.advance.ensures.rows) (memberships_gave dest vs rows c.self.inside.memberships c.self.invariant.2),
+      covered_written c.self.inside.memberships c.self.inside.busy c.index-to.result c.advance.new.busy c.index-self-to.result (let n = c.self.invariant.1.size in omega (arith, c.index-to.ensures.bound)) c.self.invariant.3 c.advance.ensures.words,
     )
 
 pub returns-clause-written : goal.returns-clause-written

@@ -8,6 +8,7 @@ use Rattle.gb_groups.specs.GroupsValue.{GroupsValue}
 use Rattle.gb_groups.proofs.AddressLemmas.{others_kept, place_is}
 use Rattle.gb_groups.proofs.IndexLemmas.{index_but, places_quiet}
 use Rattle.gb_groups.proofs.MemberLemmas.{memberships_step, spec-said}
+use Rattle.gb_groups.proofs.CoveredLemmas.{covered_kept, word_stepped}
 use Rattle.gb_groups.proofs.NotedLemmas.{outside_stepped}
 use Rattle.gb_groups.proofs.groups.Groups.say.Goals as goal
 
@@ -21,6 +22,12 @@ refresh-requires-clause-outside c =
     let rows = c.self.inside.slots.rows in
     let within = (place_is c.args.addr rows c.in-Some.place c.in-Some.ensures.place).0 in
     rw c.say-reply.ensures.rows (outside_stepped (slot_said c.args.payload.now c.say-reply.result) rows c.self.inside.busy c.in-Some.place within (spec-said c.args.payload.now c.say-reply.result) c.self.invariant.1)
+
+pub refresh-requires-clause-words : goal.refresh-requires-clause-words
+refresh-requires-clause-words c =
+    let rows = c.self.inside.slots.rows in
+    let within = (place_is c.args.addr rows c.in-Some.place c.in-Some.ensures.place).0 in
+    rw c.say-reply.ensures.rows (word_stepped (slot_said c.args.payload.now c.say-reply.result) rows c.self.inside.memberships c.self.inside.busy c.in-Some.place within (spec-said c.args.payload.now c.say-reply.result) c.self.invariant.2 c.self.invariant.3)
 
 pub returns-in-Some-clause-others : goal.returns-in-Some-clause-others
 returns-in-Some-clause-others c =
@@ -42,6 +49,7 @@ invariant_of-self c =
     let p = c.in-Some.place in
     let step = slot_said c.args.payload.now c.say-reply.result in (
       rw c.say-reply.ensures.rows (places_quiet rows c.self.inside.cursors p (on_slot step (row_at rows p)) c.self.invariant.0),
-      c.refresh.ensures,
+      c.refresh.ensures.index,
       rw c.say-reply.ensures.rows (memberships_step step rows c.self.inside.memberships p (spec-said c.args.payload.now c.say-reply.result) c.self.invariant.2),
+      covered_kept c.self.inside.memberships c.self.inside.busy c.refresh.new.busy c.self.invariant.3 c.refresh.ensures.words,
     )

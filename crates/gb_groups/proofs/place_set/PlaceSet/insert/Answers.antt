@@ -1,17 +1,22 @@
-use Rattle.std.proofs.Common.{◌<◌, ◌/◌, ◌%◌, ◌∙◌, ℕ, List, ap, get_or, arith, w64}
+use Rattle.std.proofs.Common.{◌≡◌, ◌<◌, ◌/◌, ◌%◌, ◌∙◌, ℕ, List, length, ap, sym, get_or, arith, w64}
+use Rattle.std.proofs.lemmas.List.{get_or_default}
 use Rattle.std.proofs.lemmas.Nat.Bits.{bit_at_set_same, bit_at_set_other}
+use Rattle.std.specs.Int.{bit_at}
 use Rattle.gb_groups.specs.PlaceSet.{has}
 use Rattle.gb_groups.proofs.PlaceSetLemmas.{has-set-same, has-set-other}
 use Rattle.gb_groups.proofs.place_set.PlaceSet.insert.Goals as goal
 
 pub returns-clause-here : goal.returns-clause-here
 returns-clause-here c =
-    let ws = c.self.inside.words in
     let l : c.args.place % 64 < 64 = omega arith in
-    has-set-same ws c.args.place _ 1 (omega arith) (bit_at_set_same w64 (get_or ws (c.args.place / 64) 0) (c.args.place % 64) l)
+    let size = ap (λ (v : List ℕ). length v) c.self.view_is in
+    has-set-same c.self.inside.words.items c.args.place _ 1 (omega arith) (bit_at_set_same w64 c.index_mut.result.now (c.args.place % 64) l)
 
 pub returns-clause-others : goal.returns-clause-others
 returns-clause-others c = λ p ne.
-    let ws = c.self.inside.words in
+    let ws = c.self.inside.words.items in
     let l : c.args.place % 64 < 64 = omega arith in
-    has-set-other ws c.args.place _ p (omega arith) ne (λ i h d. bit_at_set_other w64 (get_or ws (c.args.place / 64) 0) (c.args.place % 64) l i d) ∙ ap (λ (v : List ℕ). has v p) c.self.view_is
+    let size = ap (λ (v : List ℕ). length v) c.self.view_is in
+    let there : c.args.place / 64 < length ws = omega arith in
+    let word : c.index_mut.result.now ≡ get_or ws (c.args.place / 64) 0 = c.index_mut.ensures.value ∙ sym (get_or_default ws (c.args.place / 64) 0 c.index_mut.result.now there) in
+    has-set-other ws c.args.place _ p there ne (λ i h d. bit_at_set_other w64 c.index_mut.result.now (c.args.place % 64) l i d ∙ ap (λ n. bit_at n i) word) ∙ ap (λ (v : List ℕ). has v p) c.self.view_is
