@@ -288,14 +288,15 @@ impl Groups {
         }
     }
 
-    /// Says something in the group with this address.
-    pub fn say(&mut self, addr: Addr, payload: &[u8]) -> Reply
+    /// Says something in the group with this address, at the place that `find` gave, if it gave one.
+    pub fn say(&mut self, addr: Addr, place: Option<usize>, payload: &[u8]) -> Reply
+        requires { place ≡ place_of addr self.old.rows }
         ensures reply { result ≡ group_reply (λ s. say_answer s payload.now) addr self.old.rows }
         ensures rows { self.new.rows ≡ on_address addr (slot_said payload.now result) self.old.rows }
         ensures cursors { self.new.cursors ≡ self.old.cursors }
         ensures others { OthersKept addr self.old.rows self.new.rows }
     {
-        match self.slots.find(addr) {
+        match place {
             Some(place) => {
                 let reply = self.slots.say(place, payload);
                 refresh(&mut self.busy, &self.slots, place);

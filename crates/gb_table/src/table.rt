@@ -269,11 +269,12 @@ impl Table {
         self.groups.drop_group(addr)
     }
 
-    fn say(&mut self, addr: Addr, payload: &Payload) -> Reply
+    fn say(&mut self, addr: Addr, place: Option<usize>, payload: &Payload) -> Reply
+        requires { place ≡ place_of addr self.old.groups.rows }
         ensures reply { result ≡ group_reply (λ s. say_answer s payload.now) addr self.old.groups.rows }
         ensures state { (noticed : set.FinSet nat_cmp) (token : List ℕ) → self.new ≡ table_did noticed (Request.Say token addr payload.now) result self.old }
     {
-        self.groups.say(addr, payload.as_slice())
+        self.groups.say(addr, place, payload.as_slice())
     }
 
     /// Answers a request at a node that has noticed these. Denied comes first, with a token that is not the one that
@@ -294,7 +295,7 @@ impl Table {
             Request::OpenGroup(_, addr) => self.open_group(*addr),
             Request::ShutGroup(_, addr) => self.shut_group(*addr),
             Request::DropGroup(_, addr) => self.drop_group(*addr),
-            Request::Say(_, addr, payload) => self.say(*addr, payload),
+            Request::Say(_, addr, payload) => self.say(*addr, place, payload),
             Request::Fetch(_, _, from, most) => self.groups.fetch(place, *from, *most),
         }
     }

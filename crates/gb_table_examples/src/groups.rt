@@ -67,7 +67,10 @@ fn take(groups: &mut Groups, step: Step, group: u16) -> Reply {
     let addr = Addr { tenant: 7, group };
     match step {
         Step::Open => open(groups, addr),
-        Step::Say => groups.say(addr, b"a"),
+        Step::Say => {
+            let place = groups.find(addr);
+            groups.say(addr, place, b"a")
+        }
         Step::Item => {
             let item = ItemView {
                 tenant: 7,

@@ -1,9 +1,9 @@
 use Rattle.std.proofs.lemmas.Grind.{common_steps}
-use Rattle.std.proofs.Common.{ap, subst, ◌∙◌, arith}
+use Rattle.std.proofs.Common.{◌≡◌, Some, ap, sym, subst, ◌∙◌, arith}
 use Rattle.gb_rules.specs.Group.{Shown, say_answer}
 use Rattle.gb_slot.specs.Slot.{slot_said}
 use Rattle.gb_groups.specs.SlotsValue.{row_at, on_slot}
-use Rattle.gb_groups.specs.AtAddress.{reply_at, group_reply, OthersKept}
+use Rattle.gb_groups.specs.AtAddress.{place_of, reply_at, group_reply, OthersKept}
 use Rattle.gb_groups.specs.GroupsValue.{GroupsValue}
 use Rattle.gb_groups.proofs.AddressLemmas.{others_kept, place_is}
 use Rattle.gb_groups.proofs.IndexLemmas.{index_but, places_quiet}
@@ -19,26 +19,30 @@ refresh-requires-clause-others c =
 
 pub refresh-requires-clause-outside : goal.refresh-requires-clause-outside
 refresh-requires-clause-outside c =
+    let there : Some c.in-Some.place ≡ place_of c.args.addr c.self.inside.slots.rows = sym c.in-Some.is ∙ (c.requires ∙ ap (λ (v : GroupsValue). place_of c.args.addr v.rows) (sym c.self.view_is)) in
     let rows = c.self.inside.slots.rows in
-    let within = (place_is c.args.addr rows c.in-Some.place c.in-Some.ensures.place).0 in
+    let within = (place_is c.args.addr rows c.in-Some.place there).0 in
     rw c.say-reply.ensures.rows (outside_stepped (slot_said c.args.payload.now c.say-reply.result) rows c.self.inside.busy c.in-Some.place within (spec-said c.args.payload.now c.say-reply.result) c.self.invariant.1)
 
 pub refresh-requires-clause-words : goal.refresh-requires-clause-words
 refresh-requires-clause-words c =
+    let there : Some c.in-Some.place ≡ place_of c.args.addr c.self.inside.slots.rows = sym c.in-Some.is ∙ (c.requires ∙ ap (λ (v : GroupsValue). place_of c.args.addr v.rows) (sym c.self.view_is)) in
     let rows = c.self.inside.slots.rows in
-    let within = (place_is c.args.addr rows c.in-Some.place c.in-Some.ensures.place).0 in
+    let within = (place_is c.args.addr rows c.in-Some.place there).0 in
     rw c.say-reply.ensures.rows (word_stepped (slot_said c.args.payload.now c.say-reply.result) rows c.self.inside.memberships c.self.inside.busy c.in-Some.place within (spec-said c.args.payload.now c.say-reply.result) c.self.invariant.2 c.self.invariant.3)
 
 pub returns-in-Some-clause-others : goal.returns-in-Some-clause-others
 returns-in-Some-clause-others c =
+    let there : Some c.in-Some.place ≡ place_of c.args.addr c.self.inside.slots.rows = sym c.in-Some.is ∙ (c.requires ∙ ap (λ (v : GroupsValue). place_of c.args.addr v.rows) (sym c.self.view_is)) in
     let rows = c.self.inside.slots.rows in
     subst (λ (v : GroupsValue). OthersKept c.args.addr v.rows c.say-reply.new.self.rows) c.self.view_is
-    (rw c.say-reply.ensures.rows (others_kept c.args.addr rows c.in-Some.place (slot_said c.args.payload.now c.say-reply.result) c.in-Some.ensures.place))
+    (rw c.say-reply.ensures.rows (others_kept c.args.addr rows c.in-Some.place (slot_said c.args.payload.now c.say-reply.result) there))
 
 pub returns-in-Some-clause-reply : goal.returns-in-Some-clause-reply
 returns-in-Some-clause-reply c =
+    let there : Some c.in-Some.place ≡ place_of c.args.addr c.self.inside.slots.rows = sym c.in-Some.is ∙ (c.requires ∙ ap (λ (v : GroupsValue). place_of c.args.addr v.rows) (sym c.self.view_is)) in
     let answer = λ (s : Shown). say_answer s c.args.payload.now in
-    c.say-reply.ensures.reply ∙ ap (reply_at answer c.self.inside.slots.rows) c.in-Some.ensures.place ∙ ap (λ (v : GroupsValue). group_reply answer c.args.addr v.rows) c.self.view_is
+    c.say-reply.ensures.reply ∙ ap (reply_at answer c.self.inside.slots.rows) there ∙ ap (λ (v : GroupsValue). group_reply answer c.args.addr v.rows) c.self.view_is
 
 pub returns-in-Some-clause-rows : goal.returns-in-Some-clause-rows
 returns-in-Some-clause-rows c = grind (arith, common_steps)

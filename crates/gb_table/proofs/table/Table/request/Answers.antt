@@ -27,6 +27,9 @@ returns-in-ShutGroup-clause-state c = c.shut_group.ensures.state c.args.noticed.
 pub returns-in-DropGroup-clause-state : goal.returns-in-DropGroup-clause-state
 returns-in-DropGroup-clause-state c = c.drop_group.ensures.state c.args.noticed.now c.in-DropGroup.field-0 ∙ ap (λ (r : Request). table_did c.args.noticed.now r c.drop_group.result c.args.self.now) (sym c.in-DropGroup.is)
 
+pub say-requires : goal.say-requires
+say-requires c = c.place_for-place.ensures ∙ ap (λ (q : Request). place_for q c.args.self.now) c.in-Say.is
+
 pub returns-in-Say-clause-reply : goal.returns-in-Say-clause-reply
 returns-in-Say-clause-reply c =
     let right : is_admitted c.args.request.now c.args.self.now ≡ true = sym c.is_admitted.ensures ∙ c.if-not-is_admitted.false in
