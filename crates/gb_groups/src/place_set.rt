@@ -102,11 +102,7 @@ fn padded<const N: usize>(words: &[u64]) -> [u64; N]
     ensures { (p : ℕ) → has result p ≡ has words.now p }
 {
     let mut padded = [0; N];
-    for index in 0..N {
-        if index < words.len() {
-            padded[index] = words[index];
-        }
-    }
+    padded[..words.len()].copy_from_slice(words);
     padded
 }
 
