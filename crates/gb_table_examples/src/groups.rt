@@ -211,3 +211,59 @@ fn nothing_waits_for_a_noticed_node(rt: HostRuntime) -> Result<(), Fail> {
     assert!(&rt; packed);
     Ok(())
 }
+
+/// Groups 1 to `last` are made, where the first so many were made before.
+fn open_to(rt: &impl Abort, groups: &mut Groups, made: u16, last: u16) {
+    for group in made..last {
+        let reply = take(groups, Step::Open, group + 1);
+        let opened = in_short(&reply);
+        assert!(rt; opened == Told::Done);
+    }
+}
+
+#[test]
+fn groups_at_any_place_are_found_busy(rt: HostRuntime) -> Result<(), Fail> {
+    let mut groups = Groups::new(rt.alloc());
+    let mut made = 0;
+    // The last group of one word of the sets and the first of the next, and the same of 8 words.
+    for last in [64, 65, 512, 513] {
+        open_to(&rt, &mut groups, made, last);
+        made = last;
+        compare(
+            &rt,
+            &mut groups,
+            &[
+                (Step::Say, last, Told::Done),
+                (Step::Say, 1, Told::Done),
+                (Step::Say, last, Told::Done),
+            ],
+        );
+        let seq = match last {
+            64 => 1,
+            65 => 2,
+            512 => 3,
+            _ => 4,
+        };
+        let packed = packs(
+            &mut groups,
+            rt.alloc(),
+            FRIEND,
+            ROOM,
+            &[(1, seq), (last, 1), (last, 2)],
+        )?;
+        assert!(&rt; packed);
+    }
+    compare(
+        &rt,
+        &mut groups,
+        &[
+            (Step::Say, 513, Told::Done),
+            (Step::Say, 64, Told::Done),
+            (Step::Drop, 513, Told::Done),
+        ],
+    );
+    groups.notice(FRIEND);
+    let packed = packs(&mut groups, rt.alloc(), FRIEND, ROOM, &[])?;
+    assert!(&rt; packed);
+    Ok(())
+}
