@@ -152,7 +152,9 @@ impl<L: Layer, R: Rule> Relay<L, R> {
         }
     }
 
-    /// Makes a call of the layer below, and writes down who holds what came up.
+    /// Makes a call of the layer below, and writes down who holds what came up. Inlined, so that no call has to be written to
+    /// memory and read again.
+    #[inline(always)]
     fn call_lower(&mut self, call: Call, sends: &mut Vec<MsgId>)
         requires { L.has_room self.old.lower (free sends.old) (vec_capacity self.old.below) 1 }
         ensures state { state_of L.meaning self.new ≡ call_below L.next L.gives L.me (state_of L.meaning self.old) call }

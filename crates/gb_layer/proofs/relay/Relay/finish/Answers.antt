@@ -1,4 +1,4 @@
-use Rattle.std.proofs.Common.{arith, ◌≡◌, ◌+◌, ◌-◌, count_by, ap, ◌∙◌, vec_capacity, vec_len}
+use Rattle.std.proofs.Common.{arith, ◌≡◌, ◌+◌, count_by, ap, ◌∙◌, vec_capacity}
 use Rattle.gb_layer.specs.Room.{free}
 use Rattle.gb_layer.specs.Relay.{is_unsent, due_to_deliver}
 use Rattle.gb_layer.specs.RelayState.{unsent}

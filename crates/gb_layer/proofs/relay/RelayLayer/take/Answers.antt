@@ -1,6 +1,5 @@
-use Rattle.std.proofs.Common.{◌≡◌, ◌+◌, ◌-◌, ◌++◌, Bool, true, false, cond, List, vec_capacity, vec_len, ap, sym, ◌∙◌, append_assoc, arith}
+use Rattle.std.proofs.Common.{◌≡◌, ◌+◌, ◌++◌, Bool, false, cond, List, vec_capacity, ap, sym, ◌∙◌, append_assoc, arith}
 use Rattle.gb_types.specs.declared.message.MsgId.{MsgId}
-use Rattle.gb_layer.specs.declared.effects.Up.{Up}
 use Rattle.gb_layer.specs.Machine.{nothing}
 use Rattle.gb_layer.specs.Room.{free}
 use Rattle.gb_layer.specs.Relay.{State, is_repeat, begun, begun_sends, relayed, relayed_sends, given, given_ups}
