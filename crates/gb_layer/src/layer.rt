@@ -17,9 +17,9 @@ use gb_types::node::{NodeId, NodeSet};
 /// A layer of a broadcast at one node.
 ///
 /// What a call gives, and what the layer then remembers, is a function of what it remembered and of the call:
-/// `gives` and `next`. What it gives is appended to `out`, whose earlier items stay. No call but `ready` and
-/// `whole` takes memory: `ready` makes room for the next calls, and `whole`, asked once, for all calls that are
-/// about messages within a limit.
+/// `gives` and `next`. What it gives is appended to two lists, messages to send to each other member and pairs that
+/// came up, whose earlier items stay. No call but `ready` and `whole` takes memory: `ready` makes room for the next
+/// calls, and `whole`, asked once, for all calls that are about messages within a limit.
 ///
 /// The caller owes: each message is said at most once; no pair of a sender and a message comes twice; `from`
 /// and `who` are other nodes. Where it does not keep these, each call still does as `gives` and `next` say,
@@ -45,8 +45,8 @@ pub trait Layer {
     /// What a call gives.
     ghost gives: { State → Call → Gives };
 
-    /// Where so many more sends and so many more pairs fit into `out`, the next calls, so many, take no memory,
-    /// also if nobody empties `out` between them.
+    /// Where so many more sends and so many more pairs fit into the two lists, the next calls, so many, take no memory,
+    /// also if nobody empties the lists between them.
     ghost has_room: { Self → ℕ → ℕ → ℕ → Type 0 };
 
     /// It has the memory for all calls within the limit.
@@ -59,7 +59,7 @@ pub trait Layer {
     fn me(&self) -> NodeId
         ensures { result ≡ me (meaning self.now) };
 
-    /// Makes room for the next `calls` calls, in the layer and in `out`. A refusal changes nothing that is
+    /// Makes room for the next `calls` calls, in the layer and in the two lists. A refusal changes nothing that is
     /// remembered or was given.
     fn ready(
         &mut self,
@@ -73,8 +73,8 @@ pub trait Layer {
         ensures room { OnOk result (has_room self.new (free sends.new) (free ups.new) calls) };
 
     /// Takes, once, all the memory that calls ever need that are about messages of these members, numbered from 1
-    /// to `msgs`, where `out` is emptied after each `calls` calls and keeps its memory. A refusal changes nothing
-    /// that is remembered or was given.
+    /// to `msgs`, where the two lists are emptied after each `calls` calls and keep their memory. A refusal changes
+    /// nothing that is remembered or was given.
     fn whole(
         &mut self,
         members: &NodeSet,
@@ -169,7 +169,7 @@ pub trait Layer {
     /// A second notice of a node has no effect.
     ghost noticed_once: { NoticesOnce next gives is_fresh };
 
-    /// A layer that has its memory has room, where what the calls give at most fits into `out`.
+    /// A layer that has its memory has room, where what the calls give at most fits into the two lists.
     ghost whole_room: { (x : Self) (l : Limit) (a b : ℕ) → is_whole x l → (need l).sends ≤ a → (need l).ups ≤ b → has_room x a b l.calls };
 }
 

@@ -54,7 +54,7 @@ impl Unordered {
     }
 }
 
-/// Makes room in `out` for all that so many calls within a limit give, of whichever broadcast.
+/// Makes room for all that so many calls within a limit give, of whichever broadcast.
 fn reserve_most(
     members: &NodeSet,
     msgs: u16,
