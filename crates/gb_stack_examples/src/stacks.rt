@@ -164,8 +164,8 @@ fn take_and_compare<L: Broadcast>(
     log: &mut Vec<MsgId>,
 ) -> Result<(), OutOfMemory> {
     let mut out = Effects::new(alloc);
-    layer.ready(1, &mut out)?;
-    layer.take(call, &mut out);
+    layer.ready(1, &mut out.sends, &mut out.ups)?;
+    layer.take(call, &mut out.sends, &mut out.ups);
     compare_effects(rt, alloc, kind, history, &out, log)
 }
 
@@ -266,8 +266,8 @@ pub fn take_all<L: Layer>(
     out: &mut Effects,
 ) -> Result<(), OutOfMemory> {
     for call in calls {
-        layer.ready(1, out)?;
-        layer.take(*call, out);
+        layer.ready(1, &mut out.sends, &mut out.ups)?;
+        layer.take(*call, &mut out.sends, &mut out.ups);
     }
     Ok(())
 }
