@@ -12,6 +12,7 @@ use Rattle.gb_types.specs.declared.reply.Reply.{Reply}
 use Rattle.gb_types.specs.declared.reply.Reply.TheVariants.{Done, Said, Refused}
 use Rattle.gb_types.specs.declared.spec.Spec.{Spec}
 use Rattle.gb_types.proofs.CoverLemmas.{not_all_members}
+use Rattle.gb_types.proofs.ReadLemmas.{some_same}
 use Rattle.gb_rules.specs.Group.{say_answer, is_member, is_other, on_made}
 use Rattle.gb_history.specs.declared.call.GroupCall.TheVariants.{Other, Crashed}
 use Rattle.gb_alone.specs.Alone.{held_spec, Member, Group, reply_to, shown_of, called, did, falls, taken_in, cut, took_notice, member_after, after, alone_from}
@@ -25,9 +26,6 @@ use Rattle.gb_rules.specs.declared.reserve.Reserve.{Reserve}
 -- the node and the members are nodes of a cluster of so many
 abbrev pub IsWithin : ℕ → ℕ → Spec → Type 0
 IsWithin nodes me spec = (me < nodes) × ((b : ℕ) → is_member spec b ≡ true → b < nodes)
-
-some_same : (x y : Spec) → Some x ≡ Some y → x ≡ y
-some_same x y e = cc
 
 make_inside : (nodes number me : ℕ) (spec : Spec) (m : Member) → reply_to nodes number me (AskMake spec) m ≡ Done → IsWithin nodes me spec
 make_inside nodes number me spec m = running m.stopped

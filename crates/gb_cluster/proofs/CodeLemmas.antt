@@ -64,7 +64,7 @@ acted plan nodes before after a i event answer old new place within read turned 
       t.answered,
     )
 
-numbered_at : (packets : List Posted) (k : ℕ) → (k ≡ 0 → ⊥) → packet_numbered packets k ≡ slice_get packets (k - 1)
+pub numbered_at : (packets : List Posted) (k : ℕ) → (k ≡ 0 → ⊥) → packet_numbered packets k ≡ slice_get packets (k - 1)
 numbered_at packets zero some = absurd (some refl)
 numbered_at packets (suc k) some = let e : suc k - 1 ≡ k = omega arith in ap (slice_get packets) (sym e)
 
@@ -87,13 +87,6 @@ happened plan nodes before after a i event answer old new place within read nois
     let off : is_packet_for (node_at (cluster plan nodes before) a) event ≡ false = ap (λ v. is_packet_for v event) (sym there) ∙ noise in
     subst (λ b. MatchBool b ((answer ≡ NotNoise) × (cluster plan (slice_set nodes i new) after ≡ cluster plan nodes before)) (IsAt (cluster plan nodes before) a event answer (cluster plan (slice_set nodes i new) after))) (sym off)
     (acted plan nodes before after a i event answer old new place within read turned)
-
-pub no_noise : (plan : Plan) (nodes : List NodeValue) (packets : List Posted) (a : NodeId) (i : ℕ) (event : NodeEvent) (old : NodeValue) → i ≡ a.number → i < length nodes → old ≡ get_or nodes i old
-    → is_packet_for old event ≡ true → IsStep (cluster plan nodes packets) (At a event) NotNoise (cluster plan nodes packets)
-no_noise plan nodes packets a i event old place within read is =
-    let there : old ≡ node_at (cluster plan nodes packets) a = read ∙ (get_or_default nodes i old (new_node (node_plan plan a)) within ∙ ap (λ k. get_or nodes k (new_node (node_plan plan a))) place) in
-    let on : is_packet_for (node_at (cluster plan nodes packets) a) event ≡ true = ap (λ v. is_packet_for v event) (sym there) ∙ is in
-    subst (λ b. MatchBool b ((NotNoise ≡ NotNoise) × (cluster plan nodes packets ≡ cluster plan nodes packets)) (IsAt (cluster plan nodes packets) a event NotNoise (cluster plan nodes packets))) (sym on) (refl, refl)
 
 -- Runs.
 

@@ -27,6 +27,7 @@ use Rattle.gb_cluster.specs.ClusterStep.{posted, posted_to}
 use Rattle.gb_cluster.specs.Run.{Did, ComesTo, past_at}
 use Rattle.gb_cluster.specs.Links.{IsHonest, PacketsAreHonest}
 use Rattle.gb_types.specs.declared.plan.Plan.{Plan}
+use Rattle.gb_types.proofs.BoolLemmas.{or_second}
 use Rattle.gb_cluster.specs.declared.posted.Posted.{Posted}
 use Rattle.gb_cluster.proofs.NodesLemmas.{stays, past_same, past_other, have_pasts}
 
@@ -67,14 +68,10 @@ frames_more key b k items a d run e = elim (cases_eq d.node.number a.number) [
   | inr other ↦ ap (λ hs. slice_get (frames_to key b hs) k) (past_other a d run other) ∙ e
 ]
 
-pub or_right : (b c : Bool) → c ≡ true → (b || c) ≡ true
-or_right true c e = refl
-or_right false c e = e
-
 pub taken_more : (key : List ℕ) (b n : ℕ) (a : NodeId) (d : Did) (run : List Did) → is_taken key b n (past_at a run) ≡ true → is_taken key b n (past_at a (d ∷ run)) ≡ true
 unfolding is_taken
 taken_more key b n a d run e = elim (cases_eq d.node.number a.number) [
-  | inl same ↦ ap (is_taken key b n) (past_same a d run same) ∙ or_right (is_taken_by key b n d.event d.answer) (is_taken key b n (past_at a run)) e
+  | inl same ↦ ap (is_taken key b n) (past_same a d run same) ∙ or_second (is_taken_by key b n d.event d.answer) (is_taken key b n (past_at a run)) e
   | inr other ↦ ap (is_taken key b n) (past_other a d run other) ∙ e
 ]
 

@@ -30,9 +30,11 @@ use Rattle.gb_cluster.specs.ClusterValue.{ClusterValue, node_plan, node_at}
 use Rattle.gb_cluster.specs.Run.{Did, ComesTo, past_at, IsSent}
 use Rattle.gb_cluster.specs.Links.{IsHonest, PacketsAreHonest, first_taken, IsWhole, IsAlwaysWhole, LinksHold}
 use Rattle.gb_types.specs.declared.plan.Plan.{Plan}
-use Rattle.gb_cluster.proofs.NodesLemmas.{numbered_is, stays, past_same, past_other, have_pasts}
+use Rattle.gb_types.proofs.BoolLemmas.{and_sides, or_cases}
+use Rattle.gb_cluster.proofs.NodesLemmas.{stays, past_same, past_other, have_pasts}
 use Rattle.gb_cluster.proofs.HonestLemmas.{get_within, contains_get, frames_more, taken_more}
 use Rattle.gb_node.specs.Past.{packed_for}
+use Rattle.gb_node.proofs.TookLemmas.{numbered_is}
 use Rattle.std.proofs.lemmas.List.{length-append}
 
 -- What a node takes.
@@ -157,14 +159,6 @@ module _ (pasts : PastsSay) (packets : PacketsAreHonest) (plan : Plan) where
 
   -- Links.
 
-  or_either : (b c : Bool) → (b || c) ≡ true → (b ≡ true) ⊎ (c ≡ true)
-  or_either true c e = inl refl
-  or_either false c e = inr e
-
-  and_both : (b c : Bool) → (b && c) ≡ true → (b ≡ true) × (c ≡ true)
-  and_both true c e = (refl, e)
-  and_both false c e = absurd (cc)
-
   frames_longer : (b : ℕ) (a : NodeId) (d : Did) (run : List Did) → length (frames_to plan.cluster_key b (past_at a run)) ≤ length (frames_to plan.cluster_key b (past_at a (d ∷ run)))
   unfolding frames_to
   frames_longer b a d run = elim (cases_eq d.node.number a.number) [
@@ -181,7 +175,7 @@ module _ (pasts : PastsSay) (packets : PacketsAreHonest) (plan : Plan) where
     where
       by : (r : Result Content PacketFault) → reading plan.cluster_key bytes ≡ r → list_any test (packet_in r) ≡ true → (c : Content) × (read plan.cluster_key bytes ≡ c ∷ []) × (test c ≡ true)
       by (Err fault) is e = absurd (cc)
-      by (Ok c) is e = (c, ap packet_in is, tested (or_either (test c) false e))
+      by (Ok c) is e = (c, ap packet_in is, tested (or_cases (test c) false e))
         where
           tested : (test c ≡ true) ⊎ (false ≡ true) → test c ≡ true
           tested (inl t) = t
@@ -189,9 +183,9 @@ module _ (pasts : PastsSay) (packets : PacketsAreHonest) (plan : Plan) where
 
   first_of : (b n : ℕ) (e : NodeEvent) (answer : NodeAnswer) → is_taken_by plan.cluster_key b n e answer ≡ true → (c : Content) × (first_taken plan.cluster_key e answer ≡ c ∷ []) × (c.from ≡ b) × (c.frame ≡ n)
   first_of b n (Came bytes) (Taken (TakenGood good)) e =
-      let both = and_both (is_first good.frame) (list_any (is_frame b n) (read plan.cluster_key bytes)) e in
+      let both = and_sides (is_first good.frame) (list_any (is_frame b n) (read plan.cluster_key bytes)) e in
       let one = only (is_frame b n) bytes both.1 in
-      let parts = and_both (nat_eq one.0.from b) (nat_eq one.0.frame n) one.2 in
+      let parts = and_sides (nat_eq one.0.from b) (nat_eq one.0.frame n) one.2 in
       (one.0, ap (λ t. if t then read plan.cluster_key bytes else []) both.0 ∙ one.1, eqb-true one.0.from b parts.0, eqb-true one.0.frame n parts.1)
   first_of b n (Came bytes) (Taken (Fault fault)) e = absurd (cc)
   first_of b n (Came bytes) (Taken (TakenRefused why)) e = absurd (cc)
@@ -231,7 +225,7 @@ module _ (pasts : PastsSay) (packets : PacketsAreHonest) (plan : Plan) where
 
       by : (is_taken plan.cluster_key a.number n (past_at b run) ≡ true → (1 ≤ n) × (n ≤ length (frames_to plan.cluster_key b.number (past_at a run)))) → ((d.node.number ≡ b.number) ⊎ (d.node.number ≢ b.number)) → (1 ≤ n) × (n ≤ length (frames_to plan.cluster_key b.number (past_at a (d ∷ run))))
       by earlier (inr other) = later (earlier (ap (is_taken plan.cluster_key a.number n) (sym (past_other b d run other)) ∙ e))
-      by earlier (inl same) = split (or_either (is_taken_by plan.cluster_key a.number n d.event d.answer) (is_taken plan.cluster_key a.number n (past_at b run)) (ap (is_taken plan.cluster_key a.number n) (sym (past_same b d run same)) ∙ e))
+      by earlier (inl same) = split (or_cases (is_taken_by plan.cluster_key a.number n d.event d.answer) (is_taken plan.cluster_key a.number n (past_at b run)) (ap (is_taken plan.cluster_key a.number n) (sym (past_same b d run same)) ∙ e))
         where
           split : (is_taken_by plan.cluster_key a.number n d.event d.answer ≡ true) ⊎ (is_taken plan.cluster_key a.number n (past_at b run) ≡ true) → (1 ≤ n) × (n ≤ length (frames_to plan.cluster_key b.number (past_at a (d ∷ run))))
           split (inl is) = now same is
@@ -244,7 +238,7 @@ module _ (pasts : PastsSay) (packets : PacketsAreHonest) (plan : Plan) where
       let one = only (is_ack b.number n) bytes e in
       let so = arrives_honestly run v a bytes good w comes inside sent turned in
       let same : so.honest.content ≡ one.0 = one_content (sym so.honest.text ∙ one.1) in
-      let parts = and_both (nat_eq one.0.from b.number) (covers one.0.base one.0.mask n) one.2 in
+      let parts = and_sides (nat_eq one.0.from b.number) (covers one.0.base one.0.mask n) one.2 in
       let sender : so.honest.from ≡ b = same_number so.honest.from b (sym so.honest.sender ∙ (ap (λ (x : Content). x.from) same ∙ eqb-true one.0.from b.number parts.0)) in
       ap (λ x. is_taken plan.cluster_key a.number n (past_at x run)) (sym sender) ∙ so.honest.acks n from (ap (λ (x : Content). covers x.base x.mask n) same ∙ parts.1)
   ack_came run v a b n (Came bytes) (Taken (Fault fault)) w comes inside sent turned from e = absurd (cc)
@@ -288,11 +282,11 @@ module _ (pasts : PastsSay) (packets : PacketsAreHonest) (plan : Plan) where
       by : (is_acked plan.cluster_key b.number n (past_at a run) ≡ true → is_taken plan.cluster_key a.number n (past_at b run) ≡ true) → ((d.node.number ≡ a.number) ⊎ (d.node.number ≢ a.number)) → is_taken plan.cluster_key a.number n (past_at b run) ≡ true
       by earlier (inr other) = earlier (ap (is_acked plan.cluster_key b.number n) (sym (past_other a d run other)) ∙ e)
       by earlier (inl same) =
-          split (or_either (is_acked plan.cluster_key b.number n (past_at a run)) (nat_le n (length (frames_to plan.cluster_key b.number (past_at a run))) && list_any (is_ack b.number n) (came plan.cluster_key d.event d.answer)) (ap (is_acked plan.cluster_key b.number n) (sym (past_same a d run same)) ∙ e))
+          split (or_cases (is_acked plan.cluster_key b.number n (past_at a run)) (nat_le n (length (frames_to plan.cluster_key b.number (past_at a run))) && list_any (is_ack b.number n) (came plan.cluster_key d.event d.answer)) (ap (is_acked plan.cluster_key b.number n) (sym (past_same a d run same)) ∙ e))
         where
           split : (is_acked plan.cluster_key b.number n (past_at a run) ≡ true) ⊎ ((nat_le n (length (frames_to plan.cluster_key b.number (past_at a run))) && list_any (is_ack b.number n) (came plan.cluster_key d.event d.answer)) ≡ true) → is_taken plan.cluster_key a.number n (past_at b run) ≡ true
           split (inl was) = earlier was
-          split (inr new) = now same (and_both (nat_le n (length (frames_to plan.cluster_key b.number (past_at a run)))) (list_any (is_ack b.number n) (came plan.cluster_key d.event d.answer)) new).1
+          split (inr new) = now same (and_sides (nat_le n (length (frames_to plan.cluster_key b.number (past_at a run)))) (list_any (is_ack b.number n) (came plan.cluster_key d.event d.answer)) new).1
 
 pub links_hold : PastsSay → PacketsAreHonest → LinksHold
 links_hold pasts packets = record {

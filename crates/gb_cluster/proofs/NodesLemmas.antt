@@ -9,14 +9,11 @@ use Rattle.gb_types.proofs.SameLemmas.{same_number}
 use Rattle.gb_node.specs.NodeStep.{node_numbered, IsTurn, IsSpelt}
 use Rattle.gb_node.specs.NodeValue.{NodeValue, new_node}
 use Rattle.gb_node.specs.Past.{ComesTo as NodeComesTo}
+use Rattle.gb_node.proofs.TookLemmas.{numbered_is}
 use Rattle.gb_cluster.specs.ClusterValue.{ClusterValue, node_plan, node_at, IsClusterPlan}
 use Rattle.gb_cluster.specs.ClusterStep.{NodeActs}
 use Rattle.gb_cluster.specs.Run.{Did, ComesTo, past_at, NodesHavePasts}
 use Rattle.gb_types.specs.declared.plan.Plan.{Plan}
-
--- a number of a node is that of the node
-pub numbered_is : (a : NodeId) → node_numbered a.number ≡ a
-numbered_is a = let b = a.below in same_number (node_numbered a.number) a (omega arith)
 
 -- what a run leaves as it is
 pub record Stays (plan : Plan) (v : ClusterValue) : Type 0 where

@@ -34,6 +34,7 @@ use Rattle.gb_cluster.specs.ClusterValue.{ClusterValue, node_plan, node_at}
 use Rattle.gb_cluster.specs.Run.{Did, ComesTo, past_at, IsSent}
 use Rattle.gb_cluster.specs.Links.{PacketsAreHonest, LinksHold, NothingIsOutside}
 use Rattle.gb_types.specs.declared.plan.Plan.{Plan}
+use Rattle.gb_types.proofs.BoolLemmas.{and_sides, or_left, refuted_by}
 use Rattle.gb_cluster.proofs.NodesLemmas.{stays, have_pasts}
 use Rattle.gb_cluster.proofs.HonestLemmas.{get_within}
 use Rattle.gb_cluster.proofs.LinkLemmas.{arrives_honestly, one_content}
@@ -101,10 +102,6 @@ undone_near done next n m (f ∷ fs) room low high new =
         above (inr other) = omega (arith, low, other)
     by later false is room = let le : next ≤ n + 63 = grind (arith, nat_tests, room) in omega (arith, le, low)
 
-and_both : (b c : Bool) → (b && c) ≡ true → (b ≡ true) × (c ≡ true)
-and_both true c e = (refl, e)
-and_both false c e = absurd (cc)
-
 -- a frame that is packed keeps them so
 still_recent : (w : SendWindow (List Item)) (fs more : List (List Item)) (done after : ℕ → Bool) → w.next ≡ length fs + 1 → w.undone ≡ filter (λ u. not (done u.0)) (numbered 1 fs) → ((n : ℕ) → after n ≡ false → done n ≡ false) → AreRecent done fs
     → (more ≡ []) ⊎ ((length more ≤ 1) × (has_room w ≡ true)) → AreRecent after (fs ++ more)
@@ -115,7 +112,7 @@ still_recent w fs more done after next undone still was (inl none) =
     record { last = omega (arith, long, empty, few); near = λ n from to new. let l = was.near n from (omega (arith, to, long, empty)) (still n new) in omega (arith, l, long, empty) }
 still_recent w fs more done after next undone still was (inr (one, room)) =
     let long = length-append fs more in
-    let both = and_both (nat_le w.next LAST_FRAME) (is_in_window w.next w.undone) room in
+    let both = and_sides (nat_le w.next LAST_FRAME) (is_in_window w.next w.undone) room in
     let numbered_so : nat_le w.next LAST_FRAME ≡ true = both.0 in
     let few : w.next ≤ LAST_FRAME = grind (arith, nat_tests, numbered_so) in
     let free : is_in_window w.next (filter (λ u. not (done u.0)) (numbered 1 fs)) ≡ true = ap (is_in_window w.next) (sym undone) ∙ both.1 in
@@ -126,10 +123,6 @@ still_recent w fs more done after next undone still was (inr (one, room)) =
         | inr within ↦ let l = undone_near done w.next 1 n fs free from (omega (arith, within)) (still n new) in omega (arith, l, long, one, next)
       ];
     }
-
-or_left : (b c : Bool) → (b || c) ≡ false → b ≡ false
-or_left true c e = absurd (cc)
-or_left false c e = refl
 
 -- so they are at every node
 recent : SendersRun → PastsSay → (plan : NodePlan) (past : List Happened) (v : NodeValue) → NodeComesTo plan past v → (b : NodeId) → AreRecent (λ n. is_acked plan.cluster_key b.number n past) (frames_to plan.cluster_key b.number past)
@@ -170,10 +163,6 @@ inside_fate r n inside e = by (nat_eq n 0) refl e
     by true is e = cc
     by false is e = admitted (grind (arith, nat_tests, is)) (set.contains r n) refl (is_awaited r n) refl e
 
-not_true : (b c : Bool) → (b ≡ true → c ≡ true) → c ≡ false → b ≡ false
-not_true true c so e = absurd (true≢false (sym (so refl) ∙ e))
-not_true false c so e = refl
-
 -- Every packet that is taken.
 module _ (sends : SendersRun) (pasts : PastsSay) (packets : PacketsAreHonest) (links : LinksHold) (plan : Plan) where
   taken_inside : (run : List Did) (before : ClusterValue) (a : NodeId) (bytes : List ℕ) (good : Good) (w : NodeValue) → ComesTo plan run before → a.number < plan.nodes → IsSent before a (Came bytes)
@@ -190,7 +179,7 @@ module _ (sends : SendersRun) (pasts : PastsSay) (packets : PacketsAreHonest) (l
       let r = receiver_from (node_at before a) from.number in
       let n = so.honest.content.frame in
       let unacked : (m : ℕ) → 1 ≤ m → set.contains r m ≡ false → is_acked key a.number m (past_at from run) ≡ false =
-      λ m some lacks. not_true (is_acked key a.number m (past_at from run)) (is_taken key from.number m (past_at a run)) ((links.each plan run before comes from a).acknowledged m some) (sym (was.received from m) ∙ lacks) in
+      λ m some lacks. refuted_by (is_acked key a.number m (past_at from run)) (is_taken key from.number m (past_at a run)) ((links.each plan run before comes from a).acknowledged m some) (sym (was.received from m) ∙ lacks) in
       inside_fate r n
       (λ some lacks. let there = get_within (frames_to key a.number (past_at from run)) (n - 1) so.honest.content.items (so.honest.frame (λ z. absurd (omega (arith, some, z)))) in
       awaited r n (length (frames_to key a.number (past_at from run))) some (omega (arith, there, some)) near.last lacks (λ m low high gone. near.near m low high (unacked m low gone)))

@@ -16,7 +16,7 @@ use Rattle.gb_cluster.specs.Run.{past_at}
 use Rattle.gb_cluster.specs.Links.{PacketsAreHonest, PacketsAreRead}
 use Rattle.gb_cluster.proofs.NodesLemmas.{stays, have_pasts}
 
-read_under : (key bytes : List ℕ) (c : Content) → read key bytes ≡ c ∷ [] → reading key bytes ≡ Ok c
+pub read_under : (key bytes : List ℕ) (c : Content) → read key bytes ≡ c ∷ [] → reading key bytes ≡ Ok c
 read_under key bytes c e = by (reading key bytes) e
   where
     by : (r : Result Content PacketFault) → packet_in r ≡ c ∷ [] → r ≡ Ok c

@@ -4,6 +4,7 @@ use Rattle.std.proofs.lemmas.Bool.Decides.{nat_tests}
 use Rattle.std.proofs.lemmas.List.{length-map, length-set, get_or-map, get_or-replicate, length-replicate}
 use Rattle.std.specs.Ordering.{nat_cmp}
 use Rattle.std.specs.FinSet as fin
+use Rattle.std.proofs.Math.Bool.{and-false}
 use Rattle.gb_types.specs.declared.limits.TheConstants.{NODES, SILENCE_MIN}
 use Rattle.gb_detect.specs.Silence.{Call, Heard, Tick, is_silent, is_noticed}
 use Rattle.gb_detect.specs.Watch.{Watch, start, is_due, due, after_heard, after_tick, replay, StandsFor, AreNoticed, AreNew}
@@ -18,10 +19,6 @@ record IsMade (m n s : ℕ) (calls : List Call) (d : Watch) : Type 0 where
   places : length d.silences ≡ NODES
   counted : (b : ℕ) → b < NODES → get_or d.silences b 0 ≡ min s (ticks_since b calls)
   found : (b : ℕ) → fin.contains d.noticed b ≡ ((nat_lt b n && not (nat_eq b m)) && is_noticed s b calls)
-
-and-false : (b : Bool) → (b && false) ≡ false
-and-false true = refl
-and-false false = refl
 
 at_start : (m n s : ℕ) → 0 < s → IsMade m n s [] (start m n s)
 at_start m n s positive = record {
@@ -134,9 +131,6 @@ stands-due calls d stands =
 
 pub stands-start : (m n s : ℕ) → n ≤ NODES → SILENCE_MIN ≤ s → StandsFor [] (start m n s)
 stands-start m n s small least = record { cluster = small; limit = least; made = refl }
-
-pub stands-heard : (calls : List Call) (d : Watch) (b : ℕ) → StandsFor calls d → StandsFor (Heard b ∷ calls) (after_heard d b)
-stands-heard calls d b stands = record { cluster = stands.cluster; limit = stands.limit; made = ap (λ (x : Watch). after_heard x b) stands.made }
 
 pub stands-tick : (calls : List Call) (d : Watch) → StandsFor calls d → StandsFor (Tick ∷ calls) (after_tick d)
 stands-tick calls d stands = record { cluster = stands.cluster; limit = stands.limit; made = ap (λ (x : Watch). after_tick x) stands.made }

@@ -5,9 +5,11 @@ use Rattle.std.specs.FinSet as set
 use Rattle.std.specs.FinSet.{nat_cmp-IsAntisymmetric}
 use Rattle.std.specs.Cmp.{nat_cmp_total}
 use Rattle.std.proofs.lemmas.Bool.Decides.{nat_tests}
+use Rattle.std.proofs.Math.Bool.{and-false, or-false}
 use Rattle.gb_types.specs.Places.{below}
 use Rattle.gb_types.proofs.InsertedLemmas.{contains-insert}
 use Rattle.gb_types.proofs.PlaceLemmas.{any-below}
+use Rattle.gb_types.proofs.BoolLemmas.{or_swap}
 use Rattle.gb_detect.specs.Watch.{nodes_where, is_due}
 
 same_nodes : (s t : set.FinSet nat_cmp) → ((q : ℕ) → set.contains s q ≡ set.contains t q) → s ≡ t
@@ -21,14 +23,6 @@ unfolding nodes_where
 contains-nodes_where n p q =
     set.contains-retain _ p q (λ x e. ap p (sym (nat_cmp-IsAntisymmetric q x e)))
     ∙ ap (λ b. b && p q) (set.contains-from_list_nat (below n) q ∙ any-below n q)
-
-and-false : (b : Bool) → (b && false) ≡ false
-and-false true = refl
-and-false false = refl
-
-or-false : (b : Bool) → (b || false) ≡ b
-or-false true = refl
-or-false false = refl
 
 or-and : (a b c : Bool) → (a && (b || (a && c))) ≡ ((a && b) || (a && c))
 or-and true b c = refl
@@ -68,15 +62,10 @@ not_more p i q h =
 pub nodes_where-same : (p : ℕ → Bool) (i : ℕ) → p i ≡ false → nodes_where i p ≡ nodes_where (i + 1) p
 nodes_where-same p i h = same_nodes _ _ (λ q. contains-nodes_where i p q ∙ (not_more p i q h ∙ sym (contains-nodes_where (i + 1) p q)))
 
-or-assoc : (a b c : Bool) → (a || (b || c)) ≡ (b || (a || c))
-or-assoc true true c = refl
-or-assoc true false c = refl
-or-assoc false b c = refl
-
 pub insert-union : (s t : set.FinSet nat_cmp) (k : ℕ) → set.insert (set.union s t) k ≡ set.union s (set.insert t k)
 insert-union s t k =
     same_nodes _ _
-    (λ q. contains-insert _ k q ∙ (ap (λ b. nat_eq q k || b) (contains-either s t q) ∙ (or-assoc (nat_eq q k) (set.contains s q) (set.contains t q) ∙ (ap (λ b. set.contains s q || b) (sym (contains-insert t k q)) ∙ sym (contains-either s _ q)))))
+    (λ q. contains-insert _ k q ∙ (ap (λ b. nat_eq q k || b) (contains-either s t q) ∙ (or_swap (nat_eq q k) (set.contains s q) (set.contains t q) ∙ (ap (λ b. set.contains s q || b) (sym (contains-insert t k q)) ∙ sym (contains-either s _ q)))))
 
 pub union-empty : (s : set.FinSet nat_cmp) → set.union s set.empty ≡ s
 union-empty s = same_nodes _ _ (λ q. contains-either s _ q ∙ (ap (λ b. set.contains s q || b) (set.contains-empty nat_cmp q) ∙ or-false _))

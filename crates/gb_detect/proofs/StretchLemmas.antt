@@ -1,9 +1,11 @@
 -- A node is noticed just where it has a silent stretch.
-use Rattle.std.proofs.Common.{◌≡◌, ◌↔◌, ℕ, ◌≤◌, Bool, true, false, ◌||◌, nat_eq, List, [], ◌∷◌, ◌++◌, count_by, refl, ap, ◌∙◌, arith, zero, suc, IsTrue}
+use Rattle.std.proofs.Common.{◌≡◌, ◌↔◌, ℕ, ◌≤◌, true, false, ◌||◌, nat_eq, List, [], ◌∷◌, ◌++◌, count_by, refl, ap, ◌∙◌, arith, zero, suc, IsTrue}
 use Rattle.std.specs.List.{list_any}
 use Rattle.std.proofs.lemmas.Bool.Decides.{nat_tests}
+use Rattle.std.proofs.Math.Bool.{or-true}
 use Rattle.gb_detect.specs.Silence.{Call, Heard, Tick, is_heard, is_tick, is_silent, is_noticed, SilentStretch}
 use Rattle.gb_detect.proofs.TickLemmas.{ticks_since, ticks_since-tick, ticks_since-other, ticks_since-heard, count-cons, silent-noticed}
+use Rattle.gb_types.proofs.BoolLemmas.{or_left, or_right}
 
 -- one more call in front of a stretch that begins the calls
 record Front (s b : ℕ) (calls : List Call) : Type 0 where
@@ -59,14 +61,6 @@ has_stretch s b (call ∷ calls) h =
       | false ↦ λ _ rest. after_more s b call calls (has_stretch s b calls rest)
     ] refl h
 
-or_first : (a b : Bool) → (a || b) ≡ false → a ≡ false
-or_first true b h = h
-or_first false b h = refl
-
-or_second : (a b : Bool) → (a || b) ≡ false → b ≡ false
-or_second true b h = cc
-or_second false b h = h
-
 -- the ticks of a stretch without the node came after it was heard
 stretch_ticks : (b : ℕ) (stretch earlier : List Call) → list_any (is_heard b) stretch ≡ false → count_by is_tick stretch ≤ ticks_since b (stretch ++ earlier)
 stretch_ticks b [] earlier h = omega arith
@@ -76,14 +70,10 @@ stretch_ticks b (Tick ∷ stretch) earlier h =
     let rest = stretch_ticks b stretch earlier h in
     omega (arith, more, count, rest)
 stretch_ticks b (Heard c ∷ stretch) earlier h =
-    let other = ticks_since-other b c (stretch ++ earlier) (or_first (nat_eq c b) _ h) in
+    let other = ticks_since-other b c (stretch ++ earlier) (or_left (nat_eq c b) _ h) in
     let count = count-cons (Heard c) stretch in
-    let rest = stretch_ticks b stretch earlier (or_second (nat_eq c b) _ h) in
+    let rest = stretch_ticks b stretch earlier (or_right (nat_eq c b) _ h) in
     omega (arith, other, count, rest)
-
-or-true : (a : Bool) → (a || true) ≡ true
-or-true true = refl
-or-true false = refl
 
 -- a notice is never taken back
 pub noticed-append : (s b : ℕ) (later calls : List Call) → is_noticed s b calls ≡ true → is_noticed s b (later ++ calls) ≡ true

@@ -11,7 +11,7 @@ use Rattle.gb_types.specs.declared.reply.Reply.{Reply}
 use Rattle.gb_types.specs.declared.reply.Reply.TheVariants.{Done, Said}
 use Rattle.gb_types.specs.declared.spec.Spec.{Spec}
 use Rattle.gb_types.proofs.SameLemmas.{same_number, same_itself}
-use Rattle.gb_layer.specs.Bools.{or_first}
+use Rattle.gb_types.proofs.BoolLemmas.{or_first}
 use Rattle.gb_layer.specs.Lists.{all_weaker, all_append}
 use Rattle.gb_layer.specs.Machine.{was_said}
 use Rattle.gb_fifo.specs.Order.{numbered}

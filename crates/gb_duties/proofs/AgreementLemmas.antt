@@ -9,8 +9,7 @@ use Rattle.gb_types.specs.declared.message.MsgId.{MsgId}
 use Rattle.gb_types.specs.declared.node.NodeId.{NodeId}
 use Rattle.gb_types.specs.declared.spec.Spec.{Spec}
 use Rattle.gb_types.proofs.CoverLemmas.{all_members}
-use Rattle.gb_types.proofs.SameLemmas.{and-first, and-second}
-use Rattle.gb_layer.specs.Bools.{or_first, or_second, and_both}
+use Rattle.gb_types.proofs.BoolLemmas.{and_both, and_left, and_right, both_ways, or_cases, or_first, or_second, refuted}
 use Rattle.gb_layer.specs.Histories.{said_mentioned, came_mentioned}
 use Rattle.gb_layer.specs.Lists.{all_weaker}
 use Rattle.gb_layer.specs.Machine.{mentions, was_said, was_noticed, came_from}
@@ -28,7 +27,7 @@ use Rattle.gb_alone.specs.Laws.{Accepted, accepted}
 use Rattle.gb_alone.specs.declared.event.GroupStep.{GroupStep}
 use Rattle.gb_alone.proofs.IntegrityLemmas.{alone_fits}
 use Rattle.gb_duties.specs.Agreement.{IsRunning, KeepsAgreement, logs_of, IsAgreed}
-use Rattle.gb_duties.proofs.WordLemmas.{or_cases, is_not, refuted, both_ways, Found, found, find, said_came}
+use Rattle.gb_duties.proofs.WordLemmas.{is_not, Found, found, find, said_came}
 use Rattle.gb_duties.proofs.LogLemmas.{logged-is}
 use Rattle.gb_duties.proofs.DutyLemmas.{of_member}
 use Rattle.gb_duties.proofs.FlowLemmas.{Flow, IsSound, Taking, nobody_flows, run_flows, legal_parts, run_takes, first_taking}
@@ -73,7 +72,7 @@ module _ (runs : ℕ → Bool) (spec : Spec) (group : Group) (calm : Calm runs s
       go : (t : Bool) → nat_eq a b ≡ t → holds b (calls_of (group b).told) a m ≡ true
       go true is =
           let same_node = eqb-true a b is in
-          let known : mentions (calls_of (group b).told) m ≡ true = subst (λ z. mentions (calls_of (group z).told) m ≡ true) same_node (and-first (mentions (calls_of (group a).told) m) _ out) in
+          let known : mentions (calls_of (group b).told) m ≡ true = subst (λ z. mentions (calls_of (group z).told) m ≡ true) same_node (and_left (mentions (calls_of (group a).told) m) _ out) in
           or_second (came_from b (calls_of (group b).told) a m) (nat_eq b a && mentions (calls_of (group b).told) m) (and_both (eq-eqb b a (sym same_node)) known)
       go false other = or_first (came_from b (calls_of (group b).told) a m) (nat_eq b a && mentions (calls_of (group b).told) m) (sends a b m run_a run_b other out)
 
@@ -83,7 +82,7 @@ module _ (runs : ℕ → Bool) (spec : Spec) (group : Group) (calm : Calm runs s
     where
       go : ((came_from b (calls_of (group b).told) a m ≡ true) ⊎ ((nat_eq b a && mentions (calls_of (group b).told) m) ≡ true)) → mentions (calls_of (group b).told) m ≡ true
       go (inl from) = came_mentioned b (calls_of (group b).told) a m from
-      go (inr own) = and-second (nat_eq b a) (mentions (calls_of (group b).told) m) own
+      go (inr own) = and_right (nat_eq b a) (mentions (calls_of (group b).told) m) own
 
   -- what is known and to be broadcast is broadcast, what is known and to be delivered is delivered
   out_is : (a : ℕ) (m : MsgId) (k : BroadcastModule) → module_of spec.kind ≡ k → mentions (calls_of (group a).told) m ≡ true → is_broadcast k a (calls_of (group a).told) m ≡ true → now_broadcast (module_of spec.kind) a (calls_of (group a).told) m ≡ true
@@ -133,11 +132,11 @@ module _ (runs : ℕ → Bool) (spec : Spec) (group : Group) (calm : Calm runs s
   uniform_up b c m kind in_b run_c up = up_is c m AllAck kind (all c run_c) (all_due c m kind run_c all)
     where
       due : is_delivered AllAck b (set.items spec.members) (calls_of (group b).told) m ≡ true
-      due = ap (λ k. is_delivered k b (set.items spec.members) (calls_of (group b).told) m) (sym kind) ∙ and-second (mentions (calls_of (group b).told) m) _ up
+      due = ap (λ k. is_delivered k b (set.items spec.members) (calls_of (group b).told) m) (sym kind) ∙ and_right (mentions (calls_of (group b).told) m) _ up
 
       had : (p : ℕ) → ((came_from b (calls_of (group b).told) p m ≡ true) ⊎ ((nat_eq b p && mentions (calls_of (group b).told) m) ≡ true)) → mentions (calls_of (group p).told) m ≡ true
       had p (inl from) = (calm.flow.fits b).from_known p m from
-      had p (inr own) = subst (λ z. mentions (calls_of (group z).told) m ≡ true) (eqb-true b p (and-first (nat_eq b p) _ own)) (and-second (nat_eq b p) _ own)
+      had p (inr own) = subst (λ z. mentions (calls_of (group z).told) m ≡ true) (eqb-true b p (and_left (nat_eq b p) _ own)) (and_right (nat_eq b p) _ own)
 
       all : (p : ℕ) → IsRunning runs spec p → mentions (calls_of (group p).told) m ≡ true
       all p run_p = go (or_cases (was_noticed (calls_of (group b).told) p) (holds b (calls_of (group b).told) p m) (of_member (λ q. was_noticed (calls_of (group b).told) q || holds b (calls_of (group b).told) q m) spec p due run_p.0))
@@ -150,12 +149,12 @@ module _ (runs : ℕ → Bool) (spec : Spec) (group : Group) (calm : Calm runs s
   up_more : (b c : ℕ) (m : MsgId) → IsRunning runs spec b → IsRunning runs spec c → now_delivered (module_of spec.kind) b (set.items spec.members) (calls_of (group b).told) m ≡ true → (k : BroadcastModule) → module_of spec.kind ≡ k → k ≢ BestEffort
       → now_delivered (module_of spec.kind) c (set.items spec.members) (calls_of (group c).told) m ≡ true
   up_more b c m run_b run_c up BestEffort kind reliable = absurd (reliable refl)
-  up_more b c m run_b run_c up Eager kind reliable = up_is c m Eager kind (held_known b c m (reaches b c m run_b run_c (out_is b m Eager kind (and-first (mentions (calls_of (group b).told) m) _ up) refl))) refl
+  up_more b c m run_b run_c up Eager kind reliable = up_is c m Eager kind (held_known b c m (reaches b c m run_b run_c (out_is b m Eager kind (and_left (mentions (calls_of (group b).told) m) _ up) refl))) refl
   up_more b c m run_b run_c up AllAck kind reliable = uniform_up b c m kind run_b.0 run_c up
   up_more b c m run_b run_c up Lazy kind reliable = up_is c m Lazy kind (by (runs m.origin.number) refl) refl
     where
       known : mentions (calls_of (group b).told) m ≡ true
-      known = and-first (mentions (calls_of (group b).told) m) _ up
+      known = and_left (mentions (calls_of (group b).told) m) _ up
 
       in_o : is_member spec m.origin.number ≡ true
       in_o = ((calm.flow.fits b).fair spec (calm.taking.made b run_b.0) m known).member

@@ -8,7 +8,7 @@ use Rattle.gb_types.specs.Message.{same}
 use Rattle.gb_types.specs.declared.entry.Entry.{Entry}
 use Rattle.gb_types.specs.declared.message.MsgId.{MsgId}
 use Rattle.gb_types.proofs.SameLemmas.{same-true, same_itself}
-use Rattle.gb_layer.specs.Bools.{or_first, or_second, or_left, or_right}
+use Rattle.gb_types.proofs.BoolLemmas.{or_first, or_left, or_right, or_second, refuted}
 use Rattle.gb_history.specs.History.{known}
 use Rattle.gb_history.specs.Messages.{has, with_new, bytes_of}
 use Rattle.gb_history.specs.declared.call.GroupCall.{GroupCall}
@@ -16,7 +16,7 @@ use Rattle.gb_history.specs.declared.call.GroupCall.TheVariants.{Own, Other, Cra
 use Rattle.gb_history.proofs.MentionLemmas.{has-append}
 use Rattle.gb_alone.specs.Laws.{Accepted, IsAccepted}
 use Rattle.gb_alone.proofs.KnownLemmas.{all_at}
-use Rattle.gb_duties.proofs.WordLemmas.{refuted, Found, found, find}
+use Rattle.gb_duties.proofs.WordLemmas.{Found, found, find}
 
 -- the entry stands in the list
 abbrev pub In : Entry → List Entry → Type 0

@@ -7,8 +7,7 @@ use Rattle.std.proofs.lemmas.Bool.{eqb-true, eq-eqb, cases_Bool}
 use Rattle.gb_types.specs.declared.message.MsgId.{MsgId}
 use Rattle.gb_types.specs.declared.spec.Spec.{Spec}
 use Rattle.gb_types.proofs.CoverLemmas.{not_all_members}
-use Rattle.gb_types.proofs.SameLemmas.{and-first, and-second}
-use Rattle.gb_layer.specs.Bools.{or_first, or_second, and_both}
+use Rattle.gb_types.proofs.BoolLemmas.{and_both, and_left, and_right, or_cases, or_first, or_second}
 use Rattle.gb_layer.specs.Machine.{mentions, was_noticed, came_from}
 use Rattle.gb_layer.specs.Modules.{holds, now_delivered, now_broadcast}
 use Rattle.gb_layer.specs.declared.broadcast_module.BroadcastModule.{BroadcastModule}
@@ -24,7 +23,6 @@ use Rattle.gb_alone.specs.Alone.{Member, Group, alone, held_spec, log_at}
 use Rattle.gb_alone.specs.declared.event.GroupStep.{GroupStep}
 use Rattle.gb_history.specs.Messages.{has}
 use Rattle.gb_duties.specs.Duties.{IsPutOut, HasHad, Duty, KeepsDuties, noticed_at, delivered_at, logged_at, IsDutiful}
-use Rattle.gb_duties.proofs.WordLemmas.{or_cases}
 use Rattle.gb_duties.proofs.ReplyLemmas.{held_made}
 use Rattle.gb_duties.proofs.InvariantLemmas.{FitsAt}
 use Rattle.gb_duties.proofs.LogLemmas.{in_log, logged-is, kind_delivered}
@@ -48,21 +46,21 @@ module _ (calls : ℕ → List Call) (b : ℕ) (member : Member) (spec : Spec) (
 
   duty : (had : ℕ → MsgId → Type 0) → (mentions (calls c) m ≡ true → had c m) → (calls b ≡ calls_of member.told) → (base : BroadcastModule) → module_of spec.kind ≡ base
       → now_delivered base b (set.items spec.members) (calls_of member.told) m ≡ true → Duty base (noticed_at member) member.put had b c m
-  duty had here is BestEffort kind up = λ own. put_out BestEffort kind (and_both (and-first (mentions (calls_of member.told) m) _ up) (eq-eqb m.origin.number b own))
-  duty had here is Lazy kind up = λ why. put_out Lazy kind (and_both (and-first (mentions (calls_of member.told) m) _ up) (relayed why))
+  duty had here is BestEffort kind up = λ own. put_out BestEffort kind (and_both (and_left (mentions (calls_of member.told) m) _ up) (eq-eqb m.origin.number b own))
+  duty had here is Lazy kind up = λ why. put_out Lazy kind (and_both (and_left (mentions (calls_of member.told) m) _ up) (relayed why))
     where
       relayed : ((m.origin.number ≡ b) ⊎ (was_noticed (calls_of member.told) m.origin.number ≡ true)) → (nat_eq m.origin.number b || was_noticed (calls_of member.told) m.origin.number) ≡ true
       relayed (inl own) = or_first (nat_eq m.origin.number b) _ (eq-eqb m.origin.number b own)
       relayed (inr noticed) = or_second (nat_eq m.origin.number b) _ noticed
-  duty had here is Eager kind up = put_out Eager kind (and_both (and-first (mentions (calls_of member.told) m) _ up) refl)
+  duty had here is Eager kind up = put_out Eager kind (and_both (and_left (mentions (calls_of member.told) m) _ up) refl)
   duty had here is AllAck kind up = told (or_cases (was_noticed (calls_of member.told) c) (holds b (calls_of member.told) c m) each)
     where
       each : (was_noticed (calls_of member.told) c || holds b (calls_of member.told) c m) ≡ true
-      each = of_member (λ p. was_noticed (calls_of member.told) p || holds b (calls_of member.told) p m) spec c (and-second (mentions (calls_of member.told) m) _ up) (and-first (is_member spec c) _ other)
+      each = of_member (λ p. was_noticed (calls_of member.told) p || holds b (calls_of member.told) p m) spec c (and_right (mentions (calls_of member.told) m) _ up) (and_left (is_member spec c) _ other)
 
       known : ((came_from b (calls_of member.told) c m ≡ true) ⊎ ((nat_eq b c && mentions (calls_of member.told) m) ≡ true)) → mentions (calls c) m ≡ true
       known (inl from) = fits.from_known c m from
-      known (inr own) = ap (λ n. mentions (calls n) m) (sym (eqb-true b c (and-first (nat_eq b c) _ own))) ∙ (ap (λ cs. mentions cs m) is ∙ and-second (nat_eq b c) _ own)
+      known (inr own) = ap (λ n. mentions (calls n) m) (sym (eqb-true b c (and_left (nat_eq b c) _ own))) ∙ (ap (λ cs. mentions cs m) is ∙ and_right (nat_eq b c) _ own)
 
       told : ((was_noticed (calls_of member.told) c ≡ true) ⊎ (holds b (calls_of member.told) c m ≡ true)) → (was_noticed (calls_of member.told) c ≡ true) ⊎ had c m
       told (inl noticed) = inl noticed
@@ -89,7 +87,7 @@ module _ (has_delivered : ModuleLogHasDelivered) (nodes number : ℕ) (steps : L
   pub delivered_origin : (alone nodes number steps b).spec ≡ Some spec → (m : MsgId) → delivered_at spec b (alone nodes number steps b) m ≡ true → is_member spec m.origin.number ≡ true
   delivered_origin made m h =
       let up = sym (in_log has_delivered (module_of spec.kind) b (set.items spec.members) (calls_of (alone nodes number steps b).told) m) ∙ h in
-      ((alone_fits nodes number steps b).fair spec made m (and-first (mentions (calls_of (alone nodes number steps b).told) m) _ up)).member
+      ((alone_fits nodes number steps b).fair spec made m (and_left (mentions (calls_of (alone nodes number steps b).told) m) _ up)).member
 
   -- what stands in a log is delivered, and the group was not dropped there
   pub logged_here : ((D : List MsgId) → AllIn D (in_order D)) → (alone nodes number steps b).spec ≡ Some spec → (m : MsgId) → logged_at b (alone nodes number steps b) m ≡ true

@@ -13,8 +13,7 @@ use Rattle.gb_types.specs.declared.node.NodeId.{NodeId}
 use Rattle.gb_types.specs.declared.reply.Reply.TheVariants.{Done, Said}
 use Rattle.gb_types.specs.declared.spec.Spec.{Spec}
 use Rattle.gb_types.proofs.CoverLemmas.{all_members, not_all_members}
-use Rattle.gb_types.proofs.SameLemmas.{and-first, and-second}
-use Rattle.gb_layer.specs.Bools.{and_both}
+use Rattle.gb_types.proofs.BoolLemmas.{and_both, and_left, and_right, both_ways, or_cases}
 use Rattle.gb_layer.specs.Machine.{mentions, was_noticed}
 use Rattle.gb_rules.specs.Group.{is_other}
 use Rattle.gb_rules.specs.declared.phase.Phase.TheVariants.{Opened}
@@ -27,7 +26,7 @@ use Rattle.gb_alone.specs.declared.event.GroupEvent.TheVariants.{Tenant, Make, O
 use Rattle.gb_alone.specs.declared.event.GroupStep.{GroupStep}
 use Rattle.gb_duties.specs.Duties.{HasHad, noticed_at}
 use Rattle.gb_duties.specs.Examples.{first, second, third, message, members, spec_of, at, opened_at, opened, to_one, to_all, dropped, log_in, put_in}
-use Rattle.gb_duties.proofs.WordLemmas.{or_cases, both_ways, eq_self}
+use Rattle.gb_duties.proofs.WordLemmas.{eq_self}
 
 pub in_0 : set.contains members 0 ≡ true
 in_0 = set.contains-from_list_nat (0 ∷ 1 ∷ 2 ∷ []) 0
@@ -80,9 +79,9 @@ all_of p = both_ways (list_all p (set.items members)) (p 0 && (p 1 && p 2)) down
     up e = all_members p members (λ q is. by q (member q is))
       where
         by : (q : ℕ) → One q → p q ≡ true
-        by q (is_0 is) = ap p is ∙ and-first (p 0) (p 1 && p 2) e
-        by q (is_1 is) = ap p is ∙ and-first (p 1) (p 2) (and-second (p 0) (p 1 && p 2) e)
-        by q (is_2 is) = ap p is ∙ and-second (p 1) (p 2) (and-second (p 0) (p 1 && p 2) e)
+        by q (is_0 is) = ap p is ∙ and_left (p 0) (p 1 && p 2) e
+        by q (is_1 is) = ap p is ∙ and_left (p 1) (p 2) (and_right (p 0) (p 1 && p 2) e)
+        by q (is_2 is) = ap p is ∙ and_right (p 1) (p 2) (and_right (p 0) (p 1 && p 2) e)
 
 -- The group, event by event.
 
@@ -128,9 +127,6 @@ all_open kind =
     ap (λ (h : Group). alone_from 3 0 h (opened_at kind second ++ opened_at kind third)) (node_opens kind nobody first in_0 refl)
     ∙ (ap (λ (h : Group). alone_from 3 0 h (opened_at kind third)) (node_opens kind (with_at nobody 0 (ready kind)) second in_1 refl)
     ∙ node_opens kind (with_at (with_at nobody 0 (ready kind)) 1 (ready kind)) third in_2 refl)
-
-pub from_open : (kind : Kind) (steps : List GroupStep) → alone 3 0 (opened kind ++ steps) ≡ alone_from 3 0 (group_open kind) steps
-from_open kind steps = fold-append (after 3 0) nobody (opened kind) steps ∙ ap (λ (h : Group). alone_from 3 0 h steps) (all_open kind)
 
 -- node 0 says the message
 abbrev pub zero_said : Kind → Member

@@ -11,7 +11,7 @@ use Rattle.gb_types.specs.declared.reply.Reply.{Reply}
 use Rattle.gb_types.specs.declared.reply.Reply.TheVariants.{Done, Said}
 use Rattle.gb_types.specs.declared.spec.Spec.{Spec}
 use Rattle.gb_types.proofs.SameLemmas.{same_itself}
-use Rattle.gb_layer.specs.Bools.{or_first, and_both}
+use Rattle.gb_types.proofs.BoolLemmas.{and_both, or_cases, or_first}
 use Rattle.gb_layer.specs.Histories.{said_mentioned}
 use Rattle.gb_layer.specs.Machine.{mentions, was_said, came_from}
 use Rattle.gb_rules.specs.Group.{is_gone, is_member, is_other}
@@ -28,7 +28,7 @@ use Rattle.gb_alone.specs.Alone.{Member, Group, held_spec, reply_to, called, did
 use Rattle.gb_alone.specs.declared.event.GroupEvent.{GroupEvent}
 use Rattle.gb_alone.specs.declared.event.GroupEvent.TheVariants.{Tenant, Make as AskMake, Open as AskOpen, Shut as AskShut, Drop as AskDrop, Say as AskSay, Took, Came, Done as Acknowledged, Notice, Stop}
 use Rattle.gb_alone.specs.declared.event.GroupStep.{GroupStep}
-use Rattle.gb_duties.proofs.WordLemmas.{or_cases, has-get}
+use Rattle.gb_duties.proofs.WordLemmas.{has-get}
 use Rattle.gb_duties.proofs.ReplyLemmas.{IsFair, fall_why}
 use Rattle.gb_duties.proofs.StepLemmas.{calls_in, AllFit, step_fits, nobody_fits}
 use Rattle.gb_duties.proofs.MoveLemmas.{Bounded, Goes, event_moves}

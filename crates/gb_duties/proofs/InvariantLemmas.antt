@@ -7,8 +7,8 @@ use Rattle.gb_types.specs.Message.{same}
 use Rattle.gb_types.specs.declared.entry.Entry.{Entry}
 use Rattle.gb_types.specs.declared.message.MsgId.{MsgId}
 use Rattle.gb_types.specs.declared.spec.Spec.{Spec}
-use Rattle.gb_types.proofs.SameLemmas.{and-first, and-second, same-true, same_itself}
-use Rattle.gb_layer.specs.Bools.{or_first, or_second, and_both}
+use Rattle.gb_types.proofs.SameLemmas.{same-true, same_itself}
+use Rattle.gb_types.proofs.BoolLemmas.{and_both, and_left, and_right, or_cases, or_first, or_second}
 use Rattle.gb_layer.specs.Histories.{mentions_stays}
 use Rattle.gb_layer.specs.Machine.{mentions, was_said, was_noticed, came_from}
 use Rattle.gb_layer.specs.Modules.{now_broadcast}
@@ -21,7 +21,7 @@ use Rattle.gb_history.specs.declared.call.GroupCall.{GroupCall}
 use Rattle.gb_history.specs.declared.call.GroupCall.TheVariants.{Own, Other, Crashed}
 use Rattle.gb_history.proofs.MentionLemmas.{has-known}
 use Rattle.gb_alone.specs.Alone.{Member, put_to}
-use Rattle.gb_duties.proofs.WordLemmas.{or_cases, is_not, has-append, has-entries, in_newly}
+use Rattle.gb_duties.proofs.WordLemmas.{is_not, has-append, has-entries, in_newly}
 use Rattle.gb_duties.proofs.ReplyLemmas.{IsFair}
 use Rattle.gb_duties.proofs.BytesLemmas.{bytes_of-append}
 
@@ -118,15 +118,15 @@ module _ (calls : ℕ → List Call) (a : ℕ) (spec : Spec) (told : List GroupC
     where
       go : (((nat_eq a p && same (message_of x) m) ≡ true) ⊎ (came_from a (calls_of told) p m ≡ true)) → mentions (calls p) m ≡ true
       go (inl is) =
-          ap (λ n. mentions (calls n) m) (sym (eqb-true a p (and-first (nat_eq a p) (same (message_of x) m) is)))
-          ∙ (ap (λ cs. mentions cs m) grown ∙ or_first (same (message_of x) m) (mentions (calls_of told) m) (and-second (nat_eq a p) (same (message_of x) m) is))
+          ap (λ n. mentions (calls n) m) (sym (eqb-true a p (and_left (nat_eq a p) (same (message_of x) m) is)))
+          ∙ (ap (λ cs. mentions cs m) grown ∙ or_first (same (message_of x) m) (mentions (calls_of told) m) (and_right (nat_eq a p) (same (message_of x) m) is))
       go (inr old) = from p m old
   from_called (Other q x) brings grown from p m h = go (or_cases (nat_eq q.number p && same (message_of x) m) (came_from a (calls_of told) p m) h)
     where
       go : (((nat_eq q.number p && same (message_of x) m) ≡ true) ⊎ (came_from a (calls_of told) p m ≡ true)) → mentions (calls p) m ≡ true
       go (inl is) =
-          ap (λ n. mentions (calls n) m) (sym (eqb-true q.number p (and-first (nat_eq q.number p) (same (message_of x) m) is)))
-          ∙ subst (λ (k : MsgId). mentions (calls q.number) k ≡ true) (same-true (message_of x) m (and-second (nat_eq q.number p) (same (message_of x) m) is)) brings.2
+          ap (λ n. mentions (calls n) m) (sym (eqb-true q.number p (and_left (nat_eq q.number p) (same (message_of x) m) is)))
+          ∙ subst (λ (k : MsgId). mentions (calls q.number) k ≡ true) (same-true (message_of x) m (and_right (nat_eq q.number p) (same (message_of x) m) is)) brings.2
       go (inr old) = from p m old
   from_called (Crashed q) brings grown from p m h = from p m h
 
@@ -149,7 +149,7 @@ module _ (calls : ℕ → List Call) (a : ℕ) (spec : Spec) (told : List GroupC
   said_few_called (Own x) brings few m h = go (or_cases (same (message_of x) m) (was_said (calls_of told) m) h)
     where
       go : ((same (message_of x) m ≡ true) ⊎ (was_said (calls_of told) m ≡ true)) → m.seq ≤ said_in told + 1
-      go (inl is) = let number = eqb-true x.seq m.seq (and-second (nat_eq x.origin.number m.origin.number) (nat_eq x.seq m.seq) is) in let e = brings.1 in omega (arith, number, e)
+      go (inl is) = let number = eqb-true x.seq m.seq (and_right (nat_eq x.origin.number m.origin.number) (nat_eq x.seq m.seq) is) in let e = brings.1 in omega (arith, number, e)
       go (inr old) = let lt = few m old in omega (arith, lt)
   said_few_called (Other p x) brings few m h = few m h
   said_few_called (Crashed q) brings few m h = few m h
@@ -209,7 +209,7 @@ fits_called calls a gone c spec told put brings grown before old put_known owes 
       where
         go : ((has (put b) m ≡ true) ⊎ (has (puts_of spec a c told) m ≡ true)) → mentions (call_of c ∷ calls_of told) m ≡ true
         go (inl old) = mentions_stays (call_of c) (calls_of told) m (put_known b m old)
-        go (inr new) = and-second _ (mentions (call_of c ∷ calls_of told) m) (sym (has-puts spec a c told m) ∙ new)
+        go (inr new) = and_right _ (mentions (call_of c ∷ calls_of told) m) (sym (has-puts spec a c told m) ∙ new)
     put_sound b false m h = mentions_stays (call_of c) (calls_of told) m (put_known b m h)
 
     joined : gone ≡ false → (b : ℕ) (m : MsgId) → is_other spec a b ≡ true → was_noticed (call_of c ∷ calls_of told) b ≡ false → now_broadcast (module_of spec.kind) a (call_of c ∷ calls_of told) m ≡ true → has (put b ++ puts_of spec a c told) m ≡ true
@@ -218,7 +218,7 @@ fits_called calls a gone c spec told put brings grown before old put_known owes 
         go : ((now_broadcast (module_of spec.kind) a (calls_of told) m ≡ true) ⊎ (now_broadcast (module_of spec.kind) a (calls_of told) m ≡ false)) → (has (put b) m || has (puts_of spec a c told) m) ≡ true
         go (inl old) = or_first (has (put b) m) (has (puts_of spec a c told) m) (owes here b other unnoticed m old)
         go (inr new) = or_second (has (put b) m) (has (puts_of spec a c told) m)
-            (has-puts spec a c told m ∙ and_both (and_both out (is_not (now_broadcast (module_of spec.kind) a (calls_of told) m) new)) (and-first (mentions (call_of c ∷ calls_of told) m) _ out))
+            (has-puts spec a c told m ∙ and_both (and_both out (is_not (now_broadcast (module_of spec.kind) a (calls_of told) m) new)) (and_left (mentions (call_of c ∷ calls_of told) m) _ out))
 
     owed : gone ≡ false → (b : ℕ) → is_other spec a b ≡ true → was_noticed (call_of c ∷ calls_of told) b ≡ false → (m : MsgId) → now_broadcast (module_of spec.kind) a (call_of c ∷ calls_of told) m ≡ true → has (put_to a (Some spec) c told put b) m ≡ true
     owed here b other unnoticed m out =

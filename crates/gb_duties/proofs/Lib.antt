@@ -10,7 +10,6 @@ pub mod FlowLemmas
 mod AcceptedLemmas
 mod OrderLemmas
 pub mod NoticeLemmas
-pub mod DropLemmas
 pub mod SeenLemmas
 pub mod AgreementLemmas
 mod ExampleLemmas

@@ -1,12 +1,11 @@
 -- Which messages stand in a log, by what is delivered.
-use Rattle.std.proofs.Common.{◌≡◌, ℕ, Bool, true, false, cond, ◌||◌, ◌⊎◌, inl, inr, List, [], ◌∷◌, Option, Some, refl, ap, ◌∙◌, subst}
+use Rattle.std.proofs.Common.{◌≡◌, ℕ, Bool, true, false, cond, ◌||◌, ◌⊎◌, List, [], ◌∷◌, Option, Some, refl, ap, ◌∙◌}
 use Rattle.std.specs.Prelude.{filter, if◌then◌else◌}
 use Rattle.std.specs.FinSet as set
-use Rattle.std.specs.List.{list_any, AllByRecursion}
+use Rattle.std.specs.List.{list_any}
 use Rattle.gb_types.specs.Message.{same}
 use Rattle.gb_types.specs.declared.message.MsgId.{MsgId}
 use Rattle.gb_types.specs.declared.spec.Spec.{Spec}
-use Rattle.gb_types.proofs.SameLemmas.{same-true}
 use Rattle.gb_layer.specs.Modules.{now_delivered, log}
 use Rattle.gb_layer.specs.declared.broadcast_module.BroadcastModule.{BroadcastModule}
 use Rattle.gb_layer.specs.declared.call.Call.{Call}
@@ -14,11 +13,12 @@ use Rattle.gb_fifo.specs.Order.{is_in, in_order}
 use Rattle.gb_fifo.specs.OrderLaws.{AllIn}
 use Rattle.gb_stack.specs.Kinds.{module_of, is_fifo, kind_log}
 use Rattle.gb_stack.specs.LogLaws.{ModuleLogHasDelivered}
+use Rattle.gb_stack.proofs.DeliveryLemmas.{holds_of}
 use Rattle.gb_history.specs.History.{calls_of, known, delivered}
 use Rattle.gb_history.specs.Messages.{has}
 use Rattle.gb_history.specs.declared.call.GroupCall.{GroupCall}
 use Rattle.gb_alone.specs.Alone.{log_at}
-use Rattle.gb_duties.proofs.WordLemmas.{or_cases, has-entries}
+use Rattle.gb_duties.proofs.WordLemmas.{has-entries}
 
 -- what a filter leaves is what a test finds
 left_is : (p : MsgId → Bool) (xs : List MsgId) (m : MsgId) (b : Bool) → filter p xs ≡ (if b then m ∷ [] else []) → list_any p xs ≡ b
@@ -30,15 +30,6 @@ left_is p (x ∷ xs) m b h = go (p x) b (left_is p xs m b) h
     go true true rest h = refl
     go true false rest h = absurd (cc)
     go false b rest h = rest h
-
--- what holds of all messages of a list holds of one
-pub one_of : (P : MsgId → Type 0) (xs : List MsgId) → AllByRecursion P xs → (m : MsgId) → is_in xs m ≡ true → P m
-one_of P [] all m h = absurd (cc)
-one_of P (x ∷ xs) all m h = go (one_of P xs all.1 m) (or_cases (same x m) (is_in xs m) h)
-  where
-    go : (is_in xs m ≡ true → P m) → ((same x m ≡ true) ⊎ (is_in xs m ≡ true)) → P m
-    go rest (inl is) = subst P (same-true x m is) all.0
-    go rest (inr later) = rest later
 
 -- what stands in the log of a node is in the log of its kind
 pub logged-is : (me : ℕ) (o : Option Spec) (spec : Spec) (told : List GroupCall) (m : MsgId) → o ≡ Some spec → has (log_at me o told) m ≡ is_in (kind_log spec.kind me (set.items spec.members) (calls_of told)) m
@@ -58,5 +49,5 @@ kind_delivered within spec me past m = go (is_fifo spec.kind)
     plain = log (module_of spec.kind) me (set.items spec.members) past
 
     go : (b : Bool) → is_in (if b then in_order plain else plain) m ≡ true → is_in plain m ≡ true
-    go true h = one_of (λ x. is_in plain x ≡ true) (in_order plain) (within plain) m h
+    go true h = holds_of (λ x. is_in plain x ≡ true) (in_order plain) (within plain) m h
     go false h = h

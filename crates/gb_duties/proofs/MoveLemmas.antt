@@ -17,8 +17,8 @@ use Rattle.gb_history.specs.declared.call.GroupCall.TheVariants.{Own, Other, Cra
 use Rattle.gb_alone.specs.Alone.{Member, Group, held_spec, reply_to, put_to, called, did, falls, item_came, taken_in, cut, took_notice, member_after, MayHappen}
 use Rattle.gb_alone.specs.declared.event.GroupEvent.{GroupEvent}
 use Rattle.gb_alone.specs.declared.event.GroupEvent.TheVariants.{Tenant, Make as AskMake, Open as AskOpen, Shut as AskShut, Drop as AskDrop, Say as AskSay, Took, Came, Done as Acknowledged, Notice, Stop}
-use Rattle.gb_duties.proofs.WordLemmas.{came_stays}
 use Rattle.gb_duties.proofs.ReplyLemmas.{open_accepts, shut_accepts, make_accepts}
+use Rattle.gb_stack.proofs.DeliveryLemmas.{came_stays}
 
 -- no more is carried than was put out
 abbrev pub Bounded : Member → Type 0

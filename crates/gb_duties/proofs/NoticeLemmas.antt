@@ -7,7 +7,7 @@ use Rattle.gb_types.specs.declared.node.NodeId.{NodeId}
 use Rattle.gb_types.specs.declared.reply.Reply.{Reply}
 use Rattle.gb_types.specs.declared.reply.Reply.TheVariants.{Done, Said}
 use Rattle.gb_types.specs.declared.spec.Spec.{Spec}
-use Rattle.gb_layer.specs.Bools.{or_first, or_second}
+use Rattle.gb_types.proofs.BoolLemmas.{or_cases, or_first, or_second}
 use Rattle.gb_layer.specs.Machine.{was_noticed}
 use Rattle.gb_rules.specs.Group.{is_gone, is_other}
 use Rattle.gb_history.specs.History.{calls_of}
@@ -16,7 +16,6 @@ use Rattle.gb_alone.specs.Alone.{Member, Group, held_spec, reply_to, called, did
 use Rattle.gb_alone.specs.declared.event.GroupEvent.{GroupEvent}
 use Rattle.gb_alone.specs.declared.event.GroupEvent.TheVariants.{Tenant, Make as AskMake, Open as AskOpen, Shut as AskShut, Drop as AskDrop, Say as AskSay, Took, Came, Done as Acknowledged, Notice, Stop}
 use Rattle.gb_alone.specs.declared.event.GroupStep.{GroupStep}
-use Rattle.gb_duties.proofs.WordLemmas.{or_cases}
 use Rattle.gb_duties.proofs.ReplyLemmas.{open_accepts, shut_accepts, make_accepts}
 
 pub record Marked (a : ℕ) (m : Member) : Type 0 where

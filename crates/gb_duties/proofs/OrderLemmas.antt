@@ -7,13 +7,12 @@ use Rattle.std.proofs.lemmas.Bool.{eqb-true, eq-eqb, cases_lt}
 use Rattle.gb_types.specs.declared.message.MsgId.{MsgId}
 use Rattle.gb_types.specs.declared.node.NodeId.{NodeId}
 use Rattle.gb_types.specs.declared.spec.Spec.{Spec}
-use Rattle.gb_layer.specs.Bools.{or_first, or_second}
+use Rattle.gb_types.proofs.BoolLemmas.{or_cases, or_first, or_second}
 use Rattle.gb_layer.specs.Modules.{now_delivered, log}
 use Rattle.gb_layer.specs.declared.call.Call.{Call}
 use Rattle.gb_fifo.specs.Order.{is_in, numbered, upto, top, numbers_of, in_order}
 use Rattle.gb_stack.specs.Kinds.{module_of, is_fifo, kind_log}
 use Rattle.gb_stack.specs.LogLaws.{ModuleLogHasDelivered}
-use Rattle.gb_duties.proofs.WordLemmas.{or_cases}
 use Rattle.gb_duties.proofs.LogLemmas.{in_log}
 
 range_has : (j a n : ℕ) → a ≤ j → j < a + n → list_any (λ k. nat_eq k j) (range_with_len a n) ≡ true

@@ -11,7 +11,7 @@ use Rattle.gb_types.specs.declared.refusal.Refusal.TheVariants.{NoGroup, Spent, 
 use Rattle.gb_types.specs.declared.reply.Reply.{Reply}
 use Rattle.gb_types.specs.declared.reply.Reply.TheVariants.{Done, Said, Refused}
 use Rattle.gb_types.specs.declared.spec.Spec.{Spec}
-use Rattle.gb_layer.specs.Bools.{or_left, or_right}
+use Rattle.gb_types.proofs.BoolLemmas.{not_false, or_left, or_right}
 use Rattle.gb_history.specs.History.{said_in, bytes_in, log_of}
 use Rattle.gb_rules.specs.Group.{Shown, is_gone, open_answer, shut_answer, say_answer, is_member, on_made}
 use Rattle.gb_rules.specs.LetFall.{is_let_fall}
@@ -21,10 +21,6 @@ use Rattle.gb_rules.specs.declared.phase.Phase.TheVariants.{Made, Opened, Shut, 
 use Rattle.gb_rules.specs.declared.reserve.Reserve.{Reserve}
 use Rattle.gb_alone.specs.Alone.{Member, held_spec, reply_to, on_group, usage_of, shown_in, shown_of}
 use Rattle.gb_alone.specs.declared.event.GroupEvent.TheVariants.{Make as AskMake, Open as AskOpen, Shut as AskShut, Say as AskSay}
-
-no_true : (b : Bool) → not b ≡ false → b ≡ true
-no_true true h = refl
-no_true false h = cc
 
 -- a group that is held was made and not dropped
 pub held_made : (phase : Phase) (o : Option Spec) (spec : Spec) → held_spec phase o ≡ Some spec → (is_gone phase ≡ false) × (o ≡ Some spec)
@@ -118,7 +114,7 @@ make_accepts nodes number me spec m = running m.stopped
     admitted false true c d new good h = absurd (cc)
     admitted false false true d new good h = absurd (cc)
     admitted false false false true new good h = absurd (cc)
-    admitted false false false false new good h = record { new = unmade m.spec new; inside = no_true (is_member spec me) (or_left (not (is_member spec me)) _ good) }
+    admitted false false false false new good h = record { new = unmade m.spec new; inside = not_false (is_member spec me) (or_left (not (is_member spec me)) _ good) }
 
     by : (reserve : Option Reserve) → by_tenant (make_answer nodes me number (is_some m.spec) spec) reserve ≡ Done → Makes me spec m
     by None h = absurd (cc)
@@ -141,7 +137,7 @@ fair_item spec me from x before known seen h =
     let third = or_right (not (is_member spec x.origin.number)) _ second in
     let fifth = or_right before _ (or_right (nat_eq from me) _ third) in
     record {
-      member = no_true (is_member spec x.origin.number) (or_left (not (is_member spec x.origin.number)) _ second);
+      member = not_false (is_member spec x.origin.number) (or_left (not (is_member spec x.origin.number)) _ second);
       counted = above (or_left (nat_eq x.seq 0) _ fifth);
       within = below (or_left (nat_lt spec.msgs x.seq) _ (or_right (nat_eq x.seq 0) _ fifth));
     }

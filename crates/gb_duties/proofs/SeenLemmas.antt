@@ -5,8 +5,7 @@ use Rattle.std.proofs.lemmas.Bool.{eqb-true}
 use Rattle.gb_types.specs.declared.entry.Entry.{Entry}
 use Rattle.gb_types.specs.declared.message.MsgId.{MsgId}
 use Rattle.gb_types.specs.declared.spec.Spec.{Spec}
-use Rattle.gb_types.proofs.SameLemmas.{and-first, and-second}
-use Rattle.gb_layer.specs.Bools.{and_both}
+use Rattle.gb_types.proofs.BoolLemmas.{and_both, and_left, and_right}
 use Rattle.gb_layer.specs.declared.broadcast_module.BroadcastModule.{BroadcastModule}
 use Rattle.gb_layer.specs.declared.broadcast_module.BroadcastModule.TheVariants.{BestEffort, Lazy, Eager, AllAck}
 use Rattle.gb_fifo.specs.Order.{numbered}
@@ -24,7 +23,7 @@ use Rattle.gb_duties.proofs.NoticeLemmas.{Marked}
 
 module _ (b : ℕ) (member : Member) (spec : Spec) (made : member.spec ≡ Some spec) (marked : Marked b member) (seen : ℕ → Bool) (seen_is : (c : ℕ) → is_marked c member.noticed ≡ (is_other spec b c && seen c)) where
   pub noticed_seen : (c : ℕ) → noticed_at member c ≡ true → seen c ≡ true
-  noticed_seen c h = and-second (is_other spec b c) (seen c) (sym (seen_is c) ∙ marked.told c h)
+  noticed_seen c h = and_right (is_other spec b c) (seen c) (sym (seen_is c) ∙ marked.told c h)
 
   pub seen_noticed : (c : ℕ) → is_gone member.phase ≡ false → is_other spec b c ≡ true → seen c ≡ true → noticed_at member c ≡ true
   seen_noticed c here other h = marked.here here spec made c other (seen_is c ∙ and_both other h)
@@ -53,7 +52,7 @@ pub duties_seen : (spec : Spec) (b : ℕ) (member : Member) → member.spec ≡ 
     → ((c : ℕ) → is_member spec c ≡ true → member.put c ≡ rows c) → (had : ℕ → MsgId → Type 0) (messages : MsgId → Bool) → ((m : MsgId) → messages m ≡ true → is_member spec m.origin.number ≡ true) → KeepsDuties spec b (noticed_at member) member.put had messages → KeepsDuties spec b seen rows had messages
 duties_seen spec b member made here marked seen seen_is rows alike had messages inside duties c other m in_messages =
     duty_seen (noticed_at member) seen member.put rows had b c m (noticed_seen b member spec made marked seen seen_is c) (λ differs. seen_noticed b member spec made marked seen seen_is m.origin.number here (and_both (inside m in_messages) (is_not (nat_eq m.origin.number b) differs)))
-    (alike c (and-first (is_member spec c) _ other)) (module_of spec.kind) (duties c other m in_messages)
+    (alike c (and_left (is_member spec c) _ other)) (module_of spec.kind) (duties c other m in_messages)
 
 -- Agreement.
 

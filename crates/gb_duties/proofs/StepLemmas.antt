@@ -9,13 +9,14 @@ use Rattle.gb_types.specs.declared.node.NodeId.{NodeId}
 use Rattle.gb_types.specs.declared.reply.Reply.{Reply}
 use Rattle.gb_types.specs.declared.reply.Reply.TheVariants.{Done, Said}
 use Rattle.gb_types.specs.declared.spec.Spec.{Spec}
-use Rattle.gb_layer.specs.Bools.{or_left, or_right}
+use Rattle.gb_types.proofs.BoolLemmas.{or_left, or_right, refuted}
 use Rattle.gb_layer.specs.Histories.{mentions_stays}
 use Rattle.gb_layer.specs.Machine.{mentions, was_said, was_noticed}
 use Rattle.gb_layer.specs.Modules.{now_broadcast}
 use Rattle.gb_layer.specs.declared.broadcast_module.BroadcastModule.{BroadcastModule}
 use Rattle.gb_layer.specs.declared.call.Call.{Call}
 use Rattle.gb_stack.specs.Kinds.{module_of}
+use Rattle.gb_stack.proofs.DeliveryLemmas.{noticed_stays}
 use Rattle.gb_rules.specs.Group.{is_gone, is_member, is_other}
 use Rattle.gb_rules.specs.declared.phase.Phase.{Phase}
 use Rattle.gb_rules.specs.declared.phase.Phase.TheVariants.{Opened, Shut}
@@ -28,7 +29,7 @@ use Rattle.gb_alone.specs.Alone.{Member, Group, held_spec, reply_to, put_to, cal
 use Rattle.gb_alone.specs.declared.event.GroupEvent.{GroupEvent}
 use Rattle.gb_alone.specs.declared.event.GroupEvent.TheVariants.{Tenant, Make as AskMake, Open as AskOpen, Shut as AskShut, Drop as AskDrop, Say as AskSay, Took, Came, Done as Acknowledged, Notice, Stop}
 use Rattle.gb_alone.specs.declared.event.GroupStep.{GroupStep}
-use Rattle.gb_duties.proofs.WordLemmas.{refuted, has-take, has-get, said_stays, noticed_stays}
+use Rattle.gb_duties.proofs.WordLemmas.{has-take, has-get, said_stays}
 use Rattle.gb_duties.proofs.ReplyLemmas.{held_made, open_accepts, shut_accepts, say_accepts, Makes, make_accepts, fair_item}
 use Rattle.gb_duties.proofs.InvariantLemmas.{Fits, FitsAt, Later, fits_later, Brings, fits_called}
 

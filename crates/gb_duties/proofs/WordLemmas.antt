@@ -2,15 +2,15 @@
 use Rattle.std.proofs.Common.{◌≡◌, ℕ, zero, suc, ◌<◌, Bool, true, false, cond, not, ◌&&◌, ◌||◌, ◌⊎◌, inl, inr, nat_eq, take, List, [], ◌∷◌, ◌++◌, length, Some, refl, sym, ap, ◌∙◌, arith}
 use Rattle.std.specs.Prelude.{slice_get, map, filter}
 use Rattle.std.proofs.lemmas.Bool.{eq-eqb}
-use Rattle.std.proofs.Math.Bool.{and-true, and-false}
+use Rattle.std.proofs.Math.Bool.{and-true, and-false, or_assoc}
 use Rattle.gb_types.specs.Entry.{message_of}
 use Rattle.gb_types.specs.Message.{same}
 use Rattle.gb_types.specs.declared.entry.Entry.{Entry}
 use Rattle.gb_types.specs.declared.message.MsgId.{MsgId}
 use Rattle.gb_types.proofs.SameLemmas.{same-true, same_itself}
-use Rattle.gb_layer.specs.Bools.{or_second}
+use Rattle.gb_types.proofs.BoolLemmas.{or_cases, or_second}
 use Rattle.gb_layer.specs.FirstMentionLemmas.{first_mentions-any}
-use Rattle.gb_layer.specs.Machine.{mentions, was_said, was_noticed, came_from}
+use Rattle.gb_layer.specs.Machine.{mentions, was_said, came_from}
 use Rattle.gb_layer.specs.Modules.{first_mentions, newly}
 use Rattle.gb_layer.specs.declared.call.Call.{Call}
 use Rattle.gb_layer.specs.declared.call.Call.TheVariants.{Say, Came, Notice}
@@ -19,27 +19,9 @@ use Rattle.gb_history.specs.Messages.{has, entry_in}
 
 -- Tests.
 
-pub or_cases : (a b : Bool) → (a || b) ≡ true → (a ≡ true) ⊎ (b ≡ true)
-or_cases true b h = inl refl
-or_cases false b h = inr h
-
 pub is_not : (b : Bool) → b ≡ false → not b ≡ true
 is_not true e = cc
 is_not false e = refl
-
-pub not_is : (b : Bool) → not b ≡ true → b ≡ false
-not_is true e = cc
-not_is false e = refl
-
-pub both_ways : (a b : Bool) → (a ≡ true → b ≡ true) → (b ≡ true → a ≡ true) → a ≡ b
-both_ways true b f g = sym (f refl)
-both_ways false true f g = g refl
-both_ways false false f g = refl
-
--- a test that is not true is false
-pub refuted : (b : Bool) → (b ≡ true → ⊥) → b ≡ false
-refuted true f = absurd (f refl)
-refuted false f = refl
 
 pub eq_self : (a : ℕ) → nat_eq a a ≡ true
 eq_self a = eq-eqb a a refl
@@ -48,11 +30,7 @@ eq_self a = eq-eqb a a refl
 
 pub has-append : (xs ys : List Entry) (m : MsgId) → has (xs ++ ys) m ≡ (has xs m || has ys m)
 has-append [] ys m = refl
-has-append (x ∷ xs) ys m = ap (λ b. same (message_of x) m || b) (has-append xs ys m) ∙ or_assoc (same (message_of x) m) (has xs m) (has ys m)
-  where
-    or_assoc : (a b c : Bool) → (a || (b || c)) ≡ ((a || b) || c)
-    or_assoc true b c = refl
-    or_assoc false b c = refl
+has-append (x ∷ xs) ys m = ap (λ b. same (message_of x) m || b) (has-append xs ys m) ∙ sym (or_assoc (same (message_of x) m) (has xs m) (has ys m))
 
 -- what the first ones have all have
 pub has-take : (n : ℕ) (xs : List Entry) (m : MsgId) → has (take n xs) m ≡ true → has xs m ≡ true
@@ -92,13 +70,10 @@ in_filter : (q : MsgId → Bool) (xs : List MsgId) (m : MsgId) → is_in (filter
 in_filter q [] m = sym (and-false (q m))
 in_filter q (x ∷ xs) m = go (q x) refl (same x m) refl (in_filter q xs m)
   where
-    or_true : (b : Bool) → (b && true) ≡ b
-    or_true b = and-true b
-
     go : (b : Bool) → q x ≡ b → (e : Bool) → same x m ≡ e → is_in (filter q xs) m ≡ (q m && is_in xs m) → is_in (cond b (x ∷ filter q xs) (filter q xs)) m ≡ (q m && (e || is_in xs m))
     go true k true e rest =
         let kept : q m ≡ true = ap q (sym (same-true x m e)) ∙ k in
-        ap (λ b. b || is_in (filter q xs) m) e ∙ (sym kept ∙ sym (or_true (q m)))
+        ap (λ b. b || is_in (filter q xs) m) e ∙ (sym kept ∙ sym (and-true (q m)))
     go true k false e rest = ap (λ b. b || is_in (filter q xs) m) e ∙ rest
     go false k true e rest =
         let lost : q m ≡ false = ap q (sym (same-true x m e)) ∙ k in
@@ -117,16 +92,6 @@ pub said_stays : (c : Call) (past : List Call) (m : MsgId) → was_said past m �
 said_stays (Say x) past m h = or_second (same x m) (was_said past m) h
 said_stays (Came p x) past m h = h
 said_stays (Notice q) past m h = h
-
-pub came_stays : (me : ℕ) (c : Call) (past : List Call) (p : ℕ) (m : MsgId) → came_from me past p m ≡ true → came_from me (c ∷ past) p m ≡ true
-came_stays me (Say x) past p m h = or_second (nat_eq me p && same x m) (came_from me past p m) h
-came_stays me (Came q x) past p m h = or_second (nat_eq q.number p && same x m) (came_from me past p m) h
-came_stays me (Notice q) past p m h = h
-
-pub noticed_stays : (c : Call) (past : List Call) (q : ℕ) → was_noticed past q ≡ true → was_noticed (c ∷ past) q ≡ true
-noticed_stays (Say x) past q h = h
-noticed_stays (Came p x) past q h = h
-noticed_stays (Notice p) past q h = or_second (nat_eq p.number q) (was_noticed past q) h
 
 -- what was said came from this node
 pub said_came : (me : ℕ) (past : List Call) (m : MsgId) → was_said past m ≡ true → came_from me past me m ≡ true

@@ -9,7 +9,8 @@ use Rattle.std.proofs.lemmas.List.Sums.{count_by-le-length}
 use Rattle.gb_types.specs.declared.node.NodeId.{NodeId}
 use Rattle.gb_types.specs.declared.message.MsgId.{MsgId}
 use Rattle.gb_types.specs.Message.{same}
-use Rattle.gb_types.proofs.SameLemmas.{same_itself, same_number, and-first, and-second}
+use Rattle.gb_types.proofs.SameLemmas.{same_itself, same_number}
+use Rattle.gb_types.proofs.BoolLemmas.{and_left, and_right, refuted}
 use Rattle.gb_layer.specs.declared.effects.Up.{Up}
 use Rattle.gb_layer.specs.declared.call.Call.{Call}
 use Rattle.gb_layer.specs.declared.call.Call.TheVariants.{Say, Came, Notice}
@@ -29,10 +30,6 @@ use Rattle.gb_fifo.specs.Order.{is_in, numbered, upto, given_at, ordered_after, 
 use Rattle.gb_fifo.proofs.PlacedLemmas.{none_given, stays}
 use Rattle.gb_fifo.proofs.OrderLemmas.{drop_upto, top_is, ordered_append}
 use Rattle.gb_fifo.proofs.NumberLemmas.{messages-append, next_origin, next_seq, more_given, given_brought, taken_one_numbers}
-
-never : (b : Bool) → (b ≡ true → ⊥) → b ≡ false
-never true f = absurd (f refl)
-never false f = refl
 
 -- a test that a mark as handed up keeps
 any_give : (f : Entry → Bool) → ((e : Entry) → f (given_entry e) ≡ f e) → (p : Entry → Bool) (es : List Entry) → list_any f (give p es) ≡ list_any f es
@@ -124,11 +121,11 @@ any_here_next s k t tk [] b h = cc
 any_here_next s k t tk (e ∷ es) b h =
     elim (is_here (numbered s (k + 1)) e) as (λ v. is_here (numbered s (k + 1)) e ≡ v → (v || list_any (is_here (numbered s (k + 1))) es) ≡ true → (is_next s.number k e || list_any (is_next s.number k) es) ≡ true) [
       | true ↦ λ w _.
-          let x : (nat_eq e.m.origin.number s.number && nat_eq e.m.seq (k + 1)) ≡ true = and-first (nat_eq e.m.origin.number s.number && nat_eq e.m.seq (k + 1)) e.here w in
-          let here : e.here ≡ true = and-second (nat_eq e.m.origin.number s.number && nat_eq e.m.seq (k + 1)) e.here w in
-          let o : e.m.origin.number ≡ s.number = eqb-true e.m.origin.number s.number (and-first (nat_eq e.m.origin.number s.number) _ x) in
-          let q : e.m.seq ≡ k + 1 = eqb-true e.m.seq (k + 1) (and-second (nat_eq e.m.origin.number s.number) _ x) in
-          let new : e.given ≡ false = never e.given (λ g. let l = b.0 g in let tt' : t e.m.origin.number ≡ k = ap t o ∙ tk in absurd (omega (arith, l, tt', q))) in
+          let x : (nat_eq e.m.origin.number s.number && nat_eq e.m.seq (k + 1)) ≡ true = and_left (nat_eq e.m.origin.number s.number && nat_eq e.m.seq (k + 1)) e.here w in
+          let here : e.here ≡ true = and_right (nat_eq e.m.origin.number s.number && nat_eq e.m.seq (k + 1)) e.here w in
+          let o : e.m.origin.number ≡ s.number = eqb-true e.m.origin.number s.number (and_left (nat_eq e.m.origin.number s.number) _ x) in
+          let q : e.m.seq ≡ k + 1 = eqb-true e.m.seq (k + 1) (and_right (nat_eq e.m.origin.number s.number) _ x) in
+          let new : e.given ≡ false = refuted e.given (λ g. let l = b.0 g in let tt' : t e.m.origin.number ≡ k = ap t o ∙ tk in absurd (omega (arith, l, tt', q))) in
           ap (λ v. v || list_any (is_next s.number k) es) (λ i. (here i && not (new i)) && x i)
       | false ↦ λ _ l. ap (λ v. is_next s.number k e || v) (any_here_next s k t tk es b.1 l) ∙ or-true (is_next s.number k e)
     ] refl h
@@ -206,7 +203,7 @@ settled_one m es delivered there settled =
             | true ↦ λ e.
                 let k = given_of q.number es' in
                 let none : list_any (is_next q.number k) es' ≡ false = subst (λ (n : ℕ). list_any (next_of n es') es' ≡ false) (eqb-true o.number q.number e) ended in
-                never (is_in (delivered ++ m ∷ []) (numbered q (k + 1)))
+                refuted (is_in (delivered ++ m ∷ []) (numbered q (k + 1)))
                 (λ h. let some : list_any (is_next q.number k) es' ≡ true = any_here_next q k (λ n. given_of n es') refl es' marked.below (marked.here (numbered q (k + 1)) ∙ h) in absurd cc)
             | false ↦ λ e.
                 let same_count : given_of q.number es' ≡ given_of q.number es = released_other q.number o.number (length es) (map (brought m) es) e ∙ given_brought q.number m es in

@@ -6,7 +6,7 @@ use Rattle.std.proofs.lemmas.Bool.{eqb-true}
 use Rattle.std.proofs.lemmas.List.{append-nil, map-append}
 use Rattle.std.proofs.lemmas.List.Elements.{filter-append}
 use Rattle.gb_types.specs.declared.message.MsgId.{MsgId}
-use Rattle.gb_types.proofs.SameLemmas.{and-first, and-second}
+use Rattle.gb_types.proofs.BoolLemmas.{and_left, and_right}
 use Rattle.gb_layer.specs.declared.effects.Up.{Up}
 use Rattle.gb_layer.specs.declared.call.Call.{Call}
 use Rattle.gb_layer.specs.Machine.{Gives, after, all_ups, messages}
@@ -28,11 +28,11 @@ messages-append us vs = map-append (λ (u : Up). u.m) us vs
 
 -- the next message of an origin is of that origin
 pub next_origin : (s k : ℕ) (e : Entry) → is_next s k e ≡ true → e.m.origin.number ≡ s
-next_origin s k e h = eqb-true e.m.origin.number s (and-first (nat_eq e.m.origin.number s) _ (and-second (e.here && not e.given) _ h))
+next_origin s k e h = eqb-true e.m.origin.number s (and_left (nat_eq e.m.origin.number s) _ (and_right (e.here && not e.given) _ h))
 
 -- and has the next number
 pub next_seq : (s k : ℕ) (e : Entry) → is_next s k e ≡ true → e.m.seq ≡ k + 1
-next_seq s k e h = eqb-true e.m.seq (k + 1) (and-second (nat_eq e.m.origin.number s) _ (and-second (e.here && not e.given) _ h))
+next_seq s k e h = eqb-true e.m.seq (k + 1) (and_right (nat_eq e.m.origin.number s) _ (and_right (e.here && not e.given) _ h))
 
 one_number : (b : Bool) (m : MsgId) → map (λ (m : MsgId). m.seq) (cond b (m ∷ []) []) ≡ cond b (m.seq ∷ []) []
 one_number true m = refl
@@ -74,7 +74,7 @@ step_numbers : (q s : ℕ) (es : List Entry) → upto (given_of q es) ++ numbers
 step_numbers q s es =
     let k = given_of s es in
     ap (λ xs. upto (given_of q es) ++ xs) (picked_number q s k es)
-    ∙ (one_more (nat_eq s q && list_any (is_next s k) es) (given_of q es) k (λ h. ap (λ n. given_of n es) (sym (eqb-true s q (and-first (nat_eq s q) _ h))))
+    ∙ (one_more (nat_eq s q && list_any (is_next s k) es) (given_of q es) k (λ h. ap (λ n. given_of n es) (sym (eqb-true s q (and_left (nat_eq s q) _ h))))
     ∙ ap upto (sym (more_given q s k es)))
 
 -- one list after the other

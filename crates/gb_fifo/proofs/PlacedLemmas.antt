@@ -9,9 +9,8 @@ use Rattle.std.proofs.lemmas.Grind.{get_or-set_at}
 use Rattle.gb_types.specs.declared.limits.TheConstants.{NODES}
 use Rattle.std.proofs.lemmas.List.Folds.{list_any_at}
 use Rattle.std.proofs.lemmas.Option.{slice_get-get_or}
-use Rattle.gb_types.proofs.SameLemmas.{and-first, and-second}
+use Rattle.gb_types.proofs.BoolLemmas.{and_left, and_right, or_left, or_right}
 use Rattle.gb_layer.specs.declared.effects.Up.{Up}
-use Rattle.gb_layer.specs.Bools.{or_left, or_right}
 use Rattle.gb_layer.specs.Counts.{count_by-cons, count_by-set}
 use Rattle.gb_fifo.specs.declared.entry.Entry.{Entry}
 use Rattle.gb_fifo.specs.Entries.{is_given_of, given_of, give, pick, given_entry, up_of, is_ungiven, is_next, IsPlace, released, released_ups, next_of}
@@ -37,7 +36,7 @@ none_after p (e ∷ es) (suc i) h none =
 
 -- the next entry of an origin is of that origin
 pub next_of_origin : (s k : ℕ) (e : Entry) → is_next s k e ≡ true → nat_eq e.m.origin.number s ≡ true
-next_of_origin s k e h = and-first _ (nat_eq e.m.seq (k + 1)) (and-second (e.here && not e.given) _ h)
+next_of_origin s k e h = and_left _ (nat_eq e.m.seq (k + 1)) (and_right (e.here && not e.given) _ h)
 
 -- where none passes, nothing is handed up
 pub none_given : (p : Entry → Bool) (es : List Entry) → list_any p es ≡ false → es ≡ give p es
@@ -101,21 +100,26 @@ one_more s k o es i x h is =
     let g : cond {A = ℕ} (nat_eq x.m.origin.number o && true) 1 0 ≡ cond (nat_eq s o) 1 0 = ap (λ v. cond {A = ℕ} v 1 0) (and-true (nat_eq x.m.origin.number o)) ∙ ap (λ v. cond {A = ℕ} (nat_eq v o) 1 0) own in
     omega (arith, a, b, d, f, g)
 
--- a counter that is raised by one counts one more
-pub counted_more : (given : List ℕ) (at s o n n' : ℕ) → length given ≡ NODES → s < NODES → at ≡ s → slice_index given o ≡ n → n' ≡ cond (nat_eq s o) 1 0 + n → slice_index (set given at (slice_index given at + 1)) o ≡ n'
-counted_more given at s o n n' len lt e h more =
-    elim (nat_eq s o) as (λ b. nat_eq s o ≡ b → n' ≡ cond b 1 0 + n → slice_index (set given at (slice_index given at + 1)) o ≡ n') [
+-- a counter that is set to the next number counts one more
+pub counted_more : (given : List ℕ) (at s o n n' v : ℕ) → length given ≡ NODES → s < NODES → at ≡ s → slice_index given o ≡ n → v ≡ slice_index given s + 1 → n' ≡ cond (nat_eq s o) 1 0 + n → slice_index (set given at v) o ≡ n'
+counted_more given at s o n n' v len lt e h next more =
+    elim (nat_eq s o) as (λ b. nat_eq s o ≡ b → n' ≡ cond b 1 0 + n → slice_index (set given at v) o ≡ n') [
       | true ↦ λ q k.
-          let there : o ≡ at = sym (eqb-true s o q) ∙ sym e in
+          let here : o ≡ s = sym (eqb-true s o q) in
+          let there : o ≡ at = here ∙ sym e in
           let within : at < length given = omega (arith, len, lt, e) in
-          let old : slice_index given at ≡ n = ap (slice_index given) (sym there) ∙ h in
-          let new : slice_index (set given at (slice_index given at + 1)) o ≡ slice_index given at + 1 = get_or-set_at given at o (slice_index given at + 1) 0 there within in
-          omega (arith, old, new, k)
+          let old : slice_index given s ≡ n = ap (slice_index given) (sym here) ∙ h in
+          let new : slice_index (set given at v) o ≡ v = get_or-set_at given at o v 0 there within in
+          omega (arith, old, new, next, k)
       | false ↦ λ q k.
           let other : o ≢ at = λ z. let t : nat_eq s o ≡ true = eq-eqb s o (sym e ∙ sym z) in cc in
-          let new : slice_index (set given at (slice_index given at + 1)) o ≡ slice_index given o = get_or-set_other given at o (slice_index given at + 1) 0 other in
+          let new : slice_index (set given at v) o ≡ slice_index given o = get_or-set_other given at o v 0 other in
           omega (arith, new, h, k)
     ] refl more
+
+-- the next message has the next number
+pub next_number : (s k : ℕ) (es : List Entry) (i : ℕ) (x : Entry) → IsPlace (is_next s k) es (Some i) → x ≡ get_or es i x → x.m.seq ≡ k + 1
+next_number s k es i x h is = eqb-true x.m.seq (k + 1) (and_right (nat_eq x.m.origin.number s) _ (and_right (x.here && not x.given) _ (passes (is_next s k) es i x h is)))
 
 released_step : (s a i : ℕ) (es : List Entry) → i < a → released s (a - i) es ≡ released s (a - (i + 1)) (give (next_of s es) es)
 released_step s a i es lt = let e : a - i ≡ suc (a - (i + 1)) = omega arith in ap (λ n. released s n es) e

@@ -7,7 +7,7 @@ use Rattle.std.specs.List.{list_all, IsDistinct}
 use Rattle.std.proofs.lemmas.List.{length-map}
 use Rattle.std.proofs.lemmas.List.Sums.{count_by-le-length}
 use Rattle.gb_types.specs.Message.{same}
-use Rattle.gb_types.proofs.SameLemmas.{and-second}
+use Rattle.gb_types.proofs.BoolLemmas.{and_right}
 use Rattle.gb_layer.specs.declared.call.Call.{Call}
 use Rattle.gb_layer.specs.declared.call.Call.TheVariants.{Say, Came, Notice}
 use Rattle.gb_layer.specs.Limit.{Limit, Need, is_counted, is_within, message_count}
@@ -21,7 +21,7 @@ use Rattle.gb_fifo.specs.FifoRoom.{HasRoom, IsWhole, fifo_need}
 
 counted_noted : (l : Limit) (c : Call) (es : List Entry) → is_within l c ≡ true → list_all (is_counted l) (keys es) ≡ true → list_all (is_counted l) (keys (noted_by c es)) ≡ true
 counted_noted l (Say m) es k h = counted_grown (λ e. e.m) l es (blank m) k h
-counted_noted l (Came p m) es k h = counted_grown (λ e. e.m) l es (blank m) (and-second _ _ k) h
+counted_noted l (Came p m) es k h = counted_grown (λ e. e.m) l es (blank m) (and_right _ _ k) h
 counted_noted l (Notice q) es k h = h
 
 once_noted : (c : Call) (es : List Entry) → IsDistinct same (keys es) → IsDistinct same (keys (noted_by c es))

@@ -23,8 +23,8 @@ use std::alloc::Global;
 pub struct Ledger {
     pub list: Vec<Entry>,
     pub table: Table,
-    /// How many messages of each origin were handed up.
-    pub given: [usize; NODES],
+    /// How many messages of each origin were handed up, which is the number of the last.
+    pub given: [u16; NODES],
     ghost leads: { leads table.width table.told.items 0 (keys list.items) ≡ true },
     ghost counted: { (origin : ℕ) → origin < NODES → slice_index given origin ≡ given_of origin list.items },
 }
@@ -172,15 +172,16 @@ impl Ledger {
     fn find_next(&self, origin: NodeId) -> Option<usize>
         ensures { IsPlace (next_of origin.number self.now.list.items) self.now.list.items result }
     {
-        let k = self.given[origin.index()];
+        let k = usize::from(self.given[origin.index()]);
         let places = self.places_after(origin, k);
         find_after(&self.list, places, origin, k)
     }
 }
 
-/// Hands up one message.
-fn give_one(e: &mut Entry, ups: &mut Vec<Up>)
+/// Hands up one message, and says its number.
+fn give_one(e: &mut Entry, ups: &mut Vec<Up>) -> u16
     requires { 1 ≤ free ups.old }
+    ensures number { result ≡ e.old.m.seq }
     ensures entry { e.new ≡ given_entry e.old }
     ensures ups { ups.new.items ≡ ups.old.items ++ up_of e.old ∷ [] }
     ensures room { free ups.old ≤ free ups.new + 1 }
@@ -191,6 +192,7 @@ fn give_one(e: &mut Entry, ups: &mut Vec<Up>)
         via: e.m.origin,
         m: e.m,
     });
+    e.m.seq
 }
 
 /// Hands up the next message of an origin, if it came up, and says whether it did.
@@ -206,8 +208,7 @@ fn give_next(ledger: &mut Ledger, origin: NodeId, ups: &mut Vec<Up>) -> bool
 {
     match ledger.find_next(origin) {
         Some(i) => {
-            give_one(&mut ledger.list[i], ups);
-            ledger.given[origin.index()] += 1;
+            ledger.given[origin.index()] = give_one(&mut ledger.list[i], ups);
             true
         }
         None => false,

@@ -5,6 +5,7 @@ use Rattle.std.proofs.lemmas.Bool.{eqb-true, ltb-false}
 use Rattle.std.proofs.lemmas.Bool.Decides.{nat_tests}
 use Rattle.std.proofs.lemmas.List.{nil_from_length}
 use Rattle.gb_types.specs.declared.limits.TheConstants.{NODES, PACKET}
+use Rattle.gb_types.proofs.BoolLemmas.{and_sides}
 use Rattle.gb_frame.specs.declared.limits.TheConstants.{VERSION, SHORTEST}
 use Rattle.gb_frame.specs.declared.item.Item.{Item}
 use Rattle.gb_frame.specs.Spelling.{tag_of}
@@ -121,18 +122,6 @@ below_eleven Tag = (omega arith, omega arith)
 
 -- ---- each test tells whether its fault holds
 
-pub not-true : (b : Bool) → not b ≡ true → b ≡ false
-not-true true e = absurd cc
-not-true false e = refl
-
-pub not-false : (b : Bool) → not b ≡ false → b ≡ true
-not-false true e = refl
-not-false false e = absurd cc
-
-and-true : (a b : Bool) → (a && b) ≡ true → (a ≡ true) × (b ≡ true)
-and-true true b e = (refl, e)
-and-true false b e = absurd cc
-
 -- what bytes without a fault are
 pub record IsGood (key bytes : List ℕ) : Type 0 where
   pub long : SHORTEST ≤ length bytes
@@ -150,8 +139,8 @@ pub record IsGood (key bytes : List ℕ) : Type 0 where
 
 pub magic_there : (bytes : List ℕ) → is_magic bytes ≡ true → take 2 bytes ≡ codes "GB"
 magic_there [] e = absurd cc
-magic_there (a ∷ []) e = let t = and-true (eqb a 71) false e in absurd cc
-magic_there (a ∷ b ∷ rest) e = let t = and-true (eqb a 71) (eqb b 66) e in let p = eqb-true a 71 t.0 in let q = eqb-true b 66 t.1 in cc
+magic_there (a ∷ []) e = let t = and_sides (eqb a 71) false e in absurd cc
+magic_there (a ∷ b ∷ rest) e = let t = and_sides (eqb a 71) (eqb b 66) e in let p = eqb-true a 71 t.0 in let q = eqb-true b 66 t.1 in cc
 
 pub magic_told : (bytes : List ℕ) → take 2 bytes ≡ codes "GB" → is_magic bytes ≡ true
 magic_told [] e = absurd cc

@@ -8,6 +8,8 @@ use Rattle.std.proofs.lemmas.List.{take_at, drop_at, take-append-drop, length-ap
 use Rattle.std.proofs.lemmas.List.Elements.{All-nil, All-cons, All-head, All-tail}
 use Rattle.std.proofs.lemmas.List.Concat.{flat_map-cons}
 use Rattle.gb_types.specs.declared.limits.TheConstants.{PAYLOAD}
+use Rattle.gb_types.proofs.BoolLemmas.{or_sides}
+use Rattle.gb_types.proofs.ReadLemmas.{some_same}
 use Rattle.gb_frame.specs.declared.item.Item.{Item}
 use Rattle.gb_frame.specs.Spelling.{item_text, items_text, IsBytes, IsItem}
 use Rattle.gb_frame.specs.Fields.{number_at}
@@ -19,10 +21,6 @@ use Rattle.gb_frame.proofs.NumberLemmas.{IsBytes-drop, IsBytes-take, wide16, cut
 pub record Takes (bytes text rest : List ℕ) : Type 0 where
   pub parts : bytes ≡ text ++ rest
   pub rest_fits : IsBytes rest
-
-or-false : (a b : Bool) → (a || b) ≡ false → (a ≡ false) × (b ≡ false)
-or-false true b e = absurd cc
-or-false false b e = (refl, e)
 
 -- a test that let a value pass
 passed : {A : Type 0} (b : Bool) (x y : A) → cond b None (Some x) ≡ Some y → (b ≡ false) × (x ≡ y)
@@ -36,8 +34,8 @@ item_takes bytes x fits e =
     let rest : List ℕ = drop 9 bytes in
     let made : Item = record { tenant = number_at w16 0 bytes; group = number_at w16 2 bytes; origin = get_or bytes 4 0; seq = number_at w16 5 bytes; payload = take len rest } in
     let p = passed (ltb (length bytes) 9 || (ltb PAYLOAD len || ltb (length rest) len)) (made, drop len rest) x e in
-    let t = or-false (ltb (length bytes) 9) (ltb PAYLOAD len || ltb (length rest) len) p.0 in
-    let u = or-false (ltb PAYLOAD len) (ltb (length rest) len) t.1 in
+    let t = or_sides (ltb (length bytes) 9) (ltb PAYLOAD len || ltb (length rest) len) p.0 in
+    let u = or_sides (ltb PAYLOAD len) (ltb (length rest) len) t.1 in
     let long : 9 ≤ length bytes = ltb-false _ _ t.0 in
     let small : len ≤ PAYLOAD = ltb-false _ _ u.0 in
     let there : len ≤ length rest = ltb-false _ _ u.1 in
@@ -64,7 +62,7 @@ item_shrinks bytes x e =
     let rest : List ℕ = drop 9 bytes in
     let made : Item = record { tenant = number_at w16 0 bytes; group = number_at w16 2 bytes; origin = get_or bytes 4 0; seq = number_at w16 5 bytes; payload = take len rest } in
     let p = passed (ltb (length bytes) 9 || (ltb PAYLOAD len || ltb (length rest) len)) (made, drop len rest) x e in
-    let long : 9 ≤ length bytes = ltb-false _ _ (or-false (ltb (length bytes) 9) (ltb PAYLOAD len || ltb (length rest) len) p.0).0 in
+    let long : 9 ≤ length bytes = ltb-false _ _ (or_sides (ltb (length bytes) 9) (ltb PAYLOAD len || ltb (length rest) len) p.0).0 in
     let after : drop len rest ≡ x.1 = ap (λ (y : Item × List ℕ). y.1) p.1 in
     omega (arith, long, ap length after, length-drop len rest, length-drop 9 bytes)
 
@@ -92,13 +90,10 @@ pub none_at_end : item_at [] ≡ None
 unfolding item_at
 none_at_end = refl
 
-pub some_is : {A : Type 0} (x y : A) → Some x ≡ Some y → x ≡ y
-some_is x y e = cc
-
 pub items_take : (n : ℕ) (bytes : List ℕ) (x : List Item × List ℕ) → IsBytes bytes → items_at n bytes ≡ Some x → Stand n bytes x.0 x.1
 unfolding items_at
 items_take zero bytes x fits e =
-    subst (λ (y : List Item × List ℕ). Stand 0 bytes y.0 y.1) (some_is ([], bytes) x e) (record { count = refl; fit = All-nil IsItem; parts = refl })
+    subst (λ (y : List Item × List ℕ). Stand 0 bytes y.0 y.1) (some_same ([], bytes) x e) (record { count = refl; fit = All-nil IsItem; parts = refl })
 items_take (suc n) bytes x fits e =
     let a = then_some (item_at bytes) (λ first. option_and_then (λ others. Some (first.0 ∷ others.0, others.1)) (items_at n first.1)) x e in
     let b = then_some (items_at n a.0.1) (λ others. Some (a.0.0 ∷ others.0, others.1)) x a.2 in
@@ -107,7 +102,7 @@ items_take (suc n) bytes x fits e =
     let both : bytes ≡ items_text (a.0.0 ∷ b.0.0) ++ b.0.1 =
     first.0.parts ∙ ap (λ t. item_text a.0.0 ++ t) others.parts ∙ sym (append_assoc (item_text a.0.0) (items_text b.0.0) b.0.1) ∙ ap (λ t. t ++ b.0.1) (sym (flat_map-cons item_text a.0.0 b.0.0)) in
     let found : Stand (suc n) bytes (a.0.0 ∷ b.0.0) b.0.1 = record { count = ap suc others.count; fit = All-cons IsItem a.0.0 b.0.0 first.1 others.fit; parts = both } in
-    subst (λ (y : List Item × List ℕ). Stand (suc n) bytes y.0 y.1) (some_is (a.0.0 ∷ b.0.0, b.0.1) x b.2) found
+    subst (λ (y : List Item × List ℕ). Stand (suc n) bytes y.0 y.1) (some_same (a.0.0 ∷ b.0.0, b.0.1) x b.2) found
 
 pub items_again : (items : List Item) (rest : List ℕ) → All IsItem items → items_at (length items) (items_text items ++ rest) ≡ Some (items, rest)
 unfolding items_at

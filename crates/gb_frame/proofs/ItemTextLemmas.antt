@@ -5,7 +5,8 @@ use Rattle.std.proofs.lemmas.List.Concat.{flat_map-cons}
 use Rattle.gb_frame.specs.declared.item.Item.{Item}
 use Rattle.gb_frame.specs.Spelling.{item_text, items_text, IsItem, AreTexts}
 use Rattle.gb_frame.specs.Reading.{item_at}
-use Rattle.gb_frame.proofs.ItemLemmas.{item_again, none_at_end, some_is}
+use Rattle.gb_frame.proofs.ItemLemmas.{item_again, none_at_end}
+use Rattle.gb_types.proofs.ReadLemmas.{some_same}
 
 -- the first item stands at the front, and the others behind it
 pub first_again : (bytes : List ℕ) (i : Item) (items : List Item) → AreTexts bytes (i ∷ items) → item_at bytes ≡ Some (i, items_text items)
@@ -23,7 +24,7 @@ pub behind_first : (bytes : List ℕ) (items : List Item) (i : Item) (rest : Lis
     → (left : List Item) × AreTexts rest left × (items ≡ i ∷ left)
 behind_first bytes [] i rest t found = absurd (let none = sym found ∙ (ap item_at t.parts ∙ none_at_end) in cc)
 behind_first bytes (j ∷ items) i rest t found =
-    let same = some_is (i, rest) (j, items_text items) (sym found ∙ first_again bytes j items t) in
+    let same = some_same (i, rest) (j, items_text items) (sym found ∙ first_again bytes j items t) in
     let item : i ≡ j = ap (λ (x : Item × List ℕ). x.0) same in
     let left : rest ≡ items_text items = ap (λ (x : Item × List ℕ). x.1) same in
     (items, record { parts = left; fit = All-tail IsItem j items t.fit }, ap (λ x. x ∷ items) (sym item))

@@ -1,6 +1,6 @@
 -- Reading finds a packet exactly in its text, and otherwise the first fault of the table.
 use Rattle.std.proofs.Common.{◌≡◌, ◌≢◌, ℕ, ◌-◌, ◌^◌, ◌≤◌, Bool, true, false, cond, List, [], ◌∷◌, ◌++◌, length, take, drop, codes, Option, Some, None, Ok, refl, sym, ap, ◌∙◌, arith, inl, inr, ◌⊎◌}
-use Rattle.std.specs.Prelude.{find, is_ok, not, ◌&&◌, ◌==◌, ◌%◌, nat_lt, is_none, IfNone, IfSome, IsSome, is_some, if◌then◌else◌}
+use Rattle.std.specs.Prelude.{find, is_ok, not, ◌&&◌, ◌==◌, ◌%◌, nat_lt, is_none, IsSome, is_some, if◌then◌else◌}
 use Rattle.std.specs.Cmp.Lexicographic.{same_text, other_text}
 use Rattle.std.specs.Int.{w16, w64, to_be_bytes}
 use Rattle.std.proofs.Math.Seq.{drop-cons}
@@ -8,6 +8,8 @@ use Rattle.std.proofs.lemmas.Bool.{eqb-true, eq-eqb, ltb-false, ltb-true, lt-ltb
 use Rattle.std.proofs.lemmas.List.{take-append-drop, drop-append-le, take_at, length-take, length-drop, length-append, append-nil, nil_from_length}
 use Rattle.std.proofs.lemmas.List.Elements.{All-weaker}
 use Rattle.gb_types.specs.declared.limits.TheConstants.{NODES, PAYLOAD}
+use Rattle.gb_types.proofs.BoolLemmas.{not_false, not_true}
+use Rattle.gb_types.proofs.ReadLemmas.{some_same}
 use Rattle.gb_frame.specs.declared.limits.TheConstants.{VERSION, SHORTEST, HEADER, TAG}
 use Rattle.gb_frame.specs.declared.fault.PacketFault.{PacketFault}
 use Rattle.gb_frame.specs.declared.fault.PacketFault.TheVariants.{Short, Magic, Version, Node, Mask, Count, Length, Trailing, TooLong, Tag}
@@ -19,9 +21,9 @@ use Rattle.gb_frame.specs.Reading.{unless, faults, test, fault_in, reading, cont
 use Rattle.gb_frame.specs.Faults.{Stand, HasFault, IsFirstFault}
 use Rattle.gb_frame.specs.Laws.{WhatIsWrittenIsRead}
 use Rattle.gb_frame.proofs.NumberLemmas.{IsBytes-take, IsBytes-drop, wide16, wide64, cut, number_below}
-use Rattle.gb_frame.proofs.ItemLemmas.{items_take, stand_again, some_is}
+use Rattle.gb_frame.proofs.ItemLemmas.{items_take, stand_again}
 use Rattle.gb_frame.proofs.TextLemmas.{text_reads}
-use Rattle.gb_frame.proofs.FaultLemmas.{found_first, found_none, faults_numbered, below_eleven, not-true, not-false, IsGood, magic_there, magic_told, counted_there, nodes_there, acknowledged_there, parsed_there}
+use Rattle.gb_frame.proofs.FaultLemmas.{found_first, found_none, faults_numbered, below_eleven, IsGood, magic_there, magic_told, counted_there, nodes_there, acknowledged_there, parsed_there}
 
 -- ---- a test that says so
 
@@ -40,7 +42,7 @@ nodes_wrong a b n e =
       | false ↦ λ h f. inl (ltb-false _ _ h)
       | true ↦ λ h f. elim (nat_lt b n) as (λ q. nat_lt b n ≡ q → (q && not (a == b)) ≡ false → (n ≤ a) ⊎ (n ≤ b) ⊎ (a ≡ b)) [
         | false ↦ λ k g. inr (inl (ltb-false _ _ k))
-        | true ↦ λ k g. inr (inr (eqb-true _ _ (not-false _ g)))
+        | true ↦ λ k g. inr (inr (eqb-true _ _ (not_false _ g)))
       ] refl f
     ] refl e
 
@@ -63,15 +65,15 @@ count_wrong n m e =
 
 says : (key bytes : List ℕ) (f : PacketFault) → (f ≡ Trailing → IsBytes bytes) → test key bytes f ≡ true → HasFault key bytes f
 says key bytes Short fits e = ltb-true _ _ e
-says key bytes Magic fits e = λ there. let t = magic_told bytes there in let n = not-true _ e in cc
-says key bytes Version fits e = λ there. let t = eq-eqb _ _ there in let n = not-true _ e in cc
-says key bytes Node fits e = nodes_wrong (from_in bytes) (to_in bytes) NODES (not-true _ e)
-says key bytes Mask fits e = acknowledgement_wrong (base_in bytes) (mask_in bytes) (not-true _ e)
-says key bytes Count fits e = count_wrong (frame_in bytes) (count_in bytes) (not-true _ e)
+says key bytes Magic fits e = λ there. let t = magic_told bytes there in let n = not_true _ e in cc
+says key bytes Version fits e = λ there. let t = eq-eqb _ _ there in let n = not_true _ e in cc
+says key bytes Node fits e = nodes_wrong (from_in bytes) (to_in bytes) NODES (not_true _ e)
+says key bytes Mask fits e = acknowledgement_wrong (base_in bytes) (mask_in bytes) (not_true _ e)
+says key bytes Count fits e = count_wrong (frame_in bytes) (count_in bytes) (not_true _ e)
 says key bytes Length fits e = none_stand key bytes e
 says key bytes Trailing fits e = left_stand key bytes (fits refl) (parsed bytes) refl e
 says key bytes TooLong fits e = ltb-true _ _ e
-says key bytes Tag fits e = other_text (tag_in bytes) (tag_of key (tagged_in bytes)) (sym (not-true _ e))
+says key bytes Tag fits e = other_text (tag_in bytes) (tag_of key (tagged_in bytes)) (sym (not_true _ e))
 
 -- ---- a test that doesn't
 
@@ -87,21 +89,21 @@ none_left key bytes e (items, rest, more, s) =
 
 denies : (key bytes : List ℕ) → IsBytes bytes → (f : PacketFault) → test key bytes f ≡ false → ¬ (HasFault key bytes f)
 denies key bytes fits Short e = λ h. let t = lt-ltb _ _ h in cc
-denies key bytes fits Magic e = λ h. h (magic_there bytes (not-false _ e))
-denies key bytes fits Version e = λ h. h (eqb-true _ _ (not-false _ e))
+denies key bytes fits Magic e = λ h. h (magic_there bytes (not_false _ e))
+denies key bytes fits Version e = λ h. h (eqb-true _ _ (not_false _ e))
 denies key bytes fits Node e = λ h.
-    let t = nodes_there (from_in bytes) (to_in bytes) NODES (not-false _ e) in
+    let t = nodes_there (from_in bytes) (to_in bytes) NODES (not_false _ e) in
     elim h [ inl a ↦ let p = t.0 in absurd (omega arith) | inr g ↦ elim g [ inl b ↦ let p = t.1 in absurd (omega arith) | inr same ↦ t.2 same ] ]
 denies key bytes fits Mask e = λ h.
-    let t = acknowledged_there (base_in bytes) (mask_in bytes % 2) (not-false _ e) in
+    let t = acknowledged_there (base_in bytes) (mask_in bytes % 2) (not_false _ e) in
     elim h [ inl a ↦ let p = t.0 in absurd (omega arith) | inr b ↦ let p = t.1 in absurd (omega arith) ]
 denies key bytes fits Count e = λ h.
-    let t = counted_there (frame_in bytes) (count_in bytes) (not-false _ e) in
+    let t = counted_there (frame_in bytes) (count_in bytes) (not_false _ e) in
     elim h [ inl a ↦ a.1 (t.0 a.0) | inr b ↦ b.0 (t.1 b.1) ]
 denies key bytes fits Length e = some_stands key bytes fits (parsed bytes) refl e
 denies key bytes fits Trailing e = none_left key bytes e
 denies key bytes fits TooLong e = λ h. let t = lt-ltb _ _ h in cc
-denies key bytes fits Tag e = λ h. h (same_text (tag_in bytes) (tag_of key (tagged_in bytes)) (sym (not-false _ e)))
+denies key bytes fits Tag e = λ h. h (same_text (tag_in bytes) (tag_of key (tagged_in bytes)) (sym (not_false _ e)))
 
 -- ---- the first fault
 
@@ -120,21 +122,21 @@ all_denied key bytes e f = found_none (test key bytes) 1 faults faults_numbered 
 pub good : (key bytes : List ℕ) → fault_in key bytes ≡ None → IsGood key bytes
 good key bytes none =
     let t = all_denied key bytes none in
-    let nodes = nodes_there (from_in bytes) (to_in bytes) NODES (not-false _ (t Node)) in
-    let acknowledged = acknowledged_there (base_in bytes) (mask_in bytes % 2) (not-false _ (t Mask)) in
+    let nodes = nodes_there (from_in bytes) (to_in bytes) NODES (not_false _ (t Node)) in
+    let acknowledged = acknowledged_there (base_in bytes) (mask_in bytes % 2) (not_false _ (t Mask)) in
     record {
       long = ltb-false _ _ (t Short);
-      magic = magic_there bytes (not-false _ (t Magic));
-      version = eqb-true _ _ (not-false _ (t Version));
+      magic = magic_there bytes (not_false _ (t Magic));
+      version = eqb-true _ _ (not_false _ (t Version));
       from = nodes.0;
       to = nodes.1;
       apart = nodes.2;
       base = acknowledged.0;
       mask = acknowledged.1;
-      frame = counted_there (frame_in bytes) (count_in bytes) (not-false _ (t Count));
+      frame = counted_there (frame_in bytes) (count_in bytes) (not_false _ (t Count));
       parsed = parsed_there (parsed bytes) (t Length) (t Trailing);
       short = ltb-false _ _ (t TooLong);
-      tag = same_text (tag_in bytes) (tag_of key (tagged_in bytes)) (sym (not-false _ (t Tag)));
+      tag = same_text (tag_in bytes) (tag_of key (tagged_in bytes)) (sym (not_false _ (t Tag)));
     }
 
 -- the header's bytes, cut at its fields
@@ -233,7 +235,7 @@ no_fault key bytes c t f =
         | inr a ↦ a.0 (r.frame ∙ p.limits.frame.1 (sym r.count ∙ a.1))
       ]
       | Length ↦ λ h. h c.items [] s
-      | Trailing ↦ λ h. h.2 (ap (λ x. x.1) (some_is (h.0, h.1) (c.items, []) (sym (stand_again (count_in bytes) (items_in bytes) h.0 h.1 h.3) ∙ r.parsed)))
+      | Trailing ↦ λ h. h.2 (ap (λ x. x.1) (some_same (h.0, h.1) (c.items, []) (sym (stand_again (count_in bytes) (items_in bytes) h.0 h.1 h.3) ∙ r.parsed)))
       | TooLong ↦ λ h. let l = r.len in absurd (omega arith)
       | Tag ↦ λ h. h (r.tag ∙ ap (tag_of key) (sym r.tagged))
     ]
@@ -275,15 +277,6 @@ text_read key c p =
     ap (λ o. unless o (content_in (packet_text key c))) t.0 ∙ ap Ok t.1
 
 -- ---- what decoding answers
-
--- what was read, where nothing is wrong
-pub found_text : (key bytes : List ℕ) (o : Option PacketFault) → IsBytes bytes → fault_in key bytes ≡ o → IfNone o (IsText key bytes (content_in bytes))
-found_text key bytes None fits e = is_text key bytes fits e
-found_text key bytes (Some f) fits e = tt
-
-pub found_fault : (key bytes : List ℕ) (o : Option PacketFault) → IsBytes bytes → fault_in key bytes ≡ o → IfSome o (IsFirstFault key bytes)
-found_fault key bytes None fits e = tt
-found_fault key bytes (Some f) fits e = is_first_fault key bytes f fits e
 
 pub is_there : (key bytes : List ℕ) → fault_in key bytes ≡ None → IsSome (parsed bytes)
 is_there key bytes none = ap is_some (good key bytes none).parsed

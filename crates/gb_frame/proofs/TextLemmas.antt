@@ -11,7 +11,8 @@ use Rattle.gb_frame.specs.Fields.{version_in, from_in, to_in, base_in, mask_in, 
 use Rattle.gb_frame.specs.Reading.{parsed, items_at}
 use Rattle.gb_frame.proofs.RoomLemmas.{count_fits}
 use Rattle.gb_frame.proofs.NumberLemmas.{wide16, wide64, number_again}
-use Rattle.gb_frame.proofs.ItemLemmas.{items_again, some_is}
+use Rattle.gb_frame.proofs.ItemLemmas.{items_again}
+use Rattle.gb_types.proofs.ReadLemmas.{some_same}
 
 pub length-tag_of : (key text : List ℕ) → length (tag_of key text) ≡ 8
 unfolding tag_of
@@ -75,7 +76,7 @@ one_packet key bytes c d s t =
     let base : c.base ≡ d.base = sym r.base ∙ q.base in
     let mask : c.mask ≡ d.mask = sym r.mask ∙ q.mask in
     let frame : c.frame ≡ d.frame = sym r.frame ∙ q.frame in
-    let items : c.items ≡ d.items = ap (λ x. x.0) (some_is (c.items, []) (d.items, []) (sym r.parsed ∙ q.parsed)) in
+    let items : c.items ≡ d.items = ap (λ x. x.0) (some_same (c.items, []) (d.items, []) (sym r.parsed ∙ q.parsed)) in
     λ i. record { from = from i; to = to i; base = base i; mask = mask i; frame = frame i; items = items i }
 
 -- a packet has one text under a key

@@ -98,7 +98,7 @@ fails_first : (b : Bool) (n l : ℕ) → l + 1 ≤ cond (not b) (1 + n) 0 → (b
 fails_first true n l h = absurd (omega arith)
 fails_first false n l h = (refl, omega arith)
 
-none_pass : (t : Row → Bool) (rows : List Row) (p : ℕ) → length rows ≤ position_or_len t rows → p < length rows → t (row_at rows p) ≡ false
+pub none_pass : (t : Row → Bool) (rows : List Row) (p : ℕ) → length rows ≤ position_or_len t rows → p < length rows → t (row_at rows p) ≡ false
 none_pass t [] p h l = absurd (omega arith)
 none_pass t (row ∷ rows) zero h l = (fails_first (t row) (position_or_len t rows) (length rows) (omega (arith, h))).0
 none_pass t (row ∷ rows) (suc p) h l = none_pass t rows p (fails_first (t row) (position_or_len t rows) (length rows) (omega (arith, h))).1 (omega arith)

@@ -17,6 +17,7 @@ use Rattle.std.proofs.lemmas.Bool.{lt-ltb, le-leb}
 use Rattle.gb_types.proofs.SameLemmas.{same_number}
 use Rattle.gb_types.specs.declared.limits.TheConstants.{NODES, PAYLOAD}
 use Rattle.gb_types.specs.declared.node.NodeId.{NodeId}
+use Rattle.gb_types.proofs.BoolLemmas.{and_sides}
 use Rattle.gb_frame.specs.declared.item.Item.{Item}
 use Rattle.gb_slot.specs.Slot.{slot_came}
 
@@ -24,14 +25,10 @@ use Rattle.gb_slot.specs.Slot.{slot_came}
 pub place_is : (addr : Addr) (rows : List Row) (p : ℕ) → Some p ≡ place_of addr rows → (p < length rows) × (is_addr addr (row_at rows p).addr ≡ true)
 place_is addr rows p e = let h = position-Some (λ (row : Row). is_addr addr row.addr) rows p no_row (sym e) in (h.0, h.1)
 
-pub both_true : (a b : Bool) → (a && b) ≡ true → (a ≡ true) × (b ≡ true)
-both_true true b e = (refl, e)
-both_true false b e = absurd (cc)
-
 pub addr_through : (g addr a : Addr) → is_addr g a ≡ true → is_addr addr a ≡ true → is_addr g addr ≡ true
 addr_through g addr a e f =
-    let x = both_true (nat_eq g.tenant a.tenant) (nat_eq g.group a.group) e in
-    let y = both_true (nat_eq addr.tenant a.tenant) (nat_eq addr.group a.group) f in
+    let x = and_sides (nat_eq g.tenant a.tenant) (nat_eq g.group a.group) e in
+    let y = and_sides (nat_eq addr.tenant a.tenant) (nat_eq addr.group a.group) f in
     let t : g.tenant ≡ addr.tenant = eqb-true g.tenant a.tenant x.0 ∙ sym (eqb-true addr.tenant a.tenant y.0) in
     let u : g.group ≡ addr.group = eqb-true g.group a.group x.1 ∙ sym (eqb-true addr.group a.group y.1) in
     ap (λ b. b && nat_eq g.group addr.group) (eq-eqb g.tenant addr.tenant t) ∙ eq-eqb g.group addr.group u

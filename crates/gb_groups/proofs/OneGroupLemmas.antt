@@ -1,6 +1,6 @@
 -- What each call makes of each group by itself.
 use Rattle.std.proofs.Common.{◌≡◌, ℕ, suc, zero, ◌+◌, ◌<◌, inl, inr, List, [], ◌∷◌, ◌++◌, length, map, take, get_or, refl, sym, ap, ◌∙◌, arith, zero-add}
-use Rattle.std.specs.Prelude.{Bool, true, false, not, cond, ltb, ◌==◌, ◌&&◌, nat_eq, nat_lt, nat_le, filter, fold, is_some, Option, Some, None, option_map, slice_set, if◌then◌else◌}
+use Rattle.std.specs.Prelude.{Bool, true, false, not, cond, ltb, ◌==◌, ◌&&◌, nat_eq, nat_lt, nat_le, fold, is_some, Option, Some, None, option_map, slice_set, if◌then◌else◌}
 use Rattle.std.specs.List.{position_or_len}
 use Rattle.std.proofs.Common.{eqb-true}
 use Rattle.std.proofs.lemmas.Bool.{cases_Bool, cases_lt, lt-ltb, le-ltb, ltb-true}
@@ -8,6 +8,7 @@ use Rattle.std.proofs.lemmas.List.Sums.{length-filter}
 use Rattle.gb_types.specs.declared.address.Addr.{Addr}
 use Rattle.gb_types.specs.declared.limits.TheConstants.{NODES, PAYLOAD}
 use Rattle.gb_types.specs.declared.node.NodeId.{NodeId}
+use Rattle.gb_types.proofs.BoolLemmas.{and_sides}
 use Rattle.gb_frame.specs.declared.item.Item.{Item}
 use Rattle.gb_rules.proofs.AddressLemmas.{addr_is}
 use Rattle.gb_rules.specs.Address.{is_addr}
@@ -22,9 +23,10 @@ use Rattle.gb_groups.specs.AtAddress.{place_of, step_at, on_address, gone_at, dr
 use Rattle.gb_rules.specs.Lifetime.{stepped, dropped, or_added, where_so}
 use Rattle.gb_groups.specs.OneGroup.{group_in, came_for, waiting_in, EachGroup, StayApart}
 use Rattle.gb_groups.proofs.AddLemmas.{end_apart}
-use Rattle.gb_groups.proofs.AddressLemmas.{place_is, addr_through, both_true}
+use Rattle.gb_groups.proofs.AddressLemmas.{place_is, addr_through}
 use Rattle.gb_groups.proofs.BatchLemmas.{get_or-gave}
 use Rattle.gb_groups.proofs.FrontLemmas.{is_below, agree, filter-map, batch_below, batch_of, items_front}
+use Rattle.gb_layer.specs.Lists.{same_filter, filter-never}
 
 -- The group with an address is the first that has it.
 
@@ -103,7 +105,7 @@ gone_is rows (Some p) = refl
 -- one address is another: then both tests are the same
 through : (g addr a : Addr) → is_addr g addr ≡ true → is_addr g a ≡ is_addr addr a
 through g addr a e =
-    let x = both_true (nat_eq g.tenant addr.tenant) (nat_eq g.group addr.group) e in
+    let x = and_sides (nat_eq g.tenant addr.tenant) (nat_eq g.group addr.group) e in
     ap (λ n. nat_eq n a.tenant && nat_eq g.group a.group) (eqb-true g.tenant addr.tenant x.0) ∙ ap (λ n. nat_eq addr.tenant a.tenant && nat_eq n a.group) (eqb-true g.group addr.group x.1)
 
 module _ (g addr : Addr) (change : Row → Row) (slot : Option SlotState → Option SlotState) (kept : (r : Row) → (change r).addr ≡ r.addr) (does : (r : Row) → (change r).slot ≡ slot r.slot) where
@@ -186,11 +188,6 @@ all_in g step rows = group_first g (map (on_slot step) rows) ∙ (first_all g st
 
 -- Items of a frame.
 
-swapped : (b c : Bool) (step : Option (Option SlotState) → Option (Option SlotState)) (o : Option (Option SlotState)) → where_so b (where_so c step) o ≡ where_so c (where_so b step) o
-swapped true c step o = refl
-swapped false true step o = refl
-swapped false false step o = refl
-
 item_in : (g : Addr) (from : NodeId) (i : Item) (rows : List Row) → group_in g (item_came from i rows) ≡ where_so (names g i) (λ o. came_for from o i) (group_in g rows)
 item_in g from i rows =
     let b = nat_lt i.origin NODES && nat_le (length i.payload) PAYLOAD in
@@ -234,10 +231,6 @@ names_is g row i e =
     through g row.addr (address_of i) e
     ∙ (ap (λ b. b && nat_eq row.addr.group i.group) (eq_swap row.addr.tenant i.tenant) ∙ ap (λ b. (i.tenant == row.addr.tenant) && b) (eq_swap row.addr.group i.group))
 
-filter_same : {X : Type 0} (f h : X → Bool) → ((x : X) → f x ≡ h x) → (xs : List X) → filter f xs ≡ filter h xs
-filter_same f h e [] = refl
-filter_same f h e (x ∷ xs) = ap (λ b. cond b (x ∷ filter f xs) (filter f xs)) (e x) ∙ ap (λ ys. cond (h x) (x ∷ ys) ys) (filter_same f h e xs)
-
 map-length : {X Y : Type 0} (f : X → Y) (xs : List X) → length (map f xs) ≡ length xs
 map-length f [] = refl
 map-length f (x ∷ xs) = ap suc (map-length f xs)
@@ -267,10 +260,6 @@ first_at g (r ∷ rows) (suc p) l e =
       | inr h ↦ rw h (first_at g rows p (omega arith) e)
     ]
 
-filter_none : {X : Type 0} (xs : List X) → filter (λ x. false) xs ≡ []
-filter_none [] = refl
-filter_none (x ∷ xs) = filter_none xs
-
 module _ (g : Addr) (dest room : ℕ) (t : GroupsValue) (apart : AreApart t.rows) where
   abbrev vs : List Visit
   vs = batch dest room t
@@ -288,13 +277,13 @@ module _ (g : Addr) (dest room : ℕ) (t : GroupsValue) (apart : AreApart t.rows
         | inr h ↦ h
       ] in
       filter-map (names g) (item_at t.rows) vs
-      ∙ (ap (map (item_at t.rows)) (agree (is_below (length t.rows)) (λ v. names g (item_at t.rows v)) (λ v. false) off vs (batch_below dest room t)) ∙ ap (map (item_at t.rows)) (filter_none vs))
+      ∙ (ap (map (item_at t.rows)) (agree (is_below (length t.rows)) (λ v. names g (item_at t.rows v)) (λ v. false) off vs (batch_below dest room t)) ∙ ap (map (item_at t.rows)) (filter-never vs))
 
   -- those of a group at a place are a front of what waits there
   present : (p : ℕ) → Some p ≡ place_of g t.rows → items_for g is ≡ map (item_for g) (take (share p vs) (queue dest (row_at t.rows p)))
   present p e =
       let there = place_is g t.rows p e in
-      filter_same (names g) (is_of (row_at t.rows p)) (λ i. names_is g (row_at t.rows p) i there.1) is
+      same_filter (names g) (is_of (row_at t.rows p)) (λ i. names_is g (row_at t.rows p) i there.1) is
       ∙ (items_front dest room t p apart there.0 ∙ ap (λ a. map (item_for a) (take (share p vs) (queue dest (row_at t.rows p)))) (sym (addr_is g (row_at t.rows p).addr there.1)))
 
   share_is : (p : ℕ) → Some p ≡ place_of g t.rows → length (items_for g is) ≡ share p vs

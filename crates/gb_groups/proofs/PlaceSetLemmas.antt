@@ -121,23 +121,10 @@ none_of zero i = refl
 none_of (suc n) zero = refl
 none_of (suc n) (suc i) = none_of n i
 
--- words of zeros have no place
-pub has-none : (n p : ℕ) → has (replicate {A = ℕ} n 0) p ≡ 0
-unfolding has
-has-none n p = ap (λ w. bit_at w (p % 64)) (none_of n (p / 64)) ∙ bit_at-zero (p % 64)
-
 -- words that differ in nothing but zeros behind the last have the same places
 pub has-same : (words other : List ℕ) (p : ℕ) → ((a : ℕ) → get_or other a 0 ≡ get_or words a 0) → has other p ≡ has words p
 unfolding has
 has-same words other p same = ap (λ w. bit_at w (p % 64)) (same (p / 64))
-
--- a set has a word for each place that it has
-pub has-within : (words : List ℕ) (p : ℕ) → has words p ≡ 1 → p < 64 * length words
-has-within words p h =
-    elim (cases_lt (p / 64) (length words)) [
-      | inl l ↦ omega arith
-      | inr l ↦ let none = has-past words p l in absurd (omega arith)
-    ]
 
 -- words with zeros behind them
 pub lengthened : (words other : List ℕ) (n p : ℕ) → length words ≤ n → length other ≡ n → ((a : ℕ) → a < length words → get_or other a 0 ≡ get_or words a 0) → ((a : ℕ) → length words ≤ a → a < n → get_or other a 0 ≡ 0) → has other p ≡ has words p

@@ -125,18 +125,6 @@ empty (x ∷ q) h = absurd (omega arith)
 pub nothing_past : (dest : ℕ) (rows : List Row) (p : ℕ) → length rows ≤ p → get_or (queues dest rows) p [] ≡ []
 nothing_past dest rows p h = let l = length-queues dest rows in get_or_past (queues dest rows) p [] (omega arith)
 
-pub pass : (dest : ℕ) (rows : List Row) (p from : ℕ) → p < length rows → get_or (queues dest rows) p [] ≡ [] → walk p (queues dest rows) ≡ walk from (queues dest rows) → walk (p + 1) (queues dest rows) ≡ walk from (queues dest rows)
-pass dest rows p from h e w =
-    let l = length-queues dest rows in
-    let o : p + 1 ≡ suc p = omega arith in
-    rw o (sym (walk_idle p (queues dest rows) (omega arith) e) ∙ w)
-
 pub first_of_gives : (p : ℕ) (q : List Entry) (qs : List (List Entry)) → p < length qs → get_or qs p [] ≡ q → 0 < length q → first_place (walk p qs) ≡ Some p
 first_of_gives p [] qs h e z = absurd (omega arith)
 first_of_gives p (x ∷ q) qs h e z = ap first_place (walk_gives p x q qs h e)
-
--- a group where something waits is the first of the walk
-pub found : (dest : ℕ) (rows : List Row) (p : ℕ) (row : Row) (from : ℕ) → p < length rows → row ≡ get_or rows p row → 0 < length (queue dest row) → walk p (queues dest rows) ≡ walk from (queues dest rows) → Some p ≡ first_place (walk from (queues dest rows))
-found dest rows p row from h e z w =
-    let l = length-queues dest rows in
-    sym (ap first_place (sym w) ∙ first_of_gives p (queue dest row) (queues dest rows) (omega arith) (queues_at dest rows p row h e) z)

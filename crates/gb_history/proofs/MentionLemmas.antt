@@ -6,7 +6,7 @@ use Rattle.gb_types.specs.Message.{same}
 use Rattle.gb_types.specs.declared.entry.Entry.{Entry}
 use Rattle.gb_types.specs.declared.message.MsgId.{MsgId}
 use Rattle.gb_types.proofs.SameLemmas.{same-true}
-use Rattle.gb_layer.specs.Lists.{or_swap}
+use Rattle.gb_types.proofs.BoolLemmas.{or_swap}
 use Rattle.gb_layer.specs.Machine.{mentions}
 use Rattle.gb_history.specs.declared.call.GroupCall.{GroupCall}
 use Rattle.gb_history.specs.declared.call.GroupCall.TheVariants.{Own, Other, Crashed}

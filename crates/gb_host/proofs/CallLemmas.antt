@@ -1,10 +1,10 @@
 -- The calls in a tape and in a list, an entry further.
-use Rattle.std.proofs.Common.{◌≡◌, ◌≢◌, ℕ, zero, suc, ◌≤◌, ◌==◌, Bool, true, false, List, [], ◌∷◌, ◌++◌, length, refl, sym, ap, ◌∙◌, arith, cond, Option, Some, None, IfNone, get_or}
+use Rattle.std.proofs.Common.{◌≡◌, ◌≢◌, ℕ, zero, suc, ◌≤◌, ◌==◌, List, [], ◌∷◌, ◌++◌, length, refl, sym, ap, ◌∙◌, arith, cond, Option, Some, None, IfNone, get_or}
 use Rattle.std.proofs.lemmas.Bool.{ne_eqb, eq-eqb}
 use Rattle.gb_node.specs.declared.tape.TapeEntry.{TapeEntry}
 use Rattle.gb_host.specs.Calls.{Call, calls_of, calls_at, numbered}
 use Rattle.gb_host.specs.Closing.{list_at, IsOther}
-use Rattle.gb_host.specs.Walk.{left_of, HasMoved, IsWalked}
+use Rattle.gb_host.specs.Walk.{left_of, IsWalked}
 use Rattle.gb_host.specs.declared.compare.Cursor.{Cursor}
 use Rattle.gb_host.specs.declared.entry.SeatEntry.{SeatEntry}
 
@@ -25,28 +25,6 @@ pub of_miss : (seat : ℕ) (e : TapeEntry) (es : List TapeEntry) → e.seat ≢ 
 of_miss seat e es h = ap (λ b. cond b (call_of e ∷ calls_of seat es) (calls_of seat es)) (ne_eqb e.seat seat h)
 
 -- A walk.
-
-first_of : (b : Bool) (x : ℕ × Call) (xs : List (ℕ × Call)) → cond b (x ∷ xs) xs ≡ cond b (x ∷ []) [] ++ xs
-first_of true x xs = refl
-first_of false x xs = refl
-
-of_cons : (s : ℕ) (e : TapeEntry) (es : List TapeEntry) → calls_of s (e ∷ es) ≡ calls_of s (e ∷ []) ++ calls_of s es
-of_cons s e es = first_of (e.seat == s) (call_of e) (calls_of s es)
-
-cancel : {X : Type 0} (xs ys zs : List X) → xs ++ ys ≡ xs ++ zs → ys ≡ zs
-cancel [] ys zs h = h
-cancel (x ∷ xs) ys zs h = cancel xs ys zs cc
-
-pub walked_more : (node : ℕ) (tape : List TapeEntry) (lists : List (List SeatEntry)) (e : TapeEntry) (left : List TapeEntry) (old new : List Cursor) → IsWalked node tape lists (e ∷ left) old → HasMoved node e lists old new → IsWalked node tape lists left new
-walked_more node tape lists e left old new walked step s =
-    let now = walked s in (
-      λ h. cancel (calls_of s (e ∷ [])) (calls_of s left) (left_of node lists new s) (sym (of_cons s e left) ∙ (now.0 h ∙ step s)),
-      λ h. now.1 (of_cons s e left ∙ (ap (λ cs. calls_of s (e ∷ []) ++ cs) h ∙ sym (step s))),
-    )
-
--- a walk that has not begun
-pub walked_new : (node : ℕ) (tape : List TapeEntry) (lists : List (List SeatEntry)) (cursors : List Cursor) → ((s : ℕ) → left_of node lists cursors s ≡ numbered 0 (calls_at node (list_at lists s))) → IsWalked node tape lists tape cursors
-walked_new node tape lists cursors new s = (λ h. h ∙ sym (new s), λ h. h ∙ new s)
 
 -- and one that has ended
 pub walked_all : (node : ℕ) (tape : List TapeEntry) (lists : List (List SeatEntry)) (left : List TapeEntry) (cursors : List Cursor) → IsWalked node tape lists left cursors → left ≡ [] → ((s : ℕ) → left_of node lists cursors s ≡ [])

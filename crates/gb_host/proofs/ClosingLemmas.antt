@@ -1,7 +1,5 @@
 -- What follows where each list is its entries in the tapes.
 use Rattle.std.proofs.Common.{◌≡◌, ◌≢◌, ℕ, zero, suc, ◌+◌, ◌<◌, ◌≤◌, ◌==◌, Bool, true, false, List, [], ◌∷◌, ◌++◌, length, refl, sym, ap, ap₂, ◌∙◌, arith, cond, eqb, get_or, append_assoc, sum_by, inl, inr, ◌⊎◌, subst, add_assoc, add_comm, zero-add}
-use Rattle.std.specs.Prelude.{Result, Ok, Err, IfErr}
-use Rattle.std.specs.Result.{IsErrAnd}
 use Rattle.std.proofs.lemmas.Bool.{eq-eqb, ne_eqb}
 use Rattle.std.proofs.lemmas.Bool.Decides.{eqb_tells}
 use Rattle.std.proofs.lemmas.List.Sums.{sum_by-append}
@@ -16,13 +14,12 @@ use Rattle.gb_node.specs.declared.plan.NodePlan.{NodePlan}
 use Rattle.gb_host.specs.declared.plan.HostPlan.{HostPlan}
 use Rattle.gb_node.specs.declared.tape.TapeEntry.{TapeEntry}
 use Rattle.gb_host.specs.declared.entry.SeatEntry.{SeatEntry}
-use Rattle.gb_host.specs.declared.fault.HostFault.{HostFault}
 use Rattle.gb_host.specs.declared.fault.HostFault.TheVariants as Fault
 use Rattle.gb_host.specs.SeatValue.{SeatValue}
 use Rattle.gb_host.specs.Plans.{plan_of}
 use Rattle.gb_host.specs.Calls.{Call, calls_of, calls_at, numbered}
 use Rattle.gb_host.specs.Replay.{happened, past_of, IsReplay}
-use Rattle.gb_host.specs.Closing.{tape_at, list_at, list_of, AreReplays, AreSame, IsOther, AreFresh, tape_entries, seat_entries}
+use Rattle.gb_host.specs.Closing.{tape_at, list_at, list_of, AreReplays, AreSame, AreFresh, tape_entries, seat_entries}
 use Rattle.gb_host.proofs.CallLemmas.{call_of, past_end, at_hit, at_miss, of_hit, of_miss}
 
 -- a sum over the numbers below n
@@ -272,11 +269,3 @@ closed_entries tapes lists seats sum same = same_entries tapes lists same ∙ su
 pub closed_fresh : (p : HostPlan) (nodes : List NodeValue) (tapes : List (List TapeEntry)) (lists : List (List SeatEntry)) (seats : List SeatValue) → p.tape ≡ true → AreReplays p p.cluster.nodes nodes tapes
     → ((s : ℕ) → list_at lists s ≡ list_of seats s) → AreSame tapes (list_at lists) → AreFresh p tapes (list_of seats)
 closed_fresh p nodes tapes lists seats on replays h same = all_fresh p nodes tapes (list_of seats) on replays (closed_same tapes lists seats h same)
-
-pub other_list : (tapes : List (List TapeEntry)) (lists : List (List SeatEntry)) (seats : List SeatValue) (s : ℕ) → ((s : ℕ) → list_at lists s ≡ list_of seats s) → IsOther tapes s (list_at lists s) → IsOther tapes s (list_of seats s)
-other_list tapes lists seats s h other = (other.0, λ e. other.1 (e ∙ ap (λ xs. numbered 0 (calls_at other.0 xs)) (sym (h s))))
-
--- a closing for which there was no memory
-pub lacks_memory : {T : Type 0} (r : Result T HostFault) → IsErrAnd r (λ e. e ≡ Fault.OutOfMemory) → IfErr r (λ e. (e ≡ Fault.NoNode) ⊎ (e ≡ Fault.OutOfMemory))
-lacks_memory (Ok v) is = tt
-lacks_memory (Err e) is = inr is

@@ -1,30 +1,12 @@
 -- Gathering lists by number.
-use Rattle.std.proofs.Common.{◌≡◌, ◌≢◌, ℕ, ◌+◌, ◌<◌, Bool, true, false, List, [], ◌∷◌, ◌++◌, length, refl, sym, ap, ◌∙◌, arith, cond, eqb, get_or, set, take, append_assoc, sum_by, inl, inr, ◌⊎◌}
+use Rattle.std.proofs.Common.{◌≡◌, ◌≢◌, ℕ, ◌+◌, ◌<◌, Bool, true, false, List, [], ◌∷◌, ◌++◌, length, sym, ap, ◌∙◌, arith, cond, eqb, get_or, set, take, append_assoc, sum_by, inl, inr, ◌⊎◌}
 use Rattle.std.proofs.lemmas.Bool.{false≢true}
 use Rattle.std.proofs.lemmas.Bool.Decides.{eqb_tells}
 use Rattle.std.proofs.lemmas.List.{length-set, get_or-set_same, get_or-set_other, take_at}
 use Rattle.std.proofs.lemmas.List.Sums.{sum_by-set, sum_by-append}
-use Rattle.std.proofs.lemmas.Grind.{common_steps}
 use Rattle.gb_host.specs.declared.entry.SeatEntry.{SeatEntry}
 use Rattle.gb_host.specs.SeatValue.{SeatValue}
 use Rattle.gb_host.specs.Closing.{list_at, list_of, seat_entries, Gathered}
-
-append_nil : {X : Type 0} (xs : List X) → xs ≡ xs ++ []
-append_nil [] = refl
-append_nil (x ∷ xs) = ap (λ ys. x ∷ ys) (append_nil xs)
-
-pub blank_more : (xs : List (List SeatEntry)) → ((s : ℕ) → list_at xs s ≡ []) → (s : ℕ) → list_at (xs ++ [] ∷ []) s ≡ []
-blank_more xs h s = let k = h s in grind (arith, common_steps, k)
-
-pub gathered_start : (all : List SeatValue) (lists : List (List SeatEntry)) (given : List Bool) → ((s : ℕ) → list_at lists s ≡ []) → length given ≡ length lists → sum_by length lists ≡ 0 → Gathered all all lists given
-gathered_start all lists given blank as_many sum = record {
-  late = [];
-  split = append_nil all;
-  kept = blank;
-  free = λ s _. blank s;
-  as_many = as_many;
-  sum = sum;
-}
 
 list_kept : (x : SeatValue) (late : List SeatValue) (lists : List (List SeatEntry)) (s : ℕ) → ((s : ℕ) → list_at lists s ≡ list_of late s) → x.number < length lists
     → ((eqb x.number s ≡ true) × (x.number ≡ s)) ⊎ ((eqb x.number s ≡ false) × (x.number ≢ s)) → list_at (set lists x.number x.list) s ≡ list_of (x ∷ late) s
@@ -61,12 +43,6 @@ gathered_more all rest less x lists given g pop under free = record {
       let t : seat_entries (x ∷ g.late) ≡ (0 + length x.list) + seat_entries g.late = sum_by-append (λ (y : SeatValue). length y.list) (x ∷ []) g.late in
       let f : sum_by length (set lists x.number x.list) ≡ (0 + length x.list) + seat_entries g.late = omega arith in f ∙ sym t;
 }
-
-pub gathered_lists : (all : List SeatValue) (lists : List (List SeatEntry)) (given : List Bool) → Gathered all [] lists given → (s : ℕ) → list_at lists s ≡ list_of all s
-gathered_lists all lists given g s = g.kept s ∙ ap (λ xs. list_of xs s) (sym g.split)
-
-pub gathered_entries : (all : List SeatValue) (lists : List (List SeatEntry)) (given : List Bool) → Gathered all [] lists given → sum_by length lists ≡ seat_entries all
-gathered_entries all lists given g = g.sum ∙ ap seat_entries (sym g.split)
 
 -- the same where lists and marks were lent as slices, and are back
 pub gathered_step : (all rest less : List SeatValue) (x : SeatValue) (lists lent put more : List (List SeatEntry)) (given lent_given put_given more_given : List Bool) (n m : ℕ) → Gathered all rest lists given → rest ≡ less ++ x ∷ []

@@ -26,6 +26,7 @@ use Rattle.gb_node.specs.declared.answer.NodeAnswer.TheVariants.{Taken}
 use Rattle.gb_node.specs.declared.answer.PacketAnswer.TheVariants.{Good as TakenGood}
 use Rattle.gb_node.specs.declared.event.NodeEvent.TheVariants.{Packet as Brought}
 use Rattle.gb_node.specs.declared.plan.NodePlan.{NodePlan}
+use Rattle.gb_node.proofs.TookLemmas.{numbered_is}
 use Rattle.gb_cluster.specs.ClusterValue.{node_plan}
 use Rattle.gb_cluster.specs.Run.{Did, past_at}
 use Rattle.gb_types.specs.declared.plan.Plan.{Plan}
@@ -33,7 +34,7 @@ use Rattle.gb_isolation.specs.Project.{items_of, items_in, offset, made_with, re
 use Rattle.gb_isolation.proofs.View.{View, view_of, Fits, Goes, AreMarked, frames_for, view_at, AllFit}
 use Rattle.gb_isolation.proofs.GoesLemmas.{goes_on}
 use Rattle.gb_isolation.proofs.DoneLemmas.{IsFit, with_acks, acks_goes}
-use Rattle.gb_isolation.proofs.PastLemmas.{number_same, node_same}
+use Rattle.gb_isolation.proofs.PastLemmas.{number_same}
 use Rattle.gb_isolation.proofs.ComeLemmas.{with_frame, frame_goes}
 
 -- The view.
@@ -116,11 +117,11 @@ module _ (plan : Plan) (g : Addr) (run : List Did) (a : NodeId) (bytes : List �
 
   -- the frames that the sender packed for the node
   forth : frames_from s.number ≡ frames_to key a.number (past_at s run)
-  forth = ap (λ (x : NodeId). frames_to key a.number (past_at x run)) (node_same s)
+  forth = ap (λ (x : NodeId). frames_to key a.number (past_at x run)) (numbered_is s)
 
   -- what is acknowledged has come to the sender
   come : AreMarked g (v.frames s.number) (λ n. is_taken key a.number n (past_at s run)) ((group s.number).come a.number)
-  come = subst (λ (x : NodeId). AreMarked g (frames_to key s.number (past_at x run)) (λ n. is_taken key a.number n (past_at s run)) ((group s.number).come a.number)) (node_same a) (sender.come a.number inside)
+  come = subst (λ (x : NodeId). AreMarked g (frames_to key s.number (past_at x run)) (λ n. is_taken key a.number n (past_at s run)) ((group s.number).come a.number)) (numbered_is a) (sender.come a.number inside)
 
   abbrev u : View
   u = with_acks g a s c.from covered v

@@ -8,6 +8,7 @@ use Rattle.std.proofs.lemmas.Option.{same_Some}
 use Rattle.std.proofs.lemmas.List.{append-nil, take_all}
 use Rattle.std.proofs.lemmas.List.Elements.{All-nil, All-cons, All-head, All-tail}
 use Rattle.std.proofs.lemmas.List.Sums.{fold-append}
+use Rattle.std.proofs.Math.Bool.{and-false, or-false, or_assoc}
 use Rattle.gb_types.specs.Entry.{message_of}
 use Rattle.gb_types.specs.declared.address.Addr.{Addr}
 use Rattle.gb_types.specs.declared.entry.Entry.{Entry}
@@ -120,14 +121,6 @@ all_done-same me from (i ∷ xs) o =
 
 -- Which acknowledgements it tells of.
 
-last_false : (t : Bool) → t ≡ (t || false)
-last_false true = refl
-last_false false = refl
-
-and_false : (t : Bool) → (t && false) ≡ false
-and_false true = refl
-and_false false = refl
-
 -- one item is acknowledged
 done_told-one : (me from : NodeId) (i : Item) (k c : ℕ) (o : Option (Option Told)) → IsFit i → k < said_of o
     → acknowledged_of (done_told me from o i) (k + 1) c ≡ (acknowledged_of o (k + 1) c || (nat_eq c from.number && is_own me.number (k + 1) (entry_of i)))
@@ -144,7 +137,7 @@ done_told-one me from i k c (Some (Some t)) fit low =
 -- these items are acknowledged
 items_done : (me from : NodeId) (k c : ℕ) (xs : List Item) (o : Option (Option Told)) → All IsFit xs → k < said_of o
     → acknowledged_of (fold (done_told me from) o xs) (k + 1) c ≡ (acknowledged_of o (k + 1) c || (nat_eq c from.number && list_any (is_own me.number (k + 1)) (map entry_of xs)))
-items_done me from k c [] o fits low = last_false (acknowledged_of o (k + 1) c) ∙ ap (λ t. acknowledged_of o (k + 1) c || t) (sym (and_false (nat_eq c from.number)))
+items_done me from k c [] o fits low = sym (or-false (acknowledged_of o (k + 1) c)) ∙ ap (λ t. acknowledged_of o (k + 1) c || t) (sym (and-false (nat_eq c from.number)))
 items_done me from k c (i ∷ xs) o fits low =
     let one = done_told-one me from i k c o (All-head IsFit i xs fits) low in
     let said = (done_told-same me from o i).said in
@@ -192,7 +185,7 @@ acks_taken nodes me from xs o carried done next fits more others kept = record {
     by b k (inr other) =
         let off : nat_eq b from.number ≡ false = grind (arith, nat_tests, other) in
         ap (λ t. is_acknowledged me.number (k + 1) (done b) 1 (carried b) || (t && list_any (is_own me.number (k + 1)) (map entry_of xs))) off
-        ∙ (sym (last_false (is_acknowledged me.number (k + 1) (done b) 1 (carried b))) ∙ ap (λ d. is_acknowledged me.number (k + 1) d 1 (carried b)) (sym (others b other)))
+        ∙ (or-false (is_acknowledged me.number (k + 1) (done b) 1 (carried b)) ∙ ap (λ d. is_acknowledged me.number (k + 1) d 1 (carried b)) (sym (others b other)))
 
 -- Places and items.
 
@@ -226,13 +219,9 @@ own_at-append : (me k : ℕ) (test : ℕ → Bool) (place : ℕ) (xs ys : List E
 own_at-append me k test place [] ys = ap (λ p. is_own_at me k test p ys) (omega arith)
 own_at-append me k test place (x ∷ xs) ys =
     ap (λ b. (is_own me k x && test place) || b) (own_at-append me k test (place + 1) xs ys)
-    ∙ (assoc (is_own me k x && test place) (is_own_at me k test (place + 1) xs) (is_own_at me k test (place + 1 + length xs) ys)
+    ∙ (sym (or_assoc (is_own me k x && test place) (is_own_at me k test (place + 1) xs) (is_own_at me k test (place + 1 + length xs) ys))
     ∙ ap (λ p. ((is_own me k x && test place) || is_own_at me k test (place + 1) xs) || is_own_at me k test p ys) (plus place (length xs)))
   where
-    assoc : (a b c : Bool) → (a || (b || c)) ≡ ((a || b) || c)
-    assoc true b c = refl
-    assoc false b c = refl
-
     plus : (a b : ℕ) → a + 1 + b ≡ a + suc b
     plus a b = omega arith
 
@@ -278,13 +267,9 @@ any_joined : (g : Addr) (me k : ℕ) (f xs : List Item) → list_any (is_own me 
 any_joined g me k [] xs = refl
 any_joined g me k (i ∷ f) xs = by (names g i) (any_joined g me k f xs)
   where
-    assoc : (a b c : Bool) → (a || (b || c)) ≡ ((a || b) || c)
-    assoc true b c = refl
-    assoc false b c = refl
-
     by : (t : Bool) → list_any (is_own me k) (items_in g (f ++ xs)) ≡ (list_any (is_own me k) (items_in g f) || list_any (is_own me k) (items_in g xs))
         → list_any (is_own me k) (map entry_of (cond t (i ∷ items_for g (f ++ xs)) (items_for g (f ++ xs)))) ≡ (list_any (is_own me k) (map entry_of (cond t (i ∷ items_for g f) (items_for g f))) || list_any (is_own me k) (items_in g xs))
-    by true same = ap (λ b. is_own me k (entry_of i) || b) same ∙ assoc (is_own me k (entry_of i)) (list_any (is_own me k) (items_in g f)) (list_any (is_own me k) (items_in g xs))
+    by true same = ap (λ b. is_own me k (entry_of i) || b) same ∙ sym (or_assoc (is_own me k (entry_of i)) (list_any (is_own me k) (items_in g f)) (list_any (is_own me k) (items_in g xs)))
     by false same = same
 
 -- of these frames that did not pass before those that pass now

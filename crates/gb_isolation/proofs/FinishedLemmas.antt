@@ -7,6 +7,7 @@ use Rattle.gb_types.specs.declared.entry.Entry.{Entry}
 use Rattle.gb_types.specs.declared.address.Addr.{Addr}
 use Rattle.gb_types.specs.declared.limits.TheConstants.{NODES}
 use Rattle.gb_types.proofs.AllMemberLemmas.{all_rising}
+use Rattle.gb_types.proofs.BoolLemmas.{or_sides}
 use Rattle.gb_frame.specs.declared.item.Item.{Item}
 use Rattle.gb_history.specs.History.{said_in, has_noticed}
 use Rattle.gb_alone.specs.Alone.{Member, is_marked, is_own, is_acknowledged, is_finished, count_unfinished}
@@ -22,12 +23,8 @@ use Rattle.gb_isolation.proofs.View.{View, Fits, said_of, acknowledged_of}
 pub unknown_acknowledged : (me k : ℕ) (done : List ℕ) (place : ℕ) (xs : List Entry) → list_any (is_own me k) xs ≡ false → is_acknowledged me k done place xs ≡ false
 unknown_acknowledged me k done place [] none = refl
 unknown_acknowledged me k done place (x ∷ xs) none =
-    let parts = both (is_own me k x) (list_any (is_own me k) xs) none in
+    let parts = or_sides (is_own me k x) (list_any (is_own me k) xs) none in
     ap (λ b. (b && is_marked place done) || is_acknowledged me k done (place + 1) xs) parts.0 ∙ unknown_acknowledged me k done (place + 1) xs parts.1
-  where
-    both : (a b : Bool) → (a || b) ≡ false → (a ≡ false) × (b ≡ false)
-    both true b e = absurd (cc)
-    both false b e = (refl, e)
 
 -- numbers that do not pass are counted one by one, or listed
 counts : (p q : ℕ → Bool) (first n : ℕ) → ((k : ℕ) → k < n → p (first + k) ≡ q (first + k)) → count_unfinished p first n ≡ length (filter (λ k. not (q k)) (range_with_len first n))

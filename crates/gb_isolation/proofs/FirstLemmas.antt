@@ -24,6 +24,7 @@ use Rattle.gb_cluster.specs.ClusterValue.{ClusterValue, node_plan, node_at}
 use Rattle.gb_cluster.specs.Run.{Did, ComesTo, past_at}
 use Rattle.gb_cluster.specs.Links.{NothingIsOutside, LinksHold}
 use Rattle.gb_types.specs.declared.plan.Plan.{Plan}
+use Rattle.gb_types.proofs.BoolLemmas.{and_right}
 use Rattle.gb_cluster.proofs.NodesLemmas.{stays, past_same, past_other, have_pasts}
 use Rattle.gb_cluster.proofs.LinkLemmas.{takes}
 use Rattle.gb_isolation.specs.Project.{has_come, is_new_frame}
@@ -76,10 +77,6 @@ taken_once inside pasts plan run d v bytes good comes event answer =
       text = ap (λ k. read k bytes) (sym was.key) ∙ ap packet_in took.text;
       first = ap is_first frame ∙ (first_fate r c.frame (λ e. inside plan run d v bytes good comes event answer (frame ∙ e)) ∙ ap (λ b. not (nat_eq c.frame 0) && not b) received);
     }
-  where
-    and_right : (b c : Bool) → (b && c) ≡ true → c ≡ true
-    and_right true c e = e
-    and_right false c e = absurd (cc)
 
 -- Packets of one frame.
 

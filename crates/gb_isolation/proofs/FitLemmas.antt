@@ -1,5 +1,5 @@
 -- The items of the frames of a run are those of groups: their origins are nodes, and none is longer than a message may be.
-use Rattle.std.proofs.Common.{◌≡◌, ◌≢◌, ℕ, zero, suc, ◌<◌, List, [], ◌∷◌, length, take, Option, Some, None, Result, Ok, Err, Bool, true, false, ◌⊎◌, inl, inr, sym, ◌∙◌, ap, subst}
+use Rattle.std.proofs.Common.{◌≡◌, ◌≢◌, ℕ, zero, suc, ◌<◌, List, [], ◌∷◌, length, take, Option, Some, None, Bool, true, false, ◌⊎◌, inl, inr, sym, ◌∙◌, ap, subst}
 use Rattle.std.specs.Prelude.{All, map, nat_eq, slice_get, if◌then◌else◌}
 use Rattle.std.specs.List.{AllByRecursion}
 use Rattle.std.proofs.lemmas.Bool.{cases_eq}
@@ -8,12 +8,10 @@ use Rattle.gb_types.specs.declared.address.Addr.{Addr}
 use Rattle.gb_types.specs.declared.entry.Entry.{Entry}
 use Rattle.gb_types.specs.declared.limits.TheConstants.{NODES}
 use Rattle.gb_types.specs.declared.node.NodeId.{NodeId}
-use Rattle.gb_frame.specs.declared.fault.PacketFault.{PacketFault}
 use Rattle.gb_frame.specs.declared.item.Item.{Item}
 use Rattle.gb_frame.specs.Packet.{Content}
-use Rattle.gb_frame.specs.Reading.{reading}
 use Rattle.gb_frame.specs.Items.{items_for, item_for, names}
-use Rattle.gb_node.specs.Past.{Happened, ComesTo as NodeComesTo, packet_in, read, frames_to, packed_for}
+use Rattle.gb_node.specs.Past.{Happened, ComesTo as NodeComesTo, read, frames_to, packed_for}
 use Rattle.gb_node.specs.PastGroups.{waiting_of, told_of}
 use Rattle.gb_node.specs.StepLaw.{IsAnswered, IsPacked, AnswersSay}
 use Rattle.gb_node.specs.declared.answer.NodeAnswer.{NodeAnswer}
@@ -27,20 +25,9 @@ use Rattle.gb_cluster.specs.Run.{Did, ComesTo, past_at}
 use Rattle.gb_types.specs.declared.plan.Plan.{Plan}
 use Rattle.gb_cluster.proofs.HonestLemmas.{get_either}
 use Rattle.gb_cluster.proofs.NodesLemmas.{have_pasts, past_same, past_other}
+use Rattle.gb_cluster.proofs.ReadLemmas.{read_under}
 use Rattle.gb_isolation.proofs.DoneLemmas.{IsFit}
 use Rattle.gb_isolation.proofs.ShortLemmas.{IsShortItem, read_short}
-
--- the one packet that is read
-read_one : (key bytes : List ℕ) (c : Content) → read key bytes ≡ c ∷ [] → reading key bytes ≡ Ok c
-read_one key bytes c one = by (reading key bytes) one
-  where
-    first : List Content → Content
-    first [] = c
-    first (x ∷ xs) = x
-
-    by : (r : Result Content PacketFault) → packet_in r ≡ c ∷ [] → r ≡ Ok c
-    by (Ok x) e = ap (λ (y : Content). Ok y) (ap first e)
-    by (Err fault) e = absurd (cc)
 
 abbrev IsOfNode : Item → Type 0
 IsOfNode i = i.origin < NODES
@@ -60,7 +47,7 @@ content_fit plan g past b text right = λ k d low. (nodes k d low, short k d low
     nodes = subst (All IsOfNode) (sym (right.front g)) (All-from_recursion IsOfNode (map (item_for g) waits) (of_nodes g waits))
 
     short : All IsShortItem (items_for g right.content.items)
-    short = All-filter (names g) IsShortItem right.content.items (read_short plan.cluster_key text right.content (read_one plan.cluster_key text right.content right.text_is))
+    short = All-filter (names g) IsShortItem right.content.items (read_short plan.cluster_key text right.content (read_under plan.cluster_key text right.content right.text_is))
 
 packed_fit : (plan : NodePlan) (g : Addr) (past : List Happened) (e : NodeEvent) (x : NodeAnswer) → IsAnswered plan past e x → (b j : ℕ) (f : List Item) → slice_get (packed_for plan.cluster_key b e x) j ≡ Some f → All IsFit (items_for g f)
 packed_fit plan g past (Pack y) (Sent (SentPacket text)) right b j f is = by (nat_eq y.number b) j is

@@ -12,11 +12,6 @@ use Rattle.gb_alone.specs.Alone.{is_marked}
 use Rattle.gb_isolation.specs.Project.{items_of, items_in, offset}
 use Rattle.gb_isolation.proofs.View.{AreMarked}
 
-pub slice_get-within : {X : Type 0} (xs : List X) (x : X) (k : ℕ) → slice_get xs k ≡ Some x → k < length xs
-slice_get-within [] x k is = absurd (cc)
-slice_get-within (y ∷ xs) x zero is = omega arith
-slice_get-within (y ∷ xs) x (suc k) is = let rest = slice_get-within xs x k is in omega arith
-
 slice_get-behind : {X : Type 0} (xs ys : List X) (k : ℕ) → slice_get (xs ++ ys) (length xs + k) ≡ slice_get ys k
 slice_get-behind [] ys k = ap (slice_get ys) (omega arith)
 slice_get-behind (x ∷ xs) ys k = ap (slice_get (x ∷ xs ++ ys)) (plus (length xs) k) ∙ slice_get-behind xs ys k

@@ -7,6 +7,7 @@ use Rattle.std.proofs.lemmas.Bool.Decides.{nat_tests}
 use Rattle.gb_types.specs.declared.limits.TheConstants.{NODES}
 use Rattle.gb_types.specs.declared.node.NodeId.{NodeId}
 use Rattle.gb_types.specs.declared.spec.Spec.{Spec}
+use Rattle.gb_types.proofs.BoolLemmas.{or_second, or_turned}
 use Rattle.gb_rules.specs.Group.{is_other}
 use Rattle.gb_history.specs.declared.call.GroupCall.TheVariants.{Crashed}
 use Rattle.gb_alone.specs.Alone.{Member, Group, after, alone_from, called, cut, took_notice, node_noticed, is_marked, IsLegalFrom, held_spec}
@@ -15,18 +16,6 @@ use Rattle.gb_alone.specs.declared.event.GroupEvent.TheVariants.{Notice}
 use Rattle.gb_alone.specs.declared.event.GroupStep.{GroupStep}
 use Rattle.gb_isolation.proofs.MemberLemmas.{KeepsRest}
 use Rattle.gb_isolation.proofs.GoesLemmas.{eqb_self, after_there, after_elsewhere}
-
--- Tests.
-
-pub or_turned : (p q r : Bool) → (p || (q || r)) ≡ ((q || p) || r)
-or_turned true true r = refl
-or_turned true false r = refl
-or_turned false true r = refl
-or_turned false false r = refl
-
-later_too : (p q : Bool) → q ≡ true → (p || q) ≡ true
-later_too true q is = refl
-later_too false q is = is
 
 -- Numbers.
 
@@ -166,4 +155,4 @@ notices_legal nodes number a low (b ∷ bs) group rise running new =
     differs x is (inr other) = grind (arith, nat_tests)
 
     later : (x : ℕ) → is_marked x bs ≡ true → (nat_eq b x || is_marked x (group a.number).noticed) ≡ false
-    later x is = ap (λ c. c || is_marked x (group a.number).noticed) (differs x is (cases_eq b x)) ∙ new x (later_too (nat_eq b x) (is_marked x bs) is)
+    later x is = ap (λ c. c || is_marked x (group a.number).noticed) (differs x is (cases_eq b x)) ∙ new x (or_second (nat_eq b x) (is_marked x bs) is)

@@ -1,5 +1,5 @@
 -- What follows from a node's past alone.
-use Rattle.std.proofs.Common.{◌≡◌, ℕ, ◌%◌, ◌<◌, ◌≤◌, List, [], ◌∷◌, ◌++◌, length, Bool, true, false, ◌&&◌, ◌||◌, ◌⊎◌, inl, inr, refl, ap, arith, length-append}
+use Rattle.std.proofs.Common.{◌≡◌, ℕ, ◌%◌, ◌<◌, ◌≤◌, List, [], ◌∷◌, ◌++◌, length, true, false, ◌&&◌, ◌||◌, ◌⊎◌, inl, inr, refl, ap, arith, length-append}
 use Rattle.std.specs.Prelude.{nat_le, map}
 use Rattle.std.specs.List.{list_any}
 use Rattle.std.proofs.lemmas.Bool.{or_cases, and_parts}
@@ -7,28 +7,23 @@ use Rattle.std.proofs.lemmas.Bool.Decides.{nat_tests}
 use Rattle.gb_types.specs.declared.address.Addr.{Addr}
 use Rattle.gb_types.specs.declared.entry.Entry.{Entry}
 use Rattle.gb_types.specs.declared.limits.TheConstants.{NODES}
-use Rattle.gb_types.specs.declared.node.NodeId.{NodeId}
-use Rattle.gb_types.proofs.SameLemmas.{same_number}
+use Rattle.gb_types.proofs.BoolLemmas.{or_sides}
 use Rattle.gb_frame.specs.Items.{entry_of, item_for}
-use Rattle.gb_node.specs.NodeStep.{node_numbered}
 use Rattle.gb_node.specs.Past.{Happened, came, frames_to, is_ack, is_acked, is_stopped, packed_for, stops}
 use Rattle.gb_node.specs.declared.answer.NodeAnswer.{NodeAnswer}
 use Rattle.gb_node.specs.declared.answer.NodeAnswer.TheVariants.{Reply as Replied}
 use Rattle.gb_node.specs.declared.event.NodeEvent.{NodeEvent}
 use Rattle.gb_node.specs.declared.event.NodeEvent.TheVariants.{Request as Asked}
 use Rattle.gb_node.specs.declared.plan.NodePlan.{NodePlan}
+use Rattle.gb_node.proofs.TookLemmas.{numbered_is}
 use Rattle.gb_isolation.specs.Project.{is_met, is_met_by, is_own}
-
-both_off : (a b : Bool) → (a || b) ≡ false → (a ≡ false) × (b ≡ false)
-both_off true b e = absurd (cc)
-both_off false b e = (refl, e)
 
 -- a running node's stop was met by no request
 pub running_unmet : (plan : NodePlan) (g : Addr) (past : List Happened) → is_stopped past ≡ false → is_met plan g past ≡ false
 unfolding is_met is_stopped
 running_unmet plan g [] running = refl
 running_unmet plan g (h ∷ past) running =
-    let before = both_off (stops h.event h.answer) (is_stopped past) running in
+    let before = or_sides (stops h.event h.answer) (is_stopped past) running in
     λ i. by h.event h.answer before.1 i || running_unmet plan g past before.1 i
   where
     by : (e : NodeEvent) (x : NodeAnswer) → is_stopped past ≡ false → is_met_by plan g past e x ≡ false
@@ -53,12 +48,9 @@ acked_within key b n (h ∷ past) is = by (acked_within key b n past) (or_cases 
 pub number_same : (n : ℕ) → n < NODES → n % NODES ≡ n
 number_same n low = omega (arith, low)
 
-pub node_same : (x : NodeId) → node_numbered x.number ≡ x
-node_same x = same_number (node_numbered x.number) x (number_same x.number x.below)
-
 -- an entry is what its item says
 pub entry_back : (g : Addr) (e : Entry) → entry_of (item_for g e) ≡ e
-entry_back g e = λ i. record { origin = node_same e.origin i; seq = e.seq; payload = e.payload }
+entry_back g e = λ i. record { origin = numbered_is e.origin i; seq = e.seq; payload = e.payload }
 
 pub entries_back : (g : Addr) (es : List Entry) → map entry_of (map (item_for g) es) ≡ es
 entries_back g [] = refl

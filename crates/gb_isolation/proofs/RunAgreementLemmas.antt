@@ -26,6 +26,7 @@ use Rattle.gb_node.specs.Past.{frames_to, is_taken}
 use Rattle.gb_cluster.specs.ClusterValue.{ClusterValue, node_plan, node_at}
 use Rattle.gb_cluster.specs.Run.{Did, ComesTo, past_at}
 use Rattle.gb_types.specs.declared.plan.Plan.{Plan}
+use Rattle.gb_types.proofs.BoolLemmas.{and_both}
 use Rattle.gb_cluster.proofs.NodesLemmas.{stays}
 use Rattle.gb_isolation.specs.Isolation.{Seen, IsIsolated, GroupsAreIsolated}
 use Rattle.gb_isolation.specs.Project.{project, items_of, is_fed}
@@ -157,11 +158,8 @@ module _ (isolated : GroupsAreIsolated) (behave : AllBehave) (plan : Plan) (run 
 
   noticed : (a b : ℕ) → IsRunning runs spec a → is_member spec b ≡ true → runs b ≡ false → has_noticed (group a).told b ≡ true
   noticed a b run_a in_b stopped =
-      seen_noticed a (group a) spec (made a run_a.0) (told a) (is_noticed plan run (node_numbered a)) (marks a run_a.0) b (here a run_a) (both in_b (apart (nat_eq b a) refl)) (settled.noticed a b run_a in_b stopped)
+      seen_noticed a (group a) spec (made a run_a.0) (told a) (is_noticed plan run (node_numbered a)) (marks a run_a.0) b (here a run_a) (and_both in_b (apart (nat_eq b a) refl)) (settled.noticed a b run_a in_b stopped)
     where
-      both : {p q : Bool} → p ≡ true → q ≡ true → (p && q) ≡ true
-      both h k = cc
-
       apart : (t : Bool) → nat_eq b a ≡ t → not t ≡ true
       apart true is = let e : runs b ≡ true = ap runs (eqb-true b a is) ∙ run_a.1 in absurd (cc)
       apart false is = refl

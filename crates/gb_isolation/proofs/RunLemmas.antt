@@ -48,6 +48,7 @@ use Rattle.gb_isolation.proofs.PackLemmas.{packed_goes}
 use Rattle.gb_isolation.proofs.PastLemmas.{running_unmet}
 use Rattle.gb_types.specs.declared.request.Request.{Request}
 use Rattle.gb_types.specs.declared.request.Request.TheVariants.{AddTenant, Make}
+use Rattle.gb_types.proofs.BoolLemmas.{not_true}
 use Rattle.gb_isolation.proofs.QuietLemmas.{quiet_goes}
 use Rattle.gb_isolation.proofs.TickLemmas.{ticked_goes}
 
@@ -279,8 +280,4 @@ unfolding ComesTo is_fed project
 behaves laws plan g [] v comes fed = record { legal = tt; fits = new_fits plan g }
 behaves laws plan g (d ∷ run) v comes fed =
     let parts = and_parts (not (is_starved_by (node_plan plan d.node) g (past_at d.node run) d.event d.answer)) (is_fed plan g run) fed in
-    goes_further laws plan g run comes.0 comes.1 (behaves laws plan g run comes.0 comes.1 parts.1) d.node d.event d.answer v comes (off (is_starved_by (node_plan plan d.node) g (past_at d.node run) d.event d.answer) parts.0)
-  where
-    off : (b : Bool) → not b ≡ true → b ≡ false
-    off true is = absurd (cc)
-    off false is = refl
+    goes_further laws plan g run comes.0 comes.1 (behaves laws plan g run comes.0 comes.1 parts.1) d.node d.event d.answer v comes (not_true (is_starved_by (node_plan plan d.node) g (past_at d.node run) d.event d.answer) parts.0)

@@ -11,7 +11,7 @@ use Rattle.gb_layer.specs.declared.broadcast_module.BroadcastModule.TheVariants.
 use Rattle.gb_layer.specs.declared.effects.Up.{Up}
 use Rattle.gb_layer.specs.declared.call.Call.{Call}
 use Rattle.gb_layer.specs.declared.call.Call.TheVariants.{Say, Came, Notice}
-use Rattle.gb_layer.specs.Bools.{or_first, and_both}
+use Rattle.gb_types.proofs.BoolLemmas.{and_both, or_first}
 use Rattle.gb_layer.specs.Lists.{same_filter, filter-never}
 use Rattle.gb_layer.specs.Histories.{said_mentioned, came_mentioned, own_said}
 use Rattle.gb_layer.specs.FirstMentionLemmas.{picked}

@@ -10,7 +10,7 @@ use Rattle.gb_layer.specs.declared.call.Call.{Call}
 use Rattle.gb_layer.specs.Machine.{Gives}
 use Rattle.gb_layer.specs.Counts.{count_by-map, count_by-fewer, count_by-one_fewer}
 use Rattle.gb_layer.specs.declared.entries.Entry.{Entry}
-use Rattle.gb_layer.specs.Bools.{first_not}
+use Rattle.gb_types.proofs.BoolLemmas.{first_not}
 use Rattle.gb_layer.specs.EntryLemmas.{count_taken_in, marked_same, handed_same}
 use Rattle.gb_layer.specs.Rule.{Nodes, Rules}
 use Rattle.gb_layer.specs.Relay.{sent_entry, is_for, taken_in, marked_sent, is_unsent, is_ungiven, State, due_to_relay, due_message, handed}

@@ -10,7 +10,7 @@ use Rattle.gb_types.specs.declared.node.NodeId.{NodeId}
 use Rattle.gb_types.specs.declared.message.MsgId.{MsgId}
 use Rattle.gb_layer.specs.declared.call.Call.{Call}
 use Rattle.gb_layer.specs.declared.entries.Entry.{Entry}
-use Rattle.gb_layer.specs.Bools.{or_first, or_second}
+use Rattle.gb_types.proofs.BoolLemmas.{or_first, or_second}
 use Rattle.gb_layer.specs.Machine.{Gives}
 use Rattle.gb_layer.specs.Places.{IsAmong, StandsAmong}
 use Rattle.gb_layer.specs.Rule.{Nodes, Rules}

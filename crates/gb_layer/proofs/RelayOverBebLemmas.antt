@@ -13,7 +13,7 @@ use Rattle.gb_layer.specs.declared.effects.Up.{Up}
 use Rattle.gb_layer.specs.declared.call.Call.{Call}
 use Rattle.gb_layer.specs.declared.call.Call.TheVariants.{Say, Came, Notice}
 use Rattle.gb_layer.specs.declared.entries.Entry.{Entry}
-use Rattle.gb_layer.specs.Bools.{and_more, or_left, or_right}
+use Rattle.gb_types.proofs.BoolLemmas.{and_more, or_left, or_right}
 use Rattle.gb_layer.specs.Lists.{map_same, same_filter, filter-never}
 use Rattle.gb_layer.specs.FirstMentionLemmas.{picked, same_swap}
 use Rattle.gb_layer.specs.Histories.{mentions_stays}

@@ -6,12 +6,12 @@ use Rattle.std.proofs.Math.Bool.{and-false}
 use Rattle.gb_types.specs.declared.node.NodeId.{NodeId}
 use Rattle.gb_types.specs.declared.message.MsgId.{MsgId}
 use Rattle.gb_types.specs.Message.{same}
-use Rattle.gb_types.proofs.SameLemmas.{same-true, and-first, and-second}
+use Rattle.gb_types.proofs.SameLemmas.{same-true}
 use Rattle.gb_layer.specs.declared.effects.Up.{Up}
 use Rattle.gb_layer.specs.declared.call.Call.{Call}
 use Rattle.gb_layer.specs.declared.call.Call.TheVariants.{Say, Came, Notice}
 use Rattle.gb_layer.specs.Machine.{nothing, after, all_sends, all_ups, mentions, was_said, came_from, IsFair, count_sends, is_up, is_of}
-use Rattle.gb_layer.specs.Bools.{or_left, or_right}
+use Rattle.gb_types.proofs.BoolLemmas.{and_left, and_right, or_left, or_right}
 use Rattle.gb_layer.specs.Counts.{count_by-append_nil, none_more, once_more, at_most_once}
 use Rattle.gb_layer.specs.BebMachine.{beb_gives}
 
@@ -34,8 +34,8 @@ stays me (c ∷ past) = stays me past
 
 alike : (me p via : ℕ) (x m : MsgId) (past : List Call) → (nat_eq p via && same x m) ≡ true → came_from me past p x ≡ came_from me past via m
 alike me p via x m past h =
-    let e : p ≡ via = eqb-true p via (and-first _ _ h) in
-    let f : x ≡ m = same-true x m (and-second _ _ h) in
+    let e : p ≡ via = eqb-true p via (and_left _ _ h) in
+    let f : x ≡ m = same-true x m (and_right _ _ h) in
     λ i. came_from me past (e i) (f i)
 
 pub beb_ups : (me : NodeId) (past : List Call) (via : ℕ) (m : MsgId) → IsOnce me.number past → count_by (is_up via m) (ups me past) ≡ cond (came_from me.number past via m) 1 0

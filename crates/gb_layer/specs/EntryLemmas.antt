@@ -6,7 +6,8 @@ use Rattle.std.proofs.Math.Bool.{and-true, and-false, or-true}
 use Rattle.gb_types.specs.declared.node.NodeId.{NodeId}
 use Rattle.gb_types.specs.declared.message.MsgId.{MsgId}
 use Rattle.gb_types.specs.Message.{same}
-use Rattle.gb_types.proofs.SameLemmas.{same_itself, and-first}
+use Rattle.gb_types.proofs.SameLemmas.{same_itself}
+use Rattle.gb_types.proofs.BoolLemmas.{and_left}
 use Rattle.gb_layer.specs.declared.effects.Up.{Up}
 use Rattle.gb_layer.specs.declared.call.Call.{Call}
 use Rattle.gb_layer.specs.Machine.{mentions, is_of}
@@ -145,4 +146,4 @@ any_at (x ∷ es) zero e is =
 any_at (x ∷ es) (suc i) e is = ap (λ b. same x.m e.m || b) (any_at es i e is) ∙ or-true (same x.m e.m)
 
 pub sent_has : (es : List Entry) (m : MsgId) → is_sent es m ≡ true → list_any (is_for m) es ≡ true
-sent_has es m h = any_weaker (sent_for m) (is_for m) (λ e w. and-first (same e.m m) e.sent w) es h
+sent_has es m h = any_weaker (sent_for m) (is_for m) (λ e w. and_left (same e.m m) e.sent w) es h

@@ -2,7 +2,6 @@ pub mod Room
 pub mod Machine
 pub mod Modules
 pub mod Laws
-pub mod Bools
 pub mod Lists
 pub mod Counts
 pub mod Histories

@@ -16,7 +16,7 @@ use Rattle.gb_types.specs.declared.limits.TheConstants.{NODES}
 use Rattle.gb_types.specs.declared.message.MsgId.{MsgId}
 use Rattle.gb_types.specs.Message.{same}
 use Rattle.gb_types.specs.Places.{below}
-use Rattle.gb_types.proofs.SameLemmas.{and-first, and-second}
+use Rattle.gb_types.proofs.BoolLemmas.{and_left, and_right}
 use Rattle.gb_types.proofs.PlaceLemmas.{any-below}
 use Rattle.gb_layer.specs.Rule.{Nodes}
 use Rattle.gb_layer.specs.Counts.{count_by-cons}
@@ -32,7 +32,7 @@ pair_laws : IsEquivalence pair_eq
 pair_laws = record {
   refl = λ x. grind (arith, nat_tests);
   symm = λ x y. λ i. nat_eq_equiv.symm x.0 y.0 i && nat_eq_equiv.symm x.1 y.1 i;
-  congr = λ x y z h. λ i. nat_eq_equiv.congr x.0 y.0 z.0 (and-first _ _ h) i && nat_eq_equiv.congr x.1 y.1 z.1 (and-second _ _ h) i;
+  congr = λ x y z h. λ i. nat_eq_equiv.congr x.0 y.0 z.0 (and_left _ _ h) i && nat_eq_equiv.congr x.1 y.1 z.1 (and_right _ _ h) i;
 }
 
 -- the messages of p
@@ -105,15 +105,15 @@ any_same p q f (x ∷ xs) = λ i. f x i || any_same p q f xs i
 has_code : (l : Limit) (m : MsgId) → is_counted l m ≡ true → list_any (pair_eq (code m)) (cells l.members (below NODES) l.msgs) ≡ true
 has_code l m h =
     let b : list_any (λ y. nat_eq y m.origin.number) (below NODES) ≡ true = any-below NODES m.origin.number ∙ (let k = m.origin.below in grind (arith, nat_tests)) in
-    let c = and-second _ _ h in
-    cells_have l.members (below NODES) l.msgs m.origin.number m.seq b (and-first _ _ h) (and-first _ _ c) (and-second _ _ c)
+    let c = and_right _ _ h in
+    cells_have l.members (below NODES) l.msgs m.origin.number m.seq b (and_left _ _ h) (and_left _ _ c) (and_right _ _ c)
 
 have_codes : (l : Limit) (ms : List MsgId) → list_all (is_counted l) ms ≡ true → (q : Pair) → list_any (pair_eq q) (map code ms) ≡ true → list_any (pair_eq q) (cells l.members (below NODES) l.msgs) ≡ true
 have_codes l [] h q k = cc
 have_codes l (m ∷ ms) h q k =
     elim (pair_eq q (code m)) as (λ b. pair_eq q (code m) ≡ b → (b || list_any (pair_eq q) (map code ms)) ≡ true → list_any (pair_eq q) (cells l.members (below NODES) l.msgs) ≡ true) [
-      | true ↦ λ e _. any_same (pair_eq q) (pair_eq (code m)) (λ z. pair_laws.congr q (code m) z e) (cells l.members (below NODES) l.msgs) ∙ has_code l m (and-first _ _ h)
-      | false ↦ λ _ r. have_codes l ms (and-second _ _ h) q r
+      | true ↦ λ e _. any_same (pair_eq q) (pair_eq (code m)) (λ z. pair_laws.congr q (code m) z e) (cells l.members (below NODES) l.msgs) ∙ has_code l m (and_left _ _ h)
+      | false ↦ λ _ r. have_codes l ms (and_right _ _ h) q r
     ] refl k
 
 -- different messages within a limit are no more than it counts

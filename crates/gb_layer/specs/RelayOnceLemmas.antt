@@ -1,12 +1,12 @@
 -- How often a relay sends a message, and hands it up.
-use Rattle.std.proofs.Common.{◌≡◌, ℕ, ◌+◌, ◌≤◌, Bool, true, false, cond, List, [], ◌∷◌, ◌++◌, length, map, slice_get, count_by, refl, ap, ◌∙◌, sym, arith, subst, zero, suc}
+use Rattle.std.proofs.Common.{◌≡◌, ℕ, ◌+◌, ◌≤◌, true, false, cond, List, [], ◌∷◌, ◌++◌, length, map, slice_get, count_by, refl, ap, ◌∙◌, sym, arith, subst, zero, suc}
 use Rattle.std.specs.declared.option.Option.{Option}
 use Rattle.std.specs.declared.option.Option.TheVariants.{None, Some}
 use Rattle.gb_types.specs.declared.node.NodeId.{NodeId}
 use Rattle.gb_types.specs.declared.message.MsgId.{MsgId}
 use Rattle.gb_layer.specs.declared.call.Call.{Call}
 use Rattle.gb_layer.specs.declared.call.Call.TheVariants.{Say, Came, Notice}
-use Rattle.gb_layer.specs.Bools.{first_not}
+use Rattle.gb_types.proofs.BoolLemmas.{first_not, refuted_by}
 use Rattle.gb_layer.specs.Counts.{cond_most, count_by-append, count_by-is_up}
 use Rattle.gb_layer.specs.Machine.{Gives, nothing, after, all_ups, mentions, count_sends, is_of}
 use Rattle.gb_layer.specs.Laws.{SendsWhatWasHandedIn, HandsUpWhatWasHandedIn, HandsUpOnce, SendsOnce}
@@ -15,10 +15,6 @@ use Rattle.gb_layer.specs.Relay.{State, noted, noting, marked_sent, is_sent, is_
 use Rattle.gb_layer.specs.EntryLemmas.{given_for, given_taken_in, given_marked, given_noted, given_handed}
 use Rattle.gb_layer.specs.EntryListLemmas.{mark_count}
 use Rattle.gb_layer.specs.TraceLemmas.{trace}
-
-not_true : (b c : Bool) → (b ≡ true → c ≡ true) → c ≡ false → b ≡ false
-not_true true c f h = let e : c ≡ true = f refl in cc
-not_true false c f h = refl
 
 module _ {S : Type 0} (next : S → Call → S) (gives : S → Call → Gives) (me : S → NodeId) (rules : Rules) where
   abbrev N : State S → Call → State S
@@ -90,7 +86,7 @@ module _ {S : Type 0} (next : S → Call → S) (gives : S → Call → Gives) (
     pub relay_sends_handed_in : SendsWhatWasHandedIn next gives is_fresh → SendsWhatWasHandedIn N G (IsNew is_fresh)
     relay_sends_handed_in law s past m f h =
         let t = trace next gives me rules 0 s.lower s refl f.entries past in
-        ap (count_sends m) t.sends ∙ law s.lower t.calls m f.lower (not_true (mentions t.calls m) (mentions past m) (t.known m) h)
+        ap (count_sends m) t.sends ∙ law s.lower t.calls m f.lower (refuted_by (mentions t.calls m) (mentions past m) (t.known m) h)
 
     pub relay_sent_once : SendsOnce next gives is_fresh me → SendsOnce N G (IsNew is_fresh) (λ r. me r.lower)
     relay_sent_once law s past m f h =

@@ -8,10 +8,10 @@ use Rattle.std.proofs.Math.Bool.{or-false}
 use Rattle.std.proofs.Math.Nat.{mul-add-mod_self_right, mod-eq_of_lt, mul-div_cancel}
 use Rattle.gb_types.specs.declared.message.MsgId.{MsgId}
 use Rattle.gb_types.specs.Message.{same}
-use Rattle.gb_types.proofs.SameLemmas.{same-true, and-first, and-second}
+use Rattle.gb_types.proofs.SameLemmas.{same-true}
 use Rattle.gb_layer.specs.declared.entries.Entry.{Entry}
 use Rattle.gb_types.specs.declared.node.NodeId.{NodeId}
-use Rattle.gb_layer.specs.Bools.{or_left, or_right, and_more}
+use Rattle.gb_types.proofs.BoolLemmas.{and_left, and_more, and_right, or_left, or_right}
 use Rattle.gb_layer.specs.Lists.{map_same}
 use Rattle.gb_layer.specs.Relay.{is_for, held, held_entry, marked_sent, sent_entry}
 use Rattle.gb_layer.specs.EntryLemmas.{keys, held_same}
@@ -31,10 +31,10 @@ module _ (width : ℕ) (table : List ℕ) (m : MsgId) (v : ℕ) (is : told width
   stands_there (y ∷ ms) i zero x at t h =
       let equal : y ≡ x = cc in
       let e : i + 1 ≡ i + 0 + 1 = omega arith in
-      here y i (ap (λ z. same z m) equal ∙ t) (and-first _ _ h) ∙ e
+      here y i (ap (λ z. same z m) equal ∙ t) (and_left _ _ h) ∙ e
   stands_there (y ∷ ms) i (suc j) x at t h =
       let e : i + 1 + j + 1 ≡ i + suc j + 1 = omega arith in
-      stands_there ms (i + 1) j x at t (and-second _ _ h) ∙ e
+      stands_there ms (i + 1) j x at t (and_right _ _ h) ∙ e
 
   module _ (f : Entry → Entry) (leaves : (e : Entry) → is_for m e ≡ false → f e ≡ e) where
     -- where the table leads to no place, a change of m changes nothing
@@ -42,22 +42,22 @@ module _ (width : ℕ) (table : List ℕ) (m : MsgId) (v : ℕ) (is : told width
     map_nowhere [] i out h = refl
     map_nowhere (e ∷ es) i out h =
         elim (is_for m e) as (λ b. is_for m e ≡ b → map f (e ∷ es) ≡ e ∷ es) [
-          | true ↦ λ k. let n = here e.m i k (and-first _ _ h) in absurd (grind (arith, n, out))
+          | true ↦ λ k. let n = here e.m i k (and_left _ _ h) in absurd (grind (arith, n, out))
           | false ↦ λ k.
               let rest : (v ≤ i + 1) ⊎ (i + 1 + length es < v) = grind (arith, out) in
-              λ j. leaves e k j ∷ map_nowhere es (i + 1) rest (and-second _ _ h) j
+              λ j. leaves e k j ∷ map_nowhere es (i + 1) rest (and_right _ _ h) j
         ] refl
 
     -- where it leads to a place, a change of m changes that place
     pub map_there : (es : List Entry) (i k : ℕ) (d : Entry) → v ≡ i + k + 1 → k < length es → leads width table i (keys es) ≡ true → map f es ≡ set es k (f (get_or es k d))
     map_there [] i k d e lt h = absurd (omega arith)
-    map_there (x ∷ es) i zero d e lt h = let l : v ≤ i + 1 = omega (arith, e) in ap (λ ys. f x ∷ ys) (map_nowhere es (i + 1) (inl l) (and-second _ _ h))
+    map_there (x ∷ es) i zero d e lt h = let l : v ≤ i + 1 = omega (arith, e) in ap (λ ys. f x ∷ ys) (map_nowhere es (i + 1) (inl l) (and_right _ _ h))
     map_there (x ∷ es) i (suc k) d e lt h =
         let e' : v ≡ i + 1 + k + 1 = omega (arith, e) in
         let lt' : k < length es = omega (arith, lt) in
         elim (is_for m x) as (λ b. is_for m x ≡ b → f x ∷ map f es ≡ x ∷ set es k (f (get_or es k d))) [
-          | true ↦ λ t. let n = here x.m i t (and-first _ _ h) in absurd (omega (arith, n, e))
-          | false ↦ λ t. λ j. leaves x t j ∷ map_there es (i + 1) k d e' lt' (and-second _ _ h) j
+          | true ↦ λ t. let n = here x.m i t (and_left _ _ h) in absurd (omega (arith, n, e))
+          | false ↦ λ t. λ j. leaves x t j ∷ map_there es (i + 1) k d e' lt' (and_right _ _ h) j
         ] refl
 
   module _ (p : Entry → Bool) (only : (e : Entry) → is_for m e ≡ false → p e ≡ false) where
@@ -66,23 +66,23 @@ module _ (width : ℕ) (table : List ℕ) (m : MsgId) (v : ℕ) (is : told width
     any_nowhere [] i out h = refl
     any_nowhere (e ∷ es) i out h =
         elim (is_for m e) as (λ b. is_for m e ≡ b → list_any p (e ∷ es) ≡ false) [
-          | true ↦ λ k. let n = here e.m i k (and-first _ _ h) in absurd (grind (arith, n, out))
+          | true ↦ λ k. let n = here e.m i k (and_left _ _ h) in absurd (grind (arith, n, out))
           | false ↦ λ k.
               let rest : (v ≤ i + 1) ⊎ (i + 1 + length es < v) = grind (arith, out) in
-              ap (λ b. b || list_any p es) (only e k) ∙ any_nowhere es (i + 1) rest (and-second _ _ h)
+              ap (λ b. b || list_any p es) (only e k) ∙ any_nowhere es (i + 1) rest (and_right _ _ h)
         ] refl
 
     -- where it leads to a place, a search for m finds what is there
     pub any_there : (es : List Entry) (i k : ℕ) (d : Entry) → v ≡ i + k + 1 → k < length es → leads width table i (keys es) ≡ true → list_any p es ≡ p (get_or es k d)
     any_there [] i k d e lt h = absurd (omega arith)
     any_there (x ∷ es) i zero d e lt h =
-        let l : v ≤ i + 1 = omega (arith, e) in ap (λ b. p x || b) (any_nowhere es (i + 1) (inl l) (and-second _ _ h)) ∙ or-false (p x)
+        let l : v ≤ i + 1 = omega (arith, e) in ap (λ b. p x || b) (any_nowhere es (i + 1) (inl l) (and_right _ _ h)) ∙ or-false (p x)
     any_there (x ∷ es) i (suc k) d e lt h =
         let e' : v ≡ i + 1 + k + 1 = omega (arith, e) in
         let lt' : k < length es = omega (arith, lt) in
         elim (is_for m x) as (λ b. is_for m x ≡ b → (p x || list_any p es) ≡ p (get_or es k d)) [
-          | true ↦ λ t. let n = here x.m i t (and-first _ _ h) in absurd (omega (arith, n, e))
-          | false ↦ λ t. ap (λ b. b || list_any p es) (only x t) ∙ any_there es (i + 1) k d e' lt' (and-second _ _ h)
+          | true ↦ λ t. let n = here x.m i t (and_left _ _ h) in absurd (omega (arith, n, e))
+          | false ↦ λ t. ap (λ b. b || list_any p es) (only x t) ∙ any_there es (i + 1) k d e' lt' (and_right _ _ h)
         ] refl
 
 pub keys_held : (me via : NodeId) (m : MsgId) (es : List Entry) → keys (map (held me via m) es) ≡ keys es
@@ -134,10 +134,10 @@ slice_get_set_same (x ∷ xs) (suc i) y h = let lt : i < length xs = omega (arit
 -- different messages stand at different places of the table
 spot_other : (width : ℕ) (x m : MsgId) → covers width x ≡ true → covers width m ≡ true → spot width x ≡ spot width m → same x m ≡ true
 spot_other width x m h k e =
-    let hx : 1 ≤ x.seq = let a = and-first (nat_le 1 x.seq) (nat_le x.seq width) h in grind (arith, nat_tests) in
-    let wx : x.seq ≤ width = let a = and-second (nat_le 1 x.seq) (nat_le x.seq width) h in grind (arith, nat_tests) in
-    let hm : 1 ≤ m.seq = let a = and-first (nat_le 1 m.seq) (nat_le m.seq width) k in grind (arith, nat_tests) in
-    let wm : m.seq ≤ width = let a = and-second (nat_le 1 m.seq) (nat_le m.seq width) k in grind (arith, nat_tests) in
+    let hx : 1 ≤ x.seq = let a = and_left (nat_le 1 x.seq) (nat_le x.seq width) h in grind (arith, nat_tests) in
+    let wx : x.seq ≤ width = let a = and_right (nat_le 1 x.seq) (nat_le x.seq width) h in grind (arith, nat_tests) in
+    let hm : 1 ≤ m.seq = let a = and_left (nat_le 1 m.seq) (nat_le m.seq width) k in grind (arith, nat_tests) in
+    let wm : m.seq ≤ width = let a = and_right (nat_le 1 m.seq) (nat_le m.seq width) k in grind (arith, nat_tests) in
     let rx : (x.origin.number * width + (x.seq - 1)) % width ≡ x.seq - 1 = mul-add-mod_self_right x.origin.number width (x.seq - 1) ∙ mod-eq_of_lt {n = x.seq - 1} {m = width} (omega (arith, hx, wx)) in
     let rm : (m.origin.number * width + (m.seq - 1)) % width ≡ m.seq - 1 = mul-add-mod_self_right m.origin.number width (m.seq - 1) ∙ mod-eq_of_lt {n = m.seq - 1} {m = width} (omega (arith, hm, wm)) in
     let r : x.seq - 1 ≡ m.seq - 1 = sym rx ∙ (ap (λ n. n % width) e ∙ rm) in

@@ -14,7 +14,7 @@ use Rattle.gb_layer.specs.Machine.{Gives, nothing, after, all_sends, mentions, w
 use Rattle.gb_layer.specs.Modules.{first_mentions}
 use Rattle.gb_layer.specs.FirstMentionLemmas.{first_mentions-once}
 use Rattle.gb_layer.specs.EntryListLemmas.{has_mentioned}
-use Rattle.gb_layer.specs.Bools.{or_second, or_more, first_not}
+use Rattle.gb_types.proofs.BoolLemmas.{first_not, or_more, or_second}
 use Rattle.gb_layer.specs.declared.entries.Entry.{Entry}
 use Rattle.gb_layer.specs.Rule.{Rules}
 use Rattle.gb_layer.specs.Relay.{State, noted, marked_sent, is_sent, noting, is_repeat, relay, relay_sends, begun, begun_sends, wants_relay, wants_delivery, due_message, relay_any, relay_any_sends, relay_from, relay_from_sends, given, given_ups, relayed, relayed_sends, relay_next, relay_gives}

@@ -9,12 +9,11 @@ use Rattle.std.proofs.lemmas.List.Sums.{count_by-le-length}
 use Rattle.std.proofs.lemmas.List.{map-append}
 use Rattle.gb_types.specs.declared.message.MsgId.{MsgId}
 use Rattle.gb_types.specs.Message.{same}
-use Rattle.gb_types.proofs.SameLemmas.{and-first, and-second}
+use Rattle.gb_types.proofs.BoolLemmas.{and_left, and_more, and_right, or_left, or_right}
 use Rattle.gb_layer.specs.declared.call.Call.{Call}
 use Rattle.gb_layer.specs.declared.call.Call.TheVariants.{Say, Came, Notice}
 use Rattle.gb_layer.specs.declared.entries.Entry.{Entry}
 use Rattle.gb_layer.specs.declared.relay.Relay.{Relay}
-use Rattle.gb_layer.specs.Bools.{or_left, or_right, and_more}
 use Rattle.gb_layer.specs.Limit.{Limit, Need, is_counted, is_within, in_calls, message_count}
 use Rattle.gb_types.specs.declared.node.NodeId.{NodeId}
 use Rattle.gb_layer.specs.Machine.{Gives}
@@ -34,8 +33,8 @@ within_more l n (Notice q) h = h
 -- a message at a place is within the limit
 pub counted_at : (l : Limit) (es : List Entry) (i : ℕ) (e : Entry) → slice_get es i ≡ Some e → list_all (is_counted l) (keys es) ≡ true → is_counted l e.m ≡ true
 counted_at l [] i e is h = cc
-counted_at l (x ∷ es) zero e is h = let f : x ≡ e = cc in ap (λ y. is_counted l y.m) (sym f) ∙ and-first _ _ h
-counted_at l (x ∷ es) (suc i) e is h = counted_at l es i e is (and-second _ _ h)
+counted_at l (x ∷ es) zero e is h = let f : x ≡ e = cc in ap (λ y. is_counted l y.m) (sym f) ∙ and_left _ _ h
+counted_at l (x ∷ es) (suc i) e is h = counted_at l es i e is (and_right _ _ h)
 
 all_pushed : {X : Type 0} (p : X → Bool) (xs : List X) (x : X) → list_all p xs ≡ true → p x ≡ true → list_all p (xs ++ x ∷ []) ≡ true
 all_pushed p [] x h k = ap (λ b. b && true) k

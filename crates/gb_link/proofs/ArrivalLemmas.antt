@@ -2,13 +2,10 @@
 use Rattle.std.proofs.Common.{◌≡◌, ℕ, ◌+◌, ◌≤◌, Bool, true, false, ◌&&◌, ◌||◌, cond, nat_eq, List, [], ◌∷◌, refl, ap, sym, ◌∙◌, arith}
 use Rattle.std.specs.FinSet as set
 use Rattle.std.proofs.lemmas.Bool.Decides.{nat_tests}
+use Rattle.std.proofs.Math.Bool.{and-false}
 use Rattle.gb_types.proofs.InsertedLemmas.{contains-inserted}
 use Rattle.gb_link.specs.declared.receiver.Admission.TheVariants.{First, Seen, Outside}
 use Rattle.gb_link.specs.Received.{Received, is_awaited, taken, is_first, firsts}
-
-and_false : (b : Bool) → (b && false) ≡ false
-and_false true = refl
-and_false false = refl
 
 at_most_one : (b : Bool) → 0 + cond {A = ℕ} b 1 0 ≤ 1
 at_most_one true = omega arith
@@ -16,7 +13,7 @@ at_most_one false = omega arith
 
 -- an arrival that changes nothing
 unchanged : (s : Received) (n m : ℕ) (ms : List ℕ) → firsts s n ms + cond (set.contains s n) 1 0 ≤ 1 → cond {A = ℕ} (nat_eq m n && false) 1 0 + firsts s n ms + cond (set.contains s n) 1 0 ≤ 1
-unchanged s n m ms rest = let none = ap (λ b. cond {A = ℕ} b 1 0) (and_false (nat_eq m n)) in omega (arith, rest, none)
+unchanged s n m ms rest = let none = ap (λ b. cond {A = ℕ} b 1 0) (and-false (nat_eq m n)) in omega (arith, rest, none)
 
 -- a first arrival
 inserted : (s : Received) (n m : ℕ) (ms : List ℕ) → firsts (set.insert s m) n ms + cond (set.contains (set.insert s m) n) 1 0 ≤ 1 → set.contains s m ≡ false

@@ -6,6 +6,7 @@ use Rattle.std.specs.Ordering.{nat_cmp}
 use Rattle.std.specs.FinSet as set
 use Rattle.std.proofs.lemmas.Bool.Decides.{nat_tests}
 use Rattle.std.proofs.lemmas.List.Folds.{list_any-append}
+use Rattle.std.proofs.Math.Bool.{and-true, or-false, or-true}
 use Rattle.gb_types.specs.declared.limits.TheConstants.{LAST_FRAME}
 use Rattle.gb_link.specs.declared.receiver.Admission.TheVariants.{First, Seen, Outside}
 use Rattle.gb_link.specs.Ack.{covers}
@@ -13,17 +14,10 @@ use Rattle.gb_link.specs.SendWindow.{AreAscending, AreRecent, has_room, pushed, 
 use Rattle.gb_link.specs.Received.{Received, base_of, mask_of, admission, admitted, taken, is_first}
 use Rattle.gb_link.specs.Link.{LinkEvent, push, arrive, make_ack, take_ack, Link, new_link, is_outside, is_number, is_undone, was_pushed, was_made, with_done, step, run_from, run, IsSound}
 use Rattle.gb_types.proofs.InsertedLemmas.{contains-inserted}
+use Rattle.gb_types.proofs.BoolLemmas.{not_true}
 use Rattle.gb_link.proofs.BaseLemmas.{count-cons, base_of_from, base_of_below, base_of_lacks, word_of_bit}
 use Rattle.gb_link.proofs.WindowLemmas.{IsWindow-pushed, IsWindow-acknowledged}
-use Rattle.gb_link.proofs.TestLemmas.{lt_true, lt_false, eq_true, eq_more, or_true}
-
-or_false : (b : Bool) → (b || false) ≡ b
-or_false true = refl
-or_false false = refl
-
-and_true : (b : Bool) → (b && true) ≡ b
-and_true true = refl
-and_true false = refl
+use Rattle.gb_link.proofs.TestLemmas.{lt_true, lt_false, eq_true, eq_more}
 
 -- ---- the acknowledgement of a set covers what is in it
 
@@ -66,7 +60,7 @@ module _ {F : Type 0} where
   -- ---- undone frames
 
   undone-pushed : (us : List (ℕ × F)) (next : ℕ) (frame : F) (n : ℕ) → is_undone (us ++ (next, frame) ∷ []) n ≡ (is_undone us n || nat_eq next n)
-  undone-pushed us next frame n = list_any-append (λ u. nat_eq u.0 n) us ((next, frame) ∷ []) ∙ ap (λ b. is_undone us n || b) (or_false (nat_eq next n))
+  undone-pushed us next frame n = list_any-append (λ u. nat_eq u.0 n) us ((next, frame) ∷ []) ∙ ap (λ b. is_undone us n || b) (or-false (nat_eq next n))
 
   undone_recent : (next : ℕ) (us : List (ℕ × F)) (n : ℕ) → AreRecent next us → is_undone us n ≡ true → (n < next) × (next ≤ n + 64)
   undone_recent next [] n r is = absurd cc
@@ -90,7 +84,7 @@ module _ {F : Type 0} where
   found_undone test (v ∷ us) u e =
       elim (test v) as (λ b. test v ≡ b → cond b (Some v) (find test us) ≡ Some u → ((nat_eq v.0 u.0 || is_undone us u.0) ≡ true) × (test u ≡ true)) [
         | true ↦ λ passes here. let same : v ≡ u = cc in (let is : nat_eq v.0 u.0 ≡ true = subst (λ w. nat_eq v.0 w.0 ≡ true) same (itself v.0) in ap (λ b. b || is_undone us u.0) is, ap test (sym same) ∙ passes)
-        | false ↦ λ _ later. let rest = found_undone test us u later in (ap (λ b. nat_eq v.0 u.0 || b) rest.0 ∙ or_true (nat_eq v.0 u.0), rest.1)
+        | false ↦ λ _ later. let rest = found_undone test us u later in (ap (λ b. nat_eq v.0 u.0 || b) rest.0 ∙ or-true (nat_eq v.0 u.0), rest.1)
       ] refl e
     where
       itself : (n : ℕ) → nat_eq n n ≡ true
@@ -119,7 +113,7 @@ module _ {F : Type 0} where
                   gone ∙ sym (ap (λ b. not b) out)
               | false ↦ λ other.
                   let out : nat_eq u.0 n ≡ false = subst (λ w. nat_eq w.0 n ≡ false) same other in
-                  sym (ap (λ b. is_undone us n && not b) out ∙ and_true (is_undone us n))
+                  sym (ap (λ b. is_undone us n && not b) out ∙ and-true (is_undone us n))
             ] refl
         | false ↦ λ later.
             let rest = undone-without test (v.0 + 1) us u n h.1 later in
@@ -186,10 +180,10 @@ module _ {F : Type 0} where
           ∙ elim (nat_eq l.sender.next n) as (λ b. nat_eq l.sender.next n ≡ b → (is_undone l.sender.undone n || b) ≡ not (is_number n l.done)) [
             | true ↦ λ is.
                 let same : l.sender.next ≡ n = eq_true l.sender.next n is in
-                or_true (is_undone l.sender.undone n) ∙ sym (ap (λ b. not b) (not_done n same))
+                or-true (is_undone l.sender.undone n) ∙ sym (ap (λ b. not b) (not_done n same))
             | false ↦ λ other.
                 let here : was_pushed l n ≡ true = grind (arith, nat_tests, was) in
-                or_false (is_undone l.sender.undone n) ∙ kept.accounted n here
+                or-false (is_undone l.sender.undone n) ∙ kept.accounted n here
           ] refl
         where
           not_done : (n : ℕ) → l.sender.next ≡ n → is_number n l.done ≡ false
@@ -261,7 +255,7 @@ module _ {F : Type 0} where
       after m = ap (λ a. set.contains (taken l.receiver n a) m) answer ∙ grows m (set.contains l.receiver n) refl
 
       still : (m : ℕ) → set.contains l.receiver m ≡ true → set.contains (admitted l.receiver n) m ≡ true
-      still m there = after m ∙ (ap (λ b. nat_eq n m || b) there ∙ or_true (nat_eq n m))
+      still m there = after m ∙ (ap (λ b. nat_eq n m || b) there ∙ or-true (nat_eq n m))
 
       was_sent : (m : ℕ) → (nat_eq n m || set.contains l.receiver m) ≡ true → was_pushed l m ≡ true
       was_sent m is =
@@ -370,14 +364,10 @@ module _ {F : Type 0} where
           ∙ elim (nat_eq u.0 n) as (λ b. nat_eq u.0 n ≡ b → cond {A = ℕ} b 1 0 + cond (is_number n l.done) 1 0 ≡ cond (b || is_number n l.done) 1 0) [
             | true ↦ λ is.
                 let same : u.0 ≡ n = eq_true u.0 n is in
-                let new : is_number n l.done ≡ false = subst (λ m. is_number m l.done ≡ false) same (negated (is_number u.0 l.done) (sym (kept.accounted u.0 (was_held u e)) ∙ is_held u e)) in
+                let new : is_number n l.done ≡ false = subst (λ m. is_number m l.done ≡ false) same (not_true (is_number u.0 l.done) (sym (kept.accounted u.0 (was_held u e)) ∙ is_held u e)) in
                 ap (λ b. 1 + cond {A = ℕ} b 1 0) new
             | false ↦ λ _. omega arith
           ] refl)
-        where
-          negated : (b : Bool) → not b ≡ true → b ≡ false
-          negated true h = cc
-          negated false h = refl
 
   IsSound-step : (l : Link F) (e : LinkEvent F) → IsSound l → IsSound (step l e)
   IsSound-step l (push frame) kept =

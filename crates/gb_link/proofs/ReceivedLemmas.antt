@@ -8,6 +8,7 @@ use Rattle.std.specs.FinSet as set
 use Rattle.std.specs.FinSet.{nat_cmp-IsAntisymmetric}
 use Rattle.std.proofs.lemmas.Bool.Decides.{nat_tests}
 use Rattle.std.proofs.lemmas.Nat.Bits.{bit_at_lowest, bit_at-suc, bit_at-zero, bit_at_set_same, bit_at_set_other}
+use Rattle.std.proofs.Math.Bool.{or-true, and-false}
 use Rattle.gb_types.specs.declared.limits.TheConstants.{LAST_FRAME}
 use Rattle.gb_types.specs.Places.{below}
 use Rattle.gb_types.proofs.PlaceLemmas.{any-below}
@@ -18,7 +19,7 @@ use Rattle.gb_link.specs.Received.{Received, admission, base_of, word_of, mask_o
 use Rattle.gb_link.specs.Words.{covered, IsReceiver}
 use Rattle.gb_link.proofs.BaseLemmas.{base_of_is, word_of_is}
 use Rattle.gb_link.proofs.AckLemmas.{not_covered_beyond}
-use Rattle.gb_link.proofs.TestLemmas.{lt_true, lt_false, lt_is, lt_not, eq_true, eq_false, eq_less, eq_more, or_true}
+use Rattle.gb_link.proofs.TestLemmas.{lt_true, lt_false, lt_is, lt_not, eq_true, eq_false, eq_less, eq_more}
 
 in_covered : (base mask n : ℕ) → set.contains (covered base mask) n ≡ (nat_lt n (base + 64) && (not (nat_eq n 0) && covers base mask n))
 unfolding covered
@@ -38,10 +39,6 @@ contains-covered base mask n word from =
 
 pub contains-zero : (base mask : ℕ) → set.contains (covered base mask) 0 ≡ false
 contains-zero base mask = in_covered base mask 0 ∙ and-false (nat_lt 0 (base + 64))
-  where
-    and-false : (b : Bool) → (b && false) ≡ false
-    and-false true = refl
-    and-false false = refl
 
 -- sets are equal that agree from 1 on and lack 0
 pub same_received : (s t : Received) → set.contains s 0 ≡ set.contains t 0 → ((n : ℕ) → 1 ≤ n → set.contains s n ≡ set.contains t n) → s ≡ t
@@ -86,7 +83,7 @@ set_at base mask ahead n within =
     elim (nat_lt n base) as (λ b. nat_lt n base ≡ b → covers base (bit_or mask (1 * 2 ^ ahead % 2 ^ 64)) n ≡ (nat_eq n (base + ahead) || covers base mask n)) [
       | true ↦ λ low.
           ap (λ b. b || nat_eq (bit_at (bit_or mask (1 * 2 ^ ahead % 2 ^ 64)) (n - base)) 1) low
-          ∙ sym (ap (λ b. nat_eq n (base + ahead) || (b || nat_eq (bit_at mask (n - base)) 1)) low ∙ or_true (nat_eq n (base + ahead)))
+          ∙ sym (ap (λ b. nat_eq n (base + ahead) || (b || nat_eq (bit_at mask (n - base)) 1)) low ∙ or-true (nat_eq n (base + ahead)))
       | false ↦ λ high.
           let from : base ≤ n = lt_false n base high in
           elim (nat_eq n (base + ahead)) as (λ b. nat_eq n (base + ahead) ≡ b → covers base (bit_or mask (1 * 2 ^ ahead % 2 ^ 64)) n ≡ (b || covers base mask n)) [

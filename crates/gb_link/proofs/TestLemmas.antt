@@ -1,5 +1,5 @@
 -- What tests on numbers say, and when they hold.
-use Rattle.std.proofs.Common.{◌≡◌, ℕ, ◌<◌, ◌≤◌, Bool, true, false, ◌||◌, nat_eq, nat_lt, refl, arith}
+use Rattle.std.proofs.Common.{◌≡◌, ℕ, ◌<◌, ◌≤◌, true, false, ◌||◌, nat_eq, nat_lt, arith}
 use Rattle.std.proofs.lemmas.Bool.Decides.{nat_tests}
 
 pub lt_true : (a b : ℕ) → nat_lt a b ≡ true → a < b
@@ -25,7 +25,3 @@ eq_less a b h = grind (arith, nat_tests)
 
 pub eq_more : (a b : ℕ) → b < a → nat_eq a b ≡ false
 eq_more a b h = grind (arith, nat_tests)
-
-pub or_true : (b : Bool) → (b || true) ≡ true
-or_true true = refl
-or_true false = refl

@@ -33,6 +33,7 @@ use Rattle.gb_cluster.specs.declared.event.Event.{Event}
 use Rattle.gb_types.specs.declared.plan.Plan.{Plan}
 use Rattle.gb_cluster.specs.declared.posted.Posted.{Posted}
 use Rattle.gb_cluster.proofs.NodesLemmas.{have_pasts}
+use Rattle.gb_cluster.proofs.CodeLemmas.{get_contains}
 use Rattle.gb_merge.specs.Interleaving.{is_good, sent_by, text_numbered, IsEventOf}
 use Rattle.gb_merge.specs.Merged.{told, is_starved}
 use Rattle.gb_merge.specs.Faults.{node_answer, node_after}
@@ -60,11 +61,6 @@ text_got (q ∷ packets) (suc k) bytes at = text_got packets k bytes at
 has_text : (packets : List Posted) (k : ℕ) (bytes : List ℕ) → text_numbered (texts packets) k ≡ Some bytes → HasText packets k bytes
 has_text packets zero bytes at = absurd (cc)
 has_text packets (suc k) bytes at = let got = text_got packets k bytes at in record { packet = got.0; there = got.1; text = got.2 }
-
-get_contains : (packets : List Posted) (k : ℕ) (p : Posted) → slice_get packets k ≡ Some p → Contains packets p
-get_contains [] k p e = absurd (cc)
-get_contains (q ∷ packets) zero p e = (0, omega arith, let same : q ≡ p = cc in same)
-get_contains (q ∷ packets) (suc k) p e = let rest = get_contains packets k p e in (suc rest.0, let l = rest.1 in omega (arith, l), rest.2)
 
 numbered_contains : (packets : List Posted) (k : ℕ) (p : Posted) → packet_numbered packets k ≡ Some p → Contains packets p
 numbered_contains packets zero p e = absurd (cc)

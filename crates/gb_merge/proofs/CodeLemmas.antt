@@ -1,7 +1,6 @@
 -- What the code's parts give together.
-use Rattle.std.proofs.Common.{◌≡◌, ℕ, zero, suc, ◌+◌, ◌-◌, ◌⊎◌, ◌<◌, ◌≤◌, List, [], ◌∷◌, length, Bool, true, false, Option, Some, None, inl, inr, refl, sym, ◌∙◌, ap, subst, arith, get_or}
-use Rattle.std.specs.Prelude.{slice_get, nat_eq, nat_lt, ◌&&◌, if◌then◌else◌, is_ok, is_some, not, IfErr, Result, Ok, Err}
-use Rattle.std.specs.Result.{IsErrAnd}
+use Rattle.std.proofs.Common.{◌≡◌, ℕ, ◌+◌, ◌-◌, ◌⊎◌, ◌<◌, ◌≤◌, List, [], ◌∷◌, length, Bool, true, false, Option, Some, None, inl, inr, refl, sym, ◌∙◌, ap, subst, arith, get_or}
+use Rattle.std.specs.Prelude.{slice_get, nat_eq, nat_lt, ◌&&◌, if◌then◌else◌, is_ok, is_some, not, Result, Ok, Err}
 use Rattle.std.proofs.lemmas.Bool.{cases_lt}
 use Rattle.std.proofs.lemmas.List.{get_or_default, get_or_past}
 use Rattle.gb_types.specs.declared.limits.TheConstants.{NODES}
@@ -13,15 +12,12 @@ use Rattle.gb_frame.specs.Reading.{reading}
 use Rattle.gb_node.specs.NodeStep.{if_here, node_numbered}
 use Rattle.gb_node.specs.NodeValue.{new_node}
 use Rattle.gb_node.specs.declared.tape.TapeEntry.{TapeEntry}
-use Rattle.gb_cluster.specs.ClusterStep.{packet_numbered}
+use Rattle.gb_node.proofs.TookLemmas.{numbered_is}
 use Rattle.gb_cluster.specs.ClusterValue.{node_plan}
-use Rattle.gb_cluster.specs.declared.event.Event.{Event}
 use Rattle.gb_types.specs.declared.plan.Plan.{Plan}
-use Rattle.gb_cluster.specs.declared.posted.Posted.{Posted}
-use Rattle.gb_cluster.proofs.NodesLemmas.{numbered_is}
 use Rattle.gb_merge.specs.Interleaving.{is_good, tape_of}
 use Rattle.gb_merge.specs.Faults.{all_sent, IsStranger}
-use Rattle.gb_merge.specs.Woven.{IsHeld, IsNext, CanGo, HasStranger}
+use Rattle.gb_merge.specs.Woven.{HasStranger}
 use Rattle.gb_merge.proofs.GoingLemmas.{node_of}
 
 -- Reading.
@@ -42,11 +38,7 @@ good_reads plan a key bytes r key_is is = ap (here plan a) (is ∙ ap (λ (k : L
     by (Err fault) = refl
     by (Ok c) = ok_if (nat_eq c.to a.number && nat_lt c.from plan.nodes) c
 
--- Numbers.
-
-pub numbered_at : (packets : List Posted) (k : ℕ) → (k ≡ 0 → ⊥) → packet_numbered packets k ≡ slice_get packets (k - 1)
-numbered_at packets zero some = absurd (some refl)
-numbered_at packets (suc k) some = let e : suc k - 1 ≡ k = omega arith in ap (slice_get packets) (sym e)
+-- Options.
 
 pub none_is : (o : Option ℕ) (b : Bool) → is_some o ≡ not b → b ≡ true → o ≡ None
 none_is None b is none = refl
@@ -55,12 +47,6 @@ none_is (Some k) b is none = absurd (let e : true ≡ false = is ∙ ap not none
 pub some_is : (o : Option ℕ) (b : Bool) → is_some o ≡ not b → b ≡ false → (k : ℕ) × (o ≡ Some k)
 some_is None b is none = absurd (let e : false ≡ true = is ∙ ap not none in cc)
 some_is (Some k) b is none = (k, refl)
-
--- Errors.
-
-pub err_so : {T E : Type 0} (r : Result T E) (e : E) (P : E → Type 0) → IsErrAnd r (λ x. x ≡ e) → P e → IfErr r P
-err_so (Ok v) e P is p = tt
-err_so (Err x) e P is p = subst P (sym is) p
 
 -- Strangers.
 
@@ -80,17 +66,6 @@ none_more P i before here b within has = by (cases_lt b i)
     by (inl less) = before b less has
     by (inr more) = let same : b ≡ i = omega arith in here (subst P same has)
 
-pub none_at_all : (plan : Plan) (sent : List (List ℕ)) (tapes : List (List TapeEntry)) (i : ℕ) → length tapes ≤ i → ((b : ℕ) → b < i → HasStranger plan (node_numbered b) sent (tape_of tapes b) → ⊥) → (a : ℕ) → HasStranger plan (node_numbered a) sent (tape_of tapes a) → ⊥
-none_at_all plan sent tapes i all before a has = by (cases_lt a i)
-  where
-    nothing : (entries : List TapeEntry) → entries ≡ [] → HasStranger plan (node_numbered a) sent entries → ⊥
-    nothing [] is h = let at = h.there in cc
-    nothing (x ∷ entries) is h = cc
-
-    by : (a < i) ⊎ (i ≤ a) → ⊥
-    by (inl less) = before a less has
-    by (inr past) = nothing (tape_of tapes a) (get_or_past tapes a [] (omega arith)) has
-
 pub stranger_of : (plan : Plan) (sent : List (List ℕ)) (tapes : List (List TapeEntry)) (a : ℕ) → length tapes ≤ NODES → sent ≡ all_sent tapes → HasStranger plan (node_numbered a) sent (tape_of tapes a) → IsStranger plan tapes
 stranger_of plan sent tapes a few sent_is has = by (cases_lt a (length tapes))
   where
@@ -108,27 +83,3 @@ stranger_of plan sent tapes a few sent_is has = by (cases_lt a (length tapes))
 pub stranger_has : (plan : Plan) (sent : List (List ℕ)) (tapes : List (List TapeEntry)) (s : IsStranger plan tapes) → sent ≡ all_sent tapes → HasStranger plan (node_numbered s.node.number) sent (tape_of tapes s.node.number)
 stranger_has plan sent tapes s sent_is =
     subst (λ (n : NodeId). HasStranger plan n sent (tape_of tapes s.node.number)) (sym (numbered_is s.node)) (subst (λ (t : List (List ℕ)). HasStranger plan s.node t (tape_of tapes s.node.number)) (sym sent_is) (record { place = s.place; entry = s.entry; there = s.there; stranger = s.stranger }))
-
--- The next event.
-
-pub read_at_place : (rest : List (List TapeEntry)) (i : ℕ) (left : List TapeEntry) → left ≡ get_or rest i left → i < length rest → left ≡ tape_of rest i
-read_at_place rest i left is within = is ∙ get_or_default rest i left [] within
-
-pub can_go_at : (plan : Plan) (rest : List (List TapeEntry)) (sent : List (List ℕ)) (i : ℕ) (a : NodeId) (left : List TapeEntry) (e : Event) → a.number ≡ i → left ≡ get_or rest i left → i < length rest → IsNext plan a sent left e → CanGo plan rest sent a e
-can_go_at plan rest sent i a left e here is within next = record {
-  within = omega arith;
-  entry = next.entry;
-  more = next.more;
-  next = ap (tape_of rest) here ∙ (sym (read_at_place rest i left is within) ∙ next.next);
-  is = next.is;
-}
-
-pub held_at : (plan : Plan) (rest : List (List TapeEntry)) (sent : List (List ℕ)) (i : ℕ) (a : NodeId) (left : List TapeEntry) → a.number ≡ i → left ≡ get_or rest i left → i < length rest → IsHeld plan a.number sent left → IsHeld plan i sent (tape_of rest i)
-held_at plan rest sent i a left here is within held = subst (λ n. IsHeld plan n sent (tape_of rest i)) here (subst (IsHeld plan a.number sent) (read_at_place rest i left is within) held)
-
-pub held_more_at : (plan : Plan) (rest : List (List TapeEntry)) (sent : List (List ℕ)) (i : ℕ) → ((b : ℕ) → b < i → IsHeld plan b sent (tape_of rest b)) → IsHeld plan i sent (tape_of rest i) → (b : ℕ) → b < i + 1 → IsHeld plan b sent (tape_of rest b)
-held_more_at plan rest sent i before here b within = by (cases_lt b i)
-  where
-    by : (b < i) ⊎ (i ≤ b) → IsHeld plan b sent (tape_of rest b)
-    by (inl less) = before b less
-    by (inr more) = let same : i ≡ b = omega arith in subst (λ n. IsHeld plan n sent (tape_of rest n)) same here

@@ -26,7 +26,7 @@ use Rattle.gb_merge.specs.Merged.{told, is_starved, did, run_of, Replays, AreFed
 use Rattle.gb_merge.specs.declared.fault.AuditFault.{AuditFault}
 use Rattle.gb_merge.specs.declared.fault.AuditFault.TheVariants.{Stranger, Stuck, Differs, OutOfMemory}
 use Rattle.gb_merge.specs.Faults.{node_answer, node_after, after_entry, replay}
-use Rattle.gb_merge.specs.Woven.{is_refused, sent_with, ArePlaced, IsTold, IsUntold, IsStepFault, IsFollowed, IsFollowFault, IsWrong}
+use Rattle.gb_merge.specs.Woven.{is_refused, sent_with, ArePlaced, IsTold, IsUntold, IsStepFault, IsFollowFault, IsWrong}
 use Rattle.gb_merge.proofs.ActingLemmas.{texts, text_of, Acted, acts, turned, fed_is, posted_is, told_own, placed_so}
 use Rattle.gb_merge.proofs.TakenLemmas.{entries_at-same, entries_at-other, entries_at-append, sent_with-push, nothing}
 
@@ -195,19 +195,9 @@ fault_of laws honest plan events picks i w p e Stuck are placed p_at e_at at is 
 fault_of laws honest plan events picks i w p e Differs are placed p_at e_at at is = is_wrong laws honest plan events picks i w p e are placed p_at e_at at is
 fault_of laws honest plan events picks i w p e OutOfMemory are placed p_at e_at at is = tt
 
-pub followed : (plan : Plan) (events : List Event) (picks : List Pick) (n : ℕ) (v : ClusterValue) → take n events ≡ events → take n picks ≡ picks → IsAt plan events picks n v → IsFollowed plan events picks v
-followed plan events picks n v all every at = record {
-  replays = subst (λ (es : List Event). Replays (new_cluster plan) es picks v) all (subst (λ (ps : List Pick). Replays (new_cluster plan) (take n events) ps v) every at.replays);
-  fed = subst AreFed every at.fed;
-  comes = subst (λ (ps : List Pick). ComesTo plan (run_of ps) v) every at.stands.comes;
-}
-
 -- the event is one of the cluster's
 pub goes_there : (plan : Plan) (events : List Event) (picks : List Pick) (i : ℕ) (w : ClusterValue) (p : Pick) (e : Event) → AreEvents plan [] picks events → ArePlaced plan.nodes picks → slice_get picks i ≡ Some p → slice_get events i ≡ Some e → IsAt plan events picks i w → IsPlaced (length w.nodes) e
 goes_there plan events picks i w p e are placed p_at e_at at =
     let within = placed_at plan.nodes picks i p placed p_at in
     let count = (stays plan (run_of (take i picks)) w at.stands.comes).count in
     placed_so plan (length w.nodes) p.node (sent_with (take i picks)) p.entry.event e (omega (arith, within, count)) (event_at plan [] picks events i p e are p_at e_at)
-
-pub plan_stays : (plan : Plan) (events : List Event) (picks : List Pick) (i : ℕ) (w : ClusterValue) → IsAt plan events picks i w → w.plan ≡ plan
-plan_stays plan events picks i w at = (stays plan (run_of (take i picks)) w at.stands.comes).plan_is

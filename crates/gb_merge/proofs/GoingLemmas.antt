@@ -1,21 +1,18 @@
 -- Whether a packet that came in can go.
-use Rattle.std.proofs.Common.{◌≡◌, ℕ, zero, suc, ◌+◌, ◌-◌, ◌<◌, ◌≤◌, ◌⊎◌, List, [], length, true, Option, Some, None, inl, inr, refl, sym, ◌∙◌, ap, subst, arith}
+use Rattle.std.proofs.Common.{◌≡◌, ℕ, zero, suc, ◌+◌, ◌-◌, ◌<◌, ◌≤◌, ◌⊎◌, List, [], true, Option, Some, None, inl, inr, refl, sym, ◌∙◌, ap, subst, arith}
 use Rattle.std.specs.Prelude.{slice_get, position}
 use Rattle.std.specs.Option.{option_map}
 use Rattle.std.specs.Str.{bytes_eq}
-use Rattle.std.proofs.lemmas.List.{get_or_past}
-use Rattle.std.proofs.lemmas.Bool.{cases_lt}
 use Rattle.gb_types.specs.declared.node.NodeId.{NodeId}
 use Rattle.gb_types.proofs.SameLemmas.{same_number}
 use Rattle.gb_node.specs.NodeStep.{node_numbered}
 use Rattle.gb_node.specs.declared.event.NodeEvent.{NodeEvent}
 use Rattle.gb_node.specs.declared.event.NodeEvent.TheVariants.{Request, Packet, Pack, Again, Ack, Tick, Stop}
-use Rattle.gb_node.specs.declared.tape.TapeEntry.{TapeEntry}
 use Rattle.gb_cluster.specs.declared.event.Event.TheVariants.{At, Arrive}
 use Rattle.gb_types.specs.declared.plan.Plan.{Plan}
-use Rattle.gb_merge.specs.Interleaving.{is_good, text_numbered, IsEventOf, tape_of}
+use Rattle.gb_merge.specs.Interleaving.{is_good, text_numbered, IsEventOf}
 use Rattle.gb_merge.specs.Faults.{IsBlocked}
-use Rattle.gb_merge.specs.Woven.{IsOther, IsHeld, AreHeld}
+use Rattle.gb_merge.specs.Woven.{IsOther}
 use Rattle.gb_merge.proofs.MailLemmas.{absent, found}
 
 pub text_numbered_is : (sent : List (List ℕ)) (k : ℕ) → 0 < k → text_numbered sent k ≡ slice_get sent (k - 1)
@@ -61,24 +58,6 @@ itself plan sent a (Again b n) other = refl
 itself plan sent a (Ack b) other = refl
 itself plan sent a Tick other = refl
 itself plan sent a Stop other = refl
-
--- and is not blocked
-pub other_free : (plan : Plan) (sent : List (List ℕ)) (a : NodeId) (x : NodeEvent) → IsOther plan a x → IsBlocked plan a sent x → ⊥
-other_free plan sent a (Request request) other blocked = blocked
-other_free plan sent a (Packet bytes) other blocked = let yes = blocked.0 in cc
-other_free plan sent a (Pack b) other blocked = blocked
-other_free plan sent a (Again b n) other blocked = blocked
-other_free plan sent a (Ack b) other blocked = blocked
-other_free plan sent a Tick other blocked = blocked
-other_free plan sent a Stop other blocked = blocked
-
--- the nodes beyond the last have nothing
-pub all_held : (plan : Plan) (sent : List (List ℕ)) (rest : List (List TapeEntry)) (i : ℕ) → length rest ≤ i → ((a : ℕ) → a < i → IsHeld plan a sent (tape_of rest a)) → AreHeld plan sent rest
-all_held plan sent rest i all below a = by (cases_lt a i)
-  where
-    by : (a < i) ⊎ (i ≤ a) → IsHeld plan a sent (tape_of rest a)
-    by (inl within) = below a within
-    by (inr past) = subst (IsHeld plan a sent) (sym (get_or_past rest a [] (omega arith))) tt
 
 -- the node of a place
 pub node_of : (i : ℕ) (a : NodeId) → a.number ≡ i → node_numbered i ≡ a

@@ -6,9 +6,9 @@ use Rattle.gb_node.specs.NodeStep.{node_numbered}
 use Rattle.gb_node.specs.declared.event.NodeEvent.{NodeEvent}
 use Rattle.gb_node.specs.declared.event.NodeEvent.TheVariants.{Request, Packet, Pack, Again, Ack, Tick, Stop}
 use Rattle.gb_node.specs.declared.tape.TapeEntry.{TapeEntry}
+use Rattle.gb_node.proofs.TookLemmas.{numbered_is}
 use Rattle.gb_cluster.specs.declared.event.Event.{Event}
 use Rattle.gb_types.specs.declared.plan.Plan.{Plan}
-use Rattle.gb_cluster.proofs.NodesLemmas.{numbered_is}
 use Rattle.gb_merge.specs.Interleaving.{Pick, entries_at, sent_by, text_numbered, IsEventOf, AreEvents, tape_of}
 use Rattle.gb_merge.specs.Faults.{IsStuck, sent_of, IsBlocked}
 use Rattle.gb_merge.specs.Woven.{sent_with, IsWoven, IsHeld, AreHeld}

@@ -12,9 +12,9 @@ use Rattle.gb_node.specs.declared.answer.Sent.TheVariants.{Packet as Gave, Nothi
 use Rattle.gb_node.specs.declared.event.NodeEvent.{NodeEvent}
 use Rattle.gb_node.specs.declared.event.NodeEvent.TheVariants.{Request, Packet, Pack, Again, Ack, Tick, Stop}
 use Rattle.gb_node.specs.declared.tape.TapeEntry.{TapeEntry}
+use Rattle.gb_node.proofs.TookLemmas.{numbered_is}
 use Rattle.gb_cluster.specs.declared.event.Event.{Event}
 use Rattle.gb_types.specs.declared.plan.Plan.{Plan}
-use Rattle.gb_cluster.proofs.NodesLemmas.{numbered_is}
 use Rattle.gb_merge.specs.Interleaving.{sent_by, tape_of}
 use Rattle.gb_merge.specs.Faults.{IsBlocked}
 use Rattle.gb_merge.specs.Woven.{IsHeld, AreMarked, AreWoken, AwaitsOther, CanGo}

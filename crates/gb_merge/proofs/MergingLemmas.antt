@@ -7,14 +7,13 @@ use Rattle.std.proofs.Math.Seq.{take-append_seam}
 use Rattle.gb_types.specs.declared.node.NodeId.{NodeId}
 use Rattle.gb_node.specs.Past.{Happened}
 use Rattle.gb_node.specs.declared.tape.TapeEntry.{TapeEntry}
-use Rattle.gb_cluster.specs.ClusterValue.{ClusterValue}
 use Rattle.gb_cluster.specs.Run.{Did, past_at}
 use Rattle.gb_cluster.specs.declared.event.Event.{Event}
 use Rattle.gb_types.specs.declared.plan.Plan.{Plan}
 use Rattle.gb_merge.specs.Interleaving.{Pick, entries_at, AreEvents, tape_of, sent_by}
-use Rattle.gb_merge.specs.Merged.{is_starved, did, run_of, happened, past_of, IsMerged}
+use Rattle.gb_merge.specs.Merged.{is_starved, did, run_of, happened, past_of}
 use Rattle.gb_merge.specs.Faults.{node_answer, replay, IsStranger, IsDifferent, IsFault}
-use Rattle.gb_merge.specs.Woven.{IsWoven, IsWhole, ArePlaced, IsFollowed, IsWrong, IsWeaveFault, IsFollowFault}
+use Rattle.gb_merge.specs.Woven.{IsWoven, IsWhole, ArePlaced, IsWrong, IsWeaveFault, IsFollowFault}
 use Rattle.gb_merge.specs.declared.fault.AuditFault.{AuditFault}
 use Rattle.gb_merge.specs.declared.fault.AuditFault.TheVariants.{Stranger, Stuck, Differs, OutOfMemory}
 use Rattle.gb_merge.proofs.TakenLemmas.{entries_at-same, entries_at-append}
@@ -56,9 +55,6 @@ events_count plan sent [] [] are = refl
 events_count plan sent (p ∷ picks) (e ∷ events) are = ap suc (events_count plan (sent ++ sent_by p.entry.answer) picks events are.1)
 events_count plan sent [] (e ∷ events) are = absurd are
 events_count plan sent (p ∷ picks) [] are = absurd are
-
-pub merged : (plan : Plan) (tapes : List (List TapeEntry)) (picks : List Pick) (events : List Event) (v : ClusterValue) → IsWhole plan tapes picks events → IsFollowed plan events picks v → IsMerged plan tapes events
-merged plan tapes picks events v whole run = record { picks = picks; are_events = whole.are_events; whole = whole.whole; last = v; replays = run.replays; fed = run.fed; comes = run.comes }
 
 seam : {X : Type 0} (xs : List X) (y : X) (ys : List X) → slice_get (xs ++ y ∷ ys) (length xs) ≡ Some y
 seam [] y ys = refl

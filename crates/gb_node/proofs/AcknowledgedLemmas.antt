@@ -7,6 +7,7 @@ use Rattle.std.proofs.Math.Seq.{get_or-append_seam}
 use Rattle.std.proofs.lemmas.Bool.{cases_Bool, cases_eq, cases_lt}
 use Rattle.std.proofs.lemmas.Bool.Decides.{nat_tests}
 use Rattle.std.proofs.lemmas.List.{get_or-set_same, get_or-set_other, get_or_append_left, length-set}
+use Rattle.std.proofs.Math.Bool.{and-false, or-false}
 use Rattle.gb_types.specs.declared.message.MsgId.{MsgId}
 use Rattle.gb_types.specs.declared.node.NodeId.{NodeId}
 use Rattle.gb_types.proofs.InsertedLemmas.{contains-inserted}
@@ -55,14 +56,6 @@ length-done b m s = elim (nat_eq m.origin.number s.me.number) as (λ t. length (
   | false ↦ refl
 ]
 
-last_false : (t : Bool) → t ≡ (t || false)
-last_false true = refl
-last_false false = refl
-
-and_false : (t : Bool) → (t && false) ≡ false
-and_false true = refl
-and_false false = refl
-
 with_one : (seq : ℕ) (b : NodeId) (acks : Acks) (k c : ℕ) → k < length acks
     → set.contains (get_or (with_acknowledgement seq b acks) k set.empty) c ≡ (set.contains (get_or acks k set.empty) c || (nat_eq c b.number && nat_eq seq (k + 1)))
 with_one seq b acks k c low = go (cases_eq seq (k + 1))
@@ -94,7 +87,7 @@ with_one seq b acks k c low = go (cases_eq seq (k + 1))
     go (inr other) =
         let apart : nat_eq seq (k + 1) ≡ false = grind (arith, nat_tests, other) in
         kept (cases_Bool (nat_le 1 seq && nat_le seq (length acks)))
-        ∙ (last_false (set.contains (get_or acks k set.empty) c) ∙ ap (λ t. set.contains (get_or acks k set.empty) c || t) (sym (ap (λ t. nat_eq c b.number && t) apart ∙ and_false (nat_eq c b.number))))
+        ∙ (sym (or-false (set.contains (get_or acks k set.empty) c)) ∙ ap (λ t. set.contains (get_or acks k set.empty) c || t) (sym (ap (λ t. nat_eq c b.number && t) apart ∙ and-false (nat_eq c b.number))))
       where
         kept : (((nat_le 1 seq && nat_le seq (length acks)) ≡ true) ⊎ ((nat_le 1 seq && nat_le seq (length acks)) ≡ false)) → set.contains (get_or (with_acknowledgement seq b acks) k set.empty) c ≡ set.contains (get_or acks k set.empty) c
         kept (inl inside) =
@@ -111,8 +104,8 @@ done_one b m s me k c here low = go (nat_eq m.origin.number s.me.number) refl
     go : (t : Bool) → nat_eq m.origin.number s.me.number ≡ t → set.contains (get_or (if t then with_acknowledgement m.seq b s.acknowledged else s.acknowledged) k set.empty) c ≡ (set.contains (get_or s.acknowledged k set.empty) c || (nat_eq c b.number && is_own_message me (k + 1) m))
     go true is = with_one m.seq b s.acknowledged k c low ∙ ap (λ t. set.contains (get_or s.acknowledged k set.empty) c || (nat_eq c b.number && (t && nat_eq m.seq (k + 1)))) (sym (ap (nat_eq m.origin.number) (sym here) ∙ is))
     go false is =
-        last_false (set.contains (get_or s.acknowledged k set.empty) c)
-        ∙ ap (λ t. set.contains (get_or s.acknowledged k set.empty) c || t) (sym (ap (λ t. nat_eq c b.number && (t && nat_eq m.seq (k + 1))) (ap (nat_eq m.origin.number) (sym here) ∙ is) ∙ and_false (nat_eq c b.number)))
+        sym (or-false (set.contains (get_or s.acknowledged k set.empty) c))
+        ∙ ap (λ t. set.contains (get_or s.acknowledged k set.empty) c || t) (sym (ap (λ t. nat_eq c b.number && (t && nat_eq m.seq (k + 1))) (ap (nat_eq m.origin.number) (sym here) ∙ is) ∙ and-false (nat_eq c b.number)))
 
 pub acks_done : (me from : NodeId) (m : MsgId) (s : SlotState) (t : Told) → SlotTold me s t → AcksAgree me.number (slot_done from m s).acknowledged (acknowledged_with me.number from m t)
 acks_done me from m s t h = record { each = each; beyond = beyond }

@@ -12,6 +12,7 @@ use Rattle.gb_types.specs.declared.limits.TheConstants.{NODES}
 use Rattle.gb_types.specs.declared.message.MsgId.{MsgId}
 use Rattle.gb_types.specs.declared.node.NodeId.{NodeId}
 use Rattle.gb_types.specs.declared.spec.Spec.{Spec}
+use Rattle.gb_types.proofs.BoolLemmas.{or_turned}
 use Rattle.gb_history.specs.declared.call.GroupCall.TheVariants.{Crashed}
 use Rattle.gb_history.specs.Messages.{entry_in}
 use Rattle.gb_rules.specs.Group.{is_other}
@@ -27,12 +28,6 @@ use Rattle.gb_node.proofs.SlotGroups.{SlotTold}
 abbrev numbered_onto : List ℕ → List NodeId → List NodeId
 numbered_onto [] qs = qs
 numbered_onto (b ∷ bs) qs = numbered_onto bs (node_numbered b ∷ qs)
-
-or_turned : (p q r : Bool) → (p || (q || r)) ≡ ((q || p) || r)
-or_turned true true r = refl
-or_turned true false r = refl
-or_turned false true r = refl
-or_turned false false r = refl
 
 any_onto : (x : ℕ) (bs : List ℕ) (qs : List NodeId) → list_any (λ (q : NodeId). nat_eq q.number x) (numbered_onto bs qs) ≡ (list_any (λ (q : NodeId). nat_eq q.number x) (map node_numbered bs) || list_any (λ (q : NodeId). nat_eq q.number x) qs)
 any_onto x [] qs = refl

@@ -1,11 +1,12 @@
 -- What a packet that is taken, a batch that is packed and a tick make of a node, as its past will tell.
-use Rattle.std.proofs.Common.{◌≡◌, ◌≢◌, ℕ, ◌+◌, ◌<◌, Bool, true, false, ◌&&◌, ◌||◌, ◌⊎◌, inl, inr, List, [], ◌∷◌, ◌++◌, length, map, Some, Ok, refl, sym, ap, ◌∙◌, arith, nat_eq, nat_lt, get_or}
+use Rattle.std.proofs.Common.{◌≡◌, ◌≢◌, ℕ, ◌+◌, ◌<◌, true, false, ◌&&◌, ◌||◌, ◌⊎◌, inl, inr, List, [], ◌∷◌, ◌++◌, length, map, Some, Ok, refl, sym, ap, ◌∙◌, arith, nat_eq, nat_lt, get_or}
 use Rattle.std.specs.Prelude.{filter, fold, not, slice_set}
 use Rattle.std.specs.FinSet as set
 use Rattle.std.specs.List.{list_any}
 use Rattle.std.proofs.lemmas.Bool.{cases_Bool}
 use Rattle.std.proofs.lemmas.Bool.Decides.{eqb_tells}
 use Rattle.std.proofs.lemmas.List.{append-nil, get_or-set_same, get_or-set_other}
+use Rattle.std.proofs.Math.Bool.{and-false, or-false}
 use Rattle.gb_types.specs.declared.limits.TheConstants.{NODES}
 use Rattle.gb_types.specs.declared.node.NodeId.{NodeId}
 use Rattle.gb_types.specs.Rising.{rising}
@@ -91,16 +92,8 @@ halted_moved key v = still_moved key Stop (Halted HaltDone) v (record v { stoppe
 
 -- Packets.
 
-or_false : (t : Bool) → (t || false) ≡ t
-or_false true = refl
-or_false false = refl
-
-and_false : (t : Bool) → (t && false) ≡ false
-and_false true = refl
-and_false false = refl
-
 tests_same : (c : Content) (b : ℕ) (us : List (ℕ × List Item)) → nat_eq c.from b ≡ true → filter (λ u. not (list_any (is_ack b u.0) (c ∷ []))) us ≡ filter (λ u. not (covers c.base c.mask u.0)) us
-tests_same c b us e = ap (λ t. filter (λ u. not ((t && covers c.base c.mask u.0) || false)) us) e ∙ (λ i. filter (λ u. not (or_false (covers c.base c.mask u.0) i)) us)
+tests_same c b us e = ap (λ t. filter (λ u. not ((t && covers c.base c.mask u.0) || false)) us) e ∙ (λ i. filter (λ u. not (or-false (covers c.base c.mask u.0) i)) us)
 
 tests_other : (c : Content) (b : ℕ) (us : List (ℕ × List Item)) → nat_eq c.from b ≡ false → filter (λ u. not (list_any (is_ack b u.0) (c ∷ []))) us ≡ us
 tests_other c b us e = ap (λ t. filter (λ u. not ((t && covers c.base c.mask u.0) || false)) us) e ∙ filter_all us
@@ -158,11 +151,11 @@ module _ (v : NodeValue) (bytes : List ℕ) (c : Content) (is : reading v.key by
       by (inl here) =
           ap (λ (r : Received). set.contains r n) (at_same v.receivers c.from b.number (receives c.frame (receiver_from v c.from)) set.empty here.1 (omega (arith, b.below, receivers)))
           ∙ (receives_first c.frame n (receiver_from v c.from)
-          ∙ ((λ i. (is_first (fate c.frame (receiver_from v c.from)) && sym (or_false (nat_eq c.frame n)) i) || set.contains (receiver_from v (here.1 i)) n)
+          ∙ ((λ i. (is_first (fate c.frame (receiver_from v c.from)) && sym (or-false (nat_eq c.frame n)) i) || set.contains (receiver_from v (here.1 i)) n)
           ∙ ap (λ t. (is_first (fate c.frame (receiver_from v c.from)) && ((t && nat_eq c.frame n) || false)) || set.contains (receiver_from v b.number) n) (sym here.0)))
       by (inr off) =
           ap (λ (r : Received). set.contains r n) (get_or-set_other v.receivers c.from b.number (receives c.frame (receiver_from v c.from)) set.empty (λ x. off.1 (sym x)))
-          ∙ (ap (λ t. t || set.contains (receiver_from v b.number) n) (sym (and_false (is_first (fate c.frame (receiver_from v c.from)))))
+          ∙ (ap (λ t. t || set.contains (receiver_from v b.number) n) (sym (and-false (is_first (fate c.frame (receiver_from v c.from)))))
           ∙ ap (λ t. (is_first (fate c.frame (receiver_from v c.from)) && ((t && nat_eq c.frame n) || false)) || set.contains (receiver_from v b.number) n) (sym off.0))
 
   pub took_moved : Moved v.key (Came bytes) (Taken (TakenGood (good_of c v))) v (node_took c v)

@@ -7,6 +7,7 @@ use Rattle.std.proofs.lemmas.Bool.Decides.{nat_tests}
 use Rattle.gb_types.specs.declared.refusal.Refusal.TheVariants.{OutOfMemory}
 use Rattle.gb_types.specs.declared.reply.Reply.TheVariants.{Refused}
 use Rattle.gb_types.specs.declared.request.Request.{Request}
+use Rattle.gb_types.proofs.BoolLemmas.{and_left}
 use Rattle.gb_frame.specs.Packet.{Content}
 use Rattle.gb_frame.specs.Spelling.{IsPacket}
 use Rattle.gb_frame.specs.Laws.{WhatIsWrittenIsRead}
@@ -70,10 +71,6 @@ packet_says v Tick text w turned fit = absurd (let is = (sends v Tick text w tur
 packet_says v Stop text w turned fit = absurd (let is = (sends v Stop text w turned).is in cc)
 
 -- Frames go to other nodes of the cluster.
-
-and_left : (t u : Bool) → (t && u) ≡ true → t ≡ true
-and_left true u e = refl
-and_left false u e = absurd (cc)
 
 pub reached_another : ReachedAreOthers
 reached_another v b e = and_left (is_another v b) (not (set.contains v.watch.noticed b.number)) e

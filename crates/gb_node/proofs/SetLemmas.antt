@@ -1,14 +1,9 @@
 -- Sets that are within each other.
-use Rattle.std.proofs.Common.{◌≡◌, Bool, true, false, refl, sym, ap, ◌∙◌}
+use Rattle.std.proofs.Common.{◌≡◌, true, sym, ap, ◌∙◌}
 use Rattle.std.specs.Ordering.{nat_cmp}
 use Rattle.std.specs.FinSet as set
 use Rattle.std.specs.Cmp.{nat_cmp_total}
-
-both_ways : (a b : Bool) → (a ≡ true → b ≡ true) → (b ≡ true → a ≡ true) → a ≡ b
-both_ways true true f g = refl
-both_ways true false f g = sym (f refl)
-both_ways false true f g = g refl
-both_ways false false f g = refl
+use Rattle.gb_types.proofs.BoolLemmas.{both_ways}
 
 pub one_set : (s t : set.FinSet nat_cmp) → set.is_subset s t ≡ true → set.is_subset t s ≡ true → s ≡ t
 one_set s t there back = set.same_set nat_cmp_total set.nat_cmp-IsAntisymmetric s t (λ q. both_ways (set.contains s q) (set.contains t q) (set.is_subset-contains nat_cmp_total s t there q) (set.is_subset-contains nat_cmp_total t s back q))

@@ -15,12 +15,12 @@ use Rattle.gb_node.specs.declared.answer.Frame.{Frame}
 use Rattle.gb_node.specs.NodeStep.{node_numbered, window_to, receiver_from, without_done, frame_done, fate, new_items, frame_comes, receives, node_took, good_of}
 
 -- a node has its number
-pub numbered : (a : NodeId) → node_numbered a.number ≡ a
-numbered a = same_number (node_numbered a.number) a (omega (arith, a.below))
+pub numbered_is : (a : NodeId) → node_numbered a.number ≡ a
+numbered_is a = same_number (node_numbered a.number) a (omega (arith, a.below))
 
 module _ (v : NodeValue) (p : Content) (h : Head) (is : packet_of h p.items ≡ p) where
   from_is : node_numbered p.from ≡ h.from
-  from_is = ap (λ (c : Content). node_numbered c.from) (sym is) ∙ numbered h.from
+  from_is = ap (λ (c : Content). node_numbered c.from) (sym is) ∙ numbered_is h.from
 
   pub took_good : (frame : Frame) (items done : ℕ) → frame ≡ fate p.frame (receiver_from v h.from.number) → items ≡ new_items p.frame p.items (receiver_from v h.from.number)
       → done ≡ length (freed (window_to v h.from.number) h.base h.mask) → record { from = h.from; frame = frame; items = items; done = done } ≡ good_of p v

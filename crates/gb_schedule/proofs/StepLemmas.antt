@@ -155,9 +155,6 @@ arrive_reads text packet small are =
     let same : packet ≡ spelt.packet = decimal_injective packet spelt.packet (omega (arith, small)) (omega (arith, fits_spelt)) cc in
     cc spelt.command_is)
 
-pub arrive_none : (text : List ℕ) → ((packet : ℕ) → packet ≤ largest → words_of text ≡ decimal packet ∷ [] → ⊥) → (step : AnyStep) → (None ≡ Some step) ↔ SpellsArrive (Step step) (words_of text)
-arrive_none text none step = (λ found. cc found, λ spelt. absurd (none spelt.packet spelt.packet_in spelt.words_are))
-
 pub again_within : (last : ℕ) (text ns : List ℕ) → Reads (AreNumbers (last ∷ last ∷ largest ∷ []) text) ns → (get_or ns 0 0 ≤ last) × (get_or ns 1 0 ≤ last)
 again_within last text ns reads =
     let are = (found (AreNumbers (last ∷ last ∷ largest ∷ []) text) ns reads).1 in

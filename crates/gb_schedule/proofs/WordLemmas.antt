@@ -1,10 +1,11 @@
 -- The first word of a text, and the words of a line one after the other.
-use Rattle.std.proofs.Common.{◌≡◌, ◌≤◌, ◌<◌, ◌==◌, ◌+◌, ℕ, List, [], ◌∷◌, ◌++◌, Bool, true, false, length, get_or, set, slice_index, take, drop, map, not, refl, sym, ap, ◌∙◌, append_assoc, length-append, arith}
+use Rattle.std.proofs.Common.{◌≡◌, ◌≤◌, ◌<◌, ◌==◌, ◌+◌, ℕ, List, [], ◌∷◌, ◌++◌, false, length, get_or, set, slice_index, take, drop, map, not, sym, ap, ◌∙◌, append_assoc, length-append, arith}
 use Rattle.std.specs.List.{position_or_len}
 use Rattle.std.proofs.lemmas.List.Sums.{position_or_len_is, prefix_len_passes}
 use Rattle.std.proofs.lemmas.List.Splits.{slice_split_first, slice_split_none, length-slice_split}
 use Rattle.std.proofs.lemmas.List.{take_more_set, map-append, length-map, take_all}
 use Rattle.gb_types.specs.Words.{words_of}
+use Rattle.gb_types.proofs.BoolLemmas.{not_true}
 
 -- the first space of a text
 pub first_space : (text : List ℕ) (place : ℕ) → place ≤ length text → ((k : ℕ) → k < place → (slice_index text k == 32) ≡ false)
@@ -16,10 +17,6 @@ first_space text place within before here =
 pub more_words : (text : List ℕ) → position_or_len (λ byte. byte == 32) text < length text
     → words_of text ≡ take (position_or_len (λ byte. byte == 32) text) text ∷ words_of (drop (position_or_len (λ byte. byte == 32) text + 1) text)
 more_words text below = slice_split_first (λ byte. byte == 32) text 0 below
-
-not_true : (b : Bool) → not b ≡ true → b ≡ false
-not_true true is = sym is
-not_true false is = refl
 
 -- a text without a space is one word
 pub last_word : (text : List ℕ) → length text ≤ position_or_len (λ byte. byte == 32) text → words_of text ≡ text ∷ []

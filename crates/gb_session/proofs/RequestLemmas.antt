@@ -21,10 +21,6 @@ use Rattle.gb_session.specs.Grammar.{SpellsTenant, SpellsMake, NamesGroup, Spell
 abbrev pub Finds : (Request → Type 0) → Option Request → Type 0
 Finds P answer = (request : Request) → (answer ≡ Some request) ↔ P request
 
--- a word is the token that was found
-abbrev IsTokenWord : List ℕ → List ℕ → Type 0
-IsTokenWord word token = token_of word ≡ Some token
-
 same_bytes : (word word' : List ℕ) (token token' : List ℕ) → token_of word ≡ Some token → token_of word' ≡ Some token' → word ≡ word' → token ≡ token'
 same_bytes word word' token token' here there same = some_same token token' (sym here ∙ subst (λ w. token_of w ≡ Some token') (sym same) there)
 

@@ -1,12 +1,11 @@
 -- How the nodes that are noticed are written.
-use Rattle.std.proofs.Common.{◌≡◌, ℕ, List, [], ◌∷◌, ◌++◌, length, refl, sym, ◌∙◌, ap, subst}
+use Rattle.std.proofs.Common.{◌≡◌, ℕ, List, [], ◌∷◌, ◌++◌, length, refl, sym, ◌∙◌, ap}
 use Rattle.std.proofs.lemmas.List.{append_assoc, append-nil, take-append-drop}
 use Rattle.std.proofs.lemmas.List.Prefix.{front_rest}
 use Rattle.std.specs.Io.{StartsWith}
 use Rattle.std.specs.FinSet as set
 use Rattle.std.specs.Ordering.{nat_cmp}
-use Rattle.std.specs.Prelude.{codes, Result, Ok, Err, OnOk, IfErr}
-use Rattle.std.specs.Result.{IsErrAnd}
+use Rattle.std.specs.Prelude.{codes, Result, Ok, Err, OnOk}
 use Rattle.gb_types.specs.Rising.{rising, rising_from}
 use Rattle.gb_simulate.specs.AnswerText.{each_after_space, noticed_words}
 use Rattle.gb_simulate.specs.Schedule.{added}
@@ -28,11 +27,6 @@ joined old now more all written is = ap (λ xs. xs ++ more) written ∙ (append_
 pub on_ok : {T E : Type 0} {A B : Type 0} (r : Result T E) → (A → B) → OnOk r A → OnOk r B
 on_ok (Ok v) f h = f h
 on_ok (Err e) f h = h
-
--- what a `?` hands out
-pub err_so : {T E : Type 0} (r : Result T E) (e : E) (P : E → Type 0) → IsErrAnd r (λ x. x ≡ e) → P e → IfErr r P
-err_so (Ok v) e P is p = tt
-err_so (Err x) e P is p = subst P (sym is) p
 
 -- a text that begins with the old one is that and what was added
 pub added_behind : (old new : List ℕ) → StartsWith new old → new ≡ old ++ added old new

@@ -1,6 +1,6 @@
 -- What an event in a cluster makes happen at its nodes.
-use Rattle.std.proofs.Common.{◌≡◌, ℕ, zero, suc, inl, inr, true, false, Bool, List, [], ◌∷◌, Option, Some, None, refl, sym, subst, ◌∙◌, arith}
-use Rattle.std.specs.Prelude.{slice_get, Contains, MatchBool}
+use Rattle.std.proofs.Common.{◌≡◌, ℕ, zero, suc, inl, inr, true, false, Bool, List, [], ◌∷◌, Option, Some, None, refl, sym, subst, ◌∙◌}
+use Rattle.std.specs.Prelude.{Contains, MatchBool}
 use Rattle.gb_node.specs.declared.event.NodeEvent.TheVariants.{Packet as Came}
 use Rattle.gb_cluster.specs.ClusterStep.{IsAt, IsArrival, IsStep, is_packet_for, packet_numbered}
 use Rattle.gb_cluster.specs.ClusterValue.{ClusterValue, node_at}
@@ -11,12 +11,8 @@ use Rattle.gb_cluster.specs.declared.event.Event.{Event}
 use Rattle.gb_cluster.specs.declared.event.Event.TheVariants.{At, Arrive}
 use Rattle.gb_types.specs.declared.plan.Plan.{Plan}
 use Rattle.gb_cluster.specs.declared.posted.Posted.{Posted}
-use Rattle.gb_simulate.specs.RunTexts.{Step, Happens}
-
-get_contains : (packets : List Posted) (k : ℕ) (p : Posted) → slice_get packets k ≡ Some p → Contains packets p
-get_contains [] k p e = absurd (cc)
-get_contains (q ∷ packets) zero p e = (0, omega arith, let same : q ≡ p = cc in same)
-get_contains (q ∷ packets) (suc k) p e = let rest = get_contains packets k p e in (suc rest.0, let l = rest.1 in omega (arith, l), rest.2)
+use Rattle.gb_cluster.proofs.CodeLemmas.{get_contains}
+use Rattle.gb_simulate.specs.RunTexts.{RunStep, Happens}
 
 there : (packets : List Posted) (k : ℕ) (p : Posted) → packet_numbered packets k ≡ Some p → Contains packets p
 there packets zero p e = absurd (cc)
@@ -26,7 +22,7 @@ bytes_in : (b c : List ℕ) → Came b ≡ Came c → b ≡ c
 bytes_in b c e = cc
 
 -- a run goes on by a step
-abbrev pub RunsOn : Plan → ClusterValue → Step → List Did → ClusterValue → Type 0
+abbrev pub RunsOn : Plan → ClusterValue → RunStep → List Did → ClusterValue → Type 0
 RunsOn plan before step earlier after = (run : List Did) × Happens before step earlier after run × ComesTo plan run after
 
 pub runs_on : (plan : Plan) (old new : ClusterValue) (earlier : List Did) (event : Event) (answer : Answer) → IsStep old event answer new → ComesTo plan earlier old

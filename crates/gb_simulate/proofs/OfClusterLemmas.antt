@@ -9,6 +9,7 @@ use Rattle.gb_cluster.specs.declared.answer.Answer.{Answer}
 use Rattle.gb_cluster.specs.declared.event.Event.{Event}
 use Rattle.gb_simulate.specs.OfCluster.{plan_of, started, size, Takes}
 use Rattle.gb_simulate.specs.Schedule.{HasNodes}
+use Rattle.gb_types.proofs.ReadLemmas.{some_same}
 
 pub started_so : (v : ClusterValue) (nodes silence : ℕ) → v ≡ new_cluster (plan_of nodes silence) → v ≡ started nodes silence
 unfolding started
@@ -17,9 +18,6 @@ started_so v nodes silence is = is
 pub started_size : (nodes silence : ℕ) → size (started nodes silence) ≡ nodes
 unfolding started
 started_size nodes silence = length-map-range_with_len (λ a. new_node (node_plan (plan_of nodes silence) (node_numbered a))) 0 nodes
-
-some_same : (a b : ℕ) → Some a ≡ Some b → a ≡ b
-some_same a b is = cc
 
 pub has_nodes : (v : ClusterValue) (nodes silence : ℕ) → IsClusterPlan (plan_of nodes silence) → v ≡ new_cluster (plan_of nodes silence) → HasNodes (Some v)
 has_nodes v nodes silence right is count some =

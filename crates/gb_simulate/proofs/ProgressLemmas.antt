@@ -17,6 +17,7 @@ use Rattle.gb_simulate.specs.declared.outcome.SimEnd.TheVariants.{All, BadLine}
 use Rattle.gb_simulate.specs.declared.outcome.SimFault.{SimFault}
 use Rattle.gb_simulate.specs.declared.outcome.SimFault.TheVariants.{Read, Write, OutOfMemory}
 use Rattle.gb_simulate.proofs.RunTextLemmas.{run_of}
+use Rattle.gb_types.proofs.ReadLemmas.{some_same}
 
 -- nothing is read
 reaches_start : (input : List ℕ) → Reaches input [] None 1 (lines_of input)
@@ -41,9 +42,6 @@ reaches_on input text xs ys line answer w after n r first few short goes =
 -- the same, with other lines left, that are the same
 reaches_same : (input text : List ℕ) (w : Option ClusterValue) (n : ℕ) (xs ys : List (List ℕ)) → xs ≡ ys → Reaches input text w n xs → Reaches input text w n ys
 reaches_same input text w n xs ys same r = subst (λ q. Reaches input text w n q) same r
-
-some_same : (xs ys : List ℕ) → Some xs ≡ Some ys → xs ≡ ys
-some_same xs ys is = cc
 
 -- ---- one line more, and what is handed over
 

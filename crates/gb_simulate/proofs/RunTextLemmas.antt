@@ -18,7 +18,7 @@ use Rattle.gb_schedule.specs.Lines.{ended}
 use Rattle.gb_schedule.specs.declared.command.Command.{Command}
 use Rattle.gb_schedule.specs.declared.command.Command.TheVariants.{Cluster}
 use Rattle.gb_simulate.specs.OfCluster.{plan_of, started, size, Takes}
-use Rattle.gb_simulate.specs.RunTexts.{Step, AreSteps, Happens, TellsRun}
+use Rattle.gb_simulate.specs.RunTexts.{RunStep, AreSteps, Happens, TellsRun}
 use Rattle.gb_simulate.specs.Schedule.{Obeys, GoesOn, event_of}
 use Rattle.gb_simulate.specs.Text.{AreAnswered, Reaches}
 use Rattle.gb_simulate.proofs.HappensLemmas.{runs_on}
@@ -82,7 +82,7 @@ start_on lines text line answer w (Cluster nodes silence) event run spelt (after
 start_on lines text line answer w other event run spelt obeys = absurd obeys
 
 -- one step more
-steps_on : (plan : Plan) (steps : List Step) (step : Step) (earlier run : List Did) (before v : ClusterValue)
+steps_on : (plan : Plan) (steps : List RunStep) (step : RunStep) (earlier run : List Did) (before v : ClusterValue)
     → AreSteps plan steps earlier before → IsStep before step.event step.answer v → Happens before step earlier v run → AreSteps plan (step ∷ steps) run v
 unfolding AreSteps
 steps_on plan steps step earlier run before v made takes happens = (before, earlier, made, takes, happens)
@@ -98,7 +98,7 @@ step_on : (lines : List (List ℕ)) (text line answer : List ℕ) (v : ClusterVa
 step_on lines text line answer v w command None run spelt is obeys = absurd obeys
 step_on lines text line answer v w command (Some event) (run, here) spelt is obeys =
     let takes : IsStep v event obeys.answer obeys.next = step_is v obeys.next event obeys.answer obeys.takes in
-    let step : Step = record { event = event; answer = obeys.answer } in
+    let step : RunStep = record { event = event; answer = obeys.answer } in
     let on = runs_on (plan_of here.nodes here.silence) v obeys.next run event obeys.answer takes here.comes in
     let count : size v ≡ here.nodes = (stays (plan_of here.nodes here.silence) run v here.comes).count in
     subst (TellsRun (line ∷ lines) (text ++ answer)) (sym obeys.after_is) (

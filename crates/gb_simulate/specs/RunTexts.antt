@@ -18,7 +18,7 @@ use Rattle.gb_simulate.specs.OfCluster.{plan_of}
 use Rattle.gb_simulate.specs.Schedule.{event_of}
 
 -- an event in a cluster and its answer
-pub record Step : Type 0 where
+pub record RunStep : Type 0 where
   pub event : Event
   pub answer : Answer
 
@@ -28,19 +28,19 @@ IsOf packets (At a event) d = (d.node ≡ a) × (d.event ≡ event)
 IsOf packets (Arrive k) d = (p : Posted) × (packet_numbered packets k ≡ Some p) × (d.node ≡ p.to) × (d.event ≡ Came p.text)
 
 -- by a step nothing happens at any node, or this, with the step's answer
-abbrev pub Happens : ClusterValue → Step → List Did → ClusterValue → List Did → Type 0
+abbrev pub Happens : ClusterValue → RunStep → List Did → ClusterValue → List Did → Type 0
 Happens before step earlier after run =
     ((run ≡ earlier) × (after ≡ before))
     ⊎ ((d : Did) × (run ≡ d ∷ earlier) × IsOf before.packets step.event d × (step.answer ≡ answer_of (length before.packets) d.answer))
 
 -- steps of a cluster, and what happened at its nodes by them, both with the newest first
-unfoldable pub AreSteps : Plan → List Step → List Did → ClusterValue → Type 0
+unfoldable pub AreSteps : Plan → List RunStep → List Did → ClusterValue → Type 0
 AreSteps plan [] run v = (run ≡ []) × (v ≡ new_cluster plan)
 AreSteps plan (step ∷ steps) run v =
     (before : ClusterValue) × (earlier : List Did) × AreSteps plan steps earlier before × IsStep before step.event step.answer v × Happens before step earlier v run
 
 -- in a cluster of so many nodes a line spells the event of a step, and its answer is the step's
-pub record TellsStep (nodes : ℕ) (line answer : List ℕ) (step : Step) : Type 0 where
+pub record TellsStep (nodes : ℕ) (line answer : List ℕ) (step : RunStep) : Type 0 where
   pub command : Command
   pub spelt : IsCommandLine (Some nodes) line command
   pub event_is : event_of command ≡ Some step.event
@@ -48,11 +48,11 @@ pub record TellsStep (nodes : ℕ) (line answer : List ℕ) (step : Step) : Type
 
 -- Lines tell steps, both with the newest first: each line asks for nothing, or tells the next step; the text is the answers,
 -- one after another.
-abbrev pub TellSteps : ℕ → List (List ℕ) → List ℕ → List Step → Type 0
+abbrev pub TellSteps : ℕ → List (List ℕ) → List ℕ → List RunStep → Type 0
 TellSteps nodes [] text steps = (text ≡ []) × (steps ≡ [])
 TellSteps nodes (line ∷ lines) text steps =
     (IsSilent line × TellSteps nodes lines text steps)
-    ⊎ ((step : Step) × (earlier : List Step) × (answer : List ℕ) × (answers : List ℕ) × (steps ≡ step ∷ earlier) × (text ≡ answers ++ answer)
+    ⊎ ((step : RunStep) × (earlier : List RunStep) × (answer : List ℕ) × (answers : List ℕ) × (steps ≡ step ∷ earlier) × (text ≡ answers ++ answer)
     × TellsStep nodes line answer step × TellSteps nodes lines answers earlier)
 
 -- Lines, the newest first, are those of a run that leads here: one starts the cluster; those before it ask for nothing; those
@@ -68,7 +68,7 @@ pub record IsRunOf (lines : List (List ℕ)) (text : List ℕ) (run : List Did) 
   pub starts : IsCommandLine None first (Cluster nodes silence)
   pub answers : List ℕ
   pub text_is : text ≡ ended (codes "ok") ++ answers
-  pub steps : List Step
+  pub steps : List RunStep
   pub told : TellSteps nodes behind answers steps
   pub made : AreSteps (plan_of nodes silence) steps run v
   pub comes : ComesTo (plan_of nodes silence) run v

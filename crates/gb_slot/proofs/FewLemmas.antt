@@ -7,19 +7,21 @@ use Rattle.std.proofs.Math.Nat.{suc-mul}
 use Rattle.std.proofs.lemmas.Bool.{eqb-true}
 use Rattle.std.proofs.lemmas.Bool.Decides.{nat_tests}
 use Rattle.std.proofs.lemmas.List.{length-map}
-use Rattle.gb_types.proofs.SameLemmas.{and-first, and-second, same-true, same_itself}
+use Rattle.gb_types.proofs.SameLemmas.{same-true, same_itself}
 use Rattle.gb_types.specs.Entry.{message_of}
 use Rattle.gb_types.specs.Message.{same}
 use Rattle.gb_types.specs.Places.{below}
 use Rattle.gb_types.specs.declared.entry.Entry.{Entry}
-use Rattle.gb_types.specs.declared.limits.TheConstants.{NODES}
+use Rattle.gb_types.specs.declared.limits.TheConstants.{NODES, BYTES}
 use Rattle.gb_types.specs.declared.message.MsgId.{MsgId}
 use Rattle.gb_types.specs.declared.spec.Spec.{Spec}
+use Rattle.gb_types.proofs.BoolLemmas.{and_left, and_right}
 use Rattle.gb_layer.specs.Counts.{count_by-cons}
 use Rattle.gb_layer.specs.Limit.{Limit, is_counted, message_count}
 use Rattle.gb_layer.specs.PigeonholeLemmas.{no_more_messages}
 use Rattle.gb_layer.specs.WholeLemmas.{counted_grown, once_grown}
 use Rattle.gb_history.specs.Messages.{has, with_new, bytes_of}
+use Rattle.gb_slot.specs.Kept.{AreCounted}
 use Rattle.gb_slot.specs.Reached.{limit_of, most_bytes}
 use Rattle.gb_slot.specs.StoreValue.{total_bytes}
 
@@ -74,8 +76,8 @@ counted_there : (l : Limit) (es : List Entry) (m : MsgId) → list_all (is_count
 counted_there l [] m h there = cc
 counted_there l (e ∷ es) m h there =
     elim (same (message_of e) m) as (λ b. same (message_of e) m ≡ b → (b || has es m) ≡ true → is_counted l m ≡ true) [
-      | true ↦ λ is _. ap (is_counted l) (sym (same-true (message_of e) m is)) ∙ and-first _ _ h
-      | false ↦ λ _ t. counted_there l es m (and-second _ _ h) t
+      | true ↦ λ is _. ap (is_counted l) (sym (same-true (message_of e) m is)) ∙ and_left _ _ h
+      | false ↦ λ _ t. counted_there l es m (and_right _ _ h) t
     ] refl there
 
 counted_among : (l : Limit) (es : List Entry) (ms : List MsgId) → list_all (is_counted l) (ids es) ≡ true → AllByRecursion (λ m. has es m ≡ true) ms → list_all (is_counted l) ms ≡ true
@@ -119,13 +121,26 @@ all_found (x ∷ es) =
     let found = one_found NODES x.origin.number (length x.payload) x.origin.below in
     omega (arith, rest, more, found)
 
+-- so many of each origin are at most this many of all
+by_origin_few : (n most : ℕ) (es : List Entry) → ((p : ℕ) → p < n → bytes_of p es ≤ most) → by_origin (below n) es ≤ n * most
+by_origin_few zero most es few = omega arith
+by_origin_few (suc n) most es few =
+    let rest = by_origin_few n most es (λ p lt. few p (omega (arith, lt))) in
+    omega (arith, rest, few n (omega arith), suc-mul n most)
+
+-- where each origin says no more bytes than a member may, no more are there than all nodes may say
+pub few_counted : (seen : List ℕ) (es : List Entry) → AreCounted seen es → total_bytes es ≤ NODES * BYTES
+few_counted seen es counted =
+    let most = by_origin_few NODES BYTES es (λ p lt. (counted p lt).1) in
+    omega (arith, all_found es, most)
+
 -- who is no member said nothing
 foreign_none : (l : Limit) (es : List Entry) (p : ℕ) → list_all (is_counted l) (ids es) ≡ true → set.contains l.members p ≡ false → bytes_of p es ≡ 0
 foreign_none l [] p h out = refl
 foreign_none l (x ∷ es) p h out =
-    let rest : list_all (is_counted l) (ids es) ≡ true = and-second (is_counted l (message_of x)) (list_all (is_counted l) (ids es)) h in
+    let rest : list_all (is_counted l) (ids es) ≡ true = and_right (is_counted l (message_of x)) (list_all (is_counted l) (ids es)) h in
     elim (nat_eq x.origin.number p) as (λ b. nat_eq x.origin.number p ≡ b → (if b then length x.payload else 0) + bytes_of p es ≡ 0) [
-      | true ↦ λ is. let there : set.contains l.members p ≡ true = ap (set.contains l.members) (sym (eqb-true x.origin.number p is)) ∙ and-first _ _ (and-first _ _ h) in cc
+      | true ↦ λ is. let there : set.contains l.members p ≡ true = ap (set.contains l.members) (sym (eqb-true x.origin.number p is)) ∙ and_left _ _ (and_left _ _ h) in cc
       | false ↦ λ _. omega (arith, foreign_none l es p rest out)
     ] refl
 

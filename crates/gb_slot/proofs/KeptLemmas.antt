@@ -1,13 +1,23 @@
 -- What a store keeps as bytes grow.
-use Rattle.std.proofs.Common.{◌≡◌, ℕ, ◌+◌, ◌-◌, ◌≤◌, List, [], ◌∷◌, ◌++◌, length, take, drop, refl, sym, ◌∙◌, ap, subst, arith, length-append, length-drop}
+use Rattle.std.proofs.Common.{◌≡◌, ℕ, ◌-◌, ◌≤◌, List, [], ◌∷◌, ◌++◌, length, take, drop, refl, sym, ◌∙◌, ap, subst, arith, length-append, length-drop}
 use Rattle.std.specs.Prelude.{slice_range}
 use Rattle.std.specs.Ordering.{nat_cmp}
 use Rattle.std.specs.FinSet.{FinSet}
-use Rattle.std.proofs.lemmas.List.{take_all, take-append-le, drop-append-le, map-append}
+use Rattle.std.proofs.lemmas.List.{take_all, take-append-le, drop-append-le}
 use Rattle.std.proofs.lemmas.List.Prefix.{front_rest}
 use Rattle.gb_types.specs.declared.message.MsgId.{MsgId}
 use Rattle.gb_slot.specs.declared.store.Kept.{Kept}
-use Rattle.gb_slot.specs.Kept.{entry_of, entries_of, AreInside}
+use Rattle.gb_slot.specs.Kept.{start_of, entries_of, AreInside}
+
+-- no payload begins behind the bytes
+pub start_within : (bytes : List ℕ) (kept : List Kept) → AreInside bytes kept → start_of bytes kept ≤ length bytes
+start_within bytes [] inside = omega arith
+start_within bytes (k ∷ kept) inside = omega (arith, inside.0, start_within bytes kept inside.1)
+
+-- there is an entry for each message
+pub entries_count : (bytes : List ℕ) (kept : List Kept) → length (entries_of bytes kept) ≡ length kept
+entries_count bytes [] = refl
+entries_count bytes (k ∷ kept) = omega (arith, entries_count bytes kept)
 
 -- a part of the bytes stays as bytes are added
 slice_range-append : (bytes more : List ℕ) (i j : ℕ) → i ≤ j → j ≤ length bytes → slice_range (bytes ++ more) i j ≡ slice_range bytes i j
@@ -17,39 +27,35 @@ slice_range-append bytes more i j le within =
     ap (take (j - i)) (drop-append-le i bytes more start) ∙ take-append-le (j - i) (drop i bytes) more enough
 
 -- the part that was added
-pub slice_range-added : (bytes more : List ℕ) (j : ℕ) → j ≡ length bytes + length more → slice_range (bytes ++ more) (length bytes) j ≡ more
-slice_range-added bytes more j is =
-    let count : j - length bytes ≡ length more = omega arith in
-    ap (take (j - length bytes)) (front_rest (bytes ++ more) bytes more refl) ∙ (ap (λ n. take n more) count ∙ take_all (length more) more (omega arith))
+slice_range-added : (bytes more : List ℕ) → slice_range (bytes ++ more) (length bytes) (length (bytes ++ more)) ≡ more
+slice_range-added bytes more =
+    let count : length (bytes ++ more) - length bytes ≡ length more = omega (arith, length-append bytes more) in
+    ap (take (length (bytes ++ more) - length bytes)) (front_rest (bytes ++ more) bytes more refl) ∙ (ap (λ n. take n more) count ∙ take_all (length more) more (omega arith))
 
-pub entries_of-append : (bytes more : List ℕ) (kept : List Kept) → AreInside bytes kept → entries_of (bytes ++ more) kept ≡ entries_of bytes kept
-entries_of-append bytes more [] inside = refl
-entries_of-append bytes more (k ∷ kept) inside =
-    let part = slice_range-append bytes more k.start k.end inside.0 inside.1 in
-    (λ i. record { origin = k.m.origin; seq = k.m.seq; payload = part i } ∷ entries_of (bytes ++ more) kept)
-    ∙ ap (λ xs. entry_of bytes k ∷ xs) (entries_of-append bytes more kept inside.2)
-
-pub AreInside-append : (bytes more : List ℕ) (kept : List Kept) (k : Kept) → AreInside bytes kept → k.start ≤ k.end → k.end ≤ length bytes + length more → AreInside (bytes ++ more) (kept ++ k ∷ [])
-AreInside-append bytes more [] k inside le within = (le, omega (arith, length-append bytes more), tt)
-AreInside-append bytes more (x ∷ kept) k inside le within = (inside.0, omega (arith, inside.1, length-append bytes more), AreInside-append bytes more kept k inside.2 le within)
+-- what begins behind the bytes begins where they end
+start_added : (bytes more : List ℕ) (kept : List Kept) (k : Kept) → k.start ≡ length bytes → start_of (bytes ++ more) (kept ++ k ∷ []) ≡ start_of bytes kept
+start_added bytes more [] k start = start
+start_added bytes more (x ∷ kept) k start = refl
 
 -- the entries with one more
-pub entries_of-added : (bytes payload : List ℕ) (kept : List Kept) (m : MsgId) (nodes : FinSet nat_cmp) (j : ℕ) → AreInside bytes kept → j ≡ length bytes + length payload
-    → entries_of (bytes ++ payload) (kept ++ record { m = m; start = length bytes; end = j; from = nodes } ∷ []) ≡ entries_of bytes kept ++ record { origin = m.origin; seq = m.seq; payload = payload } ∷ []
-entries_of-added bytes payload kept m nodes j inside is =
-    let k : Kept = record { m = m; start = length bytes; end = j; from = nodes } in
-    let last = slice_range-added bytes payload j is in
-    map-append (entry_of (bytes ++ payload)) kept (k ∷ [])
-    ∙ (ap (λ xs. xs ++ entry_of (bytes ++ payload) k ∷ []) (entries_of-append bytes payload kept inside)
-    ∙ (λ i. entries_of bytes kept ++ record { origin = m.origin; seq = m.seq; payload = last i } ∷ []))
+entries_of-added : (bytes payload : List ℕ) (kept : List Kept) (k : Kept) → k.start ≡ length bytes → AreInside bytes kept
+    → entries_of (bytes ++ payload) (kept ++ k ∷ []) ≡ entries_of bytes kept ++ record { origin = k.m.origin; seq = k.m.seq; payload = payload } ∷ []
+entries_of-added bytes payload [] k start inside =
+    let last = ap (λ n. slice_range (bytes ++ payload) n (length (bytes ++ payload))) start ∙ slice_range-added bytes payload in
+    λ i. record { origin = k.m.origin; seq = k.m.seq; payload = last i } ∷ []
+entries_of-added bytes payload (x ∷ kept) k start inside =
+    let part = ap (slice_range (bytes ++ payload) x.start) (start_added bytes payload kept k start) ∙ slice_range-append bytes payload x.start (start_of bytes kept) inside.0 (start_within bytes kept inside.1) in
+    λ i. record { origin = x.m.origin; seq = x.m.seq; payload = part i } ∷ entries_of-added bytes payload kept k start inside.1 i
+
+AreInside-added : (bytes payload : List ℕ) (kept : List Kept) (k : Kept) → k.start ≡ length bytes → AreInside bytes kept → AreInside (bytes ++ payload) (kept ++ k ∷ [])
+AreInside-added bytes payload [] k start inside = (omega (arith, start, length-append bytes payload), tt)
+AreInside-added bytes payload (x ∷ kept) k start inside = (subst (λ n. x.start ≤ n) (sym (start_added bytes payload kept k start)) inside.0, AreInside-added bytes payload kept k start inside.1)
 
 -- what adding a message leaves
-pub added : (bytes later payload : List ℕ) (kept more : List Kept) (m : MsgId) (nodes : FinSet nat_cmp) (i j : ℕ) → later ≡ bytes ++ payload → i ≡ length bytes → j ≡ length later → more ≡ kept ++ record { m = m; start = i; end = j; from = nodes } ∷ [] → AreInside bytes kept
+pub added : (bytes later payload : List ℕ) (kept more : List Kept) (m : MsgId) (nodes : FinSet nat_cmp) (i : ℕ) → later ≡ bytes ++ payload → i ≡ length bytes → more ≡ kept ++ record { m = m; start = i; from = nodes } ∷ [] → AreInside bytes kept
     → (entries_of later more ≡ entries_of bytes kept ++ record { origin = m.origin; seq = m.seq; payload = payload } ∷ []) × AreInside later more
-added bytes later payload kept more m nodes i j longer start end grown inside =
-    let sum : j ≡ length bytes + length payload = end ∙ (ap length longer ∙ length-append bytes payload) in
-    let k : Kept = record { m = m; start = length bytes; end = j; from = nodes } in
-    let grown_so : more ≡ kept ++ k ∷ [] = grown ∙ ap (λ n. kept ++ record { m = m; start = n; end = j; from = nodes } ∷ []) start in (
-      ap (λ bs. entries_of bs more) longer ∙ (ap (entries_of (bytes ++ payload)) grown_so ∙ entries_of-added bytes payload kept m nodes j inside sum),
-      subst (λ bs. AreInside bs more) (sym longer) (subst (AreInside (bytes ++ payload)) (sym grown_so) (AreInside-append bytes payload kept k inside (omega arith) (omega arith))),
+added bytes later payload kept more m nodes i longer start grown inside =
+    let k : Kept = record { m = m; start = i; from = nodes } in (
+      (λ j. entries_of (longer j) (grown j)) ∙ entries_of-added bytes payload kept k start inside,
+      subst (λ bs. AreInside bs more) (sym longer) (subst (AreInside (bytes ++ payload)) (sym grown) (AreInside-added bytes payload kept k start inside)),
     )

@@ -1,5 +1,5 @@
 -- What a slot took when it was made is enough for each call.
-use Rattle.std.proofs.Common.{◌≡◌, ℕ, Bool, false, ◌&&◌, ◌*◌, ◌+◌, ◌≤◌, ◌<◌, List, [], ◌∷◌, ◌++◌, length, sym, ◌∙◌, ap, arith, length-append, vec_len, vec_capacity}
+use Rattle.std.proofs.Common.{◌≡◌, ℕ, Bool, false, ◌&&◌, ◌*◌, ◌+◌, ◌≤◌, ◌<◌, List, [], ◌∷◌, ◌++◌, length, refl, sym, ◌∙◌, ap, arith, length-append, vec_len, vec_capacity}
 use Rattle.std.specs.Prelude.{slice_index_or, if◌then◌else◌}
 use Rattle.std.specs.FinSet as set
 use Rattle.std.proofs.lemmas.List.{length-map}
@@ -8,7 +8,7 @@ use Rattle.std.proofs.lemmas.Nat.{mul-le}
 use Rattle.gb_types.specs.Entry.{message_of}
 use Rattle.gb_types.specs.Places.{below, common}
 use Rattle.gb_types.specs.declared.entry.Entry.{Entry}
-use Rattle.gb_types.specs.declared.limits.TheConstants.{NODES, BYTES}
+use Rattle.gb_types.specs.declared.limits.TheConstants.{NODES, MESSAGES}
 use Rattle.gb_layer.specs.Rule.{Nodes}
 use Rattle.gb_types.specs.declared.message.MsgId.{MsgId}
 use Rattle.gb_types.specs.declared.node.NodeId.{NodeId}
@@ -105,9 +105,15 @@ new_known es x new = ap (λ (b : Bool). if b then es else es ++ x ∷ []) new
 few_members : (some other : Nodes) → common some other ≤ NODES
 few_members some other = let few = count_by-le-length (λ p. set.contains some p && set.contains other p) (below NODES) in omega (arith, few)
 
--- a number of bytes for each of them
-pub bytes_fit : (members : Nodes) (count bytes : ℕ) → count ≡ common members members → bytes ≤ BYTES → count * bytes ≤ NODES * BYTES
-bytes_fit members count bytes is few = let most = few_members members members in mul-le count bytes NODES BYTES (omega (arith, is, most)) few
+-- so many for each of them
+pub all_fit : (members : Nodes) (count each most : ℕ) → count ≡ common members members → each ≤ most → count * each ≤ NODES * most
+all_fit members count each most is few = let all = few_members members members in mul-le count each NODES most (omega (arith, is, all)) few
+
+-- no more were put out than all nodes may say
+pub few_put : (s : Inside) → IsReached (held s) → s.spec.msgs ≤ MESSAGES → length s.outgoing.items ≤ NODES * MESSAGES
+few_put s r few =
+    let most = all_fit s.spec.members (common s.spec.members s.spec.members) s.spec.msgs MESSAGES refl few in
+    omega (arith, few_outgoing (held s) r, most, length-map s.outgoing.items (λ o. o.m))
 
 -- so many that wait were put out, and not taken
 pub few_wait : (s : Inside) (now : SlotState) (b at : ℕ) → held s ≡ now → at ≡ b → IsReached (held s) → slice_index_or s.taken at 0 + length (waiting now b) ≤ length s.outgoing.items

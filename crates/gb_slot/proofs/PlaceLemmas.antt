@@ -1,5 +1,5 @@
 -- What stands at the place of a message.
-use Rattle.std.proofs.Common.{◌≡◌, ℕ, zero, suc, ◌≤◌, ◌<◌, ◌||◌, Bool, true, false, List, [], ◌∷◌, ◌++◌, length, take, set, get_or, slice_get, Some, None, refl, sym, ◌∙◌, ap, subst, arith}
+use Rattle.std.proofs.Common.{◌≡◌, ℕ, zero, suc, ◌+◌, ◌≤◌, ◌<◌, ◌||◌, Bool, true, false, List, [], ◌∷◌, ◌++◌, length, take, drop, set, get_or, slice_get, Some, None, refl, sym, ◌∙◌, ap, subst, arith}
 use Rattle.std.specs.Prelude.{Option, MatchOption, map, slice_range, is_some, if◌then◌else◌}
 use Rattle.std.specs.Ordering.{nat_cmp}
 use Rattle.std.specs.FinSet as nodes
@@ -12,12 +12,13 @@ use Rattle.gb_types.specs.declared.node.NodeId.{NodeId}
 use Rattle.gb_types.specs.Entry.{message_of}
 use Rattle.gb_types.specs.Message.{same}
 use Rattle.gb_types.proofs.SameLemmas.{same-true}
-use Rattle.gb_layer.specs.Bools.{or_left, or_right}
+use Rattle.gb_types.proofs.BoolLemmas.{or_left, or_right}
 use Rattle.gb_layer.specs.WholeLemmas.{once_grown}
 use Rattle.gb_history.specs.Messages.{has, payload_in}
 use Rattle.gb_slot.specs.Arrivals.{Arrival, has_arrival, nodes_of, with_node}
 use Rattle.gb_slot.specs.declared.store.Kept.{Kept}
-use Rattle.gb_slot.specs.Kept.{entry_of, entries_of, is_of, messages_of, arrivals_of, IsPlaceOf, AreInside}
+use Rattle.gb_slot.specs.Kept.{start_of, entries_of, is_of, messages_of, arrivals_of, IsPlaceOf, AreInside}
+use Rattle.gb_slot.proofs.KeptLemmas.{start_within}
 
 -- a test that fails at each place before one
 pub none_before : {X : Type 0} (p : X → Bool) (xs : List X) (i : ℕ) → ((k : ℕ) (x : X) → k < i → slice_get xs k ≡ Some x → p x ≡ false) → list_any p (take i xs) ≡ false
@@ -39,7 +40,7 @@ none_after p (x ∷ xs) (suc i) h none =
 
 -- what is kept, with other nodes
 abbrev pub marked : nodes.FinSet nat_cmp → Kept → Kept
-marked from k = record { m = k.m; start = k.start; end = k.end; from = from }
+marked from k = record { m = k.m; start = k.start; from = from }
 
 -- these change neither messages nor payloads
 pub messages_marked : (from : nodes.FinSet nat_cmp) (kept : List Kept) (i : ℕ) (d : Kept) → messages_of (set kept i (marked from (get_or kept i d))) ≡ messages_of kept
@@ -47,15 +48,24 @@ messages_marked from [] i d = refl
 messages_marked from (k ∷ kept) zero d = refl
 messages_marked from (k ∷ kept) (suc i) d = ap (λ rest. k.m ∷ rest) (messages_marked from kept i d)
 
+start_marked : (from : nodes.FinSet nat_cmp) (kept : List Kept) (i : ℕ) (d : Kept) (bytes : List ℕ) → start_of bytes (set kept i (marked from (get_or kept i d))) ≡ start_of bytes kept
+start_marked from [] i d bytes = refl
+start_marked from (k ∷ kept) zero d bytes = refl
+start_marked from (k ∷ kept) (suc i) d bytes = refl
+
 pub entries_marked : (from : nodes.FinSet nat_cmp) (kept : List Kept) (i : ℕ) (d : Kept) (bytes : List ℕ) → entries_of bytes (set kept i (marked from (get_or kept i d))) ≡ entries_of bytes kept
 entries_marked from [] i d bytes = refl
 entries_marked from (k ∷ kept) zero d bytes = refl
-entries_marked from (k ∷ kept) (suc i) d bytes = ap (λ rest. entry_of bytes k ∷ rest) (entries_marked from kept i d bytes)
+entries_marked from (k ∷ kept) (suc i) d bytes = λ j. record { origin = k.m.origin; seq = k.m.seq; payload = slice_range bytes k.start (start_marked from kept i d bytes j) } ∷ entries_marked from kept i d bytes j
 
 pub inside_marked : (from : nodes.FinSet nat_cmp) (kept : List Kept) (i : ℕ) (d : Kept) (bytes : List ℕ) → AreInside bytes kept → AreInside bytes (set kept i (marked from (get_or kept i d)))
 inside_marked from [] i d bytes inside = inside
 inside_marked from (k ∷ kept) zero d bytes inside = inside
-inside_marked from (k ∷ kept) (suc i) d bytes inside = (inside.0, inside.1, inside_marked from kept i d bytes inside.2)
+inside_marked from (k ∷ kept) (suc i) d bytes inside = (subst (λ n. k.start ≤ n) (sym (start_marked from kept i d bytes)) inside.0, inside_marked from kept i d bytes inside.1)
+
+-- one place further
+suc_more : (i : ℕ) → suc (i + 1) ≡ suc i + 1
+suc_more i = omega arith
 
 module _ (m : MsgId) where
   -- whether the message is there
@@ -86,17 +96,17 @@ module _ (m : MsgId) where
   any_found kept (Some i) at = sym (any_placed kept i at)
 
   -- the payload of what is kept there
-  pub payload_placed : (bytes : List ℕ) (kept : List Kept) (i : ℕ) (d e : Kept) → IsPlaceOf m kept (Some i) → payload_in (entries_of bytes kept) m ≡ slice_range bytes (get_or kept i d).start (get_or kept i e).end
-  payload_placed bytes [] i d e at = absurd (omega (arith, at.0))
-  payload_placed bytes (k ∷ kept) zero d e at = ap (λ (b : Bool). if b then slice_range bytes k.start k.end else payload_in (entries_of bytes kept) m) (at.1 k refl)
-  payload_placed bytes (k ∷ kept) (suc i) d e at =
-      ap (λ (b : Bool). if b then slice_range bytes k.start k.end else payload_in (entries_of bytes kept) m) (or_left (is_of m k) _ at.2)
-      ∙ payload_placed bytes kept i d e (rest_placed k kept i at)
+  pub payload_placed : (bytes : List ℕ) (kept : List Kept) (i : ℕ) (d : Kept) → IsPlaceOf m kept (Some i) → payload_in (entries_of bytes kept) m ≡ slice_range bytes (get_or kept i d).start (start_of bytes (drop (i + 1) kept))
+  payload_placed bytes [] i d at = absurd (omega (arith, at.0))
+  payload_placed bytes (k ∷ kept) zero d at = ap (λ (b : Bool). if b then slice_range bytes k.start (start_of bytes kept) else payload_in (entries_of bytes kept) m) (at.1 k refl)
+  payload_placed bytes (k ∷ kept) (suc i) d at =
+      ap (λ (b : Bool). if b then slice_range bytes k.start (start_of bytes kept) else payload_in (entries_of bytes kept) m) (or_left (is_of m k) _ at.2)
+      ∙ (payload_placed bytes kept i d (rest_placed k kept i at) ∙ ap (λ n. slice_range bytes (get_or kept i d).start (start_of bytes (drop n (k ∷ kept)))) (suc_more i))
 
   pub payload_missing : (bytes : List ℕ) (kept : List Kept) → list_any (is_of m) kept ≡ false → payload_in (entries_of bytes kept) m ≡ []
   payload_missing bytes [] none = refl
   payload_missing bytes (k ∷ kept) none =
-      ap (λ (b : Bool). if b then slice_range bytes k.start k.end else payload_in (entries_of bytes kept) m) (or_left (is_of m k) _ none)
+      ap (λ (b : Bool). if b then slice_range bytes k.start (start_of bytes kept) else payload_in (entries_of bytes kept) m) (or_left (is_of m k) _ none)
       ∙ payload_missing bytes kept (or_right (is_of m k) _ none)
 
   -- the nodes from which it was taken in
@@ -129,10 +139,12 @@ module _ (m : MsgId) where
   node_missing p (k ∷ kept) none = ap (λ rest. arrival k ∷ rest) (node_missing p kept (or_right (is_of m k) _ none)) ∙ sym (ap (either p k kept) (or_left (is_of m k) _ none))
 
 -- each payload stands among the bytes
-pub inside_at : (bytes : List ℕ) (kept : List Kept) (i : ℕ) (d e : Kept) → AreInside bytes kept → i < length kept → ((get_or kept i d).start ≤ (get_or kept i e).end) × ((get_or kept i e).end ≤ length bytes)
-inside_at bytes [] i d e inside lt = absurd (omega arith)
-inside_at bytes (k ∷ kept) zero d e inside lt = (inside.0, inside.1)
-inside_at bytes (k ∷ kept) (suc i) d e inside lt = let less : i < length kept = omega (arith, lt) in inside_at bytes kept i d e inside.2 less
+pub inside_at : (bytes : List ℕ) (kept : List Kept) (i : ℕ) (d : Kept) → AreInside bytes kept → i < length kept → ((get_or kept i d).start ≤ start_of bytes (drop (i + 1) kept)) × (start_of bytes (drop (i + 1) kept) ≤ length bytes)
+inside_at bytes [] i d inside lt = absurd (omega arith)
+inside_at bytes (k ∷ kept) zero d inside lt = (inside.0, start_within bytes kept inside.1)
+inside_at bytes (k ∷ kept) (suc i) d inside lt =
+    let less : i < length kept = omega (arith, lt) in
+    subst (λ n. ((get_or kept i d).start ≤ start_of bytes (drop n (k ∷ kept))) × (start_of bytes (drop n (k ∷ kept)) ≤ length bytes)) (suc_more i) (inside_at bytes kept i d inside.1 less)
 
 -- a test that fails for each message fails for the one at a place
 apart_at : (t : MsgId → Bool) (kept : List Kept) (i : ℕ) (d : Kept) → AllByRecursion (λ y. t y ≡ false) (messages_of kept) → i < length kept → t (get_or kept i d).m ≡ false
@@ -171,7 +183,7 @@ module _ (m : MsgId) where
 -- a message more, that was not there
 pub once_pushed : (kept : List Kept) (m : MsgId) → IsDistinct same (messages_of kept) → list_any (is_of m) kept ≡ false → IsDistinct same (messages_of kept ++ m ∷ [])
 once_pushed kept m once new =
-    let k : Kept = record { m = m; start = 0; end = 0; from = nodes.empty } in
+    let k : Kept = record { m = m; start = 0; from = nodes.empty } in
     subst (IsDistinct same) (map-append (λ x. x.m) kept (k ∷ []))
     (subst (λ (b : Bool). IsDistinct same (messages_of (if b then kept else kept ++ k ∷ []))) new (once_grown (λ x. x.m) kept k once))
 

@@ -2,24 +2,27 @@
 use Rattle.std.specs.Prelude.{ℕ, ◌≡◌, ◌≤◌, ◌<◌, List, [], ◌∷◌, length, map, take, slice_get, slice_index, slice_range, Bool, true, false, Option, Some, None}
 use Rattle.std.specs.List.{list_any}
 use Rattle.gb_types.specs.declared.entry.Entry.{Entry}
-use Rattle.gb_types.specs.declared.limits.TheConstants.{NODES}
+use Rattle.gb_types.specs.declared.limits.TheConstants.{NODES, BYTES}
 use Rattle.gb_types.specs.declared.message.MsgId.{MsgId}
 use Rattle.gb_types.specs.Message.{same}
 use Rattle.gb_slot.specs.Arrivals.{Arrival}
 use Rattle.gb_history.specs.Messages.{bytes_of}
 use Rattle.gb_slot.specs.declared.store.Kept.{Kept}
 
--- a message with its payload among the bytes
-abbrev pub entry_of : List ℕ → Kept → Entry
-entry_of bytes k = record { origin = k.m.origin; seq = k.m.seq; payload = slice_range bytes k.start k.end }
+-- where the first of these payloads begins: behind all bytes where there is none
+abbrev pub start_of : List ℕ → List Kept → ℕ
+start_of bytes [] = length bytes
+start_of bytes (k ∷ kept) = k.start
 
+-- the messages, each with its payload among the bytes, which ends where the next begins
 abbrev pub entries_of : List ℕ → List Kept → List Entry
-entries_of bytes kept = map (entry_of bytes) kept
+entries_of bytes [] = []
+entries_of bytes (k ∷ kept) = record { origin = k.m.origin; seq = k.m.seq; payload = slice_range bytes k.start (start_of bytes kept) } ∷ entries_of bytes kept
 
--- each payload stands among the bytes
+-- the payloads stand among the bytes in order
 abbrev pub AreInside : List ℕ → List Kept → Type 0
 AreInside bytes [] = Unit {0}
-AreInside bytes (k ∷ kept) = (k.start ≤ k.end) × (k.end ≤ length bytes) × AreInside bytes kept
+AreInside bytes (k ∷ kept) = (k.start ≤ start_of bytes kept) × AreInside bytes kept
 
 -- what is kept is of the message
 abbrev pub is_of : MsgId → Kept → Bool
@@ -37,6 +40,6 @@ abbrev pub IsPlaceOf : MsgId → List Kept → Option ℕ → Type 0
 IsPlaceOf m kept None = list_any (is_of m) kept ≡ false
 IsPlaceOf m kept (Some i) = (i < length kept) × ((k : Kept) → slice_get kept i ≡ Some k → is_of m k ≡ true) × (list_any (is_of m) (take i kept) ≡ false)
 
--- of each origin, so many are the payload bytes of its messages
+-- of each origin, so many are the payload bytes of its messages, and no more than a member may say
 abbrev pub AreCounted : List ℕ → List Entry → Type 0
-AreCounted seen entries = (origin : ℕ) → origin < NODES → slice_index seen origin ≡ bytes_of origin entries
+AreCounted seen entries = (origin : ℕ) → origin < NODES → (slice_index seen origin ≡ bytes_of origin entries) × (bytes_of origin entries ≤ BYTES)

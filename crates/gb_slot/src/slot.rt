@@ -52,7 +52,7 @@ pub struct Slot {
     outgoing: Vec<PutOut>,
     store: Store,
     said: u32,
-    taken: [usize; NODES],
+    taken: [u16; NODES],
     /// For each message that was said here, in order, the nodes that have it for good.
     acknowledged: Vec<NodeSet>,
     /// How many of these messages are unfinished.
@@ -88,8 +88,8 @@ impl Slot {
     /// broadcast is put out to the other members.
     ///
     /// All memory that the group ever needs is taken here. With n members, each of whom says `msgs` messages with
-    /// `bytes` payload bytes in all at most, this is n * `bytes` payload bytes; 44 bytes for each of the n * `msgs`
-    /// messages (24 in the store, 4 in the log, 6 in what is put out, 10 in what a call of the broadcast gives), 14 more
+    /// `bytes` payload bytes in all at most, this is n * `bytes` payload bytes; 32 bytes for each of the n * `msgs`
+    /// messages (12 in the store, 4 in the log, 6 in what is put out, 10 in what a call of the broadcast gives), 14 more
     /// where the broadcast relays, and 12 more in first-in first-out order; 2 bytes for each of `msgs` own messages,
     /// for the nodes that have it for good; and tables by which messages are found, of 2 * `msgs` bytes for each node
     /// up to the last member: one, one more where the broadcast relays, and one more in first-in first-out order.
@@ -323,7 +323,7 @@ impl Slot {
         if !self.is_reached(dest) {
             return None;
         }
-        match item_at(&self.outgoing, self.taken[dest.index()]) {
+        match item_at(&self.outgoing, self.taken[dest.index()] as usize) {
             Some(next) => Some((
                 next.m,
                 self.store.payload_at(next.m, usize::from(next.place)),
@@ -339,7 +339,7 @@ impl Slot {
         ensures { slice_get (waiting self.now dest.number) place ≡ Some (record { origin = result.0.origin; seq = result.0.seq; payload = result.1.now }) }
     {
         let outgoing = self.outgoing.as_slice();
-        let item = outgoing[self.taken[dest.index()] + place];
+        let item = outgoing[self.taken[dest.index()] as usize + place];
         (
             item.m,
             self.store.payload_at(item.m, usize::from(item.place)),
@@ -353,7 +353,9 @@ impl Slot {
         if !self.is_reached(dest) {
             return 0;
         }
-        self.outgoing.len().saturating_sub(self.taken[dest.index()])
+        self.outgoing
+            .len()
+            .saturating_sub(self.taken[dest.index()] as usize)
     }
 
     /// The first items that wait for the node, so many, are taken to be sent to it.
@@ -361,7 +363,8 @@ impl Slot {
         requires { count ≤ length (waiting self.old dest.number) }
         ensures state { self.new ≡ slot_took dest.number count self.old }
     {
-        self.taken[dest.index()] += count;
+        let taken = &mut self.taken[dest.index()];
+        *taken += count as u16;
     }
 }
 

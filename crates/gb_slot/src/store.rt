@@ -1,12 +1,12 @@
 //! The messages that a slot knows, with their payloads. Each payload stands here once.
-ghost use Rattle.std.specs.Prelude.{◌≡◌, ℕ, true, false, ◌+◌, ◌≤◌, ◌<◌, ◌∷◌, ◌++◌, [], List, length, map, Some, slice_get, slice_index, slice_range, vec_len, vec_capacity, IsOk, IfOk, OnOk, OnErr, MatchOption};
+ghost use Rattle.std.specs.Prelude.{◌≡◌, ℕ, true, false, ◌+◌, ◌^◌, ◌≤◌, ◌<◌, ◌∷◌, ◌++◌, [], List, length, map, drop, Some, slice_get, slice_index, vec_len, vec_capacity, IsOk, IfOk, OnOk, OnErr, MatchOption};
 ghost use Rattle.std.specs.List.{list_any, IsDistinct};
 ghost use Rattle.gb_history.specs.Messages.{has, payload_in, entry_in, with_new, bytes_of};
 ghost use Rattle.std.specs.FinSet as set;
 ghost use Rattle.gb_layer.specs.Table.{leads};
 ghost use Rattle.gb_slot.specs.Arrivals.{has_arrival, with_message, nodes_of, with_node, with_arrived};
 ghost use Rattle.gb_slot.specs.StoreValue.{total_bytes};
-ghost use Rattle.gb_slot.specs.Kept.{entries_of, arrivals_of, messages_of, is_of, IsPlaceOf, AreInside, AreCounted};
+ghost use Rattle.gb_slot.specs.Kept.{start_of, entries_of, arrivals_of, messages_of, is_of, IsPlaceOf, AreInside, AreCounted};
 ghost use Rattle.gb_types.specs.Entry.{message_of};
 ghost use Rattle.gb_types.specs.Message.{same};
 ghost use Rattle.gb_types.specs.declared.entry.Entry.{Entry as EntryValue};
@@ -29,11 +29,11 @@ const FEW: usize = 8;
 
 const _: () = prove!(FEW <= gb_types::payload::INLINE);
 
-/// A message, where its payload stands among the bytes, and the nodes from which it was taken in.
+/// A message, where its payload begins among the bytes, and the nodes from which it was taken in. The payload ends where
+/// the next one begins.
 #[derive(Drop)]
 pub struct Kept {
-    start: usize,
-    end: usize,
+    start: u32,
     m: MsgId,
     from: NodeSet,
 }
@@ -104,13 +104,24 @@ fn find_recent(kept: &[Kept], table: &Table, m: MsgId) -> Option<usize>
     find(kept, table, m)
 }
 
-/// The bytes from one place to another.
-fn part(bytes: &[u8], start: usize, end: usize) -> &[u8]
-    requires order { start ≤ end }
-    requires within { end ≤ length bytes.now }
-    ensures { result.now ≡ slice_range bytes.entry.now start end }
+/// Where the payload that is kept at a place ends.
+fn end_of(kept: &[Kept], bytes: &[u8], place: usize) -> usize
+    requires { place < length kept.now }
+    ensures { result ≡ start_of bytes.now (drop (place + 1) kept.now) }
 {
-    &bytes[start..end]
+    match kept.get(place + 1) {
+        Some(next) => next.start as usize,
+        None => bytes.len(),
+    }
+}
+
+/// The payload of the message that is kept at a place.
+fn part<'a>(kept: &[Kept], bytes: &'a [u8], place: usize) -> &'a [u8]
+    requires inside { AreInside bytes.now kept.now }
+    requires within { place < length kept.now }
+    ensures { (m : MsgId) → IsPlaceOf m kept.now (Some place) → result.now ≡ payload_in (entries_of bytes.entry.now kept.now) m }
+{
+    &bytes[kept[place].start as usize..end_of(kept, bytes, place)]
 }
 
 /// The payload of a message, none where it is not there.
@@ -120,7 +131,7 @@ fn payload_of<'a>(kept: &[Kept], table: &Table, bytes: &'a [u8], m: MsgId) -> &'
     ensures { result.now ≡ payload_in (entries_of bytes.entry.now kept.now) m }
 {
     match find(kept, table, m) {
-        Some(i) => part(bytes, kept[i].start, kept[i].end),
+        Some(i) => part(kept, bytes, i),
         None => &[],
     }
 }
@@ -133,7 +144,7 @@ fn payload_at<'a>(kept: &[Kept], table: &Table, bytes: &'a [u8], m: MsgId, place
     ensures { result.now ≡ payload_in (entries_of bytes.entry.now kept.now) m }
 {
     if place < kept.len() && is_of(&kept[place], m) {
-        return part(bytes, kept[place].start, kept[place].end);
+        return part(kept, bytes, place);
     }
     payload_of(kept, table, bytes, m)
 }
@@ -169,6 +180,7 @@ fn mark(kept: &mut Vec<Kept>, table: &Table, m: MsgId, from: NodeId)
 fn append(kept: &mut Vec<Kept>, bytes: &mut Vec<u8>, m: MsgId, payload: &[u8], from: NodeSet)
     requires place { vec_len kept.old < vec_capacity kept.old }
     requires room { vec_len bytes.old + length payload.now ≤ vec_capacity bytes.old }
+    requires start { vec_len bytes.old < 2 ^ 32 }
     requires inside { AreInside bytes.old.items kept.old.items }
     ensures entries { entries_of bytes.new.items kept.new.items ≡ entries_of bytes.old.items kept.old.items ++ record { origin = m.origin; seq = m.seq; payload = payload.now } ∷ [] }
     ensures arrivals { arrivals_of kept.new.items ≡ arrivals_of kept.old.items ++ record { m = m; from = from } ∷ [] }
@@ -177,15 +189,9 @@ fn append(kept: &mut Vec<Kept>, bytes: &mut Vec<u8>, m: MsgId, payload: &[u8], f
     ensures kept { (vec_len kept.new ≡ vec_len kept.old + 1) × (vec_capacity kept.new ≡ vec_capacity kept.old) }
     ensures bytes { (vec_len bytes.new ≡ vec_len bytes.old + length payload.now) × (vec_capacity bytes.old ≤ vec_capacity bytes.new) }
 {
-    let start = bytes.len();
+    let start = bytes.len() as u32;
     bytes.extend_from_slice(payload).unwrap();
-    let end = bytes.len();
-    kept.push_reserved(Kept {
-        start,
-        end,
-        m,
-        from,
-    });
+    kept.push_reserved(Kept { start, m, from });
 }
 
 /// Counts a payload's bytes as its origin's.

@@ -5,8 +5,8 @@ use Rattle.std.proofs.lemmas.List.Elements.{filter-append}
 use Rattle.gb_types.specs.Message.{same}
 use Rattle.gb_types.specs.declared.kind.Kind.{Kind}
 use Rattle.gb_types.specs.declared.message.MsgId.{MsgId}
-use Rattle.gb_types.proofs.SameLemmas.{and-first, same-true}
-use Rattle.gb_layer.specs.Bools.{or_more, or_second, and_more}
+use Rattle.gb_types.proofs.SameLemmas.{same-true}
+use Rattle.gb_types.proofs.BoolLemmas.{and_left, and_more, or_more, or_second}
 use Rattle.gb_layer.specs.Histories.{mentions_stays}
 use Rattle.gb_layer.specs.Lists.{all_append, all_weaker, list_all_weaker}
 use Rattle.gb_layer.specs.Machine.{mentions, was_noticed, came_from}
@@ -23,12 +23,12 @@ use Rattle.gb_stack.specs.Kinds.{module_of, is_fifo, kind_broadcasts, kind_log}
 
 -- Nothing is forgotten.
 
-noticed_stays : (c : Call) (past : List Call) (q : ℕ) → was_noticed past q ≡ true → was_noticed (c ∷ past) q ≡ true
+pub noticed_stays : (c : Call) (past : List Call) (q : ℕ) → was_noticed past q ≡ true → was_noticed (c ∷ past) q ≡ true
 noticed_stays (Say x) past q h = h
 noticed_stays (Came p x) past q h = h
 noticed_stays (Notice p) past q h = or_second (nat_eq p.number q) (was_noticed past q) h
 
-came_stays : (me : ℕ) (c : Call) (past : List Call) (p : ℕ) (m : MsgId) → came_from me past p m ≡ true → came_from me (c ∷ past) p m ≡ true
+pub came_stays : (me : ℕ) (c : Call) (past : List Call) (p : ℕ) (m : MsgId) → came_from me past p m ≡ true → came_from me (c ∷ past) p m ≡ true
 came_stays me (Say x) past p m h = or_second (nat_eq me p && same x m) (came_from me past p m) h
 came_stays me (Came q x) past p m h = or_second (nat_eq q.number p && same x m) (came_from me past p m) h
 came_stays me (Notice q) past p m h = h
@@ -87,7 +87,7 @@ log_once base me members [] m = refl
 log_once base me members (c ∷ past) m =
     filter-append (λ x. same x m) (log base me members past) (delivers base me members c past)
     ∙ (ap (λ xs. xs ++ filter (λ x. same x m) (delivers base me members c past)) (log_once base me members past m)
-    ∙ (ap (λ xs. cond (now_delivered base me members past m) (m ∷ []) [] ++ xs) (newly_once (now_delivered base me members) c past m (and-first (mentions (c ∷ past) m) (is_delivered base me members (c ∷ past) m)))
+    ∙ (ap (λ xs. cond (now_delivered base me members past m) (m ∷ []) [] ++ xs) (newly_once (now_delivered base me members) c past m (and_left (mentions (c ∷ past) m) (is_delivered base me members (c ∷ past) m)))
     ∙ joined (now_delivered base me members past m) (now_delivered base me members (c ∷ past) m) (delivered_stays base me members c past m)))
   where
     joined : (a b : Bool) → (a ≡ true → b ≡ true) → cond a (m ∷ []) [] ++ cond (b && not a) (m ∷ []) [] ≡ cond b (m ∷ []) []
@@ -118,7 +118,7 @@ log_mentioned base me members (c ∷ past) =
 -- The kinds: the log of the module, or this in the order of each origin.
 
 -- what holds of each message of a list holds of one that stands in it
-holds_of : (P : MsgId → Type 0) (xs : List MsgId) → AllByRecursion P xs → (m : MsgId) → is_in xs m ≡ true → P m
+pub holds_of : (P : MsgId → Type 0) (xs : List MsgId) → AllByRecursion P xs → (m : MsgId) → is_in xs m ≡ true → P m
 holds_of P [] all m h = cc
 holds_of P (x ∷ xs) all m h = go (same x m) refl h (holds_of P xs all.1 m)
   where

@@ -8,6 +8,7 @@ use Rattle.std.specs.Ordering.{nat_cmp}
 use Rattle.std.proofs.lemmas.Bool.{eqb-true}
 use Rattle.std.proofs.lemmas.Bool.Decides.{nat_tests}
 use Rattle.std.specs.Prelude.{if◌then◌else◌}
+use Rattle.std.proofs.Math.Bool.{and-true}
 use Rattle.gb_types.specs.Rising.{AreNodes}
 use Rattle.gb_types.specs.declared.kind.Kind.{Kind}
 use Rattle.gb_types.specs.declared.limits.TheConstants.{NODES}
@@ -157,11 +158,7 @@ new_heard kind me members noticed old s nodes from heard =
     heard.is ∙ (ap (λ v. after stack_next v (map Notice heard.qs)) from ∙ sym (new_is kind me members noticed heard.qs (λ b. heard.tell b ∙ all (set.contains noticed b) (set.contains members b) (not (nat_eq b me.number)) (nat_lt b NODES) (λ e. let below : b < NODES = nodes b e in grind (arith, nat_tests, below)))))
   where
     all : (x y z w : Bool) → (x ≡ true → w ≡ true) → (((x && y) && z) && w) ≡ ((x && y) && z)
-    all true y z true f = last ((true && y) && z)
-      where
-        last : (v : Bool) → (v && true) ≡ v
-        last true = refl
-        last false = refl
+    all true y z true f = and-true ((true && y) && z)
     all true y z false f = let e : false ≡ true = f refl in cc
     all false y z w f = refl
 

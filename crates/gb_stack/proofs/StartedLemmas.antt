@@ -11,7 +11,7 @@ use Rattle.gb_types.specs.declared.message.MsgId.{MsgId}
 use Rattle.gb_types.specs.declared.node.NodeId.{NodeId}
 use Rattle.gb_layer.specs.declared.call.Call.{Call}
 use Rattle.gb_layer.specs.declared.call.Call.TheVariants.{Say, Came, Notice}
-use Rattle.gb_layer.specs.Bools.{or_left, or_right}
+use Rattle.gb_types.proofs.BoolLemmas.{or_left, or_right}
 use Rattle.gb_layer.specs.Counts.{count_by-append}
 use Rattle.gb_layer.specs.Laws.{HandsUpEachOnce}
 use Rattle.gb_layer.specs.Machine.{Gives, after, all_ups, was_said, came_from, IsFair, is_of}

@@ -5,6 +5,7 @@ use Rattle.std.proofs.lemmas.Bool.{cases_lt, cases_eq, cases_Bool, lt-ltb, le-lt
 use Rattle.std.proofs.lemmas.List.Sums.{sum_by-cons}
 use Rattle.gb_types.specs.declared.address.Addr.{Addr}
 use Rattle.gb_types.specs.declared.spec.TenantRow.{TenantRow}
+use Rattle.gb_types.proofs.BoolLemmas.{and_sides}
 use Rattle.gb_rules.specs.Tenant.{row_of, reserved}
 use Rattle.gb_table.specs.Within.{IsReserved}
 
@@ -24,15 +25,11 @@ one_of b = cond b 1 0
 
 at_same : (tenant n : ℕ) (a b : Addr) → is_at tenant n a ≡ true → is_at tenant n b ≡ true → a ≡ b
 at_same tenant n a b e f =
-    let x = both (nat_eq a.tenant tenant) (nat_eq a.group n) e in
-    let y = both (nat_eq b.tenant tenant) (nat_eq b.group n) f in
+    let x = and_sides (nat_eq a.tenant tenant) (nat_eq a.group n) e in
+    let y = and_sides (nat_eq b.tenant tenant) (nat_eq b.group n) f in
     let t : a.tenant ≡ b.tenant = eqb-true a.tenant tenant x.0 ∙ sym (eqb-true b.tenant tenant y.0) in
     let g : a.group ≡ b.group = eqb-true a.group n x.1 ∙ sym (eqb-true b.group n y.1) in
     ap (λ k. record { tenant = k; group = a.group }) t ∙ ap (λ k. record { tenant = b.tenant; group = k }) g
-  where
-    both : (c d : Bool) → (c && d) ≡ true → (c ≡ true) × (d ≡ true)
-    both true d h = (refl, h)
-    both false d h = absurd (cc)
 
 none_more : (test : Addr → Bool) (addrs : List Addr) (d : Addr) → ((q : ℕ) → q < length addrs → test (get_or addrs q d) ≡ false) → count_by test addrs ≡ 0
 none_more test [] d h = refl

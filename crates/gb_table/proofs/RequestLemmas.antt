@@ -21,6 +21,7 @@ use Rattle.gb_rules.specs.Tenant.{row_of, reserve_of, make_answer, by_tenant}
 use Rattle.gb_rules.specs.declared.reserve.Reserve.{Reserve}
 use Rattle.gb_groups.specs.SlotsValue.{Row, row_at, AreApart, no_row}
 use Rattle.gb_groups.specs.AtAddress.{place_of}
+use Rattle.gb_groups.proofs.AddLemmas.{none_pass}
 use Rattle.gb_table.specs.TableValue.{TableValue, reserve_for}
 use Rattle.gb_table.specs.Requests.{is_admitted, admitted_reply, table_reply, IsReplyTo, table_did}
 use Rattle.gb_table.specs.Within.{addrs_of, IsReserved, IsWithin}
@@ -51,15 +52,6 @@ not_made noticed token addr spec Done t ne = absurd (ne refl)
 not_made noticed token addr spec (Said seq) t ne = refl
 not_made noticed token addr spec (Log entries) t ne = refl
 not_made noticed token addr spec (Refused why) t ne = refl
-
-fails_first : (b : Bool) (n l : ℕ) → suc l ≤ cond (not b) (1 + n) 0 → (b ≡ false) × (l ≤ n)
-fails_first true n l h = absurd (omega arith)
-fails_first false n l h = (refl, omega arith)
-
-none_pass : (t : Row → Bool) (rows : List Row) (p : ℕ) → length rows ≤ position_or_len t rows → p < length rows → t (row_at rows p) ≡ false
-none_pass t [] p h l = absurd (omega arith)
-none_pass t (row ∷ rows) zero h l = (fails_first (t row) (position_or_len t rows) (length rows) (omega (arith, h))).0
-none_pass t (row ∷ rows) (suc p) h l = none_pass t rows p (fails_first (t row) (position_or_len t rows) (length rows) (omega (arith, h))).1 (omega arith)
 
 past_end : (n l : ℕ) → is_some (cond (nat_lt n l) (Some n) None) ≡ false → l ≤ n
 past_end n l e =

@@ -17,6 +17,7 @@ use Rattle.gb_rules.specs.Tenant.{is_over_limits, is_bad, is_over, row_of, reser
 use Rattle.gb_rules.specs.declared.reserve.Reserve.{Reserve}
 use Rattle.gb_slot.specs.Slot.{IsWithinLimits}
 use Rattle.gb_types.specs.declared.node.NodeId.{NodeId}
+use Rattle.gb_types.proofs.BoolLemmas.{or_sides}
 use Rattle.gb_cap.specs.Token.{token_of}
 use Rattle.gb_cap.specs.declared.token.Need.TheVariants.{Member}
 use Rattle.gb_table.specs.Kept.{rows_of, AreKeyed, IsMemberToken, AreMemberTokens}
@@ -113,26 +114,22 @@ make_done nodes me number made spec reserve e =
     let h = make_by (nat_le reserve.groups number) made (is_bad nodes me spec) (is_over reserve spec) e in
     (leb-false reserve.groups number h.0, (h.1.0, (h.1.1.0, h.1.1.1)))
 
-neither : (a b : Bool) → (a || b) ≡ false → (a ≡ false) × (b ≡ false)
-neither false b h = (refl, h)
-neither true b h = absurd (cc)
-
 over_limits_by : (a b c d f g h i : Bool) → (a || (b || (c || (d || (f || (g || (h || i))))))) ≡ false → (f ≡ false) × ((g ≡ false) × (i ≡ false))
 over_limits_by a b c d f g h i e =
-    let e1 = (neither a (b || (c || (d || (f || (g || (h || i)))))) e).1 in
-    let e2 = (neither b (c || (d || (f || (g || (h || i))))) e1).1 in
-    let e3 = (neither c (d || (f || (g || (h || i)))) e2).1 in
-    let e4 = (neither d (f || (g || (h || i))) e3).1 in
-    let e5 = neither f (g || (h || i)) e4 in
-    let e6 = neither g (h || i) e5.1 in
-    (e5.0, (e6.0, (neither h i e6.1).1))
+    let e1 = (or_sides a (b || (c || (d || (f || (g || (h || i)))))) e).1 in
+    let e2 = (or_sides b (c || (d || (f || (g || (h || i))))) e1).1 in
+    let e3 = (or_sides c (d || (f || (g || (h || i)))) e2).1 in
+    let e4 = (or_sides d (f || (g || (h || i))) e3).1 in
+    let e5 = or_sides f (g || (h || i)) e4 in
+    let e6 = or_sides g (h || i) e5.1 in
+    (e5.0, (e6.0, (or_sides h i e6.1).1))
 
 over_by : (a b c d f : Bool) → (a || (b || (c || (d || f)))) ≡ false → (a ≡ false) × ((b ≡ false) × ((c ≡ false) × (f ≡ false)))
 over_by a b c d f e =
-    let e1 = neither a (b || (c || (d || f))) e in
-    let e2 = neither b (c || (d || f)) e1.1 in
-    let e3 = neither c (d || f) e2.1 in
-    (e1.0, (e2.0, (e3.0, (neither d f e3.1).1)))
+    let e1 = or_sides a (b || (c || (d || f))) e in
+    let e2 = or_sides b (c || (d || f)) e1.1 in
+    let e3 = or_sides c (d || f) e2.1 in
+    (e1.0, (e2.0, (e3.0, (or_sides d f e3.1).1)))
 
 pub within_limits : (row : TenantRow) (spec : Spec) → is_over_limits row ≡ false → is_over (reserve_of row) spec ≡ false → IsWithinLimits spec
 within_limits row spec h e =

@@ -47,7 +47,7 @@ fn open(groups: &mut Groups, addr: Addr) -> Reply {
         kind: Kind::Beb,
         members,
         msgs: 8,
-        bytes: 65_536,
+        bytes: 1_024,
         window: 1_024,
     };
     if groups.find(addr).is_some() {
@@ -225,8 +225,8 @@ fn open_to(rt: &impl Abort, groups: &mut Groups, made: u16, last: u16) {
 fn groups_at_any_place_are_found_busy(rt: HostRuntime) -> Result<(), Fail> {
     let mut groups = Groups::new(rt.alloc());
     let mut made = 0;
-    // The last group of one word of the sets and the first of the next, and the same of 8 words.
-    for last in [64, 65, 512, 513] {
+    // The last group of one word of the sets and the first of the next, the same of 8 words, and the last place.
+    for last in [64, 65, 512, 513, PLACES] {
         open_to(&rt, &mut groups, made, last);
         made = last;
         compare(
@@ -242,7 +242,8 @@ fn groups_at_any_place_are_found_busy(rt: HostRuntime) -> Result<(), Fail> {
             64 => 1,
             65 => 2,
             512 => 3,
-            _ => 4,
+            513 => 4,
+            _ => 5,
         };
         let packed = packs(
             &mut groups,

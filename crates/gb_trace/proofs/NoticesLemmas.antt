@@ -10,7 +10,7 @@ use Rattle.gb_rules.specs.Group.{is_other}
 use Rattle.gb_alone.specs.declared.event.GroupEvent.TheVariants.{Notice}
 use Rattle.gb_alone.specs.declared.event.GroupStep.{GroupStep}
 use Rattle.gb_node.specs.NodeStep.{node_numbered}
-use Rattle.gb_cluster.proofs.NodesLemmas.{numbered_is}
+use Rattle.gb_node.proofs.TookLemmas.{numbered_is}
 
 -- the notices of the nodes with numbers below n
 abbrev pub notices_below : NodeId → Spec → (ℕ → Bool) → ℕ → List GroupStep

@@ -2,13 +2,12 @@
 use Rattle.std.proofs.Common.{◌≡◌, ℕ, ◌+◌, ◌<◌, ◌≤◌, Bool, true, false, ◌||◌, List, [], ◌∷◌, ◌++◌, map, length, take, get_or, nat_eq, nat_le, refl, sym, ap, ◌∙◌, arith, append_assoc}
 use Rattle.std.specs.Prelude.{if◌then◌else◌}
 use Rattle.std.specs.List.{list_any}
-use Rattle.std.proofs.lemmas.Bool.Decides.{nat_tests}
 use Rattle.gb_detect.specs.Silence.{Call, Heard, Tick, is_noticed}
 use Rattle.gb_detect.proofs.TickLemmas.{ticks_since, ticks_since-tick, ticks_since-other, ticks_since-heard, noticed-heard}
 use Rattle.gb_types.specs.declared.node.NodeId.{NodeId}
 use Rattle.gb_frame.specs.Packet.{Content}
 use Rattle.gb_node.specs.Past.{came, ticks, watched}
-use Rattle.gb_cluster.specs.Run.{Did, past_at}
+use Rattle.gb_cluster.specs.Run.{Did}
 use Rattle.gb_trace.proofs.PastLemmas.{here, elsewhere}
 use Rattle.gb_trace.specs.Deeds.{is_from, past_in}
 
@@ -82,7 +81,3 @@ heeds_heard s b i quiet later silent key a ds d positive lt is at heard none was
 pub heeds_elsewhere : (s b i quiet : ℕ) (silent : Bool) (key : List ℕ) (a : NodeId) (ds : List Did) (d : Did) → i < length ds → d ≡ get_or ds i d → nat_eq d.node.number a.number ≡ false
     → Heeds s b i quiet silent (watched key (past_in a (take i ds))) → Heeds s b (i + 1) quiet silent (watched key (past_in a (take (i + 1) ds)))
 heeds_elsewhere s b i quiet silent key a ds d lt is at was = rw (elsewhere a ds i d lt is at) (heeds_later s b i quiet silent (watched key (past_in a (take i ds))) was)
-
-pub heeds_nothing : (s b : ℕ) (key : List ℕ) (a : NodeId) → 0 < s → Heeds s b 0 0 false (watched key (past_in a []))
-unfolding watched past_at
-heeds_nothing s b key a positive = let short : nat_le s 0 ≡ false = grind (arith, nat_tests) in record { since = refl; silent_is = sym short; few = omega arith }

@@ -6,7 +6,7 @@ use Rattle.std.specs.FinSet as fin
 use Rattle.std.proofs.Math.Bool.{or-true}
 use Rattle.std.proofs.lemmas.Bool.{eqb-true, eq-eqb}
 use Rattle.gb_types.specs.Rising.{rising, AreNodes}
-use Rattle.gb_types.proofs.SameLemmas.{and-first, and-second}
+use Rattle.gb_types.proofs.BoolLemmas.{and_left, and_right}
 use Rattle.gb_types.proofs.CoverLemmas.{all_members, not_all_members}
 use Rattle.gb_types.proofs.RisingLemmas.{any-rising}
 
@@ -15,8 +15,8 @@ each_passes : (p : ℕ → Bool) (ks : List ℕ) → list_all p ks ≡ true → 
 each_passes p [] all q one = cc
 each_passes p (k ∷ ks) all q one =
     elim (nat_eq k q) as (λ b. nat_eq k q ≡ b → (b || list_any (λ n. nat_eq n q) ks) ≡ true → p q ≡ true) [
-      | true ↦ λ e _. ap p (sym (eqb-true k q e)) ∙ and-first (p k) (list_all p ks) all
-      | false ↦ λ _ h. each_passes p ks (and-second (p k) (list_all p ks) all) q h
+      | true ↦ λ e _. ap p (sym (eqb-true k q e)) ∙ and_left (p k) (list_all p ks) all
+      | false ↦ λ _ h. each_passes p ks (and_right (p k) (list_all p ks) all) q h
     ] refl one
 
 -- of a list that does not, one number fails

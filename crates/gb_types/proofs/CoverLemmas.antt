@@ -10,12 +10,10 @@ use Rattle.std.proofs.lemmas.Bool.{cases_lt, eqb-true, eq-eqb, ltb-true, lt-ltb}
 use Rattle.std.proofs.lemmas.Bool.Decides.{nat_tests}
 use Rattle.std.proofs.lemmas.Nat.{shr-shr}
 use Rattle.std.proofs.lemmas.Nat.Bits.{same_from_bits, bit_at_and, bit_at_or, bit_at-zero, bit_at-lt}
+use Rattle.std.proofs.Math.Bool.{or-true}
 use Rattle.gb_types.specs.Places.{of_bits}
 use Rattle.gb_types.proofs.PlaceLemmas.{at_bit, in_range, zero_bit}
-
-or_true : (b : Bool) → (b || true) ≡ true
-or_true true = refl
-or_true false = refl
+use Rattle.gb_types.proofs.BoolLemmas.{and_left, and_right}
 
 tied : (k : ℕ) → eq_by_cmp nat_cmp k k ≡ true
 tied k = unsigned_tied k k ∙ eq-eqb k k refl
@@ -24,15 +22,7 @@ all_in : (p : ℕ → Bool) (ks : List ℕ) → ((q : ℕ) → list_any (eq_by_c
 all_in p [] f = refl
 all_in p (k ∷ ks) f =
     ap (λ b. b && list_all p ks) (f k (ap (λ b. b || list_any (eq_by_cmp nat_cmp k) ks) (tied k)))
-    ∙ all_in p ks (λ q h. f q (ap (λ b. eq_by_cmp nat_cmp q k || b) h ∙ or_true _))
-
-and_left : (a b : Bool) → (a && b) ≡ true → a ≡ true
-and_left true b h = refl
-and_left false b h = h
-
-and_right : (a b : Bool) → (a && b) ≡ true → b ≡ true
-and_right true b h = h
-and_right false b h = cc
+    ∙ all_in p ks (λ q h. f q (ap (λ b. eq_by_cmp nat_cmp q k || b) h ∙ or-true _))
 
 from_all : (p : ℕ → Bool) (ks : List ℕ) (q : ℕ) → list_all p ks ≡ true → list_any (eq_by_cmp nat_cmp q) ks ≡ true → p q ≡ true
 from_all p [] q all one = cc

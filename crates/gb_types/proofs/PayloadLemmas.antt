@@ -8,16 +8,13 @@ use Rattle.std.proofs.lemmas.Slice.Eq.{slice_eq-Decides}
 use Rattle.std.proofs.lemmas.List.Splits.{slice_split_none}
 use Rattle.std.proofs.lemmas.List.Elements.{All-weaker}
 use Rattle.std.proofs.lemmas.List.{take-append-drop}
+use Rattle.std.proofs.Math.Bool.{and-false}
 use Rattle.hex.specs.Hex.{IsBytes, decode_of, encode_lower, encode_with, lower_digits, hex_digit_value, is_hex_digit}
 use Rattle.hex.specs.declared.error.FromHexError.{FromHexError}
 use Rattle.hex.proofs.HexLemmas.{decode_of-encode_lower, decode_of-ok, length-encode_with, IsDigits-lower_digits}
 use Rattle.gb_types.specs.PayloadWord.{payload_word, payload_of}
 use Rattle.gb_types.specs.Words.{words_of}
 use Rattle.gb_types.proofs.CutLemmas.{Without}
-
-and_false : (b : Bool) → (b && false) ≡ false
-and_false true = refl
-and_false false = refl
 
 -- a word that is not `-` spells what its digits do
 payload_of-digits : (word : List ℕ) → bytes_eq word (codes "-") ≡ false → 0 < length word → payload_of word ≡ result_ok (decode_of word)
@@ -31,7 +28,7 @@ unfolding encode_with
 payload_of-payload_word [] h = refl
 payload_of-payload_word (b ∷ bytes) h =
     let word = encode_lower (b ∷ bytes) in
-    let not_dash : bytes_eq word (codes "-") ≡ false = and_false (eqb (slice_index lower_digits (b / 16)) 45) in
+    let not_dash : bytes_eq word (codes "-") ≡ false = and-false (eqb (slice_index lower_digits (b / 16)) 45) in
     let len = length-encode_with lower_digits (b ∷ bytes) in
     payload_of-digits word not_dash (omega (arith, len)) ∙ ap result_ok (decode_of-encode_lower (b ∷ bytes) h)
 

@@ -1,6 +1,8 @@
 -- Words behind a head, one by one, and what a reader of words answers.
 use Rattle.std.proofs.Common.{◌≡◌, ◌↔◌, ℕ, zero, suc, ◌-◌, ◌≤◌, List, [], ◌∷◌, ◌++◌, Some, length, map, take, drop, get_or, refl, sym, ap, ◌∙◌, subst, arith}
 use Rattle.std.proofs.lemmas.List.{take_rest}
+use Rattle.std.specs.Prelude.{IfErr, Result, Ok, Err}
+use Rattle.std.specs.Result.{IsErrAnd}
 use denote.Ref.{Bor}
 
 -- so many words from a place on
@@ -39,6 +41,11 @@ Reads {X} Q x = (y : X) → (Some x ≡ Some y) ↔ Q y
 -- what was found is spelt
 pub found : {X : Type 0} (Q : X → Type 0) (x : X) → Reads Q x → Q x
 found Q x reads = (reads x).0 refl
+
+-- what holds of the one error holds of the error
+pub err_so : {T E : Type 0} (r : Result T E) (e : E) (P : E → Type 0) → IsErrAnd r (λ x. x ≡ e) → P e → IfErr r P
+err_so (Ok v) e P is p = tt
+err_so (Err x) e P is p = subst P (sym is) p
 
 pub some_same : {X : Type 0} (x y : X) → Some x ≡ Some y → x ≡ y
 some_same x y is = cc

@@ -1,5 +1,5 @@
 use Rattle.gb_types.specs.declared.limits.TheConstants.{NODES}
-use Rattle.std.proofs.Common.{◌≡◌, Bool, true, false, ◌&&◌, refl, arith, ◌<◌}
+use Rattle.std.proofs.Common.{◌≡◌, true, ◌&&◌, arith, ◌<◌}
 use Rattle.std.proofs.lemmas.Bool.{eqb-true}
 use Rattle.std.proofs.lemmas.Bool.Decides.{nat_tests}
 use Rattle.gb_types.specs.declared.message.MsgId.{MsgId}
@@ -7,14 +7,7 @@ use Rattle.std.proofs.Math.Path.{to_path_p}
 use Rattle.std.proofs.Math.Bridge.{le_prop}
 use Rattle.gb_types.specs.declared.node.NodeId.{NodeId}
 use Rattle.gb_types.specs.Message.{same}
-
-pub and-first : (a b : Bool) → (a && b) ≡ true → a ≡ true
-and-first true b h = refl
-and-first false b h = h
-
-pub and-second : (a b : Bool) → (a && b) ≡ true → b ≡ true
-and-second true b h = h
-and-second false b h = cc
+use Rattle.gb_types.proofs.BoolLemmas.{and_left, and_right}
 
 -- nodes with one number are equal
 pub same_number : (a b : NodeId) → a.number ≡ b.number → a ≡ b
@@ -22,7 +15,7 @@ same_number a b h = let p = to_path_p (λ i. h i < NODES) {a = a.below} {b = b.b
 
 -- the messages that the test calls the same are equal
 pub same-true : (a b : MsgId) → same a b ≡ true → a ≡ b
-same-true a b h = λ i. record { origin = same_number a.origin b.origin (eqb-true a.origin.number b.origin.number (and-first _ _ h)) i; seq = eqb-true a.seq b.seq (and-second _ _ h) i }
+same-true a b h = λ i. record { origin = same_number a.origin b.origin (eqb-true a.origin.number b.origin.number (and_left _ _ h)) i; seq = eqb-true a.seq b.seq (and_right _ _ h) i }
 
 pub same_itself : (a : MsgId) → same a a ≡ true
 same_itself a = grind (arith, nat_tests)

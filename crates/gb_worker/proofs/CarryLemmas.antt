@@ -1,5 +1,5 @@
 -- What travels at a port, call by call.
-use Rattle.std.proofs.Common.{◌≡◌, ◌≢◌, ◌⊎◌, inl, inr, ℕ, Bool, true, false, List, [], ◌∷◌, ◌++◌, refl, sym, ap, ap₂, ◌∙◌, append_assoc, Option, Some, None, Result, Ok, Err, subst}
+use Rattle.std.proofs.Common.{◌≡◌, ◌≢◌, ◌⊎◌, inl, inr, ℕ, Bool, List, [], ◌∷◌, ◌++◌, refl, sym, ap, ap₂, ◌∙◌, append_assoc, Option, Some, None, Result, Ok, Err, subst}
 use Rattle.std.specs.declared.vec.Vec.{Vec}
 use Rattle.std.specs.declared.alloc.Global.{Global}
 use Rattle.gb_types.specs.declared.node.NodeId.{NodeId}
@@ -10,7 +10,7 @@ use Rattle.gb_node.specs.declared.event.NodeEvent.{NodeEvent}
 use Rattle.gb_node.specs.declared.event.NodeEvent.TheVariants as events
 use Rattle.gb_port.specs.declared.port.PortFault.{PortFault}
 use Rattle.gb_host.specs.declared.entry.SeatEntry.{SeatEntry}
-use Rattle.gb_worker.specs.Answered.{is_stopped, gives_packet, destination}
+use Rattle.gb_worker.specs.Answered.{destination}
 use Rattle.gb_worker.specs.Carried.{Traffic, PortCall, Received, Handed, Came, Went, AreCalls, travels_in, travels, goes_to, traffic_of, traffic, GivesNothing, HasCarried}
 use Rattle.gb_worker.specs.Gained.{Gains, noted, IsStopped}
 use Rattle.gb_worker.specs.declared.end.Why.{Why}
@@ -50,10 +50,6 @@ carried_more sends receives p q r old mid new g h = (
 pub carried_none : {P : Type 0} (sends : Sends P) (receives : Receives P) (p : P) (list : List SeatEntry) → HasCarried sends receives p p list list
 carried_none sends receives p list = ([], sym (append_nil list), [], refl, refl)
 
--- an answer gave no packet
-pub carried_still : {P : Type 0} (sends : Sends P) (receives : Receives P) (p : P) (old new : List SeatEntry) (x : SeatEntry) → new ≡ old ++ x ∷ [] → traffic_of x.event x.answer ≡ [] → HasCarried sends receives p p old new
-carried_still sends receives p old new x h none = (x ∷ [], h, [], refl, sym (append_nil (traffic_of x.event x.answer) ∙ none))
-
 -- nothing came
 pub carried_nothing : {P : Type 0} (sends : Sends P) (receives : Receives P) (p q : P) (list : List SeatEntry) → GivesNothing receives p q → HasCarried sends receives p q list list
 carried_nothing sends receives p q list g = ([], sym (append_nil list), Received g.0 ∷ [], (q, g.1, refl), append_nil (travels_in (Received g.0)) ∙ g.2)
@@ -72,15 +68,6 @@ goes (events.Ack b) to a h = let e : b ≡ to = cc in ap (λ n. goes_to n a) e
 goes events.Tick to a h = absurd cc
 goes events.Stop to a h = absurd cc
 
-stays : (to : NodeId) (a : NodeAnswer) → gives_packet a ≡ false → goes_to to a ≡ []
-stays to (answers.Reply reply) h = refl
-stays to (answers.Taken taken) h = refl
-stays to (answers.Sent (sents.Packet text)) h = absurd cc
-stays to (answers.Sent sents.Nothing) h = refl
-stays to (answers.Sent (sents.Refused why)) h = refl
-stays to (answers.Ticked ticked) h = refl
-stays to (answers.Halted halted) h = refl
-
 -- an answer gave a packet, which was sent
 pub carried_out : {P : Type 0} (sends : Sends P) (receives : Receives P) (p q : P) (old new : List SeatEntry) (me : NodeId) (e : NodeEvent) (to : NodeId) (a : NodeAnswer) (text bytes : List ℕ) (r : Result Bool PortFault)
     → destination e ≡ Some to → a ≡ answers.Sent (sents.Packet text) → bytes ≡ text → sends p to bytes r q → new ≡ old ++ noted me e a ∷ [] → HasCarried sends receives p q old new
@@ -91,24 +78,6 @@ carried_out sends receives p q old new me e to a text bytes r d is same s h = (
   (q, s, refl),
   ap (λ xs. Went to xs ∷ []) same ∙ sym (append_nil (traffic_of e a) ∙ (goes e to a d ∙ ap (goes_to to) is)),
 )
-
--- an answer to be sent gave none
-pub carried_unsent : {P : Type 0} (sends : Sends P) (receives : Receives P) (p : P) (old new : List SeatEntry) (me : NodeId) (e : NodeEvent) (to : NodeId) (a : NodeAnswer) → destination e ≡ Some to → gives_packet a ≡ false → new ≡ old ++ noted me e a ∷ [] → HasCarried sends receives p p old new
-carried_unsent sends receives p old new me e to a d none h = carried_still sends receives p old new (noted me e a) h (goes e to a d ∙ stays to a none)
-
-stopped_gives : (a : NodeAnswer) → is_stopped a ≡ true → gives_packet a ≡ false
-stopped_gives (answers.Reply reply) h = refl
-stopped_gives (answers.Taken taken) h = refl
-stopped_gives (answers.Sent (sents.Packet text)) h = absurd cc
-stopped_gives (answers.Sent sents.Nothing) h = refl
-stopped_gives (answers.Sent (sents.Refused why)) h = refl
-stopped_gives (answers.Ticked ticked) h = refl
-stopped_gives (answers.Halted halted) h = refl
-
--- an event to be sent was answered Stopped
-pub carried_stopped : {P : Type 0} (sends : Sends P) (receives : Receives P) (p : P) (old new : List SeatEntry) (me : NodeId) (e : NodeEvent) (to : NodeId) → destination e ≡ Some to → Gains (IsStopped me e) old new → HasCarried sends receives p p old new
-carried_stopped sends receives p old new me e to d g =
-    carried_unsent sends receives p old new me e to g.2.0 d (stopped_gives g.2.0 g.2.1) (g.1 ∙ ap (λ es. old ++ es) g.2.2)
 
 -- bytes came, and the node had stopped
 pub carried_in_stopped : {P : Type 0} (sends : Sends P) (receives : Receives P) (p q : P) (old new : List SeatEntry) (me : NodeId) (bytes : Vec ℕ Global) (text : List ℕ) → receives p (Ok (Some bytes)) q → text ≡ bytes.items → Gains (IsStopped me (events.Packet text)) old new → HasCarried sends receives p q old new

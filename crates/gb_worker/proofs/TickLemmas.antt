@@ -5,7 +5,7 @@ use Rattle.gb_node.specs.declared.event.NodeEvent.TheVariants.{Tick}
 use Rattle.gb_host.specs.declared.entry.SeatEntry.{SeatEntry}
 use Rattle.gb_worker.specs.Gained.{Gains}
 use Rattle.gb_worker.specs.Ticks.{events_of, ticks_to, tick_turns, AreTicks}
-use Rattle.gb_worker.proofs.GainLemmas.{append_nil, joined}
+use Rattle.gb_worker.proofs.GainLemmas.{joined}
 
 events_snoc : (es : List SeatEntry) (x : SeatEntry) → events_of (es ++ x ∷ []) ≡ events_of es ++ (x.node.number, x.event) ∷ []
 events_snoc [] x = refl
@@ -22,13 +22,3 @@ ticks_snoc nodes t k es x event node so_far =
 -- a tick more
 pub ticked_more : (nodes t k : ℕ) (old now new : List SeatEntry) (x : SeatEntry) → x.event ≡ Tick → x.node.number ≡ k → Gains (AreTicks nodes t k) old now → new ≡ now ++ x ∷ [] → Gains (AreTicks nodes t (k + 1)) old new
 ticked_more nodes t k old now new x event node g h = (g.0 ++ x ∷ [], joined old now new g.0 (x ∷ []) g.1 h, ticks_snoc nodes t k g.0 x event node g.2)
-
--- the last tick of a turn
-pub turn_ticked : (nodes t : ℕ) (old new : List SeatEntry) → Gains (AreTicks nodes t nodes) old new → Gains (AreTicks nodes (t + 1) 0) old new
-turn_ticked nodes t old new g =
-    let more : tick_turns nodes (t + 1) ≡ tick_turns nodes t ++ ticks_to nodes = rw add-one in
-    (g.0, g.1, g.2 ∙ (sym more ∙ sym (append_nil (tick_turns nodes (t + 1)))))
-
--- no tick yet
-pub ticked_none : (nodes : ℕ) (list : List SeatEntry) → Gains (AreTicks nodes 0 0) list list
-ticked_none nodes list = ([], sym (append_nil list), refl)

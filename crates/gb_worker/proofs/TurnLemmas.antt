@@ -19,20 +19,10 @@ use Rattle.gb_worker.specs.Answered.{gives_packet, and_heard, heard_in}
 use Rattle.gb_worker.specs.Gained.{Gains, noted, IsStopped, IsMade, IsBegun, IsNoted, IfDue}
 use Rattle.gb_worker.specs.Turns.{ArePackets, IsFor, is_again_due, is_ack_due, SendsTo, IsPartTo, SendsAll, IsPartAll, IsReceived, HasReceived, IsTurn, IsPart, AreTurns, HasPumped}
 use Rattle.gb_worker.specs.declared.end.WorkerEnd.{WorkerEnd}
-use Rattle.gb_worker.specs.declared.end.Why.TheVariants.{Turns, Gate}
 use Rattle.gb_worker.specs.declared.pump.TheConstants.{PACKETS, AGAIN}
 use Rattle.gb_worker.proofs.GainLemmas.{append_nil, joined}
 
 -- One call.
-
-pub begun_stopped : (me : NodeId) (e : NodeEvent) (old new : List SeatEntry) → Gains (IsStopped me e) old new → Gains (IsBegun me e) old new
-begun_stopped me e old new g = (g.0, g.1, inr (g.2.0, g.2.2))
-
-pub begun_not : (me : NodeId) (e : NodeEvent) (old new : List SeatEntry) → new ≡ old → Gains (IsBegun me e) old new
-begun_not me e old new h = ([], h ∙ sym (append_nil old), inl refl)
-
-pub made_one : (me : NodeId) (e : NodeEvent) (a : NodeAnswer) (is_given : Bool) (old new : List SeatEntry) → gives_packet a ≡ is_given → new ≡ old ++ noted me e a ∷ [] → Gains (IsMade me e is_given) old new
-made_one me e a is_given old new p h = (noted me e a ∷ [], h, (a, p, refl))
 
 noted_made : (me : NodeId) (e : NodeEvent) (is_given : Bool) (es : List SeatEntry) → IsMade me e is_given es → IfDue true (IsNoted me e) es
 noted_made me e is_given es h = (noted me e h.0, h.2, (refl, refl))
@@ -41,11 +31,6 @@ pub due_made : (me : NodeId) (e : NodeEvent) (is_given is_due : Bool) (old new :
 due_made me e is_given is_due old new due g =
     let P : Bool → Type 0 = λ t. IfDue t (IsNoted me e) g.0 in
     (g.0, g.1, subst P (sym due) (noted_made me e is_given g.0 g.2))
-
-pub due_not : (me : NodeId) (e : NodeEvent) (is_due : Bool) (list : List SeatEntry) → is_due ≡ false → Gains (IfDue is_due (IsNoted me e)) list list
-due_not me e is_due list none =
-    let P : Bool → Type 0 = λ t. IfDue t (IsNoted me e) [] in
-    ([], sym (append_nil list), subst P (sym none) refl)
 
 -- What a turn sends to one node.
 
@@ -238,9 +223,6 @@ received_more me n heard now bytes a old mid new g is h =
 is_less : (me : NodeId) (m n : ℕ) (es : List SeatEntry) → IsReceived me m es → m ≤ n → IsReceived me n es
 is_less me m n es h under = let l = h.1 in (h.0, omega arith)
 
-pub received_less : (me : NodeId) (n : ℕ) (heard : set.FinSet nat_cmp) (old new : List SeatEntry) → Gains (HasReceived me n heard) old new → n ≤ PACKETS → Gains (HasReceived me PACKETS heard) old new
-received_less me n heard old new g under = (g.0, g.1, (is_less me n PACKETS g.0 g.2.0 under, g.2.1))
-
 pub received_fault : (me : NodeId) (n : ℕ) (heard : set.FinSet nat_cmp) (old mid new : List SeatEntry) → Gains (HasReceived me n heard) old mid → n ≤ PACKETS → new ≡ mid → Gains (IsReceived me PACKETS) old new
 received_fault me n heard old mid new g under h = (g.0, h ∙ g.1, is_less me n PACKETS g.0 g.2.0 under)
 
@@ -251,11 +233,6 @@ received_stopped me n heard bytes old mid new g under h =
     (g.0 ++ e ∷ [], joined old mid new g.0 (e ∷ []) g.1 (h.1 ∙ ap (λ es. mid ++ es) h.2.2), is_less me (n + 1) PACKETS (g.0 ++ e ∷ []) (is_more me n bytes a g.0 g.2.0) (omega arith))
 
 -- A turn.
-
-pub turn_whole : (r : ℕ) (me : NodeId) (nodes : ℕ) (heard : set.FinSet nat_cmp) (old mid new : List SeatEntry) → Gains (HasReceived me PACKETS heard) old mid → Gains (SendsAll r me heard nodes) mid new → Gains (IsTurn r me nodes) old new
-turn_whole r me nodes heard old mid new g h =
-    let P : set.FinSet nat_cmp → Type 0 = λ s. SendsAll r me s nodes h.0 in
-    (g.0 ++ h.0, joined old mid new g.0 h.0 g.1 h.1, record { received = g.0; sent = h.0; all = refl; receives = g.2.0; sends = subst P g.2.1 h.2 })
 
 pub turn_part : (r : ℕ) (me : NodeId) (nodes : ℕ) (heard : set.FinSet nat_cmp) (old mid new : List SeatEntry) → Gains (HasReceived me PACKETS heard) old mid → Gains (IsPartAll r me heard nodes) mid new → Gains (IsPart r me nodes) old new
 turn_part r me nodes heard old mid new g h =
@@ -293,19 +270,3 @@ pumped_whole me nodes end old new below g = record {
   begun = turn_after (suc end.turns) me nodes [] below (tt, omega arith);
   ended = λ _. refl;
 }
-
-neither : (A B : Type 0) → (A → ⊥) → (B → ⊥) → A ⊎ B → ⊥
-neither A B f g (inl a) = f a
-neither A B f g (inr b) = g b
-
-pub pumped_part : (me : NodeId) (nodes : ℕ) (end : WorkerEnd) (old mid new : List SeatEntry) → Gains (AreTurns me nodes end.turns) old mid → Gains (IsPart (end.turns + 1) me nodes) mid new → end.why ≢ Turns → end.why ≢ Gate → HasPumped me nodes end old new
-pumped_part me nodes end old mid new g h not_turns not_gate =
-    let Q : ℕ → Type 0 = λ n. IsPart n me nodes h.0 in
-    record {
-      turns = g.0;
-      part = h.0;
-      gained = joined old mid new g.0 h.0 g.1 h.1;
-      whole = g.2;
-      begun = subst Q (next_is end.turns) h.2;
-      ended = λ w. absurd (neither (end.why ≡ Turns) (end.why ≡ Gate) not_turns not_gate w);
-    }

@@ -1,4 +1,4 @@
-use Rattle.std.proofs.Common.{◌≡◌, ◌++◌, ◌∙◌, ap, sym, arith, count_by, set}
+use Rattle.std.proofs.Common.{◌≡◌, ◌+◌, ◌++◌, ◌∙◌, ap, sym, arith, count_by, set}
 use Rattle.std.proofs.lemmas.List.{append-nil}
 use Rattle.gb_fifo.specs.Entries.{next_of, given_of, is_ungiven}
 use Rattle.gb_fifo.proofs.PlacedLemmas.{none_given, none_picked, given_at, picked_at, any_at, fewer}
@@ -6,7 +6,7 @@ use Rattle.std.proofs.Common.{length}
 use Rattle.gb_types.specs.declared.limits.TheConstants.{NODES}
 use Rattle.gb_layer.specs.Table.{leads}
 use Rattle.gb_fifo.specs.EntryLemmas.{keys, keys_give}
-use Rattle.gb_fifo.proofs.PlacedLemmas.{one_more, counted_more}
+use Rattle.gb_fifo.proofs.PlacedLemmas.{one_more, counted_more, next_number}
 use Rattle.gb_fifo.proofs.ledger.give_next.Goals as goal
 
 pub give_one-requires : goal.give_one-requires
@@ -72,6 +72,7 @@ invariant_of-ledger c =
     record {
       leads = ap (λ xs. leads l.table.width l.table.told.items 0 (keys xs)) new ∙ (ap (leads l.table.width l.table.told.items 0) (keys_give (next_of s es) es) ∙ l.leads);
       counted = λ o lt.
-          counted_more l.given c.index.result s o (given_of o es) _ count c.args.origin.below c.index.ensures.value (l.counted o lt)
+          counted_more l.given c.index.result s o (given_of o es) _ c.give_one.result count c.args.origin.below c.index.ensures.value (l.counted o lt)
+          (c.give_one.ensures.number ∙ (next_number s (given_of s es) es i x here c.index_mut.ensures.value ∙ ap (λ n. n + 1) (sym (l.counted s c.args.origin.below))))
           (ap (given_of o) set_there ∙ one_more s (given_of s es) o es i x here c.index_mut.ensures.value);
     }

@@ -3,9 +3,9 @@ use Rattle.std.specs.Prelude.{slice_get}
 use Rattle.std.proofs.lemmas.Option.{slice_get_read}
 use Rattle.gb_node.specs.declared.answer.NodeAnswer.{NodeAnswer}
 use Rattle.gb_merge.specs.Woven.{IsTold, IsStepFault, IsFollowFault}
-use Rattle.gb_merge.proofs.CodeLemmas.{err_so}
 use Rattle.gb_merge.proofs.FollowingLemmas.{is_at-first, is_at-next, goes_there, fault_of}
 use Rattle.gb_merge.proofs.follow.follow.Goals as goal
+use Rattle.gb_types.proofs.ReadLemmas.{err_so}
 
 pub loop-i-init : goal.loop-i-init
 loop-i-init c = is_at-first c.args.cluster.now.plan c.args.events.now c.args.order.now c.args.cluster.now c.requires.fresh

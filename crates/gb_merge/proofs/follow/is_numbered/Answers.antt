@@ -3,7 +3,7 @@ use Rattle.std.specs.Option.{option_map}
 use Rattle.std.proofs.lemmas.Option.{slice_get_read, slice_get_past}
 use Rattle.gb_cluster.specs.ClusterStep.{packet_numbered}
 use Rattle.gb_cluster.specs.declared.posted.Posted.{Posted}
-use Rattle.gb_merge.proofs.CodeLemmas.{numbered_at}
+use Rattle.gb_cluster.proofs.CodeLemmas.{numbered_at}
 use Rattle.gb_merge.proofs.follow.is_numbered.Goals as goal
 
 some_in : (x y : List ℕ) → Some x ≡ Some y → x ≡ y

@@ -2,10 +2,10 @@ use Rattle.std.proofs.Common.{◌≡◌, [], List, length, sym, ◌∙◌, ap, s
 use Rattle.gb_cluster.specs.ClusterValue.{ClusterValue}
 use Rattle.gb_cluster.specs.declared.event.Event.{Event}
 use Rattle.gb_types.specs.declared.plan.Plan.{Plan}
+use Rattle.gb_types.proofs.ReadLemmas.{err_so}
 use Rattle.gb_merge.specs.Interleaving.{Pick}
 use Rattle.gb_merge.specs.Faults.{IsFault, IsStranger}
 use Rattle.gb_merge.specs.Woven.{ArePlaced, IsWeaveFault, IsFollowFault}
-use Rattle.gb_merge.proofs.CodeLemmas.{err_so}
 use Rattle.gb_merge.proofs.MergingLemmas.{whole_of, placed, events_count, weave_faulty, follow_faulty}
 use Rattle.gb_merge.proofs.merge.merge.Goals as goal
 

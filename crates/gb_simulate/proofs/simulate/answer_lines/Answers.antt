@@ -1,9 +1,9 @@
 use Rattle.std.proofs.Common.{Ok, sym, ap, ◌∙◌, arith}
 use Rattle.std.proofs.lemmas.Option.{none-some}
 use Rattle.gb_simulate.specs.Schedule.{size_in}
-use Rattle.gb_simulate.proofs.AnswerLemmas.{err_so}
 use Rattle.gb_simulate.proofs.ProgressLemmas.{halfway_start, halfway_on, end_gathered, fault_gathered, cut_halfway}
 use Rattle.gb_simulate.proofs.simulate.answer_lines.Goals as goal
+use Rattle.gb_types.proofs.ReadLemmas.{err_so}
 
 pub loop-reader-init : goal.loop-reader-init
 loop-reader-init g c = record {

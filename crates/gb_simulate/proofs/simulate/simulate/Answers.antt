@@ -1,8 +1,8 @@
 use Rattle.std.proofs.Common.{sym}
 use Rattle.std.proofs.lemmas.Bool.{false≢true}
-use Rattle.gb_simulate.proofs.AnswerLemmas.{err_so}
 use Rattle.gb_simulate.proofs.ProgressLemmas.{outcome_cut}
 use Rattle.gb_simulate.proofs.simulate.simulate.Goals as goal
+use Rattle.gb_types.proofs.ReadLemmas.{err_so}
 
 pub returns-in_err-hand_over-clause-fault : goal.returns-in_err-hand_over-clause-fault
 returns-in_err-hand_over-clause-fault g c =

@@ -4,7 +4,7 @@ use Rattle.gb_types.specs.declared.node.NodeId.{NodeId}
 use Rattle.gb_alone.specs.Observation.{SeenAt, numbers_below}
 use Rattle.gb_alone.proofs.ObservationLemmas.{map_more}
 use Rattle.gb_node.specs.NodeStep.{node_numbered}
-use Rattle.gb_cluster.proofs.NodesLemmas.{numbered_is}
+use Rattle.gb_node.proofs.TookLemmas.{numbered_is}
 use Rattle.gb_trace.specs.Observed.{observed_at}
 use Rattle.gb_trace.proofs.observation.seen_in.Goals as goal
 

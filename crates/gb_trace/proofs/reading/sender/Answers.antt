@@ -1,7 +1,7 @@
 use Rattle.std.proofs.Common.{◌∙◌, ap, sym}
 use Rattle.gb_frame.specs.Packet.{Content}
 use Rattle.gb_node.specs.NodeStep.{node_numbered}
-use Rattle.gb_cluster.proofs.NodesLemmas.{numbered_is}
+use Rattle.gb_node.proofs.TookLemmas.{numbered_is}
 use Rattle.gb_trace.proofs.reading.sender.Goals as goal
 
 pub returns-clause-node : goal.returns-clause-node

@@ -4,8 +4,8 @@ use Rattle.std.proofs.lemmas.List.FromFn.{map-range_with_len_more}
 use Rattle.gb_types.specs.declared.node.NodeId.{NodeId}
 use Rattle.gb_node.specs.NodeStep.{node_numbered}
 use Rattle.gb_node.specs.NodeValue.{NodeValue, new_node}
+use Rattle.gb_node.proofs.TookLemmas.{numbered_is}
 use Rattle.gb_cluster.specs.ClusterValue.{node_plan}
-use Rattle.gb_cluster.proofs.NodesLemmas.{numbered_is}
 use Rattle.gb_cluster.proofs.CodeLemmas.{started, started_comes}
 use Rattle.gb_cluster.proofs.cluster.Cluster.start.Goals as goal
 

@@ -3,17 +3,23 @@ use Rattle.std.specs.Prelude.{slice_index_or, slice_set}
 use Rattle.gb_slot.specs.Reached.{IsReached}
 use Rattle.gb_slot.specs.Slot.{waiting, slot_took}
 use Rattle.gb_slot.specs.SlotState.{SlotState}
-use Rattle.gb_slot.proofs.MemoryLemmas.{held, few_wait}
+use Rattle.gb_slot.proofs.MemoryLemmas.{held, few_put, few_wait}
 use Rattle.gb_slot.proofs.ReachedLemmas.{reached_took}
 use Rattle.gb_slot.proofs.slot.Slot.took.Goals as goal
 
-pub overflow_add-self : goal.overflow_add-self
-overflow_add-self c =
+pub overflow_add-taken : goal.overflow_add-taken
+overflow_add-taken c =
     let s = c.self.inside in
     let few = few_wait s c.args.self.now c.args.dest.number c.index.result c.self.view_is c.index.ensures.value c.self.invariant.5 in
-    let len = s.outgoing.ok in
-    let small = s.outgoing.small in
-    omega (arith, few, len, small, c.requires)
+    let put = few_put s c.self.invariant.5 c.self.invariant.1 in
+    omega (arith, few, put, c.requires)
+
+pub overflow_cast-taken : goal.overflow_cast-taken
+overflow_cast-taken c =
+    let s = c.self.inside in
+    let few = few_wait s c.args.self.now c.args.dest.number c.index.result c.self.view_is c.index.ensures.value c.self.invariant.5 in
+    let put = few_put s c.self.invariant.5 c.self.invariant.1 in
+    omega (arith, few, put, c.requires)
 
 pub invariant_of-self : goal.invariant_of-self
 invariant_of-self c =

@@ -1,4 +1,3 @@
-use Rattle.std.proofs.lemmas.Grind.{common_steps}
 use Rattle.std.proofs.Common.{◌≡◌, ◌+◌, ◌∙◌, ap, sym, subst, length, arith}
 use Rattle.std.proofs.lemmas.List.{length-map}
 use Rattle.std.specs.List.{IsDistinct}
@@ -7,7 +6,8 @@ use Rattle.gb_layer.specs.Table.{leads}
 use Rattle.gb_history.specs.Messages.{has}
 use Rattle.gb_slot.specs.Kept.{entries_of, messages_of, AreCounted}
 use Rattle.gb_slot.specs.StoreValue.{StoreValue, total_bytes}
-use Rattle.gb_slot.proofs.FewLemmas.{total_pushed}
+use Rattle.gb_slot.proofs.FewLemmas.{few_counted, total_pushed}
+use Rattle.gb_slot.proofs.KeptLemmas.{entries_count}
 use Rattle.gb_slot.proofs.PlaceLemmas.{any_entries, any_messages, once_pushed}
 use Rattle.gb_slot.proofs.store.Store.add.Goals as goal
 
@@ -31,5 +31,17 @@ invariant_of-self c =
       subst (IsDistinct same) (sym c.append.ensures.messages) (once_pushed kept m c.self.invariant.4 (sym (any_entries m bytes kept) ∙ unknown)),
     )
 
+pub append-requires-clause-start : goal.append-requires-clause-start
+append-requires-clause-start c =
+    let s = c.self.inside in
+    let few = few_counted s.seen (entries_of s.bytes.items s.kept.items) c.self.invariant.1 in
+    omega (arith, few, c.self.invariant.3)
+
 pub append-requires-clause-place : goal.append-requires-clause-place
-append-requires-clause-place c = grind (arith, common_steps)
+append-requires-clause-place c =
+    let s = c.self.inside in
+    let count = ap (λ (v : StoreValue). length v.entries) c.self.view_is in
+    let places = ap (λ (v : StoreValue). v.places) c.self.view_is in
+    let all = entries_count s.bytes.items s.kept.items in
+    let len = s.kept.ok.0 in
+    omega (arith, count, places, all, len, c.requires.place)
