@@ -11,7 +11,7 @@ import sys
 
 # The bytes for each of the n * m messages: a place in the store, a number in the log, one with its place in what is
 # put out, and one and a pair with its sender in what a call of the broadcast gives.
-MESSAGE = 24 + 4 + 6 + 4 + 6
+MESSAGE = 12 + 4 + 6 + 4 + 6
 # What a relay adds: an entry, and a pair that came up below it.
 RELAY = 8 + 6
 # What first-in first-out order adds: an entry, and a pair that came up below it.

@@ -15,6 +15,7 @@ use Rattle.gb_layer.specs.Counts.{count_by-cons, count_by-set}
 use Rattle.gb_fifo.specs.declared.entry.Entry.{Entry}
 use Rattle.gb_fifo.specs.Entries.{is_given_of, given_of, give, pick, given_entry, up_of, is_ungiven, is_next, IsPlace, released, released_ups, next_of}
 use Rattle.gb_fifo.specs.EntryLemmas.{next_new}
+use Rattle.gb_fifo.proofs.NumberLemmas.{next_seq}
 
 -- a test that fails at each place before one
 pub none_before : (p : Entry → Bool) (es : List Entry) (i : ℕ) → ((k : ℕ) (e : Entry) → k < i → slice_get es k ≡ Some e → p e ≡ false) → list_any p (take i es) ≡ false
@@ -119,7 +120,7 @@ counted_more given at s o n n' v len lt e h next more =
 
 -- the next message has the next number
 pub next_number : (s k : ℕ) (es : List Entry) (i : ℕ) (x : Entry) → IsPlace (is_next s k) es (Some i) → x ≡ get_or es i x → x.m.seq ≡ k + 1
-next_number s k es i x h is = eqb-true x.m.seq (k + 1) (and_right (nat_eq x.m.origin.number s) _ (and_right (x.here && not x.given) _ (passes (is_next s k) es i x h is)))
+next_number s k es i x h is = next_seq s k x (passes (is_next s k) es i x h is)
 
 released_step : (s a i : ℕ) (es : List Entry) → i < a → released s (a - i) es ≡ released s (a - (i + 1)) (give (next_of s es) es)
 released_step s a i es lt = let e : a - i ≡ suc (a - (i + 1)) = omega arith in ap (λ n. released s n es) e

@@ -26,7 +26,7 @@ of_miss seat e es h = ap (λ b. cond b (call_of e ∷ calls_of seat es) (calls_o
 
 -- A walk.
 
--- and one that has ended
+-- a walk that has ended
 pub walked_all : (node : ℕ) (tape : List TapeEntry) (lists : List (List SeatEntry)) (left : List TapeEntry) (cursors : List Cursor) → IsWalked node tape lists left cursors → left ≡ [] → ((s : ℕ) → left_of node lists cursors s ≡ [])
     → (s : ℕ) → calls_of s tape ≡ numbered 0 (calls_at node (list_at lists s))
 walked_all node tape lists left cursors walked ended none s = (walked s).1 (ap (calls_of s) ended ∙ sym (none s))
