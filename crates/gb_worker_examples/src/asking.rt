@@ -5,7 +5,7 @@ use gb_host::fault::HostFault;
 use gb_host::host::Host;
 use gb_host::names::Tapes;
 use gb_host::seat::Seat;
-use gb_node::answer::NodeAnswer;
+use gb_node::answer::{NodeAnswer, Sent};
 use gb_node::event::NodeEvent;
 use gb_types::address::Addr;
 use gb_types::entry::Entry;
@@ -24,7 +24,7 @@ use std::time::{Clock, Duration};
 
 pub const ADMIN_KEY: Key = [0x22; 32];
 
-const TENANT_KEY: Key = [0x33; 32];
+pub const TENANT_KEY: Key = [0x33; 32];
 
 const ADDR: Addr = Addr {
     tenant: 7,
@@ -68,6 +68,7 @@ fn preparations() -> [Request; 3] {
 fn lacks_memory(answer: &NodeAnswer) -> bool {
     match answer {
         NodeAnswer::Reply(Reply::Refused(Refusal::OutOfMemory)) => true,
+        NodeAnswer::Sent(Sent::Refused(Refusal::OutOfMemory)) => true,
         _ => false,
     }
 }
@@ -89,19 +90,18 @@ fn ask_once<L: Tapes, M: Ledger, R: Wait>(
     Ok(answer)
 }
 
-// Asks a node, and again where there was no memory for it. None where that takes too long, or the host refuses for another
-// reason.
-fn ask<L: Tapes, M: Ledger, R: Wait + Clock>(
+/// Asks a node, and again where there was no memory for it. None where that takes too long, or the host refuses for another
+/// reason.
+pub fn ask<L: Tapes, M: Ledger, R: Wait + Clock>(
     rt: &R,
     alloc: Global,
     host: &Host<L, M>,
     seat: &mut Seat<M>,
     node: NodeId,
-    request: Request,
+    event: &NodeEvent,
 ) -> Option<NodeAnswer> {
-    let event = NodeEvent::Request(request);
     for _ in 0..PATIENCE {
-        match ask_once(rt, alloc, host, seat, node, &event) {
+        match ask_once(rt, alloc, host, seat, node, event) {
             Ok(answer) => return Some(answer),
             Err(HostFault::OutOfMemory) => thread::sleep(rt, Duration::from_millis(1)),
             Err(_) => return None,
@@ -119,7 +119,7 @@ pub fn prepare<L: Tapes, M: Ledger, R: Wait + Clock>(
     node: NodeId,
 ) {
     for request in preparations() {
-        let _ = ask(rt, alloc, host, seat, node, request);
+        let _ = ask(rt, alloc, host, seat, node, &NodeEvent::Request(request));
     }
 }
 
@@ -136,7 +136,7 @@ pub fn say<L: Tapes, M: Ledger, R: Wait + Clock>(
         return false;
     };
     let request = Request::Say(member, ADDR, payload);
-    match ask(rt, alloc, host, seat, node, request) {
+    match ask(rt, alloc, host, seat, node, &NodeEvent::Request(request)) {
         Some(NodeAnswer::Reply(Reply::Said(_))) => true,
         _ => false,
     }
@@ -153,7 +153,7 @@ pub fn fetch<L: Tapes, M: Ledger, R: Wait + Clock>(
 ) -> bool {
     let member = token(&TENANT_KEY, Need::Member(7, 1, node));
     let request = Request::Fetch(member, ADDR, 0, 16);
-    match ask(rt, alloc, host, seat, node, request) {
+    match ask(rt, alloc, host, seat, node, &NodeEvent::Request(request)) {
         Some(NodeAnswer::Reply(Reply::Log(entries))) => is_first_of(entries.as_slice(), origin),
         _ => false,
     }

@@ -201,7 +201,7 @@ fn whole_day<P: Port + Send + Drop, R: Threads + Wait + Clock + Sync>(
     run::<Brand, Brand, P, R>(
         rt,
         alloc,
-        two_nodes(),
+        two_nodes(true),
         roles,
         Blank::new(3),
         Blank::new(parts),

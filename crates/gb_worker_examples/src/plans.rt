@@ -6,8 +6,8 @@ use crate::asking::ADMIN_KEY;
 use gb_host::plan::HostPlan;
 use gb_types::plan::Plan;
 
-/// Two nodes with tapes.
-pub fn two_nodes() -> HostPlan
+/// Two nodes, with tapes or without.
+pub fn two_nodes(tape: bool) -> HostPlan
     ensures nodes { result.cluster.nodes ≡ 2 }
     ensures limits { IsPlan result }
 {
@@ -19,6 +19,6 @@ pub fn two_nodes() -> HostPlan
             cluster_key: [0x11; 32],
             admin_key: ADMIN_KEY,
         },
-        tape: true,
+        tape,
     }
 }

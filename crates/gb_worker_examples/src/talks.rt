@@ -124,7 +124,7 @@ fn whole_both<'a, R: Threads + Wait + Clock + Sync>(
     run_both::<Brand, Brand, R>(
         rt,
         alloc,
-        two_nodes(),
+        two_nodes(true),
         held,
         denied,
         Blank::new(3),
@@ -197,7 +197,7 @@ fn whole_one<R: Wait>(
     run_one::<Brand, Brand, R>(
         rt,
         alloc,
-        two_nodes(),
+        two_nodes(true),
         reader,
         writer,
         Blank::new(3),

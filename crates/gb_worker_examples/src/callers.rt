@@ -1,30 +1,23 @@
-// What callers ask.
-use gb_cap::hmac::Key;
+// What callers at nodes of their own ask, each in a group of its node alone.
+use crate::asking::{ADMIN_KEY, TENANT_KEY, ask};
 use gb_cap::token::{Need, token};
-use gb_host::fault::HostFault;
 use gb_host::host::Host;
 use gb_host::names::Tapes;
 use gb_host::seat::Seat;
-use gb_node::answer::{NodeAnswer, Sent};
+use gb_node::answer::NodeAnswer;
 use gb_node::event::NodeEvent;
 use gb_node::tape::{Tape, TapeEntry};
 use gb_types::address::Addr;
 use gb_types::kind::Kind;
 use gb_types::node::{NodeId, NodeSet};
 use gb_types::payload::Payload;
-use gb_types::refusal::Refusal;
 use gb_types::reply::Reply;
 use gb_types::request::Request;
 use gb_types::spec::{Spec, TenantRow};
 use std::alloc::Global;
 use std::sync::Wait;
 use std::sync::ledger::Ledger;
-use std::thread;
-use std::time::{Clock, Duration};
-
-pub const ADMIN_KEY: Key = [1; 32];
-
-const TENANT_KEY: Key = [2; 32];
+use std::time::Clock;
 
 const ADDR: Addr = Addr {
     tenant: 7,
@@ -60,54 +53,6 @@ fn preparations(node: NodeId) -> [Request; 3] {
 
 /// What a caller says.
 const WORDS: &[u8] = b"hello";
-
-/// How many times a caller asks at most, a millisecond apart.
-const PATIENCE: u64 = 10_000;
-
-fn lacks_memory(answer: &NodeAnswer) -> bool {
-    match answer {
-        NodeAnswer::Reply(Reply::Refused(Refusal::OutOfMemory)) => true,
-        NodeAnswer::Sent(Sent::Refused(Refusal::OutOfMemory)) => true,
-        _ => false,
-    }
-}
-
-// Asks once. Want of memory is the caller's, the host's or the node's.
-fn ask_once<L: Tapes, M: Ledger, R: Wait>(
-    rt: &R,
-    alloc: Global,
-    host: &Host<L, M>,
-    seat: &mut Seat<M>,
-    node: NodeId,
-    event: &NodeEvent,
-) -> Result<NodeAnswer, HostFault> {
-    let copy = event.duplicate(alloc)?;
-    let answer = host.call(rt, seat, node, copy)?;
-    if lacks_memory(&answer) {
-        return Err(HostFault::OutOfMemory);
-    }
-    Ok(answer)
-}
-
-// Asks a node, and again where there was no memory for it. None where that takes too long, or the host refuses for another
-// reason.
-fn ask<L: Tapes, M: Ledger, R: Wait + Clock>(
-    rt: &R,
-    alloc: Global,
-    host: &Host<L, M>,
-    seat: &mut Seat<M>,
-    node: NodeId,
-    event: &NodeEvent,
-) -> Option<NodeAnswer> {
-    for _ in 0..PATIENCE {
-        match ask_once(rt, alloc, host, seat, node, event) {
-            Ok(answer) => return Some(answer),
-            Err(HostFault::OutOfMemory) => thread::sleep(rt, Duration::from_millis(1)),
-            Err(_) => return None,
-        }
-    }
-    None
-}
 
 // Whether an answer is that the first message was said.
 fn is_said_first(answer: &Option<NodeAnswer>) -> bool {
