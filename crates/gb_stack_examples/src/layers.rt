@@ -1,4 +1,5 @@
 //! The lowest layer, and the plain program on a history worked out by hand.
+use crate::names::{FIRST, ME, MEMBERS, ORIGIN, OTHER, OWN, SECOND};
 use gb_layer::beb::Beb;
 use gb_layer::broadcast_module::BroadcastModule;
 use gb_layer::call::Call;
@@ -7,30 +8,9 @@ use gb_layer::layer::Layer;
 use gb_layer::plain;
 use gb_types::memory::OutOfMemory;
 use gb_types::message::MsgId;
-use gb_types::node::NodeId;
 use std::alloc::Global;
 use std::process::Abort;
 use std::test::Fail;
-
-const ORIGIN: NodeId = NodeId { number: 0 };
-
-const ME: NodeId = NodeId { number: 1 };
-
-const OTHER: NodeId = NodeId { number: 2 };
-
-const MEMBERS: [NodeId; 3] = [ORIGIN, ME, OTHER];
-
-const OWN: MsgId = MsgId { origin: ME, seq: 1 };
-
-const FIRST: MsgId = MsgId {
-    origin: ORIGIN,
-    seq: 1,
-};
-
-const SECOND: MsgId = MsgId {
-    origin: ORIGIN,
-    seq: 2,
-};
 
 /// Tells a layer of an own message, of another node's and of a crash.
 fn tell(rt: &impl Abort, layer: &mut Beb, out: &mut Effects) -> Result<(), OutOfMemory> {

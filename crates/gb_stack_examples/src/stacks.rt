@@ -1,6 +1,7 @@
 //! Each stack beside the plain program of its kind.
 ghost use Rattle.std.specs.Prelude.{IfOk};
 
+use crate::names::{FIRST, ME, MEMBERS, ORIGIN, OTHER, OWN, SECOND};
 use gb_layer::call::Call;
 use gb_layer::effects::Effects;
 use gb_layer::layer::{Broadcast, Layer};
@@ -16,27 +17,7 @@ use std::alloc::Global;
 use std::process::Abort;
 use std::test::Fail;
 
-const ORIGIN: NodeId = NodeId { number: 0 };
-
-const ME: NodeId = NodeId { number: 1 };
-
-const OTHER: NodeId = NodeId { number: 2 };
-
 const STRANGER: NodeId = NodeId { number: 7 };
-
-const MEMBERS: [NodeId; 3] = [ORIGIN, ME, OTHER];
-
-const OWN: MsgId = MsgId { origin: ME, seq: 1 };
-
-const FIRST: MsgId = MsgId {
-    origin: ORIGIN,
-    seq: 1,
-};
-
-const SECOND: MsgId = MsgId {
-    origin: ORIGIN,
-    seq: 2,
-};
 
 const KINDS: &[Kind] = &[
     Kind::Beb,

@@ -1,0 +1,23 @@
+// Nodes and messages that the tests speak of.
+use gb_types::message::MsgId;
+use gb_types::node::NodeId;
+
+pub const ORIGIN: NodeId = NodeId { number: 0 };
+
+pub const ME: NodeId = NodeId { number: 1 };
+
+pub const OTHER: NodeId = NodeId { number: 2 };
+
+pub const MEMBERS: [NodeId; 3] = [ORIGIN, ME, OTHER];
+
+pub const OWN: MsgId = MsgId { origin: ME, seq: 1 };
+
+pub const FIRST: MsgId = MsgId {
+    origin: ORIGIN,
+    seq: 1,
+};
+
+pub const SECOND: MsgId = MsgId {
+    origin: ORIGIN,
+    seq: 2,
+};
