@@ -13,11 +13,6 @@ pub record Limit : Type 0 where
   pub msgs : ℕ
   pub calls : ℕ
 
--- so many sends and so many pairs at most
-pub record Need : Type 0 where
-  pub sends : ℕ
-  pub ups : ℕ
-
 -- m is within the limit: a member made it, and its number is from 1 to `msgs`
 abbrev pub is_counted : Limit → MsgId → Bool
 is_counted l m = set.contains l.members m.origin.number && (nat_le 1 m.seq && nat_le m.seq l.msgs)

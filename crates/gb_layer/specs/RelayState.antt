@@ -2,7 +2,8 @@
 use Rattle.std.specs.Prelude.{◌≡◌, ℕ, ◌+◌, ◌≤◌, true, vec_len, vec_capacity, count_by}
 use Rattle.std.specs.List.{list_all, IsDistinct}
 use Rattle.gb_types.specs.Message.{same}
-use Rattle.gb_layer.specs.Limit.{Limit, Need, is_counted, in_calls, message_count}
+use Rattle.gb_layer.specs.Limit.{Limit, is_counted, in_calls, message_count}
+use Rattle.gb_layer.specs.declared.effects.Need.{Need}
 use Rattle.gb_layer.specs.EntryLemmas.{keys}
 use Rattle.gb_layer.specs.declared.relay.Relay.{Relay}
 use Rattle.gb_layer.specs.Relay.{State, is_unsent, is_ungiven}
@@ -19,24 +20,24 @@ unsent r = count_by is_unsent r.entries.list.items
 abbrev pub ungiven : {L R : Type 0} {layer : _} {rule : _} → Relay L R layer rule → ℕ
 ungiven r = count_by is_ungiven r.entries.list.items
 
--- There is room for the next `calls` calls beside a free places for sends and b for pairs: each call may add an entry and make two calls below, and each message that is not sent yet one more.
+-- There is room for the next `calls` calls beside a free places for sends and b for pairs: each call may add an entry and make two calls below, and each message that is not sent yet one more. What the layer below brings up is put aside in places that no pair of this layer takes.
 pub record HasRoom {L R : Type 0} {layer : _} {rule : _} (below : L → ℕ → ℕ → ℕ → Type 0) (r : Relay L R layer rule) (a b calls : ℕ) : Type 0 where
-  pub lower : below r.lower a (vec_capacity r.below) (calls + calls + unsent r)
+  pub aside : ℕ
+  pub lower : below r.lower a aside (calls + calls + unsent r)
   pub entries : vec_len r.entries.list + calls ≤ vec_capacity r.entries.list
-  pub ups : ungiven r + calls ≤ b
+  pub ups : aside + (ungiven r + calls) ≤ b
 
 -- a relay makes, of the layer below, two calls a call and one more for each message
 abbrev pub limit_below : Limit → Limit
 limit_below l = in_calls l (l.calls + l.calls + message_count l)
 
--- what so many calls of a relay give at most: each message comes up at most once
+-- what so many calls of a relay need at most: each message comes up once, beside what the layer below brings up
 abbrev pub relay_need : (Limit → Need) → Limit → Need
-relay_need need l = record { sends = (need (limit_below l)).sends; ups = message_count l + l.calls }
+relay_need need l = record { sends = (need (limit_below l)).sends; ups = (need (limit_below l)).ups + (message_count l + l.calls) }
 
--- A relay has the memory for all calls within the limit: so has the layer below, and what comes up there and all messages have their places. Its entries are of different messages within the limit.
-pub record IsWhole {L R : Type 0} {layer : _} {rule : _} (below_whole : L → Limit → Type 0) (below_need : Limit → Need) (r : Relay L R layer rule) (l : Limit) : Type 0 where
+-- A relay has the memory for all calls within the limit: so has the layer below, and all messages have their places. Its entries are of different messages within the limit.
+pub record IsWhole {L R : Type 0} {layer : _} {rule : _} (below_whole : L → Limit → Type 0) (r : Relay L R layer rule) (l : Limit) : Type 0 where
   pub lower : below_whole r.lower (limit_below l)
-  pub below : (below_need (limit_below l)).ups ≤ vec_capacity r.below
   pub capacity : message_count l + l.calls ≤ vec_capacity r.entries.list
   pub counted : list_all (is_counted l) (keys r.entries.list.items) ≡ true
   pub once : IsDistinct same (keys r.entries.list.items)

@@ -1,9 +1,37 @@
 -- More free places are room for as many calls, or fewer.
-use Rattle.std.proofs.Common.{ℕ, ◌+◌, ◌≤◌, vec_capacity, arith}
+use Rattle.std.proofs.Common.{◌≡◌, ℕ, ◌+◌, ◌-◌, ◌≤◌, List, ◌++◌, length, ap, ◌∙◌, length-append, vec_len, vec_capacity, refl, arith}
+use Rattle.std.specs.Global.{Vec}
 use Rattle.gb_layer.specs.declared.beb.Beb.{Beb}
 use Rattle.gb_layer.specs.declared.relay.Relay.{Relay}
 use Rattle.gb_layer.specs.BebMachine.{BebRoom}
 use Rattle.gb_layer.specs.RelayState.{HasRoom, unsent}
+use Rattle.gb_layer.specs.Room.{free, Stays}
+
+-- a list stays itself
+pub stays_itself : {A : Type 0} (xs : Vec A) → Stays xs xs
+stays_itself xs = record { items = refl; len = refl; memory = omega arith }
+
+-- and stays so in two steps
+pub stays_then : {A : Type 0} {xs ys zs : Vec A} → Stays xs ys → Stays ys zs → Stays xs zs
+stays_then a b =
+    let m = a.memory in
+    let n = b.memory in
+    record { items = b.items ∙ a.items; len = b.len ∙ a.len; memory = omega (arith, m, n) }
+
+-- and has as many free places, or more
+pub stays_free : {A : Type 0} {xs ys : Vec A} → Stays xs ys → free xs ≤ free ys
+stays_free a =
+    let l = a.len in
+    let m = a.memory in
+    omega (arith, l, m)
+
+-- as many places are left as were free before so many more came
+pub free_left : {A : Type 0} (xs ys : Vec A) (more : List A) → ys.items ≡ xs.items ++ more → vec_capacity xs ≤ vec_capacity ys → free xs - length more ≤ free ys
+free_left xs ys more is memory =
+    let len : length ys.items ≡ length xs.items + length more = ap length is ∙ length-append xs.items more in
+    let a = xs.ok.0 in
+    let b = ys.ok.0 in
+    omega (arith, len, a, b, memory)
 
 pub beb_roomier : (x : Beb) (a b n a' b' n' : ℕ) → a ≤ a' → b ≤ b' → n' ≤ n → BebRoom x a b n → BebRoom x a' b' n'
 beb_roomier x a b n a' b' n' h i j k = (omega (arith, h, j, k.0), omega (arith, i, j, k.1))
@@ -14,7 +42,8 @@ relay_roomier below law r a b n a' b' n' h i j k =
     let ke = k.entries in
     let ku = k.ups in
     record {
-      lower = law r.lower a (vec_capacity r.below) (n + n + unsent r) a' (vec_capacity r.below) (n' + n' + unsent r) h (omega arith) (omega arith) k.lower;
+      aside = k.aside;
+      lower = law r.lower a k.aside (n + n + unsent r) a' k.aside (n' + n' + unsent r) h (omega arith) (omega arith) k.lower;
       entries = omega arith;
       ups = omega arith;
     }

@@ -1,8 +1,5 @@
 -- A relay that has its memory, and what keeps it so.
 use Rattle.std.proofs.Common.{◌≡◌, ℕ, ◌+◌, ◌≤◌, Bool, true, false, cond, ◌&&◌, List, [], ◌∷◌, ◌++◌, length, map, slice_get, vec_capacity, refl, ap, sym, ◌∙◌, subst, arith, zero, suc}
-use Rattle.std.specs.Prelude.{OnOk}
-use Rattle.std.specs.declared.result.Result.{Result}
-use Rattle.std.specs.declared.result.Result.TheVariants.{Ok, Err}
 use Rattle.std.specs.declared.option.Option.TheVariants.{None, Some}
 use Rattle.std.specs.List.{list_any, list_all, IsDistinct, AllByRecursion}
 use Rattle.std.proofs.lemmas.List.Sums.{count_by-le-length}
@@ -14,7 +11,8 @@ use Rattle.gb_layer.specs.declared.call.Call.{Call}
 use Rattle.gb_layer.specs.declared.call.Call.TheVariants.{Say, Came, Notice}
 use Rattle.gb_layer.specs.declared.entries.Entry.{Entry}
 use Rattle.gb_layer.specs.declared.relay.Relay.{Relay}
-use Rattle.gb_layer.specs.Limit.{Limit, Need, is_counted, is_within, in_calls, message_count}
+use Rattle.gb_layer.specs.Limit.{Limit, is_counted, is_within, in_calls, message_count}
+use Rattle.gb_layer.specs.declared.effects.Need.{Need}
 use Rattle.gb_types.specs.declared.node.NodeId.{NodeId}
 use Rattle.gb_layer.specs.Machine.{Gives}
 use Rattle.gb_layer.specs.Rule.{Rules}
@@ -82,7 +80,7 @@ module _ {L R : Type 0} {layer : _} {rule : _} (below : L → ℕ → ℕ → �
     (below_whole : L → Limit → Type 0) (below_need : Limit → Need)
     (law : (x : L) (l : Limit) (a b : ℕ) → below_whole x l → (below_need l).sends ≤ a → (below_need l).ups ≤ b → below x a b l.calls) where
   -- a relay that has its memory has room
-  pub relay_whole_room : (r : Relay L R layer rule) (l : Limit) (a b : ℕ) → IsWhole below_whole below_need r l → (relay_need below_need l).sends ≤ a → (relay_need below_need l).ups ≤ b → HasRoom below r a b l.calls
+  pub relay_whole_room : (r : Relay L R layer rule) (l : Limit) (a b : ℕ) → IsWhole below_whole r l → (relay_need below_need l).sends ≤ a → (relay_need below_need l).ups ≤ b → HasRoom below r a b l.calls
   relay_whole_room r l a b w h k =
       let n = no_more_messages l (keys r.entries.list.items) w.counted w.once in
       let len = length-keys r.entries.list.items in
@@ -90,60 +88,49 @@ module _ {L R : Type 0} {layer : _} {rule : _} (below : L → ℕ → ℕ → �
       let u = count_by-le-length is_unsent r.entries.list.items in
       let g = count_by-le-length is_ungiven r.entries.list.items in
       let cap = w.capacity in
-      let room : below r.lower a (vec_capacity r.below) (l.calls + l.calls + message_count l) = law r.lower (limit_below l) a (vec_capacity r.below) w.lower h w.below in
+      let aside = (below_need (limit_below l)).ups in
+      let room : below r.lower a aside (l.calls + l.calls + message_count l) = law r.lower (limit_below l) a aside w.lower h (omega arith) in
       record {
-        lower = roomier r.lower a (vec_capacity r.below) (l.calls + l.calls + message_count l) a (vec_capacity r.below) (l.calls + l.calls + unsent r) (omega arith) (omega arith) (omega (arith, n, len, u)) room;
+        aside = aside;
+        lower = roomier r.lower a aside (l.calls + l.calls + message_count l) a aside (l.calls + l.calls + unsent r) (omega arith) (omega arith) (omega (arith, n, len, u)) room;
         entries = omega (arith, n, len, ok, cap);
         ups = omega (arith, n, len, g, k);
       }
 
-module _ {L R : Type 0} {layer : _} {rule : _} (below_whole : L → Limit → Type 0) (below_need : Limit → Need) where
+module _ {L R : Type 0} {layer : _} {rule : _} (below_whole : L → Limit → Type 0) where
   -- what keeps the messages and the memory keeps a relay so
-  pub whole_kept : (r r' : Relay L R layer rule) (l : Limit) → (below_whole r.lower (limit_below l) → below_whole r'.lower (limit_below l)) → vec_capacity r.below ≤ vec_capacity r'.below → vec_capacity r.entries.list ≤ vec_capacity r'.entries.list
-      → keys r'.entries.list.items ≡ keys r.entries.list.items → IsWhole below_whole below_need r l → IsWhole below_whole below_need r' l
-  whole_kept r r' l f b c k w =
-      let wb = w.below in
+  pub whole_kept : (r r' : Relay L R layer rule) (l : Limit) → (below_whole r.lower (limit_below l) → below_whole r'.lower (limit_below l)) → vec_capacity r.entries.list ≤ vec_capacity r'.entries.list
+      → keys r'.entries.list.items ≡ keys r.entries.list.items → IsWhole below_whole r l → IsWhole below_whole r' l
+  whole_kept r r' l f c k w =
       let wc = w.capacity in
       record {
         lower = f w.lower;
-        below = omega (arith, b, wb);
         capacity = omega (arith, c, wc);
         counted = ap (list_all (is_counted l)) k ∙ w.counted;
         once = subst (IsDistinct same) (sym k) w.once;
       }
 
   -- one more message within the limit
-  pub whole_noted : (r r' : Relay L R layer rule) (l : Limit) (m : MsgId) → (below_whole r.lower (limit_below l) → below_whole r'.lower (limit_below l)) → vec_capacity r.below ≤ vec_capacity r'.below → vec_capacity r.entries.list ≤ vec_capacity r'.entries.list
-      → keys r'.entries.list.items ≡ keys (noted r.entries.list.items m) → is_counted l m ≡ true → IsWhole below_whole below_need r l → IsWhole below_whole below_need r' l
-  whole_noted r r' l m f b c k h w =
-      let wb = w.below in
+  pub whole_noted : (r r' : Relay L R layer rule) (l : Limit) (m : MsgId) → (below_whole r.lower (limit_below l) → below_whole r'.lower (limit_below l)) → vec_capacity r.entries.list ≤ vec_capacity r'.entries.list
+      → keys r'.entries.list.items ≡ keys (noted r.entries.list.items m) → is_counted l m ≡ true → IsWhole below_whole r l → IsWhole below_whole r' l
+  whole_noted r r' l m f c k h w =
       let wc = w.capacity in
       record {
         lower = f w.lower;
-        below = omega (arith, b, wb);
         capacity = omega (arith, c, wc);
         counted = ap (list_all (is_counted l)) k ∙ counted_noted l r.entries.list.items m h w.counted;
         once = subst (IsDistinct same) (sym k) (once_noted r.entries.list.items m w.once);
       }
 
   -- a relay that was told nothing, with its memory
-  whole_at_start : (r : Relay L R layer rule) (l : Limit) → below_whole r.lower (limit_below l) → (below_need (limit_below l)).ups ≤ vec_capacity r.below → message_count l + l.calls ≤ vec_capacity r.entries.list → r.entries.list.items ≡ [] → IsWhole below_whole below_need r l
+  pub whole_at_start : (r : Relay L R layer rule) (l : Limit) → below_whole r.lower (limit_below l) → message_count l + l.calls ≤ vec_capacity r.entries.list → r.entries.list.items ≡ [] → IsWhole below_whole r l
   unfolding IsDistinct
-  whole_at_start r l f b c e = record {
+  whole_at_start r l f c e = record {
     lower = f;
-    below = b;
     capacity = c;
     counted = ap (λ es. list_all (is_counted l) (keys es)) e;
     once = subst (λ es. IsDistinct same (keys es)) (sym e) tt;
   }
-
-  -- what the layer below answered is what the relay answers
-  pub whole_made : {A E : Type 0} (made : Result A E) (r : Relay L R layer rule) (l : Limit) (n free : ℕ) → n ≡ (limit_below l).calls → free ≤ vec_capacity r.below → message_count l + l.calls ≤ vec_capacity r.entries.list → r.entries.list.items ≡ []
-      → OnOk made (below_whole r.lower (in_calls l n)) → OnOk made ((below_need (in_calls l n)).ups ≤ free) → OnOk made (IsWhole below_whole below_need r l)
-  whole_made (Ok x) r l n free e h c empty w b =
-      let k : (below_need (limit_below l)).ups ≤ free = subst (λ (n : ℕ). (below_need (in_calls l n)).ups ≤ free) e b in
-      whole_at_start r l (subst (λ (n : ℕ). below_whole r.lower (in_calls l n)) e w) (omega (arith, k, h)) c empty
-  whole_made (Err x) r l n free e h c empty w b = tt
 
 -- what is due is within the limit
 pub due_counted : {S : Type 0} (next : S → Call → S) (gives : S → Call → Gives) (me : S → NodeId) (rules : Rules) (r : State S) (l : Limit) (i : ℕ) (m : MsgId) → Some m ≡ due_message next gives me rules r (slice_get r.entries i)

@@ -7,7 +7,7 @@ ghost use Rattle.gb_layer.specs.RoomLemmas.{beb_roomier};
 ghost use Rattle.gb_layer.specs.BebLemmas.{beb_sends_handed_in, beb_ups_handed_in, beb_up_once, beb_sent_once, beb_noticed_once, fair_once};
 
 use crate::call::Call;
-use crate::effects::Up;
+use crate::effects::{Need, Up};
 use crate::layer::Layer;
 use gb_types::memory::OutOfMemory;
 use gb_types::message::MsgId;
@@ -27,6 +27,16 @@ impl Beb {
         ensures fresh { ⟦<Beb as Layer>⟧.is_fresh (⟦<Beb as Layer>⟧.meaning result) }
     {
         Beb { me }
+    }
+}
+
+/// One send and one pair for each call.
+fn one_each(calls: usize) -> Need
+    ensures { result ≡ record { sends = calls; ups = calls } }
+{
+    Need {
+        sends: calls,
+        ups: calls,
     }
 }
 
@@ -55,26 +65,17 @@ impl Layer for Beb {
         self.me
     }
 
-    fn ready(
-        &mut self,
-        calls: usize,
-        sends: &mut Vec<MsgId>,
-        ups: &mut Vec<Up>,
-    ) -> Result<(), OutOfMemory> {
-        sends.reserve(calls)?;
-        ups.reserve(calls)?;
-        Ok(())
+    fn prepare(&mut self, calls: usize) -> Result<Need, OutOfMemory> {
+        Ok(one_each(calls))
     }
 
-    fn whole(
+    fn prepare_whole(
         &mut self,
         _members: &NodeSet,
         _msgs: u16,
         calls: usize,
-        sends: &mut Vec<MsgId>,
-        ups: &mut Vec<Up>,
-    ) -> Result<(), OutOfMemory> {
-        self.ready(calls, sends, ups)
+    ) -> Result<Need, OutOfMemory> {
+        Ok(one_each(calls))
     }
 
     fn take(&mut self, call: Call, sends: &mut Vec<MsgId>, ups: &mut Vec<Up>) {

@@ -4,7 +4,7 @@ ghost use Rattle.gb_layer.specs.Machine.{is_own, own_gives};
 ghost use Rattle.gb_layer.specs.DirectLemmas.{direct_sends_handed_in, direct_ups_handed_in, direct_up_once, direct_sent_once, direct_noticed_once, own_pairs};
 
 use crate::call::Call;
-use crate::effects::Up;
+use crate::effects::{Need, Up};
 use crate::layer::{Broadcast, Layer};
 use gb_types::memory::OutOfMemory;
 use gb_types::message::MsgId;
@@ -70,24 +70,17 @@ impl<L: Layer> Layer for Direct<L> {
         self.lower.me()
     }
 
-    fn ready(
-        &mut self,
-        calls: usize,
-        sends: &mut Vec<MsgId>,
-        ups: &mut Vec<Up>,
-    ) -> Result<(), OutOfMemory> {
-        self.lower.ready(calls, sends, ups)
+    fn prepare(&mut self, calls: usize) -> Result<Need, OutOfMemory> {
+        self.lower.prepare(calls)
     }
 
-    fn whole(
+    fn prepare_whole(
         &mut self,
         members: &NodeSet,
         msgs: u16,
         calls: usize,
-        sends: &mut Vec<MsgId>,
-        ups: &mut Vec<Up>,
-    ) -> Result<(), OutOfMemory> {
-        self.lower.whole(members, msgs, calls, sends, ups)
+    ) -> Result<Need, OutOfMemory> {
+        self.lower.prepare_whole(members, msgs, calls)
     }
 
     fn take(&mut self, call: Call, sends: &mut Vec<MsgId>, ups: &mut Vec<Up>) {

@@ -1,15 +1,16 @@
 //! What a layer is.
-ghost use Rattle.std.specs.Prelude.{◌≡◌, ℕ, ◌+◌, ◌≤◌, ◌++◌, OnOk, true, vec_capacity};
+ghost use Rattle.std.specs.Prelude.{◌≡◌, ℕ, ◌+◌, ◌-◌, ◌≤◌, ◌++◌, IfOk, OnOk, length, true, vec_capacity};
 ghost use Rattle.gb_types.specs.declared.node.NodeId.{NodeId};
 ghost use Rattle.gb_layer.specs.declared.call.Call.{Call};
 ghost use Rattle.gb_layer.specs.declared.call.Call.TheVariants.{Say, Came, Notice};
 ghost use Rattle.gb_layer.specs.Laws.{StaysAtItsNode, ComesFromItsOrigin, SendsWhatWasHandedIn, HandsUpWhatWasHandedIn, HandsUpOnce, SendsOnce, NoticesOnce};
-ghost use Rattle.gb_layer.specs.Limit.{Limit, Need, is_within};
+ghost use Rattle.gb_layer.specs.Limit.{Limit, is_within};
+ghost use Rattle.gb_layer.specs.declared.effects.Need.{Need};
 ghost use Rattle.gb_layer.specs.Machine.{Gives};
 ghost use Rattle.gb_layer.specs.Room.{free};
 
 use crate::call::Call;
-use crate::effects::Up;
+use crate::effects::{Need, Up};
 use gb_types::memory::OutOfMemory;
 use gb_types::message::MsgId;
 use gb_types::node::{NodeId, NodeSet};
@@ -59,9 +60,29 @@ pub trait Layer {
     fn me(&self) -> NodeId
         ensures { result ≡ me (meaning self.now) };
 
+    /// Takes the layer's own memory for the next `calls` calls. Gives how much room these need in the two lists. A
+    /// refusal changes nothing that is remembered.
+    fn prepare(&mut self, calls: usize) -> Result<Need, OutOfMemory>
+        ensures meaning { meaning self.new ≡ meaning self.old }
+        ensures room { IfOk result (λ most. has_room self.new most.sends most.ups calls) };
+
+    /// Takes, once, all of the layer's own memory that calls ever need that are about messages of these members,
+    /// numbered from 1 to `msgs`, where the two lists are emptied after each `calls` calls. Gives how much room they need
+    /// in the two lists. A refusal changes nothing that is remembered.
+    fn prepare_whole(
+        &mut self,
+        members: &NodeSet,
+        msgs: u16,
+        calls: usize,
+    ) -> Result<Need, OutOfMemory>
+        requires { is_empty (meaning self.old) }
+        ensures meaning { meaning self.new ≡ meaning self.old }
+        ensures whole { OnOk result (is_whole self.new (record { members = members.now; msgs = msgs; calls = calls })) }
+        ensures need { IfOk result (λ most. most ≡ need (record { members = members.now; msgs = msgs; calls = calls })) };
+
     /// Makes room for the next `calls` calls, in the layer and in the two lists. A refusal changes nothing that is
     /// remembered or was given.
-    fn ready(
+    final fn ready(
         &mut self,
         calls: usize,
         sends: &mut Vec<MsgId>,
@@ -70,12 +91,18 @@ pub trait Layer {
         ensures meaning { meaning self.new ≡ meaning self.old }
         ensures sends { sends.new.items ≡ sends.old.items }
         ensures ups { ups.new.items ≡ ups.old.items }
-        ensures room { OnOk result (has_room self.new (free sends.new) (free ups.new) calls) };
+        ensures room { OnOk result (has_room self.new (free sends.new) (free ups.new) calls) }
+    {
+        let need = self.prepare(calls)?;
+        sends.reserve(need.sends)?;
+        ups.reserve(need.ups)?;
+        Ok(())
+    }
 
     /// Takes, once, all the memory that calls ever need that are about messages of these members, numbered from 1
     /// to `msgs`, where the two lists are emptied after each `calls` calls and keep their memory. A refusal changes
     /// nothing that is remembered or was given.
-    fn whole(
+    final fn whole(
         &mut self,
         members: &NodeSet,
         msgs: u16,
@@ -89,16 +116,25 @@ pub trait Layer {
         ensures ups { ups.new.items ≡ ups.old.items }
         ensures whole { OnOk result (is_whole self.new (record { members = members.now; msgs = msgs; calls = calls })) }
         ensures free_sends { OnOk result ((need (record { members = members.now; msgs = msgs; calls = calls })).sends ≤ free sends.new) }
-        ensures free_ups { OnOk result ((need (record { members = members.now; msgs = msgs; calls = calls })).ups ≤ free ups.new) };
+        ensures free_ups { OnOk result ((need (record { members = members.now; msgs = msgs; calls = calls })).ups ≤ free ups.new) }
+        ensures sends_memory { vec_capacity sends.old ≤ vec_capacity sends.new }
+        ensures ups_memory { vec_capacity ups.old ≤ vec_capacity ups.new }
+    {
+        let need = self.prepare_whole(members, msgs, calls)?;
+        sends.reserve(need.sends)?;
+        ups.reserve(need.ups)?;
+        Ok(())
+    }
 
-    /// Takes a call: a layer's own work. `say`, `came` and `notice` are this, one for each call.
+    /// Takes a call: a layer's own work. `say`, `came` and `notice` are this, one for each call. It brings no more pairs
+    /// than it has room for, and may put more aside behind those that are there while it runs.
     fn take(&mut self, call: Call, sends: &mut Vec<MsgId>, ups: &mut Vec<Up>)
         requires { has_room self.old (free sends.old) (free ups.old) 1 }
         ensures meaning { meaning self.new ≡ next (meaning self.old) call }
         ensures sends { sends.new.items ≡ sends.old.items ++ (gives (meaning self.old) call).sends }
         ensures ups { ups.new.items ≡ ups.old.items ++ (gives (meaning self.old) call).ups }
-        ensures room { (n : ℕ) → has_room self.old (free sends.old) (free ups.old) (n + 1)
-            → has_room self.new (free sends.new) (free ups.new) n }
+        ensures room { (n b : ℕ) → has_room self.old (free sends.old) b (n + 1)
+            → (length (gives (meaning self.old) call).ups ≤ b) × has_room self.new (free sends.new) (b - length (gives (meaning self.old) call).ups) n }
         ensures whole { (l : Limit) → is_whole self.old l → is_within l call ≡ true → is_whole self.new l }
         ensures sends_memory { vec_capacity sends.old ≤ vec_capacity sends.new }
         ensures ups_memory { vec_capacity ups.old ≤ vec_capacity ups.new };
@@ -109,8 +145,8 @@ pub trait Layer {
         ensures meaning { meaning self.new ≡ next (meaning self.old) (Say m) }
         ensures sends { sends.new.items ≡ sends.old.items ++ (gives (meaning self.old) (Say m)).sends }
         ensures ups { ups.new.items ≡ ups.old.items ++ (gives (meaning self.old) (Say m)).ups }
-        ensures room { (n : ℕ) → has_room self.old (free sends.old) (free ups.old) (n + 1)
-            → has_room self.new (free sends.new) (free ups.new) n }
+        ensures room { (n b : ℕ) → has_room self.old (free sends.old) b (n + 1)
+            → (length (gives (meaning self.old) (Say m)).ups ≤ b) × has_room self.new (free sends.new) (b - length (gives (meaning self.old) (Say m)).ups) n }
         ensures whole { (l : Limit) → is_whole self.old l → is_within l (Say m) ≡ true → is_whole self.new l }
         ensures sends_memory { vec_capacity sends.old ≤ vec_capacity sends.new }
         ensures ups_memory { vec_capacity ups.old ≤ vec_capacity ups.new }
@@ -124,8 +160,8 @@ pub trait Layer {
         ensures meaning { meaning self.new ≡ next (meaning self.old) (Came from m) }
         ensures sends { sends.new.items ≡ sends.old.items ++ (gives (meaning self.old) (Came from m)).sends }
         ensures ups { ups.new.items ≡ ups.old.items ++ (gives (meaning self.old) (Came from m)).ups }
-        ensures room { (n : ℕ) → has_room self.old (free sends.old) (free ups.old) (n + 1)
-            → has_room self.new (free sends.new) (free ups.new) n }
+        ensures room { (n b : ℕ) → has_room self.old (free sends.old) b (n + 1)
+            → (length (gives (meaning self.old) (Came from m)).ups ≤ b) × has_room self.new (free sends.new) (b - length (gives (meaning self.old) (Came from m)).ups) n }
         ensures whole { (l : Limit) → is_whole self.old l → is_within l (Came from m) ≡ true → is_whole self.new l }
         ensures sends_memory { vec_capacity sends.old ≤ vec_capacity sends.new }
         ensures ups_memory { vec_capacity ups.old ≤ vec_capacity ups.new }
@@ -139,8 +175,8 @@ pub trait Layer {
         ensures meaning { meaning self.new ≡ next (meaning self.old) (Notice who) }
         ensures sends { sends.new.items ≡ sends.old.items ++ (gives (meaning self.old) (Notice who)).sends }
         ensures ups { ups.new.items ≡ ups.old.items ++ (gives (meaning self.old) (Notice who)).ups }
-        ensures room { (n : ℕ) → has_room self.old (free sends.old) (free ups.old) (n + 1)
-            → has_room self.new (free sends.new) (free ups.new) n }
+        ensures room { (n b : ℕ) → has_room self.old (free sends.old) b (n + 1)
+            → (length (gives (meaning self.old) (Notice who)).ups ≤ b) × has_room self.new (free sends.new) (b - length (gives (meaning self.old) (Notice who)).ups) n }
         ensures whole { (l : Limit) → is_whole self.old l → is_within l (Notice who) ≡ true → is_whole self.new l }
         ensures sends_memory { vec_capacity sends.old ≤ vec_capacity sends.new }
         ensures ups_memory { vec_capacity ups.old ≤ vec_capacity ups.new }

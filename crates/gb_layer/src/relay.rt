@@ -1,7 +1,7 @@
 //! A layer that relays, by a rule.
-ghost use Rattle.std.specs.Prelude.{◌≡◌, ℕ, ◌+◌, ◌≤◌, ◌<◌, [], ◌∷◌, ◌++◌, slice_get, vec_len, vec_capacity, OnOk, IfSome, count_by, map, filter, true};
+ghost use Rattle.std.specs.Prelude.{◌≡◌, ℕ, ◌+◌, ◌≤◌, ◌<◌, [], ◌∷◌, ◌++◌, slice_get, vec_len, vec_capacity, IfSome, length, count_by, map, filter, true};
 ghost use Rattle.gb_layer.specs.declared.call.Call.TheVariants.{Say, Came};
-ghost use Rattle.gb_layer.specs.Room.{free};
+ghost use Rattle.gb_layer.specs.Room.{free, Stays};
 ghost use Rattle.gb_layer.specs.Pending.{is_pending};
 ghost use Rattle.gb_layer.specs.Places.{StandsAmong};
 ghost use Rattle.gb_layer.specs.Relay.{State, IsNew, IsEmpty, at_start, is_unsent, is_ungiven, marked_sent, call_below, due_to_relay, due_to_deliver, due_message, relay_if, relay_if_sends, relayed, relayed_sends, begun, begun_sends, given, given_ups, is_repeat, relay_next, relay_gives, handed, up_of};
@@ -10,7 +10,7 @@ ghost use Rattle.gb_layer.specs.RelayLemmas.{relay_me_stays, relay_noticed_once,
 ghost use Rattle.gb_layer.specs.RelayOnceLemmas.{relay_sends_handed_in, relay_ups_handed_in, relay_up_once, relay_sent_once};
 
 use crate::call::Call;
-use crate::effects::Up;
+use crate::effects::{Need, Up};
 use crate::entries::Entry;
 use crate::layer::{Broadcast, Layer};
 use crate::ledger::Ledger;
@@ -35,8 +35,6 @@ pub struct Relay<L: Layer, R: Rule> {
     noticed: NodeSet,
     /// The messages that were handed in, in the order of first mention.
     entries: Ledger,
-    /// What the last call of the layer below brought up.
-    below: Vec<Up>,
     /// Where those of the entries stand that are due, if any are: each call but a notice looks at these alone.
     pending: Places,
     ghost pending_stands: { StandsAmong (is_pending R.rules (L.me (L.meaning lower)) members noticed) pending.from pending.to entries.list.items },
@@ -134,7 +132,7 @@ fn whole_calls_below(members: &NodeSet, msgs: u16, calls: usize) -> Option<usize
 }
 
 impl<L: Layer, R: Rule> Relay<L, R> {
-    ghost use Rattle.gb_layer.specs.RelayState.{state_of, IsWhole, limit_below, unsent, ungiven};
+    ghost use Rattle.gb_layer.specs.RelayState.{state_of, IsWhole, unsent, ungiven};
 
     /// A relay over a layer, by a rule, in a group with these members, that was told nothing yet.
     pub fn new(alloc: Global, lower: L, rule: R, members: NodeSet) -> Relay<L, R>
@@ -147,7 +145,6 @@ impl<L: Layer, R: Rule> Relay<L, R> {
             members,
             noticed: NodeSet::new(),
             entries: Ledger::new(alloc),
-            below: Vec::new(alloc),
             pending: Places { from: 0, to: 0 },
         }
     }
@@ -155,30 +152,32 @@ impl<L: Layer, R: Rule> Relay<L, R> {
     /// Makes a call of the layer below, and writes down who holds what came up. Inlined, so that no call has to be written to
     /// memory and read again.
     #[inline(always)]
-    fn call_lower(&mut self, call: Call, sends: &mut Vec<MsgId>)
-        requires { L.has_room self.old.lower (free sends.old) (vec_capacity self.old.below) 1 }
+    fn call_lower(&mut self, call: Call, sends: &mut Vec<MsgId>, ups: &mut Vec<Up>)
+        requires { L.has_room self.old.lower (free sends.old) (free ups.old) 1 }
         ensures state { state_of L.meaning self.new ≡ call_below L.next L.gives L.me (state_of L.meaning self.old) call }
         ensures sends { sends.new.items ≡ sends.old.items ++ (L.gives (L.meaning self.old.lower) call).sends }
-        ensures room { (n : ℕ) → L.has_room self.old.lower (free sends.old) (vec_capacity self.old.below) (n + 1) → L.has_room self.new.lower (free sends.new) (vec_capacity self.new.below) n }
+        ensures room { (n b : ℕ) → L.has_room self.old.lower (free sends.old) b (n + 1) → L.has_room self.new.lower (free sends.new) b n }
         ensures capacity { vec_capacity self.new.entries.list ≡ vec_capacity self.old.entries.list }
         ensures len { vec_len self.new.entries.list ≡ vec_len self.old.entries.list }
         ensures unsent { unsent self.new ≡ unsent self.old }
         ensures ungiven { ungiven self.new ≡ ungiven self.old }
-        ensures whole { (l : Limit) → IsWhole L.is_whole L.need self.old l → is_within l call ≡ true → IsWhole L.is_whole L.need self.new l }
+        ensures whole { (l : Limit) → IsWhole L.is_whole self.old l → is_within l call ≡ true → IsWhole L.is_whole self.new l }
         ensures sends_memory { vec_capacity sends.old ≤ vec_capacity sends.new }
+        ensures ups { Stays ups.old ups.new }
     {
-        self.below.clear();
+        let first = ups.len();
         let me = self.lower.me();
-        self.lower.take(call, sends, &mut self.below);
+        self.lower.take(call, sends, ups);
         take_in(
             &mut self.entries,
             &self.rule,
             me,
             &self.members,
             &self.noticed,
-            &self.below,
+            &ups[first..],
             &mut self.pending,
         );
+        ups.truncate(first);
     }
 
     /// The message of the entry at i, where it is to be relayed.
@@ -197,124 +196,129 @@ impl<L: Layer, R: Rule> Relay<L, R> {
     }
 
     /// Relays the message of the entry at i, where it is to be.
-    fn relay_at(&mut self, i: usize, sends: &mut Vec<MsgId>)
+    fn relay_at(&mut self, i: usize, sends: &mut Vec<MsgId>, ups: &mut Vec<Up>)
         requires within { i < vec_len self.old.entries.list }
-        requires room { L.has_room self.old.lower (free sends.old) (vec_capacity self.old.below) (unsent self.old) }
+        requires room { L.has_room self.old.lower (free sends.old) (free ups.old) (unsent self.old) }
         ensures state { state_of L.meaning self.new ≡ relay_if L.next L.gives L.me R.rules (state_of L.meaning self.old) (slice_get self.old.entries.list.items i) }
         ensures sends { sends.new.items ≡ sends.old.items ++ relay_if_sends L.next L.gives L.me R.rules (state_of L.meaning self.old) (slice_get self.old.entries.list.items i) }
-        ensures room { (n : ℕ) → L.has_room self.old.lower (free sends.old) (vec_capacity self.old.below) (n + unsent self.old) → L.has_room self.new.lower (free sends.new) (vec_capacity self.new.below) (n + unsent self.new) }
+        ensures room { (n b : ℕ) → L.has_room self.old.lower (free sends.old) b (n + unsent self.old) → L.has_room self.new.lower (free sends.new) b (n + unsent self.new) }
         ensures capacity { vec_capacity self.new.entries.list ≡ vec_capacity self.old.entries.list }
         ensures len { vec_len self.new.entries.list ≡ vec_len self.old.entries.list }
         ensures ungiven { ungiven self.new ≡ ungiven self.old }
-        ensures whole { (l : Limit) → IsWhole L.is_whole L.need self.old l → IsWhole L.is_whole L.need self.new l }
+        ensures whole { (l : Limit) → IsWhole L.is_whole self.old l → IsWhole L.is_whole self.new l }
         ensures sends_memory { vec_capacity sends.old ≤ vec_capacity sends.new }
+        ensures ups { Stays ups.old ups.new }
     {
         if let Some(m) = self.due(i) {
             self.entries.mark_sent(m);
-            self.call_lower(Call::Say(m), sends);
+            self.call_lower(Call::Say(m), sends, ups);
         }
     }
 
     /// Relays everything that is to be.
-    fn relay_all(&mut self, sends: &mut Vec<MsgId>)
-        requires { L.has_room self.old.lower (free sends.old) (vec_capacity self.old.below) (unsent self.old) }
+    fn relay_all(&mut self, sends: &mut Vec<MsgId>, ups: &mut Vec<Up>)
+        requires { L.has_room self.old.lower (free sends.old) (free ups.old) (unsent self.old) }
         ensures state { state_of L.meaning self.new ≡ relayed L.next L.gives L.me R.rules (state_of L.meaning self.old) }
         ensures sends { sends.new.items ≡ sends.old.items ++ relayed_sends L.next L.gives L.me R.rules (state_of L.meaning self.old) }
-        ensures room { (n : ℕ) → L.has_room self.old.lower (free sends.old) (vec_capacity self.old.below) (n + unsent self.old) → L.has_room self.new.lower (free sends.new) (vec_capacity self.new.below) (n + unsent self.new) }
+        ensures room { (n b : ℕ) → L.has_room self.old.lower (free sends.old) b (n + unsent self.old) → L.has_room self.new.lower (free sends.new) b (n + unsent self.new) }
         ensures capacity { vec_capacity self.new.entries.list ≡ vec_capacity self.old.entries.list }
         ensures len { vec_len self.new.entries.list ≡ vec_len self.old.entries.list }
         ensures ungiven { ungiven self.new ≡ ungiven self.old }
-        ensures whole { (l : Limit) → IsWhole L.is_whole L.need self.old l → IsWhole L.is_whole L.need self.new l }
+        ensures whole { (l : Limit) → IsWhole L.is_whole self.old l → IsWhole L.is_whole self.new l }
         ensures sends_memory { vec_capacity sends.old ≤ vec_capacity sends.new }
+        ensures ups { Stays ups.old ups.new }
     {
         let count = self.entries.list.len();
         for i in self.pending.from..count {
             if i >= self.pending.to {
                 return;
             }
-            self.relay_at(i, sends);
+            self.relay_at(i, sends, ups);
         }
     }
 
     /// Says m below, unless it was sent from here.
-    fn begin_say(&mut self, m: MsgId, sends: &mut Vec<MsgId>)
-        requires below { L.has_room self.old.lower (free sends.old) (vec_capacity self.old.below) (2 + unsent self.old) }
+    fn begin_say(&mut self, m: MsgId, sends: &mut Vec<MsgId>, ups: &mut Vec<Up>)
+        requires below { L.has_room self.old.lower (free sends.old) (free ups.old) (2 + unsent self.old) }
         requires entries { vec_len self.old.entries.list + 1 ≤ vec_capacity self.old.entries.list }
         ensures state { state_of L.meaning self.new ≡ begun L.next L.gives L.me (state_of L.meaning self.old) (Say m) }
         ensures sends { sends.new.items ≡ sends.old.items ++ begun_sends L.next L.gives L.me (state_of L.meaning self.old) (Say m) }
-        ensures room { (n : ℕ) → L.has_room self.old.lower (free sends.old) (vec_capacity self.old.below) (n + 2 + unsent self.old) → L.has_room self.new.lower (free sends.new) (vec_capacity self.new.below) (n + unsent self.new) }
+        ensures room { (n b : ℕ) → L.has_room self.old.lower (free sends.old) b (n + 2 + unsent self.old) → L.has_room self.new.lower (free sends.new) b (n + unsent self.new) }
         ensures capacity { vec_capacity self.old.entries.list ≤ vec_capacity self.new.entries.list }
         ensures len { vec_len self.new.entries.list ≤ vec_len self.old.entries.list + 1 }
         ensures ungiven { ungiven self.new ≤ ungiven self.old + 1 }
-        ensures whole { (l : Limit) → IsWhole L.is_whole L.need self.old l → is_counted l m ≡ true → IsWhole L.is_whole L.need self.new l }
+        ensures whole { (l : Limit) → IsWhole L.is_whole self.old l → is_counted l m ≡ true → IsWhole L.is_whole self.new l }
         ensures sends_memory { vec_capacity sends.old ≤ vec_capacity sends.new }
+        ensures ups { Stays ups.old ups.new }
     {
         if !self.entries.was_sent(m) {
             self.entries.note_sent(m);
-            self.call_lower(Call::Say(m), sends);
+            self.call_lower(Call::Say(m), sends, ups);
         }
     }
 
     /// Takes m below.
-    fn begin_came(&mut self, from: NodeId, m: MsgId, sends: &mut Vec<MsgId>)
-        requires below { L.has_room self.old.lower (free sends.old) (vec_capacity self.old.below) (2 + unsent self.old) }
+    fn begin_came(&mut self, from: NodeId, m: MsgId, sends: &mut Vec<MsgId>, ups: &mut Vec<Up>)
+        requires below { L.has_room self.old.lower (free sends.old) (free ups.old) (2 + unsent self.old) }
         requires entries { vec_len self.old.entries.list + 1 ≤ vec_capacity self.old.entries.list }
         ensures state { state_of L.meaning self.new ≡ begun L.next L.gives L.me (state_of L.meaning self.old) (Came from m) }
         ensures sends { sends.new.items ≡ sends.old.items ++ begun_sends L.next L.gives L.me (state_of L.meaning self.old) (Came from m) }
-        ensures room { (n : ℕ) → L.has_room self.old.lower (free sends.old) (vec_capacity self.old.below) (n + 2 + unsent self.old) → L.has_room self.new.lower (free sends.new) (vec_capacity self.new.below) (n + unsent self.new) }
+        ensures room { (n b : ℕ) → L.has_room self.old.lower (free sends.old) b (n + 2 + unsent self.old) → L.has_room self.new.lower (free sends.new) b (n + unsent self.new) }
         ensures capacity { vec_capacity self.old.entries.list ≤ vec_capacity self.new.entries.list }
         ensures len { vec_len self.new.entries.list ≤ vec_len self.old.entries.list + 1 }
         ensures ungiven { ungiven self.new ≤ ungiven self.old + 1 }
-        ensures whole { (l : Limit) → IsWhole L.is_whole L.need self.old l → is_within l (Came from m) ≡ true → IsWhole L.is_whole L.need self.new l }
+        ensures whole { (l : Limit) → IsWhole L.is_whole self.old l → is_within l (Came from m) ≡ true → IsWhole L.is_whole self.new l }
         ensures sends_memory { vec_capacity sends.old ≤ vec_capacity sends.new }
+        ensures ups { Stays ups.old ups.new }
     {
         self.entries.note(m);
-        self.call_lower(Call::Came(from, m), sends);
+        self.call_lower(Call::Came(from, m), sends, ups);
     }
 
     /// Does the call itself, before anything is relayed.
-    fn begin(&mut self, call: Call, sends: &mut Vec<MsgId>)
-        requires below { L.has_room self.old.lower (free sends.old) (vec_capacity self.old.below) (2 + unsent self.old) }
+    fn begin(&mut self, call: Call, sends: &mut Vec<MsgId>, ups: &mut Vec<Up>)
+        requires below { L.has_room self.old.lower (free sends.old) (free ups.old) (2 + unsent self.old) }
         requires entries { vec_len self.old.entries.list + 1 ≤ vec_capacity self.old.entries.list }
         ensures state { state_of L.meaning self.new ≡ begun L.next L.gives L.me (state_of L.meaning self.old) call }
         ensures sends { sends.new.items ≡ sends.old.items ++ begun_sends L.next L.gives L.me (state_of L.meaning self.old) call }
-        ensures room { (n : ℕ) → L.has_room self.old.lower (free sends.old) (vec_capacity self.old.below) (n + 2 + unsent self.old) → L.has_room self.new.lower (free sends.new) (vec_capacity self.new.below) (n + unsent self.new) }
+        ensures room { (n b : ℕ) → L.has_room self.old.lower (free sends.old) b (n + 2 + unsent self.old) → L.has_room self.new.lower (free sends.new) b (n + unsent self.new) }
         ensures capacity { vec_capacity self.old.entries.list ≤ vec_capacity self.new.entries.list }
         ensures len { vec_len self.new.entries.list ≤ vec_len self.old.entries.list + 1 }
         ensures ungiven { ungiven self.new ≤ ungiven self.old + 1 }
-        ensures whole { (l : Limit) → IsWhole L.is_whole L.need self.old l → is_within l call ≡ true → IsWhole L.is_whole L.need self.new l }
+        ensures whole { (l : Limit) → IsWhole L.is_whole self.old l → is_within l call ≡ true → IsWhole L.is_whole self.new l }
         ensures sends_memory { vec_capacity sends.old ≤ vec_capacity sends.new }
+        ensures ups { Stays ups.old ups.new }
     {
         match call {
-            Call::Say(m) => self.begin_say(m, sends),
-            Call::Came(from, m) => self.begin_came(from, m, sends),
+            Call::Say(m) => self.begin_say(m, sends, ups),
+            Call::Came(from, m) => self.begin_came(from, m, sends, ups),
             Call::Notice(who) => {
                 self.pending = Places {
                     from: 0,
                     to: self.entries.list.len(),
                 };
                 self.noticed.insert(who);
-                self.call_lower(Call::Notice(who), sends);
+                self.call_lower(Call::Notice(who), sends, ups);
             }
         }
     }
 
     /// Relays and hands up everything that is to be.
     fn finish(&mut self, sends: &mut Vec<MsgId>, ups: &mut Vec<Up>)
-        requires below { L.has_room self.old.lower (free sends.old) (vec_capacity self.old.below) (unsent self.old) }
+        requires below { L.has_room self.old.lower (free sends.old) (free ups.old) (unsent self.old) }
         requires ups { ungiven self.old ≤ free ups.old }
         ensures state { state_of L.meaning self.new ≡ given L.me R.rules (relayed L.next L.gives L.me R.rules (state_of L.meaning self.old)) }
         ensures sends { sends.new.items ≡ sends.old.items ++ relayed_sends L.next L.gives L.me R.rules (state_of L.meaning self.old) }
         ensures ups { ups.new.items ≡ ups.old.items ++ given_ups L.me R.rules (relayed L.next L.gives L.me R.rules (state_of L.meaning self.old)) }
-        ensures room { (n : ℕ) → L.has_room self.old.lower (free sends.old) (vec_capacity self.old.below) (n + unsent self.old) → L.has_room self.new.lower (free sends.new) (vec_capacity self.new.below) (n + unsent self.new) }
+        ensures room { (n b : ℕ) → L.has_room self.old.lower (free sends.old) b (n + unsent self.old) → L.has_room self.new.lower (free sends.new) b (n + unsent self.new) }
         ensures capacity { vec_capacity self.new.entries.list ≡ vec_capacity self.old.entries.list }
         ensures len { vec_len self.new.entries.list ≡ vec_len self.old.entries.list }
-        ensures free { free ups.old + ungiven self.new ≤ free ups.new + ungiven self.old }
-        ensures whole { (l : Limit) → IsWhole L.is_whole L.need self.old l → IsWhole L.is_whole L.need self.new l }
+        ensures given { length (given_ups L.me R.rules (relayed L.next L.gives L.me R.rules (state_of L.meaning self.old))) + ungiven self.new ≤ ungiven self.old }
+        ensures whole { (l : Limit) → IsWhole L.is_whole self.old l → IsWhole L.is_whole self.new l }
         ensures sends_memory { vec_capacity sends.old ≤ vec_capacity sends.new }
         ensures ups_memory { vec_capacity ups.old ≤ vec_capacity ups.new }
     {
-        self.relay_all(sends);
+        self.relay_all(sends, ups);
         let me = self.lower.me();
         let places = self.pending;
         deliver_in(
@@ -347,41 +351,6 @@ impl<L: Layer, R: Rule> Relay<L, R> {
             Call::Notice(who) => self.noticed.contains(who),
         }
     }
-
-    /// Makes room for so many calls of the layer below.
-    fn ready_below(&mut self, calls: usize, sends: &mut Vec<MsgId>) -> Result<(), OutOfMemory>
-        ensures meaning { L.meaning self.new.lower ≡ L.meaning self.old.lower }
-        ensures entries { self.new.entries.list ≡ self.old.entries.list }
-        ensures members { self.new.members ≡ self.old.members }
-        ensures noticed { self.new.noticed ≡ self.old.noticed }
-        ensures sends { sends.new.items ≡ sends.old.items }
-        ensures room { OnOk result (L.has_room self.new.lower (free sends.new) (vec_capacity self.new.below) calls) }
-    {
-        self.below.clear();
-        self.lower.ready(calls, sends, &mut self.below)
-    }
-
-    /// Takes all the memory that the layer below ever needs, which is called so many times.
-    fn whole_below(
-        &mut self,
-        members: &NodeSet,
-        msgs: u16,
-        calls: usize,
-        below: usize,
-        sends: &mut Vec<MsgId>,
-    ) -> Result<(), OutOfMemory>
-        requires empty { IsEmpty L.is_empty (state_of L.meaning self.old) }
-        requires below { below ≡ calls + calls + message_count (record { members = members.now; msgs = msgs; calls = calls }) }
-        requires memory { message_count (record { members = members.now; msgs = msgs; calls = calls }) + calls ≤ vec_capacity self.old.entries.list }
-        ensures state { state_of L.meaning self.new ≡ state_of L.meaning self.old }
-        ensures sends { sends.new.items ≡ sends.old.items }
-        ensures whole { OnOk result (IsWhole L.is_whole L.need self.new (record { members = members.now; msgs = msgs; calls = calls })) }
-        ensures free_sends { OnOk result ((L.need (limit_below (record { members = members.now; msgs = msgs; calls = calls }))).sends ≤ free sends.new) }
-    {
-        self.below.clear();
-        self.lower
-            .whole(members, msgs, below, sends, &mut self.below)
-    }
 }
 
 impl<L: Layer, R: Rule> Layer for Relay<L, R> {
@@ -405,7 +374,7 @@ impl<L: Layer, R: Rule> Layer for Relay<L, R> {
 
     ghost has_room = { HasRoom L.has_room };
 
-    ghost is_whole = { IsWhole L.is_whole L.need };
+    ghost is_whole = { IsWhole L.is_whole };
 
     ghost need = { relay_need L.need };
 
@@ -413,29 +382,28 @@ impl<L: Layer, R: Rule> Layer for Relay<L, R> {
         self.lower.me()
     }
 
-    fn ready(
-        &mut self,
-        calls: usize,
-        sends: &mut Vec<MsgId>,
-        ups: &mut Vec<Up>,
-    ) -> Result<(), OutOfMemory> {
+    fn prepare(&mut self, calls: usize) -> Result<Need, OutOfMemory> {
         let Some(below) = calls_below(calls, self.entries.list.len()) else {
             return Err(OutOfMemory);
         };
         self.entries.list.reserve(calls)?;
+        let need = self.lower.prepare(below)?;
         // A pair for each message and for each call.
-        ups.reserve(below - calls)?;
-        self.ready_below(below, sends)
+        let Some(ups) = need.ups.checked_add(below - calls) else {
+            return Err(OutOfMemory);
+        };
+        Ok(Need {
+            sends: need.sends,
+            ups,
+        })
     }
 
-    fn whole(
+    fn prepare_whole(
         &mut self,
         members: &NodeSet,
         msgs: u16,
         calls: usize,
-        sends: &mut Vec<MsgId>,
-        ups: &mut Vec<Up>,
-    ) -> Result<(), OutOfMemory> {
+    ) -> Result<Need, OutOfMemory> {
         let Some(below) = whole_calls_below(members, msgs, calls) else {
             return Err(OutOfMemory);
         };
@@ -443,13 +411,19 @@ impl<L: Layer, R: Rule> Layer for Relay<L, R> {
         let once = below - calls;
         self.entries.list.reserve(once)?;
         self.entries.cover(members, msgs)?;
-        ups.reserve(once)?;
-        self.whole_below(members, msgs, calls, below, sends)
+        let need = self.lower.prepare_whole(members, msgs, below)?;
+        let Some(ups) = need.ups.checked_add(once) else {
+            return Err(OutOfMemory);
+        };
+        Ok(Need {
+            sends: need.sends,
+            ups,
+        })
     }
 
     fn take(&mut self, call: Call, sends: &mut Vec<MsgId>, ups: &mut Vec<Up>) {
         if !self.repeats(call) {
-            self.begin(call, sends);
+            self.begin(call, sends, ups);
             self.finish(sends, ups);
         }
     }

@@ -50,15 +50,14 @@ returns-in-Notice-clause-sends g c =
     c.call_lower.ensures.sends ∙ ap (λ (k : Call). c.args.sends.now.items ++ begun_sends L.next L.gives L.me (state_of L.meaning c.args.self.now) k) (sym c.in-Notice.is)
 
 pub returns-in-Notice-clause-room : goal.returns-in-Notice-clause-room
-returns-in-Notice-clause-room g c = λ n room.
+returns-in-Notice-clause-room g c = λ n b room.
     let same = c.call_lower.ensures.unsent in
     let r = c.args.self.now in
     let a = free c.args.sends.now in
-    let b = vec_capacity r.below in
-    c.call_lower.ensures.room (n + unsent c.call_lower.new.self)
+    c.call_lower.ensures.room (n + unsent c.call_lower.new.self) b
     (g.met.L.Layer.roomier r.lower a b (n + 2 + unsent r) a b (n + unsent c.call_lower.new.self + 1) (omega arith) (omega arith) (omega (arith, same)) room)
 
 pub returns-in-Notice-clause-whole : goal.returns-in-Notice-clause-whole
 returns-in-Notice-clause-whole g c = λ l w h.
     c.call_lower.ensures.whole l
-    (record { lower = w.lower; below = w.below; capacity = w.capacity; counted = w.counted; once = w.once }) (subst (λ (k : Call). is_within l k ≡ true) c.in-Notice.is h)
+    (record { lower = w.lower; capacity = w.capacity; counted = w.counted; once = w.once }) (subst (λ (k : Call). is_within l k ≡ true) c.in-Notice.is h)

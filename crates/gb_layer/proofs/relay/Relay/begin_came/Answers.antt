@@ -12,7 +12,7 @@ use Rattle.gb_layer.proofs.relay.Relay.begin_came.Goals as goal
 pub returns-clause-whole : goal.returns-clause-whole
 returns-clause-whole g c = λ l w h.
     c.call_lower.ensures.whole l
-    (whole_noted g.L.Layer.is_whole g.L.Layer.need c.args.self.now _ l c.args.m (λ k. k) (omega arith) (search rules) (ap keys c.note.ensures.items) (and_right _ _ h) w) h
+    (whole_noted g.L.Layer.is_whole c.args.self.now _ l c.args.m (λ k. k) (search rules) (ap keys c.note.ensures.items) (and_right _ _ h) w) h
 
 pub invariant_of-self : goal.invariant_of-self
 invariant_of-self g c =

@@ -9,18 +9,21 @@ use Rattle.std.proofs.Common.{rules}
 use Rattle.gb_layer.specs.EntryLemmas.{keys, keys_taken_in}
 use Rattle.gb_layer.specs.RelayState.{limit_below}
 use Rattle.gb_layer.specs.WholeLemmas.{within_more, whole_kept}
+use Rattle.std.proofs.Common.{◌-◌, length, arith}
+use Rattle.gb_layer.specs.Room.{free}
+use Rattle.gb_layer.proofs.AsideLemmas.{from_place, came_behind, taken_off}
 use Rattle.gb_layer.proofs.relay.Relay.call_lower.Goals as goal
 
 pub returns-clause-unsent : goal.returns-clause-unsent
-returns-clause-unsent g c = ap (count_by is_unsent) c.take_in.ensures.items ∙ taken_in_unsent c.me-me.result c.deref.result.now c.args.self.now.entries.list.items
+returns-clause-unsent g c = ap (count_by is_unsent) c.take_in.ensures.items ∙ taken_in_unsent c.me-me.result (from_place c.len-first.result c.deref.result.now) c.args.self.now.entries.list.items
 
 pub returns-clause-ungiven : goal.returns-clause-ungiven
-returns-clause-ungiven g c = ap (count_by is_ungiven) c.take_in.ensures.items ∙ taken_in_ungiven c.me-me.result c.deref.result.now c.args.self.now.entries.list.items
+returns-clause-ungiven g c = ap (count_by is_ungiven) c.take_in.ensures.items ∙ taken_in_ungiven c.me-me.result (from_place c.len-first.result c.deref.result.now) c.args.self.now.entries.list.items
 
 pub returns-clause-whole : goal.returns-clause-whole
 returns-clause-whole g c = λ l w h.
-    whole_kept g.L.Layer.is_whole g.L.Layer.need c.args.self.now _ l (λ k. c.take.ensures.whole (limit_below l) k (within_more l (limit_below l).calls c.args.call h)) (search rules) (search rules)
-    (ap keys c.take_in.ensures.items ∙ keys_taken_in c.me-me.result c.deref.result.now c.args.self.now.entries.list.items) w
+    whole_kept g.L.Layer.is_whole c.args.self.now _ l (λ k. c.take.ensures.whole (limit_below l) k (within_more l (limit_below l).calls c.args.call h)) (search rules)
+    (ap keys c.take_in.ensures.items ∙ keys_taken_in c.me-me.result (from_place c.len-first.result c.deref.result.now) c.args.self.now.entries.list.items) w
 
 pub invariant_of-self : goal.invariant_of-self
 invariant_of-self g c =
@@ -39,10 +42,13 @@ returns-clause-state g c =
     let r = c.args.self.now in
     let s = L.meaning r.lower in
     let given = (L.gives s c.args.call).ups in
-    let came : c.deref.result.now ≡ given = c.deref.ensures.value ∙ (c.take.ensures.ups ∙ ap (λ (us : List Up). us ++ given) c.clear.ensures.items) in
+    let us = from_place c.len-first.result c.deref.result.now in
+    let first = c.len-first.ensures in
+    let ok = c.args.ups.now.ok.0 in
+    let came : us ≡ given = came_behind c.args.ups.now.items given c.deref.result.now c.len-first.result (c.deref.ensures.value ∙ c.take.ensures.ups) (omega (arith, first, ok)) in
     let entries : c.take_in.new.ledger.list.items ≡ taken_in (L.me s) given r.entries.list.items =
     c.take_in.ensures.items
-    ∙ (ap (λ (n : NodeId). taken_in n c.deref.result.now r.entries.list.items) c.me-me.ensures ∙ ap (λ (us : List Up). taken_in (L.me s) us r.entries.list.items) came) in
+    ∙ (ap (λ (n : NodeId). taken_in n us r.entries.list.items) c.me-me.ensures ∙ ap (λ (us : List Up). taken_in (L.me s) us r.entries.list.items) came) in
     λ i. record { lower = c.take.ensures.meaning i; members = r.members; noticed = r.noticed; entries = entries i }
 
 pub returns-clause-sends : goal.returns-clause-sends
@@ -56,3 +62,15 @@ returns-clause-len g c = c.take_in.ensures.len
 
 pub returns-clause-sends_memory : goal.returns-clause-sends_memory
 returns-clause-sends_memory g c = c.take.ensures.sends_memory
+
+pub returns-clause-ups : goal.returns-clause-ups
+returns-clause-ups g c =
+    let L = g.L.Layer in
+    taken_off c.args.ups.now c.take.new.ups c.truncate.new.self (L.gives (L.meaning c.args.self.now.lower) c.args.call).ups c.len-first.result c.take.ensures.ups c.len-first.ensures c.truncate.ensures.items c.take.ensures.ups_memory c.truncate.ensures.capacity
+
+pub returns-clause-room : goal.returns-clause-room
+returns-clause-room g c = λ n b room.
+    let L = g.L.Layer in
+    let a = free c.take.new.sends in
+    let given = length (L.gives (L.meaning c.args.self.now.lower) c.args.call).ups in
+    g.met.L.Layer.roomier c.take.new.self a (b - given) n a b n (omega arith) (omega arith) (omega arith) (c.take.ensures.room n b room).1

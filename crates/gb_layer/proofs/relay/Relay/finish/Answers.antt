@@ -1,8 +1,8 @@
-use Rattle.std.proofs.Common.{arith, ◌≡◌, ◌+◌, count_by, ap, ◌∙◌, vec_capacity}
+use Rattle.std.proofs.Common.{arith, ◌≡◌, ◌+◌, count_by, map, length, ap, ◌∙◌}
 use Rattle.gb_layer.specs.Room.{free}
-use Rattle.gb_layer.specs.Relay.{is_unsent, due_to_deliver}
-use Rattle.gb_layer.specs.RelayState.{unsent}
-use Rattle.gb_layer.proofs.CountedLemmas.{handed_unsent}
+use Rattle.gb_layer.specs.Relay.{State, is_unsent, is_ungiven, due_to_deliver, handed, given_ups, relayed}
+use Rattle.gb_layer.specs.RelayState.{state_of, unsent}
+use Rattle.gb_layer.proofs.CountedLemmas.{handed_unsent, handed_fewer}
 use Rattle.std.proofs.Common.{rules}
 use Rattle.gb_layer.specs.EntryLemmas.{keys, keys_handed}
 use Rattle.gb_layer.specs.WholeLemmas.{whole_kept}
@@ -15,18 +15,30 @@ use Rattle.gb_layer.proofs.PendingLemmas.{delivers_among, pending_handed}
 use Rattle.gb_layer.proofs.relay.Relay.finish.Goals as goal
 
 pub returns-clause-room : goal.returns-clause-room
-returns-clause-room g c = λ n room.
+returns-clause-room g c = λ n b room.
     let due = due_to_deliver g.R.Rule.rules c.me-me.result c.relay_all.new.self.members c.relay_all.new.self.noticed in
     let e : count_by is_unsent c.deliver_in.new.ledger.list.items ≡ unsent c.relay_all.new.self = ap (count_by is_unsent) c.deliver_in.ensures.items ∙ handed_unsent due c.relay_all.new.self.entries.list.items in
-    let b = vec_capacity c.relay_all.new.self.below in
     g.met.L.Layer.roomier c.relay_all.new.self.lower (free c.relay_all.new.sends) b (n + unsent c.relay_all.new.self) (free c.relay_all.new.sends) b (n + count_by is_unsent c.deliver_in.new.ledger.list.items)
-    (omega arith) (omega arith) (omega (arith, e)) (c.relay_all.ensures.room n room)
+    (omega arith) (omega arith) (omega (arith, e)) (c.relay_all.ensures.room n b room)
 
 pub returns-clause-whole : goal.returns-clause-whole
 returns-clause-whole g c = λ l w.
     let due = due_to_deliver g.R.Rule.rules c.me-me.result c.relay_all.new.self.members c.relay_all.new.self.noticed in
-    whole_kept g.L.Layer.is_whole g.L.Layer.need c.relay_all.new.self _ l (λ k. k) (omega arith) (search rules)
+    whole_kept g.L.Layer.is_whole c.relay_all.new.self _ l (λ k. k) (search rules)
     (ap keys c.deliver_in.ensures.items ∙ keys_handed due c.relay_all.new.self.entries.list.items) (c.relay_all.ensures.whole l w)
+
+pub returns-clause-given : goal.returns-clause-given
+returns-clause-given g c =
+    let L = g.L.Layer in
+    let R = g.R.Rule.rules in
+    let s = c.relay_all.new.self in
+    let r = state_of L.meaning s in
+    let few = handed_fewer R (L.me r.lower) r.members r.noticed r.entries in
+    let new : count_by is_ungiven c.deliver_in.new.ledger.list.items ≡ count_by is_ungiven (map (handed (due_to_deliver R (L.me r.lower) r.members r.noticed)) r.entries) =
+        ap (count_by is_ungiven) (c.deliver_in.ensures.items ∙ ap (λ (me : NodeId). map (handed (due_to_deliver R me r.members r.noticed)) r.entries) c.me-me.ensures) in
+    let same : length (given_ups L.me R (relayed L.next L.gives L.me R (state_of L.meaning c.args.self.now))) ≡ length (given_ups L.me R r) = ap (λ (s : State L.State). length (given_ups L.me R s)) (sym c.relay_all.ensures.state) in
+    let kept = c.relay_all.ensures.ungiven in
+    omega (arith, few, new, same, kept)
 
 pub deliver_in-requires-clause-places : goal.deliver_in-requires-clause-places
 deliver_in-requires-clause-places g c =

@@ -4,6 +4,9 @@ use Rattle.gb_types.specs.declared.message.MsgId.{MsgId}
 use Rattle.gb_layer.specs.Relay.{State, relay_if, relay_if_sends, relay_from, relay_from_sends}
 use Rattle.gb_layer.specs.RelayState.{state_of}
 use Rattle.gb_layer.proofs.PendingLemmas.{begins_at, ends_at, none_elsewhere}
+use Rattle.gb_layer.specs.Room.{free}
+use Rattle.gb_layer.specs.RelayState.{unsent}
+use Rattle.gb_layer.specs.RoomLemmas.{stays_itself, stays_then, stays_free}
 use Rattle.gb_layer.proofs.relay.Relay.relay_all.Goals as goal
 
 pub loop-i-init : goal.loop-i-init
@@ -18,12 +21,13 @@ loop-i-init g c =
       count = c.len-count.ensures;
       state = s.0;
       sends = ap (λ xs. c.args.sends.now.items ++ xs) s.1;
-      room = λ n h. h;
+      room = λ n b h. h;
       capacity = refl;
       len = refl;
       whole = λ l h. h;
       sends_memory = omega arith;
       ungiven = refl;
+      ups = stays_itself c.args.ups.now;
     }
 
 pub loop-i-preserved : goal.loop-i-preserved
@@ -48,12 +52,13 @@ loop-i-preserved g c =
           ∙ (ap (λ (s : State L.State). (xs ++ here) ++ from_sends k (i + 1) s) kept.state
           ∙ (append_assoc xs here (from_sends k (i + 1) (relay_if L.next L.gives L.me g.R.Rule.rules r (slice_get r.entries i)))
           ∙ (sym (ap (λ n. xs ++ from_sends n i r) e) ∙ was.sends)));
-      room = λ n h. kept.room n (was.room n h);
+      room = λ n b h. kept.room n b (was.room n b h);
       capacity = kept.capacity ∙ was.capacity;
       len = kept.len ∙ was.len;
       whole = λ l h. kept.whole l (was.whole l h);
       sends_memory = (let a = kept.sends_memory in let b = was.sends_memory in omega (arith, a, b));
       ungiven = kept.ungiven ∙ was.ungiven;
+      ups = stays_then was.ups kept.ups;
     }
 
 pub returns-then-i-self-clause-state : goal.returns-then-i-self-clause-state
