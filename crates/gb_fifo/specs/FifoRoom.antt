@@ -2,7 +2,8 @@
 use Rattle.std.specs.Prelude.{◌≡◌, ℕ, ◌+◌, ◌≤◌, true, [], vec_len, vec_capacity, count_by}
 use Rattle.std.specs.List.{list_all, IsDistinct}
 use Rattle.gb_types.specs.Message.{same}
-use Rattle.gb_layer.specs.Limit.{Limit, Need, is_counted, message_count}
+use Rattle.gb_layer.specs.declared.effects.Need.{Need}
+use Rattle.gb_layer.specs.Limit.{Limit, is_counted, message_count}
 use Rattle.gb_fifo.specs.EntryLemmas.{keys}
 use Rattle.gb_fifo.specs.declared.fifo.Fifo.{Fifo}
 use Rattle.gb_fifo.specs.Entries.{is_ungiven}
@@ -21,20 +22,20 @@ pub record IsNew {S : Type 0} (is_fresh : S → Type 0) (s : FifoState S) : Type
 abbrev pub ungiven : {L : Type 0} → Fifo L → ℕ
 ungiven f = count_by is_ungiven f.entries.list.items
 
--- room for the next calls, so many: each may add an entry, and each message comes up once
+-- room for the next calls, so many: each may add an entry, and each message comes up once. What the layer below brings up is put aside in places that no pair of this layer takes.
 pub record HasRoom {L : Type 0} (below : L → ℕ → ℕ → ℕ → Type 0) (f : Fifo L) (a b calls : ℕ) : Type 0 where
-  pub lower : below f.lower a (vec_capacity f.below) calls
+  pub aside : ℕ
+  pub lower : below f.lower a aside calls
   pub entries : vec_len f.entries.list + calls ≤ vec_capacity f.entries.list
-  pub ups : ungiven f + calls ≤ b
+  pub ups : aside + (ungiven f + calls) ≤ b
 
--- what so many calls of a fifo give at most: what the layer below sends, and each message comes up at most once
+-- what so many calls of a fifo need at most: what the layer below needs, and a place for each message, which comes up once
 abbrev pub fifo_need : (Limit → Need) → Limit → Need
-fifo_need need l = record { sends = (need l).sends; ups = message_count l + l.calls }
+fifo_need need l = record { sends = (need l).sends; ups = (need l).ups + (message_count l + l.calls) }
 
--- A fifo has the memory for all calls within the limit: so has the layer below, and what comes up there and all messages have their places. Its entries are of different messages within the limit.
-pub record IsWhole {L : Type 0} (below_whole : L → Limit → Type 0) (below_need : Limit → Need) (f : Fifo L) (l : Limit) : Type 0 where
+-- A fifo has the memory for all calls within the limit: so has the layer below, and all messages have their places. Its entries are of different messages within the limit.
+pub record IsWhole {L : Type 0} (below_whole : L → Limit → Type 0) (f : Fifo L) (l : Limit) : Type 0 where
   pub lower : below_whole f.lower l
-  pub below : (below_need l).ups ≤ vec_capacity f.below
   pub capacity : message_count l + l.calls ≤ vec_capacity f.entries.list
   pub counted : list_all (is_counted l) (keys f.entries.list.items) ≡ true
   pub once : IsDistinct same (keys f.entries.list.items)

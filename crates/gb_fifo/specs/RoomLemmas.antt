@@ -1,5 +1,5 @@
 -- More free places are room for as many calls, or fewer.
-use Rattle.std.proofs.Common.{ℕ, ◌≤◌, vec_capacity, arith}
+use Rattle.std.proofs.Common.{ℕ, ◌≤◌, arith}
 use Rattle.gb_fifo.specs.declared.fifo.Fifo.{Fifo}
 use Rattle.gb_fifo.specs.FifoRoom.{HasRoom}
 
@@ -9,7 +9,8 @@ fifo_roomier below law f a b n a' b' n' h i j k =
     let ke = k.entries in
     let ku = k.ups in
     record {
-      lower = law f.lower a (vec_capacity f.below) n a' (vec_capacity f.below) n' h (omega arith) j k.lower;
+      aside = k.aside;
+      lower = law f.lower a k.aside n a' k.aside n' h (omega arith) j k.lower;
       entries = omega arith;
       ups = omega arith;
     }

@@ -1,8 +1,5 @@
 -- A fifo that has its memory, and what keeps it so.
 use Rattle.std.proofs.Common.{◌≡◌, ℕ, ◌+◌, ◌≤◌, true, List, [], length, vec_capacity, ap, sym, ◌∙◌, subst, arith}
-use Rattle.std.specs.Prelude.{OnOk}
-use Rattle.std.specs.declared.result.Result.{Result}
-use Rattle.std.specs.declared.result.Result.TheVariants.{Ok, Err}
 use Rattle.std.specs.List.{list_all, IsDistinct}
 use Rattle.std.proofs.lemmas.List.{length-map}
 use Rattle.std.proofs.lemmas.List.Sums.{count_by-le-length}
@@ -10,7 +7,8 @@ use Rattle.gb_types.specs.Message.{same}
 use Rattle.gb_types.proofs.BoolLemmas.{and_right}
 use Rattle.gb_layer.specs.declared.call.Call.{Call}
 use Rattle.gb_layer.specs.declared.call.Call.TheVariants.{Say, Came, Notice}
-use Rattle.gb_layer.specs.Limit.{Limit, Need, is_counted, is_within, message_count}
+use Rattle.gb_layer.specs.declared.effects.Need.{Need}
+use Rattle.gb_layer.specs.Limit.{Limit, is_counted, is_within, message_count}
 use Rattle.gb_layer.specs.PigeonholeLemmas.{no_more_messages}
 use Rattle.gb_layer.specs.WholeLemmas.{counted_grown, once_grown}
 use Rattle.gb_fifo.specs.declared.entry.Entry.{Entry}
@@ -32,7 +30,7 @@ once_noted (Notice q) es d = d
 module _ {L : Type 0} (below : L → ℕ → ℕ → ℕ → Type 0) (below_whole : L → Limit → Type 0) (below_need : Limit → Need)
     (law : (x : L) (l : Limit) (a b : ℕ) → below_whole x l → (below_need l).sends ≤ a → (below_need l).ups ≤ b → below x a b l.calls) where
   -- a fifo that has its memory has room
-  pub fifo_whole_room : (f : Fifo L) (l : Limit) (a b : ℕ) → IsWhole below_whole below_need f l → (fifo_need below_need l).sends ≤ a → (fifo_need below_need l).ups ≤ b → HasRoom below f a b l.calls
+  pub fifo_whole_room : (f : Fifo L) (l : Limit) (a b : ℕ) → IsWhole below_whole f l → (fifo_need below_need l).sends ≤ a → (fifo_need below_need l).ups ≤ b → HasRoom below f a b l.calls
   fifo_whole_room f l a b w h k =
       let n = no_more_messages l (keys f.entries.list.items) w.counted w.once in
       let len : length (keys f.entries.list.items) ≡ length f.entries.list.items = length-map f.entries.list.items (λ e. e.m) in
@@ -40,35 +38,31 @@ module _ {L : Type 0} (below : L → ℕ → ℕ → ℕ → Type 0) (below_whol
       let g = count_by-le-length is_ungiven f.entries.list.items in
       let cap = w.capacity in
       record {
-        lower = law f.lower l a (vec_capacity f.below) w.lower h w.below;
+        aside = (below_need l).ups;
+        lower = law f.lower l a (below_need l).ups w.lower h (omega arith);
         entries = omega (arith, n, len, ok, cap);
         ups = omega (arith, n, len, g, k);
       }
 
-module _ {L : Type 0} (below_whole : L → Limit → Type 0) (below_need : Limit → Need) where
+module _ {L : Type 0} (below_whole : L → Limit → Type 0) where
   -- a call within the limit keeps a fifo so
-  pub whole_kept : (f f' : Fifo L) (l : Limit) (c : Call) → (below_whole f.lower l → below_whole f'.lower l) → vec_capacity f.below ≤ vec_capacity f'.below → vec_capacity f.entries.list ≤ vec_capacity f'.entries.list
-      → keys f'.entries.list.items ≡ keys (noted_by c f.entries.list.items) → is_within l c ≡ true → IsWhole below_whole below_need f l → IsWhole below_whole below_need f' l
-  whole_kept f f' l c g b e k h w =
-      let wb = w.below in
+  pub whole_kept : (f f' : Fifo L) (l : Limit) (c : Call) → (below_whole f.lower l → below_whole f'.lower l) → vec_capacity f.entries.list ≤ vec_capacity f'.entries.list
+      → keys f'.entries.list.items ≡ keys (noted_by c f.entries.list.items) → is_within l c ≡ true → IsWhole below_whole f l → IsWhole below_whole f' l
+  whole_kept f f' l c g e k h w =
       let wc = w.capacity in
       record {
         lower = g w.lower;
-        below = omega (arith, b, wb);
         capacity = omega (arith, e, wc);
         counted = ap (list_all (is_counted l)) k ∙ counted_noted l c f.entries.list.items h w.counted;
         once = subst (IsDistinct same) (sym k) (once_noted c f.entries.list.items w.once);
       }
 
-  -- what the layer below answered is what the fifo answers
-  pub whole_made : {A E : Type 0} (made : Result A E) (f : Fifo L) (l : Limit) (free : ℕ) → free ≤ vec_capacity f.below → message_count l + l.calls ≤ vec_capacity f.entries.list → f.entries.list.items ≡ []
-      → OnOk made (below_whole f.lower l) → OnOk made ((below_need l).ups ≤ free) → OnOk made (IsWhole below_whole below_need f l)
+  -- a fifo that was told nothing, with its memory
+  pub whole_at_start : (f : Fifo L) (l : Limit) → below_whole f.lower l → message_count l + l.calls ≤ vec_capacity f.entries.list → f.entries.list.items ≡ [] → IsWhole below_whole f l
   unfolding IsDistinct
-  whole_made (Ok x) f l free h c empty w b = record {
+  whole_at_start f l w c empty = record {
     lower = w;
-    below = omega (arith, b, h);
     capacity = c;
     counted = ap (λ es. list_all (is_counted l) (keys es)) empty;
     once = subst (λ es. IsDistinct same (keys es)) (sym empty) tt;
   }
-  whole_made (Err x) f l free h c empty w b = tt

@@ -11,8 +11,9 @@ ghost use Rattle.gb_fifo.specs.FifoLemmas.{fifo_me_stays, fifo_sends_handed_in, 
 
 use crate::ledger::{Ledger, take_all};
 use gb_layer::call::Call;
-use gb_layer::effects::Up;
+use gb_layer::effects::{Need, Up};
 use gb_layer::layer::{Broadcast, Layer};
+use gb_layer::whole::once_each;
 use gb_types::memory::OutOfMemory;
 use gb_types::message::MsgId;
 use gb_types::node::{NodeId, NodeSet};
@@ -26,19 +27,6 @@ pub struct Fifo<L> {
     lower: L,
     /// The messages that were handed in, in the order of their first mention.
     entries: Ledger,
-    /// What the newest call of the layer below brought up.
-    below: Vec<Up>,
-}
-
-/// How many pairs come up at most in so many calls, where each member makes so many messages. None where there is no
-/// such number.
-fn whole_ups(members: &NodeSet, msgs: u16, calls: usize) -> Option<usize>
-    ensures { IfSome result (λ most. most ≡ message_count (record { members = members.now; msgs = msgs; calls = calls }) + calls) }
-{
-    match members.count_in(members).checked_mul(usize::from(msgs)) {
-        Some(messages) => messages.checked_add(calls),
-        None => None,
-    }
 }
 
 impl<L: Broadcast> Fifo<L> {
@@ -51,7 +39,6 @@ impl<L: Broadcast> Fifo<L> {
         Fifo {
             lower,
             entries: Ledger::new(alloc),
-            below: Vec::new(alloc),
         }
     }
 
@@ -60,7 +47,6 @@ impl<L: Broadcast> Fifo<L> {
         requires { vec_len self.old.entries.list + 1 ≤ vec_capacity self.old.entries.list }
         ensures items { self.new.entries.list.items ≡ noted_by call self.old.entries.list.items }
         ensures lower { self.new.lower ≡ self.old.lower }
-        ensures below { self.new.below ≡ self.old.below }
         ensures len { vec_len self.new.entries.list ≤ vec_len self.old.entries.list + 1 }
         ensures capacity { vec_capacity self.old.entries.list ≤ vec_capacity self.new.entries.list }
         ensures ungiven { ungiven self.new ≤ ungiven self.old + 1 }
@@ -69,54 +55,6 @@ impl<L: Broadcast> Fifo<L> {
             Call::Say(m) | Call::Came(_, m) => self.entries.note(m),
             Call::Notice(_) => {}
         }
-    }
-
-    /// Makes the call of the layer below. What that brings up is put aside, and what it sends is sent.
-    fn call_lower(&mut self, call: Call, sends: &mut Vec<MsgId>)
-        requires { L.has_room self.old.lower (free sends.old) (vec_capacity self.old.below) 1 }
-        ensures lower { L.meaning self.new.lower ≡ L.next (L.meaning self.old.lower) call }
-        ensures entries { self.new.entries ≡ self.old.entries }
-        ensures below { self.new.below.items ≡ (L.gives (L.meaning self.old.lower) call).ups }
-        ensures sends { sends.new.items ≡ sends.old.items ++ (L.gives (L.meaning self.old.lower) call).sends }
-        ensures room { (n : ℕ) → L.has_room self.old.lower (free sends.old) (vec_capacity self.old.below) (n + 1)
-            → L.has_room self.new.lower (free sends.new) (vec_capacity self.new.below) n }
-        ensures whole { (l : Limit) → L.is_whole self.old.lower l → is_within l call ≡ true → L.is_whole self.new.lower l }
-        ensures below_memory { vec_capacity self.old.below ≤ vec_capacity self.new.below }
-        ensures sends_memory { vec_capacity sends.old ≤ vec_capacity sends.new }
-    {
-        self.below.clear();
-        self.lower.take(call, sends, &mut self.below);
-    }
-
-    /// Makes room below for the next calls, so many.
-    fn ready_below(&mut self, calls: usize, sends: &mut Vec<MsgId>) -> Result<(), OutOfMemory>
-        ensures meaning { L.meaning self.new.lower ≡ L.meaning self.old.lower }
-        ensures entries { self.new.entries ≡ self.old.entries }
-        ensures sends { sends.new.items ≡ sends.old.items }
-        ensures room { OnOk result (L.has_room self.new.lower (free sends.new) (vec_capacity self.new.below) calls) }
-    {
-        self.below.clear();
-        self.lower.ready(calls, sends, &mut self.below)
-    }
-
-    /// Takes all the memory that the layer below ever needs.
-    fn whole_below(
-        &mut self,
-        members: &NodeSet,
-        msgs: u16,
-        calls: usize,
-        sends: &mut Vec<MsgId>,
-    ) -> Result<(), OutOfMemory>
-        requires empty { IsNew L.is_empty (state_of L.meaning self.old) }
-        requires memory { message_count (record { members = members.now; msgs = msgs; calls = calls }) + calls ≤ vec_capacity self.old.entries.list }
-        ensures state { state_of L.meaning self.new ≡ state_of L.meaning self.old }
-        ensures sends { sends.new.items ≡ sends.old.items }
-        ensures whole { OnOk result (IsWhole L.is_whole L.need self.new (record { members = members.now; msgs = msgs; calls = calls })) }
-        ensures free_sends { OnOk result ((L.need (record { members = members.now; msgs = msgs; calls = calls })).sends ≤ free sends.new) }
-    {
-        self.below.clear();
-        self.lower
-            .whole(members, msgs, calls, sends, &mut self.below)
     }
 }
 
@@ -137,7 +75,7 @@ impl<L: Broadcast> Layer for Fifo<L> {
 
     ghost has_room = { HasRoom L.has_room };
 
-    ghost is_whole = { IsWhole L.is_whole L.need };
+    ghost is_whole = { IsWhole L.is_whole };
 
     ghost need = { fifo_need L.need };
 
@@ -145,42 +83,35 @@ impl<L: Broadcast> Layer for Fifo<L> {
         self.lower.me()
     }
 
-    fn ready(
-        &mut self,
-        calls: usize,
-        sends: &mut Vec<MsgId>,
-        ups: &mut Vec<Up>,
-    ) -> Result<(), OutOfMemory> {
-        let count = self.entries.list.len();
-        let Some(most) = count.checked_add(calls) else {
+    fn prepare(&mut self, calls: usize) -> Result<Need, OutOfMemory> {
+        let Some(once) = self.entries.list.len().checked_add(calls) else {
             return Err(OutOfMemory);
         };
         self.entries.list.reserve(calls)?;
-        ups.reserve(most)?;
-        self.ready_below(calls, sends)
+        let need = self.lower.prepare(calls)?;
+        need.with_ups(once)
     }
 
-    fn whole(
+    fn prepare_whole(
         &mut self,
         members: &NodeSet,
         msgs: u16,
         calls: usize,
-        sends: &mut Vec<MsgId>,
-        ups: &mut Vec<Up>,
-    ) -> Result<(), OutOfMemory> {
-        let Some(once) = whole_ups(members, msgs, calls) else {
+    ) -> Result<Need, OutOfMemory> {
+        let Some(once) = once_each(members, msgs, calls) else {
             return Err(OutOfMemory);
         };
         self.entries.list.reserve(once)?;
         self.entries.cover(members, msgs)?;
-        ups.reserve(once)?;
-        self.whole_below(members, msgs, calls, sends)
+        let need = self.lower.prepare_whole(members, msgs, calls)?;
+        need.with_ups(once)
     }
 
     fn take(&mut self, call: Call, sends: &mut Vec<MsgId>, ups: &mut Vec<Up>) {
         self.note_call(call);
-        self.call_lower(call, sends);
-        take_all(&mut self.entries, &self.below, ups);
+        let first = ups.len();
+        self.lower.take(call, sends, ups);
+        take_all(&mut self.entries, ups, first);
     }
 
     ghost roomier = { fifo_roomier L.has_room L.roomier };

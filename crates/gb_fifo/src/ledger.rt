@@ -1,5 +1,5 @@
 //! The entries of a fifo, in the order of first mention.
-ghost use Rattle.std.specs.Prelude.{◌≡◌, ℕ, ◌+◌, ◌≤◌, ◌<◌, ◌∷◌, [], ◌++◌, true, map, length, slice_index, vec_len, vec_capacity, count_by, OnOk};
+ghost use Rattle.std.specs.Prelude.{◌≡◌, ℕ, ◌+◌, ◌≤◌, ◌<◌, ◌∷◌, [], ◌++◌, true, map, take, drop, length, slice_index, vec_len, vec_capacity, count_by, OnOk};
 ghost use Rattle.std.specs.List.{list_any};
 ghost use Rattle.gb_types.specs.declared.limits.TheConstants.{NODES};
 ghost use Rattle.gb_layer.specs.Places.{StandsAmong};
@@ -185,7 +185,7 @@ fn give_one(e: &mut Entry, ups: &mut Vec<Up>) -> u16
     ensures entry { e.new ≡ given_entry e.old }
     ensures ups { ups.new.items ≡ ups.old.items ++ up_of e.old ∷ [] }
     ensures room { free ups.old ≤ free ups.new + 1 }
-    ensures memory { vec_capacity ups.old ≤ vec_capacity ups.new }
+    ensures memory { vec_capacity ups.new ≡ vec_capacity ups.old }
 {
     e.given = true;
     ups.push_reserved(Up {
@@ -204,7 +204,7 @@ fn give_next(ledger: &mut Ledger, origin: NodeId, ups: &mut Vec<Up>) -> bool
     ensures room { free ups.old + count_by is_ungiven ledger.new.list.items ≤ free ups.new + count_by is_ungiven ledger.old.list.items }
     ensures len { vec_len ledger.new.list ≡ vec_len ledger.old.list }
     ensures capacity { vec_capacity ledger.new.list ≡ vec_capacity ledger.old.list }
-    ensures memory { vec_capacity ups.old ≤ vec_capacity ups.new }
+    ensures memory { vec_capacity ups.new ≡ vec_capacity ups.old }
 {
     match ledger.find_next(origin) {
         Some(i) => {
@@ -223,7 +223,7 @@ fn release(ledger: &mut Ledger, origin: NodeId, ups: &mut Vec<Up>)
     ensures room { free ups.old + count_by is_ungiven ledger.new.list.items ≤ free ups.new + count_by is_ungiven ledger.old.list.items }
     ensures len { vec_len ledger.new.list ≡ vec_len ledger.old.list }
     ensures capacity { vec_capacity ledger.new.list ≡ vec_capacity ledger.old.list }
-    ensures memory { vec_capacity ups.old ≤ vec_capacity ups.new }
+    ensures memory { vec_capacity ups.new ≡ vec_capacity ups.old }
 {
     let count = ledger.list.len();
     for i in 0..count {
@@ -241,23 +241,40 @@ fn take_one(ledger: &mut Ledger, m: MsgId, ups: &mut Vec<Up>)
     ensures room { free ups.old + count_by is_ungiven ledger.new.list.items ≤ free ups.new + count_by is_ungiven ledger.old.list.items }
     ensures len { vec_len ledger.new.list ≡ vec_len ledger.old.list }
     ensures capacity { vec_capacity ledger.new.list ≡ vec_capacity ledger.old.list }
-    ensures memory { vec_capacity ups.old ≤ vec_capacity ups.new }
+    ensures memory { vec_capacity ups.new ≡ vec_capacity ups.old }
 {
     ledger.bring(m);
     release(ledger, m.origin, ups);
 }
 
-/// Takes what the layer below brought up, one by one.
-pub fn take_all(ledger: &mut Ledger, below: &[Up], ups: &mut Vec<Up>)
-    requires { count_by is_ungiven ledger.old.list.items ≤ free ups.old }
-    ensures items { ledger.new.list.items ≡ taken below.now ledger.old.list.items }
-    ensures ups { ups.new.items ≡ ups.old.items ++ taken_ups below.now ledger.old.list.items }
-    ensures room { free ups.old + count_by is_ungiven ledger.new.list.items ≤ free ups.new + count_by is_ungiven ledger.old.list.items }
+/// Takes the pairs between two places out of the list.
+fn take_out(ups: &mut Vec<Up>, first: usize, end: usize)
+    requires order { first ≤ end }
+    requires within { end ≤ vec_len ups.old }
+    ensures items { ups.new.items ≡ take first ups.old.items ++ drop end ups.old.items }
+    ensures memory { vec_capacity ups.new ≡ vec_capacity ups.old }
+{
+    let count = ups.len();
+    ups.copy_within(end..count, first);
+    ups.truncate(first + (count - end));
+}
+
+/// Takes what the layer below brought up, which stands in the list from a place on, one by one. What is handed up stands
+/// there instead.
+pub fn take_all(ledger: &mut Ledger, ups: &mut Vec<Up>, first: usize)
+    requires first { first ≤ vec_len ups.old }
+    requires room { count_by is_ungiven ledger.old.list.items ≤ free ups.old }
+    ensures items { ledger.new.list.items ≡ taken (drop first ups.old.items) ledger.old.list.items }
+    ensures ups { ups.new.items ≡ take first ups.old.items ++ taken_ups (drop first ups.old.items) ledger.old.list.items }
+    ensures given { length (taken_ups (drop first ups.old.items) ledger.old.list.items) + count_by is_ungiven ledger.new.list.items ≤ count_by is_ungiven ledger.old.list.items }
     ensures len { vec_len ledger.new.list ≡ vec_len ledger.old.list }
     ensures capacity { vec_capacity ledger.new.list ≡ vec_capacity ledger.old.list }
-    ensures memory { vec_capacity ups.old ≤ vec_capacity ups.new }
+    ensures memory { vec_capacity ups.new ≡ vec_capacity ups.old }
 {
-    for up in below {
-        take_one(ledger, up.m, ups);
+    let end = ups.len();
+    for i in first..end {
+        let m = ups[i].m;
+        take_one(ledger, m, ups);
     }
+    take_out(ups, first, end);
 }

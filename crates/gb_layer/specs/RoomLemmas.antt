@@ -1,11 +1,23 @@
 -- More free places are room for as many calls, or fewer.
-use Rattle.std.proofs.Common.{◌≡◌, ℕ, ◌+◌, ◌-◌, ◌≤◌, List, ◌++◌, length, ap, ◌∙◌, length-append, vec_len, vec_capacity, refl, arith}
+use Rattle.std.proofs.Common.{◌≡◌, ℕ, ◌+◌, ◌-◌, ◌≤◌, List, ◌++◌, length, ap, ◌∙◌, length-append, vec_len, vec_capacity, refl, sym, subst, arith}
+use Rattle.std.specs.Prelude.{IfOk, OnOk}
 use Rattle.std.specs.Global.{Vec}
+use Rattle.std.specs.declared.result.Result.{Result}
+use Rattle.std.specs.declared.result.Result.TheVariants.{Ok, Err}
 use Rattle.gb_layer.specs.declared.beb.Beb.{Beb}
 use Rattle.gb_layer.specs.declared.relay.Relay.{Relay}
 use Rattle.gb_layer.specs.BebMachine.{BebRoom}
 use Rattle.gb_layer.specs.RelayState.{HasRoom, unsent}
 use Rattle.gb_layer.specs.Room.{free, Stays}
+
+-- what was made is known, if it was made
+pub made_is : {A E : Type 0} (made : Result A E) (x : A) (P : A → Type 0) → IfOk made (λ a. a ≡ x) → P x → IfOk made P
+made_is (Ok a) x P is p = subst P (sym is) p
+made_is (Err e) x P is p = tt
+
+pub whatever_made : {A E : Type 0} (made : Result A E) (P : Type 0) → P → OnOk made P
+whatever_made (Ok a) P p = p
+whatever_made (Err e) P p = tt
 
 -- a list stays itself
 pub stays_itself : {A : Type 0} (xs : Vec A) → Stays xs xs
@@ -47,3 +59,7 @@ relay_roomier below law r a b n a' b' n' h i j k =
       entries = omega arith;
       ups = omega arith;
     }
+
+-- room that is left after so many pairs
+pub room_left : (room : ℕ → Type 0) (b k j : ℕ) → k ≡ j → (j ≤ b) × room (b - j) → (k ≤ b) × room (b - k)
+room_left room b k j e h = subst (λ (x : ℕ). (x ≤ b) × room (b - x)) (sym e) h

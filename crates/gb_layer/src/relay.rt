@@ -17,6 +17,7 @@ use crate::ledger::Ledger;
 use crate::pending::{add_pending, is_due, is_ready, take_in};
 use crate::places::Places;
 use crate::rule::Rule;
+use crate::whole::once_each;
 use gb_types::memory::OutOfMemory;
 use gb_types::message::MsgId;
 use gb_types::node::{NodeId, NodeSet};
@@ -108,27 +109,6 @@ fn deliver_in<R: Rule>(
     ensures ups_memory { vec_capacity ups.old ≤ vec_capacity ups.new }
 {
     deliver_all(&mut ledger.list, places, rule, me, members, noticed, ups);
-}
-
-/// How many calls of the layer below so many calls make at most, where there are so many messages. None where there is
-/// no such number.
-fn calls_below(calls: usize, messages: usize) -> Option<usize>
-    ensures { IfSome result (λ below. below ≡ calls + calls + messages) }
-{
-    match calls.checked_add(calls) {
-        Some(twice) => twice.checked_add(messages),
-        None => None,
-    }
-}
-
-/// The same, where each member makes so many messages.
-fn whole_calls_below(members: &NodeSet, msgs: u16, calls: usize) -> Option<usize>
-    ensures { IfSome result (λ below. below ≡ calls + calls + message_count (record { members = members.now; msgs = msgs; calls = calls })) }
-{
-    match members.count_in(members).checked_mul(usize::from(msgs)) {
-        Some(messages) => calls_below(calls, messages),
-        None => None,
-    }
 }
 
 impl<L: Layer, R: Rule> Relay<L, R> {
@@ -383,19 +363,16 @@ impl<L: Layer, R: Rule> Layer for Relay<L, R> {
     }
 
     fn prepare(&mut self, calls: usize) -> Result<Need, OutOfMemory> {
-        let Some(below) = calls_below(calls, self.entries.list.len()) else {
+        // A pair for each message and for each call.
+        let Some(once) = self.entries.list.len().checked_add(calls) else {
+            return Err(OutOfMemory);
+        };
+        let Some(below) = once.checked_add(calls) else {
             return Err(OutOfMemory);
         };
         self.entries.list.reserve(calls)?;
         let need = self.lower.prepare(below)?;
-        // A pair for each message and for each call.
-        let Some(ups) = need.ups.checked_add(below - calls) else {
-            return Err(OutOfMemory);
-        };
-        Ok(Need {
-            sends: need.sends,
-            ups,
-        })
+        need.with_ups(once)
     }
 
     fn prepare_whole(
@@ -404,21 +381,16 @@ impl<L: Layer, R: Rule> Layer for Relay<L, R> {
         msgs: u16,
         calls: usize,
     ) -> Result<Need, OutOfMemory> {
-        let Some(below) = whole_calls_below(members, msgs, calls) else {
+        let Some(once) = once_each(members, msgs, calls) else {
             return Err(OutOfMemory);
         };
-        // Once for each message and for each call.
-        let once = below - calls;
+        let Some(below) = once.checked_add(calls) else {
+            return Err(OutOfMemory);
+        };
         self.entries.list.reserve(once)?;
         self.entries.cover(members, msgs)?;
         let need = self.lower.prepare_whole(members, msgs, below)?;
-        let Some(ups) = need.ups.checked_add(once) else {
-            return Err(OutOfMemory);
-        };
-        Ok(Need {
-            sends: need.sends,
-            ups,
-        })
+        need.with_ups(once)
     }
 
     fn take(&mut self, call: Call, sends: &mut Vec<MsgId>, ups: &mut Vec<Up>) {

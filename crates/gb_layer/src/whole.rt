@@ -1,5 +1,5 @@
 //! A layer that took its memory once takes no more.
-ghost use Rattle.std.specs.Prelude.{◌≡◌, true, IfOk};
+ghost use Rattle.std.specs.Prelude.{◌≡◌, ◌+◌, true, IfOk, IfSome};
 ghost use Rattle.gb_layer.specs.Limit as limit;
 
 use crate::call::Call;
@@ -8,6 +8,17 @@ use crate::layer::Layer;
 use gb_types::memory::OutOfMemory;
 use gb_types::message::MsgId;
 use gb_types::node::NodeSet;
+
+/// One for each message of these members, numbered from 1 to `msgs`, and one for each of so many calls. None where
+/// there is no such number.
+pub fn once_each(members: &NodeSet, msgs: u16, calls: usize) -> Option<usize>
+    ensures { IfSome result (λ most. most ≡ limit.message_count (record { members = members.now; msgs = msgs; calls = calls }) + calls) }
+{
+    match members.count_in(members).checked_mul(usize::from(msgs)) {
+        Some(messages) => messages.checked_add(calls),
+        None => None,
+    }
+}
 
 /// Whether m is of one of these members, with a number from 1 to `msgs`.
 fn is_counted(members: &NodeSet, msgs: u16, m: MsgId) -> bool

@@ -1,7 +1,8 @@
 -- When a stack has room, and when it has all its memory.
 use Rattle.std.specs.Prelude.{ℕ}
 use Rattle.gb_layer.specs.BebMachine.{BebRoom, beb_need}
-use Rattle.gb_layer.specs.Limit.{Limit, Need}
+use Rattle.gb_layer.specs.declared.effects.Need.{Need}
+use Rattle.gb_layer.specs.Limit.{Limit}
 use Rattle.gb_layer.specs.RelayState as relay
 use Rattle.gb_fifo.specs.FifoRoom as fifo
 use Rattle.gb_stack.specs.declared.stack.Stack.{Stack}
@@ -21,18 +22,22 @@ abbrev pub stack_room : Stack → ℕ → ℕ → ℕ → Type 0
 stack_room (stack.Unordered l) = unordered_room l
 stack_room (stack.Fifo l) = fifo.HasRoom unordered_room l
 
--- what so many calls of a stack give at most, whichever its kind: no more than a relay over `Beb`
+-- what so many calls of a broadcast without an order need at most, whichever it is: no more than a relay over `Beb`
+abbrev pub unordered_need : Limit → Need
+unordered_need = relay.relay_need beb_need
+
+-- what so many calls of a stack need at most, whichever its kind: no more than a fifo over that
 abbrev pub stack_need : Limit → Need
-stack_need = relay.relay_need beb_need
+stack_need = fifo.fifo_need unordered_need
 
 -- a broadcast without an order has the memory for all calls within the limit
 abbrev pub unordered_whole : Unordered → Limit → Type 0
 unordered_whole (variant.BestEffort l) = λ _. Unit {0}
-unordered_whole (variant.Lazy l) = relay.IsWhole (λ _ _. Unit {0}) beb_need l
-unordered_whole (variant.Eager l) = relay.IsWhole (λ _ _. Unit {0}) beb_need l
-unordered_whole (variant.AllAck l) = relay.IsWhole (λ _ _. Unit {0}) beb_need l
+unordered_whole (variant.Lazy l) = relay.IsWhole (λ _ _. Unit {0}) l
+unordered_whole (variant.Eager l) = relay.IsWhole (λ _ _. Unit {0}) l
+unordered_whole (variant.AllAck l) = relay.IsWhole (λ _ _. Unit {0}) l
 
 -- a stack has the memory for all calls within the limit
 abbrev pub stack_whole : Stack → Limit → Type 0
 stack_whole (stack.Unordered l) = unordered_whole l
-stack_whole (stack.Fifo l) = fifo.IsWhole unordered_whole stack_need l
+stack_whole (stack.Fifo l) = fifo.IsWhole unordered_whole l

@@ -14,8 +14,9 @@ use crate::kinds::{broadcast_module, is_fifo};
 use crate::unordered::Unordered;
 use gb_fifo::fifo::Fifo;
 use gb_layer::call::Call;
-use gb_layer::effects::Up;
+use gb_layer::effects::{Need, Up};
 use gb_layer::layer::{Broadcast, Layer};
+use gb_layer::whole::once_each;
 use gb_types::kind::Kind;
 use gb_types::limits::NODES;
 use gb_types::memory::OutOfMemory;
@@ -139,29 +140,28 @@ impl Layer for Stack {
         }
     }
 
-    fn ready(
-        &mut self,
-        calls: usize,
-        sends: &mut Vec<MsgId>,
-        ups: &mut Vec<Up>,
-    ) -> Result<(), OutOfMemory> {
+    fn prepare(&mut self, calls: usize) -> Result<Need, OutOfMemory> {
         match self {
-            Stack::Unordered(layer) => layer.ready(calls, sends, ups),
-            Stack::Fifo(layer) => layer.ready(calls, sends, ups),
+            Stack::Unordered(layer) => layer.prepare(calls),
+            Stack::Fifo(layer) => layer.prepare(calls),
         }
     }
 
-    fn whole(
+    fn prepare_whole(
         &mut self,
         members: &NodeSet,
         msgs: u16,
         calls: usize,
-        sends: &mut Vec<MsgId>,
-        ups: &mut Vec<Up>,
-    ) -> Result<(), OutOfMemory> {
+    ) -> Result<Need, OutOfMemory> {
         match self {
-            Stack::Unordered(layer) => layer.whole(members, msgs, calls, sends, ups),
-            Stack::Fifo(layer) => layer.whole(members, msgs, calls, sends, ups),
+            Stack::Unordered(layer) => {
+                let Some(once) = once_each(members, msgs, calls) else {
+                    return Err(OutOfMemory);
+                };
+                let need = layer.prepare_whole(members, msgs, calls)?;
+                need.with_ups(once)
+            }
+            Stack::Fifo(layer) => layer.prepare_whole(members, msgs, calls),
         }
     }
 

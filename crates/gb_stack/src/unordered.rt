@@ -1,9 +1,8 @@
 //! The broadcasts that keep no order.
-ghost use Rattle.std.specs.Prelude.{◌≡◌, ◌≤◌, OnOk};
+ghost use Rattle.std.specs.Prelude.{◌≡◌, IfOk};
 ghost use Rattle.std.specs.FinSet as set;
-ghost use Rattle.gb_layer.specs.Room.{free};
 ghost use Rattle.gb_stack.specs.StackState.{UnorderedState, best_effort, lazy, eager, all_ack, unordered_next, unordered_gives, unordered_me, IsUntold, IsEmpty, unordered_noticing};
-ghost use Rattle.gb_stack.specs.StackRoom.{unordered_room, unordered_whole, stack_need};
+ghost use Rattle.gb_stack.specs.StackRoom.{unordered_room, unordered_whole, unordered_need};
 ghost use Rattle.gb_stack.specs.WholeLemmas.{unordered_whole_room};
 ghost use Rattle.gb_stack.specs.UnorderedLemmas.{unordered_roomier, unordered_me_stays, unordered_own, unordered_sends_handed_in, unordered_ups_handed_in, unordered_up_once, unordered_sent_once, unordered_noticed_once};
 ghost use Rattle.gb_stack.specs.declared.unordered.Unordered.TheVariants as variant;
@@ -12,9 +11,10 @@ use gb_layer::beb::Beb;
 use gb_layer::broadcast_module::BroadcastModule;
 use gb_layer::call::Call;
 use gb_layer::direct::Direct;
-use gb_layer::effects::Up;
+use gb_layer::effects::{Need, Up};
 use gb_layer::layer::{Broadcast, Layer};
 use gb_layer::relay::Relay;
+use gb_layer::whole::once_each;
 use gb_reliable::eager::{Eager, Eagerly};
 use gb_reliable::lazy::{Lazily, Lazy};
 use gb_types::memory::OutOfMemory;
@@ -54,26 +54,21 @@ impl Unordered {
     }
 }
 
-/// Makes room for all that so many calls within a limit give, of whichever broadcast.
-fn reserve_most(
-    members: &NodeSet,
-    msgs: u16,
-    calls: usize,
-    sends: &mut Vec<MsgId>,
-    ups: &mut Vec<Up>,
-) -> Result<(), OutOfMemory>
-    ensures sends { sends.new.items ≡ sends.old.items }
-    ensures ups { ups.new.items ≡ ups.old.items }
-    ensures free_sends { OnOk result ((stack_need (record { members = members.now; msgs = msgs; calls = calls })).sends ≤ free sends.new) }
-    ensures free_ups { OnOk result ((stack_need (record { members = members.now; msgs = msgs; calls = calls })).ups ≤ free ups.new) }
+/// The room that so many calls within a limit need at most, whichever the broadcast: as much as a relay's.
+fn most_of(members: &NodeSet, msgs: u16, calls: usize) -> Result<Need, OutOfMemory>
+    ensures { IfOk result (λ most. most ≡ unordered_need (record { members = members.now; msgs = msgs; calls = calls })) }
 {
-    let count = members.count_in(members);
-    let messages = count.checked_mul(usize::from(msgs)).ok_or(OutOfMemory)?;
-    let once = messages.checked_add(calls).ok_or(OutOfMemory)?;
-    let most = once.checked_add(calls).ok_or(OutOfMemory)?;
-    sends.reserve(most)?;
-    ups.reserve(once)?;
-    Ok(())
+    let Some(once) = once_each(members, msgs, calls) else {
+        return Err(OutOfMemory);
+    };
+    let Some(below) = once.checked_add(calls) else {
+        return Err(OutOfMemory);
+    };
+    let need = Need {
+        sends: below,
+        ups: below,
+    };
+    need.with_ups(once)
 }
 
 impl Layer for Unordered {
@@ -100,7 +95,7 @@ impl Layer for Unordered {
 
     ghost is_whole = { unordered_whole };
 
-    ghost need = { stack_need };
+    ghost need = { unordered_need };
 
     fn me(&self) -> NodeId {
         match self {
@@ -111,33 +106,26 @@ impl Layer for Unordered {
         }
     }
 
-    fn ready(
-        &mut self,
-        calls: usize,
-        sends: &mut Vec<MsgId>,
-        ups: &mut Vec<Up>,
-    ) -> Result<(), OutOfMemory> {
+    fn prepare(&mut self, calls: usize) -> Result<Need, OutOfMemory> {
         match self {
-            Unordered::BestEffort(layer) => layer.ready(calls, sends, ups),
-            Unordered::Lazy(layer) => layer.ready(calls, sends, ups),
-            Unordered::Eager(layer) => layer.ready(calls, sends, ups),
-            Unordered::AllAck(layer) => layer.ready(calls, sends, ups),
+            Unordered::BestEffort(layer) => layer.prepare(calls),
+            Unordered::Lazy(layer) => layer.prepare(calls),
+            Unordered::Eager(layer) => layer.prepare(calls),
+            Unordered::AllAck(layer) => layer.prepare(calls),
         }
     }
 
-    fn whole(
+    fn prepare_whole(
         &mut self,
         members: &NodeSet,
         msgs: u16,
         calls: usize,
-        sends: &mut Vec<MsgId>,
-        ups: &mut Vec<Up>,
-    ) -> Result<(), OutOfMemory> {
+    ) -> Result<Need, OutOfMemory> {
         match self {
-            Unordered::BestEffort(_) => reserve_most(members, msgs, calls, sends, ups),
-            Unordered::Lazy(layer) => layer.whole(members, msgs, calls, sends, ups),
-            Unordered::Eager(layer) => layer.whole(members, msgs, calls, sends, ups),
-            Unordered::AllAck(layer) => layer.whole(members, msgs, calls, sends, ups),
+            Unordered::BestEffort(_) => most_of(members, msgs, calls),
+            Unordered::Lazy(layer) => layer.prepare_whole(members, msgs, calls),
+            Unordered::Eager(layer) => layer.prepare_whole(members, msgs, calls),
+            Unordered::AllAck(layer) => layer.prepare_whole(members, msgs, calls),
         }
     }
 

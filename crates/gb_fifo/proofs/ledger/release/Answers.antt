@@ -36,5 +36,5 @@ loop-i-preserved c =
       room = (let a = c.give_next.ensures.room in let b = c.loop-i.invariant.room in omega (arith, a, b));
       capacity = c.give_next.ensures.capacity ∙ c.loop-i.invariant.capacity;
       len = c.give_next.ensures.len ∙ c.loop-i.invariant.len;
-      memory = (let a = c.give_next.ensures.memory in let b = c.loop-i.invariant.memory in omega (arith, a, b));
+      memory = c.give_next.ensures.memory ∙ c.loop-i.invariant.memory;
     }

@@ -12,5 +12,5 @@ invariant-loop-i l =
       room : free l.fn.ups + count_by is_ungiven l.ledger.list.items ≤ free l.ups + count_by is_ungiven l.fn.ledger.list.items;
       capacity : vec_capacity l.ledger.list ≡ vec_capacity l.fn.ledger.list;
       len : vec_len l.ledger.list ≡ vec_len l.fn.ledger.list;
-      memory : vec_capacity l.fn.ups ≤ vec_capacity l.ups;
+      memory : vec_capacity l.ups ≡ vec_capacity l.fn.ups;
     }

@@ -11,7 +11,7 @@ use Rattle.gb_layer.specs.RelayState.{limit_below}
 use Rattle.gb_layer.specs.WholeLemmas.{within_more, whole_kept}
 use Rattle.std.proofs.Common.{◌-◌, length, arith}
 use Rattle.gb_layer.specs.Room.{free}
-use Rattle.gb_layer.proofs.AsideLemmas.{from_place, came_behind, taken_off}
+use Rattle.gb_layer.proofs.AsideLemmas.{from_place, put_aside, taken_off}
 use Rattle.gb_layer.proofs.relay.Relay.call_lower.Goals as goal
 
 pub returns-clause-unsent : goal.returns-clause-unsent
@@ -45,7 +45,7 @@ returns-clause-state g c =
     let us = from_place c.len-first.result c.deref.result.now in
     let first = c.len-first.ensures in
     let ok = c.args.ups.now.ok.0 in
-    let came : us ≡ given = came_behind c.args.ups.now.items given c.deref.result.now c.len-first.result (c.deref.ensures.value ∙ c.take.ensures.ups) (omega (arith, first, ok)) in
+    let came : us ≡ given = put_aside c.args.ups.now.items given c.deref.result.now c.len-first.result (c.deref.ensures.value ∙ c.take.ensures.ups) (omega (arith, first, ok)) in
     let entries : c.take_in.new.ledger.list.items ≡ taken_in (L.me s) given r.entries.list.items =
     c.take_in.ensures.items
     ∙ (ap (λ (n : NodeId). taken_in n us r.entries.list.items) c.me-me.ensures ∙ ap (λ (us : List Up). taken_in (L.me s) us r.entries.list.items) came) in
