@@ -1,4 +1,4 @@
-use Rattle.std.proofs.Common.{◌≡◌, ◌+◌, length, count_by, vec_len, rules, arith}
+use Rattle.std.proofs.Common.{◌≡◌, ◌+◌, rules, arith}
 use Rattle.std.proofs.lemmas.List.Sums.{count_by-le-length}
 use Rattle.gb_layer.specs.declared.effects.Need.{Need}
 use Rattle.gb_layer.specs.RoomLemmas.{made_is}

@@ -1,8 +1,6 @@
-use Rattle.std.proofs.Common.{◌≡◌, ℕ, ◌+◌, ◌-◌, ◌≤◌, ◌++◌, List, length, length-append, drop, take, count_by, ap, ◌∙◌, sym, subst, rules, arith, vec_capacity, vec_len}
-use Rattle.gb_layer.specs.declared.effects.Up.{Up}
+use Rattle.std.proofs.Common.{◌≡◌, ◌+◌, ◌-◌, ◌++◌, length, length-append, drop, take, ap, ◌∙◌, sym, subst, arith}
 use Rattle.gb_layer.specs.Room.{free}
-use Rattle.gb_fifo.specs.declared.entry.Entry.{Entry}
-use Rattle.gb_fifo.specs.Entries.{noted_by, taken, taken_ups, is_ungiven}
+use Rattle.gb_fifo.specs.Entries.{noted_by, taken, taken_ups}
 use Rattle.gb_fifo.specs.EntryLemmas.{keys, keys_taken}
 use Rattle.gb_fifo.specs.WholeLemmas.{whole_kept}
 use Rattle.gb_layer.specs.Lists.{came_behind, stood_before}
@@ -45,10 +43,10 @@ returns-clause-meaning g c =
     let first = c.len-first.ensures in
     let gives : (L.gives (L.meaning c.note_call.new.self.lower) c.args.call).ups ≡ (L.gives (L.meaning c.args.self.now.lower) c.args.call).ups = ap (λ x. (L.gives (L.meaning x) c.args.call).ups) c.note_call.ensures.lower in
     let came : drop c.len-first.result c.take.new.ups.items ≡ (L.gives (L.meaning c.args.self.now.lower) c.args.call).ups =
-        came_behind c.args.ups.now.items _ c.take.new.ups.items c.len-first.result c.take.ensures.ups (omega (arith, ok, first)) ∙ gives in
+    came_behind c.args.ups.now.items _ c.take.new.ups.items c.len-first.result c.take.ensures.ups (omega (arith, ok, first)) ∙ gives in
     let lower : L.meaning c.take.new.self ≡ L.next (L.meaning c.args.self.now.lower) c.args.call = c.take.ensures.meaning ∙ ap (λ x. L.next (L.meaning x) c.args.call) c.note_call.ensures.lower in
     let entries : c.take_all.new.ledger.list.items ≡ taken (L.gives (L.meaning c.args.self.now.lower) c.args.call).ups (noted_by c.args.call c.args.self.now.entries.list.items) =
-        c.take_all.ensures.items ∙ (λ i. taken (came i) (c.note_call.ensures.items i)) in
+    c.take_all.ensures.items ∙ (λ i. taken (came i) (c.note_call.ensures.items i)) in
     λ i. record { lower = lower i; entries = entries i }
 
 pub returns-clause-sends : goal.returns-clause-sends
@@ -63,7 +61,7 @@ returns-clause-ups g c =
     let first = c.len-first.ensures in
     let gives : (L.gives (L.meaning c.note_call.new.self.lower) c.args.call).ups ≡ (L.gives (L.meaning c.args.self.now.lower) c.args.call).ups = ap (λ x. (L.gives (L.meaning x) c.args.call).ups) c.note_call.ensures.lower in
     let came : drop c.len-first.result c.take.new.ups.items ≡ (L.gives (L.meaning c.args.self.now.lower) c.args.call).ups =
-        came_behind c.args.ups.now.items _ c.take.new.ups.items c.len-first.result c.take.ensures.ups (omega (arith, ok, first)) ∙ gives in
+    came_behind c.args.ups.now.items _ c.take.new.ups.items c.len-first.result c.take.ensures.ups (omega (arith, ok, first)) ∙ gives in
     let before : take c.len-first.result c.take.new.ups.items ≡ c.args.ups.now.items = stood_before c.args.ups.now.items _ c.take.new.ups.items c.len-first.result c.take.ensures.ups (omega (arith, ok, first)) in
     c.take_all.ensures.ups ∙ (λ i. before i ++ taken_ups (came i) (c.note_call.ensures.items i))
 
@@ -74,7 +72,7 @@ returns-clause-room g c = λ n b room.
     let first = c.len-first.ensures in
     let gives : (L.gives (L.meaning c.note_call.new.self.lower) c.args.call).ups ≡ (L.gives (L.meaning c.args.self.now.lower) c.args.call).ups = ap (λ x. (L.gives (L.meaning x) c.args.call).ups) c.note_call.ensures.lower in
     let came : drop c.len-first.result c.take.new.ups.items ≡ (L.gives (L.meaning c.args.self.now.lower) c.args.call).ups =
-        came_behind c.args.ups.now.items _ c.take.new.ups.items c.len-first.result c.take.ensures.ups (omega (arith, ok, first)) ∙ gives in
+    came_behind c.args.ups.now.items _ c.take.new.ups.items c.len-first.result c.take.ensures.ups (omega (arith, ok, first)) ∙ gives in
     let ups = taken_ups (L.gives (L.meaning c.args.self.now.lower) c.args.call).ups (noted_by c.args.call c.args.self.now.entries.list.items) in
     let given : length (taken_ups (drop c.len-first.result c.take.new.ups.items) c.note_call.new.self.entries.list.items) ≡ length ups = λ i. length (taken_ups (came i) (c.note_call.ensures.items i)) in
     let few = c.take_all.ensures.given in

@@ -1,4 +1,4 @@
-use Rattle.std.proofs.Common.{rules, ap, arith}
+use Rattle.std.proofs.Common.{rules, ap}
 use Rattle.gb_types.proofs.BoolLemmas.{and_right}
 use Rattle.gb_layer.specs.EntryLemmas.{keys}
 use Rattle.gb_layer.specs.WholeLemmas.{whole_noted}

@@ -1,4 +1,4 @@
-use Rattle.std.proofs.Common.{arith, ◌≡◌, ◌+◌, vec_capacity, count_by, ap, ◌∙◌}
+use Rattle.std.proofs.Common.{arith, ◌≡◌, ◌+◌, count_by, ap, ◌∙◌}
 use Rattle.gb_layer.specs.Room.{free}
 use Rattle.gb_layer.specs.Relay.{is_unsent, noted}
 use Rattle.gb_layer.specs.RelayState.{unsent}

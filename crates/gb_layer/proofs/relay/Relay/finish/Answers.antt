@@ -35,7 +35,7 @@ returns-clause-given g c =
     let r = state_of L.meaning s in
     let few = handed_fewer R (L.me r.lower) r.members r.noticed r.entries in
     let new : count_by is_ungiven c.deliver_in.new.ledger.list.items ≡ count_by is_ungiven (map (handed (due_to_deliver R (L.me r.lower) r.members r.noticed)) r.entries) =
-        ap (count_by is_ungiven) (c.deliver_in.ensures.items ∙ ap (λ (me : NodeId). map (handed (due_to_deliver R me r.members r.noticed)) r.entries) c.me-me.ensures) in
+    ap (count_by is_ungiven) (c.deliver_in.ensures.items ∙ ap (λ (me : NodeId). map (handed (due_to_deliver R me r.members r.noticed)) r.entries) c.me-me.ensures) in
     let same : length (given_ups L.me R (relayed L.next L.gives L.me R (state_of L.meaning c.args.self.now))) ≡ length (given_ups L.me R r) = ap (λ (s : State L.State). length (given_ups L.me R s)) (sym c.relay_all.ensures.state) in
     let kept = c.relay_all.ensures.ungiven in
     omega (arith, few, new, same, kept)

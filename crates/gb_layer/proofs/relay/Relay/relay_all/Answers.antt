@@ -4,9 +4,7 @@ use Rattle.gb_types.specs.declared.message.MsgId.{MsgId}
 use Rattle.gb_layer.specs.Relay.{State, relay_if, relay_if_sends, relay_from, relay_from_sends}
 use Rattle.gb_layer.specs.RelayState.{state_of}
 use Rattle.gb_layer.proofs.PendingLemmas.{begins_at, ends_at, none_elsewhere}
-use Rattle.gb_layer.specs.Room.{free}
-use Rattle.gb_layer.specs.RelayState.{unsent}
-use Rattle.gb_layer.specs.RoomLemmas.{stays_itself, stays_then, stays_free}
+use Rattle.gb_layer.specs.RoomLemmas.{stays_itself, stays_then}
 use Rattle.gb_layer.proofs.relay.Relay.relay_all.Goals as goal
 
 pub loop-i-init : goal.loop-i-init

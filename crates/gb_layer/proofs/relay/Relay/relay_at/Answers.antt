@@ -1,4 +1,4 @@
-use Rattle.std.proofs.Common.{arith, ◌≡◌, ◌+◌, vec_capacity, count_by, map, ap, ◌∙◌}
+use Rattle.std.proofs.Common.{arith, ◌≡◌, ◌+◌, count_by, map, ap, ◌∙◌}
 use Rattle.gb_layer.specs.Room.{free}
 use Rattle.gb_layer.specs.Relay.{is_unsent, is_ungiven, marked_sent}
 use Rattle.gb_layer.specs.RelayState.{unsent}
@@ -12,7 +12,6 @@ use Rattle.gb_layer.specs.declared.entries.Entry.{Entry}
 use Rattle.gb_layer.specs.Places.{StandsAmong}
 use Rattle.gb_layer.specs.Pending.{is_pending}
 use Rattle.gb_layer.proofs.PendingLemmas.{pending_marked}
-use Rattle.gb_layer.specs.RoomLemmas.{stays_itself}
 use Rattle.gb_layer.proofs.relay.Relay.relay_at.Goals as goal
 
 pub call_lower-requires : goal.call_lower-requires

@@ -1,4 +1,4 @@
-use Rattle.std.proofs.Common.{◌≡◌, ◌+◌, length, count_by, vec_len, rules, arith}
+use Rattle.std.proofs.Common.{◌≡◌, ◌+◌, count_by, rules, arith}
 use Rattle.std.proofs.lemmas.List.Sums.{count_by-le-length}
 use Rattle.gb_layer.specs.declared.effects.Need.{Need}
 use Rattle.gb_layer.specs.Relay.{is_unsent, is_ungiven}

@@ -57,7 +57,7 @@ returns-then-not-repeats-clause-room g c = λ n b room.
     let new : is_repeat st c.args.call ≡ false = sym c.repeats.ensures ∙ c.if-not-repeats.true in
     let ups = given_ups L.me R (relayed L.next L.gives L.me R (begun L.next L.gives L.me st c.args.call)) in
     let gives : length (relay_gives L.next L.gives L.me R st c.args.call).ups ≡ length ups =
-        ap (λ (b : Bool). length (cond b nothing (record { sends = begun_sends L.next L.gives L.me st c.args.call ++ relayed_sends L.next L.gives L.me R (begun L.next L.gives L.me st c.args.call); ups = ups })).ups) new in
+    ap (λ (b : Bool). length (cond b nothing (record { sends = begun_sends L.next L.gives L.me st c.args.call ++ relayed_sends L.next L.gives L.me R (begun L.next L.gives L.me st c.args.call); ups = ups })).ups) new in
     let given : length ups ≡ length (given_ups L.me R (relayed L.next L.gives L.me R (state_of L.meaning c.begin.new.self))) = ap (λ (s : State L.State). length (given_ups L.me R (relayed L.next L.gives L.me R s))) (sym c.begin.ensures.state) in
     let f = c.finish.ensures.given in
     let u = c.begin.ensures.ungiven in
