@@ -17,5 +17,6 @@ pub mod MemberLemmas
 pub mod NotedLemmas
 pub mod CoveredLemmas
 pub mod DropLemmas
+pub mod LentLemmas
 pub mod OneGroupLemmas
 pub mod ShortLemmas

@@ -21,7 +21,8 @@ use Rattle.gb_groups.specs.Slots.{slot_under, row_of, place_at, AreKept}
 abbrev pub no_entry_at : Addr × Place
 no_entry_at = record { 0 = record { tenant = 0; group = 0 }; 1 = Gone }
 
-some_within : (slots : Slab SlotState) (k : ℕ) (v : SlotState) → Some v ≡ get slots k → k < length slots.slots
+-- a slot that is there stands within the slab
+pub some_within : (slots : Slab SlotState) (k : ℕ) (v : SlotState) → Some v ≡ get slots k → k < length slots.slots
 some_within slots k v e =
     elim (cases_lt k (length slots.slots)) [
       | inl h ↦ h

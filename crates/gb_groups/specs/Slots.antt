@@ -1,7 +1,9 @@
 -- How the groups of a node are kept: a map from addresses to keys, in order, and slots under keys.
-use Rattle.std.specs.Prelude.{ℕ, ◌≡◌, List, map, Option, None, IsSome, slice_index_or}
+use Rattle.std.specs.Prelude.{ℕ, ◌≡◌, List, map, Option, None, Some, IsSome, slice_index_or}
 use Rattle.slab.specs.Slab.{Slab, get}
 use Rattle.gb_types.specs.declared.address.Addr.{Addr}
+use Rattle.gb_layer.specs.declared.effects.Effects.{Effects}
+use Rattle.gb_slot.specs.Effects.{AreReady, IsEmpty}
 use Rattle.gb_slot.specs.SlotState.{SlotState}
 use Rattle.gb_groups.specs.declared.slots.Place.{Place}
 use Rattle.gb_groups.specs.declared.slots.Place.TheVariants.{Key, Gone}
@@ -29,3 +31,8 @@ pub record AreKept (entries : List (Addr × Place)) (slots : Slab SlotState) : T
   pub counters : HaveCounters (map (row_of slots) entries)
   pub short : AreShort (map (row_of slots) entries)
   pub apart : AreApart (map (row_of slots) entries)
+
+-- the lists that are lent are empty, and ready for each slot
+pub record AreLent (slots : Slab SlotState) (out : Effects) : Type 0 where
+  pub empty : IsEmpty out
+  pub ready : (k : ℕ) (s : SlotState) → get slots k ≡ Some s → AreReady s.spec out

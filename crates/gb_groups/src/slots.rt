@@ -13,6 +13,7 @@ ghost use Rattle.gb_groups.specs.Packing.{queue, queues, first_entry, took, item
 ghost use Rattle.gb_groups.specs.Slots.{place_at};
 
 use gb_frame::item::{ItemView, put_item};
+use gb_layer::effects::Effects;
 use gb_slot::slot::Slot;
 use gb_types::address::Addr;
 use gb_types::entry::Entries;
@@ -39,6 +40,8 @@ enum Place {
 pub struct Slots {
     places: IndexMap<Addr, Place>,
     slots: Slab<Slot>,
+    /// What one call of a group's broadcast gives. It is lent to the group, and emptied by the call.
+    effects: Effects,
 }
 
 impl Model for Slots {
@@ -51,11 +54,11 @@ impl Model for Slots {
 
     ghost coded = { Prim.hlevel (codes, set.code {R = nat_cmp} coded_ℕ) };
 
-    ghost use Rattle.gb_groups.specs.Slots.{slots_of, AreKept};
+    ghost use Rattle.gb_groups.specs.Slots.{slots_of, AreKept, AreLent};
 
     ghost view = { λ g. slots_of g.places.entries g.slots };
 
-    ghost invariant = { λ g. AreKept g.places.entries g.slots };
+    ghost invariant = { λ g. AreKept g.places.entries g.slots × AreLent g.slots g.effects };
 }
 
 /// The key of the slot of the group at a place, unless it was dropped.
@@ -76,6 +79,7 @@ impl Slots {
         Slots {
             places: IndexMap::new(alloc),
             slots: Slab::new(alloc),
+            effects: Effects::new(alloc),
         }
     }
 
@@ -174,7 +178,7 @@ impl Slots {
     {
         if let Some(key) = key_at(&self.places, place) {
             if let Some(slot) = self.slots.get_mut(key) {
-                return slot.came(from, origin, seq, payload);
+                return slot.came(from, origin, seq, payload, &mut self.effects);
             }
         }
         true
@@ -197,7 +201,7 @@ impl Slots {
     {
         if let Some(key) = key_at(&self.places, place) {
             if let Some(slot) = self.slots.get_mut(key) {
-                slot.notice(who);
+                slot.notice(who, &mut self.effects);
             }
         }
     }
@@ -235,7 +239,7 @@ impl Slots {
     {
         if let Some(key) = key_at(&self.places, place) {
             if let Some(slot) = self.slots.get_mut(key) {
-                return said(slot.say(payload));
+                return said(slot.say(payload, &mut self.effects));
             }
         }
         Reply::Refused(Refusal::Spent)
@@ -286,7 +290,7 @@ impl Slots {
     {
         self.places.reserve(1)?;
         self.slots.reserve(1)?;
-        let Ok(slot) = Slot::new(alloc, spec.duplicate(), me, noticed) else {
+        let Ok(slot) = Slot::new(alloc, spec.duplicate(), me, noticed, &mut self.effects) else {
             return Err(OutOfMemory);
         };
         let key = self.slots.insert_reserved(slot);

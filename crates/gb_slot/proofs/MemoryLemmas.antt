@@ -1,5 +1,5 @@
 -- What a slot took when it was made is enough for each call.
-use Rattle.std.proofs.Common.{◌≡◌, ℕ, Bool, false, ◌&&◌, ◌*◌, ◌+◌, ◌≤◌, ◌<◌, List, [], ◌∷◌, ◌++◌, length, refl, sym, ◌∙◌, ap, arith, length-append, vec_len, vec_capacity}
+use Rattle.std.proofs.Common.{◌≡◌, ℕ, Bool, false, ◌&&◌, ◌*◌, ◌+◌, ◌≤◌, ◌<◌, List, [], ◌∷◌, ◌++◌, length, refl, sym, ◌∙◌, ap, subst, arith, length-append, vec_len, vec_capacity}
 use Rattle.std.specs.Prelude.{slice_index_or, if◌then◌else◌}
 use Rattle.std.specs.FinSet as set
 use Rattle.std.proofs.lemmas.List.{length-map}
@@ -14,7 +14,8 @@ use Rattle.gb_types.specs.declared.message.MsgId.{MsgId}
 use Rattle.gb_types.specs.declared.node.NodeId.{NodeId}
 use Rattle.gb_types.specs.declared.reply.Reply.TheVariants.{Said}
 use Rattle.gb_layer.specs.Machine.{messages}
-use Rattle.gb_slot.specs.Effects.{free_sends, free_ups}
+use Rattle.gb_slot.specs.Effects.{AreReady, free_sends, free_ups}
+use Rattle.gb_layer.specs.declared.effects.Effects.{Effects}
 use Rattle.gb_layer.specs.declared.effects.Up.{Up}
 use Rattle.gb_stack.specs.StackRoom.{stack_room}
 use Rattle.gb_stack.specs.WholeLemmas.{stack_whole_room}
@@ -45,9 +46,11 @@ still_enough was more = omega arith
 pub as_much : {need had has : ℕ} → need ≤ had → has ≡ had → need ≤ has
 as_much was same = omega arith
 
--- the broadcast has room for a call
-pub room_for_call : (s : Inside) → HasMemory s → stack_room s.stack (free_sends s.effects) (free_ups s.effects) 1
-room_for_call s m = stack_whole_room s.stack (limit_of s.spec) (free_sends s.effects) (free_ups s.effects) m.stack m.sends m.ups
+-- the broadcast has room for a call, where the lists that are lent are ready
+pub room_for_call : (s : Inside) (now : SlotState) (out : Effects) → held s ≡ now → HasMemory s → AreReady now.spec out → stack_room s.stack (free_sends out) (free_ups out) 1
+room_for_call s now out view m r =
+    let ready : AreReady s.spec out = subst (λ (v : SlotState). AreReady v.spec out) (sym view) r in
+    stack_whole_room s.stack (limit_of s.spec) (free_sends out) (free_ups out) m.stack ready.sends ready.ups
 
 -- what comes up has its places in the log
 pub places_in_log : (s : Inside) (next : SlotState) (ups : List Up) → HasMemory s → IsReached next → most_messages next.spec ≡ most_messages s.spec → next.log ≡ s.log.items ++ messages ups → vec_len s.log + length ups ≤ vec_capacity s.log

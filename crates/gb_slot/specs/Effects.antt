@@ -1,7 +1,10 @@
 -- What a call of the broadcast gave is taken at once.
-use Rattle.std.specs.Prelude.{◌≡◌, ℕ, []}
+use Rattle.std.specs.Prelude.{◌≡◌, ◌≤◌, ℕ, []}
+use Rattle.gb_types.specs.declared.spec.Spec.{Spec}
 use Rattle.gb_layer.specs.declared.effects.Effects.{Effects}
 use Rattle.gb_layer.specs.Room.{free}
+use Rattle.gb_stack.specs.StackRoom.{stack_need}
+use Rattle.gb_slot.specs.Reached.{limit_of}
 
 -- nothing is left to take
 pub record IsEmpty (out : Effects) : Type 0 where
@@ -15,3 +18,15 @@ free_sends out = free out.sends
 -- how many more pairs fit into the memory that is there
 abbrev pub free_ups : Effects → ℕ
 free_ups out = free out.ups
+
+-- the lists are empty, and have the memory for what any call of a group with this spec gives
+pub record AreReady (spec : Spec) (out : Effects) : Type 0 where
+  pub empty : IsEmpty out
+  pub sends : (stack_need (limit_of spec)).sends ≤ free_sends out
+  pub ups : (stack_need (limit_of spec)).ups ≤ free_ups out
+
+-- the lists are empty, and have no less memory than before
+pub record AreEmptied (before after : Effects) : Type 0 where
+  pub empty : IsEmpty after
+  pub sends : free_sends before ≤ free_sends after
+  pub ups : free_ups before ≤ free_ups after

@@ -7,5 +7,6 @@ pub mod StandsFor
 pub mod HistoryLaws
 pub mod Reached
 pub mod Effects
+pub mod SpecLemmas
 pub mod Outgoing
 pub mod Representation

@@ -1,8 +1,7 @@
 -- How a slot keeps its state, in memory that was taken when it was made.
 use Rattle.std.specs.Prelude.{◌≤◌, vec_capacity}
-use Rattle.gb_stack.specs.StackRoom.{stack_need, stack_whole}
+use Rattle.gb_stack.specs.StackRoom.{stack_whole}
 use Rattle.gb_stack.specs.StackState.{StackState}
-use Rattle.gb_slot.specs.Effects.{IsEmpty, free_sends, free_ups}
 use Rattle.gb_slot.specs.Outgoing.{put_messages}
 use Rattle.gb_slot.specs.Reached.{limit_of, most_messages, most_bytes}
 use Rattle.gb_slot.specs.SlotState.{SlotState}
@@ -25,12 +24,9 @@ state_of stack s = record {
   acknowledged = s.acknowledged.items;
 }
 
--- all calls that are to come find their memory
+-- all calls that are to come find the memory that the group has alone
 pub record HasMemory (s : Inside) : Type 0 where
   pub stack : stack_whole s.stack (limit_of s.spec)
-  pub empty : IsEmpty s.effects
-  pub sends : (stack_need (limit_of s.spec)).sends ≤ free_sends s.effects
-  pub ups : (stack_need (limit_of s.spec)).ups ≤ free_ups s.effects
   pub log : most_messages s.spec ≤ vec_capacity s.log
   pub outgoing : most_messages s.spec ≤ vec_capacity s.outgoing
   pub places : most_messages s.spec ≤ s.store.places

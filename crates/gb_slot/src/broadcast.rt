@@ -4,7 +4,7 @@ ghost use Rattle.gb_layer.specs.Limit.{Limit, is_within};
 ghost use Rattle.gb_layer.specs.Machine.{messages};
 ghost use Rattle.gb_types.specs.Entry.{message_of};
 ghost use Rattle.gb_history.specs.Messages.{has};
-ghost use Rattle.gb_slot.specs.Effects.{IsEmpty, free_sends, free_ups};
+ghost use Rattle.gb_slot.specs.Effects.{AreEmptied, IsEmpty, free_sends, free_ups};
 ghost use Rattle.gb_slot.specs.Outgoing.{put_messages};
 ghost use Rattle.gb_stack.specs.StackRoom.{stack_room, stack_whole};
 ghost use Rattle.gb_stack.specs.StackState.{stack_next, stack_gives};
@@ -76,13 +76,24 @@ pub(crate) fn take_call(
     ensures log { log.new.items ≡ log.old.items ++ messages (stack_gives (⟦<Stack as Layer>⟧.meaning stack.old) call).ups }
     ensures outgoing { put_messages outgoing.new.items ≡ put_messages outgoing.old.items ++ (stack_gives (⟦<Stack as Layer>⟧.meaning stack.old) call).sends }
     ensures whole { (l : Limit) → stack_whole stack.old l → is_within l call ≡ true → stack_whole stack.new l }
-    ensures empty { IsEmpty effects.new }
-    ensures free_sends { free_sends effects.old ≤ free_sends effects.new }
-    ensures free_ups { free_ups effects.old ≤ free_ups effects.new }
+    ensures effects { AreEmptied effects.old effects.new }
     ensures log_memory { vec_capacity log.new ≡ vec_capacity log.old }
     ensures outgoing_memory { vec_capacity outgoing.new ≡ vec_capacity outgoing.old }
 {
     stack.take(call, &mut effects.sends, &mut effects.ups);
     put_out(outgoing, &mut effects.sends, store);
     write_log(log, &mut effects.ups);
+}
+
+/// Of two empty lists the one with more memory is kept.
+pub(crate) fn keep_roomier<T: Drop>(kept: &mut Vec<T>, other: Vec<T>)
+    requires kept { kept.old.items ≡ [] }
+    requires other { other.items ≡ [] }
+    ensures empty { kept.new.items ≡ [] }
+    ensures before { vec_capacity kept.old ≤ vec_capacity kept.new }
+    ensures other { vec_capacity other ≤ vec_capacity kept.new }
+{
+    if kept.capacity() < other.capacity() {
+        *kept = other;
+    }
 }

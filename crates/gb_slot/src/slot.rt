@@ -2,17 +2,17 @@
 ghost use Rattle.std.specs.Prelude.{◌≡◌, ℕ, false, ◌≢◌, OnErr, OnOk, ◌≤◌, ◌<◌, ◌&&◌, not, List, [], ◌∷◌, Some, take, drop, map, slice_get, length, IfOk, MatchOption, true, IsOkUnless, vec_capacity};
 ghost use Rattle.std.specs.FinSet as set;
 ghost use Rattle.gb_types.specs.declared.entry.Entry.{Entry as EntryValue};
-ghost use Rattle.gb_stack.specs.StackRoom.{stack_need, stack_whole};
+ghost use Rattle.gb_stack.specs.StackRoom.{stack_whole};
 ghost use Rattle.gb_stack.specs.StackState.{new_stack};
 ghost use Rattle.gb_stack.specs.Stands.{HasStarted};
 ghost use Rattle.gb_history.specs.Messages.{entry_in};
 ghost use Rattle.gb_rules.specs.Replied.{done_reply, said_reply, log_reply, IsReply};
 ghost use Rattle.gb_rules.specs.Group.{is_gone, is_member, is_other, open_answer, shut_answer, say_answer, fetch_answer};
-ghost use Rattle.gb_slot.specs.Effects.{IsEmpty, free_sends, free_ups};
+ghost use Rattle.gb_slot.specs.Effects.{AreEmptied, AreReady, IsEmpty};
 ghost use Rattle.gb_slot.specs.Reached.{limit_of, most_bytes, most_messages};
 ghost use Rattle.gb_slot.specs.Slot.{IsWithinLimits};
 
-use crate::broadcast::take_call;
+use crate::broadcast::{keep_roomier, take_call};
 use crate::put_out::PutOut;
 use crate::store::Store;
 use crate::window::{acknowledge, add_said, count_unfinished};
@@ -35,7 +35,8 @@ use std::alloc::Global;
 use std::marker::Model;
 
 /// One group at one node. Contracts see its state. All its memory is taken when it is made: no call but `new` and
-/// `fetch`, whose answer is built anew, takes memory.
+/// `fetch`, whose answer is built anew, takes memory. The lists in which a call of the broadcast gives what it gives are
+/// lent by the caller, and emptied by each call.
 #[derive(Drop)]
 pub struct Slot {
     alloc: Global,
@@ -44,8 +45,6 @@ pub struct Slot {
     phase: Phase,
     noticed: NodeSet,
     stack: Stack,
-    /// What one call of the broadcast gives. It is emptied after each.
-    effects: Effects,
     /// All that was delivered, in order.
     log: Vec<MsgId>,
     /// All that was broadcast, in order.
@@ -87,35 +86,52 @@ impl Slot {
     /// A group that was just made at the node `me`, one of its members, which has noticed these nodes. What is
     /// broadcast is put out to the other members.
     ///
-    /// All memory that the group ever needs is taken here. With n members, each of whom says `msgs` messages with
-    /// `bytes` payload bytes in all at most, this is n * `bytes` payload bytes; 32 bytes for each of the n * `msgs`
-    /// messages (12 in the store, 4 in the log, 6 in what is put out, 10 in what a call of the broadcast gives), 14 more
-    /// where the broadcast relays, and 12 more in first-in first-out order; 2 bytes for each of `msgs` own messages,
-    /// for the nodes that have it for good; and tables by which messages are found, of 2 * `msgs` bytes for each node
-    /// up to the last member: one, one more where the broadcast relays, and one more in first-in first-out order.
-    /// OutOfMemory where it is not there.
-    pub fn new(alloc: Global, spec: Spec, me: NodeId, noticed: &NodeSet) -> Result<Slot, Refusal>
+    /// All memory that the group alone ever needs is taken here. With n members, each of whom says `msgs` messages with
+    /// `bytes` payload bytes in all at most, this is n * `bytes` payload bytes; 22 bytes for each of the n * `msgs`
+    /// messages (12 in the store, 4 in the log, 6 in what is put out), 8 more where the broadcast relays, and 6 more in
+    /// first-in first-out order; 2 bytes for each of `msgs` own messages, for the nodes that have it for good; and tables
+    /// by which messages are found, of 2 * `msgs` bytes for each node up to the last member: one, one more where the
+    /// broadcast relays, and one more in first-in first-out order. The lists get room for what a call of the group gives,
+    /// 4 and 6 bytes for each message, which all groups to which they are lent share. OutOfMemory where it is not there.
+    pub fn new(
+        alloc: Global,
+        spec: Spec,
+        me: NodeId,
+        noticed: &NodeSet,
+        effects: &mut Effects,
+    ) -> Result<Slot, Refusal>
         requires limits { IsWithinLimits spec }
         requires member { is_member spec me.number ≡ true }
+        requires empty { IsEmpty effects.old }
         ensures ok { IfOk result (λ s. s ≡ new_slot spec me noticed.now) }
         ensures err { IsOkUnless result Refusal.OutOfMemory }
+        ensures ready { OnOk result (AreReady spec effects.new) }
+        ensures effects { AreEmptied effects.old effects.new }
     {
-        match Slot::make(alloc, spec, me, noticed) {
+        match Slot::make(alloc, spec, me, noticed, effects) {
             Ok(slot) => Ok(slot),
             Err(_) => Err(Refusal::OutOfMemory),
         }
     }
 
     /// The group, with all its memory.
-    fn make(alloc: Global, spec: Spec, me: NodeId, noticed: &NodeSet) -> Result<Slot, OutOfMemory>
+    fn make(
+        alloc: Global,
+        spec: Spec,
+        me: NodeId,
+        noticed: &NodeSet,
+        effects: &mut Effects,
+    ) -> Result<Slot, OutOfMemory>
         requires limits { IsWithinLimits spec }
         requires member { is_member spec me.number ≡ true }
-        ensures { IfOk result (λ s. s ≡ new_slot spec me noticed.now) }
+        requires empty { IsEmpty effects.old }
+        ensures ok { IfOk result (λ s. s ≡ new_slot spec me noticed.now) }
+        ensures ready { OnOk result (AreReady spec effects.new) }
+        ensures effects { AreEmptied effects.old effects.new }
     {
         // The proof reads that only nodes were noticed.
         let _ = noticed.nodes();
-        let mut effects = Effects::new(alloc);
-        let stack = broadcast(alloc, &spec, me, noticed, &mut effects)?;
+        let stack = broadcast(alloc, &spec, me, noticed, effects)?;
         let (store, log, outgoing, acknowledged) = memory(alloc, &spec)?;
         Ok(Slot {
             alloc,
@@ -124,7 +140,6 @@ impl Slot {
             phase: Phase::Made,
             noticed: noticed.duplicate(),
             stack,
-            effects,
             log,
             outgoing,
             store,
@@ -171,10 +186,12 @@ impl Slot {
     /// Broadcasts a payload, and gives its number here. WrongPhase where the group is not open, TooLong above
     /// 1,024 bytes, Budget where all messages are said, Bytes where the payload's bytes would be too many in
     /// all, Window where too many messages are unfinished, in this order. Takes no memory.
-    pub fn say(&mut self, payload: &[u8]) -> Result<u16, Refusal>
+    pub fn say(&mut self, payload: &[u8], effects: &mut Effects) -> Result<u16, Refusal>
+        requires ready { AreReady self.old.spec effects.old }
         ensures answer { said_reply result ≡ say_answer (shown self.old) payload.now }
         ensures present { is_gone self.old.phase ≡ false }
         ensures state { self.new ≡ slot_said payload.now (said_reply result) self.old }
+        ensures effects { AreEmptied effects.old effects.new }
     {
         if let Err(why) = check_say(&self.spec, self.phase, self.usage(), payload) {
             return Err(why);
@@ -188,7 +205,7 @@ impl Slot {
         take_call(
             &mut self.stack,
             Call::Say(m),
-            &mut self.effects,
+            effects,
             &mut self.log,
             &mut self.outgoing,
             &self.store,
@@ -208,9 +225,18 @@ impl Slot {
 
     /// Takes an item that came from a node: it is let fall, or the broadcast takes it. Says whether something was put out;
     /// where nothing was, as many items wait for each node as before. Takes no memory.
-    pub fn came(&mut self, from: NodeId, origin: NodeId, seq: u16, payload: &[u8]) -> bool
+    pub fn came(
+        &mut self,
+        from: NodeId,
+        origin: NodeId,
+        seq: u16,
+        payload: &[u8],
+        effects: &mut Effects,
+    ) -> bool
+        requires ready { AreReady self.old.spec effects.old }
         ensures state { self.new ≡ slot_came from (record { origin = origin; seq = seq; payload = payload.now }) self.old }
         ensures quiet { result ≡ false → (dest : ℕ) → length (waiting self.new dest) ≡ length (waiting self.old dest) }
+        ensures effects { AreEmptied effects.old effects.new }
     {
         // (the tables cover the members' messages alone)
         if !self.spec.members.contains(origin) {
@@ -227,7 +253,7 @@ impl Slot {
         take_call(
             &mut self.stack,
             Call::Came(from, m),
-            &mut self.effects,
+            effects,
             &mut self.log,
             &mut self.outgoing,
             &self.store,
@@ -237,8 +263,10 @@ impl Slot {
 
     /// Takes note that a node is noticed to have crashed. Nothing waits for it from then on. A node that is no
     /// other member changes nothing. Takes no memory.
-    pub fn notice(&mut self, who: NodeId)
+    pub fn notice(&mut self, who: NodeId, effects: &mut Effects)
+        requires ready { AreReady self.old.spec effects.old }
         ensures state { self.new ≡ slot_noticed who self.old }
+        ensures effects { AreEmptied effects.old effects.new }
     {
         if !self.spec.members.contains(who) || who == self.me {
             return;
@@ -248,7 +276,7 @@ impl Slot {
         take_call(
             &mut self.stack,
             Call::Notice(who),
-            &mut self.effects,
+            effects,
             &mut self.log,
             &mut self.outgoing,
             &self.store,
@@ -300,13 +328,6 @@ impl Slot {
         ensures { result.now ≡ self.now.spec.members }
     {
         &self.spec.members
-    }
-
-    /// Whether the node is a member other than this one.
-    pub fn has_other(&self, node: NodeId) -> bool
-        ensures { result ≡ is_other self.now.spec self.now.me.number node.number }
-    {
-        self.spec.members.contains(node) && node != self.me
     }
 
     /// Whether items are put out to the node: it is another member, and was not noticed.
@@ -368,8 +389,9 @@ impl Slot {
     }
 }
 
-/// The broadcast of a group at the node `me`, which has noticed these nodes. It and what takes what a call of it gives
-/// have all their memory.
+/// The broadcast of a group at the node `me`, which has noticed these nodes. It has all its memory, and the lists have
+/// the memory for what a call of it gives: each list is the one that the broadcast gets, or was before, whichever has
+/// more room.
 fn broadcast(
     alloc: Global,
     spec: &Spec,
@@ -377,22 +399,20 @@ fn broadcast(
     noticed: &NodeSet,
     effects: &mut Effects,
 ) -> Result<Stack, OutOfMemory>
-    requires { IsWithinLimits spec.now }
+    requires limits { IsWithinLimits spec.now }
+    requires empty { IsEmpty effects.old }
     ensures meaning { IfOk result (λ s. ⟦<Stack as Layer>⟧.meaning s ≡ new_stack spec.now.kind me spec.now.members noticed.now) }
     ensures started { IfOk result (λ s. HasStarted me spec.now.members noticed.now (⟦<Stack as Layer>⟧.meaning s)) }
     ensures whole { IfOk result (λ s. stack_whole s (limit_of spec.now)) }
-    ensures empty { IsEmpty effects.old → IsEmpty effects.new }
-    ensures sends { OnOk result ((stack_need (limit_of spec.now)).sends ≤ free_sends effects.new) }
-    ensures ups { OnOk result ((stack_need (limit_of spec.now)).ups ≤ free_ups effects.new) }
+    ensures ready { OnOk result (AreReady spec.now effects.new) }
+    ensures effects { AreEmptied effects.old effects.new }
 {
     let mut stack = Stack::new(alloc, spec, me, noticed)?;
-    stack.whole(
-        &spec.members,
-        spec.msgs as u16,
-        1,
-        &mut effects.sends,
-        &mut effects.ups,
-    )?;
+    let mut sends = Vec::new(alloc);
+    let mut ups = Vec::new(alloc);
+    stack.whole(&spec.members, spec.msgs as u16, 1, &mut sends, &mut ups)?;
+    keep_roomier(&mut effects.sends, sends);
+    keep_roomier(&mut effects.ups, ups);
     Ok(stack)
 }
 

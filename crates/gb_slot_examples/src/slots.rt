@@ -1,5 +1,9 @@
 //! One group at one node.
+ghost use Rattle.std.specs.Prelude.{IfOk};
+ghost use Rattle.gb_slot.specs.Effects.{AreReady, IsEmpty};
+
 use crate::steps::{FRIEND, ME, OTHER, STRANGER, Step, compare, node};
+use gb_layer::effects::Effects;
 use gb_slot::slot::Slot;
 use gb_types::kind::Kind;
 use gb_types::node::NodeSet;
@@ -41,7 +45,16 @@ const SMALL: Limits = Limits {
 };
 
 /// A group of three members at one of them. The other may be noticed before it is made.
-fn group(alloc: Global, kind: Kind, limits: Limits, noticed: bool) -> Result<Slot, Refusal> {
+fn group(
+    alloc: Global,
+    kind: Kind,
+    limits: Limits,
+    noticed: bool,
+    effects: &mut Effects,
+) -> Result<Slot, Refusal>
+    requires { IsEmpty effects.old }
+    ensures { IfOk result (λ s. AreReady s.spec effects.new) }
+{
     let me = node(ME);
     let mut members = NodeSet::new();
     members.insert(node(FRIEND));
@@ -66,7 +79,7 @@ fn group(alloc: Global, kind: Kind, limits: Limits, noticed: bool) -> Result<Slo
         bytes,
         window,
     };
-    Slot::new(alloc, spec, me, &seen)
+    Slot::new(alloc, spec, me, &seen, effects)
 }
 
 /// Each call of a group of this kind answers what it must.
@@ -77,8 +90,9 @@ fn run(
     limits: Limits,
     steps: &[Step],
 ) -> Result<(), Fail> {
-    let mut slot = group(alloc, kind, limits, false)?;
-    compare(rt, &mut slot, steps);
+    let mut effects = Effects::new(alloc);
+    let mut slot = group(alloc, kind, limits, false, &mut effects)?;
+    compare(rt, &mut slot, &mut effects, steps);
     Ok(())
 }
 
@@ -178,8 +192,14 @@ const NOTHING_WAITS_FOR_A_NODE_THAT_WAS_NOTICED: &[Step] = &[
 
 #[test]
 fn nothing_waits_for_a_node_that_was_noticed(rt: HostRuntime) -> Result<(), Fail> {
-    let mut slot = group(rt.alloc(), Kind::Beb, WIDE, true)?;
-    compare(&rt, &mut slot, NOTHING_WAITS_FOR_A_NODE_THAT_WAS_NOTICED);
+    let mut effects = Effects::new(rt.alloc());
+    let mut slot = group(rt.alloc(), Kind::Beb, WIDE, true, &mut effects)?;
+    compare(
+        &rt,
+        &mut slot,
+        &mut effects,
+        NOTHING_WAITS_FOR_A_NODE_THAT_WAS_NOTICED,
+    );
     Ok(())
 }
 
@@ -314,9 +334,20 @@ const BEST_EFFORT_TAKES_RELAYED_COPIES_IN_2: &[Step] = &[
 
 #[test]
 fn best_effort_takes_relayed_copies_in(rt: HostRuntime) -> Result<(), Fail> {
-    let mut slot = group(rt.alloc(), Kind::Beb, WIDE, false)?;
-    compare(&rt, &mut slot, BEST_EFFORT_TAKES_RELAYED_COPIES_IN);
-    compare(&rt, &mut slot, BEST_EFFORT_TAKES_RELAYED_COPIES_IN_2);
+    let mut effects = Effects::new(rt.alloc());
+    let mut slot = group(rt.alloc(), Kind::Beb, WIDE, false, &mut effects)?;
+    compare(
+        &rt,
+        &mut slot,
+        &mut effects,
+        BEST_EFFORT_TAKES_RELAYED_COPIES_IN,
+    );
+    compare(
+        &rt,
+        &mut slot,
+        &mut effects,
+        BEST_EFFORT_TAKES_RELAYED_COPIES_IN_2,
+    );
     Ok(())
 }
 
@@ -367,10 +398,26 @@ const ALL_ACK_GROUPS_WAIT_FOR_EACH_MEMBER_3: &[Step] = &[
 
 #[test]
 fn all_ack_groups_wait_for_each_member(rt: HostRuntime) -> Result<(), Fail> {
-    let mut slot = group(rt.alloc(), Kind::AllAck, WIDE, false)?;
-    compare(&rt, &mut slot, ALL_ACK_GROUPS_WAIT_FOR_EACH_MEMBER);
-    compare(&rt, &mut slot, ALL_ACK_GROUPS_WAIT_FOR_EACH_MEMBER_2);
-    compare(&rt, &mut slot, ALL_ACK_GROUPS_WAIT_FOR_EACH_MEMBER_3);
+    let mut effects = Effects::new(rt.alloc());
+    let mut slot = group(rt.alloc(), Kind::AllAck, WIDE, false, &mut effects)?;
+    compare(
+        &rt,
+        &mut slot,
+        &mut effects,
+        ALL_ACK_GROUPS_WAIT_FOR_EACH_MEMBER,
+    );
+    compare(
+        &rt,
+        &mut slot,
+        &mut effects,
+        ALL_ACK_GROUPS_WAIT_FOR_EACH_MEMBER_2,
+    );
+    compare(
+        &rt,
+        &mut slot,
+        &mut effects,
+        ALL_ACK_GROUPS_WAIT_FOR_EACH_MEMBER_3,
+    );
     Ok(())
 }
 

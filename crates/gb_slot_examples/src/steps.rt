@@ -1,4 +1,7 @@
 //! Calls of a slot with what they must answer.
+ghost use Rattle.gb_slot.specs.Effects.{AreReady};
+
+use gb_layer::effects::Effects;
 use gb_slot::slot::Slot;
 use gb_types::message::MsgId;
 use gb_types::node::NodeId;
@@ -99,17 +102,20 @@ fn is_acknowledged(slot: &Slot, place: usize, want: [bool; 4]) -> bool {
 }
 
 /// Makes the call, and says whether it answers what it must.
-fn holds(slot: &mut Slot, step: Step) -> bool {
+fn holds(slot: &mut Slot, effects: &mut Effects, step: Step) -> bool
+    requires { AreReady slot.old.spec effects.old }
+    ensures { AreReady slot.new.spec effects.new }
+{
     match step {
         Step::Open(want) => slot.open_group().err() == want,
         Step::Shut(want) => slot.shut_group().err() == want,
-        Step::Say(payload, want) => slot.say(payload) == want,
+        Step::Say(payload, want) => slot.say(payload, effects) == want,
         Step::Came(from, (origin, seq, payload)) => {
-            slot.came(node(from), node(origin), seq, payload);
+            slot.came(node(from), node(origin), seq, payload, effects);
             true
         }
         Step::Notice(who) => {
-            slot.notice(node(who));
+            slot.notice(node(who), effects);
             true
         }
         Step::Done(dest, origin, seq) => {
@@ -141,9 +147,12 @@ fn holds(slot: &mut Slot, step: Step) -> bool {
 }
 
 /// Each call answers what it must.
-pub fn compare(rt: &impl Abort, slot: &mut Slot, steps: &[Step]) {
+pub fn compare(rt: &impl Abort, slot: &mut Slot, effects: &mut Effects, steps: &[Step])
+    requires { AreReady slot.old.spec effects.old }
+    ensures { AreReady slot.new.spec effects.new }
+{
     for step in steps {
-        let held = holds(slot, *step);
+        let held = holds(slot, effects, *step);
         assert!(rt; held);
     }
 }

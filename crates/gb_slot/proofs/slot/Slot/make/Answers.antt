@@ -47,9 +47,6 @@ invariant_of-result c =
       subst IsReached (sym is) reached,
       record {
         stack = made.whole;
-        empty = made.empty (record { sends = c.new-effects.ensures.sends; ups = c.new-effects.ensures.ups });
-        sends = made.sends;
-        ups = made.ups;
         log = kept.log_memory;
         outgoing = kept.outgoing_memory;
         places = kept.places;

@@ -3,12 +3,12 @@ use Rattle.gb_stack.specs.contracts.stack.StackLayer.TheImpl.{meaning-value}
 use Rattle.gb_rules.specs.Group.{is_other}
 use Rattle.gb_slot.specs.Outgoing.{put_messages}
 use Rattle.gb_slot.specs.Reached.{IsReached, limit_of}
-use Rattle.gb_slot.proofs.MemoryLemmas.{held, room_for_call, places_in_log, places_put_out, still_enough, as_much}
+use Rattle.gb_slot.proofs.MemoryLemmas.{held, room_for_call, places_in_log, places_put_out, as_much}
 use Rattle.gb_slot.proofs.ReachedLemmas.{noticed_by, reached_noticed}
 use Rattle.gb_slot.proofs.slot.Slot.notice.Goals as goal
 
 pub take_call-requires-clause-room : goal.take_call-requires-clause-room
-take_call-requires-clause-room c = room_for_call c.self.inside c.self.invariant.6
+take_call-requires-clause-room c = room_for_call c.self.inside c.args.self.now c.args.effects.now c.self.view_is c.self.invariant.6 c.requires.ready
 
 pub take_call-requires-clause-log : goal.take_call-requires-clause-log
 take_call-requires-clause-log c =
@@ -41,9 +41,6 @@ invariant_of-self c =
       subst IsReached is next,
       record {
         stack = called.whole (limit_of s.spec) m.stack refl;
-        empty = called.empty;
-        sends = still_enough m.sends called.free_sends;
-        ups = still_enough m.ups called.free_ups;
         log = as_much m.log called.log_memory;
         outgoing = as_much m.outgoing called.outgoing_memory;
         places = m.places;

@@ -10,7 +10,7 @@ use Rattle.gb_slot.proofs.ReachedLemmas.{own_unknown, own_counted}
 use Rattle.gb_slot.proofs.slot.Slot.say.Goals as goal
 
 pub take_call-requires-clause-room : goal.take_call-requires-clause-room
-take_call-requires-clause-room c = room_for_call c.self.inside c.self.invariant.6
+take_call-requires-clause-room c = room_for_call c.self.inside c.args.self.now c.args.effects.now c.self.view_is c.self.invariant.6 c.requires.ready
 
 pub take_call-requires-clause-log : goal.take_call-requires-clause-log
 take_call-requires-clause-log c =
@@ -58,9 +58,6 @@ invariant_of-self c =
       subst IsReached is next,
       record {
         stack = called.whole (limit_of s.spec) m.stack (own_counted (held s) c.args.payload.now c.self.invariant.5.member (search rules));
-        empty = called.empty;
-        sends = still_enough m.sends called.free_sends;
-        ups = still_enough m.ups called.free_ups;
         log = as_much m.log called.log_memory;
         outgoing = as_much m.outgoing called.outgoing_memory;
         places = still_enough m.places kept.memory.0;

@@ -38,9 +38,6 @@ invariant_of-self c =
       subst IsReached is next,
       record {
         stack = m.stack;
-        empty = m.empty;
-        sends = m.sends;
-        ups = m.ups;
         log = m.log;
         outgoing = m.outgoing;
         places = m.places;

@@ -1,0 +1,45 @@
+-- No step changes the spec of a slot, and lists that were emptied are ready for the next call.
+use Rattle.std.proofs.Common.{◌≡◌, true, false, List, ℕ, refl, arith}
+use Rattle.std.specs.FinSet as set
+use Rattle.std.specs.Prelude.{if◌then◌else◌}
+use Rattle.gb_types.specs.Entry.{message_of}
+use Rattle.gb_types.specs.declared.entry.Entry.{Entry}
+use Rattle.gb_types.specs.declared.node.NodeId.{NodeId}
+use Rattle.gb_types.specs.declared.reply.Reply.{Reply}
+use Rattle.gb_types.specs.declared.reply.Reply.TheVariants.{Done, Said, Log, Refused}
+use Rattle.gb_types.specs.declared.spec.Spec.{Spec}
+use Rattle.gb_layer.specs.declared.call.Call.TheVariants.{Came, Notice}
+use Rattle.gb_layer.specs.declared.effects.Effects.{Effects}
+use Rattle.gb_history.specs.Messages.{with_new}
+use Rattle.gb_rules.specs.Group.{is_other}
+use Rattle.gb_rules.specs.declared.phase.Phase.{Phase}
+use Rattle.gb_slot.specs.Effects.{AreEmptied, AreReady}
+use Rattle.gb_slot.specs.Slot.{falls, slot_called, slot_moved, slot_said, slot_came, slot_noticed}
+use Rattle.gb_slot.specs.SlotState.{SlotState}
+
+pub spec-moved : (phase : Phase) (reply : Reply) (s : SlotState) → (slot_moved phase reply s).spec ≡ s.spec
+spec-moved phase Done s = refl
+spec-moved phase (Said seq) s = refl
+spec-moved phase (Log entries) s = refl
+spec-moved phase (Refused why) s = refl
+
+pub spec-said : (payload : List ℕ) (reply : Reply) (s : SlotState) → (slot_said payload reply s).spec ≡ s.spec
+spec-said payload Done s = refl
+spec-said payload (Said seq) s = refl
+spec-said payload (Log entries) s = refl
+spec-said payload (Refused why) s = refl
+
+pub spec-came : (from : NodeId) (x : Entry) (s : SlotState) → (slot_came from x s).spec ≡ s.spec
+spec-came from x s = elim (falls from x s) as (λ b. (if b then s else slot_called (Came from (message_of x)) (with_new s.store x) s).spec ≡ s.spec) [ true ↦ refl | false ↦ refl ]
+
+pub spec-noticed : (q : NodeId) (s : SlotState) → (slot_noticed q s).spec ≡ s.spec
+spec-noticed q s = elim (is_other s.spec s.me.number q.number) as (λ b. (if b then record (slot_called (Notice q) s.store s) { noticed = set.insert s.noticed q.number } else s).spec ≡ s.spec) [ true ↦ refl | false ↦ refl ]
+
+-- emptied lists are still ready
+pub still_ready : (spec : Spec) (before after : Effects) → AreReady spec before → AreEmptied before after → AreReady spec after
+still_ready spec before after ready emptied =
+    let s = ready.sends in
+    let u = ready.ups in
+    let more = emptied.sends in
+    let higher = emptied.ups in
+    record { empty = emptied.empty; sends = omega (arith, s, more); ups = omega (arith, u, higher) }
