@@ -84,16 +84,3 @@ pub(crate) fn take_call(
     put_out(outgoing, &mut effects.sends, store);
     write_log(log, &mut effects.ups);
 }
-
-/// Of two empty lists the one with more memory is kept.
-pub(crate) fn keep_roomier<T: Drop>(kept: &mut Vec<T>, other: Vec<T>)
-    requires kept { kept.old.items ≡ [] }
-    requires other { other.items ≡ [] }
-    ensures empty { kept.new.items ≡ [] }
-    ensures before { vec_capacity kept.old ≤ vec_capacity kept.new }
-    ensures other { vec_capacity other ≤ vec_capacity kept.new }
-{
-    if kept.capacity() < other.capacity() {
-        *kept = other;
-    }
-}

@@ -12,7 +12,7 @@ ghost use Rattle.gb_slot.specs.Effects.{AreEmptied, AreReady, IsEmpty};
 ghost use Rattle.gb_slot.specs.Reached.{limit_of, most_bytes, most_messages};
 ghost use Rattle.gb_slot.specs.Slot.{IsWithinLimits};
 
-use crate::broadcast::{keep_roomier, take_call};
+use crate::broadcast::take_call;
 use crate::put_out::PutOut;
 use crate::store::Store;
 use crate::window::{acknowledge, add_said, count_unfinished};
@@ -390,8 +390,7 @@ impl Slot {
 }
 
 /// The broadcast of a group at the node `me`, which has noticed these nodes. It has all its memory, and the lists have
-/// the memory for what a call of it gives: each list is the one that the broadcast gets, or was before, whichever has
-/// more room.
+/// the memory for what a call of it gives.
 fn broadcast(
     alloc: Global,
     spec: &Spec,
@@ -408,11 +407,13 @@ fn broadcast(
     ensures effects { AreEmptied effects.old effects.new }
 {
     let mut stack = Stack::new(alloc, spec, me, noticed)?;
-    let mut sends = Vec::new(alloc);
-    let mut ups = Vec::new(alloc);
-    stack.whole(&spec.members, spec.msgs as u16, 1, &mut sends, &mut ups)?;
-    keep_roomier(&mut effects.sends, sends);
-    keep_roomier(&mut effects.ups, ups);
+    stack.whole(
+        &spec.members,
+        spec.msgs as u16,
+        1,
+        &mut effects.sends,
+        &mut effects.ups,
+    )?;
     Ok(stack)
 }
 
