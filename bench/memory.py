@@ -9,13 +9,13 @@ import os
 import subprocess
 import sys
 
-# The bytes for each of the n * m messages: a place in the store, a number in the log, one with its place in what is
-# put out, and one and a pair with its sender in what a call of the broadcast gives.
-MESSAGE = 12 + 4 + 6 + 4 + 6
-# What a relay adds: an entry, and a pair that came up below it.
-RELAY = 8 + 6
-# What first-in first-out order adds: an entry, and a pair that came up below it.
-FIFO = 6 + 6
+# The bytes for each of the n * m messages: a place in the store, a number in the log, and one with its place in what is
+# put out.
+MESSAGE = 12 + 4 + 6
+# What a relay adds: an entry.
+RELAY = 8
+# What first-in first-out order adds: an entry.
+FIFO = 6
 # A table has a place of 2 bytes for each of m numbers of each node up to the last member.
 TABLE = 2
 # The set of the nodes that have an own message for good.

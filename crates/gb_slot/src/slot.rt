@@ -91,8 +91,9 @@ impl Slot {
     /// messages (12 in the store, 4 in the log, 6 in what is put out), 8 more where the broadcast relays, and 6 more in
     /// first-in first-out order; 2 bytes for each of `msgs` own messages, for the nodes that have it for good; and tables
     /// by which messages are found, of 2 * `msgs` bytes for each node up to the last member: one, one more where the
-    /// broadcast relays, and one more in first-in first-out order. The lists get room for what a call of the group gives,
-    /// 4 and 6 bytes for each message, which all groups to which they are lent share. OutOfMemory where it is not there.
+    /// broadcast relays, and one more in first-in first-out order. The lists get room for what a call of the group gives and
+    /// for what its layers put aside meanwhile, 4 and 18 bytes for each message, which all groups to which they are lent
+    /// share. OutOfMemory where it is not there.
     pub fn new(
         alloc: Global,
         spec: Spec,
