@@ -1,8 +1,10 @@
 //! What a relay remembers of each message, in the order of first mention.
-ghost use Rattle.std.specs.Prelude.{◌≡◌, map, vec_len, vec_capacity};
+ghost use Rattle.std.specs.Prelude.{◌≡◌, ◌≤◌, length, map, vec_len, vec_capacity};
+ghost use Rattle.gb_layer.specs.Places.{StandsAmong};
 ghost use Rattle.std.specs.List.{list_any};
 ghost use Rattle.gb_layer.specs.Relay.{is_for, is_sent, held, marked_sent};
 
+use crate::places::Places;
 use gb_types::message::MsgId;
 use gb_types::node::{NodeId, NodeSet};
 
@@ -39,22 +41,17 @@ pub(crate) fn hold_one(e: &mut Entry, me: NodeId, via: NodeId, m: MsgId)
     }
 }
 
-/// Writes down that this node and via hold m.
-pub(crate) fn hold(entries: &mut [Entry], me: NodeId, via: NodeId, m: MsgId)
-    ensures { entries.new ≡ map (held me via m) entries.old }
-{
-    for e in entries.iter_mut() {
-        hold_one(e, me, via, m);
-    }
-}
-
-/// Writes down that this node and via hold m.
-pub(crate) fn hold_in(entries: &mut Vec<Entry>, me: NodeId, via: NodeId, m: MsgId)
+/// Writes down that this node and via hold m, which stands at these places.
+pub(crate) fn hold_in(entries: &mut Vec<Entry>, places: Places, me: NodeId, via: NodeId, m: MsgId)
+    requires places { StandsAmong (is_for m) places.from places.to entries.old.items }
+    requires within { places.to ≤ length entries.old.items }
     ensures items { entries.new.items ≡ map (held me via m) entries.old.items }
     ensures len { vec_len entries.new ≡ vec_len entries.old }
     ensures capacity { vec_capacity entries.new ≡ vec_capacity entries.old }
 {
-    hold(entries, me, via, m);
+    for i in places.from..places.to {
+        hold_one(&mut entries[i], me, via, m);
+    }
 }
 
 /// Marks an entry, if it is of m, as sent from here.

@@ -6,7 +6,7 @@ ghost use Rattle.gb_layer.specs.Places.{StandsAmong};
 ghost use Rattle.gb_layer.specs.Relay.{is_for, is_sent, new_entry, sent_entry, held, is_unsent, is_ungiven, marked_sent, noted};
 ghost use Rattle.gb_layer.specs.Table.{leads, IsNowhere, IsThere};
 
-use crate::entries::{Entry, has_entry, hold_in, hold_one, mark_one, mark_sent, was_sent};
+use crate::entries::{Entry, has_entry, hold_in, mark_one, mark_sent, was_sent};
 use crate::places::Places;
 use crate::table::{Table, place};
 use gb_types::memory::OutOfMemory;
@@ -51,7 +51,8 @@ impl Ledger {
 
     /// Where an entry of m may stand.
     pub fn places(&self, m: MsgId) -> Places
-        ensures { StandsAmong (is_for m) result.from result.to self.now.list.items }
+        ensures places { StandsAmong (is_for m) result.from result.to self.now.list.items }
+        ensures within { result.to ≤ length self.now.list.items }
     {
         self.table.places(m, self.list.len())
     }
@@ -114,19 +115,15 @@ impl Ledger {
         }
     }
 
-    /// Writes down that this node and via hold m.
-    pub fn hold(&mut self, me: NodeId, via: NodeId, m: MsgId)
+    /// Writes down that this node and via hold m, which stands at these places.
+    pub fn hold(&mut self, places: Places, me: NodeId, via: NodeId, m: MsgId)
+        requires places { StandsAmong (is_for m) places.from places.to self.old.list.items }
+        requires within { places.to ≤ length self.old.list.items }
         ensures items { self.new.list.items ≡ map (held me via m) self.old.list.items }
         ensures len { vec_len self.new.list ≡ vec_len self.old.list }
         ensures capacity { vec_capacity self.new.list ≡ vec_capacity self.old.list }
     {
-        match self.table.told(m) {
-            Some(v) => match self.place(v) {
-                Some(k) => hold_one(&mut self.list[k], me, via, m),
-                None => {}
-            },
-            None => hold_in(&mut self.list, me, via, m),
-        }
+        hold_in(&mut self.list, places, me, via, m);
     }
 
     /// Marks m as sent from here.

@@ -102,7 +102,7 @@ fn hold<R: Rule>(
         → StandsAmong (is_pending R.rules me members.now noticed.now) pending.new.from pending.new.to ledger.new.list.items }
 {
     let places = ledger.places(up.m);
-    ledger.hold(me, up.via, up.m);
+    ledger.hold(places, me, up.via, up.m);
     add_pending(&ledger.list, places, rule, me, members, noticed, pending);
 }
 

@@ -16,6 +16,6 @@ returns-clause-pending g c = λ stands.
     let es = c.args.ledger.now.list.items in
     let here = c.deref.ensures.value ∙ c.hold.ensures.items in
     subst (λ (xs : List Entry). StandsAmong p new.from new.to xs) (sym c.hold.ensures.items)
-    (among_held p c.args.me up.via up.m es at.from at.to old.from old.to new.from new.to c.places-places.ensures c.add_pending.ensures.stay
+    (among_held p c.args.me up.via up.m es at.from at.to old.from old.to new.from new.to c.places-places.ensures.places c.add_pending.ensures.stay
     (subst (λ (xs : List Entry). (k : _) (e : Entry) → slice_get xs k ≡ Some e → p e ≡ true → IsAmong at.from at.to k → IsAmong new.from new.to k) here c.add_pending.ensures.added)
     stands)

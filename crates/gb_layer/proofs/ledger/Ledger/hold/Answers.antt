@@ -1,27 +1,10 @@
 use Rattle.std.proofs.Common.{◌∙◌, ap}
 use Rattle.gb_layer.specs.EntryLemmas.{keys}
-use Rattle.gb_layer.specs.Relay.{held}
 use Rattle.gb_layer.specs.Table.{leads}
-use Rattle.gb_layer.specs.TableLemmas.{set_there, map_none, not_held, keys_held}
+use Rattle.gb_layer.specs.TableLemmas.{keys_held}
 use Rattle.gb_layer.proofs.ledger.Ledger.hold.Goals as goal
-
-pub returns-in-Some-place-clause-items : goal.returns-in-Some-place-clause-items
-returns-in-Some-place-clause-items c =
-    let l = c.args.self.now in
-    set_there l.table.width l.table.told.items c.args.m c.in-Some.v (held c.args.me c.args.via c.args.m) (not_held c.args.me c.args.via c.args.m) l.list.items c.in-Some-place.k c.index_mut.result.now c.hold_one.new.e c.in-Some.ensures c.in-Some-place.ensures l.leads c.index_mut.ensures.value c.hold_one.ensures
-
-pub returns-in-None-place-clause-items : goal.returns-in-None-place-clause-items
-returns-in-None-place-clause-items c =
-    let l = c.args.self.now in
-    map_none l.table.width l.table.told.items c.args.m c.in-Some.v l.list.items c.in-Some.ensures l.leads (held c.args.me c.args.via c.args.m) (not_held c.args.me c.args.via c.args.m) c.in-None-place.ensures
 
 pub invariant_of-self : goal.invariant_of-self
 invariant_of-self c =
-    let l = c.args.self.now in
-    let new = set_there l.table.width l.table.told.items c.args.m c.in-Some.v (held c.args.me c.args.via c.args.m) (not_held c.args.me c.args.via c.args.m) l.list.items c.in-Some-place.k c.index_mut.result.now c.hold_one.new.e c.in-Some.ensures c.in-Some-place.ensures l.leads c.index_mut.ensures.value c.hold_one.ensures in
-    record { leads = ap (λ es. leads l.table.width l.table.told.items 0 (keys es)) new ∙ (ap (leads l.table.width l.table.told.items 0) (keys_held c.args.me c.args.via c.args.m l.list.items) ∙ l.leads) }
-
-pub invariant_of-self-in-None : goal.invariant_of-self-in-None
-invariant_of-self-in-None c =
     let l = c.args.self.now in
     record { leads = ap (λ es. leads l.table.width l.table.told.items 0 (keys es)) c.hold_in.ensures.items ∙ (ap (leads l.table.width l.table.told.items 0) (keys_held c.args.me c.args.via c.args.m l.list.items) ∙ l.leads) }

@@ -4,8 +4,8 @@ use Rattle.gb_layer.specs.EntryLemmas.{keys}
 use Rattle.gb_layer.proofs.PlacesLemmas.{among_entries}
 use Rattle.gb_layer.proofs.ledger.Ledger.places.Goals as goal
 
-pub returns : goal.returns
-returns c =
+pub returns-clause-places : goal.returns-clause-places
+returns-clause-places c =
     let l = c.args.self.now in
     let es = l.list.items in
     let ok = l.list.ok.0 in
