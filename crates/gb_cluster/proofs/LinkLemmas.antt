@@ -32,7 +32,8 @@ use Rattle.gb_cluster.specs.Links.{IsHonest, PacketsAreHonest, first_taken, IsWh
 use Rattle.gb_types.specs.declared.plan.Plan.{Plan}
 use Rattle.gb_types.proofs.BoolLemmas.{and_sides, or_cases}
 use Rattle.gb_cluster.proofs.NodesLemmas.{stays, past_same, past_other, have_pasts}
-use Rattle.gb_cluster.proofs.HonestLemmas.{get_within, contains_get, frames_more, taken_more}
+use Rattle.std.proofs.lemmas.Option.{slice_get_within}
+use Rattle.gb_cluster.proofs.HonestLemmas.{contains_get, frames_more, taken_more}
 use Rattle.gb_node.specs.Past.{packed_for}
 use Rattle.gb_node.proofs.TookLemmas.{numbered_is}
 use Rattle.std.proofs.lemmas.List.{length-append}
@@ -218,7 +219,7 @@ module _ (pasts : PastsSay) (packets : PacketsAreHonest) (plan : Plan) where
           (ap (λ x. slice_get (frames_to plan.cluster_key b.number (past_at x run)) (n - 1)) (sym sender)
           ∙ (ap (λ k. slice_get (frames_to plan.cluster_key k (past_at (node_numbered c.0.from) run)) (n - 1)) (sym same)
           ∙ (ap (λ k. slice_get (frames_to plan.cluster_key d.node.number (past_at (node_numbered c.0.from) run)) (k - 1)) (sym c.3) ∙ w.2))) in
-          let l = get_within (frames_to plan.cluster_key b.number (past_at a (d ∷ run))) (n - 1) c.0.items there in
+          let l = slice_get_within (frames_to plan.cluster_key b.number (past_at a (d ∷ run))) (n - 1) c.0.items there in
           let number = w.0 in
           let same_number = c.3 in
           (omega (arith, number, same_number), omega (arith, l, number, same_number))

@@ -36,7 +36,7 @@ use Rattle.gb_cluster.specs.Links.{PacketsAreHonest, LinksHold, NothingIsOutside
 use Rattle.gb_types.specs.declared.plan.Plan.{Plan}
 use Rattle.gb_types.proofs.BoolLemmas.{and_sides, or_left, refuted_by}
 use Rattle.gb_cluster.proofs.NodesLemmas.{stays, have_pasts}
-use Rattle.gb_cluster.proofs.HonestLemmas.{get_within}
+use Rattle.std.proofs.lemmas.Option.{slice_get_within}
 use Rattle.gb_cluster.proofs.LinkLemmas.{arrives_honestly, one_content}
 
 -- A frame is packed where the link has room.
@@ -181,7 +181,7 @@ module _ (sends : SendersRun) (pasts : PastsSay) (packets : PacketsAreHonest) (l
       let unacked : (m : ℕ) → 1 ≤ m → set.contains r m ≡ false → is_acked key a.number m (past_at from run) ≡ false =
       λ m some lacks. refuted_by (is_acked key a.number m (past_at from run)) (is_taken key from.number m (past_at a run)) ((links.each plan run before comes from a).acknowledged m some) (sym (was.received from m) ∙ lacks) in
       inside_fate r n
-      (λ some lacks. let there = get_within (frames_to key a.number (past_at from run)) (n - 1) so.honest.content.items (so.honest.frame (λ z. absurd (omega (arith, some, z)))) in
+      (λ some lacks. let there = slice_get_within (frames_to key a.number (past_at from run)) (n - 1) so.honest.content.items (so.honest.frame (λ z. absurd (omega (arith, some, z)))) in
       awaited r n (length (frames_to key a.number (past_at from run))) some (omega (arith, there, some)) near.last lacks (λ m low high gone. near.near m low high (unacked m low gone)))
       ((λ i. fate (sym frame_is i) (receiver_from (node_at before a) (sym from_is i))) ∙ (sym (ap (λ (g : Good). g.frame) so.good_is) ∙ e))
 

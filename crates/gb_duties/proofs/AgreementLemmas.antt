@@ -2,7 +2,7 @@
 use Rattle.std.proofs.Common.{◌≡◌, ◌≢◌, ℕ, ◌+◌, ◌-◌, ◌<◌, ◌≤◌, Bool, true, false, ◌&&◌, ◌||◌, ◌⊎◌, inl, inr, nat_eq, List, ◌++◌, length, None, refl, sym, ap, ◌∙◌, subst, arith}
 use Rattle.std.specs.Prelude.{slice_get, if◌then◌else◌}
 use Rattle.std.specs.FinSet as set
-use Rattle.std.proofs.lemmas.Bool.{eqb-true, eq-eqb}
+use Rattle.std.proofs.lemmas.Bool.{eqb-true, eq-eqb, not_from_false}
 use Rattle.std.proofs.lemmas.List.Elements.{All-from_recursion}
 use Rattle.std.proofs.lemmas.List.Sums.{fold-append}
 use Rattle.gb_types.specs.declared.message.MsgId.{MsgId}
@@ -27,7 +27,7 @@ use Rattle.gb_alone.specs.Laws.{Accepted, accepted}
 use Rattle.gb_alone.specs.declared.event.GroupStep.{GroupStep}
 use Rattle.gb_alone.proofs.IntegrityLemmas.{alone_fits}
 use Rattle.gb_duties.specs.Agreement.{IsRunning, KeepsAgreement, logs_of, IsAgreed}
-use Rattle.gb_duties.proofs.WordLemmas.{is_not, Found, found, find, said_came}
+use Rattle.gb_duties.proofs.WordLemmas.{Found, found, find, said_came}
 use Rattle.gb_duties.proofs.LogLemmas.{logged-is}
 use Rattle.gb_duties.proofs.DutyLemmas.{of_member}
 use Rattle.gb_duties.proofs.FlowLemmas.{Flow, IsSound, Taking, nobody_flows, run_flows, legal_parts, run_takes, first_taking}
@@ -56,7 +56,7 @@ module _ (runs : ℕ → Bool) (spec : Spec) (group : Group) (calm : Calm runs s
   sends a b m run_a run_b other out = go (find ((group a).put b) m put)
     where
       put : has ((group a).put b) m ≡ true
-      put = (calm.flow.fits a).owes (calm.kept a run_a) spec (calm.taking.made a run_a.0) b (and_both run_b.0 (is_not (nat_eq b a) (eq_comm a b other))) (calm.unnoticed a b run_a.0 run_b) m out
+      put = (calm.flow.fits a).owes (calm.kept a run_a) spec (calm.taking.made a run_a.0) b (and_both run_b.0 (not_from_false (nat_eq b a) (eq_comm a b other))) (calm.unnoticed a b run_a.0 run_b) m out
 
       go : Found ((group a).put b) m → came_from b (calls_of (group b).told) a m ≡ true
       go (found i y at lt is) =

@@ -3,7 +3,7 @@ use Rattle.std.proofs.Common.{◌≡◌, ℕ, ◌+◌, ◌-◌, not, Option, Som
 use Rattle.std.specs.Prelude.{slice_get, if◌then◌else◌}
 use Rattle.std.specs.FinSet as set
 use Rattle.std.specs.List.{list_all}
-use Rattle.std.proofs.lemmas.Bool.{eqb-true}
+use Rattle.std.proofs.lemmas.Bool.{eqb-true, eq-eqb}
 use Rattle.std.proofs.lemmas.List.Sums.{fold-append}
 use Rattle.gb_types.specs.Entry.{message_of}
 use Rattle.gb_types.specs.declared.entry.Entry.{Entry}
@@ -26,7 +26,6 @@ use Rattle.gb_alone.specs.declared.event.GroupEvent.TheVariants.{Tenant, Make, O
 use Rattle.gb_alone.specs.declared.event.GroupStep.{GroupStep}
 use Rattle.gb_duties.specs.Duties.{HasHad, noticed_at}
 use Rattle.gb_duties.specs.Examples.{first, second, third, message, members, spec_of, at, opened_at, opened, to_one, to_all, dropped, log_in, put_in}
-use Rattle.gb_duties.proofs.WordLemmas.{eq_self}
 
 pub in_0 : set.contains members 0 ≡ true
 in_0 = set.contains-from_list_nat (0 ∷ 1 ∷ 2 ∷ []) 0
@@ -113,8 +112,8 @@ node_opens kind g a inside fresh =
     let m1 : Member = record (nobody 0) { reserve = Some row } in
     let m2 : Member = record m1 { spec = Some (spec_of kind); replies = Done ∷ [] } in
     let one = step_is g (at a (Tenant row)) m1 (ap (λ (m : Member). record m { reserve = Some row }) fresh) in
-    let two = step_is (with_at g a.number m1) (at a (Make (spec_of kind))) m2 (simp (eq_self a.number, inside, all_of) refl) in
-    let three = step_is (with_at (with_at g a.number m1) a.number m2) (at a Open) (ready kind) (simp (eq_self a.number) refl) in
+    let two = step_is (with_at g a.number m1) (at a (Make (spec_of kind))) m2 (simp (eq-eqb a.number a.number refl, inside, all_of) refl) in
+    let three = step_is (with_at (with_at g a.number m1) a.number m2) (at a Open) (ready kind) (simp (eq-eqb a.number a.number refl) refl) in
     ap (λ (h : Group). alone_from 3 0 h (at a (Make (spec_of kind)) ∷ at a Open ∷ [])) one
     ∙ (ap (λ (h : Group). alone_from 3 0 h (at a Open ∷ [])) two
     ∙ (three ∙ (again (with_at g a.number m1) a.number m2 (ready kind) ∙ again g a.number m1 (ready kind))))

@@ -1,7 +1,7 @@
 -- What holds of every node of a group alone, and of what the nodes were told together.
 use Rattle.std.proofs.Common.{◌≡◌, ℕ, ◌+◌, ◌<◌, ◌≤◌, Bool, true, false, not, ◌&&◌, ◌||◌, ◌⊎◌, inl, inr, nat_eq, List, [], ◌∷◌, ◌++◌, length, Option, Some, None, refl, sym, ap, ◌∙◌, subst, arith}
 use Rattle.std.specs.Prelude.{if◌then◌else◌}
-use Rattle.std.proofs.lemmas.Bool.{eqb-true, eq-eqb, cases_Bool, cases_lt}
+use Rattle.std.proofs.lemmas.Bool.{eqb-true, eq-eqb, cases_Bool, cases_lt, not_from_false}
 use Rattle.gb_types.specs.Entry.{message_of}
 use Rattle.gb_types.specs.Message.{same}
 use Rattle.gb_types.specs.declared.entry.Entry.{Entry}
@@ -21,7 +21,7 @@ use Rattle.gb_history.specs.declared.call.GroupCall.{GroupCall}
 use Rattle.gb_history.specs.declared.call.GroupCall.TheVariants.{Own, Other, Crashed}
 use Rattle.gb_history.proofs.MentionLemmas.{has-known}
 use Rattle.gb_alone.specs.Alone.{Member, put_to}
-use Rattle.gb_duties.proofs.WordLemmas.{is_not, has-append, has-entries, in_newly}
+use Rattle.gb_duties.proofs.WordLemmas.{has-append, has-entries, in_newly}
 use Rattle.gb_duties.proofs.ReplyLemmas.{IsFair}
 use Rattle.gb_duties.proofs.BytesLemmas.{bytes_of-append}
 
@@ -218,9 +218,9 @@ fits_called calls a gone c spec told put brings grown before old put_known owes 
         go : ((now_broadcast (module_of spec.kind) a (calls_of told) m ≡ true) ⊎ (now_broadcast (module_of spec.kind) a (calls_of told) m ≡ false)) → (has (put b) m || has (puts_of spec a c told) m) ≡ true
         go (inl old) = or_first (has (put b) m) (has (puts_of spec a c told) m) (owes here b other unnoticed m old)
         go (inr new) = or_second (has (put b) m) (has (puts_of spec a c told) m)
-            (has-puts spec a c told m ∙ and_both (and_both out (is_not (now_broadcast (module_of spec.kind) a (calls_of told) m) new)) (and_left (mentions (call_of c ∷ calls_of told) m) _ out))
+            (has-puts spec a c told m ∙ and_both (and_both out (not_from_false (now_broadcast (module_of spec.kind) a (calls_of told) m) new)) (and_left (mentions (call_of c ∷ calls_of told) m) _ out))
 
     owed : gone ≡ false → (b : ℕ) → is_other spec a b ≡ true → was_noticed (call_of c ∷ calls_of told) b ≡ false → (m : MsgId) → now_broadcast (module_of spec.kind) a (call_of c ∷ calls_of told) m ≡ true → has (put_to a (Some spec) c told put b) m ≡ true
     owed here b other unnoticed m out =
-        let t : (is_other spec a b && not (was_noticed (call_of c ∷ calls_of told) b)) ≡ true = and_both other (is_not (was_noticed (call_of c ∷ calls_of told) b) unnoticed) in
+        let t : (is_other spec a b && not (was_noticed (call_of c ∷ calls_of told) b)) ≡ true = and_both other (not_from_false (was_noticed (call_of c ∷ calls_of told) b) unnoticed) in
         ap (λ (t : Bool). has (if t then put b ++ puts_of spec a c told else put b) m) t ∙ joined here b m other unnoticed out

@@ -1,7 +1,7 @@
 -- Duties and agreement in other words for what the nodes hold.
 use Rattle.std.proofs.Common.{◌≡◌, ℕ, Bool, true, false, ◌&&◌, ◌⊎◌, inl, inr, nat_eq, List, Some, refl, sym, ap, ◌∙◌, subst}
 use Rattle.std.specs.Prelude.{All}
-use Rattle.std.proofs.lemmas.Bool.{eqb-true}
+use Rattle.std.proofs.lemmas.Bool.{eqb-true, not_from_false}
 use Rattle.gb_types.specs.declared.entry.Entry.{Entry}
 use Rattle.gb_types.specs.declared.message.MsgId.{MsgId}
 use Rattle.gb_types.specs.declared.spec.Spec.{Spec}
@@ -16,7 +16,6 @@ use Rattle.gb_alone.specs.Alone.{Member, is_marked}
 use Rattle.gb_alone.specs.Laws.{Accepted}
 use Rattle.gb_duties.specs.Agreement.{KeepsAgreement}
 use Rattle.gb_duties.specs.Duties.{IsPutOut, Duty, KeepsDuties, noticed_at}
-use Rattle.gb_duties.proofs.WordLemmas.{is_not}
 use Rattle.gb_duties.proofs.NoticeLemmas.{Marked}
 
 -- A notice is seen where it is marked.
@@ -51,7 +50,7 @@ module _ (noticed seen : ℕ → Bool) (put rows : ℕ → List Entry) (had : �
 pub duties_seen : (spec : Spec) (b : ℕ) (member : Member) → member.spec ≡ Some spec → is_gone member.phase ≡ false → Marked b member → (seen : ℕ → Bool) → ((c : ℕ) → is_marked c member.noticed ≡ (is_other spec b c && seen c)) → (rows : ℕ → List Entry)
     → ((c : ℕ) → is_member spec c ≡ true → member.put c ≡ rows c) → (had : ℕ → MsgId → Type 0) (messages : MsgId → Bool) → ((m : MsgId) → messages m ≡ true → is_member spec m.origin.number ≡ true) → KeepsDuties spec b (noticed_at member) member.put had messages → KeepsDuties spec b seen rows had messages
 duties_seen spec b member made here marked seen seen_is rows alike had messages inside duties c other m in_messages =
-    duty_seen (noticed_at member) seen member.put rows had b c m (noticed_seen b member spec made marked seen seen_is c) (λ differs. seen_noticed b member spec made marked seen seen_is m.origin.number here (and_both (inside m in_messages) (is_not (nat_eq m.origin.number b) differs)))
+    duty_seen (noticed_at member) seen member.put rows had b c m (noticed_seen b member spec made marked seen seen_is c) (λ differs. seen_noticed b member spec made marked seen seen_is m.origin.number here (and_both (inside m in_messages) (not_from_false (nat_eq m.origin.number b) differs)))
     (alike c (and_left (is_member spec c) _ other)) (module_of spec.kind) (duties c other m in_messages)
 
 -- Agreement.

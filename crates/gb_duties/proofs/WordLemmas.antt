@@ -1,4 +1,4 @@
--- Tests, and messages in lists of entries and in histories.
+-- Messages in lists of entries and in histories.
 use Rattle.std.proofs.Common.{◌≡◌, ℕ, zero, suc, ◌<◌, Bool, true, false, cond, not, ◌&&◌, ◌||◌, ◌⊎◌, inl, inr, nat_eq, take, List, [], ◌∷◌, ◌++◌, length, Some, refl, sym, ap, ◌∙◌, arith}
 use Rattle.std.specs.Prelude.{slice_get, map, filter}
 use Rattle.std.proofs.lemmas.Bool.{eq-eqb}
@@ -16,15 +16,6 @@ use Rattle.gb_layer.specs.declared.call.Call.{Call}
 use Rattle.gb_layer.specs.declared.call.Call.TheVariants.{Say, Came, Notice}
 use Rattle.gb_fifo.specs.Order.{is_in}
 use Rattle.gb_history.specs.Messages.{has, entry_in}
-
--- Tests.
-
-pub is_not : (b : Bool) → b ≡ false → not b ≡ true
-is_not true e = cc
-is_not false e = refl
-
-pub eq_self : (a : ℕ) → nat_eq a a ≡ true
-eq_self a = eq-eqb a a refl
 
 -- Lists.
 
@@ -99,7 +90,7 @@ said_came me [] m h = cc
 said_came me (Say x ∷ past) m h = go (said_came me past m) (or_cases (same x m) (was_said past m) h)
   where
     go : (was_said past m ≡ true → came_from me past me m ≡ true) → ((same x m ≡ true) ⊎ (was_said past m ≡ true)) → ((nat_eq me me && same x m) || came_from me past me m) ≡ true
-    go rest (inl is) = (λ i. (eq_self me i && is i) || came_from me past me m)
+    go rest (inl is) = (λ i. (eq-eqb me me refl i && is i) || came_from me past me m)
     go rest (inr old) = or_second (nat_eq me me && same x m) (came_from me past me m) (rest old)
 said_came me (Came p x ∷ past) m h = or_second (nat_eq p.number me && same x m) (came_from me past me m) (said_came me past m h)
 said_came me (Notice q ∷ past) m h = said_came me past m h

@@ -7,43 +7,17 @@ use Rattle.std.proofs.Math.ListN.{set, get_or-map}
 use Rattle.std.proofs.Math.Seq.{map-set_same}
 use Rattle.std.proofs.lemmas.Bool.{cases_eq, cases_lt}
 use Rattle.std.proofs.lemmas.List.{get_or_default, get_or_past, get_or-set_same, get_or-set_other, length-map, length-set, ext_get_or}
-use Rattle.gb_types.specs.Entry.{message_of}
-use Rattle.gb_types.specs.declared.entry.Entry.{Entry}
 use Rattle.gb_types.specs.declared.limits.TheConstants.{NODES, PLACES}
 use Rattle.gb_types.specs.declared.node.NodeId.{NodeId}
-use Rattle.gb_types.specs.declared.reply.Reply.{Reply}
-use Rattle.gb_types.specs.declared.reply.Reply.TheVariants.{Done, Said, Log, Refused}
 use Rattle.gb_types.specs.declared.spec.Spec.{Spec}
-use Rattle.gb_layer.specs.declared.call.Call.TheVariants.{Came, Notice}
-use Rattle.gb_history.specs.Messages.{with_new}
-use Rattle.gb_rules.specs.Group.{is_member, is_other}
-use Rattle.gb_rules.specs.declared.phase.Phase.{Phase}
-use Rattle.gb_slot.specs.Slot.{falls, slot_called, slot_moved, slot_said, slot_came, slot_noticed, slot_took}
+use Rattle.gb_layer.specs.declared.call.Call.TheVariants.{Notice}
+use Rattle.gb_rules.specs.Group.{is_member}
+use Rattle.gb_slot.specs.Slot.{slot_called, slot_noticed, slot_took}
 use Rattle.gb_slot.specs.SlotState.{SlotState}
 use Rattle.gb_groups.specs.SlotsValue.{Row, row_at, on_slot, gone, no_row}
 use Rattle.gb_groups.specs.Packing.{Visit, gave, share}
 use Rattle.gb_groups.specs.PlaceSet.{has, IsNext}
 use Rattle.gb_groups.specs.Members.{has_member, AreMemberships, IsEnrolled, IsNextMember}
-
--- what steps leave of a slot's spec
-
-pub spec-came : (from : NodeId) (x : Entry) (s : SlotState) → (slot_came from x s).spec ≡ s.spec
-spec-came from x s = elim (falls from x s) as (λ b. (if b then s else slot_called (Came from (message_of x)) (with_new s.store x) s).spec ≡ s.spec) [ true ↦ refl | false ↦ refl ]
-
-pub spec-noticed : (q : NodeId) (s : SlotState) → (slot_noticed q s).spec ≡ s.spec
-spec-noticed q s = elim (is_other s.spec s.me.number q.number) as (λ b. (if b then record (slot_called (Notice q) s.store s) { noticed = nodes.insert s.noticed q.number } else s).spec ≡ s.spec) [ true ↦ refl | false ↦ refl ]
-
-pub spec-moved : (phase : Phase) (reply : Reply) (s : SlotState) → (slot_moved phase reply s).spec ≡ s.spec
-spec-moved phase Done s = refl
-spec-moved phase (Said seq) s = refl
-spec-moved phase (Log entries) s = refl
-spec-moved phase (Refused why) s = refl
-
-pub spec-said : (payload : List ℕ) (reply : Reply) (s : SlotState) → (slot_said payload reply s).spec ≡ s.spec
-spec-said payload Done s = refl
-spec-said payload (Said seq) s = refl
-spec-said payload (Log entries) s = refl
-spec-said payload (Refused why) s = refl
 
 -- a step of groups that keeps their specs keeps the index
 

@@ -26,6 +26,7 @@ use Rattle.gb_groups.proofs.AddLemmas.{end_apart}
 use Rattle.gb_groups.proofs.AddressLemmas.{place_is, addr_through}
 use Rattle.gb_groups.proofs.BatchLemmas.{get_or-gave}
 use Rattle.gb_groups.proofs.FrontLemmas.{is_below, agree, filter-map, batch_below, batch_of, items_front}
+use Rattle.gb_groups.proofs.TakingLemmas.{length-gave}
 use Rattle.gb_layer.specs.Lists.{same_filter, filter-never}
 
 -- The group with an address is the first that has it.
@@ -240,15 +241,10 @@ unfolding gave
 first_gave g dest b vs [] = refl
 first_gave g dest b vs (r ∷ rows) = ap (λ n. cond (not (is_addr g r.addr)) (1 + n) 0) (first_gave g dest (suc b) vs rows)
 
-length_gave : (dest b : ℕ) (vs : List Visit) (rows : List Row) → length (gave dest b vs rows) ≡ length rows
-unfolding gave
-length_gave dest b vs [] = refl
-length_gave dest b vs (r ∷ rows) = ap suc (length_gave dest (suc b) vs rows)
-
 place_gave : (g : Addr) (dest b : ℕ) (vs : List Visit) (rows : List Row) → place_of g (gave dest b vs rows) ≡ place_of g rows
 place_gave g dest b vs rows =
     ap (λ n. cond (ltb n (length (gave dest b vs rows))) (Some n) None) (first_gave g dest b vs rows)
-    ∙ ap (λ k. cond (ltb (position_or_len (λ (row : Row). is_addr g row.addr) rows) k) (Some (position_or_len (λ (row : Row). is_addr g row.addr) rows)) None) (length_gave dest b vs rows)
+    ∙ ap (λ k. cond (ltb (position_or_len (λ (row : Row). is_addr g row.addr) rows) k) (Some (position_or_len (λ (row : Row). is_addr g row.addr) rows)) None) (length-gave dest b vs rows)
 
 -- a group that is here has a place
 first_at : (g : Addr) (rows : List Row) (p : ℕ) → p < length rows → is_addr g (row_at rows p).addr ≡ true → is_some (first_with g rows) ≡ true

@@ -74,7 +74,7 @@ quiet_moved key e a v quiet =
     still_moved key e a v v quiet.still refl refl refl refl refl (ap (λ t. t || v.stopped) (sym quiet.no_stop)) (ap (replay v.watch) (sym quiet.no_tick)) (sym (append-nil v.table.tenants) ∙ ap (λ rows. v.table.tenants ++ rows) (sym quiet.none_added)) refl refl
 
 -- a refused request adds no tenant
-added_refused : (r : Request) (why : Refusal) → added (Asked r) (Replied (Refused why)) ≡ []
+pub added_refused : (r : Request) (why : Refusal) → added (Asked r) (Replied (Refused why)) ≡ []
 added_refused (AddTenant token row) why = refl
 added_refused (Make token addr spec) why = refl
 added_refused (OpenGroup token addr) why = refl
@@ -264,7 +264,7 @@ asked_refused g me noticed (Say token addr payload) why o = refl
 asked_refused g me noticed (Fetch token addr from most) why o = refl
 
 -- and tells it nothing
-asked_untold : (g : Addr) (me : NodeId) (noticed : set.FinSet nat_cmp) (r : Request) (why : Refusal) (t : Option (Option Told)) → asked_told g me noticed r (Refused why) t ≡ t
+pub asked_untold : (g : Addr) (me : NodeId) (noticed : set.FinSet nat_cmp) (r : Request) (why : Refusal) (t : Option (Option Told)) → asked_told g me noticed r (Refused why) t ≡ t
 asked_untold g me noticed (AddTenant token row) why t = refl
 asked_untold g me noticed (Make token addr spec) why t = refl
 asked_untold g me noticed (OpenGroup token addr) why t = refl

@@ -1,24 +1,22 @@
 -- A group that was just made: its slot stands for the notices of the other members that are noticed.
-use Rattle.std.proofs.Common.{◌≡◌, ℕ, zero, suc, ◌+◌, ◌<◌, ◌≤◌, inl, inr, List, [], ◌∷◌, map, drop, refl, sym, ap, subst, ◌∙◌, arith}
-use Rattle.std.specs.Prelude.{◌%◌, Bool, true, false, ◌&&◌, ◌||◌, ◌⊎◌, filter, nat_eq, if◌then◌else◌}
+use Rattle.std.proofs.Common.{◌≡◌, ℕ, zero, suc, ◌+◌, ◌<◌, ◌≤◌, inl, inr, List, [], ◌∷◌, map, refl, sym, ap, subst, ◌∙◌, arith}
+use Rattle.std.specs.Prelude.{◌%◌, Bool, true, false, ◌&&◌, ◌||◌, ◌⊎◌, filter, nat_eq}
 use Rattle.std.specs.FinSet as set
 use Rattle.std.specs.Ordering.{nat_cmp}
 use Rattle.std.specs.List.{list_any, range_with_len, AllByRecursion}
 use Rattle.std.proofs.lemmas.Bool.{cases_Bool, cases_lt, cases_eq}
 use Rattle.std.proofs.lemmas.Bool.Decides.{nat_tests}
 use Rattle.std.proofs.Math.Bool.{or-false}
-use Rattle.gb_types.specs.declared.entry.Entry.{Entry}
 use Rattle.gb_types.specs.declared.limits.TheConstants.{NODES}
-use Rattle.gb_types.specs.declared.message.MsgId.{MsgId}
 use Rattle.gb_types.specs.declared.node.NodeId.{NodeId}
 use Rattle.gb_types.specs.declared.spec.Spec.{Spec}
 use Rattle.gb_types.proofs.BoolLemmas.{or_turned}
 use Rattle.gb_history.specs.declared.call.GroupCall.TheVariants.{Crashed}
-use Rattle.gb_history.specs.Messages.{entry_in}
 use Rattle.gb_rules.specs.Group.{is_other}
-use Rattle.gb_slot.specs.Slot.{new_slot, waiting, taken_for}
-use Rattle.gb_slot.specs.StandsFor.{StandsFor, reaches}
+use Rattle.gb_slot.specs.Slot.{new_slot}
+use Rattle.gb_slot.specs.StandsFor.{StandsFor}
 use Rattle.gb_slot.specs.HistoryLaws.{FreshStands}
+use Rattle.gb_groups.proofs.QuietLemmas.{waiting-new}
 use Rattle.gb_node.specs.NodeStep.{node_numbered}
 use Rattle.gb_node.specs.PastGroups.{noticed_members, crashed_onto, told_first}
 use Rattle.gb_node.proofs.SlotGroups.{SlotTold}
@@ -88,24 +86,6 @@ all_others spec me new low (suc count) within =
       | inr e ↦ rw e rest
     ]
 
--- nothing waits in a slot that was just made
-waiting-new : (a : NodeId) (spec : Spec) (noticed : set.FinSet nat_cmp) (b : ℕ) → waiting (new_slot spec a noticed) b ≡ []
-waiting-new a spec noticed b = go (reaches (new_slot spec a noticed) b) (taken_for (new_slot spec a noticed) b)
-  where
-    none_sent : List MsgId
-    none_sent = []
-
-    none_waits : List Entry
-    none_waits = []
-
-    drop_none : (n : ℕ) → drop n none_sent ≡ none_sent
-    drop_none zero = refl
-    drop_none (suc n) = refl
-
-    go : (other : Bool) (n : ℕ) → (if other then map (entry_in none_waits) (drop n none_sent) else none_waits) ≡ none_waits
-    go true n = ap (map (entry_in none_waits)) (drop_none n)
-    go false n = refl
-
 pub made_told : FreshStands → (spec : Spec) (me : NodeId) (noticed : set.FinSet nat_cmp) → ((b : ℕ) → NODES ≤ b → set.contains noticed b ≡ false) → SlotTold me (new_slot spec me noticed) (told_first spec me noticed)
 made_told law spec me noticed few = record {
   spec = refl;
@@ -114,7 +94,7 @@ made_told law spec me noticed few = record {
   stands = subst (StandsFor (new_slot spec me noticed)) (sym (crashed_are bs []))
       (law spec me noticed (numbered_onto bs []) (others_onto spec me.number bs [] (all_others spec me.number (set.contains noticed) 0 NODES (omega arith)) tt)
       (λ b other. tell b other (cases_lt b NODES) ∙ sym (any_onto b bs [] ∙ or-false (list_any (λ (q : NodeId). nat_eq q.number b) (map node_numbered bs)))));
-  waits = λ b. waiting-new me spec noticed b;
+  waits = λ b. waiting-new b spec me noticed;
   acks = record { each = λ k b low. absurd (omega (arith, low)); beyond = λ seq b far. refl };
 }
   where

@@ -5,7 +5,7 @@ use Rattle.gb_frame.specs.declared.limits.TheConstants.{SHORTEST}
 use Rattle.gb_frame.specs.declared.packet.Head.{Head}
 use Rattle.gb_frame.specs.Packet.{packet_of}
 use Rattle.gb_frame.specs.Spelling.{tagged_text, header_text, tag_of, packet_text}
-use Rattle.gb_node.proofs.ReadLemmas.{tag_fits}
+use Rattle.gb_frame.proofs.TextLemmas.{length-tag_of}
 
 -- all of them are as long
 pub bare_len : (key : List ℕ) (h : Head) → length (packet_text key (packet_of h [])) ≡ SHORTEST
@@ -13,4 +13,4 @@ unfolding header_text
 bare_len key h =
     let tagged : List ℕ = tagged_text (packet_of h []) in
     let tag : List ℕ = tag_of key tagged in
-    omega (arith, length-append tagged tag, tag_fits key tagged)
+    omega (arith, length-append tagged tag, length-tag_of key tagged)

@@ -4,7 +4,7 @@ use Rattle.std.specs.Prelude.{◌+◌, nat_lt, nat_le, if◌then◌else◌, IfSo
 use Rattle.std.specs.FinSet as set
 use Rattle.std.specs.Ordering.{nat_cmp}
 use Rattle.std.proofs.lemmas.Bool.{true≢false, false≢true}
-use Rattle.std.proofs.lemmas.List.{length-append, length-take}
+use Rattle.std.proofs.lemmas.List.{length-append}
 use Rattle.gb_types.specs.declared.address.Addr.{Addr}
 use Rattle.gb_types.specs.declared.entry.Entry.{Entry}
 use Rattle.gb_types.specs.declared.limits.TheConstants.{PACKET, PAYLOAD}
@@ -16,9 +16,8 @@ use Rattle.gb_types.specs.declared.request.Request.{Request}
 use Rattle.gb_types.specs.declared.request.Request.TheVariants.{AddTenant, Make, OpenGroup, ShutGroup, DropGroup, Say, Fetch}
 use Rattle.gb_types.specs.declared.spec.Spec.{Spec}
 use Rattle.gb_types.specs.declared.spec.TenantRow.{TenantRow}
-use Rattle.gb_cap.specs.Hmac.{hmac_of, length-hmac_of}
-use Rattle.gb_frame.specs.declared.limits.TheConstants.{TAG}
 use Rattle.gb_frame.specs.Packet.{Content}
+use Rattle.gb_frame.proofs.TextLemmas.{length-tag_of}
 use Rattle.gb_frame.specs.Spelling.{tagged_text, header_text, tag_of, packet_text, IsPacket}
 use Rattle.gb_rules.specs.Group.{Shown, open_in, open_answer, shut_in, shut_answer, drop_answer, say_answer}
 use Rattle.gb_rules.specs.Tenant.{is_over_limits, is_bad, is_over, tenant_answer, make_answer, by_tenant}
@@ -139,15 +138,11 @@ asked_within r t h = within_if (is_admitted r t) (admitted_reply r t) (Refused D
 
 -- Packets.
 
-pub tag_fits : (key text : List ℕ) → length (tag_of key text) ≡ 8
-unfolding tag_of
-tag_fits key text = omega (arith, length-take TAG (hmac_of key text), length-hmac_of key text)
-
 packet_fits : (key : List ℕ) (c : Content) → IsPacket c → length (packet_text key c) ≤ PACKET
 unfolding header_text
 packet_fits key c p =
     let tag : List ℕ = tag_of key (tagged_text c) in
-    let tag_len = tag_fits key (tagged_text c) in
+    let tag_len = length-tag_of key (tagged_text c) in
     let room = p.limits.room in
     omega (arith, length-append (tagged_text c) tag, tag_len, room)
 

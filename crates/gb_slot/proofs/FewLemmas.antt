@@ -17,6 +17,7 @@ use Rattle.gb_types.specs.declared.message.MsgId.{MsgId}
 use Rattle.gb_types.specs.declared.spec.Spec.{Spec}
 use Rattle.gb_types.proofs.BoolLemmas.{and_left, and_right}
 use Rattle.gb_layer.specs.Counts.{count_by-cons}
+use Rattle.gb_layer.specs.FirstMentionLemmas.{same_swap}
 use Rattle.gb_layer.specs.Limit.{Limit, is_counted, message_count}
 use Rattle.gb_layer.specs.PigeonholeLemmas.{no_more_messages}
 use Rattle.gb_layer.specs.WholeLemmas.{counted_grown, once_grown}
@@ -47,16 +48,13 @@ few_known l es h d =
     let e : length (ids es) ≡ length es = length-map es message_of in
     omega (arith, n, e)
 
-same-symm : (a b : MsgId) → same a b ≡ same b a
-same-symm a b = grind (arith, nat_tests)
-
 none_in : (m : MsgId) (ms : List MsgId) → count_by (λ x. same x m) ms ≡ 0 → AllByRecursion (λ y. same m y ≡ false) ms
 none_in m [] h = tt
 none_in m (x ∷ ms) h =
     let grown = count_by-cons (λ y. same y m) x ms in
     let rest : count_by (λ y. same y m) ms ≡ 0 = omega (arith, grown, h) in
     let less : cond {A = ℕ} (same x m) 1 0 ≤ 0 = omega (arith, grown, h) in
-    (same-symm m x ∙ no (same x m) less, none_in m ms rest)
+    (same_swap m x ∙ no (same x m) less, none_in m ms rest)
   where
     no : (b : Bool) → cond {A = ℕ} b 1 0 ≤ 0 → b ≡ false
     no true z = absurd (omega (arith, z))

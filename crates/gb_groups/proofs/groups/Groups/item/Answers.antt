@@ -8,7 +8,8 @@ use Rattle.gb_groups.specs.AtAddress.{item_came, OthersKept}
 use Rattle.gb_groups.specs.GroupsValue.{GroupsValue}
 use Rattle.gb_groups.proofs.AddressLemmas.{others_kept, item_is, place_is}
 use Rattle.gb_groups.proofs.IndexLemmas.{index_but, index_as_many, places_quiet}
-use Rattle.gb_groups.proofs.MemberLemmas.{memberships_step, spec-came}
+use Rattle.gb_groups.proofs.MemberLemmas.{memberships_step}
+use Rattle.gb_slot.specs.SpecLemmas.{spec-came}
 use Rattle.gb_groups.proofs.CoveredLemmas.{covered_kept, word_stepped}
 use Rattle.gb_groups.proofs.NotedLemmas.{outside_stepped}
 use Rattle.gb_groups.proofs.groups.Groups.item.Goals as goal

@@ -6,7 +6,8 @@ use Rattle.gb_groups.specs.AtAddress.{OthersKept}
 use Rattle.gb_groups.specs.GroupsValue.{GroupsValue}
 use Rattle.gb_groups.proofs.AddressLemmas.{others_kept}
 use Rattle.gb_groups.proofs.IndexLemmas.{index_quiet, places_quiet}
-use Rattle.gb_groups.proofs.MemberLemmas.{memberships_step, spec-moved}
+use Rattle.gb_groups.proofs.MemberLemmas.{memberships_step}
+use Rattle.gb_slot.specs.SpecLemmas.{spec-moved}
 use Rattle.gb_groups.proofs.QuietLemmas.{queue-moved}
 use Rattle.gb_groups.proofs.groups.Groups.open_group.Goals as goal
 

@@ -7,7 +7,8 @@ use Rattle.gb_groups.specs.AtAddress.{place_of, reply_at, group_reply, OthersKep
 use Rattle.gb_groups.specs.GroupsValue.{GroupsValue}
 use Rattle.gb_groups.proofs.AddressLemmas.{others_kept, place_is}
 use Rattle.gb_groups.proofs.IndexLemmas.{index_but, places_quiet}
-use Rattle.gb_groups.proofs.MemberLemmas.{memberships_step, spec-said}
+use Rattle.gb_groups.proofs.MemberLemmas.{memberships_step}
+use Rattle.gb_slot.specs.SpecLemmas.{spec-said}
 use Rattle.gb_groups.proofs.CoveredLemmas.{covered_kept, word_stepped}
 use Rattle.gb_groups.proofs.NotedLemmas.{outside_stepped}
 use Rattle.gb_groups.proofs.groups.Groups.say.Goals as goal
