@@ -2,7 +2,6 @@
 use Rattle.std.proofs.Common.{◌≡◌, ℕ, ◌<◌, List, [], ◌∷◌, ◌++◌, length, Option, None, Bool, true, false, ◌&&◌, ◌||◌, refl, sym, ◌∙◌, ap, subst}
 use Rattle.std.specs.Prelude.{if◌then◌else◌, nat_le, option_map}
 use Rattle.std.specs.FinSet as set
-use Rattle.std.specs.Ordering.{nat_cmp}
 use Rattle.std.proofs.lemmas.Bool.{and_right}
 use Rattle.std.proofs.lemmas.List.{append-nil}
 use Rattle.gb_types.specs.declared.address.Addr.{Addr}
@@ -25,8 +24,10 @@ use Rattle.gb_node.specs.PastGroups.{Told, noticed_in, waiting_of, asked_told, t
 use Rattle.gb_node.specs.declared.answer.NodeAnswer.TheVariants.{Reply as Replied}
 use Rattle.gb_node.specs.declared.event.NodeEvent.TheVariants.{Request as Asked}
 use Rattle.gb_node.specs.declared.plan.NodePlan.{NodePlan}
+use Rattle.gb_node.proofs.EventLemmas.{added_refused, asked_untold}
 use Rattle.gb_isolation.specs.Project.{items_of, is_own, made_by, or_else, made_with, is_met_by, is_met, reply_in, replies_in}
 use Rattle.gb_isolation.proofs.GoesLemmas.{goes_one}
+use Rattle.gb_isolation.proofs.MarkLemmas.{or_and_off}
 use Rattle.gb_isolation.proofs.MemberLemmas.{same_member}
 use Rattle.gb_isolation.proofs.QuietLemmas.{quiet_goes}
 use Rattle.gb_isolation.proofs.View.{View, view_of, MemberIs, KeepsAcks, IsInside, AreMarked, Fits, Goes}
@@ -36,11 +37,6 @@ use Rattle.gb_isolation.proofs.View.{View, view_of, MemberIs, KeepsAcks, IsInsid
 -- a request with its reply, as it happened
 abbrev pub asking : Request → Reply → Happened
 asking request reply = record { event = Asked request; answer = Replied reply }
-
-none_acked : (was test : Bool) → (was || (test && false)) ≡ was
-none_acked true test = refl
-none_acked false true = refl
-none_acked false false = refl
 
 -- the view after a request has other links nowhere, and notices nobody
 pub view_asked : (plan : NodePlan) (g : Addr) (past : List Happened) (request : Request) (reply : Reply) (reserve : Option Reserve) (told : Option (Option Told)) (made : Option Spec) (replies : List Reply) (met : Bool)
@@ -59,7 +55,7 @@ view_asked plan g past request reply reserve told made replies met reserves tell
   replies = says i;
   met = meets i;
   frames = λ b. append-nil (frames_to plan.cluster_key b past) i;
-  acked = λ b n. none_acked (is_acked plan.cluster_key b n past) (nat_le n (length (frames_to plan.cluster_key b past))) i;
+  acked = λ b n. or_and_off (is_acked plan.cluster_key b n past) (nat_le n (length (frames_to plan.cluster_key b past))) i;
   taken = λ b n. is_taken plan.cluster_key b n past;
 }
 
@@ -83,15 +79,6 @@ view_own plan g past request reply told made running own rows tells mades =
 
 -- A refusal makes nothing of the node.
 
-pub refused_adds : (request : Request) (why : Refusal) → added (Asked request) (Replied (Refused why)) ≡ []
-refused_adds (AddTenant token row) why = refl
-refused_adds (Make token addr spec) why = refl
-refused_adds (OpenGroup token addr) why = refl
-refused_adds (ShutGroup token addr) why = refl
-refused_adds (DropGroup token addr) why = refl
-refused_adds (Say token addr payload) why = refl
-refused_adds (Fetch token addr from most) why = refl
-
 pub refused_makes : (g : Addr) (request : Request) (why : Refusal) → made_by g (Asked request) (Replied (Refused why)) ≡ None
 refused_makes g (AddTenant token row) why = refl
 refused_makes g (Make token addr spec) why = refl
@@ -100,15 +87,6 @@ refused_makes g (ShutGroup token addr) why = refl
 refused_makes g (DropGroup token addr) why = refl
 refused_makes g (Say token addr payload) why = refl
 refused_makes g (Fetch token addr from most) why = refl
-
-pub refused_for : (g : Addr) (me : NodeId) (noticed : set.FinSet nat_cmp) (request : Request) (why : Refusal) (o : Option (Option Told)) → asked_told g me noticed request (Refused why) o ≡ o
-refused_for g me noticed (AddTenant token row) why o = refl
-refused_for g me noticed (Make token addr spec) why o = refl
-refused_for g me noticed (OpenGroup token addr) why o = refl
-refused_for g me noticed (ShutGroup token addr) why o = refl
-refused_for g me noticed (DropGroup token addr) why o = refl
-refused_for g me noticed (Say token addr payload) why o = refl
-refused_for g me noticed (Fetch token addr from most) why o = refl
 
 -- a request that is not the group's own, and makes nothing of it
 pub quiet_request : (plan : NodePlan) (g : Addr) (past : List Happened) (request : Request) (reply : Reply) (frames_from : ℕ → List (List Item)) (group : Group)
@@ -136,7 +114,7 @@ pub refused_quiet : (plan : NodePlan) (g : Addr) (past : List Happened) (request
     → Fits plan.nodes g plan.me.number frames_from (view_of plan g past) (group plan.me.number)
     → Goes plan.nodes g plan.me frames_from (view_of plan g (asking request (Refused why) ∷ past)) group []
 refused_quiet plan g past request why frames_from group other fits =
-    quiet_request plan g past request (Refused why) frames_from group other (refused_adds request why) (refused_for g plan.me (noticed_in plan past) request why (told_of plan g past)) (refused_makes g request why) fits
+    quiet_request plan g past request (Refused why) frames_from group other (added_refused request why) (asked_untold g plan.me (noticed_in plan past) request why (told_of plan g past)) (refused_makes g request why) fits
 
 -- A command.
 

@@ -1,7 +1,7 @@
 -- A frame's items come: as the past tells, and to the group alone.
 use Rattle.std.proofs.Common.{◌≡◌, ◌≢◌, ℕ, zero, suc, ◌+◌, ◌-◌, ◌<◌, ◌≤◌, List, [], ◌∷◌, ◌++◌, length, map, fold, Option, Some, None, Bool, true, false, ◌&&◌, ◌||◌, ◌⊎◌, inl, inr, refl, sym, ◌∙◌, ap, subst, arith, nat_eq, nat_lt, nat_le, slice_get, take, length-append}
 use Rattle.std.specs.Prelude.{All, if◌then◌else◌}
-use Rattle.std.proofs.lemmas.Bool.{cases_eq, cases_lt}
+use Rattle.std.proofs.lemmas.Bool.{cases_eq, cases_lt, eq-eqb, ne_eqb}
 use Rattle.std.proofs.lemmas.Bool.Decides.{nat_tests}
 use Rattle.std.proofs.lemmas.List.Elements.{All-head, All-tail}
 use Rattle.gb_types.specs.declared.address.Addr.{Addr}
@@ -19,7 +19,7 @@ use Rattle.gb_rules.specs.Lifetime.{stepped, where_so}
 use Rattle.gb_node.specs.PastGroups.{Told, waiting_of, with_call, unless_falls, came_told}
 use Rattle.gb_isolation.specs.Project.{items_in, items_of, offset, comes}
 use Rattle.gb_isolation.proofs.View.{View, MemberIs, AreMarked, KeepsAcks, Fits, Goes, said_of, acknowledged_of}
-use Rattle.gb_isolation.proofs.GoesLemmas.{after_there, after_elsewhere, eqb_self, eqb_apart, eqb_apart_back}
+use Rattle.gb_isolation.proofs.GoesLemmas.{after_there, after_elsewhere, eqb_apart_back}
 use Rattle.gb_isolation.proofs.MemberLemmas.{KeepsRest, same_member, told-came, put-item_came, item_came-rest, item_came-noticed}
 use Rattle.gb_isolation.proofs.MarkLemmas.{is_between, or_off, offset_next, offset_all, item_there, marks_added, marks_same}
 use Rattle.gb_isolation.proofs.DoneLemmas.{IsFit, spec_in, inside_too}
@@ -126,7 +126,7 @@ come_next nodes g from me carried place i xs o group apart fit running there mos
   done = later.done ∙ (ap (λ (m : Member). m.done) here ∙ rest.done);
   noticed = later.noticed ∙ (ap (λ (m : Member). m.noticed) here ∙ item_came-noticed me.number from e (group me.number));
   stopped = later.stopped ∙ (ap (λ (m : Member). m.stopped) here ∙ rest.stopped);
-  elsewhere = λ x other. later.elsewhere x other ∙ (ap (λ (m : Member). m.come x) here ∙ rw (eqb_apart x from.number other) refl);
+  elsewhere = λ x other. later.elsewhere x other ∙ (ap (λ (m : Member). m.come x) here ∙ rw (ne_eqb x from.number other) refl);
   marks = λ q. later.marks q ∙ (ap (λ t. is_between (place + 1) (place + 1 + count) q || t) (first_mark q)
       ∙ by (nat_eq (place + 1) q) (is_between (place + 1) (place + 1 + count) q) (is_between place (place + suc count) q) (is_marked q ((group me.number).come from.number)) (one q));
 }
@@ -156,7 +156,7 @@ come_next nodes g from me carried place i xs o group apart fit running there mos
     sender = after_elsewhere nodes g.group group me from.number (Came from (place + 1)) apart
 
     first_mark : (q : ℕ) → is_marked q ((mid me.number).come from.number) ≡ (nat_eq (place + 1) q || is_marked q ((group me.number).come from.number))
-    first_mark q = ap (λ (m : Member). is_marked q (m.come from.number)) here ∙ rw (eqb_self from.number) refl
+    first_mark q = ap (λ (m : Member). is_marked q (m.come from.number)) here ∙ rw (eq-eqb from.number from.number refl) refl
 
     told_then : MemberIs (came_told me from o i) (mid me.number)
     told_then = subst (λ (m : Member). MemberIs (came_told me from o i) m) (sym here) (subst (λ k. MemberIs k (taken_in me.number from (place + 1) (Some e) (group me.number))) (sym came)
@@ -247,7 +247,7 @@ module _ (nodes : ℕ) (g : Addr) (a s : NodeId) (frames_from : ℕ → List (Li
   come_here : AreMarked g forth (later.taken s.number) ((next a.number).come s.number)
   come_here = marks_added g forth (nat_eq (n + 1)) (v.taken s.number) (later.taken s.number) (is_between place (place + length (items_in g f))) ((group a.number).come s.number) ((next a.number).come s.number)
       (λ m q low high. within m q low high (cases_lt m n)) (λ q above. let most = offset_all g forth (n + 1) in grind (arith, nat_tests, above, most, ends)) coming.marks
-      (λ m some. λ i. (eqb_self s.number i && nat_eq (n + 1) m) || v.taken s.number m) (fits.come s.number inside)
+      (λ m some. λ i. (eq-eqb s.number s.number refl i && nat_eq (n + 1) m) || v.taken s.number m) (fits.come s.number inside)
     where
       within : (m q : ℕ) → offset g forth m < q → q ≤ offset g forth (m + 1) → ((m < n) ⊎ (n ≤ m)) → is_between place (place + length (items_in g f)) q ≡ nat_eq (n + 1) (m + 1)
       within m q low high (inl before) =

@@ -2,7 +2,7 @@
 use Rattle.std.proofs.Common.{◌≡◌, ◌≢◌, ℕ, zero, suc, ◌+◌, ◌<◌, ◌≤◌, List, [], ◌∷◌, ◌++◌, length, map, fold, cond, Option, Some, None, Bool, true, false, not, ◌&&◌, ◌||◌, ◌⊎◌, inl, inr, refl, sym, ◌∙◌, ap, subst, arith, nat_eq, nat_lt, nat_le, slice_get, take, add-one, length-append}
 use Rattle.std.specs.Prelude.{All, filter, if◌then◌else◌}
 use Rattle.std.specs.List.{list_any}
-use Rattle.std.proofs.lemmas.Bool.{cases_Bool, cases_eq, cases_lt, or_right, or_from}
+use Rattle.std.proofs.lemmas.Bool.{cases_Bool, cases_eq, cases_lt, or_right, or_from, eq-eqb, ne_eqb}
 use Rattle.std.proofs.lemmas.Bool.Decides.{nat_tests}
 use Rattle.std.proofs.lemmas.Option.{same_Some}
 use Rattle.std.proofs.lemmas.List.{append-nil, take_all}
@@ -28,9 +28,9 @@ use Rattle.gb_node.specs.Past.{numbered}
 use Rattle.gb_node.specs.PastGroups.{Told, waiting_of, items_freed, finished_by, done_told}
 use Rattle.gb_isolation.specs.Project.{items_in, items_of, offset, acknowledged, all_acknowledged}
 use Rattle.gb_isolation.proofs.View.{View, MemberIs, AreMarked, KeepsAcks, IsInside, Fits, Goes, said_of, acknowledged_of}
-use Rattle.gb_isolation.proofs.GoesLemmas.{legal-append, after_there, after_elsewhere, eqb_self, eqb_apart, eqb_apart_back}
+use Rattle.gb_isolation.proofs.GoesLemmas.{legal-append, after_there, after_elsewhere, eqb_apart_back}
 use Rattle.gb_isolation.proofs.MemberLemmas.{same_member}
-use Rattle.gb_isolation.proofs.MarkLemmas.{Found, is_between, is_in, in_above, in_frame, in_beyond, in_found, or_off, offset_all, marks_same}
+use Rattle.gb_isolation.proofs.MarkLemmas.{Found, is_between, is_in, in_above, in_frame, in_beyond, in_found, or_off, or_and_off, offset_all, marks_same}
 
 -- Items that groups put out.
 
@@ -355,8 +355,8 @@ frame_acked nodes g me from before (suc k) group running may = record {
   legal = ((running, omega arith, λ place low high. may place (grind (arith, nat_tests, low, high))), tt);
   others = λ x other. after_elsewhere nodes g.group group me x (Acknowledged from (before + 1) (suc k)) other;
   member = there ∙ ap (λ d. record (group me.number) { done = d }) (sym (ap (λ (m : Member). m.done) there));
-  elsewhere = λ b other. ap (λ (m : Member). m.done b) there ∙ rw (eqb_apart b from.number other) refl;
-  marks = λ place. ap (λ (m : Member). is_marked place (m.done from.number)) there ∙ (rw (eqb_self from.number) (marked_places place before (suc k) ((group me.number).done from.number)));
+  elsewhere = λ b other. ap (λ (m : Member). m.done b) there ∙ rw (ne_eqb b from.number other) refl;
+  marks = λ place. ap (λ (m : Member). is_marked place (m.done from.number)) there ∙ (rw (eq-eqb from.number from.number refl) (marked_places place before (suc k) ((group me.number).done from.number)));
 }
   where
     there : after nodes g.group group (record { node = me; event = Acknowledged from (before + 1) (suc k) }) me.number
@@ -447,11 +447,6 @@ or_new true false = refl
 or_new false true = refl
 or_new false false = refl
 
-or_and_off : (x y : Bool) → (x || (y && false)) ≡ x
-or_and_off true y = refl
-or_and_off false true = refl
-or_and_off false false = refl
-
 module _ (nodes : ℕ) (g : Addr) (a s : NodeId) (frames_from : ℕ → List (List Item)) (v : View) (group : Group) (covered : ℕ → Bool) (inside : s.number < nodes) (apart : a.number ≢ s.number) (running : (group a.number).stopped ≡ false)
     (fit : (k : ℕ) (f : List Item) → slice_get (v.frames s.number) k ≡ Some f → All IsFit (items_for g f))
     (got : (n place : ℕ) → covered (n + 1) ≡ true → offset g (v.frames s.number) n < place → place ≤ offset g (v.frames s.number) (n + 1) → is_marked place ((group s.number).come a.number) ≡ true)
@@ -501,7 +496,7 @@ module _ (nodes : ℕ) (g : Addr) (a s : NodeId) (frames_from : ℕ → List (Li
       at n place low high =
           let there = offset_inside g back n place low high in
           let known : nat_le (n + 1) (length back) ≡ true = grind (arith, nat_tests, there) in
-          λ i. v.acked s.number (n + 1) || (sym known i && (sym (eqb_self s.number) i && covered (n + 1)))
+          λ i. v.acked s.number (n + 1) || (sym known i && (sym (eq-eqb s.number s.number refl) i && covered (n + 1)))
 
   done_there : (b : ℕ) → b < nodes → ((b ≡ s.number) ⊎ (b ≡ s.number → ⊥)) → AreMarked g (v.frames b) (later.acked b) ((mid a.number).done b)
   done_there b in_b (inl is) = subst (λ z. AreMarked g (v.frames z) (later.acked z) ((mid a.number).done z)) (sym is) done_here

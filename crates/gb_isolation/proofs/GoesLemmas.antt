@@ -1,6 +1,7 @@
 -- How a group goes on alone.
-use Rattle.std.proofs.Common.{◌≡◌, ◌≢◌, ℕ, List, [], ◌∷◌, ◌++◌, true, false, refl, sym, ap, ◌∙◌, subst, arith}
+use Rattle.std.proofs.Common.{◌≡◌, ◌≢◌, ℕ, List, [], ◌∷◌, ◌++◌, false, refl, sym, ap, ◌∙◌, subst, arith}
 use Rattle.std.specs.Prelude.{nat_eq}
+use Rattle.std.proofs.lemmas.Bool.{eq-eqb, ne_eqb}
 use Rattle.std.proofs.lemmas.Bool.Decides.{nat_tests}
 use Rattle.std.proofs.lemmas.List.Sums.{fold-append}
 use Rattle.gb_types.specs.declared.address.Addr.{Addr}
@@ -15,22 +16,16 @@ pub legal-append : (nodes number : ℕ) (group : Group) (xs ys : List GroupStep)
 legal-append nodes number group [] ys first later = later
 legal-append nodes number group (x ∷ xs) ys first later = (first.0, legal-append nodes number (after nodes number group x) xs ys first.1 later)
 
-pub eqb_self : (a : ℕ) → nat_eq a a ≡ true
-eqb_self a = grind (arith, nat_tests)
-
-pub eqb_apart : (x a : ℕ) → x ≢ a → nat_eq x a ≡ false
-eqb_apart x a other = grind (arith, nat_tests)
-
 pub eqb_apart_back : (x a : ℕ) → x ≢ a → nat_eq a x ≡ false
 eqb_apart_back x a other = grind (arith, nat_tests)
 
 pub after_there : (nodes number : ℕ) (group : Group) (a : NodeId) (e : GroupEvent) → after nodes number group (record { node = a; event = e }) a.number ≡ member_after nodes number a e group
 unfolding after
-after_there nodes number group a e = rw (eqb_self a.number) refl
+after_there nodes number group a e = rw (eq-eqb a.number a.number refl) refl
 
 pub after_elsewhere : (nodes number : ℕ) (group : Group) (a : NodeId) (x : ℕ) (e : GroupEvent) → x ≢ a.number → after nodes number group (record { node = a; event = e }) x ≡ group x
 unfolding after
-after_elsewhere nodes number group a x e other = rw (eqb_apart x a.number other) refl
+after_elsewhere nodes number group a x e other = rw (ne_eqb x a.number other) refl
 
 -- nothing is given
 pub goes_none : (nodes : ℕ) (g : Addr) (a : NodeId) (frames_from : ℕ → List (List Item)) (v : View) (group : Group) → Fits nodes g a.number frames_from v (group a.number) → Goes nodes g a frames_from v group []

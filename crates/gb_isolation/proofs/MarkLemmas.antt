@@ -79,6 +79,11 @@ pub or_off : (b c : Bool) → b ≡ false → (b || c) ≡ c
 or_off true c is = absurd (cc)
 or_off false c is = refl
 
+pub or_and_off : (x y : Bool) → (x || (y && false)) ≡ x
+or_and_off true y = refl
+or_and_off false true = refl
+or_and_off false false = refl
+
 and_on : (b c : Bool) → c ≡ true → (b && c) ≡ b
 and_on true c is = is
 and_on false c is = refl

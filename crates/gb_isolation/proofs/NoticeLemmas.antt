@@ -2,7 +2,7 @@
 use Rattle.std.proofs.Common.{◌≡◌, ◌≢◌, ℕ, zero, suc, ◌+◌, ◌<◌, ◌≤◌, List, [], ◌∷◌, Some, None, Bool, true, false, ◌||◌, ◌⊎◌, inl, inr, refl, sym, ◌∙◌, ap, subst, arith}
 use Rattle.std.specs.Prelude.{Option, nat_eq, map, filter, if◌then◌else◌}
 use Rattle.std.specs.List.{range_with_len}
-use Rattle.std.proofs.lemmas.Bool.{cases_eq, cases_lt}
+use Rattle.std.proofs.lemmas.Bool.{cases_eq, cases_lt, eq-eqb}
 use Rattle.std.proofs.lemmas.Bool.Decides.{nat_tests}
 use Rattle.gb_types.specs.declared.limits.TheConstants.{NODES}
 use Rattle.gb_types.specs.declared.node.NodeId.{NodeId}
@@ -15,7 +15,7 @@ use Rattle.gb_node.specs.NodeStep.{node_numbered}
 use Rattle.gb_alone.specs.declared.event.GroupEvent.TheVariants.{Notice}
 use Rattle.gb_alone.specs.declared.event.GroupStep.{GroupStep}
 use Rattle.gb_isolation.proofs.MemberLemmas.{KeepsRest}
-use Rattle.gb_isolation.proofs.GoesLemmas.{eqb_self, after_there, after_elsewhere}
+use Rattle.gb_isolation.proofs.GoesLemmas.{after_there, after_elsewhere}
 
 -- Numbers.
 
@@ -145,7 +145,7 @@ notices_legal nodes number a low [] group rise running new = tt
 notices_legal nodes number a low (b ∷ bs) group rise running new =
     let next : Group = after nodes number group (record { node = a; event = Notice (node_numbered b) }) in
     let there : next a.number ≡ node_noticed a.number (node_numbered b) (group a.number) = after_there nodes number group a (Notice (node_numbered b)) in (
-      (running, ap (λ k. is_marked k (group a.number).noticed) (numbered_is b rise.1) ∙ new b (ap (λ c. c || is_marked b bs) (eqb_self b))),
+      (running, ap (λ k. is_marked k (group a.number).noticed) (numbered_is b rise.1) ∙ new b (ap (λ c. c || is_marked b bs) (eq-eqb b b refl))),
       notices_legal nodes number a (b + 1) bs next rise.2 (ap (λ (m : Member). m.stopped) there ∙ ((notice_keeps a.number (node_numbered b) (group a.number)).stopped ∙ running))
           (λ x is. ap (λ (m : Member). is_marked x m.noticed) there ∙ (ap (λ k. nat_eq k x || is_marked x (group a.number).noticed) (numbered_is b rise.1) ∙ later x is)),
     )

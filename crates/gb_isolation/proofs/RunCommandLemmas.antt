@@ -3,7 +3,7 @@ use Rattle.std.proofs.Common.{◌≡◌, ◌≢◌, ℕ, ◌⊎◌, inl, inr, Bo
 use Rattle.std.specs.Prelude.{if◌then◌else◌}
 use Rattle.std.specs.FinSet as set
 use Rattle.std.specs.List.{flat_map}
-use Rattle.std.proofs.lemmas.Bool.{and_parts, cases_eq}
+use Rattle.std.proofs.lemmas.Bool.{and_parts, cases_eq, eq-eqb}
 use Rattle.std.proofs.lemmas.List.{append-nil}
 use Rattle.gb_types.specs.declared.address.Addr.{Addr}
 use Rattle.gb_types.specs.declared.node.NodeId.{NodeId}
@@ -35,7 +35,6 @@ use Rattle.gb_cluster.proofs.NodesLemmas.{past_same, past_other}
 use Rattle.gb_isolation.specs.Project.{items_of, frames_in, is_named, is_own, command_for, made_with, own_requested, tenant_given, is_met, with_stop, asked, took, arrived, ticked, gives, project, reply_in, replies_in}
 use Rattle.gb_isolation.specs.RunLaws.{said_by, accepted_by, accepted_in_past}
 use Rattle.gb_isolation.proofs.GivenLemmas.{carried_took, carried_packets, given_at, no_commands_elsewhere, no_commands_carried, no_commands_notices, no_commands_ticked, no_commands_tenant, commands_stopped}
-use Rattle.gb_isolation.proofs.GoesLemmas.{eqb_self}
 
 -- what a request gives besides the command is no command
 commands_own : (plan : NodePlan) (g : Addr) (past : List Happened) (s : ℕ) (request : Request) (reply : Reply) → commands s (own_requested plan g past request reply) ≡ commands s (command_for g plan.me request)
@@ -60,7 +59,7 @@ commands_asked plan g past s request reply = by (is_stopped past) (is_own plan g
 -- a command at its node
 command_pairs : (a : NodeId) (e : GroupEvent) (r : Reply) → command_in e ≡ e ∷ [] → Pairs (commands a.number (record { node = a; event = e } ∷ [])) (r ∷ []) (accepted_in e r)
 unfolding commands
-command_pairs a e r is = subst (λ es. Pairs (es ++ []) (r ∷ []) (accepted_in e r)) (sym (ap (λ (t : Bool). if t then command_in e else []) (eqb_self a.number) ∙ is)) (one_pair e r)
+command_pairs a e r is = subst (λ es. Pairs (es ++ []) (r ∷ []) (accepted_in e r)) (sym (ap (λ (t : Bool). if t then command_in e else []) (eq-eqb a.number a.number refl) ∙ is)) (one_pair e r)
 
 named_pairs : (g : Addr) (a : NodeId) (request : Request) (reply : Reply) → is_named g request ≡ true → Pairs (commands a.number (command_for g a request)) (reply ∷ []) (said_by request reply)
 named_pairs g a (AddTenant token row) reply named = absurd (cc)

@@ -18,7 +18,8 @@ use Rattle.gb_node.specs.PastGroups.{noticed_in, told_of}
 use Rattle.gb_node.specs.StepLaw.{is_admitted_by}
 use Rattle.gb_node.specs.declared.plan.NodePlan.{NodePlan}
 use Rattle.gb_isolation.specs.Project.{is_named, is_own, is_met, command_for, with_stop, asked, made_with, or_else, replies_in}
-use Rattle.gb_isolation.proofs.AskLemmas.{asking, view_asked, rows_kept, refused_adds, refused_makes, refused_for, refused_quiet}
+use Rattle.gb_node.proofs.EventLemmas.{added_refused, asked_untold}
+use Rattle.gb_isolation.proofs.AskLemmas.{asking, view_asked, rows_kept, refused_makes, refused_quiet}
 use Rattle.gb_isolation.proofs.GoesLemmas.{goes_one, goes_on}
 use Rattle.gb_isolation.proofs.MemberLemmas.{same_member}
 use Rattle.gb_isolation.proofs.View.{View, view_of, Fits, Goes}
@@ -126,8 +127,8 @@ module _ (plan : NodePlan) (g : Addr) (past : List Happened) (request : Request)
     where
       later : view_of plan g (asking request refused ∷ past) ≡ record (view_of plan g past) { replies = replies_in plan g past ++ refused ∷ []; met = true }
       later = view_asked plan g past request refused (view_of plan g past).reserve (told_of plan g past) (made_with g past) (replies_in plan g past ++ refused ∷ []) true
-          (rows_kept plan g past request refused (refused_adds request Stopped))
-          (refused_for g plan.me (noticed_in plan past) request Stopped (told_of plan g past))
+          (rows_kept plan g past request refused (added_refused request Stopped))
+          (asked_untold g plan.me (noticed_in plan past) request Stopped (told_of plan g past))
           (ap (λ o. or_else o (made_with g past)) (refused_makes g request Stopped))
           (ap (λ b. replies_in plan g past ++ (if b then refused ∷ [] else [])) own)
           (ap (λ b. (b && is_own plan g past request) || is_met plan g past) stopped ∙ ap (λ b. b || is_met plan g past) own)
