@@ -1,5 +1,5 @@
 -- Whether a packet that came in can go.
-use Rattle.std.proofs.Common.{◌≡◌, ℕ, zero, suc, ◌+◌, ◌-◌, ◌<◌, ◌≤◌, ◌⊎◌, List, [], true, Option, Some, None, inl, inr, refl, sym, ◌∙◌, ap, subst, arith}
+use Rattle.std.proofs.Common.{◌≡◌, ℕ, zero, suc, ◌+◌, ◌-◌, ◌<◌, List, true, Option, Some, None, inl, refl, sym, ◌∙◌, ap, subst, arith}
 use Rattle.std.specs.Prelude.{slice_get, position}
 use Rattle.std.specs.Option.{option_map}
 use Rattle.std.specs.Str.{bytes_eq}
@@ -7,12 +7,11 @@ use Rattle.gb_types.specs.declared.node.NodeId.{NodeId}
 use Rattle.gb_types.proofs.SameLemmas.{same_number}
 use Rattle.gb_node.specs.NodeStep.{node_numbered}
 use Rattle.gb_node.specs.declared.event.NodeEvent.{NodeEvent}
-use Rattle.gb_node.specs.declared.event.NodeEvent.TheVariants.{Request, Packet, Pack, Again, Ack, Tick, Stop}
-use Rattle.gb_cluster.specs.declared.event.Event.TheVariants.{At, Arrive}
+use Rattle.gb_node.specs.declared.event.NodeEvent.TheVariants.{Packet}
+use Rattle.gb_cluster.specs.declared.event.Event.TheVariants.{Arrive}
 use Rattle.gb_types.specs.declared.plan.Plan.{Plan}
 use Rattle.gb_merge.specs.Interleaving.{is_good, text_numbered, IsEventOf}
 use Rattle.gb_merge.specs.Faults.{IsBlocked}
-use Rattle.gb_merge.specs.Woven.{IsOther}
 use Rattle.gb_merge.proofs.MailLemmas.{absent, found}
 
 pub text_numbered_is : (sent : List (List ℕ)) (k : ℕ) → 0 < k → text_numbered sent k ≡ slice_get sent (k - 1)
@@ -48,16 +47,6 @@ sent_free plan sent a k x bytes is at blocked = by (position (bytes_eq bytes) se
     by : (o : Option ℕ) → position (bytes_eq bytes) sent ≡ o → Some k ≡ option_map (λ i. i + 1) o → ⊥
     by None place number = absurd (cc)
     by (Some i) place number = here.1 i (found sent bytes i place)
-
--- each other event is itself
-pub itself : (plan : Plan) (sent : List (List ℕ)) (a : NodeId) (x : NodeEvent) → IsOther plan a x → IsEventOf plan a sent x (At a x)
-itself plan sent a (Request request) other = refl
-itself plan sent a (Packet bytes) other = inr (refl, other)
-itself plan sent a (Pack b) other = refl
-itself plan sent a (Again b n) other = refl
-itself plan sent a (Ack b) other = refl
-itself plan sent a Tick other = refl
-itself plan sent a Stop other = refl
 
 -- the node of a place
 pub node_of : (i : ℕ) (a : NodeId) → a.number ≡ i → node_numbered i ≡ a
