@@ -9,6 +9,8 @@ mod names;
 #[cfg(test)]
 mod order;
 #[cfg(test)]
+mod room;
+#[cfg(test)]
 mod stacks;
 #[cfg(test)]
 mod tables;

@@ -44,7 +44,7 @@ const CALLS: [Call; 9] = [
 ];
 
 /// These nodes, as a set.
-fn set(nodes: &[NodeId]) -> NodeSet {
+pub fn set(nodes: &[NodeId]) -> NodeSet {
     let mut found = NodeSet::new();
     for node in nodes {
         found.insert(*node);
@@ -53,7 +53,7 @@ fn set(nodes: &[NodeId]) -> NodeSet {
 }
 
 /// A stack of a kind, at a node that noticed these.
-fn stack(alloc: Global, kind: Kind, noticed: &NodeSet) -> Result<Stack, OutOfMemory>
+pub fn stack(alloc: Global, kind: Kind, noticed: &NodeSet) -> Result<Stack, OutOfMemory>
     ensures { IfOk result (λ s. ⟦<Stack as Layer>⟧.is_empty (⟦<Stack as Layer>⟧.meaning s)) }
 {
     let spec = Spec {
