@@ -228,6 +228,13 @@ const PLACE_OF_A_DROPPED_GROUP: Case = (
     SimEnd::All,
 );
 
+// A small group and a large one at each node, made in either order, and the small one after the large one is dropped.
+const GROUPS_OF_UNLIKE_SIZES: Case = (
+    "cluster 2 3\ntenant 0 7 4 64 4096 64\nmake 0 7 1 beb 0,1 2 16 2\nopen 0 7 1\nmake 0 7 2 fallack 0,1 64 4096 64\nopen 0 7 2\ntenant 1 7 4 64 4096 64\nmake 1 7 2 fallack 0,1 64 4096 64\nopen 1 7 2\nmake 1 7 1 beb 0,1 2 16 2\nopen 1 7 1\nsay 0 7 2 61\nsay 0 7 1 62\npack 0 1\narrive 1\npack 1 0\narrive 2\nfetch 0 7 2 0 16\nfetch 1 7 2 0 16\nfetch 1 7 1 0 16\ndrop 0 7 2\nsay 0 7 1 63\npack 0 1\narrive 3\nfetch 1 7 1 0 16\n",
+    "ok\nok\nok\nok\nok\nok\nok\nok\nok\nok\nok\nsaid 1\nsaid 1\npacket 1\ngood first 2 0\npacket 2\ngood first 1 1\nlog 1 0:1:61\nlog 1 0:1:61\nlog 1 0:1:62\nok\nsaid 2\npacket 3\ngood first 1 1\nlog 2 0:1:62 0:2:63\n",
+    SimEnd::All,
+);
+
 // Each `*` is a payload of 1,024 bytes.
 const FULL_FRAME: Text = (
     "cluster 2 3\ntenant 0 7 4 8 65536 8\nmake 0 7 1 beb 0,1 8 65536 8\nopen 0 7 1\ntenant 1 7 4 8 65536 8\nmake 1 7 1 beb 0,1 8 65536 8\nopen 1 7 1\nsay 0 7 1 *\nsay 0 7 1 *\nsay 0 7 1 *\nsay 0 7 1 *\nsay 0 7 1 *\nsay 0 7 1 *\nsay 0 7 1 *\nsay 0 7 1 *\npack 0 1\narrive 1\npack 0 1\narrive 2\n",
@@ -293,6 +300,7 @@ pub const OF_BYTES_WINDOWS_AND_DROPS: &[Case] = &[
     DROPPED_GROUP_LETS_ITEMS_FALL,
     CARRIED_ITEMS_COME_AFTER_A_DROP,
     PLACE_OF_A_DROPPED_GROUP,
+    GROUPS_OF_UNLIKE_SIZES,
 ];
 
 pub const AT_THEIR_LIMITS: &[Case] = &[
