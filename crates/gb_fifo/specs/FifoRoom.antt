@@ -2,7 +2,7 @@
 use Rattle.std.specs.Prelude.{◌≡◌, ℕ, ◌+◌, ◌≤◌, true, [], vec_len, vec_capacity, count_by}
 use Rattle.std.specs.List.{list_all, IsDistinct}
 use Rattle.gb_types.specs.Message.{same}
-use Rattle.gb_layer.specs.declared.effects.Need.{Need}
+use Rattle.gb_layer.specs.declared.effects.Room.{Room}
 use Rattle.gb_layer.specs.Limit.{Limit, is_counted, message_count}
 use Rattle.gb_fifo.specs.EntryLemmas.{keys}
 use Rattle.gb_fifo.specs.declared.fifo.Fifo.{Fifo}
@@ -30,7 +30,7 @@ pub record HasRoom {L : Type 0} (below : L → ℕ → ℕ → ℕ → Type 0) (
   pub ups : aside + (ungiven f + calls) ≤ b
 
 -- what so many calls of a fifo need at most: what the layer below needs, and a place for each message, which comes up once
-abbrev pub fifo_need : (Limit → Need) → Limit → Need
+abbrev pub fifo_need : (Limit → Room) → Limit → Room
 fifo_need need l = record { sends = (need l).sends; ups = (need l).ups + (message_count l + l.calls) }
 
 -- A fifo has the memory for all calls within the limit: so has the layer below, and all messages have their places. Its entries are of different messages within the limit.

@@ -7,7 +7,7 @@ use Rattle.gb_types.specs.Message.{same}
 use Rattle.gb_types.proofs.BoolLemmas.{and_right}
 use Rattle.gb_layer.specs.declared.call.Call.{Call}
 use Rattle.gb_layer.specs.declared.call.Call.TheVariants.{Say, Came, Notice}
-use Rattle.gb_layer.specs.declared.effects.Need.{Need}
+use Rattle.gb_layer.specs.declared.effects.Room.{Room}
 use Rattle.gb_layer.specs.Limit.{Limit, is_counted, is_within, message_count}
 use Rattle.gb_layer.specs.PigeonholeLemmas.{no_more_messages}
 use Rattle.gb_layer.specs.WholeLemmas.{counted_grown, once_grown}
@@ -27,7 +27,7 @@ once_noted (Say m) es d = once_grown (λ e. e.m) es (blank m) d
 once_noted (Came p m) es d = once_grown (λ e. e.m) es (blank m) d
 once_noted (Notice q) es d = d
 
-module _ {L : Type 0} (below : L → ℕ → ℕ → ℕ → Type 0) (below_whole : L → Limit → Type 0) (below_need : Limit → Need)
+module _ {L : Type 0} (below : L → ℕ → ℕ → ℕ → Type 0) (below_whole : L → Limit → Type 0) (below_need : Limit → Room)
     (law : (x : L) (l : Limit) (a b : ℕ) → below_whole x l → (below_need l).sends ≤ a → (below_need l).ups ≤ b → below x a b l.calls) where
   -- a fifo that has its memory has room
   pub fifo_whole_room : (f : Fifo L) (l : Limit) (a b : ℕ) → IsWhole below_whole f l → (fifo_need below_need l).sends ≤ a → (fifo_need below_need l).ups ≤ b → HasRoom below f a b l.calls

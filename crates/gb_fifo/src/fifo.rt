@@ -1,7 +1,5 @@
 //! The layer that keeps each origin's order.
-ghost use Rattle.std.specs.Prelude.{◌≡◌, ℕ, ◌+◌, ◌≤◌, ◌++◌, vec_len, vec_capacity, OnOk, IfSome, true};
-ghost use Rattle.gb_layer.specs.Limit.{Limit, is_within, message_count};
-ghost use Rattle.gb_layer.specs.Room.{free};
+ghost use Rattle.std.specs.Prelude.{◌≡◌, ◌+◌, ◌≤◌, vec_len, vec_capacity};
 ghost use Rattle.gb_fifo.specs.Entries.{noted_by};
 ghost use Rattle.gb_fifo.specs.FifoMachine.{FifoState, fifo_next, fifo_gives};
 ghost use Rattle.gb_fifo.specs.FifoRoom.{state_of, HasRoom, IsWhole, fifo_need, ungiven, IsNew};
@@ -11,9 +9,9 @@ ghost use Rattle.gb_fifo.specs.FifoLemmas.{fifo_me_stays, fifo_sends_handed_in, 
 
 use crate::ledger::{Ledger, take_all};
 use gb_layer::call::Call;
-use gb_layer::effects::{Need, Up};
+use gb_layer::effects::{Room, Up};
 use gb_layer::layer::{Broadcast, Layer};
-use gb_layer::whole::once_each;
+use gb_layer::whole::message_and_call_count;
 use gb_types::memory::OutOfMemory;
 use gb_types::message::MsgId;
 use gb_types::node::{NodeId, NodeSet};
@@ -83,7 +81,7 @@ impl<L: Broadcast> Layer for Fifo<L> {
         self.lower.me()
     }
 
-    fn prepare(&mut self, calls: usize) -> Result<Need, OutOfMemory> {
+    fn prepare(&mut self, calls: usize) -> Result<Room, OutOfMemory> {
         let Some(once) = self.entries.list.len().checked_add(calls) else {
             return Err(OutOfMemory);
         };
@@ -97,8 +95,8 @@ impl<L: Broadcast> Layer for Fifo<L> {
         members: &NodeSet,
         msgs: u16,
         calls: usize,
-    ) -> Result<Need, OutOfMemory> {
-        let Some(once) = once_each(members, msgs, calls) else {
+    ) -> Result<Room, OutOfMemory> {
+        let Some(once) = message_and_call_count(members, msgs, calls) else {
             return Err(OutOfMemory);
         };
         self.entries.list.reserve(once)?;

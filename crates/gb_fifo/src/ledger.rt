@@ -1,5 +1,5 @@
 //! The entries of a fifo, in the order of first mention.
-ghost use Rattle.std.specs.Prelude.{◌≡◌, ℕ, ◌+◌, ◌≤◌, ◌<◌, ◌∷◌, [], ◌++◌, true, map, take, drop, length, slice_index, vec_len, vec_capacity, count_by, OnOk};
+ghost use Rattle.std.specs.Prelude.{◌≡◌, ℕ, ◌+◌, ◌≤◌, ◌<◌, ◌∷◌, [], ◌++◌, true, map, take, drop, length, slice_index, vec_len, vec_capacity, count_by};
 ghost use Rattle.std.specs.List.{list_any};
 ghost use Rattle.gb_types.specs.declared.limits.TheConstants.{NODES};
 ghost use Rattle.gb_layer.specs.Places.{StandsAmong};

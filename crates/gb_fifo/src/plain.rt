@@ -1,6 +1,6 @@
 //! The order of each origin's messages, computed plainly from its meaning: slow, for short lists, to compare
 //! layers with.
-ghost use Rattle.std.specs.Prelude.{◌≡◌, ◌++◌, [], drop, map, IfOk, OnOk};
+ghost use Rattle.std.specs.Prelude.{◌≡◌, ◌++◌, drop, map, IfOk, OnOk};
 ghost use Rattle.gb_fifo.specs.Order as order;
 ghost use Rattle.gb_fifo.specs.Order.{numbered, upto};
 

@@ -3,7 +3,7 @@ use Rattle.std.specs.Prelude.{◌≡◌, ℕ, ◌+◌, ◌≤◌, true, vec_len,
 use Rattle.std.specs.List.{list_all, IsDistinct}
 use Rattle.gb_types.specs.Message.{same}
 use Rattle.gb_layer.specs.Limit.{Limit, is_counted, in_calls, message_count}
-use Rattle.gb_layer.specs.declared.effects.Need.{Need}
+use Rattle.gb_layer.specs.declared.effects.Room.{Room}
 use Rattle.gb_layer.specs.EntryLemmas.{keys}
 use Rattle.gb_layer.specs.declared.relay.Relay.{Relay}
 use Rattle.gb_layer.specs.Relay.{State, is_unsent, is_ungiven}
@@ -32,7 +32,7 @@ abbrev pub limit_below : Limit → Limit
 limit_below l = in_calls l (l.calls + l.calls + message_count l)
 
 -- what so many calls of a relay need at most: each message comes up once, beside what the layer below brings up
-abbrev pub relay_need : (Limit → Need) → Limit → Need
+abbrev pub relay_need : (Limit → Room) → Limit → Room
 relay_need need l = record { sends = (need (limit_below l)).sends; ups = (need (limit_below l)).ups + (message_count l + l.calls) }
 
 -- A relay has the memory for all calls within the limit: so has the layer below, and all messages have their places. Its entries are of different messages within the limit.

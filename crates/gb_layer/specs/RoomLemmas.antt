@@ -30,13 +30,6 @@ stays_then a b =
     let n = b.memory in
     record { items = b.items ∙ a.items; len = b.len ∙ a.len; memory = omega (arith, m, n) }
 
--- and has as many free places, or more
-pub stays_free : {A : Type 0} {xs ys : Vec A} → Stays xs ys → free xs ≤ free ys
-stays_free a =
-    let l = a.len in
-    let m = a.memory in
-    omega (arith, l, m)
-
 -- as many places are left as were free before so many more came
 pub free_left : {A : Type 0} (xs ys : Vec A) (more : List A) → ys.items ≡ xs.items ++ more → vec_capacity xs ≤ vec_capacity ys → free xs - length more ≤ free ys
 free_left xs ys more is memory =

@@ -12,7 +12,7 @@ use Rattle.gb_layer.specs.declared.call.Call.TheVariants.{Say, Came, Notice}
 use Rattle.gb_layer.specs.declared.entries.Entry.{Entry}
 use Rattle.gb_layer.specs.declared.relay.Relay.{Relay}
 use Rattle.gb_layer.specs.Limit.{Limit, is_counted, is_within, in_calls, message_count}
-use Rattle.gb_layer.specs.declared.effects.Need.{Need}
+use Rattle.gb_layer.specs.declared.effects.Room.{Room}
 use Rattle.gb_types.specs.declared.node.NodeId.{NodeId}
 use Rattle.gb_layer.specs.Machine.{Gives}
 use Rattle.gb_layer.specs.Rule.{Rules}
@@ -77,7 +77,7 @@ length-keys [] = refl
 length-keys (e ∷ es) = ap suc (length-keys es)
 
 module _ {L R : Type 0} {layer : _} {rule : _} (below : L → ℕ → ℕ → ℕ → Type 0) (roomier : (x : L) (a b n a' b' n' : ℕ) → a ≤ a' → b ≤ b' → n' ≤ n → below x a b n → below x a' b' n')
-    (below_whole : L → Limit → Type 0) (below_need : Limit → Need)
+    (below_whole : L → Limit → Type 0) (below_need : Limit → Room)
     (law : (x : L) (l : Limit) (a b : ℕ) → below_whole x l → (below_need l).sends ≤ a → (below_need l).ups ≤ b → below x a b l.calls) where
   -- a relay that has its memory has room
   pub relay_whole_room : (r : Relay L R layer rule) (l : Limit) (a b : ℕ) → IsWhole below_whole r l → (relay_need below_need l).sends ≤ a → (relay_need below_need l).ups ≤ b → HasRoom below r a b l.calls

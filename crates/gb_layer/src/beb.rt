@@ -7,7 +7,7 @@ ghost use Rattle.gb_layer.specs.RoomLemmas.{beb_roomier};
 ghost use Rattle.gb_layer.specs.BebLemmas.{beb_sends_handed_in, beb_ups_handed_in, beb_up_once, beb_sent_once, beb_noticed_once, fair_once};
 
 use crate::call::Call;
-use crate::effects::{Need, Up};
+use crate::effects::{Room, Up};
 use crate::layer::Layer;
 use gb_types::memory::OutOfMemory;
 use gb_types::message::MsgId;
@@ -31,10 +31,10 @@ impl Beb {
 }
 
 /// One send and one pair for each call.
-fn one_each(calls: usize) -> Need
+fn one_for_each_call(calls: usize) -> Room
     ensures { result ≡ record { sends = calls; ups = calls } }
 {
-    Need {
+    Room {
         sends: calls,
         ups: calls,
     }
@@ -65,8 +65,8 @@ impl Layer for Beb {
         self.me
     }
 
-    fn prepare(&mut self, calls: usize) -> Result<Need, OutOfMemory> {
-        Ok(one_each(calls))
+    fn prepare(&mut self, calls: usize) -> Result<Room, OutOfMemory> {
+        Ok(one_for_each_call(calls))
     }
 
     fn prepare_whole(
@@ -74,8 +74,8 @@ impl Layer for Beb {
         _members: &NodeSet,
         _msgs: u16,
         calls: usize,
-    ) -> Result<Need, OutOfMemory> {
-        Ok(one_each(calls))
+    ) -> Result<Room, OutOfMemory> {
+        Ok(one_for_each_call(calls))
     }
 
     fn take(&mut self, call: Call, sends: &mut Vec<MsgId>, ups: &mut Vec<Up>) {

@@ -4,7 +4,7 @@ ghost use Rattle.gb_layer.specs.Machine.{is_own, own_gives};
 ghost use Rattle.gb_layer.specs.DirectLemmas.{direct_sends_handed_in, direct_ups_handed_in, direct_up_once, direct_sent_once, direct_noticed_once, own_pairs};
 
 use crate::call::Call;
-use crate::effects::{Need, Up};
+use crate::effects::{Room, Up};
 use crate::layer::{Broadcast, Layer};
 use gb_types::memory::OutOfMemory;
 use gb_types::message::MsgId;
@@ -70,7 +70,7 @@ impl<L: Layer> Layer for Direct<L> {
         self.lower.me()
     }
 
-    fn prepare(&mut self, calls: usize) -> Result<Need, OutOfMemory> {
+    fn prepare(&mut self, calls: usize) -> Result<Room, OutOfMemory> {
         self.lower.prepare(calls)
     }
 
@@ -79,7 +79,7 @@ impl<L: Layer> Layer for Direct<L> {
         members: &NodeSet,
         msgs: u16,
         calls: usize,
-    ) -> Result<Need, OutOfMemory> {
+    ) -> Result<Room, OutOfMemory> {
         self.lower.prepare_whole(members, msgs, calls)
     }
 

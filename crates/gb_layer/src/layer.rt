@@ -5,12 +5,12 @@ ghost use Rattle.gb_layer.specs.declared.call.Call.{Call};
 ghost use Rattle.gb_layer.specs.declared.call.Call.TheVariants.{Say, Came, Notice};
 ghost use Rattle.gb_layer.specs.Laws.{StaysAtItsNode, ComesFromItsOrigin, SendsWhatWasHandedIn, HandsUpWhatWasHandedIn, HandsUpOnce, SendsOnce, NoticesOnce};
 ghost use Rattle.gb_layer.specs.Limit.{Limit, is_within};
-ghost use Rattle.gb_layer.specs.declared.effects.Need.{Need};
+ghost use Rattle.gb_layer.specs.declared.effects.Room.{Room};
 ghost use Rattle.gb_layer.specs.Machine.{Gives};
 ghost use Rattle.gb_layer.specs.Room.{free};
 
 use crate::call::Call;
-use crate::effects::{Need, Up};
+use crate::effects::{Room, Up};
 use gb_types::memory::OutOfMemory;
 use gb_types::message::MsgId;
 use gb_types::node::{NodeId, NodeSet};
@@ -54,7 +54,7 @@ pub trait Layer {
     ghost is_whole: { Self → Limit → Type 0 };
 
     /// The most that so many calls within the limit give.
-    ghost need: { Limit → Need };
+    ghost need: { Limit → Room };
 
     /// The node where the layer is.
     fn me(&self) -> NodeId
@@ -62,7 +62,7 @@ pub trait Layer {
 
     /// Takes the layer's own memory for the next `calls` calls. Gives how much room these need in the two lists. A
     /// refusal changes nothing that is remembered.
-    fn prepare(&mut self, calls: usize) -> Result<Need, OutOfMemory>
+    fn prepare(&mut self, calls: usize) -> Result<Room, OutOfMemory>
         ensures meaning { meaning self.new ≡ meaning self.old }
         ensures room { IfOk result (λ most. has_room self.new most.sends most.ups calls) };
 
@@ -74,7 +74,7 @@ pub trait Layer {
         members: &NodeSet,
         msgs: u16,
         calls: usize,
-    ) -> Result<Need, OutOfMemory>
+    ) -> Result<Room, OutOfMemory>
         requires { is_empty (meaning self.old) }
         ensures meaning { meaning self.new ≡ meaning self.old }
         ensures whole { OnOk result (is_whole self.new (record { members = members.now; msgs = msgs; calls = calls })) }

@@ -1,5 +1,5 @@
 //! Places of entries in a list.
-ghost use Rattle.std.specs.Prelude.{ℕ, ◌≤◌, ◌<◌};
+ghost use Rattle.std.specs.Prelude.{ℕ, ◌<◌};
 ghost use Rattle.gb_layer.specs.Places.{IsAmong};
 
 /// The places from one on and before another.

@@ -4,20 +4,20 @@ ghost use Rattle.gb_layer.specs.declared.call.Call.TheVariants.{Say, Came};
 ghost use Rattle.gb_layer.specs.Room.{free, Stays};
 ghost use Rattle.gb_layer.specs.Pending.{is_pending};
 ghost use Rattle.gb_layer.specs.Places.{StandsAmong};
-ghost use Rattle.gb_layer.specs.Relay.{State, IsNew, IsEmpty, at_start, is_unsent, is_ungiven, marked_sent, call_below, due_to_relay, due_to_deliver, due_message, relay_if, relay_if_sends, relayed, relayed_sends, begun, begun_sends, given, given_ups, is_repeat, relay_next, relay_gives, handed, up_of};
-ghost use Rattle.gb_layer.specs.Limit.{Limit, is_counted, is_within, message_count};
+ghost use Rattle.gb_layer.specs.Relay.{State, IsNew, IsEmpty, at_start, is_unsent, is_ungiven, marked_sent, call_below, due_to_deliver, due_message, relay_if, relay_if_sends, relayed, relayed_sends, begun, begun_sends, given, given_ups, is_repeat, relay_next, relay_gives, handed, up_of};
+ghost use Rattle.gb_layer.specs.Limit.{Limit, is_counted, is_within};
 ghost use Rattle.gb_layer.specs.RelayLemmas.{relay_me_stays, relay_noticed_once, relay_own};
 ghost use Rattle.gb_layer.specs.RelayOnceLemmas.{relay_sends_handed_in, relay_ups_handed_in, relay_up_once, relay_sent_once};
 
 use crate::call::Call;
-use crate::effects::{Need, Up};
+use crate::effects::{Room, Up};
 use crate::entries::Entry;
 use crate::layer::{Broadcast, Layer};
 use crate::ledger::Ledger;
 use crate::pending::{add_pending, is_due, is_ready, take_in};
 use crate::places::Places;
 use crate::rule::Rule;
-use crate::whole::once_each;
+use crate::whole::message_and_call_count;
 use gb_types::memory::OutOfMemory;
 use gb_types::message::MsgId;
 use gb_types::node::{NodeId, NodeSet};
@@ -362,7 +362,7 @@ impl<L: Layer, R: Rule> Layer for Relay<L, R> {
         self.lower.me()
     }
 
-    fn prepare(&mut self, calls: usize) -> Result<Need, OutOfMemory> {
+    fn prepare(&mut self, calls: usize) -> Result<Room, OutOfMemory> {
         // A pair for each message and for each call.
         let Some(once) = self.entries.list.len().checked_add(calls) else {
             return Err(OutOfMemory);
@@ -380,8 +380,8 @@ impl<L: Layer, R: Rule> Layer for Relay<L, R> {
         members: &NodeSet,
         msgs: u16,
         calls: usize,
-    ) -> Result<Need, OutOfMemory> {
-        let Some(once) = once_each(members, msgs, calls) else {
+    ) -> Result<Room, OutOfMemory> {
+        let Some(once) = message_and_call_count(members, msgs, calls) else {
             return Err(OutOfMemory);
         };
         let Some(below) = once.checked_add(calls) else {

@@ -1,5 +1,5 @@
 //! A layer that took its memory once takes no more.
-ghost use Rattle.std.specs.Prelude.{◌≡◌, ◌+◌, true, IfOk, IfSome};
+ghost use Rattle.std.specs.Prelude.{◌≡◌, ◌↔◌, ◌+◌, ◌≤◌, true, IsSome, IfOk, IfSome};
 ghost use Rattle.gb_layer.specs.Limit as limit;
 
 use crate::call::Call;
@@ -11,8 +11,9 @@ use gb_types::node::NodeSet;
 
 /// One for each message of these members, numbered from 1 to `msgs`, and one for each of so many calls. None where
 /// there is no such number.
-pub fn once_each(members: &NodeSet, msgs: u16, calls: usize) -> Option<usize>
-    ensures { IfSome result (λ most. most ≡ limit.message_count (record { members = members.now; msgs = msgs; calls = calls }) + calls) }
+pub fn message_and_call_count(members: &NodeSet, msgs: u16, calls: usize) -> Option<usize>
+    ensures fits { IsSome result ↔ (limit.message_count (record { members = members.now; msgs = msgs; calls = calls }) + calls ≤ usize.MAX) }
+    ensures value { IfSome result (λ count. count ≡ limit.message_count (record { members = members.now; msgs = msgs; calls = calls }) + calls) }
 {
     match members.count_in(members).checked_mul(usize::from(msgs)) {
         Some(messages) => messages.checked_add(calls),

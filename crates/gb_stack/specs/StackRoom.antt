@@ -1,7 +1,7 @@
 -- When a stack has room, and when it has all its memory.
 use Rattle.std.specs.Prelude.{ℕ}
 use Rattle.gb_layer.specs.BebMachine.{BebRoom, beb_need}
-use Rattle.gb_layer.specs.declared.effects.Need.{Need}
+use Rattle.gb_layer.specs.declared.effects.Room.{Room}
 use Rattle.gb_layer.specs.Limit.{Limit}
 use Rattle.gb_layer.specs.RelayState as relay
 use Rattle.gb_fifo.specs.FifoRoom as fifo
@@ -23,11 +23,11 @@ stack_room (stack.Unordered l) = unordered_room l
 stack_room (stack.Fifo l) = fifo.HasRoom unordered_room l
 
 -- what so many calls of a broadcast without an order need at most, whichever it is: no more than a relay over `Beb`
-abbrev pub unordered_need : Limit → Need
+abbrev pub unordered_need : Limit → Room
 unordered_need = relay.relay_need beb_need
 
 -- what so many calls of a stack need at most, whichever its kind: no more than a fifo over that
-abbrev pub stack_need : Limit → Need
+abbrev pub stack_need : Limit → Room
 stack_need = fifo.fifo_need unordered_need
 
 -- a broadcast without an order has the memory for all calls within the limit

@@ -1,5 +1,5 @@
 //! The broadcast of a group.
-ghost use Rattle.std.specs.Prelude.{◌≡◌, ℕ, ◌+◌, ◌++◌, IfOk, if◌then◌else◌};
+ghost use Rattle.std.specs.Prelude.{◌≡◌, ℕ, ◌+◌, IfOk, if◌then◌else◌};
 ghost use Rattle.gb_types.specs.declared.limits.TheConstants.{NODES};
 ghost use Rattle.gb_layer.specs.declared.call.Call.TheVariants.{Notice};
 ghost use Rattle.gb_layer.specs.Room.{free};
@@ -14,9 +14,9 @@ use crate::kinds::{broadcast_module, is_fifo};
 use crate::unordered::Unordered;
 use gb_fifo::fifo::Fifo;
 use gb_layer::call::Call;
-use gb_layer::effects::{Need, Up};
+use gb_layer::effects::{Room, Up};
 use gb_layer::layer::{Broadcast, Layer};
-use gb_layer::whole::once_each;
+use gb_layer::whole::message_and_call_count;
 use gb_types::kind::Kind;
 use gb_types::limits::NODES;
 use gb_types::memory::OutOfMemory;
@@ -140,7 +140,7 @@ impl Layer for Stack {
         }
     }
 
-    fn prepare(&mut self, calls: usize) -> Result<Need, OutOfMemory> {
+    fn prepare(&mut self, calls: usize) -> Result<Room, OutOfMemory> {
         match self {
             Stack::Unordered(layer) => layer.prepare(calls),
             Stack::Fifo(layer) => layer.prepare(calls),
@@ -152,10 +152,10 @@ impl Layer for Stack {
         members: &NodeSet,
         msgs: u16,
         calls: usize,
-    ) -> Result<Need, OutOfMemory> {
+    ) -> Result<Room, OutOfMemory> {
         match self {
             Stack::Unordered(layer) => {
-                let Some(once) = once_each(members, msgs, calls) else {
+                let Some(once) = message_and_call_count(members, msgs, calls) else {
                     return Err(OutOfMemory);
                 };
                 let need = layer.prepare_whole(members, msgs, calls)?;

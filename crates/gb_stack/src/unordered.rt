@@ -11,10 +11,10 @@ use gb_layer::beb::Beb;
 use gb_layer::broadcast_module::BroadcastModule;
 use gb_layer::call::Call;
 use gb_layer::direct::Direct;
-use gb_layer::effects::{Need, Up};
+use gb_layer::effects::{Room, Up};
 use gb_layer::layer::{Broadcast, Layer};
 use gb_layer::relay::Relay;
-use gb_layer::whole::once_each;
+use gb_layer::whole::message_and_call_count;
 use gb_reliable::eager::{Eager, Eagerly};
 use gb_reliable::lazy::{Lazily, Lazy};
 use gb_types::memory::OutOfMemory;
@@ -55,16 +55,16 @@ impl Unordered {
 }
 
 /// The room that so many calls within a limit need at most, whichever the broadcast: as much as a relay's.
-fn most_of(members: &NodeSet, msgs: u16, calls: usize) -> Result<Need, OutOfMemory>
+fn most_of(members: &NodeSet, msgs: u16, calls: usize) -> Result<Room, OutOfMemory>
     ensures { IfOk result (λ most. most ≡ unordered_need (record { members = members.now; msgs = msgs; calls = calls })) }
 {
-    let Some(once) = once_each(members, msgs, calls) else {
+    let Some(once) = message_and_call_count(members, msgs, calls) else {
         return Err(OutOfMemory);
     };
     let Some(below) = once.checked_add(calls) else {
         return Err(OutOfMemory);
     };
-    let need = Need {
+    let need = Room {
         sends: below,
         ups: below,
     };
@@ -106,7 +106,7 @@ impl Layer for Unordered {
         }
     }
 
-    fn prepare(&mut self, calls: usize) -> Result<Need, OutOfMemory> {
+    fn prepare(&mut self, calls: usize) -> Result<Room, OutOfMemory> {
         match self {
             Unordered::BestEffort(layer) => layer.prepare(calls),
             Unordered::Lazy(layer) => layer.prepare(calls),
@@ -120,7 +120,7 @@ impl Layer for Unordered {
         members: &NodeSet,
         msgs: u16,
         calls: usize,
-    ) -> Result<Need, OutOfMemory> {
+    ) -> Result<Room, OutOfMemory> {
         match self {
             Unordered::BestEffort(_) => most_of(members, msgs, calls),
             Unordered::Lazy(layer) => layer.prepare_whole(members, msgs, calls),

@@ -1,15 +1,15 @@
 //! The room that calls need, up to the last number that there is.
 use crate::names::{MEMBERS, OWN};
 use crate::stacks::{set, stack};
-use gb_layer::effects::{Effects, Need};
+use gb_layer::effects::{Effects, Room};
 use gb_layer::layer::Layer;
-use gb_layer::whole::once_each;
+use gb_layer::whole::message_and_call_count;
 use gb_types::kind::Kind;
 use gb_types::node::NodeSet;
 use std::test::Fail;
 
 /// Room for three sends and for one pair fewer than a number can say.
-const ONE_LEFT: Need = Need {
+const ONE_LEFT: Room = Room {
     sends: 3,
     ups: usize::MAX - 1,
 };
@@ -26,9 +26,9 @@ fn pairs_are_added_up_to_the_last_number(rt: HostRuntime) -> Result<(), Fail> {
 #[test]
 fn messages_and_calls_are_counted_up_to_the_last_number(rt: HostRuntime) -> Result<(), Fail> {
     let members = set(&MEMBERS);
-    let last = once_each(&members, 2, usize::MAX - 6);
+    let last = message_and_call_count(&members, 2, usize::MAX - 6);
     assert!(rt; last == Some(usize::MAX));
-    let over = once_each(&members, 2, usize::MAX - 5);
+    let over = message_and_call_count(&members, 2, usize::MAX - 5);
     assert!(rt; over.is_none());
     Ok(())
 }

@@ -1,6 +1,6 @@
 use Rattle.std.proofs.Common.{◌≡◌, ◌+◌, rules, arith}
 use Rattle.std.proofs.lemmas.List.Sums.{count_by-le-length}
-use Rattle.gb_layer.specs.declared.effects.Need.{Need}
+use Rattle.gb_layer.specs.declared.effects.Room.{Room}
 use Rattle.gb_layer.specs.RoomLemmas.{made_is}
 use Rattle.gb_fifo.specs.Entries.{is_ungiven}
 use Rattle.gb_fifo.specs.FifoRoom.{HasRoom}
@@ -17,7 +17,7 @@ returns-clause-room g c =
     let rl = c.reserve.ensures.len in
     let len = c.len.ensures in
     let each : once ≡ c.len.result + calls = search rules in
-    made_is c.with_ups.result (record { sends = need.sends; ups = need.ups + once }) (λ (most : Need). HasRoom g.L.Layer.has_room _ most.sends most.ups calls) c.with_ups.ensures
+    made_is c.with_ups.result (record { sends = need.sends; ups = need.ups + once }) (λ (most : Room). HasRoom g.L.Layer.has_room _ most.sends most.ups calls) c.with_ups.ensures.value
     (record {
       aside = need.ups;
       lower = c.in_ok-need.ensures.room;

@@ -1,6 +1,6 @@
 use Rattle.std.proofs.Common.{◌≡◌, ◌+◌, count_by, rules, arith}
 use Rattle.std.proofs.lemmas.List.Sums.{count_by-le-length}
-use Rattle.gb_layer.specs.declared.effects.Need.{Need}
+use Rattle.gb_layer.specs.declared.effects.Room.{Room}
 use Rattle.gb_layer.specs.Relay.{is_unsent, is_ungiven}
 use Rattle.gb_layer.specs.RelayState.{HasRoom}
 use Rattle.gb_layer.specs.RoomLemmas.{made_is}
@@ -20,7 +20,7 @@ returns-clause-room g c =
     let len = c.len.ensures in
     let each : once ≡ c.len.result + calls = search rules in
     let more : below ≡ once + calls = search rules in
-    made_is c.with_ups.result (record { sends = need.sends; ups = need.ups + once }) (λ (most : Need). HasRoom g.L.Layer.has_room _ most.sends most.ups calls) c.with_ups.ensures
+    made_is c.with_ups.result (record { sends = need.sends; ups = need.ups + once }) (λ (most : Room). HasRoom g.L.Layer.has_room _ most.sends most.ups calls) c.with_ups.ensures.value
     (record {
       aside = need.ups;
       lower = g.met.L.Layer.roomier c.prepare.new.self need.sends need.ups below need.sends need.ups (calls + calls + count_by is_unsent es) (omega arith) (omega arith) (omega (arith, each, more, u, ok, rl, len)) c.in_ok-need.ensures.room;

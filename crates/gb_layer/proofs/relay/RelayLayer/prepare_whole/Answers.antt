@@ -1,5 +1,5 @@
 use Rattle.std.proofs.Common.{◌≡◌, ◌+◌, ◌≤◌, ℕ, vec_capacity, ap, subst, ◌∙◌, rules, arith}
-use Rattle.gb_layer.specs.declared.effects.Need.{Need}
+use Rattle.gb_layer.specs.declared.effects.Room.{Room}
 use Rattle.gb_layer.specs.Limit.{Limit, in_calls, message_count}
 use Rattle.gb_layer.specs.RelayState.{limit_below, relay_need}
 use Rattle.gb_layer.specs.RoomLemmas.{made_is, whatever_made}
@@ -10,7 +10,7 @@ pub returns-clause-whole : goal.returns-clause-whole
 returns-clause-whole g c =
     let L = g.L.Layer in
     let limit : Limit = record { members = c.args.members.now; msgs = c.args.msgs; calls = c.args.calls } in
-    let once : c.in-Some.once ≡ message_count limit + c.args.calls = c.in-Some.ensures in
+    let once : c.in-Some.once ≡ message_count limit + c.args.calls = c.in-Some.ensures.value in
     let below : c.in-Some-checked_add.below ≡ c.in-Some.once + c.args.calls = search rules in
     let enough : c.in-Some-checked_add.below ≡ c.args.calls + c.args.calls + message_count limit = omega (arith, once, below) in
     let listed = c.cover.ensures.list in
@@ -25,9 +25,9 @@ pub returns-clause-need : goal.returns-clause-need
 returns-clause-need g c =
     let L = g.L.Layer in
     let limit : Limit = record { members = c.args.members.now; msgs = c.args.msgs; calls = c.args.calls } in
-    let once : c.in-Some.once ≡ message_count limit + c.args.calls = c.in-Some.ensures in
+    let once : c.in-Some.once ≡ message_count limit + c.args.calls = c.in-Some.ensures.value in
     let below : c.in-Some-checked_add.below ≡ c.in-Some.once + c.args.calls = search rules in
     let enough : c.in-Some-checked_add.below ≡ c.args.calls + c.args.calls + message_count limit = omega (arith, once, below) in
     let need : c.in_ok-need.need ≡ L.need (limit_below limit) = c.in_ok-need.ensures.need ∙ ap (λ (n : ℕ). L.need (in_calls limit n)) enough in
-    made_is c.with_ups.result (record { sends = c.in_ok-need.need.sends; ups = c.in_ok-need.need.ups + c.in-Some.once }) (λ (most : Need). most ≡ relay_need L.need limit) c.with_ups.ensures
+    made_is c.with_ups.result (record { sends = c.in_ok-need.need.sends; ups = c.in_ok-need.need.ups + c.in-Some.once }) (λ (most : Room). most ≡ relay_need L.need limit) c.with_ups.ensures.value
     (λ i. record { sends = (need i).sends; ups = (need i).ups + once i })
