@@ -1,5 +1,5 @@
 //! The walk round the groups, with no work for groups where nothing waits.
-ghost use Rattle.std.specs.Prelude.{◌≡◌, ◌<◌, ◌≤◌, ◌+◌, ◌*◌, ◌++◌, [], ℕ, length, take, sum_by, slice_index_or, All, IfSome, MatchOption, vec_len, vec_capacity};
+ghost use Rattle.std.specs.Prelude.{◌≡◌, ◌<◌, ◌≤◌, ◌+◌, ◌*◌, ◌++◌, [], length, take, sum_by, slice_index_or, All, IfSome, MatchOption, vec_len, vec_capacity};
 ghost use Rattle.gb_frame.specs.Spelling.{items_text, IsItem};
 ghost use Rattle.gb_groups.specs.Ahead.{ahead, IsActive, IsTurn};
 ghost use Rattle.gb_groups.specs.Busy.{IsBusy};

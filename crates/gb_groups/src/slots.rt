@@ -1,15 +1,15 @@
 //! The slots of a node's groups, in the order in which they were made.
-ghost use Rattle.std.specs.Prelude.{◌≡◌, ◌≢◌, ◌<◌, ◌≤◌, ◌+◌, ◌&&◌, [], ℕ, List, Option, Some, None, length, slice_get, slice_index_or, slice_set, position, ◌++◌, ◌∷◌, OnOk, OnErr, true, false, IfSome, MatchOption, option_map, vec_len, vec_capacity};
+ghost use Rattle.std.specs.Prelude.{◌≡◌, ◌<◌, ◌≤◌, ◌+◌, [], ℕ, Some, None, length, slice_index_or, slice_set, position, ◌++◌, ◌∷◌, OnOk, OnErr, true, false, IfSome, MatchOption, vec_len, vec_capacity};
 ghost use Rattle.gb_types.specs.declared.limits.TheConstants.{PAYLOAD};
 ghost use Rattle.gb_rules.specs.Address.{is_addr};
 ghost use Rattle.gb_rules.specs.Group.{is_member, open_answer, shut_answer, drop_answer, say_answer, fetch_answer};
 ghost use Rattle.gb_rules.specs.Replied.{done_reply, said_reply, IsReply};
 ghost use Rattle.gb_rules.specs.declared.phase.Phase.TheVariants as Phase;
 ghost use Rattle.gb_slot.specs.Slot.{IsWithinLimits, new_slot, waiting, slot_came, slot_done, slot_noticed, slot_moved, slot_said};
-ghost use Rattle.gb_groups.specs.SlotsValue.{Row, no_entry, row_at, on_slot, HaveCounters, IsShort, AreShort, AreApart, unless_gone, gone};
+ghost use Rattle.gb_groups.specs.SlotsValue.{no_entry, row_at, on_slot, HaveCounters, IsShort, AreShort, AreApart, unless_gone, gone};
 ghost use Rattle.gb_frame.specs.Spelling.{item_text, IsItem};
 ghost use Rattle.gb_frame.specs.declared.limits.TheConstants.{ITEM_HEADER};
-ghost use Rattle.gb_groups.specs.Packing.{queue, queues, first_entry, took, item_of};
+ghost use Rattle.gb_groups.specs.Packing.{queue, first_entry, took, item_of};
 ghost use Rattle.gb_groups.specs.Slots.{place_at};
 
 use gb_frame::item::{ItemView, put_item};
