@@ -17,6 +17,7 @@ pub mod MemberLemmas
 pub mod NotedLemmas
 pub mod CoveredLemmas
 pub mod DropLemmas
+pub mod FindLemmas
 pub mod LentLemmas
 pub mod OneGroupLemmas
 pub mod ShortLemmas

@@ -40,6 +40,9 @@ enum Place {
 pub struct Slots {
     places: IndexMap<Addr, Place>,
     slots: Slab<Slot>,
+    /// The place of the group that was last said something in, or that an item or an acknowledgement was taken into. It is
+    /// for speed alone: what stands there is tested.
+    recent: usize,
     /// What one call of a group's broadcast gives. It is lent to the group, and emptied by the call.
     effects: Effects,
 }
@@ -71,6 +74,16 @@ fn key_at(places: &IndexMap<Addr, Place>, place: usize) -> Option<usize>
     }
 }
 
+/// Whether a group stands at a place and has this address.
+fn is_at(places: &IndexMap<Addr, Place>, place: usize, addr: Addr) -> bool
+    ensures { MatchOption (slice_get places.now.entries place) (result ≡ false) (λ e. result ≡ is_addr addr e.0) }
+{
+    match places.get_index(place) {
+        Some((stands, _)) => addr == *stands,
+        None => false,
+    }
+}
+
 impl Slots {
     /// No groups.
     pub fn new(alloc: Global) -> Slots
@@ -79,6 +92,7 @@ impl Slots {
         Slots {
             places: IndexMap::new(alloc),
             slots: Slab::new(alloc),
+            recent: 0,
             effects: Effects::new(alloc),
         }
     }
@@ -93,11 +107,20 @@ impl Slots {
         self.places.len()
     }
 
-    /// The place of the group with this address.
+    /// The place of the group with this address. The one that was last used and the one made next after it are looked at
+    /// first: items of a frame stand mostly in that order.
     pub fn find(&self, addr: Addr) -> Option<usize>
         ensures place { result ≡ position (λ row. is_addr addr row.addr) self.now.rows }
         ensures apart { AreApart self.now.rows }
     {
+        if is_at(&self.places, self.recent, addr) {
+            return Some(self.recent);
+        }
+        let next = self.recent.wrapping_add(1);
+        let next = if next == self.places.len() { 0 } else { next };
+        if is_at(&self.places, next, addr) {
+            return Some(next);
+        }
         self.places.get_index_of(&addr)
     }
 
@@ -176,6 +199,7 @@ impl Slots {
         ensures rows { self.new.rows ≡ slice_set self.old.rows place (on_slot (slot_came from (record { origin = origin; seq = seq; payload = payload.now })) (row_at self.old.rows place)) }
         ensures quiet { result ≡ false → (dest : ℕ) → length (queue dest (on_slot (slot_came from (record { origin = origin; seq = seq; payload = payload.now })) (row_at self.old.rows place))) ≡ length (queue dest (row_at self.old.rows place)) }
     {
+        self.recent = place;
         if let Some(key) = key_at(&self.places, place) {
             if let Some(slot) = self.slots.get_mut(key) {
                 return slot.came(from, origin, seq, payload, &mut self.effects);
@@ -188,6 +212,7 @@ impl Slots {
     pub fn done(&mut self, place: usize, dest: NodeId, m: MsgId)
         ensures { self.new.rows ≡ slice_set self.old.rows place (on_slot (slot_done dest m) (row_at self.old.rows place)) }
     {
+        self.recent = place;
         if let Some(key) = key_at(&self.places, place) {
             if let Some(slot) = self.slots.get_mut(key) {
                 slot.done(dest, m);
@@ -237,6 +262,7 @@ impl Slots {
         ensures reply { result ≡ unless_gone (λ s. say_answer s payload.now) (row_at self.old.rows place).slot }
         ensures rows { self.new.rows ≡ slice_set self.old.rows place (on_slot (slot_said payload.now result) (row_at self.old.rows place)) }
     {
+        self.recent = place;
         if let Some(key) = key_at(&self.places, place) {
             if let Some(slot) = self.slots.get_mut(key) {
                 return said(slot.say(payload, &mut self.effects));

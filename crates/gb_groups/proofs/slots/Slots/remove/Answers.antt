@@ -19,7 +19,7 @@ invariant_of-self c =
     let slots = c.self.inside.slots in
     let p = c.args.place in
     let key = c.in-Some.key in
-    let at : c.match-get_index_mut.self-inside ≡ record { places = with_value_at c.self.inside.places p Gone; slots = slots; effects = c.self.inside.effects } = elim c.match-get_index_mut.branch [
+    let at : c.match-get_index_mut.self-inside ≡ record { places = with_value_at c.self.inside.places p Gone; slots = slots; recent = c.self.inside.recent; effects = c.self.inside.effects } = elim c.match-get_index_mut.branch [
       | in-Some-get_index_mut w ↦ w.self-inside-is
       | in_default-get_index_mut w ↦ let f = w.in_default-get_index_mut.ensures.found.1 (leads_within es p key c.in-Some.ensures) in absurd (cc)
     ] in
@@ -39,7 +39,7 @@ returns-clause-rows c =
     let slots = c.self.inside.slots in
     let p = c.args.place in
     let key = c.in-Some.key in
-    let at : c.match-get_index_mut.self-inside ≡ record { places = with_value_at c.self.inside.places p Gone; slots = slots; effects = c.self.inside.effects } = elim c.match-get_index_mut.branch [
+    let at : c.match-get_index_mut.self-inside ≡ record { places = with_value_at c.self.inside.places p Gone; slots = slots; recent = c.self.inside.recent; effects = c.self.inside.effects } = elim c.match-get_index_mut.branch [
       | in-Some-get_index_mut w ↦ w.self-inside-is
       | in_default-get_index_mut w ↦ let f = w.in_default-get_index_mut.ensures.found.1 (leads_within es p key c.in-Some.ensures) in absurd (cc)
     ] in
