@@ -4,7 +4,7 @@
 set -eu
 top=$(cd "$(dirname "$0")/.." && pwd)
 work=$top/bench/out/groups
-below='types cap frame layer reliable uniform fifo stack rules history slot groups'
+below='types cap frame layer reliable uniform fifo records stack rules history slot groups'
 mkdir -p "$work/crates"
 for name in $below; do
     mkdir -p "$work/crates/gb_$name"

@@ -12,10 +12,8 @@ import sys
 # The bytes for each of the n * m messages: a place in the store, a number in the log, and one with its place in what is
 # put out.
 MESSAGE = 12 + 4 + 6
-# What a relay adds: an entry.
-RELAY = 8
-# What first-in first-out order adds: an entry.
-FIFO = 6
+# What a relay or an order adds: a record.
+RECORD = 10
 # A table has a place of 2 bytes for each of m numbers of each node up to the last member.
 TABLE = 2
 # The set of the nodes that have an own message for good.
@@ -28,10 +26,9 @@ GROUPS = 8
 
 def reserved(kind, members, msgs, size):
     """The bytes that the spec reserves, and those of the fixed tables."""
-    is_fifo = kind.startswith('f')
-    is_relay = kind.removeprefix('f') != 'beb'
-    message = MESSAGE + RELAY * is_relay + FIFO * is_fifo
-    tables = 1 + is_relay + is_fifo
+    remembers = kind != 'beb'
+    message = MESSAGE + RECORD * remembers
+    tables = 1 + remembers
     return members * msgs * message + members * size + msgs * ACKNOWLEDGED, tables * TABLE * members * msgs
 
 

@@ -4,7 +4,7 @@
 set -eu
 top=$(cd "$(dirname "$0")/.." && pwd)
 work=$top/bench/out/merge
-lower='types|cap|frame|link|detect|layer|reliable|uniform|fifo|stack|rules|history|slot|alone|duties|groups|table|node|cluster|isolation|merge'
+lower='types|cap|frame|link|detect|layer|reliable|uniform|fifo|records|stack|rules|history|slot|alone|duties|groups|table|node|cluster|isolation|merge'
 mkdir -p "$work/crates"
 for crate in ${lower//|/ }; do
     mkdir -p "$work/crates/gb_$crate"

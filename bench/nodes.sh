@@ -6,7 +6,7 @@ set -eu
 top=$(cd "$(dirname "$0")/.." && pwd)
 work=$top/bench/out/nodes
 mkdir -p "$work/crates"
-lower='types|cap|frame|link|detect|layer|reliable|uniform|fifo|stack|rules|history|slot|groups|table|node'
+lower='types|cap|frame|link|detect|layer|reliable|uniform|fifo|records|stack|rules|history|slot|groups|table|node'
 for crate in ${lower//|/ }; do
     mkdir -p "$work/crates/gb_$crate"
     cp -r "$top/crates/gb_$crate/." "$work/crates/gb_$crate/"

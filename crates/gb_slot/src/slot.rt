@@ -88,12 +88,11 @@ impl Slot {
     ///
     /// All memory that the group alone ever needs is taken here. With n members, each of whom says `msgs` messages with
     /// `bytes` payload bytes in all at most, this is n * `bytes` payload bytes; 22 bytes for each of the n * `msgs`
-    /// messages (12 in the store, 4 in the log, 6 in what is put out), 8 more where the broadcast relays, and 6 more in
-    /// first-in first-out order; 2 bytes for each of `msgs` own messages, for the nodes that have it for good; and tables
-    /// by which messages are found, of 2 * `msgs` bytes for each node up to the last member: one, one more where the
-    /// broadcast relays, and one more in first-in first-out order. The lists get room for what a call of the group gives and
-    /// for what its layers put aside meanwhile, 4 and 18 bytes for each message, which all groups to which they are lent
-    /// share. OutOfMemory where it is not there.
+    /// messages (12 in the store, 4 in the log, 6 in what is put out), 10 more where the broadcast relays or keeps the order of
+    /// each origin; 2 bytes for each of `msgs` own messages, for the nodes that have it for good; and tables by which
+    /// messages are found, of 2 * `msgs` bytes for each node up to the last member: one, and one more where the broadcast
+    /// relays or keeps an order. The lists get room for what a call of the group gives, 4 and 6 bytes for each message,
+    /// which all groups to which they are lent share. OutOfMemory where it is not there.
     pub fn new(
         alloc: Global,
         spec: Spec,

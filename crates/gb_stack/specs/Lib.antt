@@ -2,6 +2,9 @@ pub mod Kinds
 pub mod StackState
 pub mod Stands
 pub mod LogLaws
+pub mod Settled
+pub mod Taken
+pub mod StackValue
 pub mod StackRoom
 pub mod WholeLemmas
 pub mod StackLemmas

@@ -1,43 +1,28 @@
 -- When a stack has room, and when it has all its memory.
-use Rattle.std.specs.Prelude.{ℕ}
-use Rattle.gb_layer.specs.BebMachine.{BebRoom, beb_need}
+use Rattle.std.specs.Prelude.{◌≡◌, ℕ, ◌+◌, ◌≤◌, Bool, true, ◌||◌, count_by, vec_len, vec_capacity}
+use Rattle.std.specs.List.{list_all}
 use Rattle.gb_layer.specs.declared.effects.Room.{Room}
-use Rattle.gb_layer.specs.Limit.{Limit}
-use Rattle.gb_layer.specs.RelayState as relay
-use Rattle.gb_fifo.specs.FifoRoom as fifo
+use Rattle.gb_layer.specs.Limit.{Limit, is_counted, message_count}
 use Rattle.gb_stack.specs.declared.stack.Stack.{Stack}
-use Rattle.gb_stack.specs.declared.stack.Stack.TheVariants as stack
-use Rattle.gb_stack.specs.declared.unordered.Unordered.{Unordered}
-use Rattle.gb_stack.specs.declared.unordered.Unordered.TheVariants as variant
+use Rattle.gb_records.specs.Records.{keys, is_unsent}
+use Rattle.gb_stack.specs.Settled.{relays}
+use Rattle.gb_stack.specs.Taken.{left}
 
--- there is room for so many calls of a broadcast without an order
-abbrev pub unordered_room : Unordered → ℕ → ℕ → ℕ → Type 0
-unordered_room (variant.BestEffort l) = BebRoom l.lower
-unordered_room (variant.Lazy l) = relay.HasRoom BebRoom l
-unordered_room (variant.Eager l) = relay.HasRoom BebRoom l
-unordered_room (variant.AllAck l) = relay.HasRoom BebRoom l
+-- a stack remembers messages: all do but best effort without an order
+abbrev pub remembers : Stack → Bool
+remembers s = s.here.ordered || relays s.base
 
--- there is room for so many calls of a stack
-abbrev pub stack_room : Stack → ℕ → ℕ → ℕ → Type 0
-stack_room (stack.Unordered l) = unordered_room l
-stack_room (stack.Fifo l) = fifo.HasRoom unordered_room l
+-- there is room for the next `calls` calls beside a free places for sends and b for pairs: each call may add a record and send a message, and each message that was not sent or handed up yet may be
+pub record stack_room (s : Stack) (a b calls : ℕ) : Type 0 where
+  pub records : remembers s ≡ true → vec_len s.records.list + calls ≤ vec_capacity s.records.list
+  pub sends : calls + count_by is_unsent s.records.list.items ≤ a
+  pub ups : calls + left s.here.ordered s.records.list.items ≤ b
 
--- what so many calls of a broadcast without an order need at most, whichever it is: no more than a relay over `Beb`
-abbrev pub unordered_need : Limit → Room
-unordered_need = relay.relay_need beb_need
-
--- what so many calls of a stack need at most, whichever its kind: no more than a fifo over that
+-- what so many calls of a stack need at most, whichever its kind: each message is sent once and comes up once
 abbrev pub stack_need : Limit → Room
-stack_need = fifo.fifo_need unordered_need
+stack_need l = record { sends = message_count l + l.calls; ups = message_count l + l.calls }
 
--- a broadcast without an order has the memory for all calls within the limit
-abbrev pub unordered_whole : Unordered → Limit → Type 0
-unordered_whole (variant.BestEffort l) = λ _. Unit {0}
-unordered_whole (variant.Lazy l) = relay.IsWhole (λ _ _. Unit {0}) l
-unordered_whole (variant.Eager l) = relay.IsWhole (λ _ _. Unit {0}) l
-unordered_whole (variant.AllAck l) = relay.IsWhole (λ _ _. Unit {0}) l
-
--- a stack has the memory for all calls within the limit
-abbrev pub stack_whole : Stack → Limit → Type 0
-stack_whole (stack.Unordered l) = unordered_whole l
-stack_whole (stack.Fifo l) = fifo.IsWhole unordered_whole l
+-- a stack has the memory for all calls within the limit: all messages have their places, and those that it remembers are within the limit
+pub record stack_whole (s : Stack) (l : Limit) : Type 0 where
+  pub capacity : remembers s ≡ true → message_count l + l.calls ≤ vec_capacity s.records.list
+  pub counted : list_all (is_counted l) (keys s.records.list.items) ≡ true

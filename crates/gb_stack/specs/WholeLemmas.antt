@@ -1,30 +1,29 @@
 -- A stack that has its memory has room.
-use Rattle.std.proofs.Common.{ℕ, ◌≤◌, arith}
-use Rattle.gb_layer.specs.declared.beb.Beb.{Beb}
-use Rattle.gb_layer.specs.BebMachine.{BebRoom, beb_need}
+use Rattle.std.proofs.Common.{ℕ, ◌≤◌, Bool, true, false, List, length, arith}
+use Rattle.std.proofs.lemmas.List.{length-map}
+use Rattle.std.proofs.lemmas.List.Sums.{count_by-le-length}
 use Rattle.gb_layer.specs.Limit.{Limit}
-use Rattle.gb_layer.specs.RoomLemmas.{beb_roomier}
-use Rattle.gb_layer.specs.WholeLemmas.{relay_whole_room}
-use Rattle.gb_fifo.specs.WholeLemmas.{fifo_whole_room}
+use Rattle.gb_layer.specs.PigeonholeLemmas.{no_more_messages}
+use Rattle.gb_records.specs.declared.record.Record.{Record}
+use Rattle.gb_records.specs.Records.{keys, is_unsent, is_ungiven}
 use Rattle.gb_stack.specs.declared.stack.Stack.{Stack}
-use Rattle.gb_stack.specs.declared.stack.Stack.TheVariants as stack
-use Rattle.gb_stack.specs.declared.unordered.Unordered.{Unordered}
-use Rattle.gb_stack.specs.declared.unordered.Unordered.TheVariants as variant
-use Rattle.gb_stack.specs.StackRoom.{unordered_room, stack_room, unordered_need, stack_need, unordered_whole, stack_whole}
+use Rattle.gb_stack.specs.StackRoom.{stack_room, stack_whole, stack_need}
+use Rattle.gb_stack.specs.Taken.{left, is_low}
 
--- `Beb` needs no memory of its own
-abbrev needs_none : Beb → Limit → Type 0
-needs_none _ _ = Unit {0}
-
-beb_whole_room : (x : Beb) (l : Limit) (a b : ℕ) → needs_none x l → (beb_need l).sends ≤ a → (beb_need l).ups ≤ b → BebRoom x a b l.calls
-beb_whole_room x l a b _ h k = (h, k)
-
-pub unordered_whole_room : (x : Unordered) (l : Limit) (a b : ℕ) → unordered_whole x l → (unordered_need l).sends ≤ a → (unordered_need l).ups ≤ b → unordered_room x a b l.calls
-unordered_whole_room (variant.BestEffort d) l a b w h k = (omega (arith, h), omega (arith, k))
-unordered_whole_room (variant.Lazy r) l a b w h k = relay_whole_room BebRoom beb_roomier needs_none beb_need beb_whole_room r l a b w h k
-unordered_whole_room (variant.Eager r) l a b w h k = relay_whole_room BebRoom beb_roomier needs_none beb_need beb_whole_room r l a b w h k
-unordered_whole_room (variant.AllAck r) l a b w h k = relay_whole_room BebRoom beb_roomier needs_none beb_need beb_whole_room r l a b w h k
+left_few : (ordered : Bool) (rs : List Record) → left ordered rs ≤ length rs
+left_few true rs = count_by-le-length is_ungiven rs
+left_few false rs = count_by-le-length is_low rs
 
 pub stack_whole_room : (x : Stack) (l : Limit) (a b : ℕ) → stack_whole x l → (stack_need l).sends ≤ a → (stack_need l).ups ≤ b → stack_room x a b l.calls
-stack_whole_room (stack.Unordered x) l a b w h k = unordered_whole_room x l a b w h (omega (arith, k))
-stack_whole_room (stack.Fifo f) l a b w h k = fifo_whole_room unordered_room unordered_whole unordered_need unordered_whole_room f l a b w h k
+stack_whole_room x l a b w h k =
+    let rs = x.records.list.items in
+    let n = no_more_messages l (keys rs) w.counted x.records.once in
+    let len = length-map rs (λ (r : Record). r.m) in
+    let ok = x.records.list.ok.0 in
+    let u = count_by-le-length is_unsent rs in
+    let g = left_few x.here.ordered rs in
+    record {
+      records = λ r. (let c = w.capacity r in omega (arith, n, len, ok, c));
+      sends = omega (arith, n, len, u, h);
+      ups = omega (arith, n, len, g, k);
+    }

@@ -1,28 +1,35 @@
 //! The broadcast of a group.
-ghost use Rattle.std.specs.Prelude.{◌≡◌, ℕ, ◌+◌, IfOk, if◌then◌else◌};
+ghost use Rattle.std.specs.Prelude.{◌≡◌, ℕ, ◌+◌, ◌≤◌, ◌||◌, false, IfOk, count_by, if◌then◌else◌, vec_len, vec_capacity};
+ghost use Rattle.std.specs.FinSet as set;
 ghost use Rattle.gb_types.specs.declared.limits.TheConstants.{NODES};
 ghost use Rattle.gb_layer.specs.declared.call.Call.TheVariants.{Notice};
 ghost use Rattle.gb_layer.specs.Room.{free};
+ghost use Rattle.gb_records.specs.Records.{is_unsent, relay_entries};
 ghost use Rattle.gb_stack.specs.Stands.{is_other_noticed, HasHeard, HasStarted};
-ghost use Rattle.gb_stack.specs.StackState.{StackState, unordered, fifo, stack_next, stack_gives, stack_me, IsUntoldStack, IsEmptyStack, untold_stack, new_stack};
-ghost use Rattle.gb_stack.specs.StackRoom.{stack_room, stack_whole, stack_need};
-ghost use Rattle.gb_stack.specs.WholeLemmas.{stack_whole_room};
-ghost use Rattle.gb_stack.specs.StackLemmas.{stack_roomier, stack_me_stays, stack_own, stack_sends_handed_in, stack_ups_handed_in, stack_up_once, stack_sent_once, stack_noticed_once};
-ghost use Rattle.gb_stack.specs.declared.stack.Stack.TheVariants as variant;
+ghost use Rattle.gb_stack.specs.StackState.{StackState, stack_next, stack_gives, stack_me, IsUntoldStack, IsEmptyStack, untold_stack, new_stack};
+ghost use Rattle.gb_stack.specs.Settled.{AreQuiet, IsQuiet, IsQuiet-prop, relays};
+ghost use Rattle.gb_stack.specs.Taken.{HasTaken, Spends, left, relay_state};
 
+use crate::direct::take_direct;
+use crate::here::Here;
 use crate::kinds::{broadcast_module, is_fifo};
-use crate::unordered::Unordered;
-use gb_fifo::fifo::Fifo;
+use crate::taking::{take_arrival, take_notice, take_saying};
+use gb_layer::broadcast_module::BroadcastModule;
 use gb_layer::call::Call;
 use gb_layer::effects::{Room, Up};
 use gb_layer::layer::{Broadcast, Layer};
+use gb_layer::rule::Rule;
 use gb_layer::whole::message_and_call_count;
+use gb_records::records::Records;
+use gb_reliable::eager::Eagerly;
+use gb_reliable::lazy::Lazily;
 use gb_types::kind::Kind;
 use gb_types::limits::NODES;
 use gb_types::memory::OutOfMemory;
 use gb_types::message::MsgId;
 use gb_types::node::{NodeId, NodeSet};
 use gb_types::spec::Spec;
+use gb_uniform::all_ack::AllAcked;
 use std::alloc::Global;
 
 /// The layer takes the notice of a node, where the node is another member that was noticed.
@@ -64,26 +71,71 @@ fn hear<L: Layer>(
     }
 }
 
-/// The broadcast of a group, of the kind that the group chose: one of four, plain or in the order of each origin.
+/// The broadcast of a group, of the kind that the group chose: one of four (Cachin, Guerraoui, Rodrigues 2011, chapter 3),
+/// plain or in the order of each origin. What it does is what its layers do, one over the other (`Lazy<Beb>`,
+/// `Fifo<AllAck<Beb>>`, ..), but they have one record for each message, which a call looks up once.
 #[derive(Drop)]
-pub enum Stack {
-    /// Messages are delivered as their module has it, in no order of their origins.
-    Unordered(Unordered),
-    /// Each origin's messages are delivered in the order in which they were said.
-    Fifo(Fifo<Unordered>),
+pub struct Stack {
+    base: BroadcastModule,
+    here: Here,
+    records: Records,
+    ghost quiet: { IsQuiet base here.me here.members here.noticed (relay_entries records.list.items) } by { IsQuiet-prop base here.me here.members here.noticed (relay_entries records.list.items) },
+    ghost none: { (here.ordered || relays base) ≡ false → vec_len records.list ≡ 0 },
+}
+
+/// A broadcast that relays takes a call.
+#[inline(always)]
+fn take_call<R: Rule>(
+    records: &mut Records,
+    rule: &R,
+    here: &mut Here,
+    call: Call,
+    sends: &mut Vec<MsgId>,
+    ups: &mut Vec<Up>,
+)
+    requires quiet { AreQuiet R.rules here.old.me here.old.members here.old.noticed (relay_entries records.old.list.items) }
+    requires entries { vec_len records.old.list + 1 ≤ vec_capacity records.old.list }
+    requires sends { 1 + count_by is_unsent records.old.list.items ≤ free sends.old }
+    requires ups { 1 + left here.old.ordered records.old.list.items ≤ free ups.old }
+    ensures taken { HasTaken R.rules here.old.ordered call (relay_state here.old.me here.old.members here.old.noticed (relay_entries records.old.list.items)) (relay_state here.new.me here.new.members here.new.noticed (relay_entries records.new.list.items)) records.old.list.items records.new.list.items sends.old.items sends.new.items ups.old.items ups.new.items }
+    ensures here { here.new.ordered ≡ here.old.ordered }
+    ensures spends { Spends here.old.ordered records.old.list.items records.new.list.items (free sends.old) (free sends.new) (free ups.old) (free ups.new) }
+    ensures len { vec_len records.new.list ≤ vec_len records.old.list + 1 }
+    ensures capacity { vec_capacity records.new.list ≡ vec_capacity records.old.list }
+    ensures sends_memory { vec_capacity sends.new ≡ vec_capacity sends.old }
+    ensures ups_memory { vec_capacity ups.new ≡ vec_capacity ups.old }
+{
+    match call {
+        Call::Say(m) => take_saying(records, rule, here, m, sends, ups),
+        Call::Came(from, m) => take_arrival(records, rule, here, from, m, sends, ups),
+        Call::Notice(who) => take_notice(records, rule, here, who, sends, ups),
+    }
 }
 
 impl Stack {
+    ghost use Rattle.gb_stack.specs.StackRoom.{remembers};
+
+    /// Whether it remembers messages: best-effort broadcast without an order remembers none.
+    fn remembers(&self) -> bool
+        ensures { result ≡ remembers self.now }
+    {
+        self.here.ordered || !matches!(self.base, BroadcastModule::BestEffort)
+    }
+
     /// A stack that was told nothing.
     fn untold(alloc: Global, kind: Kind, me: NodeId, members: NodeSet) -> Stack
         ensures meaning { ⟦<Stack as Layer>⟧.meaning result ≡ untold_stack kind me members }
         ensures fresh { ⟦<Stack as Layer>⟧.is_fresh (⟦<Stack as Layer>⟧.meaning result) }
     {
-        let lower = Unordered::new(alloc, broadcast_module(kind), me, members);
-        if is_fifo(kind) {
-            Stack::Fifo(Fifo::new(alloc, lower))
-        } else {
-            Stack::Unordered(lower)
+        Stack {
+            base: broadcast_module(kind),
+            here: Here {
+                me,
+                ordered: is_fifo(kind),
+                members,
+                noticed: NodeSet::new(),
+            },
+            records: Records::new(alloc),
         }
     }
 
@@ -110,12 +162,14 @@ impl Stack {
 }
 
 impl Layer for Stack {
+    ghost use Rattle.gb_stack.specs.StackValue.{value_of};
+    ghost use Rattle.gb_stack.specs.StackRoom.{stack_room, stack_whole, stack_need};
+    ghost use Rattle.gb_stack.specs.WholeLemmas.{stack_whole_room};
+    ghost use Rattle.gb_stack.specs.StackLemmas.{stack_roomier, stack_me_stays, stack_sends_handed_in, stack_ups_handed_in, stack_up_once, stack_sent_once, stack_noticed_once};
+
     ghost State = { StackState };
 
-    ghost meaning = { elim [
-      | variant.Unordered l ↦ unordered (⟦<Unordered as Layer>⟧.meaning l)
-      | variant.Fifo l ↦ fifo (⟦<Fifo<Unordered> as Layer>⟧.meaning l)
-    ] };
+    ghost meaning = { value_of };
 
     ghost me = { stack_me };
 
@@ -134,17 +188,20 @@ impl Layer for Stack {
     ghost need = { stack_need };
 
     fn me(&self) -> NodeId {
-        match self {
-            Stack::Unordered(layer) => layer.me(),
-            Stack::Fifo(layer) => layer.me(),
-        }
+        self.here.me
     }
 
     fn prepare(&mut self, calls: usize) -> Result<Room, OutOfMemory> {
-        match self {
-            Stack::Unordered(layer) => layer.prepare(calls),
-            Stack::Fifo(layer) => layer.prepare(calls),
+        let Some(most) = self.records.list.len().checked_add(calls) else {
+            return Err(OutOfMemory);
+        };
+        if self.remembers() {
+            self.records.list.reserve(calls)?;
         }
+        Ok(Room {
+            sends: most,
+            ups: most,
+        })
     }
 
     fn prepare_whole(
@@ -153,23 +210,53 @@ impl Layer for Stack {
         msgs: u16,
         calls: usize,
     ) -> Result<Room, OutOfMemory> {
-        match self {
-            Stack::Unordered(layer) => {
-                let Some(once) = message_and_call_count(members, msgs, calls) else {
-                    return Err(OutOfMemory);
-                };
-                let need = layer.prepare_whole(members, msgs, calls)?;
-                need.with_ups(once)
-            }
-            Stack::Fifo(layer) => layer.prepare_whole(members, msgs, calls),
+        let Some(most) = message_and_call_count(members, msgs, calls) else {
+            return Err(OutOfMemory);
+        };
+        if self.remembers() {
+            self.records.list.reserve(most)?;
+            self.records.cover(members, msgs)?;
         }
+        Ok(Room {
+            sends: most,
+            ups: most,
+        })
     }
 
     #[inline(always)]
     fn take(&mut self, call: Call, sends: &mut Vec<MsgId>, ups: &mut Vec<Up>) {
-        match self {
-            Stack::Unordered(layer) => layer.take(call, sends, ups),
-            Stack::Fifo(layer) => layer.take(call, sends, ups),
+        match self.base {
+            BroadcastModule::BestEffort => take_direct(
+                &mut self.records,
+                &self.here,
+                call,
+                sends,
+                ups,
+            ),
+            BroadcastModule::Lazy => take_call(
+                &mut self.records,
+                &Lazily,
+                &mut self.here,
+                call,
+                sends,
+                ups,
+            ),
+            BroadcastModule::Eager => take_call(
+                &mut self.records,
+                &Eagerly,
+                &mut self.here,
+                call,
+                sends,
+                ups,
+            ),
+            BroadcastModule::AllAck => take_call(
+                &mut self.records,
+                &AllAcked,
+                &mut self.here,
+                call,
+                sends,
+                ups,
+            ),
         }
     }
 
@@ -191,5 +278,7 @@ impl Layer for Stack {
 }
 
 impl Broadcast for Stack {
+    ghost use Rattle.gb_stack.specs.StackLemmas.{stack_own};
+
     ghost own_via = { stack_own };
 }

@@ -3,6 +3,8 @@
 #![tactic(auto)]
 
 #[cfg(test)]
+mod composed;
+#[cfg(test)]
 mod layers;
 #[cfg(test)]
 mod names;

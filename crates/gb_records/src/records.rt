@@ -1,0 +1,204 @@
+//! The records of a stack, in the order of first mention.
+ghost use Rattle.std.specs.Prelude.{◌≡◌, ℕ, ◌+◌, ◌≤◌, ◌<◌, ◌∷◌, ◌++◌, ◌&&◌, not, [], Some, length, slice_get, slice_index, count_by, true, false, OnOk, MatchOption, vec_len, vec_capacity};
+ghost use Rattle.std.specs.List.{list_any, IsDistinct};
+ghost use Rattle.std.proofs.Props.{props};
+ghost use Rattle.gb_types.specs.declared.limits.TheConstants.{NODES};
+ghost use Rattle.gb_types.specs.Message.{same};
+ghost use Rattle.gb_layer.specs.Room.{free};
+ghost use Rattle.gb_layer.specs.Table.{leads};
+ghost use Rattle.gb_fifo.specs.Entries.{given_of, is_next, next_of, pick, give, given_entry, up_of, released, released_ups, IsPlace};
+ghost use Rattle.gb_records.specs.Records.{keys, is_for, noted, is_ungiven, relay_entry, relay_entries, order_entry, order_entries};
+
+use crate::record::Record;
+use gb_layer::effects::Up;
+use gb_layer::table::{Table, place};
+use gb_types::limits::NODES;
+use gb_types::memory::OutOfMemory;
+use gb_types::message::MsgId;
+use gb_types::node::{NodeId, NodeSet};
+use std::alloc::Global;
+
+/// Whether the broadcast brought the message up, and it was not given up.
+fn is_waiting(r: &Record) -> bool
+    ensures { result ≡ (r.now.up && not r.now.given) }
+{
+    r.up && !r.given
+}
+
+/// Whether a message is up and not given, and is the one of the origin after the first k.
+fn is_after(r: &Record, origin: NodeId, k: usize) -> bool
+    ensures { result ≡ is_next origin.number k (order_entry r.now) }
+{
+    let seq = r.m.seq;
+    is_waiting(r) && (r.m.origin == origin && (seq != 0 && usize::from(seq - 1) == k))
+}
+
+/// The place of the message of an origin after the first k, if it is up and not given, by a search.
+fn find_after(records: &[Record], origin: NodeId, k: usize) -> Option<usize>
+    ensures { IsPlace (is_next origin.number k) (order_entries records.now) result }
+{
+    for i in 0..records.len() {
+        if is_after(&records[i], origin, k) {
+            return Some(i);
+        }
+    }
+    None
+}
+
+/// The records in the order of first mention, one for each message, with a table that leads to them.
+#[derive(Drop)]
+pub struct Records {
+    pub list: Vec<Record>,
+    pub table: Table,
+    /// How many messages of each origin were given up, which is the number of the last.
+    pub given: [u16; NODES],
+    ghost leads: { leads table.width table.told.items 0 (keys list.items) ≡ true },
+    ghost once: { IsDistinct same (keys list.items) } by { Prim.hlevel props },
+    ghost counted: { (origin : ℕ) → origin < NODES → slice_index given origin ≡ given_of origin (order_entries list.items) },
+}
+
+/// The place of the record of m, if there is one, by a search from the front.
+fn search(records: &[Record], m: MsgId) -> Option<usize>
+    ensures { MatchOption result (list_any (is_for m) records.now ≡ false) (λ i. slice_get (keys records.now) i ≡ Some m) }
+{
+    for i in 0..records.len() {
+        if records[i].m == m {
+            return Some(i);
+        }
+    }
+    None
+}
+
+impl Records {
+    /// No records.
+    #[tactic(auto, using(crate::proofs::PlaceLemmas::once_none))]
+    pub fn new(alloc: Global) -> Records
+        ensures { result.list.items ≡ [] }
+    {
+        Records {
+            list: Vec::new(alloc),
+            table: Table::new(alloc),
+            given: [0; NODES],
+        }
+    }
+
+    /// Has the table cover the members' messages numbered from 1 to this width, where there are no records yet.
+    pub fn cover(&mut self, members: &NodeSet, width: u16) -> Result<(), OutOfMemory>
+        requires { self.old.list.items ≡ [] }
+        ensures { self.new.list ≡ self.old.list }
+    {
+        self.table.cover(members, width)
+    }
+
+    /// The place of the record of m, if there is one.
+    pub fn find(&self, m: MsgId) -> Option<usize>
+        ensures { MatchOption result (list_any (is_for m) self.now.list.items ≡ false) (λ i. slice_get (keys self.now.list.items) i ≡ Some m) }
+    {
+        match self.table.told(m) {
+            Some(v) => match place(self.list.len(), v) {
+                Some(k) => { if self.list[k].m == m { Some(k) } else { None } }
+                None => None,
+            },
+            None => search(&self.list, m),
+        }
+    }
+
+    /// Adds a record of m, where there is none. Gives the place of the record of m.
+    pub fn note(&mut self, m: MsgId) -> usize
+        requires { vec_len self.old.list + 1 ≤ vec_capacity self.old.list }
+        ensures items { self.new.list.items ≡ noted self.old.list.items m }
+        ensures place { slice_get (keys self.new.list.items) result ≡ Some m }
+        ensures len { vec_len self.new.list ≤ vec_len self.old.list + 1 }
+        ensures capacity { vec_capacity self.new.list ≡ vec_capacity self.old.list }
+    {
+        if let Some(at) = self.find(m) {
+            return at;
+        }
+        let at = self.list.len();
+        self.table.note(m, at);
+        self.list.push_reserved(Record {
+            m,
+            holders: NodeSet::new(),
+            sent: false,
+            up: false,
+            given: false,
+        });
+        at
+    }
+
+    /// The place of the next message of an origin, if the broadcast brought it up.
+    fn find_next(&self, origin: NodeId) -> Option<usize>
+        ensures { IsPlace (next_of origin.number (order_entries self.now.list.items)) (order_entries self.now.list.items) result }
+    {
+        let k = self.given[origin.index()];
+        if k == u16::MAX {
+            return find_after(&self.list, origin, usize::from(k));
+        }
+        let Some(at) = self.find(MsgId { origin, seq: k + 1 }) else {
+            return None;
+        };
+        if is_waiting(&self.list[at]) {
+            Some(at)
+        } else {
+            None
+        }
+    }
+}
+
+/// Gives up one message, and says its number.
+fn give_one(r: &mut Record, ups: &mut Vec<Up>) -> u16
+    requires { 1 ≤ free ups.old }
+    ensures number { result ≡ r.old.m.seq }
+    ensures order { order_entry r.new ≡ given_entry (order_entry r.old) }
+    ensures relay { relay_entry r.new ≡ relay_entry r.old }
+    ensures ups { ups.new.items ≡ ups.old.items ++ up_of (order_entry r.old) ∷ [] }
+    ensures room { free ups.old ≤ free ups.new + 1 }
+    ensures memory { vec_capacity ups.new ≡ vec_capacity ups.old }
+{
+    r.given = true;
+    ups.push_reserved(Up {
+        via: r.m.origin,
+        m: r.m,
+    });
+    r.m.seq
+}
+
+/// Gives up the next message of an origin, if the broadcast brought it up, and says whether it did.
+fn give_next(records: &mut Records, origin: NodeId, ups: &mut Vec<Up>) -> bool
+    requires { count_by is_ungiven records.old.list.items ≤ free ups.old }
+    ensures found { result ≡ list_any (next_of origin.number (order_entries records.old.list.items)) (order_entries records.old.list.items) }
+    ensures order { order_entries records.new.list.items ≡ give (next_of origin.number (order_entries records.old.list.items)) (order_entries records.old.list.items) }
+    ensures relay { relay_entries records.new.list.items ≡ relay_entries records.old.list.items }
+    ensures ups { ups.new.items ≡ ups.old.items ++ pick (next_of origin.number (order_entries records.old.list.items)) (order_entries records.old.list.items) }
+    ensures room { free ups.old + count_by is_ungiven records.new.list.items ≤ free ups.new + count_by is_ungiven records.old.list.items }
+    ensures len { vec_len records.new.list ≡ vec_len records.old.list }
+    ensures capacity { vec_capacity records.new.list ≡ vec_capacity records.old.list }
+    ensures memory { vec_capacity ups.new ≡ vec_capacity ups.old }
+{
+    match records.find_next(origin) {
+        Some(i) => {
+            records.given[origin.index()] = give_one(&mut records.list[i], ups);
+            true
+        }
+        None => false,
+    }
+}
+
+/// Gives up the next messages of an origin, as long as the broadcast brought the next one up.
+pub fn release(records: &mut Records, origin: NodeId, ups: &mut Vec<Up>)
+    requires { count_by is_ungiven records.old.list.items ≤ free ups.old }
+    ensures order { order_entries records.new.list.items ≡ released origin.number (length records.old.list.items) (order_entries records.old.list.items) }
+    ensures relay { relay_entries records.new.list.items ≡ relay_entries records.old.list.items }
+    ensures ups { ups.new.items ≡ ups.old.items ++ released_ups origin.number (length records.old.list.items) (order_entries records.old.list.items) }
+    ensures room { free ups.old + count_by is_ungiven records.new.list.items ≤ free ups.new + count_by is_ungiven records.old.list.items }
+    ensures len { vec_len records.new.list ≡ vec_len records.old.list }
+    ensures capacity { vec_capacity records.new.list ≡ vec_capacity records.old.list }
+    ensures memory { vec_capacity ups.new ≡ vec_capacity ups.old }
+{
+    let count = records.list.len();
+    for _ in 0..count {
+        if !give_next(records, origin, ups) {
+            return;
+        }
+    }
+}

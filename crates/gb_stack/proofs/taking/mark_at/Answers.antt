@@ -1,0 +1,70 @@
+use Rattle.std.proofs.Common.{ap, sym, refl, not, ◌∙◌, ◌<◌, true, false, length, set, arith}
+use Rattle.std.proofs.lemmas.List.{map-set}
+use Rattle.gb_layer.specs.declared.entries.Entry.{Entry}
+use Rattle.gb_layer.specs.Relay.{sent_entry}
+use Rattle.gb_layer.specs.Table.{leads}
+use Rattle.gb_records.specs.Records.{is_unsent, is_ungiven, relay_entry, relay_entries}
+use Rattle.gb_stack.specs.Taken.{is_low}
+use Rattle.gb_stack.proofs.RecordLemmas.{count_kept, count_fewer, keys_kept, given_kept, order_kept, entry_at}
+use Rattle.gb_stack.proofs.taking.mark_at.Goals as goal
+
+pub invariant_of-records : goal.invariant_of-records
+invariant_of-records c =
+    let r = c.args.records.now in
+    let rs = r.list.items in
+    let ok = r.list.ok.0 in
+    let within = c.requires in
+    let lt : c.args.at < length rs = omega (arith, ok, within) in
+    let x = c.index_mut-r.result.now in
+    let is = c.index_mut-r.ensures.value in
+    let keys = keys_kept rs c.args.at x _ lt is refl in
+    record {
+      leads = ap (leads r.table.width r.table.told.items 0) keys ∙ r.leads;
+      once = rw keys r.once;
+      counted = λ o lo. r.counted o lo ∙ sym (given_kept rs c.args.at x _ lt is o refl refl);
+    }
+
+pub returns-clause-relay : goal.returns-clause-relay
+returns-clause-relay c = λ e here.
+    let rs = c.args.records.now.list.items in
+    let ok = c.args.records.now.list.ok.0 in
+    let within = c.requires in
+    let lt : c.args.at < length rs = omega (arith, ok, within) in
+    map-set relay_entry rs c.args.at _ ∙ ap (λ y. set (relay_entries rs) c.args.at (sent_entry y)) (entry_at rs c.args.at c.index_mut-r.result.now c.index_mut-r.result.now lt c.index_mut-r.ensures.value e here)
+
+pub returns-clause-order : goal.returns-clause-order
+returns-clause-order c =
+    let rs = c.args.records.now.list.items in
+    let ok = c.args.records.now.list.ok.0 in
+    let within = c.requires in
+    let lt : c.args.at < length rs = omega (arith, ok, within) in
+    order_kept rs c.args.at c.index_mut-r.result.now _ lt c.index_mut-r.ensures.value refl refl refl
+
+pub returns-clause-keys : goal.returns-clause-keys
+returns-clause-keys c =
+    let rs = c.args.records.now.list.items in
+    let ok = c.args.records.now.list.ok.0 in
+    let within = c.requires in
+    let lt : c.args.at < length rs = omega (arith, ok, within) in
+    keys_kept rs c.args.at c.index_mut-r.result.now _ lt c.index_mut-r.ensures.value refl
+
+pub returns-clause-unsent : goal.returns-clause-unsent
+returns-clause-unsent c = λ e here unsent.
+    let rs = c.args.records.now.list.items in
+    let ok = c.args.records.now.list.ok.0 in
+    let within = c.requires in
+    let lt : c.args.at < length rs = omega (arith, ok, within) in
+    let x = c.index_mut-r.result.now in
+    let is = c.index_mut-r.ensures.value in
+    count_fewer rs c.args.at x _ lt is is_unsent (ap not (ap (λ (y : Entry). y.sent) (entry_at rs c.args.at x x lt is e here) ∙ unsent)) refl
+
+pub returns-clause-left : goal.returns-clause-left
+returns-clause-left c =
+    let rs = c.args.records.now.list.items in
+    let ok = c.args.records.now.list.ok.0 in
+    let within = c.requires in
+    let lt : c.args.at < length rs = omega (arith, ok, within) in
+    elim [
+      | true ↦ count_kept rs c.args.at c.index_mut-r.result.now _ lt c.index_mut-r.ensures.value is_ungiven refl
+      | false ↦ count_kept rs c.args.at c.index_mut-r.result.now _ lt c.index_mut-r.ensures.value is_low refl
+    ]

@@ -1,0 +1,127 @@
+//! Each stack beside the layers that it stands for.
+use crate::names::{FIRST, ME, MEMBERS, ORIGIN, OTHER, OWN, SECOND};
+use crate::stacks::{set, stack};
+use gb_fifo::fifo::Fifo;
+use gb_layer::beb::Beb;
+use gb_layer::call::Call;
+use gb_layer::direct::Direct;
+use gb_layer::effects::Effects;
+use gb_layer::layer::{Broadcast, Layer};
+use gb_layer::relay::Relay;
+use gb_layer::rule::Rule;
+use gb_reliable::eager::Eagerly;
+use gb_reliable::lazy::Lazily;
+use gb_types::kind::Kind;
+use gb_types::memory::OutOfMemory;
+use gb_types::node::NodeSet;
+use gb_uniform::all_ack::AllAcked;
+use std::alloc::Global;
+use std::process::Abort;
+use std::test::Fail;
+
+/// A message before the one that comes first in its order, copies, an own message, and both notices, one of them twice.
+const CALLS: [Call; 10] = [
+    Call::Came(ORIGIN, SECOND),
+    Call::Came(OTHER, SECOND),
+    Call::Say(OWN),
+    Call::Came(OTHER, OWN),
+    Call::Came(OTHER, FIRST),
+    Call::Notice(OTHER),
+    Call::Came(ORIGIN, FIRST),
+    Call::Notice(ORIGIN),
+    Call::Came(ORIGIN, OWN),
+    Call::Notice(ORIGIN),
+];
+
+/// Makes a call with room for it.
+fn take<L: Layer>(layer: &mut L, call: Call, out: &mut Effects) -> Result<(), OutOfMemory> {
+    layer.ready(1, &mut out.sends, &mut out.ups)?;
+    layer.take(call, &mut out.sends, &mut out.ups);
+    Ok(())
+}
+
+/// Whether a call gives the same at two layers.
+fn gives_same<L: Layer, M: Layer>(
+    alloc: Global,
+    one: &mut L,
+    other: &mut M,
+    call: Call,
+) -> Result<bool, OutOfMemory> {
+    let (mut ours, mut theirs) = (Effects::new(alloc), Effects::new(alloc));
+    take(one, call, &mut ours)?;
+    take(other, call, &mut theirs)?;
+    let sends = ours.sends.as_slice() == theirs.sends.as_slice();
+    let ups = ours.ups.as_slice() == theirs.ups.as_slice();
+    Ok(sends && ups)
+}
+
+/// Compares a layer with the stack of a kind, call by call.
+fn compare<L: Layer>(
+    rt: &impl Abort,
+    alloc: Global,
+    layer: &mut L,
+    kind: Kind,
+) -> Result<(), OutOfMemory> {
+    let mut stack = stack(alloc, kind, &NodeSet::new())?;
+    for call in &CALLS {
+        let same = gives_same(alloc, &mut stack, layer, *call)?;
+        assert!(rt; same);
+    }
+    Ok(())
+}
+
+/// Compares a broadcast and a fifo over it with the stacks of two kinds.
+fn compare_both<L: Broadcast + Drop>(
+    rt: &impl Abort,
+    alloc: Global,
+    mut plain: L,
+    ordered: &mut Fifo<L>,
+    kinds: (Kind, Kind),
+) -> Result<(), OutOfMemory> {
+    compare(rt, alloc, &mut plain, kinds.0)?;
+    compare(rt, alloc, ordered, kinds.1)
+}
+
+fn direct() -> Direct<Beb>
+    ensures { ⟦<Direct<Beb> as Layer>⟧.is_fresh (⟦<Direct<Beb> as Layer>⟧.meaning result) }
+{
+    Direct::new(Beb::new(ME))
+}
+
+fn relay<R: Rule>(alloc: Global, rule: R) -> Relay<Beb, R>
+    ensures { ⟦<Relay<Beb, R> as Layer>⟧.is_fresh (⟦<Relay<Beb, R> as Layer>⟧.meaning result) }
+{
+    Relay::new(alloc, Beb::new(ME), rule, set(&MEMBERS))
+}
+
+#[test]
+fn a_stack_does_what_its_layers_do(rt: HostRuntime) -> Result<(), Fail> {
+    let alloc = rt.alloc();
+    let mut fifo = Fifo::new(alloc, direct());
+    compare_both(&rt, alloc, direct(), &mut fifo, (Kind::Beb, Kind::FifoBeb))?;
+    let mut fifo = Fifo::new(alloc, relay(alloc, Lazily));
+    compare_both(
+        &rt,
+        alloc,
+        relay(alloc, Lazily),
+        &mut fifo,
+        (Kind::Lazy, Kind::FifoLazy),
+    )?;
+    let mut fifo = Fifo::new(alloc, relay(alloc, Eagerly));
+    compare_both(
+        &rt,
+        alloc,
+        relay(alloc, Eagerly),
+        &mut fifo,
+        (Kind::Eager, Kind::FifoEager),
+    )?;
+    let mut fifo = Fifo::new(alloc, relay(alloc, AllAcked));
+    compare_both(
+        &rt,
+        alloc,
+        relay(alloc, AllAcked),
+        &mut fifo,
+        (Kind::AllAck, Kind::FifoAllAck),
+    )?;
+    Ok(())
+}
