@@ -1,5 +1,5 @@
 //! The records of a stack, in the order of first mention.
-ghost use Rattle.std.specs.Prelude.{◌≡◌, ℕ, ◌+◌, ◌≤◌, ◌<◌, ◌∷◌, ◌++◌, ◌&&◌, not, [], Some, length, slice_get, slice_index, count_by, true, false, OnOk, MatchOption, vec_len, vec_capacity};
+ghost use Rattle.std.specs.Prelude.{◌≡◌, ℕ, ◌+◌, ◌≤◌, ◌<◌, ◌∷◌, ◌++◌, ◌&&◌, not, [], Some, length, slice_get, slice_index, count_by, true, false, MatchOption, vec_len, vec_capacity};
 ghost use Rattle.std.specs.List.{list_any, IsDistinct};
 ghost use Rattle.std.proofs.Props.{props};
 ghost use Rattle.gb_types.specs.declared.limits.TheConstants.{NODES};

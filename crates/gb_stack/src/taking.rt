@@ -11,7 +11,6 @@ ghost use Rattle.gb_stack.specs.Taken.{Moves, HasTaken, Spends, left, relay_stat
 
 use crate::here::Here;
 use crate::relaying::{Moved, settle};
-use gb_layer::call::Call;
 use gb_layer::effects::Up;
 use gb_layer::rule::Rule;
 use gb_records::records::{Records, release};
