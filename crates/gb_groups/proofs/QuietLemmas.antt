@@ -1,5 +1,5 @@
 -- Steps that change nothing that waits.
-use Rattle.std.proofs.Common.{◌≡◌, ℕ, refl, ap, [], map, drop, true, false, arith}
+use Rattle.std.proofs.Common.{◌≡◌, ℕ, List, refl, ap, [], map, drop, true, false, arith}
 use Rattle.std.proofs.lemmas.List.{drop_all}
 use Rattle.std.specs.FinSet as nodes
 use Rattle.std.specs.Ordering.{nat_cmp}
@@ -12,7 +12,7 @@ use Rattle.gb_history.specs.Messages.{entry_in}
 use Rattle.std.specs.Prelude.{◌&&◌, not, if◌then◌else◌, Option, Some, None, option_map}
 use Rattle.gb_types.specs.declared.message.MsgId.{MsgId}
 use Rattle.gb_types.specs.declared.node.NodeId.{NodeId}
-use Rattle.gb_slot.specs.Slot.{slot_done, slot_moved, new_slot, waiting, taken_for}
+use Rattle.gb_slot.specs.Slot.{slot_done, slot_moved, slot_said, new_slot, waiting, taken_for}
 use Rattle.gb_slot.specs.SlotState.{SlotState}
 use Rattle.gb_groups.specs.SlotsValue.{Row, on_slot}
 use Rattle.gb_groups.specs.Packing.{queue, queue_of}
@@ -36,6 +36,20 @@ queue_of-moved d phase reply (Some s) = waiting-moved d phase reply s
 
 pub queue-moved : (d : ℕ) (phase : Phase) (reply : Reply) (row : Row) → queue d (on_slot (slot_moved phase reply) row) ≡ queue d row
 queue-moved d phase reply row = queue_of-moved d phase reply row.slot
+
+-- a say that gets no number
+waiting-unsaid : (d : ℕ) (payload : List ℕ) (reply : Reply) (s : SlotState) → ((seq : ℕ) → reply ≡ Said seq → ⊥) → waiting (slot_said payload reply s) d ≡ waiting s d
+waiting-unsaid d payload Done s none = refl
+waiting-unsaid d payload (Said seq) s none = absurd (none seq refl)
+waiting-unsaid d payload (Log entries) s none = refl
+waiting-unsaid d payload (Refused why) s none = refl
+
+queue_of-unsaid : (d : ℕ) (payload : List ℕ) (reply : Reply) (slot : Option SlotState) → ((seq : ℕ) → reply ≡ Said seq → ⊥) → queue_of d (option_map (slot_said payload reply) slot) ≡ queue_of d slot
+queue_of-unsaid d payload reply None none = refl
+queue_of-unsaid d payload reply (Some s) none = waiting-unsaid d payload reply s none
+
+pub queue-unsaid : (d : ℕ) (payload : List ℕ) (reply : Reply) (row : Row) → ((seq : ℕ) → reply ≡ Said seq → ⊥) → queue d (on_slot (slot_said payload reply) row) ≡ queue d row
+queue-unsaid d payload reply row none = queue_of-unsaid d payload reply row.slot none
 
 -- nothing waits in a group that was just made
 pub waiting-new : (d : ℕ) (spec : Spec) (me : NodeId) (noticed : nodes.FinSet nat_cmp) → waiting (new_slot spec me noticed) d ≡ []

@@ -59,6 +59,10 @@ row_is slots es p = get_or-map (row_of slots) es p no_entry_at
 pub slot_is : (slots : Slab SlotState) (es : List (Addr × Place)) (p k : ℕ) (v : SlotState) → place_at es p ≡ Key k → Some v ≡ get slots k → (row_at (map (row_of slots) es) p).slot ≡ Some v
 slot_is slots es p k v here at = ap (λ (r : Row). r.slot) (row_is slots es p) ∙ ap (slot_under slots) here ∙ sym at
 
+-- and after it was written under that key
+pub slot_written : (slots : Slab SlotState) (es : List (Addr × Place)) (p k : ℕ) (v new : SlotState) → place_at es p ≡ Key k → Some v ≡ get slots k → (row_at (map (row_of (with_value slots k new)) es) p).slot ≡ Some new
+slot_written slots es p k v new here at = slot_is (with_value slots k new) es p k new here (sym (get_or-set_same slots.slots k (Some new) None (some_within slots k v at)))
+
 -- what a write of a slot's value makes of the groups
 pub record Changed (f : SlotState → SlotState) (es : List (Addr × Place)) (slots : Slab SlotState) (p k : ℕ) (new : SlotState) : Type 0 where
   pub kept : AreKept es (with_value slots k new)

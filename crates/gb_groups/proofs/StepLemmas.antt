@@ -3,13 +3,14 @@ use Rattle.std.proofs.Common.{◌≡◌, ℕ, zero, suc, ◌≤◌, ◌+◌, map
 use Rattle.std.proofs.lemmas.Bool.{cases_lt, lt-ltb}
 use Rattle.std.proofs.lemmas.Option.{get_or_from_slice_get}
 use Rattle.std.specs.FinSet as nodes
-use Rattle.std.specs.Prelude.{Option, if◌then◌else◌, ◌&&◌, not, nat_lt, nat_le, Some, None, option_map, slice_get}
+use Rattle.std.specs.Prelude.{Option, if◌then◌else◌, ◌&&◌, not, nat_lt, nat_le, Some, None, option_map, slice_get, Result, Ok, Err, OnOk}
 use Rattle.gb_types.specs.Entry.{message_of}
 use Rattle.gb_types.specs.declared.entry.Entry.{Entry}
 use Rattle.gb_types.specs.Message.{same}
 use Rattle.gb_types.specs.declared.limits.TheConstants.{PAYLOAD}
 use Rattle.gb_types.specs.declared.message.MsgId.{MsgId}
 use Rattle.gb_types.specs.declared.node.NodeId.{NodeId}
+use Rattle.gb_types.specs.declared.refusal.Refusal.{Refusal}
 use Rattle.gb_types.specs.declared.refusal.Refusal.TheVariants.{TooLong, Budget, Bytes, Window}
 use Rattle.gb_types.specs.declared.reply.Reply.{Reply}
 use Rattle.gb_types.specs.declared.reply.Reply.TheVariants.{Done, Said, Log, Refused}
@@ -17,6 +18,7 @@ use Rattle.gb_types.specs.declared.spec.Spec.{Spec}
 use Rattle.gb_layer.specs.declared.call.Call.TheVariants.{Came, Notice}
 use Rattle.gb_history.specs.Messages.{has, payload_in, entry_in, with_new}
 use Rattle.gb_rules.specs.Group.{is_other, say_answer}
+use Rattle.gb_rules.specs.Replied.{said_reply}
 use Rattle.gb_rules.specs.declared.phase.Phase.{Phase}
 use Rattle.gb_rules.specs.declared.phase.Phase.TheVariants.{Made, Opened, Shut, Gone}
 use Rattle.gb_rules.specs.declared.usage.Usage.{Usage}
@@ -128,3 +130,8 @@ waiting_bytes d nth row s e none is at =
 pub many-came : (from : NodeId) (x : Entry) (row : Row) (s t : SlotState) (d : ℕ) → row.slot ≡ Some s → t ≡ slot_came from x s → length (waiting t d) ≡ length (waiting s d) → length (queue d (on_slot (slot_came from x) row)) ≡ length (queue d row)
 many-came from x row s t d is new same =
     ap (λ o. length (queue_of d (option_map (slot_came from x) o))) is ∙ sym (ap (λ (v : SlotState). length (waiting v d)) new) ∙ same ∙ sym (ap (λ o. length (queue_of d o)) is)
+
+-- what holds where a message is said holds where its reply is a number
+pub where_said : {T : Type 0} (said : Result ℕ Refusal) (seq : ℕ) → said_reply said ≡ Said seq → OnOk said T → T
+where_said (Ok n) seq e t = t
+where_said (Err why) seq e t = absurd (cc)

@@ -1,10 +1,12 @@
 -- An index of the groups where something waits.
-use Rattle.std.specs.Prelude.{ℕ, ◌≡◌, ◌≢◌, ◌≤◌, ◌<◌, min, true, false, List, [], length, slice_index_or, Option, Some, None}
+use Rattle.std.specs.Prelude.{ℕ, ◌≡◌, ◌≢◌, ◌≤◌, ◌<◌, min, Bool, true, false, List, [], length, slice_index_or, Option, Some, None}
 use Rattle.std.specs.FinSet as set
 use Rattle.std.specs.Ordering.{nat_cmp}
 use Rattle.gb_types.specs.declared.limits.TheConstants.{PLACES}
 use Rattle.gb_slot.specs.Slot.{waiting}
 use Rattle.gb_slot.specs.SlotState.{SlotState}
+use Rattle.gb_slot.specs.StandsFor.{reaches}
+use Rattle.gb_slot.specs.Waiting.{WaitsForEach}
 use Rattle.gb_groups.specs.PlaceSet.{has}
 use Rattle.gb_groups.specs.SlotsValue.{Row}
 use Rattle.gb_groups.specs.Packing.{queues}
@@ -19,10 +21,28 @@ abbrev pub members_of : Option SlotState → set.FinSet nat_cmp
 members_of None = set.empty
 members_of (Some s) = s.spec.members
 
--- Of the sets before a bound, those of a group's members have the group's place where something waits there for the node. Nothing else changed.
-pub record IsNoted (bound place : ℕ) (s : SlotState) (old new : List (List ℕ)) : Type 0 where
+-- the group's items are put out to the node; those of a dropped one to none
+abbrev pub is_reached : ℕ → Option SlotState → Bool
+is_reached dest None = false
+is_reached dest (Some s) = reaches s dest
+
+-- something waits in the group for each node to which its items are put out
+abbrev pub IsPutOut : Option SlotState → Type 0
+IsPutOut None = Unit {0}
+IsPutOut (Some s) = WaitsForEach s
+
+-- Of the sets before a bound, those of the nodes that a test picks have a place as a value says, 1 where it is in. Nothing else changed.
+pub record IsWritten (bound place : ℕ) (picks : ℕ → Bool) (value : ℕ → ℕ) (old new : List (List ℕ)) : Type 0 where
   pub size : length new ≡ length old
-  pub here : (d : ℕ) → d < bound → set.contains s.spec.members d ≡ true → has (slice_index_or new d []) place ≡ min 1 (length (waiting s d))
-  pub stay : (d : ℕ) → set.contains s.spec.members d ≡ false → has (slice_index_or new d []) place ≡ has (slice_index_or old d []) place
+  pub here : (d : ℕ) → d < bound → picks d ≡ true → has (slice_index_or new d []) place ≡ value d
+  pub stay : (d : ℕ) → picks d ≡ false → has (slice_index_or new d []) place ≡ has (slice_index_or old d []) place
   pub others : (d p : ℕ) → p ≢ place → has (slice_index_or new d []) p ≡ has (slice_index_or old d []) p
   pub words : (d : ℕ) → length (slice_index_or new d []) ≡ length (slice_index_or old d [])
+
+-- those of a group's members have the group's place where something waits there for the node
+abbrev pub IsNoted : ℕ → ℕ → SlotState → List (List ℕ) → List (List ℕ) → Type 0
+IsNoted bound place s old new = IsWritten bound place (set.contains s.spec.members) (λ d. min 1 (length (waiting s d))) old new
+
+-- those of the nodes to which a group's items are put out have the group's place
+abbrev pub IsPlaced : ℕ → ℕ → SlotState → List (List ℕ) → List (List ℕ) → Type 0
+IsPlaced bound place s old new = IsWritten bound place (reaches s) (λ _. 1) old new

@@ -11,7 +11,7 @@ ghost use Rattle.gb_groups.specs.SlotsValue.{row_at, on_slot, AreApart};
 ghost use Rattle.gb_frame.specs.Items.{address_of};
 ghost use Rattle.gb_groups.specs.AtAddress.{group_reply, reply_at, drop_at, place_of, on_address, item_came, OthersKept};
 ghost use Rattle.gb_groups.specs.GroupsValue.{no_groups, walk_to, batch, packed, IsIndex, IsIndexBut};
-ghost use Rattle.gb_groups.specs.Busy.{members_of, IsNoted};
+ghost use Rattle.gb_groups.specs.Busy.{members_of, is_reached, IsPutOut, IsNoted, IsPlaced};
 ghost use Rattle.gb_groups.specs.PlaceSet.{has};
 ghost use Rattle.std.specs.FinSet as set;
 ghost use Rattle.gb_groups.specs.Members.{has_member, IsEnrolled, IsNextMember};
@@ -109,6 +109,42 @@ fn refresh(busy: &mut [PlaceSet], slots: &Slots, place: usize)
     }
 }
 
+/// Puts a place into the sets of the nodes to which the items of a group are put out: of its members but for those that it
+/// passes over.
+fn note_reached(busy: &mut [PlaceSet], slot: &Slot, place: usize)
+    requires size { length busy.old ≡ NODES }
+    requires words { HaveWord NODES place slot.now.spec.members busy.old }
+    ensures { IsPlaced NODES place slot.now busy.old busy.new }
+{
+    let members = slot.members().duplicate();
+    let passed_over = slot.passed_over();
+    let mut from = 0;
+    while let Some(node) = members.next_from(from) {
+        if !passed_over.contains(node) {
+            busy[node.index()].insert(place);
+        }
+        from = node.index() + 1;
+    }
+}
+
+/// Notes in the index what was put out in the group at a place: something waits there for each node that the group
+/// reaches, and nothing for others.
+// Called, not inlined: most items put nothing out.
+#[inline(never)]
+fn note_put_out(busy: &mut [PlaceSet], slots: &Slots, place: usize)
+    requires place { place < length slots.now.rows }
+    requires others { IsIndexBut place slots.now.rows busy.old }
+    requires put_out { IsPutOut (row_at slots.now.rows place).slot }
+    requires unreached { (d : ℕ) → d < NODES → is_reached d (row_at slots.now.rows place).slot ≡ false → has (slice_index_or busy.old d []) place ≡ 0 }
+    requires words { HaveWord NODES place (members_of (row_at slots.now.rows place).slot) busy.old }
+    ensures index { IsIndex slots.now.rows busy.new }
+    ensures words { (d : ℕ) → length (slice_index_or busy.new d []) ≡ length (slice_index_or busy.old d []) }
+{
+    if let Some(slot) = slots.slot(place) {
+        note_reached(busy, slot, place);
+    }
+}
+
 /// Puts a place into the sets of these nodes, and takes it out of the others' sets.
 fn enrol(memberships: &mut [PlaceSet], place: usize, members: &NodeSet)
     requires size { length memberships.old ≡ NODES }
@@ -200,10 +236,9 @@ impl Groups {
             group: item.group,
         };
         if let Some(place) = self.slots.find(addr) {
-            if !self.slots.came(place, from, origin, item.seq, item.payload) {
-                return;
+            if self.slots.came(place, from, origin, item.seq, item.payload) {
+                note_put_out(&mut self.busy, &self.slots, place);
             }
-            refresh(&mut self.busy, &self.slots, place);
         }
     }
 
@@ -299,7 +334,9 @@ impl Groups {
         match place {
             Some(place) => {
                 let reply = self.slots.say(place, payload);
-                refresh(&mut self.busy, &self.slots, place);
+                if let Reply::Said(_) = reply {
+                    note_put_out(&mut self.busy, &self.slots, place);
+                }
                 reply
             }
             None => Reply::Refused(Refusal::NoGroup),

@@ -11,6 +11,7 @@ ghost use Rattle.gb_frame.specs.Spelling.{item_text, IsItem};
 ghost use Rattle.gb_frame.specs.declared.limits.TheConstants.{ITEM_HEADER};
 ghost use Rattle.gb_groups.specs.Packing.{queue, first_entry, took, item_of};
 ghost use Rattle.gb_groups.specs.Slots.{place_at};
+ghost use Rattle.gb_groups.specs.Busy.{IsPutOut};
 
 use gb_frame::item::{ItemView, put_item};
 use gb_layer::effects::Effects;
@@ -185,8 +186,9 @@ impl Slots {
         slot.waiting_for(dest)
     }
 
-    /// Takes an item that came from a node into the group at a place. Says whether more may wait for a node then; where
-    /// not, as many items wait for each node as before.
+    /// Takes an item that came from a node into the group at a place. Says whether something was put out: where it was,
+    /// something waits for each node that the group reaches, and where it was not, as many items wait for each node as
+    /// before.
     pub fn came(
         &mut self,
         place: usize,
@@ -197,6 +199,7 @@ impl Slots {
     ) -> bool
         requires { length payload.now ≤ PAYLOAD }
         ensures rows { self.new.rows ≡ slice_set self.old.rows place (on_slot (slot_came from (record { origin = origin; seq = seq; payload = payload.now })) (row_at self.old.rows place)) }
+        ensures put_out { result ≡ true → IsPutOut (row_at self.new.rows place).slot }
         ensures quiet { result ≡ false → (dest : ℕ) → length (queue dest (on_slot (slot_came from (record { origin = origin; seq = seq; payload = payload.now })) (row_at self.old.rows place))) ≡ length (queue dest (row_at self.old.rows place)) }
     {
         self.recent = place;
@@ -205,7 +208,7 @@ impl Slots {
                 return slot.came(from, origin, seq, payload, &mut self.effects);
             }
         }
-        true
+        false
     }
 
     /// Takes an acknowledgement of a message of the group at a place from a node.
@@ -257,10 +260,12 @@ impl Slots {
         Reply::Refused(Refusal::Spent)
     }
 
-    /// Says something in the group at a place. Spent where it was dropped.
+    /// Says something in the group at a place. Spent where it was dropped. What gets a number is put out: something waits
+    /// then for each node that the group reaches.
     pub fn say(&mut self, place: usize, payload: &[u8]) -> Reply
         ensures reply { result ≡ unless_gone (λ s. say_answer s payload.now) (row_at self.old.rows place).slot }
         ensures rows { self.new.rows ≡ slice_set self.old.rows place (on_slot (slot_said payload.now result) (row_at self.old.rows place)) }
+        ensures put_out { (seq : ℕ) → result ≡ Reply.Said seq → IsPutOut (row_at self.new.rows place).slot }
     {
         self.recent = place;
         if let Some(key) = key_at(&self.places, place) {

@@ -35,7 +35,7 @@ all_drop P zero (x ∷ xs) a = a
 all_drop P (suc n) (x ∷ xs) a = all_drop P n xs a.1
 
 -- what the broadcast makes of a call
-called_sends : (s : SlotState) (told : List GroupCall) (c : GroupCall) → StandsFor s told → IsLawful s.me.number (call_of c ∷ calls_of told) → (stack_gives s.stack (call_of c)).sends ≡ kind_broadcasts s.spec.kind s.me.number (call_of c) (calls_of told)
+pub called_sends : (s : SlotState) (told : List GroupCall) (c : GroupCall) → StandsFor s told → IsLawful s.me.number (call_of c ∷ calls_of told) → (stack_gives s.stack (call_of c)).sends ≡ kind_broadcasts s.spec.kind s.me.number (call_of c) (calls_of told)
 called_sends s told c st lawful = stack.sends_broadcast s.spec.kind s.me s.spec.members (calls_of told) s.stack (call_of c) st.stack lawful
 
 called_ups : (s : SlotState) (told : List GroupCall) (c : GroupCall) → StandsFor s told → IsLawful s.me.number (call_of c ∷ calls_of told) → messages (stack_gives s.stack (call_of c)).ups ≡ kind_delivers s.spec.kind s.me.number (set.items s.spec.members) (call_of c) (calls_of told)

@@ -86,7 +86,7 @@ not_said past m new =
     ] refl
 
 -- the next own message is new
-own_new : (s : SlotState) (told : List GroupCall) (payload : List ℕ) → StandsFor s told → mentions (calls_of told) (message_of (own_entry s payload)) ≡ false
+pub own_new : (s : SlotState) (told : List GroupCall) (payload : List ℕ) → StandsFor s told → mentions (calls_of told) (message_of (own_entry s payload)) ≡ false
 own_new s told payload st = st.own (message_of (own_entry s payload)) refl (omega arith)
 
 pub own_store : (s : SlotState) (told : List GroupCall) (payload : List ℕ) → StandsFor s told → with_new s.store (own_entry s payload) ≡ s.store ++ own_entry s payload ∷ []
@@ -94,7 +94,7 @@ own_store s told payload st =
     let new : has s.store (message_of (own_entry s payload)) ≡ false = ap (λ es. has es (message_of (own_entry s payload))) st.store ∙ (has-known told (message_of (own_entry s payload)) ∙ own_new s told payload st) in
     ap (λ (b : Bool). if b then s.store else s.store ++ own_entry s payload ∷ []) new
 
-own_lawful : (s : SlotState) (told : List GroupCall) (payload : List ℕ) → StandsFor s told → IsLawful s.me.number (call_of (Own (own_entry s payload)) ∷ calls_of told)
+pub own_lawful : (s : SlotState) (told : List GroupCall) (payload : List ℕ) → StandsFor s told → IsLawful s.me.number (call_of (Own (own_entry s payload)) ∷ calls_of told)
 own_lawful s told payload st = ((refl, not_said (calls_of told) (message_of (own_entry s payload)) (own_new s told payload st)), st.lawful)
 
 abbrev own_set : SlotState → set.FinSet nat_cmp

@@ -8,6 +8,7 @@ pub mod MemoryLemmas
 pub mod NoticeLemmas
 pub mod PageLemmas
 pub mod PlaceLemmas
+pub mod PutOutLemmas
 pub mod ReachedLemmas
 pub mod SlotLemmas
 pub mod TakenLemmas

@@ -1,5 +1,5 @@
 -- Parts of lists.
-use Rattle.std.proofs.Common.{◌≡◌, ℕ, zero, suc, ◌+◌, ◌-◌, Bool, true, false, length, List, [], ◌∷◌, take, drop, Some, None, refl, sym, ◌∙◌, ap}
+use Rattle.std.proofs.Common.{◌≡◌, ℕ, zero, suc, ◌+◌, ◌-◌, ◌<◌, Bool, true, false, length, List, [], ◌∷◌, take, drop, Some, None, refl, sym, ◌∙◌, ap, arith}
 use Rattle.std.specs.Prelude.{map, slice_get, if◌then◌else◌}
 use Rattle.std.proofs.lemmas.List.{take-map, drop-map, drop_more, length-map, length-drop}
 use Rattle.std.proofs.lemmas.Option.{slice_get_within, get_or_from_slice_get}
@@ -25,3 +25,8 @@ drop-none (x ∷ xs) (suc i) is = drop-none xs i is
 pub same_rest : (f g : MsgId → Entry) (b : Bool) (n : ℕ) (ms ns : List MsgId) → length ms ≡ length ns → length (if b then map f (drop n ms) else []) ≡ length (if b then map g (drop n ns) else [])
 same_rest f g true n ms ns same = length-map (drop n ms) f ∙ (length-drop n ms ∙ (ap (λ k. k - n) same ∙ (sym (length-drop n ns) ∙ sym (length-map (drop n ns) g))))
 same_rest f g false n ms ns same = refl
+
+-- something is left where less was taken than there is
+pub some_rest : (f : MsgId → Entry) (b : Bool) (n : ℕ) (ms : List MsgId) → b ≡ true → n < length ms → 0 < length (if b then map f (drop n ms) else [])
+some_rest f true n ms is more = omega (arith, more, length-map (drop n ms) f, length-drop n ms)
+some_rest f false n ms is more = cc

@@ -4,6 +4,7 @@ pub mod Kept
 pub mod SlotState
 pub mod Slot
 pub mod StandsFor
+pub mod Waiting
 pub mod HistoryLaws
 pub mod Reached
 pub mod Effects

@@ -1,4 +1,4 @@
--- No step changes the spec of a slot, and lists that were emptied are ready for the next call.
+-- Steps keep the spec of a slot; those that say and take in a message keep to whom items are put out. Lists that were emptied are ready for the next call.
 use Rattle.std.proofs.Common.{◌≡◌, true, false, List, ℕ, refl, arith}
 use Rattle.std.specs.FinSet as set
 use Rattle.std.specs.Prelude.{if◌then◌else◌}
@@ -16,6 +16,7 @@ use Rattle.gb_rules.specs.declared.phase.Phase.{Phase}
 use Rattle.gb_slot.specs.Effects.{AreEmptied, AreReady}
 use Rattle.gb_slot.specs.Slot.{falls, slot_called, slot_moved, slot_said, slot_came, slot_noticed}
 use Rattle.gb_slot.specs.SlotState.{SlotState}
+use Rattle.gb_slot.specs.StandsFor.{reaches}
 
 pub spec-moved : (phase : Phase) (reply : Reply) (s : SlotState) → (slot_moved phase reply s).spec ≡ s.spec
 spec-moved phase Done s = refl
@@ -34,6 +35,17 @@ spec-came from x s = elim (falls from x s) as (λ b. (if b then s else slot_call
 
 pub spec-noticed : (q : NodeId) (s : SlotState) → (slot_noticed q s).spec ≡ s.spec
 spec-noticed q s = elim (is_other s.spec s.me.number q.number) as (λ b. (if b then record (slot_called (Notice q) s.store s) { noticed = set.insert s.noticed q.number } else s).spec ≡ s.spec) [ true ↦ refl | false ↦ refl ]
+
+-- items are put out to the same nodes
+
+pub reaches-said : (payload : List ℕ) (reply : Reply) (b : ℕ) (s : SlotState) → reaches (slot_said payload reply s) b ≡ reaches s b
+reaches-said payload Done b s = refl
+reaches-said payload (Said seq) b s = refl
+reaches-said payload (Log entries) b s = refl
+reaches-said payload (Refused why) b s = refl
+
+pub reaches-came : (from : NodeId) (x : Entry) (b : ℕ) (s : SlotState) → reaches (slot_came from x s) b ≡ reaches s b
+reaches-came from x b s = elim (falls from x s) as (λ t. reaches (if t then s else slot_called (Came from (message_of x)) (with_new s.store x) s) b ≡ reaches s b) [ true ↦ refl | false ↦ refl ]
 
 -- emptied lists are still ready
 pub still_ready : (spec : Spec) (before after : Effects) → AreReady spec before → AreEmptied before after → AreReady spec after

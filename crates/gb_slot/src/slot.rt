@@ -11,6 +11,7 @@ ghost use Rattle.gb_rules.specs.Group.{is_gone, is_member, is_other, open_answer
 ghost use Rattle.gb_slot.specs.Effects.{AreEmptied, AreReady, IsEmpty};
 ghost use Rattle.gb_slot.specs.Reached.{limit_of, most_bytes, most_messages};
 ghost use Rattle.gb_slot.specs.Slot.{IsWithinLimits};
+ghost use Rattle.gb_slot.specs.Waiting.{WaitsForEach};
 
 use crate::broadcast::take_call;
 use crate::put_out::PutOut;
@@ -185,12 +186,14 @@ impl Slot {
 
     /// Broadcasts a payload, and gives its number here. WrongPhase where the group is not open, TooLong above
     /// 1,024 bytes, Budget where all messages are said, Bytes where the payload's bytes would be too many in
-    /// all, Window where too many messages are unfinished, in this order. Takes no memory.
+    /// all, Window where too many messages are unfinished, in this order. A message that gets a number is put out at once:
+    /// something waits then for each other member that was not noticed. Takes no memory.
     pub fn say(&mut self, payload: &[u8], effects: &mut Effects) -> Result<u16, Refusal>
         requires ready { AreReady self.old.spec effects.old }
         ensures answer { said_reply result ≡ say_answer (shown self.old) payload.now }
         ensures present { is_gone self.old.phase ≡ false }
         ensures state { self.new ≡ slot_said payload.now (said_reply result) self.old }
+        ensures put_out { OnOk result (WaitsForEach self.new) }
         ensures effects { AreEmptied effects.old effects.new }
     {
         if let Err(why) = check_say(&self.spec, self.phase, self.usage(), payload) {
@@ -223,8 +226,9 @@ impl Slot {
         Ok(seq)
     }
 
-    /// Takes an item that came from a node: it is let fall, or the broadcast takes it. Says whether something was put out;
-    /// where nothing was, as many items wait for each node as before. Takes no memory.
+    /// Takes an item that came from a node: it is let fall, or the broadcast takes it. Says whether something was put out:
+    /// where it was, something waits for each other member that was not noticed, and where it was not, as many items wait
+    /// for each node as before. Takes no memory.
     pub fn came(
         &mut self,
         from: NodeId,
@@ -235,6 +239,7 @@ impl Slot {
     ) -> bool
         requires ready { AreReady self.old.spec effects.old }
         ensures state { self.new ≡ slot_came from (record { origin = origin; seq = seq; payload = payload.now }) self.old }
+        ensures put_out { result ≡ true → WaitsForEach self.new }
         ensures quiet { result ≡ false → (dest : ℕ) → length (waiting self.new dest) ≡ length (waiting self.old dest) }
         ensures effects { AreEmptied effects.old effects.new }
     {
@@ -328,6 +333,15 @@ impl Slot {
         ensures { result.now ≡ self.now.spec.members }
     {
         &self.spec.members
+    }
+
+    /// This node, and those that were noticed: of the members, those to which nothing is put out.
+    pub fn passed_over(&self) -> NodeSet
+        ensures { result ≡ set.insert self.now.noticed self.now.me.number }
+    {
+        let mut nodes = self.noticed.duplicate();
+        nodes.insert(self.me);
+        nodes
     }
 
     /// Whether items are put out to the node: it is another member, and was not noticed.

@@ -6,11 +6,11 @@ use Rattle.gb_types.specs.Rising.{rising_from}
 use Rattle.gb_types.specs.declared.limits.TheConstants.{NODES}
 use Rattle.gb_slot.specs.Slot.{waiting}
 use Rattle.gb_groups.specs.Busy.{IsNoted}
-use Rattle.gb_groups.proofs.NotedLemmas.{noted_none, noted_member, noted_further, first_member, no_member}
+use Rattle.gb_groups.proofs.NotedLemmas.{written_none, written_more, written_further, first_member, no_member}
 use Rattle.gb_groups.proofs.groups.note_members.Goals as goal
 
 pub loop-node-init : goal.loop-node-init
-loop-node-init c = noted_none c.args.place c.args.slot.now c.args.busy.now
+loop-node-init c = written_none c.args.place _ _ c.args.busy.now
 
 pub note_at-requires : goal.note_at-requires
 note_at-requires c =
@@ -42,12 +42,12 @@ loop-node-preserved c =
     let member : nodes.contains s.spec.members node ≡ true = ap (nodes.contains s.spec.members) is ∙ first.member in
     let here = c.note_at.ensures.here ∙ ap (min 1) (c.waiting_for.ensures ∙ ap (λ n. length (waiting s n)) (sym is)) in
     subst (λ n. IsNoted (n + 1) c.args.place s old (set busy node c.note_at.new.set)) (is ∙ sym c.index-from.ensures.value)
-    (noted_member node c.args.place s old busy c.note_at.new.set c.index-busy-index.result (omega (arith, c.requires.size, c.index.ensures.bound)) member
-    (noted_further from node c.args.place s old busy (λ d le lt. first.before d le (omega (arith, is, lt))) c.loop-node.invariant) here c.note_at.ensures.others c.note_at.ensures.words)
+    (written_more node c.args.place (nodes.contains s.spec.members) (λ d. min 1 (length (waiting s d))) old busy c.note_at.new.set c.index-busy-index.result (omega (arith, c.requires.size, c.index.ensures.bound)) member
+    (written_further from node c.args.place (nodes.contains s.spec.members) (λ d. min 1 (length (waiting s d))) old busy (λ d le lt. first.before d le (omega (arith, is, lt))) c.loop-node.invariant) here c.note_at.ensures.others c.note_at.ensures.words)
 
 pub returns : goal.returns
 returns c =
     let s = c.args.slot.now in
     let from = c.loop-node.from in
     let none = ap (λ m. rising_from m from) (sym c.members.ensures) ∙ c.in_default.ensures in
-    noted_further from NODES c.args.place s c.args.busy.now c.loop-node.busy (no_member s.spec.members from none) c.loop-node.invariant
+    written_further from NODES c.args.place (nodes.contains s.spec.members) (λ d. min 1 (length (waiting s d))) c.args.busy.now c.loop-node.busy (no_member s.spec.members from none) c.loop-node.invariant

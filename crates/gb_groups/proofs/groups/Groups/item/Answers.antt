@@ -9,27 +9,27 @@ use Rattle.gb_groups.specs.GroupsValue.{GroupsValue}
 use Rattle.gb_groups.proofs.AddressLemmas.{others_kept, item_is, place_is}
 use Rattle.gb_groups.proofs.IndexLemmas.{index_but, index_as_many, places_quiet}
 use Rattle.gb_groups.proofs.MemberLemmas.{memberships_step}
-use Rattle.gb_slot.specs.SpecLemmas.{spec-came}
+use Rattle.gb_slot.specs.SpecLemmas.{spec-came, reaches-came}
 use Rattle.gb_groups.proofs.CoveredLemmas.{covered_kept, word_stepped}
-use Rattle.gb_groups.proofs.NotedLemmas.{outside_stepped}
+use Rattle.gb_groups.proofs.NotedLemmas.{unreached_stepped}
 use Rattle.gb_groups.proofs.groups.Groups.item.Goals as goal
 
-pub refresh-requires-clause-others : goal.refresh-requires-clause-others
-refresh-requires-clause-others c =
+pub note_put_out-requires-clause-others : goal.note_put_out-requires-clause-others
+note_put_out-requires-clause-others c =
     let rows = c.self.inside.slots.rows in
     let x : Entry = record { origin = c.in-Some.origin; seq = c.args.item.seq; payload = c.args.item.payload.now } in
     rw c.came.ensures.rows (index_but rows c.self.inside.busy c.in-Some-find.place (on_slot (slot_came c.args.from x) (row_at rows c.in-Some-find.place)) c.self.invariant.1)
 
-pub refresh-requires-clause-outside : goal.refresh-requires-clause-outside
-refresh-requires-clause-outside c =
+pub note_put_out-requires-clause-unreached : goal.note_put_out-requires-clause-unreached
+note_put_out-requires-clause-unreached c =
     let rows = c.self.inside.slots.rows in
     let p = c.in-Some-find.place in
     let x : Entry = record { origin = c.in-Some.origin; seq = c.args.item.seq; payload = c.args.item.payload.now } in
     let within = (place_is (address_of (view_item c.args.item)) rows p c.in-Some-find.ensures.place).0 in
-    rw c.came.ensures.rows (outside_stepped (slot_came c.args.from x) rows c.self.inside.busy p within (spec-came c.args.from x) c.self.invariant.1)
+    rw c.came.ensures.rows (unreached_stepped (slot_came c.args.from x) rows c.self.inside.busy p within (reaches-came c.args.from x) c.self.invariant.1)
 
-pub refresh-requires-clause-words : goal.refresh-requires-clause-words
-refresh-requires-clause-words c =
+pub note_put_out-requires-clause-words : goal.note_put_out-requires-clause-words
+note_put_out-requires-clause-words c =
     let rows = c.self.inside.slots.rows in
     let p = c.in-Some-find.place in
     let x : Entry = record { origin = c.in-Some.origin; seq = c.args.item.seq; payload = c.args.item.payload.now } in
@@ -41,42 +41,42 @@ invariant_of-self c =
     let rows = c.self.inside.slots.rows in
     let p = c.in-Some-find.place in
     let x : Entry = record { origin = c.in-Some.origin; seq = c.args.item.seq; payload = c.args.item.payload.now } in
-    let row = on_slot (slot_came c.args.from x) (row_at rows p) in
-    let within = (place_is (address_of (view_item c.args.item)) rows p c.in-Some-find.ensures.place).0 in
-    rw c.came.ensures.rows (places_quiet rows c.self.inside.cursors p row c.self.invariant.0, index_as_many rows c.self.inside.busy p row within c.self.invariant.1 (c.came.ensures.quiet c.if-not-came.true), memberships_step (slot_came c.args.from x) rows c.self.inside.memberships p (spec-came c.args.from x) c.self.invariant.2, c.self.invariant.3)
+    let step = slot_came c.args.from x in (
+      rw c.came.ensures.rows (places_quiet rows c.self.inside.cursors p (on_slot step (row_at rows p)) c.self.invariant.0),
+      c.note_put_out.ensures.index,
+      rw c.came.ensures.rows (memberships_step step rows c.self.inside.memberships p (spec-came c.args.from x) c.self.invariant.2),
+      covered_kept c.self.inside.memberships c.self.inside.busy c.note_put_out.new.busy c.self.invariant.3 c.note_put_out.ensures.words,
+    )
 
-pub returns-then-not-came-clause-rows : goal.returns-then-not-came-clause-rows
-returns-then-not-came-clause-rows c =
-    c.came.ensures.rows ∙ item_is c.args.from c.in-Some.origin (view_item c.args.item) c.self.inside.slots.rows c.in-Some-find.place c.in-Some.ensures.some (omega arith) c.in-Some-find.ensures.place
-    ∙ ap (λ (v : GroupsValue). item_came c.args.from (view_item c.args.item) v.rows) c.self.view_is
-
-pub returns-then-not-came-clause-others : goal.returns-then-not-came-clause-others
-returns-then-not-came-clause-others c =
-    let rows = c.self.inside.slots.rows in
-    let x : Entry = record { origin = c.in-Some.origin; seq = c.args.item.seq; payload = c.args.item.payload.now } in
-    subst (λ (v : GroupsValue). OthersKept (address_of (view_item c.args.item)) v.rows c.came.new.self.rows) c.self.view_is
-    (rw c.came.ensures.rows (others_kept (address_of (view_item c.args.item)) rows c.in-Some-find.place (slot_came c.args.from x) c.in-Some-find.ensures.place))
-
-pub returns-else-not-came-clause-rows : goal.returns-else-not-came-clause-rows
-returns-else-not-came-clause-rows c =
-    c.came.ensures.rows ∙ item_is c.args.from c.in-Some.origin (view_item c.args.item) c.self.inside.slots.rows c.in-Some-find.place c.in-Some.ensures.some (omega arith) c.in-Some-find.ensures.place
-    ∙ ap (λ (v : GroupsValue). item_came c.args.from (view_item c.args.item) v.rows) c.self.view_is
-
-pub returns-else-not-came-clause-others : goal.returns-else-not-came-clause-others
-returns-else-not-came-clause-others c =
-    let rows = c.self.inside.slots.rows in
-    let x : Entry = record { origin = c.in-Some.origin; seq = c.args.item.seq; payload = c.args.item.payload.now } in
-    subst (λ (v : GroupsValue). OthersKept (address_of (view_item c.args.item)) v.rows c.came.new.self.rows) c.self.view_is
-    (rw c.came.ensures.rows (others_kept (address_of (view_item c.args.item)) rows c.in-Some-find.place (slot_came c.args.from x) c.in-Some-find.ensures.place))
-
-pub invariant_of-self-in-Some-find : goal.invariant_of-self-in-Some-find
-invariant_of-self-in-Some-find c =
+pub invariant_of-self-else-came : goal.invariant_of-self-else-came
+invariant_of-self-else-came c =
     let rows = c.self.inside.slots.rows in
     let p = c.in-Some-find.place in
     let x : Entry = record { origin = c.in-Some.origin; seq = c.args.item.seq; payload = c.args.item.payload.now } in
-    let step = slot_came c.args.from x in (
-      rw c.came.ensures.rows (places_quiet rows c.self.inside.cursors p (on_slot step (row_at rows p)) c.self.invariant.0),
-      c.refresh.ensures.index,
-      rw c.came.ensures.rows (memberships_step step rows c.self.inside.memberships p (spec-came c.args.from x) c.self.invariant.2),
-      covered_kept c.self.inside.memberships c.self.inside.busy c.refresh.new.busy c.self.invariant.3 c.refresh.ensures.words,
-    )
+    let row = on_slot (slot_came c.args.from x) (row_at rows p) in
+    let within = (place_is (address_of (view_item c.args.item)) rows p c.in-Some-find.ensures.place).0 in
+    rw c.came.ensures.rows (places_quiet rows c.self.inside.cursors p row c.self.invariant.0, index_as_many rows c.self.inside.busy p row within c.self.invariant.1 (c.came.ensures.quiet c.if-came.false), memberships_step (slot_came c.args.from x) rows c.self.inside.memberships p (spec-came c.args.from x) c.self.invariant.2, c.self.invariant.3)
+
+pub returns-else-came-clause-rows : goal.returns-else-came-clause-rows
+returns-else-came-clause-rows c =
+    c.came.ensures.rows ∙ item_is c.args.from c.in-Some.origin (view_item c.args.item) c.self.inside.slots.rows c.in-Some-find.place c.in-Some.ensures.some (omega arith) c.in-Some-find.ensures.place
+    ∙ ap (λ (v : GroupsValue). item_came c.args.from (view_item c.args.item) v.rows) c.self.view_is
+
+pub returns-else-came-clause-others : goal.returns-else-came-clause-others
+returns-else-came-clause-others c =
+    let rows = c.self.inside.slots.rows in
+    let x : Entry = record { origin = c.in-Some.origin; seq = c.args.item.seq; payload = c.args.item.payload.now } in
+    subst (λ (v : GroupsValue). OthersKept (address_of (view_item c.args.item)) v.rows c.came.new.self.rows) c.self.view_is
+    (rw c.came.ensures.rows (others_kept (address_of (view_item c.args.item)) rows c.in-Some-find.place (slot_came c.args.from x) c.in-Some-find.ensures.place))
+
+pub returns-then-came-clause-rows : goal.returns-then-came-clause-rows
+returns-then-came-clause-rows c =
+    c.came.ensures.rows ∙ item_is c.args.from c.in-Some.origin (view_item c.args.item) c.self.inside.slots.rows c.in-Some-find.place c.in-Some.ensures.some (omega arith) c.in-Some-find.ensures.place
+    ∙ ap (λ (v : GroupsValue). item_came c.args.from (view_item c.args.item) v.rows) c.self.view_is
+
+pub returns-then-came-clause-others : goal.returns-then-came-clause-others
+returns-then-came-clause-others c =
+    let rows = c.self.inside.slots.rows in
+    let x : Entry = record { origin = c.in-Some.origin; seq = c.args.item.seq; payload = c.args.item.payload.now } in
+    subst (λ (v : GroupsValue). OthersKept (address_of (view_item c.args.item)) v.rows c.came.new.self.rows) c.self.view_is
+    (rw c.came.ensures.rows (others_kept (address_of (view_item c.args.item)) rows c.in-Some-find.place (slot_came c.args.from x) c.in-Some-find.ensures.place))

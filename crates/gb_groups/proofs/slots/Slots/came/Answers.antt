@@ -2,11 +2,12 @@ use Rattle.std.proofs.lemmas.Grind.{common_steps}
 use Rattle.gb_slot.specs.Slot.{slot_came}
 use Rattle.gb_groups.proofs.StepLemmas.{many-came, taken-came, short-came}
 use Rattle.gb_types.specs.declared.entry.Entry.{Entry}
-use Rattle.std.proofs.Common.{sym, ap, map, ◌∙◌, length, arith}
+use Rattle.std.proofs.Common.{sym, subst, ap, map, ◌∙◌, length, arith}
 use Rattle.std.proofs.Math.ListN.{set}
 use Rattle.gb_groups.specs.SlotsValue.{SlotsValue, row_at, on_slot}
+use Rattle.gb_groups.specs.Busy.{IsPutOut}
 use Rattle.gb_groups.specs.Slots.{row_of}
-use Rattle.gb_groups.proofs.SlotsLemmas.{changed, slot_is}
+use Rattle.gb_groups.proofs.SlotsLemmas.{changed, slot_is, slot_written}
 use Rattle.gb_slot.specs.SlotState.{SlotState}
 use Rattle.gb_slot.specs.SpecLemmas.{spec-came}
 use Rattle.gb_groups.proofs.LentLemmas.{lent_called}
@@ -24,6 +25,10 @@ returns-in-Some-get_mut-clause-rows c =
     let v = c.in-Some-get_mut.slot.now in
     (changed (slot_came c.args.from (record { origin = c.args.origin; seq = c.args.seq; payload = c.args.payload.now })) c.self.inside.places.entries c.self.inside.slots c.args.place c.in-Some.key v c.came.new.self c.self.invariant.0 c.in-Some.ensures c.in-Some-get_mut.ensures.value c.came.ensures.state (ap length (taken-came c.args.from (record { origin = c.args.origin; seq = c.args.seq; payload = c.args.payload.now }) v)) (short-came c.args.from (record { origin = c.args.origin; seq = c.args.seq; payload = c.args.payload.now }) v c.requires)).rows
     ∙ ap (λ (w : SlotsValue). set w.rows c.args.place (on_slot (slot_came c.args.from (record { origin = c.args.origin; seq = c.args.seq; payload = c.args.payload.now })) (row_at w.rows c.args.place))) c.self.view_is
+
+pub returns-in-Some-get_mut-clause-put_out : goal.returns-in-Some-get_mut-clause-put_out
+returns-in-Some-get_mut-clause-put_out c = λ some.
+    subst IsPutOut (sym (slot_written c.self.inside.slots c.self.inside.places.entries c.args.place c.in-Some.key c.in-Some-get_mut.slot.now c.came.new.self c.in-Some.ensures c.in-Some-get_mut.ensures.value)) (c.came.ensures.put_out some)
 
 pub returns-in-Some-get_mut-clause-quiet : goal.returns-in-Some-get_mut-clause-quiet
 returns-in-Some-get_mut-clause-quiet c = λ quiet dest.

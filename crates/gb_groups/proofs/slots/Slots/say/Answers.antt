@@ -3,11 +3,12 @@ use Rattle.gb_rules.specs.Group.{Shown, say_answer}
 use Rattle.gb_rules.specs.Replied.{said_reply}
 use Rattle.gb_slot.specs.Slot.{slot_said}
 use Rattle.gb_types.specs.declared.reply.Reply.{Reply}
-use Rattle.gb_groups.proofs.StepLemmas.{taken-said, short-said}
-use Rattle.std.proofs.Common.{◌≡◌, Some, ap, sym, ◌∙◌, length, arith}
+use Rattle.gb_groups.proofs.StepLemmas.{taken-said, short-said, where_said}
+use Rattle.std.proofs.Common.{◌≡◌, Some, ap, sym, subst, ◌∙◌, length, arith}
 use Rattle.std.proofs.Math.ListN.{set}
+use Rattle.gb_groups.specs.Busy.{IsPutOut}
 use Rattle.gb_groups.specs.SlotsValue.{SlotsValue, row_at, on_slot, unless_gone}
-use Rattle.gb_groups.proofs.SlotsLemmas.{changed, slot_is}
+use Rattle.gb_groups.proofs.SlotsLemmas.{changed, slot_is, slot_written}
 use Rattle.gb_slot.specs.SlotState.{SlotState}
 use Rattle.gb_slot.specs.SpecLemmas.{spec-said}
 use Rattle.gb_groups.proofs.LentLemmas.{lent_called}
@@ -34,6 +35,10 @@ returns-in-Some-get_mut-clause-reply c =
     let there : (row_at c.args.self.now.rows c.args.place).slot ≡ Some v =
     ap (λ (w : SlotsValue). (row_at w.rows c.args.place).slot) (sym c.self.view_is) ∙ slot_is c.self.inside.slots c.self.inside.places.entries c.args.place c.in-Some.key v c.in-Some.ensures c.in-Some-get_mut.ensures.value in
     c.said.ensures ∙ c.say.ensures.answer ∙ sym (ap (unless_gone answer) there)
+
+pub returns-in-Some-get_mut-clause-put_out : goal.returns-in-Some-get_mut-clause-put_out
+returns-in-Some-get_mut-clause-put_out c = λ seq is.
+    subst IsPutOut (sym (slot_written c.self.inside.slots c.self.inside.places.entries c.args.place c.in-Some.key c.in-Some-get_mut.slot.now c.say.new.self c.in-Some.ensures c.in-Some-get_mut.ensures.value)) (where_said c.say.result seq (sym c.said.ensures ∙ is) c.say.ensures.put_out)
 
 pub returns-clause-reply : goal.returns-clause-reply
 returns-clause-reply c = grind (arith, common_steps)

@@ -1,4 +1,4 @@
-use Rattle.std.proofs.Common.{◌≡◌, ◌&&◌, length, refl, sym, ◌∙◌, subst, arith}
+use Rattle.std.proofs.Common.{◌≡◌, ◌≢◌, ◌<◌, ◌&&◌, length, length-append, refl, sym, ◌∙◌, ap, subst, arith}
 use Rattle.std.proofs.lemmas.Bool.Decides.{nat_tests}
 use Rattle.std.proofs.lemmas.List.{length-map}
 use Rattle.gb_types.specs.Entry.{message_of}
@@ -8,9 +8,9 @@ use Rattle.gb_stack.specs.contracts.stack.StackLayer.TheImpl.{meaning-value}
 use Rattle.gb_history.specs.Messages.{with_new, entry_in}
 use Rattle.gb_slot.specs.Outgoing.{put_messages}
 use Rattle.gb_slot.specs.Reached.{IsReached, limit_of}
-use Rattle.gb_slot.specs.Slot.{slot_called}
+use Rattle.gb_slot.specs.Slot.{slot_called, taken_for}
 use Rattle.gb_slot.proofs.MemoryLemmas.{held, room_for_call, places_in_log, places_put_out, place_in_store, bytes_in_store, item_stays, new_known, still_enough, as_much}
-use Rattle.gb_slot.proofs.PageLemmas.{same_rest}
+use Rattle.gb_slot.proofs.PageLemmas.{same_rest, some_rest}
 use Rattle.gb_slot.proofs.ReachedLemmas.{reached_came, kept_item}
 use Rattle.gb_slot.proofs.slot.Slot.came.Goals as goal
 
@@ -32,6 +32,15 @@ take_call-requires-clause-outgoing c =
     let stays = item_stays s c.args.from x c.is_let_fall.result c.known_from-known.result.1 c.known_from-known.result.0 c.bytes_of-seen.result c.is_let_fall.ensures.test c.if-is_let_fall.false c.known_from-known.ensures.taken c.known_from-known.ensures.entries c.bytes_of-seen.ensures in
     let next = reached_came (held s) c.args.from x stays c.self.invariant.5 in
     places_put_out s (slot_called (Came c.args.from (message_of x)) (with_new s.store.entries x) (held s)) _ c.self.invariant.6 next refl refl
+
+pub returns-clause-put_out : goal.returns-clause-put_out
+returns-clause-put_out c = λ some b reached.
+    let more : c.len.result ≢ c.len-count.result = grind (arith, nat_tests, some) in
+    let now = c.take_call.new.outgoing.items in
+    let before = c.self.inside.outgoing.items in
+    let grown = ap length c.take_call.ensures.outgoing ∙ length-append (put_messages before) _ in
+    let left : taken_for (held c.self.inside) b < length (put_messages now) = omega (arith, more, grown, c.self.invariant.5.stands.taken b, length-map now (λ o. o.m), length-map before (λ o. o.m)) in
+    some_rest (entry_in c.take_in.new.self.entries) _ (taken_for (held c.self.inside) b) (put_messages now) reached left
 
 pub returns-clause-quiet : goal.returns-clause-quiet
 returns-clause-quiet c = λ quiet dest.

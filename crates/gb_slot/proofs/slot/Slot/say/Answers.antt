@@ -1,11 +1,14 @@
-use Rattle.std.proofs.Common.{◌≡◌, ◌+◌, ◌∷◌, ◌++◌, [], rules, refl, sym, ◌∙◌, ap, subst}
+use Rattle.std.proofs.Common.{◌≡◌, ◌<◌, ◌+◌, ◌∷◌, ◌++◌, [], length, length-append, arith, rules, refl, sym, ◌∙◌, ap, subst}
 use Rattle.std.specs.FinSet as set
 use Rattle.gb_stack.specs.contracts.stack.StackLayer.TheImpl.{meaning-value}
 use Rattle.gb_slot.specs.Outgoing.{put_messages}
 use Rattle.gb_slot.specs.Reached.{IsReached, limit_of}
-use Rattle.gb_slot.specs.Slot.{own_entry, slot_said}
+use Rattle.gb_slot.specs.Slot.{own_entry, slot_said, taken_for}
 use Rattle.gb_types.specs.declared.reply.Reply.TheVariants.{Said}
 use Rattle.gb_slot.proofs.MemoryLemmas.{held, room_for_call, places_in_log, places_put_out, place_in_store, bytes_in_store, said_leads, still_enough, as_much}
+use Rattle.gb_history.specs.Messages.{entry_in}
+use Rattle.gb_slot.proofs.PageLemmas.{some_rest}
+use Rattle.gb_slot.proofs.PutOutLemmas.{said_sends}
 use Rattle.gb_slot.proofs.ReachedLemmas.{own_unknown, own_counted}
 use Rattle.gb_slot.proofs.slot.Slot.say.Goals as goal
 
@@ -65,3 +68,13 @@ invariant_of-self c =
         acknowledged = as_much m.acknowledged added.memory;
       },
     )
+
+pub returns-clause-put_out : goal.returns-clause-put_out
+returns-clause-put_out c = λ b reached.
+    let s = held c.self.inside in
+    let now = c.take_call.new.outgoing.items in
+    let before = c.self.inside.outgoing.items in
+    let sent = said_sends s c.self.invariant.5.told c.args.payload.now c.self.invariant.5.stands in
+    let grown = ap length c.take_call.ensures.outgoing ∙ length-append (put_messages before) _ in
+    let left : taken_for s b < length (put_messages now) = omega (arith, sent, grown, c.self.invariant.5.stands.taken b) in
+    some_rest (entry_in c.push.new.self.entries) _ (taken_for s b) (put_messages now) reached left
