@@ -1,5 +1,5 @@
 //! The slots of a node's groups, in the order in which they were made.
-ghost use Rattle.std.specs.Prelude.{◌≡◌, ◌<◌, ◌≤◌, ◌+◌, [], ℕ, Some, None, length, slice_index_or, slice_set, position, ◌++◌, ◌∷◌, OnOk, OnErr, true, false, IfSome, MatchOption, vec_len, vec_capacity};
+ghost use Rattle.std.specs.Prelude.{◌≡◌, ◌<◌, ◌≤◌, ◌+◌, [], ℕ, Some, None, length, slice_get, slice_index_or, slice_set, position, ◌++◌, ◌∷◌, OnOk, OnErr, true, false, IfSome, MatchOption, vec_len, vec_capacity};
 ghost use Rattle.gb_types.specs.declared.limits.TheConstants.{PAYLOAD};
 ghost use Rattle.gb_rules.specs.Address.{is_addr};
 ghost use Rattle.gb_rules.specs.Group.{is_member, open_answer, shut_answer, drop_answer, say_answer, fetch_answer};
