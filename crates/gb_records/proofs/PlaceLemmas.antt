@@ -1,11 +1,13 @@
 -- Where the record of a message stands, and the next message of an origin.
-use Rattle.std.proofs.Common.{◌≡◌, ◌≢◌, ℕ, ◌+◌, ◌≤◌, ◌<◌, ◌&&◌, ◌||◌, not, Bool, true, false, cond, List, [], ◌∷◌, ◌++◌, length, map, slice_get, get_or, refl, ap, sym, ◌∙◌, subst, arith, zero, suc}
+use Rattle.std.proofs.Common.{◌≡◌, ◌≢◌, ℕ, ◌+◌, ◌≤◌, ◌<◌, ◌&&◌, ◌||◌, not, Bool, true, false, cond, List, [], ◌∷◌, ◌++◌, length, map, slice_get, slice_index, get_or, set, max, nat_eq, refl, ap, sym, ◌∙◌, subst, arith, zero, suc}
 use Rattle.std.specs.Prelude.{option_map}
 use Rattle.std.specs.declared.option.Option.{Option}
 use Rattle.std.specs.declared.option.Option.TheVariants.{None, Some}
 use Rattle.std.specs.List.{list_any, IsDistinct, AllByRecursion}
 use Rattle.std.proofs.Math.Bool.{and-false, or-true}
-use Rattle.std.proofs.lemmas.List.{length-map}
+use Rattle.std.proofs.lemmas.List.{length-map, get_or-set_other}
+use Rattle.std.proofs.lemmas.Bool.{eqb-true, eq-eqb}
+use Rattle.std.proofs.lemmas.Grind.{get_or-set_at}
 use Rattle.std.proofs.lemmas.Option.{slice_get_read, slice_get-map}
 use Rattle.gb_types.specs.declared.message.MsgId.{MsgId}
 use Rattle.gb_types.specs.declared.node.NodeId.{NodeId}
@@ -127,6 +129,46 @@ once_none rs none = subst (λ rs. IsDistinct same (keys rs)) (sym none) tt
 -- nor where one more comes behind
 pub once_pushed : (rs : List Record) (r : Record) → IsDistinct same (keys rs) → list_any (is_for r.m) rs ≡ false → IsDistinct same (keys (rs ++ r ∷ []))
 once_pushed rs r once new = subst (λ (b : Bool). IsDistinct same (keys (cond b rs (rs ++ r ∷ [])))) new (once_grown (λ r. r.m) rs r once)
+
+-- no message of an origin is above its greatest number
+pub none_above : (origin : NodeId) (k : ℕ) (rs : List Record) (last : List ℕ) → ((i : ℕ) (m : MsgId) → slice_get (keys rs) i ≡ Some m → m.seq ≤ slice_index last m.origin.number) → slice_index last origin.number ≤ k
+    → list_any (is_for (record { origin = origin; seq = k + 1 })) rs ≡ false
+none_above origin k rs last bounded above =
+    let next : MsgId = record { origin = origin; seq = k + 1 } in
+    none_at (is_for next) rs
+    (λ i r at.
+        elim (same r.m next) as (λ b. same r.m next ≡ b → b ≡ false) [
+          | true ↦ λ h.
+              let within : k + 1 ≤ slice_index last origin.number = subst (λ (m : MsgId). m.seq ≤ slice_index last m.origin.number) (same-true r.m next h) (bounded i r.m (get_mapped (λ x. x.m) rs i r at)) in absurd (omega (arith, within, above))
+          | false ↦ λ _. refl
+        ] refl)
+
+-- a greatest number that is raised bounds as before, and what it was raised to
+raised : (last : List ℕ) (at o v : ℕ) → at < length last → slice_index last o ≤ slice_index (set last at (max (slice_index last at) v)) o
+raised last at o v lt =
+    elim (nat_eq o at) as (λ b. nat_eq o at ≡ b → slice_index last o ≤ slice_index (set last at (max (slice_index last at) v)) o) [
+      | true ↦ λ q.
+          let here : o ≡ at = eqb-true o at q in
+          let new : slice_index (set last at (max (slice_index last at) v)) o ≡ max (slice_index last at) v = get_or-set_at last at o (max (slice_index last at) v) 0 here lt in
+          let old : slice_index last o ≡ slice_index last at = ap (slice_index last) here in omega (arith, new, old)
+      | false ↦ λ q.
+          let other : o ≢ at = λ z. let t : nat_eq o at ≡ true = eq-eqb o at z in cc in
+          let new : slice_index (set last at (max (slice_index last at) v)) o ≡ slice_index last o = get_or-set_other last at o (max (slice_index last at) v) 0 other in omega (arith, new)
+    ] refl
+
+-- and so the numbers are bounded where one more message comes behind
+pub bounded_pushed : (rs : List Record) (r : Record) (last : List ℕ) (at : ℕ) → at ≡ r.m.origin.number → at < length last → ((i : ℕ) (m : MsgId) → slice_get (keys rs) i ≡ Some m → m.seq ≤ slice_index last m.origin.number)
+    → (i : ℕ) (m : MsgId) → slice_get (keys (rs ++ r ∷ [])) i ≡ Some m → m.seq ≤ slice_index (set last at (max (slice_index last at) r.m.seq)) m.origin.number
+bounded_pushed [] r last at is lt bounded zero m here =
+    let e : r.m ≡ m = cc in
+    let new : slice_index (set last at (max (slice_index last at) r.m.seq)) at ≡ max (slice_index last at) r.m.seq = get_or-set_at last at at (max (slice_index last at) r.m.seq) 0 refl lt in
+    subst (λ (x : MsgId). x.seq ≤ slice_index (set last at (max (slice_index last at) r.m.seq)) x.origin.number) e
+    (subst (λ (o : ℕ). r.m.seq ≤ slice_index (set last at (max (slice_index last at) r.m.seq)) o) is (omega (arith, new)))
+bounded_pushed [] r last at is lt bounded (suc i) m here = cc
+bounded_pushed (x ∷ rs) r last at is lt bounded zero m here =
+    let old = bounded zero m here in
+    let more = raised last at m.origin.number r.m.seq lt in omega (arith, old, more)
+bounded_pushed (x ∷ rs) r last at is lt bounded (suc i) m here = bounded_pushed rs r last at is lt (λ k y at. bounded (suc k) y at) i m here
 
 module _ (origin : NodeId) (k : ℕ) (rs : List Record) (count : k ≡ given_of origin.number (order_entries rs)) where
   -- the message of the origin after the first k

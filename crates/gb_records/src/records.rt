@@ -2,6 +2,7 @@
 ghost use Rattle.std.specs.Prelude.{◌≡◌, ℕ, ◌+◌, ◌≤◌, ◌<◌, ◌∷◌, ◌++◌, ◌&&◌, not, [], Some, length, slice_get, slice_index, count_by, true, false, MatchOption, vec_len, vec_capacity};
 ghost use Rattle.std.specs.List.{list_any, IsDistinct};
 ghost use Rattle.std.proofs.Props.{props};
+ghost use Rattle.gb_types.specs.declared.message.MsgId.{MsgId};
 ghost use Rattle.gb_types.specs.declared.limits.TheConstants.{NODES};
 ghost use Rattle.gb_types.specs.Message.{same};
 ghost use Rattle.gb_layer.specs.Room.{free};
@@ -25,36 +26,31 @@ fn is_waiting(r: &Record) -> bool
     r.up && !r.given
 }
 
-/// Whether a message is up and not given, and is the one of the origin after the first k.
-fn is_after(r: &Record, origin: NodeId, k: usize) -> bool
-    ensures { result ≡ is_next origin.number k (order_entry r.now) }
-{
-    let seq = r.m.seq;
-    is_waiting(r) && (r.m.origin == origin && (seq != 0 && usize::from(seq - 1) == k))
-}
-
-/// The place of the message of an origin after the first k, if it is up and not given, by a search.
-fn find_after(records: &[Record], origin: NodeId, k: usize) -> Option<usize>
-    ensures { IsPlace (is_next origin.number k) (order_entries records.now) result }
-{
-    for i in 0..records.len() {
-        if is_after(&records[i], origin, k) {
-            return Some(i);
-        }
-    }
-    None
-}
-
 /// The records in the order of first mention, one for each message, with a table that leads to them.
 #[derive(Drop)]
 pub struct Records {
     pub list: Vec<Record>,
     pub table: Table,
+    /// The place of the message that was noted last, where one is looked for first.
+    pub recent: usize,
     /// How many messages of each origin were given up, which is the number of the last.
     pub given: [u16; NODES],
+    /// The greatest number among the messages of each origin.
+    pub last: [u16; NODES],
     ghost leads: { leads table.width table.told.items 0 (keys list.items) ≡ true },
     ghost once: { IsDistinct same (keys list.items) } by { Prim.hlevel props },
     ghost counted: { (origin : ℕ) → origin < NODES → slice_index given origin ≡ given_of origin (order_entries list.items) },
+    ghost bounded: { (i : ℕ) (m : MsgId) → slice_get (keys list.items) i ≡ Some m → m.seq ≤ slice_index last m.origin.number },
+}
+
+/// Whether the record at a place is of m.
+fn is_at(records: &[Record], place: usize, m: MsgId) -> bool
+    ensures { result ≡ true → slice_get (keys records.now) place ≡ Some m }
+{
+    match records.get(place) {
+        Some(r) => r.m == m,
+        None => false,
+    }
 }
 
 /// The place of the record of m, if there is one, by a search from the front.
@@ -78,7 +74,9 @@ impl Records {
         Records {
             list: Vec::new(alloc),
             table: Table::new(alloc),
+            recent: 0,
             given: [0; NODES],
+            last: [0; NODES],
         }
     }
 
@@ -94,6 +92,9 @@ impl Records {
     pub fn find(&self, m: MsgId) -> Option<usize>
         ensures { MatchOption result (list_any (is_for m) self.now.list.items ≡ false) (λ i. slice_get (keys self.now.list.items) i ≡ Some m) }
     {
+        if is_at(&self.list, self.recent, m) {
+            return Some(self.recent);
+        }
         match self.table.told(m) {
             Some(v) => match place(self.list.len(), v) {
                 Some(k) => { if self.list[k].m == m { Some(k) } else { None } }
@@ -112,10 +113,14 @@ impl Records {
         ensures capacity { vec_capacity self.new.list ≡ vec_capacity self.old.list }
     {
         if let Some(at) = self.find(m) {
+            self.recent = at;
             return at;
         }
         let at = self.list.len();
         self.table.note(m, at);
+        self.recent = at;
+        let origin = m.origin.index();
+        self.last[origin] = self.last[origin].max(m.seq);
         self.list.push_reserved(Record {
             m,
             holders: NodeSet::new(),
@@ -130,9 +135,10 @@ impl Records {
     fn find_next(&self, origin: NodeId) -> Option<usize>
         ensures { IsPlace (next_of origin.number (order_entries self.now.list.items)) (order_entries self.now.list.items) result }
     {
-        let k = self.given[origin.index()];
-        if k == u16::MAX {
-            return find_after(&self.list, origin, usize::from(k));
+        let index = origin.index();
+        let k = self.given[index];
+        if self.last[index] <= k {
+            return None;
         }
         let Some(at) = self.find(MsgId { origin, seq: k + 1 }) else {
             return None;

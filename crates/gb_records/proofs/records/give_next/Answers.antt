@@ -1,4 +1,4 @@
-use Rattle.std.proofs.Common.{◌≡◌, ◌+◌, ◌++◌, ◌∙◌, ap, sym, subst, arith, length}
+use Rattle.std.proofs.Common.{slice_get, ◌≡◌, ◌+◌, ◌++◌, ◌∙◌, ap, sym, subst, arith, length}
 use Rattle.std.specs.List.{IsDistinct}
 use Rattle.std.proofs.lemmas.List.{append-nil}
 use Rattle.gb_types.specs.declared.limits.TheConstants.{NODES}
@@ -91,6 +91,7 @@ invariant_of-records c =
     record {
       leads = ap (leads l.table.width l.table.told.items 0) kept ∙ l.leads;
       once = subst (IsDistinct same) (sym kept) l.once;
+      bounded = λ j m at. l.bounded j m (ap (λ ms. slice_get ms j) (sym kept) ∙ at);
       counted = λ o lt.
           counted_more l.given c.index.result s o (given_of o es) _ c.give_one.result count c.args.origin.below c.index.ensures.value (l.counted o lt)
           (c.give_one.ensures.number ∙ (next_number s (given_of s es) es i (order_entry x) here read ∙ ap (λ n. n + 1) (sym (l.counted s c.args.origin.below))))

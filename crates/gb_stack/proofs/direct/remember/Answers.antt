@@ -1,4 +1,4 @@
-use Rattle.std.proofs.Common.{ap, sym, refl, ◌∙◌, ◌||◌}
+use Rattle.std.proofs.Common.{slice_get, ap, sym, refl, ◌∙◌, ◌||◌}
 use Rattle.gb_layer.specs.Table.{leads}
 use Rattle.gb_records.specs.declared.record.Record.{Record}
 use Rattle.gb_records.proofs.PlaceLemmas.{key_within}
@@ -20,6 +20,7 @@ invariant_of-records c =
       leads = ap (leads n.table.width n.table.told.items 0) keys ∙ n.leads;
       once = rw keys n.once;
       counted = λ o lo. n.counted o lo ∙ sym (given_kept mid at x r lt is o refl refl);
+      bounded = λ j k there. n.bounded j k (ap (λ ms. slice_get ms j) (sym keys) ∙ there);
     }
 
 pub returns-clause-order : goal.returns-clause-order

@@ -1,4 +1,4 @@
-use Rattle.std.proofs.Common.{ap, sym, refl, not, ◌∙◌, ◌<◌, true, false, length, set, arith}
+use Rattle.std.proofs.Common.{slice_get, ap, sym, refl, not, ◌∙◌, ◌<◌, true, false, length, set, arith}
 use Rattle.std.proofs.lemmas.List.{map-set}
 use Rattle.gb_layer.specs.declared.entries.Entry.{Entry}
 use Rattle.gb_layer.specs.Relay.{sent_entry}
@@ -22,6 +22,7 @@ invariant_of-records c =
       leads = ap (leads r.table.width r.table.told.items 0) keys ∙ r.leads;
       once = rw keys r.once;
       counted = λ o lo. r.counted o lo ∙ sym (given_kept rs c.args.at x _ lt is o refl refl);
+      bounded = λ j k there. r.bounded j k (ap (λ ms. slice_get ms j) (sym keys) ∙ there);
     }
 
 pub returns-clause-relay : goal.returns-clause-relay

@@ -1,4 +1,4 @@
-use Rattle.std.proofs.Common.{ap, sym, refl, ◌∙◌, ◌≡◌, ◌+◌, ◌<◌, ◌≤◌, ℕ, Bool, true, false, List, length, count_by, set, cond, arith}
+use Rattle.std.proofs.Common.{slice_get, ap, sym, refl, ◌∙◌, ◌≡◌, ◌+◌, ◌<◌, ◌≤◌, ℕ, Bool, true, false, List, length, count_by, set, cond, arith}
 use Rattle.gb_layer.specs.Table.{leads}
 use Rattle.gb_records.specs.declared.record.Record.{Record}
 use Rattle.gb_records.specs.Records.{is_ungiven, relay_entries}
@@ -34,6 +34,7 @@ invariant_of-records g c =
       leads = ap (leads r.table.width r.table.told.items 0) keys ∙ r.leads;
       once = rw keys r.once;
       counted = λ o lo. r.counted o lo ∙ sym (given_kept rs c.args.at x c.settle-moved.new.r lt is o m c.settle-moved.ensures.given);
+      bounded = λ j k there. r.bounded j k (ap (λ ms. slice_get ms j) (sym keys) ∙ there);
     }
 
 pub returns-clause-sends_room : goal.returns-clause-sends_room

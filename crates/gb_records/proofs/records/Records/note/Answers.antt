@@ -1,4 +1,4 @@
-use Rattle.std.proofs.Common.{◌≡◌, ◌++◌, ◌∷◌, [], ◌∙◌, cond, false, length, slice_get, ap, sym, refl, subst, arith}
+use Rattle.std.proofs.Common.{◌≡◌, ◌≤◌, ◌<◌, ℕ, set, slice_index, ◌++◌, ◌∷◌, [], ◌∙◌, cond, false, length, slice_get, ap, sym, refl, subst, arith}
 use Rattle.std.specs.List.{list_any, IsDistinct}
 use Rattle.std.proofs.lemmas.List.{length-map, map-append}
 use Rattle.gb_types.specs.Message.{same}
@@ -7,7 +7,7 @@ use Rattle.gb_layer.specs.Table.{leads}
 use Rattle.gb_fifo.specs.Entries.{given_of}
 use Rattle.gb_records.specs.declared.record.Record.{Record}
 use Rattle.gb_records.specs.Records.{keys, is_for, blank, order_entries}
-use Rattle.gb_records.proofs.PlaceLemmas.{key_any, once_pushed}
+use Rattle.gb_records.proofs.PlaceLemmas.{key_any, once_pushed, bounded_pushed}
 use Rattle.gb_records.proofs.ColumnLemmas.{given_pushed, last_at}
 use Rattle.gb_records.proofs.records.Records.note.Goals as goal
 
@@ -19,6 +19,11 @@ returns-in-Some-clause-items c =
 
 pub invariant_of-self : goal.invariant_of-self
 invariant_of-self c =
+    let l = c.args.self.now in
+    record { leads = l.leads; once = l.once; counted = l.counted; bounded = l.bounded }
+
+pub invariant_of-self-2 : goal.invariant_of-self-2
+invariant_of-self-2 c =
     let l = c.args.self.now in
     let m = c.args.m in
     let rs = l.list.items in
@@ -35,6 +40,11 @@ invariant_of-self c =
       leads = ap (λ xs. leads new.width new.told.items 0 (keys xs)) pushed ∙ (ap (leads new.width new.told.items 0) (map-append (λ r. r.m) rs (r ∷ [])) ∙ noted);
       once = subst (λ xs. IsDistinct same (keys xs)) (sym pushed) (once_pushed rs r l.once none);
       counted = λ o lt. l.counted o lt ∙ sym (ap (λ xs. given_of o (order_entries xs)) pushed ∙ given_pushed rs r o refl);
+      bounded = λ i k at.
+          let o = c.index-origin.result in
+          let in_range : o < length l.last = omega (arith, c.index-origin.ensures.bound) in
+          subst (λ (v : ℕ). k.seq ≤ slice_index (set l.last o v) k.origin.number) (sym c.max.ensures)
+          (bounded_pushed rs r l.last o c.index-origin.ensures.value in_range l.bounded i k (ap (λ xs. slice_get (keys xs) i) (sym pushed) ∙ at));
     }
 
 pub returns-clause-place : goal.returns-clause-place
