@@ -1,6 +1,6 @@
 -- What stands at the place of a message.
 use Rattle.std.proofs.Common.{◌≡◌, ℕ, zero, suc, ◌+◌, ◌≤◌, ◌<◌, ◌||◌, Bool, true, false, List, [], ◌∷◌, ◌++◌, length, take, drop, set, get_or, slice_get, Some, None, refl, sym, ◌∙◌, ap, subst, arith}
-use Rattle.std.specs.Prelude.{Option, MatchOption, map, slice_range, is_some, if◌then◌else◌}
+use Rattle.std.specs.Prelude.{Option, IfSome, MatchOption, map, slice_range, is_some, if◌then◌else◌}
 use Rattle.std.specs.Ordering.{nat_cmp}
 use Rattle.std.specs.FinSet as nodes
 use Rattle.std.specs.List.{list_any, IsDistinct, AllByRecursion}
@@ -11,8 +11,9 @@ use Rattle.gb_types.specs.declared.message.MsgId.{MsgId}
 use Rattle.gb_types.specs.declared.node.NodeId.{NodeId}
 use Rattle.gb_types.specs.Entry.{message_of}
 use Rattle.gb_types.specs.Message.{same}
-use Rattle.gb_types.proofs.SameLemmas.{same-true}
+use Rattle.gb_types.proofs.SameLemmas.{same-true, same_itself}
 use Rattle.gb_types.proofs.BoolLemmas.{or_left, or_right}
+use Rattle.gb_layer.proofs.PlacesLemmas.{get_within}
 use Rattle.gb_layer.specs.WholeLemmas.{once_grown}
 use Rattle.gb_history.specs.Messages.{has, payload_in}
 use Rattle.gb_slot.specs.Arrivals.{Arrival, has_arrival, nodes_of, with_node}
@@ -134,10 +135,6 @@ module _ (m : MsgId) where
   node_placed p (k ∷ kept) (suc i) d at =
       ap (λ rest. arrival k ∷ rest) (node_placed p kept i d (rest_placed k kept i at)) ∙ sym (ap (either p k kept) (or_left (is_of m k) _ at.2))
 
-  pub node_missing : (p : NodeId) (kept : List Kept) → list_any (is_of m) kept ≡ false → arrivals_of kept ≡ with_node p m (arrivals_of kept)
-  node_missing p [] none = refl
-  node_missing p (k ∷ kept) none = ap (λ rest. arrival k ∷ rest) (node_missing p kept (or_right (is_of m k) _ none)) ∙ sym (ap (either p k kept) (or_left (is_of m k) _ none))
-
 -- each payload stands among the bytes
 pub inside_at : (bytes : List ℕ) (kept : List Kept) (i : ℕ) (d : Kept) → AreInside bytes kept → i < length kept → ((get_or kept i d).start ≤ start_of bytes (drop (i + 1) kept)) × (start_of bytes (drop (i + 1) kept) ≤ length bytes)
 inside_at bytes [] i d inside lt = absurd (omega arith)
@@ -175,7 +172,24 @@ module _ (m : MsgId) where
   placed_message bytes (k ∷ kept) zero at = ap (λ x. Some x) (same-true k.m m (at.1 k refl))
   placed_message bytes (k ∷ kept) (suc i) at = placed_message bytes kept i (rest_placed m k kept i at)
 
+  -- what is kept where it stands
+  kept_there : (bytes : List ℕ) (kept : List Kept) (i : ℕ) → slice_get (map message_of (entries_of bytes kept)) i ≡ Some m → (k : Kept) × (slice_get kept i ≡ Some k) × (is_of m k ≡ true)
+  kept_there bytes [] i at = cc
+  kept_there bytes (k ∷ kept) zero at = let e : k.m ≡ m = cc in (k, refl, ap (λ x. same x m) e ∙ same_itself m)
+  kept_there bytes (k ∷ kept) (suc i) at = kept_there bytes kept i at
+
+  -- where it stands among the entries is its place
+  pub place_of_standing : (bytes : List ℕ) (kept : List Kept) (i : ℕ) → IsDistinct same (messages_of kept) → slice_get (map message_of (entries_of bytes kept)) i ≡ Some m → IsPlaceOf m kept (Some i)
+  place_of_standing bytes kept i once at =
+      let k = kept_there bytes kept i at in
+      placed_once kept i k.0 once (get_within kept i k.0 k.1) k.1 k.2
+
   -- where it stands among the entries, if it does
+  pub place_stands : (bytes : List ℕ) (kept : List Kept) (found : Option ℕ) → IsPlaceOf m kept found → IfSome found (λ i. slice_get (map message_of (entries_of bytes kept)) i ≡ Some m)
+  place_stands bytes kept None at = tt
+  place_stands bytes kept (Some i) at = placed_message bytes kept i at
+
+  -- and that it is not there, if it does not
   pub place_told : (bytes : List ℕ) (kept : List Kept) (found : Option ℕ) → IsPlaceOf m kept found → MatchOption found (has (entries_of bytes kept) m ≡ false) (λ i. slice_get (map message_of (entries_of bytes kept)) i ≡ Some m)
   place_told bytes kept None at = any_entries m bytes kept ∙ at
   place_told bytes kept (Some i) at = placed_message bytes kept i at

@@ -45,18 +45,18 @@ pub struct Slot {
     me: NodeId,
     phase: Phase,
     noticed: NodeSet,
+    said: u32,
+    /// How many of the messages that were said here are unfinished.
+    unfinished: u32,
+    /// For each message that was said here, in order, the nodes that have it for good.
+    acknowledged: Vec<NodeSet>,
     stack: Stack,
     /// All that was delivered, in order.
     log: Vec<MsgId>,
     /// All that was broadcast, in order.
     outgoing: Vec<PutOut>,
     store: Store,
-    said: u32,
     taken: [u16; NODES],
-    /// For each message that was said here, in order, the nodes that have it for good.
-    acknowledged: Vec<NodeSet>,
-    /// How many of these messages are unfinished.
-    unfinished: u32,
 }
 
 impl Model for Slot {
@@ -250,7 +250,10 @@ impl Slot {
         let m = MsgId { origin, seq };
         let (known, before) = self.store.known_from(m, from);
         let seen = self.store.bytes_of(origin);
-        if is_let_fall(&self.spec, self.me, from, m, payload, before, known, seen) {
+        let is_known = known.is_some();
+        if is_let_fall(
+            &self.spec, self.me, from, m, payload, before, is_known, seen,
+        ) {
             return false;
         }
         let count = self.outgoing.len();

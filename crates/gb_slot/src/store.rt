@@ -1,5 +1,5 @@
 //! The messages that a slot knows, with their payloads. Each payload stands here once.
-ghost use Rattle.std.specs.Prelude.{◌≡◌, ℕ, true, false, ◌+◌, ◌^◌, ◌≤◌, ◌<◌, ◌∷◌, ◌++◌, [], List, length, map, drop, Some, slice_get, slice_index, vec_len, vec_capacity, IsOk, IfOk, OnOk, OnErr, MatchOption};
+ghost use Rattle.std.specs.Prelude.{◌≡◌, ℕ, true, false, ◌+◌, ◌^◌, ◌≤◌, ◌<◌, ◌∷◌, ◌++◌, [], List, length, map, drop, Some, slice_get, slice_index, vec_len, vec_capacity, IsOk, IfOk, OnOk, OnErr, MatchOption, IfSome, is_some};
 ghost use Rattle.std.specs.List.{list_any, IsDistinct};
 ghost use Rattle.gb_history.specs.Messages.{has, payload_in, entry_in, with_new, bytes_of};
 ghost use Rattle.std.specs.FinSet as set;
@@ -149,31 +149,28 @@ fn payload_at<'a>(kept: &[Kept], table: &Table, bytes: &'a [u8], m: MsgId, place
     payload_of(kept, table, bytes, m)
 }
 
-/// Whether a message is there, and whether it was taken in from a node.
-fn known_from(kept: &[Kept], table: &Table, m: MsgId, from: NodeId) -> (bool, bool)
+/// Where a message is kept, and whether it was taken in from a node.
+fn known_from(kept: &[Kept], table: &Table, m: MsgId, from: NodeId) -> (Option<usize>, bool)
     requires { leads table.now.width table.now.told.items 0 (messages_of kept.now) ≡ true }
-    ensures known { result.0 ≡ list_any (is_of m) kept.now }
+    ensures place { IsPlaceOf m kept.now result.0 }
     ensures taken { result.1 ≡ set.contains (nodes_of (arrivals_of kept.now) m) from.number }
 {
     match find(kept, table, m) {
-        Some(i) => (true, kept[i].from.contains(from)),
-        None => (false, false),
+        Some(i) => (Some(i), kept[i].from.contains(from)),
+        None => (None, false),
     }
 }
 
-/// A message was taken in from a node.
-fn mark(kept: &mut Vec<Kept>, table: &Table, m: MsgId, from: NodeId)
-    requires { leads table.now.width table.now.told.items 0 (messages_of kept.old.items) ≡ true }
-    ensures arrivals { arrivals_of kept.new.items ≡ with_node from m (arrivals_of kept.old.items) }
+/// The message that is kept at this place was taken in from a node.
+fn mark(kept: &mut Vec<Kept>, place: usize, from: NodeId)
+    requires { place < vec_len kept.old }
+    ensures arrivals { (m : MsgId) → IsPlaceOf m kept.old.items (Some place) → arrivals_of kept.new.items ≡ with_node from m (arrivals_of kept.old.items) }
     ensures messages { messages_of kept.new.items ≡ messages_of kept.old.items }
     ensures entries { (bytes : List ℕ) → entries_of bytes kept.new.items ≡ entries_of bytes kept.old.items }
     ensures inside { (bytes : List ℕ) → AreInside bytes kept.old.items → AreInside bytes kept.new.items }
     ensures kept { (vec_len kept.new ≡ vec_len kept.old) × (vec_capacity kept.new ≡ vec_capacity kept.old) }
 {
-    match find(kept, table, m) {
-        Some(i) => kept[i].from.insert(from),
-        None => {}
-    }
+    kept[place].from.insert(from);
 }
 
 /// Adds a message that was taken in from these nodes, and its payload, at the end, where there is room.
@@ -277,28 +274,33 @@ impl Store {
         self.seen[origin.index()]
     }
 
-    /// Whether the message is there, and whether it was taken in from the node.
-    pub fn known_from(&self, m: MsgId, from: NodeId) -> (bool, bool)
-        ensures entries { result.0 ≡ has self.now.entries m }
-        ensures arrivals { result.0 ≡ has_arrival self.now.arrivals m }
+    /// Where the message stands among those that are there, if it does, and whether it was taken in from the node; places
+    /// count from 0.
+    pub fn known_from(&self, m: MsgId, from: NodeId) -> (Option<usize>, bool)
+        ensures place { IfSome result.0 (λ i. slice_get (map message_of self.now.entries) i ≡ Some m) }
+        ensures entries { is_some result.0 ≡ has self.now.entries m }
+        ensures arrivals { is_some result.0 ≡ has_arrival self.now.arrivals m }
         ensures taken { result.1 ≡ set.contains (nodes_of self.now.arrivals m) from.number }
     {
         known_from(&self.kept, &self.table, m, from)
     }
 
-    /// The message, where it is there, was taken in from the node.
-    fn mark(&mut self, m: MsgId, from: NodeId)
-        ensures arrivals { self.new.arrivals ≡ with_node from m self.old.arrivals }
+    /// The message that stands at this place was taken in from the node.
+    fn mark(&mut self, place: usize, from: NodeId)
+        requires { place < length self.old.entries }
+        ensures arrivals { (m : MsgId) → slice_get (map message_of self.old.entries) place ≡ Some m → self.new.arrivals ≡ with_node from m self.old.arrivals }
         ensures entries { self.new.entries ≡ self.old.entries }
         ensures memory { (self.new.places ≡ self.old.places) × (self.new.bytes ≡ self.old.bytes) }
     {
-        mark(&mut self.kept, &self.table, m, from);
+        mark(&mut self.kept, place, from);
     }
 
-    /// Takes a message in from a node. Where it is not known here yet it is put in, and its payload copied. Takes no memory.
-    pub fn take_in(&mut self, m: MsgId, payload: &[u8], from: NodeId, is_known: bool)
-        requires known { is_known ≡ has self.old.entries m }
-        requires arrived { is_known ≡ has_arrival self.old.arrivals m }
+    /// Takes a message in from a node; `known` is where it stands here, if it does. Where it is not known here yet it is
+    /// put in, and its payload copied. Takes no memory.
+    pub fn take_in(&mut self, m: MsgId, payload: &[u8], from: NodeId, known: Option<usize>)
+        requires stands { IfSome known (λ i. slice_get (map message_of self.old.entries) i ≡ Some m) }
+        requires known { is_some known ≡ has self.old.entries m }
+        requires arrived { is_some known ≡ has_arrival self.old.arrivals m }
         requires place { has self.old.entries m ≡ false → length self.old.entries < self.old.places }
         requires bytes { has self.old.entries m ≡ false → total_bytes self.old.entries + length payload.now ≤ self.old.bytes }
         requires limit { has self.old.entries m ≡ false → bytes_of m.origin.number self.old.entries + length payload.now ≤ BYTES }
@@ -306,13 +308,14 @@ impl Store {
         ensures arrivals { self.new.arrivals ≡ with_arrived from m self.old.arrivals }
         ensures memory { (self.old.places ≤ self.new.places) × (self.old.bytes ≤ self.new.bytes) }
     {
-        if is_known {
-            self.mark(m, from);
-            return;
+        match known {
+            Some(place) => self.mark(place, from),
+            None => {
+                let mut nodes = NodeSet::new();
+                nodes.insert(from);
+                self.add(m, payload, nodes);
+            }
         }
-        let mut nodes = NodeSet::new();
-        nodes.insert(from);
-        self.add(m, payload, nodes);
     }
 
     /// Where the message stands among those that are there, if it does; places count from 0.

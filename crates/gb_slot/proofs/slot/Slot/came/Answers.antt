@@ -21,7 +21,7 @@ pub take_call-requires-clause-log : goal.take_call-requires-clause-log
 take_call-requires-clause-log c =
     let s = c.self.inside in
     let x : Entry = record { origin = c.args.origin; seq = c.args.seq; payload = c.args.payload.now } in
-    let stays = item_stays s c.args.from x c.is_let_fall.result c.known_from-known.result.1 c.known_from-known.result.0 c.bytes_of-seen.result c.is_let_fall.ensures.test c.if-is_let_fall.false c.known_from-known.ensures.taken c.known_from-known.ensures.entries c.bytes_of-seen.ensures in
+    let stays = item_stays s c.args.from x c.is_let_fall.result c.known_from-known.result.1 c.is_some-is_known.result c.bytes_of-seen.result c.is_let_fall.ensures.test c.if-is_let_fall.false c.known_from-known.ensures.taken (c.is_some-is_known.ensures ∙ c.known_from-known.ensures.entries) c.bytes_of-seen.ensures in
     let next = reached_came (held s) c.args.from x stays c.self.invariant.5 in
     places_in_log s (slot_called (Came c.args.from (message_of x)) (with_new s.store.entries x) (held s)) _ c.self.invariant.6 next refl refl
 
@@ -29,7 +29,7 @@ pub take_call-requires-clause-outgoing : goal.take_call-requires-clause-outgoing
 take_call-requires-clause-outgoing c =
     let s = c.self.inside in
     let x : Entry = record { origin = c.args.origin; seq = c.args.seq; payload = c.args.payload.now } in
-    let stays = item_stays s c.args.from x c.is_let_fall.result c.known_from-known.result.1 c.known_from-known.result.0 c.bytes_of-seen.result c.is_let_fall.ensures.test c.if-is_let_fall.false c.known_from-known.ensures.taken c.known_from-known.ensures.entries c.bytes_of-seen.ensures in
+    let stays = item_stays s c.args.from x c.is_let_fall.result c.known_from-known.result.1 c.is_some-is_known.result c.bytes_of-seen.result c.is_let_fall.ensures.test c.if-is_let_fall.false c.known_from-known.ensures.taken (c.is_some-is_known.ensures ∙ c.known_from-known.ensures.entries) c.bytes_of-seen.ensures in
     let next = reached_came (held s) c.args.from x stays c.self.invariant.5 in
     places_put_out s (slot_called (Came c.args.from (message_of x)) (with_new s.store.entries x) (held s)) _ c.self.invariant.6 next refl refl
 
@@ -54,7 +54,7 @@ pub take_in-requires-clause-place : goal.take_in-requires-clause-place
 take_in-requires-clause-place c = λ new.
     let s = c.self.inside in
     let x : Entry = record { origin = c.args.origin; seq = c.args.seq; payload = c.args.payload.now } in
-    let stays = item_stays s c.args.from x c.is_let_fall.result c.known_from-known.result.1 c.known_from-known.result.0 c.bytes_of-seen.result c.is_let_fall.ensures.test c.if-is_let_fall.false c.known_from-known.ensures.taken c.known_from-known.ensures.entries c.bytes_of-seen.ensures in
+    let stays = item_stays s c.args.from x c.is_let_fall.result c.known_from-known.result.1 c.is_some-is_known.result c.bytes_of-seen.result c.is_let_fall.ensures.test c.if-is_let_fall.false c.known_from-known.ensures.taken (c.is_some-is_known.ensures ∙ c.known_from-known.ensures.entries) c.bytes_of-seen.ensures in
     let next = reached_came (held s) c.args.from x stays c.self.invariant.5 in
     place_in_store s (slot_called (Came c.args.from (message_of x)) (with_new s.store.entries x) (held s)) x c.self.invariant.6 next refl (new_known s.store.entries x new)
 
@@ -62,7 +62,7 @@ pub take_in-requires-clause-bytes : goal.take_in-requires-clause-bytes
 take_in-requires-clause-bytes c = λ new.
     let s = c.self.inside in
     let x : Entry = record { origin = c.args.origin; seq = c.args.seq; payload = c.args.payload.now } in
-    let stays = item_stays s c.args.from x c.is_let_fall.result c.known_from-known.result.1 c.known_from-known.result.0 c.bytes_of-seen.result c.is_let_fall.ensures.test c.if-is_let_fall.false c.known_from-known.ensures.taken c.known_from-known.ensures.entries c.bytes_of-seen.ensures in
+    let stays = item_stays s c.args.from x c.is_let_fall.result c.known_from-known.result.1 c.is_some-is_known.result c.bytes_of-seen.result c.is_let_fall.ensures.test c.if-is_let_fall.false c.known_from-known.ensures.taken (c.is_some-is_known.ensures ∙ c.known_from-known.ensures.entries) c.bytes_of-seen.ensures in
     let next = reached_came (held s) c.args.from x stays c.self.invariant.5 in
     bytes_in_store s (slot_called (Came c.args.from (message_of x)) (with_new s.store.entries x) (held s)) x c.self.invariant.6 next refl (new_known s.store.entries x new)
 
@@ -71,8 +71,8 @@ take_in-requires-clause-limit c = λ new.
     let s = c.self.inside in
     let x : Entry = record { origin = c.args.origin; seq = c.args.seq; payload = c.args.payload.now } in
     let test = sym c.is_let_fall.ensures.test in
-    let facts = kept_item s.spec s.me.number c.args.from.number x c.known_from-known.result.1 c.known_from-known.result.0 c.bytes_of-seen.result (test ∙ c.if-is_let_fall.false) in
-    let enough = facts.2 (c.known_from-known.ensures.entries ∙ new) in
+    let facts = kept_item s.spec s.me.number c.args.from.number x c.known_from-known.result.1 c.is_some-is_known.result c.bytes_of-seen.result (test ∙ c.if-is_let_fall.false) in
+    let enough = facts.2 ((c.is_some-is_known.ensures ∙ c.known_from-known.ensures.entries) ∙ new) in
     let most = c.self.invariant.2 in
     let seen = c.bytes_of-seen.ensures in
     omega (arith, enough, most, seen)
@@ -81,10 +81,10 @@ pub invariant_of-self : goal.invariant_of-self
 invariant_of-self c =
     let s = c.self.inside in
     let x : Entry = record { origin = c.args.origin; seq = c.args.seq; payload = c.args.payload.now } in
-    let stays = item_stays s c.args.from x c.is_let_fall.result c.known_from-known.result.1 c.known_from-known.result.0 c.bytes_of-seen.result c.is_let_fall.ensures.test c.if-is_let_fall.false c.known_from-known.ensures.taken c.known_from-known.ensures.entries c.bytes_of-seen.ensures in
+    let stays = item_stays s c.args.from x c.is_let_fall.result c.known_from-known.result.1 c.is_some-is_known.result c.bytes_of-seen.result c.is_let_fall.ensures.test c.if-is_let_fall.false c.known_from-known.ensures.taken (c.is_some-is_known.ensures ∙ c.known_from-known.ensures.entries) c.bytes_of-seen.ensures in
     let next = reached_came (held s) c.args.from x stays c.self.invariant.5 in
     let m = c.self.invariant.6 in
-    let facts = kept_item s.spec s.me.number c.args.from.number x c.known_from-known.result.1 c.known_from-known.result.0 c.bytes_of-seen.result (sym c.is_let_fall.ensures.test ∙ c.if-is_let_fall.false) in
+    let facts = kept_item s.spec s.me.number c.args.from.number x c.known_from-known.result.1 c.is_some-is_known.result c.bytes_of-seen.result (sym c.is_let_fall.ensures.test ∙ c.if-is_let_fall.false) in
     let called = c.take_call.ensures in
     let kept = c.take_in.ensures in
     let is : (slot_called (Came c.args.from (message_of x)) (with_new s.store.entries x) (held s)) ≡ record (held s) { stack = meaning-value.it c.take_call.new.stack; arrivals = c.take_in.new.self.arrivals; store = c.take_in.new.self.entries; log = c.take_call.new.log.items; outgoing = put_messages c.take_call.new.outgoing.items } =
