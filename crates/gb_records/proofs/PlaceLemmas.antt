@@ -137,11 +137,11 @@ none_above origin k rs last bounded above =
     let next : MsgId = record { origin = origin; seq = k + 1 } in
     none_at (is_for next) rs
     (λ i r at.
-        elim (same r.m next) as (λ b. same r.m next ≡ b → b ≡ false) [
-          | true ↦ λ h.
-              let within : k + 1 ≤ slice_index last origin.number = subst (λ (m : MsgId). m.seq ≤ slice_index last m.origin.number) (same-true r.m next h) (bounded i r.m (get_mapped (λ x. x.m) rs i r at)) in absurd (omega (arith, within, above))
-          | false ↦ λ _. refl
-        ] refl)
+    elim (same r.m next) as (λ b. same r.m next ≡ b → b ≡ false) [
+      | true ↦ λ h.
+          let within : k + 1 ≤ slice_index last origin.number = subst (λ (m : MsgId). m.seq ≤ slice_index last m.origin.number) (same-true r.m next h) (bounded i r.m (get_mapped (λ x. x.m) rs i r at)) in absurd (omega (arith, within, above))
+      | false ↦ λ _. refl
+    ] refl)
 
 -- a greatest number that is raised bounds as before, and what it was raised to
 raised : (last : List ℕ) (at o v : ℕ) → at < length last → slice_index last o ≤ slice_index (set last at (max (slice_index last at) v)) o
