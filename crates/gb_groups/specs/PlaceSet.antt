@@ -1,5 +1,5 @@
 -- A set of places in words of 64 bits.
-use Rattle.std.specs.Prelude.{ℕ, ◌/◌, ◌%◌, ◌≡◌, ◌≤◌, ◌<◌, List, slice_index_or}
+use Rattle.std.specs.Prelude.{ℕ, ◌/◌, ◌%◌, ◌≡◌, ◌≤◌, ◌<◌, min, List, slice_index_or}
 use Rattle.std.specs.Int.{bit_at}
 
 -- 1 where the place is in the set, else 0
@@ -11,3 +11,7 @@ pub record IsNext (words : List ℕ) (from q : ℕ) : Type 0 where
   pub after : from ≤ q
   pub here : has words q ≡ 1
   pub none : (p : ℕ) → from ≤ p → p < q → has words p ≡ 0
+
+-- a bit for each of 64 words, which says whether there is a place in it
+abbrev pub IsSummary : List ℕ → ℕ → Type 0
+IsSummary words summary = (a : ℕ) → a < 64 → bit_at summary a ≡ min 1 (slice_index_or words a 0)

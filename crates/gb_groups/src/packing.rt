@@ -3,6 +3,7 @@ ghost use Rattle.std.specs.Prelude.{◌≡◌, ◌<◌, ◌≤◌, ◌+◌, ◌*
 ghost use Rattle.gb_frame.specs.Spelling.{items_text, IsItem};
 ghost use Rattle.gb_groups.specs.Ahead.{ahead, IsActive, IsTurn};
 ghost use Rattle.gb_groups.specs.Busy.{IsBusy};
+ghost use Rattle.gb_groups.specs.PlaceSet.{IsSummary};
 ghost use Rattle.gb_groups.specs.SlotsValue.{HaveCounters, AreApart};
 ghost use Rattle.gb_groups.specs.Packing.{queues, walk, size, fit, gave, new_cursor, items, first_place};
 
@@ -78,6 +79,7 @@ pub fn advance(
 fn next_turn(
     slots: &Slots,
     active: &[u64],
+    summary: u64,
     dest: NodeId,
     from: usize,
     lap: usize,
@@ -87,14 +89,15 @@ fn next_turn(
     requires begun { at < from → 0 < lap }
     requires lap { lap ≤ 65535 }
     requires few { length active.now ≤ 64 }
+    requires summary { IsSummary active.now summary }
     requires index { IsActive active.now (ahead from lap at 0 (queues dest.number slots.now.rows)) }
     ensures turn { MatchOption result (walk at (ahead from lap at 0 (queues dest.number slots.now.rows)) ≡ []) (λ r. IsTurn dest.number from lap at slots.now.rows r.0 r.1) }
     ensures within { IfSome result (λ r. r.1 < 64 * length active.now) }
 {
     let _places = slots.len();
-    match next_of(active, at) {
+    match next_of(active, summary, at) {
         Some(place) => Some((lap, place)),
-        None => match next_of(active, 0) {
+        None => match next_of(active, summary, 0) {
             Some(early) => Some((lap + 1, early)),
             None => None,
         },
@@ -102,15 +105,17 @@ fn next_turn(
 }
 
 /// How many items fit of the walk to a node, and how many bytes they take. `active` are the words of the node's set of busy
-/// places, from which a place is taken once all that waits there is counted.
+/// places, and `summary` says which have a place; a place is taken out once all that waits there is counted.
 fn measure_busy<const N: usize>(
     slots: &Slots,
     mut active: [u64; N],
+    mut summary: u64,
     dest: NodeId,
     from: usize,
     room: usize,
 ) -> (u16, usize)
     requires few { N ≤ 64 }
+    requires summary { IsSummary active summary }
     requires from { from ≤ length slots.now.rows }
     requires room { room ≤ 65535 }
     requires index { IsBusy dest.number active slots.now.rows }
@@ -121,7 +126,7 @@ fn measure_busy<const N: usize>(
     let mut at = from;
     let mut lap = 0;
     let mut left = room;
-    while let Some((round, place)) = next_turn(slots, &active, dest, from, lap, at) {
+    while let Some((round, place)) = next_turn(slots, &active, summary, dest, from, lap, at) {
         let nth = if place < from { round - 1 } else { round };
         let (payload, waiting) = slots.measure_at(place, dest, nth);
         let bytes = ITEM_HEADER + payload;
@@ -131,7 +136,7 @@ fn measure_busy<const N: usize>(
         count += 1;
         left -= bytes;
         if waiting == nth + 1 {
-            remove_of(&mut active, place);
+            remove_of(&mut active, &mut summary, place);
         }
         lap = round;
         at = place + 1;
@@ -157,11 +162,12 @@ pub fn measure(
     if next_place(slots, busy, dest, from).is_none() {
         return (0, 0);
     }
+    let summary = busy.summary();
     if let Some(words) = busy.first_words::<1>() {
-        return measure_busy(slots, words, dest, from, room);
+        return measure_busy(slots, words, summary, dest, from, room);
     }
     if let Some(words) = busy.first_words::<8>() {
-        return measure_busy(slots, words, dest, from, room);
+        return measure_busy(slots, words, summary, dest, from, room);
     }
-    measure_busy(slots, busy.words(), dest, from, room)
+    measure_busy(slots, busy.words(), summary, dest, from, room)
 }

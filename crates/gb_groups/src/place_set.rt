@@ -1,7 +1,7 @@
 //! Sets of places, 64 in a word.
-ghost use Rattle.std.specs.Prelude.{◌≡◌, ◌≢◌, ◌<◌, ◌≤◌, ◌+◌, ◌*◌, ◌/◌, ℕ, length, max, IfSome, OnOk, OnErr, MatchOption};
+ghost use Rattle.std.specs.Prelude.{◌≡◌, ◌≢◌, ◌<◌, ◌≤◌, ◌+◌, ◌*◌, ◌/◌, ℕ, length, slice_index_or, max, IfSome, OnOk, OnErr, MatchOption};
 ghost use Rattle.gb_types.specs.declared.limits.TheConstants.{PLACES};
-ghost use Rattle.gb_groups.specs.PlaceSet.{has, IsNext};
+ghost use Rattle.gb_groups.specs.PlaceSet.{has, IsNext, IsSummary};
 
 use gb_types::memory::OutOfMemory;
 use std::alloc::Global;
@@ -12,16 +12,19 @@ use std::marker::Model;
 pub struct PlaceSet {
     /// A word for each 64 places, as many as were needed so far. Behind the last there is no place.
     words: Vec<u64>,
+    /// A bit for each word: whether there is a place in it. So the next place is found in two words, not by a walk over all.
+    summary: u64,
 }
 
 impl Model for PlaceSet {
     ghost use Rattle.std.specs.Prelude.{ℕ, List, length, ◌≤◌};
+    ghost use Rattle.gb_groups.specs.PlaceSet.{IsSummary};
 
     ghost Value = { List ℕ };
 
     ghost view = { λ s. s.words.items };
 
-    ghost invariant = { λ s. length s.words.items ≤ 64 };
+    ghost invariant = { λ s. length s.words.items ≤ 64 × IsSummary s.words.items s.summary };
 }
 
 impl PlaceSet {
@@ -31,6 +34,7 @@ impl PlaceSet {
     {
         PlaceSet {
             words: Vec::new(alloc),
+            summary: 0,
         }
     }
 
@@ -52,7 +56,8 @@ impl PlaceSet {
     /// The words of the first 64 * N places, where the set has no more.
     pub fn first_words<const N: usize>(&self) -> Option<[u64; N]>
         requires { N ≤ 64 }
-        ensures { IfSome result (λ words. (p : ℕ) → has words p ≡ has self.now p) }
+        ensures same { IfSome result (λ words. (p : ℕ) → has words p ≡ has self.now p) }
+        ensures summary { IfSome result (λ words. (summary : ℕ) → IsSummary self.now summary → IsSummary words summary) }
     {
         if self.words.len() > N {
             return None;
@@ -62,16 +67,24 @@ impl PlaceSet {
 
     /// The words of all places.
     pub fn words(&self) -> [u64; 64]
-        ensures { (p : ℕ) → has result p ≡ has self.now p }
+        ensures same { (p : ℕ) → has result p ≡ has self.now p }
+        ensures summary { (summary : ℕ) → IsSummary self.now summary → IsSummary result summary }
     {
         padded(&self.words)
+    }
+
+    /// A bit for each word: whether there is a place in it.
+    pub fn summary(&self) -> u64
+        ensures { IsSummary self.now result }
+    {
+        self.summary
     }
 
     /// The least place of the set at or after one.
     pub fn next(&self, from: usize) -> Option<usize>
         ensures { MatchOption result ((p : ℕ) → from ≤ p → has self.now p ≡ 0) (λ q. IsNext self.now from q) }
     {
-        next_of(&self.words, from)
+        next_of(&self.words, self.summary, from)
     }
 
     /// Takes a place out of the set.
@@ -81,7 +94,7 @@ impl PlaceSet {
         ensures length { length self.new ≡ length self.old }
     {
         if place / 64 < self.words.len() {
-            remove_of(&mut self.words, place);
+            remove_of(&mut self.words, &mut self.summary, place);
         }
     }
 
@@ -93,22 +106,25 @@ impl PlaceSet {
         ensures length { length self.new ≡ length self.old }
     {
         self.words[place / 64] |= 1 << (place % 64);
+        self.summary |= 1 << (place / 64);
     }
 }
 
 /// So many words: those of a set, and zeros behind them.
 fn padded<const N: usize>(words: &[u64]) -> [u64; N]
     requires { length words.now ≤ N }
-    ensures { (p : ℕ) → has result p ≡ has words.now p }
+    ensures same { (p : ℕ) → has result p ≡ has words.now p }
+    ensures summary { (summary : ℕ) → IsSummary words.now summary → IsSummary result summary }
 {
     let mut padded = [0; N];
     padded[..words.len()].copy_from_slice(words);
     padded
 }
 
-/// The least place of a set, by its words, at or after one.
-pub fn next_of(words: &[u64], from: usize) -> Option<usize>
-    requires { length words.now ≤ 64 }
+/// The least place of a set at or after one, by its words and their summary.
+pub fn next_of(words: &[u64], summary: u64, from: usize) -> Option<usize>
+    requires few { length words.now ≤ 64 }
+    requires summary { IsSummary words.now summary }
     ensures next { MatchOption result ((p : ℕ) → from ≤ p → has words.now p ≡ 0) (λ q. IsNext words.now from q) }
     ensures within { IfSome result (λ q. q < 64 * length words.now) }
 {
@@ -120,21 +136,28 @@ pub fn next_of(words: &[u64], from: usize) -> Option<usize>
     if begun != 0 {
         return Some(first * 64 + begun.trailing_zeros() as usize);
     }
-    for index in first + 1..words.len() {
-        let word = words[index];
-        if word != 0 {
-            return Some(index * 64 + word.trailing_zeros() as usize);
-        }
+    let later = summary & !(1 << first) & (u64::MAX << first);
+    if later == 0 {
+        return None;
     }
-    None
+    let index = later.trailing_zeros() as usize;
+    Some(index * 64 + words[index].trailing_zeros() as usize)
 }
 
-/// Takes a place out of a set, by its words.
-pub fn remove_of(words: &mut [u64], place: usize)
-    requires { place < 64 * length words.old }
+/// Takes a place out of a set, by its words and their summary.
+pub fn remove_of(words: &mut [u64], summary: &mut u64, place: usize)
+    requires few { length words.old ≤ 64 }
+    requires place { place < 64 * length words.old }
+    requires summary { IsSummary words.old summary.old }
     ensures here { has words.new place ≡ 0 }
     ensures others { (p : ℕ) → p ≢ place → has words.new p ≡ has words.old p }
     ensures length { length words.new ≡ length words.old }
+    ensures summary { IsSummary words.new summary.new }
 {
-    words[place / 64] &= !(1 << (place % 64));
+    let index = place / 64;
+    let word = words[index] & !(1 << (place % 64));
+    words[index] = word;
+    if word == 0 {
+        *summary &= !(1 << index);
+    }
 }

@@ -52,7 +52,3 @@ relay_roomier below law r a b n a' b' n' h i j k =
       entries = omega arith;
       ups = omega arith;
     }
-
--- room that is left after so many pairs
-pub room_left : (room : ℕ → Type 0) (b k j : ℕ) → k ≡ j → (j ≤ b) × room (b - j) → (k ≤ b) × room (b - k)
-room_left room b k j e h = subst (λ (x : ℕ). (x ≤ b) × room (b - x)) (sym e) h

@@ -1,5 +1,5 @@
 //! The records of a stack, in the order of first mention.
-ghost use Rattle.std.specs.Prelude.{◌≡◌, ℕ, ◌+◌, ◌≤◌, ◌<◌, ◌∷◌, ◌++◌, ◌&&◌, not, [], Some, length, slice_get, slice_index, count_by, true, false, MatchOption, vec_len, vec_capacity};
+ghost use Rattle.std.specs.Prelude.{◌≡◌, ℕ, ◌+◌, ◌≤◌, ◌<◌, ◌∷◌, ◌++◌, ◌&&◌, not, [], Some, length, slice_get, slice_index, count_by, true, false, MatchOption, vec_len, vec_capacity, OnOk};
 ghost use Rattle.std.specs.List.{list_any, IsDistinct};
 ghost use Rattle.std.proofs.Props.{props};
 ghost use Rattle.gb_types.specs.declared.message.MsgId.{MsgId};
@@ -83,7 +83,8 @@ impl Records {
     /// Has the table cover the members' messages numbered from 1 to this width, where there are no records yet.
     pub fn cover(&mut self, members: &NodeSet, width: u16) -> Result<(), OutOfMemory>
         requires { self.old.list.items ≡ [] }
-        ensures { self.new.list ≡ self.old.list }
+        ensures list { self.new.list ≡ self.old.list }
+        ensures width { OnOk result (self.new.table.width ≡ width) }
     {
         self.table.cover(members, width)
     }

@@ -17,7 +17,7 @@ use Rattle.gb_layer.specs.Machine.{messages}
 use Rattle.gb_slot.specs.Effects.{AreReady, free_sends, free_ups}
 use Rattle.gb_layer.specs.declared.effects.Effects.{Effects}
 use Rattle.gb_layer.specs.declared.effects.Up.{Up}
-use Rattle.gb_stack.specs.StackRoom.{stack_room}
+use Rattle.gb_stack.specs.StackRoom.{HasRoom}
 use Rattle.gb_stack.specs.WholeLemmas.{stack_whole_room}
 use Rattle.gb_stack.specs.contracts.stack.StackLayer.TheImpl.{meaning-value}
 use Rattle.gb_history.specs.Messages.{has, with_new, bytes_of}
@@ -47,7 +47,7 @@ pub as_much : {need had has : ℕ} → need ≤ had → has ≡ had → need ≤
 as_much was same = omega arith
 
 -- the broadcast has room for a call, where the lists that are lent are ready
-pub room_for_call : (s : Inside) (now : SlotState) (out : Effects) → held s ≡ now → HasMemory s → AreReady now.spec out → stack_room s.stack (free_sends out) (free_ups out) 1
+pub room_for_call : (s : Inside) (now : SlotState) (out : Effects) → held s ≡ now → HasMemory s → AreReady now.spec out → HasRoom s.stack (free_sends out) (free_ups out) 1
 room_for_call s now out view m r =
     let ready : AreReady s.spec out = subst (λ (v : SlotState). AreReady v.spec out) (sym view) r in
     stack_whole_room s.stack (limit_of s.spec) (free_sends out) (free_ups out) m.stack ready.sends ready.ups

@@ -1,6 +1,6 @@
 -- How a slot keeps its state, in memory that was taken when it was made.
 use Rattle.std.specs.Prelude.{◌≤◌, vec_capacity}
-use Rattle.gb_stack.specs.StackRoom.{stack_whole}
+use Rattle.gb_stack.specs.StackRoom.{IsWhole}
 use Rattle.gb_stack.specs.StackState.{StackState}
 use Rattle.gb_slot.specs.Outgoing.{put_messages}
 use Rattle.gb_slot.specs.Reached.{limit_of, most_messages, most_bytes}
@@ -26,7 +26,7 @@ state_of stack s = record {
 
 -- all calls that are to come find the memory that the group has alone
 pub record HasMemory (s : Inside) : Type 0 where
-  pub stack : stack_whole s.stack (limit_of s.spec)
+  pub stack : IsWhole s.stack (limit_of s.spec)
   pub log : most_messages s.spec ≤ vec_capacity s.log
   pub outgoing : most_messages s.spec ≤ vec_capacity s.outgoing
   pub places : most_messages s.spec ≤ s.store.places

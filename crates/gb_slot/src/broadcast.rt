@@ -6,7 +6,7 @@ ghost use Rattle.gb_types.specs.Entry.{message_of};
 ghost use Rattle.gb_history.specs.Messages.{has};
 ghost use Rattle.gb_slot.specs.Effects.{AreEmptied, IsEmpty, free_sends, free_ups};
 ghost use Rattle.gb_slot.specs.Outgoing.{put_messages};
-ghost use Rattle.gb_stack.specs.StackRoom.{stack_room, stack_whole};
+ghost use Rattle.gb_stack.specs.StackRoom.{HasRoom, IsWhole};
 ghost use Rattle.gb_stack.specs.StackState.{stack_next, stack_gives};
 
 use crate::put_out::PutOut;
@@ -69,13 +69,13 @@ pub(crate) fn take_call(
     store: &Store,
 )
     requires empty { IsEmpty effects.old }
-    requires room { stack_room stack.old (free_sends effects.old) (free_ups effects.old) 1 }
+    requires room { HasRoom stack.old (free_sends effects.old) (free_ups effects.old) 1 }
     requires log { vec_len log.old + length (stack_gives (⟦<Stack as Layer>⟧.meaning stack.old) call).ups ≤ vec_capacity log.old }
     requires outgoing { vec_len outgoing.old + length (stack_gives (⟦<Stack as Layer>⟧.meaning stack.old) call).sends ≤ vec_capacity outgoing.old }
     ensures meaning { ⟦<Stack as Layer>⟧.meaning stack.new ≡ stack_next (⟦<Stack as Layer>⟧.meaning stack.old) call }
     ensures log { log.new.items ≡ log.old.items ++ messages (stack_gives (⟦<Stack as Layer>⟧.meaning stack.old) call).ups }
     ensures outgoing { put_messages outgoing.new.items ≡ put_messages outgoing.old.items ++ (stack_gives (⟦<Stack as Layer>⟧.meaning stack.old) call).sends }
-    ensures whole { (l : Limit) → stack_whole stack.old l → is_within l call ≡ true → stack_whole stack.new l }
+    ensures whole { (l : Limit) → IsWhole stack.old l → is_within l call ≡ true → IsWhole stack.new l }
     ensures effects { AreEmptied effects.old effects.new }
     ensures log_memory { vec_capacity log.new ≡ vec_capacity log.old }
     ensures outgoing_memory { vec_capacity outgoing.new ≡ vec_capacity outgoing.old }

@@ -2,7 +2,7 @@
 ghost use Rattle.std.specs.Prelude.{◌≡◌, ℕ, false, ◌≢◌, OnErr, OnOk, ◌≤◌, ◌<◌, ◌&&◌, not, List, [], ◌∷◌, Some, take, drop, map, slice_get, length, IfOk, MatchOption, true, IsOkUnless, vec_capacity};
 ghost use Rattle.std.specs.FinSet as set;
 ghost use Rattle.gb_types.specs.declared.entry.Entry.{Entry as EntryValue};
-ghost use Rattle.gb_stack.specs.StackRoom.{stack_whole};
+ghost use Rattle.gb_stack.specs.StackRoom.{IsWhole};
 ghost use Rattle.gb_stack.specs.StackState.{new_stack};
 ghost use Rattle.gb_stack.specs.Stands.{HasStarted};
 ghost use Rattle.gb_history.specs.Messages.{entry_in};
@@ -419,7 +419,7 @@ fn broadcast(
     requires empty { IsEmpty effects.old }
     ensures meaning { IfOk result (λ s. ⟦<Stack as Layer>⟧.meaning s ≡ new_stack spec.now.kind me spec.now.members noticed.now) }
     ensures started { IfOk result (λ s. HasStarted me spec.now.members noticed.now (⟦<Stack as Layer>⟧.meaning s)) }
-    ensures whole { IfOk result (λ s. stack_whole s (limit_of spec.now)) }
+    ensures whole { IfOk result (λ s. IsWhole s (limit_of spec.now)) }
     ensures ready { OnOk result (AreReady spec.now effects.new) }
     ensures effects { AreEmptied effects.old effects.new }
 {

@@ -7,7 +7,6 @@ use Rattle.gb_types.specs.Message.{same}
 use Rattle.gb_types.proofs.SameLemmas.{same_itself}
 use Rattle.gb_types.proofs.BoolLemmas.{or_left, or_right}
 use Rattle.gb_layer.specs.Counts.{count_by-append, count_by-cons, count_by-grown, count_by-set}
-use Rattle.gb_layer.specs.EntryListLemmas.{any_keys}
 use Rattle.gb_layer.specs.Lists.{any_map}
 use Rattle.gb_layer.specs.Relay as relay
 use Rattle.gb_fifo.specs.Entries as order
@@ -17,9 +16,6 @@ use Rattle.gb_records.specs.Records.{keys, is_for, blank, noted, relay_entry, re
 column : {E : Type 0} (f : Record → E) (b : Bool) (rs : List Record) (r : Record) → map f (cond b rs (rs ++ r ∷ [])) ≡ cond b (map f rs) (map f rs ++ f r ∷ [])
 column f true rs r = refl
 column f false rs r = map-append f rs (r ∷ [])
-
-pub keys_noted : (rs : List Record) (m : MsgId) → keys (noted rs m) ≡ cond (list_any (λ y. same y m) (keys rs)) (keys rs) (keys rs ++ m ∷ [])
-keys_noted rs m = column (λ r. r.m) (list_any (is_for m) rs) rs (blank m) ∙ ap (λ b. cond b (keys rs) (keys rs ++ m ∷ [])) (any_keys (λ r. r.m) m rs)
 
 pub relay_noted : (rs : List Record) (m : MsgId) → relay_entries (noted rs m) ≡ relay.noted (relay_entries rs) m
 relay_noted rs m =

@@ -51,10 +51,14 @@ module _ (rules : Rules) (me : NodeId) (members noticed : Nodes) (e : Entry) whe
   pub rises_low : rises ≡ true → e.given ≡ false
   rises_low h = sym passed_given ∙ was_not (passed_on rules me noticed e).given _ h
 
+-- the keys of what a relay remembers
+pub keys_of : (rs : List Record) → map (λ e. e.m) (relay_entries rs) ≡ keys rs
+keys_of rs = map_same (λ e. e.m) relay_entry (λ r. r.m) (λ r. refl) rs
+
 -- records of which a relay would remember the same
 module _ (rs new : List Record) (same_relay : relay_entries new ≡ relay_entries rs) where
   pub keys_same : keys new ≡ keys rs
-  keys_same = sym (map_same (λ e. e.m) relay_entry (λ r. r.m) (λ r. refl) new) ∙ (ap (map (λ e. e.m)) same_relay ∙ map_same (λ e. e.m) relay_entry (λ r. r.m) (λ r. refl) rs)
+  keys_same = sym (keys_of new) ∙ (ap (map (λ e. e.m)) same_relay ∙ keys_of rs)
 
   pub unsent_same : count_by is_unsent new ≡ count_by is_unsent rs
   unsent_same = sym (count_by-of_map relays.is_unsent relay_entry new) ∙ (ap (count_by relays.is_unsent) same_relay ∙ count_by-of_map relays.is_unsent relay_entry rs)

@@ -1,6 +1,8 @@
 -- A call about a message changes one entry, where nothing else is due.
 use Rattle.std.proofs.Common.{◌≡◌, ◌≢◌, ℕ, Bool, true, false, cond, List, [], ◌∷◌, map, filter, set, slice_get, Some, refl, ap, ◌∙◌, sym, zero, suc, arith}
+use Rattle.std.specs.Prelude.{option_map}
 use Rattle.std.specs.List.{IsDistinct, AllByRecursion}
+use Rattle.std.proofs.lemmas.Option.{slice_get-map}
 use Rattle.gb_types.specs.declared.node.NodeId.{NodeId}
 use Rattle.gb_types.specs.declared.message.MsgId.{MsgId}
 use Rattle.gb_types.specs.Message.{same}
@@ -48,9 +50,7 @@ one_passes p g (y ∷ ys) (suc at) x is others =
 
 -- what stands at a place of a changed list
 pub at_changed : {X Y : Type 0} (f : X → Y) (xs : List X) (k : ℕ) (x : X) → slice_get xs k ≡ Some x → slice_get (map f xs) k ≡ Some (f x)
-at_changed f [] k x is = cc
-at_changed f (y ∷ ys) zero x is = let e : y ≡ x = cc in ap (λ z. Some (f z)) e
-at_changed f (y ∷ ys) (suc k) x is = at_changed f ys k x is
+at_changed f xs k x is = slice_get-map f xs k ∙ ap (option_map f) is
 
 -- and what it was before
 pub at_unchanged : {X Y : Type 0} (f : X → Y) (xs : List X) (k : ℕ) (y : Y) → slice_get (map f xs) k ≡ Some y → (x : X) × (slice_get xs k ≡ Some x) × (f x ≡ y)

@@ -16,7 +16,7 @@ use Rattle.gb_records.specs.declared.record.Record.{Record}
 use Rattle.gb_records.specs.Records.{keys, blank, order_entries}
 use Rattle.gb_stack.specs.declared.stack.Stack.{Stack}
 use Rattle.gb_stack.specs.Settled.{relays}
-use Rattle.gb_stack.specs.StackRoom.{remembers, stack_room, stack_whole}
+use Rattle.gb_stack.specs.StackRoom.{remembers, HasRoom, IsWhole}
 use Rattle.gb_stack.specs.StackState.{unordered, fifo, unordered_gives, stack_gives}
 use Rattle.gb_stack.specs.StackValue.{broadcast_of, value_of}
 use Rattle.gb_stack.specs.Taken.{left, noted_in, HandsUp, Spends}
@@ -28,7 +28,7 @@ counted_in l (Came p m) rs h k = counted_grown (λ (r : Record). r.m) l rs (blan
 counted_in l (Notice q) rs h k = k
 
 -- a stack keeps its memory
-pub whole_kept : (s s' : Stack) (l : Limit) → remembers s' ≡ remembers s → vec_capacity s'.records.list ≡ vec_capacity s.records.list → list_all (is_counted l) (keys s'.records.list.items) ≡ true → stack_whole s l → stack_whole s' l
+pub whole_kept : (s s' : Stack) (l : Limit) → remembers s' ≡ remembers s → vec_capacity s'.records.list ≡ vec_capacity s.records.list → list_all (is_counted l) (keys s'.records.list.items) ≡ true → IsWhole s l → IsWhole s' l
 whole_kept s s' l same memory counted w = record {
   capacity = λ r. (let c = w.capacity (sym same ∙ r) in omega (arith, c, memory));
   counted = counted;
@@ -48,7 +48,7 @@ ups_given s c done before after up =
 -- room for one call less is left, beside what came up
 pub room_kept : (s s' : Stack) (ups ups' : Vec Up) (came : List Up) (a a' b n : ℕ) → s'.base ≡ s.base → s'.here.ordered ≡ s.here.ordered → vec_len s'.records.list ≤ vec_len s.records.list + 1
     → vec_capacity s'.records.list ≡ vec_capacity s.records.list → Spends s.here.ordered s.records.list.items s'.records.list.items a a' (free ups) (free ups') → ups'.items ≡ ups.items ++ came → vec_capacity ups' ≡ vec_capacity ups
-    → stack_room s a b (n + 1) → (length came ≤ b) × stack_room s' a' (b - length came) n
+    → HasRoom s a b (n + 1) → (length came ≤ b) × HasRoom s' a' (b - length came) n
 room_kept s s' ups ups' came a a' b n base ordered len memory spends up ups_memory room =
     let grown : length ups'.items ≡ length ups.items + length came = ap length up ∙ length-append ups.items came in
     let same : left s'.here.ordered s'.records.list.items ≡ left s.here.ordered s'.records.list.items = ap (λ o. left o s'.records.list.items) ordered in

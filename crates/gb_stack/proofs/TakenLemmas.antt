@@ -1,11 +1,10 @@
 -- A call about a message, put together from its steps.
-use Rattle.std.proofs.Common.{◌≡◌, ℕ, ◌+◌, ◌≤◌, Bool, true, false, cond, List, [], ◌∷◌, ◌++◌, map, set, slice_get, Some, count_by, refl, ap, ◌∙◌, sym, subst}
+use Rattle.std.proofs.Common.{◌≡◌, ℕ, ◌+◌, ◌≤◌, Bool, true, false, cond, List, [], ◌∷◌, ◌++◌, map, set, slice_get, Some, count_by, ap, ◌∙◌, sym, subst}
 use Rattle.std.proofs.lemmas.List.{set-set, append-nil}
 use Rattle.std.proofs.lemmas.Option.{get_or_from_slice_get}
 use Rattle.std.proofs.Math.Seq.{map-set_same}
 use Rattle.gb_types.specs.declared.node.NodeId.{NodeId}
 use Rattle.gb_types.specs.declared.message.MsgId.{MsgId}
-use Rattle.gb_layer.specs.Lists.{map_same}
 use Rattle.gb_layer.specs.declared.call.Call.{Call}
 use Rattle.gb_layer.specs.declared.effects.Up.{Up}
 use Rattle.gb_layer.specs.declared.entries.Entry.{Entry}
@@ -15,16 +14,12 @@ use Rattle.gb_layer.specs.Relay.{due_to_relay, due_to_deliver, sent_entry, given
 use Rattle.gb_fifo.specs.declared.entry.Entry as fifo
 use Rattle.gb_fifo.specs.Entries as order
 use Rattle.gb_records.specs.declared.record.Record.{Record}
-use Rattle.gb_records.specs.Records.{keys, noted, is_unsent, is_ungiven, relay_entry, relay_entries, order_entries}
+use Rattle.gb_records.specs.Records.{keys, noted, is_unsent, is_ungiven, relay_entries, order_entries}
 use Rattle.gb_stack.specs.Settled.{passed_on, settled, AreQuiet}
 use Rattle.gb_stack.specs.Taken.{relay_state, up_of, is_low, left, noted_in, HandsUp, HasTaken, Moves}
-use Rattle.gb_stack.proofs.RecordLemmas.{settled_is}
+use Rattle.gb_stack.proofs.RecordLemmas.{keys_of, settled_is}
 use Rattle.gb_stack.proofs.NotedLemmas.{relay_noted, order_noted, count_noted}
 use Rattle.gb_stack.proofs.ArrivalLemmas.{Stepped, set_there}
-
--- the keys of what a relay remembers
-pub keys_of : (rs : List Record) → map (λ e. e.m) (relay_entries rs) ≡ keys rs
-keys_of rs = map_same (λ e. e.m) relay_entry (λ r. r.m) (λ r. refl) rs
 
 -- what comes up, and what was noted, under another name
 pub handed_as : (ordered : Bool) (us us' : List Up) (ns ns' done : List fifo.Entry) (before after : List Up) → us ≡ us' → ns ≡ ns' → HandsUp ordered us ns done before after → HandsUp ordered us' ns' done before after

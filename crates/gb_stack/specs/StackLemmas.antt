@@ -8,11 +8,11 @@ use Rattle.gb_fifo.specs.FifoMachine.{FifoState, fifo_next, fifo_gives}
 use Rattle.gb_fifo.specs.FifoRoom.{IsNew}
 use Rattle.gb_stack.specs.declared.stack.Stack.{Stack}
 use Rattle.gb_stack.specs.InsideLemmas.{sends_handed_in_into, ups_handed_in_into, up_once_into, sent_once_into, noticed_once_into}
-use Rattle.gb_stack.specs.StackRoom.{stack_room}
+use Rattle.gb_stack.specs.StackRoom.{HasRoom}
 use Rattle.gb_stack.specs.StackState.{UnorderedState, unordered, fifo, unordered_next, unordered_gives, unordered_me, IsUntold, stack_next, stack_gives, stack_me, IsUntoldStack}
 use Rattle.gb_stack.specs.UnorderedLemmas.{unordered_me_stays, unordered_own, unordered_sends_handed_in, unordered_ups_handed_in, unordered_up_once, unordered_sent_once, unordered_noticed_once}
 
-pub stack_roomier : (x : Stack) (a b n a' b' n' : ℕ) → a ≤ a' → b ≤ b' → n' ≤ n → stack_room x a b n → stack_room x a' b' n'
+pub stack_roomier : (x : Stack) (a b n a' b' n' : ℕ) → a ≤ a' → b ≤ b' → n' ≤ n → HasRoom x a b n → HasRoom x a' b' n'
 stack_roomier x a b n a' b' n' h i j k =
     let s = k.sends in
     let u = k.ups in

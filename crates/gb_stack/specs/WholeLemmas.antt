@@ -7,14 +7,14 @@ use Rattle.gb_layer.specs.PigeonholeLemmas.{no_more_messages}
 use Rattle.gb_records.specs.declared.record.Record.{Record}
 use Rattle.gb_records.specs.Records.{keys, is_unsent, is_ungiven}
 use Rattle.gb_stack.specs.declared.stack.Stack.{Stack}
-use Rattle.gb_stack.specs.StackRoom.{stack_room, stack_whole, stack_need}
+use Rattle.gb_stack.specs.StackRoom.{HasRoom, IsWhole, stack_need}
 use Rattle.gb_stack.specs.Taken.{left, is_low}
 
 left_few : (ordered : Bool) (rs : List Record) → left ordered rs ≤ length rs
 left_few true rs = count_by-le-length is_ungiven rs
 left_few false rs = count_by-le-length is_low rs
 
-pub stack_whole_room : (x : Stack) (l : Limit) (a b : ℕ) → stack_whole x l → (stack_need l).sends ≤ a → (stack_need l).ups ≤ b → stack_room x a b l.calls
+pub stack_whole_room : (x : Stack) (l : Limit) (a b : ℕ) → IsWhole x l → (stack_need l).sends ≤ a → (stack_need l).ups ≤ b → HasRoom x a b l.calls
 stack_whole_room x l a b w h k =
     let rs = x.records.list.items in
     let n = no_more_messages l (keys rs) w.counted x.records.once in

@@ -162,7 +162,7 @@ impl Stack {
 
 impl Layer for Stack {
     ghost use Rattle.gb_stack.specs.StackValue.{value_of};
-    ghost use Rattle.gb_stack.specs.StackRoom.{stack_room, stack_whole, stack_need};
+    ghost use Rattle.gb_stack.specs.StackRoom.{HasRoom, IsWhole, stack_need};
     ghost use Rattle.gb_stack.specs.WholeLemmas.{stack_whole_room};
     ghost use Rattle.gb_stack.specs.StackLemmas.{stack_roomier, stack_me_stays, stack_sends_handed_in, stack_ups_handed_in, stack_up_once, stack_sent_once, stack_noticed_once};
 
@@ -180,9 +180,9 @@ impl Layer for Stack {
 
     ghost gives = { stack_gives };
 
-    ghost has_room = { stack_room };
+    ghost has_room = { HasRoom };
 
-    ghost is_whole = { stack_whole };
+    ghost is_whole = { IsWhole };
 
     ghost need = { stack_need };
 

@@ -3,6 +3,7 @@ use Rattle.gb_types.specs.declared.entry.Entry.{Entry}
 use Rattle.gb_groups.specs.SlotsValue.{Row, row_at, no_entry}
 use Rattle.gb_groups.specs.Packing.{queue, queues, fit, walk}
 use Rattle.gb_groups.specs.Ahead.{visits, ahead, IsActive, IsTurn}
+use Rattle.gb_groups.specs.PlaceSet.{IsSummary}
 use Rattle.gb_groups.proofs.AheadLemmas.{ahead-start, visits-first, visits-later, measured_start, measured_none}
 use Rattle.gb_groups.proofs.BusyLemmas.{turn_item, turn_taken, turn_stop, row_here, active_next, active_start}
 use Rattle.gb_groups.proofs.packing.measure_busy.Goals as goal
@@ -18,6 +19,7 @@ loop-round-init g c =
       laps = omega arith;
       index = active_start c.args.dest.number c.args.from c.args.active rows c.requires.index;
       few = omega arith;
+      summary = c.requires.summary;
       same = rw e (measured_start c.args.room (walk c.args.from (queues c.args.dest.number rows)));
     }
 
@@ -98,6 +100,10 @@ loop-round-preserved g c =
       | else-waiting-nth w ↦
           rw w.active-is (active_next dest from c.loop-round.lap c.loop-round.at to q nth words words rows row t v here i.index (let h = i.index.each q in let k = ap (λ (L : List (List Entry)). length (get_or L q [])) t.left_is in let f = w.if-waiting-nth.false in let n = item.0 in let m = item.1 in omega arith) (λ p _. refl))
     ] in
+    let summary : IsSummary c.if-waiting-nth.active c.if-waiting-nth.summary = elim c.if-waiting-nth.branch [
+      | then-waiting-nth w ↦ rw w.active-is (rw w.summary-is w.remove_of.ensures.summary)
+      | else-waiting-nth w ↦ rw w.active-is (rw w.summary-is i.summary)
+    ] in
     let bytes : c.measure_at-payload.result.0 ≡ length e.payload = len in
     rw bytes (record {
       within = let h = t.within in omega arith;
@@ -105,6 +111,7 @@ loop-round-preserved g c =
       laps = let h = t.near in omega (arith, i.laps);
       few = let h = i.few in omega (arith, bytes, fits);
       index = index;
+      summary = summary;
       same = turn_taken dest from c.loop-round.lap c.loop-round.at to q nth c.args.room c.loop-round.left c.loop-round.count rows (fit c.args.room (walk from (queues dest rows))) t v i.same (omega (arith, bytes, fits));
     })
 
@@ -113,3 +120,9 @@ returns-clause-count g c = (measured_none c.args.room c.loop-round.left c.loop-r
 
 pub returns-clause-bytes : goal.returns-clause-bytes
 returns-clause-bytes g c = let sum = (measured_none c.args.room c.loop-round.left c.loop-round.count _ _ c.loop-round.invariant.same c.in_default.ensures.turn).1 in omega arith
+
+pub next_turn-requires-clause-summary : goal.next_turn-requires-clause-summary
+next_turn-requires-clause-summary g c = c.loop-round.invariant.summary
+
+pub remove_of-requires-clause-summary : goal.remove_of-requires-clause-summary
+remove_of-requires-clause-summary g c = c.loop-round.invariant.summary

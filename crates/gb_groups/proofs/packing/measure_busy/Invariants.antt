@@ -1,6 +1,7 @@
 use Rattle.std.proofs.Common.{◌≤◌, ◌<◌, ◌+◌, ◌*◌, length}
 use Rattle.gb_groups.specs.Packing.{queues, walk, fit}
 use Rattle.gb_groups.specs.Ahead.{ahead, IsActive}
+use Rattle.gb_groups.specs.PlaceSet.{IsSummary}
 use Rattle.gb_groups.proofs.AheadLemmas.{Measured}
 use Rattle.gb_groups.proofs.packing.measure_busy.Given as goal
 
@@ -12,6 +13,7 @@ invariant-loop-round g l =
       begun : l.at < l.from → 0 < l.lap;
       laps : l.lap + l.left ≤ l.room;
       few : 9 * l.count + l.left ≤ l.room;
+      summary : IsSummary l.active l.summary;
       index : IsActive l.active (ahead l.from l.lap l.at 0 waiting);
       same : Measured l.room l.left l.count (walk l.at (ahead l.from l.lap l.at 0 waiting)) (fit l.room (walk l.from waiting));
     }

@@ -9,7 +9,8 @@ use Rattle.gb_records.specs.Records.{relay_entry, relay_entries}
 use Rattle.gb_stack.proofs.SettledLemmas.{at_changed, at_unchanged}
 use Rattle.gb_stack.proofs.ArrivalLemmas.{came_stepped}
 use Rattle.gb_stack.proofs.NotedLemmas.{relay_noted}
-use Rattle.gb_stack.proofs.TakenLemmas.{composed, keys_of}
+use Rattle.gb_stack.proofs.RecordLemmas.{keys_of}
+use Rattle.gb_stack.proofs.TakenLemmas.{composed}
 use Rattle.gb_stack.proofs.taking.take_arrival.Goals as goal
 
 pub returns-clause-taken : goal.returns-clause-taken

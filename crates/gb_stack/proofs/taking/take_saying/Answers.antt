@@ -16,7 +16,8 @@ use Rattle.gb_stack.proofs.SettledLemmas.{at_changed, at_unchanged}
 use Rattle.gb_stack.proofs.ArrivalLemmas.{said_stepped, said_again, said_list, set_there}
 use Rattle.gb_records.proofs.PlaceLemmas.{key_within}
 use Rattle.gb_stack.proofs.NotedLemmas.{relay_noted, order_noted}
-use Rattle.gb_stack.proofs.TakenLemmas.{composed, keys_of, handed_as, none_up, unsent_noted, left_noted}
+use Rattle.gb_stack.proofs.RecordLemmas.{keys_of}
+use Rattle.gb_stack.proofs.TakenLemmas.{composed, handed_as, none_up, unsent_noted, left_noted}
 use Rattle.gb_stack.proofs.taking.take_saying.Goals as goal
 
 -- whether the message was sent, by what was read
