@@ -1,4 +1,5 @@
-"""Runs `rt ci` and prints the processor minutes and the wall time of each crate's checks, read from /proc once a second.
+"""Runs `rt ci` with the words that it is given, such as `--anew`, and prints the processor minutes and the wall time of each
+crate's checks, read from /proc once a second.
 
 A crate's work has three parts: its proof, the proof of its tests (which proves the crate once more), and its wrong bodies
 (`crates/NAME/must-fail`), which are tried on copies of the crate. A crate's wall time is that in which some check of it ran.
@@ -32,7 +33,7 @@ def checks():
 
 def main():
     start, spent, wall = time.time(), {}, {}
-    gate = subprocess.Popen(["rt", "ci"])
+    gate = subprocess.Popen(["rt", "ci", *sys.argv[1:]])
     while gate.poll() is None:
         now = list(checks())
         for pid, crate, part, seconds in now:
