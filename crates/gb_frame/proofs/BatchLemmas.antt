@@ -1,16 +1,17 @@
 -- Texts of items by themselves.
-use Rattle.std.proofs.Common.{◌≡◌, ℕ, zero, suc, ◌≤◌, List, [], ◌∷◌, ◌++◌, length, Some, None, refl, sym, ap, ◌∙◌, arith}
+use Rattle.std.proofs.Common.{◌≡◌, ℕ, zero, suc, ◌≤◌, List, [], ◌∷◌, length, Some, None, refl, sym, ap, ◌∙◌, arith}
 use Rattle.std.proofs.lemmas.List.Elements.{All-tail}
-use Rattle.std.proofs.lemmas.List.{append-nil}
-use Rattle.std.specs.Prelude.{IsSome}
+use Rattle.std.proofs.lemmas.List.{nil_from_length}
+use Rattle.std.specs.Prelude.{option_and_then}
+use Rattle.gb_types.proofs.ReadLemmas.{some_same}
 use Rattle.gb_frame.specs.declared.item.Item.{Item}
 use Rattle.gb_frame.specs.Spelling.{items_text, IsItem, AreTexts}
-use Rattle.gb_frame.specs.Reading.{item_at, items_at, items_of}
-use Rattle.gb_frame.specs.Batch.{items_from, batch_in, IsBatch, TextsTellItems}
-use Rattle.gb_frame.proofs.ItemLemmas.{none_at_end, items_again}
+use Rattle.gb_frame.specs.Reading.{item_at, items_at}
+use Rattle.gb_frame.specs.Batch.{items_from, batch_in, TextsTellItems}
+use Rattle.gb_frame.proofs.ItemLemmas.{none_at_end, item_shrinks, then_some}
 use Rattle.gb_frame.proofs.ItemTextLemmas.{first_again}
 use Rattle.gb_frame.proofs.RoomLemmas.{count_fits}
-use Rattle.gb_frame.proofs.WalkLemmas.{no_item_left, one_item_less}
+use Rattle.gb_frame.proofs.WalkLemmas.{no_item}
 
 none_from : (n : ℕ) → items_from n [] ≡ []
 unfolding items_from
@@ -32,23 +33,53 @@ texts_tell_items bytes items t =
     let same = ap length t.parts in
     read_again (length bytes) bytes items t (omega (arith, headers, same))
 
--- a batch is read whole
-batch_again : (bytes : List ℕ) (n : ℕ) → IsBatch bytes → n ≡ length (batch_in bytes) → items_at n bytes ≡ Some (batch_in bytes, [])
-batch_again bytes n b count =
-    let whole : bytes ≡ items_text (batch_in bytes) ++ [] = b.texts.parts ∙ sym (append-nil (items_text (batch_in bytes))) in
-    ap (λ k. items_at k bytes) count ∙ (ap (items_at (length (batch_in bytes))) whole ∙ items_again (batch_in bytes) [] b.texts.fit)
+-- how many items may be asked for does not matter where it is as many as there are bytes
+pub enough_asked : (n m : ℕ) (bytes : List ℕ) → length bytes ≤ n → length bytes ≤ m → items_from n bytes ≡ items_from m bytes
+unfolding items_from
+enough_asked zero m bytes few more = let none = nil_from_length bytes (omega (arith, few)) in ap (items_from 0) none ∙ sym (ap (items_from m) none ∙ none_from m)
+enough_asked (suc n) zero bytes few more = let none = nil_from_length bytes (omega (arith, more)) in ap (items_from (suc n)) none ∙ none_from (suc n)
+enough_asked (suc n) (suc m) bytes few more =
+    elim (item_at bytes) as (λ o. item_at bytes ≡ o → items_from (suc n) bytes ≡ items_from (suc m) bytes) [
+      | None ↦ λ e. rw e refl
+      | Some x ↦ λ e. (let less = item_shrinks bytes x e in rw e (ap (λ left. x.0 ∷ left) (enough_asked n m x.1 (omega (arith, few, less)) (omega (arith, more, less)))))
+    ] refl
 
-pub counted_there : (bytes : List ℕ) (n : ℕ) → IsBatch bytes → n ≡ length (batch_in bytes) → IsSome (items_at n bytes)
-counted_there bytes n b count = rw (batch_again bytes n b count) refl
+-- a batch with no item at the front has none, and else the others stand behind the first
+pub none_first : (bytes : List ℕ) → item_at bytes ≡ None → batch_in bytes ≡ []
+unfolding items_from
+none_first [] none = refl
+none_first (b ∷ bytes) none = rw none refl
 
-pub counted_whole : (bytes : List ℕ) (n : ℕ) → IsBatch bytes → n ≡ length (batch_in bytes) → items_of (items_at n bytes) ≡ batch_in bytes
-counted_whole bytes n b count = rw (batch_again bytes n b count) refl
+pub one_first : (bytes : List ℕ) (i : Item) (rest : List ℕ) → item_at bytes ≡ Some (i, rest) → batch_in bytes ≡ i ∷ batch_in rest
+unfolding items_from
+one_first [] i rest found = absurd (let none = sym found ∙ none_at_end in cc)
+one_first (b ∷ bytes) i rest found =
+    let less = item_shrinks (b ∷ bytes) (i, rest) found in
+    rw found (ap (λ left. i ∷ left) (enough_asked (length bytes) (length rest) rest (omega (arith, less)) (omega arith)))
 
--- so many items are read as were asked for
-pub length-items_at : (n : ℕ) (bytes : List ℕ) → IsSome (items_at n bytes) → length (items_of (items_at n bytes)) ≡ n
+-- so many items that stand there, with nothing behind them, are the batch
+pub counted_whole : (n : ℕ) (bytes : List ℕ) (items : List Item) → items_at n bytes ≡ Some (items, []) → (n ≡ length (batch_in bytes)) × (batch_in bytes ≡ items)
 unfolding items_at
-length-items_at zero bytes there = refl
-length-items_at (suc n) bytes there = elim (item_at bytes) as (λ o. item_at bytes ≡ o → length (items_of (items_at (suc n) bytes)) ≡ suc n) [
-  | None ↦ λ e. absurd (no_item_left n bytes there e)
-  | Some x ↦ λ e. (let less = one_item_less n bytes x.0 x.1 e there in ap length less.1 ∙ ap suc (length-items_at n x.1 less.0))
-] refl
+counted_whole zero bytes items found =
+    let same = some_same (items, []) ([], bytes) (sym found) in
+    let none : [] ≡ bytes = ap (λ (x : List Item × List ℕ). x.1) same in
+    let few : items ≡ [] = ap (λ (x : List Item × List ℕ). x.0) same in
+    (ap length (sym (none_from 0)) ∙ ap (λ b. length (batch_in b)) none, ap batch_in (sym none) ∙ (none_from 0 ∙ sym few))
+counted_whole (suc n) bytes items found =
+    elim (item_at bytes) as (λ o. item_at bytes ≡ o → (suc n ≡ length (batch_in bytes)) × (batch_in bytes ≡ items)) [
+      | None ↦ λ e. absurd (let none = no_item n bytes e in cc)
+      | Some x ↦ λ e. (
+          let whole : items_at (suc n) bytes ≡ option_and_then (λ others. Some (x.0 ∷ others.0, others.1)) (items_at n x.1) = rw e refl in
+          let others = then_some (items_at n x.1) (λ others. Some (x.0 ∷ others.0, others.1)) (items, []) (sym whole ∙ found) in
+          let same = some_same (x.0 ∷ others.0.0, others.0.1) (items, []) others.2 in
+          let behind : others.0.1 ≡ [] = ap (λ (y : List Item × List ℕ). y.1) {x = (x.0 ∷ others.0.0, others.0.1)} same in
+          let all : x.0 ∷ others.0.0 ≡ items = ap (λ (y : List Item × List ℕ). y.0) {x = (x.0 ∷ others.0.0, others.0.1)} same in
+          let rest = counted_whole n x.1 others.0.0 (others.1 ∙ ap (λ b. Some (others.0.0, b)) {x = others.0.1} behind) in
+          let first = one_first bytes x.0 x.1 e in
+          (ap suc rest.0 ∙ ap length (sym first), first ∙ (ap (λ left. x.0 ∷ left) {x = batch_in x.1} {y = others.0.0} rest.1 ∙ all))
+          )
+    ] refl
+
+-- texts are of so many items alone
+pub one_count : (bytes : List ℕ) (items others : List Item) → AreTexts bytes items → AreTexts bytes others → length items ≡ length others
+one_count bytes items others t u = ap length (sym (texts_tell_items bytes items t) ∙ texts_tell_items bytes others u)

@@ -81,7 +81,7 @@ item_again i rest fits =
     rw (len, long, small, there, tenant, group, seq, take_at i.payload rest (length i.payload) refl, drop_at i.payload rest (length i.payload) refl) refl
 
 -- an option's value after a step
-then_some : {A B : Type 0} (o : Option A) (f : A → Option B) (y : B) → option_and_then f o ≡ Some y → (x : A) × (o ≡ Some x) × (f x ≡ Some y)
+pub then_some : {A B : Type 0} (o : Option A) (f : A → Option B) (y : B) → option_and_then f o ≡ Some y → (x : A) × (o ≡ Some x) × (f x ≡ Some y)
 then_some None f y e = absurd cc
 then_some (Some x) f y e = (x, refl, e)
 

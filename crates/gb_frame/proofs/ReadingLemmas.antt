@@ -1,6 +1,6 @@
 -- Reading finds a packet exactly in its text, and otherwise the first fault of the table.
 use Rattle.std.proofs.Common.{◌≡◌, ◌≢◌, ℕ, ◌-◌, ◌^◌, ◌≤◌, Bool, true, false, cond, List, [], ◌∷◌, ◌++◌, length, take, drop, codes, Option, Some, None, Ok, refl, sym, ap, ◌∙◌, arith, inl, inr, ◌⊎◌}
-use Rattle.std.specs.Prelude.{find, is_ok, not, ◌&&◌, ◌==◌, ◌%◌, nat_lt, is_none, IsSome, is_some, if◌then◌else◌}
+use Rattle.std.specs.Prelude.{find, is_ok, not, ◌&&◌, ◌==◌, ◌%◌, nat_lt, is_none, if◌then◌else◌}
 use Rattle.std.specs.Cmp.Lexicographic.{same_text, other_text}
 use Rattle.std.specs.Int.{w16, w64, to_be_bytes}
 use Rattle.std.proofs.Math.Seq.{drop-cons}
@@ -277,9 +277,6 @@ text_read key c p =
     ap (λ o. unless o (content_in (packet_text key c))) t.0 ∙ ap Ok t.1
 
 -- ---- what decoding answers
-
-pub is_there : (key bytes : List ℕ) → fault_in key bytes ≡ None → IsSome (parsed bytes)
-is_there key bytes none = ap is_some (good key bytes none).parsed
 
 -- a fault where there is a packet's text
 pub no_fault_found : (key bytes : List ℕ) (c : Content) (f : PacketFault) → IsText key bytes c → fault_in key bytes ≡ Some f → ⊥

@@ -140,7 +140,7 @@ pub(crate) fn skip_items(count: u16, texts: &[u8]) -> Option<&[u8]>
 }
 
 /// How many items have these texts. Takes no memory.
-pub(crate) fn count_items(texts: &[u8]) -> u16
+pub fn count_items(texts: &[u8]) -> u16
     requires { length texts.now ≤ ROOM }
     ensures { (items : List Item) → AreTexts texts.now items → result ≡ length items }
 {

@@ -1,15 +1,15 @@
 //! Packets read where they lie.
-ghost use Rattle.std.specs.Prelude.{◌≡◌, ◌≤◌, ◌<◌, List, length, IsSome};
+ghost use Rattle.std.specs.Prelude.{◌≡◌, ◌≤◌, ◌<◌, List, [], length, Some};
 ghost use Rattle.std.specs.Iterator.{YieldsFirstBy, item_count};
 ghost use Rattle.gb_types.specs.declared.limits.TheConstants.{NODES};
 ghost use Rattle.gb_frame.specs.declared.limits.TheConstants.{SHORTEST};
 ghost use Rattle.gb_frame.specs.Packet.{item_of, packet_of};
 ghost use Rattle.gb_frame.specs.Fields.{from_in, to_in};
-ghost use Rattle.gb_frame.specs.Reading.{parsed, content_in};
-ghost use Rattle.gb_frame.specs.Batch.{batch_in, IsBatch};
+ghost use Rattle.gb_frame.specs.Reading.{parsed, items_of, content_in};
+ghost use Rattle.gb_frame.specs.Batch.{batch_in};
 
 use crate::header::{base_of, count_of, frame_of, mask_of, texts_of};
-use crate::item::{ItemView, count_items, first_item};
+use crate::item::{ItemView, first_item};
 use crate::packet::Head;
 use gb_types::node::NodeId;
 use std::marker::Model;
@@ -24,15 +24,15 @@ pub struct PacketView<'a> {
 }
 
 impl<'a> Model for PacketView<'a> {
-    ghost use Rattle.std.specs.Prelude.{IsSome};
+    ghost use Rattle.std.specs.Prelude.{◌≡◌, length};
     ghost use Rattle.gb_frame.specs.Packet.{Content, packet_of};
-    ghost use Rattle.gb_frame.specs.Reading.{items_at, items_of};
+    ghost use Rattle.gb_frame.specs.Batch.{batch_in};
 
     ghost Value = { Content };
 
-    ghost view = { λ v. packet_of v.head (items_of (items_at v.count v.texts.now)) };
+    ghost view = { λ v. packet_of v.head (batch_in v.texts.now) };
 
-    ghost invariant = { λ v. IsSome (items_at v.count v.texts.now) };
+    ghost invariant = { λ v. v.count ≡ length (batch_in v.texts.now) };
 }
 
 impl<'a> PacketView<'a> {
@@ -41,7 +41,7 @@ impl<'a> PacketView<'a> {
         requires long { SHORTEST ≤ length bytes.now }
         requires from { from_in bytes.now < NODES }
         requires to { to_in bytes.now < NODES }
-        requires items { IsSome (parsed bytes.now) }
+        requires items { parsed bytes.now ≡ Some (items_of (parsed bytes.now), []) }
         ensures { result ≡ content_in bytes.now }
     {
         PacketView {
@@ -75,42 +75,32 @@ impl<'a> PacketView<'a> {
     pub fn items(&self) -> ItemViews<'a>
         ensures { result ≡ self.now.items }
     {
-        ItemViews {
-            count: self.count,
-            texts: self.texts,
-        }
+        ItemViews { texts: self.texts }
     }
 }
 
-/// The items of a packet that are still to come, in turn. Contracts see their list.
+/// The items of a packet or a batch that are still to come, in turn. Contracts see their list.
 #[derive(Drop)]
 pub struct ItemViews<'a> {
-    count: u16,
     texts: &'a [u8],
 }
 
 impl<'a> Model for ItemViews<'a> {
-    ghost use Rattle.std.specs.Prelude.{List, IsSome};
+    ghost use Rattle.std.specs.Prelude.{List};
     ghost use Rattle.gb_frame.specs.declared.item.Item.{Item};
-    ghost use Rattle.gb_frame.specs.Reading.{items_at, items_of};
+    ghost use Rattle.gb_frame.specs.Batch.{batch_in};
 
     ghost Value = { List Item };
 
-    ghost view = { λ v. items_of (items_at v.count v.texts.now) };
-
-    ghost invariant = { λ v. IsSome (items_at v.count v.texts.now) };
+    ghost view = { λ v. batch_in v.texts.now };
 }
 
 impl<'a> ItemViews<'a> {
-    /// The items with these texts, which have no packet round them, in turn. Takes no memory.
+    /// The items whose texts stand at the front, with no packet round them, in turn. Takes no memory.
     pub fn of_texts(texts: &'a [u8]) -> ItemViews<'a>
-        requires { IsBatch texts.now }
         ensures { result ≡ batch_in texts.now }
     {
-        ItemViews {
-            count: count_items(texts),
-            texts,
-        }
+        ItemViews { texts }
     }
 }
 
@@ -122,11 +112,9 @@ impl<'a> Iterator for ItemViews<'a> {
     ghost remaining = { item_count (λ left. left) };
 
     fn next(&mut self) -> Option<ItemView<'a>> {
-        if self.count == 0 {
+        let Some((item, rest)) = first_item(self.texts) else {
             return None;
-        }
-        let (item, rest) = first_item(self.texts).unwrap();
-        self.count -= 1;
+        };
         self.texts = rest;
         Some(item)
     }

@@ -5,7 +5,7 @@ ghost use Rattle.gb_frame.specs.declared.item.Item.{Item};
 ghost use Rattle.gb_frame.specs.Packet.{content, packet_of};
 ghost use Rattle.gb_frame.specs.Spelling.{header_text, tag_of, packet_text, AreTexts, IsWithinLimits, FitsFields, IsPacket, IsText};
 
-use crate::item::{count_items, put_items};
+use crate::item::put_items;
 use crate::limits::VERSION;
 use crate::packet::{Head, Packet, room_beside};
 use crate::tag::tag;
@@ -72,17 +72,17 @@ pub fn encode(alloc: Global, packet: &Packet, key: &HmacKey) -> Result<Vec<u8>, 
     Ok(text)
 }
 
-/// Appends the text of the packet with this head and the items whose texts `put_item` wrote: what
+/// Appends the text of the packet with this head and so many items, whose texts `put_item` wrote: what
 /// `encode` gives. Takes no memory.
-pub fn wrap(head: Head, texts: &[u8], key: &HmacKey, packet: &mut Vec<u8>)
-    requires packet { (items : List Item) × AreTexts texts.now items × IsWithinLimits (packet_of head items) }
+pub fn wrap(head: Head, count: u16, texts: &[u8], key: &HmacKey, packet: &mut Vec<u8>)
+    requires packet { (items : List Item) × AreTexts texts.now items × (length items ≡ count) × IsWithinLimits (packet_of head items) }
     requires room { vec_len packet.old + SHORTEST + length texts.now ≤ vec_capacity packet.old }
     ensures written { (items : List Item) → AreTexts texts.now items → packet.new.items ≡ packet.old.items ++ packet_text key.now (packet_of head items) }
     ensures packet { (items : List Item) → AreTexts texts.now items → IsPacket (packet_of head items) }
     ensures capacity { vec_capacity packet.old ≤ vec_capacity packet.new }
 {
     let start = packet.len();
-    put_header(head, count_items(texts), packet);
+    put_header(head, count, packet);
     append(packet, texts);
     put_tag(start, key, packet);
 }

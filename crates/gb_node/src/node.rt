@@ -26,6 +26,7 @@ use crate::taking::{notice_each, take_ack, take_frame};
 use crate::window::Window;
 use gb_detect::detector::Detector;
 use gb_frame::fault::PacketFault;
+use gb_frame::item::count_items;
 use gb_frame::limits::{ROOM, SHORTEST};
 use gb_frame::packet::Head;
 use gb_frame::reading::{decode, decode_known};
@@ -207,12 +208,13 @@ impl Node {
         self.windows[to.index()].again(number)
     }
 
-    /// The packet to another node with the frame that has this number and was not acknowledged, written into an empty
-    /// vector with room for it.
-    fn write_frame(&self, to: NodeId, number: u64, packet: Vec<u8>) -> PacketText
+    /// The packet to another node with the frame that has this number and so many items and was not acknowledged, written
+    /// into an empty vector with room for it.
+    fn write_frame(&self, to: NodeId, number: u64, count: u16, packet: Vec<u8>) -> PacketText
         requires another { is_another self.now to ≡ true }
         requires number { 0 < number }
         requires frame { IsSome (frame_again (window_to self.now to.number) number) }
+        requires count { length (items_in (frame_again (window_to self.now to.number) number)) ≡ count }
         requires empty { packet.items ≡ [] }
         requires room { SHORTEST + length (items_text (items_in (frame_again (window_to self.now to.number) number))) ≤ vec_capacity packet }
         ensures text { result ≡ packet_text self.now.key (content_to self.now to number (items_in (frame_again (window_to self.now to.number) number))) }
@@ -221,7 +223,7 @@ impl Node {
         let Some((_, texts)) = self.undone(to, number) else {
             unreachable!()
         };
-        frame_packet(self.head(to, number), texts, self.key.key(), packet)
+        frame_packet(self.head(to, number), count, texts, self.key.key(), packet)
     }
 
     /// Sends the next batch for a node, so many items with so many bytes. Without memory nothing has changed.
@@ -244,7 +246,7 @@ impl Node {
     {
         let packet = Vec::with_capacity(self.alloc, SHORTEST + bytes)?;
         let number = self.push_batch(to, count, bytes)?;
-        Ok(self.write_frame(to, number, packet))
+        Ok(self.write_frame(to, number, count, packet))
     }
 
     /// Packs what waits for a node as the next frame of the link to it. Nothing, with nothing changed, where the node is
@@ -280,7 +282,8 @@ impl Node {
         ensures packet { OnOk result (IsPacket (content_to self.now to number (batch_in texts.now))) }
     {
         let packet = Vec::with_capacity(self.alloc, SHORTEST + texts.len())?;
-        Ok(frame_packet(self.head(to, number), texts, self.key.key(), packet))
+        let count = count_items(texts);
+        Ok(frame_packet(self.head(to, number), count, texts, self.key.key(), packet))
     }
 
     /// Sends a frame that was not acknowledged once more, by its number; 0 stands for the lowest such number. Changes

@@ -14,17 +14,24 @@ use gb_frame::writing::wrap;
 use gb_types::memory::OutOfMemory;
 use std::alloc::Global;
 
-/// The packet with this head and the frame with these texts, written into an empty vector with room for it.
-pub fn frame_packet(head: Head, texts: &[u8], key: &HmacKey, mut packet: Vec<u8>) -> PacketText
+/// The packet with this head and the frame of so many items with these texts, written into an empty vector with room for it.
+pub fn frame_packet(
+    head: Head,
+    count: u16,
+    texts: &[u8],
+    key: &HmacKey,
+    mut packet: Vec<u8>,
+) -> PacketText
     requires head { IsHead head }
     requires frame { 0 < head.frame }
     requires batch { IsBatch texts.now }
+    requires count { length (batch_in texts.now) ≡ count }
     requires empty { packet.items ≡ [] }
     requires room { SHORTEST + length texts.now ≤ vec_capacity packet }
     ensures text { result ≡ packet_text key.now (packet_of head (batch_in texts.now)) }
     ensures packet { IsPacket (packet_of head (batch_in texts.now)) }
 {
-    wrap(head, texts, key, &mut packet);
+    wrap(head, count, texts, key, &mut packet);
     PacketText::from(packet)
 }
 
@@ -36,6 +43,6 @@ pub fn bare_packet(alloc: Global, head: Head, key: &HmacKey) -> Result<PacketTex
     ensures packet { OnOk result (IsPacket (packet_of head [])) }
 {
     let mut packet = Vec::with_capacity(alloc, SHORTEST)?;
-    wrap(head, &[], key, &mut packet);
+    wrap(head, 0, &[], key, &mut packet);
     Ok(PacketText::from(packet))
 }

@@ -1,5 +1,5 @@
 use Rattle.std.proofs.Common.{sym, ap, ◌∙◌, Ok, arith}
-use Rattle.gb_frame.proofs.ReadingLemmas.{good, is_there, is_text, is_first_fault, text_found, no_fault_found}
+use Rattle.gb_frame.proofs.ReadingLemmas.{good, is_text, is_first_fault, text_found, no_fault_found}
 use Rattle.gb_frame.proofs.reading.decode.Goals as goal
 
 pub of-requires-clause-long : goal.of-requires-clause-long
@@ -12,7 +12,7 @@ pub of-requires-clause-to : goal.of-requires-clause-to
 of-requires-clause-to c = (good c.args.key.now c.args.bytes.now (sym c.in-None.ensures)).to
 
 pub of-requires-clause-items : goal.of-requires-clause-items
-of-requires-clause-items c = is_there c.args.key.now c.args.bytes.now (sym c.in-None.ensures)
+of-requires-clause-items c = (good c.args.key.now c.args.bytes.now (sym c.in-None.ensures)).parsed
 
 pub returns-in-Some-clause-only : goal.returns-in-Some-clause-only
 returns-in-Some-clause-only c = λ d t. absurd (no_fault_found c.args.key.now c.args.bytes.now d c.in-Some.fault t (sym c.in-Some.ensures))

@@ -1,5 +1,5 @@
 use Rattle.std.proofs.Common.{ap, sym, ◌∙◌, Ok}
-use Rattle.gb_frame.proofs.ReadingLemmas.{good, is_there, nothing_wrong, read_whole}
+use Rattle.gb_frame.proofs.ReadingLemmas.{good, nothing_wrong, read_whole}
 use Rattle.gb_frame.proofs.reading.decode_known.Goals as goal
 
 pub of-requires-clause-long : goal.of-requires-clause-long
@@ -12,7 +12,7 @@ pub of-requires-clause-to : goal.of-requires-clause-to
 of-requires-clause-to c = (good c.args.key.now c.args.bytes.now (nothing_wrong c.args.key.now c.args.bytes.now c.requires)).to
 
 pub of-requires-clause-items : goal.of-requires-clause-items
-of-requires-clause-items c = is_there c.args.key.now c.args.bytes.now (nothing_wrong c.args.key.now c.args.bytes.now c.requires)
+of-requires-clause-items c = (good c.args.key.now c.args.bytes.now (nothing_wrong c.args.key.now c.args.bytes.now c.requires)).parsed
 
 pub returns : goal.returns
 returns c = read_whole c.args.key.now c.args.bytes.now c.requires ∙ ap Ok (sym c.of.ensures)

@@ -1,0 +1,13 @@
+use Rattle.gb_frame.specs.Fields.{from_in, to_in, base_in, mask_in, frame_in}
+use Rattle.gb_frame.proofs.BatchLemmas.{counted_whole}
+use Rattle.gb_frame.proofs.view.PacketView.of.Goals as goal
+
+pub invariant_of-result-3 : goal.invariant_of-result-3
+invariant_of-result-3 c = rw (c.count_of.ensures, c.texts_of.ensures) (counted_whole _ _ _ c.requires.items).0
+
+pub returns : goal.returns
+returns c =
+    let bytes = c.args.bytes.now in
+    let items = (counted_whole _ _ _ c.requires.items).1 in
+    rw (c.base_of.ensures, c.mask_of.ensures, c.frame_of.ensures, c.texts_of.ensures)
+    (λ i. record { from = from_in bytes; to = to_in bytes; base = base_in bytes; mask = mask_in bytes; frame = frame_in bytes; items = items i })
