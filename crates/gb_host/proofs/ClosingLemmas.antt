@@ -14,7 +14,6 @@ use Rattle.gb_node.specs.declared.plan.NodePlan.{NodePlan}
 use Rattle.gb_host.specs.declared.plan.HostPlan.{HostPlan}
 use Rattle.gb_node.specs.declared.tape.TapeEntry.{TapeEntry}
 use Rattle.gb_host.specs.declared.entry.SeatEntry.{SeatEntry}
-use Rattle.gb_host.specs.declared.fault.HostFault.TheVariants as Fault
 use Rattle.gb_host.specs.SeatValue.{SeatValue}
 use Rattle.gb_host.specs.Plans.{plan_of}
 use Rattle.gb_host.specs.Calls.{Call, calls_of, calls_at, numbered}

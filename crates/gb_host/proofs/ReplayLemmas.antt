@@ -12,7 +12,7 @@ use Rattle.gb_node.specs.declared.tape.TapeEntry.{TapeEntry}
 use Rattle.gb_host.specs.Calls.{calls_at}
 use Rattle.gb_host.specs.Fits.{HostedFits, SeatFits}
 use Rattle.gb_host.specs.HostedValue.{HostedValue}
-use Rattle.gb_host.specs.Plans.{plan_of, IsPlan}
+use Rattle.gb_host.specs.Plans.{plan_of, kept, IsPlan}
 use Rattle.gb_host.specs.Replay.{happened, past_of}
 use Rattle.gb_host.specs.SeatValue.{SeatValue}
 use Rattle.gb_host.specs.declared.entry.SeatEntry.{SeatEntry}
@@ -45,6 +45,10 @@ hosted_fits_new p h node tape amount parts right member = record {
   counted = amount ∙ ap length (sym tape);
   backed = parts;
 }
+
+-- with tapes a thing is kept
+pub kept_one : {X : Type 0} (p : HostPlan) (x : X) → p.tape ≡ true → kept p x ≡ x ∷ []
+kept_one p x on = ap (λ b. cond b (x ∷ []) []) on
 
 pub hosted_fits_more : (p : HostPlan) (old new : HostedValue) (e : TapeEntry) → HostedFits p old → p.tape ≡ true → new.me ≡ old.me → IsTurn old.node e.event e.answer new.node → IsSpelt old.node e.event e.answer
     → new.tape ≡ old.tape ++ e ∷ [] → new.amount ≡ old.amount + 1 → new.parts ≡ old.parts → HostedFits p new

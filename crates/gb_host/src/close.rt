@@ -49,11 +49,9 @@ fn blanks(alloc: Global, count: u32) -> Result<(Vec<CallList>, Vec<bool>), HostF
     ensures sum { IfOk result (λ r. sum_by length r.0.items ≡ 0) }
     ensures err { IfErr result (λ e. e ≡ HostFault.OutOfMemory) }
 {
-    let mut lists = Vec::new(alloc);
-    let mut given = Vec::new(alloc);
+    let mut lists = Vec::with_capacity(alloc, count as usize)?;
+    let mut given = Vec::with_capacity(alloc, count as usize)?;
     for _i in 0..count {
-        lists.reserve(1)?;
-        given.reserve(1)?;
         lists.push_reserved(CallList::new(alloc));
         given.push_reserved(false);
     }

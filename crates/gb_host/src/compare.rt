@@ -87,9 +87,8 @@ fn beginnings(alloc: Global, lists: &[CallList]) -> Result<Vec<Cursor>, OutOfMem
     ensures bounded { IfOk result (λ c. AreBounded c.items lists.now) }
     ensures left { IfOk result (λ c. (node s : ℕ) → left_of node lists.now c.items s ≡ numbered 0 (calls_at node (list_at lists.now s))) }
 {
-    let mut cursors = Vec::new(alloc);
+    let mut cursors = Vec::with_capacity(alloc, lists.len())?;
     for _s in 0..lists.len() {
-        cursors.reserve(1)?;
         cursors.push_reserved(Cursor { place: 0, count: 0 });
     }
     Ok(cursors)

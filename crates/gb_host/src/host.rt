@@ -60,8 +60,8 @@ impl<L: Tapes, M: Ledger> Host<L, M> {
     {
         let (tapes, mut tape_rest) = tape_blank.open::<L>();
         let (lists, mut seat_rest) = seat_blank.open::<M>();
-        let nodes = open_nodes(alloc, plan, &mut tape_rest)?;
         let given = open_seats(alloc, seats, &mut seat_rest)?;
+        let nodes = open_nodes(alloc, plan, &mut tape_rest)?;
         let host = Host {
             alloc,
             plan,
@@ -147,10 +147,9 @@ fn open_nodes<L: Tapes>(
     requires rest { (rest.old.parts ≡ plan.cluster.nodes + 1) × (rest.old.amount ≡ 0) }
     ensures { IfOk result (λ nodes. vec_len nodes ≡ plan.cluster.nodes) }
 {
-    let mut nodes = Vec::new(alloc);
+    let mut nodes = Vec::with_capacity(alloc, usize::from(plan.cluster.nodes))?;
     for number in 0..plan.cluster.nodes {
         let share = rest.split_off(1, 0);
-        nodes.reserve(1)?;
         nodes.push_reserved(Mutex::new(Hosted::new(alloc, plan, NodeId::new(number), share)));
     }
     Ok(nodes)
@@ -165,10 +164,9 @@ fn open_seats<M: Ledger>(
     requires { (rest.old.parts ≡ seats + 1) × (rest.old.amount ≡ 0) }
     ensures { IfOk result (λ given. (vec_len given ≡ seats) × AreNew seats given.items) }
 {
-    let mut given = Vec::new(alloc);
+    let mut given = Vec::with_capacity(alloc, seats as usize)?;
     for number in 0..seats {
         let share = rest.split_off(1, 0);
-        given.reserve(1)?;
         given.push_reserved(Seat::new(alloc, number, share));
     }
     Ok(given)

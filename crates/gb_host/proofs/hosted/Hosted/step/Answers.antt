@@ -1,11 +1,12 @@
-use Rattle.std.proofs.Common.{rules, arith, ◌++◌, [], ◌∷◌, ◌∙◌, ap, refl, sym, subst, get_or}
+use Rattle.std.proofs.Common.{rules, arith, ◌≡◌, true, ◌++◌, [], ◌∷◌, ◌∙◌, ap, refl, sym, subst, get_or}
 use Rattle.gb_node.specs.NodeStep.{IsTurn, IsSpelt}
 use Rattle.gb_node.specs.declared.answer.NodeAnswer.{NodeAnswer}
 use Rattle.gb_node.specs.declared.tape.TapeEntry.{TapeEntry}
 use Rattle.gb_host.specs.HostedValue.{HostedValue}
 use Rattle.gb_host.specs.SeatValue.{SeatValue}
 use Rattle.gb_host.specs.declared.entry.SeatEntry.{SeatEntry}
-use Rattle.gb_host.proofs.ReplayLemmas.{calls_at_le, hosted_fits_more, seat_fits_more}
+use Rattle.gb_host.specs.declared.plan.HostPlan.{HostPlan}
+use Rattle.gb_host.proofs.ReplayLemmas.{calls_at_le, hosted_fits_more, kept_one, seat_fits_more}
 use Rattle.gb_host.proofs.hosted.Hosted.step.Goals as goal
 
 pub overflow_add-counts : goal.overflow_add-counts
@@ -36,3 +37,23 @@ invariant_of-seat-2 g c =
     seat_fits_more old _ e c.seat.invariant (rw c.index-at.ensures.value refl)
     (c.push_reserved-2.ensures.items ∙ ap (λ xs. xs ++ e ∷ []) c.make_room.ensures.items.1)
     c.in-Ok-answers.ensures.added.1 c.answers.ensures.parts.1
+
+pub returns-clause-tape : goal.returns-clause-tape
+returns-clause-tape g c =
+    let on : g.L.Tapes.plan.tape ≡ true = sym (ap (λ (p : HostPlan). p.tape) c.self.invariant.0) ∙ c.if-not-plan.false in
+    let tape = c.make_room.ensures.items.0 ∙ ap (λ (h : HostedValue). h.tape) c.self.view_is in
+    let number = ap (λ (s : SeatValue). s.number) c.seat.view_is in
+    let counts = ap (λ (s : SeatValue). s.counts) c.seat.view_is in
+    let at = c.index-at.ensures.value ∙ ap (λ (h : HostedValue). h.me.number) c.self.view_is in
+    c.push_reserved.ensures.items
+    ∙ ((λ i. tape i ++ record { seat = number i; count = get_or (counts i) (at i) 0; event = c.args.event; answer = c.in-Ok-answers.ensures.copies.0 i } ∷ [])
+    ∙ ap (λ es. c.args.self.now.tape ++ es) (sym (kept_one g.L.Tapes.plan _ on)))
+
+pub returns-clause-list : goal.returns-clause-list
+returns-clause-list g c =
+    let on : g.L.Tapes.plan.tape ≡ true = sym (ap (λ (p : HostPlan). p.tape) c.self.invariant.0) ∙ c.if-not-plan.false in
+    let list = c.make_room.ensures.items.1 ∙ ap (λ (s : SeatValue). s.list) c.seat.view_is in
+    let me = ap (λ (h : HostedValue). h.me) c.self.view_is in
+    c.push_reserved-2.ensures.items
+    ∙ ((λ i. list i ++ record { node = me i; event = c.in-Ok.ensures.copy i; answer = c.in-Ok-answers.ensures.copies.1 i } ∷ [])
+    ∙ ap (λ es. c.args.seat.now.list ++ es) (sym (kept_one g.L.Tapes.plan _ on)))
