@@ -1,7 +1,7 @@
 //! Packets: what is written and read, each fault, and each limit at its last allowed and first refused value.
 use gb_cap::hmac::HmacKey;
 use gb_frame::fault::PacketFault;
-use gb_frame::item::{Item, ItemView, first_item, put_item};
+use gb_frame::item::{Item, ItemView, count_items, first_item, put_item};
 use gb_frame::packet::{Head, Packet};
 use gb_frame::reading::decode;
 use gb_frame::view::PacketView;
@@ -139,6 +139,17 @@ fn acknowledgement(rt: HostRuntime) -> Result<(), Fail> {
     compare(&rt, rt.alloc(), &packet, ACKNOWLEDGEMENT)
 }
 
+/// The head of `TEXT`.
+fn told_head() -> Head {
+    Head {
+        from: NodeId { number: 0 },
+        to: NodeId { number: 1 },
+        base: 1,
+        mask: 0,
+        frame: 1,
+    }
+}
+
 /// Whether one item of the byte `a` stands in the frame.
 fn has_one_item(frame: &[u8]) -> bool {
     match first_item(frame) {
@@ -160,6 +171,7 @@ fn a_frame_is_wrapped(rt: HostRuntime) -> Result<(), Fail> {
     };
     let mut frame = Vec::with_capacity(alloc, 10)?;
     put_item(item, &mut frame);
+    let count = count_items(&frame);
     let head = Head {
         from: NodeId { number: 0 },
         to: NodeId { number: 1 },
@@ -168,22 +180,11 @@ fn a_frame_is_wrapped(rt: HostRuntime) -> Result<(), Fail> {
         frame: 1,
     };
     let mut text = Vec::with_capacity(alloc, 49)?;
-    wrap(head, &frame, &key(), &mut text);
+    wrap(head, count, &frame, &key(), &mut text);
     let held = spells(alloc, &text, TEXT)?;
     assert!(rt; held);
     assert!(rt; has_one_item(&frame));
     Ok(())
-}
-
-/// The head of `TEXT`.
-fn told_head() -> Head {
-    Head {
-        from: NodeId { number: 0 },
-        to: NodeId { number: 1 },
-        base: 1,
-        mask: 0,
-        frame: 1,
-    }
 }
 
 /// Whether this is the item of `TEXT`.
