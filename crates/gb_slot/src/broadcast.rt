@@ -30,6 +30,7 @@ fn placed(store: &Store, m: MsgId) -> PutOut
 }
 
 /// Moves the messages that were sent to the end of those that are put out, where there is room.
+#[inline(always)]
 fn put_out(outgoing: &mut Vec<PutOut>, sends: &mut Vec<MsgId>, store: &Store)
     requires { vec_len outgoing.old + vec_len sends.old ≤ vec_capacity outgoing.old }
     ensures outgoing { put_messages outgoing.new.items ≡ put_messages outgoing.old.items ++ sends.old.items }

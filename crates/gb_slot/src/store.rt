@@ -137,6 +137,7 @@ fn payload_of<'a>(kept: &[Kept], table: &Table, bytes: &'a [u8], m: MsgId) -> &'
 }
 
 /// The payload of a message, none where it is not there. It is looked for at this place first.
+#[inline(always)]
 fn payload_at<'a>(kept: &[Kept], table: &Table, bytes: &'a [u8], m: MsgId, place: usize) -> &'a [u8]
     requires inside { AreInside bytes.now kept.now }
     requires leads { leads table.now.width table.now.told.items 0 (messages_of kept.now) ≡ true }
@@ -240,6 +241,7 @@ impl Store {
     }
 
     /// Puts a message in at the end that was taken in from these nodes, and copies its payload. Takes no memory.
+    #[inline(always)]
     fn add(&mut self, m: MsgId, payload: &[u8], from: NodeSet)
         requires new { has self.old.entries m ≡ false }
         requires place { length self.old.entries < self.old.places }
@@ -326,7 +328,8 @@ impl Store {
     }
 
     /// The payload of a message, none where it is not there. Where the message stands at this place, nothing is
-    /// searched.
+    /// searched. Inlined: packing calls it twice an item.
+    #[inline(always)]
     pub fn payload_at(&self, m: MsgId, place: usize) -> &[u8]
         ensures { result.now ≡ payload_in self.now.entries m }
     {
