@@ -1,6 +1,8 @@
-//! Worked uses of nodes, as tests: bytes from one node handed to another, many tenants and groups in one frame, tokens,
-//! faults and stops. Each test is a table of steps with what they tell: read `steps` first. There is nothing here but
-//! tests.
+//! Worked uses of one node as tests, from one group to all that a node has. One group: what is said, heard, acknowledged and
+//! noticed, the refusals in their order, and what is let fall (`slots`; read `slot_steps` first). All groups, and the node's table: packing in turns,
+//! dropped groups and their places, tokens (`groups`, `tables`). Whole nodes: bytes from one node handed to another, many tenants and groups
+//! in one frame, tokens, faults and stops, each a table of steps with what they tell (`nodes`, `calls`, `row`; read `steps` first). There is
+//! nothing here but tests.
 #![tactic(auto)]
 
 #[cfg(test)]
@@ -8,10 +10,20 @@ mod calls;
 #[cfg(test)]
 mod events;
 #[cfg(test)]
+mod groups;
+#[cfg(test)]
 mod nodes;
 #[cfg(test)]
 mod row;
 #[cfg(test)]
+mod slot_steps;
+#[cfg(test)]
+mod slots;
+#[cfg(test)]
 mod steps;
 #[cfg(test)]
+mod tables;
+#[cfg(test)]
 mod texts;
+#[cfg(test)]
+mod told;

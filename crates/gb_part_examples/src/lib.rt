@@ -1,10 +1,15 @@
-//! Worked uses of capabilities, packets and the crash detector, as tests: published values, and each limit at its last
-//! allowed and first refused value. There is nothing here but tests.
+//! Worked uses of the parts that a node, its host and its sessions are made of, as tests: packets and the crash detector; rings,
+//! sockets and a port that fails, call by call; each spelling of a request, and whole sessions. Each limit at its last allowed and
+//! first refused value. There is nothing here but tests.
 #![tactic(auto)]
 
-#[cfg(test)]
-mod capabilities;
 #[cfg(test)]
 mod detector;
 #[cfg(test)]
 mod packets;
+#[cfg(test)]
+mod ports;
+#[cfg(test)]
+mod requests;
+#[cfg(test)]
+mod sessions;

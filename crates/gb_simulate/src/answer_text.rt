@@ -24,18 +24,16 @@ fn put_refusal(out: &mut Vec<u8>, why: Refusal) -> Result<(), OutOfMemory>
     put_reply(out, &Reply::Refused(why))
 }
 
-/// Appends what a node made of a frame, in a word.
-fn put_frame(out: &mut Vec<u8>, frame: Frame) -> Result<(), OutOfMemory>
-    ensures ok { OnOk result (out.new.items ≡ out.old.items ++ frame_word frame) }
-    ensures err { OnErr result (StartsWith out.new.items out.old.items) }
+/// What a node made of a frame, in a word.
+fn word_of(frame: Frame) -> &'static [u8]
+    ensures { result.now ≡ frame_word frame }
 {
     match frame {
-        Frame::Nothing => out.extend_from_slice(b"none")?,
-        Frame::First => out.extend_from_slice(b"first")?,
-        Frame::Seen => out.extend_from_slice(b"seen")?,
-        Frame::Outside => out.extend_from_slice(b"outside")?,
+        Frame::Nothing => b"none",
+        Frame::First => b"first",
+        Frame::Seen => b"seen",
+        Frame::Outside => b"outside",
     }
-    Ok(())
 }
 
 /// Appends `good FRAME ITEMS DONE`.
@@ -44,7 +42,7 @@ fn put_good(out: &mut Vec<u8>, good: &Good) -> Result<(), OutOfMemory>
     ensures err { OnErr result (StartsWith out.new.items out.old.items) }
 {
     out.extend_from_slice(b"good ")?;
-    put_frame(out, good.frame)?;
+    out.extend_from_slice(word_of(good.frame))?;
     out.extend_from_slice(b" ")?;
     put_number(out, u64::from(good.items))?;
     out.extend_from_slice(b" ")?;

@@ -7,6 +7,7 @@ use gb_port::udp::{BindFault, SPACE, UdpPort};
 use gb_types::memory::OutOfMemory;
 use gb_types::node::NodeId;
 use std::alloc::Global;
+use std::process::Abort;
 use std::test::Fail;
 use std::thread;
 use std::time::Duration;
@@ -188,29 +189,71 @@ fn wait_for(rt: &HostRuntime, port: &mut UdpPort) -> (u8, usize) {
     (b'.', 0)
 }
 
-#[test]
-fn packets_cross_sockets(rt: HostRuntime) -> Result<(), Fail> {
-    let (to_a, to_b) = (NodeId::new(0), NodeId::new(1));
-    let mut a = UdpPort::bind(&rt, rt.alloc(), to_a, 2, BASE).expect(&rt, "node 0's socket");
-    let mut b = UdpPort::bind(&rt, rt.alloc(), to_b, 2, BASE).expect(&rt, "node 1's socket");
-    let again = UdpPort::bind(&rt, rt.alloc(), to_b, 2, BASE);
-    let is_refused = match again {
+// Another socket of node 1 is refused while it has one.
+fn is_taken(rt: &HostRuntime) -> bool {
+    match UdpPort::bind(rt, rt.alloc(), NodeId::new(1), 2, BASE) {
         Ok(_) => false,
         Err(fault) => fault == BindFault::Port,
-    };
-    assert!(rt; is_refused);
-    assert!(rt; received(&mut b) == b'.');
-    assert!(rt; sent(&mut a, to_b, b"1 packet") == b'+');
-    assert!(rt; wait_for(&rt, &mut b) == (b'1', 8));
+    }
+}
+
+// A packet of so many bytes goes from one port to a node; what is told of that.
+fn sent_long(
+    rt: &HostRuntime,
+    port: &mut UdpPort,
+    to: NodeId,
+    first: u8,
+    len: usize,
+) -> Result<u8, OutOfMemory> {
+    let packet = vec![in rt.alloc(); first; len]?;
+    Ok(sent(port, to, &packet))
+}
+
+// Nodes 0 and 1, as their ports stand.
+fn talk(
+    rt: &impl Abort,
+    host: &HostRuntime,
+    a: &mut UdpPort,
+    b: &mut UdpPort,
+) -> Result<(), OutOfMemory> {
+    let (to_a, to_b) = (NodeId::new(0), NodeId::new(1));
+    assert!(rt; received(b) == b'.');
+    assert!(rt; sent(a, to_b, b"1 packet") == b'+');
+    assert!(rt; wait_for(host, b) == (b'1', 8));
     // A datagram of one byte more than is kept is cut.
-    let long = vec![in rt.alloc(); b'2'; SPACE + 1]?;
-    assert!(rt; sent(&mut b, to_a, &long) == b'+');
-    assert!(rt; wait_for(&rt, &mut a) == (b'2', SPACE));
-    assert!(rt; received(&mut a) == b'.');
-    // The system takes no datagram of 65,508 bytes, and there is no third node.
-    let longest = vec![in rt.alloc(); b'3'; 65_508]?;
-    assert!(rt; sent(&mut b, to_a, &longest) == b'!');
-    assert!(rt; sent(&mut b, NodeId::new(2), b"4") == b'!');
+    let told = sent_long(host, b, to_a, b'2', SPACE + 1)?;
+    assert!(rt; told == b'+');
+    assert!(rt; wait_for(host, a) == (b'2', SPACE));
+    assert!(rt; received(a) == b'.');
+    Ok(())
+}
+
+// The system takes no datagram of 65,508 bytes, and there is no third node.
+fn fail(
+    rt: &impl Abort,
+    host: &HostRuntime,
+    a: &UdpPort,
+    b: &mut UdpPort,
+) -> Result<(), OutOfMemory> {
+    let told = sent_long(host, b, NodeId::new(0), b'3', 65_508)?;
+    assert!(rt; told == b'!');
+    assert!(rt; sent(b, NodeId::new(2), b"4") == b'!');
     assert!(rt; a.failures() == 0 && b.failures() == 2);
+    Ok(())
+}
+
+#[test]
+fn packets_cross_sockets(rt: HostRuntime) -> Result<(), Fail> {
+    let mut a = UdpPort::bind(&rt, rt.alloc(), NodeId::new(0), 2, BASE).expect(
+        &rt,
+        "node 0's socket",
+    );
+    let mut b = UdpPort::bind(&rt, rt.alloc(), NodeId::new(1), 2, BASE).expect(
+        &rt,
+        "node 1's socket",
+    );
+    assert!(rt; is_taken(&rt));
+    talk(&rt, &rt, &mut a, &mut b)?;
+    fail(&rt, &rt, &a, &mut b)?;
     Ok(())
 }

@@ -129,86 +129,113 @@ fn packs(
     Ok(texts.is_empty())
 }
 
-#[test]
-fn groups_give_one_item_each_in_turn(rt: HostRuntime) -> Result<(), Fail> {
-    let mut groups = Groups::new(rt.alloc());
-    compare(
-        &rt,
-        &mut groups,
-        &[
-            (Step::Open, 1, Told::Done),
-            (Step::Open, 2, Told::Done),
-            (Step::Open, 3, Told::Done),
-            (Step::Say, 1, Told::Done),
-            (Step::Say, 1, Told::Done),
-            (Step::Say, 1, Told::Done),
-            (Step::Say, 2, Told::Done),
-            (Step::Say, 3, Told::Done),
-            (Step::Say, 3, Told::Done),
-            (Step::Drop, 2, Told::Done),
-        ],
-    );
-    // Each item takes ten bytes.
-    let batches: [(NodeId, u16, &[(u16, u16)]); 5] = [
-        (ME, ROOM, &[]),
-        (FRIEND, 39, &[(1, 1), (3, 1), (1, 2)]),
-        (FRIEND, 9, &[]),
-        (FRIEND, ROOM, &[(3, 2), (1, 3)]),
-        (FRIEND, ROOM, &[]),
-    ];
-    for (dest, room, want) in batches {
-        let packed = packs(&mut groups, rt.alloc(), dest, room, want)?;
-        assert!(&rt; packed);
+/// For whom a batch is.
+#[derive(Clone, Copy)]
+enum To {
+    Me,
+    Friend,
+}
+
+/// The next batches for nodes, with room for so many bytes, have these items.
+fn give(
+    rt: &impl Abort,
+    alloc: Global,
+    groups: &mut Groups,
+    batches: &[(To, u16, &[(u16, u16)])],
+) -> Result<(), OutOfMemory> {
+    for (to, room, want) in batches {
+        let dest = match to {
+            To::Me => ME,
+            To::Friend => FRIEND,
+        };
+        let packed = packs(groups, alloc, dest, *room, want)?;
+        assert!(rt; packed);
     }
     Ok(())
 }
 
+/// New groups, in which these steps are made; then the friend may be noticed, and these batches come.
+fn run(
+    rt: &impl Abort,
+    alloc: Global,
+    steps: &[(Step, u16, Told)],
+    is_noticed: bool,
+    batches: &[(To, u16, &[(u16, u16)])],
+) -> Result<(), OutOfMemory> {
+    let mut groups = Groups::new(alloc);
+    compare(rt, &mut groups, steps);
+    if is_noticed {
+        groups.notice(FRIEND);
+    }
+    give(rt, alloc, &mut groups, batches)
+}
+
+/// Nothing is packed for the friend.
+static NOTHING: [(To, u16, &[(u16, u16)]); 1] = [(To::Friend, ROOM, &[])];
+
+static THREE_SPEAK: [(Step, u16, Told); 10] = [
+    (Step::Open, 1, Told::Done),
+    (Step::Open, 2, Told::Done),
+    (Step::Open, 3, Told::Done),
+    (Step::Say, 1, Told::Done),
+    (Step::Say, 1, Told::Done),
+    (Step::Say, 1, Told::Done),
+    (Step::Say, 2, Told::Done),
+    (Step::Say, 3, Told::Done),
+    (Step::Say, 3, Told::Done),
+    (Step::Drop, 2, Told::Done),
+];
+
+// Each item takes ten bytes.
+static IN_TURN: [(To, u16, &[(u16, u16)]); 5] = [
+    (To::Me, ROOM, &[]),
+    (To::Friend, 39, &[(1, 1), (3, 1), (1, 2)]),
+    (To::Friend, 9, &[]),
+    (To::Friend, ROOM, &[(3, 2), (1, 3)]),
+    (To::Friend, ROOM, &[]),
+];
+
 #[test]
-fn a_dropped_group_keeps_its_place_and_shows_nothing(rt: HostRuntime) -> Result<(), Fail> {
-    let mut groups = Groups::new(rt.alloc());
-    compare(
-        &rt,
-        &mut groups,
-        &[
-            (Step::Open, 1, Told::Done),
-            (Step::Say, 1, Told::Done),
-            (Step::Drop, 1, Told::Done),
-            (Step::Drop, 1, Told::Refused(Refusal::Spent)),
-            (Step::Fetch, 1, Told::Refused(Refusal::Spent)),
-            (Step::Fetch, 2, Told::Refused(Refusal::NoGroup)),
-            // The next group stands under the same key.
-            (Step::Open, 2, Told::Done),
-            (Step::Fetch, 2, Told::Log(0)),
-            // An item of a group that is not here is let fall.
-            (Step::Item, 9, Told::Done),
-            (Step::Item, 2, Told::Done),
-            (Step::Done, 2, Told::Done),
-            (Step::Fetch, 2, Told::Log(1)),
-            (Step::Fetch, 1, Told::Refused(Refusal::Spent)),
-        ],
-    );
-    let packed = packs(&mut groups, rt.alloc(), FRIEND, ROOM, &[])?;
-    assert!(&rt; packed);
+fn groups_give_one_item_each_in_turn(rt: HostRuntime) -> Result<(), Fail> {
+    run(&rt, rt.alloc(), &THREE_SPEAK, false, &IN_TURN)?;
     Ok(())
 }
 
+static ONE_IS_DROPPED: [(Step, u16, Told); 13] = [
+    (Step::Open, 1, Told::Done),
+    (Step::Say, 1, Told::Done),
+    (Step::Drop, 1, Told::Done),
+    (Step::Drop, 1, Told::Refused(Refusal::Spent)),
+    (Step::Fetch, 1, Told::Refused(Refusal::Spent)),
+    (Step::Fetch, 2, Told::Refused(Refusal::NoGroup)),
+    // The next group stands under the same key.
+    (Step::Open, 2, Told::Done),
+    (Step::Fetch, 2, Told::Log(0)),
+    // An item of a group that is not here is let fall.
+    (Step::Item, 9, Told::Done),
+    (Step::Item, 2, Told::Done),
+    (Step::Done, 2, Told::Done),
+    (Step::Fetch, 2, Told::Log(1)),
+    (Step::Fetch, 1, Told::Refused(Refusal::Spent)),
+];
+
+#[test]
+fn a_dropped_group_keeps_its_place_and_shows_nothing(rt: HostRuntime) -> Result<(), Fail> {
+    run(&rt, rt.alloc(), &ONE_IS_DROPPED, false, &NOTHING)?;
+    Ok(())
+}
+
+static TWO_SPEAK: [(Step, u16, Told); 5] = [
+    (Step::Open, 1, Told::Done),
+    (Step::Open, 2, Told::Done),
+    (Step::Say, 1, Told::Done),
+    (Step::Say, 2, Told::Done),
+    (Step::Shut, 2, Told::Done),
+];
+
 #[test]
 fn nothing_waits_for_a_noticed_node(rt: HostRuntime) -> Result<(), Fail> {
-    let mut groups = Groups::new(rt.alloc());
-    compare(
-        &rt,
-        &mut groups,
-        &[
-            (Step::Open, 1, Told::Done),
-            (Step::Open, 2, Told::Done),
-            (Step::Say, 1, Told::Done),
-            (Step::Say, 2, Told::Done),
-            (Step::Shut, 2, Told::Done),
-        ],
-    );
-    groups.notice(FRIEND);
-    let packed = packs(&mut groups, rt.alloc(), FRIEND, ROOM, &[])?;
-    assert!(&rt; packed);
+    run(&rt, rt.alloc(), &TWO_SPEAK, true, &NOTHING)?;
     Ok(())
 }
 
@@ -221,50 +248,55 @@ fn open_to(rt: &impl Abort, groups: &mut Groups, made: u16, last: u16) {
     }
 }
 
+/// The last group says two messages, and the first one between them, its message with this number.
+fn both_ends_are_busy(
+    rt: &impl Abort,
+    alloc: Global,
+    groups: &mut Groups,
+    last: u16,
+    seq: u16,
+) -> Result<(), OutOfMemory> {
+    let steps = [
+        (Step::Say, last, Told::Done),
+        (Step::Say, 1, Told::Done),
+        (Step::Say, last, Told::Done),
+    ];
+    compare(rt, groups, &steps);
+    give(
+        rt,
+        alloc,
+        groups,
+        &[(To::Friend, ROOM, &[(1, seq), (last, 1), (last, 2)])],
+    )
+}
+
+/// The number of groups that are made, and as many as were made before: up to the last group of one word of the sets and the first of the
+/// next, the same of 8 words, and the last place.
+static PLACES_AT_EDGES: [(u16, u16); 5] = [(0, 64), (64, 65), (65, 512), (512, 513), (513, PLACES)];
+
+/// The groups at each edge are made in turn, and are busy together with the first.
+fn reach_each_edge(rt: &impl Abort, alloc: Global, groups: &mut Groups) -> Result<(), OutOfMemory> {
+    let mut seq: u16 = 0;
+    for (made, last) in &PLACES_AT_EDGES {
+        open_to(rt, groups, *made, *last);
+        seq = seq.saturating_add(1);
+        both_ends_are_busy(rt, alloc, groups, *last, seq)?;
+    }
+    Ok(())
+}
+
+static THREE_MORE: [(Step, u16, Told); 3] = [
+    (Step::Say, 513, Told::Done),
+    (Step::Say, 64, Told::Done),
+    (Step::Drop, 513, Told::Done),
+];
+
 #[test]
 fn groups_at_any_place_are_found_busy(rt: HostRuntime) -> Result<(), Fail> {
     let mut groups = Groups::new(rt.alloc());
-    let mut made = 0;
-    // The last group of one word of the sets and the first of the next, the same of 8 words, and the last place.
-    for last in [64, 65, 512, 513, PLACES] {
-        open_to(&rt, &mut groups, made, last);
-        made = last;
-        compare(
-            &rt,
-            &mut groups,
-            &[
-                (Step::Say, last, Told::Done),
-                (Step::Say, 1, Told::Done),
-                (Step::Say, last, Told::Done),
-            ],
-        );
-        let seq = match last {
-            64 => 1,
-            65 => 2,
-            512 => 3,
-            513 => 4,
-            _ => 5,
-        };
-        let packed = packs(
-            &mut groups,
-            rt.alloc(),
-            FRIEND,
-            ROOM,
-            &[(1, seq), (last, 1), (last, 2)],
-        )?;
-        assert!(&rt; packed);
-    }
-    compare(
-        &rt,
-        &mut groups,
-        &[
-            (Step::Say, 513, Told::Done),
-            (Step::Say, 64, Told::Done),
-            (Step::Drop, 513, Told::Done),
-        ],
-    );
+    reach_each_edge(&rt, rt.alloc(), &mut groups)?;
+    compare(&rt, &mut groups, &THREE_MORE);
     groups.notice(FRIEND);
-    let packed = packs(&mut groups, rt.alloc(), FRIEND, ROOM, &[])?;
-    assert!(&rt; packed);
+    give(&rt, rt.alloc(), &mut groups, &NOTHING)?;
     Ok(())
 }

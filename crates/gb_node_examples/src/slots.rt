@@ -2,7 +2,7 @@
 ghost use Rattle.std.specs.Prelude.{IfOk};
 ghost use Rattle.gb_slot.specs.Effects.{AreReady, IsEmpty};
 
-use crate::steps::{FRIEND, ME, OTHER, STRANGER, Step, compare, node};
+use crate::slot_steps::{FRIEND, ME, OTHER, STRANGER, Step, compare, node};
 use gb_layer::effects::Effects;
 use gb_slot::slot::Slot;
 use gb_types::kind::Kind;

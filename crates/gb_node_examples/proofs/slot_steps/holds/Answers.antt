@@ -3,7 +3,7 @@ use Rattle.gb_types.specs.declared.spec.Spec.{Spec}
 use Rattle.gb_slot.specs.Effects.{AreReady}
 use Rattle.gb_slot.specs.SlotState.{SlotState}
 use Rattle.gb_slot.specs.SpecLemmas.{spec-came, spec-noticed, still_ready}
-use Rattle.gb_slot_examples.proofs.steps.holds.Goals as goal
+use Rattle.gb_node_examples.proofs.slot_steps.holds.Goals as goal
 
 pub returns-in-Came : goal.returns-in-Came
 returns-in-Came c =
