@@ -124,25 +124,31 @@ pub fn fetch(events: &mut Vec<Event>, node: NodeId, tenant: u16) -> Result<(), O
 /// the second node, which then stops; the logs are asked for.
 pub fn events(alloc: Global) -> Result<Vec<Event>, OutOfMemory> {
     let mut events = Vec::new(alloc);
-    for node in [FIRST, SECOND] {
-        for tenant in TENANTS {
-            furnish(&mut events, node, tenant, spec())?;
-        }
+    add_events(alloc, &mut events)?;
+    Ok(events)
+}
+
+fn add_events(alloc: Global, events: &mut Vec<Event>) -> Result<(), OutOfMemory> {
+    for tenant in &TENANTS {
+        furnish(events, FIRST, *tenant, spec())?;
     }
-    for tenant in TENANTS {
-        say(alloc, &mut events, FIRST, tenant)?;
+    for tenant in &TENANTS {
+        furnish(events, SECOND, *tenant, spec())?;
+    }
+    for tenant in &TENANTS {
+        say(alloc, events, FIRST, *tenant)?;
     }
     events.push(Event::At(FIRST, NodeEvent::Pack(SECOND)))?;
     events.push(Event::Arrive(1))?;
     events.push(Event::Arrive(1))?;
     let addr = group_of(7);
     let forged = Request::Fetch(member(addr, SECOND), addr, 0, 16);
-    ask(&mut events, FIRST, forged)?;
-    drop_group(&mut events, SECOND, 9)?;
-    fetch(&mut events, SECOND, 7)?;
+    ask(events, FIRST, forged)?;
+    drop_group(events, SECOND, 9)?;
+    fetch(events, SECOND, 7)?;
     events.push(Event::At(SECOND, NodeEvent::Stop))?;
-    fetch(&mut events, SECOND, 8)?;
-    Ok(events)
+    fetch(events, SECOND, 8)?;
+    Ok(())
 }
 
 fn step(steps: &mut Vec<GroupStep>, node: NodeId, event: GroupEvent) -> Result<(), OutOfMemory> {
@@ -153,28 +159,33 @@ fn step(steps: &mut Vec<GroupStep>, node: NodeId, event: GroupEvent) -> Result<(
 /// What of this concerns a tenant's group, written by hand.
 pub fn steps(alloc: Global, tenant: u16) -> Result<Vec<GroupStep>, OutOfMemory> {
     let mut steps = Vec::new(alloc);
-    for node in [FIRST, SECOND] {
-        step(
-            &mut steps,
-            node,
-            GroupEvent::Tenant(Reserve::of(&row(tenant))),
-        )?;
-        step(&mut steps, node, GroupEvent::Make(spec()))?;
-        step(&mut steps, node, GroupEvent::Open)?;
-    }
+    add_steps(alloc, tenant, &mut steps)?;
+    Ok(steps)
+}
+
+/// The group is made and opened at a node.
+fn begin(steps: &mut Vec<GroupStep>, node: NodeId, tenant: u16) -> Result<(), OutOfMemory> {
+    step(steps, node, GroupEvent::Tenant(Reserve::of(&row(tenant))))?;
+    step(steps, node, GroupEvent::Make(spec()))?;
+    step(steps, node, GroupEvent::Open)
+}
+
+fn add_steps(alloc: Global, tenant: u16, steps: &mut Vec<GroupStep>) -> Result<(), OutOfMemory> {
+    begin(steps, FIRST, tenant)?;
+    begin(steps, SECOND, tenant)?;
     let payload = Payload::from_slice(alloc, &tenant.to_be_bytes())?;
-    step(&mut steps, FIRST, GroupEvent::Say(payload))?;
-    step(&mut steps, FIRST, GroupEvent::Took(SECOND, 1))?;
-    step(&mut steps, SECOND, GroupEvent::Came(FIRST, 1))?;
+    step(steps, FIRST, GroupEvent::Say(payload))?;
+    step(steps, FIRST, GroupEvent::Took(SECOND, 1))?;
+    step(steps, SECOND, GroupEvent::Came(FIRST, 1))?;
     if tenant == 7 {
-        step(&mut steps, SECOND, GroupEvent::Fetch(0, 16))?;
+        step(steps, SECOND, GroupEvent::Fetch(0, 16))?;
     }
     if tenant == 8 {
-        step(&mut steps, SECOND, GroupEvent::Stop)?;
-        step(&mut steps, SECOND, GroupEvent::Fetch(0, 16))?;
+        step(steps, SECOND, GroupEvent::Stop)?;
+        step(steps, SECOND, GroupEvent::Fetch(0, 16))?;
     }
     if tenant == 9 {
-        step(&mut steps, SECOND, GroupEvent::Drop)?;
+        step(steps, SECOND, GroupEvent::Drop)?;
     }
-    Ok(steps)
+    Ok(())
 }

@@ -26,6 +26,7 @@ use gb_types::refusal::Refusal;
 use gb_types::reply::Reply;
 use gb_types::request::Request;
 use std::alloc::Global;
+use std::process::Abort;
 use std::rt::HostRuntime;
 use std::test::Fail;
 
@@ -146,14 +147,14 @@ fn read_all(
     Ok(None)
 }
 
-/// The plan of a schedule and its events, if each of its lines spells a command in its place.
-fn read(alloc: Global, lines: &[&[u8]]) -> Result<Option<(Plan, Vec<Event>)>, OutOfMemory> {
+/// The plan of a schedule, with its events added, if each of its lines spells a command in its place.
+fn read(
+    alloc: Global,
+    lines: &[&[u8]],
+    events: &mut Vec<Event>,
+) -> Result<Option<Plan>, OutOfMemory> {
     let mut keys = Keys::new(alloc);
-    let mut events = Vec::new(alloc);
-    match read_all(alloc, &mut keys, lines, &mut events)? {
-        Some(plan) => Ok(Some((plan, events))),
-        None => Ok(None),
-    }
+    read_all(alloc, &mut keys, lines, events)
 }
 
 /// The group that an event names, if it is a request that names one.
@@ -184,6 +185,24 @@ fn groups_of(alloc: Global, events: &[Event]) -> Result<Vec<Addr>, OutOfMemory> 
     Ok(groups)
 }
 
+/// Whether each of these groups is seen in the run as it is alone.
+fn each_is_alone(
+    alloc: Global,
+    plan: &Plan,
+    events: &[Event],
+    trace: &Trace,
+    groups: &[Addr],
+) -> Result<bool, OutOfMemory>
+    requires { IsClusterPlan plan.now }
+{
+    for addr in groups {
+        if projection(alloc, plan, events, trace, *addr)?.is_none() {
+            return Ok(false);
+        }
+    }
+    Ok(true)
+}
+
 /// Whether there are groups, and each is seen in the run as it is alone.
 fn are_alone(
     alloc: Global,
@@ -194,12 +213,7 @@ fn are_alone(
     requires { IsClusterPlan plan.now }
 {
     let groups = groups_of(alloc, events)?;
-    for addr in groups.as_slice() {
-        if projection(alloc, plan, events, trace, *addr)?.is_none() {
-            return Ok(false);
-        }
-    }
-    Ok(!groups.is_empty())
+    Ok(!groups.is_empty() && each_is_alone(alloc, plan, events, trace, &groups)?)
 }
 
 /// Whether an answer is one to such an event.
@@ -251,9 +265,18 @@ fn is_right(stopped: &NodeSet, sent: &[Posted], event: &Event, answer: &Answer) 
     }
 }
 
-/// Whether each answer of a run is.
-fn are_right(events: &[Event], trace: &Trace) -> bool {
-    let (answers, packets) = (trace.answers.as_slice(), trace.packets.as_slice());
+/// What an event and its answer change: which nodes have stopped, and how many packets were sent.
+fn pass(event: &Event, answer: &Answer, stopped: &mut NodeSet, sent: &mut usize) {
+    if let Event::At(node, NodeEvent::Stop) = event {
+        stopped.insert(*node);
+    }
+    if let Answer::Sent(Sending::Packet(_)) = answer {
+        *sent = sent.saturating_add(1);
+    }
+}
+
+/// Whether each answer of a run is, and it sent these packets.
+fn are_right(events: &[Event], answers: &[Answer], packets: &[Posted]) -> bool {
     if answers.len() != events.len() {
         return false;
     }
@@ -263,14 +286,22 @@ fn are_right(events: &[Event], trace: &Trace) -> bool {
         if sent > packets.len() || !is_right(&stopped, &packets[..sent], &events[i], &answers[i]) {
             return false;
         }
-        if let Event::At(node, NodeEvent::Stop) = &events[i] {
-            stopped.insert(*node);
-        }
-        if let Answer::Sent(Sending::Packet(_)) = &answers[i] {
-            sent += 1;
-        }
+        pass(&events[i], &answers[i], &mut stopped, &mut sent);
     }
     sent == packets.len()
+}
+
+/// Whether all is right in a run.
+fn is_right_trace(
+    alloc: Global,
+    plan: &Plan,
+    events: &[Event],
+    trace: &Trace,
+) -> Result<bool, OutOfMemory>
+    requires { IsClusterPlan plan.now }
+{
+    let (answers, packets) = (trace.answers.as_slice(), trace.packets.as_slice());
+    Ok(are_right(events, answers, packets) && are_alone(alloc, plan, events, trace)?)
 }
 
 /// The trace of these events, if a cluster may be started so and all is right in it.
@@ -279,27 +310,40 @@ fn right_trace(alloc: Global, plan: Plan, events: &[Event]) -> Result<Option<Tra
         return Ok(None);
     }
     let trace = run(alloc, plan, events)?;
-    if are_right(events, &trace) && are_alone(alloc, &plan, events, &trace)? {
+    if is_right_trace(alloc, &plan, events, &trace)? {
         return Ok(Some(trace));
     }
     Ok(None)
 }
 
-/// Whether all is right in a run of a schedule with such a stop: how many events come before it, and where it is.
-fn is_right_with(
+/// Whether all is right in a run of a schedule with such a stop: how many events come before it, and where it is. The events are
+/// added to a list, which is empty before.
+fn read_with_stop(
     alloc: Global,
     lines: &[&[u8]],
     place: usize,
     node: NodeId,
+    events: &mut Vec<Event>,
 ) -> Result<bool, OutOfMemory> {
-    let Some((plan, mut events)) = read(alloc, lines)? else {
+    let Some(plan) = read(alloc, lines, events)? else {
         return Ok(false);
     };
     if place > events.len() {
         return Ok(false);
     }
     events.insert(place, Event::At(node, NodeEvent::Stop))?;
-    Ok(right_trace(alloc, plan, &events)?.is_some())
+    Ok(right_trace(alloc, plan, events)?.is_some())
+}
+
+/// Whether all is right in a run of a schedule with such a stop.
+fn is_right_with(
+    alloc: Global,
+    lines: &[&[u8]],
+    place: usize,
+    node: NodeId,
+) -> Result<bool, OutOfMemory> {
+    let mut events = Vec::new(alloc);
+    read_with_stop(alloc, lines, place, node, &mut events)
 }
 
 /// The first stop with which something is wrong: how many events come before it, and the number of its node.
@@ -345,66 +389,82 @@ fn are_fetched(answers: &[Answer], logs: &[usize]) -> bool {
     left.is_empty()
 }
 
-/// Whether all is right in a run of the schedule as it is, for so many nodes, with these logs.
+/// Whether all is right in a run of the schedule as it is, for so many nodes, with these logs. The events are added to a list, which
+/// is empty before.
+fn read_as_it_is(
+    alloc: Global,
+    lines: &[&[u8]],
+    nodes: u8,
+    logs: &[usize],
+    events: &mut Vec<Event>,
+) -> Result<bool, OutOfMemory> {
+    let Some(plan) = read(alloc, lines, events)? else {
+        return Ok(false);
+    };
+    let Some(trace) = right_trace(alloc, plan, events)? else {
+        return Ok(false);
+    };
+    Ok(plan.nodes == nodes && are_fetched(trace.answers.as_slice(), logs))
+}
+
+/// Whether all is right in a run of the schedule as it is.
 fn is_worked(
     alloc: Global,
     lines: &[&[u8]],
     nodes: u8,
     logs: &[usize],
 ) -> Result<bool, OutOfMemory> {
-    let Some((plan, events)) = read(alloc, lines)? else {
-        return Ok(false);
-    };
-    let Some(trace) = right_trace(alloc, plan, &events)? else {
-        return Ok(false);
-    };
-    Ok(plan.nodes == nodes && are_fetched(trace.answers.as_slice(), logs))
+    let mut events = Vec::new(alloc);
+    read_as_it_is(alloc, lines, nodes, logs, &mut events)
+}
+
+/// All is right in a run of the schedule as it is, with these logs, and in one with a stop of each of so many nodes after each event.
+fn compare(
+    rt: &impl Abort,
+    alloc: Global,
+    lines: &[&[u8]],
+    nodes: u8,
+    logs: &[usize],
+) -> Result<(), OutOfMemory> {
+    let worked = is_worked(alloc, lines, nodes, logs)?;
+    assert!(rt; worked);
+    let wrong = first_wrong(alloc, lines, nodes)?;
+    assert_eq!(rt; wrong, None);
+    Ok(())
 }
 
 #[test]
 fn a_stop_after_each_event_of_an_empty_payload(rt: HostRuntime) -> Result<(), Fail> {
-    assert!(rt; is_worked(rt.alloc(), &EMPTY_PAYLOAD, 3, &[1, 1, 1])?);
-    let wrong = first_wrong(rt.alloc(), &EMPTY_PAYLOAD, 3)?;
-    assert_eq!(rt; wrong, None);
+    compare(&rt, rt.alloc(), &EMPTY_PAYLOAD, 3, &[1, 1, 1])?;
     Ok(())
 }
 
 #[test]
 fn a_stop_after_each_event_of_two_messages_in_fifo_order(rt: HostRuntime) -> Result<(), Fail> {
-    assert!(rt; is_worked(rt.alloc(), &FIFO, 2, &[0, 2])?);
-    let wrong = first_wrong(rt.alloc(), &FIFO, 2)?;
-    assert_eq!(rt; wrong, None);
+    compare(&rt, rt.alloc(), &FIFO, 2, &[0, 2])?;
     Ok(())
 }
 
 #[test]
 fn a_stop_after_each_event_of_two_messages_by_best_effort(rt: HostRuntime) -> Result<(), Fail> {
-    assert!(rt; is_worked(rt.alloc(), &BEST_EFFORT, 2, &[1, 2])?);
-    let wrong = first_wrong(rt.alloc(), &BEST_EFFORT, 2)?;
-    assert_eq!(rt; wrong, None);
+    compare(&rt, rt.alloc(), &BEST_EFFORT, 2, &[1, 2])?;
     Ok(())
 }
 
 #[test]
 fn a_stop_after_each_event_of_a_lazy_relay(rt: HostRuntime) -> Result<(), Fail> {
-    assert!(rt; is_worked(rt.alloc(), &LAZY_RELAY, 3, &[1, 2])?);
-    let wrong = first_wrong(rt.alloc(), &LAZY_RELAY, 3)?;
-    assert_eq!(rt; wrong, None);
+    compare(&rt, rt.alloc(), &LAZY_RELAY, 3, &[1, 2])?;
     Ok(())
 }
 
 #[test]
 fn a_stop_after_each_event_of_unlike_specs(rt: HostRuntime) -> Result<(), Fail> {
-    assert!(rt; is_worked(rt.alloc(), &UNLIKE_SPECS, 3, &[0, 1])?);
-    let wrong = first_wrong(rt.alloc(), &UNLIKE_SPECS, 3)?;
-    assert_eq!(rt; wrong, None);
+    compare(&rt, rt.alloc(), &UNLIKE_SPECS, 3, &[0, 1])?;
     Ok(())
 }
 
 #[test]
 fn a_stop_after_each_event_of_acknowledgements_by_all(rt: HostRuntime) -> Result<(), Fail> {
-    assert!(rt; is_worked(rt.alloc(), &ALL_ACK, 2, &[0, 1, 1])?);
-    let wrong = first_wrong(rt.alloc(), &ALL_ACK, 2)?;
-    assert_eq!(rt; wrong, None);
+    compare(&rt, rt.alloc(), &ALL_ACK, 2, &[0, 1, 1])?;
     Ok(())
 }
