@@ -19,6 +19,7 @@ use gb_host::names::Tapes;
 use gb_host::plan::HostPlan;
 use gb_serve_words::plan::ServePlan;
 use gb_serve_words::words::read_words;
+use gb_types::memory::OutOfMemory;
 use gb_types::plan::Plan;
 use std::alloc::Global;
 use std::io::{Read, Write};
@@ -54,6 +55,14 @@ fn host_plan(plan: ServePlan, keys: Keys) -> HostPlan
     }
 }
 
+// Writes the line that tells what is served. False: it could not be written.
+fn announce<W: Write>(alloc: Global, plan: ServePlan, writer: &mut W) -> Result<bool, OutOfMemory>
+    ensures { result ≡ Ok true → Appends (W.contents writer.old) (W.contents writer.new) (serving_line plan.nodes plan.base_port) }
+{
+    let line = serving_line(alloc, plan.nodes, plan.base_port)?;
+    Ok(tell(writer, &line))
+}
+
 // Serves on sockets that are bound.
 fn serve_host<
     L: Tapes + Send + Sync,
@@ -81,8 +90,7 @@ fn serve_host<
 {
     let seats = 2 * u32::from(plan.cluster.nodes) + 1;
     let (host, seats) = Host::<L, M>::open(alloc, plan, seats, tape_blank, seat_blank)?;
-    let line = serving_line(alloc, serve.nodes, serve.base_port)?;
-    if !tell(writer, &line) {
+    if !announce(alloc, serve, writer)? {
         return Err(ServeFault::Write);
     }
     let seats = hold(rt, alloc, &host, seats, sockets, serve.sessions)?;
