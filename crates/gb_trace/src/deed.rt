@@ -94,6 +94,16 @@ fn sent_of(alloc: Global, packets: &[Posted], sending: Sending) -> Result<Option
     }
 }
 
+/// The answer that tells what the node sent, where that is known.
+fn sent_answer(sent: Option<Sent>) -> Option<NodeAnswer>
+    ensures { MatchOption result (sent ≡ None) (λ a. MatchOption sent (result ≡ None) (λ s. a ≡ NodeAnswer.Sent s)) }
+{
+    match sent {
+        None => None,
+        Some(sent) => Some(NodeAnswer::Sent(sent)),
+    }
+}
+
 /// What a tick brought to light, copied.
 fn ticked_of(ticked: &Ticked) -> Ticked
     ensures { result ≡ ticked.now }
@@ -115,10 +125,7 @@ fn answer_of(
     match answer {
         Answer::Reply(reply) => Ok(Some(NodeAnswer::Reply(reply.duplicate(alloc)?))),
         Answer::Taken(taken) => Ok(Some(NodeAnswer::Taken(*taken))),
-        Answer::Sent(sending) => match sent_of(alloc, packets, *sending)? {
-            None => Ok(None),
-            Some(sent) => Ok(Some(NodeAnswer::Sent(sent))),
-        },
+        Answer::Sent(sending) => Ok(sent_answer(sent_of(alloc, packets, *sending)?)),
         Answer::Ticked(ticked) => Ok(Some(NodeAnswer::Ticked(ticked_of(ticked)))),
         Answer::Halted(halted) => Ok(Some(NodeAnswer::Halted(*halted))),
         Answer::NoPacket => Ok(None),
@@ -128,14 +135,16 @@ fn answer_of(
 
 /// Adds what happened at the node, if its answer is there.
 fn add(
+    alloc: Global,
+    packets: &[Posted],
     node: NodeId,
     event: NodeEvent,
-    answer: Option<NodeAnswer>,
+    answer: &Answer,
     deeds: &mut Vec<Deed>,
 ) -> Result<(), OutOfMemory>
-    ensures { OnOk result (deeds.new.items ≡ deeds.old.items ++ did_with node event answer) }
+    ensures { OnOk result (deeds.new.items ≡ deeds.old.items ++ did_with node event (own_answer packets.now answer.now)) }
 {
-    if let Some(answer) = answer {
+    if let Some(answer) = answer_of(alloc, packets, answer)? {
         deeds.push(Deed {
             node,
             event,
@@ -155,14 +164,16 @@ fn add_deed(
 ) -> Result<(), OutOfMemory>
     ensures { OnOk result (deeds.new.items ≡ deeds.old.items ++ did_in packets.now event.now answer.now) }
 {
-    let own = answer_of(alloc, packets, answer)?;
     match event {
-        Event::At(node, event) => add(*node, event.duplicate(alloc)?, own, deeds),
+        Event::At(node, event) => {
+            let event = event.duplicate(alloc)?;
+            add(alloc, packets, *node, event, answer, deeds)
+        }
         Event::Arrive(number) => match packet_of(packets, *number) {
             None => Ok(()),
             Some(packet) => {
-                let text = copied(alloc, &packet.text)?;
-                add(packet.to, NodeEvent::Packet(text), own, deeds)
+                let event = NodeEvent::Packet(copied(alloc, &packet.text)?);
+                add(alloc, packets, packet.to, event, answer, deeds)
             }
         },
     }
