@@ -1,8 +1,8 @@
 //! The worker that answers a client's requests.
-ghost use Rattle.std.specs.Prelude.{◌≡◌, true, IfOk, OnErr};
+ghost use Rattle.std.specs.Prelude.{◌≡◌, ◌⊎◌, true, IfOk, IfErr, OnErr};
 ghost use Rattle.gb_session.specs.Runs.{HasAsked};
 ghost use Rattle.gb_session.specs.Sessions.{IsSession};
-ghost use Rattle.gb_worker.specs.Asked.{AnswersAt};
+ghost use Rattle.gb_worker.specs.Asked.{AnswersAt, reply_of};
 
 use gb_host::fault::HostFault;
 use gb_host::gate::Gate;
@@ -21,6 +21,19 @@ use std::alloc::Global;
 use std::io::{Read, Write};
 use std::sync::Wait;
 use std::sync::ledger::Ledger;
+
+// What a client is told of a call: the node's reply, OutOfMemory where the host had no memory for the call, and Stopped at any
+// other fault of the host.
+fn reply_of(outcome: Result<NodeAnswer, HostFault>) -> Reply
+    ensures answered { IfOk outcome (λ a. result ≡ reply_of a) }
+    ensures fault { IfErr outcome (λ _. (result ≡ Reply.Refused Refusal.Stopped) ⊎ (result ≡ Reply.Refused Refusal.OutOfMemory)) }
+{
+    match outcome {
+        Ok(NodeAnswer::Reply(reply)) => reply,
+        Err(HostFault::OutOfMemory) => Reply::Refused(Refusal::OutOfMemory),
+        _ => Reply::Refused(Refusal::Stopped),
+    }
+}
 
 // Who answers a session's requests: a node of a host, asked from a seat, as long as a gate is passed.
 #[derive(Drop)]
@@ -46,11 +59,7 @@ impl<'a, L: Tapes, M: Ledger, H: Wait, G: Gate> Answers for Desk<'a, L, M, H, G>
             return Reply::Refused(Refusal::Stopped);
         }
         let event = NodeEvent::Request(request);
-        match self.host.call(self.rt, self.seat, self.node, event) {
-            Ok(NodeAnswer::Reply(reply)) => reply,
-            Err(HostFault::OutOfMemory) => Reply::Refused(Refusal::OutOfMemory),
-            _ => Reply::Refused(Refusal::Stopped),
-        }
+        reply_of(self.host.call(self.rt, self.seat, self.node, event))
     }
 }
 
