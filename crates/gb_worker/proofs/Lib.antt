@@ -3,3 +3,4 @@ pub mod TickLemmas
 pub mod TurnLemmas
 pub mod CarryLemmas
 pub mod AskLemmas
+pub mod CallLemmas
