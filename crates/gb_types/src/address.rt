@@ -9,7 +9,7 @@ use std::hash::{Hash, Hasher};
 pub type TenantId = u16;
 
 /// The address of a group: its tenant, and its number among the tenant's groups.
-#[derive(Clone, Copy, PartialEq, Eq, Debug)]
+#[derive(Clone, Copy, PartialEq, Eq)]
 pub struct Addr {
     pub tenant: TenantId,
     pub group: u16,

@@ -9,7 +9,7 @@ use std::alloc::Global;
 use std::marker::Model;
 
 /// A message with what it says.
-#[derive(Debug, Drop)]
+#[derive(Drop)]
 pub struct Entry {
     pub origin: NodeId,
     /// 1 for the first message of its origin in its group.
@@ -44,7 +44,7 @@ impl Entry {
 }
 
 /// Entries in order. Contracts see the list.
-#[derive(Debug, Drop)]
+#[derive(Drop)]
 pub struct Entries {
     items: Vec<Entry>,
 }

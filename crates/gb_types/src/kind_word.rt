@@ -9,15 +9,23 @@ use crate::kind::Kind;
 pub fn read_kind(word: &[u8]) -> Option<Kind>
     ensures { (k : Kind) → (result ≡ Some k) ↔ (word.now ≡ kind_word k) }
 {
-    match word {
-        b"beb" => Some(Kind::Beb),
-        b"lazy" => Some(Kind::Lazy),
-        b"eager" => Some(Kind::Eager),
-        b"allack" => Some(Kind::AllAck),
-        b"fbeb" => Some(Kind::FifoBeb),
-        b"flazy" => Some(Kind::FifoLazy),
-        b"feager" => Some(Kind::FifoEager),
-        b"fallack" => Some(Kind::FifoAllAck),
-        _ => None,
+    if word == b"beb" {
+        Some(Kind::Beb)
+    } else if word == b"lazy" {
+        Some(Kind::Lazy)
+    } else if word == b"eager" {
+        Some(Kind::Eager)
+    } else if word == b"allack" {
+        Some(Kind::AllAck)
+    } else if word == b"fbeb" {
+        Some(Kind::FifoBeb)
+    } else if word == b"flazy" {
+        Some(Kind::FifoLazy)
+    } else if word == b"feager" {
+        Some(Kind::FifoEager)
+    } else if word == b"fallack" {
+        Some(Kind::FifoAllAck)
+    } else {
+        None
     }
 }

@@ -48,7 +48,7 @@ impl NodeId {
 }
 
 /// A set of nodes. Contracts see a finite set of their numbers.
-#[derive(Debug, Drop)]
+#[derive(Drop)]
 pub struct NodeSet {
     /// The bit with a node's number is 1 where the node is in the set.
     bits: u16,

@@ -1,7 +1,7 @@
 //! The plan of a cluster.
 
 /// What a cluster is started with.
-#[derive(Clone, Copy, PartialEq, Eq, Debug)]
+#[derive(Clone, Copy)]
 pub struct Plan {
     /// How many nodes there are: 1 to 16.
     pub nodes: u8,

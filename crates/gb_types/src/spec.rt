@@ -34,7 +34,7 @@ impl Spec {
 }
 
 /// A tenant at a node, and the most that each of its groups may be made with.
-#[derive(Clone, Copy, PartialEq, Eq, Debug)]
+#[derive(Clone, Copy, PartialEq, Eq)]
 pub struct TenantRow {
     pub tenant: TenantId,
     /// The key of the tenant's tokens.
