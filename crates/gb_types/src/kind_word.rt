@@ -5,27 +5,45 @@ ghost use Rattle.gb_types.specs.KindWord.{kind_word};
 
 use crate::kind::Kind;
 
+/// The word for a kind.
+fn word_of(kind: Kind) -> &'static [u8]
+    ensures { result.now ≡ kind_word kind }
+{
+    match kind {
+        Kind::Beb => b"beb",
+        Kind::Lazy => b"lazy",
+        Kind::Eager => b"eager",
+        Kind::AllAck => b"allack",
+        Kind::FifoBeb => b"fbeb",
+        Kind::FifoLazy => b"flazy",
+        Kind::FifoEager => b"feager",
+        Kind::FifoAllAck => b"fallack",
+    }
+}
+
+/// The only kind that a word can name, by its first letters.
+fn kind_like(word: &[u8]) -> Option<Kind>
+    ensures { (k : Kind) → word.now ≡ kind_word k → result ≡ Some k }
+{
+    match word {
+        [b'b', ..] => Some(Kind::Beb),
+        [b'l', ..] => Some(Kind::Lazy),
+        [b'e', ..] => Some(Kind::Eager),
+        [b'a', ..] => Some(Kind::AllAck),
+        [b'f', b'b', ..] => Some(Kind::FifoBeb),
+        [b'f', b'l', ..] => Some(Kind::FifoLazy),
+        [b'f', b'e', ..] => Some(Kind::FifoEager),
+        [b'f', b'a', ..] => Some(Kind::FifoAllAck),
+        _ => None,
+    }
+}
+
 /// The kind that a word names.
 pub fn read_kind(word: &[u8]) -> Option<Kind>
     ensures { (k : Kind) → (result ≡ Some k) ↔ (word.now ≡ kind_word k) }
 {
-    if word == b"beb" {
-        Some(Kind::Beb)
-    } else if word == b"lazy" {
-        Some(Kind::Lazy)
-    } else if word == b"eager" {
-        Some(Kind::Eager)
-    } else if word == b"allack" {
-        Some(Kind::AllAck)
-    } else if word == b"fbeb" {
-        Some(Kind::FifoBeb)
-    } else if word == b"flazy" {
-        Some(Kind::FifoLazy)
-    } else if word == b"feager" {
-        Some(Kind::FifoEager)
-    } else if word == b"fallack" {
-        Some(Kind::FifoAllAck)
-    } else {
-        None
+    match kind_like(word) {
+        Some(kind) if word == word_of(kind) => Some(kind),
+        _ => None,
     }
 }

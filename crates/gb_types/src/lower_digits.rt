@@ -20,6 +20,21 @@ fn guess_digit(digit: u8) -> u8 {
     (digit & 15).wrapping_add((digit >> 6).wrapping_mul(9))
 }
 
+/// The byte that two hexadecimal digits write. Of any other characters some byte.
+#[inline(always)]
+fn guess_byte(high: u8, low: u8) -> u8 {
+    guess_digit(high)
+        .wrapping_mul(16)
+        .wrapping_add(guess_digit(low))
+}
+
+/// Fills bytes with what pairs of digits write, as they are guessed.
+fn guess_bytes(bytes: &mut [u8], pairs: &[[u8; 2]]) {
+    for (byte, [high, low]) in bytes.iter_mut().zip(pairs) {
+        *byte = guess_byte(*high, *low);
+    }
+}
+
 /// Whether the digits of a block of bytes are these: true only where they are.
 fn is_block_spelled(bytes: &[u8; BLOCK], word: &[u8; DIGITS]) -> bool
     ensures { result ≡ true → encode_lower bytes.now ≡ word.now }
@@ -69,14 +84,7 @@ pub fn read_lower(alloc: Global, word: &[u8]) -> Result<Option<Vec<u8>>, OutOfMe
     let (pairs, _) = word.as_chunks::<2>();
     let mut bytes = vec![in alloc; 0u8; pairs.len()]?;
     // Any bytes will do here: they are looked at below.
-    for (byte, [high, low]) in bytes.iter_mut().zip(pairs) {
-        *byte = guess_digit(*high)
-            .wrapping_mul(16)
-            .wrapping_add(guess_digit(*low));
-    }
-    if is_spelled(bytes.as_slice(), word) {
-        Ok(Some(bytes))
-    } else {
-        Ok(None)
-    }
+    guess_bytes(bytes.as_mut_slice(), pairs);
+    let is_found = is_spelled(bytes.as_slice(), word);
+    Ok(is_found.then_some(bytes))
 }

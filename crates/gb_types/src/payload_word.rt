@@ -1,12 +1,12 @@
 //! Payloads in words: hexadecimal digits, or `-` for no bytes.
-ghost use Rattle.std.specs.Prelude.{◌≡◌, ◌≤◌, ◌*◌, ◌++◌, length, IfOk, OnOk, OnErr};
+ghost use Rattle.std.specs.Prelude.{◌≡◌, ◌≤◌, ◌+◌, ◌*◌, ◌++◌, length, IfSome, IfOk, OnOk, OnErr};
 ghost use Rattle.std.specs.Result.{result_ok};
-ghost use Rattle.hex.specs.Hex.{decode_of};
+ghost use Rattle.hex.specs.Hex.{decode_of, encode_lower};
 ghost use Rattle.gb_types.specs.declared.payload.TheConstants.{INLINE};
 ghost use Rattle.gb_types.specs.PayloadWord.{payload_of, payload_word};
 
 use crate::lower_digits::read_lower;
-use crate::memory::OutOfMemory;
+use crate::memory::{OutOfMemory, put_bytes};
 use crate::payload::{INLINE, Payload};
 use hex::FromHexError;
 use std::alloc::Global;
@@ -51,19 +51,32 @@ pub fn read_payload(alloc: Global, word: &[u8]) -> Result<Option<Payload>, OutOf
     }
 }
 
+/// Where the digits of bytes end that begin at a place, where this is a place at all.
+fn digits_end(start: usize, bytes: &[u8]) -> Option<usize>
+    ensures { IfSome result (λ end. end ≡ start + length bytes.now * 2) }
+{
+    start.checked_add(bytes.len().checked_mul(2)?)
+}
+
+/// Appends the digits of bytes, in lower case. Without memory nothing has changed.
+fn put_digits(out: &mut Vec<u8>, bytes: &[u8]) -> Result<(), OutOfMemory>
+    ensures ok { OnOk result (out.new.items ≡ out.old.items ++ encode_lower bytes.now) }
+    ensures err { OnErr result (out.new.items ≡ out.old.items) }
+{
+    let start = out.len();
+    let end = digits_end(start, bytes).ok_or(OutOfMemory)?;
+    out.resize(end, 0)?;
+    hex::encode_to_slice(bytes, &mut out[start..]).unwrap();
+    Ok(())
+}
+
 /// Appends the word for these bytes, in lower case. Without memory nothing has changed.
 pub fn put_payload(out: &mut Vec<u8>, bytes: &[u8]) -> Result<(), OutOfMemory>
     ensures ok { OnOk result (out.new.items ≡ out.old.items ++ payload_word bytes.now) }
     ensures err { OnErr result (out.new.items ≡ out.old.items) }
 {
     if bytes.is_empty() {
-        out.extend_from_slice(b"-")?;
-        return Ok(());
+        return put_bytes(out, b"-");
     }
-    let start = out.len();
-    let digits = bytes.len().checked_mul(2).ok_or(OutOfMemory)?;
-    let end = start.checked_add(digits).ok_or(OutOfMemory)?;
-    out.resize(end, 0)?;
-    hex::encode_to_slice(bytes, &mut out[start..]).unwrap();
-    Ok(())
+    put_digits(out, bytes)
 }

@@ -3,8 +3,9 @@ ghost use Rattle.std.specs.Prelude.{◌≡◌, ◌++◌, ◌∷◌, codes, IfOk,
 ghost use Rattle.std.specs.Io.{StartsWith};
 ghost use Rattle.gb_types.specs.ReplyText.{reply_spelling};
 
+use crate::entry::Entry;
 use crate::log_text::put_entries;
-use crate::memory::OutOfMemory;
+use crate::memory::{OutOfMemory, put_bytes};
 use crate::number::put_number;
 use crate::refusal::Refusal;
 use crate::reply::Reply;
@@ -34,6 +35,25 @@ fn refusal_text(why: Refusal) -> &'static [u8]
     }
 }
 
+/// Appends `said SEQ`.
+fn put_said(out: &mut Vec<u8>, seq: u16) -> Result<(), OutOfMemory>
+    ensures ok { OnOk result (out.new.items ≡ out.old.items ++ reply_spelling (Reply.Said seq)) }
+    ensures err { OnErr result (StartsWith out.new.items out.old.items) }
+{
+    put_bytes(out, b"said ")?;
+    put_number(out, u64::from(seq))
+}
+
+/// Appends `log COUNT` and the entries.
+fn put_log(out: &mut Vec<u8>, entries: &[Entry]) -> Result<(), OutOfMemory>
+    ensures ok { OnOk result (out.new.items ≡ out.old.items ++ reply_spelling (Reply.Log entries.now)) }
+    ensures err { OnErr result (StartsWith out.new.items out.old.items) }
+{
+    put_bytes(out, b"log ")?;
+    put_number(out, entries.len() as u64)?;
+    put_entries(out, entries)
+}
+
 /// Appends the text of a reply, without a line end: `ok`, `said SEQ`, `log COUNT` and then for each entry a space
 /// and `ORIGIN:SEQ:PAYLOAD`, or `refused NUMBER NAME`. Payloads are in lower case, or `-`. Without memory a part of it may
 /// stand behind what was there.
@@ -42,19 +62,11 @@ pub fn put_reply(out: &mut Vec<u8>, reply: &Reply) -> Result<(), OutOfMemory>
     ensures err { OnErr result (StartsWith out.new.items out.old.items) }
 {
     match reply {
-        Reply::Done => out.extend_from_slice(b"ok")?,
-        Reply::Said(seq) => {
-            out.extend_from_slice(b"said ")?;
-            put_number(out, u64::from(*seq))?;
-        }
-        Reply::Log(entries) => {
-            out.extend_from_slice(b"log ")?;
-            put_number(out, entries.len() as u64)?;
-            put_entries(out, entries.as_slice())?;
-        }
-        Reply::Refused(why) => out.extend_from_slice(refusal_text(*why))?,
+        Reply::Done => put_bytes(out, b"ok"),
+        Reply::Said(seq) => put_said(out, *seq),
+        Reply::Log(entries) => put_log(out, entries.as_slice()),
+        Reply::Refused(why) => put_bytes(out, refusal_text(*why)),
     }
-    Ok(())
 }
 
 /// The text of a reply, as `put_reply` appends it.

@@ -35,6 +35,19 @@ pub fn read_address(tenant: &[u8], group: &[u8]) -> Option<Addr>
     Some(Addr { tenant, group })
 }
 
+/// The limits of a group: MSGS BYTES WINDOW.
+fn read_limits(msgs: &[u8], bytes: &[u8], window: &[u8]) -> Option<(u32, u32, u32)>
+    ensures { (n : ℕ × ℕ × ℕ) → (result ≡ Some n)
+        ↔ ((IsLong n.0 × (msgs.now ≡ decimal n.0))
+        × (IsLong n.1 × (bytes.now ≡ decimal n.1))
+        × (IsLong n.2 × (window.now ≡ decimal n.2))) }
+{
+    let msgs = read_u32(msgs)?;
+    let bytes = read_u32(bytes)?;
+    let window = read_u32(window)?;
+    Some((msgs, bytes, window))
+}
+
 /// What a group is made with: KIND MEMBERS MSGS BYTES WINDOW.
 pub fn read_spec(words: &[&[u8]]) -> Option<Spec>
     ensures { (spec : TheSpec) → (result ≡ Some spec)
@@ -44,10 +57,8 @@ pub fn read_spec(words: &[&[u8]]) -> Option<Spec>
         return None;
     };
     let kind = read_kind(kind)?;
+    let (msgs, bytes, window) = read_limits(msgs, bytes, window)?;
     let members = read_members(members)?;
-    let msgs = read_u32(msgs)?;
-    let bytes = read_u32(bytes)?;
-    let window = read_u32(window)?;
     Some(Spec {
         kind,
         members,
