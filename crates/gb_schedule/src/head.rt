@@ -24,27 +24,61 @@ pub enum Head {
     Stop,
 }
 
+/// The word for a head.
+fn word_of(head: Head) -> &'static [u8]
+    ensures { result.now ≡ head_word head }
+{
+    match head {
+        Head::Cluster => b"cluster",
+        Head::Tenant => b"tenant",
+        Head::Make => b"make",
+        Head::Open => b"open",
+        Head::Shut => b"shut",
+        Head::Drop => b"drop",
+        Head::Say => b"say",
+        Head::Fetch => b"fetch",
+        Head::Forge => b"forge",
+        Head::Pack => b"pack",
+        Head::Again => b"again",
+        Head::Ack => b"ack",
+        Head::Arrive => b"arrive",
+        Head::Noise => b"noise",
+        Head::Tick => b"tick",
+        Head::Stop => b"stop",
+    }
+}
+
+/// The only head that a word can name, by its first two letters.
+fn head_like(word: &[u8]) -> Option<Head>
+    ensures { (head : Head) → word.now ≡ head_word head → result ≡ Some head }
+{
+    match word {
+        [b'c', ..] => Some(Head::Cluster),
+        [b't', b'e', ..] => Some(Head::Tenant),
+        [b't', ..] => Some(Head::Tick),
+        [b'm', ..] => Some(Head::Make),
+        [b'o', ..] => Some(Head::Open),
+        [b's', b'h', ..] => Some(Head::Shut),
+        [b's', b'a', ..] => Some(Head::Say),
+        [b's', ..] => Some(Head::Stop),
+        [b'd', ..] => Some(Head::Drop),
+        [b'f', b'e', ..] => Some(Head::Fetch),
+        [b'f', ..] => Some(Head::Forge),
+        [b'p', ..] => Some(Head::Pack),
+        [b'a', b'g', ..] => Some(Head::Again),
+        [b'a', b'c', ..] => Some(Head::Ack),
+        [b'a', ..] => Some(Head::Arrive),
+        [b'n', ..] => Some(Head::Noise),
+        _ => None,
+    }
+}
+
 /// The head that a word names.
 pub fn read_head(word: &[u8]) -> Option<Head>
     ensures { (head : Head) → (result ≡ Some head) ↔ (word.now ≡ head_word head) }
 {
-    match word {
-        b"cluster" => Some(Head::Cluster),
-        b"tenant" => Some(Head::Tenant),
-        b"make" => Some(Head::Make),
-        b"open" => Some(Head::Open),
-        b"shut" => Some(Head::Shut),
-        b"drop" => Some(Head::Drop),
-        b"say" => Some(Head::Say),
-        b"fetch" => Some(Head::Fetch),
-        b"forge" => Some(Head::Forge),
-        b"pack" => Some(Head::Pack),
-        b"again" => Some(Head::Again),
-        b"ack" => Some(Head::Ack),
-        b"arrive" => Some(Head::Arrive),
-        b"noise" => Some(Head::Noise),
-        b"tick" => Some(Head::Tick),
-        b"stop" => Some(Head::Stop),
+    match head_like(word) {
+        Some(head) if word == word_of(head) => Some(head),
         _ => None,
     }
 }
