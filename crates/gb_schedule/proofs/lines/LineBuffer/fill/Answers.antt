@@ -1,3 +1,4 @@
+use Rattle.std.proofs.lemmas.Grind.{common_steps}
 use Rattle.std.proofs.Common.{◌≡◌, ◌-◌, take, length, ◌∙◌, ap, false, arith}
 use Rattle.std.specs.List.{copy_within}
 use Rattle.gb_schedule.proofs.CutLemmas.{read_behind_in}
@@ -13,3 +14,30 @@ returns-in-Ok-clause-left g c =
     (rw (← c.self.view_is) (read_behind_in b.bytes.items c.deref_mut.result.now c.read.new.buf _ b.start b.end (length c.deref_mut.result.now - (b.end - b.start)) c.in-Ok.count c.move_to_front.new.bytes.len
     (omega arith) (omega arith) moved (omega (arith, c.in-Ok.ensures.bound.0)) (omega arith) (omega arith) (omega arith)))
     c.in-Ok.ensures.bytes.0
+
+pub invariant_of-self : goal.invariant_of-self
+invariant_of-self g c = grind (arith, common_steps)
+
+pub returns-then-self-eq-READS-clause-left : goal.returns-then-self-eq-READS-clause-left
+returns-then-self-eq-READS-clause-left g c = grind (arith, common_steps)
+
+pub returns-then-self-eq-READS-clause-unread : goal.returns-then-self-eq-READS-clause-unread
+returns-then-self-eq-READS-clause-unread g c = grind (arith, common_steps)
+
+pub invariant_of-self-in-Ok-eq0 : goal.invariant_of-self-in-Ok-eq0
+invariant_of-self-in-Ok-eq0 g c = grind (arith, common_steps)
+
+pub invariant_of-self-in-Ok : goal.invariant_of-self-in-Ok
+invariant_of-self-in-Ok g c = grind (arith, common_steps)
+
+pub invariant_of-self-in-Err : goal.invariant_of-self-in-Err
+invariant_of-self-in-Err g c = grind (arith, common_steps)
+
+pub returns-in-Ok-eq0-clause-left : goal.returns-in-Ok-eq0-clause-left
+returns-in-Ok-eq0-clause-left g c = grind (arith, common_steps)
+
+pub returns-in-Err-clause-left : goal.returns-in-Err-clause-left
+returns-in-Err-clause-left g c = grind (arith, common_steps)
+
+pub returns-in-Err-clause-unread : goal.returns-in-Err-clause-unread
+returns-in-Err-clause-unread g c = grind (arith, common_steps)
