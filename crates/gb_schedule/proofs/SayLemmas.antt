@@ -19,7 +19,7 @@ use Rattle.gb_schedule.specs.declared.head.Head.{Head}
 use Rattle.gb_schedule.specs.declared.head.Head.TheVariants as heads
 use Rattle.gb_schedule.specs.Head.{head_word}
 use Rattle.gb_schedule.specs.Keys.{member_token}
-use Rattle.gb_schedule.specs.Numbers.{IsNumberAt}
+use Rattle.gb_schedule.specs.Numbers.{IsNumberAt, BeginsWithNoNumber}
 use Rattle.gb_schedule.specs.Grammar.{SpellsSay, Spells, IsCommandLine, NamesMemberAt, NamesNoMember}
 use Rattle.gb_schedule.proofs.CommandLemmas.{Finds, command_found}
 use Rattle.gb_schedule.proofs.HeadLemmas.{begins, one_head}
@@ -34,6 +34,19 @@ beyond nodes few text a t g second third at small_a small_t small_g one two thre
     let same_tenant : t ≡ address.tenant = decimal_injective t address.tenant small_t (omega (arith, is_t)) cc in
     let same_group : g ≡ address.group = decimal_injective g address.group small_g (omega (arith, is_g)) cc in
     above (omega (arith, same_node, below)) (omega (arith, same_tenant, is_t)) (omega (arith, same_group, is_g))
+
+-- where no tenant's number stands behind the first number, no member is named
+pub no_tenant : (nodes : ℕ) (text : List ℕ) (a second : ℕ) → IsNumberAt text 0 a (Some second) → BeginsWithNoNumber (drop second text) → NamesNoMember nodes text
+no_tenant nodes text a second one none node address word words below is_t is_g are =
+    let same : decimal a ∷ words_of (drop second text) ≡ decimal node.number ∷ decimal address.tenant ∷ decimal address.group ∷ word ∷ words = sym one.1 ∙ are in
+    none address.tenant (decimal address.group ∷ word ∷ words) (omega (arith, is_t)) cc
+
+-- nor where no group's number stands behind the first two
+pub no_group : (nodes : ℕ) (text : List ℕ) (a t second third : ℕ) → IsNumberAt text 0 a (Some second) → IsNumberAt text second t (Some third) → BeginsWithNoNumber (drop third text)
+    → NamesNoMember nodes text
+no_group nodes text a t second third one two none node address word words below is_t is_g are =
+    let same : decimal a ∷ decimal t ∷ words_of (drop third text) ≡ decimal node.number ∷ decimal address.tenant ∷ decimal address.group ∷ word ∷ words = cc (one.1, two.1, are) in
+    none address.group (word ∷ words) (omega (arith, is_g)) cc
 
 -- a member's numbers and the word of a payload behind them spell what is said
 pub say_reads : (nodes : ℕ) (text : List ℕ) (node : NodeId) (address : Addr) (at : ℕ) (payload token : List ℕ) → NamesMemberAt nodes text node address at → payload_of (drop at text) ≡ Some payload → token ≡ member_token address node

@@ -1,3 +1,4 @@
+use Rattle.std.proofs.lemmas.Grind.{common_steps}
 use Rattle.std.proofs.Common.{◌≡◌, ◌≤◌, ◌+◌, ◌-◌, ◌*◌, ◌%◌, ◌^◌, ◌∙◌, take, drop, get_or, sym, ap, subst, length-drop, rules, arith}
 use Rattle.std.specs.Str.Parse.{AllDigits, digits_value}
 use Rattle.std.specs.Int.{IsInRange}
@@ -24,3 +25,15 @@ loop-place-preserved c =
     let more = more_digit front so_far c.loop-place.number next (omega (arith, below, end, start, count)) c.loop-place.invariant.0 c.loop-place.invariant.1 digit (ap (λ d. (c.loop-place.number * 10 % 2 ^ 64 + d) % 2 ^ 64) value) in
     let one : so_far + 1 ≡ place + 1 - c.args.from = omega (arith, start) in
     subst (λ n. AllDigits 10 (take n front) × (n ≤ 19 → digits_value 10 (take n front) ≡ next)) one more
+
+pub returns-then-not-is_ascii_digit-clause-within : goal.returns-then-not-is_ascii_digit-clause-within
+returns-then-not-is_ascii_digit-clause-within c = grind (arith, common_steps)
+
+pub returns-then-not-is_ascii_digit-clause-end : goal.returns-then-not-is_ascii_digit-clause-end
+returns-then-not-is_ascii_digit-clause-end c = grind (arith, common_steps)
+
+pub returns-clause-within : goal.returns-clause-within
+returns-clause-within c = grind (arith, common_steps)
+
+pub returns-clause-end : goal.returns-clause-end
+returns-clause-end c = grind (arith, common_steps)

@@ -1,3 +1,4 @@
+use Rattle.std.proofs.lemmas.Grind.{common_steps}
 use Rattle.std.proofs.Common.{◌∙◌, length, take, drop, decimal, ap, arith}
 use Rattle.std.proofs.lemmas.List.{length-map}
 use Rattle.gb_schedule.proofs.WordLemmas.{too_many}
@@ -20,3 +21,9 @@ returns-clause-none c ns fit few is =
     let words = ap length is in
     let each = length-map ns decimal in
     omega (arith, count, more, words, each, few)
+
+pub returns-in-None-clause-found : goal.returns-in-None-clause-found
+returns-in-None-clause-found c = grind (arith, common_steps)
+
+pub loop-place-preserved : goal.loop-place-preserved
+loop-place-preserved c = grind (arith, common_steps)

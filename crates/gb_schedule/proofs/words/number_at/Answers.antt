@@ -1,3 +1,4 @@
+use Rattle.std.proofs.lemmas.Grind.{common_steps}
 use Rattle.std.proofs.Common.{◌≡◌, [], ◌∷◌, ◌+◌, ◌∙◌, ◌<◌, drop, length, get_or, decimal, ap, sym, length-drop, arith}
 use Rattle.std.proofs.lemmas.List.{get_or-drop, drop-drop}
 use Rattle.gb_types.specs.Words.{words_of}
@@ -52,3 +53,12 @@ returns-clause-some c =
       omega (arith, below, count),
       next_digits front digits here.within here.digits below (same ∙ c.if-text-end-ne32.false) ∙ ap (λ w. w ∷ words_of (drop (digits + 1) front)) spelt.1 ∙ ap (λ text. decimal c.in_ok-number.number ∷ words_of text) rest,
     )
+
+pub overflow_add-end : goal.overflow_add-end
+overflow_add-end c = grind (arith, common_steps)
+
+pub bounds-text-end : goal.bounds-text-end
+bounds-text-end c = grind (arith, common_steps)
+
+pub overflow_add-result : goal.overflow_add-result
+overflow_add-result c = grind (arith, common_steps)

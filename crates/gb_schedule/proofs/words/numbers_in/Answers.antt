@@ -1,3 +1,4 @@
+use Rattle.std.proofs.lemmas.Grind.{common_steps}
 use Rattle.std.proofs.Common.{◌≡◌, ◌≤◌, ◌<◌, ◌^◌, ◌∙◌, ℕ, length, take, get_or, sym, ap, subst, rules, arith}
 use Rattle.std.proofs.lemmas.List.{take_all, get_or-take, length-take-le}
 use Rattle.std.proofs.lemmas.List.Elements.{All-from_get_or}
@@ -60,3 +61,6 @@ returns g c =
     let at : c.loop-place.place ≡ count = omega (arith, end, high, all) in
     let same : take count found ≡ numbers = ap (λ n. take n found) (sym at) ∙ sym c.loop-place.invariant.1 ∙ whole in
     subst (Reads (AreNumbers c.args.most c.args.text.now)) same (all_read c.args.most c.args.text.now (take count found) fit words.1 words.2 (each_at_most c.args.most (take count found) (omega (arith, long, bounds, all)) each))
+
+pub loop-place-preserved : goal.loop-place-preserved
+loop-place-preserved c = grind (arith, common_steps)
