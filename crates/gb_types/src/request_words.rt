@@ -36,7 +36,7 @@ pub fn read_address(tenant: &[u8], group: &[u8]) -> Option<Addr>
 }
 
 /// The limits of a group: MSGS BYTES WINDOW.
-fn read_limits(msgs: &[u8], bytes: &[u8], window: &[u8]) -> Option<(u32, u32, u32)>
+pub fn read_limits(msgs: &[u8], bytes: &[u8], window: &[u8]) -> Option<(u32, u32, u32)>
     ensures { (n : ℕ × ℕ × ℕ) → (result ≡ Some n)
         ↔ ((IsLong n.0 × (msgs.now ≡ decimal n.0))
         × (IsLong n.1 × (bytes.now ≡ decimal n.1))
