@@ -1,5 +1,5 @@
 //! The grammar of a schedule: the words behind each head, and the command that they spell.
-ghost use Rattle.std.specs.Prelude.{◌≡◌, ◌≤◌, ◌<◌, ◌↔◌, ℕ, List, [], ◌∷◌, ◌++◌, Some, IfOk, IfSome, IfNone, IsTrue, codes, decimal, map};
+ghost use Rattle.std.specs.Prelude.{◌≡◌, ◌≤◌, ◌<◌, ◌↔◌, ℕ, List, [], ◌∷◌, ◌++◌, Some, IfOk, IfSome, IfNone, IsTrue, codes, decimal, map, slice_index};
 ghost use Rattle.std.specs.Option.{ForSome};
 ghost use Rattle.std.specs.Io.{StartsWith};
 ghost use Rattle.gb_types.specs.Words.{words_of};
@@ -336,6 +336,24 @@ fn behind<'a>(line: &'a [u8], begin: &[u8]) -> Option<&'a [u8]>
     line.strip_prefix(begin)
 }
 
+// The step that a line which begins with `a` spells in a cluster of so many nodes.
+#[inline(always)]
+fn find_step_of_a(nodes: u8, line: &[u8]) -> Option<Step>
+    requires few { (1 ≤ nodes) × (nodes ≤ NODES) }
+    // 97 is `a`.
+    requires first { slice_index line.now 0 ≡ 97 }
+    ensures { (step : TheStep) → (result ≡ Some step)
+        ↔ IsCommandLine (Some nodes) line.now (Commands.Step step) }
+{
+    if let Some(text) = behind(line, b"arrive ") {
+        return read_arrive(text);
+    }
+    if let Some(text) = behind(line, b"ack ") {
+        return read_ack(nodes, text);
+    }
+    read_again(nodes, behind(line, b"again ")?)
+}
+
 // The step that a line spells in a cluster of so many nodes.
 fn find_step(nodes: u8, line: &[u8]) -> Option<Step>
     requires { (1 ≤ nodes) × (nodes ≤ NODES) }
@@ -343,15 +361,7 @@ fn find_step(nodes: u8, line: &[u8]) -> Option<Step>
         ↔ IsCommandLine (Some nodes) line.now (Commands.Step step) }
 {
     match line.first() {
-        Some(b'a') => {
-            if let Some(text) = behind(line, b"arrive ") {
-                return read_arrive(text);
-            }
-            if let Some(text) = behind(line, b"ack ") {
-                return read_ack(nodes, text);
-            }
-            read_again(nodes, behind(line, b"again ")?)
-        }
+        Some(b'a') => find_step_of_a(nodes, line),
         Some(b'p') => read_pack(nodes, behind(line, b"pack ")?),
         Some(b'f') => read_fetch(nodes, behind(line, b"fetch ")?),
         Some(b't') => read_tick(nodes, behind(line, b"tick ")?),

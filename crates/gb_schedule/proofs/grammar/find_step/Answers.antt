@@ -4,15 +4,6 @@ use Rattle.gb_schedule.specs.declared.head.Head.TheVariants.{Pack, Again, Ack, A
 use Rattle.gb_schedule.proofs.HeadLemmas.{step_found, no_step}
 use Rattle.gb_schedule.proofs.grammar.find_step.Goals as goal
 
-pub returns-in-Some : goal.returns-in-Some
-returns-in-Some c = step_found c.args.nodes c.args.line.now Arrive _ c.read_arrive.result (ap words_of c.in-Some.ensures.some) c.read_arrive.ensures
-
-pub returns-in-Some-behind : goal.returns-in-Some-behind
-returns-in-Some-behind c = step_found c.args.nodes c.args.line.now Ack _ c.read_ack.result (ap words_of c.in-Some-behind.ensures.some) c.read_ack.ensures
-
-pub returns-in_ok-behind-in-Some-eq97 : goal.returns-in_ok-behind-in-Some-eq97
-returns-in_ok-behind-in-Some-eq97 c = step_found c.args.nodes c.args.line.now Again _ c.read_again.result (ap words_of c.in_ok-behind-in-Some-eq97.ensures.some) c.read_again.ensures
-
 pub returns-in_ok-behind-in-Some-eq112 : goal.returns-in_ok-behind-in-Some-eq112
 returns-in_ok-behind-in-Some-eq112 c = step_found c.args.nodes c.args.line.now Pack _ c.read_pack.result (ap words_of c.in_ok-behind-in-Some-eq112.ensures.some) c.read_pack.ensures
 
@@ -25,17 +16,10 @@ returns-in_ok-behind-in-Some-eq116 c = step_found c.args.nodes c.args.line.now T
 pub returns-in_ok-behind-in-Some-eq115 : goal.returns-in_ok-behind-in-Some-eq115
 returns-in_ok-behind-in-Some-eq115 c = step_found c.args.nodes c.args.line.now Stop _ c.read_stop.result (ap words_of c.in_ok-behind-in-Some-eq115.ensures.some) c.read_stop.ensures
 
-pub returns-in_err-behind-in-Some-eq97 : goal.returns-in_err-behind-in-Some-eq97
-returns-in_err-behind-in-Some-eq97 c step =
-    let is : get_or c.args.line.now 0 0 ≡ 97 = sym (c.in-Some-eq97.ensures.item.3.1 0) ∙ c.in-Some-eq97.field-0-test in (
-      λ found. cc (found, c.from_residual.ensures),
-      λ spelt. absurd (no_step c.args.nodes c.args.line.now step spelt.head spelt.words spelt.line_is spelt.spelt (λ _. c.in_default-behind.ensures.none) (λ _. c.in_default-behind-2.ensures.none) (λ _. c.in_err-behind-in-Some-eq97.ensures.none) (λ e. omega (arith, e, is)) (λ e. omega (arith, e, is)) (λ e. omega (arith, e, is)) (λ e. omega (arith, e, is))),
-    )
-
 pub returns-in_err-behind-in-Some-eq112 : goal.returns-in_err-behind-in-Some-eq112
 returns-in_err-behind-in-Some-eq112 c step =
     let is : get_or c.args.line.now 0 0 ≡ 112 = sym (c.in-Some-eq112.ensures.item.3.1 0) ∙ c.in-Some-eq112.field-0-test in (
-      λ found. cc (found, c.from_residual-in_err-behind-in-Some-eq112.ensures),
+      λ found. cc (found, c.from_residual.ensures),
       λ spelt. absurd (no_step c.args.nodes c.args.line.now step spelt.head spelt.words spelt.line_is spelt.spelt (λ e. omega (arith, e, is)) (λ e. omega (arith, e, is)) (λ e. omega (arith, e, is)) (λ _. c.in_err-behind-in-Some-eq112.ensures.none) (λ e. omega (arith, e, is)) (λ e. omega (arith, e, is)) (λ e. omega (arith, e, is))),
     )
 
