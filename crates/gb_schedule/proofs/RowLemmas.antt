@@ -1,5 +1,5 @@
 -- For each head: the command that its words spell, from what the readers of its words found.
-use Rattle.std.proofs.Common.{◌≡◌, ℕ, ◌<◌, ◌≤◌, List, [], ◌∷◌, Some, refl, sym, ap, ◌∙◌, decimal, arith}
+use Rattle.std.proofs.Common.{◌≡◌, ◌↔◌, ℕ, ◌<◌, ◌≤◌, List, [], ◌∷◌, Some, None, refl, sym, ap, ◌∙◌, decimal, arith}
 use Rattle.gb_types.specs.declared.limits.TheConstants.{NODES, SILENCE_MIN, SILENCE_MAX}
 use Rattle.gb_types.specs.PayloadWord.{payload_of}
 use Rattle.gb_types.specs.declared.node.NodeId.{NodeId}
@@ -8,9 +8,10 @@ use Rattle.gb_types.specs.declared.spec.Spec.{Spec}
 use Rattle.gb_types.specs.declared.spec.TenantRow.{TenantRow}
 use Rattle.gb_types.specs.declared.request.Request.{Request as AnyRequest}
 use Rattle.gb_types.specs.declared.request.Request.TheVariants.{AddTenant, Make, Say}
+use Rattle.gb_schedule.specs.declared.command.Command.{Command}
 use Rattle.gb_schedule.specs.declared.command.Command.TheVariants.{Cluster, Request, Noise}
-use Rattle.gb_types.specs.RequestWords.{SpellsSpec}
-use Rattle.gb_types.proofs.RequestWordLemmas.{IsShortWord, IsLongWord, AreAddressWords}
+use Rattle.gb_types.specs.RequestWords.{IsShort, SpellsSpec}
+use Rattle.gb_types.proofs.RequestWordLemmas.{IsShortWord, IsLongWord, AreAddressWords, AreLimitWords}
 use Rattle.gb_schedule.specs.Grammar.{SpellsCluster, SpellsTenant, SpellsMake, SpellsNamed, SpellsForge, SpellsNoise}
 use Rattle.gb_schedule.specs.Keys.{tenant_key, no_token, admin_token, tenant_token}
 use Rattle.gb_types.proofs.ReadLemmas.{Reads, found, only, reads_one, some_same}
@@ -19,12 +20,42 @@ use Rattle.gb_types.proofs.ReadLemmas.{Reads, found, only, reads_one, some_same}
 abbrev pub IsNodeWord : ℕ → List ℕ → NodeId → Type 0
 IsNodeWord nodes word node = (node.number < nodes) × (word ≡ decimal node.number)
 
-pub named_reads : (request : List ℕ → Addr → AnyRequest) (nodes : ℕ) (words : List (List ℕ)) (a t g : List ℕ) (node : NodeId) (address : Addr) (token : List ℕ) → words ≡ a ∷ t ∷ g ∷ []
-    → Reads (IsNodeWord nodes a) node → Reads (AreAddressWords t g) address → token ≡ tenant_token address.tenant
-    → Reads (λ command. SpellsNamed request nodes command words) (Request node (request token address))
-named_reads request nodes words a t g node address token are reads_node reads_address is_token =
-    let is_node = found (IsNodeWord nodes a) node reads_node in
-    let is_address = found (AreAddressWords t g) address reads_address in
+-- what a reader of a node and an address finds
+abbrev pub AreGroupWords : ℕ → List ℕ → List ℕ → List ℕ → NodeId × Addr → Type 0
+AreGroupWords nodes a t g group = IsNodeWord nodes a group.0 × AreAddressWords t g group.1
+
+pub group_reads : (nodes : ℕ) (a t g : List ℕ) (node : NodeId) (address : Addr) → Reads (IsNodeWord nodes a) node → Reads (AreAddressWords t g) address → Reads (AreGroupWords nodes a t g) (node, address)
+group_reads nodes a t g node address reads_node reads_address =
+    reads_one (AreGroupWords nodes a t g) (node, address) (found (IsNodeWord nodes a) node reads_node, found (AreAddressWords t g) address reads_address) (λ group are.
+    let same_node : node ≡ group.0 = only (IsNodeWord nodes a) node group.0 reads_node are.0 in
+    let same_address : address ≡ group.1 = only (AreAddressWords t g) address group.1 reads_address are.1 in
+    λ i. (same_node i, same_address i))
+
+-- where none are read, words are no node's, tenant's and group's
+pub no_group : (nodes : ℕ) (words : List (List ℕ)) (a t g : List ℕ) (rest behind : List (List ℕ)) (node : NodeId) (address : Addr) → words ≡ a ∷ t ∷ g ∷ rest
+    → ((group : NodeId × Addr) → (None ≡ Some group) ↔ AreGroupWords nodes a t g group)
+    → node.number < nodes → IsShort address.tenant → IsShort address.group → words ≡ decimal node.number ∷ decimal address.tenant ∷ decimal address.group ∷ behind → ⊥
+no_group nodes words a t g rest behind node address are none below is_t is_g spelt =
+    let same : a ∷ t ∷ g ∷ rest ≡ decimal node.number ∷ decimal address.tenant ∷ decimal address.group ∷ behind = sym are ∙ spelt in
+    cc ((none (node, address)).1 ((below, cc), (is_t, cc, is_g, cc)))
+
+-- where no limits are read, words are no tenant's
+pub no_tenant_limits : (nodes : ℕ) (words : List (List ℕ)) (a t gs m b w : List ℕ) (command : Command) → words ≡ a ∷ t ∷ gs ∷ m ∷ b ∷ w ∷ []
+    → ((limits : ℕ × ℕ × ℕ) → (None ≡ Some limits) ↔ AreLimitWords m b w limits) → SpellsTenant nodes command words → ⊥
+no_tenant_limits nodes words a t gs m b w command are none spelt =
+    let row = spelt.row in
+    let same : a ∷ t ∷ gs ∷ m ∷ b ∷ w ∷ [] ≡ decimal spelt.node.number ∷ decimal row.tenant ∷ decimal row.groups ∷ decimal row.msgs ∷ decimal row.bytes ∷ decimal row.window ∷ [] = sym are ∙ spelt.words_are in
+    cc ((none (row.msgs, row.bytes, row.window)).1 ((spelt.msgs, cc), (spelt.bytes, cc), (spelt.window, cc)))
+
+pub named_reads : (request : List ℕ → Addr → AnyRequest) (nodes : ℕ) (words : List (List ℕ)) (a t g : List ℕ) (group : NodeId × Addr) (token : List ℕ) → words ≡ a ∷ t ∷ g ∷ []
+    → Reads (AreGroupWords nodes a t g) group → token ≡ tenant_token group.1.tenant
+    → Reads (λ command. SpellsNamed request nodes command words) (Request group.0 (request token group.1))
+named_reads request nodes words a t g group token are reads_group is_token =
+    let node = group.0 in
+    let address = group.1 in
+    let are_words = found (AreGroupWords nodes a t g) group reads_group in
+    let is_node = are_words.0 in
+    let is_address = are_words.1 in
     let here : SpellsNamed request nodes (Request node (request token address)) words = record {
       node = node;
       address = address;
@@ -36,8 +67,9 @@ named_reads request nodes words a t g node address token are reads_node reads_ad
     } in
     reads_one (λ command. SpellsNamed request nodes command words) _ here (λ command spelt.
     let same : a ∷ t ∷ g ∷ [] ≡ decimal spelt.node.number ∷ decimal spelt.address.tenant ∷ decimal spelt.address.group ∷ [] = sym are ∙ spelt.words_are in
-    let same_node : node ≡ spelt.node = only (IsNodeWord nodes a) node spelt.node reads_node (spelt.in_cluster, cc) in
-    let same_address : address ≡ spelt.address = only (AreAddressWords t g) address spelt.address reads_address (spelt.tenant, cc, spelt.group, cc) in
+    let same_group : group ≡ (spelt.node, spelt.address) = only (AreGroupWords nodes a t g) group (spelt.node, spelt.address) reads_group ((spelt.in_cluster, cc), (spelt.tenant, cc, spelt.group, cc)) in
+    let same_node : node ≡ spelt.node = ap (λ q. q.0) same_group in
+    let same_address : address ≡ spelt.address = ap (λ q. q.1) same_group in
     ap (λ q. Request node (request q address)) is_token ∙ (λ i. Request (same_node i) (request (tenant_token (same_address i).tenant) (same_address i))) ∙ sym spelt.command_is)
 
 pub cluster_reads : (words : List (List ℕ)) (n s : List ℕ) (nodes silence : ℕ) (least most : ℕ) → words ≡ n ∷ s ∷ []
@@ -60,31 +92,29 @@ cluster_reads words n s nodes silence least most are reads_nodes low high reads_
     let same_silence : silence ≡ spelt.silence = only (λ k. (least ≤ k) × (k ≤ most) × (s ≡ decimal k)) silence spelt.silence reads_silence (omega arith, omega arith, cc) in
     cc spelt.command_is)
 
-pub tenant_reads : (nodes : ℕ) (words : List (List ℕ)) (a t gs m b w : List ℕ) (node : NodeId) (tenant groups msgs bytes window : ℕ) (token key : List ℕ) → words ≡ a ∷ t ∷ gs ∷ m ∷ b ∷ w ∷ []
-    → Reads (IsNodeWord nodes a) node → Reads (IsShortWord t) tenant → Reads (IsLongWord gs) groups → Reads (IsLongWord m) msgs → Reads (IsLongWord b) bytes → Reads (IsLongWord w) window
+pub tenant_reads : (nodes : ℕ) (words : List (List ℕ)) (a t gs m b w : List ℕ) (node : NodeId) (tenant groups : ℕ) (limits : ℕ × ℕ × ℕ) (token key : List ℕ) → words ≡ a ∷ t ∷ gs ∷ m ∷ b ∷ w ∷ []
+    → Reads (IsNodeWord nodes a) node → Reads (IsShortWord t) tenant → Reads (IsLongWord gs) groups → Reads (AreLimitWords m b w) limits
     → token ≡ admin_token → key ≡ tenant_key tenant
     → Reads (λ command. SpellsTenant nodes command words)
-    (Request node (AddTenant token (record { tenant = tenant; key = key; groups = groups; msgs = msgs; bytes = bytes; window = window })))
-tenant_reads nodes words a t gs m b w node tenant groups msgs bytes window token key are reads_node reads_tenant reads_groups reads_msgs reads_bytes reads_window is_token is_key =
+    (Request node (AddTenant token (record { tenant = tenant; key = key; groups = groups; msgs = limits.0; bytes = limits.1; window = limits.2 })))
+tenant_reads nodes words a t gs m b w node tenant groups limits token key are reads_node reads_tenant reads_groups reads_limits is_token is_key =
     let is_node = found (IsNodeWord nodes a) node reads_node in
     let is_tenant = found (IsShortWord t) tenant reads_tenant in
     let is_groups = found (IsLongWord gs) groups reads_groups in
-    let is_msgs = found (IsLongWord m) msgs reads_msgs in
-    let is_bytes = found (IsLongWord b) bytes reads_bytes in
-    let is_window = found (IsLongWord w) window reads_window in
-    let row : TenantRow = record { tenant = tenant; key = key; groups = groups; msgs = msgs; bytes = bytes; window = window } in
+    let are_limits = found (AreLimitWords m b w) limits reads_limits in
+    let row : TenantRow = record { tenant = tenant; key = key; groups = groups; msgs = limits.0; bytes = limits.1; window = limits.2 } in
     let here : SpellsTenant nodes (Request node (AddTenant token row)) words = record {
       node = node;
       row = row;
       command_is = ap (λ q. Request node (AddTenant q row)) is_token;
-      words_are = cc (are, is_node.1, is_tenant.1, is_groups.1, is_msgs.1, is_bytes.1, is_window.1);
+      words_are = cc (are, is_node.1, is_tenant.1, is_groups.1, are_limits.0.1, are_limits.1.1, are_limits.2.1);
       in_cluster = is_node.0;
       tenant = is_tenant.0;
       key = is_key;
       groups = is_groups.0;
-      msgs = is_msgs.0;
-      bytes = is_bytes.0;
-      window = is_window.0;
+      msgs = are_limits.0.0;
+      bytes = are_limits.1.0;
+      window = are_limits.2.0;
     } in
     reads_one (λ command. SpellsTenant nodes command words) _ here (λ command spelt.
     let other = spelt.row in
@@ -92,19 +122,20 @@ tenant_reads nodes words a t gs m b w node tenant groups msgs bytes window token
     let same_node : node ≡ spelt.node = only (IsNodeWord nodes a) node spelt.node reads_node (spelt.in_cluster, cc) in
     let same_tenant : tenant ≡ other.tenant = only (IsShortWord t) tenant other.tenant reads_tenant (spelt.tenant, cc) in
     let same_groups : groups ≡ other.groups = only (IsLongWord gs) groups other.groups reads_groups (spelt.groups, cc) in
-    let same_msgs : msgs ≡ other.msgs = only (IsLongWord m) msgs other.msgs reads_msgs (spelt.msgs, cc) in
-    let same_bytes : bytes ≡ other.bytes = only (IsLongWord b) bytes other.bytes reads_bytes (spelt.bytes, cc) in
-    let same_window : window ≡ other.window = only (IsLongWord w) window other.window reads_window (spelt.window, cc) in
+    let same_limits : limits ≡ (other.msgs, other.bytes, other.window) = only (AreLimitWords m b w) limits (other.msgs, other.bytes, other.window) reads_limits ((spelt.msgs, cc), (spelt.bytes, cc), (spelt.window, cc)) in
     let same_key : key ≡ other.key = is_key ∙ ap tenant_key same_tenant ∙ sym spelt.key in
-    let same_row : row ≡ other = λ i. record { tenant = same_tenant i; key = same_key i; groups = same_groups i; msgs = same_msgs i; bytes = same_bytes i; window = same_window i } in
+    let same_row : row ≡ other = λ i. record { tenant = same_tenant i; key = same_key i; groups = same_groups i; msgs = (same_limits i).0; bytes = (same_limits i).1; window = (same_limits i).2 } in
     ap (λ q. Request node (AddTenant q row)) is_token ∙ (λ i. Request (same_node i) (AddTenant admin_token (same_row i))) ∙ sym spelt.command_is)
 
-pub make_reads : (nodes : ℕ) (words : List (List ℕ)) (a t g : List ℕ) (rest : List (List ℕ)) (node : NodeId) (address : Addr) (spec : Spec) (token : List ℕ) → words ≡ a ∷ t ∷ g ∷ rest
-    → Reads (IsNodeWord nodes a) node → Reads (AreAddressWords t g) address → Reads (λ x. SpellsSpec x rest) spec → token ≡ tenant_token address.tenant
-    → Reads (λ command. SpellsMake nodes command words) (Request node (Make token address spec))
-make_reads nodes words a t g rest node address spec token are reads_node reads_address reads_spec is_token =
-    let is_node = found (IsNodeWord nodes a) node reads_node in
-    let is_address = found (AreAddressWords t g) address reads_address in
+pub make_reads : (nodes : ℕ) (words : List (List ℕ)) (a t g : List ℕ) (rest : List (List ℕ)) (group : NodeId × Addr) (spec : Spec) (token : List ℕ) → words ≡ a ∷ t ∷ g ∷ rest
+    → Reads (AreGroupWords nodes a t g) group → Reads (λ x. SpellsSpec x rest) spec → token ≡ tenant_token group.1.tenant
+    → Reads (λ command. SpellsMake nodes command words) (Request group.0 (Make token group.1 spec))
+make_reads nodes words a t g rest group spec token are reads_group reads_spec is_token =
+    let node = group.0 in
+    let address = group.1 in
+    let are_words = found (AreGroupWords nodes a t g) group reads_group in
+    let is_node = are_words.0 in
+    let is_address = are_words.1 in
     let is_spec = found (λ x. SpellsSpec x rest) spec reads_spec in
     let here : SpellsMake nodes (Request node (Make token address spec)) words = record {
       node = node;
@@ -120,18 +151,22 @@ make_reads nodes words a t g rest node address spec token are reads_node reads_a
     } in
     reads_one (λ command. SpellsMake nodes command words) _ here (λ command spelt.
     let same : a ∷ t ∷ g ∷ rest ≡ decimal spelt.node.number ∷ decimal spelt.address.tenant ∷ decimal spelt.address.group ∷ spelt.spec_words = sym are ∙ spelt.words_are in
-    let same_node : node ≡ spelt.node = only (IsNodeWord nodes a) node spelt.node reads_node (spelt.in_cluster, cc) in
-    let same_address : address ≡ spelt.address = only (AreAddressWords t g) address spelt.address reads_address (spelt.tenant, cc, spelt.group, cc) in
+    let same_group : group ≡ (spelt.node, spelt.address) = only (AreGroupWords nodes a t g) group (spelt.node, spelt.address) reads_group ((spelt.in_cluster, cc), (spelt.tenant, cc, spelt.group, cc)) in
+    let same_node : node ≡ spelt.node = ap (λ q. q.0) same_group in
+    let same_address : address ≡ spelt.address = ap (λ q. q.1) same_group in
     let same_words : spelt.spec_words ≡ rest = cc in
     let same_spec : spec ≡ spelt.spec = only (λ x. SpellsSpec x rest) spec spelt.spec reads_spec (rw same_words at spelt.spells_spec) in
     ap (λ q. Request node (Make q address spec)) is_token ∙ (λ i. Request (same_node i) (Make (tenant_token (same_address i).tenant) (same_address i) (same_spec i))) ∙ sym spelt.command_is)
 
-pub forge_reads : (nodes : ℕ) (words : List (List ℕ)) (a t g : List ℕ) (node : NodeId) (address : Addr) (payload : List ℕ) → words ≡ a ∷ t ∷ g ∷ []
-    → Reads (IsNodeWord nodes a) node → Reads (AreAddressWords t g) address → payload ≡ []
-    → Reads (λ command. SpellsForge nodes command words) (Request node (Say no_token address payload))
-forge_reads nodes words a t g node address payload are reads_node reads_address none =
-    let is_node = found (IsNodeWord nodes a) node reads_node in
-    let is_address = found (AreAddressWords t g) address reads_address in
+pub forge_reads : (nodes : ℕ) (words : List (List ℕ)) (a t g : List ℕ) (group : NodeId × Addr) (payload : List ℕ) → words ≡ a ∷ t ∷ g ∷ []
+    → Reads (AreGroupWords nodes a t g) group → payload ≡ []
+    → Reads (λ command. SpellsForge nodes command words) (Request group.0 (Say no_token group.1 payload))
+forge_reads nodes words a t g group payload are reads_group none =
+    let node = group.0 in
+    let address = group.1 in
+    let are_words = found (AreGroupWords nodes a t g) group reads_group in
+    let is_node = are_words.0 in
+    let is_address = are_words.1 in
     let here : SpellsForge nodes (Request node (Say no_token address payload)) words = record {
       node = node;
       address = address;
@@ -143,8 +178,9 @@ forge_reads nodes words a t g node address payload are reads_node reads_address 
     } in
     reads_one (λ command. SpellsForge nodes command words) _ here (λ command spelt.
     let same : a ∷ t ∷ g ∷ [] ≡ decimal spelt.node.number ∷ decimal spelt.address.tenant ∷ decimal spelt.address.group ∷ [] = sym are ∙ spelt.words_are in
-    let same_node : node ≡ spelt.node = only (IsNodeWord nodes a) node spelt.node reads_node (spelt.in_cluster, cc) in
-    let same_address : address ≡ spelt.address = only (AreAddressWords t g) address spelt.address reads_address (spelt.tenant, cc, spelt.group, cc) in
+    let same_group : group ≡ (spelt.node, spelt.address) = only (AreGroupWords nodes a t g) group (spelt.node, spelt.address) reads_group ((spelt.in_cluster, cc), (spelt.tenant, cc, spelt.group, cc)) in
+    let same_node : node ≡ spelt.node = ap (λ q. q.0) same_group in
+    let same_address : address ≡ spelt.address = ap (λ q. q.1) same_group in
     ap (λ q. Request node (Say no_token address q)) none ∙ (λ i. Request (same_node i) (Say no_token (same_address i) [])) ∙ sym spelt.command_is)
 
 pub noise_reads : (nodes : ℕ) (words : List (List ℕ)) (a h : List ℕ) (node : NodeId) (bytes : List ℕ) → words ≡ a ∷ h ∷ []

@@ -3,18 +3,21 @@ ghost use Rattle.std.specs.Prelude.{◌≡◌, ◌≤◌, ◌<◌, ◌↔◌, �
 ghost use Rattle.std.specs.Option.{ForSome};
 ghost use Rattle.std.specs.Io.{StartsWith};
 ghost use Rattle.gb_types.specs.Words.{words_of};
+ghost use Rattle.gb_types.specs.RequestWords.{IsShort};
+ghost use Rattle.gb_types.specs.declared.address.Addr.{Addr as TheAddress};
 ghost use Rattle.gb_types.specs.declared.node.NodeId.{NodeId as TheNode};
 ghost use Rattle.gb_schedule.specs.declared.command.Step.{Step as TheStep};
 ghost use Rattle.gb_schedule.specs.declared.command.Command.{Command as TheCommand};
 ghost use Rattle.gb_schedule.specs.declared.command.Command.TheVariants as Commands;
 ghost use Rattle.gb_types.specs.declared.request.Request.TheVariants.{OpenGroup, ShutGroup, DropGroup};
-ghost use Rattle.gb_schedule.specs.declared.head.Head.TheVariants.{Say as SayHead};
+ghost use Rattle.gb_schedule.specs.declared.head.Head.TheVariants.{Open as OpenHead, Shut as ShutHead, Drop as DropHead, Say as SayHead};
 ghost use Rattle.gb_schedule.specs.Grammar.{NamesMemberAt, NamesNoMember, NamesTwoNodes, SpellsCluster, SpellsTenant, SpellsMake, SpellsNamed, SpellsSay, SpellsFetch, SpellsForge, SpellsPack, SpellsAgain, SpellsAck, SpellsArrive, SpellsNoise, SpellsTick, SpellsStop, Spells, IsCommandLine, IsInPlace, IsSilent, SilentLinesSpellNothing};
 
 use crate::command::{Command, Step};
 use crate::head::{Head, read_head};
 use crate::keys::{Keys, NO_TOKEN, tenant_key};
 use crate::words::{WORDS, last_number_at, number_at, numbers_in, words_in};
+use gb_cap::token::Token;
 use gb_types::address::Addr;
 use gb_types::limits::{NODES, SILENCE_MAX, SILENCE_MIN};
 use gb_types::memory::OutOfMemory;
@@ -23,7 +26,7 @@ use gb_types::number::read_number;
 use gb_types::payload::Payload;
 use gb_types::payload_word::read_payload;
 use gb_types::request::Request;
-use gb_types::request_words::{read_address, read_spec, read_u16, read_u32};
+use gb_types::request_words::{read_address, read_limits, read_spec, read_u16, read_u32};
 use gb_types::spec::TenantRow;
 use std::alloc::Global;
 
@@ -82,9 +85,7 @@ fn read_tenant(keys: &Keys, nodes: u8, words: &[&[u8]]) -> Option<Command>
     let node = read_node(node, nodes)?;
     let tenant = read_u16(tenant)?;
     let groups = read_u32(groups)?;
-    let msgs = read_u32(msgs)?;
-    let bytes = read_u32(bytes)?;
-    let window = read_u32(window)?;
+    let (msgs, bytes, window) = read_limits(msgs, bytes, window)?;
     let row = TenantRow {
         tenant,
         key: tenant_key(tenant),
@@ -97,6 +98,19 @@ fn read_tenant(keys: &Keys, nodes: u8, words: &[&[u8]]) -> Option<Command>
     Some(Command::Request(node, request))
 }
 
+// A T G: a node of the cluster, and the address of a group.
+fn read_group(nodes: u8, node: &[u8], tenant: &[u8], group: &[u8]) -> Option<(NodeId, Addr)>
+    requires { (1 ≤ nodes) × (nodes ≤ NODES) }
+    ensures { (found : TheNode × TheAddress) → (result ≡ Some found)
+        ↔ (((found.0.number < nodes) × (node.now ≡ decimal found.0.number))
+        × (IsShort found.1.tenant × (tenant.now ≡ decimal found.1.tenant)
+        × IsShort found.1.group × (group.now ≡ decimal found.1.group))) }
+{
+    let node = read_node(node, nodes)?;
+    let address = read_address(tenant, group)?;
+    Some((node, address))
+}
+
 // make A T G KIND MEMBERS MSGS BYTES WINDOW
 fn read_make(keys: &mut Keys, nodes: u8, words: &[&[u8]]) -> Option<Command>
     requires { (1 ≤ nodes) × (nodes ≤ NODES) }
@@ -106,56 +120,41 @@ fn read_make(keys: &mut Keys, nodes: u8, words: &[&[u8]]) -> Option<Command>
     let [node, tenant, group, spec @ ..] = words else {
         return None;
     };
-    let node = read_node(node, nodes)?;
-    let address = read_address(tenant, group)?;
+    let (node, address) = read_group(nodes, node, tenant, group)?;
     let spec = read_spec(spec)?;
     let token = keys.tenant(address.tenant);
     Some(Command::Request(node, Request::Make(token, address, spec)))
 }
 
-// open A T G
-fn read_open(keys: &mut Keys, nodes: u8, words: &[&[u8]]) -> Option<Command>
+// What a head asks of a group by its address alone: to open it, to shut it or to drop it.
+fn named_request(head: Head, token: Token, address: Addr) -> Request
+    ensures open { head ≡ OpenHead → result ≡ OpenGroup token address }
+    ensures shut { head ≡ ShutHead → result ≡ ShutGroup token address }
+    ensures drop { head ≡ DropHead → result ≡ DropGroup token address }
+{
+    match head {
+        Head::Open => Request::OpenGroup(token, address),
+        Head::Shut => Request::ShutGroup(token, address),
+        _ => Request::DropGroup(token, address),
+    }
+}
+
+// open A T G, shut A T G, drop A T G
+fn read_named(keys: &mut Keys, nodes: u8, head: Head, words: &[&[u8]]) -> Option<Command>
     requires { (1 ≤ nodes) × (nodes ≤ NODES) }
-    ensures { (command : TheCommand) → (result ≡ Some command)
+    ensures open { head ≡ OpenHead → (command : TheCommand) → (result ≡ Some command)
         ↔ SpellsNamed OpenGroup nodes command (map (λ word. word.now) words.now) }
-{
-    let [node, tenant, group] = words else {
-        return None;
-    };
-    let node = read_node(node, nodes)?;
-    let address = read_address(tenant, group)?;
-    let token = keys.tenant(address.tenant);
-    Some(Command::Request(node, Request::OpenGroup(token, address)))
-}
-
-// shut A T G
-fn read_shut(keys: &mut Keys, nodes: u8, words: &[&[u8]]) -> Option<Command>
-    requires { (1 ≤ nodes) × (nodes ≤ NODES) }
-    ensures { (command : TheCommand) → (result ≡ Some command)
+    ensures shut { head ≡ ShutHead → (command : TheCommand) → (result ≡ Some command)
         ↔ SpellsNamed ShutGroup nodes command (map (λ word. word.now) words.now) }
-{
-    let [node, tenant, group] = words else {
-        return None;
-    };
-    let node = read_node(node, nodes)?;
-    let address = read_address(tenant, group)?;
-    let token = keys.tenant(address.tenant);
-    Some(Command::Request(node, Request::ShutGroup(token, address)))
-}
-
-// drop A T G
-fn read_drop(keys: &mut Keys, nodes: u8, words: &[&[u8]]) -> Option<Command>
-    requires { (1 ≤ nodes) × (nodes ≤ NODES) }
-    ensures { (command : TheCommand) → (result ≡ Some command)
+    ensures drop { head ≡ DropHead → (command : TheCommand) → (result ≡ Some command)
         ↔ SpellsNamed DropGroup nodes command (map (λ word. word.now) words.now) }
 {
     let [node, tenant, group] = words else {
         return None;
     };
-    let node = read_node(node, nodes)?;
-    let address = read_address(tenant, group)?;
+    let (node, address) = read_group(nodes, node, tenant, group)?;
     let token = keys.tenant(address.tenant);
-    Some(Command::Request(node, Request::DropGroup(token, address)))
+    Some(Command::Request(node, named_request(head, token, address)))
 }
 
 // The member that the first three words of a text name, and where the word behind them stands.
@@ -210,8 +209,7 @@ fn read_forge(alloc: Global, nodes: u8, words: &[&[u8]]) -> Option<Command>
     let [node, tenant, group] = words else {
         return None;
     };
-    let node = read_node(node, nodes)?;
-    let address = read_address(tenant, group)?;
+    let (node, address) = read_group(nodes, node, tenant, group)?;
     let request = Request::Say(NO_TOKEN, address, Payload::new(alloc));
     Some(Command::Request(node, request))
 }
@@ -418,9 +416,7 @@ fn read_arguments(
         Head::Cluster => Ok(None),
         Head::Tenant => Ok(read_tenant(keys, nodes, arguments)),
         Head::Make => Ok(read_make(keys, nodes, arguments)),
-        Head::Open => Ok(read_open(keys, nodes, arguments)),
-        Head::Shut => Ok(read_shut(keys, nodes, arguments)),
-        Head::Drop => Ok(read_drop(keys, nodes, arguments)),
+        Head::Open | Head::Shut | Head::Drop => Ok(read_named(keys, nodes, head, arguments)),
         Head::Forge => Ok(read_forge(alloc, nodes, arguments)),
         Head::Noise => read_noise(alloc, nodes, arguments),
         Head::Say

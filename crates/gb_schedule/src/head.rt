@@ -4,7 +4,7 @@ ghost use Rattle.gb_schedule.specs.declared.head.Head.{Head};
 ghost use Rattle.gb_schedule.specs.Head.{head_word};
 
 /// The first word of a line.
-#[derive(Clone, Copy, Debug, PartialEq, Eq)]
+#[derive(Clone, Copy)]
 pub enum Head {
     Cluster,
     Tenant,

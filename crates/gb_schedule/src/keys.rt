@@ -36,7 +36,7 @@ const KEPT: usize = 16_384;
 const RECENT: usize = 1_024;
 
 /// A member of a group, by the group's address and its node's number.
-#[derive(Clone, Copy, PartialEq, Eq, Hash, Debug)]
+#[derive(Clone, Copy, PartialEq, Eq, Hash)]
 pub struct GroupMember {
     address: Addr,
     node: u8,

@@ -27,7 +27,7 @@ const _: () = prove!(READS == 64_000_000);
 const SPACE: usize = 65_536;
 
 /// What comes next in a text.
-#[derive(Clone, Copy, Debug, PartialEq, Eq)]
+#[derive(Clone, Copy, PartialEq, Eq)]
 pub enum NextLine {
     /// A line, which `LineBuffer::line` shows.
     Given,

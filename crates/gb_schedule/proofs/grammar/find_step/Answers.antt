@@ -1,6 +1,6 @@
 use Rattle.std.proofs.Common.{◌≡◌, get_or, ap, sym, ◌∙◌, arith}
 use Rattle.gb_types.specs.Words.{words_of}
-use Rattle.gb_schedule.specs.declared.head.Head.TheVariants.{Pack, Again, Ack, Arrive, Fetch, Tick, Stop}
+use Rattle.gb_schedule.specs.declared.head.Head.TheVariants.{Pack, Fetch, Tick, Stop}
 use Rattle.gb_schedule.proofs.HeadLemmas.{step_found, no_step}
 use Rattle.gb_schedule.proofs.grammar.find_step.Goals as goal
 

@@ -1,7 +1,13 @@
 use Rattle.std.proofs.Common.{arith}
 use Rattle.gb_types.proofs.ReadLemmas.{words_and_rest}
-use Rattle.gb_schedule.proofs.RowLemmas.{make_reads}
+use Rattle.gb_schedule.proofs.RowLemmas.{make_reads, no_group}
 use Rattle.gb_schedule.proofs.grammar.read_make.Goals as goal
 
 pub returns : goal.returns
-returns c = make_reads _ _ _ _ _ _ _ _ _ _ (words_and_rest c.args.words.now _ 3 (omega arith)) c.in_ok-node.ensures c.in_ok-address.ensures c.in_ok-spec.ensures c.tenant-token.ensures
+returns c = make_reads _ _ _ _ _ _ _ _ _ (words_and_rest c.args.words.now _ 3 (omega arith)) c.in_ok-node.ensures c.in_ok-spec.ensures c.tenant-token.ensures
+
+pub returns-in_err-node : goal.returns-in_err-node
+returns-in_err-node c command = (
+  λ is. cc (c.from_residual.ensures, is),
+  λ spelt. absurd (no_group _ _ _ _ _ _ _ spelt.node spelt.address (words_and_rest c.args.words.now _ 3 (omega arith)) c.in_err-node.ensures spelt.in_cluster spelt.tenant spelt.group spelt.words_are),
+)
