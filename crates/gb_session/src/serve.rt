@@ -5,6 +5,7 @@ ghost use Rattle.std.specs.Prelude.{take, ℕ, List};
 ghost use Rattle.gb_types.specs.declared.reply.Reply.{Reply as TheReply};
 ghost use Rattle.gb_types.specs.declared.request.Request.{Request as TheRequest};
 ghost use Rattle.gb_session.specs.Feeds.{Gives};
+ghost use Rattle.gb_session.specs.Streams.{framed};
 ghost use Rattle.gb_session.specs.Runs.{reply_message, HasAsked};
 ghost use Rattle.gb_session.specs.Progress.{EndsBehind, TellsMalformed};
 ghost use Rattle.gb_session.specs.Sessions.{AnswersFirst, EndsPiece, IsSession};
@@ -34,7 +35,7 @@ pub const PIECE: usize = 65_536;
 const REPLY: usize = 4_294_967_295;
 
 /// How a session ended.
-#[derive(Clone, Copy, Debug, PartialEq, Eq)]
+#[derive(Clone, Copy, PartialEq, Eq)]
 pub enum SessionEnd {
     /// The input ended between two messages.
     Finished,
@@ -116,18 +117,26 @@ fn read_once<R: Read>(reader: &mut R, space: &mut [u8]) -> Result<usize, Session
     Err(SessionFault::Read)
 }
 
+// A text with its length in front, where four bytes can say that.
+fn frame(alloc: Global, text: &[u8]) -> Result<Vec<u8>, OutOfMemory>
+    ensures { IfOk result (λ message. message.items ≡ framed text.now) }
+{
+    if text.len() > REPLY {
+        return Err(OutOfMemory);
+    }
+    let length = text.len() as u32;
+    let mut message = Vec::from_slice(alloc, &length.to_be_bytes())?;
+    message.extend_from_slice(text)?;
+    Ok(message)
+}
+
 // Writes a reply with its length.
 fn write_reply<W: Write>(alloc: Global, writer: &mut W, reply: &Reply) -> Result<(), SessionFault>
     ensures ok { OnOk result (Appends (W.contents writer.old) (W.contents writer.new) (reply_message reply.now)) }
     ensures fault { IfErr result (λ why. (why ≡ SessionFault.Write) ⊎ (why ≡ SessionFault.OutOfMemory)) }
 {
     let text = reply_text(alloc, reply)?;
-    if text.len() > REPLY {
-        return Err(SessionFault::OutOfMemory);
-    }
-    let length = text.len() as u32;
-    let mut message = Vec::from_slice(alloc, &length.to_be_bytes())?;
-    message.extend_from_slice(&text)?;
+    let message = frame(alloc, &text)?;
     match writer.write_all(&message) {
         Ok(()) => Ok(()),
         Err(_) => Err(SessionFault::Write),
@@ -254,6 +263,15 @@ fn serve_pieces<A: Answers, R: Read, W: Write>(
     Ok(SessionEnd::Limit)
 }
 
+// What a session begins with: a feed before the first piece, and the space for the reads.
+fn begin(alloc: Global) -> Result<(Feed, Vec<u8>), OutOfMemory>
+    ensures feed { IfOk result (λ begun. begun.0 ≡ record { begun = []; is_malformed = false }) }
+    ensures space { IfOk result (λ begun. vec_len begun.1 ≡ PIECE) }
+{
+    let space = make_space(alloc)?;
+    Ok((Feed::new(alloc)?, space))
+}
+
 /// Answers the requests that the reader gives, and writes each reply with its length, until the input ends, a message is
 /// Malformed or a limit is reached. All requests of a read are answered before the next one.
 pub fn serve<A: Answers, R: Read, W: Write>(
@@ -266,7 +284,6 @@ pub fn serve<A: Answers, R: Read, W: Write>(
         (R.remaining reader.new) (W.contents writer.old) (W.contents writer.new)) }
     ensures asked { OnErr result (HasAsked A.answers answers.old answers.new) }
 {
-    let mut feed = Feed::new(alloc)?;
-    let mut space = make_space(alloc)?;
+    let (mut feed, mut space) = begin(alloc)?;
     serve_pieces(alloc, answers, reader, writer, &mut feed, &mut space)
 }
