@@ -1,3 +1,4 @@
+use Rattle.std.proofs.lemmas.Grind.{common_steps}
 use Rattle.std.proofs.Common.{arith}
 use Rattle.gb_types.proofs.ReadLemmas.{words_and_rest}
 use Rattle.gb_schedule.proofs.RowLemmas.{make_reads, no_group}
@@ -11,3 +12,9 @@ returns-in_err-node c command = (
   λ is. cc (c.from_residual.ensures, is),
   λ spelt. absurd (no_group _ _ _ _ _ _ _ spelt.node spelt.address (words_and_rest c.args.words.now _ 3 (omega arith)) c.in_err-node.ensures spelt.in_cluster spelt.tenant spelt.group spelt.words_are),
 )
+
+pub returns-in_default : goal.returns-in_default
+returns-in_default c = grind (arith, common_steps)
+
+pub returns-in_err-spec : goal.returns-in_err-spec
+returns-in_err-spec c = grind (arith, common_steps)

@@ -1,3 +1,4 @@
+use Rattle.std.proofs.lemmas.Grind.{common_steps}
 use Rattle.std.proofs.Common.{arith}
 use Rattle.gb_types.specs.declared.request.Request.TheVariants.{OpenGroup, ShutGroup, DropGroup}
 use Rattle.gb_types.proofs.ReadLemmas.{words_are}
@@ -30,3 +31,12 @@ returns-in_err-node-clause-drop c _ command = (
   λ is. cc (c.from_residual.ensures, is),
   λ spelt. absurd (no_group _ _ _ _ _ _ _ spelt.node spelt.address (words_are c.args.words.now _ 3 (omega arith)) c.in_err-node.ensures spelt.in_cluster spelt.tenant spelt.group spelt.words_are),
 )
+
+pub returns-in_default-clause-open : goal.returns-in_default-clause-open
+returns-in_default-clause-open c = grind (arith, common_steps)
+
+pub returns-in_default-clause-shut : goal.returns-in_default-clause-shut
+returns-in_default-clause-shut c = grind (arith, common_steps)
+
+pub returns-in_default-clause-drop : goal.returns-in_default-clause-drop
+returns-in_default-clause-drop c = grind (arith, common_steps)
