@@ -1,3 +1,5 @@
+use Rattle.std.proofs.Common.{arith}
+use Rattle.std.proofs.lemmas.Grind.{common_steps}
 use Rattle.std.proofs.Common.{◌<◌, length, rules}
 use Rattle.gb_types.proofs.LogTextLemmas.{payload_digits}
 use Rattle.gb_types.proofs.log_text.write_payload.Goals as goal
@@ -11,3 +13,6 @@ pub slice_bounds-encode_to_slice-end : goal.slice_bounds-encode_to_slice-end
 slice_bounds-encode_to_slice-end c =
     let some : 0 < length c.args.payload.now = search rules in
     let digits = payload_digits c.args.payload.now some in search (rules, digits.1)
+
+pub returns-clause-text : goal.returns-clause-text
+returns-clause-text c = grind (arith, common_steps)

@@ -1,0 +1,15 @@
+use Rattle.std.proofs.Common.{arith}
+use Rattle.std.proofs.lemmas.Grind.{common_steps}
+use Rattle.gb_types.proofs.reply_text.put_log.Goals as goal
+
+pub returns-clause-err : goal.returns-clause-err
+returns-clause-err c = grind (arith, common_steps)
+
+pub returns-clause-ok : goal.returns-clause-ok
+returns-clause-ok c = grind (arith, common_steps)
+
+pub returns-in_err-put_bytes-clause-err : goal.returns-in_err-put_bytes-clause-err
+returns-in_err-put_bytes-clause-err c = grind (arith, common_steps)
+
+pub returns-in_err-put_number-clause-err : goal.returns-in_err-put_number-clause-err
+returns-in_err-put_number-clause-err c = grind (arith, common_steps)
