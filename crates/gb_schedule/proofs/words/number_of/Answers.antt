@@ -1,3 +1,4 @@
+use Rattle.std.proofs.lemmas.Grind.{common_steps}
 use Rattle.std.proofs.Common.{◌≡◌, ◌∙◌, drop, get_or, ap, sym, arith}
 use Rattle.std.proofs.lemmas.List.{get_or-drop}
 use Rattle.gb_schedule.proofs.NumbersLemmas.{zero_first, digits_spell}
@@ -23,3 +24,12 @@ returns-else-text-from-eq48 c =
     let range = c.in-2-to-19 in
     let here : get_or c.args.text.now c.args.from 0 ≡ get_or front 0 0 = ap (λ k. get_or c.args.text.now k 0) (omega arith) ∙ sym (get_or-drop c.args.from c.args.text.now 0 0) in
     digits_spell front c.args.digits c.requires.within c.requires.digits c.args.number c.ranges.number.fits (c.requires.number (omega (arith, range))) (omega (arith, range)) (λ more begin. c.if-text-from-eq48.false (here ∙ begin))
+
+pub bounds-text-from : goal.bounds-text-from
+bounds-text-from c = grind (arith, common_steps)
+
+pub overflow_add-from : goal.overflow_add-from
+overflow_add-from c = grind (arith, common_steps)
+
+pub slice_bounds-read_word-end : goal.slice_bounds-read_word-end
+slice_bounds-read_word-end c = grind (arith, common_steps)

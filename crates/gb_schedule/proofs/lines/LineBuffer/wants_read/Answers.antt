@@ -1,3 +1,4 @@
+use Rattle.std.proofs.lemmas.Grind.{common_steps}
 use Rattle.std.proofs.Common.{◌≡◌, ◌-◌, length, refl, arith}
 use Rattle.std.proofs.lemmas.Bool.{false≢true}
 use Rattle.std.proofs.lemmas.List.Edits.{length-between}
@@ -24,3 +25,6 @@ returns-in-None c =
       }),
       λ _. refl,
     )
+
+pub returns-then-self : goal.returns-then-self
+returns-then-self c = grind (arith, common_steps)
