@@ -102,7 +102,10 @@ fn add_parts<L: Tapes>(closed: &mut Closed, hosted: Hosted<L>) -> Result<(), Hos
 {
     match make_room(closed, hosted.me()) {
         Ok(()) => {}
-        Err(fault) => return Err(fault),
+        Err(fault) => {
+            drop(hosted);
+            return Err(fault);
+        }
     }
     let (node, tape) = hosted.into_parts();
     closed.nodes.push_reserved(node);

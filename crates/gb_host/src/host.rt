@@ -109,10 +109,12 @@ impl<L: Tapes, M: Ledger> Host<L, M> {
         ensures err { OnErr result (seat.new ≡ seat.old) }
     {
         if node.index() >= self.nodes.len() {
+            drop(event);
             return Err(HostFault::NoNode);
         }
         let mut hosted = self.nodes[node.index()].lock(rt);
         if hosted.me().number != node.number {
+            drop(event);
             return Err(HostFault::NoNode);
         }
         let _ = gate.pass();

@@ -2,7 +2,7 @@
 ghost use Rattle.std.specs.Prelude.{◌≡◌, ◌+◌, ◌-◌, ◌<◌, ◌≤◌, ◌^◌, ◌++◌, [], true, false, length, vec_len, IfOk, IfErr, OnOk, OnErr, cond, slice_index, slice_set, vec_capacity};
 ghost use Rattle.gb_node.specs.NodeStep.{IsTurn, IsSpelt};
 ghost use Rattle.gb_node.specs.NodeValue.{new_node};
-ghost use Rattle.gb_node.specs.Reads.{room_of};
+ghost use Rattle.gb_node.specs.Reads.{is_read, room_of};
 ghost use Rattle.gb_host.specs.Plans.{plan_of, kept, IsPlan};
 ghost use Rattle.gb_host.specs.Replay.{IsReplay};
 
@@ -137,7 +137,10 @@ impl<L: Tapes> Hosted<L> {
             share,
         } = self;
         if !plan.tape {
-            return Ok(node.take(&event));
+            let answer = node.take(&event);
+            // Here and below `drop` is called by name: a value that ends by itself is taken apart in the proof.
+            drop(event);
+            return Ok(answer);
         }
         let Seat {
             number,
@@ -147,13 +150,19 @@ impl<L: Tapes> Hosted<L> {
         } = seat;
         let copy = match make_room(*alloc, &event, tape, list) {
             Ok(copy) => copy,
-            Err(fault) => return Err(fault),
+            Err(fault) => {
+                drop(event);
+                return Err(fault);
+            }
         };
         let (answer, for_tape, for_list) = match answers(
             rt, *alloc, books, node, share, mine, &event,
         ) {
             Ok(answers) => answers,
-            Err(fault) => return Err(fault),
+            Err(fault) => {
+                drop((event, copy));
+                return Err(fault);
+            }
         };
         let at = me.index();
         let count = counts[at];
@@ -185,11 +194,12 @@ fn make_room(
     ensures room { OnOk result ((vec_len tape.new < vec_capacity tape.new) × (vec_len list.new < vec_capacity list.new)) }
     ensures few { OnOk result (length list.old.items < 2 ^ 64 - 1) }
 {
-    let copy = event.duplicate(alloc)?;
-    tape.reserve(1)?;
-    list.reserve(1)?;
+    if tape.reserve(1).is_err() || list.reserve(1).is_err() {
+        return Err(HostFault::OutOfMemory);
+    }
     // The proof reads how long the list may be.
     let _most = list.capacity();
+    let copy = event.duplicate(alloc)?;
     Ok(copy)
 }
 
@@ -212,12 +222,12 @@ fn answers<L: Tapes, M: Ledger, R: Wait>(
     ensures err { OnErr result ((node.new ≡ node.old) × (tape.new.amount ≡ tape.old.amount) × (seat.new.amount ≡ seat.old.amount)) }
 {
     if event.only_reads() {
-        let answer = node.take(event);
-        let (for_tape, for_list) = copies(alloc, &answer)?;
-        if !book(rt, books, tape, seat) {
-            return Err(HostFault::Full);
+        let read = read_answers(alloc, node, event)?;
+        if book(rt, books, tape, seat) {
+            return Ok(read);
         }
-        return Ok((answer, for_tape, for_list));
+        drop(read);
+        return Err(HostFault::Full);
     }
     let (room, other_room) = rooms(alloc, event)?;
     if !book(rt, books, tape, seat) {
@@ -244,12 +254,38 @@ fn book<L: Ledger, M: Ledger, R: Wait>(
     books.lock(rt).add(tape, seat)
 }
 
+// The answer to an event that only reads, and two copies of it.
+fn read_answers(
+    alloc: Global,
+    node: &mut Node,
+    event: &NodeEvent,
+) -> Result<(NodeAnswer, NodeAnswer, NodeAnswer), HostFault>
+    requires { is_read event.now ≡ true }
+    ensures turn { IfOk result (λ r. IsTurn node.old event.now r.0 node.new) }
+    ensures spelt { IfOk result (λ r. IsSpelt node.old event.now r.0) }
+    ensures copies { IfOk result (λ r. (r.1 ≡ r.0) × (r.2 ≡ r.0)) }
+    ensures same { node.new ≡ node.old }
+{
+    let answer = node.take(event);
+    let (for_tape, for_list) = match copies(alloc, &answer) {
+        Ok(copies) => copies,
+        Err(fault) => {
+            drop(answer);
+            return Err(fault);
+        }
+    };
+    Ok((answer, for_tape, for_list))
+}
+
 // Two copies of an answer.
 fn copies(alloc: Global, answer: &NodeAnswer) -> Result<(NodeAnswer, NodeAnswer), HostFault>
     ensures { IfOk result (λ r. (r.0 ≡ answer.now) × (r.1 ≡ answer.now)) }
 {
     let for_tape = answer.duplicate(alloc)?;
-    let for_list = answer.duplicate(alloc)?;
+    let Ok(for_list) = answer.duplicate(alloc) else {
+        drop(for_tape);
+        return Err(HostFault::OutOfMemory);
+    };
     Ok((for_tape, for_list))
 }
 
