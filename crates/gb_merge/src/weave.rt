@@ -1,5 +1,5 @@
 //! Taking the entries of tapes one after the other, as events of a cluster.
-ghost use Rattle.std.specs.Prelude.{◌≡◌, ◌≤◌, ◌<◌, [], ℕ, List, length, IsTrue, false, MatchOption, IfOk, IfErr};
+ghost use Rattle.std.specs.Prelude.{◌≡◌, ◌≤◌, ◌<◌, [], ℕ, List, length, IsTrue, false, MatchOption, IfOk, IfErr, OnOk};
 ghost use Rattle.gb_types.specs.declared.limits.TheConstants.{NODES};
 ghost use Rattle.gb_node.specs.declared.tape.TapeEntry.{TapeEntry as Entry};
 ghost use Rattle.gb_merge.specs.Interleaving.{tape_of, IsEventOf};
@@ -157,22 +157,46 @@ pub(crate) fn weave<'a>(
     let mut rest = whole(alloc, tapes)?;
     let mut marks = vec![in alloc; false; rest.len()]?;
     let mut sent = Mail::new(alloc);
-    let mut order = Vec::new(alloc);
-    let mut events = Vec::new(alloc);
+    let mut woven = Woven {
+        order: Vec::new(alloc),
+        events: Vec::new(alloc),
+    };
+    match weave_all(alloc, reader, &mut rest, &mut marks, &mut sent, &mut woven) {
+        Ok(()) => Ok(woven),
+        Err(fault) => Err(fault),
+    }
+}
+
+/// The same on what the caller owns, so that no exit of the loop has anything to drop.
+fn weave_all<'a>(
+    alloc: Global,
+    reader: &Reader,
+    rest: &mut Vec<Rest<'a>>,
+    marks: &mut Vec<bool>,
+    sent: &mut Mail<'a>,
+    woven: &mut Woven<'a>,
+) -> Result<(), AuditFault>
+    requires few { length rest.old.items ≤ NODES }
+    requires begins { (sent.old ≡ []) × (woven.old.order.items ≡ []) × (woven.old.events.items ≡ []) }
+    requires count { length marks.old.items ≡ length rest.old.items }
+    requires marked { AreMarked reader.now marks.old.items sent.old rest.old.items }
+    ensures ok { OnOk result ((left : List (List Entry)) × IsWoven reader.now rest.old.items left woven.new.order.items woven.new.events.items × ((a : ℕ) → tape_of left a ≡ [])) }
+    ensures err { IfErr result (IsWeaveFault reader.now rest.old.items) }
+{
     'all: loop {
-        let found = next_event(alloc, reader, rest.as_slice(), &sent, &mut marks)?;
+        let found = next_event(alloc, reader, rest.as_slice(), sent, marks)?;
         let Some((a, event)) = found else {
             if all_empty(rest.as_slice()) {
-                return Ok(Woven { order, events });
+                return Ok(());
             }
             return Err(AuditFault::Stuck);
         };
+        woven.events.push(event)?;
         let Some(entry) = rest[a.index()].take() else {
             unreachable!();
         };
-        post(&mut sent, &entry.answer)?;
-        wake(&mut marks, rest.as_slice(), &entry.answer);
-        order.push(Taking { node: a, entry })?;
-        events.push(event)?;
+        post(sent, &entry.answer)?;
+        wake(marks, rest.as_slice(), &entry.answer);
+        woven.order.push(Taking { node: a, entry })?;
     }
 }
