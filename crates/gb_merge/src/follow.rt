@@ -77,6 +77,13 @@ fn is_sent(packets: &[Posted], sending: &Sending, sent: &Sent) -> bool
     }
 }
 
+/// Whether the answer is the node's, after which it is done with.
+fn is_given(answer: NodeAnswer, given: &NodeAnswer) -> bool
+    ensures { IsTrue result ↔ (answer ≡ given.now) }
+{
+    answer.is(given)
+}
+
 /// Whether the cluster's answer is the node's, packets compared by their bytes.
 fn is_told(packets: &[Posted], answer: Answer, given: &NodeAnswer) -> bool
     ensures { IsTrue result ↔ (told packets.now answer ≡ Some given.now) }
@@ -86,10 +93,10 @@ fn is_told(packets: &[Posted], answer: Answer, given: &NodeAnswer) -> bool
             NodeAnswer::Sent(sent) => is_sent(packets, &sending, sent),
             _ => false,
         },
-        Answer::Reply(reply) => NodeAnswer::Reply(reply).is(given),
-        Answer::Taken(taken) => NodeAnswer::Taken(taken).is(given),
-        Answer::Ticked(ticked) => NodeAnswer::Ticked(ticked).is(given),
-        Answer::Halted(halted) => NodeAnswer::Halted(halted).is(given),
+        Answer::Reply(reply) => is_given(NodeAnswer::Reply(reply), given),
+        Answer::Taken(taken) => is_given(NodeAnswer::Taken(taken), given),
+        Answer::Ticked(ticked) => is_given(NodeAnswer::Ticked(ticked), given),
+        Answer::Halted(halted) => is_given(NodeAnswer::Halted(halted), given),
         Answer::NoPacket | Answer::NotNoise => false,
     }
 }

@@ -31,7 +31,13 @@ fn all_sent<'a>(alloc: Global, tapes: &'a [Tape]) -> Result<Mail<'a>, OutOfMemor
 {
     let mut sent = Mail::new(alloc);
     for tape in tapes {
-        post_all(&mut sent, tape.as_slice())?;
+        match post_all(&mut sent, tape.as_slice()) {
+            Ok(()) => {}
+            Err(fault) => {
+                drop(sent);
+                return Err(fault);
+            }
+        }
     }
     Ok(sent)
 }
@@ -86,5 +92,7 @@ pub(crate) fn have_stranger(
     ensures none { IfOk result (λ b. b ≡ false → IsStranger reader.now tapes.now → ⊥) }
 {
     let sent = all_sent(alloc, tapes)?;
-    Ok(any_stranger(reader, tapes, &sent))
+    let found = any_stranger(reader, tapes, &sent);
+    drop(sent);
+    Ok(found)
 }

@@ -126,7 +126,7 @@ fn whole<'a>(alloc: Global, tapes: &'a [Tape]) -> Result<Vec<Rest<'a>>, OutOfMem
 {
     let mut rest = Vec::with_capacity(alloc, tapes.len())?;
     for tape in tapes {
-        rest.push(Rest::new(tape.as_slice()))?;
+        rest.push_reserved(Rest::new(tape.as_slice()));
     }
     Ok(rest)
 }
@@ -161,7 +161,9 @@ pub(crate) fn weave<'a>(
         order: Vec::new(alloc),
         events: Vec::new(alloc),
     };
-    match weave_all(alloc, reader, &mut rest, &mut marks, &mut sent, &mut woven) {
+    let ended = weave_all(alloc, reader, &mut rest, &mut marks, &mut sent, &mut woven);
+    drop(sent);
+    match ended {
         Ok(()) => Ok(woven),
         Err(fault) => Err(fault),
     }
