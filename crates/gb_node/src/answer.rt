@@ -24,7 +24,7 @@ pub enum NodeAnswer {
 }
 
 /// What became of bytes that came.
-#[derive(Clone, Copy, PartialEq, Eq, Debug)]
+#[derive(Clone, Copy, PartialEq, Eq)]
 pub enum PacketAnswer {
     /// They are a packet for this node.
     Good(Good),
@@ -35,7 +35,7 @@ pub enum PacketAnswer {
 }
 
 /// What a node made of a packet.
-#[derive(Clone, Copy, PartialEq, Eq, Debug)]
+#[derive(Clone, Copy, PartialEq, Eq)]
 pub struct Good {
     /// The node that sent it.
     pub from: NodeId,
@@ -47,7 +47,7 @@ pub struct Good {
 }
 
 /// What a node made of a packet's frame.
-#[derive(Clone, Copy, PartialEq, Eq, Debug)]
+#[derive(Clone, Copy, PartialEq, Eq)]
 pub enum Frame {
     /// The packet has none.
     Nothing,
@@ -79,7 +79,7 @@ pub enum Ticked {
 }
 
 /// Whether a node stopped.
-#[derive(Clone, Copy, PartialEq, Eq, Debug)]
+#[derive(Clone, Copy, PartialEq, Eq)]
 pub enum Halted {
     Done,
     /// Stopped: it had stopped before.

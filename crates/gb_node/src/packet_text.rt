@@ -4,7 +4,7 @@ ghost use Rattle.std.specs.Prelude.{◌≡◌, ℕ, List};
 use std::marker::Model;
 
 /// The bytes of a packet, or those that came in the place of one. Contracts see their list.
-#[derive(Debug, Drop)]
+#[derive(Drop)]
 pub struct PacketText {
     bytes: Vec<u8>,
 }

@@ -3,6 +3,7 @@ ghost use Rattle.std.specs.Prelude.{◌≡◌, ◌↔◌, IsTrue};
 
 use crate::answer::{Good, PacketAnswer, Sent, Ticked};
 use crate::packet_text::PacketText;
+use gb_types::address::Addr;
 use gb_types::entry::Entry;
 use gb_types::node::{NodeId, NodeSet};
 use gb_types::reply::Reply;
@@ -40,6 +41,13 @@ fn same_spec(first: &Spec, second: &Spec) -> bool
         && first.window == second.window
 }
 
+/// Whether the tokens are the same, and the groups that are asked for under them.
+fn same_group(token: &[u8; 32], group: &Addr, other_token: &[u8; 32], other_group: &Addr) -> bool
+    ensures { IsTrue result ↔ ((token.now ≡ other_token.now) × (group.now ≡ other_group.now)) }
+{
+    *token == *other_token && *group == *other_group
+}
+
 /// Whether the requests are the same, and under the same token.
 pub(crate) fn same_request(first: &Request, second: &Request) -> bool
     ensures { IsTrue result ↔ (first.now ≡ second.now) }
@@ -47,16 +55,16 @@ pub(crate) fn same_request(first: &Request, second: &Request) -> bool
     match (first, second) {
         (Request::AddTenant(t, row), Request::AddTenant(u, other)) => *t == *u && *row == *other,
         (Request::Make(t, a, spec), Request::Make(u, b, other)) => {
-            *t == *u && *a == *b && same_spec(spec, other)
+            same_group(t, a, u, b) && same_spec(spec, other)
         }
-        (Request::OpenGroup(t, a), Request::OpenGroup(u, b)) => *t == *u && *a == *b,
-        (Request::ShutGroup(t, a), Request::ShutGroup(u, b)) => *t == *u && *a == *b,
-        (Request::DropGroup(t, a), Request::DropGroup(u, b)) => *t == *u && *a == *b,
+        (Request::OpenGroup(t, a), Request::OpenGroup(u, b)) => same_group(t, a, u, b),
+        (Request::ShutGroup(t, a), Request::ShutGroup(u, b)) => same_group(t, a, u, b),
+        (Request::DropGroup(t, a), Request::DropGroup(u, b)) => same_group(t, a, u, b),
         (Request::Say(t, a, said), Request::Say(u, b, other)) => {
-            *t == *u && *a == *b && said.as_slice() == other.as_slice()
+            same_group(t, a, u, b) && said.as_slice() == other.as_slice()
         }
         (Request::Fetch(t, a, from, most), Request::Fetch(u, b, start, count)) => {
-            *t == *u && *a == *b && *from == *start && *most == *count
+            same_group(t, a, u, b) && *from == *start && *most == *count
         }
         _ => false,
     }
