@@ -57,9 +57,9 @@ pub(crate) fn same_request(first: &Request, second: &Request) -> bool
         (Request::Make(t, a, spec), Request::Make(u, b, other)) => {
             same_group(t, a, u, b) && same_spec(spec, other)
         }
-        (Request::OpenGroup(t, a), Request::OpenGroup(u, b)) => same_group(t, a, u, b),
-        (Request::ShutGroup(t, a), Request::ShutGroup(u, b)) => same_group(t, a, u, b),
-        (Request::DropGroup(t, a), Request::DropGroup(u, b)) => same_group(t, a, u, b),
+        (Request::OpenGroup(t, a), Request::OpenGroup(u, b))
+        | (Request::ShutGroup(t, a), Request::ShutGroup(u, b))
+        | (Request::DropGroup(t, a), Request::DropGroup(u, b)) => same_group(t, a, u, b),
         (Request::Say(t, a, said), Request::Say(u, b, other)) => {
             same_group(t, a, u, b) && said.as_slice() == other.as_slice()
         }
