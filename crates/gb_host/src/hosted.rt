@@ -160,7 +160,8 @@ impl<L: Tapes> Hosted<L> {
         ) {
             Ok(answers) => answers,
             Err(fault) => {
-                drop((event, copy));
+                drop(event);
+                drop(copy);
                 return Err(fault);
             }
         };
