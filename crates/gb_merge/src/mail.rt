@@ -41,8 +41,10 @@ fn note<'a>(
     if firsts.get(bytes).is_some() {
         return Ok(());
     }
-    firsts.insert(bytes, place)?;
-    Ok(())
+    match firsts.insert(bytes, place) {
+        Ok(_) => Ok(()),
+        Err(_) => Err(OutOfMemory),
+    }
 }
 
 impl<'a> Mail<'a> {
@@ -71,9 +73,15 @@ impl<'a> Mail<'a> {
         ensures ok { OnOk result (self.new ≡ self.old ++ bytes.now ∷ []) }
         ensures err { OnErr result (self.new ≡ self.old) }
     {
-        self.packets.reserve(1)?;
-        note(&mut self.firsts, bytes, self.packets.len())?;
-        self.packets.push_reserved(bytes);
-        Ok(())
+        if self.packets.reserve(1).is_err() {
+            return Err(OutOfMemory);
+        }
+        match note(&mut self.firsts, bytes, self.packets.len()) {
+            Ok(()) => {
+                self.packets.push_reserved(bytes);
+                Ok(())
+            }
+            Err(fault) => Err(fault),
+        }
     }
 }
