@@ -19,9 +19,8 @@ use gb_types::reply::Reply;
 use gb_types::reply_text::reply_text;
 use gb_types::request::Request;
 use std::alloc::{AllocError, Global};
-use std::error::Error;
-use std::fmt::{self, Display, Formatter};
 use std::io::{ErrorKind, Read, Write};
+use thiserror::Error;
 
 /// How many requests a session answers at most.
 pub const REQUESTS: u64 = 1_000_000;
@@ -49,27 +48,18 @@ pub enum SessionEnd {
 }
 
 /// Why a session was not held to its end. It is over: the client may have part of a reply.
-#[derive(Clone, Copy, Debug, PartialEq, Eq)]
+#[derive(Clone, Copy, Debug, PartialEq, Eq, Error)]
 pub enum SessionFault {
     /// Number 1: a read failed, or was interrupted `READS` times in a row.
+    #[error("a read failed")]
     Read,
     /// Number 2: a write failed.
+    #[error("a write failed")]
     Write,
     /// Number 3: a request for memory was refused, or a reply was longer than its length can say.
+    #[error("out of memory")]
     OutOfMemory,
 }
-
-impl Display for SessionFault {
-    fn fmt<F: fmt::Write>(&self, f: &mut Formatter<F>) -> fmt::Result {
-        f.write_str(match self {
-            SessionFault::Read => "a read failed",
-            SessionFault::Write => "a write failed",
-            SessionFault::OutOfMemory => "out of memory",
-        })
-    }
-}
-
-impl Error for SessionFault {}
 
 impl From<OutOfMemory> for SessionFault {
     ghost from_gives = { λ _ fault. fault ≡ NoMemory };

@@ -1,70 +1,55 @@
 //! Why a request is refused.
-use std::error::Error;
-use std::fmt::{Display, Formatter, Result, Write};
+use thiserror::Error;
 
 /// Why a request was refused. Nothing has changed then.
-#[derive(Clone, Copy, Debug, PartialEq, Eq)]
+#[derive(Clone, Copy, Debug, PartialEq, Eq, Error)]
 pub enum Refusal {
     /// The token is not the one that the request needs, or the tenant is not known here.
+    #[error("denied")]
     Denied,
     /// The group was never made here, or its number is not below the tenant's.
+    #[error("no such group")]
     NoGroup,
     /// The group was made here before, or is given up.
+    #[error("the group's number is spent")]
     Spent,
     /// The members are none, without this node, or beyond the cluster.
+    #[error("bad members")]
     BadMembers,
     /// More is asked than the tenant has, or than the service gives, or nothing where something is needed.
+    #[error("over the reserve")]
     OverReserve,
     /// The group is not in the phase that the request needs.
+    #[error("wrong phase")]
     WrongPhase,
     /// The payload is longer than the longest.
+    #[error("the payload is too long")]
     TooLong,
     /// All messages that the group allows this member are said.
+    #[error("the budget of messages is spent")]
     Budget,
     /// The payload would pass the bytes that the group allows this member.
+    #[error("the budget of bytes is spent")]
     Bytes,
     /// As many own messages are unfinished as the group allows.
+    #[error("the window is full")]
     Window,
     /// The place is beyond the log, or too many entries are asked for.
+    #[error("bad place")]
     BadPlace,
     /// The node has no place for another tenant or group.
+    #[error("no room")]
     NoRoom,
     /// The tenant is there already.
+    #[error("the tenant is there")]
     TenantThere,
     /// The request is not in the grammar.
+    #[error("malformed")]
     Malformed,
     /// The node has stopped.
+    #[error("stopped")]
     Stopped,
     /// A request for memory was refused.
+    #[error("out of memory")]
     OutOfMemory,
 }
-
-/// The words that tell of a refusal.
-fn words(why: Refusal) -> &'static str {
-    match why {
-        Refusal::Denied => "denied",
-        Refusal::NoGroup => "no such group",
-        Refusal::Spent => "the group's number is spent",
-        Refusal::BadMembers => "bad members",
-        Refusal::OverReserve => "over the reserve",
-        Refusal::WrongPhase => "wrong phase",
-        Refusal::TooLong => "the payload is too long",
-        Refusal::Budget => "the budget of messages is spent",
-        Refusal::Bytes => "the budget of bytes is spent",
-        Refusal::Window => "the window is full",
-        Refusal::BadPlace => "bad place",
-        Refusal::NoRoom => "no room",
-        Refusal::TenantThere => "the tenant is there",
-        Refusal::Malformed => "malformed",
-        Refusal::Stopped => "stopped",
-        Refusal::OutOfMemory => "out of memory",
-    }
-}
-
-impl Display for Refusal {
-    fn fmt<W: Write>(&self, f: &mut Formatter<W>) -> Result {
-        f.write_str(words(*self))
-    }
-}
-
-impl Error for Refusal {}
