@@ -60,14 +60,21 @@ impl<L: Tapes, M: Ledger> Host<L, M> {
     {
         let (tapes, mut tape_rest) = tape_blank.open::<L>();
         let (lists, mut seat_rest) = seat_blank.open::<M>();
-        let given = open_seats(alloc, seats, &mut seat_rest)?;
-        let nodes = open_nodes(alloc, plan, &mut tape_rest)?;
+        let books = Mutex::new(Books::new(tapes, lists));
+        let given = match open_seats(alloc, seats, &mut seat_rest) {
+            Ok(given) => given,
+            Err(fault) => return Err(fault),
+        };
+        let nodes = match open_nodes(alloc, plan, &mut tape_rest) {
+            Ok(nodes) => nodes,
+            Err(fault) => return Err(fault),
+        };
         let host = Host {
             alloc,
             plan,
             seats,
             nodes,
-            books: Mutex::new(Books::new(tapes, lists)),
+            books,
         };
         Ok((host, given))
     }
