@@ -4,30 +4,14 @@ ghost use Rattle.gb_session.specs.declared.grammar.TheConstants.{BODY};
 ghost use Rattle.std.specs.List.{flat_map};
 ghost use Rattle.gb_types.specs.declared.request.Request.{Request as TheRequest};
 ghost use Rattle.gb_session.specs.Grammar.{IsRequestText};
-ghost use Rattle.gb_session.specs.Head.{head_word};
 ghost use Rattle.gb_client.specs.Requests.{body_of};
 
 use crate::fault::ClientFault;
 use gb_session::grammar::parse_request;
-use gb_session::head::Head;
+use gb_session::head::{Head, head_word};
 use gb_types::memory::OutOfMemory;
 use gb_types::refusal::Refusal;
 use std::alloc::Global;
-
-/// The word for a head.
-pub fn head_word(head: Head) -> &'static [u8]
-    ensures { result.now ≡ head_word head }
-{
-    match head {
-        Head::Tenant => b"tenant",
-        Head::Make => b"make",
-        Head::Open => b"open",
-        Head::Shut => b"shut",
-        Head::Drop => b"drop",
-        Head::Say => b"say",
-        Head::Fetch => b"fetch",
-    }
-}
 
 // Appends a word after a space.
 fn put_word(out: &mut Vec<u8>, word: &[u8]) -> Result<(), OutOfMemory>
