@@ -1,7 +1,7 @@
 // A chat of three members, as examples/walk.sh and examples/client.py hold it: a server is started, each member's node takes the
 // tenant in, makes its group and opens it, each member says something, each reads what all said, and the server ends.
-use crate::clients::connect;
 use crate::served::{KEYS, ended, printed};
+use crate::socket_clients::connect;
 use gb_client::exchange::{receive, send};
 use gb_client::fault::ClientFault;
 use gb_client::secrets::Secrets;

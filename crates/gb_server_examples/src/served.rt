@@ -1,5 +1,5 @@
 // Whole servers: what they print, and what their clients are told.
-use crate::clients::{DENIED, MALFORMED, OPEN, address, leaves, told};
+use crate::socket_clients::{DENIED, MALFORMED, OPEN, address, leaves, told};
 use gb_server::serve_main::serve_main;
 use gb_types::number::read_number;
 use std::alloc::Global;

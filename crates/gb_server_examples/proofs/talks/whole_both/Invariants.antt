@@ -1,4 +1,4 @@
-use Rattle.gb_worker_examples.proofs.talks.whole_both.Given as goal
+use Rattle.gb_server_examples.proofs.talks.whole_both.Given as goal
 
 abbrev pub ghosts-run_both-L-Tapes : goal.ghosts-run_both-L-Tapes
 ghosts-run_both-L-Tapes g a = record { plan = a.plan }

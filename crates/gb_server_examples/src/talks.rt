@@ -2,7 +2,7 @@
 ghost use Rattle.std.specs.Prelude.{◌≡◌, ◌+◌};
 ghost use Rattle.gb_host.specs.Plans.{IsPlan};
 
-use crate::clients::{Asking, Held, Told};
+use crate::client_streams::{Asking, Held, Told};
 use crate::plans::two_nodes;
 use gb_host::close::close;
 use gb_host::fault::HostFault;

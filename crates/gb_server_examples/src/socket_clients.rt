@@ -1,15 +1,15 @@
-// What clients of a server do, as clients that are right and as ones that are not.
+// What clients of a server do over sockets, as clients that are right and as ones that are not.
 use std::alloc::Global;
 use std::io::{Read, Write};
 use std::net::{Ipv4Addr, Net, Shutdown, SocketAddr, SocketAddrV4, TcpStream};
 use std::thread;
 use std::time::{Clock, Duration};
 
-/// A request of a group of a tenant that is not there, with its length.
+/// A request of a group of a tenant that is not there, whose token no node gave out, with its length.
 pub static OPEN: &[u8] =
     b"\x00\x00\x00\x49open 0000000000000000000000000000000000000000000000000000000000000000 7 1";
 
-/// The reply to it.
+/// How a running node answers it.
 pub static DENIED: &[u8] = b"\x00\x00\x00\x10refused 1 Denied";
 
 /// The reply to what is no request.

@@ -1,16 +1,10 @@
 // Readers, writers and gates of clients.
+use crate::socket_clients::{DENIED, OPEN};
 use gb_host::gate::Gate;
 use std::io::{ErrorKind, Read, Write};
 use std::sync::atomic::{AtomicU64, Ordering};
 use std::time::{Clock, Duration};
 use std::{io, thread};
-
-/// A request whose token no node gave out.
-pub const REQUEST: &[u8] =
-    b"\x00\x00\x00\x49open 0000000000000000000000000000000000000000000000000000000000000000 7 1";
-
-/// How a running node answers it.
-const DENIED: &[u8] = b"\x00\x00\x00\x10refused 1 Denied";
 
 /// How many milliseconds a gate is held at most.
 const PATIENCE: u64 = 10_000;
@@ -29,11 +23,11 @@ impl Read for Asking {
         if self.reads == self.fails_at {
             return Err(ErrorKind::Other.into());
         }
-        if self.reads > self.requests || buf.len() < REQUEST.len() {
+        if self.reads > self.requests || buf.len() < OPEN.len() {
             return Ok(0);
         }
-        buf[..REQUEST.len()].copy_from_slice(REQUEST);
-        Ok(REQUEST.len())
+        buf[..OPEN.len()].copy_from_slice(OPEN);
+        Ok(OPEN.len())
     }
 }
 

@@ -1,4 +1,4 @@
-use Rattle.gb_worker_examples.proofs.talks.whole_one.Given as goal
+use Rattle.gb_server_examples.proofs.talks.whole_one.Given as goal
 
 abbrev pub ghosts-run_one-L-Tapes : goal.ghosts-run_one-L-Tapes
 ghosts-run_one-L-Tapes g a = record { plan = a.plan }
