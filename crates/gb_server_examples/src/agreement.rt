@@ -1,11 +1,13 @@
 // Whether the tapes of a closed host tell of each seat what its list did.
 use gb_host::entry::SeatEntry;
+use gb_host::seat::Seat;
 use gb_node::tape::{Tape, TapeEntry};
 use gb_types::memory::OutOfMemory;
 use std::alloc::Global;
+use std::sync::ledger::Ledger;
 
-/// The calls of a seat, copied.
-pub fn copied(alloc: Global, calls: &[SeatEntry]) -> Result<Vec<SeatEntry>, OutOfMemory> {
+// The calls of a seat, copied.
+fn copied(alloc: Global, calls: &[SeatEntry]) -> Result<Vec<SeatEntry>, OutOfMemory> {
     let mut copies = Vec::new(alloc);
     for call in calls {
         let copy = SeatEntry {
@@ -18,20 +20,48 @@ pub fn copied(alloc: Global, calls: &[SeatEntry]) -> Result<Vec<SeatEntry>, OutO
     Ok(copies)
 }
 
-// Whether a seat's entries in a node's tape are its calls at the node, in turn, each once.
-fn is_told_at(tape: &[TapeEntry], seat: usize, calls: &[SeatEntry], node: usize) -> bool {
-    let mut mine = calls
-        .iter()
-        .filter(|call| usize::from(call.node.number) == node);
-    for entry in tape.iter().filter(|entry| entry.seat as usize == seat) {
-        let Some(call) = mine.next() else {
-            return false;
-        };
-        if !entry.event.is(&call.event) || !entry.answer.is(&call.answer) {
-            return false;
+/// Adds the calls of each seat, copied.
+pub fn copy_lists<M: Ledger>(
+    alloc: Global,
+    seats: &[Seat<M>],
+    lists: &mut Vec<Vec<SeatEntry>>,
+) -> Result<(), OutOfMemory> {
+    for seat in seats {
+        lists.push(copied(alloc, seat.mine())?)?;
+    }
+    Ok(())
+}
+
+// The place of a seat's first call at a node, from this place on.
+fn next_at(calls: &[SeatEntry], from: usize, node: usize) -> Option<usize> {
+    for place in from..calls.len() {
+        if usize::from(calls[place].node.number) == node {
+            return Some(place);
         }
     }
-    mine.next().is_none()
+    None
+}
+
+// Whether an entry is the call at a place.
+fn is_call(entry: &TapeEntry, calls: &[SeatEntry], place: Option<usize>) -> bool {
+    let Some(call) = calls.get(place.unwrap_or(calls.len())) else {
+        return false;
+    };
+    entry.event.is(&call.event) && entry.answer.is(&call.answer)
+}
+
+// Whether a seat's entries in a node's tape are its calls at the node, in turn, each once.
+fn is_told_at(tape: &[TapeEntry], seat: usize, calls: &[SeatEntry], node: usize) -> bool {
+    let mut next = next_at(calls, 0, node);
+    for entry in tape {
+        if entry.seat as usize == seat {
+            if !is_call(entry, calls, next) {
+                return false;
+            }
+            next = next_at(calls, next.unwrap_or(0).saturating_add(1), node);
+        }
+    }
+    next.is_none()
 }
 
 // So it is at each node.
@@ -56,10 +86,30 @@ pub fn agree(tapes: &[Tape], lists: &[Vec<SeatEntry>]) -> bool {
     calls == count_entries(tapes)
 }
 
-fn count_entries(tapes: &[Tape]) -> usize {
+/// How many entries the tapes have.
+pub fn count_entries(tapes: &[Tape]) -> usize {
     let mut count: usize = 0;
     for tape in tapes {
         count = count.saturating_add(tape.as_slice().len());
+    }
+    count
+}
+
+/// How many entries of the tapes are a seat's.
+pub fn entries_of(tapes: &[Tape], seat: u32) -> usize {
+    let mut count: usize = 0;
+    for tape in tapes {
+        count = count.saturating_add(entries_in(tape.as_slice(), seat));
+    }
+    count
+}
+
+fn entries_in(tape: &[TapeEntry], seat: u32) -> usize {
+    let mut count: usize = 0;
+    for entry in tape {
+        if entry.seat == seat {
+            count = count.saturating_add(1);
+        }
     }
     count
 }

@@ -1,14 +1,15 @@
-// What callers ask: a group of two nodes, best effort, is made at both.
+// What callers ask: a tenant and its groups are made, and messages are said and fetched in them.
+use crate::plans::{FIRST, SECOND};
 use gb_cap::hmac::Key;
 use gb_cap::token::{Need, token};
 use gb_host::fault::HostFault;
+use gb_host::gate::{Gate, Open};
 use gb_host::host::Host;
 use gb_host::names::Tapes;
 use gb_host::seat::Seat;
 use gb_node::answer::{NodeAnswer, Sent};
 use gb_node::event::NodeEvent;
 use gb_types::address::Addr;
-use gb_types::entry::Entry;
 use gb_types::kind::Kind;
 use gb_types::node::{NodeId, NodeSet};
 use gb_types::payload::Payload;
@@ -24,52 +25,56 @@ use std::time::{Clock, Duration};
 
 pub const ADMIN_KEY: Key = [0x22; 32];
 
-pub const TENANT_KEY: Key = [0x33; 32];
+const TENANT_KEY: Key = [0x33; 32];
 
-const ADDR: Addr = Addr {
+/// The group of a node alone, of acknowledgements.
+pub const ALONE: Addr = Addr {
+    tenant: 7,
+    group: 0,
+};
+
+/// The group of both nodes, best effort.
+pub const BOTH: Addr = Addr {
     tenant: 7,
     group: 1,
 };
 
 /// What is said.
-const WORDS: &[u8] = b"a";
+const WORDS: &[u8] = b"hello";
 
 /// How many times a caller asks at most, a millisecond apart.
 pub const PATIENCE: u64 = 10_000;
-
-// Adds a tenant, makes a group of both nodes and opens it.
-fn preparations() -> [Request; 3] {
-    let row = TenantRow {
-        tenant: 7,
-        key: TENANT_KEY,
-        groups: 4,
-        msgs: 8,
-        bytes: 4_096,
-        window: 4,
-    };
-    let mut members = NodeSet::new();
-    members.insert(NodeId { number: 0 });
-    members.insert(NodeId { number: 1 });
-    let spec = Spec {
-        kind: Kind::Beb,
-        members,
-        msgs: 8,
-        bytes: 4_096,
-        window: 4,
-    };
-    let owner = token(&TENANT_KEY, Need::Tenant(7));
-    [
-        Request::AddTenant(token(&ADMIN_KEY, Need::Admin), row),
-        Request::Make(owner, ADDR, spec),
-        Request::OpenGroup(owner, ADDR),
-    ]
-}
 
 fn lacks_memory(answer: &NodeAnswer) -> bool {
     match answer {
         NodeAnswer::Reply(Reply::Refused(Refusal::OutOfMemory)) => true,
         NodeAnswer::Sent(Sent::Refused(Refusal::OutOfMemory)) => true,
         _ => false,
+    }
+}
+
+/// Why a call was not answered.
+#[derive(Clone, Copy)]
+pub enum Unanswered {
+    NoNode,
+    OutOfMemory,
+    Other,
+}
+
+/// Calls a node, the gate being passed while the node's lock is held.
+pub fn call<L: Tapes, M: Ledger, R: Wait, G: Gate>(
+    rt: &R,
+    host: &Host<L, M>,
+    seat: &mut Seat<M>,
+    node: NodeId,
+    event: NodeEvent,
+    gate: &mut G,
+) -> Result<NodeAnswer, Unanswered> {
+    match host.call_at(rt, seat, node, event, gate) {
+        Ok(answer) => Ok(answer),
+        Err(HostFault::NoNode) => Err(Unanswered::NoNode),
+        Err(HostFault::OutOfMemory) => Err(Unanswered::OutOfMemory),
+        Err(_) => Err(Unanswered::Other),
     }
 }
 
@@ -81,13 +86,14 @@ fn ask_once<L: Tapes, M: Ledger, R: Wait>(
     seat: &mut Seat<M>,
     node: NodeId,
     event: &NodeEvent,
-) -> Result<NodeAnswer, HostFault> {
-    let copy = event.duplicate(alloc)?;
-    let answer = host.call(rt, seat, node, copy)?;
-    if lacks_memory(&answer) {
-        return Err(HostFault::OutOfMemory);
+) -> Result<NodeAnswer, Unanswered> {
+    let Ok(copy) = event.duplicate(alloc) else {
+        return Err(Unanswered::OutOfMemory);
+    };
+    match call(rt, host, seat, node, copy, &mut Open) {
+        Ok(answer) if lacks_memory(&answer) => Err(Unanswered::OutOfMemory),
+        answered => answered,
     }
-    Ok(answer)
 }
 
 /// Asks a node, and again where there was no memory for it. None where that takes too long, or the host refuses for another
@@ -103,67 +109,152 @@ pub fn ask<L: Tapes, M: Ledger, R: Wait + Clock>(
     for _ in 0..PATIENCE {
         match ask_once(rt, alloc, host, seat, node, event) {
             Ok(answer) => return Some(answer),
-            Err(HostFault::OutOfMemory) => thread::sleep(rt, Duration::from_millis(1)),
+            Err(Unanswered::OutOfMemory) => thread::sleep(rt, Duration::from_millis(1)),
             Err(_) => return None,
         }
     }
     None
 }
 
-/// Makes the group at a node.
+// The answer to a request.
+fn answer<L: Tapes, M: Ledger, R: Wait + Clock>(
+    rt: &R,
+    alloc: Global,
+    host: &Host<L, M>,
+    seat: &mut Seat<M>,
+    node: NodeId,
+    request: Request,
+) -> Option<NodeAnswer> {
+    ask(rt, alloc, host, seat, node, &NodeEvent::Request(request))
+}
+
+// Makes a request, whatever is answered.
+fn tell<L: Tapes, M: Ledger, R: Wait + Clock>(
+    rt: &R,
+    alloc: Global,
+    host: &Host<L, M>,
+    seat: &mut Seat<M>,
+    node: NodeId,
+    request: Request,
+) {
+    let _ = answer(rt, alloc, host, seat, node, request);
+}
+
+// The request that adds the tenant.
+fn add_tenant() -> Request {
+    let row = TenantRow {
+        tenant: 7,
+        key: TENANT_KEY,
+        groups: 4,
+        msgs: 8,
+        bytes: 4_096,
+        window: 4,
+    };
+    Request::AddTenant(token(&ADMIN_KEY, Need::Admin), row)
+}
+
+// The request that makes a group with these members.
+fn make(addr: Addr, kind: Kind, members: NodeSet) -> Request {
+    let spec = Spec {
+        kind,
+        members,
+        msgs: 8,
+        bytes: 4_096,
+        window: 4,
+    };
+    Request::Make(token(&TENANT_KEY, Need::Tenant(7)), addr, spec)
+}
+
+/// The request that makes the group of a node alone.
+pub fn make_alone(node: NodeId) -> Request {
+    let mut members = NodeSet::new();
+    members.insert(node);
+    make(ALONE, Kind::AllAck, members)
+}
+
+// The request that makes the group of both nodes.
+fn make_both() -> Request {
+    let mut members = NodeSet::new();
+    members.insert(FIRST);
+    members.insert(SECOND);
+    make(BOTH, Kind::Beb, members)
+}
+
+/// Adds the tenant at a node, makes a group there by this request, and opens it.
 pub fn prepare<L: Tapes, M: Ledger, R: Wait + Clock>(
     rt: &R,
     alloc: Global,
     host: &Host<L, M>,
     seat: &mut Seat<M>,
     node: NodeId,
+    addr: Addr,
+    make: Request,
 ) {
-    for request in preparations() {
-        let _ = ask(rt, alloc, host, seat, node, &NodeEvent::Request(request));
+    let owner = token(&TENANT_KEY, Need::Tenant(7));
+    tell(rt, alloc, host, seat, node, add_tenant());
+    tell(rt, alloc, host, seat, node, make);
+    tell(rt, alloc, host, seat, node, Request::OpenGroup(owner, addr));
+}
+
+/// Makes the group of both nodes at each of them, from the last seat.
+pub fn prepare_both<L: Tapes, M: Ledger, R: Wait + Clock>(
+    rt: &R,
+    alloc: Global,
+    host: &Host<L, M>,
+    seats: &mut [Seat<M>],
+) {
+    if let Some(seat) = seats.last_mut() {
+        prepare(rt, alloc, host, seat, FIRST, BOTH, make_both());
+        prepare(rt, alloc, host, seat, SECOND, BOTH, make_both());
     }
 }
 
-/// Says a message of one byte at a node. Whether it was said.
+// The number of a message, where an answer is that it was said.
+fn said(answer: &Option<NodeAnswer>) -> Option<u16> {
+    match answer {
+        Some(NodeAnswer::Reply(Reply::Said(seq))) => Some(*seq),
+        _ => None,
+    }
+}
+
+/// Says a message in a group at a node. Its number, where it was said.
 pub fn say<L: Tapes, M: Ledger, R: Wait + Clock>(
     rt: &R,
     alloc: Global,
     host: &Host<L, M>,
     seat: &mut Seat<M>,
     node: NodeId,
-) -> bool {
-    let member = token(&TENANT_KEY, Need::Member(7, 1, node));
-    let Ok(payload) = Payload::from_slice(alloc, WORDS) else {
-        return false;
-    };
-    let request = Request::Say(member, ADDR, payload);
-    match ask(rt, alloc, host, seat, node, &NodeEvent::Request(request)) {
-        Some(NodeAnswer::Reply(Reply::Said(_))) => true,
-        _ => false,
-    }
+    addr: Addr,
+) -> Option<u16> {
+    let member = token(&TENANT_KEY, Need::Member(7, addr.group, node));
+    let payload = Payload::from_slice(alloc, WORDS).ok()?;
+    let request = Request::Say(member, addr, payload);
+    said(&answer(rt, alloc, host, seat, node, request))
 }
 
-/// Fetches at a node. Whether its log is the first message of another node, and just that.
+/// Fetches in a group at a node. Whether its log is the first message of a node, and just that.
 pub fn fetch<L: Tapes, M: Ledger, R: Wait + Clock>(
     rt: &R,
     alloc: Global,
     host: &Host<L, M>,
     seat: &mut Seat<M>,
     node: NodeId,
+    addr: Addr,
     origin: NodeId,
 ) -> bool {
-    let member = token(&TENANT_KEY, Need::Member(7, 1, node));
-    let request = Request::Fetch(member, ADDR, 0, 16);
-    match ask(rt, alloc, host, seat, node, &NodeEvent::Request(request)) {
-        Some(NodeAnswer::Reply(Reply::Log(entries))) => is_first_of(entries.as_slice(), origin),
-        _ => false,
-    }
+    let member = token(&TENANT_KEY, Need::Member(7, addr.group, node));
+    let request = Request::Fetch(member, addr, 0, 16);
+    is_first_of(&answer(rt, alloc, host, seat, node, request), origin)
 }
 
-// Whether a log is the first message of a node, and just that.
-fn is_first_of(log: &[Entry], origin: NodeId) -> bool {
-    let Some(entry) = log.first() else {
+// Whether an answer is a log of the first message of a node, and just that.
+fn is_first_of(answer: &Option<NodeAnswer>, origin: NodeId) -> bool {
+    let Some(NodeAnswer::Reply(Reply::Log(entries))) = answer else {
+        return false;
+    };
+    let Some(entry) = entries.as_slice().first() else {
         return false;
     };
     let is_first = entry.origin == origin && entry.seq == 1;
-    is_first && log.len() == 1 && entry.payload.as_slice() == WORDS
+    is_first && entries.len() == 1 && entry.payload.as_slice() == WORDS
 }

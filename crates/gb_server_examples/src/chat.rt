@@ -1,6 +1,9 @@
 // A chat of three members, as examples/walk.sh and examples/client.py hold it: a server is started, each member's node takes the
 // tenant in, makes its group and opens it, each member says something, each reads what all said, and the server ends.
-use crate::served::{KEYS, ended, printed};
+ghost use Rattle.std.specs.Prelude.{◌≤◌, vec_len, IfOk};
+ghost use Rattle.gb_session.specs.declared.grammar.TheConstants.{BODY};
+
+use crate::served::prints;
 use crate::socket_clients::connect;
 use gb_client::exchange::{receive, send};
 use gb_client::fault::ClientFault;
@@ -29,10 +32,10 @@ static PREPARATIONS: [(Head, &str, &str); 3] = [
 ];
 
 // What each member says, and what is asked at its node at the end.
-static SAYS: [(Head, &str, &str); 3] = [
-    (Head::Say, "7 1 hello", "said 1"),
-    (Head::Say, "7 1 hi", "said 1"),
-    (Head::Say, "7 1 goodbye", "said 1"),
+static SAYS: [[(Head, &str, &str); 1]; 3] = [
+    [(Head::Say, "7 1 hello", "said 1")],
+    [(Head::Say, "7 1 hi", "said 1")],
+    [(Head::Say, "7 1 goodbye", "said 1")],
 ];
 
 static END: [(Head, &str, &str); 2] = [
@@ -67,6 +70,18 @@ fn joined<H: Net<Stream = TcpStream> + Clock>(
     Ok(Member { node, stream })
 }
 
+// The request that is asked at a node by these words, which are those that gb_ctl takes.
+fn body_of(alloc: Global, node: NodeId, head: Head, line: &str) -> Result<Vec<u8>, ClientFault>
+    ensures { IfOk result (λ body. vec_len body ≤ BODY) }
+{
+    let asked = Asked {
+        head,
+        words: line.split(' ').collect(alloc)?,
+        is_text: true,
+    };
+    request_of(alloc, &SECRETS, node, &asked)
+}
+
 // The reply of a member's node to a request, whose words are those that gb_ctl takes.
 fn reply(
     alloc: Global,
@@ -74,12 +89,7 @@ fn reply(
     head: Head,
     line: &str,
 ) -> Result<Vec<u8>, ClientFault> {
-    let asked = Asked {
-        head,
-        words: line.split(' ').collect(alloc)?,
-        is_text: true,
-    };
-    let body = request_of(alloc, &SECRETS, member.node, &asked)?;
+    let body = body_of(alloc, member.node, head, line)?;
     send(&mut member.stream, &body)?;
     receive(alloc, &mut member.stream)
 }
@@ -102,16 +112,20 @@ fn gives(
 // Whether some text is that of a log with all three entries, in whatever order, and no other.
 fn has_all(alloc: Global, log: &[u8]) -> Result<bool, ClientFault> {
     let words = split_words(alloc, log)?;
-    let [b"log", b"3", first, second, third] = words.as_slice() else {
-        return Ok(false);
-    };
-    for entry in ENTRIES {
-        let entry = entry.as_bytes();
-        if *first != entry && *second != entry && *third != entry {
-            return Ok(false);
+    Ok(are_all(words.as_slice()))
+}
+
+// Whether words are those of such a log.
+fn are_all(words: &[&[u8]]) -> bool {
+    if words.len() != 5 || words[0] != b"log".as_slice() || words[1] != b"3".as_slice() {
+        return false;
+    }
+    for entry in &ENTRIES {
+        if !words.contains(&entry.as_bytes()) {
+            return false;
         }
     }
-    Ok(true)
+    true
 }
 
 // Whether a member's log comes to have all that was said; ten seconds are waited for that.
@@ -139,53 +153,73 @@ fn all_joined<H: Net<Stream = TcpStream> + Clock>(
     Ok(members)
 }
 
-// What the members do. Whether each reply was right.
-fn talk<H: Net<Stream = TcpStream> + Clock>(
-    rt: &H,
-    alloc: Global,
-    members: &mut [Member],
-) -> Result<bool, ClientFault> {
+// Each member makes its group. Whether each reply was right.
+fn all_prepare(alloc: Global, members: &mut [Member]) -> Result<bool, ClientFault> {
     let mut is_right = true;
-    for member in members.iter_mut() {
+    for member in members {
         is_right = gives(alloc, member, &PREPARATIONS)? && is_right;
     }
-    for (member, say) in members.iter_mut().zip(SAYS) {
-        is_right = gives(alloc, member, &[say])? && is_right;
+    Ok(is_right)
+}
+
+// Each member says something. Whether each reply was right.
+fn all_say(alloc: Global, members: &mut [Member]) -> Result<bool, ClientFault> {
+    let mut is_right = true;
+    for (member, say) in members.iter_mut().zip(&SAYS) {
+        is_right = gives(alloc, member, say)? && is_right;
     }
-    for member in members.iter_mut() {
+    Ok(is_right)
+}
+
+// Each member reads what all said, and ends its group. Whether each reply was right.
+fn all_hear<H: Clock>(rt: &H, alloc: Global, members: &mut [Member]) -> Result<bool, ClientFault> {
+    let mut is_right = true;
+    for member in members {
         is_right = hears_all(rt, alloc, member)? && is_right;
         is_right = gives(alloc, member, &END)? && is_right;
     }
     Ok(is_right)
 }
 
-// What three members do. Whether each reply was right.
-fn chat<H: Net<Stream = TcpStream> + Clock>(
-    rt: &H,
-    alloc: Global,
-    base_port: u16,
-) -> Result<bool, ClientFault> {
-    let mut members = all_joined(rt, alloc, base_port)?;
-    talk(rt, alloc, members.as_mut_slice())
+// What the members do. Whether each reply was right.
+fn talk<H: Clock>(rt: &H, alloc: Global, members: &mut [Member]) -> Result<bool, ClientFault> {
+    let is_prepared = all_prepare(alloc, members)?;
+    let is_said = all_say(alloc, members)?;
+    let is_heard = all_hear(rt, alloc, members)?;
+    Ok(is_prepared && is_said && is_heard)
 }
+
+// What three members do. Whether each reply was right.
+fn chat<H: Net<Stream = TcpStream> + Clock>(rt: &H, alloc: Global, base_port: u16) -> bool {
+    let Ok(mut members) = all_joined(rt, alloc, base_port) else {
+        return false;
+    };
+    talk(rt, alloc, members.as_mut_slice()).unwrap_or(false)
+}
+
+static WORDS: [&str; 7] = [
+    "gb_serve",
+    "--nodes",
+    "3",
+    "--base-port",
+    "24100",
+    "--sessions",
+    "1",
+];
 
 #[test]
 fn three_members_chat(rt: HostRuntime) {
     let alloc = rt.alloc();
-    let words = [
-        "gb_serve",
-        "--nodes",
-        "3",
-        "--base-port",
-        "24100",
-        "--sessions",
-        "1",
-    ];
-    let (served, is_right) = thread::join(
+    let (is_served, is_right) = thread::join(
         &rt,
-        || printed(&rt, alloc, &words, KEYS),
+        || prints(
+            &rt,
+            alloc,
+            &WORDS,
+            0,
+            b"serving 3 nodes from port 24100\nclosed\n",
+        ),
         || chat(&rt, alloc, 24_100),
     );
-    assert!(rt; is_right == Ok(true));
-    assert!(rt; ended(&served, 0, b"serving 3 nodes from port 24100\nclosed\n"));
+    assert!(rt; is_served && is_right);
 }

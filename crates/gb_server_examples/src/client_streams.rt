@@ -12,9 +12,19 @@ const PATIENCE: u64 = 10_000;
 /// Gives so many requests, one in each read. One of the reads fails, counted from 1; 0: none.
 #[derive(Drop)]
 pub struct Asking {
-    pub requests: u64,
-    pub reads: u64,
-    pub fails_at: u64,
+    requests: u64,
+    reads: u64,
+    fails_at: u64,
+}
+
+impl Asking {
+    pub fn new(requests: u64, fails_at: u64) -> Asking {
+        Asking {
+            requests,
+            reads: 0,
+            fails_at,
+        }
+    }
 }
 
 impl Read for Asking {
@@ -34,9 +44,19 @@ impl Read for Asking {
 /// Counts the replies that say Denied. One of the writes fails, counted from 1; 0: none.
 #[derive(Drop)]
 pub struct Told<'a> {
-    pub denied: &'a AtomicU64,
-    pub writes: u64,
-    pub fails_at: u64,
+    denied: &'a AtomicU64,
+    writes: u64,
+    fails_at: u64,
+}
+
+impl<'a> Told<'a> {
+    pub fn new(denied: &'a AtomicU64, fails_at: u64) -> Told<'a> {
+        Told {
+            denied,
+            writes: 0,
+            fails_at,
+        }
+    }
 }
 
 impl Write for Told<'_> {

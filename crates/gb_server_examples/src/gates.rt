@@ -18,16 +18,15 @@ fn shortest<H: Clock>(rt: &H, gate: &mut PumpGate<'_, H>, passes: u64) -> io::Re
 
 // A pump rests once no node was asked for a while, and wakes when one is; when the server is over its gate is shut.
 #[test]
-fn pumps_rest_and_wake(rt: HostRuntime) -> io::Result<()> {
+fn pumps_rest_and_wake(rt: HostRuntime) {
     let signals = Signals::new();
     let mut gate = PumpGate::new(&rt, &signals, true);
-    let awake = shortest(&rt, &mut gate, QUIET)?;
-    let resting = shortest(&rt, &mut gate, 4)?;
+    let awake = shortest(&rt, &mut gate, QUIET).expect(&rt, "a clock");
+    let resting = shortest(&rt, &mut gate, 4).expect(&rt, "a clock");
     let _ = SessionGate::new(&signals).pass();
-    let woken = shortest(&rt, &mut gate, 64)?;
+    let woken = shortest(&rt, &mut gate, 64).expect(&rt, "a clock");
     let whole = u128::from(REST * TURN);
     assert!(rt; awake < whole && resting >= whole && woken < whole);
     signals.end();
     assert!(rt; !gate.pass() && signals.turns() == QUIET + 4 + 64 + 1);
-    Ok(())
 }

@@ -1,24 +1,20 @@
 // Each node has a lock of its own.
-ghost use Rattle.std.specs.Prelude.{◌≡◌, ◌+◌};
-ghost use Rattle.gb_host.specs.Plans.{IsPlan};
-
-use crate::plans::two_nodes;
-use gb_host::close::close;
-use gb_host::fault::HostFault;
-use gb_host::gate::Gate;
+use crate::asking::call;
+use crate::day::day;
+use crate::plans::{FIRST, SECOND, pair};
+use crate::roles::Role;
+use crate::scenes::Left;
+use gb_host::gate::{Gate, Open};
 use gb_host::host::Host;
 use gb_host::names::Tapes;
-use gb_host::plan::HostPlan;
 use gb_host::seat::Seat;
 use gb_node::event::NodeEvent;
-use gb_types::node::NodeId;
+use gb_port::ring::RingPort;
 use std::alloc::Global;
-use std::marker::Brand;
 use std::rt::HostRuntime;
 use std::sync::Wait;
 use std::sync::atomic::{AtomicU64, Ordering};
-use std::sync::ledger::{Blank, Ledger};
-use std::test::Fail;
+use std::sync::ledger::Ledger;
 use std::thread;
 use std::thread::Threads;
 use std::time::{Clock, Duration};
@@ -64,67 +60,47 @@ impl<R: Clock> Gate for Held<'_, R> {
     }
 }
 
-// The first caller holds node 0's lock; once it does, the second calls node 1.
-fn call<L: Tapes, M: Ledger, R: Wait + Clock>(
+/// Calls node 0, and holds its lock.
+pub fn hold<L: Tapes, M: Ledger, R: Wait + Clock>(
     rt: &R,
     host: &Host<L, M>,
     seat: &mut Seat<M>,
-    is_first: bool,
     state: &AtomicU64,
-) {
-    if is_first {
-        let mut gate = Held { rt, state };
-        let node = NodeId { number: 0 };
-        let _ = host.call_at(rt, seat, node, NodeEvent::Tick, &mut gate);
-        return;
-    }
-    if wait_for(rt, state, INSIDE) {
-        let node = NodeId { number: 1 };
-        if host.call(rt, seat, node, NodeEvent::Tick).is_ok() {
-            state.store(ANSWERED, Ordering::SeqCst);
-        }
-    }
+) -> bool {
+    let mut gate = Held { rt, state };
+    call(rt, host, seat, FIRST, NodeEvent::Tick, &mut gate).is_ok()
 }
 
-// Two callers, each at a node of its own; then the end. The state that they left.
-fn run<L: Tapes + Send + Sync, M: Ledger + Send + Sync, R: Threads + Wait + Clock + Sync>(
+/// Calls node 1 once node 0's lock is held.
+pub fn call_beside<L: Tapes, M: Ledger, R: Wait + Clock>(
+    rt: &R,
+    host: &Host<L, M>,
+    seat: &mut Seat<M>,
+    state: &AtomicU64,
+) -> bool {
+    if !wait_for(rt, state, INSIDE) {
+        return false;
+    }
+    let is_answered = call(rt, host, seat, SECOND, NodeEvent::Tick, &mut Open).is_ok();
+    if is_answered {
+        state.store(ANSWERED, Ordering::SeqCst);
+    }
+    is_answered
+}
+
+// Two callers, each at a node of its own: the first holds node 0's lock, and once it does, the second calls node 1.
+fn hold_and_call<R: Threads + Wait + Clock + Sync>(
     rt: &R,
     alloc: Global,
-    plan: HostPlan,
-    tape_blank: Blank,
-    seat_blank: Blank,
-) -> Result<u64, HostFault>
-    requires plan { plan ≡ L.plan }
-    requires limits { IsPlan plan }
-    requires tape_blank { (tape_blank.name ≡ L.name) × (tape_blank.parts ≡ L.parts) × (tape_blank.parts ≡ plan.cluster.nodes + 1) }
-    requires seat_blank { (seat_blank.name ≡ M.name) × (seat_blank.parts ≡ M.parts) × (seat_blank.parts ≡ 3) }
-{
-    let state = AtomicU64::new(OUTSIDE);
-    let (host, mut callers) = Host::<L, M>::open(alloc, plan, 2, tape_blank, seat_blank)?;
-    let (shared, left) = (&host, &state);
-    thread::for_each_chunk_mut(
-        rt,
-        callers.as_mut_slice(),
-        1,
-        &|i, part: &mut [Seat<M>]| {
-            for seat in part.iter_mut() {
-                call(rt, shared, seat, i == 0, left);
-            }
-        },
-    );
-    let _closed = close(host, callers)?;
-    Ok(state.into_inner())
-}
-
-fn whole<R: Threads + Wait + Clock + Sync>(rt: &R, alloc: Global) -> Result<u64, HostFault> {
-    run::<Brand, Brand, R>(rt, alloc, two_nodes(true), Blank::new(3), Blank::new(3))
+    state: &AtomicU64,
+) -> Option<Left> {
+    let roles: Vec<Role<RingPort>> = pair(alloc, Role::Holder(state), Role::Beside(state))?;
+    day(rt, alloc, true, false, roles)
 }
 
 #[test]
-fn two_nodes_two_locks(rt: HostRuntime) -> Result<(), Fail> {
-    let Ok(state) = whole(&rt, rt.alloc()) else {
-        return Err(Fail::from("the host refused"));
-    };
-    assert_eq!(rt; state, ANSWERED);
-    Ok(())
+fn two_nodes_two_locks(rt: HostRuntime) {
+    let state = AtomicU64::new(OUTSIDE);
+    let is_closed = hold_and_call(&rt, rt.alloc(), &state).is_some();
+    assert!(rt; is_closed && state.into_inner() == ANSWERED);
 }

@@ -1,7 +1,7 @@
 //! Worked texts of keys, read in pieces and by readers that fail.
 use gb_server::keys::{Keys, read_keys};
+use std::alloc::Global;
 use std::io::{ErrorKind, Read};
-use std::test::Fail;
 use std::{cmp, io};
 
 /// Gives bytes by pieces of at most so many. Each other read is interrupted, and one at the end fails where `fails` is set.
@@ -58,43 +58,55 @@ fn keys_of(len: usize, piece: usize, fails: bool) -> bool {
     are_right(read_keys(&mut reader))
 }
 
+// How many bytes of the text are read, in pieces of how many, whether the reader fails at their end, and whether they are keys.
+static READ: [(usize, usize, bool, bool); 8] = [
+    // Two whole lines, and what is behind them: no read is made at which the reader would fail.
+    (134, 1, true, true),
+    (134, 7, true, true),
+    (130, 200, true, true),
+    // The second line may lack its line feed, but then the end of the input shows that it is whole.
+    (129, 64, false, true),
+    (129, 64, true, false),
+    (128, 64, false, false),
+    (65, 64, false, false),
+    (0, 64, false, false),
+];
+
 #[test]
 fn keys_come_in_pieces(rt: HostRuntime) {
-    let table = [
-        // Two whole lines, and what is behind them: no read is made at which the reader would fail.
-        (134, 1, true, true),
-        (134, 7, true, true),
-        (130, 200, true, true),
-        // The second line may lack its line feed, but then the end of the input shows that it is whole.
-        (129, 64, false, true),
-        (129, 64, true, false),
-        (128, 64, false, false),
-        (65, 64, false, false),
-        (0, 64, false, false),
-    ];
-    for (len, piece, fails, want) in table {
+    for (len, piece, fails, want) in &READ {
         assert!(rt;
-            keys_of(len, piece, fails) == want,
+            keys_of(*len, *piece, *fails) == *want,
             "{len} bytes by {piece}"
         );
     }
 }
 
-#[test]
-fn other_texts_are_no_keys(rt: HostRuntime) -> Result<(), Fail> {
-    // A digit that is none, a line that is too long, a carriage return in front of the line feed.
-    for (place, byte) in [
-        (0, b'g'),
-        (63, b' '),
-        (64, b'1'),
-        (64, b'\r'),
-        (65, b'-'),
-        (128, b'\n'),
-        (129, b'2'),
-    ] {
-        let mut text = Vec::from_slice(rt.alloc(), &TEXT[..130])?;
-        text[place] = byte;
-        assert!(rt; read_keys(&mut text.as_slice()).is_none(), "byte {place}");
+// A digit that is none, a line that is too long, a carriage return in front of the line feed: at which place stands which byte.
+static WRONG: [(usize, u8); 7] = [
+    (0, b'g'),
+    (63, b' '),
+    (64, b'1'),
+    (64, b'\r'),
+    (65, b'-'),
+    (128, b'\n'),
+    (129, b'2'),
+];
+
+// Whether the two lines are no keys once a byte of theirs is another.
+fn is_refused(alloc: Global, place: usize, byte: u8) -> bool {
+    let Ok(mut text) = Vec::from_slice(alloc, &TEXT[..130]) else {
+        return false;
+    };
+    if let Some(found) = text.get_mut(place) {
+        *found = byte;
     }
-    Ok(())
+    read_keys(&mut text.as_slice()).is_none()
+}
+
+#[test]
+fn other_texts_are_no_keys(rt: HostRuntime) {
+    for (place, byte) in &WRONG {
+        assert!(rt; is_refused(rt.alloc(), *place, *byte), "byte {place}");
+    }
 }

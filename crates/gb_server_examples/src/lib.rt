@@ -8,8 +8,6 @@ mod agreement;
 #[cfg(test)]
 mod asking;
 #[cfg(test)]
-mod callers;
-#[cfg(test)]
 mod chat;
 #[cfg(test)]
 mod client_streams;
@@ -29,6 +27,8 @@ mod keys;
 mod plans;
 #[cfg(test)]
 mod roles;
+#[cfg(test)]
+mod scenes;
 #[cfg(test)]
 mod served;
 #[cfg(test)]

@@ -1,10 +1,16 @@
-// The plan of the hosts in the tests.
-ghost use Rattle.std.specs.Prelude.{◌≡◌};
+// The plan of the hosts in the tests, their nodes, and lists of what they are given.
+ghost use Rattle.std.specs.Prelude.{◌≡◌, vec_len, IfSome};
 ghost use Rattle.gb_host.specs.Plans.{IsPlan};
 
 use crate::asking::ADMIN_KEY;
 use gb_host::plan::HostPlan;
+use gb_types::node::NodeId;
 use gb_types::plan::Plan;
+use std::alloc::Global;
+
+pub const FIRST: NodeId = NodeId { number: 0 };
+
+pub const SECOND: NodeId = NodeId { number: 1 };
 
 /// Two nodes, with tapes or without.
 pub fn two_nodes(tape: bool) -> HostPlan
@@ -21,4 +27,14 @@ pub fn two_nodes(tape: bool) -> HostPlan
         },
         tape,
     }
+}
+
+/// A list of two, where there is memory for it.
+pub fn pair<T: Drop>(alloc: Global, first: T, second: T) -> Option<Vec<T>>
+    ensures { IfSome result (λ list. vec_len list ≡ 2) }
+{
+    let mut list = Vec::with_capacity(alloc, 2).ok()?;
+    list.push_reserved(first);
+    list.push_reserved(second);
+    Some(list)
 }

@@ -1,9 +1,14 @@
 // What each thread of a day does, from a seat of its own.
-use crate::asking::{PATIENCE, fetch, say};
+use crate::asking::{ALONE, BOTH, PATIENCE, ask, fetch, make_alone, prepare, say};
+use crate::host_faults::is_refused;
+use crate::host_locks::{call_beside, hold};
+use crate::plans::SECOND;
+use crate::talks::{Client, converse};
 use gb_host::gate::{Gate, Open};
 use gb_host::host::Host;
 use gb_host::names::Tapes;
 use gb_host::seat::Seat;
+use gb_node::event::NodeEvent;
 use gb_port::port::Port;
 use gb_types::node::NodeId;
 use gb_worker::pump::pump;
@@ -20,7 +25,7 @@ pub const TURNS: u64 = 50;
 
 /// What a thread does.
 #[derive(Drop)]
-pub enum Role<P> {
+pub enum Role<'a, P> {
     /// Carries a node's packets until no caller is left, and for `TURNS` turns at least.
     Pump(NodeId, P),
     /// Makes so many turns of ticks.
@@ -29,20 +34,16 @@ pub enum Role<P> {
     Sayer(NodeId, u64),
     /// Fetches at a node until its log is the first message of another node.
     Fetcher(NodeId, NodeId),
-}
-
-/// A role and its seat.
-#[derive(Drop)]
-pub struct Job<M: Ledger, P> {
-    pub seat: Seat<M>,
-    pub role: Role<P>,
-}
-
-/// A seat that did its work, and what it counted: failures of a port, turns of a ticker, messages said or found.
-#[derive(Drop)]
-pub struct Done<M: Ledger> {
-    pub seat: Seat<M>,
-    pub count: u64,
+    /// Makes a group of a node alone, and says and fetches in it.
+    Loner(NodeId),
+    /// Calls node 0, and holds its lock.
+    Holder(&'a AtomicU64),
+    /// Calls node 1 once node 0's lock is held.
+    Beside(&'a AtomicU64),
+    /// Calls a node that the host does not have.
+    Lost,
+    /// Holds a session with a client of node 1.
+    Client(Client<'a>),
 }
 
 /// A gate that is passed once in a millisecond, while callers are left, and so many times at least.
@@ -64,17 +65,40 @@ impl<R: Clock> Gate for Paced<'_, R> {
     }
 }
 
+// Whether pumps wait for a role to end.
+fn is_caller<P>(role: &Role<'_, P>) -> bool {
+    match role {
+        Role::Sayer(_, _) | Role::Fetcher(_, _) => true,
+        _ => false,
+    }
+}
+
 /// The number of callers among the roles.
-pub fn count_callers<P>(roles: &[Role<P>]) -> u64 {
+pub fn count_callers<P>(roles: &[Role<'_, P>]) -> u64 {
     let mut count: u64 = 0;
     for role in roles {
-        match role {
-            Role::Sayer(_, _) => count = count.saturating_add(1),
-            Role::Fetcher(_, _) => count = count.saturating_add(1),
-            _ => {}
+        if is_caller(role) {
+            count = count.saturating_add(1);
         }
     }
     count
+}
+
+fn carry<L: Tapes, M: Ledger, P: Port, R: Wait + Clock>(
+    rt: &R,
+    host: &Host<L, M>,
+    seat: &mut Seat<M>,
+    node: NodeId,
+    port: &mut P,
+    callers: &AtomicU64,
+) -> u64 {
+    let mut gate = Paced {
+        rt,
+        callers,
+        least: TURNS,
+    };
+    let _ = pump(rt, host, seat, node, port, &mut gate, PATIENCE);
+    port.failures()
 }
 
 fn say_all<L: Tapes, M: Ledger, R: Wait + Clock>(
@@ -85,14 +109,14 @@ fn say_all<L: Tapes, M: Ledger, R: Wait + Clock>(
     node: NodeId,
     times: u64,
 ) -> u64 {
-    let mut said: u64 = 0;
+    let mut count: u64 = 0;
     for _ in 0..times {
-        if say(rt, alloc, host, seat, node) {
-            said = said.saturating_add(1);
+        if say(rt, alloc, host, seat, node, BOTH).is_some() {
+            count = count.saturating_add(1);
         }
         thread::sleep(rt, Duration::from_millis(1));
     }
-    said
+    count
 }
 
 fn wait_for_message<L: Tapes, M: Ledger, R: Wait + Clock>(
@@ -102,48 +126,57 @@ fn wait_for_message<L: Tapes, M: Ledger, R: Wait + Clock>(
     seat: &mut Seat<M>,
     node: NodeId,
     origin: NodeId,
-) -> u64 {
+) -> bool {
     for _ in 0..PATIENCE {
-        if fetch(rt, alloc, host, seat, node, origin) {
-            return 1;
+        if fetch(rt, alloc, host, seat, node, BOTH, origin) {
+            return true;
         }
         thread::sleep(rt, Duration::from_millis(1));
     }
-    0
+    false
 }
 
-/// Does what the role says.
-pub fn work<L: Tapes, M: Ledger, P: Port + Drop, R: Wait + Clock>(
+// Makes a group of a node alone, says something and fetches it, and packs for the other node. Whether the message was its first
+// one, and the fetch gave just that.
+fn keep_to_itself<L: Tapes, M: Ledger, R: Wait + Clock>(
+    rt: &R,
+    alloc: Global,
+    host: &Host<L, M>,
+    seat: &mut Seat<M>,
+    node: NodeId,
+) -> bool {
+    prepare(rt, alloc, host, seat, node, ALONE, make_alone(node));
+    let seq = say(rt, alloc, host, seat, node, ALONE).unwrap_or(0);
+    let is_fetched = fetch(rt, alloc, host, seat, node, ALONE, node);
+    let _ = ask(rt, alloc, host, seat, node, &NodeEvent::Pack(SECOND));
+    seq == 1 && is_fetched
+}
+
+/// Does what the role says. What it counted: failures of a port, turns of a ticker, messages said or found, calls that were
+/// answered, or refused where they are to be, or sessions that ended as they are to.
+pub fn work<L: Tapes, M: Ledger, P: Port, R: Wait + Clock>(
     rt: &R,
     alloc: Global,
     host: &Host<L, M>,
     callers: &AtomicU64,
-    job: Job<M, P>,
-) -> Done<M> {
-    let Job { seat, role } = job;
-    let mut seat = seat;
+    seat: &mut Seat<M>,
+    role: &mut Role<'_, P>,
+) -> u64 {
     let count = match role {
-        Role::Pump(node, port) => {
-            let mut port = port;
-            let mut gate = Paced {
-                rt,
-                callers,
-                least: TURNS,
-            };
-            let _ = pump(rt, host, &mut seat, node, &mut port, &mut gate, PATIENCE);
-            port.failures()
-        }
-        Role::Ticker(turns) => ticker(rt, host, &mut seat, &mut Open, turns).turns,
-        Role::Sayer(node, times) => {
-            let said = say_all(rt, alloc, host, &mut seat, node, times);
-            callers.fetch_sub(1, Ordering::SeqCst);
-            said
-        }
+        Role::Pump(node, port) => carry(rt, host, seat, *node, port, callers),
+        Role::Ticker(turns) => ticker(rt, host, seat, &mut Open, *turns).turns,
+        Role::Sayer(node, times) => say_all(rt, alloc, host, seat, *node, *times),
         Role::Fetcher(node, origin) => {
-            let found = wait_for_message(rt, alloc, host, &mut seat, node, origin);
-            callers.fetch_sub(1, Ordering::SeqCst);
-            found
+            wait_for_message(rt, alloc, host, seat, *node, *origin) as u64
         }
+        Role::Loner(node) => keep_to_itself(rt, alloc, host, seat, *node) as u64,
+        Role::Holder(state) => hold(rt, host, seat, state) as u64,
+        Role::Beside(state) => call_beside(rt, host, seat, state) as u64,
+        Role::Lost => is_refused(rt, host, seat) as u64,
+        Role::Client(client) => converse(rt, alloc, host, seat, client) as u64,
     };
-    Done { seat, count }
+    if is_caller(role) {
+        callers.fetch_sub(1, Ordering::SeqCst);
+    }
+    count
 }

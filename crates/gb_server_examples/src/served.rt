@@ -9,12 +9,12 @@ use std::thread;
 use std::thread::Threads;
 use std::time::Clock;
 
-/// The keys of the servers here: the cluster's, 32 bytes 11, and the administrator's, 32 bytes 22.
-pub static KEYS: &[u8] =
+// The keys of the servers here: the cluster's, 32 bytes 11, and the administrator's, 32 bytes 22.
+static KEYS: &[u8] =
     b"1111111111111111111111111111111111111111111111111111111111111111\n2222222222222222222222222222222222222222222222222222222222222222\n";
 
-/// What a server prints, with its status, for these words and keys.
-pub fn printed<H: Net<Listener = TcpListener, Stream = TcpStream> + Threads + Wait + Clock + Sync>(
+// What a server prints, with its status, for these words and keys.
+fn printed<H: Net<Listener = TcpListener, Stream = TcpStream> + Threads + Wait + Clock + Sync>(
     rt: &H,
     alloc: Global,
     words: &[&str],
@@ -26,63 +26,84 @@ pub fn printed<H: Net<Listener = TcpListener, Stream = TcpStream> + Threads + Wa
     (status, lines)
 }
 
-/// Whether a server ended with this status and printed these lines.
-pub fn ended(served: &(u8, Vec<u8>), status: u8, lines: &[u8]) -> bool {
+// Whether a server ended with this status and printed these lines.
+fn ended(served: &(u8, Vec<u8>), status: u8, lines: &[u8]) -> bool {
     served.0 == status && served.1.as_slice() == lines
 }
 
-// Whether a client was told these bytes.
-fn is(found: &Option<Vec<u8>>, want: &[u8]) -> bool {
-    match found {
+/// Whether a server with these words ends with this status and prints these lines.
+pub fn prints<H: Net<Listener = TcpListener, Stream = TcpStream> + Threads + Wait + Clock + Sync>(
+    rt: &H,
+    alloc: Global,
+    words: &[&str],
+    status: u8,
+    lines: &[u8],
+) -> bool {
+    ended(&printed(rt, alloc, words, KEYS), status, lines)
+}
+
+// Whether a client that sends these bytes to a port is told those.
+fn is_told<H: Net<Stream = TcpStream> + Clock>(
+    rt: &H,
+    alloc: Global,
+    port: u16,
+    bytes: &[u8],
+    want: &[u8],
+) -> bool {
+    match told(rt, alloc, port, bytes) {
         Some(text) => text.as_slice() == want,
         None => false,
     }
 }
 
+static KEYLESS: [&str; 7] = [
+    "gb_serve",
+    "--nodes",
+    "2",
+    "--base-port",
+    "42600",
+    "--sessions",
+    "1",
+];
+
 #[test]
 fn faults_are_told(rt: HostRuntime) {
     let alloc = rt.alloc();
-    let refused = printed(&rt, alloc, &["gb_serve"], KEYS);
-    assert!(rt; ended(&refused, 2, b"refused words\n"));
-    let words = [
-        "gb_serve",
-        "--nodes",
-        "2",
-        "--base-port",
-        "42600",
-        "--sessions",
-        "1",
-    ];
-    let keyless = printed(&rt, alloc, &words, b"");
-    assert!(rt; ended(&keyless, 1, b"bad keys\n"));
+    let is_refused = prints(&rt, alloc, &["gb_serve"], 2, b"refused words\n");
+    let is_keyless = ended(&printed(&rt, alloc, &KEYLESS, b""), 1, b"bad keys\n");
+    assert!(rt; is_refused && is_keyless);
 }
+
+static TWO_NODES: [&str; 7] = [
+    "gb_serve",
+    "--nodes",
+    "2",
+    "--base-port",
+    "42000",
+    "--sessions",
+    "1",
+];
 
 // A client asks node 0, and one of node 1 sends nothing.
 #[test]
 fn two_nodes_are_served(rt: HostRuntime) {
     let alloc = rt.alloc();
-    let words = [
-        "gb_serve",
-        "--nodes",
-        "2",
-        "--base-port",
-        "42000",
-        "--sessions",
-        "1",
-    ];
-    let (served, (first, second)) = thread::join(
+    let (is_served, (first, second)) = thread::join(
         &rt,
-        || printed(&rt, alloc, &words, KEYS),
-        || {
-            thread::join(
-                &rt,
-                || told(&rt, alloc, 42_064, OPEN),
-                || told(&rt, alloc, 42_065, b""),
-            )
-        },
+        || prints(
+            &rt,
+            alloc,
+            &TWO_NODES,
+            0,
+            b"serving 2 nodes from port 42000\nclosed\n",
+        ),
+        || thread::join(
+            &rt,
+            || is_told(&rt, alloc, 42_064, OPEN, DENIED),
+            || is_told(&rt, alloc, 42_065, b"", b""),
+        ),
     );
-    assert!(rt; ended(&served, 0, b"serving 2 nodes from port 42000\nclosed\n"));
-    assert!(rt; is(&first, DENIED) && is(&second, b""));
+    assert!(rt; is_served && first && second);
 }
 
 // How many events were merged, where these are a server's lines: this one, and that so many were.
@@ -92,94 +113,110 @@ fn merged(lines: &[u8], first: &[u8]) -> Option<u64> {
     read_number(count.strip_suffix(b" events\n".as_slice())?, u64::MAX)
 }
 
+static WITH_TAPES: [&str; 8] = [
+    "gb_serve",
+    "--tape",
+    "--nodes",
+    "2",
+    "--base-port",
+    "42750",
+    "--sessions",
+    "1",
+];
+
+// Whether a server with tapes ends well, and merged more events than two.
+fn merges<H: Net<Listener = TcpListener, Stream = TcpStream> + Threads + Wait + Clock + Sync>(
+    rt: &H,
+    alloc: Global,
+) -> bool {
+    let (status, lines) = printed(rt, alloc, &WITH_TAPES, KEYS);
+    let count = merged(&lines, b"serving 2 nodes from port 42750\n");
+    status == 0 && count.unwrap_or(0) > 2
+}
+
 // With tapes a server merges them at its end: at least the client's request, and what the pumps of both nodes did, is an event.
 #[test]
 fn what_was_done_is_merged(rt: HostRuntime) {
     let alloc = rt.alloc();
-    let words = [
-        "gb_serve",
-        "--tape",
-        "--nodes",
-        "2",
-        "--base-port",
-        "42750",
-        "--sessions",
-        "1",
-    ];
-    let (served, (first, second)) = thread::join(
+    let (are_merged, (first, second)) = thread::join(
         &rt,
-        || printed(&rt, alloc, &words, KEYS),
-        || {
-            thread::join(
-                &rt,
-                || told(&rt, alloc, 42_814, OPEN),
-                || told(&rt, alloc, 42_815, OPEN),
-            )
-        },
+        || merges(&rt, alloc),
+        || thread::join(
+            &rt,
+            || is_told(&rt, alloc, 42_814, OPEN, DENIED),
+            || is_told(&rt, alloc, 42_815, OPEN, DENIED),
+        ),
     );
-    assert!(rt; is(&first, DENIED) && is(&second, DENIED));
-    let count = merged(&served.1, b"serving 2 nodes from port 42750\n");
-    assert!(rt; served.0 == 0 && count.is_some_and(|count| count > 2));
+    assert!(rt; are_merged && first && second);
 }
 
 // What clients of one node are told, one after the other: one that sends no request, one that sends half a message, two that go
 // away, one that sends a message that is no request, and one that is right. Whether each was told what it is to be told.
 fn bad_clients<H: Net<Stream = TcpStream> + Clock>(rt: &H, alloc: Global, port: u16) -> bool {
-    let garbage = told(rt, alloc, port, b"GET / HTTP/1.1\r\n\r\n");
-    let half = told(rt, alloc, port, &OPEN[..40]);
+    let garbage = is_told(rt, alloc, port, b"GET / HTTP/1.1\r\n\r\n", MALFORMED);
+    let half = is_told(rt, alloc, port, &OPEN[..40], b"");
     let early = leaves(rt, port, OPEN);
     let silent = leaves(rt, port, b"");
-    let other = told(rt, alloc, port, b"\x00\x00\x00\x03hey");
-    let next = told(rt, alloc, port, OPEN);
-    early
-        && silent
-        && is(&garbage, MALFORMED)
-        && is(&half, b"")
-        && is(&other, MALFORMED)
-        && is(&next, DENIED)
+    let other = is_told(rt, alloc, port, b"\x00\x00\x00\x03hey", MALFORMED);
+    let next = is_told(rt, alloc, port, OPEN, DENIED);
+    garbage && half && early && silent && other && next
 }
+
+static ONE_NODE: [&str; 7] = [
+    "gb_serve",
+    "--nodes",
+    "1",
+    "--base-port",
+    "42300",
+    "--sessions",
+    "6",
+];
 
 // A client that is no good ends its own session alone, and the next is served.
 #[test]
 fn bad_clients_end_their_own_sessions(rt: HostRuntime) {
     let alloc = rt.alloc();
-    let words = [
-        "gb_serve",
-        "--nodes",
-        "1",
-        "--base-port",
-        "42300",
-        "--sessions",
-        "6",
-    ];
-    let (served, are_right) = thread::join(
+    let (is_served, are_right) = thread::join(
         &rt,
-        || printed(&rt, alloc, &words, KEYS),
+        || prints(
+            &rt,
+            alloc,
+            &ONE_NODE,
+            0,
+            b"serving 1 nodes from port 42300\nclosed\n",
+        ),
         || bad_clients(&rt, alloc, 42_364),
     );
-    assert!(rt; are_right);
-    assert!(rt; ended(&served, 0, b"serving 1 nodes from port 42300\nclosed\n"));
+    assert!(rt; is_served && are_right);
+}
+
+static BOUND: [&str; 7] = [
+    "gb_serve",
+    "--nodes",
+    "2",
+    "--base-port",
+    "42450",
+    "--sessions",
+    "1",
+];
+
+// Whether a node's two ports can be bound.
+fn is_free<H: Net<Listener = TcpListener, Stream = TcpStream>>(
+    rt: &H,
+    packets: u16,
+    clients: u16,
+) -> bool {
+    let is_udp = UdpSocket::bind(rt, address(packets)).is_ok();
+    let is_tcp = TcpListener::bind(rt, address(clients)).is_ok();
+    is_udp && is_tcp
 }
 
 // A port that is bound already is told. Then no socket is left: all ports can be bound.
 #[test]
 fn bound_ports_are_told(rt: HostRuntime) {
-    let alloc = rt.alloc();
-    let words = [
-        "gb_serve",
-        "--nodes",
-        "2",
-        "--base-port",
-        "42450",
-        "--sessions",
-        "1",
-    ];
     let holder = UdpSocket::bind(&rt, address(42_451)).expect(&rt, "a socket");
-    let refused = printed(&rt, alloc, &words, KEYS);
-    assert!(rt; ended(&refused, 1, b"host fault 3\n"));
+    let is_refused = prints(&rt, rt.alloc(), &BOUND, 1, b"host fault 3\n");
     drop(holder);
-    for number in 0..2 {
-        assert!(rt; UdpSocket::bind(&rt, address(42_450 + number)).is_ok());
-        assert!(rt; TcpListener::bind(&rt, address(42_514 + number)).is_ok());
-    }
+    let (first, second) = (is_free(&rt, 42_450, 42_514), is_free(&rt, 42_451, 42_515));
+    assert!(rt; is_refused && first && second);
 }

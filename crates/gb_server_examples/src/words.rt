@@ -3,16 +3,10 @@ use gb_serve_words::fault::WordFault;
 use gb_serve_words::plan::ServePlan;
 use gb_serve_words::words::{read_words, refusal_text};
 use std::alloc::{AllocError, Global};
-use std::test::Fail;
 
-// The words of a line, behind the program's name.
+// The words of a line.
 fn words_of(alloc: Global, line: &str) -> Result<Vec<&str>, AllocError> {
-    let mut words: Vec<&str> = Vec::new(alloc);
-    words.push("gb_serve")?;
-    for word in line.split(' ') {
-        words.push(word)?;
-    }
-    Ok(words)
+    line.split(' ').collect(alloc)
 }
 
 // What the words of a line are.
@@ -21,104 +15,138 @@ fn read(alloc: Global, line: &str) -> Result<ServePlan, WordFault> {
     read_words(alloc, &words)
 }
 
-fn plan(
-    nodes: u8,
-    base_port: u16,
-    silence: u16,
-    sessions: u16,
-    tape: bool,
-) -> Result<ServePlan, WordFault> {
-    Ok(ServePlan {
-        nodes,
-        base_port,
-        silence,
-        sessions,
-        tape,
-    })
-}
+// Lines, and the numbers of nodes, the base port, the silence and the sessions that they are, and whether there are tapes.
+static PLANS: [(&str, u8, u16, u16, u16, bool); 7] = [
+    (
+        "gb_serve --nodes 1 --base-port 1024",
+        1,
+        1_024,
+        50,
+        0,
+        false,
+    ),
+    (
+        "gb_serve --nodes 16 --base-port 65000",
+        16,
+        65_000,
+        50,
+        0,
+        false,
+    ),
+    (
+        "gb_serve --base-port=42000 --nodes=2",
+        2,
+        42_000,
+        50,
+        0,
+        false,
+    ),
+    (
+        "gb_serve --nodes 2 --base-port 42000 --silence 2 --sessions 1",
+        2,
+        42_000,
+        2,
+        1,
+        false,
+    ),
+    (
+        "gb_serve --nodes 2 --base-port 42000 --silence 1000 --sessions 1000",
+        2,
+        42_000,
+        1_000,
+        1_000,
+        false,
+    ),
+    (
+        "gb_serve --tape --nodes 2 --base-port 42000",
+        2,
+        42_000,
+        50,
+        0,
+        true,
+    ),
+    (
+        "gb_serve --nodes +3 --base-port 042000",
+        3,
+        42_000,
+        50,
+        0,
+        false,
+    ),
+];
 
 #[test]
-fn words_are_plans(rt: HostRuntime) -> Result<(), Fail> {
-    let table = [
-        ("--nodes 1 --base-port 1024", plan(1, 1_024, 50, 0, false)),
-        (
-            "--nodes 16 --base-port 65000",
-            plan(16, 65_000, 50, 0, false),
-        ),
-        ("--base-port=42000 --nodes=2", plan(2, 42_000, 50, 0, false)),
-        (
-            "--nodes 2 --base-port 42000 --silence 2 --sessions 1",
-            plan(2, 42_000, 2, 1, false),
-        ),
-        (
-            "--nodes 2 --base-port 42000 --silence 1000 --sessions 1000",
-            plan(2, 42_000, 1_000, 1_000, false),
-        ),
-        (
-            "--tape --nodes 2 --base-port 42000",
-            plan(2, 42_000, 50, 0, true),
-        ),
-        (
-            "--nodes +3 --base-port 042000",
-            plan(3, 42_000, 50, 0, false),
-        ),
-    ];
-    for (line, want) in table {
+fn words_are_plans(rt: HostRuntime) {
+    for (line, nodes, base_port, silence, sessions, tape) in &PLANS {
+        let want = ServePlan {
+            nodes: *nodes,
+            base_port: *base_port,
+            silence: *silence,
+            sessions: *sessions,
+            tape: *tape,
+        };
         let found = read(rt.alloc(), line);
-        assert!(rt; found == want);
+        assert!(rt; found == Ok(want));
     }
-    Ok(())
 }
 
 // Each number's first value outside its range, words that are too few, too many, unknown, or given twice.
+static REFUSED: [&str; 19] = [
+    "gb_serve ",
+    "gb_serve --nodes 2",
+    "gb_serve --base-port 42000",
+    "gb_serve --nodes 0 --base-port 42000",
+    "gb_serve --nodes 17 --base-port 42000",
+    "gb_serve --nodes 2 --base-port 1023",
+    "gb_serve --nodes 2 --base-port 65001",
+    "gb_serve --nodes 2 --base-port 42000 --silence 1",
+    "gb_serve --nodes 2 --base-port 42000 --silence 1001",
+    "gb_serve --nodes 2 --base-port 42000 --sessions 1001",
+    "gb_serve --nodes 2 --base-port 42000 --sessions -1",
+    "gb_serve --nodes two --base-port 42000",
+    "gb_serve --nodes 99999999999999999999 --base-port 42000",
+    "gb_serve --nodes 2 --nodes 2 --base-port 42000",
+    "gb_serve --nodes --base-port 42000",
+    "gb_serve --nodes 2 --base-port 42000 --tape --tape",
+    "gb_serve --nodes 2 --base-port 42000 --tape=true",
+    "gb_serve --nodes 2 --base-port 42000 3",
+    "gb_serve --help",
+];
+
 #[test]
-fn words_are_refused(rt: HostRuntime) -> Result<(), Fail> {
-    let table = [
-        "",
-        "--nodes 2",
-        "--base-port 42000",
-        "--nodes 0 --base-port 42000",
-        "--nodes 17 --base-port 42000",
-        "--nodes 2 --base-port 1023",
-        "--nodes 2 --base-port 65001",
-        "--nodes 2 --base-port 42000 --silence 1",
-        "--nodes 2 --base-port 42000 --silence 1001",
-        "--nodes 2 --base-port 42000 --sessions 1001",
-        "--nodes 2 --base-port 42000 --sessions -1",
-        "--nodes two --base-port 42000",
-        "--nodes 99999999999999999999 --base-port 42000",
-        "--nodes 2 --nodes 2 --base-port 42000",
-        "--nodes --base-port 42000",
-        "--nodes 2 --base-port 42000 --tape --tape",
-        "--nodes 2 --base-port 42000 --tape=true",
-        "--nodes 2 --base-port 42000 3",
-        "--help",
-    ];
-    for line in table {
+fn words_are_refused(rt: HostRuntime) {
+    for line in &REFUSED {
         let found = read(rt.alloc(), line);
         assert!(rt; found == Err(WordFault::Refused));
     }
-    Ok(())
+}
+
+static EXPLAINED: [(&str, &str); 3] = [
+    (
+        "gb_serve --nodes 17 --base-port 42000",
+        "error: invalid value '17' for '--nodes <N>': 17 is not in 1..=16\n\nFor more information, try '--help'.\n",
+    ),
+    (
+        "gb_serve --nodes 2",
+        "error: the following required arguments were not provided:\n  --base-port <P>\n\nUsage: gb_serve --nodes <N> --base-port <P>\n\nFor more information, try '--help'.\n",
+    ),
+    ("gb_serve --nodes 2 --base-port 42000", ""),
+];
+
+// Whether this is said of the words of a line.
+fn is_said(alloc: Global, line: &str, want: &str) -> bool {
+    let Ok(words) = words_of(alloc, line) else {
+        return false;
+    };
+    match refusal_text(alloc, &words) {
+        Ok(text) => text.as_str() == want,
+        Err(_) => false,
+    }
 }
 
 #[test]
-fn refusals_are_explained(rt: HostRuntime) -> Result<(), Fail> {
-    let alloc = rt.alloc();
-    let table = [
-        (
-            "--nodes 17 --base-port 42000",
-            "error: invalid value '17' for '--nodes <N>': 17 is not in 1..=16\n\nFor more information, try '--help'.\n",
-        ),
-        (
-            "--nodes 2",
-            "error: the following required arguments were not provided:\n  --base-port <P>\n\nUsage: gb_serve --nodes <N> --base-port <P>\n\nFor more information, try '--help'.\n",
-        ),
-        ("--nodes 2 --base-port 42000", ""),
-    ];
-    for (line, want) in table {
-        let words = words_of(alloc, line)?;
-        let found = refusal_text(alloc, &words)?;
-        assert!(rt; found.as_str() == want);
+fn refusals_are_explained(rt: HostRuntime) {
+    for (line, want) in &EXPLAINED {
+        assert!(rt; is_said(rt.alloc(), line, want));
     }
-    Ok(())
 }

@@ -1,0 +1,209 @@
+// What is done on a host of two nodes, from its opening to its end, and what it leaves.
+ghost use Rattle.std.specs.Prelude.{◌≡◌, ◌+◌};
+ghost use Rattle.gb_host.specs.Plans.{IsPlan};
+
+use crate::agreement::{agree, copy_lists, count_entries, entries_of};
+use crate::asking::prepare_both;
+use crate::day::all_work;
+use crate::plans::two_nodes;
+use crate::roles::Role;
+use crate::talks::{Both, hold_both};
+use gb_host::close::close;
+use gb_host::closed::Closed;
+use gb_host::entry::SeatEntry;
+use gb_host::fault::HostFault;
+use gb_host::host::Host;
+use gb_host::names::Tapes;
+use gb_host::plan::HostPlan;
+use gb_host::seat::Seat;
+use gb_merge::merge::merge;
+use gb_node::event::NodeEvent;
+use gb_node::tape::{Tape, TapeEntry};
+use gb_port::port::Port;
+use std::alloc::Global;
+use std::marker::Brand;
+use std::sync::Wait;
+use std::sync::ledger::{Blank, Ledger};
+use std::thread::Threads;
+use std::time::Clock;
+
+/// What is done on a host, from its seats.
+#[derive(Drop)]
+pub enum Scene<'a, P> {
+    /// Each role in a thread of its own, from the seat with its number.
+    Roles(Vec<Role<'a, P>>),
+    /// The same, once the group of both nodes was made from the last seat.
+    InGroup(Vec<Role<'a, P>>),
+    /// Sessions with two clients at once.
+    Sessions(Both<'a>),
+    /// The last seat is lost.
+    LostSeat,
+}
+
+// Plays a scene. What was counted.
+fn play<
+    L: Tapes + Send + Sync,
+    M: Ledger + Send + Sync,
+    P: Port + Send + Drop,
+    R: Threads + Wait + Clock + Sync,
+>(
+    rt: &R,
+    alloc: Global,
+    host: &Host<L, M>,
+    seats: &mut Vec<Seat<M>>,
+    scene: &mut Scene<'_, P>,
+) -> [u64; 4] {
+    match scene {
+        Scene::Roles(roles) => all_work(rt, alloc, host, seats, roles),
+        Scene::InGroup(roles) => {
+            prepare_both(rt, alloc, host, seats);
+            all_work(rt, alloc, host, seats, roles)
+        }
+        Scene::Sessions(both) => [hold_both(rt, alloc, host, seats, *both), 0, 0, 0],
+        Scene::LostSeat => {
+            let _ = seats.pop();
+            [0; 4]
+        }
+    }
+}
+
+/// What a host left: what was counted; of each of the first two seats how many calls it noted, and how many entries of the tapes
+/// are its; how many ticks the tape of each node has; whether the tapes tell of each seat what its list did; and whether they were
+/// merged into as many events as they have entries.
+#[derive(Clone, Copy)]
+pub struct Left {
+    pub counts: [u64; 4],
+    pub calls: [usize; 2],
+    pub entries: [usize; 2],
+    pub ticks: [usize; 2],
+    pub agree: bool,
+    pub merged: bool,
+}
+
+/// Why a host left nothing.
+#[derive(Clone, Copy)]
+pub enum Refused {
+    ForeignSeat,
+    Other,
+}
+
+fn count_ticks(tape: &[TapeEntry]) -> usize {
+    let mut count: usize = 0;
+    for entry in tape {
+        if let NodeEvent::Tick = entry.event {
+            count = count.saturating_add(1);
+        }
+    }
+    count
+}
+
+// How many ticks the tapes of the two nodes have.
+fn ticks_of(tapes: &[Tape]) -> [usize; 2] {
+    let mut ticks = [0; 2];
+    for node in 0..2 {
+        if let Some(tape) = tapes.get(node) {
+            ticks[node] = count_ticks(tape.as_slice());
+        }
+    }
+    ticks
+}
+
+// How many calls the first two seats noted.
+fn calls_of(lists: &[Vec<SeatEntry>]) -> [usize; 2] {
+    let mut calls = [0; 2];
+    for seat in 0..2 {
+        if let Some(list) = lists.get(seat) {
+            calls[seat] = list.len();
+        }
+    }
+    calls
+}
+
+// Whether the tapes are merged into as many events as they have entries.
+fn are_merged(alloc: Global, plan: HostPlan, tapes: &[Tape]) -> bool
+    requires { IsPlan plan }
+{
+    let cluster = plan.cluster;
+    if cluster.nodes == 0 || tapes.len() != usize::from(cluster.nodes) {
+        return false;
+    }
+    match merge(alloc, &cluster, tapes) {
+        Ok(events) => events.len() == count_entries(tapes),
+        Err(_) => false,
+    }
+}
+
+// What is left once a host was closed.
+fn left_of(
+    alloc: Global,
+    plan: HostPlan,
+    counts: [u64; 4],
+    closed: &Result<Closed, HostFault>,
+    lists: &[Vec<SeatEntry>],
+) -> Result<Left, Refused>
+    requires { IsPlan plan }
+{
+    let tapes = match closed {
+        Ok(closed) => closed.tapes.as_slice(),
+        Err(HostFault::ForeignSeat) => return Err(Refused::ForeignSeat),
+        Err(_) => return Err(Refused::Other),
+    };
+    Ok(Left {
+        counts,
+        calls: calls_of(lists),
+        entries: [entries_of(tapes, 0), entries_of(tapes, 1)],
+        ticks: ticks_of(tapes),
+        agree: agree(tapes, lists),
+        merged: are_merged(alloc, plan, tapes),
+    })
+}
+
+// Opens a host with so many seats, plays a scene on it, and closes it.
+fn run<
+    L: Tapes + Send + Sync,
+    M: Ledger + Send + Sync,
+    P: Port + Send + Drop,
+    R: Threads + Wait + Clock + Sync,
+>(
+    rt: &R,
+    alloc: Global,
+    plan: HostPlan,
+    count: u32,
+    scene: &mut Scene<'_, P>,
+    tape_blank: Blank,
+    seat_blank: Blank,
+) -> Result<Left, Refused>
+    requires plan { plan ≡ L.plan }
+    requires limits { IsPlan plan }
+    requires tape_blank { (tape_blank.name ≡ L.name) × (tape_blank.parts ≡ L.parts) × (tape_blank.parts ≡ plan.cluster.nodes + 1) }
+    requires seat_blank { (seat_blank.name ≡ M.name) × (seat_blank.parts ≡ M.parts) × (seat_blank.parts ≡ count + 1) }
+{
+    let opened = Host::<L, M>::open(alloc, plan, count, tape_blank, seat_blank);
+    let Some((host, mut seats)) = opened.ok() else {
+        return Err(Refused::Other);
+    };
+    let counts = play(rt, alloc, &host, &mut seats, scene);
+    let mut lists = Vec::new(alloc);
+    let _ = copy_lists(alloc, &seats, &mut lists);
+    left_of(alloc, plan, counts, &close(host, seats), &lists)
+}
+
+/// Plays a scene on a host of two nodes, with tapes or without, and so many seats.
+pub fn whole<P: Port + Send + Drop, R: Threads + Wait + Clock + Sync>(
+    rt: &R,
+    alloc: Global,
+    tape: bool,
+    count: u32,
+    scene: &mut Scene<'_, P>,
+) -> Result<Left, Refused> {
+    let parts = count as u64 + 1;
+    run::<Brand, Brand, P, R>(
+        rt,
+        alloc,
+        two_nodes(tape),
+        count,
+        scene,
+        Blank::new(3),
+        Blank::new(parts),
+    )
+}
