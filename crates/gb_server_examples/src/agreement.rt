@@ -99,16 +99,10 @@ pub fn count_entries(tapes: &[Tape]) -> usize {
 pub fn entries_of(tapes: &[Tape], seat: u32) -> usize {
     let mut count: usize = 0;
     for tape in tapes {
-        count = count.saturating_add(entries_in(tape.as_slice(), seat));
-    }
-    count
-}
-
-fn entries_in(tape: &[TapeEntry], seat: u32) -> usize {
-    let mut count: usize = 0;
-    for entry in tape {
-        if entry.seat == seat {
-            count = count.saturating_add(1);
+        for entry in tape.as_slice() {
+            if entry.seat == seat {
+                count = count.saturating_add(1);
+            }
         }
     }
     count

@@ -153,34 +153,25 @@ fn add_tenant() -> Request {
     Request::AddTenant(token(&ADMIN_KEY, Need::Admin), row)
 }
 
-// The request that makes a group with these members.
-fn make(addr: Addr, kind: Kind, members: NodeSet) -> Request {
-    let spec = Spec {
-        kind,
-        members,
+// The request that makes a group at a node.
+fn make(node: NodeId, addr: Addr) -> Request {
+    let mut spec = Spec {
+        kind: Kind::AllAck,
+        members: NodeSet::new(),
         msgs: 8,
         bytes: 4_096,
         window: 4,
     };
+    spec.members.insert(node);
+    if addr.group == BOTH.group {
+        spec.kind = Kind::Beb;
+        spec.members.insert(FIRST);
+        spec.members.insert(SECOND);
+    }
     Request::Make(token(&TENANT_KEY, Need::Tenant(7)), addr, spec)
 }
 
-/// The request that makes the group of a node alone.
-pub fn make_alone(node: NodeId) -> Request {
-    let mut members = NodeSet::new();
-    members.insert(node);
-    make(ALONE, Kind::AllAck, members)
-}
-
-// The request that makes the group of both nodes.
-fn make_both() -> Request {
-    let mut members = NodeSet::new();
-    members.insert(FIRST);
-    members.insert(SECOND);
-    make(BOTH, Kind::Beb, members)
-}
-
-/// Adds the tenant at a node, makes a group there by this request, and opens it.
+/// Adds the tenant at a node, makes a group there, and opens it.
 pub fn prepare<L: Tapes, M: Ledger, R: Wait + Clock>(
     rt: &R,
     alloc: Global,
@@ -188,11 +179,10 @@ pub fn prepare<L: Tapes, M: Ledger, R: Wait + Clock>(
     seat: &mut Seat<M>,
     node: NodeId,
     addr: Addr,
-    make: Request,
 ) {
     let owner = token(&TENANT_KEY, Need::Tenant(7));
     tell(rt, alloc, host, seat, node, add_tenant());
-    tell(rt, alloc, host, seat, node, make);
+    tell(rt, alloc, host, seat, node, make(node, addr));
     tell(rt, alloc, host, seat, node, Request::OpenGroup(owner, addr));
 }
 
@@ -204,8 +194,8 @@ pub fn prepare_both<L: Tapes, M: Ledger, R: Wait + Clock>(
     seats: &mut [Seat<M>],
 ) {
     if let Some(seat) = seats.last_mut() {
-        prepare(rt, alloc, host, seat, FIRST, BOTH, make_both());
-        prepare(rt, alloc, host, seat, SECOND, BOTH, make_both());
+        prepare(rt, alloc, host, seat, FIRST, BOTH);
+        prepare(rt, alloc, host, seat, SECOND, BOTH);
     }
 }
 

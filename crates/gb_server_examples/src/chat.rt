@@ -3,7 +3,7 @@
 ghost use Rattle.std.specs.Prelude.{◌≤◌, vec_len, IfOk};
 ghost use Rattle.gb_session.specs.declared.grammar.TheConstants.{BODY};
 
-use crate::served::prints;
+use crate::served::{KEYS, prints};
 use crate::socket_clients::connect;
 use gb_client::exchange::{receive, send};
 use gb_client::fault::ClientFault;
@@ -216,6 +216,7 @@ fn three_members_chat(rt: HostRuntime) {
             &rt,
             alloc,
             &WORDS,
+            KEYS,
             0,
             b"serving 3 nodes from port 24100\nclosed\n",
         ),

@@ -1,5 +1,5 @@
 // Days of a host of two nodes, with a thread for each role.
-use crate::plans::{FIRST, SECOND};
+use crate::plans::{FIRST, SECOND, pair};
 use crate::roles::{Role, TURNS, count_callers, work};
 use crate::scenes::{Left, Scene, whole};
 use gb_host::host::Host;
@@ -69,8 +69,8 @@ fn first_four(counts: &[u64]) -> [u64; 4] {
     four
 }
 
-/// A day of two nodes, with tapes or without, and with the group of both or without.
-pub fn day<P: Port + Send + Drop, R: Threads + Wait + Clock + Sync>(
+// A day of two nodes, with tapes or without, and with the group of both or without.
+fn day<P: Port + Send + Drop, R: Threads + Wait + Clock + Sync>(
     rt: &R,
     alloc: Global,
     tape: bool,
@@ -84,6 +84,17 @@ pub fn day<P: Port + Send + Drop, R: Threads + Wait + Clock + Sync>(
         Scene::Roles(roles)
     };
     whole(rt, alloc, tape, count, &mut scene).ok()
+}
+
+/// A day of two roles, without the group of both nodes.
+pub fn day_of_two<R: Threads + Wait + Clock + Sync>(
+    rt: &R,
+    alloc: Global,
+    tape: bool,
+    first: Role<'_, RingPort>,
+    second: Role<'_, RingPort>,
+) -> Option<Left> {
+    day(rt, alloc, tape, false, pair(alloc, first, second)?)
 }
 
 // A day with a pump for each of two nodes, over these ports, and two more roles.
@@ -142,16 +153,10 @@ fn say_crosses_sockets(rt: HostRuntime) {
     assert!(rt; is_found);
 }
 
-// A day on which a ticker makes two turns.
-fn ticked<R: Threads + Wait + Clock + Sync>(rt: &R, alloc: Global) -> Option<Left> {
-    let mut roles: Vec<Role<RingPort>> = Vec::with_capacity(alloc, 1).ok()?;
-    roles.push_reserved(Role::Ticker(2));
-    day(rt, alloc, true, true, roles)
-}
-
 #[test]
 fn two_ticks(rt: HostRuntime) {
-    let left = ticked(&rt, rt.alloc()).expect(&rt, "a day");
+    let (ticker, idle) = (Role::Ticker(2), Role::Ticker(0));
+    let left = day_of_two(&rt, rt.alloc(), true, ticker, idle).expect(&rt, "a day");
     assert!(rt; left.counts[0] == 2 && left.ticks == [2, 2] && left.agree);
 }
 

@@ -1,7 +1,6 @@
 // What a host refuses besides want of memory.
 use crate::asking::{Unanswered, call};
-use crate::day::day;
-use crate::plans::pair;
+use crate::day::day_of_two;
 use crate::roles::Role;
 use crate::scenes::{Refused, Scene, whole};
 use gb_host::gate::Open;
@@ -32,13 +31,6 @@ pub fn is_refused<L: Tapes, M: Ledger, R: Wait>(
     is_missing && seat.mine().is_empty()
 }
 
-// Whether calls of a missing node are refused.
-fn refuses_node<R: Threads + Wait + Clock + Sync>(rt: &R, alloc: Global) -> Option<bool> {
-    let roles: Vec<Role<RingPort>> = pair(alloc, Role::Lost, Role::Lost)?;
-    let left = day(rt, alloc, true, false, roles)?;
-    Some(left.counts == [1, 1, 0, 0])
-}
-
 // Whether an end without the last seat is refused.
 fn refuses_end<R: Threads + Wait + Clock + Sync>(rt: &R, alloc: Global) -> bool {
     let mut scene: Scene<RingPort> = Scene::LostSeat;
@@ -50,7 +42,7 @@ fn refuses_end<R: Threads + Wait + Clock + Sync>(rt: &R, alloc: Global) -> bool 
 
 #[test]
 fn a_missing_node_and_a_missing_seat_are_refused(rt: HostRuntime) {
-    let is_refused = refuses_node(&rt, rt.alloc()).unwrap_or(false);
+    let left = day_of_two(&rt, rt.alloc(), true, Role::Lost, Role::Lost).expect(&rt, "a day");
     let is_foreign = refuses_end(&rt, rt.alloc());
-    assert!(rt; is_refused && is_foreign);
+    assert!(rt; left.counts == [1, 1, 0, 0] && is_foreign);
 }

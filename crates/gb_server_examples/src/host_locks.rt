@@ -1,22 +1,18 @@
 // Each node has a lock of its own.
 use crate::asking::call;
-use crate::day::day;
-use crate::plans::{FIRST, SECOND, pair};
+use crate::day::day_of_two;
+use crate::plans::{FIRST, SECOND};
 use crate::roles::Role;
-use crate::scenes::Left;
 use gb_host::gate::{Gate, Open};
 use gb_host::host::Host;
 use gb_host::names::Tapes;
 use gb_host::seat::Seat;
 use gb_node::event::NodeEvent;
-use gb_port::ring::RingPort;
-use std::alloc::Global;
 use std::rt::HostRuntime;
 use std::sync::Wait;
 use std::sync::atomic::{AtomicU64, Ordering};
 use std::sync::ledger::Ledger;
 use std::thread;
-use std::thread::Threads;
 use std::time::{Clock, Duration};
 
 /// How many milliseconds a thread waits at most.
@@ -89,18 +85,10 @@ pub fn call_beside<L: Tapes, M: Ledger, R: Wait + Clock>(
 }
 
 // Two callers, each at a node of its own: the first holds node 0's lock, and once it does, the second calls node 1.
-fn hold_and_call<R: Threads + Wait + Clock + Sync>(
-    rt: &R,
-    alloc: Global,
-    state: &AtomicU64,
-) -> Option<Left> {
-    let roles: Vec<Role<RingPort>> = pair(alloc, Role::Holder(state), Role::Beside(state))?;
-    day(rt, alloc, true, false, roles)
-}
-
 #[test]
 fn two_nodes_two_locks(rt: HostRuntime) {
     let state = AtomicU64::new(OUTSIDE);
-    let is_closed = hold_and_call(&rt, rt.alloc(), &state).is_some();
-    assert!(rt; is_closed && state.into_inner() == ANSWERED);
+    let (first, second) = (Role::Holder(&state), Role::Beside(&state));
+    let left = day_of_two(&rt, rt.alloc(), true, first, second);
+    assert!(rt; left.is_some() && state.into_inner() == ANSWERED);
 }

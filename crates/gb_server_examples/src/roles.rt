@@ -1,5 +1,5 @@
 // What each thread of a day does, from a seat of its own.
-use crate::asking::{ALONE, BOTH, PATIENCE, ask, fetch, make_alone, prepare, say};
+use crate::asking::{ALONE, BOTH, PATIENCE, ask, fetch, prepare, say};
 use crate::host_faults::is_refused;
 use crate::host_locks::{call_beside, hold};
 use crate::plans::SECOND;
@@ -145,7 +145,7 @@ fn keep_to_itself<L: Tapes, M: Ledger, R: Wait + Clock>(
     seat: &mut Seat<M>,
     node: NodeId,
 ) -> bool {
-    prepare(rt, alloc, host, seat, node, ALONE, make_alone(node));
+    prepare(rt, alloc, host, seat, node, ALONE);
     let seq = say(rt, alloc, host, seat, node, ALONE).unwrap_or(0);
     let is_fetched = fetch(rt, alloc, host, seat, node, ALONE, node);
     let _ = ask(rt, alloc, host, seat, node, &NodeEvent::Pack(SECOND));

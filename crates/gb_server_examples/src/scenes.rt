@@ -18,7 +18,7 @@ use gb_host::plan::HostPlan;
 use gb_host::seat::Seat;
 use gb_merge::merge::merge;
 use gb_node::event::NodeEvent;
-use gb_node::tape::{Tape, TapeEntry};
+use gb_node::tape::Tape;
 use gb_port::port::Port;
 use std::alloc::Global;
 use std::marker::Brand;
@@ -87,22 +87,16 @@ pub enum Refused {
     Other,
 }
 
-fn count_ticks(tape: &[TapeEntry]) -> usize {
-    let mut count: usize = 0;
-    for entry in tape {
-        if let NodeEvent::Tick = entry.event {
-            count = count.saturating_add(1);
-        }
-    }
-    count
-}
-
 // How many ticks the tapes of the two nodes have.
 fn ticks_of(tapes: &[Tape]) -> [usize; 2] {
-    let mut ticks = [0; 2];
+    let mut ticks: [usize; 2] = [0; 2];
     for node in 0..2 {
         if let Some(tape) = tapes.get(node) {
-            ticks[node] = count_ticks(tape.as_slice());
+            for entry in tape.as_slice() {
+                if let NodeEvent::Tick = entry.event {
+                    ticks[node] = ticks[node].saturating_add(1);
+                }
+            }
         }
     }
     ticks

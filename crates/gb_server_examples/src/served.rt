@@ -9,8 +9,8 @@ use std::thread;
 use std::thread::Threads;
 use std::time::Clock;
 
-// The keys of the servers here: the cluster's, 32 bytes 11, and the administrator's, 32 bytes 22.
-static KEYS: &[u8] =
+/// The keys of the servers here: the cluster's, 32 bytes 11, and the administrator's, 32 bytes 22.
+pub static KEYS: &[u8] =
     b"1111111111111111111111111111111111111111111111111111111111111111\n2222222222222222222222222222222222222222222222222222222222222222\n";
 
 // What a server prints, with its status, for these words and keys.
@@ -26,20 +26,17 @@ fn printed<H: Net<Listener = TcpListener, Stream = TcpStream> + Threads + Wait +
     (status, lines)
 }
 
-// Whether a server ended with this status and printed these lines.
-fn ended(served: &(u8, Vec<u8>), status: u8, lines: &[u8]) -> bool {
-    served.0 == status && served.1.as_slice() == lines
-}
-
-/// Whether a server with these words ends with this status and prints these lines.
+/// Whether a server with these words and keys ends with this status and prints these lines.
 pub fn prints<H: Net<Listener = TcpListener, Stream = TcpStream> + Threads + Wait + Clock + Sync>(
     rt: &H,
     alloc: Global,
     words: &[&str],
+    keys: &[u8],
     status: u8,
     lines: &[u8],
 ) -> bool {
-    ended(&printed(rt, alloc, words, KEYS), status, lines)
+    let (ended, found) = printed(rt, alloc, words, keys);
+    ended == status && found.as_slice() == lines
 }
 
 // Whether a client that sends these bytes to a port is told those.
@@ -69,8 +66,8 @@ static KEYLESS: [&str; 7] = [
 #[test]
 fn faults_are_told(rt: HostRuntime) {
     let alloc = rt.alloc();
-    let is_refused = prints(&rt, alloc, &["gb_serve"], 2, b"refused words\n");
-    let is_keyless = ended(&printed(&rt, alloc, &KEYLESS, b""), 1, b"bad keys\n");
+    let is_refused = prints(&rt, alloc, &["gb_serve"], KEYS, 2, b"refused words\n");
+    let is_keyless = prints(&rt, alloc, &KEYLESS, b"", 1, b"bad keys\n");
     assert!(rt; is_refused && is_keyless);
 }
 
@@ -94,6 +91,7 @@ fn two_nodes_are_served(rt: HostRuntime) {
             &rt,
             alloc,
             &TWO_NODES,
+            KEYS,
             0,
             b"serving 2 nodes from port 42000\nclosed\n",
         ),
@@ -182,6 +180,7 @@ fn bad_clients_end_their_own_sessions(rt: HostRuntime) {
             &rt,
             alloc,
             &ONE_NODE,
+            KEYS,
             0,
             b"serving 1 nodes from port 42300\nclosed\n",
         ),
@@ -215,7 +214,7 @@ fn is_free<H: Net<Listener = TcpListener, Stream = TcpStream>>(
 #[test]
 fn bound_ports_are_told(rt: HostRuntime) {
     let holder = UdpSocket::bind(&rt, address(42_451)).expect(&rt, "a socket");
-    let is_refused = prints(&rt, rt.alloc(), &BOUND, 1, b"host fault 3\n");
+    let is_refused = prints(&rt, rt.alloc(), &BOUND, KEYS, 1, b"host fault 3\n");
     drop(holder);
     let (first, second) = (is_free(&rt, 42_450, 42_514), is_free(&rt, 42_451, 42_515));
     assert!(rt; is_refused && first && second);

@@ -1,6 +1,6 @@
 // Sessions with clients of a host of two nodes.
 use crate::client_streams::{Asking, Held, Told};
-use crate::day::day;
+use crate::day::day_of_two;
 use crate::plans::{FIRST, SECOND, pair};
 use crate::roles::Role;
 use crate::scenes::{Left, Scene, whole};
@@ -67,16 +67,6 @@ fn ends_of<L: Tapes + Send + Sync, M: Ledger + Send + Sync, R: Threads + Wait + 
     sessions(rt, alloc, host, seats, streams, gates).ok()
 }
 
-fn count_finished(ends: &[Ending]) -> u64 {
-    let mut count: u64 = 0;
-    for end in ends {
-        if let Ok(SessionEnd::Finished) = end {
-            count = count.saturating_add(1);
-        }
-    }
-    count
-}
-
 /// Holds both sessions at once. How many ended well.
 pub fn hold_both<L: Tapes + Send + Sync, M: Ledger + Send + Sync, R: Threads + Wait + Clock + Sync>(
     rt: &R,
@@ -85,10 +75,13 @@ pub fn hold_both<L: Tapes + Send + Sync, M: Ledger + Send + Sync, R: Threads + W
     seats: &mut [Seat<M>],
     both: Both<'_>,
 ) -> u64 {
-    match ends_of(rt, alloc, host, seats, both) {
-        Some(ends) => count_finished(&ends),
-        None => 0,
+    let mut count: u64 = 0;
+    for end in &ends_of(rt, alloc, host, seats, both).unwrap_or(Vec::new(alloc)) {
+        if let Ok(SessionEnd::Finished) = end {
+            count = count.saturating_add(1);
+        }
     }
+    count
 }
 
 // A host on which both sessions are held.
@@ -133,20 +126,6 @@ pub fn converse<L: Tapes, M: Ledger, R: Wait>(
     end == client.end
 }
 
-// A client that asks three times; one of its reads and one of its writes may fail.
-fn thrice<'a>(
-    denied: &'a AtomicU64,
-    read_fails_at: u64,
-    write_fails_at: u64,
-    end: &Ending,
-) -> Client<'a> {
-    Client {
-        reader: Asking::new(3, read_fails_at),
-        writer: Told::new(denied, write_fails_at),
-        end: *end,
-    }
-}
-
 // Three requests, of which a read or a write fails: how many sessions end so, how many calls were made, and how many replies
 // were written.
 fn ask_thrice<R: Threads + Wait + Clock + Sync>(
@@ -157,9 +136,12 @@ fn ask_thrice<R: Threads + Wait + Clock + Sync>(
     end: &Ending,
 ) -> Option<(u64, usize, u64)> {
     let denied = AtomicU64::new(0);
-    let mut roles: Vec<Role<RingPort>> = Vec::with_capacity(alloc, 1).ok()?;
-    roles.push_reserved(Role::Client(thrice(&denied, read_fails_at, write_fails_at, end)));
-    let left = day(rt, alloc, true, false, roles)?;
+    let client = Client {
+        reader: Asking::new(3, read_fails_at),
+        writer: Told::new(&denied, write_fails_at),
+        end: *end,
+    };
+    let left = day_of_two(rt, alloc, true, Role::Client(client), Role::Ticker(0))?;
     Some((left.counts[0], left.calls[0], denied.load(Ordering::SeqCst)))
 }
 
