@@ -10,12 +10,9 @@ use gb_host::seat::Seat;
 use gb_node::event::NodeEvent;
 use gb_port::ring::RingPort;
 use gb_types::node::NodeId;
-use std::alloc::Global;
 use std::rt::HostRuntime;
 use std::sync::Wait;
 use std::sync::ledger::Ledger;
-use std::thread::Threads;
-use std::time::Clock;
 
 /// Whether a tick at a node that the host does not have is refused, and nothing is noted.
 pub fn is_refused<L: Tapes, M: Ledger, R: Wait>(
@@ -31,18 +28,13 @@ pub fn is_refused<L: Tapes, M: Ledger, R: Wait>(
     is_missing && seat.mine().is_empty()
 }
 
-// Whether an end without the last seat is refused.
-fn refuses_end<R: Threads + Wait + Clock + Sync>(rt: &R, alloc: Global) -> bool {
-    let mut scene: Scene<RingPort> = Scene::LostSeat;
-    match whole(rt, alloc, true, 2, &mut scene) {
-        Err(Refused::ForeignSeat) => true,
-        _ => false,
-    }
-}
-
 #[test]
 fn a_missing_node_and_a_missing_seat_are_refused(rt: HostRuntime) {
     let left = day_of_two(&rt, rt.alloc(), true, Role::Lost, Role::Lost).expect(&rt, "a day");
-    let is_foreign = refuses_end(&rt, rt.alloc());
+    let mut scene: Scene<RingPort> = Scene::LostSeat;
+    let is_foreign = match whole(&rt, rt.alloc(), true, 2, &mut scene) {
+        Err(Refused::ForeignSeat) => true,
+        _ => false,
+    };
     assert!(rt; left.counts == [1, 1, 0, 0] && is_foreign);
 }
