@@ -17,9 +17,15 @@ pub struct TapeEntry {
 }
 
 /// A node's tape. Contracts see its entries, the oldest first.
-#[derive(Drop)]
 pub struct Tape {
     entries: Vec<TapeEntry>,
+}
+
+// Not derived: what is derived is proved anew in each crate that ends one.
+impl Drop for Tape {
+    fn drop(self) {
+        let Tape { entries: _ } = self;
+    }
 }
 
 impl Model for Tape {

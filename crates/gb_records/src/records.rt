@@ -27,7 +27,6 @@ fn is_waiting(r: &Record) -> bool
 }
 
 /// The records in the order of first mention, one for each message, with a table that leads to them.
-#[derive(Drop)]
 pub struct Records {
     pub list: Vec<Record>,
     pub table: Table,
@@ -41,6 +40,19 @@ pub struct Records {
     ghost once: { IsDistinct same (keys list.items) } by { Prim.hlevel props },
     ghost counted: { (origin : ℕ) → origin < NODES → slice_index given origin ≡ given_of origin (order_entries list.items) },
     ghost bounded: { (i : ℕ) (m : MsgId) → slice_get (keys list.items) i ≡ Some m → m.seq ≤ slice_index last m.origin.number },
+}
+
+// Not derived: what is derived is proved anew in each crate that ends one.
+impl Drop for Records {
+    fn drop(self) {
+        let Records {
+            list: _,
+            table: _,
+            recent: _,
+            given: _,
+            last: _,
+        } = self;
+    }
 }
 
 /// Whether the record at a place is of m.

@@ -53,13 +53,24 @@ pub struct MemberToken {
 /// once, not for each token, and the tokens of the first members that were named are kept. Those of members that were named of
 /// late are found without a hash, each at a place of its member's: of two members with one place the last that was named has it.
 /// Contracts see nothing of it: each token is a function of what it is asked for.
-#[derive(Drop)]
 pub struct Keys {
     admin: HmacKey,
     tenants: IndexMap<TenantId, HmacKey>,
     members: IndexMap<GroupMember, Token>,
     /// None where none stands; no places where there was no memory for them.
     recent: Vec<Option<MemberToken>>,
+}
+
+// Not derived: what is derived is proved anew in each crate that ends one.
+impl Drop for Keys {
+    fn drop(self) {
+        let Keys {
+            admin: _,
+            tenants: _,
+            members: _,
+            recent: _,
+        } = self;
+    }
 }
 
 impl Model for Keys {

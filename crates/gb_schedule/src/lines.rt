@@ -58,7 +58,6 @@ pub fn lines_are_the_pieces_of_a_text()
 
 /// Reads a text by large pieces and gives its lines, one at a time. A read of 0 bytes is the end of
 /// the text, and none is made after it. A read that a signal interrupted is made again.
-#[derive(Drop)]
 pub struct LineBuffer {
     bytes: Vec<u8>,
     line_start: usize,
@@ -68,6 +67,22 @@ pub struct LineBuffer {
     end: usize,
     has_ended: bool,
     reads: u64,
+}
+
+// Not derived: what is derived is proved anew in each crate that ends one.
+impl Drop for LineBuffer {
+    fn drop(self) {
+        let LineBuffer {
+            bytes: _,
+            line_start: _,
+            line_end: _,
+            start: _,
+            searched: _,
+            end: _,
+            has_ended: _,
+            reads: _,
+        } = self;
+    }
 }
 
 // The first line feed from `from` up to `to`.

@@ -38,7 +38,6 @@ use std::marker::Model;
 /// One group at one node. Contracts see its state. All its memory is taken when it is made: no call but `new` and
 /// `fetch`, whose answer is built anew, takes memory. The lists in which a call of the broadcast gives what it gives are
 /// lent by the caller, and emptied by each call.
-#[derive(Drop)]
 pub struct Slot {
     alloc: Global,
     spec: Spec,
@@ -57,6 +56,27 @@ pub struct Slot {
     outgoing: Vec<PutOut>,
     store: Store,
     taken: [u16; NODES],
+}
+
+// Not derived: what is derived is proved anew in each crate that ends one.
+impl Drop for Slot {
+    fn drop(self) {
+        let Slot {
+            alloc: _,
+            spec: _,
+            me: _,
+            phase: _,
+            noticed: _,
+            said: _,
+            unfinished: _,
+            acknowledged: _,
+            stack: _,
+            log: _,
+            outgoing: _,
+            store: _,
+            taken: _,
+        } = self;
+    }
 }
 
 impl Model for Slot {

@@ -73,13 +73,23 @@ fn hear<L: Layer>(
 /// The broadcast of a group, of the kind that the group chose: one of four (Cachin, Guerraoui, Rodrigues 2011, chapter 3),
 /// plain or in the order of each origin. What it does is what its layers do, one over the other (`Lazy<Beb>`,
 /// `Fifo<AllAck<Beb>>`, ..), but they have one record for each message, which a call looks up once.
-#[derive(Drop)]
 pub struct Stack {
     base: BroadcastModule,
     here: Here,
     records: Records,
     ghost quiet: { IsQuiet base here.me here.members here.noticed (relay_entries records.list.items) } by { IsQuiet-prop base here.me here.members here.noticed (relay_entries records.list.items) },
     ghost none: { (here.ordered || relays base) ≡ false → vec_len records.list ≡ 0 },
+}
+
+// Not derived: what is derived is proved anew in each crate that ends one.
+impl Drop for Stack {
+    fn drop(self) {
+        let Stack {
+            base: _,
+            here: _,
+            records: _,
+        } = self;
+    }
 }
 
 /// A broadcast that relays takes a call.

@@ -39,7 +39,6 @@ use std::alloc::Global;
 use std::marker::Model;
 
 /// The tenants and groups of a node.
-#[derive(Drop)]
 pub struct Table {
     me: NodeId,
     nodes: u8,
@@ -52,6 +51,21 @@ pub struct Table {
     /// The token of each group's member at this node, made with the group, as far as there was memory for it. Contracts
     /// see nothing of it.
     member_tokens: IndexMap<Addr, Token>,
+}
+
+// Not derived: what is derived is proved anew in each crate that ends one.
+impl Drop for Table {
+    fn drop(self) {
+        let Table {
+            me: _,
+            nodes: _,
+            places: _,
+            admin_key: _,
+            tenants: _,
+            groups: _,
+            member_tokens: _,
+        } = self;
+    }
 }
 
 impl Model for Table {

@@ -13,9 +13,16 @@ pub const INLINE: usize = 16;
 const _: () = prove!(INLINE == 16);
 
 /// What a message says: any bytes, as they were given; few of them take no memory. Contracts see the list of the bytes.
-#[derive(Debug, Drop)]
+#[derive(Debug)]
 pub struct Payload {
     bytes: SmallVec<u8, INLINE>,
+}
+
+// Not derived: what is derived is proved anew in each crate that ends one.
+impl Drop for Payload {
+    fn drop(self) {
+        let Payload { bytes: _ } = self;
+    }
 }
 
 impl Model for Payload {
@@ -86,7 +93,8 @@ impl Payload {
     pub fn into_vec(self) -> Result<Vec<u8>, OutOfMemory>
         ensures { IfOk result (λ v. v.items ≡ self) }
     {
-        Ok(self.bytes.into_vec()?)
+        let Payload { bytes } = self;
+        Ok(bytes.into_vec()?)
     }
 
     /// The same bytes, copied. Up to `INLINE` bytes take no memory, and so never want it.
