@@ -11,11 +11,21 @@ pub struct Closed {
 }
 
 /// A seat's calls that are not its entries in the tapes.
-#[derive(Drop)]
 pub struct Difference {
     pub closed: Closed,
     /// The seat's number.
     pub seat: u32,
     /// Its calls; none where no seat has the number.
     pub list: CallList,
+}
+
+// Not derived: what is derived is proved anew in each crate that ends one.
+impl Drop for Difference {
+    fn drop(self) {
+        let Difference {
+            closed: _,
+            seat: _,
+            list: _,
+        } = self;
+    }
 }

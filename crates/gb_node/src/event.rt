@@ -11,7 +11,6 @@ use gb_types::request::Request;
 use std::alloc::Global;
 
 /// What happens at a node.
-#[derive(Drop)]
 pub enum NodeEvent {
     /// A request is asked.
     Request(Request),
@@ -28,6 +27,21 @@ pub enum NodeEvent {
     Tick,
     /// The node stops, for good.
     Stop,
+}
+
+// Not derived: what is derived is proved anew in each crate that ends one.
+impl Drop for NodeEvent {
+    fn drop(self) {
+        match self {
+            NodeEvent::Request(_) => {}
+            NodeEvent::Packet(_) => {}
+            NodeEvent::Pack(_) => {}
+            NodeEvent::Again(_, _) => {}
+            NodeEvent::Ack(_) => {}
+            NodeEvent::Tick => {}
+            NodeEvent::Stop => {}
+        }
+    }
 }
 
 impl NodeEvent {
