@@ -10,7 +10,7 @@ use gb_types::node::NodeId;
 pub type Token = Mac;
 
 /// What a token is asked for.
-#[derive(Clone, Copy, PartialEq, Eq, Debug)]
+#[derive(Clone, Copy)]
 pub enum Need {
     /// To admit tenants to a node. Its token is made under the node's administrator key, those of the
     /// other needs under the tenant's key.

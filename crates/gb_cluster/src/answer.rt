@@ -18,7 +18,7 @@ pub enum Answer {
 }
 
 /// What a node sent.
-#[derive(Clone, Copy, PartialEq, Eq, Debug)]
+#[derive(Clone, Copy)]
 pub enum Sending {
     /// The number of a packet; packets count from 1.
     Packet(u64),

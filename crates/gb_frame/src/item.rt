@@ -9,7 +9,7 @@ use gb_types::limits::PAYLOAD;
 use gb_types::payload::Payload;
 
 /// A message of a group on its way. Nothing but the payload's length is judged here.
-#[derive(Debug, Drop)]
+#[derive(Drop)]
 pub struct Item {
     pub tenant: u16,
     pub group: u16,

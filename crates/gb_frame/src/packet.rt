@@ -9,7 +9,7 @@ use gb_types::limits::PAYLOAD;
 use gb_types::node::NodeId;
 
 /// A packet without its items.
-#[derive(Clone, Copy, Debug, PartialEq, Eq)]
+#[derive(Clone, Copy, PartialEq, Eq)]
 pub struct Head {
     /// The sender.
     pub from: NodeId,
@@ -25,7 +25,7 @@ pub struct Head {
 }
 
 /// What one node sends another at once: the fields of a `Head`, and the frame's items.
-#[derive(Debug, Drop)]
+#[derive(Drop)]
 pub struct Packet {
     pub from: NodeId,
     pub to: NodeId,

@@ -3,7 +3,7 @@ ghost use Rattle.std.specs.Prelude.{ℕ, ◌<◌};
 ghost use Rattle.gb_layer.specs.Places.{IsAmong};
 
 /// The places from one on and before another.
-#[derive(Clone, Copy, Debug)]
+#[derive(Clone, Copy)]
 pub struct Places {
     pub from: usize,
     pub to: usize,

@@ -11,7 +11,7 @@ use gb_types::limits::{LAST_FRAME, LINK_WINDOW};
 use std::marker::Model;
 
 /// What becomes of an arriving frame.
-#[derive(Clone, Copy, Debug, PartialEq, Eq)]
+#[derive(Clone, Copy, PartialEq, Eq)]
 pub enum Admission {
     /// Its number came for the first time, and is received.
     First,

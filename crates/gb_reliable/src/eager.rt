@@ -8,7 +8,7 @@ use gb_types::message::MsgId;
 use gb_types::node::{NodeId, NodeSet};
 
 /// The rule of eager reliable broadcast: a message is broadcast and delivered as soon as it is here.
-#[derive(Clone, Copy, Debug, Drop)]
+#[derive(Clone, Copy, Drop)]
 pub struct Eagerly;
 
 impl Rule for Eagerly {

@@ -9,7 +9,7 @@ use gb_types::node::{NodeId, NodeSet};
 
 /// The rule of lazy reliable broadcast: own messages are broadcast, and those whose origin was noticed; a message
 /// is delivered as soon as it is here.
-#[derive(Clone, Copy, Debug, Drop)]
+#[derive(Clone, Copy, Drop)]
 pub struct Lazily;
 
 impl Rule for Lazily {

@@ -5,7 +5,7 @@ ghost use Rattle.gb_rules.specs.Tenant.{reserve_of};
 use gb_types::spec::TenantRow;
 
 /// What a tenant may have for each of its groups: its row without tenant and key.
-#[derive(Clone, Copy, PartialEq, Eq, Debug)]
+#[derive(Clone, Copy)]
 pub struct Reserve {
     /// Its groups are numbered from 0 and below this.
     pub groups: u32,

@@ -1,7 +1,7 @@
 //! What a group's member has used of what its spec lets it have.
 
 /// What a group's member has used of what its spec lets it have.
-#[derive(Clone, Copy, PartialEq, Eq, Debug)]
+#[derive(Clone, Copy)]
 pub struct Usage {
     /// How many messages it said.
     pub said: u32,

@@ -1,7 +1,7 @@
 //! What a server is told to do.
 
 /// What the words of a command line tell a server to do.
-#[derive(Clone, Copy, Debug, PartialEq, Eq)]
+#[derive(Clone, Copy, PartialEq, Eq)]
 pub struct ServePlan {
     /// How many nodes, 1 to 16.
     pub nodes: u8,

@@ -8,7 +8,7 @@ use gb_types::memory::OutOfMemory;
 use thiserror::Error;
 
 /// Why a line is bad. Where it is too long, nothing else is asked; then whether there are too many.
-#[derive(Clone, Copy, Debug, PartialEq, Eq)]
+#[derive(Clone, Copy, PartialEq, Eq)]
 pub enum BadLine {
     /// The line has more bytes than a line may have.
     TooLong,
@@ -21,7 +21,7 @@ pub enum BadLine {
 }
 
 /// How a schedule ended.
-#[derive(Clone, Copy, Debug, PartialEq, Eq)]
+#[derive(Clone, Copy, PartialEq, Eq)]
 pub enum SimEnd {
     /// All lines were read.
     All,

@@ -5,7 +5,7 @@ use gb_types::refusal::Refusal;
 use gb_types::reply::Reply;
 
 /// A reply, in short: of a log how many entries.
-#[derive(Clone, Copy, PartialEq, Eq, Debug)]
+#[derive(Clone, Copy, PartialEq, Eq)]
 pub enum Got {
     Done,
     Said(u16),

@@ -2,7 +2,7 @@
 use gb_alone::event::{GroupEvent, GroupStep};
 
 /// What happens at a node, in short: of commands only which one it is.
-#[derive(Clone, Copy, PartialEq, Eq, Debug)]
+#[derive(Clone, Copy, PartialEq, Eq)]
 pub enum Told {
     Tenant,
     Make,

@@ -11,7 +11,7 @@ use crate::nodes::Nodes;
 use std::marker::Model;
 
 /// A node, by its number.
-#[derive(Clone, Copy, PartialEq, Eq, Debug)]
+#[derive(Clone, Copy, PartialEq, Eq)]
 pub struct NodeId {
     pub number: u8,
     ghost below: { number < NODES },

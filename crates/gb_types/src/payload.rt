@@ -13,7 +13,6 @@ pub const INLINE: usize = 16;
 const _: () = prove!(INLINE == 16);
 
 /// What a message says: any bytes, as they were given; few of them take no memory. Contracts see the list of the bytes.
-#[derive(Debug)]
 pub struct Payload {
     bytes: SmallVec<u8, INLINE>,
 }

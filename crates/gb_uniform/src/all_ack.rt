@@ -9,7 +9,7 @@ use gb_types::node::{NodeId, NodeSet};
 
 /// The rule of all-ack uniform reliable broadcast: a message is broadcast as soon as it is here, and delivered
 /// once each member was noticed or holds it.
-#[derive(Clone, Copy, Debug, Drop)]
+#[derive(Clone, Copy, Drop)]
 pub struct AllAcked;
 
 impl Rule for AllAcked {

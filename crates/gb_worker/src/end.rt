@@ -1,7 +1,7 @@
 //! How a worker ends.
 
 /// Why a worker ended.
-#[derive(Clone, Copy, Debug, PartialEq, Eq)]
+#[derive(Clone, Copy, PartialEq, Eq)]
 pub enum Why {
     /// It made as many turns as were asked for.
     Turns,
@@ -14,7 +14,7 @@ pub enum Why {
 }
 
 /// How a worker ended.
-#[derive(Clone, Copy, Debug, PartialEq, Eq)]
+#[derive(Clone, Copy, PartialEq, Eq)]
 pub struct WorkerEnd {
     /// The whole turns that it made.
     pub turns: u64,

@@ -55,9 +55,9 @@ pub fn sessions<
     let Some((seat, others)) = seats.split_last_mut() else {
         return Ok(Vec::new(alloc));
     };
-    let (Some(stream), Some(gate)) = (streams.pop(), gates.pop()) else {
-        return Ok(Vec::new(alloc));
-    };
+    // There are as many streams and gates as seats.
+    let stream = streams.pop().unwrap();
+    let gate = gates.pop().unwrap();
     let (end, ends) = thread::join(
         rt,
         || hold(rt, alloc, host, seat, stream, gate),
