@@ -5,13 +5,6 @@ use std::net::{Ipv4Addr, Net, Shutdown, SocketAddr, SocketAddrV4, TcpStream};
 use std::thread;
 use std::time::{Clock, Duration};
 
-/// A request of a group of a tenant that is not there, whose token no node gave out, with its length.
-pub static OPEN: &[u8] =
-    b"\x00\x00\x00\x49open 0000000000000000000000000000000000000000000000000000000000000000 7 1";
-
-/// How a running node answers it.
-pub static DENIED: &[u8] = b"\x00\x00\x00\x10refused 1 Denied";
-
 /// The reply to what is no request.
 pub static MALFORMED: &[u8] = b"\x00\x00\x00\x14refused 14 Malformed";
 

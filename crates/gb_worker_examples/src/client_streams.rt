@@ -1,5 +1,5 @@
 // Readers, writers and gates of clients.
-use crate::socket_clients::{DENIED, OPEN};
+use crate::messages::{DENIED, OPEN};
 use gb_host::gate::Gate;
 use std::io::{ErrorKind, Read, Write};
 use std::sync::atomic::{AtomicU64, Ordering};

@@ -1,4 +1,4 @@
-use Rattle.gb_server_examples.proofs.scenes.whole.Given as goal
+use Rattle.gb_worker_examples.proofs.scenes.whole.Given as goal
 
 abbrev pub ghosts-run-L-Tapes : goal.ghosts-run-L-Tapes
 ghosts-run-L-Tapes g a = record { plan = a.plan }
