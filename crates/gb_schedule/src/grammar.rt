@@ -210,7 +210,7 @@ fn read_forge(alloc: Global, nodes: u8, words: &[&[u8]]) -> Option<Command>
         return None;
     };
     let (node, address) = read_group(nodes, node, tenant, group)?;
-    let request = Request::Say(NO_TOKEN, address, Payload::new(alloc));
+    let request = Request::Say(NO_TOKEN, address, Payload::new());
     Some(Command::Request(node, request))
 }
 

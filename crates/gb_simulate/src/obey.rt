@@ -179,7 +179,7 @@ fn obey(
             obey_at(cluster, node, NodeEvent::Request(request), text)
         }
         Command::Noise(node, bytes) => {
-            let bytes = PacketText::from(bytes.into_vec()?);
+            let bytes = PacketText::from(bytes.into_vec(alloc)?);
             obey_at(cluster, node, NodeEvent::Packet(bytes), text)
         }
         Command::Step(step) => obey_step(keys, cluster, step, text),

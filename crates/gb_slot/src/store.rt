@@ -23,12 +23,6 @@ use gb_types::payload::Payload;
 use std::alloc::Global;
 use std::marker::Model;
 
-/// How many bytes are copied one by one, to where they stay: so a fetch of such entries was measured to take less time
-/// than with entries made first and then moved.
-const FEW: usize = 8;
-
-const _: () = prove!(FEW <= gb_types::payload::INLINE);
-
 /// A message, where its payload begins among the bytes, and the nodes from which it was taken in. The payload ends where
 /// the next one begins.
 #[derive(Drop)]
@@ -200,22 +194,6 @@ fn count_bytes(seen: &mut [u32; NODES], m: MsgId, payload: &[u8])
     seen[m.origin.index()] += payload.len() as u32;
 }
 
-/// Puts a message with few bytes behind entries with room for one more.
-fn put_few(alloc: Global, m: MsgId, payload: &[u8], entries: &mut Vec<Entry>)
-    requires few { length payload.now ≤ INLINE }
-    requires room { vec_len entries.old < vec_capacity entries.old }
-    ensures items { entries.new.items ≡ entries.old.items ++ record { origin = m.origin; seq = m.seq; payload = payload.now } ∷ [] }
-    ensures room { vec_capacity entries.new ≡ vec_capacity entries.old }
-{
-    let last = entries.len();
-    entries.push_reserved(Entry {
-        origin: m.origin,
-        seq: m.seq,
-        payload: Payload::new(alloc),
-    });
-    entries[last].payload.push_few(payload);
-}
-
 impl Store {
     /// Nothing, with memory for so many messages, with so many bytes of payload in all. The members' messages numbered
     /// up to this width are found at once, others by a search.
@@ -351,12 +329,7 @@ impl Store {
         ensures err { OnErr result (entries.new ≡ entries.old) }
         ensures room { vec_capacity entries.new ≡ vec_capacity entries.old }
     {
-        let payload = self.payload_at(m, place);
-        if payload.len() <= FEW {
-            put_few(alloc, m, payload, entries);
-            return Ok(());
-        }
-        let payload = Payload::from_slice(alloc, payload)?;
+        let payload = Payload::from_slice(alloc, self.payload_at(m, place))?;
         entries.push_reserved(Entry {
             origin: m.origin,
             seq: m.seq,

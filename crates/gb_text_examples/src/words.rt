@@ -334,7 +334,7 @@ fn compare_entry(rt: &impl Abort, alloc: Global, said: &Entry) -> Result<(), Out
 
 /// Compares a copy of an entry's bytes.
 fn compare_bytes(rt: &impl Abort, alloc: Global, said: &Entry) -> Result<(), OutOfMemory> {
-    let bytes = said.payload.duplicate(alloc)?.into_vec()?;
+    let bytes = said.payload.duplicate(alloc)?.into_vec(alloc)?;
     assert!(rt; bytes.as_slice() == b"hey".as_slice());
     Ok(())
 }

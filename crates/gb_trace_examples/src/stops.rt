@@ -70,7 +70,11 @@ fn step_of(keys: &mut Keys, step: Step) -> Event {
 }
 
 /// The event that a command asks for, if it starts no cluster.
-fn event_of(keys: &mut Keys, command: Command) -> Result<Option<Event>, OutOfMemory> {
+fn event_of(
+    alloc: Global,
+    keys: &mut Keys,
+    command: Command,
+) -> Result<Option<Event>, OutOfMemory> {
     Ok(match command {
         Command::Cluster {
             nodes: _,
@@ -78,7 +82,7 @@ fn event_of(keys: &mut Keys, command: Command) -> Result<Option<Event>, OutOfMem
         } => None,
         Command::Request(node, request) => Some(Event::At(node, NodeEvent::Request(request))),
         Command::Noise(node, bytes) => {
-            let bytes = PacketText::from(bytes.into_vec()?);
+            let bytes = PacketText::from(bytes.into_vec(alloc)?);
             Some(Event::At(node, NodeEvent::Packet(bytes)))
         }
         Command::Step(step) => Some(step_of(keys, step)),
@@ -103,7 +107,7 @@ fn read_event(
     requires { (1 ≤ nodes) × (nodes ≤ MOST) }
 {
     match read_command(alloc, keys, Some(nodes), line)? {
-        Some(command) => event_of(keys, command),
+        Some(command) => event_of(alloc, keys, command),
         None => Ok(None),
     }
 }

@@ -1,5 +1,5 @@
 use Rattle.gb_types.specs.declared.limits.TheConstants.{NODES}
-use Rattle.std.proofs.Common.{◌≡◌, true, ◌&&◌, arith, ◌<◌}
+use Rattle.std.proofs.Common.{◌≡◌, true, arith, ◌<◌}
 use Rattle.std.proofs.lemmas.Bool.{eqb-true}
 use Rattle.std.proofs.lemmas.Bool.Decides.{nat_tests}
 use Rattle.gb_types.specs.declared.message.MsgId.{MsgId}

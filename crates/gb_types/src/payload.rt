@@ -1,9 +1,7 @@
 //! The bytes that a message carries.
-ghost use Rattle.std.specs.Prelude.{◌≡◌, ◌==◌, ◌≤◌, ◌+◌, ℕ, List, [], length, ◌++◌, IsOk, IfOk};
-ghost use Rattle.smallvec.specs.SmallVec.{HasRoomFor};
+ghost use Rattle.std.specs.Prelude.{◌≡◌, ◌==◌, ◌≤◌, [], length, IsOk, IfOk};
 
 use crate::memory::OutOfMemory;
-use smallvec::SmallVec;
 use std::alloc::Global;
 use std::marker::Model;
 
@@ -12,9 +10,16 @@ pub const INLINE: usize = 16;
 
 const _: () = prove!(INLINE == 16);
 
+/// Few bytes, which are the first so many of an array, or any bytes in memory of their own.
+#[derive(Drop)]
+enum Bytes {
+    Few([u8; INLINE], u8),
+    Many(Vec<u8>),
+}
+
 /// What a message says: any bytes, as they were given; few of them take no memory. Contracts see the list of the bytes.
 pub struct Payload {
-    bytes: SmallVec<u8, INLINE>,
+    bytes: Bytes,
 }
 
 // Not derived: what is derived is proved anew in each crate that ends one.
@@ -25,28 +30,33 @@ impl Drop for Payload {
 }
 
 impl Model for Payload {
+    ghost use Rattle.std.specs.Prelude.{ℕ, List};
+    ghost use Rattle.gb_types.specs.Payload.{bytes_of, AreInPlace};
+
     ghost Value = { List ℕ };
 
-    ghost view = { λ p. p.bytes.items };
-}
+    ghost view = { λ p. bytes_of p.bytes };
 
-/// Adds bytes at the end, one by one, where there is room for them.
-fn push_each(all: &mut SmallVec<u8, INLINE>, bytes: &[u8])
-    requires { HasRoomFor all.old (length bytes.now) }
-    ensures { all.new.items ≡ all.old.items ++ bytes.now }
-{
-    for byte in bytes {
-        all.push_reserved(*byte);
-    }
+    ghost invariant = { λ p. AreInPlace p.bytes };
 }
 
 impl Payload {
     /// No bytes.
-    pub fn new(alloc: Global) -> Payload
+    pub fn new() -> Payload
         ensures { result ≡ [] }
     {
+        Payload::few(&[])
+    }
+
+    /// These bytes, copied, which all stand in the payload itself.
+    pub fn few(bytes: &[u8]) -> Payload
+        requires { length bytes.now ≤ INLINE }
+        ensures { result ≡ bytes.now }
+    {
+        let mut few = [0; INLINE];
+        few[..bytes.len()].copy_from_slice(bytes);
         Payload {
-            bytes: SmallVec::new(alloc),
+            bytes: Bytes::Few(few, bytes.len() as u8),
         }
     }
 
@@ -55,45 +65,44 @@ impl Payload {
         ensures ok { IfOk result (λ p. p ≡ bytes.now) }
         ensures succeeds { length bytes.now ≤ INLINE → IsOk result }
     {
-        let bytes = SmallVec::from_slice(alloc, bytes)?;
-        Ok(Payload { bytes })
-    }
-
-    /// Adds bytes at the end, one by one, where all then stand in the payload itself.
-    pub fn push_few(&mut self, bytes: &[u8])
-        requires { length self.old + length bytes.now ≤ INLINE }
-        ensures { self.new ≡ self.old ++ bytes.now }
-    {
-        prove!(INLINE <= self.bytes.capacity());
-        push_each(&mut self.bytes, bytes);
+        if bytes.len() <= INLINE {
+            return Ok(Payload::few(bytes));
+        }
+        Ok(Payload::from(bytes.to_vec(alloc)?))
     }
 
     /// How many bytes.
     pub fn len(&self) -> usize
         ensures { result ≡ length self.now }
     {
-        self.bytes.len()
+        self.as_slice().len()
     }
 
     /// Whether there are none.
     pub fn is_empty(&self) -> bool
         ensures { result ≡ (length self.now == 0) }
     {
-        self.bytes.is_empty()
+        self.as_slice().is_empty()
     }
 
     pub fn as_slice(&self) -> &[u8]
         ensures { result.now ≡ self.now }
     {
-        self.bytes.as_slice()
+        match &self.bytes {
+            Bytes::Few(few, len) => &few[..usize::from(*len)],
+            Bytes::Many(bytes) => bytes.as_slice(),
+        }
     }
 
-    /// The bytes, with no copy where they are more than `INLINE`.
-    pub fn into_vec(self) -> Result<Vec<u8>, OutOfMemory>
+    /// The bytes, with no copy where they stand in memory of their own.
+    pub fn into_vec(self, alloc: Global) -> Result<Vec<u8>, OutOfMemory>
         ensures { IfOk result (λ v. v.items ≡ self) }
     {
         let Payload { bytes } = self;
-        Ok(bytes.into_vec()?)
+        match bytes {
+            Bytes::Few(few, len) => Ok(few[..usize::from(len)].to_vec(alloc)?),
+            Bytes::Many(bytes) => Ok(bytes),
+        }
     }
 
     /// The same bytes, copied. Up to `INLINE` bytes take no memory, and so never want it.
@@ -110,7 +119,7 @@ impl From<Vec<u8>> for Payload {
 
     fn from(bytes: Vec<u8>) -> Payload {
         Payload {
-            bytes: SmallVec::from_vec(bytes),
+            bytes: Bytes::Many(bytes),
         }
     }
 }

@@ -41,7 +41,7 @@ pub fn read_payload(alloc: Global, word: &[u8]) -> Result<Option<Payload>, OutOf
     ensures { IfOk result (λ found. found ≡ payload_of word.now) }
 {
     match word {
-        b"-" => Ok(Some(Payload::new(alloc))),
+        b"-" => Ok(Some(Payload::new())),
         [] => Ok(None),
         _ if word.len() <= 2 * INLINE => read_few(alloc, word),
         _ => match read_lower(alloc, word)? {
