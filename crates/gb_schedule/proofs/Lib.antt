@@ -1,7 +1,3 @@
-pub mod LineLemmas
-pub mod LineSplitLemmas
-pub mod LeftLemmas
-pub mod CutLemmas
 pub mod RowLemmas
 pub mod SayLemmas
 pub mod StepLemmas

@@ -38,8 +38,8 @@ fn flag_arg<'a>(alloc: Global, name: &'static str) -> Arg<'a>
         .value_parser(ValueParser::Bool)
 }
 
-/// The command line.
-pub fn command<'a>(alloc: Global) -> Result<Command<'a>, AllocError>
+// The command line.
+fn command<'a>(alloc: Global) -> Result<Command<'a>, AllocError>
     ensures { IfOk result (λ made. app_of made ≡ serve_app) }
 {
     // Each option is added as soon as it is made, so that none waits where adding another fails.

@@ -6,7 +6,7 @@ use Rattle.std.specs.Option.{IfSome}
 use Rattle.std.proofs.Math.Seq.{take-append-add}
 use Rattle.std.proofs.lemmas.Bool.{cases_lt}
 use Rattle.std.proofs.lemmas.List.{append_assoc, append-nil, reverse-append, take-append-le}
-use Rattle.gb_schedule.specs.Lines.{lines_of}
+use Rattle.gb_lines.specs.Lines.{lines_of}
 use Rattle.gb_cluster.specs.ClusterValue.{ClusterValue}
 use Rattle.gb_simulate.specs.AnswerText.{bad_line}
 use Rattle.gb_simulate.specs.Schedule.{GoesOn}

@@ -14,7 +14,7 @@ use Rattle.gb_types.specs.declared.plan.Plan.{Plan}
 use Rattle.gb_cluster.proofs.NodesLemmas.{stays}
 use Rattle.gb_schedule.proofs.PlaceLemmas.{line_in_place}
 use Rattle.gb_schedule.specs.Grammar.{IsCommandLine, IsSilent}
-use Rattle.gb_schedule.specs.Lines.{ended}
+use Rattle.gb_lines.specs.Lines.{ended}
 use Rattle.gb_schedule.specs.declared.command.Command.{Command}
 use Rattle.gb_schedule.specs.declared.command.Command.TheVariants.{Cluster}
 use Rattle.gb_simulate.specs.OfCluster.{plan_of, started, size, Takes}

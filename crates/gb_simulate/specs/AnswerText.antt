@@ -19,7 +19,7 @@ use Rattle.gb_cluster.specs.declared.answer.Answer.{Answer}
 use Rattle.gb_cluster.specs.declared.answer.Answer.TheVariants.{Reply as AnswerReply, Taken as AnswerTaken, Sent as AnswerSent, Ticked as AnswerTicked, Halted as AnswerHalted, NoPacket, NotNoise}
 use Rattle.gb_cluster.specs.declared.answer.Sending.{Sending}
 use Rattle.gb_cluster.specs.declared.answer.Sending.TheVariants.{Packet as SentPacket, Nothing, Refused as SentRefused}
-use Rattle.gb_schedule.specs.Lines.{ended}
+use Rattle.gb_lines.specs.Lines.{ended}
 
 -- what a node made of a frame, in a word
 abbrev pub frame_word : Frame → List ℕ

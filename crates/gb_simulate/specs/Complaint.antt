@@ -1,6 +1,6 @@
 -- What is told of how a schedule ended.
 use Rattle.std.specs.Prelude.{List, [], ◌++◌, ℕ, Result, Ok, Err, codes, decimal}
-use Rattle.gb_schedule.specs.Lines.{ended}
+use Rattle.gb_lines.specs.Lines.{ended}
 use Rattle.gb_simulate.specs.declared.outcome.BadLine.{BadLine as Reason}
 use Rattle.gb_simulate.specs.declared.outcome.BadLine.TheVariants.{TooLong, TooMany, NoCluster, NoCommand}
 use Rattle.gb_simulate.specs.declared.outcome.SimEnd.{SimEnd}

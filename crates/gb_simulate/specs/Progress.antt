@@ -3,9 +3,9 @@
 use Rattle.std.specs.Prelude.{ℕ, ◌≡◌, ◌≢◌, ◌≤◌, List, [], ◌∷◌, ◌++◌, length, Option, Some}
 use Rattle.std.specs.Option.{IfSome}
 use Rattle.std.specs.Io.KnownBytes.{Appends, Keeps, prepend_known}
-use Rattle.gb_schedule.specs.Buffered.{WhereKnown}
-use Rattle.gb_schedule.specs.Lines.{lines_of, GivesLine, IsLine}
-use Rattle.gb_schedule.specs.declared.lines.TheConstants.{LINE}
+use Rattle.gb_lines.specs.Buffered.{WhereKnown}
+use Rattle.gb_lines.specs.Lines.{lines_of, GivesLine, IsLine}
+use Rattle.gb_lines.specs.declared.lines.TheConstants.{LINE}
 use Rattle.gb_cluster.specs.ClusterValue.{ClusterValue}
 use Rattle.gb_simulate.specs.Schedule.{GoesOn, IsBadLine}
 use Rattle.gb_simulate.specs.AnswerText.{bad_line}

@@ -10,7 +10,7 @@ use Rattle.gb_cluster.specs.declared.event.Event.TheVariants.{At, Arrive}
 use Rattle.gb_types.specs.declared.plan.Plan.{Plan}
 use Rattle.gb_cluster.specs.declared.posted.Posted.{Posted}
 use Rattle.gb_schedule.specs.Grammar.{IsCommandLine, IsSilent}
-use Rattle.gb_schedule.specs.Lines.{ended}
+use Rattle.gb_lines.specs.Lines.{ended}
 use Rattle.gb_schedule.specs.declared.command.Command.{Command}
 use Rattle.gb_schedule.specs.declared.command.Command.TheVariants.{Cluster}
 use Rattle.gb_simulate.specs.AnswerText.{answer_spelling}

@@ -10,11 +10,11 @@ use Rattle.gb_cluster.specs.declared.event.Event.{Event}
 use Rattle.gb_cluster.specs.declared.event.Event.TheVariants.{At, Arrive as ArriveEvent}
 use Rattle.gb_schedule.specs.Grammar.{IsCommandLine, IsSilent}
 use Rattle.gb_schedule.specs.Keys.{member_token}
-use Rattle.gb_schedule.specs.Lines.{ended}
+use Rattle.gb_lines.specs.Lines.{ended}
 use Rattle.gb_schedule.specs.declared.command.Command.{Command}
 use Rattle.gb_schedule.specs.declared.command.Command.TheVariants.{Cluster, Request, Noise, Step}
 use Rattle.gb_schedule.specs.declared.command.Step.TheVariants.{Pack, Again, Ack, Arrive, Tick, Stop, Fetch}
-use Rattle.gb_schedule.specs.declared.lines.TheConstants.{LINE}
+use Rattle.gb_lines.specs.declared.lines.TheConstants.{LINE}
 use Rattle.gb_simulate.specs.AnswerText.{answer_spelling}
 use Rattle.gb_simulate.specs.OfCluster.{started, size, Takes}
 use Rattle.gb_simulate.specs.declared.outcome.BadLine.{BadLine}

@@ -1,7 +1,7 @@
 -- The text that a schedule makes: the answers of its lines, one after another, and how it ends.
 use Rattle.std.specs.Prelude.{ℕ, ◌+◌, ◌≡◌, ◌≤◌, ◌<◌, ◌⊎◌, List, [], ◌∷◌, ◌++◌, length, reverse, take, Option, Some, None}
-use Rattle.gb_schedule.specs.Lines.{lines_of, IsLine}
-use Rattle.gb_schedule.specs.declared.lines.TheConstants.{LINE}
+use Rattle.gb_lines.specs.Lines.{lines_of, IsLine}
+use Rattle.gb_lines.specs.declared.lines.TheConstants.{LINE}
 use Rattle.gb_cluster.specs.ClusterValue.{ClusterValue}
 use Rattle.gb_simulate.specs.RunTexts.{TellsRun}
 use Rattle.gb_simulate.specs.Schedule.{GoesOn, IsBadLine}

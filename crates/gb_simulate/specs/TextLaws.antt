@@ -12,7 +12,7 @@ use Rattle.gb_cluster.specs.Run.{Did, past_at}
 use Rattle.gb_types.specs.declared.plan.Plan.{Plan}
 use Rattle.gb_cluster.specs.declared.posted.Posted.{Posted}
 use Rattle.gb_schedule.specs.Grammar.{IsSilent}
-use Rattle.gb_schedule.specs.Lines.{lines_of}
+use Rattle.gb_lines.specs.Lines.{lines_of}
 use Rattle.gb_simulate.specs.OfCluster.{plan_of}
 use Rattle.gb_simulate.specs.RunTexts.{IsRunOf}
 use Rattle.gb_simulate.specs.Text.{Reaches, IsText}

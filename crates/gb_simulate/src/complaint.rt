@@ -1,7 +1,7 @@
 //! What is told of how a schedule ended.
 ghost use Rattle.std.specs.Prelude.{◌≡◌, ◌++◌, codes, decimal, ◌≢◌, IsOk, OnOk};
 ghost use Rattle.std.specs.Io.KnownBytes.{Appends, Keeps};
-ghost use Rattle.gb_schedule.specs.Lines.{ended};
+ghost use Rattle.gb_lines.specs.Lines.{ended};
 ghost use Rattle.gb_simulate.specs.Complaint.{complaint, fault_words, reason_words};
 ghost use Rattle.gb_simulate.specs.Writing.{AppendsFront};
 ghost use Rattle.gb_simulate.specs.declared.outcome.SimFault.{SimFault as Fault};

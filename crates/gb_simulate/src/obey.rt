@@ -3,8 +3,8 @@ ghost use Rattle.std.specs.Prelude.{◌≡◌, ◌≢◌, ◌≤◌, ◌<◌, []
 ghost use Rattle.std.specs.Io.{StartsWith};
 ghost use Rattle.gb_schedule.specs.Grammar.{IsInPlace};
 ghost use Rattle.gb_schedule.specs.declared.command.Command.TheVariants as Commands;
-ghost use Rattle.gb_schedule.specs.Lines.{ended};
-ghost use Rattle.gb_schedule.specs.declared.lines.TheConstants.{LINE};
+ghost use Rattle.gb_lines.specs.Lines.{ended};
+ghost use Rattle.gb_lines.specs.declared.lines.TheConstants.{LINE};
 ghost use Rattle.gb_cluster.specs.ClusterStep.{IsPlaced};
 ghost use Rattle.gb_cluster.specs.ClusterValue.{IsClusterPlan};
 ghost use Rattle.gb_cluster.specs.declared.event.Event.TheVariants as Events;

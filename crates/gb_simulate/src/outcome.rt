@@ -3,7 +3,7 @@ ghost use Rattle.std.specs.Prelude.{◌≡◌};
 ghost use Rattle.gb_simulate.specs.Status.{status};
 ghost use Rattle.gb_simulate.specs.declared.outcome.SimFault.TheVariants.{Read as ReadFault, OutOfMemory as NoMemory};
 
-use gb_schedule::lines::LinesFault;
+use gb_lines::lines::LinesFault;
 use gb_types::memory::OutOfMemory;
 use thiserror::Error;
 

@@ -1,7 +1,7 @@
 //! Runs a schedule, line by line.
 ghost use Rattle.std.specs.Prelude.{◌≡◌, ◌≢◌, ◌++◌, [], Ok, Some, None, IfOk, IfErr, OnOk, IfSome};
 ghost use Rattle.std.specs.Io.{StartsWith};
-ghost use Rattle.gb_schedule.specs.Buffered.{left, WantsRead};
+ghost use Rattle.gb_lines.specs.Buffered.{left, WantsRead};
 ghost use Rattle.gb_simulate.specs.AnswerText.{bad_line};
 ghost use Rattle.gb_simulate.specs.Schedule.{HasNodes};
 ghost use Rattle.gb_simulate.specs.Text.{IsWritten, IsWrittenUpTo};
@@ -12,8 +12,8 @@ use crate::obey::answer_line;
 use crate::outcome::{BadLine, SimEnd, SimFault};
 use crate::writing::write_text;
 use gb_cluster::cluster::Cluster;
+use gb_lines::lines::{LineBuffer, NextLine};
 use gb_schedule::keys::Keys;
-use gb_schedule::lines::{LineBuffer, NextLine};
 use gb_types::memory::OutOfMemory;
 use std::alloc::Global;
 use std::io::{Read, Write};

@@ -1,7 +1,7 @@
 //! Writes answers, and says how far a failed write came.
 ghost use Rattle.std.specs.Prelude.{◌≡◌, ◌≢◌, ◌≤◌, ◌⊎◌, length, take, IfOk, OnOk, IfErr, codes};
 ghost use Rattle.std.specs.Io.KnownBytes.{Appends, Keeps};
-ghost use Rattle.gb_schedule.specs.Lines.{ended};
+ghost use Rattle.gb_lines.specs.Lines.{ended};
 ghost use Rattle.gb_simulate.specs.Writing.{AppendsFront};
 
 use crate::outcome::{SimEnd, SimFault};

@@ -19,7 +19,7 @@ use gb_types::limits::NODES;
 use gb_types::memory::OutOfMemory;
 use gb_types::message::MsgId;
 use gb_types::node::{NodeId, NodeSet};
-use gb_types::payload::Payload;
+use gb_types::payload::{INLINE, Payload};
 use std::alloc::Global;
 use std::marker::Model;
 
@@ -194,6 +194,23 @@ fn count_bytes(seen: &mut [u32; NODES], m: MsgId, payload: &[u8])
     seen[m.origin.index()] += payload.len() as u32;
 }
 
+/// Puts a message with few bytes behind entries with room for one more. The bytes are copied to where they stay: made first and
+/// then moved, such an entry was measured to take longer.
+fn put_few(m: MsgId, payload: &[u8], entries: &mut Vec<Entry>)
+    requires few { length payload.now ≤ INLINE }
+    requires room { vec_len entries.old < vec_capacity entries.old }
+    ensures items { entries.new.items ≡ entries.old.items ++ record { origin = m.origin; seq = m.seq; payload = payload.now } ∷ [] }
+    ensures room { vec_capacity entries.new ≡ vec_capacity entries.old }
+{
+    let last = entries.len();
+    entries.push_reserved(Entry {
+        origin: m.origin,
+        seq: m.seq,
+        payload: Payload::new(),
+    });
+    entries[last].payload.set_few(payload);
+}
+
 impl Store {
     /// Nothing, with memory for so many messages, with so many bytes of payload in all. The members' messages numbered
     /// up to this width are found at once, others by a search.
@@ -329,7 +346,12 @@ impl Store {
         ensures err { OnErr result (entries.new ≡ entries.old) }
         ensures room { vec_capacity entries.new ≡ vec_capacity entries.old }
     {
-        let payload = Payload::from_slice(alloc, self.payload_at(m, place))?;
+        let payload = self.payload_at(m, place);
+        if payload.len() <= INLINE {
+            put_few(m, payload, entries);
+            return Ok(());
+        }
+        let payload = Payload::from_slice(alloc, payload)?;
         entries.push_reserved(Entry {
             origin: m.origin,
             seq: m.seq,

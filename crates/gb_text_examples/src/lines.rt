@@ -1,5 +1,5 @@
 //! Readers over memory that give a text in pieces, and the lines that come of it.
-use gb_schedule::lines::{LineBuffer, LinesFault, NextLine};
+use gb_lines::lines::{LineBuffer, LinesFault, NextLine};
 use gb_types::memory::OutOfMemory;
 use std::alloc::{AllocError, Global};
 use std::io::{ErrorKind, Read};

@@ -6,3 +6,4 @@ pub mod QuietLemmas
 pub mod CountLemmas
 pub mod NoticesLemmas
 pub mod AskedLemmas
+pub mod RunLemmas

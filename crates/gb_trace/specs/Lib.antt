@@ -2,3 +2,4 @@ pub mod Trace
 pub mod Deeds
 pub mod Counts
 pub mod Observed
+pub mod Run

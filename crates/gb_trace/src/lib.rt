@@ -1,5 +1,5 @@
-//! What a run of a cluster leaves, and the plain programs that read it: what a run shows of one group, computed slowly from its
-//! meaning. There is no node here: all is read from events, answers and packets, as `run` of gb_run gives them. Read
+//! Whole runs of a cluster, what a run leaves, and the plain programs that read it: what a run shows of one group, computed slowly
+//! from its meaning. The programs look into no node: all is read from events, answers and packets, as `run::run` gives them. Read
 //! `trace::Trace` first, then specs/Trace.antt. The programs stand here: `observe`, `project` and `refused_for` of a run, and
 //! `alone`, which takes what `project` gives; `laws::fed_groups_are_seen_alone` says how they meet.
 #![tactic(auto)]
@@ -15,6 +15,7 @@ mod past;
 pub mod projection;
 mod reading;
 pub mod refused;
+pub mod run;
 mod silence;
 mod steps;
 pub mod trace;

@@ -10,10 +10,54 @@ pub const INLINE: usize = 16;
 
 const _: () = prove!(INLINE == 16);
 
-/// Few bytes, which are the first so many of an array, or any bytes in memory of their own.
+/// At most `INLINE` bytes, in place. Contracts see the list of the bytes.
+#[derive(Drop)]
+struct Few {
+    array: [u8; INLINE],
+    len: usize,
+}
+
+impl Model for Few {
+    ghost use Rattle.std.specs.Prelude.{ℕ, List, take, ◌≤◌};
+    ghost use Rattle.gb_types.specs.declared.payload.TheConstants.{INLINE};
+
+    ghost Value = { List ℕ };
+
+    ghost view = { λ few. take few.len few.array };
+
+    ghost invariant = { λ few. few.len ≤ INLINE };
+}
+
+impl Few {
+    fn new() -> Few
+        ensures { result ≡ [] }
+    {
+        Few {
+            array: [0; INLINE],
+            len: 0,
+        }
+    }
+
+    /// Takes these bytes in place of its own.
+    fn set(&mut self, bytes: &[u8])
+        requires { length bytes.now ≤ INLINE }
+        ensures { self.new ≡ bytes.now }
+    {
+        self.array[..bytes.len()].copy_from_slice(bytes);
+        self.len = bytes.len();
+    }
+
+    fn as_slice(&self) -> &[u8]
+        ensures { result.now ≡ self.now }
+    {
+        &self.array[..self.len]
+    }
+}
+
+/// Few bytes in place, or any bytes in memory of their own.
 #[derive(Drop)]
 enum Bytes {
-    Few([u8; INLINE], u8),
+    Few(Few),
     Many(Vec<u8>),
 }
 
@@ -31,13 +75,11 @@ impl Drop for Payload {
 
 impl Model for Payload {
     ghost use Rattle.std.specs.Prelude.{ℕ, List};
-    ghost use Rattle.gb_types.specs.Payload.{bytes_of, AreInPlace};
+    ghost use Rattle.gb_types.specs.Payload.{bytes_of};
 
     ghost Value = { List ℕ };
 
     ghost view = { λ p. bytes_of p.bytes };
-
-    ghost invariant = { λ p. AreInPlace p.bytes };
 }
 
 impl Payload {
@@ -45,18 +87,21 @@ impl Payload {
     pub fn new() -> Payload
         ensures { result ≡ [] }
     {
-        Payload::few(&[])
+        Payload {
+            bytes: Bytes::Few(Few::new()),
+        }
     }
 
-    /// These bytes, copied, which all stand in the payload itself.
-    pub fn few(bytes: &[u8]) -> Payload
+    /// Takes these bytes in place of its own, copied into the payload itself.
+    pub fn set_few(&mut self, bytes: &[u8])
         requires { length bytes.now ≤ INLINE }
-        ensures { result ≡ bytes.now }
+        ensures { self.new ≡ bytes.now }
     {
-        let mut few = [0; INLINE];
-        few[..bytes.len()].copy_from_slice(bytes);
-        Payload {
-            bytes: Bytes::Few(few, bytes.len() as u8),
+        if let Bytes::Many(_) = self.bytes {
+            self.bytes = Bytes::Few(Few::new());
+        }
+        if let Bytes::Few(few) = &mut self.bytes {
+            few.set(bytes);
         }
     }
 
@@ -66,7 +111,9 @@ impl Payload {
         ensures succeeds { length bytes.now ≤ INLINE → IsOk result }
     {
         if bytes.len() <= INLINE {
-            return Ok(Payload::few(bytes));
+            let mut payload = Payload::new();
+            payload.set_few(bytes);
+            return Ok(payload);
         }
         Ok(Payload::from(bytes.to_vec(alloc)?))
     }
@@ -89,7 +136,7 @@ impl Payload {
         ensures { result.now ≡ self.now }
     {
         match &self.bytes {
-            Bytes::Few(few, len) => &few[..usize::from(*len)],
+            Bytes::Few(few) => few.as_slice(),
             Bytes::Many(bytes) => bytes.as_slice(),
         }
     }
@@ -100,7 +147,7 @@ impl Payload {
     {
         let Payload { bytes } = self;
         match bytes {
-            Bytes::Few(few, len) => Ok(few[..usize::from(len)].to_vec(alloc)?),
+            Bytes::Few(few) => Ok(few.as_slice().to_vec(alloc)?),
             Bytes::Many(bytes) => Ok(bytes),
         }
     }

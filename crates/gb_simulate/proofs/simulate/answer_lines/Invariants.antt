@@ -1,5 +1,5 @@
 use Rattle.std.proofs.Common.{◌≤◌, ◌-◌, ◌+◌}
-use Rattle.gb_schedule.specs.Buffered.{left}
+use Rattle.gb_lines.specs.Buffered.{left}
 use Rattle.gb_simulate.specs.Progress.{IsHalfway}
 use Rattle.gb_simulate.specs.Schedule.{HasNodes}
 use Rattle.gb_simulate.proofs.simulate.answer_lines.Given as goal

@@ -1,0 +1,4 @@
+pub mod LineLemmas
+pub mod LineSplitLemmas
+pub mod LeftLemmas
+pub mod CutLemmas

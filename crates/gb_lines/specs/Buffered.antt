@@ -1,0 +1,42 @@
+-- What stands in a line buffer, and what is left of a text that is read through one.
+use Rattle.std.specs.Prelude.{◌≡◌, ◌≢◌, ℕ, ◌<◌, ◌≤◌, ◌⊎◌, Bool, true, false, List, [], ◌∷◌, ◌++◌, length, Option, None, Some, ⊤, if◌then◌else◌, slice_index}
+use Rattle.std.specs.Io.KnownBytes.{prepend_known}
+use Rattle.gb_lines.specs.declared.lines.TheConstants.{LINE}
+use Rattle.gb_lines.specs.Lines.{IsLine}
+
+-- the line given last, the bytes that were read and not given, whether the reader has ended, and the reads made
+pub record Buffered : Type 0 where
+  pub line : List ℕ
+  pub unread : List ℕ
+  pub has_ended : Bool
+  pub reads : ℕ
+
+-- what is left of the text: the bytes that were read and not given, and then those that the reader will give
+abbrev pub left : Buffered → Option (List ℕ) → Option (List ℕ)
+left buffered remaining = if buffered.has_ended then Some buffered.unread else prepend_known buffered.unread remaining
+
+-- P holds of the bytes left before and after, where they are known
+abbrev pub WhereKnown : (List ℕ → List ℕ → Type 0) → Option (List ℕ) → Option (List ℕ) → Type 0
+WhereKnown P None new = ⊤
+WhereKnown P (Some old) None = ⊥
+WhereKnown P (Some old) (Some new) = P old new
+
+-- no byte from place i up to place j is a line feed
+abbrev pub NoLineFeed : List ℕ → ℕ → ℕ → Type 0
+NoLineFeed bytes i j = (k : ℕ) → i ≤ k → k < j → slice_index bytes k ≢ 10
+
+-- a line was cut off the front of the unread bytes; where the reader has ended, their end ends it too
+pub record CutsLine (line old new : List ℕ) (has_ended : Bool) : Type 0 where
+  pub whole : IsLine line
+  pub short : length line ≤ LINE
+  pub consumed : (old ≡ line ++ 10 ∷ new) ⊎ ((has_ended ≡ true) × (old ≡ line) × (new ≡ []) × (line ≢ []))
+
+-- the unread bytes begin with more than a longest line, and no line feed in it
+abbrev pub IsTooLong : List ℕ → Type 0
+IsTooLong unread = (line : List ℕ) × (rest : List ℕ) × IsLine line × (LINE < length line) × (unread ≡ line ++ rest)
+
+-- no line can be given without a read: the unread bytes hold none, and the reader has not ended
+pub record WantsRead (b : Buffered) : Type 0 where
+  pub unended : IsLine b.unread
+  pub short : length b.unread ≤ LINE
+  pub goes_on : b.has_ended ≡ false

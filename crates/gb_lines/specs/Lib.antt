@@ -1,0 +1,4 @@
+pub mod Lines
+pub mod LineLaws
+pub mod Buffered
+pub mod LineBuffer

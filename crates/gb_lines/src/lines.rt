@@ -1,0 +1,310 @@
+//! The lines of a text, read from any reader.
+ghost use Rattle.std.specs.Prelude.{◌≡◌, ◌≢◌, ◌≤◌, ◌<◌, ◌+◌, ◌↔◌, ◌⊎◌, ℕ, [], ◌∷◌, ◌++◌, true, false, length, slice_index, vec_len, IfSome, IfNone, IfOk, OnErr, IsTrue};
+ghost use Rattle.std.specs.IoError.{error_kind};
+ghost use Rattle.std.specs.List.{copy_within};
+ghost use Rattle.std.specs.Io.KnownBytes.{Keeps};
+ghost use Rattle.gb_lines.specs.Lines.{IsLine, GivesLine, BeginsLonger};
+ghost use Rattle.gb_lines.specs.LineLaws.{WrittenLinesAreRead, LastMayLackItsLineFeed, EachTextIsItsLines};
+ghost use Rattle.gb_lines.specs.Buffered.{left, WhereKnown, WantsRead, NoLineFeed, CutsLine, IsTooLong};
+
+use gb_types::memory::OutOfMemory;
+use memchr::memchr;
+use std::alloc::Global;
+use std::io::{Error, ErrorKind, Read};
+use std::marker::Model;
+
+/// The bytes of the longest line, its line feed not counted.
+pub const LINE: usize = 32_768;
+
+const _: () = prove!(LINE == 32_768);
+
+/// How many reads are made at most.
+pub const READS: u64 = 64_000_000;
+
+const _: () = prove!(READS == 64_000_000);
+
+/// The bytes that are kept at once: a line that is not whole yet, and as much again for a read.
+const SPACE: usize = 65_536;
+
+/// What comes next in a text.
+#[derive(Clone, Copy, PartialEq, Eq)]
+pub enum NextLine {
+    /// A line, which `LineBuffer::line` shows.
+    Given,
+    /// A line of more than `LINE` bytes. It is not given, and nothing behind it can be.
+    TooLong,
+    /// No line: the text is at its end.
+    End,
+}
+
+/// Why no line came.
+#[derive(Clone, Copy, Debug, PartialEq, Eq, thiserror::Error)]
+pub enum LinesFault {
+    /// A read failed.
+    #[error("a read failed")]
+    Read,
+    /// `READS` reads were made, and one more was wanted.
+    #[error("too many reads")]
+    TooManyReads,
+}
+
+/// What the lines of a text are: written lines are read again, also where the last one lacks its
+/// line feed, and each text is its lines.
+pub fn lines_are_the_pieces_of_a_text()
+    ensures written { WrittenLinesAreRead }
+    ensures last { LastMayLackItsLineFeed }
+    ensures each { EachTextIsItsLines }
+{}
+
+/// Reads a text by large pieces and gives its lines, one at a time. A read of 0 bytes is the end of
+/// the text, and none is made after it. A read that a signal interrupted is made again.
+pub struct LineBuffer {
+    bytes: Vec<u8>,
+    line_start: usize,
+    line_end: usize,
+    start: usize,
+    searched: usize,
+    end: usize,
+    has_ended: bool,
+    reads: u64,
+}
+
+// Not derived: what is derived is proved anew in each crate that ends one.
+impl Drop for LineBuffer {
+    fn drop(self) {
+        let LineBuffer {
+            bytes: _,
+            line_start: _,
+            line_end: _,
+            start: _,
+            searched: _,
+            end: _,
+            has_ended: _,
+            reads: _,
+        } = self;
+    }
+}
+
+// The first line feed from `from` up to `to`.
+#[inline(always)]
+fn line_feed_within(bytes: &[u8], from: usize, to: usize) -> Option<usize>
+    requires ordered { from ≤ to }
+    requires within { to ≤ length bytes.now }
+    ensures found { IfSome result (λ place. (from ≤ place) × (place < to)
+        × (slice_index bytes.now place ≡ 10) × NoLineFeed bytes.now from place) }
+    ensures none { IfNone result (NoLineFeed bytes.now from to) }
+{
+    // The place where a search before ended is looked at first.
+    if from < to && bytes[from] == b'\n' {
+        return Some(from);
+    }
+    match memchr(b'\n', &bytes[from..to]) {
+        Some(place) => Some(from + place),
+        None => None,
+    }
+}
+
+// The first line feed from `from` up to `to`, or `to`, where there is none.
+fn search_line_feed(bytes: &[u8], from: usize, to: usize) -> usize
+    requires ordered { from ≤ to }
+    requires within { to ≤ length bytes.now }
+    ensures least { from ≤ result }
+    ensures most { result ≤ to }
+    ensures none_before { NoLineFeed bytes.now from result }
+{
+    match line_feed_within(bytes, from, to) {
+        Some(place) => place,
+        None => to,
+    }
+}
+
+// What the error of a read comes to: none where a signal interrupted it, since the next read is made
+// then as after a read that gave nothing yet.
+fn judge_error(error: &Error) -> Result<(), LinesFault>
+    ensures interrupted { error_kind error.now ≡ ErrorKind.Interrupted → result ≡ Ok tt }
+    ensures failed { error_kind error.now ≢ ErrorKind.Interrupted → result ≡ Err LinesFault.Read }
+{
+    match error.kind() {
+        ErrorKind::Interrupted => Ok(()),
+        _ => Err(LinesFault::Read),
+    }
+}
+
+// Moves a part of the bytes to the front. It is not copied where it stands there, so that an
+// unfinished line, to which bytes come behind, is copied once at most.
+fn move_to_front(bytes: &mut Vec<u8>, start: usize, end: usize)
+    requires ordered { start ≤ end }
+    requires within { end ≤ vec_len bytes.old }
+    ensures items { bytes.new.items ≡ copy_within bytes.old.items start end 0 }
+    ensures len { vec_len bytes.new ≡ vec_len bytes.old }
+{
+    if start > 0 {
+        bytes.copy_within(start..end, 0);
+    }
+}
+
+// The space, filled with zeros.
+fn make_space(alloc: Global) -> Result<Vec<u8>, OutOfMemory>
+    ensures { IfOk result (λ bytes. vec_len bytes ≡ SPACE) }
+{
+    Ok(vec![in alloc; 0u8; SPACE]?)
+}
+
+impl Model for LineBuffer {
+    ghost use Rattle.gb_lines.specs.LineLaws.{WrittenLinesAreRead, LastMayLackItsLineFeed, EachTextIsItsLines};
+    ghost use Rattle.gb_lines.specs.Buffered.{Buffered};
+
+    ghost Value = { Buffered };
+
+    ghost use Rattle.gb_lines.specs.LineBuffer.{buffered, IsKept};
+
+    ghost view = { buffered };
+
+    ghost invariant = { IsKept };
+}
+
+impl LineBuffer {
+    /// A buffer before the first read.
+    pub fn new(alloc: Global) -> Result<LineBuffer, OutOfMemory>
+        ensures { IfOk result
+            (λ lines. lines ≡ record { line = []; unread = []; has_ended = false; reads = 0 }) }
+    {
+        Ok(LineBuffer {
+            bytes: make_space(alloc)?,
+            line_start: 0,
+            line_end: 0,
+            start: 0,
+            searched: 0,
+            end: 0,
+            has_ended: false,
+            reads: 0,
+        })
+    }
+
+    /// The line that was given last, without its line feed; empty where the last call gave none.
+    pub fn line(&self) -> &[u8]
+        ensures { result.now ≡ self.now.line }
+    {
+        &self.bytes[self.line_start..self.line_end]
+    }
+
+    /// Whether the next line cannot be told without a read.
+    pub fn wants_read(&self) -> bool
+        ensures { IsTrue result ↔ WantsRead self.now }
+    {
+        if self.has_ended || self.end - self.start > LINE {
+            return false;
+        }
+        match line_feed_within(&self.bytes, self.searched, self.end) {
+            Some(_) => false,
+            None => true,
+        }
+    }
+
+    // The next line, as far as the unread bytes tell.
+    fn cut(&mut self) -> Option<NextLine>
+        ensures given { result ≡ Some NextLine.Given
+            → CutsLine self.new.line self.old.unread self.new.unread self.old.has_ended }
+        ensures too_long { result ≡ Some NextLine.TooLong → IsTooLong self.old.unread }
+        ensures end { result ≡ Some NextLine.End
+            → (self.old.unread ≡ []) × (self.old.has_ended ≡ true) }
+        ensures none { IfNone result (WantsRead self.old) }
+        ensures not_given { result ≢ Some NextLine.Given → self.new ≡ record self.old { line = [] } }
+        ensures ended { self.new.has_ended ≡ self.old.has_ended }
+        ensures reads { self.new.reads ≡ self.old.reads }
+        ensures bounded { self.new.reads ≤ READS }
+    {
+        self.line_start = self.start;
+        self.line_end = self.start;
+        match line_feed_within(&self.bytes, self.searched, self.end) {
+            Some(line_end) => {
+                if line_end - self.start > LINE {
+                    return Some(NextLine::TooLong);
+                }
+                self.line_end = line_end;
+                self.start = line_end + 1;
+                self.searched = search_line_feed(&self.bytes, self.start, self.end);
+                Some(NextLine::Given)
+            }
+            None => {
+                self.searched = self.end;
+                if self.end - self.start > LINE {
+                    return Some(NextLine::TooLong);
+                }
+                if !self.has_ended {
+                    return None;
+                }
+                if self.start == self.end {
+                    return Some(NextLine::End);
+                }
+                self.line_end = self.end;
+                self.start = self.end;
+                Some(NextLine::Given)
+            }
+        }
+    }
+
+    // Makes one read behind the unread bytes, which stand at the front then.
+    fn fill<R: Read>(&mut self, reader: &mut R) -> Result<(), LinesFault>
+        requires { WantsRead self.old }
+        ensures left { Keeps (left self.old (R.remaining reader.old))
+            (left self.new (R.remaining reader.new)) }
+        ensures line { self.new.line ≡ [] }
+        ensures unread { OnErr result ((self.new.unread ≡ self.old.unread) × (self.new.has_ended ≡ false)) }
+        ensures reads { (self.old.reads ≤ self.new.reads) × (self.new.reads ≤ READS) }
+        ensures ok { IfOk result (λ _. self.new.reads ≡ self.old.reads + 1) }
+        ensures read { result ≡ Err LinesFault.Read → self.new.reads ≡ self.old.reads + 1 }
+        ensures too_many_reads { result ≡ Err LinesFault.TooManyReads → self.new.reads ≡ READS }
+    {
+        move_to_front(&mut self.bytes, self.start, self.end);
+        self.searched -= self.start;
+        self.end -= self.start;
+        self.start = 0;
+        self.line_start = 0;
+        self.line_end = 0;
+        if self.reads == READS {
+            return Err(LinesFault::TooManyReads);
+        }
+        self.reads += 1;
+        match reader.read(&mut self.bytes[self.end..]) {
+            Ok(0) => {
+                self.has_ended = true;
+                Ok(())
+            }
+            Ok(count) => {
+                self.end += count;
+                Ok(())
+            }
+            Err(error) => judge_error(&error),
+        }
+    }
+
+    /// Gives the next line of what is left of the text. Where none is given, all that was left still is.
+    pub fn next<R: Read>(&mut self, reader: &mut R) -> Result<NextLine, LinesFault>
+        ensures given { result ≡ Ok NextLine.Given
+            → WhereKnown (GivesLine self.new.line) (left self.old (R.remaining reader.old))
+            (left self.new (R.remaining reader.new)) }
+        ensures line { result ≡ Ok NextLine.Given
+            → IsLine self.new.line × (length self.new.line ≤ LINE) }
+        ensures too_long { result ≡ Ok NextLine.TooLong
+            → IfSome (left self.old (R.remaining reader.old)) (BeginsLonger LINE) }
+        ensures end { result ≡ Ok NextLine.End
+            → (left self.new (R.remaining reader.new) ≡ Some [])
+            × IfSome (left self.old (R.remaining reader.old)) (λ text. text ≡ []) }
+        ensures not_given { result ≢ Ok NextLine.Given
+            → Keeps (left self.old (R.remaining reader.old))
+            (left self.new (R.remaining reader.new)) }
+        ensures no_line { result ≢ Ok NextLine.Given → self.new.line ≡ [] }
+        ensures reads { (self.old.reads ≤ self.new.reads) × (self.new.reads ≤ READS) }
+        ensures read { result ≡ Err LinesFault.Read → self.old.reads < self.new.reads }
+        ensures too_many_reads { result ≡ Err LinesFault.TooManyReads → self.new.reads ≡ READS }
+        ensures wanted { OnErr result (WantsRead self.new) }
+    {
+        loop {
+            if let Some(next) = self.cut() {
+                return Ok(next);
+            }
+            self.fill(reader)?;
+        }
+    }
+}

@@ -1,6 +1,0 @@
-use Rattle.std.proofs.Common.{arith}
-use Rattle.std.proofs.lemmas.Grind.{common_steps}
-use Rattle.gb_schedule.proofs.lines.move_to_front.Goals as goal
-
-pub returns-else-start-gt0-clause-items : goal.returns-else-start-gt0-clause-items
-returns-else-start-gt0-clause-items c = grind (arith, common_steps)

@@ -1,0 +1,6 @@
+use Rattle.std.proofs.Common.{take}
+use Rattle.gb_trace.proofs.RunLemmas.{Goes}
+use Rattle.gb_trace.proofs.run.run.Given as goal
+
+abbrev pub invariant-loop-event : goal.invariant-loop-event
+invariant-loop-event l = Goes l.fn.plan (take l.event-index l.events) l.answers.items l.cluster

@@ -1,0 +1,89 @@
+//! Whole runs of a cluster.
+ghost use Rattle.std.specs.Prelude.{◌≡◌, ◌↔◌, All, IsTrue, IfOk};
+ghost use Rattle.std.specs.List.{list_any};
+ghost use Rattle.gb_cluster.specs.ClusterStep.{IsPlaced};
+ghost use Rattle.gb_cluster.specs.ClusterValue.{ClusterValue, IsClusterPlan};
+ghost use Rattle.gb_trace.specs.Trace.{IsRun};
+ghost use Rattle.gb_trace.specs.Run.{is_starved, IsIsolatedRun};
+
+use crate::trace::Trace;
+use gb_cluster::answer::{Answer, Sending};
+use gb_cluster::cluster::Cluster;
+use gb_cluster::event::Event;
+use gb_isolation::laws::groups_are_isolated;
+use gb_node::answer::{Halted, PacketAnswer, Ticked};
+use gb_node::past::packets_say;
+use gb_types::memory::OutOfMemory;
+use gb_types::plan::Plan;
+use gb_types::refusal::Refusal;
+use gb_types::reply::Reply;
+use std::alloc::Global;
+
+/// Whether the answer says that a node lacked memory.
+fn is_refused(answer: &Answer) -> bool
+    ensures { result ≡ is_starved answer.now }
+{
+    match answer {
+        Answer::Reply(Reply::Refused(why)) => *why == Refusal::OutOfMemory,
+        Answer::Taken(PacketAnswer::Refused(why)) => *why == Refusal::OutOfMemory,
+        Answer::Sent(Sending::Refused(why)) => *why == Refusal::OutOfMemory,
+        Answer::Ticked(Ticked::Refused(why)) => *why == Refusal::OutOfMemory,
+        Answer::Halted(Halted::Refused(why)) => *why == Refusal::OutOfMemory,
+        _ => false,
+    }
+}
+
+/// Whether some answer says so.
+fn has_refusal(answers: &[Answer]) -> bool
+    ensures { result ≡ list_any is_starved answers.now }
+{
+    answers.iter().any(is_refused)
+}
+
+/// Whether the node that acts is one of so many.
+fn is_placed(nodes: usize, event: &Event) -> bool
+    ensures { IsTrue result ↔ IsPlaced nodes event.now }
+{
+    match event {
+        Event::At(at, _) => at.index() < nodes,
+        Event::Arrive(_) => true,
+    }
+}
+
+/// Whether each node that acts is one of so many.
+#[tactic(auto, using(crate::proofs::RunLemmas::placed_none, crate::proofs::RunLemmas::placed_more, crate::proofs::RunLemmas::placed_all, crate::proofs::RunLemmas::placed_each))]
+pub fn are_placed(nodes: usize, events: &[Event]) -> bool
+    ensures { IsTrue result ↔ All (IsPlaced nodes) events.now }
+{
+    for event in events {
+        if !is_placed(nodes, event) {
+            return false;
+        }
+    }
+    true
+}
+
+/// A whole run: what a cluster that is started with the plan answers to these events, one after the other. Each group of
+/// which no request was refused for want of memory is in it what it is alone. `Err` says that there was no memory to keep
+/// the run; a node's want of memory is an answer.
+pub fn run(alloc: Global, plan: Plan, events: &[Event]) -> Result<Trace, OutOfMemory>
+    requires plan { IsClusterPlan plan }
+    requires placed { All (IsPlaced plan.nodes) events.now }
+    ensures run { IfOk result (λ t. (v : ClusterValue) × IsRun plan events.now t.answers.items t.packets.items v × IsIsolatedRun plan events.now t.answers.items t.packets.items v) }
+    ensures refused { IfOk result (λ t. t.refused ≡ list_any is_starved t.answers.items) }
+{
+    groups_are_isolated();
+    packets_say();
+    let mut cluster = Cluster::start(alloc, &plan)?;
+    let mut answers = Vec::with_capacity(alloc, events.len())?;
+    for event in events {
+        let answer = cluster.step(event)?;
+        answers.push(answer)?;
+    }
+    let refused = has_refusal(answers.as_slice());
+    Ok(Trace {
+        answers,
+        packets: cluster.into_packets(),
+        refused,
+    })
+}
