@@ -1,16 +1,20 @@
-//! Worked uses of the server, as tests: its words, its keys, the gates of its workers, and whole servers with clients on sockets of
-//! this machine. There is nothing here but tests.
+//! Worked uses of the server, as tests: its keys, the gates and the sessions of its workers, and whole servers with clients on
+//! sockets of this machine. There is nothing here but tests.
 #![tactic(auto)]
 
 #[cfg(test)]
 mod chat;
 #[cfg(test)]
+mod client_streams;
+#[cfg(test)]
 mod gates;
 #[cfg(test)]
 mod keys;
+#[cfg(test)]
+mod messages;
 #[cfg(test)]
 mod served;
 #[cfg(test)]
 mod socket_clients;
 #[cfg(test)]
-mod words;
+mod talks;

@@ -1,8 +1,8 @@
 // Whole servers: what they print, and what their clients are told.
+use crate::messages::{DENIED, OPEN};
 use crate::socket_clients::{MALFORMED, address, leaves, told};
 use gb_server::serve_main::serve_main;
 use gb_types::number::read_number;
-use gb_worker_examples::messages::{DENIED, OPEN};
 use std::alloc::Global;
 use std::net::{Net, TcpListener, TcpStream, UdpSocket};
 use std::sync::Wait;

@@ -1,14 +1,11 @@
-//! Worked hosts and workers, as tests: hosts with callers in threads of their own, and their ends; and their workers: pumps over
-//! rings, sockets and failing ports, tickers, and sessions, each in a thread of its own. Beside the tests there are only the two
-//! messages that tests of servers send too.
+//! Worked hosts and workers, as tests: hosts with callers in threads of their own, and their ends; and pumps over rings, sockets
+//! and failing ports, and tickers, each in a thread of its own. There is nothing here but tests.
 #![tactic(auto)]
 
 #[cfg(test)]
 mod agreement;
 #[cfg(test)]
 mod asking;
-#[cfg(test)]
-mod client_streams;
 #[cfg(test)]
 mod day;
 #[cfg(test)]
@@ -17,12 +14,9 @@ mod host_day;
 mod host_faults;
 #[cfg(test)]
 mod host_locks;
-pub mod messages;
 #[cfg(test)]
 mod plans;
 #[cfg(test)]
 mod roles;
 #[cfg(test)]
 mod scenes;
-#[cfg(test)]
-mod talks;

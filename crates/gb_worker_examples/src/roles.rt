@@ -3,7 +3,6 @@ use crate::asking::{ALONE, BOTH, PATIENCE, ask, fetch, prepare, say};
 use crate::host_faults::is_refused;
 use crate::host_locks::{call_beside, hold};
 use crate::plans::SECOND;
-use crate::talks::{Client, converse};
 use gb_host::gate::{Gate, Open};
 use gb_host::host::Host;
 use gb_host::names::Tapes;
@@ -42,8 +41,6 @@ pub enum Role<'a, P> {
     Beside(&'a AtomicU64),
     /// Calls a node that the host does not have.
     Lost,
-    /// Holds a session with a client of node 1.
-    Client(Client<'a>),
 }
 
 /// A gate that is passed once in a millisecond, while callers are left, and so many times at least.
@@ -153,7 +150,7 @@ fn keep_to_itself<L: Tapes, M: Ledger, R: Wait + Clock>(
 }
 
 /// Does what the role says. What it counted: failures of a port, turns of a ticker, messages said or found, calls that were
-/// answered, or refused where they are to be, or sessions that ended as they are to.
+/// answered, or refused where they are to be.
 pub fn work<L: Tapes, M: Ledger, P: Port, R: Wait + Clock>(
     rt: &R,
     alloc: Global,
@@ -173,7 +170,6 @@ pub fn work<L: Tapes, M: Ledger, P: Port, R: Wait + Clock>(
         Role::Holder(state) => hold(rt, host, seat, state) as u64,
         Role::Beside(state) => call_beside(rt, host, seat, state) as u64,
         Role::Lost => is_refused(rt, host, seat) as u64,
-        Role::Client(client) => converse(rt, alloc, host, seat, client) as u64,
     };
     if is_caller(role) {
         callers.fetch_sub(1, Ordering::SeqCst);

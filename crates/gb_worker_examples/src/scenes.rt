@@ -7,7 +7,6 @@ use crate::asking::prepare_both;
 use crate::day::all_work;
 use crate::plans::two_nodes;
 use crate::roles::Role;
-use crate::talks::{Both, hold_both};
 use gb_host::close::close;
 use gb_host::closed::Closed;
 use gb_host::entry::SeatEntry;
@@ -34,8 +33,6 @@ pub enum Scene<'a, P> {
     Roles(Vec<Role<'a, P>>),
     /// The same, once the group of both nodes was made from the last seat.
     InGroup(Vec<Role<'a, P>>),
-    /// Sessions with two clients at once.
-    Sessions(Both<'a>),
     /// The last seat is lost.
     LostSeat,
 }
@@ -59,7 +56,6 @@ fn play<
             prepare_both(rt, alloc, host, seats);
             all_work(rt, alloc, host, seats, roles)
         }
-        Scene::Sessions(both) => [hold_both(rt, alloc, host, seats, *both), 0, 0, 0],
         Scene::LostSeat => {
             let _ = seats.pop();
             [0; 4]

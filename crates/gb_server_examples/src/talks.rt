@@ -1,0 +1,262 @@
+//! Sessions of a host of two nodes with its clients.
+ghost use Rattle.std.specs.Prelude.{◌≡◌, ◌+◌, vec_len, IfSome};
+ghost use Rattle.gb_host.specs.Plans.{IsPlan};
+
+use crate::client_streams::{Asking, Held, Told};
+use gb_host::close::close;
+use gb_host::gate::Open;
+use gb_host::host::Host;
+use gb_host::names::Tapes;
+use gb_host::plan::HostPlan;
+use gb_host::seat::Seat;
+use gb_session::serve::{SessionEnd, SessionFault};
+use gb_types::node::NodeId;
+use gb_types::plan::Plan;
+use gb_worker::session::session;
+use gb_worker::sessions::{Ending, Stream, sessions};
+use std::alloc::Global;
+use std::marker::Brand;
+use std::rt::HostRuntime;
+use std::sync::Wait;
+use std::sync::atomic::{AtomicU64, Ordering};
+use std::sync::ledger::{Blank, Ledger};
+use std::thread::Threads;
+use std::time::Clock;
+
+const FIRST: NodeId = NodeId { number: 0 };
+
+const SECOND: NodeId = NodeId { number: 1 };
+
+// Two nodes, with tapes.
+fn two_nodes() -> HostPlan
+    ensures nodes { result.cluster.nodes ≡ 2 }
+    ensures limits { IsPlan result }
+{
+    HostPlan {
+        cluster: Plan {
+            nodes: 2,
+            silence: 1_000,
+            places: 1_024,
+            cluster_key: [0x11; 32],
+            admin_key: [0x22; 32],
+        },
+        tape: true,
+    }
+}
+
+/// Two clients, each of which asks once, at a node of its own, and what counts its replies. The one with this number is held until
+/// the other is answered.
+#[derive(Clone, Copy)]
+struct Both<'a> {
+    held: usize,
+    denied: (&'a AtomicU64, &'a AtomicU64),
+}
+
+/// A client, and how its session is to end.
+#[derive(Drop)]
+struct Client<'a> {
+    reader: Asking,
+    writer: Told<'a>,
+    end: Ending,
+}
+
+/// Who talks to a host.
+#[derive(Drop)]
+enum Talk<'a> {
+    /// Two clients at once.
+    Both(Both<'a>),
+    /// A client of node 1.
+    One(Client<'a>),
+}
+
+// A client that asks once.
+fn once<'a>(node: NodeId, denied: &'a AtomicU64) -> Stream<Asking, Told<'a>> {
+    Stream {
+        node,
+        reader: Asking::new(1, 0),
+        writer: Told::new(denied, 0),
+    }
+}
+
+// A list of two, where there is memory for it.
+fn pair<T: Drop>(alloc: Global, first: T, second: T) -> Option<Vec<T>>
+    ensures { IfSome result (λ list. vec_len list ≡ 2) }
+{
+    let mut list = Vec::with_capacity(alloc, 2).ok()?;
+    list.push_reserved(first);
+    list.push_reserved(second);
+    Some(list)
+}
+
+// How both sessions ended.
+fn ends_of<L: Tapes + Send + Sync, M: Ledger + Send + Sync, R: Threads + Wait + Clock + Sync>(
+    rt: &R,
+    alloc: Global,
+    host: &Host<L, M>,
+    seats: &mut [Seat<M>],
+    both: &Both<'_>,
+) -> Option<Vec<Ending>> {
+    let (first, second) = both.denied;
+    let streams = pair(alloc, once(FIRST, first), once(SECOND, second))?;
+    let gates = pair(
+        alloc,
+        Held {
+            rt,
+            is_held: both.held == 0,
+            other: second,
+        },
+        Held {
+            rt,
+            is_held: both.held == 1,
+            other: first,
+        },
+    )?;
+    if seats.len() != 2 {
+        return None;
+    }
+    sessions(rt, alloc, host, seats, streams, gates).ok()
+}
+
+// Holds both sessions at once. How many ended well.
+fn hold_both<L: Tapes + Send + Sync, M: Ledger + Send + Sync, R: Threads + Wait + Clock + Sync>(
+    rt: &R,
+    alloc: Global,
+    host: &Host<L, M>,
+    seats: &mut [Seat<M>],
+    both: &Both<'_>,
+) -> u64 {
+    let mut count: u64 = 0;
+    for end in &ends_of(rt, alloc, host, seats, both).unwrap_or(Vec::new(alloc)) {
+        if let Ok(SessionEnd::Finished) = end {
+            count = count.saturating_add(1);
+        }
+    }
+    count
+}
+
+// Holds a session with a client of node 1. Whether it ended as it is to.
+fn converse<L: Tapes, M: Ledger, R: Wait>(
+    rt: &R,
+    alloc: Global,
+    host: &Host<L, M>,
+    seat: &mut Seat<M>,
+    client: &mut Client<'_>,
+) -> bool {
+    let (reader, writer) = (&mut client.reader, &mut client.writer);
+    let end = session(rt, alloc, host, seat, SECOND, reader, writer, &mut Open);
+    end == client.end
+}
+
+// How many sessions of a talk ended as they are to.
+fn count_ended<L: Tapes + Send + Sync, M: Ledger + Send + Sync, R: Threads + Wait + Clock + Sync>(
+    rt: &R,
+    alloc: Global,
+    host: &Host<L, M>,
+    seats: &mut [Seat<M>],
+    talk: &mut Talk<'_>,
+) -> u64 {
+    match talk {
+        Talk::Both(both) => hold_both(rt, alloc, host, seats, both),
+        Talk::One(client) => match seats.first_mut() {
+            Some(seat) => converse(rt, alloc, host, seat, client) as u64,
+            None => 0,
+        },
+    }
+}
+
+// How many calls the first two seats noted.
+fn calls_of<M: Ledger>(seats: &[Seat<M>]) -> [usize; 2] {
+    let mut calls = [0; 2];
+    for i in 0..2 {
+        if let Some(seat) = seats.get(i) {
+            calls[i] = seat.mine().len();
+        }
+    }
+    calls
+}
+
+// Opens a host with two seats, holds a talk, and closes the host: how many sessions ended as they are to, and how many calls each
+// seat noted. None where the host was refused, or its end.
+fn run<L: Tapes + Send + Sync, M: Ledger + Send + Sync, R: Threads + Wait + Clock + Sync>(
+    rt: &R,
+    alloc: Global,
+    plan: HostPlan,
+    held: &mut Talk<'_>,
+    tape_blank: Blank,
+    seat_blank: Blank,
+) -> Option<(u64, [usize; 2])>
+    requires plan { plan ≡ L.plan }
+    requires limits { IsPlan plan }
+    requires tape_blank { (tape_blank.name ≡ L.name) × (tape_blank.parts ≡ L.parts) × (tape_blank.parts ≡ plan.cluster.nodes + 1) }
+    requires seat_blank { (seat_blank.name ≡ M.name) × (seat_blank.parts ≡ M.parts) × (seat_blank.parts ≡ 3) }
+{
+    let opened = Host::<L, M>::open(alloc, plan, 2, tape_blank, seat_blank);
+    let Some((host, mut seats)) = opened.ok() else {
+        return None;
+    };
+    let count = count_ended(rt, alloc, &host, &mut seats, held);
+    let calls = calls_of(&seats);
+    match close(host, seats) {
+        Ok(_) => Some((count, calls)),
+        Err(_) => None,
+    }
+}
+
+// The same, on a host of two nodes.
+fn hold<R: Threads + Wait + Clock + Sync>(
+    rt: &R,
+    alloc: Global,
+    held: &mut Talk<'_>,
+) -> Option<(u64, [usize; 2])> {
+    run::<Brand, Brand, R>(rt, alloc, two_nodes(), held, Blank::new(3), Blank::new(3))
+}
+
+#[test]
+fn two_sessions_at_once(rt: HostRuntime) {
+    for held in 0..2 {
+        let (first, second) = (AtomicU64::new(0), AtomicU64::new(0));
+        let denied = (&first, &second);
+        let left = hold(&rt, rt.alloc(), &mut Talk::Both(Both { held, denied }));
+        assert!(rt; left == Some((2, [1, 1])));
+        assert!(rt; first.into_inner() == 1 && second.into_inner() == 1);
+    }
+}
+
+// Three requests, of which a read or a write fails: how many sessions end so, how many calls were made, and how many replies
+// were written.
+fn ask_thrice<R: Threads + Wait + Clock + Sync>(
+    rt: &R,
+    alloc: Global,
+    read_fails_at: u64,
+    write_fails_at: u64,
+    end: &Ending,
+) -> Option<(u64, usize, u64)> {
+    let denied = AtomicU64::new(0);
+    let client = Client {
+        reader: Asking::new(3, read_fails_at),
+        writer: Told::new(&denied, write_fails_at),
+        end: *end,
+    };
+    let (count, [calls, _]) = hold(rt, alloc, &mut Talk::One(client))?;
+    Some((count, calls, denied.load(Ordering::SeqCst)))
+}
+
+// Which read fails, and which write; how the session ends, after how many calls and replies.
+static FAILURES: [(u64, u64, Ending, usize, u64); 8] = [
+    (0, 0, Ok(SessionEnd::Finished), 3, 3),
+    (1, 0, Err(SessionFault::Read), 0, 0),
+    (2, 0, Err(SessionFault::Read), 1, 1),
+    (3, 0, Err(SessionFault::Read), 2, 2),
+    (4, 0, Err(SessionFault::Read), 3, 3),
+    (0, 1, Err(SessionFault::Write), 1, 0),
+    (0, 2, Err(SessionFault::Write), 2, 1),
+    (0, 3, Err(SessionFault::Write), 3, 2),
+];
+
+#[test]
+fn a_read_or_a_write_fails(rt: HostRuntime) {
+    for (read_fails_at, write_fails_at, end, calls, denied) in &FAILURES {
+        let found = ask_thrice(&rt, rt.alloc(), *read_fails_at, *write_fails_at, end);
+        assert!(rt; found == Some((1, *calls, *denied)));
+    }
+}
