@@ -1,6 +1,6 @@
 //! Worked uses of the parts that a node, its host and its sessions are made of, as tests: packets and the crash detector; rings,
-//! sockets and a port that fails, call by call; each spelling of a request, and whole sessions. Each limit at its last allowed and
-//! first refused value. There is nothing here but tests.
+//! sockets and a port that fails, call by call; and whole sessions. Each limit at its last allowed and first refused value. There
+//! is nothing here but tests.
 #![tactic(auto)]
 
 #[cfg(test)]
@@ -9,7 +9,5 @@ mod detector;
 mod packets;
 #[cfg(test)]
 mod ports;
-#[cfg(test)]
-mod requests;
 #[cfg(test)]
 mod sessions;
