@@ -120,7 +120,7 @@ fn members_say_and_hear(rt: HostRuntime) -> Result<(), Fail> {
     run(&rt, rt.alloc(), Kind::Beb, WIDE, MEMBERS_SAY_AND_HEAR)
 }
 
-// Few bytes are copied one by one, up to 16 stand in the payload itself, more take memory of their own.
+// Up to 16 bytes stand in the payload itself, more take memory of their own.
 const PAYLOADS_OF_EACH_LENGTH_ARE_FETCHED: &[Step] = &[
     Step::Open(None),
     Step::Say(b"12345678", Ok(1)),
