@@ -90,10 +90,20 @@ happened plan nodes before after a i event answer old new place within read nois
 
 -- Runs.
 
-pub get_contains : (packets : List Posted) (k : ℕ) (p : Posted) → slice_get packets k ≡ Some p → Contains packets p
+get_contains : (packets : List Posted) (k : ℕ) (p : Posted) → slice_get packets k ≡ Some p → Contains packets p
 get_contains [] k p e = absurd (cc)
 get_contains (q ∷ packets) zero p e = (0, omega arith, let same : q ≡ p = cc in same)
 get_contains (q ∷ packets) (suc k) p e = let rest = get_contains packets k p e in (suc rest.0, let l = rest.1 in omega (arith, l), rest.2)
+
+pub numbered_contains : (packets : List Posted) (k : ℕ) (p : Posted) → packet_numbered packets k ≡ Some p → Contains packets p
+numbered_contains packets zero p e = absurd (cc)
+numbered_contains packets (suc k) p e = get_contains packets k p e
+
+-- bytes that arrive as a packet were posted to the node where they arrive
+pub arrived_was_posted : (packets : List Posted) (k : ℕ) (p : Posted) (bytes : List ℕ) → packet_numbered packets k ≡ Some p → Came p.text ≡ Came bytes → Contains packets (record { to = p.to; text = bytes })
+arrived_was_posted packets k p bytes is same =
+    let is_text : p.text ≡ bytes = cc in
+    subst (λ t. Contains packets (record { to = p.to; text = t })) is_text (numbered_contains packets k p is)
 
 pub goes_on : (old new : ClusterValue) (event : Event) (answer : Answer) → IsStep old event answer new → GoesOn old new
 unfolding ComesTo
@@ -104,19 +114,12 @@ goes_on old new (At a event) answer step run comes = by (is_packet_for (node_at 
     by false is step = inr (record { node = a; event = event; answer = step.0 }, (old, comes, λ bytes same yes. absurd (let n : true ≡ false = sym yes ∙ is in cc), step.1))
 goes_on old new (Arrive k) answer step run comes = by (packet_numbered old.packets k) refl step
   where
-    there : (k : ℕ) (p : Posted) → packet_numbered old.packets k ≡ Some p → Contains old.packets p
-    there zero p e = absurd (cc)
-    there (suc k) p e = get_contains old.packets k p e
-
-    bytes_in : (b c : List ℕ) → Came b ≡ Came c → b ≡ c
-    bytes_in b c e = cc
-
     by : (o : Option Posted) → packet_numbered old.packets k ≡ o → IsArrival old o answer new → ComesTo old.plan run new ⊎ ((d : Did) × ComesTo old.plan (d ∷ run) new)
     by None is step = inl (subst (ComesTo old.plan run) (sym step.1) comes)
     by (Some p) is step =
         inr (
           record { node = p.to; event = Came p.text; answer = step.0 },
-          (old, comes, λ bytes same yes. subst (λ t. Contains old.packets (record { to = p.to; text = t })) (bytes_in p.text bytes same) (there k p is), step.1),
+          (old, comes, λ bytes same yes. arrived_was_posted old.packets k p bytes is same, step.1),
         )
 
 -- the plan and the number of nodes stay

@@ -114,11 +114,6 @@ once_known (Own x ∷ told) = once_new (known told) x (once_known told)
 once_known (Other p x ∷ told) = once_new (known told) x (once_known told)
 once_known (Crashed q ∷ told) = once_known told
 
--- one more entry at the end
-pub bytes_of-append : (s : ℕ) (xs : List Entry) (x : Entry) → bytes_of s (xs ++ x ∷ []) ≡ bytes_of s xs + (if nat_eq x.origin.number s then length x.payload else 0)
-bytes_of-append s [] x = omega arith
-bytes_of-append s (y ∷ xs) x = let e = bytes_of-append s xs x in omega (arith, e)
-
 -- an accepted entry stands where its message does, among accepted ones
 pub stands : (said : ℕ → List Accepted) (ys : List Entry) (x : Entry) → All (IsAccepted said) ys → IsAccepted said x → has ys (message_of x) ≡ true → In x ys
 stands said ys x all is there = go (find ys (message_of x) there)

@@ -89,9 +89,9 @@ run_crash = join nobody (group_open kinds.FifoLazy) group_crashed (opened kinds.
 -- When such a group is settled.
 
 -- nothing is said while the group is opened
-quiet : (g : Group) (step : GroupStep) (s : ℕ) (rest : List GroupStep) → ((reply : Reply) → accepted_in step.event reply ≡ []) → accepted_from 3 0 (after 3 0 g step) rest s ≡ [] → accepted_from 3 0 g (step ∷ rest) s ≡ []
+unaccepted : (g : Group) (step : GroupStep) (s : ℕ) (rest : List GroupStep) → ((reply : Reply) → accepted_in step.event reply ≡ []) → accepted_from 3 0 (after 3 0 g step) rest s ≡ [] → accepted_from 3 0 g (step ∷ rest) s ≡ []
 unfolding accepted_from
-quiet g step s rest none later = ap (λ xs. xs ++ accepted_from 3 0 (after 3 0 g step) rest s) (go (nat_eq s step.node.number)) ∙ later
+unaccepted g step s rest none later = ap (λ xs. xs ++ accepted_from 3 0 (after 3 0 g step) rest s) (go (nat_eq s step.node.number)) ∙ later
   where
     reply : Reply
     reply = reply_to 3 0 s step.event (g s)
@@ -106,9 +106,9 @@ nothing g s = refl
 
 silent : (kind : Kind) (s : ℕ) → accepted 3 0 (opened kind) s ≡ []
 silent kind s =
-    quiet _ _ s _ (λ r. refl) (quiet _ _ s _ (λ r. refl) (quiet _ _ s _ (λ r. refl)
-    (quiet _ _ s _ (λ r. refl) (quiet _ _ s _ (λ r. refl) (quiet _ _ s _ (λ r. refl)
-    (quiet _ _ s _ (λ r. refl) (quiet _ _ s _ (λ r. refl) (quiet _ _ s _ (λ r. refl) (nothing _ s)))))))))
+    unaccepted _ _ s _ (λ r. refl) (unaccepted _ _ s _ (λ r. refl) (unaccepted _ _ s _ (λ r. refl)
+    (unaccepted _ _ s _ (λ r. refl) (unaccepted _ _ s _ (λ r. refl) (unaccepted _ _ s _ (λ r. refl)
+    (unaccepted _ _ s _ (λ r. refl) (unaccepted _ _ s _ (λ r. refl) (unaccepted _ _ s _ (λ r. refl) (nothing _ s)))))))))
 
 made : (kind : Kind) (a : ℕ) → set.contains members a ≡ true → (alone 3 0 (opened kind) a).spec ≡ Some (spec_of kind)
 made kind a inside = ap (λ (g : Group). (g a).spec) (all_open kind) ∙ by (member a inside)

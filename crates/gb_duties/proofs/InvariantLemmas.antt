@@ -19,11 +19,10 @@ use Rattle.gb_history.specs.History.{call_of, calls_of, known, bytes_in, said_in
 use Rattle.gb_history.specs.Messages.{has, bytes_of}
 use Rattle.gb_history.specs.declared.call.GroupCall.{GroupCall}
 use Rattle.gb_history.specs.declared.call.GroupCall.TheVariants.{Own, Other, Crashed}
-use Rattle.gb_history.proofs.MentionLemmas.{has-known}
+use Rattle.gb_history.proofs.MentionLemmas.{bytes_of-append, has-known}
 use Rattle.gb_alone.specs.Alone.{Member, put_to}
 use Rattle.gb_duties.proofs.WordLemmas.{has-append, has-entries, in_newly}
 use Rattle.gb_duties.proofs.ReplyLemmas.{IsFair}
-use Rattle.gb_duties.proofs.BytesLemmas.{bytes_of-append}
 
 -- what holds at the node a, where these are the calls of each node
 pub record Fits (calls : ℕ → List Call) (a : ℕ) (gone : Bool) (o : Option Spec) (told : List GroupCall) (put : ℕ → List Entry) : Type 0 where

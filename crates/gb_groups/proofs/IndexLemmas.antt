@@ -43,8 +43,8 @@ index_changed rows new busy to d words ok s here n others h = record {
 }
 
 -- a group changes and nothing that waits in it
-pub index_quiet : (rows : List Row) (busy : List (List ℕ)) (p : ℕ) (row : Row) → IsIndex rows busy → ((d : ℕ) → queue d row ≡ queue d (row_at rows p)) → IsIndex (set rows p row) busy
-index_quiet rows busy p row ok same = record {
+pub index_unchanged : (rows : List Row) (busy : List (List ℕ)) (p : ℕ) (row : Row) → IsIndex rows busy → ((d : ℕ) → queue d row ≡ queue d (row_at rows p)) → IsIndex (set rows p row) busy
+index_unchanged rows busy p row ok same = record {
   size = ok.size;
   each = λ d h. busy_same d (get_or busy d []) rows (set rows p row) (ok.each d h) (length-set rows p row) (map-set_same (queue d) rows p row no_row (same d));
 }
@@ -72,8 +72,8 @@ index_as_many rows busy p row h ok same = record {
   };
 }
 
-pub places_quiet : (rows : List Row) (cursors : List ℕ) (p : ℕ) (row : Row) → ArePlaces rows cursors → ArePlaces (set rows p row) cursors
-places_quiet rows cursors p row ok = record { size = ok.size; within = λ d. let n = length-set rows p row in let h = ok.within d in omega arith }
+pub places_unchanged : (rows : List Row) (cursors : List ℕ) (p : ℕ) (row : Row) → ArePlaces rows cursors → ArePlaces (set rows p row) cursors
+places_unchanged rows cursors p row ok = record { size = ok.size; within = λ d. let n = length-set rows p row in let h = ok.within d in omega arith }
 
 -- a group changes: the index is right but for its place
 pub index_but : (rows : List Row) (busy : List (List ℕ)) (p : ℕ) (row : Row) → IsIndex rows busy → IsIndexBut p (set rows p row) busy

@@ -8,7 +8,7 @@ use Rattle.gb_types.specs.declared.spec.Spec.{Spec}
 use Rattle.gb_layer.specs.declared.effects.Effects.{Effects}
 use Rattle.gb_slot.specs.Effects.{AreEmptied, AreReady}
 use Rattle.gb_slot.specs.SlotState.{SlotState}
-use Rattle.gb_slot.specs.SpecLemmas.{still_ready}
+use Rattle.gb_slot.proofs.SpecLemmas.{still_ready}
 use Rattle.gb_groups.specs.Slots.{AreLent}
 use Rattle.gb_groups.proofs.AddLemmas.{Grows}
 use Rattle.gb_groups.proofs.DropLemmas.{Without}

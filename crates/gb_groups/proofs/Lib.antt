@@ -11,7 +11,7 @@ pub mod WriteLemmas
 pub mod FrontLemmas
 pub mod IndexLemmas
 pub mod AddressLemmas
-pub mod QuietLemmas
+pub mod UnchangedLemmas
 pub mod AddLemmas
 pub mod MemberLemmas
 pub mod NotedLemmas

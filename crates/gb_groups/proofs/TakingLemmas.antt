@@ -51,16 +51,16 @@ pub queues-set : (dest p : ℕ) (rows : List Row) (row : Row) → dest < counter
 queues-set dest p rows row h = map-set (queue dest) rows p (took dest 1 row) ∙ ap (λ q. set (queues dest rows) p q) (queue-took dest 1 row h)
 
 -- what one step of the walk leaves
-pub record Gave (p : ℕ) (v : Visit) (here there : List Visit) : Type 0 where
+pub record WalkStep (p : ℕ) (v : Visit) (here there : List Visit) : Type 0 where
   pub place : v.place ≡ p
   pub rest : here ≡ there
 
-split_visit : (p : ℕ) (v w : Visit) (vs ws : List Visit) → v ∷ vs ≡ w ∷ ws → v.place ≡ p → Gave p w vs ws
+split_visit : (p : ℕ) (v w : Visit) (vs ws : List Visit) → v ∷ vs ≡ w ∷ ws → v.place ≡ p → WalkStep p w vs ws
 split_visit p v w vs ws e h = let a : v ≡ w = cc in let b : vs ≡ ws = cc in record { place = ap (λ (u : Visit). u.place) (sym a) ∙ h; rest = b }
 
-gave_from : (p k : ℕ) (qs : List (List Entry)) (q : List Entry) (vs : List Visit) → p < length qs → get_or qs p [] ≡ q → 0 < length q → walk p qs ≡ drop k vs → k < length vs → Gave p (get_or vs k nowhere) (walk (suc p) (set qs p (drop 1 q))) (drop (suc k) vs)
-gave_from p k qs [] vs h e z w l = absurd (omega arith)
-gave_from p k qs (x ∷ q) vs h e z w l =
+walk_step_from : (p k : ℕ) (qs : List (List Entry)) (q : List Entry) (vs : List Visit) → p < length qs → get_or qs p [] ≡ q → 0 < length q → walk p qs ≡ drop k vs → k < length vs → WalkStep p (get_or vs k nowhere) (walk (suc p) (set qs p (drop 1 q))) (drop (suc k) vs)
+walk_step_from p k qs [] vs h e z w l = absurd (omega arith)
+walk_step_from p k qs (x ∷ q) vs h e z w l =
     split_visit p (visit p x) (get_or vs k nowhere) (walk (suc p) (set qs p q)) (drop (suc k) vs) (sym (walk_gives p x q qs h e) ∙ w ∙ drop-cons vs k nowhere l) refl
 
 heads_same : (v w : Visit) (vs ws : List Visit) → v ∷ vs ≡ w ∷ ws → w ≡ v
@@ -78,14 +78,14 @@ first_visit dest rows p at k row vs h e z same w l =
     let busy : 0 < length (queue dest row) = rw here at z in
     first_from p k (queues dest rows) (queue dest row) vs (omega arith) here busy (same ∙ w) l
 
-pub gives_one : (dest : ℕ) (rows : List Row) (p at k : ℕ) (row : Row) (vs : List Visit) → dest < counters row → p < length rows → row ≡ get_or rows p row → 0 < length (get_or (queues dest rows) p []) → walk p (queues dest rows) ≡ walk at (queues dest rows) → walk at (queues dest rows) ≡ drop k vs → k < length vs → Gave p (get_or vs k nowhere) (walk (p + 1) (queues dest (set rows p (took dest 1 row)))) (drop (k + 1) vs)
+pub gives_one : (dest : ℕ) (rows : List Row) (p at k : ℕ) (row : Row) (vs : List Visit) → dest < counters row → p < length rows → row ≡ get_or rows p row → 0 < length (get_or (queues dest rows) p []) → walk p (queues dest rows) ≡ walk at (queues dest rows) → walk at (queues dest rows) ≡ drop k vs → k < length vs → WalkStep p (get_or vs k nowhere) (walk (p + 1) (queues dest (set rows p (took dest 1 row)))) (drop (k + 1) vs)
 gives_one dest rows p at k row vs d h e z same w l =
     let n = length-queues dest rows in
     let here = queues_at dest rows p row h e in
     let s : p + 1 ≡ suc p = omega arith in
     let t : k + 1 ≡ suc k = omega arith in
     let busy : 0 < length (queue dest row) = rw here at z in
-    rw (s, t, queues-set dest p rows row d) (gave_from p k (queues dest rows) (queue dest row) vs (omega arith) here busy (same ∙ w) l)
+    rw (s, t, queues-set dest p rows row d) (walk_step_from p k (queues dest rows) (queue dest row) vs (omega arith) here busy (same ∙ w) l)
 
 -- a group gives k items, and then one more
 pub drop-more : {A : Type 0} (k : ℕ) (xs : List A) → drop 1 (drop k xs) ≡ drop (k + 1) xs

@@ -200,7 +200,7 @@ impl Slots {
         requires { length payload.now ≤ PAYLOAD }
         ensures rows { self.new.rows ≡ slice_set self.old.rows place (on_slot (slot_came from (record { origin = origin; seq = seq; payload = payload.now })) (row_at self.old.rows place)) }
         ensures put_out { result ≡ true → IsPutOut (row_at self.new.rows place).slot }
-        ensures quiet { result ≡ false → (dest : ℕ) → length (queue dest (on_slot (slot_came from (record { origin = origin; seq = seq; payload = payload.now })) (row_at self.old.rows place))) ≡ length (queue dest (row_at self.old.rows place)) }
+        ensures unchanged { result ≡ false → (dest : ℕ) → length (queue dest (on_slot (slot_came from (record { origin = origin; seq = seq; payload = payload.now })) (row_at self.old.rows place))) ≡ length (queue dest (row_at self.old.rows place)) }
     {
         self.recent = place;
         if let Some(key) = key_at(&self.places, place) {

@@ -1,5 +1,5 @@
--- Which messages a list has, and which a history makes known.
-use Rattle.std.proofs.Common.{◌≡◌, ◌||◌, true, false, List, [], ◌∷◌, ◌++◌, refl, sym, ◌∙◌, ap}
+-- Which messages a list has, with how many bytes, and which a history makes known.
+use Rattle.std.proofs.Common.{◌≡◌, ℕ, ◌+◌, ◌||◌, nat_eq, true, false, List, [], ◌∷◌, ◌++◌, length, refl, sym, ◌∙◌, ap, arith}
 use Rattle.std.specs.Prelude.{if◌then◌else◌}
 use Rattle.gb_types.specs.Entry.{message_of}
 use Rattle.gb_types.specs.Message.{same}
@@ -11,12 +11,16 @@ use Rattle.gb_layer.specs.Machine.{mentions}
 use Rattle.gb_history.specs.declared.call.GroupCall.{GroupCall}
 use Rattle.gb_history.specs.declared.call.GroupCall.TheVariants.{Own, Other, Crashed}
 use Rattle.gb_history.specs.History.{calls_of, known}
-use Rattle.gb_history.specs.Messages.{has, with_new}
+use Rattle.gb_history.specs.Messages.{has, bytes_of, with_new}
 
 -- one more message at the end
 pub has-append : (xs : List Entry) (x : Entry) (m : MsgId) → has (xs ++ x ∷ []) m ≡ (same (message_of x) m || has xs m)
 has-append [] x m = refl
 has-append (y ∷ xs) x m = ap (λ b. same (message_of y) m || b) (has-append xs x m) ∙ or_swap (same (message_of y) m) (same (message_of x) m) (has xs m)
+
+pub bytes_of-append : (origin : ℕ) (xs : List Entry) (x : Entry) → bytes_of origin (xs ++ x ∷ []) ≡ bytes_of origin xs + (if nat_eq x.origin.number origin then length x.payload else 0)
+bytes_of-append origin [] x = omega arith
+bytes_of-append origin (y ∷ xs) x = let rest = bytes_of-append origin xs x in omega (arith, rest)
 
 -- a message that is there already makes no other one be there
 has_already : (xs : List Entry) (k m : MsgId) → has xs k ≡ true → has xs m ≡ (same k m || has xs m)

@@ -29,7 +29,7 @@ use Rattle.gb_isolation.specs.Project.{items_of, is_own, made_by, or_else, made_
 use Rattle.gb_isolation.proofs.GoesLemmas.{goes_one}
 use Rattle.gb_isolation.proofs.MarkLemmas.{or_and_off}
 use Rattle.gb_isolation.proofs.MemberLemmas.{same_member}
-use Rattle.gb_isolation.proofs.QuietLemmas.{quiet_goes}
+use Rattle.gb_isolation.proofs.UnrelatedLemmas.{unrelated_goes}
 use Rattle.gb_isolation.proofs.View.{View, view_of, MemberIs, KeepsAcks, IsInside, AreMarked, Fits, Goes}
 
 -- The view.
@@ -89,14 +89,14 @@ refused_makes g (Say token addr payload) why = refl
 refused_makes g (Fetch token addr from most) why = refl
 
 -- a request that is not the group's own, and makes nothing of it
-pub quiet_request : (plan : NodePlan) (g : Addr) (past : List Happened) (request : Request) (reply : Reply) (frames_from : ℕ → List (List Item)) (group : Group)
+pub unrelated_request : (plan : NodePlan) (g : Addr) (past : List Happened) (request : Request) (reply : Reply) (frames_from : ℕ → List (List Item)) (group : Group)
     → is_own plan g past request ≡ false
     → added (Asked request) (Replied reply) ≡ []
     → asked_told g plan.me (noticed_in plan past) request reply (told_of plan g past) ≡ told_of plan g past
     → made_by g (Asked request) (Replied reply) ≡ None
     → Fits plan.nodes g plan.me.number frames_from (view_of plan g past) (group plan.me.number)
     → Goes plan.nodes g plan.me frames_from (view_of plan g (asking request reply ∷ past)) group []
-quiet_request plan g past request reply frames_from group other rows told unmade fits = quiet_goes plan g past (Asked request) (Replied reply) frames_from group (record {
+unrelated_request plan g past request reply frames_from group other rows told unmade fits = unrelated_goes plan g past (Asked request) (Replied reply) frames_from group (record {
   packed = λ b. refl;
   none_came = refl;
   none_taken = λ b n. refl;
@@ -109,12 +109,12 @@ quiet_request plan g past request reply frames_from group other rows told unmade
 }) fits
 
 -- and so one that is refused
-pub refused_quiet : (plan : NodePlan) (g : Addr) (past : List Happened) (request : Request) (why : Refusal) (frames_from : ℕ → List (List Item)) (group : Group)
+pub refused_unrelated : (plan : NodePlan) (g : Addr) (past : List Happened) (request : Request) (why : Refusal) (frames_from : ℕ → List (List Item)) (group : Group)
     → is_own plan g past request ≡ false
     → Fits plan.nodes g plan.me.number frames_from (view_of plan g past) (group plan.me.number)
     → Goes plan.nodes g plan.me frames_from (view_of plan g (asking request (Refused why) ∷ past)) group []
-refused_quiet plan g past request why frames_from group other fits =
-    quiet_request plan g past request (Refused why) frames_from group other (added_refused request why) (asked_untold g plan.me (noticed_in plan past) request why (told_of plan g past)) (refused_makes g request why) fits
+refused_unrelated plan g past request why frames_from group other fits =
+    unrelated_request plan g past request (Refused why) frames_from group other (added_refused request why) (asked_untold g plan.me (noticed_in plan past) request why (told_of plan g past)) (refused_makes g request why) fits
 
 -- A command.
 

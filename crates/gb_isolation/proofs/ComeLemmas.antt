@@ -4,6 +4,7 @@ use Rattle.std.specs.Prelude.{All, if◌then◌else◌}
 use Rattle.std.proofs.lemmas.Bool.{cases_eq, cases_lt, eq-eqb, ne_eqb}
 use Rattle.std.proofs.lemmas.Bool.Decides.{nat_tests}
 use Rattle.std.proofs.lemmas.List.Elements.{All-head, All-tail}
+use Rattle.gb_types.proofs.BoolLemmas.{or_off}
 use Rattle.gb_types.specs.declared.address.Addr.{Addr}
 use Rattle.gb_types.specs.declared.entry.Entry.{Entry}
 use Rattle.gb_types.specs.declared.limits.TheConstants.{NODES, PAYLOAD}
@@ -19,9 +20,9 @@ use Rattle.gb_rules.specs.Lifetime.{stepped, where_so}
 use Rattle.gb_node.specs.PastGroups.{Told, waiting_of, with_call, unless_falls, came_told}
 use Rattle.gb_isolation.specs.Project.{items_in, items_of, offset, comes}
 use Rattle.gb_isolation.proofs.View.{View, MemberIs, AreMarked, KeepsAcks, Fits, Goes, said_of, acknowledged_of}
-use Rattle.gb_isolation.proofs.GoesLemmas.{after_there, after_elsewhere, eqb_apart_back}
+use Rattle.gb_isolation.proofs.GoesLemmas.{after_there, after_elsewhere}
 use Rattle.gb_isolation.proofs.MemberLemmas.{KeepsRest, same_member, told-came, put-item_came, item_came-rest, item_came-noticed}
-use Rattle.gb_isolation.proofs.MarkLemmas.{is_between, or_off, offset_next, offset_all, item_there, marks_added, marks_same}
+use Rattle.gb_isolation.proofs.MarkLemmas.{is_between, offset_next, offset_all, item_there, marks_added, marks_same}
 use Rattle.gb_isolation.proofs.DoneLemmas.{IsFit, spec_in, inside_too}
 
 -- What the past tells.
@@ -273,7 +274,7 @@ module _ (nodes : ℕ) (g : Addr) (a s : NodeId) (frames_from : ℕ → List (Li
   come_there : (b : ℕ) → b < nodes → ((b ≡ s.number) ⊎ (b ≡ s.number → ⊥)) → AreMarked g (frames_from b) (later.taken b) ((next a.number).come b)
   come_there b in_b (inl is) = subst (λ z. AreMarked g (frames_from z) (later.taken z) ((next a.number).come z)) (sym is) come_here
   come_there b in_b (inr other) =
-      let off : nat_eq s.number b ≡ false = eqb_apart_back b s.number other in
+      let off : nat_eq s.number b ≡ false = ne_eqb s.number b (λ e. other (sym e)) in
       marks_same g (frames_from b) (v.taken b) (later.taken b) ((group a.number).come b) ((next a.number).come b) (coming.elsewhere b other)
       (λ m some. ap (λ t. (t && nat_eq (n + 1) m) || v.taken b m) off) (fits.come b in_b)
 

@@ -9,6 +9,7 @@ use Rattle.std.proofs.lemmas.List.{append-nil, take_all}
 use Rattle.std.proofs.lemmas.List.Elements.{All-nil, All-cons, All-head, All-tail}
 use Rattle.std.proofs.lemmas.List.Sums.{fold-append}
 use Rattle.std.proofs.Math.Bool.{and-false, or-false, or_assoc}
+use Rattle.gb_types.proofs.BoolLemmas.{or_off}
 use Rattle.gb_types.specs.Entry.{message_of}
 use Rattle.gb_types.specs.declared.address.Addr.{Addr}
 use Rattle.gb_types.specs.declared.entry.Entry.{Entry}
@@ -28,9 +29,9 @@ use Rattle.gb_node.specs.Past.{numbered}
 use Rattle.gb_node.specs.PastGroups.{Told, waiting_of, items_freed, finished_by, done_told}
 use Rattle.gb_isolation.specs.Project.{items_in, items_of, offset, acknowledged, all_acknowledged}
 use Rattle.gb_isolation.proofs.View.{View, MemberIs, AreMarked, KeepsAcks, IsInside, Fits, Goes, said_of, acknowledged_of}
-use Rattle.gb_isolation.proofs.GoesLemmas.{legal-append, after_there, after_elsewhere, eqb_apart_back}
+use Rattle.gb_isolation.proofs.GoesLemmas.{legal-append, after_there, after_elsewhere}
 use Rattle.gb_isolation.proofs.MemberLemmas.{same_member}
-use Rattle.gb_isolation.proofs.MarkLemmas.{Found, is_between, is_in, in_above, in_frame, in_beyond, in_found, or_off, or_and_off, offset_all, marks_same}
+use Rattle.gb_isolation.proofs.MarkLemmas.{Found, is_between, is_in, in_above, in_frame, in_beyond, in_found, or_and_off, offset_all, marks_same}
 
 -- Items that groups put out.
 
@@ -501,7 +502,7 @@ module _ (nodes : ℕ) (g : Addr) (a s : NodeId) (frames_from : ℕ → List (Li
   done_there : (b : ℕ) → b < nodes → ((b ≡ s.number) ⊎ (b ≡ s.number → ⊥)) → AreMarked g (v.frames b) (later.acked b) ((mid a.number).done b)
   done_there b in_b (inl is) = subst (λ z. AreMarked g (v.frames z) (later.acked z) ((mid a.number).done z)) (sym is) done_here
   done_there b in_b (inr other) =
-      let off : nat_eq s.number b ≡ false = eqb_apart_back b s.number other in
+      let off : nat_eq s.number b ≡ false = ne_eqb s.number b (λ e. other (sym e)) in
       marks_same g (v.frames b) (v.acked b) (later.acked b) ((group a.number).done b) ((mid a.number).done b) (acked.elsewhere b other)
       (λ n some. ap (λ t. v.acked b n || (nat_le n (length (v.frames b)) && (t && covered n))) off ∙ or_and_off (v.acked b n) (nat_le n (length (v.frames b)))) (fits.done b in_b)
 

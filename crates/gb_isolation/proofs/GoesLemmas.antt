@@ -1,8 +1,6 @@
 -- How a group goes on alone.
-use Rattle.std.proofs.Common.{◌≡◌, ◌≢◌, ℕ, List, [], ◌∷◌, ◌++◌, false, refl, sym, ap, ◌∙◌, subst, arith}
-use Rattle.std.specs.Prelude.{nat_eq}
+use Rattle.std.proofs.Common.{◌≡◌, ◌≢◌, ℕ, List, [], ◌∷◌, ◌++◌, refl, sym, ap, ◌∙◌, subst}
 use Rattle.std.proofs.lemmas.Bool.{eq-eqb, ne_eqb}
-use Rattle.std.proofs.lemmas.Bool.Decides.{nat_tests}
 use Rattle.std.proofs.lemmas.List.Sums.{fold-append}
 use Rattle.gb_types.specs.declared.address.Addr.{Addr}
 use Rattle.gb_types.specs.declared.node.NodeId.{NodeId}
@@ -15,9 +13,6 @@ use Rattle.gb_isolation.proofs.View.{View, Fits, Goes}
 pub legal-append : (nodes number : ℕ) (group : Group) (xs ys : List GroupStep) → IsLegalFrom nodes number group xs → IsLegalFrom nodes number (alone_from nodes number group xs) ys → IsLegalFrom nodes number group (xs ++ ys)
 legal-append nodes number group [] ys first later = later
 legal-append nodes number group (x ∷ xs) ys first later = (first.0, legal-append nodes number (after nodes number group x) xs ys first.1 later)
-
-pub eqb_apart_back : (x a : ℕ) → x ≢ a → nat_eq a x ≡ false
-eqb_apart_back x a other = grind (arith, nat_tests)
 
 pub after_there : (nodes number : ℕ) (group : Group) (a : NodeId) (e : GroupEvent) → after nodes number group (record { node = a; event = e }) a.number ≡ member_after nodes number a e group
 unfolding after

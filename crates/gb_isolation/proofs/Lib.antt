@@ -9,7 +9,7 @@ pub mod PastLemmas
 pub mod PackLemmas
 pub mod TickLemmas
 pub mod ShortLemmas
-pub mod QuietLemmas
+pub mod UnrelatedLemmas
 pub mod NextLemmas
 pub mod AskLemmas
 pub mod FinishedLemmas

@@ -5,6 +5,7 @@ use Rattle.std.proofs.lemmas.Bool.{cases_Bool, cases_lt, and_parts, and_right, o
 use Rattle.std.proofs.lemmas.Bool.Decides.{nat_tests}
 use Rattle.std.proofs.Math.Seq.{take-append-add}
 use Rattle.std.proofs.lemmas.List.{append-nil, append_assoc, take-append-le}
+use Rattle.gb_types.proofs.BoolLemmas.{or_off}
 use Rattle.gb_types.specs.declared.address.Addr.{Addr}
 use Rattle.gb_types.specs.declared.entry.Entry.{Entry}
 use Rattle.gb_frame.specs.declared.item.Item.{Item}
@@ -73,11 +74,6 @@ is_between low high place = nat_lt low place && nat_le place high
 abbrev pub is_in : Addr → (ℕ → Bool) → ℕ → ℕ → List (List Item) → ℕ → Bool
 is_in g new n before [] place = false
 is_in g new n before (f ∷ fs) place = (new n && is_between before (before + length (items_in g f)) place) || is_in g new (n + 1) (before + length (items_in g f)) fs place
-
--- where the first test fails the second decides
-pub or_off : (b c : Bool) → b ≡ false → (b || c) ≡ c
-or_off true c is = absurd (cc)
-or_off false c is = refl
 
 pub or_and_off : (x y : Bool) → (x || (y && false)) ≡ x
 or_and_off true y = refl

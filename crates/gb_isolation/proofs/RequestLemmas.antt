@@ -30,7 +30,7 @@ use Rattle.gb_node.specs.declared.answer.NodeAnswer.TheVariants.{Reply as Replie
 use Rattle.gb_node.specs.declared.event.NodeEvent.TheVariants.{Request as Asked}
 use Rattle.gb_node.specs.declared.plan.NodePlan.{NodePlan}
 use Rattle.gb_isolation.specs.Project.{asked, is_met, is_named, is_own, is_starved_by, items_of, made_by, made_with, own_requested, replies_in, requested, tenant_given}
-use Rattle.gb_isolation.proofs.AskLemmas.{asking, quiet_request, refused_quiet, view_asked}
+use Rattle.gb_isolation.proofs.AskLemmas.{asking, unrelated_request, refused_unrelated, view_asked}
 use Rattle.gb_isolation.proofs.CommandLemmas.{AskedGoes, at_open, at_shut, at_drop, at_say, at_fetch}
 use Rattle.gb_isolation.proofs.GoesLemmas.{goes_none, goes_one}
 use Rattle.gb_isolation.proofs.MakeLemmas.{at_make}
@@ -78,8 +78,8 @@ module _ (plan : NodePlan) (g : Addr) (past : List Happened) (frames_from : ℕ 
   -- Requests that make nothing of the group.
 
   -- what is given then
-  given_quiet : (request : Request) (reply : Reply) → is_stopped past ≡ false → is_own plan g past request ≡ false → tenant_given g plan.me request reply ≡ [] → asked plan g past request reply ≡ []
-  given_quiet request reply running other none = by ∙ (ap (λ b. tenant_given g plan.me request reply ++ (if b then own_requested plan g past request reply else [])) other ∙ ap (λ es. es ++ []) none)
+  given_unrelated : (request : Request) (reply : Reply) → is_stopped past ≡ false → is_own plan g past request ≡ false → tenant_given g plan.me request reply ≡ [] → asked plan g past request reply ≡ []
+  given_unrelated request reply running other none = by ∙ (ap (λ b. tenant_given g plan.me request reply ++ (if b then own_requested plan g past request reply else [])) other ∙ ap (λ es. es ++ []) none)
     where
       by : asked plan g past request reply ≡ requested plan g past request reply
       by = rw running refl
@@ -91,13 +91,13 @@ module _ (plan : NodePlan) (g : Addr) (past : List Happened) (frames_from : ℕ 
       → tenant_given g plan.me request reply ≡ []
       → FitsBefore → AskedGoes plan g past request reply frames_from group
   passes request reply running other rows told unmade none fits =
-      subst (λ es. Goes plan.nodes g plan.me frames_from (view_of plan g (asking request reply ∷ past)) group es) (sym (given_quiet request reply running other none))
-      (quiet_request plan g past request reply frames_from group other rows told unmade fits)
+      subst (λ es. Goes plan.nodes g plan.me frames_from (view_of plan g (asking request reply ∷ past)) group es) (sym (given_unrelated request reply running other none))
+      (unrelated_request plan g past request reply frames_from group other rows told unmade fits)
 
   refusal_passes : (request : Request) (why : Refusal) → is_stopped past ≡ false → is_own plan g past request ≡ false → FitsBefore → AskedGoes plan g past request (Refused why) frames_from group
   refusal_passes request why running other fits =
-      subst (λ es. Goes plan.nodes g plan.me frames_from (view_of plan g (asking request (Refused why) ∷ past)) group es) (sym (given_quiet request (Refused why) running other (none request)))
-      (refused_quiet plan g past request why frames_from group other fits)
+      subst (λ es. Goes plan.nodes g plan.me frames_from (view_of plan g (asking request (Refused why) ∷ past)) group es) (sym (given_unrelated request (Refused why) running other (none request)))
+      (refused_unrelated plan g past request why frames_from group other fits)
     where
       none : (request : Request) → tenant_given g plan.me request (Refused why) ≡ []
       none (AddTenant token row) = refl

@@ -49,7 +49,7 @@ use Rattle.gb_isolation.proofs.PastLemmas.{running_unmet}
 use Rattle.gb_types.specs.declared.request.Request.{Request}
 use Rattle.gb_types.specs.declared.request.Request.TheVariants.{AddTenant, Make}
 use Rattle.gb_types.proofs.BoolLemmas.{not_true}
-use Rattle.gb_isolation.proofs.QuietLemmas.{quiet_goes}
+use Rattle.gb_isolation.proofs.UnrelatedLemmas.{unrelated_goes}
 use Rattle.gb_isolation.proofs.TickLemmas.{ticked_goes}
 
 -- more frames from other nodes, where the marks of those before are the marks of all
@@ -170,7 +170,7 @@ module _ (laws : Laws) (plan : Plan) (g : Addr) (run : List Did) (before : Clust
 
       whole : is_first good.frame ≡ true → slice_get (frames_to plan.cluster_key a.number (past_at (node_numbered answered.content.from) run)) (answered.content.frame - 1) ≡ Some answered.content.items
       whole first = ((laws.links.whole plan (record { node = a; event = Brought bytes; answer = Taken (TakenGood good) } ∷ run) v goes).0 answered.content (ap (λ t. if t then read plan.cluster_key bytes else []) first ∙ answered.text_is)).2
-  step_goes a (Asked request) x v within goes answered fed = quiet_goes (node_plan plan a) g (past_at a run) (Asked request) x (frames_for plan run a) group (record {
+  step_goes a (Asked request) x v within goes answered fed = unrelated_goes (node_plan plan a) g (past_at a run) (Asked request) x (frames_for plan run a) group (record {
     packed = λ b. refl;
     none_came = refl;
     none_taken = λ b n. refl;
@@ -181,7 +181,7 @@ module _ (laws : Laws) (plan : Plan) (g : Addr) (run : List Did) (before : Clust
     no_reply = refl;
     unmet = refl;
   }) (was.fits a within)
-  step_goes a e x v within goes answered fed = quiet_goes (node_plan plan a) g (past_at a run) e x (frames_for plan run a) group (record {
+  step_goes a e x v within goes answered fed = unrelated_goes (node_plan plan a) g (past_at a run) e x (frames_for plan run a) group (record {
     packed = λ b. refl;
     none_came = refl;
     none_taken = λ b n. refl;
@@ -253,7 +253,7 @@ module _ (laws : Laws) (plan : Plan) (g : Addr) (run : List Did) (before : Clust
       elsewhere : (b : NodeId) → b.number < plan.nodes → a.number ≢ b.number → Fits plan.nodes g b.number (frames_for plan (d ∷ run) b) (view_at plan g (d ∷ run) b) (later b.number)
       elsewhere b inside other =
           subst (λ hs. Fits plan.nodes g b.number (frames_for plan (d ∷ run) b) (view_of (node_plan plan b) g hs) (later b.number)) (sym (past_other b d run other))
-          (subst (Fits plan.nodes g b.number (frames_for plan (d ∷ run) b) (view_at plan g run b)) (sym (happens.elsewhere b.number (λ same. other (sym same))))
+          (subst (Fits plan.nodes g b.number (frames_for plan (d ∷ run) b) (view_at plan g run b)) (sym (happens.elsewhere b.number (λ e. other (sym e))))
           (fits_frames plan.nodes g b.number (frames_for plan run b) (frames_for plan (d ∷ run) b) (view_at plan g run b) (group b.number)
           (λ y in_y marked. subst (λ fs. AreMarked g fs ((view_at plan g run b).taken y) ((group b.number).come y)) (sym (frames_later b y))
           (marks_more g (frames_for plan run b y) (if nat_eq a.number (node_numbered y).number then packed_for plan.cluster_key b.number e x else []) ((view_at plan g run b).taken y) ((group b.number).come y) (untaken y in_y) marked))

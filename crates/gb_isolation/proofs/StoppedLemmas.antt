@@ -19,7 +19,7 @@ use Rattle.gb_node.specs.StepLaw.{is_admitted_by}
 use Rattle.gb_node.specs.declared.plan.NodePlan.{NodePlan}
 use Rattle.gb_isolation.specs.Project.{is_named, is_own, is_met, command_for, with_stop, asked, made_with, or_else, replies_in}
 use Rattle.gb_node.proofs.EventLemmas.{added_refused, asked_untold}
-use Rattle.gb_isolation.proofs.AskLemmas.{asking, view_asked, rows_kept, refused_makes, refused_quiet}
+use Rattle.gb_isolation.proofs.AskLemmas.{asking, view_asked, rows_kept, refused_makes, refused_unrelated}
 use Rattle.gb_isolation.proofs.GoesLemmas.{goes_one, goes_on}
 use Rattle.gb_isolation.proofs.MemberLemmas.{same_member}
 use Rattle.gb_isolation.proofs.View.{View, view_of, Fits, Goes}
@@ -116,7 +116,7 @@ module _ (plan : NodePlan) (g : Addr) (past : List Happened) (request : Request)
   stopped_other : is_stopped past ≡ true → is_own plan g past request ≡ false → Fits plan.nodes g plan.me.number frames_from (view_of plan g past) (group plan.me.number) → StoppedGoes
   stopped_other stopped other fits =
       subst (λ es. Goes plan.nodes g plan.me frames_from (view_of plan g (asking request refused ∷ past)) group es) (sym (given_stopped stopped false other))
-      (refused_quiet plan g past request Stopped frames_from group other fits)
+      (refused_unrelated plan g past request Stopped frames_from group other fits)
 
   -- the group's own request
   stopped_own : is_stopped past ≡ true → is_own plan g past request ≡ true → is_named g request ≡ true → Fits plan.nodes g plan.me.number frames_from (view_of plan g past) (group plan.me.number) → StoppedGoes

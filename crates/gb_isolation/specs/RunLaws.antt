@@ -54,7 +54,7 @@ accepted_there plan g run s = accepted_in_past (node_plan plan (node_numbered s)
 
 -- what a law of groups says of each group of which no request was refused for want of memory, in every run of every cluster
 abbrev pub OfGroupsInRuns : (Plan → List Did → ClusterValue → Addr → Type 0) → Type 0
-OfGroupsInRuns Holds = (plan : Plan) (run : List Did) (v : ClusterValue) → ComesTo plan run v → (g : Addr) → is_fed plan g run ≡ true → Holds plan run v g
+OfGroupsInRuns Property = (plan : Plan) (run : List Did) (v : ClusterValue) → ComesTo plan run v → (g : Addr) → is_fed plan g run ≡ true → Property plan run v g
 
 -- Integrity: the log seen at each node keeps it, and each item seen between two nodes was accepted at its origin.
 pub record RunIntegrity (plan : Plan) (run : List Did) (v : ClusterValue) (g : Addr) : Type 0 where

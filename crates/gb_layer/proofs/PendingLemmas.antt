@@ -16,7 +16,7 @@ use Rattle.gb_layer.specs.Places.{IsAmong, StandsAmong}
 use Rattle.gb_layer.specs.Rule.{Nodes, Rules}
 use Rattle.gb_layer.specs.Relay.{State, is_for, new_entry, noted, held, sent_entry, given_entry, marked_sent, handed, due_to_relay, due_to_deliver, wants_relay, due_message, relay_any, relay_any_sends, relay_from, relay_from_sends}
 use Rattle.gb_layer.specs.Pending.{is_pending}
-use Rattle.gb_layer.specs.TableLemmas.{not_held}
+use Rattle.gb_layer.proofs.TableLemmas.{not_held}
 use Rattle.gb_layer.proofs.PlacesLemmas.{get_map, pushed, among_weaker, among_map, fails_elsewhere}
 
 -- one entry more, which does not pass

@@ -24,5 +24,4 @@ pub mod RelayOnceLemmas
 pub mod FirstMentionLemmas
 pub mod EntryListLemmas
 pub mod PigeonholeLemmas
-pub mod TableLemmas
 pub mod WholeLemmas

@@ -1,8 +1,8 @@
 -- A run of a relay, told by the run of the layer below.
-use Rattle.std.proofs.Common.{◌≡◌, ◌≢◌, ℕ, ◌+◌, Bool, true, false, cond, ◌&&◌, ◌||◌, nat_eq, List, [], ◌∷◌, ◌++◌, length, map, filter, slice_get, refl, ap, ◌∙◌, sym, arith, subst, zero, suc, append_assoc}
+use Rattle.std.proofs.Common.{◌≡◌, ◌≢◌, ℕ, ◌+◌, Bool, true, false, cond, ◌&&◌, ◌||◌, nat_eq, List, [], ◌∷◌, ◌++◌, length, map, filter, slice_get, refl, ap, ◌∙◌, sym, subst, zero, suc, append_assoc}
 use Rattle.std.specs.declared.option.Option.{Option}
 use Rattle.std.specs.declared.option.Option.TheVariants.{None, Some}
-use Rattle.std.proofs.lemmas.Bool.Decides.{nat_tests}
+use Rattle.std.proofs.lemmas.Bool.{and_left, ne_eqb}
 use Rattle.std.proofs.lemmas.List.{append-nil}
 use Rattle.gb_types.specs.declared.node.NodeId.{NodeId}
 use Rattle.gb_types.specs.declared.message.MsgId.{MsgId}
@@ -14,20 +14,11 @@ use Rattle.gb_layer.specs.Machine.{Gives, nothing, after, all_sends, mentions, w
 use Rattle.gb_layer.specs.Modules.{first_mentions}
 use Rattle.gb_layer.specs.FirstMentionLemmas.{first_mentions-once}
 use Rattle.gb_layer.specs.EntryListLemmas.{has_mentioned}
-use Rattle.gb_types.proofs.BoolLemmas.{first_not, or_more, or_second}
+use Rattle.gb_types.proofs.BoolLemmas.{first_not, or_more, or_off, or_second}
 use Rattle.gb_layer.specs.declared.entries.Entry.{Entry}
 use Rattle.gb_layer.specs.Rule.{Rules}
 use Rattle.gb_layer.specs.Relay.{State, noted, marked_sent, is_sent, noting, is_repeat, relay, relay_sends, begun, begun_sends, wants_relay, wants_delivery, due_message, relay_any, relay_any_sends, relay_from, relay_from_sends, given, given_ups, relayed, relayed_sends, relay_next, relay_gives}
 use Rattle.gb_layer.specs.EntryLemmas.{keys, keys_taken_in, keys_marked, keys_handed, keys_noted, sent_taken_in, sent_handed, sent_noted, sent_marked, unsent_at, any_at, sent_has}
-
-or_false : (a b : Bool) → a ≡ false → (a || b) ≡ b
-or_false a b h = ap (λ v. v || b) h
-
-and_left : (a b : Bool) → a ≡ false → (a && b) ≡ false
-and_left a b h = ap (λ v. v && b) h
-
-not_equal : (a b : ℕ) → b ≢ a → nat_eq a b ≡ false
-not_equal a b h = grind (arith, nat_tests)
 
 -- after the history past of a relay that began over s0, its state is r and xs was sent
 pub record Trace {S : Type 0} (next : S → Call → S) (gives : S → Call → Gives) (node : ℕ) (s0 : S) (past : List Call) (r : State S) (xs : List MsgId) : Type 0 where
@@ -67,7 +58,7 @@ module _ {S : Type 0} (next : S → Call → S) (gives : S → Call → Gives) (
         sends = more_sends r (Say m) t.calls xs t.lower t.sends;
         entries = keys_taken_in k us es ∙ (keys_marked m r.entries ∙ t.entries);
         said = λ x. ap (λ b. same m x || b) (t.said x) ∙ sym (sent_taken_in k us es x ∙ sent_marked r.entries m x (has_mentioned (λ e. e.m) past r.entries m t.entries ∙ here));
-        pairs = λ p x ne. or_false _ _ (and_left (nat_eq node p) (same m x) (not_equal node p ne)) ∙ t.pairs p x ne;
+        pairs = λ p x ne. or_off _ _ (and_left (nat_eq node p) (same m x) (ne_eqb node p (λ e. ne (sym e)))) ∙ t.pairs p x ne;
         known = λ x h. mentioned_more m x past (mentions t.calls x) here (t.known x) h;
         fair = λ f. (t.said m ∙ fresh, t.fair f);
       }
@@ -117,7 +108,7 @@ module _ {S : Type 0} (next : S → Call → S) (gives : S → Call → Gives) (
       }
 
   said_pair : (past : List Call) (m : MsgId) (p : ℕ) (x : MsgId) → p ≢ node → came_from node (Say m ∷ past) p x ≡ came_from node past p x
-  said_pair past m p x ne = or_false _ _ (and_left (nat_eq node p) (same m x) (not_equal node p ne))
+  said_pair past m p x ne = or_off _ _ (and_left (nat_eq node p) (same m x) (ne_eqb node p (λ e. ne (sym e))))
 
   -- the call itself
   trace_begun : (past : List Call) (r : State S) (xs : List MsgId) (c : Call) → T past r xs → T (c ∷ past) (begun next gives me r c) (xs ++ begun_sends next gives me r c)

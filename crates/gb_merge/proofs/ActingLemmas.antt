@@ -18,7 +18,7 @@ use Rattle.gb_node.specs.Past.{packet_in, read}
 use Rattle.gb_node.specs.PastLaw.{IsOfPast, PastsSay}
 use Rattle.gb_node.specs.declared.answer.NodeAnswer.{NodeAnswer}
 use Rattle.gb_node.specs.declared.answer.NodeAnswer.TheVariants.{Reply, Taken, Sent, Ticked, Halted}
-use Rattle.gb_node.specs.declared.answer.Sent.TheVariants.{Packet as Gave, Nothing, Refused as Unsent}
+use Rattle.gb_node.specs.declared.answer.Sent.TheVariants.{Packet as SentPacket, Nothing, Refused as Unsent}
 use Rattle.gb_node.specs.declared.event.NodeEvent.{NodeEvent}
 use Rattle.gb_node.specs.declared.event.NodeEvent.TheVariants.{Request as Asked, Packet as Came, Pack, Again, Ack, Tick, Stop}
 use Rattle.gb_node.specs.SendLaw.{SendersRun, StarvedSays}
@@ -33,7 +33,7 @@ use Rattle.gb_cluster.specs.declared.event.Event.{Event}
 use Rattle.gb_types.specs.declared.plan.Plan.{Plan}
 use Rattle.gb_cluster.specs.declared.posted.Posted.{Posted}
 use Rattle.gb_cluster.proofs.NodesLemmas.{have_pasts}
-use Rattle.gb_cluster.proofs.CodeLemmas.{get_contains}
+use Rattle.gb_cluster.proofs.CodeLemmas.{numbered_contains}
 use Rattle.gb_merge.specs.Interleaving.{is_good, sent_by, text_numbered, IsEventOf}
 use Rattle.gb_merge.specs.Merged.{told, is_starved}
 use Rattle.gb_merge.specs.Faults.{node_answer, node_after}
@@ -61,10 +61,6 @@ text_got (q ∷ packets) (suc k) bytes at = text_got packets k bytes at
 has_text : (packets : List Posted) (k : ℕ) (bytes : List ℕ) → text_numbered (texts packets) k ≡ Some bytes → HasText packets k bytes
 has_text packets zero bytes at = absurd (cc)
 has_text packets (suc k) bytes at = let got = text_got packets k bytes at in record { packet = got.0; there = got.1; text = got.2 }
-
-numbered_contains : (packets : List Posted) (k : ℕ) (p : Posted) → packet_numbered packets k ≡ Some p → Contains packets p
-numbered_contains packets zero p e = absurd (cc)
-numbered_contains packets (suc k) p e = get_contains packets k p e
 
 -- Packets for a node.
 
@@ -157,9 +153,9 @@ fed_is packets (AnswerReply reply) g is fed = let same : Reply reply ≡ g = cc 
 fed_is packets (AnswerTaken taken) g is fed = let same : Taken taken ≡ g = cc in ap is_starved (sym same) ∙ fed
 fed_is packets (AnswerSent (SendingPacket k)) g is fed = by (packet_numbered packets k) is
   where
-    by : (o : Option Posted) → option_map (λ (p : Posted). Sent (Gave p.text)) o ≡ Some g → is_starved g ≡ false
+    by : (o : Option Posted) → option_map (λ (p : Posted). Sent (SentPacket p.text)) o ≡ Some g → is_starved g ≡ false
     by None is = absurd (cc)
-    by (Some p) is = let same : Sent (Gave p.text) ≡ g = cc in ap is_starved (sym same)
+    by (Some p) is = let same : Sent (SentPacket p.text) ≡ g = cc in ap is_starved (sym same)
 fed_is packets (AnswerSent SendingNothing) g is fed = let same : Sent Nothing ≡ g = cc in ap is_starved (sym same)
 fed_is packets (AnswerSent (SendingRefused why)) g is fed = let same : Sent (Unsent why) ≡ g = cc in ap is_starved (sym same) ∙ fed
 fed_is packets (AnswerTicked ticked) g is fed = let same : Ticked ticked ≡ g = cc in ap is_starved (sym same) ∙ fed
@@ -180,14 +176,14 @@ refused_posted (Some b) why = refl
 none_posted : (n : NodeEvent) (g : NodeAnswer) → sent_by g ≡ [] → posted n g ≡ []
 none_posted n (Reply reply) none = refl
 none_posted n (Taken taken) none = refl
-none_posted n (Sent (Gave text)) none = absurd (cc)
+none_posted n (Sent (SentPacket text)) none = absurd (cc)
 none_posted n (Sent Nothing) none = nothing_posted (receiver_of n)
 none_posted n (Sent (Unsent why)) none = refused_posted (receiver_of n) why
 none_posted n (Ticked ticked) none = refl
 none_posted n (Halted halted) none = refl
 
 -- a packet goes to some node
-one_posted : SendersRun → (v : NodeValue) (n : NodeEvent) (text : List ℕ) (w : NodeValue) → IsTurn v n (Sent (Gave text)) w → (b : NodeId) × (posted n (Sent (Gave text)) ≡ record { to = b; text = text } ∷ [])
+one_posted : SendersRun → (v : NodeValue) (n : NodeEvent) (text : List ℕ) (w : NodeValue) → IsTurn v n (Sent (SentPacket text)) w → (b : NodeId) × (posted n (Sent (SentPacket text)) ≡ record { to = b; text = text } ∷ [])
 one_posted sends v (Pack b) text w turn = (b, refl)
 one_posted sends v (Again b n) text w turn = (b, refl)
 one_posted sends v (Ack b) text w turn = (b, refl)
@@ -199,7 +195,7 @@ one_posted sends v Stop text w turn = absurd (let is = (sends v Stop text w turn
 pub posted_is : SendersRun → (v : NodeValue) (n : NodeEvent) (g : NodeAnswer) (w : NodeValue) → IsTurn v n g w → texts (posted n g) ≡ sent_by g
 posted_is sends v n (Reply reply) w turn = ap texts (none_posted n (Reply reply) refl)
 posted_is sends v n (Taken taken) w turn = ap texts (none_posted n (Taken taken) refl)
-posted_is sends v n (Sent (Gave text)) w turn = ap texts (one_posted sends v n text w turn).1
+posted_is sends v n (Sent (SentPacket text)) w turn = ap texts (one_posted sends v n text w turn).1
 posted_is sends v n (Sent Nothing) w turn = ap texts (none_posted n (Sent Nothing) refl)
 posted_is sends v n (Sent (Unsent why)) w turn = ap texts (none_posted n (Sent (Unsent why)) refl)
 posted_is sends v n (Ticked ticked) w turn = ap texts (none_posted n (Ticked ticked) refl)
@@ -223,9 +219,9 @@ told_is sends before packets v n (Sent Nothing) w turn is = refl
 told_is sends before packets v n (Sent (Unsent why)) w turn is = refl
 told_is sends before packets v n (Ticked ticked) w turn is = refl
 told_is sends before packets v n (Halted halted) w turn is = refl
-told_is sends before packets v n (Sent (Gave text)) w turn is =
+told_is sends before packets v n (Sent (SentPacket text)) w turn is =
     let one = one_posted sends v n text w turn in
-    ap (option_map (λ (p : Posted). Sent (Gave p.text))) (ap (λ ps. packet_numbered ps (length before + 1)) (is ∙ ap (λ ps. before ++ ps) one.1) ∙ numbered_last before (record { to = one.0; text = text }) (length before + 1) refl)
+    ap (option_map (λ (p : Posted). Sent (SentPacket p.text))) (ap (λ ps. packet_numbered ps (length before + 1)) (is ∙ ap (λ ps. before ++ ps) one.1) ∙ numbered_last before (record { to = one.0; text = text }) (length before + 1) refl)
 
 pub told_own : SendersRun → (w : ClusterValue) (a : NodeId) (n : NodeEvent) (x : Answer) (new : ClusterValue) (d : Acted w a n x new) → told new.packets x ≡ Some d.own
 told_own sends w a n x new d = ap (told new.packets) d.answered ∙ told_is sends w.packets new.packets (node_at w a) n d.own d.acts.node d.acts.turn (ap (λ (v : ClusterValue). v.packets) d.acts.after)

@@ -8,7 +8,7 @@ use Rattle.gb_types.specs.declared.node.NodeId.{NodeId}
 use Rattle.gb_node.specs.NodeStep.{node_numbered}
 use Rattle.gb_node.specs.declared.answer.NodeAnswer.{NodeAnswer}
 use Rattle.gb_node.specs.declared.answer.NodeAnswer.TheVariants.{Reply, Taken, Sent, Ticked, Halted}
-use Rattle.gb_node.specs.declared.answer.Sent.TheVariants.{Packet as Gave, Nothing, Refused as Unsent}
+use Rattle.gb_node.specs.declared.answer.Sent.TheVariants.{Packet as SentPacket, Nothing, Refused as Unsent}
 use Rattle.gb_node.specs.declared.event.NodeEvent.{NodeEvent}
 use Rattle.gb_node.specs.declared.event.NodeEvent.TheVariants.{Request, Packet, Pack, Again, Ack, Tick, Stop}
 use Rattle.gb_node.specs.declared.tape.TapeEntry.{TapeEntry}
@@ -29,8 +29,8 @@ only_one b (Ticked ticked) there = absurd there
 only_one b (Halted halted) there = absurd there
 only_one b (Sent Nothing) there = absurd there
 only_one b (Sent (Unsent why)) there = absurd there
-only_one b (Sent (Gave bytes)) (inl same) = ap (λ (x : List ℕ). x ∷ []) same
-only_one b (Sent (Gave bytes)) (inr there) = absurd there
+only_one b (Sent (SentPacket bytes)) (inl same) = ap (λ (x : List ℕ). x ∷ []) same
+only_one b (Sent (SentPacket bytes)) (inr there) = absurd there
 
 blocked_more : (plan : Plan) (c : NodeId) (sent : List (List ℕ)) (g : NodeAnswer) (x : NodeEvent) → ((bytes : List ℕ) → sent_by g ≡ bytes ∷ [] → x ≡ Packet bytes → ⊥) → IsBlocked plan c sent x → IsBlocked plan c (sent ++ sent_by g) x
 blocked_more plan c sent g (Request request) others blocked = blocked

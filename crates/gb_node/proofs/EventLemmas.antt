@@ -42,7 +42,7 @@ pub record IsStill (key : List ℕ) (e : NodeEvent) (a : NodeAnswer) : Type 0 wh
   pub none_taken : (b n : ℕ) → is_taken_by key b n e a ≡ false
 
 -- and nothing else happens either
-pub record IsQuiet (key : List ℕ) (e : NodeEvent) (a : NodeAnswer) : Type 0 where
+pub record IsNoOp (key : List ℕ) (e : NodeEvent) (a : NodeAnswer) : Type 0 where
   pub still : IsStill key e a
   pub no_tick : ticks e a ≡ []
   pub none_added : added e a ≡ []
@@ -69,9 +69,9 @@ still_moved key e a v w still key_is me nodes places admin_key stopped watch ten
   received = λ b n. ap (λ rs. set.contains (slice_index_or rs b.number set.empty) n) receivers ∙ ap (λ t. t || set.contains (receiver_from v b.number) n) (sym (still.none_taken b.number n));
 }
 
-pub quiet_moved : (key : List ℕ) (e : NodeEvent) (a : NodeAnswer) (v : NodeValue) → IsQuiet key e a → Moved key e a v v
-quiet_moved key e a v quiet =
-    still_moved key e a v v quiet.still refl refl refl refl refl (ap (λ t. t || v.stopped) (sym quiet.no_stop)) (ap (replay v.watch) (sym quiet.no_tick)) (sym (append-nil v.table.tenants) ∙ ap (λ rows. v.table.tenants ++ rows) (sym quiet.none_added)) refl refl
+pub no_op_moved : (key : List ℕ) (e : NodeEvent) (a : NodeAnswer) (v : NodeValue) → IsNoOp key e a → Moved key e a v v
+no_op_moved key e a v no_op =
+    still_moved key e a v v no_op.still refl refl refl refl refl (ap (λ t. t || v.stopped) (sym no_op.no_stop)) (ap (replay v.watch) (sym no_op.no_tick)) (sym (append-nil v.table.tenants) ∙ ap (λ rows. v.table.tenants ++ rows) (sym no_op.none_added)) refl refl
 
 -- a refused request adds no tenant
 pub added_refused : (r : Request) (why : Refusal) → added (Asked r) (Replied (Refused why)) ≡ []
@@ -83,17 +83,17 @@ added_refused (DropGroup token addr) why = refl
 added_refused (Say token addr payload) why = refl
 added_refused (Fetch token addr from most) why = refl
 
-stopped_quiet : (key : List ℕ) (e : NodeEvent) → IsQuiet key e (stopped_answer e)
-stopped_quiet key (Asked r) = record { still = record { none_came = refl; none_packed = λ b. refl; none_taken = λ b n. refl }; no_tick = refl; none_added = added_refused r Stopped; no_stop = refl }
-stopped_quiet key (Came bytes) = record { still = record { none_came = refl; none_packed = λ b. refl; none_taken = λ b n. refl }; no_tick = refl; none_added = refl; no_stop = refl }
-stopped_quiet key (Pack x) = record { still = record { none_came = refl; none_packed = λ b. refl; none_taken = λ b n. refl }; no_tick = refl; none_added = refl; no_stop = refl }
-stopped_quiet key (Again x n) = record { still = record { none_came = refl; none_packed = λ b. refl; none_taken = λ b n. refl }; no_tick = refl; none_added = refl; no_stop = refl }
-stopped_quiet key (Ack x) = record { still = record { none_came = refl; none_packed = λ b. refl; none_taken = λ b n. refl }; no_tick = refl; none_added = refl; no_stop = refl }
-stopped_quiet key Tick = record { still = record { none_came = refl; none_packed = λ b. refl; none_taken = λ b n. refl }; no_tick = refl; none_added = refl; no_stop = refl }
-stopped_quiet key Stop = record { still = record { none_came = refl; none_packed = λ b. refl; none_taken = λ b n. refl }; no_tick = refl; none_added = refl; no_stop = refl }
+stopped_no_op : (key : List ℕ) (e : NodeEvent) → IsNoOp key e (stopped_answer e)
+stopped_no_op key (Asked r) = record { still = record { none_came = refl; none_packed = λ b. refl; none_taken = λ b n. refl }; no_tick = refl; none_added = added_refused r Stopped; no_stop = refl }
+stopped_no_op key (Came bytes) = record { still = record { none_came = refl; none_packed = λ b. refl; none_taken = λ b n. refl }; no_tick = refl; none_added = refl; no_stop = refl }
+stopped_no_op key (Pack x) = record { still = record { none_came = refl; none_packed = λ b. refl; none_taken = λ b n. refl }; no_tick = refl; none_added = refl; no_stop = refl }
+stopped_no_op key (Again x n) = record { still = record { none_came = refl; none_packed = λ b. refl; none_taken = λ b n. refl }; no_tick = refl; none_added = refl; no_stop = refl }
+stopped_no_op key (Ack x) = record { still = record { none_came = refl; none_packed = λ b. refl; none_taken = λ b n. refl }; no_tick = refl; none_added = refl; no_stop = refl }
+stopped_no_op key Tick = record { still = record { none_came = refl; none_packed = λ b. refl; none_taken = λ b n. refl }; no_tick = refl; none_added = refl; no_stop = refl }
+stopped_no_op key Stop = record { still = record { none_came = refl; none_packed = λ b. refl; none_taken = λ b n. refl }; no_tick = refl; none_added = refl; no_stop = refl }
 
 pub stopped_moved : (key : List ℕ) (e : NodeEvent) (v : NodeValue) → Moved key e (stopped_answer e) v v
-stopped_moved key e v = quiet_moved key e (stopped_answer e) v (stopped_quiet key e)
+stopped_moved key e v = no_op_moved key e (stopped_answer e) v (stopped_no_op key e)
 
 added_unsent : (r : Request) → added (Asked r) (Sent (SentRefused OutOfMemory)) ≡ []
 added_unsent (AddTenant token row) = refl
@@ -104,14 +104,14 @@ added_unsent (DropGroup token addr) = refl
 added_unsent (Say token addr payload) = refl
 added_unsent (Fetch token addr from most) = refl
 
-unsent_quiet : (key : List ℕ) (e : NodeEvent) → IsQuiet key e (Sent (SentRefused OutOfMemory))
-unsent_quiet key (Asked r) = record { still = record { none_came = refl; none_packed = λ b. refl; none_taken = λ b n. refl }; no_tick = refl; none_added = added_unsent r; no_stop = refl }
-unsent_quiet key (Came bytes) = record { still = record { none_came = refl; none_packed = λ b. refl; none_taken = λ b n. refl }; no_tick = refl; none_added = refl; no_stop = refl }
-unsent_quiet key (Pack x) = record { still = record { none_came = refl; none_packed = λ b. refl; none_taken = λ b n. refl }; no_tick = refl; none_added = refl; no_stop = refl }
-unsent_quiet key (Again x n) = record { still = record { none_came = refl; none_packed = λ b. refl; none_taken = λ b n. refl }; no_tick = refl; none_added = refl; no_stop = refl }
-unsent_quiet key (Ack x) = record { still = record { none_came = refl; none_packed = λ b. refl; none_taken = λ b n. refl }; no_tick = refl; none_added = refl; no_stop = refl }
-unsent_quiet key Tick = record { still = record { none_came = refl; none_packed = λ b. refl; none_taken = λ b n. refl }; no_tick = refl; none_added = refl; no_stop = refl }
-unsent_quiet key Stop = record { still = record { none_came = refl; none_packed = λ b. refl; none_taken = λ b n. refl }; no_tick = refl; none_added = refl; no_stop = refl }
+unsent_no_op : (key : List ℕ) (e : NodeEvent) → IsNoOp key e (Sent (SentRefused OutOfMemory))
+unsent_no_op key (Asked r) = record { still = record { none_came = refl; none_packed = λ b. refl; none_taken = λ b n. refl }; no_tick = refl; none_added = added_unsent r; no_stop = refl }
+unsent_no_op key (Came bytes) = record { still = record { none_came = refl; none_packed = λ b. refl; none_taken = λ b n. refl }; no_tick = refl; none_added = refl; no_stop = refl }
+unsent_no_op key (Pack x) = record { still = record { none_came = refl; none_packed = λ b. refl; none_taken = λ b n. refl }; no_tick = refl; none_added = refl; no_stop = refl }
+unsent_no_op key (Again x n) = record { still = record { none_came = refl; none_packed = λ b. refl; none_taken = λ b n. refl }; no_tick = refl; none_added = refl; no_stop = refl }
+unsent_no_op key (Ack x) = record { still = record { none_came = refl; none_packed = λ b. refl; none_taken = λ b n. refl }; no_tick = refl; none_added = refl; no_stop = refl }
+unsent_no_op key Tick = record { still = record { none_came = refl; none_packed = λ b. refl; none_taken = λ b n. refl }; no_tick = refl; none_added = refl; no_stop = refl }
+unsent_no_op key Stop = record { still = record { none_came = refl; none_packed = λ b. refl; none_taken = λ b n. refl }; no_tick = refl; none_added = refl; no_stop = refl }
 
 -- want of memory is told as that
 pub starved_says : StarvedSays
@@ -165,17 +165,17 @@ starved_says Stop (Sent (SentRefused why)) answer starved = absurd starved
 starved_says Stop (Ticked should) answer starved = absurd starved
 starved_says Stop (Halted should) answer starved = absurd starved
 
-starved_quiet : (key : List ℕ) (e : NodeEvent) (should answer : NodeAnswer) → IsStarved e should answer → IsQuiet key e answer
-starved_quiet key e should answer starved = by (starved_says e should answer starved)
+starved_no_op : (key : List ℕ) (e : NodeEvent) (should answer : NodeAnswer) → IsStarved e should answer → IsNoOp key e answer
+starved_no_op key e should answer starved = by (starved_says e should answer starved)
   where
-    by : (answer ≡ Sent (SentRefused OutOfMemory)) ⊎ ((r : Request) × (e ≡ Asked r) × (answer ≡ Replied (Refused OutOfMemory))) → IsQuiet key e answer
-    by (inl is) = subst (IsQuiet key e) (sym is) (unsent_quiet key e)
+    by : (answer ≡ Sent (SentRefused OutOfMemory)) ⊎ ((r : Request) × (e ≡ Asked r) × (answer ≡ Replied (Refused OutOfMemory))) → IsNoOp key e answer
+    by (inl is) = subst (IsNoOp key e) (sym is) (unsent_no_op key e)
     by (inr is) =
-        subst (λ x. IsQuiet key x answer) (sym is.1) (subst (IsQuiet key (Asked is.0)) (sym is.2)
+        subst (λ x. IsNoOp key x answer) (sym is.1) (subst (IsNoOp key (Asked is.0)) (sym is.2)
         (record { still = record { none_came = refl; none_packed = λ b. refl; none_taken = λ b n. refl }; no_tick = refl; none_added = added_refused is.0 OutOfMemory; no_stop = refl }))
 
 pub starved_moved : (key : List ℕ) (e : NodeEvent) (should answer : NodeAnswer) (v : NodeValue) → IsStarved e should answer → Moved key e answer v v
-starved_moved key e should answer v starved = quiet_moved key e answer v (starved_quiet key e should answer starved)
+starved_moved key e should answer v starved = no_op_moved key e answer v (starved_no_op key e should answer starved)
 
 -- Requests.
 

@@ -16,7 +16,7 @@ use Rattle.gb_rules.specs.Group.{is_other}
 use Rattle.gb_slot.specs.Slot.{new_slot}
 use Rattle.gb_slot.specs.StandsFor.{StandsFor}
 use Rattle.gb_slot.specs.HistoryLaws.{FreshStands}
-use Rattle.gb_groups.proofs.QuietLemmas.{waiting-new}
+use Rattle.gb_groups.proofs.UnchangedLemmas.{waiting-new}
 use Rattle.gb_node.specs.NodeStep.{node_numbered}
 use Rattle.gb_node.specs.PastGroups.{noticed_members, crashed_onto, told_first}
 use Rattle.gb_node.proofs.SlotGroups.{SlotTold}

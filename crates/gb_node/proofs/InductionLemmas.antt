@@ -40,7 +40,7 @@ use Rattle.gb_node.specs.declared.answer.PacketAnswer.TheVariants.{Fault}
 use Rattle.gb_node.specs.declared.event.NodeEvent.{NodeEvent}
 use Rattle.gb_node.specs.declared.event.NodeEvent.TheVariants.{Request as Asked, Packet as Came, Pack, Again, Ack, Tick, Stop}
 use Rattle.gb_node.proofs.PastLemmas.{Moved, moved_says}
-use Rattle.gb_node.proofs.EventLemmas.{quiet_moved, stopped_moved, starved_moved, asked_moved, stopped_group, starved_group, LeavesGroup}
+use Rattle.gb_node.proofs.EventLemmas.{no_op_moved, stopped_moved, starved_moved, asked_moved, stopped_group, starved_group, LeavesGroup}
 use Rattle.gb_node.proofs.ShownLemmas.{told_shown, told_waiting}
 use Rattle.gb_node.proofs.ToldLemmas.{SlotLaws, asked_stands, taken_stands, packed_stands, noticed_stands}
 use Rattle.gb_node.proofs.GroupLemmas.{waiting_enough, asked_groups, took_groups, packed_groups, ticked_groups, next_items, did_apart, frames_done_apart, frame_comes_apart, notices_apart}
@@ -72,7 +72,7 @@ module _ (law : WhatIsWrittenIsRead) (each : EachGroup) (stay : StayApart) (slot
 
   faulty : (bytes : List ℕ) (fault : PacketFault) → Goes plan past v (Came bytes) (Taken (Fault fault)) v
   faulty bytes fault = record {
-    moved = quiet_moved v.key (Came bytes) (Taken (Fault fault)) v (record { still = record { none_came = refl; none_packed = λ b. refl; none_taken = λ b n. refl }; no_tick = refl; none_added = refl; no_stop = refl });
+    moved = no_op_moved v.key (Came bytes) (Taken (Fault fault)) v (record { still = record { none_came = refl; none_packed = λ b. refl; none_taken = λ b n. refl }; no_tick = refl; none_added = refl; no_stop = refl });
     tables = has;
     groups = λ g. refl;
     apart = ok;
@@ -99,7 +99,7 @@ module _ (law : WhatIsWrittenIsRead) (each : EachGroup) (stay : StayApart) (slot
   pack_goes : (b : NodeId) (o : Option (List Item)) → next_batch v b ≡ o → IsSpelt v (Pack b) (Sent (sent v (option_map (content_to v b (window_to v b.number).next) o)))
       → Goes plan past v (Pack b) (Sent (sent v (option_map (content_to v b (window_to v b.number).next) o))) (sent_batch b o v)
   pack_goes b None is spelt = record {
-    moved = quiet_moved v.key (Pack b) (Sent (sent v None)) v (record { still = record { none_came = refl; none_packed = λ b. refl; none_taken = λ b n. refl }; no_tick = refl; none_added = refl; no_stop = refl });
+    moved = no_op_moved v.key (Pack b) (Sent (sent v None)) v (record { still = record { none_came = refl; none_packed = λ b. refl; none_taken = λ b n. refl }; no_tick = refl; none_added = refl; no_stop = refl });
     tables = has;
     groups = λ g. refl;
     apart = ok;
@@ -130,14 +130,14 @@ module _ (law : WhatIsWrittenIsRead) (each : EachGroup) (stay : StayApart) (slot
   running_goes (Came bytes) spelt = came_goes bytes (reading v.key bytes) refl
   running_goes (Pack b) spelt = pack_goes b (next_batch v b) refl spelt
   running_goes (Again b n) spelt = record {
-    moved = quiet_moved v.key (Again b n) (Sent (sent v (again_content v b n))) v (record { still = record { none_came = refl; none_packed = λ b. refl; none_taken = λ b n. refl }; no_tick = refl; none_added = refl; no_stop = refl });
+    moved = no_op_moved v.key (Again b n) (Sent (sent v (again_content v b n))) v (record { still = record { none_came = refl; none_packed = λ b. refl; none_taken = λ b n. refl }; no_tick = refl; none_added = refl; no_stop = refl });
     tables = has;
     groups = λ g. refl;
     apart = ok;
     told = was.told;
   }
   running_goes (Ack b) spelt = record {
-    moved = quiet_moved v.key (Ack b) (Sent (sent v (ack_content v b))) v (record { still = record { none_came = refl; none_packed = λ b. refl; none_taken = λ b n. refl }; no_tick = refl; none_added = refl; no_stop = refl });
+    moved = no_op_moved v.key (Ack b) (Sent (sent v (ack_content v b))) v (record { still = record { none_came = refl; none_packed = λ b. refl; none_taken = λ b n. refl }; no_tick = refl; none_added = refl; no_stop = refl });
     tables = has;
     groups = λ g. refl;
     apart = ok;

@@ -43,7 +43,7 @@ use Rattle.gb_node.specs.Past.{Happened, is_first}
 use Rattle.gb_node.specs.PastGroups.{Told, with_call, moved_to, cut_off, took_from, finished_by, told_first, asked_told, done_told, unless_falls, came_told, taken_told, if_other, noticed_told, freed_by, items_freed}
 use Rattle.gb_node.proofs.SlotGroups.{asked_for, done_for, taken_for, noticed_for, AcksAgree, SlotTold, IsTold}
 use Rattle.gb_node.proofs.FreshLemmas.{made_told}
-use Rattle.gb_node.proofs.WaitsLemmas.{waits_told, waits_noticed, own_quiet, other_quiet}
+use Rattle.gb_node.proofs.WaitsLemmas.{waits_told, waits_noticed, own_unnoticed, other_unnoticed}
 use Rattle.gb_node.proofs.AcknowledgedLemmas.{acks_said, acks_done}
 use Rattle.gb_node.specs.StepLaw.{group_answer}
 use Rattle.gb_node.specs.declared.answer.Frame.{Frame}
@@ -145,7 +145,7 @@ said_told law me s t payload seq is h = record {
   here = h.here;
   phase = h.phase;
   stands = subst (λ (x : Entry). StandsFor (slot_said payload (Said seq) s) (Own x ∷ t.calls)) entry (law.said s t.calls payload h.stands);
-  waits = λ b. waits_told me s t (Own next) b (waiting (slot_said payload (Said seq) s) b) h (own_quiet t.calls next b)
+  waits = λ b. waits_told me s t (Own next) b (waiting (slot_said payload (Said seq) s) b) h (own_unnoticed t.calls next b)
       (law.waiting_said s t.calls payload b h.stands ∙ ap (λ (x : Entry). waiting s b ++ (if reaches s b then puts_of s.spec s.me.number (Own x) t.calls else [])) entry);
   acks = subst (λ (n : ℕ). AcksAgree me.number (s.acknowledged ++ set.insert set.empty n ∷ []) t.acknowledged) (sym (ap (λ (x : NodeId). x.number) h.here)) (acks_said me.number s.acknowledged t.acknowledged h.acks);
 }
@@ -228,7 +228,7 @@ module _ (law : SlotLaws) (me from : NodeId) where
             here = kept_me e;
             phase = kept_phase e;
             stands = law.came s t.calls from x h.stands e;
-            waits = λ b. waits_told me s t (Other from x) b (waiting (slot_came from x s) b) h (other_quiet t.calls from x b) (law.waiting_came s t.calls from x b h.stands e);
+            waits = λ b. waits_told me s t (Other from x) b (waiting (slot_came from x s) b) h (other_unnoticed t.calls from x b) (law.waiting_came s t.calls from x b h.stands e);
             acks = subst (λ acks. AcksAgree me.number acks t.acknowledged) (sym (kept_acks e)) h.acks;
           })
         where

@@ -28,10 +28,10 @@ reaches-told me s t b h = (λ i. is_other (h.spec i) (h.here i).number b && not 
 -- what waits grows where the call notices nobody
 pub waits_told : (me : NodeId) (s : SlotState) (t : Told) (c : GroupCall) (b : ℕ) (later : List Entry) → SlotTold me s t → has_noticed (c ∷ t.calls) b ≡ has_noticed t.calls b
     → later ≡ waiting s b ++ (if reaches s b then puts_of s.spec s.me.number c t.calls else []) → later ≡ waits_with me.number c t b
-waits_told me s t c b later h quiet is =
+waits_told me s t c b later h unnoticed is =
     is
     ∙ ((λ i. h.waits b i ++ (if reaches-told me s t b h i then puts_of (h.spec i) (h.here i).number c t.calls else []))
-    ∙ (by (is_other t.spec me.number b && not (has_noticed t.calls b)) ∙ ap (λ n. if is_other t.spec me.number b && not n then t.waiting b ++ outs else t.waiting b) (sym quiet)))
+    ∙ (by (is_other t.spec me.number b && not (has_noticed t.calls b)) ∙ ap (λ n. if is_other t.spec me.number b && not n then t.waiting b ++ outs else t.waiting b) (sym unnoticed)))
   where
     outs : List Entry
     outs = puts_of t.spec me.number c t.calls
@@ -40,13 +40,13 @@ waits_told me s t c b later h quiet is =
     by true = refl
     by false = append-nil (t.waiting b)
 
-pub own_quiet : (calls : List GroupCall) (x : Entry) (b : ℕ) → has_noticed (Own x ∷ calls) b ≡ has_noticed calls b
+pub own_unnoticed : (calls : List GroupCall) (x : Entry) (b : ℕ) → has_noticed (Own x ∷ calls) b ≡ has_noticed calls b
 unfolding calls_of
-own_quiet calls x b = refl
+own_unnoticed calls x b = refl
 
-pub other_quiet : (calls : List GroupCall) (p : NodeId) (x : Entry) (b : ℕ) → has_noticed (Other p x ∷ calls) b ≡ has_noticed calls b
+pub other_unnoticed : (calls : List GroupCall) (p : NodeId) (x : Entry) (b : ℕ) → has_noticed (Other p x ∷ calls) b ≡ has_noticed calls b
 unfolding calls_of
-other_quiet calls p x b = refl
+other_unnoticed calls p x b = refl
 
 -- nothing waits for a node that is noticed
 pub waits_noticed : (me : NodeId) (s : SlotState) (t : Told) (q : NodeId) (b : ℕ) (later : List Entry) → SlotTold me s t
@@ -68,5 +68,5 @@ waits_noticed me s t q b later h is = by (nat_eq b q.number) refl is
         now ∙ (sym (ap (λ r. if is_other t.spec me.number b && not r then none ++ outs else none) noticed ∙ ap (λ r. if r then none ++ outs else none) (and_right (is_other t.spec me.number b) false refl)) ∙ with_cut true at)
     by false at now =
         let turned : nat_eq q.number b ≡ false = grind (arith, nat_tests) in
-        let quiet : has_noticed (Crashed q ∷ t.calls) b ≡ has_noticed t.calls b = rw turned refl in
-        waits_told me s t (Crashed q) b later h quiet now ∙ with_cut false at
+        let unnoticed : has_noticed (Crashed q ∷ t.calls) b ≡ has_noticed t.calls b = rw turned refl in
+        waits_told me s t (Crashed q) b later h unnoticed now ∙ with_cut false at

@@ -11,7 +11,7 @@ pub const TICK: u64 = 64;
 pub const TURN: u64 = 1_000;
 
 /// After so many waits in which no node was asked, a pump rests.
-pub const QUIET: u64 = 1_024;
+pub const IDLE_WAITS: u64 = 1_024;
 
 /// A pump that rests waits so many times before each turn, or until a node is asked.
 pub const REST: u64 = 8;
@@ -29,7 +29,7 @@ pub struct PumpGate<'a, H> {
     counts: bool,
     // How many requests had come when the gate last looked, and how often it has found no more since.
     requests: u64,
-    quiet: u64,
+    idle_waits: u64,
 }
 
 impl<'a, H: Clock> PumpGate<'a, H> {
@@ -39,7 +39,7 @@ impl<'a, H: Clock> PumpGate<'a, H> {
             signals,
             counts,
             requests: signals.requests(),
-            quiet: 0,
+            idle_waits: 0,
         }
     }
 
@@ -47,11 +47,11 @@ impl<'a, H: Clock> PumpGate<'a, H> {
     fn is_woken(&mut self) -> bool {
         let requests = self.signals.requests();
         if requests == self.requests {
-            self.quiet = self.quiet.saturating_add(1);
+            self.idle_waits = self.idle_waits.saturating_add(1);
             return false;
         }
         self.requests = requests;
-        self.quiet = 0;
+        self.idle_waits = 0;
         true
     }
 }
@@ -61,7 +61,11 @@ impl<'a, H: Clock> Gate for PumpGate<'a, H> {
         if self.counts {
             self.signals.count_turn();
         }
-        let waits = if self.quiet < QUIET { 1 } else { REST };
+        let waits = if self.idle_waits < IDLE_WAITS {
+            1
+        } else {
+            REST
+        };
         for _ in 0..waits {
             thread::sleep(self.rt, Duration::from_micros(TURN));
             if self.is_woken() || self.signals.is_over() {

@@ -1,6 +1,6 @@
 -- What an event in a cluster makes happen at its nodes.
-use Rattle.std.proofs.Common.{◌≡◌, ℕ, zero, suc, inl, inr, true, false, Bool, List, [], ◌∷◌, Option, Some, None, refl, sym, subst, ◌∙◌}
-use Rattle.std.specs.Prelude.{Contains, MatchBool}
+use Rattle.std.proofs.Common.{◌≡◌, ℕ, inl, inr, true, false, Bool, List, [], ◌∷◌, Option, Some, None, refl, sym, subst, ◌∙◌}
+use Rattle.std.specs.Prelude.{MatchBool}
 use Rattle.gb_node.specs.declared.event.NodeEvent.TheVariants.{Packet as Came}
 use Rattle.gb_cluster.specs.ClusterStep.{IsAt, IsArrival, IsStep, is_packet_for, packet_numbered}
 use Rattle.gb_cluster.specs.ClusterValue.{ClusterValue, node_at}
@@ -11,15 +11,8 @@ use Rattle.gb_cluster.specs.declared.event.Event.{Event}
 use Rattle.gb_cluster.specs.declared.event.Event.TheVariants.{At, Arrive}
 use Rattle.gb_types.specs.declared.plan.Plan.{Plan}
 use Rattle.gb_cluster.specs.declared.posted.Posted.{Posted}
-use Rattle.gb_cluster.proofs.CodeLemmas.{get_contains}
+use Rattle.gb_cluster.proofs.CodeLemmas.{arrived_was_posted}
 use Rattle.gb_simulate.specs.RunTexts.{RunStep, Happens}
-
-there : (packets : List Posted) (k : ℕ) (p : Posted) → packet_numbered packets k ≡ Some p → Contains packets p
-there packets zero p e = absurd (cc)
-there packets (suc k) p e = get_contains packets k p e
-
-bytes_in : (b c : List ℕ) → Came b ≡ Came c → b ≡ c
-bytes_in b c e = cc
 
 -- a run goes on by a step
 abbrev pub RunsOn : Plan → ClusterValue → RunStep → List Did → ClusterValue → Type 0
@@ -44,5 +37,5 @@ runs_on plan old new earlier (Arrive k) answer step comes = by (packet_numbered 
         let d : Did = record { node = p.to; event = Came p.text; answer = step.0 } in (
           d ∷ earlier,
           inr (d, refl, (p, is, refl, refl), step.2),
-          (old, comes, λ bytes same yes. subst (λ t. Contains old.packets (record { to = p.to; text = t })) (bytes_in p.text bytes same) (there old.packets k p is), step.1),
+          (old, comes, λ bytes same yes. arrived_was_posted old.packets k p bytes is same, step.1),
         )

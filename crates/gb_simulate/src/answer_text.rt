@@ -9,7 +9,7 @@ ghost use Rattle.gb_simulate.specs.AnswerText.{answer_spelling, bad_line, each_a
 use gb_cluster::answer::{Answer, Sending};
 use gb_frame::fault::PacketFault;
 use gb_node::answer::{Frame, Good, Halted, PacketAnswer, Ticked};
-use gb_types::memory::OutOfMemory;
+use gb_types::memory::{OutOfMemory, put_bytes};
 use gb_types::node::NodeSet;
 use gb_types::number::put_number;
 use gb_types::refusal::Refusal;
@@ -91,22 +91,13 @@ fn put_packet(out: &mut Vec<u8>, taken: &PacketAnswer) -> Result<(), OutOfMemory
     }
 }
 
-/// Appends words.
-fn put_words(out: &mut Vec<u8>, words: &[u8]) -> Result<(), OutOfMemory>
-    ensures ok { OnOk result (out.new.items ≡ out.old.items ++ words.now) }
-    ensures err { OnErr result (StartsWith out.new.items out.old.items) }
-{
-    out.extend_from_slice(words)?;
-    Ok(())
-}
-
 /// Appends the line `nothing`, with its line feed at once: many lines are so.
 #[inline(always)]
 fn put_nothing(out: &mut Vec<u8>) -> Result<(), OutOfMemory>
     ensures ok { OnOk result (out.new.items ≡ out.old.items ++ ended (codes "nothing")) }
     ensures err { OnErr result (StartsWith out.new.items out.old.items) }
 {
-    put_words(out, b"nothing\n")
+    put_bytes(out, b"nothing\n")
 }
 
 /// Appends the line `no packet`, as `put_nothing` does.
@@ -115,7 +106,7 @@ fn put_no_packet(out: &mut Vec<u8>) -> Result<(), OutOfMemory>
     ensures ok { OnOk result (out.new.items ≡ out.old.items ++ ended (codes "no packet")) }
     ensures err { OnErr result (StartsWith out.new.items out.old.items) }
 {
-    put_words(out, b"no packet\n")
+    put_bytes(out, b"no packet\n")
 }
 
 /// Appends the line `packet K`, `nothing` or a refusal.
@@ -127,12 +118,12 @@ fn put_sending(out: &mut Vec<u8>, sending: Sending) -> Result<(), OutOfMemory>
         Sending::Packet(number) => {
             out.extend_from_slice(b"packet ")?;
             put_number(out, number)?;
-            put_words(out, b"\n")
+            put_bytes(out, b"\n")
         }
         Sending::Nothing => put_nothing(out),
         Sending::Refused(why) => {
             put_refusal(out, why)?;
-            put_words(out, b"\n")
+            put_bytes(out, b"\n")
         }
     }
 }
@@ -203,9 +194,9 @@ fn put_line(out: &mut Vec<u8>, answer: &Answer) -> Result<(), OutOfMemory>
         Answer::Ticked(ticked) => put_ticked(out, ticked)?,
         Answer::Halted(halted) => put_halted(out, *halted)?,
         Answer::NoPacket => return put_no_packet(out),
-        Answer::NotNoise => put_words(out, b"not noise")?,
+        Answer::NotNoise => put_bytes(out, b"not noise")?,
     }
-    put_words(out, b"\n")
+    put_bytes(out, b"\n")
 }
 
 /// Appends the line of an answer. The two that most lines have are told apart before the others.

@@ -7,12 +7,8 @@ use Rattle.std.proofs.lemmas.Grind.{get_or-set_at}
 use Rattle.gb_types.specs.declared.entry.Entry.{Entry}
 use Rattle.gb_types.specs.declared.limits.TheConstants.{NODES, BYTES}
 use Rattle.gb_history.specs.Messages.{bytes_of}
+use Rattle.gb_history.proofs.MentionLemmas.{bytes_of-append}
 use Rattle.gb_slot.specs.Kept.{AreCounted}
-
--- a message more
-pub bytes_pushed : (origin : ℕ) (xs : List Entry) (x : Entry) → bytes_of origin (xs ++ x ∷ []) ≡ bytes_of origin xs + (if nat_eq x.origin.number origin then length x.payload else 0)
-bytes_pushed origin [] x = omega arith
-bytes_pushed origin (y ∷ xs) x = let rest = bytes_pushed origin xs x in omega (arith, rest)
 
 -- the bytes of a message more are counted as its origin's
 pub counted_pushed : (seen : List ℕ) (entries : List Entry) (x : Entry) (at sum : ℕ) → length seen ≡ NODES → at ≡ x.origin.number → sum ≡ slice_index seen at + length x.payload → sum ≤ BYTES → AreCounted seen entries → AreCounted (set seen at sum) (entries ++ x ∷ [])
@@ -28,4 +24,4 @@ counted_pushed seen entries x at sum len is more few counted origin lt =
           let other : origin ≢ at = λ z. let t : nat_eq x.origin.number origin ≡ true = eq-eqb x.origin.number origin (sym is ∙ sym z) in cc in
           let new : slice_index (set seen at sum) origin ≡ slice_index seen origin = get_or-set_other seen at origin sum 0 other in
           let before = counted origin lt in (omega (arith, new, before.0, grown), omega (arith, before.1, grown))
-    ] refl (bytes_pushed origin entries x)
+    ] refl (bytes_of-append origin entries x)

@@ -13,3 +13,4 @@ pub mod ReachedLemmas
 pub mod SlotLemmas
 pub mod TakenLemmas
 pub mod WindowLemmas
+pub mod SpecLemmas

@@ -28,7 +28,7 @@ use Rattle.gb_stack.proofs.StartLemmas.{untold_me}
 use Rattle.gb_stack.specs.StackLemmas.{stack_sent_once}
 use Rattle.gb_stack.specs.StackState.{StackState, stack_next, stack_gives, stack_me, untold_stack}
 use Rattle.gb_stack.specs.Stands.{HasStarted}
-use Rattle.gb_history.proofs.MentionLemmas.{has-known}
+use Rattle.gb_history.proofs.MentionLemmas.{bytes_of-append, has-known}
 use Rattle.gb_history.specs.declared.call.GroupCall.{GroupCall}
 use Rattle.gb_history.specs.declared.call.GroupCall.TheVariants.{Own, Other, Crashed}
 use Rattle.gb_history.specs.History.{calls_of, delivered}
@@ -39,7 +39,6 @@ use Rattle.gb_slot.specs.Reached.{IsReached, limit_of, most_messages}
 use Rattle.gb_slot.specs.Slot.{new_slot, waiting, own_entry, came_before, falls, slot_called, slot_said, slot_took}
 use Rattle.gb_slot.specs.SlotState.{SlotState}
 use Rattle.gb_slot.specs.StandsFor.{StandsFor}
-use Rattle.gb_slot.proofs.CountedLemmas.{bytes_pushed}
 use Rattle.gb_slot.proofs.FewLemmas.{ids, counted_new, once_new, few_among}
 use Rattle.gb_slot.proofs.HistoryLemmas.{fresh_stands, said_stands, came_stands, noticed_stands, took_stands, own_store}
 use Rattle.gb_slot.proofs.NoticeLemmas.{was_untold}
@@ -87,7 +86,7 @@ bytes_new most es x enough few p =
     elim (has es (message_of x)) as (λ b. has es (message_of x) ≡ b → bytes_of p (if b then es else es ++ x ∷ []) ≤ most) [
       | true ↦ λ _. few p
       | false ↦ λ new.
-          let grown = bytes_pushed p es x in
+          let grown = bytes_of-append p es x in
           let old = few p in
           let here = enough new in
           elim (nat_eq x.origin.number p) as (λ b. nat_eq x.origin.number p ≡ b → bytes_of p (es ++ x ∷ []) ≡ bytes_of p es + (if b then length x.payload else 0) → bytes_of p (es ++ x ∷ []) ≤ most) [

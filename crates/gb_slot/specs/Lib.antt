@@ -8,6 +8,5 @@ pub mod Waiting
 pub mod HistoryLaws
 pub mod Reached
 pub mod Effects
-pub mod SpecLemmas
 pub mod Outgoing
 pub mod Representation

@@ -260,7 +260,7 @@ impl Slot {
         requires ready { AreReady self.old.spec effects.old }
         ensures state { self.new ≡ slot_came from (record { origin = origin; seq = seq; payload = payload.now }) self.old }
         ensures put_out { result ≡ true → WaitsForEach self.new }
-        ensures quiet { result ≡ false → (dest : ℕ) → length (waiting self.new dest) ≡ length (waiting self.old dest) }
+        ensures unchanged { result ≡ false → (dest : ℕ) → length (waiting self.new dest) ≡ length (waiting self.old dest) }
         ensures effects { AreEmptied effects.old effects.new }
     {
         // (the tables cover the members' messages alone)

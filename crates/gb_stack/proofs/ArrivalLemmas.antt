@@ -8,7 +8,7 @@ use Rattle.gb_types.proofs.SameLemmas.{same_itself}
 use Rattle.gb_layer.specs.FirstMentionLemmas.{same_swap}
 use Rattle.gb_layer.specs.BebMachine.{beb_gives}
 use Rattle.gb_layer.specs.Lists.{map_same}
-use Rattle.gb_layer.specs.TableLemmas.{keys_held}
+use Rattle.gb_layer.proofs.TableLemmas.{keys_held}
 use Rattle.gb_layer.specs.EntryLemmas.{keys_marked, sent_noted, sent_has}
 use Rattle.gb_layer.specs.declared.call.Call.{Call}
 use Rattle.gb_layer.specs.declared.call.Call.TheVariants.{Say, Came}
@@ -18,10 +18,10 @@ use Rattle.gb_layer.specs.Rule.{Nodes, Rules}
 use Rattle.gb_layer.specs.Relay.{State, is_for, is_sent, noted, new_entry, held_entry, sent_entry, held, marked_sent, due_to_relay, due_to_deliver}
 use Rattle.gb_layer.specs.Relay as relay
 use Rattle.gb_records.proofs.PlaceLemmas.{at_all}
-use Rattle.gb_stack.specs.Settled.{passed_on, settled, AreQuiet}
+use Rattle.gb_stack.specs.Settled.{passed_on, settled, AreQuiescent}
 use Rattle.gb_stack.specs.StackState.{relayed_next, relayed_gives}
 use Rattle.gb_stack.specs.Taken.{relay_state, up_of}
-use Rattle.gb_stack.proofs.SettledLemmas.{set_one, one_passes, at_changed, apart_at, distinct_entries, all_stay, none_pass, quiet_settled, done_stays, all_next, all_sends, all_ups}
+use Rattle.gb_stack.proofs.SettledLemmas.{set_one, one_passes, at_changed, apart_at, distinct_entries, all_stay, none_pass, quiescent_settled, done_stays, all_next, all_sends, all_ups}
 
 abbrev Keys : List Entry → List MsgId
 Keys = map (λ e. e.m)
@@ -95,7 +95,7 @@ module _ (rules : Rules) (me : NodeId) (members noticed : Nodes) where
 
   -- a change of one entry, where nothing is due for the others
   module _ (es : List Entry) (at : ℕ) (e : Entry) (m : MsgId) (g : Entry → Entry) (once : IsDistinct same (Keys es)) (here : slice_get es at ≡ Some e) (is : e.m ≡ m)
-      (others : (y : Entry) → same y.m m ≡ false → g y ≡ y) (quiet : (k : ℕ) (y : Entry) → slice_get es k ≡ Some y → same y.m m ≡ false → (due y ≡ false) × (ready y ≡ false)) where
+      (others : (y : Entry) → same y.m m ≡ false → g y ≡ y) (quiescent : (k : ℕ) (y : Entry) → slice_get es k ≡ Some y → same y.m m ≡ false → (due y ≡ false) × (ready y ≡ false)) where
     other : (k : ℕ) (y : Entry) → k ≢ at → slice_get es k ≡ Some y → same y.m m ≡ false
     other k y ne there =
         subst (λ (x : MsgId). same y.m x ≡ false) is
@@ -107,11 +107,11 @@ module _ (rules : Rules) (me : NodeId) (members noticed : Nodes) where
         ∙ set_one (λ x. done (g x)) es at e here
         (λ k y ne there.
         let apart = other k y ne there in
-        let q = quiet k y there apart in
+        let q = quiescent k y there apart in
         ap done (others y apart) ∙ done_stays rules me members noticed y q.0 q.1)
 
     pub step_sends : filter due (map g es) ≡ cond (due (g e)) (g e ∷ []) []
-    step_sends = one_passes due g es at e here (λ k y ne there. let apart = other k y ne there in ap due (others y apart) ∙ (quiet k y there apart).0)
+    step_sends = one_passes due g es at e here (λ k y ne there. let apart = other k y ne there in ap due (others y apart) ∙ (quiescent k y there apart).0)
 
     pub step_ups : filter ready (map passed (map g es)) ≡ cond (ready (passed (g e))) (passed (g e) ∷ []) []
     step_ups =
@@ -119,7 +119,7 @@ module _ (rules : Rules) (me : NodeId) (members noticed : Nodes) where
         ∙ one_passes ready (λ x. passed (g x)) es at e here
         (λ k y ne there.
         let apart = other k y ne there in
-        let q = quiet k y there apart in
+        let q = quiescent k y there apart in
         ap ready (ap passed (others y apart) ∙ passed_stays y q.0) ∙ q.1)
 
   passed_m : (y : Entry) → (passed y).m ≡ y.m
@@ -130,14 +130,14 @@ module _ (rules : Rules) (me : NodeId) (members noticed : Nodes) where
     pub next : st new ≡ relayed_next rules (st es) c
     pub sends : (relayed_gives rules (st es) c).sends ≡ sent
     pub ups : (relayed_gives rules (st es) c).ups ≡ given
-    pub quiet : AreQuiet rules me members noticed new
+    pub quiescent : AreQuiescent rules me members noticed new
 
-  module _ (m : MsgId) (es : List Entry) (at : ℕ) (e : Entry) (none : AreQuiet rules me members noticed es) (once : IsDistinct same (Keys (noted es m))) (here : slice_get (noted es m) at ≡ Some e) (is : e.m ≡ m) where
+  module _ (m : MsgId) (es : List Entry) (at : ℕ) (e : Entry) (none : AreQuiescent rules me members noticed es) (once : IsDistinct same (Keys (noted es m))) (here : slice_get (noted es m) at ≡ Some e) (is : e.m ≡ m) where
     abbrev N : List Entry
     N = noted es m
 
-    quiet_others : (k : ℕ) (y : Entry) → slice_get N k ≡ Some y → same y.m m ≡ false → (due y ≡ false) × (ready y ≡ false)
-    quiet_others k y there apart = let t = in_noted es m k y there apart in (none.relay k y t, none.deliver k y t)
+    quiescent_others : (k : ℕ) (y : Entry) → slice_get N k ≡ Some y → same y.m m ≡ false → (due y ≡ false) × (ready y ≡ false)
+    quiescent_others k y there apart = let t = in_noted es m k y there apart in (none.relay k y t, none.deliver k y t)
 
     for_m : same e.m m ≡ true
     for_m = (λ i. same (is i) m) ∙ same_itself m
@@ -148,20 +148,20 @@ module _ (rules : Rules) (me : NodeId) (members noticed : Nodes) where
         let ge : g e ≡ held_entry me p e = ap (λ b. cond b (held_entry me p e) e) for_m in
         let others : (y : Entry) → same y.m m ≡ false → g y ≡ y = λ y h. ap (λ b. cond b (held_entry me p y) y) h in
         let d = distinct_entries (map g N) (subst (IsDistinct same) (sym (keys_held me p m N)) once) in
-        let next = step_next N at e m g once here is others quiet_others ∙ ap (λ x. set N at (done x)) ge in
+        let next = step_next N at e m g once here is others quiescent_others ∙ ap (λ x. set N at (done x)) ge in
         record {
           next = sym (ap st next) ∙ sym (all_next rules me members noticed (map g N) d);
           sends = all_sends rules me members noticed (map g N) d
-              ∙ (ap (map (λ x. x.m)) (step_sends N at e m g once here is others quiet_others)
+              ∙ (ap (map (λ x. x.m)) (step_sends N at e m g once here is others quiescent_others)
               ∙ (mapped_cond (λ x. x.m) (due (g e)) (g e)
               ∙ (ap (λ (x : Entry). cond (due x) (x.m ∷ []) []) ge
               ∙ ap (λ (k : MsgId). cond (due (held_entry me p e)) (k ∷ []) []) is)));
           ups = all_ups rules me members noticed (map g N) d
-              ∙ (ap (map relay.up_of) (step_ups N at e m g once here is others quiet_others)
+              ∙ (ap (map relay.up_of) (step_ups N at e m g once here is others quiescent_others)
               ∙ (mapped_cond relay.up_of (ready (passed (g e))) (passed (g e))
               ∙ (ap (λ (x : Entry). cond (ready (passed x)) (up_of (passed x).m ∷ []) []) ge
               ∙ ap (λ (k : MsgId). cond (ready (passed (held_entry me p e))) (up_of k ∷ []) []) (passed_m (held_entry me p e) ∙ is))));
-          quiet = subst (AreQuiet rules me members noticed) next (quiet_settled rules me members noticed (map g N));
+          quiescent = subst (AreQuiescent rules me members noticed) next (quiescent_settled rules me members noticed (map g N));
         }
 
     pub said_stepped : e.sent ≡ false → Stepped es (Say m) (set N at (done (held_entry me me (sent_entry e)))) (m ∷ []) (cond (ready (passed (held_entry me me (sent_entry e)))) (up_of m ∷ []) [])
@@ -174,7 +174,7 @@ module _ (rules : Rules) (me : NodeId) (members noticed : Nodes) where
         λ y h. ap (λ b. held me me m (cond b (sent_entry y) y)) h ∙ ap (λ b. cond b (held_entry me me y) y) h in
         let listed : map (held me me m) (map (marked_sent m) N) ≡ map g N = map_same (held me me m) (marked_sent m) g (λ x. refl) N in
         let d = distinct_entries (map g N) (subst (IsDistinct same) (sym (ap Keys (sym listed) ∙ (keys_held me me m (map (marked_sent m) N) ∙ keys_marked m N))) once) in
-        let next = step_next N at e m g once here is others quiet_others ∙ ap (λ x. set N at (done x)) ge in
+        let next = step_next N at e m g once here is others quiescent_others ∙ ap (λ x. set N at (done x)) ge in
         let unsent : is_sent es m ≡ false = sym (sent_noted es m m) ∙ (sent_at N at e m once here is ∙ new) in
         let begins : cond (is_sent es m) (st es) (st (map (held me me m) (map (marked_sent m) N))) ≡ st (map g N) = ap (λ b. cond b (st es) (st (map (held me me m) (map (marked_sent m) N)))) unsent ∙ ap st listed in
         record {
@@ -182,16 +182,16 @@ module _ (rules : Rules) (me : NodeId) (members noticed : Nodes) where
           sends = (λ i. cond (unsent i) [] (m ∷ []) ++ relay.relayed_sends (λ s _. s) beb_gives (λ s. s) rules (begins i))
               ∙ ap (λ (xs : List MsgId). m ∷ xs)
               (all_sends rules me members noticed (map g N) d
-              ∙ (ap (map (λ x. x.m)) (step_sends N at e m g once here is others quiet_others)
+              ∙ (ap (map (λ x. x.m)) (step_sends N at e m g once here is others quiescent_others)
               ∙ (mapped_cond (λ x. x.m) (due (g e)) (g e)
               ∙ ap (λ (x : Entry). cond (due x) (x.m ∷ []) []) ge)));
           ups = (λ i. relay.given_ups (λ s. s) rules (relay.relayed (λ s _. s) beb_gives (λ s. s) rules (begins i)))
               ∙ (all_ups rules me members noticed (map g N) d
-              ∙ (ap (map relay.up_of) (step_ups N at e m g once here is others quiet_others)
+              ∙ (ap (map relay.up_of) (step_ups N at e m g once here is others quiescent_others)
               ∙ (mapped_cond relay.up_of (ready (passed (g e))) (passed (g e))
               ∙ (ap (λ (x : Entry). cond (ready (passed x)) (up_of (passed x).m ∷ []) []) ge
               ∙ ap (λ (k : MsgId). cond (ready (passed after)) (up_of k ∷ []) []) (passed_m after ∙ is)))));
-          quiet = subst (AreQuiet rules me members noticed) next (quiet_settled rules me members noticed (map g N));
+          quiescent = subst (AreQuiescent rules me members noticed) next (quiescent_settled rules me members noticed (map g N));
         }
 
     pub said_list : e.sent ≡ true → N ≡ es
@@ -211,5 +211,5 @@ module _ (rules : Rules) (me : NodeId) (members noticed : Nodes) where
               ∙ ap (map (λ x. x.m)) (ap (filter due) (sym (all_stay (λ x. x) es (λ k y at. refl))) ∙ none_pass due (λ x. x) es none.relay));
           ups = (λ i. relay.given_ups (λ s. s) rules (relay.relayed (λ s _. s) beb_gives (λ s. s) rules (begins i))) ∙ (all_ups rules me members noticed es d
               ∙ ap (map relay.up_of) (none_pass ready passed es (λ k y at. ap ready (passed_stays y (none.relay k y at)) ∙ none.deliver k y at)));
-          quiet = none;
+          quiescent = none;
         }

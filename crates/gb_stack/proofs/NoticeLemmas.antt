@@ -22,11 +22,11 @@ use Rattle.gb_fifo.specs.declared.entry.Entry as order
 use Rattle.gb_fifo.specs.Entries.{taken, taken_ups, taken_one, taken_one_ups}
 use Rattle.gb_records.specs.declared.record.Record.{Record}
 use Rattle.gb_records.specs.Records.{keys, relay_entry, relay_entries, order_entries}
-use Rattle.gb_stack.specs.Settled.{passed_on, settled, AreQuiet}
+use Rattle.gb_stack.specs.Settled.{passed_on, settled, AreQuiescent}
 use Rattle.gb_stack.specs.StackState.{relayed_next, relayed_gives}
 use Rattle.gb_stack.specs.Taken.{relay_state, up_of, HandsUp, Moves, HasTaken}
 use Rattle.gb_stack.proofs.RecordLemmas.{settled_is}
-use Rattle.gb_stack.proofs.SettledLemmas.{distinct_entries, quiet_settled, all_next, all_sends, all_ups}
+use Rattle.gb_stack.proofs.SettledLemmas.{distinct_entries, quiescent_settled, all_next, all_sends, all_ups}
 
 -- what comes up in two parts
 taken_both : (us vs : List Up) (es : List order.Entry) → taken (us ++ vs) es ≡ taken vs (taken us es)
@@ -176,5 +176,5 @@ notice_taken rules me members noticed ordered q at old new sent sent' ups ups' f
       ups =
           subst (λ (us : List Up). HandsUp ordered us (order_entries old) (order_entries new) ups ups')
           (ap (ups_of rules me members noticed') front ∙ ap (λ (g : Gives). g.ups) (sym gives)) up;
-      quiet = subst (AreQuiet rules me members noticed') (sym entries) (quiet_settled rules me members noticed' es);
+      quiescent = subst (AreQuiescent rules me members noticed') (sym entries) (quiescent_settled rules me members noticed' es);
     }

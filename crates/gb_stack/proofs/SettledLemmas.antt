@@ -15,7 +15,7 @@ use Rattle.gb_layer.specs.Rule.{Nodes, Rules}
 use Rattle.gb_layer.specs.Relay.{State, noted, sent_entry, given_entry, held, up_of, due_to_relay, due_to_deliver, handed, relayed, relayed_sends, given, given_ups}
 use Rattle.gb_layer.proofs.RelayPassLemmas.{Distinct, relayed_all, relayed_all_sends}
 use Rattle.gb_records.proofs.PlaceLemmas.{one_place}
-use Rattle.gb_stack.specs.Settled.{passed_on, settled, AreQuiet}
+use Rattle.gb_stack.specs.Settled.{passed_on, settled, AreQuiescent}
 use Rattle.gb_stack.specs.StackState.{relayed_next, relayed_gives}
 use Rattle.gb_stack.specs.Taken.{relay_state}
 
@@ -99,18 +99,18 @@ module _ (rules : Rules) (me : NodeId) (members noticed : Nodes) where
       ap (handed ready) p ∙ ap (λ b. cond b (given_entry e) e) k
 
   -- nothing is due for one after it was settled
-  quiet_relay : (e : Entry) → due (done e) ≡ false
-  quiet_relay e =
+  quiescent_relay : (e : Entry) → due (done e) ≡ false
+  quiescent_relay e =
       let pass : due (passed e) ≡ false = elim (due e) as (λ b. due e ≡ b → due (cond b (sent_entry e) e) ≡ false) [ true ↦ λ _. refl | false ↦ λ h. h ] refl in
       elim (ready (passed e)) as (λ b. due (cond b (given_entry (passed e)) (passed e)) ≡ false) [ true ↦ pass | false ↦ pass ]
 
-  quiet_deliver : (e : Entry) → ready (done e) ≡ false
-  quiet_deliver e = elim (ready (passed e)) as (λ b. ready (passed e) ≡ b → ready (cond b (given_entry (passed e)) (passed e)) ≡ false) [ true ↦ λ _. refl | false ↦ λ h. h ] refl
+  quiescent_deliver : (e : Entry) → ready (done e) ≡ false
+  quiescent_deliver e = elim (ready (passed e)) as (λ b. ready (passed e) ≡ b → ready (cond b (given_entry (passed e)) (passed e)) ≡ false) [ true ↦ λ _. refl | false ↦ λ h. h ] refl
 
-  pub quiet_settled : (es : List Entry) → AreQuiet rules me members noticed (map done es)
-  quiet_settled es = record {
-    relay = λ k e at. let u = at_unchanged done es k e at in ap due (sym u.2) ∙ quiet_relay u.0;
-    deliver = λ k e at. let u = at_unchanged done es k e at in ap ready (sym u.2) ∙ quiet_deliver u.0;
+  pub quiescent_settled : (es : List Entry) → AreQuiescent rules me members noticed (map done es)
+  quiescent_settled es = record {
+    relay = λ k e at. let u = at_unchanged done es k e at in ap due (sym u.2) ∙ quiescent_relay u.0;
+    deliver = λ k e at. let u = at_unchanged done es k e at in ap ready (sym u.2) ∙ quiescent_deliver u.0;
   }
 
   -- one pass over all entries

@@ -15,7 +15,7 @@ use Rattle.gb_fifo.specs.declared.entry.Entry as fifo
 use Rattle.gb_fifo.specs.Entries as order
 use Rattle.gb_records.specs.declared.record.Record.{Record}
 use Rattle.gb_records.specs.Records.{keys, noted, is_unsent, is_ungiven, relay_entries, order_entries}
-use Rattle.gb_stack.specs.Settled.{passed_on, settled, AreQuiet}
+use Rattle.gb_stack.specs.Settled.{passed_on, settled, AreQuiescent}
 use Rattle.gb_stack.specs.Taken.{relay_state, up_of, is_low, left, noted_in, HandsUp, HasTaken, Moves}
 use Rattle.gb_stack.proofs.RecordLemmas.{keys_of, settled_is}
 use Rattle.gb_stack.proofs.NotedLemmas.{relay_noted, order_noted, count_noted}
@@ -52,7 +52,7 @@ module _ (rules : Rules) (me : NodeId) (members noticed : Nodes) (ordered : Bool
         ups = handed_as ordered _ _ _ _ _ _ _
             (ap (λ (k : MsgId). cond (due_to_deliver rules me members noticed (passed_on rules me noticed e2)) (up_of k ∷ []) []) e2_m ∙ sym step.ups)
             (order ∙ (ap order_entries items ∙ (order_noted rs m ∙ sym as_order))) (moves.ups e2 here2);
-        quiet = subst (AreQuiet rules me members noticed) (sym new_all) step.quiet;
+        quiescent = subst (AreQuiescent rules me members noticed) (sym new_all) step.quiescent;
       }
 
 -- one more record is one more to send at most, and one more to hand up

@@ -21,7 +21,7 @@ abbrev pub settled : Rules → NodeId → Nodes → Nodes → Entry → Entry
 settled rules me members noticed e = handed (due_to_deliver rules me members noticed) (passed_on rules me noticed e)
 
 -- nothing is due
-pub record AreQuiet (rules : Rules) (me : NodeId) (members noticed : Nodes) (es : List Entry) : Type 0 where
+pub record AreQuiescent (rules : Rules) (me : NodeId) (members noticed : Nodes) (es : List Entry) : Type 0 where
   pub relay : (k : ℕ) (e : Entry) → slice_get es k ≡ Some e → due_to_relay rules me noticed e ≡ false
   pub deliver : (k : ℕ) (e : Entry) → slice_get es k ≡ Some e → due_to_deliver rules me members noticed e ≡ false
 
@@ -33,17 +33,17 @@ relays Eager = true
 relays AllAck = true
 
 -- where the module relays, nothing is due
-abbrev pub IsQuiet : BroadcastModule → NodeId → Nodes → Nodes → List Entry → Type 0
-IsQuiet BestEffort me members noticed es = Unit {0}
-IsQuiet Lazy me members noticed es = AreQuiet lazy_rules me members noticed es
-IsQuiet Eager me members noticed es = AreQuiet eager_rules me members noticed es
-IsQuiet AllAck me members noticed es = AreQuiet all_ack_rules me members noticed es
+abbrev pub IsQuiescent : BroadcastModule → NodeId → Nodes → Nodes → List Entry → Type 0
+IsQuiescent BestEffort me members noticed es = Unit {0}
+IsQuiescent Lazy me members noticed es = AreQuiescent lazy_rules me members noticed es
+IsQuiescent Eager me members noticed es = AreQuiescent eager_rules me members noticed es
+IsQuiescent AllAck me members noticed es = AreQuiescent all_ack_rules me members noticed es
 
-AreQuiet-prop : (rules : Rules) (me : NodeId) (members noticed : Nodes) (es : List Entry) → IsProp (AreQuiet rules me members noticed es)
-AreQuiet-prop rules me members noticed es = hlevel props
+AreQuiescent-prop : (rules : Rules) (me : NodeId) (members noticed : Nodes) (es : List Entry) → IsProp (AreQuiescent rules me members noticed es)
+AreQuiescent-prop rules me members noticed es = hlevel props
 
-pub IsQuiet-prop : (base : BroadcastModule) (me : NodeId) (members noticed : Nodes) (es : List Entry) → IsProp (IsQuiet base me members noticed es)
-IsQuiet-prop BestEffort me members noticed es = Unit-prop
-IsQuiet-prop Lazy me members noticed es = AreQuiet-prop lazy_rules me members noticed es
-IsQuiet-prop Eager me members noticed es = AreQuiet-prop eager_rules me members noticed es
-IsQuiet-prop AllAck me members noticed es = AreQuiet-prop all_ack_rules me members noticed es
+pub IsQuiescent-prop : (base : BroadcastModule) (me : NodeId) (members noticed : Nodes) (es : List Entry) → IsProp (IsQuiescent base me members noticed es)
+IsQuiescent-prop BestEffort me members noticed es = Unit-prop
+IsQuiescent-prop Lazy me members noticed es = AreQuiescent-prop lazy_rules me members noticed es
+IsQuiescent-prop Eager me members noticed es = AreQuiescent-prop eager_rules me members noticed es
+IsQuiescent-prop AllAck me members noticed es = AreQuiescent-prop all_ack_rules me members noticed es

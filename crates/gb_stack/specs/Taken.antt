@@ -13,7 +13,7 @@ use Rattle.gb_fifo.specs.declared.entry.Entry as order
 use Rattle.gb_fifo.specs.Entries.{noted_by, released, released_ups, taken, taken_ups}
 use Rattle.gb_records.specs.declared.record.Record.{Record}
 use Rattle.gb_records.specs.Records.{keys, noted, is_unsent, is_ungiven, relay_entries, order_entries}
-use Rattle.gb_stack.specs.Settled.{passed_on, settled, AreQuiet}
+use Rattle.gb_stack.specs.Settled.{passed_on, settled, AreQuiescent}
 use Rattle.gb_stack.specs.StackState.{relayed_next, relayed_gives}
 
 -- what a relay over `Beb` at a node remembers, with these entries
@@ -64,7 +64,7 @@ pub record HasTaken (rules : Rules) (ordered : Bool) (c : Call) (before after : 
   pub keys : keys new ≡ keys (noted_in c old)
   pub sends : sent' ≡ sent ++ (relayed_gives rules before c).sends
   pub ups : HandsUp ordered (relayed_gives rules before c).ups (noted_by c (order_entries old)) (order_entries new) given given'
-  pub quiet : AreQuiet rules after.lower after.members after.noticed after.entries
+  pub quiescent : AreQuiescent rules after.lower after.members after.noticed after.entries
 
 -- a call takes no more free places for sends and for pairs than there were messages to send and to hand up, and one
 pub record Spends (ordered : Bool) (old new : List Record) (sends_free sends_left ups_free ups_left : ℕ) : Type 0 where

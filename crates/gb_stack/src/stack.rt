@@ -6,7 +6,7 @@ ghost use Rattle.gb_layer.specs.Room.{free};
 ghost use Rattle.gb_records.specs.Records.{is_unsent, relay_entries};
 ghost use Rattle.gb_stack.specs.Stands.{is_other_noticed, HasHeard, HasStarted};
 ghost use Rattle.gb_stack.specs.StackState.{StackState, stack_next, stack_gives, stack_me, IsUntoldStack, IsEmptyStack, untold_stack, new_stack};
-ghost use Rattle.gb_stack.specs.Settled.{AreQuiet, IsQuiet, IsQuiet-prop, relays};
+ghost use Rattle.gb_stack.specs.Settled.{AreQuiescent, IsQuiescent, IsQuiescent-prop, relays};
 ghost use Rattle.gb_stack.specs.Taken.{HasTaken, Spends, left, relay_state};
 
 use crate::direct::take_direct;
@@ -77,7 +77,7 @@ pub struct Stack {
     base: BroadcastModule,
     here: Here,
     records: Records,
-    ghost quiet: { IsQuiet base here.me here.members here.noticed (relay_entries records.list.items) } by { IsQuiet-prop base here.me here.members here.noticed (relay_entries records.list.items) },
+    ghost quiescent: { IsQuiescent base here.me here.members here.noticed (relay_entries records.list.items) } by { IsQuiescent-prop base here.me here.members here.noticed (relay_entries records.list.items) },
     ghost none: { (here.ordered || relays base) ≡ false → vec_len records.list ≡ 0 },
 }
 
@@ -102,7 +102,7 @@ fn take_call<R: Rule>(
     sends: &mut Vec<MsgId>,
     ups: &mut Vec<Up>,
 )
-    requires quiet { AreQuiet R.rules here.old.me here.old.members here.old.noticed (relay_entries records.old.list.items) }
+    requires quiescent { AreQuiescent R.rules here.old.me here.old.members here.old.noticed (relay_entries records.old.list.items) }
     requires entries { vec_len records.old.list + 1 ≤ vec_capacity records.old.list }
     requires sends { 1 + count_by is_unsent records.old.list.items ≤ free sends.old }
     requires ups { 1 + left here.old.ordered records.old.list.items ≤ free ups.old }

@@ -6,7 +6,7 @@ ghost use Rattle.gb_layer.specs.declared.entries.Entry.{Entry};
 ghost use Rattle.gb_layer.specs.Relay.{held_entry, sent_entry};
 ghost use Rattle.gb_layer.specs.Room.{free};
 ghost use Rattle.gb_records.specs.Records.{keys, is_unsent, is_ungiven, relay_entries, order_entries};
-ghost use Rattle.gb_stack.specs.Settled.{AreQuiet};
+ghost use Rattle.gb_stack.specs.Settled.{AreQuiescent};
 ghost use Rattle.gb_stack.specs.Taken.{Moves, HasTaken, Spends, left, relay_state, rise_order, rise_ups};
 
 use crate::here::Here;
@@ -136,7 +136,7 @@ pub(crate) fn take_arrival<R: Rule>(
     sends: &mut Vec<MsgId>,
     ups: &mut Vec<Up>,
 )
-    requires quiet { AreQuiet R.rules here.now.me here.now.members here.now.noticed (relay_entries records.old.list.items) }
+    requires quiescent { AreQuiescent R.rules here.now.me here.now.members here.now.noticed (relay_entries records.old.list.items) }
     requires entries { vec_len records.old.list + 1 ≤ vec_capacity records.old.list }
     requires sends { 1 + count_by is_unsent records.old.list.items ≤ free sends.old }
     requires ups { 1 + left here.now.ordered records.old.list.items ≤ free ups.old }
@@ -161,7 +161,7 @@ pub(crate) fn take_saying<R: Rule>(
     sends: &mut Vec<MsgId>,
     ups: &mut Vec<Up>,
 )
-    requires quiet { AreQuiet R.rules here.now.me here.now.members here.now.noticed (relay_entries records.old.list.items) }
+    requires quiescent { AreQuiescent R.rules here.now.me here.now.members here.now.noticed (relay_entries records.old.list.items) }
     requires entries { vec_len records.old.list + 1 ≤ vec_capacity records.old.list }
     requires sends { 1 + count_by is_unsent records.old.list.items ≤ free sends.old }
     requires ups { 1 + left here.now.ordered records.old.list.items ≤ free ups.old }
@@ -191,7 +191,7 @@ pub(crate) fn take_notice<R: Rule>(
     sends: &mut Vec<MsgId>,
     ups: &mut Vec<Up>,
 )
-    requires quiet { AreQuiet R.rules here.old.me here.old.members here.old.noticed (relay_entries records.old.list.items) }
+    requires quiescent { AreQuiescent R.rules here.old.me here.old.members here.old.noticed (relay_entries records.old.list.items) }
     requires entries { vec_len records.old.list + 1 ≤ vec_capacity records.old.list }
     requires sends { 1 + count_by is_unsent records.old.list.items ≤ free sends.old }
     requires ups { 1 + left here.old.ordered records.old.list.items ≤ free ups.old }

@@ -2,7 +2,7 @@ pub mod DeedLemmas
 pub mod PastLemmas
 pub mod FrameLemmas
 pub mod SeenLemmas
-pub mod QuietLemmas
+pub mod SilenceLemmas
 pub mod CountLemmas
 pub mod NoticesLemmas
 pub mod AskedLemmas

@@ -1,6 +1,6 @@
 -- A run that goes on by one more event.
 use Rattle.std.proofs.Common.{◌≡◌, ℕ, zero, suc, ◌+◌, ◌<◌, ◌≤◌, true, false, Bool, List, [], ◌∷◌, ◌++◌, length, take, get_or, Option, Some, None, refl, sym, ap, subst, ◌∙◌, arith, add-one, append_assoc, length-append}
-use Rattle.std.specs.Prelude.{slice_get, option_map, reverse, All, Contains, MatchBool}
+use Rattle.std.specs.Prelude.{slice_get, option_map, reverse, All, MatchBool}
 use Rattle.std.proofs.lemmas.List.{append-nil, reverse-append, take_all, take_more}
 use Rattle.std.proofs.lemmas.List.Elements.{All-append, All-get_or}
 use Rattle.gb_types.specs.declared.node.NodeId.{NodeId}
@@ -12,7 +12,7 @@ use Rattle.gb_node.specs.declared.answer.Sent.TheVariants.{Packet as SentPacket,
 use Rattle.gb_node.specs.declared.event.NodeEvent.{NodeEvent}
 use Rattle.gb_node.specs.declared.event.NodeEvent.TheVariants.{Request as Asked, Packet as Came, Pack, Again, Ack, Tick, Stop}
 use Rattle.gb_node.specs.SendLaw.{SendersRun}
-use Rattle.gb_cluster.proofs.CodeLemmas.{get_contains}
+use Rattle.gb_cluster.proofs.CodeLemmas.{arrived_was_posted}
 use Rattle.gb_cluster.proofs.NodesLemmas.{stays}
 use Rattle.gb_cluster.specs.ClusterStep.{posted, answer_of, packet_numbered, is_packet_for, NodeActs, IsAt, IsArrival, IsPlaced, IsStep}
 use Rattle.gb_cluster.specs.ClusterValue.{ClusterValue, node_at, new_cluster}
@@ -135,17 +135,10 @@ one_step law v w (At at event) a step = by (is_packet_for (node_at v at) event) 
         (λ rest. ap (did_with at event) (acts_own law v w at event step.0 a rest step.1 step.2))
 one_step law v w (Arrive k) a step = by (packet_numbered v.packets k) refl step
   where
-    there : (k : ℕ) (p : Posted) → packet_numbered v.packets k ≡ Some p → Contains v.packets p
-    there zero p e = absurd (cc)
-    there (suc k) p e = get_contains v.packets k p e
-
-    bytes_in : (b c : List ℕ) → Came b ≡ Came c → b ≡ c
-    bytes_in b c e = cc
-
     by : (o : Option Posted) → packet_numbered v.packets k ≡ o → IsArrival v o a w → IsOneMore v (Arrive k) a w
     by None is step = nothing_more v w (Arrive k) a step.1 (λ ps. ap (λ x. did_in ps (Arrive k) x) step.0 ∙ none_arrives (packet_numbered ps k))
     by (Some p) is step =
-        one_more v w (Arrive k) a p.to (Came p.text) step.0 step.1 (λ bytes same yes. subst (λ t. Contains v.packets (record { to = p.to; text = t })) (bytes_in p.text bytes same) (there k p is))
+        one_more v w (Arrive k) a p.to (Came p.text) step.0 step.1 (λ bytes same yes. arrived_was_posted v.packets k p bytes is same)
         (λ rest. ap (λ (o : Option Posted). did_arrive o (own_answer (w.packets ++ rest) a)) (kept rest) ∙ ap (did_with p.to (Came p.text)) (acts_own law v w p.to (Came p.text) step.0 a rest step.1 step.2))
       where
         kept : (rest : List Posted) → packet_numbered (w.packets ++ rest) k ≡ Some p

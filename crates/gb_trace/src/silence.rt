@@ -32,26 +32,26 @@ fn ticks(deed: &Deed) -> bool
 }
 
 /// For how many ticks the other node was not heard, after this but for its own tick, where it was so many before.
-fn quiet_after(key: &HmacKey, b: NodeId, deed: &Deed, quiet: usize) -> usize
-    ensures { result ≡ (if list_any (is_from b.number) (taken_by key.now deed.now.event deed.now.answer) then 0 else quiet) }
+fn unheard_after(key: &HmacKey, b: NodeId, deed: &Deed, unheard: usize) -> usize
+    ensures { result ≡ (if list_any (is_from b.number) (taken_by key.now deed.now.event deed.now.answer) then 0 else unheard) }
 {
     match came(key, deed) {
-        None => quiet,
+        None => unheard,
         Some(packet) => {
             if packet.head().from.number == b.number {
                 0
             } else {
-                quiet
+                unheard
             }
         }
     }
 }
 
 /// Whether it was so for too long, now or before.
-fn is_silent(quiet: usize, silence: u16, before: bool) -> bool
-    ensures { result ≡ (nat_le silence quiet || before) }
+fn is_silent(unheard: usize, silence: u16, before: bool) -> bool
+    ensures { result ≡ (nat_le silence unheard || before) }
 {
-    quiet >= usize::from(silence) || before
+    unheard >= usize::from(silence) || before
 }
 
 /// Whether the other node was not heard at the node for so many ticks, at some moment so far.
@@ -60,15 +60,15 @@ fn was_silent(key: &HmacKey, a: NodeId, b: NodeId, silence: u16, deeds: &[Deed])
     requires { LEAST ≤ silence }
     ensures { result ≡ is_noticed silence b.number (watched key.now (past_in a deeds.now)) }
 {
-    let mut quiet = 0usize;
+    let mut unheard = 0usize;
     let mut silent = false;
     for i in 0..deeds.len() {
         let deed = &deeds[i];
         if deed.is_at(a) {
-            quiet = quiet_after(key, b, deed, quiet);
+            unheard = unheard_after(key, b, deed, unheard);
             if ticks(deed) {
-                quiet += 1;
-                silent = is_silent(quiet, silence, silent);
+                unheard += 1;
+                silent = is_silent(unheard, silence, silent);
             }
         }
     }

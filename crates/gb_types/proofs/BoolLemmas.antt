@@ -1,6 +1,7 @@
 -- Tests joined by "and", "or" and "not".
-use Rattle.std.proofs.Common.{◌≡◌, Bool, true, false, not, ◌&&◌, ◌||◌, ◌⊎◌, inl, inr, refl, ap, sym}
+use Rattle.std.proofs.Common.{◌≡◌, Bool, true, false, not, ◌&&◌, ◌||◌, refl, ap, sym}
 use Rattle.std.proofs.Math.Bool.{or-false}
+pub use Rattle.std.proofs.lemmas.Bool.{or_left as or_first, or_right as or_second, or_parts as or_sides, or_cases, not-true as not_true, not-false as not_false, false_from_ne_true as refuted}
 
 pub or_swap : (a b c : Bool) → (a || (b || c)) ≡ (b || (a || c))
 or_swap true true c = refl
@@ -11,6 +12,10 @@ pub or_turned : (a b c : Bool) → (a || (b || c)) ≡ ((b || a) || c)
 or_turned true true c = refl
 or_turned true false c = refl
 or_turned false b c = ap (λ d. d || c) (sym (or-false b))
+
+-- where the first test fails the second decides
+pub or_off : (a b : Bool) → a ≡ false → (a || b) ≡ b
+or_off a b h = ap (λ c. c || b) h
 
 -- both parts of what is true
 pub and_left : (a b : Bool) → (a && b) ≡ true → a ≡ true
@@ -37,21 +42,6 @@ pub or_right : (a b : Bool) → (a || b) ≡ false → b ≡ false
 or_right true b h = cc
 or_right false b h = h
 
-pub or_sides : (a b : Bool) → (a || b) ≡ false → (a ≡ false) × (b ≡ false)
-or_sides true b h = absurd (cc)
-or_sides false b h = (refl, h)
-
-pub or_first : (a b : Bool) → a ≡ true → (a || b) ≡ true
-or_first a b h = cc
-
-pub or_second : (a b : Bool) → b ≡ true → (a || b) ≡ true
-or_second true b h = refl
-or_second false b h = h
-
-pub or_cases : (a b : Bool) → (a || b) ≡ true → (a ≡ true) ⊎ (b ≡ true)
-or_cases true b h = inl refl
-or_cases false b h = inr h
-
 -- what follows from each part follows
 pub or_more : (a b c d : Bool) → (a ≡ true → c ≡ true) → (b ≡ true → d ≡ true) → (a || b) ≡ true → (c || d) ≡ true
 or_more true b c d f g h = let e : c ≡ true = f refl in ap (λ v. v || d) e
@@ -62,14 +52,6 @@ pub and_more : (a b c d : Bool) → (a ≡ true → c ≡ true) → (b ≡ true 
 and_more true b c d f g h = let e : c ≡ true = f refl in let k : d ≡ true = g h in cc
 and_more false b c d f g h = cc
 
-pub not_true : (b : Bool) → not b ≡ true → b ≡ false
-not_true true h = cc
-not_true false h = refl
-
-pub not_false : (b : Bool) → not b ≡ false → b ≡ true
-not_false true h = refl
-not_false false h = cc
-
 pub first_not : (a b : Bool) → (not a && b) ≡ true → a ≡ false
 first_not true b h = cc
 first_not false b h = refl
@@ -79,10 +61,6 @@ pub both_ways : (a b : Bool) → (a ≡ true → b ≡ true) → (b ≡ true →
 both_ways true b f g = let h : b ≡ true = f refl in cc
 both_ways false true f g = g refl
 both_ways false false f g = refl
-
-pub refuted : (b : Bool) → (b ≡ true → ⊥) → b ≡ false
-refuted true f = absurd (f refl)
-refuted false f = refl
 
 -- a test from which a false one follows is false
 pub refuted_by : (a b : Bool) → (a ≡ true → b ≡ true) → b ≡ false → a ≡ false

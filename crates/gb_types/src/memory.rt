@@ -23,7 +23,7 @@ impl<T: Drop> From<AllocFailed<T>> for OutOfMemory {
 
 /// Appends bytes. Without memory nothing has changed.
 #[inline(always)]
-pub(crate) fn put_bytes(out: &mut Vec<u8>, bytes: &[u8]) -> Result<(), OutOfMemory>
+pub fn put_bytes(out: &mut Vec<u8>, bytes: &[u8]) -> Result<(), OutOfMemory>
     ensures ok { OnOk result (out.new.items ≡ out.old.items ++ bytes.now) }
     ensures err { OnErr result (out.new.items ≡ out.old.items) }
 {

@@ -9,11 +9,18 @@ use Rattle.gb_node.specs.declared.answer.NodeAnswer.{NodeAnswer}
 use Rattle.gb_node.specs.declared.answer.NodeAnswer.TheVariants.{Reply as Replied}
 use Rattle.gb_node.specs.declared.event.NodeEvent.TheVariants.{Request as Asked}
 use Rattle.gb_host.specs.declared.entry.SeatEntry.{SeatEntry}
+use Rattle.gb_host.specs.declared.fault.HostFault.{HostFault}
+use Rattle.gb_host.specs.declared.fault.HostFault.TheVariants.{OutOfMemory as NoMemory}
 
 -- The reply that an answer is. A node answers each request with one; any other answer would be told as Stopped.
 abbrev pub reply_of : NodeAnswer → Reply
 reply_of (Replied reply) = reply
 reply_of other = Refused Stopped
+
+-- What a client is told of a call that the host did not make: that there was no memory for it, or, at any other fault, Stopped.
+abbrev pub reply_at : HostFault → Reply
+reply_at NoMemory = Refused OutOfMemory
+reply_at other = Refused Stopped
 
 -- the request was asked at the node, once, and the reply is the node's
 abbrev pub IsAsked : NodeId → List SeatEntry → Request → Reply → List SeatEntry → Type 0

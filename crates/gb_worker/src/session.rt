@@ -1,8 +1,8 @@
 //! The worker that answers a client's requests.
-ghost use Rattle.std.specs.Prelude.{◌≡◌, ◌⊎◌, true, IfOk, IfErr, OnErr};
+ghost use Rattle.std.specs.Prelude.{◌≡◌, true, IfOk, IfErr, OnErr};
 ghost use Rattle.gb_session.specs.Runs.{HasAsked};
 ghost use Rattle.gb_session.specs.Sessions.{IsSession};
-ghost use Rattle.gb_worker.specs.Asked.{AnswersAt, reply_of};
+ghost use Rattle.gb_worker.specs.Asked.{AnswersAt, reply_at, reply_of};
 
 use gb_host::fault::HostFault;
 use gb_host::gate::Gate;
@@ -22,11 +22,10 @@ use std::io::{Read, Write};
 use std::sync::Wait;
 use std::sync::ledger::Ledger;
 
-// What a client is told of a call: the node's reply, OutOfMemory where the host had no memory for the call, and Stopped at any
-// other fault of the host.
+// What a client is told of a call.
 fn reply_of(outcome: Result<NodeAnswer, HostFault>) -> Reply
     ensures answered { IfOk outcome (λ a. result ≡ reply_of a) }
-    ensures fault { IfErr outcome (λ _. (result ≡ Reply.Refused Refusal.Stopped) ⊎ (result ≡ Reply.Refused Refusal.OutOfMemory)) }
+    ensures fault { IfErr outcome (λ why. result ≡ reply_at why) }
 {
     match outcome {
         Ok(NodeAnswer::Reply(reply)) => reply,

@@ -2,7 +2,7 @@ use Rattle.std.proofs.Common.{◌≡◌, ◌<◌, ◌∙◌, length, get_or, ref
 use Rattle.gb_layer.proofs.MappedLemmas.{mapped_more, mapped_below, mapped_from}
 use Rattle.gb_layer.proofs.PlacesLemmas.{fails_elsewhere, get_within}
 use Rattle.gb_layer.specs.Relay.{is_for, held}
-use Rattle.gb_layer.specs.TableLemmas.{not_held}
+use Rattle.gb_layer.proofs.TableLemmas.{not_held}
 use Rattle.gb_layer.proofs.entries.hold_in.Goals as goal
 
 pub loop-i-init : goal.loop-i-init

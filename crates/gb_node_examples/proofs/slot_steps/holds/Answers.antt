@@ -2,7 +2,7 @@ use Rattle.std.proofs.Common.{ap, sym, ◌∙◌, subst}
 use Rattle.gb_types.specs.declared.spec.Spec.{Spec}
 use Rattle.gb_slot.specs.Effects.{AreReady}
 use Rattle.gb_slot.specs.SlotState.{SlotState}
-use Rattle.gb_slot.specs.SpecLemmas.{spec-came, spec-noticed, still_ready}
+use Rattle.gb_slot.proofs.SpecLemmas.{spec-came, spec-noticed, still_ready}
 use Rattle.gb_node_examples.proofs.slot_steps.holds.Goals as goal
 
 pub returns-in-Came : goal.returns-in-Came

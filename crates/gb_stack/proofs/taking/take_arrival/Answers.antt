@@ -30,4 +30,4 @@ returns-clause-taken g c =
     let once = subst (IsDistinct same) (sym (keys_of rs1) ∙ ap (λ (es : List Entry). map (λ x. x.m) es) all) c.note-at.new.self.once in
     composed rules h.me h.members h.noticed h.ordered (Came p m) m at rs rs1 c.hold_at.new.records.list.items c.settle_at.new.records.list.items e (held_entry h.me p e) c.args.sends.now.items c.args.sends.now.items c.settle_at.new.sends.items _
     c.args.ups.now.items c.settle_at.new.ups.items refl refl items here refl r.2 (c.hold_at.ensures.relay e here) c.hold_at.ensures.order c.settle_at.ensures.moves
-    (came_stepped rules h.me h.members h.noticed m (relay_entries rs) at e c.requires.quiet once (ap (λ (es : List Entry). slice_get es at) (sym all) ∙ here) r.2 p) refl
+    (came_stepped rules h.me h.members h.noticed m (relay_entries rs) at e c.requires.quiescent once (ap (λ (es : List Entry). slice_get es at) (sym all) ∙ here) r.2 p) refl

@@ -10,7 +10,7 @@ use Rattle.gb_layer.specs.Relay.{held_entry, sent_entry}
 use Rattle.gb_layer.specs.declared.call.Call.TheVariants.{Say}
 use Rattle.gb_records.specs.declared.record.Record.{Record}
 use Rattle.gb_records.specs.Records.{keys, relay_entry, relay_entries, order_entries}
-use Rattle.gb_stack.specs.Settled.{AreQuiet}
+use Rattle.gb_stack.specs.Settled.{AreQuiescent}
 use Rattle.gb_stack.specs.Taken.{relay_state}
 use Rattle.gb_stack.proofs.SettledLemmas.{at_changed, at_unchanged}
 use Rattle.gb_stack.proofs.ArrivalLemmas.{said_stepped, said_again, said_list, set_there}
@@ -39,14 +39,14 @@ returns-then-index-clause-taken g c =
     let all : relay_entries rs1 ≡ relay.noted (relay_entries rs) m = ap relay_entries items ∙ relay_noted rs m in
     let once = subst (IsDistinct same) (sym (keys_of rs1) ∙ ap (λ (es : List Entry). map (λ x. x.m) es) all) c.note-at.new.self.once in
     let was : e.sent ≡ true = read_sent rs1 at r.0 c.index.result.now r.1 c.index.ensures ∙ c.if-index.true in
-    let step = said_again rules h.me h.members h.noticed m (relay_entries rs) at e c.requires.quiet once (ap (λ (es : List Entry). slice_get es at) (sym all) ∙ here) r.2 was in
-    let list = all ∙ said_list rules h.me h.members h.noticed m (relay_entries rs) at e c.requires.quiet once (ap (λ (es : List Entry). slice_get es at) (sym all) ∙ here) r.2 was in
+    let step = said_again rules h.me h.members h.noticed m (relay_entries rs) at e c.requires.quiescent once (ap (λ (es : List Entry). slice_get es at) (sym all) ∙ here) r.2 was in
+    let list = all ∙ said_list rules h.me h.members h.noticed m (relay_entries rs) at e c.requires.quiescent once (ap (λ (es : List Entry). slice_get es at) (sym all) ∙ here) r.2 was in
     record {
       state = ap (relay_state h.me h.members h.noticed) list ∙ step.next;
       keys = ap keys items;
       sends = sym (append-nil c.args.sends.now.items) ∙ ap (λ (xs : List MsgId). c.args.sends.now.items ++ xs) (sym step.sends);
       ups = handed_as h.ordered _ _ _ _ _ _ _ (sym step.ups) refl (none_up h.ordered _ _ c.args.ups.now.items (ap order_entries items ∙ order_noted rs m));
-      quiet = subst (AreQuiet rules h.me h.members h.noticed) (sym list) step.quiet;
+      quiescent = subst (AreQuiescent rules h.me h.members h.noticed) (sym list) step.quiescent;
     }
 
 pub mark_at-requires : goal.mark_at-requires
@@ -122,5 +122,5 @@ returns-clause-taken g c =
     let changed = held ∙ (ap (λ (es : List Entry). set es at after) marked ∙ set-set (relay_entries rs1) at (sent_entry e) after) in
     composed rules h.me h.members h.noticed h.ordered (Say m) m at rs rs1 c.hold_at.new.records.list.items c.settle_at.new.records.list.items e after c.args.sends.now.items c.push_reserved.new.self.items c.settle_at.new.sends.items (m ∷ [])
     c.args.ups.now.items c.settle_at.new.ups.items refl refl items here refl r.2 changed (c.hold_at.ensures.order ∙ c.mark_at.ensures.order) c.settle_at.ensures.moves
-    (said_stepped rules h.me h.members h.noticed m (relay_entries rs) at e c.requires.quiet once (ap (λ (es : List Entry). slice_get es at) (sym all) ∙ here) r.2 new)
+    (said_stepped rules h.me h.members h.noticed m (relay_entries rs) at e c.requires.quiescent once (ap (λ (es : List Entry). slice_get es at) (sym all) ∙ here) r.2 new)
     (append-nil c.push_reserved.new.self.items ∙ c.push_reserved.ensures.items)

@@ -8,7 +8,7 @@ use Rattle.gb_groups.specs.AtAddress.{OthersKept}
 use Rattle.gb_groups.specs.GroupsValue.{GroupsValue}
 use Rattle.gb_groups.proofs.AddressLemmas.{others_kept_row, place_is}
 use Rattle.gb_groups.proofs.CoveredLemmas.{word_nobody, covered_enrolled, covered_kept}
-use Rattle.gb_groups.proofs.IndexLemmas.{places_quiet}
+use Rattle.gb_groups.proofs.IndexLemmas.{places_unchanged}
 use Rattle.gb_groups.proofs.MemberLemmas.{memberships_dropped}
 use Rattle.gb_groups.proofs.NotedLemmas.{index_dropped}
 use Rattle.gb_groups.proofs.groups.Groups.drop_group.Goals as goal
@@ -29,7 +29,7 @@ invariant_of-self c =
     let nobody = word_nobody NODES c.in-Some.place c.self.inside.busy in
     let enrolled = covered_enrolled c.in-Some.place nodes.empty c.self.inside.memberships c.enrol-in-Some.new.memberships c.self.inside.busy c.self.invariant.3 nobody kept in
     let covered = covered_kept c.enrol-in-Some.new.memberships c.self.inside.busy c.enrol.new.memberships enrolled busy.words in
-    rw c.remove-reply.ensures.rows (places_quiet rows c.self.inside.cursors c.in-Some.place row c.self.invariant.0, index_dropped rows c.self.inside.busy c.enrol.new.memberships c.in-Some.place within c.self.invariant.1 busy, memberships_dropped rows c.self.inside.memberships c.enrol-in-Some.new.memberships c.in-Some.place c.self.invariant.2 within kept, covered)
+    rw c.remove-reply.ensures.rows (places_unchanged rows c.self.inside.cursors c.in-Some.place row c.self.invariant.0, index_dropped rows c.self.inside.busy c.enrol.new.memberships c.in-Some.place within c.self.invariant.1 busy, memberships_dropped rows c.self.inside.memberships c.enrol-in-Some.new.memberships c.in-Some.place c.self.invariant.2 within kept, covered)
 
 pub returns-in-Some-clause-others : goal.returns-in-Some-clause-others
 returns-in-Some-clause-others c =

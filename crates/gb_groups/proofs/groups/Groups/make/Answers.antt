@@ -8,7 +8,7 @@ use Rattle.gb_groups.specs.GroupsValue.{GroupsValue, ArePlaces, IsIndex}
 use Rattle.gb_groups.proofs.CoveredLemmas.{grown_none, index_grown_words, memberships_grown_words, covered_grown, covered_enrolled}
 use Rattle.gb_groups.proofs.IndexLemmas.{index_grown, places_grown}
 use Rattle.gb_groups.proofs.MemberLemmas.{memberships_grown}
-use Rattle.gb_groups.proofs.QuietLemmas.{waiting-new}
+use Rattle.gb_groups.proofs.UnchangedLemmas.{waiting-new}
 use Rattle.gb_groups.proofs.groups.Groups.make.Goals as goal
 
 -- the sets have grown, and nothing else has changed

@@ -3,7 +3,7 @@ use Rattle.gb_slot.specs.Slot.{slot_noticed}
 use Rattle.gb_groups.specs.SlotsValue.{row_at, on_slot}
 use Rattle.gb_groups.specs.GroupsValue.{GroupsValue}
 use Rattle.gb_groups.proofs.IndexLemmas.{index_but}
-use Rattle.gb_slot.specs.SpecLemmas.{spec-noticed}
+use Rattle.gb_slot.proofs.SpecLemmas.{spec-noticed}
 use Rattle.gb_groups.proofs.CoveredLemmas.{word_stepped}
 use Rattle.gb_groups.proofs.NotedLemmas.{outside_stepped}
 use Rattle.gb_groups.proofs.groups.Groups.notice_at.Goals as goal

@@ -5,17 +5,17 @@ use Rattle.gb_groups.specs.SlotsValue.{row_at, on_slot}
 use Rattle.gb_groups.specs.AtAddress.{OthersKept}
 use Rattle.gb_groups.specs.GroupsValue.{GroupsValue}
 use Rattle.gb_groups.proofs.AddressLemmas.{others_kept}
-use Rattle.gb_groups.proofs.IndexLemmas.{index_quiet, places_quiet}
+use Rattle.gb_groups.proofs.IndexLemmas.{index_unchanged, places_unchanged}
 use Rattle.gb_groups.proofs.MemberLemmas.{memberships_step}
-use Rattle.gb_slot.specs.SpecLemmas.{spec-moved}
-use Rattle.gb_groups.proofs.QuietLemmas.{queue-moved}
+use Rattle.gb_slot.proofs.SpecLemmas.{spec-moved}
+use Rattle.gb_groups.proofs.UnchangedLemmas.{queue-moved}
 use Rattle.gb_groups.proofs.groups.Groups.open_group.Goals as goal
 
 pub invariant_of-self : goal.invariant_of-self
 invariant_of-self c =
     let rows = c.self.inside.slots.rows in
     let row = on_slot (slot_moved Opened c.open_group.result) (row_at rows c.in-Some.place) in
-    rw c.open_group.ensures.rows (places_quiet rows c.self.inside.cursors c.in-Some.place row c.self.invariant.0, index_quiet rows c.self.inside.busy c.in-Some.place row c.self.invariant.1 (λ d. queue-moved d Opened c.open_group.result (row_at rows c.in-Some.place)), memberships_step (slot_moved Opened c.open_group.result) rows c.self.inside.memberships c.in-Some.place (spec-moved Opened c.open_group.result) c.self.invariant.2, c.self.invariant.3)
+    rw c.open_group.ensures.rows (places_unchanged rows c.self.inside.cursors c.in-Some.place row c.self.invariant.0, index_unchanged rows c.self.inside.busy c.in-Some.place row c.self.invariant.1 (λ d. queue-moved d Opened c.open_group.result (row_at rows c.in-Some.place)), memberships_step (slot_moved Opened c.open_group.result) rows c.self.inside.memberships c.in-Some.place (spec-moved Opened c.open_group.result) c.self.invariant.2, c.self.invariant.3)
 
 pub returns-in-Some-clause-others : goal.returns-in-Some-clause-others
 returns-in-Some-clause-others c =

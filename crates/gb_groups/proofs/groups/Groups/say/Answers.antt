@@ -6,12 +6,12 @@ use Rattle.gb_groups.specs.SlotsValue.{row_at, on_slot}
 use Rattle.gb_groups.specs.AtAddress.{place_of, reply_at, group_reply, OthersKept}
 use Rattle.gb_groups.specs.GroupsValue.{GroupsValue}
 use Rattle.gb_groups.proofs.AddressLemmas.{others_kept, place_is}
-use Rattle.gb_groups.proofs.IndexLemmas.{index_but, index_quiet, places_quiet}
+use Rattle.gb_groups.proofs.IndexLemmas.{index_but, index_unchanged, places_unchanged}
 use Rattle.gb_groups.proofs.MemberLemmas.{memberships_step}
-use Rattle.gb_slot.specs.SpecLemmas.{spec-said, reaches-said}
+use Rattle.gb_slot.proofs.SpecLemmas.{spec-said, reaches-said}
 use Rattle.gb_groups.proofs.CoveredLemmas.{covered_kept, word_stepped}
 use Rattle.gb_groups.proofs.NotedLemmas.{unreached_stepped}
-use Rattle.gb_groups.proofs.QuietLemmas.{queue-unsaid}
+use Rattle.gb_groups.proofs.UnchangedLemmas.{queue-unsaid}
 use Rattle.gb_groups.proofs.groups.Groups.say.Goals as goal
 
 pub note_put_out-requires-clause-others : goal.note_put_out-requires-clause-others
@@ -54,7 +54,7 @@ invariant_of-self c =
     let rows = c.self.inside.slots.rows in
     let p = c.in-Some.place in
     let step = slot_said c.args.payload.now c.say-reply.result in (
-      rw c.say-reply.ensures.rows (places_quiet rows c.self.inside.cursors p (on_slot step (row_at rows p)) c.self.invariant.0),
+      rw c.say-reply.ensures.rows (places_unchanged rows c.self.inside.cursors p (on_slot step (row_at rows p)) c.self.invariant.0),
       c.note_put_out.ensures.index,
       rw c.say-reply.ensures.rows (memberships_step step rows c.self.inside.memberships p (spec-said c.args.payload.now c.say-reply.result) c.self.invariant.2),
       covered_kept c.self.inside.memberships c.self.inside.busy c.note_put_out.new.busy c.self.invariant.3 c.note_put_out.ensures.words,
@@ -66,7 +66,7 @@ invariant_of-self-in_default c =
     let p = c.in-Some.place in
     let step = slot_said c.args.payload.now c.say-reply.result in
     let row = on_slot step (row_at rows p) in
-    rw c.say-reply.ensures.rows (places_quiet rows c.self.inside.cursors p row c.self.invariant.0, index_quiet rows c.self.inside.busy p row c.self.invariant.1 (λ d. queue-unsaid d c.args.payload.now c.say-reply.result (row_at rows p) c.in_default.not-Said), memberships_step step rows c.self.inside.memberships p (spec-said c.args.payload.now c.say-reply.result) c.self.invariant.2, c.self.invariant.3)
+    rw c.say-reply.ensures.rows (places_unchanged rows c.self.inside.cursors p row c.self.invariant.0, index_unchanged rows c.self.inside.busy p row c.self.invariant.1 (λ d. queue-unsaid d c.args.payload.now c.say-reply.result (row_at rows p) c.in_default.not-Said), memberships_step step rows c.self.inside.memberships p (spec-said c.args.payload.now c.say-reply.result) c.self.invariant.2, c.self.invariant.3)
 
 pub returns-in_default-clause-others : goal.returns-in_default-clause-others
 returns-in_default-clause-others c =

@@ -9,7 +9,7 @@ use Rattle.gb_groups.specs.Busy.{IsPutOut}
 use Rattle.gb_groups.specs.Slots.{row_of}
 use Rattle.gb_groups.proofs.SlotsLemmas.{changed, slot_is, slot_written}
 use Rattle.gb_slot.specs.SlotState.{SlotState}
-use Rattle.gb_slot.specs.SpecLemmas.{spec-came}
+use Rattle.gb_slot.proofs.SpecLemmas.{spec-came}
 use Rattle.gb_groups.proofs.LentLemmas.{lent_called}
 use Rattle.gb_groups.proofs.slots.Slots.came.Goals as goal
 
@@ -30,11 +30,11 @@ pub returns-in-Some-get_mut-clause-put_out : goal.returns-in-Some-get_mut-clause
 returns-in-Some-get_mut-clause-put_out c = λ some.
     subst IsPutOut (sym (slot_written c.self.inside.slots c.self.inside.places.entries c.args.place c.in-Some.key c.in-Some-get_mut.slot.now c.came.new.self c.in-Some.ensures c.in-Some-get_mut.ensures.value)) (c.came.ensures.put_out some)
 
-pub returns-in-Some-get_mut-clause-quiet : goal.returns-in-Some-get_mut-clause-quiet
-returns-in-Some-get_mut-clause-quiet c = λ quiet dest.
+pub returns-in-Some-get_mut-clause-unchanged : goal.returns-in-Some-get_mut-clause-unchanged
+returns-in-Some-get_mut-clause-unchanged c = λ unchanged dest.
     let v = c.in-Some-get_mut.slot.now in
     let x : Entry = record { origin = c.args.origin; seq = c.args.seq; payload = c.args.payload.now } in
-    rw (← c.self.view_is) (many-came c.args.from x (row_at (map (row_of c.self.inside.slots) c.self.inside.places.entries) c.args.place) v c.came.new.self dest (slot_is c.self.inside.slots c.self.inside.places.entries c.args.place c.in-Some.key v c.in-Some.ensures c.in-Some-get_mut.ensures.value) c.came.ensures.state (c.came.ensures.quiet quiet dest))
+    rw (← c.self.view_is) (many-came c.args.from x (row_at (map (row_of c.self.inside.slots) c.self.inside.places.entries) c.args.place) v c.came.new.self dest (slot_is c.self.inside.slots c.self.inside.places.entries c.args.place c.in-Some.key v c.in-Some.ensures c.in-Some-get_mut.ensures.value) c.came.ensures.state (c.came.ensures.unchanged unchanged dest))
 
 pub returns-in_default-get_mut-clause-rows : goal.returns-in_default-get_mut-clause-rows
 returns-in_default-get_mut-clause-rows c = grind (arith, common_steps)

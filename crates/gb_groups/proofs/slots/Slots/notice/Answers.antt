@@ -6,7 +6,7 @@ use Rattle.std.proofs.Math.ListN.{set}
 use Rattle.gb_groups.specs.SlotsValue.{SlotsValue, row_at, on_slot}
 use Rattle.gb_groups.proofs.SlotsLemmas.{changed}
 use Rattle.gb_slot.specs.SlotState.{SlotState}
-use Rattle.gb_slot.specs.SpecLemmas.{spec-noticed}
+use Rattle.gb_slot.proofs.SpecLemmas.{spec-noticed}
 use Rattle.gb_groups.proofs.LentLemmas.{lent_called}
 use Rattle.gb_groups.proofs.slots.Slots.notice.Goals as goal
 

@@ -10,7 +10,7 @@ use Rattle.gb_groups.specs.Busy.{IsPutOut}
 use Rattle.gb_groups.specs.SlotsValue.{SlotsValue, row_at, on_slot, unless_gone}
 use Rattle.gb_groups.proofs.SlotsLemmas.{changed, slot_is, slot_written}
 use Rattle.gb_slot.specs.SlotState.{SlotState}
-use Rattle.gb_slot.specs.SpecLemmas.{spec-said}
+use Rattle.gb_slot.proofs.SpecLemmas.{spec-said}
 use Rattle.gb_groups.proofs.LentLemmas.{lent_called}
 use Rattle.gb_groups.proofs.slots.Slots.say.Goals as goal
 

@@ -1,6 +1,6 @@
 use Rattle.std.proofs.Common.{◌∙◌}
 use Rattle.gb_layer.specs.Relay.{is_for}
-use Rattle.gb_layer.specs.TableLemmas.{any_at, any_none}
+use Rattle.gb_layer.proofs.TableLemmas.{any_at, any_none}
 use Rattle.gb_layer.proofs.ledger.Ledger.has.Goals as goal
 
 pub returns-in-Some-place : goal.returns-in-Some-place

@@ -1,7 +1,7 @@
 use Rattle.std.proofs.Common.{◌∙◌, ap}
 use Rattle.gb_layer.specs.EntryLemmas.{keys}
 use Rattle.gb_layer.specs.Table.{leads}
-use Rattle.gb_layer.specs.TableLemmas.{keys_held}
+use Rattle.gb_layer.proofs.TableLemmas.{keys_held}
 use Rattle.gb_layer.proofs.ledger.Ledger.hold.Goals as goal
 
 pub invariant_of-self : goal.invariant_of-self

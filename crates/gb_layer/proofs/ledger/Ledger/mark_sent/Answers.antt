@@ -2,7 +2,7 @@ use Rattle.std.proofs.Common.{◌∙◌, ap}
 use Rattle.gb_layer.specs.EntryLemmas.{keys, keys_marked}
 use Rattle.gb_layer.specs.Relay.{marked_sent}
 use Rattle.gb_layer.specs.Table.{leads}
-use Rattle.gb_layer.specs.TableLemmas.{set_there, map_none, not_marked}
+use Rattle.gb_layer.proofs.TableLemmas.{set_there, map_none, not_marked}
 use Rattle.gb_layer.proofs.ledger.Ledger.mark_sent.Goals as goal
 
 pub returns-in-Some-place-clause-items : goal.returns-in-Some-place-clause-items

@@ -7,7 +7,7 @@ use Rattle.gb_layer.specs.EntryLemmas.{keys}
 use Rattle.gb_layer.specs.EntryListLemmas.{any_keys}
 use Rattle.gb_layer.specs.Relay.{is_for, is_unsent, new_entry, sent_entry, marked_sent}
 use Rattle.gb_layer.specs.Table.{leads}
-use Rattle.gb_layer.specs.TableLemmas.{unmarked}
+use Rattle.gb_layer.proofs.TableLemmas.{unmarked}
 use Rattle.gb_layer.proofs.CountedLemmas.{marked_no_more}
 use Rattle.gb_layer.proofs.ledger.Ledger.note_sent.Goals as goal
 

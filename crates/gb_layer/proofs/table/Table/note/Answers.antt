@@ -1,5 +1,5 @@
 use Rattle.std.proofs.Common.{◌+◌, ◌++◌, ◌∷◌, [], arith}
-use Rattle.gb_layer.specs.TableLemmas.{leads_said, leads_nothing, leads_unsaid}
+use Rattle.gb_layer.proofs.TableLemmas.{leads_said, leads_nothing, leads_unsaid}
 use Rattle.gb_layer.proofs.table.Table.note.Goals as goal
 
 pub returns-then-count-from : goal.returns-then-count-from

@@ -1,5 +1,5 @@
 use Rattle.std.proofs.Common.{sym, arith}
-use Rattle.gb_layer.specs.TableLemmas.{stands_there}
+use Rattle.gb_layer.proofs.TableLemmas.{stands_there}
 use Rattle.gb_layer.proofs.PlacesLemmas.{get_within}
 use Rattle.gb_layer.proofs.table.Table.places.Goals as goal
 

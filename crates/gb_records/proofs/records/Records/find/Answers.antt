@@ -6,7 +6,7 @@ use Rattle.gb_types.specs.declared.message.MsgId.{MsgId}
 use Rattle.gb_layer.specs.Lists.{any_map, map_same}
 use Rattle.gb_layer.specs.Relay as relay
 use Rattle.gb_layer.specs.Table.{leads, IsNowhere, IsThere}
-use Rattle.gb_layer.specs.TableLemmas.{any_at, any_none}
+use Rattle.gb_layer.proofs.TableLemmas.{any_at, any_none}
 use Rattle.gb_records.specs.declared.record.Record.{Record}
 use Rattle.gb_records.specs.Records.{keys, is_for, relay_entry, relay_entries}
 use Rattle.gb_records.proofs.PlaceLemmas.{key_at}

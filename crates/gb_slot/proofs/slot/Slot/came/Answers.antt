@@ -42,9 +42,9 @@ returns-clause-put_out c = λ some b reached.
     let left : taken_for (held c.self.inside) b < length (put_messages now) = omega (arith, more, grown, c.self.invariant.5.stands.taken b, length-map now (λ o. o.m), length-map before (λ o. o.m)) in
     some_rest (entry_in c.take_in.new.self.entries) _ (taken_for (held c.self.inside) b) (put_messages now) reached left
 
-pub returns-clause-quiet : goal.returns-clause-quiet
-returns-clause-quiet c = λ quiet dest.
-    let same : c.len.result ≡ c.len-count.result = grind (arith, nat_tests, quiet) in
+pub returns-clause-unchanged : goal.returns-clause-unchanged
+returns-clause-unchanged c = λ unchanged dest.
+    let same : c.len.result ≡ c.len-count.result = grind (arith, nat_tests, unchanged) in
     let now = c.take_call.new.outgoing.items in
     let before = c.self.inside.outgoing.items in
     let count : length (put_messages now) ≡ length (put_messages before) = omega (arith, same, length-map now (λ o. o.m), length-map before (λ o. o.m)) in

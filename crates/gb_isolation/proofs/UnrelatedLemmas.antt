@@ -25,7 +25,7 @@ use Rattle.gb_isolation.proofs.View.{view_of, Fits, Goes}
 use Rattle.gb_isolation.proofs.GoesLemmas.{goes_none}
 
 -- An event with its answer that makes nothing of a group.
-pub record IsQuiet (plan : NodePlan) (g : Addr) (past : List Happened) (e : NodeEvent) (x : NodeAnswer) : Type 0 where
+pub record IsUnrelated (plan : NodePlan) (g : Addr) (past : List Happened) (e : NodeEvent) (x : NodeAnswer) : Type 0 where
   pub packed : (b : ℕ) → packed_for plan.cluster_key b e x ≡ []
   pub none_came : came plan.cluster_key e x ≡ []
   pub none_taken : (b n : ℕ) → is_taken_by plan.cluster_key b n e x ≡ false
@@ -36,9 +36,9 @@ pub record IsQuiet (plan : NodePlan) (g : Addr) (past : List Happened) (e : Node
   pub no_reply : reply_in plan g past e x ≡ []
   pub unmet : is_met_by plan g past e x ≡ false
 
-quiet_view : (plan : NodePlan) (g : Addr) (past : List Happened) (e : NodeEvent) (x : NodeAnswer) → IsQuiet plan g past e x → view_of plan g (record { event = e; answer = x } ∷ past) ≡ view_of plan g past
+unrelated_view : (plan : NodePlan) (g : Addr) (past : List Happened) (e : NodeEvent) (x : NodeAnswer) → IsUnrelated plan g past e x → view_of plan g (record { event = e; answer = x } ∷ past) ≡ view_of plan g past
 unfolding frames_to is_acked is_taken watched tenants_in told_of made_with replies_in is_met
-quiet_view plan g past e x q = λ i. record {
+unrelated_view plan g past e x q = λ i. record {
   reserve = option_map reserve_of (row_of g.tenant ((ap (λ (rows : List TenantRow). tenants_in past ++ rows) q.none_added ∙ append-nil (tenants_in past)) i));
   told = q.same_group i;
   made = or_else (q.not_made i) (made_with g past);
@@ -51,7 +51,7 @@ quiet_view plan g past e x q = λ i. record {
   taken = λ b n. q.none_taken b n i || is_taken plan.cluster_key b n past;
 }
 
-pub quiet_goes : (plan : NodePlan) (g : Addr) (past : List Happened) (e : NodeEvent) (x : NodeAnswer) (frames_from : ℕ → List (List Item)) (group : Group) → IsQuiet plan g past e x
+pub unrelated_goes : (plan : NodePlan) (g : Addr) (past : List Happened) (e : NodeEvent) (x : NodeAnswer) (frames_from : ℕ → List (List Item)) (group : Group) → IsUnrelated plan g past e x
     → Fits plan.nodes g plan.me.number frames_from (view_of plan g past) (group plan.me.number) → Goes plan.nodes g plan.me frames_from (view_of plan g (record { event = e; answer = x } ∷ past)) group []
-quiet_goes plan g past e x frames_from group q was =
-    goes_none plan.nodes g plan.me frames_from (view_of plan g (record { event = e; answer = x } ∷ past)) group (subst (λ w. Fits plan.nodes g plan.me.number frames_from w (group plan.me.number)) (sym (quiet_view plan g past e x q)) was)
+unrelated_goes plan g past e x frames_from group q was =
+    goes_none plan.nodes g plan.me frames_from (view_of plan g (record { event = e; answer = x } ∷ past)) group (subst (λ w. Fits plan.nodes g plan.me.number frames_from w (group plan.me.number)) (sym (unrelated_view plan g past e x q)) was)
