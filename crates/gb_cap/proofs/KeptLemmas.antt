@@ -1,5 +1,5 @@
 -- Tokens and keys that are kept in maps, as they were made once: what holds of each entry.
-use Rattle.std.proofs.Common.{◌≡◌, ℕ, zero, suc, List, [], ◌∷◌, refl, sym, subst, true, false, arith}
+use Rattle.std.proofs.Common.{◌≡◌, zero, suc, List, [], ◌∷◌, refl, sym, subst, true, false, arith}
 use Rattle.std.specs.Prelude.{Bool, cond, Some, All, Result, Ok, Err, OnOk, OnErr}
 use Rattle.std.specs.Map.{lookup}
 use Rattle.std.proofs.lemmas.List.Elements.{All-cons, All-nil}

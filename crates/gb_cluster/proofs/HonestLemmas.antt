@@ -151,7 +151,7 @@ pub record SendLaws : Type 0 where
 -- A packet that a node sends.
 module _ (law : SendLaws) (plan : Plan) (a : NodeId) (inside : a.number < plan.nodes) (past : List Happened) (v : NodeValue) (was : IsOfPast (node_plan plan a) past v) where
   acks_are : (b : NodeId) (frame : ℕ) (items : List Item) (n : ℕ) → 1 ≤ n → covers (content_to v b frame items).base (content_to v b frame items).mask n ≡ true → is_taken plan.cluster_key b.number n past ≡ true
-  acks_are b frame items n from is = sym (was.received b n) ∙ covered_received (receiver_from v b.number) n from is
+  acks_are b frame items n from is = sym (was.beside.received b n) ∙ covered_received (receiver_from v b.number) n from is
 
   -- with a frame of the node's past with what happens now
   module _ (run : List Did) (past_is : past_at a run ≡ past) (d : Did) (here : d.node ≡ a) where
@@ -161,7 +161,7 @@ module _ (law : SendLaws) (plan : Plan) (a : NodeId) (inside : a.number < plan.n
       content = content_to v b frame items;
       from = a;
       text = law.read (node_plan plan a) past v was text (content_to v b frame items) is fit;
-      sender = ap (λ (x : NodeId). x.number) was.me;
+      sender = ap (λ (x : NodeId). x.number) was.beside.me;
       inside = inside;
       goal = refl;
       reaches = (law.inside (node_plan plan a) past v was b other).0;
@@ -186,7 +186,7 @@ module _ (law : SendLaws) (plan : Plan) (a : NodeId) (inside : a.number < plan.n
         let h : Happened = record { event = d.event; answer = d.answer } in
         let longer : frames_to plan.cluster_key b.number (past_at a (d ∷ run)) ≡ fs ++ items ∷ [] =
         ap (frames_to plan.cluster_key b.number) (past_same a d run (ap (λ (x : NodeId). x.number) here) ∙ ap (λ hs. h ∷ hs) past_is) ∙ ap (λ gs. fs ++ gs) one in
-        let number = was.next b in
+        let number = was.beside.next b in
         honest b text next items (law.batches v b items batch) text_is fit (λ some. ap (λ gs. slice_get gs (next - 1)) longer ∙ get_last fs items (next - 1) (omega (arith, number)))
 
     again_honest : (b : NodeId) (n : ℕ) (text : List ℕ) (o : Option (ℕ × List Item)) → is_another v b ≡ true → frame_again (window_to v b.number) n ≡ o
@@ -197,7 +197,7 @@ module _ (law : SendLaws) (plan : Plan) (a : NodeId) (inside : a.number < plan.n
         let same : c ≡ said.content = let x = said.is in cc in
         let text_is : text ≡ packet_text v.key c = said.text_is ∙ ap (packet_text v.key) (sym same) in
         let fs = frames_to plan.cluster_key b.number past in
-        let was_packed = again_frame (window_to v b.number) n u fs (λ w. not (is_acked plan.cluster_key b.number w.0 past)) (was.undone b) frame in
+        let was_packed = again_frame (window_to v b.number) n u fs (λ w. not (is_acked plan.cluster_key b.number w.0 past)) (was.beside.undone b) frame in
         honest b text u.0 u.1 other text_is (subst IsPacket (sym same) said.fit)
         (λ some. frames_more plan.cluster_key b.number (u.0 - 1) u.1 a d run (ap (λ hs. slice_get (frames_to plan.cluster_key b.number hs) (u.0 - 1)) past_is ∙ was_packed.1))
 

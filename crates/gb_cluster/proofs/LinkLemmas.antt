@@ -108,7 +108,7 @@ module _ (pasts : PastsSay) (packets : PacketsAreHonest) (plan : Plan) where
       let place = sent bytes refl (ap is_ok took.here) in
       record {
         content = took.content;
-        text = ap (λ k. read k bytes) (sym was.key) ∙ ap packet_in took.text;
+        text = ap (λ k. read k bytes) (sym was.beside.key) ∙ ap packet_in took.text;
         good_is = took.good_is;
         honest = packets plan run v comes place.0 (record { to = a; text = bytes }) (contains_get v.packets place.0 (record { to = a; text = bytes }) place.1 place.2);
       }
@@ -131,7 +131,7 @@ module _ (pasts : PastsSay) (packets : PacketsAreHonest) (plan : Plan) where
           let number = new.0 in
           let not_zero : so.honest.content.frame ≢ 0 = λ z. let f = ap (λ (x : Content). x.frame) said in absurd (omega (arith, number, z, f)) in (
             new.0,
-            ap (λ k. is_taken plan.cluster_key k c.frame (past_at a run)) (sym from_is) ∙ (sym (was.received so.honest.from c.frame) ∙ (ap (λ k. set.contains (receiver_from (node_at before a) k) c.frame) from_is ∙ new.1)),
+            ap (λ k. is_taken plan.cluster_key k c.frame (past_at a run)) (sym from_is) ∙ (sym (was.beside.received so.honest.from c.frame) ∙ (ap (λ k. set.contains (receiver_from (node_at before a) k) c.frame) from_is ∙ new.1)),
             ap (λ x. slice_get (frames_to plan.cluster_key a.number (past_at x run)) (c.frame - 1)) sender
                 ∙ (ap (λ (x : Content). slice_get (frames_to plan.cluster_key a.number (past_at so.honest.from run)) (x.frame - 1)) (sym said) ∙ (so.honest.frame not_zero ∙ ap (λ (x : Content). Some x.items) said)),
           )

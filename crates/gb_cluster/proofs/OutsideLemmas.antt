@@ -131,7 +131,7 @@ recent sends pasts plan [] v comes b = record { last = omega arith; near = λ n 
 recent sends pasts plan (h ∷ past) v comes b =
     let key = plan.cluster_key in
     let was = pasts plan past comes.0 comes.1 in
-    still_recent (window_to comes.0 b.number) (frames_to key b.number past) (packed_for key b.number h.event h.answer) (λ n. is_acked key b.number n past) (λ n. is_acked key b.number n (h ∷ past)) (was.next b) (was.undone b)
+    still_recent (window_to comes.0 b.number) (frames_to key b.number past) (packed_for key b.number h.event h.answer) (λ n. is_acked key b.number n past) (λ n. is_acked key b.number n (h ∷ past)) (was.beside.next b) (was.beside.undone b)
     (λ n new. or_left (is_acked key b.number n past) (nat_le n (length (frames_to key b.number past)) && list_any (is_ack b.number n) (came key h.event h.answer)) new)
     (recent sends pasts plan past comes.0 comes.1 b) (packs sends key comes.0 b h.event h.answer v comes.2)
 
@@ -179,7 +179,7 @@ module _ (sends : SendersRun) (pasts : PastsSay) (packets : PacketsAreHonest) (l
       let r = receiver_from (node_at before a) from.number in
       let n = so.honest.content.frame in
       let unacked : (m : ℕ) → 1 ≤ m → set.contains r m ≡ false → is_acked key a.number m (past_at from run) ≡ false =
-      λ m some lacks. refuted_by (is_acked key a.number m (past_at from run)) (is_taken key from.number m (past_at a run)) ((links.each plan run before comes from a).acknowledged m some) (sym (was.received from m) ∙ lacks) in
+      λ m some lacks. refuted_by (is_acked key a.number m (past_at from run)) (is_taken key from.number m (past_at a run)) ((links.each plan run before comes from a).acknowledged m some) (sym (was.beside.received from m) ∙ lacks) in
       inside_fate r n
       (λ some lacks. let there = slice_get_within (frames_to key a.number (past_at from run)) (n - 1) so.honest.content.items (so.honest.frame (λ z. absurd (omega (arith, some, z)))) in
       awaited r n (length (frames_to key a.number (past_at from run))) some (omega (arith, there, some)) near.last lacks (λ m low high gone. near.near m low high (unacked m low gone)))

@@ -38,8 +38,8 @@ all_read honest pasts plan run v comes k p w at there =
     let found = slice_get-get_or v.nodes p.to.number (new_node (node_plan v.plan p.to)) within in
     let is : node_at v p.to ≡ w = let same : Some (node_at v p.to) ≡ Some w = sym found ∙ there in cc in
     let was = pasts (node_plan plan p.to) (past_at p.to run) (node_at v p.to) (have_pasts plan run v p.to comes reaches) in
-    let nodes = was.nodes in
+    let nodes = was.beside.nodes in
     let sender = h.sender in
     let inside = h.inside in
     subst (λ u. is_ok (read_at u p.text) ≡ true) is
-    (reads (node_at v p.to) p.text h.content (ap (λ key. reading key p.text) was.key ∙ read_under plan.cluster_key p.text h.content h.text) (h.goal ∙ ap (λ a. a.number) (sym was.me)) (omega (arith, nodes, sender, inside)))
+    (reads (node_at v p.to) p.text h.content (ap (λ key. reading key p.text) was.beside.key ∙ read_under plan.cluster_key p.text h.content h.text) (h.goal ∙ ap (λ a. a.number) (sym was.beside.me)) (omega (arith, nodes, sender, inside)))

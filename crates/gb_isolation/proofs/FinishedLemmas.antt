@@ -12,7 +12,7 @@ use Rattle.gb_frame.specs.declared.item.Item.{Item}
 use Rattle.gb_history.specs.History.{said_in, has_noticed}
 use Rattle.gb_alone.specs.Alone.{Member, is_marked, is_own, is_acknowledged, is_finished, count_unfinished}
 use Rattle.gb_alone.proofs.UsageLemmas.{all_alike}
-use Rattle.gb_node.specs.PastGroups.{Told, waiting_of, unfinished_in}
+use Rattle.gb_node.specs.PastGroups.{waiting_of}
 use Rattle.gb_node.specs.PastGroups as past
 use Rattle.gb_isolation.specs.Project.{items_of}
 use Rattle.gb_isolation.proofs.MemberLemmas.{CountsAlike}

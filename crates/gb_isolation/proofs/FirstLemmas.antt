@@ -65,16 +65,16 @@ taken_once inside pasts plan run d v bytes good comes event answer =
     let took = takes old bytes good acts.node (subst (λ x. IsTurn old (Came bytes) x acts.node) answer (subst (λ x. IsTurn old x d.answer acts.node) event acts.turn)) in
     let c = took.content in
     let here = and_right (nat_eq c.to old.table.me.number) (nat_lt c.from old.table.nodes) took.placed in
-    let nodes = was.nodes in
+    let nodes = was.beside.nodes in
     let below : c.from < plan.nodes = let l : c.from < old.table.nodes = grind (arith, nat_tests, here) in omega (arith, l, nodes) in
     let sender : (node_numbered c.from).number ≡ c.from = omega (arith, below, few) in
     let r = receiver_from old c.from in
     let received : set.contains r c.frame ≡ is_taken plan.cluster_key c.from c.frame past =
-    sym (ap (λ k. set.contains (receiver_from old k) c.frame) sender) ∙ (was.received (node_numbered c.from) c.frame ∙ ap (λ k. is_taken plan.cluster_key k c.frame past) sender) in
+    sym (ap (λ k. set.contains (receiver_from old k) c.frame) sender) ∙ (was.beside.received (node_numbered c.from) c.frame ∙ ap (λ k. is_taken plan.cluster_key k c.frame past) sender) in
     let frame : good.frame ≡ fate c.frame r = ap (λ (g : Good). g.frame) took.good_is in
     record {
       content = c;
-      text = ap (λ k. read k bytes) (sym was.key) ∙ ap packet_in took.text;
+      text = ap (λ k. read k bytes) (sym was.beside.key) ∙ ap packet_in took.text;
       first = ap is_first frame ∙ (first_fate r c.frame (λ e. inside plan run d v bytes good comes event answer (frame ∙ e)) ∙ ap (λ b. not (nat_eq c.frame 0) && not b) received);
     }
 

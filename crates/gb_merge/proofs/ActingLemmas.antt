@@ -69,11 +69,11 @@ pub good_is : PastsSay → (plan : Plan) (run : List Did) (v : ClusterValue) (a 
 unfolding is_good
 good_is pasts plan run v a bytes comes within =
     let was : IsOfPast (node_plan plan a) (past_at a run) (node_at v a) = pasts (node_plan plan a) (past_at a run) (node_at v a) (have_pasts plan run v a comes within) in
-    ap (λ (k : List ℕ). is_ok (if_here (node_at v a) (reading k bytes))) was.key ∙ by was (reading plan.cluster_key bytes)
+    ap (λ (k : List ℕ). is_ok (if_here (node_at v a) (reading k bytes))) was.beside.key ∙ by was (reading plan.cluster_key bytes)
   where
     by : IsOfPast (node_plan plan a) (past_at a run) (node_at v a) → (r : Result Content PacketFault) → is_ok (if_here (node_at v a) r) ≡ is_ok (if_here (new_node (node_plan plan a)) r)
     by was (Err fault) = refl
-    by was (Ok c) = λ i. is_ok (if nat_eq c.to (was.me i).number && nat_lt c.from (was.nodes i) then Ok c else Err Node)
+    by was (Ok c) = λ i. is_ok (if nat_eq c.to (was.beside.me i).number && nat_lt c.from (was.beside.nodes i) then Ok c else Err Node)
 
 -- a good packet says for which node it is
 goal_is : (plan : Plan) (a : NodeId) (bytes : List ℕ) (c : Content) → read plan.cluster_key bytes ≡ c ∷ [] → is_good plan a bytes ≡ true → c.to ≡ a.number

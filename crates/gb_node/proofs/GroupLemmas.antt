@@ -248,8 +248,8 @@ module _ (each : EachGroup) (plan : NodePlan) (past : List Happened) (v : NodeVa
   pub asked_groups : (r : Request) (reply : Reply) → group_in g (node_did r reply v).table.groups.rows ≡ group_after plan g past (Asked r) (Replied reply) (group_in g v.table.groups.rows)
   asked_groups r reply =
       did_for each v.watch.noticed g r reply v.table
-      ∙ (ap (λ m. asked_for g m v.watch.noticed r reply (group_in g v.table.groups.rows)) was.me
-      ∙ ap (λ (w : Watch). asked_for g plan.me w.noticed r reply (group_in g v.table.groups.rows)) was.watch)
+      ∙ (ap (λ m. asked_for g m v.watch.noticed r reply (group_in g v.table.groups.rows)) was.beside.me
+      ∙ ap (λ (w : Watch). asked_for g plan.me w.noticed r reply (group_in g v.table.groups.rows)) was.beside.watch)
 
   -- a node with a number beyond all has no frames
   no_frames : (key : List ℕ) (n : ℕ) (hs : List Happened) → NODES ≤ n → frames_to key n hs ≡ []
@@ -279,7 +279,7 @@ module _ (each : EachGroup) (plan : NodePlan) (past : List Happened) (v : NodeVa
   unfolding numbered
   undone_is size n =
       elim (cases_lt n NODES) [
-        | inl l ↦ was.undone (record { number = n; below = l })
+        | inl l ↦ was.beside.undone (record { number = n; below = l })
         | inr l ↦
             ap (λ (w : SendWindow (List Item)). w.undone) (get_or_past v.windows n new_window (omega (arith, l, size)))
             ∙ sym (ap (λ fs. filter (λ u. not (is_acked plan.cluster_key n u.0 past)) (numbered 1 fs)) (no_frames plan.cluster_key n past l))
@@ -294,7 +294,7 @@ module _ (each : EachGroup) (plan : NodePlan) (past : List Happened) (v : NodeVa
       let acked = took_ack c (heard c v) in
       let first = is_first (fate c.frame (receiver_from v c.from)) in
       let frees : newly_done c v ≡ freed_by key past c = ap (filter (λ u. covers c.base c.mask u.0)) (undone_is size c.from) in
-      let one : read key bytes ≡ c ∷ [] = ap (λ k. read k bytes) (sym was.key) ∙ ap packet_in is in
+      let one : read key bytes ≡ c ∷ [] = ap (λ k. read k bytes) (sym was.beside.key) ∙ ap packet_in is in
       frame_comes_in each g from c.frame c.items (receiver_from v c.from) acked.table
       ∙ (ap (λ x. if first then fold (came_for from) x (items_for g c.items) else x) (frames_done_in each g from v.table (newly_done c v) ∙ ap (λ us. fold (done_for from) o (items_for g (items_freed us))) frees)
       ∙ sym (ap (λ cs. fold (taken_for key g past (fate c.frame (receiver_from v c.from))) o cs) one))
@@ -303,7 +303,7 @@ module _ (each : EachGroup) (plan : NodePlan) (past : List Happened) (v : NodeVa
       → group_in g (sent_batch b (Some items) v).table.groups.rows ≡ group_after plan g past (Pack b) (Sent (SentPacket (packet_text v.key (content_to v b (window_to v b.number).next items)))) (group_in g v.table.groups.rows)
   packed_groups b items law fit size apart is =
       let c = content_to v b (window_to v b.number).next items in
-      let one : read plan.cluster_key (packet_text v.key c) ≡ c ∷ [] = ap (λ k. read k (packet_text v.key c)) (sym was.key) ∙ told v b items law fit size in
+      let one : read plan.cluster_key (packet_text v.key c) ≡ c ∷ [] = ap (λ k. read k (packet_text v.key c)) (sym was.beside.key) ∙ told v b items law fit size in
       packed_in each g b items v.table apart is
       ∙ sym (ap (λ cs. fold (packed_from g b) (group_in g v.table.groups.rows) cs) one)
 

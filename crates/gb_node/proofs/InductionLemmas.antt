@@ -88,7 +88,7 @@ module _ (law : WhatIsWrittenIsRead) (each : EachGroup) (stay : StayApart) (slot
       groups = λ g. took_groups each plan past v was g bytes c is has.windows;
       apart = frame_comes_apart stay (node_numbered c.from) c.frame c.items (receiver_from v c.from) (took_ack c (heard c v)).table (frames_done_apart stay (node_numbered c.from) v.table (newly_done c v) ok);
       told = λ g.
-          let one : read plan.cluster_key bytes ≡ c ∷ [] = ap (λ k. read k bytes) (sym was.key) ∙ ap packet_in is in
+          let one : read plan.cluster_key bytes ≡ c ∷ [] = ap (λ k. read k bytes) (sym was.beside.key) ∙ ap packet_in is in
           let frame = fate c.frame (receiver_from v c.from) in
           subst (λ cs. IsTold plan.me (fold (taken_for plan.cluster_key g past frame) (group_of plan g past) cs) (fold (taken_told plan.me plan.cluster_key g past frame) (told_of plan g past) cs)) (sym one)
           (taken_stands slots plan.me plan.cluster_key g past frame (group_of plan g past) (told_of plan g past) c (was.told g));
@@ -114,7 +114,7 @@ module _ (law : WhatIsWrittenIsRead) (each : EachGroup) (stay : StayApart) (slot
         apart = stay.taken b.number ROOM v.table.groups ok;
         told = λ g.
             let c = content_to v b (window_to v b.number).next items in
-            let one : read plan.cluster_key (packet_text v.key c) ≡ c ∷ [] = ap (λ k. read k (packet_text v.key c)) (sym was.key) ∙ packet_told v b items law fit has.windows in
+            let one : read plan.cluster_key (packet_text v.key c) ≡ c ∷ [] = ap (λ k. read k (packet_text v.key c)) (sym was.beside.key) ∙ packet_told v b items law fit has.windows in
             subst (λ cs. IsTold plan.me (fold (packed_from g b) (group_of plan g past) cs) (fold (packed_told g b) (told_of plan g past) cs)) (sym one)
             (packed_stands slots plan.me b (items_for g items) (group_of plan g past) (told_of plan g past) (λ s there. subst (λ o. length (items_for g items) ≤ length (waiting_in o b.number)) (was.groups g ∙ there) (waiting_enough each v b g items ok (next_items v b items is))) (was.told g));
       }
@@ -165,17 +165,19 @@ module _ (law : WhatIsWrittenIsRead) (each : EachGroup) (stay : StayApart) (slot
 new_says : (plan : NodePlan) → StandsForPast plan [] (new_node plan)
 unfolding frames_to numbered is_acked is_taken watched tenants_in is_stopped group_of told_of
 new_says plan = record {
-  key = refl;
-  me = refl;
-  nodes = refl;
-  places = refl;
-  admin_key = refl;
-  stopped = refl;
-  watch = refl;
-  tenants = refl;
-  next = λ b. ap (λ (w : SendWindow (List Item)). w.next) (get_or-replicate NODES b.number new_window new_window b.below);
-  undone = λ b. ap (λ (w : SendWindow (List Item)). w.undone) (get_or-replicate NODES b.number new_window new_window b.below);
-  received = λ b n. ap (λ r. set.contains r n) (get_or-replicate NODES b.number set.empty set.empty b.below) ∙ set.contains-empty nat_cmp n;
+  beside = record {
+    key = refl;
+    me = refl;
+    nodes = refl;
+    places = refl;
+    admin_key = refl;
+    stopped = refl;
+    watch = refl;
+    tenants = refl;
+    next = λ b. ap (λ (w : SendWindow (List Item)). w.next) (get_or-replicate NODES b.number new_window new_window b.below);
+    undone = λ b. ap (λ (w : SendWindow (List Item)). w.undone) (get_or-replicate NODES b.number new_window new_window b.below);
+    received = λ b n. ap (λ r. set.contains r n) (get_or-replicate NODES b.number set.empty set.empty b.below) ∙ set.contains-empty nat_cmp n;
+  };
   groups = λ g. refl;
   told = λ g. tt;
 }
@@ -202,7 +204,7 @@ module _ (law : WhatIsWrittenIsRead) (each : EachGroup) (stay : StayApart) (slot
       let before = stands past comes.0 comes.1 in
       let step = goes law each stay slots few plan (started plan past comes.0 comes.1) past comes.0 before.says before.tables before.apart h.event h.answer v comes.2 comes.3 in
       record {
-        says = moved_says plan past h.event h.answer comes.0 v before.says (subst (λ k. Moved k h.event h.answer comes.0 v) before.says.key step.moved) step.groups step.told;
+        says = moved_says plan past h.event h.answer comes.0 v before.says (subst (λ k. Moved k h.event h.answer comes.0 v) before.says.beside.key step.moved) step.groups step.told;
         tables = step.tables;
         apart = step.apart;
       }
@@ -210,17 +212,7 @@ module _ (law : WhatIsWrittenIsRead) (each : EachGroup) (stay : StayApart) (slot
 -- what a node is, and what it shows of each group, the past says
 pub of_past : SlotLaws → (plan : NodePlan) (past : List Happened) (v : NodeValue) → StandsForPast plan past v → IsOfPast plan past v
 of_past slots plan past v was = record {
-  key = was.key;
-  me = was.me;
-  nodes = was.nodes;
-  places = was.places;
-  admin_key = was.admin_key;
-  stopped = was.stopped;
-  watch = was.watch;
-  tenants = was.tenants;
-  next = was.next;
-  undone = was.undone;
-  received = was.received;
+  beside = was.beside;
   shown = λ g. ap (option_map (option_map shown)) (was.groups g) ∙ told_shown slots.log plan.me (group_of plan g past) (told_of plan g past) (was.told g);
   waiting = λ g b. ap (λ o. waiting_in o b) (was.groups g) ∙ told_waiting plan.me (group_of plan g past) (told_of plan g past) b (was.told g);
 }

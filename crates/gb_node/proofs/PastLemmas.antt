@@ -117,22 +117,25 @@ unfolding frames_to is_taken watched tenants_in is_stopped group_of told_of
 moved_says plan past e a v w was step groups told =
     let key = plan.cluster_key in
     let h : Happened = record { event = e; answer = a } in
+    let beside = was.beside in
     record {
-      key = step.key_is ∙ was.key;
-      me = step.me ∙ was.me;
-      nodes = step.nodes ∙ was.nodes;
-      places = step.places ∙ was.places;
-      admin_key = step.admin_key ∙ was.admin_key;
-      stopped = step.stopped ∙ ap (λ t. stops e a || t) was.stopped;
-      watch = step.watch ∙ (ap (λ d. replay d (ticks e a ++ map (λ (c : Content). Heard c.from) (came key e a))) was.watch
-          ∙ sym (replay-append (start plan.me.number plan.nodes plan.silence) (ticks e a ++ map (λ (c : Content). Heard c.from) (came key e a)) (watched key past)));
-      tenants = step.tenants ∙ ap (λ rows. rows ++ added e a) was.tenants;
-      next = λ b. let longer = length-append (frames_to key b.number past) (packed_for key b.number e a) in omega (arith, step.next b, was.next b, longer);
-      undone = λ b.
-          step.undone b ∙ (ap (λ us. filter (λ u. not (list_any (is_ack b.number u.0) (came key e a))) us ++ numbered ((window_to v b.number).next) (packed_for key b.number e a)) (was.undone b)
-          ∙ (ap (λ n. filter (λ u. not (list_any (is_ack b.number u.0) (came key e a))) (filter (λ u. not (is_acked key b.number u.0 past)) (numbered 1 (frames_to key b.number past))) ++ numbered n (packed_for key b.number e a)) (was.next b)
-          ∙ sym (left_after key b.number h past)));
-      received = λ b n. step.received b n ∙ ap (λ t. is_taken_by key b.number n e a || t) (was.received b n);
+      beside = record {
+        key = step.key_is ∙ beside.key;
+        me = step.me ∙ beside.me;
+        nodes = step.nodes ∙ beside.nodes;
+        places = step.places ∙ beside.places;
+        admin_key = step.admin_key ∙ beside.admin_key;
+        stopped = step.stopped ∙ ap (λ t. stops e a || t) beside.stopped;
+        watch = step.watch ∙ (ap (λ d. replay d (ticks e a ++ map (λ (c : Content). Heard c.from) (came key e a))) beside.watch
+            ∙ sym (replay-append (start plan.me.number plan.nodes plan.silence) (ticks e a ++ map (λ (c : Content). Heard c.from) (came key e a)) (watched key past)));
+        tenants = step.tenants ∙ ap (λ rows. rows ++ added e a) beside.tenants;
+        next = λ b. let longer = length-append (frames_to key b.number past) (packed_for key b.number e a) in omega (arith, step.next b, beside.next b, longer);
+        undone = λ b.
+            step.undone b ∙ (ap (λ us. filter (λ u. not (list_any (is_ack b.number u.0) (came key e a))) us ++ numbered ((window_to v b.number).next) (packed_for key b.number e a)) (beside.undone b)
+            ∙ (ap (λ n. filter (λ u. not (list_any (is_ack b.number u.0) (came key e a))) (filter (λ u. not (is_acked key b.number u.0 past)) (numbered 1 (frames_to key b.number past))) ++ numbered n (packed_for key b.number e a)) (beside.next b)
+            ∙ sym (left_after key b.number h past)));
+        received = λ b n. step.received b n ∙ ap (λ t. is_taken_by key b.number n e a || t) (beside.received b n);
+      };
       groups = λ g. groups g ∙ ap (group_after plan g past e a) (was.groups g);
       told = told;
     }

@@ -86,8 +86,8 @@ pub other_number : (b nodes me : ℕ) → (nat_lt b nodes && not (nat_eq b me)) 
 other_number b nodes me e = (grind (arith, nat_tests, e), λ h. grind (arith, nat_tests, e, h))
 
 pub another_in : OthersAreInside
-another_in plan past v was b other = other_number b.number plan.nodes plan.me.number (sym (λ i. nat_lt b.number (was.nodes i) && not (nat_eq b.number (was.me i).number)) ∙ other)
+another_in plan past v was b other = other_number b.number plan.nodes plan.me.number (sym (λ i. nat_lt b.number (was.beside.nodes i) && not (nat_eq b.number (was.beside.me i).number)) ∙ other)
 
 -- a packet is read under the cluster's key
 pub read_is : WhatIsWrittenIsRead → PacketsAreReadBack
-read_is law plan past v was text c is fit = ap (λ k. read k text) (sym was.key) ∙ (ap (read v.key) is ∙ ap packet_in (law v.key c fit))
+read_is law plan past v was text c is fit = ap (λ k. read k text) (sym was.beside.key) ∙ (ap (read v.key) is ∙ ap packet_in (law v.key c fit))

@@ -1,5 +1,5 @@
 -- Each group of a node as its slot, which stands for what the past tells of the group.
-use Rattle.std.specs.Prelude.{ℕ, ◌≡◌, ◌+◌, ◌<◌, ◌||◌, not, false, Bool, List, [], ◌∷◌, length, filter, fold, get_or, Option, Some, None, nat_eq, nat_lt, if◌then◌else◌}
+use Rattle.std.specs.Prelude.{ℕ, ◌≡◌, ◌+◌, ◌<◌, ◌||◌, false, Bool, List, [], ◌∷◌, length, fold, get_or, Option, Some, None, nat_eq, nat_lt, if◌then◌else◌}
 use Rattle.std.specs.FinSet as set
 use Rattle.std.specs.Ordering.{nat_cmp}
 use Rattle.gb_types.specs.Entry.{message_of}
@@ -13,7 +13,6 @@ use Rattle.gb_types.specs.declared.request.Request.{Request}
 use Rattle.gb_types.specs.declared.request.Request.TheVariants.{Make, OpenGroup, ShutGroup, DropGroup, Say}
 use Rattle.gb_frame.specs.declared.item.Item.{Item}
 use Rattle.gb_frame.specs.Packet.{Content}
-use Rattle.gb_detect.specs.Watch.{start, replay}
 use Rattle.gb_rules.specs.Address.{is_addr}
 use Rattle.gb_rules.specs.declared.phase.Phase.TheVariants.{Opened, Shut}
 use Rattle.gb_slot.specs.SlotState.{SlotState}
@@ -23,7 +22,7 @@ use Rattle.gb_frame.specs.Items.{entry_of, items_for}
 use Rattle.gb_rules.specs.Lifetime.{stepped, dropped, or_added, where_so}
 use Rattle.gb_groups.specs.OneGroup.{group_in, came_for}
 use Rattle.gb_node.specs.NodeValue.{NodeValue}
-use Rattle.gb_node.specs.NodeStep.{node_numbered, window_to, receiver_from}
+use Rattle.gb_node.specs.NodeStep.{node_numbered}
 use Rattle.gb_node.specs.declared.plan.NodePlan.{NodePlan}
 use Rattle.gb_node.specs.declared.answer.NodeAnswer.{NodeAnswer}
 use Rattle.gb_node.specs.declared.answer.NodeAnswer.TheVariants.{Reply as Replied, Taken, Sent, Ticked}
@@ -33,8 +32,9 @@ use Rattle.gb_node.specs.declared.answer.Sent.TheVariants.{Packet as SentPacket}
 use Rattle.gb_node.specs.declared.answer.Ticked.TheVariants.{Noticed}
 use Rattle.gb_node.specs.declared.event.NodeEvent.{NodeEvent}
 use Rattle.gb_node.specs.declared.event.NodeEvent.TheVariants.{Request as Asked, Packet as Came, Pack, Tick}
-use Rattle.gb_node.specs.Past.{Happened, read, frames_to, numbered, is_acked, is_taken, is_first, watched, tenants_in, is_stopped}
+use Rattle.gb_node.specs.Past.{Happened, read, is_first}
 use Rattle.gb_node.specs.PastGroups.{Told, noticed_in, freed_by, items_freed, told_of}
+use Rattle.gb_node.specs.PastLaw.{IsOfPastBesideGroups}
 
 -- What each event makes of a group's slot.
 
@@ -96,16 +96,6 @@ IsTold me o p = ⊥
 
 -- What a node is its past says, and each group's slot stands for what the past tells of the group.
 pub record StandsForPast (plan : NodePlan) (past : List Happened) (v : NodeValue) : Type 0 where
-  pub key : v.key ≡ plan.cluster_key
-  pub me : v.table.me ≡ plan.me
-  pub nodes : v.table.nodes ≡ plan.nodes
-  pub places : v.table.places ≡ plan.places
-  pub admin_key : v.table.admin_key ≡ plan.admin_key
-  pub stopped : v.stopped ≡ is_stopped past
-  pub watch : v.watch ≡ replay (start plan.me.number plan.nodes plan.silence) (watched plan.cluster_key past)
-  pub tenants : v.table.tenants ≡ tenants_in past
-  pub next : (b : NodeId) → (window_to v b.number).next ≡ length (frames_to plan.cluster_key b.number past) + 1
-  pub undone : (b : NodeId) → (window_to v b.number).undone ≡ filter (λ u. not (is_acked plan.cluster_key b.number u.0 past)) (numbered 1 (frames_to plan.cluster_key b.number past))
-  pub received : (b : NodeId) (n : ℕ) → set.contains (receiver_from v b.number) n ≡ is_taken plan.cluster_key b.number n past
+  pub beside : IsOfPastBesideGroups plan past v
   pub groups : (g : Addr) → group_in g v.table.groups.rows ≡ group_of plan g past
   pub told : (g : Addr) → IsTold plan.me (group_of plan g past) (told_of plan g past)

@@ -58,7 +58,7 @@ use Rattle.gb_node.proofs.ToldLemmas.{SlotLaws, reply_is}
 -- Requests.
 module _ (plan : NodePlan) (past : List Happened) (v : NodeValue) (was : IsOfPast plan past v) where
   table_is : v.table ≡ record (past_table plan past) { groups = v.table.groups }
-  table_is = λ i. record { me = was.me i; nodes = was.nodes i; places = was.places i; admin_key = was.admin_key i; tenants = was.tenants i; groups = v.table.groups }
+  table_is = λ i. record { me = was.beside.me i; nodes = was.beside.nodes i; places = was.beside.places i; admin_key = was.beside.admin_key i; tenants = was.beside.tenants i; groups = v.table.groups }
 
   at_group : (answer : Shown → Reply) (addr : Addr) → group_reply answer addr v.table.groups.rows ≡ group_answer answer (shown_in plan.me.number (told_of plan addr past))
   at_group answer addr = reply_is answer v.table.groups.rows (place_of addr v.table.groups.rows) ∙ ap (group_answer answer) (was.shown addr)
@@ -95,7 +95,7 @@ module _ (plan : NodePlan) (past : List Happened) (v : NodeValue) (was : IsOfPas
 
   -- what a node should reply is what its past says
   should_reply : (r : Request) → (turn v (Asked r)).answer ≡ Replied (past_answer plan past r)
-  should_reply r = by v.stopped ∙ (λ i. Replied (if was.stopped i then Refused Stopped else table_says i))
+  should_reply r = by v.stopped ∙ (λ i. Replied (if was.beside.stopped i then Refused Stopped else table_says i))
     where
       by : (b : Bool) → (if b then record { value = v; answer = Replied (Refused Stopped) } else running_turn v (Asked r)).answer ≡ Replied (if b then Refused Stopped else table_reply r v.table)
       by true = refl
@@ -125,7 +125,7 @@ module _ (law : WhatIsWrittenIsRead) (each : EachGroup) (plan : NodePlan) (past 
       let fit : IsPacket c = subst IsPacket (sym same) said.fit in
       let another = another_in plan past v was b (batch_another v b items batch) in
       record {
-        running = sym was.stopped ∙ running;
+        running = sym was.beside.stopped ∙ running;
         content = c;
         text_is = read_is law plan past v was text c text_is fit;
         inside = another.0;
@@ -178,17 +178,17 @@ module _ (plan : NodePlan) (right : IsNodePlan plan) (past : List Happened) (v :
       by true here e =
           let same : good ≡ good_of c v = cc in
           let goal = here_is c.to v.table.me.number c.from v.table.nodes here in
-          let to_is : c.to ≡ plan.me.number = goal.0 ∙ ap (λ (x : NodeId). x.number) was.me in
-          let inside : c.from < plan.nodes = subst (λ n. c.from < n) was.nodes goal.1 in
+          let to_is : c.to ≡ plan.me.number = goal.0 ∙ ap (λ (x : NodeId). x.number) was.beside.me in
+          let inside : c.from < plan.nodes = subst (λ n. c.from < n) was.beside.nodes goal.1 in
           let from : NodeId = record { number = c.from; below = let most = right.cluster in omega (arith, inside, most) } in
           record {
-            running = sym was.stopped ∙ running;
+            running = sym was.beside.stopped ∙ running;
             content = c;
-            text_is = ap (λ k. read k bytes) (sym was.key) ∙ ap packet_in is;
+            text_is = ap (λ k. read k bytes) (sym was.beside.key) ∙ ap packet_in is;
             goal = to_is;
             inside = inside;
             apart = λ one. between v.key bytes c is (one ∙ sym to_is);
-            first = λ first. let came = comes_first c.frame (receiver_from v c.from) (ap (λ (x : Good). is_first x.frame) (sym same) ∙ first) in (came.0, sym (was.received from c.frame) ∙ came.1);
+            first = λ first. let came = comes_first c.frame (receiver_from v c.from) (ap (λ (x : Good). is_first x.frame) (sym same) ∙ first) in (came.0, sym (was.beside.received from c.frame) ∙ came.1);
           }
 
   taken : (bytes : List ℕ) (good : Good) (w : NodeValue) → IsTurn v (Came bytes) (Taken (TakenGood good)) w → IsTakenIn plan past bytes good
@@ -224,7 +224,7 @@ module _ (few : NoticedByCalls) (plan : NodePlan) (right : IsNodePlan plan) (pas
   -- of a tick that notices these
   module _ (found : set.FinSet nat_cmp) (same : found ≡ due v.watch) where
     found_is : found ≡ due (replay (start plan.me.number plan.nodes plan.silence) (watched plan.cluster_key past))
-    found_is = same ∙ ap due was.watch
+    found_is = same ∙ ap due was.beside.watch
 
     later : (b : ℕ) → set.contains (noticed_in plan (record { event = Tick; answer = Ticked (Noticed found) } ∷ past)) b ≡ (set.contains found b || set.contains (noticed_in plan past) b)
     unfolding watched
@@ -240,7 +240,7 @@ module _ (few : NoticedByCalls) (plan : NodePlan) (right : IsNodePlan plan) (pas
 
     found_says : v.stopped ≡ false → IsTicked plan past found
     found_says running = record {
-      running = sym was.stopped ∙ running;
+      running = sym was.beside.stopped ∙ running;
       inside = λ b there. noticed_inside few plan right (record { event = Tick; answer = Ticked (Noticed found) } ∷ past) b (later b ∙ ap (λ p. p || set.contains (noticed_in plan past) b) there);
       fresh = fresh;
       later = later;

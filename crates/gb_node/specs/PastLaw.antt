@@ -11,8 +11,8 @@ use Rattle.gb_node.specs.Past.{Happened, ComesTo, frames_to, numbered, is_acked,
 use Rattle.gb_node.specs.NodeGroups.{shown_at, waiting_at}
 use Rattle.gb_node.specs.PastGroups.{shown_in, waiting_of, told_of}
 
--- What a node is its past says.
-pub record IsOfPast (plan : NodePlan) (past : List Happened) (v : NodeValue) : Type 0 where
+-- What a node is beside its groups, its past says.
+pub record IsOfPastBesideGroups (plan : NodePlan) (past : List Happened) (v : NodeValue) : Type 0 where
   pub key : v.key ≡ plan.cluster_key
   pub me : v.table.me ≡ plan.me
   pub nodes : v.table.nodes ≡ plan.nodes
@@ -26,6 +26,10 @@ pub record IsOfPast (plan : NodePlan) (past : List Happened) (v : NodeValue) : T
   pub undone : (b : NodeId) → (window_to v b.number).undone ≡ filter (λ u. not (is_acked plan.cluster_key b.number u.0 past)) (numbered 1 (frames_to plan.cluster_key b.number past))
   -- the link from each node: the numbers received
   pub received : (b : NodeId) (n : ℕ) → set.contains (receiver_from v b.number) n ≡ is_taken plan.cluster_key b.number n past
+
+-- What a node is its past says.
+pub record IsOfPast (plan : NodePlan) (past : List Happened) (v : NodeValue) : Type 0 where
+  pub beside : IsOfPastBesideGroups plan past v
   -- each group: what the rules read of it, and what waits in it
   pub shown : (g : Addr) → shown_at v g ≡ shown_in plan.me.number (told_of plan g past)
   pub waiting : (g : Addr) (b : ℕ) → waiting_at v g b ≡ waiting_of (told_of plan g past) b

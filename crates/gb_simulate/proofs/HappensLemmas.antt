@@ -1,5 +1,5 @@
 -- What an event in a cluster makes happen at its nodes.
-use Rattle.std.proofs.Common.{◌≡◌, ℕ, inl, inr, true, false, Bool, List, [], ◌∷◌, Option, Some, None, refl, sym, subst, ◌∙◌}
+use Rattle.std.proofs.Common.{◌≡◌, inl, inr, true, false, Bool, List, ◌∷◌, Option, Some, None, refl, sym, subst, ◌∙◌}
 use Rattle.std.specs.Prelude.{MatchBool}
 use Rattle.gb_node.specs.declared.event.NodeEvent.TheVariants.{Packet as Came}
 use Rattle.gb_cluster.specs.ClusterStep.{IsAt, IsArrival, IsStep, is_packet_for, packet_numbered}

@@ -10,7 +10,7 @@ use Rattle.gb_layer.specs.declared.effects.Up.{Up}
 use Rattle.gb_layer.specs.declared.entries.Entry.{Entry}
 use Rattle.gb_layer.specs.Rule.{Nodes, Rules}
 use Rattle.gb_layer.specs.Relay as relay
-use Rattle.gb_layer.specs.Relay.{due_to_relay, due_to_deliver, sent_entry, given_entry, handed}
+use Rattle.gb_layer.specs.Relay.{due_to_relay, due_to_deliver}
 use Rattle.gb_fifo.specs.declared.entry.Entry as fifo
 use Rattle.gb_fifo.specs.Entries as order
 use Rattle.gb_records.specs.declared.record.Record.{Record}

@@ -1,5 +1,5 @@
 -- What a worker reads from an answer.
-use Rattle.std.specs.Prelude.{ℕ, Bool, true, false, List, [], fold, Option, Some, None}
+use Rattle.std.specs.Prelude.{Bool, true, false, List, fold, Option, Some, None}
 use Rattle.std.specs.FinSet as set
 use Rattle.std.specs.Ordering.{nat_cmp}
 use Rattle.gb_types.specs.declared.refusal.Refusal.TheVariants.{Stopped}

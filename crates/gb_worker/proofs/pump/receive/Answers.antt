@@ -1,7 +1,6 @@
-use Rattle.std.proofs.Common.{rules, refl, ◌∙◌, ◌≡◌, sym, ap, arith, List, Err, subst}
+use Rattle.std.proofs.Common.{rules, refl, ◌∙◌, ◌≡◌, sym, ap, arith, Err, subst}
 use Rattle.std.specs.FinSet as set
 use Rattle.std.specs.Ordering.{nat_cmp}
-use Rattle.gb_host.specs.declared.entry.SeatEntry.{SeatEntry}
 use Rattle.gb_worker.specs.Carried.{HasCarried}
 use Rattle.gb_worker.specs.Gained.{Gains}
 use Rattle.gb_worker.specs.Turns.{HasReceived, IsReceived}

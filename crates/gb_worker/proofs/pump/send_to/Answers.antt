@@ -1,6 +1,5 @@
-use Rattle.std.proofs.Common.{rules, ◌≡◌, ◌∙◌, ◌%◌, ◌==◌, ◌&&◌, sym, Bool, not, List, true, subst}
+use Rattle.std.proofs.Common.{rules, ◌≡◌, ◌∙◌, ◌%◌, ◌==◌, ◌&&◌, sym, Bool, subst}
 use Rattle.gb_node.specs.declared.event.NodeEvent.TheVariants.{Again, Ack}
-use Rattle.gb_host.specs.declared.entry.SeatEntry.{SeatEntry}
 use Rattle.gb_worker.specs.Gained.{Gains, IfDue, IsNoted}
 use Rattle.gb_worker.proofs.CarryLemmas.{carried_more, ok_is_no_fault}
 use Rattle.gb_worker.proofs.TurnLemmas.{sent_whole, part_pack, part_again, part_ack}
