@@ -1,5 +1,5 @@
 -- Words with a bit for each node, and the sets that they stand for.
-use Rattle.std.specs.Prelude.{ℕ, ◌&&◌, count_by, nat_eq, List, [], ◌∷◌}
+use Rattle.std.specs.Prelude.{ℕ, ◌*◌, Bool, ◌&&◌, count_by, nat_eq, nat_lt, List, [], ◌∷◌}
 use Rattle.std.specs.Int.{bit_at}
 use Rattle.std.specs.Ordering.{nat_cmp}
 use Rattle.std.specs.FinSet as set
@@ -18,3 +18,7 @@ of_bits bits = set.retain (set.from_list (below NODES)) (λ i. nat_eq (bit_at bi
 -- how many nodes are in both sets
 abbrev pub common : set.FinSet nat_cmp → set.FinSet nat_cmp → ℕ
 common some other = count_by (λ p. set.contains some p && set.contains other p) (below NODES)
+
+-- more than half of the members pass the test
+abbrev pub has_majority : (ℕ → Bool) → (ℕ → Bool) → Bool
+has_majority is_member test = nat_lt (count_by is_member (below NODES)) (2 * count_by (λ p. is_member p && test p) (below NODES))

@@ -12,6 +12,8 @@ pub enum Kind {
     Eager,
     /// All-ack uniform reliable broadcast: a message is delivered once every member not noticed holds it.
     AllAck,
+    /// Majority-ack uniform reliable broadcast: a message is delivered once more than half of the members hold it.
+    Majority,
     /// Best-effort broadcast in the order in which each origin said its messages.
     FifoBeb,
     /// Lazy reliable broadcast in the order in which each origin said its messages.
@@ -20,4 +22,6 @@ pub enum Kind {
     FifoEager,
     /// All-ack uniform reliable broadcast in the order in which each origin said its messages.
     FifoAllAck,
+    /// Majority-ack uniform reliable broadcast in the order in which each origin said its messages.
+    FifoMajority,
 }

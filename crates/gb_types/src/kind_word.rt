@@ -14,10 +14,12 @@ fn word_of(kind: Kind) -> &'static [u8]
         Kind::Lazy => b"lazy",
         Kind::Eager => b"eager",
         Kind::AllAck => b"allack",
+        Kind::Majority => b"majority",
         Kind::FifoBeb => b"fbeb",
         Kind::FifoLazy => b"flazy",
         Kind::FifoEager => b"feager",
         Kind::FifoAllAck => b"fallack",
+        Kind::FifoMajority => b"fmajority",
     }
 }
 
@@ -30,10 +32,12 @@ fn kind_like(word: &[u8]) -> Option<Kind>
         [b'l', ..] => Some(Kind::Lazy),
         [b'e', ..] => Some(Kind::Eager),
         [b'a', ..] => Some(Kind::AllAck),
+        [b'm', ..] => Some(Kind::Majority),
         [b'f', b'b', ..] => Some(Kind::FifoBeb),
         [b'f', b'l', ..] => Some(Kind::FifoLazy),
         [b'f', b'e', ..] => Some(Kind::FifoEager),
         [b'f', b'a', ..] => Some(Kind::FifoAllAck),
+        [b'f', b'm', ..] => Some(Kind::FifoMajority),
         _ => None,
     }
 }

@@ -2,7 +2,7 @@
 ghost use Rattle.std.specs.Prelude.{◌≡◌, ◌<◌, ◌≤◌, ◌↔◌, ◌||◌, ◌&&◌, [], ◌∷◌, ◌+◌, nat_lt, count_by, IsNone, IfSome, MatchOption, IsTrue};
 ghost use Rattle.std.specs.List.{list_all};
 ghost use Rattle.std.specs.FinSet as set;
-ghost use Rattle.gb_types.specs.Places.{of_bits, below, common};
+ghost use Rattle.gb_types.specs.Places.{of_bits, below, common, has_majority};
 ghost use Rattle.gb_types.specs.Rising.{rising, rising_from, AreNodes};
 ghost use Rattle.gb_types.specs.declared.limits.TheConstants.{NODES};
 
@@ -181,6 +181,13 @@ impl NodeSet {
         ensures { result ≡ common self.now other.now }
     {
         count_both(self.bits, other.bits)
+    }
+
+    /// Whether more than half of the members are in the set.
+    pub fn has_majority_of(&self, members: &NodeSet) -> bool
+        ensures { result ≡ has_majority (set.contains members.now) (set.contains self.now) }
+    {
+        members.count_in(self) > members.count_in(members) / 2
     }
 
     /// Puts the node in.

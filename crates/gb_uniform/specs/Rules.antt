@@ -2,8 +2,13 @@
 use Rattle.std.specs.Prelude.{true, ◌||◌}
 use Rattle.std.specs.List.{list_all}
 use Rattle.std.specs.FinSet as set
+use Rattle.gb_types.specs.Places.{has_majority}
 use Rattle.gb_layer.specs.Rule.{Rules}
 
 -- all-ack broadcasts at once, and delivers once each member was noticed or holds the message (Cachin, Guerraoui, Rodrigues 2011, Algorithm 3.4)
 abbrev pub all_ack_rules : Rules
 all_ack_rules = record { broadcasts = λ _ _ _. true; delivers = λ members noticed holders. list_all (λ p. set.contains noticed p || set.contains holders p) (set.items members) }
+
+-- majority-ack broadcasts at once, and delivers once more than half of the members hold the message (Cachin, Guerraoui, Rodrigues 2011, Algorithm 3.5)
+abbrev pub majority_ack_rules : Rules
+majority_ack_rules = record { broadcasts = λ _ _ _. true; delivers = λ members _ holders. has_majority (set.contains members) (set.contains holders) }

@@ -1,0 +1,5 @@
+use Rattle.std.proofs.Common.{length}
+use Rattle.gb_layer.proofs.plain.+holders.Given as goal
+
+abbrev pub decreases-holders : goal.decreases-holders
+decreases-holders l = length l.nodes.now
