@@ -17,7 +17,7 @@ use Rattle.gb_layer.specs.Machine.{mentions, was_noticed, came_from, all_sends, 
 use Rattle.gb_layer.specs.Modules.{IsLawful, first_mentions, log, now_delivered}
 use Rattle.gb_layer.specs.Rule.{Nodes}
 use Rattle.gb_layer.specs.declared.broadcast_module.BroadcastModule.{BroadcastModule}
-use Rattle.gb_layer.specs.declared.broadcast_module.BroadcastModule.TheVariants.{BestEffort, Lazy, Eager, AllAck}
+use Rattle.gb_layer.specs.declared.broadcast_module.BroadcastModule.TheVariants.{BestEffort, Lazy, Eager, AllAck, MajorityAck}
 use Rattle.gb_layer.specs.declared.call.Call.{Call}
 use Rattle.gb_layer.specs.declared.call.Call.TheVariants.{Notice}
 use Rattle.gb_stack.specs.Kinds.{module_of, is_fifo, kind_log}
@@ -53,6 +53,7 @@ was_untold kind me members =
     lower Lazy = record { lower = tt; noticed = refl; entries = refl }
     lower Eager = record { lower = tt; noticed = refl; entries = refl }
     lower AllAck = record { lower = tt; noticed = refl; entries = refl }
+    lower MajorityAck = record { lower = tt; noticed = refl; entries = refl }
 
 -- Notices alone mention nothing.
 pub none_mentioned : (qs : List NodeId) (m : MsgId) → mentions (calls_of (map Crashed qs)) m ≡ false

@@ -9,7 +9,7 @@ use Rattle.gb_types.proofs.SameLemmas.{same_itself}
 use Rattle.gb_layer.specs.Machine.{mentions, was_noticed}
 use Rattle.gb_layer.specs.Modules.{first_mentions, is_broadcast, now_broadcast, broadcasts}
 use Rattle.gb_layer.specs.declared.broadcast_module.BroadcastModule.{BroadcastModule}
-use Rattle.gb_layer.specs.declared.broadcast_module.BroadcastModule.TheVariants.{BestEffort, Lazy, Eager, AllAck}
+use Rattle.gb_layer.specs.declared.broadcast_module.BroadcastModule.TheVariants.{BestEffort, Lazy, Eager, AllAck, MajorityAck}
 use Rattle.gb_layer.specs.declared.call.Call.{Call}
 use Rattle.gb_layer.specs.declared.call.Call.TheVariants.{Say}
 use Rattle.gb_stack.specs.Kinds.{module_of}
@@ -29,6 +29,7 @@ own_broadcast BestEffort me past m own = eq-eqb m.origin.number me own
 own_broadcast Lazy me past m own = ap (λ b. b || was_noticed past m.origin.number) (eq-eqb m.origin.number me own)
 own_broadcast Eager me past m own = refl
 own_broadcast AllAck me past m own = refl
+own_broadcast MajorityAck me past m own = refl
 
 said_broadcast : (base : BroadcastModule) (me : ℕ) (m : MsgId) (past : List Call) → m.origin.number ≡ me → mentions past m ≡ false → 0 < length (broadcasts base me (Say m) past)
 said_broadcast base me m past own new =

@@ -1,8 +1,10 @@
 -- What a history mentions, delivers and broadcasts, in every module of broadcast and in every kind.
 use Rattle.std.proofs.Common.{◌≡◌, ℕ, Bool, true, false, cond, not, ◌&&◌, ◌||◌, nat_eq, List, [], ◌∷◌, ◌++◌, filter, length, ◌≤◌, refl, sym, ap, ◌∙◌, arith, subst}
-use Rattle.std.specs.List.{AllByRecursion, list_all}
+use Rattle.std.specs.List.{AllByRecursion, list_all, list_any}
 use Rattle.std.proofs.lemmas.List.Elements.{filter-append}
 use Rattle.gb_types.specs.Message.{same}
+use Rattle.gb_types.specs.Places.{has_majority}
+use Rattle.gb_types.proofs.MajorityLemmas.{majority_more}
 use Rattle.gb_types.specs.declared.kind.Kind.{Kind}
 use Rattle.gb_types.specs.declared.message.MsgId.{MsgId}
 use Rattle.gb_types.proofs.SameLemmas.{same-true}
@@ -13,7 +15,7 @@ use Rattle.gb_layer.specs.Machine.{mentions, was_noticed, came_from}
 use Rattle.gb_layer.specs.FirstMentionLemmas.{first_mentions-mentioned, first_mentions-once}
 use Rattle.gb_layer.specs.Modules.{first_mentions, holds, is_delivered, now_delivered, now_broadcast, newly, delivers, broadcasts, log}
 use Rattle.gb_layer.specs.declared.broadcast_module.BroadcastModule.{BroadcastModule}
-use Rattle.gb_layer.specs.declared.broadcast_module.BroadcastModule.TheVariants.{BestEffort, Lazy, Eager, AllAck}
+use Rattle.gb_layer.specs.declared.broadcast_module.BroadcastModule.TheVariants.{BestEffort, Lazy, Eager, AllAck, MajorityAck}
 use Rattle.gb_layer.specs.declared.call.Call.{Call}
 use Rattle.gb_layer.specs.declared.call.Call.TheVariants.{Say, Came, Notice}
 use Rattle.gb_fifo.specs.Order.{is_in, in_order, RunsFromOne}
@@ -45,6 +47,7 @@ is_delivered_stays Eager me members c past m h = refl
 is_delivered_stays AllAck me members c past m h =
     list_all_weaker (λ p. was_noticed past p || holds me past p m) (λ p. was_noticed (c ∷ past) p || holds me (c ∷ past) p m)
     (λ p. or_more (was_noticed past p) (holds me past p m) (was_noticed (c ∷ past) p) (holds me (c ∷ past) p m) (noticed_stays c past p) (holds_stays me c past p m)) members h
+is_delivered_stays MajorityAck me members c past m h = majority_more (λ p. list_any (λ q. nat_eq q p) members) (λ p. holds me past p m) (λ p. holds me (c ∷ past) p m) (λ p in_p. holds_stays me c past p m) h
 
 -- a delivered message stays delivered
 pub delivered_stays : (base : BroadcastModule) (me : ℕ) (members : List ℕ) (c : Call) (past : List Call) (m : MsgId) → now_delivered base me members past m ≡ true → now_delivered base me members (c ∷ past) m ≡ true
@@ -164,12 +167,25 @@ kind_log_in_order kind me members past fifo =
 
 -- The members are read through tests on all of them alone.
 
+-- one element passes where not all fail
+any_not_all : (p : ℕ → Bool) (xs : List ℕ) → list_any p xs ≡ not (list_all (λ x. not (p x)) xs)
+any_not_all p [] = refl
+any_not_all p (x ∷ xs) = ap (λ b. p x || b) (any_not_all p xs) ∙ turned (p x) (list_all (λ y. not (p y)) xs)
+  where
+    turned : (a b : Bool) → (a || not b) ≡ not (not a && b)
+    turned true b = refl
+    turned false b = refl
+
 module _ (me : ℕ) (ms ns : List ℕ) (alike : (p : ℕ → Bool) → list_all p ms ≡ list_all p ns) where
+  listed_alike : (p : ℕ) → list_any (λ q. nat_eq q p) ms ≡ list_any (λ q. nat_eq q p) ns
+  listed_alike p = any_not_all (λ q. nat_eq q p) ms ∙ (ap not (alike (λ q. not (nat_eq q p))) ∙ sym (any_not_all (λ q. nat_eq q p) ns))
+
   delivered_alike : (base : BroadcastModule) (past : List Call) (m : MsgId) → is_delivered base me ms past m ≡ is_delivered base me ns past m
   delivered_alike BestEffort past m = refl
   delivered_alike Lazy past m = refl
   delivered_alike Eager past m = refl
   delivered_alike AllAck past m = alike (λ p. was_noticed past p || holds me past p m)
+  delivered_alike MajorityAck past m = λ i. has_majority (λ p. listed_alike p i) (λ p. holds me past p m)
 
   log_alike : (base : BroadcastModule) (past : List Call) → log base me ms past ≡ log base me ns past
   log_alike base [] = refl

@@ -4,7 +4,7 @@ use Rattle.std.specs.FinSet as set
 use Rattle.gb_types.specs.declared.kind.Kind.{Kind}
 use Rattle.gb_types.specs.declared.node.NodeId.{NodeId}
 use Rattle.gb_layer.specs.declared.broadcast_module.BroadcastModule.{BroadcastModule}
-use Rattle.gb_layer.specs.declared.broadcast_module.BroadcastModule.TheVariants.{BestEffort, Lazy, Eager, AllAck}
+use Rattle.gb_layer.specs.declared.broadcast_module.BroadcastModule.TheVariants.{BestEffort, Lazy, Eager, AllAck, MajorityAck}
 use Rattle.gb_layer.specs.declared.call.Call.{Call}
 use Rattle.gb_layer.specs.BebLemmas.{stays}
 use Rattle.gb_layer.specs.Machine.{Gives, after, all_ups, messages}
@@ -15,8 +15,8 @@ use Rattle.gb_layer.proofs.BestEffortLemmas.{direct_beb, best_effort_up, best_ef
 use Rattle.gb_layer.proofs.RelayModuleLemmas.{IsModule}
 use Rattle.gb_reliable.proofs.ModuleLemmas.{lazy_is_module, eager_is_module}
 use Rattle.gb_reliable.specs.Rules.{lazy_rules, eager_rules}
-use Rattle.gb_uniform.proofs.ModuleLemmas.{all_ack_is_module}
-use Rattle.gb_uniform.specs.Rules.{all_ack_rules}
+use Rattle.gb_uniform.proofs.ModuleLemmas.{all_ack_is_module, majority_ack_is_module}
+use Rattle.gb_uniform.specs.Rules.{all_ack_rules, majority_ack_rules}
 use Rattle.gb_fifo.specs.FifoLemmas.{lower_after}
 use Rattle.gb_fifo.specs.FifoMachine.{FifoState}
 use Rattle.gb_fifo.specs.FifoRoom.{IsNew}
@@ -25,7 +25,7 @@ use Rattle.gb_fifo.proofs.FifoOrderLemmas.{call_order, fifo_order}
 use Rattle.gb_fifo.proofs.OrderLemmas.{ordered_append}
 use Rattle.gb_stack.specs.InsideLemmas.{gives_into, ups_into}
 use Rattle.gb_stack.specs.Kinds.{module_of, is_fifo, kind_delivers, kind_broadcasts, kind_log}
-use Rattle.gb_stack.specs.StackState.{UnorderedState, best_effort, lazy, eager, all_ack, unordered, fifo, relayed_next, relayed_gives, unordered_next, unordered_gives, unordered_noticing, IsUntold, stack_next, stack_gives, untold_stack}
+use Rattle.gb_stack.specs.StackState.{UnorderedState, best_effort, lazy, eager, all_ack, majority_ack, unordered, fifo, relayed_next, relayed_gives, unordered_next, unordered_gives, unordered_noticing, IsUntold, stack_next, stack_gives, untold_stack}
 use Rattle.gb_stack.specs.Stands.{NewStackStands, CalledStackStands, HandsUpWhatIsDelivered, SendsWhatIsBroadcast, HandsUpTheLog, LogGrows}
 use Rattle.gb_stack.specs.UnorderedLemmas.{stay, unordered_ups_handed_in}
 use Rattle.gb_stack.specs.StackLemmas.{ordered_next, ordered_gives}
@@ -40,6 +40,7 @@ was_untold BestEffort me members = tt
 was_untold Lazy me members = record { lower = tt; noticed = refl; entries = refl }
 was_untold Eager me members = record { lower = tt; noticed = refl; entries = refl }
 was_untold AllAck me members = record { lower = tt; noticed = refl; entries = refl }
+was_untold MajorityAck me members = record { lower = tt; noticed = refl; entries = refl }
 
 -- a relay among the broadcasts without an order is the module that its rules make
 module _ (rules : Rules) (base : BroadcastModule) (into : State NodeId → UnorderedState) (nexts : (s : State NodeId) (c : Call) → unordered_next (into s) c ≡ into (relayed_next rules s c))
@@ -66,6 +67,7 @@ unordered_up BestEffort me members past c l = ap (λ (g : Gives). messages g.ups
 unordered_up Lazy me members past c l = relay_up lazy_rules Lazy lazy (λ s c. refl) (λ s c. refl) lazy_is_module me members past c l
 unordered_up Eager me members past c l = relay_up eager_rules Eager eager (λ s c. refl) (λ s c. refl) eager_is_module me members past c l
 unordered_up AllAck me members past c l = relay_up all_ack_rules AllAck all_ack (λ s c. refl) (λ s c. refl) all_ack_is_module me members past c l
+unordered_up MajorityAck me members past c l = relay_up majority_ack_rules MajorityAck majority_ack (λ s c. refl) (λ s c. refl) majority_ack_is_module me members past c l
 
 unordered_out : (base : BroadcastModule) (me : NodeId) (members : Nodes) (past : List Call) (c : Call) → IsLawful me.number (c ∷ past)
     → (unordered_gives (after unordered_next (untold base me members) past) c).sends ≡ broadcasts base me.number c past
@@ -73,6 +75,7 @@ unordered_out BestEffort me members past c l = ap (λ (g : Gives). g.sends) (bes
 unordered_out Lazy me members past c l = relay_out lazy_rules Lazy lazy (λ s c. refl) (λ s c. refl) lazy_is_module me members past c l
 unordered_out Eager me members past c l = relay_out eager_rules Eager eager (λ s c. refl) (λ s c. refl) eager_is_module me members past c l
 unordered_out AllAck me members past c l = relay_out all_ack_rules AllAck all_ack (λ s c. refl) (λ s c. refl) all_ack_is_module me members past c l
+unordered_out MajorityAck me members past c l = relay_out majority_ack_rules MajorityAck majority_ack (λ s c. refl) (λ s c. refl) majority_ack_is_module me members past c l
 
 unordered_log : (base : BroadcastModule) (me : NodeId) (members : Nodes) (past : List Call) → IsLawful me.number past
     → messages (all_ups unordered_next unordered_gives (untold base me members) past) ≡ log base me.number (set.items members) past
@@ -81,6 +84,7 @@ unordered_log BestEffort me members past l =
 unordered_log Lazy me members past l = relay_log lazy_rules Lazy lazy (λ s c. refl) (λ s c. refl) lazy_is_module me members past l
 unordered_log Eager me members past l = relay_log eager_rules Eager eager (λ s c. refl) (λ s c. refl) eager_is_module me members past l
 unordered_log AllAck me members past l = relay_log all_ack_rules AllAck all_ack (λ s c. refl) (λ s c. refl) all_ack_is_module me members past l
+unordered_log MajorityAck me members past l = relay_log majority_ack_rules MajorityAck majority_ack (λ s c. refl) (λ s c. refl) majority_ack_is_module me members past l
 
 module _ (base : BroadcastModule) (me : NodeId) (members : Nodes) where
   -- a fifo that was told nothing

@@ -14,7 +14,7 @@ use Rattle.gb_types.specs.declared.kind.Kind.{Kind}
 use Rattle.gb_types.specs.declared.limits.TheConstants.{NODES}
 use Rattle.gb_types.specs.declared.node.NodeId.{NodeId}
 use Rattle.gb_layer.specs.declared.broadcast_module.BroadcastModule.{BroadcastModule}
-use Rattle.gb_layer.specs.declared.broadcast_module.BroadcastModule.TheVariants.{BestEffort, Lazy, Eager, AllAck}
+use Rattle.gb_layer.specs.declared.broadcast_module.BroadcastModule.TheVariants.{BestEffort, Lazy, Eager, AllAck, MajorityAck}
 use Rattle.gb_layer.specs.declared.call.Call.{Call}
 use Rattle.gb_layer.specs.declared.call.Call.TheVariants.{Notice}
 use Rattle.gb_layer.specs.Machine.{nothing, after}
@@ -22,10 +22,10 @@ use Rattle.gb_layer.specs.Relay.{State}
 use Rattle.gb_layer.specs.Rule.{Nodes, Rules, noticed_in}
 use Rattle.gb_layer.proofs.NodeSetLemmas.{again}
 use Rattle.gb_reliable.specs.Rules.{lazy_rules, eager_rules}
-use Rattle.gb_uniform.specs.Rules.{all_ack_rules}
+use Rattle.gb_uniform.specs.Rules.{all_ack_rules, majority_ack_rules}
 use Rattle.gb_fifo.specs.Entries.{taken}
 use Rattle.gb_stack.specs.Kinds.{module_of, is_fifo}
-use Rattle.gb_stack.specs.StackState.{StackState, unordered, fifo, lazy, eager, all_ack, relayed_next, relayed_gives, unordered_next, unordered_gives, unordered_me, unordered_noticing, IsEmpty, IsEmptyStack, stack_next, stack_me, stack_noticing, untold_stack, others_in, new_stack}
+use Rattle.gb_stack.specs.StackState.{StackState, unordered, fifo, lazy, eager, all_ack, majority_ack, relayed_next, relayed_gives, unordered_next, unordered_gives, unordered_me, unordered_noticing, IsEmpty, IsEmptyStack, stack_next, stack_me, stack_noticing, untold_stack, others_in, new_stack}
 use Rattle.gb_stack.specs.Stands.{is_other_noticed, HasHeard}
 
 -- a relay that was told notices alone
@@ -50,12 +50,14 @@ one_more BestEffort me members noticed q = refl
 one_more Lazy me members noticed q = ap lazy (relay_more lazy_rules me members noticed q)
 one_more Eager me members noticed q = ap eager (relay_more eager_rules me members noticed q)
 one_more AllAck me members noticed q = ap all_ack (relay_more all_ack_rules me members noticed q)
+one_more MajorityAck me members noticed q = ap majority_ack (relay_more majority_ack_rules me members noticed q)
 
 silent : (base : BroadcastModule) (me : NodeId) (members noticed : Nodes) (q : NodeId) → unordered_gives (unordered_noticing base me members noticed) (Notice q) ≡ nothing
 silent BestEffort me members noticed q = refl
 silent Lazy me members noticed q = relay_silent lazy_rules me members noticed q
 silent Eager me members noticed q = relay_silent eager_rules me members noticed q
 silent AllAck me members noticed q = relay_silent all_ack_rules me members noticed q
+silent MajorityAck me members noticed q = relay_silent majority_ack_rules me members noticed q
 
 -- one more node is noticed
 stack_more : (kind : Kind) (me : NodeId) (members noticed : Nodes) (q : NodeId) → stack_next (stack_noticing kind me members noticed) (Notice q) ≡ stack_noticing kind me members (set.insert noticed q.number)
@@ -175,6 +177,7 @@ untold_me kind me members =
     at Lazy = refl
     at Eager = refl
     at AllAck = refl
+    at MajorityAck = refl
 
 -- a new stack was told of no message
 pub new_empty : (kind : Kind) (me : NodeId) (members noticed : Nodes) → IsEmptyStack (new_stack kind me members noticed)
@@ -190,3 +193,4 @@ new_empty kind me members noticed =
     none Lazy = record { lower = tt; entries = refl }
     none Eager = record { lower = tt; entries = refl }
     none AllAck = record { lower = tt; entries = refl }
+    none MajorityAck = record { lower = tt; entries = refl }

@@ -4,7 +4,7 @@ use Rattle.gb_types.specs.declared.kind.Kind.{Kind}
 use Rattle.gb_types.specs.declared.kind.Kind.TheVariants as kind
 use Rattle.gb_types.specs.declared.message.MsgId.{MsgId}
 use Rattle.gb_layer.specs.declared.broadcast_module.BroadcastModule.{BroadcastModule}
-use Rattle.gb_layer.specs.declared.broadcast_module.BroadcastModule.TheVariants.{BestEffort, Lazy, Eager, AllAck}
+use Rattle.gb_layer.specs.declared.broadcast_module.BroadcastModule.TheVariants.{BestEffort, Lazy, Eager, AllAck, MajorityAck}
 use Rattle.gb_layer.specs.declared.call.Call.{Call}
 use Rattle.gb_layer.specs.Modules.{delivers, broadcasts, log}
 use Rattle.gb_fifo.specs.Order.{ordered_after, in_order}
@@ -15,10 +15,12 @@ module_of kind.Beb = BestEffort
 module_of kind.Lazy = Lazy
 module_of kind.Eager = Eager
 module_of kind.AllAck = AllAck
+module_of kind.Majority = MajorityAck
 module_of kind.FifoBeb = BestEffort
 module_of kind.FifoLazy = Lazy
 module_of kind.FifoEager = Eager
 module_of kind.FifoAllAck = AllAck
+module_of kind.FifoMajority = MajorityAck
 
 -- the kind keeps the order of each origin: first in, first out (Cachin, Guerraoui, Rodrigues 2011, section 3.9; Hadzilacos, Toueg 1994)
 abbrev pub is_fifo : Kind → Bool
@@ -26,10 +28,12 @@ is_fifo kind.Beb = false
 is_fifo kind.Lazy = false
 is_fifo kind.Eager = false
 is_fifo kind.AllAck = false
+is_fifo kind.Majority = false
 is_fifo kind.FifoBeb = true
 is_fifo kind.FifoLazy = true
 is_fifo kind.FifoEager = true
 is_fifo kind.FifoAllAck = true
+is_fifo kind.FifoMajority = true
 
 -- what the call c delivers: what the module delivers, or what that sets free in the order of each origin
 abbrev pub kind_delivers : Kind → ℕ → List ℕ → Call → List Call → List MsgId

@@ -5,12 +5,12 @@ use Rattle.std.proofs.Props.{props}
 use Rattle.std.specs.declared.option.Option.TheVariants.{Some}
 use Rattle.gb_types.specs.declared.node.NodeId.{NodeId}
 use Rattle.gb_layer.specs.declared.broadcast_module.BroadcastModule.{BroadcastModule}
-use Rattle.gb_layer.specs.declared.broadcast_module.BroadcastModule.TheVariants.{BestEffort, Lazy, Eager, AllAck}
+use Rattle.gb_layer.specs.declared.broadcast_module.BroadcastModule.TheVariants.{BestEffort, Lazy, Eager, AllAck, MajorityAck}
 use Rattle.gb_layer.specs.declared.entries.Entry.{Entry}
 use Rattle.gb_layer.specs.Relay.{sent_entry, due_to_relay, due_to_deliver, handed}
 use Rattle.gb_layer.specs.Rule.{Nodes, Rules}
 use Rattle.gb_reliable.specs.Rules.{lazy_rules, eager_rules}
-use Rattle.gb_uniform.specs.Rules.{all_ack_rules}
+use Rattle.gb_uniform.specs.Rules.{all_ack_rules, majority_ack_rules}
 
 -- an entry once its message was sent, where that was due
 abbrev pub passed_on : Rules → NodeId → Nodes → Entry → Entry
@@ -31,6 +31,7 @@ relays BestEffort = false
 relays Lazy = true
 relays Eager = true
 relays AllAck = true
+relays MajorityAck = true
 
 -- where the module relays, nothing is due
 abbrev pub IsQuiescent : BroadcastModule → NodeId → Nodes → Nodes → List Entry → Type 0
@@ -38,6 +39,7 @@ IsQuiescent BestEffort me members noticed es = Unit {0}
 IsQuiescent Lazy me members noticed es = AreQuiescent lazy_rules me members noticed es
 IsQuiescent Eager me members noticed es = AreQuiescent eager_rules me members noticed es
 IsQuiescent AllAck me members noticed es = AreQuiescent all_ack_rules me members noticed es
+IsQuiescent MajorityAck me members noticed es = AreQuiescent majority_ack_rules me members noticed es
 
 AreQuiescent-prop : (rules : Rules) (me : NodeId) (members noticed : Nodes) (es : List Entry) → IsProp (AreQuiescent rules me members noticed es)
 AreQuiescent-prop rules me members noticed es = hlevel props
@@ -47,3 +49,4 @@ IsQuiescent-prop BestEffort me members noticed es = Unit-prop
 IsQuiescent-prop Lazy me members noticed es = AreQuiescent-prop lazy_rules me members noticed es
 IsQuiescent-prop Eager me members noticed es = AreQuiescent-prop eager_rules me members noticed es
 IsQuiescent-prop AllAck me members noticed es = AreQuiescent-prop all_ack_rules me members noticed es
+IsQuiescent-prop MajorityAck me members noticed es = AreQuiescent-prop majority_ack_rules me members noticed es

@@ -4,7 +4,7 @@ use Rattle.std.specs.FinSet as set
 use Rattle.gb_types.specs.declared.kind.Kind.{Kind}
 use Rattle.gb_types.specs.declared.node.NodeId.{NodeId}
 use Rattle.gb_layer.specs.declared.broadcast_module.BroadcastModule.{BroadcastModule}
-use Rattle.gb_layer.specs.declared.broadcast_module.BroadcastModule.TheVariants.{BestEffort, Lazy, Eager, AllAck}
+use Rattle.gb_layer.specs.declared.broadcast_module.BroadcastModule.TheVariants.{BestEffort, Lazy, Eager, AllAck, MajorityAck}
 use Rattle.gb_layer.specs.declared.call.Call.{Call}
 use Rattle.gb_layer.specs.BebMachine.{beb_gives}
 use Rattle.gb_layer.specs.Machine.{Gives, own_gives}
@@ -12,7 +12,7 @@ use Rattle.gb_layer.specs.Relay as relay
 use Rattle.gb_layer.specs.Relay.{State, relay_next, relay_gives}
 use Rattle.gb_layer.specs.Rule.{Nodes, Rules}
 use Rattle.gb_reliable.specs.Rules.{lazy_rules, eager_rules}
-use Rattle.gb_uniform.specs.Rules.{all_ack_rules}
+use Rattle.gb_uniform.specs.Rules.{all_ack_rules, majority_ack_rules}
 use Rattle.gb_fifo.specs.FifoMachine.{FifoState, fifo_next, fifo_gives}
 use Rattle.gb_fifo.specs.FifoRoom as fifo_room
 use Rattle.gb_stack.specs.Kinds.{module_of, is_fifo}
@@ -23,6 +23,7 @@ pub data UnorderedState : Type 0 where
   lazy : State NodeId → UnorderedState
   eager : State NodeId → UnorderedState
   all_ack : State NodeId → UnorderedState
+  majority_ack : State NodeId → UnorderedState
 
 -- what a stack remembers
 pub data StackState : Type 0 where
@@ -43,6 +44,7 @@ unordered_next (best_effort s) c = best_effort s
 unordered_next (lazy s) c = lazy (relayed_next lazy_rules s c)
 unordered_next (eager s) c = eager (relayed_next eager_rules s c)
 unordered_next (all_ack s) c = all_ack (relayed_next all_ack_rules s c)
+unordered_next (majority_ack s) c = majority_ack (relayed_next majority_ack_rules s c)
 
 -- what the call gives
 abbrev pub unordered_gives : UnorderedState → Call → Gives
@@ -50,6 +52,7 @@ unordered_gives (best_effort s) c = own_gives (beb_gives s c)
 unordered_gives (lazy s) c = relayed_gives lazy_rules s c
 unordered_gives (eager s) c = relayed_gives eager_rules s c
 unordered_gives (all_ack s) c = relayed_gives all_ack_rules s c
+unordered_gives (majority_ack s) c = relayed_gives majority_ack_rules s c
 
 -- the node where it is
 abbrev pub unordered_me : UnorderedState → NodeId
@@ -57,6 +60,7 @@ unordered_me (best_effort s) = s
 unordered_me (lazy s) = s.lower
 unordered_me (eager s) = s.lower
 unordered_me (all_ack s) = s.lower
+unordered_me (majority_ack s) = s.lower
 
 -- it was told nothing yet
 abbrev pub IsUntold : UnorderedState → Type 0
@@ -64,6 +68,7 @@ IsUntold (best_effort s) = Unit {0}
 IsUntold (lazy s) = relay.IsNew (λ _. Unit {0}) s
 IsUntold (eager s) = relay.IsNew (λ _. Unit {0}) s
 IsUntold (all_ack s) = relay.IsNew (λ _. Unit {0}) s
+IsUntold (majority_ack s) = relay.IsNew (λ _. Unit {0}) s
 
 -- it was told of no message yet
 abbrev pub IsEmpty : UnorderedState → Type 0
@@ -71,6 +76,7 @@ IsEmpty (best_effort s) = Unit {0}
 IsEmpty (lazy s) = relay.IsEmpty (λ _. Unit {0}) s
 IsEmpty (eager s) = relay.IsEmpty (λ _. Unit {0}) s
 IsEmpty (all_ack s) = relay.IsEmpty (λ _. Unit {0}) s
+IsEmpty (majority_ack s) = relay.IsEmpty (λ _. Unit {0}) s
 
 -- what a stack remembers after a call
 abbrev pub stack_next : StackState → Call → StackState
@@ -103,6 +109,7 @@ unordered_noticing BestEffort me members noticed = best_effort me
 unordered_noticing Lazy me members noticed = lazy (record { lower = me; members = members; noticed = noticed; entries = [] })
 unordered_noticing Eager me members noticed = eager (record { lower = me; members = members; noticed = noticed; entries = [] })
 unordered_noticing AllAck me members noticed = all_ack (record { lower = me; members = members; noticed = noticed; entries = [] })
+unordered_noticing MajorityAck me members noticed = majority_ack (record { lower = me; members = members; noticed = noticed; entries = [] })
 
 -- a stack of a kind that starts at a node which has noticed some
 abbrev pub stack_noticing : Kind → NodeId → Nodes → Nodes → StackState

@@ -2,11 +2,11 @@
 use Rattle.std.specs.Prelude.{if◌then◌else◌}
 use Rattle.gb_types.specs.declared.node.NodeId.{NodeId}
 use Rattle.gb_layer.specs.declared.broadcast_module.BroadcastModule.{BroadcastModule}
-use Rattle.gb_layer.specs.declared.broadcast_module.BroadcastModule.TheVariants.{BestEffort, Lazy, Eager, AllAck}
+use Rattle.gb_layer.specs.declared.broadcast_module.BroadcastModule.TheVariants.{BestEffort, Lazy, Eager, AllAck, MajorityAck}
 use Rattle.gb_layer.specs.Relay.{State}
 use Rattle.gb_stack.specs.declared.stack.Stack.{Stack}
 use Rattle.gb_records.specs.Records.{relay_entries, order_entries}
-use Rattle.gb_stack.specs.StackState.{UnorderedState, best_effort, lazy, eager, all_ack, StackState, unordered, fifo}
+use Rattle.gb_stack.specs.StackState.{UnorderedState, best_effort, lazy, eager, all_ack, majority_ack, StackState, unordered, fifo}
 use Rattle.gb_stack.specs.Taken.{relay_state}
 
 -- what the broadcast of a module remembers, where a relay remembers this
@@ -15,6 +15,7 @@ as_module BestEffort s = best_effort s.lower
 as_module Lazy s = lazy s
 as_module Eager s = eager s
 as_module AllAck s = all_ack s
+as_module MajorityAck s = majority_ack s
 
 -- what the stack's broadcast remembers
 abbrev pub broadcast_of : Stack → UnorderedState

@@ -12,9 +12,9 @@ use Rattle.gb_layer.specs.Relay.{State}
 use Rattle.gb_layer.specs.RelayLemmas.{relay_me_stays, relay_noticed_once, relay_own}
 use Rattle.gb_layer.specs.RelayOnceLemmas.{relay_sends_handed_in, relay_ups_handed_in, relay_up_once, relay_sent_once}
 use Rattle.gb_reliable.specs.Rules.{lazy_rules, eager_rules}
-use Rattle.gb_uniform.specs.Rules.{all_ack_rules}
+use Rattle.gb_uniform.specs.Rules.{all_ack_rules, majority_ack_rules}
 use Rattle.gb_stack.specs.InsideLemmas.{sends_handed_in_into, ups_handed_in_into, up_once_into, sent_once_into, noticed_once_into}
-use Rattle.gb_stack.specs.StackState.{best_effort, lazy, eager, all_ack, relayed_next, relayed_gives, unordered_next, unordered_gives, unordered_me, IsUntold}
+use Rattle.gb_stack.specs.StackState.{best_effort, lazy, eager, all_ack, majority_ack, relayed_next, relayed_gives, unordered_next, unordered_gives, unordered_me, IsUntold}
 
 -- `Beb` asks nothing of its start
 abbrev IsAny : NodeId → Type 0
@@ -54,12 +54,14 @@ unordered_me_stays (best_effort s) c = refl
 unordered_me_stays (lazy s) c = relay_me_stays stay beb_gives (λ s. s) lazy_rules (λ s c. refl) s c
 unordered_me_stays (eager s) c = relay_me_stays stay beb_gives (λ s. s) eager_rules (λ s c. refl) s c
 unordered_me_stays (all_ack s) c = relay_me_stays stay beb_gives (λ s. s) all_ack_rules (λ s c. refl) s c
+unordered_me_stays (majority_ack s) c = relay_me_stays stay beb_gives (λ s. s) majority_ack_rules (λ s c. refl) s c
 
 pub unordered_own : ComesFromItsOrigin unordered_gives
 unordered_own (best_effort s) c = own_pairs (beb_gives s c).ups
 unordered_own (lazy s) c = relay_own stay beb_gives (λ s. s) lazy_rules s c
 unordered_own (eager s) c = relay_own stay beb_gives (λ s. s) eager_rules s c
 unordered_own (all_ack s) c = relay_own stay beb_gives (λ s. s) all_ack_rules s c
+unordered_own (majority_ack s) c = relay_own stay beb_gives (λ s. s) majority_ack_rules s c
 
 pub unordered_sends_handed_in : SendsWhatWasHandedIn unordered_next unordered_gives IsUntold
 unordered_sends_handed_in (best_effort s) =
@@ -73,6 +75,9 @@ unordered_sends_handed_in (eager s) =
 unordered_sends_handed_in (all_ack s) =
     sends_handed_in_into (relayed_next all_ack_rules) (relayed_gives all_ack_rules) unordered_next unordered_gives all_ack (λ s c. refl) (λ s c. refl) IsNew
     (relay_sends_handed_in stay beb_gives (λ s. s) all_ack_rules IsAny beb_sends_law) s
+unordered_sends_handed_in (majority_ack s) =
+    sends_handed_in_into (relayed_next majority_ack_rules) (relayed_gives majority_ack_rules) unordered_next unordered_gives majority_ack (λ s c. refl) (λ s c. refl) IsNew
+    (relay_sends_handed_in stay beb_gives (λ s. s) majority_ack_rules IsAny beb_sends_law) s
 
 pub unordered_ups_handed_in : HandsUpWhatWasHandedIn unordered_next unordered_gives IsUntold
 unordered_ups_handed_in (best_effort s) =
@@ -86,6 +91,9 @@ unordered_ups_handed_in (eager s) =
 unordered_ups_handed_in (all_ack s) =
     ups_handed_in_into (relayed_next all_ack_rules) (relayed_gives all_ack_rules) unordered_next unordered_gives all_ack (λ s c. refl) (λ s c. refl) IsNew
     (relay_ups_handed_in stay beb_gives (λ s. s) all_ack_rules IsAny) s
+unordered_ups_handed_in (majority_ack s) =
+    ups_handed_in_into (relayed_next majority_ack_rules) (relayed_gives majority_ack_rules) unordered_next unordered_gives majority_ack (λ s c. refl) (λ s c. refl) IsNew
+    (relay_ups_handed_in stay beb_gives (λ s. s) majority_ack_rules IsAny) s
 
 pub unordered_up_once : HandsUpOnce unordered_next unordered_gives IsUntold unordered_me
 unordered_up_once (best_effort s) =
@@ -99,6 +107,9 @@ unordered_up_once (eager s) =
 unordered_up_once (all_ack s) =
     up_once_into (relayed_next all_ack_rules) (relayed_gives all_ack_rules) unordered_next unordered_gives all_ack (λ s c. refl) (λ s c. refl) IsNew relay_me
     (relay_up_once stay beb_gives (λ s. s) all_ack_rules IsAny) s
+unordered_up_once (majority_ack s) =
+    up_once_into (relayed_next majority_ack_rules) (relayed_gives majority_ack_rules) unordered_next unordered_gives majority_ack (λ s c. refl) (λ s c. refl) IsNew relay_me
+    (relay_up_once stay beb_gives (λ s. s) majority_ack_rules IsAny) s
 
 pub unordered_sent_once : SendsOnce unordered_next unordered_gives IsUntold unordered_me
 unordered_sent_once (best_effort s) =
@@ -112,6 +123,9 @@ unordered_sent_once (eager s) =
 unordered_sent_once (all_ack s) =
     sent_once_into (relayed_next all_ack_rules) (relayed_gives all_ack_rules) unordered_next unordered_gives all_ack (λ s c. refl) (λ s c. refl) IsNew relay_me
     (relay_sent_once stay beb_gives (λ s. s) all_ack_rules IsAny beb_sent_law) s
+unordered_sent_once (majority_ack s) =
+    sent_once_into (relayed_next majority_ack_rules) (relayed_gives majority_ack_rules) unordered_next unordered_gives majority_ack (λ s c. refl) (λ s c. refl) IsNew relay_me
+    (relay_sent_once stay beb_gives (λ s. s) majority_ack_rules IsAny beb_sent_law) s
 
 pub unordered_noticed_once : NoticesOnce unordered_next unordered_gives IsUntold
 unordered_noticed_once (best_effort s) =
@@ -125,3 +139,6 @@ unordered_noticed_once (eager s) =
 unordered_noticed_once (all_ack s) =
     noticed_once_into (relayed_next all_ack_rules) (relayed_gives all_ack_rules) unordered_next unordered_gives all_ack (λ s c. refl) (λ s c. refl) IsNew
     (relay_noticed_once stay beb_gives (λ s. s) all_ack_rules IsNew) s
+unordered_noticed_once (majority_ack s) =
+    noticed_once_into (relayed_next majority_ack_rules) (relayed_gives majority_ack_rules) unordered_next unordered_gives majority_ack (λ s c. refl) (λ s c. refl) IsNew
+    (relay_noticed_once stay beb_gives (λ s. s) majority_ack_rules IsNew) s

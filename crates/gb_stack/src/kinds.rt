@@ -14,10 +14,12 @@ pub fn broadcast_module(kind: Kind) -> BroadcastModule
         Kind::Lazy => BroadcastModule::Lazy,
         Kind::Eager => BroadcastModule::Eager,
         Kind::AllAck => BroadcastModule::AllAck,
+        Kind::Majority => BroadcastModule::MajorityAck,
         Kind::FifoBeb => BroadcastModule::BestEffort,
         Kind::FifoLazy => BroadcastModule::Lazy,
         Kind::FifoEager => BroadcastModule::Eager,
         Kind::FifoAllAck => BroadcastModule::AllAck,
+        Kind::FifoMajority => BroadcastModule::MajorityAck,
     }
 }
 
@@ -30,9 +32,11 @@ pub fn is_fifo(kind: Kind) -> bool
         Kind::Lazy => false,
         Kind::Eager => false,
         Kind::AllAck => false,
+        Kind::Majority => false,
         Kind::FifoBeb => true,
         Kind::FifoLazy => true,
         Kind::FifoEager => true,
         Kind::FifoAllAck => true,
+        Kind::FifoMajority => true,
     }
 }

@@ -29,6 +29,7 @@ use gb_types::message::MsgId;
 use gb_types::node::{NodeId, NodeSet};
 use gb_types::spec::Spec;
 use gb_uniform::all_ack::AllAcked;
+use gb_uniform::majority_ack::MajorityAcked;
 use std::alloc::Global;
 
 /// The layer takes the notice of a node, where the node is another member that was noticed.
@@ -261,6 +262,14 @@ impl Layer for Stack {
             BroadcastModule::AllAck => take_call(
                 &mut self.records,
                 &AllAcked,
+                &mut self.here,
+                call,
+                sends,
+                ups,
+            ),
+            BroadcastModule::MajorityAck => take_call(
+                &mut self.records,
+                &MajorityAcked,
                 &mut self.here,
                 call,
                 sends,

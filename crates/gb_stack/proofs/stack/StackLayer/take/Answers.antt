@@ -49,3 +49,9 @@ returns-in-AllAck-clause-whole c = λ l w within.
     let s = c.args.self.now in
     let taken = c.take_call-in-AllAck.ensures in
     whole_kept s _ l (ap (λ o. o || relays s.base) taken.here) taken.capacity (ap (list_all (is_counted l)) taken.taken.keys ∙ counted_in l c.args.call s.records.list.items within w.counted) w
+
+pub returns-in-MajorityAck-clause-whole : goal.returns-in-MajorityAck-clause-whole
+returns-in-MajorityAck-clause-whole c = λ l w within.
+    let s = c.args.self.now in
+    let taken = c.take_call-in-MajorityAck.ensures in
+    whole_kept s _ l (ap (λ o. o || relays s.base) taken.here) taken.capacity (ap (list_all (is_counted l)) taken.taken.keys ∙ counted_in l c.args.call s.records.list.items within w.counted) w
