@@ -8,14 +8,16 @@ use Rattle.std.proofs.lemmas.List.Sums.{fold-append}
 use Rattle.gb_types.specs.declared.message.MsgId.{MsgId}
 use Rattle.gb_types.specs.declared.node.NodeId.{NodeId}
 use Rattle.gb_types.specs.declared.spec.Spec.{Spec}
+use Rattle.gb_types.specs.Places.{has_majority}
 use Rattle.gb_types.proofs.CoverLemmas.{all_members}
+use Rattle.gb_types.proofs.MajorityLemmas.{listed, majorities_meet, majority_more}
 use Rattle.gb_types.proofs.BoolLemmas.{and_both, and_left, and_right, both_ways, or_cases, or_first, or_second, refuted}
 use Rattle.gb_layer.specs.Histories.{said_mentioned, came_mentioned}
 use Rattle.gb_layer.specs.Lists.{all_weaker}
 use Rattle.gb_layer.specs.Machine.{mentions, was_said, was_noticed, came_from}
 use Rattle.gb_layer.specs.Modules.{holds, is_delivered, is_broadcast, now_delivered, now_broadcast}
 use Rattle.gb_layer.specs.declared.broadcast_module.BroadcastModule.{BroadcastModule}
-use Rattle.gb_layer.specs.declared.broadcast_module.BroadcastModule.TheVariants.{BestEffort, Lazy, Eager, AllAck}
+use Rattle.gb_layer.specs.declared.broadcast_module.BroadcastModule.TheVariants.{BestEffort, Lazy, Eager, AllAck, MajorityAck}
 use Rattle.gb_fifo.specs.Order.{is_in, numbered, upto, top, numbers_of, in_order}
 use Rattle.gb_stack.specs.Kinds.{module_of, kind_log}
 use Rattle.gb_stack.specs.LogLaws.{ModuleLogHasDelivered}
@@ -26,7 +28,7 @@ use Rattle.gb_alone.specs.Alone.{Group, held_spec, log_at, after, nobody, alone_
 use Rattle.gb_alone.specs.Laws.{Accepted, accepted}
 use Rattle.gb_alone.specs.declared.event.GroupStep.{GroupStep}
 use Rattle.gb_alone.proofs.IntegrityLemmas.{alone_fits}
-use Rattle.gb_duties.specs.Agreement.{IsRunning, KeepsAgreement, logs_of, IsAgreed}
+use Rattle.gb_duties.specs.Agreement.{IsRunning, AreEnough, is_uniform, KeepsAgreement, logs_of, IsAgreed}
 use Rattle.gb_duties.proofs.WordLemmas.{Found, found, find, said_came}
 use Rattle.gb_duties.proofs.LogLemmas.{logged-is}
 use Rattle.gb_duties.proofs.DutyLemmas.{of_member}
@@ -47,7 +49,7 @@ record Calm (runs : ℕ → Bool) (spec : Spec) (group : Group) : Type 0 where
 eq_comm : (a b : ℕ) → nat_eq a b ≡ false → nat_eq b a ≡ false
 eq_comm a b e = refuted (nat_eq b a) (λ h. let f = eq-eqb a b (sym (eqb-true b a h)) in absurd (cc))
 
-module _ (runs : ℕ → Bool) (spec : Spec) (group : Group) (calm : Calm runs spec group) where
+module _ (runs : ℕ → Bool) (spec : Spec) (group : Group) (calm : Calm runs spec group) (enough : AreEnough runs spec) where
   base : BroadcastModule
   base = module_of spec.kind
 
@@ -97,6 +99,7 @@ module _ (runs : ℕ → Bool) (spec : Spec) (group : Group) (calm : Calm runs s
   own_out a m Lazy own = or_first (nat_eq m.origin.number a) (was_noticed (calls_of (group a).told) m.origin.number) (eq-eqb m.origin.number a own)
   own_out a m Eager own = refl
   own_out a m AllAck own = refl
+  own_out a m MajorityAck own = refl
 
   -- all-ack: what each running member knows is delivered at each
   all_due : (b : ℕ) (m : MsgId) → module_of spec.kind ≡ AllAck → IsRunning runs spec b → ((p : ℕ) → IsRunning runs spec p → mentions (calls_of (group p).told) m ≡ true) → is_delivered AllAck b (set.items spec.members) (calls_of (group b).told) m ≡ true
@@ -105,6 +108,12 @@ module _ (runs : ℕ → Bool) (spec : Spec) (group : Group) (calm : Calm runs s
       each : (p : ℕ) → is_member spec p ≡ true → (t : Bool) → runs p ≡ t → (was_noticed (calls_of (group b).told) p || holds b (calls_of (group b).told) p m) ≡ true
       each p in_p true run = or_second (was_noticed (calls_of (group b).told) p) (holds b (calls_of (group b).told) p m) (reaches p b m (in_p, run) run_b (out_is p m AllAck kind (all p (in_p, run)) refl))
       each p in_p false stopped = or_first (was_noticed (calls_of (group b).told) p) (holds b (calls_of (group b).told) p m) (calm.noticed b p run_b in_p stopped)
+
+  -- majority-ack: the same
+  most_due : (b : ℕ) (m : MsgId) → module_of spec.kind ≡ MajorityAck → IsRunning runs spec b → ((p : ℕ) → IsRunning runs spec p → mentions (calls_of (group p).told) m ≡ true) → is_delivered MajorityAck b (set.items spec.members) (calls_of (group b).told) m ≡ true
+  most_due b m kind run_b all =
+      (λ i. has_majority (λ p. listed spec.members p i) (λ p. holds b (calls_of (group b).told) p m))
+      ∙ majority_more (is_member spec) runs (λ p. holds b (calls_of (group b).told) p m) (λ p in_p run. reaches p b m (in_p, run) run_b (out_is p m MajorityAck kind (all p (in_p, run)) refl)) (enough kind)
 
   -- what a running member said is delivered at each
   said_up : (s b : ℕ) (m : MsgId) → m.origin.number ≡ s → IsRunning runs spec s → IsRunning runs spec b → was_said (calls_of (group s).told) m ≡ true → now_delivered (module_of spec.kind) b (set.items spec.members) (calls_of (group b).told) m ≡ true
@@ -125,32 +134,63 @@ module _ (runs : ℕ → Bool) (spec : Spec) (group : Group) (calm : Calm runs s
       due Lazy kind = refl
       due Eager kind = refl
       due AllAck kind = all_due b m kind run_b (λ p run_p. held_known s p m (reaches s p m run_s run_p out))
+      due MajorityAck kind = most_due b m kind run_b (λ p run_p. held_known s p m (reaches s p m run_s run_p out))
+
+  -- what a node holds by what another was told, that other has had
+  held_had : (b p : ℕ) (m : MsgId) → holds b (calls_of (group b).told) p m ≡ true → mentions (calls_of (group p).told) m ≡ true
+  held_had b p m held = go (or_cases (came_from b (calls_of (group b).told) p m) (nat_eq b p && mentions (calls_of (group b).told) m) held)
+    where
+      go : ((came_from b (calls_of (group b).told) p m ≡ true) ⊎ ((nat_eq b p && mentions (calls_of (group b).told) m) ≡ true)) → mentions (calls_of (group p).told) m ≡ true
+      go (inl from) = (calm.flow.fits b).from_known p m from
+      go (inr own) = subst (λ z. mentions (calls_of (group z).told) m ≡ true) (eqb-true b p (and_left (nat_eq b p) _ own)) (and_right (nat_eq b p) _ own)
 
   -- all-ack: what any member delivered is delivered at each that runs
-  uniform_up : (b c : ℕ) (m : MsgId) → module_of spec.kind ≡ AllAck → is_member spec b ≡ true → IsRunning runs spec c → now_delivered (module_of spec.kind) b (set.items spec.members) (calls_of (group b).told) m ≡ true
+  all_up : (b c : ℕ) (m : MsgId) → module_of spec.kind ≡ AllAck → is_member spec b ≡ true → IsRunning runs spec c → now_delivered (module_of spec.kind) b (set.items spec.members) (calls_of (group b).told) m ≡ true
       → now_delivered (module_of spec.kind) c (set.items spec.members) (calls_of (group c).told) m ≡ true
-  uniform_up b c m kind in_b run_c up = up_is c m AllAck kind (all c run_c) (all_due c m kind run_c all)
+  all_up b c m kind in_b run_c up = up_is c m AllAck kind (all c run_c) (all_due c m kind run_c all)
     where
       due : is_delivered AllAck b (set.items spec.members) (calls_of (group b).told) m ≡ true
       due = ap (λ k. is_delivered k b (set.items spec.members) (calls_of (group b).told) m) (sym kind) ∙ and_right (mentions (calls_of (group b).told) m) _ up
-
-      had : (p : ℕ) → ((came_from b (calls_of (group b).told) p m ≡ true) ⊎ ((nat_eq b p && mentions (calls_of (group b).told) m) ≡ true)) → mentions (calls_of (group p).told) m ≡ true
-      had p (inl from) = (calm.flow.fits b).from_known p m from
-      had p (inr own) = subst (λ z. mentions (calls_of (group z).told) m ≡ true) (eqb-true b p (and_left (nat_eq b p) _ own)) (and_right (nat_eq b p) _ own)
 
       all : (p : ℕ) → IsRunning runs spec p → mentions (calls_of (group p).told) m ≡ true
       all p run_p = go (or_cases (was_noticed (calls_of (group b).told) p) (holds b (calls_of (group b).told) p m) (of_member (λ q. was_noticed (calls_of (group b).told) q || holds b (calls_of (group b).told) q m) spec p due run_p.0))
         where
           go : ((was_noticed (calls_of (group b).told) p ≡ true) ⊎ (holds b (calls_of (group b).told) p m ≡ true)) → mentions (calls_of (group p).told) m ≡ true
           go (inl noticed) = let e = calm.unnoticed b p in_b run_p in absurd (cc)
-          go (inr held) = had p (or_cases (came_from b (calls_of (group b).told) p m) (nat_eq b p && mentions (calls_of (group b).told) m) held)
+          go (inr held) = held_had b p m held
+
+  -- majority-ack: of the members that hold it, one runs, and has sent it to all that run
+  most_up : (b c : ℕ) (m : MsgId) → module_of spec.kind ≡ MajorityAck → IsRunning runs spec c → now_delivered (module_of spec.kind) b (set.items spec.members) (calls_of (group b).told) m ≡ true
+      → now_delivered (module_of spec.kind) c (set.items spec.members) (calls_of (group c).told) m ≡ true
+  most_up b c m kind run_c up = up_is c m MajorityAck kind (all c run_c) (most_due c m kind run_c all)
+    where
+      due : is_delivered MajorityAck b (set.items spec.members) (calls_of (group b).told) m ≡ true
+      due = ap (λ k. is_delivered k b (set.items spec.members) (calls_of (group b).told) m) (sym kind) ∙ and_right (mentions (calls_of (group b).told) m) _ up
+
+      held : has_majority (is_member spec) (λ p. holds b (calls_of (group b).told) p m) ≡ true
+      held = (λ i. has_majority (λ p. sym (listed spec.members p) i) (λ p. holds b (calls_of (group b).told) p m)) ∙ due
+
+      all : (p : ℕ) → IsRunning runs spec p → mentions (calls_of (group p).told) m ≡ true
+      all p run_p =
+          let one = majorities_meet (is_member spec) (λ q. holds b (calls_of (group b).told) q m) runs held (enough kind) in
+          held_known one.0 p m (reaches one.0 p m (one.1, one.3) run_p (out_is one.0 m MajorityAck kind (held_had b one.0 m one.2) refl))
+
+  -- uniform broadcast: what any member delivered is delivered at each that runs
+  uniform_up : (b c : ℕ) (m : MsgId) (k : BroadcastModule) → module_of spec.kind ≡ k → is_uniform k ≡ true → is_member spec b ≡ true → IsRunning runs spec c → now_delivered (module_of spec.kind) b (set.items spec.members) (calls_of (group b).told) m ≡ true
+      → now_delivered (module_of spec.kind) c (set.items spec.members) (calls_of (group c).told) m ≡ true
+  uniform_up b c m BestEffort kind uniform in_b run_c up = absurd (cc)
+  uniform_up b c m Lazy kind uniform in_b run_c up = absurd (cc)
+  uniform_up b c m Eager kind uniform in_b run_c up = absurd (cc)
+  uniform_up b c m AllAck kind uniform in_b run_c up = all_up b c m kind in_b run_c up
+  uniform_up b c m MajorityAck kind uniform in_b run_c up = most_up b c m kind run_c up
 
   -- but for best effort, what one running member delivered is delivered at each
   up_more : (b c : ℕ) (m : MsgId) → IsRunning runs spec b → IsRunning runs spec c → now_delivered (module_of spec.kind) b (set.items spec.members) (calls_of (group b).told) m ≡ true → (k : BroadcastModule) → module_of spec.kind ≡ k → k ≢ BestEffort
       → now_delivered (module_of spec.kind) c (set.items spec.members) (calls_of (group c).told) m ≡ true
   up_more b c m run_b run_c up BestEffort kind reliable = absurd (reliable refl)
   up_more b c m run_b run_c up Eager kind reliable = up_is c m Eager kind (held_known b c m (reaches b c m run_b run_c (out_is b m Eager kind (and_left (mentions (calls_of (group b).told) m) _ up) refl))) refl
-  up_more b c m run_b run_c up AllAck kind reliable = uniform_up b c m kind run_b.0 run_c up
+  up_more b c m run_b run_c up AllAck kind reliable = all_up b c m kind run_b.0 run_c up
+  up_more b c m run_b run_c up MajorityAck kind reliable = most_up b c m kind run_c up
   up_more b c m run_b run_c up Lazy kind reliable = up_is c m Lazy kind (by (runs m.origin.number) refl) refl
     where
       known : mentions (calls_of (group b).told) m ≡ true
@@ -171,14 +211,14 @@ module _ (runs : ℕ → Bool) (spec : Spec) (group : Group) (calm : Calm runs s
 
 module _ (has_delivered : ModuleLogHasDelivered) (numbers : (origin : NodeId) (delivered : List MsgId) → numbers_of origin.number (in_order delivered) ≡ upto (top origin delivered))
     (stand : (origin : NodeId) (delivered : List MsgId) (seq : ℕ) → 1 ≤ seq → seq ≤ top origin delivered → is_in delivered (numbered origin seq) ≡ true) (ends : (origin : NodeId) (delivered : List MsgId) → is_in delivered (numbered origin (top origin delivered + 1)) ≡ false) where
-  agreed : (nodes number : ℕ) (steps : List GroupStep) (runs : ℕ → Bool) (spec : Spec) → Calm runs spec (alone nodes number steps) → KeepsAgreement (accepted nodes number steps) (logs_of (alone nodes number steps)) runs spec
-  agreed nodes number steps runs spec calm = record {
+  agreed : (nodes number : ℕ) (steps : List GroupStep) (runs : ℕ → Bool) (spec : Spec) → Calm runs spec (alone nodes number steps) → AreEnough runs spec → KeepsAgreement (accepted nodes number steps) (logs_of (alone nodes number steps)) runs spec
+  agreed nodes number steps runs spec calm enough = record {
     validity = λ s b run_s run_b. All-from_recursion (λ (x : Accepted). has (logs_of group b) (numbered s x.seq) ≡ true) (accepted nodes number steps s.number)
         (all_weaker (λ (x : Accepted). was_said (calls_of (group s.number).told) (numbered s x.seq) ≡ true) (λ (x : Accepted). has (logs_of group b) (numbered s x.seq) ≡ true) (λ x said. valid s b run_s run_b x.seq said) (accepted nodes number steps s.number) (accepted_said nodes number s steps));
     agreement = λ reliable b c run_b run_c m. both_ways (has (logs_of group b) m) (has (logs_of group c) m)
-        (more b c run_b.0 (calm.kept b run_b) run_c (λ k up. up_more runs spec group calm b c k run_b run_c up (module_of spec.kind) refl reliable) m)
-        (more c b run_c.0 (calm.kept c run_c) run_b (λ k up. up_more runs spec group calm c b k run_c run_b up (module_of spec.kind) refl reliable) m);
-    uniform_agreement = λ kind b c in_b run_c m h. more b c in_b (logged_here b m (is_gone (group b).phase) h) run_c (λ k up. uniform_up runs spec group calm b c k kind in_b run_c up) m h;
+        (more b c run_b.0 (calm.kept b run_b) run_c (λ k up. up_more runs spec group calm enough b c k run_b run_c up (module_of spec.kind) refl reliable) m)
+        (more c b run_c.0 (calm.kept c run_c) run_b (λ k up. up_more runs spec group calm enough c b k run_c run_b up (module_of spec.kind) refl reliable) m);
+    uniform_agreement = λ kind b c in_b run_c m h. more b c in_b (logged_here b m (is_gone (group b).phase) h) run_c (λ k up. uniform_up runs spec group calm enough b c k (module_of spec.kind) refl kind in_b run_c up) m h;
   }
     where
       group : Group
@@ -205,10 +245,10 @@ module _ (has_delivered : ModuleLogHasDelivered) (numbers : (origin : NodeId) (d
           let fair = fits.fair spec (calm.taking.made s.number run_s.0) (numbered s seq) (said_mentioned (calls_of (group s.number).told) (numbered s seq) said) in
           is_log b run_b.0 (calm.kept b run_b) (numbered s seq)
           ∙ log_has numbers stand ends has_delivered spec b (calls_of (group b).told) s seq
-          (λ k some le. said_up runs spec group calm s.number b (numbered s k) refl run_s run_b (fits.said_all (numbered s k) refl some (omega (arith, le, few)))) seq fair.counted (omega arith)
+          (λ k some le. said_up runs spec group calm enough s.number b (numbered s k) refl run_s run_b (fits.said_all (numbered s k) refl some (omega (arith, le, few)))) seq fair.counted (omega arith)
 
   pub is_agreed : IsAgreed
-  is_agreed nodes number steps legal runs spec settled = agreed nodes number steps runs spec (record {
+  is_agreed nodes number steps legal runs spec settled enough = agreed nodes number steps runs spec (record {
     flow = run_flows nodes number steps nobody legal nobody_flows;
     taking = subst (λ (g : Group). Taking spec g) (sym split) (run_takes nodes number spec settled.later (alone nodes number settled.earlier) (λ earlier later is. sound earlier) parts.1 before (first_taking spec (alone nodes number settled.earlier) before.fits settled.made (none_said nodes number settled.earlier settled.silent)));
     kept = settled.kept;
@@ -216,7 +256,7 @@ module _ (has_delivered : ModuleLogHasDelivered) (numbers : (origin : NodeId) (d
     came = λ a b run_a run_b other. settled.came a b run_a run_b (differ a b other);
     noticed = settled.noticed;
     unnoticed = settled.unnoticed;
-  })
+  }) enough
     where
       differ : (a b : ℕ) → nat_eq a b ≡ false → a ≢ b
       differ a b other is = let e = eq-eqb a b is in absurd (cc)

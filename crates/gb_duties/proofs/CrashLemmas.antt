@@ -3,20 +3,21 @@ use Rattle.std.proofs.Common.{◌≡◌, ◌≢◌, ℕ, ◌<◌, ◌≤◌, ◌
 use Rattle.std.specs.Prelude.{slice_get, if◌then◌else◌}
 use Rattle.std.specs.FinSet as set
 use Rattle.std.proofs.lemmas.Bool.{eqb-true}
+use Rattle.gb_types.specs.Places.{has_majority}
 use Rattle.gb_types.specs.declared.kind.Kind.{Kind}
 use Rattle.gb_types.specs.declared.kind.Kind.TheVariants as kinds
 use Rattle.gb_types.specs.declared.reply.Reply.{Reply}
 use Rattle.gb_layer.specs.Machine.{was_noticed}
-use Rattle.gb_history.specs.History.{calls_of, known}
+use Rattle.gb_history.specs.History.{calls_of, known, said_in}
 use Rattle.gb_history.specs.declared.call.GroupCall.TheVariants.{Other}
-use Rattle.gb_alone.specs.Alone.{Member, Group, reply_to, called, after, nobody, alone, is_marked, IsLegal}
-use Rattle.gb_rules.specs.Group.{is_gone}
+use Rattle.gb_alone.specs.Alone.{Member, Group, reply_to, called, after, nobody, alone, is_marked, count_unfinished, IsLegal}
+use Rattle.gb_rules.specs.Group.{is_gone, is_member}
 use Rattle.gb_alone.specs.Laws.{accepted_in, accepted_from, accepted, log_of_member}
-use Rattle.gb_alone.specs.declared.event.GroupEvent.TheVariants.{Took, Came, Notice, Stop}
+use Rattle.gb_alone.specs.declared.event.GroupEvent.TheVariants.{Say, Took, Came, Notice, Stop}
 use Rattle.gb_alone.specs.declared.event.GroupStep.{GroupStep}
-use Rattle.gb_duties.specs.Agreement.{IsRunning, IsSettled}
-use Rattle.gb_duties.specs.Examples.{first, second, third, message, members, spec_of, at, opened, to_one, loss, crash, runs, log_in}
-use Rattle.gb_duties.proofs.ExampleLemmas.{in_0, in_1, in_2, One, is_0, is_1, is_2, member, with_at, ready, group_open, all_open, zero_said, carries, has_come, one_took, group_one, comes, Leads, stop_here, and_then, join, open_all, length_one, lead_one, notices, noticed_is}
+use Rattle.gb_duties.specs.Agreement.{IsRunning, IsSettled, AreEnough}
+use Rattle.gb_duties.specs.Examples.{first, second, third, message, members, spec_of, at, opened, to_one, loss, crash, runs, left_alone, only_first, log_in}
+use Rattle.gb_duties.proofs.ExampleLemmas.{in_0, in_1, in_2, most_of, majority_of, One, is_0, is_1, is_2, member, with_at, ready, group_open, all_open, zero_said, carries, has_come, one_took, group_one, comes, Leads, stop_here, and_then, join, open_all, length_one, lead_one, notices, noticed_is}
 
 -- Node 0 stops, and the others notice that.
 
@@ -39,52 +40,58 @@ lead_loss kind =
     (and_then (loss_stopped kind) (at second (Notice first)) (notices 1 first (one_took kind)) (at third (Notice first) ∷ []) (group_lost kind) (refl, refl) (noticed_is kind 1 first (one_took kind) refl in_0 refl)
     (and_then (loss_one_noticed kind) (at third (Notice first)) (notices 2 first (ready kind)) [] (group_lost kind) (refl, refl) (noticed_is kind 2 first (ready kind) refl in_0 refl) (stop_here (group_lost kind)))))
 
--- With a lazy kind both relay the message.
+-- With a kind that relays both relay the message.
 
-abbrev one_relayed : Member
-one_relayed = carries 2 (notices 1 first (one_took kinds.FifoLazy))
+abbrev one_relayed : Kind → Member
+one_relayed kind = carries 2 (notices 1 first (one_took kind))
 
-abbrev crash_one_relayed : Group
-crash_one_relayed = with_at (group_lost kinds.FifoLazy) 1 one_relayed
+abbrev crash_one_relayed : Kind → Group
+crash_one_relayed kind = with_at (group_lost kind) 1 (one_relayed kind)
 
-abbrev two_relayed : Member
-two_relayed = has_come 1 (called 2 (Other second message) (notices 2 first (ready kinds.FifoLazy)))
+abbrev two_relayed : Kind → Member
+two_relayed kind = has_come 1 (called 2 (Other second message) (notices 2 first (ready kind)))
 
-abbrev crash_two_took : Group
-crash_two_took = with_at crash_one_relayed 2 two_relayed
+abbrev crash_two_took : Kind → Group
+crash_two_took kind = with_at (crash_one_relayed kind) 2 (two_relayed kind)
 
-abbrev crash_two_relayed : Group
-crash_two_relayed = with_at crash_two_took 2 (carries 1 two_relayed)
+abbrev crash_two_relayed : Kind → Group
+crash_two_relayed kind = with_at (crash_two_took kind) 2 (carries 1 (two_relayed kind))
 
-abbrev one_heard : Member
-one_heard = has_come 2 (called 1 (Other third message) one_relayed)
+abbrev one_heard : Kind → Member
+one_heard kind = has_come 2 (called 1 (Other third message) (one_relayed kind))
 
-abbrev group_crashed : Group
-group_crashed = with_at crash_two_relayed 1 one_heard
+abbrev group_crashed : Kind → Group
+group_crashed kind = with_at (crash_two_relayed kind) 1 (one_heard kind)
 
-one_relays : one_relayed.put 2 ≡ message ∷ []
+-- both have put the message out to the other
+record BothRelay (kind : Kind) : Type 0 where
+  pub one : (one_relayed kind).put 2 ≡ message ∷ []
+  pub two : (two_relayed kind).put 1 ≡ message ∷ []
+  pub later : (one_heard kind).put 2 ≡ message ∷ []
+
+lazy_relays : BothRelay kinds.FifoLazy
 unfolding calls_of known
-one_relays = simp in_2 refl
+lazy_relays = record { one = simp in_2 refl; two = simp in_1 refl; later = simp in_2 refl }
 
-two_relays : two_relayed.put 1 ≡ message ∷ []
+majority_relays : BothRelay kinds.FifoMajority
 unfolding calls_of known
-two_relays = simp in_1 refl
+majority_relays = record { one = simp in_2 refl; two = simp in_1 refl; later = simp in_2 refl }
 
-lead_crash : Leads (group_open kinds.FifoLazy) crash group_crashed
+lead_crash : (kind : Kind) → BothRelay kind → Leads (group_open kind) crash (group_crashed kind)
 unfolding calls_of known
-lead_crash =
-    join (group_open kinds.FifoLazy) (group_lost kinds.FifoLazy) group_crashed loss (at second (Took third 1) ∷ at third (Came second 1) ∷ at third (Took second 1) ∷ at second (Came third 1) ∷ []) (lead_loss kinds.FifoLazy)
-    (and_then (group_lost kinds.FifoLazy) (at second (Took third 1)) one_relayed (at third (Came second 1) ∷ at third (Took second 1) ∷ at second (Came third 1) ∷ []) group_crashed (refl, omega arith, length_one (one_relayed.put 2) message one_relays) refl
-    (and_then crash_one_relayed (at third (Came second 1)) two_relayed (at third (Took second 1) ∷ at second (Came third 1) ∷ []) group_crashed (refl, omega arith, omega arith, refl)
-    (comes kinds.FifoLazy third second 1 (notices 2 first (ready kinds.FifoLazy)) refl (simp (in_0, in_1) refl) (one_relayed.put 2) (ap (λ xs. slice_get xs 0) one_relays))
-    (and_then crash_two_took (at third (Took second 1)) (carries 1 two_relayed) (at second (Came third 1) ∷ []) group_crashed (refl, omega arith, length_one (two_relayed.put 1) message two_relays) refl
-    (and_then crash_two_relayed (at second (Came third 1)) one_heard [] group_crashed (refl, omega arith, omega arith, refl) (comes kinds.FifoLazy second third 1 one_relayed refl (simp (in_0, in_2) refl) (two_relayed.put 1) (ap (λ xs. slice_get xs 0) two_relays)) (stop_here group_crashed)))))
+lead_crash kind relay =
+    join (group_open kind) (group_lost kind) (group_crashed kind) loss (at second (Took third 1) ∷ at third (Came second 1) ∷ at third (Took second 1) ∷ at second (Came third 1) ∷ []) (lead_loss kind)
+    (and_then (group_lost kind) (at second (Took third 1)) (one_relayed kind) (at third (Came second 1) ∷ at third (Took second 1) ∷ at second (Came third 1) ∷ []) (group_crashed kind) (refl, omega arith, length_one ((one_relayed kind).put 2) message relay.one) refl
+    (and_then (crash_one_relayed kind) (at third (Came second 1)) (two_relayed kind) (at third (Took second 1) ∷ at second (Came third 1) ∷ []) (group_crashed kind) (refl, omega arith, omega arith, refl)
+    (comes kind third second 1 (notices 2 first (ready kind)) refl (simp (in_0, in_1) refl) ((one_relayed kind).put 2) (ap (λ xs. slice_get xs 0) relay.one))
+    (and_then (crash_two_took kind) (at third (Took second 1)) (carries 1 (two_relayed kind)) (at second (Came third 1) ∷ []) (group_crashed kind) (refl, omega arith, length_one ((two_relayed kind).put 1) message relay.two) refl
+    (and_then (crash_two_relayed kind) (at second (Came third 1)) (one_heard kind) [] (group_crashed kind) (refl, omega arith, omega arith, refl) (comes kind second third 1 (one_relayed kind) refl (simp (in_0, in_2) refl) ((two_relayed kind).put 1) (ap (λ xs. slice_get xs 0) relay.two)) (stop_here (group_crashed kind))))))
 
 run_loss : Leads nobody (opened kinds.Beb ++ loss) (group_lost kinds.Beb)
 run_loss = join nobody (group_open kinds.Beb) (group_lost kinds.Beb) (opened kinds.Beb) loss (open_all kinds.Beb) (lead_loss kinds.Beb)
 
-run_crash : Leads nobody (opened kinds.FifoLazy ++ crash) group_crashed
-run_crash = join nobody (group_open kinds.FifoLazy) group_crashed (opened kinds.FifoLazy) crash (open_all kinds.FifoLazy) lead_crash
+run_crash : (kind : Kind) → BothRelay kind → Leads nobody (opened kind ++ crash) (group_crashed kind)
+run_crash kind relay = join nobody (group_open kind) (group_crashed kind) (opened kind) crash (open_all kind) (lead_crash kind relay)
 
 -- When such a group is settled.
 
@@ -186,29 +193,118 @@ settle kind steps g is here_one here_two carried_one carried_two came_one came_t
 only_one : (p : ℕ → Type 0) (count : ℕ) → count ≡ 1 → p 1 → (place : ℕ) → 0 < place → place ≤ count → p place
 only_one p count is h place low high = let e : 1 ≡ place = omega (arith, is, low, high) in subst p e h
 
-pub crash_legal : IsLegal 3 0 (opened kinds.FifoLazy ++ crash)
-crash_legal = run_crash.legal
-
-pub crash_settled : IsSettled 3 0 (opened kinds.FifoLazy ++ crash) runs (spec_of kinds.FifoLazy)
+crash_settles : (kind : Kind) → BothRelay kind → IsSettled 3 0 (opened kind ++ crash) runs (spec_of kind)
 unfolding calls_of known
-crash_settled =
-    settle kinds.FifoLazy crash group_crashed run_crash.end refl refl (sym (ap length all_one)) (sym (ap length two_relays))
+crash_settles kind relay =
+    settle kind crash (group_crashed kind) (run_crash kind relay).end refl refl (sym (ap length relay.later)) (sym (ap length relay.two))
     (only_one (λ k. is_marked k (1 ∷ []) ≡ true) 1 refl refl) (only_one (λ k. is_marked k (1 ∷ []) ≡ true) 1 refl refl) refl refl unseen
   where
-    all_one : one_heard.put 2 ≡ message ∷ []
-    all_one = simp in_2 refl
+    unseen : (b : ℕ) → (b ≡ 1) ⊎ (b ≡ 2) → (was_noticed (calls_of (group_crashed kind 0).told) b ≡ false) × (was_noticed (calls_of (group_crashed kind 1).told) b ≡ false) × (was_noticed (calls_of (group_crashed kind 2).told) b ≡ false)
+    unseen b (inl e) = (refl, ap (λ z. was_noticed (calls_of (group_crashed kind 1).told) z) e, ap (λ z. was_noticed (calls_of (group_crashed kind 2).told) z) e)
+    unseen b (inr e) = (refl, ap (λ z. was_noticed (calls_of (group_crashed kind 1).told) z) e, ap (λ z. was_noticed (calls_of (group_crashed kind 2).told) z) e)
 
-    unseen : (b : ℕ) → (b ≡ 1) ⊎ (b ≡ 2) → (was_noticed (calls_of (group_crashed 0).told) b ≡ false) × (was_noticed (calls_of (group_crashed 1).told) b ≡ false) × (was_noticed (calls_of (group_crashed 2).told) b ≡ false)
-    unseen b (inl e) = (refl, ap (λ z. was_noticed (calls_of (group_crashed 1).told) z) e, ap (λ z. was_noticed (calls_of (group_crashed 2).told) z) e)
-    unseen b (inr e) = (refl, ap (λ z. was_noticed (calls_of (group_crashed 1).told) z) e, ap (λ z. was_noticed (calls_of (group_crashed 2).told) z) e)
+pub crash_legal : IsLegal 3 0 (opened kinds.FifoLazy ++ crash)
+crash_legal = (run_crash kinds.FifoLazy lazy_relays).legal
+
+pub crash_settled : IsSettled 3 0 (opened kinds.FifoLazy ++ crash) runs (spec_of kinds.FifoLazy)
+crash_settled = crash_settles kinds.FifoLazy lazy_relays
 
 pub crash_one : log_in kinds.FifoLazy crash 1 ≡ message ∷ []
 unfolding calls_of known
-crash_one = ap (λ (g : Group). log_of_member 1 (g 1)) run_crash.end
+crash_one = ap (λ (g : Group). log_of_member 1 (g 1)) (run_crash kinds.FifoLazy lazy_relays).end
 
 pub crash_two : log_in kinds.FifoLazy crash 2 ≡ message ∷ []
 unfolding calls_of known
-crash_two = ap (λ (g : Group). log_of_member 2 (g 2)) run_crash.end
+crash_two = ap (λ (g : Group). log_of_member 2 (g 2)) (run_crash kinds.FifoLazy lazy_relays).end
+
+-- With majority-ack two of three members run on.
+
+pub majority_crash_legal : IsLegal 3 0 (opened kinds.FifoMajority ++ crash)
+majority_crash_legal = (run_crash kinds.FifoMajority majority_relays).legal
+
+pub majority_crash_settled : IsSettled 3 0 (opened kinds.FifoMajority ++ crash) runs (spec_of kinds.FifoMajority)
+majority_crash_settled = crash_settles kinds.FifoMajority majority_relays
+
+pub two_are_enough : AreEnough runs (spec_of kinds.FifoMajority)
+two_are_enough kind = majority_of runs
+
+pub majority_crash_one : log_in kinds.FifoMajority crash 1 ≡ message ∷ []
+unfolding calls_of known
+majority_crash_one = ap (λ (g : Group). log_of_member 1 (g 1)) (run_crash kinds.FifoMajority majority_relays).end ∙ simp most_of refl
+
+pub majority_crash_two : log_in kinds.FifoMajority crash 2 ≡ message ∷ []
+unfolding calls_of known
+majority_crash_two = ap (λ (g : Group). log_of_member 2 (g 2)) (run_crash kinds.FifoMajority majority_relays).end ∙ simp most_of refl
+
+-- With majority-ack one of three is not enough.
+
+abbrev halts : Member → Member
+halts m = record m { stopped = true }
+
+abbrev halted : Kind → Group
+halted kind = with_at (with_at (with_at (group_open kind) 0 (zero_said kind)) 1 (halts (ready kind))) 2 (halts (ready kind))
+
+abbrev zero_missed : Kind → Member
+zero_missed kind = notices 0 second (zero_said kind)
+
+abbrev zero_alone : Kind → Member
+zero_alone kind = notices 0 third (zero_missed kind)
+
+abbrev group_alone : Kind → Group
+group_alone kind = with_at (with_at (halted kind) 0 (zero_missed kind)) 0 (zero_alone kind)
+
+lead_alone : (kind : Kind) → Leads (group_open kind) left_alone (group_alone kind)
+unfolding said_in calls_of known count_unfinished
+lead_alone kind =
+    and_then (group_open kind) (at first (Say (97 ∷ []))) (zero_said kind) (at second Stop ∷ at third Stop ∷ at first (Notice second) ∷ at first (Notice third) ∷ []) (group_alone kind) tt refl
+    (and_then (with_at (group_open kind) 0 (zero_said kind)) (at second Stop) (halts (ready kind)) (at third Stop ∷ at first (Notice second) ∷ at first (Notice third) ∷ []) (group_alone kind) tt refl
+    (and_then (with_at (with_at (group_open kind) 0 (zero_said kind)) 1 (halts (ready kind))) (at third Stop) (halts (ready kind)) (at first (Notice second) ∷ at first (Notice third) ∷ []) (group_alone kind) tt refl
+    (and_then (halted kind) (at first (Notice second)) (zero_missed kind) (at first (Notice third) ∷ []) (group_alone kind) (refl, refl) (noticed_is kind 0 second (zero_said kind) refl in_1 refl)
+    (and_then (with_at (halted kind) 0 (zero_missed kind)) (at first (Notice third)) (zero_alone kind) [] (group_alone kind) (refl, refl) (noticed_is kind 0 third (zero_missed kind) refl in_2 refl) (stop_here (group_alone kind))))))
+
+run_alone : Leads nobody (opened kinds.Majority ++ left_alone) (group_alone kinds.Majority)
+run_alone = join nobody (group_open kinds.Majority) (group_alone kinds.Majority) (opened kinds.Majority) left_alone (open_all kinds.Majority) (lead_alone kinds.Majority)
+
+pub alone_legal : IsLegal 3 0 (opened kinds.Majority ++ left_alone)
+alone_legal = run_alone.legal
+
+pub alone_settled : IsSettled 3 0 (opened kinds.Majority ++ left_alone) only_first (spec_of kinds.Majority)
+unfolding calls_of known
+alone_settled = record {
+  earlier = opened kinds.Majority;
+  later = left_alone;
+  moment = refl;
+  made = made kinds.Majority;
+  silent = silent kinds.Majority;
+  kept = λ a run_a. seen (λ (h : Group). is_gone (h a).phase ≡ false) (ap (λ z. is_gone (g z).phase) (eqb-true a 0 run_a.1));
+  carried = λ a b run_a run_b other. absurd (other (eqb-true a 0 run_a.1 ∙ sym (eqb-true b 0 run_b.1)));
+  came = λ a b run_a run_b other. absurd (other (eqb-true a 0 run_a.1 ∙ sym (eqb-true b 0 run_b.1)));
+  noticed = λ a b run_a inside stop. seen (λ (h : Group). was_noticed (calls_of (h a).told) b ≡ true) (ap (λ z. was_noticed (calls_of (g z).told) b) (eqb-true a 0 run_a.1) ∙ missed b (member b inside) stop);
+  unnoticed = λ a b inside run_b. seen (λ (h : Group). was_noticed (calls_of (h a).told) b ≡ false) (ap (λ z. was_noticed (calls_of (g a).told) z) (eqb-true b 0 run_b.1) ∙ unseen a (member a inside));
+}
+  where
+    g : Group
+    g = group_alone kinds.Majority
+
+    seen : (P : Group → Type 0) → P (group_alone kinds.Majority) → P (alone 3 0 (opened kinds.Majority ++ left_alone))
+    seen P = subst P (sym run_alone.end)
+
+    missed : (b : ℕ) → One b → only_first b ≡ false → was_noticed (calls_of (group_alone kinds.Majority 0).told) b ≡ true
+    missed b (is_0 e) stop = let no : only_first 0 ≡ false = ap only_first (sym e) ∙ stop in absurd (cc)
+    missed b (is_1 e) stop = ap (λ z. was_noticed (calls_of (group_alone kinds.Majority 0).told) z) e
+    missed b (is_2 e) stop = ap (λ z. was_noticed (calls_of (group_alone kinds.Majority 0).told) z) e
+
+    unseen : (a : ℕ) → One a → was_noticed (calls_of (group_alone kinds.Majority a).told) 0 ≡ false
+    unseen a (is_0 e) = ap (λ z. was_noticed (calls_of (group_alone kinds.Majority z).told) 0) e
+    unseen a (is_1 e) = ap (λ z. was_noticed (calls_of (group_alone kinds.Majority z).told) 0) e
+    unseen a (is_2 e) = ap (λ z. was_noticed (calls_of (group_alone kinds.Majority z).told) 0) e
+
+pub one_is_not_enough : has_majority (is_member (spec_of kinds.Majority)) only_first ≡ false
+one_is_not_enough = majority_of only_first
+
+pub alone_undelivered : log_in kinds.Majority left_alone 0 ≡ []
+unfolding calls_of known
+alone_undelivered = ap (λ (g : Group). log_of_member 0 (g 0)) run_alone.end ∙ simp most_of refl
 
 pub loss_legal : IsLegal 3 0 (opened kinds.Beb ++ loss)
 loss_legal = run_loss.legal

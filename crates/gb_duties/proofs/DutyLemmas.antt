@@ -6,12 +6,14 @@ use Rattle.std.specs.List.{list_all}
 use Rattle.std.proofs.lemmas.Bool.{eqb-true, eq-eqb, cases_Bool}
 use Rattle.gb_types.specs.declared.message.MsgId.{MsgId}
 use Rattle.gb_types.specs.declared.spec.Spec.{Spec}
+use Rattle.gb_types.specs.Places.{has_majority}
 use Rattle.gb_types.proofs.CoverLemmas.{not_all_members}
+use Rattle.gb_types.proofs.MajorityLemmas.{listed}
 use Rattle.gb_types.proofs.BoolLemmas.{and_both, and_left, and_right, or_cases, or_first, or_second}
 use Rattle.gb_layer.specs.Machine.{mentions, was_noticed, came_from}
 use Rattle.gb_layer.specs.Modules.{holds, now_delivered, now_broadcast}
 use Rattle.gb_layer.specs.declared.broadcast_module.BroadcastModule.{BroadcastModule}
-use Rattle.gb_layer.specs.declared.broadcast_module.BroadcastModule.TheVariants.{BestEffort, Lazy, Eager, AllAck}
+use Rattle.gb_layer.specs.declared.broadcast_module.BroadcastModule.TheVariants.{BestEffort, Lazy, Eager, AllAck, MajorityAck}
 use Rattle.gb_layer.specs.declared.call.Call.{Call}
 use Rattle.gb_fifo.specs.Order.{in_order}
 use Rattle.gb_fifo.specs.OrderLaws.{AllIn}
@@ -22,7 +24,7 @@ use Rattle.gb_history.specs.History.{calls_of}
 use Rattle.gb_alone.specs.Alone.{Member, Group, alone, held_spec, log_at}
 use Rattle.gb_alone.specs.declared.event.GroupStep.{GroupStep}
 use Rattle.gb_history.specs.Messages.{has}
-use Rattle.gb_duties.specs.Duties.{IsPutOut, HasHad, Duty, KeepsDuties, noticed_at, delivered_at, logged_at, IsDutiful}
+use Rattle.gb_duties.specs.Duties.{IsPutOut, HasHad, IsHadByMajority, Duty, KeepsDuties, noticed_at, delivered_at, logged_at, IsDutiful}
 use Rattle.gb_duties.proofs.ReplyLemmas.{held_made}
 use Rattle.gb_duties.proofs.InvariantLemmas.{FitsAt}
 use Rattle.gb_duties.proofs.LogLemmas.{in_log, logged-is, kind_delivered}
@@ -35,6 +37,23 @@ of_member p spec b all is = go (p b) refl
     go : (t : Bool) → p b ≡ t → p b ≡ true
     go true e = e
     go false e = let none = not_all_members p spec.members b is e in absurd (cc)
+
+-- who is known to hold a message has had it
+module _ (calls : ℕ → List Call) (b : ℕ) (member : Member) (fits : FitsAt calls b member) (is : calls b ≡ calls_of member.told) (m : MsgId) where
+  held_had : (c : ℕ) → holds b (calls_of member.told) c m ≡ true → mentions (calls c) m ≡ true
+  held_had c h = known (or_cases (came_from b (calls_of member.told) c m) (nat_eq b c && mentions (calls_of member.told) m) h)
+    where
+      known : ((came_from b (calls_of member.told) c m ≡ true) ⊎ ((nat_eq b c && mentions (calls_of member.told) m) ≡ true)) → mentions (calls c) m ≡ true
+      known (inl from) = fits.from_known c m from
+      known (inr own) = ap (λ n. mentions (calls n) m) (sym (eqb-true b c (and_left (nat_eq b c) _ own))) ∙ (ap (λ cs. mentions cs m) is ∙ and_right (nat_eq b c) _ own)
+
+  -- majority-ack: more than half of the members have had what is delivered
+  majority_had : (spec : Spec) (had : ℕ → MsgId → Type 0) → ((c : ℕ) → mentions (calls c) m ≡ true → had c m) → now_delivered MajorityAck b (set.items spec.members) (calls_of member.told) m ≡ true → IsHadByMajority spec had m
+  majority_had spec had here up = record {
+    holders = λ c. holds b (calls_of member.told) c m;
+    most = (λ i. has_majority (λ c. sym (listed spec.members c) i) (λ c. holds b (calls_of member.told) c m)) ∙ and_right (mentions (calls_of member.told) m) _ up;
+    each = λ c in_c h. here c (held_had c h);
+  }
 
 module _ (calls : ℕ → List Call) (b : ℕ) (member : Member) (spec : Spec) (held : held_spec member.phase member.spec ≡ Some spec) (fits : FitsAt calls b member) (c : ℕ) (other : is_other spec b c ≡ true) (m : MsgId) where
   put_out : (base : BroadcastModule) → module_of spec.kind ≡ base → now_broadcast base b (calls_of member.told) m ≡ true → IsPutOut (noticed_at member) member.put c m
@@ -58,28 +77,40 @@ module _ (calls : ℕ → List Call) (b : ℕ) (member : Member) (spec : Spec) (
       each : (was_noticed (calls_of member.told) c || holds b (calls_of member.told) c m) ≡ true
       each = of_member (λ p. was_noticed (calls_of member.told) p || holds b (calls_of member.told) p m) spec c (and_right (mentions (calls_of member.told) m) _ up) (and_left (is_member spec c) _ other)
 
-      known : ((came_from b (calls_of member.told) c m ≡ true) ⊎ ((nat_eq b c && mentions (calls_of member.told) m) ≡ true)) → mentions (calls c) m ≡ true
-      known (inl from) = fits.from_known c m from
-      known (inr own) = ap (λ n. mentions (calls n) m) (sym (eqb-true b c (and_left (nat_eq b c) _ own))) ∙ (ap (λ cs. mentions cs m) is ∙ and_right (nat_eq b c) _ own)
-
       told : ((was_noticed (calls_of member.told) c ≡ true) ⊎ (holds b (calls_of member.told) c m ≡ true)) → (was_noticed (calls_of member.told) c ≡ true) ⊎ had c m
       told (inl noticed) = inl noticed
-      told (inr h) = inr (here (known (or_cases (came_from b (calls_of member.told) c m) (nat_eq b c && mentions (calls_of member.told) m) h)))
+      told (inr h) = inr (here (held_had calls b member fits is m c h))
+  duty had here is MajorityAck kind up = put_out MajorityAck kind (and_both (and_left (mentions (calls_of member.told) m) _ up) refl)
 
 pub is_dutiful : ModuleLogHasDelivered → ((D : List MsgId) → AllIn D (in_order D)) → IsDutiful
 is_dutiful has_delivered within nodes number steps legal = record {
   delivered = done;
-  logged = λ b spec held c other m h.
-      done b spec held c other m (kind_delivered within spec b (calls_of (group b).told) m (sym (logged-is b (held_spec (group b).phase (group b).spec) spec (group b).told m held) ∙ h));
+  logged = λ b spec held. fewer b spec held (done b spec held);
 }
   where
     group : Group
     group = alone nodes number steps
 
     done : (b : ℕ) (spec : Spec) → held_spec (group b).phase (group b).spec ≡ Some spec → KeepsDuties spec b (noticed_at (group b)) (group b).put (HasHad group) (delivered_at spec b (group b))
-    done b spec held c other m up =
-        duty (calls_in group) b (group b) spec held (alone_fits nodes number steps b) c other m (HasHad group) (λ had. had) refl (module_of spec.kind) refl
-        (sym (in_log has_delivered (module_of spec.kind) b (set.items spec.members) (calls_of (group b).told) m) ∙ up)
+    done b spec held = record {
+      others = λ c other m up. duty (calls_in group) b (group b) spec held (alone_fits nodes number steps b) c other m (HasHad group) (λ had. had) refl (module_of spec.kind) refl (due m up);
+      majority = λ kind m up. majority_had (calls_in group) b (group b) (alone_fits nodes number steps b) refl m spec (HasHad group) (λ c had. had)
+          (ap (λ k. now_delivered k b (set.items spec.members) (calls_of (group b).told) m) (sym kind) ∙ due m up);
+    }
+      where
+        due : (m : MsgId) → delivered_at spec b (group b) m ≡ true → now_delivered (module_of spec.kind) b (set.items spec.members) (calls_of (group b).told) m ≡ true
+        due m up = sym (in_log has_delivered (module_of spec.kind) b (set.items spec.members) (calls_of (group b).told) m) ∙ up
+
+    -- what stands in the log was delivered
+    fewer : (b : ℕ) (spec : Spec) → held_spec (group b).phase (group b).spec ≡ Some spec → KeepsDuties spec b (noticed_at (group b)) (group b).put (HasHad group) (delivered_at spec b (group b))
+        → KeepsDuties spec b (noticed_at (group b)) (group b).put (HasHad group) (logged_at b (group b))
+    fewer b spec held all = record {
+      others = λ c other m h. all.others c other m (in_delivered m h);
+      majority = λ kind m h. all.majority kind m (in_delivered m h);
+    }
+      where
+        in_delivered : (m : MsgId) → logged_at b (group b) m ≡ true → delivered_at spec b (group b) m ≡ true
+        in_delivered m h = kind_delivered within spec b (calls_of (group b).told) m (sym (logged-is b (held_spec (group b).phase (group b).spec) spec (group b).told m held) ∙ h)
 
 -- What is delivered is of a member.
 

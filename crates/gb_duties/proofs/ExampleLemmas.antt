@@ -2,7 +2,7 @@
 use Rattle.std.proofs.Common.{◌≡◌, ℕ, ◌+◌, ◌-◌, not, Option, Some, ◌⊎◌, inl, inr, Bool, true, false, nat_eq, arith, List, [], ◌∷◌, ◌++◌, ◌||◌, ◌&&◌, ◌≤◌, length, take, refl, sym, ap, ◌∙◌, subst}
 use Rattle.std.specs.Prelude.{slice_get, if◌then◌else◌}
 use Rattle.std.specs.FinSet as set
-use Rattle.std.specs.List.{list_all}
+use Rattle.std.specs.List.{list_all, list_any}
 use Rattle.std.proofs.lemmas.Bool.{eqb-true, eq-eqb}
 use Rattle.std.proofs.lemmas.List.Sums.{fold-append}
 use Rattle.gb_types.specs.Entry.{message_of}
@@ -12,7 +12,9 @@ use Rattle.gb_types.specs.declared.kind.Kind.TheVariants as kinds
 use Rattle.gb_types.specs.declared.node.NodeId.{NodeId}
 use Rattle.gb_types.specs.declared.reply.Reply.TheVariants.{Done, Said}
 use Rattle.gb_types.specs.declared.spec.Spec.{Spec}
+use Rattle.gb_types.specs.Places.{has_majority}
 use Rattle.gb_types.proofs.CoverLemmas.{all_members, not_all_members}
+use Rattle.gb_types.proofs.MajorityLemmas.{listed}
 use Rattle.gb_types.proofs.BoolLemmas.{and_both, and_left, and_right, both_ways, or_cases}
 use Rattle.gb_layer.specs.Machine.{mentions, was_noticed}
 use Rattle.gb_rules.specs.Group.{is_other}
@@ -81,6 +83,13 @@ all_of p = both_ways (list_all p (set.items members)) (p 0 && (p 1 && p 2)) down
         by q (is_0 is) = ap p is ∙ and_left (p 0) (p 1 && p 2) e
         by q (is_1 is) = ap p is ∙ and_left (p 1) (p 2) (and_right (p 0) (p 1 && p 2) e)
         by q (is_2 is) = ap p is ∙ and_right (p 1) (p 2) (and_right (p 0) (p 1 && p 2) e)
+
+-- a majority of all members
+pub most_of : (p : ℕ → Bool) → has_majority (λ b. list_any (λ a. nat_eq a b) (set.items members)) p ≡ has_majority (λ b. list_any (λ a. nat_eq a b) (0 ∷ 1 ∷ 2 ∷ [])) p
+most_of p = λ i. has_majority (λ b. (listed members b ∙ set.contains-from_list_nat (0 ∷ 1 ∷ 2 ∷ []) b) i) p
+
+pub majority_of : (p : ℕ → Bool) → has_majority (set.contains members) p ≡ has_majority (λ b. list_any (λ a. nat_eq a b) (0 ∷ 1 ∷ 2 ∷ [])) p
+majority_of p = λ i. has_majority (λ b. set.contains-from_list_nat (0 ∷ 1 ∷ 2 ∷ []) b i) p
 
 -- The group, event by event.
 
@@ -160,10 +169,12 @@ put_out kind b inside other = ap (λ (t : Bool). if t then [] ++ puts_of (spec_o
     by kinds.Lazy = refl
     by kinds.Eager = refl
     by kinds.AllAck = refl
+    by kinds.Majority = refl
     by kinds.FifoBeb = refl
     by kinds.FifoLazy = refl
     by kinds.FifoEager = refl
     by kinds.FifoAllAck = refl
+    by kinds.FifoMajority = refl
 
 -- the item is taken in
 pub comes : (kind : Kind) (me from : NodeId) (place : ℕ) (m : Member) → held_spec m.phase m.spec ≡ Some (spec_of kind) → falls_after (spec_of kind) me.number m.told from.number message ≡ false → (xs : List Entry) → slice_get xs (place - 1) ≡ Some message
@@ -386,3 +397,21 @@ dropped_unnoticed = ap (λ (g : Group). noticed_at (g 1) 2) dropped_is
 pub dropped_had : HasHad (alone 3 0 (opened kinds.AllAck ++ dropped)) 2 (message_of message)
 unfolding calls_of known
 dropped_had = ap (λ (g : Group). mentions (calls_of (g 2).told) (message_of message)) dropped_is
+
+-- Majority-ack.
+
+pub majority_not_yet : log_in kinds.Majority to_one 0 ≡ []
+unfolding calls_of known
+majority_not_yet = ap (λ (g : Group). log_of_member 0 (g 0)) (to_one_is kinds.Majority) ∙ simp most_of refl
+
+pub majority_delivered : log_in kinds.Majority to_one 1 ≡ message ∷ []
+unfolding calls_of known
+majority_delivered = ap (λ (g : Group). log_of_member 1 (g 1)) (to_one_is kinds.Majority) ∙ simp most_of refl
+
+pub majority_had_first : HasHad (alone 3 0 (opened kinds.Majority ++ to_one)) 0 (message_of message)
+unfolding calls_of known
+majority_had_first = ap (λ (g : Group). mentions (calls_of (g 0).told) (message_of message)) (to_one_is kinds.Majority)
+
+pub majority_had_second : HasHad (alone 3 0 (opened kinds.Majority ++ to_one)) 1 (message_of message)
+unfolding calls_of known
+majority_had_second = ap (λ (g : Group). mentions (calls_of (g 1).told) (message_of message)) (to_one_is kinds.Majority)

@@ -7,7 +7,7 @@ use Rattle.gb_types.specs.declared.message.MsgId.{MsgId}
 use Rattle.gb_types.specs.declared.spec.Spec.{Spec}
 use Rattle.gb_types.proofs.BoolLemmas.{and_both, and_left, and_right}
 use Rattle.gb_layer.specs.declared.broadcast_module.BroadcastModule.{BroadcastModule}
-use Rattle.gb_layer.specs.declared.broadcast_module.BroadcastModule.TheVariants.{BestEffort, Lazy, Eager, AllAck}
+use Rattle.gb_layer.specs.declared.broadcast_module.BroadcastModule.TheVariants.{BestEffort, Lazy, Eager, AllAck, MajorityAck}
 use Rattle.gb_fifo.specs.Order.{numbered}
 use Rattle.gb_stack.specs.Kinds.{module_of}
 use Rattle.gb_rules.specs.Group.{is_gone, is_member, is_other}
@@ -46,12 +46,16 @@ module _ (noticed seen : ℕ → Bool) (put rows : ℕ → List Entry) (had : �
   duty_seen Eager done = put_seen done
   duty_seen AllAck (inl h) = inl (more h)
   duty_seen AllAck (inr h) = inr h
+  duty_seen MajorityAck done = put_seen done
 
 pub duties_seen : (spec : Spec) (b : ℕ) (member : Member) → member.spec ≡ Some spec → is_gone member.phase ≡ false → Marked b member → (seen : ℕ → Bool) → ((c : ℕ) → is_marked c member.noticed ≡ (is_other spec b c && seen c)) → (rows : ℕ → List Entry)
     → ((c : ℕ) → is_member spec c ≡ true → member.put c ≡ rows c) → (had : ℕ → MsgId → Type 0) (messages : MsgId → Bool) → ((m : MsgId) → messages m ≡ true → is_member spec m.origin.number ≡ true) → KeepsDuties spec b (noticed_at member) member.put had messages → KeepsDuties spec b seen rows had messages
-duties_seen spec b member made here marked seen seen_is rows alike had messages inside duties c other m in_messages =
-    duty_seen (noticed_at member) seen member.put rows had b c m (noticed_seen b member spec made marked seen seen_is c) (λ differs. seen_noticed b member spec made marked seen seen_is m.origin.number here (and_both (inside m in_messages) (not_from_false (nat_eq m.origin.number b) differs)))
-    (alike c (and_left (is_member spec c) _ other)) (module_of spec.kind) (duties c other m in_messages)
+duties_seen spec b member made here marked seen seen_is rows alike had messages inside duties = record {
+  others = λ c other m in_messages.
+      duty_seen (noticed_at member) seen member.put rows had b c m (noticed_seen b member spec made marked seen seen_is c) (λ differs. seen_noticed b member spec made marked seen seen_is m.origin.number here (and_both (inside m in_messages) (not_from_false (nat_eq m.origin.number b) differs)))
+      (alike c (and_left (is_member spec c) _ other)) (module_of spec.kind) (duties.others c other m in_messages);
+  majority = duties.majority;
+}
 
 -- Agreement.
 

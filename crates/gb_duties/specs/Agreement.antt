@@ -6,8 +6,10 @@ use Rattle.gb_types.specs.declared.entry.Entry.{Entry}
 use Rattle.gb_types.specs.declared.message.MsgId.{MsgId}
 use Rattle.gb_types.specs.declared.node.NodeId.{NodeId}
 use Rattle.gb_types.specs.declared.spec.Spec.{Spec}
+use Rattle.gb_types.specs.Places.{has_majority}
 use Rattle.gb_layer.specs.Machine.{was_noticed}
-use Rattle.gb_layer.specs.declared.broadcast_module.BroadcastModule.TheVariants.{BestEffort, AllAck}
+use Rattle.gb_layer.specs.declared.broadcast_module.BroadcastModule.{BroadcastModule}
+use Rattle.gb_layer.specs.declared.broadcast_module.BroadcastModule.TheVariants.{BestEffort, Lazy, Eager, AllAck, MajorityAck}
 use Rattle.gb_fifo.specs.Order.{numbered}
 use Rattle.gb_stack.specs.Kinds.{module_of}
 use Rattle.gb_rules.specs.Group.{is_gone, is_member}
@@ -38,21 +40,33 @@ pub record IsSettled (nodes number : ℕ) (steps : List GroupStep) (runs : ℕ �
   pub noticed : (a b : ℕ) → IsRunning runs spec a → is_member spec b ≡ true → runs b ≡ false → was_noticed (calls_of (alone nodes number steps a).told) b ≡ true
   pub unnoticed : (a b : ℕ) → is_member spec a ≡ true → IsRunning runs spec b → was_noticed (calls_of (alone nodes number steps a).told) b ≡ false
 
+-- with majority-ack more than half of the members run: where not, nothing is promised of its logs
+abbrev pub AreEnough : (ℕ → Bool) → Spec → Type 0
+AreEnough runs spec = module_of spec.kind ≡ MajorityAck → has_majority (is_member spec) runs ≡ true
+
+-- uniform reliable broadcast
+abbrev pub is_uniform : BroadcastModule → Bool
+is_uniform BestEffort = false
+is_uniform Lazy = false
+is_uniform Eager = false
+is_uniform AllAck = true
+is_uniform MajorityAck = true
+
 -- What these logs have of the messages that were accepted at each node, where these nodes run.
 pub record KeepsAgreement (accepted : ℕ → List Accepted) (log : ℕ → List Entry) (runs : ℕ → Bool) (spec : Spec) : Type 0 where
   -- Validity: the log of each running member has each message that was accepted at a running member
   pub validity : (s : NodeId) (b : ℕ) → IsRunning runs spec s.number → IsRunning runs spec b → All (λ (x : Accepted). has (log b) (numbered s x.seq) ≡ true) (accepted s.number)
   -- Agreement: but for best effort the logs of running members have the same messages
   pub agreement : module_of spec.kind ≢ BestEffort → (b c : ℕ) → IsRunning runs spec b → IsRunning runs spec c → (m : MsgId) → has (log b) m ≡ has (log c) m
-  -- Uniform Agreement: with all-ack they have each message that stands in the log of any member, one that stopped too
-  pub uniform_agreement : module_of spec.kind ≡ AllAck → (b c : ℕ) → is_member spec b ≡ true → IsRunning runs spec c → (m : MsgId) → has (log b) m ≡ true → has (log c) m ≡ true
+  -- Uniform Agreement: with all-ack and majority-ack they have each message that stands in the log of any member, one that stopped too
+  pub uniform_agreement : is_uniform (module_of spec.kind) ≡ true → (b c : ℕ) → is_member spec b ≡ true → IsRunning runs spec c → (m : MsgId) → has (log b) m ≡ true → has (log c) m ≡ true
 
 -- the log of each node
 abbrev pub logs_of : Group → ℕ → List Entry
 logs_of group b = log_of_member b (group b)
 
--- the logs of a settled group agree, whichever nodes are taken as those that run
+-- the logs of a settled group agree, whichever nodes are taken as those that run, where these are enough
 abbrev pub IsAgreed : Type 0
 IsAgreed =
-    (nodes number : ℕ) (steps : List GroupStep) → IsLegal nodes number steps → (runs : ℕ → Bool) (spec : Spec) → IsSettled nodes number steps runs spec
+    (nodes number : ℕ) (steps : List GroupStep) → IsLegal nodes number steps → (runs : ℕ → Bool) (spec : Spec) → IsSettled nodes number steps runs spec → AreEnough runs spec
     → KeepsAgreement (accepted nodes number steps) (logs_of (alone nodes number steps)) runs spec

@@ -1,4 +1,4 @@
--- Duties: what a node that delivered a message has done for each other member. By them Algorithms 3.1 to 3.4 of Cachin, Guerraoui, Rodrigues, Introduction to
+-- Duties: what a node that delivered a message has done for each other member. By them Algorithms 3.1 to 3.5 of Cachin, Guerraoui, Rodrigues, Introduction to
 -- Reliable and Secure Distributed Programming, 2011, bring about Validity (Module 3.1), Agreement (Module 3.2) and Uniform Agreement (Module 3.3). They are safety:
 -- each holds after every event, and none says that something will happen.
 use Rattle.std.specs.Prelude.{ℕ, ◌≡◌, ◌⊎◌, Bool, true, false, List, Some}
@@ -6,10 +6,11 @@ use Rattle.std.specs.FinSet as set
 use Rattle.gb_types.specs.declared.entry.Entry.{Entry}
 use Rattle.gb_types.specs.declared.message.MsgId.{MsgId}
 use Rattle.gb_types.specs.declared.spec.Spec.{Spec}
+use Rattle.gb_types.specs.Places.{has_majority}
 use Rattle.gb_layer.specs.Machine.{mentions, was_noticed}
 use Rattle.gb_layer.specs.Modules.{log}
 use Rattle.gb_layer.specs.declared.broadcast_module.BroadcastModule.{BroadcastModule}
-use Rattle.gb_layer.specs.declared.broadcast_module.BroadcastModule.TheVariants.{BestEffort, Lazy, Eager, AllAck}
+use Rattle.gb_layer.specs.declared.broadcast_module.BroadcastModule.TheVariants.{BestEffort, Lazy, Eager, AllAck, MajorityAck}
 use Rattle.gb_fifo.specs.Order.{is_in}
 use Rattle.gb_stack.specs.Kinds.{module_of}
 use Rattle.gb_rules.specs.Group.{is_gone, is_member, is_other}
@@ -25,17 +26,25 @@ IsPutOut noticed put c m = (noticed c ≡ true) ⊎ (has (put c) m ≡ true)
 
 -- What the node b, which delivered the message, has done for the member c. These nodes are noticed at b, these items are put out to each node, and this says which
 -- nodes have had which message. Where c is not noticed,
---   best effort (Algorithm 3.1) has put out what is its own, lazy (3.2) also what is of a noticed origin, eager (3.3) all; and before all-ack (3.4) delivers,
---   c has had the message.
+--   best effort (Algorithm 3.1) has put out what is its own, lazy (3.2) also what is of a noticed origin, eager (3.3) and majority-ack (3.5) all; and before
+--   all-ack (3.4) delivers, c has had the message.
 abbrev pub Duty : BroadcastModule → (ℕ → Bool) → (ℕ → List Entry) → (ℕ → MsgId → Type 0) → ℕ → ℕ → MsgId → Type 0
 Duty BestEffort noticed put had b c m = m.origin.number ≡ b → IsPutOut noticed put c m
 Duty Lazy noticed put had b c m = ((m.origin.number ≡ b) ⊎ (noticed m.origin.number ≡ true)) → IsPutOut noticed put c m
 Duty Eager noticed put had b c m = IsPutOut noticed put c m
 Duty AllAck noticed put had b c m = (noticed c ≡ true) ⊎ had c m
+Duty MajorityAck noticed put had b c m = IsPutOut noticed put c m
 
--- a node has done its duty for each other member and each of these messages
-abbrev pub KeepsDuties : Spec → ℕ → (ℕ → Bool) → (ℕ → List Entry) → (ℕ → MsgId → Type 0) → (MsgId → Bool) → Type 0
-KeepsDuties spec b noticed put had messages = (c : ℕ) → is_other spec b c ≡ true → (m : MsgId) → messages m ≡ true → Duty (module_of spec.kind) noticed put had b c m
+-- more than half of the members have had the message
+pub record IsHadByMajority (spec : Spec) (had : ℕ → MsgId → Type 0) (m : MsgId) : Type 0 where
+  pub holders : ℕ → Bool
+  pub most : has_majority (is_member spec) holders ≡ true
+  pub each : (c : ℕ) → is_member spec c ≡ true → holders c ≡ true → had c m
+
+-- a node has done its duty for each other member and each of these messages; and before majority-ack (3.5) delivers, more than half of the members have had the message
+pub record KeepsDuties (spec : Spec) (b : ℕ) (noticed : ℕ → Bool) (put : ℕ → List Entry) (had : ℕ → MsgId → Type 0) (messages : MsgId → Bool) : Type 0 where
+  pub others : (c : ℕ) → is_other spec b c ≡ true → (m : MsgId) → messages m ≡ true → Duty (module_of spec.kind) noticed put had b c m
+  pub majority : module_of spec.kind ≡ MajorityAck → (m : MsgId) → messages m ≡ true → IsHadByMajority spec had m
 
 -- the nodes that are noticed at a member
 abbrev pub noticed_at : Member → ℕ → Bool

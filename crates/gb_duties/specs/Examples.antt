@@ -63,6 +63,14 @@ loss = to_one ++ (at first Stop ∷ at second (Notice first) ∷ at third (Notic
 abbrev pub crash : List GroupStep
 crash = loss ++ (at second (Took third 1) ∷ at third (Came second 1) ∷ at third (Took second 1) ∷ at second (Came third 1) ∷ [])
 
+-- node 0 says the message, the others stop before it goes to them, and node 0 notices that
+abbrev pub left_alone : List GroupStep
+left_alone = at first (Say (97 ∷ [])) ∷ at second Stop ∷ at third Stop ∷ at first (Notice second) ∷ at first (Notice third) ∷ []
+
+-- the node that runs then
+abbrev pub only_first : ℕ → Bool
+only_first a = nat_eq a 0
+
 -- the nodes that run after a crash
 abbrev pub runs : ℕ → Bool
 runs a = not (nat_eq a 0)

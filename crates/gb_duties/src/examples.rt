@@ -2,12 +2,14 @@
 //! laws that compute, with no code.
 ghost use Rattle.std.specs.Prelude.{◌≡◌, false, ◌++◌, [], ◌∷◌};
 ghost use Rattle.gb_types.specs.Entry.{message_of};
+ghost use Rattle.gb_types.specs.Places.{has_majority};
 ghost use Rattle.gb_types.specs.declared.kind.Kind.TheVariants as kind;
+ghost use Rattle.gb_rules.specs.Group.{is_member};
 ghost use Rattle.gb_alone.specs.Alone.{alone, IsLegal};
 ghost use Rattle.gb_alone.specs.declared.event.GroupEvent.TheVariants.{Notice};
-ghost use Rattle.gb_duties.specs.Agreement.{IsSettled};
+ghost use Rattle.gb_duties.specs.Agreement.{AreEnough, IsSettled};
 ghost use Rattle.gb_duties.specs.Duties.{HasHad, noticed_at};
-ghost use Rattle.gb_duties.specs.Examples.{first, second, third, spec_of, message, at, opened, to_one, to_all, dropped, loss, crash, runs, log_in, put_in};
+ghost use Rattle.gb_duties.specs.Examples.{first, second, third, spec_of, message, at, opened, to_one, to_all, dropped, loss, crash, runs, left_alone, only_first, log_in, put_in};
 
 /// A best-effort node has put out what it said, and does not relay what it delivered, whoever is noticed.
 pub fn a_best_effort_node_puts_out_its_own()
@@ -55,6 +57,34 @@ pub fn a_group_settles_after_a_crash()
     ensures settled { IsSettled 3 0 (opened kind.FifoLazy ++ crash) runs (spec_of kind.FifoLazy) }
     ensures one { log_in kind.FifoLazy crash 1 ≡ message ∷ [] }
     ensures two { log_in kind.FifoLazy crash 2 ≡ message ∷ [] }
+{}
+
+/// A majority-ack node delivers a message once two of the three members have had it: node 0, which said it, does not yet
+/// know so, and node 1, which it came to, does.
+pub fn a_majority_ack_node_waits_for_more_than_half()
+    ensures not_yet { log_in kind.Majority to_one 0 ≡ [] }
+    ensures delivered { log_in kind.Majority to_one 1 ≡ message ∷ [] }
+    ensures had_first { HasHad (alone 3 0 (opened kind.Majority ++ to_one)) 0 (message_of message) }
+    ensures had_second { HasHad (alone 3 0 (opened kind.Majority ++ to_one)) 1 (message_of message) }
+{}
+
+/// A majority-ack group settles after the same crash. Two of the three members run, and both logs have the message of
+/// the node that stopped.
+pub fn a_majority_ack_group_settles_after_a_crash()
+    ensures legal { IsLegal 3 0 (opened kind.FifoMajority ++ crash) }
+    ensures settled { IsSettled 3 0 (opened kind.FifoMajority ++ crash) runs (spec_of kind.FifoMajority) }
+    ensures enough { AreEnough runs (spec_of kind.FifoMajority) }
+    ensures one { log_in kind.FifoMajority crash 1 ≡ message ∷ [] }
+    ensures two { log_in kind.FifoMajority crash 2 ≡ message ∷ [] }
+{}
+
+/// Where two of the three members stopped, a majority-ack group settles too, and nothing is promised: the message that was
+/// accepted at the member that runs is in no log, though the others are noticed.
+pub fn majority_ack_promises_nothing_without_a_majority()
+    ensures legal { IsLegal 3 0 (opened kind.Majority ++ left_alone) }
+    ensures settled { IsSettled 3 0 (opened kind.Majority ++ left_alone) only_first (spec_of kind.Majority) }
+    ensures few { has_majority (is_member (spec_of kind.Majority)) only_first ≡ false }
+    ensures undelivered { log_in kind.Majority left_alone 0 ≡ [] }
 {}
 
 /// With best effort a group settles after the same crash, and the message of the node that stopped is in one log alone.

@@ -6,10 +6,11 @@ use gb_fifo::order::{gives_up_whole_runs, top_is_the_greatest};
 use gb_stack::stands::module_logs;
 
 /// Duties: after every event, at each node that made the group and did not drop it, for each message that was delivered
-/// there and each other member. An eager node has noticed the member or put the message out to it; a lazy one so where
-/// the message is its own or of an origin that it noticed; a best-effort one where it is its own. At an all-ack node the
-/// member is noticed, or has said the message or taken it in, whether or not it dropped the group since. What is delivered
-/// at a node is of a member of the group, and what stands in a log is delivered.
+/// there and each other member. An eager node, and a majority-ack node, has noticed the member or put the message out to
+/// it; a lazy one so where the message is its own or of an origin that it noticed; a best-effort one where it is its own.
+/// At an all-ack node the member is noticed, or has said the message or taken it in, whether or not it dropped the group
+/// since. At a majority-ack node more than half of the members have said the message or taken it in. What is delivered at
+/// a node is of a member of the group, and what stands in a log is delivered.
 pub fn duties()
     ensures dutiful { IsDutiful }
     ensures members { DeliveredAreOfMembers }
@@ -20,8 +21,9 @@ pub fn duties()
 }
 
 /// Agreement: where a group is settled, whichever nodes are taken as those that run, the logs of the running members
-/// hold each message that was accepted at a running member and, but for best effort, the same messages; with all-ack
-/// also each message in the log of a member that stopped.
+/// hold each message that was accepted at a running member and, but for best effort, the same messages; with all-ack and
+/// majority-ack also each message in the log of a member that stopped. With majority-ack all this holds where more than
+/// half of the members run.
 pub fn agreement()
     ensures { IsAgreed }
 {
