@@ -68,14 +68,14 @@ def measured(program, kind, members, msgs, size):
 
 def main():
     worst = 0.0
-    print('kind    members  messages   bytes    reserved    tables     taken  ratio')
-    for kind in ('beb', 'fbeb', 'lazy', 'eager', 'allack', 'fallack'):
+    print('kind      members  messages   bytes    reserved    tables     taken  ratio')
+    for kind in ('beb', 'fbeb', 'lazy', 'eager', 'allack', 'fallack', 'majority', 'fmajority'):
         for members, msgs, size in ((2, 64, 4096), (16, 64, 65536), (16, 256, 4096), (16, 1024, 65536), (2, 1024, 65536)):
             spec, tables = reserved(kind, members, msgs, size)
             taken = measured(sys.argv[1], kind, members, msgs, size)
             ratio = taken / (spec + tables)
             worst = max(worst, ratio)
-            print(f'{kind:7} {members:7} {msgs:9} {size:7} {spec:11} {tables:9} {taken:9.0f} {ratio:6.2f}')
+            print(f'{kind:9} {members:7} {msgs:9} {size:7} {spec:11} {tables:9} {taken:9.0f} {ratio:6.2f}')
     print(f'at most {worst:.2f} times what is reserved')
 
 

@@ -10,7 +10,7 @@ import sys
 NODES = 4
 TENANTS = range(7, 11)
 GROUPS = range(4)
-KINDS = ['beb', 'lazy', 'eager', 'allack', 'fbeb', 'flazy', 'feager', 'fallack']
+KINDS = ['beb', 'lazy', 'eager', 'allack', 'majority', 'fbeb', 'flazy', 'feager', 'fallack', 'fmajority']
 
 
 def setup():

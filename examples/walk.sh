@@ -37,6 +37,9 @@ ask() { # NODE WORDS..: asks a node, and ends the walk where its reply is a refu
 for node in 0 1 2; do
     ask "$node" tenant 7 4 100 4096 100
     ask "$node" make 7 1 fallack 0,1,2 100 4096 100
+done
+# The group is made everywhere before it is opened anywhere: a message that comes to a node without the group is lost there.
+for node in 0 1 2; do
     ask "$node" open 7 1
 done
 ask 0 say 7 1 'hello' --text

@@ -68,7 +68,7 @@ const G: ArgWords = ArgWords {
 
 const KIND: ArgWords = ArgWords {
     name: "KIND",
-    help: "how messages are broadcast: beb, lazy, eager, allack, or in first-in first-out order fbeb, flazy, feager, fallack",
+    help: "how messages are broadcast: beb, lazy, eager, allack, majority, or in first-in first-out order fbeb, flazy, feager, fallack, fmajority",
     form: Form::Word,
 };
 

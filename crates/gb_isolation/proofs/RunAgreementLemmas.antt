@@ -16,7 +16,7 @@ use Rattle.gb_alone.specs.Alone.{Group, after, nobody, alone, is_marked, IsLegal
 use Rattle.gb_alone.specs.Laws.{accepted}
 use Rattle.gb_alone.specs.declared.event.GroupStep.{GroupStep}
 use Rattle.gb_alone.proofs.InsideLemmas.{none_beyond}
-use Rattle.gb_duties.specs.Agreement.{IsRunning, IsSettled, IsAgreed, KeepsAgreement, logs_of}
+use Rattle.gb_duties.specs.Agreement.{IsRunning, AreEnough, IsSettled, IsAgreed, KeepsAgreement, logs_of}
 use Rattle.gb_duties.proofs.FlowLemmas.{nobody_flows, run_flows, legal_parts, made_stays}
 use Rattle.gb_duties.proofs.NoticeLemmas.{AllMarked}
 use Rattle.gb_duties.proofs.SeenLemmas.{noticed_seen, seen_noticed, agreement_seen}
@@ -188,10 +188,10 @@ module _ (isolated : GroupsAreIsolated) (behave : AllBehave) (plan : Plan) (run 
   log_same : (a : ℕ) → is_member spec a ≡ true → logs_of group a ≡ log_seen plan run v g a
   log_same a in_a = sym (ap (λ (s : Seen). s.log) (alike.same (node_numbered a) (node_numbered a) (there a in_a) (there a in_a)) ∙ ap (logs_of group) (is_number a in_a))
 
-  run_agrees : IsAgreed → KeepsAgreement (accepted_there plan g run) (log_seen plan run v g) runs spec
-  run_agrees law =
+  run_agrees : IsAgreed → AreEnough runs spec → KeepsAgreement (accepted_there plan g run) (log_seen plan run v g) runs spec
+  run_agrees law enough =
       agreement_seen (accepted nodes g.group (project plan g run)) (accepted_there plan g run) (logs_of group) (log_seen plan run v g) runs spec (λ a in_a. accepted_same plan run v g few alike a (within a in_a)) log_same
-      (law nodes g.group (project plan g run) behaves.legal runs spec settled_alone)
+      (law nodes g.group (project plan g run) behaves.legal runs spec settled_alone enough)
 
 pub all_agreed : IsAgreed → GroupsAreIsolated → AllBehave → SettledGroupsAgree
-all_agreed law isolated behave plan run v comes g fed runs spec settled = run_agrees isolated behave plan run v comes g fed runs spec settled law
+all_agreed law isolated behave plan run v comes g fed runs spec settled enough = run_agrees isolated behave plan run v comes g fed runs spec settled law enough

@@ -64,9 +64,13 @@ module _ (plan : Plan) (run : List Did) (v : ClusterValue) (g : Addr) (few : pla
         ((laws.dutiful plan.nodes g.group (project plan g run) alike.legal).delivered b.number spec (ap (λ (gone : Bool). if gone then None else (group b.number).spec) here ∙ made))
 
     logged : DutyLaws → KeepsRunDuties plan run v g b spec (has (seen_in plan run v g b b).log)
-    logged laws c other m h =
-        let there = laws.logged plan.nodes g.group (project plan g run) b.number spec made m (ap (λ (s : Seen). has s.log m) (sym (alike.same b b in_b in_b)) ∙ h) in
-        delivered laws there.0 c other m there.1
+    logged laws = record {
+      others = λ c other m h. (delivered laws (there m h).0).others c other m (there m h).1;
+      majority = λ kind m h. (delivered laws (there m h).0).majority kind m (there m h).1;
+    }
+      where
+        there : (m : MsgId) → has (seen_in plan run v g b b).log m ≡ true → (is_gone (group b.number).phase ≡ false) × (delivered_at spec b.number (group b.number) m ≡ true)
+        there m h = laws.logged plan.nodes g.group (project plan g run) b.number spec made m (ap (λ (s : Seen). has s.log m) (sym (alike.same b b in_b in_b)) ∙ h)
 
   run_duties : DutyLaws → RunDuties plan run v g
   run_duties laws = record {

@@ -15,7 +15,7 @@ use Rattle.gb_rules.specs.Address.{is_addr}
 use Rattle.gb_rules.specs.Group.{is_member}
 use Rattle.gb_history.specs.Messages.{has}
 use Rattle.gb_alone.specs.Laws.{Accepted, IsAccepted, KeepsIntegrity, KeepsOrder}
-use Rattle.gb_duties.specs.Agreement.{IsRunning, KeepsAgreement}
+use Rattle.gb_duties.specs.Agreement.{IsRunning, AreEnough, KeepsAgreement}
 use Rattle.gb_duties.specs.Duties.{HasHad, KeepsDuties, delivered_at}
 use Rattle.gb_node.specs.NodeGroups.{waiting_at}
 use Rattle.gb_node.specs.NodeStep.{node_numbered}
@@ -127,9 +127,9 @@ pub record IsSettledIn (plan : Plan) (run : List Did) (v : ClusterValue) (g : Ad
   pub noticed : (a b : ℕ) → IsRunning runs spec a → is_member spec b ≡ true → runs b ≡ false → is_noticed plan run (node_numbered a) b ≡ true
   pub unnoticed : (a b : ℕ) → is_member spec a ≡ true → IsRunning runs spec b → is_noticed plan run (node_numbered a) b ≡ false
 
--- where the group is settled the logs seen at its members agree, whichever nodes are taken as those that run
+-- where the group is settled the logs seen at its members agree, whichever nodes are taken as those that run, where these are enough
 abbrev pub RunAgreement : Plan → List Did → ClusterValue → Addr → Type 0
-RunAgreement plan run v g = (runs : ℕ → Bool) (spec : Spec) → IsSettledIn plan run v g runs spec → KeepsAgreement (accepted_there plan g run) (log_seen plan run v g) runs spec
+RunAgreement plan run v g = (runs : ℕ → Bool) (spec : Spec) → IsSettledIn plan run v g runs spec → AreEnough runs spec → KeepsAgreement (accepted_there plan g run) (log_seen plan run v g) runs spec
 
 abbrev pub SettledGroupsAgree : Type 0
 SettledGroupsAgree = OfGroupsInRuns RunAgreement

@@ -59,9 +59,10 @@ pub fn groups_keep_order()
 }
 
 /// Duties in every run: at each node that made a group and did not drop it, for each message that was delivered there and
-/// each other member. An eager node has noticed the member or put the message out to it; a lazy one so where the message
-/// is its own or of an origin that it noticed; a best-effort one where it is its own. At an all-ack node the member is
-/// noticed, or has said the message or taken it in. The function does nothing when it runs; its contract is the law.
+/// each other member. An eager node, and a majority-ack node, has noticed the member or put the message out to it; a lazy
+/// one so where the message is its own or of an origin that it noticed; a best-effort one where it is its own. At an
+/// all-ack node the member is noticed, or has said the message or taken it in. At a majority-ack node more than half of the
+/// members have said the message or taken it in. The function does nothing when it runs; its contract is the law.
 pub fn groups_do_their_duties()
     ensures { GroupsDoTheirDuties }
 {
@@ -75,8 +76,8 @@ pub fn groups_do_their_duties()
 
 /// Agreement in every run: where a group is settled, whichever nodes are taken as those that run, the logs of the running
 /// members hold each message that was accepted at a running member and, but for best effort, the same messages; with
-/// all-ack also each message in the log of a member that stopped. The function does nothing when it runs; its contract is
-/// the law.
+/// all-ack and majority-ack also each message in the log of a member that stopped. With majority-ack all this holds where
+/// more than half of the members run. The function does nothing when it runs; its contract is the law.
 pub fn settled_groups_agree()
     ensures { SettledGroupsAgree }
 {

@@ -102,6 +102,24 @@ const NODES_WITH_UNLIKE_KINDS: Case = (
     SimEnd::All,
 );
 
+const MAJORITY_ACK_WAITS_FOR_MORE_THAN_HALF: Case = (
+    "cluster 3 3\ntenant 0 7 4 8 4096 4\nmake 0 7 1 majority 0,1,2 8 4096 4\nopen 0 7 1\ntenant 1 7 4 8 4096 4\nmake 1 7 1 majority 0,1,2 8 4096 4\nopen 1 7 1\ntenant 2 7 4 8 4096 4\nmake 2 7 1 majority 0,1,2 8 4096 4\nopen 2 7 1\nsay 0 7 1 61\nfetch 0 7 1 0 16\npack 0 1\narrive 1\nfetch 1 7 1 0 16\npack 1 0\narrive 2\nfetch 0 7 1 0 16\nfetch 2 7 1 0 16\n",
+    "ok\nok\nok\nok\nok\nok\nok\nok\nok\nok\nsaid 1\nlog 0\npacket 1\ngood first 1 0\nlog 1 0:1:61\npacket 2\ngood first 1 1\nlog 1 0:1:61\nlog 0\n",
+    SimEnd::All,
+);
+
+const HALF_IS_NOT_A_MAJORITY: Case = (
+    "cluster 2 3\ntenant 0 7 4 8 4096 4\nmake 0 7 1 majority 0,1 8 4096 4\nopen 0 7 1\ntenant 1 7 4 8 4096 4\nmake 1 7 1 majority 0,1 8 4096 4\nopen 1 7 1\nsay 0 7 1 61\ntick 0\ntick 0\ntick 0\nfetch 0 7 1 0 16\n",
+    "ok\nok\nok\nok\nok\nok\nok\nsaid 1\nnoticed -\nnoticed -\nnoticed 1\nlog 0\n",
+    SimEnd::All,
+);
+
+const ALL_ACK_DOES_NOT_WAIT_FOR_A_NOTICED_MEMBER: Case = (
+    "cluster 2 3\ntenant 0 7 4 8 4096 4\nmake 0 7 1 allack 0,1 8 4096 4\nopen 0 7 1\ntenant 1 7 4 8 4096 4\nmake 1 7 1 allack 0,1 8 4096 4\nopen 1 7 1\nsay 0 7 1 61\ntick 0\ntick 0\ntick 0\nfetch 0 7 1 0 16\n",
+    "ok\nok\nok\nok\nok\nok\nok\nsaid 1\nnoticed -\nnoticed -\nnoticed 1\nlog 1 0:1:61\n",
+    SimEnd::All,
+);
+
 const PLACES_OF_A_LOG: Case = (
     "cluster 1 2\ntenant 0 7 4 8 4096 4\nmake 0 7 1 allack 0 8 4096 4\nopen 0 7 1\nsay 0 7 1 61\nfetch 0 7 1 0 16\nfetch 0 7 1 1 16\nfetch 0 7 1 2 16\nfetch 0 7 1 0 17\n",
     "ok\nok\nok\nok\nsaid 1\nlog 1 0:1:61\nlog 0\nrefused 11 BadPlace\nrefused 11 BadPlace\n",
@@ -290,6 +308,9 @@ pub const OF_THE_KINDS: &[Case] = &[
     NODES_WITH_UNLIKE_KINDS,
     PLACES_OF_A_LOG,
     ALL_ACK_WAITS_FOR_EACH_MEMBER,
+    MAJORITY_ACK_WAITS_FOR_MORE_THAN_HALF,
+    HALF_IS_NOT_A_MAJORITY,
+    ALL_ACK_DOES_NOT_WAIT_FOR_A_NOTICED_MEMBER,
     FRAMES_GIVEN_AGAIN_IN_FIFO_ORDER,
     NOTICES_OF_ONE_TICK_COUNT_IN_TURN,
 ];

@@ -15,6 +15,7 @@ use gb_types::kind::Kind;
 use gb_types::memory::OutOfMemory;
 use gb_types::node::NodeSet;
 use gb_uniform::all_ack::AllAcked;
+use gb_uniform::majority_ack::MajorityAcked;
 use std::alloc::Global;
 use std::process::Abort;
 use std::test::Fail;
@@ -122,6 +123,14 @@ fn a_stack_does_what_its_layers_do(rt: HostRuntime) -> Result<(), Fail> {
         relay(alloc, AllAcked),
         &mut fifo,
         (Kind::AllAck, Kind::FifoAllAck),
+    )?;
+    let mut fifo = Fifo::new(alloc, relay(alloc, MajorityAcked));
+    compare_both(
+        &rt,
+        alloc,
+        relay(alloc, MajorityAcked),
+        &mut fifo,
+        (Kind::Majority, Kind::FifoMajority),
     )?;
     Ok(())
 }

@@ -96,5 +96,6 @@ fn plain_answers_are_those_of_the_algorithms(rt: HostRuntime) -> Result<(), Fail
     compare(&rt, alloc, BroadcastModule::Lazy, &both, &second)?;
     compare(&rt, alloc, BroadcastModule::Eager, &both, &second)?;
     compare(&rt, alloc, BroadcastModule::AllAck, &second, &second)?;
+    compare(&rt, alloc, BroadcastModule::MajorityAck, &both, &second)?;
     Ok(())
 }

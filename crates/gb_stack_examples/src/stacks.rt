@@ -8,7 +8,7 @@ use gb_layer::layer::{Broadcast, Layer};
 use gb_layer::whole::take_two;
 use gb_stack::stack::Stack;
 use gb_stack::{plain, stands};
-use gb_types::kind::Kind;
+use gb_types::kind::{KINDS, Kind};
 use gb_types::memory::OutOfMemory;
 use gb_types::message::MsgId;
 use gb_types::node::{NodeId, NodeSet};
@@ -18,17 +18,6 @@ use std::process::Abort;
 use std::test::Fail;
 
 const STRANGER: NodeId = NodeId { number: 7 };
-
-const KINDS: &[Kind] = &[
-    Kind::Beb,
-    Kind::Lazy,
-    Kind::Eager,
-    Kind::AllAck,
-    Kind::FifoBeb,
-    Kind::FifoLazy,
-    Kind::FifoEager,
-    Kind::FifoAllAck,
-];
 
 /// Every call that tells a node of an own message, of two messages of another node, and of the other nodes.
 const CALLS: [Call; 9] = [
@@ -291,15 +280,20 @@ const COPIES: &[Copied] = &[
     (Kind::Eager, false, 1, 1),
     (Kind::AllAck, false, 1, 0),
     (Kind::AllAck, true, 1, 1),
+    (Kind::Majority, false, 1, 1),
+    (Kind::Majority, true, 1, 1),
     (Kind::FifoBeb, false, 0, 0),
     (Kind::FifoLazy, false, 0, 1),
     (Kind::FifoEager, false, 1, 1),
     (Kind::FifoAllAck, false, 1, 0),
     (Kind::FifoAllAck, true, 1, 1),
+    (Kind::FifoMajority, false, 1, 1),
+    (Kind::FifoMajority, true, 1, 1),
 ];
 
 /// A relayed copy is delivered by lazy and by eager broadcast, and relayed by eager; best effort does neither. All-ack
-/// relays it, and delivers it where the origin, which is not known to hold it, was noticed.
+/// relays it, and delivers it where the origin, which is not known to hold it, was noticed. Majority-ack relays it, and
+/// delivers it at once, since two of the three members hold it.
 #[test]
 fn a_relayed_copy_tells_the_kinds_apart(rt: HostRuntime) -> Result<(), Fail> {
     for case in COPIES {

@@ -155,10 +155,12 @@ const KINDS: &[(&[u8], Option<Kind>)] = &[
     (b"lazy", Some(Kind::Lazy)),
     (b"eager", Some(Kind::Eager)),
     (b"allack", Some(Kind::AllAck)),
+    (b"majority", Some(Kind::Majority)),
     (b"fbeb", Some(Kind::FifoBeb)),
     (b"flazy", Some(Kind::FifoLazy)),
     (b"feager", Some(Kind::FifoEager)),
     (b"fallack", Some(Kind::FifoAllAck)),
+    (b"fmajority", Some(Kind::FifoMajority)),
     (b"", None),
     (b"f", None),
     (b"be", None),
@@ -169,6 +171,8 @@ const KINDS: &[(&[u8], Option<Kind>)] = &[
     (b"ffbeb", None),
     (b"lazyf", None),
     (b"all-ack", None),
+    (b"maj", None),
+    (b"majorityf", None),
     (b"fLazy", None),
 ];
 

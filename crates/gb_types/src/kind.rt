@@ -25,3 +25,17 @@ pub enum Kind {
     /// Majority-ack uniform reliable broadcast in the order in which each origin said its messages.
     FifoMajority,
 }
+
+/// Every kind.
+pub const KINDS: &[Kind] = &[
+    Kind::Beb,
+    Kind::Lazy,
+    Kind::Eager,
+    Kind::AllAck,
+    Kind::Majority,
+    Kind::FifoBeb,
+    Kind::FifoLazy,
+    Kind::FifoEager,
+    Kind::FifoAllAck,
+    Kind::FifoMajority,
+];

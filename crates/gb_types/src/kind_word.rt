@@ -6,7 +6,7 @@ ghost use Rattle.gb_types.specs.KindWord.{kind_word};
 use crate::kind::Kind;
 
 /// The word for a kind.
-fn word_of(kind: Kind) -> &'static [u8]
+pub fn word_of(kind: Kind) -> &'static [u8]
     ensures { result.now ≡ kind_word kind }
 {
     match kind {
