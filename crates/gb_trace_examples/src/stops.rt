@@ -5,7 +5,9 @@ ghost use Rattle.gb_cluster.specs.ClusterValue.{IsClusterPlan};
 ghost use Rattle.gb_types.specs.declared.limits.TheConstants.{NODES as MOST};
 
 use crate::projected::projection;
-use crate::worked::{ALL_ACK, BEST_EFFORT, EMPTY_PAYLOAD, FIFO, LAZY_RELAY, UNLIKE_SPECS};
+use crate::worked::{
+    ALL_ACK, BEST_EFFORT, EMPTY_PAYLOAD, FIFO, LAZY_RELAY, MAJORITY_ACK, UNLIKE_SPECS,
+};
 use gb_cluster::answer::{Answer, Sending};
 use gb_cluster::event::Event;
 use gb_cluster::posted::Posted;
@@ -470,5 +472,11 @@ fn a_stop_after_each_event_of_unlike_specs(rt: HostRuntime) -> Result<(), Fail> 
 #[test]
 fn a_stop_after_each_event_of_acknowledgements_by_all(rt: HostRuntime) -> Result<(), Fail> {
     compare(&rt, rt.alloc(), &ALL_ACK, 2, &[0, 1, 1])?;
+    Ok(())
+}
+
+#[test]
+fn a_stop_after_each_event_of_acknowledgements_by_most(rt: HostRuntime) -> Result<(), Fail> {
+    compare(&rt, rt.alloc(), &MAJORITY_ACK, 3, &[0, 1, 1, 0])?;
     Ok(())
 }

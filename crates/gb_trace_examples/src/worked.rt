@@ -133,3 +133,26 @@ pub const ALL_ACK: [&[u8]; 15] = [
     b"arrive 2",
     b"fetch 0 7 1 0 16",
 ];
+
+/// Three nodes of which each delivers once more than half of the members hold the message.
+pub const MAJORITY_ACK: [&[u8]; 19] = [
+    b"cluster 3 3",
+    b"tenant 0 7 4 8 4096 4",
+    b"make 0 7 1 majority 0,1,2 8 4096 4",
+    b"open 0 7 1",
+    b"tenant 1 7 4 8 4096 4",
+    b"make 1 7 1 majority 0,1,2 8 4096 4",
+    b"open 1 7 1",
+    b"tenant 2 7 4 8 4096 4",
+    b"make 2 7 1 majority 0,1,2 8 4096 4",
+    b"open 2 7 1",
+    b"say 0 7 1 61",
+    b"fetch 0 7 1 0 16",
+    b"pack 0 1",
+    b"arrive 1",
+    b"fetch 1 7 1 0 16",
+    b"pack 1 0",
+    b"arrive 2",
+    b"fetch 0 7 1 0 16",
+    b"fetch 2 7 1 0 16",
+];
