@@ -11,3 +11,5 @@ mod packets;
 mod ports;
 #[cfg(test)]
 mod sessions;
+#[cfg(test)]
+mod waits;

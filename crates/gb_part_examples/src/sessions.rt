@@ -189,6 +189,56 @@ fn a_failed_read_or_write_ends_the_session(rt: HostRuntime) {
     assert!(rt; ends_at_a_write(rt.alloc()));
 }
 
+/// Answers as a node without tenants does, and counts how often it is asked.
+#[derive(Drop)]
+struct Counts {
+    asked: u64,
+}
+
+impl Answers for Counts {
+    ghost answers = { λ s request reply t. reply ≡ Refused refusals.Denied };
+
+    fn answer(&mut self, _request: Request) -> Reply {
+        self.asked = self.asked.saturating_add(1);
+        Reply::Refused(Refusal::Denied)
+    }
+}
+
+/// Three requests.
+const THREE: &[u8] =
+    b"\x00\x00\x00\x49open 0000000000000000000000000000000000000000000000000000000000000000 7 1\
+\x00\x00\x00\x49open 0000000000000000000000000000000000000000000000000000000000000000 7 1\
+\x00\x00\x00\x49open 0000000000000000000000000000000000000000000000000000000000000000 7 1";
+
+/// The replies to them.
+const THREE_DENIED: &[u8] =
+    b"\x00\x00\x00\x10refused 1 Denied\x00\x00\x00\x10refused 1 Denied\x00\x00\x00\x10refused 1 Denied";
+
+/// Whether a session of three requests in one read, whose writer takes so many bytes, asks so many of them, writes these bytes
+/// and ends at the write.
+fn ends_behind(alloc: Global, space: usize, asked: u64) -> bool {
+    let mut answers = Counts { asked: 0 };
+    let mut out = with_space(alloc, space);
+    let end = serve(
+        alloc,
+        &mut answers,
+        &mut in_pieces(THREE, 1_000, false),
+        &mut out,
+    );
+    end == Err(SessionFault::Write)
+        && answers.asked == asked
+        && out.taken.as_slice() == &THREE_DENIED[..cmp::min(space, 60)]
+}
+
+// Nothing is asked after the first write that fails: the first, the second or the third.
+#[test]
+fn requests_behind_a_failed_write_are_not_asked(rt: HostRuntime) {
+    assert!(rt; ends_behind(rt.alloc(), 0, 1));
+    assert!(rt; ends_behind(rt.alloc(), 19, 1));
+    assert!(rt; ends_behind(rt.alloc(), 20, 2));
+    assert!(rt; ends_behind(rt.alloc(), 47, 3));
+}
+
 /// A request, as it stands in a stream.
 const OPEN: [u8; 77] =
     *b"\x00\x00\x00\x49open 0000000000000000000000000000000000000000000000000000000000000000 7 1";

@@ -3,4 +3,8 @@ pub mod FrontLemmas
 pub mod StreamLemmas
 pub mod FeedLemmas
 pub mod RunLemmas
+pub mod AskLemmas
+pub mod SettleLemmas
+pub mod NextLemmas
+pub mod WholeLemmas
 pub mod ServeLemmas

@@ -4,6 +4,13 @@ pub mod Streams
 pub mod Fronts
 pub mod Feeds
 pub mod FeedState
+pub mod Asks
 pub mod Runs
+pub mod Settled
+pub mod SessionValue
+pub mod SessionState
+pub mod Nexts
+pub mod Takes
+pub mod Wholes
 pub mod Sessions
 pub mod Progress

@@ -1,12 +1,15 @@
-//! Sessions: requests and replies over any stream. A message is a length and a body; a request's body is text.
-//! `serve::serve` answers the requests of a stream in their order, `feed::Feed` finds them in pieces of any
-//! size, and `grammar::parse_request` reads one. Who answers is the caller's `answers::Answers`. Nothing is
-//! known here of nodes, sockets or threads. Read `serve::serve` first.
+//! Sessions: requests and replies over any stream. A message is a length and a body, which is text.
+//! `session::Session` is a session as a value: bytes in any cut go in, replies come out, and what a message asks
+//! (`ask::Ask`) is answered by the caller's `answers::Answers`. `serve::serve` is that value with a reader and a writer
+//! round it. `feed::Feed` finds the requests of a stream in pieces of any size, and `grammar::parse_request` reads
+//! one. Nothing is known here of nodes, sockets or threads. Read `session::Session` first.
 #![tactic(auto)]
 
 pub mod answers;
+pub mod ask;
 pub mod feed;
 pub mod grammar;
 pub mod head;
 pub mod messages;
 pub mod serve;
+pub mod session;

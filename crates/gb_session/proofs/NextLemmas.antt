@@ -1,0 +1,125 @@
+-- What one more message does to a session.
+use Rattle.std.proofs.Common.{◌≡◌, ℕ, ◌<◌, Bool, List, [], ◌∷◌, ◌++◌, Option, length, refl, sym, ap, ◌∙◌, subst, inl, inr, arith}
+use Rattle.std.proofs.lemmas.List.{append_assoc, append-nil, length-append}
+use Rattle.gb_types.specs.declared.reply.Reply.{Reply}
+use Rattle.gb_types.specs.declared.request.Request.{Request}
+use Rattle.gb_session.specs.declared.ask.Ask.{Ask}
+use Rattle.gb_session.specs.declared.serve.SessionEnd.{SessionEnd}
+use Rattle.gb_session.specs.declared.serve.SessionEnd.TheVariants.{Finished, Cut, Malformed, Limit}
+use Rattle.gb_session.specs.declared.session.Next.{Next}
+use Rattle.gb_session.specs.declared.session.Next.TheVariants.{Answered, Hungry, Parked, Ended}
+use Rattle.gb_session.specs.declared.session.Outcome.{Outcome}
+use Rattle.gb_session.specs.declared.session.Outcome.TheVariants.{Replied}
+use Rattle.gb_session.specs.declared.session.Step.{Step}
+use Rattle.gb_session.specs.declared.session.Step.TheVariants as steps
+use Rattle.gb_session.specs.SessionValue.{SessionValue}
+use Rattle.gb_session.specs.Runs.{IsRun, HasAsked, malformed_message}
+use Rattle.gb_session.specs.Settled.{Settles, answer_text, framed_all}
+use Rattle.gb_session.specs.Streams.{framed}
+use Rattle.gb_session.specs.Takes.{AnswersFront, IsWithin, StopsSo, Takes}
+use Rattle.gb_session.specs.Nexts.{IsOutcome, IsNext, FailsNext, SettlesFront, IsThere, behind}
+use Rattle.gb_session.proofs.RunLemmas.{IsRun-join}
+use Rattle.gb_session.proofs.SettleLemmas.{front_one}
+
+abbrev Answering : Type 0 → Type 1
+Answering S = S → Request → Reply → S → Type 0
+
+pub outcome_settles : (late : Bool) (ask : Ask) (requests : List Request) (replies : List Reply) (outcome : Outcome) (label : Option ℕ) (reply : Reply)
+    → IsOutcome late ask requests replies outcome → outcome ≡ Replied label reply → Settles late ask requests replies (answer_text label reply)
+outcome_settles late ask requests replies outcome label reply here is = (label, reply, subst (IsOutcome late ask requests replies) is here, refl)
+
+-- the same of equal bytes
+pub next_same : {S : Type 0} (answers : Answering S) (late : Bool) (s t : S) (bytes bytes' : List ℕ) (left left' : ℕ) (before after : List ℕ) (next : Next)
+    → bytes ≡ bytes' → left ≡ left' → IsNext answers late s t bytes left before after next → IsNext answers late s t bytes' left' before after next
+next_same answers late s t bytes bytes' left left' before after next same same' here =
+    subst (λ b. IsNext answers late s t b left' before after next) same (subst (λ k. IsNext answers late s t bytes k before after next) same' here)
+
+pub fails_same : {S : Type 0} (answers : Answering S) (late : Bool) (s t : S) (bytes bytes' : List ℕ) (left left' : ℕ) (before after : List ℕ)
+    → bytes ≡ bytes' → left ≡ left' → FailsNext answers late s t bytes left before after → FailsNext answers late s t bytes' left' before after
+fails_same answers late s t bytes bytes' left left' before after same same' here =
+    subst (λ b. FailsNext answers late s t b left' before after) same (subst (λ k. FailsNext answers late s t bytes k before after) same' here)
+
+pub next_there : {S : Type 0} (answers : Answering S) (late : Bool) (s t : S) (session : SessionValue) (before after : List ℕ) (next : Next)
+    → IsNext answers late s t session.kept session.left before after next → IsThere session next
+next_there answers late s t session before after (Answered end) here = (here.2.3.within, here.0)
+next_there answers late s t session before after Hungry here = tt
+next_there answers late s t session before after (Parked awaited) here = tt
+next_there answers late s t session before after (Ended end) here = tt
+
+-- all but the last of two equal lists
+snoc_first : {A : Type 0} (xs ys : List A) (x y : A) → xs ++ x ∷ [] ≡ ys ++ y ∷ [] → xs ≡ ys
+snoc_first [] [] x y is = refl
+snoc_first [] (z ∷ ys) x y is = absurd (omega (arith, ap length is, length-append ys (y ∷ [])))
+snoc_first (z ∷ xs) [] x y is = absurd (omega (arith, ap length is, length-append xs (x ∷ [])))
+snoc_first (z ∷ xs) (w ∷ ys) x y is = go z w (xs ++ x ∷ []) (ys ++ y ∷ []) is (snoc_first xs ys x y)
+  where
+    go : {B : Type 0} {xs ys : List B} (z w : B) (a b : List B) → z ∷ a ≡ w ∷ b → (a ≡ b → xs ≡ ys) → z ∷ xs ≡ w ∷ ys
+    go {B} {xs} {ys} z w a b e f = let first : z ≡ w = cc in let rest : a ≡ b = cc in ap (λ v. v ∷ xs) first ∙ ap (λ v. w ∷ v) (f rest)
+
+pub within_none : (room : ℕ) (before : List ℕ) → IsWithin room before []
+within_none room before earlier last is = absurd (omega (arith, ap length is, length-append earlier (last ∷ [])))
+
+pub within_one : (room : ℕ) (before now : List ℕ) (texts : List (List ℕ)) (text : List ℕ) → now ≡ before ++ framed_all texts → length now < room → IsWithin room before (texts ++ text ∷ [])
+within_one room before now texts text is low earlier last same =
+    subst (λ x. length (before ++ framed_all x) < room) (snoc_first texts earlier text last same) (subst (λ x. length x < room) is low)
+
+pub framed_join : (xs ys : List (List ℕ)) → framed_all (xs ++ ys) ≡ framed_all xs ++ framed_all ys
+framed_join [] ys = refl
+framed_join (x ∷ xs) ys = ap (λ z. framed x ++ z) (framed_join xs ys) ∙ sym (append_assoc (framed x) (framed_all xs) (framed_all ys))
+
+pub framed_one : (texts : List (List ℕ)) (text : List ℕ) → framed_all (texts ++ text ∷ []) ≡ framed_all texts ++ framed text
+framed_one texts text = framed_join texts (text ∷ []) ∙ ap (λ z. framed_all texts ++ z) (append-nil (framed text))
+
+pub written_one : (before now after : List ℕ) (texts : List (List ℕ)) (text : List ℕ) → now ≡ before ++ framed_all texts → after ≡ now ++ framed text → after ≡ before ++ framed_all (texts ++ text ∷ [])
+written_one before now after texts text is next =
+    next ∙ ap (λ x. x ++ framed text) is ∙ append_assoc before (framed_all texts) (framed text) ∙ ap (λ z. before ++ z) (sym (framed_one texts text))
+
+-- one more message is answered
+pub front_next : {S : Type 0} (answers : Answering S) (late : Bool) (s t u : S) (bytes : List ℕ) (session session' : SessionValue) (texts : List (List ℕ)) (n : ℕ) (end : ℕ) (text : List ℕ)
+    → AnswersFront answers late s t bytes session.kept texts n session.left → SettlesFront answers late t u session.kept end text → 0 < session.left → session' ≡ behind session (Answered end)
+    → AnswersFront answers late s u bytes session'.kept (texts ++ text ∷ []) n session'.left
+front_next answers late s t u bytes session session' texts n end text front settles some is =
+    front_one answers late s t u bytes session.kept session'.kept texts n session.left session'.left end text front settles (ap (λ v. v.kept) is)
+    (omega (arith, some, ap (λ v. v.left) is))
+
+-- a session that ends
+pub stops_ended : {S : Type 0} (answers : Answering S) (late : Bool) (s t : S) (rest : List ℕ) (left room : ℕ) (told now after : List ℕ) (end : SessionEnd) → now ≡ told
+    → IsNext answers late s t rest left now after (Ended end) → StopsSo answers late s t rest left room told after (steps.Ended end)
+stops_ended answers late s t rest left room told now after Malformed is here = (here.0, here.1, here.2, here.3 ∙ ap (λ x. x ++ malformed_message) is)
+stops_ended answers late s t rest left room told now after Limit is here = (here.0, here.1, here.2 ∙ is)
+stops_ended answers late s t rest left room told now after Finished is here = absurd here
+stops_ended answers late s t rest left room told now after Cut is here = absurd here
+
+pub takes_ended : {S : Type 0} (answers : Answering S) (late : Bool) (s t u : S) (bytes : List ℕ) (session session' : SessionValue) (before now after : List ℕ) (texts : List (List ℕ)) (n room : ℕ) (end : SessionEnd)
+    → AnswersFront answers late s t bytes session.kept texts n session.left → IsWithin room before texts → now ≡ before ++ framed_all texts
+    → IsNext answers late t u session.kept session.left now after (Ended end) → session' ≡ session
+    → Takes answers late s u bytes session'.kept before after n session'.left room (steps.Ended end)
+takes_ended answers late s t u bytes session session' before now after texts n room end front within is next same =
+    subst (λ (v : SessionValue). Takes answers late s u bytes v.kept before after n v.left room (steps.Ended end)) (sym same) (record {
+      mid = t;
+      texts = texts;
+      front = front;
+      within = within;
+      stops = stops_ended answers late t u session.kept session.left room (before ++ framed_all texts) now after end is next;
+    })
+
+-- what was asked where memory failed
+pub fails_asked : {S : Type 0} (answers : Answering S) (late : Bool) (s t u : S) (bytes rest : List ℕ) (texts : List (List ℕ)) (n m left : ℕ) (rest' before after : List ℕ)
+    → AnswersFront answers late s t bytes rest texts n m → FailsNext answers late t u rest' left before after → HasAsked answers s u
+fails_asked answers late s t u bytes rest texts n m left rest' before after front (some, same, inl is) = (front.requests, front.replies, subst (IsRun answers s front.requests front.replies) (sym is) front.runs)
+fails_asked answers late s t u bytes rest texts n m left rest' before after front (some, same, inr (end, text, (ask, requests, replies, message, ran, settles))) =
+    (front.requests ++ requests, front.replies ++ replies, IsRun-join answers s t u front.requests requests front.replies replies front.runs ran)
+
+pub asked_none : {S : Type 0} (answers : Answering S) (s : S) → HasAsked answers s s
+asked_none answers s = ([], [], refl)
+
+-- the same of equal bytes
+pub takes_same : {S : Type 0} (answers : Answering S) (late : Bool) (s t : S) (session session' : SessionValue) (rest before after : List ℕ) (m room : ℕ) (step : Step)
+    → session ≡ session' → Takes answers late s t session.kept rest before after session.left m room step → Takes answers late s t session'.kept rest before after session'.left m room step
+takes_same answers late s t session session' rest before after m room step same takes =
+    subst (λ (v : SessionValue). Takes answers late s t v.kept rest before after v.left m room step) same takes
+
+-- the message in front was asked, and there was no memory for its reply
+pub fails_settled : {S : Type 0} (answers : Answering S) (late : Bool) (s t : S) (bytes : List ℕ) (left : ℕ) (before after : List ℕ) (end : ℕ) (text : List ℕ)
+    → 0 < left → after ≡ before → SettlesFront answers late s t bytes end text → FailsNext answers late s t bytes left before after
+fails_settled answers late s t bytes left before after end text some same settles = (some, same, inr (end, text, settles))

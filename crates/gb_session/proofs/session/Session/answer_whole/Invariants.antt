@@ -1,0 +1,16 @@
+use Rattle.std.proofs.Common.{◌≡◌, ◌++◌, List, ℕ}
+use Rattle.gb_session.specs.Settled.{framed_all}
+use Rattle.gb_session.specs.Takes.{AnswersFront, IsWithin}
+use Rattle.gb_session.proofs.session.Session.answer_whole.Given as goal
+
+-- the messages in front are answered
+abbrev pub invariant-messages : goal.invariant-messages
+invariant-messages g l = record {
+  texts : List (List ℕ);
+  front : AnswersFront g.A.Answers.answers l.is_late l.initial.answers l.answers l.initial.self.kept l.self.kept texts l.initial.self.left l.self.left;
+  within : IsWithin l.room l.initial.out.items texts;
+  out_is : l.out.items ≡ l.initial.out.items ++ framed_all texts;
+}
+
+abbrev pub decreases-messages : goal.decreases-messages
+decreases-messages g l = l.self.left

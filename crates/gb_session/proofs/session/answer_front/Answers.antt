@@ -1,0 +1,17 @@
+use Rattle.std.proofs.Common.{arith}
+use Rattle.gb_session.specs.Settled.{answer_text}
+use Rattle.gb_session.proofs.RunLemmas.{on_err}
+use Rattle.gb_session.proofs.NextLemmas.{outcome_settles, fails_settled}
+use Rattle.gb_session.proofs.session.answer_front.Goals as goal
+
+pub returns-in_err-put_answer-in-Replied-clause-err : goal.returns-in_err-put_answer-in-Replied-clause-err
+returns-in_err-put_answer-in-Replied-clause-err g c =
+    on_err _ (fails_settled g.A.Answers.answers c.args.is_late c.args.answers.now c.settle.new.answers c.args.bytes.now c.args.left c.args.out.now.items c.put_answer-in-Replied.new.out.items
+    c.in-Message.end (answer_text c.in-Replied.label c.in-Replied.reply) (omega arith) c.in_err-put_answer-in-Replied.ensures.err (
+      c.in-Message.ask,
+      c.settle.ensures.0,
+      c.settle.ensures.1,
+      rw c.in-Message.is at c.in_ok-read_ask_front.ensures,
+      c.settle.ensures.2,
+      outcome_settles c.args.is_late c.in-Message.ask c.settle.ensures.0 c.settle.ensures.1 c.settle.result c.in-Replied.label c.in-Replied.reply c.settle.ensures.3 c.in-Replied.is,
+    ))

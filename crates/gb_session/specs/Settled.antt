@@ -1,0 +1,80 @@
+-- By which requests an ask is settled, and what its reply is.
+use Rattle.std.specs.Prelude.{◌≡◌, ℕ, ◌==◌, ◌⊎◌, Bool, true, false, List, [], ◌∷◌, ◌++◌, length, map, All, Option, Some, None, decimal, codes, if◌then◌else◌}
+use Rattle.std.specs.List.{flat_map}
+use Rattle.gb_types.specs.ReplyText.{reply_spelling}
+use Rattle.gb_types.specs.declared.reply.Reply.{Reply}
+use Rattle.gb_types.specs.declared.reply.Reply.TheVariants.{Log}
+use Rattle.gb_types.specs.declared.request.Request.{Request}
+use Rattle.gb_types.specs.declared.request.Request.TheVariants.{Fetch}
+use Rattle.gb_session.specs.declared.ask.Ask.{Ask}
+use Rattle.gb_session.specs.declared.ask.Ask.TheVariants.{Now, Await}
+use Rattle.gb_session.specs.declared.ask.Place.{Place}
+use Rattle.gb_session.specs.Asks.{SpellsAsks}
+use Rattle.gb_session.specs.Streams.{framed}
+
+-- the request that fetches from a place
+abbrev pub fetch_of : Place → Request
+fetch_of place = Fetch place.token place.address place.from place.most
+
+-- a log without entries
+abbrev pub is_empty_log : Reply → Bool
+is_empty_log (Log []) = true
+is_empty_log other = false
+
+-- each place was fetched from, in turn, and there was nothing at any of them
+abbrev pub FindsNone : List Place → List Request → List Reply → Type 0
+FindsNone places requests replies = (requests ≡ map fetch_of places) × All (λ reply. is_empty_log reply ≡ true) replies
+
+-- the places before this one were fetched from, in turn, in vain, and from this one the reply is another than an empty log
+pub record Finds (places : List Place) (at : ℕ) (found : Reply) (requests : List Request) (replies : List Reply) : Type 0 where
+  pub before : List Place
+  pub place : Place
+  pub behind : List Place
+  pub in_vain : List Reply
+  pub places_are : places ≡ before ++ place ∷ behind
+  pub at_is : at ≡ length before
+  pub requests_are : requests ≡ map fetch_of (before ++ place ∷ [])
+  pub replies_are : replies ≡ in_vain ++ found ∷ []
+  pub none_before : All (λ reply. is_empty_log reply ≡ true) in_vain
+  pub is_something : is_empty_log found ≡ false
+
+-- whether a reply tells at which place: where more than one is awaited
+abbrev pub label_of : List Place → ℕ → Option ℕ
+label_of places at = if length places == 1 then None else Some at
+
+-- the text of a reply, `at K ` before it where it tells at which place
+abbrev pub answer_text : Option ℕ → Reply → List ℕ
+answer_text None reply = reply_spelling reply
+answer_text (Some at) reply = codes "at " ++ decimal at ++ codes " " ++ reply_spelling reply
+
+-- An ask is settled by these requests and their replies, with this reply: a request by itself, fetches that wait by the first
+-- that finds something, or, late, by an empty log where none does.
+abbrev pub SettlesBy : Bool → Ask → List Request → List Reply → Option ℕ → Reply → Type 0
+SettlesBy is_late (Now request) requests replies label reply = (requests ≡ request ∷ []) × (replies ≡ reply ∷ []) × (label ≡ None)
+SettlesBy is_late (Await awaited) requests replies label reply =
+    ((at : ℕ) × Finds awaited.places.items at reply requests replies × (label ≡ label_of awaited.places.items at))
+    ⊎ ((is_late ≡ true) × FindsNone awaited.places.items requests replies × (label ≡ None) × (reply ≡ Log []))
+
+-- an ask is settled by these requests and replies, and this is the text of its reply
+abbrev pub Settles : Bool → Ask → List Request → List Reply → List ℕ → Type 0
+Settles is_late ask requests replies text =
+    (label : Option ℕ) × (reply : Reply) × SettlesBy is_late ask requests replies label reply × (text ≡ answer_text label reply)
+
+-- these asks are settled in turn, and these are the texts of their replies
+abbrev pub SettlesAll : Bool → List Ask → List Request → List Reply → List (List ℕ) → Type 0
+SettlesAll is_late [] requests replies texts = (requests ≡ []) × (replies ≡ []) × (texts ≡ [])
+SettlesAll is_late (ask ∷ asks) requests replies texts =
+    (first : List Request) × (more : List Request) × (first' : List Reply) × (more' : List Reply) × (text : List ℕ) × (texts' : List (List ℕ))
+    × (requests ≡ first ++ more) × (replies ≡ first' ++ more') × (texts ≡ text ∷ texts')
+    × Settles is_late ask first first' text × SettlesAll is_late asks more more' texts'
+
+-- the messages at the front of a stream, up to this rest, are settled by these requests and replies
+pub record HasSettled (is_late : Bool) (requests : List Request) (replies : List Reply) (stream rest : List ℕ) : Type 0 where
+  pub asks : List Ask
+  pub texts : List (List ℕ)
+  pub spells : SpellsAsks asks stream rest
+  pub settles : SettlesAll is_late asks requests replies texts
+
+-- texts as they stand in a stream, each with its length
+abbrev pub framed_all : List (List ℕ) → List ℕ
+framed_all texts = flat_map framed texts

@@ -1,0 +1,135 @@
+//! What a client asks: a request, or fetches that wait until there is something to fetch.
+ghost use Rattle.std.specs.Prelude.{◌≡◌, ◌↔◌, ◌≤◌, length, codes, IsTrue, Some, IfOk, IfSome, IfNone, map};
+ghost use Rattle.gb_session.specs.declared.ask.Ask.{Ask as TheAsk};
+ghost use Rattle.gb_session.specs.declared.ask.Awaited.{Awaited as TheAwaited};
+ghost use Rattle.gb_session.specs.declared.ask.Place.{Place as ThePlace};
+ghost use Rattle.gb_session.specs.Asks.{IsPlace, IsAskText, IsAwaitText, SpellsAwait};
+
+use crate::grammar::{BODY, read_request};
+use gb_types::address::Addr;
+use gb_types::memory::OutOfMemory;
+use gb_types::request::Request;
+use gb_types::request_words::{read_address, read_u32};
+use gb_types::token_word::read_token;
+use gb_types::words::split_words;
+use std::alloc::Global;
+
+/// How many places may be awaited at once.
+pub const PLACES: usize = 16;
+
+/// How many milliseconds a client may wait at most.
+pub const WAIT: u32 = 60_000;
+
+/// A place in a group's log, from which on so many entries at most are wanted, under a token.
+#[derive(Clone, Copy)]
+pub struct Place {
+    pub token: [u8; 32],
+    pub address: Addr,
+    pub from: u32,
+    pub most: u32,
+}
+
+/// Places that are fetched from in turn, 1 to `PLACES`. The reply may wait while there is nothing at any of them.
+#[derive(Drop)]
+pub struct Awaited {
+    pub places: Vec<Place>,
+    /// For how many milliseconds at most, 0 to `WAIT`.
+    pub wait: u32,
+}
+
+/// What a client asks.
+#[derive(Drop)]
+pub enum Ask {
+    /// A request that is answered at once.
+    Now(Request),
+    Await(Awaited),
+}
+
+// TOKEN T G FROM MAX
+fn read_place(token: &[u8], tenant: &[u8], group: &[u8], from: &[u8], most: &[u8]) -> Option<Place>
+    ensures { (place : ThePlace) → (result ≡ Some place) ↔ IsPlace place token.now tenant.now group.now from.now most.now }
+{
+    let token = read_token(token)?;
+    let address = read_address(tenant, group)?;
+    let from = read_u32(from)?;
+    let most = read_u32(most)?;
+    Some(Place {
+        token,
+        address,
+        from,
+        most,
+    })
+}
+
+// Whether so many places may be awaited for so long.
+fn is_allowed(places: &[Place], wait: u32) -> bool
+    ensures { IsTrue result ↔ ((1 ≤ length places.now) × (length places.now ≤ PLACES) × (wait ≤ WAIT)) }
+{
+    !places.is_empty() && places.len() <= PLACES && wait <= WAIT
+}
+
+// The words of places one after the other, and MS behind them.
+fn read_await(alloc: Global, words: &[&[u8]]) -> Result<Option<Awaited>, OutOfMemory>
+    ensures some { IfOk result (λ found. IfSome found (λ awaited. SpellsAwait awaited (map (λ word. word.now) words.now))) }
+    ensures none { IfOk result (λ found. IfNone found ((awaited : TheAwaited)
+        → SpellsAwait awaited (map (λ word. word.now) words.now) → ⊥)) }
+{
+    let mut places = Vec::new(alloc);
+    let mut rest = words;
+    'places: while let [token, tenant, group, from, most, more @ ..] = rest {
+        let Some(place) = read_place(token, tenant, group, from, most) else {
+            return Ok(None);
+        };
+        places.push(place)?;
+        rest = more;
+    }
+    if rest.len() != 1 {
+        return Ok(None);
+    }
+    let Some(wait) = read_u32(rest[0]) else {
+        return Ok(None);
+    };
+    if !is_allowed(&places, wait) {
+        return Ok(None);
+    }
+    Ok(Some(Awaited { places, wait }))
+}
+
+// Whether a word is the head of fetches that wait.
+fn is_await(word: &[u8]) -> bool
+    ensures { IsTrue result ↔ (word.now ≡ codes "await") }
+{
+    word == b"await".as_slice()
+}
+
+// The fetches that wait which a body spells, if it spells some.
+fn read_await_text(alloc: Global, body: &[u8]) -> Result<Option<Awaited>, OutOfMemory>
+    ensures some { IfOk result (λ found. IfSome found (IsAwaitText body.now)) }
+    ensures none { IfOk result (λ found. IfNone found ((awaited : TheAwaited) → IsAwaitText body.now awaited → ⊥)) }
+{
+    if body.len() > BODY {
+        return Ok(None);
+    }
+    let words = split_words(alloc, body)?;
+    let [head, arguments @ ..] = words.as_slice() else {
+        return Ok(None);
+    };
+    if is_await(head) {
+        return read_await(alloc, arguments);
+    }
+    Ok(None)
+}
+
+/// What the body of a message asks, or None where it asks nothing.
+pub fn read_ask(alloc: Global, body: &[u8]) -> Result<Option<Ask>, OutOfMemory>
+    ensures some { IfOk result (λ found. IfSome found (IsAskText body.now)) }
+    ensures none { IfOk result (λ found. IfNone found ((ask : TheAsk) → IsAskText body.now ask → ⊥)) }
+{
+    if let Some(request) = read_request(alloc, body)? {
+        return Ok(Some(Ask::Now(request)));
+    }
+    match read_await_text(alloc, body)? {
+        Some(awaited) => Ok(Some(Ask::Await(awaited))),
+        None => Ok(None),
+    }
+}

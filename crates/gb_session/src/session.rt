@@ -1,0 +1,390 @@
+//! A client's session as a value: bytes in, replies out, and nothing that waits.
+ghost use Rattle.std.specs.Prelude.{◌≡◌, ◌≤◌, ◌<◌, ◌++◌, [], List, ℕ, length, drop, IfOk, IfSome, IfNone, OnErr, OnOk, Option};
+ghost use Rattle.gb_types.specs.declared.reply.Reply.{Reply as TheReply};
+ghost use Rattle.gb_types.specs.declared.request.Request.{Request as TheRequest};
+ghost use Rattle.gb_session.specs.Nexts.{IsAskFront, IsOutcome, IsNext, FailsNext, IsThere, behind};
+ghost use Rattle.gb_session.specs.Progress.{EndsBehind};
+ghost use Rattle.gb_session.specs.Runs.{IsRun, HasAsked};
+ghost use Rattle.gb_session.specs.Settled.{fetch_of, is_empty_log, label_of, answer_text, Finds, FindsNone};
+ghost use Rattle.gb_session.specs.Streams.{framed};
+ghost use Rattle.gb_session.specs.Takes.{Takes};
+ghost use Rattle.gb_session.specs.Wholes.{ServesMore};
+
+use crate::answers::Answers;
+use crate::ask::{Ask, Awaited, Place, read_ask};
+use crate::grammar::BODY;
+use crate::messages::read_length;
+use crate::serve::SessionEnd;
+use gb_types::entry::Entries;
+use gb_types::memory::{OutOfMemory, put_bytes};
+use gb_types::number::put_number;
+use gb_types::refusal::Refusal;
+use gb_types::reply::Reply;
+use gb_types::reply_text::put_reply;
+use gb_types::request::Request;
+use std::alloc::Global;
+use std::marker::Model;
+
+/// The bytes of the longest reply: its length has four bytes.
+const REPLY: usize = 4_294_967_295;
+
+/// What stands at the front of some bytes of a stream.
+#[derive(Drop)]
+pub enum AskFront {
+    /// Less than a whole message.
+    Begun,
+    /// A length above the limit, or a message that asks nothing.
+    Malformed,
+    /// A message of so many bytes, its length among them, and what it asks.
+    Message(Ask, usize),
+}
+
+/// What became of an ask.
+#[derive(Drop)]
+pub enum Outcome {
+    /// Its reply, and at which place, where that is told.
+    Replied(Option<usize>, Reply),
+    /// There is nothing to fetch yet.
+    Waits(Awaited),
+}
+
+/// What became of the message in front.
+#[derive(Drop)]
+pub enum Next {
+    /// It is answered. It had so many bytes.
+    Answered(usize),
+    /// Less than a whole message is there.
+    Hungry,
+    /// There is nothing to fetch yet: it stays in front.
+    Parked(Awaited),
+    /// The session is over.
+    Ended(SessionEnd),
+}
+
+/// Why a session answers no more for now.
+#[derive(Drop)]
+pub enum Step {
+    /// No whole message is left: it wants bytes.
+    Hungry,
+    /// So many bytes of replies are there as there may be: it wants them to be taken.
+    Full,
+    /// The next message is fetches that wait: there is nothing to fetch yet.
+    Parked(Awaited),
+    /// It is over.
+    Ended(SessionEnd),
+}
+
+/// A session: the bytes that came and are not answered yet, and how many messages may still be answered. It keeps no memory while
+/// it keeps no bytes.
+#[derive(Drop)]
+pub struct Session {
+    alloc: Global,
+    bytes: Vec<u8>,
+    // How many of the bytes are answered.
+    at: usize,
+    left: u64,
+}
+
+impl Model for Session {
+    ghost use Rattle.gb_session.specs.SessionValue.{SessionValue};
+    ghost use Rattle.gb_session.specs.SessionState.{session_value, IsHeld};
+
+    ghost Value = { SessionValue };
+
+    ghost view = { session_value };
+
+    ghost invariant = { IsHeld };
+}
+
+/// What stands at the front.
+pub fn read_ask_front(alloc: Global, bytes: &[u8]) -> Result<AskFront, OutOfMemory>
+    ensures { IfOk result (IsAskFront bytes.now) }
+{
+    let Some(length) = read_length(bytes) else {
+        return Ok(AskFront::Begun);
+    };
+    let length = length as usize;
+    if length > BODY {
+        return Ok(AskFront::Malformed);
+    }
+    let end = 4 + length;
+    if bytes.len() < end {
+        return Ok(AskFront::Begun);
+    }
+    match read_ask(alloc, &bytes[4..end])? {
+        Some(ask) => Ok(AskFront::Message(ask, end)),
+        None => Ok(AskFront::Malformed),
+    }
+}
+
+// Whether a reply is a log without entries.
+fn is_empty_log(reply: &Reply) -> bool
+    ensures { result ≡ is_empty_log reply.now }
+{
+    match reply {
+        Reply::Log(entries) => entries.len() == 0,
+        _ => false,
+    }
+}
+
+// Fetches from a place.
+fn fetch<A: Answers>(answers: &mut A, place: &Place) -> Reply
+    ensures { A.answers answers.old (fetch_of place.now) result answers.new }
+{
+    answers.answer(Request::Fetch(place.token, place.address, place.from, place.most))
+}
+
+// Fetches from places in turn, up to the first whose reply is not an empty log, and gives that reply with its place.
+fn find<A: Answers>(answers: &mut A, places: &[Place]) -> Option<(usize, Reply)>
+    ensures some { IfSome result (λ found. (requests : List TheRequest) × (replies : List TheReply)
+        × IsRun A.answers answers.old requests replies answers.new × Finds places.now found.0 found.1 requests replies) }
+    ensures none { IfNone result ((requests : List TheRequest) × (replies : List TheReply)
+        × IsRun A.answers answers.old requests replies answers.new × FindsNone places.now requests replies) }
+{
+    let mut at = 0;
+    'places: while at < places.len() {
+        let reply = fetch(answers, &places[at]);
+        if !is_empty_log(&reply) {
+            return Some((at, reply));
+        }
+        at += 1;
+    }
+    None
+}
+
+// The place that a reply tells, where more than one is awaited.
+fn label_of(places: &[Place], at: usize) -> Option<usize>
+    ensures { result ≡ label_of places.now at }
+{
+    if places.len() == 1 { None } else { Some(at) }
+}
+
+// Asks what is asked. Late: what waits is settled.
+fn settle<A: Answers>(alloc: Global, answers: &mut A, ask: Ask, is_late: bool) -> Outcome
+    ensures { (requests : List TheRequest) × (replies : List TheReply) × IsRun A.answers answers.old requests replies answers.new
+        × IsOutcome is_late ask requests replies result }
+{
+    match ask {
+        Ask::Now(request) => Outcome::Replied(None, answers.answer(request)),
+        Ask::Await(awaited) => match find(answers, &awaited.places) {
+            Some((at, reply)) => Outcome::Replied(label_of(&awaited.places, at), reply),
+            None if is_late => Outcome::Replied(None, Reply::Log(Entries::new(alloc))),
+            None => Outcome::Waits(awaited),
+        },
+    }
+}
+
+// The text of a reply.
+fn text_of(alloc: Global, label: Option<usize>, reply: &Reply) -> Result<Vec<u8>, OutOfMemory>
+    ensures { IfOk result (λ text. text.items ≡ answer_text label reply.now) }
+{
+    let mut text = Vec::new(alloc);
+    if let Some(at) = label {
+        put_bytes(&mut text, b"at ")?;
+        put_number(&mut text, at as u64)?;
+        put_bytes(&mut text, b" ")?;
+    }
+    put_reply(&mut text, reply)?;
+    Ok(text)
+}
+
+// A text with its length in front, where four bytes can say that.
+fn frame(alloc: Global, text: &[u8]) -> Result<Vec<u8>, OutOfMemory>
+    ensures { IfOk result (λ message. message.items ≡ framed text.now) }
+{
+    if text.len() > REPLY {
+        return Err(OutOfMemory);
+    }
+    let length = text.len() as u32;
+    let mut message = Vec::from_slice(alloc, &length.to_be_bytes())?;
+    message.extend_from_slice(text)?;
+    Ok(message)
+}
+
+// Appends a reply with its length. Without memory nothing has changed.
+fn put_answer(
+    alloc: Global,
+    out: &mut Vec<u8>,
+    label: Option<usize>,
+    reply: &Reply,
+) -> Result<(), OutOfMemory>
+    ensures ok { OnOk result (out.new.items ≡ out.old.items ++ framed (answer_text label reply.now)) }
+    ensures err { OnErr result (out.new.items ≡ out.old.items) }
+{
+    let text = text_of(alloc, label, reply)?;
+    let message = frame(alloc, &text)?;
+    put_bytes(out, &message)
+}
+
+// Asks what stands in front of these bytes, and appends the reply, where one more message may be answered.
+fn answer_front<A: Answers>(
+    alloc: Global,
+    answers: &mut A,
+    bytes: &[u8],
+    left: u64,
+    is_late: bool,
+    out: &mut Vec<u8>,
+) -> Result<Next, OutOfMemory>
+    ensures ok { IfOk result (IsNext A.answers is_late answers.old answers.new bytes.now left out.old.items out.new.items) }
+    ensures err { OnErr result (FailsNext A.answers is_late answers.old answers.new bytes.now left out.old.items out.new.items) }
+{
+    if left == 0 {
+        return Ok(Next::Ended(SessionEnd::Limit));
+    }
+    match read_ask_front(alloc, bytes)? {
+        AskFront::Begun => Ok(Next::Hungry),
+        AskFront::Malformed => {
+            put_answer(alloc, out, None, &Reply::Refused(Refusal::Malformed))?;
+            Ok(Next::Ended(SessionEnd::Malformed))
+        }
+        AskFront::Message(ask, end) => match settle(alloc, answers, ask, is_late) {
+            Outcome::Replied(label, reply) => {
+                put_answer(alloc, out, label, &reply)?;
+                Ok(Next::Answered(end))
+            }
+            Outcome::Waits(awaited) => Ok(Next::Parked(awaited)),
+        },
+    }
+}
+
+impl Session {
+    /// A session before the first byte, which answers so many messages at most.
+    pub fn new(alloc: Global, left: u64) -> Session
+        ensures { result ≡ record { kept = []; left = left } }
+    {
+        Session {
+            alloc,
+            bytes: Vec::new(alloc),
+            at: 0,
+            left,
+        }
+    }
+
+    // Lets go of what is answered. Without memory nothing has changed.
+    fn compact(&mut self) -> Result<(), OutOfMemory>
+        ensures same { self.new ≡ self.old }
+    {
+        if self.at > 0 {
+            let rest = Vec::from_slice(self.alloc, &self.bytes[self.at..])?;
+            self.bytes = rest;
+            self.at = 0;
+        }
+        Ok(())
+    }
+
+    /// Takes the next bytes of the stream. Without memory nothing has changed.
+    pub fn put(&mut self, piece: &[u8]) -> Result<(), OutOfMemory>
+        ensures ok { OnOk result (self.new ≡ record { kept = self.old.kept ++ piece.now; left = self.old.left }) }
+        ensures err { OnErr result (self.new ≡ self.old) }
+    {
+        if piece.is_empty() {
+            return Ok(());
+        }
+        self.compact()?;
+        put_bytes(&mut self.bytes, piece)
+    }
+
+    /// Answers the message in front, if it is whole, and appends its reply. Late: fetches that wait are answered. Without memory
+    /// the message may have been asked, and stays in front.
+    pub fn answer_next<A: Answers>(
+        &mut self,
+        answers: &mut A,
+        is_late: bool,
+        out: &mut Vec<u8>,
+    ) -> Result<Next, OutOfMemory>
+        ensures ok { IfOk result (λ next. IsNext A.answers is_late answers.old answers.new self.old.kept self.old.left out.old.items out.new.items next
+            × (self.new ≡ behind self.old next)) }
+        ensures err { OnErr result (FailsNext A.answers is_late answers.old answers.new self.old.kept self.old.left out.old.items out.new.items) }
+        ensures stays { OnErr result (self.new ≡ self.old) }
+    {
+        let next = answer_front(
+            self.alloc,
+            answers,
+            &self.bytes[self.at..],
+            self.left,
+            is_late,
+            out,
+        )?;
+        self.step_over(&next);
+        Ok(next)
+    }
+
+    // Leaves the message in front behind, where it is answered.
+    fn step_over(&mut self, next: &Next)
+        requires { IsThere self.old next.now }
+        ensures { self.new ≡ behind self.old next.now }
+    {
+        if let Next::Answered(end) = next {
+            self.at += *end;
+            self.left -= 1;
+        }
+        self.release();
+    }
+
+    // Lets go of the memory where no byte is left.
+    fn release(&mut self)
+        ensures { self.new ≡ self.old }
+    {
+        if self.at == self.bytes.len() {
+            self.bytes = Vec::new(self.alloc);
+            self.at = 0;
+        }
+    }
+
+    // Answers the messages that are whole, in turn, while there is room.
+    fn answer_whole<A: Answers>(
+        &mut self,
+        answers: &mut A,
+        is_late: bool,
+        out: &mut Vec<u8>,
+        room: usize,
+    ) -> Result<Step, OutOfMemory>
+        ensures ok { IfOk result (Takes A.answers is_late answers.old answers.new self.old.kept self.new.kept
+            out.old.items out.new.items self.old.left self.new.left room) }
+        ensures asked { OnErr result (HasAsked A.answers answers.old answers.new) }
+    {
+        'messages: loop {
+            if out.len() >= room {
+                return Ok(Step::Full);
+            }
+            match self.answer_next(answers, is_late, out)? {
+                Next::Answered(_) => {}
+                Next::Hungry => return Ok(Step::Hungry),
+                Next::Parked(awaited) => return Ok(Step::Parked(awaited)),
+                Next::Ended(end) => return Ok(Step::Ended(end)),
+            }
+        }
+    }
+
+    /// Takes the next bytes of the stream, which may be none, and answers the messages that are whole, in turn, while fewer than
+    /// `room` bytes of replies are there; these are appended to what is there. Late: fetches that wait are answered. Without
+    /// memory the session is over: messages may have been asked whose replies are not there.
+    pub fn take<A: Answers>(
+        &mut self,
+        answers: &mut A,
+        piece: &[u8],
+        is_late: bool,
+        out: &mut Vec<u8>,
+        room: usize,
+    ) -> Result<Step, OutOfMemory>
+        ensures ok { IfOk result (Takes A.answers is_late answers.old answers.new (self.old.kept ++ piece.now) self.new.kept
+            out.old.items out.new.items self.old.left self.new.left room) }
+        ensures whole { IfOk result (ServesMore A.answers answers.old answers.new self.old.kept piece.now self.new.kept
+            out.old.items out.new.items) }
+        ensures asked { OnErr result (HasAsked A.answers answers.old answers.new) }
+    {
+        self.put(piece)?;
+        self.answer_whole(answers, is_late, out, room)
+    }
+
+    /// How the session ends where the stream ends now.
+    pub fn end_of_input(&self) -> SessionEnd
+        ensures { EndsBehind self.now.kept result }
+    {
+        if self.at == self.bytes.len() {
+            SessionEnd::Finished
+        } else {
+            SessionEnd::Cut
+        }
+    }
+}
