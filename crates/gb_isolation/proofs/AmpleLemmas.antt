@@ -4,7 +4,6 @@ use Rattle.std.proofs.lemmas.Bool.{and_parts}
 use Rattle.gb_types.specs.declared.address.Addr.{Addr}
 use Rattle.gb_types.specs.declared.refusal.Refusal.TheVariants.{OutOfMemory}
 use Rattle.gb_types.specs.declared.reply.Reply.TheVariants.{Refused}
-use Rattle.gb_types.specs.declared.request.Request.TheVariants.{AddTenant}
 use Rattle.gb_node.specs.Past.{Happened}
 use Rattle.gb_node.specs.declared.answer.NodeAnswer.{NodeAnswer}
 use Rattle.gb_node.specs.declared.answer.NodeAnswer.TheVariants.{Reply as Replied}
@@ -16,8 +15,7 @@ use Rattle.gb_cluster.specs.Run.{past_at}
 use Rattle.gb_isolation.specs.Isolation.{wants_memory, is_ample, AmpleRunsFeedAll}
 use Rattle.gb_isolation.specs.Project.{is_fed, is_starved_by}
 
-fed_by : (plan : NodePlan) (g : Addr) (past : List Happened) (e : NodeEvent) (x : NodeAnswer) → not (wants_memory x) ≡ true → not (is_starved_by plan g past e x) ≡ true
-fed_by plan g past (Asked (AddTenant token row)) (Replied (Refused OutOfMemory)) ample = absurd (cc)
+fed_by : (plan : NodePlan) (g : Addr) (past : List Happened) (e : NodeEvent) (x : NodeAnswer) → not (wants_memory x) ≡ true → not (is_starved_by plan.me g past e x) ≡ true
 fed_by plan g past (Asked request) (Replied (Refused OutOfMemory)) ample = absurd (cc)
 fed_by plan g past e x ample = refl
 
@@ -26,4 +24,4 @@ unfolding is_fed is_ample
 feeds_all plan [] ample g = refl
 feeds_all plan (d ∷ run) ample g =
     let parts = and_parts (not (wants_memory d.answer)) (is_ample run) ample in
-    ap (λ b. b && is_fed plan g run) (fed_by (node_plan plan d.node) g (past_at d.node run) d.event d.answer parts.0) ∙ feeds_all plan run parts.1 g
+    ap (λ b. b && is_fed g run) (fed_by (node_plan plan d.node) g (past_at d.node run) d.event d.answer parts.0) ∙ feeds_all plan run parts.1 g

@@ -56,8 +56,8 @@ packet_view plan g past bytes good c is = λ i. record {
   told = fold (taken_told plan.me plan.cluster_key g past good.frame) (told_of plan g past) (is i);
   made = made_with g past;
   noticed = set.contains (replay (start plan.me.number plan.nodes plan.silence) (map (λ (x : Content). Heard x.from) (is i) ++ watched plan.cluster_key past)).noticed;
-  replies = append-nil (replies_in plan g past) i;
-  met = is_met plan g past;
+  replies = append-nil (replies_in plan.me g past) i;
+  met = is_met plan.me g past;
   frames = λ b. append-nil (frames_to plan.cluster_key b past) i;
   acked = λ b n. (ap (λ (cs : List Content). is_acked plan.cluster_key b n past || (nat_le n (length (frames_to plan.cluster_key b past)) && list_any (is_ack b n) cs)) is
       ∙ ap (λ t. is_acked plan.cluster_key b n past || (nat_le n (length (frames_to plan.cluster_key b past)) && t)) (or-false (nat_eq c.from b && covers c.base c.mask n))) i;

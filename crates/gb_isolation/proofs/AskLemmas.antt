@@ -25,7 +25,7 @@ use Rattle.gb_node.specs.declared.answer.NodeAnswer.TheVariants.{Reply as Replie
 use Rattle.gb_node.specs.declared.event.NodeEvent.TheVariants.{Request as Asked}
 use Rattle.gb_node.specs.declared.plan.NodePlan.{NodePlan}
 use Rattle.gb_node.proofs.EventLemmas.{added_refused, asked_untold}
-use Rattle.gb_isolation.specs.Project.{items_of, is_own, made_by, or_else, made_with, is_met_by, is_met, reply_in, replies_in}
+use Rattle.gb_isolation.specs.Project.{items_of, is_own_request, made_by, or_else, made_with, is_met_by, is_met, reply_in, replies_in}
 use Rattle.gb_isolation.proofs.GoesLemmas.{goes_one}
 use Rattle.gb_isolation.proofs.MarkLemmas.{or_and_off}
 use Rattle.gb_isolation.proofs.MemberLemmas.{same_member}
@@ -43,8 +43,8 @@ pub view_asked : (plan : NodePlan) (g : Addr) (past : List Happened) (request : 
     → option_map reserve_of (row_of g.tenant (tenants_in past ++ added (Asked request) (Replied reply))) ≡ reserve
     → asked_told g plan.me (noticed_in plan past) request reply (told_of plan g past) ≡ told
     → or_else (made_by g (Asked request) (Replied reply)) (made_with g past) ≡ made
-    → replies_in plan g past ++ reply_in plan g past (Asked request) (Replied reply) ≡ replies
-    → (is_met_by plan g past (Asked request) (Replied reply) || is_met plan g past) ≡ met
+    → replies_in plan.me g past ++ reply_in plan.me g past (Asked request) (Replied reply) ≡ replies
+    → (is_met_by plan.me g past (Asked request) (Replied reply) || is_met plan.me g past) ≡ met
     → view_of plan g (asking request reply ∷ past) ≡ record (view_of plan g past) { reserve = reserve; told = told; made = made; replies = replies; met = met }
 unfolding tenants_in told_of made_with replies_in is_met frames_to is_acked is_taken watched
 view_asked plan g past request reply reserve told made replies met reserves tells mades says meets = λ i. record {
@@ -66,16 +66,16 @@ rows_kept plan g past request reply none = ap (λ rows. option_map reserve_of (r
 -- the group's own request at a running node
 pub view_own : (plan : NodePlan) (g : Addr) (past : List Happened) (request : Request) (reply : Reply) (told : Option (Option Told)) (made : Option Spec)
     → is_stopped past ≡ false
-    → is_own plan g past request ≡ true
+    → is_own_request plan.me g past request ≡ true
     → added (Asked request) (Replied reply) ≡ []
     → asked_told g plan.me (noticed_in plan past) request reply (told_of plan g past) ≡ told
     → or_else (made_by g (Asked request) (Replied reply)) (made_with g past) ≡ made
-    → view_of plan g (asking request reply ∷ past) ≡ record (view_of plan g past) { told = told; made = made; replies = replies_in plan g past ++ reply ∷ [] }
+    → view_of plan g (asking request reply ∷ past) ≡ record (view_of plan g past) { told = told; made = made; replies = replies_in plan.me g past ++ reply ∷ [] }
 view_own plan g past request reply told made running own rows tells mades =
-    view_asked plan g past request reply (view_of plan g past).reserve told made (replies_in plan g past ++ reply ∷ []) (is_met plan g past)
+    view_asked plan g past request reply (view_of plan g past).reserve told made (replies_in plan.me g past ++ reply ∷ []) (is_met plan.me g past)
     (rows_kept plan g past request reply rows) tells mades
-    (ap (λ b. replies_in plan g past ++ (if b then reply ∷ [] else [])) own)
-    (ap (λ b. (b && is_own plan g past request) || is_met plan g past) running)
+    (ap (λ b. replies_in plan.me g past ++ (if b then reply ∷ [] else [])) own)
+    (ap (λ b. (b && is_own_request plan.me g past request) || is_met plan.me g past) running)
 
 -- A refusal makes nothing of the node.
 
@@ -90,7 +90,7 @@ refused_makes g (Fetch token addr from most) why = refl
 
 -- a request that is not the group's own, and makes nothing of it
 pub unrelated_request : (plan : NodePlan) (g : Addr) (past : List Happened) (request : Request) (reply : Reply) (frames_from : ℕ → List (List Item)) (group : Group)
-    → is_own plan g past request ≡ false
+    → is_own_request plan.me g past request ≡ false
     → added (Asked request) (Replied reply) ≡ []
     → asked_told g plan.me (noticed_in plan past) request reply (told_of plan g past) ≡ told_of plan g past
     → made_by g (Asked request) (Replied reply) ≡ None
@@ -110,7 +110,7 @@ unrelated_request plan g past request reply frames_from group other rows told un
 
 -- and so one that is refused
 pub refused_unrelated : (plan : NodePlan) (g : Addr) (past : List Happened) (request : Request) (why : Refusal) (frames_from : ℕ → List (List Item)) (group : Group)
-    → is_own plan g past request ≡ false
+    → is_own_request plan.me g past request ≡ false
     → Fits plan.nodes g plan.me.number frames_from (view_of plan g past) (group plan.me.number)
     → Goes plan.nodes g plan.me frames_from (view_of plan g (asking request (Refused why) ∷ past)) group []
 refused_unrelated plan g past request why frames_from group other fits =

@@ -37,21 +37,31 @@ use Rattle.gb_rules.specs.Lifetime.{stepped, where_so}
 use Rattle.gb_rules.specs.Lifetime as life
 use Rattle.gb_node.specs.Past.{Happened, added, is_stopped, tenants_in}
 use Rattle.gb_node.specs.PastGroups.{Told, noticed_in, shown_of, shown_in, with_call, moved_to, asked_told, told_of}
-use Rattle.gb_node.specs.StepLaw.{group_answer, is_admitted_by, admitted_answer}
+use Rattle.gb_node.specs.StepLaw.{group_answer, is_admitted_by, admitted_answer, has_group_token_by}
 use Rattle.gb_node.specs.declared.answer.NodeAnswer.TheVariants.{Reply as Replied}
 use Rattle.gb_node.specs.declared.event.NodeEvent.TheVariants.{Request as Asked}
 use Rattle.gb_node.specs.declared.plan.NodePlan.{NodePlan}
 use Rattle.gb_rules.proofs.AddressLemmas.{addr_is}
-use Rattle.gb_isolation.specs.Project.{asked, is_named, is_own, made_by, made_with, or_else, own_requested, requested, tenant_given}
+use Rattle.gb_isolation.specs.Project.{asked, is_named, is_own_request, made_by, made_with, or_else, own_requested, requested, tenant_given}
 use Rattle.gb_isolation.proofs.AskLemmas.{MemberFits, asking, carried_in, commands, member_fits, view_own}
 use Rattle.gb_isolation.proofs.FinishedLemmas.{counts_fit, unknown_acknowledged}
 use Rattle.gb_isolation.proofs.MemberLemmas.{answered-is, called_there, called_put}
 use Rattle.gb_isolation.proofs.PastLemmas.{running_unmet}
 use Rattle.gb_isolation.proofs.View.{View, view_of, IsThere, IsInside, Fits, Goes}
 
+-- A request that names a group comes with the token that it needs where it comes with the group's.
+pub group_token_is : (plan : NodePlan) (g : Addr) (past : List Happened) (request : Request) → is_named g request ≡ true → has_group_token_by plan.me past request ≡ is_admitted_by plan past request
+group_token_is plan g past (AddTenant token row) named = absurd (cc)
+group_token_is plan g past (Make token addr spec) named = refl
+group_token_is plan g past (OpenGroup token addr) named = refl
+group_token_is plan g past (ShutGroup token addr) named = refl
+group_token_is plan g past (DropGroup token addr) named = refl
+group_token_is plan g past (Say token addr payload) named = refl
+group_token_is plan g past (Fetch token addr from most) named = refl
+
 -- A command with the right token: the group's tenant is here.
 
-none_admitted : (plan : NodePlan) (g : Addr) (past : List Happened) (request : Request) → row_of g.tenant (tenants_in past) ≡ None → is_named g request ≡ true → is_admitted_by plan past request ≡ false
+none_admitted : (plan : NodePlan) (g : Addr) (past : List Happened) (request : Request) → row_of g.tenant (tenants_in past) ≡ None → is_named g request ≡ true → has_group_token_by plan.me past request ≡ false
 none_admitted plan g past (AddTenant token row) none named = absurd (cc)
 none_admitted plan g past (Make token addr spec) none named = let there : row_of addr.tenant (tenants_in past) ≡ None = ap (λ (x : Addr). row_of x.tenant (tenants_in past)) (sym (addr_is g addr named)) ∙ none in rw there refl
 none_admitted plan g past (OpenGroup token addr) none named = let there : row_of addr.tenant (tenants_in past) ≡ None = ap (λ (x : Addr). row_of x.tenant (tenants_in past)) (sym (addr_is g addr named)) ∙ none in rw there refl
@@ -60,13 +70,13 @@ none_admitted plan g past (DropGroup token addr) none named = let there : row_of
 none_admitted plan g past (Say token addr payload) none named = let there : row_of addr.tenant (tenants_in past) ≡ None = ap (λ (x : Addr). row_of x.tenant (tenants_in past)) (sym (addr_is g addr named)) ∙ none in rw there refl
 none_admitted plan g past (Fetch token addr from most) none named = let there : row_of addr.tenant (tenants_in past) ≡ None = ap (λ (x : Addr). row_of x.tenant (tenants_in past)) (sym (addr_is g addr named)) ∙ none in rw there refl
 
-pub tenant_here : (plan : NodePlan) (g : Addr) (past : List Happened) (request : Request) → is_own plan g past request ≡ true → is_some (view_of plan g past).reserve ≡ true
+pub tenant_here : (plan : NodePlan) (g : Addr) (past : List Happened) (request : Request) → is_own_request plan.me g past request ≡ true → is_some (view_of plan g past).reserve ≡ true
 tenant_here plan g past request own = by (row_of g.tenant (tenants_in past)) refl
   where
     by : (row : Option TenantRow) → row_of g.tenant (tenants_in past) ≡ row → is_some (option_map reserve_of row) ≡ true
     by None none =
-        let parts = and_parts (is_named g request) (is_admitted_by plan past request) own in
-        let off : is_admitted_by plan past request ≡ false = none_admitted plan g past request none parts.0 in
+        let parts = and_parts (is_named g request) (has_group_token_by plan.me past request) own in
+        let off : has_group_token_by plan.me past request ≡ false = none_admitted plan g past request none parts.0 in
         absurd (clash (sym off ∙ parts.1))
       where
         clash : false ≡ true → ⊥
@@ -90,14 +100,14 @@ module _ (plan : NodePlan) (g : Addr) (past : List Happened) (request : Request)
   replies_running e running fits = ap (λ (b : Bool). if b then Refused Stopped else running_reply plan.nodes g.group plan.me.number e (group plan.me.number)) (fits.stopped ∙ running_unmet plan g past running)
 
   -- what the group's own request gives it at a running node
-  pub given_own : is_stopped past ≡ false → is_own plan g past request ≡ true → asked plan g past request reply ≡ tenant_given g plan.me request reply ++ own_requested plan g past request reply
+  pub given_own : is_stopped past ≡ false → is_own_request plan.me g past request ≡ true → asked plan g past request reply ≡ tenant_given g plan.me request reply ++ own_requested plan g past request reply
   given_own running own = by ∙ ap (λ b. tenant_given g plan.me request reply ++ (if b then own_requested plan g past request reply else [])) own
     where
       by : asked plan g past request reply ≡ requested plan g past request reply
       by = rw running refl
 
   -- the group's own request, which does not make it
-  pub own_command : (e : GroupEvent) (o : Option (Option Told)) → is_stopped past ≡ false → is_own plan g past request ≡ true
+  pub own_command : (e : GroupEvent) (o : Option (Option Told)) → is_stopped past ≡ false → is_own_request plan.me g past request ≡ true
       → added (Asked request) (Replied reply) ≡ []
       → asked_told g plan.me (noticed_in plan past) request reply (told_of plan g past) ≡ o
       → made_by g (Asked request) (Replied reply) ≡ None
@@ -115,7 +125,7 @@ module _ (plan : NodePlan) (g : Addr) (past : List Happened) (request : Request)
       (commands plan.nodes g plan.me frames_from (view_of plan g past) group e reply o fits may (is ∙ ap (λ r. commanded plan.me e r (group plan.me.number)) (replies_running e running fits ∙ same)) spec tells))
 
 -- the rules answer the same for the group alone
-pub answers_alike : (plan : NodePlan) (g : Addr) (past : List Happened) (request : Request) (frames_from : ℕ → List (List Item)) (group : Group) (answer : Shown → Reply) → plan.nodes ≤ NODES → is_own plan g past request ≡ true
+pub answers_alike : (plan : NodePlan) (g : Addr) (past : List Happened) (request : Request) (frames_from : ℕ → List (List Item)) (group : Group) (answer : Shown → Reply) → plan.nodes ≤ NODES → is_own_request plan.me g past request ≡ true
     → Fits plan.nodes g plan.me.number frames_from (view_of plan g past) (group plan.me.number) → on_group answer plan.me.number (group plan.me.number) ≡ group_answer answer (shown_in plan.me.number (told_of plan g past))
 answers_alike plan g past request frames_from group answer few own fits =
     by_some (on_made answer (alone.shown plan.me.number (group plan.me.number))) (group plan.me.number).reserve (ap (λ (x : Option Reserve). is_some x) fits.reserve ∙ tenant_here plan g past request own)
@@ -298,10 +308,10 @@ module _ (plan : NodePlan) (g : Addr) (past : List Happened) (frames_from : ℕ 
   same_answer : (answer : Shown → Reply) → is_addr g addr ≡ true → reply ≡ group_answer answer (shown_in plan.me.number (told_of plan addr past)) → group_answer answer (shown_in plan.me.number (told_of plan g past)) ≡ reply
   same_answer answer named is = sym (is ∙ ap (λ (x : Addr). group_answer answer (shown_in plan.me.number (told_of plan x past))) (sym (addr_is g addr named)))
 
-  pub at_open : plan.nodes ≤ NODES → is_stopped past ≡ false → is_own plan g past (OpenGroup token addr) ≡ true → reply ≡ admitted_answer plan past (OpenGroup token addr)
+  pub at_open : plan.nodes ≤ NODES → is_stopped past ≡ false → is_own_request plan.me g past (OpenGroup token addr) ≡ true → reply ≡ admitted_answer plan past (OpenGroup token addr)
       → Fits plan.nodes g plan.me.number frames_from before m → AskedGoes plan g past (OpenGroup token addr) reply frames_from group
   at_open few running own is fits =
-      let named = (and_parts (is_addr g addr) (is_admitted_by plan past (OpenGroup token addr)) own).0 in
+      let named = (and_parts (is_addr g addr) (has_group_token_by plan.me past (OpenGroup token addr)) own).0 in
       let same = same_answer open_answer named is in
       own_command plan g past (OpenGroup token addr) reply frames_from group AskOpen (moved_after Opened reply (told_of plan g past)) running own refl (opened_for g plan.me (noticed_in plan past) token addr reply (told_of plan g past) named) refl refl tt refl
       (answers_alike plan g past (OpenGroup token addr) frames_from group open_answer few own fits ∙ same)
@@ -309,10 +319,10 @@ module _ (plan : NodePlan) (g : Addr) (past : List Happened) (frames_from : ℕ 
       (subst (λ (n : Member). MemberFits plan.nodes plan.me.number (carried_in g before) (moved_after Opened reply (told_of plan g past)) n) (sym (did_opened plan.me reply m))
       (moves open_answer Opened refl plan.nodes plan.me.number (carried_in g before) (told_of plan g past) m reply same (member_fits plan.nodes g plan.me.number frames_from before m fits)))
 
-  pub at_shut : plan.nodes ≤ NODES → is_stopped past ≡ false → is_own plan g past (ShutGroup token addr) ≡ true → reply ≡ admitted_answer plan past (ShutGroup token addr)
+  pub at_shut : plan.nodes ≤ NODES → is_stopped past ≡ false → is_own_request plan.me g past (ShutGroup token addr) ≡ true → reply ≡ admitted_answer plan past (ShutGroup token addr)
       → Fits plan.nodes g plan.me.number frames_from before m → AskedGoes plan g past (ShutGroup token addr) reply frames_from group
   at_shut few running own is fits =
-      let named = (and_parts (is_addr g addr) (is_admitted_by plan past (ShutGroup token addr)) own).0 in
+      let named = (and_parts (is_addr g addr) (has_group_token_by plan.me past (ShutGroup token addr)) own).0 in
       let same = same_answer shut_answer named is in
       own_command plan g past (ShutGroup token addr) reply frames_from group AskShut (moved_after Shut reply (told_of plan g past)) running own refl (shut_for g plan.me (noticed_in plan past) token addr reply (told_of plan g past) named) refl refl tt refl
       (answers_alike plan g past (ShutGroup token addr) frames_from group shut_answer few own fits ∙ same)
@@ -320,10 +330,10 @@ module _ (plan : NodePlan) (g : Addr) (past : List Happened) (frames_from : ℕ 
       (subst (λ (n : Member). MemberFits plan.nodes plan.me.number (carried_in g before) (moved_after Shut reply (told_of plan g past)) n) (sym (did_shut plan.me reply m))
       (moves shut_answer Shut refl plan.nodes plan.me.number (carried_in g before) (told_of plan g past) m reply same (member_fits plan.nodes g plan.me.number frames_from before m fits)))
 
-  pub at_drop : plan.nodes ≤ NODES → is_stopped past ≡ false → is_own plan g past (DropGroup token addr) ≡ true → reply ≡ admitted_answer plan past (DropGroup token addr)
+  pub at_drop : plan.nodes ≤ NODES → is_stopped past ≡ false → is_own_request plan.me g past (DropGroup token addr) ≡ true → reply ≡ admitted_answer plan past (DropGroup token addr)
       → Fits plan.nodes g plan.me.number frames_from before m → AskedGoes plan g past (DropGroup token addr) reply frames_from group
   at_drop few running own is fits =
-      let named = (and_parts (is_addr g addr) (is_admitted_by plan past (DropGroup token addr)) own).0 in
+      let named = (and_parts (is_addr g addr) (has_group_token_by plan.me past (DropGroup token addr)) own).0 in
       let same = same_answer drop_answer named is in
       own_command plan g past (DropGroup token addr) reply frames_from group AskDrop (dropped_after reply (told_of plan g past)) running own refl (dropped_for g plan.me (noticed_in plan past) token addr reply (told_of plan g past) named) refl refl tt refl
       (answers_alike plan g past (DropGroup token addr) frames_from group drop_answer few own fits ∙ same)
@@ -331,21 +341,21 @@ module _ (plan : NodePlan) (g : Addr) (past : List Happened) (frames_from : ℕ 
       (subst (λ (n : Member). MemberFits plan.nodes plan.me.number (carried_in g before) (dropped_after reply (told_of plan g past)) n) (sym (did_dropped plan.me reply m))
       (drops plan.nodes plan.me.number (carried_in g before) (told_of plan g past) m reply same (member_fits plan.nodes g plan.me.number frames_from before m fits)))
 
-  pub at_say : (payload : List ℕ) → plan.nodes ≤ NODES → is_stopped past ≡ false → is_own plan g past (Say token addr payload) ≡ true → reply ≡ admitted_answer plan past (Say token addr payload)
+  pub at_say : (payload : List ℕ) → plan.nodes ≤ NODES → is_stopped past ≡ false → is_own_request plan.me g past (Say token addr payload) ≡ true → reply ≡ admitted_answer plan past (Say token addr payload)
       → ((t : Told) → told_of plan g past ≡ Some (Some t) → (b : ℕ) → b < plan.nodes → list_any (alone.is_own plan.me.number (said_in t.calls + 1)) (carried_in g before b) ≡ false)
       → Fits plan.nodes g plan.me.number frames_from before m → AskedGoes plan g past (Say token addr payload) reply frames_from group
   at_say payload few running own is fresh fits =
-      let named = (and_parts (is_addr g addr) (is_admitted_by plan past (Say token addr payload)) own).0 in
+      let named = (and_parts (is_addr g addr) (has_group_token_by plan.me past (Say token addr payload)) own).0 in
       let same = same_answer (λ s. say_answer s payload) named is in
       own_command plan g past (Say token addr payload) reply frames_from group (AskSay payload) (said_after plan.me payload reply (told_of plan g past)) running own refl (said_for g plan.me (noticed_in plan past) token addr payload reply (told_of plan g past) named) refl refl tt refl
       (answers_alike plan g past (Say token addr payload) frames_from group (λ s. say_answer s payload) few own fits ∙ same)
       (said_spec plan.me payload reply m) fits
       (says plan.nodes plan.me (carried_in g before) payload (told_of plan g past) m reply same fresh (member_fits plan.nodes g plan.me.number frames_from before m fits))
 
-  pub at_fetch : (from most : ℕ) → plan.nodes ≤ NODES → is_stopped past ≡ false → is_own plan g past (Fetch token addr from most) ≡ true → reply ≡ admitted_answer plan past (Fetch token addr from most)
+  pub at_fetch : (from most : ℕ) → plan.nodes ≤ NODES → is_stopped past ≡ false → is_own_request plan.me g past (Fetch token addr from most) ≡ true → reply ≡ admitted_answer plan past (Fetch token addr from most)
       → Fits plan.nodes g plan.me.number frames_from before m → AskedGoes plan g past (Fetch token addr from most) reply frames_from group
   at_fetch from most few running own is fits =
-      let named = (and_parts (is_addr g addr) (is_admitted_by plan past (Fetch token addr from most)) own).0 in
+      let named = (and_parts (is_addr g addr) (has_group_token_by plan.me past (Fetch token addr from most)) own).0 in
       own_command plan g past (Fetch token addr from most) reply frames_from group (AskFetch from most) (told_of plan g past) running own refl refl refl refl tt refl
       (answers_alike plan g past (Fetch token addr from most) frames_from group (λ s. fetch_answer s from most) few own fits ∙ same_answer (λ s. fetch_answer s from most) named is)
       refl fits (member_fits plan.nodes g plan.me.number frames_from before m fits)

@@ -25,7 +25,7 @@ use Rattle.gb_duties.proofs.NoticeLemmas.{IsDue, AreDue}
 use Rattle.gb_node.specs.NodeStep.{node_numbered}
 use Rattle.gb_node.specs.Past.{Happened, frames_to, read, is_stopped}
 use Rattle.gb_node.specs.PastGroups.{noticed_in}
-use Rattle.gb_node.specs.StepLaw.{is_admitted_by}
+use Rattle.gb_node.specs.StepLaw.{has_group_token_by}
 use Rattle.gb_node.specs.declared.answer.NodeAnswer.{NodeAnswer}
 use Rattle.gb_node.specs.declared.answer.NodeAnswer.TheVariants.{Reply as Replied, Taken, Sent, Ticked}
 use Rattle.gb_node.specs.declared.answer.PacketAnswer.TheVariants.{Good as TakenGood}
@@ -37,7 +37,7 @@ use Rattle.gb_node.specs.declared.plan.NodePlan.{NodePlan}
 use Rattle.gb_cluster.specs.ClusterValue.{node_plan}
 use Rattle.gb_cluster.specs.Run.{Did, past_at}
 use Rattle.gb_types.specs.declared.plan.Plan.{Plan}
-use Rattle.gb_isolation.specs.Project.{items_in, items_of, offset, frames_in, is_named, is_own, command_for, made_with, or_else, notices, own_requested, tenant_given, is_met, with_stop, asked, took, comes, acknowledged, all_acknowledged, is_new_ack, is_new_frame, acknowledges, brings, arrived, ticked, gives}
+use Rattle.gb_isolation.specs.Project.{items_in, items_of, offset, frames_in, is_named, is_own_request, command_for, made_with, or_else, notices, own_requested, tenant_given, is_met, with_stop, asked, took, comes, acknowledged, all_acknowledged, is_new_ack, is_new_frame, acknowledges, brings, arrived, ticked, gives}
 use Rattle.gb_isolation.proofs.NoticeLemmas.{notices_of, notices_there, notices_keep}
 use Rattle.gb_isolation.proofs.GoesLemmas.{after_there}
 
@@ -140,11 +140,11 @@ at_requested plan g past (Make token addr spec) Done = (refl, at_notices plan.me
 at_requested plan g past request reply = at_command g plan.me request
 
 at_asked : (plan : NodePlan) (g : Addr) (past : List Happened) (request : Request) (reply : Reply) → AllAre (IsAt plan.me) (asked plan g past request reply)
-at_asked plan g past request reply = by (is_stopped past) (is_own plan g past request)
+at_asked plan g past request reply = by (is_stopped past) (is_own_request plan.me g past request)
   where
     by : (stopped own : Bool)
-        → AllAre (IsAt plan.me) (if stopped then (if own then with_stop plan.me (is_met plan g past) (command_for g plan.me request) else []) else tenant_given g plan.me request reply ++ (if own then own_requested plan g past request reply else []))
-    by true true = at_stop plan.me (is_met plan g past) (command_for g plan.me request) (at_command g plan.me request)
+        → AllAre (IsAt plan.me) (if stopped then (if own then with_stop plan.me (is_met plan.me g past) (command_for g plan.me request) else []) else tenant_given g plan.me request reply ++ (if own then own_requested plan g past request reply else []))
+    by true true = at_stop plan.me (is_met plan.me g past) (command_for g plan.me request) (at_command g plan.me request)
     by true false = tt
     by false true = all_both (IsAt plan.me) (tenant_given g plan.me request reply) (own_requested plan g past request reply) (at_tenant g plan.me request reply) (at_requested plan g past request reply)
     by false false = all_both (IsAt plan.me) (tenant_given g plan.me request reply) [] (at_tenant g plan.me request reply) tt
@@ -234,14 +234,14 @@ module _ (plan : NodePlan) (g : Addr) (past : List Happened) (group : Group) whe
 
   asked_due : (request : Request) (reply : Reply) → (alone_from plan.nodes g.group group (asked plan g past request reply) plan.me.number).spec ≡ made_with g (record { event = Asked request; answer = Replied reply } ∷ past)
       → AreDue plan.nodes g.group group (asked plan g past request reply)
-  asked_due request reply = by (is_stopped past) (is_own plan g past request) refl
+  asked_due request reply = by (is_stopped past) (is_own_request plan.me g past request) refl
     where
-      by : (stopped own : Bool) → is_own plan g past request ≡ own
-          → (alone_from plan.nodes g.group group (if stopped then (if own then with_stop plan.me (is_met plan g past) (command_for g plan.me request) else []) else tenant_given g plan.me request reply ++ (if own then own_requested plan g past request reply else [])) plan.me.number).spec ≡ made_with g (record { event = Asked request; answer = Replied reply } ∷ past)
-          → AreDue plan.nodes g.group group (if stopped then (if own then with_stop plan.me (is_met plan g past) (command_for g plan.me request) else []) else tenant_given g plan.me request reply ++ (if own then own_requested plan g past request reply else []))
-      by true true is made = all_due plan.nodes g.group (with_stop plan.me (is_met plan g past) (command_for g plan.me request)) group (plain_stop plan.me (is_met plan g past) (command_for g plan.me request) (plain_command g plan.me request))
+      by : (stopped own : Bool) → is_own_request plan.me g past request ≡ own
+          → (alone_from plan.nodes g.group group (if stopped then (if own then with_stop plan.me (is_met plan.me g past) (command_for g plan.me request) else []) else tenant_given g plan.me request reply ++ (if own then own_requested plan g past request reply else [])) plan.me.number).spec ≡ made_with g (record { event = Asked request; answer = Replied reply } ∷ past)
+          → AreDue plan.nodes g.group group (if stopped then (if own then with_stop plan.me (is_met plan.me g past) (command_for g plan.me request) else []) else tenant_given g plan.me request reply ++ (if own then own_requested plan g past request reply else []))
+      by true true is made = all_due plan.nodes g.group (with_stop plan.me (is_met plan.me g past) (command_for g plan.me request)) group (plain_stop plan.me (is_met plan.me g past) (command_for g plan.me request) (plain_command g plan.me request))
       by true false is made = tt
-      by false true is made = own_due request reply (and_parts (is_named g request) (is_admitted_by plan past request) is).0 made
+      by false true is made = own_due request reply (and_parts (is_named g request) (has_group_token_by plan.me past request) is).0 made
       by false false is made = all_due plan.nodes g.group (tenant_given g plan.me request reply ++ []) group (all_both IsPlain (tenant_given g plan.me request reply) [] (plain_tenant g plan.me request reply) tt)
 
 ticked_due : (nodes number : ℕ) (a : NodeId) (found : ℕ → Bool) (o : Option Spec) (group : Group) → (group a.number).spec ≡ o → AreDue nodes number group (ticked a found o)

@@ -29,10 +29,10 @@ use Rattle.gb_rules.specs.Lifetime.{or_added}
 use Rattle.gb_node.specs.NodeStep.{node_numbered}
 use Rattle.gb_node.specs.Past.{Happened, is_stopped, tenants_in}
 use Rattle.gb_node.specs.PastGroups.{Told, noticed_in, waiting_of, noticed_members, crashed_onto, told_first, told_of}
-use Rattle.gb_node.specs.StepLaw.{is_admitted_by, admitted_answer}
+use Rattle.gb_node.specs.StepLaw.{admitted_answer, has_group_token_by}
 use Rattle.gb_node.specs.declared.plan.NodePlan.{NodePlan}
 use Rattle.gb_rules.proofs.AddressLemmas.{addr_is}
-use Rattle.gb_isolation.specs.Project.{is_met, is_own, made_with, or_else, replies_in}
+use Rattle.gb_isolation.specs.Project.{is_met, is_own_request, made_with, or_else, replies_in}
 use Rattle.gb_isolation.proofs.AskLemmas.{asking, carried_in, member_fits, view_own}
 use Rattle.gb_isolation.proofs.CommandLemmas.{AskedGoes, given_own, inside_some, own_command, replies_running}
 use Rattle.gb_isolation.proofs.FreshLemmas.{before_rising, marked_before, fresh_there, fresh_put}
@@ -167,13 +167,13 @@ module _ (plan : NodePlan) (g : Addr) (past : List Happened) (frames_from : ℕ 
       ap (λ (b : Bool). by_tenant (make_answer plan.nodes plan.me.number g.group b spec) m.reserve) (made-is (told_of plan g past) m fits.told)
       ∙ (ap (by_tenant (make_answer plan.nodes plan.me.number g.group (is_some (told_of plan g past)) spec)) fits.reserve ∙ is)
 
-  made_by_reply : (r : Reply) → is_stopped past ≡ false → is_own plan g past (Make token addr spec) ≡ true → is_addr g addr ≡ true → rule ≡ r → ((b : ℕ) → set.contains noticed b ≡ true → b < NODES)
+  made_by_reply : (r : Reply) → is_stopped past ≡ false → is_own_request plan.me g past (Make token addr spec) ≡ true → is_addr g addr ≡ true → rule ≡ r → ((b : ℕ) → set.contains noticed b ≡ true → b < NODES)
       → Fits plan.nodes g plan.me.number frames_from before m → AskedGoes plan g past (Make token addr spec) r frames_from group
   made_by_reply Done running own named is below fits =
       let free : told_of plan g past ≡ None = not_made (told_of plan g past) before.reserve is in
-      let unmet_here : is_met plan g past ≡ false = running_unmet plan g past running in
+      let unmet_here : is_met plan.me g past ≡ false = running_unmet plan g past running in
       let answered : reply_to plan.nodes g.group plan.me.number (AskMake spec) m ≡ Done = replies_running plan g past (Make token addr spec) Done frames_from group (AskMake spec) running fits ∙ alone_rule Done fits is in
-      let later : view_of plan g (asking (Make token addr spec) Done ∷ past) ≡ record before { told = Some (Some (told_first spec plan.me noticed)); made = Some spec; replies = replies_in plan g past ++ Done ∷ [] } =
+      let later : view_of plan g (asking (Make token addr spec) Done ∷ past) ≡ record before { told = Some (Some (told_first spec plan.me noticed)); made = Some spec; replies = replies_in plan.me g past ++ Done ∷ [] } =
       view_own plan g past (Make token addr spec) Done (Some (Some (told_first spec plan.me noticed))) (Some spec) running own refl
       (ap (λ o. or_added o (if is_addr g addr then Some (Some (told_first spec plan.me noticed)) else None)) free ∙ ap (λ b. if b then Some (Some (told_first spec plan.me noticed)) else None) named)
       (ap (λ b. or_else (if b then Some spec else None) (made_with g past)) named) in
@@ -184,8 +184,8 @@ module _ (plan : NodePlan) (g : Addr) (past : List Happened) (frames_from : ℕ 
       own_command plan g past (Make token addr spec) r frames_from group (AskMake spec) (told_of plan g past) running own refl refl refl refl tt refl
       (alone_rule r fits is) refl fits (member_fits plan.nodes g plan.me.number frames_from before m fits)
 
-  pub at_make : (reply : Reply) → is_stopped past ≡ false → is_own plan g past (Make token addr spec) ≡ true → reply ≡ admitted_answer plan past (Make token addr spec) → ((b : ℕ) → set.contains noticed b ≡ true → b < NODES)
+  pub at_make : (reply : Reply) → is_stopped past ≡ false → is_own_request plan.me g past (Make token addr spec) ≡ true → reply ≡ admitted_answer plan past (Make token addr spec) → ((b : ℕ) → set.contains noticed b ≡ true → b < NODES)
       → Fits plan.nodes g plan.me.number frames_from before m → AskedGoes plan g past (Make token addr spec) reply frames_from group
   at_make reply running own is below fits =
-      let named = (and_parts (is_addr g addr) (is_admitted_by plan past (Make token addr spec)) own).0 in
+      let named = (and_parts (is_addr g addr) (has_group_token_by plan.me past (Make token addr spec)) own).0 in
       made_by_reply reply running own named (sym (is ∙ ap (λ (x : Addr). by_tenant (make_answer plan.nodes plan.me.number x.group (is_some (told_of plan x past)) spec) (option_map reserve_of (row_of x.tenant (tenants_in past)))) (sym (addr_is g addr named)))) below fits

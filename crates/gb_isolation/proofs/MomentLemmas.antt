@@ -22,13 +22,13 @@ use Rattle.gb_isolation.proofs.View.{BehavesAlone}
 
 -- each group of every run behaves as it does alone
 abbrev pub AllBehave : Type 0
-AllBehave = (plan : Plan) (g : Addr) (run : List Did) (v : ClusterValue) → ComesTo plan run v → is_fed plan g run ≡ true → BehavesAlone plan g run
+AllBehave = (plan : Plan) (g : Addr) (run : List Did) (v : ClusterValue) → ComesTo plan run v → is_fed g run ≡ true → BehavesAlone plan g run
 
-pub fed_before : (plan : Plan) (g : Addr) (d : Did) (run : List Did) → is_fed plan g (d ∷ run) ≡ true → is_fed plan g run ≡ true
+pub fed_before : (plan : Plan) (g : Addr) (d : Did) (run : List Did) → is_fed g (d ∷ run) ≡ true → is_fed g run ≡ true
 unfolding is_fed
-fed_before plan g d run fed = (and_parts (not (is_starved_by (node_plan plan d.node) g (past_at d.node run) d.event d.answer)) (is_fed plan g run) fed).1
+fed_before plan g d run fed = (and_parts (not (is_starved_by d.node g (past_at d.node run) d.event d.answer)) (is_fed g run) fed).1
 
-pub fed_back : (plan : Plan) (g : Addr) (later earlier : List Did) → is_fed plan g (later ++ earlier) ≡ true → is_fed plan g earlier ≡ true
+pub fed_back : (plan : Plan) (g : Addr) (later earlier : List Did) → is_fed g (later ++ earlier) ≡ true → is_fed g earlier ≡ true
 fed_back plan g [] earlier fed = fed
 fed_back plan g (d ∷ later) earlier fed = fed_back plan g later earlier (fed_before plan g d (later ++ earlier) fed)
 
@@ -68,7 +68,7 @@ project_continues plan g (d ∷ later) earlier =
     record { rest = more.rest ++ given; whole = ap (λ xs. xs ++ given) more.whole ∙ append_assoc (project plan g earlier) more.rest given }
 
 -- the group's notices are marked as it is told of them
-pub marked : AllBehave → (plan : Plan) (g : Addr) (run : List Did) (v : ClusterValue) → ComesTo plan run v → is_fed plan g run ≡ true → AllMarked (alone plan.nodes g.group (project plan g run))
+pub marked : AllBehave → (plan : Plan) (g : Addr) (run : List Did) (v : ClusterValue) → ComesTo plan run v → is_fed g run ≡ true → AllMarked (alone plan.nodes g.group (project plan g run))
 unfolding ComesTo project
 marked behave plan g [] v comes fed = nobody_marked
 marked behave plan g (d ∷ run) v comes fed =

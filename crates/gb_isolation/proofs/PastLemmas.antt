@@ -16,18 +16,18 @@ use Rattle.gb_node.specs.declared.event.NodeEvent.{NodeEvent}
 use Rattle.gb_node.specs.declared.event.NodeEvent.TheVariants.{Request as Asked}
 use Rattle.gb_node.specs.declared.plan.NodePlan.{NodePlan}
 use Rattle.gb_node.proofs.TookLemmas.{numbered_is}
-use Rattle.gb_isolation.specs.Project.{is_met, is_met_by, is_own}
+use Rattle.gb_isolation.specs.Project.{is_met, is_met_by, is_own_request}
 
 -- a running node's stop was met by no request
-pub running_unmet : (plan : NodePlan) (g : Addr) (past : List Happened) → is_stopped past ≡ false → is_met plan g past ≡ false
+pub running_unmet : (plan : NodePlan) (g : Addr) (past : List Happened) → is_stopped past ≡ false → is_met plan.me g past ≡ false
 unfolding is_met is_stopped
 running_unmet plan g [] running = refl
 running_unmet plan g (h ∷ past) running =
     let before = or_sides (stops h.event h.answer) (is_stopped past) running in
     λ i. by h.event h.answer before.1 i || running_unmet plan g past before.1 i
   where
-    by : (e : NodeEvent) (x : NodeAnswer) → is_stopped past ≡ false → is_met_by plan g past e x ≡ false
-    by (Asked request) (Replied reply) runs = ap (λ b. b && is_own plan g past request) runs
+    by : (e : NodeEvent) (x : NodeAnswer) → is_stopped past ≡ false → is_met_by plan.me g past e x ≡ false
+    by (Asked request) (Replied reply) runs = ap (λ b. b && is_own_request plan.me g past request) runs
     by e x runs = refl
 
 -- only frames that were packed are acknowledged

@@ -4,6 +4,7 @@ use Rattle.std.specs.Prelude.{if◌then◌else◌, is_some, nat_eq, nat_lt, opti
 use Rattle.std.specs.FinSet as set
 use Rattle.std.specs.List.{list_any}
 use Rattle.std.proofs.lemmas.Bool.{cases_Bool, and_parts}
+use Rattle.gb_types.proofs.BoolLemmas.{and_both}
 use Rattle.std.proofs.lemmas.Bool.Decides.{nat_tests}
 use Rattle.std.proofs.lemmas.List.{append-nil}
 use Rattle.gb_types.specs.declared.address.Addr.{Addr}
@@ -25,13 +26,13 @@ use Rattle.gb_rules.specs.Lifetime.{or_added}
 use Rattle.gb_node.specs.NodeStep.{RequestTakesMemory}
 use Rattle.gb_node.specs.Past.{Happened, added, frames_to, is_stopped, tenants_in}
 use Rattle.gb_node.specs.PastGroups.{Told, noticed_in, told_first, asked_told, told_of}
-use Rattle.gb_node.specs.StepLaw.{IsAsked, admitted_answer, is_admitted_by, past_answer}
+use Rattle.gb_node.specs.StepLaw.{IsAsked, admitted_answer, is_admitted_by, past_answer, has_group_token_by}
 use Rattle.gb_node.specs.declared.answer.NodeAnswer.TheVariants.{Reply as Replied}
 use Rattle.gb_node.specs.declared.event.NodeEvent.TheVariants.{Request as Asked}
 use Rattle.gb_node.specs.declared.plan.NodePlan.{NodePlan}
-use Rattle.gb_isolation.specs.Project.{asked, is_met, is_named, is_own, is_starved_by, items_of, made_by, made_with, own_requested, replies_in, requested, tenant_given}
+use Rattle.gb_isolation.specs.Project.{asked, is_met, is_named, is_own_request, is_starved_by, items_of, made_by, made_with, own_requested, replies_in, requested, tenant_given}
 use Rattle.gb_isolation.proofs.AskLemmas.{asking, unrelated_request, refused_unrelated, view_asked}
-use Rattle.gb_isolation.proofs.CommandLemmas.{AskedGoes, at_open, at_shut, at_drop, at_say, at_fetch}
+use Rattle.gb_isolation.proofs.CommandLemmas.{AskedGoes, group_token_is, at_open, at_shut, at_drop, at_say, at_fetch}
 use Rattle.gb_isolation.proofs.GoesLemmas.{goes_none, goes_one}
 use Rattle.gb_isolation.proofs.MakeLemmas.{at_make}
 use Rattle.gb_isolation.proofs.MemberLemmas.{same_member}
@@ -78,13 +79,13 @@ module _ (plan : NodePlan) (g : Addr) (past : List Happened) (frames_from : ℕ 
   -- Requests that make nothing of the group.
 
   -- what is given then
-  given_unrelated : (request : Request) (reply : Reply) → is_stopped past ≡ false → is_own plan g past request ≡ false → tenant_given g plan.me request reply ≡ [] → asked plan g past request reply ≡ []
+  given_unrelated : (request : Request) (reply : Reply) → is_stopped past ≡ false → is_own_request plan.me g past request ≡ false → tenant_given g plan.me request reply ≡ [] → asked plan g past request reply ≡ []
   given_unrelated request reply running other none = by ∙ (ap (λ b. tenant_given g plan.me request reply ++ (if b then own_requested plan g past request reply else [])) other ∙ ap (λ es. es ++ []) none)
     where
       by : asked plan g past request reply ≡ requested plan g past request reply
       by = rw running refl
 
-  passes : (request : Request) (reply : Reply) → is_stopped past ≡ false → is_own plan g past request ≡ false
+  passes : (request : Request) (reply : Reply) → is_stopped past ≡ false → is_own_request plan.me g past request ≡ false
       → added (Asked request) (Replied reply) ≡ []
       → asked_told g plan.me (noticed_in plan past) request reply (told_of plan g past) ≡ told_of plan g past
       → made_by g (Asked request) (Replied reply) ≡ None
@@ -94,7 +95,7 @@ module _ (plan : NodePlan) (g : Addr) (past : List Happened) (frames_from : ℕ 
       subst (λ es. Goes plan.nodes g plan.me frames_from (view_of plan g (asking request reply ∷ past)) group es) (sym (given_unrelated request reply running other none))
       (unrelated_request plan g past request reply frames_from group other rows told unmade fits)
 
-  refusal_passes : (request : Request) (why : Refusal) → is_stopped past ≡ false → is_own plan g past request ≡ false → FitsBefore → AskedGoes plan g past request (Refused why) frames_from group
+  refusal_passes : (request : Request) (why : Refusal) → is_stopped past ≡ false → is_own_request plan.me g past request ≡ false → FitsBefore → AskedGoes plan g past request (Refused why) frames_from group
   refusal_passes request why running other fits =
       subst (λ es. Goes plan.nodes g plan.me frames_from (view_of plan g (asking request (Refused why) ∷ past)) group es) (sym (given_unrelated request (Refused why) running other (none request)))
       (refused_unrelated plan g past request why frames_from group other fits)
@@ -137,8 +138,8 @@ module _ (plan : NodePlan) (g : Addr) (past : List Happened) (frames_from : ℕ 
           by = rw running refl
 
       later : view_of plan g (asking (AddTenant token row) Done ∷ past) ≡ record before { reserve = Some (reserve_of row) }
-      later = view_asked plan g past (AddTenant token row) Done (Some (reserve_of row)) (told_of plan g past) (made_with g past) (replies_in plan g past) (is_met plan g past)
-          (ap (option_map reserve_of) there) refl refl (append-nil (replies_in plan g past)) (ap (λ b. (b && false) || is_met plan g past) running)
+      later = view_asked plan g past (AddTenant token row) Done (Some (reserve_of row)) (told_of plan g past) (made_with g past) (replies_in plan.me g past) (is_met plan.me g past)
+          (ap (option_map reserve_of) there) refl refl (append-nil (replies_in plan.me g past)) (ap (λ b. (b && false) || is_met plan.me g past) running)
 
   tenant_other : (token : List ℕ) (row : TenantRow) → is_stopped past ≡ false → nat_eq row.tenant g.tenant ≡ false → FitsBefore → AskedGoes plan g past (AddTenant token row) Done frames_from group
   tenant_other token row running other fits =
@@ -152,8 +153,8 @@ module _ (plan : NodePlan) (g : Addr) (past : List Happened) (frames_from : ℕ 
           by = rw running refl
 
       later : view_of plan g (asking (AddTenant token row) Done ∷ past) ≡ before
-      later = view_asked plan g past (AddTenant token row) Done before.reserve (told_of plan g past) (made_with g past) (replies_in plan g past) (is_met plan g past)
-          (ap (option_map reserve_of) (row-other g.tenant (tenants_in past) row other)) refl refl (append-nil (replies_in plan g past)) (ap (λ b. (b && false) || is_met plan g past) running)
+      later = view_asked plan g past (AddTenant token row) Done before.reserve (told_of plan g past) (made_with g past) (replies_in plan.me g past) (is_met plan.me g past)
+          (ap (option_map reserve_of) (row-other g.tenant (tenants_in past) row other)) refl refl (append-nil (replies_in plan.me g past)) (ap (λ b. (b && false) || is_met plan.me g past) running)
 
   -- by the reply
   at_tenant : (token : List ℕ) (row : TenantRow) (r : Reply) → is_stopped past ≡ false → (r ≡ Done → row_of row.tenant (tenants_in past) ≡ None) → FitsBefore → AskedGoes plan g past (AddTenant token row) r frames_from group
@@ -182,7 +183,7 @@ module _ (plan : NodePlan) (g : Addr) (past : List Happened) (frames_from : ℕ 
   other_made (Make token addr spec) Done other = rw other refl
   other_made request r other = refl
 
-  other_goes : (request : Request) (r : Reply) → is_stopped past ≡ false → is_own plan g past request ≡ false → is_named g request ≡ false → ((token : List ℕ) (row : TenantRow) → request ≡ AddTenant token row → r ≡ Done → row_of row.tenant (tenants_in past) ≡ None)
+  other_goes : (request : Request) (r : Reply) → is_stopped past ≡ false → is_own_request plan.me g past request ≡ false → is_named g request ≡ false → ((token : List ℕ) (row : TenantRow) → request ≡ AddTenant token row → r ≡ Done → row_of row.tenant (tenants_in past) ≡ None)
       → FitsBefore → AskedGoes plan g past request r frames_from group
   other_goes (AddTenant token row) r running own named new fits = at_tenant token row r running (new token row refl) fits
   other_goes (Make token addr spec) r running own named new fits = passes (Make token addr spec) r running own refl (other_for (Make token addr spec) r named) (other_made (Make token addr spec) r named) refl fits
@@ -197,7 +198,7 @@ module _ (plan : NodePlan) (g : Addr) (past : List Happened) (frames_from : ℕ 
   own_goes : (request : Request) (reply : Reply) → plan.nodes ≤ NODES
       → ((b : ℕ) → set.contains (noticed_in plan past) b ≡ true → b < NODES)
       → ((t : Told) → told_of plan g past ≡ Some (Some t) → (b : ℕ) → b < plan.nodes → list_any (alone.is_own plan.me.number (said_in t.calls + 1)) (items_of g (frames_to plan.cluster_key b past)) ≡ false)
-      → is_stopped past ≡ false → is_own plan g past request ≡ true → reply ≡ admitted_answer plan past request → FitsBefore → AskedGoes plan g past request reply frames_from group
+      → is_stopped past ≡ false → is_own_request plan.me g past request ≡ true → reply ≡ admitted_answer plan past request → FitsBefore → AskedGoes plan g past request reply frames_from group
   own_goes (AddTenant token row) reply few below fresh running own is fits = absurd (clash own)
     where
       clash : false ≡ true → ⊥
@@ -229,19 +230,6 @@ no_memory (Fetch token addr from most) why takes = clash takes
     clash : false ≡ true → ⊥
     clash e = cc
 
--- want of memory for the group's own request starves it
-starved_own : (plan : NodePlan) (g : Addr) (past : List Happened) (request : Request) → is_own plan g past request ≡ true → is_starved_by plan g past (Asked request) (Replied (Refused OutOfMemory)) ≡ true
-starved_own plan g past (AddTenant token row) own = absurd (clash own)
-  where
-    clash : false ≡ true → ⊥
-    clash e = cc
-starved_own plan g past (Make token addr spec) own = own
-starved_own plan g past (OpenGroup token addr) own = own
-starved_own plan g past (ShutGroup token addr) own = own
-starved_own plan g past (DropGroup token addr) own = own
-starved_own plan g past (Say token addr payload) own = own
-starved_own plan g past (Fetch token addr from most) own = own
-
 module _ (plan : NodePlan) (past : List Happened) (request : Request) (reply : Reply) where
   stopped_reply : is_stopped past ≡ true → IsAsked plan past request reply → reply ≡ Refused Stopped
   stopped_reply stopped (inl wants) = absurd (no_memory request Stopped (subst (RequestTakesMemory request) (answer stopped) wants.1))
@@ -263,10 +251,10 @@ pub asked_goes : (plan : NodePlan) (g : Addr) (past : List Happened) (request : 
     → ((b : ℕ) → set.contains (noticed_in plan past) b ≡ true → (b < plan.nodes) × (b ≢ plan.me.number))
     → ((t : Told) → told_of plan g past ≡ Some (Some t) → (b : ℕ) → b < plan.nodes → list_any (alone.is_own plan.me.number (said_in t.calls + 1)) (items_of g (frames_to plan.cluster_key b past)) ≡ false)
     → IsAsked plan past request reply
-    → is_starved_by plan g past (Asked request) (Replied reply) ≡ false
+    → is_starved_by plan.me g past (Asked request) (Replied reply) ≡ false
     → Fits plan.nodes g plan.me.number frames_from (view_of plan g past) (group plan.me.number)
     → Goes plan.nodes g plan.me frames_from (view_of plan g (record { event = Asked request; answer = Replied reply } ∷ past)) group (asked plan g past request reply)
-asked_goes plan g past request reply frames_from group few noticed fresh answered fed fits = go (cases_Bool (is_stopped past)) (cases_Bool (is_own plan g past request)) answered
+asked_goes plan g past request reply frames_from group few noticed fresh answered fed fits = go (cases_Bool (is_stopped past)) (cases_Bool (is_own_request plan.me g past request)) answered
   where
     Wanted : Reply → Type 0
     Wanted r = AskedGoes plan g past request r frames_from group
@@ -274,8 +262,8 @@ asked_goes plan g past request reply frames_from group few noticed fresh answere
     below : (b : ℕ) → set.contains (noticed_in plan past) b ≡ true → b < NODES
     below b is = let low = (noticed b is).0 in omega (arith, low, few)
 
-    starved : is_own plan g past request ≡ true → reply ≡ Refused OutOfMemory → ⊥
-    starved own is = clash (sym (ap (λ r. is_starved_by plan g past (Asked request) (Replied r)) is ∙ starved_own plan g past request own) ∙ fed)
+    starved : is_own_request plan.me g past request ≡ true → reply ≡ Refused OutOfMemory → ⊥
+    starved own is = clash (sym (ap (λ r. is_starved_by plan.me g past (Asked request) (Replied r)) is ∙ own) ∙ fed)
       where
         clash : true ≡ false → ⊥
         clash e = cc
@@ -285,22 +273,22 @@ asked_goes plan g past request reply frames_from group few noticed fresh answere
         none_of (row_of row.tenant (tenants_in past)) (tenant_new plan.places (reserved (tenants_in past)) (is_some (row_of row.tenant (tenants_in past))) row
         (sym (ap (admitted_answer plan past) same) ∙ (sym (running_answer plan past request reply running true admitted) ∙ (sym is ∙ done))))
 
-    unnamed : is_own plan g past request ≡ false → is_admitted_by plan past request ≡ true → is_named g request ≡ false
-    unnamed other admitted = first (is_named g request) (is_admitted_by plan past request) other admitted
+    unnamed : is_own_request plan.me g past request ≡ false → is_admitted_by plan past request ≡ true → is_named g request ≡ false
+    unnamed other admitted = by (is_named g request) refl
       where
-        first : (p q : Bool) → (p && q) ≡ false → q ≡ true → p ≡ false
-        first true true off on = off
-        first true false off on = absurd (cc)
-        first false q off on = refl
+        by : (named : Bool) → is_named g request ≡ named → named ≡ false
+        by true named = let own : is_own_request plan.me g past request ≡ true = and_both named (group_token_is plan g past request named ∙ admitted) in absurd (cc)
+        by false named = refl
 
-    foreign : is_stopped past ≡ false → is_own plan g past request ≡ false → reply ≡ past_answer plan past request → ((is_admitted_by plan past request ≡ true) ⊎ (is_admitted_by plan past request ≡ false)) → Wanted reply
+    foreign : is_stopped past ≡ false → is_own_request plan.me g past request ≡ false → reply ≡ past_answer plan past request → ((is_admitted_by plan past request ≡ true) ⊎ (is_admitted_by plan past request ≡ false)) → Wanted reply
     foreign running other is (inl admitted) = other_goes plan g past frames_from group request reply running other (unnamed other admitted) (new_tenant running admitted is) fits
     foreign running other is (inr denied) = subst Wanted (sym (is ∙ running_answer plan past request reply running false denied)) (refusal_passes plan g past frames_from group request Denied running other fits)
 
-    go : ((is_stopped past ≡ true) ⊎ (is_stopped past ≡ false)) → ((is_own plan g past request ≡ true) ⊎ (is_own plan g past request ≡ false)) → IsAsked plan past request reply → Wanted reply
+    go : ((is_stopped past ≡ true) ⊎ (is_stopped past ≡ false)) → ((is_own_request plan.me g past request ≡ true) ⊎ (is_own_request plan.me g past request ≡ false)) → IsAsked plan past request reply → Wanted reply
     go (inl stopped) own answer = subst Wanted (sym (stopped_reply plan past request reply stopped answer)) (stopped_goes plan g past request frames_from group stopped fits)
     go (inr running) (inl own) (inl wants) = absurd (starved own wants.0)
     go (inr running) (inl own) (inr is) =
-        own_goes plan g past frames_from group request reply few below fresh running own (is ∙ running_answer plan past request reply running true (and_parts (is_named g request) (is_admitted_by plan past request) own).1) fits
+        let parts = and_parts (is_named g request) (has_group_token_by plan.me past request) own in
+        own_goes plan g past frames_from group request reply few below fresh running own (is ∙ running_answer plan past request reply running true (sym (group_token_is plan g past request parts.0) ∙ parts.1)) fits
     go (inr running) (inr other) (inl wants) = subst Wanted (sym wants.0) (refusal_passes plan g past frames_from group request OutOfMemory running other fits)
     go (inr running) (inr other) (inr is) = foreign running other is (cases_Bool (is_admitted_by plan past request))

@@ -38,7 +38,7 @@ use Rattle.gb_isolation.proofs.NoticeLemmas.{numbered_is}
 use Rattle.gb_isolation.proofs.RunDutyLemmas.{inside, noticed_is}
 use Rattle.gb_isolation.proofs.RunIntegrityLemmas.{accepted_same}
 
-module _ (isolated : GroupsAreIsolated) (behave : AllBehave) (plan : Plan) (run : List Did) (v : ClusterValue) (comes : ComesTo plan run v) (g : Addr) (fed : is_fed plan g run ≡ true) (runs : ℕ → Bool) (spec : Spec) (settled : IsSettledIn plan run v g runs spec) where
+module _ (isolated : GroupsAreIsolated) (behave : AllBehave) (plan : Plan) (run : List Did) (v : ClusterValue) (comes : ComesTo plan run v) (g : Addr) (fed : is_fed g run ≡ true) (runs : ℕ → Bool) (spec : Spec) (settled : IsSettledIn plan run v g runs spec) where
   abbrev nodes : ℕ
   nodes = plan.nodes
 
@@ -62,8 +62,8 @@ module _ (isolated : GroupsAreIsolated) (behave : AllBehave) (plan : Plan) (run 
   was : (w : ClusterValue) × ComesTo plan settled.earlier w
   was = back plan settled.later settled.earlier v (subst (λ (r : List Did). ComesTo plan r v) settled.moment comes)
 
-  fed_then : is_fed plan g settled.earlier ≡ true
-  fed_then = fed_back plan g settled.later settled.earlier (subst (λ (r : List Did). is_fed plan g r ≡ true) settled.moment fed)
+  fed_then : is_fed g settled.earlier ≡ true
+  fed_then = fed_back plan g settled.later settled.earlier (subst (λ (r : List Did). is_fed g r ≡ true) settled.moment fed)
 
   behaved : BehavesAlone plan g settled.earlier
   behaved = behave plan g settled.earlier was.0 was.1 fed_then

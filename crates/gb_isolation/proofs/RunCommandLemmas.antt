@@ -19,7 +19,7 @@ use Rattle.gb_alone.specs.declared.event.GroupStep.{GroupStep}
 use Rattle.gb_alone.proofs.CommandLemmas.{command_in, commands_at, commands, commands-append, Pairs, pairs_append, no_pairs, one_pair}
 use Rattle.gb_node.specs.Past.{Happened, read, is_stopped}
 use Rattle.gb_node.specs.PastGroups.{noticed_in}
-use Rattle.gb_node.specs.StepLaw.{is_admitted_by}
+use Rattle.gb_node.specs.StepLaw.{has_group_token_by}
 use Rattle.gb_node.specs.declared.answer.NodeAnswer.{NodeAnswer}
 use Rattle.gb_node.specs.declared.answer.NodeAnswer.TheVariants.{Reply as Replied, Taken, Sent, Ticked}
 use Rattle.gb_node.specs.declared.answer.PacketAnswer.TheVariants.{Good as TakenGood}
@@ -32,7 +32,7 @@ use Rattle.gb_cluster.specs.ClusterValue.{node_plan}
 use Rattle.gb_cluster.specs.Run.{Did, past_at}
 use Rattle.gb_types.specs.declared.plan.Plan.{Plan}
 use Rattle.gb_cluster.proofs.NodesLemmas.{past_same, past_other}
-use Rattle.gb_isolation.specs.Project.{items_of, frames_in, is_named, is_own, command_for, made_with, own_requested, tenant_given, is_met, with_stop, asked, took, arrived, ticked, gives, project, reply_in, replies_in}
+use Rattle.gb_isolation.specs.Project.{items_of, frames_in, is_named, is_own_request, command_for, made_with, own_requested, tenant_given, is_met, with_stop, asked, took, arrived, ticked, gives, project, reply_in, replies_in}
 use Rattle.gb_isolation.specs.RunLaws.{said_by, accepted_by, accepted_in_past}
 use Rattle.gb_isolation.proofs.GivenLemmas.{carried_took, carried_packets, given_at, no_commands_elsewhere, no_commands_carried, no_commands_notices, no_commands_ticked, no_commands_tenant, commands_stopped}
 
@@ -42,16 +42,16 @@ unfolding commands
 commands_own plan g past s (Make token addr spec) Done = ap (λ es. commands_at s (record { node = plan.me; event = AskMake spec }) ++ es) (no_commands_notices s plan.me spec (set.contains (noticed_in plan past)))
 commands_own plan g past s request reply = refl
 
-commands_asked : (plan : NodePlan) (g : Addr) (past : List Happened) (s : ℕ) (request : Request) (reply : Reply) → commands s (asked plan g past request reply) ≡ commands s (if is_own plan g past request then command_for g plan.me request else [])
-commands_asked plan g past s request reply = by (is_stopped past) (is_own plan g past request)
+commands_asked : (plan : NodePlan) (g : Addr) (past : List Happened) (s : ℕ) (request : Request) (reply : Reply) → commands s (asked plan g past request reply) ≡ commands s (if is_own_request plan.me g past request then command_for g plan.me request else [])
+commands_asked plan g past s request reply = by (is_stopped past) (is_own_request plan.me g past request)
   where
     tenant : (xs : List GroupStep) → commands s (tenant_given g plan.me request reply ++ xs) ≡ commands s xs
     tenant xs = commands-append s (tenant_given g plan.me request reply) xs ∙ ap (λ es. es ++ commands s xs) (no_commands_tenant s g plan.me request reply)
 
     by : (stopped own : Bool)
-        → commands s (if stopped then (if own then with_stop plan.me (is_met plan g past) (command_for g plan.me request) else []) else tenant_given g plan.me request reply ++ (if own then own_requested plan g past request reply else []))
+        → commands s (if stopped then (if own then with_stop plan.me (is_met plan.me g past) (command_for g plan.me request) else []) else tenant_given g plan.me request reply ++ (if own then own_requested plan g past request reply else []))
         ≡ commands s (if own then command_for g plan.me request else [])
-    by true true = commands_stopped s plan.me (is_met plan g past) (command_for g plan.me request)
+    by true true = commands_stopped s plan.me (is_met plan.me g past) (command_for g plan.me request)
     by true false = refl
     by false true = tenant (own_requested plan g past request reply) ∙ commands_own plan g past s request reply
     by false false = tenant []
@@ -72,21 +72,21 @@ named_pairs g a (Say token addr payload) reply named = command_pairs a (AskSay p
 named_pairs g a (Fetch token addr from most) reply named = command_pairs a (AskFetch from most) reply refl
 
 reply_pairs : (plan : NodePlan) (g : Addr) (past : List Happened) (request : Request) (reply : Reply)
-    → Pairs (commands plan.me.number (asked plan g past request reply)) (reply_in plan g past (Asked request) (Replied reply)) (accepted_by plan g past (Asked request) (Replied reply))
+    → Pairs (commands plan.me.number (asked plan g past request reply)) (reply_in plan.me g past (Asked request) (Replied reply)) (accepted_by plan g past (Asked request) (Replied reply))
 unfolding commands
 reply_pairs plan g past request reply =
-    subst (λ es. Pairs es (reply_in plan g past (Asked request) (Replied reply)) (accepted_by plan g past (Asked request) (Replied reply))) (sym (commands_asked plan g past plan.me.number request reply))
-    (by (is_own plan g past request) refl)
+    subst (λ es. Pairs es (reply_in plan.me g past (Asked request) (Replied reply)) (accepted_by plan g past (Asked request) (Replied reply))) (sym (commands_asked plan g past plan.me.number request reply))
+    (by (is_own_request plan.me g past request) refl)
   where
-    by : (own : Bool) → is_own plan g past request ≡ own → Pairs (commands plan.me.number (if own then command_for g plan.me request else [])) (if own then reply ∷ [] else []) (if own then said_by request reply else [])
-    by true is = named_pairs g plan.me request reply (and_parts (is_named g request) (is_admitted_by plan past request) is).0
+    by : (own : Bool) → is_own_request plan.me g past request ≡ own → Pairs (commands plan.me.number (if own then command_for g plan.me request else [])) (if own then reply ∷ [] else []) (if own then said_by request reply else [])
+    by true is = named_pairs g plan.me request reply (and_parts (is_named g request) (has_group_token_by plan.me past request) is).0
     by false is = no_pairs
 
 none_paired : (es : List GroupEvent) → es ≡ [] → Pairs es [] []
 none_paired es none = subst (λ xs. Pairs xs [] []) (sym none) no_pairs
 
 given_pairs : (plan : Plan) (g : Addr) (run : List Did) (a : NodeId) (e : NodeEvent) (x : NodeAnswer)
-    → Pairs (commands a.number (gives plan g run a e x)) (reply_in (node_plan plan a) g (past_at a run) e x) (accepted_by (node_plan plan a) g (past_at a run) e x)
+    → Pairs (commands a.number (gives plan g run a e x)) (reply_in a g (past_at a run) e x) (accepted_by (node_plan plan a) g (past_at a run) e x)
 unfolding commands
 given_pairs plan g run a (Asked request) (Replied reply) = reply_pairs (node_plan plan a) g (past_at a run) request reply
 given_pairs plan g run a (Pack b) (Sent (SentPacket text)) =
@@ -101,7 +101,7 @@ given_pairs plan g run a Tick (Ticked (Noticed found)) =
 given_pairs plan g run a e x = no_pairs
 
 -- the commands of the projection at a node are those that have the replies there, and so it says what was accepted
-pub run_pairs : (plan : Plan) (g : Addr) (a : NodeId) (run : List Did) → Pairs (commands a.number (project plan g run)) (replies_in (node_plan plan a) g (past_at a run)) (accepted_in_past (node_plan plan a) g (past_at a run))
+pub run_pairs : (plan : Plan) (g : Addr) (a : NodeId) (run : List Did) → Pairs (commands a.number (project plan g run)) (replies_in a g (past_at a run)) (accepted_in_past (node_plan plan a) g (past_at a run))
 unfolding commands project replies_in accepted_in_past past_at
 run_pairs plan g a [] = no_pairs
 run_pairs plan g a (d ∷ run) = by (cases_eq d.node.number a.number) (run_pairs plan g a run)
@@ -109,17 +109,17 @@ run_pairs plan g a (d ∷ run) = by (cases_eq d.node.number a.number) (run_pairs
     given : List GroupStep
     given = gives plan g run d.node d.event d.answer
 
-    by : (d.node.number ≡ a.number) ⊎ (d.node.number ≢ a.number) → Pairs (commands a.number (project plan g run)) (replies_in (node_plan plan a) g (past_at a run)) (accepted_in_past (node_plan plan a) g (past_at a run))
-        → Pairs (commands a.number (project plan g run ++ given)) (replies_in (node_plan plan a) g (past_at a (d ∷ run))) (accepted_in_past (node_plan plan a) g (past_at a (d ∷ run)))
+    by : (d.node.number ≡ a.number) ⊎ (d.node.number ≢ a.number) → Pairs (commands a.number (project plan g run)) (replies_in a g (past_at a run)) (accepted_in_past (node_plan plan a) g (past_at a run))
+        → Pairs (commands a.number (project plan g run ++ given)) (replies_in a g (past_at a (d ∷ run))) (accepted_in_past (node_plan plan a) g (past_at a (d ∷ run)))
     by (inl same) rest =
-        let now : Pairs (commands a.number given) (reply_in (node_plan plan a) g (past_at a run) d.event d.answer) (accepted_by (node_plan plan a) g (past_at a run) d.event d.answer) =
-        subst (λ (x : NodeId). Pairs (commands a.number (gives plan g run x d.event d.answer)) (reply_in (node_plan plan a) g (past_at a run) d.event d.answer) (accepted_by (node_plan plan a) g (past_at a run) d.event d.answer)) (sym (same_number d.node a same))
+        let now : Pairs (commands a.number given) (reply_in a g (past_at a run) d.event d.answer) (accepted_by (node_plan plan a) g (past_at a run) d.event d.answer) =
+        subst (λ (x : NodeId). Pairs (commands a.number (gives plan g run x d.event d.answer)) (reply_in a g (past_at a run) d.event d.answer) (accepted_by (node_plan plan a) g (past_at a run) d.event d.answer)) (sym (same_number d.node a same))
         (given_pairs plan g run a d.event d.answer) in
-        subst (λ past. Pairs (commands a.number (project plan g run ++ given)) (replies_in (node_plan plan a) g past) (accepted_in_past (node_plan plan a) g past)) (sym (past_same a d run same))
-        (subst (λ es. Pairs es (replies_in (node_plan plan a) g (past_at a run) ++ reply_in (node_plan plan a) g (past_at a run) d.event d.answer) (accepted_in_past (node_plan plan a) g (past_at a run) ++ accepted_by (node_plan plan a) g (past_at a run) d.event d.answer)) (sym (commands-append a.number (project plan g run) given))
-        (pairs_append (commands a.number (project plan g run)) (commands a.number given) (replies_in (node_plan plan a) g (past_at a run)) (reply_in (node_plan plan a) g (past_at a run) d.event d.answer) (accepted_in_past (node_plan plan a) g (past_at a run)) (accepted_by (node_plan plan a) g (past_at a run) d.event d.answer) rest now))
+        subst (λ past. Pairs (commands a.number (project plan g run ++ given)) (replies_in a g past) (accepted_in_past (node_plan plan a) g past)) (sym (past_same a d run same))
+        (subst (λ es. Pairs es (replies_in a g (past_at a run) ++ reply_in a g (past_at a run) d.event d.answer) (accepted_in_past (node_plan plan a) g (past_at a run) ++ accepted_by (node_plan plan a) g (past_at a run) d.event d.answer)) (sym (commands-append a.number (project plan g run) given))
+        (pairs_append (commands a.number (project plan g run)) (commands a.number given) (replies_in a g (past_at a run)) (reply_in a g (past_at a run) d.event d.answer) (accepted_in_past (node_plan plan a) g (past_at a run)) (accepted_by (node_plan plan a) g (past_at a run) d.event d.answer) rest now))
     by (inr other) rest =
         let none : commands a.number given ≡ [] = no_commands_elsewhere a.number d.node given (λ e. other (sym e)) (given_at plan g run d.node d.event d.answer) in
-        subst (λ past. Pairs (commands a.number (project plan g run ++ given)) (replies_in (node_plan plan a) g past) (accepted_in_past (node_plan plan a) g past)) (sym (past_other a d run other))
-        (subst (λ es. Pairs es (replies_in (node_plan plan a) g (past_at a run)) (accepted_in_past (node_plan plan a) g (past_at a run)))
+        subst (λ past. Pairs (commands a.number (project plan g run ++ given)) (replies_in a g past) (accepted_in_past (node_plan plan a) g past)) (sym (past_other a d run other))
+        (subst (λ es. Pairs es (replies_in a g (past_at a run)) (accepted_in_past (node_plan plan a) g (past_at a run)))
         (sym (commands-append a.number (project plan g run) given ∙ (ap (λ es. commands a.number (project plan g run) ++ es) none ∙ append-nil (commands a.number (project plan g run))))) rest)

@@ -144,7 +144,7 @@ module _ (laws : Laws) (plan : Plan) (g : Addr) (run : List Did) (before : Clust
 
   -- what an event gives the group
   step_goes : (a : NodeId) (e : NodeEvent) (x : NodeAnswer) (v : ClusterValue) → a.number < plan.nodes → ComesTo plan (record { node = a; event = e; answer = x } ∷ run) v → IsAnswered (node_plan plan a) (past_at a run) e x
-      → is_starved_by (node_plan plan a) g (past_at a run) e x ≡ false
+      → is_starved_by a g (past_at a run) e x ≡ false
       → Goes plan.nodes g a (frames_for plan run a) (view_of (node_plan plan a) g (record { event = e; answer = x } ∷ past_at a run)) group (gives plan g run a e x)
   unfolding IsAlwaysWhole
   step_goes a (Asked request) (Replied reply) v within goes answered fed =
@@ -194,7 +194,7 @@ module _ (laws : Laws) (plan : Plan) (g : Addr) (run : List Did) (before : Clust
   }) (was.fits a within)
 
   -- the group behaves so after the step
-  pub goes_further : (a : NodeId) (e : NodeEvent) (x : NodeAnswer) (v : ClusterValue) → ComesTo plan (record { node = a; event = e; answer = x } ∷ run) v → is_starved_by (node_plan plan a) g (past_at a run) e x ≡ false
+  pub goes_further : (a : NodeId) (e : NodeEvent) (x : NodeAnswer) (v : ClusterValue) → ComesTo plan (record { node = a; event = e; answer = x } ∷ run) v → is_starved_by a g (past_at a run) e x ≡ false
       → BehavesAlone plan g (record { node = a; event = e; answer = x } ∷ run)
   unfolding project ComesTo frames_to
   goes_further a e x v goes fed = record {
@@ -275,9 +275,9 @@ module _ (laws : Laws) (plan : Plan) (g : Addr) (run : List Did) (before : Clust
       by b inside (inr other) = elsewhere b inside other
 
 -- every group of which no request was refused for want of memory behaves so in every run
-pub behaves : Laws → (plan : Plan) (g : Addr) (run : List Did) (v : ClusterValue) → ComesTo plan run v → is_fed plan g run ≡ true → BehavesAlone plan g run
+pub behaves : Laws → (plan : Plan) (g : Addr) (run : List Did) (v : ClusterValue) → ComesTo plan run v → is_fed g run ≡ true → BehavesAlone plan g run
 unfolding ComesTo is_fed project
 behaves laws plan g [] v comes fed = record { legal = tt; fits = new_fits plan g }
 behaves laws plan g (d ∷ run) v comes fed =
-    let parts = and_parts (not (is_starved_by (node_plan plan d.node) g (past_at d.node run) d.event d.answer)) (is_fed plan g run) fed in
-    goes_further laws plan g run comes.0 comes.1 (behaves laws plan g run comes.0 comes.1 parts.1) d.node d.event d.answer v comes (not_true (is_starved_by (node_plan plan d.node) g (past_at d.node run) d.event d.answer) parts.0)
+    let parts = and_parts (not (is_starved_by d.node g (past_at d.node run) d.event d.answer)) (is_fed g run) fed in
+    goes_further laws plan g run comes.0 comes.1 (behaves laws plan g run comes.0 comes.1 parts.1) d.node d.event d.answer v comes (not_true (is_starved_by d.node g (past_at d.node run) d.event d.answer) parts.0)

@@ -15,9 +15,9 @@ use Rattle.gb_alone.specs.declared.event.GroupEvent.TheVariants.{Make as AskMake
 use Rattle.gb_alone.specs.Alone.{Member, Group, alone_from, commanded, did, member_after, reply_to, running_reply, MayHappen}
 use Rattle.gb_node.specs.Past.{Happened, is_stopped}
 use Rattle.gb_node.specs.PastGroups.{noticed_in, told_of}
-use Rattle.gb_node.specs.StepLaw.{is_admitted_by}
+use Rattle.gb_node.specs.StepLaw.{has_group_token_by}
 use Rattle.gb_node.specs.declared.plan.NodePlan.{NodePlan}
-use Rattle.gb_isolation.specs.Project.{is_named, is_own, is_met, command_for, with_stop, asked, made_with, or_else, replies_in}
+use Rattle.gb_isolation.specs.Project.{is_named, is_own_request, is_met, command_for, with_stop, asked, made_with, or_else, replies_in}
 use Rattle.gb_node.proofs.EventLemmas.{added_refused, asked_untold}
 use Rattle.gb_isolation.proofs.AskLemmas.{asking, view_asked, rows_kept, refused_makes, refused_unrelated}
 use Rattle.gb_isolation.proofs.GoesLemmas.{goes_one, goes_on}
@@ -109,34 +109,34 @@ module _ (plan : NodePlan) (g : Addr) (past : List Happened) (request : Request)
   StoppedGoes = Goes plan.nodes g plan.me frames_from (view_of plan g (asking request refused ∷ past)) group (asked plan g past request refused)
 
   -- what it gives the group
-  given_stopped : is_stopped past ≡ true → (own : Bool) → is_own plan g past request ≡ own → asked plan g past request refused ≡ (if own then with_stop plan.me (is_met plan g past) (command_for g plan.me request) else [])
+  given_stopped : is_stopped past ≡ true → (own : Bool) → is_own_request plan.me g past request ≡ own → asked plan g past request refused ≡ (if own then with_stop plan.me (is_met plan.me g past) (command_for g plan.me request) else [])
   given_stopped stopped own is = rw (stopped, is) refl
 
   -- a request of another group, or with a wrong token
-  stopped_other : is_stopped past ≡ true → is_own plan g past request ≡ false → Fits plan.nodes g plan.me.number frames_from (view_of plan g past) (group plan.me.number) → StoppedGoes
+  stopped_other : is_stopped past ≡ true → is_own_request plan.me g past request ≡ false → Fits plan.nodes g plan.me.number frames_from (view_of plan g past) (group plan.me.number) → StoppedGoes
   stopped_other stopped other fits =
       subst (λ es. Goes plan.nodes g plan.me frames_from (view_of plan g (asking request refused ∷ past)) group es) (sym (given_stopped stopped false other))
       (refused_unrelated plan g past request Stopped frames_from group other fits)
 
   -- the group's own request
-  stopped_own : is_stopped past ≡ true → is_own plan g past request ≡ true → is_named g request ≡ true → Fits plan.nodes g plan.me.number frames_from (view_of plan g past) (group plan.me.number) → StoppedGoes
+  stopped_own : is_stopped past ≡ true → is_own_request plan.me g past request ≡ true → is_named g request ≡ true → Fits plan.nodes g plan.me.number frames_from (view_of plan g past) (group plan.me.number) → StoppedGoes
   stopped_own stopped own named fits =
       let c = command_named g plan.me request named in
-      subst (λ es. Goes plan.nodes g plan.me frames_from (view_of plan g (asking request refused ∷ past)) group es) (sym (given_stopped stopped true own ∙ ap (with_stop plan.me (is_met plan g past)) c.one))
-      (subst (λ (v : View). Goes plan.nodes g plan.me frames_from v group (with_stop plan.me (is_met plan g past) (record { node = plan.me; event = c.event } ∷ []))) (sym later) (meets plan.nodes g plan.me frames_from request c (view_of plan g past) group fits (is_met plan g past) refl))
+      subst (λ es. Goes plan.nodes g plan.me frames_from (view_of plan g (asking request refused ∷ past)) group es) (sym (given_stopped stopped true own ∙ ap (with_stop plan.me (is_met plan.me g past)) c.one))
+      (subst (λ (v : View). Goes plan.nodes g plan.me frames_from v group (with_stop plan.me (is_met plan.me g past) (record { node = plan.me; event = c.event } ∷ []))) (sym later) (meets plan.nodes g plan.me frames_from request c (view_of plan g past) group fits (is_met plan.me g past) refl))
     where
-      later : view_of plan g (asking request refused ∷ past) ≡ record (view_of plan g past) { replies = replies_in plan g past ++ refused ∷ []; met = true }
-      later = view_asked plan g past request refused (view_of plan g past).reserve (told_of plan g past) (made_with g past) (replies_in plan g past ++ refused ∷ []) true
+      later : view_of plan g (asking request refused ∷ past) ≡ record (view_of plan g past) { replies = replies_in plan.me g past ++ refused ∷ []; met = true }
+      later = view_asked plan g past request refused (view_of plan g past).reserve (told_of plan g past) (made_with g past) (replies_in plan.me g past ++ refused ∷ []) true
           (rows_kept plan g past request refused (added_refused request Stopped))
           (asked_untold g plan.me (noticed_in plan past) request Stopped (told_of plan g past))
           (ap (λ o. or_else o (made_with g past)) (refused_makes g request Stopped))
-          (ap (λ b. replies_in plan g past ++ (if b then refused ∷ [] else [])) own)
-          (ap (λ b. (b && is_own plan g past request) || is_met plan g past) stopped ∙ ap (λ b. b || is_met plan g past) own)
+          (ap (λ b. replies_in plan.me g past ++ (if b then refused ∷ [] else [])) own)
+          (ap (λ b. (b && is_own_request plan.me g past request) || is_met plan.me g past) stopped ∙ ap (λ b. b || is_met plan.me g past) own)
 
   -- any request at a node that has stopped
   pub stopped_goes : is_stopped past ≡ true → Fits plan.nodes g plan.me.number frames_from (view_of plan g past) (group plan.me.number) → StoppedGoes
-  stopped_goes stopped fits = go (cases_Bool (is_own plan g past request))
+  stopped_goes stopped fits = go (cases_Bool (is_own_request plan.me g past request))
     where
-      go : ((is_own plan g past request ≡ true) ⊎ (is_own plan g past request ≡ false)) → StoppedGoes
-      go (inl own) = stopped_own stopped own (and_parts (is_named g request) (is_admitted_by plan past request) own).0 fits
+      go : ((is_own_request plan.me g past request ≡ true) ⊎ (is_own_request plan.me g past request ≡ false)) → StoppedGoes
+      go (inl own) = stopped_own stopped own (and_parts (is_named g request) (has_group_token_by plan.me past request) own).0 fits
       go (inr other) = stopped_other stopped other fits

@@ -1,21 +1,37 @@
 -- A group that behaves as alone is seen as alone.
-use Rattle.std.proofs.Common.{◌≡◌, ℕ, ◌++◌, List, Option, Some, None, sym, ◌∙◌, ap}
+use Rattle.std.proofs.Common.{◌≡◌, ℕ, Bool, true, false, nat_eq, ◌++◌, List, [], ◌∷◌, length, map, take, Option, Some, None, sym, subst, ◌∙◌, ap}
+use Rattle.std.specs.Prelude.{if◌then◌else◌}
+use Rattle.std.specs.List.{AllByRecursion}
+use Rattle.std.proofs.lemmas.List.Elements.{All-from_recursion}
 use Rattle.gb_types.specs.declared.address.Addr.{Addr}
+use Rattle.gb_types.specs.declared.entry.Entry.{Entry}
 use Rattle.gb_types.specs.declared.spec.Spec.{Spec}
+use Rattle.gb_frame.specs.Items.{entry_of, item_for, items_for}
+use Rattle.gb_frame.specs.Packet.{Content}
+use Rattle.gb_frame.specs.declared.item.Item.{Item}
 use Rattle.gb_history.specs.History.{log_of}
 use Rattle.gb_alone.specs.Alone.{Member, log_at}
 use Rattle.gb_alone.specs.Laws.{log_of_member}
 use Rattle.gb_node.specs.NodeGroups.{shown_at, waiting_at}
-use Rattle.gb_node.specs.Past.{frames_to}
-use Rattle.gb_node.specs.PastGroups.{Told, shown_in, told_of}
+use Rattle.gb_node.specs.NodeValue.{NodeValue}
+use Rattle.gb_node.specs.Past.{Happened, read, frames_to, packed_for, ComesTo as NodeComesTo}
+use Rattle.gb_node.specs.PastGroups.{Told, shown_in, told_of, waiting_of}
+use Rattle.gb_node.specs.StepLaw.{IsAnswered, AnswersSay}
+use Rattle.gb_node.specs.declared.plan.NodePlan.{NodePlan}
+use Rattle.gb_node.specs.declared.answer.NodeAnswer.{NodeAnswer}
+use Rattle.gb_node.specs.declared.answer.NodeAnswer.TheVariants.{Sent}
+use Rattle.gb_node.specs.declared.answer.Sent.TheVariants.{Packet as SentPacket}
+use Rattle.gb_node.specs.declared.event.NodeEvent.{NodeEvent}
+use Rattle.gb_node.specs.declared.event.NodeEvent.TheVariants.{Pack}
 use Rattle.gb_node.specs.PastLaw.{IsOfPast, PastsSay}
 use Rattle.gb_cluster.specs.ClusterValue.{ClusterValue, node_plan, node_at}
 use Rattle.gb_cluster.specs.Run.{Did, ComesTo, past_at}
 use Rattle.gb_types.specs.declared.plan.Plan.{Plan}
 use Rattle.gb_cluster.proofs.NodesLemmas.{have_pasts}
-use Rattle.gb_isolation.specs.Isolation.{log_in, IsIsolated, GroupsAreIsolated, alone_in}
-use Rattle.gb_isolation.specs.Project.{items_of}
+use Rattle.gb_isolation.specs.Isolation.{log_in, AreSpelt, IsIsolated, GroupsAreIsolated, alone_in}
+use Rattle.gb_isolation.specs.Project.{items_in, items_of}
 use Rattle.gb_isolation.proofs.View.{MemberIs, BehavesAlone}
+use Rattle.gb_isolation.proofs.PastLemmas.{entries_back}
 use Rattle.gb_isolation.proofs.MemberLemmas.{unmade_held, dropped_held, there_held}
 use Rattle.gb_isolation.proofs.RunLemmas.{Laws, behaves}
 
@@ -24,8 +40,40 @@ log_same me None m st = sym (ap (λ (x : Option Spec). log_at me x m.told) (unma
 log_same me (Some None) m st = sym (ap (λ (x : Option Spec). log_at me x m.told) (dropped_held m st))
 log_same me (Some (Some t)) m st = ap (log_of t.spec me) (sym st.calls) ∙ sym (ap (λ (x : Option Spec). log_at me x m.told) (there_held t m st))
 
-pub isolated : PastsSay → (plan : Plan) (run : List Did) (v : ClusterValue) → ComesTo plan run v → (g : Addr) → BehavesAlone plan g run → IsIsolated plan run v g
-isolated pasts plan run v comes g alike = record {
+spelt_append : (g : Addr) (xs ys : List (List Item)) → AllByRecursion (AreSpelt g) xs → AllByRecursion (AreSpelt g) ys → AllByRecursion (AreSpelt g) (xs ++ ys)
+spelt_append g [] ys a b = b
+spelt_append g (x ∷ xs) ys a b = (a.0, spelt_append g xs ys a.1 b)
+
+-- A packing says of each item what the node puts out.
+frames_spelt : AnswersSay → (plan : NodePlan) (past : List Happened) (v : NodeValue) (g : Addr) (b : ℕ) → NodeComesTo plan past v → AllByRecursion (AreSpelt g) (frames_to plan.cluster_key b past)
+unfolding NodeComesTo frames_to
+frames_spelt law plan [] v g b comes = tt
+frames_spelt law plan (h ∷ past) v g b comes =
+    spelt_append g (frames_to plan.cluster_key b past) (packed_for plan.cluster_key b h.event h.answer) (frames_spelt law plan past comes.0 g b comes.1)
+    (by h.event h.answer (law.each plan past h.event h.answer v comes))
+  where
+    by : (e : NodeEvent) (x : NodeAnswer) → IsAnswered plan past e x → AllByRecursion (AreSpelt g) (packed_for plan.cluster_key b e x)
+    by (Pack y) (Sent (SentPacket text)) packed = one (nat_eq y.number b)
+      where
+        waits : List Entry
+        waits = take (length (items_for g packed.content.items)) (waiting_of (told_of plan g past) y.number)
+
+        given : items_in g packed.content.items ≡ waits
+        given = ap (map entry_of) (packed.front g) ∙ entries_back g waits
+
+        spelt : AreSpelt g packed.content.items
+        spelt = packed.front g ∙ ap (map (item_for g)) (sym given)
+
+        frames : map (λ (c : Content). c.items) (read plan.cluster_key text) ≡ packed.content.items ∷ []
+        frames = ap (map (λ (c : Content). c.items)) packed.text_is
+
+        one : (t : Bool) → AllByRecursion (AreSpelt g) (if t then map (λ (c : Content). c.items) (read plan.cluster_key text) else [])
+        one true = subst (AllByRecursion (AreSpelt g)) (sym frames) (spelt, tt)
+        one false = tt
+    by e x answered = tt
+
+pub isolated : PastsSay → AnswersSay → (plan : Plan) (run : List Did) (v : ClusterValue) → ComesTo plan run v → (g : Addr) → BehavesAlone plan g run → IsIsolated plan run v g
+isolated pasts answers plan run v comes g alike = record {
   legal = alike.legal;
   same = λ a b in_a in_b.
       let fits = alike.fits a in_a in
@@ -34,8 +82,10 @@ isolated pasts plan run v comes g alike = record {
       let put : items_of g (frames_to plan.cluster_key b.number (past_at a run)) ++ waiting_at (node_at v a) g b.number ≡ (alone_in plan g run a.number).put b.number =
       ap (λ es. items_of g (frames_to plan.cluster_key b.number (past_at a run)) ++ es) (past.waiting g b.number) ∙ sym (fits.put b.number in_b) in
       λ i. record { replies = sym fits.replies i; log = log i; put = put i };
+  spelt = λ a b in_a in_b. All-from_recursion (AreSpelt g) (frames_to plan.cluster_key b.number (past_at a run))
+      (frames_spelt answers (node_plan plan a) (past_at a run) (node_at v a) g b.number (have_pasts plan run v a comes in_a));
   carried = λ a b in_a in_b. (alike.fits a in_a).taken b.number in_b;
 }
 
 pub groups_isolated : PastsSay → Laws → GroupsAreIsolated
-groups_isolated pasts laws plan run v comes g fed = isolated pasts plan run v comes g (behaves laws plan g run v comes fed)
+groups_isolated pasts laws plan run v comes g fed = isolated pasts laws.answers plan run v comes g (behaves laws plan g run v comes fed)

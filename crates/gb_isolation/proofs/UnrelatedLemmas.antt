@@ -33,8 +33,8 @@ pub record IsUnrelated (plan : NodePlan) (g : Addr) (past : List Happened) (e : 
   pub none_added : added e x ≡ []
   pub same_group : told_after plan g past e x (told_of plan g past) ≡ told_of plan g past
   pub not_made : made_by g e x ≡ None
-  pub no_reply : reply_in plan g past e x ≡ []
-  pub unmet : is_met_by plan g past e x ≡ false
+  pub no_reply : reply_in plan.me g past e x ≡ []
+  pub unmet : is_met_by plan.me g past e x ≡ false
 
 unrelated_view : (plan : NodePlan) (g : Addr) (past : List Happened) (e : NodeEvent) (x : NodeAnswer) → IsUnrelated plan g past e x → view_of plan g (record { event = e; answer = x } ∷ past) ≡ view_of plan g past
 unfolding frames_to is_acked is_taken watched tenants_in told_of made_with replies_in is_met
@@ -43,8 +43,8 @@ unrelated_view plan g past e x q = λ i. record {
   told = q.same_group i;
   made = or_else (q.not_made i) (made_with g past);
   noticed = set.contains (replay (start plan.me.number plan.nodes plan.silence) (q.no_tick i ++ map (λ (c : Content). Heard c.from) (q.none_came i) ++ watched plan.cluster_key past)).noticed;
-  replies = (ap (λ (rs : List Reply). replies_in plan g past ++ rs) q.no_reply ∙ append-nil (replies_in plan g past)) i;
-  met = q.unmet i || is_met plan g past;
+  replies = (ap (λ (rs : List Reply). replies_in plan.me g past ++ rs) q.no_reply ∙ append-nil (replies_in plan.me g past)) i;
+  met = q.unmet i || is_met plan.me g past;
   frames = λ b. (ap (λ (fs : List (List Item)). frames_to plan.cluster_key b past ++ fs) (q.packed b) ∙ append-nil (frames_to plan.cluster_key b past)) i;
   acked = λ b n. (ap (λ (cs : List Content). is_acked plan.cluster_key b n past || (nat_le n (length (frames_to plan.cluster_key b past)) && list_any (is_ack b n) cs)) q.none_came
       ∙ (ap (λ t. is_acked plan.cluster_key b n past || t) (and_right (nat_le n (length (frames_to plan.cluster_key b past))) false refl) ∙ or-false (is_acked plan.cluster_key b n past))) i;

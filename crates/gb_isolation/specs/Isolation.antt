@@ -1,11 +1,13 @@
 -- That a group in a run is what it is alone.
-use Rattle.std.specs.Prelude.{ℕ, ◌≡◌, ◌<◌, ◌++◌, ◌&&◌, not, Bool, true, false, List, [], ◌∷◌, length, Option, Some, None}
+use Rattle.std.specs.Prelude.{ℕ, ◌≡◌, ◌<◌, ◌++◌, ◌&&◌, not, Bool, true, false, All, List, [], ◌∷◌, length, map, Option, Some, None}
 use Rattle.gb_types.specs.declared.address.Addr.{Addr}
 use Rattle.gb_types.specs.declared.entry.Entry.{Entry}
 use Rattle.gb_types.specs.declared.node.NodeId.{NodeId}
 use Rattle.gb_types.specs.declared.refusal.Refusal.TheVariants.{OutOfMemory}
 use Rattle.gb_types.specs.declared.reply.Reply.{Reply}
 use Rattle.gb_types.specs.declared.reply.Reply.TheVariants.{Refused}
+use Rattle.gb_frame.specs.Items.{items_for, item_for}
+use Rattle.gb_frame.specs.declared.item.Item.{Item}
 use Rattle.gb_rules.specs.Group.{Shown}
 use Rattle.gb_node.specs.NodeGroups.{shown_at, waiting_at}
 use Rattle.gb_node.specs.Past.{frames_to}
@@ -20,7 +22,7 @@ use Rattle.gb_alone.specs.Laws.{log_of_member}
 use Rattle.gb_cluster.specs.ClusterValue.{ClusterValue, node_plan, node_at}
 use Rattle.gb_cluster.specs.Run.{Did, ComesTo, past_at}
 use Rattle.gb_types.specs.declared.plan.Plan.{Plan}
-use Rattle.gb_isolation.specs.Project.{project, items_of, replies_in, is_fed}
+use Rattle.gb_isolation.specs.Project.{project, items_in, items_of, replies_in, is_fed}
 
 -- what was delivered in a group; nothing where it was not made, or was dropped
 abbrev pub log_in : Option (Option Shown) → List Entry
@@ -40,7 +42,7 @@ pub record Seen : Type 0 where
 -- what is seen in a run: replies and carried items stand in what happened, log and waiting items in the nodes
 abbrev pub seen_in : Plan → List Did → ClusterValue → Addr → NodeId → NodeId → Seen
 seen_in plan run v g a b = record {
-  replies = replies_in (node_plan plan a) g (past_at a run);
+  replies = replies_in a g (past_at a run);
   log = log_in (shown_at (node_at v a) g);
   put = items_of g (frames_to plan.cluster_key b.number (past_at a run)) ++ waiting_at (node_at v a) g b.number;
 }
@@ -53,18 +55,24 @@ seen_alone group a b = record { replies = (group a).replies; log = log_of_member
 abbrev pub alone_in : Plan → Addr → List Did → Group
 alone_in plan g run = alone plan.nodes g.group (project plan g run)
 
+-- the group's items of a frame are what is shown of them: each with its origin as it stands there
+abbrev pub AreSpelt : Addr → List Item → Type 0
+AreSpelt g frame = items_for g frame ≡ map (item_for g) (items_in g frame)
+
 -- the projection of the run is legal, and what is seen of the group is what the projection makes of it alone
 pub record IsIsolated (plan : Plan) (run : List Did) (v : ClusterValue) (g : Addr) : Type 0 where
   pub legal : IsLegal plan.nodes g.group (project plan g run)
   pub same : (a b : NodeId) → a.number < plan.nodes → b.number < plan.nodes → seen_in plan run v g a b ≡ seen_alone (alone_in plan g run) a.number b.number
+  -- what is seen of an item that is carried is all that its frame says of it
+  pub spelt : (a b : NodeId) → a.number < plan.nodes → b.number < plan.nodes → All (AreSpelt g) (frames_to plan.cluster_key b.number (past_at a run))
   -- and as many items are carried
   pub carried : (a b : NodeId) → a.number < plan.nodes → b.number < plan.nodes → (alone_in plan g run a.number).taken b.number ≡ length (items_of g (frames_to plan.cluster_key b.number (past_at a run)))
 
 -- each group of every run is isolated of which no request was refused for want of memory
 abbrev pub GroupsAreIsolated : Type 0
-GroupsAreIsolated = (plan : Plan) (run : List Did) (v : ClusterValue) → ComesTo plan run v → (g : Addr) → is_fed plan g run ≡ true → IsIsolated plan run v g
+GroupsAreIsolated = (plan : Plan) (run : List Did) (v : ClusterValue) → ComesTo plan run v → (g : Addr) → is_fed g run ≡ true → IsIsolated plan run v g
 
--- the answer is want of memory
+-- the answer refuses for lack of memory
 abbrev pub wants_memory : NodeAnswer → Bool
 wants_memory (Replied (Refused OutOfMemory)) = true
 wants_memory (Taken (TakenRefused OutOfMemory)) = true
@@ -80,4 +88,4 @@ is_ample (d ∷ run) = not (wants_memory d.answer) && is_ample run
 
 -- where no memory was refused in a run, no group's request was
 abbrev pub AmpleRunsFeedAll : Type 0
-AmpleRunsFeedAll = (plan : Plan) (run : List Did) → is_ample run ≡ true → (g : Addr) → is_fed plan g run ≡ true
+AmpleRunsFeedAll = (plan : Plan) (run : List Did) → is_ample run ≡ true → (g : Addr) → is_fed g run ≡ true

@@ -21,10 +21,10 @@ use Rattle.gb_rules.specs.Tenant.{reserve_of}
 use Rattle.gb_alone.specs.declared.event.GroupEvent.TheVariants.{Tenant, Make as AskMake, Open as AskOpen, Shut as AskShut, Drop as AskDrop, Say as AskSay, Fetch as AskFetch, Took, Came, Done as Acknowledged, Notice, Stop as Ends}
 use Rattle.gb_alone.specs.declared.event.GroupStep.{GroupStep}
 use Rattle.gb_frame.specs.Items.{entry_of, items_for}
+use Rattle.gb_node.specs.StepLaw.{has_group_token_by}
 use Rattle.gb_node.specs.NodeStep.{node_numbered}
 use Rattle.gb_node.specs.Past.{Happened, read, frames_to, is_acked, is_frame, came, is_stopped}
 use Rattle.gb_node.specs.PastGroups.{noticed_in}
-use Rattle.gb_node.specs.StepLaw.{is_admitted_by}
 use Rattle.gb_node.specs.declared.answer.NodeAnswer.{NodeAnswer}
 use Rattle.gb_node.specs.declared.answer.NodeAnswer.TheVariants.{Reply as Replied, Taken, Sent, Ticked}
 use Rattle.gb_node.specs.declared.answer.PacketAnswer.TheVariants.{Good as TakenGood}
@@ -74,9 +74,9 @@ is_named g (DropGroup token addr) = is_addr g addr
 is_named g (Say token addr payload) = is_addr g addr
 is_named g (Fetch token addr from most) = is_addr g addr
 
--- a request of the group: it names it, with the token that it needs
-abbrev pub is_own : NodePlan → Addr → List Happened → Request → Bool
-is_own plan g past request = is_named g request && is_admitted_by plan past request
+-- a request of the group at the node a: it names the group, and comes with the token that it needs by the tenants that were added there
+abbrev pub is_own_request : NodeId → Addr → List Happened → Request → Bool
+is_own_request a g past request = is_named g request && has_group_token_by a past request
 
 -- the group's command that a request is
 abbrev pub command_for : Addr → NodeId → Request → List GroupStep
@@ -116,17 +116,17 @@ tenant_given g a request reply = []
 
 -- what any request with its reply gives the group at a running node
 abbrev pub requested : NodePlan → Addr → List Happened → Request → Reply → List GroupStep
-requested plan g past request reply = tenant_given g plan.me request reply ++ (if is_own plan g past request then own_requested plan g past request reply else [])
+requested plan g past request reply = tenant_given g plan.me request reply ++ (if is_own_request plan.me g past request then own_requested plan g past request reply else [])
 
 -- a request of the group is asked at a node that has stopped
-abbrev pub is_met_by : NodePlan → Addr → List Happened → NodeEvent → NodeAnswer → Bool
-is_met_by plan g past (Asked request) (Replied reply) = is_stopped past && is_own plan g past request
-is_met_by plan g past event answer = false
+abbrev pub is_met_by : NodeId → Addr → List Happened → NodeEvent → NodeAnswer → Bool
+is_met_by a g past (Asked request) (Replied reply) = is_stopped past && is_own_request a g past request
+is_met_by a g past event answer = false
 
 -- one met the node's stop
-unfoldable pub is_met : NodePlan → Addr → List Happened → Bool
-is_met plan g [] = false
-is_met plan g (h ∷ past) = is_met_by plan g past h.event h.answer || is_met plan g past
+unfoldable pub is_met : NodeId → Addr → List Happened → Bool
+is_met a g [] = false
+is_met a g (h ∷ past) = is_met_by a g past h.event h.answer || is_met a g past
 
 -- the first command that meets the stop shows it
 abbrev pub with_stop : NodeId → Bool → List GroupStep → List GroupStep
@@ -136,7 +136,7 @@ with_stop a met (c ∷ commands) = if met then c ∷ commands else record { node
 -- what a request with its reply gives the group: a node that has stopped gives its commands alone
 abbrev pub asked : NodePlan → Addr → List Happened → Request → Reply → List GroupStep
 asked plan g past request reply =
-    if is_stopped past then (if is_own plan g past request then with_stop plan.me (is_met plan g past) (command_for g plan.me request) else [])
+    if is_stopped past then (if is_own_request plan.me g past request then with_stop plan.me (is_met plan.me g past) (command_for g plan.me request) else [])
     else requested plan g past request reply
 
 -- Links.
@@ -200,24 +200,23 @@ unfoldable pub project : Plan → Addr → List Did → List GroupStep
 project plan g [] = []
 project plan g (d ∷ run) = project plan g run ++ gives plan g run d.node d.event d.answer
 
-abbrev pub reply_in : NodePlan → Addr → List Happened → NodeEvent → NodeAnswer → List Reply
-reply_in plan g past (Asked request) (Replied reply) = if is_own plan g past request then reply ∷ [] else []
-reply_in plan g past event answer = []
+abbrev pub reply_in : NodeId → Addr → List Happened → NodeEvent → NodeAnswer → List Reply
+reply_in a g past (Asked request) (Replied reply) = if is_own_request a g past request then reply ∷ [] else []
+reply_in a g past event answer = []
 
 -- the replies to the group's commands at a node, in order
-unfoldable pub replies_in : NodePlan → Addr → List Happened → List Reply
-replies_in plan g [] = []
-replies_in plan g (h ∷ past) = replies_in plan g past ++ reply_in plan g past h.event h.answer
+unfoldable pub replies_in : NodeId → Addr → List Happened → List Reply
+replies_in a g [] = []
+replies_in a g (h ∷ past) = replies_in a g past ++ reply_in a g past h.event h.answer
 
 -- Memory.
 
--- a request of the group, or one that takes its tenant in, was refused for want of memory
-abbrev pub is_starved_by : NodePlan → Addr → List Happened → NodeEvent → NodeAnswer → Bool
-is_starved_by plan g past (Asked (AddTenant token row)) (Replied (Refused OutOfMemory)) = nat_eq row.tenant g.tenant
-is_starved_by plan g past (Asked request) (Replied (Refused OutOfMemory)) = is_own plan g past request
-is_starved_by plan g past event answer = false
+-- a request of the group was refused for lack of memory
+abbrev pub is_starved_by : NodeId → Addr → List Happened → NodeEvent → NodeAnswer → Bool
+is_starved_by a g past (Asked request) (Replied (Refused OutOfMemory)) = is_own_request a g past request
+is_starved_by a g past event answer = false
 
 -- none was in the run
-unfoldable pub is_fed : Plan → Addr → List Did → Bool
-is_fed plan g [] = true
-is_fed plan g (d ∷ run) = not (is_starved_by (node_plan plan d.node) g (past_at d.node run) d.event d.answer) && is_fed plan g run
+unfoldable pub is_fed : Addr → List Did → Bool
+is_fed g [] = true
+is_fed g (d ∷ run) = not (is_starved_by d.node g (past_at d.node run) d.event d.answer) && is_fed g run

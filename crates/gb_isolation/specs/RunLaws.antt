@@ -30,7 +30,7 @@ use Rattle.gb_cluster.specs.ClusterValue.{ClusterValue, node_plan, node_at}
 use Rattle.gb_cluster.specs.Run.{Did, ComesTo, past_at}
 use Rattle.gb_types.specs.declared.plan.Plan.{Plan}
 use Rattle.gb_isolation.specs.Isolation.{seen_in, alone_in}
-use Rattle.gb_isolation.specs.Project.{project, items_in, is_own, made_with, is_fed}
+use Rattle.gb_isolation.specs.Project.{project, items_in, is_own_request, made_with, is_fed}
 
 -- What was accepted.
 
@@ -40,7 +40,7 @@ said_by (Say token addr payload) (Said seq) = record { seq = seq; payload = payl
 said_by request reply = []
 
 abbrev pub accepted_by : NodePlan → Addr → List Happened → NodeEvent → NodeAnswer → List Accepted
-accepted_by plan g past (Asked request) (Replied reply) = if is_own plan g past request then said_by request reply else []
+accepted_by plan g past (Asked request) (Replied reply) = if is_own_request plan.me g past request then said_by request reply else []
 accepted_by plan g past event answer = []
 
 -- the group's messages that were accepted at a node, in order
@@ -54,7 +54,7 @@ accepted_there plan g run s = accepted_in_past (node_plan plan (node_numbered s)
 
 -- what a law of groups says of each group of which no request was refused for want of memory, in every run of every cluster
 abbrev pub OfGroupsInRuns : (Plan → List Did → ClusterValue → Addr → Type 0) → Type 0
-OfGroupsInRuns Property = (plan : Plan) (run : List Did) (v : ClusterValue) → ComesTo plan run v → (g : Addr) → is_fed plan g run ≡ true → Property plan run v g
+OfGroupsInRuns Property = (plan : Plan) (run : List Did) (v : ClusterValue) → ComesTo plan run v → (g : Addr) → is_fed g run ≡ true → Property plan run v g
 
 -- Integrity: the log seen at each node keeps it, and each item seen between two nodes was accepted at its origin.
 pub record RunIntegrity (plan : Plan) (run : List Did) (v : ClusterValue) (g : Addr) : Type 0 where
@@ -141,5 +141,5 @@ SettledGroupsAgree = OfGroupsInRuns RunAgreement
 abbrev pub RunsAgree : Type 0
 RunsAgree =
     (plan other : Plan) (run that : List Did) (v w : ClusterValue) → ComesTo plan run v → ComesTo other that w
-    → (g : Addr) → is_fed plan g run ≡ true → is_fed other g that ≡ true → plan.nodes ≡ other.nodes → project plan g run ≡ project other g that
+    → (g : Addr) → is_fed g run ≡ true → is_fed g that ≡ true → plan.nodes ≡ other.nodes → project plan g run ≡ project other g that
     → (a b : NodeId) → a.number < plan.nodes → b.number < plan.nodes → seen_in plan run v g a b ≡ seen_in other that w g a b

@@ -32,13 +32,14 @@ use Rattle.gb_groups.specs.SlotsValue.{Row, row_at, AreApart}
 use Rattle.gb_groups.specs.AtAddress.{place_of, group_reply}
 use Rattle.gb_frame.specs.Items.{items_for, item_for}
 use Rattle.gb_groups.specs.OneGroup.{EachGroup, StayApart}
+use Rattle.gb_table.specs.TableValue.{TableValue, new_table}
 use Rattle.gb_table.specs.Requests.{is_admitted, admitted_reply, table_reply}
 use Rattle.gb_node.specs.NodeValue.{NodeValue, IsNodePlan}
 use Rattle.gb_node.specs.NodeStep.{turn, running_turn, window_to, receiver_from, content_to, next_batch, pack_content, is_here, if_here, taken_answer, good_of, fate, kind_of, IsTurn, IsSpelt, IsStarved}
 use Rattle.gb_node.specs.Past.{Happened, ComesTo, read, packet_in, is_first, watched, tenants_in}
 use Rattle.gb_node.specs.PastGroups.{Told, noticed_in, shown_in, told_of}
 use Rattle.gb_node.specs.PastLaw.{IsOfPast}
-use Rattle.gb_node.specs.StepLaw.{past_table, is_admitted_by, group_answer, admitted_answer, past_answer, IsAsked, IsPacked, IsTakenIn, IsTicked, IsAnswered, AnswersSay}
+use Rattle.gb_node.specs.StepLaw.{is_admitted_by, group_answer, admitted_answer, past_answer, IsAsked, IsPacked, IsTakenIn, IsTicked, IsAnswered, AnswersSay}
 use Rattle.gb_node.specs.declared.plan.NodePlan.{NodePlan}
 use Rattle.gb_node.specs.declared.answer.Good.{Good}
 use Rattle.gb_node.specs.declared.answer.Frame.TheVariants.{Nothing as NoFrame}
@@ -56,6 +57,11 @@ use Rattle.gb_node.proofs.SentLemmas.{acts, sends, says, batch_another, other_nu
 use Rattle.gb_node.proofs.ToldLemmas.{SlotLaws, reply_is}
 
 -- Requests.
+
+-- the table that a past makes, but for its groups
+abbrev past_table : NodePlan → List Happened → TableValue
+past_table plan past = record (new_table plan.me plan.nodes plan.places plan.admin_key) { tenants = tenants_in past }
+
 module _ (plan : NodePlan) (past : List Happened) (v : NodeValue) (was : IsOfPast plan past v) where
   table_is : v.table ≡ record (past_table plan past) { groups = v.table.groups }
   table_is = λ i. record { me = was.beside.me i; nodes = was.beside.nodes i; places = was.beside.places i; admin_key = was.beside.admin_key i; tenants = was.beside.tenants i; groups = v.table.groups }
@@ -76,13 +82,7 @@ module _ (plan : NodePlan) (past : List Happened) (v : NodeValue) (was : IsOfPas
       there (Some p) = refl
 
   may_is : (r : Request) → is_admitted r (record (past_table plan past) { groups = v.table.groups }) ≡ is_admitted_by plan past r
-  may_is (AddTenant token row) = refl
-  may_is (Make token addr spec) = refl
-  may_is (OpenGroup token addr) = refl
-  may_is (ShutGroup token addr) = refl
-  may_is (DropGroup token addr) = refl
-  may_is (Say token addr payload) = refl
-  may_is (Fetch token addr from most) = refl
+  may_is r = refl
 
   admitted_is : (r : Request) → admitted_reply r (record (past_table plan past) { groups = v.table.groups }) ≡ admitted_answer plan past r
   admitted_is (AddTenant token row) = refl

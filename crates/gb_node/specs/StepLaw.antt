@@ -13,8 +13,7 @@ use Rattle.gb_frame.specs.Packet.{Content}
 use Rattle.gb_rules.specs.Group.{Shown, open_answer, shut_answer, drop_answer, say_answer, fetch_answer}
 use Rattle.gb_rules.specs.Tenant.{reserve_of, row_of, reserved, tenant_answer, make_answer, by_tenant}
 use Rattle.gb_frame.specs.Items.{items_for, item_for}
-use Rattle.gb_table.specs.TableValue.{TableValue, new_table}
-use Rattle.gb_table.specs.Requests.{is_admitted}
+use Rattle.gb_table.specs.Admission.{has_group_token, has_token}
 use Rattle.gb_node.specs.NodeValue.{NodeValue}
 use Rattle.gb_node.specs.NodeStep.{RequestTakesMemory}
 use Rattle.gb_node.specs.Past.{Happened, ComesTo, read, is_first, is_taken, tenants_in, is_stopped}
@@ -31,13 +30,13 @@ use Rattle.gb_node.specs.declared.plan.NodePlan.{NodePlan}
 
 -- Requests.
 
--- the table that a past makes, but for its groups
-abbrev pub past_table : NodePlan → List Happened → TableValue
-past_table plan past = record (new_table plan.me plan.nodes plan.places plan.admin_key) { tenants = tenants_in past }
-
 -- the request has the token that it needs after this past
 abbrev pub is_admitted_by : NodePlan → List Happened → Request → Bool
-is_admitted_by plan past request = is_admitted request (past_table plan past)
+is_admitted_by plan past request = has_token plan.admin_key plan.me (tenants_in past) request
+
+-- a request that names a group has the group's token at the node a after this past
+abbrev pub has_group_token_by : NodeId → List Happened → Request → Bool
+has_group_token_by a past request = has_group_token a (tenants_in past) request
 
 -- the reply to a command on a group that may have been made, and dropped since
 abbrev pub group_answer : (Shown → Reply) → Option (Option Shown) → Reply

@@ -11,6 +11,7 @@ use std::io;
 use std::io::ErrorKind;
 use std::marker::Model;
 use std::net::{Ipv4Addr, Net, SocketAddr, SocketAddrV4, UdpSocket};
+use std::os::fd::{AsRawFd, RawFd};
 use thiserror::Error;
 
 /// Into how many bytes a packet is received: the longest packet and one byte more, so that a longer datagram is cut
@@ -112,6 +113,13 @@ impl UdpPort {
             base,
             failures: 0,
         })
+    }
+}
+
+impl UdpPort {
+    /// The socket's number at the system, by which it is waited for.
+    pub fn raw_fd(&self) -> RawFd {
+        self.socket.as_raw_fd()
     }
 }
 

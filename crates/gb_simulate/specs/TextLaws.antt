@@ -34,7 +34,7 @@ pub record IsLawful (plan : Plan) (run : List Did) (v : ClusterValue) : Type 0 w
   pub packets : (k : ℕ) (p : Posted) → slice_get v.packets k ≡ Some p → IsHonest plan run p
   pub whole : IsAlwaysWhole plan run
   pub links : (a b : NodeId) → IsLink plan run a b
-  pub groups : (g : Addr) → is_fed plan g run ≡ true → IsServed plan run v g
+  pub groups : (g : Addr) → is_fed g run ≡ true → IsServed plan run v g
 
 -- these lines are those of a run, of which all holds that a cluster promises; or they ask for nothing
 abbrev pub TellsLawfulRun : List (List ℕ) → List ℕ → Option ClusterValue → Type 0

@@ -21,7 +21,7 @@ use Rattle.gb_types.proofs.BoolLemmas.{or_sides}
 use Rattle.gb_cap.specs.Token.{token_of}
 use Rattle.gb_cap.specs.declared.token.Need.TheVariants.{Member}
 use Rattle.gb_table.specs.Kept.{rows_of, AreKeyed, IsMemberToken, AreMemberTokens}
-use Rattle.gb_table.specs.Requests.{is_by_row}
+use Rattle.gb_table.specs.Admission.{is_by_row}
 use Rattle.gb_table.specs.Within.{IsWithin}
 
 eq-sym : (a b : ℕ) → nat_eq a b ≡ nat_eq b a

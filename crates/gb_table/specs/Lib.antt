@@ -3,3 +3,4 @@ pub mod Requests
 pub mod Kept
 pub mod Within
 pub mod OwnNode
+pub mod Admission

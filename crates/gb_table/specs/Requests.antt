@@ -1,5 +1,5 @@
 -- What a node's table answers to requests, and what they do.
-use Rattle.std.specs.Prelude.{◌≡◌, ℕ, Bool, false, List, [], ◌∷◌, ◌++◌, bytes_eq, Option, Some, None, is_some, if◌then◌else◌}
+use Rattle.std.specs.Prelude.{◌≡◌, ℕ, Bool, List, [], ◌∷◌, ◌++◌, Option, Some, None, is_some, if◌then◌else◌}
 use Rattle.std.specs.Ordering.{nat_cmp}
 use Rattle.std.specs.FinSet as set
 use Rattle.gb_types.specs.declared.refusal.Refusal.TheVariants.{Denied}
@@ -7,40 +7,22 @@ use Rattle.gb_types.specs.declared.reply.Reply.{Reply}
 use Rattle.gb_types.specs.declared.reply.Reply.TheVariants.{Done, Said, Refused}
 use Rattle.gb_types.specs.declared.request.Request.{Request}
 use Rattle.gb_types.specs.declared.request.Request.TheVariants.{AddTenant, Make, OpenGroup, ShutGroup, DropGroup, Say, Fetch}
-use Rattle.gb_types.specs.declared.spec.TenantRow.{TenantRow}
-use Rattle.gb_cap.specs.Token.{token_of}
 use Rattle.gb_cap.specs.declared.token.Need.{Need}
-use Rattle.gb_cap.specs.declared.token.Need.TheVariants.{Admin, Tenant, Member}
 use Rattle.gb_rules.specs.Group.{open_answer, shut_answer, drop_answer, say_answer, fetch_answer}
 use Rattle.gb_rules.specs.Replied.{IsReply}
 use Rattle.gb_rules.specs.Tenant.{row_of, reserved, tenant_answer, make_answer, by_tenant}
 use Rattle.gb_rules.specs.declared.phase.Phase.TheVariants.{Opened, Shut}
 use Rattle.gb_slot.specs.Slot.{new_slot, slot_moved, slot_said}
 use Rattle.gb_groups.specs.AtAddress.{place_of, on_address, drop_at, group_reply}
+use Rattle.gb_table.specs.Admission.{is_by_row, has_token}
 use Rattle.gb_table.specs.TableValue.{TableValue, with_rows, reserve_for}
-
--- the token is the one for the need under the key
-abbrev pub is_token : List ℕ → Need → List ℕ → Bool
-is_token key need token = bytes_eq token (token_of key need)
-
--- the same under the key of a tenant that may be here
-abbrev pub is_by_row : Need → List ℕ → Option TenantRow → Bool
-is_by_row need token None = false
-is_by_row need token (Some row) = is_token row.key need token
 
 abbrev pub is_by_tenant : ℕ → Need → List ℕ → TableValue → Bool
 is_by_tenant tenant need token t = is_by_row need token (row_of tenant t.tenants)
 
--- Tenants are added with the administrator's token, groups are made, opened, shut and dropped with their tenant's, and a member says and
--- fetches with its own at this node.
+-- the request has the token that it needs
 abbrev pub is_admitted : Request → TableValue → Bool
-is_admitted (AddTenant token row) t = is_token t.admin_key Admin token
-is_admitted (Make token addr spec) t = is_by_tenant addr.tenant (Tenant addr.tenant) token t
-is_admitted (OpenGroup token addr) t = is_by_tenant addr.tenant (Tenant addr.tenant) token t
-is_admitted (ShutGroup token addr) t = is_by_tenant addr.tenant (Tenant addr.tenant) token t
-is_admitted (DropGroup token addr) t = is_by_tenant addr.tenant (Tenant addr.tenant) token t
-is_admitted (Say token addr payload) t = is_by_tenant addr.tenant (Member addr.tenant addr.group t.me) token t
-is_admitted (Fetch token addr from most) t = is_by_tenant addr.tenant (Member addr.tenant addr.group t.me) token t
+is_admitted request t = has_token t.admin_key t.me t.tenants request
 
 -- the place of the group that a member speaks to or reads
 abbrev pub place_for : Request → TableValue → Option ℕ

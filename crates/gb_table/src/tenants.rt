@@ -3,7 +3,7 @@ ghost use Rattle.std.specs.Prelude.{◌≡◌, ◌++◌, ◌∷◌, ◌+◌, ◌
 ghost use Rattle.gb_types.specs.declared.limits.TheConstants.{PLACES};
 ghost use Rattle.gb_cap.specs.Token.{token_of};
 ghost use Rattle.gb_rules.specs.Tenant.{row_of, reserved};
-ghost use Rattle.gb_table.specs.Requests.{is_token, is_by_row};
+ghost use Rattle.gb_table.specs.Admission.{is_token, is_by_row};
 
 use gb_cap::hmac::HmacKey;
 use gb_cap::token::{Need, Token};

@@ -7,3 +7,4 @@ pub mod CountLemmas
 pub mod NoticesLemmas
 pub mod AskedLemmas
 pub mod RunLemmas
+pub mod RefusedLemmas

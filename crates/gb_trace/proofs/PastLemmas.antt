@@ -44,11 +44,11 @@ pub as_long : {X : Type 0} (f : List Happened → List X) (a : NodeId) (ds : Lis
 as_long f a ds i d was lt is at so = so ∙ ap f (sym (elsewhere a ds i d lt is at))
 
 -- the replies at a node, before anything happened and with one thing more
-pub no_replies : (plan : NodePlan) (g : Addr) (a : NodeId) → replies_in plan g (past_in a []) ≡ []
+pub no_replies : (me : NodeId) (g : Addr) (a : NodeId) → replies_in me g (past_in a []) ≡ []
 unfolding replies_in past_at
 no_replies plan g a = refl
 
-pub replies_more : (plan : NodePlan) (g : Addr) (h : Happened) (past : List Happened) → replies_in plan g (h ∷ past) ≡ replies_in plan g past ++ reply_in plan g past h.event h.answer
+pub replies_more : (me : NodeId) (g : Addr) (h : Happened) (past : List Happened) → replies_in me g (h ∷ past) ≡ replies_in me g past ++ reply_in me g past h.event h.answer
 unfolding replies_in
 replies_more plan g h past = refl
 

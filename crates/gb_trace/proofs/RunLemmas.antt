@@ -1,6 +1,9 @@
 -- A run that goes on by one more event.
 use Rattle.std.proofs.Common.{◌≡◌, ℕ, zero, suc, ◌+◌, ◌<◌, ◌≤◌, true, false, Bool, List, [], ◌∷◌, ◌++◌, length, take, get_or, Option, Some, None, refl, sym, ap, subst, ◌∙◌, arith, add-one, append_assoc, length-append}
-use Rattle.std.specs.Prelude.{slice_get, option_map, reverse, All, MatchBool}
+use Rattle.std.specs.Prelude.{slice_get, option_map, reverse, All, MatchBool, not, ◌&&◌}
+use Rattle.std.specs.List.{list_any}
+use Rattle.std.proofs.lemmas.Bool.{and_parts}
+use Rattle.gb_types.proofs.BoolLemmas.{and_both, or_left, or_right}
 use Rattle.std.proofs.lemmas.List.{append-nil, reverse-append, take_all, take_more}
 use Rattle.std.proofs.lemmas.List.Elements.{All-append, All-get_or}
 use Rattle.gb_types.specs.declared.node.NodeId.{NodeId}
@@ -18,11 +21,14 @@ use Rattle.gb_cluster.specs.ClusterStep.{posted, answer_of, packet_numbered, is_
 use Rattle.gb_cluster.specs.ClusterValue.{ClusterValue, node_at, new_cluster}
 use Rattle.gb_cluster.specs.Run.{Did, ComesTo, IsSent}
 use Rattle.gb_cluster.specs.declared.answer.Answer.{Answer}
-use Rattle.gb_cluster.specs.declared.answer.Answer.TheVariants.{NotNoise}
+use Rattle.gb_cluster.specs.declared.answer.Answer.TheVariants.{Reply as AnswerReply, Taken as AnswerTaken, Sent as AnswerSent, Ticked as AnswerTicked, Halted as AnswerHalted, NoPacket, NotNoise}
+use Rattle.gb_cluster.specs.declared.answer.Sending.TheVariants.{Packet as SendingPacket, Nothing as SendingNothing, Refused as SendingRefused}
 use Rattle.gb_cluster.specs.declared.event.Event.{Event}
 use Rattle.gb_cluster.specs.declared.event.Event.TheVariants.{At, Arrive}
 use Rattle.gb_types.specs.declared.plan.Plan.{Plan}
 use Rattle.gb_cluster.specs.declared.posted.Posted.{Posted}
+use Rattle.gb_isolation.specs.Isolation.{wants_memory, is_ample}
+use Rattle.gb_trace.specs.Run.{is_refused_by, is_starved}
 use Rattle.gb_trace.specs.Trace.{own_answer, did_with, did_arrive, did_in, all_did, AreSteps, IsRun}
 
 -- Packets by their numbers.
@@ -234,3 +240,47 @@ placed_none n es k d lt = absurd (omega arith)
 
 pub placed_each : (n : ℕ) (es : List Event) (i : ℕ) (e : Event) → i < length es → e ≡ get_or es i e → All (IsPlaced n) es → IsPlaced n e
 placed_each n es i e lt is all = subst (IsPlaced n) (sym is) (All-get_or (IsPlaced n) es i e lt all)
+
+-- Where no answer lacks memory, nothing that happened does.
+
+refused_as : (packets : List Posted) (answer : Answer) → is_refused_by (own_answer packets answer) ≡ is_starved answer
+refused_as packets (AnswerReply reply) = refl
+refused_as packets (AnswerTaken taken) = refl
+refused_as packets (AnswerSent (SendingPacket k)) = by (packet_numbered packets k) ∙ sym (by (packet_numbered [] k))
+  where
+    by : (o : Option Posted) → is_refused_by (option_map Sent (option_map (λ (p : Posted). SentPacket p.text) o)) ≡ false
+    by None = refl
+    by (Some p) = refl
+refused_as packets (AnswerSent SendingNothing) = refl
+refused_as packets (AnswerSent (SendingRefused why)) = refl
+refused_as packets (AnswerTicked ticked) = refl
+refused_as packets (AnswerHalted halted) = refl
+refused_as packets NoPacket = refl
+refused_as packets NotNoise = refl
+
+ample_append : (xs ys : List Did) → is_ample xs ≡ true → is_ample ys ≡ true → is_ample (xs ++ ys) ≡ true
+unfolding is_ample
+ample_append [] ys a b = b
+ample_append (x ∷ xs) ys a b = let parts = and_parts (not (wants_memory x.answer)) (is_ample xs) a in and_both parts.0 (ample_append xs ys parts.1 b)
+
+ample_did : (a : NodeId) (event : NodeEvent) (own : Option NodeAnswer) → is_refused_by own ≡ false → is_ample (reverse (did_with a event own)) ≡ true
+unfolding is_ample
+ample_did a event None none = refl
+ample_did a event (Some answer) none = ap (λ b. not b && true) none
+
+ample_in : (packets : List Posted) (event : Event) (answer : Answer) → is_starved answer ≡ false → is_ample (reverse (did_in packets event answer)) ≡ true
+unfolding is_ample
+ample_in packets (At a event) answer none = ample_did a event (own_answer packets answer) (refused_as packets answer ∙ none)
+ample_in packets (Arrive k) answer none = by (packet_numbered packets k)
+  where
+    by : (o : Option Posted) → is_ample (reverse (did_arrive o (own_answer packets answer))) ≡ true
+    by None = refl
+    by (Some p) = ample_did p.to (Came p.text) (own_answer packets answer) (refused_as packets answer ∙ none)
+
+pub ample : (packets : List Posted) (events : List Event) (answers : List Answer) → list_any is_starved answers ≡ false → is_ample (reverse (all_did packets events answers)) ≡ true
+unfolding is_ample all_did
+ample packets [] answers none = refl
+ample packets (e ∷ events) [] none = refl
+ample packets (e ∷ events) (a ∷ answers) none =
+    ap is_ample (reverse-append (did_in packets e a) (all_did packets events answers))
+    ∙ ample_append (reverse (all_did packets events answers)) (reverse (did_in packets e a)) (ample packets events answers (or_right (is_starved a) (list_any is_starved answers) none)) (ample_in packets e a (or_left (is_starved a) (list_any is_starved answers) none))

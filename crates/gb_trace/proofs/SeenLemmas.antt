@@ -24,7 +24,7 @@ take_front xs ys = take-append-le (length xs) xs ys (omega arith) ∙ take_all (
 
 pub seen_alone_too : IsolatedGroupsAreSeenAlone
 seen_alone_too plan run v g few alike =
-    seen_same plan.nodes (λ a. replies_in (node_plan plan (node_numbered a)) g (past_at (node_numbered a) run)) (λ a. (group a).replies)
+    seen_same plan.nodes (λ a. replies_in (node_numbered a) g (past_at (node_numbered a) run)) (λ a. (group a).replies)
     (λ a b. items_of g (frames_to plan.cluster_key b (past_at (node_numbered a) run))) (λ a b. take ((group a).taken b) ((group a).put b))
     replied taken
   where
@@ -37,7 +37,7 @@ seen_alone_too plan run v g few alike =
     inside : (a : ℕ) → a < plan.nodes → (node_numbered a).number < plan.nodes
     inside a lt = subst (λ n. n < plan.nodes) (sym (is a lt)) lt
 
-    replied : (a : ℕ) → a < plan.nodes → replies_in (node_plan plan (node_numbered a)) g (past_at (node_numbered a) run) ≡ (group a).replies
+    replied : (a : ℕ) → a < plan.nodes → replies_in (node_numbered a) g (past_at (node_numbered a) run) ≡ (group a).replies
     replied a lt =
         ap (λ (s : Seen). s.replies) (alike.same (node_numbered a) (node_numbered a) (inside a lt) (inside a lt)) ∙ ap (λ n. (group n).replies) (is a lt)
 

@@ -3,3 +3,4 @@ pub mod Deeds
 pub mod Counts
 pub mod Observed
 pub mod Run
+pub mod Refused

@@ -21,7 +21,7 @@ use Rattle.gb_trace.specs.Trace.{run_of, IsRun}
 -- at a node: the replies to the group's commands, and for each node the items that were packed for it
 abbrev pub observed_at : Plan → Addr → List Did → NodeId → SeenAt
 observed_at plan g run a = record {
-  replies = replies_in (node_plan plan a) g (past_at a run);
+  replies = replies_in a g (past_at a run);
   carried = map (λ b. items_of g (frames_to plan.cluster_key b (past_at a run))) (numbers_below plan.nodes);
 }
 
@@ -37,5 +37,5 @@ IsolatedGroupsAreSeenAlone = (plan : Plan) (run : List Did) (v : ClusterValue) (
 abbrev pub FedGroupsAreSeenAlone : Type 0
 FedGroupsAreSeenAlone =
     (plan : Plan) (events : List Event) (answers : List Answer) (packets : List Posted) (v : ClusterValue) → IsRun plan events answers packets v
-    → (g : Addr) → is_fed plan g (run_of events answers packets) ≡ true → (steps : List GroupStep) → steps ≡ project plan g (run_of events answers packets)
+    → (g : Addr) → is_fed g (run_of events answers packets) ≡ true → (steps : List GroupStep) → steps ≡ project plan g (run_of events answers packets)
     → IsLegal plan.nodes g.group steps × (observed plan g (run_of events answers packets) ≡ observed_alone plan.nodes (alone plan.nodes g.group steps))

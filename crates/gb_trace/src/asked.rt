@@ -10,7 +10,7 @@ ghost use Rattle.gb_trace.specs.Deeds.{past_in};
 
 use crate::deed::Deed;
 use crate::noticed::add_noticed;
-use crate::past::{is_own, made, was_met, was_stopped};
+use crate::past::{is_own_request, made, was_met, was_stopped};
 use crate::steps::{add, at};
 use gb_alone::event::{GroupEvent, GroupStep};
 use gb_cap::hmac::HmacKey;
@@ -101,7 +101,7 @@ fn of_running(
     ensures { OnOk result (steps.new.items ≡ steps.old.items ++ requested (node_plan plan.now a) addr (past_in a before.now) request.now reply.now) }
 {
     add(tenant(addr, a, request, reply), steps)?;
-    if is_own(plan, addr, a, before, request) {
+    if is_own_request(addr, a, before, request) {
         of_own(alloc, plan, addr, key, before, a, request, reply, steps)?;
     }
     Ok(())
@@ -120,17 +120,16 @@ fn add_stop(a: NodeId, met: bool, steps: &mut Vec<GroupStep>) -> Result<(), OutO
 /// Adds what a request of the group gives it at a node that has stopped: the first of them shows the stop.
 fn of_stopped(
     alloc: Global,
-    plan: &Plan,
     addr: Addr,
     before: &[Deed],
     a: NodeId,
     request: &Request,
     steps: &mut Vec<GroupStep>,
 ) -> Result<(), OutOfMemory>
-    ensures { OnOk result (steps.new.items ≡ steps.old.items ++ with_stop a (is_met (node_plan plan.now a) addr (past_in a before.now)) (command_for addr a request.now)) }
+    ensures { OnOk result (steps.new.items ≡ steps.old.items ++ with_stop a (is_met a addr (past_in a before.now)) (command_for addr a request.now)) }
 {
     if let Some(step) = command(alloc, a, request)? {
-        add_stop(a, was_met(plan, addr, a, before), steps)?;
+        add_stop(a, was_met(addr, a, before), steps)?;
         steps.push(step)?;
     }
     Ok(())
@@ -156,8 +155,8 @@ pub(crate) fn of_request(
     if !was_stopped(a, before) {
         return of_running(alloc, plan, addr, key, before, a, request, reply, steps);
     }
-    if is_own(plan, addr, a, before, request) {
-        return of_stopped(alloc, plan, addr, before, a, request, steps);
+    if is_own_request(addr, a, before, request) {
+        return of_stopped(alloc, addr, before, a, request, steps);
     }
     Ok(())
 }

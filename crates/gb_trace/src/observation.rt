@@ -4,14 +4,13 @@ ghost use Rattle.gb_types.specs.declared.limits.TheConstants.{NODES as MOST};
 ghost use Rattle.gb_alone.specs.Observation.{numbers_below};
 ghost use Rattle.gb_node.specs.NodeStep.{node_numbered};
 ghost use Rattle.gb_node.specs.Past.{packed_for, frames_to};
-ghost use Rattle.gb_cluster.specs.ClusterValue.{node_plan};
 ghost use Rattle.gb_isolation.specs.Project.{items_of, reply_in, replies_in};
 ghost use Rattle.gb_trace.specs.Deeds.{past_in};
 ghost use Rattle.gb_trace.specs.Observed.{observed, observed_at};
 ghost use Rattle.gb_trace.specs.Trace.{run_of};
 
 use crate::deed::{Deed, deeds_of};
-use crate::past::is_own;
+use crate::past::is_own_request;
 use crate::reading::{add_items, packed};
 use crate::trace::Trace;
 use gb_alone::observation::{NodeSeen, Observation};
@@ -30,14 +29,13 @@ use std::alloc::Global;
 /// Adds a copy of the reply that this brings to the group at the node, after what happened before.
 fn add_reply(
     alloc: Global,
-    plan: &Plan,
     addr: Addr,
     a: NodeId,
     before: &[Deed],
     deed: &Deed,
     replies: &mut Vec<Reply>,
 ) -> Result<(), OutOfMemory>
-    ensures { OnOk result (replies.new.items ≡ replies.old.items ++ reply_in (node_plan plan.now a) addr (past_in a before.now) deed.now.event deed.now.answer) }
+    ensures { OnOk result (replies.new.items ≡ replies.old.items ++ reply_in a addr (past_in a before.now) deed.now.event deed.now.answer) }
 {
     let NodeEvent::Request(request) = deed.event() else {
         return Ok(());
@@ -45,7 +43,7 @@ fn add_reply(
     let NodeAnswer::Reply(reply) = deed.answer() else {
         return Ok(());
     };
-    if is_own(plan, addr, a, before, request) {
+    if is_own_request(addr, a, before, request) {
         replies.push(reply.duplicate(alloc)?)?;
     }
     Ok(())
@@ -54,18 +52,17 @@ fn add_reply(
 /// The replies to the group's commands at the node.
 fn replies_at(
     alloc: Global,
-    plan: &Plan,
     addr: Addr,
     a: NodeId,
     deeds: &[Deed],
 ) -> Result<Vec<Reply>, OutOfMemory>
-    ensures { IfOk result (λ v. v.items ≡ replies_in (node_plan plan.now a) addr (past_in a deeds.now)) }
+    ensures { IfOk result (λ v. v.items ≡ replies_in a addr (past_in a deeds.now)) }
 {
     let mut replies = Vec::new(alloc);
     for i in 0..deeds.len() {
         let deed = &deeds[i];
         if deed.is_at(a) {
-            add_reply(alloc, plan, addr, a, &deeds[..i], deed, &mut replies)?;
+            add_reply(alloc, addr, a, &deeds[..i], deed, &mut replies)?;
         }
     }
     Ok(replies)
@@ -143,7 +140,7 @@ fn seen_at(
     requires key { key.now ≡ plan.now.cluster_key }
     ensures { IfOk result (λ s. s ≡ observed_at plan.now addr (reverse deeds.now) a) }
 {
-    let replies = replies_at(alloc, plan, addr, a, deeds)?;
+    let replies = replies_at(alloc, addr, a, deeds)?;
     let carried = items_from(alloc, addr, key, plan.nodes, a, deeds)?;
     Ok(NodeSeen::new(replies, carried))
 }

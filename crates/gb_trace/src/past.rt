@@ -2,13 +2,12 @@
 ghost use Rattle.std.specs.Prelude.{◌≡◌};
 ghost use Rattle.std.specs.Option.{option_copied};
 ghost use Rattle.gb_rules.specs.Tenant.{row_of};
-ghost use Rattle.gb_table.specs.Requests.{is_by_row};
+ghost use Rattle.gb_table.specs.Admission.{is_by_row};
 ghost use Rattle.gb_node.specs.Past.{added, tenants_in, is_stopped};
 ghost use Rattle.gb_node.specs.Past as occurred;
-ghost use Rattle.gb_node.specs.StepLaw.{is_admitted_by};
+ghost use Rattle.gb_node.specs.StepLaw.{has_group_token_by};
 ghost use Rattle.gb_node.specs.declared.answer.NodeAnswer.TheVariants.{Reply as Replied};
 ghost use Rattle.gb_node.specs.declared.event.NodeEvent.TheVariants.{Request as Asked};
-ghost use Rattle.gb_cluster.specs.ClusterValue.{node_plan};
 ghost use Rattle.gb_isolation.specs.Project as projected;
 ghost use Rattle.gb_trace.specs.Deeds.{past_in};
 
@@ -19,7 +18,6 @@ use gb_node::event::NodeEvent;
 use gb_rules::address::is_same;
 use gb_types::address::Addr;
 use gb_types::node::NodeId;
-use gb_types::plan::Plan;
 use gb_types::reply::Reply;
 use gb_types::request::Request;
 use gb_types::spec::{Spec, TenantRow};
@@ -83,12 +81,12 @@ fn is_token(need: Need, token: &Token, row: Option<&TenantRow>) -> bool
     }
 }
 
-/// Whether the request has the token that it needs at the node.
-pub(crate) fn is_admitted(plan: &Plan, a: NodeId, deeds: &[Deed], request: &Request) -> bool
-    ensures { result ≡ is_admitted_by (node_plan plan.now a) (past_in a deeds.now) request.now }
+/// Whether the request names a group, with the token of the group's tenant or of its member at the node.
+fn has_group_token(a: NodeId, deeds: &[Deed], request: &Request) -> bool
+    ensures { result ≡ has_group_token_by a (past_in a deeds.now) request.now }
 {
     let (token, addr, need) = match request {
-        Request::AddTenant(token, _) => return admits(&plan.admin_key, Need::Admin, token),
+        Request::AddTenant(_, _) => return false,
         Request::Make(token, addr, _) => (token, addr, Need::Tenant(addr.tenant)),
         Request::OpenGroup(token, addr) => (token, addr, Need::Tenant(addr.tenant)),
         Request::ShutGroup(token, addr) => (token, addr, Need::Tenant(addr.tenant)),
@@ -102,10 +100,10 @@ pub(crate) fn is_admitted(plan: &Plan, a: NodeId, deeds: &[Deed], request: &Requ
 }
 
 /// Whether the request is one of the group at the node: it names the group, with the token that it needs.
-pub(crate) fn is_own(plan: &Plan, addr: Addr, a: NodeId, deeds: &[Deed], request: &Request) -> bool
-    ensures { result ≡ projected.is_own (node_plan plan.now a) addr (past_in a deeds.now) request.now }
+pub(crate) fn is_own_request(addr: Addr, a: NodeId, deeds: &[Deed], request: &Request) -> bool
+    ensures { result ≡ projected.is_own_request a addr (past_in a deeds.now) request.now }
 {
-    is_named(addr, request) && is_admitted(plan, a, deeds, request)
+    is_named(addr, request) && has_group_token(a, deeds, request)
 }
 
 /// Whether the node stopped by this.
@@ -137,8 +135,8 @@ pub(crate) fn was_stopped(a: NodeId, deeds: &[Deed]) -> bool
 }
 
 /// Whether this, after what happened before, is a request of the group at the node, which has stopped.
-fn meets(plan: &Plan, addr: Addr, a: NodeId, before: &[Deed], deed: &Deed) -> bool
-    ensures { result ≡ projected.is_met_by (node_plan plan.now a) addr (past_in a before.now) deed.now.event deed.now.answer }
+fn meets(addr: Addr, a: NodeId, before: &[Deed], deed: &Deed) -> bool
+    ensures { result ≡ projected.is_met_by a addr (past_in a before.now) deed.now.event deed.now.answer }
 {
     let NodeEvent::Request(request) = deed.event() else {
         return false;
@@ -146,19 +144,19 @@ fn meets(plan: &Plan, addr: Addr, a: NodeId, before: &[Deed], deed: &Deed) -> bo
     let NodeAnswer::Reply(_) = deed.answer() else {
         return false;
     };
-    was_stopped(a, before) && is_own(plan, addr, a, before, request)
+    was_stopped(a, before) && is_own_request(addr, a, before, request)
 }
 
 /// Whether a request of the group met the node's stop.
 #[tactic(auto, using(crate::proofs::PastLemmas::here, crate::proofs::PastLemmas::elsewhere, crate::proofs::PastLemmas::whole), unfolding(gb_isolation::specs::Project::is_met, gb_cluster::specs::Run::past_at))]
-pub(crate) fn was_met(plan: &Plan, addr: Addr, a: NodeId, deeds: &[Deed]) -> bool
-    ensures { result ≡ projected.is_met (node_plan plan.now a) addr (past_in a deeds.now) }
+pub(crate) fn was_met(addr: Addr, a: NodeId, deeds: &[Deed]) -> bool
+    ensures { result ≡ projected.is_met a addr (past_in a deeds.now) }
 {
     let mut met = false;
     for i in 0..deeds.len() {
         let deed = &deeds[i];
         if deed.is_at(a) {
-            met = meets(plan, addr, a, &deeds[..i], deed) || met;
+            met = meets(addr, a, &deeds[..i], deed) || met;
         }
     }
     met

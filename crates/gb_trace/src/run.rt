@@ -4,13 +4,13 @@ ghost use Rattle.std.specs.List.{list_any};
 ghost use Rattle.gb_cluster.specs.ClusterStep.{IsPlaced};
 ghost use Rattle.gb_cluster.specs.ClusterValue.{ClusterValue, IsClusterPlan};
 ghost use Rattle.gb_trace.specs.Trace.{IsRun};
-ghost use Rattle.gb_trace.specs.Run.{is_starved, IsIsolatedRun};
+ghost use Rattle.gb_trace.specs.Run.{is_starved, IsIsolatedRun, IsAmpleRun};
 
 use crate::trace::Trace;
 use gb_cluster::answer::{Answer, Sending};
 use gb_cluster::cluster::Cluster;
 use gb_cluster::event::Event;
-use gb_isolation::laws::groups_are_isolated;
+use gb_isolation::laws::{ample_runs_feed_all, groups_are_isolated};
 use gb_node::answer::{Halted, PacketAnswer, Ticked};
 use gb_node::past::packets_say;
 use gb_types::memory::OutOfMemory;
@@ -64,15 +64,16 @@ pub fn are_placed(nodes: usize, events: &[Event]) -> bool
 }
 
 /// A whole run: what a cluster that is started with the plan answers to these events, one after the other. Each group of
-/// which no request was refused for want of memory is in it what it is alone. `Err` says that there was no memory to keep
-/// the run; a node's want of memory is an answer.
+/// which no request was refused for lack of memory is in it what it is alone; where `refused` is false, every group is. `Err` says
+/// that there was no memory to keep the run; that a node lacks memory is an answer.
 pub fn run(alloc: Global, plan: Plan, events: &[Event]) -> Result<Trace, OutOfMemory>
     requires plan { IsClusterPlan plan }
     requires placed { All (IsPlaced plan.nodes) events.now }
-    ensures run { IfOk result (λ t. (v : ClusterValue) × IsRun plan events.now t.answers.items t.packets.items v × IsIsolatedRun plan events.now t.answers.items t.packets.items v) }
+    ensures run { IfOk result (λ t. (v : ClusterValue) × IsRun plan events.now t.answers.items t.packets.items v × IsIsolatedRun plan events.now t.answers.items t.packets.items v × IsAmpleRun plan events.now t.answers.items t.packets.items v t.refused) }
     ensures refused { IfOk result (λ t. t.refused ≡ list_any is_starved t.answers.items) }
 {
     groups_are_isolated();
+    ample_runs_feed_all();
     packets_say();
     let mut cluster = Cluster::start(alloc, &plan)?;
     let mut answers = Vec::with_capacity(alloc, events.len())?;

@@ -7,6 +7,8 @@ mod crash;
 #[cfg(test)]
 mod projected;
 #[cfg(test)]
+mod refused;
+#[cfg(test)]
 mod runs;
 #[cfg(test)]
 mod schedule;

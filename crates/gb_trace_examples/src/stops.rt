@@ -154,7 +154,7 @@ fn read_all(
 }
 
 /// The plan of a schedule, with its events added, if each of its lines spells a command in its place.
-fn read(
+pub fn read(
     alloc: Global,
     lines: &[&[u8]],
     events: &mut Vec<Event>,
@@ -311,7 +311,11 @@ fn is_right_trace(
 }
 
 /// The trace of these events, if a cluster may be started so and all is right in it.
-fn right_trace(alloc: Global, plan: Plan, events: &[Event]) -> Result<Option<Trace>, OutOfMemory> {
+pub fn right_trace(
+    alloc: Global,
+    plan: Plan,
+    events: &[Event],
+) -> Result<Option<Trace>, OutOfMemory> {
     if !is_plan(&plan) || !are_placed(usize::from(plan.nodes), events) {
         return Ok(None);
     }

@@ -14,5 +14,5 @@ returns-in_ok-push c =
 
 pub returns-in_default : goal.returns-in_default
 returns-in_default c =
-    none_shown c.args.a (is_met (node_plan c.args.plan.now c.args.a) c.args.addr (past_in c.args.a c.args.before.now)) c.args.steps.now.items (command_for c.args.addr c.args.a c.args.request.now)
+    none_shown c.args.a (is_met c.args.a c.args.addr (past_in c.args.a c.args.before.now)) c.args.steps.now.items (command_for c.args.addr c.args.a c.args.request.now)
     (sym (c.in_ok-step.ensures c.args.addr) ∙ ap option_to_list c.in_default.is)

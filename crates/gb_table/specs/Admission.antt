@@ -1,0 +1,34 @@
+-- Which token a request needs: a predicate over keys, tenants' rows and the node that is asked.
+use Rattle.std.specs.Prelude.{ℕ, Bool, false, List, bytes_eq, Option, Some, None}
+use Rattle.gb_types.specs.declared.node.NodeId.{NodeId}
+use Rattle.gb_types.specs.declared.request.Request.{Request}
+use Rattle.gb_types.specs.declared.request.Request.TheVariants.{AddTenant, Make, OpenGroup, ShutGroup, DropGroup, Say, Fetch}
+use Rattle.gb_types.specs.declared.spec.TenantRow.{TenantRow}
+use Rattle.gb_cap.specs.Token.{token_of}
+use Rattle.gb_cap.specs.declared.token.Need.{Need}
+use Rattle.gb_cap.specs.declared.token.Need.TheVariants.{Admin, Tenant, Member}
+use Rattle.gb_rules.specs.Tenant.{row_of}
+
+-- the token is the one for the need under the key
+abbrev pub is_token : List ℕ → Need → List ℕ → Bool
+is_token key need token = bytes_eq token (token_of key need)
+
+-- the same under the key of a tenant that may be here
+abbrev pub is_by_row : Need → List ℕ → Option TenantRow → Bool
+is_by_row need token None = false
+is_by_row need token (Some row) = is_token row.key need token
+
+-- a request that names a group comes with the token of the group's tenant, or, where it says or fetches, with that of the member at this node
+abbrev pub has_group_token : NodeId → List TenantRow → Request → Bool
+has_group_token me rows (AddTenant token row) = false
+has_group_token me rows (Make token addr spec) = is_by_row (Tenant addr.tenant) token (row_of addr.tenant rows)
+has_group_token me rows (OpenGroup token addr) = is_by_row (Tenant addr.tenant) token (row_of addr.tenant rows)
+has_group_token me rows (ShutGroup token addr) = is_by_row (Tenant addr.tenant) token (row_of addr.tenant rows)
+has_group_token me rows (DropGroup token addr) = is_by_row (Tenant addr.tenant) token (row_of addr.tenant rows)
+has_group_token me rows (Say token addr payload) = is_by_row (Member addr.tenant addr.group me) token (row_of addr.tenant rows)
+has_group_token me rows (Fetch token addr from most) = is_by_row (Member addr.tenant addr.group me) token (row_of addr.tenant rows)
+
+-- and one that adds a tenant with the administrator's
+abbrev pub has_token : List ℕ → NodeId → List TenantRow → Request → Bool
+has_token admin_key me rows (AddTenant token row) = is_token admin_key Admin token
+has_token admin_key me rows request = has_group_token me rows request

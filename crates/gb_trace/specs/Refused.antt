@@ -1,0 +1,22 @@
+-- For which groups a run says that they lacked memory.
+use Rattle.std.specs.Prelude.{Bool, true, false, ◌||◌, List, [], ◌∷◌, nat_eq}
+use Rattle.gb_types.specs.declared.address.Addr.{Addr}
+use Rattle.gb_types.specs.declared.refusal.Refusal.TheVariants.{OutOfMemory}
+use Rattle.gb_types.specs.declared.reply.Reply.TheVariants.{Refused}
+use Rattle.gb_types.specs.declared.request.Request.TheVariants.{AddTenant}
+use Rattle.gb_node.specs.declared.answer.NodeAnswer.{NodeAnswer}
+use Rattle.gb_node.specs.declared.answer.NodeAnswer.TheVariants.{Reply as Replied}
+use Rattle.gb_node.specs.declared.event.NodeEvent.{NodeEvent}
+use Rattle.gb_node.specs.declared.event.NodeEvent.TheVariants.{Request as Asked}
+use Rattle.gb_cluster.specs.Run.{Did, past_at}
+use Rattle.gb_isolation.specs.Project.{is_starved_by}
+
+-- a request that adds the group's tenant was refused for lack of memory
+abbrev pub is_untaken_by : Addr → NodeEvent → NodeAnswer → Bool
+is_untaken_by g (Asked (AddTenant token row)) (Replied (Refused OutOfMemory)) = nat_eq row.tenant g.tenant
+is_untaken_by g event answer = false
+
+-- in the run one was, or a request of the group
+unfoldable pub is_refused_for : Addr → List Did → Bool
+is_refused_for g [] = false
+is_refused_for g (d ∷ run) = (is_untaken_by g d.event d.answer || is_starved_by d.node g (past_at d.node run) d.event d.answer) || is_refused_for g run

@@ -1,0 +1,79 @@
+// Of which groups a refusal for lack of memory says that they need not be what they are alone.
+use crate::schedule::{FIRST, furnish, group_of, say, spec_with};
+use gb_cluster::answer::Answer;
+use gb_cluster::event::Event;
+use gb_trace::refused_for;
+use gb_trace::trace::Trace;
+use gb_types::kind::Kind;
+use gb_types::memory::OutOfMemory;
+use gb_types::node::NodeSet;
+use gb_types::refusal::Refusal;
+use gb_types::reply::Reply;
+use std::alloc::Global;
+use std::rt::HostRuntime;
+use std::test::Fail;
+
+/// Two tenants at the first node, each with a group, and a message of each.
+fn events(alloc: Global) -> Result<Vec<Event>, OutOfMemory> {
+    let mut events = Vec::new(alloc);
+    add_events(alloc, &mut events)?;
+    Ok(events)
+}
+
+fn add_events(alloc: Global, events: &mut Vec<Event>) -> Result<(), OutOfMemory> {
+    for tenant in [7, 8] {
+        let mut members = NodeSet::new();
+        members.insert(FIRST);
+        furnish(events, FIRST, tenant, spec_with(Kind::Beb, members))?;
+    }
+    say(alloc, events, FIRST, 7)?;
+    say(alloc, events, FIRST, 8)
+}
+
+/// The trace in which one of the events is refused for lack of memory, and all others are done.
+fn trace(alloc: Global, count: usize, refused: usize) -> Result<Trace, OutOfMemory> {
+    let mut answers = Vec::new(alloc);
+    for i in 0..count {
+        if i == refused {
+            answers.push(Answer::Reply(Reply::Refused(Refusal::OutOfMemory)))?;
+        } else {
+            answers.push(Answer::Reply(Reply::Done))?;
+        }
+    }
+    Ok(Trace {
+        answers,
+        packets: Vec::new(alloc),
+        refused: true,
+    })
+}
+
+/// Whether the groups of tenants 7 and 8 lacked memory where this event was refused.
+fn lack(alloc: Global, refused: usize) -> Result<(bool, bool), OutOfMemory> {
+    let events = events(alloc)?;
+    let trace = trace(alloc, events.len(), refused)?;
+    let seventh = refused_for(alloc, &events, &trace, group_of(7))?;
+    let eighth = refused_for(alloc, &events, &trace, group_of(8))?;
+    Ok((seventh, eighth))
+}
+
+/// An event that was refused, and which of the two groups lacked memory then: the first three events are of tenant 7, the
+/// next three of tenant 8, and then each says something.
+const CASES: [(usize, bool, bool); 8] = [
+    (0, true, false),
+    (1, true, false),
+    (2, true, false),
+    (3, false, true),
+    (4, false, true),
+    (5, false, true),
+    (6, true, false),
+    (7, false, true),
+];
+
+#[test]
+fn a_group_lacks_memory_where_its_own_requests_do(rt: HostRuntime) -> Result<(), Fail> {
+    for (refused, seventh, eighth) in CASES {
+        let found = lack(rt.alloc(), refused)?;
+        assert!(rt; found == (seventh, eighth));
+    }
+    Ok(())
+}
