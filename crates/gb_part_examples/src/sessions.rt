@@ -214,8 +214,8 @@ const THREE: &[u8] =
 const THREE_DENIED: &[u8] =
     b"\x00\x00\x00\x10refused 1 Denied\x00\x00\x00\x10refused 1 Denied\x00\x00\x00\x10refused 1 Denied";
 
-/// Whether a session of three requests in one read, whose writer takes so many bytes, asks so many of them, writes these bytes
-/// and ends at the write.
+/// Runs a session over one read of three requests, with a writer that has room for `space` bytes. Returns true if the session
+/// asked `asked` requests, filled that room with the start of `THREE_DENIED`, and ended with the fault `Write`.
 fn ends_behind(alloc: Global, space: usize, asked: u64) -> bool {
     let mut answers = Counts { asked: 0 };
     let mut out = with_space(alloc, space);

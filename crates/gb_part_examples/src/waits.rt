@@ -212,7 +212,8 @@ fn a_parked_fetch_is_tried_again(rt: HostRuntime) -> Result<(), Fail> {
     Ok(())
 }
 
-/// Takes a request, and then nothing more, with room for so many bytes, in a session that answers two messages.
+/// Runs a session that may answer two messages: two were put in before it starts, and a third comes with the first call. The room is
+/// 6, 6, 7 and then 1,000 bytes. Returns true if the first three calls end Full, the fourth at the Limit, and two requests were asked.
 fn is_full(alloc: Global) -> Result<bool, OutOfMemory> {
     let mut groups = Groups {
         alloc,

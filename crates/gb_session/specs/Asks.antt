@@ -65,7 +65,7 @@ IsBadAsk bytes = (BODY < said_length bytes)
 abbrev pub AsksNothing : List ℕ → Type 0
 AsksNothing bytes = (4 ≤ length bytes) × IsBadAsk bytes
 
--- a whole message stands in front, of so many bytes with its length, and asks this
+-- the bytes start with a whole message; it ends at `end` and asks `ask`
 pub record IsAskMessage (bytes : List ℕ) (ask : Ask) (end : ℕ) : Type 0 where
   pub end_is : end ≡ 4 + said_length bytes
   pub within : end ≤ length bytes

@@ -28,7 +28,7 @@ abbrev pub IsOutcome : Bool → Ask → List Request → List Reply → Outcome 
 IsOutcome is_late ask requests replies (Replied label reply) = SettlesBy is_late ask requests replies label reply
 IsOutcome is_late ask requests replies (Waits awaited) = (is_late ≡ false) × (ask ≡ Await awaited) × FindsNone awaited.places.items requests replies
 
--- the message in front, of so many bytes, was asked and is settled with this text
+-- the bytes start with a whole message that ends at `end`; what it asks was asked, and its reply is `text`
 abbrev pub SettlesFront : {S : Type 0} → (S → Request → Reply → S → Type 0) → Bool → S → S → List ℕ → ℕ → List ℕ → Type 0
 SettlesFront answers is_late s t bytes end text =
     (ask : Ask) × (requests : List Request) × (replies : List Reply) × IsAskMessage bytes ask end × IsRun answers s requests replies t

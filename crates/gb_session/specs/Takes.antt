@@ -22,7 +22,7 @@ pub record AnswersFront {S : Type 0} (answers : S → Request → Reply → S �
   pub runs : IsRun answers s requests replies t
   pub counted : n ≡ m + length settled.asks
 
--- a reply is written only while there is room: what stands before the last one is less than so many bytes
+-- a reply is written only while there is room: before the last reply is written, the output has fewer than `room` bytes
 abbrev pub IsWithin : ℕ → List ℕ → List (List ℕ) → Type 0
 IsWithin room before texts = (earlier : List (List ℕ)) (last : List ℕ) → texts ≡ earlier ++ last ∷ [] → length (before ++ framed_all earlier) < room
 

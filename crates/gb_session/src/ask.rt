@@ -20,7 +20,7 @@ pub const PLACES: usize = 16;
 /// How many milliseconds a client may wait at most.
 pub const WAIT: u32 = 60_000;
 
-/// A place in a group's log, from which on so many entries at most are wanted, under a token.
+/// What one fetch asks: a token, a group, the first place of its log that is wanted, and the most entries.
 #[derive(Clone, Copy)]
 pub struct Place {
     pub token: [u8; 32],
@@ -61,7 +61,7 @@ fn read_place(token: &[u8], tenant: &[u8], group: &[u8], from: &[u8], most: &[u8
     })
 }
 
-// Whether so many places may be awaited for so long.
+// Returns true if a message may await these places: 1 to `PLACES` of them, for at most `WAIT` milliseconds.
 fn is_allowed(places: &[Place], wait: u32) -> bool
     ensures { IsTrue result ↔ ((1 ≤ length places.now) × (length places.now ≤ PLACES) × (wait ≤ WAIT)) }
 {

@@ -35,7 +35,7 @@ pub enum AskFront {
     Begun,
     /// A length above the limit, or a message that asks nothing.
     Malformed,
-    /// A message of so many bytes, its length among them, and what it asks.
+    /// What the message asks, and its size in bytes with the four of its length.
     Message(Ask, usize),
 }
 
@@ -51,7 +51,7 @@ pub enum Outcome {
 /// What became of the message in front.
 #[derive(Drop)]
 pub enum Next {
-    /// It is answered. It had so many bytes.
+    /// It is answered. Its size in bytes, with the four of its length.
     Answered(usize),
     /// Less than a whole message is there.
     Hungry,
@@ -134,7 +134,7 @@ fn fetch<A: Answers>(answers: &mut A, place: &Place) -> Reply
     answers.answer(Request::Fetch(place.token, place.address, place.from, place.most))
 }
 
-// Fetches from places in turn, up to the first whose reply is not an empty log, and gives that reply with its place.
+// Fetches from the places in turn until a reply is not an empty log. Returns the index of that place and the reply.
 fn find<A: Answers>(answers: &mut A, places: &[Place]) -> Option<(usize, Reply)>
     ensures some { IfSome result (λ found. (requests : List TheRequest) × (replies : List TheReply)
         × IsRun A.answers answers.old requests replies answers.new × Finds places.now found.0 found.1 requests replies) }
@@ -248,7 +248,7 @@ fn answer_front<A: Answers>(
 }
 
 impl Session {
-    /// A session before the first byte, which answers so many messages at most.
+    /// A session that has taken no bytes. It answers at most `left` messages.
     pub fn new(alloc: Global, left: u64) -> Session
         ensures { result ≡ record { kept = []; left = left } }
     {

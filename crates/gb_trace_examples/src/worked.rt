@@ -134,7 +134,7 @@ pub const ALL_ACK: [&[u8]; 15] = [
     b"fetch 0 7 1 0 16",
 ];
 
-/// Three nodes of which each delivers once more than half of the members hold the message.
+/// Three nodes. Each one delivers a message when more than half of the members hold it.
 pub const MAJORITY_ACK: [&[u8]; 19] = [
     b"cluster 3 3",
     b"tenant 0 7 4 8 4096 4",
