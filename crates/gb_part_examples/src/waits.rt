@@ -136,7 +136,7 @@ const CASES: &[Case] = &[
     (UNKNOWN, false, 2, Stop::Hungry, REFUSED, 2),
 ];
 
-/// Whether a session stops and writes so.
+/// Returns true if the session of a row stops and writes as the row says.
 fn is_taken(alloc: Global, case: &Case) -> Result<bool, OutOfMemory> {
     let (bytes, is_late, some_from, stop, written, asked) = *case;
     let mut groups = Groups {

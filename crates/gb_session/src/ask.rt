@@ -14,10 +14,10 @@ use gb_types::token_word::read_token;
 use gb_types::words::split_words;
 use std::alloc::Global;
 
-/// How many places may be awaited at once.
+/// The most places that one `await` names.
 pub const PLACES: usize = 16;
 
-/// How many milliseconds a client may wait at most.
+/// The longest wait that an `await` names, in milliseconds.
 pub const WAIT: u32 = 60_000;
 
 /// What one fetch asks: a token, a group, the first place of its log that is wanted, and the most entries.
@@ -33,7 +33,7 @@ pub struct Place {
 #[derive(Drop)]
 pub struct Awaited {
     pub places: Vec<Place>,
-    /// For how many milliseconds at most, 0 to `WAIT`.
+    /// The longest wait in milliseconds, 0 to `WAIT`.
     pub wait: u32,
 }
 
@@ -68,7 +68,7 @@ fn is_allowed(places: &[Place], wait: u32) -> bool
     !places.is_empty() && places.len() <= PLACES && wait <= WAIT
 }
 
-// The words of places one after the other, and MS behind them.
+// Reads the words behind `await`: those of each place, then MS. Returns None if they are anything else.
 fn read_await(alloc: Global, words: &[&[u8]]) -> Result<Option<Awaited>, OutOfMemory>
     ensures some { IfOk result (λ found. IfSome found (λ awaited. SpellsAwait awaited (map (λ word. word.now) words.now))) }
     ensures none { IfOk result (λ found. IfNone found ((awaited : TheAwaited)
@@ -95,14 +95,14 @@ fn read_await(alloc: Global, words: &[&[u8]]) -> Result<Option<Awaited>, OutOfMe
     Ok(Some(Awaited { places, wait }))
 }
 
-// Whether a word is the head of fetches that wait.
+// Returns true if the word is `await`.
 fn is_await(word: &[u8]) -> bool
     ensures { IsTrue result ↔ (word.now ≡ codes "await") }
 {
     word == b"await".as_slice()
 }
 
-// The fetches that wait which a body spells, if it spells some.
+// Reads the body of an `await`. Returns None if the body is anything else.
 fn read_await_text(alloc: Global, body: &[u8]) -> Result<Option<Awaited>, OutOfMemory>
     ensures some { IfOk result (λ found. IfSome found (IsAwaitText body.now)) }
     ensures none { IfOk result (λ found. IfNone found ((awaited : TheAwaited) → IsAwaitText body.now awaited → ⊥)) }
@@ -120,7 +120,7 @@ fn read_await_text(alloc: Global, body: &[u8]) -> Result<Option<Awaited>, OutOfM
     Ok(None)
 }
 
-/// What the body of a message asks, or None where it asks nothing.
+/// Reads the body of a message. Returns what it asks, or None if it asks nothing.
 pub fn read_ask(alloc: Global, body: &[u8]) -> Result<Option<Ask>, OutOfMemory>
     ensures some { IfOk result (λ found. IfSome found (IsAskText body.now)) }
     ensures none { IfOk result (λ found. IfNone found ((ask : TheAsk) → IsAskText body.now ask → ⊥)) }

@@ -13,10 +13,10 @@ use std::alloc::{AllocError, Global};
 use std::io::{ErrorKind, Read, Write};
 use thiserror::Error;
 
-/// How many messages a session answers at most.
+/// The most messages that a session answers.
 pub const REQUESTS: u64 = 1_000_000;
 
-/// How many reads a session makes at most, and how often it makes a read or a write that is interrupted.
+/// The most reads of a session, and the most tries of one read or one write that is interrupted.
 pub const READS: u64 = 4_000_000;
 
 /// The bytes that one read takes at most.
@@ -72,7 +72,7 @@ fn make_space(alloc: Global) -> Result<Vec<u8>, OutOfMemory>
     Ok(vec![in alloc; 0u8; PIECE]?)
 }
 
-// The bytes of one read, none at the end of the input.
+// Returns the bytes of one read. They are empty at the end of the input.
 fn read_piece<'a, R: Read>(reader: &mut R, space: &'a mut [u8]) -> Result<&'a [u8], SessionFault>
     requires some { 0 < length space.old }
     requires few { length space.old ≤ PIECE }
@@ -86,7 +86,7 @@ fn read_piece<'a, R: Read>(reader: &mut R, space: &'a mut [u8]) -> Result<&'a [u
     Ok(&space[..count])
 }
 
-// One read, and how many bytes it gave. Where it is interrupted it is made again.
+// Makes one read, again if it is interrupted. Returns the number of bytes that were read.
 fn read_once<R: Read>(reader: &mut R, space: &mut [u8]) -> Result<usize, SessionFault>
     requires { 0 < length space.old }
     ensures within { IfOk result (λ count. count ≤ length space.new) }
@@ -107,7 +107,7 @@ fn read_once<R: Read>(reader: &mut R, space: &mut [u8]) -> Result<usize, Session
     Err(SessionFault::Read)
 }
 
-// One write, and how many bytes it took. Where it is interrupted it is made again.
+// Makes one write, again if it is interrupted. Returns the number of bytes that were written.
 fn write_once<W: Write>(writer: &mut W, bytes: &[u8]) -> Result<usize, SessionFault>
     ensures within { IfOk result (λ count. (0 < count) × (count ≤ length bytes.now)) }
     ensures bytes { IfOk result (λ count. Appends (W.contents writer.old) (W.contents writer.new) (take count bytes.now)) }

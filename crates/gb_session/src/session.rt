@@ -28,7 +28,7 @@ use std::marker::Model;
 /// The bytes of the longest reply: its length has four bytes.
 const REPLY: usize = 4_294_967_295;
 
-/// What stands at the front of some bytes of a stream.
+/// The message at the front of some bytes.
 #[derive(Drop)]
 pub enum AskFront {
     /// Less than a whole message.
@@ -42,7 +42,7 @@ pub enum AskFront {
 /// What became of an ask.
 #[derive(Drop)]
 pub enum Outcome {
-    /// Its reply, and at which place, where that is told.
+    /// The reply, and the index of its place if more than one place was named.
     Replied(Option<usize>, Reply),
     /// There is nothing to fetch yet.
     Waits(Awaited),
@@ -61,12 +61,12 @@ pub enum Next {
     Ended(SessionEnd),
 }
 
-/// Why a session answers no more for now.
+/// Why `take` stopped.
 #[derive(Drop)]
 pub enum Step {
-    /// No whole message is left: it wants bytes.
+    /// No whole message is left: call again with more bytes.
     Hungry,
-    /// So many bytes of replies are there as there may be: it wants them to be taken.
+    /// The output has `room` bytes or more: empty it, then call again.
     Full,
     /// The next message is fetches that wait: there is nothing to fetch yet.
     Parked(Awaited),
@@ -80,7 +80,7 @@ pub enum Step {
 pub struct Session {
     alloc: Global,
     bytes: Vec<u8>,
-    // How many of the bytes are answered.
+    // The number of bytes at the front that are answered.
     at: usize,
     left: u64,
 }
@@ -96,7 +96,7 @@ impl Model for Session {
     ghost invariant = { IsHeld };
 }
 
-/// What stands at the front.
+/// Reads the message at the front of the bytes.
 pub fn read_ask_front(alloc: Global, bytes: &[u8]) -> Result<AskFront, OutOfMemory>
     ensures { IfOk result (IsAskFront bytes.now) }
 {
@@ -117,7 +117,7 @@ pub fn read_ask_front(alloc: Global, bytes: &[u8]) -> Result<AskFront, OutOfMemo
     }
 }
 
-// Whether a reply is a log without entries.
+// Returns true if the reply is a log without entries.
 fn is_empty_log(reply: &Reply) -> bool
     ensures { result ≡ is_empty_log reply.now }
 {
@@ -152,14 +152,14 @@ fn find<A: Answers>(answers: &mut A, places: &[Place]) -> Option<(usize, Reply)>
     None
 }
 
-// The place that a reply tells, where more than one is awaited.
+// Returns `at` if more than one place was named, else None.
 fn label_of(places: &[Place], at: usize) -> Option<usize>
     ensures { result ≡ label_of places.now at }
 {
     if places.len() == 1 { None } else { Some(at) }
 }
 
-// Asks what is asked. Late: what waits is settled.
+// Asks the requests of an ask. If `is_late`, an `await` that finds nothing is answered with an empty log.
 fn settle<A: Answers>(alloc: Global, answers: &mut A, ask: Ask, is_late: bool) -> Outcome
     ensures { (requests : List TheRequest) × (replies : List TheReply) × IsRun A.answers answers.old requests replies answers.new
         × IsOutcome is_late ask requests replies result }
@@ -174,7 +174,7 @@ fn settle<A: Answers>(alloc: Global, answers: &mut A, ask: Ask, is_late: bool) -
     }
 }
 
-// The text of a reply.
+// Returns the text of a reply, behind `at K ` if the label is K.
 fn text_of(alloc: Global, label: Option<usize>, reply: &Reply) -> Result<Vec<u8>, OutOfMemory>
     ensures { IfOk result (λ text. text.items ≡ answer_text label reply.now) }
 {
@@ -188,7 +188,7 @@ fn text_of(alloc: Global, label: Option<usize>, reply: &Reply) -> Result<Vec<u8>
     Ok(text)
 }
 
-// A text with its length in front, where four bytes can say that.
+// Returns the text with its length in front. A text of more than `REPLY` bytes is refused.
 fn frame(alloc: Global, text: &[u8]) -> Result<Vec<u8>, OutOfMemory>
     ensures { IfOk result (λ message. message.items ≡ framed text.now) }
 {
@@ -216,7 +216,7 @@ fn put_answer(
     put_bytes(out, &message)
 }
 
-// Asks what stands in front of these bytes, and appends the reply, where one more message may be answered.
+// Answers the message at the front of the bytes and appends its reply. Returns the Limit if `left` is 0.
 fn answer_front<A: Answers>(
     alloc: Global,
     answers: &mut A,
@@ -260,7 +260,7 @@ impl Session {
         }
     }
 
-    // Lets go of what is answered. Without memory nothing has changed.
+    // Drops the bytes that are answered. If there is no memory, nothing has changed.
     fn compact(&mut self) -> Result<(), OutOfMemory>
         ensures same { self.new ≡ self.old }
     {
@@ -272,7 +272,7 @@ impl Session {
         Ok(())
     }
 
-    /// Takes the next bytes of the stream. Without memory nothing has changed.
+    /// Keeps the next bytes of the stream. If there is no memory, nothing has changed.
     pub fn put(&mut self, piece: &[u8]) -> Result<(), OutOfMemory>
         ensures ok { OnOk result (self.new ≡ record { kept = self.old.kept ++ piece.now; left = self.old.left }) }
         ensures err { OnErr result (self.new ≡ self.old) }
@@ -284,8 +284,8 @@ impl Session {
         put_bytes(&mut self.bytes, piece)
     }
 
-    /// Answers the message in front, if it is whole, and appends its reply. Late: fetches that wait are answered. Without memory
-    /// the message may have been asked, and stays in front.
+    /// Answers the message in front, if it is whole, and appends its reply. If `is_late`, an `await` that finds nothing is answered
+    /// with an empty log. If there is no memory, the message may have been asked, and it stays in front.
     pub fn answer_next<A: Answers>(
         &mut self,
         answers: &mut A,
@@ -309,7 +309,7 @@ impl Session {
         Ok(next)
     }
 
-    // Leaves the message in front behind, where it is answered.
+    // Steps over the message in front if it is answered.
     fn step_over(&mut self, next: &Next)
         requires { IsThere self.old next.now }
         ensures { self.new ≡ behind self.old next.now }
@@ -321,7 +321,7 @@ impl Session {
         self.release();
     }
 
-    // Lets go of the memory where no byte is left.
+    // Frees the memory if no bytes are left.
     fn release(&mut self)
         ensures { self.new ≡ self.old }
     {
@@ -356,9 +356,9 @@ impl Session {
         }
     }
 
-    /// Takes the next bytes of the stream, which may be none, and answers the messages that are whole, in turn, while fewer than
-    /// `room` bytes of replies are there; these are appended to what is there. Late: fetches that wait are answered. Without
-    /// memory the session is over: messages may have been asked whose replies are not there.
+    /// Keeps the next bytes of the stream, then answers the whole messages in turn and appends their replies to `out`. It stops
+    /// when `out` has `room` bytes or more. The piece may be empty. If `is_late`, an `await` that finds nothing is answered with an
+    /// empty log. If there is no memory, the session is over: messages may have been asked and have no reply in `out`.
     pub fn take<A: Answers>(
         &mut self,
         answers: &mut A,
@@ -377,7 +377,7 @@ impl Session {
         self.answer_whole(answers, is_late, out, room)
     }
 
-    /// How the session ends where the stream ends now.
+    /// Returns how the session ends if the stream ends here: Finished between two messages, Cut inside one.
     pub fn end_of_input(&self) -> SessionEnd
         ensures { EndsBehind self.now.kept result }
     {

@@ -13,7 +13,7 @@ use Rattle.gb_rules.specs.Tenant.{row_of}
 abbrev pub is_token : List ℕ → Need → List ℕ → Bool
 is_token key need token = bytes_eq token (token_of key need)
 
--- the same under the key of a tenant that may be here
+-- the token is the one for the need under the tenant's key; false if the tenant is not here
 abbrev pub is_by_row : Need → List ℕ → Option TenantRow → Bool
 is_by_row need token None = false
 is_by_row need token (Some row) = is_token row.key need token
@@ -28,7 +28,7 @@ has_group_token me rows (DropGroup token addr) = is_by_row (Tenant addr.tenant) 
 has_group_token me rows (Say token addr payload) = is_by_row (Member addr.tenant addr.group me) token (row_of addr.tenant rows)
 has_group_token me rows (Fetch token addr from most) = is_by_row (Member addr.tenant addr.group me) token (row_of addr.tenant rows)
 
--- and one that adds a tenant with the administrator's
+-- a request comes with the token that it needs: the administrator's to add a tenant, else the group's
 abbrev pub has_token : List ℕ → NodeId → List TenantRow → Request → Bool
 has_token admin_key me rows (AddTenant token row) = is_token admin_key Admin token
 has_token admin_key me rows request = has_group_token me rows request

@@ -16,7 +16,7 @@ abbrev pub is_untaken_by : Addr → NodeEvent → NodeAnswer → Bool
 is_untaken_by g (Asked (AddTenant token row)) (Replied (Refused OutOfMemory)) = nat_eq row.tenant g.tenant
 is_untaken_by g event answer = false
 
--- in the run one was, or a request of the group
+-- in the run such a request was refused for lack of memory, or a request of the group
 unfoldable pub is_refused_for : Addr → List Did → Bool
 is_refused_for g [] = false
 is_refused_for g (d ∷ run) = (is_untaken_by g d.event d.answer || is_starved_by d.node g (past_at d.node run) d.event d.answer) || is_refused_for g run

@@ -15,7 +15,7 @@ use Rattle.gb_trace.specs.Trace.{own_answer, run_of}
 abbrev pub IsIsolatedRun : Plan → List Event → List Answer → List Posted → ClusterValue → Type 0
 IsIsolatedRun plan events answers packets v = (g : Addr) → is_fed g (run_of events answers packets) ≡ true → IsIsolated plan (run_of events answers packets) v g
 
--- where no answer lacks memory, every group is
+-- if no answer refuses for lack of memory, every group is isolated
 abbrev pub IsAmpleRun : Plan → List Event → List Answer → List Posted → ClusterValue → Bool → Type 0
 IsAmpleRun plan events answers packets v refused = refused ≡ false → (g : Addr) → IsIsolated plan (run_of events answers packets) v g
 
@@ -24,6 +24,6 @@ abbrev pub is_refused_by : Option NodeAnswer → Bool
 is_refused_by None = false
 is_refused_by (Some answer) = wants_memory answer
 
--- the answer says so
+-- the answer says that the node refused for lack of memory
 abbrev pub is_starved : Answer → Bool
 is_starved answer = is_refused_by (own_answer [] answer)

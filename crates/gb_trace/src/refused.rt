@@ -44,7 +44,7 @@ fn is_untaken(addr: Addr, deed: &Deed) -> bool
     row.tenant == addr.tenant
 }
 
-/// Whether one of these was.
+/// Returns true if these deeds have such a request.
 #[tactic(auto, using(crate::proofs::PastLemmas::newest, crate::proofs::PastLemmas::whole), unfolding(crate::specs::Refused::is_refused_for))]
 fn has_lacked(addr: Addr, deeds: &[Deed]) -> bool
     ensures { result ≡ is_refused_for addr (reverse deeds.now) }

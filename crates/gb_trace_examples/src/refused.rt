@@ -1,4 +1,4 @@
-// Of which groups a refusal for lack of memory says that they need not be what they are alone.
+// Which groups are exempt from the law after a refusal for lack of memory.
 use crate::schedule::{FIRST, furnish, group_of, say, spec_with};
 use gb_cluster::answer::Answer;
 use gb_cluster::event::Event;
@@ -47,7 +47,7 @@ fn trace(alloc: Global, count: usize, refused: usize) -> Result<Trace, OutOfMemo
     })
 }
 
-/// Whether the groups of tenants 7 and 8 lacked memory where this event was refused.
+/// Returns whether tenant 7's group lacked memory, and whether tenant 8's did, if this event was refused.
 fn lack(alloc: Global, refused: usize) -> Result<(bool, bool), OutOfMemory> {
     let events = events(alloc)?;
     let trace = trace(alloc, events.len(), refused)?;
