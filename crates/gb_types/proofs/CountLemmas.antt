@@ -30,11 +30,11 @@ counted n p (suc w) h =
 in_both : (x y : ℕ) → x < 2 → y < 2 → (nat_eq x 1 && nat_eq y 1) ≡ nat_eq (min x y) 1
 in_both x y xs ys = grind (arith, nat_tests)
 
-pub both_counted : (a b : ℕ) → a < 2 ^ 16 → b < 2 ^ 16
+pub both_counted : (a b : ℕ) → a < 2 ^ 32 → b < 2 ^ 32
     → count_ones (bit_and a b) ≡ count_by (λ p. fin.contains (of_bits a) p && fin.contains (of_bits b) p) (below NODES)
 both_counted a b fa fb =
-    let fits : bit_and a b < 2 ^ 16 = omega (arith, and_le_l a b) in
-    let whole : bit_and a b % 2 ^ 16 ≡ bit_and a b = omega arith in
+    let fits : bit_and a b < 2 ^ 32 = omega (arith, and_le_l a b) in
+    let whole : bit_and a b % 2 ^ 32 ≡ bit_and a b = omega arith in
     ap count_ones (sym whole)
     ∙ sym (counted (bit_and a b) (λ p. fin.contains (of_bits a) p && fin.contains (of_bits b) p) NODES
     (λ q.

@@ -52,7 +52,7 @@ covering_bit : (x y z : ℕ) → y < 2 → z < 2 → min x (max y z) ≡ x → n
 covering_bit x y z ys zs h e = grind (arith, nat_tests)
 
 -- the bits of the first word are all in one of the others
-pub covered_is : (a b c : ℕ) → a < 2 ^ 16 → b < 2 ^ 16 → c < 2 ^ 16
+pub covered_is : (a b c : ℕ) → a < 2 ^ 32 → b < 2 ^ 32 → c < 2 ^ 32
     → nat_eq (bit_and a (bit_or b c)) a ≡ list_all (λ p. fin.contains (of_bits b) p || fin.contains (of_bits c) p) (fin.items (of_bits a))
 covered_is a b c fa fb fc =
     let p : ℕ → Bool = λ p. fin.contains (of_bits b) p || fin.contains (of_bits c) p in
@@ -78,7 +78,7 @@ pub bit_beyond : (bits bound i : ℕ) → bit_at (bits / 2 ^ bound) i ≡ bit_at
 bit_beyond bits bound i = ap (λ n. n % 2) (shr-shr bits bound i)
 
 -- no bit at the bound or above is 1
-pub below_is : (bits bound : ℕ) → bits < 2 ^ 16 → nat_eq (bits / 2 ^ bound) 0 ≡ list_all (λ p. nat_lt p bound) (fin.items (of_bits bits))
+pub below_is : (bits bound : ℕ) → bits < 2 ^ 32 → nat_eq (bits / 2 ^ bound) 0 ≡ list_all (λ p. nat_lt p bound) (fin.items (of_bits bits))
 below_is bits bound fits =
     let p : ℕ → Bool = λ p. nat_lt p bound in
     elim (list_all p (fin.items (of_bits bits))) as (λ v. list_all p (fin.items (of_bits bits)) ≡ v → nat_eq (bits / 2 ^ bound) 0 ≡ v) [

@@ -9,7 +9,7 @@ use Rattle.std.proofs.lemmas.Nat.Bits.{same_from_bits, bit_at-zero, bit_at-lt}
 use Rattle.gb_types.specs.Places.{of_bits}
 use Rattle.gb_types.proofs.PlaceLemmas.{at_bit, of_bits-none, zero_bit}
 
-pub is_empty : (bits : ℕ) → bits < 2 ^ 16 → IsTrue (nat_eq bits 0) ↔ (of_bits bits ≡ fin.empty)
+pub is_empty : (bits : ℕ) → bits < 2 ^ 32 → IsTrue (nat_eq bits 0) ↔ (of_bits bits ≡ fin.empty)
 is_empty bits fits = (
   λ e. ap of_bits (eqb-true bits 0 e) ∙ of_bits-none,
   λ e.

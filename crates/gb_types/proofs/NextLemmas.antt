@@ -1,5 +1,5 @@
 -- The first node of a word from a number on.
-use Rattle.std.proofs.Common.{◌≡◌, ℕ, ◌+◌, ◌-◌, ◌/◌, ◌^◌, ◌<◌, cond, nat_eq, [], ◌∷◌, refl, sym, ap, ◌∙◌, arith, inl, inr, w16}
+use Rattle.std.proofs.Common.{◌≡◌, ℕ, ◌+◌, ◌-◌, ◌/◌, ◌^◌, ◌<◌, cond, nat_eq, [], ◌∷◌, refl, sym, ap, ◌∙◌, arith, inl, inr, w32}
 use Rattle.std.specs.Int.{bit_at, trailing_zeros}
 use Rattle.std.specs.FinSet as fin
 use Rattle.std.proofs.lemmas.Bool.{cases_lt}
@@ -13,10 +13,10 @@ use Rattle.gb_types.proofs.CoverLemmas.{bit_beyond}
 use Rattle.gb_types.proofs.RisingLemmas.{rising_from-step, rising_from-end, rising_from-skip}
 
 -- the bit k places above the number
-bit_on : (bits number k q d : ℕ) → bits < 2 ^ 16 → number + k ≡ q → bit_at (bits / 2 ^ number) k ≡ d → fin.contains (of_bits bits) q ≡ nat_eq d 1
+bit_on : (bits number k q d : ℕ) → bits < 2 ^ 32 → number + k ≡ q → bit_at (bits / 2 ^ number) k ≡ d → fin.contains (of_bits bits) q ≡ nat_eq d 1
 bit_on bits number k q d fits at is = at_bit bits q fits ∙ (ap (λ n. nat_eq (bit_at bits n) 1) (sym at) ∙ ap (λ n. nat_eq n 1) (sym (bit_beyond bits number k) ∙ is))
 
-pub none_left : (bits number : ℕ) → bits < 2 ^ 16 → bits / 2 ^ number ≡ 0 → number < NODES → rising_from (of_bits bits) number ≡ []
+pub none_left : (bits number : ℕ) → bits < 2 ^ 32 → bits / 2 ^ number ≡ 0 → number < NODES → rising_from (of_bits bits) number ≡ []
 none_left bits number fits none lt =
     let end : number + (NODES - number) ≡ NODES = omega arith in
     rising_from-skip (of_bits bits) number (NODES - number) (omega arith)
@@ -25,24 +25,24 @@ none_left bits number fits none lt =
 
 -- how many bits from the number on come before the first 1
 abbrev pub before : ℕ → ℕ → ℕ
-before bits number = trailing_zeros w16 (bits / 2 ^ number)
+before bits number = trailing_zeros w32 (bits / 2 ^ number)
 
-lowest : (bits number : ℕ) → bits < 2 ^ 16 → 0 < bits / 2 ^ number
-    → (before bits number < 16) × (bit_at (bits / 2 ^ number) (before bits number) ≡ 1) × ((i : ℕ) → i < before bits number → bit_at (bits / 2 ^ number) i ≡ 0)
-lowest bits number fits some = bit_at-trailing_zeros w16 (bits / 2 ^ number) some (omega (arith, shr_le bits number))
+lowest : (bits number : ℕ) → bits < 2 ^ 32 → 0 < bits / 2 ^ number
+    → (before bits number < 32) × (bit_at (bits / 2 ^ number) (before bits number) ≡ 1) × ((i : ℕ) → i < before bits number → bit_at (bits / 2 ^ number) i ≡ 0)
+lowest bits number fits some = bit_at-trailing_zeros w32 (bits / 2 ^ number) some (omega (arith, shr_le bits number))
 
-pub first_is_node : (bits number : ℕ) → bits < 2 ^ 16 → 0 < bits / 2 ^ number → number + before bits number < NODES
+pub first_is_node : (bits number : ℕ) → bits < 2 ^ 32 → 0 < bits / 2 ^ number → number + before bits number < NODES
 first_is_node bits number fits some =
     elim (cases_lt (number + before bits number) NODES) [
       | inl lt ↦ lt
       | inr le ↦
           let here = (lowest bits number fits some).1 in
           let beyond = bit_beyond bits number (before bits number) in
-          let none = bit_at_above bits 16 (number + before bits number) fits le in
+          let none = bit_at_above bits 32 (number + before bits number) fits le in
           absurd (omega arith)
     ]
 
-pub first_left : (bits number : ℕ) → bits < 2 ^ 16 → 0 < bits / 2 ^ number
+pub first_left : (bits number : ℕ) → bits < 2 ^ 32 → 0 < bits / 2 ^ number
     → rising_from (of_bits bits) number ≡ (number + before bits number) ∷ rising_from (of_bits bits) (number + before bits number + 1)
 first_left bits number fits some =
     let s = of_bits bits in

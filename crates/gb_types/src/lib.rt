@@ -27,4 +27,5 @@ pub mod request;
 pub mod request_words;
 pub mod spec;
 pub mod token_word;
+pub mod version;
 pub mod words;

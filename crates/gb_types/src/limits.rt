@@ -1,7 +1,7 @@
 //! The limits of the service. Every table over nodes has `NODES` places.
 
-/// How many nodes a cluster has at most. Nodes are numbered from 0.
-pub const NODES: usize = 16;
+/// How many nodes a cluster has at most, under any version of the packet text. Nodes are numbered from 0.
+pub const NODES: usize = 32;
 
 /// How many groups a tenant has at most.
 pub const GROUPS: u32 = 256;
@@ -15,11 +15,11 @@ pub const BYTES: u32 = 65_536;
 /// How many own messages of a member are unfinished at once, at most.
 pub const WINDOW: u32 = 1_024;
 
-/// The bytes of the longest payload.
-pub const PAYLOAD: usize = 1_024;
+/// The bytes of the longest payload, under any version of the packet text.
+pub const PAYLOAD: usize = 4_096;
 
-/// The bytes of the longest packet.
-pub const PACKET: usize = 8_192;
+/// The bytes of the longest packet, of any version.
+pub const PACKET: usize = 16_384;
 
 /// How many frames of a link are not acknowledged at once, at most.
 pub const LINK_WINDOW: u64 = 64;
@@ -40,11 +40,11 @@ pub const FETCH: u32 = 16;
 pub const PLACES: u16 = 4_096;
 
 // Definitions cite these values.
-const _: () = prove!(NODES == 16 && GROUPS == 256 && PLACES == 4_096);
+const _: () = prove!(NODES == 32 && GROUPS == 256 && PLACES == 4_096);
 
 const _: () = prove!(MESSAGES == 1_024 && BYTES == 65_536 && WINDOW == 1_024 && FETCH == 16);
 
-const _: () = prove!(PAYLOAD == 1_024 && PACKET == 8_192);
+const _: () = prove!(PAYLOAD == 4_096 && PACKET == 16_384);
 
 const _: () = prove!(LINK_WINDOW == 64 && LAST_FRAME == 18_446_744_073_709_551_614);
 

@@ -51,7 +51,7 @@ impl NodeId {
 #[derive(Drop)]
 pub struct NodeSet {
     /// The bit with a node's number is 1 where the node is in the set.
-    bits: u16,
+    bits: u32,
 }
 
 impl Model for NodeSet {
@@ -68,14 +68,14 @@ impl Model for NodeSet {
 }
 
 /// Whether each node of the first word is in one of the others.
-fn is_within(bits: u16, first: u16, second: u16) -> bool
+fn is_within(bits: u32, first: u32, second: u32) -> bool
     ensures { result ≡ list_all (λ p. set.contains (of_bits first) p || set.contains (of_bits second) p) (set.items (of_bits bits)) }
 {
     bits & (first | second) == bits
 }
 
 /// Whether all nodes of the word have numbers below the bound.
-fn is_all_below(bits: u16, bound: usize) -> bool
+fn is_all_below(bits: u32, bound: usize) -> bool
     ensures { result ≡ list_all (λ p. nat_lt p bound) (set.items (of_bits bits)) }
 {
     if bound >= NODES {
@@ -85,7 +85,7 @@ fn is_all_below(bits: u16, bound: usize) -> bool
 }
 
 /// How many nodes are in both words.
-fn count_both(bits: u16, other: u16) -> usize
+fn count_both(bits: u32, other: u32) -> usize
     ensures { result ≡ count_by (λ p. set.contains (of_bits bits) p && set.contains (of_bits other) p) (below NODES) }
 {
     (bits & other).count_ones() as usize

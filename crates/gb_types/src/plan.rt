@@ -1,10 +1,18 @@
 //! The plan of a cluster.
+ghost use Rattle.std.specs.Prelude.{◌≡◌};
+ghost use Rattle.gb_types.specs.Version.{bounds_of, version_at};
+
+use crate::limits::NODES;
+use crate::node::NodeId;
+use crate::version::Version;
 
 /// What a cluster is started with.
 #[derive(Clone, Copy)]
 pub struct Plan {
-    /// How many nodes there are: 1 to 16.
+    /// How many nodes there are: 1 to 32, and no more than the version of each of them can name.
     pub nodes: u8,
+    /// The version of the packet text that each node sends, by its number. Those past the last node's are not read.
+    pub versions: [Version; NODES],
     /// After how many ticks without a good packet a node is noticed: 2 to 1,000.
     pub silence: u16,
     /// How many groups the tenants of a node may make in all: 4,096 at most.
@@ -13,4 +21,32 @@ pub struct Plan {
     pub cluster_key: [u8; 32],
     /// The key of the administrator's token.
     pub admin_key: [u8; 32],
+}
+
+/// What bounds the groups of a cluster: how many nodes there are, and the version that each sends.
+#[derive(Clone, Copy)]
+pub struct Bounds {
+    pub nodes: u8,
+    pub versions: [Version; NODES],
+}
+
+impl Plan {
+    /// What bounds the groups of the cluster.
+    pub fn bounds(&self) -> Bounds
+        ensures { result ≡ bounds_of self.now }
+    {
+        Bounds {
+            nodes: self.nodes,
+            versions: self.versions,
+        }
+    }
+}
+
+impl Bounds {
+    /// The version that a node sends.
+    pub fn version_of(&self, node: NodeId) -> Version
+        ensures { result ≡ version_at self.now.versions node.number }
+    {
+        self.versions[node.index()]
+    }
 }

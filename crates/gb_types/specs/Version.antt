@@ -1,0 +1,36 @@
+-- The versions of the packet text, and what each allows.
+use Rattle.std.specs.Prelude.{ℕ, ◌==◌, ◌≤◌, List, Option, Some, None, slice_index_or, if◌then◌else◌}
+use Rattle.std.proofs.Common.{lit≤}
+use Rattle.gb_types.specs.declared.limits.TheConstants.{NODES, PAYLOAD, PACKET}
+use Rattle.gb_types.specs.declared.plan.Bounds.{Bounds}
+use Rattle.gb_types.specs.declared.plan.Plan.{Plan}
+use Rattle.gb_types.specs.declared.version.Version.{Version}
+use Rattle.gb_types.specs.declared.version.Version.TheVariants.{One, Two}
+use Rattle.gb_types.specs.declared.version.VersionLimits.{VersionLimits}
+
+-- what a version allows: the byte that stands for it, nodes, bytes of a payload, bytes of a packet
+abbrev pub limits_of : Version → VersionLimits
+limits_of One = record { byte = 1; nodes = 16; payload = 1024; packet = 8192 }
+limits_of Two = record { byte = 2; nodes = 32; payload = 4096; packet = 16384 }
+
+-- the version that a byte stands for
+abbrev pub version_named : ℕ → Option Version
+version_named byte = if byte == 1 then Some One else (if byte == 2 then Some Two else None)
+
+-- the version that a node sends, where each node of a cluster sends its own
+abbrev pub version_at : List Version → ℕ → Version
+version_at versions a = slice_index_or versions a One
+
+-- what bounds the groups of a cluster with this plan
+abbrev pub bounds_of : Plan → Bounds
+bounds_of plan = record { nodes = plan.nodes; versions = plan.versions }
+
+-- they are no more than the greatest limits of all versions
+pub record AreWithinGreatest (limits : VersionLimits) : Type 0 where
+  pub nodes : limits.nodes ≤ NODES
+  pub payload : limits.payload ≤ PAYLOAD
+  pub packet : limits.packet ≤ PACKET
+
+pub limits_are_within : (version : Version) → AreWithinGreatest (limits_of version)
+limits_are_within One = record { nodes = lit≤ tt; payload = lit≤ tt; packet = lit≤ tt }
+limits_are_within Two = record { nodes = lit≤ tt; payload = lit≤ tt; packet = lit≤ tt }

@@ -1,0 +1,59 @@
+//! The versions of the packet text, and what each allows.
+ghost use Rattle.std.specs.Prelude.{◌≡◌};
+ghost use Rattle.gb_types.specs.Version.{limits_of, version_named, AreWithinGreatest};
+
+/// A version of the packet text. A node sends one version, and reads them all.
+#[derive(Clone, Copy, PartialEq, Eq)]
+pub enum Version {
+    /// 16 nodes, payloads of 1,024 bytes, packets of 8,192 bytes.
+    One,
+    /// 32 nodes, payloads of 4,096 bytes, packets of 16,384 bytes.
+    Two,
+}
+
+/// What a version of the packet text allows.
+#[derive(Clone, Copy)]
+pub struct VersionLimits {
+    /// The byte that stands for the version in a packet.
+    pub byte: u8,
+    /// The number of nodes that a packet can name. They are numbered from 0.
+    pub nodes: u8,
+    /// The bytes of the longest payload.
+    pub payload: usize,
+    /// The bytes of the longest packet.
+    pub packet: usize,
+}
+
+impl Version {
+    /// What the version allows. This is the one table of limits by version.
+    pub fn limits(self) -> VersionLimits
+        ensures value { result ≡ limits_of self }
+        ensures greatest { AreWithinGreatest result }
+    {
+        match self {
+            Version::One => VersionLimits {
+                byte: 1,
+                nodes: 16,
+                payload: 1_024,
+                packet: 8_192,
+            },
+            Version::Two => VersionLimits {
+                byte: 2,
+                nodes: 32,
+                payload: 4_096,
+                packet: 16_384,
+            },
+        }
+    }
+
+    /// The version that a byte of a packet stands for.
+    pub fn from_byte(byte: u8) -> Option<Version>
+        ensures { result ≡ version_named byte }
+    {
+        match byte {
+            1 => Some(Version::One),
+            2 => Some(Version::Two),
+            _ => None,
+        }
+    }
+}
