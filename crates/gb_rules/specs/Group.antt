@@ -2,12 +2,14 @@
 use Rattle.std.specs.Prelude.{ℕ, ◌+◌, ◌&&◌, ◌||◌, not, Bool, true, false, List, [], length, take, drop, nat_lt, nat_le, nat_eq, Option, Some, None, Result, Ok, Err, if◌then◌else◌}
 use Rattle.std.specs.FinSet as set
 use Rattle.gb_types.specs.declared.entry.Entry.{Entry}
-use Rattle.gb_types.specs.declared.limits.TheConstants.{PAYLOAD, FETCH}
+use Rattle.gb_types.specs.declared.limits.TheConstants.{FETCH}
 use Rattle.gb_types.specs.declared.refusal.Refusal.{Refusal}
 use Rattle.gb_types.specs.declared.refusal.Refusal.TheVariants.{NoGroup, Spent, WrongPhase, TooLong, Budget, Bytes, Window, BadPlace}
 use Rattle.gb_types.specs.declared.reply.Reply.{Reply}
 use Rattle.gb_types.specs.declared.reply.Reply.TheVariants.{Done, Said, Log, Refused}
 use Rattle.gb_types.specs.declared.spec.Spec.{Spec}
+use Rattle.gb_types.specs.declared.version.Version.{Version}
+use Rattle.gb_types.specs.Version.{limits_of}
 use Rattle.gb_rules.specs.declared.phase.Phase.{Phase}
 use Rattle.gb_rules.specs.declared.phase.Phase.TheVariants.{Made, Opened, Gone}
 use Rattle.gb_rules.specs.declared.usage.Usage.{Usage}
@@ -54,13 +56,17 @@ shut_answer s = shut_in s.phase
 abbrev pub drop_answer : Shown → Reply
 drop_answer s = Done
 
+-- the payload is longer than a message may be at a node that sends this version of the packet text
+abbrev pub is_too_long : Version → List ℕ → Bool
+is_too_long version payload = nat_lt (limits_of version).payload (length payload)
+
 -- a message is said in an open group, within the payload's limit, the budgets of messages and of bytes, and the window
-abbrev pub say_answer : Shown → List ℕ → Reply
-say_answer s payload = say_in s.phase
+abbrev pub say_answer : Version → Shown → List ℕ → Reply
+say_answer version s payload = say_in s.phase
   where
     say_in : Phase → Reply
     say_in Opened =
-        if nat_lt PAYLOAD (length payload) then Refused TooLong
+        if is_too_long version payload then Refused TooLong
         else (if nat_le s.spec.msgs s.usage.said then Refused Budget
         else (if nat_lt s.spec.bytes (s.usage.bytes + length payload) then Refused Bytes
         else (if nat_le s.spec.window s.usage.unfinished then Refused Window

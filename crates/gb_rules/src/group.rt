@@ -1,14 +1,15 @@
 //! What is answered to a group's commands where it was made.
 ghost use Rattle.std.specs.Prelude.{◌≡◌, ◌+◌, ◌<◌, ◌≤◌, false, length, OnOk};
 ghost use Rattle.gb_types.specs.declared.limits.TheConstants.{FETCH as MOST};
-ghost use Rattle.gb_rules.specs.Group.{open_in, shut_in, say_answer, is_bad_place, unlogged, said_next};
+ghost use Rattle.gb_rules.specs.Group.{open_in, shut_in, is_too_long, say_answer, is_bad_place, unlogged, said_next};
 ghost use Rattle.gb_rules.specs.Replied.{done_reply};
 
 use crate::phase::Phase;
 use crate::usage::Usage;
-use gb_types::limits::{FETCH, PAYLOAD};
+use gb_types::limits::FETCH;
 use gb_types::refusal::Refusal;
 use gb_types::spec::Spec;
+use gb_types::version::Version;
 
 /// Whether a group in the phase is opened: WrongPhase where it was opened before.
 pub fn check_open(phase: Phase) -> Result<(), Refusal>
@@ -34,18 +35,33 @@ pub fn check_shut(phase: Phase) -> Result<(), Refusal>
     }
 }
 
+/// Whether a payload is longer than a message may be at a node that sends this version of the packet text.
+pub fn is_too_long(version: Version, payload: &[u8]) -> bool
+    ensures { result ≡ is_too_long version payload.now }
+{
+    payload.len() > version.limits().payload
+}
+
 /// Whether the next message may be said in a group by a member that has used so much. WrongPhase where the group is
-/// not open, TooLong above 1,024 bytes, Budget where all messages are said, Bytes where the
-/// payload's bytes would be too many in all, Window where too many messages are unfinished, in this order.
-pub fn check_say(spec: &Spec, phase: Phase, usage: Usage, payload: &[u8]) -> Result<(), Refusal>
-    ensures answer { said_next usage.said result ≡ say_answer (unlogged spec.now phase usage) payload.now }
+/// not open, TooLong above the payload's limit of the version that the node sends, Budget where all messages are said,
+/// Bytes where the payload's bytes would be too many in all, Window where too many messages are unfinished, in this
+/// order.
+pub fn check_say(
+    version: Version,
+    spec: &Spec,
+    phase: Phase,
+    usage: Usage,
+    payload: &[u8],
+) -> Result<(), Refusal>
+    ensures answer { said_next usage.said result ≡ say_answer version (unlogged spec.now phase usage) payload.now }
+    ensures short { OnOk result (is_too_long version payload.now ≡ false) }
     ensures said { OnOk result (usage.said < spec.now.msgs) }
     ensures bytes { OnOk result (usage.bytes + length payload.now ≤ spec.now.bytes) }
 {
     if phase != Phase::Opened {
         return Err(Refusal::WrongPhase);
     }
-    if payload.len() > PAYLOAD {
+    if is_too_long(version, payload) {
         return Err(Refusal::TooLong);
     }
     if usage.said >= spec.msgs {
