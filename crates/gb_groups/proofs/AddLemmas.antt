@@ -7,7 +7,7 @@ use Rattle.std.proofs.lemmas.Bool.{cases_lt, lt-ltb}
 use Rattle.indexmap.specs.IndexMap.{insert_entry}
 use Rattle.slab.specs.Slab.{Slab, get}
 use Rattle.gb_types.specs.declared.address.Addr.{Addr}
-use Rattle.gb_types.specs.declared.limits.TheConstants.{NODES}
+use Rattle.gb_types.specs.declared.limits.TheConstants.{NODES, PAYLOAD}
 use Rattle.gb_rules.specs.Address.{is_addr}
 use Rattle.gb_slot.specs.SlotState.{SlotState}
 use Rattle.gb_groups.specs.declared.slots.Place.{Place}
@@ -73,13 +73,13 @@ end_counters rows row all h = record {
   ];
 }
 
-end_short : (rows : List Row) (row : Row) → AreShort rows → IsShort row.slot → AreShort (rows ++ row ∷ [])
+end_short : (rows : List Row) (row : Row) → AreShort PAYLOAD rows → IsShort PAYLOAD row.slot → AreShort PAYLOAD (rows ++ row ∷ [])
 unfolding AtEnd
 end_short rows row all h = record {
   each = λ q. elim (at_end rows row no_row q) [
-    | inl w ↦ subst (λ (r : Row). IsShort r.slot) (sym w.1) (all.each q)
-    | inr (inl w) ↦ subst (λ (r : Row). IsShort r.slot) (sym w.1) h
-    | inr (inr w) ↦ subst (λ (r : Row). IsShort r.slot) (sym w.1) tt
+    | inl w ↦ subst (λ (r : Row). IsShort PAYLOAD r.slot) (sym w.1) (all.each q)
+    | inr (inl w) ↦ subst (λ (r : Row). IsShort PAYLOAD r.slot) (sym w.1) h
+    | inr (inr w) ↦ subst (λ (r : Row). IsShort PAYLOAD r.slot) (sym w.1) tt
   ];
 }
 
@@ -159,14 +159,14 @@ alone_grown old new key v addr es g kept p q k m n =
       ]
     ]
 
-pub kept_grown : (old new : Slab SlotState) (key : ℕ) (v : SlotState) (addr : Addr) (es : List (Addr × Place)) → Grows old new key v → AreKept es old → length v.taken ≡ NODES → IsShort (Some v) → position (λ (r : Row). is_addr addr r.addr) (map (row_of old) es) ≡ None → AreKept (es ++ (addr, Key key) ∷ []) new
+pub kept_grown : (old new : Slab SlotState) (key : ℕ) (v : SlotState) (addr : Addr) (es : List (Addr × Place)) → Grows old new key v → AreKept es old → length v.taken ≡ NODES → IsShort PAYLOAD (Some v) → position (λ (r : Row). is_addr addr r.addr) (map (row_of old) es) ≡ None → AreKept (es ++ (addr, Key key) ∷ []) new
 kept_grown old new key v addr es g kept size short none =
     let rows = map-grown row_made old new key v addr es g kept in
     record {
       there = there_grown old new key v addr es g kept;
       alone = alone_grown old new key v addr es g kept;
       counters = subst HaveCounters (sym rows) (end_counters (map (row_of old) es) (row_made addr (Some v)) kept.counters size);
-      short = subst AreShort (sym rows) (end_short (map (row_of old) es) (row_made addr (Some v)) kept.short short);
+      short = subst (AreShort PAYLOAD) (sym rows) (end_short (map (row_of old) es) (row_made addr (Some v)) kept.short short);
       apart = subst AreApart (sym rows) (end_apart (map (row_of old) es) (row_made addr (Some v)) kept.apart none);
     }
 

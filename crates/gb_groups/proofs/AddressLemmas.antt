@@ -1,6 +1,6 @@
 -- A step at one address leaves the others alone.
 use Rattle.std.proofs.Common.{◌≡◌, ◌≢◌, ℕ, ◌<◌, ◌≤◌, true, false, List, length, refl, ap, sym, ◌∙◌, arith}
-use Rattle.std.specs.Prelude.{◌%◌, if◌then◌else◌, Bool, ◌&&◌, cond, nat_lt, nat_le, nat_eq, Option, Some, None, option_map, position}
+use Rattle.std.specs.Prelude.{◌%◌, if◌then◌else◌, Bool, ◌&&◌, not, false, cond, nat_lt, nat_eq, Option, Some, None, option_map, position}
 use Rattle.std.specs.List.{position_or_len}
 use Rattle.std.proofs.Common.{eqb-true, eq-eqb}
 use Rattle.std.proofs.Math.ListN.{set}
@@ -15,7 +15,9 @@ use Rattle.gb_frame.specs.Items.{address_of, entry_of}
 use Rattle.gb_groups.specs.AtAddress.{place_of, step_at, on_address, item_came, OthersKept}
 use Rattle.std.proofs.lemmas.Bool.{lt-ltb, le-leb}
 use Rattle.gb_types.proofs.SameLemmas.{same_number}
-use Rattle.gb_types.specs.declared.limits.TheConstants.{NODES, PAYLOAD}
+use Rattle.gb_types.specs.declared.limits.TheConstants.{NODES}
+use Rattle.gb_types.specs.declared.version.Version.{Version}
+use Rattle.gb_rules.specs.Group.{is_too_long}
 use Rattle.gb_types.specs.declared.node.NodeId.{NodeId}
 use Rattle.gb_types.proofs.BoolLemmas.{and_sides}
 use Rattle.gb_frame.specs.declared.item.Item.{Item}
@@ -58,13 +60,13 @@ pub others_kept : (addr : Addr) (rows : List Row) (p : ℕ) (f : SlotState → S
 others_kept addr rows p f e = others_kept_row addr rows p (on_slot f (row_at rows p)) refl e
 
 -- an item of a group that is here
-pub item_is : (from origin : NodeId) (i : Item) (rows : List Row) (p : ℕ) → origin.number ≡ i.origin → length i.payload ≤ PAYLOAD → Some p ≡ place_of (address_of i) rows → set rows p (on_slot (slot_came from (record { origin = origin; seq = i.seq; payload = i.payload })) (row_at rows p)) ≡ item_came from i rows
-item_is from origin i rows p e l at =
+pub item_is : (version : Version) (from origin : NodeId) (i : Item) (rows : List Row) (p : ℕ) → origin.number ≡ i.origin → is_too_long version i.payload ≡ false → Some p ≡ place_of (address_of i) rows → set rows p (on_slot (slot_came from (record { origin = origin; seq = i.seq; payload = i.payload })) (row_at rows p)) ≡ item_came version from i rows
+item_is version from origin i rows p e l at =
     let b = origin.below in
     let h : i.origin < NODES = omega arith in
     let m : origin.number ≡ i.origin % NODES = omega arith in
     let o = same_number origin (entry_of i).origin m in
-    let t : (nat_lt i.origin NODES && nat_le (length i.payload) PAYLOAD) ≡ true = ap (λ b. b && nat_le (length i.payload) PAYLOAD) (lt-ltb i.origin NODES h) ∙ le-leb (length i.payload) PAYLOAD l in
+    let t : (nat_lt i.origin NODES && not (is_too_long version i.payload)) ≡ true = ap (λ b. b && not (is_too_long version i.payload)) (lt-ltb i.origin NODES h) ∙ ap not l in
     ap (λ (n : NodeId). set rows p (on_slot (slot_came from (record { origin = n; seq = i.seq; payload = i.payload })) (row_at rows p))) o
     ∙ ap (step_at (slot_came from (entry_of i)) rows) at
     ∙ sym (ap (λ b. if b then on_address (address_of i) (slot_came from (entry_of i)) rows else rows) t)

@@ -10,6 +10,7 @@ use Rattle.gb_types.specs.declared.address.Addr.{Addr}
 use Rattle.gb_types.specs.declared.reply.Reply.TheVariants.{Done}
 use Rattle.gb_rules.specs.Group.{drop_answer}
 use Rattle.gb_slot.specs.SlotState.{SlotState}
+use Rattle.gb_types.specs.declared.limits.TheConstants.{PAYLOAD}
 use Rattle.gb_groups.specs.declared.slots.Place.{Place}
 use Rattle.gb_groups.specs.declared.slots.Place.TheVariants.{Key, Gone}
 use Rattle.gb_groups.specs.SlotsValue.{Row, row_at, gone, unless_gone, HaveCounters, AreShort, AreApart, no_row}
@@ -75,7 +76,7 @@ dropped es old new p key w kept here =
             subst (λ (o : Option SlotState). IsSome o) (sym (w.others k ne)) (kept.there q k s.1);
         alone = λ q r k m n. kept.alone q r k (still_there es p q k m).1 (still_there es p r k n).1;
         counters = subst HaveCounters (sym rows) (counters_changed (map (row_of old) es) p (gone row) kept.counters refl);
-        short = subst AreShort (sym rows) (short_changed (map (row_of old) es) p (gone row) kept.short tt);
+        short = subst (AreShort PAYLOAD) (sym rows) (short_changed (map (row_of old) es) p (gone row) kept.short tt);
         apart = subst AreApart (sym rows) (apart_changed (map (row_of old) es) p (gone row) kept.apart refl);
       };
       rows = rows;

@@ -239,12 +239,21 @@ unfolding placed
 placed-below n b [] h = tt
 placed-below n b (q ∷ qs) h = (const-below n b q (omega arith), placed-below n (suc b) qs (omega arith))
 
-pub walk_below : (c : ℕ) (qs : List (List Entry)) → Const (is_below (length qs)) true (walk c qs)
+-- a walk visits what its queues hold
+pub walk_passes : (f : Visit → Bool) (c : ℕ) (qs : List (List Entry)) → AllPass f (placed 0 qs) → Const f true (walk c qs)
 unfolding walk in_turns
-walk_below c qs =
-    let f = is_below (length qs) in
-    let ok = placed-below (length qs) 0 qs (omega arith) in
+walk_passes f c qs ok =
     pass-rounds f (longest (from_place c (placed 0 qs))) (from_place c (placed 0 qs)) (pass-append f (drop c (placed 0 qs)) (take c (placed 0 qs)) (pass-drop f c (placed 0 qs) ok) (pass-take f c (placed 0 qs) ok))
+
+pub walk_below : (c : ℕ) (qs : List (List Entry)) → Const (is_below (length qs)) true (walk c qs)
+walk_below c qs = walk_passes (is_below (length qs)) c qs (placed-below (length qs) 0 qs (omega arith))
+
+-- a batch is from the front of its walk
+pub batch_passes : (f : Visit → Bool) (dest room : ℕ) (t : GroupsValue) → Const f true (walk_to dest t) → Const f true (batch dest room t)
+batch_passes f dest room t ok =
+    let vs = walk_to dest t in
+    let front : take (length (fit room vs)) vs ≡ fit room vs = (fit-front room vs).1 in
+    (rw front at (Const-take f true (length (fit room vs)) vs ok))
 
 pub agree : {A : Type 0} (g f h : A → Bool) → ((x : A) → g x ≡ true → f x ≡ h x) → (xs : List A) → Const g true xs → filter f xs ≡ filter h xs
 agree g f h e [] c = refl
@@ -290,10 +299,7 @@ map-item t p (w ∷ q) = ap (λ r. item_of (row_at t.rows p) w ∷ r) (map-item 
 -- a batch is from groups that are here
 pub batch_below : (dest room : ℕ) (t : GroupsValue) → Const (is_below (length t.rows)) true (batch dest room t)
 batch_below dest room t =
-    let vs = walk_to dest t in
-    let front : take (length (fit room vs)) vs ≡ fit room vs = (fit-front room vs).1 in
-    let below : Const (is_below (length t.rows)) true vs = (rw (length-queues dest t.rows) at (walk_below (get_or t.cursors dest 0) (queues dest t.rows))) in
-    (rw front at (Const-take (is_below (length t.rows)) true (length (fit room vs)) vs below))
+    batch_passes (is_below (length t.rows)) dest room t (rw (length-queues dest t.rows) at (walk_below (get_or t.cursors dest 0) (queues dest t.rows)))
 
 pub items_front : (dest room : ℕ) (t : GroupsValue) (p : ℕ) → AreApart t.rows → p < length t.rows → filter (is_of (row_at t.rows p)) (items t.rows (batch dest room t)) ≡ map (item_of (row_at t.rows p)) (take (share p (batch dest room t)) (queue dest (row_at t.rows p)))
 items_front dest room t p ok h =

@@ -1,12 +1,14 @@
 -- What each call makes of each group by itself.
 use Rattle.std.proofs.Common.{◌≡◌, ℕ, suc, zero, ◌+◌, ◌<◌, inl, inr, List, [], ◌∷◌, ◌++◌, length, map, take, get_or, refl, sym, ap, ◌∙◌, arith, zero-add}
-use Rattle.std.specs.Prelude.{Bool, true, false, not, cond, ltb, ◌==◌, ◌&&◌, nat_eq, nat_lt, nat_le, fold, is_some, Option, Some, None, option_map, slice_set, if◌then◌else◌}
+use Rattle.std.specs.Prelude.{Bool, true, false, not, cond, ltb, ◌==◌, ◌&&◌, nat_eq, nat_lt, fold, is_some, Option, Some, None, option_map, slice_set, if◌then◌else◌}
 use Rattle.std.specs.List.{position_or_len}
 use Rattle.std.proofs.Common.{eqb-true}
 use Rattle.std.proofs.lemmas.Bool.{cases_Bool, cases_lt, lt-ltb, le-ltb, ltb-true}
 use Rattle.std.proofs.lemmas.List.Sums.{length-filter}
 use Rattle.gb_types.specs.declared.address.Addr.{Addr}
-use Rattle.gb_types.specs.declared.limits.TheConstants.{NODES, PAYLOAD}
+use Rattle.gb_types.specs.declared.limits.TheConstants.{NODES}
+use Rattle.gb_types.specs.declared.version.Version.{Version}
+use Rattle.gb_rules.specs.Group.{is_too_long}
 use Rattle.gb_types.specs.declared.node.NodeId.{NodeId}
 use Rattle.gb_types.proofs.BoolLemmas.{and_sides}
 use Rattle.gb_frame.specs.declared.item.Item.{Item}
@@ -189,9 +191,9 @@ all_in g step rows = group_first g (map (on_slot step) rows) ∙ (first_all g st
 
 -- Items of a frame.
 
-item_in : (g : Addr) (from : NodeId) (i : Item) (rows : List Row) → group_in g (item_came from i rows) ≡ where_so (names g i) (λ o. came_for from o i) (group_in g rows)
-item_in g from i rows =
-    let b = nat_lt i.origin NODES && nat_le (length i.payload) PAYLOAD in
+item_in : (version : Version) (g : Addr) (from : NodeId) (i : Item) (rows : List Row) → group_in g (item_came version from i rows) ≡ where_so (names g i) (λ o. came_for version from o i) (group_in g rows)
+item_in version g from i rows =
+    let b = nat_lt i.origin NODES && not (is_too_long version i.payload) in
     let came = on_address (address_of i) (slot_came from (entry_of i)) rows in
     elim (cases_Bool b) [
       | inl e ↦
@@ -208,18 +210,18 @@ item_in g from i rows =
     same_either true o = refl
     same_either false o = refl
 
-came_in : (g : Addr) (from : NodeId) (is : List Item) (rows : List Row) → group_in g (fold (λ rows i. item_came from i rows) rows is) ≡ fold (came_for from) (group_in g rows) (items_for g is)
-came_in g from [] rows = refl
-came_in g from (i ∷ is) rows =
+came_in : (version : Version) (g : Addr) (from : NodeId) (is : List Item) (rows : List Row) → group_in g (fold (λ rows i. item_came version from i rows) rows is) ≡ fold (came_for version from) (group_in g rows) (items_for g is)
+came_in version g from [] rows = refl
+came_in version g from (i ∷ is) rows =
     elim (cases_Bool (names g i)) [
       | inl e ↦
-          came_in g from is (item_came from i rows)
-          ∙ (ap (λ o. fold (came_for from) o (items_for g is)) (item_in g from i rows ∙ ap (λ b. where_so b (λ o. came_for from o i) (group_in g rows)) e)
-          ∙ sym (ap (λ b. fold (came_for from) (group_in g rows) (cond b (i ∷ items_for g is) (items_for g is))) e))
+          came_in version g from is (item_came version from i rows)
+          ∙ (ap (λ o. fold (came_for version from) o (items_for g is)) (item_in version g from i rows ∙ ap (λ b. where_so b (λ o. came_for version from o i) (group_in g rows)) e)
+          ∙ sym (ap (λ b. fold (came_for version from) (group_in g rows) (cond b (i ∷ items_for g is) (items_for g is))) e))
       | inr e ↦
-          came_in g from is (item_came from i rows)
-          ∙ (ap (λ o. fold (came_for from) o (items_for g is)) (item_in g from i rows ∙ ap (λ b. where_so b (λ o. came_for from o i) (group_in g rows)) e)
-          ∙ sym (ap (λ b. fold (came_for from) (group_in g rows) (cond b (i ∷ items_for g is) (items_for g is))) e))
+          came_in version g from is (item_came version from i rows)
+          ∙ (ap (λ o. fold (came_for version from) o (items_for g is)) (item_in version g from i rows ∙ ap (λ b. where_so b (λ o. came_for version from o i) (group_in g rows)) e)
+          ∙ sym (ap (λ b. fold (came_for version from) (group_in g rows) (cond b (i ∷ items_for g is) (items_for g is))) e))
     ]
 
 -- A batch.

@@ -10,7 +10,7 @@ use Rattle.std.specs.Map.{keys_of}
 use Rattle.slab.specs.Slab.{Slab, get, with_value}
 use Rattle.gb_rules.specs.Address.{is_addr}
 use Rattle.gb_types.specs.declared.address.Addr.{Addr}
-use Rattle.gb_types.specs.declared.limits.TheConstants.{NODES}
+use Rattle.gb_types.specs.declared.limits.TheConstants.{NODES, PAYLOAD}
 use Rattle.gb_slot.specs.SlotState.{SlotState}
 use Rattle.gb_groups.specs.declared.slots.Place.{Place}
 use Rattle.gb_groups.specs.declared.slots.Place.TheVariants.{Key, Gone}
@@ -92,25 +92,25 @@ counters_changed rows p row all h = record {
   ];
 }
 
-pub short_changed : (rows : List Row) (p : ℕ) (row : Row) → AreShort rows → IsShort row.slot → AreShort (set rows p row)
+pub short_changed : (rows : List Row) (p : ℕ) (row : Row) → AreShort PAYLOAD rows → IsShort PAYLOAD row.slot → AreShort PAYLOAD (set rows p row)
 short_changed rows p row all h = record {
   each = λ q. elim (cases_eq q p) [
     | inl e ↦ elim (cases_lt p (length rows)) [
-      | inl l ↦ subst (λ (r : Row). IsShort r.slot) (sym (ap (row_at (set rows p row)) e ∙ get_or-set_same rows p row no_row l)) h
-      | inr l ↦ subst (λ (r : Row). IsShort r.slot) (sym (get_or_past (set rows p row) q no_row (let n = length-set rows p row in omega arith))) tt
+      | inl l ↦ subst (λ (r : Row). IsShort PAYLOAD r.slot) (sym (ap (row_at (set rows p row)) e ∙ get_or-set_same rows p row no_row l)) h
+      | inr l ↦ subst (λ (r : Row). IsShort PAYLOAD r.slot) (sym (get_or_past (set rows p row) q no_row (let n = length-set rows p row in omega arith))) tt
     ]
-    | inr ne ↦ subst (λ (r : Row). IsShort r.slot) (sym (get_or-set_other rows p q row no_row ne)) (all.each q)
+    | inr ne ↦ subst (λ (r : Row). IsShort PAYLOAD r.slot) (sym (get_or-set_other rows p q row no_row ne)) (all.each q)
   ];
 }
 
-pub changed : (f : SlotState → SlotState) (es : List (Addr × Place)) (slots : Slab SlotState) (p k : ℕ) (v new : SlotState) → AreKept es slots → place_at es p ≡ Key k → Some v ≡ get slots k → new ≡ f v → length (f v).taken ≡ length v.taken → (IsShort (Some v) → IsShort (Some (f v))) → Changed f es slots p k new
+pub changed : (f : SlotState → SlotState) (es : List (Addr × Place)) (slots : Slab SlotState) (p k : ℕ) (v new : SlotState) → AreKept es slots → place_at es p ≡ Key k → Some v ≡ get slots k → new ≡ f v → length (f v).taken ≡ length v.taken → (IsShort PAYLOAD (Some v) → IsShort PAYLOAD (Some (f v))) → Changed f es slots p k new
 changed f es slots p k v new kept here at is size stays =
     let rows = changed_rows f es slots p k v new kept here at is in
     let old = slot_is slots es p k v here at in
     let count : counters (on_slot f (row_at (map (row_of slots) es) p)) ≡ NODES =
     ap (λ o. counters_of (option_map f o)) old ∙ size ∙ sym (ap counters_of old) ∙ kept.counters.each p in
-    let short : IsShort (on_slot f (row_at (map (row_of slots) es) p)).slot =
-    subst (λ o. IsShort (option_map f o)) (sym old) (stays (subst IsShort old (kept.short.each p))) in
+    let short : IsShort PAYLOAD (on_slot f (row_at (map (row_of slots) es) p)).slot =
+    subst (λ o. IsShort PAYLOAD (option_map f o)) (sym old) (stays (subst (IsShort PAYLOAD) old (kept.short.each p))) in
     let addr : (q : ℕ) → (row_at (map (row_of (with_value slots k new)) es) q).addr ≡ (row_at (map (row_of slots) es) q).addr =
     λ q. ap (λ (r : Row). r.addr) (row_is (with_value slots k new) es q) ∙ sym (ap (λ (r : Row). r.addr) (row_is slots es q)) in
     let n1 = length-map es (row_of (with_value slots k new)) in
@@ -123,7 +123,7 @@ changed f es slots p k v new kept here at is size stays =
         ];
         alone = kept.alone;
         counters = subst HaveCounters (sym rows) (counters_changed (map (row_of slots) es) p (on_slot f (row_at (map (row_of slots) es) p)) kept.counters count);
-        short = subst AreShort (sym rows) (short_changed (map (row_of slots) es) p (on_slot f (row_at (map (row_of slots) es) p)) kept.short short);
+        short = subst (AreShort PAYLOAD) (sym rows) (short_changed (map (row_of slots) es) p (on_slot f (row_at (map (row_of slots) es) p)) kept.short short);
         apart = record { apart = λ q r hq hr same. kept.apart.apart q r (omega arith) (omega arith) (sym (addr q) ∙ same ∙ addr r) };
       };
       rows = rows;
@@ -142,9 +142,9 @@ position-rows test addr slots es h =
     ap (λ i. cond (nat_lt i (length (keys_of es))) (Some i) None) n ∙ ap (λ l. cond (nat_lt (position_or_len (λ (row : Row). is_addr addr row.addr) (map (row_of slots) es)) l) (Some (position_or_len (λ (row : Row). is_addr addr row.addr) (map (row_of slots) es))) None) m
 
 -- what a kept slot knows is within the limit
-pub short_is : (slots : Slab SlotState) (es : List (Addr × Place)) (p k : ℕ) → AreKept es slots → place_at es p ≡ Key k → IsShort (get slots k)
-short_is slots es p k kept here = subst IsShort (ap (λ (r : Row). r.slot) (row_is slots es p) ∙ ap (slot_under slots) here) (kept.short.each p)
+pub short_is : (slots : Slab SlotState) (es : List (Addr × Place)) (p k : ℕ) → AreKept es slots → place_at es p ≡ Key k → IsShort PAYLOAD (get slots k)
+short_is slots es p k kept here = subst (IsShort PAYLOAD) (ap (λ (r : Row). r.slot) (row_is slots es p) ∙ ap (slot_under slots) here) (kept.short.each p)
 
-pub short_seen : (r : Option (Bor SlotState)) (o : Option SlotState) → option_copied r ≡ o → IsShort o → IfSome r (λ s. IsShort (Some s.now))
+pub short_seen : (r : Option (Bor SlotState)) (o : Option SlotState) → option_copied r ≡ o → IsShort PAYLOAD o → IfSome r (λ s. IsShort PAYLOAD (Some s.now))
 short_seen None o e h = tt
-short_seen (Some s) o e h = subst IsShort (sym e) h
+short_seen (Some s) o e h = subst (IsShort PAYLOAD) (sym e) h

@@ -7,7 +7,6 @@ use Rattle.std.specs.Prelude.{Option, if◌then◌else◌, ◌&&◌, not, nat_lt
 use Rattle.gb_types.specs.Entry.{message_of}
 use Rattle.gb_types.specs.declared.entry.Entry.{Entry}
 use Rattle.gb_types.specs.Message.{same}
-use Rattle.gb_types.specs.declared.limits.TheConstants.{PAYLOAD}
 use Rattle.gb_types.specs.declared.message.MsgId.{MsgId}
 use Rattle.gb_types.specs.declared.node.NodeId.{NodeId}
 use Rattle.gb_types.specs.declared.refusal.Refusal.{Refusal}
@@ -15,6 +14,8 @@ use Rattle.gb_types.specs.declared.refusal.Refusal.TheVariants.{TooLong, Budget,
 use Rattle.gb_types.specs.declared.reply.Reply.{Reply}
 use Rattle.gb_types.specs.declared.reply.Reply.TheVariants.{Done, Said, Log, Refused}
 use Rattle.gb_types.specs.declared.spec.Spec.{Spec}
+use Rattle.gb_types.specs.declared.version.Version.{Version}
+use Rattle.gb_types.specs.Version.{limits_of}
 use Rattle.gb_layer.specs.declared.call.Call.TheVariants.{Came, Notice}
 use Rattle.gb_history.specs.Messages.{has, payload_in, entry_in, with_new}
 use Rattle.gb_rules.specs.Group.{is_other, say_answer}
@@ -50,41 +51,41 @@ taken-done b m s = refl
 
 -- What steps leave of the payloads that are known.
 
-payload-more : (store : List Entry) (x : Entry) (m : MsgId) → length (payload_in store m) ≤ PAYLOAD → length x.payload ≤ PAYLOAD → length (payload_in (store ++ x ∷ []) m) ≤ PAYLOAD
-payload-more [] x m h l = elim (same (message_of x) m) as (λ b. length (if b then x.payload else []) ≤ PAYLOAD) [ true ↦ l | false ↦ omega arith ]
-payload-more (y ∷ ys) x m h l =
-    let step : length (if same (message_of y) m then y.payload else payload_in ys m) ≤ PAYLOAD → length (if same (message_of y) m then y.payload else payload_in (ys ++ x ∷ []) m) ≤ PAYLOAD =
-    elim (same (message_of y) m) as (λ b. length (if b then y.payload else payload_in ys m) ≤ PAYLOAD → length (if b then y.payload else payload_in (ys ++ x ∷ []) m) ≤ PAYLOAD) [
+payload-more : (limit : ℕ) (store : List Entry) (x : Entry) (m : MsgId) → length (payload_in store m) ≤ limit → length x.payload ≤ limit → length (payload_in (store ++ x ∷ []) m) ≤ limit
+payload-more limit [] x m h l = elim (same (message_of x) m) as (λ b. length (if b then x.payload else []) ≤ limit) [ true ↦ l | false ↦ omega arith ]
+payload-more limit (y ∷ ys) x m h l =
+    let step : length (if same (message_of y) m then y.payload else payload_in ys m) ≤ limit → length (if same (message_of y) m then y.payload else payload_in (ys ++ x ∷ []) m) ≤ limit =
+    elim (same (message_of y) m) as (λ b. length (if b then y.payload else payload_in ys m) ≤ limit → length (if b then y.payload else payload_in (ys ++ x ∷ []) m) ≤ limit) [
       | true ↦ λ k. k
-      | false ↦ λ k. payload-more ys x m k l
+      | false ↦ λ k. payload-more limit ys x m k l
     ] in
     step h
 
-payload-new : (store : List Entry) (x : Entry) (m : MsgId) → length (payload_in store m) ≤ PAYLOAD → length x.payload ≤ PAYLOAD → length (payload_in (with_new store x) m) ≤ PAYLOAD
-payload-new store x m h l = elim (has store (message_of x)) as (λ b. length (payload_in (if b then store else store ++ x ∷ []) m) ≤ PAYLOAD) [ true ↦ h | false ↦ payload-more store x m h l ]
+payload-new : (limit : ℕ) (store : List Entry) (x : Entry) (m : MsgId) → length (payload_in store m) ≤ limit → length x.payload ≤ limit → length (payload_in (with_new store x) m) ≤ limit
+payload-new limit store x m h l = elim (has store (message_of x)) as (λ b. length (payload_in (if b then store else store ++ x ∷ []) m) ≤ limit) [ true ↦ h | false ↦ payload-more limit store x m h l ]
 
-pub short-took : (dest count : ℕ) (s : SlotState) → IsShort (Some s) → IsShort (Some (slot_took dest count s))
-short-took dest count s h = h
+pub short-took : (limit : ℕ) (dest count : ℕ) (s : SlotState) → IsShort limit (Some s) → IsShort limit (Some (slot_took dest count s))
+short-took limit dest count s h = h
 
-pub short-done : (b : NodeId) (m : MsgId) (s : SlotState) → IsShort (Some s) → IsShort (Some (slot_done b m s))
-short-done b m s h = h
+pub short-done : (limit : ℕ) (b : NodeId) (m : MsgId) (s : SlotState) → IsShort limit (Some s) → IsShort limit (Some (slot_done b m s))
+short-done limit b m s h = h
 
-pub short-moved : (phase : Phase) (reply : Reply) (s : SlotState) → IsShort (Some s) → IsShort (Some (slot_moved phase reply s))
-short-moved phase Done s h = h
-short-moved phase (Said seq) s h = h
-short-moved phase (Log entries) s h = h
-short-moved phase (Refused why) s h = h
+pub short-moved : (limit : ℕ) (phase : Phase) (reply : Reply) (s : SlotState) → IsShort limit (Some s) → IsShort limit (Some (slot_moved phase reply s))
+short-moved limit phase Done s h = h
+short-moved limit phase (Said seq) s h = h
+short-moved limit phase (Log entries) s h = h
+short-moved limit phase (Refused why) s h = h
 
-pub short-noticed : (q : NodeId) (s : SlotState) → IsShort (Some s) → IsShort (Some (slot_noticed q s))
-short-noticed q s h = elim (is_other s.spec s.me.number q.number) as (λ b. IsShort (Some (if b then record (slot_called (Notice q) s.store s) { noticed = nodes.insert s.noticed q.number } else s))) [ true ↦ h | false ↦ h ]
+pub short-noticed : (limit : ℕ) (q : NodeId) (s : SlotState) → IsShort limit (Some s) → IsShort limit (Some (slot_noticed q s))
+short-noticed limit q s h = elim (is_other s.spec s.me.number q.number) as (λ b. IsShort limit (Some (if b then record (slot_called (Notice q) s.store s) { noticed = nodes.insert s.noticed q.number } else s))) [ true ↦ h | false ↦ h ]
 
-pub short-came : (from : NodeId) (x : Entry) (s : SlotState) → length x.payload ≤ PAYLOAD → IsShort (Some s) → IsShort (Some (slot_came from x s))
-short-came from x s l h = elim (falls from x s) as (λ b. IsShort (Some (if b then s else slot_called (Came from (message_of x)) (with_new s.store x) s))) [ true ↦ h | false ↦ λ m. payload-new s.store x m (h m) l ]
+pub short-came : (limit : ℕ) (from : NodeId) (x : Entry) (s : SlotState) → length x.payload ≤ limit → IsShort limit (Some s) → IsShort limit (Some (slot_came from x s))
+short-came limit from x s l h = elim (falls from x s) as (λ b. IsShort limit (Some (if b then s else slot_called (Came from (message_of x)) (with_new s.store x) s))) [ true ↦ h | false ↦ λ m. payload-new limit s.store x m (h m) l ]
 
 -- what is said is within the limit
-pub said_fits : (spec : Spec) (phase : Phase) (usage : Usage) (log : List Entry) (payload : List ℕ) (seq : ℕ) → Said seq ≡ say_answer (record { spec = spec; phase = phase; usage = usage; log = log }) payload → length payload ≤ PAYLOAD
-said_fits spec Opened usage log payload seq e = elim (cases_lt PAYLOAD (length payload)) [
-  | inl h ↦ absurd (clash (e ∙ ap (λ b. if b then Refused TooLong else rest) (lt-ltb PAYLOAD (length payload) h)))
+pub said_fits : (version : Version) (spec : Spec) (phase : Phase) (usage : Usage) (log : List Entry) (payload : List ℕ) (seq : ℕ) → Said seq ≡ say_answer version (record { spec = spec; phase = phase; usage = usage; log = log }) payload → length payload ≤ (limits_of version).payload
+said_fits version spec Opened usage log payload seq e = elim (cases_lt (limits_of version).payload (length payload)) [
+  | inl h ↦ absurd (clash (e ∙ ap (λ b. if b then Refused TooLong else rest) (lt-ltb (limits_of version).payload (length payload) h)))
   | inr h ↦ h
 ]
   where
@@ -96,27 +97,29 @@ said_fits spec Opened usage log payload seq e = elim (cases_lt PAYLOAD (length p
 
     clash : Said seq ≡ Refused TooLong → ⊥
     clash h = cc
-said_fits spec Made usage log payload seq e = absurd (cc)
-said_fits spec Shut usage log payload seq e = absurd (cc)
-said_fits spec Gone usage log payload seq e = absurd (cc)
+said_fits version spec Made usage log payload seq e = absurd (cc)
+said_fits version spec Shut usage log payload seq e = absurd (cc)
+said_fits version spec Gone usage log payload seq e = absurd (cc)
 
-pub short-said : (payload : List ℕ) (reply : Reply) (s : SlotState) → reply ≡ say_answer (shown s) payload → IsShort (Some s) → IsShort (Some (slot_said payload reply s))
-short-said payload Done s e h = h
-short-said payload (Said seq) s e h = λ m. payload-more s.store (own_entry s payload) m (h m) (said_fits s.spec s.phase (usage_of s) (shown s).log payload seq e)
-short-said payload (Log entries) s e h = h
-short-said payload (Refused why) s e h = h
+pub short-said : (limit : ℕ) (version : Version) (payload : List ℕ) (reply : Reply) (s : SlotState) → (limits_of version).payload ≤ limit → reply ≡ say_answer version (shown s) payload → IsShort limit (Some s) → IsShort limit (Some (slot_said payload reply s))
+short-said limit version payload Done s l e h = h
+short-said limit version payload (Said seq) s l e h = λ m.
+    let fits = said_fits version s.spec s.phase (usage_of s) (shown s).log payload seq e in
+    payload-more limit s.store (own_entry s payload) m (h m) (omega (arith, fits, l))
+short-said limit version payload (Log entries) s l e h = h
+short-said limit version payload (Refused why) s l e h = h
 
-known_fits : (store : List Entry) (ms : List MsgId) (nth : ℕ) (e : Entry) → ((m : MsgId) → length (payload_in store m) ≤ PAYLOAD) → slice_get (map (entry_in store) ms) nth ≡ Some e → length e.payload ≤ PAYLOAD
-known_fits store [] nth e h f = absurd (cc)
-known_fits store (m ∷ ms) zero e h f = let same_entry : entry_in store m ≡ e = cc in subst (λ (x : Entry). length x.payload ≤ PAYLOAD) same_entry (h m)
-known_fits store (m ∷ ms) (suc nth) e h f = known_fits store ms nth e h f
+known_fits : (limit : ℕ) (store : List Entry) (ms : List MsgId) (nth : ℕ) (e : Entry) → ((m : MsgId) → length (payload_in store m) ≤ limit) → slice_get (map (entry_in store) ms) nth ≡ Some e → length e.payload ≤ limit
+known_fits limit store [] nth e h f = absurd (cc)
+known_fits limit store (m ∷ ms) zero e h f = let same_entry : entry_in store m ≡ e = cc in subst (λ (x : Entry). length x.payload ≤ limit) same_entry (h m)
+known_fits limit store (m ∷ ms) (suc nth) e h f = known_fits limit store ms nth e h f
 
 -- what waits is within the limit
-pub waiting_fits : (s : SlotState) (d nth : ℕ) (e : Entry) → IsShort (Some s) → slice_get (waiting s d) nth ≡ Some e → length e.payload ≤ PAYLOAD
-waiting_fits s d nth e h =
+pub waiting_fits : (limit : ℕ) (s : SlotState) (d nth : ℕ) (e : Entry) → IsShort limit (Some s) → slice_get (waiting s d) nth ≡ Some e → length e.payload ≤ limit
+waiting_fits limit s d nth e h =
     elim (is_other s.spec s.me.number d && not (nodes.contains s.noticed d)) as
-    (λ b. slice_get (if b then map (entry_in s.store) (drop (taken_for s d) s.outgoing) else []) nth ≡ Some e → length e.payload ≤ PAYLOAD) [
-      | true ↦ λ f. known_fits s.store (drop (taken_for s d) s.outgoing) nth e h f
+    (λ b. slice_get (if b then map (entry_in s.store) (drop (taken_for s d) s.outgoing) else []) nth ≡ Some e → length e.payload ≤ limit) [
+      | true ↦ λ f. known_fits limit s.store (drop (taken_for s d) s.outgoing) nth e h f
       | false ↦ λ f. let none : None ≡ Some e = f in absurd (cc)
     ]
 

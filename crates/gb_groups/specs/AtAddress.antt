@@ -1,14 +1,15 @@
 -- A step at one address.
-use Rattle.std.specs.Prelude.{ℕ, ◌≡◌, ◌&&◌, false, List, length, Option, Some, None, option_map, position, nat_lt, nat_le, slice_set, if◌then◌else◌}
+use Rattle.std.specs.Prelude.{ℕ, ◌≡◌, ◌&&◌, not, false, List, length, Option, Some, None, option_map, position, nat_lt, slice_set, if◌then◌else◌}
 use Rattle.gb_types.specs.declared.address.Addr.{Addr}
-use Rattle.gb_types.specs.declared.limits.TheConstants.{NODES, PAYLOAD}
+use Rattle.gb_types.specs.declared.limits.TheConstants.{NODES}
 use Rattle.gb_types.specs.declared.node.NodeId.{NodeId}
 use Rattle.gb_frame.specs.declared.item.Item.{Item}
 use Rattle.gb_frame.specs.Items.{address_of, entry_of}
 use Rattle.gb_types.specs.declared.refusal.Refusal.TheVariants.{NoGroup}
 use Rattle.gb_types.specs.declared.reply.Reply.{Reply}
 use Rattle.gb_types.specs.declared.reply.Reply.TheVariants.{Refused}
-use Rattle.gb_rules.specs.Group.{Shown}
+use Rattle.gb_types.specs.declared.version.Version.{Version}
+use Rattle.gb_rules.specs.Group.{Shown, is_too_long}
 use Rattle.gb_rules.specs.Address.{is_addr}
 use Rattle.gb_slot.specs.Slot.{slot_came}
 use Rattle.gb_slot.specs.SlotState.{SlotState}
@@ -43,9 +44,9 @@ drop_at addr rows = gone_at rows (place_of addr rows)
 pub record OthersKept (addr : Addr) (old new : List Row) : Type 0 where
   pub others : (g : Addr) → is_addr g addr ≡ false → row_for g new ≡ row_for g old
 
--- after an item came from a node; one whose origin is no node, or that is longer than a message may be, is let fall
-abbrev pub item_came : NodeId → Item → List Row → List Row
-item_came from i rows = if nat_lt i.origin NODES && nat_le (length i.payload) PAYLOAD then on_address (address_of i) (slot_came from (entry_of i)) rows else rows
+-- after an item came from a node to one that sends this version; one whose origin is no node, or that is longer than a message may be there, is let fall
+abbrev pub item_came : Version → NodeId → Item → List Row → List Row
+item_came version from i rows = if nat_lt i.origin NODES && not (is_too_long version i.payload) then on_address (address_of i) (slot_came from (entry_of i)) rows else rows
 
 -- the reply to a command on the group with an address
 abbrev pub reply_at : (Shown → Reply) → List Row → Option ℕ → Reply

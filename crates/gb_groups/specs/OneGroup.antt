@@ -1,12 +1,14 @@
 -- What becomes of one group among the groups of a node.
-use Rattle.std.specs.Prelude.{ℕ, ◌≡◌, ◌+◌, ◌&&◌, List, ◌++◌, ◌∷◌, [], length, map, take, fold, Option, Some, None, option_map, nat_lt, nat_le, if◌then◌else◌}
+use Rattle.std.specs.Prelude.{ℕ, ◌≡◌, ◌+◌, ◌&&◌, List, ◌++◌, ◌∷◌, [], length, map, take, fold, Option, Some, None, option_map, not, nat_lt, if◌then◌else◌}
 use Rattle.gb_types.specs.declared.address.Addr.{Addr}
 use Rattle.gb_types.specs.declared.entry.Entry.{Entry}
 use Rattle.gb_types.specs.declared.limits.TheConstants.{NODES, PAYLOAD}
 use Rattle.gb_types.specs.declared.node.NodeId.{NodeId}
 use Rattle.gb_frame.specs.declared.item.Item.{Item}
 use Rattle.gb_frame.specs.Items.{entry_of, item_for, items_for}
+use Rattle.gb_types.specs.declared.version.Version.{Version}
 use Rattle.gb_rules.specs.Address.{is_addr}
+use Rattle.gb_rules.specs.Group.{is_too_long}
 use Rattle.gb_rules.specs.Lifetime.{stepped, dropped, or_added, where_so}
 use Rattle.gb_slot.specs.SlotState.{SlotState}
 use Rattle.gb_slot.specs.Slot.{slot_came, slot_took}
@@ -19,9 +21,9 @@ use Rattle.gb_groups.specs.AtAddress.{place_of, row_for, on_address, drop_at, it
 abbrev pub group_in : Addr → List Row → Option (Option SlotState)
 group_in g rows = option_map (λ row. row.slot) (row_for g rows)
 
--- after an item came for it from a node; one whose origin is no node, or that is longer than a message may be, is let fall
-abbrev pub came_for : NodeId → Option (Option SlotState) → Item → Option (Option SlotState)
-came_for from o i = where_so (nat_lt i.origin NODES && nat_le (length i.payload) PAYLOAD) (stepped (slot_came from (entry_of i))) o
+-- after an item came for it from a node to one that sends this version; one whose origin is no node, or that is longer than a message may be there, is let fall
+abbrev pub came_for : Version → NodeId → Option (Option SlotState) → Item → Option (Option SlotState)
+came_for version from o i = where_so (nat_lt i.origin NODES && not (is_too_long version i.payload)) (stepped (slot_came from (entry_of i))) o
 
 -- the items that wait in it for a node
 abbrev pub waiting_in : Option (Option SlotState) → ℕ → List Entry
@@ -46,7 +48,7 @@ pub record EachGroup : Type 0 where
   -- a step of all slots is a step of each
   pub every : (g : Addr) (step : SlotState → SlotState) (rows : List Row) → group_in g (map (on_slot step) rows) ≡ stepped step (group_in g rows)
   -- of the items of a frame each group takes those that name it, in order
-  pub arrived : (g : Addr) (from : NodeId) (items : List Item) (rows : List Row) → group_in g (fold (λ rows i. item_came from i rows) rows items) ≡ fold (came_for from) (group_in g rows) (items_for g items)
+  pub arrived : (version : Version) (g : Addr) (from : NodeId) (items : List Item) (rows : List Row) → group_in g (fold (λ rows i. item_came version from i rows) rows items) ≡ fold (came_for version from) (group_in g rows) (items_for g items)
   -- a batch has of each group a front of what waits there, in order, and takes that
   pub front : (g : Addr) (dest room : ℕ) (t : GroupsValue) → AreApart t.rows
       → items_for g (items t.rows (batch dest room t)) ≡ map (item_for g) (take (length (items_for g (items t.rows (batch dest room t)))) (waiting_in (group_in g t.rows) dest))

@@ -2,6 +2,7 @@
 use Rattle.std.specs.Prelude.{ℕ, ◌≡◌, List, map, Option, None, Some, IsSome, slice_index_or}
 use Rattle.slab.specs.Slab.{Slab, get}
 use Rattle.gb_types.specs.declared.address.Addr.{Addr}
+use Rattle.gb_types.specs.declared.limits.TheConstants.{PAYLOAD}
 use Rattle.gb_layer.specs.declared.effects.Effects.{Effects}
 use Rattle.gb_slot.specs.Effects.{AreReady, IsEmpty}
 use Rattle.gb_slot.specs.SlotState.{SlotState}
@@ -29,7 +30,7 @@ pub record AreKept (entries : List (Addr × Place)) (slots : Slab SlotState) : T
   pub there : (p k : ℕ) → place_at entries p ≡ Key k → IsSome (get slots k)
   pub alone : (p q k : ℕ) → place_at entries p ≡ Key k → place_at entries q ≡ Key k → p ≡ q
   pub counters : HaveCounters (map (row_of slots) entries)
-  pub short : AreShort (map (row_of slots) entries)
+  pub short : AreShort PAYLOAD (map (row_of slots) entries)
   pub apart : AreApart (map (row_of slots) entries)
 
 -- the lists that are lent are empty, and ready for each slot

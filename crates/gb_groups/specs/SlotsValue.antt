@@ -3,7 +3,7 @@ use Rattle.std.proofs.Common.{arith}
 use Rattle.std.specs.Prelude.{ℕ, ◌≡◌, ◌<◌, ◌≤◌, List, [], length, Option, Some, None, option_map, slice_index_or}
 use Rattle.gb_types.specs.declared.address.Addr.{Addr}
 use Rattle.gb_types.specs.declared.entry.Entry.{Entry}
-use Rattle.gb_types.specs.declared.limits.TheConstants.{NODES, PAYLOAD}
+use Rattle.gb_types.specs.declared.limits.TheConstants.{NODES}
 use Rattle.gb_types.specs.declared.message.MsgId.{MsgId}
 use Rattle.gb_types.specs.declared.refusal.Refusal.TheVariants.{Spent}
 use Rattle.gb_types.specs.declared.reply.Reply.{Reply}
@@ -56,13 +56,13 @@ counters row = counters_of row.slot
 pub record HaveCounters (rows : List Row) : Type 0 where
   pub each : (p : ℕ) → counters (row_at rows p) ≡ NODES
 
--- no message that is known is longer than a message may be
-abbrev pub IsShort : Option SlotState → Type 0
-IsShort None = Unit {0}
-IsShort (Some s) = (m : MsgId) → length (payload_in s.store m) ≤ PAYLOAD
+-- no message that is known has more than so many bytes
+abbrev pub IsShort : ℕ → Option SlotState → Type 0
+IsShort limit None = Unit {0}
+IsShort limit (Some s) = (m : MsgId) → length (payload_in s.store m) ≤ limit
 
-pub record AreShort (rows : List Row) : Type 0 where
-  pub each : (p : ℕ) → IsShort (row_at rows p).slot
+pub record AreShort (limit : ℕ) (rows : List Row) : Type 0 where
+  pub each : (p : ℕ) → IsShort limit (row_at rows p).slot
 
 -- no two groups have one address
 pub record AreApart (rows : List Row) : Type 0 where

@@ -24,15 +24,17 @@ use crate::packing::{advance, measure};
 use crate::place_set::PlaceSet;
 use crate::slots::Slots;
 use gb_frame::item::ItemView;
+use gb_rules::group::is_too_long;
 use gb_slot::slot::Slot;
 use gb_types::address::Addr;
-use gb_types::limits::{NODES, PAYLOAD};
+use gb_types::limits::NODES;
 use gb_types::memory::OutOfMemory;
 use gb_types::message::MsgId;
 use gb_types::node::{NodeId, NodeSet};
 use gb_types::refusal::Refusal;
 use gb_types::reply::Reply;
 use gb_types::spec::Spec;
+use gb_types::version::Version;
 use std::alloc::Global;
 use std::marker::Model;
 
@@ -230,17 +232,17 @@ impl Groups {
         self.slots.find(addr)
     }
 
-    /// Takes an item in that came from a node. It is let fall where it is longer than a message may be,
-    /// where its group is not here, or by the group's rules.
-    pub fn item(&mut self, from: NodeId, item: ItemView<'_>)
-        ensures rows { self.new.rows ≡ item_came from (view_item item.entry) self.old.rows }
+    /// Takes an item in that came from a node, at a node that sends this version of the packet text. It is let fall where
+    /// it is longer than a message may be here, where its group is not here, or by the group's rules.
+    pub fn item(&mut self, version: Version, from: NodeId, item: ItemView<'_>)
+        ensures rows { self.new.rows ≡ item_came version from (view_item item.entry) self.old.rows }
         ensures cursors { self.new.cursors ≡ self.old.cursors }
         ensures others { OthersKept (address_of (view_item item.entry)) self.old.rows self.new.rows }
     {
         let Some(origin) = NodeId::from_number(item.origin) else {
             return;
         };
-        if item.payload.len() > PAYLOAD {
+        if is_too_long(version, item.payload) {
             return;
         }
         let addr = Addr {
@@ -335,17 +337,24 @@ impl Groups {
         }
     }
 
-    /// Says something in the group with this address, at the place that `find` gave, if it gave one.
-    pub fn say(&mut self, addr: Addr, place: Option<usize>, payload: &[u8]) -> Reply
+    /// Says something in the group with this address, at the place that `find` returned, at a node that sends this version
+    /// of the packet text.
+    pub fn say(
+        &mut self,
+        version: Version,
+        addr: Addr,
+        place: Option<usize>,
+        payload: &[u8],
+    ) -> Reply
         requires { place ≡ place_of addr self.old.rows }
-        ensures reply { result ≡ group_reply (λ s. say_answer s payload.now) addr self.old.rows }
+        ensures reply { result ≡ group_reply (λ s. say_answer version s payload.now) addr self.old.rows }
         ensures rows { self.new.rows ≡ on_address addr (slot_said payload.now result) self.old.rows }
         ensures cursors { self.new.cursors ≡ self.old.cursors }
         ensures others { OthersKept addr self.old.rows self.new.rows }
     {
         match place {
             Some(place) => {
-                let reply = self.slots.say(place, payload);
+                let reply = self.slots.say(version, place, payload);
                 if let Reply::Said(_) = reply {
                     note_put_out(&mut self.busy, &self.slots, place);
                 }

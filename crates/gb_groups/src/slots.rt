@@ -24,6 +24,7 @@ use gb_types::node::{NodeId, NodeSet};
 use gb_types::refusal::Refusal;
 use gb_types::reply::Reply;
 use gb_types::spec::Spec;
+use gb_types::version::Version;
 use indexmap::IndexMap;
 use slab::Slab;
 use std::alloc::Global;
@@ -103,7 +104,7 @@ impl Slots {
         ensures len { result ≡ length self.now.rows }
         ensures counters { HaveCounters self.now.rows }
         ensures apart { AreApart self.now.rows }
-        ensures short { AreShort self.now.rows }
+        ensures short { AreShort PAYLOAD self.now.rows }
     {
         self.places.len()
     }
@@ -128,7 +129,7 @@ impl Slots {
     /// The slot of the group at a place, unless it was dropped.
     pub fn slot(&self, place: usize) -> Option<&Slot>
         ensures slot { MatchOption result ((row_at self.now.rows place).slot ≡ None) (λ s. (row_at self.now.rows place).slot ≡ Some s.now) }
-        ensures short { IfSome result (λ s. IsShort (Some s.now)) }
+        ensures short { IfSome result (λ s. IsShort PAYLOAD (Some s.now)) }
     {
         let Some(key) = key_at(&self.places, place) else {
             return None;
@@ -260,17 +261,17 @@ impl Slots {
         Reply::Refused(Refusal::Spent)
     }
 
-    /// Says something in the group at a place. Spent where it was dropped. What gets a number is put out: something waits
-    /// then for each node that the group reaches.
-    pub fn say(&mut self, place: usize, payload: &[u8]) -> Reply
-        ensures reply { result ≡ unless_gone (λ s. say_answer s payload.now) (row_at self.old.rows place).slot }
+    /// Says something in the group at a place, at a node that sends this version of the packet text. Spent where it was
+    /// dropped. What gets a number is put out: something waits then for each node that the group reaches.
+    pub fn say(&mut self, version: Version, place: usize, payload: &[u8]) -> Reply
+        ensures reply { result ≡ unless_gone (λ s. say_answer version s payload.now) (row_at self.old.rows place).slot }
         ensures rows { self.new.rows ≡ slice_set self.old.rows place (on_slot (slot_said payload.now result) (row_at self.old.rows place)) }
         ensures put_out { (seq : ℕ) → result ≡ Reply.Said seq → IsPutOut (row_at self.new.rows place).slot }
     {
         self.recent = place;
         if let Some(key) = key_at(&self.places, place) {
             if let Some(slot) = self.slots.get_mut(key) {
-                return said(slot.say(payload, &mut self.effects));
+                return said(slot.say(version, payload, &mut self.effects));
             }
         }
         Reply::Refused(Refusal::Spent)
@@ -332,7 +333,7 @@ impl Slots {
 
 /// Appends the text of the first item that waits for a node in a group. Takes no memory.
 fn put_first(addr: Addr, slot: &Slot, dest: NodeId, out: &mut Vec<u8>)
-    requires short { IsShort (Some slot.now) }
+    requires short { IsShort PAYLOAD (Some slot.now) }
     requires item { 0 < length (waiting slot.now dest.number) }
     requires room { vec_len out.old + ITEM_HEADER + length (slice_index_or (waiting slot.now dest.number) 0 no_entry).payload ≤ vec_capacity out.old }
     ensures written { out.new.items ≡ out.old.items ++ item_text (item_of (record { addr = addr; slot = Some slot.now }) (slice_index_or (waiting slot.now dest.number) 0 no_entry)) }

@@ -1,2 +1,3 @@
 pub mod AddressLemmas
+pub mod LengthLemmas
 pub mod LetFallLemmas

@@ -1,12 +1,13 @@
 -- What stands at the place of a message.
 use Rattle.std.proofs.Common.{◌≡◌, ℕ, zero, suc, ◌+◌, ◌≤◌, ◌<◌, ◌||◌, Bool, true, false, List, [], ◌∷◌, ◌++◌, length, take, drop, set, get_or, slice_get, Some, None, refl, sym, ◌∙◌, ap, subst, arith}
-use Rattle.std.specs.Prelude.{Option, IfSome, MatchOption, map, slice_range, is_some, if◌then◌else◌}
+use Rattle.std.specs.Prelude.{Option, IfSome, MatchOption, map, replicate, slice_range, is_some, if◌then◌else◌}
 use Rattle.std.specs.Ordering.{nat_cmp}
 use Rattle.std.specs.FinSet as nodes
 use Rattle.std.specs.List.{list_any, IsDistinct, AllByRecursion}
 use Rattle.std.proofs.Math.Bool.{or-true}
-use Rattle.std.proofs.lemmas.List.{map-append}
+use Rattle.std.proofs.lemmas.List.{map-append, get_or-replicate}
 use Rattle.std.proofs.lemmas.Option.{get_or_from_slice_get}
+use Rattle.gb_types.specs.declared.limits.TheConstants.{NODES, BYTES}
 use Rattle.gb_types.specs.declared.message.MsgId.{MsgId}
 use Rattle.gb_types.specs.declared.node.NodeId.{NodeId}
 use Rattle.gb_types.specs.Entry.{message_of}
@@ -15,10 +16,10 @@ use Rattle.gb_types.proofs.SameLemmas.{same-true, same_itself}
 use Rattle.gb_types.proofs.BoolLemmas.{or_left, or_right}
 use Rattle.gb_layer.proofs.PlacesLemmas.{get_within}
 use Rattle.gb_layer.specs.WholeLemmas.{once_grown}
-use Rattle.gb_history.specs.Messages.{has, payload_in}
+use Rattle.gb_history.specs.Messages.{has, payload_in, bytes_of}
 use Rattle.gb_slot.specs.Arrivals.{Arrival, has_arrival, nodes_of, with_node}
 use Rattle.gb_slot.specs.declared.store.Kept.{Kept}
-use Rattle.gb_slot.specs.Kept.{start_of, entries_of, is_of, messages_of, arrivals_of, IsPlaceOf, AreInside}
+use Rattle.gb_slot.specs.Kept.{start_of, entries_of, is_of, messages_of, arrivals_of, IsPlaceOf, AreInside, AreCounted}
 use Rattle.gb_slot.proofs.KeptLemmas.{start_within}
 
 -- a test that fails at each place before one
@@ -205,3 +206,7 @@ once_pushed kept m once new =
 pub once_none : (kept : List Kept) → kept ≡ [] → IsDistinct same (messages_of kept)
 unfolding IsDistinct
 once_none kept none = subst (λ ks. IsDistinct same (messages_of ks)) (sym none) tt
+
+-- of nothing no bytes are counted for any origin
+pub none_counted : (bytes : List ℕ) (kept : List Kept) → kept ≡ [] → AreCounted (replicate NODES 0) (entries_of bytes kept)
+none_counted bytes kept e = λ origin h. subst (λ (ks : List Kept). (get_or (replicate NODES 0) origin 0 ≡ bytes_of origin (entries_of bytes ks)) × (bytes_of origin (entries_of bytes ks) ≤ BYTES)) (sym e) (get_or-replicate NODES origin 0 0 h, omega arith)

@@ -7,7 +7,7 @@ ghost use Rattle.gb_stack.specs.StackState.{new_stack};
 ghost use Rattle.gb_stack.specs.Stands.{HasStarted};
 ghost use Rattle.gb_history.specs.Messages.{entry_in};
 ghost use Rattle.gb_rules.specs.Replied.{done_reply, said_reply, log_reply, IsReply};
-ghost use Rattle.gb_rules.specs.Group.{is_gone, is_member, is_other, open_answer, shut_answer, say_answer, fetch_answer};
+ghost use Rattle.gb_rules.specs.Group.{is_gone, is_member, is_other, open_answer, shut_answer, is_too_long, say_answer, fetch_answer};
 ghost use Rattle.gb_slot.specs.Effects.{AreEmptied, AreReady, IsEmpty};
 ghost use Rattle.gb_slot.specs.Reached.{limit_of, most_bytes, most_messages};
 ghost use Rattle.gb_slot.specs.Slot.{IsWithinLimits};
@@ -32,6 +32,7 @@ use gb_types::message::MsgId;
 use gb_types::node::{NodeId, NodeSet};
 use gb_types::refusal::Refusal;
 use gb_types::spec::Spec;
+use gb_types::version::Version;
 use std::alloc::Global;
 use std::marker::Model;
 
@@ -204,19 +205,26 @@ impl Slot {
         }
     }
 
-    /// Broadcasts a payload, and gives its number here. WrongPhase where the group is not open, TooLong above
-    /// 1,024 bytes, Budget where all messages are said, Bytes where the payload's bytes would be too many in
-    /// all, Window where too many messages are unfinished, in this order. A message that gets a number is put out at once:
-    /// something waits then for each other member that was not noticed. Takes no memory.
-    pub fn say(&mut self, payload: &[u8], effects: &mut Effects) -> Result<u16, Refusal>
+    /// Broadcasts a payload at a node that sends this version of the packet text, and returns its number here. WrongPhase
+    /// where the group is not open, TooLong above the version's payload limit, Budget where all messages are said, Bytes
+    /// where the payload's bytes would be too many in all, Window where too many messages are unfinished, in this order. A
+    /// message that gets a number is put out at once: something waits then for each other member that was not noticed. Takes
+    /// no memory.
+    pub fn say(
+        &mut self,
+        version: Version,
+        payload: &[u8],
+        effects: &mut Effects,
+    ) -> Result<u16, Refusal>
         requires ready { AreReady self.old.spec effects.old }
-        ensures answer { said_reply result ≡ say_answer (shown self.old) payload.now }
+        ensures answer { said_reply result ≡ say_answer version (shown self.old) payload.now }
+        ensures short { OnOk result (is_too_long version payload.now ≡ false) }
         ensures present { is_gone self.old.phase ≡ false }
         ensures state { self.new ≡ slot_said payload.now (said_reply result) self.old }
         ensures put_out { OnOk result (WaitsForEach self.new) }
         ensures effects { AreEmptied effects.old effects.new }
     {
-        if let Err(why) = check_say(&self.spec, self.phase, self.usage(), payload) {
+        if let Err(why) = check_say(version, &self.spec, self.phase, self.usage(), payload) {
             return Err(why);
         }
         let seq = (self.said + 1) as u16;

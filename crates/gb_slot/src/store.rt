@@ -214,7 +214,6 @@ fn put_few(m: MsgId, payload: &[u8], entries: &mut Vec<Entry>)
 impl Store {
     /// Nothing, with memory for so many messages, with so many bytes of payload in all. The members' messages numbered
     /// up to this width are found at once, others by a search.
-    #[tactic(auto, using(crate::proofs::PlaceLemmas::once_none))]
     pub fn new(
         alloc: Global,
         members: &NodeSet,

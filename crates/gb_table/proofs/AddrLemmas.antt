@@ -4,7 +4,7 @@ use Rattle.std.specs.Prelude.{◌&&◌, nat_lt, nat_le, Option, Some, None, if�
 use Rattle.std.proofs.Math.ListN.{set, get_or-map}
 use Rattle.std.proofs.Math.Seq.{map-set_same}
 use Rattle.gb_types.specs.declared.address.Addr.{Addr}
-use Rattle.gb_types.specs.declared.limits.TheConstants.{NODES, PAYLOAD}
+use Rattle.gb_types.specs.declared.limits.TheConstants.{NODES}
 use Rattle.gb_types.specs.declared.node.NodeId.{NodeId}
 use Rattle.gb_frame.specs.declared.item.Item.{Item}
 use Rattle.gb_slot.specs.Slot.{slot_came}
@@ -32,9 +32,9 @@ addrs-gone rows (Some p) = addrs-set rows p (gone (row_at rows p)) refl
 pub addrs-drop : (addr : Addr) (rows : List Row) → addrs_of (drop_at addr rows) ≡ addrs_of rows
 addrs-drop addr rows = addrs-gone rows (place_of addr rows)
 
-pub addrs-came : (from : NodeId) (i : Item) (rows : List Row) → addrs_of (item_came from i rows) ≡ addrs_of rows
-addrs-came from i rows =
-    elim (nat_lt i.origin NODES && nat_le (length i.payload) PAYLOAD) as (λ b. addrs_of (if b then on_address (address_of i) (slot_came from (entry_of i)) rows else rows) ≡ addrs_of rows) [
+pub addrs-came : (version : Version) (from : NodeId) (i : Item) (rows : List Row) → addrs_of (item_came version from i rows) ≡ addrs_of rows
+addrs-came version from i rows =
+    elim (nat_lt i.origin NODES && not (is_too_long version i.payload)) as (λ b. addrs_of (if b then on_address (address_of i) (slot_came from (entry_of i)) rows else rows) ≡ addrs_of rows) [
       | true ↦ addrs-address (address_of i) (slot_came from (entry_of i)) rows
       | false ↦ refl
     ]

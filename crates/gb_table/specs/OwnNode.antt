@@ -1,14 +1,16 @@
--- The groups of a table are at its own node.
+-- What holds of each group of a table: it is at the table's node, and knows no message that is longer than a message may be there.
 use Rattle.std.specs.Prelude.{ℕ, ◌≡◌, List, Option, Some, None}
+use Rattle.gb_types.specs.Version.{limits_of}
 use Rattle.gb_types.specs.declared.node.NodeId.{NodeId}
+use Rattle.gb_types.specs.declared.version.Version.{Version}
 use Rattle.gb_slot.specs.SlotState.{SlotState}
-use Rattle.gb_groups.specs.SlotsValue.{Row, row_at}
+use Rattle.gb_groups.specs.SlotsValue.{Row, row_at, IsShort}
 
--- the slot is at the node; there is none where the group was dropped
-abbrev pub IsAt : NodeId → Option SlotState → Type 0
-IsAt me None = Unit {0}
-IsAt me (Some s) = s.me ≡ me
+-- the slot is at the node, which sends this version of the packet text, and is within its limit; there is none where the group was dropped
+abbrev pub IsOwn : NodeId → Version → Option SlotState → Type 0
+IsOwn me version None = Unit {0}
+IsOwn me version (Some s) = (s.me ≡ me) × IsShort (limits_of version).payload (Some s)
 
--- each group that was not dropped is at the node
-pub record AreAt (me : NodeId) (rows : List Row) : Type 0 where
-  pub each : (p : ℕ) → IsAt me (row_at rows p).slot
+-- so is each group that was not dropped
+pub record AreOwn (me : NodeId) (version : Version) (rows : List Row) : Type 0 where
+  pub each : (p : ℕ) → IsOwn me version (row_at rows p).slot

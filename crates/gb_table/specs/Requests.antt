@@ -38,7 +38,7 @@ admitted_reply (Make token addr spec) t =
 admitted_reply (OpenGroup token addr) t = group_reply open_answer addr t.groups.rows
 admitted_reply (ShutGroup token addr) t = group_reply shut_answer addr t.groups.rows
 admitted_reply (DropGroup token addr) t = group_reply drop_answer addr t.groups.rows
-admitted_reply (Say token addr payload) t = group_reply (λ s. say_answer s payload) addr t.groups.rows
+admitted_reply (Say token addr payload) t = group_reply (λ s. say_answer t.version s payload) addr t.groups.rows
 admitted_reply (Fetch token addr from most) t = group_reply (λ s. fetch_answer s from most) addr t.groups.rows
 
 -- The reply to a request. With a wrong token it says nothing of tenants and groups.

@@ -4,6 +4,7 @@ use Rattle.gb_types.specs.declared.address.Addr.{Addr}
 use Rattle.gb_types.specs.declared.message.MsgId.{MsgId}
 use Rattle.gb_types.specs.declared.node.NodeId.{NodeId}
 use Rattle.gb_types.specs.declared.spec.TenantRow.{TenantRow}
+use Rattle.gb_types.specs.declared.version.Version.{Version}
 use Rattle.gb_frame.specs.declared.item.Item.{Item}
 use Rattle.gb_rules.specs.Tenant.{reserve_of, row_of}
 use Rattle.gb_rules.specs.declared.reserve.Reserve.{Reserve}
@@ -17,14 +18,16 @@ use Rattle.gb_groups.specs.GroupsValue.{GroupsValue, no_groups, packed}
 pub record TableValue : Type 0 where
   pub me : NodeId
   pub nodes : ℕ
+  -- of the packet text, which the node sends
+  pub version : Version
   pub places : ℕ
   pub admin_key : List ℕ
   pub tenants : List TenantRow
   pub groups : GroupsValue
 
 -- no tenant and no group
-abbrev pub new_table : NodeId → ℕ → ℕ → List ℕ → TableValue
-new_table me nodes places admin_key = record { me = me; nodes = nodes; places = places; admin_key = admin_key; tenants = []; groups = no_groups }
+abbrev pub new_table : NodeId → ℕ → Version → ℕ → List ℕ → TableValue
+new_table me nodes version places admin_key = record { me = me; nodes = nodes; version = version; places = places; admin_key = admin_key; tenants = []; groups = no_groups }
 
 -- the table with other groups
 abbrev pub with_rows : List Row → TableValue → TableValue
@@ -36,7 +39,7 @@ reserve_for tenant t = option_map reserve_of (row_of tenant t.tenants)
 
 -- after an item came from a node
 abbrev pub table_came : NodeId → Item → TableValue → TableValue
-table_came from item t = with_rows (item_came from item t.groups.rows) t
+table_came from item t = with_rows (item_came t.version from item t.groups.rows) t
 
 -- after a node acknowledged a message of the group with an address
 abbrev pub table_done : NodeId → Addr → MsgId → TableValue → TableValue

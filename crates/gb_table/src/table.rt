@@ -2,6 +2,7 @@
 ghost use Rattle.std.specs.Prelude.{◌≡◌, ◌+◌, ◌≤◌, ◌<◌, ◌++◌, ℕ, List, map, false, length, sum_by, All, IfSome, is_some, bytes_eq, vec_len, vec_capacity};
 ghost use Rattle.std.specs.Ordering.{nat_cmp};
 ghost use Rattle.std.specs.FinSet as set;
+ghost use Rattle.gb_types.specs.Version.{limits_of};
 ghost use Rattle.gb_types.specs.declared.limits.TheConstants.{NODES, PLACES};
 ghost use Rattle.gb_frame.specs.Packet.{item_of as view_item};
 ghost use Rattle.gb_frame.specs.Spelling.{items_text, IsItem};
@@ -34,6 +35,7 @@ use gb_types::refusal::Refusal;
 use gb_types::reply::Reply;
 use gb_types::request::Request;
 use gb_types::spec::{Spec, TenantRow};
+use gb_types::version::Version;
 use indexmap::IndexMap;
 use std::alloc::Global;
 use std::marker::Model;
@@ -42,6 +44,8 @@ use std::marker::Model;
 pub struct Table {
     me: NodeId,
     nodes: u8,
+    /// The version of the packet text that the node sends.
+    version: Version,
     /// So many groups may its tenants make in all.
     places: u16,
     /// The administrator's key, with its pads hashed.
@@ -59,6 +63,7 @@ impl Drop for Table {
         let Table {
             me: _,
             nodes: _,
+            version: _,
             places: _,
             admin_key: _,
             tenants: _,
@@ -76,15 +81,15 @@ impl Model for Table {
     ghost use Rattle.std.specs.Prelude.{◌≡◌};
     ghost use Rattle.gb_table.specs.Kept.{AreMemberTokens};
     ghost use Rattle.gb_table.specs.Within.{IsWithin, addrs_of};
-    ghost use Rattle.gb_table.specs.OwnNode.{AreAt};
+    ghost use Rattle.gb_table.specs.OwnNode.{AreOwn};
 
     ghost Value = { TableValue };
 
     ghost coded = { Prim.hlevel (codes, set.code {R = nat_cmp} coded_ℕ) };
 
-    ghost view = { λ t. record { me = t.me; nodes = t.nodes; places = t.places; admin_key = t.admin_key; tenants = t.tenants; groups = t.groups } };
+    ghost view = { λ t. record { me = t.me; nodes = t.nodes; version = t.version; places = t.places; admin_key = t.admin_key; tenants = t.tenants; groups = t.groups } };
 
-    ghost invariant = { λ t. IsWithin t.places t.tenants (addrs_of t.groups.rows) × AreMemberTokens t.me t.tenants t.member_tokens.entries × AreAt t.me t.groups.rows };
+    ghost invariant = { λ t. IsWithin t.places t.tenants (addrs_of t.groups.rows) × AreMemberTokens t.me t.tenants t.member_tokens.entries × AreOwn t.me t.version t.groups.rows };
 }
 
 /// Whether a token is the one that is kept.
@@ -95,17 +100,25 @@ fn is_kept(token: &Token, kept: &Token) -> bool
 }
 
 impl Table {
-    /// No tenant and no group, at the node `me` of so many. Its tenants may make so many groups in all, as `places`
-    /// says; who holds the administrator's key may add them.
-    pub fn new(alloc: Global, me: NodeId, nodes: u8, places: u16, admin_key: &Key) -> Table
+    /// No tenant and no group, at the node `me` of so many, which sends this version of the packet text. Its tenants may
+    /// make so many groups in all, as `places` says; who holds the administrator's key may add them.
+    pub fn new(
+        alloc: Global,
+        me: NodeId,
+        nodes: u8,
+        version: Version,
+        places: u16,
+        admin_key: &Key,
+    ) -> Table
         requires cluster { nodes ≤ NODES }
         requires member { me.number < nodes }
         requires places { places ≤ PLACES }
-        ensures { result ≡ new_table me nodes places admin_key.now }
+        ensures { result ≡ new_table me nodes version places admin_key.now }
     {
         Table {
             me,
             nodes,
+            version,
             places,
             admin_key: HmacKey::new(admin_key),
             tenants: Tenants::new(alloc),
@@ -126,6 +139,13 @@ impl Table {
         ensures { result ≡ self.now.nodes }
     {
         self.nodes
+    }
+
+    /// The version of the packet text that the node sends.
+    pub fn version(&self) -> Version
+        ensures { result ≡ self.now.version }
+    {
+        self.version
     }
 
     /// The place of the group that a member speaks to or reads, where it was ever made.
@@ -285,10 +305,11 @@ impl Table {
 
     fn say(&mut self, addr: Addr, place: Option<usize>, payload: &Payload) -> Reply
         requires { place ≡ place_of addr self.old.groups.rows }
-        ensures reply { result ≡ group_reply (λ s. say_answer s payload.now) addr self.old.groups.rows }
+        ensures reply { result ≡ group_reply (λ s. say_answer self.old.version s payload.now) addr self.old.groups.rows }
         ensures state { (noticed : set.FinSet nat_cmp) (token : List ℕ) → self.new ≡ table_did noticed (Request.Say token addr payload.now) result self.old }
     {
-        self.groups.say(addr, place, payload.as_slice())
+        self.groups
+            .say(self.version, addr, place, payload.as_slice())
     }
 
     /// Answers a request at a node that has noticed these. Denied comes first, with a token that is not the one that
@@ -319,7 +340,7 @@ impl Table {
         ensures state { self.new ≡ table_came from (view_item item.entry) self.old }
         ensures others { OthersKept (address_of (view_item item.entry)) self.old.groups.rows self.new.groups.rows }
     {
-        self.groups.item(from, item);
+        self.groups.item(self.version, from, item);
     }
 
     /// Takes an acknowledgement of a message of a group from a node. One of a message that was not said here changes
@@ -360,6 +381,7 @@ impl Table {
         requires count { count ≡ length (batch dest.number room self.old.groups) }
         requires capacity { vec_len out.old + sum_by size (batch dest.number room self.old.groups) ≤ vec_capacity out.old }
         ensures written { out.new.items ≡ out.old.items ++ items_text (items self.old.groups.rows (batch dest.number room self.old.groups)) }
+        ensures payloads { All (λ i. length i.payload ≤ (limits_of self.old.version).payload) (items self.old.groups.rows (batch dest.number room self.old.groups)) }
         ensures fit { All IsItem (items self.old.groups.rows (batch dest.number room self.old.groups)) }
         ensures len { vec_len out.new ≡ vec_len out.old + sum_by size (batch dest.number room self.old.groups) }
         ensures capacity { vec_capacity out.old ≤ vec_capacity out.new }

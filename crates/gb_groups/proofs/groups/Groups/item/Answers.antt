@@ -2,6 +2,7 @@ use Rattle.std.proofs.Common.{ap, subst, ◌∙◌, arith}
 use Rattle.gb_types.specs.declared.entry.Entry.{Entry}
 use Rattle.gb_frame.specs.Packet.{item_of as view_item}
 use Rattle.gb_slot.specs.Slot.{slot_came}
+use Rattle.gb_rules.proofs.LengthLemmas.{within_greatest}
 use Rattle.gb_groups.specs.SlotsValue.{row_at, on_slot}
 use Rattle.gb_frame.specs.Items.{address_of}
 use Rattle.gb_groups.specs.AtAddress.{item_came, OthersKept}
@@ -36,6 +37,9 @@ note_put_out-requires-clause-words c =
     let within = (place_is (address_of (view_item c.args.item)) rows p c.in-Some-find.ensures.place).0 in
     rw c.came.ensures.rows (word_stepped (slot_came c.args.from x) rows c.self.inside.memberships c.self.inside.busy p within (spec-came c.args.from x) c.self.invariant.2 c.self.invariant.3)
 
+pub came-requires : goal.came-requires
+came-requires c = within_greatest c.args.version c.args.item.payload.now (sym c.is_too_long.ensures ∙ c.if-is_too_long.false)
+
 pub invariant_of-self : goal.invariant_of-self
 invariant_of-self c =
     let rows = c.self.inside.slots.rows in
@@ -59,8 +63,8 @@ invariant_of-self-else-came c =
 
 pub returns-else-came-clause-rows : goal.returns-else-came-clause-rows
 returns-else-came-clause-rows c =
-    c.came.ensures.rows ∙ item_is c.args.from c.in-Some.origin (view_item c.args.item) c.self.inside.slots.rows c.in-Some-find.place c.in-Some.ensures.some (omega arith) c.in-Some-find.ensures.place
-    ∙ ap (λ (v : GroupsValue). item_came c.args.from (view_item c.args.item) v.rows) c.self.view_is
+    c.came.ensures.rows ∙ item_is c.args.version c.args.from c.in-Some.origin (view_item c.args.item) c.self.inside.slots.rows c.in-Some-find.place c.in-Some.ensures.some (sym c.is_too_long.ensures ∙ c.if-is_too_long.false) c.in-Some-find.ensures.place
+    ∙ ap (λ (v : GroupsValue). item_came c.args.version c.args.from (view_item c.args.item) v.rows) c.self.view_is
 
 pub returns-else-came-clause-others : goal.returns-else-came-clause-others
 returns-else-came-clause-others c =
@@ -71,8 +75,8 @@ returns-else-came-clause-others c =
 
 pub returns-then-came-clause-rows : goal.returns-then-came-clause-rows
 returns-then-came-clause-rows c =
-    c.came.ensures.rows ∙ item_is c.args.from c.in-Some.origin (view_item c.args.item) c.self.inside.slots.rows c.in-Some-find.place c.in-Some.ensures.some (omega arith) c.in-Some-find.ensures.place
-    ∙ ap (λ (v : GroupsValue). item_came c.args.from (view_item c.args.item) v.rows) c.self.view_is
+    c.came.ensures.rows ∙ item_is c.args.version c.args.from c.in-Some.origin (view_item c.args.item) c.self.inside.slots.rows c.in-Some-find.place c.in-Some.ensures.some (sym c.is_too_long.ensures ∙ c.if-is_too_long.false) c.in-Some-find.ensures.place
+    ∙ ap (λ (v : GroupsValue). item_came c.args.version c.args.from (view_item c.args.item) v.rows) c.self.view_is
 
 pub returns-then-came-clause-others : goal.returns-then-came-clause-others
 returns-then-came-clause-others c =

@@ -1,4 +1,5 @@
 use Rattle.std.proofs.Common.{arith, get_or, refl, subst, sym, ◌∙◌}
+use Rattle.gb_types.specs.declared.limits.TheConstants.{PAYLOAD}
 use Rattle.gb_groups.specs.Packing.{walk, queues}
 use Rattle.gb_groups.proofs.BatchLemmas.{count_is, bytes_is, fit-fits}
 use Rattle.gb_groups.specs.SlotsValue.{AreShort}
@@ -26,4 +27,4 @@ returns-clause-most c =
 
 pub returns-clause-none : goal.returns-clause-none
 returns-clause-none c none enough =
-    nothing_waits c.args.dest.number c.args.room c.args.self.now (subst (λ (t : GroupsValue). AreShort t.rows) c.self.view_is c.len-places.ensures.short) enough (sym (returns-clause-count c) ∙ none)
+    nothing_waits c.args.dest.number c.args.room c.args.self.now (subst (λ (t : GroupsValue). AreShort PAYLOAD t.rows) c.self.view_is c.len-places.ensures.short) enough (sym (returns-clause-count c) ∙ none)

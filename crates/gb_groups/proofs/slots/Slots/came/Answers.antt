@@ -1,5 +1,6 @@
 use Rattle.std.proofs.lemmas.Grind.{common_steps}
 use Rattle.gb_slot.specs.Slot.{slot_came}
+use Rattle.gb_types.specs.declared.limits.TheConstants.{PAYLOAD}
 use Rattle.gb_groups.proofs.StepLemmas.{many-came, taken-came, short-came}
 use Rattle.gb_types.specs.declared.entry.Entry.{Entry}
 use Rattle.std.proofs.Common.{sym, subst, ap, map, ◌∙◌, length, arith}
@@ -16,14 +17,14 @@ use Rattle.gb_groups.proofs.slots.Slots.came.Goals as goal
 pub invariant_of-self : goal.invariant_of-self
 invariant_of-self c =
     let v = c.in-Some-get_mut.slot.now in (
-      (changed (slot_came c.args.from (record { origin = c.args.origin; seq = c.args.seq; payload = c.args.payload.now })) c.self.inside.places.entries c.self.inside.slots c.args.place c.in-Some.key v c.came.new.self c.self.invariant.0 c.in-Some.ensures c.in-Some-get_mut.ensures.value c.came.ensures.state (ap length (taken-came c.args.from (record { origin = c.args.origin; seq = c.args.seq; payload = c.args.payload.now }) v)) (short-came c.args.from (record { origin = c.args.origin; seq = c.args.seq; payload = c.args.payload.now }) v c.requires)).kept,
+      (changed (slot_came c.args.from (record { origin = c.args.origin; seq = c.args.seq; payload = c.args.payload.now })) c.self.inside.places.entries c.self.inside.slots c.args.place c.in-Some.key v c.came.new.self c.self.invariant.0 c.in-Some.ensures c.in-Some-get_mut.ensures.value c.came.ensures.state (ap length (taken-came c.args.from (record { origin = c.args.origin; seq = c.args.seq; payload = c.args.payload.now }) v)) (short-came PAYLOAD c.args.from (record { origin = c.args.origin; seq = c.args.seq; payload = c.args.payload.now }) v c.requires)).kept,
       lent_called c.self.inside.slots c.in-Some.key v c.came.new.self c.self.inside.effects c.came.new.effects c.self.invariant.1 c.came.ensures.effects c.in-Some-get_mut.ensures.value (ap (λ (s : SlotState). s.spec) c.came.ensures.state ∙ spec-came c.args.from (record { origin = c.args.origin; seq = c.args.seq; payload = c.args.payload.now }) v),
     )
 
 pub returns-in-Some-get_mut-clause-rows : goal.returns-in-Some-get_mut-clause-rows
 returns-in-Some-get_mut-clause-rows c =
     let v = c.in-Some-get_mut.slot.now in
-    (changed (slot_came c.args.from (record { origin = c.args.origin; seq = c.args.seq; payload = c.args.payload.now })) c.self.inside.places.entries c.self.inside.slots c.args.place c.in-Some.key v c.came.new.self c.self.invariant.0 c.in-Some.ensures c.in-Some-get_mut.ensures.value c.came.ensures.state (ap length (taken-came c.args.from (record { origin = c.args.origin; seq = c.args.seq; payload = c.args.payload.now }) v)) (short-came c.args.from (record { origin = c.args.origin; seq = c.args.seq; payload = c.args.payload.now }) v c.requires)).rows
+    (changed (slot_came c.args.from (record { origin = c.args.origin; seq = c.args.seq; payload = c.args.payload.now })) c.self.inside.places.entries c.self.inside.slots c.args.place c.in-Some.key v c.came.new.self c.self.invariant.0 c.in-Some.ensures c.in-Some-get_mut.ensures.value c.came.ensures.state (ap length (taken-came c.args.from (record { origin = c.args.origin; seq = c.args.seq; payload = c.args.payload.now }) v)) (short-came PAYLOAD c.args.from (record { origin = c.args.origin; seq = c.args.seq; payload = c.args.payload.now }) v c.requires)).rows
     ∙ ap (λ (w : SlotsValue). set w.rows c.args.place (on_slot (slot_came c.args.from (record { origin = c.args.origin; seq = c.args.seq; payload = c.args.payload.now })) (row_at w.rows c.args.place))) c.self.view_is
 
 pub returns-in-Some-get_mut-clause-put_out : goal.returns-in-Some-get_mut-clause-put_out

@@ -1,7 +1,7 @@
 use Rattle.std.proofs.Common.{List, sym, subst, arith}
 use Rattle.gb_types.specs.declared.spec.TenantRow.{TenantRow}
 use Rattle.gb_table.specs.Kept.{AreMemberTokens}
-use Rattle.gb_table.specs.OwnNode.{AreAt}
+use Rattle.gb_table.specs.OwnNode.{AreOwn}
 use Rattle.gb_table.specs.Within.{addrs_of, IsWithin}
 use Rattle.gb_table.proofs.TenantLemmas.{tenant_done, within_added, tokens_more}
 use Rattle.gb_table.proofs.table.Table.add_tenant.Goals as goal
@@ -18,7 +18,7 @@ invariant_of-self c =
     let tokens = c.self.inside.member_tokens.entries in
     let me = c.self.inside.me in
     elim c.match-add.branch [
-      | in-Ok w ↦ subst (λ (ts : List TenantRow). IsWithin c.self.inside.places ts addrs × AreMemberTokens me ts tokens × AreAt me c.self.inside.groups.rows) (sym w.in-Ok.ensures.ok)
+      | in-Ok w ↦ subst (λ (ts : List TenantRow). IsWithin c.self.inside.places ts addrs × AreMemberTokens me ts tokens × AreOwn me c.self.inside.version c.self.inside.groups.rows) (sym w.in-Ok.ensures.ok)
           (within_added c.self.inside.places c.self.inside.tenants addrs row c.self.invariant.0 d.0 (omega arith), tokens_more me c.self.inside.tenants row tokens c.self.invariant.1, c.self.invariant.2)
-      | in-Err w ↦ subst (λ (ts : List TenantRow). IsWithin c.self.inside.places ts addrs × AreMemberTokens me ts tokens × AreAt me c.self.inside.groups.rows) (sym w.in-Err.ensures.err) c.self.invariant
+      | in-Err w ↦ subst (λ (ts : List TenantRow). IsWithin c.self.inside.places ts addrs × AreMemberTokens me ts tokens × AreOwn me c.self.inside.version c.self.inside.groups.rows) (sym w.in-Err.ensures.err) c.self.invariant
     ]

@@ -1,7 +1,7 @@
 use Rattle.std.proofs.Common.{◌≡◌, ap, sym, subst, ◌∙◌, refl}
 use Rattle.gb_slot.specs.Slot.{slot_done}
 use Rattle.gb_table.specs.TableValue.{TableValue, table_done}
-use Rattle.gb_table.specs.OwnNode.{AreAt}
+use Rattle.gb_table.specs.OwnNode.{AreOwn}
 use Rattle.gb_table.specs.Within.{addrs_of}
 use Rattle.gb_table.proofs.AddrLemmas.{addrs-address}
 use Rattle.gb_table.proofs.OwnNodeLemmas.{at_address, table_unchanged}
@@ -12,7 +12,7 @@ pub invariant_of-self : goal.invariant_of-self
 invariant_of-self c = (
   within_step c.self.inside.places c.self.inside.tenants c.self.inside.groups.rows _ (ap addrs_of c.done.ensures.rows ∙ addrs-address c.args.addr (slot_done c.args.dest c.args.m) c.self.inside.groups.rows) c.self.invariant.0,
   c.self.invariant.1,
-  subst (AreAt c.self.inside.me) (sym c.done.ensures.rows) (at_address c.self.inside.me c.args.addr (slot_done c.args.dest c.args.m) c.self.inside.groups.rows (λ s. refl) c.self.invariant.2),
+  subst (AreOwn c.self.inside.me c.self.inside.version) (sym c.done.ensures.rows) (at_address c.self.inside.me c.self.inside.version c.args.addr (slot_done c.args.dest c.args.m) c.self.inside.groups.rows (own-done c.self.inside.me c.self.inside.version c.args.dest c.args.m) c.self.invariant.2),
 )
 
 pub returns-then-ne-clause-state : goal.returns-then-ne-clause-state

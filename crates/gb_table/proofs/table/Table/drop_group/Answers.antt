@@ -1,6 +1,6 @@
 use Rattle.std.proofs.lemmas.Grind.{common_steps}
 use Rattle.std.proofs.Common.{ap, sym, subst, ◌∙◌, arith}
-use Rattle.gb_table.specs.OwnNode.{AreAt}
+use Rattle.gb_table.specs.OwnNode.{AreOwn}
 use Rattle.gb_table.specs.Within.{addrs_of}
 use Rattle.gb_table.proofs.AddrLemmas.{addrs-drop}
 use Rattle.gb_table.proofs.OwnNodeLemmas.{at_dropped}
@@ -11,7 +11,7 @@ pub invariant_of-self : goal.invariant_of-self
 invariant_of-self c = (
   within_step c.self.inside.places c.self.inside.tenants c.self.inside.groups.rows _ (ap addrs_of c.drop_group.ensures.rows ∙ addrs-drop c.args.addr c.self.inside.groups.rows) c.self.invariant.0,
   c.self.invariant.1,
-  subst (AreAt c.self.inside.me) (sym c.drop_group.ensures.rows) (at_dropped c.self.inside.me c.args.addr c.self.inside.groups.rows c.self.invariant.2),
+  subst (AreOwn c.self.inside.me c.self.inside.version) (sym c.drop_group.ensures.rows) (at_dropped c.self.inside.me c.self.inside.version c.args.addr c.self.inside.groups.rows c.self.invariant.2),
 )
 
 pub returns-clause-state : goal.returns-clause-state

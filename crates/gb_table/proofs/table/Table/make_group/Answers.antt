@@ -11,7 +11,7 @@ use Rattle.gb_groups.specs.SlotsValue.{Row}
 use Rattle.gb_groups.specs.AtAddress.{place_of}
 use Rattle.gb_groups.specs.GroupsValue.{GroupsValue}
 use Rattle.gb_table.specs.TableValue.{TableValue, reserve_for}
-use Rattle.gb_table.specs.OwnNode.{AreAt}
+use Rattle.gb_table.specs.OwnNode.{AreOwn}
 use Rattle.gb_table.specs.Within.{addrs_of, IsWithin}
 use Rattle.gb_table.proofs.TenantLemmas.{found_within, make_done, within_limits}
 use Rattle.gb_table.proofs.OwnNodeLemmas.{at_more}
@@ -51,12 +51,12 @@ invariant_of-self c =
       | in-Ok w ↦ (
         subst (λ (rs : List Row). IsWithin c.self.inside.places c.self.inside.tenants (addrs_of rs)) (sym w.in-Ok.ensures.rows) (within_made c.self.inside.places c.self.inside.tenants c.self.inside.groups.rows group row c.self.invariant.0 c.in-Some.ensures below),
         c.self.invariant.1,
-        subst (AreAt c.self.inside.me) (sym w.in-Ok.ensures.rows) (at_more c.self.inside.me c.self.inside.groups.rows group c.self.invariant.2 refl),
+        subst (AreOwn c.self.inside.me c.self.inside.version) (sym w.in-Ok.ensures.rows) (at_more c.self.inside.me c.self.inside.version c.self.inside.groups.rows group c.self.invariant.2 refl),
       )
       | in-Err w ↦ (
         subst (λ (g : GroupsValue). IsWithin c.self.inside.places c.self.inside.tenants (addrs_of g.rows)) (sym w.in-Err.ensures.err) c.self.invariant.0,
         c.self.invariant.1,
-        subst (λ (g : GroupsValue). AreAt c.self.inside.me g.rows) (sym w.in-Err.ensures.err) c.self.invariant.2,
+        subst (λ (g : GroupsValue). AreOwn c.self.inside.me c.self.inside.version g.rows) (sym w.in-Err.ensures.err) c.self.invariant.2,
       )
     ]
 

@@ -1,6 +1,6 @@
 use Rattle.std.proofs.Common.{ap, sym, subst, ◌∙◌}
 use Rattle.gb_groups.specs.GroupsValue.{GroupsValue, batch}
-use Rattle.gb_table.specs.OwnNode.{AreAt}
+use Rattle.gb_table.specs.OwnNode.{AreOwn}
 use Rattle.gb_table.specs.Within.{addrs_of}
 use Rattle.gb_table.proofs.AddrLemmas.{addrs-gave}
 use Rattle.gb_table.proofs.OwnNodeLemmas.{at_gave}
@@ -11,5 +11,5 @@ pub invariant_of-self : goal.invariant_of-self
 invariant_of-self c = (
   within_step c.self.inside.places c.self.inside.tenants c.self.inside.groups.rows _ (ap (λ (v : GroupsValue). addrs_of v.rows) c.pack_into.ensures.state ∙ addrs-gave c.args.dest.number 0 (batch c.args.dest.number c.args.room c.self.inside.groups) c.self.inside.groups.rows) c.self.invariant.0,
   c.self.invariant.1,
-  subst (AreAt c.self.inside.me) (sym (ap (λ (v : GroupsValue). v.rows) c.pack_into.ensures.state)) (at_gave c.self.inside.me c.args.dest.number 0 (batch c.args.dest.number c.args.room c.self.inside.groups) c.self.inside.groups.rows c.self.invariant.2),
+  subst (AreOwn c.self.inside.me c.self.inside.version) (sym (ap (λ (v : GroupsValue). v.rows) c.pack_into.ensures.state)) (at_gave c.self.inside.me c.self.inside.version c.args.dest.number 0 (batch c.args.dest.number c.args.room c.self.inside.groups) c.self.inside.groups.rows c.self.invariant.2),
 )

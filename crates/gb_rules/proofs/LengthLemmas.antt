@@ -1,0 +1,16 @@
+-- What is not too long is no longer than any version allows.
+use Rattle.std.proofs.Common.{◌≡◌, ◌≤◌, ℕ, List, length, false, arith}
+use Rattle.std.proofs.lemmas.Bool.{ltb-false}
+use Rattle.gb_types.specs.declared.limits.TheConstants.{PAYLOAD}
+use Rattle.gb_types.specs.declared.version.Version.{Version}
+use Rattle.gb_types.specs.Version.{limits_of, limits_are_within}
+use Rattle.gb_rules.specs.Group.{is_too_long}
+
+pub within_limit : (version : Version) (payload : List ℕ) → is_too_long version payload ≡ false → length payload ≤ (limits_of version).payload
+within_limit version payload e = ltb-false (limits_of version).payload (length payload) e
+
+pub within_greatest : (version : Version) (payload : List ℕ) → is_too_long version payload ≡ false → length payload ≤ PAYLOAD
+within_greatest version payload e =
+    let short = within_limit version payload e in
+    let limit = (limits_are_within version).payload in
+    omega (arith, short, limit)
