@@ -1,12 +1,13 @@
 -- The table of faults: where each holds of bytes, and which is the first.
-use Rattle.std.specs.Prelude.{◌≡◌, ◌≢◌, ℕ, ◌<◌, ◌≤◌, ◌%◌, ◌⊎◌, List, [], ◌++◌, length, take, codes, All}
-use Rattle.gb_types.specs.declared.limits.TheConstants.{NODES, PACKET}
-use Rattle.gb_frame.specs.declared.limits.TheConstants.{VERSION, SHORTEST}
+use Rattle.std.specs.Prelude.{◌≡◌, ◌≢◌, ℕ, ◌<◌, ◌≤◌, ◌%◌, ◌⊎◌, List, [], ◌++◌, length, take, codes, All, None}
+use Rattle.gb_types.specs.Version.{limits_of, version_named}
+use Rattle.gb_frame.specs.declared.limits.TheConstants.{SHORTEST}
 use Rattle.gb_frame.specs.declared.fault.PacketFault.{PacketFault}
 use Rattle.gb_frame.specs.declared.fault.PacketFault.TheVariants.{Short, Magic, Version, Node, Mask, Count, Length, Trailing, TooLong, Tag}
 use Rattle.gb_frame.specs.declared.item.Item.{Item}
 use Rattle.gb_frame.specs.Spelling.{items_text, IsItem, tag_of}
 use Rattle.gb_frame.specs.Fields.{version_in, from_in, to_in, base_in, mask_in, frame_in, count_in, items_in, tagged_in, tag_in}
+use Rattle.gb_frame.specs.Reading.{version_read}
 
 -- the place of a fault in the table
 abbrev pub fault_number : PacketFault → ℕ
@@ -21,23 +22,24 @@ fault_number Trailing = 8
 fault_number TooLong = 9
 fault_number Tag = 10
 
--- these bytes are the texts of so many items, and the rest behind them
-pub record Stand (n : ℕ) (bytes : List ℕ) (items : List Item) (rest : List ℕ) : Type 0 where
+-- these bytes are the texts of so many items with payloads within a limit, and the rest behind them
+pub record Stand (limit n : ℕ) (bytes : List ℕ) (items : List Item) (rest : List ℕ) : Type 0 where
   pub count : length items ≡ n
   pub fit : All IsItem items
+  pub payloads : All (λ i. length i.payload ≤ limit) items
   pub parts : bytes ≡ items_text items ++ rest
 
--- where a fault holds, whatever else does
+-- where a fault holds, whatever else does; the limits are those of the version that the version byte stands for
 abbrev pub HasFault : List ℕ → List ℕ → PacketFault → Type 0
 HasFault key bytes Short = length bytes < SHORTEST
 HasFault key bytes Magic = take 2 bytes ≢ codes "GB"
-HasFault key bytes Version = version_in bytes ≢ VERSION
-HasFault key bytes Node = (NODES ≤ from_in bytes) ⊎ (NODES ≤ to_in bytes) ⊎ (from_in bytes ≡ to_in bytes)
+HasFault key bytes Version = version_named (version_in bytes) ≡ None
+HasFault key bytes Node = ((limits_of (version_read bytes)).nodes ≤ from_in bytes) ⊎ ((limits_of (version_read bytes)).nodes ≤ to_in bytes) ⊎ (from_in bytes ≡ to_in bytes)
 HasFault key bytes Mask = (base_in bytes ≡ 0) ⊎ (mask_in bytes % 2 ≡ 1)
 HasFault key bytes Count = ((frame_in bytes ≡ 0) × (count_in bytes ≢ 0)) ⊎ ((frame_in bytes ≢ 0) × (count_in bytes ≡ 0))
-HasFault key bytes Length = (items : List Item) (rest : List ℕ) → ¬ Stand (count_in bytes) (items_in bytes) items rest
-HasFault key bytes Trailing = (items : List Item) × (rest : List ℕ) × (rest ≢ []) × Stand (count_in bytes) (items_in bytes) items rest
-HasFault key bytes TooLong = PACKET < length bytes
+HasFault key bytes Length = (items : List Item) (rest : List ℕ) → ¬ Stand (limits_of (version_read bytes)).payload (count_in bytes) (items_in bytes) items rest
+HasFault key bytes Trailing = (items : List Item) × (rest : List ℕ) × (rest ≢ []) × Stand (limits_of (version_read bytes)).payload (count_in bytes) (items_in bytes) items rest
+HasFault key bytes TooLong = (limits_of (version_read bytes)).packet < length bytes
 HasFault key bytes Tag = tag_in bytes ≢ tag_of key (tagged_in bytes)
 
 -- the fault holds, and none before it in the table

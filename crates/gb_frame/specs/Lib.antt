@@ -1,4 +1,5 @@
 pub mod Packet
+pub mod Room
 pub mod Spelling
 pub mod Fields
 pub mod Reading

@@ -1,5 +1,6 @@
 -- What a packet says.
 use Rattle.std.specs.Prelude.{ℕ, List}
+use Rattle.gb_types.specs.declared.version.Version.{Version}
 use Rattle.gb_frame.specs.declared.item.Item.{Item}
 use Rattle.gb_frame.specs.declared.item.ItemView.{ItemView}
 use Rattle.gb_frame.specs.declared.packet.Head.{Head}
@@ -7,6 +8,7 @@ use Rattle.gb_frame.specs.declared.packet.Packet.{Packet}
 
 -- what a packet says, without where it lies in memory
 pub record Content : Type 0 where
+  pub version : Version
   pub from : ℕ
   pub to : ℕ
   pub base : ℕ
@@ -15,7 +17,7 @@ pub record Content : Type 0 where
   pub items : List Item
 
 abbrev pub content : Packet → Content
-content p = record { from = p.from.number; to = p.to.number; base = p.base; mask = p.mask; frame = p.frame; items = p.items.items }
+content p = record { version = p.version; from = p.from.number; to = p.to.number; base = p.base; mask = p.mask; frame = p.frame; items = p.items.items }
 
 -- an item whose payload lies elsewhere, as an item
 abbrev pub item_of : ItemView → Item
@@ -23,4 +25,4 @@ item_of v = record { tenant = v.tenant; group = v.group; origin = v.origin; seq 
 
 -- what the packet with this head and these items says
 abbrev pub packet_of : Head → List Item → Content
-packet_of h items = record { from = h.from.number; to = h.to.number; base = h.base; mask = h.mask; frame = h.frame; items = items }
+packet_of h items = record { version = h.version; from = h.from.number; to = h.to.number; base = h.base; mask = h.mask; frame = h.frame; items = items }

@@ -1,9 +1,11 @@
 -- Reading bytes as a packet, as a function on lists.
-use Rattle.std.specs.Prelude.{ℕ, zero, suc, ◌%◌, Bool, ◌||◌, ◌&&◌, not, nat_lt, nat_eq, List, [], ◌∷◌, length, take, drop, is_none, find, ◌==◌, Option, Some, None, option_and_then, Result, Ok, Err, if◌then◌else◌, slice_index}
+use Rattle.std.specs.Prelude.{ℕ, zero, suc, ◌%◌, Bool, ◌||◌, ◌&&◌, not, nat_lt, nat_eq, List, [], ◌∷◌, length, take, drop, is_none, find, ◌==◌, Option, Some, None, unwrap_or, option_and_then, Result, Ok, Err, if◌then◌else◌, slice_index}
 use Rattle.std.specs.Cmp.Lexicographic.{pointwise}
 use Rattle.std.specs.Int.{w16}
-use Rattle.gb_types.specs.declared.limits.TheConstants.{NODES, PAYLOAD, PACKET}
-use Rattle.gb_frame.specs.declared.limits.TheConstants.{VERSION, ITEM_HEADER, SHORTEST}
+use Rattle.gb_types.specs.declared.version.Version.{Version as TextVersion}
+use Rattle.gb_types.specs.declared.version.Version.TheVariants.{One}
+use Rattle.gb_types.specs.Version.{limits_of, version_named}
+use Rattle.gb_frame.specs.declared.limits.TheConstants.{ITEM_HEADER, SHORTEST}
 use Rattle.gb_frame.specs.declared.item.Item.{Item}
 use Rattle.gb_frame.specs.declared.fault.PacketFault.{PacketFault}
 use Rattle.gb_frame.specs.declared.fault.PacketFault.TheVariants.{Short, Magic, Version, Node, Mask, Count, Length, Trailing, TooLong, Tag}
@@ -11,18 +13,18 @@ use Rattle.gb_frame.specs.Fields.{number_at, version_in, from_in, to_in, base_in
 use Rattle.gb_frame.specs.Packet.{Content}
 use Rattle.gb_frame.specs.Spelling.{tag_of}
 
--- the item at the front, and the bytes after it
-unfoldable pub item_at : List ℕ → Option (Item × List ℕ)
-item_at bytes =
+-- the item at the front, and the bytes after it; the limit is the longest payload's
+unfoldable pub item_at : ℕ → List ℕ → Option (Item × List ℕ)
+item_at limit bytes =
     let len = number_at w16 7 bytes in
     let rest = drop ITEM_HEADER bytes in
-    if nat_lt (length bytes) ITEM_HEADER || (nat_lt PAYLOAD len || nat_lt (length rest) len) then None
+    if nat_lt (length bytes) ITEM_HEADER || (nat_lt limit len || nat_lt (length rest) len) then None
     else Some (record { tenant = number_at w16 0 bytes; group = number_at w16 2 bytes; origin = slice_index bytes 4; seq = number_at w16 5 bytes; payload = take len rest }, drop len rest)
 
 -- so many items at the front, and the bytes after them
-unfoldable pub items_at : ℕ → List ℕ → Option (List Item × List ℕ)
-items_at zero bytes = Some ([], bytes)
-items_at (suc n) bytes = option_and_then (λ first. option_and_then (λ others. Some (first.0 ∷ others.0, others.1)) (items_at n first.1)) (item_at bytes)
+unfoldable pub items_at : ℕ → ℕ → List ℕ → Option (List Item × List ℕ)
+items_at limit zero bytes = Some ([], bytes)
+items_at limit (suc n) bytes = option_and_then (λ first. option_and_then (λ others. Some (first.0 ∷ others.0, others.1)) (items_at limit n first.1)) (item_at limit bytes)
 
 -- the items, and what is left behind them
 abbrev pub left_over : Option (List Item × List ℕ) → List ℕ
@@ -33,16 +35,20 @@ abbrev pub items_of : Option (List Item × List ℕ) → List Item
 items_of None = []
 items_of (Some x) = x.0
 
+-- the version that the version byte stands for, where it stands for one
+abbrev pub version_read : List ℕ → TextVersion
+version_read bytes = unwrap_or (version_named (version_in bytes)) One
+
 -- the items and what is left, where all items that are counted are there
 abbrev pub parsed : List ℕ → Option (List Item × List ℕ)
-parsed bytes = items_at (count_in bytes) (items_in bytes)
+parsed bytes = items_at (limits_of (version_read bytes)).payload (count_in bytes) (items_in bytes)
 
 -- the tests of the header
 abbrev pub is_magic : List ℕ → Bool
 is_magic bytes = slice_index bytes 0 == 71 && slice_index bytes 1 == 66
 
-abbrev pub is_between_nodes : List ℕ → Bool
-is_between_nodes bytes = nat_lt (from_in bytes) NODES && nat_lt (to_in bytes) NODES && not (from_in bytes == to_in bytes)
+abbrev pub is_between_nodes : ℕ → List ℕ → Bool
+is_between_nodes nodes bytes = nat_lt (from_in bytes) nodes && nat_lt (to_in bytes) nodes && not (from_in bytes == to_in bytes)
 
 abbrev pub is_acknowledgement : List ℕ → Bool
 is_acknowledgement bytes = nat_lt 0 (base_in bytes) && mask_in bytes % 2 == 0
@@ -54,17 +60,17 @@ is_counted bytes = if frame_in bytes == 0 then count_in bytes == 0 else nat_lt 0
 abbrev pub is_tagged : List ℕ → List ℕ → Bool
 is_tagged key bytes = pointwise nat_eq (tag_in bytes) (tag_of key (tagged_in bytes))
 
--- the test of each fault
+-- the test of each fault, by the limits of the version that was read
 abbrev pub test : List ℕ → List ℕ → PacketFault → Bool
 test key bytes Short = nat_lt (length bytes) SHORTEST
 test key bytes Magic = not (is_magic bytes)
-test key bytes Version = not (version_in bytes == VERSION)
-test key bytes Node = not (is_between_nodes bytes)
+test key bytes Version = is_none (version_named (version_in bytes))
+test key bytes Node = not (is_between_nodes (limits_of (version_read bytes)).nodes bytes)
 test key bytes Mask = not (is_acknowledgement bytes)
 test key bytes Count = not (is_counted bytes)
 test key bytes Length = is_none (parsed bytes)
 test key bytes Trailing = nat_lt 0 (length (left_over (parsed bytes)))
-test key bytes TooLong = nat_lt PACKET (length bytes)
+test key bytes TooLong = nat_lt (limits_of (version_read bytes)).packet (length bytes)
 test key bytes Tag = not (is_tagged key bytes)
 
 -- the faults in the order of the checks
@@ -77,7 +83,7 @@ fault_in key bytes = find (test key bytes) faults
 
 -- what bytes without a fault say
 abbrev pub content_in : List ℕ → Content
-content_in bytes = record { from = from_in bytes; to = to_in bytes; base = base_in bytes; mask = mask_in bytes; frame = frame_in bytes; items = items_of (parsed bytes) }
+content_in bytes = record { version = version_read bytes; from = from_in bytes; to = to_in bytes; base = base_in bytes; mask = mask_in bytes; frame = frame_in bytes; items = items_of (parsed bytes) }
 
 -- a fault, or what the bytes say
 abbrev pub unless : Option PacketFault → Content → Result Content PacketFault

@@ -4,9 +4,11 @@ use Rattle.std.specs.Int.{w16, w64, to_be_bytes}
 use Rattle.std.specs.List.{flat_map}
 use Rattle.gb_types.specs.declared.limits.TheConstants.{NODES, PAYLOAD}
 use Rattle.gb_cap.specs.Hmac.{hmac_of}
-use Rattle.gb_frame.specs.declared.limits.TheConstants.{VERSION, TAG, ROOM}
+use Rattle.gb_types.specs.Version.{limits_of}
+use Rattle.gb_frame.specs.declared.limits.TheConstants.{TAG}
 use Rattle.gb_frame.specs.declared.item.Item.{Item}
 use Rattle.gb_frame.specs.Packet.{Content}
+use Rattle.gb_frame.specs.Room.{room_of}
 
 -- an item: tenant, group, origin, sequence number, the payload's length, the payload
 abbrev pub item_text : Item → List ℕ
@@ -17,7 +19,7 @@ items_text items = flat_map item_text items
 
 -- the header: magic, version, sender, destination, acknowledgement, frame number, count of items
 unfoldable pub header_text : Content → List ℕ
-header_text c = codes "GB" ++ VERSION ∷ c.from ∷ c.to ∷ [] ++ to_be_bytes w64 c.base ++ to_be_bytes w64 c.mask ++ to_be_bytes w64 c.frame ++ to_be_bytes w16 (length c.items)
+header_text c = codes "GB" ++ (limits_of c.version).byte ∷ c.from ∷ c.to ∷ [] ++ to_be_bytes w64 c.base ++ to_be_bytes w64 c.mask ++ to_be_bytes w64 c.frame ++ to_be_bytes w16 (length c.items)
 
 -- what the tag is made of
 abbrev pub tagged_text : Content → List ℕ
@@ -48,14 +50,16 @@ pub record AreTexts (bytes : List ℕ) (items : List Item) : Type 0 where
   pub parts : bytes ≡ items_text items
   pub fit : All IsItem items
 
--- the limits that a packet's sender keeps to
+-- the limits that a packet's sender keeps to, which are those of the packet's version
 pub record IsWithinLimits (c : Content) : Type 0 where
+  pub from : c.from < (limits_of c.version).nodes
+  pub to : c.to < (limits_of c.version).nodes
   pub apart : c.from ≢ c.to
   pub base : 0 < c.base
   pub mask : c.mask % 2 ≡ 0
   pub frame : (c.frame ≡ 0) ↔ (length c.items ≡ 0)
-  pub payloads : All (λ i. length i.payload ≤ PAYLOAD) c.items
-  pub room : length (items_text c.items) ≤ ROOM
+  pub payloads : All (λ i. length i.payload ≤ (limits_of c.version).payload) c.items
+  pub room : length (items_text c.items) ≤ room_of c.version
 
 -- each field fits the bytes that it is written in
 pub record FitsFields (c : Content) : Type 0 where

@@ -12,10 +12,11 @@ pub enum PacketFault {
     /// The first two bytes are not `GB`.
     #[error("magic")]
     Magic,
-    /// The version byte is not 1.
+    /// The version byte stands for no version.
     #[error("version")]
     Version,
-    /// The sender or the destination is beyond the greatest node number, or they are one node.
+    /// The sender or the destination is beyond the greatest node number of the version, or they are one
+    /// node.
     #[error("node")]
     Node,
     /// The acknowledgement's base is 0, or its mask has bit 0 set.
@@ -24,13 +25,13 @@ pub enum PacketFault {
     /// Frame number 0 with items, or another frame number with none.
     #[error("count")]
     Count,
-    /// An item's length is above the longest payload, or an item runs into the tag.
+    /// An item's length is above the longest payload of the version, or an item runs into the tag.
     #[error("length")]
     Length,
     /// Bytes are left between the last item and the tag.
     #[error("trailing")]
     Trailing,
-    /// More bytes than the longest packet has.
+    /// More bytes than the longest packet of the version has.
     #[error("too long")]
     TooLong,
     /// The last 8 bytes are not the tag of what stands before them.

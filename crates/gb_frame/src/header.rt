@@ -2,11 +2,19 @@
 ghost use Rattle.std.specs.Prelude.{◌≡◌, ◌≤◌, length};
 ghost use Rattle.gb_frame.specs.declared.limits.TheConstants.{HEADER, SHORTEST};
 ghost use Rattle.gb_frame.specs.Fields.{base_in, mask_in, frame_in, count_in, items_in};
-ghost use Rattle.gb_frame.specs.Reading.{is_magic, is_between_nodes, is_acknowledgement, is_counted};
+ghost use Rattle.gb_frame.specs.Reading.{version_read, is_magic, is_between_nodes, is_acknowledgement, is_counted};
 
 use crate::limits::{HEADER, TAG};
 use crate::number::{u16_at, u64_at};
-use gb_types::limits::NODES;
+use gb_types::version::Version;
+
+/// The version that the version byte stands for; version 1 where it stands for none.
+pub fn version_of(bytes: &[u8]) -> Version
+    requires { HEADER ≤ length bytes.now }
+    ensures { result ≡ version_read bytes.now }
+{
+    Version::from_byte(bytes[2]).unwrap_or(Version::One)
+}
 
 pub fn base_of(bytes: &[u8]) -> u64
     requires { HEADER ≤ length bytes.now }
@@ -43,12 +51,12 @@ pub fn has_magic(bytes: &[u8]) -> bool
     bytes[0] == b'G' && bytes[1] == b'B'
 }
 
-/// Whether two different nodes are named.
-pub fn has_nodes(bytes: &[u8]) -> bool
+/// Whether two different nodes are named, of so many.
+pub fn has_nodes(nodes: u8, bytes: &[u8]) -> bool
     requires { HEADER ≤ length bytes.now }
-    ensures { result ≡ is_between_nodes bytes.now }
+    ensures { result ≡ is_between_nodes nodes bytes.now }
 {
-    (bytes[3] as usize) < NODES && (bytes[4] as usize) < NODES && bytes[3] != bytes[4]
+    bytes[3] < nodes && bytes[4] < nodes && bytes[3] != bytes[4]
 }
 
 /// Whether the acknowledgement has a base, and its mask speaks of frames above the base alone.

@@ -102,17 +102,17 @@ pub fn put_items(items: &[Item], text: &mut Vec<u8>)
 }
 
 /// The item at the front of these texts and the texts behind it; `None` where no whole item stands
-/// there, or its length is above the longest payload. Takes no memory.
+/// there, or its payload is longer than the limit. Takes no memory.
 #[tactic(auto, unfolding(crate::specs::Reading::item_at))]
-pub fn first_item(texts: &[u8]) -> Option<(ItemView<'_>, &[u8])>
-    ensures { MatchOption result (item_at texts.now ≡ None) (λ x. item_at texts.now ≡ Some (item_of x.0, x.1.now)) }
+pub fn first_item(limit: usize, texts: &[u8]) -> Option<(ItemView<'_>, &[u8])>
+    ensures { MatchOption result (item_at limit texts.now ≡ None) (λ x. item_at limit texts.now ≡ Some (item_of x.0, x.1.now)) }
 {
     if texts.len() < ITEM_HEADER {
         return None;
     }
     let len = u16_at(texts, 7) as usize;
     let rest = &texts[ITEM_HEADER..];
-    if len > PAYLOAD || len > rest.len() {
+    if len > limit || len > rest.len() {
         return None;
     }
     let item = ItemView {
@@ -125,13 +125,14 @@ pub fn first_item(texts: &[u8]) -> Option<(ItemView<'_>, &[u8])>
     Some((item, &rest[len..]))
 }
 
-/// What stands behind so many items; `None` where so many do not stand at the front. Takes no memory.
-pub(crate) fn skip_items(count: u16, texts: &[u8]) -> Option<&[u8]>
-    ensures { MatchOption result (items_at count texts.now ≡ None) (λ rest. IsSome (items_at count texts.now) × (left_over (items_at count texts.now) ≡ rest.now)) }
+/// What stands behind so many items with payloads within the limit; `None` where so many do not stand at
+/// the front. Takes no memory.
+pub(crate) fn skip_items(limit: usize, count: u16, texts: &[u8]) -> Option<&[u8]>
+    ensures { MatchOption result (items_at limit count texts.now ≡ None) (λ rest. IsSome (items_at limit count texts.now) × (left_over (items_at limit count texts.now) ≡ rest.now)) }
 {
     let mut rest = texts;
     for _ in 0..count {
-        let Some((_item, after)) = first_item(rest) else {
+        let Some((_item, after)) = first_item(limit, rest) else {
             return None;
         };
         rest = after;
@@ -146,7 +147,7 @@ pub fn count_items(texts: &[u8]) -> u16
 {
     let mut rest = texts;
     let mut count = 0;
-    while let Some((_item, after)) = first_item(rest) {
+    while let Some((_item, after)) = first_item(PAYLOAD, rest) {
         rest = after;
         count += 1;
     }

@@ -1,16 +1,18 @@
 //! Packets, and which of them can be written.
 ghost use Rattle.std.specs.Prelude.{◌≡◌, ◌↔◌, ◌+◌, ◌≤◌, length, IsTrue, IsSome, IfSome, All};
-ghost use Rattle.gb_types.specs.declared.limits.TheConstants.{PAYLOAD};
-ghost use Rattle.gb_frame.specs.declared.limits.TheConstants.{ROOM};
+ghost use Rattle.gb_types.specs.Version.{limits_of};
+ghost use Rattle.gb_frame.specs.Room.{room_of};
 
 use crate::item::Item;
-use crate::limits::{ITEM_HEADER, ROOM};
-use gb_types::limits::PAYLOAD;
+use crate::limits::{ITEM_HEADER, room};
 use gb_types::node::NodeId;
+use gb_types::version::Version;
 
 /// A packet without its items.
 #[derive(Clone, Copy, PartialEq, Eq)]
 pub struct Head {
+    /// The version of the text, whose limits the packet keeps to.
+    pub version: Version,
     /// The sender.
     pub from: NodeId,
     /// The destination, another node.
@@ -27,6 +29,7 @@ pub struct Head {
 /// What one node sends another at once: the fields of a `Head`, and the frame's items.
 #[derive(Drop)]
 pub struct Packet {
+    pub version: Version,
     pub from: NodeId,
     pub to: NodeId,
     pub base: u64,
@@ -38,25 +41,26 @@ pub struct Packet {
 ghost use Rattle.gb_frame.specs.Packet.{content, packet_of};
 ghost use Rattle.gb_frame.specs.Spelling.{items_text, IsWithinLimits};
 
-/// How many of the bytes that a packet has for items these leave, where they fit and each payload is
-/// within its limit.
-pub fn room_beside(items: &[Item]) -> Option<usize>
-    ensures fits { IsSome result ↔ (All (λ i. length i.payload ≤ PAYLOAD) items.now × (length (items_text items.now) ≤ ROOM)) }
-    ensures left { IfSome result (λ room. length (items_text items.now) + room ≡ ROOM) }
+/// How many of the bytes that a packet of this version has for items these leave, where they fit and each
+/// payload is within the version's limit.
+pub fn room_beside(version: Version, items: &[Item]) -> Option<usize>
+    ensures fits { IsSome result ↔ (All (λ i. length i.payload ≤ (limits_of version).payload) items.now × (length (items_text items.now) ≤ room_of version)) }
+    ensures left { IfSome result (λ room. length (items_text items.now) + room ≡ room_of version) }
 {
-    let mut room = ROOM;
+    let limit = version.limits().payload;
+    let mut left = room(version);
     for item in items {
         let payload = item.payload.len();
-        if payload > PAYLOAD {
+        if payload > limit {
             return None;
         }
         let len = ITEM_HEADER + payload;
-        if len > room {
+        if len > left {
             return None;
         }
-        room -= len;
+        left -= len;
     }
-    Some(room)
+    Some(left)
 }
 
 impl Packet {
@@ -65,6 +69,7 @@ impl Packet {
         ensures { packet_of result self.now.items.items ≡ content self.now }
     {
         Head {
+            version: self.version,
             from: self.from,
             to: self.to,
             base: self.base,
@@ -77,10 +82,13 @@ impl Packet {
     pub fn is_within_limits(&self) -> bool
         ensures { IsTrue result ↔ IsWithinLimits (content self.now) }
     {
-        self.from != self.to
+        let limits = self.version.limits();
+        self.from.number < limits.nodes
+            && self.to.number < limits.nodes
+            && self.from != self.to
             && self.base > 0
             && self.mask % 2 == 0
             && (self.frame == 0) == self.items.is_empty()
-            && room_beside(&self.items).is_some()
+            && room_beside(self.version, &self.items).is_some()
     }
 }

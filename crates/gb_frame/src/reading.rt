@@ -10,11 +10,11 @@ use crate::header::{
     count_of, has_acknowledgement, has_counted_frame, has_magic, has_nodes, texts_of,
 };
 use crate::item::skip_items;
-use crate::limits::{SHORTEST, VERSION};
+use crate::limits::SHORTEST;
 use crate::tag::has_tag;
 use crate::view::PacketView;
 use gb_cap::hmac::HmacKey;
-use gb_types::limits::PACKET;
+use gb_types::version::Version;
 
 /// The first test that says so.
 #[tactic(auto, unfolding(crate::specs::Reading::fault_in))]
@@ -27,10 +27,11 @@ fn first_fault(bytes: &[u8], key: &HmacKey) -> Option<PacketFault>
     if !has_magic(bytes) {
         return Some(PacketFault::Magic);
     }
-    if bytes[2] != VERSION {
+    let Some(version) = Version::from_byte(bytes[2]) else {
         return Some(PacketFault::Version);
-    }
-    if !has_nodes(bytes) {
+    };
+    let limits = version.limits();
+    if !has_nodes(limits.nodes, bytes) {
         return Some(PacketFault::Node);
     }
     if !has_acknowledgement(bytes) {
@@ -39,13 +40,13 @@ fn first_fault(bytes: &[u8], key: &HmacKey) -> Option<PacketFault>
     if !has_counted_frame(bytes) {
         return Some(PacketFault::Count);
     }
-    let Some(rest) = skip_items(count_of(bytes), texts_of(bytes)) else {
+    let Some(rest) = skip_items(limits.payload, count_of(bytes), texts_of(bytes)) else {
         return Some(PacketFault::Length);
     };
     if !rest.is_empty() {
         return Some(PacketFault::Trailing);
     }
-    if bytes.len() > PACKET {
+    if bytes.len() > limits.packet {
         return Some(PacketFault::TooLong);
     }
     if !has_tag(bytes, key) {

@@ -8,9 +8,10 @@ ghost use Rattle.gb_frame.specs.Fields.{from_in, to_in};
 ghost use Rattle.gb_frame.specs.Reading.{parsed, items_of, content_in};
 ghost use Rattle.gb_frame.specs.Batch.{batch_in};
 
-use crate::header::{base_of, count_of, frame_of, mask_of, texts_of};
+use crate::header::{base_of, count_of, frame_of, mask_of, texts_of, version_of};
 use crate::item::{ItemView, first_item};
 use crate::packet::Head;
+use gb_types::limits::PAYLOAD;
 use gb_types::node::NodeId;
 use std::marker::Model;
 
@@ -46,6 +47,7 @@ impl<'a> PacketView<'a> {
     {
         PacketView {
             head: Head {
+                version: version_of(bytes),
                 from: NodeId { number: bytes[3] },
                 to: NodeId { number: bytes[4] },
                 base: base_of(bytes),
@@ -112,7 +114,7 @@ impl<'a> Iterator for ItemViews<'a> {
     ghost remaining = { item_count (λ left. left) };
 
     fn next(&mut self) -> Option<ItemView<'a>> {
-        let Some((item, rest)) = first_item(self.texts) else {
+        let Some((item, rest)) = first_item(PAYLOAD, self.texts) else {
             return None;
         };
         self.texts = rest;

@@ -6,11 +6,9 @@ ghost use Rattle.gb_frame.specs.Packet.{content, packet_of};
 ghost use Rattle.gb_frame.specs.Spelling.{header_text, tag_of, packet_text, AreTexts, IsWithinLimits, FitsFields, IsPacket, IsText};
 
 use crate::item::put_items;
-use crate::limits::VERSION;
 use crate::packet::{Head, Packet, room_beside};
 use crate::tag::tag;
 use gb_cap::hmac::HmacKey;
-use gb_types::limits::PACKET;
 use gb_types::memory::OutOfMemory;
 use std::alloc::Global;
 
@@ -37,11 +35,12 @@ fn put_header(head: Head, count: u16, text: &mut Vec<u8>)
     let [m0, m1, m2, m3, m4, m5, m6, m7] = head.mask.to_be_bytes();
     let [f0, f1, f2, f3, f4, f5, f6, f7] = head.frame.to_be_bytes();
     let [c0, c1] = count.to_be_bytes();
+    let version = head.version.limits().byte;
     let (from, to) = (head.from.number, head.to.number);
     append(
         text,
         &[
-            b'G', b'B', VERSION, from, to, b0, b1, b2, b3, b4, b5, b6, b7, m0, m1, m2, m3, m4, m5,
+            b'G', b'B', version, from, to, b0, b1, b2, b3, b4, b5, b6, b7, m0, m1, m2, m3, m4, m5,
             m6, m7, f0, f1, f2, f3, f4, f5, f6, f7, c0, c1,
         ],
     );
@@ -63,8 +62,8 @@ pub fn encode(alloc: Global, packet: &Packet, key: &HmacKey) -> Result<Vec<u8>, 
     requires { IsWithinLimits (content packet.now) }
     ensures { IfOk result (λ text. IsText key.now text.items (content packet.now)) }
 {
-    let room = room_beside(&packet.items).unwrap();
-    let mut text = Vec::with_capacity(alloc, PACKET - room)?;
+    let room = room_beside(packet.version, &packet.items).unwrap();
+    let mut text = Vec::with_capacity(alloc, packet.version.limits().packet - room)?;
     let count = packet.items.len() as u16;
     put_header(packet.head(), count, &mut text);
     put_items(&packet.items, &mut text);
