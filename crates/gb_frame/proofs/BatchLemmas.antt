@@ -3,6 +3,7 @@ use Rattle.std.proofs.Common.{◌≡◌, ℕ, zero, suc, ◌≤◌, List, [], �
 use Rattle.std.proofs.lemmas.List.Elements.{All-tail}
 use Rattle.std.proofs.lemmas.List.{nil_from_length}
 use Rattle.std.specs.Prelude.{option_and_then}
+use Rattle.gb_types.specs.declared.limits.TheConstants.{PAYLOAD}
 use Rattle.gb_types.proofs.ReadLemmas.{some_same}
 use Rattle.gb_frame.specs.declared.item.Item.{Item}
 use Rattle.gb_frame.specs.Spelling.{items_text, IsItem, AreTexts}
@@ -16,7 +17,7 @@ use Rattle.gb_frame.proofs.WalkLemmas.{no_item}
 none_from : (n : ℕ) → items_from n [] ≡ []
 unfolding items_from
 none_from zero = refl
-none_from (suc n) = rw none_at_end refl
+none_from (suc n) = rw (none_at_end PAYLOAD) refl
 
 read_again : (n : ℕ) (bytes : List ℕ) (items : List Item) → AreTexts bytes items → length items ≤ n → items_from n bytes ≡ items
 unfolding items_from
@@ -39,26 +40,26 @@ unfolding items_from
 enough_asked zero m bytes few more = let none = nil_from_length bytes (omega (arith, few)) in ap (items_from 0) none ∙ sym (ap (items_from m) none ∙ none_from m)
 enough_asked (suc n) zero bytes few more = let none = nil_from_length bytes (omega (arith, more)) in ap (items_from (suc n)) none ∙ none_from (suc n)
 enough_asked (suc n) (suc m) bytes few more =
-    elim (item_at bytes) as (λ o. item_at bytes ≡ o → items_from (suc n) bytes ≡ items_from (suc m) bytes) [
+    elim (item_at PAYLOAD bytes) as (λ o. item_at PAYLOAD bytes ≡ o → items_from (suc n) bytes ≡ items_from (suc m) bytes) [
       | None ↦ λ e. rw e refl
-      | Some x ↦ λ e. (let less = item_shrinks bytes x e in rw e (ap (λ left. x.0 ∷ left) (enough_asked n m x.1 (omega (arith, few, less)) (omega (arith, more, less)))))
+      | Some x ↦ λ e. (let less = item_shrinks PAYLOAD bytes x e in rw e (ap (λ left. x.0 ∷ left) (enough_asked n m x.1 (omega (arith, few, less)) (omega (arith, more, less)))))
     ] refl
 
 -- a batch with no item at the front has none, and else the others stand behind the first
-pub none_first : (bytes : List ℕ) → item_at bytes ≡ None → batch_in bytes ≡ []
+pub none_first : (bytes : List ℕ) → item_at PAYLOAD bytes ≡ None → batch_in bytes ≡ []
 unfolding items_from
 none_first [] none = refl
 none_first (b ∷ bytes) none = rw none refl
 
-pub one_first : (bytes : List ℕ) (i : Item) (rest : List ℕ) → item_at bytes ≡ Some (i, rest) → batch_in bytes ≡ i ∷ batch_in rest
+pub one_first : (bytes : List ℕ) (i : Item) (rest : List ℕ) → item_at PAYLOAD bytes ≡ Some (i, rest) → batch_in bytes ≡ i ∷ batch_in rest
 unfolding items_from
-one_first [] i rest found = absurd (let none = sym found ∙ none_at_end in cc)
+one_first [] i rest found = absurd (let none = sym found ∙ none_at_end PAYLOAD in cc)
 one_first (b ∷ bytes) i rest found =
-    let less = item_shrinks (b ∷ bytes) (i, rest) found in
+    let less = item_shrinks PAYLOAD (b ∷ bytes) (i, rest) found in
     rw found (ap (λ left. i ∷ left) (enough_asked (length bytes) (length rest) rest (omega (arith, less)) (omega arith)))
 
 -- so many items that stand there, with nothing behind them, are the batch
-pub counted_whole : (n : ℕ) (bytes : List ℕ) (items : List Item) → items_at n bytes ≡ Some (items, []) → (n ≡ length (batch_in bytes)) × (batch_in bytes ≡ items)
+pub counted_whole : (n : ℕ) (bytes : List ℕ) (items : List Item) → items_at PAYLOAD n bytes ≡ Some (items, []) → (n ≡ length (batch_in bytes)) × (batch_in bytes ≡ items)
 unfolding items_at
 counted_whole zero bytes items found =
     let same = some_same (items, []) ([], bytes) (sym found) in
@@ -66,11 +67,11 @@ counted_whole zero bytes items found =
     let few : items ≡ [] = ap (λ (x : List Item × List ℕ). x.0) same in
     (ap length (sym (none_from 0)) ∙ ap (λ b. length (batch_in b)) none, ap batch_in (sym none) ∙ (none_from 0 ∙ sym few))
 counted_whole (suc n) bytes items found =
-    elim (item_at bytes) as (λ o. item_at bytes ≡ o → (suc n ≡ length (batch_in bytes)) × (batch_in bytes ≡ items)) [
-      | None ↦ λ e. absurd (let none = no_item n bytes e in cc)
+    elim (item_at PAYLOAD bytes) as (λ o. item_at PAYLOAD bytes ≡ o → (suc n ≡ length (batch_in bytes)) × (batch_in bytes ≡ items)) [
+      | None ↦ λ e. absurd (let none = no_item PAYLOAD n bytes e in cc)
       | Some x ↦ λ e. (
-          let whole : items_at (suc n) bytes ≡ option_and_then (λ others. Some (x.0 ∷ others.0, others.1)) (items_at n x.1) = rw e refl in
-          let others = then_some (items_at n x.1) (λ others. Some (x.0 ∷ others.0, others.1)) (items, []) (sym whole ∙ found) in
+          let whole : items_at PAYLOAD (suc n) bytes ≡ option_and_then (λ others. Some (x.0 ∷ others.0, others.1)) (items_at PAYLOAD n x.1) = rw e refl in
+          let others = then_some (items_at PAYLOAD n x.1) (λ others. Some (x.0 ∷ others.0, others.1)) (items, []) (sym whole ∙ found) in
           let same = some_same (x.0 ∷ others.0.0, others.0.1) (items, []) others.2 in
           let behind : others.0.1 ≡ [] = ap (λ (y : List Item × List ℕ). y.1) {x = (x.0 ∷ others.0.0, others.0.1)} same in
           let all : x.0 ∷ others.0.0 ≡ items = ap (λ (y : List Item × List ℕ). y.0) {x = (x.0 ∷ others.0.0, others.0.1)} same in

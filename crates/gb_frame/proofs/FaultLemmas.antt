@@ -1,12 +1,14 @@
 -- The first test that says so is the first fault of the table.
 use Rattle.std.proofs.Common.{◌≡◌, ◌≢◌, ℕ, zero, suc, ◌+◌, ◌<◌, ◌≤◌, Bool, true, false, cond, List, [], ◌∷◌, length, take, codes, eqb, Option, Some, None, refl, sym, ap, subst, ◌∙◌, arith, inl, inr}
-use Rattle.std.specs.Prelude.{find, not, ◌&&◌, ◌==◌, ◌%◌, ◌↔◌, nat_lt, if◌then◌else◌, is_none}
+use Rattle.std.specs.Prelude.{find, not, ◌&&◌, ◌==◌, ◌%◌, ◌↔◌, nat_lt, if◌then◌else◌, is_none, unwrap_or}
 use Rattle.std.proofs.lemmas.Bool.{eqb-true, ltb-false}
 use Rattle.std.proofs.lemmas.Bool.Decides.{nat_tests}
 use Rattle.std.proofs.lemmas.List.{nil_from_length}
-use Rattle.gb_types.specs.declared.limits.TheConstants.{NODES, PACKET}
+use Rattle.gb_types.specs.declared.version.Version.{Version as TextVersion}
+use Rattle.gb_types.specs.declared.version.Version.TheVariants.{One}
+use Rattle.gb_types.specs.Version.{limits_of, version_named}
 use Rattle.gb_types.proofs.BoolLemmas.{and_sides}
-use Rattle.gb_frame.specs.declared.limits.TheConstants.{VERSION, SHORTEST}
+use Rattle.gb_frame.specs.declared.limits.TheConstants.{SHORTEST}
 use Rattle.gb_frame.specs.declared.item.Item.{Item}
 use Rattle.gb_frame.specs.Spelling.{tag_of}
 use Rattle.std.proofs.lemmas.Bool.Decides.{eqb_tells}
@@ -14,7 +16,7 @@ use Rattle.gb_frame.specs.declared.fault.PacketFault.{PacketFault}
 use Rattle.gb_frame.specs.declared.fault.PacketFault.TheVariants.{Short, Magic, Version, Node, Mask, Count, Length, Trailing, TooLong, Tag}
 use Rattle.gb_frame.specs.Faults.{fault_number}
 use Rattle.gb_frame.specs.Fields.{version_in, from_in, to_in, base_in, mask_in, frame_in, count_in, tag_in, tagged_in}
-use Rattle.gb_frame.specs.Reading.{faults, is_magic, parsed, left_over, items_of}
+use Rattle.gb_frame.specs.Reading.{faults, version_read, is_magic, parsed, left_over, items_of}
 
 -- ---- the order of the table
 
@@ -126,15 +128,15 @@ below_eleven Tag = (omega arith, omega arith)
 pub record IsGood (key bytes : List ℕ) : Type 0 where
   pub long : SHORTEST ≤ length bytes
   pub magic : take 2 bytes ≡ codes "GB"
-  pub version : version_in bytes ≡ VERSION
-  pub from : from_in bytes < NODES
-  pub to : to_in bytes < NODES
+  pub version : version_named (version_in bytes) ≡ Some (version_read bytes)
+  pub from : from_in bytes < (limits_of (version_read bytes)).nodes
+  pub to : to_in bytes < (limits_of (version_read bytes)).nodes
   pub apart : from_in bytes ≢ to_in bytes
   pub base : 0 < base_in bytes
   pub mask : mask_in bytes % 2 ≡ 0
   pub frame : (frame_in bytes ≡ 0) ↔ (count_in bytes ≡ 0)
   pub parsed : parsed bytes ≡ Some (items_of (parsed bytes), [])
-  pub short : length bytes ≤ PACKET
+  pub short : length bytes ≤ (limits_of (version_read bytes)).packet
   pub tag : tag_in bytes ≡ tag_of key (tagged_in bytes)
 
 pub magic_there : (bytes : List ℕ) → is_magic bytes ≡ true → take 2 bytes ≡ codes "GB"
@@ -159,3 +161,11 @@ acknowledged_there a b e = (grind (arith, nat_tests), grind (arith, nat_tests))
 pub parsed_there : (o : Option (List Item × List ℕ)) → is_none o ≡ false → nat_lt 0 (length (left_over o)) ≡ false → o ≡ Some (items_of o, [])
 parsed_there None e f = absurd cc
 parsed_there (Some x) e f = let none : x.1 ≡ [] = nil_from_length x.1 (let h = ltb-false _ _ f in omega arith) in ap (λ r. Some (x.0, r)) none
+
+pub named_there : (o : Option TextVersion) → is_none o ≡ false → o ≡ Some (unwrap_or o One)
+named_there None e = absurd cc
+named_there (Some v) e = refl
+
+pub none_told : {A : Type 0} (o : Option A) → is_none o ≡ true → o ≡ None
+none_told None e = refl
+none_told (Some x) e = absurd cc

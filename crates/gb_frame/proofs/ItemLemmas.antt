@@ -27,17 +27,22 @@ passed : {A : Type 0} (b : Bool) (x y : A) → cond b None (Some x) ≡ Some y �
 passed true x y e = absurd cc
 passed false x y e = (refl, cc)
 
-pub item_takes : (bytes : List ℕ) (x : Item × List ℕ) → IsBytes bytes → item_at bytes ≡ Some x → Takes bytes (item_text x.0) x.1 × IsItem x.0
+-- an item whose payload is within a limit
+pub record IsWithin (limit : ℕ) (i : Item) : Type 0 where
+  pub item : IsItem i
+  pub payload : length i.payload ≤ limit
+
+pub item_takes : (limit : ℕ) (bytes : List ℕ) (x : Item × List ℕ) → limit ≤ PAYLOAD → IsBytes bytes → item_at limit bytes ≡ Some x → Takes bytes (item_text x.0) x.1 × IsWithin limit x.0
 unfolding item_at
-item_takes bytes x fits e =
+item_takes limit bytes x most fits e =
     let len : ℕ = number_at w16 7 bytes in
     let rest : List ℕ = drop 9 bytes in
     let made : Item = record { tenant = number_at w16 0 bytes; group = number_at w16 2 bytes; origin = get_or bytes 4 0; seq = number_at w16 5 bytes; payload = take len rest } in
-    let p = passed (ltb (length bytes) 9 || (ltb PAYLOAD len || ltb (length rest) len)) (made, drop len rest) x e in
-    let t = or_sides (ltb (length bytes) 9) (ltb PAYLOAD len || ltb (length rest) len) p.0 in
-    let u = or_sides (ltb PAYLOAD len) (ltb (length rest) len) t.1 in
+    let p = passed (ltb (length bytes) 9 || (ltb limit len || ltb (length rest) len)) (made, drop len rest) x e in
+    let t = or_sides (ltb (length bytes) 9) (ltb limit len || ltb (length rest) len) p.0 in
+    let u = or_sides (ltb limit len) (ltb (length rest) len) t.1 in
     let long : 9 ≤ length bytes = ltb-false _ _ t.0 in
-    let small : len ≤ PAYLOAD = ltb-false _ _ u.0 in
+    let small : len ≤ limit = ltb-false _ _ u.0 in
     let there : len ≤ length rest = ltb-false _ _ u.1 in
     let whole : length (take len rest) ≡ len = omega (arith, length-take len rest) in
     let origin : drop 4 bytes ≡ get_or bytes 4 0 ∷ drop 5 bytes = drop-cons bytes 4 0 (omega arith) in
@@ -48,35 +53,38 @@ item_takes bytes x fits e =
     let parts : bytes ≡ to_be_bytes w16 (number_at w16 0 bytes) ++ (to_be_bytes w16 (number_at w16 2 bytes) ++ (get_or bytes 4 0 ∷ (to_be_bytes w16 (number_at w16 5 bytes) ++ (to_be_bytes w16 len ++ (take len rest ++ drop len rest))))) =
     e0 ∙ ap (λ t. to_be_bytes w16 (number_at w16 0 bytes) ++ t) (e2 ∙ ap (λ t. to_be_bytes w16 (number_at w16 2 bytes) ++ t) (origin ∙ ap (λ t. get_or bytes 4 0 ∷ t) (e5 ∙ ap (λ t. to_be_bytes w16 (number_at w16 5 bytes) ++ t) (e7 ∙ ap (λ t. to_be_bytes w16 len ++ t) (sym (take-append-drop len rest)))))) in
     let spelled : bytes ≡ item_text made ++ drop len rest = parts ∙ ap (λ n. to_be_bytes w16 (number_at w16 0 bytes) ++ (to_be_bytes w16 (number_at w16 2 bytes) ++ (get_or bytes 4 0 ∷ (to_be_bytes w16 (number_at w16 5 bytes) ++ (to_be_bytes w16 n ++ (take len rest ++ drop len rest)))))) (sym whole) in
-    let found : Takes bytes (item_text made) (drop len rest) × IsItem made = (
+    let found : Takes bytes (item_text made) (drop len rest) × IsWithin limit made = (
       record { parts = spelled; rest_fits = IsBytes-drop len rest (IsBytes-drop 9 bytes fits) },
-      record { tenant = number_below w16 (2 ^ 16) wide16 0 bytes fits; group = number_below w16 (2 ^ 16) wide16 2 bytes fits; origin = fits 4; seq = number_below w16 (2 ^ 16) wide16 5 bytes fits; bytes = IsBytes-take len rest (IsBytes-drop 9 bytes fits); length = omega (arith, whole, small) },
+      record {
+        item = record { tenant = number_below w16 (2 ^ 16) wide16 0 bytes fits; group = number_below w16 (2 ^ 16) wide16 2 bytes fits; origin = fits 4; seq = number_below w16 (2 ^ 16) wide16 5 bytes fits; bytes = IsBytes-take len rest (IsBytes-drop 9 bytes fits); length = omega (arith, whole, small, most) };
+        payload = omega (arith, whole, small);
+      },
     ) in
-    subst (λ (y : Item × List ℕ). Takes bytes (item_text y.0) y.1 × IsItem y.0) p.1 found
+    subst (λ (y : Item × List ℕ). Takes bytes (item_text y.0) y.1 × IsWithin limit y.0) p.1 found
 
 -- an item takes its header at least
-pub item_shrinks : (bytes : List ℕ) (x : Item × List ℕ) → item_at bytes ≡ Some x → 9 + length x.1 ≤ length bytes
+pub item_shrinks : (limit : ℕ) (bytes : List ℕ) (x : Item × List ℕ) → item_at limit bytes ≡ Some x → 9 + length x.1 ≤ length bytes
 unfolding item_at
-item_shrinks bytes x e =
+item_shrinks limit bytes x e =
     let len : ℕ = number_at w16 7 bytes in
     let rest : List ℕ = drop 9 bytes in
     let made : Item = record { tenant = number_at w16 0 bytes; group = number_at w16 2 bytes; origin = get_or bytes 4 0; seq = number_at w16 5 bytes; payload = take len rest } in
-    let p = passed (ltb (length bytes) 9 || (ltb PAYLOAD len || ltb (length rest) len)) (made, drop len rest) x e in
-    let long : 9 ≤ length bytes = ltb-false _ _ (or_sides (ltb (length bytes) 9) (ltb PAYLOAD len || ltb (length rest) len) p.0).0 in
+    let p = passed (ltb (length bytes) 9 || (ltb limit len || ltb (length rest) len)) (made, drop len rest) x e in
+    let long : 9 ≤ length bytes = ltb-false _ _ (or_sides (ltb (length bytes) 9) (ltb limit len || ltb (length rest) len) p.0).0 in
     let after : drop len rest ≡ x.1 = ap (λ (y : Item × List ℕ). y.1) p.1 in
     omega (arith, long, ap length after, length-drop len rest, length-drop 9 bytes)
 
-pub item_again : (i : Item) (rest : List ℕ) → IsItem i → item_at (item_text i ++ rest) ≡ Some (i, rest)
+pub item_again : (limit : ℕ) (i : Item) (rest : List ℕ) → IsItem i → length i.payload ≤ limit → item_at limit (item_text i ++ rest) ≡ Some (i, rest)
 unfolding item_at
-item_again i rest fits =
+item_again limit i rest fits payload =
     let t : List ℕ = item_text i ++ rest in
-    let payload = fits.length in
+    let longest = fits.length in
     let tenant : number_at w16 0 t ≡ i.tenant = number_again w16 (2 ^ 16) wide16 0 t i.tenant fits.tenant refl in
     let group : number_at w16 2 t ≡ i.group = number_again w16 (2 ^ 16) wide16 2 t i.group fits.group refl in
     let seq : number_at w16 5 t ≡ i.seq = number_again w16 (2 ^ 16) wide16 5 t i.seq fits.seq refl in
     let len : number_at w16 7 t ≡ length i.payload = number_again w16 (2 ^ 16) wide16 7 t (length i.payload) (omega arith) refl in
     let long : ltb (length t) 9 ≡ false = le-ltb _ _ (omega arith) in
-    let small : ltb PAYLOAD (length i.payload) ≡ false = le-ltb _ _ payload in
+    let small : ltb limit (length i.payload) ≡ false = le-ltb _ _ payload in
     let there : ltb (length (i.payload ++ rest)) (length i.payload) ≡ false = le-ltb _ _ (omega (arith, length-append i.payload rest)) in
     rw (len, long, small, there, tenant, group, seq, take_at i.payload rest (length i.payload) refl, drop_at i.payload rest (length i.payload) refl) refl
 
@@ -86,30 +94,62 @@ then_some None f y e = absurd cc
 then_some (Some x) f y e = (x, refl, e)
 
 -- no item stands where nothing does
-pub none_at_end : item_at [] ≡ None
+pub none_at_end : (limit : ℕ) → item_at limit [] ≡ None
 unfolding item_at
-none_at_end = refl
+none_at_end limit = refl
 
-pub items_take : (n : ℕ) (bytes : List ℕ) (x : List Item × List ℕ) → IsBytes bytes → items_at n bytes ≡ Some x → Stand n bytes x.0 x.1
+pub items_take : (limit n : ℕ) (bytes : List ℕ) (x : List Item × List ℕ) → limit ≤ PAYLOAD → IsBytes bytes → items_at limit n bytes ≡ Some x → Stand limit n bytes x.0 x.1
 unfolding items_at
-items_take zero bytes x fits e =
-    subst (λ (y : List Item × List ℕ). Stand 0 bytes y.0 y.1) (some_same ([], bytes) x e) (record { count = refl; fit = All-nil IsItem; parts = refl })
-items_take (suc n) bytes x fits e =
-    let a = then_some (item_at bytes) (λ first. option_and_then (λ others. Some (first.0 ∷ others.0, others.1)) (items_at n first.1)) x e in
-    let b = then_some (items_at n a.0.1) (λ others. Some (a.0.0 ∷ others.0, others.1)) x a.2 in
-    let first = item_takes bytes a.0 fits a.1 in
-    let others = items_take n a.0.1 b.0 first.0.rest_fits b.1 in
+items_take limit zero bytes x most fits e =
+    subst (λ (y : List Item × List ℕ). Stand limit 0 bytes y.0 y.1) (some_same ([], bytes) x e) (record { count = refl; fit = All-nil IsItem; payloads = All-nil (λ (i : Item). length i.payload ≤ limit); parts = refl })
+items_take limit (suc n) bytes x most fits e =
+    let a = then_some (item_at limit bytes) (λ first. option_and_then (λ others. Some (first.0 ∷ others.0, others.1)) (items_at limit n first.1)) x e in
+    let b = then_some (items_at limit n a.0.1) (λ others. Some (a.0.0 ∷ others.0, others.1)) x a.2 in
+    let first = item_takes limit bytes a.0 most fits a.1 in
+    let others = items_take limit n a.0.1 b.0 most first.0.rest_fits b.1 in
     let both : bytes ≡ items_text (a.0.0 ∷ b.0.0) ++ b.0.1 =
     first.0.parts ∙ ap (λ t. item_text a.0.0 ++ t) others.parts ∙ sym (append_assoc (item_text a.0.0) (items_text b.0.0) b.0.1) ∙ ap (λ t. t ++ b.0.1) (sym (flat_map-cons item_text a.0.0 b.0.0)) in
-    let found : Stand (suc n) bytes (a.0.0 ∷ b.0.0) b.0.1 = record { count = ap suc others.count; fit = All-cons IsItem a.0.0 b.0.0 first.1 others.fit; parts = both } in
-    subst (λ (y : List Item × List ℕ). Stand (suc n) bytes y.0 y.1) (some_same (a.0.0 ∷ b.0.0, b.0.1) x b.2) found
+    let found : Stand limit (suc n) bytes (a.0.0 ∷ b.0.0) b.0.1 = record {
+      count = ap suc others.count;
+      fit = All-cons IsItem a.0.0 b.0.0 first.1.item others.fit;
+      payloads = All-cons (λ i. length i.payload ≤ limit) a.0.0 b.0.0 first.1.payload others.payloads;
+      parts = both;
+    } in
+    subst (λ (y : List Item × List ℕ). Stand limit (suc n) bytes y.0 y.1) (some_same (a.0.0 ∷ b.0.0, b.0.1) x b.2) found
 
-pub items_again : (items : List Item) (rest : List ℕ) → All IsItem items → items_at (length items) (items_text items ++ rest) ≡ Some (items, rest)
+pub items_again : (limit : ℕ) (items : List Item) (rest : List ℕ) → All IsItem items → All (λ i. length i.payload ≤ limit) items → items_at limit (length items) (items_text items ++ rest) ≡ Some (items, rest)
 unfolding items_at
-items_again [] rest fits = refl
-items_again (i ∷ items) rest fits =
+items_again limit [] rest fits payloads = refl
+items_again limit (i ∷ items) rest fits payloads =
     let regrouped : items_text (i ∷ items) ++ rest ≡ item_text i ++ (items_text items ++ rest) = ap (λ t. t ++ rest) (flat_map-cons item_text i items) ∙ append_assoc (item_text i) (items_text items) rest in
-    ap (items_at (suc (length items))) regrouped ∙ rw (item_again i (items_text items ++ rest) (All-head IsItem i items fits), items_again items rest (All-tail IsItem i items fits)) refl
+    let first = item_again limit i (items_text items ++ rest) (All-head IsItem i items fits) (All-head (λ i. length i.payload ≤ limit) i items payloads) in
+    let others = items_again limit items rest (All-tail IsItem i items fits) (All-tail (λ i. length i.payload ≤ limit) i items payloads) in
+    ap (items_at limit (suc (length items))) regrouped ∙ rw (first, others) refl
 
-pub stand_again : (n : ℕ) (bytes : List ℕ) (items : List Item) (rest : List ℕ) → Stand n bytes items rest → items_at n bytes ≡ Some (items, rest)
-stand_again n bytes items rest s = rw (← s.count, s.parts) (items_again items rest s.fit)
+pub stand_again : (limit n : ℕ) (bytes : List ℕ) (items : List Item) (rest : List ℕ) → Stand limit n bytes items rest → items_at limit n bytes ≡ Some (items, rest)
+stand_again limit n bytes items rest s = rw (← s.count, s.parts) (items_again limit items rest s.fit s.payloads)
+
+-- ---- under a greater limit
+
+pub item_under_greater : (limit more : ℕ) (bytes : List ℕ) (x : Item × List ℕ) → limit ≤ more → item_at limit bytes ≡ Some x → item_at more bytes ≡ Some x
+unfolding item_at
+item_under_greater limit more bytes x above e =
+    let len : ℕ = number_at w16 7 bytes in
+    let rest : List ℕ = drop 9 bytes in
+    let made : Item = record { tenant = number_at w16 0 bytes; group = number_at w16 2 bytes; origin = get_or bytes 4 0; seq = number_at w16 5 bytes; payload = take len rest } in
+    let p = passed (ltb (length bytes) 9 || (ltb limit len || ltb (length rest) len)) (made, drop len rest) x e in
+    let t = or_sides (ltb (length bytes) 9) (ltb limit len || ltb (length rest) len) p.0 in
+    let u = or_sides (ltb limit len) (ltb (length rest) len) t.1 in
+    let small : len ≤ limit = ltb-false _ _ u.0 in
+    let smaller : ltb more len ≡ false = le-ltb _ _ (omega arith) in
+    rw (t.0, smaller, u.1) (ap Some p.1)
+
+pub items_under_greater : (limit more n : ℕ) (bytes : List ℕ) (x : List Item × List ℕ) → limit ≤ more → items_at limit n bytes ≡ Some x → items_at more n bytes ≡ Some x
+unfolding items_at
+items_under_greater limit more zero bytes x above e = e
+items_under_greater limit more (suc n) bytes x above e =
+    let a = then_some (item_at limit bytes) (λ first. option_and_then (λ others. Some (first.0 ∷ others.0, others.1)) (items_at limit n first.1)) x e in
+    let b = then_some (items_at limit n a.0.1) (λ others. Some (a.0.0 ∷ others.0, others.1)) x a.2 in
+    let first = item_under_greater limit more bytes a.0 above a.1 in
+    let others = items_under_greater limit more n a.0.1 b.0 above b.1 in
+    rw (first, others) b.2

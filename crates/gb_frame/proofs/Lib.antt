@@ -1,3 +1,4 @@
+pub mod VersionLemmas
 pub mod RoomLemmas
 pub mod WalkLemmas
 pub mod ItemTextLemmas

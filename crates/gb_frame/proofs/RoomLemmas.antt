@@ -3,8 +3,6 @@ use Rattle.std.proofs.Common.{◌≡◌, ℕ, ◌+◌, ◌-◌, ◌*◌, ◌<◌
 use Rattle.std.proofs.lemmas.List.{length-append, take_more, flat_map_more}
 use Rattle.std.proofs.lemmas.List.Folds.{length-flat_map-take}
 use Rattle.std.proofs.lemmas.List.Concat.{flat_map-cons}
-use Rattle.gb_types.specs.declared.limits.TheConstants.{PAYLOAD}
-use Rattle.gb_frame.specs.declared.limits.TheConstants.{ROOM}
 use Rattle.gb_frame.specs.declared.item.Item.{Item}
 use Rattle.gb_frame.specs.Spelling.{item_text, items_text}
 
@@ -16,22 +14,22 @@ pub texts_more : (items : List Item) (i : ℕ) (d : Item) → i < length items �
 texts_more items i d below = ap items_text (take_more items i d below) ∙ sym (flat_map_more item_text [] (take i items) (get_or items i d))
 
 -- an item whose payload is too long
-pub too_long : (items : List Item) (i : ℕ) (item : Item) → i < length items → item ≡ get_or items i item → PAYLOAD < length item.payload
-    → All (λ i. length i.payload ≤ PAYLOAD) items → ⊥
-too_long items i item below is long all = let fits = all i item below in let same = ap (λ (x : Item). length x.payload) is in absurd (omega (arith, fits, same, long))
+pub too_long : (limit : ℕ) (items : List Item) (i : ℕ) (item : Item) → i < length items → item ≡ get_or items i item → limit < length item.payload
+    → All (λ i. length i.payload ≤ limit) items → ⊥
+too_long limit items i item below is long all = let fits = all i item below in let same = ap (λ (x : Item). length x.payload) is in absurd (omega (arith, fits, same, long))
 
 -- an item for which no room is left
-pub no_room : (items : List Item) (i : ℕ) (item : Item) (room : ℕ) → i < length items → item ≡ get_or items i item → room < 9 + length item.payload
-    → length (items_text (take i items)) + room ≡ ROOM → length (items_text items) ≤ ROOM → ⊥
-no_room items i item room below is none so_far all =
+pub no_room : (all : ℕ) (items : List Item) (i : ℕ) (item : Item) (room : ℕ) → i < length items → item ≡ get_or items i item → room < 9 + length item.payload
+    → length (items_text (take i items)) + room ≡ all → length (items_text items) ≤ all → ⊥
+no_room all items i item room below is none so_far within =
     let before = length-flat_map-take item_text items i item below in
     let here = length-item_text item in let same = ap (λ (x : Item). length (item_text x)) is in
     absurd (omega (arith, before, here, same))
 
 -- one more item has room
-pub room_more : (items : List Item) (i : ℕ) (item : Item) (room : ℕ) → i < length items → item ≡ get_or items i item → 9 + length item.payload ≤ room
-    → length (items_text (take i items)) + room ≡ ROOM → length (items_text (take (i + 1) items)) + (room - (9 + length item.payload)) ≡ ROOM
-room_more items i item room below is fits so_far =
+pub room_more : (all : ℕ) (items : List Item) (i : ℕ) (item : Item) (room : ℕ) → i < length items → item ≡ get_or items i item → 9 + length item.payload ≤ room
+    → length (items_text (take i items)) + room ≡ all → length (items_text (take (i + 1) items)) + (room - (9 + length item.payload)) ≡ all
+room_more all items i item room below is fits so_far =
     let here = length-item_text item in let same = ap (λ (x : Item). length (item_text x)) is in
     let whole : length (items_text (take (i + 1) items)) ≡ length (items_text (take i items)) + length (item_text (get_or items i item)) = ap length (texts_more items i item below) ∙ length-append (items_text (take i items)) (item_text (get_or items i item)) in
     omega (arith, here, same, whole)

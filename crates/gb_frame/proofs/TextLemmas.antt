@@ -1,14 +1,19 @@
 -- What stands where in the text of a packet.
 use Rattle.std.proofs.Common.{◌≡◌, ℕ, ◌+◌, ◌-◌, ◌^◌, ◌<◌, List, [], length, take, drop, codes, Some, refl, sym, ap, ◌∙◌, arith}
+use Rattle.std.specs.Prelude.{unwrap_or}
 use Rattle.std.specs.Int.{w16, w64}
 use Rattle.std.proofs.lemmas.List.{take_at, drop_at, length-append, length-take, append-nil}
 use Rattle.gb_cap.specs.Hmac.{hmac_of, length-hmac_of}
-use Rattle.gb_frame.specs.declared.limits.TheConstants.{VERSION, TAG, SHORTEST}
+use Rattle.gb_types.specs.declared.version.Version.{Version}
+use Rattle.gb_types.specs.declared.version.Version.TheVariants.{One}
+use Rattle.gb_types.specs.Version.{limits_of, version_named}
+use Rattle.gb_frame.specs.declared.limits.TheConstants.{TAG, SHORTEST}
 use Rattle.gb_frame.specs.Packet.{Content}
 use Rattle.gb_frame.specs.Spelling.{items_text, tagged_text, tag_of, header_text, packet_text, IsPacket, IsText}
 use Rattle.gb_frame.specs.Laws.{OneTextHasOnePacket, OnePacketHasOneText}
 use Rattle.gb_frame.specs.Fields.{version_in, from_in, to_in, base_in, mask_in, frame_in, count_in, items_in, tagged_in, tag_in}
-use Rattle.gb_frame.specs.Reading.{parsed, items_at}
+use Rattle.gb_frame.specs.Reading.{version_read, parsed, items_at}
+use Rattle.gb_frame.proofs.VersionLemmas.{named_by_byte, room_within}
 use Rattle.gb_frame.proofs.RoomLemmas.{count_fits}
 use Rattle.gb_frame.proofs.NumberLemmas.{wide16, wide64, number_again}
 use Rattle.gb_frame.proofs.ItemLemmas.{items_again}
@@ -22,7 +27,8 @@ length-tag_of key text = omega (arith, length-take TAG (hmac_of key text), lengt
 pub record Reads (key bytes : List ℕ) (c : Content) : Type 0 where
   pub len : length bytes ≡ SHORTEST + length (items_text c.items)
   pub magic : take 2 bytes ≡ codes "GB"
-  pub version : version_in bytes ≡ VERSION
+  pub named : version_named (version_in bytes) ≡ Some c.version
+  pub version : version_read bytes ≡ c.version
   pub from : from_in bytes ≡ c.from
   pub to : to_in bytes ≡ c.to
   pub base : base_in bytes ≡ c.base
@@ -42,15 +48,19 @@ reads key c p =
     let tag_len = length-tag_of key (tagged_text c) in
     let total : length bytes ≡ length (tagged_text c) + 8 = omega (arith, length-append (tagged_text c) tag, tag_len) in
     let before : length (tagged_text c) ≡ length bytes - 8 = omega arith in
-    let few : length c.items < 2 ^ 16 = let room = p.limits.room in omega (arith, count_fits c.items) in
+    let few : length c.items < 2 ^ 16 = let room = p.limits.room in omega (arith, count_fits c.items, room_within c.version) in
     let count : count_in bytes ≡ length c.items = number_again w16 (2 ^ 16) wide16 29 bytes (length c.items) few refl in
     let tagged : tagged_in bytes ≡ tagged_text c = take_at (tagged_text c) tag (length bytes - 8) before in
     let items : items_in bytes ≡ items_text c.items = ap (drop 31) tagged in
-    let all : items_at (length c.items) (items_text c.items) ≡ Some (c.items, []) = ap (items_at (length c.items)) (sym (append-nil (items_text c.items))) ∙ items_again c.items [] p.items in
+    let limit : ℕ = (limits_of c.version).payload in
+    let all : items_at limit (length c.items) (items_text c.items) ≡ Some (c.items, []) = ap (items_at limit (length c.items)) (sym (append-nil (items_text c.items))) ∙ items_again limit c.items [] p.items p.limits.payloads in
+    let named : version_named (version_in bytes) ≡ Some c.version = named_by_byte c.version in
+    let version : version_read bytes ≡ c.version = ap (λ o. unwrap_or o One) named in
     record {
       len = omega arith;
       magic = refl;
-      version = refl;
+      named = named;
+      version = version;
       from = refl;
       to = refl;
       base = number_again w64 (2 ^ 64) wide64 5 bytes c.base p.fields.base refl;
@@ -60,7 +70,7 @@ reads key c p =
       tagged = tagged;
       tag = drop_at (tagged_text c) tag (length bytes - 8) before;
       items = items;
-      parsed = rw (count, items) all;
+      parsed = ap (λ (v : Version). items_at (limits_of v).payload (count_in bytes) (items_in bytes)) version ∙ rw (count, items) all;
     }
 
 pub text_reads : (key bytes : List ℕ) (c : Content) → IsText key bytes c → Reads key bytes c
@@ -71,13 +81,14 @@ pub one_packet : OneTextHasOnePacket
 one_packet key bytes c d s t =
     let r = text_reads key bytes c s in
     let q = text_reads key bytes d t in
+    let version : c.version ≡ d.version = sym r.version ∙ q.version in
     let from : c.from ≡ d.from = sym r.from ∙ q.from in
     let to : c.to ≡ d.to = sym r.to ∙ q.to in
     let base : c.base ≡ d.base = sym r.base ∙ q.base in
     let mask : c.mask ≡ d.mask = sym r.mask ∙ q.mask in
     let frame : c.frame ≡ d.frame = sym r.frame ∙ q.frame in
     let items : c.items ≡ d.items = ap (λ x. x.0) (some_same (c.items, []) (d.items, []) (sym r.parsed ∙ q.parsed)) in
-    λ i. record { from = from i; to = to i; base = base i; mask = mask i; frame = frame i; items = items i }
+    λ i. record { version = version i; from = from i; to = to i; base = base i; mask = mask i; frame = frame i; items = items i }
 
 -- a packet has one text under a key
 pub one_text : OnePacketHasOneText

@@ -8,18 +8,18 @@ use Rattle.gb_frame.specs.Reading.{item_at, items_at, left_over}
 abbrev pub behind : Option (List Item × List ℕ) → Option (List ℕ)
 behind o = option_map (λ x. x.1) o
 
-pub no_item : (n : ℕ) (bytes : List ℕ) → item_at bytes ≡ None → items_at (suc n) bytes ≡ None
+pub no_item : (limit n : ℕ) (bytes : List ℕ) → item_at limit bytes ≡ None → items_at limit (suc n) bytes ≡ None
 unfolding items_at
-no_item n bytes none = rw none refl
+no_item limit n bytes none = rw none refl
 
-pub behind_more : (n : ℕ) (bytes : List ℕ) (i : Item) (rest : List ℕ) → item_at bytes ≡ Some (i, rest) → behind (items_at (suc n) bytes) ≡ behind (items_at n rest)
+pub behind_more : (limit n : ℕ) (bytes : List ℕ) (i : Item) (rest : List ℕ) → item_at limit bytes ≡ Some (i, rest) → behind (items_at limit (suc n) bytes) ≡ behind (items_at limit n rest)
 unfolding items_at
-behind_more n bytes i rest found =
-    rw found (elim (items_at n rest) as (λ o. behind (option_and_then (λ others. Some (i ∷ others.0, others.1)) o) ≡ behind o) [ None ↦ refl | Some x ↦ refl ])
+behind_more limit n bytes i rest found =
+    rw found (elim (items_at limit n rest) as (λ o. behind (option_and_then (λ others. Some (i ∷ others.0, others.1)) o) ≡ behind o) [ None ↦ refl | Some x ↦ refl ])
 
-pub none_left : (bytes : List ℕ) → items_at 0 bytes ≡ Some ([], bytes)
+pub none_left : (limit : ℕ) (bytes : List ℕ) → items_at limit 0 bytes ≡ Some ([], bytes)
 unfolding items_at
-none_left bytes = refl
+none_left limit bytes = refl
 
 pub behind_none : (o : Option (List Item × List ℕ)) → None ≡ behind o → o ≡ None
 behind_none None e = refl

@@ -4,11 +4,11 @@ use Rattle.gb_frame.proofs.ItemTextLemmas.{behind_first, none_again}
 use Rattle.gb_frame.proofs.item.count_items.Goals as goal
 
 pub loop-item-smaller : goal.loop-item-smaller
-loop-item-smaller c = let shorter = item_shrinks c.loop-item.rest.now _ c.in-Some.ensures in omega (arith, shorter)
+loop-item-smaller c = let shorter = item_shrinks _ c.loop-item.rest.now _ c.in-Some.ensures in omega (arith, shorter)
 
 pub loop-item-preserved : goal.loop-item-preserved
 loop-item-preserved c =
-    let shorter = item_shrinks c.loop-item.rest.now _ c.in-Some.ensures in
+    let shorter = item_shrinks _ c.loop-item.rest.now _ c.in-Some.ensures in
     let few = c.loop-item.invariant.few in
     record {
       so_far = λ items t.

@@ -1,4 +1,6 @@
 use Rattle.std.proofs.Common.{sym, ap, ◌∙◌, Ok, arith}
+use Rattle.gb_types.specs.Version.{limits_are_within}
+use Rattle.gb_frame.specs.Reading.{version_read}
 use Rattle.gb_frame.proofs.ReadingLemmas.{good, is_text, is_first_fault, text_found, no_fault_found}
 use Rattle.gb_frame.proofs.reading.decode.Goals as goal
 
@@ -6,10 +8,16 @@ pub of-requires-clause-long : goal.of-requires-clause-long
 of-requires-clause-long c = (good c.args.key.now c.args.bytes.now (sym c.in-None.ensures)).long
 
 pub of-requires-clause-from : goal.of-requires-clause-from
-of-requires-clause-from c = (good c.args.key.now c.args.bytes.now (sym c.in-None.ensures)).from
+of-requires-clause-from c =
+    let within = (good c.args.key.now c.args.bytes.now (sym c.in-None.ensures)).from in
+    let most = (limits_are_within (version_read c.args.bytes.now)).nodes in
+    omega (arith, within, most)
 
 pub of-requires-clause-to : goal.of-requires-clause-to
-of-requires-clause-to c = (good c.args.key.now c.args.bytes.now (sym c.in-None.ensures)).to
+of-requires-clause-to c =
+    let within = (good c.args.key.now c.args.bytes.now (sym c.in-None.ensures)).to in
+    let most = (limits_are_within (version_read c.args.bytes.now)).nodes in
+    omega (arith, within, most)
 
 pub of-requires-clause-items : goal.of-requires-clause-items
 of-requires-clause-items c = (good c.args.key.now c.args.bytes.now (sym c.in-None.ensures)).parsed
