@@ -101,11 +101,15 @@ said_fits version spec Made usage log payload seq e = absurd (cc)
 said_fits version spec Shut usage log payload seq e = absurd (cc)
 said_fits version spec Gone usage log payload seq e = absurd (cc)
 
+-- what is said grows what is known by its payload
+pub short-own : (limit : ℕ) (payload : List ℕ) (seq : ℕ) (s : SlotState) → length payload ≤ limit → IsShort limit (Some s) → IsShort limit (Some (slot_said payload (Said seq) s))
+short-own limit payload seq s l h = λ m. payload-more limit s.store (own_entry s payload) m (h m) l
+
 pub short-said : (limit : ℕ) (version : Version) (payload : List ℕ) (reply : Reply) (s : SlotState) → (limits_of version).payload ≤ limit → reply ≡ say_answer version (shown s) payload → IsShort limit (Some s) → IsShort limit (Some (slot_said payload reply s))
 short-said limit version payload Done s l e h = h
-short-said limit version payload (Said seq) s l e h = λ m.
+short-said limit version payload (Said seq) s l e h =
     let fits = said_fits version s.spec s.phase (usage_of s) (shown s).log payload seq e in
-    payload-more limit s.store (own_entry s payload) m (h m) (omega (arith, fits, l))
+    short-own limit payload seq s (omega (arith, fits, l)) h
 short-said limit version payload (Log entries) s l e h = h
 short-said limit version payload (Refused why) s l e h = h
 

@@ -4,6 +4,7 @@ use Rattle.std.specs.Prelude.{Bool, not, ◌&&◌, length, nat_lt, nat_eq, Optio
 use Rattle.std.specs.FinSet as nodes
 use Rattle.std.specs.Ordering.{nat_cmp}
 use Rattle.std.proofs.Math.ListN.{set}
+use Rattle.std.proofs.lemmas.Bool.{not-true}
 use Rattle.std.proofs.lemmas.List.{set-get_or}
 use Rattle.gb_types.specs.Entry.{message_of}
 use Rattle.gb_types.specs.declared.address.Addr.{Addr}
@@ -14,22 +15,22 @@ use Rattle.gb_types.specs.declared.node.NodeId.{NodeId}
 use Rattle.gb_types.specs.declared.spec.Spec.{Spec}
 use Rattle.gb_types.specs.declared.version.Version.{Version}
 use Rattle.gb_types.specs.Version.{limits_of}
-use Rattle.gb_types.proofs.BoolLemmas.{and_right}
+use Rattle.gb_types.proofs.BoolLemmas.{cases_Bool, and_right}
 use Rattle.gb_types.specs.declared.reply.Reply.{Reply}
 use Rattle.gb_types.specs.declared.reply.Reply.TheVariants.{Done, Said, Log, Refused}
 use Rattle.gb_frame.specs.declared.item.Item.{Item}
 use Rattle.gb_layer.specs.declared.call.Call.TheVariants.{Came, Notice}
 use Rattle.gb_history.specs.Messages.{with_new}
-use Rattle.gb_rules.specs.Group.{is_other, is_too_long}
+use Rattle.gb_rules.specs.Group.{is_other, is_too_long, say_answer}
 use Rattle.gb_rules.proofs.LengthLemmas.{within_limit}
 use Rattle.gb_rules.specs.declared.phase.Phase.{Phase}
-use Rattle.gb_slot.specs.Slot.{falls, slot_called, slot_moved, slot_said, slot_came, slot_noticed, slot_took, slot_done, new_slot, with_acknowledgement}
+use Rattle.gb_slot.specs.Slot.{falls, shown, usage_of, slot_called, slot_moved, slot_said, slot_came, slot_noticed, slot_took, slot_done, new_slot, with_acknowledgement}
 use Rattle.gb_slot.specs.SlotState.{SlotState}
-use Rattle.gb_groups.specs.SlotsValue.{Row, row_at, on_slot, gone, no_row}
-use Rattle.gb_groups.proofs.StepLemmas.{short-moved, short-came, short-noticed, short-done, short-took}
+use Rattle.gb_groups.specs.SlotsValue.{Row, row_at, on_slot, gone, no_row, unless_gone, IsShort, AreShort}
+use Rattle.gb_groups.proofs.StepLemmas.{short-moved, short-came, short-noticed, short-done, short-took, short-own, said_fits}
 use Rattle.gb_groups.specs.Packing.{Visit, gave, share}
 use Rattle.gb_frame.specs.Items.{address_of, entry_of}
-use Rattle.gb_groups.specs.AtAddress.{place_of, step_at, on_address, gone_at, drop_at, item_came}
+use Rattle.gb_groups.specs.AtAddress.{place_of, step_at, on_address, gone_at, drop_at, item_came, reply_at, group_reply}
 use Rattle.gb_table.specs.TableValue.{TableValue, with_rows, table_done}
 use Rattle.gb_table.specs.OwnNode.{IsOwn, AreOwn}
 
@@ -47,12 +48,6 @@ me-moved phase (Said seq) s = refl
 me-moved phase (Log entries) s = refl
 me-moved phase (Refused why) s = refl
 
-me-said : (payload : List ℕ) (reply : Reply) (s : SlotState) → (slot_said payload reply s).me ≡ s.me
-me-said payload Done s = refl
-me-said payload (Said seq) s = refl
-me-said payload (Log entries) s = refl
-me-said payload (Refused why) s = refl
-
 -- a step keeps what holds of each slot
 
 abbrev pub Keeps : NodeId → Version → (SlotState → SlotState) → Type 0
@@ -60,6 +55,24 @@ Keeps me version f = (s : SlotState) → IsOwn me version (Some s) → IsOwn me 
 
 pub own-moved : (me : NodeId) (version : Version) (phase : Phase) (reply : Reply) → Keeps me version (slot_moved phase reply)
 own-moved me version phase reply s own = (me-moved phase reply s ∙ own.0, short-moved (limits_of version).payload phase reply s own.1)
+
+-- what is said is within the limit where it gets a number
+pub own-said : (me : NodeId) (version : Version) (payload : List ℕ) (reply : Reply) → ((seq : ℕ) → reply ≡ Said seq → length payload ≤ (limits_of version).payload) → Keeps me version (slot_said payload reply)
+own-said me version payload Done fits s own = own
+own-said me version payload (Said seq) fits s own = (own.0, short-own (limits_of version).payload payload seq s (fits seq refl) own.1)
+own-said me version payload (Log entries) fits s own = own
+own-said me version payload (Refused why) fits s own = own
+
+answered_short : (version : Version) (payload : List ℕ) (o : Option SlotState) (seq : ℕ) → Said seq ≡ unless_gone (λ s. say_answer version s payload) o → length payload ≤ (limits_of version).payload
+answered_short version payload None seq e = absurd (cc)
+answered_short version payload (Some s) seq e = said_fits version s.spec s.phase (usage_of s) (shown s).log payload seq e
+
+replied_short : (version : Version) (payload : List ℕ) (rows : List Row) (place : Option ℕ) (seq : ℕ) → Said seq ≡ reply_at (λ s. say_answer version s payload) rows place → length payload ≤ (limits_of version).payload
+replied_short version payload rows None seq e = absurd (cc)
+replied_short version payload rows (Some p) seq e = answered_short version payload (row_at rows p).slot seq e
+
+pub said_short : (version : Version) (payload : List ℕ) (addr : Addr) (rows : List Row) (reply : Reply) → reply ≡ group_reply (λ s. say_answer version s payload) addr rows → (seq : ℕ) → reply ≡ Said seq → length payload ≤ (limits_of version).payload
+said_short version payload addr rows reply is seq said = replied_short version payload rows (place_of addr rows) seq (sym said ∙ is)
 
 own-came : (me : NodeId) (version : Version) (from : NodeId) (x : Entry) → is_too_long version x.payload ≡ false → Keeps me version (slot_came from x)
 own-came me version from x short s own = (me-came from x s ∙ own.0, short-came (limits_of version).payload from x s (within_limit version x.payload short) own.1)
@@ -160,3 +173,12 @@ test_false false e = refl
 pub table_unchanged : (dest : NodeId) (addr : Addr) (m : MsgId) (t : TableValue) → true ≡ not (nat_eq m.origin.number t.me.number) → AreOwn t.me t.version t.groups.rows → t ≡ table_done dest addr m t
 table_unchanged dest addr m t other are =
     ap (λ (rows : List Row). with_rows rows t) (sym (step_unchanged t.me t.version dest m t.groups.rows (place_of addr t.groups.rows) (test_false (nat_eq m.origin.number t.me.number) other) are))
+
+-- What groups know is within the version's limit.
+
+own_short : (me : NodeId) (version : Version) (slot : Option SlotState) → IsOwn me version slot → IsShort (limits_of version).payload slot
+own_short me version None own = tt
+own_short me version (Some s) own = own.1
+
+pub short_rows : (me : NodeId) (version : Version) (rows : List Row) → AreOwn me version rows → AreShort (limits_of version).payload rows
+short_rows me version rows are = record { each = λ p. own_short me version (row_at rows p).slot (are.each p) }

@@ -4,7 +4,7 @@ use Rattle.gb_table.specs.TableValue.{TableValue, table_done}
 use Rattle.gb_table.specs.OwnNode.{AreOwn}
 use Rattle.gb_table.specs.Within.{addrs_of}
 use Rattle.gb_table.proofs.AddrLemmas.{addrs-address}
-use Rattle.gb_table.proofs.OwnNodeLemmas.{at_address, table_unchanged}
+use Rattle.gb_table.proofs.OwnNodeLemmas.{at_address, own-done, table_unchanged}
 use Rattle.gb_table.proofs.RequestLemmas.{within_step}
 use Rattle.gb_table.proofs.table.Table.done.Goals as goal
 

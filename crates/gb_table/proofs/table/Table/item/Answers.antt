@@ -9,7 +9,7 @@ use Rattle.gb_table.proofs.table.Table.item.Goals as goal
 
 pub invariant_of-self : goal.invariant_of-self
 invariant_of-self c = (
-  within_step c.self.inside.places c.self.inside.tenants c.self.inside.groups.rows _ (ap addrs_of c.item.ensures.rows ∙ addrs-came c.args.from (view_item c.args.item) c.self.inside.groups.rows) c.self.invariant.0,
+  within_step c.self.inside.places c.self.inside.tenants c.self.inside.groups.rows _ (ap addrs_of c.item.ensures.rows ∙ addrs-came c.self.inside.version c.args.from (view_item c.args.item) c.self.inside.groups.rows) c.self.invariant.0,
   c.self.invariant.1,
   subst (AreOwn c.self.inside.me c.self.inside.version) (sym c.item.ensures.rows) (at_came c.self.inside.me c.self.inside.version c.args.from (view_item c.args.item) c.self.inside.groups.rows c.self.invariant.2),
 )

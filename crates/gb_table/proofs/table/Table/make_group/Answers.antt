@@ -1,4 +1,4 @@
-use Rattle.std.proofs.Common.{◌≡◌, ◌<◌, List, false, refl, ap, sym, subst, ◌∙◌, inl, inr}
+use Rattle.std.proofs.Common.{◌≡◌, ◌<◌, List, false, ap, sym, subst, ◌∙◌, inl, inr}
 use Rattle.std.specs.Prelude.{Some, is_some}
 use Rattle.gb_types.specs.declared.reply.Reply.{Reply}
 use Rattle.gb_types.specs.declared.reply.Reply.TheVariants.{Done}
@@ -14,14 +14,14 @@ use Rattle.gb_table.specs.TableValue.{TableValue, reserve_for}
 use Rattle.gb_table.specs.OwnNode.{AreOwn}
 use Rattle.gb_table.specs.Within.{addrs_of, IsWithin}
 use Rattle.gb_table.proofs.TenantLemmas.{found_within, make_done, within_limits}
-use Rattle.gb_table.proofs.OwnNodeLemmas.{at_more}
+use Rattle.gb_table.proofs.OwnNodeLemmas.{at_more, own_new}
 use Rattle.gb_table.proofs.RequestLemmas.{make_should, not_made, has_place, within_made}
 use Rattle.gb_table.proofs.table.Table.make_group.Goals as goal
 use Rattle.gb_table.proofs.table.Table.make_group.Goals.{in-Ok, in-Err}
 
 pub returns-in_default-answer_make : goal.returns-in_default-answer_make
 returns-in_default-answer_make c =
-    let T : TableValue = record { me = c.self.inside.me; nodes = c.self.inside.nodes; places = c.self.inside.places; admin_key = c.self.inside.admin_key; tenants = c.self.inside.tenants; groups = c.self.inside.groups } in
+    let T : TableValue = record { me = c.self.inside.me; nodes = c.self.inside.nodes; version = c.self.inside.version; places = c.self.inside.places; admin_key = c.self.inside.admin_key; tenants = c.self.inside.tenants; groups = c.self.inside.groups } in
     let there = c.is_some-made.ensures ∙ ap is_some c.find.ensures.place in
     record {
       reply = inr (make_should T c.args.self.now c.args.addr c.args.spec.now c.in-Some.row.now c.from.result c.is_some-made.result c.of-reserve.result c.answer_make.result c.self.view_is c.in-Some.ensures c.from.ensures there c.of-reserve.ensures c.answer_make.ensures);
@@ -51,7 +51,7 @@ invariant_of-self c =
       | in-Ok w ↦ (
         subst (λ (rs : List Row). IsWithin c.self.inside.places c.self.inside.tenants (addrs_of rs)) (sym w.in-Ok.ensures.rows) (within_made c.self.inside.places c.self.inside.tenants c.self.inside.groups.rows group row c.self.invariant.0 c.in-Some.ensures below),
         c.self.invariant.1,
-        subst (AreOwn c.self.inside.me c.self.inside.version) (sym w.in-Ok.ensures.rows) (at_more c.self.inside.me c.self.inside.version c.self.inside.groups.rows group c.self.invariant.2 refl),
+        subst (AreOwn c.self.inside.me c.self.inside.version) (sym w.in-Ok.ensures.rows) (at_more c.self.inside.me c.self.inside.version c.self.inside.groups.rows group c.self.invariant.2 (own_new c.self.inside.me c.self.inside.version c.args.spec.now c.args.noticed.now)),
       )
       | in-Err w ↦ (
         subst (λ (g : GroupsValue). IsWithin c.self.inside.places c.self.inside.tenants (addrs_of g.rows)) (sym w.in-Err.ensures.err) c.self.invariant.0,
@@ -62,7 +62,7 @@ invariant_of-self c =
 
 pub returns-clause-reply : goal.returns-clause-reply
 returns-clause-reply c =
-    let T : TableValue = record { me = c.self.inside.me; nodes = c.self.inside.nodes; places = c.self.inside.places; admin_key = c.self.inside.admin_key; tenants = c.self.inside.tenants; groups = c.self.inside.groups } in
+    let T : TableValue = record { me = c.self.inside.me; nodes = c.self.inside.nodes; version = c.self.inside.version; places = c.self.inside.places; admin_key = c.self.inside.admin_key; tenants = c.self.inside.tenants; groups = c.self.inside.groups } in
     let now = c.args.self.now in
     let should : Reply = by_tenant (make_answer now.nodes now.me.number c.args.addr.group (is_some (place_of c.args.addr now.groups.rows)) c.args.spec.now) (reserve_for c.args.addr.tenant now) in
     let there = c.is_some-made.ensures ∙ ap is_some c.find.ensures.place in

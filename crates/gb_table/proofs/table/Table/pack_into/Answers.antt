@@ -1,9 +1,15 @@
-use Rattle.std.proofs.Common.{ap, sym, subst, ◌∙◌}
+use Rattle.std.proofs.Common.{ap, sym, subst, ◌∙◌, ◌≤◌, length}
+use Rattle.std.specs.List.{All}
+use Rattle.gb_types.specs.Version.{limits_of}
+use Rattle.gb_frame.specs.declared.item.Item.{Item}
+use Rattle.gb_groups.specs.Packing.{items}
+use Rattle.gb_groups.proofs.ShortLemmas.{batch_short}
+use Rattle.gb_table.specs.TableValue.{TableValue}
 use Rattle.gb_groups.specs.GroupsValue.{GroupsValue, batch}
 use Rattle.gb_table.specs.OwnNode.{AreOwn}
 use Rattle.gb_table.specs.Within.{addrs_of}
 use Rattle.gb_table.proofs.AddrLemmas.{addrs-gave}
-use Rattle.gb_table.proofs.OwnNodeLemmas.{at_gave}
+use Rattle.gb_table.proofs.OwnNodeLemmas.{at_gave, short_rows}
 use Rattle.gb_table.proofs.RequestLemmas.{within_step}
 use Rattle.gb_table.proofs.table.Table.pack_into.Goals as goal
 
@@ -13,3 +19,8 @@ invariant_of-self c = (
   c.self.invariant.1,
   subst (AreOwn c.self.inside.me c.self.inside.version) (sym (ap (λ (v : GroupsValue). v.rows) c.pack_into.ensures.state)) (at_gave c.self.inside.me c.self.inside.version c.args.dest.number 0 (batch c.args.dest.number c.args.room c.self.inside.groups) c.self.inside.groups.rows c.self.invariant.2),
 )
+
+pub returns-clause-payloads : goal.returns-clause-payloads
+returns-clause-payloads c =
+    subst (λ (t : TableValue). All (λ (i : Item). length i.payload ≤ (limits_of t.version).payload) (items t.groups.rows (batch c.args.dest.number c.args.room t.groups))) c.self.view_is
+    (batch_short (limits_of c.self.inside.version).payload c.args.dest.number c.args.room c.self.inside.groups (short_rows c.self.inside.me c.self.inside.version c.self.inside.groups.rows c.self.invariant.2))
