@@ -1,10 +1,10 @@
 -- What steps leave of the node at which groups are, and of the length of the messages that they know.
-use Rattle.std.proofs.Common.{◌≡◌, ℕ, zero, suc, List, [], ◌∷◌, ◌++◌, map, refl, ap, sym, subst, ◌∙◌, true, false, inl, inr, arith}
+use Rattle.std.proofs.Common.{◌≡◌, ◌≤◌, ℕ, zero, suc, List, [], ◌∷◌, ◌++◌, map, refl, ap, sym, subst, ◌∙◌, true, false, inl, inr, arith}
 use Rattle.std.specs.Prelude.{Bool, not, ◌&&◌, length, nat_lt, nat_eq, Option, Some, None, option_map, if◌then◌else◌}
 use Rattle.std.specs.FinSet as nodes
 use Rattle.std.specs.Ordering.{nat_cmp}
 use Rattle.std.proofs.Math.ListN.{set}
-use Rattle.std.proofs.lemmas.Bool.{not-true}
+use Rattle.std.proofs.lemmas.Bool.{cases_Bool, not-true}
 use Rattle.std.proofs.lemmas.List.{set-get_or}
 use Rattle.gb_types.specs.Entry.{message_of}
 use Rattle.gb_types.specs.declared.address.Addr.{Addr}
@@ -15,7 +15,7 @@ use Rattle.gb_types.specs.declared.node.NodeId.{NodeId}
 use Rattle.gb_types.specs.declared.spec.Spec.{Spec}
 use Rattle.gb_types.specs.declared.version.Version.{Version}
 use Rattle.gb_types.specs.Version.{limits_of}
-use Rattle.gb_types.proofs.BoolLemmas.{cases_Bool, and_right}
+use Rattle.gb_types.proofs.BoolLemmas.{and_right}
 use Rattle.gb_types.specs.declared.reply.Reply.{Reply}
 use Rattle.gb_types.specs.declared.reply.Reply.TheVariants.{Done, Said, Log, Refused}
 use Rattle.gb_frame.specs.declared.item.Item.{Item}

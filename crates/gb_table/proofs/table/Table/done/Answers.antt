@@ -17,5 +17,5 @@ invariant_of-self c = (
 
 pub returns-then-ne-clause-state : goal.returns-then-ne-clause-state
 returns-then-ne-clause-state c =
-    let t : TableValue = record { me = c.self.inside.me; nodes = c.self.inside.nodes; places = c.self.inside.places; admin_key = c.self.inside.admin_key; tenants = c.self.inside.tenants; groups = c.self.inside.groups } in
+    let t : TableValue = record { me = c.self.inside.me; nodes = c.self.inside.nodes; version = c.self.inside.version; places = c.self.inside.places; admin_key = c.self.inside.admin_key; tenants = c.self.inside.tenants; groups = c.self.inside.groups } in
     subst (λ (v : TableValue). v ≡ table_done c.args.dest c.args.addr c.args.m v) c.self.view_is (table_unchanged c.args.dest c.args.addr c.args.m t (sym c.if-ne.true ∙ c.ne.ensures) c.self.invariant.2)
