@@ -1,12 +1,13 @@
 -- The byte of a version, and the room that a version gives.
-use Rattle.std.proofs.Common.{◌≡◌, ℕ, ◌≤◌, true, false, cond, Some, None, refl, ap, ◌∙◌, arith}
+use Rattle.std.proofs.Common.{◌≡◌, ℕ, ◌+◌, ◌≤◌, true, false, cond, Some, None, refl, ap, ◌∙◌, arith}
 use Rattle.std.specs.Prelude.{◌==◌}
 use Rattle.std.proofs.lemmas.Bool.{eqb-true}
 use Rattle.gb_types.specs.declared.version.Version.{Version}
 use Rattle.gb_types.specs.declared.version.Version.TheVariants.{One, Two}
 use Rattle.gb_types.specs.Version.{limits_of, version_named, limits_are_within}
 use Rattle.gb_types.proofs.ReadLemmas.{some_same}
-use Rattle.gb_frame.specs.declared.limits.TheConstants.{SHORTEST, ROOM}
+use Rattle.gb_frame.specs.declared.limits.TheConstants.{SHORTEST, ITEM_HEADER, ROOM}
+use Rattle.gb_types.specs.declared.limits.TheConstants.{PAYLOAD}
 use Rattle.gb_frame.specs.Room.{room_of}
 
 -- a version's byte stands for it alone
@@ -31,3 +32,8 @@ shortest_fits Two = omega arith
 
 pub room_within : (v : Version) → room_of v ≤ ROOM
 room_within v = let most = (limits_are_within v).packet in omega (arith, most)
+
+-- the longest item of any version has room in a packet of each
+pub longest_fits : (v : Version) → ITEM_HEADER + PAYLOAD ≤ room_of v
+longest_fits One = omega arith
+longest_fits Two = omega arith

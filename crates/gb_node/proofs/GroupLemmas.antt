@@ -224,7 +224,7 @@ module _ (law : StayApart) where
   frames_done_apart from t us ok = apart_all (frame_done from) (λ t u ok. apart_all (item_done from) (item_done_apart from) t u.1 ok) t us ok
 
   item_comes_apart : (from : NodeId) (t : TableValue) (i : Item) → AreApart t.groups.rows → AreApart (item_comes from t i).groups.rows
-  item_comes_apart from t i ok = elim (cases_Bool (nat_lt i.origin NODES && nat_le (length i.payload) PAYLOAD)) [
+  item_comes_apart from t i ok = elim (cases_Bool (nat_lt i.origin NODES && not (is_too_long version i.payload))) [
     | inl h ↦ rw h (law.addressed (address_of i) (slot_came from (entry_of i)) t.groups.rows ok)
     | inr h ↦ rw h ok
   ]

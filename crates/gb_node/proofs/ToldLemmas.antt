@@ -247,7 +247,7 @@ module _ (law : SlotLaws) (me from : NodeId) where
   came_stands : (o : Option (Option SlotState)) (x : Option (Option Told)) (is : List Item) → IsTold me o x → IsTold me (fold (came_for from) o is) (fold (came_told me from) x is)
   came_stands o x [] h = h
   came_stands o x (i ∷ is) h =
-      let sound = nat_lt i.origin NODES && nat_le (length i.payload) PAYLOAD in
+      let sound = nat_lt i.origin NODES && not (is_too_long version i.payload) in
       came_stands (came_for from o i) (came_told me from x i) is
       (both_where me sound (stepped (slot_came from (entry_of i))) (stepped (unless_falls me from (entry_of i))) o x (λ _. told_step me (slot_came from (entry_of i)) (unless_falls me from (entry_of i)) o x (λ s t there st. came_one (entry_of i) s t st) h) h)
 

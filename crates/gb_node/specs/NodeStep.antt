@@ -13,7 +13,7 @@ use Rattle.gb_types.specs.declared.request.Request.TheVariants.{AddTenant, Make,
 use Rattle.gb_frame.specs.declared.fault.PacketFault.{PacketFault}
 use Rattle.gb_frame.specs.declared.fault.PacketFault.TheVariants.{Node}
 use Rattle.gb_frame.specs.declared.item.Item.{Item}
-use Rattle.gb_frame.specs.declared.limits.TheConstants.{ROOM}
+use Rattle.gb_frame.specs.Room.{room_of}
 use Rattle.gb_frame.specs.Packet.{Content}
 use Rattle.gb_frame.specs.Reading.{reading}
 use Rattle.gb_frame.specs.Spelling.{packet_text, IsPacket}
@@ -68,11 +68,11 @@ is_reached v b = is_another v b && not (set.contains v.watch.noticed b.number)
 
 -- what a packet to a node says that has this frame: it acknowledges what came from the node so far
 abbrev pub content_to : NodeValue → NodeId → ℕ → List Item → Content
-content_to v b frame items = record { from = v.table.me.number; to = b.number; base = base_of (receiver_from v b.number); mask = mask_of (receiver_from v b.number); frame = frame; items = items }
+content_to v b frame items = record { version = v.table.version; from = v.table.me.number; to = b.number; base = base_of (receiver_from v b.number); mask = mask_of (receiver_from v b.number); frame = frame; items = items }
 
 -- what a batch for a node has now
 abbrev pub batch_to : TableValue → NodeId → List Item
-batch_to t b = items t.groups.rows (batch b.number ROOM t.groups)
+batch_to t b = items t.groups.rows (batch b.number (room_of t.version) t.groups)
 
 abbrev pub unless_empty : List Item → Option (List Item)
 unless_empty [] = None
@@ -88,7 +88,7 @@ pack_content v b = option_map (content_to v b (window_to v b.number).next) (next
 -- a node once this batch was packed for another, if there is one
 abbrev pub sent_batch : NodeId → Option (List Item) → NodeValue → NodeValue
 sent_batch b None v = v
-sent_batch b (Some items) v = record v { table = table_packed b.number ROOM v.table; windows = slice_set v.windows b.number (pushed (window_to v b.number) items) }
+sent_batch b (Some items) v = record v { table = table_packed b.number (room_of v.table.version) v.table; windows = slice_set v.windows b.number (pushed (window_to v b.number) items) }
 
 abbrev pub node_packed : NodeId → NodeValue → NodeValue
 node_packed b v = sent_batch b (next_batch v b) v

@@ -2,6 +2,7 @@
 use Rattle.std.specs.Prelude.{ℕ, ◌<◌, ◌≤◌, Bool, false, List, replicate}
 use Rattle.std.specs.FinSet as set
 use Rattle.gb_types.specs.declared.limits.TheConstants.{NODES, PLACES, SILENCE_MIN, SILENCE_MAX}
+use Rattle.gb_types.specs.Version.{limits_of}
 use Rattle.gb_frame.specs.declared.item.Item.{Item}
 use Rattle.gb_link.specs.Received.{Received}
 use Rattle.gb_link.specs.SendWindow.{SendWindow, new_window}
@@ -26,7 +27,7 @@ pub record NodeValue : Type 0 where
 abbrev pub new_node : NodePlan → NodeValue
 new_node p = record {
   key = p.cluster_key;
-  table = new_table p.me p.nodes p.places p.admin_key;
+  table = new_table p.me p.nodes p.version p.places p.admin_key;
   windows = replicate NODES new_window;
   receivers = replicate NODES set.empty;
   watch = start p.me.number p.nodes p.silence;
@@ -35,7 +36,8 @@ new_node p = record {
 
 -- a node may be started so
 pub record IsNodePlan (p : NodePlan) : Type 0 where
-  pub cluster : p.nodes ≤ NODES
+  -- the version that the node sends can name all nodes
+  pub cluster : p.nodes ≤ (limits_of p.version).nodes
   pub member : p.me.number < p.nodes
   pub places : p.places ≤ PLACES
   pub least : SILENCE_MIN ≤ p.silence

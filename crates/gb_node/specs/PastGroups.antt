@@ -7,7 +7,7 @@ use Rattle.gb_types.specs.Entry.{message_of}
 use Rattle.gb_types.specs.Rising.{rising}
 use Rattle.gb_types.specs.declared.address.Addr.{Addr}
 use Rattle.gb_types.specs.declared.entry.Entry.{Entry}
-use Rattle.gb_types.specs.declared.limits.TheConstants.{NODES, PAYLOAD}
+use Rattle.gb_types.specs.declared.limits.TheConstants.{NODES}
 use Rattle.gb_types.specs.declared.message.MsgId.{MsgId}
 use Rattle.gb_types.specs.declared.node.NodeId.{NodeId}
 use Rattle.gb_types.specs.declared.reply.Reply.{Reply}
@@ -20,7 +20,8 @@ use Rattle.gb_frame.specs.Packet.{Content}
 use Rattle.gb_link.specs.Ack.{covers}
 use Rattle.gb_detect.specs.Watch.{start, replay}
 use Rattle.gb_rules.specs.Address.{is_addr}
-use Rattle.gb_rules.specs.Group.{Shown, is_other}
+use Rattle.gb_types.specs.declared.version.Version.{Version}
+use Rattle.gb_rules.specs.Group.{Shown, is_other, is_too_long}
 use Rattle.gb_rules.specs.declared.phase.Phase.{Phase}
 use Rattle.gb_rules.specs.declared.phase.Phase.TheVariants.{Made, Opened, Shut}
 use Rattle.gb_rules.specs.declared.usage.Usage.{Usage}
@@ -153,15 +154,15 @@ done_told me from o i = where_so (nat_lt i.origin NODES) (stepped (finished_by m
 abbrev pub unless_falls : NodeId → NodeId → Entry → Told → Told
 unless_falls me from x t = if falls_after t.spec me.number t.calls from.number x then t else with_call me (Other from x) t
 
--- one whose origin is no node, or that is longer than a message may be, is let fall
-abbrev pub came_told : NodeId → NodeId → Option (Option Told) → Item → Option (Option Told)
-came_told me from o i = where_so (nat_lt i.origin NODES && nat_le (length i.payload) PAYLOAD) (stepped (unless_falls me from (entry_of i))) o
+-- one whose origin is no node, or that is longer than a message may be at a node that sends this version, is let fall
+abbrev pub came_told : Version → NodeId → NodeId → Option (Option Told) → Item → Option (Option Told)
+came_told version me from o i = where_so (nat_lt i.origin NODES && not (is_too_long version i.payload)) (stepped (unless_falls me from (entry_of i))) o
 
 -- a packet is taken: of the frames that it frees and then of its own frame, if it came first, each group takes its items, in order
-abbrev pub taken_told : NodeId → List ℕ → Addr → List Happened → Frame → Option (Option Told) → Content → Option (Option Told)
-taken_told me key g past frame o c =
+abbrev pub taken_told : Version → NodeId → List ℕ → Addr → List Happened → Frame → Option (Option Told) → Content → Option (Option Told)
+taken_told version me key g past frame o c =
     let acknowledged = fold (done_told me (node_numbered c.from)) o (items_for g (items_freed (freed_by key past c))) in
-    if is_first frame then fold (came_told me (node_numbered c.from)) acknowledged (items_for g c.items) else acknowledged
+    if is_first frame then fold (came_told version me (node_numbered c.from)) acknowledged (items_for g c.items) else acknowledged
 
 -- a batch takes the items that it has of the group
 abbrev pub packed_told : Addr → NodeId → Option (Option Told) → Content → Option (Option Told)
@@ -177,7 +178,7 @@ noticed_told me o b = stepped (if_other me (node_numbered b)) o
 -- what an event with its answer makes of a group
 abbrev pub told_after : NodePlan → Addr → List Happened → NodeEvent → NodeAnswer → Option (Option Told) → Option (Option Told)
 told_after plan g past (Asked request) (Replied reply) o = asked_told g plan.me (noticed_in plan past) request reply o
-told_after plan g past (Came bytes) (Taken (TakenGood good)) o = fold (taken_told plan.me plan.cluster_key g past good.frame) o (read plan.cluster_key bytes)
+told_after plan g past (Came bytes) (Taken (TakenGood good)) o = fold (taken_told plan.version plan.me plan.cluster_key g past good.frame) o (read plan.cluster_key bytes)
 told_after plan g past (Pack b) (Sent (SentPacket text)) o = fold (packed_told g b) o (read plan.cluster_key text)
 told_after plan g past Tick (Ticked (Noticed found)) o = fold (noticed_told plan.me) o (rising found)
 told_after plan g past event answer o = o

@@ -16,6 +16,7 @@ pub record IsOfPastBesideGroups (plan : NodePlan) (past : List Happened) (v : No
   pub key : v.key ≡ plan.cluster_key
   pub me : v.table.me ≡ plan.me
   pub nodes : v.table.nodes ≡ plan.nodes
+  pub version : v.table.version ≡ plan.version
   pub places : v.table.places ≡ plan.places
   pub admin_key : v.table.admin_key ≡ plan.admin_key
   pub stopped : v.stopped ≡ is_stopped past

@@ -1,6 +1,7 @@
 -- Which events leave a node as it is, and how much memory the answers to the others hold.
 use Rattle.std.specs.Prelude.{ℕ, ◌≤◌, Bool, true, false, length}
-use Rattle.gb_types.specs.declared.limits.TheConstants.{PACKET}
+use Rattle.gb_types.specs.Version.{limits_of}
+use Rattle.gb_types.specs.declared.version.Version.{Version}
 use Rattle.gb_types.specs.declared.reply.Reply.{Reply}
 use Rattle.gb_types.specs.declared.reply.Reply.TheVariants.{Log}
 use Rattle.gb_types.specs.declared.request.Request.TheVariants.{Fetch}
@@ -18,10 +19,10 @@ is_read (Again b n) = true
 is_read (Ack b) = true
 is_read event = false
 
--- the bytes that a packet may have in the answer to an event
-abbrev pub room_of : NodeEvent → ℕ
-room_of (Pack b) = PACKET
-room_of event = 0
+-- the bytes that a packet may have in the answer of a node that sends this version to an event
+abbrev pub packet_room : Version → NodeEvent → ℕ
+packet_room version (Pack b) = (limits_of version).packet
+packet_room version event = 0
 
 -- a reply is no log, which alone holds memory
 abbrev pub IsReplyWithin : Reply → Type 0

@@ -1,19 +1,21 @@
 //! The node.
 ghost use Rattle.std.specs.Prelude.{◌≡◌, ◌≤◌, ◌<◌, ◌+◌, [], IsSome, vec_capacity, List, true, false, length, replicate, sum_by, None, Some, MatchOption, IfOk, OnOk, OnErr, Ok, is_ok};
 ghost use Rattle.std.specs.FinSet as set;
+ghost use Rattle.gb_types.specs.Version.{limits_of};
 ghost use Rattle.gb_types.specs.declared.limits.TheConstants.{NODES as MOST, PLACES, SILENCE_MIN, SILENCE_MAX};
-ghost use Rattle.gb_frame.specs.Batch.{batch_in, IsBatch};
+ghost use Rattle.gb_frame.specs.Batch.{batch_in, IsBatch, FitPacket};
 ghost use Rattle.gb_frame.specs.Packet.{packet_of};
 ghost use Rattle.gb_frame.specs.Spelling.{items_text, packet_text, IsPacket};
 ghost use Rattle.gb_frame.specs.declared.item.Item.{Item as ItemValue};
-ghost use Rattle.gb_frame.specs.declared.limits.TheConstants.{ROOM, SHORTEST};
+ghost use Rattle.gb_frame.specs.declared.limits.TheConstants.{SHORTEST};
+ghost use Rattle.gb_frame.specs.Room.{room_of};
 ghost use Rattle.gb_link.specs.SendWindow.{new_window, has_room, frame_again};
 ghost use Rattle.gb_groups.specs.GroupsValue.{batch};
 ghost use Rattle.gb_groups.specs.Packing.{size};
 ghost use Rattle.gb_table.specs.Requests.{is_admitted};
 ghost use Rattle.gb_node.specs.Frames.{items_in, IsHead};
 ghost use Rattle.gb_node.specs.NodeValue.{new_node};
-ghost use Rattle.gb_node.specs.Reads.{is_read, room_of, IsWithin};
+ghost use Rattle.gb_node.specs.Reads.{is_read, packet_room, IsWithin};
 ghost use Rattle.gb_node.specs.NodeStep.{window_to, is_another, is_reached, content_to, batch_to, sent_batch, read_at, good_of, node_took, IsTurn, IsSpelt, IsForReason};
 
 use crate::answer::{Good, Halted, NodeAnswer, PacketAnswer, Sent, Ticked};
@@ -27,7 +29,7 @@ use crate::window::Window;
 use gb_detect::detector::Detector;
 use gb_frame::fault::PacketFault;
 use gb_frame::item::count_items;
-use gb_frame::limits::{ROOM, SHORTEST};
+use gb_frame::limits::{SHORTEST, room};
 use gb_frame::packet::Head;
 use gb_frame::reading::{decode, decode_known};
 use gb_frame::view::PacketView;
@@ -82,6 +84,10 @@ impl Model for Node {
     ghost coded = { Prim.hlevel (codes, set.code {R = nat_cmp} coded_ℕ) };
 
     ghost view = { λ n. record { key = n.key; table = n.table; windows = n.windows; receivers = n.receivers; watch = n.detector; stopped = n.stopped } };
+
+    ghost use Rattle.gb_node.specs.Frames.{KeepsVersion};
+
+    ghost invariant = { λ n. KeepsVersion n.table n.windows };
 }
 
 /// For each node, the sending end of a link on which nothing was sent.
@@ -89,6 +95,22 @@ fn new_windows(alloc: Global) -> [Window; NODES]
     ensures { result ≡ replicate MOST new_window }
 {
     [
+        Window::new(alloc),
+        Window::new(alloc),
+        Window::new(alloc),
+        Window::new(alloc),
+        Window::new(alloc),
+        Window::new(alloc),
+        Window::new(alloc),
+        Window::new(alloc),
+        Window::new(alloc),
+        Window::new(alloc),
+        Window::new(alloc),
+        Window::new(alloc),
+        Window::new(alloc),
+        Window::new(alloc),
+        Window::new(alloc),
+        Window::new(alloc),
         Window::new(alloc),
         Window::new(alloc),
         Window::new(alloc),
@@ -129,13 +151,29 @@ fn new_receivers() -> [Receiver; NODES]
         Receiver::new(),
         Receiver::new(),
         Receiver::new(),
+        Receiver::new(),
+        Receiver::new(),
+        Receiver::new(),
+        Receiver::new(),
+        Receiver::new(),
+        Receiver::new(),
+        Receiver::new(),
+        Receiver::new(),
+        Receiver::new(),
+        Receiver::new(),
+        Receiver::new(),
+        Receiver::new(),
+        Receiver::new(),
+        Receiver::new(),
+        Receiver::new(),
+        Receiver::new(),
     ]
 }
 
 impl Node {
     /// A node at which nothing has happened.
     pub fn start(alloc: Global, plan: &NodePlan) -> Node
-        requires cluster { plan.now.nodes ≤ MOST }
+        requires cluster { plan.now.nodes ≤ (limits_of plan.now.version).nodes }
         requires member { plan.now.me.number < plan.now.nodes }
         requires places { plan.now.places ≤ PLACES }
         requires least { SILENCE_MIN ≤ plan.now.silence }
@@ -145,7 +183,14 @@ impl Node {
         Node {
             alloc,
             key: PacketKey::new(&plan.cluster_key),
-            table: Table::new(alloc, plan.me, plan.nodes, plan.places, &plan.admin_key),
+            table: Table::new(
+                alloc,
+                plan.me,
+                plan.nodes,
+                plan.version,
+                plan.places,
+                &plan.admin_key,
+            ),
             windows: new_windows(alloc),
             receivers: new_receivers(),
             detector: Detector::new(plan.me, plan.nodes, plan.silence),
@@ -185,11 +230,13 @@ impl Node {
     fn head(&self, to: NodeId, frame: u64) -> Head
         requires { is_another self.now to ≡ true }
         ensures head { IsHead result }
+        ensures version { result.version ≡ self.now.table.version }
         ensures frame { result.frame ≡ frame }
         ensures content { (items : List ItemValue) → packet_of result items ≡ content_to self.now to frame items }
     {
         let (base, mask) = self.receivers[to.index()].ack();
         Head {
+            version: self.table.version(),
             from: self.table.me(),
             to,
             base,
@@ -203,8 +250,8 @@ impl Node {
     fn push_batch(&mut self, to: NodeId, count: u16, bytes: usize) -> Result<u64, OutOfMemory>
         requires room { has_room (window_to self.old to.number) ≡ true }
         requires some { 0 < count }
-        requires count { count ≡ length (batch to.number ROOM self.old.table.groups) }
-        requires bytes { bytes ≡ sum_by size (batch to.number ROOM self.old.table.groups) }
+        requires count { count ≡ length (batch to.number (room_of self.old.table.version) self.old.table.groups) }
+        requires bytes { bytes ≡ sum_by size (batch to.number (room_of self.old.table.version) self.old.table.groups) }
         ensures state { OnOk result (self.new ≡ sent_batch to (Some (batch_to self.old.table to)) self.old) }
         ensures frame { IfOk result (λ number. (0 < number) × (number ≡ (window_to self.old to.number).next) × (frame_again (window_to self.new to.number) number ≡ Some (number, batch_to self.old.table to))) }
         ensures texts { OnOk result (length (items_text (batch_to self.old.table to)) ≡ bytes) }
@@ -217,7 +264,7 @@ impl Node {
     /// The texts of the frame for a node with this number that was not acknowledged, and the number; for 0 the lowest
     /// such frame.
     fn undone(&self, to: NodeId, number: u64) -> Option<(u64, &[u8])>
-        ensures { MatchOption result (frame_again (window_to self.now to.number) number ≡ None) (λ r. (frame_again (window_to self.now to.number) number ≡ Some (r.0, batch_in r.1.now)) × IsBatch r.1.now × (0 < r.0)) }
+        ensures { MatchOption result (frame_again (window_to self.now to.number) number ≡ None) (λ r. (frame_again (window_to self.now to.number) number ≡ Some (r.0, batch_in r.1.now)) × IsBatch r.1.now × (0 < r.0) × FitPacket self.now.table.version (batch_in r.1.now)) }
     {
         self.windows[to.index()].again(number)
     }
@@ -250,9 +297,9 @@ impl Node {
         requires another { is_another self.old to ≡ true }
         requires room { has_room (window_to self.old to.number) ≡ true }
         requires some { 0 < count }
-        requires count { count ≡ length (batch to.number ROOM self.old.table.groups) }
-        requires bytes { bytes ≡ sum_by size (batch to.number ROOM self.old.table.groups) }
-        requires most { bytes ≤ ROOM }
+        requires count { count ≡ length (batch to.number (room_of self.old.table.version) self.old.table.groups) }
+        requires bytes { bytes ≡ sum_by size (batch to.number (room_of self.old.table.version) self.old.table.groups) }
+        requires most { bytes ≤ room_of self.old.table.version }
         ensures packet { IfOk result (λ p. p ≡ packet_text self.old.key (content_to self.old to (window_to self.old to.number).next (batch_to self.old.table to))) }
         ensures spelt { OnOk result (IsPacket (content_to self.old to (window_to self.old to.number).next (batch_to self.old.table to))) }
         ensures state { OnOk result (self.new ≡ sent_batch to (Some (batch_to self.old.table to)) self.old) }
@@ -277,7 +324,7 @@ impl Node {
         if !self.is_reached(to) || !self.windows[to.index()].room() {
             return Sent::Nothing;
         }
-        let (count, bytes) = self.table.measure(to, ROOM);
+        let (count, bytes) = self.table.measure(to, room(self.table.version()));
         if count == 0 {
             return Sent::Nothing;
         }
@@ -292,6 +339,7 @@ impl Node {
         requires another { is_another self.now to ≡ true }
         requires number { 0 < number }
         requires batch { IsBatch texts.now }
+        requires fit { FitPacket self.now.table.version (batch_in texts.now) }
         ensures text { IfOk result (λ p. p ≡ packet_text self.now.key (content_to self.now to number (batch_in texts.now))) }
         ensures packet { OnOk result (IsPacket (content_to self.now to number (batch_in texts.now))) }
     {
@@ -458,7 +506,7 @@ impl Node {
         ensures spelt { IsSpelt self.old event.now result }
         ensures reason { IsForReason self.old event.now result }
         ensures read { is_read event.now ≡ true → self.new ≡ self.old }
-        ensures room { is_read event.now ≡ false → IsWithin (room_of event.now) result }
+        ensures room { is_read event.now ≡ false → IsWithin (packet_room self.old.table.version event.now) result }
     {
         self.happen(event)
     }

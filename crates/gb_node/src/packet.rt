@@ -1,6 +1,6 @@
 //! Packets of a node, as their bytes.
 ghost use Rattle.std.specs.Prelude.{◌≡◌, ◌+◌, ◌<◌, ◌≤◌, [], length, IfOk, OnOk, vec_capacity};
-ghost use Rattle.gb_frame.specs.Batch.{batch_in, IsBatch};
+ghost use Rattle.gb_frame.specs.Batch.{batch_in, IsBatch, FitPacket};
 ghost use Rattle.gb_frame.specs.Packet.{packet_of};
 ghost use Rattle.gb_frame.specs.Spelling.{packet_text, IsPacket};
 ghost use Rattle.gb_frame.specs.declared.limits.TheConstants.{SHORTEST};
@@ -25,6 +25,7 @@ pub fn frame_packet(
     requires head { IsHead head }
     requires frame { 0 < head.frame }
     requires batch { IsBatch texts.now }
+    requires fit { FitPacket head.version (batch_in texts.now) }
     requires count { length (batch_in texts.now) ≡ count }
     requires empty { packet.items ≡ [] }
     requires room { SHORTEST + length texts.now ≤ vec_capacity packet }

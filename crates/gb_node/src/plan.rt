@@ -1,13 +1,16 @@
 //! What a node is started with.
 use gb_cap::hmac::Key;
 use gb_types::node::NodeId;
+use gb_types::version::Version;
 
 /// What a node is started with.
 #[derive(Clone, Copy)]
 pub struct NodePlan {
     pub me: NodeId,
-    /// How many nodes the cluster has: 1 to 16.
+    /// How many nodes the cluster has: 1 to 32, and no more than the version can name.
     pub nodes: u8,
+    /// The version of the packet text that the node sends. It reads every version.
+    pub version: Version,
     /// After how many ticks without a good packet a node is noticed: 2 to 1,000.
     pub silence: u16,
     /// How many groups its tenants may make in all: 4,096 at most.

@@ -1,7 +1,7 @@
 //! The sending end of a link whose frames are batches of items, kept as their texts.
 ghost use Rattle.std.specs.Prelude.{◌≡◌, ◌<◌, ◌∷◌, [], true, length, sum_by, None, Some, MatchOption, IfOk, OnOk, OnErr};
-ghost use Rattle.gb_frame.specs.declared.limits.TheConstants.{ROOM};
-ghost use Rattle.gb_frame.specs.Batch.{batch_in, IsBatch};
+ghost use Rattle.gb_frame.specs.Room.{room_of};
+ghost use Rattle.gb_frame.specs.Batch.{batch_in, IsBatch, FitPacket};
 ghost use Rattle.gb_frame.specs.Spelling.{items_text};
 ghost use Rattle.gb_link.specs.SendWindow.{IsWindow, new_window, has_room, pushed, frame_again, freed, acknowledged};
 ghost use Rattle.gb_groups.specs.GroupsValue.{batch};
@@ -10,7 +10,7 @@ ghost use Rattle.gb_table.specs.TableValue.{table_packed};
 ghost use Rattle.gb_node.specs.NodeStep.{batch_to};
 
 use gb_frame::laws::texts_tell_items;
-use gb_frame::limits::ROOM;
+use gb_frame::limits::room;
 use gb_link::spaced::SpacedSender;
 use gb_table::table::Table;
 use gb_types::memory::OutOfMemory;
@@ -95,19 +95,20 @@ impl Window {
     ) -> Result<u64, OutOfMemory>
         requires room { has_room self.old ≡ true }
         requires some { 0 < count }
-        requires count { count ≡ length (batch to.number ROOM table.old.groups) }
-        requires bytes { bytes ≡ sum_by size (batch to.number ROOM table.old.groups) }
+        requires count { count ≡ length (batch to.number (room_of table.old.version) table.old.groups) }
+        requires bytes { bytes ≡ sum_by size (batch to.number (room_of table.old.version) table.old.groups) }
         ensures frame { IfOk result (λ number. (0 < number) × (number ≡ self.old.next) × (frame_again self.new number ≡ Some (number, batch_to table.old to))) }
         ensures texts { OnOk result (length (items_text (batch_to table.old to)) ≡ bytes) }
         ensures window { OnOk result (self.new ≡ pushed self.old (batch_to table.old to)) }
-        ensures table { OnOk result (table.new ≡ table_packed to.number ROOM table.old) }
+        ensures fit { OnOk result (FitPacket table.old.version (batch_to table.old to)) }
+        ensures table { OnOk result (table.new ≡ table_packed to.number (room_of table.old.version) table.old) }
         ensures err { OnErr result ((self.new ≡ self.old) × (table.new ≡ table.old)) }
     {
         texts_tell_items();
         // The proof reads how frames are numbered.
         let _ = self.sender.room();
         self.sender.space(bytes)?;
-        table.pack_into(to, ROOM, count, self.sender.spare());
+        table.pack_into(to, room(table.version()), count, self.sender.spare());
         Ok(self.sender.commit())
     }
 }
