@@ -1,17 +1,19 @@
 -- What a node was told to say is what was accepted there.
-use Rattle.std.proofs.Common.{◌≡◌, ℕ, ◌+◌, ◌-◌, Bool, true, false, nat_eq, List, [], ◌∷◌, ◌++◌, length, Option, Some, None, refl, sym, ap, ◌∙◌, subst, length-append}
+use Rattle.std.proofs.Common.{◌≡◌, ℕ, ◌+◌, ◌-◌, Bool, true, false, nat_eq, ◌||◌, List, [], ◌∷◌, ◌++◌, length, Option, Some, None, refl, sym, ap, ◌∙◌, subst, length-append}
 use Rattle.std.specs.Prelude.{slice_get, nat_lt, nat_le, if◌then◌else◌}
 use Rattle.std.proofs.lemmas.Bool.{eqb-true}
 use Rattle.std.proofs.lemmas.List.{append-nil, append_assoc}
 use Rattle.gb_types.specs.declared.entry.Entry.{Entry}
 use Rattle.gb_types.specs.declared.node.NodeId.{NodeId}
-use Rattle.gb_types.specs.declared.limits.TheConstants.{PAYLOAD}
+use Rattle.gb_types.specs.declared.plan.Bounds.{Bounds}
 use Rattle.gb_types.specs.declared.refusal.Refusal.TheVariants.{Spent, TooLong, Budget, Bytes, Window, Stopped}
 use Rattle.gb_types.specs.declared.reply.Reply.{Reply}
 use Rattle.gb_types.specs.declared.reply.Reply.TheVariants.{Done, Said, Refused}
 use Rattle.gb_types.specs.declared.spec.Spec.{Spec}
+use Rattle.gb_types.specs.declared.version.Version.{Version}
+use Rattle.gb_types.specs.Version.{version_at}
 use Rattle.gb_history.specs.History.{said_in}
-use Rattle.gb_rules.specs.Group.{Shown, is_gone, is_other, say_answer, on_made}
+use Rattle.gb_rules.specs.Group.{Shown, is_gone, is_other, is_too_long, say_answer, on_made}
 use Rattle.gb_history.specs.declared.call.GroupCall.{GroupCall}
 use Rattle.gb_history.specs.declared.call.GroupCall.TheVariants.{Own, Other, Crashed}
 use Rattle.gb_rules.specs.declared.phase.Phase.{Phase}
@@ -40,8 +42,8 @@ length-own_said (Other p x ∷ told) = length-own_said told
 length-own_said (Crashed q ∷ told) = length-own_said told
 
 -- an accepted message has the next number
-pub next_said : (me : ℕ) (m : Member) (payload : List ℕ) (seq : ℕ) (nodes number : ℕ) → reply_to nodes number me (AskSay payload) m ≡ Said seq → seq ≡ said_in m.told + 1
-next_said me m payload seq nodes number = running m.stopped
+pub next_said : (me : ℕ) (m : Member) (payload : List ℕ) (seq : ℕ) (bounds : Bounds) (number : ℕ) → reply_to bounds number me (AskSay payload) m ≡ Said seq → seq ≡ said_in m.told + 1
+next_said me m payload seq bounds number = running m.stopped
   where
     admitted : (long many heavy full : Bool) → (if long then Refused TooLong else (if many then Refused Budget else (if heavy then Refused Bytes else (if full then Refused Window else Said (said_in m.told + 1))))) ≡ Said seq → seq ≡ said_in m.told + 1
     admitted true many heavy full h = cc
@@ -50,24 +52,24 @@ next_said me m payload seq nodes number = running m.stopped
     admitted false false false true h = cc
     admitted false false false false h = cc
 
-    answered : (spec : Spec) (phase : Phase) (usage : Usage) (log : List Entry) → usage.said ≡ said_in m.told → say_answer (record { spec = spec; phase = phase; usage = usage; log = log }) payload ≡ Said seq → seq ≡ said_in m.told + 1
+    answered : (spec : Spec) (phase : Phase) (usage : Usage) (log : List Entry) → usage.said ≡ said_in m.told → say_answer (version_at bounds.versions me) (record { spec = spec; phase = phase; usage = usage; log = log }) payload ≡ Said seq → seq ≡ said_in m.told + 1
     answered spec Made usage log is h = cc
     answered spec Shut usage log is h = cc
     answered spec Gone usage log is h = cc
     answered spec Opened usage log is h =
-        admitted (nat_lt PAYLOAD (length payload)) (nat_le spec.msgs usage.said) (nat_lt spec.bytes (usage.bytes + length payload)) (nat_le spec.window usage.unfinished)
-        (ap (λ n. if nat_lt PAYLOAD (length payload) then Refused TooLong else (if nat_le spec.msgs usage.said then Refused Budget else (if nat_lt spec.bytes (usage.bytes + length payload) then Refused Bytes else (if nat_le spec.window usage.unfinished then Refused Window else Said (n + 1))))) (sym is) ∙ h)
+        admitted (is_too_long (version_at bounds.versions me) payload) (nat_le spec.msgs usage.said) (nat_lt spec.bytes (usage.bytes + length payload)) (nat_le spec.window usage.unfinished)
+        (ap (λ n. if is_too_long (version_at bounds.versions me) payload then Refused TooLong else (if nat_le spec.msgs usage.said then Refused Budget else (if nat_lt spec.bytes (usage.bytes + length payload) then Refused Bytes else (if nat_le spec.window usage.unfinished then Refused Window else Said (n + 1))))) (sym is) ∙ h)
 
-    present : (s : Shown) → s.usage.said ≡ said_in m.told → (gone : Bool) → (if gone then Refused Spent else say_answer s payload) ≡ Said seq → seq ≡ said_in m.told + 1
+    present : (s : Shown) → s.usage.said ≡ said_in m.told → (gone : Bool) → (if gone then Refused Spent else say_answer (version_at bounds.versions me) s payload) ≡ Said seq → seq ≡ said_in m.told + 1
     present s is true h = cc
     present s is false h = answered s.spec s.phase s.usage s.log is h
 
-    by : (reserve : Option Reserve) (spec : Option Spec) → by_tenant (λ _. on_made (λ s. say_answer s payload) (shown_of me m.phase m.told m.put m.done spec)) reserve ≡ Said seq → seq ≡ said_in m.told + 1
+    by : (reserve : Option Reserve) (spec : Option Spec) → by_tenant (λ _. on_made (λ s. say_answer (version_at bounds.versions me) s payload) (shown_of me m.phase m.told m.put m.done spec)) reserve ≡ Said seq → seq ≡ said_in m.told + 1
     by None spec h = cc
     by (Some reserve) None h = cc
     by (Some reserve) (Some spec) h = present (shown_in me m.phase m.told m.put m.done spec) refl (is_gone m.phase) h
 
-    running : (stopped : Bool) → (if stopped then Refused Stopped else by_tenant (λ _. on_made (λ s. say_answer s payload) (shown_of me m.phase m.told m.put m.done m.spec)) m.reserve) ≡ Said seq → seq ≡ said_in m.told + 1
+    running : (stopped : Bool) → (if stopped then Refused Stopped else by_tenant (λ _. on_made (λ s. say_answer (version_at bounds.versions me) s payload) (shown_of me m.phase m.told m.put m.done m.spec)) m.reserve) ≡ Said seq → seq ≡ said_in m.told + 1
     running true h = cc
     running false h = by m.reserve m.spec h
 
@@ -80,42 +82,42 @@ did_said me AskDrop Done m = sym (append-nil (own_said m.told))
 did_said me (AskSay payload) (Said seq) m = refl
 did_said me event reply m = sym (append-nil (own_said m.told))
 
-taken_said : (me : ℕ) (from : NodeId) (place : ℕ) (o : Option Entry) (m : Member) → own_said (taken_in me from place o m).told ≡ own_said m.told
+taken_said : (version : Version) (me : ℕ) (from : NodeId) (place : ℕ) (o : Option Entry) (m : Member) → own_said (taken_in version me from place o m).told ≡ own_said m.told
 unfolding own_said
-taken_said me from place None m = refl
-taken_said me from place (Some x) m = elim (falls me from.number x m.told (held_spec m.phase m.spec)) as (λ b. own_said (if b then m else called me (Other from x) m).told ≡ own_said m.told) [ true ↦ refl | false ↦ refl ]
+taken_said version me from place None m = refl
+taken_said version me from place (Some x) m = elim (is_too_long version x.payload || falls me from.number x m.told (held_spec m.phase m.spec)) as (λ b. own_said (if b then m else called me (Other from x) m).told ≡ own_said m.told) [ true ↦ refl | false ↦ refl ]
 
 noticed_said : (me : ℕ) (q : NodeId) (o : Option Spec) (m : Member) → own_said (took_notice me q o m).told ≡ own_said m.told
 unfolding own_said
 noticed_said me q None m = refl
 noticed_said me q (Some spec) m = elim (is_other spec me q.number) as (λ b. own_said (if b then called me (Crashed q) (cut q m) else m).told ≡ own_said m.told) [ true ↦ refl | false ↦ refl ]
 
-pub event_said : (nodes number : ℕ) (me : NodeId) (event : GroupEvent) (group : Group)
-    → own_said (member_after nodes number me event group).told ≡ own_said (group me.number).told ++ accepted_in event (reply_to nodes number me.number event (group me.number))
-event_said nodes number me (Tenant reserve) group = sym (append-nil (own_said (group me.number).told))
-event_said nodes number me (Took b count) group = sym (append-nil (own_said (group me.number).told))
-event_said nodes number me (Came from place) group = taken_said me.number from place (slice_get ((group from.number).put me.number) (place - 1)) (group me.number) ∙ sym (append-nil (own_said (group me.number).told))
-event_said nodes number me (Acknowledged b place count) group = sym (append-nil (own_said (group me.number).told))
-event_said nodes number me (Notice q) group = noticed_said me.number q (held_spec (group me.number).phase (group me.number).spec) (group me.number) ∙ sym (append-nil (own_said (group me.number).told))
-event_said nodes number me Stop group = sym (append-nil (own_said (group me.number).told))
-event_said nodes number me event group = did_said me event (reply_to nodes number me.number event (group me.number)) (group me.number)
+pub event_said : (bounds : Bounds) (number : ℕ) (me : NodeId) (event : GroupEvent) (group : Group)
+    → own_said (member_after bounds number me event group).told ≡ own_said (group me.number).told ++ accepted_in event (reply_to bounds number me.number event (group me.number))
+event_said bounds number me (Tenant reserve) group = sym (append-nil (own_said (group me.number).told))
+event_said bounds number me (Took b count) group = sym (append-nil (own_said (group me.number).told))
+event_said bounds number me (Came from place) group = taken_said (version_at bounds.versions me.number) me.number from place (slice_get ((group from.number).put me.number) (place - 1)) (group me.number) ∙ sym (append-nil (own_said (group me.number).told))
+event_said bounds number me (Acknowledged b place count) group = sym (append-nil (own_said (group me.number).told))
+event_said bounds number me (Notice q) group = noticed_said me.number q (held_spec (group me.number).phase (group me.number).spec) (group me.number) ∙ sym (append-nil (own_said (group me.number).told))
+event_said bounds number me Stop group = sym (append-nil (own_said (group me.number).told))
+event_said bounds number me event group = did_said me event (reply_to bounds number me.number event (group me.number)) (group me.number)
 
-pub step_said : (nodes number : ℕ) (group : Group) (step : GroupStep) (s : ℕ) → own_said (after nodes number group step s).told ≡ own_said (group s).told ++ accepted_at nodes number group step s
+pub step_said : (bounds : Bounds) (number : ℕ) (group : Group) (step : GroupStep) (s : ℕ) → own_said (after bounds number group step s).told ≡ own_said (group s).told ++ accepted_at bounds number group step s
 unfolding after
-step_said nodes number group step s = go (nat_eq s step.node.number) refl
+step_said bounds number group step s = go (nat_eq s step.node.number) refl
   where
-    go : (b : Bool) → nat_eq s step.node.number ≡ b → own_said (if b then member_after nodes number step.node step.event group else group s).told ≡ own_said (group s).told ++ (if b then accepted_in step.event (reply_to nodes number s step.event (group s)) else [])
-    go true here = subst (λ y. own_said (member_after nodes number step.node step.event group).told ≡ own_said (group y).told ++ accepted_in step.event (reply_to nodes number y step.event (group y))) (sym (eqb-true s step.node.number here)) (event_said nodes number step.node step.event group)
+    go : (b : Bool) → nat_eq s step.node.number ≡ b → own_said (if b then member_after bounds number step.node step.event group else group s).told ≡ own_said (group s).told ++ (if b then accepted_in step.event (reply_to bounds number s step.event (group s)) else [])
+    go true here = subst (λ y. own_said (member_after bounds number step.node step.event group).told ≡ own_said (group y).told ++ accepted_in step.event (reply_to bounds number y step.event (group y))) (sym (eqb-true s step.node.number here)) (event_said bounds number step.node step.event group)
     go false here = sym (append-nil (own_said (group s).told))
 
-run_said : (nodes number s : ℕ) (steps : List GroupStep) (group : Group) → own_said (alone_from nodes number group steps s).told ≡ own_said (group s).told ++ accepted_from nodes number group steps s
+run_said : (bounds : Bounds) (number s : ℕ) (steps : List GroupStep) (group : Group) → own_said (alone_from bounds number group steps s).told ≡ own_said (group s).told ++ accepted_from bounds number group steps s
 unfolding accepted_from
-run_said nodes number s [] group = sym (append-nil (own_said (group s).told))
-run_said nodes number s (step ∷ steps) group =
-    run_said nodes number s steps (after nodes number group step)
-    ∙ (ap (λ ps. ps ++ accepted_from nodes number (after nodes number group step) steps s) (step_said nodes number group step s)
-    ∙ append_assoc (own_said (group s).told) (accepted_at nodes number group step s) (accepted_from nodes number (after nodes number group step) steps s))
+run_said bounds number s [] group = sym (append-nil (own_said (group s).told))
+run_said bounds number s (step ∷ steps) group =
+    run_said bounds number s steps (after bounds number group step)
+    ∙ (ap (λ ps. ps ++ accepted_from bounds number (after bounds number group step) steps s) (step_said bounds number group step s)
+    ∙ append_assoc (own_said (group s).told) (accepted_at bounds number group step s) (accepted_from bounds number (after bounds number group step) steps s))
 
-pub alone_said : (nodes number s : ℕ) (steps : List GroupStep) → own_said (alone nodes number steps s).told ≡ accepted nodes number steps s
+pub alone_said : (bounds : Bounds) (number s : ℕ) (steps : List GroupStep) → own_said (alone bounds number steps s).told ≡ accepted bounds number steps s
 unfolding own_said
-alone_said nodes number s steps = run_said nodes number s steps nobody
+alone_said bounds number s steps = run_said bounds number s steps nobody

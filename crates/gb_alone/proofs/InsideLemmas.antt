@@ -7,13 +7,16 @@ use Rattle.std.proofs.lemmas.Bool.{eqb-true}
 use Rattle.std.proofs.lemmas.Bool.Decides.{nat_tests}
 use Rattle.gb_types.specs.declared.entry.Entry.{Entry}
 use Rattle.gb_types.specs.declared.node.NodeId.{NodeId}
+use Rattle.gb_types.specs.declared.plan.Bounds.{Bounds}
 use Rattle.gb_types.specs.declared.refusal.Refusal.TheVariants.{NoGroup, Spent, BadMembers, OverReserve, Stopped}
 use Rattle.gb_types.specs.declared.reply.Reply.{Reply}
 use Rattle.gb_types.specs.declared.reply.Reply.TheVariants.{Done, Said, Refused}
 use Rattle.gb_types.specs.declared.spec.Spec.{Spec}
+use Rattle.gb_types.specs.declared.version.Version.{Version}
+use Rattle.gb_types.specs.Version.{version_at}
 use Rattle.gb_types.proofs.CoverLemmas.{not_all_members}
 use Rattle.gb_types.proofs.ReadLemmas.{some_same}
-use Rattle.gb_rules.specs.Group.{say_answer, is_member, is_other, on_made}
+use Rattle.gb_rules.specs.Group.{say_answer, is_member, is_other, is_too_long, on_made}
 use Rattle.gb_history.specs.declared.call.GroupCall.TheVariants.{Other, Crashed}
 use Rattle.gb_alone.specs.Alone.{held_spec, Member, Group, reply_to, shown_of, called, did, falls, taken_in, cut, took_notice, member_after, after, alone_from}
 use Rattle.gb_alone.specs.Laws.{accepted_in, accepted_at, accepted_from}
@@ -27,37 +30,37 @@ use Rattle.gb_rules.specs.declared.reserve.Reserve.{Reserve}
 abbrev pub IsWithin : ℕ → ℕ → Spec → Type 0
 IsWithin nodes me spec = (me < nodes) × ((b : ℕ) → is_member spec b ≡ true → b < nodes)
 
-make_inside : (nodes number me : ℕ) (spec : Spec) (m : Member) → reply_to nodes number me (AskMake spec) m ≡ Done → IsWithin nodes me spec
-make_inside nodes number me spec m = running m.stopped
+make_inside : (bounds : Bounds) (number me : ℕ) (spec : Spec) (m : Member) → reply_to bounds number me (AskMake spec) m ≡ Done → IsWithin bounds.nodes me spec
+make_inside bounds number me spec m = running m.stopped
   where
     fine : (x y : Bool) → (not x || not y) ≡ false → (x ≡ true) × (y ≡ true)
     fine true true h = (refl, refl)
     fine true false h = absurd (cc)
     fine false y h = absurd (cc)
 
-    below : list_all (λ b. nat_lt b nodes) (set.items spec.members) ≡ true → (b : ℕ) → is_member spec b ≡ true → (t : Bool) → nat_lt b nodes ≡ t → b < nodes
+    below : list_all (λ b. nat_lt b bounds.nodes) (set.items spec.members) ≡ true → (b : ℕ) → is_member spec b ≡ true → (t : Bool) → nat_lt b bounds.nodes ≡ t → b < bounds.nodes
     below all b there true e = grind (arith, nat_tests)
     below all b there false e =
-        let none : list_all (λ b. nat_lt b nodes) (set.items spec.members) ≡ false = not_all_members (λ b. nat_lt b nodes) spec.members b there e in
+        let none : list_all (λ b. nat_lt b bounds.nodes) (set.items spec.members) ≡ false = not_all_members (λ b. nat_lt b bounds.nodes) spec.members b there e in
         absurd (cc)
 
-    inside : is_bad nodes me spec ≡ false → IsWithin nodes me spec
+    inside : is_bad bounds.nodes me spec ≡ false → IsWithin bounds.nodes me spec
     inside good =
-        let parts = fine (is_member spec me) (list_all (λ b. nat_lt b nodes) (set.items spec.members)) good in
-        (below parts.1 me parts.0 (nat_lt me nodes) refl, λ b there. below parts.1 b there (nat_lt b nodes) refl)
+        let parts = fine (is_member spec me) (list_all (λ b. nat_lt b bounds.nodes) (set.items spec.members)) good in
+        (below parts.1 me parts.0 (nat_lt me bounds.nodes) refl, λ b there. below parts.1 b there (nat_lt b bounds.nodes) refl)
 
-    admitted : (a b c d : Bool) → is_bad nodes me spec ≡ c → (if a then Refused NoGroup else (if b then Refused Spent else (if c then Refused BadMembers else (if d then Refused OverReserve else Done)))) ≡ Done → IsWithin nodes me spec
+    admitted : (a b c d : Bool) → is_bad bounds.nodes me spec ≡ c → (if a then Refused NoGroup else (if b then Refused Spent else (if c then Refused BadMembers else (if d then Refused OverReserve else Done)))) ≡ Done → IsWithin bounds.nodes me spec
     admitted true b c d good h = cc
     admitted false true c d good h = cc
     admitted false false true d good h = cc
     admitted false false false true good h = cc
     admitted false false false false good h = inside good
 
-    by : (reserve : Option Reserve) → by_tenant (make_answer nodes me number (is_some m.spec) spec) reserve ≡ Done → IsWithin nodes me spec
+    by : (reserve : Option Reserve) → by_tenant (make_answer bounds.nodes me number (is_some m.spec) spec) reserve ≡ Done → IsWithin bounds.nodes me spec
     by None h = cc
-    by (Some reserve) h = admitted (nat_le reserve.groups number) (is_some m.spec) (is_bad nodes me spec) (is_over reserve spec) refl h
+    by (Some reserve) h = admitted (nat_le reserve.groups number) (is_some m.spec) (is_bad bounds.nodes me spec) (is_over reserve spec) refl h
 
-    running : (stopped : Bool) → (if stopped then Refused Stopped else by_tenant (make_answer nodes me number (is_some m.spec) spec) m.reserve) ≡ Done → IsWithin nodes me spec
+    running : (stopped : Bool) → (if stopped then Refused Stopped else by_tenant (make_answer bounds.nodes me number (is_some m.spec) spec) m.reserve) ≡ Done → IsWithin bounds.nodes me spec
     running true h = cc
     running false h = by m.reserve h
 
@@ -65,67 +68,67 @@ make_inside nodes number me spec m = running m.stopped
 abbrev pub IsInside : ℕ → ℕ → Member → Type 0
 IsInside nodes a m = (spec : Spec) → m.spec ≡ Some spec → IsWithin nodes a spec
 
-did_inside : (nodes number : ℕ) (me : NodeId) (event : GroupEvent) (reply : Reply) (m : Member) → reply_to nodes number me.number event m ≡ reply → IsInside nodes me.number m → IsInside nodes me.number (did me event reply m)
-did_inside nodes number me (AskMake spec) Done m e old = λ s is. subst (IsWithin nodes me.number) (some_same spec s is) (make_inside nodes number me.number spec m e)
-did_inside nodes number me AskOpen Done m e old = old
-did_inside nodes number me AskShut Done m e old = old
-did_inside nodes number me AskDrop Done m e old = old
-did_inside nodes number me (AskSay payload) (Said seq) m e old = old
-did_inside nodes number me event reply m e old = old
+did_inside : (bounds : Bounds) (number : ℕ) (me : NodeId) (event : GroupEvent) (reply : Reply) (m : Member) → reply_to bounds number me.number event m ≡ reply → IsInside bounds.nodes me.number m → IsInside bounds.nodes me.number (did me event reply m)
+did_inside bounds number me (AskMake spec) Done m e old = λ s is. subst (IsWithin bounds.nodes me.number) (some_same spec s is) (make_inside bounds number me.number spec m e)
+did_inside bounds number me AskOpen Done m e old = old
+did_inside bounds number me AskShut Done m e old = old
+did_inside bounds number me AskDrop Done m e old = old
+did_inside bounds number me (AskSay payload) (Said seq) m e old = old
+did_inside bounds number me event reply m e old = old
 
-taken_inside : (nodes me : ℕ) (from : NodeId) (place : ℕ) (o : Option Entry) (m : Member) → IsInside nodes me m → IsInside nodes me (taken_in me from place o m)
-taken_inside nodes me from place None m old = old
-taken_inside nodes me from place (Some x) m old = elim (falls me from.number x m.told (held_spec m.phase m.spec)) as (λ b. (spec : Spec) → (if b then m else called me (Other from x) m).spec ≡ Some spec → IsWithin nodes me spec) [ true ↦ old | false ↦ old ]
+taken_inside : (version : Version) (nodes me : ℕ) (from : NodeId) (place : ℕ) (o : Option Entry) (m : Member) → IsInside nodes me m → IsInside nodes me (taken_in version me from place o m)
+taken_inside version nodes me from place None m old = old
+taken_inside version nodes me from place (Some x) m old = elim (is_too_long version x.payload || falls me from.number x m.told (held_spec m.phase m.spec)) as (λ b. (spec : Spec) → (if b then m else called me (Other from x) m).spec ≡ Some spec → IsWithin nodes me spec) [ true ↦ old | false ↦ old ]
 
 noticed_inside : (nodes me : ℕ) (q : NodeId) (o : Option Spec) (m : Member) → IsInside nodes me m → IsInside nodes me (took_notice me q o m)
 noticed_inside nodes me q None m old = old
 noticed_inside nodes me q (Some made) m old = elim (is_other made me q.number) as (λ b. (spec : Spec) → (if b then called me (Crashed q) (cut q m) else m).spec ≡ Some spec → IsWithin nodes me spec) [ true ↦ old | false ↦ old ]
 
-event_inside : (nodes number : ℕ) (me : NodeId) (event : GroupEvent) (group : Group) → IsInside nodes me.number (group me.number) → IsInside nodes me.number (member_after nodes number me event group)
-event_inside nodes number me (Tenant reserve) group old = old
-event_inside nodes number me (Took b count) group old = old
-event_inside nodes number me (Came from place) group old = taken_inside nodes me.number from place (slice_get ((group from.number).put me.number) (place - 1)) (group me.number) old
-event_inside nodes number me (Acknowledged b place count) group old = old
-event_inside nodes number me (Notice q) group old = noticed_inside nodes me.number q (held_spec (group me.number).phase (group me.number).spec) (group me.number) old
-event_inside nodes number me Stop group old = old
-event_inside nodes number me event group old = did_inside nodes number me event (reply_to nodes number me.number event (group me.number)) (group me.number) refl old
+event_inside : (bounds : Bounds) (number : ℕ) (me : NodeId) (event : GroupEvent) (group : Group) → IsInside bounds.nodes me.number (group me.number) → IsInside bounds.nodes me.number (member_after bounds number me event group)
+event_inside bounds number me (Tenant reserve) group old = old
+event_inside bounds number me (Took b count) group old = old
+event_inside bounds number me (Came from place) group old = taken_inside (version_at bounds.versions me.number) bounds.nodes me.number from place (slice_get ((group from.number).put me.number) (place - 1)) (group me.number) old
+event_inside bounds number me (Acknowledged b place count) group old = old
+event_inside bounds number me (Notice q) group old = noticed_inside bounds.nodes me.number q (held_spec (group me.number).phase (group me.number).spec) (group me.number) old
+event_inside bounds number me Stop group old = old
+event_inside bounds number me event group old = did_inside bounds number me event (reply_to bounds number me.number event (group me.number)) (group me.number) refl old
 
 abbrev pub AllInside : ℕ → Group → Type 0
 AllInside nodes group = (a : ℕ) → IsInside nodes a (group a)
 
-pub step_inside : (nodes number : ℕ) (group : Group) (step : GroupStep) → AllInside nodes group → AllInside nodes (after nodes number group step)
+pub step_inside : (bounds : Bounds) (number : ℕ) (group : Group) (step : GroupStep) → AllInside bounds.nodes group → AllInside bounds.nodes (after bounds number group step)
 unfolding after
-step_inside nodes number group step all x = go (nat_eq x step.node.number) refl
+step_inside bounds number group step all x = go (nat_eq x step.node.number) refl
   where
-    go : (b : Bool) → nat_eq x step.node.number ≡ b → IsInside nodes x (if b then member_after nodes number step.node step.event group else group x)
-    go true here = subst (λ y. IsInside nodes y (member_after nodes number step.node step.event group)) (sym (eqb-true x step.node.number here)) (event_inside nodes number step.node step.event group (all step.node.number))
+    go : (b : Bool) → nat_eq x step.node.number ≡ b → IsInside bounds.nodes x (if b then member_after bounds number step.node step.event group else group x)
+    go true here = subst (λ y. IsInside bounds.nodes y (member_after bounds number step.node step.event group)) (sym (eqb-true x step.node.number here)) (event_inside bounds number step.node step.event group (all step.node.number))
     go false here = all x
 
 -- and so nothing is accepted elsewhere
-refused_beyond : (nodes number s : ℕ) (event : GroupEvent) (m : Member) → nodes ≤ s → IsInside nodes s m → accepted_in event (reply_to nodes number s event m) ≡ []
-refused_beyond nodes number s (AskSay payload) m beyond inside = running m.stopped
+refused_beyond : (bounds : Bounds) (number s : ℕ) (event : GroupEvent) (m : Member) → bounds.nodes ≤ s → IsInside bounds.nodes s m → accepted_in event (reply_to bounds number s event m) ≡ []
+refused_beyond bounds number s (AskSay payload) m beyond inside = running m.stopped
   where
-    by : (reserve : Option Reserve) (o : Option Spec) → m.spec ≡ o → accepted_in (AskSay payload) (by_tenant (λ _. on_made (λ x. say_answer x payload) (shown_of s m.phase m.told m.put m.done o)) reserve) ≡ []
+    by : (reserve : Option Reserve) (o : Option Spec) → m.spec ≡ o → accepted_in (AskSay payload) (by_tenant (λ _. on_made (λ x. say_answer (version_at bounds.versions s) x payload) (shown_of s m.phase m.told m.put m.done o)) reserve) ≡ []
     by None o is = refl
     by (Some reserve) None is = refl
-    by (Some reserve) (Some spec) is = let low : s < nodes = (inside spec is).0 in absurd (omega arith)
+    by (Some reserve) (Some spec) is = let low : s < bounds.nodes = (inside spec is).0 in absurd (omega arith)
 
-    running : (stopped : Bool) → accepted_in (AskSay payload) (if stopped then Refused Stopped else by_tenant (λ _. on_made (λ x. say_answer x payload) (shown_of s m.phase m.told m.put m.done m.spec)) m.reserve) ≡ []
+    running : (stopped : Bool) → accepted_in (AskSay payload) (if stopped then Refused Stopped else by_tenant (λ _. on_made (λ x. say_answer (version_at bounds.versions s) x payload) (shown_of s m.phase m.told m.put m.done m.spec)) m.reserve) ≡ []
     running true = refl
     running false = by m.reserve m.spec refl
-refused_beyond nodes number s event m beyond inside = refl
+refused_beyond bounds number s event m beyond inside = refl
 
-pub none_beyond : (nodes number s : ℕ) → nodes ≤ s → (steps : List GroupStep) (group : Group) → AllInside nodes group → accepted_from nodes number group steps s ≡ []
+pub none_beyond : (bounds : Bounds) (number s : ℕ) → bounds.nodes ≤ s → (steps : List GroupStep) (group : Group) → AllInside bounds.nodes group → accepted_from bounds number group steps s ≡ []
 unfolding accepted_from
-none_beyond nodes number s beyond [] group all = refl
-none_beyond nodes number s beyond (step ∷ steps) group all =
-    let first : accepted_at nodes number group step s ≡ [] = elim (nat_eq s step.node.number) as (λ b. (if b then accepted_in step.event (reply_to nodes number s step.event (group s)) else []) ≡ []) [
-      | true ↦ refused_beyond nodes number s step.event (group s) beyond (all s)
+none_beyond bounds number s beyond [] group all = refl
+none_beyond bounds number s beyond (step ∷ steps) group all =
+    let first : accepted_at bounds number group step s ≡ [] = elim (nat_eq s step.node.number) as (λ b. (if b then accepted_in step.event (reply_to bounds number s step.event (group s)) else []) ≡ []) [
+      | true ↦ refused_beyond bounds number s step.event (group s) beyond (all s)
       | false ↦ refl
     ] in
-    ap (λ ps. ps ++ accepted_from nodes number (after nodes number group step) steps s) first ∙ none_beyond nodes number s beyond steps (after nodes number group step) (step_inside nodes number group step all)
+    ap (λ ps. ps ++ accepted_from bounds number (after bounds number group step) steps s) first ∙ none_beyond bounds number s beyond steps (after bounds number group step) (step_inside bounds number group step all)
 
 -- so it is after all events
-pub run_inside : (nodes number : ℕ) (steps : List GroupStep) (group : Group) → AllInside nodes group → AllInside nodes (alone_from nodes number group steps)
-run_inside nodes number [] group all = all
-run_inside nodes number (step ∷ steps) group all = run_inside nodes number steps (after nodes number group step) (step_inside nodes number group step all)
+pub run_inside : (bounds : Bounds) (number : ℕ) (steps : List GroupStep) (group : Group) → AllInside bounds.nodes group → AllInside bounds.nodes (alone_from bounds number group steps)
+run_inside bounds number [] group all = all
+run_inside bounds number (step ∷ steps) group all = run_inside bounds number steps (after bounds number group step) (step_inside bounds number group step all)

@@ -1,5 +1,5 @@
 -- Every message that a node knows or puts out was accepted at its origin.
-use Rattle.std.proofs.Common.{◌≡◌, ℕ, zero, suc, ◌+◌, ◌-◌, ◌≤◌, Bool, true, false, not, ◌&&◌, nat_eq, take, List, [], ◌∷◌, ◌++◌, length, Option, Some, None, refl, sym, subst, ap, ◌∙◌, arith}
+use Rattle.std.proofs.Common.{◌≡◌, ℕ, zero, suc, ◌+◌, ◌-◌, ◌≤◌, Bool, true, false, not, ◌&&◌, ◌||◌, nat_eq, take, List, [], ◌∷◌, ◌++◌, length, Option, Some, None, refl, sym, subst, ap, ◌∙◌, arith}
 use Rattle.std.specs.Prelude.{All, slice_get, if◌then◌else◌}
 use Rattle.std.proofs.lemmas.Bool.{eq-eqb}
 use Rattle.std.proofs.lemmas.List.Elements.{All-nil, All-cons, All-head, All-tail, All-append, All-weaker}
@@ -7,12 +7,15 @@ use Rattle.std.proofs.Math.Seq.{take-nil}
 use Rattle.gb_types.specs.declared.entry.Entry.{Entry}
 use Rattle.gb_types.specs.declared.message.MsgId.{MsgId}
 use Rattle.gb_types.specs.declared.node.NodeId.{NodeId}
+use Rattle.gb_types.specs.declared.plan.Bounds.{Bounds}
 use Rattle.gb_types.specs.declared.reply.Reply.{Reply}
 use Rattle.gb_types.specs.declared.reply.Reply.TheVariants.{Done, Said}
 use Rattle.gb_types.specs.declared.spec.Spec.{Spec}
+use Rattle.gb_types.specs.declared.version.Version.{Version}
+use Rattle.gb_types.specs.Version.{version_at}
 use Rattle.gb_history.specs.History.{calls_of, known, puts_of, said_in}
 use Rattle.gb_layer.specs.Machine.{was_noticed}
-use Rattle.gb_rules.specs.Group.{is_other}
+use Rattle.gb_rules.specs.Group.{is_other, is_too_long}
 use Rattle.gb_history.specs.declared.call.GroupCall.{GroupCall}
 use Rattle.gb_history.specs.declared.call.GroupCall.TheVariants.{Own, Other, Crashed}
 use Rattle.gb_alone.specs.Alone.{held_spec, Member, Group, reply_to, put_to, called, did, falls, item_came, taken_in, cut, took_notice, member_after, after, nobody, alone_from, alone, log_at}
@@ -67,10 +70,10 @@ fits_called said me c m is fits = record {
       | false ↦ fits.put b
     ]
 
-fits_taken : (said : ℕ → List Accepted) (me : ℕ) (from : NodeId) (place : ℕ) (o : Option Entry) (m : Member) → ((x : Entry) → o ≡ Some x → IsAccepted said x) → Fits said m → Fits said (taken_in me from place o m)
-fits_taken said me from place None m is fits = fits
-fits_taken said me from place (Some x) m is fits =
-    let next : Fits said (item_came me from x m) = elim (falls me from.number x m.told (held_spec m.phase m.spec)) as (λ b. Fits said (if b then m else called me (Other from x) m)) [
+fits_taken : (version : Version) (said : ℕ → List Accepted) (me : ℕ) (from : NodeId) (place : ℕ) (o : Option Entry) (m : Member) → ((x : Entry) → o ≡ Some x → IsAccepted said x) → Fits said m → Fits said (taken_in version me from place o m)
+fits_taken version said me from place None m is fits = fits
+fits_taken version said me from place (Some x) m is fits =
+    let next : Fits said (item_came version me from x m) = elim (is_too_long version x.payload || falls me from.number x m.told (held_spec m.phase m.spec)) as (λ b. Fits said (if b then m else called me (Other from x) m)) [
       | true ↦ fits
       | false ↦ fits_called said me (Other from x) m (is x refl) fits
     ] in
@@ -104,14 +107,14 @@ said_now said me seq payload told next now =
     let place : seq - 1 ≡ length (own_said told) = omega (arith, length-own_said told) in
     (omega arith, ap (λ ps. slice_get ps (seq - 1)) now ∙ (ap (slice_get (own_said told ++ record { seq = seq; payload = payload } ∷ [])) place ∙ get-last (own_said told) (record { seq = seq; payload = payload })))
 
-fits_did : (nodes number : ℕ) (said : ℕ → List Accepted) (me : NodeId) (event : GroupEvent) (reply : Reply) (m : Member) → reply_to nodes number me.number event m ≡ reply → said me.number ≡ own_said m.told ++ accepted_in event reply → Fits said m → Fits said (did me event reply m)
-fits_did nodes number said me (AskMake spec) Done m e now fits = record { known = fits.known; put = fits.put }
-fits_did nodes number said me AskOpen Done m e now fits = record { known = fits.known; put = fits.put }
-fits_did nodes number said me AskShut Done m e now fits = record { known = fits.known; put = fits.put }
-fits_did nodes number said me AskDrop Done m e now fits = record { known = fits.known; put = λ b. all_taken (IsAccepted said) (m.taken b) (m.put b) (fits.put b) }
-fits_did nodes number said me (AskSay payload) (Said seq) m e now fits =
-    fits_called said me.number (Own (record { origin = me; seq = seq; payload = payload })) m (said_now said me seq payload m.told (next_said me.number m payload seq nodes number e) now) fits
-fits_did nodes number said me event reply m e now fits = fits
+fits_did : (bounds : Bounds) (number : ℕ) (said : ℕ → List Accepted) (me : NodeId) (event : GroupEvent) (reply : Reply) (m : Member) → reply_to bounds number me.number event m ≡ reply → said me.number ≡ own_said m.told ++ accepted_in event reply → Fits said m → Fits said (did me event reply m)
+fits_did bounds number said me (AskMake spec) Done m e now fits = record { known = fits.known; put = fits.put }
+fits_did bounds number said me AskOpen Done m e now fits = record { known = fits.known; put = fits.put }
+fits_did bounds number said me AskShut Done m e now fits = record { known = fits.known; put = fits.put }
+fits_did bounds number said me AskDrop Done m e now fits = record { known = fits.known; put = λ b. all_taken (IsAccepted said) (m.taken b) (m.put b) (fits.put b) }
+fits_did bounds number said me (AskSay payload) (Said seq) m e now fits =
+    fits_called said me.number (Own (record { origin = me; seq = seq; payload = payload })) m (said_now said me seq payload m.told (next_said me.number m payload seq bounds number e) now) fits
+fits_did bounds number said me event reply m e now fits = fits
 
 -- what each node said
 abbrev sayings : Group → ℕ → List Accepted
@@ -120,55 +123,55 @@ sayings group s = own_said (group s).told
 abbrev pub AllFit : Group → Type 0
 AllFit group = (a : ℕ) → Fits (sayings group) (group a)
 
-commanded_fits : (nodes number : ℕ) (said : ℕ → List Accepted) (me : NodeId) (event : GroupEvent) (m : Member) → said me.number ≡ own_said m.told ++ accepted_in event (reply_to nodes number me.number event m) → Fits said m → Fits said (did me event (reply_to nodes number me.number event m) m)
-commanded_fits nodes number said me event m now fits = fits_did nodes number said me event (reply_to nodes number me.number event m) m refl now fits
+commanded_fits : (bounds : Bounds) (number : ℕ) (said : ℕ → List Accepted) (me : NodeId) (event : GroupEvent) (m : Member) → said me.number ≡ own_said m.told ++ accepted_in event (reply_to bounds number me.number event m) → Fits said m → Fits said (did me event (reply_to bounds number me.number event m) m)
+commanded_fits bounds number said me event m now fits = fits_did bounds number said me event (reply_to bounds number me.number event m) m refl now fits
 
-event_fits : (nodes number : ℕ) (said : ℕ → List Accepted) (me : NodeId) (event : GroupEvent) (group : Group) → said me.number ≡ own_said (group me.number).told ++ accepted_in event (reply_to nodes number me.number event (group me.number)) → ((a : ℕ) → Fits said (group a)) → Fits said (member_after nodes number me event group)
-event_fits nodes number said me (Tenant reserve) group now all = record { known = (all me.number).known; put = (all me.number).put }
-event_fits nodes number said me (Took b count) group now all = record { known = (all me.number).known; put = (all me.number).put }
-event_fits nodes number said me (Came from place) group now all =
-    fits_taken said me.number from place (slice_get ((group from.number).put me.number) (place - 1)) (group me.number)
+event_fits : (bounds : Bounds) (number : ℕ) (said : ℕ → List Accepted) (me : NodeId) (event : GroupEvent) (group : Group) → said me.number ≡ own_said (group me.number).told ++ accepted_in event (reply_to bounds number me.number event (group me.number)) → ((a : ℕ) → Fits said (group a)) → Fits said (member_after bounds number me event group)
+event_fits bounds number said me (Tenant reserve) group now all = record { known = (all me.number).known; put = (all me.number).put }
+event_fits bounds number said me (Took b count) group now all = record { known = (all me.number).known; put = (all me.number).put }
+event_fits bounds number said me (Came from place) group now all =
+    fits_taken (version_at bounds.versions me.number) said me.number from place (slice_get ((group from.number).put me.number) (place - 1)) (group me.number)
     (λ x e. all_at (IsAccepted said) ((group from.number).put me.number) (place - 1) x ((all from.number).put me.number) e) (all me.number)
-event_fits nodes number said me (Acknowledged b place count) group now all = record { known = (all me.number).known; put = (all me.number).put }
-event_fits nodes number said me (Notice q) group now all = let next = fits_noticed said me.number q (held_spec (group me.number).phase (group me.number).spec) (group me.number) (all me.number) in record { known = next.known; put = next.put }
-event_fits nodes number said me Stop group now all = record { known = (all me.number).known; put = (all me.number).put }
-event_fits nodes number said me event group now all =
-    let next = commanded_fits nodes number said me event (group me.number) now (all me.number) in
+event_fits bounds number said me (Acknowledged b place count) group now all = record { known = (all me.number).known; put = (all me.number).put }
+event_fits bounds number said me (Notice q) group now all = let next = fits_noticed said me.number q (held_spec (group me.number).phase (group me.number).spec) (group me.number) (all me.number) in record { known = next.known; put = next.put }
+event_fits bounds number said me Stop group now all = record { known = (all me.number).known; put = (all me.number).put }
+event_fits bounds number said me event group now all =
+    let next = commanded_fits bounds number said me event (group me.number) now (all me.number) in
     record { known = next.known; put = next.put }
 
 -- every node keeps it through every event
-step_fits : (nodes number : ℕ) (group : Group) (step : GroupStep) → AllFit group → AllFit (after nodes number group step)
+step_fits : (bounds : Bounds) (number : ℕ) (group : Group) (step : GroupStep) → AllFit group → AllFit (after bounds number group step)
 unfolding after
-step_fits nodes number group step all x = at (nat_eq x step.node.number) refl
+step_fits bounds number group step all x = at (nat_eq x step.node.number) refl
   where
     said : ℕ → List Accepted
-    said = sayings (after nodes number group step)
+    said = sayings (after bounds number group step)
 
     later : Later (sayings group) said
-    later s = (accepted_at nodes number group step s, step_said nodes number group step s)
+    later s = (accepted_at bounds number group step s, step_said bounds number group step s)
 
     old : (a : ℕ) → Fits said (group a)
     old a = fits_later (sayings group) said later (group a) (all a)
 
-    now : said step.node.number ≡ own_said (group step.node.number).told ++ accepted_in step.event (reply_to nodes number step.node.number step.event (group step.node.number))
+    now : said step.node.number ≡ own_said (group step.node.number).told ++ accepted_in step.event (reply_to bounds number step.node.number step.event (group step.node.number))
     now =
-        step_said nodes number group step step.node.number
-        ∙ ap (λ (b : Bool). own_said (group step.node.number).told ++ (if b then accepted_in step.event (reply_to nodes number step.node.number step.event (group step.node.number)) else [])) (eq-eqb step.node.number step.node.number refl)
+        step_said bounds number group step step.node.number
+        ∙ ap (λ (b : Bool). own_said (group step.node.number).told ++ (if b then accepted_in step.event (reply_to bounds number step.node.number step.event (group step.node.number)) else [])) (eq-eqb step.node.number step.node.number refl)
 
-    at : (b : Bool) → nat_eq x step.node.number ≡ b → Fits said (if b then member_after nodes number step.node step.event group else group x)
-    at true here = event_fits nodes number said step.node step.event group now old
+    at : (b : Bool) → nat_eq x step.node.number ≡ b → Fits said (if b then member_after bounds number step.node step.event group else group x)
+    at true here = event_fits bounds number said step.node step.event group now old
     at false here = old x
 
-run_fits : (nodes number : ℕ) (steps : List GroupStep) (group : Group) → AllFit group → AllFit (alone_from nodes number group steps)
-run_fits nodes number [] group all = all
-run_fits nodes number (step ∷ steps) group all = run_fits nodes number steps (after nodes number group step) (step_fits nodes number group step all)
+run_fits : (bounds : Bounds) (number : ℕ) (steps : List GroupStep) (group : Group) → AllFit group → AllFit (alone_from bounds number group steps)
+run_fits bounds number [] group all = all
+run_fits bounds number (step ∷ steps) group all = run_fits bounds number steps (after bounds number group step) (step_fits bounds number group step all)
 
 nobody_fits : AllFit nobody
 unfolding known
 nobody_fits a = record { known = All-nil (IsAccepted (sayings nobody)); put = λ b. All-nil (IsAccepted (sayings nobody)) }
 
-pub alone_fits : (nodes number : ℕ) (steps : List GroupStep) → AllFit (alone nodes number steps)
-alone_fits nodes number steps = run_fits nodes number steps nobody nobody_fits
+pub alone_fits : (bounds : Bounds) (number : ℕ) (steps : List GroupStep) → AllFit (alone bounds number steps)
+alone_fits bounds number steps = run_fits bounds number steps nobody nobody_fits
 
 -- The law.
 
@@ -181,16 +184,16 @@ copies-log_at me None told m = omega arith
 copies-log_at me (Some spec) told m = copies-log spec me told m
 
 pub is_integral : IsIntegral
-is_integral nodes number steps legal = record {
+is_integral bounds number steps legal = record {
   logs = λ b. record {
     no_duplication = λ m. copies-log_at b (held_spec (group b).phase (group b).spec) (group b).told m;
-    no_creation = all_log_at (IsAccepted (accepted nodes number steps)) b (held_spec (group b).phase (group b).spec) (group b).told (accepts (known (group b).told) (alone_fits nodes number steps b).known);
+    no_creation = all_log_at (IsAccepted (accepted bounds number steps)) b (held_spec (group b).phase (group b).spec) (group b).told (accepts (known (group b).told) (alone_fits bounds number steps b).known);
   };
-  items = λ b c. accepts ((group b).put c) ((alone_fits nodes number steps b).put c);
+  items = λ b c. accepts ((group b).put c) ((alone_fits bounds number steps b).put c);
 }
   where
     group : Group
-    group = alone nodes number steps
+    group = alone bounds number steps
 
-    accepts : (xs : List Entry) → All (IsAccepted (sayings group)) xs → All (IsAccepted (accepted nodes number steps)) xs
-    accepts xs all = All-weaker (IsAccepted (sayings group)) (IsAccepted (accepted nodes number steps)) (λ x is. (is.0, ap (λ ps. slice_get ps (x.seq - 1)) (sym (alone_said nodes number x.origin.number steps)) ∙ is.1)) xs all
+    accepts : (xs : List Entry) → All (IsAccepted (sayings group)) xs → All (IsAccepted (accepted bounds number steps)) xs
+    accepts xs all = All-weaker (IsAccepted (sayings group)) (IsAccepted (accepted bounds number steps)) (λ x is. (is.0, ap (λ ps. slice_get ps (x.seq - 1)) (sym (alone_said bounds number x.origin.number steps)) ∙ is.1)) xs all

@@ -1,6 +1,6 @@
 -- Numbers below a bound, and what is seen at each node.
-use Rattle.std.proofs.Common.{◌≡◌, ℕ, zero, suc, ◌+◌, ◌<◌, ◌≤◌, List, [], ◌∷◌, ◌++◌, length, take, ◌∙◌, ap, sym, refl, arith, add-one}
-use Rattle.std.specs.Prelude.{map}
+use Rattle.std.proofs.Common.{◌≡◌, ℕ, zero, suc, ◌+◌, ◌<◌, ◌≤◌, List, [], ◌∷◌, ◌++◌, length, take, get_or, ◌∙◌, ap, sym, refl, arith, add-one}
+use Rattle.std.specs.Prelude.{map, replicate}
 use Rattle.std.proofs.lemmas.List.{map-append}
 use Rattle.gb_types.specs.declared.entry.Entry.{Entry}
 use Rattle.gb_types.specs.declared.reply.Reply.{Reply}
@@ -38,3 +38,10 @@ seen_same nodes replies others carried taken same there =
     map_same (seen_at nodes replies carried) (seen_at nodes others taken) nodes (λ a lt.
     ap (λ (rs : List Reply). record { replies = rs; carried = map (carried a) (numbers_below nodes) }) (same a lt)
     ∙ ap (λ (cs : List (List Entry)). record { replies = others a; carried = cs }) (map_same (carried a) (taken a) nodes (λ b below. there a b lt below)))
+
+-- lists that are all empty, as many as there are
+pub all_empty : {X : Type 0} (n : ℕ) (rows : List (List X)) → length rows ≡ n → ((i : ℕ) → i < n → get_or rows i [] ≡ []) → rows ≡ replicate n []
+all_empty zero [] is empty = refl
+all_empty zero (r ∷ rows) is empty = absurd (omega (arith, is))
+all_empty (suc n) [] is empty = absurd (omega (arith, is))
+all_empty (suc n) (r ∷ rows) is empty = λ i. empty 0 (omega arith) i ∷ all_empty n rows (omega (arith, is)) (λ k lt. empty (suc k) (omega (arith, lt))) i

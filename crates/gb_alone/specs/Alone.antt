@@ -2,15 +2,18 @@
 use Rattle.std.specs.Prelude.{ℕ, zero, suc, ◌+◌, ◌-◌, ◌≡◌, ◌≤◌, ◌<◌, ◌&&◌, ◌||◌, not, Bool, true, false, List, [], ◌∷◌, ◌++◌, length, fold, take, Option, Some, None, is_some, slice_get, nat_eq, if◌then◌else◌}
 use Rattle.std.specs.List.{list_all, list_any}
 use Rattle.gb_types.specs.Rising.{rising}
+use Rattle.gb_types.specs.Version.{version_at}
 use Rattle.gb_types.specs.declared.entry.Entry.{Entry}
 use Rattle.gb_types.specs.declared.node.NodeId.{NodeId}
+use Rattle.gb_types.specs.declared.plan.Bounds.{Bounds}
 use Rattle.gb_types.specs.declared.refusal.Refusal.TheVariants.{Stopped}
 use Rattle.gb_types.specs.declared.reply.Reply.{Reply}
 use Rattle.gb_types.specs.declared.reply.Reply.TheVariants.{Done, Said, Refused}
 use Rattle.gb_types.specs.declared.spec.Spec.{Spec}
+use Rattle.gb_types.specs.declared.version.Version.{Version}
 use Rattle.gb_layer.specs.Machine.{was_noticed}
 use Rattle.gb_history.specs.History.{calls_of, said_in, bytes_in, log_of, puts_of, falls_after}
-use Rattle.gb_rules.specs.Group.{Shown, is_gone, is_other, open_answer, shut_answer, drop_answer, say_answer, fetch_answer, on_made}
+use Rattle.gb_rules.specs.Group.{Shown, is_gone, is_other, is_too_long, open_answer, shut_answer, drop_answer, say_answer, fetch_answer, on_made}
 use Rattle.gb_history.specs.declared.call.GroupCall.{GroupCall}
 use Rattle.gb_history.specs.declared.call.GroupCall.TheVariants.{Own, Other, Crashed}
 use Rattle.gb_rules.specs.declared.phase.Phase.{Phase}
@@ -99,19 +102,19 @@ shown me m = shown_of me m.phase m.told m.put m.done m.spec
 abbrev pub on_group : (Shown → Reply) → ℕ → Member → Reply
 on_group answer me m = by_tenant (λ _. on_made answer (shown me m)) m.reserve
 
--- the reply to a command at a running node of a cluster of so many, to the group with this number
-abbrev pub running_reply : ℕ → ℕ → ℕ → GroupEvent → Member → Reply
-running_reply nodes number me (AskMake spec) m = by_tenant (make_answer nodes me number (is_some m.spec) spec) m.reserve
-running_reply nodes number me AskOpen m = on_group open_answer me m
-running_reply nodes number me AskShut m = on_group shut_answer me m
-running_reply nodes number me AskDrop m = on_group drop_answer me m
-running_reply nodes number me (AskSay payload) m = on_group (λ s. say_answer s payload) me m
-running_reply nodes number me (AskFetch from most) m = on_group (λ s. fetch_answer s from most) me m
-running_reply nodes number me event m = Done
+-- the reply to a command at a running node of a cluster with these bounds, to the group with this number
+abbrev pub running_reply : Bounds → ℕ → ℕ → GroupEvent → Member → Reply
+running_reply bounds number me (AskMake spec) m = by_tenant (make_answer bounds.nodes me number (is_some m.spec) spec) m.reserve
+running_reply bounds number me AskOpen m = on_group open_answer me m
+running_reply bounds number me AskShut m = on_group shut_answer me m
+running_reply bounds number me AskDrop m = on_group drop_answer me m
+running_reply bounds number me (AskSay payload) m = on_group (λ s. say_answer (version_at bounds.versions me) s payload) me m
+running_reply bounds number me (AskFetch from most) m = on_group (λ s. fetch_answer s from most) me m
+running_reply bounds number me event m = Done
 
 -- the reply to a command
-abbrev pub reply_to : ℕ → ℕ → ℕ → GroupEvent → Member → Reply
-reply_to nodes number me event m = if m.stopped then Refused Stopped else running_reply nodes number me event m
+abbrev pub reply_to : Bounds → ℕ → ℕ → GroupEvent → Member → Reply
+reply_to bounds number me event m = if m.stopped then Refused Stopped else running_reply bounds number me event m
 
 -- what a call makes the group broadcast is put out to each other member that was not noticed
 abbrev pub put_to : ℕ → Option Spec → GroupCall → List GroupCall → (ℕ → List Entry) → ℕ → List Entry
@@ -143,15 +146,15 @@ abbrev pub falls : ℕ → ℕ → Entry → List GroupCall → Option Spec → 
 falls me from x told None = true
 falls me from x told (Some spec) = falls_after spec me told from x
 
--- an item is let fall, or the group is told of it
-abbrev pub item_came : ℕ → NodeId → Entry → Member → Member
-item_came me from x m = if falls me from.number x m.told (held_spec m.phase m.spec) then m else called me (Other from x) m
+-- an item is let fall, where it is too long for a node that sends this version or the group's rules say so, or the group is told of it
+abbrev pub item_came : Version → ℕ → NodeId → Entry → Member → Member
+item_came version me from x m = if is_too_long version x.payload || falls me from.number x m.told (held_spec m.phase m.spec) then m else called me (Other from x) m
 
 -- the item with a place comes from a node
-abbrev pub taken_in : ℕ → NodeId → ℕ → Option Entry → Member → Member
-taken_in me from place None m = m
-taken_in me from place (Some x) m =
-    let next = item_came me from x m in
+abbrev pub taken_in : Version → ℕ → NodeId → ℕ → Option Entry → Member → Member
+taken_in version me from place None m = m
+taken_in version me from place (Some x) m =
+    let next = item_came version me from x m in
     record next { come = λ b. if nat_eq b from.number then place ∷ m.come b else m.come b }
 
 -- so many places, from one on
@@ -177,29 +180,29 @@ abbrev pub node_noticed : ℕ → NodeId → Member → Member
 node_noticed me q m = let next = took_notice me q (held_spec m.phase m.spec) m in record next { noticed = q.number ∷ m.noticed }
 
 -- the group's part at a node after an event there
-abbrev pub member_after : ℕ → ℕ → NodeId → GroupEvent → Group → Member
-member_after nodes number me (Tenant reserve) group = let m = group me.number in record m { reserve = Some reserve }
-member_after nodes number me (Took b count) group = let m = group me.number in record m { taken = λ x. if nat_eq x b.number then m.taken x + count else m.taken x }
-member_after nodes number me (Came from place) group = taken_in me.number from place (slice_get ((group from.number).put me.number) (place - 1)) (group me.number)
-member_after nodes number me (Acknowledged b place count) group = item_done b place count (group me.number)
-member_after nodes number me (Notice q) group = node_noticed me.number q (group me.number)
-member_after nodes number me Stop group = let m = group me.number in record m { stopped = true }
-member_after nodes number me event group = commanded me event (reply_to nodes number me.number event (group me.number)) (group me.number)
+abbrev pub member_after : Bounds → ℕ → NodeId → GroupEvent → Group → Member
+member_after bounds number me (Tenant reserve) group = let m = group me.number in record m { reserve = Some reserve }
+member_after bounds number me (Took b count) group = let m = group me.number in record m { taken = λ x. if nat_eq x b.number then m.taken x + count else m.taken x }
+member_after bounds number me (Came from place) group = taken_in (version_at bounds.versions me.number) me.number from place (slice_get ((group from.number).put me.number) (place - 1)) (group me.number)
+member_after bounds number me (Acknowledged b place count) group = item_done b place count (group me.number)
+member_after bounds number me (Notice q) group = node_noticed me.number q (group me.number)
+member_after bounds number me Stop group = let m = group me.number in record m { stopped = true }
+member_after bounds number me event group = commanded me event (reply_to bounds number me.number event (group me.number)) (group me.number)
 
 -- the group after an event
-unfoldable pub after : ℕ → ℕ → Group → GroupStep → Group
-after nodes number group step x = if nat_eq x step.node.number then member_after nodes number step.node step.event group else group x
+unfoldable pub after : Bounds → ℕ → Group → GroupStep → Group
+after bounds number group step x = if nat_eq x step.node.number then member_after bounds number step.node step.event group else group x
 
 -- nothing has happened
 abbrev pub nobody : Group
 nobody x = record { reserve = None; spec = None; phase = Made; told = []; replies = []; put = λ b. []; taken = λ b. 0; come = λ b. []; done = λ b. []; noticed = []; stopped = false }
 
-abbrev pub alone_from : ℕ → ℕ → Group → List GroupStep → Group
-alone_from nodes number group steps = fold (after nodes number) group steps
+abbrev pub alone_from : Bounds → ℕ → Group → List GroupStep → Group
+alone_from bounds number group steps = fold (after bounds number) group steps
 
--- the group with this number among its tenant's, in a cluster of so many nodes, after these events
-abbrev pub alone : ℕ → ℕ → List GroupStep → Group
-alone nodes number steps = alone_from nodes number nobody steps
+-- the group with this number among its tenant's, in a cluster with these bounds, after these events
+abbrev pub alone : Bounds → ℕ → List GroupStep → Group
+alone bounds number steps = alone_from bounds number nobody steps
 
 -- What may happen next: what waits is taken, what is carried comes once, what came is acknowledged once, a node is noticed once at another, and none of these
 -- happens at a stopped node.
@@ -213,10 +216,10 @@ MayHappen me (Acknowledged b place count) group =
 MayHappen me (Notice q) group = ((group me.number).stopped ≡ false) × (is_marked q.number (group me.number).noticed ≡ false)
 MayHappen me event group = Unit {0}
 
-abbrev pub IsLegalFrom : ℕ → ℕ → Group → List GroupStep → Type 0
-IsLegalFrom nodes number group [] = Unit {0}
-IsLegalFrom nodes number group (step ∷ steps) = MayHappen step.node step.event group × IsLegalFrom nodes number (after nodes number group step) steps
+abbrev pub IsLegalFrom : Bounds → ℕ → Group → List GroupStep → Type 0
+IsLegalFrom bounds number group [] = Unit {0}
+IsLegalFrom bounds number group (step ∷ steps) = MayHappen step.node step.event group × IsLegalFrom bounds number (after bounds number group step) steps
 
 -- each event may happen when it does
-abbrev pub IsLegal : ℕ → ℕ → List GroupStep → Type 0
-IsLegal nodes number steps = IsLegalFrom nodes number nobody steps
+abbrev pub IsLegal : Bounds → ℕ → List GroupStep → Type 0
+IsLegal bounds number steps = IsLegalFrom bounds number nobody steps

@@ -5,6 +5,7 @@ use Rattle.gb_types.specs.Entry.{message_of}
 use Rattle.gb_types.specs.Message.{same}
 use Rattle.gb_types.specs.declared.entry.Entry.{Entry}
 use Rattle.gb_types.specs.declared.message.MsgId.{MsgId}
+use Rattle.gb_types.specs.declared.plan.Bounds.{Bounds}
 use Rattle.gb_types.specs.declared.reply.Reply.{Reply}
 use Rattle.gb_types.specs.declared.reply.Reply.TheVariants.{Said}
 use Rattle.gb_types.specs.declared.spec.Spec.{Spec}
@@ -24,16 +25,16 @@ abbrev pub accepted_in : GroupEvent → Reply → List Accepted
 accepted_in (AskSay payload) (Said seq) = record { seq = seq; payload = payload } ∷ []
 accepted_in event reply = []
 
-abbrev pub accepted_at : ℕ → ℕ → Group → GroupStep → ℕ → List Accepted
-accepted_at nodes number group step s = if nat_eq s step.node.number then accepted_in step.event (reply_to nodes number s step.event (group s)) else []
+abbrev pub accepted_at : Bounds → ℕ → Group → GroupStep → ℕ → List Accepted
+accepted_at bounds number group step s = if nat_eq s step.node.number then accepted_in step.event (reply_to bounds number s step.event (group s)) else []
 
-unfoldable pub accepted_from : ℕ → ℕ → Group → List GroupStep → ℕ → List Accepted
-accepted_from nodes number group [] s = []
-accepted_from nodes number group (step ∷ steps) s = accepted_at nodes number group step s ++ accepted_from nodes number (after nodes number group step) steps s
+unfoldable pub accepted_from : Bounds → ℕ → Group → List GroupStep → ℕ → List Accepted
+accepted_from bounds number group [] s = []
+accepted_from bounds number group (step ∷ steps) s = accepted_at bounds number group step s ++ accepted_from bounds number (after bounds number group step) steps s
 
 -- the messages that were accepted at a node, in order
-abbrev pub accepted : ℕ → ℕ → List GroupStep → ℕ → List Accepted
-accepted nodes number steps s = accepted_from nodes number nobody steps s
+abbrev pub accepted : Bounds → ℕ → List GroupStep → ℕ → List Accepted
+accepted bounds number steps s = accepted_from bounds number nobody steps s
 
 -- The entry is the message to whose say its origin was told its number, with its payload; and it is the seq-th that was accepted there, counted from 1. These are
 -- the messages accepted at each node.
@@ -57,12 +58,12 @@ abbrev pub log_of_member : ℕ → Member → List Entry
 log_of_member b m = log_at b (held_spec m.phase m.spec) m.told
 
 -- the log of each node keeps integrity, and each item that a node puts out was accepted at its origin
-pub record Integrity (nodes number : ℕ) (steps : List GroupStep) : Type 0 where
-  pub logs : (b : ℕ) → KeepsIntegrity (accepted nodes number steps) (log_of_member b (alone nodes number steps b))
-  pub items : (b c : ℕ) → All (IsAccepted (accepted nodes number steps)) ((alone nodes number steps b).put c)
+pub record Integrity (bounds : Bounds) (number : ℕ) (steps : List GroupStep) : Type 0 where
+  pub logs : (b : ℕ) → KeepsIntegrity (accepted bounds number steps) (log_of_member b (alone bounds number steps b))
+  pub items : (b c : ℕ) → All (IsAccepted (accepted bounds number steps)) ((alone bounds number steps b).put c)
 
 abbrev pub IsIntegral : Type 0
-IsIntegral = (nodes number : ℕ) (steps : List GroupStep) → IsLegal nodes number steps → Integrity nodes number steps
+IsIntegral = (bounds : Bounds) (number : ℕ) (steps : List GroupStep) → IsLegal bounds number steps → Integrity bounds number steps
 
 -- Order.
 
@@ -73,4 +74,4 @@ KeepsOrder (Some spec) log = is_fifo spec.kind ≡ true → RunsFromOne (map mes
 
 -- in each legal list of steps the log of each node keeps the order of the kind that was chosen at the node
 abbrev pub IsInOrder : Type 0
-IsInOrder = (nodes number : ℕ) (steps : List GroupStep) → IsLegal nodes number steps → (b : ℕ) → KeepsOrder (alone nodes number steps b).spec (log_of_member b (alone nodes number steps b))
+IsInOrder = (bounds : Bounds) (number : ℕ) (steps : List GroupStep) → IsLegal bounds number steps → (b : ℕ) → KeepsOrder (alone bounds number steps b).spec (log_of_member b (alone bounds number steps b))

@@ -1,14 +1,17 @@
 -- A group alone in lists, as the plain program keeps it. Each change is that of Alone.antt.
-use Rattle.std.specs.Prelude.{ℕ, ◌+◌, ◌-◌, ◌≡◌, ◌<◌, ◌&&◌, not, Bool, false, true, List, [], ◌∷◌, ◌++◌, length, map, replicate, take, slice_get, slice_index_or, slice_set, Option, Some, None, if◌then◌else◌}
+use Rattle.std.specs.Prelude.{ℕ, ◌+◌, ◌-◌, ◌≡◌, ◌<◌, ◌&&◌, ◌||◌, not, Bool, false, true, List, [], ◌∷◌, ◌++◌, length, map, replicate, take, slice_get, slice_index_or, slice_set, Option, Some, None, if◌then◌else◌}
 use Rattle.gb_types.specs.declared.entry.Entry.{Entry}
 use Rattle.gb_types.specs.declared.limits.TheConstants.{NODES}
 use Rattle.gb_types.specs.declared.node.NodeId.{NodeId}
+use Rattle.gb_types.specs.declared.plan.Bounds.{Bounds}
 use Rattle.gb_types.specs.declared.reply.Reply.TheVariants.{Done, Said}
 use Rattle.gb_types.specs.declared.reply.Reply.{Reply}
 use Rattle.gb_types.specs.declared.spec.Spec.{Spec}
+use Rattle.gb_types.specs.declared.version.Version.{Version}
+use Rattle.gb_types.specs.Version.{version_at}
 use Rattle.gb_layer.specs.Machine.{was_noticed}
 use Rattle.gb_history.specs.History.{calls_of, puts_of}
-use Rattle.gb_rules.specs.Group.{is_other}
+use Rattle.gb_rules.specs.Group.{is_other, is_too_long}
 use Rattle.gb_history.specs.declared.call.GroupCall.TheVariants.{Own, Other, Crashed}
 use Rattle.gb_history.specs.declared.call.GroupCall.{GroupCall}
 use Rattle.gb_rules.specs.declared.phase.Phase.TheVariants.{Made, Opened, Shut, Gone}
@@ -82,12 +85,12 @@ value_did me event reply v = v
 abbrev pub value_commanded : NodeId → GroupEvent → Reply → MemberValue → MemberValue
 value_commanded me event reply v = let next = value_did me event reply v in record next { replies = v.replies ++ reply ∷ [] }
 
-abbrev pub value_came : ℕ → NodeId → Entry → MemberValue → MemberValue
-value_came me from x v = if falls me from.number x v.told (held_spec v.phase v.spec) then v else value_called me (Other from x) v
+abbrev pub value_came : Version → ℕ → NodeId → Entry → MemberValue → MemberValue
+value_came version me from x v = if is_too_long version x.payload || falls me from.number x v.told (held_spec v.phase v.spec) then v else value_called me (Other from x) v
 
-abbrev pub value_taken_in : ℕ → NodeId → Option Entry → MemberValue → MemberValue
-value_taken_in me from None v = v
-value_taken_in me from (Some x) v = value_came me from x v
+abbrev pub value_taken_in : Version → ℕ → NodeId → Option Entry → MemberValue → MemberValue
+value_taken_in version me from None v = v
+value_taken_in version me from (Some x) v = value_came version me from x v
 
 abbrev pub value_took : ℕ → ℕ → MemberValue → MemberValue
 value_took b count v = record v { taken = slice_set v.taken b (slice_index_or v.taken b 0 + count) }
@@ -106,18 +109,18 @@ value_noticed me q (Some spec) v = if is_other spec me q.number then value_calle
 abbrev pub value_at : List MemberValue → ℕ → MemberValue
 value_at vs a = slice_index_or vs a new_member
 
-abbrev pub value_after : ℕ → ℕ → NodeId → GroupEvent → List MemberValue → MemberValue
-value_after nodes number me (Tenant reserve) vs = let v = value_at vs me.number in record v { reserve = Some reserve }
-value_after nodes number me (Took b count) vs = value_took b.number count (value_at vs me.number)
-value_after nodes number me (Came from place) vs =
-    value_taken_in me.number from (slice_get (slice_index_or (value_at vs from.number).put me.number []) (place - 1)) (value_at vs me.number)
-value_after nodes number me (Acknowledged b place count) vs = value_done b.number place count (value_at vs me.number)
-value_after nodes number me (Notice q) vs = let v = value_at vs me.number in value_noticed me.number q (held_spec v.phase v.spec) v
-value_after nodes number me Stop vs = let v = value_at vs me.number in record v { stopped = true }
-value_after nodes number me event vs = value_commanded me event (reply_to nodes number me.number event (member_of (value_at vs me.number))) (value_at vs me.number)
+abbrev pub value_after : Bounds → ℕ → NodeId → GroupEvent → List MemberValue → MemberValue
+value_after bounds number me (Tenant reserve) vs = let v = value_at vs me.number in record v { reserve = Some reserve }
+value_after bounds number me (Took b count) vs = value_took b.number count (value_at vs me.number)
+value_after bounds number me (Came from place) vs =
+    value_taken_in (version_at bounds.versions me.number) me.number from (slice_get (slice_index_or (value_at vs from.number).put me.number []) (place - 1)) (value_at vs me.number)
+value_after bounds number me (Acknowledged b place count) vs = value_done b.number place count (value_at vs me.number)
+value_after bounds number me (Notice q) vs = let v = value_at vs me.number in value_noticed me.number q (held_spec v.phase v.spec) v
+value_after bounds number me Stop vs = let v = value_at vs me.number in record v { stopped = true }
+value_after bounds number me event vs = value_commanded me event (reply_to bounds number me.number event (member_of (value_at vs me.number))) (value_at vs me.number)
 
-abbrev pub values_after : ℕ → ℕ → List MemberValue → GroupStep → List MemberValue
-values_after nodes number vs step = slice_set vs step.node.number (value_after nodes number step.node step.event vs)
+abbrev pub values_after : Bounds → ℕ → List MemberValue → GroupStep → List MemberValue
+values_after bounds number vs step = slice_set vs step.node.number (value_after bounds number step.node step.event vs)
 
 -- the lists are the member, as far as there are nodes
 pub record StandsForMember (v : MemberValue) (m : Member) : Type 0 where

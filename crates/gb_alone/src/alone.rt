@@ -1,6 +1,7 @@
 //! A group by itself, computed plainly from its meaning: slow, for short lists of what happens to it.
 ghost use Rattle.std.specs.Prelude.{◌≡◌, ◌≤◌, ◌-◌, [], IfOk, OnOk, length, map, take, replicate, slice_get, slice_index_or, slice_set};
 ghost use Rattle.gb_types.specs.declared.limits.TheConstants.{NODES as MOST};
+ghost use Rattle.gb_types.specs.Version.{bounds_of};
 ghost use Rattle.gb_alone.specs.Alone as one_group;
 ghost use Rattle.gb_alone.specs.Alone.{Member as Prior, Group};
 ghost use Rattle.gb_alone.specs.MemberLists.{member_of, new_member, value_at, value_commanded, value_taken_in, values_after, StandsForMember, StandForMembers};
@@ -13,7 +14,8 @@ use gb_types::address::Addr;
 use gb_types::limits::NODES;
 use gb_types::memory::OutOfMemory;
 use gb_types::node::NodeId;
-use gb_types::plan::Plan;
+use gb_types::plan::{Bounds, Plan};
+use gb_types::version::Version;
 use std::alloc::Global;
 
 /// The group at every node before anything has happened.
@@ -30,45 +32,46 @@ fn members(alloc: Global) -> Result<Vec<Member>, OutOfMemory>
 /// A command is asked at a node and answered.
 fn command_at(
     alloc: Global,
-    nodes: u8,
+    bounds: &Bounds,
     number: u16,
     group: &mut Vec<Member>,
     me: NodeId,
     event: &GroupEvent,
 ) -> Result<(), OutOfMemory>
     requires { length group.old.items ≡ MOST }
-    ensures { OnOk result (group.new.items ≡ slice_set group.old.items me.number (value_commanded me event.now (one_group.reply_to nodes number me.number event.now (member_of (value_at group.old.items me.number))) (value_at group.old.items me.number))) }
+    ensures { OnOk result (group.new.items ≡ slice_set group.old.items me.number (value_commanded me event.now (one_group.reply_to bounds.now number me.number event.now (member_of (value_at group.old.items me.number))) (value_at group.old.items me.number))) }
 {
     let at = me.index();
-    let reply = group[at].reply(alloc, nodes, number, me, event)?;
+    let reply = group[at].reply(alloc, bounds, number, me, event)?;
     group[at].command(alloc, me, event, reply)
 }
 
-/// An item comes from a node, where there is one with this place.
+/// An item comes from a node, where there is one with this place, to a node that sends this version.
 fn item_at(
     alloc: Global,
+    version: Version,
     group: &mut Vec<Member>,
     me: NodeId,
     from: NodeId,
     place: u64,
 ) -> Result<(), OutOfMemory>
     requires { length group.old.items ≡ MOST }
-    ensures { OnOk result (group.new.items ≡ slice_set group.old.items me.number (value_taken_in me.number from (slice_get (slice_index_or (value_at group.old.items from.number).put me.number []) (place - 1)) (value_at group.old.items me.number))) }
+    ensures { OnOk result (group.new.items ≡ slice_set group.old.items me.number (value_taken_in version me.number from (slice_get (slice_index_or (value_at group.old.items from.number).put me.number []) (place - 1)) (value_at group.old.items me.number))) }
 {
     let item = group[from.index()].item(alloc, me, place)?;
-    group[me.index()].take_in(alloc, me, from, item)
+    group[me.index()].take_in(alloc, version, me, from, item)
 }
 
 /// What happens at a node changes the group there.
 fn step_at(
     alloc: Global,
-    nodes: u8,
+    bounds: &Bounds,
     number: u16,
     group: &mut Vec<Member>,
     step: &GroupStep,
 ) -> Result<(), OutOfMemory>
     requires { length group.old.items ≡ MOST }
-    ensures { OnOk result (group.new.items ≡ values_after nodes number group.old.items step.now) }
+    ensures { OnOk result (group.new.items ≡ values_after bounds.now number group.old.items step.now) }
 {
     let me = step.node;
     match &step.event {
@@ -83,13 +86,15 @@ fn step_at(
             group[me.index()].stop();
             Ok(())
         }
-        GroupEvent::Came(from, place) => item_at(alloc, group, me, *from, *place),
+        GroupEvent::Came(from, place) => {
+            item_at(alloc, bounds.version_of(me), group, me, *from, *place)
+        }
         GroupEvent::Make(_)
         | GroupEvent::Open
         | GroupEvent::Shut
         | GroupEvent::Drop
         | GroupEvent::Say(_)
-        | GroupEvent::Fetch(_, _) => command_at(alloc, nodes, number, group, me, &step.event),
+        | GroupEvent::Fetch(_, _) => command_at(alloc, bounds, number, group, me, &step.event),
     }
 }
 
@@ -119,21 +124,21 @@ fn all_seen(alloc: Global, nodes: u8, group: &[Member]) -> Result<Observation, O
     Ok(Observation::from(seen))
 }
 
-/// What is seen of the group with this number, alone, in a cluster of so many nodes.
+/// What is seen of the group with this number, alone, in a cluster with these bounds.
 fn seen_alone(
     alloc: Global,
-    nodes: u8,
+    bounds: &Bounds,
     number: u16,
     steps: &[GroupStep],
 ) -> Result<Observation, OutOfMemory>
-    requires { nodes ≤ MOST }
-    ensures { IfOk result (λ o. o ≡ observed_alone nodes (one_group.alone nodes number steps.now)) }
+    requires { bounds.now.nodes ≤ MOST }
+    ensures { IfOk result (λ o. o ≡ observed_alone bounds.now.nodes (one_group.alone bounds.now number steps.now)) }
 {
     let mut group = members(alloc)?;
     for step in steps {
-        step_at(alloc, nodes, number, &mut group, step)?;
+        step_at(alloc, bounds, number, &mut group, step)?;
     }
-    all_seen(alloc, nodes, &group)
+    all_seen(alloc, bounds.nodes, &group)
 }
 
 /// The group alone, in a cluster of this plan: what is seen of it after these steps. `Err` also where a node says
@@ -145,7 +150,7 @@ pub fn alone(
     steps: &[GroupStep],
 ) -> Result<Observation, OutOfMemory>
     requires { plan.now.nodes ≤ MOST }
-    ensures { IfOk result (λ o. o ≡ observed_alone plan.now.nodes (one_group.alone plan.now.nodes addr.group steps.now)) }
+    ensures { IfOk result (λ o. o ≡ observed_alone plan.now.nodes (one_group.alone (bounds_of plan.now) addr.group steps.now)) }
 {
-    seen_alone(alloc, plan.nodes, addr.group, steps)
+    seen_alone(alloc, &plan.bounds(), addr.group, steps)
 }

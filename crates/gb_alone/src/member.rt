@@ -16,7 +16,7 @@ use gb_history::call::{GroupCall, calls_of, said_in};
 use gb_history::log::{bytes_in, falls_after, log_of};
 use gb_layer::call::Call;
 use gb_layer::plain::is_noticed;
-use gb_rules::group::{check_open, check_say, check_shut, is_bad_place};
+use gb_rules::group::{check_open, check_say, check_shut, is_bad_place, is_too_long};
 use gb_rules::phase::Phase;
 use gb_rules::reserve::Reserve;
 use gb_rules::tenant::answer_make;
@@ -26,9 +26,11 @@ use gb_types::limits::NODES;
 use gb_types::memory::OutOfMemory;
 use gb_types::node::NodeId;
 use gb_types::payload::Payload;
+use gb_types::plan::Bounds;
 use gb_types::refusal::Refusal;
 use gb_types::reply::Reply;
 use gb_types::spec::Spec;
+use gb_types::version::Version;
 use std::alloc::Global;
 use std::marker::Model;
 
@@ -57,24 +59,7 @@ fn log_reply(alloc: Global, log: &[Entry], from: u32, max: u32) -> Result<Reply,
 fn no_marks(alloc: Global) -> [Marks; NODES]
     ensures { result ≡ replicate MOST [] }
 {
-    [
-        Marks::new(alloc),
-        Marks::new(alloc),
-        Marks::new(alloc),
-        Marks::new(alloc),
-        Marks::new(alloc),
-        Marks::new(alloc),
-        Marks::new(alloc),
-        Marks::new(alloc),
-        Marks::new(alloc),
-        Marks::new(alloc),
-        Marks::new(alloc),
-        Marks::new(alloc),
-        Marks::new(alloc),
-        Marks::new(alloc),
-        Marks::new(alloc),
-        Marks::new(alloc),
-    ]
+    std::array::from_fn(|_| Marks::new(alloc))
 }
 
 /// The group at one node. Contracts see its parts as lists.
@@ -166,7 +151,7 @@ impl Member {
 
     /// The reply to a command to open the group.
     fn open_reply(&self) -> Reply
-        ensures { (nodes number me : ℕ) → result ≡ one_group.running_reply nodes number me GroupEvent.Open (member_of self.now) }
+        ensures { (bounds : Bounds) (number me : ℕ) → result ≡ one_group.running_reply bounds number me GroupEvent.Open (member_of self.now) }
     {
         if let Err(why) = self.made_spec() {
             return Reply::Refused(why);
@@ -179,7 +164,7 @@ impl Member {
 
     /// The reply to a command to shut the group.
     fn shut_reply(&self) -> Reply
-        ensures { (nodes number me : ℕ) → result ≡ one_group.running_reply nodes number me GroupEvent.Shut (member_of self.now) }
+        ensures { (bounds : Bounds) (number me : ℕ) → result ≡ one_group.running_reply bounds number me GroupEvent.Shut (member_of self.now) }
     {
         if let Err(why) = self.made_spec() {
             return Reply::Refused(why);
@@ -192,7 +177,7 @@ impl Member {
 
     /// The reply to a command to drop the group.
     fn drop_reply(&self) -> Reply
-        ensures { (nodes number me : ℕ) → result ≡ one_group.running_reply nodes number me GroupEvent.Drop (member_of self.now) }
+        ensures { (bounds : Bounds) (number me : ℕ) → result ≡ one_group.running_reply bounds number me GroupEvent.Drop (member_of self.now) }
     {
         match self.made_spec() {
             Ok(_) => Reply::Done,
@@ -261,15 +246,22 @@ impl Member {
     }
 
     /// The reply to a command to say something. `Err` where there is no number for it.
-    fn say_reply(&self, alloc: Global, me: NodeId, payload: &Payload) -> Result<Reply, OutOfMemory>
-        ensures { (nodes number : ℕ) → IfOk result (λ r. r ≡ one_group.running_reply nodes number me.number (GroupEvent.Say payload.now) (member_of self.now)) }
+    fn say_reply(
+        &self,
+        alloc: Global,
+        bounds: &Bounds,
+        me: NodeId,
+        payload: &Payload,
+    ) -> Result<Reply, OutOfMemory>
+        ensures { (number : ℕ) → IfOk result (λ r. r ≡ one_group.running_reply bounds.now number me.number (GroupEvent.Say payload.now) (member_of self.now)) }
     {
         let spec = match self.made_spec() {
             Ok(spec) => spec,
             Err(why) => return Ok(Reply::Refused(why)),
         };
         let usage = self.usage(alloc, spec, me)?;
-        match check_say(spec, self.phase, usage, payload.as_slice()) {
+        let version = bounds.version_of(me);
+        match check_say(version, spec, self.phase, usage, payload.as_slice()) {
             Ok(()) => Ok(Reply::Said((usage.said + 1) as u16)),
             Err(why) => Ok(Reply::Refused(why)),
         }
@@ -283,7 +275,7 @@ impl Member {
         from: u32,
         max: u32,
     ) -> Result<Reply, OutOfMemory>
-        ensures { (nodes number : ℕ) → IfOk result (λ r. r ≡ one_group.running_reply nodes number me.number (GroupEvent.Fetch from max) (member_of self.now)) }
+        ensures { (bounds : Bounds) (number : ℕ) → IfOk result (λ r. r ≡ one_group.running_reply bounds number me.number (GroupEvent.Fetch from max) (member_of self.now)) }
     {
         let spec = match self.made_spec() {
             Ok(spec) => spec,
@@ -294,13 +286,13 @@ impl Member {
     }
 
     /// The reply to a command to make the group.
-    fn make_reply(&self, nodes: u8, number: u16, me: NodeId, spec: &Spec) -> Reply
-        ensures { result ≡ one_group.running_reply nodes number me.number (GroupEvent.Make spec.now) (member_of self.now) }
+    fn make_reply(&self, bounds: &Bounds, number: u16, me: NodeId, spec: &Spec) -> Reply
+        ensures { result ≡ one_group.running_reply bounds.now number me.number (GroupEvent.Make spec.now) (member_of self.now) }
     {
         match &self.reserve {
             None => Reply::Refused(Refusal::Denied),
             Some(reserve) => answer_make(
-                usize::from(nodes),
+                usize::from(bounds.nodes),
                 me,
                 number,
                 self.spec.is_some(),
@@ -314,19 +306,19 @@ impl Member {
     fn running_reply(
         &self,
         alloc: Global,
-        nodes: u8,
+        bounds: &Bounds,
         number: u16,
         me: NodeId,
         event: &GroupEvent,
     ) -> Result<Reply, OutOfMemory>
-        ensures { IfOk result (λ r. r ≡ one_group.running_reply nodes number me.number event.now (member_of self.now)) }
+        ensures { IfOk result (λ r. r ≡ one_group.running_reply bounds.now number me.number event.now (member_of self.now)) }
     {
         match event {
-            GroupEvent::Make(spec) => Ok(self.make_reply(nodes, number, me, spec)),
+            GroupEvent::Make(spec) => Ok(self.make_reply(bounds, number, me, spec)),
             GroupEvent::Open => Ok(self.open_reply()),
             GroupEvent::Shut => Ok(self.shut_reply()),
             GroupEvent::Drop => Ok(self.drop_reply()),
-            GroupEvent::Say(payload) => self.say_reply(alloc, me, payload),
+            GroupEvent::Say(payload) => self.say_reply(alloc, bounds, me, payload),
             GroupEvent::Fetch(from, max) => self.fetch_reply(alloc, me, *from, *max),
             GroupEvent::Tenant(_)
             | GroupEvent::Took(_, _)
@@ -341,17 +333,17 @@ impl Member {
     pub(crate) fn reply(
         &self,
         alloc: Global,
-        nodes: u8,
+        bounds: &Bounds,
         number: u16,
         me: NodeId,
         event: &GroupEvent,
     ) -> Result<Reply, OutOfMemory>
-        ensures { IfOk result (λ r. r ≡ one_group.reply_to nodes number me.number event.now (member_of self.now)) }
+        ensures { IfOk result (λ r. r ≡ one_group.reply_to bounds.now number me.number event.now (member_of self.now)) }
     {
         if self.stopped {
             return Ok(Reply::Refused(Refusal::Stopped));
         }
-        self.running_reply(alloc, nodes, number, me, event)
+        self.running_reply(alloc, bounds, number, me, event)
     }
 
     /// The group is told something here.
@@ -440,17 +432,19 @@ impl Member {
         }
     }
 
-    /// An item comes from a node, and is let fall, or the group is told of it.
+    /// An item comes from a node, and is let fall, also where it is too long for the version that this node sends, or
+    /// the group is told of it.
     fn item_came(
         &mut self,
         alloc: Global,
+        version: Version,
         me: NodeId,
         from: NodeId,
         x: Entry,
     ) -> Result<(), OutOfMemory>
-        ensures { OnOk result (self.new ≡ value_came me.number from x self.old) }
+        ensures { OnOk result (self.new ≡ value_came version me.number from x self.old) }
     {
-        if self.falls(alloc, me, from, &x)? {
+        if is_too_long(version, x.payload.as_slice()) || self.falls(alloc, me, from, &x)? {
             return Ok(());
         }
         self.call(alloc, me, GroupCall::Other(from, x))
@@ -460,15 +454,16 @@ impl Member {
     pub(crate) fn take_in(
         &mut self,
         alloc: Global,
+        version: Version,
         me: NodeId,
         from: NodeId,
         item: Option<Entry>,
     ) -> Result<(), OutOfMemory>
-        ensures { OnOk result (self.new ≡ value_taken_in me.number from item self.old) }
+        ensures { OnOk result (self.new ≡ value_taken_in version me.number from item self.old) }
     {
         match item {
             None => Ok(()),
-            Some(x) => self.item_came(alloc, me, from, x),
+            Some(x) => self.item_came(alloc, version, me, from, x),
         }
     }
 
