@@ -1,5 +1,6 @@
 pub mod AcceptedLemmas
 pub mod CommandLemmas
+pub mod EntryLemmas
 pub mod InsideLemmas
 pub mod IntegrityLemmas
 pub mod ItemLemmas
