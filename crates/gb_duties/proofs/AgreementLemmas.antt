@@ -7,6 +7,7 @@ use Rattle.std.proofs.lemmas.List.Elements.{All-from_recursion}
 use Rattle.std.proofs.lemmas.List.Sums.{fold-append}
 use Rattle.gb_types.specs.declared.message.MsgId.{MsgId}
 use Rattle.gb_types.specs.declared.node.NodeId.{NodeId}
+use Rattle.gb_types.specs.declared.plan.Bounds.{Bounds}
 use Rattle.gb_types.specs.declared.spec.Spec.{Spec}
 use Rattle.gb_types.specs.Places.{has_majority}
 use Rattle.gb_types.proofs.CoverLemmas.{all_members}
@@ -31,6 +32,7 @@ use Rattle.gb_alone.proofs.IntegrityLemmas.{alone_fits}
 use Rattle.gb_duties.specs.Agreement.{IsRunning, AreEnough, is_uniform, KeepsAgreement, logs_of, IsAgreed}
 use Rattle.gb_duties.proofs.WordLemmas.{Found, found, find, said_came}
 use Rattle.gb_duties.proofs.LogLemmas.{logged-is}
+use Rattle.gb_duties.proofs.ShortLemmas.{nobody_short, run_short}
 use Rattle.gb_duties.proofs.DutyLemmas.{of_member}
 use Rattle.gb_duties.proofs.FlowLemmas.{Flow, IsSound, Taking, nobody_flows, run_flows, legal_parts, run_takes, first_taking}
 use Rattle.gb_duties.proofs.AcceptedLemmas.{accepted_said, none_said}
@@ -211,10 +213,10 @@ module _ (runs : ℕ → Bool) (spec : Spec) (group : Group) (calm : Calm runs s
 
 module _ (has_delivered : ModuleLogHasDelivered) (numbers : (origin : NodeId) (delivered : List MsgId) → numbers_of origin.number (in_order delivered) ≡ upto (top origin delivered))
     (stand : (origin : NodeId) (delivered : List MsgId) (seq : ℕ) → 1 ≤ seq → seq ≤ top origin delivered → is_in delivered (numbered origin seq) ≡ true) (ends : (origin : NodeId) (delivered : List MsgId) → is_in delivered (numbered origin (top origin delivered + 1)) ≡ false) where
-  agreed : (nodes number : ℕ) (steps : List GroupStep) (runs : ℕ → Bool) (spec : Spec) → Calm runs spec (alone nodes number steps) → AreEnough runs spec → KeepsAgreement (accepted nodes number steps) (logs_of (alone nodes number steps)) runs spec
-  agreed nodes number steps runs spec calm enough = record {
-    validity = λ s b run_s run_b. All-from_recursion (λ (x : Accepted). has (logs_of group b) (numbered s x.seq) ≡ true) (accepted nodes number steps s.number)
-        (all_weaker (λ (x : Accepted). was_said (calls_of (group s.number).told) (numbered s x.seq) ≡ true) (λ (x : Accepted). has (logs_of group b) (numbered s x.seq) ≡ true) (λ x said. valid s b run_s run_b x.seq said) (accepted nodes number steps s.number) (accepted_said nodes number s steps));
+  agreed : (bounds : Bounds) (number : ℕ) (steps : List GroupStep) (runs : ℕ → Bool) (spec : Spec) → Calm runs spec (alone bounds number steps) → AreEnough runs spec → KeepsAgreement (accepted bounds number steps) (logs_of (alone bounds number steps)) runs spec
+  agreed bounds number steps runs spec calm enough = record {
+    validity = λ s b run_s run_b. All-from_recursion (λ (x : Accepted). has (logs_of group b) (numbered s x.seq) ≡ true) (accepted bounds number steps s.number)
+        (all_weaker (λ (x : Accepted). was_said (calls_of (group s.number).told) (numbered s x.seq) ≡ true) (λ (x : Accepted). has (logs_of group b) (numbered s x.seq) ≡ true) (λ x said. valid s b run_s run_b x.seq said) (accepted bounds number steps s.number) (accepted_said bounds number s steps));
     agreement = λ reliable b c run_b run_c m. both_ways (has (logs_of group b) m) (has (logs_of group c) m)
         (more b c run_b.0 (calm.kept b run_b) run_c (λ k up. up_more runs spec group calm enough b c k run_b run_c up (module_of spec.kind) refl reliable) m)
         (more c b run_c.0 (calm.kept c run_c) run_b (λ k up. up_more runs spec group calm enough c b k run_c run_b up (module_of spec.kind) refl reliable) m);
@@ -222,7 +224,7 @@ module _ (has_delivered : ModuleLogHasDelivered) (numbers : (origin : NodeId) (d
   }
     where
       group : Group
-      group = alone nodes number steps
+      group = alone bounds number steps
 
       is_log : (b : ℕ) → is_member spec b ≡ true → is_gone (group b).phase ≡ false → (m : MsgId) → has (logs_of group b) m ≡ is_in (kind_log spec.kind b (set.items spec.members) (calls_of (group b).told)) m
       is_log b in_b here m = logged-is b (held_spec (group b).phase (group b).spec) spec (group b).told m (ap (λ (gone : Bool). if gone then None else (group b).spec) here ∙ calm.taking.made b in_b)
@@ -248,9 +250,9 @@ module _ (has_delivered : ModuleLogHasDelivered) (numbers : (origin : NodeId) (d
           (λ k some le. said_up runs spec group calm enough s.number b (numbered s k) refl run_s run_b (fits.said_all (numbered s k) refl some (omega (arith, le, few)))) seq fair.counted (omega arith)
 
   pub is_agreed : IsAgreed
-  is_agreed nodes number steps legal runs spec settled enough = agreed nodes number steps runs spec (record {
-    flow = run_flows nodes number steps nobody legal nobody_flows;
-    taking = subst (λ (g : Group). Taking spec g) (sym split) (run_takes nodes number spec settled.later (alone nodes number settled.earlier) (λ earlier later is. sound earlier) parts.1 before (first_taking spec (alone nodes number settled.earlier) before.fits settled.made (none_said nodes number settled.earlier settled.silent)));
+  is_agreed bounds number steps legal runs spec settled enough = agreed bounds number steps runs spec (record {
+    flow = run_flows bounds number steps nobody legal nobody_flows;
+    taking = subst (λ (g : Group). Taking spec g) (sym split) (run_takes bounds number spec settled.version settled.versions settled.later (alone bounds number settled.earlier) (λ earlier later is. sound earlier) parts.1 before (run_short bounds number settled.earlier nobody (nobody_short bounds)) (first_taking spec (alone bounds number settled.earlier) before.fits settled.made (none_said bounds number settled.earlier settled.silent)));
     kept = settled.kept;
     carried = λ a b run_a run_b other. settled.carried a b run_a run_b (differ a b other);
     came = λ a b run_a run_b other. settled.came a b run_a run_b (differ a b other);
@@ -261,14 +263,14 @@ module _ (has_delivered : ModuleLogHasDelivered) (numbers : (origin : NodeId) (d
       differ : (a b : ℕ) → nat_eq a b ≡ false → a ≢ b
       differ a b other is = let e = eq-eqb a b is in absurd (cc)
 
-      parts : IsLegal nodes number settled.earlier × IsLegalFrom nodes number (alone nodes number settled.earlier) settled.later
-      parts = legal_parts nodes number settled.earlier settled.later nobody (subst (λ (ss : List GroupStep). IsLegal nodes number ss) settled.moment legal)
+      parts : IsLegal bounds number settled.earlier × IsLegalFrom bounds number (alone bounds number settled.earlier) settled.later
+      parts = legal_parts bounds number settled.earlier settled.later nobody (subst (λ (ss : List GroupStep). IsLegal bounds number ss) settled.moment legal)
 
-      before : Flow (alone nodes number settled.earlier)
-      before = run_flows nodes number settled.earlier nobody parts.0 nobody_flows
+      before : Flow (alone bounds number settled.earlier)
+      before = run_flows bounds number settled.earlier nobody parts.0 nobody_flows
 
-      sound : (late : List GroupStep) → IsSound (alone_from nodes number (alone nodes number settled.earlier) late)
-      sound late = subst IsSound (fold-append (after nodes number) nobody settled.earlier late) (alone_fits nodes number (settled.earlier ++ late))
+      sound : (late : List GroupStep) → IsSound (alone_from bounds number (alone bounds number settled.earlier) late)
+      sound late = subst IsSound (fold-append (after bounds number) nobody settled.earlier late) (alone_fits bounds number (settled.earlier ++ late))
 
-      split : alone nodes number steps ≡ alone_from nodes number (alone nodes number settled.earlier) settled.later
-      split = ap (λ (ss : List GroupStep). alone nodes number ss) settled.moment ∙ fold-append (after nodes number) nobody settled.earlier settled.later
+      split : alone bounds number steps ≡ alone_from bounds number (alone bounds number settled.earlier) settled.later
+      split = ap (λ (ss : List GroupStep). alone bounds number ss) settled.moment ∙ fold-append (after bounds number) nobody settled.earlier settled.later

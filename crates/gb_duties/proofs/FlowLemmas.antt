@@ -1,5 +1,5 @@
 -- What holds of the whole group through every event that may happen: between members what came was taken in.
-use Rattle.std.proofs.Common.{◌≡◌, ℕ, ◌+◌, ◌-◌, ◌<◌, ◌≤◌, Bool, true, false, ◌&&◌, ◌⊎◌, inl, inr, nat_eq, List, [], ◌∷◌, ◌++◌, length, Option, Some, None, refl, sym, ap, ◌∙◌, subst, arith}
+use Rattle.std.proofs.Common.{◌≡◌, ℕ, ◌+◌, ◌-◌, ◌<◌, ◌≤◌, Bool, true, false, ◌&&◌, ◌||◌, ◌⊎◌, inl, inr, nat_eq, List, [], ◌∷◌, ◌++◌, length, Option, Some, None, refl, sym, ap, ◌∙◌, subst, arith}
 use Rattle.std.specs.Prelude.{slice_get, if◌then◌else◌}
 use Rattle.std.proofs.lemmas.Bool.{eqb-true, eq-eqb}
 use Rattle.gb_types.specs.Entry.{message_of}
@@ -7,14 +7,17 @@ use Rattle.gb_types.specs.Message.{same}
 use Rattle.gb_types.specs.declared.entry.Entry.{Entry}
 use Rattle.gb_types.specs.declared.message.MsgId.{MsgId}
 use Rattle.gb_types.specs.declared.node.NodeId.{NodeId}
+use Rattle.gb_types.specs.declared.plan.Bounds.{Bounds}
 use Rattle.gb_types.specs.declared.reply.Reply.{Reply}
 use Rattle.gb_types.specs.declared.reply.Reply.TheVariants.{Done, Said}
 use Rattle.gb_types.specs.declared.spec.Spec.{Spec}
+use Rattle.gb_types.specs.declared.version.Version.{Version}
+use Rattle.gb_types.specs.Version.{version_at}
 use Rattle.gb_types.proofs.SameLemmas.{same_itself}
 use Rattle.gb_types.proofs.BoolLemmas.{and_both, or_cases, or_first}
 use Rattle.gb_layer.specs.Histories.{said_mentioned}
 use Rattle.gb_layer.specs.Machine.{mentions, was_said, came_from}
-use Rattle.gb_rules.specs.Group.{is_gone, is_member, is_other}
+use Rattle.gb_rules.specs.Group.{is_gone, is_member, is_other, is_too_long}
 use Rattle.gb_history.specs.History.{calls_of, known, bytes_in, falls_after}
 use Rattle.gb_history.specs.Messages.{bytes_of}
 use Rattle.gb_history.proofs.MentionLemmas.{has-known}
@@ -30,6 +33,7 @@ use Rattle.gb_alone.specs.declared.event.GroupEvent.TheVariants.{Tenant, Make as
 use Rattle.gb_alone.specs.declared.event.GroupStep.{GroupStep}
 use Rattle.gb_duties.proofs.WordLemmas.{has-get}
 use Rattle.gb_duties.proofs.ReplyLemmas.{IsFair, fall_why}
+use Rattle.gb_duties.proofs.ShortLemmas.{IsShort, AllShort, step_short}
 use Rattle.gb_duties.proofs.StepLemmas.{calls_in, AllFit, step_fits, nobody_fits}
 use Rattle.gb_duties.proofs.MoveLemmas.{Bounded, Goes, event_moves}
 
@@ -39,12 +43,12 @@ pub record Flow (group : Group) : Type 0 where
   pub come : (a b place : ℕ) → is_marked place ((group b).come a) ≡ true → (0 < place) × (place ≤ (group a).taken b)
 
 -- every node goes on
-all_goes : (nodes number : ℕ) (group : Group) (step : GroupStep) → MayHappen step.node step.event group → ((a : ℕ) → Bounded (group a)) → (x : ℕ) → Goes x (group x) (after nodes number group step x)
+all_goes : (bounds : Bounds) (number : ℕ) (group : Group) (step : GroupStep) → MayHappen step.node step.event group → ((a : ℕ) → Bounded (group a)) → (x : ℕ) → Goes x (group x) (after bounds number group step x)
 unfolding after
-all_goes nodes number group step may bounded x = go (nat_eq x step.node.number) refl
+all_goes bounds number group step may bounded x = go (nat_eq x step.node.number) refl
   where
-    go : (t : Bool) → nat_eq x step.node.number ≡ t → Goes x (group x) (if t then member_after nodes number step.node step.event group else group x)
-    go true is = subst (λ y. Goes y (group y) (member_after nodes number step.node step.event group)) (sym (eqb-true x step.node.number is)) (event_moves nodes number group step.node step.event may (bounded step.node.number))
+    go : (t : Bool) → nat_eq x step.node.number ≡ t → Goes x (group x) (if t then member_after bounds number step.node step.event group else group x)
+    go true is = subst (λ y. Goes y (group y) (member_after bounds number step.node step.event group)) (sym (eqb-true x step.node.number is)) (event_moves bounds number group step.node step.event may (bounded step.node.number))
     go false is = record { spec = λ s is. is; here = λ h. h; from = λ p y h. h; stable = λ b i lt. refl; taken = λ b. omega arith; bounded = bounded x }
 
 -- The places that have come.
@@ -67,9 +71,9 @@ notice_come : (a : ℕ) (q : NodeId) (o : Option Spec) (m : Member) → (took_no
 notice_come a q None m = refl
 notice_come a q (Some spec) m = elim (is_other spec a q.number) as (λ t. (if t then called a (Crashed q) (cut q m) else m).come ≡ m.come) [ true ↦ refl | false ↦ refl ]
 
-taken_come : (a : ℕ) (from : NodeId) (place : ℕ) (o : Option Entry) (m : Member) (y k : ℕ) → is_marked k ((taken_in a from place o m).come y) ≡ true → (is_marked k (m.come y) ≡ true) ⊎ IsArrival (Came from place) y k
-taken_come a from place None m y k h = inl h
-taken_come a from place (Some x) m y k h = go (nat_eq y from.number) refl h
+taken_come : (version : Version) (a : ℕ) (from : NodeId) (place : ℕ) (o : Option Entry) (m : Member) (y k : ℕ) → is_marked k ((taken_in version a from place o m).come y) ≡ true → (is_marked k (m.come y) ≡ true) ⊎ IsArrival (Came from place) y k
+taken_come version a from place None m y k h = inl h
+taken_come version a from place (Some x) m y k h = go (nat_eq y from.number) refl h
   where
     go : (t : Bool) → nat_eq y from.number ≡ t → is_marked k (if t then place ∷ m.come y else m.come y) ≡ true → (is_marked k (m.come y) ≡ true) ⊎ IsArrival (Came from place) y k
     go true is h = by (or_cases (nat_eq place k) (is_marked k (m.come y)) h)
@@ -79,21 +83,21 @@ taken_come a from place (Some x) m y k h = go (nat_eq y from.number) refl h
         by (inr old) = inl old
     go false is h = inl h
 
-event_come : (nodes number : ℕ) (group : Group) (me : NodeId) (event : GroupEvent) (y k : ℕ) → is_marked k ((member_after nodes number me event group).come y) ≡ true → (is_marked k ((group me.number).come y) ≡ true) ⊎ IsArrival event y k
-event_come nodes number group me (Tenant reserve) y k h = inl h
-event_come nodes number group me (Took b count) y k h = inl h
-event_come nodes number group me (Came from place) y k h = taken_come me.number from place (slice_get ((group from.number).put me.number) (place - 1)) (group me.number) y k h
-event_come nodes number group me (Acknowledged b place count) y k h = inl h
-event_come nodes number group me (Notice q) y k h = inl (ap (λ (come : ℕ → List ℕ). is_marked k (come y)) (sym (notice_come me.number q (held_spec (group me.number).phase (group me.number).spec) (group me.number))) ∙ h)
-event_come nodes number group me Stop y k h = inl h
-event_come nodes number group me event y k h = inl (ap (λ (come : ℕ → List ℕ). is_marked k (come y)) (sym (did_come me event (reply_to nodes number me.number event (group me.number)) (group me.number))) ∙ h)
+event_come : (bounds : Bounds) (number : ℕ) (group : Group) (me : NodeId) (event : GroupEvent) (y k : ℕ) → is_marked k ((member_after bounds number me event group).come y) ≡ true → (is_marked k ((group me.number).come y) ≡ true) ⊎ IsArrival event y k
+event_come bounds number group me (Tenant reserve) y k h = inl h
+event_come bounds number group me (Took b count) y k h = inl h
+event_come bounds number group me (Came from place) y k h = taken_come (version_at bounds.versions me.number) me.number from place (slice_get ((group from.number).put me.number) (place - 1)) (group me.number) y k h
+event_come bounds number group me (Acknowledged b place count) y k h = inl h
+event_come bounds number group me (Notice q) y k h = inl (ap (λ (come : ℕ → List ℕ). is_marked k (come y)) (sym (notice_come me.number q (held_spec (group me.number).phase (group me.number).spec) (group me.number))) ∙ h)
+event_come bounds number group me Stop y k h = inl h
+event_come bounds number group me event y k h = inl (ap (λ (come : ℕ → List ℕ). is_marked k (come y)) (sym (did_come me event (reply_to bounds number me.number event (group me.number)) (group me.number))) ∙ h)
 
-step_come : (nodes number : ℕ) (group : Group) (step : GroupStep) (b y k : ℕ) → is_marked k ((after nodes number group step b).come y) ≡ true → (is_marked k ((group b).come y) ≡ true) ⊎ ((b ≡ step.node.number) × IsArrival step.event y k)
+step_come : (bounds : Bounds) (number : ℕ) (group : Group) (step : GroupStep) (b y k : ℕ) → is_marked k ((after bounds number group step b).come y) ≡ true → (is_marked k ((group b).come y) ≡ true) ⊎ ((b ≡ step.node.number) × IsArrival step.event y k)
 unfolding after
-step_come nodes number group step b y k h = go (nat_eq b step.node.number) refl h
+step_come bounds number group step b y k h = go (nat_eq b step.node.number) refl h
   where
-    go : (t : Bool) → nat_eq b step.node.number ≡ t → is_marked k ((if t then member_after nodes number step.node step.event group else group b).come y) ≡ true → (is_marked k ((group b).come y) ≡ true) ⊎ ((b ≡ step.node.number) × IsArrival step.event y k)
-    go true is h = by (event_come nodes number group step.node step.event y k h)
+    go : (t : Bool) → nat_eq b step.node.number ≡ t → is_marked k ((if t then member_after bounds number step.node step.event group else group b).come y) ≡ true → (is_marked k ((group b).come y) ≡ true) ⊎ ((b ≡ step.node.number) × IsArrival step.event y k)
+    go true is h = by (event_come bounds number group step.node step.event y k h)
       where
         by : ((is_marked k ((group step.node.number).come y) ≡ true) ⊎ IsArrival step.event y k) → (is_marked k ((group b).come y) ≡ true) ⊎ ((b ≡ step.node.number) × IsArrival step.event y k)
         by (inl old) = inl (ap (λ z. is_marked k ((group z).come y)) (eqb-true b step.node.number is) ∙ old)
@@ -106,17 +110,17 @@ came_legal group me y place event new may =
     let h = subst (λ (e : GroupEvent). MayHappen me e group) new.is may in
     (h.1, subst (λ z. place ≤ (group z).taken me.number) (sym new.here) h.2)
 
-pub flow_after : (nodes number : ℕ) (group : Group) (step : GroupStep) → MayHappen step.node step.event group → Flow group → Flow (after nodes number group step)
-flow_after nodes number group step may flow = record {
-  fits = (step_fits nodes number group step flow.fits).0;
+pub flow_after : (bounds : Bounds) (number : ℕ) (group : Group) (step : GroupStep) → MayHappen step.node step.event group → Flow group → Flow (after bounds number group step)
+flow_after bounds number group step may flow = record {
+  fits = (step_fits bounds number group step flow.fits).0;
   bounded = λ a. (goes a).bounded;
-  come = λ a b place h. by a b place (step_come nodes number group step b a place h);
+  come = λ a b place h. by a b place (step_come bounds number group step b a place h);
 }
   where
-    goes : (x : ℕ) → Goes x (group x) (after nodes number group step x)
-    goes = all_goes nodes number group step may flow.bounded
+    goes : (x : ℕ) → Goes x (group x) (after bounds number group step x)
+    goes = all_goes bounds number group step may flow.bounded
 
-    by : (a b place : ℕ) → ((is_marked place ((group b).come a) ≡ true) ⊎ ((b ≡ step.node.number) × IsArrival step.event a place)) → (0 < place) × (place ≤ (after nodes number group step a).taken b)
+    by : (a b place : ℕ) → ((is_marked place ((group b).come a) ≡ true) ⊎ ((b ≡ step.node.number) × IsArrival step.event a place)) → (0 < place) × (place ≤ (after bounds number group step a).taken b)
     by a b place (inl old) = let was = flow.come a b place old in let some = was.0 in let few = was.1 in let more = (goes a).taken b in (some, omega (arith, few, more))
     by a b place (inr new) =
         let was = came_legal group step.node a place step.event new.1 may in
@@ -127,20 +131,20 @@ flow_after nodes number group step may flow = record {
 pub nobody_flows : Flow nobody
 nobody_flows = record { fits = nobody_fits; bounded = λ a b. omega arith; come = λ a b place h. absurd (cc) }
 
-pub run_flows : (nodes number : ℕ) (steps : List GroupStep) (group : Group) → IsLegalFrom nodes number group steps → Flow group → Flow (alone_from nodes number group steps)
-run_flows nodes number [] group legal flow = flow
-run_flows nodes number (step ∷ steps) group legal flow = run_flows nodes number steps (after nodes number group step) legal.1 (flow_after nodes number group step legal.0 flow)
+pub run_flows : (bounds : Bounds) (number : ℕ) (steps : List GroupStep) (group : Group) → IsLegalFrom bounds number group steps → Flow group → Flow (alone_from bounds number group steps)
+run_flows bounds number [] group legal flow = flow
+run_flows bounds number (step ∷ steps) group legal flow = run_flows bounds number steps (after bounds number group step) legal.1 (flow_after bounds number group step legal.0 flow)
 
 -- a group that was made stays so
-pub made_stays : (nodes number : ℕ) (steps : List GroupStep) (group : Group) → IsLegalFrom nodes number group steps → Flow group → (a : ℕ) (spec : Spec) → (group a).spec ≡ Some spec → (alone_from nodes number group steps a).spec ≡ Some spec
-made_stays nodes number [] group legal flow a spec made = made
-made_stays nodes number (step ∷ steps) group legal flow a spec made =
-    made_stays nodes number steps (after nodes number group step) legal.1 (flow_after nodes number group step legal.0 flow) a spec ((all_goes nodes number group step legal.0 flow.bounded a).spec spec made)
+pub made_stays : (bounds : Bounds) (number : ℕ) (steps : List GroupStep) (group : Group) → IsLegalFrom bounds number group steps → Flow group → (a : ℕ) (spec : Spec) → (group a).spec ≡ Some spec → (alone_from bounds number group steps a).spec ≡ Some spec
+made_stays bounds number [] group legal flow a spec made = made
+made_stays bounds number (step ∷ steps) group legal flow a spec made =
+    made_stays bounds number steps (after bounds number group step) legal.1 (flow_after bounds number group step legal.0 flow) a spec ((all_goes bounds number group step legal.0 flow.bounded a).spec spec made)
 
 -- a list is legal in both its parts
-pub legal_parts : (nodes number : ℕ) (early late : List GroupStep) (group : Group) → IsLegalFrom nodes number group (early ++ late) → IsLegalFrom nodes number group early × IsLegalFrom nodes number (alone_from nodes number group early) late
-legal_parts nodes number [] late group legal = (tt, legal)
-legal_parts nodes number (step ∷ early) late group legal = let rest = legal_parts nodes number early late (after nodes number group step) legal.1 in ((legal.0, rest.0), rest.1)
+pub legal_parts : (bounds : Bounds) (number : ℕ) (early late : List GroupStep) (group : Group) → IsLegalFrom bounds number group (early ++ late) → IsLegalFrom bounds number group early × IsLegalFrom bounds number (alone_from bounds number group early) late
+legal_parts bounds number [] late group legal = (tt, legal)
+legal_parts bounds number (step ∷ early) late group legal = let rest = legal_parts bounds number early late (after bounds number group step) legal.1 in ((legal.0, rest.0), rest.1)
 
 -- What came was taken in.
 
@@ -152,6 +156,10 @@ pub record Taking (spec : Spec) (group : Group) : Type 0 where
   pub made : (a : ℕ) → is_member spec a ≡ true → (group a).spec ≡ Some spec
   pub taken : (a b : ℕ) → is_member spec a ≡ true → is_member spec b ≡ true → nat_eq a b ≡ false → is_gone (group b).phase ≡ false → (place : ℕ) (x : Entry) → is_marked place ((group b).come a) ≡ true → slice_get ((group a).put b) (place - 1) ≡ Some x
       → came_from b (calls_of (group b).told) a (message_of x) ≡ true
+
+-- all members send one version
+abbrev pub SendAlike : Bounds → Spec → Version → Type 0
+SendAlike bounds spec version = (a : ℕ) → is_member spec a ≡ true → version_at bounds.versions a ≡ version
 
 -- the bytes of what is known of an origin and of a new message are at most what its spec lets it have
 new_bytes : (spec : Spec) (group : Group) (b : ℕ) (x : Entry) → AllFit group → IsSound group → (group x.origin.number).spec ≡ Some spec → IsAccepted (λ s. own_said (group s).told) x → was_said (calls_in group x.origin.number) (message_of x) ≡ true
@@ -176,11 +184,11 @@ new_bytes spec group b x fits sound made is said new =
         subst (λ s. In y (known (group s).told)) own
         (there y (of_in (IsAccepted said_by) (known (group b).told) y (sound b).known i) ((fits b).known (message_of y) (sym (has-known (group b).told (message_of y)) ∙ in_has (known (group b).told) y i)))
 
--- an item that comes is taken in, or was so before
-arrival : (spec : Spec) (group : Group) (from : NodeId) (b place : ℕ) (x : Entry) → AllFit group → IsSound group → Taking spec group → is_member spec from.number ≡ true → is_member spec b ≡ true → nat_eq from.number b ≡ false → is_gone (group b).phase ≡ false
-    → slice_get ((group from.number).put b) (place - 1) ≡ Some x → came_from b (calls_of (taken_in b from place (slice_get ((group from.number).put b) (place - 1)) (group b)).told) from.number (message_of x) ≡ true
+-- an item that comes and is not too long is taken in, or was so before
+arrival : (version : Version) (spec : Spec) (group : Group) (from : NodeId) (b place : ℕ) (x : Entry) → AllFit group → IsSound group → Taking spec group → is_member spec from.number ≡ true → is_member spec b ≡ true → nat_eq from.number b ≡ false → is_gone (group b).phase ≡ false
+    → slice_get ((group from.number).put b) (place - 1) ≡ Some x → is_too_long version x.payload ≡ false → came_from b (calls_of (taken_in version b from place (slice_get ((group from.number).put b) (place - 1)) (group b)).told) from.number (message_of x) ≡ true
 unfolding calls_of
-arrival spec group from b place x fits sound taking in_a in_b other here item = subst (λ (o : Option Entry). came_from b (calls_of (taken_in b from place o (group b)).told) from.number (message_of x) ≡ true) (sym item) handed
+arrival version spec group from b place x fits sound taking in_a in_b other here item short = subst (λ (o : Option Entry). came_from b (calls_of (taken_in version b from place o (group b)).told) from.number (message_of x) ≡ true) (sym item) handed
   where
     mentioned : mentions (calls_of (group from.number).told) (message_of x) ≡ true
     mentioned = (fits from.number).put_known b (message_of x) (has-get ((group from.number).put b) (place - 1) x item)
@@ -205,43 +213,50 @@ arrival spec group from b place x fits sound taking in_a in_b other here item = 
     held : held_spec (group b).phase (group b).spec ≡ Some spec
     held = ap (λ (gone : Bool). if gone then None else (group b).spec) here ∙ taking.made b in_b
 
-    handed : came_from b (calls_of (item_came b from x (group b)).told) from.number (message_of x) ≡ true
-    handed = subst (λ (o : Option Spec). came_from b (calls_of (if falls b from.number x (group b).told o then group b else called b (Other from x) (group b)).told) from.number (message_of x) ≡ true) (sym held) (by (falls_after spec b (group b).told from.number x) refl)
+    handed : came_from b (calls_of (item_came version b from x (group b)).told) from.number (message_of x) ≡ true
+    handed =
+        subst (λ (long : Bool). came_from b (calls_of (if long || falls b from.number x (group b).told (held_spec (group b).phase (group b).spec) then group b else called b (Other from x) (group b)).told) from.number (message_of x) ≡ true) (sym short)
+        (subst (λ (o : Option Spec). came_from b (calls_of (if falls b from.number x (group b).told o then group b else called b (Other from x) (group b)).told) from.number (message_of x) ≡ true) (sym held) (by (falls_after spec b (group b).told from.number x) refl))
 
-taking_after : (nodes number : ℕ) (spec : Spec) (group : Group) (step : GroupStep) → MayHappen step.node step.event group → Flow group → IsSound group → Taking spec group → Taking spec (after nodes number group step)
+taking_after : (bounds : Bounds) (number : ℕ) (spec : Spec) (version : Version) → SendAlike bounds spec version → (group : Group) (step : GroupStep) → MayHappen step.node step.event group → Flow group → IsSound group → AllShort bounds group → Taking spec group → Taking spec (after bounds number group step)
 unfolding after
-taking_after nodes number spec group step may flow sound taking = record {
+taking_after bounds number spec version alike group step may flow sound short taking = record {
   made = λ a in_a. (goes a).spec spec (taking.made a in_a);
-  taken = λ a b in_a in_b other here place x come item. by a b in_a in_b other here place x item (step_come nodes number group step b a place come);
+  taken = λ a b in_a in_b other here place x come item. by a b in_a in_b other here place x item (step_come bounds number group step b a place come);
 }
   where
-    goes : (x : ℕ) → Goes x (group x) (after nodes number group step x)
-    goes = all_goes nodes number group step may flow.bounded
+    goes : (x : ℕ) → Goes x (group x) (after bounds number group step x)
+    goes = all_goes bounds number group step may flow.bounded
+
+    -- what one member put out is not too long for another
+    brief : (a place : ℕ) (x : Entry) → is_member spec a ≡ true → is_member spec step.node.number ≡ true → slice_get ((group a).put step.node.number) (place - 1) ≡ Some x → is_too_long (version_at bounds.versions step.node.number) x.payload ≡ false
+    brief a place x in_a in_b item =
+        ap (λ v. is_too_long v x.payload) (alike step.node.number in_b ∙ sym (alike a in_a)) ∙ all_at (IsShort bounds a) ((group a).put step.node.number) (place - 1) x ((short a).put step.node.number) item
 
     -- a carried item stands where it stood
-    before : (a b place : ℕ) (x : Entry) → (0 < place) × (place ≤ (group a).taken b) → slice_get ((after nodes number group step a).put b) (place - 1) ≡ Some x → slice_get ((group a).put b) (place - 1) ≡ Some x
+    before : (a b place : ℕ) (x : Entry) → (0 < place) × (place ≤ (group a).taken b) → slice_get ((after bounds number group step a).put b) (place - 1) ≡ Some x → slice_get ((group a).put b) (place - 1) ≡ Some x
     before a b place x at item = let some = at.0 in let few = at.1 in sym ((goes a).stable b (place - 1) (omega (arith, some, few))) ∙ item
 
     new_one : (a b : ℕ) → is_member spec a ≡ true → is_member spec b ≡ true → nat_eq a b ≡ false → is_gone (group b).phase ≡ false → (place : ℕ) (x : Entry) → slice_get ((group a).put b) (place - 1) ≡ Some x → b ≡ step.node.number → IsArrival step.event a place
-        → came_from b (calls_of (after nodes number group step b).told) a (message_of x) ≡ true
+        → came_from b (calls_of (after bounds number group step b).told) a (message_of x) ≡ true
     new_one a b in_a in_b other here place x item there new =
-        subst (λ z. slice_get ((group a).put z) (place - 1) ≡ Some x → is_member spec z ≡ true → nat_eq a z ≡ false → is_gone (group z).phase ≡ false → came_from z (calls_of (after nodes number group step z).told) a (message_of x) ≡ true) (sym there) at_node item in_b other here
+        subst (λ z. slice_get ((group a).put z) (place - 1) ≡ Some x → is_member spec z ≡ true → nat_eq a z ≡ false → is_gone (group z).phase ≡ false → came_from z (calls_of (after bounds number group step z).told) a (message_of x) ≡ true) (sym there) at_node item in_b other here
       where
         from_node : slice_get ((group new.from.number).put step.node.number) (place - 1) ≡ Some x → is_member spec new.from.number ≡ true → is_member spec step.node.number ≡ true → nat_eq new.from.number step.node.number ≡ false → is_gone (group step.node.number).phase ≡ false
-            → came_from step.node.number (calls_of (member_after nodes number step.node step.event group).told) new.from.number (message_of x) ≡ true
+            → came_from step.node.number (calls_of (member_after bounds number step.node step.event group).told) new.from.number (message_of x) ≡ true
         from_node item in_a in_b other here =
-            subst (λ (e : GroupEvent). came_from step.node.number (calls_of (member_after nodes number step.node e group).told) new.from.number (message_of x) ≡ true) (sym new.is)
-            (arrival spec group new.from step.node.number place x flow.fits sound taking in_a in_b other here item)
+            subst (λ (e : GroupEvent). came_from step.node.number (calls_of (member_after bounds number step.node e group).told) new.from.number (message_of x) ≡ true) (sym new.is)
+            (arrival (version_at bounds.versions step.node.number) spec group new.from step.node.number place x flow.fits sound taking in_a in_b other here item (brief new.from.number place x in_a in_b item))
 
-        at_node : slice_get ((group a).put step.node.number) (place - 1) ≡ Some x → is_member spec step.node.number ≡ true → nat_eq a step.node.number ≡ false → is_gone (group step.node.number).phase ≡ false → came_from step.node.number (calls_of (after nodes number group step step.node.number).told) a (message_of x) ≡ true
+        at_node : slice_get ((group a).put step.node.number) (place - 1) ≡ Some x → is_member spec step.node.number ≡ true → nat_eq a step.node.number ≡ false → is_gone (group step.node.number).phase ≡ false → came_from step.node.number (calls_of (after bounds number group step step.node.number).told) a (message_of x) ≡ true
         at_node item in_b other here =
-            let done : came_from step.node.number (calls_of (member_after nodes number step.node step.event group).told) a (message_of x) ≡ true =
-            subst (λ z. slice_get ((group z).put step.node.number) (place - 1) ≡ Some x → is_member spec z ≡ true → nat_eq z step.node.number ≡ false → came_from step.node.number (calls_of (member_after nodes number step.node step.event group).told) z (message_of x) ≡ true) (sym new.here)
+            let done : came_from step.node.number (calls_of (member_after bounds number step.node step.event group).told) a (message_of x) ≡ true =
+            subst (λ z. slice_get ((group z).put step.node.number) (place - 1) ≡ Some x → is_member spec z ≡ true → nat_eq z step.node.number ≡ false → came_from step.node.number (calls_of (member_after bounds number step.node step.event group).told) z (message_of x) ≡ true) (sym new.here)
             (λ i ia o. from_node i ia in_b o here) item in_a other in
-            ap (λ (t : Bool). came_from step.node.number (calls_of (if t then member_after nodes number step.node step.event group else group step.node.number).told) a (message_of x)) (eq-eqb step.node.number step.node.number refl) ∙ done
+            ap (λ (t : Bool). came_from step.node.number (calls_of (if t then member_after bounds number step.node step.event group else group step.node.number).told) a (message_of x)) (eq-eqb step.node.number step.node.number refl) ∙ done
 
-    by : (a b : ℕ) → is_member spec a ≡ true → is_member spec b ≡ true → nat_eq a b ≡ false → is_gone (after nodes number group step b).phase ≡ false → (place : ℕ) (x : Entry) → slice_get ((after nodes number group step a).put b) (place - 1) ≡ Some x
-        → ((is_marked place ((group b).come a) ≡ true) ⊎ ((b ≡ step.node.number) × IsArrival step.event a place)) → came_from b (calls_of (after nodes number group step b).told) a (message_of x) ≡ true
+    by : (a b : ℕ) → is_member spec a ≡ true → is_member spec b ≡ true → nat_eq a b ≡ false → is_gone (after bounds number group step b).phase ≡ false → (place : ℕ) (x : Entry) → slice_get ((after bounds number group step a).put b) (place - 1) ≡ Some x
+        → ((is_marked place ((group b).come a) ≡ true) ⊎ ((b ≡ step.node.number) × IsArrival step.event a place)) → came_from b (calls_of (after bounds number group step b).told) a (message_of x) ≡ true
     by a b in_a in_b other here place x item (inl old) = (goes b).from a (message_of x) (taking.taken a b in_a in_b other ((goes b).here here) place x old (before a b place x (flow.come a b place old) item))
     by a b in_a in_b other here place x item (inr new) =
         let at = came_legal group step.node a place step.event new.1 may in
@@ -249,12 +264,12 @@ taking_after nodes number spec group step may flow sound taking = record {
         new_one a b in_a in_b other ((goes b).here here) place x (before a b place x (at.0, few) item) new.0 new.1
 
 -- so it stays, where the group is sound at every moment
-pub run_takes : (nodes number : ℕ) (spec : Spec) (steps : List GroupStep) (group : Group) → ((earlier later : List GroupStep) → steps ≡ earlier ++ later → IsSound (alone_from nodes number group earlier)) → IsLegalFrom nodes number group steps → Flow group → Taking spec group
-    → Taking spec (alone_from nodes number group steps)
-run_takes nodes number spec [] group sound legal flow taking = taking
-run_takes nodes number spec (step ∷ steps) group sound legal flow taking =
-    run_takes nodes number spec steps (after nodes number group step) (λ earlier later is. sound (step ∷ earlier) later (ap (λ rest. step ∷ rest) is)) legal.1 (flow_after nodes number group step legal.0 flow)
-    (taking_after nodes number spec group step legal.0 flow (sound [] (step ∷ steps) refl) taking)
+pub run_takes : (bounds : Bounds) (number : ℕ) (spec : Spec) (version : Version) → SendAlike bounds spec version → (steps : List GroupStep) (group : Group) → ((earlier later : List GroupStep) → steps ≡ earlier ++ later → IsSound (alone_from bounds number group earlier)) → IsLegalFrom bounds number group steps → Flow group → AllShort bounds group → Taking spec group
+    → Taking spec (alone_from bounds number group steps)
+run_takes bounds number spec version alike [] group sound legal flow short taking = taking
+run_takes bounds number spec version alike (step ∷ steps) group sound legal flow short taking =
+    run_takes bounds number spec version alike steps (after bounds number group step) (λ earlier later is. sound (step ∷ earlier) later (ap (λ rest. step ∷ rest) is)) legal.1 (flow_after bounds number group step legal.0 flow) (step_short bounds number group step short)
+    (taking_after bounds number spec version alike group step legal.0 flow (sound [] (step ∷ steps) refl) short taking)
 
 -- where nothing was said yet nothing was put out
 pub first_taking : (spec : Spec) (group : Group) → AllFit group → ((a : ℕ) → is_member spec a ≡ true → (group a).spec ≡ Some spec) → ((a : ℕ) (m : MsgId) → was_said (calls_in group a) m ≡ true → ⊥) → Taking spec group

@@ -3,6 +3,7 @@ mod ReplyLemmas
 mod BytesLemmas
 mod InvariantLemmas
 mod StepLemmas
+mod ShortLemmas
 mod LogLemmas
 pub mod DutyLemmas
 mod MoveLemmas

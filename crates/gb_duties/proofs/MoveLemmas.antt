@@ -1,16 +1,19 @@
 -- What an event that may happen leaves of its node.
-use Rattle.std.proofs.Common.{◌≡◌, ℕ, zero, suc, ◌+◌, ◌-◌, ◌<◌, ◌≤◌, Bool, true, false, not, ◌&&◌, nat_eq, take, List, [], ◌∷◌, ◌++◌, length, Option, Some, None, refl, sym, ◌∙◌, subst, arith, length-append}
+use Rattle.std.proofs.Common.{◌≡◌, ℕ, zero, suc, ◌+◌, ◌-◌, ◌<◌, ◌≤◌, Bool, true, false, not, ◌&&◌, ◌||◌, nat_eq, take, List, [], ◌∷◌, ◌++◌, length, Option, Some, None, refl, sym, ◌∙◌, subst, arith, length-append}
 use Rattle.std.specs.Prelude.{slice_get, if◌then◌else◌}
 use Rattle.std.proofs.lemmas.Bool.{eqb-true}
 use Rattle.std.proofs.lemmas.List.{length-take-le}
 use Rattle.gb_types.specs.declared.entry.Entry.{Entry}
 use Rattle.gb_types.specs.declared.message.MsgId.{MsgId}
 use Rattle.gb_types.specs.declared.node.NodeId.{NodeId}
+use Rattle.gb_types.specs.declared.plan.Bounds.{Bounds}
 use Rattle.gb_types.specs.declared.reply.Reply.{Reply}
 use Rattle.gb_types.specs.declared.reply.Reply.TheVariants.{Done, Said}
 use Rattle.gb_types.specs.declared.spec.Spec.{Spec}
+use Rattle.gb_types.specs.declared.version.Version.{Version}
+use Rattle.gb_types.specs.Version.{version_at}
 use Rattle.gb_layer.specs.Machine.{was_noticed, came_from}
-use Rattle.gb_rules.specs.Group.{is_gone, is_other}
+use Rattle.gb_rules.specs.Group.{is_gone, is_other, is_too_long}
 use Rattle.gb_history.specs.History.{call_of, calls_of, puts_of}
 use Rattle.gb_history.specs.declared.call.GroupCall.{GroupCall}
 use Rattle.gb_history.specs.declared.call.GroupCall.TheVariants.{Own, Other, Crashed}
@@ -95,17 +98,17 @@ cut_moves a q m n goes = record {
     few b true = let e = length-take-le (n.taken b) (n.put b) (goes.bounded b) in omega (arith, e)
     few b false = goes.bounded b
 
-item_moves : (a : ℕ) (from : NodeId) (x : Entry) (m : Member) → Bounded m → Goes a m (item_came a from x m)
-item_moves a from x m bounded = by (falls a from.number x m.told (held_spec m.phase m.spec))
+item_moves : (version : Version) (a : ℕ) (from : NodeId) (x : Entry) (m : Member) → Bounded m → Goes a m (item_came version a from x m)
+item_moves version a from x m bounded = by (is_too_long version x.payload || falls a from.number x m.told (held_spec m.phase m.spec))
   where
     by : (t : Bool) → Goes a m (if t then m else called a (Other from x) m)
     by true = stays a m bounded
     by false = called_moves a (Other from x) m m (stays a m bounded)
 
-taken_moves : (a : ℕ) (from : NodeId) (place : ℕ) (o : Option Entry) (m : Member) → Bounded m → Goes a m (taken_in a from place o m)
-taken_moves a from place None m bounded = stays a m bounded
-taken_moves a from place (Some x) m bounded =
-    let g = item_moves a from x m bounded in
+taken_moves : (version : Version) (a : ℕ) (from : NodeId) (place : ℕ) (o : Option Entry) (m : Member) → Bounded m → Goes a m (taken_in version a from place o m)
+taken_moves version a from place None m bounded = stays a m bounded
+taken_moves version a from place (Some x) m bounded =
+    let g = item_moves version a from x m bounded in
     record { spec = g.spec; here = g.here; from = g.from; stable = g.stable; taken = g.taken; bounded = g.bounded }
 
 notice_moves : (a : ℕ) (q : NodeId) (o : Option Spec) (m : Member) → Bounded m → Goes a m (took_notice a q o m)
@@ -116,16 +119,16 @@ notice_moves a q (Some spec) m bounded = by (is_other spec a q.number)
     by true = called_moves a (Crashed q) m (cut q m) (cut_moves a q m m (stays a m bounded))
     by false = stays a m bounded
 
-did_moves : (nodes number : ℕ) (me : NodeId) (event : GroupEvent) (reply : Reply) (m : Member) → reply_to nodes number me.number event m ≡ reply → Bounded m → Goes me.number m (did me event reply m)
-did_moves nodes number me (AskMake spec) Done m e bounded =
-    let new = (make_accepts nodes number me.number spec m e).new in
+did_moves : (bounds : Bounds) (number : ℕ) (me : NodeId) (event : GroupEvent) (reply : Reply) (m : Member) → reply_to bounds number me.number event m ≡ reply → Bounded m → Goes me.number m (did me event reply m)
+did_moves bounds number me (AskMake spec) Done m e bounded =
+    let new = (make_accepts bounds number me.number spec m e).new in
     record { spec = λ s is. absurd (other s (sym new ∙ is)); here = λ h. h; from = λ p x h. h; stable = λ b i lt. refl; taken = λ b. omega arith; bounded = bounded }
   where
     other : (s : Spec) → None ≡ Some s → ⊥
     other s h = absurd (cc)
-did_moves nodes number me AskOpen Done m e bounded = record { spec = λ s is. is; here = λ h. open_accepts nodes number me.number m e; from = λ p x h. h; stable = λ b i lt. refl; taken = λ b. omega arith; bounded = bounded }
-did_moves nodes number me AskShut Done m e bounded = record { spec = λ s is. is; here = λ h. shut_accepts nodes number me.number m e; from = λ p x h. h; stable = λ b i lt. refl; taken = λ b. omega arith; bounded = bounded }
-did_moves nodes number me AskDrop Done m e bounded = record {
+did_moves bounds number me AskOpen Done m e bounded = record { spec = λ s is. is; here = λ h. open_accepts bounds number me.number m e; from = λ p x h. h; stable = λ b i lt. refl; taken = λ b. omega arith; bounded = bounded }
+did_moves bounds number me AskShut Done m e bounded = record { spec = λ s is. is; here = λ h. shut_accepts bounds number me.number m e; from = λ p x h. h; stable = λ b i lt. refl; taken = λ b. omega arith; bounded = bounded }
+did_moves bounds number me AskDrop Done m e bounded = record {
   spec = λ s is. is;
   here = λ h. absurd (cc);
   from = λ p x h. h;
@@ -133,8 +136,8 @@ did_moves nodes number me AskDrop Done m e bounded = record {
   taken = λ b. omega arith;
   bounded = λ b. let few = length-take-le (m.taken b) (m.put b) (bounded b) in omega (arith, few);
 }
-did_moves nodes number me (AskSay payload) (Said seq) m e bounded = called_moves me.number (Own (record { origin = me; seq = seq; payload = payload })) m m (stays me.number m bounded)
-did_moves nodes number me event reply m e bounded = stays me.number m bounded
+did_moves bounds number me (AskSay payload) (Said seq) m e bounded = called_moves me.number (Own (record { origin = me; seq = seq; payload = payload })) m m (stays me.number m bounded)
+did_moves bounds number me event reply m e bounded = stays me.number m bounded
 
 took_moves : (a : ℕ) (b : NodeId) (count : ℕ) (m : Member) → m.taken b.number + count ≤ length (m.put b.number) → Bounded m → Goes a m (record m { taken = λ x. if nat_eq x b.number then m.taken x + count else m.taken x })
 took_moves a b count m room bounded = record { spec = λ s is. is; here = λ h. h; from = λ p x h. h; stable = λ y i lt. refl; taken = λ y. more y (nat_eq y b.number); bounded = λ y. few y (nat_eq y b.number) refl }
@@ -147,15 +150,15 @@ took_moves a b count m room bounded = record { spec = λ s is. is; here = λ h. 
     few y true is = subst (λ z. m.taken z + count ≤ length (m.put z)) (sym (eqb-true y b.number is)) room
     few y false is = bounded y
 
-pub event_moves : (nodes number : ℕ) (group : Group) (me : NodeId) (event : GroupEvent) → MayHappen me event group → Bounded (group me.number) → Goes me.number (group me.number) (member_after nodes number me event group)
-event_moves nodes number group me (Tenant reserve) may bounded = record { spec = λ s is. is; here = λ h. h; from = λ p x h. h; stable = λ b i lt. refl; taken = λ b. omega arith; bounded = bounded }
-event_moves nodes number group me (Took b count) may bounded = took_moves me.number b count (group me.number) may.2 bounded
-event_moves nodes number group me (Came from place) may bounded = taken_moves me.number from place (slice_get ((group from.number).put me.number) (place - 1)) (group me.number) bounded
-event_moves nodes number group me (Acknowledged b place count) may bounded = record { spec = λ s is. is; here = λ h. h; from = λ p x h. h; stable = λ b i lt. refl; taken = λ b. omega arith; bounded = bounded }
-event_moves nodes number group me (Notice q) may bounded =
+pub event_moves : (bounds : Bounds) (number : ℕ) (group : Group) (me : NodeId) (event : GroupEvent) → MayHappen me event group → Bounded (group me.number) → Goes me.number (group me.number) (member_after bounds number me event group)
+event_moves bounds number group me (Tenant reserve) may bounded = record { spec = λ s is. is; here = λ h. h; from = λ p x h. h; stable = λ b i lt. refl; taken = λ b. omega arith; bounded = bounded }
+event_moves bounds number group me (Took b count) may bounded = took_moves me.number b count (group me.number) may.2 bounded
+event_moves bounds number group me (Came from place) may bounded = taken_moves (version_at bounds.versions me.number) me.number from place (slice_get ((group from.number).put me.number) (place - 1)) (group me.number) bounded
+event_moves bounds number group me (Acknowledged b place count) may bounded = record { spec = λ s is. is; here = λ h. h; from = λ p x h. h; stable = λ b i lt. refl; taken = λ b. omega arith; bounded = bounded }
+event_moves bounds number group me (Notice q) may bounded =
     let g = notice_moves me.number q (held_spec (group me.number).phase (group me.number).spec) (group me.number) bounded in
     record { spec = g.spec; here = g.here; from = g.from; stable = g.stable; taken = g.taken; bounded = g.bounded }
-event_moves nodes number group me Stop may bounded = record { spec = λ s is. is; here = λ h. h; from = λ p x h. h; stable = λ b i lt. refl; taken = λ b. omega arith; bounded = bounded }
-event_moves nodes number group me event may bounded =
-    let g = did_moves nodes number me event (reply_to nodes number me.number event (group me.number)) (group me.number) refl bounded in
+event_moves bounds number group me Stop may bounded = record { spec = λ s is. is; here = λ h. h; from = λ p x h. h; stable = λ b i lt. refl; taken = λ b. omega arith; bounded = bounded }
+event_moves bounds number group me event may bounded =
+    let g = did_moves bounds number me event (reply_to bounds number me.number event (group me.number)) (group me.number) refl bounded in
     record { spec = g.spec; here = g.here; from = g.from; stable = g.stable; taken = g.taken; bounded = g.bounded }

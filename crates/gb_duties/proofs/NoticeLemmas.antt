@@ -4,12 +4,15 @@ use Rattle.std.specs.Prelude.{slice_get, is_some, if◌then◌else◌}
 use Rattle.std.proofs.lemmas.Bool.{eqb-true}
 use Rattle.gb_types.specs.declared.entry.Entry.{Entry}
 use Rattle.gb_types.specs.declared.node.NodeId.{NodeId}
+use Rattle.gb_types.specs.declared.plan.Bounds.{Bounds}
 use Rattle.gb_types.specs.declared.reply.Reply.{Reply}
 use Rattle.gb_types.specs.declared.reply.Reply.TheVariants.{Done, Said}
 use Rattle.gb_types.specs.declared.spec.Spec.{Spec}
+use Rattle.gb_types.specs.declared.version.Version.{Version}
+use Rattle.gb_types.specs.Version.{version_at}
 use Rattle.gb_types.proofs.BoolLemmas.{or_cases, or_first, or_second}
 use Rattle.gb_layer.specs.Machine.{was_noticed}
-use Rattle.gb_rules.specs.Group.{is_gone, is_other}
+use Rattle.gb_rules.specs.Group.{is_gone, is_other, is_too_long}
 use Rattle.gb_history.specs.History.{calls_of}
 use Rattle.gb_history.specs.declared.call.GroupCall.TheVariants.{Other, Crashed}
 use Rattle.gb_alone.specs.Alone.{Member, Group, held_spec, reply_to, called, did, falls, taken_in, cut, took_notice, node_noticed, member_after, after, nobody, alone_from, is_marked}
@@ -31,25 +34,25 @@ abbrev pub IsDue : GroupEvent → Member → Type 0
 IsDue (Notice q) m = is_some m.spec ≡ true
 IsDue event m = Unit {0}
 
-did_marked : (nodes number : ℕ) (me : NodeId) (event : GroupEvent) (reply : Reply) (m : Member) → reply_to nodes number me.number event m ≡ reply → Marked me.number m → Marked me.number (did me event reply m)
+did_marked : (bounds : Bounds) (number : ℕ) (me : NodeId) (event : GroupEvent) (reply : Reply) (m : Member) → reply_to bounds number me.number event m ≡ reply → Marked me.number m → Marked me.number (did me event reply m)
 unfolding calls_of
-did_marked nodes number me (AskMake spec) Done m e old = record {
+did_marked bounds number me (AskMake spec) Done m e old = record {
   told = old.told;
   unmade = λ is. absurd (cc);
   here = λ still s is q other marked.
-      let none = ap (is_marked q) (old.unmade (make_accepts nodes number me.number spec m e).new) in
+      let none = ap (is_marked q) (old.unmade (make_accepts bounds number me.number spec m e).new) in
       absurd (cc);
 }
-did_marked nodes number me AskOpen Done m e old = record { told = old.told; unmade = old.unmade; here = λ still. old.here (open_accepts nodes number me.number m e) }
-did_marked nodes number me AskShut Done m e old = record { told = old.told; unmade = old.unmade; here = λ still. old.here (shut_accepts nodes number me.number m e) }
-did_marked nodes number me AskDrop Done m e old = record { told = old.told; unmade = old.unmade; here = λ still. absurd (cc) }
-did_marked nodes number me (AskSay payload) (Said seq) m e old = record { told = old.told; unmade = old.unmade; here = old.here }
-did_marked nodes number me event reply m e old = old
+did_marked bounds number me AskOpen Done m e old = record { told = old.told; unmade = old.unmade; here = λ still. old.here (open_accepts bounds number me.number m e) }
+did_marked bounds number me AskShut Done m e old = record { told = old.told; unmade = old.unmade; here = λ still. old.here (shut_accepts bounds number me.number m e) }
+did_marked bounds number me AskDrop Done m e old = record { told = old.told; unmade = old.unmade; here = λ still. absurd (cc) }
+did_marked bounds number me (AskSay payload) (Said seq) m e old = record { told = old.told; unmade = old.unmade; here = old.here }
+did_marked bounds number me event reply m e old = old
 
-taken_marked : (a : ℕ) (from : NodeId) (place : ℕ) (o : Option Entry) (m : Member) → Marked a m → Marked a (taken_in a from place o m)
+taken_marked : (version : Version) (a : ℕ) (from : NodeId) (place : ℕ) (o : Option Entry) (m : Member) → Marked a m → Marked a (taken_in version a from place o m)
 unfolding calls_of
-taken_marked a from place None m old = old
-taken_marked a from place (Some x) m old = by (falls a from.number x m.told (held_spec m.phase m.spec))
+taken_marked version a from place None m old = old
+taken_marked version a from place (Some x) m old = by (is_too_long version x.payload || falls a from.number x m.told (held_spec m.phase m.spec))
   where
     by : (t : Bool) → Marked a (let next = (if t then m else called a (Other from x) m) in record next { come = λ b. if nat_eq b from.number then place ∷ m.come b else m.come b })
     by true = record { told = old.told; unmade = old.unmade; here = old.here }
@@ -101,36 +104,36 @@ notice_marked a q m due old = by (is_gone m.phase) refl m.spec refl
     by false here None is = absurd (made is)
     by false here (Some spec) is = joined spec is here (is_other spec a q.number) refl
 
-event_marked : (nodes number : ℕ) (me : NodeId) (event : GroupEvent) (group : Group) → IsDue event (group me.number) → Marked me.number (group me.number) → Marked me.number (member_after nodes number me event group)
-event_marked nodes number me (Tenant reserve) group due old = record { told = old.told; unmade = old.unmade; here = old.here }
-event_marked nodes number me (Took b count) group due old = record { told = old.told; unmade = old.unmade; here = old.here }
-event_marked nodes number me (Came from place) group due old = taken_marked me.number from place (slice_get ((group from.number).put me.number) (place - 1)) (group me.number) old
-event_marked nodes number me (Acknowledged b place count) group due old = record { told = old.told; unmade = old.unmade; here = old.here }
-event_marked nodes number me (Notice q) group due old = notice_marked me.number q (group me.number) due old
-event_marked nodes number me Stop group due old = record { told = old.told; unmade = old.unmade; here = old.here }
-event_marked nodes number me event group due old =
-    let next = did_marked nodes number me event (reply_to nodes number me.number event (group me.number)) (group me.number) refl old in
+event_marked : (bounds : Bounds) (number : ℕ) (me : NodeId) (event : GroupEvent) (group : Group) → IsDue event (group me.number) → Marked me.number (group me.number) → Marked me.number (member_after bounds number me event group)
+event_marked bounds number me (Tenant reserve) group due old = record { told = old.told; unmade = old.unmade; here = old.here }
+event_marked bounds number me (Took b count) group due old = record { told = old.told; unmade = old.unmade; here = old.here }
+event_marked bounds number me (Came from place) group due old = taken_marked (version_at bounds.versions me.number) me.number from place (slice_get ((group from.number).put me.number) (place - 1)) (group me.number) old
+event_marked bounds number me (Acknowledged b place count) group due old = record { told = old.told; unmade = old.unmade; here = old.here }
+event_marked bounds number me (Notice q) group due old = notice_marked me.number q (group me.number) due old
+event_marked bounds number me Stop group due old = record { told = old.told; unmade = old.unmade; here = old.here }
+event_marked bounds number me event group due old =
+    let next = did_marked bounds number me event (reply_to bounds number me.number event (group me.number)) (group me.number) refl old in
     record { told = next.told; unmade = next.unmade; here = next.here }
 
 abbrev pub AllMarked : Group → Type 0
 AllMarked group = (a : ℕ) → Marked a (group a)
 
-step_marked : (nodes number : ℕ) (group : Group) (step : GroupStep) → IsDue step.event (group step.node.number) → AllMarked group → AllMarked (after nodes number group step)
+step_marked : (bounds : Bounds) (number : ℕ) (group : Group) (step : GroupStep) → IsDue step.event (group step.node.number) → AllMarked group → AllMarked (after bounds number group step)
 unfolding after
-step_marked nodes number group step due all a = go (nat_eq a step.node.number) refl
+step_marked bounds number group step due all a = go (nat_eq a step.node.number) refl
   where
-    go : (t : Bool) → nat_eq a step.node.number ≡ t → Marked a (if t then member_after nodes number step.node step.event group else group a)
-    go true is = subst (λ y. Marked y (member_after nodes number step.node step.event group)) (sym (eqb-true a step.node.number is)) (event_marked nodes number step.node step.event group due (all step.node.number))
+    go : (t : Bool) → nat_eq a step.node.number ≡ t → Marked a (if t then member_after bounds number step.node step.event group else group a)
+    go true is = subst (λ y. Marked y (member_after bounds number step.node step.event group)) (sym (eqb-true a step.node.number is)) (event_marked bounds number step.node step.event group due (all step.node.number))
     go false is = all a
 
 -- so each notice of these events
-abbrev pub AreDue : ℕ → ℕ → Group → List GroupStep → Type 0
-AreDue nodes number group [] = Unit {0}
-AreDue nodes number group (step ∷ steps) = IsDue step.event (group step.node.number) × AreDue nodes number (after nodes number group step) steps
+abbrev pub AreDue : Bounds → ℕ → Group → List GroupStep → Type 0
+AreDue bounds number group [] = Unit {0}
+AreDue bounds number group (step ∷ steps) = IsDue step.event (group step.node.number) × AreDue bounds number (after bounds number group step) steps
 
-pub run_marked : (nodes number : ℕ) (steps : List GroupStep) (group : Group) → AreDue nodes number group steps → AllMarked group → AllMarked (alone_from nodes number group steps)
-run_marked nodes number [] group due all = all
-run_marked nodes number (step ∷ steps) group due all = run_marked nodes number steps (after nodes number group step) due.1 (step_marked nodes number group step due.0 all)
+pub run_marked : (bounds : Bounds) (number : ℕ) (steps : List GroupStep) (group : Group) → AreDue bounds number group steps → AllMarked group → AllMarked (alone_from bounds number group steps)
+run_marked bounds number [] group due all = all
+run_marked bounds number (step ∷ steps) group due all = run_marked bounds number steps (after bounds number group step) due.1 (step_marked bounds number group step due.0 all)
 
 pub nobody_marked : AllMarked nobody
 unfolding calls_of

@@ -5,15 +5,17 @@ use Rattle.std.proofs.lemmas.Bool.{eqb-true}
 use Rattle.std.proofs.lemmas.Bool.Decides.{nat_tests}
 use Rattle.gb_types.specs.Entry.{message_of}
 use Rattle.gb_types.specs.declared.entry.Entry.{Entry}
-use Rattle.gb_types.specs.declared.limits.TheConstants.{PAYLOAD}
 use Rattle.gb_types.specs.declared.message.MsgId.{MsgId}
 use Rattle.gb_types.specs.declared.refusal.Refusal.TheVariants.{NoGroup, Spent, BadMembers, OverReserve, TooLong, Budget, Bytes, Window, Stopped}
 use Rattle.gb_types.specs.declared.reply.Reply.{Reply}
 use Rattle.gb_types.specs.declared.reply.Reply.TheVariants.{Done, Said, Refused}
+use Rattle.gb_types.specs.declared.plan.Bounds.{Bounds}
 use Rattle.gb_types.specs.declared.spec.Spec.{Spec}
+use Rattle.gb_types.specs.declared.version.Version.{Version}
+use Rattle.gb_types.specs.Version.{version_at}
 use Rattle.gb_types.proofs.BoolLemmas.{not_false, or_left, or_right}
 use Rattle.gb_history.specs.History.{said_in, bytes_in, log_of}
-use Rattle.gb_rules.specs.Group.{Shown, is_gone, open_answer, shut_answer, say_answer, is_member, on_made}
+use Rattle.gb_rules.specs.Group.{Shown, is_gone, open_answer, shut_answer, is_too_long, say_answer, is_member, on_made}
 use Rattle.gb_rules.specs.LetFall.{is_let_fall}
 use Rattle.gb_rules.specs.Tenant.{is_bad, is_over, make_answer, by_tenant}
 use Rattle.gb_rules.specs.declared.phase.Phase.{Phase}
@@ -43,57 +45,58 @@ awake answer me m = by m.reserve m.spec
     by (Some reserve) None h = absurd (cc)
     by (Some reserve) (Some spec) h = present (shown_in me m.phase m.told m.put m.done spec) (is_gone m.phase) h
 
-pub open_accepts : (nodes number me : ℕ) (m : Member) → reply_to nodes number me AskOpen m ≡ Done → is_gone m.phase ≡ false
-open_accepts nodes number me m = running m.stopped
+pub open_accepts : (bounds : Bounds) (number me : ℕ) (m : Member) → reply_to bounds number me AskOpen m ≡ Done → is_gone m.phase ≡ false
+open_accepts bounds number me m = running m.stopped
   where
     running : (stopped : Bool) → (if stopped then Refused Stopped else on_group open_answer me m) ≡ Done → is_gone m.phase ≡ false
     running true h = absurd (cc)
     running false h = awake open_answer me m h
 
-pub shut_accepts : (nodes number me : ℕ) (m : Member) → reply_to nodes number me AskShut m ≡ Done → is_gone m.phase ≡ false
-shut_accepts nodes number me m = running m.stopped
+pub shut_accepts : (bounds : Bounds) (number me : ℕ) (m : Member) → reply_to bounds number me AskShut m ≡ Done → is_gone m.phase ≡ false
+shut_accepts bounds number me m = running m.stopped
   where
     running : (stopped : Bool) → (if stopped then Refused Stopped else on_group shut_answer me m) ≡ Done → is_gone m.phase ≡ false
     running true h = absurd (cc)
     running false h = awake shut_answer me m h
 
 -- a say is accepted
-pub record Accepts (me : ℕ) (payload : List ℕ) (m : Member) (seq : ℕ) : Type 0 where
+pub record Accepts (version : Version) (me : ℕ) (payload : List ℕ) (m : Member) (seq : ℕ) : Type 0 where
   pub spec : Spec
   pub made : m.spec ≡ Some spec
   pub next : seq ≡ said_in m.told + 1
   pub within : said_in m.told < spec.msgs
   pub light : bytes_in m.told me + length payload ≤ spec.bytes
+  pub short : is_too_long version payload ≡ false
 
-pub say_accepts : (nodes number me : ℕ) (payload : List ℕ) (seq : ℕ) (m : Member) → reply_to nodes number me (AskSay payload) m ≡ Said seq → Accepts me payload m seq
-say_accepts nodes number me payload seq m = running m.stopped
+pub say_accepts : (bounds : Bounds) (number me : ℕ) (payload : List ℕ) (seq : ℕ) (m : Member) → reply_to bounds number me (AskSay payload) m ≡ Said seq → Accepts (version_at bounds.versions me) me payload m seq
+say_accepts bounds number me payload seq m = running m.stopped
   where
-    admitted : (spec : Spec) → m.spec ≡ Some spec → (long many heavy full : Bool) → nat_le spec.msgs (said_in m.told) ≡ many → nat_lt spec.bytes (bytes_in m.told me + length payload) ≡ heavy
-        → (if long then Refused TooLong else (if many then Refused Budget else (if heavy then Refused Bytes else (if full then Refused Window else Said (said_in m.told + 1))))) ≡ Said seq → Accepts me payload m seq
-    admitted spec made true many heavy full e f h = absurd (cc)
-    admitted spec made false true heavy full e f h = absurd (cc)
-    admitted spec made false false true full e f h = absurd (cc)
-    admitted spec made false false false true e f h = absurd (cc)
-    admitted spec made false false false false e f h = record { spec = spec; made = made; next = cc; within = grind (arith, nat_tests, e); light = grind (arith, nat_tests, f) }
+    admitted : (spec : Spec) → m.spec ≡ Some spec → (long many heavy full : Bool) → is_too_long (version_at bounds.versions me) payload ≡ long → nat_le spec.msgs (said_in m.told) ≡ many → nat_lt spec.bytes (bytes_in m.told me + length payload) ≡ heavy
+        → (if long then Refused TooLong else (if many then Refused Budget else (if heavy then Refused Bytes else (if full then Refused Window else Said (said_in m.told + 1))))) ≡ Said seq → Accepts (version_at bounds.versions me) me payload m seq
+    admitted spec made true many heavy full d e f h = absurd (cc)
+    admitted spec made false true heavy full d e f h = absurd (cc)
+    admitted spec made false false true full d e f h = absurd (cc)
+    admitted spec made false false false true d e f h = absurd (cc)
+    admitted spec made false false false false d e f h = record { spec = spec; made = made; next = cc; within = grind (arith, nat_tests, e); light = grind (arith, nat_tests, f); short = d }
 
-    answered : (spec : Spec) → m.spec ≡ Some spec → (phase : Phase) → say_answer (record { spec = spec; phase = phase; usage = usage_of spec me m.told m.put m.done; log = log_of spec me m.told }) payload ≡ Said seq → Accepts me payload m seq
+    answered : (spec : Spec) → m.spec ≡ Some spec → (phase : Phase) → say_answer (version_at bounds.versions me) (record { spec = spec; phase = phase; usage = usage_of spec me m.told m.put m.done; log = log_of spec me m.told }) payload ≡ Said seq → Accepts (version_at bounds.versions me) me payload m seq
     answered spec made Made h = absurd (cc)
     answered spec made Shut h = absurd (cc)
     answered spec made Gone h = absurd (cc)
     answered spec made Opened h =
-        admitted spec made (nat_lt PAYLOAD (length payload)) (nat_le spec.msgs (said_in m.told)) (nat_lt spec.bytes (bytes_in m.told me + length payload))
-        (nat_le spec.window (usage_of spec me m.told m.put m.done).unfinished) refl refl h
+        admitted spec made (is_too_long (version_at bounds.versions me) payload) (nat_le spec.msgs (said_in m.told)) (nat_lt spec.bytes (bytes_in m.told me + length payload))
+        (nat_le spec.window (usage_of spec me m.told m.put m.done).unfinished) refl refl refl h
 
-    present : (spec : Spec) → m.spec ≡ Some spec → (gone : Bool) → (if gone then Refused Spent else say_answer (shown_in me m.phase m.told m.put m.done spec) payload) ≡ Said seq → Accepts me payload m seq
+    present : (spec : Spec) → m.spec ≡ Some spec → (gone : Bool) → (if gone then Refused Spent else say_answer (version_at bounds.versions me) (shown_in me m.phase m.told m.put m.done spec) payload) ≡ Said seq → Accepts (version_at bounds.versions me) me payload m seq
     present spec made true h = absurd (cc)
     present spec made false h = answered spec made m.phase h
 
-    by : (reserve : Option Reserve) (o : Option Spec) → m.spec ≡ o → by_tenant (λ _. on_made (λ s. say_answer s payload) (shown_of me m.phase m.told m.put m.done o)) reserve ≡ Said seq → Accepts me payload m seq
+    by : (reserve : Option Reserve) (o : Option Spec) → m.spec ≡ o → by_tenant (λ _. on_made (λ s. say_answer (version_at bounds.versions me) s payload) (shown_of me m.phase m.told m.put m.done o)) reserve ≡ Said seq → Accepts (version_at bounds.versions me) me payload m seq
     by None o is h = absurd (cc)
     by (Some reserve) None is h = absurd (cc)
     by (Some reserve) (Some spec) is h = present spec is (is_gone m.phase) h
 
-    running : (stopped : Bool) → (if stopped then Refused Stopped else by_tenant (λ _. on_made (λ s. say_answer s payload) (shown_of me m.phase m.told m.put m.done m.spec)) m.reserve) ≡ Said seq → Accepts me payload m seq
+    running : (stopped : Bool) → (if stopped then Refused Stopped else by_tenant (λ _. on_made (λ s. say_answer (version_at bounds.versions me) s payload) (shown_of me m.phase m.told m.put m.done m.spec)) m.reserve) ≡ Said seq → Accepts (version_at bounds.versions me) me payload m seq
     running true h = absurd (cc)
     running false h = by m.reserve m.spec refl h
 
@@ -102,25 +105,25 @@ pub record Makes (me : ℕ) (spec : Spec) (m : Member) : Type 0 where
   pub new : m.spec ≡ None
   pub inside : is_member spec me ≡ true
 
-pub make_accepts : (nodes number me : ℕ) (spec : Spec) (m : Member) → reply_to nodes number me (AskMake spec) m ≡ Done → Makes me spec m
-make_accepts nodes number me spec m = running m.stopped
+pub make_accepts : (bounds : Bounds) (number me : ℕ) (spec : Spec) (m : Member) → reply_to bounds number me (AskMake spec) m ≡ Done → Makes me spec m
+make_accepts bounds number me spec m = running m.stopped
   where
     unmade : (o : Option Spec) → is_some o ≡ false → o ≡ None
     unmade None e = refl
     unmade (Some s) e = absurd (cc)
 
-    admitted : (a b c d : Bool) → is_some m.spec ≡ b → is_bad nodes me spec ≡ c → (if a then Refused NoGroup else (if b then Refused Spent else (if c then Refused BadMembers else (if d then Refused OverReserve else Done)))) ≡ Done → Makes me spec m
+    admitted : (a b c d : Bool) → is_some m.spec ≡ b → is_bad bounds.nodes me spec ≡ c → (if a then Refused NoGroup else (if b then Refused Spent else (if c then Refused BadMembers else (if d then Refused OverReserve else Done)))) ≡ Done → Makes me spec m
     admitted true b c d new good h = absurd (cc)
     admitted false true c d new good h = absurd (cc)
     admitted false false true d new good h = absurd (cc)
     admitted false false false true new good h = absurd (cc)
     admitted false false false false new good h = record { new = unmade m.spec new; inside = not_false (is_member spec me) (or_left (not (is_member spec me)) _ good) }
 
-    by : (reserve : Option Reserve) → by_tenant (make_answer nodes me number (is_some m.spec) spec) reserve ≡ Done → Makes me spec m
+    by : (reserve : Option Reserve) → by_tenant (make_answer bounds.nodes me number (is_some m.spec) spec) reserve ≡ Done → Makes me spec m
     by None h = absurd (cc)
-    by (Some reserve) h = admitted (nat_le reserve.groups number) (is_some m.spec) (is_bad nodes me spec) (is_over reserve spec) refl refl h
+    by (Some reserve) h = admitted (nat_le reserve.groups number) (is_some m.spec) (is_bad bounds.nodes me spec) (is_over reserve spec) refl refl h
 
-    running : (stopped : Bool) → (if stopped then Refused Stopped else by_tenant (make_answer nodes me number (is_some m.spec) spec) m.reserve) ≡ Done → Makes me spec m
+    running : (stopped : Bool) → (if stopped then Refused Stopped else by_tenant (make_answer bounds.nodes me number (is_some m.spec) spec) m.reserve) ≡ Done → Makes me spec m
     running true h = absurd (cc)
     running false h = by m.reserve h
 

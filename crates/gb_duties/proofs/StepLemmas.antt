@@ -6,9 +6,12 @@ use Rattle.gb_types.specs.Entry.{message_of}
 use Rattle.gb_types.specs.declared.entry.Entry.{Entry}
 use Rattle.gb_types.specs.declared.message.MsgId.{MsgId}
 use Rattle.gb_types.specs.declared.node.NodeId.{NodeId}
+use Rattle.gb_types.specs.declared.plan.Bounds.{Bounds}
 use Rattle.gb_types.specs.declared.reply.Reply.{Reply}
 use Rattle.gb_types.specs.declared.reply.Reply.TheVariants.{Done, Said}
 use Rattle.gb_types.specs.declared.spec.Spec.{Spec}
+use Rattle.gb_types.specs.declared.version.Version.{Version}
+use Rattle.gb_types.specs.Version.{version_at}
 use Rattle.gb_types.proofs.BoolLemmas.{or_left, or_right, refuted}
 use Rattle.gb_layer.specs.Histories.{mentions_stays}
 use Rattle.gb_layer.specs.Machine.{mentions, was_said, was_noticed}
@@ -17,7 +20,7 @@ use Rattle.gb_layer.specs.declared.broadcast_module.BroadcastModule.{BroadcastMo
 use Rattle.gb_layer.specs.declared.call.Call.{Call}
 use Rattle.gb_stack.specs.Kinds.{module_of}
 use Rattle.gb_stack.proofs.DeliveryLemmas.{noticed_stays}
-use Rattle.gb_rules.specs.Group.{is_gone, is_member, is_other}
+use Rattle.gb_rules.specs.Group.{is_gone, is_member, is_other, is_too_long}
 use Rattle.gb_rules.specs.declared.phase.Phase.{Phase}
 use Rattle.gb_rules.specs.declared.phase.Phase.TheVariants.{Opened, Shut}
 use Rattle.gb_rules.proofs.LetFallLemmas.{not_fallen}
@@ -77,8 +80,8 @@ called_result group a c spec made all brings = record {
     before : (b : ℕ) → was_noticed (call_of c ∷ calls_of (group a).told) b ≡ false → was_noticed (calls_of (group a).told) b ≡ false
     before b unnoticed = refuted (was_noticed (calls_of (group a).told) b) (λ h. let e = noticed_stays (call_of c) (calls_of (group a).told) b h in absurd (cc))
 
-item_result : (group : Group) (a : ℕ) (from : NodeId) (x : Entry) → has ((group from.number).put a) (message_of x) ≡ true → AllFit group → Result group a (item_came a from x (group a))
-item_result group a from x there all = by (falls a from.number x (group a).told (held_spec (group a).phase (group a).spec)) refl
+item_result : (version : Version) (group : Group) (a : ℕ) (from : NodeId) (x : Entry) → has ((group from.number).put a) (message_of x) ≡ true → AllFit group → Result group a (item_came version a from x (group a))
+item_result version group a from x there all = long (is_too_long version x.payload)
   where
     taken : (o : Option Spec) → held_spec (group a).phase (group a).spec ≡ o → falls a from.number x (group a).told o ≡ false → Result group a (called a (Other from x) (group a))
     taken None is e = absurd (cc)
@@ -95,10 +98,14 @@ item_result group a from x there all = by (falls a from.number x (group a).told 
     by true e = kept group a (group a) all refl (λ calls fits. fits)
     by false e = taken (held_spec (group a).phase (group a).spec) refl e
 
-taken_result : (group : Group) (a : ℕ) (from : NodeId) (place : ℕ) (o : Option Entry) → slice_get ((group from.number).put a) (place - 1) ≡ o → AllFit group → Result group a (taken_in a from place o (group a))
-taken_result group a from place None is all = kept group a (group a) all refl (λ calls fits. fits)
-taken_result group a from place (Some x) is all =
-    let r = item_result group a from x (has-get ((group from.number).put a) (place - 1) x is) all in
+    long : (t : Bool) → Result group a (if t || falls a from.number x (group a).told (held_spec (group a).phase (group a).spec) then group a else called a (Other from x) (group a))
+    long true = kept group a (group a) all refl (λ calls fits. fits)
+    long false = by (falls a from.number x (group a).told (held_spec (group a).phase (group a).spec)) refl
+
+taken_result : (version : Version) (group : Group) (a : ℕ) (from : NodeId) (place : ℕ) (o : Option Entry) → slice_get ((group from.number).put a) (place - 1) ≡ o → AllFit group → Result group a (taken_in version a from place o (group a))
+taken_result version group a from place None is all = kept group a (group a) all refl (λ calls fits. fits)
+taken_result version group a from place (Some x) is all =
+    let r = item_result version group a from x (has-get ((group from.number).put a) (place - 1) x is) all in
     record { mentioned = r.mentioned; said = r.said; fits = r.fits }
 
 -- a member is noticed
@@ -188,56 +195,56 @@ dropped_fits calls a m fits = record {
   owes = λ here. absurd (cc);
 }
 
-did_result : (nodes number : ℕ) (group : Group) (me : NodeId) (event : GroupEvent) (reply : Reply) → reply_to nodes number me.number event (group me.number) ≡ reply → AllFit group → Result group me.number (did me event reply (group me.number))
-did_result nodes number group me (AskMake spec) Done e all =
-    kept group me.number (record (group me.number) { spec = Some spec }) all refl (λ calls fits. made_fits calls me.number spec (group me.number) (make_accepts nodes number me.number spec (group me.number) e) fits)
-did_result nodes number group me AskOpen Done e all = kept group me.number (did me AskOpen Done (group me.number)) all refl (λ calls fits. in_phase calls me.number Opened (group me.number) (open_accepts nodes number me.number (group me.number) e) fits)
-did_result nodes number group me AskShut Done e all = kept group me.number (did me AskShut Done (group me.number)) all refl (λ calls fits. in_phase calls me.number Shut (group me.number) (shut_accepts nodes number me.number (group me.number) e) fits)
-did_result nodes number group me AskDrop Done e all = kept group me.number (dropped (group me.number)) all refl (λ calls fits. dropped_fits calls me.number (group me.number) fits)
-did_result nodes number group me (AskSay payload) (Said seq) e all =
-    let ok = say_accepts nodes number me.number payload seq (group me.number) e in
+did_result : (bounds : Bounds) (number : ℕ) (group : Group) (me : NodeId) (event : GroupEvent) (reply : Reply) → reply_to bounds number me.number event (group me.number) ≡ reply → AllFit group → Result group me.number (did me event reply (group me.number))
+did_result bounds number group me (AskMake spec) Done e all =
+    kept group me.number (record (group me.number) { spec = Some spec }) all refl (λ calls fits. made_fits calls me.number spec (group me.number) (make_accepts bounds number me.number spec (group me.number) e) fits)
+did_result bounds number group me AskOpen Done e all = kept group me.number (did me AskOpen Done (group me.number)) all refl (λ calls fits. in_phase calls me.number Opened (group me.number) (open_accepts bounds number me.number (group me.number) e) fits)
+did_result bounds number group me AskShut Done e all = kept group me.number (did me AskShut Done (group me.number)) all refl (λ calls fits. in_phase calls me.number Shut (group me.number) (shut_accepts bounds number me.number (group me.number) e) fits)
+did_result bounds number group me AskDrop Done e all = kept group me.number (dropped (group me.number)) all refl (λ calls fits. dropped_fits calls me.number (group me.number) fits)
+did_result bounds number group me (AskSay payload) (Said seq) e all =
+    let ok = say_accepts bounds number me.number payload seq (group me.number) e in
     called_result group me.number (Own (record { origin = me; seq = seq; payload = payload })) ok.spec ok.made all (λ calls later. (refl, ok.next, ok.within, ok.light))
-did_result nodes number group me event reply e all = kept group me.number (group me.number) all refl (λ calls fits. fits)
+did_result bounds number group me event reply e all = kept group me.number (group me.number) all refl (λ calls fits. fits)
 
-commanded_result : (nodes number : ℕ) (group : Group) (me : NodeId) (event : GroupEvent) → AllFit group → Result group me.number (commanded me event (reply_to nodes number me.number event (group me.number)) (group me.number))
-commanded_result nodes number group me event all =
-    let r = did_result nodes number group me event (reply_to nodes number me.number event (group me.number)) refl all in
+commanded_result : (bounds : Bounds) (number : ℕ) (group : Group) (me : NodeId) (event : GroupEvent) → AllFit group → Result group me.number (commanded me event (reply_to bounds number me.number event (group me.number)) (group me.number))
+commanded_result bounds number group me event all =
+    let r = did_result bounds number group me event (reply_to bounds number me.number event (group me.number)) refl all in
     record { mentioned = r.mentioned; said = r.said; fits = r.fits }
 
-pub event_result : (nodes number : ℕ) (group : Group) (me : NodeId) (event : GroupEvent) → AllFit group → Result group me.number (member_after nodes number me event group)
-event_result nodes number group me (Tenant reserve) all = kept group me.number (member_after nodes number me (Tenant reserve) group) all refl (λ calls fits. fits)
-event_result nodes number group me (Took b count) all = kept group me.number (member_after nodes number me (Took b count) group) all refl (λ calls fits. fits)
-event_result nodes number group me (Came from place) all = taken_result group me.number from place (slice_get ((group from.number).put me.number) (place - 1)) refl all
-event_result nodes number group me (Acknowledged b place count) all = kept group me.number (member_after nodes number me (Acknowledged b place count) group) all refl (λ calls fits. fits)
-event_result nodes number group me (Notice q) all = notice_result group me.number q all
-event_result nodes number group me Stop all = kept group me.number (member_after nodes number me Stop group) all refl (λ calls fits. fits)
-event_result nodes number group me event all = commanded_result nodes number group me event all
+pub event_result : (bounds : Bounds) (number : ℕ) (group : Group) (me : NodeId) (event : GroupEvent) → AllFit group → Result group me.number (member_after bounds number me event group)
+event_result bounds number group me (Tenant reserve) all = kept group me.number (member_after bounds number me (Tenant reserve) group) all refl (λ calls fits. fits)
+event_result bounds number group me (Took b count) all = kept group me.number (member_after bounds number me (Took b count) group) all refl (λ calls fits. fits)
+event_result bounds number group me (Came from place) all = taken_result (version_at bounds.versions me.number) group me.number from place (slice_get ((group from.number).put me.number) (place - 1)) refl all
+event_result bounds number group me (Acknowledged b place count) all = kept group me.number (member_after bounds number me (Acknowledged b place count) group) all refl (λ calls fits. fits)
+event_result bounds number group me (Notice q) all = notice_result group me.number q all
+event_result bounds number group me Stop all = kept group me.number (member_after bounds number me Stop group) all refl (λ calls fits. fits)
+event_result bounds number group me event all = commanded_result bounds number group me event all
 
 -- every node keeps it through every event, and was told the same and more
-pub step_fits : (nodes number : ℕ) (group : Group) (step : GroupStep) → AllFit group → AllFit (after nodes number group step) × Later (calls_in group) (calls_in (after nodes number group step))
+pub step_fits : (bounds : Bounds) (number : ℕ) (group : Group) (step : GroupStep) → AllFit group → AllFit (after bounds number group step) × Later (calls_in group) (calls_in (after bounds number group step))
 unfolding after
-step_fits nodes number group step all = (λ x. at x (nat_eq x step.node.number) refl, later)
+step_fits bounds number group step all = (λ x. at x (nat_eq x step.node.number) refl, later)
   where
-    r : Result group step.node.number (member_after nodes number step.node step.event group)
-    r = event_result nodes number group step.node step.event all
+    r : Result group step.node.number (member_after bounds number step.node step.event group)
+    r = event_result bounds number group step.node step.event all
 
-    mentioned : (x : ℕ) (t : Bool) → nat_eq x step.node.number ≡ t → (m : MsgId) → mentions (calls_of (group x).told) m ≡ true → mentions (calls_of (if t then member_after nodes number step.node step.event group else group x).told) m ≡ true
+    mentioned : (x : ℕ) (t : Bool) → nat_eq x step.node.number ≡ t → (m : MsgId) → mentions (calls_of (group x).told) m ≡ true → mentions (calls_of (if t then member_after bounds number step.node step.event group else group x).told) m ≡ true
     mentioned x true is m h = r.mentioned m (ap (λ y. mentions (calls_of (group y).told) m) (sym (eqb-true x step.node.number is)) ∙ h)
     mentioned x false is m h = h
 
-    said : (x : ℕ) (t : Bool) → nat_eq x step.node.number ≡ t → (m : MsgId) → was_said (calls_of (group x).told) m ≡ true → was_said (calls_of (if t then member_after nodes number step.node step.event group else group x).told) m ≡ true
+    said : (x : ℕ) (t : Bool) → nat_eq x step.node.number ≡ t → (m : MsgId) → was_said (calls_of (group x).told) m ≡ true → was_said (calls_of (if t then member_after bounds number step.node step.event group else group x).told) m ≡ true
     said x true is m h = r.said m (ap (λ y. was_said (calls_of (group y).told) m) (sym (eqb-true x step.node.number is)) ∙ h)
     said x false is m h = h
 
-    later : Later (calls_in group) (calls_in (after nodes number group step))
+    later : Later (calls_in group) (calls_in (after bounds number group step))
     later = record { mentioned = λ x. mentioned x (nat_eq x step.node.number) refl; said = λ x. said x (nat_eq x step.node.number) refl }
 
-    here : calls_in (after nodes number group step) step.node.number ≡ calls_of (member_after nodes number step.node step.event group).told
-    here = ap (λ (t : Bool). calls_of (if t then member_after nodes number step.node step.event group else group step.node.number).told) (eq-eqb step.node.number step.node.number refl)
+    here : calls_in (after bounds number group step) step.node.number ≡ calls_of (member_after bounds number step.node step.event group).told
+    here = ap (λ (t : Bool). calls_of (if t then member_after bounds number step.node step.event group else group step.node.number).told) (eq-eqb step.node.number step.node.number refl)
 
-    at : (x : ℕ) (t : Bool) → nat_eq x step.node.number ≡ t → FitsAt (calls_in (after nodes number group step)) x (if t then member_after nodes number step.node step.event group else group x)
-    at x true is = subst (λ y. FitsAt (calls_in (after nodes number group step)) y (member_after nodes number step.node step.event group)) (sym (eqb-true x step.node.number is)) (r.fits (calls_in (after nodes number group step)) later here)
-    at x false is = fits_later (calls_in group) (calls_in (after nodes number group step)) later x (is_gone (group x).phase) (group x).spec (group x).told (group x).put (all x)
+    at : (x : ℕ) (t : Bool) → nat_eq x step.node.number ≡ t → FitsAt (calls_in (after bounds number group step)) x (if t then member_after bounds number step.node step.event group else group x)
+    at x true is = subst (λ y. FitsAt (calls_in (after bounds number group step)) y (member_after bounds number step.node step.event group)) (sym (eqb-true x step.node.number is)) (r.fits (calls_in (after bounds number group step)) later here)
+    at x false is = fits_later (calls_in group) (calls_in (after bounds number group step)) later x (is_gone (group x).phase) (group x).spec (group x).told (group x).put (all x)
 
 pub nobody_fits : AllFit nobody
 unfolding calls_of said_in
@@ -254,9 +261,9 @@ nobody_fits a = record {
   owes = λ here s is b other unnoticed m out. absurd (cc);
 }
 
-pub run_fits : (nodes number : ℕ) (steps : List GroupStep) (group : Group) → AllFit group → AllFit (alone_from nodes number group steps)
-run_fits nodes number [] group all = all
-run_fits nodes number (step ∷ steps) group all = run_fits nodes number steps (after nodes number group step) (step_fits nodes number group step all).0
+pub run_fits : (bounds : Bounds) (number : ℕ) (steps : List GroupStep) (group : Group) → AllFit group → AllFit (alone_from bounds number group steps)
+run_fits bounds number [] group all = all
+run_fits bounds number (step ∷ steps) group all = run_fits bounds number steps (after bounds number group step) (step_fits bounds number group step all).0
 
-pub alone_fits : (nodes number : ℕ) (steps : List GroupStep) → AllFit (alone nodes number steps)
-alone_fits nodes number steps = run_fits nodes number steps nobody nobody_fits
+pub alone_fits : (bounds : Bounds) (number : ℕ) (steps : List GroupStep) → AllFit (alone bounds number steps)
+alone_fits bounds number steps = run_fits bounds number steps nobody nobody_fits

@@ -5,6 +5,7 @@ use Rattle.std.specs.Prelude.{ℕ, ◌≡◌, ◌⊎◌, Bool, true, false, List
 use Rattle.std.specs.FinSet as set
 use Rattle.gb_types.specs.declared.entry.Entry.{Entry}
 use Rattle.gb_types.specs.declared.message.MsgId.{MsgId}
+use Rattle.gb_types.specs.declared.plan.Bounds.{Bounds}
 use Rattle.gb_types.specs.declared.spec.Spec.{Spec}
 use Rattle.gb_types.specs.Places.{has_majority}
 use Rattle.gb_layer.specs.Machine.{mentions, was_noticed}
@@ -69,15 +70,15 @@ pub record Duties (group : Group) : Type 0 where
 
 -- after every event of a legal list each node has done its duties
 abbrev pub IsDutiful : Type 0
-IsDutiful = (nodes number : ℕ) (steps : List GroupStep) → IsLegal nodes number steps → Duties (alone nodes number steps)
+IsDutiful = (bounds : Bounds) (number : ℕ) (steps : List GroupStep) → IsLegal bounds number steps → Duties (alone bounds number steps)
 
 -- What stands in a log.
 
 -- what is delivered at a node that made the group is of a member
 abbrev pub DeliveredAreOfMembers : Type 0
-DeliveredAreOfMembers = (nodes number : ℕ) (steps : List GroupStep) (b : ℕ) (spec : Spec) → (alone nodes number steps b).spec ≡ Some spec → (m : MsgId) → delivered_at spec b (alone nodes number steps b) m ≡ true → is_member spec m.origin.number ≡ true
+DeliveredAreOfMembers = (bounds : Bounds) (number : ℕ) (steps : List GroupStep) (b : ℕ) (spec : Spec) → (alone bounds number steps b).spec ≡ Some spec → (m : MsgId) → delivered_at spec b (alone bounds number steps b) m ≡ true → is_member spec m.origin.number ≡ true
 
 -- what stands in a log is delivered there, and the group was not dropped
 abbrev pub LoggedAreDelivered : Type 0
-LoggedAreDelivered = (nodes number : ℕ) (steps : List GroupStep) (b : ℕ) (spec : Spec) → (alone nodes number steps b).spec ≡ Some spec → (m : MsgId) → logged_at b (alone nodes number steps b) m ≡ true
-    → (is_gone (alone nodes number steps b).phase ≡ false) × (delivered_at spec b (alone nodes number steps b) m ≡ true)
+LoggedAreDelivered = (bounds : Bounds) (number : ℕ) (steps : List GroupStep) (b : ℕ) (spec : Spec) → (alone bounds number steps b).spec ≡ Some spec → (m : MsgId) → logged_at b (alone bounds number steps b) m ≡ true
+    → (is_gone (alone bounds number steps b).phase ≡ false) × (delivered_at spec b (alone bounds number steps b) m ≡ true)

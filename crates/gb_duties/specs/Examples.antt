@@ -1,4 +1,4 @@
--- The group of the worked examples: the members 0, 1 and 2, of which node 0 says one message.
+-- The group of the worked examples: the members 0, 1 and 2, all the nodes of a cluster, of which node 0 says one message.
 use Rattle.std.specs.Prelude.{ℕ, Bool, not, nat_eq, List, [], ◌∷◌, ◌++◌}
 use Rattle.std.specs.Ordering.{nat_cmp}
 use Rattle.std.specs.FinSet as set
@@ -6,7 +6,9 @@ use Rattle.std.proofs.Common.{lit<}
 use Rattle.gb_types.specs.declared.entry.Entry.{Entry}
 use Rattle.gb_types.specs.declared.kind.Kind.{Kind}
 use Rattle.gb_types.specs.declared.node.NodeId.{NodeId}
+use Rattle.gb_types.specs.declared.plan.Bounds.{Bounds}
 use Rattle.gb_types.specs.declared.spec.Spec.{Spec}
+use Rattle.gb_types.specs.declared.version.Version.TheVariants.{One}
 use Rattle.gb_alone.specs.Alone.{alone}
 use Rattle.gb_alone.specs.Laws.{log_of_member}
 use Rattle.gb_alone.specs.declared.event.GroupEvent.{GroupEvent}
@@ -24,6 +26,10 @@ third = record { number = 2; below = lit< tt }
 
 abbrev pub members : set.FinSet nat_cmp
 members = set.from_list (0 ∷ 1 ∷ 2 ∷ [])
+
+-- three nodes, which all send version 1
+abbrev pub bounds : Bounds
+bounds = record { nodes = 3; versions = One ∷ One ∷ One ∷ [] }
 
 abbrev pub spec_of : Kind → Spec
 spec_of kind = record { kind = kind; members = members; msgs = 8; bytes = 64; window = 4 }
@@ -77,7 +83,7 @@ runs a = not (nat_eq a 0)
 
 -- of a group of the kind after these steps: what stands in the log of a node, and what it has put out to another
 abbrev pub log_in : Kind → List GroupStep → ℕ → List Entry
-log_in kind steps b = log_of_member b (alone 3 0 (opened kind ++ steps) b)
+log_in kind steps b = log_of_member b (alone bounds 0 (opened kind ++ steps) b)
 
 abbrev pub put_in : Kind → List GroupStep → ℕ → ℕ → List Entry
-put_in kind steps b c = (alone 3 0 (opened kind ++ steps) b).put c
+put_in kind steps b c = (alone bounds 0 (opened kind ++ steps) b).put c

@@ -10,7 +10,8 @@ use gb_stack::stands::module_logs;
 /// it; a lazy one so where the message is its own or of an origin that it noticed; a best-effort one where it is its own.
 /// At an all-ack node the member is noticed, or has said the message or taken it in, whether or not it dropped the group
 /// since. At a majority-ack node more than half of the members have said the message or taken it in. What is delivered at
-/// a node is of a member of the group, and what stands in a log is delivered.
+/// a node is of a member of the group, and what stands in a log is delivered. All this holds whichever versions of the
+/// packet text the nodes send.
 pub fn duties()
     ensures dutiful { IsDutiful }
     ensures members { DeliveredAreOfMembers }
@@ -23,7 +24,8 @@ pub fn duties()
 /// Agreement: where a group is settled, whichever nodes are taken as those that run, the logs of the running members
 /// hold each message that was accepted at a running member and, but for best effort, the same messages; with all-ack and
 /// majority-ack also each message in the log of a member that stopped. With majority-ack all this holds where more than
-/// half of the members run.
+/// half of the members run. The members of a settled group all send one version of the packet text: with unlike ones a
+/// member lets fall what is too long for it.
 pub fn agreement()
     ensures { IsAgreed }
 {
