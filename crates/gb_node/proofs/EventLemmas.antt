@@ -49,13 +49,14 @@ pub record IsNoOp (key : List ℕ) (e : NodeEvent) (a : NodeAnswer) : Type 0 whe
   pub no_stop : stops e a ≡ false
 
 -- then the links stay
-pub still_moved : (key : List ℕ) (e : NodeEvent) (a : NodeAnswer) (v w : NodeValue) → IsStill key e a → w.key ≡ v.key → w.table.me ≡ v.table.me → w.table.nodes ≡ v.table.nodes → w.table.places ≡ v.table.places → w.table.admin_key ≡ v.table.admin_key
+pub still_moved : (key : List ℕ) (e : NodeEvent) (a : NodeAnswer) (v w : NodeValue) → IsStill key e a → w.key ≡ v.key → w.table.me ≡ v.table.me → w.table.nodes ≡ v.table.nodes → w.table.version ≡ v.table.version → w.table.places ≡ v.table.places → w.table.admin_key ≡ v.table.admin_key
     → w.stopped ≡ (stops e a || v.stopped) → w.watch ≡ replay v.watch (ticks e a) → w.table.tenants ≡ v.table.tenants ++ added e a → w.windows ≡ v.windows → w.receivers ≡ v.receivers → Moved key e a v w
 unfolding numbered
-still_moved key e a v w still key_is me nodes places admin_key stopped watch tenants windows receivers = record {
+still_moved key e a v w still key_is me nodes version places admin_key stopped watch tenants windows receivers = record {
   key_is = key_is;
   me = me;
   nodes = nodes;
+  version = version;
   places = places;
   admin_key = admin_key;
   stopped = stopped;
@@ -71,7 +72,7 @@ still_moved key e a v w still key_is me nodes places admin_key stopped watch ten
 
 pub no_op_moved : (key : List ℕ) (e : NodeEvent) (a : NodeAnswer) (v : NodeValue) → IsNoOp key e a → Moved key e a v v
 no_op_moved key e a v no_op =
-    still_moved key e a v v no_op.still refl refl refl refl refl (ap (λ t. t || v.stopped) (sym no_op.no_stop)) (ap (replay v.watch) (sym no_op.no_tick)) (sym (append-nil v.table.tenants) ∙ ap (λ rows. v.table.tenants ++ rows) (sym no_op.none_added)) refl refl
+    still_moved key e a v v no_op.still refl refl refl refl refl refl (ap (λ t. t || v.stopped) (sym no_op.no_stop)) (ap (replay v.watch) (sym no_op.no_tick)) (sym (append-nil v.table.tenants) ∙ ap (λ rows. v.table.tenants ++ rows) (sym no_op.none_added)) refl refl
 
 -- a refused request adds no tenant
 pub added_refused : (r : Request) (why : Refusal) → added (Asked r) (Replied (Refused why)) ≡ []
@@ -209,47 +210,48 @@ did_tenants noticed (Fetch token addr from most) (Said seq) t = sym (append-nil 
 did_tenants noticed (Fetch token addr from most) (Log entries) t = sym (append-nil t.tenants)
 did_tenants noticed (Fetch token addr from most) (Refused why) t = sym (append-nil t.tenants)
 
--- tables of the same node, with the same cluster, places and administrator
-record SameTable (t u : TableValue) : Type 0 where
-  me : u.me ≡ t.me
-  nodes : u.nodes ≡ t.nodes
+-- tables of the same node, with the same cluster, version, places and administrator
+pub record SameTable (t u : TableValue) : Type 0 where
+  pub me : u.me ≡ t.me
+  pub nodes : u.nodes ≡ t.nodes
+  pub version : u.version ≡ t.version
   places : u.places ≡ t.places
   admin_key : u.admin_key ≡ t.admin_key
 
-did_same : (noticed : set.FinSet nat_cmp) (r : Request) (reply : Reply) (t : TableValue) → SameTable t (table_did noticed r reply t)
-did_same noticed (AddTenant token row) Done t = record { me = refl; nodes = refl; places = refl; admin_key = refl }
-did_same noticed (AddTenant token row) (Said seq) t = record { me = refl; nodes = refl; places = refl; admin_key = refl }
-did_same noticed (AddTenant token row) (Log entries) t = record { me = refl; nodes = refl; places = refl; admin_key = refl }
-did_same noticed (AddTenant token row) (Refused why) t = record { me = refl; nodes = refl; places = refl; admin_key = refl }
-did_same noticed (Make token addr spec) Done t = record { me = refl; nodes = refl; places = refl; admin_key = refl }
-did_same noticed (Make token addr spec) (Said seq) t = record { me = refl; nodes = refl; places = refl; admin_key = refl }
-did_same noticed (Make token addr spec) (Log entries) t = record { me = refl; nodes = refl; places = refl; admin_key = refl }
-did_same noticed (Make token addr spec) (Refused why) t = record { me = refl; nodes = refl; places = refl; admin_key = refl }
-did_same noticed (OpenGroup token addr) Done t = record { me = refl; nodes = refl; places = refl; admin_key = refl }
-did_same noticed (OpenGroup token addr) (Said seq) t = record { me = refl; nodes = refl; places = refl; admin_key = refl }
-did_same noticed (OpenGroup token addr) (Log entries) t = record { me = refl; nodes = refl; places = refl; admin_key = refl }
-did_same noticed (OpenGroup token addr) (Refused why) t = record { me = refl; nodes = refl; places = refl; admin_key = refl }
-did_same noticed (ShutGroup token addr) Done t = record { me = refl; nodes = refl; places = refl; admin_key = refl }
-did_same noticed (ShutGroup token addr) (Said seq) t = record { me = refl; nodes = refl; places = refl; admin_key = refl }
-did_same noticed (ShutGroup token addr) (Log entries) t = record { me = refl; nodes = refl; places = refl; admin_key = refl }
-did_same noticed (ShutGroup token addr) (Refused why) t = record { me = refl; nodes = refl; places = refl; admin_key = refl }
-did_same noticed (DropGroup token addr) Done t = record { me = refl; nodes = refl; places = refl; admin_key = refl }
-did_same noticed (DropGroup token addr) (Said seq) t = record { me = refl; nodes = refl; places = refl; admin_key = refl }
-did_same noticed (DropGroup token addr) (Log entries) t = record { me = refl; nodes = refl; places = refl; admin_key = refl }
-did_same noticed (DropGroup token addr) (Refused why) t = record { me = refl; nodes = refl; places = refl; admin_key = refl }
-did_same noticed (Say token addr payload) Done t = record { me = refl; nodes = refl; places = refl; admin_key = refl }
-did_same noticed (Say token addr payload) (Said seq) t = record { me = refl; nodes = refl; places = refl; admin_key = refl }
-did_same noticed (Say token addr payload) (Log entries) t = record { me = refl; nodes = refl; places = refl; admin_key = refl }
-did_same noticed (Say token addr payload) (Refused why) t = record { me = refl; nodes = refl; places = refl; admin_key = refl }
-did_same noticed (Fetch token addr from most) Done t = record { me = refl; nodes = refl; places = refl; admin_key = refl }
-did_same noticed (Fetch token addr from most) (Said seq) t = record { me = refl; nodes = refl; places = refl; admin_key = refl }
-did_same noticed (Fetch token addr from most) (Log entries) t = record { me = refl; nodes = refl; places = refl; admin_key = refl }
-did_same noticed (Fetch token addr from most) (Refused why) t = record { me = refl; nodes = refl; places = refl; admin_key = refl }
+pub did_same : (noticed : set.FinSet nat_cmp) (r : Request) (reply : Reply) (t : TableValue) → SameTable t (table_did noticed r reply t)
+did_same noticed (AddTenant token row) Done t = record { me = refl; nodes = refl; version = refl; places = refl; admin_key = refl }
+did_same noticed (AddTenant token row) (Said seq) t = record { me = refl; nodes = refl; version = refl; places = refl; admin_key = refl }
+did_same noticed (AddTenant token row) (Log entries) t = record { me = refl; nodes = refl; version = refl; places = refl; admin_key = refl }
+did_same noticed (AddTenant token row) (Refused why) t = record { me = refl; nodes = refl; version = refl; places = refl; admin_key = refl }
+did_same noticed (Make token addr spec) Done t = record { me = refl; nodes = refl; version = refl; places = refl; admin_key = refl }
+did_same noticed (Make token addr spec) (Said seq) t = record { me = refl; nodes = refl; version = refl; places = refl; admin_key = refl }
+did_same noticed (Make token addr spec) (Log entries) t = record { me = refl; nodes = refl; version = refl; places = refl; admin_key = refl }
+did_same noticed (Make token addr spec) (Refused why) t = record { me = refl; nodes = refl; version = refl; places = refl; admin_key = refl }
+did_same noticed (OpenGroup token addr) Done t = record { me = refl; nodes = refl; version = refl; places = refl; admin_key = refl }
+did_same noticed (OpenGroup token addr) (Said seq) t = record { me = refl; nodes = refl; version = refl; places = refl; admin_key = refl }
+did_same noticed (OpenGroup token addr) (Log entries) t = record { me = refl; nodes = refl; version = refl; places = refl; admin_key = refl }
+did_same noticed (OpenGroup token addr) (Refused why) t = record { me = refl; nodes = refl; version = refl; places = refl; admin_key = refl }
+did_same noticed (ShutGroup token addr) Done t = record { me = refl; nodes = refl; version = refl; places = refl; admin_key = refl }
+did_same noticed (ShutGroup token addr) (Said seq) t = record { me = refl; nodes = refl; version = refl; places = refl; admin_key = refl }
+did_same noticed (ShutGroup token addr) (Log entries) t = record { me = refl; nodes = refl; version = refl; places = refl; admin_key = refl }
+did_same noticed (ShutGroup token addr) (Refused why) t = record { me = refl; nodes = refl; version = refl; places = refl; admin_key = refl }
+did_same noticed (DropGroup token addr) Done t = record { me = refl; nodes = refl; version = refl; places = refl; admin_key = refl }
+did_same noticed (DropGroup token addr) (Said seq) t = record { me = refl; nodes = refl; version = refl; places = refl; admin_key = refl }
+did_same noticed (DropGroup token addr) (Log entries) t = record { me = refl; nodes = refl; version = refl; places = refl; admin_key = refl }
+did_same noticed (DropGroup token addr) (Refused why) t = record { me = refl; nodes = refl; version = refl; places = refl; admin_key = refl }
+did_same noticed (Say token addr payload) Done t = record { me = refl; nodes = refl; version = refl; places = refl; admin_key = refl }
+did_same noticed (Say token addr payload) (Said seq) t = record { me = refl; nodes = refl; version = refl; places = refl; admin_key = refl }
+did_same noticed (Say token addr payload) (Log entries) t = record { me = refl; nodes = refl; version = refl; places = refl; admin_key = refl }
+did_same noticed (Say token addr payload) (Refused why) t = record { me = refl; nodes = refl; version = refl; places = refl; admin_key = refl }
+did_same noticed (Fetch token addr from most) Done t = record { me = refl; nodes = refl; version = refl; places = refl; admin_key = refl }
+did_same noticed (Fetch token addr from most) (Said seq) t = record { me = refl; nodes = refl; version = refl; places = refl; admin_key = refl }
+did_same noticed (Fetch token addr from most) (Log entries) t = record { me = refl; nodes = refl; version = refl; places = refl; admin_key = refl }
+did_same noticed (Fetch token addr from most) (Refused why) t = record { me = refl; nodes = refl; version = refl; places = refl; admin_key = refl }
 
 pub asked_moved : (key : List ℕ) (r : Request) (reply : Reply) (v : NodeValue) → Moved key (Asked r) (Replied reply) v (node_did r reply v)
 asked_moved key r reply v =
     let kept = did_same v.watch.noticed r reply v.table in
-    still_moved key (Asked r) (Replied reply) v (node_did r reply v) (record { none_came = refl; none_packed = λ b. refl; none_taken = λ b n. refl }) refl kept.me kept.nodes kept.places kept.admin_key refl refl (did_tenants v.watch.noticed r reply v.table) refl refl
+    still_moved key (Asked r) (Replied reply) v (node_did r reply v) (record { none_came = refl; none_packed = λ b. refl; none_taken = λ b n. refl }) refl kept.me kept.nodes kept.version kept.places kept.admin_key refl refl (did_tenants v.watch.noticed r reply v.table) refl refl
 
 -- Groups.
 

@@ -11,8 +11,9 @@ use Rattle.std.proofs.lemmas.List.Sums.{fold-append}
 use Rattle.gb_types.specs.Entry.{message_of}
 use Rattle.gb_types.specs.Rising.{rising}
 use Rattle.gb_types.specs.declared.address.Addr.{Addr}
-use Rattle.gb_types.specs.declared.limits.TheConstants.{NODES, PAYLOAD}
+use Rattle.gb_types.specs.declared.limits.TheConstants.{NODES}
 use Rattle.gb_types.specs.declared.node.NodeId.{NodeId}
+use Rattle.gb_rules.specs.Group.{is_too_long}
 use Rattle.gb_types.specs.declared.refusal.Refusal.TheVariants.{Denied, NoGroup, Spent}
 use Rattle.gb_types.specs.declared.reply.Reply.{Reply}
 use Rattle.gb_types.specs.declared.reply.Reply.TheVariants.{Done, Said, Log, Refused}
@@ -21,7 +22,7 @@ use Rattle.gb_types.specs.declared.request.Request.TheVariants.{AddTenant, Make,
 use Rattle.gb_types.specs.declared.spec.Spec.{Spec}
 use Rattle.gb_rules.specs.declared.phase.Phase.TheVariants.{Opened, Shut}
 use Rattle.gb_frame.specs.declared.item.Item.{Item}
-use Rattle.gb_frame.specs.declared.limits.TheConstants.{ROOM}
+use Rattle.gb_frame.specs.Room.{room_of}
 use Rattle.gb_frame.specs.Packet.{Content}
 use Rattle.gb_frame.specs.Reading.{reading}
 use Rattle.gb_frame.specs.Spelling.{packet_text, IsPacket}
@@ -56,7 +57,7 @@ use Rattle.gb_node.specs.declared.answer.Sent.TheVariants.{Packet as SentPacket,
 use Rattle.gb_node.specs.declared.answer.Ticked.TheVariants.{Noticed}
 use Rattle.gb_node.specs.declared.event.NodeEvent.{NodeEvent}
 use Rattle.gb_node.specs.declared.event.NodeEvent.TheVariants.{Request as Asked, Packet as Came, Pack, Again, Ack, Tick, Stop}
-use Rattle.gb_node.proofs.LinkLemmas.{told}
+use Rattle.gb_node.proofs.LinkLemmas.{told, keeps_all, keeps_frame}
 
 -- Requests.
 
@@ -172,22 +173,22 @@ frames_done_in law g from t (u ∷ us) =
 
 -- Items that come.
 
-item_comes_in : EachGroup → (g : Addr) (from : NodeId) (t : TableValue) (is : List Item) → group_in g (fold (item_comes from) t is).groups.rows ≡ fold (came_for from) (group_in g t.groups.rows) (items_for g is)
-item_comes_in law g from t is = ap (group_in g) (rows_of t is) ∙ law.arrived g from is t.groups.rows
+item_comes_in : EachGroup → (g : Addr) (from : NodeId) (t : TableValue) (is : List Item) → group_in g (fold (item_comes from) t is).groups.rows ≡ fold (came_for t.version from) (group_in g t.groups.rows) (items_for g is)
+item_comes_in law g from t is = ap (group_in g) (rows_of t is) ∙ law.arrived t.version g from is t.groups.rows
   where
-    rows_of : (t : TableValue) (is : List Item) → (fold (item_comes from) t is).groups.rows ≡ fold (λ rows i. item_came from i rows) t.groups.rows is
+    rows_of : (t : TableValue) (is : List Item) → (fold (item_comes from) t is).groups.rows ≡ fold (λ rows i. item_came t.version from i rows) t.groups.rows is
     rows_of t [] = refl
     rows_of t (i ∷ is) = rows_of (item_comes from t i) is
 
 pub frame_comes_in : EachGroup → (g : Addr) (from : NodeId) (n : ℕ) (is : List Item) (r : Received) (t : TableValue)
-    → group_in g (frame_comes from n is r t).groups.rows ≡ (if is_first (fate n r) then fold (came_for from) (group_in g t.groups.rows) (items_for g is) else group_in g t.groups.rows)
+    → group_in g (frame_comes from n is r t).groups.rows ≡ (if is_first (fate n r) then fold (came_for t.version from) (group_in g t.groups.rows) (items_for g is) else group_in g t.groups.rows)
 frame_comes_in law g from n is r t =
     elim (cases_Bool (nat_eq n 0)) [
       | inl h ↦ rw h refl
       | inr h ↦ rw h (by (admission r n))
     ]
   where
-    by : (a : Admission) → group_in g (items_come from is a t).groups.rows ≡ (if is_first (kind_of a) then fold (came_for from) (group_in g t.groups.rows) (items_for g is) else group_in g t.groups.rows)
+    by : (a : Admission) → group_in g (items_come from is a t).groups.rows ≡ (if is_first (kind_of a) then fold (came_for t.version from) (group_in g t.groups.rows) (items_for g is) else group_in g t.groups.rows)
     by First = item_comes_in law g from t is
     by Seen = refl
     by Outside = refl
@@ -203,9 +204,9 @@ notices_in law g t (b ∷ found) =
 -- Batches.
 
 pub packed_in : EachGroup → (g : Addr) (b : NodeId) (items : List Item) (t : TableValue) → AreApart t.groups.rows → items ≡ batch_to t b
-    → group_in g (table_packed b.number ROOM t).groups.rows ≡ stepped (slot_took b.number (length (items_for g items))) (group_in g t.groups.rows)
+    → group_in g (table_packed b.number (room_of t.version) t).groups.rows ≡ stepped (slot_took b.number (length (items_for g items))) (group_in g t.groups.rows)
 packed_in law g b items t apart is =
-    law.taken g b.number ROOM t.groups apart ∙ ap (λ xs. stepped (slot_took b.number (length (items_for g xs))) (group_in g t.groups.rows)) (sym is)
+    law.taken g b.number (room_of t.version) t.groups apart ∙ ap (λ xs. stepped (slot_took b.number (length (items_for g xs))) (group_in g t.groups.rows)) (sym is)
 
 -- No two groups have one address.
 
@@ -224,7 +225,7 @@ module _ (law : StayApart) where
   frames_done_apart from t us ok = apart_all (frame_done from) (λ t u ok. apart_all (item_done from) (item_done_apart from) t u.1 ok) t us ok
 
   item_comes_apart : (from : NodeId) (t : TableValue) (i : Item) → AreApart t.groups.rows → AreApart (item_comes from t i).groups.rows
-  item_comes_apart from t i ok = elim (cases_Bool (nat_lt i.origin NODES && not (is_too_long version i.payload))) [
+  item_comes_apart from t i ok = elim (cases_Bool (nat_lt i.origin NODES && not (is_too_long t.version i.payload))) [
     | inl h ↦ rw h (law.addressed (address_of i) (slot_came from (entry_of i)) t.groups.rows ok)
     | inr h ↦ rw h ok
   ]
@@ -294,10 +295,12 @@ module _ (each : EachGroup) (plan : NodePlan) (past : List Happened) (v : NodeVa
       let acked = took_ack c (heard c v) in
       let first = is_first (fate c.frame (receiver_from v c.from)) in
       let frees : newly_done c v ≡ freed_by key past c = ap (filter (λ u. covers c.base c.mask u.0)) (undone_is size c.from) in
+      let freed = keeps_all (frame_done from) (keeps_frame from) v.table (newly_done c v) in
       let one : read key bytes ≡ c ∷ [] = ap (λ k. read k bytes) (sym was.beside.key) ∙ ap packet_in is in
       frame_comes_in each g from c.frame c.items (receiver_from v c.from) acked.table
-      ∙ (ap (λ x. if first then fold (came_for from) x (items_for g c.items) else x) (frames_done_in each g from v.table (newly_done c v) ∙ ap (λ us. fold (done_for from) o (items_for g (items_freed us))) frees)
-      ∙ sym (ap (λ cs. fold (taken_for key g past (fate c.frame (receiver_from v c.from))) o cs) one))
+      ∙ (ap (λ version. if first then fold (came_for version from) (group_in g acked.table.groups.rows) (items_for g c.items) else group_in g acked.table.groups.rows) (freed.version ∙ was.beside.version)
+      ∙ (ap (λ x. if first then fold (came_for plan.version from) x (items_for g c.items) else x) (frames_done_in each g from v.table (newly_done c v) ∙ ap (λ us. fold (done_for from) o (items_for g (items_freed us))) frees)
+      ∙ sym (ap (λ cs. fold (taken_for plan.version key g past (fate c.frame (receiver_from v c.from))) o cs) one)))
 
   pub packed_groups : (b : NodeId) (items : List Item) (law : WhatIsWrittenIsRead) → IsPacket (content_to v b (window_to v b.number).next items) → length v.windows ≡ NODES → AreApart v.table.groups.rows → items ≡ batch_to v.table b
       → group_in g (sent_batch b (Some items) v).table.groups.rows ≡ group_after plan g past (Pack b) (Sent (SentPacket (packet_text v.key (content_to v b (window_to v b.number).next items)))) (group_in g v.table.groups.rows)
@@ -330,7 +333,7 @@ next_items v b items e = by (is_reached v b && has_room (window_to v b.number)) 
 pub front_taken : EachGroup → (v : NodeValue) (b : NodeId) (g : Addr) (items : List Item) → AreApart v.table.groups.rows → items ≡ batch_to v.table b
     → items_for g items ≡ map (item_for g) (take (length (items_for g items)) (waiting_in (group_in g v.table.groups.rows) b.number))
 front_taken law v b g items apart is =
-    subst (λ xs. items_for g xs ≡ map (item_for g) (take (length (items_for g xs)) (waiting_in (group_in g v.table.groups.rows) b.number))) (sym is) (law.front g b.number ROOM v.table.groups apart)
+    subst (λ xs. items_for g xs ≡ map (item_for g) (take (length (items_for g xs)) (waiting_in (group_in g v.table.groups.rows) b.number))) (sym is) (law.front g b.number (room_of v.table.version) v.table.groups apart)
 
 -- a batch takes no more of a group than waits there
 pub waiting_enough : EachGroup → (v : NodeValue) (b : NodeId) (g : Addr) (items : List Item) → AreApart v.table.groups.rows → items ≡ batch_to v.table b → length (items_for g items) ≤ length (waiting_in (group_in g v.table.groups.rows) b.number)

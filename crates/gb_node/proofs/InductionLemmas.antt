@@ -13,7 +13,7 @@ use Rattle.gb_types.specs.declared.node.NodeId.{NodeId}
 use Rattle.gb_frame.specs.declared.fault.PacketFault.{PacketFault}
 use Rattle.gb_frame.specs.declared.fault.PacketFault.TheVariants.{Node}
 use Rattle.gb_frame.specs.declared.item.Item.{Item}
-use Rattle.gb_frame.specs.declared.limits.TheConstants.{ROOM}
+use Rattle.gb_frame.specs.Room.{room_of}
 use Rattle.gb_frame.specs.Packet.{Content}
 use Rattle.gb_frame.specs.Reading.{reading}
 use Rattle.gb_frame.specs.Spelling.{packet_text, IsPacket}
@@ -39,6 +39,7 @@ use Rattle.gb_node.specs.declared.answer.NodeAnswer.TheVariants.{Taken, Sent}
 use Rattle.gb_node.specs.declared.answer.PacketAnswer.TheVariants.{Fault}
 use Rattle.gb_node.specs.declared.event.NodeEvent.{NodeEvent}
 use Rattle.gb_node.specs.declared.event.NodeEvent.TheVariants.{Request as Asked, Packet as Came, Pack, Again, Ack, Tick, Stop}
+use Rattle.gb_node.proofs.PlanLemmas.{few_nodes}
 use Rattle.gb_node.proofs.PastLemmas.{Moved, moved_says}
 use Rattle.gb_node.proofs.EventLemmas.{no_op_moved, stopped_moved, starved_moved, asked_moved, stopped_group, starved_group, LeavesGroup}
 use Rattle.gb_node.proofs.ShownLemmas.{told_shown, told_waiting}
@@ -67,8 +68,8 @@ module _ (law : WhatIsWrittenIsRead) (each : EachGroup) (stay : StayApart) (slot
   -- only nodes of the cluster are noticed
   none_far : (b : ℕ) → NODES ≤ b → set.contains (noticed_in plan past) b ≡ false
   none_far b far =
-      let off : nat_lt b plan.nodes ≡ false = let most = right.cluster in grind (arith, nat_tests, far, most) in
-      few plan.me.number plan.nodes plan.silence right.cluster right.least (watched plan.cluster_key past) b ∙ ap (λ t. (t && not (nat_eq b plan.me.number)) && is_noticed plan.silence b (watched plan.cluster_key past)) off
+      let off : nat_lt b plan.nodes ≡ false = let most = few_nodes plan right in grind (arith, nat_tests, far, most) in
+      few plan.me.number plan.nodes plan.silence (few_nodes plan right) right.least (watched plan.cluster_key past) b ∙ ap (λ t. (t && not (nat_eq b plan.me.number)) && is_noticed plan.silence b (watched plan.cluster_key past)) off
 
   faulty : (bytes : List ℕ) (fault : PacketFault) → Goes plan past v (Came bytes) (Taken (Fault fault)) v
   faulty bytes fault = record {
@@ -90,8 +91,8 @@ module _ (law : WhatIsWrittenIsRead) (each : EachGroup) (stay : StayApart) (slot
       told = λ g.
           let one : read plan.cluster_key bytes ≡ c ∷ [] = ap (λ k. read k bytes) (sym was.beside.key) ∙ ap packet_in is in
           let frame = fate c.frame (receiver_from v c.from) in
-          subst (λ cs. IsTold plan.me (fold (taken_for plan.cluster_key g past frame) (group_of plan g past) cs) (fold (taken_told plan.me plan.cluster_key g past frame) (told_of plan g past) cs)) (sym one)
-          (taken_stands slots plan.me plan.cluster_key g past frame (group_of plan g past) (told_of plan g past) c (was.told g));
+          subst (λ cs. IsTold plan.me (fold (taken_for plan.version plan.cluster_key g past frame) (group_of plan g past) cs) (fold (taken_told plan.version plan.me plan.cluster_key g past frame) (told_of plan g past) cs)) (sym one)
+          (taken_stands slots plan.version plan.me plan.cluster_key g past frame (group_of plan g past) (told_of plan g past) c (was.told g));
     })
     | inr h ↦ rw h (faulty bytes Node)
   ]
@@ -111,7 +112,7 @@ module _ (law : WhatIsWrittenIsRead) (each : EachGroup) (stay : StayApart) (slot
         moved = packed_moved v b items law fit has.windows;
         tables = record { windows = length-set v.windows b.number (pushed (window_to v b.number) items) ∙ has.windows; receivers = has.receivers };
         groups = λ g. packed_groups each plan past v was g b items law fit has.windows ok (next_items v b items is);
-        apart = stay.taken b.number ROOM v.table.groups ok;
+        apart = stay.taken b.number (room_of v.table.version) v.table.groups ok;
         told = λ g.
             let c = content_to v b (window_to v b.number).next items in
             let one : read plan.cluster_key (packet_text v.key c) ≡ c ∷ [] = ap (λ k. read k (packet_text v.key c)) (sym was.beside.key) ∙ packet_told v b items law fit has.windows in
@@ -169,6 +170,7 @@ new_says plan = record {
     key = refl;
     me = refl;
     nodes = refl;
+    version = refl;
     places = refl;
     admin_key = refl;
     stopped = refl;

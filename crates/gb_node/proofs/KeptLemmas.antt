@@ -1,11 +1,13 @@
 -- Packets without a frame.
-use Rattle.std.proofs.Common.{◌≡◌, ℕ, List, [], length, arith}
+use Rattle.std.proofs.Common.{◌≡◌, ℕ, zero, suc, List, [], length, None, IfSome, arith}
+use Rattle.std.specs.Prelude.{replicate, slice_index_or}
 use Rattle.std.proofs.lemmas.List.{length-append}
 use Rattle.gb_frame.specs.declared.limits.TheConstants.{SHORTEST}
 use Rattle.gb_frame.specs.declared.packet.Head.{Head}
 use Rattle.gb_frame.specs.Packet.{packet_of}
 use Rattle.gb_frame.specs.Spelling.{tagged_text, header_text, tag_of, packet_text}
 use Rattle.gb_frame.proofs.TextLemmas.{length-tag_of}
+use Rattle.gb_node.specs.KeptAcks.{IsKept}
 
 -- all of them are as long
 pub bare_len : (key : List ℕ) (h : Head) → length (packet_text key (packet_of h [])) ≡ SHORTEST
@@ -14,3 +16,9 @@ bare_len key h =
     let tagged : List ℕ = tagged_text (packet_of h []) in
     let tag : List ℕ = tag_of key tagged in
     omega (arith, length-append tagged tag, length-tag_of key tagged)
+
+-- nothing is kept
+pub none_kept : (key : List ℕ) (n i : ℕ) → IfSome (slice_index_or (replicate n None) i None) (IsKept key)
+none_kept key zero i = tt
+none_kept key (suc n) zero = tt
+none_kept key (suc n) (suc i) = none_kept key n i

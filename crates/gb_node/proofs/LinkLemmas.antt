@@ -36,59 +36,60 @@ use Rattle.gb_node.specs.declared.event.NodeEvent.TheVariants.{Packet as Came, P
 use Rattle.gb_node.proofs.PastLemmas.{Moved, filter_all}
 use Rattle.gb_node.proofs.EventLemmas.{still_moved}
 
--- Tables that have the same node, cluster, places, administrator and tenants.
-record Keeps (t u : TableValue) : Type 0 where
-  me : u.me ≡ t.me
-  nodes : u.nodes ≡ t.nodes
+-- Tables that have the same node, cluster, version, places, administrator and tenants.
+pub record Keeps (t u : TableValue) : Type 0 where
+  pub me : u.me ≡ t.me
+  pub nodes : u.nodes ≡ t.nodes
+  pub version : u.version ≡ t.version
   places : u.places ≡ t.places
   admin_key : u.admin_key ≡ t.admin_key
   tenants : u.tenants ≡ t.tenants
 
-keeps_all : {X : Type 0} (step : TableValue → X → TableValue) → ((t : TableValue) (x : X) → Keeps t (step t x)) → (t : TableValue) (xs : List X) → Keeps t (fold step t xs)
-keeps_all step one t [] = record { me = refl; nodes = refl; places = refl; admin_key = refl; tenants = refl }
+pub keeps_all : {X : Type 0} (step : TableValue → X → TableValue) → ((t : TableValue) (x : X) → Keeps t (step t x)) → (t : TableValue) (xs : List X) → Keeps t (fold step t xs)
+keeps_all step one t [] = record { me = refl; nodes = refl; version = refl; places = refl; admin_key = refl; tenants = refl }
 keeps_all step one t (x ∷ xs) =
     let here = one t x in
     let rest = keeps_all step one (step t x) xs in
-    record { me = rest.me ∙ here.me; nodes = rest.nodes ∙ here.nodes; places = rest.places ∙ here.places; admin_key = rest.admin_key ∙ here.admin_key; tenants = rest.tenants ∙ here.tenants }
+    record { me = rest.me ∙ here.me; nodes = rest.nodes ∙ here.nodes; version = rest.version ∙ here.version; places = rest.places ∙ here.places; admin_key = rest.admin_key ∙ here.admin_key; tenants = rest.tenants ∙ here.tenants }
 
 keeps_item : (from : NodeId) (t : TableValue) (i : Item) → Keeps t (item_done from t i)
 keeps_item from t i = elim (cases_Bool (nat_lt i.origin NODES)) [
-  | inl h ↦ rw h (record { me = refl; nodes = refl; places = refl; admin_key = refl; tenants = refl })
-  | inr h ↦ rw h (record { me = refl; nodes = refl; places = refl; admin_key = refl; tenants = refl })
+  | inl h ↦ rw h (record { me = refl; nodes = refl; version = refl; places = refl; admin_key = refl; tenants = refl })
+  | inr h ↦ rw h (record { me = refl; nodes = refl; version = refl; places = refl; admin_key = refl; tenants = refl })
 ]
 
-keeps_frame : (from : NodeId) (t : TableValue) (u : ℕ × List Item) → Keeps t (frame_done from t u)
+pub keeps_frame : (from : NodeId) (t : TableValue) (u : ℕ × List Item) → Keeps t (frame_done from t u)
 keeps_frame from t u = keeps_all (item_done from) (keeps_item from) t u.1
 
 keeps_came : (from : NodeId) (t : TableValue) (i : Item) → Keeps t (item_comes from t i)
-keeps_came from t i = record { me = refl; nodes = refl; places = refl; admin_key = refl; tenants = refl }
+keeps_came from t i = record { me = refl; nodes = refl; version = refl; places = refl; admin_key = refl; tenants = refl }
 
 keeps_items : (from : NodeId) (items : List Item) (a : Admission) (t : TableValue) → Keeps t (items_come from items a t)
 keeps_items from items First t = keeps_all (item_comes from) (keeps_came from) t items
-keeps_items from items Seen t = record { me = refl; nodes = refl; places = refl; admin_key = refl; tenants = refl }
-keeps_items from items Outside t = record { me = refl; nodes = refl; places = refl; admin_key = refl; tenants = refl }
+keeps_items from items Seen t = record { me = refl; nodes = refl; version = refl; places = refl; admin_key = refl; tenants = refl }
+keeps_items from items Outside t = record { me = refl; nodes = refl; version = refl; places = refl; admin_key = refl; tenants = refl }
 
-keeps_arrived : (from : NodeId) (n : ℕ) (items : List Item) (r : Received) (t : TableValue) → Keeps t (frame_comes from n items r t)
+pub keeps_arrived : (from : NodeId) (n : ℕ) (items : List Item) (r : Received) (t : TableValue) → Keeps t (frame_comes from n items r t)
 keeps_arrived from n items r t = elim (cases_Bool (nat_eq n 0)) [
-  | inl h ↦ rw h (record { me = refl; nodes = refl; places = refl; admin_key = refl; tenants = refl })
+  | inl h ↦ rw h (record { me = refl; nodes = refl; version = refl; places = refl; admin_key = refl; tenants = refl })
   | inr h ↦ rw h (keeps_items from items (admission r n) t)
 ]
 
-keeps_both : (t u w : TableValue) → Keeps t u → Keeps u w → Keeps t w
-keeps_both t u w a b = record { me = b.me ∙ a.me; nodes = b.nodes ∙ a.nodes; places = b.places ∙ a.places; admin_key = b.admin_key ∙ a.admin_key; tenants = b.tenants ∙ a.tenants }
+pub keeps_both : (t u w : TableValue) → Keeps t u → Keeps u w → Keeps t w
+keeps_both t u w a b = record { me = b.me ∙ a.me; nodes = b.nodes ∙ a.nodes; version = b.version ∙ a.version; places = b.places ∙ a.places; admin_key = b.admin_key ∙ a.admin_key; tenants = b.tenants ∙ a.tenants }
 
-keeps_notices : (t : TableValue) (found : List ℕ) → Keeps t (notice_each t found)
-keeps_notices t found = keeps_all (λ t b. table_noticed (node_numbered b) t) (λ t b. record { me = refl; nodes = refl; places = refl; admin_key = refl; tenants = refl }) t found
+pub keeps_notices : (t : TableValue) (found : List ℕ) → Keeps t (notice_each t found)
+keeps_notices t found = keeps_all (λ t b. table_noticed (node_numbered b) t) (λ t b. record { me = refl; nodes = refl; version = refl; places = refl; admin_key = refl; tenants = refl }) t found
 
 -- Ticks and the stop.
 
 pub ticked_moved : (key : List ℕ) (v : NodeValue) → Moved key Tick (Ticked (Noticed (due v.watch))) v (node_ticked v)
 ticked_moved key v =
     let kept = keeps_notices v.table (rising (due v.watch)) in
-    still_moved key Tick (Ticked (Noticed (due v.watch))) v (node_ticked v) (record { none_came = refl; none_packed = λ b. refl; none_taken = λ b n. refl }) refl kept.me kept.nodes kept.places kept.admin_key refl refl (kept.tenants ∙ sym (append-nil v.table.tenants)) refl refl
+    still_moved key Tick (Ticked (Noticed (due v.watch))) v (node_ticked v) (record { none_came = refl; none_packed = λ b. refl; none_taken = λ b n. refl }) refl kept.me kept.nodes kept.version kept.places kept.admin_key refl refl (kept.tenants ∙ sym (append-nil v.table.tenants)) refl refl
 
 pub halted_moved : (key : List ℕ) (v : NodeValue) → Moved key Stop (Halted HaltDone) v (record v { stopped = true })
-halted_moved key v = still_moved key Stop (Halted HaltDone) v (record v { stopped = true }) (record { none_came = refl; none_packed = λ b. refl; none_taken = λ b n. refl }) refl refl refl refl refl refl refl (sym (append-nil v.table.tenants)) refl refl
+halted_moved key v = still_moved key Stop (Halted HaltDone) v (record v { stopped = true }) (record { none_came = refl; none_packed = λ b. refl; none_taken = λ b n. refl }) refl refl refl refl refl refl refl refl (sym (append-nil v.table.tenants)) refl refl
 
 -- Packets.
 
@@ -164,6 +165,7 @@ module _ (v : NodeValue) (bytes : List ℕ) (c : Content) (is : reading v.key by
     key_is = refl;
     me = kept.me;
     nodes = kept.nodes;
+    version = kept.version;
     places = kept.places;
     admin_key = kept.admin_key;
     stopped = refl;
@@ -222,6 +224,7 @@ module _ (v : NodeValue) (b : NodeId) (items : List Item) (law : WhatIsWrittenIs
     key_is = refl;
     me = refl;
     nodes = refl;
+    version = refl;
     places = refl;
     admin_key = refl;
     stopped = refl;

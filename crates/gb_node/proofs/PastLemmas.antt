@@ -100,6 +100,7 @@ pub record Moved (key : List ℕ) (e : NodeEvent) (a : NodeAnswer) (v w : NodeVa
   pub key_is : w.key ≡ v.key
   pub me : w.table.me ≡ v.table.me
   pub nodes : w.table.nodes ≡ v.table.nodes
+  pub version : w.table.version ≡ v.table.version
   pub places : w.table.places ≡ v.table.places
   pub admin_key : w.table.admin_key ≡ v.table.admin_key
   pub stopped : w.stopped ≡ (stops e a || v.stopped)
@@ -123,6 +124,7 @@ moved_says plan past e a v w was step groups told =
         key = step.key_is ∙ beside.key;
         me = step.me ∙ beside.me;
         nodes = step.nodes ∙ beside.nodes;
+        version = step.version ∙ beside.version;
         places = step.places ∙ beside.places;
         admin_key = step.admin_key ∙ beside.admin_key;
         stopped = step.stopped ∙ ap (λ t. stops e a || t) beside.stopped;

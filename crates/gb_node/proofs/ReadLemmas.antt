@@ -1,13 +1,14 @@
 -- Events that only read, and what the answers to the others hold.
 use Rattle.std.proofs.Common.{◌≡◌, ℕ, ◌≤◌, ◌⊎◌, inl, inr, Bool, true, false, List, length, Option, Some, None, refl, sym, ap, subst, ◌∙◌, arith}
-use Rattle.std.specs.Prelude.{◌+◌, nat_lt, nat_le, if◌then◌else◌, IfSome}
+use Rattle.std.specs.Prelude.{◌+◌, nat_lt, nat_le, option_map, if◌then◌else◌, IfSome}
 use Rattle.std.specs.FinSet as set
 use Rattle.std.specs.Ordering.{nat_cmp}
 use Rattle.std.proofs.lemmas.Bool.{true≢false, false≢true}
 use Rattle.std.proofs.lemmas.List.{length-append}
 use Rattle.gb_types.specs.declared.address.Addr.{Addr}
 use Rattle.gb_types.specs.declared.entry.Entry.{Entry}
-use Rattle.gb_types.specs.declared.limits.TheConstants.{PACKET, PAYLOAD}
+use Rattle.gb_types.specs.Version.{limits_of}
+use Rattle.gb_types.specs.declared.version.Version.{Version}
 use Rattle.gb_types.specs.declared.node.NodeId.{NodeId}
 use Rattle.gb_types.specs.declared.refusal.Refusal.TheVariants.{Denied, NoGroup, Spent, BadMembers, OverReserve, TooLong, Budget, Bytes, Window, NoRoom, TenantThere}
 use Rattle.gb_types.specs.declared.reply.Reply.{Reply}
@@ -17,9 +18,11 @@ use Rattle.gb_types.specs.declared.request.Request.TheVariants.{AddTenant, Make,
 use Rattle.gb_types.specs.declared.spec.Spec.{Spec}
 use Rattle.gb_types.specs.declared.spec.TenantRow.{TenantRow}
 use Rattle.gb_frame.specs.Packet.{Content}
+use Rattle.gb_frame.specs.declared.item.Item.{Item}
+use Rattle.gb_frame.proofs.VersionLemmas.{shortest_fits}
 use Rattle.gb_frame.proofs.TextLemmas.{length-tag_of}
 use Rattle.gb_frame.specs.Spelling.{tagged_text, header_text, tag_of, packet_text, IsPacket}
-use Rattle.gb_rules.specs.Group.{Shown, open_in, open_answer, shut_in, shut_answer, drop_answer, say_answer}
+use Rattle.gb_rules.specs.Group.{Shown, is_too_long, open_in, open_answer, shut_in, shut_answer, drop_answer, say_answer}
 use Rattle.gb_rules.specs.Tenant.{is_over_limits, is_bad, is_over, tenant_answer, make_answer, by_tenant}
 use Rattle.gb_rules.specs.declared.phase.Phase.{Phase}
 use Rattle.gb_rules.specs.declared.phase.Phase.TheVariants.{Made, Opened, Shut, Gone}
@@ -31,8 +34,8 @@ use Rattle.gb_groups.specs.SlotsValue.{Row, row_at, unless_gone}
 use Rattle.gb_table.specs.TableValue.{TableValue, reserve_for}
 use Rattle.gb_table.specs.Requests.{is_admitted, admitted_reply, table_reply, table_did}
 use Rattle.gb_node.specs.NodeValue.{NodeValue}
-use Rattle.gb_node.specs.NodeStep.{Turn, turn, running_turn, stopped_answer, sent, pack_content, IsStarved, IsTurn, IsSpelt}
-use Rattle.gb_node.specs.Reads.{is_read, room_of, IsReplyWithin, IsSentWithin, IsWithin}
+use Rattle.gb_node.specs.NodeStep.{Turn, turn, running_turn, stopped_answer, sent, window_to, content_to, next_batch, pack_content, IsStarved, IsTurn, IsSpelt}
+use Rattle.gb_node.specs.Reads.{is_read, packet_room, IsReplyWithin, IsSentWithin, IsWithin}
 use Rattle.gb_node.specs.declared.answer.NodeAnswer.{NodeAnswer}
 use Rattle.gb_node.specs.declared.answer.NodeAnswer.TheVariants.{Sent}
 use Rattle.gb_node.specs.declared.event.NodeEvent.{NodeEvent}
@@ -113,16 +116,16 @@ shut_within Opened = tt
 shut_within Shut = tt
 shut_within Gone = tt
 
-say_within : (spec : Spec) (phase : Phase) (usage : Usage) (log : List Entry) (payload : List ℕ) → IsReplyWithin (say_answer (record { spec = spec; phase = phase; usage = usage; log = log }) payload)
-say_within spec Made usage log payload = tt
-say_within spec Opened usage log payload =
+say_within : (version : Version) (spec : Spec) (phase : Phase) (usage : Usage) (log : List Entry) (payload : List ℕ) → IsReplyWithin (say_answer version (record { spec = spec; phase = phase; usage = usage; log = log }) payload)
+say_within version spec Made usage log payload = tt
+say_within version spec Opened usage log payload =
     let open_window : Reply = if nat_le spec.window usage.unfinished then Refused Window else Said (usage.said + 1) in
     let few_bytes : Reply = if nat_lt spec.bytes (usage.bytes + length payload) then Refused Bytes else open_window in
     let few : Reply = if nat_le spec.msgs usage.said then Refused Budget else few_bytes in
-    within_if (nat_lt PAYLOAD (length payload)) (Refused TooLong) few tt (within_if (nat_le spec.msgs usage.said) (Refused Budget) few_bytes tt
+    within_if (is_too_long version payload) (Refused TooLong) few tt (within_if (nat_le spec.msgs usage.said) (Refused Budget) few_bytes tt
     (within_if (nat_lt spec.bytes (usage.bytes + length payload)) (Refused Bytes) open_window tt (within_if (nat_le spec.window usage.unfinished) (Refused Window) (Said (usage.said + 1)) tt tt)))
-say_within spec Shut usage log payload = tt
-say_within spec Gone usage log payload = tt
+say_within version spec Shut usage log payload = tt
+say_within version spec Gone usage log payload = tt
 
 admitted_within : (r : Request) (t : TableValue) → is_read (Asked r) ≡ false → IsReplyWithin (admitted_reply r t)
 admitted_within (AddTenant token row) t h = tenant_within _ _ _ row
@@ -130,7 +133,7 @@ admitted_within (Make token addr spec) t h = by_within _ (reserve_for addr.tenan
 admitted_within (OpenGroup token addr) t h = at_within open_answer t.groups.rows (place_of addr t.groups.rows) (λ s. open_within s.phase)
 admitted_within (ShutGroup token addr) t h = at_within shut_answer t.groups.rows (place_of addr t.groups.rows) (λ s. shut_within s.phase)
 admitted_within (DropGroup token addr) t h = at_within drop_answer t.groups.rows (place_of addr t.groups.rows) (λ s. tt)
-admitted_within (Say token addr payload) t h = at_within (λ s. say_answer s payload) t.groups.rows (place_of addr t.groups.rows) (λ s. say_within s.spec s.phase s.usage s.log payload)
+admitted_within (Say token addr payload) t h = at_within (λ s. say_answer t.version s payload) t.groups.rows (place_of addr t.groups.rows) (λ s. say_within t.version s.spec s.phase s.usage s.log payload)
 admitted_within (Fetch token addr from most) t h = absurd (true≢false h)
 
 asked_within : (r : Request) (t : TableValue) → is_read (Asked r) ≡ false → IsReplyWithin (table_reply r t)
@@ -138,21 +141,23 @@ asked_within r t h = within_if (is_admitted r t) (admitted_reply r t) (Refused D
 
 -- Packets.
 
-packet_fits : (key : List ℕ) (c : Content) → IsPacket c → length (packet_text key c) ≤ PACKET
+packet_fits : (key : List ℕ) (c : Content) → IsPacket c → length (packet_text key c) ≤ (limits_of c.version).packet
 unfolding header_text
 packet_fits key c p =
     let tag : List ℕ = tag_of key (tagged_text c) in
     let tag_len = length-tag_of key (tagged_text c) in
     let room = p.limits.room in
-    omega (arith, length-append (tagged_text c) tag, tag_len, room)
+    let shortest = shortest_fits c.version in
+    omega (arith, length-append (tagged_text c) tag, tag_len, room, shortest)
 
-packed_starved : (v : NodeValue) (b : NodeId) (c : Option Content) (a : NodeAnswer) → IsStarved (Pack b) (Sent (sent v c)) a → IsWithin PACKET a
+packed_starved : (v : NodeValue) (b : NodeId) (c : Option Content) (a : NodeAnswer) → IsStarved (Pack b) (Sent (sent v c)) a → IsWithin (limits_of v.table.version).packet a
 packed_starved v b None a h = absurd h
-packed_starved v b (Some c) a h = subst (IsWithin PACKET) (sym h) tt
+packed_starved v b (Some c) a h = subst (IsWithin (limits_of v.table.version).packet) (sym h) tt
 
-packed_within : (v : NodeValue) (c : Option Content) → IfSome c IsPacket → IsSentWithin PACKET (sent v c)
-packed_within v None h = tt
-packed_within v (Some c) h = packet_fits v.key c h
+packed_within : (v : NodeValue) (b : NodeId) (o : Option (List Item)) → IfSome (option_map (content_to v b (window_to v b.number).next) o) IsPacket
+    → IsSentWithin (limits_of v.table.version).packet (sent v (option_map (content_to v b (window_to v b.number).next) o))
+packed_within v b None h = tt
+packed_within v b (Some items) h = packet_fits v.key (content_to v b (window_to v b.number).next items) h
 
 -- what is spelt where something may be sent
 spelt_if : (v : NodeValue) (b : NodeId) (c : Option Content) → pack_content v b ≡ c → IsSpelt v (Pack b) (Sent (sent v c)) → IfSome c IsPacket
@@ -161,13 +166,13 @@ spelt_if v b (Some c) is h = subst (λ (o : Option Content). IfSome o IsPacket) 
 
 -- Answers.
 
-running_within : (v : NodeValue) (e : NodeEvent) (a : NodeAnswer) → is_read e ≡ false → IsStarved e (running_turn v e).answer a ⊎ (a ≡ (running_turn v e).answer) → IsSpelt v e a → IsWithin (room_of e) a
+running_within : (v : NodeValue) (e : NodeEvent) (a : NodeAnswer) → is_read e ≡ false → IsStarved e (running_turn v e).answer a ⊎ (a ≡ (running_turn v e).answer) → IsSpelt v e a → IsWithin (packet_room v.table.version e) a
 running_within v (Asked r) a read (inl h) spelt = subst (IsWithin 0) (sym h.0) tt
 running_within v (Asked r) a read (inr h) spelt = subst (IsWithin 0) (sym h) (asked_within r v.table read)
 running_within v (Came bytes) a read (inl h) spelt = absurd h
 running_within v (Came bytes) a read (inr h) spelt = subst (IsWithin 0) (sym h) tt
 running_within v (Pack b) a read (inl h) spelt = packed_starved v b (pack_content v b) a h
-running_within v (Pack b) a read (inr h) spelt = subst (IsWithin PACKET) (sym h) (packed_within v (pack_content v b) (spelt_if v b (pack_content v b) refl (subst (IsSpelt v (Pack b)) h spelt)))
+running_within v (Pack b) a read (inr h) spelt = subst (IsWithin (limits_of v.table.version).packet) (sym h) (packed_within v b (next_batch v b) (spelt_if v b (pack_content v b) refl (subst (IsSpelt v (Pack b)) h spelt)))
 running_within v (Again b n) a read h spelt = absurd (true≢false read)
 running_within v (Ack b) a read h spelt = absurd (true≢false read)
 running_within v Tick a read (inl h) spelt = absurd h
@@ -175,29 +180,29 @@ running_within v Tick a read (inr h) spelt = subst (IsWithin 0) (sym h) tt
 running_within v Stop a read (inl h) spelt = absurd h
 running_within v Stop a read (inr h) spelt = subst (IsWithin 0) (sym h) tt
 
-stopped_within : (e : NodeEvent) (a : NodeAnswer) → is_read e ≡ false → IsStarved e (stopped_answer e) a ⊎ (a ≡ stopped_answer e) → IsWithin (room_of e) a
-stopped_within (Asked r) a read (inl h) = subst (IsWithin 0) (sym h.0) tt
-stopped_within (Asked r) a read (inr h) = subst (IsWithin 0) (sym h) tt
-stopped_within (Came bytes) a read (inl h) = absurd h
-stopped_within (Came bytes) a read (inr h) = subst (IsWithin 0) (sym h) tt
-stopped_within (Pack b) a read (inl h) = absurd h
-stopped_within (Pack b) a read (inr h) = subst (IsWithin PACKET) (sym h) tt
-stopped_within (Again b n) a read h = absurd (true≢false read)
-stopped_within (Ack b) a read h = absurd (true≢false read)
-stopped_within Tick a read (inl h) = absurd h
-stopped_within Tick a read (inr h) = subst (IsWithin 0) (sym h) tt
-stopped_within Stop a read (inl h) = absurd h
-stopped_within Stop a read (inr h) = subst (IsWithin 0) (sym h) tt
+stopped_within : (version : Version) (e : NodeEvent) (a : NodeAnswer) → is_read e ≡ false → IsStarved e (stopped_answer e) a ⊎ (a ≡ stopped_answer e) → IsWithin (packet_room version e) a
+stopped_within version (Asked r) a read (inl h) = subst (IsWithin 0) (sym h.0) tt
+stopped_within version (Asked r) a read (inr h) = subst (IsWithin 0) (sym h) tt
+stopped_within version (Came bytes) a read (inl h) = absurd h
+stopped_within version (Came bytes) a read (inr h) = subst (IsWithin 0) (sym h) tt
+stopped_within version (Pack b) a read (inl h) = absurd h
+stopped_within version (Pack b) a read (inr h) = subst (IsWithin (limits_of version).packet) (sym h) tt
+stopped_within version (Again b n) a read h = absurd (true≢false read)
+stopped_within version (Ack b) a read h = absurd (true≢false read)
+stopped_within version Tick a read (inl h) = absurd h
+stopped_within version Tick a read (inr h) = subst (IsWithin 0) (sym h) tt
+stopped_within version Stop a read (inl h) = absurd h
+stopped_within version Stop a read (inr h) = subst (IsWithin 0) (sym h) tt
 
 answer_within : (b : Bool) (v : NodeValue) (e : NodeEvent) (a : NodeAnswer) → is_read e ≡ false
     → IsStarved e (if b then record { value = v; answer = stopped_answer e } else running_turn v e).answer a ⊎ (a ≡ (if b then record { value = v; answer = stopped_answer e } else running_turn v e).answer)
-    → IsSpelt v e a → IsWithin (room_of e) a
-answer_within true v e a read h spelt = stopped_within e a read h
+    → IsSpelt v e a → IsWithin (packet_room v.table.version e) a
+answer_within true v e a read h spelt = stopped_within v.table.version e a read h
 answer_within false v e a read h spelt = running_within v e a read h spelt
 
 answer_of : (old new : NodeValue) (e : NodeEvent) (a : NodeAnswer) → IsTurn old e a new → IsStarved e (turn old e).answer a ⊎ (a ≡ (turn old e).answer)
 answer_of old new e a (inl h) = inl h.0
 answer_of old new e a (inr h) = inr h.0
 
-pub within : (old new : NodeValue) (e : NodeEvent) (a : NodeAnswer) → IsTurn old e a new → IsSpelt old e a → is_read e ≡ false → IsWithin (room_of e) a
+pub within : (old new : NodeValue) (e : NodeEvent) (a : NodeAnswer) → IsTurn old e a new → IsSpelt old e a → is_read e ≡ false → IsWithin (packet_room old.table.version e) a
 within old new e a is spelt read = answer_within old.stopped old e a read (answer_of old new e a is) spelt

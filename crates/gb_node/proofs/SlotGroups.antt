@@ -7,6 +7,7 @@ use Rattle.gb_types.specs.Rising.{rising}
 use Rattle.gb_types.specs.declared.address.Addr.{Addr}
 use Rattle.gb_types.specs.declared.limits.TheConstants.{NODES}
 use Rattle.gb_types.specs.declared.node.NodeId.{NodeId}
+use Rattle.gb_types.specs.declared.version.Version.{Version}
 use Rattle.gb_types.specs.declared.reply.Reply.{Reply}
 use Rattle.gb_types.specs.declared.reply.Reply.TheVariants.{Done, Said}
 use Rattle.gb_types.specs.declared.request.Request.{Request}
@@ -50,10 +51,10 @@ asked_for g me noticed request reply o = o
 abbrev pub done_for : NodeId → Option (Option SlotState) → Item → Option (Option SlotState)
 done_for from o i = where_so (nat_lt i.origin NODES) (stepped (slot_done from (message_of (entry_of i)))) o
 
-abbrev pub taken_for : List ℕ → Addr → List Happened → Frame → Option (Option SlotState) → Content → Option (Option SlotState)
-taken_for key g past frame o c =
+abbrev pub taken_for : Version → List ℕ → Addr → List Happened → Frame → Option (Option SlotState) → Content → Option (Option SlotState)
+taken_for version key g past frame o c =
     let acknowledged = fold (done_for (node_numbered c.from)) o (items_for g (items_freed (freed_by key past c))) in
-    if is_first frame then fold (came_for (node_numbered c.from)) acknowledged (items_for g c.items) else acknowledged
+    if is_first frame then fold (came_for version (node_numbered c.from)) acknowledged (items_for g c.items) else acknowledged
 
 abbrev pub packed_from : Addr → NodeId → Option (Option SlotState) → Content → Option (Option SlotState)
 packed_from g b o c = stepped (slot_took b.number (length (items_for g c.items))) o
@@ -63,7 +64,7 @@ noticed_for o b = stepped (slot_noticed (node_numbered b)) o
 
 abbrev pub group_after : NodePlan → Addr → List Happened → NodeEvent → NodeAnswer → Option (Option SlotState) → Option (Option SlotState)
 group_after plan g past (Asked request) (Replied reply) o = asked_for g plan.me (noticed_in plan past) request reply o
-group_after plan g past (Came bytes) (Taken (TakenGood good)) o = fold (taken_for plan.cluster_key g past good.frame) o (read plan.cluster_key bytes)
+group_after plan g past (Came bytes) (Taken (TakenGood good)) o = fold (taken_for plan.version plan.cluster_key g past good.frame) o (read plan.cluster_key bytes)
 group_after plan g past (Pack b) (Sent (SentPacket text)) o = fold (packed_from g b) o (read plan.cluster_key text)
 group_after plan g past Tick (Ticked (Noticed found)) o = fold noticed_for o (rising found)
 group_after plan g past event answer o = o

@@ -53,6 +53,7 @@ use Rattle.gb_node.specs.declared.event.NodeEvent.TheVariants.{Request as Asked,
 use Rattle.gb_node.proofs.GroupLemmas.{front_taken, waiting_enough, next_items}
 use Rattle.gb_node.proofs.InductionLemmas.{started, stands, of_past}
 use Rattle.gb_node.specs.SendLaw.{Says}
+use Rattle.gb_node.proofs.PlanLemmas.{few_nodes}
 use Rattle.gb_node.proofs.SentLemmas.{acts, sends, says, batch_another, other_number, another_in, read_is}
 use Rattle.gb_node.proofs.ToldLemmas.{SlotLaws, reply_is}
 
@@ -60,11 +61,11 @@ use Rattle.gb_node.proofs.ToldLemmas.{SlotLaws, reply_is}
 
 -- the table that a past makes, but for its groups
 abbrev past_table : NodePlan → List Happened → TableValue
-past_table plan past = record (new_table plan.me plan.nodes plan.places plan.admin_key) { tenants = tenants_in past }
+past_table plan past = record (new_table plan.me plan.nodes plan.version plan.places plan.admin_key) { tenants = tenants_in past }
 
 module _ (plan : NodePlan) (past : List Happened) (v : NodeValue) (was : IsOfPast plan past v) where
   table_is : v.table ≡ record (past_table plan past) { groups = v.table.groups }
-  table_is = λ i. record { me = was.beside.me i; nodes = was.beside.nodes i; places = was.beside.places i; admin_key = was.beside.admin_key i; tenants = was.beside.tenants i; groups = v.table.groups }
+  table_is = λ i. record { me = was.beside.me i; nodes = was.beside.nodes i; version = was.beside.version i; places = was.beside.places i; admin_key = was.beside.admin_key i; tenants = was.beside.tenants i; groups = v.table.groups }
 
   at_group : (answer : Shown → Reply) (addr : Addr) → group_reply answer addr v.table.groups.rows ≡ group_answer answer (shown_in plan.me.number (told_of plan addr past))
   at_group answer addr = reply_is answer v.table.groups.rows (place_of addr v.table.groups.rows) ∙ ap (group_answer answer) (was.shown addr)
@@ -90,7 +91,7 @@ module _ (plan : NodePlan) (past : List Happened) (v : NodeValue) (was : IsOfPas
   admitted_is (OpenGroup token addr) = at_group open_answer addr
   admitted_is (ShutGroup token addr) = at_group shut_answer addr
   admitted_is (DropGroup token addr) = at_group drop_answer addr
-  admitted_is (Say token addr payload) = at_group (λ s. say_answer s payload) addr
+  admitted_is (Say token addr payload) = at_group (λ s. say_answer plan.version s payload) addr
   admitted_is (Fetch token addr from most) = at_group (λ s. fetch_answer s from most) addr
 
   -- what a node should reply is what its past says
@@ -180,7 +181,7 @@ module _ (plan : NodePlan) (right : IsNodePlan plan) (past : List Happened) (v :
           let goal = here_is c.to v.table.me.number c.from v.table.nodes here in
           let to_is : c.to ≡ plan.me.number = goal.0 ∙ ap (λ (x : NodeId). x.number) was.beside.me in
           let inside : c.from < plan.nodes = subst (λ n. c.from < n) was.beside.nodes goal.1 in
-          let from : NodeId = record { number = c.from; below = let most = right.cluster in omega (arith, inside, most) } in
+          let from : NodeId = record { number = c.from; below = let most = few_nodes plan right in omega (arith, inside, most) } in
           record {
             running = sym was.beside.stopped ∙ running;
             content = c;
@@ -201,7 +202,7 @@ module _ (plan : NodePlan) (right : IsNodePlan plan) (past : List Happened) (v :
 -- only other nodes of the cluster are noticed
 noticed_inside : NoticedByCalls → (plan : NodePlan) → IsNodePlan plan → (past : List Happened) (b : ℕ) → set.contains (noticed_in plan past) b ≡ true → (b < plan.nodes) × (b ≢ plan.me.number)
 noticed_inside few plan right past b there =
-    other_number b plan.nodes plan.me.number (by (nat_lt b plan.nodes && not (nat_eq b plan.me.number)) (sym (few plan.me.number plan.nodes plan.silence right.cluster right.least (watched plan.cluster_key past) b) ∙ there))
+    other_number b plan.nodes plan.me.number (by (nat_lt b plan.nodes && not (nat_eq b plan.me.number)) (sym (few plan.me.number plan.nodes plan.silence (few_nodes plan right) right.least (watched plan.cluster_key past) b) ∙ there))
   where
     by : (other : Bool) → (other && is_noticed plan.silence b (watched plan.cluster_key past)) ≡ true → other ≡ true
     by true e = refl

@@ -1,5 +1,5 @@
 -- Each slot stands for what the past tells its group.
-use Rattle.std.proofs.Common.{◌≡◌, ℕ, ◌+◌, ◌≤◌, inl, inr, List, [], ◌∷◌, ◌++◌, length, drop, Option, Some, None, refl, sym, ap, subst, ◌∙◌, arith}
+use Rattle.std.proofs.Common.{◌≡◌, ℕ, ◌+◌, ◌≤◌, inl, inr, List, [], ◌∷◌, ◌++◌, length, drop, Option, Some, None, refl, sym, ap, subst, ◌∙◌, arith, not}
 use Rattle.std.specs.Prelude.{Bool, true, false, ◌&&◌, ◌⊎◌, fold, option_map, nat_eq, nat_le, nat_lt, if◌then◌else◌}
 use Rattle.std.specs.FinSet as set
 use Rattle.std.specs.Ordering.{nat_cmp}
@@ -8,9 +8,10 @@ use Rattle.std.proofs.lemmas.Bool.Decides.{nat_tests}
 use Rattle.gb_types.specs.Entry.{message_of}
 use Rattle.gb_types.specs.declared.address.Addr.{Addr}
 use Rattle.gb_types.specs.declared.entry.Entry.{Entry}
-use Rattle.gb_types.specs.declared.limits.TheConstants.{NODES, PAYLOAD}
+use Rattle.gb_types.specs.declared.limits.TheConstants.{NODES}
 use Rattle.gb_types.specs.declared.message.MsgId.{MsgId}
 use Rattle.gb_types.specs.declared.node.NodeId.{NodeId}
+use Rattle.gb_types.specs.declared.version.Version.{Version}
 use Rattle.gb_types.specs.declared.refusal.Refusal.TheVariants.{Denied, TooLong, Budget, Bytes, Window}
 use Rattle.gb_types.specs.declared.reply.Reply.{Reply}
 use Rattle.gb_types.specs.declared.reply.Reply.TheVariants.{Done, Said, Log, Refused}
@@ -19,7 +20,7 @@ use Rattle.gb_types.specs.declared.request.Request.TheVariants.{AddTenant, Make,
 use Rattle.gb_types.specs.declared.spec.Spec.{Spec}
 use Rattle.gb_rules.proofs.AddressLemmas.{addr_is}
 use Rattle.gb_rules.specs.Address.{is_addr}
-use Rattle.gb_rules.specs.Group.{is_other, say_answer}
+use Rattle.gb_rules.specs.Group.{is_other, is_too_long, say_answer}
 use Rattle.gb_rules.specs.declared.phase.Phase.{Phase}
 use Rattle.gb_rules.specs.declared.phase.Phase.TheVariants.{Made, Opened, Shut, Gone}
 use Rattle.gb_rules.specs.Group.{Shown}
@@ -103,8 +104,8 @@ both_where me false f k o t goes h = h
 
 -- A message that is said.
 
-say_in : (x : Shown) (payload : List ℕ) (seq : ℕ) → Said seq ≡ say_answer x payload → seq ≡ x.usage.said + 1
-say_in x payload seq = by x.phase
+say_in : (version : Version) (x : Shown) (payload : List ℕ) (seq : ℕ) → Said seq ≡ say_answer version x payload → seq ≡ x.usage.said + 1
+say_in version x payload seq = by x.phase
   where
     chain : (a b c d : Bool) → Said seq ≡ (if a then Refused TooLong else (if b then Refused Budget else (if c then Refused Bytes else (if d then Refused Window else Said (x.usage.said + 1))))) → seq ≡ x.usage.said + 1
     chain true b c d e = absurd (cc)
@@ -113,9 +114,9 @@ say_in x payload seq = by x.phase
     chain false false false true e = absurd (cc)
     chain false false false false e = cc
 
-    by : (phase : Phase) → Said seq ≡ say_answer (record x { phase = phase }) payload → seq ≡ x.usage.said + 1
+    by : (phase : Phase) → Said seq ≡ say_answer version (record x { phase = phase }) payload → seq ≡ x.usage.said + 1
     by Made e = absurd (cc)
-    by Opened e = chain (nat_lt PAYLOAD (length payload)) (nat_le x.spec.msgs x.usage.said) (nat_lt x.spec.bytes (x.usage.bytes + length payload)) (nat_le x.spec.window x.usage.unfinished) e
+    by Opened e = chain (is_too_long version payload) (nat_le x.spec.msgs x.usage.said) (nat_lt x.spec.bytes (x.usage.bytes + length payload)) (nat_le x.spec.window x.usage.unfinished) e
     by Shut e = absurd (cc)
     by Gone e = absurd (cc)
 
@@ -131,11 +132,11 @@ reply_is answer rows (Some p) = by (row_at rows p).slot
 said_seq : (t : TableValue) (token payload : List ℕ) (addr : Addr) (seq : ℕ) (s : SlotState) → Said seq ≡ table_reply (Say token addr payload) t → group_in addr t.groups.rows ≡ Some (Some s) → seq ≡ s.said + 1
 said_seq t token payload addr seq s e here = by (is_admitted (Say token addr payload) t) e
   where
-    reply : group_reply (λ x. say_answer x payload) addr t.groups.rows ≡ say_answer (shown s) payload
-    reply = reply_is (λ x. say_answer x payload) t.groups.rows (place_of addr t.groups.rows) ∙ ap (λ o. group_answer (λ x. say_answer x payload) (option_map (option_map shown) o)) here
+    reply : group_reply (λ x. say_answer t.version x payload) addr t.groups.rows ≡ say_answer t.version (shown s) payload
+    reply = reply_is (λ x. say_answer t.version x payload) t.groups.rows (place_of addr t.groups.rows) ∙ ap (λ o. group_answer (λ x. say_answer t.version x payload) (option_map (option_map shown) o)) here
 
-    by : (admitted : Bool) → Said seq ≡ (if admitted then group_reply (λ x. say_answer x payload) addr t.groups.rows else Refused Denied) → seq ≡ s.said + 1
-    by true e = say_in (shown s) payload seq (e ∙ reply)
+    by : (admitted : Bool) → Said seq ≡ (if admitted then group_reply (λ x. say_answer t.version x payload) addr t.groups.rows else Refused Denied) → seq ≡ s.said + 1
+    by true e = say_in t.version (shown s) payload seq (e ∙ reply)
     by false e = absurd (cc)
 
 said_told : SlotLaws → (me : NodeId) (s : SlotState) (t : Told) (payload : List ℕ) (seq : ℕ) → seq ≡ s.said + 1 → SlotTold me s t
@@ -244,21 +245,21 @@ module _ (law : SlotLaws) (me from : NodeId) where
           kept_acks : falls from x s ≡ false → (slot_came from x s).acknowledged ≡ s.acknowledged
           kept_acks e = rw e refl
 
-  came_stands : (o : Option (Option SlotState)) (x : Option (Option Told)) (is : List Item) → IsTold me o x → IsTold me (fold (came_for from) o is) (fold (came_told me from) x is)
-  came_stands o x [] h = h
-  came_stands o x (i ∷ is) h =
+  came_stands : (version : Version) (o : Option (Option SlotState)) (x : Option (Option Told)) (is : List Item) → IsTold me o x → IsTold me (fold (came_for version from) o is) (fold (came_told version me from) x is)
+  came_stands version o x [] h = h
+  came_stands version o x (i ∷ is) h =
       let sound = nat_lt i.origin NODES && not (is_too_long version i.payload) in
-      came_stands (came_for from o i) (came_told me from x i) is
+      came_stands version (came_for version from o i) (came_told version me from x i) is
       (both_where me sound (stepped (slot_came from (entry_of i))) (stepped (unless_falls me from (entry_of i))) o x (λ _. told_step me (slot_came from (entry_of i)) (unless_falls me from (entry_of i)) o x (λ s t there st. came_one (entry_of i) s t st) h) h)
 
-pub taken_stands : SlotLaws → (me : NodeId) (key : List ℕ) (g : Addr) (past : List Happened) (frame : Frame) (o : Option (Option SlotState)) (x : Option (Option Told)) (c : Content) → IsTold me o x
-    → IsTold me (taken_for key g past frame o c) (taken_told me key g past frame x c)
-taken_stands law me key g past frame o x c h =
+pub taken_stands : SlotLaws → (version : Version) (me : NodeId) (key : List ℕ) (g : Addr) (past : List Happened) (frame : Frame) (o : Option (Option SlotState)) (x : Option (Option Told)) (c : Content) → IsTold me o x
+    → IsTold me (taken_for version key g past frame o c) (taken_told version me key g past frame x c)
+taken_stands law version me key g past frame o x c h =
     let from = node_numbered c.from in
     let freed = items_for g (items_freed (freed_by key past c)) in
     let acked = done_stands law me from o x freed h in
     elim (cases_Bool (is_first frame)) [
-      | inl e ↦ rw e (came_stands law me from (fold (done_for from) o freed) (fold (done_told me from) x freed) (items_for g c.items) acked)
+      | inl e ↦ rw e (came_stands law me from version (fold (done_for from) o freed) (fold (done_told me from) x freed) (items_for g c.items) acked)
       | inr e ↦ rw e acked
     ]
 

@@ -108,7 +108,8 @@ impl Window {
         // The proof reads how frames are numbered.
         let _ = self.sender.room();
         self.sender.space(bytes)?;
-        table.pack_into(to, room(table.version()), count, self.sender.spare());
+        let most = room(table.version());
+        table.pack_into(to, most, count, self.sender.spare());
         Ok(self.sender.commit())
     }
 }

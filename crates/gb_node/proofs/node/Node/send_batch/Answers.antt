@@ -1,6 +1,6 @@
 use Rattle.std.proofs.Common.{length, ap, sym, ◌∙◌}
 use Rattle.std.proofs.lemmas.List.{length-map}
-use Rattle.gb_frame.specs.declared.limits.TheConstants.{ROOM}
+use Rattle.gb_frame.specs.Room.{room_of}
 use Rattle.gb_groups.specs.GroupsValue.{batch}
 use Rattle.gb_groups.specs.Packing.{item_at}
 use Rattle.gb_node.specs.Frames.{items_in}
@@ -10,4 +10,4 @@ pub write_frame-requires-clause-count : goal.write_frame-requires-clause-count
 write_frame-requires-clause-count c =
     let groups = c.args.self.now.table.groups in
     let sent = ap (λ frame. length (items_in frame)) c.in_ok-number.ensures.frame.2 in
-    sent ∙ (length-map (batch c.args.to.number ROOM groups) (item_at groups.rows) ∙ sym c.requires.count)
+    sent ∙ (length-map (batch c.args.to.number (room_of c.args.self.now.table.version) groups) (item_at groups.rows) ∙ sym c.requires.count)

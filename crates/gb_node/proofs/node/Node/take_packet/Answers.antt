@@ -6,7 +6,16 @@ use Rattle.gb_link.specs.SendWindow.{new_window, freed}
 use Rattle.gb_node.specs.NodeStep.{fate, new_items, without_done, frame_done, frame_comes, receives}
 use Rattle.gb_node.specs.contracts.node.Node.{the_view}
 use Rattle.gb_node.proofs.TookLemmas.{took_good, took_state, set_at}
+use Rattle.gb_node.proofs.VersionLemmas.{taken_keeps}
 use Rattle.gb_node.proofs.node.Node.take_packet.Goals as goal
+
+pub invariant_of-self : goal.invariant_of-self
+invariant_of-self c =
+    let i = c.self.inside in
+    let within : c.index-at.result < length i.windows = search rules in
+    taken_keeps i.table c.take_ack-done.new.table c.take_frame-frame.new.table i.windows c.index-at.result (get_or i.windows c.index-at.result c.index-self-at.result) c.take_ack-done.new.window c.head-head.result.from
+    (freed (get_or i.windows c.index-at.result c.index-self-at.result) c.head-head.result.base c.head-head.result.mask) c.args.packet.now.frame c.args.packet.now.items (get_or i.receivers c.index-at.result c.index-self-at-2.result) c.head-head.result.base c.head-head.result.mask
+    c.take_ack-done.ensures.table c.take_frame-frame.ensures.table c.take_ack-done.ensures.window (get_or_default i.windows c.index-at.result _ new_window within) c.self.invariant
 
 pub returns-clause-good : goal.returns-clause-good
 returns-clause-good c =
