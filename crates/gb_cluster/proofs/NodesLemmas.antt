@@ -71,7 +71,7 @@ have_pasts plan [] v a comes within =
     let is : node_at v a ≡ new_node (node_plan plan a) =
     ap (λ (w : ClusterValue). node_at w a) comes.1
     ∙ (get_or-map-range_with_len fresh 0 plan.nodes a.number a.number (new_node (node_plan plan a)) within (omega arith) ∙ ap (λ b. new_node (node_plan plan b)) (numbered_is a)) in
-    (record { cluster = right.few; member = within; places = right.places; least = right.least; most = right.most }, is)
+    (record { cluster = right.named a.number within; member = within; places = right.places; least = right.least; most = right.most }, is)
 have_pasts plan (d ∷ run) v a comes within =
     let before = have_pasts plan run comes.0 a comes.1 within in
     let acts = comes.3 in

@@ -1,8 +1,9 @@
 -- A cluster as contracts see it.
-use Rattle.std.specs.Prelude.{◌≤◌, List, [], false, map, slice_index_or}
+use Rattle.std.specs.Prelude.{ℕ, ◌<◌, ◌≤◌, List, [], false, map, slice_index_or}
 use Rattle.std.specs.List.{range_with_len}
 use Rattle.gb_types.specs.declared.limits.TheConstants.{NODES, PLACES, SILENCE_MIN, SILENCE_MAX}
 use Rattle.gb_types.specs.declared.node.NodeId.{NodeId}
+use Rattle.gb_types.specs.Version.{limits_of, version_at}
 use Rattle.gb_node.specs.NodeStep.{node_numbered}
 use Rattle.gb_node.specs.NodeValue.{NodeValue, new_node}
 use Rattle.gb_node.specs.declared.plan.NodePlan.{NodePlan}
@@ -20,7 +21,7 @@ cluster plan nodes packets = record { plan = plan; nodes = nodes; packets = pack
 
 -- what a node is started with
 abbrev pub node_plan : Plan → NodeId → NodePlan
-node_plan plan me = record { me = me; nodes = plan.nodes; silence = plan.silence; places = plan.places; cluster_key = plan.cluster_key; admin_key = plan.admin_key; tape = false }
+node_plan plan me = record { me = me; nodes = plan.nodes; version = version_at plan.versions me.number; silence = plan.silence; places = plan.places; cluster_key = plan.cluster_key; admin_key = plan.admin_key; tape = false }
 
 -- a node of the cluster
 abbrev pub node_at : ClusterValue → NodeId → NodeValue
@@ -34,6 +35,8 @@ new_cluster plan = cluster plan (map (λ a. new_node (node_plan plan (node_numbe
 pub record IsClusterPlan (plan : Plan) : Type 0 where
   pub some : 1 ≤ plan.nodes
   pub few : plan.nodes ≤ NODES
+  -- the version that each node sends can name them all
+  pub named : (a : ℕ) → a < plan.nodes → plan.nodes ≤ (limits_of (version_at plan.versions a)).nodes
   pub places : plan.places ≤ PLACES
   pub least : SILENCE_MIN ≤ plan.silence
   pub most : plan.silence ≤ SILENCE_MAX

@@ -13,6 +13,7 @@ pub fn node_plan(plan: &Plan, me: NodeId) -> NodePlan
     NodePlan {
         me,
         nodes: plan.nodes,
+        version: plan.bounds().version_of(me),
         silence: plan.silence,
         places: plan.places,
         cluster_key: plan.cluster_key,
