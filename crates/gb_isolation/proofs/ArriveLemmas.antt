@@ -30,30 +30,32 @@ use Rattle.gb_node.proofs.TookLemmas.{numbered_is}
 use Rattle.gb_cluster.specs.ClusterValue.{node_plan}
 use Rattle.gb_cluster.specs.Run.{Did, past_at}
 use Rattle.gb_types.specs.declared.plan.Plan.{Plan}
+use Rattle.gb_types.specs.declared.version.Version.{Version}
+use Rattle.gb_types.specs.Version.{bounds_of, version_at}
 use Rattle.gb_isolation.specs.Project.{items_of, items_in, offset, made_with, replies_in, is_met, comes, all_acknowledged, acknowledges, brings, arrived, is_new_frame}
 use Rattle.gb_isolation.proofs.View.{View, view_of, Fits, Goes, AreMarked, frames_for, view_at, AllFit}
 use Rattle.gb_isolation.proofs.GoesLemmas.{goes_on}
-use Rattle.gb_isolation.proofs.DoneLemmas.{IsFit, with_acks, acks_goes}
+use Rattle.gb_isolation.proofs.DoneLemmas.{IsOfNode, with_acks, acks_goes}
 use Rattle.gb_isolation.proofs.PastLemmas.{number_same}
 use Rattle.gb_isolation.proofs.ComeLemmas.{with_frame, frame_goes}
 
 -- The view.
 
 -- the view after a packet from a node is taken, whose frame comes for the first time or does not
-abbrev with_packet : Addr → NodeId → Content → Bool → View → View
-with_packet g me c first v =
+abbrev with_packet : Version → Addr → NodeId → Content → Bool → View → View
+with_packet version g me c first v =
     let u : View = with_acks g me (node_numbered c.from) c.from (covers c.base c.mask) v in
     record u {
-      told = if first then fold (came_told me (node_numbered c.from)) u.told (items_for g c.items) else u.told;
+      told = if first then fold (came_told version me (node_numbered c.from)) u.told (items_for g c.items) else u.told;
       taken = λ b n. (first && (nat_eq c.from b && nat_eq c.frame n)) || v.taken b n;
     }
 
 packet_view : (plan : NodePlan) (g : Addr) (past : List Happened) (bytes : List ℕ) (good : Good) (c : Content) → read plan.cluster_key bytes ≡ c ∷ []
-    → view_of plan g (record { event = Brought bytes; answer = Taken (TakenGood good) } ∷ past) ≡ with_packet g plan.me c (is_first good.frame) (view_of plan g past)
+    → view_of plan g (record { event = Brought bytes; answer = Taken (TakenGood good) } ∷ past) ≡ with_packet plan.version g plan.me c (is_first good.frame) (view_of plan g past)
 unfolding frames_to is_acked is_taken watched tenants_in told_of made_with replies_in is_met
 packet_view plan g past bytes good c is = λ i. record {
   reserve = option_map reserve_of (row_of g.tenant (append-nil (tenants_in past) i));
-  told = fold (taken_told plan.me plan.cluster_key g past good.frame) (told_of plan g past) (is i);
+  told = fold (taken_told plan.version plan.me plan.cluster_key g past good.frame) (told_of plan g past) (is i);
   made = made_with g past;
   noticed = set.contains (replay (start plan.me.number plan.nodes plan.silence) (map (λ (x : Content). Heard x.from) (is i) ++ watched plan.cluster_key past)).noticed;
   replies = append-nil (replies_in plan.me g past) i;
@@ -72,7 +74,7 @@ module _ (plan : Plan) (g : Addr) (run : List Did) (a : NodeId) (bytes : List �
     (fresh : is_first good.frame ≡ is_new_frame plan.cluster_key (past_at a run) right.content)
     (framed : is_first good.frame ≡ true → slice_get (frames_to plan.cluster_key a.number (past_at (node_numbered right.content.from) run)) (right.content.frame - 1) ≡ Some right.content.items)
     (got : (n : ℕ) → 1 ≤ n → covers right.content.base right.content.mask n ≡ true → is_taken plan.cluster_key a.number n (past_at (node_numbered right.content.from) run) ≡ true)
-    (fit : (x : NodeId) → x.number < plan.nodes → (b k : ℕ) (f : List Item) → slice_get (frames_to plan.cluster_key b (past_at x run)) k ≡ Some f → All IsFit (items_for g f))
+    (fit : (x : NodeId) → x.number < plan.nodes → (b k : ℕ) (f : List Item) → slice_get (frames_to plan.cluster_key b (past_at x run)) k ≡ Some f → All IsOfNode (items_for g f))
     (fits : AllFit plan g run group)
     (stops : (b : NodeId) → b.number < plan.nodes → (group b.number).stopped ≡ true → is_stopped (past_at b run) ≡ true) where
   abbrev key : List ℕ
@@ -87,6 +89,9 @@ module _ (plan : Plan) (g : Addr) (run : List Did) (a : NodeId) (bytes : List �
 
   abbrev past : List Happened
   past = past_at a run
+
+  abbrev version : Version
+  version = version_at plan.versions a.number
 
   abbrev v : View
   v = view_at plan g run a
@@ -126,20 +131,20 @@ module _ (plan : Plan) (g : Addr) (run : List Did) (a : NodeId) (bytes : List �
   abbrev u : View
   u = with_acks g a s c.from covered v
 
-  acks_part : Goes plan.nodes g a frames_from u group (acknowledges plan g past a c)
-  acks_part = subst (λ d. Goes plan.nodes g a frames_from (with_acks g a s d covered v) group (all_acknowledged g a s (λ n. covered n && not (is_acked key d n past)) 1 0 (frames_to key d past))) number
-      (acks_goes plan.nodes g a s frames_from v group covered sender_inside (λ same. apart (sym same)) running (λ k f at. fit a inside s.number k f at)
+  acks_part : Goes (bounds_of plan) g a frames_from u group (acknowledges plan g past a c)
+  acks_part = subst (λ d. Goes (bounds_of plan) g a frames_from (with_acks g a s d covered v) group (all_acknowledged g a s (λ n. covered n && not (is_acked key d n past)) 1 0 (frames_to key d past))) number
+      (acks_goes (bounds_of plan) g a s frames_from v group covered sender_inside (λ same. apart (sym same)) running (λ k f at. fit a inside s.number k f at)
       (λ n place covers_it low high. come.each n place low high ∙ got (n + 1) (omega arith) covers_it) here)
 
   abbrev mid : Group
-  mid = alone_from plan.nodes g.group group (acknowledges plan g past a c)
+  mid = alone_from (bounds_of plan) g.group group (acknowledges plan g past a c)
 
-  frame_part : is_first good.frame ≡ true → Goes plan.nodes g a frames_from (with_packet g a c true v) mid (brings plan g run a c)
+  frame_part : is_first good.frame ≡ true → Goes (bounds_of plan) g a frames_from (with_packet version g a c true v) mid (brings plan g run a c)
   frame_part first =
-      subst (λ fs. Goes plan.nodes g a frames_from (with_packet g a c true v) mid (comes s a (offset g fs (c.frame - 1)) (length (items_in g c.items)))) forth
-      (subst (λ d. Goes plan.nodes g a frames_from (with_frame a s d c.frame (items_for g c.items) u) mid (comes s a (offset g (frames_from s.number) (c.frame - 1)) (length (items_in g c.items)))) number
-      (subst (λ n. Goes plan.nodes g a frames_from (with_frame a s s.number n (items_for g c.items) u) mid (comes s a (offset g (frames_from s.number) (c.frame - 1)) (length (items_in g c.items)))) counted
-      (frame_goes plan.nodes g a s frames_from u mid (c.frame - 1) c.items (waiting_of (view_at plan g run s).told a.number) sender_inside apart (acks_part.there.stopped ∙ (sym here.stopped ∙ running))
+      subst (λ fs. Goes (bounds_of plan) g a frames_from (with_packet version g a c true v) mid (comes s a (offset g fs (c.frame - 1)) (length (items_in g c.items)))) forth
+      (subst (λ d. Goes (bounds_of plan) g a frames_from (with_frame version a s d c.frame (items_for g c.items) u) mid (comes s a (offset g (frames_from s.number) (c.frame - 1)) (length (items_in g c.items)))) number
+      (subst (λ n. Goes (bounds_of plan) g a frames_from (with_frame version a s s.number n (items_for g c.items) u) mid (comes s a (offset g (frames_from s.number) (c.frame - 1)) (length (items_in g c.items)))) counted
+      (frame_goes (bounds_of plan) g a s frames_from u mid (c.frame - 1) c.items (waiting_of (view_at plan g run s).told a.number) sender_inside apart (acks_part.there.stopped ∙ (sym here.stopped ∙ running))
       (ap (λ fs. slice_get fs (c.frame - 1)) forth ∙ framed first) (fit s sender_inside a.number (c.frame - 1) c.items (framed first))
       (ap (λ (m : Member). m.put a.number) same_sender ∙ (sender.put a.number inside ∙ ap (λ fs. items_of g fs ++ waiting_of (view_at plan g run s).told a.number) (sym forth)))
       (ap (λ (m : Member). m.taken a.number) same_sender ∙ (sender.taken a.number inside ∙ ap (λ fs. length (items_of g fs)) (sym forth)))
@@ -154,15 +159,15 @@ module _ (plan : Plan) (g : Addr) (run : List Did) (a : NodeId) (bytes : List �
       same_sender : mid s.number ≡ group s.number
       same_sender = acks_part.elsewhere s.number apart
 
-  packet_part : (first : Bool) → is_first good.frame ≡ first → Goes plan.nodes g a frames_from (with_packet g a c first v) group (acknowledges plan g past a c ++ (if first then brings plan g run a c else []))
-  packet_part true is = goes_on plan.nodes g a frames_from u (with_packet g a c true v) group (acknowledges plan g past a c) (brings plan g run a c) acks_part (frame_part is)
-  packet_part false is = subst (λ given. Goes plan.nodes g a frames_from u group given) (sym (append-nil (acknowledges plan g past a c))) acks_part
+  packet_part : (first : Bool) → is_first good.frame ≡ first → Goes (bounds_of plan) g a frames_from (with_packet version g a c first v) group (acknowledges plan g past a c ++ (if first then brings plan g run a c else []))
+  packet_part true is = goes_on (bounds_of plan) g a frames_from u (with_packet version g a c true v) group (acknowledges plan g past a c) (brings plan g run a c) acks_part (frame_part is)
+  packet_part false is = subst (λ given. Goes (bounds_of plan) g a frames_from u group given) (sym (append-nil (acknowledges plan g past a c))) acks_part
 
   given : flat_map (arrived plan g run a) (read key bytes) ≡ acknowledges plan g past a c ++ (if is_first good.frame then brings plan g run a c else [])
   given = ap (flat_map (arrived plan g run a)) right.text_is ∙ (append-nil (arrived plan g run a c) ∙ ap (λ b. acknowledges plan g past a c ++ (if b then brings plan g run a c else [])) (sym fresh))
 
   -- what a packet that is taken gives a group
-  pub arrived_goes : Goes plan.nodes g a frames_from (view_of (node_plan plan a) g (record { event = Brought bytes; answer = Taken (TakenGood good) } ∷ past)) group (flat_map (arrived plan g run a) (read key bytes))
-  arrived_goes = subst (λ xs. Goes plan.nodes g a frames_from (view_of (node_plan plan a) g (record { event = Brought bytes; answer = Taken (TakenGood good) } ∷ past)) group xs) (sym given)
-      (subst (λ w. Goes plan.nodes g a frames_from w group (acknowledges plan g past a c ++ (if is_first good.frame then brings plan g run a c else []))) (sym (packet_view (node_plan plan a) g past bytes good c right.text_is))
+  pub arrived_goes : Goes (bounds_of plan) g a frames_from (view_of (node_plan plan a) g (record { event = Brought bytes; answer = Taken (TakenGood good) } ∷ past)) group (flat_map (arrived plan g run a) (read key bytes))
+  arrived_goes = subst (λ xs. Goes (bounds_of plan) g a frames_from (view_of (node_plan plan a) g (record { event = Brought bytes; answer = Taken (TakenGood good) } ∷ past)) group xs) (sym given)
+      (subst (λ w. Goes (bounds_of plan) g a frames_from w group (acknowledges plan g past a c ++ (if is_first good.frame then brings plan g run a c else []))) (sym (packet_view (node_plan plan a) g past bytes good c right.text_is))
       (packet_part (is_first good.frame) refl))

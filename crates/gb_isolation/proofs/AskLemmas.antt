@@ -13,6 +13,8 @@ use Rattle.gb_types.specs.declared.reply.Reply.TheVariants.{Done, Said, Refused}
 use Rattle.gb_types.specs.declared.request.Request.{Request}
 use Rattle.gb_types.specs.declared.request.Request.TheVariants.{AddTenant, Make, OpenGroup, ShutGroup, DropGroup, Say, Fetch}
 use Rattle.gb_types.specs.declared.spec.Spec.{Spec}
+use Rattle.gb_types.specs.declared.plan.Bounds.{Bounds}
+use Rattle.gb_types.specs.declared.version.Version.{Version}
 use Rattle.gb_frame.specs.declared.item.Item.{Item}
 use Rattle.gb_rules.specs.Tenant.{reserve_of, row_of}
 use Rattle.gb_rules.specs.declared.reserve.Reserve.{Reserve}
@@ -30,7 +32,7 @@ use Rattle.gb_isolation.proofs.GoesLemmas.{goes_one}
 use Rattle.gb_isolation.proofs.MarkLemmas.{or_and_off}
 use Rattle.gb_isolation.proofs.MemberLemmas.{same_member}
 use Rattle.gb_isolation.proofs.UnrelatedLemmas.{unrelated_goes}
-use Rattle.gb_isolation.proofs.View.{View, view_of, MemberIs, KeepsAcks, IsInside, AreMarked, Fits, Goes}
+use Rattle.gb_isolation.proofs.View.{View, view_of, bounds_with, MemberIs, KeepsAcks, IsInside, AreMarked, Fits, Goes}
 
 -- The view.
 
@@ -89,14 +91,14 @@ refused_makes g (Say token addr payload) why = refl
 refused_makes g (Fetch token addr from most) why = refl
 
 -- a request that is not the group's own, and makes nothing of it
-pub unrelated_request : (plan : NodePlan) (g : Addr) (past : List Happened) (request : Request) (reply : Reply) (frames_from : ℕ → List (List Item)) (group : Group)
+pub unrelated_request : (plan : NodePlan) (versions : List Version) (g : Addr) (past : List Happened) (request : Request) (reply : Reply) (frames_from : ℕ → List (List Item)) (group : Group)
     → is_own_request plan.me g past request ≡ false
     → added (Asked request) (Replied reply) ≡ []
     → asked_told g plan.me (noticed_in plan past) request reply (told_of plan g past) ≡ told_of plan g past
     → made_by g (Asked request) (Replied reply) ≡ None
     → Fits plan.nodes g plan.me.number frames_from (view_of plan g past) (group plan.me.number)
-    → Goes plan.nodes g plan.me frames_from (view_of plan g (asking request reply ∷ past)) group []
-unrelated_request plan g past request reply frames_from group other rows told unmade fits = unrelated_goes plan g past (Asked request) (Replied reply) frames_from group (record {
+    → Goes (bounds_with plan versions) g plan.me frames_from (view_of plan g (asking request reply ∷ past)) group []
+unrelated_request plan versions g past request reply frames_from group other rows told unmade fits = unrelated_goes plan versions g past (Asked request) (Replied reply) frames_from group (record {
   packed = λ b. refl;
   none_came = refl;
   none_taken = λ b n. refl;
@@ -109,12 +111,12 @@ unrelated_request plan g past request reply frames_from group other rows told un
 }) fits
 
 -- and so one that is refused
-pub refused_unrelated : (plan : NodePlan) (g : Addr) (past : List Happened) (request : Request) (why : Refusal) (frames_from : ℕ → List (List Item)) (group : Group)
+pub refused_unrelated : (plan : NodePlan) (versions : List Version) (g : Addr) (past : List Happened) (request : Request) (why : Refusal) (frames_from : ℕ → List (List Item)) (group : Group)
     → is_own_request plan.me g past request ≡ false
     → Fits plan.nodes g plan.me.number frames_from (view_of plan g past) (group plan.me.number)
-    → Goes plan.nodes g plan.me frames_from (view_of plan g (asking request (Refused why) ∷ past)) group []
-refused_unrelated plan g past request why frames_from group other fits =
-    unrelated_request plan g past request (Refused why) frames_from group other (added_refused request why) (asked_untold g plan.me (noticed_in plan past) request why (told_of plan g past)) (refused_makes g request why) fits
+    → Goes (bounds_with plan versions) g plan.me frames_from (view_of plan g (asking request (Refused why) ∷ past)) group []
+refused_unrelated plan versions g past request why frames_from group other fits =
+    unrelated_request plan versions g past request (Refused why) frames_from group other (added_refused request why) (asked_untold g plan.me (noticed_in plan past) request why (told_of plan g past)) (refused_makes g request why) fits
 
 -- A command.
 
@@ -151,15 +153,15 @@ pub member_fits : (nodes : ℕ) (g : Addr) (me : ℕ) (frames_from : ℕ → Lis
 member_fits nodes g me frames_from v m fits = record { told = fits.told; inside = fits.inside; put = fits.put; taken = fits.taken; acks = fits.acks }
 
 -- a command of the group that does not make it
-pub commands : (nodes : ℕ) (g : Addr) (a : NodeId) (frames_from : ℕ → List (List Item)) (v : View) (group : Group) (e : GroupEvent) (reply : Reply) (o : Option (Option Told))
-    → Fits nodes g a.number frames_from v (group a.number)
+pub commands : (bounds : Bounds) (g : Addr) (a : NodeId) (frames_from : ℕ → List (List Item)) (v : View) (group : Group) (e : GroupEvent) (reply : Reply) (o : Option (Option Told))
+    → Fits bounds.nodes g a.number frames_from v (group a.number)
     → MayHappen a e group
-    → member_after nodes g.group a e group ≡ commanded a e reply (group a.number)
+    → member_after bounds g.group a e group ≡ commanded a e reply (group a.number)
     → (did a e reply (group a.number)).spec ≡ (group a.number).spec
-    → MemberFits nodes a.number (carried_in g v) o (did a e reply (group a.number))
-    → Goes nodes g a frames_from (record v { told = o; replies = v.replies ++ reply ∷ [] }) group (record { node = a; event = e } ∷ [])
-commands nodes g a frames_from v group e reply o fits may is spec tells =
-    goes_one nodes g a frames_from (record v { told = o; replies = v.replies ++ reply ∷ [] }) group e may (subst (Fits nodes g a.number frames_from (record v { told = o; replies = v.replies ++ reply ∷ [] })) (sym is) (record {
+    → MemberFits bounds.nodes a.number (carried_in g v) o (did a e reply (group a.number))
+    → Goes bounds g a frames_from (record v { told = o; replies = v.replies ++ reply ∷ [] }) group (record { node = a; event = e } ∷ [])
+commands bounds g a frames_from v group e reply o fits may is spec tells =
+    goes_one bounds g a frames_from (record v { told = o; replies = v.replies ++ reply ∷ [] }) group e may (subst (Fits bounds.nodes g a.number frames_from (record v { told = o; replies = v.replies ++ reply ∷ [] })) (sym is) (record {
       reserve = keeps.reserve ∙ fits.reserve;
       told = same_member o (did a e reply (group a.number)) (commanded a e reply (group a.number)) refl refl refl tells.told;
       inside = tells.inside;

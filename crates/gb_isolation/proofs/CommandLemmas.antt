@@ -19,6 +19,8 @@ use Rattle.gb_types.specs.declared.request.Request.{Request}
 use Rattle.gb_types.specs.declared.request.Request.TheVariants.{AddTenant, Make, OpenGroup, ShutGroup, DropGroup, Say, Fetch}
 use Rattle.gb_types.specs.declared.spec.Spec.{Spec}
 use Rattle.gb_types.specs.declared.spec.TenantRow.{TenantRow}
+use Rattle.gb_types.specs.declared.version.Version.{Version}
+use Rattle.gb_types.specs.Version.{version_at}
 use Rattle.gb_frame.specs.declared.item.Item.{Item}
 use Rattle.gb_rules.specs.Address.{is_addr}
 use Rattle.gb_rules.specs.Group.{Shown, is_gone, is_member, on_made, open_answer, shut_answer, drop_answer, say_answer, fetch_answer}
@@ -47,7 +49,7 @@ use Rattle.gb_isolation.proofs.AskLemmas.{MemberFits, asking, carried_in, comman
 use Rattle.gb_isolation.proofs.FinishedLemmas.{counts_fit, unknown_acknowledged}
 use Rattle.gb_isolation.proofs.MemberLemmas.{answered-is, called_there, called_put}
 use Rattle.gb_isolation.proofs.PastLemmas.{running_unmet}
-use Rattle.gb_isolation.proofs.View.{View, view_of, IsThere, IsInside, Fits, Goes}
+use Rattle.gb_isolation.proofs.View.{View, view_of, IsThere, IsInside, Fits, Goes, bounds_with}
 
 -- A request that names a group comes with the token that it needs where it comes with the group's.
 pub group_token_is : (plan : NodePlan) (g : Addr) (past : List Happened) (request : Request) → is_named g request ≡ true → has_group_token_by plan.me past request ≡ is_admitted_by plan past request
@@ -89,15 +91,15 @@ by_some r (Some reserve) is = refl
 
 -- One command.
 
-module _ (plan : NodePlan) (g : Addr) (past : List Happened) (request : Request) (reply : Reply) (frames_from : ℕ → List (List Item)) (group : Group) where
+module _ (plan : NodePlan) (versions : List Version) (g : Addr) (past : List Happened) (request : Request) (reply : Reply) (frames_from : ℕ → List (List Item)) (group : Group) where
   -- a request with this reply goes so
   abbrev pub AskedGoes : Type 0
-  AskedGoes = Goes plan.nodes g plan.me frames_from (view_of plan g (asking request reply ∷ past)) group (asked plan g past request reply)
+  AskedGoes = Goes (bounds_with plan versions) g plan.me frames_from (view_of plan g (asking request reply ∷ past)) group (asked plan g past request reply)
 
   -- the group alone answers as a running node
   pub replies_running : (e : GroupEvent) → is_stopped past ≡ false → Fits plan.nodes g plan.me.number frames_from (view_of plan g past) (group plan.me.number)
-      → reply_to plan.nodes g.group plan.me.number e (group plan.me.number) ≡ running_reply plan.nodes g.group plan.me.number e (group plan.me.number)
-  replies_running e running fits = ap (λ (b : Bool). if b then Refused Stopped else running_reply plan.nodes g.group plan.me.number e (group plan.me.number)) (fits.stopped ∙ running_unmet plan g past running)
+      → reply_to (bounds_with plan versions) g.group plan.me.number e (group plan.me.number) ≡ running_reply (bounds_with plan versions) g.group plan.me.number e (group plan.me.number)
+  replies_running e running fits = ap (λ (b : Bool). if b then Refused Stopped else running_reply (bounds_with plan versions) g.group plan.me.number e (group plan.me.number)) (fits.stopped ∙ running_unmet plan g past running)
 
   -- what the group's own request gives it at a running node
   pub given_own : is_stopped past ≡ false → is_own_request plan.me g past request ≡ true → asked plan g past request reply ≡ tenant_given g plan.me request reply ++ own_requested plan g past request reply
@@ -113,16 +115,16 @@ module _ (plan : NodePlan) (g : Addr) (past : List Happened) (request : Request)
       → made_by g (Asked request) (Replied reply) ≡ None
       → tenant_given g plan.me request reply ++ own_requested plan g past request reply ≡ record { node = plan.me; event = e } ∷ []
       → MayHappen plan.me e group
-      → member_after plan.nodes g.group plan.me e group ≡ commanded plan.me e (reply_to plan.nodes g.group plan.me.number e (group plan.me.number)) (group plan.me.number)
-      → running_reply plan.nodes g.group plan.me.number e (group plan.me.number) ≡ reply
+      → member_after (bounds_with plan versions) g.group plan.me e group ≡ commanded plan.me e (reply_to (bounds_with plan versions) g.group plan.me.number e (group plan.me.number)) (group plan.me.number)
+      → running_reply (bounds_with plan versions) g.group plan.me.number e (group plan.me.number) ≡ reply
       → (did plan.me e reply (group plan.me.number)).spec ≡ (group plan.me.number).spec
       → Fits plan.nodes g plan.me.number frames_from (view_of plan g past) (group plan.me.number)
       → MemberFits plan.nodes plan.me.number (carried_in g (view_of plan g past)) o (did plan.me e reply (group plan.me.number))
       → AskedGoes
   own_command e o running own rows told unmade one may is same spec fits tells =
-      subst (λ es. Goes plan.nodes g plan.me frames_from (view_of plan g (asking request reply ∷ past)) group es) (sym (given_own running own ∙ one))
-      (subst (λ (v : View). Goes plan.nodes g plan.me frames_from v group (record { node = plan.me; event = e } ∷ [])) (sym (view_own plan g past request reply o (made_with g past) running own rows told (ap (λ x. or_else x (made_with g past)) unmade)))
-      (commands plan.nodes g plan.me frames_from (view_of plan g past) group e reply o fits may (is ∙ ap (λ r. commanded plan.me e r (group plan.me.number)) (replies_running e running fits ∙ same)) spec tells))
+      subst (λ es. Goes (bounds_with plan versions) g plan.me frames_from (view_of plan g (asking request reply ∷ past)) group es) (sym (given_own running own ∙ one))
+      (subst (λ (v : View). Goes (bounds_with plan versions) g plan.me frames_from v group (record { node = plan.me; event = e } ∷ [])) (sym (view_own plan g past request reply o (made_with g past) running own rows told (ap (λ x. or_else x (made_with g past)) unmade)))
+      (commands (bounds_with plan versions) g plan.me frames_from (view_of plan g past) group e reply o fits may (is ∙ ap (λ r. commanded plan.me e r (group plan.me.number)) (replies_running e running fits ∙ same)) spec tells))
 
 -- the rules answer the same for the group alone
 pub answers_alike : (plan : NodePlan) (g : Addr) (past : List Happened) (request : Request) (frames_from : ℕ → List (List Item)) (group : Group) (answer : Shown → Reply) → plan.nodes ≤ NODES → is_own_request plan.me g past request ≡ true
@@ -278,14 +280,14 @@ said_fits nodes a carried payload seq t m fresh fits = record {
         let now : k ≡ said_in t.calls = omega (arith, said, last) in
         fits.acks.beyond b (k + 1) (omega (arith, now)) ∙ sym (ap (λ n. is_acknowledged a.number (n + 1) (m.done b) 1 (carried b)) now ∙ unknown_acknowledged a.number (said_in t.calls + 1) (m.done b) 1 (carried b) (fresh b low))
 
-says : (nodes : ℕ) (a : NodeId) (carried : ℕ → List Entry) (payload : List ℕ) (o : Option (Option Told)) (m : Member) (r : Reply) → group_answer (λ s. say_answer s payload) (shown_in a.number o) ≡ r
+says : (version : Version) (nodes : ℕ) (a : NodeId) (carried : ℕ → List Entry) (payload : List ℕ) (o : Option (Option Told)) (m : Member) (r : Reply) → group_answer (λ s. say_answer version s payload) (shown_in a.number o) ≡ r
     → ((t : Told) → o ≡ Some (Some t) → (b : ℕ) → b < nodes → list_any (alone.is_own a.number (said_in t.calls + 1)) (carried b) ≡ false)
     → MemberFits nodes a.number carried o m → MemberFits nodes a.number carried (said_after a payload r o) (did a (AskSay payload) r m)
-says nodes a carried payload o m (Said seq) is fresh fits =
-    let made = found_from (λ s. say_answer s payload) a.number (Said seq) (said_accepted seq) o is in
+says version nodes a carried payload o m (Said seq) is fresh fits =
+    let made = found_from (λ s. say_answer version s payload) a.number (Said seq) (said_accepted seq) o is in
     subst (λ x. MemberFits nodes a.number carried (stepped (with_call a (saying a payload seq)) x) (called a.number (saying a payload seq) m)) (sym made.1)
     (said_fits nodes a carried payload seq made.0 m (fresh made.0 made.1) (subst (λ x. MemberFits nodes a.number carried x m) made.1 fits))
-says nodes a carried payload o m r is fresh fits = fits
+says version nodes a carried payload o m r is fresh fits = fits
 
 said_spec : (a : NodeId) (payload : List ℕ) (r : Reply) (m : Member) → (did a (AskSay payload) r m).spec ≡ m.spec
 said_spec a payload (Said seq) m = refl
@@ -297,7 +299,7 @@ said_for g me noticed token addr payload r o here = refl
 
 -- The group's commands, each with the node's reply.
 
-module _ (plan : NodePlan) (g : Addr) (past : List Happened) (frames_from : ℕ → List (List Item)) (group : Group) (reply : Reply) (token : List ℕ) (addr : Addr) where
+module _ (plan : NodePlan) (versions : List Version) (g : Addr) (past : List Happened) (frames_from : ℕ → List (List Item)) (group : Group) (reply : Reply) (token : List ℕ) (addr : Addr) where
   abbrev before : View
   before = view_of plan g past
 
@@ -309,53 +311,53 @@ module _ (plan : NodePlan) (g : Addr) (past : List Happened) (frames_from : ℕ 
   same_answer answer named is = sym (is ∙ ap (λ (x : Addr). group_answer answer (shown_in plan.me.number (told_of plan x past))) (sym (addr_is g addr named)))
 
   pub at_open : plan.nodes ≤ NODES → is_stopped past ≡ false → is_own_request plan.me g past (OpenGroup token addr) ≡ true → reply ≡ admitted_answer plan past (OpenGroup token addr)
-      → Fits plan.nodes g plan.me.number frames_from before m → AskedGoes plan g past (OpenGroup token addr) reply frames_from group
+      → Fits plan.nodes g plan.me.number frames_from before m → AskedGoes plan versions g past (OpenGroup token addr) reply frames_from group
   at_open few running own is fits =
       let named = (and_parts (is_addr g addr) (has_group_token_by plan.me past (OpenGroup token addr)) own).0 in
       let same = same_answer open_answer named is in
-      own_command plan g past (OpenGroup token addr) reply frames_from group AskOpen (moved_after Opened reply (told_of plan g past)) running own refl (opened_for g plan.me (noticed_in plan past) token addr reply (told_of plan g past) named) refl refl tt refl
+      own_command plan versions g past (OpenGroup token addr) reply frames_from group AskOpen (moved_after Opened reply (told_of plan g past)) running own refl (opened_for g plan.me (noticed_in plan past) token addr reply (told_of plan g past) named) refl refl tt refl
       (answers_alike plan g past (OpenGroup token addr) frames_from group open_answer few own fits ∙ same)
       (ap (λ (n : Member). n.spec) (did_opened plan.me reply m) ∙ moved_spec Opened reply m) fits
       (subst (λ (n : Member). MemberFits plan.nodes plan.me.number (carried_in g before) (moved_after Opened reply (told_of plan g past)) n) (sym (did_opened plan.me reply m))
       (moves open_answer Opened refl plan.nodes plan.me.number (carried_in g before) (told_of plan g past) m reply same (member_fits plan.nodes g plan.me.number frames_from before m fits)))
 
   pub at_shut : plan.nodes ≤ NODES → is_stopped past ≡ false → is_own_request plan.me g past (ShutGroup token addr) ≡ true → reply ≡ admitted_answer plan past (ShutGroup token addr)
-      → Fits plan.nodes g plan.me.number frames_from before m → AskedGoes plan g past (ShutGroup token addr) reply frames_from group
+      → Fits plan.nodes g plan.me.number frames_from before m → AskedGoes plan versions g past (ShutGroup token addr) reply frames_from group
   at_shut few running own is fits =
       let named = (and_parts (is_addr g addr) (has_group_token_by plan.me past (ShutGroup token addr)) own).0 in
       let same = same_answer shut_answer named is in
-      own_command plan g past (ShutGroup token addr) reply frames_from group AskShut (moved_after Shut reply (told_of plan g past)) running own refl (shut_for g plan.me (noticed_in plan past) token addr reply (told_of plan g past) named) refl refl tt refl
+      own_command plan versions g past (ShutGroup token addr) reply frames_from group AskShut (moved_after Shut reply (told_of plan g past)) running own refl (shut_for g plan.me (noticed_in plan past) token addr reply (told_of plan g past) named) refl refl tt refl
       (answers_alike plan g past (ShutGroup token addr) frames_from group shut_answer few own fits ∙ same)
       (ap (λ (n : Member). n.spec) (did_shut plan.me reply m) ∙ moved_spec Shut reply m) fits
       (subst (λ (n : Member). MemberFits plan.nodes plan.me.number (carried_in g before) (moved_after Shut reply (told_of plan g past)) n) (sym (did_shut plan.me reply m))
       (moves shut_answer Shut refl plan.nodes plan.me.number (carried_in g before) (told_of plan g past) m reply same (member_fits plan.nodes g plan.me.number frames_from before m fits)))
 
   pub at_drop : plan.nodes ≤ NODES → is_stopped past ≡ false → is_own_request plan.me g past (DropGroup token addr) ≡ true → reply ≡ admitted_answer plan past (DropGroup token addr)
-      → Fits plan.nodes g plan.me.number frames_from before m → AskedGoes plan g past (DropGroup token addr) reply frames_from group
+      → Fits plan.nodes g plan.me.number frames_from before m → AskedGoes plan versions g past (DropGroup token addr) reply frames_from group
   at_drop few running own is fits =
       let named = (and_parts (is_addr g addr) (has_group_token_by plan.me past (DropGroup token addr)) own).0 in
       let same = same_answer drop_answer named is in
-      own_command plan g past (DropGroup token addr) reply frames_from group AskDrop (dropped_after reply (told_of plan g past)) running own refl (dropped_for g plan.me (noticed_in plan past) token addr reply (told_of plan g past) named) refl refl tt refl
+      own_command plan versions g past (DropGroup token addr) reply frames_from group AskDrop (dropped_after reply (told_of plan g past)) running own refl (dropped_for g plan.me (noticed_in plan past) token addr reply (told_of plan g past) named) refl refl tt refl
       (answers_alike plan g past (DropGroup token addr) frames_from group drop_answer few own fits ∙ same)
       (ap (λ (n : Member). n.spec) (did_dropped plan.me reply m) ∙ dropped_spec reply m) fits
       (subst (λ (n : Member). MemberFits plan.nodes plan.me.number (carried_in g before) (dropped_after reply (told_of plan g past)) n) (sym (did_dropped plan.me reply m))
       (drops plan.nodes plan.me.number (carried_in g before) (told_of plan g past) m reply same (member_fits plan.nodes g plan.me.number frames_from before m fits)))
 
-  pub at_say : (payload : List ℕ) → plan.nodes ≤ NODES → is_stopped past ≡ false → is_own_request plan.me g past (Say token addr payload) ≡ true → reply ≡ admitted_answer plan past (Say token addr payload)
+  pub at_say : version_at versions plan.me.number ≡ plan.version → (payload : List ℕ) → plan.nodes ≤ NODES → is_stopped past ≡ false → is_own_request plan.me g past (Say token addr payload) ≡ true → reply ≡ admitted_answer plan past (Say token addr payload)
       → ((t : Told) → told_of plan g past ≡ Some (Some t) → (b : ℕ) → b < plan.nodes → list_any (alone.is_own plan.me.number (said_in t.calls + 1)) (carried_in g before b) ≡ false)
-      → Fits plan.nodes g plan.me.number frames_from before m → AskedGoes plan g past (Say token addr payload) reply frames_from group
-  at_say payload few running own is fresh fits =
+      → Fits plan.nodes g plan.me.number frames_from before m → AskedGoes plan versions g past (Say token addr payload) reply frames_from group
+  at_say right payload few running own is fresh fits =
       let named = (and_parts (is_addr g addr) (has_group_token_by plan.me past (Say token addr payload)) own).0 in
-      let same = same_answer (λ s. say_answer s payload) named is in
-      own_command plan g past (Say token addr payload) reply frames_from group (AskSay payload) (said_after plan.me payload reply (told_of plan g past)) running own refl (said_for g plan.me (noticed_in plan past) token addr payload reply (told_of plan g past) named) refl refl tt refl
-      (answers_alike plan g past (Say token addr payload) frames_from group (λ s. say_answer s payload) few own fits ∙ same)
+      let same = same_answer (λ s. say_answer plan.version s payload) named is in
+      own_command plan versions g past (Say token addr payload) reply frames_from group (AskSay payload) (said_after plan.me payload reply (told_of plan g past)) running own refl (said_for g plan.me (noticed_in plan past) token addr payload reply (told_of plan g past) named) refl refl tt refl
+      (ap (λ version. on_group (λ s. say_answer version s payload) plan.me.number m) right ∙ (answers_alike plan g past (Say token addr payload) frames_from group (λ s. say_answer plan.version s payload) few own fits ∙ same))
       (said_spec plan.me payload reply m) fits
-      (says plan.nodes plan.me (carried_in g before) payload (told_of plan g past) m reply same fresh (member_fits plan.nodes g plan.me.number frames_from before m fits))
+      (says plan.version plan.nodes plan.me (carried_in g before) payload (told_of plan g past) m reply same fresh (member_fits plan.nodes g plan.me.number frames_from before m fits))
 
   pub at_fetch : (from most : ℕ) → plan.nodes ≤ NODES → is_stopped past ≡ false → is_own_request plan.me g past (Fetch token addr from most) ≡ true → reply ≡ admitted_answer plan past (Fetch token addr from most)
-      → Fits plan.nodes g plan.me.number frames_from before m → AskedGoes plan g past (Fetch token addr from most) reply frames_from group
+      → Fits plan.nodes g plan.me.number frames_from before m → AskedGoes plan versions g past (Fetch token addr from most) reply frames_from group
   at_fetch from most few running own is fits =
       let named = (and_parts (is_addr g addr) (has_group_token_by plan.me past (Fetch token addr from most)) own).0 in
-      own_command plan g past (Fetch token addr from most) reply frames_from group (AskFetch from most) (told_of plan g past) running own refl refl refl refl tt refl
+      own_command plan versions g past (Fetch token addr from most) reply frames_from group (AskFetch from most) (told_of plan g past) running own refl refl refl refl tt refl
       (answers_alike plan g past (Fetch token addr from most) frames_from group (λ s. fetch_answer s from most) few own fits ∙ same_answer (λ s. fetch_answer s from most) named is)
       refl fits (member_fits plan.nodes g plan.me.number frames_from before m fits)

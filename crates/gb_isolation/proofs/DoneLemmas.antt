@@ -13,10 +13,11 @@ use Rattle.gb_types.proofs.BoolLemmas.{or_off}
 use Rattle.gb_types.specs.Entry.{message_of}
 use Rattle.gb_types.specs.declared.address.Addr.{Addr}
 use Rattle.gb_types.specs.declared.entry.Entry.{Entry}
-use Rattle.gb_types.specs.declared.limits.TheConstants.{NODES, PAYLOAD}
+use Rattle.gb_types.specs.declared.limits.TheConstants.{NODES}
 use Rattle.gb_types.specs.declared.message.MsgId.{MsgId}
 use Rattle.gb_types.specs.declared.node.NodeId.{NodeId}
 use Rattle.gb_types.specs.declared.spec.Spec.{Spec}
+use Rattle.gb_types.specs.declared.plan.Bounds.{Bounds}
 use Rattle.gb_frame.specs.declared.item.Item.{Item}
 use Rattle.gb_history.specs.History.{said_in}
 use Rattle.gb_rules.specs.Group.{is_member}
@@ -35,35 +36,35 @@ use Rattle.gb_isolation.proofs.MarkLemmas.{Found, is_between, is_in, in_above, i
 
 -- Items that groups put out.
 
--- the item's origin is a node, and it is no longer than a message may be
-abbrev pub IsFit : Item → Type 0
-IsFit i = (i.origin < NODES) × (length i.payload ≤ PAYLOAD)
+-- the item's origin is a node
+abbrev pub IsOfNode : Item → Type 0
+IsOfNode i = i.origin < NODES
 
 -- the group's items of frames that come to these
 abbrev pub freed_of : Addr → (ℕ → Bool) → (ℕ → Bool) → ℕ → List (List Item) → List Item
 freed_of g covered acked n fs = items_for g (items_freed (filter (λ u. covered u.0) (filter (λ u. not (acked u.0)) (numbered n fs))))
 
-fit_joined : (g : Addr) (f xs : List Item) → All IsFit (items_for g f) → All IsFit (items_for g xs) → All IsFit (items_for g (f ++ xs))
+fit_joined : (g : Addr) (f xs : List Item) → All IsOfNode (items_for g f) → All IsOfNode (items_for g xs) → All IsOfNode (items_for g (f ++ xs))
 fit_joined g [] xs here there = there
 fit_joined g (i ∷ f) xs here there = by (names g i) here (λ rest. fit_joined g f xs rest there)
   where
-    by : (t : Bool) → All IsFit (cond t (i ∷ items_for g f) (items_for g f)) → (All IsFit (items_for g f) → All IsFit (items_for g (f ++ xs))) → All IsFit (cond t (i ∷ items_for g (f ++ xs)) (items_for g (f ++ xs)))
-    by true all later = All-cons IsFit i (items_for g (f ++ xs)) (All-head IsFit i (items_for g f) all) (later (All-tail IsFit i (items_for g f) all))
+    by : (t : Bool) → All IsOfNode (cond t (i ∷ items_for g f) (items_for g f)) → (All IsOfNode (items_for g f) → All IsOfNode (items_for g (f ++ xs))) → All IsOfNode (cond t (i ∷ items_for g (f ++ xs)) (items_for g (f ++ xs)))
+    by true all later = All-cons IsOfNode i (items_for g (f ++ xs)) (All-head IsOfNode i (items_for g f) all) (later (All-tail IsOfNode i (items_for g f) all))
     by false all later = later all
 
-pub freed_fit : (g : Addr) (covered acked : ℕ → Bool) (n : ℕ) (fs : List (List Item)) → ((k : ℕ) (f : List Item) → slice_get fs k ≡ Some f → All IsFit (items_for g f)) → All IsFit (freed_of g covered acked n fs)
+pub freed_fit : (g : Addr) (covered acked : ℕ → Bool) (n : ℕ) (fs : List (List Item)) → ((k : ℕ) (f : List Item) → slice_get fs k ≡ Some f → All IsOfNode (items_for g f)) → All IsOfNode (freed_of g covered acked n fs)
 unfolding numbered
-freed_fit g covered acked n [] fit = All-nil IsFit
+freed_fit g covered acked n [] fit = All-nil IsOfNode
 freed_fit g covered acked n (f ∷ fs) fit = by (acked n) (freed_fit g covered acked (n + 1) fs (λ k h at. fit (suc k) h at))
   where
     rest : List (ℕ × List Item)
     rest = filter (λ u. not (acked u.0)) (numbered (n + 1) fs)
 
-    go : (c : Bool) → All IsFit (items_for g (items_freed (filter (λ u. covered u.0) rest))) → All IsFit (items_for g (items_freed (cond c ((n, f) ∷ filter (λ u. covered u.0) rest) (filter (λ u. covered u.0) rest))))
+    go : (c : Bool) → All IsOfNode (items_for g (items_freed (filter (λ u. covered u.0) rest))) → All IsOfNode (items_for g (items_freed (cond c ((n, f) ∷ filter (λ u. covered u.0) rest) (filter (λ u. covered u.0) rest))))
     go false all = all
     go true all = fit_joined g f (items_freed (filter (λ u. covered u.0) rest)) (fit 0 f refl) all
 
-    by : (a : Bool) → All IsFit (items_for g (items_freed (filter (λ u. covered u.0) rest))) → All IsFit (items_for g (items_freed (filter (λ u. covered u.0) (cond (not a) ((n, f) ∷ rest) rest))))
+    by : (a : Bool) → All IsOfNode (items_for g (items_freed (filter (λ u. covered u.0) rest))) → All IsOfNode (items_for g (items_freed (filter (λ u. covered u.0) (cond (not a) ((n, f) ∷ rest) rest))))
     by true all = all
     by false all = go (covered n) all
 
@@ -123,7 +124,7 @@ all_done-same me from (i ∷ xs) o =
 -- Which acknowledgements it tells of.
 
 -- one item is acknowledged
-done_told-one : (me from : NodeId) (i : Item) (k c : ℕ) (o : Option (Option Told)) → IsFit i → k < said_of o
+done_told-one : (me from : NodeId) (i : Item) (k c : ℕ) (o : Option (Option Told)) → IsOfNode i → k < said_of o
     → acknowledged_of (done_told me from o i) (k + 1) c ≡ (acknowledged_of o (k + 1) c || (nat_eq c from.number && is_own me.number (k + 1) (entry_of i)))
 done_told-one me from i k c None fit low = absurd (omega (arith, low))
 done_told-one me from i k c (Some None) fit low = absurd (omega (arith, low))
@@ -133,16 +134,16 @@ done_told-one me from i k c (Some (Some t)) fit low =
     ∙ ap (λ b. t.acknowledged (k + 1) c || (b && (nat_eq c from.number && is_own me.number (k + 1) (entry_of i)))) there
   where
     node : nat_lt i.origin NODES ≡ true
-    node = let low : i.origin < NODES = fit.0 in grind (arith, nat_tests, low)
+    node = let low : i.origin < NODES = fit in grind (arith, nat_tests, low)
 
 -- these items are acknowledged
-items_done : (me from : NodeId) (k c : ℕ) (xs : List Item) (o : Option (Option Told)) → All IsFit xs → k < said_of o
+items_done : (me from : NodeId) (k c : ℕ) (xs : List Item) (o : Option (Option Told)) → All IsOfNode xs → k < said_of o
     → acknowledged_of (fold (done_told me from) o xs) (k + 1) c ≡ (acknowledged_of o (k + 1) c || (nat_eq c from.number && list_any (is_own me.number (k + 1)) (map entry_of xs)))
 items_done me from k c [] o fits low = sym (or-false (acknowledged_of o (k + 1) c)) ∙ ap (λ t. acknowledged_of o (k + 1) c || t) (sym (and-false (nat_eq c from.number)))
 items_done me from k c (i ∷ xs) o fits low =
-    let one = done_told-one me from i k c o (All-head IsFit i xs fits) low in
+    let one = done_told-one me from i k c o (All-head IsOfNode i xs fits) low in
     let said = (done_told-same me from o i).said in
-    let rest = items_done me from k c xs (done_told me from o i) (All-tail IsFit i xs fits) (omega (arith, low, said)) in
+    let rest = items_done me from k c xs (done_told me from o i) (All-tail IsOfNode i xs fits) (omega (arith, low, said)) in
     rest ∙ (ap (λ t. t || (nat_eq c from.number && list_any (is_own me.number (k + 1)) (map entry_of xs))) one ∙ by (acknowledged_of o (k + 1) c) (nat_eq c from.number) (is_own me.number (k + 1) (entry_of i)) (list_any (is_own me.number (k + 1)) (map entry_of xs)))
   where
     by : (x y a b : Bool) → ((x || (y && a)) || (y && b)) ≡ (x || (y && (a || b)))
@@ -162,7 +163,7 @@ none_done me from seq c (i ∷ xs) o far none = none_done me from seq c xs (done
     one (Some (Some t)) far none true = let out : nat_le seq (said_in t.calls) ≡ false = grind (arith, nat_tests, far) in rw (none, out) refl
 
 -- what is told of acknowledgements after one of a node
-pub acks_taken : (nodes : ℕ) (me from : NodeId) (xs : List Item) (o : Option (Option Told)) (carried : ℕ → List Entry) (done next : ℕ → List ℕ) → All IsFit xs
+pub acks_taken : (nodes : ℕ) (me from : NodeId) (xs : List Item) (o : Option (Option Told)) (carried : ℕ → List Entry) (done next : ℕ → List ℕ) → All IsOfNode xs
     → ((k : ℕ) → is_acknowledged me.number k (next from.number) 1 (carried from.number) ≡ (is_acknowledged me.number k (done from.number) 1 (carried from.number) || list_any (is_own me.number k) (map entry_of xs)))
     → ((b : ℕ) → b ≢ from.number → next b ≡ done b)
     → KeepsAcks nodes me.number o carried done → KeepsAcks nodes me.number (fold (done_told me from) o xs) carried next
@@ -310,8 +311,8 @@ freed_acknowledged g me k covered acked marks next fs more =
 -- The group alone.
 
 -- what acknowledged items do to the group: nothing but that these places are marked
-pub record Acked (nodes : ℕ) (g : Addr) (me from : NodeId) (group next : Group) (given : List GroupStep) (added : ℕ → Bool) : Type 0 where
-  pub legal : IsLegalFrom nodes g.group group given
+pub record Acked (bounds : Bounds) (g : Addr) (me from : NodeId) (group next : Group) (given : List GroupStep) (added : ℕ → Bool) : Type 0 where
+  pub legal : IsLegalFrom bounds g.group group given
   pub others : (x : ℕ) → x ≢ me.number → next x ≡ group x
   pub member : next me.number ≡ record (group me.number) { done = (next me.number).done }
   pub elsewhere : (b : ℕ) → b ≢ from.number → (next me.number).done b ≡ (group me.number).done b
@@ -329,8 +330,8 @@ marked_places place before (suc count) marks =
     by true b c d is = ap (λ x. x || d) is
     by false b c d is = ap (λ x. x || d) is
 
-none_acked : (nodes : ℕ) (g : Addr) (me from : NodeId) (group : Group) (added : ℕ → Bool) → ((place : ℕ) → added place ≡ false) → Acked nodes g me from group group [] added
-none_acked nodes g me from group added none = record {
+none_acked : (bounds : Bounds) (g : Addr) (me from : NodeId) (group : Group) (added : ℕ → Bool) → ((place : ℕ) → added place ≡ false) → Acked bounds g me from group group [] added
+none_acked bounds g me from group added none = record {
   legal = tt;
   others = λ x other. refl;
   member = refl;
@@ -338,8 +339,8 @@ none_acked nodes g me from group added none = record {
   marks = λ place. sym (or_off (added place) (is_marked place ((group me.number).done from.number)) (none place));
 }
 
-same_acked : (nodes : ℕ) (g : Addr) (me from : NodeId) (group next : Group) (given : List GroupStep) (added other : ℕ → Bool) → ((place : ℕ) → other place ≡ added place) → Acked nodes g me from group next given added → Acked nodes g me from group next given other
-same_acked nodes g me from group next given added other same was = record {
+same_acked : (bounds : Bounds) (g : Addr) (me from : NodeId) (group next : Group) (given : List GroupStep) (added other : ℕ → Bool) → ((place : ℕ) → other place ≡ added place) → Acked bounds g me from group next given added → Acked bounds g me from group next given other
+same_acked bounds g me from group next given added other same was = record {
   legal = was.legal;
   others = was.others;
   member = was.member;
@@ -348,34 +349,34 @@ same_acked nodes g me from group next given added other same was = record {
 }
 
 -- one frame's items are acknowledged
-frame_acked : (nodes : ℕ) (g : Addr) (me from : NodeId) (before count : ℕ) (group : Group) → (group me.number).stopped ≡ false
+frame_acked : (bounds : Bounds) (g : Addr) (me from : NodeId) (before count : ℕ) (group : Group) → (group me.number).stopped ≡ false
     → ((place : ℕ) → is_between before (before + count) place ≡ true → (is_marked place ((group from.number).come me.number) ≡ true) × (is_marked place ((group me.number).done from.number) ≡ false))
-    → Acked nodes g me from group (alone_from nodes g.group group (acknowledged me from (before + 1) count)) (acknowledged me from (before + 1) count) (is_between before (before + count))
-frame_acked nodes g me from before zero group running may = none_acked nodes g me from group (is_between before (before + 0)) (λ place. grind (arith, nat_tests))
-frame_acked nodes g me from before (suc k) group running may = record {
+    → Acked bounds g me from group (alone_from bounds g.group group (acknowledged me from (before + 1) count)) (acknowledged me from (before + 1) count) (is_between before (before + count))
+frame_acked bounds g me from before zero group running may = none_acked bounds g me from group (is_between before (before + 0)) (λ place. grind (arith, nat_tests))
+frame_acked bounds g me from before (suc k) group running may = record {
   legal = ((running, omega arith, λ place low high. may place (grind (arith, nat_tests, low, high))), tt);
-  others = λ x other. after_elsewhere nodes g.group group me x (Acknowledged from (before + 1) (suc k)) other;
+  others = λ x other. after_elsewhere bounds g.group group me x (Acknowledged from (before + 1) (suc k)) other;
   member = there ∙ ap (λ d. record (group me.number) { done = d }) (sym (ap (λ (m : Member). m.done) there));
   elsewhere = λ b other. ap (λ (m : Member). m.done b) there ∙ rw (ne_eqb b from.number other) refl;
   marks = λ place. ap (λ (m : Member). is_marked place (m.done from.number)) there ∙ (rw (eq-eqb from.number from.number refl) (marked_places place before (suc k) ((group me.number).done from.number)));
 }
   where
-    there : after nodes g.group group (record { node = me; event = Acknowledged from (before + 1) (suc k) }) me.number
+    there : after bounds g.group group (record { node = me; event = Acknowledged from (before + 1) (suc k) }) me.number
         ≡ record (group me.number) { done = λ x. if nat_eq x from.number then places (before + 1) (suc k) ++ (group me.number).done x else (group me.number).done x }
-    there = after_there nodes g.group group me (Acknowledged from (before + 1) (suc k))
+    there = after_there bounds g.group group me (Acknowledged from (before + 1) (suc k))
 
 -- first these events, then those
-acked-append : (nodes : ℕ) (g : Addr) (me from : NodeId) (group mid : Group) (xs ys : List GroupStep) (first later both : ℕ → Bool)
-    → mid ≡ alone_from nodes g.group group xs
+acked-append : (bounds : Bounds) (g : Addr) (me from : NodeId) (group mid : Group) (xs ys : List GroupStep) (first later both : ℕ → Bool)
+    → mid ≡ alone_from bounds g.group group xs
     → ((place : ℕ) → both place ≡ (first place || later place))
-    → Acked nodes g me from group mid xs first
-    → Acked nodes g me from mid (alone_from nodes g.group mid ys) ys later
-    → Acked nodes g me from group (alone_from nodes g.group group (xs ++ ys)) (xs ++ ys) both
-acked-append nodes g me from group mid xs ys first later both is parts a b =
-    subst (λ next. Acked nodes g me from group next (xs ++ ys) both) (ap (λ x. alone_from nodes g.group x ys) is ∙ sym (fold-append (after nodes g.group) group xs ys)) (record {
-      legal = legal-append nodes g.group group xs ys a.legal (subst (λ x. IsLegalFrom nodes g.group x ys) is b.legal);
+    → Acked bounds g me from group mid xs first
+    → Acked bounds g me from mid (alone_from bounds g.group mid ys) ys later
+    → Acked bounds g me from group (alone_from bounds g.group group (xs ++ ys)) (xs ++ ys) both
+acked-append bounds g me from group mid xs ys first later both is parts a b =
+    subst (λ next. Acked bounds g me from group next (xs ++ ys) both) (ap (λ x. alone_from bounds g.group x ys) is ∙ sym (fold-append (after bounds g.group) group xs ys)) (record {
+      legal = legal-append bounds g.group group xs ys a.legal (subst (λ x. IsLegalFrom bounds g.group x ys) is b.legal);
       others = λ x other. b.others x other ∙ a.others x other;
-      member = b.member ∙ ap (λ (m : Member). record m { done = ((alone_from nodes g.group mid ys) me.number).done }) a.member;
+      member = b.member ∙ ap (λ (m : Member). record m { done = ((alone_from bounds g.group mid ys) me.number).done }) a.member;
       elsewhere = λ x other. b.elsewhere x other ∙ a.elsewhere x other;
       marks = λ place. b.marks place ∙ (ap (λ c. later place || c) (a.marks place) ∙ (swap (first place) (later place) (is_marked place ((group me.number).done from.number)) ∙ ap (λ c. c || is_marked place ((group me.number).done from.number)) (sym (parts place))));
     })
@@ -387,11 +388,11 @@ acked-append nodes g me from group mid xs ys first later both is parts a b =
     swap false false c = refl
 
 -- all that a packet newly acknowledges, where it has come and is not acknowledged
-pub all_acked : (nodes : ℕ) (g : Addr) (me from : NodeId) (new : ℕ → Bool) (n before : ℕ) (fs : List (List Item)) (group : Group) → me.number ≢ from.number → (group me.number).stopped ≡ false
+pub all_acked : (bounds : Bounds) (g : Addr) (me from : NodeId) (new : ℕ → Bool) (n before : ℕ) (fs : List (List Item)) (group : Group) → me.number ≢ from.number → (group me.number).stopped ≡ false
     → ((place : ℕ) → is_in g new n before fs place ≡ true → (is_marked place ((group from.number).come me.number) ≡ true) × (is_marked place ((group me.number).done from.number) ≡ false))
-    → Acked nodes g me from group (alone_from nodes g.group group (all_acknowledged g me from new n before fs)) (all_acknowledged g me from new n before fs) (is_in g new n before fs)
-all_acked nodes g me from new n before [] group apart running may = none_acked nodes g me from group (is_in g new n before []) (λ place. refl)
-all_acked nodes g me from new n before (f ∷ fs) group apart running may = go (cases_Bool (new n)) (all_acked nodes g me from new (n + 1) (before + length (items_in g f)) fs)
+    → Acked bounds g me from group (alone_from bounds g.group group (all_acknowledged g me from new n before fs)) (all_acknowledged g me from new n before fs) (is_in g new n before fs)
+all_acked bounds g me from new n before [] group apart running may = none_acked bounds g me from group (is_in g new n before []) (λ place. refl)
+all_acked bounds g me from new n before (f ∷ fs) group apart running may = go (cases_Bool (new n)) (all_acked bounds g me from new (n + 1) (before + length (items_in g f)) fs)
   where
     count : ℕ
     count = length (items_in g f)
@@ -402,14 +403,14 @@ all_acked nodes g me from new n before (f ∷ fs) group apart running may = go (
     Later : Type 0
     Later = (mid : Group) → me.number ≢ from.number → (mid me.number).stopped ≡ false
         → ((place : ℕ) → is_in g new (n + 1) (before + count) fs place ≡ true → (is_marked place ((mid from.number).come me.number) ≡ true) × (is_marked place ((mid me.number).done from.number) ≡ false))
-        → Acked nodes g me from mid (alone_from nodes g.group mid later) later (is_in g new (n + 1) (before + count) fs)
+        → Acked bounds g me from mid (alone_from bounds g.group mid later) later (is_in g new (n + 1) (before + count) fs)
 
-    go : ((new n ≡ true) ⊎ (new n ≡ false)) → Later → Acked nodes g me from group (alone_from nodes g.group group (all_acknowledged g me from new n before (f ∷ fs))) (all_acknowledged g me from new n before (f ∷ fs)) (is_in g new n before (f ∷ fs))
-    go (inr old) rest = rw old (same_acked nodes g me from group (alone_from nodes g.group group later) later (is_in g new (n + 1) (before + count) fs) (is_in g new n before (f ∷ fs)) (λ place. ap (λ b. (b && is_between before (before + count) place) || is_in g new (n + 1) (before + count) fs place) old) (rest group apart running (λ place is. may place (or_right (new n && is_between before (before + count) place) (is_in g new (n + 1) (before + count) fs place) is))))
+    go : ((new n ≡ true) ⊎ (new n ≡ false)) → Later → Acked bounds g me from group (alone_from bounds g.group group (all_acknowledged g me from new n before (f ∷ fs))) (all_acknowledged g me from new n before (f ∷ fs)) (is_in g new n before (f ∷ fs))
+    go (inr old) rest = rw old (same_acked bounds g me from group (alone_from bounds g.group group later) later (is_in g new (n + 1) (before + count) fs) (is_in g new n before (f ∷ fs)) (λ place. ap (λ b. (b && is_between before (before + count) place) || is_in g new (n + 1) (before + count) fs place) old) (rest group apart running (λ place is. may place (or_right (new n && is_between before (before + count) place) (is_in g new (n + 1) (before + count) fs place) is))))
     go (inl now) rest =
-        let one = frame_acked nodes g me from before count group running (λ place is. may place (rw (now, is) refl)) in
-        let mid : Group = alone_from nodes g.group group (acknowledged me from (before + 1) count) in
-        rw now (acked-append nodes g me from group mid (acknowledged me from (before + 1) count) later (is_between before (before + count)) (is_in g new (n + 1) (before + count) fs) (is_in g new n before (f ∷ fs)) refl (λ place. ap (λ b. (b && is_between before (before + count) place) || is_in g new (n + 1) (before + count) fs place) now) one
+        let one = frame_acked bounds g me from before count group running (λ place is. may place (rw (now, is) refl)) in
+        let mid : Group = alone_from bounds g.group group (acknowledged me from (before + 1) count) in
+        rw now (acked-append bounds g me from group mid (acknowledged me from (before + 1) count) later (is_between before (before + count)) (is_in g new (n + 1) (before + count) fs) (is_in g new n before (f ∷ fs)) refl (λ place. ap (λ b. (b && is_between before (before + count) place) || is_in g new (n + 1) (before + count) fs place) now) one
         (rest mid apart (ap (λ (m : Member). m.stopped) one.member ∙ running) (λ place is.
         let was = may place (or_right (new n && is_between before (before + count) place) (is_in g new (n + 1) (before + count) fs place) is) in
         let above = in_above g new (n + 1) (before + count) fs place is in (
@@ -448,10 +449,10 @@ or_new true false = refl
 or_new false true = refl
 or_new false false = refl
 
-module _ (nodes : ℕ) (g : Addr) (a s : NodeId) (frames_from : ℕ → List (List Item)) (v : View) (group : Group) (covered : ℕ → Bool) (inside : s.number < nodes) (apart : a.number ≢ s.number) (running : (group a.number).stopped ≡ false)
-    (fit : (k : ℕ) (f : List Item) → slice_get (v.frames s.number) k ≡ Some f → All IsFit (items_for g f))
+module _ (bounds : Bounds) (g : Addr) (a s : NodeId) (frames_from : ℕ → List (List Item)) (v : View) (group : Group) (covered : ℕ → Bool) (inside : s.number < bounds.nodes) (apart : a.number ≢ s.number) (running : (group a.number).stopped ≡ false)
+    (fit : (k : ℕ) (f : List Item) → slice_get (v.frames s.number) k ≡ Some f → All IsOfNode (items_for g f))
     (got : (n place : ℕ) → covered (n + 1) ≡ true → offset g (v.frames s.number) n < place → place ≤ offset g (v.frames s.number) (n + 1) → is_marked place ((group s.number).come a.number) ≡ true)
-    (fits : Fits nodes g a.number frames_from v (group a.number)) where
+    (fits : Fits bounds.nodes g a.number frames_from v (group a.number)) where
   abbrev back : List (List Item)
   back = v.frames s.number
 
@@ -462,7 +463,7 @@ module _ (nodes : ℕ) (g : Addr) (a s : NodeId) (frames_from : ℕ → List (Li
   acks = all_acknowledged g a s new 1 0 back
 
   abbrev mid : Group
-  mid = alone_from nodes g.group group acks
+  mid = alone_from bounds g.group group acks
 
   abbrev later : View
   later = with_acks g a s s.number covered v
@@ -470,8 +471,8 @@ module _ (nodes : ℕ) (g : Addr) (a s : NodeId) (frames_from : ℕ → List (Li
   abbrev freed : List Item
   freed = freed_of g covered (v.acked s.number) 1 back
 
-  acked : Acked nodes g a s group mid acks (is_in g new 1 0 back)
-  acked = all_acked nodes g a s new 1 0 back group apart running (λ place here. may place (in_found g new 1 0 back place here))
+  acked : Acked bounds g a s group mid acks (is_in g new 1 0 back)
+  acked = all_acked bounds g a s new 1 0 back group apart running (λ place here. may place (in_found g new 1 0 back place here))
     where
       may : (place : ℕ) → Found g new 1 0 back place → (is_marked place ((group s.number).come a.number) ≡ true) × (is_marked place ((group a.number).done s.number) ≡ false)
       may place found =
@@ -499,7 +500,7 @@ module _ (nodes : ℕ) (g : Addr) (a s : NodeId) (frames_from : ℕ → List (Li
           let known : nat_le (n + 1) (length back) ≡ true = grind (arith, nat_tests, there) in
           λ i. v.acked s.number (n + 1) || (sym known i && (sym (eq-eqb s.number s.number refl) i && covered (n + 1)))
 
-  done_there : (b : ℕ) → b < nodes → ((b ≡ s.number) ⊎ (b ≡ s.number → ⊥)) → AreMarked g (v.frames b) (later.acked b) ((mid a.number).done b)
+  done_there : (b : ℕ) → b < bounds.nodes → ((b ≡ s.number) ⊎ (b ≡ s.number → ⊥)) → AreMarked g (v.frames b) (later.acked b) ((mid a.number).done b)
   done_there b in_b (inl is) = subst (λ z. AreMarked g (v.frames z) (later.acked z) ((mid a.number).done z)) (sym is) done_here
   done_there b in_b (inr other) =
       let off : nat_eq s.number b ≡ false = ne_eqb s.number b (λ e. other (sym e)) in
@@ -509,20 +510,20 @@ module _ (nodes : ℕ) (g : Addr) (a s : NodeId) (frames_from : ℕ → List (Li
   abbrev carried : ℕ → List Entry
   carried b = items_of g (v.frames b)
 
-  kept : KeepsAcks nodes a.number later.told carried (mid a.number).done
-  kept = acks_taken nodes a s freed v.told carried (group a.number).done (mid a.number).done (freed_fit g covered (v.acked s.number) 1 back fit)
+  kept : KeepsAcks bounds.nodes a.number later.told carried (mid a.number).done
+  kept = acks_taken bounds.nodes a s freed v.told carried (group a.number).done (mid a.number).done (freed_fit g covered (v.acked s.number) 1 back fit)
       (λ k. freed_acknowledged g a.number k covered (v.acked s.number) ((group a.number).done s.number) ((mid a.number).done s.number) back acked.marks) acked.elsewhere
       fits.acks
 
   -- what an acknowledgement gives a group
-  pub acks_goes : Goes nodes g a frames_from later group acks
+  pub acks_goes : Goes bounds g a frames_from later group acks
   acks_goes = record {
     legal = acked.legal;
     elsewhere = acked.others;
     there = record {
       reserve = ap (λ (m : Member). m.reserve) acked.member ∙ fits.reserve;
       told = same_member later.told (group a.number) (mid a.number) (ap (λ (m : Member). m.spec) acked.member) (ap (λ (m : Member). m.phase) acked.member) (ap (λ (m : Member). m.told) acked.member) (same.stands (group a.number) fits.told);
-      inside = inside_too nodes v.told later.told same.spec fits.inside;
+      inside = inside_too bounds.nodes v.told later.told same.spec fits.inside;
       put = λ b in_b. ap (λ (m : Member). m.put b) acked.member ∙ (fits.put b in_b ∙ ap (λ xs. carried b ++ xs) (sym (same.waiting b)));
       taken = λ b in_b. ap (λ (m : Member). m.taken b) acked.member ∙ fits.taken b in_b;
       replies = ap (λ (m : Member). m.replies) acked.member ∙ fits.replies;

@@ -1,6 +1,6 @@
 -- A group is dropped at a node only by an answered request.
-use Rattle.std.proofs.Common.{◌≡◌, ℕ, Bool, true, false, ◌&&◌, List, [], ◌∷◌, length, Option, Some, None, refl, ◌∙◌, ap}
-use Rattle.std.specs.Prelude.{fold, nat_lt, nat_le, if◌then◌else◌}
+use Rattle.std.proofs.Common.{◌≡◌, ℕ, Bool, true, false, not, ◌&&◌, List, [], ◌∷◌, length, Option, Some, None, refl, ◌∙◌, ap}
+use Rattle.std.specs.Prelude.{fold, nat_lt, if◌then◌else◌}
 use Rattle.std.proofs.lemmas.Bool.{or_parts}
 use Rattle.std.specs.FinSet as set
 use Rattle.std.specs.Ordering.{nat_cmp}
@@ -15,10 +15,11 @@ use Rattle.gb_frame.specs.declared.item.Item.{Item}
 use Rattle.gb_frame.specs.Packet.{Content}
 use Rattle.gb_history.specs.declared.call.GroupCall.TheVariants.{Own}
 use Rattle.gb_rules.specs.Address.{is_addr}
-use Rattle.gb_rules.specs.Group.{is_gone}
+use Rattle.gb_rules.specs.Group.{is_gone, is_too_long}
 use Rattle.gb_rules.specs.declared.phase.Phase.TheVariants.{Opened, Shut}
 use Rattle.gb_types.specs.Entry.{message_of}
-use Rattle.gb_types.specs.declared.limits.TheConstants.{NODES, PAYLOAD}
+use Rattle.gb_types.specs.declared.limits.TheConstants.{NODES}
+use Rattle.gb_types.specs.declared.version.Version.{Version}
 use Rattle.gb_alone.specs.Alone.{Member}
 use Rattle.gb_frame.specs.Items.{entry_of, items_for}
 use Rattle.gb_rules.specs.Lifetime.{stepped, dropped, or_added, where_so}
@@ -74,8 +75,8 @@ asked_stays g me noticed (DropGroup token addr) Done kept o = ap (λ (t : Bool).
 asked_stays g me noticed (Say token addr payload) (Said seq) kept o = where_stays (is_addr g addr) (stepped (with_call me (Own (record { origin = me; seq = seq; payload = payload })))) (stepped_stays (with_call me (Own (record { origin = me; seq = seq; payload = payload })))) o
 asked_stays g me noticed request reply kept o = refl
 
-taken_stays : (me : NodeId) (key : List ℕ) (g : Addr) (past : List Happened) (frame : Frame) (c : Content) → Stays (λ o. taken_told me key g past frame o c)
-taken_stays me key g past frame c o = by (is_first frame)
+taken_stays : (version : Version) (me : NodeId) (key : List ℕ) (g : Addr) (past : List Happened) (frame : Frame) (c : Content) → Stays (λ o. taken_told version me key g past frame o c)
+taken_stays version me key g past frame c o = by (is_first frame)
   where
     from : NodeId
     from = node_numbered c.from
@@ -86,15 +87,15 @@ taken_stays me key g past frame c o = by (is_first frame)
     acknowledged : is_out (fold (done_told me from) o freed) ≡ is_out o
     acknowledged = fold_stays (done_told me from) (λ i. where_stays (nat_lt i.origin NODES) (stepped (finished_by me from (message_of (entry_of i)))) (stepped_stays (finished_by me from (message_of (entry_of i))))) freed o
 
-    by : (t : Bool) → is_out (if t then fold (came_told me from) (fold (done_told me from) o freed) (items_for g c.items) else fold (done_told me from) o freed) ≡ is_out o
+    by : (t : Bool) → is_out (if t then fold (came_told version me from) (fold (done_told me from) o freed) (items_for g c.items) else fold (done_told me from) o freed) ≡ is_out o
     by true =
-        fold_stays (came_told me from) (λ i. where_stays (nat_lt i.origin NODES && nat_le (length i.payload) PAYLOAD) (stepped (unless_falls me from (entry_of i))) (stepped_stays (unless_falls me from (entry_of i)))) (items_for g c.items) (fold (done_told me from) o freed)
+        fold_stays (came_told version me from) (λ i. where_stays (nat_lt i.origin NODES && not (is_too_long version i.payload)) (stepped (unless_falls me from (entry_of i))) (stepped_stays (unless_falls me from (entry_of i)))) (items_for g c.items) (fold (done_told me from) o freed)
         ∙ acknowledged
     by false = acknowledged
 
 after_stays : (plan : NodePlan) (g : Addr) (past : List Happened) (e : NodeEvent) (x : NodeAnswer) → is_dropped_by g e x ≡ false → Stays (told_after plan g past e x)
 after_stays plan g past (Asked request) (Replied reply) kept o = asked_stays g plan.me (noticed_in plan past) request reply kept o
-after_stays plan g past (Brought bytes) (Taken (TakenGood good)) kept o = fold_stays (taken_told plan.me plan.cluster_key g past good.frame) (taken_stays plan.me plan.cluster_key g past good.frame) (read plan.cluster_key bytes) o
+after_stays plan g past (Brought bytes) (Taken (TakenGood good)) kept o = fold_stays (taken_told plan.version plan.me plan.cluster_key g past good.frame) (taken_stays plan.version plan.me plan.cluster_key g past good.frame) (read plan.cluster_key bytes) o
 after_stays plan g past (Pack b) (Sent (SentPacket text)) kept o = fold_stays (packed_told g b) (λ c. stepped_stays (took_from b.number (length (items_for g c.items)))) (read plan.cluster_key text) o
 after_stays plan g past Tick (Ticked (Noticed found)) kept o = fold_stays (noticed_told plan.me) (λ b. stepped_stays (if_other plan.me (node_numbered b))) (rising found) o
 after_stays plan g past e x kept o = refl

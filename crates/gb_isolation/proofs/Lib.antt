@@ -8,7 +8,6 @@ pub mod AcknowledgedLemmas
 pub mod PastLemmas
 pub mod PackLemmas
 pub mod TickLemmas
-pub mod ShortLemmas
 pub mod UnrelatedLemmas
 pub mod NextLemmas
 pub mod AskLemmas

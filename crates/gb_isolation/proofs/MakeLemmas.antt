@@ -14,6 +14,8 @@ use Rattle.gb_types.specs.declared.reply.Reply.{Reply}
 use Rattle.gb_types.specs.declared.reply.Reply.TheVariants.{Done, Refused}
 use Rattle.gb_types.specs.declared.request.Request.TheVariants.{Make}
 use Rattle.gb_types.specs.declared.spec.Spec.{Spec}
+use Rattle.gb_types.specs.declared.plan.Bounds.{Bounds}
+use Rattle.gb_types.specs.declared.version.Version.{Version}
 use Rattle.gb_frame.specs.declared.item.Item.{Item}
 use Rattle.gb_history.specs.declared.call.GroupCall.{GroupCall}
 use Rattle.gb_history.specs.declared.call.GroupCall.TheVariants.{Crashed}
@@ -40,7 +42,7 @@ use Rattle.gb_isolation.proofs.GoesLemmas.{after_there, after_elsewhere}
 use Rattle.gb_isolation.proofs.MemberLemmas.{made-is, KeepsRest}
 use Rattle.gb_isolation.proofs.NoticeLemmas.{all_noticed, notices_of, notices_there, notices_elsewhere, notices_keep, notices_mark, notices_legal}
 use Rattle.gb_isolation.proofs.PastLemmas.{running_unmet}
-use Rattle.gb_isolation.proofs.View.{View, view_of, AreMarked, Fits, Goes, NotMade, IsThere, MemberIs, is_concerned, said_of}
+use Rattle.gb_isolation.proofs.View.{View, view_of, AreMarked, Fits, Goes, NotMade, IsThere, MemberIs, is_concerned, said_of, bounds_with}
 
 -- notices say nothing
 none_said : (bs : List ℕ) (calls : List GroupCall) → said_in calls ≡ 0 → said_in (crashed_onto calls bs) ≡ 0
@@ -54,7 +56,7 @@ first_said bs = none_said bs [] refl
 
 -- The group is made.
 
-module _ (nodes : ℕ) (g : Addr) (a : NodeId) (frames_from : ℕ → List (List Item)) (v : View) (group : Group) (spec : Spec) where
+module _ (bounds : Bounds) (g : Addr) (a : NodeId) (frames_from : ℕ → List (List Item)) (v : View) (group : Group) (spec : Spec) where
   abbrev made : Member
   made = commanded a (AskMake spec) Done (group a.number)
 
@@ -65,11 +67,11 @@ module _ (nodes : ℕ) (g : Addr) (a : NodeId) (frames_from : ℕ → List (List
   next = all_noticed a.number noticed_now made
 
   abbrev first : Group
-  first = after nodes g.group group (record { node = a; event = AskMake spec })
+  first = after bounds g.group group (record { node = a; event = AskMake spec })
 
   -- its members are nodes
-  members_inside : (group a.number).spec ≡ None → reply_to nodes g.group a.number (AskMake spec) (group a.number) ≡ Done → (b : ℕ) → is_member spec b ≡ true → b < nodes
-  members_inside absent is = (step_inside nodes g.group everywhere (record { node = a; event = AskMake spec }) (λ x s there. absurd (clash s (sym absent ∙ there))) a.number spec spec_is).1
+  members_inside : (group a.number).spec ≡ None → reply_to bounds g.group a.number (AskMake spec) (group a.number) ≡ Done → (b : ℕ) → is_member spec b ≡ true → b < bounds.nodes
+  members_inside absent is = (step_inside bounds g.group everywhere (record { node = a; event = AskMake spec }) (λ x s there. absurd (clash s (sym absent ∙ there))) a.number spec spec_is).1
     where
       everywhere : Group
       everywhere x = group a.number
@@ -77,16 +79,16 @@ module _ (nodes : ℕ) (g : Addr) (a : NodeId) (frames_from : ℕ → List (List
       clash : (s : Spec) → None ≡ Some s → ⊥
       clash s e = cc
 
-      spec_is : (after nodes g.group everywhere (record { node = a; event = AskMake spec }) a.number).spec ≡ Some spec
-      spec_is = ap (λ (m : Member). m.spec) (after_there nodes g.group everywhere a (AskMake spec) ∙ ap (λ r. commanded a (AskMake spec) r (group a.number)) is)
+      spec_is : (after bounds g.group everywhere (record { node = a; event = AskMake spec }) a.number).spec ≡ Some spec
+      spec_is = ap (λ (m : Member). m.spec) (after_there bounds g.group everywhere a (AskMake spec) ∙ ap (λ r. commanded a (AskMake spec) r (group a.number)) is)
 
-  made_fits : (noticed : set.FinSet nat_cmp) → v.noticed ≡ set.contains noticed → ((b : ℕ) → v.noticed b ≡ true → b < NODES) → v.told ≡ None → (group a.number).spec ≡ None → reply_to nodes g.group a.number (AskMake spec) (group a.number) ≡ Done
-      → Fits nodes g a.number frames_from v (group a.number)
-      → Fits nodes g a.number frames_from (record v { told = Some (Some (told_first spec a noticed)); made = Some spec; replies = v.replies ++ Done ∷ [] }) next
+  made_fits : (noticed : set.FinSet nat_cmp) → v.noticed ≡ set.contains noticed → ((b : ℕ) → v.noticed b ≡ true → b < NODES) → v.told ≡ None → (group a.number).spec ≡ None → reply_to bounds g.group a.number (AskMake spec) (group a.number) ≡ Done
+      → Fits bounds.nodes g a.number frames_from v (group a.number)
+      → Fits bounds.nodes g a.number frames_from (record v { told = Some (Some (told_first spec a noticed)); made = Some spec; replies = v.replies ++ Done ∷ [] }) next
   made_fits noticed noticed_is below free unmade answered fits = record {
     reserve = keeps.reserve ∙ fits.reserve;
     told = subst (λ (new : ℕ → Bool). IsThere (told_first spec a noticed) (all_noticed a.number (noticed_members spec a.number new) made)) (sym noticed_is) (fresh_there a spec noticed made refl absent.phase absent.told);
-    inside = inside_some nodes (told_first spec a noticed) (members_inside unmade answered);
+    inside = inside_some bounds.nodes (told_first spec a noticed) (members_inside unmade answered);
     put = λ b low. fresh_put a.number spec v.noticed made b refl (ap is_gone absent.phase) absent.told (count b low) ∙ (fits.put b low ∙ ap (λ o. carried_in g v b ++ waiting_of o b) free);
     taken = λ b low. ap (λ (f : ℕ → ℕ). f b) keeps.taken ∙ fits.taken b low;
     replies = keeps.replies ∙ ap (λ rs. rs ++ Done ∷ []) fits.replies;
@@ -112,32 +114,32 @@ module _ (nodes : ℕ) (g : Addr) (a : NodeId) (frames_from : ℕ → List (List
       unmarked : (b : ℕ) → is_marked b (group a.number).noticed ≡ false
       unmarked b = fits.noticed b ∙ ap (λ o. is_concerned a.number b o && v.noticed b) (sym fits.spec ∙ unmade)
 
-      count : (b : ℕ) → b < nodes → (group a.number).taken b ≡ length ((group a.number).put b)
+      count : (b : ℕ) → b < bounds.nodes → (group a.number).taken b ≡ length ((group a.number).put b)
       count b low = fits.taken b low ∙ ap length (sym (fits.put b low ∙ (ap (λ o. carried_in g v b ++ waiting_of o b) free ∙ append-nil (carried_in g v b))))
 
-  made_goes : (noticed : set.FinSet nat_cmp) → v.noticed ≡ set.contains noticed → ((b : ℕ) → v.noticed b ≡ true → b < NODES) → v.told ≡ None → v.met ≡ false → reply_to nodes g.group a.number (AskMake spec) (group a.number) ≡ Done
-      → Fits nodes g a.number frames_from v (group a.number)
-      → Goes nodes g a frames_from (record v { told = Some (Some (told_first spec a noticed)); made = Some spec; replies = v.replies ++ Done ∷ [] }) group (record { node = a; event = AskMake spec } ∷ notices_of a noticed_now)
+  made_goes : (noticed : set.FinSet nat_cmp) → v.noticed ≡ set.contains noticed → ((b : ℕ) → v.noticed b ≡ true → b < NODES) → v.told ≡ None → v.met ≡ false → reply_to bounds g.group a.number (AskMake spec) (group a.number) ≡ Done
+      → Fits bounds.nodes g a.number frames_from v (group a.number)
+      → Goes bounds g a frames_from (record v { told = Some (Some (told_first spec a noticed)); made = Some spec; replies = v.replies ++ Done ∷ [] }) group (record { node = a; event = AskMake spec } ∷ notices_of a noticed_now)
   made_goes noticed noticed_is below free unmet answered fits = record {
     legal = (
       tt,
-      notices_legal nodes g.group a 0 noticed_now first (before_rising spec a.number v.noticed) (ap (λ (m : Member). m.stopped) first_there ∙ (fits.stopped ∙ unmet))
+      notices_legal bounds g.group a 0 noticed_now first (before_rising spec a.number v.noticed) (ap (λ (m : Member). m.stopped) first_there ∙ (fits.stopped ∙ unmet))
           (λ x new. ap (λ (m : Member). is_marked x m.noticed) first_there ∙ (fits.noticed x ∙ ap (λ o. is_concerned a.number x o && v.noticed x) (sym fits.spec ∙ absent.spec))),
     );
-    elsewhere = λ x other. notices_elsewhere nodes g.group a noticed_now first x other ∙ after_elsewhere nodes g.group group a x (AskMake spec) other;
-    there = subst (Fits nodes g a.number frames_from (record v { told = Some (Some (told_first spec a noticed)); made = Some spec; replies = v.replies ++ Done ∷ [] }))
-        (sym (notices_there nodes g.group a noticed_now first ∙ ap (all_noticed a.number noticed_now) first_there)) (made_fits noticed noticed_is below free absent.spec answered fits);
+    elsewhere = λ x other. notices_elsewhere bounds g.group a noticed_now first x other ∙ after_elsewhere bounds g.group group a x (AskMake spec) other;
+    there = subst (Fits bounds.nodes g a.number frames_from (record v { told = Some (Some (told_first spec a noticed)); made = Some spec; replies = v.replies ++ Done ∷ [] }))
+        (sym (notices_there bounds g.group a noticed_now first ∙ ap (all_noticed a.number noticed_now) first_there)) (made_fits noticed noticed_is below free absent.spec answered fits);
   }
     where
       absent : NotMade (group a.number)
       absent = subst (λ o. MemberIs o (group a.number)) free fits.told
 
       first_there : first a.number ≡ made
-      first_there = after_there nodes g.group group a (AskMake spec) ∙ ap (λ r. commanded a (AskMake spec) r (group a.number)) answered
+      first_there = after_there bounds g.group group a (AskMake spec) ∙ ap (λ r. commanded a (AskMake spec) r (group a.number)) answered
 
 -- Making, by its reply.
 
-module _ (plan : NodePlan) (g : Addr) (past : List Happened) (frames_from : ℕ → List (List Item)) (group : Group) (token : List ℕ) (addr : Addr) (spec : Spec) where
+module _ (plan : NodePlan) (versions : List Version) (g : Addr) (past : List Happened) (frames_from : ℕ → List (List Item)) (group : Group) (token : List ℕ) (addr : Addr) (spec : Spec) where
   abbrev before : View
   before = view_of plan g past
 
@@ -162,30 +164,30 @@ module _ (plan : NodePlan) (g : Addr) (past : List Happened) (frames_from : ℕ 
       go false e = cc
 
   -- the group alone answers the same
-  alone_rule : (r : Reply) → Fits plan.nodes g plan.me.number frames_from before m → rule ≡ r → running_reply plan.nodes g.group plan.me.number (AskMake spec) m ≡ r
+  alone_rule : (r : Reply) → Fits plan.nodes g plan.me.number frames_from before m → rule ≡ r → running_reply (bounds_with plan versions) g.group plan.me.number (AskMake spec) m ≡ r
   alone_rule r fits is =
       ap (λ (b : Bool). by_tenant (make_answer plan.nodes plan.me.number g.group b spec) m.reserve) (made-is (told_of plan g past) m fits.told)
       ∙ (ap (by_tenant (make_answer plan.nodes plan.me.number g.group (is_some (told_of plan g past)) spec)) fits.reserve ∙ is)
 
   made_by_reply : (r : Reply) → is_stopped past ≡ false → is_own_request plan.me g past (Make token addr spec) ≡ true → is_addr g addr ≡ true → rule ≡ r → ((b : ℕ) → set.contains noticed b ≡ true → b < NODES)
-      → Fits plan.nodes g plan.me.number frames_from before m → AskedGoes plan g past (Make token addr spec) r frames_from group
+      → Fits plan.nodes g plan.me.number frames_from before m → AskedGoes plan versions g past (Make token addr spec) r frames_from group
   made_by_reply Done running own named is below fits =
       let free : told_of plan g past ≡ None = not_made (told_of plan g past) before.reserve is in
       let unmet_here : is_met plan.me g past ≡ false = running_unmet plan g past running in
-      let answered : reply_to plan.nodes g.group plan.me.number (AskMake spec) m ≡ Done = replies_running plan g past (Make token addr spec) Done frames_from group (AskMake spec) running fits ∙ alone_rule Done fits is in
+      let answered : reply_to (bounds_with plan versions) g.group plan.me.number (AskMake spec) m ≡ Done = replies_running plan versions g past (Make token addr spec) Done frames_from group (AskMake spec) running fits ∙ alone_rule Done fits is in
       let later : view_of plan g (asking (Make token addr spec) Done ∷ past) ≡ record before { told = Some (Some (told_first spec plan.me noticed)); made = Some spec; replies = replies_in plan.me g past ++ Done ∷ [] } =
       view_own plan g past (Make token addr spec) Done (Some (Some (told_first spec plan.me noticed))) (Some spec) running own refl
       (ap (λ o. or_added o (if is_addr g addr then Some (Some (told_first spec plan.me noticed)) else None)) free ∙ ap (λ b. if b then Some (Some (told_first spec plan.me noticed)) else None) named)
       (ap (λ b. or_else (if b then Some spec else None) (made_with g past)) named) in
-      subst (λ es. Goes plan.nodes g plan.me frames_from (view_of plan g (asking (Make token addr spec) Done ∷ past)) group es) (sym (given_own plan g past (Make token addr spec) Done frames_from group running own))
-      (subst (λ (v : View). Goes plan.nodes g plan.me frames_from v group (record { node = plan.me; event = AskMake spec } ∷ notices_of plan.me (noticed_members spec plan.me.number before.noticed))) (sym later)
-      (made_goes plan.nodes g plan.me frames_from before group spec noticed refl below free unmet_here answered fits))
+      subst (λ es. Goes (bounds_with plan versions) g plan.me frames_from (view_of plan g (asking (Make token addr spec) Done ∷ past)) group es) (sym (given_own plan versions g past (Make token addr spec) Done frames_from group running own))
+      (subst (λ (v : View). Goes (bounds_with plan versions) g plan.me frames_from v group (record { node = plan.me; event = AskMake spec } ∷ notices_of plan.me (noticed_members spec plan.me.number before.noticed))) (sym later)
+      (made_goes (bounds_with plan versions) g plan.me frames_from before group spec noticed refl below free unmet_here answered fits))
   made_by_reply r running own named is below fits =
-      own_command plan g past (Make token addr spec) r frames_from group (AskMake spec) (told_of plan g past) running own refl refl refl refl tt refl
+      own_command plan versions g past (Make token addr spec) r frames_from group (AskMake spec) (told_of plan g past) running own refl refl refl refl tt refl
       (alone_rule r fits is) refl fits (member_fits plan.nodes g plan.me.number frames_from before m fits)
 
   pub at_make : (reply : Reply) → is_stopped past ≡ false → is_own_request plan.me g past (Make token addr spec) ≡ true → reply ≡ admitted_answer plan past (Make token addr spec) → ((b : ℕ) → set.contains noticed b ≡ true → b < NODES)
-      → Fits plan.nodes g plan.me.number frames_from before m → AskedGoes plan g past (Make token addr spec) reply frames_from group
+      → Fits plan.nodes g plan.me.number frames_from before m → AskedGoes plan versions g past (Make token addr spec) reply frames_from group
   at_make reply running own is below fits =
       let named = (and_parts (is_addr g addr) (has_group_token_by plan.me past (Make token addr spec)) own).0 in
       made_by_reply reply running own named (sym (is ∙ ap (λ (x : Addr). by_tenant (make_answer plan.nodes plan.me.number x.group (is_some (told_of plan x past)) spec) (option_map reserve_of (row_of x.tenant (tenants_in past)))) (sym (addr_is g addr named)))) below fits

@@ -1,5 +1,5 @@
 -- What the past tells of a group stands for the group alone at its node through each call.
-use Rattle.std.proofs.Common.{◌≡◌, ℕ, List, [], ◌∷◌, ◌++◌, length, Option, Some, None, Bool, true, false, not, ◌&&◌, refl, sym, ◌∙◌, ap, subst, arith, take}
+use Rattle.std.proofs.Common.{◌≡◌, ℕ, List, [], ◌∷◌, ◌++◌, length, Option, Some, None, Bool, true, false, not, ◌&&◌, ◌||◌, refl, sym, ◌∙◌, ap, subst, arith, take}
 use Rattle.std.specs.Prelude.{if◌then◌else◌, is_some, nat_eq}
 use Rattle.std.proofs.Math.Seq.{take-length}
 use Rattle.std.proofs.lemmas.List.{append-nil, append_assoc, take-append-le}
@@ -9,11 +9,12 @@ use Rattle.gb_types.specs.declared.refusal.Refusal.TheVariants.{Spent}
 use Rattle.gb_types.specs.declared.reply.Reply.{Reply}
 use Rattle.gb_types.specs.declared.reply.Reply.TheVariants.{Refused}
 use Rattle.gb_types.specs.declared.spec.Spec.{Spec}
+use Rattle.gb_types.specs.declared.version.Version.{Version}
 use Rattle.gb_history.specs.History.{said_in, bytes_in, log_of, puts_of, falls_after, has_noticed}
 use Rattle.gb_history.specs.declared.call.GroupCall.{GroupCall}
 use Rattle.gb_history.specs.declared.call.GroupCall.TheVariants.{Other, Crashed}
 use Rattle.gb_rules.specs.declared.phase.Phase.{Phase}
-use Rattle.gb_rules.specs.Group.{Shown, is_gone, is_other, on_made}
+use Rattle.gb_rules.specs.Group.{Shown, is_gone, is_other, is_too_long, on_made}
 use Rattle.gb_alone.specs.Alone.{Member, held_spec, is_finished, count_unfinished, shown_of, called, item_came, put_to, cut, took_notice, node_noticed}
 use Rattle.gb_alone.specs.Alone as alone
 use Rattle.gb_rules.specs.Lifetime.{stepped}
@@ -101,40 +102,63 @@ called_put me c t m b carried st was =
 
 -- An item comes.
 
-pub fallen : (me : ℕ) (from : NodeId) (e : Entry) (m : Member) → alone.falls me from.number e m.told (held_spec m.phase m.spec) ≡ true → item_came me from e m ≡ m
+-- one that is not too long
+abbrev handed : ℕ → NodeId → Entry → Member → Member
+handed me from e m = if alone.falls me from.number e m.told (held_spec m.phase m.spec) then m else called me (Other from e) m
+
+fallen : (me : ℕ) (from : NodeId) (e : Entry) (m : Member) → alone.falls me from.number e m.told (held_spec m.phase m.spec) ≡ true → handed me from e m ≡ m
 fallen me from e m h = ap (λ (b : Bool). if b then m else called me (Other from e) m) h
 
-pub handed_in : (me : ℕ) (from : NodeId) (e : Entry) (m : Member) → alone.falls me from.number e m.told (held_spec m.phase m.spec) ≡ false → item_came me from e m ≡ called me (Other from e) m
+handed_in : (me : ℕ) (from : NodeId) (e : Entry) (m : Member) → alone.falls me from.number e m.told (held_spec m.phase m.spec) ≡ false → handed me from e m ≡ called me (Other from e) m
 handed_in me from e m h = ap (λ (b : Bool). if b then m else called me (Other from e) m) h
 
 falls-is : (me : ℕ) (from : NodeId) (e : Entry) (t : Told) (m : Member) → IsThere t m → alone.falls me from.number e m.told (held_spec m.phase m.spec) ≡ falls_after t.spec me t.calls from.number e
 falls-is me from e t m st = ap (alone.falls me from.number e m.told) (there_held t m st) ∙ ap (λ cs. falls_after t.spec me cs from.number e) st.calls
 
 -- every item falls where the group is not there
-absent_falls : (me : ℕ) (from : NodeId) (e : Entry) (m : Member) → held_spec m.phase m.spec ≡ None → item_came me from e m ≡ m
+absent_falls : (me : ℕ) (from : NodeId) (e : Entry) (m : Member) → held_spec m.phase m.spec ≡ None → handed me from e m ≡ m
 absent_falls me from e m none = fallen me from e m (ap (alone.falls me from.number e m.told) none)
 
 -- what is there after an item, and what is put out then
-came_there : (me : NodeId) (from : NodeId) (e : Entry) (t : Told) (m : Member) → IsThere t m
-    → (IsThere (unless_falls me from e t) (item_came me.number from e m)) × ((b : ℕ) (carried : List Entry) → m.put b ≡ carried ++ t.waiting b → (item_came me.number from e m).put b ≡ carried ++ (unless_falls me from e t).waiting b)
-came_there me from e t m st = by (falls_after t.spec me.number t.calls from.number e) (falls-is me.number from e t m st)
+handed_there : (me : NodeId) (from : NodeId) (e : Entry) (t : Told) (m : Member) → IsThere t m
+    → (IsThere (unless_falls me from e t) (handed me.number from e m)) × ((b : ℕ) (carried : List Entry) → m.put b ≡ carried ++ t.waiting b → (handed me.number from e m).put b ≡ carried ++ (unless_falls me from e t).waiting b)
+handed_there me from e t m st = by (falls_after t.spec me.number t.calls from.number e) (falls-is me.number from e t m st)
   where
     by : (f : Bool) → alone.falls me.number from.number e m.told (held_spec m.phase m.spec) ≡ f
-        → (IsThere (if f then t else with_call me (Other from e) t) (item_came me.number from e m)) × ((b : ℕ) (carried : List Entry) → m.put b ≡ carried ++ t.waiting b → (item_came me.number from e m).put b ≡ carried ++ (if f then t else with_call me (Other from e) t).waiting b)
+        → (IsThere (if f then t else with_call me (Other from e) t) (handed me.number from e m)) × ((b : ℕ) (carried : List Entry) → m.put b ≡ carried ++ t.waiting b → (handed me.number from e m).put b ≡ carried ++ (if f then t else with_call me (Other from e) t).waiting b)
     by true is = let same = fallen me.number from e m is in (subst (IsThere t) (sym same) st, λ b carried was. ap (λ (n : Member). n.put b) same ∙ was)
     by false is =
         let next = handed_in me.number from e m is in
         (subst (IsThere (with_call me (Other from e) t)) (sym next) (called_there me (Other from e) t m st), λ b carried was. ap (λ (n : Member). n.put b) next ∙ called_put me (Other from e) t m b carried st was)
 
-pub told-came : (me from : NodeId) (e : Entry) (o : Option (Option Told)) (m : Member) → MemberIs o m → MemberIs (stepped (unless_falls me from e) o) (item_came me.number from e m)
-told-came me from e None m st = subst NotMade (sym (absent_falls me.number from e m (unmade_held m st))) st
-told-came me from e (Some None) m st = subst WasDropped (sym (absent_falls me.number from e m (dropped_held m st))) st
-told-came me from e (Some (Some t)) m st = (came_there me from e t m st).0
+told-handed : (me from : NodeId) (e : Entry) (o : Option (Option Told)) (m : Member) → MemberIs o m → MemberIs (stepped (unless_falls me from e) o) (handed me.number from e m)
+told-handed me from e None m st = subst NotMade (sym (absent_falls me.number from e m (unmade_held m st))) st
+told-handed me from e (Some None) m st = subst WasDropped (sym (absent_falls me.number from e m (dropped_held m st))) st
+told-handed me from e (Some (Some t)) m st = (handed_there me from e t m st).0
 
-pub put-item_came : (me from : NodeId) (e : Entry) (o : Option (Option Told)) (m : Member) (b : ℕ) (carried : List Entry) → MemberIs o m → m.put b ≡ carried ++ waiting_of o b → (item_came me.number from e m).put b ≡ carried ++ waiting_of (stepped (unless_falls me from e) o) b
-put-item_came me from e None m b carried st was = ap (λ (x : Member). x.put b) (absent_falls me.number from e m (unmade_held m st)) ∙ was
-put-item_came me from e (Some None) m b carried st was = ap (λ (x : Member). x.put b) (absent_falls me.number from e m (dropped_held m st)) ∙ was
-put-item_came me from e (Some (Some t)) m b carried st was = (came_there me from e t m st).1 b carried was
+put-handed : (me from : NodeId) (e : Entry) (o : Option (Option Told)) (m : Member) (b : ℕ) (carried : List Entry) → MemberIs o m → m.put b ≡ carried ++ waiting_of o b → (handed me.number from e m).put b ≡ carried ++ waiting_of (stepped (unless_falls me from e) o) b
+put-handed me from e None m b carried st was = ap (λ (x : Member). x.put b) (absent_falls me.number from e m (unmade_held m st)) ∙ was
+put-handed me from e (Some None) m b carried st was = ap (λ (x : Member). x.put b) (absent_falls me.number from e m (dropped_held m st)) ∙ was
+put-handed me from e (Some (Some t)) m b carried st was = (handed_there me from e t m st).1 b carried was
+
+-- what an item leaves of what is told: one that is too long leaves all
+abbrev pub came_in : Bool → NodeId → NodeId → Entry → Option (Option Told) → Option (Option Told)
+came_in long me from e o = if long then o else stepped (unless_falls me from e) o
+
+pub told-came : (version : Version) (me from : NodeId) (e : Entry) (o : Option (Option Told)) (m : Member) → MemberIs o m → MemberIs (came_in (is_too_long version e.payload) me from e o) (item_came version me.number from e m)
+told-came version me from e o m st = by (is_too_long version e.payload)
+  where
+    by : (long : Bool) → MemberIs (came_in long me from e o) (if long || alone.falls me.number from.number e m.told (held_spec m.phase m.spec) then m else called me.number (Other from e) m)
+    by true = st
+    by false = told-handed me from e o m st
+
+pub put-item_came : (version : Version) (me from : NodeId) (e : Entry) (o : Option (Option Told)) (m : Member) (b : ℕ) (carried : List Entry) → MemberIs o m → m.put b ≡ carried ++ waiting_of o b
+    → (item_came version me.number from e m).put b ≡ carried ++ waiting_of (came_in (is_too_long version e.payload) me from e o) b
+put-item_came version me from e o m b carried st was = by (is_too_long version e.payload)
+  where
+    by : (long : Bool) → (if long || alone.falls me.number from.number e m.told (held_spec m.phase m.spec) then m else called me.number (Other from e) m).put b ≡ carried ++ waiting_of (came_in long me from e o) b
+    by true = was
+    by false = put-handed me from e o m b carried st was
 
 -- the fields that an item and a notice leave
 pub record KeepsRest (m n : Member) : Type 0 where
@@ -147,16 +171,17 @@ pub record KeepsRest (m n : Member) : Type 0 where
   pub done : n.done ≡ m.done
   pub stopped : n.stopped ≡ m.stopped
 
-pub item_came-rest : (me : ℕ) (from : NodeId) (e : Entry) (m : Member) → KeepsRest m (item_came me from e m)
-item_came-rest me from e m = go (alone.falls me from.number e m.told (held_spec m.phase m.spec))
+pub item_came-rest : (version : Version) (me : ℕ) (from : NodeId) (e : Entry) (m : Member) → KeepsRest m (item_came version me from e m)
+item_came-rest version me from e m = go (is_too_long version e.payload || alone.falls me from.number e m.told (held_spec m.phase m.spec))
   where
     go : (b : Bool) → KeepsRest m (if b then m else called me (Other from e) m)
     go true = record { reserve = refl; spec = refl; phase = refl; replies = refl; taken = refl; come = refl; done = refl; stopped = refl }
     go false = record { reserve = refl; spec = refl; phase = refl; replies = refl; taken = refl; come = refl; done = refl; stopped = refl }
 
 -- an item leaves the notices too
-pub item_came-noticed : (me : ℕ) (from : NodeId) (e : Entry) (m : Member) → (item_came me from e m).noticed ≡ m.noticed
-item_came-noticed me from e m = elim (alone.falls me from.number e m.told (held_spec m.phase m.spec)) as (λ b. (if b then m else called me (Other from e) m).noticed ≡ m.noticed) [ true ↦ refl | false ↦ refl ]
+pub item_came-noticed : (version : Version) (me : ℕ) (from : NodeId) (e : Entry) (m : Member) → (item_came version me from e m).noticed ≡ m.noticed
+item_came-noticed version me from e m =
+    elim (is_too_long version e.payload || alone.falls me from.number e m.told (held_spec m.phase m.spec)) as (λ b. (if b then m else called me (Other from e) m).noticed ≡ m.noticed) [ true ↦ refl | false ↦ refl ]
 
 -- A node is noticed.
 

@@ -8,6 +8,7 @@ use Rattle.gb_types.specs.declared.limits.TheConstants.{NODES}
 use Rattle.gb_types.specs.declared.node.NodeId.{NodeId}
 use Rattle.gb_types.specs.declared.spec.Spec.{Spec}
 use Rattle.gb_types.proofs.BoolLemmas.{or_second, or_turned}
+use Rattle.gb_types.specs.declared.plan.Bounds.{Bounds}
 use Rattle.gb_rules.specs.Group.{is_other}
 use Rattle.gb_history.specs.declared.call.GroupCall.TheVariants.{Crashed}
 use Rattle.gb_alone.specs.Alone.{Member, Group, after, alone_from, called, cut, took_notice, node_noticed, is_marked, IsLegalFrom, held_spec}
@@ -96,13 +97,13 @@ abbrev pub all_noticed : ℕ → List ℕ → Member → Member
 all_noticed me [] m = m
 all_noticed me (b ∷ bs) m = all_noticed me bs (node_noticed me (node_numbered b) m)
 
-pub notices_there : (nodes number : ℕ) (a : NodeId) (bs : List ℕ) (group : Group) → alone_from nodes number group (notices_of a bs) a.number ≡ all_noticed a.number bs (group a.number)
-notices_there nodes number a [] group = refl
-notices_there nodes number a (b ∷ bs) group = notices_there nodes number a bs _ ∙ ap (all_noticed a.number bs) (after_there nodes number group a (Notice (node_numbered b)))
+pub notices_there : (bounds : Bounds) (number : ℕ) (a : NodeId) (bs : List ℕ) (group : Group) → alone_from bounds number group (notices_of a bs) a.number ≡ all_noticed a.number bs (group a.number)
+notices_there bounds number a [] group = refl
+notices_there bounds number a (b ∷ bs) group = notices_there bounds number a bs _ ∙ ap (all_noticed a.number bs) (after_there bounds number group a (Notice (node_numbered b)))
 
-pub notices_elsewhere : (nodes number : ℕ) (a : NodeId) (bs : List ℕ) (group : Group) (x : ℕ) → x ≢ a.number → alone_from nodes number group (notices_of a bs) x ≡ group x
-notices_elsewhere nodes number a [] group x other = refl
-notices_elsewhere nodes number a (b ∷ bs) group x other = notices_elsewhere nodes number a bs _ x other ∙ after_elsewhere nodes number group a x (Notice (node_numbered b)) other
+pub notices_elsewhere : (bounds : Bounds) (number : ℕ) (a : NodeId) (bs : List ℕ) (group : Group) (x : ℕ) → x ≢ a.number → alone_from bounds number group (notices_of a bs) x ≡ group x
+notices_elsewhere bounds number a [] group x other = refl
+notices_elsewhere bounds number a (b ∷ bs) group x other = notices_elsewhere bounds number a bs _ x other ∙ after_elsewhere bounds number group a x (Notice (node_numbered b)) other
 
 -- a notice leaves the rest of the group at the node
 pub notice_keeps : (me : ℕ) (q : NodeId) (m : Member) → KeepsRest m (node_noticed me q m)
@@ -140,13 +141,13 @@ notices_mark me low (b ∷ bs) m x rise =
     ∙ (ap (λ k. is_marked x bs || (nat_eq k x || is_marked x m.noticed)) (numbered_is b rise.1) ∙ or_turned (is_marked x bs) (nat_eq b x) (is_marked x m.noticed))
 
 -- each of them may be noticed, where none was before
-pub notices_legal : (nodes number : ℕ) (a : NodeId) (low : ℕ) (bs : List ℕ) (group : Group) → AreRising low bs → (group a.number).stopped ≡ false → ((x : ℕ) → is_marked x bs ≡ true → is_marked x (group a.number).noticed ≡ false) → IsLegalFrom nodes number group (notices_of a bs)
-notices_legal nodes number a low [] group rise running new = tt
-notices_legal nodes number a low (b ∷ bs) group rise running new =
-    let next : Group = after nodes number group (record { node = a; event = Notice (node_numbered b) }) in
-    let there : next a.number ≡ node_noticed a.number (node_numbered b) (group a.number) = after_there nodes number group a (Notice (node_numbered b)) in (
+pub notices_legal : (bounds : Bounds) (number : ℕ) (a : NodeId) (low : ℕ) (bs : List ℕ) (group : Group) → AreRising low bs → (group a.number).stopped ≡ false → ((x : ℕ) → is_marked x bs ≡ true → is_marked x (group a.number).noticed ≡ false) → IsLegalFrom bounds number group (notices_of a bs)
+notices_legal bounds number a low [] group rise running new = tt
+notices_legal bounds number a low (b ∷ bs) group rise running new =
+    let next : Group = after bounds number group (record { node = a; event = Notice (node_numbered b) }) in
+    let there : next a.number ≡ node_noticed a.number (node_numbered b) (group a.number) = after_there bounds number group a (Notice (node_numbered b)) in (
       (running, ap (λ k. is_marked k (group a.number).noticed) (numbered_is b rise.1) ∙ new b (ap (λ c. c || is_marked b bs) (eq-eqb b b refl))),
-      notices_legal nodes number a (b + 1) bs next rise.2 (ap (λ (m : Member). m.stopped) there ∙ ((notice_keeps a.number (node_numbered b) (group a.number)).stopped ∙ running))
+      notices_legal bounds number a (b + 1) bs next rise.2 (ap (λ (m : Member). m.stopped) there ∙ ((notice_keeps a.number (node_numbered b) (group a.number)).stopped ∙ running))
           (λ x is. ap (λ (m : Member). is_marked x m.noticed) there ∙ (ap (λ k. nat_eq k x || is_marked x (group a.number).noticed) (numbered_is b rise.1) ∙ later x is)),
     )
   where

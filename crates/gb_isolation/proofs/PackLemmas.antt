@@ -12,6 +12,7 @@ use Rattle.gb_types.specs.declared.entry.Entry.{Entry}
 use Rattle.gb_types.specs.declared.limits.TheConstants.{NODES}
 use Rattle.gb_types.specs.declared.node.NodeId.{NodeId}
 use Rattle.gb_types.specs.declared.spec.Spec.{Spec}
+use Rattle.gb_types.specs.declared.version.Version.{Version}
 use Rattle.gb_frame.specs.declared.item.Item.{Item}
 use Rattle.gb_frame.specs.Packet.{Content}
 use Rattle.gb_rules.specs.Group.{is_member}
@@ -28,7 +29,7 @@ use Rattle.gb_node.specs.declared.answer.Sent.TheVariants.{Packet as SentPacket}
 use Rattle.gb_node.specs.declared.event.NodeEvent.TheVariants.{Pack}
 use Rattle.gb_node.specs.declared.plan.NodePlan.{NodePlan}
 use Rattle.gb_isolation.specs.Project.{items_in, items_of, frames_in, made_with, replies_in, is_met, took}
-use Rattle.gb_isolation.proofs.View.{View, view_of, Fits, Goes, MemberIs, AreMarked, KeepsAcks, IsInside, said_of, acknowledged_of}
+use Rattle.gb_isolation.proofs.View.{View, view_of, Fits, Goes, MemberIs, AreMarked, KeepsAcks, IsInside, said_of, acknowledged_of, bounds_with}
 use Rattle.gb_isolation.proofs.AcknowledgedLemmas.{none_acknowledged, acknowledged-append}
 use Rattle.gb_isolation.proofs.GoesLemmas.{goes_none, goes_one}
 use Rattle.gb_isolation.proofs.MarkLemmas.{items_of-append, items_of-none, items_of-one, marks_more}
@@ -124,7 +125,7 @@ took_acks nodes me g b k f o frames acked done marked was = record {
 
 -- The member.
 
-module _ (plan : NodePlan) (g : Addr) (past : List Happened) (b : NodeId) (text : List ℕ) (frames_from : ℕ → List (List Item)) (group : Group) (few : plan.nodes ≤ NODES) (right : IsPacked plan past b text)
+module _ (plan : NodePlan) (versions : List Version) (g : Addr) (past : List Happened) (b : NodeId) (text : List ℕ) (frames_from : ℕ → List (List Item)) (group : Group) (few : plan.nodes ≤ NODES) (right : IsPacked plan past b text)
     (was : Fits plan.nodes g plan.me.number frames_from (view_of plan g past) (group plan.me.number)) where
   abbrev v : View
   v = view_of plan g past
@@ -207,8 +208,8 @@ module _ (plan : NodePlan) (g : Addr) (past : List Happened) (b : NodeId) (text 
           by true is = let low = acked_within plan.cluster_key x n past is in absurd (omega (arith, low, far))
           by false is = is
 
-  goes_by : (n : ℕ) → n ≡ k → Goes plan.nodes g plan.me frames_from (view_packed b f k v) group (took plan.me b n)
-  goes_by zero is = goes_none plan.nodes g plan.me frames_from (view_packed b f k v) group (subst (Fits plan.nodes g plan.me.number frames_from (view_packed b f k v)) same fits_took)
+  goes_by : (n : ℕ) → n ≡ k → Goes (bounds_with plan versions) g plan.me frames_from (view_packed b f k v) group (took plan.me b n)
+  goes_by zero is = goes_none (bounds_with plan versions) g plan.me frames_from (view_packed b f k v) group (subst (Fits plan.nodes g plan.me.number frames_from (view_packed b f k v)) same fits_took)
     where
       same : member_took b k m ≡ m
       same = λ i. record m { taken = λ x. by x (nat_eq x b.number) i }
@@ -216,7 +217,7 @@ module _ (plan : NodePlan) (g : Addr) (past : List Happened) (b : NodeId) (text 
           by : (x : ℕ) (t : Bool) → (if t then m.taken x + k else m.taken x) ≡ m.taken x
           by x true = omega (arith, is)
           by x false = refl
-  goes_by (suc n) is = goes_one plan.nodes g plan.me frames_from (view_packed b f k v) group (Took b (suc n)) may (subst (λ j. Fits plan.nodes g plan.me.number frames_from (view_packed b f k v) (member_took b j m)) (sym is) fits_took)
+  goes_by (suc n) is = goes_one (bounds_with plan versions) g plan.me frames_from (view_packed b f k v) group (Took b (suc n)) may (subst (λ j. Fits plan.nodes g plan.me.number frames_from (view_packed b f k v) (member_took b j m)) (sym is) fits_took)
     where
       may : MayHappen plan.me (Took b (suc n)) group
       may =
@@ -225,7 +226,7 @@ module _ (plan : NodePlan) (g : Addr) (past : List Happened) (b : NodeId) (text 
           (was.stopped ∙ running_unmet plan g past right.running, omega arith, omega (arith, taken, is, right.enough g, ap length put, length-append (items_of g (v.frames b.number)) waits))
 
   -- a packet is packed
-  pub packed_goes : Goes plan.nodes g plan.me frames_from (view_of plan g (packing b text ∷ past)) group (took plan.me b (length (items_of g (frames_in plan.cluster_key text))))
+  pub packed_goes : Goes (bounds_with plan versions) g plan.me frames_from (view_of plan g (packing b text ∷ past)) group (took plan.me b (length (items_of g (frames_in plan.cluster_key text))))
   packed_goes =
-      subst (λ w. Goes plan.nodes g plan.me frames_from w group (took plan.me b (length (items_of g (frames_in plan.cluster_key text))))) (sym (packed_view plan g past b text right.content right.text_is))
+      subst (λ w. Goes (bounds_with plan versions) g plan.me frames_from w group (took plan.me b (length (items_of g (frames_in plan.cluster_key text))))) (sym (packed_view plan g past b text right.content right.text_is))
       (goes_by (length (items_of g (frames_in plan.cluster_key text))) (ap (λ cs. length (items_of g (map (λ (c : Content). c.items) cs))) right.text_is ∙ (ap length (items_of-one g f) ∙ long)))

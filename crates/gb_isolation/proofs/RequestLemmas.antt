@@ -16,6 +16,8 @@ use Rattle.gb_types.specs.declared.reply.Reply.TheVariants.{Done, Said, Refused}
 use Rattle.gb_types.specs.declared.request.Request.{Request}
 use Rattle.gb_types.specs.declared.request.Request.TheVariants.{AddTenant, Make, OpenGroup, ShutGroup, DropGroup, Say, Fetch}
 use Rattle.gb_types.specs.declared.spec.TenantRow.{TenantRow}
+use Rattle.gb_types.specs.declared.version.Version.{Version}
+use Rattle.gb_types.specs.Version.{version_at}
 use Rattle.gb_frame.specs.declared.item.Item.{Item}
 use Rattle.gb_history.specs.History.{said_in}
 use Rattle.gb_rules.specs.Tenant.{is_over_limits, reserve_of, reserved, row_of, tenant_answer}
@@ -37,7 +39,7 @@ use Rattle.gb_isolation.proofs.GoesLemmas.{goes_none, goes_one}
 use Rattle.gb_isolation.proofs.MakeLemmas.{at_make}
 use Rattle.gb_isolation.proofs.MemberLemmas.{same_member}
 use Rattle.gb_isolation.proofs.StoppedLemmas.{stopped_goes}
-use Rattle.gb_isolation.proofs.View.{View, view_of, Fits, Goes}
+use Rattle.gb_isolation.proofs.View.{View, view_of, Fits, Goes, bounds_with}
 
 -- Tenants.
 
@@ -69,7 +71,7 @@ none_of : (o : Option TenantRow) → is_some o ≡ false → o ≡ None
 none_of None is = refl
 none_of (Some row) is = absurd (cc)
 
-module _ (plan : NodePlan) (g : Addr) (past : List Happened) (frames_from : ℕ → List (List Item)) (group : Group) where
+module _ (plan : NodePlan) (versions : List Version) (g : Addr) (past : List Happened) (frames_from : ℕ → List (List Item)) (group : Group) where
   abbrev before : View
   before = view_of plan g past
 
@@ -90,15 +92,15 @@ module _ (plan : NodePlan) (g : Addr) (past : List Happened) (frames_from : ℕ 
       → asked_told g plan.me (noticed_in plan past) request reply (told_of plan g past) ≡ told_of plan g past
       → made_by g (Asked request) (Replied reply) ≡ None
       → tenant_given g plan.me request reply ≡ []
-      → FitsBefore → AskedGoes plan g past request reply frames_from group
+      → FitsBefore → AskedGoes plan versions g past request reply frames_from group
   passes request reply running other rows told unmade none fits =
-      subst (λ es. Goes plan.nodes g plan.me frames_from (view_of plan g (asking request reply ∷ past)) group es) (sym (given_unrelated request reply running other none))
-      (unrelated_request plan g past request reply frames_from group other rows told unmade fits)
+      subst (λ es. Goes (bounds_with plan versions) g plan.me frames_from (view_of plan g (asking request reply ∷ past)) group es) (sym (given_unrelated request reply running other none))
+      (unrelated_request plan versions g past request reply frames_from group other rows told unmade fits)
 
-  refusal_passes : (request : Request) (why : Refusal) → is_stopped past ≡ false → is_own_request plan.me g past request ≡ false → FitsBefore → AskedGoes plan g past request (Refused why) frames_from group
+  refusal_passes : (request : Request) (why : Refusal) → is_stopped past ≡ false → is_own_request plan.me g past request ≡ false → FitsBefore → AskedGoes plan versions g past request (Refused why) frames_from group
   refusal_passes request why running other fits =
-      subst (λ es. Goes plan.nodes g plan.me frames_from (view_of plan g (asking request (Refused why) ∷ past)) group es) (sym (given_unrelated request (Refused why) running other (none request)))
-      (refused_unrelated plan g past request why frames_from group other fits)
+      subst (λ es. Goes (bounds_with plan versions) g plan.me frames_from (view_of plan g (asking request (Refused why) ∷ past)) group es) (sym (given_unrelated request (Refused why) running other (none request)))
+      (refused_unrelated plan versions g past request why frames_from group other fits)
     where
       none : (request : Request) → tenant_given g plan.me request (Refused why) ≡ []
       none (AddTenant token row) = refl
@@ -106,13 +108,13 @@ module _ (plan : NodePlan) (g : Addr) (past : List Happened) (frames_from : ℕ 
 
   -- A tenant is taken in.
 
-  tenant_taken : (token : List ℕ) (row : TenantRow) → is_stopped past ≡ false → row_of row.tenant (tenants_in past) ≡ None → nat_eq row.tenant g.tenant ≡ true → FitsBefore → AskedGoes plan g past (AddTenant token row) Done frames_from group
+  tenant_taken : (token : List ℕ) (row : TenantRow) → is_stopped past ≡ false → row_of row.tenant (tenants_in past) ≡ None → nat_eq row.tenant g.tenant ≡ true → FitsBefore → AskedGoes plan versions g past (AddTenant token row) Done frames_from group
   tenant_taken token row running new own fits =
-      subst (λ es. Goes plan.nodes g plan.me frames_from (view_of plan g (asking (AddTenant token row) Done ∷ past)) group es) (sym given)
-      (subst (λ (v : View). Goes plan.nodes g plan.me frames_from v group (record { node = plan.me; event = Tenant (reserve_of row) } ∷ [])) (sym later)
-      (goes_one plan.nodes g plan.me frames_from (record before { reserve = Some (reserve_of row) }) group (Tenant (reserve_of row)) tt (record {
+      subst (λ es. Goes (bounds_with plan versions) g plan.me frames_from (view_of plan g (asking (AddTenant token row) Done ∷ past)) group es) (sym given)
+      (subst (λ (v : View). Goes (bounds_with plan versions) g plan.me frames_from v group (record { node = plan.me; event = Tenant (reserve_of row) } ∷ [])) (sym later)
+      (goes_one (bounds_with plan versions) g plan.me frames_from (record before { reserve = Some (reserve_of row) }) group (Tenant (reserve_of row)) tt (record {
         reserve = refl;
-        told = same_member before.told (group plan.me.number) (member_after plan.nodes g.group plan.me (Tenant (reserve_of row)) group) refl refl refl fits.told;
+        told = same_member before.told (group plan.me.number) (member_after (bounds_with plan versions) g.group plan.me (Tenant (reserve_of row)) group) refl refl refl fits.told;
         inside = fits.inside;
         put = fits.put;
         taken = fits.taken;
@@ -141,10 +143,10 @@ module _ (plan : NodePlan) (g : Addr) (past : List Happened) (frames_from : ℕ 
       later = view_asked plan g past (AddTenant token row) Done (Some (reserve_of row)) (told_of plan g past) (made_with g past) (replies_in plan.me g past) (is_met plan.me g past)
           (ap (option_map reserve_of) there) refl refl (append-nil (replies_in plan.me g past)) (ap (λ b. (b && false) || is_met plan.me g past) running)
 
-  tenant_other : (token : List ℕ) (row : TenantRow) → is_stopped past ≡ false → nat_eq row.tenant g.tenant ≡ false → FitsBefore → AskedGoes plan g past (AddTenant token row) Done frames_from group
+  tenant_other : (token : List ℕ) (row : TenantRow) → is_stopped past ≡ false → nat_eq row.tenant g.tenant ≡ false → FitsBefore → AskedGoes plan versions g past (AddTenant token row) Done frames_from group
   tenant_other token row running other fits =
-      subst (λ es. Goes plan.nodes g plan.me frames_from (view_of plan g (asking (AddTenant token row) Done ∷ past)) group es) (sym given)
-      (subst (λ (v : View). Goes plan.nodes g plan.me frames_from v group []) (sym later) (goes_none plan.nodes g plan.me frames_from before group fits))
+      subst (λ es. Goes (bounds_with plan versions) g plan.me frames_from (view_of plan g (asking (AddTenant token row) Done ∷ past)) group es) (sym given)
+      (subst (λ (v : View). Goes (bounds_with plan versions) g plan.me frames_from v group []) (sym later) (goes_none (bounds_with plan versions) g plan.me frames_from before group fits))
     where
       given : asked plan g past (AddTenant token row) Done ≡ []
       given = by ∙ ap (λ b. (if b then record { node = plan.me; event = Tenant (reserve_of row) } ∷ [] else []) ++ []) other
@@ -157,10 +159,10 @@ module _ (plan : NodePlan) (g : Addr) (past : List Happened) (frames_from : ℕ 
           (ap (option_map reserve_of) (row-other g.tenant (tenants_in past) row other)) refl refl (append-nil (replies_in plan.me g past)) (ap (λ b. (b && false) || is_met plan.me g past) running)
 
   -- by the reply
-  at_tenant : (token : List ℕ) (row : TenantRow) (r : Reply) → is_stopped past ≡ false → (r ≡ Done → row_of row.tenant (tenants_in past) ≡ None) → FitsBefore → AskedGoes plan g past (AddTenant token row) r frames_from group
+  at_tenant : (token : List ℕ) (row : TenantRow) (r : Reply) → is_stopped past ≡ false → (r ≡ Done → row_of row.tenant (tenants_in past) ≡ None) → FitsBefore → AskedGoes plan versions g past (AddTenant token row) r frames_from group
   at_tenant token row Done running new fits = go (cases_Bool (nat_eq row.tenant g.tenant))
     where
-      go : ((nat_eq row.tenant g.tenant ≡ true) ⊎ (nat_eq row.tenant g.tenant ≡ false)) → AskedGoes plan g past (AddTenant token row) Done frames_from group
+      go : ((nat_eq row.tenant g.tenant ≡ true) ⊎ (nat_eq row.tenant g.tenant ≡ false)) → AskedGoes plan versions g past (AddTenant token row) Done frames_from group
       go (inl own) = tenant_taken token row running (new refl) own fits
       go (inr other) = tenant_other token row running other fits
   at_tenant token row r running new fits = passes (AddTenant token row) r running refl refl refl refl refl fits
@@ -184,7 +186,7 @@ module _ (plan : NodePlan) (g : Addr) (past : List Happened) (frames_from : ℕ 
   other_made request r other = refl
 
   other_goes : (request : Request) (r : Reply) → is_stopped past ≡ false → is_own_request plan.me g past request ≡ false → is_named g request ≡ false → ((token : List ℕ) (row : TenantRow) → request ≡ AddTenant token row → r ≡ Done → row_of row.tenant (tenants_in past) ≡ None)
-      → FitsBefore → AskedGoes plan g past request r frames_from group
+      → FitsBefore → AskedGoes plan versions g past request r frames_from group
   other_goes (AddTenant token row) r running own named new fits = at_tenant token row r running (new token row refl) fits
   other_goes (Make token addr spec) r running own named new fits = passes (Make token addr spec) r running own refl (other_for (Make token addr spec) r named) (other_made (Make token addr spec) r named) refl fits
   other_goes (OpenGroup token addr) r running own named new fits = passes (OpenGroup token addr) r running own refl (other_for (OpenGroup token addr) r named) refl refl fits
@@ -195,20 +197,20 @@ module _ (plan : NodePlan) (g : Addr) (past : List Happened) (frames_from : ℕ 
 
   -- The group's own request.
 
-  own_goes : (request : Request) (reply : Reply) → plan.nodes ≤ NODES
+  own_goes : (request : Request) (reply : Reply) → version_at versions plan.me.number ≡ plan.version → plan.nodes ≤ NODES
       → ((b : ℕ) → set.contains (noticed_in plan past) b ≡ true → b < NODES)
       → ((t : Told) → told_of plan g past ≡ Some (Some t) → (b : ℕ) → b < plan.nodes → list_any (alone.is_own plan.me.number (said_in t.calls + 1)) (items_of g (frames_to plan.cluster_key b past)) ≡ false)
-      → is_stopped past ≡ false → is_own_request plan.me g past request ≡ true → reply ≡ admitted_answer plan past request → FitsBefore → AskedGoes plan g past request reply frames_from group
-  own_goes (AddTenant token row) reply few below fresh running own is fits = absurd (clash own)
+      → is_stopped past ≡ false → is_own_request plan.me g past request ≡ true → reply ≡ admitted_answer plan past request → FitsBefore → AskedGoes plan versions g past request reply frames_from group
+  own_goes (AddTenant token row) reply right few below fresh running own is fits = absurd (clash own)
     where
       clash : false ≡ true → ⊥
       clash e = cc
-  own_goes (Make token addr spec) reply few below fresh running own is fits = at_make plan g past frames_from group token addr spec reply running own is below fits
-  own_goes (OpenGroup token addr) reply few below fresh running own is fits = at_open plan g past frames_from group reply token addr few running own is fits
-  own_goes (ShutGroup token addr) reply few below fresh running own is fits = at_shut plan g past frames_from group reply token addr few running own is fits
-  own_goes (DropGroup token addr) reply few below fresh running own is fits = at_drop plan g past frames_from group reply token addr few running own is fits
-  own_goes (Say token addr payload) reply few below fresh running own is fits = at_say plan g past frames_from group reply token addr payload few running own is fresh fits
-  own_goes (Fetch token addr from most) reply few below fresh running own is fits = at_fetch plan g past frames_from group reply token addr from most few running own is fits
+  own_goes (Make token addr spec) reply right few below fresh running own is fits = at_make plan versions g past frames_from group token addr spec reply running own is below fits
+  own_goes (OpenGroup token addr) reply right few below fresh running own is fits = at_open plan versions g past frames_from group reply token addr few running own is fits
+  own_goes (ShutGroup token addr) reply right few below fresh running own is fits = at_shut plan versions g past frames_from group reply token addr few running own is fits
+  own_goes (DropGroup token addr) reply right few below fresh running own is fits = at_drop plan versions g past frames_from group reply token addr few running own is fits
+  own_goes (Say token addr payload) reply right few below fresh running own is fits = at_say plan versions g past frames_from group reply token addr right payload few running own is fresh fits
+  own_goes (Fetch token addr from most) reply right few below fresh running own is fits = at_fetch plan versions g past frames_from group reply token addr from most few running own is fits
 
 -- Replies.
 
@@ -246,18 +248,19 @@ module _ (plan : NodePlan) (past : List Happened) (request : Request) (reply : R
 
 -- A request.
 
-pub asked_goes : (plan : NodePlan) (g : Addr) (past : List Happened) (request : Request) (reply : Reply) (frames_from : ℕ → List (List Item)) (group : Group)
+pub asked_goes : (plan : NodePlan) (versions : List Version) (g : Addr) (past : List Happened) (request : Request) (reply : Reply) (frames_from : ℕ → List (List Item)) (group : Group)
+    → version_at versions plan.me.number ≡ plan.version
     → plan.nodes ≤ NODES
     → ((b : ℕ) → set.contains (noticed_in plan past) b ≡ true → (b < plan.nodes) × (b ≢ plan.me.number))
     → ((t : Told) → told_of plan g past ≡ Some (Some t) → (b : ℕ) → b < plan.nodes → list_any (alone.is_own plan.me.number (said_in t.calls + 1)) (items_of g (frames_to plan.cluster_key b past)) ≡ false)
     → IsAsked plan past request reply
     → is_starved_by plan.me g past (Asked request) (Replied reply) ≡ false
     → Fits plan.nodes g plan.me.number frames_from (view_of plan g past) (group plan.me.number)
-    → Goes plan.nodes g plan.me frames_from (view_of plan g (record { event = Asked request; answer = Replied reply } ∷ past)) group (asked plan g past request reply)
-asked_goes plan g past request reply frames_from group few noticed fresh answered fed fits = go (cases_Bool (is_stopped past)) (cases_Bool (is_own_request plan.me g past request)) answered
+    → Goes (bounds_with plan versions) g plan.me frames_from (view_of plan g (record { event = Asked request; answer = Replied reply } ∷ past)) group (asked plan g past request reply)
+asked_goes plan versions g past request reply frames_from group right few noticed fresh answered fed fits = go (cases_Bool (is_stopped past)) (cases_Bool (is_own_request plan.me g past request)) answered
   where
     Wanted : Reply → Type 0
-    Wanted r = AskedGoes plan g past request r frames_from group
+    Wanted r = AskedGoes plan versions g past request r frames_from group
 
     below : (b : ℕ) → set.contains (noticed_in plan past) b ≡ true → b < NODES
     below b is = let low = (noticed b is).0 in omega (arith, low, few)
@@ -281,14 +284,14 @@ asked_goes plan g past request reply frames_from group few noticed fresh answere
         by false named = refl
 
     foreign : is_stopped past ≡ false → is_own_request plan.me g past request ≡ false → reply ≡ past_answer plan past request → ((is_admitted_by plan past request ≡ true) ⊎ (is_admitted_by plan past request ≡ false)) → Wanted reply
-    foreign running other is (inl admitted) = other_goes plan g past frames_from group request reply running other (unnamed other admitted) (new_tenant running admitted is) fits
-    foreign running other is (inr denied) = subst Wanted (sym (is ∙ running_answer plan past request reply running false denied)) (refusal_passes plan g past frames_from group request Denied running other fits)
+    foreign running other is (inl admitted) = other_goes plan versions g past frames_from group request reply running other (unnamed other admitted) (new_tenant running admitted is) fits
+    foreign running other is (inr denied) = subst Wanted (sym (is ∙ running_answer plan past request reply running false denied)) (refusal_passes plan versions g past frames_from group request Denied running other fits)
 
     go : ((is_stopped past ≡ true) ⊎ (is_stopped past ≡ false)) → ((is_own_request plan.me g past request ≡ true) ⊎ (is_own_request plan.me g past request ≡ false)) → IsAsked plan past request reply → Wanted reply
-    go (inl stopped) own answer = subst Wanted (sym (stopped_reply plan past request reply stopped answer)) (stopped_goes plan g past request frames_from group stopped fits)
+    go (inl stopped) own answer = subst Wanted (sym (stopped_reply plan past request reply stopped answer)) (stopped_goes plan versions g past request frames_from group stopped fits)
     go (inr running) (inl own) (inl wants) = absurd (starved own wants.0)
     go (inr running) (inl own) (inr is) =
         let parts = and_parts (is_named g request) (has_group_token_by plan.me past request) own in
-        own_goes plan g past frames_from group request reply few below fresh running own (is ∙ running_answer plan past request reply running true (sym (group_token_is plan g past request parts.0) ∙ parts.1)) fits
-    go (inr running) (inr other) (inl wants) = subst Wanted (sym wants.0) (refusal_passes plan g past frames_from group request OutOfMemory running other fits)
+        own_goes plan versions g past frames_from group request reply right few below fresh running own (is ∙ running_answer plan past request reply running true (sym (group_token_is plan g past request parts.0) ∙ parts.1)) fits
+    go (inr running) (inr other) (inl wants) = subst Wanted (sym wants.0) (refusal_passes plan versions g past frames_from group request OutOfMemory running other fits)
     go (inr running) (inr other) (inr is) = foreign running other is (cases_Bool (is_admitted_by plan past request))

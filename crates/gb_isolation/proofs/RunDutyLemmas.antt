@@ -17,6 +17,7 @@ use Rattle.gb_node.specs.NodeStep.{node_numbered}
 use Rattle.gb_cluster.specs.ClusterValue.{ClusterValue, node_plan}
 use Rattle.gb_cluster.specs.Run.{Did, past_at}
 use Rattle.gb_types.specs.declared.plan.Plan.{Plan}
+use Rattle.gb_types.specs.Version.{bounds_of}
 use Rattle.gb_cluster.proofs.NodesLemmas.{stays}
 use Rattle.gb_isolation.specs.Isolation.{Seen, seen_in, IsIsolated, GroupsAreIsolated}
 use Rattle.gb_isolation.specs.Project.{project, made_with}
@@ -32,19 +33,19 @@ pub record DutyLaws : Type 0 where
   pub members : DeliveredAreOfMembers
   pub logged : LoggedAreDelivered
 
-module _ (plan : Plan) (run : List Did) (v : ClusterValue) (g : Addr) (few : plan.nodes ≤ NODES) (alike : IsIsolated plan run v g) (behaves : BehavesAlone plan g run) (told : AllMarked (alone plan.nodes g.group (project plan g run))) where
+module _ (plan : Plan) (run : List Did) (v : ClusterValue) (g : Addr) (few : plan.nodes ≤ NODES) (alike : IsIsolated plan run v g) (behaves : BehavesAlone plan g run) (told : AllMarked (alone (bounds_of plan) g.group (project plan g run))) where
   abbrev group : Group
-  group = alone plan.nodes g.group (project plan g run)
+  group = alone (bounds_of plan) g.group (project plan g run)
 
   -- members are nodes of the cluster
-  pub inside : (b : ℕ) (spec : Spec) → (alone plan.nodes g.group (project plan g run) b).spec ≡ Some spec → (c : ℕ) → is_member spec c ≡ true → c < plan.nodes
-  inside b spec made c in_c = (run_inside plan.nodes g.group (project plan g run) nobody (λ a s is. absurd (cc)) b spec made).1 c in_c
+  pub inside : (b : ℕ) (spec : Spec) → (alone (bounds_of plan) g.group (project plan g run) b).spec ≡ Some spec → (c : ℕ) → is_member spec c ≡ true → c < plan.nodes
+  inside b spec made c in_c = (run_inside (bounds_of plan) g.group (project plan g run) nobody (λ a s is. absurd (cc)) b spec made).1 c in_c
 
   module _ (b : NodeId) (in_b : b.number < plan.nodes) (spec : Spec) (made_there : made_with g (past_at b run) ≡ Some spec) where
-    pub made : (alone plan.nodes g.group (project plan g run) b.number).spec ≡ Some spec
+    pub made : (alone (bounds_of plan) g.group (project plan g run) b.number).spec ≡ Some spec
     made = (behaves.fits b in_b).spec ∙ made_there
 
-    pub noticed_is : (c : ℕ) → is_marked c (alone plan.nodes g.group (project plan g run) b.number).noticed ≡ (is_other spec b.number c && is_noticed plan run b c)
+    pub noticed_is : (c : ℕ) → is_marked c (alone (bounds_of plan) g.group (project plan g run) b.number).noticed ≡ (is_other spec b.number c && is_noticed plan run b c)
     noticed_is c = (behaves.fits b in_b).noticed c ∙ ap (λ (o : Option Spec). is_concerned b.number c o && is_noticed plan run b c) made_there
 
     put_there : (c : ℕ) → is_member spec c ≡ true → (group b.number).put c ≡ (seen_in plan run v g b (node_numbered c)).put
@@ -60,8 +61,8 @@ module _ (plan : Plan) (run : List Did) (v : ClusterValue) (g : Addr) (few : pla
 
     delivered : DutyLaws → is_gone (group b.number).phase ≡ false → KeepsRunDuties plan run v g b spec (delivered_at spec b.number (group b.number))
     delivered laws here =
-        seen here (delivered_at spec b.number (group b.number)) (laws.members plan.nodes g.group (project plan g run) b.number spec made)
-        ((laws.dutiful plan.nodes g.group (project plan g run) alike.legal).delivered b.number spec (ap (λ (gone : Bool). if gone then None else (group b.number).spec) here ∙ made))
+        seen here (delivered_at spec b.number (group b.number)) (laws.members (bounds_of plan) g.group (project plan g run) b.number spec made)
+        ((laws.dutiful (bounds_of plan) g.group (project plan g run) alike.legal).delivered b.number spec (ap (λ (gone : Bool). if gone then None else (group b.number).spec) here ∙ made))
 
     logged : DutyLaws → KeepsRunDuties plan run v g b spec (has (seen_in plan run v g b b).log)
     logged laws = record {
@@ -70,7 +71,7 @@ module _ (plan : Plan) (run : List Did) (v : ClusterValue) (g : Addr) (few : pla
     }
       where
         there : (m : MsgId) → has (seen_in plan run v g b b).log m ≡ true → (is_gone (group b.number).phase ≡ false) × (delivered_at spec b.number (group b.number) m ≡ true)
-        there m h = laws.logged plan.nodes g.group (project plan g run) b.number spec made m (ap (λ (s : Seen). has s.log m) (sym (alike.same b b in_b in_b)) ∙ h)
+        there m h = laws.logged (bounds_of plan) g.group (project plan g run) b.number spec made m (ap (λ (s : Seen). has s.log m) (sym (alike.same b b in_b in_b)) ∙ h)
 
   run_duties : DutyLaws → RunDuties plan run v g
   run_duties laws = record {

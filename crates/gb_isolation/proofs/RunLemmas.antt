@@ -49,6 +49,7 @@ use Rattle.gb_isolation.proofs.PastLemmas.{running_unmet}
 use Rattle.gb_types.specs.declared.request.Request.{Request}
 use Rattle.gb_types.specs.declared.request.Request.TheVariants.{AddTenant, Make}
 use Rattle.gb_types.proofs.BoolLemmas.{not_true}
+use Rattle.gb_types.specs.Version.{bounds_of}
 use Rattle.gb_isolation.proofs.UnrelatedLemmas.{unrelated_goes}
 use Rattle.gb_isolation.proofs.TickLemmas.{ticked_goes}
 
@@ -123,7 +124,7 @@ pub record Laws : Type 0 where
 
 module _ (laws : Laws) (plan : Plan) (g : Addr) (run : List Did) (before : ClusterValue) (comes : ComesTo plan run before) (was : BehavesAlone plan g run) where
   abbrev group : Group
-  group = alone plan.nodes g.group (project plan g run)
+  group = alone (bounds_of plan) g.group (project plan g run)
 
   few : plan.nodes ≤ NODES
   few = (stays plan run before comes).right.few
@@ -134,24 +135,24 @@ module _ (laws : Laws) (plan : Plan) (g : Addr) (run : List Did) (before : Clust
   unsaid a within t there b in_b =
       none_of_front (is_own a.number (said_in t.calls + 1)) (items_of g (frames_to plan.cluster_key b (past_at a run))) (waiting_of (told_of (node_plan plan a) g (past_at a run)) b)
       (ap (list_any (is_own a.number (said_in t.calls + 1))) (sym ((was.fits a within).put b in_b))
-      ∙ none_beyond_accepted (accepted plan.nodes g.group (project plan g run)) a.number (said_in t.calls + 1) ((group a.number).put b) low ((is_integral plan.nodes g.group (project plan g run) was.legal).items a.number b))
+      ∙ none_beyond_accepted (accepted (bounds_of plan) g.group (project plan g run)) a.number (said_in t.calls + 1) ((group a.number).put b) low ((is_integral (bounds_of plan) g.group (project plan g run) was.legal).items a.number b))
     where
       st : IsThere t (group a.number)
       st = subst (λ o. MemberIs o (group a.number)) there (was.fits a within).told
 
-      low : length (accepted plan.nodes g.group (project plan g run) a.number) < said_in t.calls + 1
-      low = omega (arith, ap said_in st.calls, ap length (alone_said plan.nodes g.group a.number (project plan g run)), length-own_said (group a.number).told)
+      low : length (accepted (bounds_of plan) g.group (project plan g run) a.number) < said_in t.calls + 1
+      low = omega (arith, ap said_in st.calls, ap length (alone_said (bounds_of plan) g.group a.number (project plan g run)), length-own_said (group a.number).told)
 
   -- what an event gives the group
   step_goes : (a : NodeId) (e : NodeEvent) (x : NodeAnswer) (v : ClusterValue) → a.number < plan.nodes → ComesTo plan (record { node = a; event = e; answer = x } ∷ run) v → IsAnswered (node_plan plan a) (past_at a run) e x
       → is_starved_by a g (past_at a run) e x ≡ false
-      → Goes plan.nodes g a (frames_for plan run a) (view_of (node_plan plan a) g (record { event = e; answer = x } ∷ past_at a run)) group (gives plan g run a e x)
+      → Goes (bounds_of plan) g a (frames_for plan run a) (view_of (node_plan plan a) g (record { event = e; answer = x } ∷ past_at a run)) group (gives plan g run a e x)
   unfolding IsAlwaysWhole
   step_goes a (Asked request) (Replied reply) v within goes answered fed =
-      asked_goes (node_plan plan a) g (past_at a run) request reply (frames_for plan run a) group few
+      asked_goes (node_plan plan a) plan.versions g (past_at a run) request reply (frames_for plan run a) group refl few
       (λ b is. laws.answers.noticed (node_plan plan a) (past_at a run) (node_at before a) b (have_pasts plan run before a comes within) is) (unsaid a within) answered fed (was.fits a within)
-  step_goes a (Pack b) (Sent (SentPacket text)) v within goes answered fed = packed_goes (node_plan plan a) g (past_at a run) b text (frames_for plan run a) group few answered (was.fits a within)
-  step_goes a Tick (Ticked (Noticed found)) v within goes answered fed = ticked_goes (node_plan plan a) g (past_at a run) found (frames_for plan run a) group few answered (was.fits a within)
+  step_goes a (Pack b) (Sent (SentPacket text)) v within goes answered fed = packed_goes (node_plan plan a) plan.versions g (past_at a run) b text (frames_for plan run a) group few answered (was.fits a within)
+  step_goes a Tick (Ticked (Noticed found)) v within goes answered fed = ticked_goes (node_plan plan a) plan.versions g (past_at a run) found (frames_for plan run a) group few answered (was.fits a within)
   step_goes a (Brought bytes) (Taken (TakenGood good)) v within goes answered fed =
       arrived_goes plan g run a bytes good group few within answered (laws.new plan run a bytes good v answered.content goes answered.text_is) whole (laws.links.covered plan run (record { node = a; event = Brought bytes; answer = Taken (TakenGood good) }) v goes answered.content answered.text_is below) (frames_fit laws.answers plan g run before comes) was.fits stops
     where
@@ -170,7 +171,7 @@ module _ (laws : Laws) (plan : Plan) (g : Addr) (run : List Did) (before : Clust
 
       whole : is_first good.frame ≡ true → slice_get (frames_to plan.cluster_key a.number (past_at (node_numbered answered.content.from) run)) (answered.content.frame - 1) ≡ Some answered.content.items
       whole first = ((laws.links.whole plan (record { node = a; event = Brought bytes; answer = Taken (TakenGood good) } ∷ run) v goes).0 answered.content (ap (λ t. if t then read plan.cluster_key bytes else []) first ∙ answered.text_is)).2
-  step_goes a (Asked request) x v within goes answered fed = unrelated_goes (node_plan plan a) g (past_at a run) (Asked request) x (frames_for plan run a) group (record {
+  step_goes a (Asked request) x v within goes answered fed = unrelated_goes (node_plan plan a) plan.versions g (past_at a run) (Asked request) x (frames_for plan run a) group (record {
     packed = λ b. refl;
     none_came = refl;
     none_taken = λ b n. refl;
@@ -181,7 +182,7 @@ module _ (laws : Laws) (plan : Plan) (g : Addr) (run : List Did) (before : Clust
     no_reply = refl;
     unmet = refl;
   }) (was.fits a within)
-  step_goes a e x v within goes answered fed = unrelated_goes (node_plan plan a) g (past_at a run) e x (frames_for plan run a) group (record {
+  step_goes a e x v within goes answered fed = unrelated_goes (node_plan plan a) plan.versions g (past_at a run) e x (frames_for plan run a) group (record {
     packed = λ b. refl;
     none_came = refl;
     none_taken = λ b n. refl;
@@ -198,7 +199,7 @@ module _ (laws : Laws) (plan : Plan) (g : Addr) (run : List Did) (before : Clust
       → BehavesAlone plan g (record { node = a; event = e; answer = x } ∷ run)
   unfolding project ComesTo frames_to
   goes_further a e x v goes fed = record {
-    legal = legal-append plan.nodes g.group nobody (project plan g run) (gives plan g run a e x) was.legal happens.legal;
+    legal = legal-append (bounds_of plan) g.group nobody (project plan g run) (gives plan g run a e x) was.legal happens.legal;
     fits = λ b inside. subst (λ (q : Group). Fits plan.nodes g b.number (frames_for plan (d ∷ run) b) (view_at plan g (d ∷ run) b) (q b.number)) (sym on) (by b inside (cases_eq a.number b.number));
   }
     where
@@ -206,10 +207,10 @@ module _ (laws : Laws) (plan : Plan) (g : Addr) (run : List Did) (before : Clust
       d = record { node = a; event = e; answer = x }
 
       later : Group
-      later = alone_from plan.nodes g.group group (gives plan g run a e x)
+      later = alone_from (bounds_of plan) g.group group (gives plan g run a e x)
 
-      on : alone plan.nodes g.group (project plan g run ++ gives plan g run a e x) ≡ later
-      on = fold-append (after plan.nodes g.group) nobody (project plan g run) (gives plan g run a e x)
+      on : alone (bounds_of plan) g.group (project plan g run ++ gives plan g run a e x) ≡ later
+      on = fold-append (after (bounds_of plan) g.group) nobody (project plan g run) (gives plan g run a e x)
 
       kept : Stays plan goes.0
       kept = stays plan run goes.0 goes.1
@@ -220,7 +221,7 @@ module _ (laws : Laws) (plan : Plan) (g : Addr) (run : List Did) (before : Clust
       answered : IsAnswered (node_plan plan a) (past_at a run) e x
       answered = laws.answers.each (node_plan plan a) (past_at a run) e x (node_at v a) (subst (λ hs. NodeComesTo (node_plan plan a) hs (node_at v a)) (past_same a d run refl) (have_pasts plan (d ∷ run) v a goes within))
 
-      happens : Goes plan.nodes g a (frames_for plan run a) (view_of (node_plan plan a) g (record { event = e; answer = x } ∷ past_at a run)) group (gives plan g run a e x)
+      happens : Goes (bounds_of plan) g a (frames_for plan run a) (view_of (node_plan plan a) g (record { event = e; answer = x } ∷ past_at a run)) group (gives plan g run a e x)
       happens = step_goes a e x v within goes answered fed
 
       -- the frames that a node packed for another, after the step

@@ -9,6 +9,8 @@ use Rattle.gb_types.specs.declared.reply.Reply.{Reply}
 use Rattle.gb_types.specs.declared.reply.Reply.TheVariants.{Refused}
 use Rattle.gb_types.specs.declared.request.Request.{Request}
 use Rattle.gb_types.specs.declared.request.Request.TheVariants.{AddTenant, Make, OpenGroup, ShutGroup, DropGroup, Say, Fetch}
+use Rattle.gb_types.specs.declared.plan.Bounds.{Bounds}
+use Rattle.gb_types.specs.declared.version.Version.{Version}
 use Rattle.gb_frame.specs.declared.item.Item.{Item}
 use Rattle.gb_alone.specs.declared.event.GroupEvent.{GroupEvent}
 use Rattle.gb_alone.specs.declared.event.GroupEvent.TheVariants.{Make as AskMake, Open as AskOpen, Shut as AskShut, Drop as AskDrop, Say as AskSay, Fetch as AskFetch, Stop}
@@ -22,7 +24,7 @@ use Rattle.gb_node.proofs.EventLemmas.{added_refused, asked_untold}
 use Rattle.gb_isolation.proofs.AskLemmas.{asking, view_asked, rows_kept, refused_makes, refused_unrelated}
 use Rattle.gb_isolation.proofs.GoesLemmas.{goes_one, goes_on}
 use Rattle.gb_isolation.proofs.MemberLemmas.{same_member}
-use Rattle.gb_isolation.proofs.View.{View, view_of, Fits, Goes}
+use Rattle.gb_isolation.proofs.View.{View, view_of, Fits, Goes, bounds_with}
 
 -- the reply of a node that has stopped
 abbrev pub refused : Reply
@@ -33,26 +35,26 @@ pub record IsCommand (g : Addr) (a : NodeId) (request : Request) : Type 0 where
   pub event : GroupEvent
   pub one : command_for g a request ≡ record { node = a; event = event } ∷ []
   pub may : (group : Group) → MayHappen a event group
-  pub replied : (nodes number : ℕ) (group : Group) → member_after nodes number a event group ≡ commanded a event (reply_to nodes number a.number event (group a.number)) (group a.number)
+  pub replied : (bounds : Bounds) (number : ℕ) (group : Group) → member_after bounds number a event group ≡ commanded a event (reply_to bounds number a.number event (group a.number)) (group a.number)
   pub nothing : (m : Member) → did a event refused m ≡ m
 
 pub command_named : (g : Addr) (a : NodeId) (request : Request) → is_named g request ≡ true → IsCommand g a request
 command_named g a (AddTenant token row) named = absurd (cc)
-command_named g a (Make token addr spec) named = record { event = AskMake spec; one = refl; may = λ group. tt; replied = λ nodes number group. refl; nothing = λ m. refl }
-command_named g a (OpenGroup token addr) named = record { event = AskOpen; one = refl; may = λ group. tt; replied = λ nodes number group. refl; nothing = λ m. refl }
-command_named g a (ShutGroup token addr) named = record { event = AskShut; one = refl; may = λ group. tt; replied = λ nodes number group. refl; nothing = λ m. refl }
-command_named g a (DropGroup token addr) named = record { event = AskDrop; one = refl; may = λ group. tt; replied = λ nodes number group. refl; nothing = λ m. refl }
-command_named g a (Say token addr payload) named = record { event = AskSay payload; one = refl; may = λ group. tt; replied = λ nodes number group. refl; nothing = λ m. refl }
-command_named g a (Fetch token addr from most) named = record { event = AskFetch from most; one = refl; may = λ group. tt; replied = λ nodes number group. refl; nothing = λ m. refl }
+command_named g a (Make token addr spec) named = record { event = AskMake spec; one = refl; may = λ group. tt; replied = λ bounds number group. refl; nothing = λ m. refl }
+command_named g a (OpenGroup token addr) named = record { event = AskOpen; one = refl; may = λ group. tt; replied = λ bounds number group. refl; nothing = λ m. refl }
+command_named g a (ShutGroup token addr) named = record { event = AskShut; one = refl; may = λ group. tt; replied = λ bounds number group. refl; nothing = λ m. refl }
+command_named g a (DropGroup token addr) named = record { event = AskDrop; one = refl; may = λ group. tt; replied = λ bounds number group. refl; nothing = λ m. refl }
+command_named g a (Say token addr payload) named = record { event = AskSay payload; one = refl; may = λ group. tt; replied = λ bounds number group. refl; nothing = λ m. refl }
+command_named g a (Fetch token addr from most) named = record { event = AskFetch from most; one = refl; may = λ group. tt; replied = λ bounds number group. refl; nothing = λ m. refl }
 
 -- The group alone at a node that has stopped.
 
-module _ (nodes : ℕ) (g : Addr) (a : NodeId) (frames_from : ℕ → List (List Item)) where
+module _ (bounds : Bounds) (g : Addr) (a : NodeId) (frames_from : ℕ → List (List Item)) where
   -- the stop is shown
-  stop_goes : (v : View) (group : Group) → Fits nodes g a.number frames_from v (group a.number) → Goes nodes g a frames_from (record v { met = true }) group (record { node = a; event = Stop } ∷ [])
-  stop_goes v group fits = goes_one nodes g a frames_from (record v { met = true }) group Stop tt (record {
+  stop_goes : (v : View) (group : Group) → Fits bounds.nodes g a.number frames_from v (group a.number) → Goes bounds g a frames_from (record v { met = true }) group (record { node = a; event = Stop } ∷ [])
+  stop_goes v group fits = goes_one bounds g a frames_from (record v { met = true }) group Stop tt (record {
     reserve = fits.reserve;
-    told = same_member v.told (group a.number) (member_after nodes g.group a Stop group) refl refl refl fits.told;
+    told = same_member v.told (group a.number) (member_after bounds g.group a Stop group) refl refl refl fits.told;
     inside = fits.inside;
     put = fits.put;
     taken = fits.taken;
@@ -66,9 +68,9 @@ module _ (nodes : ℕ) (g : Addr) (a : NodeId) (frames_from : ℕ → List (List
   })
 
   -- and a command is refused then
-  refused_goes : (request : Request) (c : IsCommand g a request) (v : View) (group : Group) → v.met ≡ true → Fits nodes g a.number frames_from v (group a.number)
-      → Goes nodes g a frames_from (record v { replies = v.replies ++ refused ∷ [] }) group (record { node = a; event = c.event } ∷ [])
-  refused_goes request c v group met fits = goes_one nodes g a frames_from (record v { replies = v.replies ++ refused ∷ [] }) group c.event (c.may group) (subst (Fits nodes g a.number frames_from (record v { replies = v.replies ++ refused ∷ [] })) (sym left) (record {
+  refused_goes : (request : Request) (c : IsCommand g a request) (v : View) (group : Group) → v.met ≡ true → Fits bounds.nodes g a.number frames_from v (group a.number)
+      → Goes bounds g a frames_from (record v { replies = v.replies ++ refused ∷ [] }) group (record { node = a; event = c.event } ∷ [])
+  refused_goes request c v group met fits = goes_one bounds g a frames_from (record v { replies = v.replies ++ refused ∷ [] }) group c.event (c.may group) (subst (Fits bounds.nodes g a.number frames_from (record v { replies = v.replies ++ refused ∷ [] })) (sym left) (record {
     reserve = fits.reserve;
     told = same_member v.told (group a.number) next refl refl refl fits.told;
     inside = fits.inside;
@@ -86,27 +88,27 @@ module _ (nodes : ℕ) (g : Addr) (a : NodeId) (frames_from : ℕ → List (List
       next : Member
       next = let m = group a.number in record m { replies = m.replies ++ refused ∷ [] }
 
-      left : member_after nodes g.group a c.event group ≡ next
+      left : member_after bounds g.group a c.event group ≡ next
       left =
-          c.replied nodes g.group group
-          ∙ (ap (λ (b : Bool). commanded a c.event (if b then refused else running_reply nodes g.group a.number c.event (group a.number)) (group a.number)) (fits.stopped ∙ met)
+          c.replied bounds g.group group
+          ∙ (ap (λ (b : Bool). commanded a c.event (if b then refused else running_reply bounds g.group a.number c.event (group a.number)) (group a.number)) (fits.stopped ∙ met)
           ∙ ap (λ (m : Member). record m { replies = (group a.number).replies ++ refused ∷ [] }) (c.nothing (group a.number)))
 
   -- the first command meets the stop
-  meets : (request : Request) (c : IsCommand g a request) (v : View) (group : Group) → Fits nodes g a.number frames_from v (group a.number) → (b : Bool) → v.met ≡ b
-      → Goes nodes g a frames_from (record v { replies = v.replies ++ refused ∷ []; met = true }) group (with_stop a b (record { node = a; event = c.event } ∷ []))
+  meets : (request : Request) (c : IsCommand g a request) (v : View) (group : Group) → Fits bounds.nodes g a.number frames_from v (group a.number) → (b : Bool) → v.met ≡ b
+      → Goes bounds g a frames_from (record v { replies = v.replies ++ refused ∷ []; met = true }) group (with_stop a b (record { node = a; event = c.event } ∷ []))
   meets request c v group fits true met =
-      subst (λ (b : Bool). Goes nodes g a frames_from (record v { replies = v.replies ++ refused ∷ []; met = b }) group (record { node = a; event = c.event } ∷ [])) met (refused_goes request c v group met fits)
+      subst (λ (b : Bool). Goes bounds g a frames_from (record v { replies = v.replies ++ refused ∷ []; met = b }) group (record { node = a; event = c.event } ∷ [])) met (refused_goes request c v group met fits)
   meets request c v group fits false met =
       let stops = stop_goes v group fits in
-      goes_on nodes g a frames_from (record v { met = true }) (record v { replies = v.replies ++ refused ∷ []; met = true }) group (record { node = a; event = Stop } ∷ []) (record { node = a; event = c.event } ∷ []) stops
-      (refused_goes request c (record v { met = true }) (alone_from nodes g.group group (record { node = a; event = Stop } ∷ [])) refl stops.there)
+      goes_on bounds g a frames_from (record v { met = true }) (record v { replies = v.replies ++ refused ∷ []; met = true }) group (record { node = a; event = Stop } ∷ []) (record { node = a; event = c.event } ∷ []) stops
+      (refused_goes request c (record v { met = true }) (alone_from bounds g.group group (record { node = a; event = Stop } ∷ [])) refl stops.there)
 
 -- The node.
 
-module _ (plan : NodePlan) (g : Addr) (past : List Happened) (request : Request) (frames_from : ℕ → List (List Item)) (group : Group) where
+module _ (plan : NodePlan) (versions : List Version) (g : Addr) (past : List Happened) (request : Request) (frames_from : ℕ → List (List Item)) (group : Group) where
   abbrev StoppedGoes : Type 0
-  StoppedGoes = Goes plan.nodes g plan.me frames_from (view_of plan g (asking request refused ∷ past)) group (asked plan g past request refused)
+  StoppedGoes = Goes (bounds_with plan versions) g plan.me frames_from (view_of plan g (asking request refused ∷ past)) group (asked plan g past request refused)
 
   -- what it gives the group
   given_stopped : is_stopped past ≡ true → (own : Bool) → is_own_request plan.me g past request ≡ own → asked plan g past request refused ≡ (if own then with_stop plan.me (is_met plan.me g past) (command_for g plan.me request) else [])
@@ -115,15 +117,15 @@ module _ (plan : NodePlan) (g : Addr) (past : List Happened) (request : Request)
   -- a request of another group, or with a wrong token
   stopped_other : is_stopped past ≡ true → is_own_request plan.me g past request ≡ false → Fits plan.nodes g plan.me.number frames_from (view_of plan g past) (group plan.me.number) → StoppedGoes
   stopped_other stopped other fits =
-      subst (λ es. Goes plan.nodes g plan.me frames_from (view_of plan g (asking request refused ∷ past)) group es) (sym (given_stopped stopped false other))
-      (refused_unrelated plan g past request Stopped frames_from group other fits)
+      subst (λ es. Goes (bounds_with plan versions) g plan.me frames_from (view_of plan g (asking request refused ∷ past)) group es) (sym (given_stopped stopped false other))
+      (refused_unrelated plan versions g past request Stopped frames_from group other fits)
 
   -- the group's own request
   stopped_own : is_stopped past ≡ true → is_own_request plan.me g past request ≡ true → is_named g request ≡ true → Fits plan.nodes g plan.me.number frames_from (view_of plan g past) (group plan.me.number) → StoppedGoes
   stopped_own stopped own named fits =
       let c = command_named g plan.me request named in
-      subst (λ es. Goes plan.nodes g plan.me frames_from (view_of plan g (asking request refused ∷ past)) group es) (sym (given_stopped stopped true own ∙ ap (with_stop plan.me (is_met plan.me g past)) c.one))
-      (subst (λ (v : View). Goes plan.nodes g plan.me frames_from v group (with_stop plan.me (is_met plan.me g past) (record { node = plan.me; event = c.event } ∷ []))) (sym later) (meets plan.nodes g plan.me frames_from request c (view_of plan g past) group fits (is_met plan.me g past) refl))
+      subst (λ es. Goes (bounds_with plan versions) g plan.me frames_from (view_of plan g (asking request refused ∷ past)) group es) (sym (given_stopped stopped true own ∙ ap (with_stop plan.me (is_met plan.me g past)) c.one))
+      (subst (λ (v : View). Goes (bounds_with plan versions) g plan.me frames_from v group (with_stop plan.me (is_met plan.me g past) (record { node = plan.me; event = c.event } ∷ []))) (sym later) (meets (bounds_with plan versions) g plan.me frames_from request c (view_of plan g past) group fits (is_met plan.me g past) refl))
     where
       later : view_of plan g (asking request refused ∷ past) ≡ record (view_of plan g past) { replies = replies_in plan.me g past ++ refused ∷ []; met = true }
       later = view_asked plan g past request refused (view_of plan g past).reserve (told_of plan g past) (made_with g past) (replies_in plan.me g past ++ refused ∷ []) true

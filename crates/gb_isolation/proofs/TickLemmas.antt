@@ -13,6 +13,7 @@ use Rattle.gb_types.specs.declared.entry.Entry.{Entry}
 use Rattle.gb_types.specs.declared.limits.TheConstants.{NODES}
 use Rattle.gb_types.specs.declared.node.NodeId.{NodeId}
 use Rattle.gb_types.specs.declared.spec.Spec.{Spec}
+use Rattle.gb_types.specs.declared.version.Version.{Version}
 use Rattle.gb_frame.specs.declared.item.Item.{Item}
 use Rattle.gb_rules.specs.Group.{is_other}
 use Rattle.gb_rules.specs.Tenant.{reserve_of, row_of}
@@ -29,7 +30,7 @@ use Rattle.gb_node.specs.declared.answer.Ticked.TheVariants.{Noticed}
 use Rattle.gb_node.specs.declared.event.NodeEvent.TheVariants.{Tick}
 use Rattle.gb_node.specs.declared.plan.NodePlan.{NodePlan}
 use Rattle.gb_isolation.specs.Project.{items_of, made_with, replies_in, is_met, ticked}
-use Rattle.gb_isolation.proofs.View.{View, view_of, Fits, Goes, MemberIs, AreMarked, KeepsAcks, IsInside, is_concerned, said_of, acknowledged_of}
+use Rattle.gb_isolation.proofs.View.{View, view_of, Fits, Goes, MemberIs, AreMarked, KeepsAcks, IsInside, is_concerned, said_of, acknowledged_of, bounds_with}
 use Rattle.gb_isolation.proofs.GoesLemmas.{goes_none}
 use Rattle.gb_isolation.proofs.MemberLemmas.{KeepsRest, told-noticed, put-noticed}
 use Rattle.gb_isolation.proofs.NoticeLemmas.{numbered_is, all_noticed, notice_keeps, notices_of, notices_there, notices_elsewhere, notices_keep, notices_mark, notices_legal, passing_rising, passing_marked}
@@ -137,7 +138,7 @@ none_noticed me (b ∷ found) = none_noticed me found
 
 -- The group.
 
-module _ (plan : NodePlan) (g : Addr) (past : List Happened) (found : set.FinSet nat_cmp) (frames_from : ℕ → List (List Item)) (group : Group) (few : plan.nodes ≤ NODES) (right : IsTicked plan past found)
+module _ (plan : NodePlan) (versions : List Version) (g : Addr) (past : List Happened) (found : set.FinSet nat_cmp) (frames_from : ℕ → List (List Item)) (group : Group) (few : plan.nodes ≤ NODES) (right : IsTicked plan past found)
     (was : Fits plan.nodes g plan.me.number frames_from (view_of plan g past) (group plan.me.number)) where
   abbrev v : View
   v = view_of plan g past
@@ -177,11 +178,11 @@ module _ (plan : NodePlan) (g : Addr) (past : List Happened) (found : set.FinSet
   node_found : (b : ℕ) → set.contains found b ≡ true → b < NODES
   node_found b is = let low = (right.inside b is).0 in omega (arith, low, few)
 
-  goes_made : (spec : Spec) → v.made ≡ Some spec → Goes plan.nodes g plan.me frames_from (view_ticked plan.me found v) group (notices_of plan.me (bs spec))
+  goes_made : (spec : Spec) → v.made ≡ Some spec → Goes (bounds_with plan versions) g plan.me frames_from (view_ticked plan.me found v) group (notices_of plan.me (bs spec))
   goes_made spec is = record {
-    legal = notices_legal plan.nodes g.group plan.me 0 (bs spec) group (passing_rising (test spec) 0 NODES (omega arith)) (was.stopped ∙ running_unmet plan g past right.running) fresh;
-    elsewhere = λ x other. notices_elsewhere plan.nodes g.group plan.me (bs spec) group x other;
-    there = subst (Fits plan.nodes g plan.me.number frames_from (view_ticked plan.me found v)) (sym (notices_there plan.nodes g.group plan.me (bs spec) group)) (record {
+    legal = notices_legal (bounds_with plan versions) g.group plan.me 0 (bs spec) group (passing_rising (test spec) 0 NODES (omega arith)) (was.stopped ∙ running_unmet plan g past right.running) fresh;
+    elsewhere = λ x other. notices_elsewhere (bounds_with plan versions) g.group plan.me (bs spec) group x other;
+    there = subst (Fits plan.nodes g plan.me.number frames_from (view_ticked plan.me found v)) (sym (notices_there (bounds_with plan versions) g.group plan.me (bs spec) group)) (record {
       reserve = keeps.reserve ∙ was.reserve;
       told = now.told;
       inside = now.inside;
@@ -221,8 +222,8 @@ module _ (plan : NodePlan) (g : Addr) (past : List Happened) (found : set.FinSet
           by true n w = refl
           by false n w = refl
 
-  goes_unmade : v.made ≡ None → Goes plan.nodes g plan.me frames_from (view_ticked plan.me found v) group []
-  goes_unmade none = goes_none plan.nodes g plan.me frames_from (view_ticked plan.me found v) group (record {
+  goes_unmade : v.made ≡ None → Goes (bounds_with plan versions) g plan.me frames_from (view_ticked plan.me found v) group []
+  goes_unmade none = goes_none (bounds_with plan versions) g plan.me frames_from (view_ticked plan.me found v) group (record {
     reserve = was.reserve;
     told = subst (λ o. MemberIs o m) (sym later) was.told;
     inside = subst (IsInside plan.nodes) (sym later) was.inside;
@@ -256,9 +257,9 @@ module _ (plan : NodePlan) (g : Addr) (past : List Happened) (found : set.FinSet
       later = ap (λ o. fold (noticed_told plan.me) o (rising found)) (absent v.told was.told) ∙ (none_noticed plan.me (rising found) ∙ sym (absent v.told was.told))
 
   -- time passes, and nodes are noticed
-  pub ticked_goes : Goes plan.nodes g plan.me frames_from (view_of plan g (ticking found ∷ past)) group (ticked plan.me (set.contains found) (made_with g past))
-  ticked_goes = subst (λ w. Goes plan.nodes g plan.me frames_from w group (ticked plan.me (set.contains found) (made_with g past))) (sym (ticked_view plan g past found right)) (by v.made refl)
+  pub ticked_goes : Goes (bounds_with plan versions) g plan.me frames_from (view_of plan g (ticking found ∷ past)) group (ticked plan.me (set.contains found) (made_with g past))
+  ticked_goes = subst (λ w. Goes (bounds_with plan versions) g plan.me frames_from w group (ticked plan.me (set.contains found) (made_with g past))) (sym (ticked_view plan g past found right)) (by v.made refl)
     where
-      by : (o : Option Spec) → v.made ≡ o → Goes plan.nodes g plan.me frames_from (view_ticked plan.me found v) group (ticked plan.me (set.contains found) o)
+      by : (o : Option Spec) → v.made ≡ o → Goes (bounds_with plan versions) g plan.me frames_from (view_ticked plan.me found v) group (ticked plan.me (set.contains found) o)
       by None is = goes_unmade is
       by (Some spec) is = goes_made spec is

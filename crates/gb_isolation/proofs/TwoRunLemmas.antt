@@ -1,11 +1,80 @@
 -- Two runs in which the same happened to a group show the same of it.
-use Rattle.std.proofs.Common.{◌<◌, sym, subst, ◌∙◌}
-use Rattle.gb_alone.specs.Alone.{alone}
+use Rattle.std.proofs.Common.{◌≡◌, ℕ, ◌<◌, List, [], ◌∷◌, nat_eq, ◌-◌, slice_get, refl, sym, ap, subst, ◌∙◌}
+use Rattle.std.specs.Prelude.{is_some, if◌then◌else◌}
+use Rattle.gb_types.specs.Version.{bounds_of, version_at}
+use Rattle.gb_types.specs.declared.address.Addr.{Addr}
+use Rattle.gb_types.specs.declared.node.NodeId.{NodeId}
+use Rattle.gb_types.specs.declared.plan.Bounds.{Bounds}
+use Rattle.gb_types.specs.declared.plan.Plan.{Plan}
+use Rattle.gb_types.specs.declared.refusal.Refusal.TheVariants.{Stopped}
+use Rattle.gb_types.specs.declared.reply.Reply.TheVariants.{Refused}
+use Rattle.gb_rules.specs.Group.{say_answer}
+use Rattle.gb_rules.specs.Tenant.{make_answer, by_tenant}
+use Rattle.gb_alone.specs.Alone.{Member, Group, after, alone, alone_from, commanded, member_after, nobody, on_group, running_reply, taken_in}
+use Rattle.gb_alone.specs.declared.event.GroupEvent.{GroupEvent}
+use Rattle.gb_alone.specs.declared.event.GroupEvent.TheVariants.{Tenant, Make as AskMake, Say as AskSay, Took, Came, Done as Acknowledged, Notice, Stop}
+use Rattle.gb_alone.specs.declared.event.GroupStep.{GroupStep}
+use Rattle.gb_cluster.specs.ClusterValue.{ClusterValue}
+use Rattle.gb_cluster.specs.Run.{Did, ComesTo}
 use Rattle.gb_isolation.specs.Isolation.{seen_alone, GroupsAreIsolated}
+use Rattle.gb_isolation.specs.Project.{gives, project}
 use Rattle.gb_isolation.specs.RunLaws.{RunsAgree}
+use Rattle.gb_isolation.proofs.GivenLemmas.{AllAre, IsAt, all_both, all_weaker, given_at}
+use Rattle.gb_isolation.proofs.MomentLemmas.{placed}
+
+-- A group alone, under bounds of which only the versions of the nodes at which its events happen matter.
+module _ (bounds other : Bounds) (number : ℕ) (size : bounds.nodes ≡ other.nodes) where
+  -- a node sends the same version under both
+  abbrev IsSameAt : ℕ → Type 0
+  IsSameAt a = version_at bounds.versions a ≡ version_at other.versions a
+
+  same_reply : (me : ℕ) → IsSameAt me → (e : GroupEvent) (m : Member) → running_reply bounds number me e m ≡ running_reply other number me e m
+  same_reply me same (AskMake spec) m = ap (λ nodes. by_tenant (make_answer nodes me number (is_some m.spec) spec) m.reserve) size
+  same_reply me same (AskSay payload) m = ap (λ version. on_group (λ s. say_answer version s payload) me m) same
+  same_reply me same e m = refl
+
+  same_member : (me : NodeId) → IsSameAt me.number → (e : GroupEvent) (group : Group) → member_after bounds number me e group ≡ member_after other number me e group
+  same_member me same (Tenant reserve) group = refl
+  same_member me same (Took b count) group = refl
+  same_member me same (Came from place) group = let m : Member = group me.number in let item = slice_get ((group from.number).put me.number) (place - 1) in ap (λ version. taken_in version me.number from place item m) same
+  same_member me same (Acknowledged b place count) group = refl
+  same_member me same (Notice q) group = refl
+  same_member me same Stop group = refl
+  same_member me same e group = ap (λ r. commanded me e (if (group me.number).stopped then Refused Stopped else r) (group me.number)) (same_reply me.number same e (group me.number))
+
+  same_after : (group : Group) (step : GroupStep) → IsSameAt step.node.number → after bounds number group step ≡ after other number group step
+  unfolding after
+  same_after group step same = λ i x. if nat_eq x step.node.number then same_member step.node same step.event group i else group x
+
+  same_from : (group : Group) (steps : List GroupStep) → AllAre (λ step. IsSameAt step.node.number) steps → alone_from bounds number group steps ≡ alone_from other number group steps
+  same_from group [] all = refl
+  same_from group (step ∷ steps) all = ap (λ q. alone_from bounds number q steps) (same_after group step all.0) ∙ same_from (after other number group step) steps all.1
+
+-- what concerns a group in a run happens at nodes of the cluster
+all_placed : (plan : Plan) (g : Addr) (run : List Did) (v : ClusterValue) → ComesTo plan run v → AllAre (λ step. step.node.number < plan.nodes) (project plan g run)
+unfolding project ComesTo
+all_placed plan g [] v comes = tt
+all_placed plan g (d ∷ run) v comes =
+    all_both IsPlaced (project plan g run) given (all_placed plan g run comes.0 comes.1)
+    (all_weaker (IsAt d.node) IsPlaced (λ step at. subst (λ (a : NodeId). a.number < plan.nodes) (sym at) (placed plan d run v comes)) given (given_at plan g run d.node d.event d.answer))
+  where
+    IsPlaced : GroupStep → Type 0
+    IsPlaced step = step.node.number < plan.nodes
+
+    given : List GroupStep
+    given = gives plan g run d.node d.event d.answer
 
 pub alike : GroupsAreIsolated → RunsAgree
-alike isolated plan other run that v w comes goes g fed served size events a b in_a in_b =
+alike isolated plan other run that v w comes goes g fed served bounds events a b in_a in_b =
     (isolated plan run v comes g fed).same a b in_a in_b
-    ∙ ((λ i. seen_alone (alone (size i) g.group (events i)) a.number b.number)
-    ∙ sym ((isolated other that w goes g served).same a b (subst (λ n. a.number < n) size in_a) (subst (λ n. b.number < n) size in_b)))
+    ∙ (ap (λ (q : Group). seen_alone q a.number b.number) same
+    ∙ sym ((isolated other that w goes g served).same a b (subst (λ n. a.number < n) bounds.nodes in_a) (subst (λ n. b.number < n) bounds.nodes in_b)))
+  where
+    steps : List GroupStep
+    steps = project plan g run
+
+    same : alone (bounds_of plan) g.group steps ≡ alone (bounds_of other) g.group (project other g that)
+    same =
+        same_from (bounds_of plan) (bounds_of other) g.group bounds.nodes nobody steps
+        (all_weaker (λ step. step.node.number < plan.nodes) (λ step. version_at plan.versions step.node.number ≡ version_at other.versions step.node.number) (λ step low. bounds.versions step.node.number low) steps (all_placed plan g run v comes))
+        ∙ ap (alone (bounds_of other) g.group) events

@@ -9,6 +9,7 @@ use Rattle.std.proofs.lemmas.List.{append-nil}
 use Rattle.gb_types.specs.declared.address.Addr.{Addr}
 use Rattle.gb_types.specs.declared.spec.TenantRow.{TenantRow}
 use Rattle.gb_types.specs.declared.reply.Reply.{Reply}
+use Rattle.gb_types.specs.declared.version.Version.{Version}
 use Rattle.gb_frame.specs.declared.item.Item.{Item}
 use Rattle.gb_frame.specs.Packet.{Content}
 use Rattle.gb_detect.specs.Silence.{Heard}
@@ -21,7 +22,7 @@ use Rattle.gb_node.specs.declared.answer.NodeAnswer.{NodeAnswer}
 use Rattle.gb_node.specs.declared.event.NodeEvent.{NodeEvent}
 use Rattle.gb_node.specs.declared.plan.NodePlan.{NodePlan}
 use Rattle.gb_isolation.specs.Project.{made_with, made_by, or_else, replies_in, reply_in, is_met, is_met_by}
-use Rattle.gb_isolation.proofs.View.{view_of, Fits, Goes}
+use Rattle.gb_isolation.proofs.View.{view_of, Fits, Goes, bounds_with}
 use Rattle.gb_isolation.proofs.GoesLemmas.{goes_none}
 
 -- An event with its answer that makes nothing of a group.
@@ -51,7 +52,7 @@ unrelated_view plan g past e x q = λ i. record {
   taken = λ b n. q.none_taken b n i || is_taken plan.cluster_key b n past;
 }
 
-pub unrelated_goes : (plan : NodePlan) (g : Addr) (past : List Happened) (e : NodeEvent) (x : NodeAnswer) (frames_from : ℕ → List (List Item)) (group : Group) → IsUnrelated plan g past e x
-    → Fits plan.nodes g plan.me.number frames_from (view_of plan g past) (group plan.me.number) → Goes plan.nodes g plan.me frames_from (view_of plan g (record { event = e; answer = x } ∷ past)) group []
-unrelated_goes plan g past e x frames_from group q was =
-    goes_none plan.nodes g plan.me frames_from (view_of plan g (record { event = e; answer = x } ∷ past)) group (subst (λ w. Fits plan.nodes g plan.me.number frames_from w (group plan.me.number)) (sym (unrelated_view plan g past e x q)) was)
+pub unrelated_goes : (plan : NodePlan) (versions : List Version) (g : Addr) (past : List Happened) (e : NodeEvent) (x : NodeAnswer) (frames_from : ℕ → List (List Item)) (group : Group) → IsUnrelated plan g past e x
+    → Fits plan.nodes g plan.me.number frames_from (view_of plan g past) (group plan.me.number) → Goes (bounds_with plan versions) g plan.me frames_from (view_of plan g (record { event = e; answer = x } ∷ past)) group []
+unrelated_goes plan versions g past e x frames_from group q was =
+    goes_none (bounds_with plan versions) g plan.me frames_from (view_of plan g (record { event = e; answer = x } ∷ past)) group (subst (λ w. Fits plan.nodes g plan.me.number frames_from w (group plan.me.number)) (sym (unrelated_view plan g past e x q)) was)

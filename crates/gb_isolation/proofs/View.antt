@@ -21,6 +21,9 @@ use Rattle.gb_node.specs.declared.plan.NodePlan.{NodePlan}
 use Rattle.gb_cluster.specs.ClusterValue.{node_plan}
 use Rattle.gb_cluster.specs.Run.{Did, past_at}
 use Rattle.gb_types.specs.declared.plan.Plan.{Plan}
+use Rattle.gb_types.specs.declared.plan.Bounds.{Bounds}
+use Rattle.gb_types.specs.declared.version.Version.{Version}
+use Rattle.gb_types.specs.Version.{bounds_of}
 use Rattle.gb_isolation.specs.Project.{project, items_of, offset, made_with, replies_in, is_met}
 
 -- What a group has at a node.
@@ -127,11 +130,15 @@ pub record Fits (nodes : ℕ) (g : Addr) (me : ℕ) (frames_from : ℕ → List 
   pub done : (b : ℕ) → b < nodes → AreMarked g (v.frames b) (v.acked b) (m.done b)
   pub acks : KeepsAcks nodes me v.told (λ b. items_of g (v.frames b)) m.done
 
+-- the bounds of a cluster in which a node has this plan and the nodes send these versions
+abbrev pub bounds_with : NodePlan → List Version → Bounds
+bounds_with plan versions = record { nodes = plan.nodes; versions = versions }
+
 -- What events give a group at a node: they may happen, after them the view is the group's there, and nothing else has changed.
-pub record Goes (nodes : ℕ) (g : Addr) (a : NodeId) (frames_from : ℕ → List (List Item)) (v : View) (group : Group) (given : List GroupStep) : Type 0 where
-  pub legal : IsLegalFrom nodes g.group group given
-  pub elsewhere : (x : ℕ) → x ≢ a.number → alone_from nodes g.group group given x ≡ group x
-  pub there : Fits nodes g a.number frames_from v (alone_from nodes g.group group given a.number)
+pub record Goes (bounds : Bounds) (g : Addr) (a : NodeId) (frames_from : ℕ → List (List Item)) (v : View) (group : Group) (given : List GroupStep) : Type 0 where
+  pub legal : IsLegalFrom bounds g.group group given
+  pub elsewhere : (x : ℕ) → x ≢ a.number → alone_from bounds g.group group given x ≡ group x
+  pub there : Fits bounds.nodes g a.number frames_from v (alone_from bounds g.group group given a.number)
 
 -- The whole cluster.
 
@@ -147,5 +154,5 @@ abbrev pub AllFit : Plan → Addr → List Did → Group → Type 0
 AllFit plan g run group = (a : NodeId) → a.number < plan.nodes → Fits plan.nodes g a.number (frames_for plan run a) (view_at plan g run a) (group a.number)
 
 pub record BehavesAlone (plan : Plan) (g : Addr) (run : List Did) : Type 0 where
-  pub legal : IsLegal plan.nodes g.group (project plan g run)
-  pub fits : AllFit plan g run (alone plan.nodes g.group (project plan g run))
+  pub legal : IsLegal (bounds_of plan) g.group (project plan g run)
+  pub fits : AllFit plan g run (alone (bounds_of plan) g.group (project plan g run))

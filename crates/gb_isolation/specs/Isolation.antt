@@ -2,6 +2,7 @@
 use Rattle.std.specs.Prelude.{ℕ, ◌≡◌, ◌<◌, ◌++◌, ◌&&◌, not, Bool, true, false, All, List, [], ◌∷◌, length, map, Option, Some, None}
 use Rattle.gb_types.specs.declared.address.Addr.{Addr}
 use Rattle.gb_types.specs.declared.entry.Entry.{Entry}
+use Rattle.gb_types.specs.Version.{bounds_of}
 use Rattle.gb_types.specs.declared.node.NodeId.{NodeId}
 use Rattle.gb_types.specs.declared.refusal.Refusal.TheVariants.{OutOfMemory}
 use Rattle.gb_types.specs.declared.reply.Reply.{Reply}
@@ -53,7 +54,7 @@ seen_alone group a b = record { replies = (group a).replies; log = log_of_member
 
 -- the group alone, of what concerns it in the run
 abbrev pub alone_in : Plan → Addr → List Did → Group
-alone_in plan g run = alone plan.nodes g.group (project plan g run)
+alone_in plan g run = alone (bounds_of plan) g.group (project plan g run)
 
 -- the group's items of a frame are what is shown of them: each with its origin as it stands there
 abbrev pub AreSpelt : Addr → List Item → Type 0
@@ -61,7 +62,7 @@ AreSpelt g frame = items_for g frame ≡ map (item_for g) (items_in g frame)
 
 -- the projection of the run is legal, and what is seen of the group is what the projection makes of it alone
 pub record IsIsolated (plan : Plan) (run : List Did) (v : ClusterValue) (g : Addr) : Type 0 where
-  pub legal : IsLegal plan.nodes g.group (project plan g run)
+  pub legal : IsLegal (bounds_of plan) g.group (project plan g run)
   pub same : (a b : NodeId) → a.number < plan.nodes → b.number < plan.nodes → seen_in plan run v g a b ≡ seen_alone (alone_in plan g run) a.number b.number
   -- what is seen of an item that is carried is all that its frame says of it
   pub spelt : (a b : NodeId) → a.number < plan.nodes → b.number < plan.nodes → All (AreSpelt g) (frames_to plan.cluster_key b.number (past_at a run))

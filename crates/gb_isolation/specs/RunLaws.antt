@@ -1,6 +1,7 @@
 -- Integrity, order, duties and agreement of each group in every run, and what two runs of a group share.
 use Rattle.std.specs.Prelude.{ℕ, ◌+◌, ◌≡◌, ◌≢◌, ◌<◌, ◌||◌, Bool, true, false, All, List, [], ◌∷◌, ◌++◌, Option, Some, slice_get, if◌then◌else◌}
 use Rattle.std.specs.FinSet as set
+use Rattle.gb_types.specs.Version.{version_at}
 use Rattle.gb_types.specs.declared.address.Addr.{Addr}
 use Rattle.gb_types.specs.declared.entry.Entry.{Entry}
 use Rattle.gb_types.specs.declared.message.MsgId.{MsgId}
@@ -10,6 +11,7 @@ use Rattle.gb_types.specs.declared.reply.Reply.TheVariants.{Done, Said}
 use Rattle.gb_types.specs.declared.request.Request.{Request}
 use Rattle.gb_types.specs.declared.request.Request.TheVariants.{DropGroup, Say}
 use Rattle.gb_types.specs.declared.spec.Spec.{Spec}
+use Rattle.gb_types.specs.declared.version.Version.{Version}
 use Rattle.gb_frame.specs.declared.item.Item.{Item}
 use Rattle.gb_rules.specs.Address.{is_addr}
 use Rattle.gb_rules.specs.Group.{is_member}
@@ -117,6 +119,9 @@ pub record IsSettledIn (plan : Plan) (run : List Did) (v : ClusterValue) (g : Ad
   pub moment : run ≡ later ++ earlier
   pub made : (a : ℕ) → is_member spec a ≡ true → made_there g earlier a ≡ Some spec
   pub silent : (a : ℕ) → a < plan.nodes → accepted_there plan g earlier a ≡ []
+  -- all members send one version of the packet text
+  pub version : Version
+  pub versions : (a : ℕ) → is_member spec a ≡ true → version_at plan.versions a ≡ version
   -- no running member has dropped it
   pub kept : (a : ℕ) → IsRunning runs spec a → is_dropped g (past_at (node_numbered a) run) ≡ false
   -- from one running member to another nothing waits, and each frame with an item of the group was taken
@@ -136,10 +141,15 @@ SettledGroupsAgree = OfGroupsInRuns RunAgreement
 
 -- Two runs.
 
--- Two runs of clusters of one size, in which the same happened to a group, show the same of it, whatever else happened and whatever else the packets held: its replies, its logs and
+-- two clusters are of one size, and their nodes send the same versions of the packet text
+pub record HaveSameBounds (plan other : Plan) : Type 0 where
+  pub nodes : plan.nodes ≡ other.nodes
+  pub versions : (a : ℕ) → a < plan.nodes → version_at plan.versions a ≡ version_at other.versions a
+
+-- Two runs of such clusters, in which the same happened to a group, show the same of it, whatever else happened and whatever else the packets held: its replies, its logs and
 -- the items that it put out. What happened to it are its own requests, the fates of its items, and the notices of its members.
 abbrev pub RunsAgree : Type 0
 RunsAgree =
     (plan other : Plan) (run that : List Did) (v w : ClusterValue) → ComesTo plan run v → ComesTo other that w
-    → (g : Addr) → is_fed g run ≡ true → is_fed g that ≡ true → plan.nodes ≡ other.nodes → project plan g run ≡ project other g that
+    → (g : Addr) → is_fed g run ≡ true → is_fed g that ≡ true → HaveSameBounds plan other → project plan g run ≡ project other g that
     → (a b : NodeId) → a.number < plan.nodes → b.number < plan.nodes → seen_in plan run v g a b ≡ seen_in other that w g a b

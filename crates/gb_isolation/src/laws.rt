@@ -26,8 +26,8 @@ pub fn ample_runs_feed_all()
     ensures { AmpleRunsFeedAll }
 {}
 
-/// Two runs: in clusters of one size, where the same happened to a group in both, its replies, its logs and the items that
-/// it put out are the same, whatever else happened in either and however its items were packed among others. The function
+/// Two runs: in clusters of one size whose nodes send the same versions of the packet text, where the same happened to a
+/// group in both, its replies, its logs and the items that it put out are the same, whatever else happened in either and however its items were packed among others. The function
 /// does nothing when it runs; its contract is the law.
 pub fn runs_agree()
     ensures { RunsAgree }
