@@ -1,6 +1,7 @@
 -- What the plain programs see of an isolated group.
 use Rattle.std.proofs.Common.{◌≡◌, ℕ, ◌<◌, List, ◌++◌, length, take, sym, ◌∙◌, ap, subst, arith}
 use Rattle.std.proofs.lemmas.List.{take_all, take-append-le}
+use Rattle.gb_types.specs.Version.{bounds_of}
 use Rattle.gb_types.specs.declared.entry.Entry.{Entry}
 use Rattle.gb_alone.specs.Alone.{Group, alone, IsLegal}
 use Rattle.gb_alone.specs.Observation.{observed_alone}
@@ -63,8 +64,8 @@ seen_alone_too plan run v g few alike =
 -- the plain programs together
 pub seen_alone_projected : GroupsAreIsolated → IsolatedGroupsAreSeenAlone → FedGroupsAreSeenAlone
 seen_alone_projected isolated seen plan events answers packets v is_run g fed steps are = (
-  subst (IsLegal plan.nodes g.group) (sym are) alike.legal,
-  seen plan run v g (stays plan run v is_run.comes).right.few alike ∙ ap (λ (ss : List GroupStep). observed_alone plan.nodes (alone plan.nodes g.group ss)) (sym are),
+  subst (IsLegal (bounds_of plan) g.group) (sym are) alike.legal,
+  seen plan run v g (stays plan run v is_run.comes).right.few alike ∙ ap (λ (ss : List GroupStep). observed_alone plan.nodes (alone (bounds_of plan) g.group ss)) (sym are),
 )
   where
     run : List Did

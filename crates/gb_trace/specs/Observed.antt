@@ -1,5 +1,6 @@
 -- What is seen of a group in a run, but for what only the nodes hold.
 use Rattle.std.specs.Prelude.{◌≡◌, ◌≤◌, true, List, map}
+use Rattle.gb_types.specs.Version.{bounds_of}
 use Rattle.gb_types.specs.declared.address.Addr.{Addr}
 use Rattle.gb_types.specs.declared.limits.TheConstants.{NODES}
 use Rattle.gb_types.specs.declared.node.NodeId.{NodeId}
@@ -38,4 +39,4 @@ abbrev pub FedGroupsAreSeenAlone : Type 0
 FedGroupsAreSeenAlone =
     (plan : Plan) (events : List Event) (answers : List Answer) (packets : List Posted) (v : ClusterValue) → IsRun plan events answers packets v
     → (g : Addr) → is_fed g (run_of events answers packets) ≡ true → (steps : List GroupStep) → steps ≡ project plan g (run_of events answers packets)
-    → IsLegal plan.nodes g.group steps × (observed plan g (run_of events answers packets) ≡ observed_alone plan.nodes (alone plan.nodes g.group steps))
+    → IsLegal (bounds_of plan) g.group steps × (observed plan g (run_of events answers packets) ≡ observed_alone plan.nodes (alone (bounds_of plan) g.group steps))
