@@ -46,7 +46,7 @@ no_place_within xs i place j low high within feed line =
     All-get_or (λ b. b ≢ 10) (between i j xs) (place - i) 0 (omega arith) line (at ∙ ap (λ q. get_or xs q 0) here ∙ feed)
 
 -- the line before a line feed
-pub cuts_here : (xs : List ℕ) (i place j : ℕ) (has_ended : Bool) → i ≤ place → place < j → j ≤ length xs → get_or xs place 0 ≡ 10 → NoLineFeed xs i place → place ≤ i + 32768 → CutsLine (between i place xs) (between i j xs) (between (place + 1) j xs) has_ended
+pub cuts_here : (xs : List ℕ) (i place j : ℕ) (has_ended : Bool) → i ≤ place → place < j → j ≤ length xs → get_or xs place 0 ≡ 10 → NoLineFeed xs i place → place ≤ i + 65536 → CutsLine (between i place xs) (between i j xs) (between (place + 1) j xs) has_ended
 cuts_here xs i place j has_ended low high within feed none short =
     let count : length (between i place xs) ≡ place - i = length-between xs i place (omega arith) in
     let split : between i j xs ≡ between i place xs ++ 10 ∷ between (place + 1) j xs =
@@ -54,7 +54,7 @@ cuts_here xs i place j has_ended low high within feed none short =
     record { whole = IsLine-between xs i place (omega arith) none; short = omega arith; consumed = inl split }
 
 -- the last line, without a line feed
-pub cuts_last : (xs : List ℕ) (i j : ℕ) → i < j → j ≤ length xs → NoLineFeed xs i j → j ≤ i + 32768 → CutsLine (between i j xs) (between i j xs) [] true
+pub cuts_last : (xs : List ℕ) (i j : ℕ) → i < j → j ≤ length xs → NoLineFeed xs i j → j ≤ i + 65536 → CutsLine (between i j xs) (between i j xs) [] true
 cuts_last xs i j some within none short =
     let count : length (between i j xs) ≡ j - i = length-between xs i j within in
     record {
@@ -63,7 +63,7 @@ cuts_last xs i j some within none short =
       consumed = inr (refl, refl, refl, λ is. absurd (omega (arith, ap length is)));
     }
 
-pub too_long_here : (xs : List ℕ) (i place j : ℕ) → i ≤ place → place ≤ j → j ≤ length xs → NoLineFeed xs i place → i + 32768 < place → IsTooLong (between i j xs)
+pub too_long_here : (xs : List ℕ) (i place j : ℕ) → i ≤ place → place ≤ j → j ≤ length xs → NoLineFeed xs i place → i + 65536 < place → IsTooLong (between i j xs)
 too_long_here xs i place j low high within none long =
     let count : length (between i place xs) ≡ place - i = length-between xs i place (omega arith) in
     (between i place xs, between place j xs, IsLine-between xs i place (omega arith) none, omega arith, between-join xs i place j low high)

@@ -36,21 +36,21 @@ pub left_cut : (before known : Option (List ℕ)) (old new : Buffered)
 left_cut before known old new keeps cut same =
     rw same (left_cut_at before known new.line old.unread new.unread old.has_ended old.reads old.line new.line keeps cut)
 
-too_long : (unread more : List ℕ) → IsTooLong unread → BeginsLonger 32768 (unread ++ more)
-too_long unread more (line, rest, is_line, long, is) = rw (is, append_assoc) (begins_longer 32768 line (rest ++ more) is_line long)
+too_long : (unread more : List ℕ) → IsTooLong unread → BeginsLonger 65536 (unread ++ more)
+too_long unread more (line, rest, is_line, long, is) = rw (is, append_assoc) (begins_longer 65536 line (rest ++ more) is_line long)
 
-too_long_last : (unread : List ℕ) → IsTooLong unread → BeginsLonger 32768 unread
-too_long_last unread (line, rest, is_line, long, is) = rw is (begins_longer 32768 line rest is_line long)
+too_long_last : (unread : List ℕ) → IsTooLong unread → BeginsLonger 65536 unread
+too_long_last unread (line, rest, is_line, long, is) = rw is (begins_longer 65536 line rest is_line long)
 
 left_too_long_at : (before known : Option (List ℕ)) (unread : List ℕ) (has_ended : Bool) (reads : ℕ) (m : List ℕ)
     → Keeps before (left (record { line = m; unread = unread; has_ended = has_ended; reads = reads }) known)
-    → IsTooLong unread → IfSome before (BeginsLonger 32768)
+    → IsTooLong unread → IfSome before (BeginsLonger 65536)
 left_too_long_at None known unread has_ended reads m keeps long = tt
 left_too_long_at (Some text) known unread true reads m keeps long = rw (← keeps) (too_long_last unread long)
 left_too_long_at (Some text) None unread false reads m keeps long = absurd keeps
 left_too_long_at (Some text) (Some more) unread false reads m keeps long = rw (← keeps) (too_long unread more long)
 
-pub left_too_long : (before known : Option (List ℕ)) (old : Buffered) → Keeps before (left old known) → IsTooLong old.unread → IfSome before (BeginsLonger 32768)
+pub left_too_long : (before known : Option (List ℕ)) (old : Buffered) → Keeps before (left old known) → IsTooLong old.unread → IfSome before (BeginsLonger 65536)
 left_too_long before known old keeps long = left_too_long_at before known old.unread old.has_ended old.reads old.line keeps long
 
 -- a read moves bytes from the reader to the unread ones, and nothing is lost

@@ -14,9 +14,9 @@ use std::io::{Error, ErrorKind, Read};
 use std::marker::Model;
 
 /// The bytes of the longest line, its line feed not counted.
-pub const LINE: usize = 32_768;
+pub const LINE: usize = 65_536;
 
-const _: () = prove!(LINE == 32_768);
+const _: () = prove!(LINE == 65_536);
 
 /// How many reads are made at most.
 pub const READS: u64 = 64_000_000;
@@ -24,7 +24,7 @@ pub const READS: u64 = 64_000_000;
 const _: () = prove!(READS == 64_000_000);
 
 /// The bytes that are kept at once: a line that is not whole yet, and as much again for a read.
-const SPACE: usize = 65_536;
+const SPACE: usize = 131_072;
 
 /// What comes next in a text.
 #[derive(Clone, Copy, PartialEq, Eq)]
