@@ -17,7 +17,7 @@ use Rattle.gb_schedule.specs.declared.command.Command.TheVariants.{Step as StepC
 use Rattle.gb_schedule.specs.declared.command.Step.TheVariants as steps
 use Rattle.gb_schedule.specs.declared.command.Step.{Step}
 use Rattle.gb_schedule.specs.declared.head.Head.{Head}
-use Rattle.gb_schedule.specs.declared.head.Head.TheVariants.{Cluster, Tenant, Make, Open, Shut, Drop, Say, Fetch, Forge, Pack, Again, Ack, Arrive, Noise, Tick, Stop}
+use Rattle.gb_schedule.specs.declared.head.Head.TheVariants.{Cluster, Cluster2, Tenant, Make, Open, Shut, Drop, Say, Fetch, Forge, Pack, Again, Ack, Arrive, Noise, Tick, Stop}
 use Rattle.gb_schedule.specs.Head.{head_word}
 use Rattle.gb_schedule.specs.Grammar.{Spells, IsCommandLine}
 
@@ -31,14 +31,15 @@ behind_is line front (Some text) is =
     let same : take (length front) line ≡ front = (slice_eq-Decides Decides-eqb (take (length front) line) front _ refl).0 is.0 in
     sym (ap₂ (λ a b. a ++ b) (sym same) is.1 ∙ take-append-drop (length front) line)
 
--- the first two letters of a word in a number
+-- the first two letters of a word, and its eighth, in a number
 abbrev letters : List ℕ → ℕ
-letters word = get_or word 0 0 * 256 + get_or word 1 0
+letters word = get_or word 0 0 * 65536 + get_or word 1 0 * 256 + get_or word 7 0
 
--- the head whose word has these first two letters
+-- the head whose word has these letters
 abbrev named : ℕ → Head
 named n =
     if n == letters (codes "cluster") then Cluster
+    else if n == letters (codes "cluster2") then Cluster2
     else if n == letters (codes "tenant") then Tenant
     else if n == letters (codes "make") then Make
     else if n == letters (codes "open") then Open
@@ -57,6 +58,7 @@ named n =
 
 is_named : (head : Head) → named (letters (head_word head)) ≡ head
 is_named Cluster = refl
+is_named Cluster2 = refl
 is_named Tenant = refl
 is_named Make = refl
 is_named Open = refl
@@ -106,6 +108,7 @@ pub no_step : (nodes : ℕ) (line : List ℕ) (step : Step) (head : Head) (words
     → (get_or line 0 0 ≡ 112 → StartsWith line (codes "pack ") → ⊥) → (get_or line 0 0 ≡ 102 → StartsWith line (codes "fetch ") → ⊥)
     → (get_or line 0 0 ≡ 116 → StartsWith line (codes "tick ") → ⊥) → (get_or line 0 0 ≡ 115 → StartsWith line (codes "stop ") → ⊥) → ⊥
 no_step nodes line step Cluster words are s arrive ack again pack fetch tick stop = s
+no_step nodes line step Cluster2 words are s arrive ack again pack fetch tick stop = s
 no_step nodes line step Tenant words are s arrive ack again pack fetch tick stop = cc s.command_is
 no_step nodes line step Make words are s arrive ack again pack fetch tick stop = cc s.command_is
 no_step nodes line step Open words are s arrive ack again pack fetch tick stop = cc s.command_is
@@ -139,6 +142,7 @@ no_step nodes line step Stop words are s arrive ack again pack fetch tick stop =
 -- before a cluster was started, no line spells a step
 pub no_cluster : (line : List ℕ) (step : Step) (head : Head) (words : List (List ℕ)) → Spells head None (StepCommand step) words → ⊥
 no_cluster line step Cluster words s = cc s.command_is
+no_cluster line step Cluster2 words s = cc s.command_is
 no_cluster line step Tenant words s = s
 no_cluster line step Make words s = s
 no_cluster line step Open words s = s
@@ -159,6 +163,8 @@ no_cluster line step Stop words s = s
 all_steps : (head : Head) (nodes : Option ℕ) (step : Step) (command : Command) (words : List (List ℕ)) → Spells head nodes (StepCommand step) words → Spells head nodes command words → (t : Step) × (command ≡ StepCommand t)
 all_steps Cluster None step command words s t = absurd (cc s.command_is)
 all_steps Cluster (Some nodes) step command words s t = absurd s
+all_steps Cluster2 None step command words s t = absurd (cc s.command_is)
+all_steps Cluster2 (Some nodes) step command words s t = absurd s
 all_steps Tenant None step command words s t = absurd s
 all_steps Tenant (Some nodes) step command words s t = absurd (cc s.command_is)
 all_steps Make None step command words s t = absurd s

@@ -1,3 +1,4 @@
+pub mod VersionLemmas
 pub mod RowLemmas
 pub mod SayLemmas
 pub mod StepLemmas

@@ -1,17 +1,39 @@
 -- The command of a line is in its place.
-use Rattle.std.proofs.Common.{◌≡◌, ◌↔◌, ℕ, List, Option, Some, None, Result, Ok, Err, refl}
+use Rattle.std.proofs.Common.{◌≡◌, ◌↔◌, ℕ, List, Option, Some, None, Result, Ok, Err, refl, arith}
 use Rattle.std.specs.Result.{IfOk}
 use Rattle.std.specs.Option.{IfSome}
+use Rattle.std.proofs.lemmas.List.{get_or-replicate}
+use Rattle.gb_types.specs.declared.limits.TheConstants.{NODES}
+use Rattle.gb_types.specs.declared.version.Version.TheVariants.{One}
+use Rattle.gb_types.specs.Version.{version_at}
 use Rattle.gb_schedule.specs.declared.command.Command.{Command}
 use Rattle.gb_schedule.specs.declared.command.Command.TheVariants.{Step as StepCommand}
 use Rattle.gb_schedule.specs.declared.command.Step.{Step}
 use Rattle.gb_schedule.specs.declared.head.Head.{Head}
-use Rattle.gb_schedule.specs.declared.head.Head.TheVariants.{Cluster, Tenant, Make, Open, Shut, Drop, Say, Fetch, Forge, Pack, Again, Ack, Arrive, Noise, Tick, Stop}
+use Rattle.gb_schedule.specs.declared.head.Head.TheVariants.{Cluster, Cluster2, Tenant, Make, Open, Shut, Drop, Say, Fetch, Forge, Pack, Again, Ack, Arrive, Noise, Tick, Stop}
 use Rattle.gb_schedule.specs.Grammar.{Spells, IsCommandLine, IsInPlace}
 use Rattle.gb_schedule.proofs.CommandLemmas.{Finds}
 
 spelt_in_place : (head : Head) (nodes : Option ℕ) (command : Command) (words : List (List ℕ)) → Spells head nodes command words → IsInPlace nodes command
-spelt_in_place Cluster None command words s = rw s.command_is (s.nodes_in.0, s.nodes_in.1, s.silence_in.0, s.silence_in.1)
+spelt_in_place Cluster None command words s =
+    let few = s.nodes_in.1 in
+    rw s.command_is (record {
+      some = s.nodes_in.0;
+      few = omega (arith, few);
+      least = s.silence_in.0;
+      most = s.silence_in.1;
+      named = λ a below.
+          let one : version_at s.start.versions a ≡ One = rw s.versions_are (get_or-replicate NODES a One One (omega (arith, below, few))) in
+          rw one few;
+    })
+spelt_in_place Cluster2 None command words s = rw s.command_is (record {
+  some = s.nodes_in.0;
+  few = s.nodes_in.1;
+  least = s.silence_in.0;
+  most = s.silence_in.1;
+  named = s.versions_are.named;
+})
+spelt_in_place Cluster2 (Some nodes) command words s = absurd s
 spelt_in_place Cluster (Some nodes) command words s = absurd s
 spelt_in_place Tenant None command words s = absurd s
 spelt_in_place Tenant (Some nodes) command words s = rw s.command_is s.in_cluster

@@ -1,5 +1,5 @@
 -- For each head: the command that its words spell, from what the readers of its words found.
-use Rattle.std.proofs.Common.{◌≡◌, ◌↔◌, ℕ, ◌<◌, ◌≤◌, List, [], ◌∷◌, Some, None, refl, sym, ap, ◌∙◌, decimal, arith}
+use Rattle.std.proofs.Common.{◌≡◌, ◌↔◌, ℕ, ◌<◌, ◌≤◌, List, [], ◌∷◌, replicate, Some, None, refl, sym, ap, ◌∙◌, decimal}
 use Rattle.gb_types.specs.declared.limits.TheConstants.{NODES, SILENCE_MIN, SILENCE_MAX}
 use Rattle.gb_types.specs.PayloadWord.{payload_of}
 use Rattle.gb_types.specs.declared.node.NodeId.{NodeId}
@@ -8,11 +8,16 @@ use Rattle.gb_types.specs.declared.spec.Spec.{Spec}
 use Rattle.gb_types.specs.declared.spec.TenantRow.{TenantRow}
 use Rattle.gb_types.specs.declared.request.Request.{Request as AnyRequest}
 use Rattle.gb_types.specs.declared.request.Request.TheVariants.{AddTenant, Make, Say}
+use Rattle.gb_types.specs.declared.version.Version.{Version}
+use Rattle.gb_types.specs.declared.version.Version.TheVariants.{One}
+use Rattle.gb_types.specs.Version.{limits_of}
+use Rattle.gb_schedule.specs.declared.command.ClusterStart.{ClusterStart}
 use Rattle.gb_schedule.specs.declared.command.Command.{Command}
 use Rattle.gb_schedule.specs.declared.command.Command.TheVariants.{Cluster, Request, Noise}
 use Rattle.gb_types.specs.RequestWords.{IsShort, SpellsSpec}
 use Rattle.gb_types.proofs.RequestWordLemmas.{IsShortWord, IsLongWord, AreAddressWords, AreLimitWords}
-use Rattle.gb_schedule.specs.Grammar.{SpellsCluster, SpellsTenant, SpellsMake, SpellsNamed, SpellsForge, SpellsNoise}
+use Rattle.gb_schedule.specs.Grammar.{SpellsCluster, SpellsCluster2, SpellsTenant, SpellsMake, SpellsNamed, SpellsForge, SpellsNoise}
+use Rattle.gb_schedule.specs.Versions.{AreVersions}
 use Rattle.gb_schedule.specs.Keys.{tenant_key, no_token, admin_token, tenant_token}
 use Rattle.gb_types.proofs.ReadLemmas.{Reads, found, only, reads_one, some_same}
 
@@ -72,25 +77,82 @@ named_reads request nodes words a t g group token are reads_group is_token =
     let same_address : address ≡ spelt.address = ap (λ q. q.1) same_group in
     ap (λ q. Request node (request q address)) is_token ∙ (λ i. Request (same_node i) (request (tenant_token (same_address i).tenant) (same_address i))) ∙ sym spelt.command_is)
 
-pub cluster_reads : (words : List (List ℕ)) (n s : List ℕ) (nodes silence : ℕ) (least most : ℕ) → words ≡ n ∷ s ∷ []
-    → Reads (λ k. (1 ≤ k) × (k ≤ NODES) × (n ≡ decimal k)) nodes → least ≡ SILENCE_MIN → most ≡ SILENCE_MAX → Reads (λ k. (least ≤ k) × (k ≤ most) × (s ≡ decimal k)) silence
-    → Reads (λ command. SpellsCluster command words) (Cluster nodes silence)
-cluster_reads words n s nodes silence least most are reads_nodes low high reads_silence =
-    let is_nodes = found (λ k. (1 ≤ k) × (k ≤ NODES) × (n ≡ decimal k)) nodes reads_nodes in
-    let is_silence = found (λ k. (least ≤ k) × (k ≤ most) × (s ≡ decimal k)) silence reads_silence in
-    let here : SpellsCluster (Cluster nodes silence) words = record {
-      nodes = nodes;
-      silence = silence;
+-- what the readers of the words behind `cluster` and `cluster2` find
+abbrev pub IsSilenceWord : List ℕ → ℕ → Type 0
+IsSilenceWord word silence = (SILENCE_MIN ≤ silence) × (silence ≤ SILENCE_MAX) × (word ≡ decimal silence)
+
+abbrev pub IsCountWord : ℕ → List ℕ → ℕ → Type 0
+IsCountWord most word nodes = (1 ≤ nodes) × (nodes ≤ most) × (word ≡ decimal nodes)
+
+-- a number between others, where it is known between which
+pub between_reads : (word : List ℕ) (n least most low high : ℕ) → least ≡ low → most ≡ high → Reads (λ k. (least ≤ k) × (k ≤ most) × (word ≡ decimal k)) n → Reads (λ k. (low ≤ k) × (k ≤ high) × (word ≡ decimal k)) n
+between_reads word n least most low high is_low is_high reads k = (
+  λ is. let read = (reads k).0 is in (rw (← is_low) read.0, rw (← is_high) read.1, read.2),
+  λ spelt. (reads k).1 (rw is_low spelt.0, rw is_high spelt.1, spelt.2),
+)
+
+pub cluster_reads : (words : List (List ℕ)) (n s : List ℕ) (nodes silence most : ℕ) → words ≡ n ∷ s ∷ [] → most ≡ (limits_of One).nodes
+    → Reads (IsCountWord most n) nodes → Reads (IsSilenceWord s) silence
+    → Reads (λ command. SpellsCluster command words) (Cluster (record { nodes = nodes; versions = replicate NODES One; silence = silence }))
+cluster_reads words n s nodes silence most are is_most reads_nodes reads_silence =
+    let is_nodes = found (IsCountWord most n) nodes reads_nodes in
+    let is_silence = found (IsSilenceWord s) silence reads_silence in
+    let start : ClusterStart = record { nodes = nodes; versions = replicate NODES One; silence = silence } in
+    let here : SpellsCluster (Cluster start) words = record {
+      start = start;
+      command_is = refl;
+      words_are = cc (are, is_nodes.2, is_silence.2);
+      nodes_in = (is_nodes.0, rw (← is_most) is_nodes.1);
+      silence_in = (is_silence.0, is_silence.1);
+      versions_are = refl;
+    } in
+    reads_one (λ command. SpellsCluster command words) _ here (λ command spelt.
+    let other = spelt.start in
+    let same : n ∷ s ∷ [] ≡ decimal other.nodes ∷ decimal other.silence ∷ [] = sym are ∙ spelt.words_are in
+    let same_nodes : nodes ≡ other.nodes = only (IsCountWord most n) nodes other.nodes reads_nodes (spelt.nodes_in.0, rw is_most spelt.nodes_in.1, cc) in
+    let same_silence : silence ≡ other.silence = only (IsSilenceWord s) silence other.silence reads_silence (spelt.silence_in.0, spelt.silence_in.1, cc) in
+    let same_versions : replicate NODES One ≡ other.versions = sym spelt.versions_are in
+    let same_start : start ≡ other = λ i. record { nodes = same_nodes i; versions = same_versions i; silence = same_silence i } in
+    ap Cluster same_start ∙ sym spelt.command_is)
+
+pub cluster2_reads : (words : List (List ℕ)) (n s v : List ℕ) (nodes silence : ℕ) (versions : List Version) → words ≡ n ∷ s ∷ v ∷ []
+    → Reads (IsCountWord NODES n) nodes → Reads (IsSilenceWord s) silence → Reads (λ vs. AreVersions nodes vs v) versions
+    → Reads (λ command. SpellsCluster2 command words) (Cluster (record { nodes = nodes; versions = versions; silence = silence }))
+cluster2_reads words n s v nodes silence versions are reads_nodes reads_silence reads_versions =
+    let is_nodes = found (IsCountWord NODES n) nodes reads_nodes in
+    let is_silence = found (IsSilenceWord s) silence reads_silence in
+    let start : ClusterStart = record { nodes = nodes; versions = versions; silence = silence } in
+    let here : SpellsCluster2 (Cluster start) words = record {
+      start = start;
+      versions_word = v;
       command_is = refl;
       words_are = cc (are, is_nodes.2, is_silence.2);
       nodes_in = (is_nodes.0, is_nodes.1);
-      silence_in = (omega arith, omega arith);
+      silence_in = (is_silence.0, is_silence.1);
+      versions_are = found (λ vs. AreVersions nodes vs v) versions reads_versions;
     } in
-    reads_one (λ command. SpellsCluster command words) _ here (λ command spelt.
-    let same : n ∷ s ∷ [] ≡ decimal spelt.nodes ∷ decimal spelt.silence ∷ [] = sym are ∙ spelt.words_are in
-    let same_nodes : nodes ≡ spelt.nodes = only (λ k. (1 ≤ k) × (k ≤ NODES) × (n ≡ decimal k)) nodes spelt.nodes reads_nodes (spelt.nodes_in.0, spelt.nodes_in.1, cc) in
-    let same_silence : silence ≡ spelt.silence = only (λ k. (least ≤ k) × (k ≤ most) × (s ≡ decimal k)) silence spelt.silence reads_silence (omega arith, omega arith, cc) in
-    cc spelt.command_is)
+    reads_one (λ command. SpellsCluster2 command words) _ here (λ command spelt.
+    let other = spelt.start in
+    let same : n ∷ s ∷ v ∷ [] ≡ decimal other.nodes ∷ decimal other.silence ∷ spelt.versions_word ∷ [] = sym are ∙ spelt.words_are in
+    let same_nodes : nodes ≡ other.nodes = only (IsCountWord NODES n) nodes other.nodes reads_nodes (spelt.nodes_in.0, spelt.nodes_in.1, cc) in
+    let same_silence : silence ≡ other.silence = only (IsSilenceWord s) silence other.silence reads_silence (spelt.silence_in.0, spelt.silence_in.1, cc) in
+    let same_word : v ≡ spelt.versions_word = cc in
+    let are_versions : AreVersions nodes other.versions v = rw (same_nodes, same_word) spelt.versions_are in
+    let same_versions : versions ≡ other.versions = only (λ vs. AreVersions nodes vs v) versions other.versions reads_versions are_versions in
+    let same_start : start ≡ other = λ i. record { nodes = same_nodes i; versions = same_versions i; silence = same_silence i } in
+    ap Cluster same_start ∙ sym spelt.command_is)
+
+-- where no versions are read, words start no cluster
+pub no_versions : (words : List (List ℕ)) (n s v : List ℕ) (nodes : ℕ) (command : Command) → words ≡ n ∷ s ∷ v ∷ [] → Reads (IsCountWord NODES n) nodes
+    → ((versions : List Version) → (None ≡ Some versions) ↔ AreVersions nodes versions v) → SpellsCluster2 command words → ⊥
+no_versions words n s v nodes command are reads_nodes none spelt =
+    let other = spelt.start in
+    let same : n ∷ s ∷ v ∷ [] ≡ decimal other.nodes ∷ decimal other.silence ∷ spelt.versions_word ∷ [] = sym are ∙ spelt.words_are in
+    let same_nodes : nodes ≡ other.nodes = only (IsCountWord NODES n) nodes other.nodes reads_nodes (spelt.nodes_in.0, spelt.nodes_in.1, cc) in
+    let same_word : v ≡ spelt.versions_word = cc in
+    let are_versions : AreVersions nodes other.versions v = rw (same_nodes, same_word) spelt.versions_are in
+    let is = (none other.versions).1 are_versions in
+    cc is
 
 pub tenant_reads : (nodes : ℕ) (words : List (List ℕ)) (a t gs m b w : List ℕ) (node : NodeId) (tenant groups : ℕ) (limits : ℕ × ℕ × ℕ) (token key : List ℕ) → words ≡ a ∷ t ∷ gs ∷ m ∷ b ∷ w ∷ []
     → Reads (IsNodeWord nodes a) node → Reads (IsShortWord t) tenant → Reads (IsLongWord gs) groups → Reads (AreLimitWords m b w) limits

@@ -6,6 +6,7 @@ use Rattle.std.specs.Option.{ForSome}
 use Rattle.std.specs.Result.{IfOk}
 use Rattle.std.proofs.lemmas.Fmt.{decimal_injective}
 use Rattle.gb_types.specs.PayloadWord.{payload_of}
+use Rattle.gb_types.specs.declared.limits.TheConstants.{NODES}
 use Rattle.gb_types.specs.Words.{words_of}
 use Rattle.gb_types.specs.declared.address.Addr.{Addr}
 use Rattle.gb_types.specs.declared.node.NodeId.{NodeId}
@@ -26,7 +27,7 @@ use Rattle.gb_schedule.proofs.HeadLemmas.{begins, one_head}
 use Rattle.gb_schedule.proofs.StepLemmas.{same_node as one_node}
 
 -- numbers of which one is above its bound name no member
-pub beyond : (nodes : ℕ) → nodes ≤ 16 → (text : List ℕ) (a t g second third at : ℕ) → a < 2 ^ 64 → t < 2 ^ 64 → g < 2 ^ 64
+pub beyond : (nodes : ℕ) → nodes ≤ NODES → (text : List ℕ) (a t g second third at : ℕ) → a < 2 ^ 64 → t < 2 ^ 64 → g < 2 ^ 64
     → IsNumberAt text 0 a (Some second) → IsNumberAt text second t (Some third) → IsNumberAt text third g (Some at) → (a < nodes → t ≤ 65535 → g ≤ 65535 → ⊥) → NamesNoMember nodes text
 beyond nodes few text a t g second third at small_a small_t small_g one two three above node address word words below is_t is_g are =
     let same : decimal a ∷ decimal t ∷ decimal g ∷ words_of (drop at text) ≡ decimal node.number ∷ decimal address.tenant ∷ decimal address.group ∷ word ∷ words = cc (one.1, two.1, three.1, are) in

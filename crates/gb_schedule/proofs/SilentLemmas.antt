@@ -2,7 +2,7 @@
 use Rattle.std.proofs.Common.{◌≡◌, ℕ, List, [], ◌∷◌, get_or, refl, sym, ap, ◌∙◌, arith}
 use Rattle.std.specs.List.{onto_first}
 use Rattle.gb_schedule.specs.declared.head.Head.{Head}
-use Rattle.gb_schedule.specs.declared.head.Head.TheVariants.{Cluster, Tenant, Make, Open, Shut, Drop, Say, Fetch, Forge, Pack, Again, Ack, Arrive, Noise, Tick, Stop}
+use Rattle.gb_schedule.specs.declared.head.Head.TheVariants.{Cluster, Cluster2, Tenant, Make, Open, Shut, Drop, Say, Fetch, Forge, Pack, Again, Ack, Arrive, Noise, Tick, Stop}
 use Rattle.gb_schedule.specs.Head.{head_word}
 use Rattle.gb_types.specs.Words.{words_of}
 use Rattle.gb_schedule.specs.Grammar.{SilentLinesSpellNothing}
@@ -10,6 +10,7 @@ use Rattle.gb_schedule.specs.Grammar.{SilentLinesSpellNothing}
 -- heads begin with letters
 head_word-letter : (head : Head) → (get_or (head_word head) 0 0 ≡ 0 → ⊥) × (get_or (head_word head) 0 0 ≡ 35 → ⊥)
 head_word-letter Cluster = (λ is. omega (arith, is), λ is. omega (arith, is))
+head_word-letter Cluster2 = (λ is. omega (arith, is), λ is. omega (arith, is))
 head_word-letter Tenant = (λ is. omega (arith, is), λ is. omega (arith, is))
 head_word-letter Make = (λ is. omega (arith, is), λ is. omega (arith, is))
 head_word-letter Open = (λ is. omega (arith, is), λ is. omega (arith, is))

@@ -2,6 +2,7 @@
 use Rattle.std.proofs.Common.{◌≡◌, ◌↔◌, ℕ, ◌+◌, ◌<◌, ◌≤◌, ◌^◌, List, [], ◌∷◌, Some, None, drop, get_or, refl, sym, ◌∙◌, decimal, arith}
 use Rattle.std.proofs.lemmas.Fmt.{decimal_injective}
 use Rattle.gb_types.specs.Words.{words_of}
+use Rattle.gb_types.specs.declared.limits.TheConstants.{NODES}
 use Rattle.gb_types.specs.declared.address.Addr.{Addr}
 use Rattle.gb_types.specs.declared.node.NodeId.{NodeId}
 use Rattle.gb_types.proofs.ReadLemmas.{Reads, found, reads_one}
@@ -28,7 +29,7 @@ none_there : {X : Type 0} (most text ns : List ℕ) → ((ms : List ℕ) → (No
 none_there most text ns none are = let is = (none ns).1 are in cc is
 
 -- numbers of which one is no node's name no two nodes
-pub beyond_two : (nodes : ℕ) → nodes ≤ 16 → (text : List ℕ) (a b second : ℕ) → a < 2 ^ 64 → b < 2 ^ 64 → IsNumberAt text 0 a (Some second) → words_of (drop second text) ≡ decimal b ∷ [] → (a < nodes → b < nodes → ⊥)
+pub beyond_two : (nodes : ℕ) → nodes ≤ NODES → (text : List ℕ) (a b second : ℕ) → a < 2 ^ 64 → b < 2 ^ 64 → IsNumberAt text 0 a (Some second) → words_of (drop second text) ≡ decimal b ∷ [] → (a < nodes → b < nodes → ⊥)
     → (node to : NodeId) → NamesTwoNodes nodes text node to → ⊥
 beyond_two nodes few text a b second small_a small_b one last above node to named =
     let below = named.in_cluster in

@@ -1,6 +1,6 @@
 -- The grammar of a schedule: for each head, the words behind it and the command that they spell. Numbers are decimal,
 -- without a leading zero.
-use Rattle.std.specs.Prelude.{◌≡◌, ℕ, ◌<◌, ◌≤◌, List, [], ◌∷◌, Option, None, Some, length, drop, decimal}
+use Rattle.std.specs.Prelude.{◌≡◌, ℕ, ◌<◌, ◌≤◌, List, [], ◌∷◌, Option, None, Some, length, drop, replicate, decimal}
 use Rattle.gb_types.specs.declared.limits.TheConstants.{NODES, SILENCE_MIN, SILENCE_MAX}
 use Rattle.gb_types.specs.PayloadWord.{payload_of}
 use Rattle.gb_types.specs.RequestWords.{IsShort, IsLong, SpellsSpec}
@@ -10,23 +10,37 @@ use Rattle.gb_types.specs.declared.spec.Spec.{Spec}
 use Rattle.gb_types.specs.declared.spec.TenantRow.{TenantRow}
 use Rattle.gb_types.specs.declared.request.Request.{Request as AnyRequest}
 use Rattle.gb_types.specs.declared.request.Request.TheVariants.{AddTenant, Make, OpenGroup, ShutGroup, DropGroup, Say}
+use Rattle.gb_types.specs.declared.version.Version.TheVariants.{One}
+use Rattle.gb_types.specs.Version.{limits_of, version_at}
+use Rattle.gb_schedule.specs.declared.command.ClusterStart.{ClusterStart}
 use Rattle.gb_schedule.specs.declared.command.Command.{Command}
 use Rattle.gb_schedule.specs.declared.command.Command.TheVariants.{Cluster, Request, Noise, Step}
 use Rattle.gb_schedule.specs.declared.command.Step.TheVariants.{Pack, Again, Ack, Arrive, Tick, Stop, Fetch}
 use Rattle.gb_schedule.specs.declared.head.Head.{Head}
 use Rattle.gb_schedule.specs.declared.head.Head.TheVariants as heads
 use Rattle.gb_schedule.specs.Head.{head_word}
+use Rattle.gb_schedule.specs.Versions.{AreVersions}
 use Rattle.gb_schedule.specs.Keys.{tenant_key, no_token, admin_token, tenant_token, member_token}
 use Rattle.gb_types.specs.Words.{words_of}
 
--- `cluster N S`
+-- `cluster N S`: each node sends the first version
 pub record SpellsCluster (command : Command) (words : List (List ℕ)) : Type 0 where
-  pub nodes : ℕ
-  pub silence : ℕ
-  pub command_is : command ≡ Cluster nodes silence
-  pub words_are : words ≡ decimal nodes ∷ decimal silence ∷ []
-  pub nodes_in : (1 ≤ nodes) × (nodes ≤ NODES)
-  pub silence_in : (SILENCE_MIN ≤ silence) × (silence ≤ SILENCE_MAX)
+  pub start : ClusterStart
+  pub command_is : command ≡ Cluster start
+  pub words_are : words ≡ decimal start.nodes ∷ decimal start.silence ∷ []
+  pub nodes_in : (1 ≤ start.nodes) × (start.nodes ≤ (limits_of One).nodes)
+  pub silence_in : (SILENCE_MIN ≤ start.silence) × (start.silence ≤ SILENCE_MAX)
+  pub versions_are : start.versions ≡ replicate NODES One
+
+-- `cluster2 N S VERS`: each node sends a version of its own
+pub record SpellsCluster2 (command : Command) (words : List (List ℕ)) : Type 0 where
+  pub start : ClusterStart
+  pub versions_word : List ℕ
+  pub command_is : command ≡ Cluster start
+  pub words_are : words ≡ decimal start.nodes ∷ decimal start.silence ∷ versions_word ∷ []
+  pub nodes_in : (1 ≤ start.nodes) × (start.nodes ≤ NODES)
+  pub silence_in : (SILENCE_MIN ≤ start.silence) × (start.silence ≤ SILENCE_MAX)
+  pub versions_are : AreVersions start.nodes start.versions versions_word
 
 -- `tenant A T GROUPS MSGS BYTES WINDOW`
 pub record SpellsTenant (nodes : ℕ) (command : Command) (words : List (List ℕ)) : Type 0 where
@@ -187,6 +201,8 @@ pub record SpellsStop (nodes : ℕ) (command : Command) (words : List (List ℕ)
 abbrev pub Spells : Head → Option ℕ → Command → List (List ℕ) → Type 0
 Spells heads.Cluster None command words = SpellsCluster command words
 Spells heads.Cluster (Some nodes) command words = ⊥
+Spells heads.Cluster2 None command words = SpellsCluster2 command words
+Spells heads.Cluster2 (Some nodes) command words = ⊥
 Spells heads.Tenant (Some nodes) command words = SpellsTenant nodes command words
 Spells heads.Make (Some nodes) command words = SpellsMake nodes command words
 Spells heads.Open (Some nodes) command words = SpellsNamed OpenGroup nodes command words
@@ -211,10 +227,18 @@ pub record IsCommandLine (nodes : Option ℕ) (line : List ℕ) (command : Comma
   pub line_is : words_of line ≡ head_word head ∷ words
   pub spelt : Spells head nodes command words
 
+-- a cluster may be started so: there are no more nodes than the version of each of them can name
+pub record IsStart (start : ClusterStart) : Type 0 where
+  pub some : 1 ≤ start.nodes
+  pub few : start.nodes ≤ NODES
+  pub least : SILENCE_MIN ≤ start.silence
+  pub most : start.silence ≤ SILENCE_MAX
+  pub named : (a : ℕ) → a < start.nodes → start.nodes ≤ (limits_of (version_at start.versions a)).nodes
+
 -- A command in its place: the cluster is started first and once, and later commands name nodes below its number of
 -- nodes.
 abbrev pub IsInPlace : Option ℕ → Command → Type 0
-IsInPlace None (Cluster nodes silence) = (1 ≤ nodes) × (nodes ≤ NODES) × (SILENCE_MIN ≤ silence) × (silence ≤ SILENCE_MAX)
+IsInPlace None (Cluster start) = IsStart start
 IsInPlace (Some nodes) (Request node request) = node.number < nodes
 IsInPlace (Some nodes) (Step (Pack node to)) = (node.number < nodes) × (to.number < nodes)
 IsInPlace (Some nodes) (Step (Again node to frame)) = (node.number < nodes) × (to.number < nodes) × (frame ≤ 18446744073709551615)

@@ -1,11 +1,12 @@
 -- The words that lines of a schedule begin with.
 use Rattle.std.specs.Prelude.{ℕ, List, codes}
 use Rattle.gb_schedule.specs.declared.head.Head.{Head}
-use Rattle.gb_schedule.specs.declared.head.Head.TheVariants.{Cluster, Tenant, Make, Open, Shut, Drop, Say, Fetch, Forge, Pack, Again, Ack, Arrive, Noise, Tick, Stop}
+use Rattle.gb_schedule.specs.declared.head.Head.TheVariants.{Cluster, Cluster2, Tenant, Make, Open, Shut, Drop, Say, Fetch, Forge, Pack, Again, Ack, Arrive, Noise, Tick, Stop}
 
 -- the word for a head
 abbrev pub head_word : Head → List ℕ
 head_word Cluster = codes "cluster"
+head_word Cluster2 = codes "cluster2"
 head_word Tenant = codes "tenant"
 head_word Make = codes "make"
 head_word Open = codes "open"

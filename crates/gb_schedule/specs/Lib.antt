@@ -1,4 +1,5 @@
 pub mod Head
 pub mod Keys
+pub mod Versions
 pub mod Grammar
 pub mod Numbers

@@ -1,8 +1,10 @@
 //! What a line of a schedule asks for.
 use gb_types::address::Addr;
+use gb_types::limits::NODES;
 use gb_types::node::NodeId;
 use gb_types::payload::Payload;
 use gb_types::request::Request;
+use gb_types::version::Version;
 
 /// What a line asks for by a head and numbers alone: a fetch, and all that is asked of links, time and a node's end.
 #[derive(Clone, Copy)]
@@ -25,12 +27,22 @@ pub enum Step {
     Fetch(NodeId, Addr, u32, u32),
 }
 
+/// How a cluster is started.
+#[derive(Clone, Copy)]
+pub struct ClusterStart {
+    /// How many nodes there are: 1 to 32, and no more than the version of each of them can name.
+    pub nodes: u8,
+    /// The version of the packet text that each node sends, by its number; One at the places past the last node.
+    pub versions: [Version; NODES],
+    /// After how many ticks without a good packet a node is noticed: 2 to 1,000.
+    pub silence: u16,
+}
+
 /// What a line of a schedule asks for.
 #[derive(Drop)]
 pub enum Command {
-    /// Starts a cluster of so many nodes; a node is noticed after so many ticks without a good
-    /// packet of it.
-    Cluster { nodes: u8, silence: u16 },
+    /// Starts a cluster.
+    Cluster(ClusterStart),
     /// Makes a request at a node, but for a fetch.
     Request(NodeId, Request),
     /// Hands bytes in at a node, which may be anything but a packet of the cluster.

@@ -11,11 +11,12 @@ ghost use Rattle.gb_schedule.specs.declared.command.Command.{Command as TheComma
 ghost use Rattle.gb_schedule.specs.declared.command.Command.TheVariants as Commands;
 ghost use Rattle.gb_types.specs.declared.request.Request.TheVariants.{OpenGroup, ShutGroup, DropGroup};
 ghost use Rattle.gb_schedule.specs.declared.head.Head.TheVariants.{Open as OpenHead, Shut as ShutHead, Drop as DropHead, Say as SayHead};
-ghost use Rattle.gb_schedule.specs.Grammar.{NamesMemberAt, NamesNoMember, NamesTwoNodes, SpellsCluster, SpellsTenant, SpellsMake, SpellsNamed, SpellsSay, SpellsFetch, SpellsForge, SpellsPack, SpellsAgain, SpellsAck, SpellsArrive, SpellsNoise, SpellsTick, SpellsStop, Spells, IsCommandLine, IsInPlace, IsSilent, SilentLinesSpellNothing};
+ghost use Rattle.gb_schedule.specs.Grammar.{NamesMemberAt, NamesNoMember, NamesTwoNodes, SpellsCluster, SpellsCluster2, SpellsTenant, SpellsMake, SpellsNamed, SpellsSay, SpellsFetch, SpellsForge, SpellsPack, SpellsAgain, SpellsAck, SpellsArrive, SpellsNoise, SpellsTick, SpellsStop, Spells, IsCommandLine, IsInPlace, IsSilent, SilentLinesSpellNothing};
 
-use crate::command::{Command, Step};
+use crate::command::{ClusterStart, Command, Step};
 use crate::head::{Head, read_head};
 use crate::keys::{Keys, NO_TOKEN, tenant_key};
+use crate::versions::read_versions;
 use crate::words::{WORDS, last_number_at, number_at, numbers_in, words_in};
 use gb_cap::token::Token;
 use gb_types::address::Addr;
@@ -28,6 +29,7 @@ use gb_types::payload_word::read_payload;
 use gb_types::request::Request;
 use gb_types::request_words::{read_address, read_limits, read_spec, read_u16, read_u32};
 use gb_types::spec::TenantRow;
+use gb_types::version::Version;
 use std::alloc::Global;
 
 // The largest numbers of 16 and of 32 bits.
@@ -57,6 +59,23 @@ fn read_node(word: &[u8], nodes: u8) -> Option<NodeId>
     Some(NodeId::new(number as u8))
 }
 
+// After how many ticks without a good packet a node is noticed.
+fn read_silence(word: &[u8]) -> Option<u16>
+    ensures { (n : ℕ) → (result ≡ Some n)
+        ↔ ((SILENCE_MIN ≤ n) × (n ≤ SILENCE_MAX) × (word.now ≡ decimal n)) }
+{
+    let silence = read_between(word, u64::from(SILENCE_MIN), u64::from(SILENCE_MAX))?;
+    Some(silence as u16)
+}
+
+// The number of nodes of a cluster, where there may be so many at most.
+fn read_count(word: &[u8], most: u8) -> Option<u8>
+    ensures { (n : ℕ) → (result ≡ Some n) ↔ ((1 ≤ n) × (n ≤ most) × (word.now ≡ decimal n)) }
+{
+    let count = read_between(word, 1, u64::from(most))?;
+    Some(count as u8)
+}
+
 // cluster N S
 fn read_cluster(words: &[&[u8]]) -> Option<Command>
     ensures { (command : TheCommand) → (result ≡ Some command)
@@ -65,12 +84,31 @@ fn read_cluster(words: &[&[u8]]) -> Option<Command>
     let [nodes, silence] = words else {
         return None;
     };
-    let nodes = read_between(nodes, 1, NODES as u64)?;
-    let silence = read_between(silence, u64::from(SILENCE_MIN), u64::from(SILENCE_MAX))?;
-    Some(Command::Cluster {
-        nodes: nodes as u8,
-        silence: silence as u16,
-    })
+    let nodes = read_count(nodes, Version::One.limits().nodes)?;
+    let silence = read_silence(silence)?;
+    Some(Command::Cluster(ClusterStart {
+        nodes,
+        versions: [Version::One; NODES],
+        silence,
+    }))
+}
+
+// cluster2 N S VERS
+fn read_cluster2(words: &[&[u8]]) -> Option<Command>
+    ensures { (command : TheCommand) → (result ≡ Some command)
+        ↔ SpellsCluster2 command (map (λ word. word.now) words.now) }
+{
+    let [nodes, silence, versions] = words else {
+        return None;
+    };
+    let nodes = read_count(nodes, NODES as u8)?;
+    let silence = read_silence(silence)?;
+    let versions = read_versions(nodes, versions)?;
+    Some(Command::Cluster(ClusterStart {
+        nodes,
+        versions,
+        silence,
+    }))
 }
 
 // tenant A T GROUPS MSGS BYTES WINDOW
@@ -409,11 +447,12 @@ fn read_arguments(
     let Some(nodes) = nodes else {
         return Ok(match head {
             Head::Cluster => read_cluster(arguments),
+            Head::Cluster2 => read_cluster2(arguments),
             _ => None,
         });
     };
     match head {
-        Head::Cluster => Ok(None),
+        Head::Cluster | Head::Cluster2 => Ok(None),
         Head::Tenant => Ok(read_tenant(keys, nodes, arguments)),
         Head::Make => Ok(read_make(keys, nodes, arguments)),
         Head::Open | Head::Shut | Head::Drop => Ok(read_named(keys, nodes, head, arguments)),

@@ -7,6 +7,8 @@ ghost use Rattle.gb_schedule.specs.Head.{head_word};
 #[derive(Clone, Copy)]
 pub enum Head {
     Cluster,
+    /// `cluster2`: a cluster whose nodes send versions of their own.
+    Cluster2,
     Tenant,
     Make,
     Open,
@@ -30,6 +32,7 @@ fn word_of(head: Head) -> &'static [u8]
 {
     match head {
         Head::Cluster => b"cluster",
+        Head::Cluster2 => b"cluster2",
         Head::Tenant => b"tenant",
         Head::Make => b"make",
         Head::Open => b"open",
@@ -48,11 +51,12 @@ fn word_of(head: Head) -> &'static [u8]
     }
 }
 
-/// The only head that a word can name, by its first two letters.
+/// The only head that a word can name, by its first two letters, or by the first and the last.
 fn head_like(word: &[u8]) -> Option<Head>
     ensures { (head : Head) → word.now ≡ head_word head → result ≡ Some head }
 {
     match word {
+        [b'c', .., b'2'] => Some(Head::Cluster2),
         [b'c', ..] => Some(Head::Cluster),
         [b't', b'e', ..] => Some(Head::Tenant),
         [b't', ..] => Some(Head::Tick),

@@ -6,4 +6,5 @@ pub mod command;
 pub mod grammar;
 pub mod head;
 pub mod keys;
+mod versions;
 mod words;

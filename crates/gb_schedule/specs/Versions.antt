@@ -1,0 +1,18 @@
+-- The versions of a cluster's nodes in a word.
+use Rattle.std.specs.Prelude.{◌≡◌, ℕ, ◌<◌, ◌≤◌, List, length, map, take, decimal}
+use Rattle.std.specs.List.{join_with_byte}
+use Rattle.gb_types.specs.declared.limits.TheConstants.{NODES}
+use Rattle.gb_types.specs.declared.version.Version.{Version}
+use Rattle.gb_types.specs.declared.version.Version.TheVariants.{One}
+use Rattle.gb_types.specs.Version.{limits_of, version_at}
+
+-- the word for some versions: the numbers of their bytes, parted by commas (44)
+abbrev pub versions_word : List Version → List ℕ
+versions_word versions = join_with_byte 44 (map (λ version. decimal (limits_of version).byte) versions)
+
+-- the word has the versions of so many nodes, each of which can name them all; the places past the last node have One
+pub record AreVersions (nodes : ℕ) (versions : List Version) (word : List ℕ) : Type 0 where
+  pub all : length versions ≡ NODES
+  pub word_is : word ≡ versions_word (take nodes versions)
+  pub named : (a : ℕ) → a < nodes → nodes ≤ (limits_of (version_at versions a)).nodes
+  pub rest : (a : ℕ) → nodes ≤ a → version_at versions a ≡ One

@@ -1,0 +1,46 @@
+//! The versions of a cluster's nodes in a word: the numbers of their bytes, parted by commas.
+ghost use Rattle.std.specs.Prelude.{◌≡◌, ◌≤◌, ◌↔◌, List, Some, decimal};
+ghost use Rattle.gb_types.specs.Version.{limits_of};
+ghost use Rattle.gb_types.specs.declared.version.Version.{Version as TheVersion};
+ghost use Rattle.gb_schedule.specs.Versions.{AreVersions};
+
+use gb_types::limits::NODES;
+use gb_types::number::read_number;
+use gb_types::version::Version;
+
+/// The largest byte.
+const BYTE: u64 = 255;
+
+/// The version for whose byte a word stands.
+fn read_version(word: &[u8]) -> Option<Version>
+    ensures { (version : TheVersion) → (result ≡ Some version)
+        ↔ (word.now ≡ decimal (limits_of version).byte) }
+{
+    let byte = read_number(word, BYTE)?;
+    Version::from_byte(byte as u8)
+}
+
+/// The versions of the nodes of a cluster of so many, each of which can name them all; the places past the last node have One.
+pub fn read_versions(nodes: u8, word: &[u8]) -> Option<[Version; NODES]>
+    requires { (1 ≤ nodes) × (nodes ≤ NODES) }
+    ensures { (versions : List TheVersion) → (result ≡ Some versions)
+        ↔ AreVersions nodes versions word.now }
+{
+    let mut versions = [Version::One; NODES];
+    let mut count: u8 = 0;
+    for part in word.split(|byte| *byte == b',') {
+        if count == nodes {
+            return None;
+        }
+        let version = read_version(part)?;
+        if nodes > version.limits().nodes {
+            return None;
+        }
+        versions[usize::from(count)] = version;
+        count += 1;
+    }
+    if count < nodes {
+        return None;
+    }
+    Some(versions)
+}
