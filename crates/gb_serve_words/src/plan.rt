@@ -1,10 +1,13 @@
 //! What a server is told to do.
+use gb_types::version::Version;
 
 /// What the words of a command line tell a server to do.
 #[derive(Clone, Copy, PartialEq, Eq)]
 pub struct ServePlan {
-    /// How many nodes, 1 to 16.
+    /// How many nodes: 1 to 32, and no more than the version can name.
     pub nodes: u8,
+    /// The version of the packet text that each node sends.
+    pub version: Version,
     /// The UDP port of node 0, 1,024 to 65,000. Node I's is I above it, and the TCP port of its sessions 64 above that.
     pub base_port: u16,
     /// How many ticks without a good packet make a node noticed, 2 to 1,000.

@@ -1,20 +1,25 @@
 //! The words of the server's command line.
-ghost use Rattle.std.specs.Prelude.{◌≡◌, ◌≢◌, IfOk, map, [], true, false};
+ghost use Rattle.std.specs.Prelude.{◌≡◌, ◌≢◌, ◌⊎◌, IfOk, IfSome, IfNone, map, [], true, false};
 ghost use Rattle.clap.specs.Words.{app_of, found_of, kind_of, matches_of, rows_of, rule_of, takes, fault_of};
-ghost use Rattle.gb_serve_words.specs.Words.{serve_app, number_rule, flag_rule, IsGiven, IsPlanOf, IsWithin};
+ghost use Rattle.gb_serve_words.specs.Words.{serve_app, number_rule, flag_rule, IsGiven, IsPlanOf, IsWithin, CanName};
 
 use crate::fault::WordFault;
 use crate::plan::ServePlan;
 use clap::builder::ValueParser;
 use clap::error::ErrorKind;
 use clap::{Arg, ArgAction, ArgMatches, Command, Error};
+use gb_types::limits::NODES;
+use gb_types::version::Version;
 use std::alloc::{AllocError, Global};
 
 /// The silence of a cluster whose words give none.
 pub const SILENCE: u16 = 50;
 
-// Definitions cite this value.
-const _: () = prove!(SILENCE == 50);
+/// The byte of the version of packets where words give none.
+pub const VERSION: u8 = 1;
+
+// Definitions cite these values.
+const _: () = prove!(SILENCE == 50 && VERSION == 1);
 
 // An option with a number from `least` to `most`.
 fn number_arg<'a>(alloc: Global, name: &'static str, least: u16, most: u16) -> Arg<'a>
@@ -46,7 +51,7 @@ fn command<'a>(alloc: Global) -> Result<Command<'a>, AllocError>
     let bare = Command::new(alloc, "gb_serve")
         .about("Serves groups that broadcast messages among their members")
         .after_help(AFTER);
-    let nodes = number_arg(alloc, "nodes", 1, 16)
+    let nodes = number_arg(alloc, "nodes", 1, NODES as u16)
         .required(true)
         .value_name("N")
         .help("how many nodes the cluster has");
@@ -56,10 +61,18 @@ fn command<'a>(alloc: Global) -> Result<Command<'a>, AllocError>
         .value_name("P")
         .help("node I's UDP port is P + I, the TCP port of its sessions P + 64 + I, on 127.0.0.1");
     let with_port = with_nodes.arg(base_port)?;
+    // `version` would be the name of a flag that `clap` adds to a command that has a version.
+    let version = number_arg(alloc, "packet-version", 0, 255)
+        .long("version")
+        .value_name("V")
+        .help(
+            "which packets each node sends: 1, for up to 16 nodes and payloads of 1,024 bytes, or 2, for up to 32 and 4,096; 1 if not given",
+        );
+    let with_version = with_port.arg(version)?;
     let silence = number_arg(alloc, "silence", 2, 1_000).value_name("S").help(
         "how many ticks without a packet make a node noticed as crashed; 50 if not given",
     );
-    let with_silence = with_port.arg(silence)?;
+    let with_silence = with_version.arg(silence)?;
     let sessions = number_arg(alloc, "sessions", 0, 1_000).value_name("K").help(
         "how many connections each node serves, one after the other; 0, or not given: for ever",
     );
@@ -86,46 +99,79 @@ fn fault_from(error: &Error) -> WordFault
     }
 }
 
-// The plan of words that were taken.
-fn plan_of(matches: &ArgMatches<'_>) -> ServePlan
+// The plan of words that were taken. None where no version is given that can name so many nodes.
+fn plan_of(matches: &ArgMatches<'_>) -> Option<ServePlan>
     requires { IsGiven (rows_of (found_of matches.now)) }
-    ensures read { IsPlanOf (rows_of (found_of matches.now)) result }
-    ensures within { IsWithin result }
+    ensures read { IfSome result (IsPlanOf (rows_of (found_of matches.now))) }
+    ensures within { IfSome result IsWithin }
+    ensures none { IfNone result (CanName (rows_of (found_of matches.now)) → ⊥) }
 {
     let nodes = matches.get_one::<u8>("nodes").unwrap();
     let base_port = matches.get_one::<u16>("base-port").unwrap();
+    let byte = matches.get_one::<u8>("packet-version");
     let silence = matches.get_one::<u16>("silence");
     let sessions = matches.get_one::<u16>("sessions");
     let tape = matches.get_flag("tape");
-    ServePlan {
+    let version = Version::from_byte(byte.unwrap_or(VERSION))?;
+    if nodes > version.limits().nodes {
+        return None;
+    }
+    Some(ServePlan {
         nodes,
+        version,
         base_port,
         silence: silence.unwrap_or(SILENCE),
         sessions: sessions.unwrap_or(0),
         tape,
-    }
+    })
 }
 
 /// What the words of a command line tell a server to do; the first word is the program's name. Refused: `clap` does not
-/// take the words.
+/// take the words, or the version that they give cannot name so many nodes.
 pub fn read_words<'a>(alloc: Global, words: &'a [&'a str]) -> Result<ServePlan, WordFault>
     ensures given { IfOk result (λ plan. IsPlanOf (matches_of serve_app (map (λ word. word.now) words.entry.now)) plan) }
     ensures within { IfOk result (λ plan. IsWithin plan) }
     ensures accepted { IfOk result (λ _. fault_of serve_app (map (λ word. word.now) words.entry.now) ≡ []) }
-    ensures refused { result ≡ Err WordFault.Refused → fault_of serve_app (map (λ word. word.now) words.entry.now) ≢ [] }
-    ensures taken { takes serve_app (map (λ word. word.now) words.entry.now) ≡ true → result ≢ Err WordFault.Refused }
+    ensures refused { result ≡ Err WordFault.Refused → (fault_of serve_app (map (λ word. word.now) words.entry.now) ≢ [])
+        ⊎ (CanName (matches_of serve_app (map (λ word. word.now) words.entry.now)) → ⊥) }
+    ensures taken { takes serve_app (map (λ word. word.now) words.entry.now) ≡ true
+        → CanName (matches_of serve_app (map (λ word. word.now) words.entry.now)) → result ≢ Err WordFault.Refused }
 {
     let command = command(alloc)?;
     match command.try_get_matches_from(words) {
-        Ok(matches) => Ok(plan_of(&matches)),
+        Ok(matches) => match plan_of(&matches) {
+            Some(plan) => Ok(plan),
+            None => Err(WordFault::Refused),
+        },
         Err(error) => Err(fault_from(&error)),
     }
 }
 
-/// What `clap` says of words that are refused, and of words that ask for help; nothing of words that are taken.
+// Why words that `clap` took are no plan; nothing of words that are one.
+fn version_refusal(alloc: Global, matches: &ArgMatches<'_>) -> Result<String, AllocError> {
+    let nodes = matches.get_one::<u8>("nodes").unwrap_or(0);
+    let byte = matches.get_one::<u8>("packet-version").unwrap_or(VERSION);
+    let Some(version) = Version::from_byte(byte) else {
+        return format!(in alloc;
+            "error: invalid value '{byte}' for '--version <V>': there is no such version{HINT}"
+        );
+    };
+    let most = version.limits().nodes;
+    if nodes > most {
+        return format!(in alloc;
+            "error: invalid value '{nodes}' for '--nodes <N>': packets of version {byte} can name {most}{HINT}"
+        );
+    }
+    Ok(String::new(alloc))
+}
+
+// What a refusal ends with.
+static HINT: &str = "\n\nFor more information, try '--help'.\n";
+
+/// Why words are refused, and the help where they ask for it; nothing of words that are a plan.
 pub fn refusal_text(alloc: Global, words: &[&str]) -> Result<String, AllocError> {
     match command(alloc)?.try_get_matches_from(words) {
-        Ok(_) => Ok(String::new(alloc)),
+        Ok(matches) => version_refusal(alloc, &matches),
         Err(error) => format!(in alloc; "{error}"),
     }
 }
