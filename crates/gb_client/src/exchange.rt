@@ -8,8 +8,8 @@ use gb_session::grammar::BODY;
 use std::alloc::Global;
 use std::io::{Read, Write};
 
-/// The bytes of the longest reply that is taken. A log of 16 entries has fewer.
-pub const REPLY: u32 = 65_536;
+/// The bytes of the longest reply that is taken. A log of 16 entries has fewer, each with a payload of 4,096 bytes in two digits.
+pub const REPLY: u32 = 262_144;
 
 /// Writes a message.
 pub fn send<W: Write>(writer: &mut W, body: &[u8]) -> Result<(), ClientFault>
