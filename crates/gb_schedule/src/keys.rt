@@ -6,6 +6,7 @@ ghost use Rattle.gb_schedule.specs.Keys.{tenant_key, admin_token, tenant_token, 
 use gb_cap::hmac::{HmacKey, Key};
 use gb_cap::token::{Need, Token};
 use gb_types::address::{Addr, TenantId};
+use gb_types::limits::NODES;
 use gb_types::node::NodeId;
 use indexmap::IndexMap;
 use std::alloc::Global;
@@ -33,7 +34,7 @@ pub fn tenant_key(tenant: TenantId) -> Key
 const KEPT: usize = 16_384;
 
 /// At how many places the tokens of members stand that were named of late.
-const RECENT: usize = 1_024;
+const RECENT: usize = 2_048;
 
 /// A member of a group, by the group's address and its node's number.
 #[derive(Clone, Copy, PartialEq, Eq, Hash)]
@@ -94,10 +95,10 @@ fn empty_places(alloc: Global) -> Vec<Option<MemberToken>>
     }
 }
 
-/// The place of a member's token. The 16 nodes and the first 64 groups of a tenant have places of their own, and so have 4 groups
+/// The place of a member's token. The 32 nodes and the first 64 groups of a tenant have places of their own, and so have 4 groups
 /// of 16 tenants.
 fn place_of(tenant: TenantId, group: u16, node: u8) -> usize {
-    ((usize::from(tenant) * 4 + usize::from(group)) * 16 + usize::from(node)) % RECENT
+    ((usize::from(tenant) * 4 + usize::from(group)) * NODES + usize::from(node)) % RECENT
 }
 
 impl Keys {
