@@ -6,6 +6,7 @@ use clap::{Arg, ArgAction, ArgMatches, Command};
 use gb_cap::token::Need;
 use gb_client::task::{Asked, Task};
 use gb_session::head::Head;
+use gb_types::limits::NODES;
 use gb_types::node::NodeId;
 use gb_types::request_words::{read_u16, read_u32};
 use std::alloc::{AllocError, Global};
@@ -74,7 +75,7 @@ const KIND: ArgWords = ArgWords {
 
 const MEMBERS: ArgWords = ArgWords {
     name: "MEMBERS",
-    help: "the nodes of the group, rising, with commas: 0,1,2",
+    help: "the nodes of the group, numbers from 0 to 31, rising, with commas: 0,1,2",
     form: Form::Word,
 };
 
@@ -170,8 +171,8 @@ const PORT: ArgWords = ArgWords {
 
 const NODE: ArgWords = ArgWords {
     name: "node",
-    help: "the node to ask",
-    form: Form::Number("I", 0, 15),
+    help: "the node to ask, 0 to 31",
+    form: Form::Number("I", 0, NODES as i64 - 1),
 };
 
 const SECRETS: ArgWords = ArgWords {
