@@ -7,21 +7,22 @@ use Rattle.gb_cluster.specs.ClusterStep.{IsStep}
 use Rattle.gb_cluster.specs.ClusterValue.{ClusterValue, new_cluster, node_plan, IsClusterPlan}
 use Rattle.gb_cluster.specs.declared.answer.Answer.{Answer}
 use Rattle.gb_cluster.specs.declared.event.Event.{Event}
+use Rattle.gb_schedule.specs.declared.command.ClusterStart.{ClusterStart}
 use Rattle.gb_simulate.specs.OfCluster.{plan_of, started, size, Takes}
 use Rattle.gb_simulate.specs.Schedule.{HasNodes}
 use Rattle.gb_types.proofs.ReadLemmas.{some_same}
 
-pub started_so : (v : ClusterValue) (nodes silence : ℕ) → v ≡ new_cluster (plan_of nodes silence) → v ≡ started nodes silence
+pub started_so : (v : ClusterValue) (start : ClusterStart) → v ≡ new_cluster (plan_of start) → v ≡ started start
 unfolding started
-started_so v nodes silence is = is
+started_so v start is = is
 
-pub started_size : (nodes silence : ℕ) → size (started nodes silence) ≡ nodes
+pub started_size : (start : ClusterStart) → size (started start) ≡ start.nodes
 unfolding started
-started_size nodes silence = length-map-range_with_len (λ a. new_node (node_plan (plan_of nodes silence) (node_numbered a))) 0 nodes
+started_size start = length-map-range_with_len (λ a. new_node (node_plan (plan_of start) (node_numbered a))) 0 start.nodes
 
-pub has_nodes : (v : ClusterValue) (nodes silence : ℕ) → IsClusterPlan (plan_of nodes silence) → v ≡ new_cluster (plan_of nodes silence) → HasNodes (Some v)
-has_nodes v nodes silence right is count some =
-    let size_is : size v ≡ nodes = ap size (started_so v nodes silence is) ∙ started_size nodes silence in
+pub has_nodes : (v : ClusterValue) (start : ClusterStart) → IsClusterPlan (plan_of start) → v ≡ new_cluster (plan_of start) → HasNodes (Some v)
+has_nodes v start right is count some =
+    let size_is : size v ≡ start.nodes = ap size (started_so v start is) ∙ started_size start in
     let same : size v ≡ count = some_same (size v) count some in
     let least = right.some in
     let most = right.few in

@@ -17,6 +17,7 @@ use Rattle.gb_schedule.specs.Grammar.{IsCommandLine, IsSilent}
 use Rattle.gb_lines.specs.Lines.{ended}
 use Rattle.gb_schedule.specs.declared.command.Command.{Command}
 use Rattle.gb_schedule.specs.declared.command.Command.TheVariants.{Cluster}
+use Rattle.gb_schedule.specs.declared.command.ClusterStart.{ClusterStart}
 use Rattle.gb_simulate.specs.OfCluster.{plan_of, started, size, Takes}
 use Rattle.gb_simulate.specs.RunTexts.{RunStep, AreSteps, Happens, TellsRun}
 use Rattle.gb_simulate.specs.Schedule.{Obeys, GoesOn, event_of}
@@ -24,13 +25,13 @@ use Rattle.gb_simulate.specs.Text.{AreAnswered, Reaches}
 use Rattle.gb_simulate.proofs.HappensLemmas.{runs_on}
 use Rattle.gb_simulate.specs.TextLaws.{IsServed, IsLawful, TellsLawfulRun, BeginsWithRun, TextsAreOfRuns}
 
-comes_started : (nodes silence : ℕ) → IsClusterPlan (plan_of nodes silence) → ComesTo (plan_of nodes silence) [] (started nodes silence)
+comes_started : (start : ClusterStart) → IsClusterPlan (plan_of start) → ComesTo (plan_of start) [] (started start)
 unfolding ComesTo started
-comes_started nodes silence right = (right, refl)
+comes_started start right = (right, refl)
 
-steps_started : (nodes silence : ℕ) → AreSteps (plan_of nodes silence) [] [] (started nodes silence)
+steps_started : (start : ClusterStart) → AreSteps (plan_of start) [] [] (started start)
 unfolding AreSteps started
-steps_started nodes silence = (refl, refl)
+steps_started start = (refl, refl)
 
 -- a line that asks for nothing
 silent_on : (lines : List (List ℕ)) (text line : List ℕ) (w : Option ClusterValue) → IsSilent line → TellsRun lines text w → TellsRun (line ∷ lines) text w
@@ -38,8 +39,7 @@ silent_on lines text line None silent run = (All-cons IsSilent line lines silent
 silent_on lines text line (Some v) silent (run, is) = (
   run,
   record {
-    nodes = is.nodes;
-    silence = is.silence;
+    start = is.start;
     behind = line ∷ is.behind;
     first = is.first;
     before = is.before;
@@ -58,13 +58,12 @@ silent_on lines text line (Some v) silent (run, is) = (
 -- the line that starts the cluster
 start_on : (lines : List (List ℕ)) (text line answer : List ℕ) (w : Option ClusterValue) (command : Command) (event : Option Event)
     → TellsRun lines text None → IsCommandLine None line command → Obeys None command event w answer → TellsRun (line ∷ lines) (text ++ answer) w
-start_on lines text line answer w (Cluster nodes silence) event run spelt (after_is, answer_is) =
-    let plan = line_in_place None line (Cluster nodes silence) spelt in
+start_on lines text line answer w (Cluster start) event run spelt (after_is, answer_is) =
+    let plan = line_in_place None line (Cluster start) spelt in
     subst (TellsRun (line ∷ lines) (text ++ answer)) (sym after_is) (
       [],
       record {
-        nodes = nodes;
-        silence = silence;
+        start = start;
         behind = [];
         first = line;
         before = lines;
@@ -75,8 +74,8 @@ start_on lines text line answer w (Cluster nodes silence) event run spelt (after
         text_is = ap (λ q. q ++ answer) run.1 ∙ (answer_is ∙ sym (append-nil (ended (codes "ok"))));
         steps = [];
         told = (refl, refl);
-        made = steps_started nodes silence;
-        comes = comes_started nodes silence (record { some = plan.0; few = plan.1; places = omega arith; least = plan.2; most = plan.3 });
+        made = steps_started start;
+        comes = comes_started start (record { some = plan.some; few = plan.few; named = plan.named; places = omega arith; least = plan.least; most = plan.most });
       },
     )
 start_on lines text line answer w other event run spelt obeys = absurd obeys
@@ -99,13 +98,12 @@ step_on lines text line answer v w command None run spelt is obeys = absurd obey
 step_on lines text line answer v w command (Some event) (run, here) spelt is obeys =
     let takes : IsStep v event obeys.answer obeys.next = step_is v obeys.next event obeys.answer obeys.takes in
     let step : RunStep = record { event = event; answer = obeys.answer } in
-    let on = runs_on (plan_of here.nodes here.silence) v obeys.next run event obeys.answer takes here.comes in
-    let count : size v ≡ here.nodes = (stays (plan_of here.nodes here.silence) run v here.comes).count in
+    let on = runs_on (plan_of here.start) v obeys.next run event obeys.answer takes here.comes in
+    let count : size v ≡ here.start.nodes = (stays (plan_of here.start) run v here.comes).count in
     subst (TellsRun (line ∷ lines) (text ++ answer)) (sym obeys.after_is) (
       on.0,
       record {
-        nodes = here.nodes;
-        silence = here.silence;
+        start = here.start;
         behind = line ∷ here.behind;
         first = here.first;
         before = here.before;
@@ -125,7 +123,7 @@ step_on lines text line answer v w command (Some event) (run, here) spelt is obe
           record { command = command; spelt = subst (λ n. IsCommandLine (Some n) line command) count spelt; event_is = is; answer_is = obeys.text_is },
           here.told,
         );
-        made = steps_on (plan_of here.nodes here.silence) here.steps step run on.0 v obeys.next here.made takes on.1;
+        made = steps_on (plan_of here.start) here.steps step run on.0 v obeys.next here.made takes on.1;
         comes = on.2;
       },
     )
@@ -149,7 +147,7 @@ GroupsAreServed = OfGroupsInRuns IsServed
 lawful_so : NodesHavePasts → PacketsAreHonest → LinksHold → GroupsAreServed → (lines : List (List ℕ)) (text : List ℕ) (w : Option ClusterValue) → TellsRun lines text w → TellsLawfulRun lines text w
 lawful_so pasts packets links served lines text None run = run
 lawful_so pasts packets links served lines text (Some v) (run, here) =
-    let plan : Plan = plan_of here.nodes here.silence in
+    let plan : Plan = plan_of here.start in
     let lawful : IsLawful plan run v = record {
       pasts = λ a within. pasts plan run v a here.comes within;
       packets = packets plan run v here.comes;

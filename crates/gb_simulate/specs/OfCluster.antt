@@ -5,15 +5,16 @@ use Rattle.gb_cluster.specs.ClusterValue.{ClusterValue, new_cluster}
 use Rattle.gb_cluster.specs.declared.answer.Answer.{Answer}
 use Rattle.gb_cluster.specs.declared.event.Event.{Event}
 use Rattle.gb_types.specs.declared.plan.Plan.{Plan}
+use Rattle.gb_schedule.specs.declared.command.ClusterStart.{ClusterStart}
 use Rattle.gb_schedule.specs.Keys.{cluster_key, admin_key}
 
 -- what it is started with: the tenants of a node may make 1,024 groups in all
-abbrev pub plan_of : ℕ → ℕ → Plan
-plan_of nodes silence = record { nodes = nodes; silence = silence; places = 1024; cluster_key = cluster_key; admin_key = admin_key }
+abbrev pub plan_of : ClusterStart → Plan
+plan_of start = record { nodes = start.nodes; versions = start.versions; silence = start.silence; places = 1024; cluster_key = cluster_key; admin_key = admin_key }
 
--- a cluster of so many nodes, in which nothing has happened
-unfoldable pub started : ℕ → ℕ → ClusterValue
-started nodes silence = new_cluster (plan_of nodes silence)
+-- a cluster that was just started
+unfoldable pub started : ClusterStart → ClusterValue
+started start = new_cluster (plan_of start)
 
 -- how many nodes it has
 abbrev pub size : ClusterValue → ℕ

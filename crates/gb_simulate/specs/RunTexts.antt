@@ -9,6 +9,7 @@ use Rattle.gb_cluster.specs.declared.event.Event.{Event}
 use Rattle.gb_cluster.specs.declared.event.Event.TheVariants.{At, Arrive}
 use Rattle.gb_types.specs.declared.plan.Plan.{Plan}
 use Rattle.gb_cluster.specs.declared.posted.Posted.{Posted}
+use Rattle.gb_schedule.specs.declared.command.ClusterStart.{ClusterStart}
 use Rattle.gb_schedule.specs.Grammar.{IsCommandLine, IsSilent}
 use Rattle.gb_lines.specs.Lines.{ended}
 use Rattle.gb_schedule.specs.declared.command.Command.{Command}
@@ -58,20 +59,19 @@ TellSteps nodes (line ∷ lines) text steps =
 -- Lines, the newest first, are those of a run that leads here: one starts the cluster; those before it ask for nothing; those
 -- behind it tell the steps. The text is the answers of all. The run is what happened at the nodes by the steps.
 pub record IsRunOf (lines : List (List ℕ)) (text : List ℕ) (run : List Did) (v : ClusterValue) : Type 0 where
-  pub nodes : ℕ
-  pub silence : ℕ
+  pub start : ClusterStart
   pub behind : List (List ℕ)
   pub first : List ℕ
   pub before : List (List ℕ)
   pub lines_are : lines ≡ behind ++ first ∷ before
   pub silent : All IsSilent before
-  pub starts : IsCommandLine None first (Cluster nodes silence)
+  pub starts : IsCommandLine None first (Cluster start)
   pub answers : List ℕ
   pub text_is : text ≡ ended (codes "ok") ++ answers
   pub steps : List RunStep
-  pub told : TellSteps nodes behind answers steps
-  pub made : AreSteps (plan_of nodes silence) steps run v
-  pub comes : ComesTo (plan_of nodes silence) run v
+  pub told : TellSteps start.nodes behind answers steps
+  pub made : AreSteps (plan_of start) steps run v
+  pub comes : ComesTo (plan_of start) run v
 
 -- these lines are those of a run, or ask for nothing
 abbrev pub TellsRun : List (List ℕ) → List ℕ → Option ClusterValue → Type 0

@@ -57,7 +57,7 @@ pub record Answers (v : ClusterValue) (event : Event) (after : Option ClusterVal
 
 -- what a command does: it starts a cluster, or is an event of the one that there is
 abbrev pub Obeys : Option ClusterValue → Command → Option Event → Option ClusterValue → List ℕ → Type 0
-Obeys None (Cluster nodes silence) event after text = (after ≡ Some (started nodes silence)) × (text ≡ ended (codes "ok"))
+Obeys None (Cluster start) event after text = (after ≡ Some (started start)) × (text ≡ ended (codes "ok"))
 Obeys (Some v) command (Some event) after text = Answers v event after text
 Obeys w command event after text = ⊥
 

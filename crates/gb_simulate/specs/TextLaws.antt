@@ -39,7 +39,7 @@ pub record IsLawful (plan : Plan) (run : List Did) (v : ClusterValue) : Type 0 w
 -- these lines are those of a run, of which all holds that a cluster promises; or they ask for nothing
 abbrev pub TellsLawfulRun : List (List ℕ) → List ℕ → Option ClusterValue → Type 0
 TellsLawfulRun lines text None = All IsSilent lines × (text ≡ [])
-TellsLawfulRun lines text (Some v) = (run : List Did) × (told : IsRunOf lines text run v) × IsLawful (plan_of told.nodes told.silence) run v
+TellsLawfulRun lines text (Some v) = (run : List Did) × (told : IsRunOf lines text run v) × IsLawful (plan_of told.start) run v
 
 -- the first lines of a schedule are such, and these are left
 abbrev pub BeginsWithRun : List ℕ → List ℕ → List (List ℕ) → Type 0

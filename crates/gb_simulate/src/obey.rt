@@ -16,7 +16,7 @@ use crate::outcome::BadLine;
 use gb_cluster::cluster::Cluster;
 use gb_node::event::NodeEvent;
 use gb_node::packet_text::PacketText;
-use gb_schedule::command::{Command, Step};
+use gb_schedule::command::{ClusterStart, Command, Step};
 use gb_schedule::grammar::{is_silent, read_other_command, read_step};
 use gb_schedule::keys::{ADMIN_KEY, CLUSTER_KEY, Keys};
 use gb_types::memory::OutOfMemory;
@@ -34,12 +34,13 @@ const _: () = prove!(LINES == 1_000_000);
 const PLACES: u16 = 1_024;
 
 /// What the cluster of a schedule is started with.
-fn plan_of(nodes: u8, silence: u16) -> Plan
-    ensures { result ≡ plan_of nodes silence }
+fn plan_of(start: &ClusterStart) -> Plan
+    ensures { result ≡ plan_of start.now }
 {
     Plan {
-        nodes,
-        silence,
+        nodes: start.nodes,
+        versions: start.versions,
+        silence: start.silence,
         places: PLACES,
         cluster_key: CLUSTER_KEY,
         admin_key: ADMIN_KEY,
@@ -51,17 +52,16 @@ fn plan_of(nodes: u8, silence: u16) -> Plan
 fn begin(
     alloc: Global,
     cluster: &mut Option<Cluster>,
-    nodes: u8,
-    silence: u16,
+    start: &ClusterStart,
     text: &mut Vec<u8>,
 ) -> Result<(), OutOfMemory>
-    requires plan { IsClusterPlan (plan_of nodes silence) }
+    requires plan { IsClusterPlan (plan_of start.now) }
     ensures few { OnOk result (HasNodes cluster.new) }
-    ensures started { OnOk result (cluster.new ≡ Some (started nodes silence)) }
+    ensures started { OnOk result (cluster.new ≡ Some (started start.now)) }
     ensures text { OnOk result (added text.old.items text.new.items ≡ ended (codes "ok")) }
     ensures front { StartsWith text.new.items text.old.items }
 {
-    *cluster = Some(Cluster::start(alloc, &plan_of(nodes, silence))?);
+    *cluster = Some(Cluster::start(alloc, &plan_of(start))?);
     put_started(text)
 }
 
@@ -174,7 +174,7 @@ fn obey(
     ensures front { StartsWith text.new.items text.old.items }
 {
     match command {
-        Command::Cluster { nodes, silence } => { begin(alloc, cluster, nodes, silence, text) }
+        Command::Cluster(start) => begin(alloc, cluster, &start, text),
         Command::Request(node, request) => {
             obey_at(cluster, node, NodeEvent::Request(request), text)
         }
