@@ -182,6 +182,12 @@ const LAST_OF_SIXTEEN_NODES: Case = (
     SimEnd::All,
 );
 
+const LAST_OF_THIRTY_TWO_NODES: Case = (
+    "cluster2 32 2 2,2,2,2,2,2,2,2,2,2,2,2,2,2,2,2,2,2,2,2,2,2,2,2,2,2,2,2,2,2,2,2\ntenant 0 7 4 8 65536 8\nmake 0 7 1 beb 0,1,2,3,4,5,6,7,8,9,10,11,12,13,14,15,16,17,18,19,20,21,22,23,24,25,26,27,28,29,30,31 8 65536 8\nopen 0 7 1\ntenant 31 7 4 8 65536 8\nmake 31 7 1 beb 0,1,2,3,4,5,6,7,8,9,10,11,12,13,14,15,16,17,18,19,20,21,22,23,24,25,26,27,28,29,30,31 8 65536 8\nopen 31 7 1\nsay 31 7 1 68656c6c6f\npack 31 0\narrive 1\nfetch 0 7 1 0 16\nsay 0 7 1 61\npack 0 31\narrive 2\nfetch 31 7 1 0 16\ntick 0\ntick 0\n",
+    "ok\nok\nok\nok\nok\nok\nok\nsaid 1\npacket 1\ngood first 1 0\nlog 1 31:1:68656c6c6f\nsaid 1\npacket 2\ngood first 1 1\nlog 2 31:1:68656c6c6f 0:1:61\nnoticed -\nnoticed 1 2 3 4 5 6 7 8 9 10 11 12 13 14 15 16 17 18 19 20 21 22 23 24 25 26 27 28 29 30 31\n",
+    SimEnd::All,
+);
+
 // Both nodes are noticed in one tick; what their notices set free goes in the order of the nodes.
 const NOTICES_OF_ONE_TICK_COUNT_IN_TURN: Case = (
     "cluster 4 2\ntenant 0 7 4 8 4096 4\nmake 0 7 1 lazy 0,1,2,3 8 4096 4\nopen 0 7 1\ntenant 1 7 4 8 4096 4\nmake 1 7 1 lazy 0,1,2,3 8 4096 4\nopen 1 7 1\ntenant 2 7 4 8 4096 4\nmake 2 7 1 lazy 0,1,2,3 8 4096 4\nopen 2 7 1\ntenant 3 7 4 8 4096 4\nmake 3 7 1 lazy 0,1,2,3 8 4096 4\nopen 3 7 1\nsay 2 7 1 62\npack 2 0\narrive 1\nsay 1 7 1 61\npack 1 0\narrive 2\ntick 0\nack 3 0\narrive 3\ntick 0\npack 0 3\narrive 4\nfetch 3 7 1 0 16\n",
@@ -271,6 +277,24 @@ const ORDER_OF_REFUSALS: Text = (
     "ok\nrefused 5 OverReserve\nok\nrefused 5 OverReserve\nrefused 5 OverReserve\nrefused 5 OverReserve\nrefused 5 OverReserve\nrefused 5 OverReserve\nrefused 5 OverReserve\nrefused 5 OverReserve\nrefused 13 TenantThere\nok\nok\nok\nrefused 12 NoRoom\nrefused 13 TenantThere\nok\nrefused 12 NoRoom\nrefused 5 OverReserve\nrefused 1 Denied\nrefused 2 NoGroup\nrefused 4 BadMembers\nrefused 4 BadMembers\nrefused 5 OverReserve\nrefused 5 OverReserve\nrefused 5 OverReserve\nrefused 5 OverReserve\nrefused 5 OverReserve\nok\nrefused 3 Spent\nrefused 2 NoGroup\nrefused 2 NoGroup\nrefused 2 NoGroup\nrefused 6 WrongPhase\nrefused 6 WrongPhase\nok\nrefused 6 WrongPhase\nrefused 7 TooLong\nsaid 1\nrefused 9 Bytes\nrefused 10 Window\nnoticed -\nnoticed -\nnoticed 1\nsaid 2\nrefused 8 Budget\nrefused 7 TooLong\nrefused 11 BadPlace\nrefused 11 BadPlace\nlog 0\nlog 0\nok\nrefused 6 WrongPhase\nrefused 6 WrongPhase\nrefused 6 WrongPhase\nok\nrefused 3 Spent\nrefused 3 Spent\nrefused 3 Spent\nrefused 3 Spent\nrefused 3 Spent\nrefused 3 Spent\nrefused 1 Denied\nrefused 1 Denied\nok\nrefused 15 Stopped\nrefused 15 Stopped\nrefused 15 Stopped\nrefused 15 Stopped\nrefused 15 Stopped\nrefused 15 Stopped\nrefused 15 Stopped\nrefused 15 Stopped\nrefused 15 Stopped\nrefused 15 Stopped\nrefused 15 Stopped\nrefused 15 Stopped\nno packet\nno packet\n",
 );
 
+// Each `*` is a payload of 4,096 bytes, so `*61` has one byte more.
+const FULL_FRAME_OF_VERSION_2: Text = (
+    "cluster2 2 3 2,2\ntenant 0 7 4 8 65536 8\nmake 0 7 1 beb 0,1 8 65536 8\nopen 0 7 1\ntenant 1 7 4 8 65536 8\nmake 1 7 1 beb 0,1 8 65536 8\nopen 1 7 1\nsay 0 7 1 *\nsay 0 7 1 *\nsay 0 7 1 *\nsay 0 7 1 *\nsay 0 7 1 *61\npack 0 1\narrive 1\npack 0 1\narrive 2\n",
+    "ok\nok\nok\nok\nok\nok\nok\nsaid 1\nsaid 2\nsaid 3\nsaid 4\nrefused 7 TooLong\npacket 1\ngood first 3 0\npacket 2\ngood first 1 0\n",
+);
+
+// Each `*` is a payload of 1,025 bytes: node 1 sends version 1, may not say it, and lets it fall where it comes.
+const UNLIKE_VERSIONS: Text = (
+    "cluster2 2 3 2,1\ntenant 0 7 4 8 65536 8\nmake 0 7 1 beb 0,1 8 65536 8\nopen 0 7 1\ntenant 1 7 4 8 65536 8\nmake 1 7 1 beb 0,1 8 65536 8\nopen 1 7 1\nsay 1 7 1 *\nsay 0 7 1 *\npack 0 1\narrive 1\nfetch 1 7 1 0 16\n",
+    "ok\nok\nok\nok\nok\nok\nok\nrefused 7 TooLong\nsaid 1\npacket 1\ngood first 1 0\nlog 0\n",
+);
+
+// Packets of version 2 without a right tag: eight items of 1,024 bytes, each a `*`; four of 4,096 bytes, which are too many; from node 32.
+const FAULTS_OF_VERSION_2: Text = (
+    "cluster 2 3\nnoise 1 47420200010000000000000001000000000000000000000000000000010008000700010000010400*000700010000020400*000700010000030400*000700010000040400*000700010000050400*000700010000060400*000700010000070400*000700010000080400*0000000000000000\nnoise 1 47420200010000000000000001000000000000000000000000000000010004000700010000011000****000700010000021000****000700010000031000****000700010000041000****0000000000000000\nnoise 1 47420220010000000000000001000000000000000000000000000000010008000700010000010400*000700010000020400*000700010000030400*000700010000040400*000700010000050400*000700010000060400*000700010000070400*000700010000080400*0000000000000000\n",
+    "ok\nfault 10 Tag\nfault 9 TooLong\nfault 4 Node\n",
+);
+
 // A group of two nodes.
 const TWO_NODES: Text = (
     "cluster 2 3\ntenant 0 7 4 8 4096 4\nmake 0 7 1 beb 0,1 8 4096 4\nopen 0 7 1\ntenant 1 7 4 8 4096 4\nmake 1 7 1 beb 0,1 8 4096 4\nopen 1 7 1\n",
@@ -283,8 +307,8 @@ pub const UNTAGGED: &str =
 
 // The same with a byte changed, in the order of the faults; in one line it has eight items of 1,024 bytes, each a `*`.
 const DAMAGED: Text = (
-    "noise 1 00420100010000000000000001000000000000000000000000000000010001000700010000010001610000000000000000\nnoise 1 47420200010000000000000001000000000000000000000000000000010001000700010000010001610000000000000000\nnoise 1 47420100000000000000000001000000000000000000000000000000010001000700010000010001610000000000000000\nnoise 1 47420100010000000000000001000000000000000100000000000000010001000700010000010001610000000000000000\nnoise 1 47420100010000000000000000000000000000000000000000000000010001000700010000010001610000000000000000\nnoise 1 47420100010000000000000001000000000000000000000000000000000001000700010000010001610000000000000000\nnoise 1 47420100010000000000000001000000000000000000000000000000010000000700010000010001610000000000000000\nnoise 1 47420100010000000000000001000000000000000000000000000000010001000700010000010401610000000000000000\nnoise 1 4742010001000000000000000100000000000000000000000000000001000100070001000001000161000000000000000000\nnoise 1 47420100010000000000000001000000000000000000000000000000010008000700010000010400*000700010000020400*000700010000030400*000700010000040400*000700010000050400*000700010000060400*000700010000070400*000700010000080400*0000000000000000\nnoise 1 47420100010000000000000001000000000000000000000000000000010001000700010000010001610000000000000000\nfetch 1 7 1 0 16\n",
-    "fault 2 Magic\nfault 3 Version\nfault 4 Node\nfault 5 Mask\nfault 5 Mask\nfault 6 Count\nfault 6 Count\nfault 7 Length\nfault 8 Trailing\nfault 9 TooLong\nfault 10 Tag\nlog 0\n",
+    "noise 1 00420100010000000000000001000000000000000000000000000000010001000700010000010001610000000000000000\nnoise 1 47420200010000000000000001000000000000000000000000000000010001000700010000010001610000000000000000\nnoise 1 47420100000000000000000001000000000000000000000000000000010001000700010000010001610000000000000000\nnoise 1 47420100010000000000000001000000000000000100000000000000010001000700010000010001610000000000000000\nnoise 1 47420100010000000000000000000000000000000000000000000000010001000700010000010001610000000000000000\nnoise 1 47420100010000000000000001000000000000000000000000000000000001000700010000010001610000000000000000\nnoise 1 47420100010000000000000001000000000000000000000000000000010000000700010000010001610000000000000000\nnoise 1 47420100010000000000000001000000000000000000000000000000010001000700010000010401610000000000000000\nnoise 1 4742010001000000000000000100000000000000000000000000000001000100070001000001000161000000000000000000\nnoise 1 47420100010000000000000001000000000000000000000000000000010008000700010000010400*000700010000020400*000700010000030400*000700010000040400*000700010000050400*000700010000060400*000700010000070400*000700010000080400*0000000000000000\nnoise 1 47420100010000000000000001000000000000000000000000000000010001000700010000010001610000000000000000\nnoise 1 47420300010000000000000001000000000000000000000000000000010001000700010000010001610000000000000000\nfetch 1 7 1 0 16\n",
+    "fault 2 Magic\nfault 10 Tag\nfault 4 Node\nfault 5 Mask\nfault 5 Mask\nfault 6 Count\nfault 6 Count\nfault 7 Length\nfault 8 Trailing\nfault 9 TooLong\nfault 10 Tag\nfault 3 Version\nlog 0\n",
 );
 
 pub const IN_ANY_PIECES: &[Case] = &[
@@ -328,6 +352,7 @@ pub const AT_THEIR_LIMITS: &[Case] = &[
     TENANTS_AT_THEIR_LIMITS,
     GROUPS_AT_THEIR_LIMITS,
     LAST_OF_SIXTEEN_NODES,
+    LAST_OF_THIRTY_TWO_NODES,
 ];
 
 pub const OF_TENANTS_FRAMES_AND_NOISE: &[Case] = &[
@@ -407,6 +432,9 @@ pub const LONG_PAYLOADS: &[Built] = &[
     (1_024, &[(FULL_FRAME, 0, 1)]),
     (1_024, &[(CURSOR_GOES_ROUND, 0, 1)]),
     (1_025, &[(ORDER_OF_REFUSALS, 0, 1)]),
+    (4_096, &[(FULL_FRAME_OF_VERSION_2, 0, 1)]),
+    (1_025, &[(UNLIKE_VERSIONS, 0, 1)]),
+    (1_024, &[(FAULTS_OF_VERSION_2, 0, 1)]),
 ];
 
 // Each front of a packet is no packet; nor is one with a byte changed; nothing is delivered of it.
@@ -503,10 +531,10 @@ pub const WINDOW_OF_64_FRAMES: &[Built] = &[(
 )];
 
 pub const LONGEST_LINES: &[Repeated] = &[
-    (b'#', 32_768, 1, "", SimEnd::All),
+    (b'#', 65_536, 1, "", SimEnd::All),
     (
         b'#',
-        32_769,
+        65_537,
         1,
         "bad line 1\n",
         SimEnd::BadLine(1, BadLine::TooLong),
