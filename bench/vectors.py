@@ -1,0 +1,192 @@
+#!/usr/bin/env python3
+"""Vectors of packets, by the rules of docs/FORMATS.md ("Packets") and by nothing else: no code of the crates is asked.
+
+    vectors.py                 prints the tables of vectors
+    vectors.py --check         compares them with docs/FORMATS.md ("Vectors"); status 1 where a line is not the same
+    vectors.py --ask PROGRAM   hands each vector to a node of a built gb_sim, and compares its answers
+
+Each packet is written from its fields, and read back by the table of faults.
+"""
+import collections
+import difflib
+import hashlib
+import hmac
+import os
+import re
+import struct
+import subprocess
+import sys
+
+KEY = bytes([0x11] * 32)
+HEAD = ">2sBBBQQQH"  # magic, version, sender, destination, base, mask, frame number, count of items
+ITEM = ">HHBHH"  # tenant, group, origin, sequence number, length
+TAG = 8
+
+Limits = collections.namedtuple("Limits", "nodes payload packet")
+LIMITS = {1: Limits(16, 1_024, 8_192), 2: Limits(32, 4_096, 16_384)}
+
+FAULTS = "Short Magic Version Node Mask Count Length Trailing TooLong Tag".split()
+
+Packet = collections.namedtuple("Packet", "version sender destination base mask frame payloads")
+
+
+def tag(text):
+    return hmac.new(KEY, text, hashlib.sha256).digest()[:TAG]
+
+
+def written(packet):
+    """The text of a packet. Its items are messages 1, 2, .. of its sender in group 1 of tenant 7."""
+    text = struct.pack(HEAD, b"GB", *packet[:6], len(packet.payloads))
+    for place, payload in enumerate(packet.payloads):
+        text += struct.pack(ITEM, 7, 1, packet.sender, 1 + place, len(payload)) + payload
+    return text + tag(text)
+
+
+def fault(text):
+    """The number of the first fault of some bytes. 0 where they are a packet."""
+    head, end = struct.calcsize(HEAD), len(text) - TAG
+    if len(text) < head + TAG:
+        return 1
+    magic, version, sender, destination, base, mask, frame, count = struct.unpack(HEAD, text[:head])
+    if magic != b"GB":
+        return 2
+    if version not in LIMITS:
+        return 3
+    limits = LIMITS[version]
+    if sender >= limits.nodes or destination >= limits.nodes or sender == destination:
+        return 4
+    if base == 0 or mask & 1 == 1:
+        return 5
+    if (frame == 0) != (count == 0):
+        return 6
+    place = head
+    for _ in range(count):
+        payload = place + struct.calcsize(ITEM)
+        if payload > end:
+            return 7
+        length = struct.unpack(ITEM, text[place:payload])[4]
+        if length > limits.payload or payload + length > end:
+            return 7
+        place = payload + length
+    if place < end:
+        return 8
+    if len(text) > limits.packet:
+        return 9
+    return 0 if text[end:] == tag(text[:end]) else 10
+
+
+def answer(number):
+    return f"fault {number} {FAULTS[number - 1]}" if number else "good"
+
+
+def payloads(lengths):
+    """Payloads of these lengths, the first of bytes 61, the next of bytes 62, and so on."""
+    return [bytes([0x61 + place]) * length for place, length in enumerate(lengths)]
+
+
+def message(version, sender=0, destination=1, lengths=(1,)):
+    return Packet(version, sender, destination, 1, 0, 1, payloads(lengths))
+
+
+def acknowledgement(version):
+    return Packet(version, 1, 0, 1, 2, 0, [])
+
+
+# What each packet is, the packet, and its fault.
+SHORT = [
+    ("version 1, message 1 of node 0 to node 1", message(1), 0),
+    ("the same in version 2", message(2), 0),
+    ("version 1, node 1 acknowledges frame 2 to node 0", acknowledgement(1), 0),
+    ("the same in version 2", acknowledgement(2), 0),
+    ("version 2, message 1 of node 31 to node 0", message(2, 31, 0), 0),
+    ("the same in version 1", message(1, 31, 0), 4),
+    ("version 2, message 1 of node 32 to node 0", message(2, 32, 0), 4),
+    ("message 1 of node 0 to node 1, with version byte 0", message(0), 3),
+    ("the same with version byte 3", message(3), 3),
+]
+
+# Packets with long payloads, and their faults.
+LONG = [
+    (message(1, 0, 1, [1_024]), 0),
+    (message(1, 0, 1, [1_025]), 7),
+    (message(1, 0, 1, 7 * [1_024] + [913]), 0),
+    (message(1, 0, 1, 7 * [1_024] + [914]), 9),
+    (message(2, 31, 0, [4_096]), 0),
+    (message(2, 31, 0, [4_097]), 7),
+    (message(2, 31, 0, 3 * [4_096] + [4_021]), 0),
+    (message(2, 31, 0, 3 * [4_096] + [4_022]), 9),
+]
+
+
+def lengths_told(packet):
+    """The lengths of a packet's payloads, as "7 of 1,024, 913"."""
+    counts = collections.Counter(map(len, packet.payloads))
+    return ", ".join(f"{count} of {length:,}" if count > 1 else f"{length:,}" for length, count in counts.items())
+
+
+def tables():
+    """The lines of the tables."""
+    yield "| Packet | Bytes (hexadecimal) | Read as |"
+    yield "|---|---|---|"
+    for what, packet, number in SHORT:
+        yield f"| {what} | `{written(packet).hex()}` | {answer(number)} |"
+    yield ""
+    yield "| Version | From | To | Bytes of its payloads | Bytes in all | Before the first payload (hexadecimal) | Tag | SHA-256 of all bytes | Read as |"
+    yield "|---|---|---|---|---|---|---|---|---|"
+    for packet, number in LONG:
+        text = written(packet)
+        before = text[: struct.calcsize(HEAD) + struct.calcsize(ITEM)]
+        yield " | ".join((
+            f"| {packet.version} | {packet.sender} | {packet.destination} | {lengths_told(packet)} | {len(text):,}",
+            f"`{before.hex()}` | `{text[-TAG:].hex()}` | `{hashlib.sha256(text).hexdigest()}` | {answer(number)} |"))
+
+
+def vectors():
+    return [(packet, number) for _, packet, number in SHORT] + LONG
+
+
+def check():
+    """Whether docs/FORMATS.md has these tables, and its example is the first vector."""
+    top = os.path.join(os.path.dirname(os.path.abspath(__file__)), "..")
+    with open(os.path.join(top, "docs", "FORMATS.md"), encoding="utf-8") as file:
+        sections = dict(part.split("\n", 1) for part in re.split(r"^#+ ", file.read(), flags=re.M)[1:])
+    stored = [line for line in sections["Vectors"].split("\n") if line.startswith("|")]
+    computed = [line for line in tables() if line]
+    for line in difflib.unified_diff(stored, computed, "docs/FORMATS.md", "bench/vectors.py", lineterm="", n=0):
+        print(line)
+    parts = re.findall(r"^\| `([0-9a-f ]+)` \|", sections["An example"], flags=re.M)
+    example = "".join(parts).replace(" ", "") == written(SHORT[0][1]).hex()
+    if not example:
+        print("the example of docs/FORMATS.md is not the first vector")
+    return stored == computed and example
+
+
+def ask(program):
+    """Whether a built gb_sim reads each vector so. It answers `not noise` to what is a packet of the cluster."""
+    lines = [f"cluster2 32 1000 {','.join('2' * 32)}"]
+    expected = ["ok"]
+    for packet, number in vectors():
+        lines.append(f"noise {packet.destination} {written(packet).hex()}")
+        expected.append(answer(number) if number else "not noise")
+    run = subprocess.run([program], input="\n".join(lines) + "\n", capture_output=True, text=True, check=False)
+    for line in difflib.unified_diff(expected, run.stdout.splitlines(), "expected", program, lineterm="", n=0):
+        print(line)
+    return run.stdout.splitlines() == expected
+
+
+def main(words):
+    for packet, number in vectors():
+        assert fault(written(packet)) == number, packet[:6]
+    if words == ["--check"]:
+        return 0 if check() else 1
+    if len(words) == 2 and words[0] == "--ask":
+        return 0 if ask(words[1]) else 1
+    if words:
+        print(__doc__)
+        return 2
+    print("\n".join(tables()))
+    return 0
+
+
+if __name__ == "__main__":
+    sys.exit(main(sys.argv[1:]))
