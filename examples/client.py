@@ -107,7 +107,7 @@ def follow(session, count):
 
 def walk(port, program):
     server = subprocess.Popen(
-        [program, "--nodes", "3", "--base-port", str(port), "--sessions", "1"],
+        [program, "--nodes", "3", "--version", "2", "--base-port", str(port), "--sessions", "1"],
         stdin=subprocess.PIPE,
         stdout=subprocess.PIPE,
         text=True,

@@ -1,7 +1,7 @@
 #!/usr/bin/env bash
-# A walk through the service: starts a cluster of three nodes, takes in a tenant, makes a chat group of all three, says
-# something at each, reads the log at each, and stops the cluster. It runs gb_serve and gb_ctl, which are built by `rt run`
-# in crates/gb_serve and crates/gb_ctl. Word: the base port, 42000 if not given.
+# A walk through the service: starts a cluster of three nodes that send packets of version 2, takes in a tenant, makes a chat group
+# of all three, says something at each, reads the log at each, and stops the cluster. It runs gb_serve and gb_ctl, which are built by
+# `rt run` in crates/gb_serve and crates/gb_ctl. Word: the base port, 42000 if not given.
 set -euo pipefail
 here=$(cd "$(dirname "$0")" && pwd)
 port=${1:-42000}
@@ -18,7 +18,7 @@ printf '%s\n%s\n' "$(key)" "$admin" >"$work/server.keys"
 printf 'admin %s\ntenant %s\n' "$admin" "$(key)" >"$work/client.keys"
 
 # Each node serves six connections, and each line of gb_ctl below is one; then the cluster stops by itself.
-"$serve" --nodes 3 --base-port "$port" --sessions 6 <"$work/server.keys" >"$work/printed" &
+"$serve" --nodes 3 --version 2 --base-port "$port" --sessions 6 <"$work/server.keys" >"$work/printed" &
 server=$!
 for _ in {1..100}; do
     [ -s "$work/printed" ] && break
