@@ -1,5 +1,5 @@
 #!/usr/bin/env python3
-"""Measures the memory of a group: memory.py PROGRAM.
+"""Measures the memory of a group: memory.py PROGRAM [VERSION], where the nodes send packets of version 1 if not given otherwise.
 
 In a cluster of n nodes each node makes some groups, after a first one that lays out a node's tables. What the program's
 data and heap grow by meanwhile, whether it was touched or not, is divided by n and by the groups. The allocator is told
@@ -9,15 +9,17 @@ import os
 import subprocess
 import sys
 
+from schedule import start
+
 # The bytes for each of the n * m messages: a place in the store, a number in the log, and one with its place in what is
 # put out.
 MESSAGE = 12 + 4 + 6
 # What a relay or an order adds: a record.
-RECORD = 10
+RECORD = 12
 # A table has a place of 2 bytes for each of m numbers of each node up to the last member.
 TABLE = 2
 # The set of the nodes that have an own message for good.
-ACKNOWLEDGED = 2
+ACKNOWLEDGED = 4
 
 
 # How many groups each node makes.
@@ -32,12 +34,17 @@ def reserved(kind, members, msgs, size):
     return members * msgs * message + members * size + msgs * ACKNOWLEDGED, tables * TABLE * members * msgs
 
 
-def data_bytes(process):
+def status_bytes(process, name):
+    """What the system says of a process's memory: VmData of what it took, VmHWM of what was there of it at most at once."""
     with open(f'/proc/{process.pid}/status') as status:
         for line in status:
-            if line.startswith('VmData:'):
+            if line.startswith(name + ':'):
                 return int(line.split()[1]) * 1024
-    raise ValueError('no VmData')
+    raise ValueError(f'no {name}')
+
+
+def data_bytes(process):
+    return status_bytes(process, 'VmData')
 
 
 def tell(process, lines):
@@ -49,13 +56,19 @@ def tell(process, lines):
             raise ValueError(f'{line}: {answer}')
 
 
-def measured(program, kind, members, msgs, size):
+def begun(program):
+    """The program, which waits for its schedule."""
     environment = dict(os.environ, MALLOC_TOP_PAD_='0')
-    process = subprocess.Popen([program], stdin=subprocess.PIPE, stdout=subprocess.PIPE, text=True, env=environment)
+    return subprocess.Popen([program], stdin=subprocess.PIPE, stdout=subprocess.PIPE, text=True, env=environment)
+
+
+def measured(program, kind, members, msgs, size, version=1):
+    """The bytes that a group takes at a node."""
+    process = begun(program)
     names = ','.join(str(node) for node in range(members))
     def make(group):
         tell(process, [f'make {node} 7 {group} {kind} {names} {msgs} {size} 1' for node in range(members)])
-    tell(process, [f'cluster {members} 3'] + [f'tenant {node} 7 {1 + GROUPS} {msgs} {size} 1' for node in range(members)])
+    tell(process, [start(members, 3, version)] + [f'tenant {node} 7 {1 + GROUPS} {msgs} {size} 1' for node in range(members)])
     make(0)
     before = data_bytes(process)
     for group in range(GROUPS):
@@ -66,17 +79,31 @@ def measured(program, kind, members, msgs, size):
     return taken / members / GROUPS
 
 
-def main():
+def of_cluster(program, nodes, version=1):
+    """The bytes of a program that has started a cluster and nothing else."""
+    process = begun(program)
+    tell(process, [start(nodes, 3, version)])
+    taken = data_bytes(process)
+    process.stdin.close()
+    process.wait()
+    return taken
+
+
+def main(program, version):
     worst = 0.0
+    specs = [(2, 64, 4096), (16, 64, 65536), (16, 256, 4096), (16, 1024, 65536), (2, 1024, 65536)]
+    if version > 1:
+        specs += [(32, 64, 65536), (32, 1024, 65536)]
     print('kind      members  messages   bytes    reserved    tables     taken  ratio')
     for kind in ('beb', 'fbeb', 'lazy', 'eager', 'allack', 'fallack', 'majority', 'fmajority'):
-        for members, msgs, size in ((2, 64, 4096), (16, 64, 65536), (16, 256, 4096), (16, 1024, 65536), (2, 1024, 65536)):
+        for members, msgs, size in specs:
             spec, tables = reserved(kind, members, msgs, size)
-            taken = measured(sys.argv[1], kind, members, msgs, size)
+            taken = measured(program, kind, members, msgs, size, version)
             ratio = taken / (spec + tables)
             worst = max(worst, ratio)
             print(f'{kind:9} {members:7} {msgs:9} {size:7} {spec:11} {tables:9} {taken:9.0f} {ratio:6.2f}')
     print(f'at most {worst:.2f} times what is reserved')
 
 
-main()
+if __name__ == '__main__':
+    main(sys.argv[1], int(sys.argv[2]) if len(sys.argv) > 2 else 1)

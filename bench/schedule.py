@@ -1,62 +1,73 @@
 #!/usr/bin/env python3
-"""Writes a schedule of so many lines: says, packs, arrives, acknowledgements and fetches of 16 groups of 4 tenants, two of each
-kind of broadcast, on a cluster of 4 nodes.
+"""Writes a schedule of so many lines: says, packs, arrives, acknowledgements and fetches of 16 groups of 4 tenants, of all kinds of
+broadcast, on a cluster whose nodes all are members: schedule.py LINES [NODES [VERSION [BYTES]]].
 
-A node says in four groups, of a tenant each, and packs what waits for each other node into one frame. Each group may have 1,024
-messages at a node; what is said beyond that is refused, and nothing waits then.
+There are 4 nodes if not given otherwise, which send packets of version 1 and say payloads of 2 bytes. A node says in four groups, of a
+tenant each, and packs what waits for each other node into one frame. Each group may have 1,024 messages at a node, and at most 65,536
+bytes; what is said beyond that is refused, and nothing waits then.
 """
 import sys
 
-NODES = 4
 TENANTS = range(7, 11)
 GROUPS = range(4)
 KINDS = ['beb', 'lazy', 'eager', 'allack', 'majority', 'fbeb', 'flazy', 'feager', 'fallack', 'fmajority']
 
 
-def setup():
-    yield f'cluster {NODES} 1000'
-    members = ','.join(str(node) for node in range(NODES))
-    for node in range(NODES):
+def start(nodes, silence, version):
+    """The line that starts a cluster of so many nodes which all send this version of packets."""
+    if version == 1:
+        return f'cluster {nodes} {silence}'
+    return f'cluster2 {nodes} {silence} {",".join([str(version)] * nodes)}'
+
+
+def setup(nodes, version, size):
+    yield start(nodes, 1000, version)
+    members = ','.join(str(node) for node in range(nodes))
+    most = min(65536, 2048 * size)
+    for node in range(nodes):
         for tenant in TENANTS:
-            yield f'tenant {node} {tenant} 4 1024 4096 1024'
+            yield f'tenant {node} {tenant} 4 1024 {most} 1024'
             for group in GROUPS:
                 kind = KINDS[(4 * tenant + group) % len(KINDS)]
-                yield f'make {node} {tenant} {group} {kind} {members} 1024 4096 1024'
+                yield f'make {node} {tenant} {group} {kind} {members} 1024 {most} 1024'
                 yield f'open {node} {tenant} {group}'
 
 
-def schedule():
-    yield from setup()
+def schedule(nodes, version, size):
+    yield from setup(nodes, version, size)
     sent = 0
     turn = 0
     while True:
-        origin = turn % NODES
+        origin = turn % nodes
         for tenant in TENANTS:
-            yield f'say {origin} {tenant} {(turn // NODES + tenant) % len(GROUPS)} {turn % 65536:04x}'
-        for node in (origin, (origin + 1) % NODES):
-            for to in range(NODES):
+            payload = f'{turn % 65536:04x}' + '00' * (size - 2)
+            yield f'say {origin} {tenant} {(turn // nodes + tenant) % len(GROUPS)} {payload}'
+        for node in (origin, (origin + 1) % nodes):
+            for to in range(nodes):
                 if to != node:
                     yield f'pack {node} {to}'
                     sent += 1
                     yield f'arrive {sent}'
         if turn % 8 == 7:
-            for node in range(NODES):
-                for to in range(NODES):
+            for node in range(nodes):
+                for to in range(nodes):
                     if to != node:
                         yield f'ack {node} {to}'
                         sent += 1
                         yield f'arrive {sent}'
         tenant = TENANTS[turn % len(TENANTS)]
-        yield f'fetch {(origin + 1) % NODES} {tenant} {turn % len(GROUPS)} {turn // 8} 4'
+        yield f'fetch {(origin + 1) % nodes} {tenant} {turn % len(GROUPS)} {turn // 8} 4'
         turn += 1
 
 
-def main():
-    lines = int(sys.argv[1])
-    for number, line in enumerate(schedule()):
-        if number == lines:
-            break
-        print(line)
+def lines_of(count, nodes=4, version=1, size=2):
+    """The first lines of the schedule."""
+    for number, line in enumerate(schedule(nodes, version, size)):
+        if number == count:
+            return
+        yield line
 
 
-main()
+if __name__ == '__main__':
+    for each in lines_of(*map(int, sys.argv[1:])):
+        print(each)
