@@ -3,4 +3,4 @@
 # ratios: medians of three runs of each. Words: the old program, the new one, and how many lines the schedules have, 100,000 if not given.
 set -eu
 [ $# -ge 2 ] || { echo "$0 OLD NEW [LINES]"; exit 2; }
-exec python3 "$(dirname "$0")/beside.py" "$@"
+exec python3 -B "$(dirname "$0")/beside.py" "$@"

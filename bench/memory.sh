@@ -6,4 +6,4 @@ top=$(cd "$(dirname "$0")/.." && pwd)
 if [ $# = 0 ]; then
     (cd "$top/crates/gb_sim" && "${RT:-rt}" run <stdin >/dev/null)
 fi
-exec python3 "$top/bench/memory.py" "${1:-$top/crates/gb_sim/out/gb_sim}" "${2:-1}"
+exec python3 -B "$top/bench/memory.py" "${1:-$top/crates/gb_sim/out/gb_sim}" "${2:-1}"
