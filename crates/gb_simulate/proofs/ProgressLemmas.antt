@@ -27,7 +27,7 @@ reaches_start input =
 
 -- one line more
 reaches_on : (input text xs ys line answer : List ℕ) (w after : Option ClusterValue) (n : ℕ) → Reaches input text w n (lines_of xs) → lines_of xs ≡ line ∷ lines_of ys
-    → n ≤ 1000000 → length line ≤ 32768 → GoesOn w line after answer → Reaches input (text ++ answer) after (n + 1) (lines_of ys)
+    → n ≤ 1000000 → length line ≤ 65536 → GoesOn w line after answer → Reaches input (text ++ answer) after (n + 1) (lines_of ys)
 unfolding AreAnswered
 reaches_on input text xs ys line answer w after n r first few short goes =
     let answered : AreAnswered (line ∷ r.taken) (text ++ answer) after = (w, text, answer, r.answered, omega (arith, r.count), short, goes, refl) in

@@ -27,7 +27,7 @@ added old new = drop (length old) new
 
 -- the event that a command is, once there is a cluster; a fetch comes with the member's token
 abbrev pub event_of : Command → Option Event
-event_of (Cluster nodes silence) = None
+event_of (Cluster start) = None
 event_of (Request node request) = Some (At node (AskEvent request))
 event_of (Step (Pack node to)) = Some (At node (PackEvent to))
 event_of (Step (Again node to frame)) = Some (At node (AgainEvent to frame))

@@ -11,7 +11,7 @@ use Rattle.gb_simulate.proofs.obey.answer_line.Goals as goal
 
 -- a line in no case of the grammar, before a cluster was started or after
 bad_so : (w : Option ClusterValue) (why : BadLine) (n : ℕ) (line : List ℕ) → (w ≡ None → why ≡ NoCluster) → (w ≢ None → why ≡ NoCommand)
-    → length line ≤ 32768 → n ≤ 1000000 → IsNoLine w line → IsBadLine why n w line
+    → length line ≤ 65536 → n ≤ 1000000 → IsNoLine w line → IsBadLine why n w line
 bad_so None why n line none some short few none_here = subst (λ q. IsBadLine q n None line) (sym (none refl)) (short, few, refl, none_here)
 bad_so (Some s) why n line none some short few none_here =
     let started : Some s ≢ None = λ is. none-some s (sym is) in subst (λ q. IsBadLine q n (Some s) line) (sym (some started)) (short, few, started, none_here)
