@@ -4,9 +4,9 @@ use gb_types::limits::NODES;
 use gb_types::node::{NodeId, NodeSet};
 use std::process::Abort;
 
-/// The node with this number, below 16.
+/// The node with this number, below 32.
 fn node(number: u8) -> NodeId {
-    NodeId::new(number % 16)
+    NodeId::new(number % 32)
 }
 
 /// Whether the set has the nodes with these numbers, and no others.
@@ -92,7 +92,11 @@ fn several_notices_in_one_tick_stay(rt: HostRuntime) {
     compare(&rt, &mut detector, 1, SEVERAL_NOTICES);
 }
 
-const OTHERS: &[u8] = &[0, 1, 2, 3, 4, 5, 6, 7, 8, 9, 10, 11, 12, 13, 14];
+/// The numbers below 31.
+const OTHERS: &[u8] = &[
+    0, 1, 2, 3, 4, 5, 6, 7, 8, 9, 10, 11, 12, 13, 14, 15, 16, 17, 18, 19, 20, 21, 22, 23, 24, 25,
+    26, 27, 28, 29, 30,
+];
 
 const SILENT_TICK: &[Step] = &[Step::Tick(&[])];
 
@@ -100,7 +104,28 @@ const LAST_TICK: &[Step] = &[Step::Due(OTHERS), Step::Tick(OTHERS), Step::Due(&[
 
 #[test]
 fn a_silence_of_a_thousand_ticks(rt: HostRuntime) {
-    let mut detector = Detector::new(NodeId { number: 15 }, 16, 1_000);
+    let mut detector = Detector::new(NodeId { number: 31 }, 32, 1_000);
     compare(&rt, &mut detector, 999, SILENT_TICK);
     compare(&rt, &mut detector, 1, LAST_TICK);
+}
+
+/// The numbers from 1 to 30.
+const BETWEEN: &[u8] = &[
+    1, 2, 3, 4, 5, 6, 7, 8, 9, 10, 11, 12, 13, 14, 15, 16, 17, 18, 19, 20, 21, 22, 23, 24, 25, 26,
+    27, 28, 29, 30,
+];
+
+const LAST_NODE_IS_HEARD: &[Step] = &[
+    Step::Tick(&[]),
+    Step::Heard(31),
+    Step::Tick(BETWEEN),
+    Step::Due(&[31]),
+    Step::Tick(&[31]),
+    Step::Tick(&[]),
+];
+
+#[test]
+fn the_last_node_is_noticed_by_itself(rt: HostRuntime) {
+    let mut detector = Detector::new(NodeId { number: 0 }, 32, 2);
+    compare(&rt, &mut detector, 1, LAST_NODE_IS_HEARD);
 }

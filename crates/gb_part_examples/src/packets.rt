@@ -2,6 +2,7 @@
 use gb_cap::hmac::HmacKey;
 use gb_frame::fault::PacketFault;
 use gb_frame::item::{Item, ItemView, count_items, first_item, put_item};
+use gb_frame::limits::room;
 use gb_frame::packet::{Head, Packet};
 use gb_frame::reading::decode;
 use gb_frame::view::PacketView;
@@ -9,6 +10,7 @@ use gb_frame::writing::{encode, wrap};
 use gb_types::memory::OutOfMemory;
 use gb_types::node::NodeId;
 use gb_types::payload::Payload;
+use gb_types::version::Version;
 use std::alloc::Global;
 use std::process::Abort;
 use std::test::Fail;
@@ -25,11 +27,53 @@ const TEXT: &str =
 const ACKNOWLEDGEMENT: &str =
     "474201010000000000000000010000000000000002000000000000000000007b6df7ba3c0f6a12";
 
-/// The payloads of a packet of 8,192 bytes.
-const LONGEST: [u16; 8] = [1_024, 1_024, 1_024, 1_024, 1_024, 1_024, 1_024, 913];
+/// The packet of version 2 of node 31 to node 30 with one item of node 31, with its tag.
+const FAR: &str =
+    "4742021f1e0000000000000001000000000000000000000000000000010001000700011f0001000161afd14fdc10d256e1";
+
+/// A version of the text with its byte, its last node and the one beyond it (0 where there is none), its longest payload, the
+/// payloads of a packet of its longest length, that length, and the bytes that it has for items.
+struct Longest {
+    version: Version,
+    byte: u8,
+    node: u8,
+    beyond: u8,
+    payload: u16,
+    payloads: [u16; 8],
+    packet: usize,
+    room: usize,
+}
+
+const LONGEST: &[Longest] = &[
+    Longest {
+        version: Version::One,
+        byte: 1,
+        node: 15,
+        beyond: 16,
+        payload: 1_024,
+        payloads: [1_024, 1_024, 1_024, 1_024, 1_024, 1_024, 1_024, 913],
+        packet: 8_192,
+        room: 8_153,
+    },
+    Longest {
+        version: Version::Two,
+        byte: 2,
+        node: 31,
+        beyond: 0,
+        payload: 4_096,
+        payloads: [4_096, 0, 4_096, 0, 4_096, 0, 0, 3_985],
+        packet: 16_384,
+        room: 16_345,
+    },
+];
 
 fn key() -> HmacKey {
     HmacKey::new(&[0x11; 32])
+}
+
+/// The node with this number, below 32.
+fn node(number: u8) -> NodeId {
+    NodeId::new(number % 32)
 }
 
 fn bytes(alloc: Global, digits: &str) -> Result<Vec<u8>, Fail> {
@@ -51,13 +95,14 @@ fn item(alloc: Global, len: u16) -> Result<Item, OutOfMemory> {
     })
 }
 
-/// A packet of node 0 to node 1 with items of these payloads, in frame 1.
-fn packet(alloc: Global, payloads: &[u16]) -> Result<Packet, OutOfMemory> {
+/// A packet of this version of node 0 to node 1 with items of these payloads, in frame 1.
+fn packet(alloc: Global, version: Version, payloads: &[u16]) -> Result<Packet, OutOfMemory> {
     let mut items = Vec::new(alloc);
     for len in payloads {
         items.push(item(alloc, *len)?)?;
     }
     Ok(Packet {
+        version,
         from: NodeId { number: 0 },
         to: NodeId { number: 1 },
         base: 1,
@@ -75,10 +120,14 @@ fn written(alloc: Global, packet: &Packet) -> Result<Option<Vec<u8>>, OutOfMemor
     Ok(Some(encode(alloc, packet, &key())?))
 }
 
-/// A text like `BODY`, with items of these payloads, and eight zero bytes in place of the tag.
-fn shaped(alloc: Global, payloads: &[u16]) -> Result<Vec<u8>, Fail> {
+/// A text like `BODY`, of the version with this byte, with items of these payloads, and eight zero bytes in place of the
+/// tag.
+fn shaped(alloc: Global, version: u8, payloads: &[u16]) -> Result<Vec<u8>, Fail> {
     let mut text = bytes(alloc, BODY)?;
     text.truncate(31);
+    if let Some(place) = text.get_mut(2) {
+        *place = version;
+    }
     if let Some(count) = text.last_mut() {
         *count = payloads.len().min(255) as u8;
     }
@@ -94,8 +143,8 @@ fn shaped(alloc: Global, payloads: &[u16]) -> Result<Vec<u8>, Fail> {
 }
 
 /// The same with the one item of `BODY`, and one byte changed.
-fn changed(alloc: Global, at: usize, byte: u8) -> Result<Vec<u8>, Fail> {
-    let mut text = shaped(alloc, &[1])?;
+fn changed(alloc: Global, version: u8, at: usize, byte: u8) -> Result<Vec<u8>, Fail> {
+    let mut text = shaped(alloc, version, &[1])?;
     if let Some(place) = text.get_mut(at) {
         *place = byte;
     }
@@ -122,13 +171,31 @@ fn compare(rt: &impl Abort, alloc: Global, packet: &Packet, digits: &str) -> Res
 
 #[test]
 fn one_item(rt: HostRuntime) -> Result<(), Fail> {
-    let packet = packet(rt.alloc(), &[1])?;
+    let packet = packet(rt.alloc(), Version::One, &[1])?;
     compare(&rt, rt.alloc(), &packet, TEXT)
+}
+
+/// The packet of `FAR`.
+fn far_packet(alloc: Global) -> Result<Packet, OutOfMemory> {
+    let mut packet = packet(alloc, Version::Two, &[1])?;
+    packet.from = NodeId { number: 31 };
+    packet.to = NodeId { number: 30 };
+    if let Some(item) = packet.items.first_mut() {
+        item.origin = 31;
+    }
+    Ok(packet)
+}
+
+#[test]
+fn one_item_of_version_two(rt: HostRuntime) -> Result<(), Fail> {
+    let packet = far_packet(rt.alloc())?;
+    compare(&rt, rt.alloc(), &packet, FAR)
 }
 
 #[test]
 fn acknowledgement(rt: HostRuntime) -> Result<(), Fail> {
     let packet = Packet {
+        version: Version::One,
         from: NodeId { number: 1 },
         to: NodeId { number: 0 },
         base: 1,
@@ -142,6 +209,7 @@ fn acknowledgement(rt: HostRuntime) -> Result<(), Fail> {
 /// The head of `TEXT`.
 fn told_head() -> Head {
     Head {
+        version: Version::One,
         from: NodeId { number: 0 },
         to: NodeId { number: 1 },
         base: 1,
@@ -150,10 +218,12 @@ fn told_head() -> Head {
     }
 }
 
-/// Whether one item of the byte `a` stands in the frame.
+/// Whether one item of the byte `a` stands in the frame, which is none where payloads have no bytes.
 fn has_one_item(frame: &[u8]) -> bool {
-    match first_item(frame) {
-        Some((first, rest)) => first.payload == b"a".as_slice() && rest.is_empty(),
+    match first_item(1, frame) {
+        Some((first, rest)) => {
+            first.payload == b"a".as_slice() && rest.is_empty() && first_item(0, frame).is_none()
+        }
         None => false,
     }
 }
@@ -173,6 +243,7 @@ fn a_frame_is_wrapped(rt: HostRuntime) -> Result<(), Fail> {
     put_item(item, &mut frame);
     let count = count_items(&frame);
     let head = Head {
+        version: Version::One,
         from: NodeId { number: 0 },
         to: NodeId { number: 1 },
         base: 1,
@@ -216,6 +287,27 @@ fn what_was_written_is_read(rt: HostRuntime) -> Result<(), Fail> {
     Ok(())
 }
 
+/// Whether this is the head of `FAR` and its one item.
+fn is_far(read: &PacketView<'_>) -> bool {
+    let head = read.head();
+    let nodes = (head.from.number, head.to.number);
+    let Some(item) = read.items().next() else {
+        return false;
+    };
+    head.version == Version::Two && nodes == (31, 30) && item.origin == 31 && read.len() == 1
+}
+
+#[test]
+fn version_two_is_read(rt: HostRuntime) -> Result<(), Fail> {
+    let text = bytes(rt.alloc(), FAR)?;
+    let Ok(read) = decode(&text, &key()) else {
+        return Err(Fail::from("the text is a packet's"));
+    };
+    let held = is_far(&read);
+    assert!(rt; held);
+    Ok(())
+}
+
 #[test]
 fn what_has_no_items_is_read(rt: HostRuntime) -> Result<(), Fail> {
     let text = bytes(rt.alloc(), ACKNOWLEDGEMENT)?;
@@ -245,50 +337,59 @@ fn compare_cut(rt: &impl Abort, text: &[u8]) {
 fn cut_short(rt: HostRuntime) -> Result<(), Fail> {
     let found = fault_of(&[]);
     assert!(rt; found == Some(PacketFault::Short));
-    let text = shaped(rt.alloc(), &[1])?;
+    let text = shaped(rt.alloc(), 1, &[1])?;
     compare_cut(&rt, &text);
     Ok(())
 }
 
-/// A place, a byte that stands there in place of the good one, and the fault that is found.
-type Changed = (usize, u8, PacketFault);
+/// The byte of a version, a place, a byte that stands there in place of the good one, and the fault that is found.
+type Changed = (u8, usize, u8, PacketFault);
 
 const FAULTS: &[Changed] = &[
-    (0, 0x00, PacketFault::Magic),
-    (2, 0x02, PacketFault::Version),
-    (4, 0x00, PacketFault::Node),
-    (4, 15, PacketFault::Tag),
-    (4, 16, PacketFault::Node),
-    (3, 15, PacketFault::Tag),
-    (3, 16, PacketFault::Node),
-    (20, 0x01, PacketFault::Mask),
-    (20, 0xfe, PacketFault::Tag),
-    (12, 0x00, PacketFault::Mask),
-    (28, 0x00, PacketFault::Count),
-    (30, 0x00, PacketFault::Count),
-    (29, 0xff, PacketFault::Length),
-    (38, 0x04, PacketFault::Length),
+    (1, 0, 0x00, PacketFault::Magic),
+    (1, 2, 0x00, PacketFault::Version),
+    (1, 2, 0x02, PacketFault::Tag),
+    (1, 2, 0x03, PacketFault::Version),
+    (1, 4, 0x00, PacketFault::Node),
+    (1, 4, 15, PacketFault::Tag),
+    (1, 4, 16, PacketFault::Node),
+    (1, 3, 15, PacketFault::Tag),
+    (1, 3, 16, PacketFault::Node),
+    (2, 4, 0x00, PacketFault::Node),
+    (2, 4, 31, PacketFault::Tag),
+    (2, 4, 32, PacketFault::Node),
+    (2, 3, 31, PacketFault::Tag),
+    (2, 3, 32, PacketFault::Node),
+    (1, 20, 0x01, PacketFault::Mask),
+    (1, 20, 0xfe, PacketFault::Tag),
+    (1, 12, 0x00, PacketFault::Mask),
+    (1, 28, 0x00, PacketFault::Count),
+    (1, 30, 0x00, PacketFault::Count),
+    (1, 29, 0xff, PacketFault::Length),
+    (1, 38, 0x04, PacketFault::Length),
+    (2, 38, 0x10, PacketFault::Length),
 ];
 
 /// Whether the changed text has this fault.
 fn has_fault(alloc: Global, case: &Changed) -> Result<bool, Fail> {
-    let (at, byte, fault) = *case;
-    let text = changed(alloc, at, byte)?;
+    let (version, at, byte, fault) = *case;
+    let text = changed(alloc, version, at, byte)?;
     Ok(fault_of(&text) == Some(fault))
 }
 
 /// Whether a text with a byte more trails.
 fn trails(alloc: Global) -> Result<bool, Fail> {
-    let mut text = shaped(alloc, &[1])?;
+    let mut text = shaped(alloc, 1, &[1])?;
     let is_tag = fault_of(&text) == Some(PacketFault::Tag);
     text.push(0)?;
     Ok(is_tag && fault_of(&text) == Some(PacketFault::Trailing))
 }
 
-/// Whether a text of 8,303 bytes is too long.
+/// Whether a text of 8,303 bytes is too long for version 1, and not for version 2.
 fn is_too_long(alloc: Global) -> Result<bool, Fail> {
-    let text = shaped(alloc, &[1_024; 8])?;
-    Ok(text.len() == 8_303 && fault_of(&text) == Some(PacketFault::TooLong))
+    let (one, len) = shaped_fault(alloc, 1, &[1_024; 8])?;
+    let (two, _) = shaped_fault(alloc, 2, &[1_024; 8])?;
+    Ok(len == 8_303 && one == Some(PacketFault::TooLong) && two == Some(PacketFault::Tag))
 }
 
 /// Each fault, and the bytes of a header at their last good value and one beyond it.
@@ -318,54 +419,90 @@ fn last_byte_of_the_tag(rt: HostRuntime) -> Result<(), Fail> {
     Ok(())
 }
 
-/// Whether a packet with items of these payloads can be written.
-fn is_within(alloc: Global, payloads: &[u16]) -> Result<bool, OutOfMemory> {
-    let packet = packet(alloc, payloads)?;
+/// Whether a packet of this version with items of these payloads can be written.
+fn is_within(alloc: Global, version: Version, payloads: &[u16]) -> Result<bool, OutOfMemory> {
+    let packet = packet(alloc, version, payloads)?;
     let text = written(alloc, &packet)?;
     Ok(text.is_some())
 }
 
 /// The fault of a text with items of these payloads, and its length.
-fn shaped_fault(alloc: Global, payloads: &[u16]) -> Result<(Option<PacketFault>, usize), Fail> {
-    let text = shaped(alloc, payloads)?;
+fn shaped_fault(
+    alloc: Global,
+    version: u8,
+    payloads: &[u16],
+) -> Result<(Option<PacketFault>, usize), Fail> {
+    let text = shaped(alloc, version, payloads)?;
     Ok((fault_of(&text), text.len()))
 }
 
-/// The longest payload is 1,024 bytes, when it is written and when it is read.
+/// Whether an item with this payload is within the version's limits, when it is written and when it is read.
+fn has_limit(alloc: Global, case: &Longest, payload: u16, within: bool) -> Result<bool, Fail> {
+    let fault = if within {
+        PacketFault::Tag
+    } else {
+        PacketFault::Length
+    };
+    let found = is_within(alloc, case.version, &[payload])?;
+    let (read, _) = shaped_fault(alloc, case.byte, &[payload])?;
+    Ok(found == within && read == Some(fault))
+}
+
+/// The longest payload is 1,024 bytes in version 1 and 4,096 in version 2.
 #[test]
 fn longest_payload(rt: HostRuntime) -> Result<(), Fail> {
-    let alloc = rt.alloc();
-    for (len, within, told) in [
-        (1_024, true, PacketFault::Tag),
-        (1_025, false, PacketFault::Length),
-    ] {
-        let found = is_within(alloc, &[len])?;
-        assert!(rt; found == within);
-        let (fault, _) = shaped_fault(alloc, &[len])?;
-        assert!(rt; fault == Some(told));
+    for case in LONGEST {
+        let longest = has_limit(rt.alloc(), case, case.payload, true)?;
+        assert!(rt; longest);
+        let longer = has_limit(rt.alloc(), case, case.payload.saturating_add(1), false)?;
+        assert!(rt; longer);
     }
     Ok(())
 }
 
-/// Whether the longest packet has 8,192 bytes, and is read.
-fn longest_is_read(alloc: Global) -> Result<bool, Fail> {
-    let packet = packet(alloc, &LONGEST)?;
-    let text = written(alloc, &packet)?.ok_or("within limits")?;
-    Ok(text.len() == 8_192 && fault_of(&text).is_none())
+/// Whether the last node may be named, and the one beyond it, where there is one, not.
+fn has_last_node(alloc: Global, case: &Longest) -> Result<bool, OutOfMemory> {
+    let mut packet = packet(alloc, case.version, &[1])?;
+    packet.from = node(case.node);
+    let last = packet.is_within_limits();
+    packet.from = node(case.beyond);
+    Ok(last && packet.is_within_limits() == (case.beyond == 0))
 }
 
-/// The longest packet is 8,192 bytes, when it is written and when it is read.
+#[test]
+fn last_node(rt: HostRuntime) -> Result<(), Fail> {
+    for case in LONGEST {
+        let held = has_last_node(rt.alloc(), case)?;
+        assert!(rt; held);
+    }
+    Ok(())
+}
+
+/// Whether the longest packet of the version has its length, and is read.
+fn longest_is_read(alloc: Global, case: &Longest) -> Result<bool, Fail> {
+    let packet = packet(alloc, case.version, &case.payloads)?;
+    let text = written(alloc, &packet)?.ok_or("within limits")?;
+    Ok(text.len() == case.packet && fault_of(&text).is_none() && room(case.version) == case.room)
+}
+
+/// Whether a packet of a byte more is too long, when it is written and when it is read.
+fn longer_is_refused(alloc: Global, case: &Longest) -> Result<bool, Fail> {
+    let mut payloads = case.payloads;
+    payloads[7] = payloads[7].saturating_add(1);
+    let within = is_within(alloc, case.version, &payloads)?;
+    let (fault, len) = shaped_fault(alloc, case.byte, &payloads)?;
+    let longer = len == case.packet.saturating_add(1);
+    Ok(!within && longer && fault == Some(PacketFault::TooLong))
+}
+
+/// The longest packet is 8,192 bytes in version 1 and 16,384 in version 2.
 #[test]
 fn longest_packet(rt: HostRuntime) -> Result<(), Fail> {
-    let alloc = rt.alloc();
-    let read = longest_is_read(alloc)?;
-    assert!(rt; read);
-    let mut payloads = LONGEST;
-    payloads[7] = 914;
-    let within = is_within(alloc, &payloads)?;
-    assert!(rt; !within);
-    let (fault, len) = shaped_fault(alloc, &payloads)?;
-    assert!(rt; len == 8_193);
-    assert!(rt; fault == Some(PacketFault::TooLong));
+    for case in LONGEST {
+        let read = longest_is_read(rt.alloc(), case)?;
+        assert!(rt; read);
+        let refused = longer_is_refused(rt.alloc(), case)?;
+        assert!(rt; refused);
+    }
     Ok(())
 }

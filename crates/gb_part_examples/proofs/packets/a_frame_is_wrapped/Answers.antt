@@ -1,6 +1,5 @@
 use Rattle.std.proofs.Common.{◌≡◌, ◌≤◌, [], ◌∷◌, length, refl, sym, arith, ◌∙◌}
 use Rattle.std.proofs.lemmas.List.Elements.{All-nil, All-cons}
-use Rattle.gb_types.specs.declared.limits.TheConstants.{PAYLOAD}
 use Rattle.gb_frame.specs.declared.item.Item.{Item}
 use Rattle.gb_frame.specs.Spelling.{items_text, IsItem}
 use Rattle.gb_part_examples.proofs.packets.a_frame_is_wrapped.Goals as goal
@@ -14,11 +13,13 @@ wrap-requires-clause-packet g c =
       record { parts = c.deref-2.ensures.value ∙ written; fit = fit },
       sym (c.count_items-count.ensures (item ∷ []) (record { parts = c.deref.ensures.value ∙ written; fit = fit })),
       record {
+        from = omega arith;
+        to = omega arith;
         apart = λ e. absurd (omega (arith, e));
         base = omega arith;
         mask = refl;
         frame = (λ e. absurd (omega (arith, e)), λ e. absurd (omega (arith, e)));
-        payloads = All-cons (λ (i : Item). length i.payload ≤ PAYLOAD) item [] (omega arith) (All-nil (λ (i : Item). length i.payload ≤ PAYLOAD));
+        payloads = All-cons (λ (i : Item). length i.payload ≤ 1024) item [] (omega arith) (All-nil (λ (i : Item). length i.payload ≤ 1024));
         room = omega arith;
       },
     )
