@@ -1,6 +1,6 @@
 // The event of a step at a node.
-use crate::steps::{FIRST, SECOND, Step, THIRD, node};
-use crate::texts::packet;
+use crate::steps::{FIRST, LAST, SECOND, Step, THIRD, node};
+use crate::texts::{long_packet, packet};
 use gb_cap::hmac::Key;
 use gb_cap::token::{Need, Token, token};
 use gb_node::event::NodeEvent;
@@ -24,9 +24,9 @@ fn add(tenant: u16) -> Request {
         tenant,
         key: TENANT_KEY,
         groups: 2,
-        msgs: 4,
-        bytes: 64,
-        window: 4,
+        msgs: 8,
+        bytes: 65_536,
+        window: 8,
     };
     Request::AddTenant(token(&ADMIN_KEY, Need::Admin), row)
 }
@@ -41,19 +41,24 @@ fn member(addr: Addr, me: u8) -> Token {
     token(&TENANT_KEY, Need::Member(addr.tenant, addr.group, node(me)))
 }
 
-/// What a group of the three nodes is made with.
-fn spec(kind: Kind) -> Spec {
+/// What a group of the first two nodes and a third is made with.
+fn spec(kind: Kind, third: u8) -> Spec {
     let mut members = NodeSet::new();
     members.insert(node(FIRST));
     members.insert(node(SECOND));
-    members.insert(node(THIRD));
+    members.insert(node(third));
     Spec {
         kind,
         members,
-        msgs: 4,
-        bytes: 64,
-        window: 4,
+        msgs: 8,
+        bytes: 65_536,
+        window: 8,
     }
+}
+
+/// Makes a group of the first two nodes and a third.
+fn make(addr: Addr, kind: Kind, third: u8) -> NodeEvent {
+    NodeEvent::Request(Request::Make(owner(addr), addr, spec(kind, third)))
 }
 
 /// Says something in a group at a node.
@@ -81,9 +86,8 @@ pub fn event(
 ) -> Result<NodeEvent, OutOfMemory> {
     Ok(match step {
         Step::Tenant(tenant) => NodeEvent::Request(add(*tenant)),
-        Step::Make(addr, kind) => {
-            NodeEvent::Request(Request::Make(owner(*addr), *addr, spec(*kind)))
-        }
+        Step::Make(addr, kind) => make(*addr, *kind, THIRD),
+        Step::MakeFar(addr, kind) => make(*addr, *kind, LAST),
         Step::Open(addr) => NodeEvent::Request(Request::OpenGroup(owner(*addr), *addr)),
         Step::Say(addr, bytes) => say(alloc, me, *addr, bytes)?,
         Step::Fetch(addr) => NodeEvent::Request(Request::Fetch(member(*addr, me), *addr, 0, 16)),
@@ -92,6 +96,7 @@ pub fn event(
         Step::Ack(to) => NodeEvent::Ack(node(*to)),
         Step::Arrive(number) => arrive(alloc, sent, *number)?,
         Step::Packet(numbers, items) => NodeEvent::Packet(packet(alloc, numbers, items)?),
+        Step::LongPacket(last) => NodeEvent::Packet(long_packet(alloc, *last)?),
         Step::Tick => NodeEvent::Tick,
         Step::Stop => NodeEvent::Stop,
     })

@@ -11,6 +11,7 @@ use gb_types::node::{NodeId, NodeSet};
 use gb_types::refusal::Refusal;
 use gb_types::reply::Reply;
 use gb_types::spec::Spec;
+use gb_types::version::Version;
 use std::alloc::Global;
 use std::process::Abort;
 use std::rt::HostRuntime;
@@ -22,6 +23,9 @@ const FRIEND: NodeId = NodeId { number: 1 };
 
 const ROOM: u16 = 8_153;
 
+/// A payload that a node of version 1 lets fall.
+const LONG: &[u8] = &[7; 1_025];
+
 #[derive(Clone, Copy)]
 enum Step {
     /// Makes and opens a best-effort group of two members at the first.
@@ -30,6 +34,8 @@ enum Step {
     Say,
     /// An item comes from the friend.
     Item,
+    /// An item of 1,025 bytes comes from the friend to a node of this version.
+    LongItem(Version),
     Done,
     Shut,
     Drop,
@@ -47,7 +53,7 @@ fn open(groups: &mut Groups, addr: Addr) -> Reply {
         kind: Kind::Beb,
         members,
         msgs: 8,
-        bytes: 1_024,
+        bytes: 65_536,
         window: 1_024,
     };
     if groups.find(addr).is_some() {
@@ -63,25 +69,29 @@ fn open(groups: &mut Groups, addr: Addr) -> Reply {
     groups.open_group(addr)
 }
 
+/// The friend's first message in a group comes from it to a node of this version.
+fn item(groups: &mut Groups, version: Version, group: u16, payload: &[u8]) -> Reply {
+    let item = ItemView {
+        tenant: 7,
+        group,
+        origin: 1,
+        seq: 1,
+        payload,
+    };
+    groups.item(version, FRIEND, item);
+    Reply::Done
+}
+
 fn take(groups: &mut Groups, step: Step, group: u16) -> Reply {
     let addr = Addr { tenant: 7, group };
     match step {
         Step::Open => open(groups, addr),
         Step::Say => {
             let place = groups.find(addr);
-            groups.say(addr, place, b"a")
+            groups.say(Version::One, addr, place, b"a")
         }
-        Step::Item => {
-            let item = ItemView {
-                tenant: 7,
-                group,
-                origin: 1,
-                seq: 1,
-                payload: b"x",
-            };
-            groups.item(FRIEND, item);
-            Reply::Done
-        }
+        Step::Item => item(groups, Version::One, group, b"x"),
+        Step::LongItem(version) => item(groups, version, group, LONG),
         Step::Done => {
             groups.done(FRIEND, addr, MsgId { origin: ME, seq: 1 });
             Reply::Done
@@ -118,7 +128,7 @@ fn packs(
     }
     let mut texts = out.as_slice();
     for (group, seq) in want {
-        let Some((item, rest)) = first_item(texts) else {
+        let Some((item, rest)) = first_item(1_024, texts) else {
             return Ok(false);
         };
         if item.tenant != 7 || item.origin != 0 || item.group != *group || item.seq != *seq {
@@ -222,6 +232,21 @@ static ONE_IS_DROPPED: [(Step, u16, Told); 13] = [
 #[test]
 fn a_dropped_group_keeps_its_place_and_shows_nothing(rt: HostRuntime) -> Result<(), Fail> {
     run(&rt, rt.alloc(), &ONE_IS_DROPPED, false, &NOTHING)?;
+    Ok(())
+}
+
+static ONE_IS_TOO_LONG: [(Step, u16, Told); 6] = [
+    (Step::Open, 1, Told::Done),
+    (Step::LongItem(Version::One), 1, Told::Done),
+    (Step::Fetch, 1, Told::Log(0)),
+    (Step::LongItem(Version::Two), 1, Told::Done),
+    (Step::LongItem(Version::Two), 9, Told::Done),
+    (Step::Fetch, 1, Told::Log(1)),
+];
+
+#[test]
+fn an_item_above_the_payload_limit_is_let_fall(rt: HostRuntime) -> Result<(), Fail> {
+    run(&rt, rt.alloc(), &ONE_IS_TOO_LONG, false, &NOTHING)?;
     Ok(())
 }
 

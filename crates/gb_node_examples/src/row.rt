@@ -36,15 +36,15 @@ const CRASHED: &[Line] = &[
         Told::Came(FIRST, Frame::First, 1, 0),
     ),
     (FIRST, Step::Stop, Told::Stopped),
-    (SECOND, Step::Tick, Told::Noticed(false)),
-    (SECOND, Step::Tick, Told::Noticed(false)),
+    (SECOND, Step::Tick, Told::Noticed(FIRST, false)),
+    (SECOND, Step::Tick, Told::Noticed(FIRST, false)),
     (THIRD, Step::Ack(SECOND), Told::Sent(39)),
     (
         SECOND,
         Step::Arrive(2),
         Told::Came(THIRD, Frame::Nothing, 0, 0),
     ),
-    (SECOND, Step::Tick, Told::Noticed(true)),
+    (SECOND, Step::Tick, Told::Noticed(FIRST, true)),
     (SECOND, Step::Pack(THIRD), Told::Sent(49)),
     (
         THIRD,

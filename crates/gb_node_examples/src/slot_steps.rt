@@ -6,6 +6,7 @@ use gb_slot::slot::Slot;
 use gb_types::message::MsgId;
 use gb_types::node::NodeId;
 use gb_types::refusal::Refusal;
+use gb_types::version::Version;
 use std::process::Abort;
 
 pub const ME: u8 = 1;
@@ -16,9 +17,9 @@ pub const OTHER: u8 = 3;
 
 pub const STRANGER: u8 = 4;
 
-/// The node with this number, below 16.
+/// The node with this number, below 32.
 pub fn node(number: u8) -> NodeId {
-    NodeId::new(number % 16)
+    NodeId::new(number % 32)
 }
 
 /// The origin, number and payload of a message.
@@ -101,15 +102,15 @@ fn is_acknowledged(slot: &Slot, place: usize, want: [bool; 4]) -> bool {
     }
 }
 
-/// Makes the call, and says whether it answers what it must.
-fn holds(slot: &mut Slot, effects: &mut Effects, step: Step) -> bool
+/// Makes the call at a node of this version, and says whether it answers what it must.
+fn holds(version: Version, slot: &mut Slot, effects: &mut Effects, step: Step) -> bool
     requires { AreReady slot.old.spec effects.old }
     ensures { AreReady slot.new.spec effects.new }
 {
     match step {
         Step::Open(want) => slot.open_group().err() == want,
         Step::Shut(want) => slot.shut_group().err() == want,
-        Step::Say(payload, want) => slot.say(payload, effects) == want,
+        Step::Say(payload, want) => slot.say(version, payload, effects) == want,
         Step::Came(from, (origin, seq, payload)) => {
             slot.came(node(from), node(origin), seq, payload, effects);
             true
@@ -146,13 +147,19 @@ fn holds(slot: &mut Slot, effects: &mut Effects, step: Step) -> bool
     }
 }
 
-/// Each call answers what it must.
-pub fn compare(rt: &impl Abort, slot: &mut Slot, effects: &mut Effects, steps: &[Step])
+/// Each call answers what it must at a node of this version.
+pub fn compare(
+    rt: &impl Abort,
+    version: Version,
+    slot: &mut Slot,
+    effects: &mut Effects,
+    steps: &[Step],
+)
     requires { AreReady slot.old.spec effects.old }
     ensures { AreReady slot.new.spec effects.new }
 {
     for step in steps {
-        let held = holds(slot, effects, *step);
+        let held = holds(version, slot, effects, *step);
         assert!(rt; held);
     }
 }

@@ -9,6 +9,7 @@ use gb_types::kind::Kind;
 use gb_types::node::NodeSet;
 use gb_types::refusal::Refusal;
 use gb_types::spec::Spec;
+use gb_types::version::Version;
 use std::alloc::Global;
 use std::process::Abort;
 use std::rt::HostRuntime;
@@ -17,6 +18,10 @@ use std::test::Fail;
 const TOO_LONG: &[u8] = &[7; 1_025];
 
 const LONGEST: &[u8] = &[7; 1_024];
+
+const TOO_LONG_FOR_TWO: &[u8] = &[7; 4_097];
+
+const LONGEST_OF_TWO: &[u8] = &[7; 4_096];
 
 /// Each member says so many messages of so many bytes in all, so many of them unfinished at once.
 #[derive(Clone, Copy)]
@@ -92,7 +97,7 @@ fn run(
 ) -> Result<(), Fail> {
     let mut effects = Effects::new(alloc);
     let mut slot = group(alloc, kind, limits, false, &mut effects)?;
-    compare(rt, &mut slot, &mut effects, steps);
+    compare(rt, Version::One, &mut slot, &mut effects, steps);
     Ok(())
 }
 
@@ -196,6 +201,7 @@ fn nothing_waits_for_a_node_that_was_noticed(rt: HostRuntime) -> Result<(), Fail
     let mut slot = group(rt.alloc(), Kind::Beb, WIDE, true, &mut effects)?;
     compare(
         &rt,
+        Version::One,
         &mut slot,
         &mut effects,
         NOTHING_WAITS_FOR_A_NODE_THAT_WAS_NOTICED,
@@ -237,6 +243,30 @@ fn refusals_come_in_their_order(rt: HostRuntime) -> Result<(), Fail> {
         Limits { msgs: 2, ..WIDE },
         REFUSALS_COME_IN_THEIR_ORDER,
     )
+}
+
+const PAYLOADS_OF_VERSION_TWO: &[Step] = &[
+    Step::Open(None),
+    Step::Say(TOO_LONG_FOR_TWO, Err(Refusal::TooLong)),
+    Step::Say(LONGEST_OF_TWO, Ok(1)),
+    Step::Say(TOO_LONG, Ok(2)),
+    Step::Waits(FRIEND, 2, (ME, 1, LONGEST_OF_TWO)),
+    Step::Log(&[(ME, 1, LONGEST_OF_TWO), (ME, 2, TOO_LONG)]),
+    Step::Say(TOO_LONG_FOR_TWO, Err(Refusal::TooLong)),
+];
+
+#[test]
+fn longer_payloads_are_said_at_a_node_of_version_two(rt: HostRuntime) -> Result<(), Fail> {
+    let mut effects = Effects::new(rt.alloc());
+    let mut slot = group(rt.alloc(), Kind::Beb, WIDE, false, &mut effects)?;
+    compare(
+        &rt,
+        Version::Two,
+        &mut slot,
+        &mut effects,
+        PAYLOADS_OF_VERSION_TWO,
+    );
+    Ok(())
 }
 
 const ITEMS_ARE_LET_FALL: &[Step] = &[
@@ -338,12 +368,14 @@ fn best_effort_takes_relayed_copies_in(rt: HostRuntime) -> Result<(), Fail> {
     let mut slot = group(rt.alloc(), Kind::Beb, WIDE, false, &mut effects)?;
     compare(
         &rt,
+        Version::One,
         &mut slot,
         &mut effects,
         BEST_EFFORT_TAKES_RELAYED_COPIES_IN,
     );
     compare(
         &rt,
+        Version::One,
         &mut slot,
         &mut effects,
         BEST_EFFORT_TAKES_RELAYED_COPIES_IN_2,
@@ -402,18 +434,21 @@ fn all_ack_groups_wait_for_each_member(rt: HostRuntime) -> Result<(), Fail> {
     let mut slot = group(rt.alloc(), Kind::AllAck, WIDE, false, &mut effects)?;
     compare(
         &rt,
+        Version::One,
         &mut slot,
         &mut effects,
         ALL_ACK_GROUPS_WAIT_FOR_EACH_MEMBER,
     );
     compare(
         &rt,
+        Version::One,
         &mut slot,
         &mut effects,
         ALL_ACK_GROUPS_WAIT_FOR_EACH_MEMBER_2,
     );
     compare(
         &rt,
+        Version::One,
         &mut slot,
         &mut effects,
         ALL_ACK_GROUPS_WAIT_FOR_EACH_MEMBER_3,

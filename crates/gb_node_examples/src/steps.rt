@@ -1,8 +1,10 @@
 // Three nodes, and steps at them with what they must tell. Tables name nodes by their numbers.
-ghost use Rattle.std.specs.Prelude.{◌<◌};
+ghost use Rattle.std.specs.Prelude.{◌<◌, ◌≤◌};
+ghost use Rattle.gb_types.specs.Version.{limits_of};
 
 use crate::events::{ADMIN_KEY, event};
 use crate::texts::CLUSTER_KEY;
+use gb_frame::fault::PacketFault;
 use gb_node::answer::{Frame, Good, Halted, NodeAnswer, PacketAnswer, Sent, Ticked};
 use gb_node::node::Node;
 use gb_node::packet_text::PacketText;
@@ -13,6 +15,7 @@ use gb_types::memory::OutOfMemory;
 use gb_types::node::NodeId;
 use gb_types::refusal::Refusal;
 use gb_types::reply::Reply;
+use gb_types::version::Version;
 use std::alloc::Global;
 use std::process::Abort;
 
@@ -22,9 +25,12 @@ pub const SECOND: u8 = 1;
 
 pub const THIRD: u8 = 2;
 
-/// The node with this number, below 16.
+/// The last node of a cluster of 32.
+pub const LAST: u8 = 31;
+
+/// The node with this number, below 32.
 pub fn node(number: u8) -> NodeId {
-    NodeId::new(number % 16)
+    NodeId::new(number % 32)
 }
 
 /// The group of most tests.
@@ -39,6 +45,8 @@ pub enum Step {
     Tenant(u16),
     /// A group of the three nodes is made.
     Make(Addr, Kind),
+    /// A group of the first two nodes and the last of 32 is made.
+    MakeFar(Addr, Kind),
     Open(Addr),
     Say(Addr, &'static [u8]),
     Fetch(Addr),
@@ -51,6 +59,9 @@ pub enum Step {
     /// A packet of the first node to the second comes that no node sent, with this base, mask and frame, and these items
     /// behind their count.
     Packet([u64; 3], &'static [u8]),
+    /// A packet of version 2 of the first node to the second that no node sent, frame 1, with three items of 4,096 bytes and
+    /// one of so many.
+    LongPacket(u16),
     Tick,
     Stop,
 }
@@ -63,28 +74,33 @@ pub enum Told {
     Log(usize),
     /// A request is refused.
     Refused(Refusal),
-    /// A packet of so many bytes is sent.
+    /// A packet of version 1 of so many bytes is sent.
     Sent(usize),
+    /// The same of version 2.
+    SentTwo(usize),
     Nothing,
     /// A packet is not sent, for this reason.
     NotSent(Refusal),
     /// A good packet of a node, what became of its frame, how many items came, and how many frames it newly acknowledges.
     Came(u8, Frame, u32, u32),
-    /// Whether the first node is noticed now.
-    Noticed(bool),
+    Fault(PacketFault),
+    /// Whether a node is noticed now.
+    Noticed(u8, bool),
     Stopped,
 }
 
 /// The number of a node, a step there, and what it must tell.
 pub type Line = (u8, Step, Told);
 
-/// A node of a cluster of three, at which nothing has happened.
-fn start(alloc: Global, number: u8) -> Node
-    requires { number < 3 }
+/// A node of so many which sends this version, at which nothing has happened.
+fn start(alloc: Global, number: u8, nodes: u8, version: Version) -> Node
+    requires member { number < nodes }
+    requires cluster { nodes ≤ (limits_of version).nodes }
 {
     let plan = NodePlan {
         me: NodeId::new(number),
-        nodes: 3,
+        nodes,
+        version,
         silence: 3,
         places: 8,
         cluster_key: CLUSTER_KEY,
@@ -94,13 +110,36 @@ fn start(alloc: Global, number: u8) -> Node
     Node::start(alloc, &plan)
 }
 
-/// The three nodes, at which nothing has happened.
+/// The three nodes of a cluster of version 1, at which nothing has happened.
 pub fn three(alloc: Global) -> Result<Vec<Node>, OutOfMemory> {
     let mut nodes = Vec::new(alloc);
     for number in 0..3u8 {
-        nodes.push(start(alloc, number))?;
+        nodes.push(start(alloc, number, 3, Version::One))?;
     }
     Ok(nodes)
+}
+
+/// The same, where the first node is of version 2.
+pub fn unlike(alloc: Global) -> Result<Vec<Node>, OutOfMemory> {
+    let mut nodes = three(alloc)?;
+    if let Some(first) = nodes.first_mut() {
+        *first = start(alloc, FIRST, 3, Version::Two);
+    }
+    Ok(nodes)
+}
+
+/// The first two nodes and the last one of a cluster of 32, at which nothing has happened.
+pub fn far(alloc: Global) -> Result<Vec<Node>, OutOfMemory> {
+    let mut nodes = Vec::new(alloc);
+    for number in [FIRST, SECOND, LAST] {
+        nodes.push(start(alloc, number, 32, Version::Two))?;
+    }
+    Ok(nodes)
+}
+
+/// Where a node stands among the three: the last of 32 stands where the last of three does.
+fn place(number: u8) -> usize {
+    usize::from(number).min(2)
 }
 
 /// Whether a reply is what must be told.
@@ -114,10 +153,17 @@ fn is_reply(reply: &Reply, wanted: &Told) -> bool {
     }
 }
 
+/// Whether a packet is of the version with this byte and has so many bytes.
+fn is_packet(packet: &PacketText, byte: u8, len: usize) -> bool {
+    let bytes = packet.as_slice();
+    bytes.len() == len && bytes.get(2) == Some(&byte)
+}
+
 /// Whether what was sent is what must be told.
 fn is_sent(sent: &Sent, wanted: &Told) -> bool {
     match (sent, wanted) {
-        (Sent::Packet(packet), Told::Sent(wanted)) => packet.as_slice().len() == *wanted,
+        (Sent::Packet(packet), Told::Sent(wanted)) => is_packet(packet, 1, *wanted),
+        (Sent::Packet(packet), Told::SentTwo(wanted)) => is_packet(packet, 2, *wanted),
         (Sent::Nothing, Told::Nothing) => true,
         (Sent::Refused(why), Told::NotSent(wanted)) => *why == *wanted,
         _ => false,
@@ -126,16 +172,19 @@ fn is_sent(sent: &Sent, wanted: &Told) -> bool {
 
 /// Whether what became of a packet is what must be told.
 fn is_taken(taken: &PacketAnswer, wanted: &Told) -> bool {
-    let Told::Came(from, frame, items, done) = wanted else {
-        return false;
-    };
-    let good = Good {
-        from: node(*from),
-        frame: *frame,
-        items: *items,
-        done: *done,
-    };
-    *taken == PacketAnswer::Good(good)
+    match wanted {
+        Told::Came(from, frame, items, done) => {
+            let good = Good {
+                from: node(*from),
+                frame: *frame,
+                items: *items,
+                done: *done,
+            };
+            *taken == PacketAnswer::Good(good)
+        }
+        Told::Fault(fault) => *taken == PacketAnswer::Fault(*fault),
+        _ => false,
+    }
 }
 
 /// Whether an answer is what must be told.
@@ -144,8 +193,8 @@ fn is_told(answer: &NodeAnswer, wanted: &Told) -> bool {
         (NodeAnswer::Reply(reply), _) => is_reply(reply, wanted),
         (NodeAnswer::Sent(sent), _) => is_sent(sent, wanted),
         (NodeAnswer::Taken(taken), _) => is_taken(taken, wanted),
-        (NodeAnswer::Ticked(Ticked::Noticed(found)), Told::Noticed(wanted)) => {
-            found.contains(node(FIRST)) == *wanted
+        (NodeAnswer::Ticked(Ticked::Noticed(found)), Told::Noticed(who, wanted)) => {
+            found.contains(node(*who)) == *wanted
         }
         (NodeAnswer::Halted(Halted::Done), Told::Stopped) => true,
         _ => false,
@@ -170,7 +219,7 @@ pub fn holds(
 ) -> Result<bool, OutOfMemory> {
     let (me, step, wanted) = line;
     let event = event(alloc, sent, *me, step)?;
-    match nodes.get_mut(usize::from(*me)) {
+    match nodes.get_mut(place(*me)) {
         Some(node) => {
             let answer = node.take(&event);
             keep(alloc, sent, &answer)?;
@@ -195,9 +244,19 @@ pub fn compare(
     Ok(())
 }
 
+/// Each step tells what it must, at nodes that have sent nothing yet.
+pub fn run_at(
+    rt: &impl Abort,
+    alloc: Global,
+    nodes: &mut [Node],
+    lines: &[Line],
+) -> Result<(), OutOfMemory> {
+    let mut sent = Vec::new(alloc);
+    compare(rt, alloc, nodes, &mut sent, lines)
+}
+
 /// Each step tells what it must, from three nodes on at which nothing has happened.
 pub fn run(rt: &impl Abort, alloc: Global, lines: &[Line]) -> Result<(), OutOfMemory> {
     let mut nodes = three(alloc)?;
-    let mut sent = Vec::new(alloc);
-    compare(rt, alloc, &mut nodes, &mut sent, lines)
+    run_at(rt, alloc, &mut nodes, lines)
 }

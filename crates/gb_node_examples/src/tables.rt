@@ -11,6 +11,7 @@ use gb_types::payload::Payload;
 use gb_types::refusal::Refusal;
 use gb_types::request::Request;
 use gb_types::spec::{Spec, TenantRow};
+use gb_types::version::Version;
 use std::alloc::Global;
 use std::process::Abort;
 use std::rt::HostRuntime;
@@ -94,7 +95,7 @@ fn request(alloc: Global, ask: Ask, token: Token) -> Result<Request, OutOfMemory
         Ask::Shut(group) => Request::ShutGroup(token, addr(group)),
         Ask::Drop(group) => Request::DropGroup(token, addr(group)),
         Ask::Say(group, zeros) => {
-            let payload = Payload::from_slice(alloc, [0; 1_025].get(..zeros).unwrap_or(&[]))?;
+            let payload = Payload::from_slice(alloc, [0; 4_097].get(..zeros).unwrap_or(&[]))?;
             Request::Say(token, addr(group), payload)
         }
         Ask::Fetch(group, from) => Request::Fetch(token, addr(group), from, 16),
@@ -124,10 +125,20 @@ fn compare_each(
     Ok(())
 }
 
-/// A table with four places answers so, where the tenant 7 may make two groups.
-fn compare(rt: &impl Abort, alloc: Global, steps: &[(Ask, Holder, Told)]) -> Result<(), Fail> {
-    let mut table = Table::new(alloc, ME, 3, 4, &ADMIN_KEY);
+/// A table of a node of this version with four places answers so, where the tenant 7 may make two groups.
+fn compare_at(
+    rt: &impl Abort,
+    alloc: Global,
+    version: Version,
+    steps: &[(Ask, Holder, Told)],
+) -> Result<(), Fail> {
+    let mut table = Table::new(alloc, ME, 3, version, 4, &ADMIN_KEY);
     compare_each(rt, alloc, &mut table, steps)
+}
+
+/// The same at a node of version 1.
+fn compare(rt: &impl Abort, alloc: Global, steps: &[(Ask, Holder, Told)]) -> Result<(), Fail> {
+    compare_at(rt, alloc, Version::One, steps)
 }
 
 #[test]
@@ -271,6 +282,30 @@ fn says_are_refused_in_order(rt: HostRuntime) -> Result<(), Fail> {
                 Ask::Say(1, 1),
                 Holder::Member(1),
                 Told::Refused(Refusal::Window),
+            ),
+        ],
+    )
+}
+
+#[test]
+fn says_are_refused_in_order_in_version_two(rt: HostRuntime) -> Result<(), Fail> {
+    compare_at(
+        &rt,
+        rt.alloc(),
+        Version::Two,
+        &[
+            (Ask::Make(0, ME, 1), Holder::Owner, Told::Done),
+            (Ask::Open(0), Holder::Owner, Told::Done),
+            (
+                Ask::Say(0, 4_097),
+                Holder::Member(0),
+                Told::Refused(Refusal::TooLong),
+            ),
+            // No longer too long, and more bytes than may be said.
+            (
+                Ask::Say(0, 4_096),
+                Holder::Member(0),
+                Told::Refused(Refusal::Bytes),
             ),
         ],
     )

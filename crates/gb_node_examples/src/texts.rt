@@ -36,6 +36,28 @@ pub fn packet(alloc: Global, numbers: &[u64], items: &[u8]) -> Result<PacketText
     Ok(PacketText::from(text))
 }
 
+/// Appends an item with a payload of so many bytes.
+fn put_item(text: &mut Vec<u8>, seq: u8, len: u16) -> Result<(), OutOfMemory> {
+    text.extend_from_slice(&[0, 7, 0, 1, 0, 0, seq])?;
+    text.extend_from_slice(&len.to_be_bytes())?;
+    for _ in 0..len {
+        text.push(b'a')?;
+    }
+    Ok(())
+}
+
+/// A packet of version 2 of the first node to the second, frame 1, with three items of 4,096 bytes and one of so many.
+pub fn long_packet(alloc: Global, last: u16) -> Result<PacketText, OutOfMemory> {
+    let mut items = Vec::from_slice(alloc, b"\0\x04")?;
+    for seq in 1..4u8 {
+        put_item(&mut items, seq, 4_096)?;
+    }
+    put_item(&mut items, 4, last)?;
+    let mut text = Vec::from_slice(alloc, b"GB\x02\0\x01")?;
+    spell(&mut text, &[1, 0, 1], &items)?;
+    Ok(PacketText::from(text))
+}
+
 /// A packet of the first node to the second, frame 1 with one item, before its tag; then nine zeros.
 const TEXT: &[u8] =
     b"GB\x01\0\x01\0\0\0\0\0\0\0\x01\0\0\0\0\0\0\0\0\0\0\0\0\0\0\0\x01\0\x01\0\x07\0\x01\0\0\x01\0\x01a\0\0\0\0\0\0\0\0\0";
@@ -53,7 +75,8 @@ type Faulty = (usize, usize, u8, Tag, PacketFault);
 const FAULTY: &[Faulty] = &[
     // With eight zeros in place of the tag.
     (49, 0, 0, Tag::Nothing, PacketFault::Magic),
-    (49, 2, 2, Tag::Nothing, PacketFault::Version),
+    (49, 2, 2, Tag::Nothing, PacketFault::Tag),
+    (49, 2, 3, Tag::Nothing, PacketFault::Version),
     (49, 4, 0, Tag::Nothing, PacketFault::Node),
     (49, 20, 1, Tag::Nothing, PacketFault::Mask),
     (49, 12, 0, Tag::Nothing, PacketFault::Mask),
