@@ -2,7 +2,8 @@
 use gb_types::message::MsgId;
 use gb_types::node::NodeId;
 
-pub const ORIGIN: NodeId = NodeId { number: 0 };
+/// The last node that there may be.
+pub const ORIGIN: NodeId = NodeId { number: 31 };
 
 pub const ME: NodeId = NodeId { number: 1 };
 

@@ -18,11 +18,11 @@ const ORIGIN: u8 = 0;
 
 const ME: u8 = 1;
 
-const OTHER: u8 = 2;
+const OTHER: u8 = 31;
 
-/// The node with this number, below 16.
+/// The node with this number, below 32.
 fn node(number: u8) -> NodeId {
-    NodeId::new(number % 16)
+    NodeId::new(number % 32)
 }
 
 /// The message of this origin with this number.
