@@ -4,16 +4,19 @@ use crate::told::Told;
 use gb_cluster::event::Event;
 use gb_node::event::NodeEvent;
 use gb_types::kind::Kind;
+use gb_types::limits::NODES;
 use gb_types::memory::OutOfMemory;
 use gb_types::node::{NodeId, NodeSet};
 use gb_types::plan::Plan;
 use gb_types::spec::Spec;
+use gb_types::version::Version;
 use std::alloc::Global;
 
 const THIRD: NodeId = NodeId { number: 2 };
 
 pub const PLAN: Plan = Plan {
     nodes: 3,
+    versions: [Version::One; NODES],
     silence: 2,
     places: 8,
     cluster_key: [3; 32],

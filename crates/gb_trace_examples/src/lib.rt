@@ -1,5 +1,5 @@
-//! Worked runs of clusters as tests: three tenants whose messages share frames, and schedules in
-//! which a node stops after each event, seen in the run and alone. There is nothing here but tests.
+//! Worked runs of clusters as tests: three tenants whose messages share frames, nodes of unlike versions, and
+//! schedules in which a node stops after each event, seen in the run and alone. There is nothing here but tests.
 #![tactic(auto)]
 
 #[cfg(test)]
@@ -18,5 +18,7 @@ mod short;
 mod stops;
 #[cfg(test)]
 mod told;
+#[cfg(test)]
+mod unlike;
 #[cfg(test)]
 mod worked;

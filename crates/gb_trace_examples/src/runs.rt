@@ -2,6 +2,7 @@ use crate::crash;
 use crate::projected::projection;
 use crate::schedule::{PLAN, TENANTS, events, group_of, steps};
 use crate::short::{Got, is_seen};
+use crate::stops::is_plan;
 use crate::told::{are_same_steps, are_steps};
 use gb_cluster::event::Event;
 use gb_trace::observe;
@@ -52,7 +53,7 @@ fn is_alone(
 /// Whether each group is, and how many answers and packets there are.
 fn outcome(alloc: Global) -> Result<Option<(bool, usize, usize)>, OutOfMemory> {
     let events = events(alloc)?;
-    if !are_placed(2, &events) {
+    if !is_plan(&PLAN) || !are_placed(2, &events) {
         return Ok(None);
     }
     let trace = run(alloc, PLAN, &events)?;
@@ -88,7 +89,7 @@ fn is_told(
 /// Whether it is for each group, and how many answers and packets there are.
 fn crash_outcome(alloc: Global) -> Result<Option<(bool, usize, usize)>, OutOfMemory> {
     let events = crash::events(alloc)?;
-    if !are_placed(3, &events) {
+    if !is_plan(&crash::PLAN) || !are_placed(3, &events) {
         return Ok(None);
     }
     let trace = run(alloc, crash::PLAN, &events)?;

@@ -7,12 +7,14 @@ use gb_node::event::NodeEvent;
 use gb_rules::reserve::Reserve;
 use gb_types::address::Addr;
 use gb_types::kind::Kind;
+use gb_types::limits::NODES;
 use gb_types::memory::OutOfMemory;
 use gb_types::node::{NodeId, NodeSet};
 use gb_types::payload::Payload;
 use gb_types::plan::Plan;
 use gb_types::request::Request;
 use gb_types::spec::{Spec, TenantRow};
+use gb_types::version::Version;
 use std::alloc::Global;
 
 pub const FIRST: NodeId = NodeId { number: 0 };
@@ -23,6 +25,7 @@ pub const TENANTS: [u16; 3] = [7, 8, 9];
 
 pub const PLAN: Plan = Plan {
     nodes: 2,
+    versions: [Version::One; NODES],
     silence: 3,
     places: 8,
     cluster_key: [3; 32],
@@ -41,7 +44,7 @@ fn row(tenant: u16) -> TenantRow {
         key: TENANT_KEY,
         groups: 2,
         msgs: 4,
-        bytes: 64,
+        bytes: 4_096,
         window: 4,
     }
 }
@@ -52,12 +55,13 @@ pub fn spec_with(kind: Kind, members: NodeSet) -> Spec {
         kind,
         members,
         msgs: 4,
-        bytes: 64,
+        bytes: 4_096,
         window: 4,
     }
 }
 
-fn spec() -> Spec {
+/// A best-effort group of both nodes.
+pub fn spec() -> Spec {
     let mut members = NodeSet::new();
     members.insert(FIRST);
     members.insert(SECOND);
@@ -92,6 +96,20 @@ pub fn furnish(
     ask(events, node, Request::OpenGroup(owner(addr), addr))
 }
 
+/// A group says these bytes at a node.
+pub fn say_bytes(
+    alloc: Global,
+    events: &mut Vec<Event>,
+    node: NodeId,
+    tenant: u16,
+    bytes: &[u8],
+) -> Result<(), OutOfMemory> {
+    let addr = group_of(tenant);
+    let payload = Payload::from_slice(alloc, bytes)?;
+    let said = Request::Say(member(addr, node), addr, payload);
+    ask(events, node, said)
+}
+
 /// A group says the number of its tenant at a node.
 pub fn say(
     alloc: Global,
@@ -99,10 +117,7 @@ pub fn say(
     node: NodeId,
     tenant: u16,
 ) -> Result<(), OutOfMemory> {
-    let addr = group_of(tenant);
-    let payload = Payload::from_slice(alloc, &tenant.to_be_bytes())?;
-    let said = Request::Say(member(addr, node), addr, payload);
-    ask(events, node, said)
+    say_bytes(alloc, events, node, tenant, &tenant.to_be_bytes())
 }
 
 pub fn drop_group(events: &mut Vec<Event>, node: NodeId, tenant: u16) -> Result<(), OutOfMemory> {

@@ -23,7 +23,7 @@ fn short_of(reply: &Reply) -> Got {
 }
 
 /// Whether these are the replies.
-fn are_replies(replies: &[Reply], wanted: &[Got]) -> bool {
+pub fn are_replies(replies: &[Reply], wanted: &[Got]) -> bool {
     if replies.len() != wanted.len() {
         return false;
     }

@@ -1,12 +1,13 @@
 // A node stops after each event of worked schedules: each group is still seen as it is alone, and the stopped node refuses
 // whatever comes later.
-ghost use Rattle.std.specs.Prelude.{◌≡◌, ◌≤◌, IsTrue};
+ghost use Rattle.std.specs.Prelude.{◌≡◌, ℕ, ◌<◌, ◌≤◌, IsTrue};
 ghost use Rattle.gb_cluster.specs.ClusterValue.{IsClusterPlan};
 ghost use Rattle.gb_types.specs.declared.limits.TheConstants.{NODES as MOST};
+ghost use Rattle.gb_types.specs.Version.{limits_of, version_at};
 
 use crate::projected::projection;
 use crate::worked::{
-    ALL_ACK, BEST_EFFORT, EMPTY_PAYLOAD, FIFO, LAZY_RELAY, MAJORITY_ACK, UNLIKE_SPECS,
+    ALL_ACK, BEST_EFFORT, EMPTY_PAYLOAD, FIFO, LAST_NODE, LAZY_RELAY, MAJORITY_ACK, UNLIKE_SPECS,
 };
 use gb_cluster::answer::{Answer, Sending};
 use gb_cluster::event::Event;
@@ -14,7 +15,7 @@ use gb_cluster::posted::Posted;
 use gb_node::answer::{Halted, PacketAnswer, Ticked};
 use gb_node::event::NodeEvent;
 use gb_node::packet_text::PacketText;
-use gb_schedule::command::{Command, Step};
+use gb_schedule::command::{ClusterStart, Command, Step};
 use gb_schedule::grammar::read_command;
 use gb_schedule::keys::{ADMIN_KEY, CLUSTER_KEY, Keys};
 use gb_trace::run::{are_placed, run};
@@ -33,22 +34,38 @@ use std::rt::HostRuntime;
 use std::test::Fail;
 
 /// What the cluster of a schedule is started with.
-fn plan_of(nodes: u8, silence: u16) -> Plan {
+fn plan_of(start: &ClusterStart) -> Plan {
     Plan {
-        nodes,
-        silence,
+        nodes: start.nodes,
+        versions: start.versions,
+        silence: start.silence,
         places: 1_024,
         cluster_key: CLUSTER_KEY,
         admin_key: ADMIN_KEY,
     }
 }
 
+/// Whether the version that each node sends can name them all.
+fn is_named(plan: &Plan) -> bool
+    requires { plan.now.nodes ≤ MOST }
+    ensures { IsTrue result → (a : ℕ) → a < plan.now.nodes → plan.now.nodes ≤ (limits_of (version_at plan.now.versions a)).nodes }
+{
+    for number in 0..plan.nodes {
+        let version = plan.versions[usize::from(number)];
+        if plan.nodes > version.limits().nodes {
+            return false;
+        }
+    }
+    true
+}
+
 /// Whether a cluster may be started so.
-fn is_plan(plan: &Plan) -> bool
+pub fn is_plan(plan: &Plan) -> bool
     ensures { IsTrue result → IsClusterPlan plan.now }
 {
     1 <= plan.nodes
         && usize::from(plan.nodes) <= NODES
+        && is_named(plan)
         && plan.places <= PLACES
         && SILENCE_MIN <= plan.silence
         && plan.silence <= SILENCE_MAX
@@ -78,10 +95,7 @@ fn event_of(
     command: Command,
 ) -> Result<Option<Event>, OutOfMemory> {
     Ok(match command {
-        Command::Cluster {
-            nodes: _,
-            silence: _,
-        } => None,
+        Command::Cluster(_) => None,
         Command::Request(node, request) => Some(Event::At(node, NodeEvent::Request(request))),
         Command::Noise(node, bytes) => {
             let bytes = PacketText::from(bytes.into_vec(alloc)?);
@@ -93,10 +107,10 @@ fn event_of(
 
 /// The plan that the first line spells, if a cluster may be started so.
 fn read_plan(alloc: Global, keys: &mut Keys, line: &[u8]) -> Result<Option<Plan>, OutOfMemory> {
-    let Some(Command::Cluster { nodes, silence }) = read_command(alloc, keys, None, line)? else {
-        return Ok(None);
-    };
-    Ok(Some(plan_of(nodes, silence)))
+    match read_command(alloc, keys, None, line)? {
+        Some(Command::Cluster(start)) => Ok(Some(plan_of(&start))),
+        _ => Ok(None),
+    }
 }
 
 /// The event that a line spells, if it spells a command in its place that starts no cluster.
@@ -482,5 +496,13 @@ fn a_stop_after_each_event_of_acknowledgements_by_all(rt: HostRuntime) -> Result
 #[test]
 fn a_stop_after_each_event_of_acknowledgements_by_most(rt: HostRuntime) -> Result<(), Fail> {
     compare(&rt, rt.alloc(), &MAJORITY_ACK, 3, &[0, 1, 1, 0])?;
+    Ok(())
+}
+
+// A run of 32 nodes, without a stop beside its own.
+#[test]
+fn the_last_of_32_nodes_is_relayed_for(rt: HostRuntime) -> Result<(), Fail> {
+    let worked = is_worked(rt.alloc(), &LAST_NODE, 32, &[1, 1])?;
+    assert!(rt; worked);
     Ok(())
 }

@@ -156,3 +156,29 @@ pub const MAJORITY_ACK: [&[u8]; 19] = [
     b"fetch 0 7 1 0 16",
     b"fetch 2 7 1 0 16",
 ];
+
+/// The last of 32 nodes says something and stops; the one before it notices this and relays what it has to the first.
+pub const LAST_NODE: [&[u8]; 22] = [
+    b"cluster2 32 2 2,2,2,2,2,2,2,2,2,2,2,2,2,2,2,2,2,2,2,2,2,2,2,2,2,2,2,2,2,2,2,2",
+    b"tenant 0 7 4 8 4096 4",
+    b"make 0 7 1 lazy 0,30,31 8 4096 4",
+    b"open 0 7 1",
+    b"tenant 30 7 4 8 4096 4",
+    b"make 30 7 1 lazy 0,30,31 8 4096 4",
+    b"open 30 7 1",
+    b"tenant 31 7 4 8 4096 4",
+    b"make 31 7 1 lazy 0,30,31 8 4096 4",
+    b"open 31 7 1",
+    b"say 31 7 1 61",
+    b"pack 31 30",
+    b"stop 31",
+    b"arrive 1",
+    b"tick 30",
+    b"ack 0 30",
+    b"arrive 2",
+    b"tick 30",
+    b"pack 30 0",
+    b"arrive 3",
+    b"fetch 0 7 1 0 16",
+    b"fetch 30 7 1 0 16",
+];
