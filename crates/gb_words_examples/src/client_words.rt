@@ -106,6 +106,7 @@ const REQUESTS: &[(&str, &str)] = &[
     ("shut 7 1", "shut 7 1"),
     ("drop 7 1", "drop 7 1"),
     ("make 7 1 fbeb 0,1 8 4096 4", "make 7 1 fbeb 0,1 8 4096 4"),
+    ("make 7 1 fbeb 0,31 8 4096 4", "make 7 1 fbeb 0,31 8 4096 4"),
     ("say 7 1 6A", "say 7 1 6A"),
     ("say 7 1 -", "say 7 1 -"),
     ("say 7 1 ja --text", "say 7 1 6a61"),
@@ -114,6 +115,7 @@ const REQUESTS: &[(&str, &str)] = &[
     ("follow 7 1 --from 12 --times 3", "fetch 7 1 12 16"),
     ("say 7 1 ja", "!2"),
     ("make 7 1 fbeb 1,0 8 4096 4", "!2"),
+    ("make 7 1 fbeb 0,32 8 4096 4", "!2"),
     ("open 65536 1", "!2"),
     ("open 7", "!2"),
     ("open 7 1 2", "!2"),
@@ -207,6 +209,24 @@ fn keys_become_tokens(rt: HostRuntime) -> Result<(), Fail> {
     for text in BAD_SECRETS {
         let bad = is_bad(rt.alloc(), text)?;
         assert!(rt; bad);
+    }
+    Ok(())
+}
+
+// Whether a node with this number may be asked.
+fn is_asked(alloc: Global, number: &str) -> Result<bool, ClientFault> {
+    let given = secrets(alloc, GIVEN)?;
+    let words = [
+        "gb_ctl", "--port", "42000", "--node", number, "open", "7", "1",
+    ];
+    Ok(told(alloc, &given, &words).is_ok())
+}
+
+#[test]
+fn nodes_0_to_31_are_asked(rt: HostRuntime) -> Result<(), Fail> {
+    for (number, may_be) in [("0", true), ("16", true), ("31", true), ("32", false)] {
+        let asked = is_asked(rt.alloc(), number)?;
+        assert!(rt; asked == may_be);
     }
     Ok(())
 }

@@ -95,6 +95,39 @@ fn messages_have_their_length_in_front(rt: HostRuntime) -> Result<(), Fail> {
     let received = is_received(alloc, b"\x00\x00\x00\x02okay", b"ok")?;
     assert!(rt; received);
     assert!(rt; is_refused(alloc, b"\x00\x00\x00\x05okay"));
-    assert!(rt; is_refused(alloc, b"\x00\x01\x00\x01okay"));
+    assert!(rt; is_refused(alloc, b"\x00\x04\x00\x01okay"));
+    Ok(())
+}
+
+/// A message of so many bytes.
+fn long_message(alloc: Global, count: u32) -> Result<Vec<u8>, ClientFault> {
+    let mut bytes = Vec::from_slice(alloc, &count.to_be_bytes())?;
+    for _ in 0..count {
+        bytes.push(b'x')?;
+    }
+    Ok(bytes)
+}
+
+/// Whether a message of so many bytes is received whole.
+fn is_long_received(alloc: Global, count: u32) -> Result<bool, ClientFault> {
+    let bytes = long_message(alloc, count)?;
+    is_received(alloc, &bytes, bytes.get(4..).unwrap_or_default())
+}
+
+/// Whether a message of so many bytes is refused, though all of it is there.
+fn is_long_refused(alloc: Global, count: u32) -> Result<bool, ClientFault> {
+    let bytes = long_message(alloc, count)?;
+    Ok(is_refused(alloc, &bytes))
+}
+
+#[test]
+fn a_reply_is_as_long_as_it_may_be(rt: HostRuntime) -> Result<(), Fail> {
+    // A log of 16 entries with payloads of 4,096 bytes.
+    for count in [131_222, 262_144] {
+        let received = is_long_received(rt.alloc(), count)?;
+        assert!(rt; received);
+    }
+    let refused = is_long_refused(rt.alloc(), 262_145)?;
+    assert!(rt; refused);
     Ok(())
 }

@@ -24,7 +24,7 @@ const TENANT: &[u8] =
     b"tenant 0123456789abcdefABCDEF0123456789abcdefABCDEF0123456789abcdefABCD 7 0123456789ABCDEFabcdef0123456789ABCDEFabcdef0123456789ABCDEFabcd 4 8 4096 3";
 
 const MAKE: &[u8] =
-    b"make 0123456789abcdefABCDEF0123456789abcdefABCDEF0123456789abcdefABCD 65535 0 flazy 0,2,15 8 4294967295 3";
+    b"make 0123456789abcdefABCDEF0123456789abcdefABCDEF0123456789abcdefABCD 65535 0 flazy 0,2,31 8 4294967295 3";
 
 const OPEN: &[u8] = b"open 0123456789abcdefABCDEF0123456789abcdefABCDEF0123456789abcdefABCD 7 1";
 
@@ -124,9 +124,9 @@ fn is_row(row: &TenantRow) -> bool {
 
 /// Whether these are the address and the spec of the words.
 fn is_spec(address: Addr, spec: &Spec) -> bool {
-    for number in 0..16u8 {
+    for number in 0..32u8 {
         let is_member = spec.members.contains(NodeId::new(number));
-        if is_member != matches!(number, 0 | 2 | 15) {
+        if is_member != matches!(number, 0 | 2 | 31) {
             return false;
         }
     }
@@ -188,14 +188,14 @@ fn is_say(alloc: Global, body: &[u8], len: usize, said: usize) -> bool {
 
 /// Whether the longest body spells a say.
 fn longest_is_say(alloc: Global) -> Result<bool, OutOfMemory> {
-    let body = say(alloc, b"10", 4_022)?;
-    Ok(is_say(alloc, &body, 4_096, 2_011))
+    let body = say(alloc, b"10", 16_310)?;
+    Ok(is_say(alloc, &body, 16_384, 8_155))
 }
 
 /// Whether a body of one byte more is malformed.
 fn longer_is_malformed(alloc: Global) -> Result<bool, OutOfMemory> {
-    let body = say(alloc, b"7", 4_024)?;
-    Ok(body.len() == 4_097 && is_malformed(alloc, &body))
+    let body = say(alloc, b"7", 16_312)?;
+    Ok(body.len() == 16_385 && is_malformed(alloc, &body))
 }
 
 #[test]
@@ -216,6 +216,7 @@ const BODIES: &[&[u8]] = &[
     b"open 0123456789abcdefABCDEF0123456789abcdefABCDEF0123456789abcdefABCD 07 1",
     b"open 0123456789abcdefABCDEF0123456789abcdefABCDEF0123456789abcdefABCD 7 65536",
     b"open  0123456789abcdefABCDEF0123456789abcdefABCDEF0123456789abcdefABCD 7 1",
+    b"make 0123456789abcdefABCDEF0123456789abcdefABCDEF0123456789abcdefABCD 7 1 beb 0,32 8 64 4",
 ];
 
 #[test]

@@ -2,6 +2,7 @@
 use gb_serve_words::fault::WordFault;
 use gb_serve_words::plan::ServePlan;
 use gb_serve_words::words::{read_words, refusal_text};
+use gb_types::version::Version;
 use std::alloc::{AllocError, Global};
 
 // The words of a line.
@@ -15,11 +16,12 @@ fn read(alloc: Global, line: &str) -> Result<ServePlan, WordFault> {
     read_words(alloc, &words)
 }
 
-// Lines, and the numbers of nodes, the base port, the silence and the sessions that they are, and whether there are tapes.
-static PLANS: [(&str, u8, u16, u16, u16, bool); 7] = [
+// Lines, and the number of nodes, the version, the base port, the silence and the sessions that they are, and whether there are tapes.
+static PLANS: [(&str, u8, Version, u16, u16, u16, bool); 11] = [
     (
         "gb_serve --nodes 1 --base-port 1024",
         1,
+        Version::One,
         1_024,
         50,
         0,
@@ -28,6 +30,7 @@ static PLANS: [(&str, u8, u16, u16, u16, bool); 7] = [
     (
         "gb_serve --nodes 16 --base-port 65000",
         16,
+        Version::One,
         65_000,
         50,
         0,
@@ -36,6 +39,7 @@ static PLANS: [(&str, u8, u16, u16, u16, bool); 7] = [
     (
         "gb_serve --base-port=42000 --nodes=2",
         2,
+        Version::One,
         42_000,
         50,
         0,
@@ -44,6 +48,7 @@ static PLANS: [(&str, u8, u16, u16, u16, bool); 7] = [
     (
         "gb_serve --nodes 2 --base-port 42000 --silence 2 --sessions 1",
         2,
+        Version::One,
         42_000,
         2,
         1,
@@ -52,6 +57,7 @@ static PLANS: [(&str, u8, u16, u16, u16, bool); 7] = [
     (
         "gb_serve --nodes 2 --base-port 42000 --silence 1000 --sessions 1000",
         2,
+        Version::One,
         42_000,
         1_000,
         1_000,
@@ -60,6 +66,7 @@ static PLANS: [(&str, u8, u16, u16, u16, bool); 7] = [
     (
         "gb_serve --tape --nodes 2 --base-port 42000",
         2,
+        Version::One,
         42_000,
         50,
         0,
@@ -68,18 +75,56 @@ static PLANS: [(&str, u8, u16, u16, u16, bool); 7] = [
     (
         "gb_serve --nodes +3 --base-port 042000",
         3,
+        Version::One,
         42_000,
         50,
         0,
         false,
     ),
+    (
+        "gb_serve --nodes 16 --base-port 42000 --version 1",
+        16,
+        Version::One,
+        42_000,
+        50,
+        0,
+        false,
+    ),
+    (
+        "gb_serve --nodes 1 --base-port 42000 --version 2",
+        1,
+        Version::Two,
+        42_000,
+        50,
+        0,
+        false,
+    ),
+    (
+        "gb_serve --version=2 --nodes 17 --base-port 42000",
+        17,
+        Version::Two,
+        42_000,
+        50,
+        0,
+        false,
+    ),
+    (
+        "gb_serve --nodes 32 --version 2 --base-port 42000 --silence 3 --sessions 4 --tape",
+        32,
+        Version::Two,
+        42_000,
+        3,
+        4,
+        true,
+    ),
 ];
 
 #[test]
 fn words_are_plans(rt: HostRuntime) {
-    for (line, nodes, base_port, silence, sessions, tape) in &PLANS {
+    for (line, nodes, version, base_port, silence, sessions, tape) in &PLANS {
         let want = ServePlan {
             nodes: *nodes,
+            version: *version,
             base_port: *base_port,
             silence: *silence,
             sessions: *sessions,
@@ -91,12 +136,26 @@ fn words_are_plans(rt: HostRuntime) {
 }
 
 // Each number's first value outside its range, words that are too few, too many, unknown, or given twice.
-static REFUSED: [&str; 19] = [
+static REFUSED: [&str; 33] = [
     "gb_serve ",
     "gb_serve --nodes 2",
     "gb_serve --base-port 42000",
     "gb_serve --nodes 0 --base-port 42000",
     "gb_serve --nodes 17 --base-port 42000",
+    "gb_serve --nodes 17 --base-port 42000 --version 1",
+    "gb_serve --nodes 32 --base-port 42000",
+    "gb_serve --nodes 33 --base-port 42000",
+    "gb_serve --nodes 33 --base-port 42000 --version 2",
+    "gb_serve --nodes 2 --base-port 42000 --version 0",
+    "gb_serve --nodes 2 --base-port 42000 --version 3",
+    "gb_serve --nodes 2 --base-port 42000 --version 257",
+    "gb_serve --nodes 2 --base-port 42000 --version two",
+    "gb_serve --nodes 2 --base-port 42000 --version -1",
+    "gb_serve --nodes 2 --base-port 42000 --version",
+    "gb_serve --nodes 2 --base-port 42000 --version 2 --version 2",
+    "gb_serve --nodes 2 --base-port 42000 --packet-version 2",
+    "gb_serve --version",
+    "gb_serve -V",
     "gb_serve --nodes 2 --base-port 1023",
     "gb_serve --nodes 2 --base-port 65001",
     "gb_serve --nodes 2 --base-port 42000 --silence 1",
@@ -121,16 +180,29 @@ fn words_are_refused(rt: HostRuntime) {
     }
 }
 
-static EXPLAINED: [(&str, &str); 3] = [
+static EXPLAINED: [(&str, &str); 7] = [
+    (
+        "gb_serve --nodes 33 --base-port 42000",
+        "error: invalid value '33' for '--nodes <N>': 33 is not in 1..=32\n\nFor more information, try '--help'.\n",
+    ),
     (
         "gb_serve --nodes 17 --base-port 42000",
-        "error: invalid value '17' for '--nodes <N>': 17 is not in 1..=16\n\nFor more information, try '--help'.\n",
+        "error: invalid value '17' for '--nodes <N>': packets of version 1 can name 16\n\nFor more information, try '--help'.\n",
+    ),
+    (
+        "gb_serve --nodes 2 --base-port 42000 --version 3",
+        "error: invalid value '3' for '--version <V>': there is no such version\n\nFor more information, try '--help'.\n",
+    ),
+    (
+        "gb_serve --nodes 2 --base-port 42000 --version 256",
+        "error: invalid value '256' for '--version <V>': 256 is not in 0..=255\n\nFor more information, try '--help'.\n",
     ),
     (
         "gb_serve --nodes 2",
         "error: the following required arguments were not provided:\n  --base-port <P>\n\nUsage: gb_serve --nodes <N> --base-port <P>\n\nFor more information, try '--help'.\n",
     ),
     ("gb_serve --nodes 2 --base-port 42000", ""),
+    ("gb_serve --nodes 32 --base-port 42000 --version 2", ""),
 ];
 
 // Whether this is said of the words of a line.
