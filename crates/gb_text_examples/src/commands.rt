@@ -2,7 +2,7 @@
 ghost use Rattle.std.specs.Prelude.{◌≤◌};
 ghost use Rattle.std.specs.Option.{ForSome};
 
-use gb_schedule::command::{Command, Step};
+use gb_schedule::command::{ClusterStart, Command, Step};
 use gb_schedule::grammar::{is_silent, read_command};
 use gb_schedule::keys::Keys;
 use gb_types::address::Addr;
@@ -13,6 +13,7 @@ use gb_types::node::NodeId;
 use gb_types::number::put_number;
 use gb_types::request::Request;
 use gb_types::spec::{Spec, TenantRow};
+use gb_types::version::Version;
 use std::alloc::Global;
 use std::process::Abort;
 use std::test::Fail;
@@ -91,7 +92,7 @@ fn told_limits(
 /// A spec's members come last, by number.
 fn told_spec(alloc: Global, node: u64, address: Addr, spec: &Spec) -> Result<Vec<u8>, OutOfMemory> {
     let mut text = told_limits(alloc, node, address, spec)?;
-    for number in 0..16u8 {
+    for number in 0..32u8 {
         if spec.members.contains(NodeId::new(number)) {
             add(&mut text, u64::from(number))?;
         }
@@ -164,12 +165,22 @@ fn told_step(alloc: Global, step: Step) -> Result<Vec<u8>, OutOfMemory> {
     }
 }
 
+/// How a cluster is started. The nodes that send the second version come last, by number.
+fn told_start(alloc: Global, start: &ClusterStart) -> Result<Vec<u8>, OutOfMemory> {
+    let numbers = [u64::from(start.nodes), u64::from(start.silence)];
+    let mut text = shown(alloc, b"cluster", &numbers)?;
+    for (place, version) in start.versions.iter().enumerate() {
+        if *version == Version::Two {
+            add(&mut text, place as u64)?;
+        }
+    }
+    Ok(text)
+}
+
 /// What a command asks for.
 fn told_command(alloc: Global, command: &Command) -> Result<Vec<u8>, OutOfMemory> {
     match command {
-        Command::Cluster { nodes, silence } => {
-            shown(alloc, b"cluster", &[u64::from(*nodes), u64::from(*silence)])
-        }
+        Command::Cluster(start) => told_start(alloc, start),
         Command::Request(node, request) => told_request(alloc, u64::from(node.number), request),
         Command::Noise(node, bytes) => told_noise(alloc, *node, bytes.as_slice()),
         Command::Step(step) => told_step(alloc, *step),
@@ -238,32 +249,47 @@ fn compare(
 }
 
 const FIRST_LINES: &str =
-    "cluster 1 2=cluster 1 2\ncluster 16 1000=cluster 16 1000\ncluster 0 2\ncluster 17 2\ncluster 272 2\ncluster 2 1\ncluster 2 1001\ncluster 2\ncluster 2 3 4\nopen 0 7 1\narrive 1\nagain 0 0 0\nack 0 0\ntick 0\nstop 0";
+    "cluster 1 2=cluster 1 2\ncluster 16 1000=cluster 16 1000\ncluster 0 2\ncluster 17 2\ncluster 32 2\ncluster 272 2\ncluster 2 1\ncluster 2 1001\ncluster 2\ncluster 2 3 4\nopen 0 7 1\narrive 1\nagain 0 0 0\nack 0 0\ntick 0\nstop 0";
+
+const VERSIONED_LINES: &str =
+    "cluster2 1 2 1=cluster 1 2\ncluster2 2 3 1,1=cluster 2 3\ncluster2 2 3 2,2=cluster 2 3 0 1\ncluster2 2 3 2,1=cluster 2 3 0\ncluster2 2 1000 1,2=cluster 2 1000 1\ncluster2 16 3 1,1,1,1,1,1,1,1,1,1,1,1,1,1,1,1=cluster 16 3\ncluster2 16 3 2,1,1,1,1,1,1,1,1,1,1,1,1,1,1,2=cluster 16 3 0 15\ncluster2 17 3 2,2,2,2,2,2,2,2,2,2,2,2,2,2,2,2,2=cluster 17 3 0 1 2 3 4 5 6 7 8 9 10 11 12 13 14 15 16\ncluster2 32 3 2,2,2,2,2,2,2,2,2,2,2,2,2,2,2,2,2,2,2,2,2,2,2,2,2,2,2,2,2,2,2,2=cluster 32 3 0 1 2 3 4 5 6 7 8 9 10 11 12 13 14 15 16 17 18 19 20 21 22 23 24 25 26 27 28 29 30 31";
+
+const BAD_VERSIONED_LINES: &str =
+    "cluster2 0 3 1\ncluster2 0 3 \ncluster2 33 3 2,2,2,2,2,2,2,2,2,2,2,2,2,2,2,2,2,2,2,2,2,2,2,2,2,2,2,2,2,2,2,2,2\ncluster2 258 3 2,2\ncluster2 02 3 2,2\ncluster2 2 1 2,2\ncluster2 2 1001 2,2\ncluster2 17 3 1,1,1,1,1,1,1,1,1,1,1,1,1,1,1,1,1\ncluster2 17 3 1,2,2,2,2,2,2,2,2,2,2,2,2,2,2,2,2\ncluster2 17 3 2,2,2,2,2,2,2,2,2,2,2,2,2,2,2,2,1\ncluster2 32 3 2,2,2,2,2,2,2,2,2,2,2,2,2,2,2,2,2,2,2,2,2,2,2,2,2,2,2,2,2,2,2,1\ncluster2 1 3 2,2\ncluster2 2 3 2\ncluster2 2 3 2,2,2\ncluster2 32 3 2,2,2,2,2,2,2,2,2,2,2,2,2,2,2,2,2,2,2,2,2,2,2,2,2,2,2,2,2,2,2\ncluster2 32 3 2,2,2,2,2,2,2,2,2,2,2,2,2,2,2,2,2,2,2,2,2,2,2,2,2,2,2,2,2,2,2,2,2\ncluster2 2 3 2,0\ncluster2 2 3 0,2\ncluster2 2 3 2,3\ncluster2 2 3 3,2\ncluster2 2 3 258,2\ncluster2 2 3 2,18446744073709551618\ncluster2 2 3 2,\ncluster2 2 3 ,2\ncluster2 2 3 2,,2\ncluster2 2 3 2,2,\ncluster2 2 3 ,\ncluster2 2 3 \ncluster2 2 3 02,2\ncluster2 2 3 2,02\ncluster2 2 3 +2,2\ncluster2 2 3 2;2\ncluster2 2 3 22\ncluster2 2 3 2 2\ncluster2 2 3 2,2 \ncluster2 2 3 2, 2\ncluster2 2 3 2,2 2,2\ncluster2 2 3\ncluster2 2\ncluster2\ncluster2 \ncluster 2 3 2,2\ncluster22 2 3 2,2\ncluster3 2 3 2,2\nCluster2 2 3 2,2\n2 2 3 2,2";
 
 const GOOD_LINES: &str =
-    "tenant 2 65535 256 4294967295 0 10=take in 2 65535 256 4294967295 0 10\nmake 0 7 1 beb 0,1,15 8 64 4=make 0 7 1 8 64 4 0 1 15\nopen 1 0 65535=open 1 0 65535\nshut 2 7 1=shut 2 7 1\ndrop 0 65535 0=drop 0 65535 0\nsay 0 7 1 -=say 0 7 1\nsay 0 7 1 00fF6a=say 0 7 1 0 255 106\nsay 2 65535 65535 00ff6a=say 2 65535 65535 0 255 106\nsay 0 7 1 000102030405060708090a0b0c0d0e0f10=say 0 7 1 0 1 2 3 4 5 6 7 8 9 10 11 12 13 14 15 16\nsay 0 7 1 000102030405060708090a0b0c0d0e0F10=say 0 7 1 0 1 2 3 4 5 6 7 8 9 10 11 12 13 14 15 16\nfetch 0 7 1 1 4294967295=fetch 0 7 1 1 4294967295\nforge 2 7 65535=say 2 7 65535\nnoise 2 -=noise 2\nnoise 0 00fF6a=noise 0 0 255 106\npack 0 2=pack 0 2\npack 1 1=pack 1 1\nagain 0 2 1=again 0 2 1\nagain 2 0 0=again 2 0 0\nagain 1 1 0=again 1 1 0\nagain 1 2 18446744073709551615=again 1 2 18446744073709551615\nack 0 2=acknowledge 0 2\nack 2 0=acknowledge 2 0\nack 1 1=acknowledge 1 1\ntick 0=tick 0\ntick 2=tick 2\nstop 0=stop 0\nstop 2=stop 2\narrive 0=arrive 0\npack 2 0=pack 2 0\narrive 9=arrive 9\narrive 10=arrive 10\narrive 18446744073709551615=arrive 18446744073709551615\narrive 18446744073709551610=arrive 18446744073709551610\narrive 18446744073709551609=arrive 18446744073709551609\narrive 1844674407370955161=arrive 1844674407370955161\narrive 9999999999999999999=arrive 9999999999999999999\narrive 10000000000000000000=arrive 10000000000000000000\nfetch 2 65535 65535 4294967295 0=fetch 2 65535 65535 4294967295 0";
+    "tenant 2 65535 256 4294967295 0 10=take in 2 65535 256 4294967295 0 10\nmake 0 7 1 beb 0,1,15 8 64 4=make 0 7 1 8 64 4 0 1 15\nmake 0 7 1 beb 0,16,31 8 64 4=make 0 7 1 8 64 4 0 16 31\nopen 1 0 65535=open 1 0 65535\nshut 2 7 1=shut 2 7 1\ndrop 0 65535 0=drop 0 65535 0\nsay 0 7 1 -=say 0 7 1\nsay 0 7 1 00fF6a=say 0 7 1 0 255 106\nsay 2 65535 65535 00ff6a=say 2 65535 65535 0 255 106\nsay 0 7 1 000102030405060708090a0b0c0d0e0f10=say 0 7 1 0 1 2 3 4 5 6 7 8 9 10 11 12 13 14 15 16\nsay 0 7 1 000102030405060708090a0b0c0d0e0F10=say 0 7 1 0 1 2 3 4 5 6 7 8 9 10 11 12 13 14 15 16\nfetch 0 7 1 1 4294967295=fetch 0 7 1 1 4294967295\nforge 2 7 65535=say 2 7 65535\nnoise 2 -=noise 2\nnoise 0 00fF6a=noise 0 0 255 106\npack 0 2=pack 0 2\npack 1 1=pack 1 1\nagain 0 2 1=again 0 2 1\nagain 2 0 0=again 2 0 0\nagain 1 1 0=again 1 1 0\nagain 1 2 18446744073709551615=again 1 2 18446744073709551615\nack 0 2=acknowledge 0 2\nack 2 0=acknowledge 2 0\nack 1 1=acknowledge 1 1\ntick 0=tick 0\ntick 2=tick 2\nstop 0=stop 0\nstop 2=stop 2\narrive 0=arrive 0\npack 2 0=pack 2 0\narrive 9=arrive 9\narrive 10=arrive 10\narrive 18446744073709551615=arrive 18446744073709551615\narrive 18446744073709551610=arrive 18446744073709551610\narrive 18446744073709551609=arrive 18446744073709551609\narrive 1844674407370955161=arrive 1844674407370955161\narrive 9999999999999999999=arrive 9999999999999999999\narrive 10000000000000000000=arrive 10000000000000000000\nfetch 2 65535 65535 4294967295 0=fetch 2 65535 65535 4294967295 0";
 
 const BAD_LINES: &str =
-    "cluster 2 3\nopen 3 7 1\nshut 3 7 1\nshut 0 7\ndrop 3 7 1\ndrop 0 7\ndrop 0 7 1 1\ndrops 0 7 1\nopen 256 7 1\nopen 0 65536 1\nopen 0 7 65536\nopen 00 7 1\nopen 0 07 1\nopen 0 +7 1\nopen  0 7 1\n open 0 7 1\nopen 0 7 1 \nopen 0 7 1\r\nopen 0 7\nopen 0 7 1 1\nOpen 0 7 1\nopenx 0 7 1\nfetch 0 7 1 1 4294967296\nfetch 0 7 1 4294967296 1\nfetch 0 65536 1 1 1\nfetch 0 7 65536 1 1\nfetch 3 7 1 1 1\nfetch 0 7 1 1\nfetch 0 7 1 1 \nfetch 0 7 1 1 1 1\nfetch 0 7 1 1 01\nfetch 0 7 1 1  1\nfetch 0 7 1 1 1x\nfetch 0 7 1 x 1\nfetch\nfetches 0 7 1 1 1\narrive 184467440737095516150\narrive 18446744073709551616x\narrive 18446744073709551616\narrive 111111111111111111111111111111\narrive\narrive \nmake 0 7 1 beb 1,0 8 64 4\nmake 0 7 1 beb 0,16 8 64 4\nmake 0 7 1 beb 0, 8 64 4\nmake 0 7 1 bee 0 8 64 4\nmake 0 7 1 beb 0 8 64 4 4\npack 0 1 1 1 1 1 1 1 1 1 1\nsay 0 7 1 6\nsay 0 7 1 6g\nsay 0 7 1\nsay 0 7 1 \nsay 0 7 1  61\nsay 0 7 1 61 \nsay 0 7 1 61 61\nsay  0 7 1 61\nsay 3 7 1 61\nsay 0 65536 1 61\nsay 0 7 65536 61\nsay 18446744073709551616 7 1 61\nsay 0 07 1 61\nsay 0 7 61\nsay 0 7\nsay 0 7 \nsay\nsay \nsays 0 7 1 61\nSay 0 7 1 61\n say 0 7 1 61\nsay 0 7 1 000102030405060708090q0b0c0d0e0f10\npack 0 3\npack 0 1 \npack 0 1 1\npack 0  1\npack 0\npack 0 \npack 3 0\npack 00 1\npack 0 01\npack 0 1x\npack 0x 1\narrive 0 \narrive 1 1\narrive 00\narrive 1x\narrive /\narrive :\nack 0 1 \nack 0 :\nagain 3 0 1\nagain 0 3 1\nagain 0 1 18446744073709551616\nagain 0 1 -\nagain 0 1 01\nagain 0 1\nagain 0 1 \nagain 0 1 1 1\nagain\nack 3 0\nack 0 3\nack 0\nack 0 1 1\nack 0  1\nack\nacknowledge 0 1\ntick 3\ntick 258\ntick 00\ntick 0 1\ntick\ntick \nticks 0\nstop 3\nstop 256\nstop 0 1\nstop\nStop 0\nsto 0\nforge 3 7 1\nforge 0 7\nforge 0 7 1 -\nforge 0 65536 1\nnoise 3 -\nnoise 0\nnoise 0 6\nnoise 0 6g\nnoise 0 - -\nnoise 0 \n\n ";
+    "cluster 2 3\ncluster2 2 3 2,2\ncluster2 2 3 1,1\ncluster2 32 3 2,2,2,2,2,2,2,2,2,2,2,2,2,2,2,2,2,2,2,2,2,2,2,2,2,2,2,2,2,2,2,2\nopen 3 7 1\nshut 3 7 1\nshut 0 7\ndrop 3 7 1\ndrop 0 7\ndrop 0 7 1 1\ndrops 0 7 1\nopen 256 7 1\nopen 0 65536 1\nopen 0 7 65536\nopen 00 7 1\nopen 0 07 1\nopen 0 +7 1\nopen  0 7 1\n open 0 7 1\nopen 0 7 1 \nopen 0 7 1\r\nopen 0 7\nopen 0 7 1 1\nOpen 0 7 1\nopenx 0 7 1\nfetch 0 7 1 1 4294967296\nfetch 0 7 1 4294967296 1\nfetch 0 65536 1 1 1\nfetch 0 7 65536 1 1\nfetch 3 7 1 1 1\nfetch 0 7 1 1\nfetch 0 7 1 1 \nfetch 0 7 1 1 1 1\nfetch 0 7 1 1 01\nfetch 0 7 1 1  1\nfetch 0 7 1 1 1x\nfetch 0 7 1 x 1\nfetch\nfetches 0 7 1 1 1\narrive 184467440737095516150\narrive 18446744073709551616x\narrive 18446744073709551616\narrive 111111111111111111111111111111\narrive\narrive \nmake 0 7 1 beb 1,0 8 64 4\nmake 0 7 1 beb 0,32 8 64 4\nmake 0 7 1 beb 32 8 64 4\nmake 0 7 1 beb 0, 8 64 4\nmake 0 7 1 bee 0 8 64 4\nmake 0 7 1 beb 0 8 64 4 4\npack 0 1 1 1 1 1 1 1 1 1 1\nsay 0 7 1 6\nsay 0 7 1 6g\nsay 0 7 1\nsay 0 7 1 \nsay 0 7 1  61\nsay 0 7 1 61 \nsay 0 7 1 61 61\nsay  0 7 1 61\nsay 3 7 1 61\nsay 0 65536 1 61\nsay 0 7 65536 61\nsay 18446744073709551616 7 1 61\nsay 0 07 1 61\nsay 0 7 61\nsay 0 7\nsay 0 7 \nsay\nsay \nsays 0 7 1 61\nSay 0 7 1 61\n say 0 7 1 61\nsay 0 7 1 000102030405060708090q0b0c0d0e0f10\npack 0 3\npack 0 1 \npack 0 1 1\npack 0  1\npack 0\npack 0 \npack 3 0\npack 00 1\npack 0 01\npack 0 1x\npack 0x 1\narrive 0 \narrive 1 1\narrive 00\narrive 1x\narrive /\narrive :\nack 0 1 \nack 0 :\nagain 3 0 1\nagain 0 3 1\nagain 0 1 18446744073709551616\nagain 0 1 -\nagain 0 1 01\nagain 0 1\nagain 0 1 \nagain 0 1 1 1\nagain\nack 3 0\nack 0 3\nack 0\nack 0 1 1\nack 0  1\nack\nacknowledge 0 1\ntick 3\ntick 258\ntick 00\ntick 0 1\ntick\ntick \nticks 0\nstop 3\nstop 256\nstop 0 1\nstop\nStop 0\nsto 0\nforge 3 7 1\nforge 0 7\nforge 0 7 1 -\nforge 0 65536 1\nnoise 3 -\nnoise 0\nnoise 0 6\nnoise 0 6g\nnoise 0 - -\nnoise 0 \n\n ";
 
 #[test]
 fn the_first_line(rt: HostRuntime) -> Result<(), Fail> {
     let count = compare(&rt, rt.alloc(), None, FIRST_LINES)?;
-    assert!(rt; count == 15);
+    assert!(rt; count == 16);
+    Ok(())
+}
+
+#[test]
+fn the_first_line_with_versions(rt: HostRuntime) -> Result<(), Fail> {
+    let good = compare(&rt, rt.alloc(), None, VERSIONED_LINES)?;
+    assert!(rt; good == 9);
+    let bad = compare(&rt, rt.alloc(), None, BAD_VERSIONED_LINES)?;
+    assert!(rt; bad == 46);
     Ok(())
 }
 
 #[test]
 fn good_lines(rt: HostRuntime) -> Result<(), Fail> {
     let count = compare(&rt, rt.alloc(), Some(3), GOOD_LINES)?;
-    assert!(rt; count == 38);
+    assert!(rt; count == 39);
     Ok(())
 }
 
 #[test]
 fn bad_lines(rt: HostRuntime) -> Result<(), Fail> {
     let count = compare(&rt, rt.alloc(), Some(3), BAD_LINES)?;
-    assert!(rt; count == 130);
+    assert!(rt; count == 134);
     Ok(())
 }
 
@@ -274,6 +300,16 @@ const LINES_OF_SIXTEEN: &str =
 fn lines_of_sixteen_nodes(rt: HostRuntime) -> Result<(), Fail> {
     let count = compare(&rt, rt.alloc(), Some(16), LINES_OF_SIXTEEN)?;
     assert!(rt; count == 17);
+    Ok(())
+}
+
+const LINES_OF_THIRTY_TWO: &str =
+    "pack 31 9=pack 31 9\npack 9 31=pack 9 31\npack 32 9\npack 9 32\nack 31 10=acknowledge 31 10\nack 10 31=acknowledge 10 31\nack 32 0\nack 0 32\nagain 31 30 1=again 31 30 1\nagain 32 0 1\nagain 0 32 1\ntick 31=tick 31\ntick 32\nstop 31=stop 31\nstop 32\nsay 31 7 1 61=say 31 7 1 97\nsay 32 7 1 61\nfetch 31 7 1 0 16=fetch 31 7 1 0 16\nfetch 32 7 1 0 16\nopen 31 7 1=open 31 7 1\nopen 32 7 1\nnoise 31 -=noise 31\nnoise 32 -";
+
+#[test]
+fn lines_of_thirty_two_nodes(rt: HostRuntime) -> Result<(), Fail> {
+    let count = compare(&rt, rt.alloc(), Some(32), LINES_OF_THIRTY_TWO)?;
+    assert!(rt; count == 23);
     Ok(())
 }
 

@@ -189,7 +189,7 @@ fn long_line(alloc: Global, count: usize) -> Result<Vec<u8>, AllocError> {
 /// Whether what is shown of a line of so many bytes, and a short one, ends so in any pieces.
 fn is_long_line_read(alloc: Global, count: usize, ends: &str) -> Result<bool, OutOfMemory> {
     let text = long_line(alloc, count)?;
-    for piece in [7, 32_768, 65_536] {
+    for piece in [7, 65_536, 131_072] {
         if !shows_last(alloc, &mut in_pieces(&text, piece), ends)? {
             return Ok(false);
         }
@@ -199,7 +199,7 @@ fn is_long_line_read(alloc: Global, count: usize, ends: &str) -> Result<bool, Ou
 
 #[test]
 fn the_longest_line(rt: HostRuntime) -> Result<(), Fail> {
-    for (count, ends) in [(32_768, "#|b|end"), (32_769, "too long")] {
+    for (count, ends) in [(65_536, "#|b|end"), (65_537, "too long")] {
         let held = is_long_line_read(rt.alloc(), count, ends)?;
         assert!(rt; held);
     }
@@ -214,7 +214,7 @@ fn is_one_line_read(alloc: Global, count: usize, ends: &str) -> Result<bool, Out
 
 #[test]
 fn the_longest_line_without_its_line_feed(rt: HostRuntime) -> Result<(), Fail> {
-    for (count, ends) in [(32_768, "#|end"), (32_769, "too long")] {
+    for (count, ends) in [(65_536, "#|end"), (65_537, "too long")] {
         let held = is_one_line_read(rt.alloc(), count, ends)?;
         assert!(rt; held);
     }

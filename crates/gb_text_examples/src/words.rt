@@ -201,10 +201,21 @@ const MEMBERS: &[(&[u8], &[u8])] = &[
         b"0,1,2,3,4,5,6,7,8,9,10,11,12,13,14,15",
         &[0, 1, 2, 3, 4, 5, 6, 7, 8, 9, 10, 11, 12, 13, 14, 15],
     ),
+    (b"16", &[16]),
+    (b"31", &[31]),
+    (b"0,15,16,31", &[0, 15, 16, 31]),
+    (
+        b"0,1,2,3,4,5,6,7,8,9,10,11,12,13,14,15,16,17,18,19,20,21,22,23,24,25,26,27,28,29,30,31",
+        &[
+            0, 1, 2, 3, 4, 5, 6, 7, 8, 9, 10, 11, 12, 13, 14, 15, 16, 17, 18, 19, 20, 21, 22, 23,
+            24, 25, 26, 27, 28, 29, 30, 31,
+        ],
+    ),
 ];
 
 const NO_MEMBERS: &[&[u8]] = &[
-    b"", b"1,0", b"0,0", b"16", b"0,16", b"0,", b",0", b"0,,1", b"0 1", b"00", b"+1", b"-",
+    b"", b"1,0", b"0,0", b"32", b"0,32", b"31,32", b"288", b"0,", b",0", b"0,,1", b"0 1", b"00",
+    b"+1", b"-",
 ];
 
 #[test]
@@ -289,11 +300,11 @@ fn set(rt: &impl Abort, numbers: &[u8]) -> NodeSet {
     found
 }
 
-/// The number of the first node of the set from this place on; 16 where there is none.
+/// The number of the first node of the set from this place on; 32 where there is none.
 fn next_number(set: &NodeSet, from: usize) -> u8 {
     match set.next_from(from) {
         Some(node) => node.number,
-        None => 16,
+        None => 32,
     }
 }
 
@@ -310,7 +321,7 @@ fn compare_both(rt: &impl Abort, both: &NodeSet, odd: &NodeSet, low: &NodeSet) {
     assert!(rt; low.is_subset(both));
     let copy = both.duplicate();
     assert!(rt; copy.is_covered(odd, low));
-    for (from, number) in [(2, 3), (4, 16), (NODES, 16)] {
+    for (from, number) in [(2, 3), (4, 32), (NODES, 32)] {
         assert!(rt; next_number(both, from) == number);
     }
 }
