@@ -99,10 +99,14 @@ const CUT_IN_A_LENGTH: Case = (
 );
 
 const TOO_LONG: Case = (
-    b"\x00\x00\x10\x01",
+    b"\x00\x00\x40\x01",
     b"\x00\x00\x00\x14refused 14 Malformed",
     SessionEnd::Malformed,
 );
+
+const CUT_BEHIND_A_LENGTH: Case = (b"\x00\x00\x10\x01", b"", SessionEnd::Cut);
+
+const CUT_BEHIND_THE_GREATEST_LENGTH: Case = (b"\x00\x00\x40\x00", b"", SessionEnd::Cut);
 
 const REQUEST_BEFORE_A_MALFORMED_ONE: Case = (
     b"\x00\x00\x00\x49open 0000000000000000000000000000000000000000000000000000000000000000 7 1\x00\x00\x00\x00more",
@@ -155,6 +159,8 @@ const CASES: &[Case] = &[
     ONE_REQUEST,
     CUT_IN_A_LENGTH,
     TOO_LONG,
+    CUT_BEHIND_A_LENGTH,
+    CUT_BEHIND_THE_GREATEST_LENGTH,
     REQUEST_BEFORE_A_MALFORMED_ONE,
 ];
 
