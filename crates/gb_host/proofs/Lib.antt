@@ -2,3 +2,4 @@ pub mod ReplayLemmas
 pub mod CallLemmas
 pub mod GatheringLemmas
 pub mod ClosingLemmas
+pub mod PlanLemmas

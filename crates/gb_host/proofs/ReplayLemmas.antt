@@ -1,7 +1,7 @@
 -- An entry more in a tape, and a call more in a seat's list.
-use Rattle.std.proofs.Common.{◌≡◌, ℕ, suc, ◌+◌, ◌<◌, ◌≤◌, ◌==◌, Bool, true, false, List, [], ◌∷◌, ◌++◌, length, refl, sym, ap, subst, ◌∙◌, arith, cond, get_or, set, add_assoc, add_comm, true≢false}
+use Rattle.std.proofs.Common.{◌≡◌, ℕ, suc, ◌+◌, ◌<◌, ◌≤◌, ◌==◌, Bool, true, false, List, [], ◌∷◌, ◌++◌, length, refl, sym, ap, subst, ◌∙◌, arith, cond, get_or, set, add_assoc, add_comm, replicate, true≢false}
 use Rattle.std.proofs.lemmas.Grind.{common_steps}
-use Rattle.std.proofs.lemmas.List.{length-set, length_push}
+use Rattle.std.proofs.lemmas.List.{get_or-replicate, length-set, length_push}
 use Rattle.gb_types.specs.declared.limits.TheConstants.{NODES}
 use Rattle.gb_types.specs.declared.node.NodeId.{NodeId}
 use Rattle.gb_node.specs.NodeValue.{NodeValue, new_node, IsNodePlan}
@@ -36,7 +36,7 @@ unfolding ComesTo
 comes_new plan v right is = (right, is)
 
 node_plan_right : (p : HostPlan) (me : NodeId) → IsPlan p → me.number < p.cluster.nodes → IsNodePlan (plan_of p me)
-node_plan_right p me right member = record { cluster = right.nodes; member = member; places = right.places; least = right.least; most = right.most }
+node_plan_right p me right member = record { cluster = right.named me.number member; member = member; places = right.places; least = right.least; most = right.most }
 
 pub hosted_fits_new : (p : HostPlan) (h : HostedValue) → h.node ≡ new_node (plan_of p h.me) → h.tape ≡ [] → h.amount ≡ 0 → 0 < h.parts → IsPlan p → h.me.number < p.cluster.nodes → HostedFits p h
 hosted_fits_new p h node tape amount parts right member = record {
@@ -94,20 +94,28 @@ calls_at_le k (x ∷ xs) =
 counts_more : (counts : List ℕ) (list : List SeatEntry) (e : SeatEntry) → length counts ≡ NODES
     → ((k : ℕ) → k < NODES → get_or counts k 0 ≡ length (calls_at k list))
     → (k : ℕ) → k < NODES → get_or (set counts e.node.number (get_or counts e.node.number 0 + 1)) k 0 ≡ length (calls_at k (list ++ e ∷ []))
-counts_more counts list e sixteen fits k under =
+counts_more counts list e one_each fits k under =
     let n = e.node.number in
     let here : get_or counts n 0 ≡ length (calls_at n list) = fits n e.node.below in
     let there = fits k under in
-    let placed : n < length counts = omega (arith, sixteen, e.node.below) in
+    let placed : n < length counts = omega (arith, one_each, e.node.below) in
     let more : length (calls_at k (list ++ e ∷ [])) ≡ length (calls_at k list) + one_if (n == k) = calls_at_push k list e in
     grind (arith, common_steps)
+
+pub seat_fits_new : (s : SeatValue) → s.counts ≡ replicate NODES 0 → s.list ≡ [] → s.amount ≡ 0 → 0 < s.parts → SeatFits s
+seat_fits_new s counts list amount parts = record {
+  counts = λ k under. ap (λ (xs : List ℕ). get_or xs k 0) counts ∙ (get_or-replicate NODES k 0 0 under ∙ ap (λ (xs : List SeatEntry). length (calls_at k xs)) (sym list));
+  one_each = ap length counts;
+  counted = amount ∙ ap length (sym list);
+  backed = parts;
+}
 
 pub seat_fits_more : (old new : SeatValue) (e : SeatEntry) → SeatFits old
     → new.counts ≡ set old.counts e.node.number (get_or old.counts e.node.number 0 + 1) → new.list ≡ old.list ++ e ∷ [] → new.amount ≡ old.amount + 1 → new.parts ≡ old.parts
     → SeatFits new
 seat_fits_more old new e fits counts list amount parts = record {
-  counts = rw (counts, list) (counts_more old.counts old.list e fits.sixteen fits.counts);
-  sixteen = rw counts (simp length-set fits.sixteen);
+  counts = rw (counts, list) (counts_more old.counts old.list e fits.one_each fits.counts);
+  one_each = rw counts (simp length-set fits.one_each);
   counted = let l = ap length list in let n = length_push old.list e in let h = fits.counted in omega arith;
   backed = rw parts fits.backed;
 }

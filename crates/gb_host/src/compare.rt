@@ -1,6 +1,7 @@
 //! Seats' calls against their entries in the tapes. Each tape is walked once, whatever the number of seats.
 ghost use Rattle.std.specs.Prelude.{◌≡◌, ◌≢◌, ◌↔◌, ◌<◌, ◌≤◌, ◌^◌, ◌∷◌, ◌++◌, ℕ, List, true, false, [], drop, length, IsTrue, IfOk, IfSome, IfNone, vec_len};
 ghost use Rattle.std.specs.Bool.{MatchBool};
+ghost use Rattle.gb_types.specs.declared.limits.TheConstants.{NODES};
 ghost use Rattle.gb_node.specs.declared.tape.TapeEntry.{TapeEntry as Noted};
 ghost use Rattle.gb_host.specs.Calls.{calls_of, calls_at, numbered};
 ghost use Rattle.gb_host.specs.Closing.{list_at, AreSame, IsOther};
@@ -146,7 +147,7 @@ pub fn differing(
     tapes: &[Tape],
     lists: &[CallList],
 ) -> Result<Option<u32>, OutOfMemory>
-    requires nodes { length tapes.now ≤ 16 }
+    requires nodes { length tapes.now ≤ NODES }
     requires few { length lists.now < 2 ^ 32 }
     ensures some { IfOk result (λ o. IfSome o (λ s. IsOther tapes.now s (list_at lists.now s))) }
     ensures none { IfOk result (λ o. IfNone o (AreSame tapes.now (list_at lists.now))) }

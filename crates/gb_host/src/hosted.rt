@@ -2,7 +2,7 @@
 ghost use Rattle.std.specs.Prelude.{◌≡◌, ◌+◌, ◌-◌, ◌<◌, ◌≤◌, ◌^◌, ◌++◌, [], true, false, length, vec_len, IfOk, IfErr, OnOk, OnErr, cond, slice_index, slice_set, vec_capacity};
 ghost use Rattle.gb_node.specs.NodeStep.{IsTurn, IsSpelt};
 ghost use Rattle.gb_node.specs.NodeValue.{new_node};
-ghost use Rattle.gb_node.specs.Reads.{is_read, room_of};
+ghost use Rattle.gb_node.specs.Reads.{is_read, packet_room};
 ghost use Rattle.gb_host.specs.Plans.{plan_of, kept, IsPlan};
 ghost use Rattle.gb_host.specs.Replay.{IsReplay};
 
@@ -15,10 +15,11 @@ use crate::seat::Seat;
 use gb_node::answer::NodeAnswer;
 use gb_node::event::NodeEvent;
 use gb_node::node::Node;
+use gb_node::past::pasts_say;
 use gb_node::plan::NodePlan;
 use gb_node::tape::{Tape, TapeEntry};
-use gb_types::limits::PACKET;
 use gb_types::node::NodeId;
+use gb_types::version::Version;
 use std::alloc::Global;
 use std::marker::Model;
 use std::sync::ledger::{Ledger, Share};
@@ -67,6 +68,7 @@ impl<L: Tapes> Hosted<L> {
         let node_plan = NodePlan {
             me,
             nodes: plan.cluster.nodes,
+            version: plan.cluster.bounds().version_of(me),
             silence: plan.cluster.silence,
             places: plan.cluster.places,
             cluster_key,
@@ -155,8 +157,11 @@ impl<L: Tapes> Hosted<L> {
                 return Err(fault);
             }
         };
+        // The node sends the version that the plan says.
+        pasts_say();
+        let version = plan.cluster.bounds().version_of(*me);
         let (answer, for_tape, for_list) = match answers(
-            rt, *alloc, books, node, share, mine, &event,
+            rt, *alloc, version, books, node, share, mine, &event,
         ) {
             Ok(answers) => answers,
             Err(fault) => {
@@ -208,12 +213,14 @@ fn make_room(
 fn answers<L: Tapes, M: Ledger, R: Wait>(
     rt: &R,
     alloc: Global,
+    version: Version,
     books: &Mutex<Books<L, M>>,
     node: &mut Node,
     tape: &mut Share<L>,
     seat: &mut Share<M>,
     event: &NodeEvent,
 ) -> Result<(NodeAnswer, NodeAnswer, NodeAnswer), HostFault>
+    requires version { node.old.table.version ≡ version }
     requires parts { (0 < tape.old.parts) × (0 < seat.old.parts) }
     ensures turn { IfOk result (λ r. IsTurn node.old event.now r.0 node.new) }
     ensures spelt { IfOk result (λ r. IsSpelt node.old event.now r.0) }
@@ -230,7 +237,7 @@ fn answers<L: Tapes, M: Ledger, R: Wait>(
         drop(read);
         return Err(HostFault::Full);
     }
-    let (room, other_room) = rooms(alloc, event)?;
+    let (room, other_room) = rooms(alloc, version, event)?;
     if !book(rt, books, tape, seat) {
         return Err(HostFault::Full);
     }
@@ -290,14 +297,18 @@ fn copies(alloc: Global, answer: &NodeAnswer) -> Result<(NodeAnswer, NodeAnswer)
     Ok((for_tape, for_list))
 }
 
-// Room for two copies of the answer to an event that may change the node.
-fn rooms(alloc: Global, event: &NodeEvent) -> Result<(Vec<u8>, Vec<u8>), HostFault>
+// Room for two copies of the answer to an event that may change a node that sends this version.
+fn rooms(
+    alloc: Global,
+    version: Version,
+    event: &NodeEvent,
+) -> Result<(Vec<u8>, Vec<u8>), HostFault>
     ensures empty { IfOk result (λ r. (r.0.items ≡ []) × (r.1.items ≡ [])) }
-    ensures room { IfOk result (λ r. (room_of event.now ≤ vec_capacity r.0) × (room_of event.now ≤ vec_capacity r.1)) }
+    ensures room { IfOk result (λ r. (packet_room version event.now ≤ vec_capacity r.0) × (packet_room version event.now ≤ vec_capacity r.1)) }
     ensures err { IfErr result (λ e. e ≡ HostFault.OutOfMemory) }
 {
     let most = match event {
-        NodeEvent::Pack(_) => PACKET,
+        NodeEvent::Pack(_) => version.limits().packet,
         _ => 0,
     };
     Ok((

@@ -1,0 +1,12 @@
+-- Plans of nodes that all send one version.
+use Rattle.std.proofs.Common.{ℕ, ◌<◌, ◌≤◌, replicate, sym, subst, arith}
+use Rattle.std.proofs.lemmas.List.{get_or-replicate}
+use Rattle.gb_types.specs.Version.{limits_of, version_at}
+use Rattle.gb_types.specs.declared.limits.TheConstants.{NODES}
+use Rattle.gb_types.specs.declared.version.Version.{Version}
+use Rattle.gb_types.specs.declared.version.Version.TheVariants.{One}
+
+-- where the version can name so many nodes, that of each of them can
+pub all_named : (version : Version) (nodes a : ℕ) → nodes ≤ NODES → nodes ≤ (limits_of version).nodes → a < nodes → nodes ≤ (limits_of (version_at (replicate NODES version) a)).nodes
+all_named version nodes a few named within =
+    subst (λ (v : Version). nodes ≤ (limits_of v).nodes) (sym (get_or-replicate NODES a version One (omega (arith, few, within)))) named
