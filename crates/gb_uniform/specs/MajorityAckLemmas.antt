@@ -1,5 +1,5 @@
 -- The laws of the rule of majority-ack uniform reliable broadcast, and that it has the module's tests.
-use Rattle.std.proofs.Common.{◌≡◌, ℕ, ◌&&◌, refl, ap, sym}
+use Rattle.std.proofs.Common.{◌&&◌, refl, sym}
 use Rattle.std.specs.FinSet as set
 use Rattle.gb_layer.specs.declared.broadcast_module.BroadcastModule.TheVariants.{MajorityAck}
 use Rattle.gb_types.specs.Places.{has_majority}
