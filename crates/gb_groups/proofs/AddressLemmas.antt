@@ -1,5 +1,5 @@
 -- A step at one address leaves the others alone.
-use Rattle.std.proofs.Common.{◌≡◌, ◌≢◌, ℕ, ◌<◌, ◌≤◌, true, false, List, length, refl, ap, sym, ◌∙◌, arith}
+use Rattle.std.proofs.Common.{◌≡◌, ◌≢◌, ℕ, ◌<◌, true, false, List, length, refl, ap, sym, ◌∙◌, arith}
 use Rattle.std.specs.Prelude.{◌%◌, if◌then◌else◌, Bool, ◌&&◌, not, false, cond, nat_lt, nat_eq, Option, Some, None, option_map, position}
 use Rattle.std.specs.List.{position_or_len}
 use Rattle.std.proofs.Common.{eqb-true, eq-eqb}
@@ -13,7 +13,7 @@ use Rattle.gb_slot.specs.SlotState.{SlotState}
 use Rattle.gb_groups.specs.SlotsValue.{Row, row_at, on_slot, no_row}
 use Rattle.gb_frame.specs.Items.{address_of, entry_of}
 use Rattle.gb_groups.specs.AtAddress.{place_of, step_at, on_address, item_came, OthersKept}
-use Rattle.std.proofs.lemmas.Bool.{lt-ltb, le-leb}
+use Rattle.std.proofs.lemmas.Bool.{lt-ltb}
 use Rattle.gb_types.proofs.SameLemmas.{same_number}
 use Rattle.gb_types.specs.declared.limits.TheConstants.{NODES}
 use Rattle.gb_types.specs.declared.version.Version.{Version}

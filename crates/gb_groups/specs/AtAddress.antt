@@ -1,5 +1,5 @@
 -- A step at one address.
-use Rattle.std.specs.Prelude.{ℕ, ◌≡◌, ◌&&◌, not, false, List, length, Option, Some, None, option_map, position, nat_lt, slice_set, if◌then◌else◌}
+use Rattle.std.specs.Prelude.{ℕ, ◌≡◌, ◌&&◌, not, false, List, Option, Some, None, option_map, position, nat_lt, slice_set, if◌then◌else◌}
 use Rattle.gb_types.specs.declared.address.Addr.{Addr}
 use Rattle.gb_types.specs.declared.limits.TheConstants.{NODES}
 use Rattle.gb_types.specs.declared.node.NodeId.{NodeId}

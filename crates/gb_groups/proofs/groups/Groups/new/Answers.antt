@@ -1,5 +1,5 @@
 -- Where no group was made, packing begins at place 0 for each node, and no place is in any set.
-use Rattle.std.proofs.Common.{rules, refl, arith, ◌≤◌, length}
+use Rattle.std.proofs.Common.{rules, refl, arith}
 use Rattle.gb_types.specs.declared.limits.TheConstants.{NODES}
 use Rattle.gb_slot.proofs.TakenLemmas.{none_taken}
 use Rattle.gb_groups.proofs.groups.Groups.new.Goals as goal

@@ -1,4 +1,4 @@
-use Rattle.std.proofs.Common.{◌≡◌, ap, sym, subst, ◌∙◌, refl}
+use Rattle.std.proofs.Common.{◌≡◌, ap, sym, subst, ◌∙◌}
 use Rattle.gb_slot.specs.Slot.{slot_done}
 use Rattle.gb_table.specs.TableValue.{TableValue, table_done}
 use Rattle.gb_table.specs.OwnNode.{AreOwn}
