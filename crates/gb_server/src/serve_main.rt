@@ -1,9 +1,8 @@
 //! The server from its words to its exit status.
 ghost use Rattle.std.specs.Prelude.{◌≡◌, ◌≢◌, ◌≤◌, ◌+◌, ◌*◌, [], List, true, Ok, Err, codes, map};
 ghost use Rattle.std.specs.Io.KnownBytes.{Appends};
-ghost use Rattle.clap.specs.Words.{fault_of, takes};
-ghost use Rattle.gb_serve_words.specs.Words.{IsWithin, serve_app};
-ghost use Rattle.gb_server.specs.Told.{HasServed, end_line, host_of, lined, serving_line};
+ghost use Rattle.gb_serve_words.specs.Words.{IsWithin};
+ghost use Rattle.gb_server.specs.Told.{AreRefused, AreTaken, HasServed, end_line, host_of, lined, serving_line};
 ghost use Rattle.gb_host.specs.Plans.{IsPlan};
 ghost use Rattle.gb_host.specs.SeatValue.{SeatValue};
 ghost use Rattle.gb_server.specs.Ended.{EndsSo, has_closed};
@@ -19,6 +18,7 @@ use gb_host::names::Tapes;
 use gb_host::plan::HostPlan;
 use gb_serve_words::plan::ServePlan;
 use gb_serve_words::words::read_words;
+use gb_types::limits::NODES;
 use gb_types::memory::OutOfMemory;
 use gb_types::plan::Plan;
 use std::alloc::Global;
@@ -36,7 +36,7 @@ pub const PLACES: u16 = 1_024;
 // Definitions cite this value.
 const _: () = prove!(PLACES == 1_024);
 
-// The host of a plan.
+// The host of a plan. Each node sends the version of the plan.
 fn host_plan(plan: ServePlan, keys: Keys) -> HostPlan
     ensures is { result ≡ host_of plan keys }
     ensures limits { IsWithin plan → IsPlan result }
@@ -44,6 +44,7 @@ fn host_plan(plan: ServePlan, keys: Keys) -> HostPlan
     let (cluster_key, admin_key) = (keys.cluster, keys.admin);
     let cluster = Plan {
         nodes: plan.nodes,
+        versions: [plan.version; NODES],
         silence: plan.silence,
         places: PLACES,
         cluster_key,
@@ -135,8 +136,8 @@ pub fn serve<
     writer: &mut W,
 ) -> Result<Ended, ServeFault>
     ensures served { has_closed result ≡ true → HasServed (map (λ word. word.now) words.now) (R.remaining reader.old) (R.remaining reader.new) (W.contents writer.old) (W.contents writer.new) result [] }
-    ensures refused { result ≡ Err ServeFault.RefusedWords → (fault_of serve_app (map (λ word. word.now) words.now) ≢ []) × (reader.new ≡ reader.old) × (writer.new ≡ writer.old) }
-    ensures taken { takes serve_app (map (λ word. word.now) words.now) ≡ true → result ≢ Err ServeFault.RefusedWords }
+    ensures refused { result ≡ Err ServeFault.RefusedWords → AreRefused (map (λ word. word.now) words.now) × (reader.new ≡ reader.old) × (writer.new ≡ writer.old) }
+    ensures taken { AreTaken (map (λ word. word.now) words.now) → result ≢ Err ServeFault.RefusedWords }
 {
     let plan = read_words(alloc, words)?;
     let Some(keys) = read_keys(reader) else {
@@ -155,8 +156,8 @@ pub fn serve_main<
 >(rt: &H, alloc: Global, words: &[&str], reader: &mut R, writer: &mut W) -> u8
     ensures status { result ≤ 2 }
     ensures served { result ≡ 0 → (ended : Ended) × HasServed (map (λ word. word.now) words.now) (R.remaining reader.old) (R.remaining reader.new) (W.contents writer.old) (W.contents writer.new) (Ok ended) (end_line ended) }
-    ensures refused { result ≡ 2 → (fault_of serve_app (map (λ word. word.now) words.now) ≢ []) × (reader.new ≡ reader.old) × Appends (W.contents writer.old) (W.contents writer.new) (lined (codes "refused words")) }
-    ensures taken { takes serve_app (map (λ word. word.now) words.now) ≡ true → result ≢ 2 }
+    ensures refused { result ≡ 2 → AreRefused (map (λ word. word.now) words.now) × (reader.new ≡ reader.old) × Appends (W.contents writer.old) (W.contents writer.new) (lined (codes "refused words")) }
+    ensures taken { AreTaken (map (λ word. word.now) words.now) → result ≢ 2 }
 {
     let outcome = serve(rt, alloc, words, reader, writer);
     if outcome == Err(ServeFault::Write) || !tell_end(writer, outcome) {
