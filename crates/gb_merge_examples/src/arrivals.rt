@@ -7,10 +7,12 @@ use gb_frame::fault::PacketFault;
 use gb_node::answer::{Halted, PacketAnswer};
 use gb_node::event::NodeEvent;
 use gb_node::packet_text::PacketText;
+use gb_types::limits::NODES;
 use gb_types::memory::OutOfMemory;
 use gb_types::node::NodeId;
 use gb_types::plan::Plan;
 use gb_types::refusal::Refusal;
+use gb_types::version::Version;
 use std::alloc::Global;
 use std::rt::HostRuntime;
 use std::test::Fail;
@@ -21,6 +23,7 @@ const SECOND: NodeId = NodeId { number: 1 };
 
 const PLAN: Plan = Plan {
     nodes: 2,
+    versions: [Version::One; NODES],
     silence: 3,
     places: 4,
     cluster_key: [3; 32],

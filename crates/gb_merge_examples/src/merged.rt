@@ -8,7 +8,9 @@ use gb_merge::fault::AuditFault;
 use gb_merge::merge::merge;
 use gb_node::event::NodeEvent;
 use gb_node::tape::Tape;
+use gb_types::limits::NODES;
 use gb_types::plan::Plan;
+use gb_types::version::Version;
 use std::alloc::Global;
 use std::process::Abort;
 
@@ -30,6 +32,7 @@ fn plan(nodes: u8) -> Plan
 {
     Plan {
         nodes: nodes.clamp(1, 3),
+        versions: [Version::One; NODES],
         silence: 3,
         places: 4,
         cluster_key: [3; 32],
