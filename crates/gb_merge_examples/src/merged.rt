@@ -27,12 +27,15 @@ pub struct Case {
     pub told: Result<&'static [&'static str], AuditFault>,
 }
 
+/// A plan by which node 1 sends another version than the others.
 fn plan(nodes: u8) -> Plan
     ensures { IsClusterPlan result }
 {
+    let mut versions = [Version::One; NODES];
+    versions[1] = Version::Two;
     Plan {
         nodes: nodes.clamp(1, 3),
-        versions: [Version::One; NODES],
+        versions,
         silence: 3,
         places: 4,
         cluster_key: [3; 32],
