@@ -39,8 +39,10 @@ pub const BOTH: Addr = Addr {
     group: 1,
 };
 
-/// What is said.
-const WORDS: &[u8] = b"hello";
+/// What is said, short and as long as it may be.
+pub const WORDS: &[u8] = b"hello";
+
+pub const LONG: &[u8] = &[b'a'; 4_096];
 
 /// How many times a caller asks at most, a millisecond apart.
 pub const PATIENCE: u64 = 10_000;
@@ -147,7 +149,7 @@ fn add_tenant() -> Request {
         key: TENANT_KEY,
         groups: 4,
         msgs: 8,
-        bytes: 4_096,
+        bytes: 16_384,
         window: 4,
     };
     Request::AddTenant(token(&ADMIN_KEY, Need::Admin), row)
@@ -159,7 +161,7 @@ fn make(node: NodeId, addr: Addr) -> Request {
         kind: Kind::AllAck,
         members: NodeSet::new(),
         msgs: 8,
-        bytes: 4_096,
+        bytes: 16_384,
         window: 4,
     };
     spec.members.insert(node);
@@ -207,7 +209,7 @@ fn said(answer: &Option<NodeAnswer>) -> Option<u16> {
     }
 }
 
-/// Says a message in a group at a node. Its number, where it was said.
+/// Says words in a group at a node. The number of the message, where it was said.
 pub fn say<L: Tapes, M: Ledger, R: Wait + Clock>(
     rt: &R,
     alloc: Global,
@@ -215,14 +217,29 @@ pub fn say<L: Tapes, M: Ledger, R: Wait + Clock>(
     seat: &mut Seat<M>,
     node: NodeId,
     addr: Addr,
+    words: &[u8],
 ) -> Option<u16> {
     let member = token(&TENANT_KEY, Need::Member(7, addr.group, node));
-    let payload = Payload::from_slice(alloc, WORDS).ok()?;
+    let payload = Payload::from_slice(alloc, words).ok()?;
     let request = Request::Say(member, addr, payload);
     said(&answer(rt, alloc, host, seat, node, request))
 }
 
-/// Fetches in a group at a node. Whether its log is the first message of a node, and just that.
+/// The answer to a fetch in a group at a node.
+pub fn log<L: Tapes, M: Ledger, R: Wait + Clock>(
+    rt: &R,
+    alloc: Global,
+    host: &Host<L, M>,
+    seat: &mut Seat<M>,
+    node: NodeId,
+    addr: Addr,
+) -> Option<NodeAnswer> {
+    let member = token(&TENANT_KEY, Need::Member(7, addr.group, node));
+    let request = Request::Fetch(member, addr, 0, 16);
+    answer(rt, alloc, host, seat, node, request)
+}
+
+/// Fetches in a group at a node. Whether its log is the first message of a node, which is these words, and just that.
 pub fn fetch<L: Tapes, M: Ledger, R: Wait + Clock>(
     rt: &R,
     alloc: Global,
@@ -231,14 +248,13 @@ pub fn fetch<L: Tapes, M: Ledger, R: Wait + Clock>(
     node: NodeId,
     addr: Addr,
     origin: NodeId,
+    words: &[u8],
 ) -> bool {
-    let member = token(&TENANT_KEY, Need::Member(7, addr.group, node));
-    let request = Request::Fetch(member, addr, 0, 16);
-    is_first_of(&answer(rt, alloc, host, seat, node, request), origin)
+    is_first_of(&log(rt, alloc, host, seat, node, addr), origin, words)
 }
 
-// Whether an answer is a log of the first message of a node, and just that.
-fn is_first_of(answer: &Option<NodeAnswer>, origin: NodeId) -> bool {
+// Whether an answer is a log of the first message of a node, which is these words, and just that.
+fn is_first_of(answer: &Option<NodeAnswer>, origin: NodeId, words: &[u8]) -> bool {
     let Some(NodeAnswer::Reply(Reply::Log(entries))) = answer else {
         return false;
     };
@@ -246,5 +262,5 @@ fn is_first_of(answer: &Option<NodeAnswer>, origin: NodeId) -> bool {
         return false;
     };
     let is_first = entry.origin == origin && entry.seq == 1;
-    is_first && entries.len() == 1 && entry.payload.as_slice() == WORDS
+    is_first && entries.len() == 1 && entry.payload.as_slice() == words
 }

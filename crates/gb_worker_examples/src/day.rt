@@ -1,4 +1,5 @@
 // Days of a host of two nodes, with a thread for each role.
+use crate::asking::{LONG, WORDS};
 use crate::plans::{FIRST, SECOND, pair};
 use crate::roles::{Role, TURNS, count_callers, work};
 use crate::scenes::{Left, Scene, whole};
@@ -9,6 +10,7 @@ use gb_port::fail_at::FailAt;
 use gb_port::port::Port;
 use gb_port::ring::RingPort;
 use gb_port::udp::UdpPort;
+use gb_types::version::Version;
 use std::alloc::Global;
 use std::rt::HostRuntime;
 use std::sync::Wait;
@@ -69,10 +71,11 @@ fn first_four(counts: &[u64]) -> [u64; 4] {
     four
 }
 
-// A day of two nodes, with tapes or without, and with the group of both or without.
+// A day of two nodes that send this version, with tapes or without, and with the group of both or without.
 fn day<P: Port + Send + Drop, R: Threads + Wait + Clock + Sync>(
     rt: &R,
     alloc: Global,
+    version: Version,
     tape: bool,
     has_group: bool,
     roles: Vec<Role<'_, P>>,
@@ -83,7 +86,7 @@ fn day<P: Port + Send + Drop, R: Threads + Wait + Clock + Sync>(
     } else {
         Scene::Roles(roles)
     };
-    whole(rt, alloc, tape, count, &mut scene).ok()
+    whole(rt, alloc, version, tape, count, &mut scene).ok()
 }
 
 /// A day of two roles, without the group of both nodes.
@@ -94,13 +97,15 @@ pub fn day_of_two<R: Threads + Wait + Clock + Sync>(
     first: Role<'_, RingPort>,
     second: Role<'_, RingPort>,
 ) -> Option<Left> {
-    day(rt, alloc, tape, false, pair(alloc, first, second)?)
+    let roles = pair(alloc, first, second)?;
+    day(rt, alloc, Version::One, tape, false, roles)
 }
 
 // A day with a pump for each of two nodes, over these ports, and two more roles.
 fn day_with_pumps<'a, P: Port + Send + Drop, R: Threads + Wait + Clock + Sync>(
     rt: &R,
     alloc: Global,
+    version: Version,
     ports: (P, P),
     third: Role<'a, P>,
     fourth: Role<'a, P>,
@@ -111,7 +116,7 @@ fn day_with_pumps<'a, P: Port + Send + Drop, R: Threads + Wait + Clock + Sync>(
     roles.push_reserved(Role::Pump(SECOND, second));
     roles.push_reserved(third);
     roles.push_reserved(fourth);
-    day(rt, alloc, true, true, roles)
+    day(rt, alloc, version, true, true, roles)
 }
 
 fn rings(alloc: Global) -> Option<(RingPort, RingPort)> {
@@ -121,15 +126,20 @@ fn rings(alloc: Global) -> Option<(RingPort, RingPort)> {
     Some((first, second))
 }
 
+// What is said between nodes that send a version.
+static SAID: [(Version, &[u8]); 2] = [(Version::One, WORDS), (Version::Two, LONG)];
+
 // Whether what is said at node 0 is found at node 1.
 fn crosses<P: Port + Send + Drop, R: Threads + Wait + Clock + Sync>(
     rt: &R,
     alloc: Global,
+    version: Version,
+    words: &[u8],
     ports: (P, P),
 ) -> bool {
-    let sayer = Role::Sayer(FIRST, 1);
-    let fetcher = Role::Fetcher(SECOND, FIRST);
-    let Some(left) = day_with_pumps(rt, alloc, ports, sayer, fetcher) else {
+    let sayer = Role::Sayer(FIRST, words, 1);
+    let fetcher = Role::Fetcher(SECOND, FIRST, words);
+    let Some(left) = day_with_pumps(rt, alloc, version, ports, sayer, fetcher) else {
         return false;
     };
     let [_, _, said, found] = left.counts;
@@ -139,18 +149,22 @@ fn crosses<P: Port + Send + Drop, R: Threads + Wait + Clock + Sync>(
 #[test]
 fn say_crosses_rings(rt: HostRuntime) {
     let alloc = rt.alloc();
-    let ports = rings(alloc).expect(&rt, "two rings");
-    let is_found = crosses(&rt, alloc, ports);
-    assert!(rt; is_found);
+    for (version, words) in &SAID {
+        let ports = rings(alloc).expect(&rt, "two rings");
+        let is_found = crosses(&rt, alloc, *version, words, ports);
+        assert!(rt; is_found);
+    }
 }
 
 #[test]
 fn say_crosses_sockets(rt: HostRuntime) {
     let alloc = rt.alloc();
-    let first = UdpPort::bind(&rt, alloc, FIRST, 2, BASE).expect(&rt, "node 0's socket");
-    let second = UdpPort::bind(&rt, alloc, SECOND, 2, BASE).expect(&rt, "node 1's socket");
-    let is_found = crosses(&rt, alloc, (first, second));
-    assert!(rt; is_found);
+    for (version, words) in &SAID {
+        let first = UdpPort::bind(&rt, alloc, FIRST, 2, BASE).expect(&rt, "node 0's socket");
+        let second = UdpPort::bind(&rt, alloc, SECOND, 2, BASE).expect(&rt, "node 1's socket");
+        let is_found = crosses(&rt, alloc, *version, words, (first, second));
+        assert!(rt; is_found);
+    }
 }
 
 #[test]
@@ -165,8 +179,11 @@ fn two_ticks(rt: HostRuntime) {
 fn two_callers<R: Threads + Wait + Clock + Sync>(rt: &R, alloc: Global, at: u64) -> Option<Left> {
     let (first, second) = rings(alloc)?;
     let ports = (FailAt::new(first, at), FailAt::new(second, 0));
-    let (sayer, other) = (Role::Sayer(FIRST, 10), Role::Sayer(SECOND, 10));
-    day_with_pumps(rt, alloc, ports, sayer, other)
+    let (sayer, other) = (
+        Role::Sayer(FIRST, WORDS, 10),
+        Role::Sayer(SECOND, WORDS, 10),
+    );
+    day_with_pumps(rt, alloc, Version::One, ports, sayer, other)
 }
 
 #[test]

@@ -10,6 +10,7 @@ use gb_host::seat::Seat;
 use gb_node::event::NodeEvent;
 use gb_port::ring::RingPort;
 use gb_types::node::NodeId;
+use gb_types::version::Version;
 use std::rt::HostRuntime;
 use std::sync::Wait;
 use std::sync::ledger::Ledger;
@@ -32,7 +33,7 @@ pub fn is_refused<L: Tapes, M: Ledger, R: Wait>(
 fn a_missing_node_and_a_missing_seat_are_refused(rt: HostRuntime) {
     let left = day_of_two(&rt, rt.alloc(), true, Role::Lost, Role::Lost).expect(&rt, "a day");
     let mut scene: Scene<RingPort> = Scene::LostSeat;
-    let is_foreign = match whole(&rt, rt.alloc(), true, 2, &mut scene) {
+    let is_foreign = match whole(&rt, rt.alloc(), Version::One, true, 2, &mut scene) {
         Err(Refused::ForeignSeat) => true,
         _ => false,
     };

@@ -15,6 +15,8 @@ mod host_faults;
 #[cfg(test)]
 mod host_locks;
 #[cfg(test)]
+mod long;
+#[cfg(test)]
 mod plans;
 #[cfg(test)]
 mod roles;

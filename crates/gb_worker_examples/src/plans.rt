@@ -4,22 +4,25 @@ ghost use Rattle.gb_host.specs.Plans.{IsPlan};
 
 use crate::asking::ADMIN_KEY;
 use gb_host::plan::HostPlan;
+use gb_types::limits::NODES;
 use gb_types::node::NodeId;
 use gb_types::plan::Plan;
+use gb_types::version::Version;
 use std::alloc::Global;
 
 pub const FIRST: NodeId = NodeId { number: 0 };
 
 pub const SECOND: NodeId = NodeId { number: 1 };
 
-/// Two nodes, with tapes or without.
-pub fn two_nodes(tape: bool) -> HostPlan
+/// Two nodes that send this version, with tapes or without.
+pub fn two_nodes(version: Version, tape: bool) -> HostPlan
     ensures nodes { result.cluster.nodes ≡ 2 }
     ensures limits { IsPlan result }
 {
     HostPlan {
         cluster: Plan {
             nodes: 2,
+            versions: [version; NODES],
             silence: 1_000,
             places: 1_024,
             cluster_key: [0x11; 32],

@@ -1,5 +1,5 @@
 // What each thread of a day does, from a seat of its own.
-use crate::asking::{ALONE, BOTH, PATIENCE, ask, fetch, prepare, say};
+use crate::asking::{ALONE, BOTH, PATIENCE, WORDS, ask, fetch, prepare, say};
 use crate::host_faults::is_refused;
 use crate::host_locks::{call_beside, hold};
 use crate::plans::SECOND;
@@ -29,10 +29,10 @@ pub enum Role<'a, P> {
     Pump(NodeId, P),
     /// Makes so many turns of ticks.
     Ticker(u64),
-    /// Says a message at a node, so many times.
-    Sayer(NodeId, u64),
-    /// Fetches at a node until its log is the first message of another node.
-    Fetcher(NodeId, NodeId),
+    /// Says these words at a node, so many times.
+    Sayer(NodeId, &'a [u8], u64),
+    /// Fetches at a node until its log is the first message of another node, which is these words.
+    Fetcher(NodeId, NodeId, &'a [u8]),
     /// Makes a group of a node alone, and says and fetches in it.
     Loner(NodeId),
     /// Calls node 0, and holds its lock.
@@ -65,7 +65,7 @@ impl<R: Clock> Gate for Paced<'_, R> {
 // Whether pumps wait for a role to end.
 fn is_caller<P>(role: &Role<'_, P>) -> bool {
     match role {
-        Role::Sayer(_, _) | Role::Fetcher(_, _) => true,
+        Role::Sayer(_, _, _) | Role::Fetcher(_, _, _) => true,
         _ => false,
     }
 }
@@ -104,11 +104,12 @@ fn say_all<L: Tapes, M: Ledger, R: Wait + Clock>(
     host: &Host<L, M>,
     seat: &mut Seat<M>,
     node: NodeId,
+    words: &[u8],
     times: u64,
 ) -> u64 {
     let mut count: u64 = 0;
     for _ in 0..times {
-        if say(rt, alloc, host, seat, node, BOTH).is_some() {
+        if say(rt, alloc, host, seat, node, BOTH, words).is_some() {
             count = count.saturating_add(1);
         }
         thread::sleep(rt, Duration::from_millis(1));
@@ -123,9 +124,10 @@ fn wait_for_message<L: Tapes, M: Ledger, R: Wait + Clock>(
     seat: &mut Seat<M>,
     node: NodeId,
     origin: NodeId,
+    words: &[u8],
 ) -> bool {
     for _ in 0..PATIENCE {
-        if fetch(rt, alloc, host, seat, node, BOTH, origin) {
+        if fetch(rt, alloc, host, seat, node, BOTH, origin, words) {
             return true;
         }
         thread::sleep(rt, Duration::from_millis(1));
@@ -143,8 +145,8 @@ fn keep_to_itself<L: Tapes, M: Ledger, R: Wait + Clock>(
     node: NodeId,
 ) -> bool {
     prepare(rt, alloc, host, seat, node, ALONE);
-    let seq = say(rt, alloc, host, seat, node, ALONE).unwrap_or(0);
-    let is_fetched = fetch(rt, alloc, host, seat, node, ALONE, node);
+    let seq = say(rt, alloc, host, seat, node, ALONE, WORDS).unwrap_or(0);
+    let is_fetched = fetch(rt, alloc, host, seat, node, ALONE, node, WORDS);
     let _ = ask(rt, alloc, host, seat, node, &NodeEvent::Pack(SECOND));
     seq == 1 && is_fetched
 }
@@ -162,9 +164,9 @@ pub fn work<L: Tapes, M: Ledger, P: Port, R: Wait + Clock>(
     let count = match role {
         Role::Pump(node, port) => carry(rt, host, seat, *node, port, callers),
         Role::Ticker(turns) => ticker(rt, host, seat, &mut Open, *turns).turns,
-        Role::Sayer(node, times) => say_all(rt, alloc, host, seat, *node, *times),
-        Role::Fetcher(node, origin) => {
-            wait_for_message(rt, alloc, host, seat, *node, *origin) as u64
+        Role::Sayer(node, words, times) => say_all(rt, alloc, host, seat, *node, words, *times),
+        Role::Fetcher(node, origin, words) => {
+            wait_for_message(rt, alloc, host, seat, *node, *origin, words) as u64
         }
         Role::Loner(node) => keep_to_itself(rt, alloc, host, seat, *node) as u64,
         Role::Holder(state) => hold(rt, host, seat, state) as u64,

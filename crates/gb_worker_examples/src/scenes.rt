@@ -5,6 +5,7 @@ ghost use Rattle.gb_host.specs.Plans.{IsPlan};
 use crate::agreement::{agree, copy_lists, count_entries, entries_of};
 use crate::asking::prepare_both;
 use crate::day::all_work;
+use crate::long::fill_a_packet;
 use crate::plans::two_nodes;
 use crate::roles::Role;
 use gb_host::close::close;
@@ -19,6 +20,7 @@ use gb_merge::merge::merge;
 use gb_node::event::NodeEvent;
 use gb_node::tape::Tape;
 use gb_port::port::Port;
+use gb_types::version::Version;
 use std::alloc::Global;
 use std::marker::Brand;
 use std::sync::Wait;
@@ -33,6 +35,8 @@ pub enum Scene<'a, P> {
     Roles(Vec<Role<'a, P>>),
     /// The same, once the group of both nodes was made from the last seat.
     InGroup(Vec<Role<'a, P>>),
+    /// Once the group of both nodes was made, messages are said in it at node 0 that fill a packet, and it is brought to node 1.
+    FullPacket,
     /// The last seat is lost.
     LostSeat,
 }
@@ -55,6 +59,10 @@ fn play<
         Scene::InGroup(roles) => {
             prepare_both(rt, alloc, host, seats);
             all_work(rt, alloc, host, seats, roles)
+        }
+        Scene::FullPacket => {
+            prepare_both(rt, alloc, host, seats);
+            fill_a_packet(rt, alloc, host, seats)
         }
         Scene::LostSeat => {
             let _ = seats.pop();
@@ -178,10 +186,11 @@ fn run<
     left_of(alloc, plan, counts, &close(host, seats), &lists)
 }
 
-/// Plays a scene on a host of two nodes, with tapes or without, and so many seats.
+/// Plays a scene on a host of two nodes that send this version, with tapes or without, and so many seats.
 pub fn whole<P: Port + Send + Drop, R: Threads + Wait + Clock + Sync>(
     rt: &R,
     alloc: Global,
+    version: Version,
     tape: bool,
     count: u32,
     scene: &mut Scene<'_, P>,
@@ -190,7 +199,7 @@ pub fn whole<P: Port + Send + Drop, R: Threads + Wait + Clock + Sync>(
     run::<Brand, Brand, P, R>(
         rt,
         alloc,
-        two_nodes(tape),
+        two_nodes(version, tape),
         count,
         scene,
         Blank::new(3),

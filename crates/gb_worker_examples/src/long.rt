@@ -1,0 +1,114 @@
+// A packet as long as it may be: messages that fill it are said at a node of a host, and it is brought to another.
+use crate::asking::{BOTH, LONG, ask, log, say};
+use crate::plans::{FIRST, SECOND};
+use crate::scenes::{Scene, whole};
+use gb_host::host::Host;
+use gb_host::names::Tapes;
+use gb_host::seat::Seat;
+use gb_node::answer::{NodeAnswer, Sent};
+use gb_node::event::NodeEvent;
+use gb_node::packet_text::PacketText;
+use gb_port::ring::RingPort;
+use gb_types::entry::Entry;
+use gb_types::reply::Reply;
+use gb_types::version::Version;
+use std::alloc::Global;
+use std::rt::HostRuntime;
+use std::sync::Wait;
+use std::sync::ledger::Ledger;
+use std::time::Clock;
+
+const LAST: &[u8] = &[b'b'; 4_021];
+
+// What is said: three messages as long as they may be, and one that fills the packet.
+static SAID: [&[u8]; 4] = [LONG, LONG, LONG, LAST];
+
+// Says the messages at node 0. How many were said.
+fn say_all<L: Tapes, M: Ledger, R: Wait + Clock>(
+    rt: &R,
+    alloc: Global,
+    host: &Host<L, M>,
+    seat: &mut Seat<M>,
+) -> u64 {
+    let mut count: u64 = 0;
+    for words in &SAID {
+        if say(rt, alloc, host, seat, FIRST, BOTH, words).is_some() {
+            count = count.saturating_add(1);
+        }
+    }
+    count
+}
+
+// The bytes of the packet that node 0 packs for node 1; none where it packs none.
+fn packed<L: Tapes, M: Ledger, R: Wait + Clock>(
+    rt: &R,
+    alloc: Global,
+    host: &Host<L, M>,
+    seat: &mut Seat<M>,
+) -> Vec<u8> {
+    match ask(rt, alloc, host, seat, FIRST, &NodeEvent::Pack(SECOND)) {
+        Some(NodeAnswer::Sent(Sent::Packet(text))) => text.into_vec(),
+        _ => Vec::new(alloc),
+    }
+}
+
+// How many of the messages stand in a log, each in its place.
+fn count_said(entries: &[Entry]) -> u64 {
+    let mut count: u64 = 0;
+    for (entry, words) in entries.iter().zip(&SAID) {
+        if entry.origin == FIRST && entry.payload.as_slice() == *words {
+            count = count.saturating_add(1);
+        }
+    }
+    count
+}
+
+// How many of the messages are found at node 1.
+fn count_found<L: Tapes, M: Ledger, R: Wait + Clock>(
+    rt: &R,
+    alloc: Global,
+    host: &Host<L, M>,
+    seat: &mut Seat<M>,
+) -> u64 {
+    match log(rt, alloc, host, seat, SECOND, BOTH) {
+        Some(NodeAnswer::Reply(Reply::Log(entries))) => count_said(entries.as_slice()),
+        _ => 0,
+    }
+}
+
+/// Says the messages at node 0, packs them there, and brings the packet to node 1. How many were said, how many bytes the packet
+/// has, and how many messages are found at node 1.
+pub fn fill_a_packet<L: Tapes, M: Ledger, R: Wait + Clock>(
+    rt: &R,
+    alloc: Global,
+    host: &Host<L, M>,
+    seats: &mut [Seat<M>],
+) -> [u64; 4] {
+    let Some(seat) = seats.first_mut() else {
+        return [0; 4];
+    };
+    let said = say_all(rt, alloc, host, seat);
+    let packet = packed(rt, alloc, host, seat);
+    let bytes = packet.len() as u64;
+    let event = NodeEvent::Packet(PacketText::from(packet));
+    let _ = ask(rt, alloc, host, seat, SECOND, &event);
+    let found = count_found(rt, alloc, host, seat);
+    [said, bytes, found, 0]
+}
+
+// What nodes make of the messages, by the version that they send: by the first they are too long.
+static FILLED: [(Version, [u64; 4]); 2] = [
+    (Version::One, [0, 0, 0, 0]),
+    (Version::Two, [4, 16_384, 4, 0]),
+];
+
+#[test]
+fn a_full_packet_is_carried(rt: HostRuntime) {
+    for (version, counts) in &FILLED {
+        let mut scene: Scene<RingPort> = Scene::FullPacket;
+        let left = whole(&rt, rt.alloc(), *version, true, 2, &mut scene)
+            .ok()
+            .expect(&rt, "a scene");
+        assert!(rt; left.counts == *counts && left.agree && left.merged);
+    }
+}
