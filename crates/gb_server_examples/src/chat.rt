@@ -46,15 +46,15 @@ static END: [(Head, &str, &str); 2] = [
 // The entries of each member's log: origin, number, payload.
 static ENTRIES: [&str; 3] = ["0:1:68656c6c6f", "1:1:6869", "2:1:676f6f64627965"];
 
-// A member: its node, and its connection to it.
+/// A member: its node, and its connection to it.
 #[derive(Drop)]
-struct Member {
+pub struct Member {
     node: NodeId,
     stream: TcpStream,
 }
 
-// A member of a server with this base port.
-fn joined<H: Net<Stream = TcpStream> + Clock>(
+/// A member of a server with this base port.
+pub fn joined<H: Net<Stream = TcpStream> + Clock>(
     rt: &H,
     base_port: u16,
     node: NodeId,
@@ -94,8 +94,8 @@ fn reply(
     receive(alloc, &mut member.stream)
 }
 
-// Whether a member's node gives these replies.
-fn gives(
+/// Whether a member's node gives these replies.
+pub fn gives(
     alloc: Global,
     member: &mut Member,
     table: &[(Head, &str, &str)],

@@ -11,6 +11,8 @@ mod gates;
 #[cfg(test)]
 mod keys;
 #[cfg(test)]
+mod many_nodes;
+#[cfg(test)]
 mod messages;
 #[cfg(test)]
 mod served;
@@ -18,3 +20,5 @@ mod served;
 mod socket_clients;
 #[cfg(test)]
 mod talks;
+#[cfg(test)]
+mod versions;

@@ -40,8 +40,8 @@ pub fn prints<H: Net<Listener = TcpListener, Stream = TcpStream> + Threads + Wai
     ended == status && found.as_slice() == lines
 }
 
-// Whether a client that sends these bytes to a port is told those.
-fn is_told<H: Net<Stream = TcpStream> + Clock>(
+/// Whether a client that sends these bytes to a port is told those.
+pub fn is_told<H: Net<Stream = TcpStream> + Clock>(
     rt: &H,
     alloc: Global,
     port: u16,
@@ -64,12 +64,23 @@ static KEYLESS: [&str; 7] = [
     "1",
 ];
 
+static TOO_MANY: [&str; 7] = [
+    "gb_serve",
+    "--nodes",
+    "17",
+    "--base-port",
+    "42600",
+    "--version",
+    "1",
+];
+
 #[test]
 fn faults_are_told(rt: HostRuntime) {
     let alloc = rt.alloc();
     let is_refused = prints(&rt, alloc, &["gb_serve"], KEYS, 2, b"refused words\n");
+    let are_too_many = prints(&rt, alloc, &TOO_MANY, KEYS, 2, b"refused words\n");
     let is_keyless = prints(&rt, alloc, &KEYLESS, b"", 1, b"bad keys\n");
-    assert!(rt; is_refused && is_keyless);
+    assert!(rt; is_refused && are_too_many && is_keyless);
 }
 
 static TWO_NODES: [&str; 7] = [

@@ -10,8 +10,10 @@ use gb_host::names::Tapes;
 use gb_host::plan::HostPlan;
 use gb_host::seat::Seat;
 use gb_session::serve::{SessionEnd, SessionFault};
+use gb_types::limits::NODES;
 use gb_types::node::NodeId;
 use gb_types::plan::Plan;
+use gb_types::version::Version;
 use gb_worker::session::session;
 use gb_worker::sessions::{Ending, Stream, sessions};
 use std::alloc::Global;
@@ -35,6 +37,7 @@ fn two_nodes() -> HostPlan
     HostPlan {
         cluster: Plan {
             nodes: 2,
+            versions: [Version::One; NODES],
             silence: 1_000,
             places: 1_024,
             cluster_key: [0x11; 32],

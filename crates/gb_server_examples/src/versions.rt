@@ -1,0 +1,74 @@
+// The version that a server's words give reaches its nodes: it bounds what may be said at them.
+use crate::chat::{gives, joined};
+use crate::served::{KEYS, prints};
+use gb_client::fault::ClientFault;
+use gb_session::head::Head;
+use gb_types::node::NodeId;
+use std::alloc::{AllocError, Global};
+use std::net::{Net, TcpStream};
+use std::rt::HostRuntime;
+use std::thread;
+use std::time::Clock;
+
+// What is asked before anything is said, and its replies.
+static PREPARATIONS: [(Head, &str, &str); 3] = [
+    (Head::Tenant, "7 2 1 4096 1", "ok"),
+    (Head::Make, "7 1 allack 0 1 4096 1", "ok"),
+    (Head::Open, "7 1", "ok"),
+];
+
+// A server of one node: the option of its version, the length of a message, and what a member that says it is told.
+static SAID: [(&str, usize, &str); 4] = [
+    ("--version=1", 1_024, "said 1"),
+    ("--version=1", 1_025, "refused 7 TooLong"),
+    ("--version=2", 1_025, "said 1"),
+    ("--version=2", 4_096, "said 1"),
+];
+
+// The words by which a message of so many bytes is said.
+fn say_line(alloc: Global, bytes: usize) -> Result<String, AllocError> {
+    let word = "a".repeat(alloc, bytes)?;
+    format!(in alloc; "7 1 {word}")
+}
+
+// Whether a member of a server with this base port that says so many bytes is told this.
+fn is_answered<H: Net<Stream = TcpStream> + Clock>(
+    rt: &H,
+    alloc: Global,
+    base_port: u16,
+    bytes: usize,
+    want: &str,
+) -> Result<bool, ClientFault> {
+    let mut member = joined(rt, base_port, NodeId::new(0))?;
+    let is_prepared = gives(alloc, &mut member, &PREPARATIONS)?;
+    let line = say_line(alloc, bytes)?;
+    let is_told = gives(alloc, &mut member, &[(Head::Say, &line, want)])?;
+    Ok(is_prepared && is_told)
+}
+
+#[test]
+fn a_version_bounds_what_is_said(rt: HostRuntime) {
+    let alloc = rt.alloc();
+    for (version, bytes, want) in &SAID {
+        let words = [
+            "gb_serve",
+            "--nodes=1",
+            version,
+            "--base-port=43200",
+            "--sessions=1",
+        ];
+        let (is_served, is_answered) = thread::join(
+            &rt,
+            || prints(
+                &rt,
+                alloc,
+                &words,
+                KEYS,
+                0,
+                b"serving 1 nodes from port 43200\nclosed\n",
+            ),
+            || is_answered(&rt, alloc, 43_200, *bytes, want).unwrap_or(false),
+        );
+        assert!(rt; is_served && is_answered, "{version}, {bytes} bytes");
+    }
+}
