@@ -82,8 +82,8 @@ fn body_of(alloc: Global, node: NodeId, head: Head, line: &str) -> Result<Vec<u8
     request_of(alloc, &SECRETS, node, &asked)
 }
 
-// The reply of a member's node to a request, whose words are those that gb_ctl takes.
-fn reply(
+/// The reply of a member's node to a request, whose words are those that gb_ctl takes.
+pub fn reply(
     alloc: Global,
     member: &mut Member,
     head: Head,

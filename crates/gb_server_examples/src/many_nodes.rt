@@ -1,11 +1,15 @@
-// A server of as many nodes as there may be.
+// A server of as many nodes as there may be: each is asked, and what is said at the last is heard at the first.
+use crate::chat::{Member, gives, joined, reply};
 use crate::messages::{DENIED, OPEN};
 use crate::served::{KEYS, is_told, prints};
+use gb_client::fault::ClientFault;
+use gb_session::head::Head;
+use gb_types::node::NodeId;
 use std::alloc::Global;
 use std::net::{Net, TcpStream};
 use std::rt::HostRuntime;
 use std::thread;
-use std::time::Clock;
+use std::time::{Clock, Duration};
 
 static WORDS: [&str; 9] = [
     "gb_serve",
@@ -19,10 +23,46 @@ static WORDS: [&str; 9] = [
     "1",
 ];
 
-// Asks each node once, one after the other. How many answered.
-fn ask_all<H: Net<Stream = TcpStream> + Clock>(rt: &H, alloc: Global) -> u16 {
+// What is asked at the first and at the last node before anything is said, and its replies.
+static PREPARATIONS: [(Head, &str, &str); 3] = [
+    (Head::Tenant, "7 2 1 5 1", "ok"),
+    (Head::Make, "7 1 beb 0,31 1 5 1", "ok"),
+    (Head::Open, "7 1", "ok"),
+];
+
+static SAY: [(Head, &str, &str); 1] = [(Head::Say, "7 1 hello", "said 1")];
+
+static HEARD: &[u8] = b"log 1 31:1:68656c6c6f";
+
+// Whether a member's log comes to have what was said; ten seconds are waited for that.
+fn hears<H: Clock>(rt: &H, alloc: Global, member: &mut Member) -> Result<bool, ClientFault> {
+    for _ in 0..1_000 {
+        let log = reply(alloc, member, Head::Fetch, "7 1 0 16")?;
+        if log.as_slice() == HEARD {
+            return Ok(true);
+        }
+        thread::sleep(rt, Duration::from_millis(10));
+    }
+    Ok(false)
+}
+
+// Whether what a member of the last node says is heard by one of the first, each reply being right.
+fn is_heard<H: Net<Stream = TcpStream> + Clock>(
+    rt: &H,
+    alloc: Global,
+) -> Result<bool, ClientFault> {
+    let mut first = joined(rt, 43_000, NodeId::new(0))?;
+    let mut last = joined(rt, 43_000, NodeId::new(31))?;
+    let is_first_ready = gives(alloc, &mut first, &PREPARATIONS)?;
+    let is_last_ready = gives(alloc, &mut last, &PREPARATIONS)?;
+    let is_said = gives(alloc, &mut last, &SAY)?;
+    Ok(is_first_ready && is_last_ready && is_said && hears(rt, alloc, &mut first)?)
+}
+
+// Asks each node between these once, one after the other. How many answered.
+fn ask_others<H: Net<Stream = TcpStream> + Clock>(rt: &H, alloc: Global) -> u16 {
     let mut count: u16 = 0;
-    for node in 0..32 {
+    for node in 1..31 {
         if is_told(rt, alloc, 43_064 + node, OPEN, DENIED) {
             count = count.saturating_add(1);
         }
@@ -33,7 +73,7 @@ fn ask_all<H: Net<Stream = TcpStream> + Clock>(rt: &H, alloc: Global) -> u16 {
 #[test]
 fn thirty_two_nodes_are_served(rt: HostRuntime) {
     let alloc = rt.alloc();
-    let (is_served, answered) = thread::join(
+    let (is_served, (is_heard, answered)) = thread::join(
         &rt,
         || prints(
             &rt,
@@ -43,7 +83,10 @@ fn thirty_two_nodes_are_served(rt: HostRuntime) {
             0,
             b"serving 32 nodes from port 43000\nclosed\n",
         ),
-        || ask_all(&rt, alloc),
+        || (
+            is_heard(&rt, alloc).unwrap_or(false),
+            ask_others(&rt, alloc),
+        ),
     );
-    assert!(rt; is_served && answered == 32);
+    assert!(rt; is_served && is_heard && answered == 30);
 }
