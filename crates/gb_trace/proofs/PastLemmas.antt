@@ -8,7 +8,6 @@ use Rattle.gb_types.specs.declared.address.Addr.{Addr}
 use Rattle.gb_types.specs.declared.node.NodeId.{NodeId}
 use Rattle.gb_types.specs.declared.plan.Plan.{Plan}
 use Rattle.gb_node.specs.Past.{Happened}
-use Rattle.gb_node.specs.declared.plan.NodePlan.{NodePlan}
 use Rattle.gb_cluster.specs.Run.{Did, past_at}
 use Rattle.gb_isolation.specs.Project.{gives, project, reply_in, replies_in}
 use Rattle.gb_trace.specs.Deeds.{past_in}

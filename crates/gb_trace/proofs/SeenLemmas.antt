@@ -10,7 +10,7 @@ use Rattle.gb_alone.proofs.ObservationLemmas.{seen_same}
 use Rattle.gb_node.specs.NodeGroups.{waiting_at}
 use Rattle.gb_node.specs.NodeStep.{node_numbered}
 use Rattle.gb_node.specs.Past.{frames_to}
-use Rattle.gb_cluster.specs.ClusterValue.{node_plan, node_at}
+use Rattle.gb_cluster.specs.ClusterValue.{node_at}
 use Rattle.gb_cluster.proofs.NodesLemmas.{stays}
 use Rattle.gb_cluster.specs.Run.{Did, past_at}
 use Rattle.gb_isolation.proofs.NoticeLemmas.{numbered_is}

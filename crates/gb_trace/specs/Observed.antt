@@ -9,7 +9,7 @@ use Rattle.gb_alone.specs.Observation.{SeenAt, numbers_below, observed_alone}
 use Rattle.gb_alone.specs.declared.event.GroupStep.{GroupStep}
 use Rattle.gb_node.specs.NodeStep.{node_numbered}
 use Rattle.gb_node.specs.Past.{frames_to}
-use Rattle.gb_cluster.specs.ClusterValue.{ClusterValue, node_plan}
+use Rattle.gb_cluster.specs.ClusterValue.{ClusterValue}
 use Rattle.gb_cluster.specs.Run.{Did, past_at}
 use Rattle.gb_cluster.specs.declared.answer.Answer.{Answer}
 use Rattle.gb_cluster.specs.declared.event.Event.{Event}

@@ -1,14 +1,21 @@
 -- For which groups a run says that they lacked memory.
-use Rattle.std.specs.Prelude.{Bool, true, false, ◌||◌, List, [], ◌∷◌, nat_eq}
+use Rattle.std.specs.Prelude.{Bool, false, ◌||◌, List, [], ◌∷◌, nat_eq, if◌then◌else◌}
 use Rattle.gb_types.specs.declared.address.Addr.{Addr}
 use Rattle.gb_types.specs.declared.refusal.Refusal.TheVariants.{OutOfMemory}
 use Rattle.gb_types.specs.declared.reply.Reply.TheVariants.{Refused}
 use Rattle.gb_types.specs.declared.request.Request.TheVariants.{AddTenant}
+use Rattle.gb_types.specs.declared.node.NodeId.{NodeId}
+use Rattle.gb_types.specs.declared.spec.TenantRow.{TenantRow}
+use Rattle.gb_node.specs.Past.{added}
 use Rattle.gb_node.specs.declared.answer.NodeAnswer.{NodeAnswer}
 use Rattle.gb_node.specs.declared.answer.NodeAnswer.TheVariants.{Reply as Replied}
 use Rattle.gb_node.specs.declared.event.NodeEvent.{NodeEvent}
 use Rattle.gb_node.specs.declared.event.NodeEvent.TheVariants.{Request as Asked}
 use Rattle.gb_cluster.specs.Run.{Did, past_at}
+use Rattle.gb_cluster.specs.declared.answer.Answer.{Answer}
+use Rattle.gb_cluster.specs.declared.answer.Answer.TheVariants.{Reply as AnswerReply}
+use Rattle.gb_cluster.specs.declared.event.Event.{Event}
+use Rattle.gb_cluster.specs.declared.event.Event.TheVariants.{At}
 use Rattle.gb_isolation.specs.Project.{is_starved_by}
 
 -- a request that adds the group's tenant was refused for lack of memory
@@ -20,3 +27,13 @@ is_untaken_by g event answer = false
 unfoldable pub is_refused_for : Addr → List Did → Bool
 is_refused_for g [] = false
 is_refused_for g (d ∷ run) = (is_untaken_by g d.event d.answer || is_starved_by d.node g (past_at d.node run) d.event d.answer) || is_refused_for g run
+
+-- after the run an event in the cluster with its answer is such
+abbrev pub is_refused_by : Addr → List Did → Event → Answer → Bool
+is_refused_by g run (At a event) (AnswerReply reply) = is_untaken_by g event (Replied reply) || is_starved_by a g (past_at a run) event (Replied reply)
+is_refused_by g run event answer = false
+
+-- what rows of tenants an event in the cluster with its answer adds at the node
+abbrev pub rows_by : NodeId → Event → Answer → List TenantRow
+rows_by a (At node event) (AnswerReply reply) = if nat_eq node.number a.number then added event (Replied reply) else []
+rows_by a event answer = []

@@ -1,11 +1,11 @@
 //! Questions about the past of a node, asked of all that happened in a run so far, in order.
-ghost use Rattle.std.specs.Prelude.{◌≡◌};
+ghost use Rattle.std.specs.Prelude.{◌≡◌, ◌&&◌, List};
 ghost use Rattle.std.specs.Option.{option_copied};
 ghost use Rattle.gb_rules.specs.Tenant.{row_of};
-ghost use Rattle.gb_table.specs.Admission.{is_by_row};
 ghost use Rattle.gb_node.specs.Past.{added, tenants_in, is_stopped};
 ghost use Rattle.gb_node.specs.Past as occurred;
-ghost use Rattle.gb_node.specs.StepLaw.{has_group_token_by};
+ghost use Rattle.gb_table.specs.Admission.{has_group_token, is_by_row};
+ghost use Rattle.gb_types.specs.declared.spec.TenantRow.{TenantRow as RowValue};
 ghost use Rattle.gb_node.specs.declared.answer.NodeAnswer.TheVariants.{Reply as Replied};
 ghost use Rattle.gb_node.specs.declared.event.NodeEvent.TheVariants.{Request as Asked};
 ghost use Rattle.gb_isolation.specs.Project as projected;
@@ -22,34 +22,36 @@ use gb_types::reply::Reply;
 use gb_types::request::Request;
 use gb_types::spec::{Spec, TenantRow};
 
-/// Whether the request names the group.
-pub(crate) fn is_named(addr: Addr, request: &Request) -> bool
-    ensures { result ≡ projected.is_named addr request.now }
+/// The row of the tenant, where the request with its reply added it.
+pub(crate) fn row_added<'a>(
+    tenant: u16,
+    request: &'a Request,
+    reply: &Reply,
+) -> Option<&'a TenantRow>
+    ensures { option_copied result ≡ row_of tenant (added (Asked request.now) (Replied reply.now)) }
 {
     match request {
-        Request::AddTenant(_, _) => false,
-        Request::Make(_, named, _) => is_same(addr, *named),
-        Request::OpenGroup(_, named) => is_same(addr, *named),
-        Request::ShutGroup(_, named) => is_same(addr, *named),
-        Request::DropGroup(_, named) => is_same(addr, *named),
-        Request::Say(_, named, _) => is_same(addr, *named),
-        Request::Fetch(_, named, _, _) => is_same(addr, *named),
-    }
-}
-
-/// The row of the tenant, where this added it.
-fn row_added(tenant: u16, deed: &Deed) -> Option<&TenantRow>
-    ensures { option_copied result ≡ row_of tenant (added deed.now.event deed.now.answer) }
-{
-    match deed.event() {
-        NodeEvent::Request(Request::AddTenant(_, row)) => match deed.answer() {
-            NodeAnswer::Reply(Reply::Done) => {
+        Request::AddTenant(_, row) => match reply {
+            Reply::Done => {
                 if row.tenant == tenant {
                     Some(row)
                 } else {
                     None
                 }
             }
+            _ => None,
+        },
+        _ => None,
+    }
+}
+
+/// The row of the tenant, where this added it.
+fn row_in(tenant: u16, deed: &Deed) -> Option<&TenantRow>
+    ensures { option_copied result ≡ row_of tenant (added deed.now.event deed.now.answer) }
+{
+    match deed.event() {
+        NodeEvent::Request(request) => match deed.answer() {
+            NodeAnswer::Reply(reply) => row_added(tenant, request, reply),
             _ => None,
         },
         _ => None,
@@ -65,7 +67,7 @@ pub(crate) fn row_at(a: NodeId, tenant: u16, deeds: &[Deed]) -> Option<&TenantRo
     for i in 0..deeds.len() {
         let deed = &deeds[i];
         if deed.is_at(a) {
-            found = found.or(row_added(tenant, deed));
+            found = found.or(row_in(tenant, deed));
         }
     }
     found
@@ -81,29 +83,32 @@ fn is_token(need: Need, token: &Token, row: Option<&TenantRow>) -> bool
     }
 }
 
-/// Whether the request names a group, with the token of the group's tenant or of its member at the node.
-fn has_group_token(a: NodeId, deeds: &[Deed], request: &Request) -> bool
-    ensures { result ≡ has_group_token_by a (past_in a deeds.now) request.now }
+/// Whether the request is one of the group at the node where this is the row of its tenant: it names the group, with the
+/// token that it needs.
+pub(crate) fn is_own_by(addr: Addr, a: NodeId, row: Option<&TenantRow>, request: &Request) -> bool
+    ensures { (rows : List RowValue) → option_copied row.entry ≡ row_of addr.tenant rows → result ≡ (projected.is_named addr request.now && has_group_token a rows request.now) }
 {
-    let (token, addr, need) = match request {
+    let (token, named, need) = match request {
         Request::AddTenant(_, _) => return false,
-        Request::Make(token, addr, _) => (token, addr, Need::Tenant(addr.tenant)),
-        Request::OpenGroup(token, addr) => (token, addr, Need::Tenant(addr.tenant)),
-        Request::ShutGroup(token, addr) => (token, addr, Need::Tenant(addr.tenant)),
-        Request::DropGroup(token, addr) => (token, addr, Need::Tenant(addr.tenant)),
-        Request::Say(token, addr, _) => (token, addr, Need::Member(addr.tenant, addr.group, a)),
-        Request::Fetch(token, addr, _, _) => {
-            (token, addr, Need::Member(addr.tenant, addr.group, a))
-        }
+        Request::Make(token, named, _) => (token, named, Need::Tenant(named.tenant)),
+        Request::OpenGroup(token, named) => (token, named, Need::Tenant(named.tenant)),
+        Request::ShutGroup(token, named) => (token, named, Need::Tenant(named.tenant)),
+        Request::DropGroup(token, named) => (token, named, Need::Tenant(named.tenant)),
+        Request::Say(token, named, _) => (token, named, Need::Member(named.tenant, named.group, a)),
+        Request::Fetch(token, named, _, _) => (
+            token,
+            named,
+            Need::Member(named.tenant, named.group, a),
+        ),
     };
-    is_token(need, token, row_at(a, addr.tenant, deeds))
+    is_same(addr, *named) && is_token(need, token, row)
 }
 
-/// Whether the request is one of the group at the node: it names the group, with the token that it needs.
+/// Whether the request is one of the group at the node.
 pub(crate) fn is_own_request(addr: Addr, a: NodeId, deeds: &[Deed], request: &Request) -> bool
     ensures { result ≡ projected.is_own_request a addr (past_in a deeds.now) request.now }
 {
-    is_named(addr, request) && has_group_token(a, deeds, request)
+    is_own_by(addr, a, row_at(a, addr.tenant, deeds), request)
 }
 
 /// Whether the node stopped by this.

@@ -1,73 +1,101 @@
-//! Whether a group lacked memory in a run, computed plainly from its meaning.
-ghost use Rattle.std.specs.Prelude.{◌≡◌, false, true, reverse, IfOk};
-ghost use Rattle.gb_isolation.specs.Project.{is_starved_by, is_fed};
-ghost use Rattle.gb_trace.specs.Deeds.{past_in};
-ghost use Rattle.gb_trace.specs.Refused.{is_untaken_by, is_refused_for};
+//! Whether a group lacked memory in a run, computed plainly from its meaning, with no copy of the run.
+ghost use Rattle.std.specs.Prelude.{◌≡◌, ◌≤◌, false, true, length, take};
+ghost use Rattle.std.specs.Option.{option_copied};
+ghost use Rattle.gb_rules.specs.Tenant.{row_of};
+ghost use Rattle.gb_node.specs.Past.{tenants_in};
+ghost use Rattle.gb_cluster.specs.Run.{past_at};
+ghost use Rattle.gb_isolation.specs.Project.{is_fed};
+ghost use Rattle.gb_trace.specs.Refused.{is_refused_by, is_refused_for, rows_by};
 ghost use Rattle.gb_trace.specs.Trace.{run_of};
 
-use crate::deed::{Deed, deeds_of};
-use crate::past::is_own_request;
+use crate::past::{is_own_by, row_added};
 use crate::trace::Trace;
+use gb_cluster::answer::Answer;
 use gb_cluster::event::Event;
-use gb_node::answer::NodeAnswer;
 use gb_node::event::NodeEvent;
 use gb_types::address::Addr;
-use gb_types::memory::OutOfMemory;
+use gb_types::node::NodeId;
 use gb_types::refusal::Refusal;
 use gb_types::reply::Reply;
 use gb_types::request::Request;
-use std::alloc::Global;
+use gb_types::spec::TenantRow;
 
-/// Whether this was a request of the group that was refused for lack of memory after what happened before.
-fn is_starved(addr: Addr, before: &[Deed], deed: &Deed) -> bool
-    ensures { result ≡ is_starved_by deed.now.node addr (past_in deed.now.node before.now) deed.now.event deed.now.answer }
+/// The row of the tenant, where the event with its answer added it at the node.
+fn row_in<'a>(a: NodeId, tenant: u16, event: &'a Event, answer: &Answer) -> Option<&'a TenantRow>
+    ensures { option_copied result ≡ row_of tenant (rows_by a event.now answer.now) }
 {
-    let NodeEvent::Request(request) = deed.event() else {
-        return false;
+    let Event::At(node, NodeEvent::Request(request)) = event else {
+        return None;
     };
-    let NodeAnswer::Reply(Reply::Refused(Refusal::OutOfMemory)) = deed.answer() else {
-        return false;
+    let Answer::Reply(reply) = answer else {
+        return None;
     };
-    is_own_request(addr, deed.node(), before, request)
-}
-
-/// Whether this was a request that adds the group's tenant, refused for lack of memory.
-fn is_untaken(addr: Addr, deed: &Deed) -> bool
-    ensures { result ≡ is_untaken_by addr deed.now.event deed.now.answer }
-{
-    let NodeEvent::Request(Request::AddTenant(_, row)) = deed.event() else {
-        return false;
-    };
-    let NodeAnswer::Reply(Reply::Refused(Refusal::OutOfMemory)) = deed.answer() else {
-        return false;
-    };
-    row.tenant == addr.tenant
-}
-
-/// Returns true if these deeds have such a request.
-#[tactic(auto, using(crate::proofs::PastLemmas::newest, crate::proofs::PastLemmas::whole), unfolding(crate::specs::Refused::is_refused_for))]
-fn has_lacked(addr: Addr, deeds: &[Deed]) -> bool
-    ensures { result ≡ is_refused_for addr (reverse deeds.now) }
-{
-    let mut lacked = false;
-    for i in 0..deeds.len() {
-        let deed = &deeds[i];
-        lacked = (is_untaken(addr, deed) || is_starved(addr, &deeds[..i], deed)) || lacked;
+    if node.number != a.number {
+        return None;
     }
-    lacked
+    row_added(tenant, request, reply)
+}
+
+/// The row of the tenant at the node, after so many events.
+#[tactic(auto, using(crate::proofs::RefusedLemmas::rows_more, crate::proofs::RefusedLemmas::no_rows, crate::proofs::PastLemmas::find_later))]
+fn row_at<'a>(
+    trace: &Trace,
+    events: &'a [Event],
+    count: usize,
+    a: NodeId,
+    tenant: u16,
+) -> Option<&'a TenantRow>
+    requires events { count ≤ length events.now }
+    requires answers { count ≤ length trace.now.answers.items }
+    ensures { option_copied result ≡ row_of tenant (tenants_in (past_at a (run_of (take count events.now) (take count trace.now.answers.items) trace.now.packets.items))) }
+{
+    let answers = trace.answers.as_slice();
+    let mut found = None;
+    for i in 0..count {
+        found = found.or(row_in(a, tenant, &events[i], &answers[i]));
+    }
+    found
+}
+
+/// Whether the event with its answer, after so many others, is a request of the group, or one that adds its tenant, which
+/// was refused for lack of memory.
+fn is_lacking(
+    trace: &Trace,
+    events: &[Event],
+    count: usize,
+    addr: Addr,
+    event: &Event,
+    answer: &Answer,
+) -> bool
+    requires events { count ≤ length events.now }
+    requires answers { count ≤ length trace.now.answers.items }
+    ensures { result ≡ is_refused_by addr (run_of (take count events.now) (take count trace.now.answers.items) trace.now.packets.items) event.now answer.now }
+{
+    let Event::At(node, NodeEvent::Request(request)) = event else {
+        return false;
+    };
+    let Answer::Reply(Reply::Refused(Refusal::OutOfMemory)) = answer else {
+        return false;
+    };
+    if let Request::AddTenant(_, row) = request {
+        return row.tenant == addr.tenant;
+    }
+    let row = row_at(trace, events, count, *node, addr.tenant);
+    is_own_by(addr, *node, row, request)
 }
 
 /// Whether in a run a request of the group, or one that adds its tenant, was refused for lack of memory. Where none was,
 /// the group is what it is alone. Events beyond the answers do not count, nor answers beyond the events.
-pub fn refused_for(
-    alloc: Global,
-    events: &[Event],
-    trace: &Trace,
-    addr: Addr,
-) -> Result<bool, OutOfMemory>
-    ensures refused { IfOk result (λ r. r ≡ is_refused_for addr (run_of events.now trace.now.answers.items trace.now.packets.items)) }
-    ensures fed { IfOk result (λ r. r ≡ false → is_fed addr (run_of events.now trace.now.answers.items trace.now.packets.items) ≡ true) }
+#[tactic(auto, using(crate::proofs::RefusedLemmas::refused_more, crate::proofs::RefusedLemmas::none_refused, crate::proofs::RefusedLemmas::unrefused_fed, crate::proofs::DeedLemmas::all_deeds))]
+pub fn refused_for(trace: &Trace, events: &[Event], addr: Addr) -> bool
+    ensures refused { result ≡ is_refused_for addr (run_of events.now trace.now.answers.items trace.now.packets.items) }
+    ensures fed { result ≡ false → is_fed addr (run_of events.now trace.now.answers.items trace.now.packets.items) ≡ true }
 {
-    let deeds = deeds_of(alloc, events, &trace.answers, &trace.packets)?;
-    Ok(has_lacked(addr, &deeds))
+    let answers = trace.answers.as_slice();
+    let count = events.len().min(answers.len());
+    let mut lacked = false;
+    for i in 0..count {
+        lacked = is_lacking(trace, events, i, addr, &events[i], &answers[i]) || lacked;
+    }
+    lacked
 }

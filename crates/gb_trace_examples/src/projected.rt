@@ -27,7 +27,7 @@ pub fn projection(
     let steps = project(alloc, plan, events, trace, addr)?;
     let by_itself = alone(alloc, plan, addr, &steps)?;
     let seen = observe(alloc, plan, events, trace, addr)?;
-    let starved = refused_for(alloc, events, trace, addr)?;
+    let starved = refused_for(trace, events, addr);
     if starved || !is_same(&seen, &by_itself) {
         return Ok(None);
     }

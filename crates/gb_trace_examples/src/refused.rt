@@ -51,8 +51,8 @@ fn trace(alloc: Global, count: usize, refused: usize) -> Result<Trace, OutOfMemo
 fn lack(alloc: Global, refused: usize) -> Result<(bool, bool), OutOfMemory> {
     let events = events(alloc)?;
     let trace = trace(alloc, events.len(), refused)?;
-    let seventh = refused_for(alloc, &events, &trace, group_of(7))?;
-    let eighth = refused_for(alloc, &events, &trace, group_of(8))?;
+    let seventh = refused_for(&trace, &events, group_of(7));
+    let eighth = refused_for(&trace, &events, group_of(8));
     Ok((seventh, eighth))
 }
 

@@ -1,6 +1,5 @@
 use Rattle.std.proofs.Common.{◌++◌, ◌∙◌, ap, sym}
 use Rattle.std.specs.Option.{option_to_list}
-use Rattle.gb_cluster.specs.ClusterValue.{node_plan}
 use Rattle.gb_isolation.specs.Project.{command_for, with_stop, is_met}
 use Rattle.gb_trace.specs.Deeds.{past_in}
 use Rattle.gb_trace.proofs.AskedLemmas.{stop_shown, none_shown}

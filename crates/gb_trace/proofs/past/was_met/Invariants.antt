@@ -1,5 +1,4 @@
 use Rattle.std.proofs.Common.{◌≡◌, take}
-use Rattle.gb_cluster.specs.ClusterValue.{node_plan}
 use Rattle.gb_isolation.specs.Project.{is_met}
 use Rattle.gb_trace.specs.Deeds.{past_in}
 use Rattle.gb_trace.proofs.past.was_met.Given as goal
