@@ -1,6 +1,6 @@
 -- What the code's parts give together.
 use Rattle.std.proofs.Common.{◌≡◌, ℕ, zero, suc, ◌-◌, ◌<◌, ◌≤◌, inl, inr, true, false, Bool, List, [], ◌∷◌, length, map, get_or, Option, Some, None, refl, sym, ap, subst, ◌∙◌, arith}
-use Rattle.std.specs.Prelude.{◌⊎◌, slice_get, slice_set, Contains, IsSome, MatchBool, if◌then◌else◌}
+use Rattle.std.specs.Prelude.{slice_get, slice_set, Contains, IsSome, MatchBool, if◌then◌else◌}
 use Rattle.std.specs.List.{range_with_len}
 use Rattle.std.proofs.lemmas.Bool.{cases_Bool}
 use Rattle.std.proofs.lemmas.List.{get_or_default}
@@ -14,7 +14,7 @@ use Rattle.gb_node.specs.declared.event.NodeEvent.{NodeEvent}
 use Rattle.gb_node.specs.declared.event.NodeEvent.TheVariants.{Request as Asked, Packet as Came, Pack, Again, Ack, Tick, Stop}
 use Rattle.gb_cluster.specs.ClusterValue.{ClusterValue, cluster, node_plan, node_at, new_cluster, IsClusterPlan}
 use Rattle.gb_cluster.specs.ClusterStep.{IsNodeTurn, IsAt, IsArrival, IsStep, receiver_of, is_packet_for, packet_numbered, AreForNodes}
-use Rattle.gb_cluster.specs.Run.{Did, ComesTo, GoesOn, IsReached}
+use Rattle.gb_cluster.specs.Run.{Did, ComesTo, GoesOn, Happens, IsReached}
 use Rattle.gb_cluster.specs.declared.answer.Answer.{Answer}
 use Rattle.gb_cluster.specs.declared.answer.Answer.TheVariants.{NoPacket, NotNoise}
 use Rattle.gb_cluster.specs.declared.event.Event.{Event}
@@ -105,20 +105,27 @@ arrived_was_posted packets k p bytes is same =
     let is_text : p.text ≡ bytes = cc in
     subst (λ t. Contains packets (record { to = p.to; text = t })) is_text (numbered_contains packets k p is)
 
-pub goes_on : (old new : ClusterValue) (event : Event) (answer : Answer) → IsStep old event answer new → GoesOn old new
+-- a run goes on by a step
+abbrev RunsOn : Plan → ClusterValue → Event → Answer → List Did → ClusterValue → Type 0
+RunsOn plan old event answer earlier new = (run : List Did) × Happens old event answer earlier new run × ComesTo plan run new
+
+pub goes_on : (old new : ClusterValue) (event : Event) (answer : Answer) → IsStep old event answer new → GoesOn old event answer new
 unfolding ComesTo
-goes_on old new (At a event) answer step run comes = by (is_packet_for (node_at old a) event) refl step
+goes_on old new (At a event) answer step plan earlier comes = by (is_packet_for (node_at old a) event) refl step
   where
-    by : (b : Bool) → is_packet_for (node_at old a) event ≡ b → MatchBool b ((answer ≡ NotNoise) × (new ≡ old)) (IsAt old a event answer new) → ComesTo old.plan run new ⊎ ((d : Did) × ComesTo old.plan (d ∷ run) new)
-    by true is step = inl (subst (ComesTo old.plan run) (sym step.1) comes)
-    by false is step = inr (record { node = a; event = event; answer = step.0 }, (old, comes, λ bytes same yes. absurd (let n : true ≡ false = sym yes ∙ is in cc), step.1))
-goes_on old new (Arrive k) answer step run comes = by (packet_numbered old.packets k) refl step
+    by : (b : Bool) → is_packet_for (node_at old a) event ≡ b → MatchBool b ((answer ≡ NotNoise) × (new ≡ old)) (IsAt old a event answer new) → RunsOn plan old (At a event) answer earlier new
+    by true is step = (earlier, inl (refl, step.1), subst (ComesTo plan earlier) (sym step.1) comes)
+    by false is step =
+        let d : Did = record { node = a; event = event; answer = step.0 } in
+        (d ∷ earlier, inr (d, refl, (refl, refl), step.2), (old, comes, λ bytes same yes. absurd (let n : true ≡ false = sym yes ∙ is in cc), step.1))
+goes_on old new (Arrive k) answer step plan earlier comes = by (packet_numbered old.packets k) refl step
   where
-    by : (o : Option Posted) → packet_numbered old.packets k ≡ o → IsArrival old o answer new → ComesTo old.plan run new ⊎ ((d : Did) × ComesTo old.plan (d ∷ run) new)
-    by None is step = inl (subst (ComesTo old.plan run) (sym step.1) comes)
+    by : (o : Option Posted) → packet_numbered old.packets k ≡ o → IsArrival old o answer new → RunsOn plan old (Arrive k) answer earlier new
+    by None is step = (earlier, inl (refl, step.1), subst (ComesTo plan earlier) (sym step.1) comes)
     by (Some p) is step =
-        inr (
-          record { node = p.to; event = Came p.text; answer = step.0 },
+        let d : Did = record { node = p.to; event = Came p.text; answer = step.0 } in (
+          d ∷ earlier,
+          inr (d, refl, (p, is, refl, refl), step.2),
           (old, comes, λ bytes same yes. arrived_was_posted old.packets k p bytes is same, step.1),
         )
 
@@ -126,11 +133,9 @@ goes_on old new (Arrive k) answer step run comes = by (packet_numbered old.packe
 pub kept_after : (old new : ClusterValue) (event : Event) (answer : Answer) → IsReached old → IsStep old event answer new → IsReached new × (new.plan ≡ old.plan) × (length new.nodes ≡ length old.nodes)
 kept_after old new event answer reached step =
     let before = stays old.plan reached.0 old reached.1 in
-    by before.count (goes_on old new event answer step reached.0 reached.1)
-  where
-    by : length old.nodes ≡ old.plan.nodes → ComesTo old.plan reached.0 new ⊎ ((d : Did) × ComesTo old.plan (d ∷ reached.0) new) → IsReached new × (new.plan ≡ old.plan) × (length new.nodes ≡ length old.nodes)
-    by count (inl comes) = let s = stays old.plan reached.0 new comes in ((reached.0, subst (λ p. ComesTo p reached.0 new) (sym s.plan_is) comes), s.plan_is, s.count ∙ sym count)
-    by count (inr comes) = let s = stays old.plan (comes.0 ∷ reached.0) new comes.1 in ((comes.0 ∷ reached.0, subst (λ p. ComesTo p (comes.0 ∷ reached.0) new) (sym s.plan_is) comes.1), s.plan_is, s.count ∙ sym count)
+    let on = goes_on old new event answer step old.plan reached.0 reached.1 in
+    let after = stays old.plan on.0 new on.2 in
+    ((on.0, subst (λ p. ComesTo p on.0 new) (sym after.plan_is) on.2), after.plan_is, after.count ∙ sym before.count)
 
 -- every packet goes to one of the nodes
 pub for_nodes : PacketsAreHonest → (v : ClusterValue) → IsReached v → AreForNodes (length v.nodes) v.packets

@@ -4,3 +4,4 @@ pub mod LinkLemmas
 pub mod OutsideLemmas
 pub mod CodeLemmas
 pub mod ReadLemmas
+pub mod EndLemmas

@@ -1,12 +1,16 @@
 -- Runs of a cluster: what happened at its nodes, the newest first.
-use Rattle.std.specs.Prelude.{ℕ, ◌≡◌, ◌⊎◌, ◌<◌, List, [], ◌∷◌, true, nat_eq, Contains, if◌then◌else◌}
+use Rattle.std.specs.Prelude.{ℕ, ◌≡◌, ◌⊎◌, ◌<◌, List, [], ◌∷◌, length, Some, true, nat_eq, Contains, if◌then◌else◌}
 use Rattle.gb_types.specs.declared.node.NodeId.{NodeId}
 use Rattle.gb_node.specs.Past.{Happened, ComesTo as NodeComesTo}
 use Rattle.gb_node.specs.declared.answer.NodeAnswer.{NodeAnswer}
 use Rattle.gb_node.specs.declared.event.NodeEvent.{NodeEvent}
 use Rattle.gb_node.specs.declared.event.NodeEvent.TheVariants.{Packet as Came}
 use Rattle.gb_cluster.specs.ClusterValue.{ClusterValue, new_cluster, node_plan, node_at, IsClusterPlan}
-use Rattle.gb_cluster.specs.ClusterStep.{NodeActs, is_packet_for}
+use Rattle.gb_cluster.specs.ClusterStep.{NodeActs, answer_of, is_packet_for, packet_numbered}
+use Rattle.gb_cluster.specs.declared.answer.Answer.{Answer}
+use Rattle.gb_cluster.specs.declared.event.Event.{Event}
+use Rattle.gb_cluster.specs.declared.event.Event.TheVariants.{At, Arrive}
+use Rattle.gb_cluster.specs.declared.posted.Posted.{Posted}
 use Rattle.gb_types.specs.declared.plan.Plan.{Plan}
 
 -- something that happened at a node
@@ -28,9 +32,19 @@ ComesTo plan (d ∷ run) v = (before : ClusterValue) × ComesTo plan run before 
 abbrev pub IsReached : ClusterValue → Type 0
 IsReached v = (run : List Did) × ComesTo v.plan run v
 
--- what was a run goes on: nothing happened at any node, or something did
-abbrev pub GoesOn : ClusterValue → ClusterValue → Type 0
-GoesOn old new = (run : List Did) → ComesTo old.plan run old → ComesTo old.plan run new ⊎ ((d : Did) × ComesTo old.plan (d ∷ run) new)
+-- what happened at a node is what the event says: it happened there, or a packet that was sent there arrived
+abbrev pub IsOf : List Posted → Event → Did → Type 0
+IsOf packets (At a event) d = (d.node ≡ a) × (d.event ≡ event)
+IsOf packets (Arrive k) d = (p : Posted) × (packet_numbered packets k ≡ Some p) × (d.node ≡ p.to) × (d.event ≡ Came p.text)
+
+-- By an event with its answer nothing happens at any node, and the cluster is as it was, or what the event says, with the answer of the node that acts. Runs have the newest first.
+abbrev pub Happens : ClusterValue → Event → Answer → List Did → ClusterValue → List Did → Type 0
+Happens old event answer earlier new run =
+    ((run ≡ earlier) × (new ≡ old)) ⊎ ((d : Did) × (run ≡ d ∷ earlier) × IsOf old.packets event d × (answer ≡ answer_of (length old.packets) d.answer))
+
+-- what was a run goes on by an event with its answer
+abbrev pub GoesOn : ClusterValue → Event → Answer → ClusterValue → Type 0
+GoesOn old event answer new = (plan : Plan) (earlier : List Did) → ComesTo plan earlier old → (run : List Did) × Happens old event answer earlier new run × ComesTo plan run new
 
 -- what happened at one node
 unfoldable pub past_at : NodeId → List Did → List Happened
@@ -40,3 +54,7 @@ past_at a (d ∷ run) = if nat_eq d.node.number a.number then record { event = d
 -- each node of a cluster is one that was started and came by its own past to what it is
 abbrev pub NodesHavePasts : Type 0
 NodesHavePasts = (plan : Plan) (run : List Did) (v : ClusterValue) (a : NodeId) → ComesTo plan run v → a.number < plan.nodes → NodeComesTo (node_plan plan a) (past_at a run) (node_at v a)
+
+-- a run of a cluster that was started with a plan leads to one value
+abbrev pub RunsHaveOneEnd : Type 0
+RunsHaveOneEnd = (plan : Plan) (run : List Did) (v w : ClusterValue) → ComesTo plan run v → ComesTo plan run w → v ≡ w

@@ -1,6 +1,6 @@
 //! What holds of every run of a cluster.
 ghost use Rattle.gb_cluster.specs.Links.{LinksHold, NothingIsOutside, PacketsAreHonest, PacketsAreRead};
-ghost use Rattle.gb_cluster.specs.Run.{NodesHavePasts};
+ghost use Rattle.gb_cluster.specs.Run.{NodesHavePasts, RunsHaveOneEnd};
 
 use gb_node::past::{packets_say, pasts_say};
 
@@ -8,6 +8,12 @@ use gb_node::past::{packets_say, pasts_say};
 /// the others. The function does nothing when it runs; its contract is the law.
 pub fn nodes_have_pasts()
     ensures { NodesHavePasts }
+{}
+
+/// A law of every run: what it leads to is the only value, so that whoever has the plan and the record of a run knows what
+/// each node is after it. The function does nothing when it runs; its contract is the law.
+pub fn runs_have_one_end()
+    ensures { RunsHaveOneEnd }
 {}
 
 /// A law of every packet that was sent in a run: it says what its sender did. Its frame is the one that was packed under

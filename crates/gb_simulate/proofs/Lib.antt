@@ -2,5 +2,4 @@ pub mod RunTextLemmas
 pub mod ProgressLemmas
 pub mod AnswerLemmas
 pub mod OfClusterLemmas
-pub mod HappensLemmas
 pub mod WritingLemmas

@@ -1,5 +1,5 @@
 -- What a cluster's calls say, in the words of schedules.
-use Rattle.std.proofs.Common.{ℕ, ◌≡◌, Some, ap, ◌∙◌, arith}
+use Rattle.std.proofs.Common.{◌≡◌, Some, ap, ◌∙◌, arith}
 use Rattle.std.proofs.lemmas.List.FromFn.{length-map-range_with_len}
 use Rattle.gb_node.specs.NodeStep.{node_numbered}
 use Rattle.gb_node.specs.NodeValue.{new_node}

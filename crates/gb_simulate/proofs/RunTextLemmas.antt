@@ -7,7 +7,7 @@ use Rattle.gb_isolation.specs.RunLaws.{OfGroupsInRuns}
 use Rattle.gb_cluster.specs.Links.{PacketsAreHonest, LinksHold}
 use Rattle.gb_cluster.specs.ClusterStep.{IsStep}
 use Rattle.gb_cluster.specs.ClusterValue.{ClusterValue, IsClusterPlan}
-use Rattle.gb_cluster.specs.Run.{Did, ComesTo, NodesHavePasts}
+use Rattle.gb_cluster.specs.Run.{Did, ComesTo, Happens, NodesHavePasts}
 use Rattle.gb_cluster.specs.declared.answer.Answer.{Answer}
 use Rattle.gb_cluster.specs.declared.event.Event.{Event}
 use Rattle.gb_types.specs.declared.plan.Plan.{Plan}
@@ -19,10 +19,10 @@ use Rattle.gb_schedule.specs.declared.command.Command.{Command}
 use Rattle.gb_schedule.specs.declared.command.Command.TheVariants.{Cluster}
 use Rattle.gb_schedule.specs.declared.command.ClusterStart.{ClusterStart}
 use Rattle.gb_simulate.specs.OfCluster.{plan_of, started, size, Takes}
-use Rattle.gb_simulate.specs.RunTexts.{RunStep, AreSteps, Happens, TellsRun}
+use Rattle.gb_simulate.specs.RunTexts.{RunStep, AreSteps, TellsRun}
 use Rattle.gb_simulate.specs.Schedule.{Obeys, GoesOn, event_of}
 use Rattle.gb_simulate.specs.Text.{AreAnswered, Reaches}
-use Rattle.gb_simulate.proofs.HappensLemmas.{runs_on}
+use Rattle.gb_cluster.proofs.CodeLemmas.{goes_on}
 use Rattle.gb_simulate.specs.TextLaws.{IsServed, IsLawful, TellsLawfulRun, BeginsWithRun, TextsAreOfRuns}
 
 comes_started : (start : ClusterStart) → IsClusterPlan (plan_of start) → ComesTo (plan_of start) [] (started start)
@@ -82,7 +82,7 @@ start_on lines text line answer w other event run spelt obeys = absurd obeys
 
 -- one step more
 steps_on : (plan : Plan) (steps : List RunStep) (step : RunStep) (earlier run : List Did) (before v : ClusterValue)
-    → AreSteps plan steps earlier before → IsStep before step.event step.answer v → Happens before step earlier v run → AreSteps plan (step ∷ steps) run v
+    → AreSteps plan steps earlier before → IsStep before step.event step.answer v → Happens before step.event step.answer earlier v run → AreSteps plan (step ∷ steps) run v
 unfolding AreSteps
 steps_on plan steps step earlier run before v made takes happens = (before, earlier, made, takes, happens)
 
@@ -98,7 +98,7 @@ step_on lines text line answer v w command None run spelt is obeys = absurd obey
 step_on lines text line answer v w command (Some event) (run, here) spelt is obeys =
     let takes : IsStep v event obeys.answer obeys.next = step_is v obeys.next event obeys.answer obeys.takes in
     let step : RunStep = record { event = event; answer = obeys.answer } in
-    let on = runs_on (plan_of here.start) v obeys.next run event obeys.answer takes here.comes in
+    let on = goes_on v obeys.next event obeys.answer takes (plan_of here.start) run here.comes in
     let count : size v ≡ here.start.nodes = (stays (plan_of here.start) run v here.comes).count in
     subst (TellsRun (line ∷ lines) (text ++ answer)) (sym obeys.after_is) (
       on.0,

@@ -1,14 +1,11 @@
 -- The lines of a schedule and their answers, as the steps of a run of a cluster.
-use Rattle.std.specs.Prelude.{ℕ, ◌≡◌, ◌⊎◌, List, [], ◌∷◌, ◌++◌, length, Option, Some, None, codes, All}
-use Rattle.gb_node.specs.declared.event.NodeEvent.TheVariants.{Packet as Came}
-use Rattle.gb_cluster.specs.ClusterStep.{IsStep, answer_of, packet_numbered}
+use Rattle.std.specs.Prelude.{ℕ, ◌≡◌, ◌⊎◌, List, [], ◌∷◌, ◌++◌, Option, Some, None, codes, All}
+use Rattle.gb_cluster.specs.ClusterStep.{IsStep}
 use Rattle.gb_cluster.specs.ClusterValue.{ClusterValue, new_cluster}
-use Rattle.gb_cluster.specs.Run.{Did, ComesTo}
+use Rattle.gb_cluster.specs.Run.{Did, ComesTo, Happens}
 use Rattle.gb_cluster.specs.declared.answer.Answer.{Answer}
 use Rattle.gb_cluster.specs.declared.event.Event.{Event}
-use Rattle.gb_cluster.specs.declared.event.Event.TheVariants.{At, Arrive}
 use Rattle.gb_types.specs.declared.plan.Plan.{Plan}
-use Rattle.gb_cluster.specs.declared.posted.Posted.{Posted}
 use Rattle.gb_schedule.specs.declared.command.ClusterStart.{ClusterStart}
 use Rattle.gb_schedule.specs.Grammar.{IsCommandLine, IsSilent}
 use Rattle.gb_lines.specs.Lines.{ended}
@@ -23,22 +20,11 @@ pub record RunStep : Type 0 where
   pub event : Event
   pub answer : Answer
 
--- what happened at a node is what the event says: it happened there, or a packet that was sent there arrived
-abbrev pub IsOf : List Posted → Event → Did → Type 0
-IsOf packets (At a event) d = (d.node ≡ a) × (d.event ≡ event)
-IsOf packets (Arrive k) d = (p : Posted) × (packet_numbered packets k ≡ Some p) × (d.node ≡ p.to) × (d.event ≡ Came p.text)
-
--- by a step nothing happens at any node, or this, with the step's answer
-abbrev pub Happens : ClusterValue → RunStep → List Did → ClusterValue → List Did → Type 0
-Happens before step earlier after run =
-    ((run ≡ earlier) × (after ≡ before))
-    ⊎ ((d : Did) × (run ≡ d ∷ earlier) × IsOf before.packets step.event d × (step.answer ≡ answer_of (length before.packets) d.answer))
-
 -- steps of a cluster, and what happened at its nodes by them, both with the newest first
 unfoldable pub AreSteps : Plan → List RunStep → List Did → ClusterValue → Type 0
 AreSteps plan [] run v = (run ≡ []) × (v ≡ new_cluster plan)
 AreSteps plan (step ∷ steps) run v =
-    (before : ClusterValue) × (earlier : List Did) × AreSteps plan steps earlier before × IsStep before step.event step.answer v × Happens before step earlier v run
+    (before : ClusterValue) × (earlier : List Did) × AreSteps plan steps earlier before × IsStep before step.event step.answer v × Happens before step.event step.answer earlier v run
 
 -- in a cluster of so many nodes a line spells the event of a step, and its answer is the step's
 pub record TellsStep (nodes : ℕ) (line answer : List ℕ) (step : RunStep) : Type 0 where
