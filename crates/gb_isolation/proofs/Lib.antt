@@ -33,3 +33,5 @@ pub mod TwoRunLemmas
 pub mod RunDutyLemmas
 pub mod RunAgreementLemmas
 pub mod LawLemmas
+pub mod RefusalLemmas
+pub mod TickLawLemmas

@@ -12,7 +12,7 @@ use Rattle.gb_frame.specs.declared.item.Item.{Item}
 use Rattle.gb_alone.specs.Alone.{Group, nobody, after, alone, alone_from}
 use Rattle.gb_alone.specs.declared.event.GroupStep.{GroupStep}
 use Rattle.gb_duties.proofs.NoticeLemmas.{AllMarked, run_marked, nobody_marked}
-use Rattle.gb_cluster.specs.ClusterValue.{ClusterValue, node_plan}
+use Rattle.gb_cluster.specs.ClusterValue.{ClusterValue}
 use Rattle.gb_cluster.specs.Run.{Did, ComesTo, past_at}
 use Rattle.gb_types.specs.declared.plan.Plan.{Plan}
 use Rattle.gb_types.specs.Version.{bounds_of}

@@ -20,7 +20,7 @@ use Rattle.gb_node.specs.declared.answer.Sent.TheVariants.{Refused as SentRefuse
 use Rattle.gb_node.specs.declared.answer.Ticked.TheVariants.{Refused as TickRefused}
 use Rattle.gb_alone.specs.Alone.{Group, alone, IsLegal}
 use Rattle.gb_alone.specs.Laws.{log_of_member}
-use Rattle.gb_cluster.specs.ClusterValue.{ClusterValue, node_plan, node_at}
+use Rattle.gb_cluster.specs.ClusterValue.{ClusterValue, node_at}
 use Rattle.gb_cluster.specs.Run.{Did, ComesTo, past_at}
 use Rattle.gb_types.specs.declared.plan.Plan.{Plan}
 use Rattle.gb_isolation.specs.Project.{project, items_in, items_of, replies_in, is_fed}

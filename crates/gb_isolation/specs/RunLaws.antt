@@ -1,13 +1,15 @@
 -- Integrity, order, duties and agreement of each group in every run, and what two runs of a group share.
-use Rattle.std.specs.Prelude.{ℕ, ◌+◌, ◌≡◌, ◌≢◌, ◌<◌, ◌||◌, Bool, true, false, All, List, [], ◌∷◌, ◌++◌, Option, Some, slice_get, if◌then◌else◌}
+use Rattle.std.specs.Prelude.{ℕ, ◌+◌, ◌≡◌, ◌≢◌, ◌<◌, ◌||◌, ◌&&◌, not, Bool, true, false, All, List, [], ◌∷◌, ◌++◌, Option, Some, slice_get, if◌then◌else◌}
 use Rattle.std.specs.FinSet as set
+use Rattle.std.specs.Ordering.{nat_cmp}
 use Rattle.gb_types.specs.Version.{version_at}
 use Rattle.gb_types.specs.declared.address.Addr.{Addr}
 use Rattle.gb_types.specs.declared.entry.Entry.{Entry}
 use Rattle.gb_types.specs.declared.message.MsgId.{MsgId}
 use Rattle.gb_types.specs.declared.node.NodeId.{NodeId}
+use Rattle.gb_types.specs.declared.refusal.Refusal.{Refusal}
 use Rattle.gb_types.specs.declared.reply.Reply.{Reply}
-use Rattle.gb_types.specs.declared.reply.Reply.TheVariants.{Done, Said}
+use Rattle.gb_types.specs.declared.reply.Reply.TheVariants.{Done, Said, Refused}
 use Rattle.gb_types.specs.declared.request.Request.{Request}
 use Rattle.gb_types.specs.declared.request.Request.TheVariants.{DropGroup, Say}
 use Rattle.gb_types.specs.declared.spec.Spec.{Spec}
@@ -21,12 +23,13 @@ use Rattle.gb_duties.specs.Agreement.{IsRunning, AreEnough, KeepsAgreement}
 use Rattle.gb_duties.specs.Duties.{HasHad, KeepsDuties, delivered_at}
 use Rattle.gb_node.specs.NodeGroups.{waiting_at}
 use Rattle.gb_node.specs.NodeStep.{node_numbered}
-use Rattle.gb_node.specs.Past.{Happened, frames_to, is_taken}
+use Rattle.gb_node.specs.Past.{Happened, frames_to, is_stopped, is_taken}
 use Rattle.gb_node.specs.PastGroups.{noticed_in}
 use Rattle.gb_node.specs.declared.answer.NodeAnswer.{NodeAnswer}
-use Rattle.gb_node.specs.declared.answer.NodeAnswer.TheVariants.{Reply as Replied}
+use Rattle.gb_node.specs.declared.answer.NodeAnswer.TheVariants.{Reply as Replied, Ticked}
+use Rattle.gb_node.specs.declared.answer.Ticked.TheVariants.{Noticed}
 use Rattle.gb_node.specs.declared.event.NodeEvent.{NodeEvent}
-use Rattle.gb_node.specs.declared.event.NodeEvent.TheVariants.{Request as Asked}
+use Rattle.gb_node.specs.declared.event.NodeEvent.TheVariants.{Request as Asked, Tick}
 use Rattle.gb_node.specs.declared.plan.NodePlan.{NodePlan}
 use Rattle.gb_cluster.specs.ClusterValue.{ClusterValue, node_plan, node_at}
 use Rattle.gb_cluster.specs.Run.{Did, ComesTo, past_at}
@@ -153,3 +156,20 @@ RunsAgree =
     (plan other : Plan) (run that : List Did) (v w : ClusterValue) → ComesTo plan run v → ComesTo other that w
     → (g : Addr) → is_fed g run ≡ true → is_fed g that ≡ true → HaveSameBounds plan other → project plan g run ≡ project other g that
     → (a b : NodeId) → a.number < plan.nodes → b.number < plan.nodes → seen_in plan run v g a b ≡ seen_in other that w g a b
+
+-- Moments.
+
+-- At a running node a tick answers the nodes that are noticed there then and were not before.
+abbrev pub AnswersNewNotices : Plan → List Did → Did → Type 0
+AnswersNewNotices plan earlier d = d.event ≡ Tick → is_stopped (past_at d.node earlier) ≡ false
+    → (found : set.FinSet nat_cmp) × (d.answer ≡ Ticked (Noticed found)) × ((b : ℕ) → set.contains found b ≡ (is_noticed plan (d ∷ earlier) d.node b && not (is_noticed plan earlier d.node b)))
+
+abbrev pub TicksAnswerNewNotices : Type 0
+TicksAnswerNewNotices = (plan : Plan) (earlier : List Did) (d : Did) (v : ClusterValue) → ComesTo plan (d ∷ earlier) v → AnswersNewNotices plan earlier d
+
+-- A request that is refused, for whatever reason, changes nothing at any node, and sends nothing.
+abbrev pub ChangesNothing : Plan → List Did → Did → Type 0
+ChangesNothing plan earlier d = (request : Request) (why : Refusal) → d.event ≡ Asked request → d.answer ≡ Replied (Refused why) → (v w : ClusterValue) → ComesTo plan earlier v → ComesTo plan (d ∷ earlier) w → w ≡ v
+
+abbrev pub RefusalsChangeNothing : Type 0
+RefusalsChangeNothing = (plan : Plan) (earlier : List Did) (d : Did) → ChangesNothing plan earlier d

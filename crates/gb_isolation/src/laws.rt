@@ -1,6 +1,6 @@
 //! What holds of each group in every run of a cluster.
 ghost use Rattle.gb_isolation.specs.Isolation.{AmpleRunsFeedAll, GroupsAreIsolated};
-ghost use Rattle.gb_isolation.specs.RunLaws.{GroupsDoTheirDuties, GroupsKeepIntegrity, GroupsKeepOrder, RunsAgree, SettledGroupsAgree};
+ghost use Rattle.gb_isolation.specs.RunLaws.{GroupsDoTheirDuties, GroupsKeepIntegrity, GroupsKeepOrder, RefusalsChangeNothing, RunsAgree, SettledGroupsAgree, TicksAnswerNewNotices};
 
 use gb_alone::laws::{integrity, order};
 use gb_cluster::laws::{links_hold, nothing_is_outside};
@@ -88,3 +88,18 @@ pub fn settled_groups_agree()
     nothing_is_outside();
     agreement();
 }
+
+/// Ticks in every run: at a node that has not stopped a tick answers just the nodes that were silent there for too long then
+/// and not before, so that each is told of once. The function does nothing when it runs; its contract is the law.
+pub fn ticks_answer_new_notices()
+    ensures { TicksAnswerNewNotices }
+{
+    pasts_say();
+    answers_say();
+}
+
+/// Refusals in every run: a request that is refused, as one without the token that it needs is Denied, leaves every node as it
+/// was, and nothing is sent. The function does nothing when it runs; its contract is the law.
+pub fn refusals_change_nothing()
+    ensures { RefusalsChangeNothing }
+{}

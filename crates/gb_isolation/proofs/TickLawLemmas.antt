@@ -1,0 +1,78 @@
+-- A tick answers the new notices.
+use Rattle.std.proofs.Common.{◌≡◌, ℕ, ◌<◌, true, false, not, ◌&&◌, ◌||◌, Bool, List, ◌∷◌, refl, sym, ap, subst, ◌∙◌, inl, inr}
+use Rattle.std.specs.Prelude.{if◌then◌else◌}
+use Rattle.std.specs.FinSet as set
+use Rattle.std.specs.Ordering.{nat_cmp}
+use Rattle.gb_types.specs.declared.node.NodeId.{NodeId}
+use Rattle.gb_types.specs.declared.plan.Plan.{Plan}
+use Rattle.gb_detect.specs.Watch.{due}
+use Rattle.gb_node.specs.NodeStep.{running_turn, stopped_answer, IsStarved, IsTurn}
+use Rattle.gb_node.specs.NodeValue.{NodeValue}
+use Rattle.gb_node.specs.Past.{Happened, ComesTo as NodeComesTo, is_stopped}
+use Rattle.gb_node.specs.PastGroups.{noticed_in}
+use Rattle.gb_node.specs.PastLaw.{PastsSay}
+use Rattle.gb_node.specs.StepLaw.{AnswersSay, IsTicked}
+use Rattle.gb_node.specs.declared.answer.NodeAnswer.{NodeAnswer}
+use Rattle.gb_node.specs.declared.answer.NodeAnswer.TheVariants.{Ticked}
+use Rattle.gb_node.specs.declared.answer.Ticked.TheVariants.{Noticed}
+use Rattle.gb_node.specs.declared.event.NodeEvent.{NodeEvent}
+use Rattle.gb_node.specs.declared.event.NodeEvent.TheVariants.{Tick}
+use Rattle.gb_cluster.specs.ClusterValue.{ClusterValue, node_at, node_plan}
+use Rattle.gb_cluster.specs.Run.{Did, ComesTo, past_at}
+use Rattle.gb_cluster.proofs.NodesLemmas.{have_pasts, past_same}
+use Rattle.gb_isolation.specs.RunLaws.{AnswersNewNotices, TicksAnswerNewNotices}
+use Rattle.gb_isolation.proofs.MomentLemmas.{placed}
+
+-- at a node that runs
+tick_answer : (old new : NodeValue) (answer : NodeAnswer) → old.stopped ≡ false → IsTurn old Tick answer new → answer ≡ Ticked (Noticed (due old.watch))
+tick_answer old new answer running (inl starved) =
+    absurd (subst (λ b. IsStarved Tick (if b then record { value = old; answer = stopped_answer Tick } else running_turn old Tick).answer answer) running starved.0)
+tick_answer old new answer running (inr went) = went.0 ∙ ap (λ b. (if b then record { value = old; answer = stopped_answer Tick } else running_turn old Tick).answer) running
+
+fresh_only : (found before later : Bool) → (found ≡ true → before ≡ false) → later ≡ (found || before) → found ≡ (later && not before)
+fresh_only true true later fresh is = let no : true ≡ false = fresh refl in absurd (cc)
+fresh_only true false later fresh is = let yes : later ≡ true = is in ap (λ t. t && true) (sym yes)
+fresh_only false true later fresh is = let yes : later ≡ true = is in ap (λ t. t && false) (sym yes)
+fresh_only false false later fresh is = let no : later ≡ false = is in ap (λ t. t && true) (sym no)
+
+new_notices : PastsSay → AnswersSay → (plan : Plan) (earlier : List Did) (a : NodeId) (answer : NodeAnswer) (v : ClusterValue) → ComesTo plan (record { node = a; event = Tick; answer = answer } ∷ earlier) v
+    → AnswersNewNotices plan earlier (record { node = a; event = Tick; answer = answer })
+unfolding ComesTo
+new_notices pasts answers plan earlier a answer v goes tick running = (found, told, new)
+  where
+    d : Did
+    d = record { node = a; event = Tick; answer = answer }
+
+    old : ClusterValue
+    old = goes.0
+
+    within : a.number < plan.nodes
+    within = placed plan d earlier v goes
+
+    runs : (node_at old a).stopped ≡ false
+    runs = (pasts (node_plan plan a) (past_at a earlier) (node_at old a) (have_pasts plan earlier old a goes.1 within)).beside.stopped ∙ running
+
+    found : set.FinSet nat_cmp
+    found = due (node_at old a).watch
+
+    told : answer ≡ Ticked (Noticed found)
+    told = tick_answer (node_at old a) goes.3.node answer runs goes.3.turn
+
+    past : past_at a (d ∷ earlier) ≡ record { event = Tick; answer = Ticked (Noticed found) } ∷ past_at a earlier
+    past = past_same a d earlier refl ∙ ap (λ (x : NodeAnswer). record { event = Tick; answer = x } ∷ past_at a earlier) told
+
+    says : IsTicked (node_plan plan a) (past_at a earlier) found
+    says = answers.each (node_plan plan a) (past_at a earlier) Tick (Ticked (Noticed found)) (node_at v a) (subst (λ hs. NodeComesTo (node_plan plan a) hs (node_at v a)) past (have_pasts plan (d ∷ earlier) v a goes within))
+
+    new : (b : ℕ) → set.contains found b ≡ (set.contains (noticed_in (node_plan plan a) (past_at a (d ∷ earlier))) b && not (set.contains (noticed_in (node_plan plan a) (past_at a earlier)) b))
+    new b = fresh_only (set.contains found b) (set.contains (noticed_in (node_plan plan a) (past_at a earlier)) b) (set.contains (noticed_in (node_plan plan a) (past_at a (d ∷ earlier))) b) (says.fresh b)
+        (ap (λ (hs : List Happened). set.contains (noticed_in (node_plan plan a) hs) b) past ∙ says.later b)
+
+pub ticks_answer : PastsSay → AnswersSay → TicksAnswerNewNotices
+ticks_answer pasts answers plan earlier d v goes tick = by (subst (λ (e : NodeEvent). ComesTo plan (record { node = d.node; event = e; answer = d.answer } ∷ earlier) v) tick goes)
+  where
+    by : ComesTo plan (record { node = d.node; event = Tick; answer = d.answer } ∷ earlier) v → is_stopped (past_at d.node earlier) ≡ false
+        → (found : set.FinSet nat_cmp) × (d.answer ≡ Ticked (Noticed found)) × ((b : ℕ) → set.contains found b ≡ (set.contains (noticed_in (node_plan plan d.node) (past_at d.node (d ∷ earlier))) b && not (set.contains (noticed_in (node_plan plan d.node) (past_at d.node earlier)) b)))
+    by ticked running =
+        subst (λ (e : NodeEvent). (found : set.FinSet nat_cmp) × (d.answer ≡ Ticked (Noticed found)) × ((b : ℕ) → set.contains found b ≡ (set.contains (noticed_in (node_plan plan d.node) (past_at d.node (record { node = d.node; event = e; answer = d.answer } ∷ earlier))) b && not (set.contains (noticed_in (node_plan plan d.node) (past_at d.node earlier)) b))))
+        (sym tick) (new_notices pasts answers plan earlier d.node d.answer v ticked refl running)
