@@ -187,7 +187,7 @@ module _ (sends : SendersRun) (pasts : PastsSay) (packets : PacketsAreHonest) (l
 
 pub nothing_is_outside : SendersRun → PastsSay → PacketsAreHonest → LinksHold → NothingIsOutside
 unfolding ComesTo
-nothing_is_outside sends pasts packets links plan run d v bytes good comes event answer =
+nothing_is_outside sends pasts packets links plan run d v comes bytes good event answer =
     let acts = comes.3 in
     let kept = stays plan run comes.0 comes.1 in
     let count = kept.count in

@@ -63,14 +63,21 @@ pub record IsLink (plan : Plan) (run : List Did) (a b : NodeId) : Type 0 where
   -- what was acknowledged was taken
   pub acknowledged : (n : ℕ) → 1 ≤ n → is_acked plan.cluster_key b.number n (past_at a run) ≡ true → is_taken plan.cluster_key a.number n (past_at b run) ≡ true
 
+-- what a packet acknowledges that is taken was taken by its sender
+abbrev pub CoversTaken : Plan → List Did → Did → Type 0
+CoversTaken plan run d = (c : Content) → came plan.cluster_key d.event d.answer ≡ c ∷ [] → c.from < NODES
+    → (n : ℕ) → 1 ≤ n → covers c.base c.mask n ≡ true → is_taken plan.cluster_key d.node.number n (past_at (node_numbered c.from) run) ≡ true
+
 -- the links of every run: whatever arrives, frames are taken once and whole, and only those that were packed
 pub record LinksHold : Type 0 where
   pub whole : (plan : Plan) (run : List Did) (v : ClusterValue) → ComesTo plan run v → IsAlwaysWhole plan run
   pub each : (plan : Plan) (run : List Did) (v : ClusterValue) → ComesTo plan run v → (a b : NodeId) → IsLink plan run a b
-  -- what a packet acknowledges that is taken was taken by its sender
-  pub covered : (plan : Plan) (run : List Did) (d : Did) (v : ClusterValue) → ComesTo plan (d ∷ run) v → (c : Content) → came plan.cluster_key d.event d.answer ≡ c ∷ [] → c.from < NODES
-      → (n : ℕ) → 1 ≤ n → covers c.base c.mask n ≡ true → is_taken plan.cluster_key d.node.number n (past_at (node_numbered c.from) run) ≡ true
+  pub covered : (plan : Plan) (run : List Did) (d : Did) (v : ClusterValue) → ComesTo plan (d ∷ run) v → CoversTaken plan run d
 
--- No packet that is taken has a frame outside its receiver's window, whichever packets arrive, whenever and however often.
+-- a packet that is taken has no frame outside its receiver's window
+abbrev pub IsInside : Did → Type 0
+IsInside d = (bytes : List ℕ) (good : Good) → d.event ≡ Came bytes → d.answer ≡ Taken (TakenGood good) → good.frame ≢ Beyond
+
+-- so it is whichever packets arrive, whenever and however often
 abbrev pub NothingIsOutside : Type 0
-NothingIsOutside = (plan : Plan) (run : List Did) (d : Did) (v : ClusterValue) (bytes : List ℕ) (good : Good) → ComesTo plan (d ∷ run) v → d.event ≡ Came bytes → d.answer ≡ Taken (TakenGood good) → good.frame ≢ Beyond
+NothingIsOutside = (plan : Plan) (run : List Did) (d : Did) (v : ClusterValue) → ComesTo plan (d ∷ run) v → IsInside d

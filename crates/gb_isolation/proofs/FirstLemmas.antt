@@ -75,7 +75,7 @@ taken_once inside pasts plan run d v bytes good comes event answer =
     record {
       content = c;
       text = ap (λ k. read k bytes) (sym was.beside.key) ∙ ap packet_in took.text;
-      first = ap is_first frame ∙ (first_fate r c.frame (λ e. inside plan run d v bytes good comes event answer (frame ∙ e)) ∙ ap (λ b. not (nat_eq c.frame 0) && not b) received);
+      first = ap is_first frame ∙ (first_fate r c.frame (λ e. inside plan run d v comes bytes good event answer (frame ∙ e)) ∙ ap (λ b. not (nat_eq c.frame 0) && not b) received);
     }
 
 -- Packets of one frame.

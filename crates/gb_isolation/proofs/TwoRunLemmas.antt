@@ -65,7 +65,7 @@ all_placed plan g (d ∷ run) v comes =
     given = gives plan g run d.node d.event d.answer
 
 pub alike : GroupsAreIsolated → RunsAgree
-alike isolated plan other run that v w comes goes g fed served bounds events a b in_a in_b =
+alike isolated plan run v comes g fed other that w goes served bounds events a b in_a in_b =
     (isolated plan run v comes g fed).same a b in_a in_b
     ∙ (ap (λ (q : Group). seen_alone q a.number b.number) same
     ∙ sym ((isolated other that w goes g served).same a b (subst (λ n. a.number < n) bounds.nodes in_a) (subst (λ n. b.number < n) bounds.nodes in_b)))

@@ -149,15 +149,21 @@ pub record HaveSameBounds (plan other : Plan) : Type 0 where
   pub nodes : plan.nodes ≡ other.nodes
   pub versions : (a : ℕ) → a < plan.nodes → version_at plan.versions a ≡ version_at other.versions a
 
--- Two runs of such clusters, in which the same happened to a group, show the same of it, whatever else happened and whatever else the packets held: its replies, its logs and
--- the items that it put out. What happened to it are its own requests, the fates of its items, and the notices of its members.
-abbrev pub RunsAgree : Type 0
-RunsAgree =
-    (plan other : Plan) (run that : List Did) (v w : ClusterValue) → ComesTo plan run v → ComesTo other that w
-    → (g : Addr) → is_fed g run ≡ true → is_fed g that ≡ true → HaveSameBounds plan other → project plan g run ≡ project other g that
+-- Another run, of such a cluster, in which the same happened to the group shows the same of it, whatever else happened and whatever else the packets held: its replies, its logs
+-- and the items that it put out. What happened to it are its own requests, the fates of its items, and the notices of its members.
+abbrev pub IsSeenAlike : Plan → List Did → ClusterValue → Addr → Type 0
+IsSeenAlike plan run v g =
+    (other : Plan) (that : List Did) (w : ClusterValue) → ComesTo other that w → is_fed g that ≡ true → HaveSameBounds plan other → project plan g run ≡ project other g that
     → (a b : NodeId) → a.number < plan.nodes → b.number < plan.nodes → seen_in plan run v g a b ≡ seen_in other that w g a b
 
+abbrev pub RunsAgree : Type 0
+RunsAgree = OfGroupsInRuns IsSeenAlike
+
 -- Moments.
+
+-- at each moment of a run this holds of what happened then, after what had happened before
+abbrev pub AtEachMoment : (List Did → Did → Type 0) → List Did → Type 0
+AtEachMoment Holds run = (later earlier : List Did) (d : Did) → run ≡ later ++ d ∷ earlier → Holds earlier d
 
 -- At a running node a tick answers the nodes that are noticed there then and were not before.
 abbrev pub AnswersNewNotices : Plan → List Did → Did → Type 0

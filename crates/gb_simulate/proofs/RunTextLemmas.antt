@@ -3,11 +3,13 @@ use Rattle.std.proofs.Common.{ℕ, ◌≡◌, List, [], ◌∷◌, ◌++◌, Opt
 use Rattle.std.proofs.lemmas.List.{append_assoc, append-nil}
 use Rattle.std.proofs.lemmas.List.Elements.{All-cons, All-nil}
 use Rattle.std.specs.Prelude.{codes}
-use Rattle.gb_isolation.specs.RunLaws.{OfGroupsInRuns}
-use Rattle.gb_cluster.specs.Links.{PacketsAreHonest, LinksHold}
+use Rattle.gb_isolation.specs.Isolation.{AmpleRunsFeedAll}
+use Rattle.gb_isolation.specs.RunLaws.{OfGroupsInRuns, AtEachMoment, AnswersNewNotices, TicksAnswerNewNotices, RefusalsChangeNothing}
+use Rattle.gb_isolation.proofs.MomentLemmas.{back}
+use Rattle.gb_cluster.specs.Links.{PacketsAreHonest, PacketsAreRead, LinksHold, NothingIsOutside, CoversTaken, IsInside}
 use Rattle.gb_cluster.specs.ClusterStep.{IsStep}
 use Rattle.gb_cluster.specs.ClusterValue.{ClusterValue, IsClusterPlan}
-use Rattle.gb_cluster.specs.Run.{Did, ComesTo, Happens, NodesHavePasts}
+use Rattle.gb_cluster.specs.Run.{Did, ComesTo, Happens, NodesHavePasts, RunsHaveOneEnd}
 use Rattle.gb_cluster.specs.declared.answer.Answer.{Answer}
 use Rattle.gb_cluster.specs.declared.event.Event.{Event}
 use Rattle.gb_types.specs.declared.plan.Plan.{Plan}
@@ -23,7 +25,7 @@ use Rattle.gb_simulate.specs.RunTexts.{RunStep, AreSteps, TellsRun}
 use Rattle.gb_simulate.specs.Schedule.{Obeys, GoesOn, event_of}
 use Rattle.gb_simulate.specs.Text.{AreAnswered, Reaches}
 use Rattle.gb_cluster.proofs.CodeLemmas.{goes_on}
-use Rattle.gb_simulate.specs.TextLaws.{IsServed, IsLawful, TellsLawfulRun, BeginsWithRun, TextsAreOfRuns}
+use Rattle.gb_simulate.specs.TextLaws.{IsServed, KeepsPromises, TellsLawfulRun, BeginsWithRun, TextsAreOfRuns}
 
 comes_started : (start : ClusterStart) → IsClusterPlan (plan_of start) → ComesTo (plan_of start) [] (started start)
 unfolding ComesTo started
@@ -144,21 +146,48 @@ run_of (line ∷ lines) text w (before, older, answer, answered, few, short, goe
 abbrev pub GroupsAreServed : Type 0
 GroupsAreServed = OfGroupsInRuns IsServed
 
-lawful_so : NodesHavePasts → PacketsAreHonest → LinksHold → GroupsAreServed → (lines : List (List ℕ)) (text : List ℕ) (w : Option ClusterValue) → TellsRun lines text w → TellsLawfulRun lines text w
-lawful_so pasts packets links served lines text None run = run
-lawful_so pasts packets links served lines text (Some v) (run, here) =
+-- all laws of runs
+pub record AllLaws : Type 0 where
+  pub pasts : NodesHavePasts
+  pub ends : RunsHaveOneEnd
+  pub packets : PacketsAreHonest
+  pub read : PacketsAreRead
+  pub links : LinksHold
+  pub inside : NothingIsOutside
+  pub ticks : TicksAnswerNewNotices
+  pub refusals : RefusalsChangeNothing
+  pub ample : AmpleRunsFeedAll
+  pub served : GroupsAreServed
+
+-- what holds of the last thing that happened in every run holds at each moment
+each_moment : (Holds : List Did → Did → Type 0) (plan : Plan) → ((earlier : List Did) (d : Did) (v : ClusterValue) → ComesTo plan (d ∷ earlier) v → Holds earlier d)
+    → (run : List Did) (v : ClusterValue) → ComesTo plan run v → AtEachMoment Holds run
+each_moment Holds plan last run v comes later earlier d is =
+    let there = back plan later (d ∷ earlier) v (subst (λ (whole : List Did). ComesTo plan whole v) is comes) in
+    last earlier d there.0 there.1
+
+lawful_so : AllLaws → (lines : List (List ℕ)) (text : List ℕ) (w : Option ClusterValue) → TellsRun lines text w → TellsLawfulRun lines text w
+lawful_so laws lines text None run = run
+lawful_so laws lines text (Some v) (run, here) =
     let plan : Plan = plan_of here.start in
-    let lawful : IsLawful plan run v = record {
-      pasts = λ a within. pasts plan run v a here.comes within;
-      packets = packets plan run v here.comes;
-      whole = links.whole plan run v here.comes;
-      links = links.each plan run v here.comes;
-      groups = λ g fed. served plan run v here.comes g fed;
+    let lawful : KeepsPromises plan run v = record {
+      pasts = λ a within. laws.pasts plan run v a here.comes within;
+      only = λ w comes. laws.ends plan run w v comes here.comes;
+      packets = laws.packets plan run v here.comes;
+      read = laws.read plan run v here.comes;
+      whole = laws.links.whole plan run v here.comes;
+      links = laws.links.each plan run v here.comes;
+      covered = each_moment (CoversTaken plan) plan (λ earlier d w comes. laws.links.covered plan earlier d w comes) run v here.comes;
+      inside = each_moment (λ earlier d. IsInside d) plan (λ earlier d w comes. laws.inside plan earlier d w comes) run v here.comes;
+      ticks = each_moment (AnswersNewNotices plan) plan (λ earlier d w comes. laws.ticks plan earlier d w comes) run v here.comes;
+      refusals = λ later earlier d is. laws.refusals plan earlier d;
+      ample = laws.ample plan run;
+      groups = λ g fed. laws.served plan run v here.comes g fed;
     } in
     (run, here, lawful)
 
-front_so : NodesHavePasts → PacketsAreHonest → LinksHold → GroupsAreServed → (input text : List ℕ) (w : Option ClusterValue) (n : ℕ) (lines_left : List (List ℕ)) → Reaches input text w n lines_left → BeginsWithRun input text lines_left
-front_so pasts packets links served input text w n lines_left r = (w, r.taken, r.lines, lawful_so pasts packets links served r.taken text w r.run)
+front_so : AllLaws → (input text : List ℕ) (w : Option ClusterValue) (n : ℕ) (lines_left : List (List ℕ)) → Reaches input text w n lines_left → BeginsWithRun input text lines_left
+front_so laws input text w n lines_left r = (w, r.taken, r.lines, lawful_so laws r.taken text w r.run)
 
-pub texts_so : NodesHavePasts → PacketsAreHonest → LinksHold → GroupsAreServed → TextsAreOfRuns
-texts_so pasts packets links served = record { whole = λ input text is. front_so pasts packets links served input text is.0 is.1 [] is.2; front = front_so pasts packets links served }
+pub texts_so : AllLaws → TextsAreOfRuns
+texts_so laws = record { whole = λ input text is. front_so laws input text is.0 is.1 [] is.2; front = front_so laws }

@@ -2,13 +2,14 @@
 use Rattle.std.specs.Prelude.{ℕ, ◌≡◌, ◌<◌, true, List, [], ◌++◌, reverse, Option, Some, None, All, slice_get}
 use Rattle.gb_types.specs.declared.address.Addr.{Addr}
 use Rattle.gb_types.specs.declared.node.NodeId.{NodeId}
-use Rattle.gb_isolation.specs.Isolation.{IsIsolated}
+use Rattle.gb_isolation.specs.Isolation.{IsIsolated, is_ample}
 use Rattle.gb_isolation.specs.Project.{is_fed}
-use Rattle.gb_isolation.specs.RunLaws.{RunIntegrity, RunOrder, RunDuties, RunAgreement}
-use Rattle.gb_node.specs.Past.{ComesTo}
-use Rattle.gb_cluster.specs.Links.{IsHonest, IsAlwaysWhole, IsLink}
+use Rattle.gb_isolation.specs.RunLaws.{RunIntegrity, RunOrder, RunDuties, RunAgreement, IsSeenAlike, AtEachMoment, AnswersNewNotices, ChangesNothing}
+use Rattle.gb_node.specs.Past.{ComesTo as NodeComesTo}
+use Rattle.gb_cluster.specs.Links.{IsHonest, IsAlwaysWhole, IsLink, CoversTaken, IsInside}
+use Rattle.gb_cluster.specs.ClusterStep.{AreRead}
 use Rattle.gb_cluster.specs.ClusterValue.{ClusterValue, node_plan, node_at}
-use Rattle.gb_cluster.specs.Run.{Did, past_at}
+use Rattle.gb_cluster.specs.Run.{Did, ComesTo, past_at}
 use Rattle.gb_types.specs.declared.plan.Plan.{Plan}
 use Rattle.gb_cluster.specs.declared.posted.Posted.{Posted}
 use Rattle.gb_schedule.specs.Grammar.{IsSilent}
@@ -18,28 +19,40 @@ use Rattle.gb_simulate.specs.RunTexts.{IsRunOf}
 use Rattle.gb_simulate.specs.Text.{Reaches, IsText}
 use Rattle.gb_simulate.specs.declared.outcome.SimEnd.TheVariants.{All as AllLines}
 
--- What a cluster promises of a group in a run: it is what it is alone, and integrity, order, duties and agreement hold.
+-- What a cluster promises of a group in a run: it is what it is alone, another run in which the same happened to it shows the same of it, and integrity, order, duties and
+-- agreement hold.
 pub record IsServed (plan : Plan) (run : List Did) (v : ClusterValue) (g : Addr) : Type 0 where
   pub isolated : IsIsolated plan run v g
+  pub alike : IsSeenAlike plan run v g
   pub integrity : RunIntegrity plan run v g
   pub order : RunOrder plan run v g
   pub duties : RunDuties plan run v g
   pub agreement : RunAgreement plan run v g
 
--- What a cluster promises of a run: each node came by its own past to what it is; each packet says what its sender did; each
--- frame was taken once at most, whole; only what was packed was taken, and only what was taken was acknowledged; so each
--- group is served of which no request was refused for want of memory.
-pub record IsLawful (plan : Plan) (run : List Did) (v : ClusterValue) : Type 0 where
-  pub pasts : (a : NodeId) → a.number < plan.nodes → ComesTo (node_plan plan a) (past_at a run) (node_at v a)
+-- What a cluster promises of a run.
+pub record KeepsPromises (plan : Plan) (run : List Did) (v : ClusterValue) : Type 0 where
+  -- each node came by its own past to what it is, and the run leads to nothing else
+  pub pasts : (a : NodeId) → a.number < plan.nodes → NodeComesTo (node_plan plan a) (past_at a run) (node_at v a)
+  pub only : (w : ClusterValue) → ComesTo plan run w → w ≡ v
+  -- each packet says what its sender did, and the node that it was sent to reads it
   pub packets : (k : ℕ) (p : Posted) → slice_get v.packets k ≡ Some p → IsHonest plan run p
+  pub read : AreRead v.nodes v.packets
+  -- each frame was taken once at most, whole, and none outside the window; only what was packed was taken, and only what was taken was acknowledged
   pub whole : IsAlwaysWhole plan run
   pub links : (a b : NodeId) → IsLink plan run a b
+  pub covered : AtEachMoment (CoversTaken plan) run
+  pub inside : AtEachMoment (λ earlier d. IsInside d) run
+  -- each tick answered the new notices, and each refused request changed nothing
+  pub ticks : AtEachMoment (AnswersNewNotices plan) run
+  pub refusals : AtEachMoment (ChangesNothing plan) run
+  -- each group is served of which no request was refused for want of memory, so all are where no answer was such a refusal
+  pub ample : is_ample run ≡ true → (g : Addr) → is_fed g run ≡ true
   pub groups : (g : Addr) → is_fed g run ≡ true → IsServed plan run v g
 
 -- these lines are those of a run, of which all holds that a cluster promises; or they ask for nothing
 abbrev pub TellsLawfulRun : List (List ℕ) → List ℕ → Option ClusterValue → Type 0
 TellsLawfulRun lines text None = All IsSilent lines × (text ≡ [])
-TellsLawfulRun lines text (Some v) = (run : List Did) × (told : IsRunOf lines text run v) × IsLawful (plan_of told.start) run v
+TellsLawfulRun lines text (Some v) = (run : List Did) × (told : IsRunOf lines text run v) × KeepsPromises (plan_of told.start) run v
 
 -- the first lines of a schedule are such, and these are left
 abbrev pub BeginsWithRun : List ℕ → List ℕ → List (List ℕ) → Type 0

@@ -1,22 +1,33 @@
 //! Laws of what schedules make a cluster answer.
 ghost use Rattle.gb_simulate.specs.TextLaws.{TextsAreOfRuns};
 
-use gb_cluster::laws::{links_hold, nodes_have_pasts, packets_are_honest};
+use gb_cluster::laws::{
+    links_hold, nodes_have_pasts, nothing_is_outside, packets_are_honest, packets_are_read,
+    runs_have_one_end,
+};
 use gb_isolation::laws::{
-    groups_are_isolated, groups_do_their_duties, groups_keep_integrity, groups_keep_order,
-    settled_groups_agree,
+    ample_runs_feed_all, groups_are_isolated, groups_do_their_duties, groups_keep_integrity,
+    groups_keep_order, refusals_change_nothing, runs_agree, settled_groups_agree,
+    ticks_answer_new_notices,
 };
 
 /// What `simulate` writes is the text of a run: a cluster is started, its events are those that the lines spell, and its
-/// answers are the lines that are written; and of that run holds all that a cluster promises of its nodes, its packets
-/// and its links, and isolation, integrity, order, duties and agreement of its groups.
+/// answers are the lines that are written; and of that run holds every law of runs: of its nodes, its packets and its links,
+/// of ticks and refusals, and isolation, alone and beside another run, integrity, order, duties and agreement of its groups.
 pub fn texts_are_of_runs()
     ensures { TextsAreOfRuns }
 {
     nodes_have_pasts();
+    runs_have_one_end();
     packets_are_honest();
+    packets_are_read();
     links_hold();
+    nothing_is_outside();
+    ticks_answer_new_notices();
+    refusals_change_nothing();
+    ample_runs_feed_all();
     groups_are_isolated();
+    runs_agree();
     groups_keep_integrity();
     groups_keep_order();
     groups_do_their_duties();

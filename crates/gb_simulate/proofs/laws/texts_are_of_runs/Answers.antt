@@ -5,9 +5,21 @@ pub returns : goal.returns
 returns c =
     let served : GroupsAreServed = λ plan run v comes g fed. record {
       isolated = c.groups_are_isolated.ensures plan run v comes g fed;
+      alike = c.runs_agree.ensures plan run v comes g fed;
       integrity = c.groups_keep_integrity.ensures plan run v comes g fed;
       order = c.groups_keep_order.ensures plan run v comes g fed;
       duties = c.groups_do_their_duties.ensures plan run v comes g fed;
       agreement = c.settled_groups_agree.ensures plan run v comes g fed;
     } in
-    texts_so c.nodes_have_pasts.ensures c.packets_are_honest.ensures c.links_hold.ensures served
+    texts_so (record {
+      pasts = c.nodes_have_pasts.ensures;
+      ends = c.runs_have_one_end.ensures;
+      packets = c.packets_are_honest.ensures;
+      read = c.packets_are_read.ensures;
+      links = c.links_hold.ensures;
+      inside = c.nothing_is_outside.ensures;
+      ticks = c.ticks_answer_new_notices.ensures;
+      refusals = c.refusals_change_nothing.ensures;
+      ample = c.ample_runs_feed_all.ensures;
+      served = served;
+    })
