@@ -1,7 +1,10 @@
-//! Worked runs of clusters as tests: three tenants whose messages share frames, nodes of unlike versions, and
-//! schedules in which a node stops after each event, seen in the run and alone. There is nothing here but tests.
+//! Worked runs of clusters as tests: tenants by themselves and with messages that share frames, nodes of unlike versions, a
+//! group that is settled, and schedules in which a node stops after each event, seen in the run and alone. There is nothing
+//! here but tests.
 #![tactic(auto)]
 
+#[cfg(test)]
+mod beside;
 #[cfg(test)]
 mod crash;
 #[cfg(test)]
@@ -12,6 +15,8 @@ mod refused;
 mod runs;
 #[cfg(test)]
 mod schedule;
+#[cfg(test)]
+mod settled;
 #[cfg(test)]
 mod short;
 #[cfg(test)]

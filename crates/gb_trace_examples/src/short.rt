@@ -78,7 +78,7 @@ fn is_same_entry(entry: &Entry, other: &Entry) -> bool {
         && entry.payload.as_slice() == other.payload.as_slice()
 }
 
-fn are_same_entries(entries: &[Entry], others: &[Entry]) -> bool {
+pub fn are_same_entries(entries: &[Entry], others: &[Entry]) -> bool {
     if entries.len() != others.len() {
         return false;
     }

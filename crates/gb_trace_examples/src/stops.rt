@@ -391,7 +391,7 @@ fn first_wrong(
 
 /// Whether these logs, by how many entries they have, were fetched, in order, no request was refused, and no node that had
 /// stopped was asked for anything.
-fn are_fetched(answers: &[Answer], logs: &[usize]) -> bool {
+pub fn are_fetched(answers: &[Answer], logs: &[usize]) -> bool {
     let mut left = logs;
     for answer in answers {
         if is_stopped(answer) {
