@@ -1,4 +1,5 @@
 -- What an event of a run gives a group: where it happens, its commands, and its notices.
+use Rattle.gb_isolation.specs.Project.{is_noticed_after}
 use Rattle.std.proofs.Common.{◌≡◌, ◌≢◌, ℕ, zero, suc, ◌+◌, ◌-◌, Bool, true, false, ◌&&◌, nat_eq, List, [], ◌∷◌, ◌++◌, length, Option, Some, None, refl, sym, ap, ◌∙◌}
 use Rattle.std.specs.Prelude.{is_some, filter, if◌then◌else◌}
 use Rattle.std.specs.FinSet as set
@@ -24,7 +25,6 @@ use Rattle.gb_alone.proofs.CommandLemmas.{command_in, commands_at, commands}
 use Rattle.gb_duties.proofs.NoticeLemmas.{IsDue, AreDue}
 use Rattle.gb_node.specs.NodeStep.{node_numbered}
 use Rattle.gb_node.specs.Past.{Happened, frames_to, read, is_stopped}
-use Rattle.gb_node.specs.PastGroups.{noticed_in}
 use Rattle.gb_node.specs.StepLaw.{has_group_token_by}
 use Rattle.gb_node.specs.declared.answer.NodeAnswer.{NodeAnswer}
 use Rattle.gb_node.specs.declared.answer.NodeAnswer.TheVariants.{Reply as Replied, Taken, Sent, Ticked}
@@ -138,7 +138,7 @@ at_tenant g a (AddTenant token row) Done = elim (nat_eq row.tenant g.tenant) as 
 at_tenant g a request reply = tt
 
 at_requested : (plan : NodePlan) (g : Addr) (past : List Happened) (request : Request) (reply : Reply) → AllAre (IsAt plan.me) (own_requested plan g past request reply)
-at_requested plan g past (Make token addr spec) Done = (refl, at_notices plan.me spec (set.contains (noticed_in plan past)))
+at_requested plan g past (Make token addr spec) Done = (refl, at_notices plan.me spec (is_noticed_after plan past))
 at_requested plan g past request reply = at_command g plan.me request
 
 at_asked : (plan : NodePlan) (g : Addr) (past : List Happened) (request : Request) (reply : Reply) → AllAre (IsAt plan.me) (asked plan g past request reply)
@@ -230,7 +230,7 @@ module _ (bounds : Bounds) (plan : NodePlan) (g : Addr) (past : List Happened) (
       → AreDue bounds g.group group (tenant_given g plan.me request reply ++ own_requested plan g past request reply)
   unfolding made_with
   own_due (Make token addr spec) Done named made =
-      making_due bounds g.group plan.me spec (filter (λ b. is_other spec plan.me.number b && set.contains (noticed_in plan past) b) (range_with_len 0 NODES)) group
+      making_due bounds g.group plan.me spec (filter (λ b. is_other spec plan.me.number b && is_noticed_after plan past b) (range_with_len 0 NODES)) group
       (ap is_some made ∙ ap (λ (t : Bool). is_some (or_else (if t then Some spec else None) (made_with g past))) named)
   own_due request reply named made = all_due bounds g.group (tenant_given g plan.me request reply ++ command_for g plan.me request) group (all_both IsPlain (tenant_given g plan.me request reply) (command_for g plan.me request) (plain_tenant g plan.me request reply) (plain_command g plan.me request))
 

@@ -35,3 +35,4 @@ pub mod RunAgreementLemmas
 pub mod LawLemmas
 pub mod RefusalLemmas
 pub mod TickLawLemmas
+pub mod SilenceLemmas

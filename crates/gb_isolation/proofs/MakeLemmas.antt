@@ -1,4 +1,5 @@
 -- What making a group at a running node does to it: the group learns of the nodes that were noticed before.
+use Rattle.gb_isolation.specs.Project.{is_noticed_after, notices}
 use Rattle.std.proofs.Common.{◌≡◌, ℕ, ◌<◌, List, [], ◌∷◌, ◌++◌, length, Option, Some, None, Bool, true, false, ◌&&◌, ◌||◌, refl, sym, ◌∙◌, ap, subst, arith}
 use Rattle.std.specs.Prelude.{if◌then◌else◌, is_some, nat_le, option_map}
 use Rattle.std.specs.FinSet as set
@@ -169,9 +170,9 @@ module _ (plan : NodePlan) (versions : List Version) (g : Addr) (past : List Hap
       ap (λ (b : Bool). by_tenant (make_answer plan.nodes plan.me.number g.group b spec) m.reserve) (made-is (told_of plan g past) m fits.told)
       ∙ (ap (by_tenant (make_answer plan.nodes plan.me.number g.group (is_some (told_of plan g past)) spec)) fits.reserve ∙ is)
 
-  made_by_reply : (r : Reply) → is_stopped past ≡ false → is_own_request plan.me g past (Make token addr spec) ≡ true → is_addr g addr ≡ true → rule ≡ r → ((b : ℕ) → set.contains noticed b ≡ true → b < NODES)
+  made_by_reply : (r : Reply) → is_stopped past ≡ false → is_own_request plan.me g past (Make token addr spec) ≡ true → is_addr g addr ≡ true → rule ≡ r → is_noticed_after plan past ≡ set.contains noticed → ((b : ℕ) → set.contains noticed b ≡ true → b < NODES)
       → Fits plan.nodes g plan.me.number frames_from before m → AskedGoes plan versions g past (Make token addr spec) r frames_from group
-  made_by_reply Done running own named is below fits =
+  made_by_reply Done running own named is silent below fits =
       let free : told_of plan g past ≡ None = not_made (told_of plan g past) before.reserve is in
       let unmet_here : is_met plan.me g past ≡ false = running_unmet plan g past running in
       let answered : reply_to (bounds_with plan versions) g.group plan.me.number (AskMake spec) m ≡ Done = replies_running plan versions g past (Make token addr spec) Done frames_from group (AskMake spec) running fits ∙ alone_rule Done fits is in
@@ -179,15 +180,15 @@ module _ (plan : NodePlan) (versions : List Version) (g : Addr) (past : List Hap
       view_own plan g past (Make token addr spec) Done (Some (Some (told_first spec plan.me noticed))) (Some spec) running own refl
       (ap (λ o. or_added o (if is_addr g addr then Some (Some (told_first spec plan.me noticed)) else None)) free ∙ ap (λ b. if b then Some (Some (told_first spec plan.me noticed)) else None) named)
       (ap (λ b. or_else (if b then Some spec else None) (made_with g past)) named) in
-      subst (λ es. Goes (bounds_with plan versions) g plan.me frames_from (view_of plan g (asking (Make token addr spec) Done ∷ past)) group es) (sym (given_own plan versions g past (Make token addr spec) Done frames_from group running own))
+      subst (λ es. Goes (bounds_with plan versions) g plan.me frames_from (view_of plan g (asking (Make token addr spec) Done ∷ past)) group es) (sym (given_own plan versions g past (Make token addr spec) Done frames_from group running own ∙ ap (λ (new : ℕ → Bool). record { node = plan.me; event = AskMake spec } ∷ notices plan.me spec new) silent))
       (subst (λ (v : View). Goes (bounds_with plan versions) g plan.me frames_from v group (record { node = plan.me; event = AskMake spec } ∷ notices_of plan.me (noticed_members spec plan.me.number before.noticed))) (sym later)
       (made_goes (bounds_with plan versions) g plan.me frames_from before group spec noticed refl below free unmet_here answered fits))
-  made_by_reply r running own named is below fits =
+  made_by_reply r running own named is silent below fits =
       own_command plan versions g past (Make token addr spec) r frames_from group (AskMake spec) (told_of plan g past) running own refl refl refl refl tt refl
       (alone_rule r fits is) refl fits (member_fits plan.nodes g plan.me.number frames_from before m fits)
 
-  pub at_make : (reply : Reply) → is_stopped past ≡ false → is_own_request plan.me g past (Make token addr spec) ≡ true → reply ≡ admitted_answer plan past (Make token addr spec) → ((b : ℕ) → set.contains noticed b ≡ true → b < NODES)
+  pub at_make : (reply : Reply) → is_stopped past ≡ false → is_own_request plan.me g past (Make token addr spec) ≡ true → reply ≡ admitted_answer plan past (Make token addr spec) → is_noticed_after plan past ≡ set.contains noticed → ((b : ℕ) → set.contains noticed b ≡ true → b < NODES)
       → Fits plan.nodes g plan.me.number frames_from before m → AskedGoes plan versions g past (Make token addr spec) reply frames_from group
-  at_make reply running own is below fits =
+  at_make reply running own is silent below fits =
       let named = (and_parts (is_addr g addr) (has_group_token_by plan.me past (Make token addr spec)) own).0 in
-      made_by_reply reply running own named (sym (is ∙ ap (λ (x : Addr). by_tenant (make_answer plan.nodes plan.me.number x.group (is_some (told_of plan x past)) spec) (option_map reserve_of (row_of x.tenant (tenants_in past)))) (sym (addr_is g addr named)))) below fits
+      made_by_reply reply running own named (sym (is ∙ ap (λ (x : Addr). by_tenant (make_answer plan.nodes plan.me.number x.group (is_some (told_of plan x past)) spec) (option_map reserve_of (row_of x.tenant (tenants_in past)))) (sym (addr_is g addr named)))) silent below fits

@@ -1,4 +1,5 @@
 -- A request at a node goes on for each group as it does for the group alone.
+use Rattle.gb_isolation.specs.Project.{is_noticed_after}
 use Rattle.std.proofs.Common.{◌≡◌, ◌≢◌, ℕ, ◌+◌, ◌<◌, ◌≤◌, List, [], ◌∷◌, ◌++◌, Option, Some, None, Bool, true, false, ◌&&◌, ◌||◌, ◌⊎◌, inl, inr, refl, sym, ◌∙◌, ap, subst, arith}
 use Rattle.std.specs.Prelude.{if◌then◌else◌, is_some, nat_eq, nat_lt, option_map}
 use Rattle.std.specs.FinSet as set
@@ -198,19 +199,20 @@ module _ (plan : NodePlan) (versions : List Version) (g : Addr) (past : List Hap
   -- The group's own request.
 
   own_goes : (request : Request) (reply : Reply) → version_at versions plan.me.number ≡ plan.version → plan.nodes ≤ NODES
+      → is_noticed_after plan past ≡ set.contains (noticed_in plan past)
       → ((b : ℕ) → set.contains (noticed_in plan past) b ≡ true → b < NODES)
       → ((t : Told) → told_of plan g past ≡ Some (Some t) → (b : ℕ) → b < plan.nodes → list_any (alone.is_own plan.me.number (said_in t.calls + 1)) (items_of g (frames_to plan.cluster_key b past)) ≡ false)
       → is_stopped past ≡ false → is_own_request plan.me g past request ≡ true → reply ≡ admitted_answer plan past request → FitsBefore → AskedGoes plan versions g past request reply frames_from group
-  own_goes (AddTenant token row) reply right few below fresh running own is fits = absurd (clash own)
+  own_goes (AddTenant token row) reply right few silent below fresh running own is fits = absurd (clash own)
     where
       clash : false ≡ true → ⊥
       clash e = cc
-  own_goes (Make token addr spec) reply right few below fresh running own is fits = at_make plan versions g past frames_from group token addr spec reply running own is below fits
-  own_goes (OpenGroup token addr) reply right few below fresh running own is fits = at_open plan versions g past frames_from group reply token addr few running own is fits
-  own_goes (ShutGroup token addr) reply right few below fresh running own is fits = at_shut plan versions g past frames_from group reply token addr few running own is fits
-  own_goes (DropGroup token addr) reply right few below fresh running own is fits = at_drop plan versions g past frames_from group reply token addr few running own is fits
-  own_goes (Say token addr payload) reply right few below fresh running own is fits = at_say plan versions g past frames_from group reply token addr right payload few running own is fresh fits
-  own_goes (Fetch token addr from most) reply right few below fresh running own is fits = at_fetch plan versions g past frames_from group reply token addr from most few running own is fits
+  own_goes (Make token addr spec) reply right few silent below fresh running own is fits = at_make plan versions g past frames_from group token addr spec reply running own is silent below fits
+  own_goes (OpenGroup token addr) reply right few silent below fresh running own is fits = at_open plan versions g past frames_from group reply token addr few running own is fits
+  own_goes (ShutGroup token addr) reply right few silent below fresh running own is fits = at_shut plan versions g past frames_from group reply token addr few running own is fits
+  own_goes (DropGroup token addr) reply right few silent below fresh running own is fits = at_drop plan versions g past frames_from group reply token addr few running own is fits
+  own_goes (Say token addr payload) reply right few silent below fresh running own is fits = at_say plan versions g past frames_from group reply token addr right payload few running own is fresh fits
+  own_goes (Fetch token addr from most) reply right few silent below fresh running own is fits = at_fetch plan versions g past frames_from group reply token addr from most few running own is fits
 
 -- Replies.
 
@@ -251,13 +253,14 @@ module _ (plan : NodePlan) (past : List Happened) (request : Request) (reply : R
 pub asked_goes : (plan : NodePlan) (versions : List Version) (g : Addr) (past : List Happened) (request : Request) (reply : Reply) (frames_from : ℕ → List (List Item)) (group : Group)
     → version_at versions plan.me.number ≡ plan.version
     → plan.nodes ≤ NODES
+    → is_noticed_after plan past ≡ set.contains (noticed_in plan past)
     → ((b : ℕ) → set.contains (noticed_in plan past) b ≡ true → (b < plan.nodes) × (b ≢ plan.me.number))
     → ((t : Told) → told_of plan g past ≡ Some (Some t) → (b : ℕ) → b < plan.nodes → list_any (alone.is_own plan.me.number (said_in t.calls + 1)) (items_of g (frames_to plan.cluster_key b past)) ≡ false)
     → IsAsked plan past request reply
     → is_starved_by plan.me g past (Asked request) (Replied reply) ≡ false
     → Fits plan.nodes g plan.me.number frames_from (view_of plan g past) (group plan.me.number)
     → Goes (bounds_with plan versions) g plan.me frames_from (view_of plan g (record { event = Asked request; answer = Replied reply } ∷ past)) group (asked plan g past request reply)
-asked_goes plan versions g past request reply frames_from group right few noticed fresh answered fed fits = go (cases_Bool (is_stopped past)) (cases_Bool (is_own_request plan.me g past request)) answered
+asked_goes plan versions g past request reply frames_from group right few silent noticed fresh answered fed fits = go (cases_Bool (is_stopped past)) (cases_Bool (is_own_request plan.me g past request)) answered
   where
     Wanted : Reply → Type 0
     Wanted r = AskedGoes plan versions g past request r frames_from group
@@ -292,6 +295,6 @@ asked_goes plan versions g past request reply frames_from group right few notice
     go (inr running) (inl own) (inl wants) = absurd (starved own wants.0)
     go (inr running) (inl own) (inr is) =
         let parts = and_parts (is_named g request) (has_group_token_by plan.me past request) own in
-        own_goes plan versions g past frames_from group request reply right few below fresh running own (is ∙ running_answer plan past request reply running true (sym (group_token_is plan g past request parts.0) ∙ parts.1)) fits
+        own_goes plan versions g past frames_from group request reply right few silent below fresh running own (is ∙ running_answer plan past request reply running true (sym (group_token_is plan g past request parts.0) ∙ parts.1)) fits
     go (inr running) (inr other) (inl wants) = subst Wanted (sym wants.0) (refusal_passes plan versions g past frames_from group request OutOfMemory running other fits)
     go (inr running) (inr other) (inr is) = foreign running other is (cases_Bool (is_admitted_by plan past request))

@@ -7,7 +7,7 @@ use Rattle.std.proofs.lemmas.List.{append-nil}
 use Rattle.std.proofs.lemmas.List.Sums.{fold-append}
 use Rattle.gb_types.specs.declared.address.Addr.{Addr}
 use Rattle.gb_types.specs.declared.entry.Entry.{Entry}
-use Rattle.gb_types.specs.declared.limits.TheConstants.{NODES}
+use Rattle.gb_types.specs.declared.limits.TheConstants.{NODES, SILENCE_MIN}
 use Rattle.gb_types.specs.declared.spec.Spec.{Spec}
 use Rattle.gb_frame.specs.declared.item.Item.{Item}
 use Rattle.gb_rules.specs.Group.{is_gone, is_member, is_other}
@@ -32,7 +32,7 @@ use Rattle.gb_types.specs.Version.{bounds_of}
 use Rattle.gb_cluster.proofs.NodesLemmas.{stays}
 use Rattle.gb_isolation.specs.Isolation.{Seen, IsIsolated, GroupsAreIsolated}
 use Rattle.gb_isolation.specs.Project.{project, items_of, is_fed}
-use Rattle.gb_isolation.specs.RunLaws.{accepted_there, is_noticed, log_seen, made_there, IsSettledIn, SettledGroupsAgree}
+use Rattle.gb_isolation.specs.RunLaws.{accepted_there, is_noticed_in, log_seen, made_there, IsSettledIn, SettledGroupsAgree}
 use Rattle.gb_isolation.proofs.View.{AreMarked, BehavesAlone}
 use Rattle.gb_isolation.proofs.DroppedLemmas.{kept_there}
 use Rattle.gb_isolation.proofs.MomentLemmas.{AllBehave, fed_back, back, made_inside, Continues, project_continues, marked, stands_in}
@@ -52,6 +52,9 @@ module _ (isolated : GroupsAreIsolated) (behave : AllBehave) (plan : Plan) (run 
 
   few : nodes ≤ NODES
   few = (stays plan run v comes).right.few
+
+  least : SILENCE_MIN ≤ plan.silence
+  least = (stays plan run v comes).right.least
 
   alike : IsIsolated plan run v g
   alike = isolated plan run v comes g fed
@@ -81,7 +84,7 @@ module _ (isolated : GroupsAreIsolated) (behave : AllBehave) (plan : Plan) (run 
   made_at_node a in_a = (behaved.fits (node_numbered a) (made_inside plan g settled.earlier was.0 was.1 (node_numbered a) spec (settled.made a in_a))).spec ∙ settled.made a in_a
 
   within : (a : ℕ) → is_member spec a ≡ true → a < nodes
-  within a in_a = inside plan settled.earlier was.0 g few alike_then behaved (marked behave plan g settled.earlier was.0 was.1 fed_then) (node_numbered a).number spec (made_at_node a in_a) a in_a
+  within a in_a = inside plan settled.earlier was.0 g few least alike_then behaved (marked behave plan g settled.earlier was.0 was.1 fed_then) (node_numbered a).number spec (made_at_node a in_a) a in_a
 
   is_number : (a : ℕ) → is_member spec a ≡ true → (node_numbered a).number ≡ a
   is_number a in_a = numbered_is a (omega (arith, within a in_a, few))
@@ -128,10 +131,10 @@ module _ (isolated : GroupsAreIsolated) (behave : AllBehave) (plan : Plan) (run 
       ap (λ k. is_gone (group k).phase) (sym (is_number a run_a.0))
       ∙ kept_there (node_plan plan (node_numbered a)) g (past_at (node_numbered a) run) (group (node_numbered a).number) (behaves.fits (node_numbered a) (there a run_a.0)).told (settled.kept a run_a)
 
-  marks : (a : ℕ) → is_member spec a ≡ true → (b : ℕ) → is_marked b (group a).noticed ≡ (is_other spec a b && is_noticed plan run (node_numbered a) b)
+  marks : (a : ℕ) → is_member spec a ≡ true → (b : ℕ) → is_marked b (group a).noticed ≡ (is_other spec a b && is_noticed_in plan run (node_numbered a) b)
   marks a in_a b =
-      subst (λ k. is_marked b (group k).noticed ≡ (is_other spec k b && is_noticed plan run (node_numbered a) b)) (is_number a in_a)
-      (noticed_is plan run v g few alike behaves told (node_numbered a) (there a in_a) spec (made_now a in_a) b)
+      subst (λ k. is_marked b (group k).noticed ≡ (is_other spec k b && is_noticed_in plan run (node_numbered a) b)) (is_number a in_a)
+      (noticed_is plan run v g few least alike behaves told (node_numbered a) (there a in_a) spec (made_now a in_a) b)
 
   -- the frames from one node to another
   abbrev frames : ℕ → ℕ → List (List Item)
@@ -163,7 +166,7 @@ module _ (isolated : GroupsAreIsolated) (behave : AllBehave) (plan : Plan) (run 
 
   noticed : (a b : ℕ) → IsRunning runs spec a → is_member spec b ≡ true → runs b ≡ false → has_noticed (group a).told b ≡ true
   noticed a b run_a in_b stopped =
-      seen_noticed a (group a) spec (made a run_a.0) (told a) (is_noticed plan run (node_numbered a)) (marks a run_a.0) b (here a run_a) (and_both in_b (apart (nat_eq b a) refl)) (settled.noticed a b run_a in_b stopped)
+      seen_noticed a (group a) spec (made a run_a.0) (told a) (is_noticed_in plan run (node_numbered a)) (marks a run_a.0) b (here a run_a) (and_both in_b (apart (nat_eq b a) refl)) (settled.noticed a b run_a in_b stopped)
     where
       apart : (t : Bool) → nat_eq b a ≡ t → not t ≡ true
       apart true is = let e : runs b ≡ true = ap runs (eqb-true b a is) ∙ run_a.1 in absurd (cc)
@@ -173,7 +176,7 @@ module _ (isolated : GroupsAreIsolated) (behave : AllBehave) (plan : Plan) (run 
   unnoticed a b in_a run_b = go (has_noticed (group a).told b) refl
     where
       go : (t : Bool) → has_noticed (group a).told b ≡ t → t ≡ false
-      go true h = let e = noticed_seen a (group a) spec (made a in_a) (told a) (is_noticed plan run (node_numbered a)) (marks a in_a) b h in let f = settled.unnoticed a b in_a run_b in absurd (cc)
+      go true h = let e = noticed_seen a (group a) spec (made a in_a) (told a) (is_noticed_in plan run (node_numbered a)) (marks a in_a) b h in let f = settled.unnoticed a b in_a run_b in absurd (cc)
       go false h = refl
 
   settled_alone : IsSettled bounds g.group (project plan g run) runs spec

@@ -1,4 +1,5 @@
 -- The group's commands in a run, with their replies.
+use Rattle.gb_isolation.specs.Project.{is_noticed_after}
 use Rattle.std.proofs.Common.{◌≡◌, ◌≢◌, ℕ, ◌⊎◌, inl, inr, Bool, true, false, List, [], ◌∷◌, ◌++◌, length, refl, sym, ap, ◌∙◌, subst}
 use Rattle.std.specs.Prelude.{if◌then◌else◌}
 use Rattle.std.specs.FinSet as set
@@ -18,7 +19,6 @@ use Rattle.gb_alone.specs.declared.event.GroupEvent.TheVariants.{Make as AskMake
 use Rattle.gb_alone.specs.declared.event.GroupStep.{GroupStep}
 use Rattle.gb_alone.proofs.CommandLemmas.{command_in, commands_at, commands, commands-append, Pairs, pairs_append, no_pairs, one_pair}
 use Rattle.gb_node.specs.Past.{Happened, read, is_stopped}
-use Rattle.gb_node.specs.PastGroups.{noticed_in}
 use Rattle.gb_node.specs.StepLaw.{has_group_token_by}
 use Rattle.gb_node.specs.declared.answer.NodeAnswer.{NodeAnswer}
 use Rattle.gb_node.specs.declared.answer.NodeAnswer.TheVariants.{Reply as Replied, Taken, Sent, Ticked}
@@ -39,7 +39,7 @@ use Rattle.gb_isolation.proofs.GivenLemmas.{carried_took, carried_packets, given
 -- what a request gives besides the command is no command
 commands_own : (plan : NodePlan) (g : Addr) (past : List Happened) (s : ℕ) (request : Request) (reply : Reply) → commands s (own_requested plan g past request reply) ≡ commands s (command_for g plan.me request)
 unfolding commands
-commands_own plan g past s (Make token addr spec) Done = ap (λ es. commands_at s (record { node = plan.me; event = AskMake spec }) ++ es) (no_commands_notices s plan.me spec (set.contains (noticed_in plan past)))
+commands_own plan g past s (Make token addr spec) Done = ap (λ es. commands_at s (record { node = plan.me; event = AskMake spec }) ++ es) (no_commands_notices s plan.me spec (is_noticed_after plan past))
 commands_own plan g past s request reply = refl
 
 commands_asked : (plan : NodePlan) (g : Addr) (past : List Happened) (s : ℕ) (request : Request) (reply : Reply) → commands s (asked plan g past request reply) ≡ commands s (if is_own_request plan.me g past request then command_for g plan.me request else [])

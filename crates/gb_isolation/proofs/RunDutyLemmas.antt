@@ -1,8 +1,11 @@
 -- The duties of a group's nodes in a run.
+use Rattle.std.specs.FinSet as set
+use Rattle.gb_node.specs.PastGroups.{noticed_in}
+use Rattle.gb_isolation.proofs.SilenceLemmas.{noticed_is_silent}
 use Rattle.std.proofs.Common.{◌≡◌, ℕ, ◌<◌, ◌≤◌, Bool, true, false, ◌&&◌, List, Option, Some, None, sym, ap, ◌∙◌, subst, arith}
 use Rattle.std.specs.Prelude.{if◌then◌else◌}
 use Rattle.gb_types.specs.declared.address.Addr.{Addr}
-use Rattle.gb_types.specs.declared.limits.TheConstants.{NODES}
+use Rattle.gb_types.specs.declared.limits.TheConstants.{NODES, SILENCE_MIN}
 use Rattle.gb_types.specs.declared.message.MsgId.{MsgId}
 use Rattle.gb_types.specs.declared.node.NodeId.{NodeId}
 use Rattle.gb_types.specs.declared.spec.Spec.{Spec}
@@ -21,7 +24,7 @@ use Rattle.gb_types.specs.Version.{bounds_of}
 use Rattle.gb_cluster.proofs.NodesLemmas.{stays}
 use Rattle.gb_isolation.specs.Isolation.{Seen, seen_in, IsIsolated, GroupsAreIsolated}
 use Rattle.gb_isolation.specs.Project.{project, made_with}
-use Rattle.gb_isolation.specs.RunLaws.{is_noticed, KeepsRunDuties, RunDuties, GroupsDoTheirDuties}
+use Rattle.gb_isolation.specs.RunLaws.{is_noticed_in, KeepsRunDuties, RunDuties, GroupsDoTheirDuties}
 use Rattle.gb_isolation.proofs.View.{BehavesAlone, is_concerned}
 use Rattle.gb_isolation.proofs.DroppedLemmas.{kept_there}
 use Rattle.gb_isolation.proofs.MomentLemmas.{AllBehave, marked}
@@ -33,7 +36,7 @@ pub record DutyLaws : Type 0 where
   pub members : DeliveredAreOfMembers
   pub logged : LoggedAreDelivered
 
-module _ (plan : Plan) (run : List Did) (v : ClusterValue) (g : Addr) (few : plan.nodes ≤ NODES) (alike : IsIsolated plan run v g) (behaves : BehavesAlone plan g run) (told : AllMarked (alone (bounds_of plan) g.group (project plan g run))) where
+module _ (plan : Plan) (run : List Did) (v : ClusterValue) (g : Addr) (few : plan.nodes ≤ NODES) (least : SILENCE_MIN ≤ plan.silence) (alike : IsIsolated plan run v g) (behaves : BehavesAlone plan g run) (told : AllMarked (alone (bounds_of plan) g.group (project plan g run))) where
   abbrev group : Group
   group = alone (bounds_of plan) g.group (project plan g run)
 
@@ -45,8 +48,11 @@ module _ (plan : Plan) (run : List Did) (v : ClusterValue) (g : Addr) (few : pla
     pub made : (alone (bounds_of plan) g.group (project plan g run) b.number).spec ≡ Some spec
     made = (behaves.fits b in_b).spec ∙ made_there
 
-    pub noticed_is : (c : ℕ) → is_marked c (alone (bounds_of plan) g.group (project plan g run) b.number).noticed ≡ (is_other spec b.number c && is_noticed plan run b c)
-    noticed_is c = (behaves.fits b in_b).noticed c ∙ ap (λ (o : Option Spec). is_concerned b.number c o && is_noticed plan run b c) made_there
+    pub noticed_is : (c : ℕ) → is_marked c (alone (bounds_of plan) g.group (project plan g run) b.number).noticed ≡ (is_other spec b.number c && is_noticed_in plan run b c)
+    noticed_is c =
+        (behaves.fits b in_b).noticed c
+        ∙ (ap (λ (o : Option Spec). is_concerned b.number c o && set.contains (noticed_in (node_plan plan b) (past_at b run)) c) made_there
+        ∙ ap (λ (t : Bool). is_other spec b.number c && t) (noticed_is_silent (node_plan plan b) (past_at b run) few least c))
 
     put_there : (c : ℕ) → is_member spec c ≡ true → (group b.number).put c ≡ (seen_in plan run v g b (node_numbered c)).put
     put_there c in_c =
@@ -57,7 +63,7 @@ module _ (plan : Plan) (run : List Did) (v : ClusterValue) (g : Addr) (few : pla
     seen : is_gone (group b.number).phase ≡ false → (messages : MsgId → Bool) → ((m : MsgId) → messages m ≡ true → is_member spec m.origin.number ≡ true) → KeepsDuties spec b.number (noticed_at (group b.number)) (group b.number).put (HasHad group) messages
         → KeepsRunDuties plan run v g b spec messages
     seen here messages origins done =
-        duties_seen spec b.number (group b.number) made here (told b.number) (is_noticed plan run b) noticed_is (λ c. (seen_in plan run v g b (node_numbered c)).put) put_there (HasHad group) messages origins done
+        duties_seen spec b.number (group b.number) made here (told b.number) (is_noticed_in plan run b) noticed_is (λ c. (seen_in plan run v g b (node_numbered c)).put) put_there (HasHad group) messages origins done
 
     delivered : DutyLaws → is_gone (group b.number).phase ≡ false → KeepsRunDuties plan run v g b spec (delivered_at spec b.number (group b.number))
     delivered laws here =
@@ -81,4 +87,4 @@ module _ (plan : Plan) (run : List Did) (v : ClusterValue) (g : Addr) (few : pla
 
 pub all_dutiful : DutyLaws → GroupsAreIsolated → AllBehave → GroupsDoTheirDuties
 all_dutiful laws isolated behave plan run v comes g fed =
-    run_duties plan run v g (stays plan run v comes).right.few (isolated plan run v comes g fed) (behave plan g run v comes fed) (marked behave plan g run v comes fed) laws
+    run_duties plan run v g (stays plan run v comes).right.few (stays plan run v comes).right.least (isolated plan run v comes g fed) (behave plan g run v comes fed) (marked behave plan g run v comes fed) laws

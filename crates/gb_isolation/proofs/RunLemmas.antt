@@ -7,7 +7,7 @@ use Rattle.std.proofs.lemmas.Bool.Decides.{nat_tests}
 use Rattle.std.proofs.lemmas.List.{append-nil}
 use Rattle.std.proofs.lemmas.List.Sums.{fold-append}
 use Rattle.gb_types.specs.declared.address.Addr.{Addr}
-use Rattle.gb_types.specs.declared.limits.TheConstants.{NODES}
+use Rattle.gb_types.specs.declared.limits.TheConstants.{NODES, SILENCE_MIN}
 use Rattle.gb_types.specs.declared.node.NodeId.{NodeId}
 use Rattle.gb_types.proofs.SameLemmas.{same_number}
 use Rattle.gb_frame.specs.declared.item.Item.{Item}
@@ -52,6 +52,7 @@ use Rattle.gb_types.proofs.BoolLemmas.{not_true}
 use Rattle.gb_types.specs.Version.{bounds_of}
 use Rattle.gb_isolation.proofs.UnrelatedLemmas.{unrelated_goes}
 use Rattle.gb_isolation.proofs.TickLemmas.{ticked_goes}
+use Rattle.gb_isolation.proofs.SilenceLemmas.{silent_is}
 
 -- more frames from other nodes, where the marks of those before are the marks of all
 fits_frames : (nodes : ℕ) (g : Addr) (me : ℕ) (from later : ℕ → List (List Item)) (v : View) (m : Member) → ((b : ℕ) → b < nodes → AreMarked g (from b) (v.taken b) (m.come b) → AreMarked g (later b) (v.taken b) (m.come b))
@@ -129,6 +130,9 @@ module _ (laws : Laws) (plan : Plan) (g : Addr) (run : List Did) (before : Clust
   few : plan.nodes ≤ NODES
   few = (stays plan run before comes).right.few
 
+  least : SILENCE_MIN ≤ plan.silence
+  least = (stays plan run before comes).right.least
+
   -- no item that is carried has the number that is said next
   unsaid : (a : NodeId) → a.number < plan.nodes → (t : Told) → told_of (node_plan plan a) g (past_at a run) ≡ Some (Some t) → (b : ℕ) → b < plan.nodes
       → list_any (is_own a.number (said_in t.calls + 1)) (items_of g (frames_to plan.cluster_key b (past_at a run))) ≡ false
@@ -150,6 +154,7 @@ module _ (laws : Laws) (plan : Plan) (g : Addr) (run : List Did) (before : Clust
   unfolding IsAlwaysWhole
   step_goes a (Asked request) (Replied reply) v within goes answered fed =
       asked_goes (node_plan plan a) plan.versions g (past_at a run) request reply (frames_for plan run a) group refl few
+      (silent_is (node_plan plan a) (past_at a run) few least)
       (λ b is. laws.answers.noticed (node_plan plan a) (past_at a run) (node_at before a) b (have_pasts plan run before a comes within) is) (unsaid a within) answered fed (was.fits a within)
   step_goes a (Pack b) (Sent (SentPacket text)) v within goes answered fed = packed_goes (node_plan plan a) plan.versions g (past_at a run) b text (frames_for plan run a) group few answered (was.fits a within)
   step_goes a Tick (Ticked (Noticed found)) v within goes answered fed = ticked_goes (node_plan plan a) plan.versions g (past_at a run) found (frames_for plan run a) group few answered (was.fits a within)

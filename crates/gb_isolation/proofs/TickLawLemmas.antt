@@ -17,11 +17,12 @@ use Rattle.gb_node.specs.declared.answer.NodeAnswer.TheVariants.{Ticked}
 use Rattle.gb_node.specs.declared.answer.Ticked.TheVariants.{Noticed}
 use Rattle.gb_node.specs.declared.event.NodeEvent.{NodeEvent}
 use Rattle.gb_node.specs.declared.event.NodeEvent.TheVariants.{Tick}
-use Rattle.gb_cluster.specs.ClusterValue.{ClusterValue, node_at, node_plan}
+use Rattle.gb_cluster.specs.ClusterValue.{ClusterValue, IsClusterPlan, node_at, node_plan}
 use Rattle.gb_cluster.specs.Run.{Did, ComesTo, past_at}
-use Rattle.gb_cluster.proofs.NodesLemmas.{have_pasts, past_same}
-use Rattle.gb_isolation.specs.RunLaws.{AnswersNewNotices, TicksAnswerNewNotices}
+use Rattle.gb_cluster.proofs.NodesLemmas.{have_pasts, past_same, stays}
+use Rattle.gb_isolation.specs.RunLaws.{AnswersNewNotices, TicksAnswerNewNotices, is_noticed_in}
 use Rattle.gb_isolation.proofs.MomentLemmas.{placed}
+use Rattle.gb_isolation.proofs.SilenceLemmas.{noticed_is_silent}
 
 -- at a node that runs
 tick_answer : (old new : NodeValue) (answer : NodeAnswer) → old.stopped ≡ false → IsTurn old Tick answer new → answer ≡ Ticked (Noticed (due old.watch))
@@ -64,15 +65,23 @@ new_notices pasts answers plan earlier a answer v goes tick running = (found, to
     says : IsTicked (node_plan plan a) (past_at a earlier) found
     says = answers.each (node_plan plan a) (past_at a earlier) Tick (Ticked (Noticed found)) (node_at v a) (subst (λ hs. NodeComesTo (node_plan plan a) hs (node_at v a)) past (have_pasts plan (d ∷ earlier) v a goes within))
 
-    new : (b : ℕ) → set.contains found b ≡ (set.contains (noticed_in (node_plan plan a) (past_at a (d ∷ earlier))) b && not (set.contains (noticed_in (node_plan plan a) (past_at a earlier)) b))
-    new b = fresh_only (set.contains found b) (set.contains (noticed_in (node_plan plan a) (past_at a earlier)) b) (set.contains (noticed_in (node_plan plan a) (past_at a (d ∷ earlier))) b) (says.fresh b)
+    fresh : (b : ℕ) → set.contains found b ≡ (set.contains (noticed_in (node_plan plan a) (past_at a (d ∷ earlier))) b && not (set.contains (noticed_in (node_plan plan a) (past_at a earlier)) b))
+    fresh b = fresh_only (set.contains found b) (set.contains (noticed_in (node_plan plan a) (past_at a earlier)) b) (set.contains (noticed_in (node_plan plan a) (past_at a (d ∷ earlier))) b) (says.fresh b)
         (ap (λ (hs : List Happened). set.contains (noticed_in (node_plan plan a) hs) b) past ∙ says.later b)
+
+    right : IsClusterPlan plan
+    right = (stays plan earlier old goes.1).right
+
+    new : (b : ℕ) → set.contains found b ≡ (is_noticed_in plan (d ∷ earlier) a b && not (is_noticed_in plan earlier a b))
+    new b = fresh b
+        ∙ (ap (λ (t : Bool). t && not (set.contains (noticed_in (node_plan plan a) (past_at a earlier)) b)) (noticed_is_silent (node_plan plan a) (past_at a (d ∷ earlier)) right.few right.least b)
+        ∙ ap (λ (t : Bool). is_noticed_in plan (d ∷ earlier) a b && not t) (noticed_is_silent (node_plan plan a) (past_at a earlier) right.few right.least b))
 
 pub ticks_answer : PastsSay → AnswersSay → TicksAnswerNewNotices
 ticks_answer pasts answers plan earlier d v goes tick = by (subst (λ (e : NodeEvent). ComesTo plan (record { node = d.node; event = e; answer = d.answer } ∷ earlier) v) tick goes)
   where
     by : ComesTo plan (record { node = d.node; event = Tick; answer = d.answer } ∷ earlier) v → is_stopped (past_at d.node earlier) ≡ false
-        → (found : set.FinSet nat_cmp) × (d.answer ≡ Ticked (Noticed found)) × ((b : ℕ) → set.contains found b ≡ (set.contains (noticed_in (node_plan plan d.node) (past_at d.node (d ∷ earlier))) b && not (set.contains (noticed_in (node_plan plan d.node) (past_at d.node earlier)) b)))
+        → (found : set.FinSet nat_cmp) × (d.answer ≡ Ticked (Noticed found)) × ((b : ℕ) → set.contains found b ≡ (is_noticed_in plan (d ∷ earlier) d.node b && not (is_noticed_in plan earlier d.node b)))
     by ticked running =
-        subst (λ (e : NodeEvent). (found : set.FinSet nat_cmp) × (d.answer ≡ Ticked (Noticed found)) × ((b : ℕ) → set.contains found b ≡ (set.contains (noticed_in (node_plan plan d.node) (past_at d.node (record { node = d.node; event = e; answer = d.answer } ∷ earlier))) b && not (set.contains (noticed_in (node_plan plan d.node) (past_at d.node earlier)) b))))
+        subst (λ (e : NodeEvent). (found : set.FinSet nat_cmp) × (d.answer ≡ Ticked (Noticed found)) × ((b : ℕ) → set.contains found b ≡ (is_noticed_in plan (record { node = d.node; event = e; answer = d.answer } ∷ earlier) d.node b && not (is_noticed_in plan earlier d.node b))))
         (sym tick) (new_notices pasts answers plan earlier d.node d.answer v ticked refl running)

@@ -1,5 +1,5 @@
 -- What of a run concerns one group: from events and answers, never from what the nodes keep. Runs and pasts have the newest first.
-use Rattle.std.specs.Prelude.{ℕ, zero, suc, ◌+◌, ◌-◌, ◌&&◌, ◌||◌, not, Bool, true, false, List, [], ◌∷◌, ◌++◌, length, take, map, filter, Option, Some, None, nat_eq, if◌then◌else◌}
+use Rattle.std.specs.Prelude.{ℕ, zero, suc, ◌+◌, ◌-◌, ◌&&◌, ◌||◌, not, Bool, true, false, List, [], ◌∷◌, ◌++◌, length, take, map, filter, Option, Some, None, nat_eq, nat_lt, if◌then◌else◌}
 use Rattle.std.specs.FinSet as set
 use Rattle.std.specs.List.{range_with_len, list_any, flat_map}
 use Rattle.gb_types.specs.declared.address.Addr.{Addr}
@@ -15,6 +15,7 @@ use Rattle.gb_types.specs.declared.spec.Spec.{Spec}
 use Rattle.gb_frame.specs.declared.item.Item.{Item}
 use Rattle.gb_frame.specs.Packet.{Content}
 use Rattle.gb_link.specs.Ack.{covers}
+use Rattle.gb_detect.specs.Silence.{is_noticed}
 use Rattle.gb_rules.specs.Address.{is_addr}
 use Rattle.gb_rules.specs.Group.{is_other}
 use Rattle.gb_rules.specs.Tenant.{reserve_of}
@@ -23,8 +24,7 @@ use Rattle.gb_alone.specs.declared.event.GroupStep.{GroupStep}
 use Rattle.gb_frame.specs.Items.{entry_of, items_for}
 use Rattle.gb_node.specs.StepLaw.{has_group_token_by}
 use Rattle.gb_node.specs.NodeStep.{node_numbered}
-use Rattle.gb_node.specs.Past.{Happened, read, frames_to, is_acked, is_frame, came, is_stopped}
-use Rattle.gb_node.specs.PastGroups.{noticed_in}
+use Rattle.gb_node.specs.Past.{Happened, read, frames_to, is_acked, is_frame, came, is_stopped, watched}
 use Rattle.gb_node.specs.declared.answer.NodeAnswer.{NodeAnswer}
 use Rattle.gb_node.specs.declared.answer.NodeAnswer.TheVariants.{Reply as Replied, Taken, Sent, Ticked}
 use Rattle.gb_node.specs.declared.answer.PacketAnswer.TheVariants.{Good as TakenGood}
@@ -101,13 +101,17 @@ unfoldable pub made_with : Addr → List Happened → Option Spec
 made_with g [] = None
 made_with g (h ∷ past) = or_else (made_by g h.event h.answer) (made_with g past)
 
+-- a node is noticed at a node after this past: it is another one of the cluster, and was silent there for too long at some moment so far
+abbrev pub is_noticed_after : NodePlan → List Happened → ℕ → Bool
+is_noticed_after plan past b = (nat_lt b plan.nodes && not (nat_eq b plan.me.number)) && is_noticed plan.silence b (watched plan.cluster_key past)
+
 -- the group's notices of other members for which the test holds, rising
 abbrev pub notices : NodeId → Spec → (ℕ → Bool) → List GroupStep
 notices a spec new = map (λ b. record { node = a; event = Notice (node_numbered b) }) (filter (λ b. is_other spec a.number b && new b) (range_with_len 0 NODES))
 
 -- what a request of the group gives it at a running node; made, it learns of the members that are noticed there
 abbrev pub own_requested : NodePlan → Addr → List Happened → Request → Reply → List GroupStep
-own_requested plan g past (Make token addr spec) Done = record { node = plan.me; event = AskMake spec } ∷ notices plan.me spec (set.contains (noticed_in plan past))
+own_requested plan g past (Make token addr spec) Done = record { node = plan.me; event = AskMake spec } ∷ notices plan.me spec (is_noticed_after plan past)
 own_requested plan g past request reply = command_for g plan.me request
 
 abbrev pub tenant_given : Addr → NodeId → Request → Reply → List GroupStep

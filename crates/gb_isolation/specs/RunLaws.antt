@@ -24,7 +24,6 @@ use Rattle.gb_duties.specs.Duties.{HasHad, KeepsDuties, delivered_at}
 use Rattle.gb_node.specs.NodeGroups.{waiting_at}
 use Rattle.gb_node.specs.NodeStep.{node_numbered}
 use Rattle.gb_node.specs.Past.{Happened, frames_to, is_stopped, is_taken}
-use Rattle.gb_node.specs.PastGroups.{noticed_in}
 use Rattle.gb_node.specs.declared.answer.NodeAnswer.{NodeAnswer}
 use Rattle.gb_node.specs.declared.answer.NodeAnswer.TheVariants.{Reply as Replied, Ticked}
 use Rattle.gb_node.specs.declared.answer.Ticked.TheVariants.{Noticed}
@@ -35,7 +34,7 @@ use Rattle.gb_cluster.specs.ClusterValue.{ClusterValue, node_plan, node_at}
 use Rattle.gb_cluster.specs.Run.{Did, ComesTo, past_at}
 use Rattle.gb_types.specs.declared.plan.Plan.{Plan}
 use Rattle.gb_isolation.specs.Isolation.{seen_in, alone_in}
-use Rattle.gb_isolation.specs.Project.{project, items_in, is_own_request, made_with, is_fed}
+use Rattle.gb_isolation.specs.Project.{project, items_in, is_noticed_after, is_own_request, made_with, is_fed}
 
 -- What was accepted.
 
@@ -87,13 +86,13 @@ unfoldable pub is_dropped : Addr → List Happened → Bool
 is_dropped g [] = false
 is_dropped g (h ∷ past) = is_dropped_by g h.event h.answer || is_dropped g past
 
--- a node is noticed at the node a
-abbrev pub is_noticed : Plan → List Did → NodeId → ℕ → Bool
-is_noticed plan run a = set.contains (noticed_in (node_plan plan a) (past_at a run))
+-- a node is noticed at the node a in the run
+abbrev pub is_noticed_in : Plan → List Did → NodeId → ℕ → Bool
+is_noticed_in plan run a = is_noticed_after (node_plan plan a) (past_at a run)
 
 -- the duties of the node b in the run, for each of these messages: what is noticed and put out is read there, what another node has had in the projection
 abbrev pub KeepsRunDuties : Plan → List Did → ClusterValue → Addr → NodeId → Spec → (MsgId → Bool) → Type 0
-KeepsRunDuties plan run v g b spec messages = KeepsDuties spec b.number (is_noticed plan run b) (λ c. (seen_in plan run v g b (node_numbered c)).put) (HasHad (alone_in plan g run)) messages
+KeepsRunDuties plan run v g b spec messages = KeepsDuties spec b.number (is_noticed_in plan run b) (λ c. (seen_in plan run v g b (node_numbered c)).put) (HasHad (alone_in plan g run)) messages
 
 -- each node where the group was made, and not dropped, has done its duties for each message that its module delivered, and so for each that stands in the log seen there
 pub record RunDuties (plan : Plan) (run : List Did) (v : ClusterValue) (g : Addr) : Type 0 where
@@ -132,8 +131,8 @@ pub record IsSettledIn (plan : Plan) (run : List Did) (v : ClusterValue) (g : Ad
   pub came : (a b : ℕ) → IsRunning runs spec a → IsRunning runs spec b → a ≢ b → (n : ℕ) (frame : List Item) → slice_get (frames_to plan.cluster_key b (past_at (node_numbered a) run)) n ≡ Some frame → items_in g frame ≢ []
       → is_taken plan.cluster_key a (n + 1) (past_at (node_numbered b) run) ≡ true
   -- each stopped member is noticed at each running one, and no running one at any member
-  pub noticed : (a b : ℕ) → IsRunning runs spec a → is_member spec b ≡ true → runs b ≡ false → is_noticed plan run (node_numbered a) b ≡ true
-  pub unnoticed : (a b : ℕ) → is_member spec a ≡ true → IsRunning runs spec b → is_noticed plan run (node_numbered a) b ≡ false
+  pub noticed : (a b : ℕ) → IsRunning runs spec a → is_member spec b ≡ true → runs b ≡ false → is_noticed_in plan run (node_numbered a) b ≡ true
+  pub unnoticed : (a b : ℕ) → is_member spec a ≡ true → IsRunning runs spec b → is_noticed_in plan run (node_numbered a) b ≡ false
 
 -- where the group is settled the logs seen at its members agree, whichever nodes are taken as those that run, where these are enough
 abbrev pub RunAgreement : Plan → List Did → ClusterValue → Addr → Type 0
@@ -168,7 +167,7 @@ AtEachMoment Holds run = (later earlier : List Did) (d : Did) → run ≡ later 
 -- At a running node a tick answers the nodes that are noticed there then and were not before.
 abbrev pub AnswersNewNotices : Plan → List Did → Did → Type 0
 AnswersNewNotices plan earlier d = d.event ≡ Tick → is_stopped (past_at d.node earlier) ≡ false
-    → (found : set.FinSet nat_cmp) × (d.answer ≡ Ticked (Noticed found)) × ((b : ℕ) → set.contains found b ≡ (is_noticed plan (d ∷ earlier) d.node b && not (is_noticed plan earlier d.node b)))
+    → (found : set.FinSet nat_cmp) × (d.answer ≡ Ticked (Noticed found)) × ((b : ℕ) → set.contains found b ≡ (is_noticed_in plan (d ∷ earlier) d.node b && not (is_noticed_in plan earlier d.node b)))
 
 abbrev pub TicksAnswerNewNotices : Type 0
 TicksAnswerNewNotices = (plan : Plan) (earlier : List Did) (d : Did) (v : ClusterValue) → ComesTo plan (d ∷ earlier) v → AnswersNewNotices plan earlier d

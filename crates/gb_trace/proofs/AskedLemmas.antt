@@ -1,7 +1,6 @@
 -- What requests give a group.
 use Rattle.std.proofs.Common.{◌≡◌, true, false, Bool, List, [], ◌∷◌, ◌++◌, refl, sym, ap, ◌∙◌, append_assoc}
 use Rattle.std.specs.Prelude.{Option, Some, None, if◌then◌else◌}
-use Rattle.std.specs.FinSet as set
 use Rattle.std.proofs.lemmas.List.{append-nil}
 use Rattle.gb_types.specs.declared.address.Addr.{Addr}
 use Rattle.gb_types.specs.declared.node.NodeId.{NodeId}
@@ -13,7 +12,7 @@ use Rattle.gb_types.specs.declared.spec.Spec.{Spec}
 use Rattle.gb_alone.specs.declared.event.GroupEvent.TheVariants.{Make as AskMake, Stop}
 use Rattle.gb_alone.specs.declared.event.GroupStep.{GroupStep}
 use Rattle.gb_node.specs.Past.{Happened}
-use Rattle.gb_node.specs.PastGroups.{noticed_in}
+use Rattle.gb_isolation.specs.Project.{is_noticed_after}
 use Rattle.gb_node.specs.declared.answer.NodeAnswer.TheVariants.{Reply as Replied}
 use Rattle.gb_node.specs.declared.event.NodeEvent.TheVariants.{Request as Asked}
 use Rattle.gb_node.specs.declared.plan.NodePlan.{NodePlan}
@@ -21,10 +20,10 @@ use Rattle.gb_isolation.specs.Project.{is_named, command_for, made_by, notices, 
 
 -- a request of the group gives its command, and the notices that a group which it makes has at once
 own_is : (plan : NodePlan) (g : Addr) (past : List Happened) (request : Request) (reply : Reply) → is_named g request ≡ true
-    → own_requested plan g past request reply ≡ command_for g plan.me request ++ ticked plan.me (set.contains (noticed_in plan past)) (made_by g (Asked request) (Replied reply))
+    → own_requested plan g past request reply ≡ command_for g plan.me request ++ ticked plan.me (is_noticed_after plan past) (made_by g (Asked request) (Replied reply))
 own_is plan g past (AddTenant token row) reply named = refl
 own_is plan g past (Make token addr spec) Done named =
-    ap (λ t. record { node = plan.me; event = AskMake spec } ∷ ticked plan.me (set.contains (noticed_in plan past)) (if t then Some spec else None)) (sym named)
+    ap (λ t. record { node = plan.me; event = AskMake spec } ∷ ticked plan.me (is_noticed_after plan past) (if t then Some spec else None)) (sym named)
 own_is plan g past (Make token addr spec) (Said seq) named = refl
 own_is plan g past (Make token addr spec) (Log entries) named = refl
 own_is plan g past (Make token addr spec) (Refused why) named = refl
@@ -40,15 +39,15 @@ pub own_alone : (plan : NodePlan) (g : Addr) (past : List Happened) (request : R
 own_alone plan g past request reply steps later given named none is adds =
     adds
     ∙ ap (λ xs. steps ++ xs) (is ∙ (sym (append-nil (command_for g plan.me request))
-    ∙ (ap (λ (o : Option Spec). command_for g plan.me request ++ ticked plan.me (set.contains (noticed_in plan past)) o) none ∙ sym (own_is plan g past request reply named))))
+    ∙ (ap (λ (o : Option Spec). command_for g plan.me request ++ ticked plan.me (is_noticed_after plan past) o) none ∙ sym (own_is plan g past request reply named))))
 
 -- it makes one
 pub own_made : (plan : NodePlan) (g : Addr) (past : List Happened) (request : Request) (reply : Reply) (spec : Spec) (steps later given : List GroupStep) → is_named g request ≡ true → Some spec ≡ made_by g (Asked request) (Replied reply)
-    → given ≡ command_for g plan.me request → later ≡ steps ++ given → later ++ notices plan.me spec (set.contains (noticed_in plan past)) ≡ steps ++ own_requested plan g past request reply
+    → given ≡ command_for g plan.me request → later ≡ steps ++ given → later ++ notices plan.me spec (is_noticed_after plan past) ≡ steps ++ own_requested plan g past request reply
 own_made plan g past request reply spec steps later given named one is adds =
-    ap (λ xs. xs ++ notices plan.me spec (set.contains (noticed_in plan past))) (adds ∙ ap (λ xs. steps ++ xs) is)
-    ∙ (append_assoc steps (command_for g plan.me request) (notices plan.me spec (set.contains (noticed_in plan past)))
-    ∙ ap (λ xs. steps ++ xs) (ap (λ (o : Option Spec). command_for g plan.me request ++ ticked plan.me (set.contains (noticed_in plan past)) o) one ∙ sym (own_is plan g past request reply named)))
+    ap (λ xs. xs ++ notices plan.me spec (is_noticed_after plan past)) (adds ∙ ap (λ xs. steps ++ xs) is)
+    ∙ (append_assoc steps (command_for g plan.me request) (notices plan.me spec (is_noticed_after plan past))
+    ∙ ap (λ xs. steps ++ xs) (ap (λ (o : Option Spec). command_for g plan.me request ++ ticked plan.me (is_noticed_after plan past) o) one ∙ sym (own_is plan g past request reply named)))
 
 -- the stop stands before the command, unless one met it before
 pub stop_shown : (a : NodeId) (met : Bool) (step : GroupStep) (steps stopped later commands : List GroupStep) → commands ≡ step ∷ [] → stopped ≡ steps ++ (if met then [] else record { node = a; event = Stop } ∷ [])

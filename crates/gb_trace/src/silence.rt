@@ -1,18 +1,16 @@
 //! For how long nodes were silent, asked of all that happened in a run so far, in order.
 ghost use Rattle.std.specs.Prelude.{◌≡◌, ◌≤◌, ◌||◌, [], ◌∷◌, nat_le, if◌then◌else◌};
-ghost use Rattle.std.specs.FinSet as set;
 ghost use Rattle.std.specs.List.{list_any};
 ghost use Rattle.gb_types.specs.declared.limits.TheConstants.{NODES as MOST, SILENCE_MIN as LEAST};
 ghost use Rattle.gb_detect.specs.Silence.{Tick, is_noticed};
 ghost use Rattle.gb_node.specs.Past.{came as taken_by, ticks as ticked_by, watched};
-ghost use Rattle.gb_node.specs.PastGroups.{noticed_in};
 ghost use Rattle.gb_cluster.specs.ClusterValue.{node_plan};
+ghost use Rattle.gb_isolation.specs.Project.{is_noticed_after};
 ghost use Rattle.gb_trace.specs.Deeds.{is_from, past_in};
 
 use crate::deed::Deed;
 use crate::reading::came;
 use gb_cap::hmac::HmacKey;
-use gb_detect::laws::noticed_by_calls;
 use gb_node::answer::{NodeAnswer, Ticked};
 use gb_node::event::NodeEvent;
 use gb_types::node::NodeId;
@@ -80,8 +78,7 @@ pub(crate) fn was_noticed(plan: &Plan, key: &HmacKey, a: NodeId, b: NodeId, deed
     requires few { plan.now.nodes ≤ MOST }
     requires least { LEAST ≤ plan.now.silence }
     requires key { key.now ≡ plan.now.cluster_key }
-    ensures { result ≡ set.contains (noticed_in (node_plan plan.now a) (past_in a deeds.now)) b.number }
+    ensures { result ≡ is_noticed_after (node_plan plan.now a) (past_in a deeds.now) b.number }
 {
-    noticed_by_calls();
     b.number < plan.nodes && b.number != a.number && was_silent(key, a, b, plan.silence, deeds)
 }
