@@ -14,7 +14,7 @@ use Rattle.gb_node.specs.declared.event.NodeEvent.{NodeEvent}
 use Rattle.gb_node.specs.declared.event.NodeEvent.TheVariants.{Request as Asked, Packet as Came, Pack, Again, Ack, Tick, Stop}
 use Rattle.gb_cluster.specs.ClusterValue.{ClusterValue, cluster, node_plan, node_at, new_cluster, IsClusterPlan}
 use Rattle.gb_cluster.specs.ClusterStep.{IsNodeTurn, IsAt, IsArrival, IsStep, receiver_of, is_packet_for, packet_numbered, AreForNodes}
-use Rattle.gb_cluster.specs.Run.{Did, ComesTo, GoesOn, Happens, IsReached}
+use Rattle.gb_cluster.specs.Run.{Did, ComesTo, RunGoesOn, Happens, IsReached}
 use Rattle.gb_cluster.specs.declared.answer.Answer.{Answer}
 use Rattle.gb_cluster.specs.declared.answer.Answer.TheVariants.{NoPacket, NotNoise}
 use Rattle.gb_cluster.specs.declared.event.Event.{Event}
@@ -109,7 +109,7 @@ arrived_was_posted packets k p bytes is same =
 abbrev RunsOn : Plan → ClusterValue → Event → Answer → List Did → ClusterValue → Type 0
 RunsOn plan old event answer earlier new = (run : List Did) × Happens old event answer earlier new run × ComesTo plan run new
 
-pub goes_on : (old new : ClusterValue) (event : Event) (answer : Answer) → IsStep old event answer new → GoesOn old event answer new
+pub goes_on : (old new : ClusterValue) (event : Event) (answer : Answer) → IsStep old event answer new → RunGoesOn old event answer new
 unfolding ComesTo
 goes_on old new (At a event) answer step plan earlier comes = by (is_packet_for (node_at old a) event) refl step
   where

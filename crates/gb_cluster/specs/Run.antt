@@ -43,8 +43,8 @@ Happens old event answer earlier new run =
     ((run ≡ earlier) × (new ≡ old)) ⊎ ((d : Did) × (run ≡ d ∷ earlier) × IsOf old.packets event d × (answer ≡ answer_of (length old.packets) d.answer))
 
 -- what was a run goes on by an event with its answer
-abbrev pub GoesOn : ClusterValue → Event → Answer → ClusterValue → Type 0
-GoesOn old event answer new = (plan : Plan) (earlier : List Did) → ComesTo plan earlier old → (run : List Did) × Happens old event answer earlier new run × ComesTo plan run new
+abbrev pub RunGoesOn : ClusterValue → Event → Answer → ClusterValue → Type 0
+RunGoesOn old event answer new = (plan : Plan) (earlier : List Did) → ComesTo plan earlier old → (run : List Did) × Happens old event answer earlier new run × ComesTo plan run new
 
 -- what happened at one node
 unfoldable pub past_at : NodeId → List Did → List Happened

@@ -3,7 +3,7 @@ ghost use Rattle.std.specs.Prelude.{◌≡◌, ◌<◌, ◌↔◌, ◌++◌, [],
 ghost use Rattle.gb_cluster.specs.ClusterStep.{receiver_of, posted, sending, is_packet_for, AreForNodes, AreRead, IsNodeTurn, IsPlaced, IsStep};
 ghost use Rattle.gb_node.specs.NodeStep.{read_at};
 ghost use Rattle.gb_cluster.specs.ClusterValue.{cluster, new_cluster, IsClusterPlan};
-ghost use Rattle.gb_cluster.specs.Run.{ComesTo, GoesOn};
+ghost use Rattle.gb_cluster.specs.Run.{ComesTo, RunGoesOn};
 ghost use Rattle.gb_cluster.specs.declared.event.Event.TheVariants as Events;
 ghost use Rattle.gb_types.specs.declared.plan.Plan.{Plan as PlanValue};
 ghost use Rattle.gb_cluster.specs.declared.posted.Posted.{Posted as PostedValue};
@@ -211,7 +211,7 @@ impl Cluster {
     pub fn happen(&mut self, at: NodeId, event: &NodeEvent) -> Result<Answer, OutOfMemory>
         requires { at.number < length self.old.nodes }
         ensures step { IfOk result (λ a. IsStep self.old (Events.At at event.now) a self.new) }
-        ensures run { IfOk result (λ a. GoesOn self.old (Events.At at event.now) a self.new) }
+        ensures run { IfOk result (λ a. RunGoesOn self.old (Events.At at event.now) a self.new) }
         ensures nodes { length self.new.nodes ≡ length self.old.nodes }
         ensures err { OnErr result (self.new ≡ self.old) }
     {
@@ -222,7 +222,7 @@ impl Cluster {
     /// The packet with a number arrives at the node that it was sent to.
     pub fn arrive(&mut self, number: u64) -> Answer
         ensures step { IsStep self.old (Events.Arrive number) result self.new }
-        ensures run { GoesOn self.old (Events.Arrive number) result self.new }
+        ensures run { RunGoesOn self.old (Events.Arrive number) result self.new }
         ensures nodes { length self.new.nodes ≡ length self.old.nodes }
     {
         packets_are_honest();
@@ -235,7 +235,7 @@ impl Cluster {
     pub fn step(&mut self, event: &Event) -> Result<Answer, OutOfMemory>
         requires { IsPlaced (length self.old.nodes) event.now }
         ensures step { IfOk result (λ a. IsStep self.old event.now a self.new) }
-        ensures run { IfOk result (λ a. GoesOn self.old event.now a self.new) }
+        ensures run { IfOk result (λ a. RunGoesOn self.old event.now a self.new) }
         ensures nodes { length self.new.nodes ≡ length self.old.nodes }
         ensures err { OnErr result (self.new ≡ self.old) }
     {

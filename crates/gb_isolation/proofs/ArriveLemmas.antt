@@ -32,7 +32,7 @@ use Rattle.gb_cluster.specs.Run.{Did, past_at}
 use Rattle.gb_types.specs.declared.plan.Plan.{Plan}
 use Rattle.gb_types.specs.declared.version.Version.{Version}
 use Rattle.gb_types.specs.Version.{bounds_of, version_at}
-use Rattle.gb_isolation.specs.Project.{items_of, items_in, offset, made_with, replies_in, is_met, comes, all_acknowledged, acknowledges, brings, arrived, is_new_frame}
+use Rattle.gb_isolation.specs.Project.{group_items_of, group_items, offset, made_with, replies_in, is_met, comes, all_acknowledged, acknowledges, brings, arrived, is_new_frame}
 use Rattle.gb_isolation.proofs.View.{View, view_of, Fits, Goes, AreMarked, frames_for, view_at, AllFit}
 use Rattle.gb_isolation.proofs.GoesLemmas.{goes_on}
 use Rattle.gb_isolation.proofs.DoneLemmas.{IsOfNode, with_acks, acks_goes}
@@ -141,13 +141,13 @@ module _ (plan : Plan) (g : Addr) (run : List Did) (a : NodeId) (bytes : List �
 
   frame_part : is_first good.frame ≡ true → Goes (bounds_of plan) g a frames_from (with_packet version g a c true v) mid (brings plan g run a c)
   frame_part first =
-      subst (λ fs. Goes (bounds_of plan) g a frames_from (with_packet version g a c true v) mid (comes s a (offset g fs (c.frame - 1)) (length (items_in g c.items)))) forth
-      (subst (λ d. Goes (bounds_of plan) g a frames_from (with_frame version a s d c.frame (items_for g c.items) u) mid (comes s a (offset g (frames_from s.number) (c.frame - 1)) (length (items_in g c.items)))) number
-      (subst (λ n. Goes (bounds_of plan) g a frames_from (with_frame version a s s.number n (items_for g c.items) u) mid (comes s a (offset g (frames_from s.number) (c.frame - 1)) (length (items_in g c.items)))) counted
+      subst (λ fs. Goes (bounds_of plan) g a frames_from (with_packet version g a c true v) mid (comes s a (offset g fs (c.frame - 1)) (length (group_items g c.items)))) forth
+      (subst (λ d. Goes (bounds_of plan) g a frames_from (with_frame version a s d c.frame (items_for g c.items) u) mid (comes s a (offset g (frames_from s.number) (c.frame - 1)) (length (group_items g c.items)))) number
+      (subst (λ n. Goes (bounds_of plan) g a frames_from (with_frame version a s s.number n (items_for g c.items) u) mid (comes s a (offset g (frames_from s.number) (c.frame - 1)) (length (group_items g c.items)))) counted
       (frame_goes (bounds_of plan) g a s frames_from u mid (c.frame - 1) c.items (waiting_of (view_at plan g run s).told a.number) sender_inside apart (acks_part.there.stopped ∙ (sym here.stopped ∙ running))
       (ap (λ fs. slice_get fs (c.frame - 1)) forth ∙ framed first) (fit s sender_inside a.number (c.frame - 1) c.items (framed first))
-      (ap (λ (m : Member). m.put a.number) same_sender ∙ (sender.put a.number inside ∙ ap (λ fs. items_of g fs ++ waiting_of (view_at plan g run s).told a.number) (sym forth)))
-      (ap (λ (m : Member). m.taken a.number) same_sender ∙ (sender.taken a.number inside ∙ ap (λ fs. length (items_of g fs)) (sym forth)))
+      (ap (λ (m : Member). m.put a.number) same_sender ∙ (sender.put a.number inside ∙ ap (λ fs. group_items_of g fs ++ waiting_of (view_at plan g run s).told a.number) (sym forth)))
+      (ap (λ (m : Member). m.taken a.number) same_sender ∙ (sender.taken a.number inside ∙ ap (λ fs. length (group_items_of g fs)) (sym forth)))
       ((λ i. is_taken key (number i) (counted i) past) ∙ (right.first first).1) acks_part.there)))
     where
       some : 0 < c.frame

@@ -27,7 +27,7 @@ use Rattle.gb_node.specs.declared.answer.NodeAnswer.TheVariants.{Reply as Replie
 use Rattle.gb_node.specs.declared.event.NodeEvent.TheVariants.{Request as Asked}
 use Rattle.gb_node.specs.declared.plan.NodePlan.{NodePlan}
 use Rattle.gb_node.proofs.EventLemmas.{added_refused, asked_untold}
-use Rattle.gb_isolation.specs.Project.{items_of, is_own_request, made_by, or_else, made_with, is_met_by, is_met, reply_in, replies_in}
+use Rattle.gb_isolation.specs.Project.{group_items_of, is_own_request, made_by, or_else, made_with, is_met_by, is_met, reply_in, replies_in}
 use Rattle.gb_isolation.proofs.GoesLemmas.{goes_one}
 use Rattle.gb_isolation.proofs.MarkLemmas.{or_and_off}
 use Rattle.gb_isolation.proofs.MemberLemmas.{same_member}
@@ -147,7 +147,7 @@ pub record MemberFits (nodes : ℕ) (me : ℕ) (carried : ℕ → List Entry) (o
 
 -- the items that the view has carried
 abbrev pub carried_in : Addr → View → ℕ → List Entry
-carried_in g v b = items_of g (v.frames b)
+carried_in g v b = group_items_of g (v.frames b)
 
 pub member_fits : (nodes : ℕ) (g : Addr) (me : ℕ) (frames_from : ℕ → List (List Item)) (v : View) (m : Member) → Fits nodes g me frames_from v m → MemberFits nodes me (carried_in g v) v.told m
 member_fits nodes g me frames_from v m fits = record { told = fits.told; inside = fits.inside; put = fits.put; taken = fits.taken; acks = fits.acks }

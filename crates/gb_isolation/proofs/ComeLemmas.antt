@@ -22,7 +22,7 @@ use Rattle.gb_alone.specs.Alone.{Member, Group, after, alone_from, is_acknowledg
 use Rattle.gb_frame.specs.Items.{entry_of, items_for}
 use Rattle.gb_rules.specs.Lifetime.{stepped, where_so}
 use Rattle.gb_node.specs.PastGroups.{Told, waiting_of, with_call, unless_falls, came_told}
-use Rattle.gb_isolation.specs.Project.{items_in, items_of, offset, comes}
+use Rattle.gb_isolation.specs.Project.{group_items, group_items_of, offset, comes}
 use Rattle.gb_isolation.proofs.View.{View, MemberIs, AreMarked, KeepsAcks, Fits, Goes, said_of, acknowledged_of}
 use Rattle.gb_isolation.proofs.GoesLemmas.{after_there, after_elsewhere}
 use Rattle.gb_isolation.proofs.MemberLemmas.{KeepsRest, same_member, came_in, told-came, put-item_came, item_came-rest, item_came-noticed}
@@ -215,13 +215,13 @@ all_come bounds g from me carried place (i ∷ xs) o apart fits group running th
 
 -- frames further on begin behind the items before
 pub offset_rises : (g : Addr) (fs : List (List Item)) (n m : ℕ) → n ≤ m → offset g fs n ≤ offset g fs m
-unfolding items_of
+unfolding group_items_of
 offset_rises g fs zero m le = omega arith
 offset_rises g fs (suc n) zero le = absurd (omega arith)
 offset_rises g [] (suc n) (suc m) le = omega arith
 offset_rises g (f ∷ fs) (suc n) (suc m) le =
     let rest = offset_rises g fs n m (omega arith) in
-    omega (arith, rest, length-append (items_in g f) (items_of g (take n fs)), length-append (items_in g f) (items_of g (take m fs)))
+    omega (arith, rest, length-append (group_items g f) (group_items_of g (take n fs)), length-append (group_items g f) (group_items_of g (take m fs)))
 
 -- The node's view.
 
@@ -234,7 +234,7 @@ with_frame version me from d n items v = record v {
 
 module _ (bounds : Bounds) (g : Addr) (a s : NodeId) (frames_from : ℕ → List (List Item)) (v : View) (group : Group) (n : ℕ) (f : List Item) (waits : List Entry) (inside : s.number < bounds.nodes) (apart : s.number ≢ a.number) (running : (group a.number).stopped ≡ false)
     (at : slice_get (frames_from s.number) n ≡ Some f) (fit : All IsOfNode (items_for g f))
-    (puts : (group s.number).put a.number ≡ items_of g (frames_from s.number) ++ waits) (count : (group s.number).taken a.number ≡ length (items_of g (frames_from s.number)))
+    (puts : (group s.number).put a.number ≡ group_items_of g (frames_from s.number) ++ waits) (count : (group s.number).taken a.number ≡ length (group_items_of g (frames_from s.number)))
     (new : v.taken s.number (n + 1) ≡ false) (fits : Fits bounds.nodes g a.number frames_from v (group a.number)) where
   abbrev forth : List (List Item)
   forth = frames_from s.number
@@ -243,7 +243,7 @@ module _ (bounds : Bounds) (g : Addr) (a s : NodeId) (frames_from : ℕ → List
   place = offset g forth n
 
   abbrev given : List GroupStep
-  given = comes s a place (length (items_in g f))
+  given = comes s a place (length (group_items g f))
 
   abbrev next : Group
   next = alone_from bounds g.group group given
@@ -252,12 +252,12 @@ module _ (bounds : Bounds) (g : Addr) (a s : NodeId) (frames_from : ℕ → List
   later = with_frame (version_at bounds.versions a.number) a s s.number (n + 1) (items_for g f) v
 
   abbrev carried : ℕ → List Entry
-  carried b = items_of g (v.frames b)
+  carried b = group_items_of g (v.frames b)
 
-  ends : offset g forth (n + 1) ≡ place + length (items_in g f)
+  ends : offset g forth (n + 1) ≡ place + length (group_items g f)
   ends = offset_next g forth n f at
 
-  coming : Coming bounds g s a carried place (length (items_in g f)) v.told later.told group next given
+  coming : Coming bounds g s a carried place (length (group_items g f)) v.told later.told group next given
   coming = all_come bounds g s a carried place (items_for g f) v.told apart fit group running
       (λ j e is. ap (λ xs. slice_get xs (place + j)) puts ∙ item_there g forth waits n j f e at is)
       (let most = offset_all g forth (n + 1) in omega (arith, most, ends, count))
@@ -265,28 +265,28 @@ module _ (bounds : Bounds) (g : Addr) (a s : NodeId) (frames_from : ℕ → List
       fits.told fits.put
 
   come_here : AreMarked g forth (later.taken s.number) ((next a.number).come s.number)
-  come_here = marks_added g forth (nat_eq (n + 1)) (v.taken s.number) (later.taken s.number) (is_between place (place + length (items_in g f))) ((group a.number).come s.number) ((next a.number).come s.number)
+  come_here = marks_added g forth (nat_eq (n + 1)) (v.taken s.number) (later.taken s.number) (is_between place (place + length (group_items g f))) ((group a.number).come s.number) ((next a.number).come s.number)
       (λ m q low high. within m q low high (cases_lt m n)) (λ q above. let most = offset_all g forth (n + 1) in grind (arith, nat_tests, above, most, ends)) coming.marks
       (λ m some. λ i. (eq-eqb s.number s.number refl i && nat_eq (n + 1) m) || v.taken s.number m) (fits.come s.number inside)
     where
-      within : (m q : ℕ) → offset g forth m < q → q ≤ offset g forth (m + 1) → ((m < n) ⊎ (n ≤ m)) → is_between place (place + length (items_in g f)) q ≡ nat_eq (n + 1) (m + 1)
+      within : (m q : ℕ) → offset g forth m < q → q ≤ offset g forth (m + 1) → ((m < n) ⊎ (n ≤ m)) → is_between place (place + length (group_items g f)) q ≡ nat_eq (n + 1) (m + 1)
       within m q low high (inl before) =
           let under : q ≤ place = omega (arith, offset_rises g forth (m + 1) n (omega arith), high) in
-          let off : is_between place (place + length (items_in g f)) q ≡ false = grind (arith, nat_tests, under) in
+          let off : is_between place (place + length (group_items g f)) q ≡ false = grind (arith, nat_tests, under) in
           let other : nat_eq (n + 1) (m + 1) ≡ false = grind (arith, nat_tests, before) in
           off ∙ sym other
       within m q low high (inr behind) = by (cases_eq m n)
         where
-          by : ((m ≡ n) ⊎ (m ≡ n → ⊥)) → is_between place (place + length (items_in g f)) q ≡ nat_eq (n + 1) (m + 1)
+          by : ((m ≡ n) ⊎ (m ≡ n → ⊥)) → is_between place (place + length (group_items g f)) q ≡ nat_eq (n + 1) (m + 1)
           by (inl same) =
               let bottom : place < q = subst (λ k. offset g forth k < q) same low in
               let top : q ≤ offset g forth (n + 1) = subst (λ k. q ≤ offset g forth (k + 1)) same high in
-              let on : is_between place (place + length (items_in g f)) q ≡ true = grind (arith, nat_tests, bottom, top, ends) in
+              let on : is_between place (place + length (group_items g f)) q ≡ true = grind (arith, nat_tests, bottom, top, ends) in
               let there : nat_eq (n + 1) (m + 1) ≡ true = grind (arith, nat_tests, same) in
               on ∙ sym there
           by (inr other) =
-              let over : place + length (items_in g f) < q = omega (arith, offset_rises g forth (n + 1) m (omega (arith, behind, other)), ends, low) in
-              let off : is_between place (place + length (items_in g f)) q ≡ false = grind (arith, nat_tests, over) in
+              let over : place + length (group_items g f) < q = omega (arith, offset_rises g forth (n + 1) m (omega (arith, behind, other)), ends, low) in
+              let off : is_between place (place + length (group_items g f)) q ≡ false = grind (arith, nat_tests, over) in
               let apart : nat_eq (n + 1) (m + 1) ≡ false = grind (arith, nat_tests, other) in
               off ∙ sym apart
 

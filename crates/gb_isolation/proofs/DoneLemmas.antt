@@ -28,7 +28,7 @@ use Rattle.gb_frame.specs.Items.{entry_of, names, items_for}
 use Rattle.gb_rules.specs.Lifetime.{stepped, where_so}
 use Rattle.gb_node.specs.Past.{numbered}
 use Rattle.gb_node.specs.PastGroups.{Told, waiting_of, items_freed, finished_by, done_told}
-use Rattle.gb_isolation.specs.Project.{items_in, items_of, offset, acknowledged, all_acknowledged}
+use Rattle.gb_isolation.specs.Project.{group_items, group_items_of, offset, acknowledged, all_acknowledged}
 use Rattle.gb_isolation.proofs.View.{View, MemberIs, AreMarked, KeepsAcks, IsInside, Fits, Goes, said_of, acknowledged_of}
 use Rattle.gb_isolation.proofs.GoesLemmas.{legal-append, after_there, after_elsewhere}
 use Rattle.gb_isolation.proofs.MemberLemmas.{same_member}
@@ -199,7 +199,7 @@ is_own_at me k test place (x ∷ xs) = (is_own me k x && test place) || is_own_a
 -- of these frames, of which the first has the number n, one whose number passes the test has the message
 abbrev is_in_acked : Addr → ℕ → ℕ → (ℕ → Bool) → ℕ → List (List Item) → Bool
 is_in_acked g me k acked n [] = false
-is_in_acked g me k acked n (f ∷ fs) = (acked n && list_any (is_own me k) (items_in g f)) || is_in_acked g me k acked (n + 1) fs
+is_in_acked g me k acked n (f ∷ fs) = (acked n && list_any (is_own me k) (group_items g f)) || is_in_acked g me k acked (n + 1) fs
 
 -- more places are marked
 acknowledged_more : (me k : ℕ) (marks next : List ℕ) (added : ℕ → Bool) (place : ℕ) (xs : List Entry) → ((p : ℕ) → is_marked p next ≡ (added p || is_marked p marks))
@@ -244,34 +244,34 @@ own_at-same me k test t place (x ∷ xs) marked =
 -- the places of some of the frames
 own_at-frames : (g : Addr) (me k : ℕ) (passes test : ℕ → Bool) (n before : ℕ) (fs : List (List Item))
     → ((m place : ℕ) → before + offset g fs m < place → place ≤ before + offset g fs (m + 1) → test place ≡ passes (n + m))
-    → is_own_at me k test (before + 1) (items_of g fs) ≡ is_in_acked g me k passes n fs
-unfolding items_of
+    → is_own_at me k test (before + 1) (group_items_of g fs) ≡ is_in_acked g me k passes n fs
+unfolding group_items_of
 own_at-frames g me k passes test n before [] each = refl
 own_at-frames g me k passes test n before (f ∷ fs) each =
-    own_at-append me k test (before + 1) (items_in g f) (items_of g fs)
-    ∙ (λ i. first i || (ap (λ p. is_own_at me k test p (items_of g fs)) (plus before count)
+    own_at-append me k test (before + 1) (group_items g f) (group_items_of g fs)
+    ∙ (λ i. first i || (ap (λ p. is_own_at me k test p (group_items_of g fs)) (plus before count)
     ∙ own_at-frames g me k passes test (n + 1) (before + count) fs
-    (λ m place low high. each (suc m) place (omega (arith, low, length-append (items_in g f) (items_of g (take m fs)))) (omega (arith, high, next m)) ∙ ap passes (omega arith))) i)
+    (λ m place low high. each (suc m) place (omega (arith, low, length-append (group_items g f) (group_items_of g (take m fs)))) (omega (arith, high, next m)) ∙ ap passes (omega arith))) i)
   where
     count : ℕ
-    count = length (items_in g f)
+    count = length (group_items g f)
 
-    first : is_own_at me k test (before + 1) (items_in g f) ≡ (passes n && list_any (is_own me k) (items_in g f))
-    first = own_at-same me k test (passes n) (before + 1) (items_in g f) (λ p low high. each 0 p (omega (arith, low)) (omega (arith, high, ap length (append-nil (items_in g f)))) ∙ ap passes (omega arith))
+    first : is_own_at me k test (before + 1) (group_items g f) ≡ (passes n && list_any (is_own me k) (group_items g f))
+    first = own_at-same me k test (passes n) (before + 1) (group_items g f) (λ p low high. each 0 p (omega (arith, low)) (omega (arith, high, ap length (append-nil (group_items g f)))) ∙ ap passes (omega arith))
 
     plus : (a b : ℕ) → a + 1 + b ≡ a + b + 1
     plus a b = omega arith
 
-    next : (i : ℕ) → offset g (f ∷ fs) (suc i + 1) ≡ length (items_in g f) + offset g fs (i + 1)
-    next i = rw add-one (rw add-one (length-append (items_in g f) (items_of g (take (suc i) fs))))
+    next : (i : ℕ) → offset g (f ∷ fs) (suc i + 1) ≡ length (group_items g f) + offset g fs (i + 1)
+    next i = rw add-one (rw add-one (length-append (group_items g f) (group_items_of g (take (suc i) fs))))
 
-any_joined : (g : Addr) (me k : ℕ) (f xs : List Item) → list_any (is_own me k) (items_in g (f ++ xs)) ≡ (list_any (is_own me k) (items_in g f) || list_any (is_own me k) (items_in g xs))
+any_joined : (g : Addr) (me k : ℕ) (f xs : List Item) → list_any (is_own me k) (group_items g (f ++ xs)) ≡ (list_any (is_own me k) (group_items g f) || list_any (is_own me k) (group_items g xs))
 any_joined g me k [] xs = refl
 any_joined g me k (i ∷ f) xs = by (names g i) (any_joined g me k f xs)
   where
-    by : (t : Bool) → list_any (is_own me k) (items_in g (f ++ xs)) ≡ (list_any (is_own me k) (items_in g f) || list_any (is_own me k) (items_in g xs))
-        → list_any (is_own me k) (map entry_of (cond t (i ∷ items_for g (f ++ xs)) (items_for g (f ++ xs)))) ≡ (list_any (is_own me k) (map entry_of (cond t (i ∷ items_for g f) (items_for g f))) || list_any (is_own me k) (items_in g xs))
-    by true same = ap (λ b. is_own me k (entry_of i) || b) same ∙ sym (or_assoc (is_own me k (entry_of i)) (list_any (is_own me k) (items_in g f)) (list_any (is_own me k) (items_in g xs)))
+    by : (t : Bool) → list_any (is_own me k) (group_items g (f ++ xs)) ≡ (list_any (is_own me k) (group_items g f) || list_any (is_own me k) (group_items g xs))
+        → list_any (is_own me k) (map entry_of (cond t (i ∷ items_for g (f ++ xs)) (items_for g (f ++ xs)))) ≡ (list_any (is_own me k) (map entry_of (cond t (i ∷ items_for g f) (items_for g f))) || list_any (is_own me k) (group_items g xs))
+    by true same = ap (λ b. is_own me k (entry_of i) || b) same ∙ sym (or_assoc (is_own me k (entry_of i)) (list_any (is_own me k) (group_items g f)) (list_any (is_own me k) (group_items g xs)))
     by false same = same
 
 -- of these frames that did not pass before those that pass now
@@ -286,16 +286,16 @@ freed_own g me k covered acked n (f ∷ fs) = by (acked n) (covered n) refl (fre
     later : Bool
     later = is_in_acked g me k (λ m. covered m && not (acked m)) (n + 1) fs
 
-    go : (c : Bool) → list_any (is_own me k) (items_in g (items_freed (filter (λ u. covered u.0) rest))) ≡ later
-        → list_any (is_own me k) (items_in g (items_freed (cond c ((n, f) ∷ filter (λ u. covered u.0) rest) (filter (λ u. covered u.0) rest)))) ≡ ((c && list_any (is_own me k) (items_in g f)) || later)
-    go true same = any_joined g me k f (items_freed (filter (λ u. covered u.0) rest)) ∙ ap (λ b. list_any (is_own me k) (items_in g f) || b) same
+    go : (c : Bool) → list_any (is_own me k) (group_items g (items_freed (filter (λ u. covered u.0) rest))) ≡ later
+        → list_any (is_own me k) (group_items g (items_freed (cond c ((n, f) ∷ filter (λ u. covered u.0) rest) (filter (λ u. covered u.0) rest)))) ≡ ((c && list_any (is_own me k) (group_items g f)) || later)
+    go true same = any_joined g me k f (items_freed (filter (λ u. covered u.0) rest)) ∙ ap (λ b. list_any (is_own me k) (group_items g f) || b) same
     go false same = same
 
-    by : (a c : Bool) → covered n ≡ c → list_any (is_own me k) (items_in g (items_freed (filter (λ u. covered u.0) rest))) ≡ later
-        → list_any (is_own me k) (items_in g (items_freed (filter (λ u. covered u.0) (cond (not a) ((n, f) ∷ rest) rest)))) ≡ (((c && not a) && list_any (is_own me k) (items_in g f)) || later)
+    by : (a c : Bool) → covered n ≡ c → list_any (is_own me k) (group_items g (items_freed (filter (λ u. covered u.0) rest))) ≡ later
+        → list_any (is_own me k) (group_items g (items_freed (filter (λ u. covered u.0) (cond (not a) ((n, f) ∷ rest) rest)))) ≡ (((c && not a) && list_any (is_own me k) (group_items g f)) || later)
     by true true is same = same
     by true false is same = same
-    by false c is same = go (covered n) same ∙ ap (λ t. (t && list_any (is_own me k) (items_in g f)) || later) (is ∙ last c)
+    by false c is same = go (covered n) same ∙ ap (λ t. (t && list_any (is_own me k) (group_items g f)) || later) (is ∙ last c)
       where
         last : (c : Bool) → c ≡ (c && true)
         last true = refl
@@ -303,10 +303,10 @@ freed_own g me k covered acked n (f ∷ fs) = by (acked n) (covered n) refl (fre
 
 -- where the places of newly covered frames are marked, too
 freed_acknowledged : (g : Addr) (me k : ℕ) (covered acked : ℕ → Bool) (marks next : List ℕ) (fs : List (List Item)) → ((place : ℕ) → is_marked place next ≡ (is_in g (λ m. covered m && not (acked m)) 1 0 fs place || is_marked place marks))
-    → is_acknowledged me k next 1 (items_of g fs) ≡ (is_acknowledged me k marks 1 (items_of g fs) || list_any (is_own me k) (map entry_of (freed_of g covered acked 1 fs)))
+    → is_acknowledged me k next 1 (group_items_of g fs) ≡ (is_acknowledged me k marks 1 (group_items_of g fs) || list_any (is_own me k) (map entry_of (freed_of g covered acked 1 fs)))
 freed_acknowledged g me k covered acked marks next fs more =
-    acknowledged_more me k marks next (is_in g (λ m. covered m && not (acked m)) 1 0 fs) 1 (items_of g fs) more
-    ∙ ap (λ t. is_acknowledged me k marks 1 (items_of g fs) || t) (own_at-frames g me k (λ m. covered m && not (acked m)) (is_in g (λ m. covered m && not (acked m)) 1 0 fs) 1 0 fs (λ m place low high. in_frame g (λ m. covered m && not (acked m)) 1 0 fs m place low high) ∙ sym (freed_own g me k covered acked 1 fs))
+    acknowledged_more me k marks next (is_in g (λ m. covered m && not (acked m)) 1 0 fs) 1 (group_items_of g fs) more
+    ∙ ap (λ t. is_acknowledged me k marks 1 (group_items_of g fs) || t) (own_at-frames g me k (λ m. covered m && not (acked m)) (is_in g (λ m. covered m && not (acked m)) 1 0 fs) 1 0 fs (λ m place low high. in_frame g (λ m. covered m && not (acked m)) 1 0 fs m place low high) ∙ sym (freed_own g me k covered acked 1 fs))
 
 -- The group alone.
 
@@ -392,10 +392,10 @@ pub all_acked : (bounds : Bounds) (g : Addr) (me from : NodeId) (new : ℕ → B
     → ((place : ℕ) → is_in g new n before fs place ≡ true → (is_marked place ((group from.number).come me.number) ≡ true) × (is_marked place ((group me.number).done from.number) ≡ false))
     → Acked bounds g me from group (alone_from bounds g.group group (all_acknowledged g me from new n before fs)) (all_acknowledged g me from new n before fs) (is_in g new n before fs)
 all_acked bounds g me from new n before [] group apart running may = none_acked bounds g me from group (is_in g new n before []) (λ place. refl)
-all_acked bounds g me from new n before (f ∷ fs) group apart running may = go (cases_Bool (new n)) (all_acked bounds g me from new (n + 1) (before + length (items_in g f)) fs)
+all_acked bounds g me from new n before (f ∷ fs) group apart running may = go (cases_Bool (new n)) (all_acked bounds g me from new (n + 1) (before + length (group_items g f)) fs)
   where
     count : ℕ
-    count = length (items_in g f)
+    count = length (group_items g f)
 
     later : List GroupStep
     later = all_acknowledged g me from new (n + 1) (before + count) fs
@@ -434,8 +434,8 @@ offset_inside g fs n place low high = by (cases_lt n (length fs))
     by : ((n < length fs) ⊎ (length fs ≤ n)) → n < length fs
     by (inl inside) = inside
     by (inr beyond) =
-        let whole : offset g fs n ≡ length (items_of g fs) = ap (λ xs. length (items_of g xs)) (take_all n fs beyond) in
-        let most : offset g fs (n + 1) ≤ length (items_of g fs) = offset_all g fs (n + 1) in
+        let whole : offset g fs n ≡ length (group_items_of g fs) = ap (λ xs. length (group_items_of g xs)) (take_all n fs beyond) in
+        let most : offset g fs (n + 1) ≤ length (group_items_of g fs) = offset_all g fs (n + 1) in
         absurd (omega (arith, low, high, whole, most))
 
 not_before : (c a : Bool) → (c && not a) ≡ true → (c ≡ true) × (a ≡ false)
@@ -508,7 +508,7 @@ module _ (bounds : Bounds) (g : Addr) (a s : NodeId) (frames_from : ℕ → List
       (λ n some. ap (λ t. v.acked b n || (nat_le n (length (v.frames b)) && (t && covered n))) off ∙ or_and_off (v.acked b n) (nat_le n (length (v.frames b)))) (fits.done b in_b)
 
   abbrev carried : ℕ → List Entry
-  carried b = items_of g (v.frames b)
+  carried b = group_items_of g (v.frames b)
 
   kept : KeepsAcks bounds.nodes a.number later.told carried (mid a.number).done
   kept = acks_taken bounds.nodes a s freed v.told carried (group a.number).done (mid a.number).done (freed_fit g covered (v.acked s.number) 1 back fit)

@@ -14,7 +14,7 @@ use Rattle.gb_alone.specs.Alone.{Member, is_marked, is_own, is_acknowledged, is_
 use Rattle.gb_alone.proofs.UsageLemmas.{all_alike}
 use Rattle.gb_node.specs.PastGroups.{waiting_of}
 use Rattle.gb_node.specs.PastGroups as past
-use Rattle.gb_isolation.specs.Project.{items_of}
+use Rattle.gb_isolation.specs.Project.{group_items_of}
 use Rattle.gb_isolation.proofs.MemberLemmas.{CountsAlike}
 use Rattle.gb_isolation.proofs.PackLemmas.{acknowledged_more}
 use Rattle.gb_isolation.proofs.View.{View, Fits, said_of, acknowledged_of}
@@ -59,7 +59,7 @@ counts_fit nodes g me frames_from v m few fits t is st =
     kept b k low said =
         sym (ap (λ o. acknowledged_of o (k + 1) b) is)
         ∙ (fits.acks.each b k low (subst (λ o. k < said_of o) (sym is) said)
-        ∙ sym (ap (is_acknowledged me (k + 1) (m.done b) 1) (fits.put b low) ∙ acknowledged_more me (k + 1) (m.done b) (items_of g (v.frames b)) (waiting_of v.told b) (fits.done b low).beyond))
+        ∙ sym (ap (is_acknowledged me (k + 1) (m.done b) 1) (fits.put b low) ∙ acknowledged_more me (k + 1) (m.done b) (group_items_of g (v.frames b)) (waiting_of v.told b) (fits.done b low).beyond))
 
     at : (k : ℕ) → k < said_in t.calls → is_finished t.spec me m.told m.put m.done (k + 1) ≡ past.is_finished me t (k + 1)
     at k low =

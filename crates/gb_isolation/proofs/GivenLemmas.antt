@@ -39,7 +39,7 @@ use Rattle.gb_cluster.specs.Run.{Did, past_at}
 use Rattle.gb_types.specs.declared.plan.Plan.{Plan}
 use Rattle.gb_types.specs.declared.plan.Bounds.{Bounds}
 use Rattle.gb_types.specs.Version.{bounds_of}
-use Rattle.gb_isolation.specs.Project.{items_in, items_of, offset, frames_in, is_named, is_own_request, command_for, made_with, or_else, notices, own_requested, tenant_given, is_met, with_stop, asked, took, comes, acknowledged, all_acknowledged, is_new_ack, is_new_frame, acknowledges, brings, arrived, ticked, gives}
+use Rattle.gb_isolation.specs.Project.{group_items, group_items_of, offset, frames_in, is_named, is_own_request, command_for, made_with, or_else, notices, own_requested, tenant_given, is_met, with_stop, asked, took, comes, acknowledged, all_acknowledged, is_new_ack, is_new_frame, acknowledges, brings, arrived, ticked, gives}
 use Rattle.gb_isolation.proofs.NoticeLemmas.{notices_of, notices_there, notices_keep}
 use Rattle.gb_isolation.proofs.GoesLemmas.{after_there}
 
@@ -87,16 +87,16 @@ carried_acknowledged a b place (suc k) = ((refl, refl), tt)
 carried_all : (g : Addr) (a b : NodeId) (test : ℕ → Bool) (n before : ℕ) (fs : List (List Item)) → AllAre (IsCarried a) (all_acknowledged g a b test n before fs)
 carried_all g a b test n before [] = tt
 carried_all g a b test n before (f ∷ fs) =
-    all_both (IsCarried a) (if test n then acknowledged a b (before + 1) (length (items_in g f)) else []) (all_acknowledged g a b test (n + 1) (before + length (items_in g f)) fs)
-    (elim (test n) as (λ t. AllAre (IsCarried a) (if t then acknowledged a b (before + 1) (length (items_in g f)) else [])) [ true ↦ carried_acknowledged a b (before + 1) (length (items_in g f)) | false ↦ tt ])
-    (carried_all g a b test (n + 1) (before + length (items_in g f)) fs)
+    all_both (IsCarried a) (if test n then acknowledged a b (before + 1) (length (group_items g f)) else []) (all_acknowledged g a b test (n + 1) (before + length (group_items g f)) fs)
+    (elim (test n) as (λ t. AllAre (IsCarried a) (if t then acknowledged a b (before + 1) (length (group_items g f)) else [])) [ true ↦ carried_acknowledged a b (before + 1) (length (group_items g f)) | false ↦ tt ])
+    (carried_all g a b test (n + 1) (before + length (group_items g f)) fs)
 
 carried_arrived : (plan : Plan) (g : Addr) (run : List Did) (a : NodeId) (c : Content) → AllAre (IsCarried a) (arrived plan g run a c)
 carried_arrived plan g run a c =
     all_both (IsCarried a) (acknowledges plan g (past_at a run) a c) (if is_new_frame plan.cluster_key (past_at a run) c then brings plan g run a c else [])
     (carried_all g a (node_numbered c.from) (is_new_ack plan.cluster_key (past_at a run) c) 1 0 (frames_to plan.cluster_key c.from (past_at a run)))
     (elim (is_new_frame plan.cluster_key (past_at a run) c) as (λ t. AllAre (IsCarried a) (if t then brings plan g run a c else [])) [
-      | true ↦ carried_comes (node_numbered c.from) a (offset g (frames_to plan.cluster_key a.number (past_at (node_numbered c.from) run)) (c.frame - 1)) (length (items_in g c.items))
+      | true ↦ carried_comes (node_numbered c.from) a (offset g (frames_to plan.cluster_key a.number (past_at (node_numbered c.from) run)) (c.frame - 1)) (length (group_items g c.items))
       | false ↦ tt
     ])
 
@@ -158,7 +158,7 @@ at_ticked a found (Some spec) = at_notices a spec found
 -- what an event gives happens where the event does
 pub given_at : (plan : Plan) (g : Addr) (run : List Did) (a : NodeId) (e : NodeEvent) (x : NodeAnswer) → AllAre (IsAt a) (gives plan g run a e x)
 given_at plan g run a (Asked request) (Replied reply) = at_asked (node_plan plan a) g (past_at a run) request reply
-given_at plan g run a (Pack b) (Sent (SentPacket text)) = at_carried a (took a b (length (items_of g (frames_in plan.cluster_key text)))) (carried_took a b (length (items_of g (frames_in plan.cluster_key text))))
+given_at plan g run a (Pack b) (Sent (SentPacket text)) = at_carried a (took a b (length (group_items_of g (frames_in plan.cluster_key text)))) (carried_took a b (length (group_items_of g (frames_in plan.cluster_key text))))
 given_at plan g run a (Brought bytes) (Taken (TakenGood good)) = at_carried a (flat_map (arrived plan g run a) (read plan.cluster_key bytes)) (carried_packets plan g run a (read plan.cluster_key bytes))
 given_at plan g run a Tick (Ticked (Noticed found)) = at_ticked a (set.contains found) (made_with g (past_at a run))
 given_at plan g run a e x = tt
@@ -255,7 +255,7 @@ pub given_due : (plan : Plan) (g : Addr) (run : List Did) (group : Group) (a : N
     → (alone_from (bounds_of plan) g.group group (gives plan g run a e x) a.number).spec ≡ made_with g (record { event = e; answer = x } ∷ past_at a run) → AreDue (bounds_of plan) g.group group (gives plan g run a e x)
 given_due plan g run group a (Asked request) (Replied reply) before now = asked_due (bounds_of plan) (node_plan plan a) g (past_at a run) group request reply now
 given_due plan g run group a (Pack b) (Sent (SentPacket text)) before now =
-    let k : ℕ = length (items_of g (frames_in plan.cluster_key text)) in
+    let k : ℕ = length (group_items_of g (frames_in plan.cluster_key text)) in
     all_due (bounds_of plan) g.group (took a b k) group (plain_carried a (took a b k) (carried_took a b k))
 given_due plan g run group a (Brought bytes) (Taken (TakenGood good)) before now =
     let given : List GroupStep = flat_map (arrived plan g run a) (read plan.cluster_key bytes) in

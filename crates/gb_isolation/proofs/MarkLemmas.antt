@@ -10,7 +10,7 @@ use Rattle.gb_types.specs.declared.address.Addr.{Addr}
 use Rattle.gb_types.specs.declared.entry.Entry.{Entry}
 use Rattle.gb_frame.specs.declared.item.Item.{Item}
 use Rattle.gb_alone.specs.Alone.{is_marked}
-use Rattle.gb_isolation.specs.Project.{items_of, items_in, offset}
+use Rattle.gb_isolation.specs.Project.{group_items_of, group_items, offset}
 use Rattle.gb_isolation.proofs.View.{AreMarked}
 
 slice_get-behind : {X : Type 0} (xs ys : List X) (k : ℕ) → slice_get (xs ++ ys) (length xs + k) ≡ slice_get ys k
@@ -21,45 +21,45 @@ slice_get-behind (x ∷ xs) ys k = ap (slice_get (x ∷ xs ++ ys)) (plus (length
     plus n k = omega arith
 
 -- a frame's items stand behind those of the frames before it
-pub offset_next : (g : Addr) (fs : List (List Item)) (i : ℕ) (f : List Item) → slice_get fs i ≡ Some f → offset g fs (i + 1) ≡ offset g fs i + length (items_in g f)
-unfolding items_of
+pub offset_next : (g : Addr) (fs : List (List Item)) (i : ℕ) (f : List Item) → slice_get fs i ≡ Some f → offset g fs (i + 1) ≡ offset g fs i + length (group_items g f)
+unfolding group_items_of
 offset_next g [] i p is = absurd (cc)
 offset_next g (f ∷ fs) zero p is =
     let same : f ≡ p = cc in
-    ap (λ (q : List Item). length (items_in g q ++ [])) same ∙ (ap length (append-nil (items_in g p)) ∙ sym (zero-add (length (items_in g p))))
+    ap (λ (q : List Item). length (group_items g q ++ [])) same ∙ (ap length (append-nil (group_items g p)) ∙ sym (zero-add (length (group_items g p))))
 offset_next g (f ∷ fs) (suc i) p is =
     let rest = offset_next g fs i p is in
-    rw add-one (omega (arith, rw add-one at rest, length-append (items_in g f) (items_of g (take (suc i) fs)), length-append (items_in g f) (items_of g (take i fs))))
+    rw add-one (omega (arith, rw add-one at rest, length-append (group_items g f) (group_items_of g (take (suc i) fs)), length-append (group_items g f) (group_items_of g (take i fs))))
 
 -- and there are no more than all
-pub offset_all : (g : Addr) (fs : List (List Item)) (i : ℕ) → offset g fs i ≤ length (items_of g fs)
-unfolding items_of
+pub offset_all : (g : Addr) (fs : List (List Item)) (i : ℕ) → offset g fs i ≤ length (group_items_of g fs)
+unfolding group_items_of
 offset_all g fs zero = omega arith
 offset_all g [] (suc i) = omega arith
-offset_all g (f ∷ fs) (suc i) = let rest = offset_all g fs i in omega (arith, rest, length-append (items_in g f) (items_of g (take i fs)), length-append (items_in g f) (items_of g fs))
+offset_all g (f ∷ fs) (suc i) = let rest = offset_all g fs i in omega (arith, rest, length-append (group_items g f) (group_items_of g (take i fs)), length-append (group_items g f) (group_items_of g fs))
 
 pub offset_none : (g : Addr) (i : ℕ) → offset g [] i ≡ 0
-unfolding items_of
+unfolding group_items_of
 offset_none g zero = refl
 offset_none g (suc i) = refl
 
 -- the items of a frame, among all
-pub item_there : (g : Addr) (fs : List (List Item)) (ys : List Entry) (i j : ℕ) (f : List Item) (e : Entry) → slice_get fs i ≡ Some f → slice_get (items_in g f) j ≡ Some e → slice_get (items_of g fs ++ ys) (offset g fs i + j) ≡ Some e
-unfolding items_of
+pub item_there : (g : Addr) (fs : List (List Item)) (ys : List Entry) (i j : ℕ) (f : List Item) (e : Entry) → slice_get fs i ≡ Some f → slice_get (group_items g f) j ≡ Some e → slice_get (group_items_of g fs ++ ys) (offset g fs i + j) ≡ Some e
+unfolding group_items_of
 item_there g [] ys i j p e is has = absurd (cc)
 item_there g (f ∷ fs) ys zero j p e is has =
     let same : f ≡ p = cc in
-    subst (λ (q : List Item). slice_get ((items_in g q ++ items_of g fs) ++ ys) (0 + j) ≡ Some e) (sym same)
-    (ap (λ k. slice_get ((items_in g p ++ items_of g fs) ++ ys) k) (zero-add j) ∙ (ap (λ zs. slice_get zs j) (append_assoc (items_in g p) (items_of g fs) ys) ∙ front (items_in g p) (items_of g fs ++ ys) j has))
+    subst (λ (q : List Item). slice_get ((group_items g q ++ group_items_of g fs) ++ ys) (0 + j) ≡ Some e) (sym same)
+    (ap (λ k. slice_get ((group_items g p ++ group_items_of g fs) ++ ys) k) (zero-add j) ∙ (ap (λ zs. slice_get zs j) (append_assoc (group_items g p) (group_items_of g fs) ys) ∙ front (group_items g p) (group_items_of g fs ++ ys) j has))
   where
     front : (xs zs : List Entry) (j : ℕ) → slice_get xs j ≡ Some e → slice_get (xs ++ zs) j ≡ Some e
     front [] zs j has = absurd (cc)
     front (x ∷ xs) zs zero has = has
     front (x ∷ xs) zs (suc j) has = front xs zs j has
 item_there g (f ∷ fs) ys (suc i) j p e is has =
-    ap (slice_get ((items_in g f ++ items_of g fs) ++ ys)) (ap (λ n. n + j) (length-append (items_in g f) (items_of g (take i fs))) ∙ plus (length (items_in g f)) (offset g fs i) j)
-    ∙ (ap (λ zs. slice_get zs (length (items_in g f) + (offset g fs i + j))) (append_assoc (items_in g f) (items_of g fs) ys)
-    ∙ (slice_get-behind (items_in g f) (items_of g fs ++ ys) (offset g fs i + j) ∙ item_there g fs ys i j p e is has))
+    ap (slice_get ((group_items g f ++ group_items_of g fs) ++ ys)) (ap (λ n. n + j) (length-append (group_items g f) (group_items_of g (take i fs))) ∙ plus (length (group_items g f)) (offset g fs i) j)
+    ∙ (ap (λ zs. slice_get zs (length (group_items g f) + (offset g fs i + j))) (append_assoc (group_items g f) (group_items_of g fs) ys)
+    ∙ (slice_get-behind (group_items g f) (group_items_of g fs ++ ys) (offset g fs i + j) ∙ item_there g fs ys i j p e is has))
   where
     plus : (a b c : ℕ) → a + b + c ≡ a + (b + c)
     plus a b c = omega arith
@@ -73,7 +73,7 @@ is_between low high place = nat_lt low place && nat_le place high
 -- of these frames, of which the first has the number n and stands behind so many items of the group, one whose number passes the test has the item with this place
 abbrev pub is_in : Addr → (ℕ → Bool) → ℕ → ℕ → List (List Item) → ℕ → Bool
 is_in g new n before [] place = false
-is_in g new n before (f ∷ fs) place = (new n && is_between before (before + length (items_in g f)) place) || is_in g new (n + 1) (before + length (items_in g f)) fs place
+is_in g new n before (f ∷ fs) place = (new n && is_between before (before + length (group_items g f)) place) || is_in g new (n + 1) (before + length (group_items g f)) fs place
 
 pub or_and_off : (x y : Bool) → (x || (y && false)) ≡ x
 or_and_off true y = refl
@@ -91,10 +91,10 @@ or_last false c is = is
 -- then it stands behind those before
 pub in_above : (g : Addr) (new : ℕ → Bool) (n before : ℕ) (fs : List (List Item)) (place : ℕ) → is_in g new n before fs place ≡ true → before < place
 in_above g new n before [] place is = absurd (cc)
-in_above g new n before (f ∷ fs) place is = go (in_above g new (n + 1) (before + length (items_in g f)) fs place) (or_cases (new n && is_between before (before + length (items_in g f)) place) (is_in g new (n + 1) (before + length (items_in g f)) fs place) is)
+in_above g new n before (f ∷ fs) place is = go (in_above g new (n + 1) (before + length (group_items g f)) fs place) (or_cases (new n && is_between before (before + length (group_items g f)) place) (is_in g new (n + 1) (before + length (group_items g f)) fs place) is)
   where
-    go : (is_in g new (n + 1) (before + length (items_in g f)) fs place ≡ true → before + length (items_in g f) < place) → (((new n && is_between before (before + length (items_in g f)) place) ≡ true) ⊎ (is_in g new (n + 1) (before + length (items_in g f)) fs place ≡ true)) → before < place
-    go later (inl here) = let low = (and_parts (nat_lt before place) (nat_le place (before + length (items_in g f))) (and_parts (new n) (is_between before (before + length (items_in g f)) place) here).1).0 in grind (arith, nat_tests)
+    go : (is_in g new (n + 1) (before + length (group_items g f)) fs place ≡ true → before + length (group_items g f) < place) → (((new n && is_between before (before + length (group_items g f)) place) ≡ true) ⊎ (is_in g new (n + 1) (before + length (group_items g f)) fs place ≡ true)) → before < place
+    go later (inl here) = let low = (and_parts (nat_lt before place) (nat_le place (before + length (group_items g f))) (and_parts (new n) (is_between before (before + length (group_items g f)) place) here).1).0 in grind (arith, nat_tests)
     go later (inr there) = let rest = later there in omega arith
 
 not_in : (g : Addr) (new : ℕ → Bool) (n before : ℕ) (fs : List (List Item)) (place : ℕ) → place ≤ before → is_in g new n before fs place ≡ false
@@ -106,38 +106,38 @@ not_in g new n before fs place low = go (cases_Bool (is_in g new n before fs pla
 
 -- a place of one frame's items counts by that frame's number
 pub in_frame : (g : Addr) (new : ℕ → Bool) (n before : ℕ) (fs : List (List Item)) (i place : ℕ) → before + offset g fs i < place → place ≤ before + offset g fs (i + 1) → is_in g new n before fs place ≡ new (n + i)
-unfolding items_of
+unfolding group_items_of
 in_frame g new n before [] zero place low high = absurd (omega (arith, high, low))
 in_frame g new n before [] (suc i) place low high = absurd (omega (arith, rw (offset_none g (suc i + 1)) at high, low))
 in_frame g new n before (f ∷ fs) zero place low high =
-    or_last (new n && is_between before (before + length (items_in g f)) place) (is_in g new (n + 1) (before + length (items_in g f)) fs place) (not_in g new (n + 1) (before + length (items_in g f)) fs place inside)
-    ∙ (and_on (new n) (is_between before (before + length (items_in g f)) place) (grind (arith, nat_tests, inside, above)) ∙ ap new (omega arith))
+    or_last (new n && is_between before (before + length (group_items g f)) place) (is_in g new (n + 1) (before + length (group_items g f)) fs place) (not_in g new (n + 1) (before + length (group_items g f)) fs place inside)
+    ∙ (and_on (new n) (is_between before (before + length (group_items g f)) place) (grind (arith, nat_tests, inside, above)) ∙ ap new (omega arith))
   where
-    inside : place ≤ before + length (items_in g f)
-    inside = omega (arith, high, ap length (append-nil (items_in g f)))
+    inside : place ≤ before + length (group_items g f)
+    inside = omega (arith, high, ap length (append-nil (group_items g f)))
 
     above : before < place
     above = omega (arith, low)
 in_frame g new n before (f ∷ fs) (suc i) place low high =
-    or_off (new n && is_between before (before + length (items_in g f)) place) (is_in g new (n + 1) (before + length (items_in g f)) fs place) (and_right (new n) (is_between before (before + length (items_in g f)) place) (grind (arith, nat_tests, above)))
-    ∙ (in_frame g new (n + 1) (before + length (items_in g f)) fs i place (omega (arith, low, length-append (items_in g f) (items_of g (take i fs)))) (omega (arith, high, next)) ∙ ap new (omega arith))
+    or_off (new n && is_between before (before + length (group_items g f)) place) (is_in g new (n + 1) (before + length (group_items g f)) fs place) (and_right (new n) (is_between before (before + length (group_items g f)) place) (grind (arith, nat_tests, above)))
+    ∙ (in_frame g new (n + 1) (before + length (group_items g f)) fs i place (omega (arith, low, length-append (group_items g f) (group_items_of g (take i fs)))) (omega (arith, high, next)) ∙ ap new (omega arith))
   where
-    above : before + length (items_in g f) < place
-    above = omega (arith, low, length-append (items_in g f) (items_of g (take i fs)))
+    above : before + length (group_items g f) < place
+    above = omega (arith, low, length-append (group_items g f) (group_items_of g (take i fs)))
 
-    next : offset g (f ∷ fs) (suc i + 1) ≡ length (items_in g f) + offset g fs (i + 1)
-    next = rw add-one (rw add-one (length-append (items_in g f) (items_of g (take (suc i) fs))))
+    next : offset g (f ∷ fs) (suc i + 1) ≡ length (group_items g f) + offset g fs (i + 1)
+    next = rw add-one (rw add-one (length-append (group_items g f) (group_items_of g (take (suc i) fs))))
 
 -- beyond all items there is none
-pub in_beyond : (g : Addr) (new : ℕ → Bool) (n before : ℕ) (fs : List (List Item)) (place : ℕ) → before + length (items_of g fs) < place → is_in g new n before fs place ≡ false
-unfolding items_of
+pub in_beyond : (g : Addr) (new : ℕ → Bool) (n before : ℕ) (fs : List (List Item)) (place : ℕ) → before + length (group_items_of g fs) < place → is_in g new n before fs place ≡ false
+unfolding group_items_of
 in_beyond g new n before [] place above = refl
 in_beyond g new n before (f ∷ fs) place above =
-    or_from (new n && is_between before (before + length (items_in g f)) place) (is_in g new (n + 1) (before + length (items_in g f)) fs place) (and_right (new n) (is_between before (before + length (items_in g f)) place) (grind (arith, nat_tests, past)))
-    (in_beyond g new (n + 1) (before + length (items_in g f)) fs place (omega (arith, above, length-append (items_in g f) (items_of g fs))))
+    or_from (new n && is_between before (before + length (group_items g f)) place) (is_in g new (n + 1) (before + length (group_items g f)) fs place) (and_right (new n) (is_between before (before + length (group_items g f)) place) (grind (arith, nat_tests, past)))
+    (in_beyond g new (n + 1) (before + length (group_items g f)) fs place (omega (arith, above, length-append (group_items g f) (group_items_of g fs))))
   where
-    past : before + length (items_in g f) < place
-    past = omega (arith, above, length-append (items_in g f) (items_of g fs))
+    past : before + length (group_items g f) < place
+    past = omega (arith, above, length-append (group_items g f) (group_items_of g fs))
 
 -- the frame of an item
 pub record Found (g : Addr) (new : ℕ → Bool) (n before : ℕ) (fs : List (List Item)) (place : ℕ) : Type 0 where
@@ -147,40 +147,40 @@ pub record Found (g : Addr) (new : ℕ → Bool) (n before : ℕ) (fs : List (Li
   pub passes : new (n + frame) ≡ true
 
 pub in_found : (g : Addr) (new : ℕ → Bool) (n before : ℕ) (fs : List (List Item)) (place : ℕ) → is_in g new n before fs place ≡ true → Found g new n before fs place
-unfolding items_of
+unfolding group_items_of
 in_found g new n before [] place is = absurd (cc)
-in_found g new n before (f ∷ fs) place is = go (in_found g new (n + 1) (before + length (items_in g f)) fs place) (or_cases (new n && is_between before (before + length (items_in g f)) place) (is_in g new (n + 1) (before + length (items_in g f)) fs place) is)
+in_found g new n before (f ∷ fs) place is = go (in_found g new (n + 1) (before + length (group_items g f)) fs place) (or_cases (new n && is_between before (before + length (group_items g f)) place) (is_in g new (n + 1) (before + length (group_items g f)) fs place) is)
   where
-    go : (is_in g new (n + 1) (before + length (items_in g f)) fs place ≡ true → Found g new (n + 1) (before + length (items_in g f)) fs place) → (((new n && is_between before (before + length (items_in g f)) place) ≡ true) ⊎ (is_in g new (n + 1) (before + length (items_in g f)) fs place ≡ true)) → Found g new n before (f ∷ fs) place
+    go : (is_in g new (n + 1) (before + length (group_items g f)) fs place ≡ true → Found g new (n + 1) (before + length (group_items g f)) fs place) → (((new n && is_between before (before + length (group_items g f)) place) ≡ true) ⊎ (is_in g new (n + 1) (before + length (group_items g f)) fs place ≡ true)) → Found g new n before (f ∷ fs) place
     go later (inl here) =
-        let parts = and_parts (new n) (is_between before (before + length (items_in g f)) place) here in
-        let ends = and_parts (nat_lt before place) (nat_le place (before + length (items_in g f))) parts.1 in
+        let parts = and_parts (new n) (is_between before (before + length (group_items g f)) place) here in
+        let ends = and_parts (nat_lt before place) (nat_le place (before + length (group_items g f))) parts.1 in
         let low : before < place = grind (arith, nat_tests, ends.0) in
-        let high : place ≤ before + length (items_in g f) = grind (arith, nat_tests, ends.1) in
+        let high : place ≤ before + length (group_items g f) = grind (arith, nat_tests, ends.1) in
         record {
           frame = 0;
           low = omega (arith, low);
-          high = omega (arith, high, ap length (append-nil (items_in g f)));
+          high = omega (arith, high, ap length (append-nil (group_items g f)));
           passes = ap new (omega arith) ∙ parts.0;
         }
     go later (inr there) =
         let found = later there in
         record {
           frame = suc found.frame;
-          low = omega (arith, found.low, length-append (items_in g f) (items_of g (take found.frame fs)));
+          low = omega (arith, found.low, length-append (group_items g f) (group_items_of g (take found.frame fs)));
           high = omega (arith, found.high, next found.frame);
           passes = ap new (omega arith) ∙ found.passes;
         }
       where
-        next : (i : ℕ) → offset g (f ∷ fs) (suc i + 1) ≡ length (items_in g f) + offset g fs (i + 1)
-        next i = rw add-one (rw add-one (length-append (items_in g f) (items_of g (take (suc i) fs))))
+        next : (i : ℕ) → offset g (f ∷ fs) (suc i + 1) ≡ length (group_items g f) + offset g fs (i + 1)
+        next i = rw add-one (rw add-one (length-append (group_items g f) (group_items_of g (take (suc i) fs))))
 
 -- Marks.
 
 -- these places are marked, too: those of the frames whose numbers pass the new test
 pub marks_added : (g : Addr) (fs : List (List Item)) (new test after : ℕ → Bool) (added : ℕ → Bool) (marks next : List ℕ)
     → ((n place : ℕ) → offset g fs n < place → place ≤ offset g fs (n + 1) → added place ≡ new (n + 1))
-    → ((place : ℕ) → length (items_of g fs) < place → added place ≡ false)
+    → ((place : ℕ) → length (group_items_of g fs) < place → added place ≡ false)
     → ((place : ℕ) → is_marked place next ≡ (added place || is_marked place marks))
     → ((n : ℕ) → 1 ≤ n → after n ≡ (new n || test n))
     → AreMarked g fs test marks → AreMarked g fs after next
@@ -198,28 +198,28 @@ marks_same g fs test other marks next same is was = record {
 
 -- More frames.
 
-pub items_of-append : (g : Addr) (fs more : List (List Item)) → items_of g (fs ++ more) ≡ items_of g fs ++ items_of g more
-unfolding items_of
-items_of-append g [] more = refl
-items_of-append g (f ∷ fs) more = ap (λ xs. items_in g f ++ xs) (items_of-append g fs more) ∙ sym (append_assoc (items_in g f) (items_of g fs) (items_of g more))
+pub group_items_of-append : (g : Addr) (fs more : List (List Item)) → group_items_of g (fs ++ more) ≡ group_items_of g fs ++ group_items_of g more
+unfolding group_items_of
+group_items_of-append g [] more = refl
+group_items_of-append g (f ∷ fs) more = ap (λ xs. group_items g f ++ xs) (group_items_of-append g fs more) ∙ sym (append_assoc (group_items g f) (group_items_of g fs) (group_items_of g more))
 
-pub items_of-none : (g : Addr) → items_of g [] ≡ []
-unfolding items_of
-items_of-none g = refl
+pub group_items_of-none : (g : Addr) → group_items_of g [] ≡ []
+unfolding group_items_of
+group_items_of-none g = refl
 
-pub items_of-one : (g : Addr) (f : List Item) → items_of g (f ∷ []) ≡ items_in g f
-unfolding items_of
-items_of-one g f = append-nil (items_in g f)
+pub group_items_of-one : (g : Addr) (f : List Item) → group_items_of g (f ∷ []) ≡ group_items g f
+unfolding group_items_of
+group_items_of-one g f = append-nil (group_items g f)
 
 -- the first frames stand where they stood
 pub offset_front : (g : Addr) (fs more : List (List Item)) (n : ℕ) → n ≤ length fs → offset g (fs ++ more) n ≡ offset g fs n
-offset_front g fs more n low = ap (λ xs. length (items_of g xs)) (take-append-le n fs more low)
+offset_front g fs more n low = ap (λ xs. length (group_items_of g xs)) (take-append-le n fs more low)
 
 -- those behind stand behind all of them
-offset_past : (g : Addr) (fs more : List (List Item)) (n : ℕ) → length fs ≤ n → length (items_of g fs) ≤ offset g (fs ++ more) n
+offset_past : (g : Addr) (fs more : List (List Item)) (n : ℕ) → length fs ≤ n → length (group_items_of g fs) ≤ offset g (fs ++ more) n
 offset_past g fs more n high =
-    let at : offset g (fs ++ more) n ≡ length (items_of g fs) + length (items_of g (take (n - length fs) more)) =
-    ap (λ k. offset g (fs ++ more) k) (split n (length fs) high) ∙ (ap (λ xs. length (items_of g xs)) (take-append-add fs more (n - length fs)) ∙ (ap length (items_of-append g fs (take (n - length fs) more)) ∙ length-append (items_of g fs) (items_of g (take (n - length fs) more)))) in
+    let at : offset g (fs ++ more) n ≡ length (group_items_of g fs) + length (group_items_of g (take (n - length fs) more)) =
+    ap (λ k. offset g (fs ++ more) k) (split n (length fs) high) ∙ (ap (λ xs. length (group_items_of g xs)) (take-append-add fs more (n - length fs)) ∙ (ap length (group_items_of-append g fs (take (n - length fs) more)) ∙ length-append (group_items_of g fs) (group_items_of g (take (n - length fs) more)))) in
     omega (arith, at)
   where
     split : (n k : ℕ) → k ≤ n → n ≡ k + (n - k)
@@ -229,7 +229,7 @@ offset_past g fs more n high =
 pub marks_more : (g : Addr) (fs more : List (List Item)) (test : ℕ → Bool) (marks : List ℕ) → ((n : ℕ) → length fs < n → test n ≡ false) → AreMarked g fs test marks → AreMarked g (fs ++ more) test marks
 marks_more g fs more test marks none was = record {
   each = λ n place low high. by n place low high (cases_lt n (length fs));
-  beyond = λ place above. was.beyond place (omega (arith, above, ap length (items_of-append g fs more), length-append (items_of g fs) (items_of g more)));
+  beyond = λ place above. was.beyond place (omega (arith, above, ap length (group_items_of-append g fs more), length-append (group_items_of g fs) (group_items_of g more)));
 }
   where
     by : (n place : ℕ) → offset g (fs ++ more) n < place → place ≤ offset g (fs ++ more) (n + 1) → ((n < length fs) ⊎ (length fs ≤ n)) → is_marked place marks ≡ test (n + 1)

@@ -17,7 +17,7 @@ use Rattle.gb_cluster.specs.Run.{Did, ComesTo, past_at}
 use Rattle.gb_types.specs.declared.plan.Plan.{Plan}
 use Rattle.gb_types.specs.Version.{bounds_of}
 use Rattle.gb_cluster.proofs.NodesLemmas.{stays, past_same, past_other}
-use Rattle.gb_isolation.specs.Project.{items_in, items_of, offset, made_with, gives, project, is_starved_by, is_fed}
+use Rattle.gb_isolation.specs.Project.{group_items, group_items_of, offset, made_with, gives, project, is_starved_by, is_fed}
 use Rattle.gb_isolation.proofs.GivenLemmas.{given_due}
 use Rattle.gb_isolation.proofs.View.{BehavesAlone}
 
@@ -99,31 +99,31 @@ pub record StandsIn (g : Addr) (fs : List (List Item)) (place : ℕ) : Type 0 wh
   pub number : ℕ
   pub frame : List Item
   pub there : slice_get fs number ≡ Some frame
-  pub some : items_in g frame ≢ []
+  pub some : group_items g frame ≢ []
   pub above : offset g fs number < place
   pub within : place ≤ offset g fs (number + 1)
 
-pub stands_in : (g : Addr) (fs : List (List Item)) (place : ℕ) → 0 < place → place ≤ length (items_of g fs) → StandsIn g fs place
-unfolding items_of
+pub stands_in : (g : Addr) (fs : List (List Item)) (place : ℕ) → 0 < place → place ≤ length (group_items_of g fs) → StandsIn g fs place
+unfolding group_items_of
 stands_in g [] place some few = absurd (omega (arith, some, few))
-stands_in g (f ∷ fs) place some few = go (cases_lt (length (items_in g f)) place) (stands_in g fs)
+stands_in g (f ∷ fs) place some few = go (cases_lt (length (group_items g f)) place) (stands_in g fs)
   where
-    size : (xs : List Entry) → length (items_in g f ++ xs) ≡ length (items_in g f) + length xs
-    size xs = length-append (items_in g f) xs
+    size : (xs : List Entry) → length (group_items g f ++ xs) ≡ length (group_items g f) + length xs
+    size xs = length-append (group_items g f) xs
 
-    go : (length (items_in g f) < place) ⊎ (place ≤ length (items_in g f)) → ((p : ℕ) → 0 < p → p ≤ length (items_of g fs) → StandsIn g fs p) → StandsIn g (f ∷ fs) place
-    go (inl lt) rest = later (place - length (items_in g f)) (omega (arith, lt)) (rest (place - length (items_in g f)) (omega (arith, lt)) (let e = size (items_of g fs) in omega (arith, few, e, lt)))
+    go : (length (group_items g f) < place) ⊎ (place ≤ length (group_items g f)) → ((p : ℕ) → 0 < p → p ≤ length (group_items_of g fs) → StandsIn g fs p) → StandsIn g (f ∷ fs) place
+    go (inl lt) rest = later (place - length (group_items g f)) (omega (arith, lt)) (rest (place - length (group_items g f)) (omega (arith, lt)) (let e = size (group_items_of g fs) in omega (arith, few, e, lt)))
       where
-        later : (p : ℕ) → place ≡ length (items_in g f) + p → StandsIn g fs p → StandsIn g (f ∷ fs) place
+        later : (p : ℕ) → place ≡ length (group_items g f) + p → StandsIn g fs p → StandsIn g (f ∷ fs) place
         later p is at = record {
           number = suc at.number;
           frame = at.frame;
           there = at.there;
           some = at.some;
-          above = let e = size (items_of g (take at.number fs)) in let low = at.above in omega (arith, e, low, is);
+          above = let e = size (group_items_of g (take at.number fs)) in let low = at.above in omega (arith, e, low, is);
           within =
               let next : suc at.number + 1 ≡ suc (at.number + 1) = omega arith in
-              let e : offset g (f ∷ fs) (suc at.number + 1) ≡ length (items_in g f) + offset g fs (at.number + 1) = ap (offset g (f ∷ fs)) next ∙ size (items_of g (take (at.number + 1) fs)) in
+              let e : offset g (f ∷ fs) (suc at.number + 1) ≡ length (group_items g f) + offset g fs (at.number + 1) = ap (offset g (f ∷ fs)) next ∙ size (group_items_of g (take (at.number + 1) fs)) in
               let high = at.within in
               omega (arith, e, high, is);
         }
@@ -131,7 +131,7 @@ stands_in g (f ∷ fs) place some few = go (cases_lt (length (items_in g f)) pla
       number = 0;
       frame = f;
       there = refl;
-      some = λ none. let e : length (items_in g f) ≡ 0 = ap length none in omega (arith, e, some, le);
+      some = λ none. let e : length (group_items g f) ≡ 0 = ap length none in omega (arith, e, some, le);
       above = omega (arith, some);
       within = let e = size [] in omega (arith, e, le);
     }

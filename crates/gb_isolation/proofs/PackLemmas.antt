@@ -28,11 +28,11 @@ use Rattle.gb_node.specs.declared.answer.NodeAnswer.TheVariants.{Sent}
 use Rattle.gb_node.specs.declared.answer.Sent.TheVariants.{Packet as SentPacket}
 use Rattle.gb_node.specs.declared.event.NodeEvent.TheVariants.{Pack}
 use Rattle.gb_node.specs.declared.plan.NodePlan.{NodePlan}
-use Rattle.gb_isolation.specs.Project.{items_in, items_of, frames_in, made_with, replies_in, is_met, took}
+use Rattle.gb_isolation.specs.Project.{group_items, group_items_of, frames_in, made_with, replies_in, is_met, took}
 use Rattle.gb_isolation.proofs.View.{View, view_of, Fits, Goes, MemberIs, AreMarked, KeepsAcks, IsInside, said_of, acknowledged_of, bounds_with}
 use Rattle.gb_isolation.proofs.AcknowledgedLemmas.{none_acknowledged, acknowledged-append}
 use Rattle.gb_isolation.proofs.GoesLemmas.{goes_none, goes_one}
-use Rattle.gb_isolation.proofs.MarkLemmas.{items_of-append, items_of-none, items_of-one, marks_more}
+use Rattle.gb_isolation.proofs.MarkLemmas.{group_items_of-append, group_items_of-none, group_items_of-one, marks_more}
 use Rattle.gb_isolation.proofs.PastLemmas.{running_unmet, acked_within, entries_back}
 
 -- The view.
@@ -103,13 +103,13 @@ acknowledged_more me k done xs ys beyond =
 
 took_acks : (nodes me : ℕ) (g : Addr) (b : NodeId) (k : ℕ) (f : List Item) (o : Option (Option Told)) (frames : ℕ → List (List Item)) (acked : ℕ → ℕ → Bool) (done : ℕ → List ℕ)
     → ((x : ℕ) → x < nodes → AreMarked g (frames x) (acked x) (done x))
-    → KeepsAcks nodes me o (λ x. items_of g (frames x)) done → KeepsAcks nodes me (stepped (took_from b.number k) o) (λ x. items_of g (frames_with b f frames x)) done
+    → KeepsAcks nodes me o (λ x. group_items_of g (frames x)) done → KeepsAcks nodes me (stepped (took_from b.number k) o) (λ x. group_items_of g (frames_with b f frames x)) done
 took_acks nodes me g b k f o frames acked done marked was = record {
   each = λ x j inside low.
       kept o (j + 1) x
       ∙ (was.each x j inside (subst (λ n. j < n) (as_many o) low)
-      ∙ sym (ap (is_acknowledged me (j + 1) (done x) 1) (items_of-append g (frames x) (if nat_eq b.number x then f ∷ [] else []))
-      ∙ acknowledged_more me (j + 1) (done x) (items_of g (frames x)) (items_of g (if nat_eq b.number x then f ∷ [] else [])) (marked x inside).beyond));
+      ∙ sym (ap (is_acknowledged me (j + 1) (done x) 1) (group_items_of-append g (frames x) (if nat_eq b.number x then f ∷ [] else []))
+      ∙ acknowledged_more me (j + 1) (done x) (group_items_of g (frames x)) (group_items_of g (if nat_eq b.number x then f ∷ [] else [])) (marked x inside).beyond));
   beyond = λ x seq far. kept o seq x ∙ was.beyond x seq (subst (λ n. n < seq) (as_many o) far);
 }
   where
@@ -142,48 +142,48 @@ module _ (plan : NodePlan) (versions : List Version) (g : Addr) (past : List Hap
   abbrev waits : List Entry
   waits = waiting_of v.told b.number
 
-  given : items_in g f ≡ take k waits
+  given : group_items g f ≡ take k waits
   given = ap (map entry_of) (right.front g) ∙ entries_back g (take k waits)
 
-  long : length (items_in g f) ≡ k
+  long : length (group_items g f) ≡ k
   long = length-map (items_for g f) entry_of
 
-  carried : (x : ℕ) → items_of g (frames_with b f v.frames x) ≡ items_of g (v.frames x) ++ (if nat_eq b.number x then items_in g f else [])
-  carried x = items_of-append g (v.frames x) (if nat_eq b.number x then f ∷ [] else []) ∙ ap (λ es. items_of g (v.frames x) ++ es) (by (nat_eq b.number x))
+  carried : (x : ℕ) → group_items_of g (frames_with b f v.frames x) ≡ group_items_of g (v.frames x) ++ (if nat_eq b.number x then group_items g f else [])
+  carried x = group_items_of-append g (v.frames x) (if nat_eq b.number x then f ∷ [] else []) ∙ ap (λ es. group_items_of g (v.frames x) ++ es) (by (nat_eq b.number x))
     where
-      by : (t : Bool) → items_of g (if t then f ∷ [] else []) ≡ (if t then items_in g f else [])
-      by true = items_of-one g f
-      by false = items_of-none g
+      by : (t : Bool) → group_items_of g (if t then f ∷ [] else []) ≡ (if t then group_items g f else [])
+      by true = group_items_of-one g f
+      by false = group_items_of-none g
 
-  put_took : (x : ℕ) → x < plan.nodes → m.put x ≡ items_of g (frames_with b f v.frames x) ++ waiting_of (stepped (took_from b.number k) v.told) x
+  put_took : (x : ℕ) → x < plan.nodes → m.put x ≡ group_items_of g (frames_with b f v.frames x) ++ waiting_of (stepped (took_from b.number k) v.told) x
   put_took x inside = was.put x inside ∙ by (cases_eq x b.number)
     where
-      by : (x ≡ b.number) ⊎ (x ≢ b.number) → items_of g (v.frames x) ++ waiting_of v.told x ≡ items_of g (frames_with b f v.frames x) ++ waiting_of (stepped (took_from b.number k) v.told) x
+      by : (x ≡ b.number) ⊎ (x ≢ b.number) → group_items_of g (v.frames x) ++ waiting_of v.told x ≡ group_items_of g (frames_with b f v.frames x) ++ waiting_of (stepped (took_from b.number k) v.told) x
       by (inl same) =
           let on : nat_eq b.number x ≡ true = grind (arith, nat_tests) in
-          let all : items_in g f ++ waiting_of (stepped (took_from b.number k) v.told) b.number ≡ waits = (λ i. given i ++ took_waits b.number k v.told i) ∙ take-append-drop k waits in
+          let all : group_items g f ++ waiting_of (stepped (took_from b.number k) v.told) b.number ≡ waits = (λ i. given i ++ took_waits b.number k v.told i) ∙ take-append-drop k waits in
           let at : waiting_of v.told x ≡ waits = ap (waiting_of v.told) same in
           let later : waiting_of (stepped (took_from b.number k) v.told) x ≡ waiting_of (stepped (took_from b.number k) v.told) b.number = ap (waiting_of (stepped (took_from b.number k) v.told)) same in
-          ap (λ es. items_of g (v.frames x) ++ es) (at ∙ sym all)
-          ∙ (sym (append_assoc (items_of g (v.frames x)) (items_in g f) (waiting_of (stepped (took_from b.number k) v.told) b.number))
-          ∙ ((λ i. (items_of g (v.frames x) ++ (if sym on i then items_in g f else [])) ++ sym later i) ∙ ap (λ es. es ++ waiting_of (stepped (took_from b.number k) v.told) x) (sym (carried x))))
+          ap (λ es. group_items_of g (v.frames x) ++ es) (at ∙ sym all)
+          ∙ (sym (append_assoc (group_items_of g (v.frames x)) (group_items g f) (waiting_of (stepped (took_from b.number k) v.told) b.number))
+          ∙ ((λ i. (group_items_of g (v.frames x) ++ (if sym on i then group_items g f else [])) ++ sym later i) ∙ ap (λ es. es ++ waiting_of (stepped (took_from b.number k) v.told) x) (sym (carried x))))
       by (inr other) =
           let off : nat_eq b.number x ≡ false = grind (arith, nat_tests, other) in
-          (λ i. sym (append-nil (items_of g (v.frames x))) i ++ sym (others_wait b k x v.told other) i)
-          ∙ (ap (λ t. (items_of g (v.frames x) ++ (if t then items_in g f else [])) ++ waiting_of (stepped (took_from b.number k) v.told) x) (sym off) ∙ ap (λ es. es ++ waiting_of (stepped (took_from b.number k) v.told) x) (sym (carried x)))
+          (λ i. sym (append-nil (group_items_of g (v.frames x))) i ++ sym (others_wait b k x v.told other) i)
+          ∙ (ap (λ t. (group_items_of g (v.frames x) ++ (if t then group_items g f else [])) ++ waiting_of (stepped (took_from b.number k) v.told) x) (sym off) ∙ ap (λ es. es ++ waiting_of (stepped (took_from b.number k) v.told) x) (sym (carried x)))
 
-  count_took : (x : ℕ) → x < plan.nodes → (member_took b k m).taken x ≡ length (items_of g (frames_with b f v.frames x))
+  count_took : (x : ℕ) → x < plan.nodes → (member_took b k m).taken x ≡ length (group_items_of g (frames_with b f v.frames x))
   count_took x inside = by (cases_eq x b.number) ∙ ap length (sym (carried x))
     where
-      by : (x ≡ b.number) ⊎ (x ≢ b.number) → (if nat_eq x b.number then m.taken x + k else m.taken x) ≡ length (items_of g (v.frames x) ++ (if nat_eq b.number x then items_in g f else []))
+      by : (x ≡ b.number) ⊎ (x ≢ b.number) → (if nat_eq x b.number then m.taken x + k else m.taken x) ≡ length (group_items_of g (v.frames x) ++ (if nat_eq b.number x then group_items g f else []))
       by (inl same) =
           let on : nat_eq b.number x ≡ true = grind (arith, nat_tests) in
           let there : nat_eq x b.number ≡ true = grind (arith, nat_tests) in
-          rw (on, there) ((λ i. was.taken x inside i + sym long i) ∙ sym (length-append (items_of g (v.frames x)) (items_in g f)))
+          rw (on, there) ((λ i. was.taken x inside i + sym long i) ∙ sym (length-append (group_items_of g (v.frames x)) (group_items g f)))
       by (inr other) =
           let off : nat_eq b.number x ≡ false = grind (arith, nat_tests, other) in
           let away : nat_eq x b.number ≡ false = grind (arith, nat_tests, other) in
-          rw (off, away) (was.taken x inside ∙ ap length (sym (append-nil (items_of g (v.frames x)))))
+          rw (off, away) (was.taken x inside ∙ ap length (sym (append-nil (group_items_of g (v.frames x)))))
 
   fits_took : Fits plan.nodes g plan.me.number frames_from (view_packed b f k v) (member_took b k m)
   fits_took = record {
@@ -223,10 +223,10 @@ module _ (plan : NodePlan) (versions : List Version) (g : Addr) (past : List Hap
       may =
           let put = was.put b.number right.inside in
           let taken = was.taken b.number right.inside in
-          (was.stopped ∙ running_unmet plan g past right.running, omega arith, omega (arith, taken, is, right.enough g, ap length put, length-append (items_of g (v.frames b.number)) waits))
+          (was.stopped ∙ running_unmet plan g past right.running, omega arith, omega (arith, taken, is, right.enough g, ap length put, length-append (group_items_of g (v.frames b.number)) waits))
 
   -- a packet is packed
-  pub packed_goes : Goes (bounds_with plan versions) g plan.me frames_from (view_of plan g (packing b text ∷ past)) group (took plan.me b (length (items_of g (frames_in plan.cluster_key text))))
+  pub packed_goes : Goes (bounds_with plan versions) g plan.me frames_from (view_of plan g (packing b text ∷ past)) group (took plan.me b (length (group_items_of g (frames_in plan.cluster_key text))))
   packed_goes =
-      subst (λ w. Goes (bounds_with plan versions) g plan.me frames_from w group (took plan.me b (length (items_of g (frames_in plan.cluster_key text))))) (sym (packed_view plan g past b text right.content right.text_is))
-      (goes_by (length (items_of g (frames_in plan.cluster_key text))) (ap (λ cs. length (items_of g (map (λ (c : Content). c.items) cs))) right.text_is ∙ (ap length (items_of-one g f) ∙ long)))
+      subst (λ w. Goes (bounds_with plan versions) g plan.me frames_from w group (took plan.me b (length (group_items_of g (frames_in plan.cluster_key text))))) (sym (packed_view plan g past b text right.content right.text_is))
+      (goes_by (length (group_items_of g (frames_in plan.cluster_key text))) (ap (λ cs. length (group_items_of g (map (λ (c : Content). c.items) cs))) right.text_is ∙ (ap length (group_items_of-one g f) ∙ long)))

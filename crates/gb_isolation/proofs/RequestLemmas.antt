@@ -33,7 +33,7 @@ use Rattle.gb_node.specs.StepLaw.{IsAsked, admitted_answer, is_admitted_by, past
 use Rattle.gb_node.specs.declared.answer.NodeAnswer.TheVariants.{Reply as Replied}
 use Rattle.gb_node.specs.declared.event.NodeEvent.TheVariants.{Request as Asked}
 use Rattle.gb_node.specs.declared.plan.NodePlan.{NodePlan}
-use Rattle.gb_isolation.specs.Project.{asked, is_met, is_named, is_own_request, is_starved_by, items_of, made_by, made_with, own_requested, replies_in, requested, tenant_given}
+use Rattle.gb_isolation.specs.Project.{asked, is_met, is_named, is_own_request, is_starved_by, group_items_of, made_by, made_with, own_requested, replies_in, requested, tenant_given}
 use Rattle.gb_isolation.proofs.AskLemmas.{asking, unrelated_request, refused_unrelated, view_asked}
 use Rattle.gb_isolation.proofs.CommandLemmas.{AskedGoes, group_token_is, at_open, at_shut, at_drop, at_say, at_fetch}
 use Rattle.gb_isolation.proofs.GoesLemmas.{goes_none, goes_one}
@@ -201,7 +201,7 @@ module _ (plan : NodePlan) (versions : List Version) (g : Addr) (past : List Hap
   own_goes : (request : Request) (reply : Reply) → version_at versions plan.me.number ≡ plan.version → plan.nodes ≤ NODES
       → is_noticed_after plan past ≡ set.contains (noticed_in plan past)
       → ((b : ℕ) → set.contains (noticed_in plan past) b ≡ true → b < NODES)
-      → ((t : Told) → told_of plan g past ≡ Some (Some t) → (b : ℕ) → b < plan.nodes → list_any (alone.is_own plan.me.number (said_in t.calls + 1)) (items_of g (frames_to plan.cluster_key b past)) ≡ false)
+      → ((t : Told) → told_of plan g past ≡ Some (Some t) → (b : ℕ) → b < plan.nodes → list_any (alone.is_own plan.me.number (said_in t.calls + 1)) (group_items_of g (frames_to plan.cluster_key b past)) ≡ false)
       → is_stopped past ≡ false → is_own_request plan.me g past request ≡ true → reply ≡ admitted_answer plan past request → FitsBefore → AskedGoes plan versions g past request reply frames_from group
   own_goes (AddTenant token row) reply right few silent below fresh running own is fits = absurd (clash own)
     where
@@ -255,7 +255,7 @@ pub asked_goes : (plan : NodePlan) (versions : List Version) (g : Addr) (past : 
     → plan.nodes ≤ NODES
     → is_noticed_after plan past ≡ set.contains (noticed_in plan past)
     → ((b : ℕ) → set.contains (noticed_in plan past) b ≡ true → (b < plan.nodes) × (b ≢ plan.me.number))
-    → ((t : Told) → told_of plan g past ≡ Some (Some t) → (b : ℕ) → b < plan.nodes → list_any (alone.is_own plan.me.number (said_in t.calls + 1)) (items_of g (frames_to plan.cluster_key b past)) ≡ false)
+    → ((t : Told) → told_of plan g past ≡ Some (Some t) → (b : ℕ) → b < plan.nodes → list_any (alone.is_own plan.me.number (said_in t.calls + 1)) (group_items_of g (frames_to plan.cluster_key b past)) ≡ false)
     → IsAsked plan past request reply
     → is_starved_by plan.me g past (Asked request) (Replied reply) ≡ false
     → Fits plan.nodes g plan.me.number frames_from (view_of plan g past) (group plan.me.number)

@@ -31,7 +31,7 @@ use Rattle.gb_types.specs.declared.plan.Bounds.{Bounds}
 use Rattle.gb_types.specs.Version.{bounds_of}
 use Rattle.gb_cluster.proofs.NodesLemmas.{stays}
 use Rattle.gb_isolation.specs.Isolation.{Seen, IsIsolated, GroupsAreIsolated}
-use Rattle.gb_isolation.specs.Project.{project, items_of, is_fed}
+use Rattle.gb_isolation.specs.Project.{project, group_items_of, is_fed}
 use Rattle.gb_isolation.specs.RunLaws.{accepted_there, is_noticed_in, log_seen, made_there, IsSettledIn, SettledGroupsAgree}
 use Rattle.gb_isolation.proofs.View.{AreMarked, BehavesAlone}
 use Rattle.gb_isolation.proofs.DroppedLemmas.{kept_there}
@@ -140,17 +140,17 @@ module _ (isolated : GroupsAreIsolated) (behave : AllBehave) (plan : Plan) (run 
   abbrev frames : ℕ → ℕ → List (List Item)
   frames a b = frames_to plan.cluster_key b (past_at (node_numbered a) run)
 
-  taken : (a b : ℕ) → is_member spec a ≡ true → is_member spec b ≡ true → (group a).taken b ≡ length (items_of g (frames a b))
+  taken : (a b : ℕ) → is_member spec a ≡ true → is_member spec b ≡ true → (group a).taken b ≡ length (group_items_of g (frames a b))
   taken a b in_a in_b = ap (λ k. (group k).taken b) (sym (is_number a in_a)) ∙ (behaves.fits (node_numbered a) (there a in_a)).taken b (within b in_b)
 
-  put : (a b : ℕ) → is_member spec a ≡ true → is_member spec b ≡ true → (group a).put b ≡ items_of g (frames a b) ++ waiting_at (node_at v (node_numbered a)) g b
+  put : (a b : ℕ) → is_member spec a ≡ true → is_member spec b ≡ true → (group a).put b ≡ group_items_of g (frames a b) ++ waiting_at (node_at v (node_numbered a)) g b
   put a b in_a in_b =
-      sym (subst (λ k. items_of g (frames a k) ++ waiting_at (node_at v (node_numbered a)) g k ≡ (group (node_numbered a).number).put k) (is_number b in_b) (ap (λ (s : Seen). s.put) (alike.same (node_numbered a) (node_numbered b) (there a in_a) (there b in_b)))
+      sym (subst (λ k. group_items_of g (frames a k) ++ waiting_at (node_at v (node_numbered a)) g k ≡ (group (node_numbered a).number).put k) (is_number b in_b) (ap (λ (s : Seen). s.put) (alike.same (node_numbered a) (node_numbered b) (there a in_a) (there b in_b)))
       ∙ ap (λ k. (group k).put b) (is_number a in_a))
 
   carried : (a b : ℕ) → IsRunning runs spec a → IsRunning runs spec b → a ≢ b → (group a).taken b ≡ length ((group a).put b)
   carried a b run_a run_b other =
-      let items : List Entry = items_of g (frames a b) in
+      let items : List Entry = group_items_of g (frames a b) in
       taken a b run_a.0 run_b.0 ∙ sym (ap length (put a b run_a.0 run_b.0 ∙ (ap (λ ws. items ++ ws) (settled.carried a b run_a run_b other) ∙ append-nil items)))
 
   -- at b the places of the frames from a that were taken are marked

@@ -32,7 +32,7 @@ use Rattle.gb_cluster.specs.ClusterValue.{node_plan}
 use Rattle.gb_cluster.specs.Run.{Did, past_at}
 use Rattle.gb_types.specs.declared.plan.Plan.{Plan}
 use Rattle.gb_cluster.proofs.NodesLemmas.{past_same, past_other}
-use Rattle.gb_isolation.specs.Project.{items_of, frames_in, is_named, is_own_request, command_for, made_with, own_requested, tenant_given, is_met, with_stop, asked, took, arrived, ticked, gives, project, reply_in, replies_in}
+use Rattle.gb_isolation.specs.Project.{group_items_of, frames_in, is_named, is_own_request, command_for, made_with, own_requested, tenant_given, is_met, with_stop, asked, took, arrived, ticked, gives, project, reply_in, replies_in}
 use Rattle.gb_isolation.specs.RunLaws.{said_by, accepted_by, accepted_in_past}
 use Rattle.gb_isolation.proofs.GivenLemmas.{carried_took, carried_packets, given_at, no_commands_elsewhere, no_commands_carried, no_commands_notices, no_commands_ticked, no_commands_tenant, commands_stopped}
 
@@ -90,7 +90,7 @@ given_pairs : (plan : Plan) (g : Addr) (run : List Did) (a : NodeId) (e : NodeEv
 unfolding commands
 given_pairs plan g run a (Asked request) (Replied reply) = reply_pairs (node_plan plan a) g (past_at a run) request reply
 given_pairs plan g run a (Pack b) (Sent (SentPacket text)) =
-    let k : ℕ = length (items_of g (frames_in plan.cluster_key text)) in
+    let k : ℕ = length (group_items_of g (frames_in plan.cluster_key text)) in
     none_paired (commands a.number (took a b k)) (no_commands_carried a.number a (took a b k) (carried_took a b k))
 given_pairs plan g run a (Brought bytes) (Taken (TakenGood good)) =
     let given : List GroupStep = flat_map (arrived plan g run a) (read plan.cluster_key bytes) in

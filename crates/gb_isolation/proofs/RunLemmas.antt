@@ -36,7 +36,7 @@ use Rattle.gb_types.specs.declared.plan.Plan.{Plan}
 use Rattle.gb_cluster.proofs.NodesLemmas.{Stays, stays, have_pasts, past_same, past_other}
 use Rattle.gb_node.specs.declared.plan.NodePlan.{NodePlan}
 use Rattle.gb_node.specs.Past.{added, tenants_in}
-use Rattle.gb_isolation.specs.Project.{made_by, gives, project, items_of, is_fed, is_starved_by, is_new_frame, made_with, replies_in, is_met}
+use Rattle.gb_isolation.specs.Project.{made_by, gives, project, group_items_of, is_fed, is_starved_by, is_new_frame, made_with, replies_in, is_met}
 use Rattle.gb_isolation.proofs.View.{View, view_of, view_at, frames_for, AreMarked, MemberIs, IsThere, Fits, Goes, AllFit, BehavesAlone}
 use Rattle.gb_isolation.proofs.NextLemmas.{none_beyond_accepted, none_of_front}
 use Rattle.gb_isolation.proofs.ArriveLemmas.{arrived_goes}
@@ -75,14 +75,14 @@ fits_frames nodes g me from later v m more was = record {
 -- A new cluster.
 
 none_marked : (g : Addr) (test : ℕ → Bool) → AreMarked g [] test []
-unfolding items_of
+unfolding group_items_of
 none_marked g test = record {
   each = λ n place low high. absurd (omega (arith, low, high, offset_none g (n + 1), offset_none g n));
   beyond = λ place above. refl;
 }
 
 new_fits : (plan : Plan) (g : Addr) → AllFit plan g [] nobody
-unfolding past_at frames_to items_of is_acked is_taken tenants_in told_of made_with replies_in is_met
+unfolding past_at frames_to group_items_of is_acked is_taken tenants_in told_of made_with replies_in is_met
 new_fits plan g a inside = record {
   reserve = refl;
   told = record { spec = refl; phase = refl; told = refl };
@@ -135,9 +135,9 @@ module _ (laws : Laws) (plan : Plan) (g : Addr) (run : List Did) (before : Clust
 
   -- no item that is carried has the number that is said next
   unsaid : (a : NodeId) → a.number < plan.nodes → (t : Told) → told_of (node_plan plan a) g (past_at a run) ≡ Some (Some t) → (b : ℕ) → b < plan.nodes
-      → list_any (is_own a.number (said_in t.calls + 1)) (items_of g (frames_to plan.cluster_key b (past_at a run))) ≡ false
+      → list_any (is_own a.number (said_in t.calls + 1)) (group_items_of g (frames_to plan.cluster_key b (past_at a run))) ≡ false
   unsaid a within t there b in_b =
-      none_of_front (is_own a.number (said_in t.calls + 1)) (items_of g (frames_to plan.cluster_key b (past_at a run))) (waiting_of (told_of (node_plan plan a) g (past_at a run)) b)
+      none_of_front (is_own a.number (said_in t.calls + 1)) (group_items_of g (frames_to plan.cluster_key b (past_at a run))) (waiting_of (told_of (node_plan plan a) g (past_at a run)) b)
       (ap (list_any (is_own a.number (said_in t.calls + 1))) (sym ((was.fits a within).put b in_b))
       ∙ none_beyond_accepted (accepted (bounds_of plan) g.group (project plan g run)) a.number (said_in t.calls + 1) ((group a.number).put b) low ((is_integral (bounds_of plan) g.group (project plan g run) was.legal).items a.number b))
     where

@@ -29,7 +29,7 @@ use Rattle.gb_cluster.specs.Run.{Did, ComesTo, past_at}
 use Rattle.gb_types.specs.declared.plan.Plan.{Plan}
 use Rattle.gb_cluster.proofs.NodesLemmas.{have_pasts}
 use Rattle.gb_isolation.specs.Isolation.{log_in, AreSpelt, IsIsolated, GroupsAreIsolated, alone_in}
-use Rattle.gb_isolation.specs.Project.{items_in, items_of}
+use Rattle.gb_isolation.specs.Project.{group_items, group_items_of}
 use Rattle.gb_isolation.proofs.View.{MemberIs, BehavesAlone}
 use Rattle.gb_isolation.proofs.PastLemmas.{entries_back}
 use Rattle.gb_isolation.proofs.MemberLemmas.{unmade_held, dropped_held, there_held}
@@ -58,7 +58,7 @@ frames_spelt law plan (h ∷ past) v g b comes =
         waits : List Entry
         waits = take (length (items_for g packed.content.items)) (waiting_of (told_of plan g past) y.number)
 
-        given : items_in g packed.content.items ≡ waits
+        given : group_items g packed.content.items ≡ waits
         given = ap (map entry_of) (packed.front g) ∙ entries_back g waits
 
         spelt : AreSpelt g packed.content.items
@@ -79,8 +79,8 @@ isolated pasts answers plan run v comes g alike = record {
       let fits = alike.fits a in_a in
       let past : IsOfPast (node_plan plan a) (past_at a run) (node_at v a) = pasts (node_plan plan a) (past_at a run) (node_at v a) (have_pasts plan run v a comes in_a) in
       let log : log_in (shown_at (node_at v a) g) ≡ log_of_member a.number (alone_in plan g run a.number) = ap log_in (past.shown g) ∙ log_same a.number (told_of (node_plan plan a) g (past_at a run)) (alone_in plan g run a.number) fits.told in
-      let put : items_of g (frames_to plan.cluster_key b.number (past_at a run)) ++ waiting_at (node_at v a) g b.number ≡ (alone_in plan g run a.number).put b.number =
-      ap (λ es. items_of g (frames_to plan.cluster_key b.number (past_at a run)) ++ es) (past.waiting g b.number) ∙ sym (fits.put b.number in_b) in
+      let put : group_items_of g (frames_to plan.cluster_key b.number (past_at a run)) ++ waiting_at (node_at v a) g b.number ≡ (alone_in plan g run a.number).put b.number =
+      ap (λ es. group_items_of g (frames_to plan.cluster_key b.number (past_at a run)) ++ es) (past.waiting g b.number) ∙ sym (fits.put b.number in_b) in
       λ i. record { replies = sym fits.replies i; log = log i; put = put i };
   spelt = λ a b in_a in_b. All-from_recursion (AreSpelt g) (frames_to plan.cluster_key b.number (past_at a run))
       (frames_spelt answers (node_plan plan a) (past_at a run) (node_at v a) g b.number (have_pasts plan run v a comes in_a));

@@ -29,7 +29,7 @@ use Rattle.gb_node.specs.declared.answer.NodeAnswer.TheVariants.{Ticked}
 use Rattle.gb_node.specs.declared.answer.Ticked.TheVariants.{Noticed}
 use Rattle.gb_node.specs.declared.event.NodeEvent.TheVariants.{Tick}
 use Rattle.gb_node.specs.declared.plan.NodePlan.{NodePlan}
-use Rattle.gb_isolation.specs.Project.{items_of, made_with, replies_in, is_met, ticked}
+use Rattle.gb_isolation.specs.Project.{group_items_of, made_with, replies_in, is_met, ticked}
 use Rattle.gb_isolation.proofs.View.{View, view_of, Fits, Goes, MemberIs, AreMarked, KeepsAcks, IsInside, is_concerned, said_of, acknowledged_of, bounds_with}
 use Rattle.gb_isolation.proofs.GoesLemmas.{goes_none}
 use Rattle.gb_isolation.proofs.MemberLemmas.{KeepsRest, told-noticed, put-noticed}
@@ -147,7 +147,7 @@ module _ (plan : NodePlan) (versions : List Version) (g : Addr) (past : List Hap
   m = group plan.me.number
 
   abbrev carried : ℕ → List Entry
-  carried b = items_of g (v.frames b)
+  carried b = group_items_of g (v.frames b)
 
   abbrev test : Spec → ℕ → Bool
   test spec b = is_other spec plan.me.number b && set.contains found b

@@ -24,7 +24,7 @@ use Rattle.gb_types.specs.declared.plan.Plan.{Plan}
 use Rattle.gb_types.specs.declared.plan.Bounds.{Bounds}
 use Rattle.gb_types.specs.declared.version.Version.{Version}
 use Rattle.gb_types.specs.Version.{bounds_of}
-use Rattle.gb_isolation.specs.Project.{project, items_of, offset, made_with, replies_in, is_met}
+use Rattle.gb_isolation.specs.Project.{project, group_items_of, offset, made_with, replies_in, is_met}
 
 -- What a group has at a node.
 pub record View : Type 0 where
@@ -87,7 +87,7 @@ MemberIs (Some (Some t)) m = IsThere t m
 pub record AreMarked (g : Addr) (fs : List (List Item)) (test : ℕ → Bool) (marks : List ℕ) : Type 0 where
   pub each : (n place : ℕ) → offset g fs n < place → place ≤ offset g fs (n + 1) → is_marked place marks ≡ test (n + 1)
   -- and no place beyond
-  pub beyond : (place : ℕ) → length (items_of g fs) < place → is_marked place marks ≡ false
+  pub beyond : (place : ℕ) → length (group_items_of g fs) < place → is_marked place marks ≡ false
 
 -- how many messages were said there, and which of them, by number, a node acknowledged
 abbrev pub said_of : Option (Option Told) → ℕ
@@ -119,8 +119,8 @@ pub record Fits (nodes : ℕ) (g : Addr) (me : ℕ) (frames_from : ℕ → List 
   pub reserve : m.reserve ≡ v.reserve
   pub told : MemberIs v.told m
   pub inside : IsInside nodes v.told
-  pub put : (b : ℕ) → b < nodes → m.put b ≡ items_of g (v.frames b) ++ waiting_of v.told b
-  pub taken : (b : ℕ) → b < nodes → m.taken b ≡ length (items_of g (v.frames b))
+  pub put : (b : ℕ) → b < nodes → m.put b ≡ group_items_of g (v.frames b) ++ waiting_of v.told b
+  pub taken : (b : ℕ) → b < nodes → m.taken b ≡ length (group_items_of g (v.frames b))
   pub replies : m.replies ≡ v.replies
   pub spec : m.spec ≡ v.made
   pub noticed : (b : ℕ) → is_marked b m.noticed ≡ (is_concerned me b v.made && v.noticed b)
@@ -128,7 +128,7 @@ pub record Fits (nodes : ℕ) (g : Addr) (me : ℕ) (frames_from : ℕ → List 
   -- the items of the frames that were taken have come, and those of the frames that were acknowledged are done
   pub come : (b : ℕ) → b < nodes → AreMarked g (frames_from b) (v.taken b) (m.come b)
   pub done : (b : ℕ) → b < nodes → AreMarked g (v.frames b) (v.acked b) (m.done b)
-  pub acks : KeepsAcks nodes me v.told (λ b. items_of g (v.frames b)) m.done
+  pub acks : KeepsAcks nodes me v.told (λ b. group_items_of g (v.frames b)) m.done
 
 -- the bounds of a cluster in which a node has this plan and the nodes send these versions
 abbrev pub bounds_with : NodePlan → List Version → Bounds

@@ -23,7 +23,7 @@ use Rattle.gb_alone.specs.Laws.{log_of_member}
 use Rattle.gb_cluster.specs.ClusterValue.{ClusterValue, node_at}
 use Rattle.gb_cluster.specs.Run.{Did, ComesTo, past_at}
 use Rattle.gb_types.specs.declared.plan.Plan.{Plan}
-use Rattle.gb_isolation.specs.Project.{project, items_in, items_of, replies_in, is_fed}
+use Rattle.gb_isolation.specs.Project.{project, group_items, group_items_of, replies_in, is_fed}
 
 -- what was delivered in a group; nothing where it was not made, or was dropped
 abbrev pub log_in : Option (Option Shown) → List Entry
@@ -45,7 +45,7 @@ abbrev pub seen_in : Plan → List Did → ClusterValue → Addr → NodeId → 
 seen_in plan run v g a b = record {
   replies = replies_in a g (past_at a run);
   log = log_in (shown_at (node_at v a) g);
-  put = items_of g (frames_to plan.cluster_key b.number (past_at a run)) ++ waiting_at (node_at v a) g b.number;
+  put = group_items_of g (frames_to plan.cluster_key b.number (past_at a run)) ++ waiting_at (node_at v a) g b.number;
 }
 
 -- what is seen of a group alone
@@ -58,7 +58,7 @@ alone_in plan g run = alone (bounds_of plan) g.group (project plan g run)
 
 -- the group's items of a frame are what is shown of them: each with its origin as it stands there
 abbrev pub AreSpelt : Addr → List Item → Type 0
-AreSpelt g frame = items_for g frame ≡ map (item_for g) (items_in g frame)
+AreSpelt g frame = items_for g frame ≡ map (item_for g) (group_items g frame)
 
 -- the projection of the run is legal, and what is seen of the group is what the projection makes of it alone
 pub record IsIsolated (plan : Plan) (run : List Did) (v : ClusterValue) (g : Addr) : Type 0 where
@@ -67,7 +67,7 @@ pub record IsIsolated (plan : Plan) (run : List Did) (v : ClusterValue) (g : Add
   -- what is seen of an item that is carried is all that its frame says of it
   pub spelt : (a b : NodeId) → a.number < plan.nodes → b.number < plan.nodes → All (AreSpelt g) (frames_to plan.cluster_key b.number (past_at a run))
   -- and as many items are carried
-  pub carried : (a b : NodeId) → a.number < plan.nodes → b.number < plan.nodes → (alone_in plan g run a.number).taken b.number ≡ length (items_of g (frames_to plan.cluster_key b.number (past_at a run)))
+  pub carried : (a b : NodeId) → a.number < plan.nodes → b.number < plan.nodes → (alone_in plan g run a.number).taken b.number ≡ length (group_items_of g (frames_to plan.cluster_key b.number (past_at a run)))
 
 -- each group of every run is isolated of which no request was refused for want of memory
 abbrev pub GroupsAreIsolated : Type 0

@@ -40,16 +40,16 @@ use Rattle.gb_types.specs.declared.plan.Plan.{Plan}
 -- Items.
 
 -- the group's items of a frame, and of many, in order
-abbrev pub items_in : Addr → List Item → List Entry
-items_in g frame = map entry_of (items_for g frame)
+abbrev pub group_items : Addr → List Item → List Entry
+group_items g frame = map entry_of (items_for g frame)
 
-unfoldable pub items_of : Addr → List (List Item) → List Entry
-items_of g [] = []
-items_of g (f ∷ fs) = items_in g f ++ items_of g fs
+unfoldable pub group_items_of : Addr → List (List Item) → List Entry
+group_items_of g [] = []
+group_items_of g (f ∷ fs) = group_items g f ++ group_items_of g fs
 
 -- how many items of the group there are in the first n of these frames
 abbrev pub offset : Addr → List (List Item) → ℕ → ℕ
-offset g fs n = length (items_of g (take n fs))
+offset g fs n = length (group_items_of g (take n fs))
 
 -- the frames that a text has: one where it is a packet
 abbrev pub frames_in : List ℕ → List ℕ → List (List Item)
@@ -164,7 +164,7 @@ acknowledged a b place (suc k) = record { node = a; event = Acknowledged b place
 abbrev pub all_acknowledged : Addr → NodeId → NodeId → (ℕ → Bool) → ℕ → ℕ → List (List Item) → List GroupStep
 all_acknowledged g a b new n before [] = []
 all_acknowledged g a b new n before (f ∷ fs) =
-    (if new n then acknowledged a b (before + 1) (length (items_in g f)) else []) ++ all_acknowledged g a b new (n + 1) (before + length (items_in g f)) fs
+    (if new n then acknowledged a b (before + 1) (length (group_items g f)) else []) ++ all_acknowledged g a b new (n + 1) (before + length (group_items g f)) fs
 
 -- the packet acknowledges the frame with this number for the first time
 abbrev pub is_new_ack : List ℕ → List Happened → Content → ℕ → Bool
@@ -179,7 +179,7 @@ abbrev pub acknowledges : Plan → Addr → List Happened → NodeId → Content
 acknowledges plan g past a c = all_acknowledged g a (node_numbered c.from) (is_new_ack plan.cluster_key past c) 1 0 (frames_to plan.cluster_key c.from past)
 
 abbrev pub brings : Plan → Addr → List Did → NodeId → Content → List GroupStep
-brings plan g run a c = comes (node_numbered c.from) a (offset g (frames_to plan.cluster_key a.number (past_at (node_numbered c.from) run)) (c.frame - 1)) (length (items_in g c.items))
+brings plan g run a c = comes (node_numbered c.from) a (offset g (frames_to plan.cluster_key a.number (past_at (node_numbered c.from) run)) (c.frame - 1)) (length (group_items g c.items))
 
 abbrev pub arrived : Plan → Addr → List Did → NodeId → Content → List GroupStep
 arrived plan g run a c = acknowledges plan g (past_at a run) a c ++ (if is_new_frame plan.cluster_key (past_at a run) c then brings plan g run a c else [])
@@ -194,7 +194,7 @@ ticked a found (Some spec) = notices a spec found
 -- what an event at a node with its answer gives the group, after this run
 abbrev pub gives : Plan → Addr → List Did → NodeId → NodeEvent → NodeAnswer → List GroupStep
 gives plan g run a (Asked request) (Replied reply) = asked (node_plan plan a) g (past_at a run) request reply
-gives plan g run a (Pack b) (Sent (SentPacket text)) = took a b (length (items_of g (frames_in plan.cluster_key text)))
+gives plan g run a (Pack b) (Sent (SentPacket text)) = took a b (length (group_items_of g (frames_in plan.cluster_key text)))
 gives plan g run a (Brought bytes) (Taken (TakenGood good)) = flat_map (arrived plan g run a) (read plan.cluster_key bytes)
 gives plan g run a Tick (Ticked (Noticed found)) = ticked a (set.contains found) (made_with g (past_at a run))
 gives plan g run a event answer = []

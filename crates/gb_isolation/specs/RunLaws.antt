@@ -34,7 +34,7 @@ use Rattle.gb_cluster.specs.ClusterValue.{ClusterValue, node_plan, node_at}
 use Rattle.gb_cluster.specs.Run.{Did, ComesTo, past_at}
 use Rattle.gb_types.specs.declared.plan.Plan.{Plan}
 use Rattle.gb_isolation.specs.Isolation.{seen_in, alone_in}
-use Rattle.gb_isolation.specs.Project.{project, items_in, is_noticed_after, is_own_request, made_with, is_fed}
+use Rattle.gb_isolation.specs.Project.{project, group_items, is_noticed_after, is_own_request, made_with, is_fed}
 
 -- What was accepted.
 
@@ -128,7 +128,7 @@ pub record IsSettledIn (plan : Plan) (run : List Did) (v : ClusterValue) (g : Ad
   pub kept : (a : ℕ) → IsRunning runs spec a → is_dropped g (past_at (node_numbered a) run) ≡ false
   -- from one running member to another nothing waits, and each frame with an item of the group was taken
   pub carried : (a b : ℕ) → IsRunning runs spec a → IsRunning runs spec b → a ≢ b → waiting_at (node_at v (node_numbered a)) g b ≡ []
-  pub came : (a b : ℕ) → IsRunning runs spec a → IsRunning runs spec b → a ≢ b → (n : ℕ) (frame : List Item) → slice_get (frames_to plan.cluster_key b (past_at (node_numbered a) run)) n ≡ Some frame → items_in g frame ≢ []
+  pub came : (a b : ℕ) → IsRunning runs spec a → IsRunning runs spec b → a ≢ b → (n : ℕ) (frame : List Item) → slice_get (frames_to plan.cluster_key b (past_at (node_numbered a) run)) n ≡ Some frame → group_items g frame ≢ []
       → is_taken plan.cluster_key a (n + 1) (past_at (node_numbered b) run) ≡ true
   -- each stopped member is noticed at each running one, and no running one at any member
   pub noticed : (a b : ℕ) → IsRunning runs spec a → is_member spec b ≡ true → runs b ≡ false → is_noticed_in plan run (node_numbered a) b ≡ true

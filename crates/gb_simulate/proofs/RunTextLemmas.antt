@@ -21,7 +21,7 @@ use Rattle.gb_schedule.specs.declared.command.Command.{Command}
 use Rattle.gb_schedule.specs.declared.command.Command.TheVariants.{Cluster}
 use Rattle.gb_schedule.specs.declared.command.ClusterStart.{ClusterStart}
 use Rattle.gb_simulate.specs.OfCluster.{plan_of, started, size, Takes}
-use Rattle.gb_simulate.specs.RunTexts.{RunStep, AreSteps, TellsRun}
+use Rattle.gb_simulate.specs.RunTexts.{RunStep, AreRunSteps, TellsRun}
 use Rattle.gb_simulate.specs.Schedule.{Obeys, GoesOn, event_of}
 use Rattle.gb_simulate.specs.Text.{AreAnswered, Reaches}
 use Rattle.gb_cluster.proofs.CodeLemmas.{goes_on}
@@ -31,8 +31,8 @@ comes_started : (start : ClusterStart) → IsClusterPlan (plan_of start) → Com
 unfolding ComesTo started
 comes_started start right = (right, refl)
 
-steps_started : (start : ClusterStart) → AreSteps (plan_of start) [] [] (started start)
-unfolding AreSteps started
+steps_started : (start : ClusterStart) → AreRunSteps (plan_of start) [] [] (started start)
+unfolding AreRunSteps started
 steps_started start = (refl, refl)
 
 -- a line that asks for nothing
@@ -84,8 +84,8 @@ start_on lines text line answer w other event run spelt obeys = absurd obeys
 
 -- one step more
 steps_on : (plan : Plan) (steps : List RunStep) (step : RunStep) (earlier run : List Did) (before v : ClusterValue)
-    → AreSteps plan steps earlier before → IsStep before step.event step.answer v → Happens before step.event step.answer earlier v run → AreSteps plan (step ∷ steps) run v
-unfolding AreSteps
+    → AreRunSteps plan steps earlier before → IsStep before step.event step.answer v → Happens before step.event step.answer earlier v run → AreRunSteps plan (step ∷ steps) run v
+unfolding AreRunSteps
 steps_on plan steps step earlier run before v made takes happens = (before, earlier, made, takes, happens)
 
 step_is : (before v : ClusterValue) (event : Event) (answer : Answer) → Takes before event answer v → IsStep before event answer v

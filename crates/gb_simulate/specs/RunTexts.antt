@@ -21,10 +21,10 @@ pub record RunStep : Type 0 where
   pub answer : Answer
 
 -- steps of a cluster, and what happened at its nodes by them, both with the newest first
-unfoldable pub AreSteps : Plan → List RunStep → List Did → ClusterValue → Type 0
-AreSteps plan [] run v = (run ≡ []) × (v ≡ new_cluster plan)
-AreSteps plan (step ∷ steps) run v =
-    (before : ClusterValue) × (earlier : List Did) × AreSteps plan steps earlier before × IsStep before step.event step.answer v × Happens before step.event step.answer earlier v run
+unfoldable pub AreRunSteps : Plan → List RunStep → List Did → ClusterValue → Type 0
+AreRunSteps plan [] run v = (run ≡ []) × (v ≡ new_cluster plan)
+AreRunSteps plan (step ∷ steps) run v =
+    (before : ClusterValue) × (earlier : List Did) × AreRunSteps plan steps earlier before × IsStep before step.event step.answer v × Happens before step.event step.answer earlier v run
 
 -- in a cluster of so many nodes a line spells the event of a step, and its answer is the step's
 pub record TellsStep (nodes : ℕ) (line answer : List ℕ) (step : RunStep) : Type 0 where
@@ -56,7 +56,7 @@ pub record IsRunOf (lines : List (List ℕ)) (text : List ℕ) (run : List Did) 
   pub text_is : text ≡ ended (codes "ok") ++ answers
   pub steps : List RunStep
   pub told : TellSteps start.nodes behind answers steps
-  pub made : AreSteps (plan_of start) steps run v
+  pub made : AreRunSteps (plan_of start) steps run v
   pub comes : ComesTo (plan_of start) run v
 
 -- these lines are those of a run, or ask for nothing

@@ -13,8 +13,8 @@ use Rattle.gb_node.specs.NodeStep.{node_numbered}
 use Rattle.gb_node.specs.Past.{Happened, read, packed_for, frames_to}
 use Rattle.gb_cluster.specs.Run.{past_at}
 use Rattle.gb_types.specs.declared.plan.Plan.{Plan}
-use Rattle.gb_isolation.proofs.MarkLemmas.{items_of-none, items_of-one}
-use Rattle.gb_isolation.specs.Project.{items_in, items_of, offset, frames_in, took, comes, acknowledged, all_acknowledged, is_new_ack, acknowledges}
+use Rattle.gb_isolation.proofs.MarkLemmas.{group_items_of-none, group_items_of-one}
+use Rattle.gb_isolation.specs.Project.{group_items, group_items_of, offset, frames_in, took, comes, acknowledged, all_acknowledged, is_new_ack, acknowledges}
 use Rattle.gb_trace.specs.Counts.{counts_acknowledged}
 use Rattle.gb_trace.specs.Deeds.{past_in}
 
@@ -43,14 +43,14 @@ come_on from to place next k step steps pushed some is told adds =
     ∙ (ap (λ n. record { node = to; event = Came from n } ∷ comes from to n (k - 1)) is ∙ sym (comes_some from to place k some))))
 
 -- the items of a text that is no packet, and of one that is
-pub text_none : (g : Addr) (key text : List ℕ) → read key text ≡ [] → length (items_of g (frames_in key text)) ≡ 0
-text_none g key text is = ap (λ (cs : List Content). length (items_of g (map (λ (c : Content). c.items) cs))) is ∙ ap length (items_of-none g)
+pub text_none : (g : Addr) (key text : List ℕ) → read key text ≡ [] → length (group_items_of g (frames_in key text)) ≡ 0
+text_none g key text is = ap (λ (cs : List Content). length (group_items_of g (map (λ (c : Content). c.items) cs))) is ∙ ap length (group_items_of-none g)
 
-pub text_one : (g : Addr) (key text : List ℕ) (c : Content) → read key text ≡ c ∷ [] → length (items_of g (frames_in key text)) ≡ length (items_in g c.items)
-text_one g key text c is = ap (λ (cs : List Content). length (items_of g (map (λ (x : Content). x.items) cs))) is ∙ ap length (items_of-one g c.items)
+pub text_one : (g : Addr) (key text : List ℕ) (c : Content) → read key text ≡ c ∷ [] → length (group_items_of g (frames_in key text)) ≡ length (group_items g c.items)
+text_one g key text c is = ap (λ (cs : List Content). length (group_items_of g (map (λ (x : Content). x.items) cs))) is ∙ ap length (group_items_of-one g c.items)
 
 abbrev pub counted : Addr → List (List Item) → List ℕ
-counted g fs = map (λ f. length (items_in g f)) fs
+counted g fs = map (λ f. length (group_items g f)) fs
 
 -- the frames that were packed before anything happened, and with one thing more
 pub no_counts : (g : Addr) (key : List ℕ) (b : ℕ) (a : NodeId) → counted g (frames_to key b (past_in a [])) ≡ []
@@ -59,23 +59,23 @@ no_counts g key b a = refl
 
 pub counts_more : (g : Addr) (key : List ℕ) (b : ℕ) (h : Happened) (past : List Happened) → counted g (frames_to key b (h ∷ past)) ≡ counted g (frames_to key b past) ++ counted g (packed_for key b h.event h.answer)
 unfolding frames_to
-counts_more g key b h past = map-append (λ f. length (items_in g f)) (frames_to key b past) (packed_for key b h.event h.answer)
+counts_more g key b h past = map-append (λ f. length (group_items g f)) (frames_to key b past) (packed_for key b h.event h.answer)
 
-counts_are : (g : Addr) (fs : List (List Item)) → length (items_of g fs) ≡ sum (counted g fs)
-unfolding items_of
+counts_are : (g : Addr) (fs : List (List Item)) → length (group_items_of g fs) ≡ sum (counted g fs)
+unfolding group_items_of
 counts_are g [] = refl
 counts_are g (f ∷ fs) =
-    length-append (items_in g f) (items_of g fs) ∙ (ap (λ n. length (items_in g f) + n) (counts_are g fs) ∙ sym (sum_by-cons (λ n. n) (length (items_in g f)) (counted g fs)))
+    length-append (group_items g f) (group_items_of g fs) ∙ (ap (λ n. length (group_items g f) + n) (counts_are g fs) ∙ sym (sum_by-cons (λ n. n) (length (group_items g f)) (counted g fs)))
 
 -- the items of the first frames
 pub offset_is : (g : Addr) (fs : List (List Item)) (n : ℕ) → offset g fs n ≡ sum (take n (counted g fs))
-offset_is g fs n = counts_are g (take n fs) ∙ ap sum (sym (take-map (λ f. length (items_in g f)) n fs))
+offset_is g fs n = counts_are g (take n fs) ∙ ap sum (sym (take-map (λ f. length (group_items g f)) n fs))
 
 -- what is acknowledged of frames
 all_counted : (g : Addr) (a b : NodeId) (new : ℕ → Bool) (n before : ℕ) (fs : List (List Item)) → all_acknowledged g a b new n before fs ≡ counts_acknowledged a b new n before (counted g fs)
 all_counted g a b new n before [] = refl
 all_counted g a b new n before (f ∷ fs) =
-    ap (λ xs. (if new n then acknowledged a b (before + 1) (length (items_in g f)) else []) ++ xs) (all_counted g a b new (n + 1) (before + length (items_in g f)) fs)
+    ap (λ xs. (if new n then acknowledged a b (before + 1) (length (group_items g f)) else []) ++ xs) (all_counted g a b new (n + 1) (before + length (group_items g f)) fs)
 
 -- what the frame with the number n gives, where it stands behind so many items
 abbrev one_counted : NodeId → NodeId → (ℕ → Bool) → ℕ → ℕ → ℕ → List GroupStep

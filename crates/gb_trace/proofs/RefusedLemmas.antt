@@ -22,7 +22,7 @@ use Rattle.gb_cluster.specs.declared.event.Event.{Event}
 use Rattle.gb_cluster.specs.declared.event.Event.TheVariants.{At, Arrive}
 use Rattle.gb_cluster.specs.declared.posted.Posted.{Posted}
 use Rattle.gb_isolation.specs.Project.{is_starved_by, is_fed}
-use Rattle.gb_trace.specs.Refused.{is_untaken_by, is_refused_for, is_refused_by, rows_by}
+use Rattle.gb_trace.specs.Refused.{is_untaken_by, is_refused_for, is_lacked_by, rows_by}
 use Rattle.gb_trace.specs.Trace.{did_in, did_with, did_arrive, own_answer, sent_as, run_of, all_did}
 use Rattle.gb_rules.specs.Tenant.{row_of}
 use Rattle.gb_trace.proofs.DeedLemmas.{newest_deed}
@@ -113,7 +113,7 @@ arrival_unadded a (Some p) (Some answer) = by (nat_eq p.to.number a.number)
     by false = refl
 
 -- one event more
-lacks_more : (g : Addr) (run : List Did) (ps : List Posted) (e : Event) (r : Answer) → is_refused_for g (reverse (did_in ps e r) ++ run) ≡ (is_refused_by g run e r || is_refused_for g run)
+lacks_more : (g : Addr) (run : List Did) (ps : List Posted) (e : Event) (r : Answer) → is_refused_for g (reverse (did_in ps e r) ++ run) ≡ (is_lacked_by g run e r || is_refused_for g run)
 unfolding is_refused_for
 lacks_more g run ps (Arrive k) r = arrival_unrefused g run (packet_numbered ps k) (own_answer ps r)
 lacks_more g run ps (At a event) (AnswerReply reply) = refl
@@ -173,7 +173,7 @@ rows_more a ps es rs i e r lt ls is it =
     ∙ (rows_behind a was (did_in ps e r) ∙ ap (λ (rows : List TenantRow). tenants_in (past_at a was) ++ rows) (rows_in a ps e r)))
 
 pub refused_more : (g : Addr) (ps : List Posted) (es : List Event) (rs : List Answer) (i : ℕ) (e : Event) (r : Answer) → i < length es → i < length rs → e ≡ get_or es i e → r ≡ get_or rs i r
-    → is_refused_for g (run_of (take (i + 1) es) (take (i + 1) rs) ps) ≡ (is_refused_by g (run_of (take i es) (take i rs) ps) e r || is_refused_for g (run_of (take i es) (take i rs) ps))
+    → is_refused_for g (run_of (take (i + 1) es) (take (i + 1) rs) ps) ≡ (is_lacked_by g (run_of (take i es) (take i rs) ps) e r || is_refused_for g (run_of (take i es) (take i rs) ps))
 refused_more g ps es rs i e r lt ls is it = ap (is_refused_for g) (run_more ps es rs i e r lt ls is it) ∙ lacks_more g (run_of (take i es) (take i rs) ps) ps e r
 
 -- before anything happened

@@ -28,7 +28,7 @@ use Rattle.gb_cluster.specs.declared.event.Event.TheVariants.{At, Arrive}
 use Rattle.gb_types.specs.declared.plan.Plan.{Plan}
 use Rattle.gb_cluster.specs.declared.posted.Posted.{Posted}
 use Rattle.gb_isolation.specs.Isolation.{wants_memory, is_ample}
-use Rattle.gb_trace.specs.Run.{is_refused_by, is_starved}
+use Rattle.gb_trace.specs.Run.{is_refused_by, tells_want}
 use Rattle.gb_trace.specs.Trace.{own_answer, did_with, did_arrive, did_in, all_did, AreSteps, IsRun}
 
 -- Packets by their numbers.
@@ -243,7 +243,7 @@ placed_each n es i e lt is all = subst (IsPlaced n) (sym is) (All-get_or (IsPlac
 
 -- Where no answer lacks memory, nothing that happened does.
 
-refused_as : (packets : List Posted) (answer : Answer) → is_refused_by (own_answer packets answer) ≡ is_starved answer
+refused_as : (packets : List Posted) (answer : Answer) → is_refused_by (own_answer packets answer) ≡ tells_want answer
 refused_as packets (AnswerReply reply) = refl
 refused_as packets (AnswerTaken taken) = refl
 refused_as packets (AnswerSent (SendingPacket k)) = by (packet_numbered packets k) ∙ sym (by (packet_numbered [] k))
@@ -268,7 +268,7 @@ unfolding is_ample
 ample_did a event None none = refl
 ample_did a event (Some answer) none = ap (λ b. not b && true) none
 
-ample_in : (packets : List Posted) (event : Event) (answer : Answer) → is_starved answer ≡ false → is_ample (reverse (did_in packets event answer)) ≡ true
+ample_in : (packets : List Posted) (event : Event) (answer : Answer) → tells_want answer ≡ false → is_ample (reverse (did_in packets event answer)) ≡ true
 unfolding is_ample
 ample_in packets (At a event) answer none = ample_did a event (own_answer packets answer) (refused_as packets answer ∙ none)
 ample_in packets (Arrive k) answer none = by (packet_numbered packets k)
@@ -277,10 +277,10 @@ ample_in packets (Arrive k) answer none = by (packet_numbered packets k)
     by None = refl
     by (Some p) = ample_did p.to (Came p.text) (own_answer packets answer) (refused_as packets answer ∙ none)
 
-pub ample : (packets : List Posted) (events : List Event) (answers : List Answer) → list_any is_starved answers ≡ false → is_ample (reverse (all_did packets events answers)) ≡ true
+pub ample : (packets : List Posted) (events : List Event) (answers : List Answer) → list_any tells_want answers ≡ false → is_ample (reverse (all_did packets events answers)) ≡ true
 unfolding is_ample all_did
 ample packets [] answers none = refl
 ample packets (e ∷ events) [] none = refl
 ample packets (e ∷ events) (a ∷ answers) none =
     ap is_ample (reverse-append (did_in packets e a) (all_did packets events answers))
-    ∙ ample_append (reverse (all_did packets events answers)) (reverse (did_in packets e a)) (ample packets events answers (or_right (is_starved a) (list_any is_starved answers) none)) (ample_in packets e a (or_left (is_starved a) (list_any is_starved answers) none))
+    ∙ ample_append (reverse (all_did packets events answers)) (reverse (did_in packets e a)) (ample packets events answers (or_right (tells_want a) (list_any tells_want answers) none)) (ample_in packets e a (or_left (tells_want a) (list_any tells_want answers) none))

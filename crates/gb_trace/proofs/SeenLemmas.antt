@@ -15,7 +15,7 @@ use Rattle.gb_cluster.proofs.NodesLemmas.{stays}
 use Rattle.gb_cluster.specs.Run.{Did, past_at}
 use Rattle.gb_isolation.proofs.NoticeLemmas.{numbered_is}
 use Rattle.gb_isolation.specs.Isolation.{Seen, alone_in, IsIsolated, GroupsAreIsolated}
-use Rattle.gb_isolation.specs.Project.{items_of, replies_in}
+use Rattle.gb_isolation.specs.Project.{group_items_of, replies_in}
 use Rattle.gb_trace.specs.Observed.{IsolatedGroupsAreSeenAlone, FedGroupsAreSeenAlone}
 use Rattle.gb_trace.specs.Trace.{run_of}
 
@@ -26,7 +26,7 @@ take_front xs ys = take-append-le (length xs) xs ys (omega arith) ∙ take_all (
 pub seen_alone_too : IsolatedGroupsAreSeenAlone
 seen_alone_too plan run v g few alike =
     seen_same plan.nodes (λ a. replies_in (node_numbered a) g (past_at (node_numbered a) run)) (λ a. (group a).replies)
-    (λ a b. items_of g (frames_to plan.cluster_key b (past_at (node_numbered a) run))) (λ a b. take ((group a).taken b) ((group a).put b))
+    (λ a b. group_items_of g (frames_to plan.cluster_key b (past_at (node_numbered a) run))) (λ a b. take ((group a).taken b) ((group a).put b))
     replied taken
   where
     group : Group
@@ -43,7 +43,7 @@ seen_alone_too plan run v g few alike =
         ap (λ (s : Seen). s.replies) (alike.same (node_numbered a) (node_numbered a) (inside a lt) (inside a lt)) ∙ ap (λ n. (group n).replies) (is a lt)
 
     items : ℕ → ℕ → List Entry
-    items a b = items_of g (frames_to plan.cluster_key b (past_at (node_numbered a) run))
+    items a b = group_items_of g (frames_to plan.cluster_key b (past_at (node_numbered a) run))
 
     put : (a b : ℕ) → a < plan.nodes → b < plan.nodes → items a b ++ waiting_at (node_at v (node_numbered a)) g b ≡ (group a).put b
     put a b lt ls =

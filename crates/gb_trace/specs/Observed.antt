@@ -16,14 +16,14 @@ use Rattle.gb_cluster.specs.declared.event.Event.{Event}
 use Rattle.gb_types.specs.declared.plan.Plan.{Plan}
 use Rattle.gb_cluster.specs.declared.posted.Posted.{Posted}
 use Rattle.gb_isolation.specs.Isolation.{alone_in, IsIsolated}
-use Rattle.gb_isolation.specs.Project.{items_of, replies_in, project, is_fed}
+use Rattle.gb_isolation.specs.Project.{group_items_of, replies_in, project, is_fed}
 use Rattle.gb_trace.specs.Trace.{run_of, IsRun}
 
 -- at a node: the replies to the group's commands, and for each node the items that were packed for it
 abbrev pub observed_at : Plan → Addr → List Did → NodeId → SeenAt
 observed_at plan g run a = record {
   replies = replies_in a g (past_at a run);
-  carried = map (λ b. items_of g (frames_to plan.cluster_key b (past_at a run))) (numbers_below plan.nodes);
+  carried = map (λ b. group_items_of g (frames_to plan.cluster_key b (past_at a run))) (numbers_below plan.nodes);
 }
 
 -- at each node

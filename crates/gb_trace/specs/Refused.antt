@@ -29,9 +29,9 @@ is_refused_for g [] = false
 is_refused_for g (d ∷ run) = (is_untaken_by g d.event d.answer || is_starved_by d.node g (past_at d.node run) d.event d.answer) || is_refused_for g run
 
 -- after the run an event in the cluster with its answer is such
-abbrev pub is_refused_by : Addr → List Did → Event → Answer → Bool
-is_refused_by g run (At a event) (AnswerReply reply) = is_untaken_by g event (Replied reply) || is_starved_by a g (past_at a run) event (Replied reply)
-is_refused_by g run event answer = false
+abbrev pub is_lacked_by : Addr → List Did → Event → Answer → Bool
+is_lacked_by g run (At a event) (AnswerReply reply) = is_untaken_by g event (Replied reply) || is_starved_by a g (past_at a run) event (Replied reply)
+is_lacked_by g run event answer = false
 
 -- what rows of tenants an event in the cluster with its answer adds at the node
 abbrev pub rows_by : NodeId → Event → Answer → List TenantRow

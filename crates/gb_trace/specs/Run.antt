@@ -25,5 +25,5 @@ is_refused_by None = false
 is_refused_by (Some answer) = wants_memory answer
 
 -- the answer says that the node refused for lack of memory
-abbrev pub is_starved : Answer → Bool
-is_starved answer = is_refused_by (own_answer [] answer)
+abbrev pub tells_want : Answer → Bool
+tells_want answer = is_refused_by (own_answer [] answer)

@@ -4,7 +4,7 @@ ghost use Rattle.std.specs.List.{flat_map};
 ghost use Rattle.std.specs.Option.{option_to_list};
 ghost use Rattle.gb_node.specs.Past as packets;
 ghost use Rattle.gb_node.specs.NodeStep.{node_numbered};
-ghost use Rattle.gb_isolation.specs.Project.{items_of, frames_in, took, comes, acknowledged, is_new_ack, is_new_frame, acknowledges, brings, arrived};
+ghost use Rattle.gb_isolation.specs.Project.{group_items_of, frames_in, took, comes, acknowledged, is_new_ack, is_new_frame, acknowledges, brings, arrived};
 ghost use Rattle.gb_trace.specs.Counts.{counts_acknowledged};
 ghost use Rattle.gb_trace.specs.Deeds.{past_in};
 
@@ -31,7 +31,7 @@ pub(crate) fn of_packed(
     b: NodeId,
     text: &[u8],
 ) -> Option<GroupStep>
-    ensures { option_to_list result ≡ took a b (length (items_of addr (frames_in key.now text.now))) }
+    ensures { option_to_list result ≡ took a b (length (group_items_of addr (frames_in key.now text.now))) }
 {
     let packet = read(key, text)?;
     let count = count_in(addr, &packet);

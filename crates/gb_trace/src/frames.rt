@@ -3,7 +3,7 @@ ghost use Rattle.std.specs.Prelude.{◌≡◌, ◌≤◌, ◌++◌, IfOk, OnOk, 
 ghost use Rattle.std.specs.List.{list_any};
 ghost use Rattle.gb_node.specs.Past.{came as taken_by, packed_for, frames_to, is_ack, is_acked, is_frame};
 ghost use Rattle.gb_isolation.specs.Project as projected;
-ghost use Rattle.gb_isolation.specs.Project.{items_in};
+ghost use Rattle.gb_isolation.specs.Project.{group_items};
 ghost use Rattle.gb_trace.specs.Deeds.{past_in};
 
 use crate::deed::Deed;
@@ -101,7 +101,7 @@ fn add_count(
     deed: &Deed,
     counts: &mut Vec<u64>,
 ) -> Result<(), OutOfMemory>
-    ensures { OnOk result (counts.new.items ≡ counts.old.items ++ map (λ f. length (items_in addr f)) (packed_for key.now b.number deed.now.event deed.now.answer)) }
+    ensures { OnOk result (counts.new.items ≡ counts.old.items ++ map (λ f. length (group_items addr f)) (packed_for key.now b.number deed.now.event deed.now.answer)) }
 {
     if let Some(packet) = packed(key, b, deed) {
         counts.push(count_in(addr, &packet))?;
@@ -118,7 +118,7 @@ pub(crate) fn counts_to(
     b: NodeId,
     deeds: &[Deed],
 ) -> Result<Vec<u64>, OutOfMemory>
-    ensures { IfOk result (λ v. v.items ≡ map (λ f. length (items_in addr f)) (frames_to key.now b.number (past_in a deeds.now))) }
+    ensures { IfOk result (λ v. v.items ≡ map (λ f. length (group_items addr f)) (frames_to key.now b.number (past_in a deeds.now))) }
 {
     let mut counts = Vec::new(alloc);
     for i in 0..deeds.len() {

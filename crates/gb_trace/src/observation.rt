@@ -4,7 +4,7 @@ ghost use Rattle.gb_types.specs.declared.limits.TheConstants.{NODES as MOST};
 ghost use Rattle.gb_alone.specs.Observation.{numbers_below};
 ghost use Rattle.gb_node.specs.NodeStep.{node_numbered};
 ghost use Rattle.gb_node.specs.Past.{packed_for, frames_to};
-ghost use Rattle.gb_isolation.specs.Project.{items_of, reply_in, replies_in};
+ghost use Rattle.gb_isolation.specs.Project.{group_items_of, reply_in, replies_in};
 ghost use Rattle.gb_trace.specs.Deeds.{past_in};
 ghost use Rattle.gb_trace.specs.Observed.{observed, observed_at};
 ghost use Rattle.gb_trace.specs.Trace.{run_of};
@@ -78,7 +78,7 @@ fn add_frame(
     deed: &Deed,
     items: &mut Entries,
 ) -> Result<(), OutOfMemory>
-    ensures { OnOk result (items.new ≡ items.old ++ items_of addr (packed_for key.now b.number deed.now.event deed.now.answer)) }
+    ensures { OnOk result (items.new ≡ items.old ++ group_items_of addr (packed_for key.now b.number deed.now.event deed.now.answer)) }
 {
     if let Some(packet) = packed(key, b, deed) {
         add_items(alloc, addr, &packet, items)?;
@@ -95,7 +95,7 @@ fn items_to(
     b: NodeId,
     deeds: &[Deed],
 ) -> Result<Entries, OutOfMemory>
-    ensures { IfOk result (λ e. e ≡ items_of addr (frames_to key.now b.number (past_in a deeds.now))) }
+    ensures { IfOk result (λ e. e ≡ group_items_of addr (frames_to key.now b.number (past_in a deeds.now))) }
 {
     let mut items = Entries::new(alloc);
     for i in 0..deeds.len() {
@@ -118,7 +118,7 @@ fn items_from(
     deeds: &[Deed],
 ) -> Result<Vec<Entries>, OutOfMemory>
     requires { nodes ≤ MOST }
-    ensures { IfOk result (λ v. v.items ≡ map (λ b. items_of addr (frames_to key.now b (past_in a deeds.now))) (numbers_below nodes)) }
+    ensures { IfOk result (λ v. v.items ≡ map (λ b. group_items_of addr (frames_to key.now b (past_in a deeds.now))) (numbers_below nodes)) }
 {
     let mut carried = Vec::new(alloc);
     for b in 0..nodes {

@@ -4,7 +4,7 @@ ghost use Rattle.gb_frame.specs.Packet.{item_of};
 ghost use Rattle.gb_frame.specs.Items.{entry_of, names};
 ghost use Rattle.gb_node.specs.NodeStep.{node_numbered};
 ghost use Rattle.gb_node.specs.Past as past;
-ghost use Rattle.gb_isolation.specs.Project.{items_in};
+ghost use Rattle.gb_isolation.specs.Project.{group_items};
 
 use crate::deed::Deed;
 use gb_cap::hmac::HmacKey;
@@ -91,7 +91,7 @@ pub(crate) fn add_items(
     packet: &PacketView<'_>,
     items: &mut Entries,
 ) -> Result<(), OutOfMemory>
-    ensures { OnOk result (items.new ≡ items.old ++ items_in addr packet.now.items) }
+    ensures { OnOk result (items.new ≡ items.old ++ group_items addr packet.now.items) }
 {
     for item in packet.items() {
         if is_of(addr, item) {
@@ -103,7 +103,7 @@ pub(crate) fn add_items(
 
 /// How many of the packet's items are the group's.
 pub(crate) fn count_in(addr: Addr, packet: &PacketView<'_>) -> u64
-    ensures { result ≡ length (items_in addr packet.now.items) }
+    ensures { result ≡ length (group_items addr packet.now.items) }
 {
     let _most = packet.len();
     let mut count = 0;

@@ -5,7 +5,7 @@ ghost use Rattle.gb_rules.specs.Tenant.{row_of};
 ghost use Rattle.gb_node.specs.Past.{tenants_in};
 ghost use Rattle.gb_cluster.specs.Run.{past_at};
 ghost use Rattle.gb_isolation.specs.Project.{is_fed};
-ghost use Rattle.gb_trace.specs.Refused.{is_refused_by, is_refused_for, rows_by};
+ghost use Rattle.gb_trace.specs.Refused.{is_lacked_by, is_refused_for, rows_by};
 ghost use Rattle.gb_trace.specs.Trace.{run_of};
 
 use crate::past::{is_own_by, row_added};
@@ -69,7 +69,7 @@ fn is_lacking(
 ) -> bool
     requires events { count ≤ length events.now }
     requires answers { count ≤ length trace.now.answers.items }
-    ensures { result ≡ is_refused_by addr (run_of (take count events.now) (take count trace.now.answers.items) trace.now.packets.items) event.now answer.now }
+    ensures { result ≡ is_lacked_by addr (run_of (take count events.now) (take count trace.now.answers.items) trace.now.packets.items) event.now answer.now }
 {
     let Event::At(node, NodeEvent::Request(request)) = event else {
         return false;

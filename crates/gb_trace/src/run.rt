@@ -4,7 +4,7 @@ ghost use Rattle.std.specs.List.{list_any};
 ghost use Rattle.gb_cluster.specs.ClusterStep.{IsPlaced};
 ghost use Rattle.gb_cluster.specs.ClusterValue.{ClusterValue, IsClusterPlan};
 ghost use Rattle.gb_trace.specs.Trace.{IsRun};
-ghost use Rattle.gb_trace.specs.Run.{is_starved, IsIsolatedRun, IsAmpleRun};
+ghost use Rattle.gb_trace.specs.Run.{tells_want, IsIsolatedRun, IsAmpleRun};
 
 use crate::trace::Trace;
 use gb_cluster::answer::{Answer, Sending};
@@ -21,7 +21,7 @@ use std::alloc::Global;
 
 /// Whether the answer says that a node lacked memory.
 fn is_refused(answer: &Answer) -> bool
-    ensures { result ≡ is_starved answer.now }
+    ensures { result ≡ tells_want answer.now }
 {
     match answer {
         Answer::Reply(Reply::Refused(why)) => *why == Refusal::OutOfMemory,
@@ -35,7 +35,7 @@ fn is_refused(answer: &Answer) -> bool
 
 /// Whether some answer says so.
 fn has_refusal(answers: &[Answer]) -> bool
-    ensures { result ≡ list_any is_starved answers.now }
+    ensures { result ≡ list_any tells_want answers.now }
 {
     answers.iter().any(is_refused)
 }
@@ -70,7 +70,7 @@ pub fn run(alloc: Global, plan: Plan, events: &[Event]) -> Result<Trace, OutOfMe
     requires plan { IsClusterPlan plan }
     requires placed { All (IsPlaced plan.nodes) events.now }
     ensures run { IfOk result (λ t. (v : ClusterValue) × IsRun plan events.now t.answers.items t.packets.items v × IsIsolatedRun plan events.now t.answers.items t.packets.items v × IsAmpleRun plan events.now t.answers.items t.packets.items v t.refused) }
-    ensures refused { IfOk result (λ t. t.refused ≡ list_any is_starved t.answers.items) }
+    ensures refused { IfOk result (λ t. t.refused ≡ list_any tells_want t.answers.items) }
 {
     groups_are_isolated();
     ample_runs_feed_all();

@@ -2,7 +2,7 @@ use Rattle.std.proofs.Common.{List, ◌++◌, ◌∷◌, [], take, sym, ◌∙�
 use Rattle.std.proofs.lemmas.List.{take_all, take_more}
 use Rattle.gb_cluster.specs.declared.event.Event.{Event}
 use Rattle.std.specs.List.{list_any}
-use Rattle.gb_trace.specs.Run.{is_starved}
+use Rattle.gb_trace.specs.Run.{tells_want}
 use Rattle.gb_trace.proofs.RunLemmas.{Goes, run_begins, run_goes, placed_at, is_run, ample}
 use Rattle.gb_trace.proofs.run.run.Goals as goal
 
@@ -24,7 +24,7 @@ returns-clause-run c =
     let all = subst (λ (es : List Event). Goes c.args.plan es c.loop-event.answers.items d) whole c.loop-event.invariant in
     let run = is_run c.args.plan c.args.events.now c.loop-event.answers.items _ d all c.into_packets.ensures in
     let groups = c.groups_are_isolated.ensures c.args.plan _ d run.comes in
-    (d, run, groups, λ none g. groups g (c.ample_runs_feed_all.ensures c.args.plan _ (ample c.into_packets.result.items c.args.events.now c.loop-event.answers.items (ap (list_any is_starved) (sym c.as_slice.ensures.value) ∙ (sym c.has_refusal-refused.ensures ∙ none))) g))
+    (d, run, groups, λ none g. groups g (c.ample_runs_feed_all.ensures c.args.plan _ (ample c.into_packets.result.items c.args.events.now c.loop-event.answers.items (ap (list_any tells_want) (sym c.as_slice.ensures.value) ∙ (sym c.has_refusal-refused.ensures ∙ none))) g))
 
 pub step-requires : goal.step-requires
 step-requires c =

@@ -1,11 +1,11 @@
 use Rattle.std.proofs.Common.{sym, subst}
 use Rattle.std.specs.Prelude.{IfOk}
-use Rattle.gb_cluster.specs.Run.{GoesOn}
+use Rattle.gb_cluster.specs.Run.{RunGoesOn}
 use Rattle.gb_cluster.specs.declared.event.Event.{Event}
 use Rattle.gb_cluster.proofs.cluster.Cluster.step.Goals as goal
 
 pub returns-in-At-clause-run : goal.returns-in-At-clause-run
-returns-in-At-clause-run c = subst (λ (e : Event). IfOk c.happen.result (λ a. GoesOn c.args.self.now e a c.happen.new.self)) (sym c.in-At.is) c.happen.ensures.run
+returns-in-At-clause-run c = subst (λ (e : Event). IfOk c.happen.result (λ a. RunGoesOn c.args.self.now e a c.happen.new.self)) (sym c.in-At.is) c.happen.ensures.run
 
 pub returns-in-Arrive-clause-run : goal.returns-in-Arrive-clause-run
-returns-in-Arrive-clause-run c = subst (λ (e : Event). GoesOn c.args.self.now e c.arrive.result c.arrive.new.self) (sym c.in-Arrive.is) c.arrive.ensures.run
+returns-in-Arrive-clause-run c = subst (λ (e : Event). RunGoesOn c.args.self.now e c.arrive.result c.arrive.new.self) (sym c.in-Arrive.is) c.arrive.ensures.run
