@@ -1,7 +1,7 @@
 //! What requests give a group in the projection of a run.
 ghost use Rattle.std.specs.Prelude.{◌≡◌, ◌≤◌, ◌++◌, [], ◌∷◌, true, IfOk, OnOk, if◌then◌else◌};
 ghost use Rattle.std.specs.Option.{option_to_list};
-ghost use Rattle.gb_types.specs.declared.limits.TheConstants.{NODES as MOST, SILENCE_MIN as LEAST};
+ghost use Rattle.gb_types.specs.declared.limits.TheConstants.{SILENCE_MIN as LEAST};
 ghost use Rattle.gb_types.specs.declared.address.Addr.{Addr as AnyAddr};
 ghost use Rattle.gb_alone.specs.declared.event.GroupEvent.TheVariants.{Stop as Ends};
 ghost use Rattle.gb_cluster.specs.ClusterValue.{node_plan};
@@ -52,7 +52,6 @@ fn of_own(
     steps: &mut Vec<GroupStep>,
 ) -> Result<(), OutOfMemory>
     requires named { is_named addr request.now ≡ true }
-    requires few { plan.now.nodes ≤ MOST }
     requires least { LEAST ≤ plan.now.silence }
     requires key { key.now ≡ plan.now.cluster_key }
     ensures { OnOk result (steps.new.items ≡ steps.old.items ++ own_requested (node_plan plan.now a) addr (past_in a before.now) request.now reply.now) }
@@ -95,7 +94,6 @@ fn of_running(
     reply: &Reply,
     steps: &mut Vec<GroupStep>,
 ) -> Result<(), OutOfMemory>
-    requires few { plan.now.nodes ≤ MOST }
     requires least { LEAST ≤ plan.now.silence }
     requires key { key.now ≡ plan.now.cluster_key }
     ensures { OnOk result (steps.new.items ≡ steps.old.items ++ requested (node_plan plan.now a) addr (past_in a before.now) request.now reply.now) }
@@ -147,7 +145,6 @@ pub(crate) fn of_request(
     reply: &Reply,
     steps: &mut Vec<GroupStep>,
 ) -> Result<(), OutOfMemory>
-    requires few { plan.now.nodes ≤ MOST }
     requires least { LEAST ≤ plan.now.silence }
     requires key { key.now ≡ plan.now.cluster_key }
     ensures { OnOk result (steps.new.items ≡ steps.old.items ++ asked (node_plan plan.now a) addr (past_in a before.now) request.now reply.now) }

@@ -1,7 +1,7 @@
 //! The notices that the projection of a run on a group has.
 ghost use Rattle.std.specs.Prelude.{◌≡◌, ◌≤◌, ◌++◌, ◌&&◌, [], ◌∷◌, OnOk, if◌then◌else◌};
 ghost use Rattle.std.specs.FinSet as set;
-ghost use Rattle.gb_types.specs.declared.limits.TheConstants.{NODES as MOST, SILENCE_MIN as LEAST};
+ghost use Rattle.gb_types.specs.declared.limits.TheConstants.{SILENCE_MIN as LEAST};
 ghost use Rattle.gb_rules.specs.Group.{is_other};
 ghost use Rattle.gb_alone.specs.declared.event.GroupEvent.TheVariants.{Notice};
 ghost use Rattle.gb_cluster.specs.ClusterValue.{node_plan};
@@ -47,7 +47,6 @@ pub(crate) fn add_noticed(
     before: &[Deed],
     steps: &mut Vec<GroupStep>,
 ) -> Result<(), OutOfMemory>
-    requires few { plan.now.nodes ≤ MOST }
     requires least { LEAST ≤ plan.now.silence }
     requires key { key.now ≡ plan.now.cluster_key }
     ensures { OnOk result (steps.new.items ≡ steps.old.items ++ notices a spec.now (is_noticed_after (node_plan plan.now a) (past_in a before.now))) }

@@ -1,6 +1,6 @@
 //! The projection of a run on one group, computed plainly from its meaning.
 ghost use Rattle.std.specs.Prelude.{◌≡◌, ◌≤◌, ◌++◌, reverse, IfOk, OnOk};
-ghost use Rattle.gb_types.specs.declared.limits.TheConstants.{NODES as MOST, SILENCE_MIN as LEAST};
+ghost use Rattle.gb_types.specs.declared.limits.TheConstants.{SILENCE_MIN as LEAST};
 ghost use Rattle.gb_isolation.specs.Project.{gives};
 ghost use Rattle.gb_isolation.specs.Project as projected;
 ghost use Rattle.gb_trace.specs.Trace.{run_of};
@@ -31,7 +31,6 @@ fn of_deed(
     deed: &Deed,
     steps: &mut Vec<GroupStep>,
 ) -> Result<(), OutOfMemory>
-    requires few { plan.now.nodes ≤ MOST }
     requires least { LEAST ≤ plan.now.silence }
     requires key { key.now ≡ plan.now.cluster_key }
     ensures { OnOk result (steps.new.items ≡ steps.old.items ++ gives plan.now addr (reverse before.now) deed.now.node deed.now.event deed.now.answer) }
@@ -71,8 +70,7 @@ fn of_deeds(
     addr: Addr,
     deeds: &[Deed],
 ) -> Result<Vec<GroupStep>, OutOfMemory>
-    requires few { plan.now.nodes ≤ MOST }
-    requires least { LEAST ≤ plan.now.silence }
+    requires { LEAST ≤ plan.now.silence }
     ensures { IfOk result (λ v. v.items ≡ projected.project plan.now addr (reverse deeds.now)) }
 {
     let key = HmacKey::new(&plan.cluster_key);
@@ -93,8 +91,7 @@ pub fn project(
     trace: &Trace,
     addr: Addr,
 ) -> Result<Vec<GroupStep>, OutOfMemory>
-    requires few { plan.now.nodes ≤ MOST }
-    requires least { LEAST ≤ plan.now.silence }
+    requires { LEAST ≤ plan.now.silence }
     ensures { IfOk result (λ v. v.items ≡ projected.project plan.now addr (run_of events.now trace.now.answers.items trace.now.packets.items)) }
 {
     let deeds = deeds_of(alloc, events, &trace.answers, &trace.packets)?;

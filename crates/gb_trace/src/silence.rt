@@ -1,7 +1,7 @@
 //! For how long nodes were silent, asked of all that happened in a run so far, in order.
 ghost use Rattle.std.specs.Prelude.{◌≡◌, ◌≤◌, ◌||◌, [], ◌∷◌, nat_le, if◌then◌else◌};
 ghost use Rattle.std.specs.List.{list_any};
-ghost use Rattle.gb_types.specs.declared.limits.TheConstants.{NODES as MOST, SILENCE_MIN as LEAST};
+ghost use Rattle.gb_types.specs.declared.limits.TheConstants.{SILENCE_MIN as LEAST};
 ghost use Rattle.gb_detect.specs.Silence.{Tick, is_noticed};
 ghost use Rattle.gb_node.specs.Past.{came as taken_by, ticks as ticked_by, watched};
 ghost use Rattle.gb_cluster.specs.ClusterValue.{node_plan};
@@ -75,7 +75,6 @@ fn was_silent(key: &HmacKey, a: NodeId, b: NodeId, silence: u16, deeds: &[Deed])
 
 /// Whether the other node is noticed at the node.
 pub(crate) fn was_noticed(plan: &Plan, key: &HmacKey, a: NodeId, b: NodeId, deeds: &[Deed]) -> bool
-    requires few { plan.now.nodes ≤ MOST }
     requires least { LEAST ≤ plan.now.silence }
     requires key { key.now ≡ plan.now.cluster_key }
     ensures { result ≡ is_noticed_after (node_plan plan.now a) (past_in a deeds.now) b.number }
