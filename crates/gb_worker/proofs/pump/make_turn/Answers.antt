@@ -1,4 +1,3 @@
-use Rattle.std.proofs.Common.{rules, ◌≡◌}
 use Rattle.gb_worker.proofs.CarryLemmas.{carried_more, ok_is_no_fault}
 use Rattle.gb_worker.proofs.TurnLemmas.{turn_part, turn_received}
 use Rattle.gb_worker.proofs.pump.make_turn.Goals as goal

@@ -1,4 +1,4 @@
-use Rattle.std.proofs.Common.{rules, ◌≡◌, ◌∙◌, refl, arith, subst, ap, ℕ}
+use Rattle.std.proofs.Common.{◌≡◌, ◌∙◌, refl, arith, subst, ap, ℕ}
 use Rattle.gb_worker.specs.Turns.{HasPumped}
 use Rattle.gb_worker.specs.declared.end.WorkerEnd.{WorkerEnd}
 use Rattle.gb_worker.specs.declared.end.Why.TheVariants.{Turns, Gate}

@@ -1,4 +1,4 @@
-use Rattle.std.proofs.Common.{rules, refl, ◌∙◌, ◌≡◌, sym, ap, arith, Err, subst}
+use Rattle.std.proofs.Common.{refl, ◌∙◌, sym, ap, arith, Err, subst}
 use Rattle.std.specs.FinSet as set
 use Rattle.std.specs.Ordering.{nat_cmp}
 use Rattle.gb_worker.specs.Carried.{HasCarried}

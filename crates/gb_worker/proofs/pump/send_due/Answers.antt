@@ -1,4 +1,3 @@
-use Rattle.std.proofs.Common.{rules, ◌≡◌}
 use Rattle.gb_worker.proofs.CarryLemmas.{carried_none}
 use Rattle.gb_worker.proofs.TurnLemmas.{due_made}
 use Rattle.gb_worker.proofs.pump.send_due.Goals as goal
