@@ -1,8 +1,9 @@
 """Counts what a reader has to believe of a public law: the definitions that its statement reaches, their lines and their files.
 
-    python3 bench/believed.py [LAW] [--list]
+    python3 bench/believed.py [LAW[:CLAUSE]] [--list]
 
-LAW is `crate::file::function`, a public function whose contract is the law; gb_isolation::laws::groups_are_isolated if not given.
+LAW is `crate::file::function`, a public function whose contract is the law; gb_isolation::laws::groups_are_isolated if not given. With
+`:CLAUSE` behind it only the clause of that name counts.
 The walk begins at the words of its `ensures` and goes over definitions of crates/*/specs (abbrev, unfoldable, record, data) and
 over the structs, enums and constants of crates/*/src that these name. A type counts with its variants and fields, a definition with
 its signature and its equations; comments and blank lines do not count, nor does anything of the library. With --list each
@@ -164,7 +165,8 @@ BELOW = below()
 
 
 def law_words(law):
-    crate, *path, function = law.split("::")
+    crate, *path, last = law.split("::")
+    function, _, clause = last.partition(":")
     file = f"{CRATES}/{crate}/src/{'/'.join(path)}.rt"
     uses, lines, inside = {}, [], False
     with open(file) as text:
@@ -174,7 +176,7 @@ def law_words(law):
             inside = inside or line.startswith(f"pub fn {function}(")
             if inside and line.strip().startswith("{"):
                 break
-            if inside and "ensures" in line:
+            if inside and f"ensures {clause}" in line:
                 lines.append(line)
     return Source(file, uses, {}), Definition(file, function, lines)
 

@@ -26,6 +26,14 @@ returns-clause-run c =
     let groups = c.groups_are_isolated.ensures c.args.plan _ d run.comes in
     (d, run, groups, λ none g. groups g (c.ample_runs_feed_all.ensures c.args.plan _ (ample c.into_packets.result.items c.args.events.now c.loop-event.answers.items (ap (list_any tells_want) (sym c.as_slice.ensures.value) ∙ (sym c.has_refusal-refused.ensures ∙ none))) g))
 
+pub returns-clause-seen : goal.returns-clause-seen
+returns-clause-seen c =
+    let run = returns-clause-run c in
+    λ g fed. (
+      (run.2 g fed).legal,
+      c.isolated_groups_are_seen_alone.ensures c.args.plan _ run.0 g c.requires.plan.few (run.2 g fed),
+    )
+
 pub step-requires : goal.step-requires
 step-requires c =
     let i = c.loop-event.event-index in
