@@ -1,5 +1,5 @@
 // Why tapes are not merged, each by tapes that nodes made.
-use crate::merged::{Case, judge};
+use crate::merged::{Case, judge, judge_front, judge_front_fault};
 use crate::steps::{At, Step};
 use gb_merge::fault::AuditFault;
 use gb_types::refusal::Refusal;
@@ -93,4 +93,42 @@ fn an_answer_is_another(rt: HostRuntime) {
     judge(&rt, rt.alloc(), &NONE_NOTICED);
     judge(&rt, rt.alloc(), &ITSELF_NOTICED);
     judge(&rt, rt.alloc(), &REFUSED);
+}
+
+// The packet that no tape sent, and all behind it, stay outside.
+#[test]
+fn a_front_ends_where_a_packet_was_never_sent(rt: HostRuntime) {
+    judge_front(&rt, rt.alloc(), &UNSENT, &[]);
+    judge_front(&rt, rt.alloc(), &STUCK, &["2a"]);
+    judge_front(&rt, rt.alloc(), &STRANGER, &[]);
+}
+
+// A packet of the second node comes to the first, whose tick follows. The second node's tape is lost: the first ends before that
+// packet, and the third goes on.
+const CUT: Case = Case {
+    nodes: 3,
+    steps: &[
+        (1, Step::Ack(0)),
+        (0, Step::Tick),
+        (0, Step::Ack(2)),
+        (0, Step::Come(1, 0)),
+        (0, Step::Tick),
+        (2, Step::Come(0, 1)),
+        (2, Step::Tick),
+    ],
+    lost: Some(1),
+    told: Err(AuditFault::Stranger),
+};
+
+#[test]
+fn a_tape_that_is_cut_short_ends_others_where_they_took_what_it_sent(rt: HostRuntime) {
+    judge(&rt, rt.alloc(), &CUT);
+    judge_front(&rt, rt.alloc(), &CUT, &["0t", "0a", "#1", "2t"]);
+}
+
+// An answer in the front that is another is no cut.
+#[test]
+fn a_front_with_another_answer_differs(rt: HostRuntime) {
+    judge_front_fault(&rt, rt.alloc(), &ITSELF_NOTICED, AuditFault::Differs);
+    judge_front_fault(&rt, rt.alloc(), &REFUSED, AuditFault::Differs);
 }

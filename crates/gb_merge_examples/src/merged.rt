@@ -5,6 +5,7 @@ use crate::requests::ADMIN_KEY;
 use crate::steps::{At, Taped, hand_over, lose, start, take_all};
 use gb_cluster::event::Event;
 use gb_merge::fault::AuditFault;
+use gb_merge::front::merge_front;
 use gb_merge::merge::merge;
 use gb_node::event::NodeEvent;
 use gb_node::tape::Tape;
@@ -78,20 +79,38 @@ fn are_told(events: &[Event], told: &[&str]) -> bool {
     true
 }
 
+/// How much of tapes is merged.
+#[derive(Clone, Copy)]
+pub enum Part {
+    /// All, or nothing where they are not one run.
+    All,
+    /// Their first entries, as many as are one run.
+    Front,
+}
+
 /// Merges tapes, one for each node.
-fn merge_all(alloc: Global, plan: &Plan, tapes: &[Tape]) -> Result<Vec<Event>, AuditFault>
+fn merge_part(
+    alloc: Global,
+    plan: &Plan,
+    part: Part,
+    tapes: &[Tape],
+) -> Result<Vec<Event>, AuditFault>
     requires { IsClusterPlan plan.now }
 {
     if tapes.len() != usize::from(plan.nodes) {
         return Err(AuditFault::OutOfMemory);
     }
-    merge(alloc, plan, tapes)
+    match part {
+        Part::All => merge(alloc, plan, tapes),
+        Part::Front => merge_front(alloc, plan, tapes),
+    }
 }
 
 /// Takes the steps, and merges the tapes that they leave.
 fn run(
     alloc: Global,
     plan: &Plan,
+    part: Part,
     steps: &[At],
     lost: Option<u8>,
     nodes: &mut Vec<Taped>,
@@ -105,12 +124,13 @@ fn run(
         lose(nodes, number);
     }
     hand_over(alloc, nodes, tapes)?;
-    merge_all(alloc, plan, tapes)
+    merge_part(alloc, plan, part, tapes)
 }
 
 /// What merging the tapes of steps gives.
 pub fn merged(
     alloc: Global,
+    part: Part,
     nodes: u8,
     steps: &[At],
     lost: Option<u8>,
@@ -118,22 +138,47 @@ pub fn merged(
     let plan = plan(nodes);
     let mut nodes = Vec::new(alloc);
     let mut tapes = Vec::new(alloc);
-    run(alloc, &plan, steps, lost, &mut nodes, &mut tapes)
+    run(alloc, &plan, part, steps, lost, &mut nodes, &mut tapes)
 }
 
-/// Whether merging gives what it must.
+/// Whether merging a part of the case's tapes gives these events.
+fn gives(alloc: Global, part: Part, case: &Case, told: &[&str]) -> bool {
+    match merged(alloc, part, case.nodes, case.steps, case.lost) {
+        Ok(events) => are_told(events.as_slice(), told),
+        Err(_) => false,
+    }
+}
+
+/// Whether merging a part of the case's tapes ends with this fault.
+fn faults(alloc: Global, part: Part, case: &Case, fault: AuditFault) -> bool {
+    match merged(alloc, part, case.nodes, case.steps, case.lost) {
+        Ok(_) => false,
+        Err(found) => found == fault,
+    }
+}
+
+/// Whether merging gives what it must; tapes that are one run have all their entries in its front too.
 fn holds(alloc: Global, case: &Case) -> bool {
-    match merged(alloc, case.nodes, case.steps, case.lost) {
-        Ok(events) => match case.told {
-            Ok(told) => are_told(events.as_slice(), told),
-            Err(_) => false,
-        },
-        Err(fault) => case.told.err() == Some(fault),
+    match case.told {
+        Ok(told) => gives(alloc, Part::All, case, told) && gives(alloc, Part::Front, case, told),
+        Err(fault) => faults(alloc, Part::All, case, fault),
     }
 }
 
 /// Merging gives what it must.
 pub fn judge(rt: &impl Abort, alloc: Global, case: &Case) {
     let held = holds(alloc, case);
+    assert!(rt; held);
+}
+
+/// Merging the front of the case's tapes gives these events, in letters.
+pub fn judge_front(rt: &impl Abort, alloc: Global, case: &Case, front: &[&str]) {
+    let held = gives(alloc, Part::Front, case, front);
+    assert!(rt; held);
+}
+
+/// Merging the front of the case's tapes ends with this fault.
+pub fn judge_front_fault(rt: &impl Abort, alloc: Global, case: &Case, fault: AuditFault) {
+    let held = faults(alloc, Part::Front, case, fault);
     assert!(rt; held);
 }

@@ -1,5 +1,5 @@
 // A stop after each event.
-use crate::merged::{Case, judge, merged};
+use crate::merged::{Case, Part, judge, merged};
 use crate::requests::Asked;
 use crate::steps::{At, Step};
 use gb_merge::fault::AuditFault;
@@ -48,7 +48,7 @@ fn stopped(alloc: Global, after: usize, at: u8) -> Result<usize, AuditFault> {
     if after <= steps.len() {
         steps.insert(after, (at, Step::Stop))?;
     }
-    let events = merged(alloc, 2, &steps, None)?;
+    let events = merged(alloc, Part::All, 2, &steps, None)?;
     Ok(events.len())
 }
 

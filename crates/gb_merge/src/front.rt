@@ -1,0 +1,42 @@
+//! Merging as much of tapes as is one run: tapes that were cut short.
+ghost use Rattle.std.specs.Prelude.{◌≡◌, length, IfOk};
+ghost use Rattle.gb_cluster.specs.ClusterValue.{IsClusterPlan};
+ghost use Rattle.gb_merge.specs.Front.{IsMergedFront, FrontIsOneRun};
+
+use crate::fault::AuditFault;
+use crate::follow::follow;
+use crate::reader::Reader;
+use crate::weave::weave_front;
+use gb_cluster::cluster::Cluster;
+use gb_cluster::event::Event;
+use gb_isolation::laws::{ample_runs_feed_all, groups_are_isolated};
+use gb_node::tape::Tape;
+use gb_types::plan::Plan;
+use std::alloc::Global;
+
+/// Merges the first entries of tapes, as many as can be: an entry is left out just where it, or one before it in its tape, is a
+/// packet for the node that no entry which was merged has sent. A tape that is missing is given as an empty one. Differs: an answer
+/// among these entries is not its replay's, or is want of memory.
+pub fn merge_front(alloc: Global, plan: &Plan, tapes: &[Tape]) -> Result<Vec<Event>, AuditFault>
+    requires plan { IsClusterPlan plan.now }
+    requires one_each { length tapes.now ≡ plan.now.nodes }
+    ensures ok { IfOk result (λ v. IsMergedFront plan.now tapes.now v.items) }
+{
+    let reader = Reader::new(plan);
+    let woven = weave_front(alloc, &reader, tapes)?;
+    let mut cluster = Cluster::start(alloc, plan)?;
+    follow(
+        &mut cluster,
+        woven.events.as_slice(),
+        woven.order.as_slice(),
+    )?;
+    Ok(woven.events)
+}
+
+/// What is merged so is one run of a cluster. The function does nothing when it runs; its contract is the law.
+pub fn front_is_one_run()
+    ensures { FrontIsOneRun }
+{
+    groups_are_isolated();
+    ample_runs_feed_all();
+}
