@@ -11,6 +11,7 @@ use Rattle.gb_cluster.specs.Run.{Did, past_at}
 use Rattle.gb_cluster.specs.declared.event.Event.{Event}
 use Rattle.gb_types.specs.declared.plan.Plan.{Plan}
 use Rattle.gb_merge.specs.Interleaving.{Pick, entries_at, AreEvents, tape_of, sent_by}
+use Rattle.gb_merge.specs.Front.{IsFrontFault}
 use Rattle.gb_merge.specs.Merged.{is_starved, did, run_of, happened, past_of}
 use Rattle.gb_merge.specs.Faults.{node_answer, replay, IsStranger, IsDifferent, IsFault}
 use Rattle.gb_merge.specs.Woven.{IsWoven, IsWhole, ArePlaced, IsWrong, IsWeaveFault, IsFollowFault}
@@ -24,9 +25,17 @@ whole_of plan tapes rest picks events woven empty = record {
   whole = λ a. sym (append-nil (entries_at a picks)) ∙ (ap (λ (xs : List TapeEntry). entries_at a picks ++ xs) (sym (empty a)) ∙ woven.parts a);
 }
 
--- where in its tape an entry stands
-split : (tapes : List (List TapeEntry)) (done picks : List Pick) (p : Pick) → ((a : ℕ) → entries_at a (done ++ p ∷ picks) ≡ tape_of tapes a) → tape_of tapes p.node.number ≡ entries_at p.node.number done ++ p.entry ∷ entries_at p.node.number picks
-split tapes done picks p whole = sym (whole p.node.number) ∙ (entries_at-append p.node.number done (p ∷ picks) ∙ ap (λ (xs : List TapeEntry). entries_at p.node.number done ++ xs) (entries_at-same p.node.number p picks refl))
+-- where in its tape an entry stands, with what was taken after it and what was left there
+split : (tapes : List (List TapeEntry)) (left : ℕ → List TapeEntry) (done picks : List Pick) (p : Pick) → ((a : ℕ) → entries_at a (done ++ p ∷ picks) ++ left a ≡ tape_of tapes a)
+    → tape_of tapes p.node.number ≡ entries_at p.node.number done ++ p.entry ∷ (entries_at p.node.number picks ++ left p.node.number)
+split tapes left done picks p parts =
+    sym (parts p.node.number)
+    ∙ (ap (λ (xs : List TapeEntry). xs ++ left p.node.number) (entries_at-append p.node.number done (p ∷ picks) ∙ ap (λ (xs : List TapeEntry). entries_at p.node.number done ++ xs) (entries_at-same p.node.number p picks refl))
+    ∙ append_assoc (entries_at p.node.number done) (p.entry ∷ entries_at p.node.number picks) (left p.node.number))
+
+-- where all was taken nothing was left
+pub all_taken : (tapes : List (List TapeEntry)) (picks : List Pick) → ((a : ℕ) → entries_at a picks ≡ tape_of tapes a) → (a : ℕ) → entries_at a picks ++ [] ≡ tape_of tapes a
+all_taken tapes picks whole a = append-nil (entries_at a picks) ∙ whole a
 
 pub inside_of : (tapes : List (List TapeEntry)) (a : ℕ) (before : List TapeEntry) (x : TapeEntry) (after : List TapeEntry) → tape_of tapes a ≡ before ++ x ∷ after → a < length tapes
 inside_of tapes a before x after is = by (cases_lt a (length tapes))
@@ -39,15 +48,15 @@ inside_of tapes a before x after is = by (cases_lt a (length tapes))
     by (inl within) = within
     by (inr past) = absurd (some before (sym (get_or_past tapes a [] past) ∙ is))
 
-placed_from : (nodes : ℕ) (tapes : List (List TapeEntry)) → length tapes ≡ nodes → (done picks : List Pick) → ((a : ℕ) → entries_at a (done ++ picks) ≡ tape_of tapes a) → ArePlaced nodes picks
+placed_from : (nodes : ℕ) (tapes : List (List TapeEntry)) (left : ℕ → List TapeEntry) → length tapes ≡ nodes → (done picks : List Pick) → ((a : ℕ) → entries_at a (done ++ picks) ++ left a ≡ tape_of tapes a) → ArePlaced nodes picks
 unfolding ArePlaced
-placed_from nodes tapes one_each done [] whole = tt
-placed_from nodes tapes one_each done (p ∷ picks) whole =
-    let within : p.node.number < nodes = let lt = inside_of tapes p.node.number _ p.entry _ (split tapes done picks p whole) in omega arith in
-    (within, placed_from nodes tapes one_each (done ++ p ∷ []) picks (λ a. ap (entries_at a) (append_assoc done (p ∷ []) picks) ∙ whole a))
+placed_from nodes tapes left one_each done [] parts = tt
+placed_from nodes tapes left one_each done (p ∷ picks) parts =
+    let within : p.node.number < nodes = let lt = inside_of tapes p.node.number _ p.entry _ (split tapes left done picks p parts) in omega arith in
+    (within, placed_from nodes tapes left one_each (done ++ p ∷ []) picks (λ a. ap (λ (ps : List Pick). entries_at a ps ++ left a) (append_assoc done (p ∷ []) picks) ∙ parts a))
 
-pub placed : (nodes : ℕ) (tapes : List (List TapeEntry)) (picks : List Pick) → length tapes ≡ nodes → ((a : ℕ) → entries_at a picks ≡ tape_of tapes a) → ArePlaced nodes picks
-placed nodes tapes picks one_each whole = placed_from nodes tapes one_each [] picks whole
+pub placed : (nodes : ℕ) (tapes : List (List TapeEntry)) (left : ℕ → List TapeEntry) (picks : List Pick) → length tapes ≡ nodes → ((a : ℕ) → entries_at a picks ++ left a ≡ tape_of tapes a) → ArePlaced nodes picks
+placed nodes tapes left picks one_each parts = placed_from nodes tapes left one_each [] picks parts
 
 pub events_count : (plan : Plan) (sent : List (List ℕ)) (picks : List Pick) (events : List Event) → AreEvents plan sent picks events → length events ≡ length picks
 unfolding AreEvents
@@ -60,17 +69,18 @@ seam : {X : Type 0} (xs : List X) (y : X) (ys : List X) → slice_get (xs ++ y �
 seam [] y ys = refl
 seam (x ∷ xs) y ys = seam xs y ys
 
-different : (plan : Plan) (tapes : List (List TapeEntry)) (picks : List Pick) → ((a : ℕ) → entries_at a picks ≡ tape_of tapes a) → IsWrong plan picks → IsDifferent plan tapes
-different plan tapes picks whole wrong =
+different : (plan : Plan) (tapes : List (List TapeEntry)) (left : ℕ → List TapeEntry) (picks : List Pick) → ((a : ℕ) → entries_at a picks ++ left a ≡ tape_of tapes a) → IsWrong plan picks → IsDifferent plan tapes
+different plan tapes left picks parts wrong =
     let p = wrong.pick in
-    let here = split tapes wrong.done wrong.others p (λ a. ap (entries_at a) (sym wrong.parts) ∙ whole a) in
+    let here = split tapes left wrong.done wrong.others p (λ a. ap (λ (ps : List Pick). entries_at a ps ++ left a) (sym wrong.parts) ∙ parts a) in
     let before = entries_at p.node.number wrong.done in
-    let front : take (length before) (tape_of tapes p.node.number) ≡ before = ap (take (length before)) here ∙ take-append_seam before (p.entry ∷ entries_at p.node.number wrong.others) in
+    let behind = entries_at p.node.number wrong.others ++ left p.node.number in
+    let front : take (length before) (tape_of tapes p.node.number) ≡ before = ap (take (length before)) here ∙ take-append_seam before (p.entry ∷ behind) in
     record {
       node = p.node;
       place = length before;
       entry = p.entry;
-      there = ap (λ (xs : List TapeEntry). slice_get xs (length before)) here ∙ seam before p.entry (entries_at p.node.number wrong.others);
+      there = ap (λ (xs : List TapeEntry). slice_get xs (length before)) here ∙ seam before p.entry behind;
       differs = subst (λ (xs : List TapeEntry). (is_starved p.entry.answer ≡ true) ⊎ (p.entry.answer ≢ node_answer (replay plan p.node xs) p.entry.event)) (sym front) wrong.differs;
     }
 
@@ -83,8 +93,14 @@ weave_faulty plan tapes OutOfMemory known is = is
 pub follow_faulty : (plan : Plan) (tapes : List (List TapeEntry)) (picks : List Pick) (f : AuditFault) → (IsStranger plan tapes → ⊥) → ((a : ℕ) → entries_at a picks ≡ tape_of tapes a) → IsFollowFault plan picks f → IsFault plan tapes f
 follow_faulty plan tapes picks Stranger known whole is = absurd is
 follow_faulty plan tapes picks Stuck known whole is = absurd is
-follow_faulty plan tapes picks Differs known whole is = (different plan tapes picks whole is, known)
+follow_faulty plan tapes picks Differs known whole is = (different plan tapes (λ a. []) picks (all_taken tapes picks whole) is, known)
 follow_faulty plan tapes picks OutOfMemory known whole is = is
+
+pub front_faulty : (plan : Plan) (tapes rest : List (List TapeEntry)) (picks : List Pick) (f : AuditFault) → ((a : ℕ) → entries_at a picks ++ tape_of rest a ≡ tape_of tapes a) → IsFollowFault plan picks f → IsFrontFault plan tapes f
+front_faulty plan tapes rest picks Stranger parts is = absurd is
+front_faulty plan tapes rest picks Stuck parts is = absurd is
+front_faulty plan tapes rest picks Differs parts is = different plan tapes (tape_of rest) picks parts is
+front_faulty plan tapes rest picks OutOfMemory parts is = is
 
 -- What happened at a node.
 

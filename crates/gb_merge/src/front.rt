@@ -1,7 +1,7 @@
 //! Merging as much of tapes as is one run: tapes that were cut short.
-ghost use Rattle.std.specs.Prelude.{◌≡◌, length, IfOk};
+ghost use Rattle.std.specs.Prelude.{◌≡◌, length, IfOk, IfErr};
 ghost use Rattle.gb_cluster.specs.ClusterValue.{IsClusterPlan};
-ghost use Rattle.gb_merge.specs.Front.{IsMergedFront, FrontIsOneRun};
+ghost use Rattle.gb_merge.specs.Front.{IsMergedFront, FrontIsOneRun, IsFrontFault};
 
 use crate::fault::AuditFault;
 use crate::follow::follow;
@@ -21,6 +21,7 @@ pub fn merge_front(alloc: Global, plan: &Plan, tapes: &[Tape]) -> Result<Vec<Eve
     requires plan { IsClusterPlan plan.now }
     requires one_each { length tapes.now ≡ plan.now.nodes }
     ensures ok { IfOk result (λ v. IsMergedFront plan.now tapes.now v.items) }
+    ensures err { IfErr result (IsFrontFault plan.now tapes.now) }
 {
     let reader = Reader::new(plan);
     let woven = weave_front(alloc, &reader, tapes)?;

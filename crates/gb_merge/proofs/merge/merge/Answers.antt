@@ -6,7 +6,7 @@ use Rattle.gb_types.proofs.ReadLemmas.{err_so}
 use Rattle.gb_merge.specs.Interleaving.{Pick}
 use Rattle.gb_merge.specs.Faults.{IsFault, IsStranger}
 use Rattle.gb_merge.specs.Woven.{ArePlaced, IsWeaveFault, IsFollowFault}
-use Rattle.gb_merge.proofs.MergingLemmas.{whole_of, placed, events_count, weave_faulty, follow_faulty}
+use Rattle.gb_merge.proofs.MergingLemmas.{all_taken, whole_of, placed, events_count, weave_faulty, follow_faulty}
 use Rattle.gb_merge.proofs.merge.merge.Goals as goal
 
 pub returns-in_err-woven-clause-err : goal.returns-in_err-woven-clause-err
@@ -25,7 +25,7 @@ follow-requires-clause-placed c =
     let woven = c.in_ok-woven.ensures.ok in
     let whole = whole_of c.new-reader.result tapes woven.0 w.order.items w.events.items woven.1 woven.2 in
     let plan_is : c.in_ok-cluster.cluster.plan ≡ c.args.plan.now = ap (λ (v : ClusterValue). v.plan) c.in_ok-cluster.ensures.state in
-    subst (λ (p : Plan). ArePlaced p.nodes c.as_slice-2.result.now) (sym plan_is) (subst (ArePlaced c.args.plan.now.nodes) (sym c.as_slice-2.ensures.value) (placed c.args.plan.now.nodes tapes w.order.items c.requires.one_each whole.whole))
+    subst (λ (p : Plan). ArePlaced p.nodes c.as_slice-2.result.now) (sym plan_is) (subst (ArePlaced c.args.plan.now.nodes) (sym c.as_slice-2.ensures.value) (placed c.args.plan.now.nodes tapes (λ a. []) w.order.items c.requires.one_each (all_taken tapes w.order.items whole.whole)))
 
 pub follow-requires-clause-count : goal.follow-requires-clause-count
 follow-requires-clause-count c =
