@@ -20,7 +20,8 @@ use Rattle.gb_frame.specs.Fields.{version_in, from_in, to_in, base_in, mask_in, 
 use Rattle.gb_frame.specs.Reading.{version_read, unless, faults, test, fault_in, reading, content_in, parsed, left_over, items_of}
 use Rattle.gb_frame.specs.Faults.{Stand, HasFault, IsFirstFault}
 use Rattle.gb_frame.specs.Laws.{WhatIsWrittenIsRead}
-use Rattle.gb_frame.proofs.VersionLemmas.{byte_of_named, shortest_fits}
+use Rattle.gb_types.proofs.VersionLemmas.{byte_of_named}
+use Rattle.gb_frame.proofs.VersionLemmas.{shortest_fits}
 use Rattle.gb_frame.proofs.NumberLemmas.{IsBytes-take, IsBytes-drop, wide16, wide64, cut, number_below}
 use Rattle.gb_frame.proofs.ItemLemmas.{items_take, stand_again}
 use Rattle.gb_frame.proofs.TextLemmas.{text_reads}

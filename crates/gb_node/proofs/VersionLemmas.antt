@@ -13,7 +13,7 @@ use Rattle.gb_types.specs.declared.version.Version.{Version}
 use Rattle.gb_frame.specs.Batch.{batch_in, IsBatch, FitPacket}
 use Rattle.gb_frame.specs.declared.item.Item.{Item}
 use Rattle.gb_link.specs.Received.{Received}
-use Rattle.gb_link.specs.SendWindow.{SendWindow, new_window, pushed, frame_again}
+use Rattle.gb_link.specs.SendWindow.{SendWindow, new_window, frame_again}
 use Rattle.gb_table.specs.Requests.{table_did}
 use Rattle.gb_table.specs.TableValue.{TableValue}
 use Rattle.gb_node.specs.Frames.{AreFitting, KeepsVersion}
@@ -79,17 +79,6 @@ did_keeps noticed r reply t ws k = let same = did_same noticed r reply t in same
 
 pub noticed_keeps : (t : TableValue) (found : List ℕ) (ws : List (SendWindow (List Item))) → KeepsVersion t ws → KeepsVersion (notice_each t found) ws
 noticed_keeps t found ws k = let same = keeps_notices t found in same_table t (notice_each t found) ws same.me same.nodes same.version k
-
--- a frame more
-pub pushed_keeps : (t u : TableValue) (ws : List (SendWindow (List Item))) (b : ℕ) (items : List Item) → u.me ≡ t.me → u.nodes ≡ t.nodes → u.version ≡ t.version → FitPacket t.version items → KeepsVersion t ws
-    → KeepsVersion u (set_at ws b (pushed (slice_index_or ws b new_window) items))
-pushed_keeps t u ws b items me nodes version fit k =
-    let old = slice_index_or ws b new_window in
-    same_table t u (set_at ws b (pushed old items)) me nodes version (record {
-      nodes = k.nodes;
-      me = k.me;
-      frames = set_fits t.version ws b (pushed old items) k.frames (push_fits t.version old.undone old.next items (k.frames b) fit);
-    })
 
 -- a packet is taken: the frames that it acknowledges are done, then its own frame comes
 pub taken_keeps : (t mid u : TableValue) (ws : List (SendWindow (List Item))) (k : ℕ) (old w : SendWindow (List Item)) (from : NodeId) (us : List (ℕ × List Item)) (n : ℕ) (items : List Item) (r : Received) (base mask : ℕ)

@@ -2,7 +2,6 @@
 use Rattle.std.proofs.Common.{◌≡◌, ◌↔◌, ℕ, ◌+◌, ◌<◌, ◌≤◌, false, inl, inr, eqb, List, [], ◌∷◌, ◌++◌, map, length, take, replicate, set, get_or, Option, Some, None, decimal, refl, sym, ap, subst, ◌∙◌, arith}
 use Rattle.std.specs.List.{All, join_with_byte}
 use Rattle.std.proofs.lemmas.Bool.{cases_eq, cases_lt}
-use Rattle.std.proofs.lemmas.Bool.Decides.{nat_tests}
 use Rattle.std.proofs.lemmas.Fmt.{decimal_injective, decimal_is_IsNumeral}
 use Rattle.std.proofs.lemmas.List.{take_more_set, map-append, take_all, take_more, same_lists, get_or-set_same, get_or-set_other, get_or-replicate, get_or_past, get_or_default, get_or-take, get_or-map, length-map, length-take-le, length-set}
 use Rattle.std.proofs.lemmas.List.Splits.{slice_split_none, slice_split_at, join_with_byte-slice_split}
@@ -12,6 +11,7 @@ use Rattle.gb_types.specs.declared.version.Version.TheVariants.{One, Two}
 use Rattle.gb_types.specs.Version.{limits_of, version_at, version_named}
 use Rattle.gb_types.proofs.MembersLemmas.{parts_of, lacks}
 use Rattle.gb_types.proofs.ReadLemmas.{Reads, found, only, reads_one, some_same}
+use Rattle.gb_types.proofs.VersionLemmas.{byte_of_named, named_by_byte}
 use Rattle.gb_schedule.specs.Versions.{versions_word, AreVersions}
 
 -- the number of a version's byte
@@ -22,46 +22,23 @@ pub byte_is_small : (v : Version) → (limits_of v).byte ≤ 255
 byte_is_small One = omega arith
 byte_is_small Two = omega arith
 
-pub is_named : (v : Version) → version_named (limits_of v).byte ≡ Some v
-is_named One = refl
-is_named Two = refl
-
--- a byte that stands for a version is that version's byte
-pub named_byte : (byte : ℕ) (v : Version) → version_named byte ≡ Some v → byte ≡ (limits_of v).byte
-named_byte byte v is = elim (cases_eq byte 1) [
-  | inl one ↦
-      let found : Some One ≡ Some v = sym (ap version_named one) ∙ is in
-      one ∙ ap (λ (w : Version). (limits_of w).byte) (some_same One v found)
-  | inr not_one ↦
-      let no : eqb byte 1 ≡ false = grind (arith, nat_tests) in
-      elim (cases_eq byte 2) [
-        | inl two ↦
-            let found : Some Two ≡ Some v = sym (ap version_named two) ∙ is in
-            two ∙ ap (λ (w : Version). (limits_of w).byte) (some_same Two v found)
-        | inr not_two ↦
-            let nor : eqb byte 2 ≡ false = grind (arith, nat_tests) in
-            let none : None ≡ Some v = rw (no, nor) at is in
-            cc none
-      ]
-]
-
 -- versions with one number are equal
 pub same_version : (v w : Version) → number v ≡ number w → v ≡ w
 same_version v w is =
     let small_v = byte_is_small v in
     let small_w = byte_is_small w in
     let byte : (limits_of v).byte ≡ (limits_of w).byte = decimal_injective (limits_of v).byte (limits_of w).byte (omega (arith, small_v)) (omega (arith, small_w)) is in
-    some_same v w (sym (is_named v) ∙ (ap version_named byte ∙ is_named w))
+    some_same v w (sym (named_by_byte v) ∙ (ap version_named byte ∙ named_by_byte w))
 
 -- a word stands for the version whose byte's number it is
 pub version_reads : (word : List ℕ) (byte : ℕ) (r : Option Version) → Reads (λ n. (n ≤ 255) × (word ≡ decimal n)) byte → r ≡ version_named byte
     → (v : Version) → (r ≡ Some v) ↔ (word ≡ number v)
 version_reads word byte r reads is v =
     let read = found (λ n. (n ≤ 255) × (word ≡ decimal n)) byte reads in (
-      λ some. read.1 ∙ ap decimal (named_byte byte v (sym is ∙ some)),
+      λ some. read.1 ∙ ap decimal (byte_of_named byte v (sym is ∙ some)),
       λ spelt.
           let same : byte ≡ (limits_of v).byte = only (λ n. (n ≤ 255) × (word ≡ decimal n)) byte (limits_of v).byte reads (byte_is_small v, spelt) in
-          is ∙ (ap version_named same ∙ is_named v),
+          is ∙ (ap version_named same ∙ named_by_byte v),
     )
 
 pub no_version : (word : List ℕ) → ((n : ℕ) → (None ≡ Some n) ↔ ((n ≤ 255) × (word ≡ decimal n))) → (v : Version) → word ≡ number v → ⊥

@@ -23,9 +23,6 @@ AreOnly places words rest = (all : List Place) (last : List ℕ) → SpellsPlace
 abbrev pub ReadsPlace : Option Place → List ℕ → List ℕ → List ℕ → List ℕ → List ℕ → Type 0
 ReadsPlace answer token tenant group from most = (place : Place) → (answer ≡ Some place) ↔ IsPlace place token tenant group from most
 
-pub only_none : (words : List (List ℕ)) → AreOnly [] words words
-only_none words all last spelt = (all, refl, spelt)
-
 places_one : (places : List Place) (words rest more : List (List ℕ)) (place : Place) (token tenant group from most : List ℕ) → SpellsPlaces places words rest
     → rest ≡ token ∷ tenant ∷ group ∷ from ∷ most ∷ more → IsPlace place token tenant group from most → SpellsPlaces (places ++ place ∷ []) words more
 places_one [] words rest more place token tenant group from most spelt is here = (token, tenant, group, from, most, more, spelt ∙ is, here, refl)

@@ -7,17 +7,16 @@ use Rattle.gb_session.specs.declared.ask.Ask.{Ask}
 use Rattle.gb_session.specs.declared.serve.SessionEnd.{SessionEnd}
 use Rattle.gb_session.specs.declared.serve.SessionEnd.TheVariants.{Finished, Cut, Malformed, Limit}
 use Rattle.gb_session.specs.declared.session.Next.{Next}
-use Rattle.gb_session.specs.declared.session.Next.TheVariants.{Answered, Hungry, Parked, Ended}
+use Rattle.gb_session.specs.declared.session.Next.TheVariants.{Answered, Ended}
 use Rattle.gb_session.specs.declared.session.Outcome.{Outcome}
 use Rattle.gb_session.specs.declared.session.Outcome.TheVariants.{Replied}
-use Rattle.gb_session.specs.declared.session.Step.{Step}
 use Rattle.gb_session.specs.declared.session.Step.TheVariants as steps
 use Rattle.gb_session.specs.SessionValue.{SessionValue}
 use Rattle.gb_session.specs.Runs.{IsRun, HasAsked, malformed_message}
 use Rattle.gb_session.specs.Settled.{Settles, answer_text, framed_all}
 use Rattle.gb_session.specs.Streams.{framed}
 use Rattle.gb_session.specs.Takes.{AnswersFront, IsWithin, StopsSo, Takes}
-use Rattle.gb_session.specs.Nexts.{IsOutcome, IsNext, FailsNext, SettlesFront, IsThere, behind}
+use Rattle.gb_session.specs.Nexts.{IsOutcome, IsNext, FailsNext, SettlesFront, behind}
 use Rattle.gb_session.proofs.RunLemmas.{IsRun-join}
 use Rattle.gb_session.proofs.SettleLemmas.{front_one}
 
@@ -38,13 +37,6 @@ pub fails_same : {S : Type 0} (answers : Answering S) (late : Bool) (s t : S) (b
     → bytes ≡ bytes' → left ≡ left' → FailsNext answers late s t bytes left before after → FailsNext answers late s t bytes' left' before after
 fails_same answers late s t bytes bytes' left left' before after same same' here =
     subst (λ b. FailsNext answers late s t b left' before after) same (subst (λ k. FailsNext answers late s t bytes k before after) same' here)
-
-pub next_there : {S : Type 0} (answers : Answering S) (late : Bool) (s t : S) (session : SessionValue) (before after : List ℕ) (next : Next)
-    → IsNext answers late s t session.kept session.left before after next → IsThere session next
-next_there answers late s t session before after (Answered end) here = (here.2.3.within, here.0)
-next_there answers late s t session before after Hungry here = tt
-next_there answers late s t session before after (Parked awaited) here = tt
-next_there answers late s t session before after (Ended end) here = tt
 
 -- all but the last of two equal lists
 snoc_first : {A : Type 0} (xs ys : List A) (x y : A) → xs ++ x ∷ [] ≡ ys ++ y ∷ [] → xs ≡ ys
@@ -112,12 +104,6 @@ fails_asked answers late s t u bytes rest texts n m left rest' before after fron
 
 pub asked_none : {S : Type 0} (answers : Answering S) (s : S) → HasAsked answers s s
 asked_none answers s = ([], [], refl)
-
--- the same of equal bytes
-pub takes_same : {S : Type 0} (answers : Answering S) (late : Bool) (s t : S) (session session' : SessionValue) (rest before after : List ℕ) (m room : ℕ) (step : Step)
-    → session ≡ session' → Takes answers late s t session.kept rest before after session.left m room step → Takes answers late s t session'.kept rest before after session'.left m room step
-takes_same answers late s t session session' rest before after m room step same takes =
-    subst (λ (v : SessionValue). Takes answers late s t v.kept rest before after v.left m room step) same takes
 
 -- the message in front was asked, and there was no memory for its reply
 pub fails_settled : {S : Type 0} (answers : Answering S) (late : Bool) (s t : S) (bytes : List ℕ) (left : ℕ) (before after : List ℕ) (end : ℕ) (text : List ℕ)

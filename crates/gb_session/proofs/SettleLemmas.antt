@@ -8,7 +8,6 @@ use Rattle.gb_types.specs.declared.request.Request.{Request}
 use Rattle.gb_session.specs.declared.ask.Ask.{Ask}
 use Rattle.gb_session.specs.declared.ask.Ask.TheVariants.{Now, Await}
 use Rattle.gb_session.specs.declared.ask.Place.{Place}
-use Rattle.gb_session.specs.Runs.{HasAsked}
 use Rattle.gb_session.specs.Settled.{fetch_of, is_empty_log, FindsNone, Finds, SettlesBy, Settles, SettlesAll}
 use Rattle.gb_session.specs.Takes.{AnswersFront}
 use Rattle.gb_session.specs.Nexts.{SettlesFront}
@@ -144,7 +143,3 @@ front_one answers late s t u bytes rest rest' texts n m m' end text front (ask, 
   runs = IsRun-join answers s t u front.requests first front.replies first' front.runs ran;
   counted = omega (arith, front.counted, counted, length-append front.settled.asks (ask ∷ []));
 }
-
-pub front_asked : {S : Type 0} (answers : S → Request → Reply → S → Type 0) (late : Bool) (s t : S) (bytes rest : List ℕ) (texts : List (List ℕ)) (n m : ℕ)
-    → AnswersFront answers late s t bytes rest texts n m → HasAsked answers s t
-front_asked answers late s t bytes rest texts n m front = (front.requests, front.replies, front.runs)

@@ -92,19 +92,6 @@ in_time_of late (ask ∷ asks) requests replies texts (first, more, first', more
   in_time_of late asks more more' texts' rest,
 )
 
--- nothing came yet
-pub served_nothing : {S : Type 0} (answers : Answering S) (s : S) → ServedSoFar answers s s [] [] []
-served_nothing answers s = record {
-  asks = [];
-  requests = [];
-  replies = [];
-  texts = [];
-  spells = refl;
-  settles = (none_in_vain, refl);
-  runs = refl;
-  written_is = refl;
-}
-
 -- what a piece answers, and then some fetches in vain
 served_front : {S : Type 0} (answers : Answering S) (late : Bool) (s t u v : S) (stream kept piece rest written : List ℕ) (texts : List (List ℕ)) (n m : ℕ) (requests : List Request) (replies : List Reply)
     → ServedSoFar answers s t stream kept written → AnswersFront answers late t u (kept ++ piece) rest texts n m → IsRun answers u requests replies v → AreInVain requests replies
