@@ -13,7 +13,7 @@ abbrev pub first_and : (List ℕ → List Item) → Option (Item × List ℕ) �
 first_and others None = []
 first_and others (Some x) = x.0 ∷ others x.1
 
--- the items whose texts stand at the front, one after another, so many at most; their payloads are within the greatest limit of all versions
+-- at most n items, read one after another from the front of the bytes; reading ends where no item with a payload of at most PAYLOAD bytes stands
 unfoldable pub items_from : ℕ → List ℕ → List Item
 items_from zero bytes = []
 items_from (suc n) bytes = first_and (items_from n) (item_at PAYLOAD bytes)

@@ -22,7 +22,7 @@ fault_number Trailing = 8
 fault_number TooLong = 9
 fault_number Tag = 10
 
--- these bytes are the texts of so many items with payloads within a limit, and the rest behind them
+-- The bytes are the texts of n items, followed by the rest. Each payload has at most `limit` bytes.
 pub record Stand (limit n : ℕ) (bytes : List ℕ) (items : List Item) (rest : List ℕ) : Type 0 where
   pub count : length items ≡ n
   pub fit : All IsItem items

@@ -51,7 +51,7 @@ pub fn has_magic(bytes: &[u8]) -> bool
     bytes[0] == b'G' && bytes[1] == b'B'
 }
 
-/// Whether two different nodes are named, of so many.
+/// Returns whether sender and destination of a header are two different nodes below `nodes`.
 pub fn has_nodes(nodes: u8, bytes: &[u8]) -> bool
     requires { HEADER ≤ length bytes.now }
     ensures { result ≡ is_between_nodes nodes bytes.now }

@@ -125,8 +125,8 @@ pub fn first_item(limit: usize, texts: &[u8]) -> Option<(ItemView<'_>, &[u8])>
     Some((item, &rest[len..]))
 }
 
-/// What stands behind so many items with payloads within the limit; `None` where so many do not stand at
-/// the front. Takes no memory.
+/// Returns the bytes behind the first `count` items, whose payloads have at most `limit` bytes each. Returns `None` where the
+/// bytes do not begin with `count` such items. Takes no memory.
 pub(crate) fn skip_items(limit: usize, count: u16, texts: &[u8]) -> Option<&[u8]>
     ensures { MatchOption result (items_at limit count texts.now ≡ None) (λ rest. IsSome (items_at limit count texts.now) × (left_over (items_at limit count texts.now) ≡ rest.now)) }
 {

@@ -56,7 +56,7 @@ counters row = counters_of row.slot
 pub record HaveCounters (rows : List Row) : Type 0 where
   pub each : (p : ℕ) → counters (row_at rows p) ≡ NODES
 
--- no message that is known has more than so many bytes
+-- each message that the group knows has at most `limit` bytes
 abbrev pub IsShort : ℕ → Option SlotState → Type 0
 IsShort limit None = Unit {0}
 IsShort limit (Some s) = (m : MsgId) → length (payload_in s.store m) ≤ limit

@@ -6,7 +6,7 @@ use Rattle.gb_types.specs.declared.limits.TheConstants.{NODES}
 use Rattle.gb_types.specs.declared.version.Version.{Version}
 use Rattle.gb_types.specs.declared.version.Version.TheVariants.{One}
 
--- where the version can name so many nodes, that of each of them can
+-- Where all nodes send one version, and it can name that many nodes, the version of each node can name them.
 pub all_named : (version : Version) (nodes a : ℕ) → nodes ≤ NODES → nodes ≤ (limits_of version).nodes → a < nodes → nodes ≤ (limits_of (version_at (replicate NODES version) a)).nodes
 all_named version nodes a few named within =
     subst (λ (v : Version). nodes ≤ (limits_of v).nodes) (sym (get_or-replicate NODES a version One (omega (arith, few, within)))) named

@@ -22,7 +22,7 @@ use Rattle.gb_isolation.specs.RunLaws.{RunsAgree}
 use Rattle.gb_isolation.proofs.GivenLemmas.{AllAre, IsAt, all_both, all_weaker, given_at}
 use Rattle.gb_isolation.proofs.MomentLemmas.{placed}
 
--- A group alone, under bounds of which only the versions of the nodes at which its events happen matter.
+-- A group alone reads the versions of those nodes alone at which its events happen.
 module _ (bounds other : Bounds) (number : ℕ) (size : bounds.nodes ≡ other.nodes) where
   -- a node sends the same version under both
   abbrev IsSameAt : ℕ → Type 0

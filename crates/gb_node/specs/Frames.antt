@@ -35,8 +35,8 @@ pub record IsHead (h : Head) : Type 0 where
 abbrev pub AreFitting : Version → List (ℕ × List Item) → Type 0
 AreFitting version undone = AllByRecursion (λ u. FitPacket version u.1) undone
 
--- What holds of a node, whatever happened: its version can name all nodes of the cluster, of which it is one, and each frame that is not acknowledged fits a
--- packet of that version.
+-- What holds of a node after any events. It is a node of its cluster. Its version can name all nodes of the cluster. Each frame that is
+-- not acknowledged fits a packet of that version.
 pub record KeepsVersion (t : TableValue) (windows : List (SendWindow (List Item))) : Type 0 where
   pub nodes : t.nodes ≤ (limits_of t.version).nodes
   pub me : t.me.number < t.nodes

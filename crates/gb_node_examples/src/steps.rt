@@ -59,8 +59,8 @@ pub enum Step {
     /// A packet of the first node to the second comes that no node sent, with this base, mask and frame, and these items
     /// behind their count.
     Packet([u64; 3], &'static [u8]),
-    /// A packet of version 2 of the first node to the second that no node sent, frame 1, with three items of 4,096 bytes and
-    /// one of so many.
+    /// A forged packet of version 2 from the first node to the second comes. It is frame 1, with three items of 4,096 bytes and
+    /// a last one of this length.
     LongPacket(u16),
     Tick,
     Stop,
@@ -74,7 +74,7 @@ pub enum Told {
     Log(usize),
     /// A request is refused.
     Refused(Refusal),
-    /// A packet of version 1 of so many bytes is sent.
+    /// A packet of version 1 with this length in bytes is sent.
     Sent(usize),
     /// The same of version 2.
     SentTwo(usize),
@@ -92,7 +92,7 @@ pub enum Told {
 /// The number of a node, a step there, and what it must tell.
 pub type Line = (u8, Step, Told);
 
-/// A node of so many which sends this version, at which nothing has happened.
+/// Returns the node with this number, in a cluster of `nodes` nodes, at which nothing has happened. It sends this version.
 fn start(alloc: Global, number: u8, nodes: u8, version: Version) -> Node
     requires member { number < nodes }
     requires cluster { nodes ≤ (limits_of version).nodes }
@@ -153,7 +153,7 @@ fn is_reply(reply: &Reply, wanted: &Told) -> bool {
     }
 }
 
-/// Whether a packet is of the version with this byte and has so many bytes.
+/// Returns whether a packet has this version byte and `len` bytes.
 fn is_packet(packet: &PacketText, byte: u8, len: usize) -> bool {
     let bytes = packet.as_slice();
     bytes.len() == len && bytes.get(2) == Some(&byte)

@@ -36,7 +36,7 @@ pub fn packet(alloc: Global, numbers: &[u64], items: &[u8]) -> Result<PacketText
     Ok(PacketText::from(text))
 }
 
-/// Appends an item with a payload of so many bytes.
+/// Appends an item whose payload has `len` bytes.
 fn put_item(text: &mut Vec<u8>, seq: u8, len: u16) -> Result<(), OutOfMemory> {
     text.extend_from_slice(&[0, 7, 0, 1, 0, 0, seq])?;
     text.extend_from_slice(&len.to_be_bytes())?;
@@ -46,7 +46,7 @@ fn put_item(text: &mut Vec<u8>, seq: u8, len: u16) -> Result<(), OutOfMemory> {
     Ok(())
 }
 
-/// A packet of version 2 of the first node to the second, frame 1, with three items of 4,096 bytes and one of so many.
+/// Returns a packet of version 2 from the first node to the second: frame 1, with three items of 4,096 bytes and one of `last` bytes.
 pub fn long_packet(alloc: Global, last: u16) -> Result<PacketText, OutOfMemory> {
     let mut items = Vec::from_slice(alloc, b"\0\x04")?;
     for seq in 1..4u8 {

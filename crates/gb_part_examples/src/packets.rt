@@ -31,8 +31,8 @@ const ACKNOWLEDGEMENT: &str =
 const FAR: &str =
     "4742021f1e0000000000000001000000000000000000000000000000010001000700011f0001000161afd14fdc10d256e1";
 
-/// A version of the text with its byte, its last node and the one beyond it (0 where there is none), its longest payload, the
-/// payloads of a packet of its longest length, that length, and the bytes that it has for items.
+/// A version of the text and its limits: its byte, its last node, the number beyond it (0 stands for no such number), its longest
+/// payload, the payloads of a packet of the greatest length, that length, and how many of its bytes are for items.
 struct Longest {
     version: Version,
     byte: u8,

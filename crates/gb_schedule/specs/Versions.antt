@@ -10,7 +10,7 @@ use Rattle.gb_types.specs.Version.{limits_of, version_at}
 abbrev pub versions_word : List Version → List ℕ
 versions_word versions = join_with_byte 44 (map (λ version. decimal (limits_of version).byte) versions)
 
--- the word has the versions of so many nodes, each of which can name them all; the places past the last node have One
+-- The word spells the versions of nodes 0 to nodes - 1. Each of them can name all these nodes. The places past the last node have One.
 pub record AreVersions (nodes : ℕ) (versions : List Version) (word : List ℕ) : Type 0 where
   pub all : length versions ≡ NODES
   pub word_is : word ≡ versions_word (take nodes versions)

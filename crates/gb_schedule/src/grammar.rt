@@ -68,7 +68,7 @@ fn read_silence(word: &[u8]) -> Option<u16>
     Some(silence as u16)
 }
 
-// The number of nodes of a cluster, where there may be so many at most.
+// Reads the number of nodes of a cluster: 1 to `most`.
 fn read_count(word: &[u8], most: u8) -> Option<u8>
     ensures { (n : ℕ) → (result ≡ Some n) ↔ ((1 ≤ n) × (n ≤ most) × (word.now ≡ decimal n)) }
 {

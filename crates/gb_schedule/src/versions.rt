@@ -20,7 +20,8 @@ fn read_version(word: &[u8]) -> Option<Version>
     Version::from_byte(byte as u8)
 }
 
-/// The versions of the nodes of a cluster of so many, each of which can name them all; the places past the last node have One.
+/// Reads the versions of the nodes of a cluster, parted by commas. Returns `None` where they are not one for each of `nodes` nodes, or
+/// where one of them cannot name all nodes. The places past the last node have One.
 pub fn read_versions(nodes: u8, word: &[u8]) -> Option<[Version; NODES]>
     requires { (1 ≤ nodes) × (nodes ≤ NODES) }
     ensures { (versions : List TheVersion) → (result ≡ Some versions)

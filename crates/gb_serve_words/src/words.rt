@@ -99,7 +99,7 @@ fn fault_from(error: &Error) -> WordFault
     }
 }
 
-// The plan of words that were taken. None where no version is given that can name so many nodes.
+// Returns the plan of words that `clap` took; `None` where their version does not exist or cannot name their number of nodes.
 fn plan_of(matches: &ArgMatches<'_>) -> Option<ServePlan>
     requires { IsGiven (rows_of (found_of matches.now)) }
     ensures read { IfSome result (IsPlanOf (rows_of (found_of matches.now))) }
@@ -126,8 +126,8 @@ fn plan_of(matches: &ArgMatches<'_>) -> Option<ServePlan>
     })
 }
 
-/// What the words of a command line tell a server to do; the first word is the program's name. Refused: `clap` does not
-/// take the words, or the version that they give cannot name so many nodes.
+/// Returns what the words of a command line tell a server to do; the first word is the program's name. Refused: `clap` refuses
+/// the words, or their version does not exist or cannot name their number of nodes.
 pub fn read_words<'a>(alloc: Global, words: &'a [&'a str]) -> Result<ServePlan, WordFault>
     ensures given { IfOk result (λ plan. IsPlanOf (matches_of serve_app (map (λ word. word.now) words.entry.now)) plan) }
     ensures within { IfOk result (λ plan. IsWithin plan) }

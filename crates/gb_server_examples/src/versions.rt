@@ -25,13 +25,13 @@ static SAID: [(&str, usize, &str); 4] = [
     ("--version=2", 4_096, "said 1"),
 ];
 
-// The words by which a message of so many bytes is said.
+// Returns the words of a say whose message has `bytes` bytes.
 fn say_line(alloc: Global, bytes: usize) -> Result<String, AllocError> {
     let word = "a".repeat(alloc, bytes)?;
     format!(in alloc; "7 1 {word}")
 }
 
-// Whether a member of a server with this base port that says so many bytes is told this.
+// Returns whether a member that says `bytes` bytes to a server with this base port is told this.
 fn is_answered<H: Net<Stream = TcpStream> + Clock>(
     rt: &H,
     alloc: Global,

@@ -45,7 +45,7 @@ pub record KeepsPromises (plan : Plan) (run : List Did) (v : ClusterValue) : Typ
   -- each tick answered the new notices, and each refused request changed nothing
   pub ticks : AtEachMoment (AnswersNewNotices plan) run
   pub refusals : AtEachMoment (ChangesNothing plan) run
-  -- each group is served of which no request was refused for want of memory, so all are where no answer was such a refusal
+  -- A group is served if none of its requests was refused for want of memory. So all groups are served if no answer was such a refusal.
   pub ample : is_ample run ≡ true → (g : Addr) → is_fed g run ≡ true
   pub groups : (g : Addr) → is_fed g run ≡ true → IsServed plan run v g
 

@@ -100,8 +100,8 @@ fn is_kept(token: &Token, kept: &Token) -> bool
 }
 
 impl Table {
-    /// No tenant and no group, at the node `me` of so many, which sends this version of the packet text. Its tenants may
-    /// make so many groups in all, as `places` says; who holds the administrator's key may add them.
+    /// Returns a table with no tenant and no group, at node `me` of `nodes` nodes. The node sends packets of this version. Its tenants
+    /// may make `places` groups in all. Who holds the administrator's key may add tenants.
     pub fn new(
         alloc: Global,
         me: NodeId,
@@ -335,7 +335,8 @@ impl Table {
         }
     }
 
-    /// Takes an item in that came from a node. It is let fall where its group is not here, or by the group's rules.
+    /// Takes an item in that came from a node. It is let fall where its group is not here, where its payload is longer than this
+    /// node's version allows, or by the group's rules.
     pub fn item(&mut self, from: NodeId, item: ItemView<'_>)
         ensures state { self.new ≡ table_came from (view_item item.entry) self.old }
         ensures others { OthersKept (address_of (view_item item.entry)) self.old.groups.rows self.new.groups.rows }

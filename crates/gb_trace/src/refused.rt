@@ -36,7 +36,7 @@ fn row_in<'a>(a: NodeId, tenant: u16, event: &'a Event, answer: &Answer) -> Opti
     row_added(tenant, request, reply)
 }
 
-/// The row of the tenant at the node, after so many events.
+/// Returns the row of the tenant at the node, after the first `count` events.
 #[tactic(auto, using(crate::proofs::RefusedLemmas::rows_more, crate::proofs::RefusedLemmas::no_rows, crate::proofs::PastLemmas::find_later))]
 fn row_at<'a>(
     trace: &Trace,
@@ -57,8 +57,8 @@ fn row_at<'a>(
     found
 }
 
-/// Whether the event with its answer, after so many others, is a request of the group, or one that adds its tenant, which
-/// was refused for lack of memory.
+/// Returns whether the event behind the first `count` events was refused for lack of memory, and is a request of the group or one
+/// that adds its tenant.
 fn is_lacking(
     trace: &Trace,
     events: &[Event],

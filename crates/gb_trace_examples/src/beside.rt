@@ -13,8 +13,8 @@ use std::alloc::Global;
 use std::rt::HostRuntime;
 use std::test::Fail;
 
-/// An origin says two messages, of which the second comes first to one of two nodes, and stops. That node notices it and
-/// relays both to the third.
+/// An origin says two messages and stops. The second message comes first to one of the other nodes. That node notices the origin
+/// and relays both messages to the third.
 const BY_ITSELF: [&[u8]; 27] = [
     b"cluster 3 3",
     b"tenant 0 7 4 8 4096 4",

@@ -58,7 +58,7 @@ enum Sign {
     Noticed(u8),
     /// Nothing is left to be packed.
     Nothing,
-    /// A log of so many entries.
+    /// A log with this number of entries.
     Log(usize),
 }
 

@@ -99,7 +99,7 @@ fn messages_have_their_length_in_front(rt: HostRuntime) -> Result<(), Fail> {
     Ok(())
 }
 
-/// A message of so many bytes.
+/// Returns a message whose body has `count` bytes.
 fn long_message(alloc: Global, count: u32) -> Result<Vec<u8>, ClientFault> {
     let mut bytes = Vec::from_slice(alloc, &count.to_be_bytes())?;
     for _ in 0..count {
@@ -108,13 +108,13 @@ fn long_message(alloc: Global, count: u32) -> Result<Vec<u8>, ClientFault> {
     Ok(bytes)
 }
 
-/// Whether a message of so many bytes is received whole.
+/// Returns whether a message whose body has `count` bytes is received whole.
 fn is_long_received(alloc: Global, count: u32) -> Result<bool, ClientFault> {
     let bytes = long_message(alloc, count)?;
     is_received(alloc, &bytes, bytes.get(4..).unwrap_or_default())
 }
 
-/// Whether a message of so many bytes is refused, though all of it is there.
+/// Returns whether a message whose body has `count` bytes is refused, though all of it is there.
 fn is_long_refused(alloc: Global, count: u32) -> Result<bool, ClientFault> {
     let bytes = long_message(alloc, count)?;
     Ok(is_refused(alloc, &bytes))

@@ -29,7 +29,7 @@ pub enum Role<'a, P> {
     Pump(NodeId, P),
     /// Makes so many turns of ticks.
     Ticker(u64),
-    /// Says these words at a node, so many times.
+    /// Says these words at a node, this number of times.
     Sayer(NodeId, &'a [u8], u64),
     /// Fetches at a node until its log is the first message of another node, which is these words.
     Fetcher(NodeId, NodeId, &'a [u8]),

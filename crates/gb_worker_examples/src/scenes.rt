@@ -186,7 +186,7 @@ fn run<
     left_of(alloc, plan, counts, &close(host, seats), &lists)
 }
 
-/// Plays a scene on a host of two nodes that send this version, with tapes or without, and so many seats.
+/// Plays a scene on a host of two nodes that send this version, with tapes or without. The host has this number of seats.
 pub fn whole<P: Port + Send + Drop, R: Threads + Wait + Clock + Sync>(
     rt: &R,
     alloc: Global,
