@@ -1,5 +1,5 @@
 #!/usr/bin/env python3
-"""Writes a schedule of so many lines: says, packs, arrives, acknowledgements and fetches of 16 groups of 4 tenants, of all kinds of
+"""Writes a schedule of this number of lines: says, packs, arrives, acknowledgements and fetches of 16 groups of 4 tenants, of all kinds of
 broadcast, on a cluster whose nodes all are members: schedule.py LINES [NODES [VERSION [BYTES]]].
 
 There are 4 nodes if not given otherwise, which send packets of version 1 and say payloads of 2 bytes. A node says in four groups, of a
@@ -14,7 +14,7 @@ KINDS = ['beb', 'lazy', 'eager', 'allack', 'majority', 'fbeb', 'flazy', 'feager'
 
 
 def start(nodes, silence, version):
-    """The line that starts a cluster of so many nodes which all send this version of packets."""
+    """Returns the line that starts a cluster of this number of nodes. They all send this version of packets."""
     if version == 1:
         return f'cluster {nodes} {silence}'
     return f'cluster2 {nodes} {silence} {",".join([str(version)] * nodes)}'
